@@ -1,0 +1,10 @@
+pub mod Ordered
+pub mod Fitting
+pub mod Unique
+pub mod Wholes
+pub mod Exists
+pub mod Reached
+pub mod Joined
+pub mod Drawing
+pub mod OneEnding
+pub mod Compared

@@ -1,0 +1,10 @@
+pub mod Order
+pub mod Fits
+pub mod Listing
+pub mod Whole
+pub mod Closed
+pub mod Passed
+pub mod Endings
+pub mod Answered
+pub mod Prefixes
+pub mod Examples
