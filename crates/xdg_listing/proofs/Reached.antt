@@ -110,3 +110,9 @@ last_append start c (x ∷ xs) = last_append x c xs
 
 pub last_at_most : (start : List ℕ) (xs : List (List ℕ)) → RisesFrom start xs → AtMost start (last_from start xs)
 last_at_most start xs r = last_rises start xs r
+
+-- nothing that is counted comes after the last that has been listed and before c
+pub none_after_last : (shape : List ℕ) (P : List ℕ → Type 0) (start c : List ℕ) (xs : List (List ℕ)) → IsListing shape (Before P c) start xs → (x : List ℕ) → Fits shape x → P x → Less (last_from start xs) x → Less x c → ⊥
+none_after_last shape P start c xs i x f px l k =
+    let m = i.all x f (px, k) (at_most_less start (last_from start xs) x (last_rises start xs i.rises) l) in
+    not_less x (last_from start xs) (member_last start x xs i.rises m) l

@@ -1,0 +1,7 @@
+pub mod Measure
+pub mod Passing
+pub mod Steps
+pub mod Starting
+pub mod Progressing
+pub mod Wanted
+pub mod Ended

@@ -1,0 +1,22 @@
+use Rattle.std.proofs.Common.{◌≡◌, ℕ, ◌≤◌, ◌-◌, List}
+use Rattle.xdg_search.specs.Problem.{SameProblem}
+use Rattle.xdg_search.specs.Place.{place, Next, Stands}
+use Rattle.xdg_search.proofs.Passing.{Passes}
+use Rattle.xdg_search.proofs.Measure.{ahead}
+use Rattle.xdg_search.proofs.Search.seek.Given as goal
+
+abbrev pub invariant-steps : goal.invariant-steps
+invariant-steps g l =
+    let shape = g.F.Front.shape l.fn.self.front in
+    let counted = g.F.Front.counted l.fn.self.front in
+    record {
+      same : SameProblem shape counted (g.F.Front.shape l.self.front) (g.F.Front.counted l.self.front);
+      stands : Stands shape counted (g.F.Front.numbers l.self.front);
+      charged : (l.fn.self.charged ≤ l.self.charged) × (l.self.charged ≤ l.self.budget);
+      kept : (l.self.budget ≡ l.fn.self.budget) × (l.self.done ≡ l.fn.self.done);
+      passed : (from : List ℕ) → Next shape counted from (place (g.F.Front.numbers l.fn.self.front) l.fn.self.value) →
+          Passes shape counted from (place (g.F.Front.numbers l.self.front) l.self.value) (l.self.charged - l.fn.self.charged);
+    }
+
+abbrev pub decreases-steps : goal.decreases-steps
+decreases-steps g l = ahead (g.F.Front.shape l.fn.self.front) (place (g.F.Front.numbers l.self.front) l.self.value)

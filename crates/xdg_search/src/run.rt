@@ -1,0 +1,97 @@
+//! A whole run: the answers of a search from its start on, up to its end, to a wanted number of answers or to its budget.
+
+ghost use Rattle.std.specs.Prelude.{◌≡◌, ◌++◌, ◌∷◌, [], List, IfOk, length, take};
+ghost use Rattle.xdg_listing.specs.Fits.{Fits};
+ghost use Rattle.xdg_listing.specs.Answered.{Answered};
+ghost use Rattle.xdg_search.specs.Outcomes.{IsOutcome};
+ghost use Rattle.xdg_search.specs.Vectors.{vectors};
+
+use crate::{Front, Search, Step};
+use std::alloc::{AllocError, Global};
+use xdg_listing::Ending;
+
+/// What a run answered.
+#[derive(Drop)]
+pub struct Outcome {
+    /// The whole vectors that are counted, in rising order.
+    pub answers: Vec<Vec<u16>>,
+    /// How they ended.
+    pub ending: Ending,
+}
+
+/// The numbers of a front.
+///
+/// # Errors
+///
+/// Fails where memory runs out.
+pub fn numbers_of<F: Front>(alloc: Global, front: &F) -> Result<Vec<u16>, AllocError>
+    ensures { IfOk result (λ numbers. numbers.items ≡ F.numbers front.now) }
+{
+    let mut numbers = Vec::new(alloc);
+    for decision in 0..front.len() {
+        numbers.push(front.number(decision))?;
+    }
+    Ok(numbers)
+}
+
+/// All whole vectors after a start that are counted, or as many as are wanted, or as many as the budget reaches.
+///
+/// # Errors
+///
+/// Fails where memory runs out.
+pub fn collect<F: Front + Drop>(
+    alloc: Global,
+    front: F,
+    budget: u64,
+    after: &[u16],
+    wanted: Option<usize>,
+) -> Result<Outcome, AllocError>
+    requires empty { F.numbers front ≡ [] }
+    requires fits { Fits (F.shape front) after.now }
+    ensures { IfOk result (λ outcome. Answered outcome.ending (F.shape front) (F.counted front) after.now budget wanted (vectors outcome.answers.items)) }
+{
+    let mut search = Search::start(front, budget, after);
+    let mut answers = Vec::new(alloc);
+    'draw: loop {
+        if wanted == Some(answers.len()) {
+            return Ok(Outcome {
+                answers,
+                ending: Ending::First,
+            });
+        }
+        match search.advance() {
+            Step::Found => answers.push(numbers_of(alloc, search.front())?)?,
+            Step::End => {
+                return Ok(Outcome {
+                    answers,
+                    ending: Ending::Complete,
+                });
+            }
+            Step::Spent => {
+                return Ok(Outcome {
+                    answers,
+                    ending: Ending::Spent,
+                });
+            }
+        }
+    }
+}
+
+/// `collect`, said of the list of the counted prefixes after the start and that of the solutions.
+///
+/// # Errors
+///
+/// Fails where memory runs out.
+pub fn solve<F: Front + Drop>(
+    alloc: Global,
+    front: F,
+    budget: u64,
+    after: &[u16],
+    wanted: Option<usize>,
+) -> Result<Outcome, AllocError>
+    requires empty { F.numbers front ≡ [] }
+    requires fits { Fits (F.shape front) after.now }
+    ensures { IfOk result (λ outcome. IsOutcome (F.shape front) (F.counted front) after.now budget wanted outcome.ending (vectors outcome.answers.items)) }
+{
+    collect(alloc, front, budget, after, wanted)
+}
