@@ -1,0 +1,4 @@
+pub mod Counts
+pub mod Written
+pub mod Read
+pub mod Shelves

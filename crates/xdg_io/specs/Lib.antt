@@ -1,0 +1,5 @@
+pub mod Files
+pub mod Held
+pub mod Left
+pub mod Memory
+pub mod Rose
