@@ -2,7 +2,7 @@
 use Rattle.std.proofs.Common.{◌≡◌, ℕ, ◌<◌, ◌≤◌, ◌+◌, ◌⊎◌, inl, inr, List, [], ◌∷◌, ◌++◌, refl, ap, sym, arith, subst, zero, suc, Bool, true, false, map}
 use Rattle.std.specs.Prelude.{filter, ◌↔◌}
 use Rattle.std.specs.List.{AllByRecursion}
-use Rattle.std.proofs.lemmas.Bool.{cases_eq}
+use Rattle.std.proofs.lemmas.Bool.{cases_eq, cases_lt}
 use Rattle.xdg_listing.specs.Order.{Less}
 use Rattle.xdg_listing.specs.Fits.{Fits}
 use Rattle.xdg_listing.specs.Listing.{Member, RisesFrom, IsListing, HasOneListing}
@@ -132,3 +132,28 @@ one_listing shape test start =
     let P : List ℕ → Type 0 = λ x. test x ≡ true in
     let i = decided_listing shape P start (λ x. tested (test x)) in
     record { members = i.0; listing = i.1; only = λ xs j. listing_unique shape P start i.0 xs i.1 j }
+
+fits_or : (shape x : List ℕ) → Fits shape x ⊎ (Fits shape x → ⊥)
+fits_or shape [] = inl tt
+fits_or [] (a ∷ x) = inr (λ f. f)
+fits_or (s ∷ shape) (a ∷ x) = elim (cases_lt a s) [
+  | inl l ↦ elim (fits_or shape x) [ inl f ↦ inl (l, f) | inr n ↦ inr (λ f. n f.1) ]
+  | inr l ↦ inr (λ f. (let k : a < s = f.0 in omega arith))
+]
+
+-- it is enough that the predicate is decided for what goes with the shape
+pub decided_listing_within : (shape : List ℕ) (P : List ℕ → Type 0) (a : List ℕ) → ((x : List ℕ) → Fits shape x → P x ⊎ (P x → ⊥)) → (xs : List (List ℕ)) × IsListing shape P a xs
+decided_listing_within shape P a d =
+    let Q : List ℕ → Type 0 = λ x. Fits shape x × P x in
+    let decided : (x : List ℕ) → Q x ⊎ (Q x → ⊥) = λ x. elim (fits_or shape x) [
+      | inl f ↦ elim (d x f) [ inl p ↦ inl (f, p) | inr n ↦ inr (λ q. n q.1) ]
+      | inr n ↦ inr (λ q. n q.0)
+    ] in
+    let i = decided_listing shape Q a decided in (
+      i.0,
+      record {
+        rises = i.1.rises;
+        each = each_weaker (λ x. Fits shape x × Q x) (λ x. Fits shape x × P x) i.0 (λ x h. h.1) i.1.each;
+        all = λ x f p l. i.1.all x f (f, p) l;
+      },
+    )
