@@ -16,7 +16,7 @@ use Rattle.xdg_search.specs.Place.{place, Next}
 use Rattle.xdg_search.specs.Halts.{Halts}
 use Rattle.xdg_search.specs.Progress.{Progress}
 use Rattle.xdg_search.specs.declared.Step.{Step}
-use Rattle.xdg_search.proofs.Steps.{same_then}
+use Rattle.xdg_search.proofs.Same.{same_then}
 
 listing_same : (shape : List ℕ) (P Q : List ℕ → Type 0) (from to : List ℕ) (xs : List (List ℕ)) → SameProblem shape P shape Q → IsListing shape (SoFar Q to) from xs → IsListing shape (SoFar P to) from xs
 listing_same shape P Q from to xs s i = record {
@@ -74,3 +74,16 @@ progress_spent shape P start later Q numbers value done charged more b wanted an
 
 pub progress_first : (shape : List ℕ) (P : List ℕ → Type 0) (start : List ℕ) (later : List ℕ) (Q : List ℕ → Type 0) (numbers : List ℕ) (value : ℕ) (done : Option Step) (charged b : ℕ) (wanted : Option ℕ) (answers : List (List ℕ)) → Progress shape P start later Q numbers value done charged answers → charged ≤ b → IsAt (length answers) wanted → Answered endings.First shape P start b wanted answers
 progress_first shape P start later Q numbers value done charged b wanted answers p l w = (p.front, charged, p.drawn, l, w)
+
+-- a call that found none: the search is done, what it has charged is told for good, and what is left behind the front
+pub progress_halted : (shape : List ℕ) (P : List ℕ → Type 0) (start : List ℕ) (later : List ℕ) (Q : List ℕ → Type 0) (last : List ℕ) (R : List ℕ → Type 0) (numbers : List ℕ) (value : ℕ) (done : Option Step) (charged : ℕ) (left : List ℕ) (after : ℕ) (halted : Option Step) (more : ℕ) (answers : List (List ℕ)) (Leaves : List ℕ → Type 0) → Progress shape P start later Q numbers value done charged answers → done ≡ None → (halted ≡ None → ⊥) → charged ≤ more → SameProblem later Q last R → ((from : List ℕ) → Next later Q from (place numbers value) → Halts later Q from (more - charged) Leaves) → (p : Progress shape P start last R left after halted more answers) × Leaves p.front
+progress_halted shape P start later Q last R numbers value done charged left after halted more answers Leaves p d stops c s halts =
+    let h = halts p.front (next_same_now shape P later Q p.front (place numbers value) p.same (p.next d)) in (
+      record {
+        same = same_then shape P later Q last R p.same s;
+        front = h.to;
+        drawn = halted_drawn shape P start later Q numbers value done charged more answers Leaves p c h;
+        next = λ e. absurd (stops e);
+      },
+      h.rest,
+    )

@@ -5,18 +5,13 @@ use Rattle.xdg_listing.specs.Order.{Less}
 use Rattle.xdg_listing.specs.Fits.{Fits}
 use Rattle.xdg_listing.specs.Closed.{Closed, NoneAfter, SomeAfter}
 use Rattle.xdg_listing.specs.Passed.{Finds}
+use Rattle.xdg_listing.specs.Whole.{Whole}
 use Rattle.xdg_listing.proofs.Fitting.{fits_push, fits_front, fits_last, fits_length}
 use Rattle.xdg_search.specs.Problem.{SameProblem}
 use Rattle.xdg_search.specs.Place.{place, Stands}
 use Rattle.xdg_search.specs.Halts.{Halts}
 use Rattle.xdg_search.proofs.Measure.{ahead, ahead_refused, ahead_taken, ahead_popped}
 use Rattle.xdg_search.proofs.Passing.{Passes, passes_refused, passes_popped, passes_taken, finds_taken, spent_at, ended_at}
-
-pub same_here : (shape : List ℕ) (P : List ℕ → Type 0) → SameProblem shape P shape P
-same_here shape P = record { sizes = refl; counts = λ p. (λ h. h, λ h. h) }
-
-pub same_then : (shape : List ℕ) (P : List ℕ → Type 0) (later : List ℕ) (Q : List ℕ → Type 0) (last : List ℕ) (R : List ℕ → Type 0) → SameProblem shape P later Q → SameProblem later Q last R → SameProblem shape P last R
-same_then shape P later Q last R s t = record { sizes = t.sizes ∙ s.sizes; counts = λ p. (λ h. (s.counts p).0 ((t.counts p).0 h), λ h. (t.counts p).1 ((s.counts p).1 h)) }
 
 pub stands_room : (shape : List ℕ) (P : List ℕ → Type 0) (later : List ℕ) (Q : List ℕ → Type 0) (numbers : List ℕ) → SameProblem shape P later Q → Stands shape P numbers → length numbers ≤ length later
 stands_room shape P later Q numbers s t = let h = fits_length shape numbers t.fits in let k = ap length s.sizes in omega (arith, h, k)
@@ -51,6 +46,9 @@ taken_finds shape P later Q from numbers grown value v n m s t w h q e whole mor
     let c : place numbers value ≡ grown = ap (place numbers) (sym w) ∙ sym e in
     let r : Passes shape P from grown n = subst (λ z. Passes shape P from z n) c p in
     (r.above, subst (Finds shape P from grown) more (finds_taken shape P from grown n k.fits counted whole r))
+
+pub taken_whole : (shape : List ℕ) (P : List ℕ → Type 0) (later : List ℕ) (Q : List ℕ → Type 0) (numbers grown : List ℕ) (v : ℕ) → SameProblem shape P later Q → Q (numbers ++ v ∷ []) → grown ≡ numbers ++ v ∷ [] → length grown ≡ length shape → Whole shape P grown
+taken_whole shape P later Q numbers grown v s q e whole = (subst P (sym e) ((s.counts (numbers ++ v ∷ [])).0 q), whole)
 
 pub taken_smaller : (shape : List ℕ) (P : List ℕ → Type 0) (later : List ℕ) (Q : List ℕ → Type 0) (numbers grown : List ℕ) (value v : ℕ) → SameProblem shape P later Q → v ≡ value → v < get_or later (length numbers) 0 → grown ≡ numbers ++ v ∷ [] → ahead shape (place grown 0) < ahead shape (place numbers value)
 taken_smaller shape P later Q numbers grown value v s w h e =

@@ -6,6 +6,7 @@ ghost use Rattle.xdg_listing.specs.Order.{Less, AtMost};
 ghost use Rattle.xdg_listing.specs.Fits.{Fits};
 ghost use Rattle.xdg_listing.specs.Closed.{Closed, NoneAfter, SomeAfter};
 ghost use Rattle.xdg_listing.specs.Passed.{Charges, Finds};
+ghost use Rattle.xdg_listing.specs.Whole.{Whole};
 ghost use Rattle.xdg_search.specs.Problem.{SameProblem};
 ghost use Rattle.xdg_search.specs.Place.{place, Next, Stands};
 ghost use Rattle.xdg_search.specs.Halts.{Halts};
@@ -131,7 +132,7 @@ impl<F: Front> Search<F> {
         requires empty { F.numbers front ≡ [] }
         requires fits { Fits (F.shape front) after.now }
         ensures same { SameProblem (F.shape front) (F.counted front) (F.shape result.front) (F.counted result.front) }
-        ensures lawful { IsLawful (F.shape front) (F.counted front) (F.numbers result.front) result.done result.charged result.budget }
+        ensures lawful { IsLawful (F.shape result.front) (F.counted result.front) (F.numbers result.front) result.done result.charged result.budget }
         ensures next { Next (F.shape front) (F.counted front) after.now (place (F.numbers result.front) result.value) }
         ensures fresh { (result.charged ≡ 0) × (result.budget ≡ budget) × (result.done ≡ None) }
     {
@@ -158,6 +159,7 @@ impl<F: Front> Search<F> {
             Next (F.shape self.old.front) (F.counted self.old.front) from (place (F.numbers self.old.front) self.old.value) →
             Less from (F.numbers self.new.front)
             × Finds (F.shape self.old.front) (F.counted self.old.front) from (F.numbers self.new.front) (self.new.charged - self.old.charged) }
+        ensures whole { result ≡ Step.Found → Whole (F.shape self.old.front) (F.counted self.old.front) (F.numbers self.new.front) }
         ensures end { result ≡ Step.End → (from : List ℕ) →
             Next (F.shape self.old.front) (F.counted self.old.front) from (place (F.numbers self.old.front) self.old.value) →
             Halts (F.shape self.old.front) (F.counted self.old.front) from (self.new.charged - self.old.charged)
@@ -204,6 +206,9 @@ impl<F: Front> Search<F> {
         ensures same { SameProblem (F.shape self.old.front) (F.counted self.old.front) (F.shape self.new.front) (F.counted self.new.front) }
         ensures found { result ≡ Step.Found → (self.old.done ≡ None) × (self.new.done ≡ None) ×
             Next (F.shape self.old.front) (F.counted self.old.front) (F.numbers self.new.front) (place (F.numbers self.new.front) self.new.value) }
+        ensures whole { result ≡ Step.Found →
+            Fits (F.shape self.old.front) (F.numbers self.new.front)
+            × Whole (F.shape self.old.front) (F.counted self.old.front) (F.numbers self.new.front) }
         // Whatever the search went on right behind of, the counted prefixes from there on up to the front are charged, each
         // once, and only the front is whole.
         ensures finds { result ≡ Step.Found → (from : List ℕ) →

@@ -1,6 +1,7 @@
 use Rattle.std.proofs.Common.{get_or, arith, refl, sym, subst, ◌++◌, ◌∷◌, []}
 use Rattle.xdg_listing.specs.Fits.{Fits}
-use Rattle.xdg_search.proofs.Steps.{same_then, taken_stands}
+use Rattle.xdg_search.proofs.Same.{same_then}
+use Rattle.xdg_search.proofs.Steps.{taken_stands}
 use Rattle.xdg_search.proofs.Starting.{start_fits, start_more, start_refused, start_done, start_range}
 use Rattle.xdg_search.proofs.descend.Goals as goal
 

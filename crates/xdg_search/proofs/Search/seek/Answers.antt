@@ -1,7 +1,8 @@
 use Rattle.std.proofs.Common.{arith, length, refl, ap, sym, subst}
 use Rattle.xdg_search.specs.Place.{Stands}
 use Rattle.xdg_search.proofs.Passing.{next_first}
-use Rattle.xdg_search.proofs.Steps.{same_then, stands_room, push_fits, taken_stands, taken_passes, taken_finds, taken_smaller, taken_spent, refused_passes, refused_smaller, popped_stands, popped_passes, popped_smaller, finished}
+use Rattle.xdg_search.proofs.Same.{same_then}
+use Rattle.xdg_search.proofs.Steps.{stands_room, push_fits, taken_stands, taken_passes, taken_finds, taken_smaller, taken_whole, taken_spent, refused_passes, refused_smaller, popped_stands, popped_passes, popped_smaller, finished}
 use Rattle.xdg_search.proofs.Search.seek.Goals as goal
 
 pub candidate-requires : goal.candidate-requires
@@ -48,6 +49,15 @@ returns-then-len-decisions-clause-finds g c r from next =
     let b = c.decisions.ensures in
     let d = c.steps.invariant.charged in
     taken_finds _ _ _ _ _ _ _ _ _ _ _ c.steps.invariant.same c.steps.invariant.stands v.0 v.1 t.1 t.0 (omega (arith, e, a, b)) (omega (arith, d)) (c.steps.invariant.passed from next)
+
+pub returns-then-len-decisions-clause-whole : goal.returns-then-len-decisions-clause-whole
+returns-then-len-decisions-clause-whole g c r =
+    let t = c.if-push.ensures.taken refl in
+    let s = same_then _ _ _ _ _ _ c.steps.invariant.same c.push.ensures.same in
+    let e = ap length s.sizes in
+    let a = c.len-then-push.ensures in
+    let b = c.decisions.ensures in
+    taken_whole _ _ _ _ _ _ _ c.steps.invariant.same t.1 t.0 (omega (arith, e, a, b))
 
 pub steps-smaller-else-len-decisions : goal.steps-smaller-else-len-decisions
 steps-smaller-else-len-decisions g c =
