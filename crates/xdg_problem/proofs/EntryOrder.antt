@@ -1,0 +1,27 @@
+-- The comparison of entries is that of their numbers.
+use Rattle.std.proofs.Common.{◌≡◌, ℕ, length, List, [], ◌∷◌, refl, ap, ap₂, arith}
+use Rattle.std.specs.declared.cmp.Ordering.{Ordering}
+use Rattle.std.specs.Ordering.{nat_cmp, ordering_then}
+use Rattle.std.specs.Cmp.Lexicographic.{slice_cmp}
+use Rattle.xdg_base.specs.declared.ids.EntryNo.{EntryNo}
+use Rattle.xdg_problem.specs.EntryNumbers.{entry_numbers}
+use Rattle.xdg_problem.proofs.EntryPlaces.{entry_equal}
+
+pub compare_numbers : (R : EntryNo → EntryNo → Ordering) → ((x y : EntryNo) → R x y ≡ nat_cmp x.0 y.0) → (a b : List EntryNo) → slice_cmp R a b ≡ slice_cmp nat_cmp (entry_numbers a) (entry_numbers b)
+compare_numbers R h [] [] = refl
+compare_numbers R h [] (y ∷ b) = refl
+compare_numbers R h (x ∷ a) [] = refl
+compare_numbers R h (x ∷ a) (y ∷ b) = ap₂ (λ r s. ordering_then r s) (h x y) (compare_numbers R h a b)
+
+pub numbers_equal : (a b : List EntryNo) → entry_numbers a ≡ entry_numbers b → a ≡ b
+numbers_equal [] [] e = refl
+numbers_equal [] (y ∷ b) e = absurd (let n = ap length e in omega (arith, n))
+numbers_equal (x ∷ a) [] e = absurd (let n = ap length e in omega (arith, n))
+numbers_equal (x ∷ a) (y ∷ b) e = ap₂ (λ z zs. z ∷ zs) (entry_equal x y (ap first e)) (numbers_equal a b (ap rest e)) where
+  first : List ℕ → ℕ
+  first [] = 0
+  first (n ∷ ns) = n
+
+  rest : List ℕ → List ℕ
+  rest [] = []
+  rest (n ∷ ns) = ns

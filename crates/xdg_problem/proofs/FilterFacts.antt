@@ -1,0 +1,46 @@
+-- A filter of a filter, filters that keep more, and membership in a filter.
+use Rattle.std.proofs.Common.{◌≡◌, ◌≤◌, Bool, true, false, ◌&&◌, cond, List, [], ◌∷◌, length, refl, sym, ap, ◌∙◌, arith}
+use Rattle.std.specs.Prelude.{filter, All, Contains, count_by}
+use Rattle.std.proofs.lemmas.List.Elements.{All-head, All-tail, All-contains_itself, All-filter, All-contains, filter_passes}
+use Rattle.std.proofs.lemmas.List.Sums.{length-filter}
+use Rattle.xdg_problem.proofs.Ordered.{contains_filter}
+
+module _ {X : Type 0} where
+  filter_cond : (p : X → Bool) (b : Bool) (x : X) (ys zs : List X) → filter p ys ≡ zs → filter p (cond b (x ∷ ys) ys) ≡ cond (b && p x) (x ∷ zs) zs
+  filter_cond p true x ys zs e = ap (λ rest. cond (p x) (x ∷ rest) rest) e
+  filter_cond p false x ys zs e = e
+
+  pub filter_both : (p q : X → Bool) (xs : List X) → filter p (filter q xs) ≡ filter (λ x. q x && p x) xs
+  filter_both p q [] = refl
+  filter_both p q (x ∷ xs) = filter_cond p (q x) x (filter q xs) (filter (λ y. q y && p y) xs) (filter_both p q xs)
+
+  pub count_of_filter : (p q : X → Bool) (xs : List X) → length (filter (λ x. q x && p x) xs) ≡ count_by p (filter q xs)
+  count_of_filter p q xs = ap length (sym (filter_both p q xs)) ∙ length-filter p (filter q xs)
+
+  pub filter_alike : (p q : X → Bool) (xs : List X) → All (λ x. p x ≡ q x) xs → filter p xs ≡ filter q xs
+  filter_alike p q [] alike = refl
+  filter_alike p q (x ∷ xs) alike =
+      let here : p x ≡ q x = All-head (λ y. p y ≡ q y) x xs alike in
+      let rest = filter_alike p q xs (All-tail (λ y. p y ≡ q y) x xs alike) in
+      rw (here, rest) refl
+
+  fewer_put : (b c : Bool) (x : X) (ys zs : List X) → (b ≡ true → c ≡ true) → length ys ≤ length zs → length (cond b (x ∷ ys) ys) ≤ length (cond c (x ∷ zs) zs)
+  fewer_put true true x ys zs more fewer = omega arith
+  fewer_put true false x ys zs more fewer = (let e : false ≡ true = more refl in cc)
+  fewer_put false true x ys zs more fewer = omega arith
+  fewer_put false false x ys zs more fewer = fewer
+
+  -- a test that passes less keeps no more
+  pub filter_fewer : (p q : X → Bool) (xs : List X) → ((x : X) → p x ≡ true → q x ≡ true) → length (filter p xs) ≤ length (filter q xs)
+  filter_fewer p q [] more = omega arith
+  filter_fewer p q (x ∷ xs) more = fewer_put (p x) (q x) x (filter p xs) (filter q xs) (more x) (filter_fewer p q xs more)
+
+  pub filter_contained : (p : X → Bool) (xs : List X) (y : X) → Contains (filter p xs) y → Contains xs y × (p y ≡ true)
+  filter_contained p xs y c = (
+    All-contains (Contains xs) (filter p xs) y (All-filter p (Contains xs) xs (All-contains_itself xs)) c,
+    All-contains (λ x. p x ≡ true) (filter p xs) y (filter_passes p xs) c,
+  )
+
+  -- a test that passes less keeps some of the same
+  pub filter_among : (p q : X → Bool) (xs : List X) → ((x : X) → p x ≡ true → q x ≡ true) → (y : X) → Contains (filter p xs) y → Contains (filter q xs) y
+  filter_among p q xs more y c = let both = filter_contained p xs y c in contains_filter q xs y (more y both.1) both.0

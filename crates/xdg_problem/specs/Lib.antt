@@ -1,0 +1,17 @@
+pub mod Places
+pub mod Vectors
+pub mod Analyses
+pub mod HasPlaces
+pub mod EdgeOrder
+pub mod Counts
+pub mod Values
+pub mod EntryNumbers
+pub mod OneToOne
+pub mod Paths
+pub mod Features
+pub mod Relations
+pub mod Tests
+pub mod Live
+pub mod Solutions
+pub mod Problems
+pub mod Tries

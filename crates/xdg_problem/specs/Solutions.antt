@@ -1,0 +1,28 @@
+-- Solutions, and the one list of them.
+use Rattle.std.specs.Prelude.{ℕ, List, [], ◌∷◌, All, Contains}
+use Rattle.xdg_listing.specs.Order.{Less}
+use Rattle.xdg_problem.specs.declared.analysis.Analysis.{Analysis}
+use Rattle.xdg_problem.specs.declared.parts.Parts.{Parts}
+use Rattle.xdg_problem.specs.Vectors.{vector}
+use Rattle.xdg_problem.specs.Analyses.{IsAnalysis}
+use Rattle.xdg_problem.specs.Relations.{Relation}
+
+-- an analysis that satisfies every principle use
+pub record IsSolution (parts : Parts) (analysis : Analysis) : Type 0 where
+  pub fits : IsAnalysis parts analysis
+  pub each : All (λ group. Relation parts group analysis) parts.groups
+
+-- a comes before b: at the first decision in which they differ it has the earlier value
+abbrev pub IsLess : Parts → Analysis → Analysis → Type 0
+IsLess parts a b = Less (vector parts a) (vector parts b)
+
+-- each analysis comes before the next, and the first after the start; the start is a vector, or [] for none
+abbrev pub SolutionsRise : Parts → List ℕ → List Analysis → Type 0
+SolutionsRise parts after [] = Unit {0}
+SolutionsRise parts after (analysis ∷ more) = Less after (vector parts analysis) × SolutionsRise parts (vector parts analysis) more
+
+-- the list of all solutions after a start, in rising order
+pub record IsSolutionList (parts : Parts) (after : List ℕ) (list : List Analysis) : Type 0 where
+  pub rises : SolutionsRise parts after list
+  pub each : All (IsSolution parts) list
+  pub all : (analysis : Analysis) → IsSolution parts analysis → Less after (vector parts analysis) → Contains list analysis

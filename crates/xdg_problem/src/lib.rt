@@ -1,0 +1,20 @@
+//! A compiled sentence: its words, what has to be decided, which principles judge the decisions, and the
+//! definitions of an analysis, of a solution, of their order and of the prefixes that a search goes through.
+//!
+//! Everything above this crate knows a grammar text, everything below it a search; both meet here.
+#![tactic(auto)]
+
+mod analysis;
+mod comparing;
+mod decisions;
+mod fitting;
+mod numbers;
+mod parts;
+mod places;
+mod problem;
+mod sizes;
+
+pub use analysis::{Analysis, Edge, is_before};
+pub use numbers::Nums;
+pub use parts::{AttrPlan, DimPlan, Feat, Group, Parts, Principle, SentenceWord, Shown};
+pub use problem::Problem;
