@@ -1,0 +1,11 @@
+pub mod Apart
+pub mod Complete
+pub mod Entries
+pub mod Equal
+pub mod Facts
+pub mod Holds
+pub mod Parts
+pub mod Runs
+pub mod Short
+pub mod Sound
+pub mod Whole

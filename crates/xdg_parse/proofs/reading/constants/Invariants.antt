@@ -1,0 +1,11 @@
+use Rattle.std.proofs.Common.{◌≡◌}
+use Rattle.xdg_parse.specs.Readers.{many}
+use Rattle.xdg_parse.specs.Readers.{constant}
+use Rattle.xdg_parse.proofs.Parts.{behind}
+use Rattle.xdg_parse.proofs.reading.constants.Given as goal
+
+abbrev pub invariant-loop-room : goal.invariant-loop-room
+invariant-loop-room l = behind l.constants (many constant l.room l.cursor) ≡ many constant l.most l.initial.cursor
+
+abbrev pub decreases-loop-room : goal.decreases-loop-room
+decreases-loop-room l = l.room

@@ -1,0 +1,9 @@
+pub mod Characters
+pub mod Distinct
+pub mod IsPlain
+pub mod Keywords
+pub mod Lexing
+pub mod Plain
+pub mod Readers
+pub mod Refused
+pub mod Written
