@@ -1,0 +1,75 @@
+-- What an analysis of a problem gives to the writers of its lines.
+use Rattle.std.proofs.Common.{◌≡◌, ◌<◌, ◌≤◌, ◌+◌, ◌*◌, ◌++◌, ℕ, zero, suc, List, [], ◌∷◌, length, drop, map, get_or, refl, sym, ap, ◌∙◌, subst, arith, append_assoc, zero-mul, All}
+use Rattle.std.proofs.lemmas.List.{get_or_default, drop-drop}
+use Rattle.std.specs.List.{flat_map}
+use Rattle.xdg_base.specs.declared.ids.EntryNo.{EntryNo}
+use Rattle.xdg_listing.specs.Fits.{Fits}
+use Rattle.xdg_problem.specs.declared.analysis.Edge.{Edge}
+use Rattle.xdg_problem.specs.declared.analysis.Analysis.{Analysis}
+use Rattle.xdg_problem.specs.declared.parts.AttrPlan.{AttrPlan}
+use Rattle.xdg_problem.specs.declared.parts.DimPlan.{DimPlan}
+use Rattle.xdg_problem.specs.declared.parts.Parts.{Parts}
+use Rattle.xdg_problem.specs.Analyses.{HasCandidates, IsPlace, IsAnalysis}
+use Rattle.xdg_problem.specs.Places.{numbers_from, below}
+use Rattle.xdg_problem.specs.Problems.{IsProblem, IsDim}
+use Rattle.xdg_problem.specs.Vectors.{attr_sizes}
+use Rattle.xdg_text.specs.Blocks.{no_plan}
+use Rattle.xdg_text.specs.Ranges.{HasValues, NodesHaveValues, DimsHaveValues, HasNames}
+
+-- numbers that go with the sizes are there, and the numbers after them go with the other sizes
+record Has (here : Type 0) (more : List ℕ) (left : List ℕ) : Type 0 where
+  has : here
+  fits : Fits more left
+  enough : length more ≤ length left
+
+fits_node : (attrs : List AttrPlan) (more values : List ℕ) → Fits (map (λ attr. length attr.values) attrs ++ more) values → length (map (λ attr. length attr.values) attrs ++ more) ≤ length values → Has (HasValues attrs values) more (drop (length attrs) values)
+fits_node [] more values fits enough = record { has = tt; fits = fits; enough = enough }
+fits_node (attr ∷ attrs) more [] fits enough = absurd (omega (arith, enough))
+fits_node (attr ∷ attrs) more (value ∷ values) fits enough =
+    let later = fits_node attrs more values fits.1 (omega (arith, enough)) in
+    record { has = (fits.0, later.has); fits = later.fits; enough = later.enough }
+
+fits_nodes : (attrs : List AttrPlan) (first count : ℕ) (more values : List ℕ) → Fits (flat_map (λ node. map (λ attr. length attr.values) attrs) (numbers_from first count) ++ more) values → length (flat_map (λ node. map (λ attr. length attr.values) attrs) (numbers_from first count) ++ more) ≤ length values → Has (NodesHaveValues attrs count values) more (drop (count * length attrs) values)
+fits_nodes attrs first zero more values fits enough =
+    subst (λ k. Has (Unit {0}) more (drop k values)) (sym (zero-mul (length attrs))) (record { has = tt; fits = fits; enough = enough })
+fits_nodes attrs first (suc count) more values fits enough =
+    let others : List ℕ = flat_map (λ node. map (λ attr. length attr.values) attrs) (numbers_from (suc first) count) in
+    let regroup = append_assoc (map (λ attr. length attr.values) attrs) others more in
+    let here = fits_node attrs (others ++ more) values (subst (λ z. Fits z values) regroup fits) (subst (λ z. length z ≤ length values) regroup enough) in
+    let later = fits_nodes attrs (suc first) count more (drop (length attrs) values) here.fits here.enough in
+    let product : length attrs + count * length attrs ≡ suc count * length attrs = omega arith in
+    let dropped : drop (count * length attrs) (drop (length attrs) values) ≡ drop (suc count * length attrs) values = drop-drop (count * length attrs) (length attrs) values ∙ ap (λ k. drop k values) product in
+    record { has = (here.has, later.has); fits = subst (λ z. Fits more z) dropped later.fits; enough = subst (λ z. length more ≤ length z) dropped later.enough }
+
+fits_dims : (n : ℕ) (plans : List DimPlan) (values : List ℕ) → Fits (attr_sizes n plans) values → length (attr_sizes n plans) ≤ length values → DimsHaveValues n plans values
+fits_dims n [] values fits enough = tt
+fits_dims n (plan ∷ plans) values fits enough =
+    let here = fits_nodes plan.attrs 0 n (attr_sizes n plans) values fits enough in
+    (here.has, fits_dims n plans (drop (n * length plan.attrs) values) here.fits here.enough)
+
+same_count : (candidates : List (List EntryNo)) (entries : List EntryNo) → HasCandidates candidates entries → length entries ≡ length candidates
+same_count [] [] has = refl
+same_count [] (entry ∷ entries) has = absurd has
+same_count (cs ∷ candidates) [] has = absurd has
+same_count (cs ∷ candidates) (entry ∷ entries) has = ap suc (same_count candidates entries has.1)
+
+-- there is an entry for each word
+pub entries_each : (parts : Parts) (analysis : Analysis) → IsProblem parts → IsAnalysis parts analysis → length analysis.entries ≡ length parts.words
+entries_each parts analysis problem fits = same_count parts.candidates analysis.entries fits.entries ∙ problem.candidates_each
+
+-- each attribute of each node has one of its values
+pub values_there : (parts : Parts) (analysis : Analysis) → IsAnalysis parts analysis → DimsHaveValues (length parts.words) parts.dims analysis.attrs
+values_there parts analysis fits = fits_dims (length parts.words) parts.dims analysis.attrs fits.attrs (omega (arith, fits.attr_count))
+
+-- a dimension has few attributes
+pub few_attrs : (parts : Parts) → IsProblem parts → All (λ plan. length plan.attrs ≤ 8) parts.dims
+few_attrs parts problem k d within = (problem.dims k d within).attrs_most
+
+names_of_place : (parts : Parts) (e : Edge) → IsPlace parts e → HasNames parts.dims e
+names_of_place parts e place =
+    let is : get_or parts.dims e.dim.0 no_plan ≡ place.plan = get_or_default parts.dims e.dim.0 no_plan place.plan place.dim ∙ place.is_plan in
+    (place.dim, subst (λ plan. e.label.0 < length plan.labels) (sym is) place.label)
+
+-- each edge has a dimension and a label
+pub names_there : (parts : Parts) (analysis : Analysis) → IsAnalysis parts analysis → All (HasNames parts.dims) analysis.edges
+names_there parts analysis fits k d within = names_of_place parts (get_or analysis.edges k d) (fits.places k d within)

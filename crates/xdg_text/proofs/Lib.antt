@@ -1,0 +1,5 @@
+pub mod Fitting
+pub mod Names
+pub mod Pieces
+pub mod Rests
+pub mod Small

@@ -1,0 +1,15 @@
+use Rattle.std.proofs.Common.{◌≡◌, ◌∙◌, ap, sym}
+use Rattle.std.specs.List.{flat_map}
+use Rattle.xdg_text.specs.Constants.{escaped}
+use Rattle.xdg_text.proofs.Names.{nothing_escaped}
+use Rattle.xdg_text.proofs.constants.write_escaped.Goals as goal
+
+pub returns-else-has_escaped-clause-all : goal.returns-else-has_escaped-clause-all
+returns-else-has_escaped-clause-all g c =
+    let same : flat_map escaped c.args.text.now ≡ c.as_bytes-bytes.result.now = ap (flat_map escaped) (sym c.as_bytes-bytes.ensures.value) ∙ nothing_escaped c.as_bytes-bytes.result.now (sym c.has_escaped.ensures ∙ c.if-has_escaped.false) in
+    rw same c.write_all.ensures.all
+
+pub returns-else-has_escaped-clause-front : goal.returns-else-has_escaped-clause-front
+returns-else-has_escaped-clause-front g c =
+    let same : flat_map escaped c.args.text.now ≡ c.as_bytes-bytes.result.now = ap (flat_map escaped) (sym c.as_bytes-bytes.ensures.value) ∙ nothing_escaped c.as_bytes-bytes.result.now (sym c.has_escaped.ensures ∙ c.if-has_escaped.false) in
+    rw same c.write_all.ensures.front

@@ -1,0 +1,266 @@
+//! The blocks of analyses.
+
+ghost use Rattle.std.specs.Prelude.{◌≡◌, ◌<◌, ◌≤◌, ℕ, List, Option, length, All, OnOk, OnErr};
+ghost use Rattle.xdg_io.specs.Held.{Appends, AppendsFront};
+ghost use Rattle.xdg_io.specs.Rose.{Rose};
+ghost use Rattle.xdg_problem.specs.Analyses.{IsAnalysis};
+ghost use Rattle.xdg_text.specs.Blocks.{word_lines, value_at, node_lines, dim_lines, attr_lines, line_of_edge, edge_lines, block_lines, block};
+ghost use Rattle.xdg_text.specs.Lines.{analysis_line, word_line, attr_line, end_line};
+ghost use Rattle.xdg_text.specs.Ranges.{HasValues, NodesHaveValues, DimsHaveValues, HasNames};
+
+use crate::lines::{Word, write_line};
+use xdg_base::{EntryNo, Text};
+use xdg_io::{Failed, Sink};
+use xdg_problem::{Analysis, AttrPlan, DimPlan, Edge, Problem, SentenceWord};
+
+/// Writes the line of a node with its word and its entry.
+#[tactic(auto, using(crate::proofs::Pieces::appends_both, crate::proofs::Pieces::start, crate::proofs::Pieces::done, crate::proofs::Pieces::rose_later))]
+fn write_word_line<K: Sink>(
+    node: usize,
+    word: &SentenceWord,
+    entry: EntryNo,
+    sink: &mut K,
+) -> Result<(), Failed>
+    requires { node < 128 }
+    ensures all { OnOk result (Appends (K.held sink.old) (K.held sink.new) (word_line node word.now.text entry.0)) }
+    ensures front { OnErr result (AppendsFront (K.held sink.old) (K.held sink.new) (word_line node word.now.text entry.0)) }
+    ensures cause { OnErr result (Rose (K.faults sink.old) (K.faults sink.new)) }
+    ensures lasting { K.faults sink.old ≤ K.faults sink.new }
+{
+    let words = [
+        Word::Number(node as u64 + 1),
+        Word::Quoted(word.text.as_str()),
+        Word::Number(entry.0 as u64 + 1),
+    ];
+    write_line("word", &words, sink)
+}
+
+/// Writes the lines of all nodes.
+#[tactic(auto, using(crate::proofs::Pieces::appends_both, crate::proofs::Pieces::start, crate::proofs::Pieces::done, crate::proofs::Pieces::rose_later))]
+fn write_word_lines<K: Sink>(
+    words: &[SentenceWord],
+    entries: &[EntryNo],
+    sink: &mut K,
+) -> Result<(), Failed>
+    requires most { length words.now ≤ 128 }
+    requires each { length entries.now ≡ length words.now }
+    ensures all { OnOk result (Appends (K.held sink.old) (K.held sink.new) (word_lines 0 words.now entries.now)) }
+    ensures front { OnErr result (AppendsFront (K.held sink.old) (K.held sink.new) (word_lines 0 words.now entries.now)) }
+    ensures cause { OnErr result (Rose (K.faults sink.old) (K.faults sink.new)) }
+    ensures lasting { K.faults sink.old ≤ K.faults sink.new }
+{
+    for (node, word) in words.iter().enumerate() {
+        write_word_line(node, word, entries[node], sink)?;
+    }
+    Ok(())
+}
+
+/// Writes the line of an attribute of a node.
+#[tactic(auto, using(crate::proofs::Pieces::appends_both, crate::proofs::Pieces::start, crate::proofs::Pieces::done, crate::proofs::Pieces::rose_later))]
+fn write_attr_line<'a, K: Sink>(
+    dim: &'a Text,
+    node: usize,
+    attr: &'a AttrPlan,
+    value: u16,
+    sink: &mut K,
+) -> Result<(), Failed>
+    requires small { node < 128 }
+    requires within { value < length attr.now.values }
+    ensures all { OnOk result (Appends (K.held sink.old) (K.held sink.new) (attr_line dim.now node attr.now.name (value_at attr.now value))) }
+    ensures front { OnErr result (AppendsFront (K.held sink.old) (K.held sink.new) (attr_line dim.now node attr.now.name (value_at attr.now value))) }
+    ensures cause { OnErr result (Rose (K.faults sink.old) (K.faults sink.new)) }
+    ensures lasting { K.faults sink.old ≤ K.faults sink.new }
+{
+    let words = [
+        Word::Constant(dim.as_str()),
+        Word::Number(node as u64 + 1),
+        Word::Constant(attr.name.as_str()),
+        Word::Value(&attr.values.as_slice()[value as usize]),
+    ];
+    write_line("attr", &words, sink)
+}
+
+/// Writes the lines of a node's attributes, whose values come first in the list.
+#[tactic(auto, using(crate::proofs::Pieces::appends_both, crate::proofs::Pieces::start, crate::proofs::Pieces::done, crate::proofs::Pieces::rose_later))]
+fn write_node_lines<K: Sink>(
+    dim: &Text,
+    node: usize,
+    attrs: &[AttrPlan],
+    values: &[u16],
+    sink: &mut K,
+) -> Result<(), Failed>
+    requires small { node < 128 }
+    requires within { HasValues attrs.now values.now }
+    ensures all { OnOk result (Appends (K.held sink.old) (K.held sink.new) (node_lines dim.now node attrs.now values.now)) }
+    ensures front { OnErr result (AppendsFront (K.held sink.old) (K.held sink.new) (node_lines dim.now node attrs.now values.now)) }
+    ensures cause { OnErr result (Rose (K.faults sink.old) (K.faults sink.new)) }
+    ensures lasting { K.faults sink.old ≤ K.faults sink.new }
+{
+    for (at, attr) in attrs.iter().enumerate() {
+        write_attr_line(dim, node, attr, values[at], sink)?;
+    }
+    Ok(())
+}
+
+/// Writes the lines of the attributes of a dimension, node by node.
+#[tactic(auto, using(crate::proofs::Pieces::appends_both, crate::proofs::Pieces::start, crate::proofs::Pieces::done, crate::proofs::Pieces::rose_later))]
+fn write_dim_lines<K: Sink>(
+    dim: &DimPlan,
+    nodes: usize,
+    values: &[u16],
+    sink: &mut K,
+) -> Result<(), Failed>
+    requires most { nodes ≤ 128 }
+    requires within { NodesHaveValues dim.now.attrs nodes values.now }
+    ensures all { OnOk result (Appends (K.held sink.old) (K.held sink.new) (dim_lines dim.now 0 nodes values.now)) }
+    ensures front { OnErr result (AppendsFront (K.held sink.old) (K.held sink.new) (dim_lines dim.now 0 nodes values.now)) }
+    ensures cause { OnErr result (Rose (K.faults sink.old) (K.faults sink.new)) }
+    ensures lasting { K.faults sink.old ≤ K.faults sink.new }
+{
+    let attrs = dim.attrs.as_slice();
+    let mut rest = values;
+    for node in 0..nodes {
+        write_node_lines(&dim.name, node, attrs, rest, sink)?;
+        let (_, later) = rest.split_at(attrs.len());
+        rest = later;
+    }
+    Ok(())
+}
+
+/// Writes the lines of all attributes, dimension by dimension.
+#[tactic(auto, using(crate::proofs::Pieces::appends_both, crate::proofs::Pieces::start, crate::proofs::Pieces::done, crate::proofs::Pieces::rose_later))]
+fn write_attr_lines<K: Sink>(
+    dims: &[DimPlan],
+    nodes: usize,
+    values: &[u16],
+    sink: &mut K,
+) -> Result<(), Failed>
+    requires most { nodes ≤ 128 }
+    requires few { All (λ plan. length plan.attrs ≤ 8) dims.now }
+    requires within { DimsHaveValues nodes dims.now values.now }
+    ensures all { OnOk result (Appends (K.held sink.old) (K.held sink.new) (attr_lines nodes dims.now values.now)) }
+    ensures front { OnErr result (AppendsFront (K.held sink.old) (K.held sink.new) (attr_lines nodes dims.now values.now)) }
+    ensures cause { OnErr result (Rose (K.faults sink.old) (K.faults sink.new)) }
+    ensures lasting { K.faults sink.old ≤ K.faults sink.new }
+{
+    let mut rest = values;
+    for dim in dims {
+        write_dim_lines(dim, nodes, rest, sink)?;
+        let (_, later) = rest.split_at(nodes * dim.attrs.len());
+        rest = later;
+    }
+    Ok(())
+}
+
+/// Writes the line of an edge.
+#[tactic(auto, using(crate::proofs::Pieces::appends_both, crate::proofs::Pieces::start, crate::proofs::Pieces::done, crate::proofs::Pieces::rose_later))]
+fn write_edge_line<K: Sink>(dims: &[DimPlan], edge: &Edge, sink: &mut K) -> Result<(), Failed>
+    requires { HasNames dims.now edge.now }
+    ensures all { OnOk result (Appends (K.held sink.old) (K.held sink.new) (line_of_edge dims.now edge.now)) }
+    ensures front { OnErr result (AppendsFront (K.held sink.old) (K.held sink.new) (line_of_edge dims.now edge.now)) }
+    ensures cause { OnErr result (Rose (K.faults sink.old) (K.faults sink.new)) }
+    ensures lasting { K.faults sink.old ≤ K.faults sink.new }
+{
+    let dim = &dims[edge.dim.0 as usize];
+    let label = &dim.labels.as_slice()[edge.label.0 as usize];
+    let words = [
+        Word::Constant(dim.name.as_str()),
+        Word::Number(edge.mother.0 as u64 + 1),
+        Word::Constant(label.as_str()),
+        Word::Number(edge.daughter.0 as u64 + 1),
+    ];
+    write_line("edge", &words, sink)
+}
+
+/// Writes the lines of edges in their order.
+#[tactic(auto, using(crate::proofs::Pieces::appends_both, crate::proofs::Pieces::start, crate::proofs::Pieces::done, crate::proofs::Pieces::rose_later))]
+fn write_edge_lines<K: Sink>(dims: &[DimPlan], edges: &[Edge], sink: &mut K) -> Result<(), Failed>
+    requires { All (HasNames dims.now) edges.now }
+    ensures all { OnOk result (Appends (K.held sink.old) (K.held sink.new) (edge_lines dims.now edges.now)) }
+    ensures front { OnErr result (AppendsFront (K.held sink.old) (K.held sink.new) (edge_lines dims.now edges.now)) }
+    ensures cause { OnErr result (Rose (K.faults sink.old) (K.faults sink.new)) }
+    ensures lasting { K.faults sink.old ≤ K.faults sink.new }
+{
+    for edge in edges {
+        write_edge_line(dims, edge, sink)?;
+    }
+    Ok(())
+}
+
+/// Writes the lines of a block.
+#[tactic(auto, using(crate::proofs::Pieces::appends_both, crate::proofs::Pieces::rose_later))]
+fn write_block<K: Sink>(
+    words: &[SentenceWord],
+    dims: &[DimPlan],
+    number: u64,
+    entries: &[EntryNo],
+    attrs: &[u16],
+    edges: &[Edge],
+    sink: &mut K,
+) -> Result<(), Failed>
+    requires most { length words.now ≤ 128 }
+    requires few { All (λ plan. length plan.attrs ≤ 8) dims.now }
+    requires entries { length entries.now ≡ length words.now }
+    requires attrs { DimsHaveValues (length words.now) dims.now attrs.now }
+    requires edges { All (HasNames dims.now) edges.now }
+    ensures all { OnOk result (Appends (K.held sink.old) (K.held sink.new) (block_lines words.now dims.now number entries.now attrs.now edges.now)) }
+    ensures front { OnErr result (AppendsFront (K.held sink.old) (K.held sink.new) (block_lines words.now dims.now number entries.now attrs.now edges.now)) }
+    ensures cause { OnErr result (Rose (K.faults sink.old) (K.faults sink.new)) }
+    ensures lasting { K.faults sink.old ≤ K.faults sink.new }
+{
+    write_line("analysis", &[Word::Number(number)], sink)?;
+    write_word_lines(words, entries, sink)?;
+    write_attr_lines(dims, words.len(), attrs, sink)?;
+    write_edge_lines(dims, edges, sink)?;
+    write_line("end", &[], sink)
+}
+
+/// Writes the block of the analysis that has these entries, attributes and edges. It takes no memory.
+pub fn write_parts<K: Sink>(
+    problem: &Problem,
+    number: u64,
+    entries: &[EntryNo],
+    attrs: &[u16],
+    edges: &[Edge],
+    sink: &mut K,
+) -> Result<(), Failed>
+    requires { IsAnalysis problem.now (record { entries = entries.now; attrs = attrs.now; edges = edges.now }) }
+    ensures all { OnOk result (Appends (K.held sink.old) (K.held sink.new) (block problem.now number (record { entries = entries.now; attrs = attrs.now; edges = edges.now }))) }
+    ensures front { OnErr result (AppendsFront (K.held sink.old) (K.held sink.new) (block problem.now number (record { entries = entries.now; attrs = attrs.now; edges = edges.now }))) }
+    ensures cause { OnErr result (Rose (K.faults sink.old) (K.faults sink.new)) }
+    ensures lasting { K.faults sink.old ≤ K.faults sink.new }
+{
+    let parts = problem.parts();
+    write_block(
+        parts.words.as_slice(),
+        parts.dims.as_slice(),
+        number,
+        entries,
+        attrs,
+        edges,
+        sink,
+    )
+}
+
+/// Writes the block of an analysis, whose number counts from 1. It takes no memory.
+pub fn write<K: Sink>(
+    problem: &Problem,
+    number: u64,
+    analysis: &Analysis,
+    sink: &mut K,
+) -> Result<(), Failed>
+    requires { IsAnalysis problem.now analysis.now }
+    ensures all { OnOk result (Appends (K.held sink.old) (K.held sink.new) (block problem.now number analysis.now)) }
+    ensures front { OnErr result (AppendsFront (K.held sink.old) (K.held sink.new) (block problem.now number analysis.now)) }
+    ensures cause { OnErr result (Rose (K.faults sink.old) (K.faults sink.new)) }
+    ensures lasting { K.faults sink.old ≤ K.faults sink.new }
+{
+    write_parts(
+        problem,
+        number,
+        analysis.entries.as_slice(),
+        analysis.attrs.as_slice(),
+        analysis.edges.as_slice(),
+        sink,
+    )
+}

@@ -1,0 +1,17 @@
+//! The printed texts: the blocks of analyses, the lines of faults, and those that end a run.
+#![tactic(auto)]
+
+mod blocks;
+mod constants;
+mod faults;
+mod lines;
+mod values;
+
+pub use blocks::{write, write_parts};
+pub use constants::{write_constant, write_quoted};
+pub use faults::{fault_line, write_complete, write_first, write_spent, write_usage};
+pub use lines::{Word, write_line};
+pub use values::write_value;
+
+#[cfg(test)]
+mod tests;

@@ -1,0 +1,107 @@
+//! Printed lines.
+
+ghost use Rattle.std.specs.Prelude.{◌≡◌, ◌≤◌, ℕ, List, Option, ◌++◌, codes, decimal, map, OnOk, OnErr};
+ghost use Rattle.std.specs.List.{flat_map};
+ghost use Rattle.xdg_io.specs.Held.{Appends, AppendsFront};
+ghost use Rattle.xdg_io.specs.Rose.{Rose};
+ghost use Rattle.xdg_text.specs.Lines.{led, line};
+ghost use Rattle.xdg_text.specs.Words.{word_text, led_word};
+
+use crate::constants::{write_constant, write_quoted};
+use crate::values::write_value;
+use itoa::Buffer;
+use xdg_io::{Failed, Sink, write_all};
+use xdg_problem::Shown;
+
+/// A word of a line.
+#[derive(Clone, Copy, Debug)]
+pub enum Word<'a> {
+    /// Characters that stand as they are.
+    Plain(&'a str),
+    /// A number in decimal digits.
+    Number(u64),
+    /// A constant, as a name where it can be, and else between quotation marks.
+    Constant(&'a str),
+    /// A text between quotation marks.
+    Quoted(&'a str),
+    /// A value of an attribute.
+    Value(&'a Shown),
+}
+
+/// Writes characters as they stand.
+fn write_plain<K: Sink>(text: &str, sink: &mut K) -> Result<(), Failed>
+    ensures all { OnOk result (Appends (K.held sink.old) (K.held sink.new) (text.now)) }
+    ensures front { OnErr result (AppendsFront (K.held sink.old) (K.held sink.new) (text.now)) }
+    ensures cause { OnErr result (Rose (K.faults sink.old) (K.faults sink.new)) }
+    ensures lasting { K.faults sink.old ≤ K.faults sink.new }
+{
+    write_all(sink, text.as_bytes())
+}
+
+/// Writes a number in decimal digits.
+#[tactic(auto, using(crate::proofs::Pieces::appends_both, crate::proofs::Pieces::start, crate::proofs::Pieces::done, crate::proofs::Pieces::rose_later))]
+fn write_number<K: Sink>(number: u64, sink: &mut K) -> Result<(), Failed>
+    ensures all { OnOk result (Appends (K.held sink.old) (K.held sink.new) (decimal number)) }
+    ensures front { OnErr result (AppendsFront (K.held sink.old) (K.held sink.new) (decimal number)) }
+    ensures cause { OnErr result (Rose (K.faults sink.old) (K.faults sink.new)) }
+    ensures lasting { K.faults sink.old ≤ K.faults sink.new }
+{
+    let mut buffer = Buffer::new();
+    write_all(sink, buffer.format(number).as_bytes())
+}
+
+/// Writes a word.
+#[tactic(auto, using(crate::proofs::Pieces::appends_both, crate::proofs::Pieces::start, crate::proofs::Pieces::done, crate::proofs::Pieces::rose_later))]
+fn write_word<K: Sink>(word: &Word, sink: &mut K) -> Result<(), Failed>
+    ensures all { OnOk result (Appends (K.held sink.old) (K.held sink.new) (word_text word.now)) }
+    ensures front { OnErr result (AppendsFront (K.held sink.old) (K.held sink.new) (word_text word.now)) }
+    ensures cause { OnErr result (Rose (K.faults sink.old) (K.faults sink.new)) }
+    ensures lasting { K.faults sink.old ≤ K.faults sink.new }
+{
+    match word {
+        Word::Plain(text) => write_plain(text, sink),
+        Word::Number(number) => write_number(*number, sink),
+        Word::Constant(text) => write_constant(text, sink),
+        Word::Quoted(text) => write_quoted(text, sink),
+        Word::Value(value) => write_value(value, sink),
+    }
+}
+
+/// Writes a word with a space before it.
+#[tactic(auto, using(crate::proofs::Pieces::appends_both, crate::proofs::Pieces::start, crate::proofs::Pieces::done, crate::proofs::Pieces::rose_later))]
+fn write_led_word<K: Sink>(word: &Word, sink: &mut K) -> Result<(), Failed>
+    ensures all { OnOk result (Appends (K.held sink.old) (K.held sink.new) (led_word word.now)) }
+    ensures front { OnErr result (AppendsFront (K.held sink.old) (K.held sink.new) (led_word word.now)) }
+    ensures cause { OnErr result (Rose (K.faults sink.old) (K.faults sink.new)) }
+    ensures lasting { K.faults sink.old ≤ K.faults sink.new }
+{
+    write_all(sink, b" ")?;
+    write_word(word, sink)
+}
+
+/// Writes words with a space before each.
+#[tactic(auto, using(crate::proofs::Pieces::appends_both, crate::proofs::Pieces::start, crate::proofs::Pieces::done, crate::proofs::Pieces::rose_later))]
+fn write_led_words<K: Sink>(words: &[Word], sink: &mut K) -> Result<(), Failed>
+    ensures all { OnOk result (Appends (K.held sink.old) (K.held sink.new) (flat_map led_word words.now)) }
+    ensures front { OnErr result (AppendsFront (K.held sink.old) (K.held sink.new) (flat_map led_word words.now)) }
+    ensures cause { OnErr result (Rose (K.faults sink.old) (K.faults sink.new)) }
+    ensures lasting { K.faults sink.old ≤ K.faults sink.new }
+{
+    for word in words {
+        write_led_word(word, sink)?;
+    }
+    Ok(())
+}
+
+/// Writes a line: its words with a space between two, and a line feed.
+#[tactic(auto, using(crate::proofs::Pieces::appends_both, crate::proofs::Pieces::start, crate::proofs::Pieces::done, crate::proofs::Pieces::rose_later))]
+pub fn write_line<K: Sink>(first: &str, others: &[Word], sink: &mut K) -> Result<(), Failed>
+    ensures all { OnOk result (Appends (K.held sink.old) (K.held sink.new) (line first.now (map word_text others.now))) }
+    ensures front { OnErr result (AppendsFront (K.held sink.old) (K.held sink.new) (line first.now (map word_text others.now))) }
+    ensures cause { OnErr result (Rose (K.faults sink.old) (K.faults sink.new)) }
+    ensures lasting { K.faults sink.old ≤ K.faults sink.new }
+{
+    write_plain(first, sink)?;
+    write_led_words(others, sink)?;
+    write_all(sink, b"\n")
+}
