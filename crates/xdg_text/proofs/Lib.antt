@@ -2,4 +2,3 @@ pub mod Fitting
 pub mod Names
 pub mod Pieces
 pub mod Rests
-pub mod Small

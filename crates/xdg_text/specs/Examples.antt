@@ -3,11 +3,9 @@ use Rattle.std.specs.Prelude.{◌≡◌, List, [], ◌∷◌, true, false, codes
 use Rattle.std.specs.Fmt.{digits}
 use Rattle.xdg_base.specs.declared.faults.Cause.TheVariants as causes
 use Rattle.xdg_problem.specs.declared.parts.AttrPlan.{AttrPlan}
-use Rattle.xdg_problem.specs.declared.parts.DimPlan.{DimPlan}
 use Rattle.xdg_problem.specs.declared.parts.Parts.{Parts}
 use Rattle.xdg_problem.specs.declared.parts.SentenceWord.{SentenceWord}
 use Rattle.xdg_problem.specs.declared.parts.Shown.TheVariants as shown
-use Rattle.xdg_problem.specs.declared.analysis.Analysis.{Analysis}
 use Rattle.xdg_problem.specs.Places.{edge}
 use Rattle.xdg_text.specs.Blocks.{block}
 use Rattle.xdg_text.specs.Constants.{keywords, is_keyword, constant}
@@ -50,30 +48,21 @@ the_dog_barks : block plain 1 (record { entries = record { 0 = 0 } ∷ record { 
 unfolding is_keyword keywords digits
 the_dog_barks = refl
 
-abbrev pub agr : AttrPlan
+abbrev agr : AttrPlan
 agr = record { name = codes "agr"; values = shown.Many (codes "m" ∷ codes "nom" ∷ []) ∷ shown.Many (codes "f" ∷ codes "gen" ∷ []) ∷ [] }
 
-abbrev pub on : AttrPlan
+abbrev on : AttrPlan
 on = record { name = codes "on"; values = shown.One (codes "n") ∷ shown.One (codes "v f") ∷ [] }
-
-abbrev pub id : DimPlan
-id = record { name = codes "id"; labels = []; attrs = agr ∷ []; graph = true }
-
-abbrev pub lp : DimPlan
-lp = record { name = codes "lp"; labels = codes "detf" ∷ []; attrs = on ∷ agr ∷ []; graph = true }
 
 abbrev pub german : Parts
 german = record {
     words = record { text = codes "der"; at = 0 } ∷ record { text = codes "Frau"; at = 4 } ∷ [];
-    candidates = (record { 0 = 9 } ∷ []) ∷ (record { 0 = 3 } ∷ []) ∷ [];
-    dims = id ∷ lp ∷ [];
+    candidates = [];
+    dims = record { name = codes "id"; labels = []; attrs = agr ∷ []; graph = true } ∷ record { name = codes "lp"; labels = codes "detf" ∷ []; attrs = on ∷ agr ∷ []; graph = true } ∷ [];
     groups = []
   }
 
-abbrev pub reading : Analysis
-reading = record { entries = record { 0 = 9 } ∷ record { 0 = 3 } ∷ []; attrs = 0 ∷ 1 ∷ 1 ∷ 0 ∷ 0 ∷ 1 ∷ []; edges = edge 1 1 0 0 ∷ [] }
-
-by_dimension_node_and_attribute : block german 12 reading ≡ codes "analysis 12\nword 1 \"der\" 10\nword 2 \"Frau\" 4\nattr id 1 agr [m nom]\nattr id 2 agr [f gen]\nattr lp 1 on \"v f\"\nattr lp 1 agr [m nom]\nattr lp 2 on n\nattr lp 2 agr [f gen]\nedge lp 2 detf 1\nend\n"
+by_dimension_node_and_attribute : block german 12 (record { entries = record { 0 = 9 } ∷ record { 0 = 3 } ∷ []; attrs = 0 ∷ 1 ∷ 1 ∷ 0 ∷ 0 ∷ 1 ∷ []; edges = edge 1 1 0 0 ∷ [] }) ≡ codes "analysis 12\nword 1 \"der\" 10\nword 2 \"Frau\" 4\nattr id 1 agr [m nom]\nattr id 2 agr [f gen]\nattr lp 1 on \"v f\"\nattr lp 1 agr [m nom]\nattr lp 2 on n\nattr lp 2 agr [f gen]\nedge lp 2 detf 1\nend\n"
 unfolding is_keyword keywords digits
 by_dimension_node_and_attribute = refl
 
