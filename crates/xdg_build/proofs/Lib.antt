@@ -1,0 +1,4 @@
+pub mod Ranges
+pub mod Numbered
+pub mod Admitted
+pub mod Lawful

@@ -1,0 +1,49 @@
+//! Which sentences are refused.
+
+ghost use Rattle.std.specs.Prelude.{◌≡◌};
+ghost use Rattle.xdg_build.specs.Refusals.{first_unknown, refusal};
+
+use crate::lookup::is_known;
+use xdg_base::{Cause, Fault};
+use xdg_parse::{PlainEntry, PlainGrammar};
+use xdg_problem::SentenceWord;
+
+/// The most words that a sentence may have.
+const WORDS: usize = 128;
+
+/// The first word that has no entry.
+fn first_unknown(entries: &[PlainEntry], words: &[SentenceWord]) -> Option<Fault>
+    ensures { result ≡ first_unknown entries.now words.now }
+{
+    for word in words {
+        if !is_known(entries, word.text.as_str()) {
+            return Some(Fault {
+                cause: Cause::UnknownWord,
+                at: word.at,
+                reached: 0,
+            });
+        }
+    }
+    None
+}
+
+/// Why a sentence is refused: it has no word, or too many, or a word without entry.
+pub(crate) fn refusal(grammar: &PlainGrammar, words: &[SentenceWord]) -> Option<Fault>
+    ensures { result ≡ refusal grammar.now words.now }
+{
+    if words.is_empty() {
+        return Some(Fault {
+            cause: Cause::EmptySentence,
+            at: 0,
+            reached: 0,
+        });
+    }
+    match words.get(WORDS) {
+        Some(word) => Some(Fault {
+            cause: Cause::TooManyWords,
+            at: word.at,
+            reached: WORDS as u64 + 1,
+        }),
+        None => first_unknown(grammar.entries.as_slice(), words),
+    }
+}
