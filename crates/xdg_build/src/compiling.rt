@@ -86,8 +86,13 @@ fn compile(
     }))
 }
 
-/// The problem that a grammar makes of the words of a sentence. A sentence of no word, one of more than 128 words and
-/// one with a word that no entry has are refused, in this order; the fault has the place of the word concerned.
+/// The problem that a grammar makes of the words of a sentence.
+///
+/// # Errors
+///
+/// A sentence of no word is refused by `Cause::EmptySentence` at 0, one of more than 128 words by `Cause::TooManyWords`
+/// at the 129th, and one with words that no entry has by `Cause::UnknownWord` at the first of these. Where two of them
+/// apply, the one that stands first here is told. `Stop::OutOfMemory` says that no memory was to be had.
 pub fn build(
     alloc: Global,
     grammar: &PlainGrammar,
