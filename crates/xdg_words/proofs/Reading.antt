@@ -4,9 +4,9 @@ use Rattle.std.specs.Char.{encode_utf8, is_whitespace, len_utf8}
 use Rattle.std.specs.Str.{chars, IsUtf8}
 use Rattle.std.proofs.lemmas.Bool.{cond_both, eqb-true, eqb-false}
 use Rattle.std.proofs.lemmas.Str.{chars-nil, chars_past_char, IsUtf8-past_char, length-encode, len_utf8_bounds, NoCharPasses-append}
-use Rattle.std.proofs.lemmas.List.Elements.{All-nil, All-cons, All-head, All-tail}
+use Rattle.std.proofs.lemmas.List.Elements.{All-nil, All-cons, All-head, All-tail, All-append}
 use Rattle.xdg_problem.specs.declared.parts.SentenceWord.{SentenceWord}
-use Rattle.xdg_words.specs.Words.{word, alone, joined, words_from, words, IsWord, StandApart}
+use Rattle.xdg_words.specs.Words.{word, alone, joined, words_from, words, IsWord, StandsIn, StandApart}
 
 -- a piece that may be empty, with the words behind it
 abbrev pub before : ℕ → List ℕ → List SentenceWord → List SentenceWord
@@ -75,9 +75,15 @@ pub record IsRead (text : List ℕ) (done : List SentenceWord) (at : ℕ) (piece
   pub utf8 : IsUtf8 rest
   pub size : (at + length piece) + length rest ≡ length text
   pub reads : done ++ before at piece (words_from (at + length piece) (chars rest)) ≡ words text
+  pub within : All (StandsIn text) done
+
+-- one more word, if there is one, stands in the text too
+pub alone_within : (text : List ℕ) (done : List SentenceWord) (at : ℕ) (piece : List ℕ) → at + length piece ≤ length text → All (StandsIn text) done → All (StandsIn text) (done ++ alone at piece)
+alone_within text done at [] h all = let P : List SentenceWord → Type 0 = All (StandsIn text) in subst P (sym (append-nil done)) all
+alone_within text done at (byte ∷ bytes) h all = All-append (StandsIn text) done (word at (byte ∷ bytes) ∷ []) all (All-cons (StandsIn text) (word at (byte ∷ bytes)) [] h (All-nil (StandsIn text)))
 
 pub nothing_read : (text : List ℕ) (piece : List ℕ) → IsUtf8 text → length piece ≡ 0 → IsRead text [] 0 piece text
-nothing_read text [] u e = record { utf8 = u; size = omega arith; reads = refl }
+nothing_read text [] u e = record { utf8 = u; size = omega arith; reads = refl; within = All-nil (StandsIn text) }
 nothing_read text (byte ∷ bytes) u e = absurd (omega arith)
 
 -- white space ends a piece
@@ -97,6 +103,7 @@ white_read text done at piece rest c after read e white =
           ∙ ap (λ t. done ++ t) (sym (before_apart at piece place (words_from place (chars after)) (omega (arith, len_utf8_bounds c)) (words_begin place (chars after))))
           ∙ ap (λ t. done ++ before at piece t) (sym same)
           ∙ read.reads;
+      within = alone_within text done at piece (omega (arith, read.size)) read.within;
     }
 
 -- another character goes on with a piece
@@ -113,6 +120,7 @@ black_read text done at piece rest c after read e black =
           ∙ ap (λ t. done ++ t) (sym (before_joined at piece (encode_utf8 c) (words_from ((at + length piece) + len_utf8 c) (chars after)) (omega (arith, length-encode c, len_utf8_bounds c))))
           ∙ ap (λ t. done ++ before at piece t) (sym same)
           ∙ read.reads;
+      within = read.within;
     }
 
 -- the end of the text ends a piece

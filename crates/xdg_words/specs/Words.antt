@@ -1,5 +1,5 @@
 -- The words of a text.
-use Rattle.std.specs.Prelude.{ℕ, ◌+◌, ◌<◌, ◌==◌, cond, List, [], ◌∷◌, ◌++◌, length}
+use Rattle.std.specs.Prelude.{ℕ, ◌+◌, ◌<◌, ◌≤◌, ◌==◌, cond, List, [], ◌∷◌, ◌++◌, length}
 use Rattle.std.specs.Char.{encode_utf8, is_whitespace, len_utf8}
 use Rattle.std.specs.Str.{chars, NoCharPasses}
 use Rattle.xdg_problem.specs.declared.parts.SentenceWord.{SentenceWord}
@@ -31,6 +31,10 @@ words text = words_from 0 (chars text)
 pub record IsWord (w : SentenceWord) : Type 0 where
   pub some : 0 < length w.text
   pub black : NoCharPasses is_whitespace w.text
+
+-- a word stands in the text
+abbrev pub StandsIn : List ℕ → SentenceWord → Type 0
+StandsIn text w = w.at + length w.text ≤ length text
 
 -- each word ends before the next begins, and something stands between
 abbrev pub StandApart : List SentenceWord → Type 0

@@ -2,7 +2,7 @@
 #![tactic(auto)]
 
 ghost use Rattle.std.specs.Prelude.{◌≡◌, ◌<◌, ◌+◌, ◌++◌, ◌^◌, length, IfOk, OnOk, All};
-ghost use Rattle.xdg_words.specs.Words.{words, alone, IsWord, StandApart};
+ghost use Rattle.xdg_words.specs.Words.{words, alone, IsWord, StandsIn, StandApart};
 
 use std::alloc::{AllocError, Global};
 use xdg_base::{List, Text};
@@ -30,6 +30,7 @@ pub fn words_of(alloc: Global, text: &str) -> Result<List<SentenceWord>, AllocEr
     requires { length text.now < 2 ^ 32 }
     ensures words { IfOk result (λ list. list ≡ words text.now) }
     ensures each { IfOk result (λ list. All IsWord list) }
+    ensures within { IfOk result (λ list. All (StandsIn text.now) list) }
     ensures apart { IfOk result StandApart }
 {
     let mut words = List::new(alloc);

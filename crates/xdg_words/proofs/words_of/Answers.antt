@@ -1,9 +1,9 @@
-use Rattle.std.proofs.Common.{◌≡◌, ◌+◌, ◌++◌, length, List, All, sym, ◌∙◌, ap, ap₂, subst, refl, rules}
+use Rattle.std.proofs.Common.{◌≡◌, ◌+◌, ◌++◌, length, List, All, sym, ◌∙◌, ap, ap₂, subst, refl, rules, arith}
 use Rattle.std.specs.Str.{chars}
 use Rattle.std.specs.String.{string_bytes}
 use Rattle.xdg_problem.specs.declared.parts.SentenceWord.{SentenceWord}
-use Rattle.xdg_words.specs.Words.{words, alone, IsWord, StandApart}
-use Rattle.xdg_words.proofs.Reading.{white_read, black_read, all_read, each_is_word, words_stand_apart, moved}
+use Rattle.xdg_words.specs.Words.{words, alone, IsWord, StandsIn, StandApart}
+use Rattle.xdg_words.proofs.Reading.{white_read, black_read, all_read, each_is_word, words_stand_apart, moved, alone_within}
 use Rattle.xdg_words.proofs.words_of.Goals as goal
 
 pub loop-c-preserved-then-is_whitespace : goal.loop-c-preserved-then-is_whitespace
@@ -36,3 +36,9 @@ pub returns-clause-apart : goal.returns-clause-apart
 returns-clause-apart c =
     let P : List SentenceWord → Type 0 = StandApart in
     subst P (sym (returned c)) (words_stand_apart 0 (chars c.args.text.now))
+
+pub returns-clause-within : goal.returns-clause-within
+returns-clause-within c =
+    let P : List SentenceWord → Type 0 = All (StandsIn c.args.text.now) in
+    subst P (sym (c.in_ok-add_word-2.ensures ∙ ap (λ t. c.loop-c.words ++ alone c.loop-c.at t) c.as_str-2.ensures.value))
+    (alone_within c.args.text.now c.loop-c.words c.loop-c.at (string_bytes c.loop-c.piece) (omega (arith, c.loop-c.invariant.size)) c.loop-c.invariant.within)
