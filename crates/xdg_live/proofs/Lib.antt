@@ -1,0 +1,14 @@
+pub mod Looks
+pub mod Newest
+pub mod Counted
+pub mod Walks
+pub mod Placed
+pub mod Entries
+pub mod Placing
+pub mod EntrySteps
+pub mod ReadLists
+pub mod Tallies
+pub mod Widening
+pub mod Allowing
+pub mod Exact
+pub mod FrontSteps
