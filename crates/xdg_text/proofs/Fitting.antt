@@ -10,8 +10,8 @@ use Rattle.xdg_problem.specs.declared.parts.AttrPlan.{AttrPlan}
 use Rattle.xdg_problem.specs.declared.parts.DimPlan.{DimPlan}
 use Rattle.xdg_problem.specs.declared.parts.Parts.{Parts}
 use Rattle.xdg_problem.specs.Analyses.{HasCandidates, IsPlace, IsAnalysis}
-use Rattle.xdg_problem.specs.Places.{numbers_from, below}
-use Rattle.xdg_problem.specs.Problems.{IsProblem, IsDim}
+use Rattle.xdg_problem.specs.Places.{numbers_from}
+use Rattle.xdg_problem.specs.Problems.{IsProblem}
 use Rattle.xdg_problem.specs.Vectors.{attr_sizes}
 use Rattle.xdg_text.specs.Blocks.{no_plan}
 use Rattle.xdg_text.specs.Ranges.{HasValues, NodesHaveValues, DimsHaveValues, HasNames}

@@ -2,3 +2,4 @@ pub mod Fitting
 pub mod Names
 pub mod Pieces
 pub mod Rests
+pub mod Small

@@ -1,5 +1,5 @@
 -- Names by their first byte and the others, and texts in which nothing is escaped.
-use Rattle.std.proofs.Common.{◌≡◌, ◌∙◌, ℕ, List, [], ◌∷◌, Bool, true, false, ◌++◌, ◌&&◌, ◌||◌, cond, not, nat_eq, ap, sym, subst, refl, arith}
+use Rattle.std.proofs.Common.{◌≡◌, ◌∙◌, ℕ, List, [], ◌∷◌, Bool, true, false, ◌++◌, ◌&&◌, ◌||◌, cond, not, ap, sym, subst, refl}
 use Rattle.std.specs.List.{list_all, list_any, flat_map}
 use Rattle.xdg_text.specs.Constants.{is_keyword, begins_name, continues_name, is_name, is_escaped, escaped}
 

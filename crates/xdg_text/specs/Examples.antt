@@ -3,9 +3,11 @@ use Rattle.std.specs.Prelude.{◌≡◌, List, [], ◌∷◌, true, false, codes
 use Rattle.std.specs.Fmt.{digits}
 use Rattle.xdg_base.specs.declared.faults.Cause.TheVariants as causes
 use Rattle.xdg_problem.specs.declared.parts.AttrPlan.{AttrPlan}
+use Rattle.xdg_problem.specs.declared.parts.DimPlan.{DimPlan}
 use Rattle.xdg_problem.specs.declared.parts.Parts.{Parts}
 use Rattle.xdg_problem.specs.declared.parts.SentenceWord.{SentenceWord}
 use Rattle.xdg_problem.specs.declared.parts.Shown.TheVariants as shown
+use Rattle.xdg_problem.specs.declared.analysis.Analysis.{Analysis}
 use Rattle.xdg_problem.specs.Places.{edge}
 use Rattle.xdg_text.specs.Blocks.{block}
 use Rattle.xdg_text.specs.Constants.{keywords, is_keyword, constant}
@@ -38,31 +40,40 @@ sentence = record { text = codes "the"; at = 0 } ∷ record { text = codes "dog"
 
 abbrev pub plain : Parts
 plain = record {
-    words = sentence;
-    candidates = [];
-    dims = record { name = codes "id"; labels = codes "det" ∷ codes "subj" ∷ []; attrs = []; graph = true } ∷ record { name = codes "lex"; labels = []; attrs = []; graph = false } ∷ [];
-    groups = []
-  }
+  words = sentence;
+  candidates = [];
+  dims = record { name = codes "id"; labels = codes "det" ∷ codes "subj" ∷ []; attrs = []; graph = true } ∷ record { name = codes "lex"; labels = []; attrs = []; graph = false } ∷ [];
+  groups = [];
+}
 
 the_dog_barks : block plain 1 (record { entries = record { 0 = 0 } ∷ record { 0 = 1 } ∷ record { 0 = 2 } ∷ []; attrs = []; edges = edge 0 1 0 0 ∷ edge 0 2 1 1 ∷ [] }) ≡ codes "analysis 1\nword 1 \"the\" 1\nword 2 \"dog\" 2\nword 3 \"barks\" 3\nedge id 2 det 1\nedge id 3 subj 2\nend\n"
 unfolding is_keyword keywords digits
 the_dog_barks = refl
 
-abbrev agr : AttrPlan
+abbrev pub agr : AttrPlan
 agr = record { name = codes "agr"; values = shown.Many (codes "m" ∷ codes "nom" ∷ []) ∷ shown.Many (codes "f" ∷ codes "gen" ∷ []) ∷ [] }
 
-abbrev on : AttrPlan
+abbrev pub on : AttrPlan
 on = record { name = codes "on"; values = shown.One (codes "n") ∷ shown.One (codes "v f") ∷ [] }
+
+abbrev pub id : DimPlan
+id = record { name = codes "id"; labels = []; attrs = agr ∷ []; graph = true }
+
+abbrev pub lp : DimPlan
+lp = record { name = codes "lp"; labels = codes "detf" ∷ []; attrs = on ∷ agr ∷ []; graph = true }
 
 abbrev pub german : Parts
 german = record {
-    words = record { text = codes "der"; at = 0 } ∷ record { text = codes "Frau"; at = 4 } ∷ [];
-    candidates = [];
-    dims = record { name = codes "id"; labels = []; attrs = agr ∷ []; graph = true } ∷ record { name = codes "lp"; labels = codes "detf" ∷ []; attrs = on ∷ agr ∷ []; graph = true } ∷ [];
-    groups = []
-  }
+  words = record { text = codes "der"; at = 0 } ∷ record { text = codes "Frau"; at = 4 } ∷ [];
+  candidates = (record { 0 = 9 } ∷ []) ∷ (record { 0 = 3 } ∷ []) ∷ [];
+  dims = id ∷ lp ∷ [];
+  groups = [];
+}
 
-by_dimension_node_and_attribute : block german 12 (record { entries = record { 0 = 9 } ∷ record { 0 = 3 } ∷ []; attrs = 0 ∷ 1 ∷ 1 ∷ 0 ∷ 0 ∷ 1 ∷ []; edges = edge 1 1 0 0 ∷ [] }) ≡ codes "analysis 12\nword 1 \"der\" 10\nword 2 \"Frau\" 4\nattr id 1 agr [m nom]\nattr id 2 agr [f gen]\nattr lp 1 on \"v f\"\nattr lp 1 agr [m nom]\nattr lp 2 on n\nattr lp 2 agr [f gen]\nedge lp 2 detf 1\nend\n"
+abbrev pub reading : Analysis
+reading = record { entries = record { 0 = 9 } ∷ record { 0 = 3 } ∷ []; attrs = 0 ∷ 1 ∷ 1 ∷ 0 ∷ 0 ∷ 1 ∷ []; edges = edge 1 1 0 0 ∷ [] }
+
+by_dimension_node_and_attribute : block german 12 reading ≡ codes "analysis 12\nword 1 \"der\" 10\nword 2 \"Frau\" 4\nattr id 1 agr [m nom]\nattr id 2 agr [f gen]\nattr lp 1 on \"v f\"\nattr lp 1 agr [m nom]\nattr lp 2 on n\nattr lp 2 agr [f gen]\nedge lp 2 detf 1\nend\n"
 unfolding is_keyword keywords digits
 by_dimension_node_and_attribute = refl
 

@@ -14,7 +14,6 @@ use xdg_io::{Failed, Sink};
 use xdg_problem::{Analysis, AttrPlan, DimPlan, Edge, Problem, SentenceWord};
 
 /// Writes the line of a node with its word and its entry.
-#[tactic(auto, using(crate::proofs::Pieces::appends_both, crate::proofs::Pieces::start, crate::proofs::Pieces::done, crate::proofs::Pieces::rose_later))]
 fn write_word_line<K: Sink>(
     node: usize,
     word: &SentenceWord,
@@ -56,7 +55,6 @@ fn write_word_lines<K: Sink>(
 }
 
 /// Writes the line of an attribute of a node.
-#[tactic(auto, using(crate::proofs::Pieces::appends_both, crate::proofs::Pieces::start, crate::proofs::Pieces::done, crate::proofs::Pieces::rose_later))]
 fn write_attr_line<'a, K: Sink>(
     dim: &'a Text,
     node: usize,
@@ -153,7 +151,6 @@ fn write_attr_lines<K: Sink>(
 }
 
 /// Writes the line of an edge.
-#[tactic(auto, using(crate::proofs::Pieces::appends_both, crate::proofs::Pieces::start, crate::proofs::Pieces::done, crate::proofs::Pieces::rose_later))]
 fn write_edge_line<K: Sink>(dims: &[DimPlan], edge: &Edge, sink: &mut K) -> Result<(), Failed>
     requires { HasNames dims.now edge.now }
     ensures all { OnOk result (Appends (K.held sink.old) (K.held sink.new) (line_of_edge dims.now edge.now)) }

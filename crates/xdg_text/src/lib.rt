@@ -12,3 +12,6 @@ pub use constants::{write_constant, write_quoted};
 pub use faults::{fault_line, write_complete, write_first, write_spent, write_usage};
 pub use lines::{Word, write_line};
 pub use values::write_value;
+
+#[cfg(test)]
+mod tests;

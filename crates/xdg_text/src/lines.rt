@@ -39,7 +39,6 @@ fn write_plain<K: Sink>(text: &str, sink: &mut K) -> Result<(), Failed>
 }
 
 /// Writes a number in decimal digits.
-#[tactic(auto, using(crate::proofs::Pieces::appends_both, crate::proofs::Pieces::start, crate::proofs::Pieces::done, crate::proofs::Pieces::rose_later))]
 fn write_number<K: Sink>(number: u64, sink: &mut K) -> Result<(), Failed>
     ensures all { OnOk result (Appends (K.held sink.old) (K.held sink.new) (decimal number)) }
     ensures front { OnErr result (AppendsFront (K.held sink.old) (K.held sink.new) (decimal number)) }
@@ -51,7 +50,6 @@ fn write_number<K: Sink>(number: u64, sink: &mut K) -> Result<(), Failed>
 }
 
 /// Writes a word.
-#[tactic(auto, using(crate::proofs::Pieces::appends_both, crate::proofs::Pieces::start, crate::proofs::Pieces::done, crate::proofs::Pieces::rose_later))]
 fn write_word<K: Sink>(word: &Word, sink: &mut K) -> Result<(), Failed>
     ensures all { OnOk result (Appends (K.held sink.old) (K.held sink.new) (word_text word.now)) }
     ensures front { OnErr result (AppendsFront (K.held sink.old) (K.held sink.new) (word_text word.now)) }

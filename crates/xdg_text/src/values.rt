@@ -79,7 +79,6 @@ fn write_tuple<K: Sink>(texts: &[Text], sink: &mut K) -> Result<(), Failed>
 }
 
 /// Writes a value of an attribute: one constant, or those of a tuple in square brackets.
-#[tactic(auto, using(crate::proofs::Pieces::appends_both, crate::proofs::Pieces::start, crate::proofs::Pieces::done, crate::proofs::Pieces::rose_later))]
 pub fn write_value<K: Sink>(value: &Shown, sink: &mut K) -> Result<(), Failed>
     ensures all { OnOk result (Appends (K.held sink.old) (K.held sink.new) (value_text value.now)) }
     ensures front { OnErr result (AppendsFront (K.held sink.old) (K.held sink.new) (value_text value.now)) }

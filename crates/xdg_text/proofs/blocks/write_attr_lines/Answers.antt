@@ -1,4 +1,4 @@
-use Rattle.std.proofs.Common.{arith, refl, ◌≤◌, ◌*◌, length}
+use Rattle.std.proofs.Common.{refl}
 use Rattle.xdg_text.proofs.Pieces.{next_by, stop_by, at_exit, lasts}
 use Rattle.xdg_text.proofs.Rests.{dims_from, dims_values, nodes_length}
 use Rattle.xdg_text.proofs.blocks.write_attr_lines.Goals as goal

@@ -1,4 +1,4 @@
-use Rattle.std.proofs.Common.{◌≤◌, ◌-◌, drop}
+use Rattle.std.proofs.Common.{◌≤◌, drop}
 use Rattle.xdg_io.specs.Held.{WrittenSoFar}
 use Rattle.xdg_text.specs.Blocks.{attr_lines}
 use Rattle.xdg_text.specs.Ranges.{DimsHaveValues}

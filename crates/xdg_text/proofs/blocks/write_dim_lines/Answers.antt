@@ -1,4 +1,4 @@
-use Rattle.std.proofs.Common.{arith, refl}
+use Rattle.std.proofs.Common.{refl}
 use Rattle.xdg_text.proofs.Pieces.{next_by, stop_by, at_exit, lasts}
 use Rattle.xdg_text.proofs.Rests.{nodes_from, nodes_values, values_length}
 use Rattle.xdg_text.proofs.blocks.write_dim_lines.Goals as goal

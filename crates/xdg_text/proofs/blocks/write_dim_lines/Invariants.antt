@@ -1,4 +1,4 @@
-use Rattle.std.proofs.Common.{◌≤◌, ◌-◌, drop}
+use Rattle.std.proofs.Common.{◌≤◌, ◌-◌}
 use Rattle.xdg_io.specs.Held.{WrittenSoFar}
 use Rattle.xdg_text.specs.Blocks.{dim_lines}
 use Rattle.xdg_text.specs.Ranges.{NodesHaveValues}

@@ -1,4 +1,4 @@
-use Rattle.std.proofs.Common.{refl, arith, ◌<◌, length, get_or}
+use Rattle.std.proofs.Common.{arith, ◌<◌, length, get_or}
 use Rattle.std.proofs.lemmas.List.{get_or_default}
 use Rattle.xdg_text.proofs.Pieces.{next_by, stop_by, at_exit, lasts}
 use Rattle.xdg_text.proofs.Rests.{words_from}

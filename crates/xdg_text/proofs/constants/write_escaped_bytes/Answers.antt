@@ -1,4 +1,4 @@
-use Rattle.std.proofs.Common.{get_or, refl, ◌+◌}
+use Rattle.std.proofs.Common.{get_or}
 use Rattle.std.proofs.lemmas.List.{get_or_default}
 use Rattle.xdg_text.specs.Constants.{escaped}
 use Rattle.xdg_text.proofs.Pieces.{next_of, stop_of, at_exit, lasts}
