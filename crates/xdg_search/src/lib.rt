@@ -24,6 +24,12 @@ pub use run::{Outcome, collect, numbers_of, solve};
 /// An implementer keeps its own state in step with the prefix: what it knows of the prefix is made by `push` and undone
 /// by `pop`.
 pub trait Front {
+    /// What a problem is given as.
+    type Given;
+
+    /// The problem. It is the same for all states of one front.
+    ghost problem: { Self → Self.Given };
+
     /// How many values each decision has, in order.
     ghost shape: { Self → List ℕ };
 
@@ -55,6 +61,7 @@ pub trait Front {
     fn push(&mut self, value: u16) -> bool
         requires fits { Fits (shape self.old) (numbers self.old ++ value ∷ []) }
         requires counts { (length (numbers self.old) ≡ 0) ⊎ counted self.old (numbers self.old) }
+        ensures kept { problem self.new ≡ problem self.old }
         ensures same { SameProblem (shape self.old) (counted self.old) (shape self.new) (counted self.new) }
         ensures taken { result ≡ true →
             (numbers self.new ≡ numbers self.old ++ value ∷ []) × counted self.old (numbers self.old ++ value ∷ []) }
@@ -65,6 +72,7 @@ pub trait Front {
     fn pop(&mut self) -> u16
         requires some { 0 < length (numbers self.old) }
         requires counts { counted self.old (numbers self.old) }
+        ensures kept { problem self.new ≡ problem self.old }
         ensures same { SameProblem (shape self.old) (counted self.old) (shape self.new) (counted self.new) }
         ensures popped { numbers self.old ≡ numbers self.new ++ result ∷ [] };
 
@@ -103,6 +111,7 @@ fn candidate<F: Front>(front: &F, value: u32) -> Option<u16>
 fn descend<F: Front>(front: &mut F, after: &[u16]) -> u32
     requires empty { F.numbers front.old ≡ [] }
     requires fits { Fits (F.shape front.old) after.now }
+    ensures problem { F.problem front.new ≡ F.problem front.old }
     ensures same { SameProblem (F.shape front.old) (F.counted front.old) (F.shape front.new) (F.counted front.new) }
     ensures stands { Stands (F.shape front.old) (F.counted front.old) (F.numbers front.new) }
     ensures next { Next (F.shape front.old) (F.counted front.old) after.now (place (F.numbers front.new) result) }
@@ -131,6 +140,7 @@ impl<F: Front> Search<F> {
     pub fn start(front: F, budget: u64, after: &[u16]) -> Search<F>
         requires empty { F.numbers front ≡ [] }
         requires fits { Fits (F.shape front) after.now }
+        ensures problem { F.problem result.front ≡ F.problem front }
         ensures same { SameProblem (F.shape front) (F.counted front) (F.shape result.front) (F.counted result.front) }
         ensures lawful { IsLawful (F.shape result.front) (F.counted result.front) (F.numbers result.front) result.done result.charged result.budget }
         ensures next { Next (F.shape front) (F.counted front) after.now (place (F.numbers result.front) result.value) }
@@ -151,6 +161,7 @@ impl<F: Front> Search<F> {
     fn seek(&mut self) -> Step
         requires stands { Stands (F.shape self.old.front) (F.counted self.old.front) (F.numbers self.old.front) }
         requires within { self.old.charged ≤ self.old.budget }
+        ensures problem { F.problem self.new.front ≡ F.problem self.old.front }
         ensures same { SameProblem (F.shape self.old.front) (F.counted self.old.front) (F.shape self.new.front) (F.counted self.new.front) }
         ensures found { result ≡ Step.Found →
             Stands (F.shape self.old.front) (F.counted self.old.front) (F.numbers self.new.front)
@@ -203,6 +214,7 @@ impl<F: Front> Search<F> {
     pub fn advance(&mut self) -> Step
         requires lawful { IsLawful (F.shape self.old.front) (F.counted self.old.front) (F.numbers self.old.front) self.old.done self.old.charged self.old.budget }
         ensures lawful { IsLawful (F.shape self.new.front) (F.counted self.new.front) (F.numbers self.new.front) self.new.done self.new.charged self.new.budget }
+        ensures problem { F.problem self.new.front ≡ F.problem self.old.front }
         ensures same { SameProblem (F.shape self.old.front) (F.counted self.old.front) (F.shape self.new.front) (F.counted self.new.front) }
         ensures found { result ≡ Step.Found → (self.old.done ≡ None) × (self.new.done ≡ None) ×
             Next (F.shape self.old.front) (F.counted self.old.front) (F.numbers self.new.front) (place (F.numbers self.new.front) self.new.value) }

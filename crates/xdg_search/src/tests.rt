@@ -28,6 +28,10 @@ impl Model for Apart {
 }
 
 impl Front for Apart {
+    type Given = ();
+
+    ghost problem = { λ _. tt };
+
     ghost shape = { λ _. 2 ∷ 2 ∷ 2 ∷ [] };
 
     ghost counted = { λ _ p. IsApart p };

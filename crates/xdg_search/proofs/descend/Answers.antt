@@ -1,4 +1,4 @@
-use Rattle.std.proofs.Common.{get_or, arith, refl, sym, subst, ◌++◌, ◌∷◌, []}
+use Rattle.std.proofs.Common.{get_or, arith, refl, sym, subst, ◌∙◌, ◌++◌, ◌∷◌, []}
 use Rattle.xdg_listing.specs.Fits.{Fits}
 use Rattle.xdg_search.proofs.Same.{same_then}
 use Rattle.xdg_search.proofs.Steps.{taken_stands}
@@ -21,6 +21,7 @@ loop-number-preserved g c =
     let i = c.loop-number.invariant in
     let t = c.if-not-push.ensures.taken refl in
     record {
+      problem = c.push.ensures.kept ∙ i.problem;
       same = same_then _ _ _ _ _ _ i.same c.push.ensures.same;
       fits = i.fits;
       numbers = start_more _ _ _ _ _ (omega arith) i.numbers refl t.0;

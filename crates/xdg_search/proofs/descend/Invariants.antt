@@ -9,6 +9,7 @@ invariant-loop-number g l =
     let shape = g.F.Front.shape l.fn.front in
     let counted = g.F.Front.counted l.fn.front in
     record {
+      problem : g.F.Front.problem l.front ≡ g.F.Front.problem l.fn.front;
       same : SameProblem shape counted (g.F.Front.shape l.front) (g.F.Front.counted l.front);
       fits : Fits shape l.after;
       numbers : g.F.Front.numbers l.front ≡ take l.number-index l.after;

@@ -1,4 +1,4 @@
-use Rattle.std.proofs.Common.{arith, length, refl, ap, sym, subst}
+use Rattle.std.proofs.Common.{arith, length, refl, ap, sym, subst, ◌∙◌}
 use Rattle.xdg_search.specs.Place.{Stands}
 use Rattle.xdg_search.proofs.Passing.{next_first}
 use Rattle.xdg_search.proofs.Same.{same_then}
@@ -19,6 +19,7 @@ steps-smaller-in-None g c = popped_smaller _ _ _ _ _ _ _ c.steps.invariant.stand
 
 pub steps-preserved-in-None : goal.steps-preserved-in-None
 steps-preserved-in-None g c = record {
+  problem = c.pop.ensures.kept ∙ c.steps.invariant.problem;
   same = same_then _ _ _ _ _ _ c.steps.invariant.same c.pop.ensures.same;
   stands = popped_stands _ _ _ _ _ (g.met.F.Front.closed c.args.self.now.front) c.steps.invariant.stands c.pop.ensures.popped;
   charged = c.steps.invariant.charged;
@@ -76,6 +77,7 @@ steps-preserved-else-len-decisions g c =
     let n = c.if-self.false in
     let o = c.if-len-decisions.false in
     record {
+      problem = c.push.ensures.kept ∙ c.steps.invariant.problem;
       same = s;
       stands = taken_stands _ _ _ _ _ _ _ c.steps.invariant.same c.steps.invariant.stands v.1 t.1 t.0;
       charged = (omega (arith, d), omega (arith, d, n));
@@ -93,6 +95,7 @@ steps-preserved g c =
     let v = c.in-Some.ensures.some c.in-Some.value refl in
     let t = c.if-push.ensures.refused refl in
     record {
+      problem = c.push.ensures.kept ∙ c.steps.invariant.problem;
       same = same_then _ _ _ _ _ _ c.steps.invariant.same c.push.ensures.same;
       stands = subst (Stands _ _) (sym t.0) c.steps.invariant.stands;
       charged = c.steps.invariant.charged;

@@ -10,6 +10,7 @@ invariant-steps g l =
     let shape = g.F.Front.shape l.fn.self.front in
     let counted = g.F.Front.counted l.fn.self.front in
     record {
+      problem : g.F.Front.problem l.self.front ≡ g.F.Front.problem l.fn.self.front;
       same : SameProblem shape counted (g.F.Front.shape l.self.front) (g.F.Front.counted l.self.front);
       stands : Stands shape counted (g.F.Front.numbers l.self.front);
       charged : (l.fn.self.charged ≤ l.self.charged) × (l.self.charged ≤ l.self.budget);
