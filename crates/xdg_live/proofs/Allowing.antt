@@ -6,7 +6,6 @@ use Rattle.std.proofs.lemmas.List.Elements.{All-more}
 use Rattle.std.proofs.lemmas.Bool.{cases_eq, false≢true}
 use Rattle.xdg_problem.specs.declared.parts.Group.{Group}
 use Rattle.xdg_problem.specs.declared.parts.Parts.{Parts}
-use Rattle.xdg_problem.specs.declared.parts.Principle.{Principle}
 use Rattle.xdg_problem.specs.declared.parts.Principle.TheVariants as principles
 use Rattle.xdg_problem.specs.Relations.{first_dim}
 use Rattle.xdg_live.specs.Steps.{has_places, MayCount, LonelyEntry, EntryStepOf, EntryStep}
@@ -16,8 +15,8 @@ may_same P Q row number h = (λ m. (m.0, λ q. m.1 (h.1 q)), λ m. (m.0, λ p. m
 
 pub may_step : (b complete : Bool) (P : Type 0) (row row2 : List ℕ) (number number2 : ℕ) → IsTrue b ↔ MayCount (IsTrue complete) row number → IsTrue complete ↔ P → row ≡ row2 → number ≡ number2 → IsTrue b ↔ MayCount P row2 number2
 may_step b complete P row row2 number number2 h g e f =
-  let w = may_same (IsTrue complete) P row number g in
-  subst (λ xs. IsTrue b ↔ MayCount P xs number2) e (subst (λ (x : ℕ). IsTrue b ↔ MayCount P row x) f (λ t. w.0 (h.0 t), λ m. h.1 (w.1 m)))
+    let w = may_same (IsTrue complete) P row number g in
+    subst (λ xs. IsTrue b ↔ MayCount P xs number2) e (subst (λ (x : ℕ). IsTrue b ↔ MayCount P row x) f (λ t. w.0 (h.0 t), λ m. h.1 (w.1 m)))
 
 -- one element more passes
 pub all_more : {X : Type 0} (P : X → Type 0) (xs : List X) (i : ℕ) (x : X) → i < length xs → x ≡ get_or xs i x → All P (take i xs) → P x → All P (take (i + 1) xs)
@@ -40,5 +39,5 @@ less_fails Q i n m l e h = (λ t. absurd (false≢true t), λ a. h.1 (a i (omega
 
 pub use_valency : (parts : Parts) (group : Group) (node candidate : ℕ) (b has : Bool) (dim : ℕ) → group.principle ≡ principles.Valency → dim ≡ first_dim group → has ≡ has_places parts dim → has ≡ false → IsTrue b ↔ LonelyEntry parts group node candidate → IsTrue b ↔ EntryStep parts node candidate group
 use_valency parts group node candidate b has dim valency same is none h =
-  let no_place : has_places parts (first_dim group) ≡ false = sym (ap (has_places parts) same) ∙ (sym is ∙ none) in
-  (λ t e. subst (λ r. EntryStepOf r parts node candidate group) (sym valency) (h.0 t), λ step. h.1 (subst (λ r. EntryStepOf r parts node candidate group) valency (step no_place)))
+    let no_place : has_places parts (first_dim group) ≡ false = sym (ap (has_places parts) same) ∙ (sym is ∙ none) in
+    (λ t e. subst (λ r. EntryStepOf r parts node candidate group) (sym valency) (h.0 t), λ step. h.1 (subst (λ r. EntryStepOf r parts node candidate group) valency (step no_place)))

@@ -1,35 +1,27 @@
 -- The step at an entry or an attribute: where the prefix before it is live, exactly the tests that look at no edge
 -- place and at this entry are left.
-use Rattle.std.proofs.Common.{◌≡◌, ◌≢◌, ℕ, ◌+◌, ◌-◌, ◌<◌, ◌≤◌, ◌⊎◌, ◌&&◌, Bool, true, false, inl, inr, refl, arith, List, [], ◌∷◌, ◌++◌, length, drop, sym, ◌∙◌, ap, subst, Option, Some, None, zero, suc, length-append, length-drop}
-use Rattle.std.specs.Prelude.{All, Contains, filter, slice_index, slice_index_or, nat_lt, ◌==◌}
-use Rattle.std.proofs.lemmas.Bool.{cases_Bool, cases_eq, cases_lt, and_parts, and_cases, and_from, ltb-true, ltb-false, lt-ltb, both_ways, eqb-true}
-use Rattle.std.proofs.lemmas.List.{drop_all, get_or_at, get_or_default, get_or_append_left}
-use Rattle.std.proofs.lemmas.List.Elements.{All-cons, All-same, All-contains, Contains-get_or, All-nil}
-use Rattle.xdg_base.specs.declared.ids.EntryNo.{EntryNo}
+use Rattle.std.proofs.Common.{◌≡◌, ℕ, ◌+◌, ◌-◌, ◌<◌, ◌≤◌, true, false, inl, inr, refl, arith, List, [], ◌∷◌, ◌++◌, length, sym, ◌∙◌, ap, subst, zero, suc, length-append}
+use Rattle.std.specs.Prelude.{Contains, filter, slice_index, slice_index_or}
+use Rattle.std.proofs.lemmas.Bool.{cases_Bool, cases_eq, cases_lt}
+use Rattle.std.proofs.lemmas.List.{get_or_at}
+use Rattle.std.proofs.lemmas.List.Elements.{All-same}
 use Rattle.xdg_problem.specs.declared.analysis.Edge.{Edge}
-use Rattle.xdg_problem.specs.declared.parts.Feat.{Feat}
 use Rattle.xdg_problem.specs.declared.parts.Group.{Group}
 use Rattle.xdg_problem.specs.declared.parts.Parts.{Parts}
-use Rattle.xdg_problem.specs.declared.parts.DimPlan.{DimPlan}
 use Rattle.xdg_problem.specs.declared.parts.Principle.{Principle}
 use Rattle.xdg_problem.specs.declared.parts.Principle.TheVariants as principles
-use Rattle.xdg_problem.specs.Places.{nodes, places, edge, numbers_from, below}
-use Rattle.xdg_problem.specs.Paths.{edges_on, Above, NoCycle, mothers, roots}
-use Rattle.xdg_problem.specs.Analyses.{Before, IsPlace}
-use Rattle.xdg_problem.specs.Vectors.{edges_in, first_place, chosen}
-use Rattle.xdg_problem.specs.Features.{in_row, out_row, row, IsWithin}
-use Rattle.xdg_problem.specs.Relations.{first_dim, label_count, edges_into, edges_out_of}
+use Rattle.xdg_problem.specs.Places.{nodes, places, numbers_from}
+use Rattle.xdg_problem.specs.Paths.{roots}
+use Rattle.xdg_problem.specs.Vectors.{first_place}
+use Rattle.xdg_problem.specs.Features.{in_row, out_row}
+use Rattle.xdg_problem.specs.Relations.{first_dim, label_count}
 use Rattle.xdg_problem.specs.Tests.{Test, IsTest, Passes, Counts, entry_node, looks_at, out_count, in_count, one_mother, no_cycle, one_root}
-use Rattle.xdg_problem.specs.Live.{open_places, EntryStands, entry_in, Stands, Holds, IsLiveFor}
-use Rattle.xdg_problem.specs.Problems.{IsProblem, IsGroup, IsValency, IsCardinality, AreFeatures}
+use Rattle.xdg_problem.specs.Live.{EntryStands, entry_in, Stands, IsLiveFor}
+use Rattle.xdg_problem.specs.Problems.{IsGroup, IsCardinality}
 use Rattle.xdg_problem.proofs.Shortening.{reads_same}
-use Rattle.xdg_problem.proofs.PlaceOrder.{is_place, place_is}
-use Rattle.xdg_live.specs.Steps.{graph_of, has_places, LonelyEntry, EntryStepOf, EntryStep}
-use Rattle.xdg_live.proofs.Looks.{Looks, looks_true, true_looks, Follows, follows}
-use Rattle.xdg_live.proofs.Newest.{Blind, blind_at, blind_from, label_within, labels_are}
-use Rattle.xdg_live.proofs.Placing.{chosen_none}
-use Rattle.xdg_live.proofs.Placed.{no_cycle_nil, node_stands}
-
+use Rattle.xdg_live.specs.Steps.{has_places, EntryStepOf, EntryStep}
+use Rattle.xdg_live.proofs.Newest.{Blind}
+use Rattle.xdg_live.proofs.Placed.{no_cycle_nil}
 use Rattle.xdg_live.proofs.Entries.{all_open, no_edges, out_sees, in_sees, root_sees, blind_everywhere, row_is, within_none}
 
 lonely_counts : (n j : ℕ) (numbers : List ℕ) → Contains numbers 0 → Counts n j numbers 0
@@ -72,44 +64,44 @@ asks_from principles.Tree (in_count v l k) parts group p x some entered same is 
 asks_from principles.Tree (one_mother v k) parts group p x some entered same is stands blind older step = omega arith
 asks_from principles.Tree (no_cycle k) parts group p x some entered same is stands blind older step = no_cycle_nil
 asks_from principles.Tree one_root parts group p x some entered same is stands blind older step =
-  let short = entered.short in
-  elim (cases_Bool (has_places parts (first_dim group))) [
-    | inl has ↦ absurd (root_sees parts (first_dim group) has entered.is.dim blind)
-    | inr none ↦ elim (cases_eq (length p) 0) [
-      | inr later ↦ older (omega (arith, later)) tt
-      | inl first ↦ all_roots (nodes parts) ∙ step (omega (arith, some, first)) none first
+    let short = entered.short in
+    elim (cases_Bool (has_places parts (first_dim group))) [
+      | inl has ↦ absurd (root_sees parts (first_dim group) has entered.is.dim blind)
+      | inr none ↦ elim (cases_eq (length p) 0) [
+        | inr later ↦ older (omega (arith, later)) tt
+        | inl first ↦ all_roots (nodes parts) ∙ step (omega (arith, some, first)) none first
+      ]
     ]
-  ]
 asks_from principles.Valency (out_count v l k) parts group p x some entered same is stands blind older step =
-  let node = is.0 in
-  elim (cases_lt v (length p)) [
-    | inl before ↦ older (omega (arith, before)) before
-    | inr here ↦
-        let at : v ≡ length p = omega (arith, here, stands, length-append p (x ∷ [])) in
-        let P : ℕ → ℕ → Type 0 = λ w c. Counts (nodes parts) k (out_row group w c l) 0 in
-        let within : length p < nodes parts = omega (arith, at, node) in
-        subst (λ w. P w (slice_index (p ++ x ∷ []) v)) (sym at) (subst (λ c. P (length p) c) (sym (newest_number p x v at))
+    let node = is.0 in
+    elim (cases_lt v (length p)) [
+      | inl before ↦ older (omega (arith, before)) before
+      | inr here ↦
+          let at : v ≡ length p = omega (arith, here, stands, length-append p (x ∷ [])) in
+          let P : ℕ → ℕ → Type 0 = λ w c. Counts (nodes parts) k (out_row group w c l) 0 in
+          let within : length p < nodes parts = omega (arith, at, node) in
+          subst (λ w. P w (slice_index (p ++ x ∷ []) v)) (sym at) (subst (λ c. P (length p) c) (sym (newest_number p x v at))
           (elim (cases_Bool (has_places parts (first_dim group))) [
             | inl has ↦ unended_counts (nodes parts) k (out_row group (length p) x l) (row_is parts group (length p) x 1 l entered.is same within (entered.value within) (omega arith) is.1)
                 (out_sees parts (first_dim group) v l k has entered.is.dim is.0 is.1 blind)
             | inr none ↦ lonely_counts (nodes parts) k (out_row group (length p) x l) (step within none l is.1).1
           ]))
-  ]
+    ]
 asks_from principles.Valency (in_count v l k) parts group p x some entered same is stands blind older step =
-  let node = is.0 in
-  elim (cases_lt v (length p)) [
-    | inl before ↦ older (omega (arith, before)) before
-    | inr here ↦
-        let at : v ≡ length p = omega (arith, here, stands, length-append p (x ∷ [])) in
-        let P : ℕ → ℕ → Type 0 = λ w c. Counts (nodes parts) k (in_row group w c l) 0 in
-        let within : length p < nodes parts = omega (arith, at, node) in
-        subst (λ w. P w (slice_index (p ++ x ∷ []) v)) (sym at) (subst (λ c. P (length p) c) (sym (newest_number p x v at))
+    let node = is.0 in
+    elim (cases_lt v (length p)) [
+      | inl before ↦ older (omega (arith, before)) before
+      | inr here ↦
+          let at : v ≡ length p = omega (arith, here, stands, length-append p (x ∷ [])) in
+          let P : ℕ → ℕ → Type 0 = λ w c. Counts (nodes parts) k (in_row group w c l) 0 in
+          let within : length p < nodes parts = omega (arith, at, node) in
+          subst (λ w. P w (slice_index (p ++ x ∷ []) v)) (sym at) (subst (λ c. P (length p) c) (sym (newest_number p x v at))
           (elim (cases_Bool (has_places parts (first_dim group))) [
             | inl has ↦ unended_counts (nodes parts) k (in_row group (length p) x l) (row_is parts group (length p) x 0 l entered.is same within (entered.value within) (omega arith) is.1)
                 (in_sees parts (first_dim group) v l k has entered.is.dim is.0 is.1 blind)
             | inr none ↦ lonely_counts (nodes parts) k (in_row group (length p) x l) (step within none l is.1).0
           ]))
-  ]
+    ]
 asks_from principles.Valency (one_mother v k) parts group p x some entered same is stands blind older step = absurd is
 asks_from principles.Valency (no_cycle k) parts group p x some entered same is stands blind older step = absurd is
 asks_from principles.Valency one_root parts group p x some entered same is stands blind older step = absurd is
@@ -117,16 +109,16 @@ asks_from principles.Valency one_root parts group p x some entered same is stand
 -- where the prefix is empty or live and the step holds, the longer prefix is live
 pub entry_live : (parts : Parts) (group : Group) (p : List ℕ) (x : ℕ) → 0 < nodes parts → Entered parts group p x → (0 < length p → IsLiveFor parts group p) → (length p < nodes parts → EntryStep parts (length p) x group) → IsLiveFor parts group (p ++ x ∷ [])
 entry_live parts group p x some entered live step test is stands =
-  let q : List ℕ = p ++ x ∷ [] in
-  let dim : ℕ = first_dim group in
-  let short : length p < first_place parts = entered.short in
-  let long : length q ≤ first_place parts = omega (arith, short, length-append p (x ∷ [])) in
-  let blind : Blind dim test (places parts) = All-same (λ place. looks_at dim test place ≡ false) _ _ (sym (all_open parts q long)) stands.edges in
-  let P : List Edge → Type 0 = λ edges. Passes (nodes parts) group test (entry_in (entry_node test) q) (filter (looks_at dim test) edges) in
-  subst P (sym (no_edges parts q long)) (asks_from group.principle test parts group p x some entered refl is stands.entry blind
+    let q : List ℕ = p ++ x ∷ [] in
+    let dim : ℕ = first_dim group in
+    let short : length p < first_place parts = entered.short in
+    let long : length q ≤ first_place parts = omega (arith, short, length-append p (x ∷ [])) in
+    let blind : Blind dim test (places parts) = All-same (λ place. looks_at dim test place ≡ false) _ _ (sym (all_open parts q long)) stands.edges in
+    let P : List Edge → Type 0 = λ edges. Passes (nodes parts) group test (entry_in (entry_node test) q) (filter (looks_at dim test) edges) in
+    subst P (sym (no_edges parts q long)) (asks_from group.principle test parts group p x some entered refl is stands.entry blind
     (λ more before.
-      let at : Stands parts group test p = record { entry = before; edges = All-same (λ place. looks_at dim test place ≡ false) _ _ (all_open parts p (omega (arith, short))) blind } in
-      subst P (no_edges parts q long) ((reads_same parts group test p (x ∷ []) at).0 (live more test is at)))
+    let at : Stands parts group test p = record { entry = before; edges = All-same (λ place. looks_at dim test place ≡ false) _ _ (all_open parts p (omega (arith, short))) blind } in
+    subst P (no_edges parts q long) ((reads_same parts group test p (x ∷ []) at).0 (live more test is at)))
     step)
 
 -- the step is needed
@@ -135,23 +127,24 @@ entry_from : (principle : Principle) (parts : Parts) (group : Group) (p : List �
 entry_from principles.Graph parts group p x entered within none each = tt
 entry_from principles.Entries parts group p x entered within none each = tt
 entry_from principles.Tree parts group p x entered within none each = λ first.
-  sym (all_roots (nodes parts)) ∙ each one_root tt tt (blind_everywhere parts (first_dim group) one_root (λ f looks. looks) none)
+    sym (all_roots (nodes parts)) ∙ each one_root tt tt (blind_everywhere parts (first_dim group) one_root (λ f looks. looks) none)
 entry_from principles.Valency parts group p x entered within none each = λ label small.
-  let last : ℕ = nodes parts - 1 in
-  let top : last + 1 ≡ nodes parts = omega (arith, within) in
-  let long : length p < length (p ++ x ∷ []) = omega (arith, length-append p (x ∷ [])) in
-  ( subst (λ (c : ℕ). Contains (in_row group (length p) c label) 0) (newest_number p x (length p) refl)
-      ((each (in_count (length p) label last) (within, small, omega (arith, top)) long (blind_everywhere parts (first_dim group) (in_count (length p) label last) (λ f looks. looks.0) none)).1 top),
-    subst (λ (c : ℕ). Contains (out_row group (length p) c label) 0) (newest_number p x (length p) refl)
-      ((each (out_count (length p) label last) (within, small, omega (arith, top)) long (blind_everywhere parts (first_dim group) (out_count (length p) label last) (λ f looks. looks.0) none)).1 top))
+    let last : ℕ = nodes parts - 1 in
+    let top : last + 1 ≡ nodes parts = omega (arith, within) in
+    let long : length p < length (p ++ x ∷ []) = omega (arith, length-append p (x ∷ [])) in (
+      subst (λ (c : ℕ). Contains (in_row group (length p) c label) 0) (newest_number p x (length p) refl)
+          ((each (in_count (length p) label last) (within, small, omega (arith, top)) long (blind_everywhere parts (first_dim group) (in_count (length p) label last) (λ f looks. looks.0) none)).1 top),
+      subst (λ (c : ℕ). Contains (out_row group (length p) c label) 0) (newest_number p x (length p) refl)
+          ((each (out_count (length p) label last) (within, small, omega (arith, top)) long (blind_everywhere parts (first_dim group) (out_count (length p) label last) (λ f looks. looks.0) none)).1 top),
+    )
 
 -- where the longer prefix is live, the step holds
 pub entry_step : (parts : Parts) (group : Group) (p : List ℕ) (x : ℕ) → Entered parts group p x → IsLiveFor parts group (p ++ x ∷ []) → length p < nodes parts → EntryStep parts (length p) x group
 entry_step parts group p x entered live within none =
-  let q : List ℕ = p ++ x ∷ [] in
-  let dim : ℕ = first_dim group in
-  let short : length p < first_place parts = entered.short in
-  let long : length q ≤ first_place parts = omega (arith, short, length-append p (x ∷ [])) in
-  entry_from group.principle parts group p x entered within none (λ test is stands blind.
+    let q : List ℕ = p ++ x ∷ [] in
+    let dim : ℕ = first_dim group in
+    let short : length p < first_place parts = entered.short in
+    let long : length q ≤ first_place parts = omega (arith, short, length-append p (x ∷ [])) in
+    entry_from group.principle parts group p x entered within none (λ test is stands blind.
     let P : List Edge → Type 0 = λ edges. Passes (nodes parts) group test (entry_in (entry_node test) q) (filter (looks_at dim test) edges) in
     subst P (no_edges parts q long) (live test is (record { entry = stands; edges = All-same (λ place. looks_at dim test place ≡ false) _ _ (all_open parts q long) blind })))

@@ -1,8 +1,8 @@
 -- A step is exact: the longer prefix is live where the step holds, and only there.
-use Rattle.std.proofs.Common.{◌≡◌, ◌≢◌, ℕ, ◌+◌, ◌-◌, ◌<◌, ◌≤◌, ◌⊎◌, ◌↔◌, Bool, true, false, cond, inl, inr, refl, arith, List, [], ◌∷◌, ◌++◌, length, get_or, map, drop, sym, ◌∙◌, ap, subst, zero, suc, length-append, length-drop}
-use Rattle.std.specs.Prelude.{All, Contains, slice_index, slice_index_or, ◌==◌}
-use Rattle.std.proofs.lemmas.List.{length-map, get_or_append_left, get_or-map, drop-append-le, drop_all}
-use Rattle.std.proofs.lemmas.List.Elements.{Contains-get_or, All-contains}
+use Rattle.std.proofs.Common.{◌≡◌, ℕ, ◌+◌, ◌<◌, ◌≤◌, ◌⊎◌, ◌↔◌, Bool, true, false, cond, inl, inr, refl, arith, List, [], ◌∷◌, ◌++◌, length, map, drop, sym, ◌∙◌, ap, subst, suc, length-append}
+use Rattle.std.specs.Prelude.{All, slice_index, slice_index_or, ◌==◌}
+use Rattle.std.proofs.lemmas.List.{length-map, get_or_append_left, get_or-map}
+use Rattle.std.proofs.lemmas.List.Elements.{Contains-get_or}
 use Rattle.xdg_base.specs.declared.ids.EntryNo.{EntryNo}
 use Rattle.xdg_listing.specs.Fits.{Fits}
 use Rattle.xdg_problem.specs.declared.analysis.Edge.{Edge}
@@ -12,17 +12,16 @@ use Rattle.xdg_problem.specs.declared.parts.Principle.{Principle}
 use Rattle.xdg_problem.specs.declared.parts.Principle.TheVariants as principles
 use Rattle.xdg_problem.specs.Places.{nodes, places}
 use Rattle.xdg_problem.specs.Paths.{edges_on}
-use Rattle.xdg_problem.specs.Analyses.{IsPlace}
 use Rattle.xdg_problem.specs.Vectors.{attr_sizes, shape, first_place, entries_at, edges_in, chosen}
 use Rattle.xdg_problem.specs.Features.{in_row, out_row}
-use Rattle.xdg_problem.specs.Relations.{first_dim, label_count, edges_into, edges_out_of}
+use Rattle.xdg_problem.specs.Relations.{edges_into, edges_out_of}
 use Rattle.xdg_problem.specs.Live.{IsLiveFor, Live}
 use Rattle.xdg_problem.specs.Problems.{IsProblem, IsGroup}
 use Rattle.xdg_problem.proofs.PlaceOrder.{is_place}
 use Rattle.xdg_live.specs.Reached.{AreWithin}
 use Rattle.xdg_live.specs.Steps.{IsLastOther, MayCount, ValencyStep, PlaceStepOf, PlaceStep, EntryStep}
 use Rattle.xdg_live.proofs.Placed.{place_live, place_step}
-use Rattle.xdg_live.proofs.Placing.{Setting, placed, edges_push, chosen_at, chosen_none, chosen_push}
+use Rattle.xdg_live.proofs.Placing.{Setting, placed, edges_push, chosen_at}
 use Rattle.xdg_live.proofs.EntrySteps.{Entered, entry_live, entry_step}
 
 -- what it says that a prefix and one number more go with a shape
@@ -35,18 +34,18 @@ fits_last (n ∷ s) (a ∷ p) x h = let r = fits_last s p x h.1 in let l = r.0 i
 -- how many decisions there are
 pub shape_long : (parts : Parts) → length (shape parts) ≡ first_place parts + length (places parts)
 shape_long parts =
-  let a = length-append (map length parts.candidates) (attr_sizes (nodes parts) parts.dims ++ map (λ (place : Edge). 2) (places parts)) in
-  let b = length-append (attr_sizes (nodes parts) parts.dims) (map (λ (place : Edge). 2) (places parts)) in
-  let c = length-map parts.candidates length in
-  let two : Edge → ℕ = λ place. 2 in
-  let d = length-map (places parts) two in
-  omega (arith, a, b, c, d)
+    let a = length-append (map length parts.candidates) (attr_sizes (nodes parts) parts.dims ++ map (λ (place : Edge). 2) (places parts)) in
+    let b = length-append (attr_sizes (nodes parts) parts.dims) (map (λ (place : Edge). 2) (places parts)) in
+    let c = length-map parts.candidates length in
+    let two : Edge → ℕ = λ place. 2 in
+    let d = length-map (places parts) two in
+    omega (arith, a, b, c, d)
 
 -- how many candidates a node has
 pub shape_entry : (parts : Parts) (k : ℕ) → k < length parts.candidates → slice_index (shape parts) k ≡ length (slice_index_or parts.candidates k [])
 shape_entry parts k l =
-  let m : k < length (map length parts.candidates) = let c = length-map parts.candidates length in omega (arith, c, l) in
-  get_or_append_left (map length parts.candidates) (attr_sizes (nodes parts) parts.dims ++ map (λ (place : Edge). 2) (places parts)) 0 k m ∙ get_or-map length parts.candidates k [] 0 l
+    let m : k < length (map length parts.candidates) = let c = length-map parts.candidates length in omega (arith, c, l) in
+    get_or_append_left (map length parts.candidates) (attr_sizes (nodes parts) parts.dims ++ map (λ (place : Edge). 2) (places parts)) 0 k m ∙ get_or-map length parts.candidates k [] 0 l
 
 nodes_first : (parts : Parts) → IsProblem parts → nodes parts ≤ first_place parts
 nodes_first parts is = let e = is.candidates_each in omega (arith, e)
@@ -62,19 +61,20 @@ entered parts group p x is group_is short fits = record {
   is = group_is;
   short = short;
   value = λ l. let e = is.candidates_each in let last = (fits_last (shape parts) p x fits).1 in
-    let at = shape_entry parts (length p) (omega (arith, e, l)) in omega (arith, last, at);
+      let at = shape_entry parts (length p) (omega (arith, e, l)) in omega (arith, last, at);
 }
 
 pub entry_exact : (parts : Parts) (p : List ℕ) (x : ℕ) → IsProblem parts → length p < nodes parts → Fits (shape parts) (p ++ x ∷ []) → (length p ≡ 0) ⊎ Live parts p → All (EntryStep parts (length p) x) parts.groups ↔ Live parts (p ++ x ∷ [])
 entry_exact parts p x is short fits live =
-  let le = nodes_first parts is in
-  let within : length p < first_place parts = omega (arith, short, le) in
-  ( λ all k d l. entry_live parts (slice_index_or parts.groups k d) p x is.some (entered parts (slice_index_or parts.groups k d) p x is (is.groups k d l) within fits) (λ more. some_live parts p k d live more l) (λ n. all k d l),
-    λ q k d l. entry_step parts (slice_index_or parts.groups k d) p x (entered parts (slice_index_or parts.groups k d) p x is (is.groups k d l) within fits) (q k d l) short)
+    let le = nodes_first parts is in
+    let within : length p < first_place parts = omega (arith, short, le) in (
+      λ all k d l. entry_live parts (slice_index_or parts.groups k d) p x is.some (entered parts (slice_index_or parts.groups k d) p x is (is.groups k d l) within fits) (λ more. some_live parts p k d live more l) (λ n. all k d l),
+      λ q k d l. entry_step parts (slice_index_or parts.groups k d) p x (entered parts (slice_index_or parts.groups k d) p x is (is.groups k d l) within fits) (q k d l) short,
+    )
 
 pub attr_exact : (parts : Parts) (p : List ℕ) (x : ℕ) → IsProblem parts → nodes parts ≤ length p → length p < first_place parts → Fits (shape parts) (p ++ x ∷ []) → (length p ≡ 0) ⊎ Live parts p → Live parts (p ++ x ∷ [])
 attr_exact parts p x is long within fits live k d l =
-  entry_live parts (slice_index_or parts.groups k d) p x is.some (entered parts (slice_index_or parts.groups k d) p x is (is.groups k d l) within fits) (λ more. some_live parts p k d live more l) (λ n. absurd (omega (arith, n, long)))
+    entry_live parts (slice_index_or parts.groups k d) p x is.some (entered parts (slice_index_or parts.groups k d) p x is (is.groups k d l) within fits) (λ more. some_live parts p k d live more l) (λ n. absurd (omega (arith, n, long)))
 
 -- the step at an edge place
 
@@ -96,30 +96,31 @@ step_along principles.Valency parts group p q edges e a b step = valency_along p
 
 pub place_exact : (parts : Parts) (p : List ℕ) (x : ℕ) (e : Edge) (i : ℕ) → IsProblem parts → Setting parts p e i → (length p ≡ 0) ⊎ Live parts p → All (PlaceStep parts p (edges_in parts p ++ cond (x == 0) (e ∷ []) []) e) parts.groups ↔ Live parts (p ++ x ∷ [])
 place_exact parts p x e i is (at, within, here) before =
-  let q : List ℕ = p ++ x ∷ [] in
-  let n = nodes_first parts is in
-  let live = after_place parts p is (omega (arith, at)) before in
-  let known = placed parts p x e i n (at, within, here) in
-  let long : nodes parts ≤ length p = known.known in
-  let push = edges_push parts p x e i (at, within, here) in
-  let mother : e.mother.0 < nodes parts = known.at.is.mother in
-  let daughter : e.daughter.0 < nodes parts = known.at.is.daughter in
-  let a : slice_index q e.mother.0 ≡ slice_index p e.mother.0 = get_or_append_left p (x ∷ []) 0 e.mother.0 (omega (arith, mother, long)) in
-  let b : slice_index q e.daughter.0 ≡ slice_index p e.daughter.0 = get_or_append_left p (x ∷ []) 0 e.daughter.0 (omega (arith, daughter, long)) in
-  ( λ all k d l. place_live parts (slice_index_or parts.groups k d) p x e (drop (i + 1) (places parts)) known (live k d l)
-      (λ same. step_along (slice_index_or parts.groups k d).principle parts (slice_index_or parts.groups k d) p q (edges_on e.dim.0 (edges_in parts q)) e (sym a) (sym b)
-        (subst (λ (xs : List Edge). PlaceStepOf (slice_index_or parts.groups k d).principle parts (slice_index_or parts.groups k d) p (edges_on e.dim.0 xs) e) (sym push) (all k d l same))),
-    λ new k d l same. step_along (slice_index_or parts.groups k d).principle parts (slice_index_or parts.groups k d) q p (edges_on e.dim.0 (edges_in parts p ++ cond (x == 0) (e ∷ []) [])) e a b
-        (subst (λ (xs : List Edge). PlaceStepOf (slice_index_or parts.groups k d).principle parts (slice_index_or parts.groups k d) q (edges_on e.dim.0 xs) e) push
-          (place_step parts (slice_index_or parts.groups k d) p q e (drop (i + 1) (places parts)) known (new k d l) same)))
+    let q : List ℕ = p ++ x ∷ [] in
+    let n = nodes_first parts is in
+    let live = after_place parts p is (omega (arith, at)) before in
+    let known = placed parts p x e i n (at, within, here) in
+    let long : nodes parts ≤ length p = known.known in
+    let push = edges_push parts p x e i (at, within, here) in
+    let mother : e.mother.0 < nodes parts = known.at.is.mother in
+    let daughter : e.daughter.0 < nodes parts = known.at.is.daughter in
+    let a : slice_index q e.mother.0 ≡ slice_index p e.mother.0 = get_or_append_left p (x ∷ []) 0 e.mother.0 (omega (arith, mother, long)) in
+    let b : slice_index q e.daughter.0 ≡ slice_index p e.daughter.0 = get_or_append_left p (x ∷ []) 0 e.daughter.0 (omega (arith, daughter, long)) in (
+      λ all k d l. place_live parts (slice_index_or parts.groups k d) p x e (drop (i + 1) (places parts)) known (live k d l)
+          (λ same. step_along (slice_index_or parts.groups k d).principle parts (slice_index_or parts.groups k d) p q (edges_on e.dim.0 (edges_in parts q)) e (sym a) (sym b)
+          (subst (λ (xs : List Edge). PlaceStepOf (slice_index_or parts.groups k d).principle parts (slice_index_or parts.groups k d) p (edges_on e.dim.0 xs) e) (sym push) (all k d l same))),
+      λ new k d l same. step_along (slice_index_or parts.groups k d).principle parts (slice_index_or parts.groups k d) q p (edges_on e.dim.0 (edges_in parts p ++ cond (x == 0) (e ∷ []) [])) e a b
+          (subst (λ (xs : List Edge). PlaceStepOf (slice_index_or parts.groups k d).principle parts (slice_index_or parts.groups k d) q (edges_on e.dim.0 xs) e) push
+          (place_step parts (slice_index_or parts.groups k d) p q e (drop (i + 1) (places parts)) known (new k d l) same)),
+    )
 
 -- the edges in a prefix are between the nodes
 pub edges_within : (parts : Parts) (p : List ℕ) → IsProblem parts → AreWithin 128 (edges_in parts p)
 edges_within parts p is k d l =
-  let c = chosen_at (places parts) (drop (first_place parts) p) (slice_index_or (edges_in parts p) k d) (Contains-get_or (edges_in parts p) k d l) in
-  let place = is_place parts (slice_index_or (edges_in parts p) k d) (c.0, c.2, c.3) in
-  let most = is.most in let m = place.mother in let v = place.daughter in
-  (omega (arith, most, m), omega (arith, most, v))
+    let c = chosen_at (places parts) (drop (first_place parts) p) (slice_index_or (edges_in parts p) k d) (Contains-get_or (edges_in parts p) k d l) in
+    let place = is_place parts (slice_index_or (edges_in parts p) k d) (c.0, c.2, c.3) in
+    let most = is.most in let m = place.mother in let v = place.daughter in
+    (omega (arith, most, m), omega (arith, most, v))
 
 chosen_few_at : (b : Bool) (e : Edge) (edges : List Edge) (numbers : List ℕ) → length (chosen edges numbers) ≤ length numbers → length (cond b (e ∷ chosen edges numbers) (chosen edges numbers)) ≤ suc (length numbers)
 chosen_few_at true e edges numbers h = omega (arith, h)

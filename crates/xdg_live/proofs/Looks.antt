@@ -1,9 +1,7 @@
 -- What it says that a test looks at a place, and where a later place stands.
-use Rattle.std.proofs.Common.{◌≡◌, ◌≢◌, ℕ, ◌+◌, ◌<◌, ◌≤◌, ◌⊎◌, Bool, true, false, ◌&&◌, inl, inr, refl, arith, List, length}
-use Rattle.std.specs.Prelude.{nat_eq, nat_le}
+use Rattle.std.proofs.Common.{◌≡◌, ℕ, ◌<◌, ◌≤◌, Bool, true, ◌&&◌, inl, inr, arith}
 use Rattle.std.proofs.lemmas.Bool.{and_parts, and_from, eqb-true, leb-true, eq-eqb, le-leb}
 use Rattle.xdg_problem.specs.declared.analysis.Edge.{Edge}
-use Rattle.xdg_problem.specs.Places.{edge}
 use Rattle.xdg_problem.specs.Analyses.{Before}
 use Rattle.xdg_problem.specs.Tests.{Test, looks_at, out_count, in_count, one_mother, no_cycle, one_root}
 

@@ -1,18 +1,17 @@
 -- Which tests the newest edge place completes.
-use Rattle.std.proofs.Common.{◌≡◌, ◌≢◌, ℕ, ◌+◌, ◌<◌, ◌≤◌, ◌-◌, ◌⊎◌, Bool, true, false, inl, inr, refl, arith, List, length, sym, ◌∙◌, ap, subst}
-use Rattle.std.specs.Prelude.{All, Contains, slice_index_or}
-use Rattle.std.proofs.lemmas.Bool.{cases_eq, cases_lt, cases_order, both_ways, false_from_ne_true}
+use Rattle.std.proofs.Common.{◌≡◌, ◌≢◌, ℕ, ◌+◌, ◌<◌, ◌≤◌, ◌-◌, ◌⊎◌, false, inl, inr, refl, arith, List, length, sym, ◌∙◌, ap, subst}
+use Rattle.std.specs.Prelude.{All, Contains}
+use Rattle.std.proofs.lemmas.Bool.{cases_eq, both_ways, false_from_ne_true}
 use Rattle.std.proofs.lemmas.List.Elements.{All-contains, Contains-get_or}
 use Rattle.std.proofs.lemmas.List.{get_or_default}
 use Rattle.xdg_problem.specs.declared.analysis.Edge.{Edge}
-use Rattle.xdg_problem.specs.declared.parts.DimPlan.{DimPlan}
 use Rattle.xdg_problem.specs.declared.parts.Parts.{Parts}
 use Rattle.xdg_problem.specs.Places.{edge, nodes}
 use Rattle.xdg_problem.specs.Analyses.{Before, IsPlace}
 use Rattle.xdg_problem.specs.Relations.{label_count}
 use Rattle.xdg_problem.specs.Tests.{Test, looks_at, out_count, in_count, one_mother, no_cycle, one_root}
 use Rattle.xdg_live.specs.Steps.{IsLastOther}
-use Rattle.xdg_live.proofs.Looks.{Looks, looks_true, true_looks, Follows, follows}
+use Rattle.xdg_live.proofs.Looks.{Looks, looks_true, true_looks, follows}
 
 -- the newest place and the places after it
 pub record At (parts : Parts) (e : Edge) (after : List Edge) : Type 0 where
@@ -91,60 +90,60 @@ same_dim parts e after at m l w lt within_mother within_label within ne = at.all
 
 pub out_newest : (parts : Parts) (e : Edge) (after : List Edge) (k : ℕ) → At parts e after → e.daughter.0 ≤ k → k < nodes parts → Blind e.dim.0 (out_count e.mother.0 e.label.0 k) after → IsNewest e.mother.0 e.daughter.0 k
 out_newest parts e after k at le within blind = next_other e.mother.0 e.daughter.0 k le (λ w lt up ne.
-  blind_at e.dim.0 (out_count e.mother.0 e.label.0 k) after (edge e.dim.0 e.mother.0 e.label.0 w) blind (same_row parts e after at w lt (omega arith) ne) (refl, refl, refl, up))
+    blind_at e.dim.0 (out_count e.mother.0 e.label.0 k) after (edge e.dim.0 e.mother.0 e.label.0 w) blind (same_row parts e after at w lt (omega arith) ne) (refl, refl, refl, up))
 
 pub out_blind : (parts : Parts) (e : Edge) (after : List Edge) (k : ℕ) → At parts e after → IsNewest e.mother.0 e.daughter.0 k → Blind e.dim.0 (out_count e.mother.0 e.label.0 k) after
 out_blind parts e after k at newest = blind_from e.dim.0 (out_count e.mother.0 e.label.0 k) after (λ f c (d, m, l, w).
-  let lt : e.daughter.0 < f.daughter.0 = (follows e f (at.later f c)).daughter d m l in
-  let differ : f.mother.0 ≢ f.daughter.0 = (at.places f c).differ in
-  elim newest [
-    | inl same ↦ omega (arith, lt, w, same)
-    | inr (same, next) ↦ differ (omega (arith, m, lt, w, same, next))
-  ])
+    let lt : e.daughter.0 < f.daughter.0 = (follows e f (at.later f c)).daughter d m l in
+    let differ : f.mother.0 ≢ f.daughter.0 = (at.places f c).differ in
+    elim newest [
+      | inl same ↦ omega (arith, lt, w, same)
+      | inr (same, next) ↦ differ (omega (arith, m, lt, w, same, next))
+    ])
 
 -- edges in
 
 pub in_newest : (parts : Parts) (e : Edge) (after : List Edge) (k : ℕ) → At parts e after → e.mother.0 ≤ k → k < nodes parts → Blind e.dim.0 (in_count e.daughter.0 e.label.0 k) after → IsNewest e.daughter.0 e.mother.0 k
 in_newest parts e after k at le within blind = next_other e.daughter.0 e.mother.0 k le (λ m lt up ne.
-  blind_at e.dim.0 (in_count e.daughter.0 e.label.0 k) after (edge e.dim.0 m e.label.0 e.daughter.0) blind (same_dim parts e after at m e.label.0 e.daughter.0 lt (omega arith) (label_within parts e at.is) at.is.daughter (λ s. ne (sym s))) (refl, refl, refl, up))
+    blind_at e.dim.0 (in_count e.daughter.0 e.label.0 k) after (edge e.dim.0 m e.label.0 e.daughter.0) blind (same_dim parts e after at m e.label.0 e.daughter.0 lt (omega arith) (label_within parts e at.is) at.is.daughter (λ s. ne (sym s))) (refl, refl, refl, up))
 
 pub in_blind : (parts : Parts) (e : Edge) (after : List Edge) (k : ℕ) → At parts e after → IsNewest e.daughter.0 e.mother.0 k → Blind e.dim.0 (in_count e.daughter.0 e.label.0 k) after
 in_blind parts e after k at newest = blind_from e.dim.0 (in_count e.daughter.0 e.label.0 k) after (λ f c (d, v, l, m).
-  let s = follows e f (at.later f c) in
-  let le : e.mother.0 ≤ f.mother.0 = s.mother d in
-  let differ : f.mother.0 ≢ f.daughter.0 = (at.places f c).differ in
-  elim (cases_eq f.mother.0 e.mother.0) [
-    | inl same ↦ let lt : e.daughter.0 < f.daughter.0 = s.daughter d same l in omega (arith, lt, v)
-    | inr ne ↦ elim newest [
-      | inl up ↦ ne (omega (arith, le, m, up))
-      | inr (up, next) ↦ elim (cases_eq f.mother.0 (e.mother.0 + 1)) [
-        | inl last ↦ differ (omega (arith, last, next, v))
-        | inr ne2 ↦ ne2 (omega (arith, le, m, up, ne))
+    let s = follows e f (at.later f c) in
+    let le : e.mother.0 ≤ f.mother.0 = s.mother d in
+    let differ : f.mother.0 ≢ f.daughter.0 = (at.places f c).differ in
+    elim (cases_eq f.mother.0 e.mother.0) [
+      | inl same ↦ let lt : e.daughter.0 < f.daughter.0 = s.daughter d same l in omega (arith, lt, v)
+      | inr ne ↦ elim newest [
+        | inl up ↦ ne (omega (arith, le, m, up))
+        | inr (up, next) ↦ elim (cases_eq f.mother.0 (e.mother.0 + 1)) [
+          | inl last ↦ differ (omega (arith, last, next, v))
+          | inr ne2 ↦ ne2 (omega (arith, le, m, up, ne))
+        ]
       ]
-    ]
-  ])
+    ])
 
 -- at most one mother
 
 pub mother_newest : (parts : Parts) (e : Edge) (after : List Edge) (k : ℕ) → At parts e after → e.mother.0 ≤ k → k < nodes parts → Blind e.dim.0 (one_mother e.daughter.0 k) after → e.label.0 + 1 ≡ label_count parts e.dim.0
 mother_newest parts e after k at le within blind =
-  let label = label_within parts e at.is in
-  elim (cases_eq (e.label.0 + 1) (label_count parts e.dim.0)) [
-    | inl last ↦ last
-    | inr ne ↦ absurd (blind_at e.dim.0 (one_mother e.daughter.0 k) after (edge e.dim.0 e.mother.0 (e.label.0 + 1) e.daughter.0) blind
-        (same_mother parts e after at (e.label.0 + 1) e.daughter.0 (omega arith) (omega (arith, label, ne)) at.is.daughter at.is.differ) (refl, refl, le))
-  ]
+    let label = label_within parts e at.is in
+    elim (cases_eq (e.label.0 + 1) (label_count parts e.dim.0)) [
+      | inl last ↦ last
+      | inr ne ↦ absurd (blind_at e.dim.0 (one_mother e.daughter.0 k) after (edge e.dim.0 e.mother.0 (e.label.0 + 1) e.daughter.0) blind
+          (same_mother parts e after at (e.label.0 + 1) e.daughter.0 (omega arith) (omega (arith, label, ne)) at.is.daughter at.is.differ) (refl, refl, le))
+    ]
 
 pub mother_blind : (parts : Parts) (e : Edge) (after : List Edge) → At parts e after → e.label.0 + 1 ≡ label_count parts e.dim.0 → Blind e.dim.0 (one_mother e.daughter.0 e.mother.0) after
 mother_blind parts e after at last = blind_from e.dim.0 (one_mother e.daughter.0 e.mother.0) after (λ f c (d, v, m).
-  let s = follows e f (at.later f c) in
-  let le : e.mother.0 ≤ f.mother.0 = s.mother d in
-  let same : f.mother.0 ≡ e.mother.0 = omega (arith, le, m) in
-  let label : f.label.0 < label_count parts f.dim.0 = label_within parts f (at.places f c) in
-  let label2 : f.label.0 < label_count parts e.dim.0 = subst (λ (x : ℕ). f.label.0 < label_count parts x) d label in
-  let le2 : e.label.0 ≤ f.label.0 = s.label d same in
-  let lt : e.daughter.0 < f.daughter.0 = s.daughter d same (omega (arith, last, label2, le2)) in
-  omega (arith, lt, v))
+    let s = follows e f (at.later f c) in
+    let le : e.mother.0 ≤ f.mother.0 = s.mother d in
+    let same : f.mother.0 ≡ e.mother.0 = omega (arith, le, m) in
+    let label : f.label.0 < label_count parts f.dim.0 = label_within parts f (at.places f c) in
+    let label2 : f.label.0 < label_count parts e.dim.0 = subst (λ (x : ℕ). f.label.0 < label_count parts x) d label in
+    let le2 : e.label.0 ≤ f.label.0 = s.label d same in
+    let lt : e.daughter.0 < f.daughter.0 = s.daughter d same (omega (arith, last, label2, le2)) in
+    omega (arith, lt, v))
 
 -- the last place out of a mother
 
@@ -155,57 +154,58 @@ pub record LastOut (parts : Parts) (e : Edge) : Type 0 where
 -- nothing follows out of the newest mother
 pub none_out : (parts : Parts) (e : Edge) (after : List Edge) → At parts e after → LastOut parts e → (f : Edge) → Contains after f → f.dim.0 ≡ e.dim.0 → f.mother.0 ≡ e.mother.0 → ⊥
 none_out parts e after at last f c d same =
-  let s = follows e f (at.later f c) in
-  let label : f.label.0 < label_count parts f.dim.0 = label_within parts f (at.places f c) in
-  let label2 : f.label.0 < label_count parts e.dim.0 = subst (λ (x : ℕ). f.label.0 < label_count parts x) d label in
-  let le2 : e.label.0 ≤ f.label.0 = s.label d same in
-  let last_label = last.label in
-  let lt : e.daughter.0 < f.daughter.0 = s.daughter d same (omega (arith, last_label, label2, le2)) in
-  let within : f.daughter.0 < nodes parts = (at.places f c).daughter in
-  let differ : f.mother.0 ≢ f.daughter.0 = (at.places f c).differ in
-  elim last.daughter [
-    | inl a ↦ omega (arith, a, lt, within)
-    | inr (a, b) ↦ differ (omega (arith, a, b, lt, within, same))
-  ]
+    let s = follows e f (at.later f c) in
+    let label : f.label.0 < label_count parts f.dim.0 = label_within parts f (at.places f c) in
+    let label2 : f.label.0 < label_count parts e.dim.0 = subst (λ (x : ℕ). f.label.0 < label_count parts x) d label in
+    let le2 : e.label.0 ≤ f.label.0 = s.label d same in
+    let last_label = last.label in
+    let lt : e.daughter.0 < f.daughter.0 = s.daughter d same (omega (arith, last_label, label2, le2)) in
+    let within : f.daughter.0 < nodes parts = (at.places f c).daughter in
+    let differ : f.mother.0 ≢ f.daughter.0 = (at.places f c).differ in
+    elim last.daughter [
+      | inl a ↦ omega (arith, a, lt, within)
+      | inr (a, b) ↦ differ (omega (arith, a, b, lt, within, same))
+    ]
 
 pub cycle_newest : (parts : Parts) (e : Edge) (after : List Edge) (k : ℕ) → At parts e after → e.mother.0 ≤ k → k < nodes parts → Blind e.dim.0 (no_cycle k) after → LastOut parts e
 cycle_newest parts e after k at le within blind =
-  let label = label_within parts e at.is in
-  record {
-    label = elim (cases_eq (e.label.0 + 1) (label_count parts e.dim.0)) [
-      | inl last ↦ last
-      | inr ne ↦ absurd (blind_at e.dim.0 (no_cycle k) after (edge e.dim.0 e.mother.0 (e.label.0 + 1) e.daughter.0) blind
-          (same_mother parts e after at (e.label.0 + 1) e.daughter.0 (omega arith) (omega (arith, label, ne)) at.is.daughter at.is.differ) (refl, le))
-    ];
-    daughter =
-      let lt : e.daughter.0 < nodes parts = at.is.daughter in
-      let up : e.daughter.0 + 1 ≤ nodes parts = omega (arith, lt) in
-      let top : (nodes parts - 1) + 1 ≡ nodes parts = omega (arith, lt) in
-      last_of_newest (nodes parts) e.mother.0 e.daughter.0 (nodes parts - 1) (next_other e.mother.0 e.daughter.0 (nodes parts - 1) (omega (arith, lt)) (λ w above most ne.
-        blind_at e.dim.0 (no_cycle k) after (edge e.dim.0 e.mother.0 e.label.0 w) blind (same_row parts e after at w above (omega (arith, most, lt)) ne) (refl, le))) top;
-  }
+    let label = label_within parts e at.is in
+    record {
+      label = elim (cases_eq (e.label.0 + 1) (label_count parts e.dim.0)) [
+        | inl last ↦ last
+        | inr ne ↦ absurd (blind_at e.dim.0 (no_cycle k) after (edge e.dim.0 e.mother.0 (e.label.0 + 1) e.daughter.0) blind
+            (same_mother parts e after at (e.label.0 + 1) e.daughter.0 (omega arith) (omega (arith, label, ne)) at.is.daughter at.is.differ) (refl, le))
+      ];
+      daughter =
+          let lt : e.daughter.0 < nodes parts = at.is.daughter in
+          let up : e.daughter.0 + 1 ≤ nodes parts = omega (arith, lt) in
+          let top : (nodes parts - 1) + 1 ≡ nodes parts = omega (arith, lt) in
+          last_of_newest (nodes parts) e.mother.0 e.daughter.0 (nodes parts - 1) (next_other e.mother.0 e.daughter.0 (nodes parts - 1) (omega (arith, lt)) (λ w above most ne.
+          blind_at e.dim.0 (no_cycle k) after (edge e.dim.0 e.mother.0 e.label.0 w) blind (same_row parts e after at w above (omega (arith, most, lt)) ne) (refl, le))) top;
+    }
 
 pub cycle_blind : (parts : Parts) (e : Edge) (after : List Edge) → At parts e after → LastOut parts e → Blind e.dim.0 (no_cycle e.mother.0) after
 cycle_blind parts e after at last = blind_from e.dim.0 (no_cycle e.mother.0) after (λ f c (d, m).
-  let le : e.mother.0 ≤ f.mother.0 = (follows e f (at.later f c)).mother d in
-  none_out parts e after at last f c d (omega (arith, le, m)))
+    let le : e.mother.0 ≤ f.mother.0 = (follows e f (at.later f c)).mother d in
+    none_out parts e after at last f c d (omega (arith, le, m)))
 
 -- the last place of a dimension
 
 pub root_newest : (parts : Parts) (e : Edge) (after : List Edge) → At parts e after → Blind e.dim.0 one_root after → LastOut parts e × (e.mother.0 + 1 ≡ nodes parts)
 root_newest parts e after at blind =
-  let mother = at.is.mother in
-  let daughter = at.is.daughter in
-  let label = label_within parts e at.is in
-  ( cycle_newest parts e after e.mother.0 at (omega arith) at.is.mother (blind_from e.dim.0 (no_cycle e.mother.0) after (λ f c (d, m). blind_at e.dim.0 one_root after f blind c d)),
-    elim (cases_eq (e.mother.0 + 1) (nodes parts)) [
-      | inl last ↦ last
-      | inr ne ↦ absurd (blind_at e.dim.0 one_root after (edge e.dim.0 (e.mother.0 + 1) e.label.0 e.mother.0) blind
-          (same_dim parts e after at (e.mother.0 + 1) e.label.0 e.mother.0 (omega arith) (omega (arith, mother, ne)) label mother (omega arith)) refl)
-    ])
+    let mother = at.is.mother in
+    let daughter = at.is.daughter in
+    let label = label_within parts e at.is in (
+      cycle_newest parts e after e.mother.0 at (omega arith) at.is.mother (blind_from e.dim.0 (no_cycle e.mother.0) after (λ f c (d, m). blind_at e.dim.0 one_root after f blind c d)),
+      elim (cases_eq (e.mother.0 + 1) (nodes parts)) [
+        | inl last ↦ last
+        | inr ne ↦ absurd (blind_at e.dim.0 one_root after (edge e.dim.0 (e.mother.0 + 1) e.label.0 e.mother.0) blind
+            (same_dim parts e after at (e.mother.0 + 1) e.label.0 e.mother.0 (omega arith) (omega (arith, mother, ne)) label mother (omega arith)) refl)
+      ],
+    )
 
 pub root_blind : (parts : Parts) (e : Edge) (after : List Edge) → At parts e after → LastOut parts e → e.mother.0 + 1 ≡ nodes parts → Blind e.dim.0 one_root after
 root_blind parts e after at last top = blind_from e.dim.0 one_root after (λ f c d.
-  let le : e.mother.0 ≤ f.mother.0 = (follows e f (at.later f c)).mother d in
-  let within : f.mother.0 < nodes parts = (at.places f c).mother in
-  none_out parts e after at last f c d (omega (arith, le, within, top)))
+    let le : e.mother.0 ≤ f.mother.0 = (follows e f (at.later f c)).mother d in
+    let within : f.mother.0 < nodes parts = (at.places f c).mother in
+    none_out parts e after at last f c d (omega (arith, le, within, top)))

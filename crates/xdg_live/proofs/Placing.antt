@@ -1,19 +1,17 @@
 -- A prefix past the entries and attributes decides one edge place after another.
-use Rattle.std.proofs.Common.{◌≡◌, ◌≢◌, ℕ, ◌+◌, ◌-◌, ◌<◌, ◌≤◌, ◌⊎◌, Bool, true, false, cond, inl, inr, refl, arith, List, [], ◌∷◌, ◌++◌, length, get_or, take, drop, sym, ◌∙◌, ap, subst, zero, suc, length-append, length-drop}
-use Rattle.std.specs.Prelude.{Contains, AllPairs, ◌==◌}
+use Rattle.std.proofs.Common.{◌≡◌, ℕ, ◌+◌, ◌-◌, ◌<◌, ◌≤◌, ◌⊎◌, Bool, true, false, cond, inl, inr, refl, arith, List, [], ◌∷◌, ◌++◌, length, get_or, drop, sym, ◌∙◌, ap, subst, zero, suc, length-append, length-drop}
+use Rattle.std.specs.Prelude.{Contains, ◌==◌}
 use Rattle.std.proofs.lemmas.Bool.{cases_order}
 use Rattle.std.proofs.lemmas.List.{drop_more, get_or-drop, get_or_default, drop-append-le}
 use Rattle.std.proofs.lemmas.List.Elements.{Contains-append_cases}
 use Rattle.xdg_problem.specs.declared.analysis.Edge.{Edge}
 use Rattle.xdg_problem.specs.declared.parts.Parts.{Parts}
 use Rattle.xdg_problem.specs.Places.{nodes, places}
-use Rattle.xdg_problem.specs.Analyses.{Before, IsPlace}
+use Rattle.xdg_problem.specs.Analyses.{Before}
 use Rattle.xdg_problem.specs.Vectors.{first_place, edges_in, chosen}
-use Rattle.xdg_problem.specs.Live.{open_places}
 use Rattle.xdg_problem.proofs.PlaceOrder.{places_before, is_place, place_is}
-use Rattle.xdg_live.proofs.Looks.{Follows, follows}
 use Rattle.xdg_live.proofs.Newest.{At}
-use Rattle.xdg_live.proofs.Counted.{UpTo, contains_tail}
+use Rattle.xdg_live.proofs.Counted.{UpTo}
 use Rattle.xdg_live.proofs.Placed.{Placed}
 
 pub before_strict : (e f : Edge) → Before e f → Before f e → ⊥
@@ -82,25 +80,25 @@ at_place : (parts : Parts) (e : Edge) (i : ℕ) → i < length (places parts) �
 at_place parts e i within is = record {
   is = is_place parts e (i, within, is);
   later = λ f (k, l, s).
-    let l2 : k < length (places parts) - (i + 1) = subst (λ (m : ℕ). k < m) (length-drop (i + 1) (places parts)) l in
-    let s2 : get_or (places parts) (i + 1 + k) f ≡ f = sym (get_or-drop (i + 1) (places parts) k f) ∙ s in
-    let b = places_before parts i (i + 1 + k) f (omega arith) (omega (arith, l2)) in
-    subst (λ g. Before e g) s2 (subst (λ g. Before g (get_or (places parts) (i + 1 + k) f)) (get_or_default (places parts) i f e within ∙ is) b);
+      let l2 : k < length (places parts) - (i + 1) = subst (λ (m : ℕ). k < m) (length-drop (i + 1) (places parts)) l in
+      let s2 : get_or (places parts) (i + 1 + k) f ≡ f = sym (get_or-drop (i + 1) (places parts) k f) ∙ s in
+      let b = places_before parts i (i + 1 + k) f (omega arith) (omega (arith, l2)) in
+      subst (λ g. Before e g) s2 (subst (λ g. Before g (get_or (places parts) (i + 1 + k) f)) (get_or_default (places parts) i f e within ∙ is) b);
   places = λ f (k, l, s).
-    let l2 : k < length (places parts) - (i + 1) = subst (λ (m : ℕ). k < m) (length-drop (i + 1) (places parts)) l in
-    is_place parts f (i + 1 + k, omega (arith, l2), sym (get_or-drop (i + 1) (places parts) k f) ∙ s);
+      let l2 : k < length (places parts) - (i + 1) = subst (λ (m : ℕ). k < m) (length-drop (i + 1) (places parts)) l in
+      is_place parts f (i + 1 + k, omega (arith, l2), sym (get_or-drop (i + 1) (places parts) k f) ∙ s);
   all = λ f place before. all_after parts e f i within is before (place_is parts f place);
 }
 
 -- the edges after one number more
 pub edges_push : (parts : Parts) (p : List ℕ) (x : ℕ) (e : Edge) (i : ℕ) → Setting parts p e i → edges_in parts (p ++ x ∷ []) ≡ edges_in parts p ++ cond (x == 0) (e ∷ []) []
 edges_push parts p x e i (at, within, is) =
-  let rest : length (drop (first_place parts) p) ≡ i = length-drop (first_place parts) p ∙ omega (arith, at) in
-  let le : first_place parts ≤ length p = omega (arith, at) in
-  let here : get_or (places parts) (length (drop (first_place parts) p)) e ≡ e = ap (λ n. get_or (places parts) n e) rest ∙ is in
-  ap (chosen (places parts)) (drop-append-le (first_place parts) p (x ∷ []) le)
-  ∙ (chosen_push (places parts) (drop (first_place parts) p) x e (omega (arith, rest, within))
-  ∙ ap (λ f. edges_in parts p ++ cond (x == 0) (f ∷ []) []) here)
+    let rest : length (drop (first_place parts) p) ≡ i = length-drop (first_place parts) p ∙ omega (arith, at) in
+    let le : first_place parts ≤ length p = omega (arith, at) in
+    let here : get_or (places parts) (length (drop (first_place parts) p)) e ≡ e = ap (λ n. get_or (places parts) n e) rest ∙ is in
+    ap (chosen (places parts)) (drop-append-le (first_place parts) p (x ∷ []) le)
+    ∙ (chosen_push (places parts) (drop (first_place parts) p) x e (omega (arith, rest, within))
+    ∙ ap (λ f. edges_in parts p ++ cond (x == 0) (f ∷ []) []) here)
 
 only_one : (b : Bool) (e f : Edge) → Contains (cond b (e ∷ []) []) f → f ≡ e
 only_one true e f (zero, l, s) = sym s
@@ -109,18 +107,18 @@ only_one false e f (k, l, s) = absurd (omega (arith, l))
 
 newest_edge : (parts : Parts) (p : List ℕ) (x : ℕ) (e : Edge) (i : ℕ) → Setting parts p e i → (f : Edge) → Contains (edges_in parts (p ++ x ∷ [])) f → (f ≡ e) ⊎ Contains (edges_in parts p) f
 newest_edge parts p x e i setting f c =
-  elim (Contains-append_cases (edges_in parts p) (cond (x == 0) (e ∷ []) []) f (subst (λ (xs : List Edge). Contains xs f) (edges_push parts p x e i setting) c)) [
-    | inl old ↦ inr old
-    | inr new ↦ inl (only_one (x == 0) e f new)
-  ]
+    elim (Contains-append_cases (edges_in parts p) (cond (x == 0) (e ∷ []) []) f (subst (λ (xs : List Edge). Contains xs f) (edges_push parts p x e i setting) c)) [
+      | inl old ↦ inr old
+      | inr new ↦ inl (only_one (x == 0) e f new)
+    ]
 
 pub older_edge : (parts : Parts) (p : List ℕ) (e : Edge) (i : ℕ) → Setting parts p e i → (f : Edge) → Contains (edges_in parts p) f → Before f e
 older_edge parts p e i (at, within, is) f c =
-  let rest : length (drop (first_place parts) p) ≡ i = length-drop (first_place parts) p ∙ omega (arith, at) in
-  let w = chosen_at (places parts) (drop (first_place parts) p) f c in
-  let lt : w.0 < length (drop (first_place parts) p) = w.1 in
-  let b = places_before parts w.0 i f (omega (arith, lt, rest)) within in
-  subst (λ g. Before f g) (get_or_default (places parts) i f e within ∙ is) (subst (λ g. Before g (get_or (places parts) i f)) w.3 b)
+    let rest : length (drop (first_place parts) p) ≡ i = length-drop (first_place parts) p ∙ omega (arith, at) in
+    let w = chosen_at (places parts) (drop (first_place parts) p) f c in
+    let lt : w.0 < length (drop (first_place parts) p) = w.1 in
+    let b = places_before parts w.0 i f (omega (arith, lt, rest)) within in
+    subst (λ g. Before f g) (get_or_default (places parts) i f e within ∙ is) (subst (λ g. Before g (get_or (places parts) i f)) w.3 b)
 
 upto_edge : (parts : Parts) (p : List ℕ) (x : ℕ) (e : Edge) (i : ℕ) → Setting parts p e i → (f : Edge) → Contains (edges_in parts (p ++ x ∷ [])) f → UpTo e f
 upto_edge parts p x e i setting f c = elim (newest_edge parts p x e i setting f c) [
@@ -130,15 +128,15 @@ upto_edge parts p x e i setting f c = elim (newest_edge parts p x e i setting f 
 
 pub placed : (parts : Parts) (p : List ℕ) (x : ℕ) (e : Edge) (i : ℕ) → nodes parts ≤ first_place parts → Setting parts p e i → Placed parts p (p ++ x ∷ []) e (drop (i + 1) (places parts))
 placed parts p x e i known (at, within, is) =
-  let rest : length (drop (first_place parts) p) ≡ i = length-drop (first_place parts) p ∙ omega (arith, at) in
-  let long : length (p ++ x ∷ []) ≡ length p + 1 = length-append p (x ∷ []) in
-  let place = at_place parts e i within is in
-  record {
-    at = place;
-    open_old = ap (λ n. drop n (places parts)) (omega (arith, at)) ∙ (drop_more (places parts) i e within ∙ ap (λ f. f ∷ drop (i + 1) (places parts)) is);
-    open_new = ap (λ n. drop n (places parts)) (omega (arith, at, long));
-    upto = upto_edge parts p x e i (at, within, is);
-    newest = newest_edge parts p x e i (at, within, is);
-    known = omega (arith, known, at);
-    longer = omega (arith, long);
-  }
+    let rest : length (drop (first_place parts) p) ≡ i = length-drop (first_place parts) p ∙ omega (arith, at) in
+    let long : length (p ++ x ∷ []) ≡ length p + 1 = length-append p (x ∷ []) in
+    let place = at_place parts e i within is in
+    record {
+      at = place;
+      open_old = ap (λ n. drop n (places parts)) (omega (arith, at)) ∙ (drop_more (places parts) i e within ∙ ap (λ f. f ∷ drop (i + 1) (places parts)) is);
+      open_new = ap (λ n. drop n (places parts)) (omega (arith, at, long));
+      upto = upto_edge parts p x e i (at, within, is);
+      newest = newest_edge parts p x e i (at, within, is);
+      known = omega (arith, known, at);
+      longer = omega (arith, long);
+    }

@@ -1,8 +1,8 @@
 -- A pass over the edges that marks what is reached.
-use Rattle.std.proofs.Common.{◌≡◌, ℕ, ◌+◌, ◌<◌, ◌≤◌, ◌⊎◌, ◌↔◌, ◌==◌, inl, inr, Bool, true, false, not, List, [], ◌∷◌, length, get_or, take, replicate, sym, ◌∙◌, ap, refl, subst, arith, zero, suc}
-use Rattle.std.specs.Prelude.{filter, count_by, All, Contains, slice_index_or, IsTrue}
-use Rattle.std.proofs.lemmas.Bool.{eq-eqb, eqb-true, false≢true, cases_Bool}
-use Rattle.std.proofs.lemmas.List.{take_all, get_or-replicate, get_or_past, get_or_read}
+use Rattle.std.proofs.Common.{◌≡◌, ℕ, ◌+◌, ◌<◌, ◌≤◌, ◌⊎◌, ◌↔◌, ◌==◌, inl, inr, Bool, true, false, List, length, get_or, take, replicate, sym, ◌∙◌, ap, refl, subst, arith, zero, suc}
+use Rattle.std.specs.Prelude.{All, Contains, slice_index_or}
+use Rattle.std.proofs.lemmas.Bool.{eq-eqb, eqb-true, false≢true}
+use Rattle.std.proofs.lemmas.List.{take_all}
 use Rattle.std.proofs.lemmas.List.Elements.{All-more, All-contains, Contains-get_or}
 use Rattle.xdg_problem.specs.declared.analysis.Edge.{Edge}
 use Rattle.xdg_problem.specs.Paths.{edges_on, Above}
@@ -44,15 +44,15 @@ most_after edge dim start old now false m = let h = ap unmarked (m.same refl) in
 -- a mark that is not new
 pub widened_same : (edges : List Edge) (dim start : ℕ) (old was now : List Bool) (i : ℕ) (grew : Bool) (edge : Edge) → i < length edges → edge ≡ get_or edges i edge → Widened edges dim start old was i grew → Marked edge dim start was now false → Widened edges dim start old now (i + 1) grew
 widened_same edges dim start old was now i grew edge l at w m =
-  let same = m.same refl in
-  record {
-    sound = λ h. sound_step edges dim start was now edge (i, l, sym at) (w.sound h) m.sound;
-    closed = λ e. All-more (λ f. f.dim.0 ≡ dim → Follows start now f) edges i edge l
-      (subst (λ xs. All (λ f. f.dim.0 ≡ dim → Follows start xs f) (take i edges)) (sym same) (w.closed e))
-      (subst (λ f. f.dim.0 ≡ dim → Follows start now f) at (λ d reach. m.done d (subst (λ xs. (edge.mother.0 ≡ start) ⊎ IsMarked xs edge.mother.0) same reach)));
-    fewer = λ e. let h = w.fewer e in let g = ap unmarked same in omega (arith, h, g);
-    most = (let h = w.most in let g = ap unmarked same in omega (arith, h, g));
-  }
+    let same = m.same refl in
+    record {
+      sound = λ h. sound_step edges dim start was now edge (i, l, sym at) (w.sound h) m.sound;
+      closed = λ e. All-more (λ f. f.dim.0 ≡ dim → Follows start now f) edges i edge l
+          (subst (λ xs. All (λ f. f.dim.0 ≡ dim → Follows start xs f) (take i edges)) (sym same) (w.closed e))
+          (subst (λ f. f.dim.0 ≡ dim → Follows start now f) at (λ d reach. m.done d (subst (λ xs. (edge.mother.0 ≡ start) ⊎ IsMarked xs edge.mother.0) same reach)));
+      fewer = λ e. let h = w.fewer e in let g = ap unmarked same in omega (arith, h, g);
+      most = (let h = w.most in let g = ap unmarked same in omega (arith, h, g));
+    }
 
 -- a new mark
 pub widened_new : (edges : List Edge) (dim start : ℕ) (old was now : List Bool) (i : ℕ) (grew : Bool) (edge : Edge) → i < length edges → edge ≡ get_or edges i edge → Widened edges dim start old was i grew → Marked edge dim start was now true → Widened edges dim start old now (i + 1) true
@@ -65,8 +65,8 @@ widened_new edges dim start old was now i grew edge l at w m = record {
 
 pub closed_all : (edges : List Edge) (dim start : ℕ) (now : List Bool) (i : ℕ) → All (λ e. e.dim.0 ≡ dim → Follows start now e) (take i edges) → length edges ≤ i → IsClosed (edges_on dim edges) start now
 closed_all edges dim start now i all le k d l =
-  let w = kept_was (λ e. e.dim.0 == dim) edges _ (Contains-get_or (edges_on dim edges) k d l) in
-  All-contains (λ e. e.dim.0 ≡ dim → Follows start now e) edges _ (subst (λ xs. All (λ e. e.dim.0 ≡ dim → Follows start now e) xs) (take_all i edges le) all) w.0 (eqb-true _ _ w.1)
+    let w = kept_was (λ e. e.dim.0 == dim) edges _ (Contains-get_or (edges_on dim edges) k d l) in
+    All-contains (λ e. e.dim.0 ≡ dim → Follows start now e) edges _ (subst (λ xs. All (λ e. e.dim.0 ≡ dim → Follows start now e) xs) (take_all i edges le) all) w.0 (eqb-true _ _ w.1)
 
 replicate_false : (n v : ℕ) → slice_index_or (replicate n false) v false ≡ false
 replicate_false zero v = refl

@@ -1,7 +1,7 @@
 -- Nodes that are marked as reached from a start along edges.
-use Rattle.std.specs.Prelude.{◌≡◌, ℕ, ◌<◌, ◌⊎◌, Bool, true, false, not, List, length, slice_index_or, Contains, All, count_by}
+use Rattle.std.specs.Prelude.{◌≡◌, ℕ, ◌<◌, ◌⊎◌, Bool, true, false, not, List, slice_index_or, All, count_by}
 use Rattle.xdg_problem.specs.declared.analysis.Edge.{Edge}
-use Rattle.xdg_problem.specs.Paths.{edges_on, Above}
+use Rattle.xdg_problem.specs.Paths.{Above}
 
 -- a node is marked
 abbrev pub IsMarked : List Bool → ℕ → Type 0

@@ -4,7 +4,7 @@ ghost use Rattle.std.specs.Prelude.{◌≡◌, ◌≤◌, ◌<◌, ◌+◌, ◌+
 ghost use Rattle.std.specs.Vec.{vec_capacity};
 ghost use Rattle.xdg_listing.specs.Fits.{Fits};
 ghost use Rattle.xdg_problem.specs.Places.{nodes, places};
-ghost use Rattle.xdg_problem.specs.Vectors.{shape, first_place, entries_at, edges_in, attr_sizes};
+ghost use Rattle.xdg_problem.specs.Vectors.{shape, first_place, entries_at, edges_in, analysis_of};
 ghost use Rattle.xdg_problem.specs.Live.{Live};
 ghost use Rattle.xdg_problem.specs.Problems.{IsProblem};
 
@@ -56,6 +56,37 @@ impl<'a> LiveFront<'a> {
         })
     }
 
+    /// The entries that are decided, node by node.
+    pub fn entries(&self) -> &[EntryNo]
+        ensures { result.now ≡ (analysis_of self.now.problem.now self.now.numbers.items).entries }
+    {
+        self.entries.as_slice()
+    }
+
+    /// The numbers of the attributes' values that are decided, by dimension, node and attribute.
+    pub fn attrs(&self) -> &[u16]
+        ensures { result.now ≡ (analysis_of self.now.problem.now self.now.numbers.items).attrs }
+    {
+        let numbers = self.numbers.as_slice();
+        let nodes = self.problem.parts().candidates.len();
+        if numbers.len() <= nodes {
+            return &[];
+        }
+        let behind = &numbers[nodes..];
+        let count = self.first - nodes;
+        if behind.len() <= count {
+            return behind;
+        }
+        &behind[..count]
+    }
+
+    /// The edges that are decided to be present, in their order.
+    pub fn edges(&self) -> &[Edge]
+        ensures { result.now ≡ (analysis_of self.now.problem.now self.now.numbers.items).edges }
+    {
+        self.edges.as_slice()
+    }
+
     /// Decides the entry of a node, if the entries up to it pass. What does not pass changes nothing.
     fn decide_entry(&mut self, value: u16) -> bool
         requires at { length self.old.numbers.items < nodes self.old.problem.now }
@@ -104,7 +135,13 @@ impl<'a> LiveFront<'a> {
         let parts = problem.parts();
         let at = self.numbers.len() - self.first;
         let place = self.edge_places.as_slice()[at];
-        if !try_place(parts, self.numbers.as_slice(), &mut self.edges, place, value) {
+        if !try_place(
+            parts,
+            self.numbers.as_slice(),
+            &mut self.edges,
+            place,
+            value,
+        ) {
             return false;
         }
         self.numbers.push_reserved(value);
@@ -113,10 +150,14 @@ impl<'a> LiveFront<'a> {
 }
 
 impl Front for LiveFront<'_> {
+    type Given = Problem;
+
     ghost use Rattle.std.specs.Prelude.{ℕ, List};
     ghost use Rattle.xdg_listing.specs.Closed.{Closed};
     ghost use Rattle.xdg_search.specs.Problem.{SameProblem};
     ghost use Rattle.xdg_live.specs.Closing.{front_closed};
+
+    ghost problem = { λ front. front.problem.now };
 
     ghost shape = { λ front. shape front.problem.now };
 

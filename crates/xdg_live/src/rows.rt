@@ -30,14 +30,18 @@ pub fn row_of(group: &Group, node: usize, candidate: usize, argument: usize, lab
 fn is_within(cardinality: &[u16], number: usize) -> bool
     ensures { IsTrue result ↔ IsWithin cardinality.now number }
 {
-    cardinality.iter().any(|greatest| number <= usize::from(*greatest))
+    cardinality
+        .iter()
+        .any(|greatest| number <= usize::from(*greatest))
 }
 
 /// Whether a number is one of a cardinality.
 pub fn is_member(cardinality: &[u16], number: usize) -> bool
     ensures { IsTrue result ↔ Contains cardinality.now number }
 {
-    cardinality.iter().any(|allowed| number == usize::from(*allowed))
+    cardinality
+        .iter()
+        .any(|allowed| number == usize::from(*allowed))
 }
 
 /// Whether a cardinality lets so many edges stand, where all that may come are there or more may follow.

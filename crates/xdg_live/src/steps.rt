@@ -61,7 +61,13 @@ fn has_places_on(parts: &Parts, dim: u8) -> bool
 fn passes_out(n: usize, group: &Group, candidate: u16, edges: &[Edge], place: Edge) -> bool
     ensures { IsTrue result ↔ MayCount (IsLastOther n place.mother.0 place.daughter.0) (out_row group.now place.mother.0 candidate place.label.0) (edges_out_of (edges_on place.dim.0 edges.now) place.mother.0 place.label.0) }
 {
-    let row = row_of(group, place.mother.0 as usize, candidate as usize, 1, place.label.0 as usize);
+    let row = row_of(
+        group,
+        place.mother.0 as usize,
+        candidate as usize,
+        1,
+        place.label.0 as usize,
+    );
     let count = count_out(edges, place.dim.0, place.mother.0, place.label.0);
     let complete = is_last_other(n, place.mother.0, place.daughter.0);
     may_count(row, count, complete)
@@ -71,14 +77,26 @@ fn passes_out(n: usize, group: &Group, candidate: u16, edges: &[Edge], place: Ed
 fn passes_into(n: usize, group: &Group, candidate: u16, edges: &[Edge], place: Edge) -> bool
     ensures { IsTrue result ↔ MayCount (IsLastOther n place.daughter.0 place.mother.0) (in_row group.now place.daughter.0 candidate place.label.0) (edges_into (edges_on place.dim.0 edges.now) place.daughter.0 place.label.0) }
 {
-    let row = row_of(group, place.daughter.0 as usize, candidate as usize, 0, place.label.0 as usize);
+    let row = row_of(
+        group,
+        place.daughter.0 as usize,
+        candidate as usize,
+        0,
+        place.label.0 as usize,
+    );
     let count = count_into(edges, place.dim.0, place.daughter.0, place.label.0);
     let complete = is_last_other(n, place.daughter.0, place.mother.0);
     may_count(row, count, complete)
 }
 
 /// Whether the entries of mother and daughter allow the edges so far with the label of the newest place.
-fn passes_valency(parts: &Parts, group: &Group, numbers: &[u16], edges: &[Edge], place: Edge) -> bool
+fn passes_valency(
+    parts: &Parts,
+    group: &Group,
+    numbers: &[u16],
+    edges: &[Edge],
+    place: Edge,
+) -> bool
     requires mother { place.mother.0 < length numbers.now }
     requires daughter { place.daughter.0 < length numbers.now }
     ensures { IsTrue result ↔ ValencyStep parts.now group.now numbers.now (edges_on place.dim.0 edges.now) place }
@@ -129,7 +147,12 @@ fn passes_use(parts: &Parts, group: &Group, numbers: &[u16], edges: &[Edge], pla
     match group.principle {
         Principle::Graph => true,
         Principle::Entries => true,
-        Principle::Tree => passes_tree(parts.words.len(), label_count_of(parts, place.dim.0), edges, place),
+        Principle::Tree => passes_tree(
+            parts.words.len(),
+            label_count_of(parts, place.dim.0),
+            edges,
+            place,
+        ),
         Principle::Valency => passes_valency(parts, group, numbers, edges, place),
     }
 }
@@ -205,7 +228,13 @@ pub fn passes_entry(parts: &Parts, node: usize, candidate: u16) -> bool
 
 /// Decides a place: 0 adds its edge, if the edges up to it pass, and 1 leaves it out, if they pass so. What does not
 /// pass changes nothing.
-pub fn try_place(parts: &Parts, numbers: &[u16], edges: &mut Vec<Edge>, place: Edge, value: u16) -> bool
+pub fn try_place(
+    parts: &Parts,
+    numbers: &[u16],
+    edges: &mut Vec<Edge>,
+    place: Edge,
+    value: u16,
+) -> bool
     requires within { AreWithin 128 edges.old.items }
     requires between { (place.mother.0 < 128) × (place.daughter.0 < 128) }
     requires mother { place.mother.0 < length numbers.now }

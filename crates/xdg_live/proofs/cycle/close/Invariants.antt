@@ -1,4 +1,3 @@
-use Rattle.std.proofs.Common.{length, ◌≡◌}
 use Rattle.xdg_problem.specs.Paths.{edges_on}
 use Rattle.xdg_live.specs.Reached.{AreAbove, unmarked}
 use Rattle.xdg_live.proofs.cycle.close.Given as goal

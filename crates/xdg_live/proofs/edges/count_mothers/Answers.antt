@@ -1,4 +1,4 @@
-use Rattle.std.proofs.Common.{◌==◌, ◌&&◌, arith}
+use Rattle.std.proofs.Common.{◌==◌, arith}
 use Rattle.xdg_live.proofs.Tallies.{counted_all}
 use Rattle.xdg_live.proofs.edges.count_mothers.Goals as goal
 

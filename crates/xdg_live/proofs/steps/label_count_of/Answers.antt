@@ -1,4 +1,4 @@
-use Rattle.std.proofs.Common.{ap, sym, subst, ◌≡◌, List, [], false, length}
+use Rattle.std.proofs.Common.{ap, sym, subst, ◌≡◌, [], false, length}
 use Rattle.std.specs.Prelude.{slice_get, None}
 use Rattle.xdg_problem.specs.declared.parts.DimPlan.{DimPlan}
 use Rattle.xdg_live.proofs.ReadLists.{read_none}
@@ -6,5 +6,5 @@ use Rattle.xdg_live.proofs.steps.label_count_of.Goals as goal
 
 pub returns-in-None : goal.returns-in-None
 returns-in-None c =
-  sym (ap (λ (plan : DimPlan). length plan.labels)
+    sym (ap (λ (plan : DimPlan). length plan.labels)
     (read_none c.args.parts.now.dims c.args.dim (record { name = []; labels = []; attrs = []; graph = false }) (subst (λ i. None ≡ slice_get c.args.parts.now.dims i) c.from.ensures c.in-None.ensures)))

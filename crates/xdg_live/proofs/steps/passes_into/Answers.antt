@@ -1,4 +1,3 @@
-use Rattle.std.proofs.Common.{refl}
 use Rattle.xdg_problem.specs.Paths.{edges_on}
 use Rattle.xdg_problem.specs.Features.{in_row}
 use Rattle.xdg_problem.specs.Relations.{edges_into}
@@ -8,6 +7,6 @@ use Rattle.xdg_live.proofs.steps.passes_into.Goals as goal
 
 pub returns : goal.returns
 returns c = may_step c.may_count.result c.is_last_other-complete.result (IsLastOther c.args.n c.args.place.daughter.0 c.args.place.mother.0)
-  c.row_of-row.result.now (in_row c.args.group.now c.args.place.daughter.0 c.args.candidate c.args.place.label.0)
-  c.count_into-count.result (edges_into (edges_on c.args.place.dim.0 c.args.edges.now) c.args.place.daughter.0 c.args.place.label.0)
-  c.may_count.ensures c.is_last_other-complete.ensures c.row_of-row.ensures c.count_into-count.ensures
+    c.row_of-row.result.now (in_row c.args.group.now c.args.place.daughter.0 c.args.candidate c.args.place.label.0)
+    c.count_into-count.result (edges_into (edges_on c.args.place.dim.0 c.args.edges.now) c.args.place.daughter.0 c.args.place.label.0)
+    c.may_count.ensures c.is_last_other-complete.ensures c.row_of-row.ensures c.count_into-count.ensures
