@@ -1,0 +1,10 @@
+pub mod Codes
+pub mod Commands
+pub mod Places
+pub mod Grammars
+pub mod Sentences
+pub mod Loading
+pub mod Printed
+pub mod Written
+pub mod Outcomes
+pub mod Runs

@@ -1,0 +1,28 @@
+-- What a run leaves behind.
+use Rattle.std.specs.Prelude.{◌≡◌, ◌⊎◌, ℕ, List, Option}
+use Rattle.xdg_io.specs.Held.{Appends, AppendsFront}
+use Rattle.xdg_io.specs.Rose.{Rose}
+use Rattle.xdg_top.specs.Commands.{IsParse}
+use Rattle.xdg_top.specs.declared.status.Status.{Status}
+use Rattle.xdg_top.specs.declared.status.Status.TheVariants as statuses
+
+-- O says which status and text are the outcome. Its text was added, and there is no other outcome.
+pub record Ends (O : Status → List ℕ → Type 0) (status : Status) (old new : Option (List ℕ)) : Type 0 where
+  pub text : List ℕ
+  pub outcome : O status text
+  pub only : (other : Status) (more : List ℕ) → O other more → (status ≡ other) × (text ≡ more)
+  pub appends : Appends old new text
+
+-- A run that nothing interrupts ends with the outcome's status and text. Where a read fails or memory is wanting nothing was
+-- added, and where the sink fails a front of the outcome's text, not all of it.
+abbrev pub Leaves : (Status → List ℕ → Type 0) → Status → Option (List ℕ) → Option (List ℕ) → Type 0
+Leaves O statuses.ReadFault old new = new ≡ old
+Leaves O statuses.OutOfMemory old new = new ≡ old
+Leaves O statuses.WriteFault old new = (status : Status) (text : List ℕ) → O status text → AppendsFront old new text
+Leaves O status old new = Ends O status old new
+
+-- a read failed: the count of the shelf rose for the file that the words name, or that of the input
+pub record ReadFailed (given : List (List ℕ)) (shelf_old shelf_new : List ℕ → ℕ) (input_old input_new : ℕ) : Type 0 where
+  pub name : List ℕ
+  pub command : IsParse given name
+  pub rose : Rose (shelf_old name) (shelf_new name) ⊎ Rose input_old input_new

@@ -1,0 +1,13 @@
+//! The one call that the program makes: from its words, a grammar text and a sentence to what it prints.
+#![tactic(auto)]
+
+mod command;
+mod loading;
+mod parse;
+mod printing;
+mod running;
+mod status;
+
+pub use running::run;
+pub use status::Status;
+pub use xdg_words::words_of;
