@@ -7,6 +7,8 @@ mod parse;
 mod printing;
 mod running;
 mod status;
+#[cfg(test)]
+mod tests;
 
 pub use running::run;
 pub use status::Status;
