@@ -1,7 +1,7 @@
 //! The devices of the running program: its files, its input and its output. What they give and take
 //! is not told.
 
-ghost use Rattle.std.specs.Prelude.{◌≡◌, ◌≤◌, None};
+ghost use Rattle.std.specs.Prelude.{◌≡◌, ◌≤◌, ◌<◌, None};
 ghost use Rattle.xdg_io.specs.Rose.{Rose};
 
 use crate::{Failed, LoadStop, ReadStop, Shelf, Sink, Source, read_all};
@@ -79,11 +79,17 @@ impl<R: Input> Source for StdinSource<R> {
     }
 }
 
-/// The output of the program.
+/// How many bytes of a line are kept at most.
+const LINE: usize = 4096;
+
+/// The output of the program, which is written line by line: bytes are kept until their line ends or is long.
 #[derive(Drop)]
 pub struct StdoutSink<'a, R> {
     runtime: &'a R,
+    line: [u8; LINE],
+    kept: usize,
     faults: u64,
+    ghost within: { kept < 4096 },
 }
 
 impl<'a, R: Print> StdoutSink<'a, R> {
@@ -91,7 +97,12 @@ impl<'a, R: Print> StdoutSink<'a, R> {
     pub fn new(runtime: &'a R) -> StdoutSink<'a, R>
         ensures { result.faults ≡ 0 }
     {
-        StdoutSink { runtime, faults: 0 }
+        StdoutSink {
+            runtime,
+            line: [0; LINE],
+            kept: 0,
+            faults: 0,
+        }
     }
 }
 
@@ -101,14 +112,35 @@ impl<'a, R: Print> Sink for StdoutSink<'a, R> {
     ghost faults = { λ sink. sink.faults };
 
     fn write(&mut self, piece: &[u8]) -> Result<usize, Failed> {
-        match self.runtime.write_some(piece) {
-            Ok(count) if count > 0 => Ok(count),
-            _ => {
-                self.faults = raised(self.faults);
-                Err(Failed)
+        let count = piece.len().min(LINE - self.kept);
+        let end = self.kept + count;
+        self.line[self.kept..end].copy_from_slice(&piece[..count]);
+        if end < LINE && self.line[end - 1] != b'\n' {
+            self.kept = end;
+            return Ok(count);
+        }
+        self.kept = 0;
+        if write_through(self.runtime, &self.line[..end]).is_err() {
+            self.faults = raised(self.faults);
+            return Err(Failed);
+        }
+        Ok(count)
+    }
+}
+
+/// Writes bytes to the output, however many it takes at once.
+fn write_through<R: Print>(runtime: &R, bytes: &[u8]) -> Result<(), Failed> {
+    let mut rest = bytes;
+    while !rest.is_empty() {
+        match runtime.write_some(rest) {
+            Ok(count) if count > 0 => {
+                let (_, later) = rest.split_at(count);
+                rest = later;
             }
+            _ => return Err(Failed),
         }
     }
+    Ok(())
 }
 
 /// A source over a reader.
