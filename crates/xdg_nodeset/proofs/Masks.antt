@@ -1,0 +1,162 @@
+-- What an operation on bits does to the members.
+use Rattle.std.proofs.Common.{◌≡◌, ◌⊎◌, ℕ, ◌<◌, ◌≤◌, ◌+◌, ◌-◌, ◌*◌, ◌/◌, ◌%◌, ◌^◌, zero, suc, [], ◌∷◌, ◌++◌, length, refl, ap, ap₂, sym, ◌∙◌, arith, inl, inr, bit_and, bit_or}
+use Rattle.std.specs.Prelude.{Bool, true, not, ◌&&◌, ◌||◌, ◌==◌, filter, nat_lt, nat_eq}
+use Rattle.std.specs.List.{range_with_len}
+use Rattle.std.specs.Int.{bit_at, bit_not, w128, trailing_zeros, leading_zeros}
+use Rattle.std.specs.Int.RustNames.{count_ones}
+use Rattle.std.proofs.Math.Nat.{pow-suc}
+use Rattle.std.proofs.Math.Pow.{pow_mono}
+use Rattle.std.specs.Cmp.Lexicographic.{pointwise}
+use Rattle.std.proofs.lemmas.Bool.Decides.{same_from_decides}
+use Rattle.std.proofs.lemmas.Slice.Eq.{bytes_eq-Decides}
+use Prim.Native.Nat.{min, max}
+use Rattle.std.proofs.lemmas.Nat.{leading_top, pow_pos, div_below, le-div, one_shl, ones_cat, ones_le_self, zero_from_ones}
+use Rattle.std.proofs.lemmas.Nat.Bits.{bit_at_and, bit_at_or, bit_at_not, bit_at-lt, bit_at-zero, bit_at_set_same, bit_at_set_other, bit_at_clear_same, bit_at_clear_other, bit_at_mask_inside, bit_at_mask_below, bit_at_mask_above, bit_at-trailing_zeros, bit_at_above, shr_and_one}
+use Rattle.std.proofs.lemmas.Bool.{cases_eq, cases_lt, eq-eqb, ne_eqb, lt-ltb, le-ltb, cond_both, eqb-true}
+use Rattle.xdg_nodeset.specs.Nodes.{has, numbers_below, nodes, IsNodes, with_node, without, union, meet, minus, between}
+use Rattle.xdg_nodeset.specs.Bits.{is_set, members, number, same_number, halves, zero_below_one, unset}
+use Rattle.xdg_nodeset.proofs.Rising.{numbers_agree, has_of, none_of, but, first_of, last_of, rises_of, few_of}
+
+-- a bit is 0 or 1, so tests on two bits agree where they agree at these
+below_two : (x : ℕ) → x < 2 → (x ≡ 0) ⊎ (x ≡ 1)
+below_two x within = elim (cases_eq x 0) [ inl e ↦ inl e | inr other ↦ inr (omega (arith, within, other)) ]
+
+at_bits : (f g : ℕ → ℕ → Bool) → f 0 0 ≡ g 0 0 → f 0 1 ≡ g 0 1 → f 1 0 ≡ g 1 0 → f 1 1 ≡ g 1 1 → (x y : ℕ) → x < 2 → y < 2 → f x y ≡ g x y
+at_bits f g a b c d x y h k = elim (below_two x h) [
+  | inl e ↦ elim (below_two y k) [ inl i ↦ ap₂ f e i ∙ a ∙ sym (ap₂ g e i) | inr i ↦ ap₂ f e i ∙ b ∙ sym (ap₂ g e i) ]
+  | inr e ↦ elim (below_two y k) [ inl i ↦ ap₂ f e i ∙ c ∙ sym (ap₂ g e i) | inr i ↦ ap₂ f e i ∙ d ∙ sym (ap₂ g e i) ]
+]
+
+has_members : (b k : ℕ) → k < 128 → has (members b) k ≡ is_set b k
+has_members b k below = has_of 128 (is_set b) k below
+
+pub members_are_nodes : (b : ℕ) → IsNodes (members b)
+members_are_nodes b = record {
+  rises = rises_of 128 (is_set b);
+  whole = numbers_agree 128 (is_set b) (has (members b)) (λ k below. sym (has_members b k below));
+  few = few_of 128 (is_set b);
+}
+
+pub empty_bits : members 0 ≡ []
+empty_bits = none_of 128 (is_set 0) (λ k. ap (λ z. z == 1) (bit_at-zero k))
+
+pub contains_bits : (b n : ℕ) → n < 128 → (bit_and (b / 2 ^ n) 1 == 1) ≡ has (members b) n
+contains_bits b n below = ap (λ z. z == 1) (shr_and_one b n) ∙ sym (has_members b n below)
+
+pub union_bits : (a b : ℕ) → members (bit_or a b) ≡ union (members a) (members b)
+union_bits a b = numbers_agree 128 (is_set (bit_or a b)) (λ n. has (members a) n || has (members b) n) (λ n below.
+    ap (λ z. z == 1) (bit_at_or a b n)
+    ∙ at_bits (λ x y. max x y == 1) (λ x y. (x == 1) || (y == 1)) refl refl refl refl (bit_at a n) (bit_at b n) (bit_at-lt a n) (bit_at-lt b n)
+    ∙ sym (ap₂ (λ x y. x || y) (has_members a n below) (has_members b n below)))
+
+pub meet_bits : (a b : ℕ) → members (bit_and a b) ≡ meet (members a) (members b)
+meet_bits a b = numbers_agree 128 (is_set (bit_and a b)) (λ n. has (members a) n && has (members b) n) (λ n below.
+    ap (λ z. z == 1) (bit_at_and a b n)
+    ∙ at_bits (λ x y. min x y == 1) (λ x y. (x == 1) && (y == 1)) refl refl refl refl (bit_at a n) (bit_at b n) (bit_at-lt a n) (bit_at-lt b n)
+    ∙ sym (ap₂ (λ x y. x && y) (has_members a n below) (has_members b n below)))
+
+pub minus_bits : (a b : ℕ) → b < 2 ^ 128 → members (bit_and a (bit_not w128 b)) ≡ minus (members a) (members b)
+minus_bits a b within = numbers_agree 128 (is_set (bit_and a (bit_not w128 b))) (λ n. has (members a) n && not (has (members b) n)) (λ n below.
+    ap (λ z. z == 1) (bit_at_and a (bit_not w128 b) n ∙ ap (λ z. min (bit_at a n) z) (bit_at_not w128 b n within below))
+    ∙ at_bits (λ x y. min x (1 - y) == 1) (λ x y. (x == 1) && not (y == 1)) refl refl refl refl (bit_at a n) (bit_at b n) (bit_at-lt a n) (bit_at-lt b n)
+    ∙ sym (ap₂ (λ x y. x && not y) (has_members a n below) (has_members b n below)))
+
+pub with_bits : (b n : ℕ) → n < 128 → members (bit_or b (1 * 2 ^ n % 2 ^ 128)) ≡ with_node (members b) n
+with_bits b n within = numbers_agree 128 (is_set (bit_or b (1 * 2 ^ n % 2 ^ 128))) (λ m. (m == n) || has (members b) m) (λ m below. elim (cases_eq m n) [
+  | inl e ↦ ap (λ z. bit_at (bit_or b (1 * 2 ^ n % 2 ^ 128)) z == 1) e ∙ ap (λ z. z == 1) (bit_at_set_same w128 b n within) ∙ sym (ap (λ t. t || has (members b) m) (eq-eqb m n e))
+  | inr other ↦ ap (λ z. z == 1) (bit_at_set_other w128 b n within m other) ∙ sym (has_members b m below) ∙ sym (ap (λ t. t || has (members b) m) (ne_eqb m n other))
+])
+
+pub without_bits : (b n : ℕ) → n < 128 → members (bit_and b (bit_not w128 (1 * 2 ^ n % 2 ^ 128))) ≡ without (members b) n
+without_bits b n within = numbers_agree 128 (is_set (bit_and b (bit_not w128 (1 * 2 ^ n % 2 ^ 128)))) (λ m. not (m == n) && has (members b) m) (λ m below. elim (cases_eq m n) [
+  | inl e ↦ ap (λ z. bit_at (bit_and b (bit_not w128 (1 * 2 ^ n % 2 ^ 128))) z == 1) e ∙ ap (λ z. z == 1) (bit_at_clear_same w128 b n within) ∙ sym (ap (λ t. not t && has (members b) m) (eq-eqb m n e))
+  | inr other ↦ ap (λ z. z == 1) (bit_at_clear_other w128 b n within m below other) ∙ sym (has_members b m below) ∙ sym (ap (λ t. not t && has (members b) m) (ne_eqb m n other))
+])
+
+-- ---- how many, the first and the last
+
+one_of_one : count_ones 1 ≡ 1
+one_of_one = elim (cases_eq (count_ones 1) 0) [ inl e ↦ absurd (let z = zero_from_ones 1 e in omega (arith, z)) | inr other ↦ omega (arith, other, ones_le_self 1) ]
+
+counted_from : (b m a : ℕ) → b / 2 ^ a < 2 ^ m → count_ones (b / 2 ^ a) ≡ length (filter (is_set b) (range_with_len a m))
+counted_from b zero a within = ap count_ones (zero_below_one (b / 2 ^ a) within) ∙ omega (arith, ones_le_self 0)
+counted_from b (suc m) a within =
+    let e = halves b a in
+    let q = b / 2 ^ (a + 1) in
+    let rest : count_ones q ≡ length (filter (is_set b) (range_with_len (a + 1) m)) = counted_from b m (a + 1) (omega (arith, e, within, pow-suc 2 m)) in
+    let both : count_ones (b / 2 ^ a) ≡ count_ones q + count_ones (bit_at b a) = ap count_ones e ∙ ones_cat 1 q (bit_at b a) (bit_at-lt b a) in
+    cond_both (is_set b a) (a ∷ filter (is_set b) (range_with_len (a + 1) m)) (filter (is_set b) (range_with_len (a + 1) m)) (λ s. count_ones (b / 2 ^ a) ≡ length s)
+    (λ t. let one = ap count_ones (eqb-true (bit_at b a) 1 t) ∙ one_of_one in omega (arith, both, rest, one))
+    (λ t. let none = ap count_ones (unset (bit_at b a) (bit_at-lt b a) t) in omega (arith, both, rest, none, ones_le_self 0))
+
+counted_below : (b bound : ℕ) → b < 2 ^ bound → count_ones b ≡ length (numbers_below bound (is_set b))
+unfolding numbers_below
+counted_below b bound within = ap count_ones (sym (whole b)) ∙ counted_from b bound 0 (rw (whole b) within)
+  where
+    whole : (q : ℕ) → q / 2 ^ 0 ≡ q
+    whole q = omega arith
+
+pub counted : (b : ℕ) → b < 2 ^ 128 → count_ones b ≡ length (members b)
+counted b within = counted_below b 128 within
+
+others : (b k : ℕ) → nodes (but (is_set b) k) ≡ without (members b) k
+others b k = numbers_agree 128 (but (is_set b) k) (λ m. not (m == k) && has (members b) m) (λ m below. ap (λ t. not (m == k) && t) (sym (has_members b m below)))
+
+pub first_bit : (b : ℕ) → 0 < b → b < 2 ^ 128 → (members b ≡ trailing_zeros w128 b ∷ without (members b) (trailing_zeros w128 b)) × (trailing_zeros w128 b < 128)
+first_bit b some within =
+    let k = trailing_zeros w128 b in
+    let is = bit_at-trailing_zeros w128 b some within in
+    (first_of 128 (is_set b) k is.0 (ap (λ z. z == 1) is.1) (λ m less. ap (λ z. z == 1) (is.2 m less)) ∙ ap (λ s. k ∷ s) (others b k), is.0)
+
+top_bit : (b j : ℕ) → 2 ^ j ≤ b → b < 2 ^ suc j → b / 2 ^ j ≡ 1
+top_bit b j least most =
+    let low = le-div 1 b (2 ^ j) (pow_pos j) (omega (arith, least)) in
+    let high = div_below b (2 ^ j) 2 (pow_pos j) (omega (arith, most, pow-suc 2 j)) in
+    omega (arith, low, high)
+
+pub last_bit : (b : ℕ) → 0 < b → b < 2 ^ 128 → (members b ≡ without (members b) (127 - leading_zeros w128 b) ++ (127 - leading_zeros w128 b) ∷ []) × (127 - leading_zeros w128 b < 128)
+last_bit b some within =
+    let top = leading_top 128 b some within in
+    let j = top.0 in
+    let at : 127 - leading_zeros w128 b ≡ j = (let e = top.1 in omega (arith, e)) in
+    let below : j < 128 = (let e = top.1 in omega (arith, e)) in
+    let is : is_set b j ≡ true = ap (λ q. q % 2 == 1) (top_bit b j top.2 top.3) in
+    rw at (last_of 128 (is_set b) j below is (λ m more. ap (λ z. z == 1) (bit_at_above b (suc j) m top.3 (omega (arith, more)))) ∙ ap (λ s. s ++ j ∷ []) (others b j), below)
+
+-- ---- between two nodes
+
+powers_rise : (low high : ℕ) → low ≤ high → high < 128 → 1 * 2 ^ low % 2 ^ 128 ≤ 1 * 2 ^ high % 2 ^ 128
+powers_rise low high order within = rw (one_shl low 128 (omega (arith, order, within)), one_shl high 128 within) (pow_mono order)
+
+pub between_rises : (a b : ℕ) → a < 128 → b < 128 → 1 * 2 ^ min a b % 2 ^ 128 ≤ 1 * 2 ^ max a b % 2 ^ 128
+between_rises a b h k = powers_rise (min a b) (max a b) (omega arith) (omega (arith, h, k))
+
+strictly_between : (low high : ℕ) → low ≤ high → high < 128 → members (bit_and ((1 * 2 ^ high % 2 ^ 128) - (1 * 2 ^ low % 2 ^ 128)) (bit_not w128 (1 * 2 ^ low % 2 ^ 128))) ≡ nodes (λ n. nat_lt low n && nat_lt n high)
+strictly_between low high order within =
+    let mask = (1 * 2 ^ high % 2 ^ 128) - (1 * 2 ^ low % 2 ^ 128) in
+    let low_within : low < 128 = omega (arith, order, within) in
+    let is : mask ≡ 2 ^ high - 2 ^ low = ap₂ (λ x y. x - y) (one_shl high 128 within) (one_shl low 128 low_within) in
+    numbers_agree 128 (is_set (bit_and mask (bit_not w128 (1 * 2 ^ low % 2 ^ 128)))) (λ n. nat_lt low n && nat_lt n high) (λ n below. elim (cases_eq n low) [
+      | inl e ↦ ap (λ z. bit_at (bit_and mask (bit_not w128 (1 * 2 ^ low % 2 ^ 128))) z == 1) e ∙ ap (λ z. z == 1) (bit_at_clear_same w128 mask low low_within)
+          ∙ sym (ap (λ t. t && nat_lt n high) (le-ltb low n (omega (arith, e))))
+      | inr other ↦ ap (λ z. z == 1) (bit_at_clear_other w128 mask low low_within n below other ∙ ap (λ z. bit_at z n) is) ∙ inside low high n other
+    ])
+  where
+    inside : (low high n : ℕ) → (n ≡ low → ⊥) → (bit_at (2 ^ high - 2 ^ low) n == 1) ≡ (nat_lt low n && nat_lt n high)
+    inside low high n other = elim (cases_lt n low) [
+      | inl less ↦ ap (λ z. z == 1) (bit_at_mask_below low high n less) ∙ sym (ap (λ t. t && nat_lt n high) (le-ltb low n (omega (arith, less))))
+      | inr more ↦ elim (cases_lt n high) [
+        | inl below ↦ ap (λ z. z == 1) (bit_at_mask_inside low high n more below) ∙ sym (ap₂ (λ x y. x && y) (lt-ltb low n (omega (arith, more, other))) (lt-ltb n high below))
+        | inr above ↦ ap (λ z. z == 1) (bit_at_mask_above low high n above) ∙ sym (ap₂ (λ x y. x && y) (lt-ltb low n (omega (arith, more, other))) (le-ltb n high above))
+      ]
+    ]
+
+pub between_bits : (a b : ℕ) → a < 128 → b < 128 → members (bit_and ((1 * 2 ^ max a b % 2 ^ 128) - (1 * 2 ^ min a b % 2 ^ 128)) (bit_not w128 (1 * 2 ^ min a b % 2 ^ 128))) ≡ between a b
+between_bits a b h k = strictly_between (min a b) (max a b) (omega arith) (omega (arith, h, k))
+
+-- ---- two numbers are equal where they stand for equal lists
+
+pub equal_bits : (a b : ℕ) → a < 2 ^ 128 → b < 2 ^ 128 → (a == b) ≡ pointwise nat_eq (members a) (members b)
+equal_bits a b h k = same_from_decides (a == b) (pointwise nat_eq (members a) (members b))
+    (λ e. ap members (eqb-true a b e), λ e. eq-eqb a b (sym (same_number a 128 h) ∙ ap number e ∙ same_number b 128 k))
+    (bytes_eq-Decides (members a) (members b))

@@ -1,0 +1,10 @@
+use Rattle.std.proofs.Common.{ap, sym, ◌∙◌, arith}
+use Rattle.xdg_nodeset.specs.Bits.{members}
+use Rattle.xdg_nodeset.proofs.Masks.{last_bit, empty_bits}
+use Rattle.xdg_nodeset.proofs.set.NodeSet.last.Goals as goal
+
+pub returns-then-self-eq0 : goal.returns-then-self-eq0
+returns-then-self-eq0 c = sym c.self.view_is ∙ ap members c.if-self-eq0.true ∙ empty_bits
+
+pub returns : goal.returns
+returns c = rw (← c.self.view_is) (last_bit c.self.inside.bits (omega (arith, c.if-self-eq0.false)) c.self.invariant)

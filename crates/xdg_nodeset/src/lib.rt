@@ -1,0 +1,10 @@
+//! Sets of nodes. Contracts see a set as the rising list of its nodes.
+#![tactic(auto)]
+
+mod set;
+#[cfg(test)]
+mod tests;
+mod walk;
+
+pub use set::NodeSet;
+pub use walk::NodeIter;
