@@ -8,7 +8,8 @@ use crate::walk::NodeIter;
 use std::marker::Model;
 use xdg_base::NodeId;
 
-/// A set of nodes, each below 128.
+/// A set of nodes, each below 128, so that a sentence of up to 128 words has room. It is copied as
+/// one number, and no call takes memory.
 #[derive(Clone, Debug)]
 pub struct NodeSet {
     // Bit n tells whether node n is a member.
