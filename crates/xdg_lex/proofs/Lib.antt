@@ -1,0 +1,13 @@
+pub mod Counts
+pub mod Steps
+pub mod Turns
+pub mod Whole
+pub mod Pending
+pub mod Signs
+pub mod Sound
+pub mod Answers
+pub mod Begins
+pub mod Loops
+pub mod Complete
+pub mod Spans
+pub mod Undone

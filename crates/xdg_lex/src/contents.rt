@@ -1,0 +1,42 @@
+//! What tokens stand for.
+
+ghost use Rattle.std.specs.Prelude.{◌≡◌, IfOk};
+ghost use Rattle.std.specs.String.{string_bytes};
+ghost use Rattle.xdg_lex.specs.Contents.{unquoted, content_of};
+
+use crate::token::{Kind, Token};
+use std::alloc::{AllocError, Global};
+use xdg_base::Text;
+
+/// A quoted text without its marks, its escapes undone.
+fn unquoted(alloc: Global, text: &str) -> Result<String, AllocError>
+    ensures { IfOk result (λ made. string_bytes made ≡ unquoted text.now) }
+{
+    let mut made = String::new(alloc);
+    let mut escaped = false;
+    for c in text.chars() {
+        if escaped {
+            made.push(c)?;
+            escaped = false;
+        } else if c == '\\' {
+            escaped = true;
+        } else if c != '"' {
+            made.push(c)?;
+        }
+    }
+    Ok(made)
+}
+
+/// What a token stands for: the inside of a quoted text, where `\"` and `\\` are `"` and `\`, and any other token as it
+/// is spelled. So a name and the quoted text of the same characters have the same content.
+pub fn content(alloc: Global, token: &Token) -> Result<Text, AllocError>
+    ensures { IfOk result (λ text. text ≡ content_of token.now.kind token.now.text.now) }
+{
+    match token.kind {
+        Kind::Quoted => {
+            let inside = unquoted(alloc, token.text)?;
+            Text::from_str(alloc, inside.as_str())
+        }
+        _ => Text::from_str(alloc, token.text),
+    }
+}

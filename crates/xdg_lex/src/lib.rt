@@ -1,0 +1,13 @@
+//! The tokens of a grammar text.
+#![tactic(auto)]
+
+mod contents;
+mod pieces;
+mod reading;
+#[cfg(test)]
+mod tests;
+mod token;
+
+pub use contents::content;
+pub use reading::tokens;
+pub use token::{Kind, Token};
