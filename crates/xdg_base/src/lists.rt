@@ -40,18 +40,21 @@ impl<T> List<T> {
         List { items }
     }
 
+    /// The elements in order, lent.
     pub fn as_slice(&self) -> &[T]
         ensures { result.now ≡ self.now }
     {
         self.items.as_slice()
     }
 
+    /// The number of elements.
     pub fn len(&self) -> usize
         ensures { result ≡ length self.now }
     {
         self.items.len()
     }
 
+    /// Whether there is no element.
     pub fn is_empty(&self) -> bool
         ensures { IsTrue result ↔ (self.now ≡ []) }
     {
@@ -113,6 +116,15 @@ impl Model for Text {
 }
 
 impl Text {
+    /// The text without characters. It takes no memory.
+    pub fn new(alloc: Global) -> Text
+        ensures { result ≡ [] }
+    {
+        Text {
+            characters: String::new(alloc),
+        }
+    }
+
     /// A copy of a text.
     pub fn from_str(alloc: Global, text: &str) -> Result<Text, AllocError>
         ensures { IfOk result (λ made. made ≡ text.now) }
@@ -122,6 +134,7 @@ impl Text {
         })
     }
 
+    /// The characters, lent.
     pub fn as_str(&self) -> &str
         ensures { result.now ≡ self.now }
     {
@@ -186,6 +199,7 @@ impl Bytes {
         Ok(Bytes { bytes })
     }
 
+    /// The bytes in order, lent.
     pub fn as_slice(&self) -> &[u8]
         ensures { result.now ≡ self.now }
     {

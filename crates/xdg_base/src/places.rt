@@ -7,14 +7,18 @@ ghost use Rattle.xdg_base.specs.Places.{is_line_feed, line_of, column_of};
 /// The bytes of a text from `start` up to, but without, `end`.
 #[derive(Clone, Copy, Debug, PartialEq, Eq)]
 pub struct Span {
+    /// The place of the first byte, from 0.
     pub start: u32,
+    /// The place after the last byte, from 0; where there is none, the same as the start.
     pub end: u32,
 }
 
 /// A line, and a byte of that line. Both count from 1.
 #[derive(Clone, Copy, Debug, PartialEq, Eq)]
 pub struct LineColumn {
+    /// The line feeds before the place, and one.
     pub line: u64,
+    /// The bytes of the line before the place, and one.
     pub column: u64,
 }
 

@@ -34,6 +34,7 @@ impl Nums {
         Nums { numbers }
     }
 
+    /// The numbers in order, lent.
     pub fn as_slice(&self) -> &[u16]
         ensures same { result.now ≡ self.now }
         ensures rising { IsStrictlyIncreasing self.now }
