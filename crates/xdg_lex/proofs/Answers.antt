@@ -35,3 +35,7 @@ answered bytes text result e u gives = text_answered bytes result u (subst (λ t
 
 pub no_text_answered : (bytes : List ℕ) (fault : Fault) (at : ℕ) → (IsUtf8 bytes → ⊥) → IsValidUpTo bytes at → refusal causes.BadUtf8 at ≡ fault → Tells bytes (Err (stops.Fault fault))
 no_text_answered bytes fault at none valid e = subst (IsRefused bytes) e (no_text at none valid)
+
+-- a text has one answer
+pub one_answer : (bytes : List ℕ) (one other : Lexed) → IsAnswer bytes one → IsAnswer bytes other → one ≡ other
+one_answer bytes one other a b = sym (answer_read bytes one a) ∙ answer_read bytes other b

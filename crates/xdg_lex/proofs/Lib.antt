@@ -11,3 +11,4 @@ pub mod Loops
 pub mod Complete
 pub mod Spans
 pub mod Undone
+pub mod Within

@@ -1,5 +1,5 @@
 -- What tokens stand for.
-use Rattle.std.specs.Prelude.{ℕ, Bool, true, false, if◌then◌else◌, ◌==◌, List, [], ◌∷◌}
+use Rattle.std.specs.Prelude.{ℕ, ◌+◌, ◌*◌, ◌-◌, min, Bool, true, false, if◌then◌else◌, ◌==◌, List, [], ◌∷◌}
 use Rattle.std.specs.Str.{chars, encode_utf8_all}
 use Rattle.xdg_lex.specs.declared.token.Kind.{Kind}
 use Rattle.xdg_lex.specs.declared.token.Kind.TheVariants as kinds
@@ -19,3 +19,15 @@ unquoted text = encode_utf8_all (undone false (chars text))
 abbrev pub content_of : Kind → List ℕ → List ℕ
 content_of kinds.Quoted text = unquoted text
 content_of kind text = text
+
+-- a number after one more digit, at most 4,294,967,295
+abbrev pub with_digit : ℕ → ℕ → ℕ
+with_digit value digit = min (value * 10 + (digit - 48)) 4294967295
+
+abbrev pub value_from : ℕ → List ℕ → ℕ
+value_from value [] = value
+value_from value (digit ∷ digits) = value_from (with_digit value digit) digits
+
+-- the number that digits write, or 4,294,967,295 where it is greater
+unfoldable pub value_of : List ℕ → ℕ
+value_of digits = value_from 0 digits

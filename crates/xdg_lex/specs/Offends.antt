@@ -1,5 +1,5 @@
 -- The first offence of a text that is no list of tokens.
-use Rattle.std.specs.Prelude.{◌≡◌, Result, Ok, Err, ℕ, ◌+◌, ◌*◌, ◌-◌, ◌<◌, ◌≤◌, ◌==◌, true, false, Option, Some, None, List, [], ◌∷◌, ◌++◌}
+use Rattle.std.specs.Prelude.{◌≡◌, Result, Ok, Err, ℕ, ◌+◌, ◌*◌, ◌-◌, ◌<◌, ◌≤◌, ◌==◌, true, false, Option, Some, None, List, [], ◌∷◌, ◌++◌, length}
 use Rattle.std.specs.Char.{is_whitespace, is_ascii_digit}
 use Rattle.std.specs.Str.{chars, IsUtf8, IsValidUpTo}
 use Rattle.xdg_base.specs.declared.faults.Fault.{Fault}
@@ -61,3 +61,8 @@ abbrev pub Tells : List ℕ → Result (List Token) Stop → Type 0
 Tells bytes (Ok tokens) = Spells bytes (lexemes_of tokens)
 Tells bytes (Err (stops.Fault fault)) = IsRefused bytes fault
 Tells bytes (Err stops.OutOfMemory) = Unit {0}
+
+-- a refusal stands in the text
+abbrev pub StandsWithin : List ℕ → Stop → Type 0
+StandsWithin bytes (stops.Fault fault) = fault.at ≤ length bytes
+StandsWithin bytes stops.OutOfMemory = Unit {0}

@@ -2,7 +2,7 @@
 
 ghost use Rattle.std.specs.Prelude.{◌≡◌, IfOk};
 ghost use Rattle.std.specs.String.{string_bytes};
-ghost use Rattle.xdg_lex.specs.Contents.{unquoted, content_of};
+ghost use Rattle.xdg_lex.specs.Contents.{unquoted, content_of, value_of};
 
 use crate::token::{Kind, Token};
 use std::alloc::{AllocError, Global};
@@ -39,4 +39,18 @@ pub fn content(alloc: Global, token: &Token) -> Result<Text, AllocError>
         }
         _ => Text::from_str(alloc, token.text),
     }
+}
+
+/// The value of a number, at most 4,294,967,295. It is of use for tokens of the kind [`Kind::Number`] alone.
+#[tactic(auto, unfolding(crate::specs::Contents::value_of))]
+pub fn value(token: &Token) -> u32
+    ensures { result ≡ value_of token.now.text.now }
+{
+    let mut value: u32 = 0;
+    for digit in token.text.as_bytes() {
+        value = value
+            .saturating_mul(10)
+            .saturating_add(u32::from(digit.saturating_sub(48)));
+    }
+    value
 }

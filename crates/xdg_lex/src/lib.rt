@@ -8,6 +8,6 @@ mod reading;
 mod tests;
 mod token;
 
-pub use contents::content;
+pub use contents::{content, value};
 pub use reading::tokens;
 pub use token::{Kind, Token};

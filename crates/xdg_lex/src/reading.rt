@@ -1,9 +1,9 @@
 //! The tokens of a text.
 
-ghost use Rattle.std.specs.Prelude.{◌≡◌, ◌≤◌, ◌<◌, ◌+◌, ◌-◌, ◌^◌, length, chars, IfOk};
+ghost use Rattle.std.specs.Prelude.{◌≡◌, ◌≤◌, ◌<◌, ◌+◌, ◌-◌, ◌^◌, length, chars, IfOk, IfErr};
 ghost use Rattle.xdg_lex.specs.Lexed.{Lexed, lexemes_of, lexed, lexed_characters, Gives, Adds};
 ghost use Rattle.xdg_lex.specs.Spans.{StandFrom};
-ghost use Rattle.xdg_lex.specs.Offends.{Tells, IsAnswer};
+ghost use Rattle.xdg_lex.specs.Offends.{Tells, IsAnswer, StandsWithin};
 ghost use Rattle.xdg_lex.specs.Pieces.{ends};
 
 use crate::pieces::{Mode, Turn, begins, ends, goes_on, refusal};
@@ -92,6 +92,7 @@ pub fn tokens<'a>(alloc: Global, bytes: &'a [u8]) -> Result<List<Token<'a>>, Sto
     requires { length bytes.now < 2 ^ 32 }
     ensures tells { Tells bytes.now result }
     ensures stand { IfOk result (λ tokens. StandFrom bytes.now 0 (lexemes_of tokens)) }
+    ensures within { IfErr result (StandsWithin bytes.now) }
     ensures only { (answer : Lexed) → IsAnswer bytes.now answer → Gives answer result }
 {
     read_bytes(alloc, bytes)
