@@ -1,0 +1,3 @@
+pub mod Bared
+pub mod Built
+pub mod Mapped

@@ -1,0 +1,6 @@
+use Rattle.std.proofs.Common.{◌≡◌, map, take, length}
+use Rattle.xdg_ast.specs.Same as bare
+use Rattle.xdg_ast.proofs.comparing.expressions.+expressions.Given as goal
+
+abbrev pub invariant-same_exprs-loop-at : goal.invariant-same_exprs-loop-at
+invariant-same_exprs-loop-at l = (length l.one ≡ length l.other) × (map (bare.bare_part bare.bare_expr) (take l.at l.one) ≡ map (bare.bare_part bare.bare_expr) (take l.at l.other))

@@ -1,0 +1,5 @@
+use Rattle.xdg_ast.proofs.Mapped.{differ_read}
+use Rattle.xdg_ast.proofs.comparing.grammar.same_params.Goals as goal
+
+pub returns-then-not-same_param : goal.returns-then-not-same_param
+returns-then-not-same_param c = differ_read _ _ _ _ _ _ _ c.loop-at-test.true c.index-one-at.is c.index-other-at.is c.same_param.ensures c.if-not-same_param.true

@@ -1,0 +1,8 @@
+use Rattle.std.proofs.Common.{◌≡◌, ℕ, List, take}
+use Rattle.std.specs.BTreeSet.{contains_text}
+use Rattle.xdg_ast.specs.Grammar.{is_among, params_of}
+use Rattle.xdg_ast.proofs.params.Params.of.Given as goal
+
+abbrev pub invariant-loop-param : goal.invariant-loop-param
+invariant-loop-param l = (l.names ≡ params_of (take l.param-index l.params))
+    × ((text : List ℕ) → contains_text l.sorted text ≡ is_among (params_of (take l.param-index l.params)) text)

@@ -1,0 +1,20 @@
+//! The trees of grammar texts.
+#![tactic(auto)]
+
+mod comparing;
+mod expressions;
+mod grammar;
+mod names;
+mod params;
+mod terms;
+#[cfg(test)]
+mod tests;
+mod types;
+
+pub use comparing::same;
+pub use expressions::{Expr, ExprKind};
+pub use grammar::{ClassParam, DimPart, DimPartKind, Grammar, Statement, StatementKind};
+pub use names::{Name, Num, Pair, Spanned};
+pub use params::Params;
+pub use terms::{CardKind, CardTerm, Elem, ElemKind, Gen, GenKind, Term, TermKind};
+pub use types::{TypeKind, TypeTerm};
