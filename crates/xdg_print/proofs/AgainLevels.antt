@@ -1,0 +1,126 @@
+-- What holds of a level of brackets, and what stands in brackets.
+use Rattle.std.proofs.Common.{◌≡◌, ◌≤◌, ℕ, zero, suc, List, [], ◌∷◌, ◌++◌, map, flat_map, Option, true, refl, sym, ap, ◌∙◌, subst, arith}
+use Rattle.xdg_lex.specs.declared.token.Kind.{Kind}
+use Rattle.xdg_lex.specs.declared.token.Kind.TheVariants as k
+use Rattle.xdg_ast.specs.declared.names.Name.{Name}
+use Rattle.xdg_ast.specs.declared.names.Pair.{Pair}
+use Rattle.xdg_ast.specs.declared.terms.GenKind.TheVariants as g
+use Rattle.xdg_ast.specs.declared.expressions.ExprKind.TheVariants as ex
+use Rattle.xdg_ast.specs.declared.types.TypeKind.{TypeKind}
+use Rattle.xdg_ast.specs.Language.{Language, Kinds, is, nested}
+use Rattle.xdg_ast.specs.Grammar.{Params, Term, Elem, Gen, Expr, TypeTerm, Inside, inside, under, conjunction, disjunction, gprim, next_gprim, gen, elems, terms, all_of, any_of, prim, next_prim, expr, type_term, two_types, more_types, braced, principle}
+use Rattle.xdg_ast.specs.Words.{Word, mark, IsSpellable}
+use Rattle.xdg_ast.specs.Trees.{in_braces, gen_phrase, elem_words, term_words, terms_words, pair_words, expr_phrase, type_words}
+use Rattle.xdg_ast.specs.Same.{nowhere, bare_part, bare_name, bare_pair, bare_option, bare_gen, bare_elem, bare_terms, bare_expr, bare_type}
+use Rattle.xdg_print.proofs.AgainTrees.{gen_phrase-And, gen_phrase-Or, bare_gen-And, bare_gen-Or, expr_phrase-And, expr_phrase-Or, bare_expr-And, bare_expr-Or}
+use Rattle.xdg_print.proofs.AgainWritten.{Written, weaker, room_written, Gives, stronger, full_gives, room_gives}
+use Rattle.xdg_print.proofs.AgainNames.{Like, Kept, name_words}
+use Rattle.xdg_print.proofs.AgainKept.{option_words}
+use Rattle.xdg_print.proofs.AgainPhrases.{Joining, Natural}
+
+-- ---- generators and expressions as phrases
+
+abbrev pub gens : Joining Gen Gen
+gens = record {
+  bare = bare_part bare_gen;
+  phrase = λ gen. gen_phrase gen.kind;
+  all = conjunction;
+  any = disjunction;
+  all_one = λ s x. refl;
+  any_one = λ s x. refl;
+  all_phrase = λ s x y xs. gen_phrase-And (x ∷ (y ∷ xs));
+  any_phrase = λ s x y xs. gen_phrase-Or (x ∷ (y ∷ xs));
+  all_bare = λ s s' x y x' y' xs xs' h. ap (λ kind. record { kind = kind; span = nowhere }) (bare_gen-And (x' ∷ (y' ∷ xs')) ∙ (ap g.And h ∙ sym (bare_gen-And (x ∷ (y ∷ xs)))));
+  any_bare = λ s s' x y x' y' xs xs' h. ap (λ kind. record { kind = kind; span = nowhere }) (bare_gen-Or (x' ∷ (y' ∷ xs')) ∙ (ap g.Or h ∙ sym (bare_gen-Or (x ∷ (y ∷ xs)))));
+}
+
+abbrev pub exprs : Params → Joining Expr Expr
+exprs params = record {
+  bare = bare_part bare_expr;
+  phrase = λ expr. expr_phrase params expr.kind;
+  all = all_of;
+  any = any_of;
+  all_one = λ s x. refl;
+  any_one = λ s x. refl;
+  all_phrase = λ s x y xs. expr_phrase-And params (x ∷ (y ∷ xs));
+  any_phrase = λ s x y xs. expr_phrase-Or params (x ∷ (y ∷ xs));
+  all_bare = λ s s' x y x' y' xs xs' h. ap (λ kind. record { kind = kind; span = nowhere }) (bare_expr-And (x' ∷ (y' ∷ xs')) ∙ (ap ex.And h ∙ sym (bare_expr-And (x ∷ (y ∷ xs)))));
+  any_bare = λ s s' x y x' y' xs xs' h. ap (λ kind. record { kind = kind; span = nowhere }) (bare_expr-Or (x' ∷ (y' ∷ xs')) ∙ (ap ex.Or h ∙ sym (bare_expr-Or (x ∷ (y ∷ xs)))));
+}
+
+-- ---- words and parts without places, of what stands in brackets
+
+abbrev pub elems_words : Params → List Elem → List Word
+elems_words params elems = flat_map (λ elem. elem_words params elem.kind) elems
+
+abbrev pub pairs_words : Params → List (Pair Term) → List Word
+pairs_words params pairs = flat_map (pair_words (λ term. term_words params term.kind)) pairs
+
+abbrev pub types_words : List TypeTerm → List Word
+types_words types = flat_map (λ type. type_words type.kind) types
+
+abbrev pub two_words : TypeTerm × TypeTerm → List Word
+two_words types = type_words types.0.kind ++ type_words types.1.kind
+
+abbrev pub bare_two : TypeTerm × TypeTerm → TypeTerm × TypeTerm
+bare_two types = (bare_part bare_type types.0, bare_part bare_type types.1)
+
+abbrev pub Said : Type 0
+Said = List (Pair Name) × Option (List (Pair Term))
+
+abbrev pub said_words : Params → Said → List Word
+said_words params said = (mark k.Dims ∷ in_braces (flat_map (pair_words name_words) said.0)) ++ option_words (λ args. mark k.Args ∷ terms_words params args) said.1
+
+abbrev pub bare_said : Said → Said
+bare_said said = (map (bare_pair bare_name) said.0, bare_option bare_terms said.1)
+
+-- the words of a type in braces are read, where those between the braces are
+pub record GoodBraced (l : Language TypeKind) (type : TypeKind) : Type 0 where
+  pub inner : List Word
+  pub words_are : type_words type ≡ in_braces inner
+  pub read_again : Written l inner (λ y. Like bare_type type_words y type)
+
+-- ---- one level, read at each level that is no deeper
+
+pub record Levels (params : Params) (m : ℕ) : Type 0 where
+  pub gen_is : (n : ℕ) → m ≤ n → Gives (gen (under params m)) (Natural gens (gprim (under params n)) (next_gprim (under params n)))
+  pub elems_is : (n : ℕ) → m ≤ n → Gives (elems params (under params m)) (Kept (elems params (under params n)) (map (bare_part bare_elem)) (elems_words params))
+  pub terms_is : (n : ℕ) → m ≤ n → Gives (terms params (under params m)) (Kept (terms params (under params n)) bare_terms (pairs_words params))
+  pub expr_is : (n : ℕ) → m ≤ n → Gives (expr (under params m)) (Natural (exprs params) (prim (under params n)) (next_prim (under params n)))
+  pub type_is : (n : ℕ) → m ≤ n → Gives (type_term (under params m)) (Kept (type_term (under params n)) (bare_part bare_type) (λ type. type_words type.kind))
+  pub two_is : (n : ℕ) → m ≤ n → Gives (two_types (under params m)) (Kept (two_types (under params n)) bare_two two_words)
+  pub more_is : (n : ℕ) → m ≤ n → Gives (more_types (under params m)) (Kept (more_types (under params n)) (map (bare_part bare_type)) types_words)
+  pub braced_is : (n : ℕ) → m ≤ n → Gives (braced (under params m)) (GoodBraced (braced (under params n)))
+  pub principle_is : (n : ℕ) → m ≤ n → Gives (principle (under params m)) (Kept (principle (under params n)) bare_said (said_words params))
+
+abbrev pub Below : Params → ℕ → Type 0
+Below params zero = Unit {0}
+Below params (suc m) = Levels params m
+
+-- ---- brackets
+
+pub nested_gives : {A : Type 0} (op cl : Kinds) (body : Inside → Language A) (params : Params) (m n : ℕ) → m ≤ n → Below params m → (K : A → Type 0)
+    → ((m' n' : ℕ) → n ≡ suc n' → m' ≤ n' → Levels params m' → Gives (body (inside params (under params m'))) K) → Gives (nested op cl (under params m) body) K
+unfolding under
+nested_gives op cl body params zero n le below K pick = full_gives op cl body K
+nested_gives op cl body params (suc m) zero le below K pick = absurd (omega arith)
+nested_gives op cl body params (suc m) (suc n) le below K pick = room_gives op cl (inside params (under params m)) body K (pick m n refl (omega arith) below)
+
+pub nested_written : {A : Type 0} (op cl : Kind) (body : Inside → Language A) (params : Params) (n n' : ℕ) (ws : List Word) (P : A → Type 0) → n ≡ suc n'
+    → IsSpellable (mark op) → is op op ≡ true → IsSpellable (mark cl) → is cl cl ≡ true → Written (body (inside params (under params n'))) ws P → Written (nested (is op) (is cl) (under params n) body) (mark op ∷ (ws ++ mark cl ∷ [])) P
+unfolding under
+nested_written op cl body params n n' ws P e so io sc ic a =
+    subst (λ i. Written (nested (is op) (is cl) (under params i) body) (mark op ∷ (ws ++ mark cl ∷ [])) P) (sym e) (room_written op cl (inside params (under params n')) body ws P so io sc ic a)
+
+-- what is kept in brackets is kept with them
+pub nested_keeps : {A B : Type 0} (op cl : Kind) (body : Inside → Language A) (params : Params) (m n : ℕ) → m ≤ n → Below params m → (b : A → B) (w : A → List Word)
+    → IsSpellable (mark op) → is op op ≡ true → IsSpellable (mark cl) → is cl cl ≡ true
+    → ((m' n' : ℕ) → m' ≤ n' → Levels params m' → Gives (body (inside params (under params m'))) (Kept (body (inside params (under params n'))) b w))
+    → Gives (nested (is op) (is cl) (under params m) body) (Kept (nested (is op) (is cl) (under params n) body) b (λ x. mark op ∷ (w x ++ mark cl ∷ [])))
+nested_keeps op cl body params m n le below b w so io sc ic pick =
+    nested_gives (is op) (is cl) body params m n le below (Kept (nested (is op) (is cl) (under params n) body) b (λ x. mark op ∷ (w x ++ mark cl ∷ [])))
+    (λ m' n' e l levels. stronger (body (inside params (under params m'))) (Kept (body (inside params (under params n'))) b w) (Kept (nested (is op) (is cl) (under params n) body) b (λ x. mark op ∷ (w x ++ mark cl ∷ [])))
+    (λ x a. nested_written op cl body params n n' (w x) (λ y. Like b (λ z. mark op ∷ (w z ++ mark cl ∷ [])) y x) e so io sc ic
+    (weaker (body (inside params (under params n'))) (w x) (λ y. Like b w y x) (λ y. Like b (λ z. mark op ∷ (w z ++ mark cl ∷ [])) y x)
+    (λ y h. record { bare = h.bare; words = ap (λ ws. mark op ∷ (ws ++ mark cl ∷ [])) h.words }) a))
+    (pick m' n' l levels))

@@ -1,0 +1,220 @@
+-- Kinds, constants and numbers are read again, and lists and pairs of what is.
+use Rattle.std.proofs.Common.{◌≡◌, ◌≤◌, ℕ, zero, suc, Bool, true, false, if◌then◌else◌, List, [], ◌∷◌, map, flat_map, refl, sym, ap, ◌∙◌}
+use Rattle.std.proofs.lemmas.Bool.{eqb-true}
+use Rattle.std.proofs.lemmas.List.Concat.{flat_map_single}
+use Rattle.xdg_lex.specs.declared.token.Kind.{Kind}
+use Rattle.xdg_lex.specs.declared.token.Kind.TheVariants as k
+use Rattle.xdg_lex.specs.Lexed.{Lexeme}
+use Rattle.xdg_lex.specs.Contents.{content_of, value_of}
+use Rattle.xdg_ast.specs.declared.names.Name.{Name}
+use Rattle.xdg_ast.specs.declared.names.Num.{Num}
+use Rattle.xdg_ast.specs.declared.names.Pair.{Pair}
+use Rattle.xdg_ast.specs.Language.{Language, number, is, token, many, both, behind}
+use Rattle.xdg_ast.specs.Grammar.{is_constant, name_of, num_of, name, names, num, nums}
+use Rattle.xdg_ast.specs.Words.{Word, word_of, mark, number as number_word, constant, is_name, IsShortText, IsSpellable}
+use Rattle.xdg_ast.specs.Trees.{name_word, names_words, nums_words, pair_words}
+use Rattle.xdg_ast.specs.Same.{bare_name, bare_names, bare_num, bare_pair}
+use Rattle.xdg_print.proofs.AgainWritten.{Written, weaker, at_words, token_written, made_written, both_written, behind_written, Each, InTurn, many_written, Gives, stronger, token_gives, made_gives, both_gives, behind_gives, many_gives}
+
+-- ---- kinds by their numbers
+
+abbrev kinds : List Kind
+kinds = k.Name ∷ k.Quoted ∷ k.Number ∷ k.DefDim ∷ k.DefType ∷ k.DefLabelType ∷ k.DefAttrsType ∷ k.DefEntryType ∷ k.UsePrinciple ∷ k.Dims ∷ k.Args ∷ k.Output ∷ k.UseOutput ∷ k.DefClass ∷ k.DefEntry ∷ k.Dim ∷ k.UseDim ∷ k.Tuple ∷ k.Set ∷ k.ISet ∷ k.Valency ∷ k.Map ∷ k.Card ∷ k.Bool ∷ k.Int ∷ k.String ∷ k.LeftBrace ∷ k.RightBrace ∷ k.LeftParenthesis ∷ k.RightParenthesis ∷ k.LeftBracket ∷ k.RightBracket ∷ k.Colon ∷ k.Ampersand ∷ k.Bar ∷ k.Dollar ∷ k.Hash ∷ k.Exclamation ∷ k.Question ∷ k.Star ∷ k.Plus ∷ []
+
+abbrev kind_at : List Kind → ℕ → Kind
+kind_at [] i = k.Name
+kind_at (k ∷ ks) zero = k
+kind_at (k ∷ ks) (suc i) = kind_at ks i
+
+at_number : (k : Kind) → kind_at kinds (number k) ≡ k
+at_number k.Name = refl
+at_number k.Quoted = refl
+at_number k.Number = refl
+at_number k.DefDim = refl
+at_number k.DefType = refl
+at_number k.DefLabelType = refl
+at_number k.DefAttrsType = refl
+at_number k.DefEntryType = refl
+at_number k.UsePrinciple = refl
+at_number k.Dims = refl
+at_number k.Args = refl
+at_number k.Output = refl
+at_number k.UseOutput = refl
+at_number k.DefClass = refl
+at_number k.DefEntry = refl
+at_number k.Dim = refl
+at_number k.UseDim = refl
+at_number k.Tuple = refl
+at_number k.Set = refl
+at_number k.ISet = refl
+at_number k.Valency = refl
+at_number k.Map = refl
+at_number k.Card = refl
+at_number k.Bool = refl
+at_number k.Int = refl
+at_number k.String = refl
+at_number k.LeftBrace = refl
+at_number k.RightBrace = refl
+at_number k.LeftParenthesis = refl
+at_number k.RightParenthesis = refl
+at_number k.LeftBracket = refl
+at_number k.RightBracket = refl
+at_number k.Colon = refl
+at_number k.Ampersand = refl
+at_number k.Bar = refl
+at_number k.Dollar = refl
+at_number k.Hash = refl
+at_number k.Exclamation = refl
+at_number k.Question = refl
+at_number k.Star = refl
+at_number k.Plus = refl
+
+-- kinds with one number are one kind
+pub one_kind : (a b : Kind) → is a b ≡ true → a ≡ b
+one_kind a b h = sym (at_number a) ∙ (ap (kind_at kinds) (eqb-true (number a) (number b) h) ∙ at_number b)
+
+pub if_true : {A : Type 0} (b : Bool) (x y : A) → b ≡ true → (if b then x else y) ≡ x
+if_true b x y h = rw h refl
+
+-- ---- two values that differ at most in places
+
+pub record Like {A B W : Type 0} (b : A → B) (w : A → W) (y x : A) : Type 0 where
+  pub bare : b y ≡ b x
+  pub words : w y ≡ w x
+
+pub likes_bare : {A B W : Type 0} (b : A → B) (w : A → W) (ys xs : List A) → InTurn (Like b w) ys xs → map b ys ≡ map b xs
+likes_bare b w [] [] h = refl
+likes_bare b w [] (x ∷ xs) h = absurd h
+likes_bare b w (y ∷ ys) [] h = absurd h
+likes_bare b w (y ∷ ys) (x ∷ xs) h = let e = h.0.bare in let i = likes_bare b w ys xs h.1 in cc
+
+pub likes_map : {A B W : Type 0} (b : A → B) (w : A → W) (ys xs : List A) → InTurn (Like b w) ys xs → map w ys ≡ map w xs
+likes_map b w [] [] h = refl
+likes_map b w [] (x ∷ xs) h = absurd h
+likes_map b w (y ∷ ys) [] h = absurd h
+likes_map b w (y ∷ ys) (x ∷ xs) h = let e = h.0.words in let i = likes_map b w ys xs h.1 in cc
+
+pub likes_words : {A B : Type 0} (b : A → B) (w : A → List Word) (ys xs : List A) → InTurn (Like b w) ys xs → flat_map w ys ≡ flat_map w xs
+likes_words b w [] [] h = refl
+likes_words b w [] (x ∷ xs) h = absurd h
+likes_words b w (y ∷ ys) [] h = absurd h
+likes_words b w (y ∷ ys) (x ∷ xs) h = let e = h.0.words in let i = likes_words b w ys xs h.1 in cc
+
+-- the words of a value are read as one that differs at most in places
+abbrev pub Kept : {A B : Type 0} → Language A → (A → B) → (A → List Word) → A → Type 0
+Kept l b w x = Written l (w x) (λ y. Like b w y x)
+
+pub kept_as : {A B : Type 0} (l : Language A) (b : A → B) (w v : A → List Word) → ((x : A) → w x ≡ v x) → (x : A) → Kept l b w x → Kept l b v x
+kept_as l b w v e x a = weaker l (v x) (λ y. Like b w y x) (λ y. Like b v y x) (λ y i. record { bare = i.bare; words = sym (e y) ∙ (i.words ∙ e x) }) (at_words l (w x) (v x) (λ y. Like b w y x) (e x) a)
+
+pub many_kept : {A B : Type 0} (l : Language A) (b : A → B) (w : A → List Word) (xs : List A) → Each (Kept l b w) xs → Kept (many l) (map b) (flat_map w) xs
+many_kept l b w xs e = weaker (many l) (flat_map w xs) (λ ys. InTurn (Like b w) ys xs) (λ ys. Like (map b) (flat_map w) ys xs)
+    (λ ys i. record { bare = likes_bare b w ys xs i; words = likes_words b w ys xs i }) (many_written l (Like b w) w xs e)
+
+pub many_keeps : {A B : Type 0} (l m : Language A) (b : A → B) (w : A → List Word) → Gives l (Kept m b w) → Gives (many l) (Kept (many m) (map b) (flat_map w))
+many_keeps l m b w a = stronger (many l) (Each (Kept m b w)) (Kept (many m) (map b) (flat_map w)) (λ xs e. many_kept m b w xs e) (many_gives l (Kept m b w) a)
+
+-- ---- constants
+
+pub constant_kind : (v : Bool) → is_constant (if v then k.Name else k.Quoted) ≡ true
+constant_kind true = refl
+constant_kind false = refl
+
+-- a token that says a constant has that text
+pub constant_says : (text : List ℕ) (u : Lexeme) → word_of u ≡ constant text → (is_constant u.kind ≡ true) × (content_of u.kind u.text ≡ text)
+constant_says text u h =
+    let e : is_constant u.kind ≡ true = ap (λ (v : Word). is_constant v.kind) h ∙ constant_kind (is_name text) in
+    (e, sym (if_true (is_constant u.kind) (content_of u.kind u.text) [] e) ∙ ap (λ (v : Word). v.content) h)
+
+short_at : (kind : Kind) (text : List ℕ) → is_constant kind ≡ true
+    → IsSpellable (record { kind = kind; content = if is_constant kind then content_of kind text else []; value = if is k.Number kind then value_of text else 0 }) → IsShortText (content_of kind text)
+short_at k.Name text h s = s.1
+short_at k.Quoted text h s = s.0
+short_at _ text h s = absurd (cc)
+
+pub short_text : (t : Lexeme) → is_constant t.kind ≡ true → IsSpellable (word_of t) → IsShortText (content_of t.kind t.text)
+short_text t h s = short_at t.kind t.text h s
+
+name_at : (kind : Kind) (text : List ℕ) → is k.Name kind ≡ true
+    → IsSpellable (record { kind = kind; content = if is_constant kind then content_of kind text else []; value = if is k.Number kind then value_of text else 0 }) → is_name (content_of kind text) ≡ true
+name_at k.Name text h s = s.0
+name_at _ text h s = absurd (cc)
+
+pub name_text : (t : Lexeme) → is k.Name t.kind ≡ true → IsSpellable (word_of t) → is_name (content_of t.kind t.text) ≡ true
+name_text t h s = name_at t.kind t.text h s
+
+constant_at : (text : List ℕ) (v : Bool) → is_name text ≡ v → IsShortText text → IsSpellable (record { kind = if v then k.Name else k.Quoted; content = text; value = 0 })
+constant_at text true h s = (h, s, refl)
+constant_at text false h s = (s, refl)
+
+pub constant_spellable : (text : List ℕ) → IsShortText text → IsSpellable (constant text)
+constant_spellable text s = constant_at text (is_name text) refl s
+
+pub name_gives : Gives name (λ n. IsShortText n.text)
+unfolding name
+name_gives = made_gives name_of (token is_constant) (λ t. IsShortText (content_of t.kind t.text)) (λ n. IsShortText n.text) (token_gives is_constant _ short_text) (λ t s. s)
+
+pub name_written : (n : Name) → IsShortText n.text → Written name (name_word n ∷ []) (λ m. m.text ≡ n.text)
+unfolding name
+name_written n s = made_written name_of (token is_constant) (name_word n ∷ []) (λ u. word_of u ≡ constant n.text) (λ m. m.text ≡ n.text)
+    (token_written is_constant (constant n.text) (constant_spellable n.text s) (constant_kind (is_name n.text))) (λ u h. (constant_says n.text u h).1)
+
+abbrev pub name_words : Name → List Word
+name_words n = name_word n ∷ []
+
+pub same_text : (m n : Name) → m.text ≡ n.text → Like bare_name name_words m n
+same_text m n h = record { bare = ap (λ text. record { text = text; span = record { start = 0; end = 0 } }) h; words = ap (λ text. constant text ∷ []) h }
+
+pub name_keeps : Gives name (Kept name bare_name name_words)
+name_keeps = stronger name (λ n. IsShortText n.text) (Kept name bare_name name_words)
+    (λ n s. weaker name (name_words n) (λ m. m.text ≡ n.text) (λ m. Like bare_name name_words m n) (λ m h. same_text m n h) (name_written n s)) name_gives
+
+pub names_keeps : Gives names (Kept names bare_names names_words)
+unfolding names
+names_keeps = stronger names (Kept names bare_names (flat_map name_words)) (Kept names bare_names names_words) (kept_as names bare_names (flat_map name_words) names_words (flat_map_single name_word)) (many_keeps name name bare_name name_words name_keeps)
+
+-- ---- numbers
+
+number_at : (kind : Kind) (text : List ℕ) → is k.Number kind ≡ true
+    → IsSpellable (record { kind = kind; content = if is_constant kind then content_of kind text else []; value = if is k.Number kind then value_of text else 0 }) → value_of text ≤ 4294967295
+number_at k.Number text h s = s.1
+number_at _ text h s = absurd (cc)
+
+pub small_value : (t : Lexeme) → is k.Number t.kind ≡ true → IsSpellable (word_of t) → value_of t.text ≤ 4294967295
+small_value t h s = number_at t.kind t.text h s
+
+-- a token that says a number has that value
+pub number_says : (n : ℕ) (u : Lexeme) → word_of u ≡ number_word n → value_of u.text ≡ n
+number_says n u h =
+    let e : is k.Number u.kind ≡ true = ap (λ (v : Word). is k.Number v.kind) h in
+    sym (if_true (is k.Number u.kind) (value_of u.text) 0 e) ∙ ap (λ (v : Word). v.value) h
+
+pub number_written : (n : ℕ) → n ≤ 4294967295 → Written (token (is k.Number)) (number_word n ∷ []) (λ u. value_of u.text ≡ n)
+number_written n s = weaker (token (is k.Number)) (number_word n ∷ []) (λ u. word_of u ≡ number_word n) (λ u. value_of u.text ≡ n) (λ u h. number_says n u h) (token_written (is k.Number) (number_word n) (refl, s) refl)
+
+abbrev pub num_words : Num → List Word
+num_words n = number_word n.value ∷ []
+
+pub num_keeps : Gives num (Kept num bare_num num_words)
+unfolding num
+num_keeps = made_gives num_of (token (is k.Number)) (λ t. value_of t.text ≤ 4294967295) (Kept num bare_num num_words) (token_gives (is k.Number) _ small_value)
+    (λ t s. made_written num_of (token (is k.Number)) (number_word (value_of t.text) ∷ []) (λ u. value_of u.text ≡ value_of t.text) (λ m. Like bare_num num_words m (num_of t)) (number_written (value_of t.text) s)
+    (λ u h. record { bare = ap (λ n. record { value = n; span = record { start = 0; end = 0 } }) h; words = ap (λ n. number_word n ∷ []) h }))
+
+pub nums_keeps : Gives nums (Kept nums (map bare_num) nums_words)
+unfolding nums
+nums_keeps = stronger nums (Kept nums (map bare_num) (flat_map num_words)) (Kept nums (map bare_num) nums_words) (kept_as nums (map bare_num) (flat_map num_words) nums_words (flat_map_single (λ (n : Num). number_word n.value))) (many_keeps num num bare_num num_words num_keeps)
+
+-- ---- pairs of a constant and a value
+
+abbrev pub keyed : {A : Type 0} → Language A → Language (Pair A)
+keyed l = both (λ key value. record { key = key; value = value }) name (behind (token (is k.Colon)) l)
+
+pub keyed_keeps : {A : Type 0} (l m : Language A) (b : A → A) (w : A → List Word) → Gives l (Kept m b w) → Gives (keyed l) (Kept (keyed m) (bare_pair b) (pair_words w))
+keyed_keeps l m b w a = both_gives (λ key value. record { key = key; value = value }) name (behind (token (is k.Colon)) l) (Kept name bare_name name_words) (Kept m b w) (Kept (keyed m) (bare_pair b) (pair_words w))
+    name_keeps (behind_gives (token (is k.Colon)) l (Kept m b w) a)
+    (λ n x g h. both_written (λ key value. record { key = key; value = value }) name (behind (token (is k.Colon)) m) (name_words n) (mark k.Colon ∷ w x) (λ n'. Like bare_name name_words n' n) (λ x'. Like b w x' x)
+    (λ pair. Like (bare_pair b) (pair_words w) pair (record { key = n; value = x })) g (behind_written k.Colon m (w x) (λ x'. Like b w x' x) (refl, refl) refl h)
+    (λ n' x' i j. let e = i.bare in let d = i.words in let c = j.bare in let f = j.words in
+    let s : name_word n' ≡ name_word n = cc in
+    record { bare = (cc); words = (cc) }))

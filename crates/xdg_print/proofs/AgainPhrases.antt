@@ -1,0 +1,231 @@
+-- Conjunctions and disjunctions are read again, with the brackets that they need.
+use Rattle.std.proofs.Common.{◌≡◌, List, [], ◌∷◌, ◌++◌, map, flat_map, refl, sym, ap, ◌∙◌, subst}
+use Rattle.std.proofs.lemmas.List.{append-nil}
+use Rattle.xdg_base.specs.declared.places.Span.{Span}
+use Rattle.xdg_lex.specs.declared.token.Kind.{Kind}
+use Rattle.xdg_lex.specs.declared.token.Kind.TheVariants as k
+use Rattle.xdg_lex.specs.Lexed.{Lexeme}
+use Rattle.xdg_ast.specs.declared.names.Spanned.{Spanned}
+use Rattle.xdg_ast.specs.Language.{Language, is, token, many, spanned, made, behind, chain}
+use Rattle.xdg_ast.specs.Grammar.{at_span}
+use Rattle.xdg_ast.specs.Words.{Word, mark}
+use Rattle.xdg_ast.specs.Trees.{in_parentheses, Form, single, conjunction, disjunction, Phrase, in_conjunction, in_disjunction, each_behind, separated, conjoined, disjoined, plainly}
+use Rattle.xdg_print.proofs.AgainWritten.{Written, at_words, both_written, behind_written, spanned_written, made_written, written_in, Each, InTurn, many_written, no_tokens, Gives, both_gives, behind_gives, many_gives, spanned_gives, made_gives}
+use Rattle.xdg_print.proofs.AgainNames.{Like, Kept, likes_bare, likes_map}
+
+-- how members are joined
+pub record Joining (A B : Type 0) : Type 0 where
+  pub bare : A → B
+  pub phrase : A → Phrase
+  pub all : Span → List A → A
+  pub any : Span → List A → A
+  pub all_one : (s : Span) (x : A) → all s (x ∷ []) ≡ x
+  pub any_one : (s : Span) (x : A) → any s (x ∷ []) ≡ x
+  pub all_phrase : (s : Span) (x y : A) (xs : List A) → phrase (all s (x ∷ (y ∷ xs))) ≡ conjoined (map phrase (x ∷ (y ∷ xs)))
+  pub any_phrase : (s : Span) (x y : A) (xs : List A) → phrase (any s (x ∷ (y ∷ xs))) ≡ disjoined (map phrase (x ∷ (y ∷ xs)))
+  pub all_bare : (s s' : Span) (x y x' y' : A) (xs xs' : List A) → map bare (x' ∷ (y' ∷ xs')) ≡ map bare (x ∷ (y ∷ xs)) → bare (all s' (x' ∷ (y' ∷ xs'))) ≡ bare (all s (x ∷ (y ∷ xs)))
+  pub any_bare : (s s' : Span) (x y x' y' : A) (xs xs' : List A) → map bare (x' ∷ (y' ∷ xs')) ≡ map bare (x ∷ (y ∷ xs)) → bare (any s' (x' ∷ (y' ∷ xs'))) ≡ bare (any s (x ∷ (y ∷ xs)))
+
+abbrev pub conj_of : {A B : Type 0} → Joining A B → Language A → Language A → Language A
+conj_of j p np = spanned j.all (chain p np)
+
+abbrev pub next_of : {A B : Type 0} → Joining A B → Language A → Language A → Language A
+next_of j p np = behind (token (is k.Bar)) (conj_of j p np)
+
+abbrev pub disj_of : {A B : Type 0} → Joining A B → Language A → Language A → Language A
+disj_of j p np = spanned j.any (chain (conj_of j p np) (next_of j p np))
+
+abbrev pub Alike : {A B : Type 0} → Joining A B → A → A → Type 0
+Alike j y x = Like j.bare j.phrase y x
+
+-- the words of a phrase, without brackets around it, are read by the rule of its form
+abbrev pub natural : {A : Type 0} → Language A → Language A → Language A → Form → List Word → (A → Type 0) → Type 0
+natural p c d single ws P = Written p ws P
+natural p c d conjunction ws P = Written c ws P
+natural p c d disjunction ws P = Written d ws P
+
+abbrev pub Natural : {A B : Type 0} → Joining A B → Language A → Language A → A → Type 0
+Natural j p np x = natural p (conj_of j p np) (disj_of j p np) (j.phrase x).form (j.phrase x).words (λ y. Alike j y x)
+
+-- and it is read as a member of a conjunction
+pub record GoodPrim {A B : Type 0} (j : Joining A B) (p np : Language A) (x : A) : Type 0 where
+  pub bare_words : Natural j p np x
+  pub as_member : Written p (in_conjunction (j.phrase x)) (λ y. Alike j y x)
+
+-- and as a member of a disjunction
+pub record GoodConj {A B : Type 0} (j : Joining A B) (p np : Language A) (x : A) : Type 0 where
+  pub bare_words : Natural j p np x
+  pub as_member : Written (conj_of j p np) (in_disjunction (j.phrase x)) (λ y. Alike j y x)
+
+-- ---- chains
+
+flat_behind : {A : Type 0} (sign : Kind) (f : A → List Word) (xs : List A) → flat_map (λ x. mark sign ∷ f x) xs ≡ each_behind sign (map f xs)
+flat_behind sign f [] = refl
+flat_behind sign f (x ∷ xs) = ap (λ ws. mark sign ∷ (f x ++ ws)) (flat_behind sign f xs)
+
+each_next : {A : Type 0} (l m : Language A) (sign : Kind) (f : A → List Word) (R : A → A → Type 0) → ((ws : List Word) (P : A → Type 0) → Written l ws P → Written m (mark sign ∷ ws) P)
+    → (xs : List A) → Each (λ x. Written l (f x) (λ y. R y x)) xs → Each (λ x. Written m (mark sign ∷ f x) (λ y. R y x)) xs
+each_next l m sign f R next [] e = tt
+each_next l m sign f R next (x ∷ xs) e = (next (f x) (λ y. R y x) e.0, each_next l m sign f R next xs e.1)
+
+-- members with a sign between two of them
+chain_written : {A : Type 0} (l m : Language A) (sign : Kind) (f : A → List Word) (R : A → A → Type 0) → ((ws : List Word) (P : A → Type 0) → Written l ws P → Written m (mark sign ∷ ws) P)
+    → (x : A) (xs : List A) → Each (λ y. Written l (f y) (λ z. R z y)) (x ∷ xs) → Written (chain l m) (separated sign (map f (x ∷ xs))) (λ ys. InTurn R ys (x ∷ xs))
+chain_written l m sign f R next x xs e = at_words (chain l m) (f x ++ flat_map (λ y. mark sign ∷ f y) xs) (separated sign (map f (x ∷ xs))) (λ ys. InTurn R ys (x ∷ xs)) (ap (λ ws. f x ++ ws) (flat_behind sign f xs))
+    (both_written (λ y ys. y ∷ ys) l (many m) (f x) (flat_map (λ y. mark sign ∷ f y) xs) (λ y. R y x) (λ ys. InTurn R ys xs) (λ ys. InTurn R ys (x ∷ xs)) e.0
+    (many_written m R (λ y. mark sign ∷ f y) xs (each_next l m sign f R next xs e.1)) (λ y ys h i. (h, i)))
+
+-- a chain of one member
+one_written : {A : Type 0} (l m : Language A) (f : Span → List A → A) → ((s : Span) (x : A) → f s (x ∷ []) ≡ x) → (ws : List Word) (P : A → Type 0) → Written l ws P → Written (spanned f (chain l m)) ws P
+one_written {A} l m f one ws P a = spanned_written f (chain l m) ws (λ xs. (x : A) × (xs ≡ x ∷ []) × P x) P
+    (at_words (chain l m) (ws ++ []) ws (λ xs. (x : A) × (xs ≡ x ∷ []) × P x) (append-nil ws)
+    (both_written (λ y ys. y ∷ ys) l (many m) ws [] P (λ ys. ys ≡ []) (λ xs. (x : A) × (xs ≡ x ∷ []) × P x) a
+    (record { spellable = tt; again = λ us i. ([], no_tokens us i, refl) }) (λ y ys h i. (y, ap (λ zs. y ∷ zs) i, h))))
+    (λ s xs h. subst P (sym (ap (f s) h.1 ∙ one s h.0)) h.2)
+
+-- ---- one level
+
+module _ {A B : Type 0} (j : Joining A B) (p np : Language A) (next : (ws : List Word) (P : A → Type 0) → Written p ws P → Written np (mark k.Ampersand ∷ ws) P) where
+  pub prim_as_conj : (ws : List Word) (P : A → Type 0) → Written p ws P → Written (conj_of j p np) ws P
+  prim_as_conj ws P a = one_written p np j.all j.all_one ws P a
+
+  pub conj_as_disj : (ws : List Word) (P : A → Type 0) → Written (conj_of j p np) ws P → Written (disj_of j p np) ws P
+  conj_as_disj ws P a = one_written (conj_of j p np) (next_of j p np) j.any j.any_one ws P a
+
+  bar : (ws : List Word) (P : A → Type 0) → Written (conj_of j p np) ws P → Written (next_of j p np) (mark k.Bar ∷ ws) P
+  bar ws P a = behind_written k.Bar (conj_of j p np) ws P (refl, refl) refl a
+
+  -- the words of any phrase are read as a disjunction
+  as_disj_at : (form : Form) (ws : List Word) (P : A → Type 0) → natural p (conj_of j p np) (disj_of j p np) form ws P → Written (disj_of j p np) ws P
+  as_disj_at single ws P a = conj_as_disj ws P (prim_as_conj ws P a)
+  as_disj_at conjunction ws P a = conj_as_disj ws P a
+  as_disj_at disjunction ws P a = a
+
+  pub as_disj : (x : A) → Natural j p np x → Written (disj_of j p np) (j.phrase x).words (λ y. Alike j y x)
+  as_disj x a = as_disj_at (j.phrase x).form (j.phrase x).words (λ y. Alike j y x) a
+
+  in_brackets_at : (form : Form) (ws : List Word) (P : A → Type 0) → natural p (conj_of j p np) (disj_of j p np) form ws P → Written p (in_parentheses ws) P → Written p (in_conjunction (record { form = form; words = ws })) P
+  in_brackets_at single ws P a b = a
+  in_brackets_at conjunction ws P a b = b
+  in_brackets_at disjunction ws P a b = b
+
+  -- a phrase that stood in brackets
+  pub in_brackets : (x : A) → Natural j p np x → Written p (in_parentheses (j.phrase x).words) (λ y. Alike j y x) → GoodPrim j p np x
+  in_brackets x a b = record { bare_words = a; as_member = in_brackets_at (j.phrase x).form (j.phrase x).words (λ y. Alike j y x) a b }
+
+  plain_at : (ph : Phrase) (P : A → Type 0) (ws : List Word) → ph ≡ plainly ws → Written p ws P → natural p (conj_of j p np) (disj_of j p np) ph.form ph.words P × Written p (in_conjunction ph) P
+  plain_at ph P ws e a = subst (λ (q : Phrase). natural p (conj_of j p np) (disj_of j p np) q.form q.words P × Written p (in_conjunction q) P) (sym e) (a, a)
+
+  -- a phrase of one part
+  pub plain_good : (x : A) (ws : List Word) → j.phrase x ≡ plainly ws → Written p ws (λ y. Alike j y x) → GoodPrim j p np x
+  plain_good x ws e a = let h = plain_at (j.phrase x) (λ y. Alike j y x) ws e a in record { bare_words = h.0; as_member = h.1 }
+
+  one_conj_at : (form : Form) (ws : List Word) (P : A → Type 0) → natural p (conj_of j p np) (disj_of j p np) form ws P → Written p (in_conjunction (record { form = form; words = ws })) P
+      → Written (conj_of j p np) (in_disjunction (record { form = form; words = ws })) P
+  one_conj_at single ws P a b = prim_as_conj ws P a
+  one_conj_at conjunction ws P a b = a
+  one_conj_at disjunction ws P a b = prim_as_conj (in_parentheses ws) P b
+
+  one_conj : (x : A) → GoodPrim j p np x → GoodConj j p np x
+  one_conj x a = record { bare_words = a.bare_words; as_member = one_conj_at (j.phrase x).form (j.phrase x).words (λ y. Alike j y x) a.bare_words a.as_member }
+
+  -- what is alike in turn makes what is alike
+  joined_all : (s s' : Span) (x y : A) (xs zs : List A) → InTurn (Alike j) zs (x ∷ (y ∷ xs)) → Alike j (j.all s' zs) (j.all s (x ∷ (y ∷ xs)))
+  joined_all s s' x y xs [] h = absurd h
+  joined_all s s' x y xs (x' ∷ []) h = absurd h.1
+  joined_all s s' x y xs (x' ∷ (y' ∷ xs')) h = record {
+    bare = j.all_bare s s' x y x' y' xs xs' (likes_bare j.bare j.phrase (x' ∷ (y' ∷ xs')) (x ∷ (y ∷ xs)) h);
+    words = j.all_phrase s' x' y' xs' ∙ (ap conjoined (likes_map j.bare j.phrase (x' ∷ (y' ∷ xs')) (x ∷ (y ∷ xs)) h) ∙ sym (j.all_phrase s x y xs));
+  }
+
+  joined_any : (s s' : Span) (x y : A) (xs zs : List A) → InTurn (Alike j) zs (x ∷ (y ∷ xs)) → Alike j (j.any s' zs) (j.any s (x ∷ (y ∷ xs)))
+  joined_any s s' x y xs [] h = absurd h
+  joined_any s s' x y xs (x' ∷ []) h = absurd h.1
+  joined_any s s' x y xs (x' ∷ (y' ∷ xs')) h = record {
+    bare = j.any_bare s s' x y x' y' xs xs' (likes_bare j.bare j.phrase (x' ∷ (y' ∷ xs')) (x ∷ (y ∷ xs)) h);
+    words = j.any_phrase s' x' y' xs' ∙ (ap disjoined (likes_map j.bare j.phrase (x' ∷ (y' ∷ xs')) (x ∷ (y ∷ xs)) h) ∙ sym (j.any_phrase s x y xs));
+  }
+
+  prim_members : (xs : List A) → Each (GoodPrim j p np) xs → Each (λ x. Written p (in_conjunction (j.phrase x)) (λ y. Alike j y x)) xs
+  prim_members [] e = tt
+  prim_members (x ∷ xs) e = (e.0.as_member, prim_members xs e.1)
+
+  conj_members : (xs : List A) → Each (GoodConj j p np) xs → Each (λ x. Written (conj_of j p np) (in_disjunction (j.phrase x)) (λ y. Alike j y x)) xs
+  conj_members [] e = tt
+  conj_members (x ∷ xs) e = (e.0.as_member, conj_members xs e.1)
+
+  map_twice : (f : Phrase → List Word) (xs : List A) → map (λ x. f (j.phrase x)) xs ≡ map f (map j.phrase xs)
+  map_twice f [] = refl
+  map_twice f (x ∷ xs) = ap (λ ws. f (j.phrase x) ∷ ws) (map_twice f xs)
+
+  several_conj : (s : Span) (x y : A) (xs : List A) → Each (GoodPrim j p np) (x ∷ (y ∷ xs)) → Written (conj_of j p np) (conjoined (map j.phrase (x ∷ (y ∷ xs)))).words (λ z. Alike j z (j.all s (x ∷ (y ∷ xs))))
+  several_conj s x y xs e = spanned_written j.all (chain p np) (conjoined (map j.phrase (x ∷ (y ∷ xs)))).words (λ zs. InTurn (Alike j) zs (x ∷ (y ∷ xs))) (λ z. Alike j z (j.all s (x ∷ (y ∷ xs))))
+      (at_words (chain p np) (separated k.Ampersand (map (λ x. in_conjunction (j.phrase x)) (x ∷ (y ∷ xs)))) _ (λ zs. InTurn (Alike j) zs (x ∷ (y ∷ xs))) (ap (separated k.Ampersand) (map_twice in_conjunction (x ∷ (y ∷ xs))))
+      (chain_written p np k.Ampersand (λ x. in_conjunction (j.phrase x)) (Alike j) next x (y ∷ xs) (prim_members (x ∷ (y ∷ xs)) e)))
+      (λ s' zs h. joined_all s s' x y xs zs h)
+
+  several_disj : (s : Span) (x y : A) (xs : List A) → Each (GoodConj j p np) (x ∷ (y ∷ xs)) → Written (disj_of j p np) (disjoined (map j.phrase (x ∷ (y ∷ xs)))).words (λ z. Alike j z (j.any s (x ∷ (y ∷ xs))))
+  several_disj s x y xs e = spanned_written j.any (chain (conj_of j p np) (next_of j p np)) (disjoined (map j.phrase (x ∷ (y ∷ xs)))).words (λ zs. InTurn (Alike j) zs (x ∷ (y ∷ xs))) (λ z. Alike j z (j.any s (x ∷ (y ∷ xs))))
+      (at_words (chain (conj_of j p np) (next_of j p np)) (separated k.Bar (map (λ x. in_disjunction (j.phrase x)) (x ∷ (y ∷ xs)))) _ (λ zs. InTurn (Alike j) zs (x ∷ (y ∷ xs))) (ap (separated k.Bar) (map_twice in_disjunction (x ∷ (y ∷ xs))))
+      (chain_written (conj_of j p np) (next_of j p np) k.Bar (λ x. in_disjunction (j.phrase x)) (Alike j) bar x (y ∷ xs) (conj_members (x ∷ (y ∷ xs)) e)))
+      (λ s' zs h. joined_any s s' x y xs zs h)
+
+  phrase_conj : (ph : Phrase) (P : A → Type 0) (ps : List Phrase) → ph ≡ conjoined ps → Written (conj_of j p np) (conjoined ps).words P → natural p (conj_of j p np) (disj_of j p np) ph.form ph.words P × Written (conj_of j p np) (in_disjunction ph) P
+  phrase_conj ph P ps e a = subst (λ (q : Phrase). natural p (conj_of j p np) (disj_of j p np) q.form q.words P × Written (conj_of j p np) (in_disjunction q) P) (sym e) (a, a)
+
+  phrase_disj : (ph : Phrase) (P : A → Type 0) (ps : List Phrase) → ph ≡ disjoined ps → Written (disj_of j p np) (disjoined ps).words P → natural p (conj_of j p np) (disj_of j p np) ph.form ph.words P
+  phrase_disj ph P ps e a = subst (λ (q : Phrase). natural p (conj_of j p np) (disj_of j p np) q.form q.words P) (sym e) a
+
+  conj_good : (s : Span) (x : A) (xs : List A) → Each (GoodPrim j p np) (x ∷ xs) → GoodConj j p np (j.all s (x ∷ xs))
+  conj_good s x [] e = subst (GoodConj j p np) (sym (j.all_one s x)) (one_conj x e.0)
+  conj_good s x (y ∷ xs) e =
+      let h = phrase_conj (j.phrase (j.all s (x ∷ (y ∷ xs)))) (λ z. Alike j z (j.all s (x ∷ (y ∷ xs)))) (map j.phrase (x ∷ (y ∷ xs))) (j.all_phrase s x y xs) (several_conj s x y xs e) in
+      record { bare_words = h.0; as_member = h.1 }
+
+  disj_good : (s : Span) (x : A) (xs : List A) → Each (GoodConj j p np) (x ∷ xs) → Natural j p np (j.any s (x ∷ xs))
+  disj_good s x [] e = subst (Natural j p np) (sym (j.any_one s x)) e.0.bare_words
+  disj_good s x (y ∷ xs) e = phrase_disj (j.phrase (j.any s (x ∷ (y ∷ xs)))) (λ z. Alike j z (j.any s (x ∷ (y ∷ xs)))) (map j.phrase (x ∷ (y ∷ xs))) (j.any_phrase s x y xs) (several_disj s x y xs e)
+
+  abbrev Several : (A → Type 0) → List A → Type 0
+  Several G [] = ⊥
+  Several G (x ∷ xs) = Each G (x ∷ xs)
+
+  all_good : (s : Span) (xs : List A) → Several (GoodPrim j p np) xs → GoodConj j p np (j.all s xs)
+  all_good s [] e = absurd e
+  all_good s (x ∷ xs) e = conj_good s x xs e
+
+  any_good : (s : Span) (xs : List A) → Several (GoodConj j p np) xs → Natural j p np (j.any s xs)
+  any_good s [] e = absurd e
+  any_good s (x ∷ xs) e = disj_good s x xs e
+
+  -- what the rules read, where a member was read
+  pub conj_gives : (q nq : Language A) → Gives q (GoodPrim j p np) → Gives nq (GoodPrim j p np) → Gives (conj_of j q nq) (GoodConj j p np)
+  conj_gives q nq a b = spanned_gives j.all (chain q nq) (Several (GoodPrim j p np)) (GoodConj j p np)
+      (both_gives (λ x xs. x ∷ xs) q (many nq) (GoodPrim j p np) (Each (GoodPrim j p np)) (Several (GoodPrim j p np)) a (many_gives nq (GoodPrim j p np) b) (λ x xs g h. (g, h))) all_good
+
+  pub disj_gives : (q nq : Language A) → Gives q (GoodPrim j p np) → Gives nq (GoodPrim j p np) → Gives (disj_of j q nq) (Natural j p np)
+  disj_gives q nq a b =
+      let c = conj_gives q nq a b in
+      spanned_gives j.any (chain (conj_of j q nq) (next_of j q nq)) (Several (GoodConj j p np)) (Natural j p np)
+      (both_gives (λ x xs. x ∷ xs) (conj_of j q nq) (many (next_of j q nq)) (GoodConj j p np) (Each (GoodConj j p np)) (Several (GoodConj j p np)) c
+      (many_gives (next_of j q nq) (GoodConj j p np) (behind_gives (token (is k.Bar)) (conj_of j q nq) (GoodConj j p np) c)) (λ x xs g h. (g, h))) any_good
+
+-- ---- members of one part
+
+module _ {K B A' B' : Type 0} (j : Joining (Spanned K) B) (p np : Language (Spanned K)) (next : (ws : List Word) (P : Spanned K → Type 0) → Written p ws P → Written np (mark k.Ampersand ∷ ws) P)
+    (f : A' → K) (l l' : Language A') (b : A' → B') (w : A' → List Word) (phrase_is : (s : Span) (x : A') → j.phrase (at_span s (f x)) ≡ plainly (w x))
+    (bare_is : (s s' : Span) (x y : A') → b y ≡ b x → j.bare (at_span s' (f y)) ≡ j.bare (at_span s (f x))) (incl : (ts : List Lexeme) (y : Spanned K) → (spanned at_span (made f l')).means ts y → p.means ts y) where
+  made_alike : (s s' : Span) (x y : A') → Like b w y x → Alike j (at_span s' (f y)) (at_span s (f x))
+  made_alike s s' x y h = record { bare = bare_is s s' x y h.bare; words = phrase_is s' y ∙ (ap plainly h.words ∙ sym (phrase_is s x)) }
+
+  made_good : (s : Span) (x : A') → Kept l' b w x → GoodPrim j p np (at_span s (f x))
+  made_good s x h = plain_good j p np next (at_span s (f x)) (w x) (phrase_is s x)
+      (written_in (spanned at_span (made f l')) p (w x) (λ y. Alike j y (at_span s (f x))) incl
+      (spanned_written at_span (made f l') (w x) (λ v. (y : A') × (v ≡ f y) × Like b w y x) (λ y. Alike j y (at_span s (f x)))
+      (made_written f l' (w x) (λ y. Like b w y x) (λ v. (y : A') × (v ≡ f y) × Like b w y x) h (λ y i. (y, refl, i)))
+      (λ s' v i. subst (λ z. Alike j (at_span s' z) (at_span s (f x))) (sym i.1) (made_alike s s' x i.0 i.2))))
+
+  pub plain_gives : Gives l (Kept l' b w) → Gives (spanned at_span (made f l)) (GoodPrim j p np)
+  plain_gives a = spanned_gives at_span (made f l) (λ kind. (x : A') × (kind ≡ f x) × Kept l' b w x) (GoodPrim j p np)
+      (made_gives f l (Kept l' b w) (λ kind. (x : A') × (kind ≡ f x) × Kept l' b w x) a (λ x h. (x, refl, h)))
+      (λ s kind h. subst (λ v. GoodPrim j p np (at_span s v)) (sym h.1) (made_good s h.0 h.2))

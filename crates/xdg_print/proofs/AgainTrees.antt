@@ -1,0 +1,245 @@
+-- The words of trees, and trees without their places, a form at a time.
+use Rattle.std.proofs.Common.{◌≡◌, ℕ, List, [], ◌∷◌, ◌++◌, map, flat_map, Option, refl, sym, ap, ◌∙◌}
+use Rattle.std.proofs.lemmas.List.Folds.{flat_map-map}
+use Rattle.xdg_lex.specs.declared.token.Kind.TheVariants as k
+use Rattle.xdg_ast.specs.declared.names.Name.{Name}
+use Rattle.xdg_ast.specs.declared.names.Pair.{Pair}
+use Rattle.xdg_ast.specs.declared.names.Spanned.{Spanned}
+use Rattle.xdg_ast.specs.declared.types.TypeKind.{TypeKind}
+use Rattle.xdg_ast.specs.declared.types.TypeKind.TheVariants as y
+use Rattle.xdg_ast.specs.declared.types.TypeKind.TheOpen.{TypeKind-F}
+use Rattle.xdg_ast.specs.declared.types.TypeKind.TheFolds.{fold-roll-TypeKind}
+use Rattle.xdg_ast.specs.declared.terms.TermKind.{TermKind}
+use Rattle.xdg_ast.specs.declared.terms.TermKind.TheVariants as t
+use Rattle.xdg_ast.specs.declared.terms.ElemKind.{ElemKind}
+use Rattle.xdg_ast.specs.declared.terms.ElemKind.TheVariants as e
+use Rattle.xdg_ast.specs.declared.terms.ElemKind.TheOpen.{TermKind-F, ElemKind-F}
+use Rattle.xdg_ast.specs.declared.terms.ElemKind.TheFolds.{fold-roll-TermKind, fold-roll-ElemKind}
+use Rattle.xdg_ast.specs.declared.terms.CardKind.{CardKind}
+use Rattle.xdg_ast.specs.declared.terms.GenKind.{GenKind}
+use Rattle.xdg_ast.specs.declared.terms.GenKind.TheVariants as g
+use Rattle.xdg_ast.specs.declared.terms.GenKind.TheOpen.{GenKind-F}
+use Rattle.xdg_ast.specs.declared.terms.GenKind.TheFolds.{fold-roll-GenKind}
+use Rattle.xdg_ast.specs.declared.expressions.ExprKind.{ExprKind}
+use Rattle.xdg_ast.specs.declared.expressions.ExprKind.TheVariants as x
+use Rattle.xdg_ast.specs.declared.expressions.ExprKind.TheOpen.{ExprKind-F}
+use Rattle.xdg_ast.specs.declared.expressions.ExprKind.TheFolds.{fold-roll-ExprKind}
+use Rattle.xdg_ast.specs.Grammar.{Params}
+use Rattle.xdg_ast.specs.Words.{Word, mark, number}
+use Rattle.xdg_ast.specs.Trees.{name_word, names_words, in_braces, in_parentheses, in_square_brackets, Phrase, conjoined, disjoined, plainly, card_words, gen_step, gen_phrase, constant_in, elem_step, term_step, elem_words, term_words, pair_words, terms_words, args_words, expr_step, expr_phrase, type_step, type_words}
+use Rattle.xdg_ast.specs.Same.{bare_part, bare_name, bare_names, bare_pair, bare_option, bare_card, bare_gen_step, bare_gen, bare_elem_step, bare_term_step, bare_elem, bare_term, bare_terms, bare_expr_step, bare_expr, bare_type_step, bare_type}
+
+-- ---- a function of what stands in a place
+
+abbrev with_kind : {A B : Type 0} → (A → B) → Spanned A → Spanned B
+with_kind f part = record { kind = f part.kind; span = part.span }
+
+pub map-map : {A B C : Type 0} (f : B → C) (h : A → B) (xs : List A) → map f (map h xs) ≡ map (λ x. f (h x)) xs
+map-map f h [] = refl
+map-map f h (x ∷ xs) = ap (λ ys. f (h x) ∷ ys) (map-map f h xs)
+
+-- ---- words of terms
+
+pub term_words-Const : (params : Params) (name : Name) → term_words params (t.Const name) ≡ constant_in params name.text ∷ []
+term_words-Const params name = ap (term_words params) (sym (t.rolls-Const name)) ∙ fold-roll-TermKind (List Word) (List Word) elem_step (term_step params) (TermKind-F.TermKind::Const name)
+
+pub term_words-Param : (params : Params) (name : Name) → term_words params (t.Param name) ≡ name_word name ∷ []
+term_words-Param params name = ap (term_words params) (sym (t.rolls-Param name)) ∙ fold-roll-TermKind (List Word) (List Word) elem_step (term_step params) (TermKind-F.Param name)
+
+pub term_words-Number : (params : Params) (n : ℕ) → term_words params (t.Number n) ≡ number n ∷ []
+term_words-Number params n = ap (term_words params) (sym (t.rolls-Number n)) ∙ fold-roll-TermKind (List Word) (List Word) elem_step (term_step params) (TermKind-F.Number n)
+
+pub term_words-Card : (params : Params) (card : Spanned CardKind) → term_words params (t.Card card) ≡ card_words card.kind
+term_words-Card params card = ap (term_words params) (sym (t.rolls-Card card)) ∙ fold-roll-TermKind (List Word) (List Word) elem_step (term_step params) (TermKind-F.Card card)
+
+pub term_words-Braces : (params : Params) (elems : List (Spanned ElemKind)) → term_words params (t.Braces elems) ≡ in_braces (flat_map (λ elem. elem_words params elem.kind) elems)
+term_words-Braces params elems = ap (term_words params) (sym (t.rolls-Braces elems)) ∙ (fold-roll-TermKind (List Word) (List Word) elem_step (term_step params) (TermKind-F.Braces elems) ∙ ap in_braces (flat_map-map (λ elem. elem.kind) (with_kind (elem_words params)) elems))
+
+pub term_words-Tuple : (params : Params) (names : List Name) → term_words params (t.Tuple names) ≡ in_square_brackets (names_words names)
+term_words-Tuple params names = ap (term_words params) (sym (t.rolls-Tuple names)) ∙ fold-roll-TermKind (List Word) (List Word) elem_step (term_step params) (TermKind-F.TermKind::Tuple names)
+
+pub term_words-Gen : (params : Params) (gen : Spanned GenKind) → term_words params (t.Gen gen) ≡ mark k.Dollar ∷ (gen_phrase gen.kind).words
+term_words-Gen params gen = ap (term_words params) (sym (t.rolls-Gen gen)) ∙ fold-roll-TermKind (List Word) (List Word) elem_step (term_step params) (TermKind-F.Gen gen)
+
+-- ---- words of elements
+
+pub elem_words-Count : (params : Params) (name : Name) (card : Spanned CardKind) → elem_words params (e.Count name card) ≡ name_word name ∷ card_words card.kind
+elem_words-Count params name card = ap (elem_words params) (sym (e.rolls-Count name card)) ∙ fold-roll-ElemKind (List Word) (List Word) elem_step (term_step params) (ElemKind-F.Count name card)
+
+pub elem_words-Keyed : (params : Params) (name : Name) (term : Spanned TermKind) → elem_words params (e.Keyed name term) ≡ name_word name ∷ mark k.Colon ∷ term_words params term.kind
+elem_words-Keyed params name term = ap (elem_words params) (sym (e.rolls-Keyed name term)) ∙ fold-roll-ElemKind (List Word) (List Word) elem_step (term_step params) (ElemKind-F.Keyed name term)
+
+pub elem_words-Const : (params : Params) (name : Name) → elem_words params (e.Const name) ≡ name_word name ∷ []
+elem_words-Const params name = ap (elem_words params) (sym (e.rolls-Const name)) ∙ fold-roll-ElemKind (List Word) (List Word) elem_step (term_step params) (ElemKind-F.ElemKind::Const name)
+
+pub elem_words-Tuple : (params : Params) (names : List Name) → elem_words params (e.Tuple names) ≡ in_square_brackets (names_words names)
+elem_words-Tuple params names = ap (elem_words params) (sym (e.rolls-Tuple names)) ∙ fold-roll-ElemKind (List Word) (List Word) elem_step (term_step params) (ElemKind-F.ElemKind::Tuple names)
+
+-- ---- words of generators
+
+pub gen_phrase-Const : (name : Name) → gen_phrase (g.Const name) ≡ plainly (name_word name ∷ [])
+gen_phrase-Const name = ap gen_phrase (sym (g.rolls-Const name)) ∙ fold-roll-GenKind Phrase gen_step (GenKind-F.Const name)
+
+pub gen_phrase-And : (members : List (Spanned GenKind)) → gen_phrase (g.And members) ≡ conjoined (map (λ gen. gen_phrase gen.kind) members)
+gen_phrase-And members = ap gen_phrase (sym (g.rolls-And members)) ∙ (fold-roll-GenKind Phrase gen_step (GenKind-F.And members) ∙ ap conjoined (map-map (λ gen. gen.kind) (with_kind gen_phrase) members))
+
+pub gen_phrase-Or : (members : List (Spanned GenKind)) → gen_phrase (g.Or members) ≡ disjoined (map (λ gen. gen_phrase gen.kind) members)
+gen_phrase-Or members = ap gen_phrase (sym (g.rolls-Or members)) ∙ (fold-roll-GenKind Phrase gen_step (GenKind-F.Or members) ∙ ap disjoined (map-map (λ gen. gen.kind) (with_kind gen_phrase) members))
+
+-- ---- words of expressions
+
+pub expr_phrase-Or : (params : Params) (members : List (Spanned ExprKind)) → expr_phrase params (x.Or members) ≡ disjoined (map (λ expr. expr_phrase params expr.kind) members)
+expr_phrase-Or params members = ap (expr_phrase params) (sym (x.rolls-Or members)) ∙ (fold-roll-ExprKind Phrase (expr_step params) (ExprKind-F.Or members) ∙ ap disjoined (map-map (λ expr. expr.kind) (with_kind (expr_phrase params)) members))
+
+pub expr_phrase-And : (params : Params) (members : List (Spanned ExprKind)) → expr_phrase params (x.And members) ≡ conjoined (map (λ expr. expr_phrase params expr.kind) members)
+expr_phrase-And params members = ap (expr_phrase params) (sym (x.rolls-And members)) ∙ (fold-roll-ExprKind Phrase (expr_step params) (ExprKind-F.And members) ∙ ap conjoined (map-map (λ expr. expr.kind) (with_kind (expr_phrase params)) members))
+
+pub expr_phrase-Dim : (params : Params) (name : Name) (pairs : List (Pair (Spanned TermKind))) → expr_phrase params (x.Dim name pairs) ≡ plainly (mark k.Dim ∷ name_word name ∷ terms_words params pairs)
+expr_phrase-Dim params name pairs = ap (expr_phrase params) (sym (x.rolls-Dim name pairs)) ∙ fold-roll-ExprKind Phrase (expr_step params) (ExprKind-F.Dim name pairs)
+
+pub expr_phrase-Use : (params : Params) (name : Name) (pairs : Option (List (Pair (Spanned TermKind)))) → expr_phrase params (x.Use name pairs) ≡ plainly (name_word name ∷ args_words params pairs)
+expr_phrase-Use params name pairs = ap (expr_phrase params) (sym (x.rolls-Use name pairs)) ∙ fold-roll-ExprKind Phrase (expr_step params) (ExprKind-F.Use name pairs)
+
+-- ---- words of types
+
+pub type_words-Empty : type_words y.Empty ≡ in_braces []
+type_words-Empty = ap type_words (sym y.rolls-Empty) ∙ fold-roll-TypeKind (List Word) type_step TypeKind-F.Empty
+
+pub type_words-Domain : (names : List Name) → type_words (y.Domain names) ≡ in_braces (names_words names)
+type_words-Domain names = ap type_words (sym (y.rolls-Domain names)) ∙ fold-roll-TypeKind (List Word) type_step (TypeKind-F.Domain names)
+
+pub type_words-Rec : (pairs : List (Pair (Spanned TypeKind))) → type_words (y.Rec pairs) ≡ in_braces (flat_map (pair_words (λ type. type_words type.kind)) pairs)
+type_words-Rec pairs = ap type_words (sym (y.rolls-Rec pairs)) ∙ (fold-roll-TypeKind (List Word) type_step (TypeKind-F.Rec pairs) ∙ ap in_braces (flat_map-map (pair_words (λ type. type.kind)) (λ pair. record { key = pair.key; value = with_kind type_words pair.value }) pairs))
+
+pub type_words-Tuple : (types : List (Spanned TypeKind)) → type_words (y.Tuple types) ≡ mark k.Tuple ∷ in_parentheses (flat_map (λ type. type_words type.kind) types)
+type_words-Tuple types = ap type_words (sym (y.rolls-Tuple types)) ∙ (fold-roll-TypeKind (List Word) type_step (TypeKind-F.Tuple types) ∙ ap (λ words. mark k.Tuple ∷ in_parentheses words) (flat_map-map (λ type. type.kind) (with_kind type_words) types))
+
+pub type_words-Set : (type : Spanned TypeKind) → type_words (y.Set type) ≡ mark k.Set ∷ in_parentheses (type_words type.kind)
+type_words-Set type = ap type_words (sym (y.rolls-Set type)) ∙ fold-roll-TypeKind (List Word) type_step (TypeKind-F.Set type)
+
+pub type_words-ISet : (type : Spanned TypeKind) → type_words (y.ISet type) ≡ mark k.ISet ∷ in_parentheses (type_words type.kind)
+type_words-ISet type = ap type_words (sym (y.rolls-ISet type)) ∙ fold-roll-TypeKind (List Word) type_step (TypeKind-F.ISet type)
+
+pub type_words-Valency : (type : Spanned TypeKind) → type_words (y.Valency type) ≡ mark k.Valency ∷ in_parentheses (type_words type.kind)
+type_words-Valency type = ap type_words (sym (y.rolls-Valency type)) ∙ fold-roll-TypeKind (List Word) type_step (TypeKind-F.Valency type)
+
+pub type_words-Map : (key : Spanned TypeKind) (value : Spanned TypeKind) → type_words (y.Map key value) ≡ mark k.Map ∷ in_parentheses (type_words key.kind ++ type_words value.kind)
+type_words-Map key value = ap type_words (sym (y.rolls-Map key value)) ∙ fold-roll-TypeKind (List Word) type_step (TypeKind-F.Map key value)
+
+pub type_words-Card : type_words y.Card ≡ mark k.Card ∷ []
+type_words-Card = ap type_words (sym y.rolls-Card) ∙ fold-roll-TypeKind (List Word) type_step TypeKind-F.Card
+
+pub type_words-Bool : type_words y.Bool ≡ mark k.Bool ∷ []
+type_words-Bool = ap type_words (sym y.rolls-Bool) ∙ fold-roll-TypeKind (List Word) type_step TypeKind-F.Bool
+
+pub type_words-Int : type_words y.Int ≡ mark k.Int ∷ []
+type_words-Int = ap type_words (sym y.rolls-Int) ∙ fold-roll-TypeKind (List Word) type_step TypeKind-F.Int
+
+pub type_words-Str : type_words y.Str ≡ mark k.String ∷ []
+type_words-Str = ap type_words (sym y.rolls-Str) ∙ fold-roll-TypeKind (List Word) type_step TypeKind-F.Str
+
+pub type_words-Named : (name : Name) → type_words (y.Named name) ≡ name_word name ∷ []
+type_words-Named name = ap type_words (sym (y.rolls-Named name)) ∙ fold-roll-TypeKind (List Word) type_step (TypeKind-F.Named name)
+
+-- ---- terms without places
+
+pub bare_term-Const : (name : Name) → bare_term (t.Const name) ≡ t.Const (bare_name name)
+bare_term-Const name = ap bare_term (sym (t.rolls-Const name)) ∙ fold-roll-TermKind ElemKind TermKind bare_elem_step bare_term_step (TermKind-F.TermKind::Const name)
+
+pub bare_term-Param : (name : Name) → bare_term (t.Param name) ≡ t.Param (bare_name name)
+bare_term-Param name = ap bare_term (sym (t.rolls-Param name)) ∙ fold-roll-TermKind ElemKind TermKind bare_elem_step bare_term_step (TermKind-F.Param name)
+
+pub bare_term-Number : (n : ℕ) → bare_term (t.Number n) ≡ t.Number n
+bare_term-Number n = ap bare_term (sym (t.rolls-Number n)) ∙ fold-roll-TermKind ElemKind TermKind bare_elem_step bare_term_step (TermKind-F.Number n)
+
+pub bare_term-Card : (card : Spanned CardKind) → bare_term (t.Card card) ≡ t.Card (bare_part bare_card card)
+bare_term-Card card = ap bare_term (sym (t.rolls-Card card)) ∙ fold-roll-TermKind ElemKind TermKind bare_elem_step bare_term_step (TermKind-F.Card card)
+
+pub bare_term-Braces : (elems : List (Spanned ElemKind)) → bare_term (t.Braces elems) ≡ t.Braces (map (bare_part bare_elem) elems)
+bare_term-Braces elems = ap bare_term (sym (t.rolls-Braces elems)) ∙ (fold-roll-TermKind ElemKind TermKind bare_elem_step bare_term_step (TermKind-F.Braces elems) ∙ ap t.Braces (map-map (bare_part (λ elem. elem)) (with_kind bare_elem) elems))
+
+pub bare_term-Tuple : (names : List Name) → bare_term (t.Tuple names) ≡ t.Tuple (bare_names names)
+bare_term-Tuple names = ap bare_term (sym (t.rolls-Tuple names)) ∙ fold-roll-TermKind ElemKind TermKind bare_elem_step bare_term_step (TermKind-F.TermKind::Tuple names)
+
+pub bare_term-Gen : (gen : Spanned GenKind) → bare_term (t.Gen gen) ≡ t.Gen (bare_part bare_gen gen)
+bare_term-Gen gen = ap bare_term (sym (t.rolls-Gen gen)) ∙ fold-roll-TermKind ElemKind TermKind bare_elem_step bare_term_step (TermKind-F.Gen gen)
+
+-- ---- elements without places
+
+pub bare_elem-Count : (name : Name) (card : Spanned CardKind) → bare_elem (e.Count name card) ≡ e.Count (bare_name name) (bare_part bare_card card)
+bare_elem-Count name card = ap bare_elem (sym (e.rolls-Count name card)) ∙ fold-roll-ElemKind ElemKind TermKind bare_elem_step bare_term_step (ElemKind-F.Count name card)
+
+pub bare_elem-Keyed : (name : Name) (term : Spanned TermKind) → bare_elem (e.Keyed name term) ≡ e.Keyed (bare_name name) (bare_part bare_term term)
+bare_elem-Keyed name term = ap bare_elem (sym (e.rolls-Keyed name term)) ∙ fold-roll-ElemKind ElemKind TermKind bare_elem_step bare_term_step (ElemKind-F.Keyed name term)
+
+pub bare_elem-Const : (name : Name) → bare_elem (e.Const name) ≡ e.Const (bare_name name)
+bare_elem-Const name = ap bare_elem (sym (e.rolls-Const name)) ∙ fold-roll-ElemKind ElemKind TermKind bare_elem_step bare_term_step (ElemKind-F.ElemKind::Const name)
+
+pub bare_elem-Tuple : (names : List Name) → bare_elem (e.Tuple names) ≡ e.Tuple (bare_names names)
+bare_elem-Tuple names = ap bare_elem (sym (e.rolls-Tuple names)) ∙ fold-roll-ElemKind ElemKind TermKind bare_elem_step bare_term_step (ElemKind-F.ElemKind::Tuple names)
+
+-- ---- generators without places
+
+pub bare_gen-Const : (name : Name) → bare_gen (g.Const name) ≡ g.Const (bare_name name)
+bare_gen-Const name = ap bare_gen (sym (g.rolls-Const name)) ∙ fold-roll-GenKind GenKind bare_gen_step (GenKind-F.Const name)
+
+pub bare_gen-And : (members : List (Spanned GenKind)) → bare_gen (g.And members) ≡ g.And (map (bare_part bare_gen) members)
+bare_gen-And members = ap bare_gen (sym (g.rolls-And members)) ∙ (fold-roll-GenKind GenKind bare_gen_step (GenKind-F.And members) ∙ ap g.And (map-map (bare_part (λ gen. gen)) (with_kind bare_gen) members))
+
+pub bare_gen-Or : (members : List (Spanned GenKind)) → bare_gen (g.Or members) ≡ g.Or (map (bare_part bare_gen) members)
+bare_gen-Or members = ap bare_gen (sym (g.rolls-Or members)) ∙ (fold-roll-GenKind GenKind bare_gen_step (GenKind-F.Or members) ∙ ap g.Or (map-map (bare_part (λ gen. gen)) (with_kind bare_gen) members))
+
+-- ---- expressions without places
+
+pub bare_expr-Or : (members : List (Spanned ExprKind)) → bare_expr (x.Or members) ≡ x.Or (map (bare_part bare_expr) members)
+bare_expr-Or members = ap bare_expr (sym (x.rolls-Or members)) ∙ (fold-roll-ExprKind ExprKind bare_expr_step (ExprKind-F.Or members) ∙ ap x.Or (map-map (bare_part (λ expr. expr)) (with_kind bare_expr) members))
+
+pub bare_expr-And : (members : List (Spanned ExprKind)) → bare_expr (x.And members) ≡ x.And (map (bare_part bare_expr) members)
+bare_expr-And members = ap bare_expr (sym (x.rolls-And members)) ∙ (fold-roll-ExprKind ExprKind bare_expr_step (ExprKind-F.And members) ∙ ap x.And (map-map (bare_part (λ expr. expr)) (with_kind bare_expr) members))
+
+pub bare_expr-Dim : (name : Name) (pairs : List (Pair (Spanned TermKind))) → bare_expr (x.Dim name pairs) ≡ x.Dim (bare_name name) (bare_terms pairs)
+bare_expr-Dim name pairs = ap bare_expr (sym (x.rolls-Dim name pairs)) ∙ fold-roll-ExprKind ExprKind bare_expr_step (ExprKind-F.Dim name pairs)
+
+pub bare_expr-Use : (name : Name) (pairs : Option (List (Pair (Spanned TermKind)))) → bare_expr (x.Use name pairs) ≡ x.Use (bare_name name) (bare_option bare_terms pairs)
+bare_expr-Use name pairs = ap bare_expr (sym (x.rolls-Use name pairs)) ∙ fold-roll-ExprKind ExprKind bare_expr_step (ExprKind-F.Use name pairs)
+
+-- ---- types without places
+
+pub bare_type-Empty : bare_type y.Empty ≡ y.Empty
+bare_type-Empty = ap bare_type (sym y.rolls-Empty) ∙ fold-roll-TypeKind TypeKind bare_type_step TypeKind-F.Empty
+
+pub bare_type-Domain : (names : List Name) → bare_type (y.Domain names) ≡ y.Domain (bare_names names)
+bare_type-Domain names = ap bare_type (sym (y.rolls-Domain names)) ∙ fold-roll-TypeKind TypeKind bare_type_step (TypeKind-F.Domain names)
+
+pub bare_type-Rec : (pairs : List (Pair (Spanned TypeKind))) → bare_type (y.Rec pairs) ≡ y.Rec (map (bare_pair (bare_part bare_type)) pairs)
+bare_type-Rec pairs = ap bare_type (sym (y.rolls-Rec pairs)) ∙ (fold-roll-TypeKind TypeKind bare_type_step (TypeKind-F.Rec pairs) ∙ ap y.Rec (map-map (bare_pair (bare_part (λ type. type))) (λ pair. record { key = pair.key; value = with_kind bare_type pair.value }) pairs))
+
+pub bare_type-Tuple : (types : List (Spanned TypeKind)) → bare_type (y.Tuple types) ≡ y.Tuple (map (bare_part bare_type) types)
+bare_type-Tuple types = ap bare_type (sym (y.rolls-Tuple types)) ∙ (fold-roll-TypeKind TypeKind bare_type_step (TypeKind-F.Tuple types) ∙ ap y.Tuple (map-map (bare_part (λ type. type)) (with_kind bare_type) types))
+
+pub bare_type-Set : (type : Spanned TypeKind) → bare_type (y.Set type) ≡ y.Set (bare_part bare_type type)
+bare_type-Set type = ap bare_type (sym (y.rolls-Set type)) ∙ fold-roll-TypeKind TypeKind bare_type_step (TypeKind-F.Set type)
+
+pub bare_type-ISet : (type : Spanned TypeKind) → bare_type (y.ISet type) ≡ y.ISet (bare_part bare_type type)
+bare_type-ISet type = ap bare_type (sym (y.rolls-ISet type)) ∙ fold-roll-TypeKind TypeKind bare_type_step (TypeKind-F.ISet type)
+
+pub bare_type-Valency : (type : Spanned TypeKind) → bare_type (y.Valency type) ≡ y.Valency (bare_part bare_type type)
+bare_type-Valency type = ap bare_type (sym (y.rolls-Valency type)) ∙ fold-roll-TypeKind TypeKind bare_type_step (TypeKind-F.Valency type)
+
+pub bare_type-Map : (key : Spanned TypeKind) (value : Spanned TypeKind) → bare_type (y.Map key value) ≡ y.Map (bare_part bare_type key) (bare_part bare_type value)
+bare_type-Map key value = ap bare_type (sym (y.rolls-Map key value)) ∙ fold-roll-TypeKind TypeKind bare_type_step (TypeKind-F.Map key value)
+
+pub bare_type-Card : bare_type y.Card ≡ y.Card
+bare_type-Card = ap bare_type (sym y.rolls-Card) ∙ fold-roll-TypeKind TypeKind bare_type_step TypeKind-F.Card
+
+pub bare_type-Bool : bare_type y.Bool ≡ y.Bool
+bare_type-Bool = ap bare_type (sym y.rolls-Bool) ∙ fold-roll-TypeKind TypeKind bare_type_step TypeKind-F.Bool
+
+pub bare_type-Int : bare_type y.Int ≡ y.Int
+bare_type-Int = ap bare_type (sym y.rolls-Int) ∙ fold-roll-TypeKind TypeKind bare_type_step TypeKind-F.Int
+
+pub bare_type-Str : bare_type y.Str ≡ y.Str
+bare_type-Str = ap bare_type (sym y.rolls-Str) ∙ fold-roll-TypeKind TypeKind bare_type_step TypeKind-F.Str
+
+pub bare_type-Named : (name : Name) → bare_type (y.Named name) ≡ y.Named (bare_name name)
+bare_type-Named name = ap bare_type (sym (y.rolls-Named name)) ∙ fold-roll-TypeKind TypeKind bare_type_step (TypeKind-F.Named name)

@@ -1,0 +1,243 @@
+-- Statements are read again, and whole grammars are.
+use Rattle.std.proofs.Common.{◌≡◌, ℕ, true, if◌then◌else◌, List, [], ◌∷◌, ◌++◌, map, flat_map, Option, Some, None, refl, sym, ap, ◌∙◌, subst, inl, inr, arith}
+use Rattle.std.proofs.lemmas.List.{append-nil}
+use Rattle.std.proofs.lemmas.List.Folds.{flat_map-map}
+use Rattle.std.proofs.lemmas.Grind.{flat_map-append}
+use Rattle.xdg_lex.specs.declared.token.Kind.TheVariants as k
+use Rattle.xdg_lex.specs.Lexed.{Lexeme}
+use Rattle.xdg_lex.specs.Contents.{content_of}
+use Rattle.xdg_ast.specs.declared.names.Name.{Name}
+use Rattle.xdg_ast.specs.declared.names.Spanned.{Spanned}
+use Rattle.xdg_ast.specs.declared.grammar.ClassParam.{ClassParam}
+use Rattle.xdg_ast.specs.declared.grammar.StatementKind.{StatementKind}
+use Rattle.xdg_ast.specs.declared.grammar.StatementKind.TheVariants as s
+use Rattle.xdg_ast.specs.declared.grammar.Grammar.{Grammar}
+use Rattle.xdg_ast.specs.Language.{Language, span_of, is, token, made, behind, pair}
+use Rattle.xdg_ast.specs.Grammar.{Params, Term, Expr, DimPart, is_constant, name_of, in_braces, inside, under, name, term, expr, preset, class_param, class_params, params_of, body, class_tail, parts, statement_kind, statement, statements}
+use Rattle.xdg_ast.specs.Derives.{DerivesWithin}
+use Rattle.xdg_ast.specs.Words.{Word, word_of, mark, constant, IsSpellable, AreSpellable}
+use Rattle.xdg_ast.specs.Trees.{name_word, term_words, in_braces as between_braces}
+use Rattle.xdg_ast.specs.Canon.{Line, line, indented, part_words, preset_words, class_param_words, body_words, statement_words, statement_lines, line_text, lines_of, canon}
+use Rattle.xdg_ast.specs.Same.{nowhere, bare_part, bare_name, bare_option, bare_term, bare_expr, bare_class_param, bare_statement, bare_statements, bare_grammar, Same}
+use Rattle.xdg_print.proofs.AgainTrees.{map-map}
+use Rattle.xdg_print.proofs.AgainWritten.{Written, weaker, at_words, token_written, bind_written, made_written, Gives, token_gives, made_gives, bind_gives, either_gives}
+use Rattle.xdg_print.proofs.AgainNames.{Like, Kept, constant_says, short_text, name_text, constant_spellable, name_words, name_keeps, same_text, many_keeps}
+use Rattle.xdg_print.proofs.AgainKept.{option_words, behind_keeps, made_keeps, both_keeps, pair_keeps, optional_keeps, with_words, at_place_keeps}
+use Rattle.xdg_print.proofs.AgainLevels.{nested_keeps}
+use Rattle.xdg_print.proofs.AgainElems.{term_keeps}
+use Rattle.xdg_print.proofs.AgainExprs.{expr_words, expr_keeps}
+use Rattle.xdg_print.proofs.AgainDims.{below_of, PartSaid, part_said, parts_words, parts_keep}
+
+-- ---- parameters of classes
+
+is_a_constant : (t : Lexeme) → is k.Name t.kind ≡ true → is_constant t.kind ≡ true
+is_a_constant t h = rw h refl
+
+abbrev param_name : Language Name
+param_name = made name_of (token (is k.Name))
+
+param_name_keeps : Gives param_name (Kept param_name bare_name name_words)
+param_name_keeps = made_gives name_of (token (is k.Name)) (λ t. (is k.Name t.kind ≡ true) × IsSpellable (word_of t)) (Kept param_name bare_name name_words) (token_gives (is k.Name) _ (λ t h s. (h, s)))
+    (λ t g. weaker param_name (name_words (name_of t)) (λ m. m.text ≡ content_of t.kind t.text) (λ m. Like bare_name name_words m (name_of t)) (λ m h. same_text m (name_of t) h)
+    (made_written name_of (token (is k.Name)) (constant (content_of t.kind t.text) ∷ []) (λ u. word_of u ≡ constant (content_of t.kind t.text)) (λ m. m.text ≡ content_of t.kind t.text)
+    (token_written (is k.Name) (constant (content_of t.kind t.text)) (constant_spellable (content_of t.kind t.text) (short_text t (is_a_constant t g.0) g.1)) (ap (λ b. is k.Name (if b then k.Name else k.Quoted)) (name_text t g.0 g.1)))
+    (λ u h. (constant_says (content_of t.kind t.text) u h).1)))
+
+presets_are : (given : Option Term) → preset_words given ≡ option_words (λ term. mark k.Colon ∷ term_words [] term.kind) given
+presets_are None = refl
+presets_are (Some term) = refl
+
+-- the parameters have the same names
+same_params : (ps qs : List ClassParam) → map bare_class_param ps ≡ map bare_class_param qs → params_of ps ≡ params_of qs
+same_params ps qs h = sym (names_of ps) ∙ (ap (map (λ (p : ClassParam). p.name.text)) h ∙ names_of qs) where
+  names_of : (ps : List ClassParam) → map (λ (p : ClassParam). p.name.text) (map bare_class_param ps) ≡ params_of ps
+  names_of [] = refl
+  names_of (p ∷ ps) = ap (λ names. p.name.text ∷ names) (names_of ps)
+
+abbrev Tail : Type 0
+Tail = List ClassParam × Expr
+
+abbrev bare_tail : Tail → Tail
+bare_tail tail = (map bare_class_param tail.0, bare_part bare_expr tail.1)
+
+abbrev tail_words : Tail → List Word
+tail_words tail = flat_map class_param_words tail.0 ++ body_words (params_of tail.0) tail.1
+
+module _ (n : ℕ) where
+  preset_keeps : Gives (preset n) (Kept (preset n) (bare_option (bare_part bare_term)) (option_words (λ term. mark k.Colon ∷ term_words [] term.kind)))
+  unfolding preset
+  preset_keeps = optional_keeps (behind (token (is k.Colon)) (term [] (under [] n))) (behind (token (is k.Colon)) (term [] (under [] n))) (bare_part bare_term) (λ term. mark k.Colon ∷ term_words [] term.kind)
+      (behind_keeps k.Colon (term [] (under [] n)) (term [] (under [] n)) (bare_part bare_term) (λ term. term_words [] term.kind) (refl, refl) refl (term_keeps [] n n (omega arith) (below_of [] n)))
+
+  class_param_keeps : Gives (class_param n) (Kept (class_param n) bare_class_param class_param_words)
+  unfolding class_param
+  class_param_keeps = both_keeps (λ name given. record { name = name; preset = given }) param_name param_name (preset n) (preset n) (class_param n)
+      bare_name name_words (bare_option (bare_part bare_term)) (option_words (λ term. mark k.Colon ∷ term_words [] term.kind)) bare_class_param class_param_words (λ name given. record { name = name; preset = given })
+      (λ _ _. refl) (λ name given. ap (λ ws. name_word name ∷ ws) (presets_are given)) (λ ts z h. h) param_name_keeps preset_keeps
+
+  class_params_keep : Gives (class_params n) (Kept (class_params n) (map bare_class_param) (flat_map class_param_words))
+  unfolding class_params
+  class_params_keep = many_keeps (class_param n) (class_param n) bare_class_param class_param_words class_param_keeps
+
+  body_keeps : (params : Params) → Gives (body params n) (Kept (body params n) (bare_part bare_expr) (body_words params))
+  unfolding body inside
+  body_keeps params = nested_keeps k.LeftBrace k.RightBrace (λ j. j.expr) params n n (omega arith) (below_of params n) (bare_part bare_expr) (expr_words params) (refl, refl) refl (refl, refl) refl
+      (λ m' n' l levels. expr_keeps params m' n' l (below_of params m'))
+
+  tail_keeps : Gives (class_tail n) (Kept (class_tail n) bare_tail tail_words)
+  unfolding class_tail
+  tail_keeps = bind_gives {C = Tail} (λ params expr. (params, expr)) (class_params n) (λ params. body (params_of params) n) (body [] n)
+      (Kept (class_params n) (map bare_class_param) (flat_map class_param_words)) (λ params. Kept (body (params_of params) n) (bare_part bare_expr) (body_words (params_of params))) (Kept (class_tail n) bare_tail tail_words)
+      class_params_keep (λ params. body_keeps (params_of params))
+      (λ ps e g h. bind_written {C = Tail} (λ params expr. (params, expr)) (class_params n) (λ params. body (params_of params) n) (body [] n) (flat_map class_param_words ps) (body_words (params_of ps) e)
+      (λ qs. Like (map bare_class_param) (flat_map class_param_words) qs ps) (λ z. Like (bare_part bare_expr) (body_words (params_of ps)) z e) (λ tail. Like bare_tail tail_words tail (ps, e)) g h.spellable
+      (λ qs i. subst (λ params. Written (body params n) (body_words (params_of ps) e) (λ z. Like (bare_part bare_expr) (body_words (params_of ps)) z e)) (sym (same_params qs ps i.bare)) h)
+      (λ qs z i k. record {
+        bare = ap (λ ps'. (ps', bare_part bare_expr z)) i.bare ∙ ap (λ e'. (map bare_class_param ps, e')) k.bare;
+        words = ap (λ ws. ws ++ body_words (params_of qs) z) i.words ∙ (ap (λ params. flat_map class_param_words ps ++ body_words params z) (same_params qs ps i.bare) ∙ ap (λ ws. flat_map class_param_words ps ++ ws) k.words);
+      }))
+
+-- ---- statements
+
+abbrev Stated : Type 0
+Stated = StatementKind × List Line
+
+-- a statement without places, and its lines
+abbrev stated : StatementKind → Stated
+stated statement = (bare_statement statement, statement_lines statement)
+
+-- such a statement of one line
+abbrev one_line : StatementKind → List Word → Stated
+one_line statement words = (statement, line words ∷ [])
+
+abbrev dim_lines : Name → List PartSaid → List Line
+dim_lines name parts = line (mark k.DefDim ∷ name_word name ∷ mark k.LeftBrace ∷ []) ∷ (map (λ (p : PartSaid). indented p.1) parts ++ line (mark k.RightBrace ∷ []) ∷ [])
+
+abbrev Dim : Type 0
+Dim = Name × List DimPart
+
+abbrev BareDim : Type 0
+BareDim = Name × List PartSaid
+
+abbrev bare_dim : Dim → BareDim
+bare_dim dim = (bare_name dim.0, map (λ part. part_said part.kind) dim.1)
+
+abbrev stated_dim : BareDim → Stated
+stated_dim dim = (s.DefDim dim.0 (map (λ (p : PartSaid). record { kind = p.0; span = nowhere }) dim.1), dim_lines dim.0 dim.1)
+
+dim_is : (dim : Dim) → stated (s.DefDim dim.0 dim.1) ≡ stated_dim (bare_dim dim)
+unfolding bare_statement statement_lines
+dim_is dim =
+    let a = map-map (λ (p : PartSaid). record { kind = p.0; span = nowhere }) (λ (part : DimPart). part_said part.kind) dim.1 in
+    let b = map-map (λ (p : PartSaid). indented p.1) (λ (part : DimPart). part_said part.kind) dim.1 in
+    ap (λ parts. (s.DefDim (bare_name dim.0) parts, line (mark k.DefDim ∷ name_word dim.0 ∷ mark k.LeftBrace ∷ []) ∷ (map (λ (part : DimPart). indented (part_words part.kind)) dim.1 ++ line (mark k.RightBrace ∷ []) ∷ []))) (sym a)
+    ∙ ap (λ lines. (s.DefDim (bare_name dim.0) (map (λ (p : PartSaid). record { kind = p.0; span = nowhere }) (map (λ (part : DimPart). part_said part.kind) dim.1)), line (mark k.DefDim ∷ name_word dim.0 ∷ mark k.LeftBrace ∷ []) ∷ (lines ++ line (mark k.RightBrace ∷ []) ∷ []))) (sym b)
+
+abbrev Class : Type 0
+Class = Name × Tail
+
+abbrev BareClass : Type 0
+BareClass = (Name × Tail) × List Word
+
+abbrev class_words : Class → List Word
+class_words said = mark k.DefClass ∷ (name_words said.0 ++ tail_words said.1)
+
+abbrev bare_class : Class → Class
+bare_class said = (bare_name said.0, bare_tail said.1)
+
+abbrev BareBody : Type 0
+BareBody = Expr × List Word
+
+module _ (n : ℕ) where
+  abbrev StatementKept : StatementKind → Type 0
+  StatementKept = Kept (statement_kind n) stated statement_words
+
+  use_dim : Gives (made s.UseDim (behind (token (is k.UseDim)) name)) StatementKept
+  unfolding statement_kind statement_words statement_lines bare_statement
+  use_dim = made_keeps s.UseDim (behind (token (is k.UseDim)) name) (behind (token (is k.UseDim)) name) (statement_kind n) bare_name (λ z. mark k.UseDim ∷ name_words z) stated statement_words
+      (λ z. one_line (s.UseDim z) (mark k.UseDim ∷ name_words z)) (λ _. refl) (λ _. refl) (λ ts z h. inl h) (behind_keeps k.UseDim name name bare_name name_words (refl, refl) refl name_keeps)
+
+  def_dim : Gives (made {A = Dim} (λ said. s.DefDim said.0 said.1) (behind (token (is k.DefDim)) (pair name (in_braces (under [] n) (λ j. j.parts))))) StatementKept
+  unfolding statement_kind statement_words inside
+  def_dim = made_keeps (λ (said : Dim). s.DefDim said.0 said.1) (behind (token (is k.DefDim)) (pair name (in_braces (under [] n) (λ j. j.parts)))) (behind (token (is k.DefDim)) (pair name (in_braces (under [] n) (λ j. j.parts)))) (statement_kind n)
+      bare_dim (λ said. mark k.DefDim ∷ (name_words said.0 ++ between_braces (parts_words said.1))) stated statement_words stated_dim dim_is (λ _. refl) (λ ts z h. inr (inl h))
+      (behind_keeps k.DefDim (pair name (in_braces (under [] n) (λ j. j.parts))) (pair name (in_braces (under [] n) (λ j. j.parts))) bare_dim (λ said. name_words said.0 ++ between_braces (parts_words said.1)) (refl, refl) refl
+      (pair_keeps name name (in_braces (under [] n) (λ j. j.parts)) (in_braces (under [] n) (λ j. j.parts)) bare_name name_words (map (λ part. part_said part.kind)) (λ parts. between_braces (parts_words parts)) name_keeps
+      (nested_keeps k.LeftBrace k.RightBrace (λ j. j.parts) [] n n (omega arith) (below_of [] n) (map (λ part. part_said part.kind)) parts_words (refl, refl) refl (refl, refl) refl (λ m' n' l levels. parts_keep m' n' l))))
+
+  def_class : Gives (made {A = Class} (λ said. s.DefClass said.0 said.1.0 said.1.1) (behind (token (is k.DefClass)) (pair name (class_tail n)))) StatementKept
+  unfolding statement_kind statement_words statement_lines bare_statement
+  def_class = made_keeps {B' = BareClass} (λ (said : Class). s.DefClass said.0 said.1.0 said.1.1) (behind (token (is k.DefClass)) (pair name (class_tail n))) (behind (token (is k.DefClass)) (pair name (class_tail n))) (statement_kind n)
+      (λ said. (bare_class said, class_words said)) class_words stated statement_words (λ z. one_line (s.DefClass z.0.0 z.0.1.0 z.0.1.1) z.1) (λ _. refl) (λ _. refl) (λ ts z h. inr (inr (inl h)))
+      (with_words (behind (token (is k.DefClass)) (pair name (class_tail n))) (behind (token (is k.DefClass)) (pair name (class_tail n))) bare_class class_words
+      (behind_keeps k.DefClass (pair name (class_tail n)) (pair name (class_tail n)) bare_class (λ said. name_words said.0 ++ tail_words said.1) (refl, refl) refl
+      (pair_keeps name name (class_tail n) (class_tail n) bare_name name_words bare_tail tail_words name_keeps (tail_keeps n))))
+
+  def_entry : Gives (made s.DefEntry (behind (token (is k.DefEntry)) (body [] n))) StatementKept
+  unfolding statement_kind statement_words statement_lines bare_statement
+  def_entry = made_keeps {B' = BareBody} s.DefEntry (behind (token (is k.DefEntry)) (body [] n)) (behind (token (is k.DefEntry)) (body [] n)) (statement_kind n)
+      (λ z. (bare_part bare_expr z, mark k.DefEntry ∷ body_words [] z)) (λ z. mark k.DefEntry ∷ body_words [] z) stated statement_words (λ z. one_line (s.DefEntry z.0) z.1) (λ _. refl) (λ _. refl) (λ ts z h. inr (inr (inr h)))
+      (with_words (behind (token (is k.DefEntry)) (body [] n)) (behind (token (is k.DefEntry)) (body [] n)) (bare_part bare_expr) (λ z. mark k.DefEntry ∷ body_words [] z)
+      (behind_keeps k.DefEntry (body [] n) (body [] n) (bare_part bare_expr) (body_words []) (refl, refl) refl (body_keeps n [])))
+
+  statement_kind_keeps : Gives (statement_kind n) StatementKept
+  unfolding statement_kind
+  statement_kind_keeps = either_gives _ _ StatementKept use_dim (either_gives _ _ StatementKept def_dim (either_gives _ _ StatementKept def_class def_entry))
+
+  statement_keeps : Gives (statement n) (Kept (statement n) (λ x. stated x.kind) (λ x. statement_words x.kind))
+  unfolding statement
+  statement_keeps = at_place_keeps (statement_kind n) (statement_kind n) stated statement_words statement_kind_keeps
+
+  statements_keep : Gives (statements n) (Kept (statements n) (map (λ x. stated x.kind)) (flat_map (λ x. statement_words x.kind)))
+  unfolding statements
+  statements_keep = many_keeps (statement n) (statement n) (λ x. stated x.kind) (λ x. statement_words x.kind) statement_keeps
+
+-- ---- lines
+
+abbrev words_of_lines : List Line → List Word
+words_of_lines lines = flat_map (λ line. line.words) lines
+
+part_lines : (parts : List DimPart) → words_of_lines (map (λ part. indented (part_words part.kind)) parts) ≡ parts_words parts
+part_lines parts = flat_map-map (λ (l : Line). l.words) (λ (part : DimPart). indented (part_words part.kind)) parts
+
+-- the words of the lines of a statement are its words
+statement_is : (kind : StatementKind) → words_of_lines (statement_lines kind) ≡ statement_words kind
+unfolding statement_lines statement_words
+statement_is (s.UseDim _) = refl
+statement_is (s.DefDim title parts) = ap (λ ws. mark k.DefDim ∷ name_word title ∷ mark k.LeftBrace ∷ ws) (flat_map-append (λ (l : Line). l.words) (map (λ part. indented (part_words part.kind)) parts) (line (mark k.RightBrace ∷ []) ∷ []) ∙ ap (λ ws. ws ++ mark k.RightBrace ∷ []) (part_lines parts))
+statement_is (s.DefClass title params expr) = append-nil (mark k.DefClass ∷ name_word title ∷ (flat_map class_param_words params ++ body_words (params_of params) expr))
+statement_is (s.DefEntry expr) = append-nil (mark k.DefEntry ∷ body_words [] expr)
+
+lines_are : (statements : List (Spanned StatementKind)) → words_of_lines (flat_map (λ x. statement_lines x.kind) statements) ≡ flat_map (λ x. statement_words x.kind) statements
+lines_are [] = refl
+lines_are (x ∷ xs) = flat_map-append (λ (l : Line). l.words) (statement_lines x.kind) (flat_map (λ x. statement_lines x.kind) xs) ∙ (ap (λ ws. ws ++ words_of_lines (flat_map (λ x. statement_lines x.kind) xs)) (statement_is x.kind) ∙ ap (λ ws. statement_words x.kind ++ ws) (lines_are xs))
+
+-- ---- the whole
+
+bare_from : (xs : List (Spanned StatementKind)) → map (λ (p : Stated). record { kind = p.0; span = nowhere }) (map (λ (x : Spanned StatementKind). stated x.kind) xs) ≡ bare_statements xs
+bare_from xs = map-map (λ (p : Stated). record { kind = p.0; span = nowhere }) (λ (x : Spanned StatementKind). stated x.kind) xs
+
+lines_from : (xs : List (Spanned StatementKind)) → flat_map (λ (p : Stated). p.1) (map (λ (x : Spanned StatementKind). stated x.kind) xs) ≡ flat_map (λ x. statement_lines x.kind) xs
+lines_from xs = flat_map-map (λ (p : Stated). p.1) (λ (x : Spanned StatementKind). stated x.kind) xs
+
+-- statements that say the same have the same text
+same_at : (g h : Grammar) → map (λ (x : Spanned StatementKind). stated x.kind) h.statements ≡ map (λ (x : Spanned StatementKind). stated x.kind) g.statements → Same g h × (canon h ≡ canon g)
+unfolding bare_grammar canon
+same_at g h e = (
+  ap (λ statements. record { statements = statements; span = nowhere }) (sym (bare_from g.statements) ∙ (ap (map (λ (p : Stated). record { kind = p.0; span = nowhere })) (sym e) ∙ bare_from h.statements)),
+  ap (flat_map line_text) (sym (lines_from h.statements) ∙ (ap (flat_map (λ (p : Stated). p.1)) e ∙ lines_from g.statements)),
+)
+
+-- The words of a grammar that was read from spellable tokens are spellable, and all tokens with these words are read as the same grammar.
+pub derives_again : (n : ℕ) (ts : List Lexeme) (g : Grammar) → DerivesWithin n ts g → AreSpellable (map word_of ts)
+    → AreSpellable (flat_map (λ line. line.words) (lines_of g))
+    × ((us : List Lexeme) → map word_of us ≡ flat_map (λ line. line.words) (lines_of g) → (h : Grammar) × DerivesWithin n us h × Same g h × (canon h ≡ canon g))
+derives_again n ts g d sp =
+    let kept = at_words (statements n) _ (words_of_lines (lines_of g)) (λ xs. Like (map (λ x. stated x.kind)) (flat_map (λ x. statement_words x.kind)) xs g.statements) (sym (lines_are g.statements)) ((statements_keep n).by ts g.statements d.0 sp) in (
+      kept.spellable,
+      λ us h.
+          let again = kept.again us h in
+          let tree : Grammar = record { statements = again.0; span = span_of us } in
+          let same = same_at g tree again.2.bare in
+          (tree, (again.1, refl), same.0, same.1),
+    )

@@ -1,0 +1,85 @@
+-- Characters and their bytes.
+use Rattle.std.proofs.Common.{◌≡◌, ℕ, ◌<◌, Bool, true, List, [], ◌∷◌, ◌++◌, refl, sym, ◌∙◌, ap, arith}
+use Rattle.std.specs.Char.{IsScalar, is_ascii}
+use Rattle.std.specs.List.{list_all}
+use Rattle.std.specs.Str.{chars, all_scalars, IsUtf8, encode_utf8_all}
+use Rattle.std.proofs.lemmas.Bool.{and_parts, and_from}
+use Rattle.std.proofs.lemmas.Str.{chars-encodes, encodes-append, encodes-chars, scalars-chars, encode_ascii}
+use Rattle.xdg_lex.specs.Tokenizes.{EachPasses}
+
+-- the bytes are those of the characters
+pub record AreBytesOf (cs bytes : List ℕ) : Type 0 where
+  pub scalars : all_scalars cs ≡ true
+  pub encoded : encode_utf8_all cs ≡ bytes
+
+-- ---- parts
+
+pub scalars_append : (cs ds : List ℕ) → all_scalars cs ≡ true → all_scalars ds ≡ true → all_scalars (cs ++ ds) ≡ true
+scalars_append [] ds a b = b
+scalars_append (c ∷ cs) ds a b = let parts = and_parts _ (all_scalars cs) a in and_from _ (all_scalars (cs ++ ds)) parts.0 (scalars_append cs ds parts.1 b)
+
+-- parts of characters are characters
+pub scalars_front : (cs ds : List ℕ) → all_scalars (cs ++ ds) ≡ true → all_scalars cs ≡ true
+scalars_front [] ds a = refl
+scalars_front (c ∷ cs) ds a = let parts = and_parts _ (all_scalars (cs ++ ds)) a in and_from _ (all_scalars cs) parts.0 (scalars_front cs ds parts.1)
+
+pub scalars_rest : (cs ds : List ℕ) → all_scalars (cs ++ ds) ≡ true → all_scalars ds ≡ true
+scalars_rest [] ds a = a
+scalars_rest (c ∷ cs) ds a = scalars_rest cs ds (and_parts _ (all_scalars (cs ++ ds)) a).1
+
+-- the bytes of joined characters are the joined bytes
+pub bytes_append : (cs bs ds es : List ℕ) → AreBytesOf cs bs → AreBytesOf ds es → AreBytesOf (cs ++ ds) (bs ++ es)
+bytes_append cs bs ds es a b = record {
+  scalars = scalars_append cs ds a.scalars b.scalars;
+  encoded = encodes-append cs ds ∙ ap (λ l. l ++ encode_utf8_all ds) a.encoded ∙ ap (λ l. bs ++ l) b.encoded;
+}
+
+pub no_bytes : AreBytesOf [] []
+no_bytes = record { scalars = refl; encoded = refl }
+
+-- ---- texts
+
+-- the bytes of characters are UTF-8, and the characters are those of the bytes
+pub bytes_utf8 : (cs bytes : List ℕ) → AreBytesOf cs bytes → IsUtf8 bytes
+bytes_utf8 cs bytes a = (cs, (a.scalars, a.encoded))
+
+pub bytes_chars : (cs bytes : List ℕ) → AreBytesOf cs bytes → chars bytes ≡ cs
+bytes_chars cs bytes a = ap chars (sym a.encoded) ∙ chars-encodes cs a.scalars
+
+pub utf8_bytes : (bytes : List ℕ) → IsUtf8 bytes → AreBytesOf (chars bytes) bytes
+utf8_bytes bytes u = record { scalars = scalars-chars bytes u; encoded = encodes-chars bytes u }
+
+-- ---- ASCII
+
+ascii_low : (c : ℕ) → is_ascii c ≡ true → c < 128
+ascii_low c a = grind (arith, a)
+
+low_scalar : (c : ℕ) → c < 128 → IsScalar c
+low_scalar c low = grind (arith, low)
+
+-- ASCII characters are their own bytes
+pub ascii_bytes : (cs : List ℕ) → list_all is_ascii cs ≡ true → AreBytesOf cs cs
+ascii_bytes [] a = no_bytes
+ascii_bytes (c ∷ cs) a =
+    let parts = and_parts (is_ascii c) (list_all is_ascii cs) a in
+    let low : c < 128 = ascii_low c parts.0 in
+    let rest = ascii_bytes cs parts.1 in
+    record {
+      scalars = and_from _ (all_scalars cs) (low_scalar c low) rest.scalars;
+      encoded = ap (λ l. l ++ encode_utf8_all cs) (encode_ascii c low) ∙ ap (λ l. c ∷ l) rest.encoded;
+    }
+
+-- ---- tests of each character
+
+pub each_passes : (test : ℕ → Bool) (cs : List ℕ) → list_all test cs ≡ true → EachPasses test cs
+each_passes test [] a = tt
+each_passes test (c ∷ cs) a = let parts = and_parts (test c) (list_all test cs) a in (parts.0, each_passes test cs parts.1)
+
+pub all_pass : (test : ℕ → Bool) (cs : List ℕ) → EachPasses test cs → list_all test cs ≡ true
+all_pass test [] a = refl
+all_pass test (c ∷ cs) a = and_from (test c) (list_all test cs) a.0 (all_pass test cs a.1)
+
+-- what passes a test passes a weaker one
+pub weaker_test : (test other : ℕ → Bool) → ((c : ℕ) → test c ≡ true → other c ≡ true) → (cs : List ℕ) → list_all test cs ≡ true → list_all other cs ≡ true
+weaker_test test other weaker [] a = refl
+weaker_test test other weaker (c ∷ cs) a = let parts = and_parts (test c) (list_all test cs) a in and_from (other c) (list_all other cs) (weaker c parts.0) (weaker_test test other weaker cs parts.1)

@@ -1,0 +1,13 @@
+use Rattle.std.proofs.Common.{◌≡◌, drop, map}
+use Rattle.xdg_lex.specs.declared.token.Kind.TheVariants as k
+use Rattle.xdg_ast.specs.Trees.{separated}
+use Rattle.xdg_print.specs.Printed.{put}
+use Rattle.xdg_print.proofs.Put.{members}
+use Rattle.xdg_print.proofs.WrittenTerms.{joined_gen, disjoined_gen}
+use Rattle.xdg_print.proofs.printer.Printer.+generator.Given as goal
+
+abbrev pub invariant-loop-member : goal.invariant-loop-member
+invariant-loop-member l = put (members k.Ampersand l.first (map joined_gen (drop l.member-index l.member-items))) l.self ≡ put (separated k.Ampersand (map joined_gen l.member-items)) l.initial.self
+
+abbrev pub invariant-loop-member-2 : goal.invariant-loop-member-2
+invariant-loop-member-2 l = put (members k.Bar l.first (map disjoined_gen (drop l.member-index l.member-items))) l.self ≡ put (separated k.Bar (map disjoined_gen l.member-items)) l.initial.self

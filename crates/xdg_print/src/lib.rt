@@ -1,0 +1,14 @@
+//! The canonical text of grammars.
+#![tactic(auto)]
+
+mod expressions;
+mod printer;
+mod statements;
+mod terms;
+#[cfg(test)]
+mod tests;
+mod types;
+mod words;
+
+pub use printer::Printer;
+pub use statements::print;

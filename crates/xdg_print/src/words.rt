@@ -1,0 +1,213 @@
+//! Words as they are written.
+
+ghost use Rattle.std.specs.Prelude.{◌≡◌, ◌++◌, OnOk};
+ghost use Rattle.std.specs.Char.{encode_utf8};
+ghost use Rattle.std.specs.List.{list_all};
+ghost use Rattle.xdg_lex.specs.Kinds.{begins_name, continues_name};
+ghost use Rattle.xdg_ast.specs.Words.{mark, is_name};
+ghost use Rattle.xdg_ast.specs.Canon.{spelling, escaped, is_tight_behind, is_tight_before, takes_types, is_tight};
+ghost use Rattle.xdg_print.specs.Printed.{keyword_text, has_name_form, is_keyword};
+
+use std::alloc::AllocError;
+use xdg_base::Text;
+use xdg_lex::Kind;
+
+/// How a keyword is spelled. Of other words it tells nothing.
+fn keyword(kind: Kind) -> &'static str
+    ensures { result.now ≡ keyword_text kind }
+{
+    match kind {
+        Kind::DefDim => "defdim",
+        Kind::DefType => "deftype",
+        Kind::DefLabelType => "deflabeltype",
+        Kind::DefAttrsType => "defattrstype",
+        Kind::DefEntryType => "defentrytype",
+        Kind::UsePrinciple => "useprinciple",
+        Kind::Dims => "dims",
+        Kind::Args => "args",
+        Kind::Output => "output",
+        Kind::UseOutput => "useoutput",
+        Kind::DefClass => "defclass",
+        Kind::DefEntry => "defentry",
+        Kind::Dim => "dim",
+        Kind::UseDim => "usedim",
+        Kind::Tuple => "tuple",
+        Kind::Set => "set",
+        Kind::ISet => "iset",
+        Kind::Valency => "valency",
+        Kind::Map => "map",
+        Kind::Card => "card",
+        Kind::Bool => "bool",
+        Kind::Int => "int",
+        Kind::String => "string",
+        _ => "",
+    }
+}
+
+/// How a keyword or a sign is spelled, and a constant or a number that says nothing.
+#[tactic(auto, unfolding(xdg_ast::specs::Canon::spelling))]
+pub(crate) fn mark_text(kind: Kind) -> &'static str
+    ensures { result.now ≡ spelling (mark kind) }
+{
+    match kind {
+        Kind::Name => "",
+        Kind::Quoted => "\"\"",
+        Kind::Number => "0",
+        Kind::LeftBrace => "{",
+        Kind::RightBrace => "}",
+        Kind::LeftParenthesis => "(",
+        Kind::RightParenthesis => ")",
+        Kind::LeftBracket => "[",
+        Kind::RightBracket => "]",
+        Kind::Colon => ":",
+        Kind::Ampersand => "&",
+        Kind::Bar => "|",
+        Kind::Dollar => "$",
+        Kind::Hash => "#",
+        Kind::Exclamation => "!",
+        Kind::Question => "?",
+        Kind::Star => "*",
+        Kind::Plus => "+",
+        _ => keyword(kind),
+    }
+}
+
+/// Whether no space stands behind such a word.
+fn is_tight_behind(kind: Kind) -> bool
+    ensures { result ≡ is_tight_behind kind }
+{
+    matches!(
+        kind,
+        Kind::LeftBrace | Kind::LeftParenthesis | Kind::LeftBracket | Kind::Hash
+    )
+}
+
+/// Whether no space stands before such a word.
+fn is_tight_before(kind: Kind) -> bool
+    ensures { result ≡ is_tight_before kind }
+{
+    matches!(
+        kind,
+        Kind::RightBrace
+            | Kind::RightParenthesis
+            | Kind::RightBracket
+            | Kind::Colon
+            | Kind::Exclamation
+            | Kind::Question
+            | Kind::Star
+            | Kind::Plus
+    )
+}
+
+/// Whether it is the word of a type before its brackets.
+fn takes_types(kind: Kind) -> bool
+    ensures { result ≡ takes_types kind }
+{
+    matches!(
+        kind,
+        Kind::Tuple | Kind::Set | Kind::ISet | Kind::Valency | Kind::Map
+    )
+}
+
+/// Whether no space stands between the two.
+pub(crate) fn is_tight(one: Kind, other: Kind) -> bool
+    ensures { result ≡ is_tight one other }
+{
+    is_tight_behind(one)
+        || is_tight_before(other)
+        || (takes_types(one) && matches!(other, Kind::LeftParenthesis))
+}
+
+/// Whether a text is a keyword.
+#[tactic(auto, unfolding(crate::specs::Printed::is_keyword, xdg_lex::specs::Kinds::keyword_of))]
+fn is_keyword(text: &str) -> bool
+    ensures { result ≡ is_keyword text.now }
+{
+    matches!(
+        text,
+        "defdim"
+            | "deftype"
+            | "deflabeltype"
+            | "defattrstype"
+            | "defentrytype"
+            | "useprinciple"
+            | "dims"
+            | "args"
+            | "output"
+            | "useoutput"
+            | "defclass"
+            | "defentry"
+            | "dim"
+            | "usedim"
+            | "tuple"
+            | "set"
+            | "iset"
+            | "valency"
+            | "map"
+            | "card"
+            | "bool"
+            | "int"
+            | "string"
+    )
+}
+
+fn begins_name(byte: u8) -> bool
+    ensures { result ≡ begins_name byte }
+{
+    byte.is_ascii_alphabetic() || byte == b'_'
+}
+
+fn continues_name(byte: u8) -> bool
+    ensures { result ≡ continues_name byte }
+{
+    byte.is_ascii_alphanumeric() || byte == b'_' || byte == b'.'
+}
+
+/// Whether each of the bytes continues a name.
+fn continue_name(bytes: &[u8]) -> bool
+    ensures { result ≡ list_all continues_name bytes.now }
+{
+    bytes.iter().all(|byte| continues_name(*byte))
+}
+
+/// Whether bytes are a name or a keyword.
+fn has_name_form(bytes: &[u8]) -> bool
+    ensures { result ≡ has_name_form bytes.now }
+{
+    match bytes.split_first() {
+        Some((first, others)) => begins_name(*first) && continue_name(others),
+        None => false,
+    }
+}
+
+/// Whether a text can stand as a name.
+#[tactic(auto, using(crate::proofs::Names::name_of_form))]
+pub(crate) fn is_name(text: &str) -> bool
+    ensures { result ≡ is_name text.now }
+{
+    has_name_form(text.as_bytes()) && !is_keyword(text)
+}
+
+/// Adds a character, with a backslash before it if it is a quotation mark or a backslash.
+fn push_character(text: &mut Text, c: char) -> Result<(), AllocError>
+    ensures { OnOk result (text.new ≡ text.old ++ escaped (encode_utf8 c)) }
+{
+    if c == '"' {
+        return text.push_str("\\\"");
+    }
+    if c == '\\' {
+        return text.push_str("\\\\");
+    }
+    let mut buffer = [0; 4];
+    text.push_str(c.encode_utf8(&mut buffer))
+}
+
+/// Adds a text with a backslash before each quotation mark and each backslash.
+pub(crate) fn push_escaped(text: &mut Text, characters: &str) -> Result<(), AllocError>
+    ensures { OnOk result (text.new ≡ text.old ++ escaped characters.now) }
+{
+    for c in characters.chars() {
+        push_character(text, c)?;
+    }
+    Ok(())
+}
