@@ -5,8 +5,8 @@ use Rattle.std.proofs.lemmas.List.Elements.{All-nil, All-cons}
 use Rattle.std.proofs.lemmas.Option.{slice_get_cases}
 use Rattle.xdg_base.specs.declared.faults.Fault.{Fault}
 use Rattle.xdg_base.specs.declared.faults.Cause.TheVariants as causes
-use Rattle.xdg_parse.specs.declared.grammar.PlainEntry.{PlainEntry}
-use Rattle.xdg_parse.specs.declared.grammar.PlainGrammar.{PlainGrammar}
+use Rattle.xdg_plain.specs.declared.grammar.PlainEntry.{PlainEntry}
+use Rattle.xdg_plain.specs.declared.grammar.PlainGrammar.{PlainGrammar}
 use Rattle.xdg_problem.specs.declared.parts.SentenceWord.{SentenceWord}
 use Rattle.xdg_build.specs.Lookup.{is_known}
 use Rattle.xdg_build.specs.Refusals.{fault, first_unknown, too_many_or, refusal}

@@ -5,9 +5,9 @@ use Rattle.std.proofs.lemmas.List.{length-map, get_or-map}
 use Rattle.std.proofs.lemmas.List.Elements.{All-nil, All-cons, All-weaker, All-map, All-filter}
 use Rattle.std.proofs.lemmas.List.Kept.{AllPairs-cons}
 use Rattle.xdg_base.specs.declared.ids.EntryNo.{EntryNo}
-use Rattle.xdg_parse.specs.declared.grammar.Count.{Count}
-use Rattle.xdg_parse.specs.declared.grammar.PlainEntry.{PlainEntry}
-use Rattle.xdg_parse.specs.declared.grammar.PlainGrammar.{PlainGrammar}
+use Rattle.xdg_plain.specs.declared.grammar.Count.{Count}
+use Rattle.xdg_plain.specs.declared.grammar.PlainEntry.{PlainEntry}
+use Rattle.xdg_plain.specs.declared.grammar.PlainGrammar.{PlainGrammar}
 use Rattle.xdg_problem.specs.declared.parts.DimPlan.{DimPlan}
 use Rattle.xdg_problem.specs.declared.parts.Feat.{Feat}
 use Rattle.xdg_problem.specs.declared.parts.Group.{Group}
@@ -15,7 +15,7 @@ use Rattle.xdg_problem.specs.declared.parts.Principle.{Principle}
 use Rattle.xdg_problem.specs.declared.parts.Principle.TheVariants as principles
 use Rattle.xdg_problem.specs.declared.parts.SentenceWord.{SentenceWord}
 use Rattle.xdg_problem.specs.Problems.{AreCandidates, IsAttr, IsDim, IsCardinality, IsValency, AreFeatures, IsGroup, IsProblem}
-use Rattle.xdg_parse.specs.IsPlain.{IsEntryOf, IsPlain}
+use Rattle.xdg_plain.specs.IsPlain.{IsEntryOf, IsPlain}
 use Rattle.xdg_build.specs.Lookup.{has_word, is_known, entries_of, candidates_of}
 use Rattle.xdg_build.specs.Refusals.{refusal}
 use Rattle.xdg_build.specs.Compiled.{row, feature, features, candidate_features, group, id_plan, lex_plan, compiled}

@@ -5,7 +5,7 @@ use Rattle.std.proofs.lemmas.Bool.{cond_both}
 use Rattle.std.proofs.lemmas.List.Elements.{All-nil, All-cons, All-weaker}
 use Rattle.std.proofs.lemmas.List.Kept.{AllPairs-cons}
 use Rattle.xdg_base.specs.declared.ids.EntryNo.{EntryNo}
-use Rattle.xdg_parse.specs.declared.grammar.PlainEntry.{PlainEntry}
+use Rattle.xdg_plain.specs.declared.grammar.PlainEntry.{PlainEntry}
 use Rattle.xdg_problem.specs.Problems.{AreCandidates}
 use Rattle.xdg_build.specs.Lookup.{has_word, is_known, entries_of, numbers_of, candidates_of}
 

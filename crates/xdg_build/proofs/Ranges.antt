@@ -4,8 +4,8 @@ use Rattle.std.specs.List.{range_with_len}
 use Rattle.std.specs.List.Sorted.{IsStrictlyIncreasing}
 use Rattle.std.proofs.lemmas.List.FromFn.{length-range_with_len, get_or-range_with_len}
 use Rattle.std.proofs.lemmas.List.Elements.{All-from_get_or}
-use Rattle.xdg_parse.specs.declared.grammar.Count.{Count}
-use Rattle.xdg_parse.specs.declared.grammar.Count.TheVariants as counts
+use Rattle.xdg_plain.specs.declared.grammar.Count.{Count}
+use Rattle.xdg_plain.specs.declared.grammar.Count.TheVariants as counts
 use Rattle.xdg_problem.specs.Problems.{IsCardinality}
 use Rattle.xdg_build.specs.Compiled.{row}
 

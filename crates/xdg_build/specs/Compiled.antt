@@ -1,10 +1,10 @@
 -- The problem that a grammar of the plain form makes of a sentence.
 use Rattle.std.specs.Prelude.{ℕ, List, [], ◌∷◌, map, codes, true, false}
 use Rattle.std.specs.List.{range_with_len}
-use Rattle.xdg_parse.specs.declared.grammar.Count.{Count}
-use Rattle.xdg_parse.specs.declared.grammar.Count.TheVariants as counts
-use Rattle.xdg_parse.specs.declared.grammar.PlainEntry.{PlainEntry}
-use Rattle.xdg_parse.specs.declared.grammar.PlainGrammar.{PlainGrammar}
+use Rattle.xdg_plain.specs.declared.grammar.Count.{Count}
+use Rattle.xdg_plain.specs.declared.grammar.Count.TheVariants as counts
+use Rattle.xdg_plain.specs.declared.grammar.PlainEntry.{PlainEntry}
+use Rattle.xdg_plain.specs.declared.grammar.PlainGrammar.{PlainGrammar}
 use Rattle.xdg_problem.specs.declared.parts.DimPlan.{DimPlan}
 use Rattle.xdg_problem.specs.declared.parts.Feat.{Feat}
 use Rattle.xdg_problem.specs.declared.parts.Group.{Group}

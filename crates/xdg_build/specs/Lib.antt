@@ -1,3 +1,4 @@
 pub mod Lookup
 pub mod Refusals
 pub mod Compiled
+pub mod Examples

@@ -2,7 +2,7 @@
 use Rattle.std.specs.Prelude.{ℕ, suc, Bool, List, [], ◌∷◌, cond, filter, bytes_eq}
 use Rattle.std.specs.List.{list_any}
 use Rattle.xdg_base.specs.declared.ids.EntryNo.{EntryNo}
-use Rattle.xdg_parse.specs.declared.grammar.PlainEntry.{PlainEntry}
+use Rattle.xdg_plain.specs.declared.grammar.PlainEntry.{PlainEntry}
 
 abbrev pub has_word : List ℕ → PlainEntry → Bool
 has_word word entry = bytes_eq entry.word word

@@ -5,8 +5,8 @@ use Rattle.xdg_base.specs.declared.faults.Cause.TheVariants as causes
 use Rattle.xdg_base.specs.declared.faults.Fault.{Fault}
 use Rattle.xdg_base.specs.declared.faults.Stop.{Stop}
 use Rattle.xdg_base.specs.declared.faults.Stop.TheVariants as stops
-use Rattle.xdg_parse.specs.declared.grammar.PlainEntry.{PlainEntry}
-use Rattle.xdg_parse.specs.declared.grammar.PlainGrammar.{PlainGrammar}
+use Rattle.xdg_plain.specs.declared.grammar.PlainEntry.{PlainEntry}
+use Rattle.xdg_plain.specs.declared.grammar.PlainGrammar.{PlainGrammar}
 use Rattle.xdg_problem.specs.declared.parts.SentenceWord.{SentenceWord}
 use Rattle.xdg_build.specs.Lookup.{is_known}
 

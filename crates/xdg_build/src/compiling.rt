@@ -3,14 +3,14 @@
 ghost use Rattle.std.specs.Prelude.{◌≡◌, None, [], ◌∷◌, IfOk, IfErr, IsOk, codes};
 ghost use Rattle.xdg_build.specs.Compiled.{compiled, id_plan, lex_plan};
 ghost use Rattle.xdg_build.specs.Refusals.{refusal, IsRefused};
-ghost use Rattle.xdg_parse.specs.IsPlain.{IsPlain};
+ghost use Rattle.xdg_plain.specs.IsPlain.{IsPlain};
 
 use crate::features::group_of;
 use crate::lookup::all_candidates;
 use crate::refusals::refusal;
 use std::alloc::{AllocError, Global};
 use xdg_base::{List, Stop, Text};
-use xdg_parse::PlainGrammar;
+use xdg_plain::PlainGrammar;
 use xdg_problem::{DimPlan, Group, Parts, Principle, Problem, SentenceWord};
 
 fn copied(alloc: Global, texts: &[Text]) -> Result<List<Text>, AllocError>

@@ -8,7 +8,7 @@ ghost use Rattle.xdg_build.specs.Compiled.{row, feature, features, candidate_fea
 use crate::lookup::has_word;
 use std::alloc::{AllocError, Global};
 use xdg_base::{DimId, List};
-use xdg_parse::{Count, PlainEntry};
+use xdg_plain::{Count, PlainEntry};
 use xdg_problem::{Feat, Group, Nums, Principle, SentenceWord};
 
 #[tactic(auto, using(crate::proofs::Ranges::range_more))]

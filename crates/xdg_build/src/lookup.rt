@@ -5,7 +5,7 @@ ghost use Rattle.xdg_build.specs.Lookup.{has_word, is_known, candidates_of};
 
 use std::alloc::{AllocError, Global};
 use xdg_base::{EntryNo, List};
-use xdg_parse::PlainEntry;
+use xdg_plain::PlainEntry;
 use xdg_problem::SentenceWord;
 
 /// Whether an entry has a word.

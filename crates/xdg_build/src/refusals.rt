@@ -5,7 +5,7 @@ ghost use Rattle.xdg_build.specs.Refusals.{first_unknown, refusal};
 
 use crate::lookup::is_known;
 use xdg_base::{Cause, Fault};
-use xdg_parse::{PlainEntry, PlainGrammar};
+use xdg_plain::{PlainEntry, PlainGrammar};
 use xdg_problem::SentenceWord;
 
 /// The most words that a sentence may have.

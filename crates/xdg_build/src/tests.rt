@@ -1,27 +1,78 @@
 //! A small grammar, compiled with sentences.
 
+ghost use Rattle.std.specs.Prelude.{◌≡◌, ◌∷◌, [], IfOk, codes};
+ghost use Rattle.xdg_plain.specs.IsPlain.{IsPlain};
+ghost use Rattle.xdg_build.specs.Examples.{of_two, small_entries};
+
 use crate::build;
 use std::alloc::{AllocError, Global};
 use std::test::Fail;
 use xdg_base::{Cause, Fault, List, Stop, Text};
-use xdg_parse::parse;
+use xdg_plain::{Count, PlainEntry, PlainGrammar};
 use xdg_problem::{Feat, Parts, SentenceWord};
 
-const GRAMMAR: &str = "usedim id usedim lex
-defdim lex {defentrytype {word: string}}
-defdim id {
-deftype id.label {det subj}
-deflabeltype id.label
-defentrytype {in: valency(id.label) out: valency(id.label)}
-useprinciple principle.graph {dims {D: id}}
-useprinciple principle.tree {dims {D: id}}
-useprinciple principle.valency {dims {D: id}}
+/// An entry that says this of edges with the labels det and subj.
+fn entry(
+    alloc: Global,
+    word: &str,
+    ins: (Count, Count),
+    outs: (Count, Count),
+) -> Result<PlainEntry, AllocError>
+    ensures { IfOk result (λ made. made ≡ of_two word.now ins.0 ins.1 outs.0 outs.1) }
+{
+    let word = Text::from_str(alloc, word)?;
+    let mut in_counts = List::new(alloc);
+    in_counts.push(ins.0)?;
+    in_counts.push(ins.1)?;
+    let mut out_counts = List::new(alloc);
+    out_counts.push(outs.0)?;
+    out_counts.push(outs.1)?;
+    Ok(PlainEntry {
+        word,
+        ins: in_counts,
+        outs: out_counts,
+    })
 }
-defentry {dim id {in: {det?}} dim lex {word: the}}
-defentry {dim id {in: {subj?} out: {det!}} dim lex {word: dog}}
-defentry {dim id {out: {subj!}} dim lex {word: barks}}
-defentry {dim id {in: {subj+} out: {det*}} dim lex {word: dog}}
-";
+
+fn entries(alloc: Global) -> Result<List<PlainEntry>, AllocError>
+    ensures { IfOk result (λ made. made ≡ small_entries) }
+{
+    let none = (Count::Zero, Count::Zero);
+    let mut entries = List::new(alloc);
+    entries.push(entry(alloc, "the", (Count::Maybe, Count::Zero), none)?)?;
+    entries.push(entry(
+        alloc,
+        "dog",
+        (Count::Zero, Count::Maybe),
+        (Count::One, Count::Zero),
+    )?)?;
+    entries.push(entry(alloc, "barks", none, (Count::Zero, Count::One))?)?;
+    entries.push(entry(
+        alloc,
+        "dog",
+        (Count::Zero, Count::AtLeastOne),
+        (Count::Any, Count::Zero),
+    )?)?;
+    Ok(entries)
+}
+
+fn labels(alloc: Global) -> Result<List<Text>, AllocError>
+    ensures { IfOk result (λ made. made ≡ codes "det" ∷ codes "subj" ∷ []) }
+{
+    let mut labels = List::new(alloc);
+    labels.push(Text::from_str(alloc, "det")?)?;
+    labels.push(Text::from_str(alloc, "subj")?)?;
+    Ok(labels)
+}
+
+fn grammar(alloc: Global) -> Result<PlainGrammar, AllocError>
+    ensures { IfOk result (λ made. IsPlain made) }
+{
+    Ok(PlainGrammar {
+        labels: labels(alloc)?,
+        entries: entries(alloc)?,
+    })
+}
 
 /// The words, each four bytes behind the one before.
 fn sentence(alloc: Global, texts: &[&str]) -> Result<List<SentenceWord>, AllocError> {
@@ -80,7 +131,7 @@ fn push_groups(shown: &mut String, alloc: Global, parts: &Parts) -> Result<(), A
 #[test]
 fn compiles(rt: HostRuntime) -> Result<(), Fail> {
     let alloc = rt.alloc();
-    let grammar = parse(alloc, GRAMMAR.as_bytes())?;
+    let grammar = grammar(alloc)?;
     let problem = build(alloc, &grammar, sentence(alloc, &["the", "dog", "barks"])?)?;
     let mut shown = String::new(alloc);
     push_candidates(&mut shown, alloc, problem.parts())?;
@@ -96,7 +147,7 @@ fn compiles(rt: HostRuntime) -> Result<(), Fail> {
 #[test]
 fn refuses(rt: HostRuntime) -> Result<(), Fail> {
     let alloc = rt.alloc();
-    let grammar = parse(alloc, GRAMMAR.as_bytes())?;
+    let grammar = grammar(alloc)?;
     for (texts, cause, at, reached) in [
         (&[][..], Cause::EmptySentence, 0, 0),
         (&["the", "cat", "bark"][..], Cause::UnknownWord, 4, 0),

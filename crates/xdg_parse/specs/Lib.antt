@@ -1,9 +1,4 @@
-pub mod Characters
-pub mod Distinct
-pub mod IsPlain
-pub mod Keywords
-pub mod Lexing
-pub mod Plain
-pub mod Readers
-pub mod Refused
-pub mod Written
+pub mod Laws
+pub mod Outcome
+pub mod Parts
+pub mod Steps

@@ -1,147 +1,195 @@
-//! A cursor over tokens.
+//! A cursor over tokens, which looks at one of them ahead.
 
-ghost use Rattle.std.specs.Prelude.{◌≡◌, ◌↔◌, IsTrue, [], option_copied, option_map};
-ghost use Rattle.xdg_parse.specs.Readers.{same_token, expect, constant, Reads, Finds, FindsWhether};
-ghost use Rattle.xdg_parse.specs.Plain.{element, count_of};
+ghost use Rattle.std.specs.Prelude.{◌≡◌, Ok, option_map};
+ghost use Rattle.xdg_lex.specs.Lexed.{lexeme_of, lexemes_of};
+ghost use Rattle.xdg_ast.specs.Language as spec;
+ghost use Rattle.xdg_ast.specs.Grammar.{is_constant};
+ghost use Rattle.xdg_ast.specs.Derives.{place_of};
+ghost use Rattle.xdg_parse.specs.Steps.{Reads, Takes, Opens};
 
-use crate::grammar::Count;
-use crate::lexing::Unread;
-use crate::token::Token;
+use std::alloc::{AllocError, AllocFailed};
 use std::marker::Model;
-use xdg_base::Text;
+use xdg_base::Span;
+use xdg_lex::{Kind, Token};
 
-/// The tokens that are not read yet.
+/// Why reading stops at the next token.
+#[derive(Clone, Copy, Debug)]
+pub(crate) enum Why {
+    /// No memory was to be had.
+    Memory,
+    /// Nothing goes on with it.
+    Unexpected,
+    /// It opens one bracket too many.
+    TooDeep,
+}
+
+impl From<AllocError> for Why {
+    ghost use Rattle.xdg_parse.specs.declared.cursor.Why.TheVariants.{Memory};
+
+    ghost from_gives = { λ _ why. why ≡ Memory };
+
+    fn from(_: AllocError) -> Why {
+        Why::Memory
+    }
+}
+
+/// The tokens that are left, and where the last one that was read ends.
 #[derive(Drop)]
-pub(crate) struct Cursor<'a> {
-    left: &'a [Token],
+pub(crate) struct Cursor<'l, 'a> {
+    left: &'l [Token<'a>],
+    ended: u32,
 }
 
-impl<'a> Model for Cursor<'a> {
-    ghost use Rattle.std.specs.Prelude.{List};
-    ghost use Rattle.xdg_parse.specs.declared.token.Token.{Token};
+impl<'l, 'a> Model for Cursor<'l, 'a> {
+    ghost use Rattle.xdg_ast.specs.Language.{State};
+    ghost use Rattle.xdg_lex.specs.Lexed.{lexemes_of};
 
-    ghost Value = { List Token };
+    ghost Value = { State };
 
-    ghost view = { λ c. c.left.now };
+    ghost view = { λ c. record { ended = c.ended; left = lexemes_of c.left.now } };
 }
 
-/// Whether two tokens are of one kind and of one text.
-fn same_token(a: &Token, b: &Token) -> bool
-    ensures { result ≡ same_token a.now b.now }
-{
-    match a {
-        Token::Constant(a) => match b {
-            Token::Constant(b) => a.as_str() == b.as_str(),
-            _ => false,
-        },
-        Token::Keyword(a) => match b {
-            Token::Keyword(b) => a.as_str() == b.as_str(),
-            _ => false,
-        },
-        Token::Sign(a) => match b {
-            Token::Sign(b) => *a == *b,
-            _ => false,
-        },
-    }
-}
-
-#[tactic(auto, unfolding(crate::specs::Readers::expect))]
-/// The tokens behind these ones, if the list begins with them.
-fn after<'a>(wanted: &[Token], tokens: &'a [Token]) -> Option<&'a [Token]>
-    ensures { expect wanted.now tokens.now ≡ option_map (λ left. (tt, left.now)) result }
-{
-    let mut left = tokens;
-    for token in wanted {
-        match left.split_first() {
-            None => return None,
-            Some((first, rest)) => {
-                if !same_token(token, first) {
-                    return None;
-                }
-                left = rest;
-            }
+#[tactic(auto, unfolding(xdg_ast::specs::Language::kind_of, xdg_ast::specs::Language::start_of, xdg_ast::specs::Language::skip, xdg_ast::specs::Language::next, xdg_ast::specs::Language::read_token))]
+impl<'l, 'a> Cursor<'l, 'a> {
+    /// Before the first token.
+    pub(crate) fn new(tokens: &'l [Token<'a>]) -> Cursor<'l, 'a>
+        ensures { result ≡ record { ended = 0; left = lexemes_of tokens.now } }
+    {
+        Cursor {
+            left: tokens,
+            ended: 0,
         }
     }
-    Some(left)
-}
 
-#[tactic(auto, unfolding(crate::specs::Readers::constant, crate::specs::Plain::element))]
-impl<'a> Cursor<'a> {
-    pub(crate) fn new(tokens: &'a [Token]) -> Cursor<'a>
-        ensures { result ≡ tokens.now }
-    {
-        Cursor { left: tokens }
-    }
-
-    pub(crate) fn is_done(&self) -> bool
-        ensures { IsTrue result ↔ (self.now ≡ []) }
-    {
-        self.left.is_empty()
-    }
-
-    /// Takes exactly these tokens.
-    pub(crate) fn expect(&mut self, wanted: &[Token]) -> Result<(), Unread>
-        ensures { Reads (expect wanted.now self.old) result self.new }
-    {
-        if !self.takes(wanted) {
-            return Err(Unread::NotPlain);
-        }
-        Ok(())
-    }
-
-    /// Takes a constant, if one comes next.
-    pub(crate) fn constant(&mut self) -> Option<&'a Text>
-        ensures { Finds (constant self.old) (option_copied result) self.old self.new }
+    /// The kind of the next token.
+    pub(crate) fn kind(&self) -> Option<Kind>
+        ensures { result ≡ spec.kind_of self.now.left }
     {
         match self.left.split_first() {
-            Some((Token::Constant(text), rest)) => {
-                self.left = rest;
-                Some(text)
-            }
-            _ => None,
+            None => None,
+            Some((token, _)) => Some(token.kind),
         }
     }
 
-    /// Takes exactly these tokens, if they come next.
-    pub(crate) fn takes(&mut self, wanted: &[Token]) -> bool
-        ensures { FindsWhether (expect wanted.now self.old) result self.old self.new }
+    /// Whether the next token is of this kind.
+    pub(crate) fn sees(&self, kind: Kind) -> bool
+        ensures { result ≡ spec.sees (spec.is kind) self.now.left }
     {
-        match after(wanted, self.left) {
-            Some(left) => {
-                self.left = left;
-                true
-            }
+        match self.left.split_first() {
             None => false,
+            Some((token, _)) => kind as u8 == token.kind as u8,
         }
     }
 
-    /// Takes a label with its sign, if they come next.
-    pub(crate) fn element(&mut self) -> Option<(&'a Text, Count)>
-        ensures { Finds (element self.old) (option_map (λ found. record { label = found.0.now; count = found.1 }) result) self.old self.new }
+    /// Whether the next token is a constant.
+    pub(crate) fn sees_constant(&self) -> bool
+        ensures { result ≡ spec.sees is_constant self.now.left }
     {
-        let (label, rest) = match self.left.split_first() {
-            Some((Token::Constant(label), rest)) => (label, rest),
-            _ => return None,
-        };
-        let (count, rest) = match rest.split_first() {
-            Some((Token::Sign(sign), rest)) => (count_of(*sign)?, rest),
-            _ => return None,
-        };
-        self.left = rest;
-        Some((label, count))
+        match self.left.split_first() {
+            None => false,
+            Some((token, _)) => {
+                token.kind as u8 == Kind::Name as u8 || token.kind as u8 == Kind::Quoted as u8
+            }
+        }
     }
-}
 
-/// What a sign says of a label.
-#[tactic(auto, unfolding(crate::specs::Plain::count_of))]
-fn count_of(sign: char) -> Option<Count>
-    ensures { result ≡ count_of sign }
-{
-    match sign {
-        '!' => Some(Count::One),
-        '?' => Some(Count::Maybe),
-        '*' => Some(Count::Any),
-        '+' => Some(Count::AtLeastOne),
-        _ => None,
+    /// Where the next token starts.
+    pub(crate) fn start(&self) -> u32
+        ensures { result ≡ spec.start_of self.now.left }
+    {
+        match self.left.split_first() {
+            None => 0,
+            Some((token, _)) => token.span.start,
+        }
+    }
+
+    /// Where the next token starts, or the end where there is none.
+    pub(crate) fn place(&self, end: u32) -> u32
+        ensures { result ≡ place_of end self.now.left }
+    {
+        match self.left.split_first() {
+            None => end,
+            Some((token, _)) => token.span.start,
+        }
+    }
+
+    /// The span from there to the last token that was read.
+    pub(crate) fn span_from(&self, start: u32) -> Span
+        ensures { result ≡ record { start = start; end = self.now.ended } }
+    {
+        Span {
+            start,
+            end: self.ended,
+        }
+    }
+
+    /// Goes past the next token, if there is one.
+    pub(crate) fn skip(&mut self)
+        ensures { self.new ≡ spec.skip self.old }
+    {
+        if let Some((token, _)) = self.left.split_first() {
+            self.ended = token.span.end;
+            let left: &'l [Token<'a>] = self.left;
+            self.left = &left[1..];
+        }
+    }
+
+    /// The next token.
+    pub(crate) fn next(&mut self) -> Result<Token<'a>, Why>
+        ensures { Takes (spec.next self.old) result self.new }
+    {
+        let Some((token, _)) = self.left.split_first() else {
+            return Err(Why::Unexpected);
+        };
+        let token = *token;
+        self.skip();
+        Ok(token)
+    }
+
+    /// The next token, which is of this kind.
+    pub(crate) fn expect(&mut self, kind: Kind) -> Result<Token<'a>, Why>
+        ensures { Takes ((spec.token (spec.is kind)).read self.old) result self.new }
+    {
+        if !self.sees(kind) {
+            return Err(Why::Unexpected);
+        }
+        self.next()
+    }
+
+    /// The next token, which is a constant.
+    pub(crate) fn constant(&mut self) -> Result<Token<'a>, Why>
+        ensures { Takes ((spec.token is_constant).read self.old) result self.new }
+    {
+        if !self.sees_constant() {
+            return Err(Why::Unexpected);
+        }
+        self.next()
+    }
+
+    /// Goes past the next token, if it is of this kind.
+    pub(crate) fn eat(&mut self, kind: Kind) -> Option<Token<'a>>
+        ensures { (spec.optional (spec.token (spec.is kind))).read self.old ≡ Ok (option_map lexeme_of result, self.new) }
+    {
+        if !self.sees(kind) {
+            return None;
+        }
+        let (token, _) = self.left.split_first()?;
+        let token = *token;
+        self.skip();
+        Some(token)
+    }
+
+    /// Opens a bracket, and answers how many may be opened in it.
+    pub(crate) fn open(&mut self, kind: Kind, within: u32) -> Result<u32, Why>
+        ensures { Opens (spec.is kind) within self.old result self.new }
+    {
+        if !self.sees(kind) {
+            return Err(Why::Unexpected);
+        }
+        if within == 0 {
+            return Err(Why::TooDeep);
+        }
+        self.skip();
+        Ok(within - 1)
     }
 }

@@ -1,17 +1,17 @@
-//! Reading of the grammar texts that have the plain form.
+//! Reading of grammar texts: the tree that tokens stand for, or the first fault.
 #![tactic(auto)]
 
+mod cards;
 mod cursor;
-mod distinct;
-mod grammar;
-mod lexing;
+mod dimensions;
+mod expressions;
+mod generators;
+mod names;
 mod parsing;
-mod pieces;
-mod reading;
+mod statements;
+mod terms;
 #[cfg(test)]
 mod tests;
-mod token;
+mod types;
 
-pub use distinct::lexicon;
-pub use grammar::{Count, PlainEntry, PlainGrammar};
 pub use parsing::parse;

@@ -1,52 +1,71 @@
-//! Reading of a whole text.
+//! The grammar that tokens stand for.
 
-ghost use Rattle.std.specs.Prelude.{◌≡◌, IfOk, IfErr};
-ghost use Rattle.xdg_parse.specs.Plain.{plain_of};
-ghost use Rattle.xdg_parse.specs.Lexing.{Answers};
-ghost use Rattle.xdg_parse.specs.Refused.{IsRefused};
-ghost use Rattle.xdg_parse.specs.IsPlain.{IsPlain};
-ghost use Rattle.xdg_parse.specs.Written.{Says};
-ghost use Rattle.xdg_parse.specs.declared.grammar.PlainGrammar.{PlainGrammar};
+ghost use Rattle.std.specs.Prelude.{◌≡◌, Result};
+ghost use Rattle.xdg_base.specs.declared.faults.Fault as faults;
+ghost use Rattle.xdg_base.specs.declared.faults.Cause.TheVariants as causes;
+ghost use Rattle.xdg_base.specs.declared.faults.Stop.TheVariants as stops;
+ghost use Rattle.xdg_lex.specs.Lexed.{lexemes_of};
+ghost use Rattle.xdg_ast.specs.declared.grammar.Grammar as trees;
+ghost use Rattle.xdg_parse.specs.Outcome.{IsAnswer, Tells, Gives};
 
-use crate::grammar::PlainGrammar;
-use crate::lexing::{Unread, tokens};
-use crate::reading::grammar;
+use crate::cursor::{Cursor, Why};
+use crate::statements::statements;
 use std::alloc::Global;
-use std::str;
-use xdg_base::{Cause, Fault, Stop};
+use xdg_ast::Grammar;
+use xdg_base::{Cause, Fault, List, Stop};
+use xdg_lex::Token;
 
-#[tactic(auto, unfolding(crate::specs::Plain::plain_of))]
-fn read(alloc: Global, bytes: &[u8]) -> Result<PlainGrammar, Unread>
-    ensures { Answers (plain_of bytes.now) result }
+/// How many brackets may be open at a time.
+const MOST_BRACKETS: u32 = 64;
+
+/// Nothing goes on with what stands at a place.
+fn unexpected(at: u32) -> Stop
+    ensures { result ≡ stops.Fault (record { cause = causes.Unexpected; at = at; reached = 0 }) }
 {
-    match str::from_utf8(bytes) {
-        Err(_) => Err(Unread::NotPlain),
-        Ok(text) => {
-            let tokens = tokens(alloc, text)?;
-            grammar(alloc, tokens.as_slice())
-        }
-    }
+    Stop::Fault(Fault {
+        cause: Cause::Unexpected,
+        at,
+        reached: 0,
+    })
 }
 
-/// What a grammar text of the plain form says.
+/// A bracket at a place is one too many.
+fn too_deep(at: u32) -> Stop
+    ensures { result ≡ stops.Fault (record { cause = causes.TooDeep; at = at; reached = 65 }) }
+{
+    Stop::Fault(Fault {
+        cause: Cause::TooDeep,
+        at,
+        reached: u64::from(MOST_BRACKETS) + 1,
+    })
+}
+
+/// The grammar that tokens stand for, as the User Language of Debusmann 2006 (appendix A) has it. The place `end` is
+/// where the text of the tokens ends.
 ///
 /// # Errors
 ///
-/// A text of any other form is refused by [`Cause::Unexpected`], at its first byte.
-pub fn parse(alloc: Global, bytes: &[u8]) -> Result<PlainGrammar, Stop>
-    ensures found { IfOk result (λ grammar. plain_of bytes.now ≡ Some grammar) }
-    ensures written { IfOk result (λ grammar. Says bytes.now grammar) }
-    ensures only { (grammar : PlainGrammar) → Says bytes.now grammar → plain_of bytes.now ≡ Some grammar }
-    ensures plain { IfOk result (λ grammar. IsPlain grammar) }
-    ensures refused { IfErr result (λ stop. IsRefused stop (plain_of bytes.now)) }
+/// - [`Cause::Unexpected`] at the first token with which the tokens before it don't go on in any grammar, or at the end
+///   where the tokens are no whole grammar;
+/// - [`Cause::TooDeep`] at the first bracket that is the 65th open one, with `reached` 65.
+///
+/// The time is linear in the number of tokens, and the depth of calls is bounded by that of the brackets.
+pub fn parse(alloc: Global, tokens: &List<Token>, end: u32) -> Result<Grammar, Stop>
+    ensures tells { Tells (lexemes_of tokens.now) end result }
+    ensures only { (answer : Result trees.Grammar faults.Fault) → IsAnswer (lexemes_of tokens.now) end answer → Gives answer result }
 {
-    match read(alloc, bytes) {
-        Ok(grammar) => Ok(grammar),
-        Err(Unread::Memory) => Err(Stop::OutOfMemory),
-        Err(Unread::NotPlain) => Err(Stop::Fault(Fault {
-            cause: Cause::Unexpected,
-            at: 0,
-            reached: 0,
-        })),
+    let mut cursor = Cursor::new(tokens.as_slice());
+    let start = cursor.start();
+    match statements(alloc, &mut cursor, MOST_BRACKETS) {
+        Ok(statements) => match cursor.kind() {
+            None => Ok(Grammar {
+                statements,
+                span: cursor.span_from(start),
+            }),
+            Some(_) => Err(unexpected(cursor.place(end))),
+        },
+        Err(Why::Memory) => Err(Stop::OutOfMemory),
+        Err(Why::Unexpected) => Err(unexpected(cursor.place(end))),
+        Err(Why::TooDeep) => Err(too_deep(cursor.place(end))),
     }
 }

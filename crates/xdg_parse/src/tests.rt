@@ -1,134 +1,101 @@
-//! What the definition of the plain form takes and refuses, tried on texts.
+//! What no clause says: with ample memory there is an answer.
 
-use crate::{Count, PlainEntry, PlainGrammar, lexicon, parse};
+ghost use Rattle.std.specs.Prelude.{◌<◌, ◌^◌, length};
+
+use crate::parse;
 use std::alloc::{AllocError, Global};
 use std::test::Fail;
-use xdg_base::List;
+use xdg_base::{Stop, number};
+use xdg_lex::tokens;
 
-const SAMPLE: &str = r#"usedim id usedim lex
-defdim lex {defentrytype {word: string}}
-defdim id {
-deftype id.label {det subj}
-deflabeltype id.label
-defentrytype {in: valency(id.label) out: valency(id.label)}
-useprinciple principle.graph {dims {D: id}}
-useprinciple principle.tree {dims {D: id}}
-useprinciple principle.valency {dims {D: id}}
-}
-defentry {dim id {in: {det?}} dim lex {word: "the"}}
-defentry {dim id {in: {subj?} out: {det!}} dim lex {word: "dog"}}
-defentry {dim id {out: {subj!}} dim lex {word: "barks"}}
-"#;
-
-/// The sample up to its last label.
-const BEFORE: &str =
-    "usedim id usedim lex defdim lex{defentrytype{word:string}}defdim id{deftype id.label{";
-
-/// The sample from its last label to its first entry.
-const BETWEEN: &str =
-    "}deflabeltype id.label defentrytype{in:valency(id.label)out:valency(id.label)}useprinciple principle.graph{dims{D:id}}useprinciple principle.tree{dims{D:id}}useprinciple principle.valency{dims{D:id}}}";
-
-fn sign(count: Count) -> char {
-    match count {
-        Count::Zero => '0',
-        Count::One => '!',
-        Count::Maybe => '?',
-        Count::Any => '*',
-        Count::AtLeastOne => '+',
+/// The grammar of a text, or the refusal.
+fn shown(alloc: Global, text: &str) -> Result<String, AllocError>
+    requires { length text.now < 2 ^ 32 }
+{
+    let Ok(tokens) = tokens(alloc, text.as_bytes()) else {
+        return Err(AllocError);
+    };
+    match parse(alloc, &tokens, text.len() as u32) {
+        Ok(grammar) => format!(in alloc; "{:?}", grammar),
+        Err(Stop::Fault(fault)) => {
+            format!(in alloc;
+                "{} at {}, {}",
+                number(fault.cause),
+                fault.at,
+                fault.reached
+            )
+        }
+        Err(Stop::OutOfMemory) => Err(AllocError),
     }
 }
 
-fn push_signs(shown: &mut String, counts: &List<Count>) -> Result<(), AllocError> {
-    for count in counts.as_slice() {
-        shown.push(sign(*count))?;
-    }
-    shown.push(' ')
-}
-
-fn push_entries(shown: &mut String, entries: &List<PlainEntry>) -> Result<(), AllocError> {
-    for entry in entries.as_slice() {
-        shown.push_str(entry.word.as_str())?;
-        shown.push(' ')?;
-        push_signs(shown, &entry.ins)?;
-        push_signs(shown, &entry.outs)?;
+#[test]
+fn reads(rt: HostRuntime) -> Result<(), Fail> {
+    let alloc = rt.alloc();
+    for (text, wanted) in [
+        (
+            "",
+            "Grammar { statements: List { items: [] }, span: Span { start: 0, end: 0 } }",
+        ),
+        (
+            "defentry {a & (b | c) | d}",
+            "Grammar { statements: List { items: [Spanned { kind: DefEntry(Spanned { kind: Or(List { items: \
+             [Spanned { kind: And(List { items: [Spanned { kind: Use(Name { text: Text { characters: \"a\" \
+             }, span: Span { start: 10, end: 11 } }, None), span: Span { start: 10, end: 11 } }, Spanned { \
+             kind: Or(List { items: [Spanned { kind: Use(Name { text: Text { characters: \"b\" }, span: Span \
+             { start: 15, end: 16 } }, None), span: Span { start: 15, end: 16 } }, Spanned { kind: Use(Name \
+             { text: Text { characters: \"c\" }, span: Span { start: 19, end: 20 } }, None), span: Span { \
+             start: 19, end: 20 } }] }), span: Span { start: 15, end: 20 } }] }), span: Span { start: 10, \
+             end: 21 } }, Spanned { kind: Use(Name { text: Text { characters: \"d\" }, span: Span { start: \
+             24, end: 25 } }, None), span: Span { start: 24, end: 25 } }] }), span: Span { start: 10, end: \
+             25 } }), span: Span { start: 0, end: 26 } }] }, span: Span { start: 0, end: 26 } }",
+        ),
+        (
+            "defclass c a {dim d {f: a g: \"a\"}}",
+            "Grammar { statements: List { items: [Spanned { kind: DefClass { name: Name { text: Text { \
+             characters: \"c\" }, span: Span { start: 9, end: 10 } }, params: List { items: [ClassParam { \
+             name: Name { text: Text { characters: \"a\" }, span: Span { start: 11, end: 12 } }, preset: \
+             None }] }, body: Spanned { kind: Dim(Name { text: Text { characters: \"d\" }, span: Span { \
+             start: 18, end: 19 } }, List { items: [Pair { key: Name { text: Text { characters: \"f\" }, \
+             span: Span { start: 21, end: 22 } }, value: Spanned { kind: Param(Name { text: Text { \
+             characters: \"a\" }, span: Span { start: 24, end: 25 } }), span: Span { start: 24, end: 25 } } \
+             }, Pair { key: Name { text: Text { characters: \"g\" }, span: Span { start: 26, end: 27 } }, \
+             value: Spanned { kind: Const(Name { text: Text { characters: \"a\" }, span: Span { start: 29, \
+             end: 32 } }), span: Span { start: 29, end: 32 } } }] }), span: Span { start: 14, end: 33 } } }, \
+             span: Span { start: 0, end: 34 } }] }, span: Span { start: 0, end: 34 } }",
+        ),
+    ] {
+        let found = shown(alloc, text)?;
+        assert_eq!(rt; found.as_str(), wanted);
     }
     Ok(())
 }
 
-/// The labels, then each entry's word and counts.
-fn shown(alloc: Global, grammar: &PlainGrammar) -> Result<String, AllocError> {
-    let mut shown = String::new(alloc);
-    for label in grammar.labels.as_slice() {
-        shown.push_str(label.as_str())?;
-        shown.push(' ')?;
+#[test]
+fn refuses(rt: HostRuntime) -> Result<(), Fail> {
+    let alloc = rt.alloc();
+    for (text, wanted) in [
+        ("a", "23 at 0, 0"),
+        ("usedim a }", "23 at 9, 0"),
+        ("usedim", "23 at 6, 0"),
+        ("defentry {a |}", "23 at 13, 0"),
+        ("defentry {a & & b}", "23 at 14, 0"),
+        ("defentry {a} }", "23 at 13, 0"),
+        ("defdim d {deftype t {a: b c}}", "23 at 27, 0"),
+        ("defclass c 1 {a}", "23 at 11, 0"),
+        ("defentry {dim d {a: #{1 b}}}", "23 at 24, 0"),
+        (
+            "defentry {((((((((((((((((((((((((((((((((((((((((((((((((((((((((((((((((a",
+            "41 at 73, 65",
+        ),
+        (
+            "defentry {(((((((((((((((((((((((((((((((((((((((((((((((((((((((((((((((a \
+             )))))))))))))))))))))))))))))))))))))))))))))))))))))))))))))))} b",
+            "23 at 140, 0",
+        ),
+    ] {
+        let found = shown(alloc, text)?;
+        assert_eq!(rt; found.as_str(), wanted);
     }
-    push_entries(&mut shown, &grammar.entries)?;
-    Ok(shown)
-}
-
-/// A text with these labels and these entries.
-fn text(alloc: Global, labels: &str, entries: &str) -> Result<String, AllocError> {
-    let mut text = String::from_str(alloc, BEFORE)?;
-    text.push_str(labels)?;
-    text.push_str(BETWEEN)?;
-    text.push_str(entries)?;
-    Ok(text)
-}
-
-fn is_read(alloc: Global, labels: &str, entries: &str) -> Result<bool, AllocError> {
-    let text = text(alloc, labels, entries)?;
-    Ok(parse(alloc, text.as_str().as_bytes()).is_ok())
-}
-
-#[test]
-fn sample(rt: HostRuntime) -> Result<(), Fail> {
-    let alloc = rt.alloc();
-    let grammar = parse(alloc, SAMPLE.as_bytes())?;
-    assert_eq!(rt;
-        shown(alloc, &grammar)?.as_str(),
-        "det subj the ?0 00 dog 0? !0 barks 00 0! "
-    );
-    Ok(())
-}
-
-#[test]
-fn spacing_and_quotes(rt: HostRuntime) -> Result<(), Fail> {
-    let alloc = rt.alloc();
-    let text = text(
-        alloc,
-        "% }\n a/* ** / */\"b c\"\u{3000}\"set\"",
-        "defentry{dim \"id\"{in:{\"a\"+\"b c\"*}out:{}}dim lex{word:\"\\\"\\\\\"}}%",
-    )?;
-    let grammar = parse(alloc, text.as_str().as_bytes())?;
-    assert_eq!(rt; shown(alloc, &grammar)?.as_str(), "a b c set \"\\ +*0 000 ");
-    Ok(())
-}
-
-#[test]
-fn repeated_entries(rt: HostRuntime) -> Result<(), Fail> {
-    let alloc = rt.alloc();
-    let text = text(
-        alloc,
-        "a b",
-        "defentry{dim id{in:{a!b?}}dim lex{word:w}}defentry{dim id{}dim lex{word:w}}defentry{dim id{in:{b?a!}out:{}}dim lex{word:\"w\"}}",
-    )?;
-    let grammar = parse(alloc, text.as_str().as_bytes())?;
-    let mut shown = String::new(alloc);
-    push_entries(&mut shown, &lexicon(alloc, &grammar)?)?;
-    assert_eq!(rt; shown.as_str(), "w !? 00 w 00 00 ");
-    Ok(())
-}
-
-#[test]
-fn refusals(rt: HostRuntime) -> Result<(), Fail> {
-    let alloc = rt.alloc();
-    assert!(rt; is_read(alloc, "a", "")?);
-    assert!(rt; !is_read(alloc, "", "")?);
-    assert!(rt; !is_read(alloc, "a \"a\"", "")?);
-    assert!(rt; !is_read(alloc, "set", "")?);
-    assert!(rt; !is_read(alloc, "a", "/*")?);
-    assert!(rt; !is_read(alloc, "a", "defentry{dim id{in:{b!}}dim lex{word:w}}")?);
-    assert!(rt; !is_read(alloc, "a", "defentry{dim id{in:{a!a?}}dim lex{word:w}}")?);
-    assert!(rt; !is_read(alloc, "a", "defentry{dim id{out:{}in:{}}dim lex{word:w}}")?);
     Ok(())
 }

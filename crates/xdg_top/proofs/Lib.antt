@@ -1,8 +1,12 @@
 pub mod Reported
 pub mod OneOutcome
 pub mod OnePrint
+pub mod OneReading
 pub mod Found
 pub mod Ending
 pub mod Refusing
 pub mod Leaving
 pub mod Parsing
+pub mod Standing
+pub mod Loaded
+pub mod Spelled

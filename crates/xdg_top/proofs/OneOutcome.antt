@@ -1,16 +1,18 @@
 -- A run has one outcome.
-use Rattle.std.proofs.Common.{◌≡◌, ℕ, inl, inr, List, length, refl, ap, sym, ◌∙◌, subst, arith, Some}
+use Rattle.std.proofs.Common.{◌≡◌, ℕ, List, [], ◌∷◌, length, refl, ap, sym, ◌∙◌, subst, arith, Some}
 use Rattle.std.specs.Prelude.{Option}
 use Rattle.std.specs.Str.{IsValidUpTo}
 use Rattle.std.proofs.lemmas.Str.{utf8_valid_len-IsValidUpTo}
 use Rattle.xdg_base.specs.declared.faults.Cause.TheVariants as causes
 use Rattle.xdg_base.specs.declared.faults.Fault.{Fault}
-use Rattle.xdg_parse.specs.declared.grammar.PlainGrammar.{PlainGrammar}
-use Rattle.xdg_parse.specs.Distinct.{distinct}
-use Rattle.xdg_parse.specs.IsPlain.{IsPlain}
-use Rattle.xdg_parse.specs.Plain.{plain_of}
-use Rattle.xdg_parse.proofs.Equal.{still_entries, no_more}
-use Rattle.xdg_parse.proofs.Facts.{is_plain}
+use Rattle.xdg_plain.specs.declared.grammar.PlainGrammar.{PlainGrammar}
+use Rattle.xdg_plain.specs.Distinct.{distinct}
+use Rattle.xdg_plain.specs.IsPlain.{IsPlain}
+use Rattle.xdg_plain.specs.Written.{Says}
+use Rattle.xdg_plain.proofs.Equal.{still_entries, no_more}
+use Rattle.xdg_plain.proofs.Whole.{says_one, says_plain}
+use Rattle.xdg_ast.specs.declared.grammar.Grammar.{Grammar}
+use Rattle.xdg_ast.specs.Canon.{canon}
 use Rattle.xdg_problem.specs.Problems.{IsProblem}
 use Rattle.xdg_words.specs.Words.{words}
 use Rattle.xdg_build.specs.Compiled.{compiled}
@@ -19,41 +21,57 @@ use Rattle.xdg_build.proofs.Lawful.{compiled_is_problem}
 use Rattle.xdg_text.specs.Lines.{fault_text}
 use Rattle.xdg_top.specs.declared.status.Status.{Status}
 use Rattle.xdg_top.specs.declared.status.Status.TheVariants as statuses
-use Rattle.xdg_top.specs.Commands.{IsParse}
+use Rattle.xdg_plain.specs.LexiconText.{lexicon_text}
+use Rattle.xdg_top.specs.declared.command.Verb.{Verb}
+use Rattle.xdg_top.specs.declared.command.Verb.TheVariants as verbs
+use Rattle.xdg_top.specs.Commands.{spelled, IsCommand}
+use Rattle.xdg_top.specs.Verbs.{verb_of}
+use Rattle.xdg_top.proofs.Spelled.{verb_spelled}
 use Rattle.xdg_top.specs.Places.{place_in}
-use Rattle.xdg_top.specs.Grammars.{HasGrammar, HasNoGrammar, lexicon_of}
+use Rattle.xdg_top.specs.Texts.{HasBadText}
+use Rattle.xdg_top.specs.Grammars.{IsOfPlainForm, HasGrammar, HasNoGrammar, bad_text, not_plain, lexicon_of}
 use Rattle.xdg_top.specs.Sentences.{IsRefused, too_long, no_text, no_words, IsSentence}
 use Rattle.xdg_top.specs.Printed.{Prints}
-use Rattle.xdg_top.specs.Outcomes.{ParseOf, OutcomeOf, IsUsage, IsParsed, IsBadText, IsBadSentence, IsSearched}
+use Rattle.xdg_top.specs.Outcomes.{IsFaultLine, ParseOf, PrintOf, ReportOf, IsReport, checked_line, CommandOf, OutcomeOf, usage, commanded, HasNoGrammarLine, IsCanonical, IsBadSentence, IsSearched}
 use Rattle.xdg_top.proofs.OnePrint.{one_print}
+use Rattle.xdg_top.proofs.OneReading.{one_text, one_tree, tree_or_bad, one_bad}
 
--- the words name one file
-pub one_name : (given : List (List ℕ)) (a b : List ℕ) → IsParse given a → IsParse given b → a ≡ b
-one_name given a b p q = let e = sym p.spelled ∙ q.spelled in cc
+-- the words are one command on one file
+pub one_command : (given : List (List ℕ)) (v w : Verb) (a b : List ℕ) → IsCommand given v a → IsCommand given w b → (v ≡ w) × (a ≡ b)
+one_command given v w a b p q =
+    let e : spelled v ∷ a ∷ [] ≡ spelled w ∷ b ∷ [] = sym p.words_are ∙ q.words_are in
+    let first : spelled v ≡ spelled w = cc in
+    let verbs_are : Some v ≡ Some w = sym (verb_spelled v) ∙ ap verb_of first ∙ verb_spelled w in
+    (cc, cc)
 
--- a file has one text
-one_text : (files : List ℕ → Option (List ℕ)) (a b s t : List ℕ) → a ≡ b → files a ≡ Some s → files b ≡ Some t → s ≡ t
-one_text files a b s t e p q = let r = sym p ∙ ap files e ∙ q in cc
+-- a tree says one grammar
+one_plain : (s t : Grammar) (g h : PlainGrammar) → s ≡ t → IsOfPlainForm s g → IsOfPlainForm t h → g ≡ h
+one_plain s t g h e p q = p.lexicon ∙ ap lexicon_of (says_one t p.written q.written (subst (λ z. Says z p.written) e p.says) q.says) ∙ sym q.lexicon
 
 -- a file has one grammar
 one_grammar : (files : List ℕ → Option (List ℕ)) (a b : List ℕ) (g h : PlainGrammar) → a ≡ b → HasGrammar files a g → HasGrammar files b h → g ≡ h
-one_grammar files a b g h e p q =
-    let t = one_text files a b p.text q.text e p.file q.file in
-    let w : p.says.written ≡ q.says.written = (let r = sym p.says.plain ∙ ap plain_of t ∙ q.says.plain in cc) in
-    p.says.lexicon ∙ ap lexicon_of w ∙ sym q.says.lexicon
+one_grammar files a b g h e p q = one_plain p.tree q.tree g h (one_tree files a b p.tree q.tree e p.has q.has) p.plain q.plain
 
 -- the front of a text that is UTF-8 ends at one place
 one_place : (text : List ℕ) (m n : ℕ) → IsValidUpTo text m → IsValidUpTo text n → m ≡ n
 one_place text m n v w = sym (utf8_valid_len-IsValidUpTo text m v) ∙ utf8_valid_len-IsValidUpTo text n w
 
 -- no file both has a grammar and has none
-grammar_or_none : (files : List ℕ → Option (List ℕ)) (a b : List ℕ) (g : PlainGrammar) → a ≡ b → HasGrammar files a g → HasNoGrammar files b → ⊥
-grammar_or_none files a b g e p q =
-    let t = one_text files a b p.text q.text e p.file q.file in
-    elim q.because [
-      | inl long ↦ (let n : length p.text ≡ length q.text = ap length t in let w = p.says.within in omega (arith, n, w, long))
-      | inr none ↦ (let r = sym p.says.plain ∙ ap plain_of t ∙ none in cc)
-    ]
+grammar_or_none : (files : List ℕ → Option (List ℕ)) (a b text : List ℕ) (g : PlainGrammar) (f : Fault) → a ≡ b → HasGrammar files a g → HasNoGrammar files b text f → ⊥
+grammar_or_none files a b text g f e p (bad_text q) = tree_or_bad files a b text p.tree f e p.has q
+grammar_or_none files a b text g f e p (not_plain tree has is none d) = none p.plain.written (subst (λ z. Says z p.plain.written) (one_tree files a b p.tree tree e p.has has) p.plain.says)
+
+-- a file has no grammar for one fault
+one_no_grammar : (files : List ℕ → Option (List ℕ)) (name t u : List ℕ) (f h : Fault) → HasNoGrammar files name t f → HasNoGrammar files name u h → (t ≡ u) × (f ≡ h)
+one_no_grammar files name t u f h (bad_text p) (bad_text q) = one_bad files name name t u f h refl p q
+one_no_grammar files name t u f h (bad_text p) (not_plain tree has is none d) = absurd (tree_or_bad files name name t tree f refl has p)
+one_no_grammar files name t u f h (not_plain tree has is none d) (bad_text q) = absurd (tree_or_bad files name name u tree h refl has q)
+one_no_grammar files name t u f h (not_plain tree has is none d) (not_plain other has_too is_too none_too e) =
+    (sym is ∙ one_text files name name has.text has_too.text refl has.file has_too.file ∙ is_too, d ∙ sym e)
+
+-- one fault line
+one_line : (t u : List ℕ) (f h : Fault) (line other : List ℕ) → t ≡ u → f ≡ h → line ≡ fault_text f (place_in t f) → other ≡ fault_text h (place_in u h) → line ≡ other
+one_line t u f h line other e d a b = a ∙ ap (λ z. fault_text f (place_in z f)) e ∙ ap (λ z. fault_text z (place_in u z)) d ∙ sym b
 
 -- no input both is a sentence and is refused
 sentence_or_refused : (g : PlainGrammar) (input : List ℕ) (f : Fault) → IsSentence g input → IsRefused g input f → ⊥
@@ -76,8 +94,8 @@ one_refusal g input f h (no_words b text e) (no_words a texts d) = let r : Some 
 -- the grammar of a file is one of the plain form
 grammar_is_plain : (files : List ℕ → Option (List ℕ)) (name : List ℕ) (g : PlainGrammar) → HasGrammar files name g → IsPlain g
 grammar_is_plain files name g h =
-    let w = h.says.written in
-    let plain : IsPlain w = is_plain h.text w h.says.plain in
+    let w = h.plain.written in
+    let plain : IsPlain w = says_plain h.tree w h.plain.says in
     let few = no_more w.entries (distinct w.entries) refl in
     let kept : IsPlain (lexicon_of w) = record {
       some_labels = plain.some_labels;
@@ -87,7 +105,7 @@ grammar_is_plain files name g h =
       each_entry = still_entries (length w.labels) w.entries (distinct w.entries) refl plain.each_entry;
       few_entries = omega (arith, few, plain.few_entries);
     } in
-    subst IsPlain (sym h.says.lexicon) kept
+    subst IsPlain (sym h.plain.lexicon) kept
 
 -- a search is of a problem
 search_is_problem : (status : Status) (budget : ℕ) (name : List ℕ) (files : List ℕ → Option (List ℕ)) (input text : List ℕ) → (s : IsSearched status budget name files input text) → IsProblem (compiled s.grammar (words input))
@@ -95,30 +113,32 @@ search_is_problem status budget name files input text s = compiled_is_problem s.
 
 -- the three kinds of outcomes of `parse`
 data Kind (status : Status) (budget : ℕ) (name : List ℕ) (files : List ℕ → Option (List ℕ)) (input text : List ℕ) : Type 0 where
-  bad_text : status ≡ statuses.BadText → IsBadText name files text → Kind status budget name files input text
+  no_grammar : status ≡ statuses.BadText → HasNoGrammarLine name files text → Kind status budget name files input text
   bad_sentence : status ≡ statuses.BadSentence → IsBadSentence name files input text → Kind status budget name files input text
   searched : IsSearched status budget name files input text → Kind status budget name files input text
 
 kind_of : (status : Status) (budget : ℕ) (name : List ℕ) (files : List ℕ → Option (List ℕ)) (input text : List ℕ) → ParseOf status budget name files input text → Kind status budget name files input text
 kind_of statuses.Done budget name files input text o = searched o
 kind_of statuses.Spent budget name files input text o = searched o
-kind_of statuses.BadText budget name files input text o = bad_text refl o
+kind_of statuses.BadText budget name files input text o = no_grammar refl o
 kind_of statuses.BadSentence budget name files input text o = bad_sentence refl o
 kind_of _ budget name files input text o = absurd o
 
 one_kind : (s r : Status) (budget : ℕ) (name : List ℕ) (files : List ℕ → Option (List ℕ)) (input t u : List ℕ) → Kind s budget name files input t → Kind r budget name files input u → (s ≡ r) × (t ≡ u)
-one_kind s r budget name files input t u (bad_text e a) (bad_text d b) = (e ∙ sym d, a.text_is ∙ sym b.text_is)
-one_kind s r budget name files input t u (bad_text e a) (bad_sentence d b) = absurd (grammar_or_none files name name b.grammar refl b.has a.grammar_none)
-one_kind s r budget name files input t u (bad_text e a) (searched b) = absurd (grammar_or_none files name name b.grammar refl b.has a.grammar_none)
-one_kind s r budget name files input t u (bad_sentence e a) (bad_text d b) = absurd (grammar_or_none files name name a.grammar refl a.has b.grammar_none)
+one_kind s r budget name files input t u (no_grammar e a) (no_grammar d b) =
+    let same = one_no_grammar files name a.text b.text a.refused b.refused a.because b.because in
+    (e ∙ sym d, one_line a.text b.text a.refused b.refused t u same.0 same.1 a.line_is b.line_is)
+one_kind s r budget name files input t u (no_grammar e a) (bad_sentence d b) = absurd (grammar_or_none files name name a.text b.grammar a.refused refl b.has a.because)
+one_kind s r budget name files input t u (no_grammar e a) (searched b) = absurd (grammar_or_none files name name a.text b.grammar a.refused refl b.has a.because)
+one_kind s r budget name files input t u (bad_sentence e a) (no_grammar d b) = absurd (grammar_or_none files name name b.text a.grammar b.refused refl a.has b.because)
 one_kind s r budget name files input t u (bad_sentence e a) (bad_sentence d b) =
     let g = one_grammar files name name a.grammar b.grammar refl a.has b.has in
     let f = one_refusal b.grammar input a.refused b.refused (subst (λ z. IsRefused z input a.refused) g a.because) b.because in
-    (e ∙ sym d, a.text_is ∙ ap (λ z. fault_text z (place_in input z)) f ∙ sym b.text_is)
+    (e ∙ sym d, one_line input input a.refused b.refused t u refl f a.line_is b.line_is)
 one_kind s r budget name files input t u (bad_sentence e a) (searched b) =
     let g = one_grammar files name name a.grammar b.grammar refl a.has b.has in
     absurd (sentence_or_refused b.grammar input a.refused b.sentence (subst (λ z. IsRefused z input a.refused) g a.because))
-one_kind s r budget name files input t u (searched a) (bad_text d b) = absurd (grammar_or_none files name name a.grammar refl a.has b.grammar_none)
+one_kind s r budget name files input t u (searched a) (no_grammar d b) = absurd (grammar_or_none files name name b.text a.grammar b.refused refl a.has b.because)
 one_kind s r budget name files input t u (searched a) (bad_sentence d b) =
     let g = one_grammar files name name b.grammar a.grammar refl b.has a.has in
     absurd (sentence_or_refused a.grammar input b.refused a.sentence (subst (λ z. IsRefused z input b.refused) g b.because))
@@ -133,28 +153,73 @@ one_parse budget name files input s r t u a b = one_kind s r budget name files i
 -- where the grammar is there and the input is a sentence, an outcome is what the search prints
 pub prints_of_parse : (status : Status) (budget : ℕ) (name : List ℕ) (files : List ℕ → Option (List ℕ)) (input text : List ℕ) (g : PlainGrammar) → HasGrammar files name g → IsSentence g input → ParseOf status budget name files input text → Prints status budget (compiled g (words input)) text
 prints_of_parse status budget name files input text g has sentence o = elim (kind_of status budget name files input text o) [
-  | bad_text e a ↦ absurd (grammar_or_none files name name g refl has a.grammar_none)
+  | no_grammar e a ↦ absurd (grammar_or_none files name name a.text g a.refused refl has a.because)
   | bad_sentence e a ↦ (let same = one_grammar files name name a.grammar g refl a.has has in absurd (sentence_or_refused g input a.refused sentence (subst (λ z. IsRefused z input a.refused) same a.because)))
   | searched a ↦ (let same = one_grammar files name name a.grammar g refl a.has has in subst (λ z. Prints status budget (compiled z (words input)) text) same a.prints)
 ]
 
--- an outcome is that of no command, or that of `parse`
-pub data Run (status : Status) (budget : ℕ) (given : List (List ℕ)) (files : List ℕ → Option (List ℕ)) (input text : List ℕ) : Type 0 where
-  usage : status ≡ statuses.Usage → IsUsage given text → Run status budget given files input text
-  parsed : IsParsed status budget given files input text → Run status budget given files input text
+-- the two kinds of outcomes of `print`
+data PrintKind (status : Status) (name : List ℕ) (files : List ℕ → Option (List ℕ)) (text : List ℕ) : Type 0 where
+  canonical : status ≡ statuses.Done → IsCanonical name files text → PrintKind status name files text
+  refused_text : status ≡ statuses.BadText → IsFaultLine (HasBadText files name) text → PrintKind status name files text
 
-pub run_of : (status : Status) (budget : ℕ) (given : List (List ℕ)) (files : List ℕ → Option (List ℕ)) (input text : List ℕ) → OutcomeOf status budget given files input text → Run status budget given files input text
-run_of statuses.Usage budget given files input text o = usage refl o
-run_of _ budget given files input text o = parsed o
+print_kind_of : (status : Status) (name : List ℕ) (files : List ℕ → Option (List ℕ)) (text : List ℕ) → PrintOf status name files text → PrintKind status name files text
+print_kind_of statuses.Done name files text o = canonical refl o
+print_kind_of statuses.BadText name files text o = refused_text refl o
+print_kind_of _ name files text o = absurd o
 
-one_run : (s r : Status) (budget : ℕ) (given : List (List ℕ)) (files : List ℕ → Option (List ℕ)) (input t u : List ℕ) → Run s budget given files input t → Run r budget given files input u → (s ≡ r) × (t ≡ u)
-one_run s r budget given files input t u (usage e a) (usage d b) = (e ∙ sym d, a.text_is ∙ sym b.text_is)
-one_run s r budget given files input t u (usage e a) (parsed b) = absurd (a.no_command b.name b.command)
-one_run s r budget given files input t u (parsed a) (usage d b) = absurd (b.no_command a.name a.command)
-one_run s r budget given files input t u (parsed a) (parsed b) =
-    let n = one_name given a.name b.name a.command b.command in
-    one_parse budget b.name files input s r t u (subst (λ z. ParseOf s budget z files input t) n a.outcome) b.outcome
+one_print_kind : (s r : Status) (name : List ℕ) (files : List ℕ → Option (List ℕ)) (t u : List ℕ) → PrintKind s name files t → PrintKind r name files u → (s ≡ r) × (t ≡ u)
+one_print_kind s r name files t u (canonical e a) (canonical d b) = (e ∙ sym d, a.text_is ∙ ap canon (one_tree files name name a.tree b.tree refl a.has b.has) ∙ sym b.text_is)
+one_print_kind s r name files t u (canonical e a) (refused_text d b) = absurd (tree_or_bad files name name b.text a.tree b.refused refl a.has b.because)
+one_print_kind s r name files t u (refused_text e a) (canonical d b) = absurd (tree_or_bad files name name a.text b.tree a.refused refl b.has a.because)
+one_print_kind s r name files t u (refused_text e a) (refused_text d b) =
+    let same = one_bad files name name a.text b.text a.refused b.refused refl a.because b.because in
+    (e ∙ sym d, one_line a.text b.text a.refused b.refused t u same.0 same.1 a.line_is b.line_is)
+
+-- `print` on a file has one status and one text
+pub one_printing : (name : List ℕ) (files : List ℕ → Option (List ℕ)) (s r : Status) (t u : List ℕ) → PrintOf s name files t → PrintOf r name files u → (s ≡ r) × (t ≡ u)
+one_printing name files s r t u a b = one_print_kind s r name files t u (print_kind_of s name files t a) (print_kind_of r name files u b)
+
+-- the two kinds of outcomes of a report
+data ReportKind (report : PlainGrammar → List ℕ) (status : Status) (name : List ℕ) (files : List ℕ → Option (List ℕ)) (text : List ℕ) : Type 0 where
+  reported : status ≡ statuses.Done → IsReport report name files text → ReportKind report status name files text
+  no_report : status ≡ statuses.BadText → HasNoGrammarLine name files text → ReportKind report status name files text
+
+report_kind_of : (report : PlainGrammar → List ℕ) (status : Status) (name : List ℕ) (files : List ℕ → Option (List ℕ)) (text : List ℕ) → ReportOf report status name files text → ReportKind report status name files text
+report_kind_of report statuses.Done name files text o = reported refl o
+report_kind_of report statuses.BadText name files text o = no_report refl o
+report_kind_of report _ name files text o = absurd o
+
+one_report_kind : (report : PlainGrammar → List ℕ) (s r : Status) (name : List ℕ) (files : List ℕ → Option (List ℕ)) (t u : List ℕ) → ReportKind report s name files t → ReportKind report r name files u → (s ≡ r) × (t ≡ u)
+one_report_kind report s r name files t u (reported e a) (reported d b) = (e ∙ sym d, a.text_is ∙ ap report (one_grammar files name name a.grammar b.grammar refl a.has b.has) ∙ sym b.text_is)
+one_report_kind report s r name files t u (reported e a) (no_report d b) = absurd (grammar_or_none files name name b.text a.grammar b.refused refl a.has b.because)
+one_report_kind report s r name files t u (no_report e a) (reported d b) = absurd (grammar_or_none files name name a.text b.grammar a.refused refl b.has a.because)
+one_report_kind report s r name files t u (no_report e a) (no_report d b) =
+    let same = one_no_grammar files name a.text b.text a.refused b.refused a.because b.because in
+    (e ∙ sym d, one_line a.text b.text a.refused b.refused t u same.0 same.1 a.line_is b.line_is)
+
+-- a report on a file has one status and one text
+pub one_report : (report : PlainGrammar → List ℕ) (name : List ℕ) (files : List ℕ → Option (List ℕ)) (s r : Status) (t u : List ℕ) → ReportOf report s name files t → ReportOf report r name files u → (s ≡ r) × (t ≡ u)
+one_report report name files s r t u a b = one_report_kind report s r name files t u (report_kind_of report s name files t a) (report_kind_of report r name files u b)
+
+-- a command on a file has one status and one text
+one_commanded : (verb : Verb) (budget : ℕ) (name : List ℕ) (files : List ℕ → Option (List ℕ)) (input : List ℕ) (s r : Status) (t u : List ℕ) → CommandOf verb s budget name files input t → CommandOf verb r budget name files input u → (s ≡ r) × (t ≡ u)
+one_commanded verbs.Parse budget name files input s r t u a b = one_parse budget name files input s r t u a b
+one_commanded verbs.Check budget name files input s r t u a b = one_report checked_line name files s r t u a b
+one_commanded verbs.Lexicon budget name files input s r t u a b = one_report lexicon_text name files s r t u a b
+one_commanded verbs.Print budget name files input s r t u a b = one_printing name files s r t u a b
+
+-- the outcomes of a run whose words are a command are those of the command
+pub of_command : (verb : Verb) (budget : ℕ) (given : List (List ℕ)) (name : List ℕ) (files : List ℕ → Option (List ℕ)) (input : List ℕ) → IsCommand given verb name → (status : Status) (text : List ℕ) → OutcomeOf status budget given files input text → CommandOf verb status budget name files input text
+of_command verb budget given name files input command status text (usage e none i) = absurd (none verb name command)
+of_command verb budget given name files input command status text (commanded other place q o) =
+    let same = one_command given other verb place name q command in
+    subst (λ n. CommandOf verb status budget n files input text) same.1 (subst (λ v. CommandOf v status budget place files input text) same.0 o)
 
 -- a run has one status and one text
 pub one_outcome : (budget : ℕ) (given : List (List ℕ)) (files : List ℕ → Option (List ℕ)) (input : List ℕ) (s r : Status) (t u : List ℕ) → OutcomeOf s budget given files input t → OutcomeOf r budget given files input u → (s ≡ r) × (t ≡ u)
-one_outcome budget given files input s r t u a b = one_run s r budget given files input t u (run_of s budget given files input t a) (run_of r budget given files input u b)
+one_outcome budget given files input s r t u (usage e a i) (usage d b j) = (e ∙ sym d, i ∙ sym j)
+one_outcome budget given files input s r t u (usage e a i) (commanded verb name p o) = absurd (a verb name p)
+one_outcome budget given files input s r t u (commanded verb name p o) (usage d b j) = absurd (b verb name p)
+one_outcome budget given files input s r t u (commanded verb name p o) (commanded other place q n) =
+    one_commanded verb budget name files input s r t u o (of_command verb budget given name files input p r u (commanded other place q n))

@@ -1,6 +1,9 @@
 pub mod Codes
 pub mod Commands
+pub mod Verbs
+pub mod Words
 pub mod Places
+pub mod Texts
 pub mod Grammars
 pub mod Sentences
 pub mod Loading

@@ -1,36 +1,44 @@
 -- What the program prints and how it ends, from its words, the files, the input and the budget.
-use Rattle.std.specs.Prelude.{◌≡◌, ℕ, List, Option}
-use Rattle.xdg_base.specs.declared.faults.Cause.TheVariants as causes
+use Rattle.std.specs.Prelude.{◌≡◌, ℕ, List, [], ◌∷◌, ◌++◌, length, Option, codes, decimal}
+use Rattle.xdg_ast.specs.declared.grammar.Grammar.{Grammar}
+use Rattle.xdg_ast.specs.Canon.{canon}
 use Rattle.xdg_base.specs.declared.faults.Fault.{Fault}
-use Rattle.xdg_parse.specs.declared.grammar.PlainGrammar.{PlainGrammar}
+use Rattle.xdg_plain.specs.declared.grammar.PlainGrammar.{PlainGrammar}
 use Rattle.xdg_words.specs.Words.{words}
 use Rattle.xdg_build.specs.Compiled.{compiled}
-use Rattle.xdg_build.specs.Refusals.{fault}
 use Rattle.xdg_text.specs.Lines.{fault_text, usage_line}
-use Rattle.xdg_top.specs.Commands.{IsParse, IsNoCommand}
+use Rattle.xdg_plain.specs.LexiconText.{lexicon_text}
+use Rattle.xdg_top.specs.declared.command.Verb.{Verb}
+use Rattle.xdg_top.specs.declared.command.Verb.TheVariants as verbs
+use Rattle.xdg_top.specs.Commands.{IsCommand, IsNoCommand}
+use Rattle.xdg_top.specs.Texts.{HasTree, HasBadText}
 use Rattle.xdg_top.specs.Grammars.{HasGrammar, HasNoGrammar}
-use Rattle.xdg_top.specs.Places.{place_in, first_place}
+use Rattle.xdg_top.specs.Places.{place_in}
 use Rattle.xdg_top.specs.Printed.{Prints}
 use Rattle.xdg_top.specs.Sentences.{IsRefused, IsSentence}
 use Rattle.xdg_top.specs.declared.status.Status.{Status}
 use Rattle.xdg_top.specs.declared.status.Status.TheVariants as statuses
 
--- how a grammar text without the plain form is refused
-abbrev pub no_grammar_line : List ℕ
-no_grammar_line = fault_text (fault causes.Unexpected 0 0) first_place
+-- the fault line of a text that is refused for this reason
+pub record IsFaultLine (Has : List ℕ → Fault → Type 0) (line : List ℕ) : Type 0 where
+  pub text : List ℕ
+  pub refused : Fault
+  pub because : Has text refused
+  pub line_is : line ≡ fault_text refused (place_in text refused)
 
--- the file has no grammar
-pub record IsBadText (name : List ℕ) (files : List ℕ → Option (List ℕ)) (text : List ℕ) : Type 0 where
-  pub grammar_none : HasNoGrammar files name
-  pub text_is : text ≡ no_grammar_line
+-- ---- `parse`
+
+-- the file has no grammar of the plain form
+abbrev pub HasNoGrammarLine : List ℕ → (List ℕ → Option (List ℕ)) → List ℕ → Type 0
+HasNoGrammarLine name files line = IsFaultLine (HasNoGrammar files name) line
 
 -- the input is no sentence of the file's grammar
-pub record IsBadSentence (name : List ℕ) (files : List ℕ → Option (List ℕ)) (input text : List ℕ) : Type 0 where
+pub record IsBadSentence (name : List ℕ) (files : List ℕ → Option (List ℕ)) (input line : List ℕ) : Type 0 where
   pub grammar : PlainGrammar
   pub has : HasGrammar files name grammar
   pub refused : Fault
   pub because : IsRefused grammar input refused
-  pub text_is : text ≡ fault_text refused (place_in input refused)
+  pub line_is : line ≡ fault_text refused (place_in input refused)
 
 -- the sentence was searched
 pub record IsSearched (status : Status) (budget : ℕ) (name : List ℕ) (files : List ℕ → Option (List ℕ)) (input text : List ℕ) : Type 0 where
@@ -43,22 +51,52 @@ pub record IsSearched (status : Status) (budget : ℕ) (name : List ℕ) (files 
 abbrev pub ParseOf : Status → ℕ → List ℕ → (List ℕ → Option (List ℕ)) → List ℕ → List ℕ → Type 0
 ParseOf statuses.Done budget name files input text = IsSearched statuses.Done budget name files input text
 ParseOf statuses.Spent budget name files input text = IsSearched statuses.Spent budget name files input text
-ParseOf statuses.BadText budget name files input text = IsBadText name files text
+ParseOf statuses.BadText budget name files input text = HasNoGrammarLine name files text
 ParseOf statuses.BadSentence budget name files input text = IsBadSentence name files input text
 ParseOf status budget name files input text = ⊥
 
--- the words are no command
-pub record IsUsage (given : List (List ℕ)) (text : List ℕ) : Type 0 where
-  pub no_command : IsNoCommand given
-  pub text_is : text ≡ usage_line
+-- ---- `print`
 
--- the words are `parse` on a file, and this is its status and its text
-pub record IsParsed (status : Status) (budget : ℕ) (given : List (List ℕ)) (files : List ℕ → Option (List ℕ)) (input text : List ℕ) : Type 0 where
-  pub name : List ℕ
-  pub command : IsParse given name
-  pub outcome : ParseOf status budget name files input text
+-- the text is the canonical text of the file's grammar
+pub record IsCanonical (name : List ℕ) (files : List ℕ → Option (List ℕ)) (text : List ℕ) : Type 0 where
+  pub tree : Grammar
+  pub has : HasTree files name tree
+  pub text_is : text ≡ canon tree
+
+-- the status and the text of `print` on a file
+abbrev pub PrintOf : Status → List ℕ → (List ℕ → Option (List ℕ)) → List ℕ → Type 0
+PrintOf statuses.Done name files text = IsCanonical name files text
+PrintOf statuses.BadText name files text = IsFaultLine (HasBadText files name) text
+PrintOf status name files text = ⊥
+
+-- ---- `check` and `lexicon`
+
+-- the line of `check`: two dimensions, no class, and so many entries
+abbrev pub checked_line : PlainGrammar → List ℕ
+checked_line grammar = codes "ok dims 2 classes 0 entries " ++ (decimal (length grammar.entries) ++ 10 ∷ [])
+
+-- what is printed of the file's grammar, as the function says
+pub record IsReport (report : PlainGrammar → List ℕ) (name : List ℕ) (files : List ℕ → Option (List ℕ)) (text : List ℕ) : Type 0 where
+  pub grammar : PlainGrammar
+  pub has : HasGrammar files name grammar
+  pub text_is : text ≡ report grammar
+
+-- the status and the text of a command that prints what the function says of a grammar
+abbrev pub ReportOf : (PlainGrammar → List ℕ) → Status → List ℕ → (List ℕ → Option (List ℕ)) → List ℕ → Type 0
+ReportOf report statuses.Done name files text = IsReport report name files text
+ReportOf report statuses.BadText name files text = HasNoGrammarLine name files text
+ReportOf report status name files text = ⊥
+
+-- ---- a run
+
+-- the status and the text of a command on a file
+abbrev pub CommandOf : Verb → Status → ℕ → List ℕ → (List ℕ → Option (List ℕ)) → List ℕ → List ℕ → Type 0
+CommandOf verbs.Parse status budget name files input text = ParseOf status budget name files input text
+CommandOf verbs.Check status budget name files input text = ReportOf checked_line status name files text
+CommandOf verbs.Lexicon status budget name files input text = ReportOf lexicon_text status name files text
+CommandOf verbs.Print status budget name files input text = PrintOf status name files text
 
 -- the status and the text of a run
-abbrev pub OutcomeOf : Status → ℕ → List (List ℕ) → (List ℕ → Option (List ℕ)) → List ℕ → List ℕ → Type 0
-OutcomeOf statuses.Usage budget given files input text = IsUsage given text
-OutcomeOf status budget given files input text = IsParsed status budget given files input text
+pub data OutcomeOf (status : Status) (budget : ℕ) (given : List (List ℕ)) (files : List ℕ → Option (List ℕ)) (input text : List ℕ) : Type 0 where
+  usage : status ≡ statuses.Usage → IsNoCommand given → text ≡ usage_line → OutcomeOf status budget given files input text
+  commanded : (verb : Verb) (name : List ℕ) → IsCommand given verb name → CommandOf verb status budget name files input text → OutcomeOf status budget given files input text

@@ -1,8 +1,10 @@
 -- What a run leaves behind.
-use Rattle.std.specs.Prelude.{◌≡◌, ◌⊎◌, ℕ, List, Option}
+use Rattle.std.specs.Prelude.{◌≡◌, ℕ, List, Option}
 use Rattle.xdg_io.specs.Held.{Appends, AppendsFront}
 use Rattle.xdg_io.specs.Rose.{Rose}
-use Rattle.xdg_top.specs.Commands.{IsParse}
+use Rattle.xdg_top.specs.declared.command.Verb.{Verb}
+use Rattle.xdg_top.specs.declared.command.Verb.TheVariants as verbs
+use Rattle.xdg_top.specs.Commands.{IsCommand}
 use Rattle.xdg_top.specs.declared.status.Status.{Status}
 use Rattle.xdg_top.specs.declared.status.Status.TheVariants as statuses
 
@@ -21,8 +23,7 @@ Leaves O statuses.OutOfMemory old new = new ≡ old
 Leaves O statuses.WriteFault old new = (status : Status) (text : List ℕ) → O status text → AppendsFront old new text
 Leaves O status old new = Ends O status old new
 
--- a read failed: the count of the shelf rose for the file that the words name, or that of the input
-pub record ReadFailed (given : List (List ℕ)) (shelf_old shelf_new : List ℕ → ℕ) (input_old input_new : ℕ) : Type 0 where
-  pub name : List ℕ
-  pub command : IsParse given name
-  pub rose : Rose (shelf_old name) (shelf_new name) ⊎ Rose input_old input_new
+-- a read failed: the count of the shelf rose for the file that the words name, or that of the input, which `parse` reads
+pub data ReadFailed (given : List (List ℕ)) (shelf_old shelf_new : List ℕ → ℕ) (input_old input_new : ℕ) : Type 0 where
+  of_file : (verb : Verb) (name : List ℕ) → IsCommand given verb name → Rose (shelf_old name) (shelf_new name) → ReadFailed given shelf_old shelf_new input_old input_new
+  of_input : (name : List ℕ) → IsCommand given verbs.Parse name → Rose input_old input_new → ReadFailed given shelf_old shelf_new input_old input_new

@@ -3,7 +3,7 @@ use Rattle.std.specs.Prelude.{◌≡◌, ℕ, ◌<◌, ◌≤◌, ◌+◌, List,
 use Rattle.std.specs.Str.{IsValidUpTo}
 use Rattle.xdg_base.specs.declared.faults.Cause.TheVariants as causes
 use Rattle.xdg_base.specs.declared.faults.Fault.{Fault}
-use Rattle.xdg_parse.specs.declared.grammar.PlainGrammar.{PlainGrammar}
+use Rattle.xdg_plain.specs.declared.grammar.PlainGrammar.{PlainGrammar}
 use Rattle.xdg_words.specs.Words.{words}
 use Rattle.xdg_build.specs.Refusals.{fault, refusal}
 

@@ -4,8 +4,15 @@
 mod command;
 mod loading;
 mod parse;
+mod print;
+#[cfg(test)]
+mod print_tests;
 mod printing;
+mod refusals;
+mod report;
 mod running;
+#[cfg(test)]
+mod samples;
 mod status;
 #[cfg(test)]
 mod tests;

@@ -1,21 +1,26 @@
 //! What the program reads: the grammar file, and the sentence.
 
-ghost use Rattle.std.specs.Prelude.{◌≡◌, ◌≤◌, ℕ, List, [], Option, Some, length, IfOk, IfErr};
+ghost use Rattle.std.specs.Prelude.{◌≡◌, ◌≤◌, ◌<◌, ◌^◌, ℕ, List, [], Option, Some, length, IfOk, IfErr};
+ghost use Rattle.xdg_ast.specs.Derives.{Reads};
 ghost use Rattle.xdg_build.specs.Compiled.{compiled};
 ghost use Rattle.xdg_build.specs.Refusals.{fault};
-ghost use Rattle.xdg_parse.specs.IsPlain.{IsPlain};
+ghost use Rattle.xdg_plain.specs.IsPlain.{IsPlain};
 ghost use Rattle.xdg_words.specs.Words.{words};
 ghost use Rattle.xdg_top.specs.Places.{place_in};
-ghost use Rattle.xdg_top.specs.Grammars.{Says, HasGrammar};
+ghost use Rattle.xdg_top.specs.Texts.{HasTree};
+ghost use Rattle.xdg_top.specs.Grammars.{IsOfPlainForm, HasGrammar};
 ghost use Rattle.xdg_top.specs.Sentences.{IsSentence};
-ghost use Rattle.xdg_top.specs.Loading.{SaysNone, NoGrammar, IsNoSentence, NoSentence};
+ghost use Rattle.xdg_top.specs.Loading.{IsNoTree, NoTree, SaysNone, NoGrammar, IsNoSentence, NoSentence};
 
 use std::alloc::Global;
 use std::str;
+use xdg_ast::Grammar;
 use xdg_base::{Cause, Fault, LineColumn, List, OutOfMemory, Stop, place};
 use xdg_build::build;
 use xdg_io::{LoadStop, ReadStop, Shelf, Source, read_all};
-use xdg_parse::{PlainEntry, PlainGrammar, lexicon, parse};
+use xdg_lex::tokens;
+use xdg_parse::parse;
+use xdg_plain::{PlainEntry, PlainGrammar, lexicon, plain};
 use xdg_problem::Problem;
 use xdg_words::words_of;
 
@@ -46,17 +51,59 @@ pub enum Refusal {
     Text(Fault, LineColumn),
 }
 
-/// The grammar that a text of the plain form says, its equal later entries aside.
-fn grammar_in(alloc: Global, text: &[u8]) -> Result<PlainGrammar, Refusal>
-    requires { length text.now ≤ 4194304 }
-    ensures found { IfOk result (Says text.now) }
-    ensures plain { IfOk result IsPlain }
-    ensures refused { IfErr result (SaysNone text.now) }
+/// A refusal of a text, with the line and the column of its place.
+fn refused_in(text: &[u8], fault: Fault) -> Refusal
+    requires within { fault.at ≤ length text.now }
+    requires small { length text.now < 2 ^ 32 }
+    ensures { result ≡ Refusal.Text fault (place_in text.now fault) }
 {
-    let written = match parse(alloc, text) {
-        Ok(written) => written,
+    Refusal::Text(fault, place(text, fault.at))
+}
+
+/// The tree of a grammar text.
+fn tree_in(alloc: Global, text: &[u8]) -> Result<Grammar, Refusal>
+    requires { length text.now ≤ 4194304 }
+    ensures reads { IfOk result (Reads text.now) }
+    ensures refused { IfErr result (IsNoTree text.now) }
+{
+    let tokens = match tokens(alloc, text) {
+        Ok(tokens) => tokens,
         Err(Stop::OutOfMemory) => return Err(Refusal::Memory),
-        Err(Stop::Fault(fault)) => return Err(Refusal::Text(fault, FIRST)),
+        Err(Stop::Fault(fault)) => return Err(refused_in(text, fault)),
+    };
+    match parse(alloc, &tokens, text.len() as u32) {
+        Ok(tree) => Ok(tree),
+        Err(Stop::OutOfMemory) => Err(Refusal::Memory),
+        Err(Stop::Fault(fault)) => Err(refused_in(text, fault)),
+    }
+}
+
+/// The tree of the grammar text of a file.
+pub fn load_tree<H: Shelf>(alloc: Global, shelf: &mut H, name: &str) -> Result<Grammar, Refusal>
+    ensures found { IfOk result (λ tree. (files : List ℕ → Option (List ℕ)) → H.files shelf.old ≡ Some files → HasTree files name.now tree) }
+    ensures refused { IfErr result (NoTree (H.files shelf.old) name.now (H.faults shelf.old name.now) (H.faults shelf.new name.now)) }
+    ensures kept { H.files shelf.new ≡ H.files shelf.old }
+    ensures lasting { (other : List ℕ) → H.faults shelf.old other ≤ H.faults shelf.new other }
+{
+    let text = match shelf.load(alloc, name, GRAMMAR_LIMIT) {
+        Ok(text) => text,
+        Err(LoadStop::Failed) => return Err(Refusal::Read),
+        Err(LoadStop::OutOfMemory) => return Err(Refusal::Memory),
+        Err(LoadStop::TooLong { reached }) => return Err(Refusal::Text(too_long(reached), FIRST)),
+    };
+    tree_in(alloc, &text)
+}
+
+/// What a tree of the plain form says, its equal later entries aside.
+fn plain_in(alloc: Global, tree: &Grammar) -> Result<PlainGrammar, Refusal>
+    ensures found { IfOk result (IsOfPlainForm tree.now) }
+    ensures plain { IfOk result IsPlain }
+    ensures refused { IfErr result (SaysNone tree.now) }
+{
+    let written = match plain(alloc, tree) {
+        Ok(Some(written)) => written,
+        Ok(None) => return Err(Refusal::Text(NO_PLAIN_FORM, FIRST)),
+        Err(OutOfMemory) => return Err(Refusal::Memory),
     };
     match lexicon(alloc, &written) {
         Ok(entries) => Ok(with_entries(written, entries)),
@@ -72,7 +119,7 @@ fn with_entries(grammar: PlainGrammar, entries: List<PlainEntry>) -> PlainGramma
     PlainGrammar { labels, entries }
 }
 
-/// The grammar of a file.
+/// The grammar of a file, which has the plain form.
 pub fn load_grammar<H: Shelf>(
     alloc: Global,
     shelf: &mut H,
@@ -84,22 +131,11 @@ pub fn load_grammar<H: Shelf>(
     ensures kept { H.files shelf.new ≡ H.files shelf.old }
     ensures lasting { (other : List ℕ) → H.faults shelf.old other ≤ H.faults shelf.new other }
 {
-    let text = match shelf.load(alloc, name, GRAMMAR_LIMIT) {
-        Ok(text) => text,
-        Err(LoadStop::Failed) => return Err(Refusal::Read),
-        Err(LoadStop::OutOfMemory) => return Err(Refusal::Memory),
-        Err(LoadStop::TooLong { .. }) => return Err(Refusal::Text(NO_PLAIN_FORM, FIRST)),
+    let tree = match load_tree(alloc, shelf, name) {
+        Ok(tree) => tree,
+        Err(refusal) => return Err(refusal),
     };
-    grammar_in(alloc, &text)
-}
-
-/// A refusal of a text, with the line and the column of its place.
-fn refused_in(text: &[u8], fault: Fault) -> Refusal
-    requires within { fault.at ≤ length text.now }
-    requires small { length text.now ≤ 65536 }
-    ensures { result ≡ Refusal.Text fault (place_in text.now fault) }
-{
-    Refusal::Text(fault, place(text, fault.at))
+    plain_in(alloc, &tree)
 }
 
 /// The problem of a sentence of a grammar.

@@ -2,32 +2,15 @@
 
 ghost use Rattle.std.specs.Prelude.{◌≡◌, ◌≤◌, ◌⊎◌, ℕ, List, [], Option, Some};
 ghost use Rattle.xdg_io.specs.Rose.{Rose};
-ghost use Rattle.xdg_top.specs.Loading.{Refuses};
 ghost use Rattle.xdg_top.specs.Outcomes.{ParseOf};
 ghost use Rattle.xdg_top.specs.Runs.{Leaves};
 
 use crate::Status;
-use crate::loading::{Refusal, load_grammar, read_problem};
+use crate::loading::{load_grammar, read_problem};
 use crate::printing::print_analyses;
+use crate::refusals::refuse;
 use std::alloc::Global;
-use xdg_io::{Failed, Shelf, Sink, Source};
-use xdg_text::fault_line;
-
-/// Writes the fault line of a refused text, which ends the run with a status.
-fn refuse<K: Sink>(refusal: Refusal, status: Status, out: &mut K) -> Status
-    ensures written { Refuses result status refusal (K.held out.old) (K.held out.new) }
-    ensures cause { result ≡ Status.WriteFault → (status ≡ Status.WriteFault) ⊎ Rose (K.faults out.old) (K.faults out.new) }
-    ensures lasting { K.faults out.old ≤ K.faults out.new }
-{
-    match refusal {
-        Refusal::Read => Status::ReadFault,
-        Refusal::Memory => Status::OutOfMemory,
-        Refusal::Text(fault, place) => match fault_line(&fault, place, out) {
-            Ok(()) => status,
-            Err(Failed) => Status::WriteFault,
-        },
-    }
-}
+use xdg_io::{Shelf, Sink, Source};
 
 /// Loads a grammar, reads a sentence, and prints its analyses, or the fault line of what is refused. A search is charged
 /// a budget of counted prefixes at most.

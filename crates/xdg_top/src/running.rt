@@ -3,13 +3,17 @@
 ghost use Rattle.std.specs.Prelude.{◌≡◌, ◌≤◌, ◌⊎◌, ℕ, List, [], Option, Some, map};
 ghost use Rattle.std.specs.String.{string_bytes};
 ghost use Rattle.xdg_io.specs.Rose.{Rose};
-ghost use Rattle.xdg_top.specs.Commands.{IsNoCommand};
+ghost use Rattle.xdg_top.specs.Commands.{IsCommand, IsNoCommand};
+ghost use Rattle.xdg_top.specs.declared.command.Verb as declared;
+ghost use Rattle.xdg_top.specs.declared.command.Verb.TheVariants as verbs;
 ghost use Rattle.xdg_top.specs.Outcomes.{OutcomeOf};
 ghost use Rattle.xdg_top.specs.Runs.{Leaves, ReadFailed};
 
 use crate::Status;
-use crate::command::grammar_name;
+use crate::command::{Verb, command_of};
 use crate::parse::parse_sentence;
+use crate::print::print_grammar;
+use crate::report::{check_grammar, print_lexicon};
 use std::alloc::Global;
 use xdg_io::{Failed, Shelf, Sink, Source};
 use xdg_text::write_usage;
@@ -44,13 +48,20 @@ pub fn run<H: Shelf, S: Source, K: Sink>(
     ensures input_lasting { S.faults input.old ≤ S.faults input.new }
     ensures out_lasting { K.faults out.old ≤ K.faults out.new }
     ensures unread { (result ≡ Status.Usage) ⊎ (result ≡ Status.BadText) → S.left input.new ≡ S.left input.old }
-    ensures all_read { (content : List ℕ) → (result ≡ Status.Done) ⊎ (result ≡ Status.Spent) → S.left input.old ≡ Some content → S.left input.new ≡ Some [] }
+    ensures files_alone { (verb : declared.Verb) (name : List ℕ) → IsCommand (map string_bytes words.now) verb name → (verb ≡ verbs.Parse → ⊥) → S.left input.new ≡ S.left input.old }
+    ensures all_read { (name content : List ℕ) → IsCommand (map string_bytes words.now) verbs.Parse name → (result ≡ Status.Done) ⊎ (result ≡ Status.Spent) → S.left input.old ≡ Some content → S.left input.new ≡ Some [] }
 {
-    match grammar_name(words) {
-        Some(name) => parse_sentence(alloc, name, shelf, input, out, BUDGET),
-        None => match write_usage(out) {
+    let Some(command) = command_of(words) else {
+        return match write_usage(out) {
             Ok(()) => Status::Usage,
             Err(Failed) => Status::WriteFault,
-        },
+        };
+    };
+    let name = command.grammar;
+    match command.verb {
+        Verb::Parse => parse_sentence(alloc, name, shelf, input, out, BUDGET),
+        Verb::Check => check_grammar(alloc, name, shelf, out),
+        Verb::Lexicon => print_lexicon(alloc, name, shelf, out),
+        Verb::Print => print_grammar(alloc, name, shelf, out),
     }
 }

@@ -1,15 +1,16 @@
-//! The command `parse` over devices in memory.
+//! The command `parse` and the words of commands, over devices in memory.
 
 ghost use Rattle.std.specs.Prelude.{◌<◌};
 
 use crate::parse::parse_sentence;
+use crate::samples::{PAIR, PLAIN};
 use crate::{Status, run};
 use std::alloc::{AllocError, Global};
 use std::test::Fail;
 use xdg_io::{MemShelf, MemSink, MemSource};
 
-/// The sample grammar.
-const PLAIN: &str = "usedim id usedim lex
+/// The sample grammar, with four more entries.
+const GRAMMAR: &str = "usedim id usedim lex
 defdim lex {defentrytype {word: string}}
 defdim id {
 deftype id.label {det subj}
@@ -41,7 +42,7 @@ complete 1
 
 /// How a run is made to fail: how much the sink takes at a call and in all, and the calls at which the devices fail.
 #[derive(Clone, Copy)]
-struct Devices<'a> {
+pub struct Devices<'a> {
     cut: usize,
     room: usize,
     shelf_fails: &'a [u64],
@@ -50,7 +51,7 @@ struct Devices<'a> {
 }
 
 /// Devices with ample room that never fail.
-const SOUND: Devices<'static> = Devices {
+pub const SOUND: Devices<'static> = Devices {
     cut: 65_536,
     room: 65_536,
     shelf_fails: &[],
@@ -58,11 +59,11 @@ const SOUND: Devices<'static> = Devices {
     out_fails: &[],
 };
 
-/// Runs the words `parse g` over a file `g` and an input, and tells the status and what was written.
-fn parse_over(
+/// Runs words over a file `g` and an input, and tells the status and what was written.
+pub fn run_over(
     alloc: Global,
     words: &[&str],
-    grammar: &str,
+    grammar: &[u8],
     sentence: &[u8],
     devices: &Devices<'_>,
 ) -> Result<(Status, MemSink), Fail>
@@ -80,9 +81,9 @@ fn parse_over(
 }
 
 /// A shelf with the one file `g`.
-fn shelf_of(alloc: Global, grammar: &str, fails: &[u64]) -> Result<MemShelf, Fail> {
+fn shelf_of(alloc: Global, grammar: &[u8], fails: &[u64]) -> Result<MemShelf, Fail> {
     let name = String::from_str(alloc, "g")?;
-    let text = Vec::from_slice(alloc, grammar.as_bytes())?;
+    let text = Vec::from_slice(alloc, grammar)?;
     Ok(MemShelf::new(alloc, &[(name, text)], fails)?)
 }
 
@@ -113,7 +114,13 @@ fn sentences_of_the_sample_grammar(rt: HostRuntime) -> Result<(), Fail> {
             "fault 52 UnknownWord line 1 column 9\n",
         ),
     ] {
-        let (ended, out) = parse_over(alloc, &["parse", "g"], PLAIN, sentence.as_bytes(), &SOUND)?;
+        let (ended, out) = run_over(
+            alloc,
+            &["parse", "g"],
+            GRAMMAR.as_bytes(),
+            sentence.as_bytes(),
+            &SOUND,
+        )?;
         assert_eq!(rt; ended, status);
         assert_eq!(rt; out.bytes(), text.as_bytes());
     }
@@ -126,13 +133,34 @@ fn words_and_texts_that_are_refused(rt: HostRuntime) -> Result<(), Fail> {
     let usage = "usage: xdg COMMAND FILE [FILE] [--budget N] [--first N] [--segment]\n";
     let unexpected = "fault 23 Unexpected line 1 column 1\n";
     for (words, grammar, status, text) in [
-        ([].as_slice(), PLAIN, Status::Usage, usage),
-        (["parse"].as_slice(), PLAIN, Status::Usage, usage),
-        (["pars", "g"].as_slice(), PLAIN, Status::Usage, usage),
-        (["parse", "--help"].as_slice(), PLAIN, Status::Usage, usage),
-        (["parse", "g", "g"].as_slice(), PLAIN, Status::Usage, usage),
-        (["parse", "-"].as_slice(), PLAIN, Status::ReadFault, ""),
-        (["parse", "h"].as_slice(), PLAIN, Status::ReadFault, ""),
+        ([].as_slice(), GRAMMAR, Status::Usage, usage),
+        (["parse"].as_slice(), GRAMMAR, Status::Usage, usage),
+        (["pars", "g"].as_slice(), GRAMMAR, Status::Usage, usage),
+        (
+            ["parse", "--help"].as_slice(),
+            GRAMMAR,
+            Status::Usage,
+            usage,
+        ),
+        (
+            ["parse", "g", "g"].as_slice(),
+            GRAMMAR,
+            Status::Usage,
+            usage,
+        ),
+        (["parse", "-"].as_slice(), GRAMMAR, Status::ReadFault, ""),
+        (["parse", "h"].as_slice(), GRAMMAR, Status::ReadFault, ""),
+        (["check"].as_slice(), GRAMMAR, Status::Usage, usage),
+        (["lexicon", "-g"].as_slice(), GRAMMAR, Status::Usage, usage),
+        (["print"].as_slice(), GRAMMAR, Status::Usage, usage),
+        (
+            ["print", "g", "g"].as_slice(),
+            GRAMMAR,
+            Status::Usage,
+            usage,
+        ),
+        (["print", "-x"].as_slice(), GRAMMAR, Status::Usage, usage),
+        (["print", "h"].as_slice(), GRAMMAR, Status::ReadFault, ""),
         (["parse", "g"].as_slice(), "", Status::BadText, unexpected),
         (
             ["parse", "g"].as_slice(),
@@ -141,7 +169,7 @@ fn words_and_texts_that_are_refused(rt: HostRuntime) -> Result<(), Fail> {
             unexpected,
         ),
     ] {
-        let (ended, out) = parse_over(alloc, words, grammar, b"the", &SOUND)?;
+        let (ended, out) = run_over(alloc, words, grammar.as_bytes(), b"the", &SOUND)?;
         assert_eq!(rt; ended, status);
         assert_eq!(rt; out.bytes(), text.as_bytes());
     }
@@ -157,7 +185,13 @@ fn devices_that_fail(rt: HostRuntime) -> Result<(), Fail> {
             room,
             ..SOUND
         };
-        let (ended, out) = parse_over(alloc, &["parse", "g"], PLAIN, b"the dog barks", &devices)?;
+        let (ended, out) = run_over(
+            alloc,
+            &["parse", "g"],
+            GRAMMAR.as_bytes(),
+            b"the dog barks",
+            &devices,
+        )?;
         let whole = room == BARKS.len();
         assert_eq!(rt;
             ended,
@@ -175,14 +209,26 @@ fn devices_that_fail(rt: HostRuntime) -> Result<(), Fail> {
         out_fails: &[2],
         ..SOUND
     };
-    let (ended, out) = parse_over(alloc, &["parse", "g"], PLAIN, b"the dog barks", &sink_fails)?;
+    let (ended, out) = run_over(
+        alloc,
+        &["parse", "g"],
+        GRAMMAR.as_bytes(),
+        b"the dog barks",
+        &sink_fails,
+    )?;
     assert_eq!(rt; ended, Status::WriteFault);
     assert_eq!(rt; out.bytes(), b"analysi".as_slice());
     let shelf_fails = Devices {
         shelf_fails: &[1],
         ..SOUND
     };
-    let (ended, out) = parse_over(alloc, &["parse", "g"], PLAIN, b"the", &shelf_fails)?;
+    let (ended, out) = run_over(
+        alloc,
+        &["parse", "g"],
+        GRAMMAR.as_bytes(),
+        b"the",
+        &shelf_fails,
+    )?;
     assert_eq!(rt; ended, Status::ReadFault);
     assert_eq!(rt; out.bytes().len(), 0);
     let input_fails = Devices {
@@ -190,7 +236,13 @@ fn devices_that_fail(rt: HostRuntime) -> Result<(), Fail> {
         input_fails: &[2],
         ..SOUND
     };
-    let (ended, out) = parse_over(alloc, &["parse", "g"], PLAIN, b"the", &input_fails)?;
+    let (ended, out) = run_over(
+        alloc,
+        &["parse", "g"],
+        GRAMMAR.as_bytes(),
+        b"the",
+        &input_fails,
+    )?;
     assert_eq!(rt; ended, Status::ReadFault);
     assert_eq!(rt; out.bytes().len(), 0);
     Ok(())
@@ -229,11 +281,23 @@ fn longest_inputs(rt: HostRuntime) -> Result<(), Fail> {
         ),
     ] {
         let sentence = repeated(alloc, "the ", times, white)?;
-        let (ended, out) = parse_over(alloc, &["parse", "g"], PLAIN, sentence.as_bytes(), &SOUND)?;
+        let (ended, out) = run_over(
+            alloc,
+            &["parse", "g"],
+            GRAMMAR.as_bytes(),
+            sentence.as_bytes(),
+            &SOUND,
+        )?;
         assert_eq!(rt; ended, status);
         assert_eq!(rt; out.bytes(), text.as_bytes());
     }
-    let (ended, out) = parse_over(alloc, &["parse", "g"], PLAIN, b"the\n \xff", &SOUND)?;
+    let (ended, out) = run_over(
+        alloc,
+        &["parse", "g"],
+        GRAMMAR.as_bytes(),
+        b"the\n \xff",
+        &SOUND,
+    )?;
     assert_eq!(rt; ended, Status::BadSentence);
     assert_eq!(rt;
         out.bytes(),
@@ -252,7 +316,7 @@ fn budgets_that_are_spent(rt: HostRuntime) -> Result<(), Fail> {
         (1, Status::Spent, [first, "spent 1\n", ""]),
         (2, Status::Done, [first, second, "complete 2\n"]),
     ] {
-        let mut shelf = shelf_of(alloc, PLAIN, &[])?;
+        let mut shelf = shelf_of(alloc, GRAMMAR.as_bytes(), &[])?;
         let mut input = MemSource::new(alloc, b"sleeps", 1, &[])?;
         let mut out = MemSink::new(alloc, 1_000, 1_000, &[])?;
         let ended = parse_sentence(alloc, "g", &mut shelf, &mut input, &mut out, budget);
@@ -261,6 +325,51 @@ fn budgets_that_are_spent(rt: HostRuntime) -> Result<(), Fail> {
         for piece in texts {
             text.push_str(piece)?;
         }
+        assert_eq!(rt; out.bytes(), text.as_bytes());
+    }
+    Ok(())
+}
+
+#[test]
+fn reports_of_the_sample_grammar(rt: HostRuntime) -> Result<(), Fail> {
+    let alloc = rt.alloc();
+    let lexicon = "entry 1 \"the\"
+dim id {in: {det?} out: {}}
+dim lex {word: the}
+end
+entry 2 \"dog\"
+dim id {in: {subj?} out: {det!}}
+dim lex {word: dog}
+end
+entry 3 \"barks\"
+dim id {in: {} out: {subj!}}
+dim lex {word: barks}
+end
+entries 3
+";
+    let unexpected = "fault 23 Unexpected line 1 column 1\n";
+    for (words, grammar, status, text) in [
+        (
+            ["check", "g"],
+            PLAIN,
+            Status::Done,
+            "ok dims 2 classes 0 entries 3\n",
+        ),
+        (
+            ["check", "g"],
+            GRAMMAR,
+            Status::Done,
+            "ok dims 2 classes 0 entries 6\n",
+        ),
+        (["lexicon", "g"], PLAIN, Status::Done, lexicon),
+        (["check", "g"], PAIR, Status::BadText, unexpected),
+        (["lexicon", "g"], PAIR, Status::BadText, unexpected),
+        (["parse", "g"], PAIR, Status::BadText, unexpected),
+        (["check", "h"], PLAIN, Status::ReadFault, ""),
+        (["lexicon", "h"], PLAIN, Status::ReadFault, ""),
+    ] {
+        let (ended, out) = run_over(alloc, &words, grammar.as_bytes(), b"", &SOUND)?;
+        assert_eq!(rt; ended, status);
         assert_eq!(rt; out.bytes(), text.as_bytes());
     }
     Ok(())

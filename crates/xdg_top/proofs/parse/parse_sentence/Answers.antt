@@ -2,14 +2,14 @@ use Rattle.xdg_top.specs.Outcomes.{ParseOf}
 use Rattle.xdg_top.specs.declared.status.Status.TheVariants as statuses
 use Rattle.xdg_top.proofs.Leaving.{refused_leaves}
 use Rattle.xdg_top.proofs.OneOutcome.{one_parse}
-use Rattle.xdg_top.proofs.Parsing.{bad_text_of, bad_sentence_of, printed_leaves}
+use Rattle.xdg_top.proofs.Parsing.{no_grammar_of, bad_sentence_of, printed_leaves}
 use Rattle.xdg_top.proofs.parse.parse_sentence.Goals as goal
 
 pub returns-in-Err-clause-leaves : goal.returns-in-Err-clause-leaves
 returns-in-Err-clause-leaves g c files content told given =
     refused_leaves (λ status text. ParseOf status c.args.budget c.args.name.now files content text) c.refuse.result statuses.BadText c.in-Err.refusal _ _
     (one_parse c.args.budget c.args.name.now files content) (λ e. e)
-    (bad_text_of _ c.args.name.now _ _ c.in-Err.refusal files c.in-Err.ensures.refused told)
+    (no_grammar_of _ c.args.name.now _ _ c.in-Err.refusal files c.in-Err.ensures.refused told)
     c.refuse.ensures.written
 
 pub returns-in-Err-read_problem-clause-leaves : goal.returns-in-Err-read_problem-clause-leaves

@@ -1,0 +1,315 @@
+use Rattle.std.proofs.Common.{◌≡◌, ℕ, zero, suc, ◌+◌, ◌<◌, ◌≤◌, Bool, true, false, ◌||◌, ◌&&◌, if◌then◌else◌, List, [], ◌∷◌, ◌++◌, length, Option, Some, None, Ok, Err, refl, sym, ◌∙◌, ap, append_assoc, arith}
+use Rattle.xdg_lex.specs.declared.token.Kind.{Kind}
+use Rattle.xdg_base.specs.declared.places.Span.{Span}
+use Rattle.xdg_lex.specs.Lexed.{Lexeme}
+use Rattle.xdg_ast.specs.Language.{Language, Kinds, ◌or◌, kind_of, holds, sees, start_of, ended_by, State, Unexpected, Outcome, ◌>>=◌, skip, next, read_token, token, nothing, bind, both, either, items, many, full, room, read_nested, nested, spanned}
+use Rattle.xdg_ast.specs.Brackets.{is_opening, is_closing, walk}
+use Rattle.xdg_parse.specs.Laws.{at, Says, Alive, least, Shrinks, Law}
+use Rattle.xdg_parse.proofs.Items.{Shortens}
+use Rattle.xdg_parse.proofs.Laws.{ended-append, walk-both, walk-split, balanced, bind_says}
+
+-- ---- tests
+
+pub or-left : (a b : Bool) → a ≡ true → (a || b) ≡ true
+or-left a b h = rw h refl
+
+pub or-right : (a b : Bool) → b ≡ true → (a || b) ≡ true
+or-right true b h = refl
+or-right false b h = h
+
+pub or-false : (a b : Bool) → (a || b) ≡ false → (a ≡ false) × (b ≡ false)
+or-false true b h = absurd (cc)
+or-false false b h = (refl, h)
+
+pub holds-left : (p q : Kinds) (o : Option Kind) → holds (p or q) o ≡ false → holds p o ≡ false
+holds-left p q None h = refl
+holds-left p q (Some k) h = (or-false (p k) (q k) h).0
+
+pub holds-right : (p q : Kinds) (o : Option Kind) → holds (p or q) o ≡ false → holds q o ≡ false
+holds-right p q None h = refl
+holds-right p q (Some k) h = (or-false (p k) (q k) h).1
+
+pub holds-same : (p q : Kinds) → ((k : Kind) → p k ≡ q k) → (o : Option Kind) → holds p o ≡ holds q o
+holds-same p q e None = refl
+holds-same p q e (Some k) = e k
+
+-- kinds of which the one or the other does not hold
+abbrev pub Apart : Kinds → Kinds → Type 0
+Apart p q = (k : Kind) → q k ≡ true → p k ≡ false
+
+pub bind_ok : {A B : Type 0} (o : Outcome A) (f : A × State → Outcome B) (y : B × State) → (o >>= f) ≡ Ok y → (x : A × State) × (o ≡ Ok x) × (f x ≡ Ok y)
+bind_ok (Ok x) f y h = (x, refl, h)
+bind_ok (Err e) f y h = absurd (cc)
+
+least-and : (a b : Bool) → least (a && b) ≤ least a + least b
+least-and true true = omega arith
+least-and true false = omega arith
+least-and false b = omega arith
+
+least-or : (a b : Bool) → (least (a || b) ≤ least a) × (least (a || b) ≤ least b)
+least-or true true = (omega arith, omega arith)
+least-or true false = (omega arith, omega arith)
+least-or false true = (omega arith, omega arith)
+least-or false false = (omega arith, omega arith)
+
+-- ---- it goes on
+
+state-of : {A : Type 0} → State → Outcome A → State
+state-of s (Ok x) = x.1
+state-of s (Err e) = s
+
+ok-same : {A : Type 0} (x y : A) (s t : State) → ◌≡◌ {A = Outcome A} (Ok (x, s)) (Ok (y, t)) → s ≡ t
+unfolding state-of
+ok-same x y s t h = ap (state-of s) h
+
+value-of : {A : Type 0} → A → Outcome A → A
+value-of a (Ok x) = x.0
+value-of a (Err e) = a
+
+pub ok-parts : {A : Type 0} (x y : A) (s t : State) → ◌≡◌ {A = Outcome A} (Ok (x, s)) (Ok (y, t)) → (x ≡ y) × (s ≡ t)
+unfolding value-of
+ok-parts x y s t h = (ap (value-of x) h, ok-same x y s t h)
+
+left-same : {A : Type 0} (x y : A) (s t : State) → ◌≡◌ {A = Outcome A} (Ok (x, s)) (Ok (y, t)) → length s.left ≡ length t.left
+left-same x y s t h = ap (λ (u : State). length u.left) (ok-same x y s t h)
+
+token-shrinks-at : (p : Kinds) (e : ℕ) (ts : List Lexeme) (v : Bool) → sees p ts ≡ v → (x : Lexeme) (s' : State) → read_token p (at e ts) ≡ Ok (x, s') → length s'.left + 1 ≤ length ts
+unfolding read_token kind_of next skip
+token-shrinks-at p e ts false h x s' r = absurd (let i = rw h at r in cc)
+token-shrinks-at p e [] true h x s' r = absurd (cc)
+token-shrinks-at p e (t ∷ ts) true h x s' r =
+    let i : ◌≡◌ {A = Outcome Lexeme} (Ok (t, at t.span.end ts)) (Ok (x, s')) = rw h at r in
+    let j : at t.span.end ts ≡ s' = ok-same t x (at t.span.end ts) s' i in
+    let k : length ts ≡ length s'.left = ap (λ (s : State). length s.left) j in
+    omega arith
+
+pub token_shrinks : (p : Kinds) → Shrinks (token p)
+token_shrinks p = record { by = λ s x s' r. token-shrinks-at p s.ended s.left (sees p s.left) refl x s' r }
+
+pub nothing_shrinks : {A : Type 0} (a : A) → Shrinks (nothing a)
+nothing_shrinks a = record { by = λ s x s' r. let j : length s.left ≡ length s'.left = left-same a x s s' r in omega arith }
+
+pub bind_shrinks : {A B C : Type 0} (f : A → B → C) (l : Language A) (m : A → Language B) (example : Language B) → Shrinks l → ((x : A) → Shrinks (m x)) → ((x : A) → (m x).empty ≡ example.empty) → Shrinks (bind f l m example)
+bind_shrinks f l m example a b e = record {
+  by = λ s z s' r.
+      let g = bind_ok (l.read s) (λ x. (m x.0).read x.1 >>= λ y. Ok (f x.0 y.0, y.1)) (z, s') r in
+      let h = bind_ok ((m g.0.0).read g.0.1) (λ y. Ok (f g.0.0 y.0, y.1)) (z, s') g.2 in
+      let j : length h.0.1.left ≡ length s'.left = left-same (f g.0.0 h.0.0) z h.0.1 s' h.2 in
+      let p = a.by s g.0.0 g.0.1 g.1 in
+      let q = rw (e g.0.0) at ((b g.0.0).by g.0.1 h.0.0 h.0.1 h.1) in
+      let i = least-and l.empty example.empty in
+      omega arith;
+}
+
+pub both_shrinks : {A B C : Type 0} (f : A → B → C) (l : Language A) (m : Language B) → Shrinks l → Shrinks m → Shrinks (both f l m)
+both_shrinks f l m a b = bind_shrinks f l (λ _. m) m a (λ _. b) (λ _. refl)
+
+either-shrinks-at : {A : Type 0} (l m : Language A) → Shrinks l → Shrinks m → (v : Bool) (s : State) (x : A) (s' : State) → (if v then l.read s else m.read s) ≡ Ok (x, s') → length s'.left + least (l.empty || m.empty) ≤ length s.left
+either-shrinks-at l m a b true s x s' r = let p = a.by s x s' r in let i = least-or l.empty m.empty in omega (arith, i.0)
+either-shrinks-at l m a b false s x s' r = let p = b.by s x s' r in let i = least-or l.empty m.empty in omega (arith, i.1)
+
+pub either_shrinks : {A : Type 0} (l m : Language A) → Shrinks l → Shrinks m → Shrinks (either l m)
+either_shrinks l m a b = record { by = λ s x s' r. either-shrinks-at l m a b (sees l.first s.left) s x s' r }
+
+pub spanned_shrinks : {A B : Type 0} (f : Span → A → B) (l : Language A) → Shrinks l → Shrinks (spanned f l)
+spanned_shrinks f l a = record {
+  by = λ s z s' r.
+      let g = bind_ok (l.read s) (λ x. Ok (f (record { start = start_of s.left; end = x.1.ended }) x.0, x.1)) (z, s') r in
+      let j : length g.0.1.left ≡ length s'.left = left-same (f (record { start = start_of s.left; end = g.0.1.ended }) g.0.0) z g.0.1 s' g.2 in
+      let p = a.by s g.0.0 g.0.1 g.1 in
+      omega arith;
+}
+
+items-shrinks : {A : Type 0} (l : Language A) → Shrinks l → (n : ℕ) (s : State) (v : Bool) → sees l.first s.left ≡ v → (xs : List A) (s' : State) → items l.first l.read n s ≡ Ok (xs, s') → length s'.left ≤ length s.left
+unfolding items
+items-shrinks l a zero s v h xs s' r = let j : length s.left ≡ length s'.left = left-same [] xs s s' r in omega arith
+items-shrinks l a (suc n) s false h xs s' r =
+    let i = rw h at r in
+    let j : length s.left ≡ length s'.left = left-same [] xs s s' i in omega arith
+items-shrinks l a (suc n) s true h xs s' r =
+    let g = bind_ok (l.read s) (λ x. items l.first l.read n x.1 >>= λ ys. Ok (x.0 ∷ ys.0, ys.1)) (xs, s') (rw h at r) in
+    let k = bind_ok (items l.first l.read n g.0.1) (λ ys. Ok (g.0.0 ∷ ys.0, ys.1)) (xs, s') g.2 in
+    let j : length k.0.1.left ≡ length s'.left = left-same (g.0.0 ∷ k.0.0) xs k.0.1 s' k.2 in
+    let p = a.by s g.0.0 g.0.1 g.1 in
+    let q = items-shrinks l a n g.0.1 (sees l.first g.0.1.left) refl k.0.0 k.0.1 k.1 in
+    omega arith
+
+pub many_shrinks : {A : Type 0} (l : Language A) → Shrinks l → Shrinks (many l)
+many_shrinks l a = record { by = λ s xs s' r. let p = items-shrinks l a (length s.left) s (sees l.first s.left) refl xs s' r in omega arith }
+
+skip-shrinks : (e : ℕ) (ts : List Lexeme) → length (skip (at e ts)).left ≤ length ts
+unfolding skip
+skip-shrinks e [] = omega arith
+skip-shrinks e (t ∷ ts) = omega arith
+
+read-nested-shrinks : {A : Type 0} (cl : Kinds) (l : Language A) → Shrinks l → (s : State) (x : A) (s' : State) → read_nested cl l.read s ≡ Ok (x, s') → length s'.left + 1 ≤ length s.left
+read-nested-shrinks cl l a s x s' r =
+    let g = bind_ok (l.read (skip s)) (λ y. read_token cl y.1 >>= λ c. Ok (y.0, c.1)) (x, s') r in
+    let k = bind_ok (read_token cl g.0.1) (λ c. Ok (g.0.0, c.1)) (x, s') g.2 in
+    let j : length k.0.1.left ≡ length s'.left = left-same g.0.0 x k.0.1 s' k.2 in
+    let p = a.by (skip s) g.0.0 g.0.1 g.1 in
+    let q = (token_shrinks cl).by g.0.1 k.0.0 k.0.1 k.1 in
+    let i = skip-shrinks s.ended s.left in
+    omega arith
+
+full-shrinks-at : {A : Type 0} {L : Type 1} (op cl : Kinds) (body : L → Language A) → (s : State) (v : Bool) → sees op s.left ≡ v
+    → (x : A) (s' : State) → (nested op cl full body).read s ≡ Ok (x, s') → length s'.left + 1 ≤ length s.left
+full-shrinks-at op cl body s false h x s' r = absurd (let i = rw h at r in cc)
+full-shrinks-at op cl body s true h x s' r = absurd (let i = rw h at r in cc)
+
+room-shrinks-at : {A : Type 0} {L : Type 1} (op cl : Kinds) (j : L) (body : L → Language A) → Shrinks (body j) → (s : State) (v : Bool) → sees op s.left ≡ v
+    → (x : A) (s' : State) → (nested op cl (room j) body).read s ≡ Ok (x, s') → length s'.left + 1 ≤ length s.left
+room-shrinks-at op cl j body a s false h x s' r = absurd (let i = rw h at r in cc)
+room-shrinks-at op cl j body a s true h x s' r = read-nested-shrinks cl (body j) a s x s' (rw h at r)
+
+pub full_shrinks : {A : Type 0} {L : Type 1} (op cl : Kinds) (body : L → Language A) → Shrinks (nested op cl full body)
+full_shrinks op cl body = record { by = λ s x s' r. full-shrinks-at op cl body s (sees op s.left) refl x s' r }
+
+pub room_shrinks : {A : Type 0} {L : Type 1} (op cl : Kinds) (j : L) (body : L → Language A) → Shrinks (body j) → Shrinks (nested op cl (room j) body)
+room_shrinks op cl j body a = record { by = λ s x s' r. room-shrinks-at op cl j body a s (sees op s.left) refl x s' r }
+
+pub shortens_of : {A : Type 0} (l : Language A) → Shrinks l → l.empty ≡ false → Shortens l.read
+shortens_of l a e = record { shorter = λ s x s' r. let p = rw e at (a.by s x s' r) in omega arith }
+
+-- ---- the laws
+
+-- a list that is not empty
+pub not-empty : {A : Type 0} (l m : Language A) (d n : ℕ) → Law d n l m → l.empty ≡ false → (x : A) → m.means [] x → ⊥
+not-empty l m d n a e x h = let i = a.empty x h in absurd (cc)
+
+pub first-holds : {A : Type 0} (l m : Language A) (d n : ℕ) → Law d n l m → l.empty ≡ false → (u r : List Lexeme) (x : A) → m.means u x → sees l.first (u ++ r) ≡ true
+unfolding kind_of
+first-holds l m d n a e [] r x h = absurd (not-empty l m d n a e x h)
+first-holds l m d n a e (t ∷ u) r x h = a.first t u x h
+
+pub nothing_law : {A : Type 0} (v : A) (d n : ℕ) → Law d n (nothing v) (nothing v)
+unfolding walk ended_by
+nothing_law v d n = record {
+  same = λ k. refl;
+  same_empty = refl;
+  fits = λ u x h. rw h.0 refl;
+  first = λ t u x h. absurd (let i = h.0 in cc);
+  empty = λ x h. refl;
+  complete = λ u x e r h w last. rw (h.0, h.1) refl;
+  says = λ lt s. record { used = []; split = refl; ended = refl; means = (refl, refl); walked = refl; again = λ r e. refl };
+}
+
+-- kinds of no bracket
+abbrev pub Plain : Kinds → Type 0
+Plain p = (k : Kind) → p k ≡ true → (is_opening k ≡ false) × (is_closing k ≡ false)
+
+pub walk-plain : (t : Lexeme) (n : ℕ) → is_opening t.kind ≡ false → is_closing t.kind ≡ false → walk n (t ∷ []) ≡ Some n
+unfolding walk
+walk-plain t n a b = rw (a, b) refl
+
+pub token-stops : (p : Kinds) (e : ℕ) (r : List Lexeme) → sees p r ≡ false → read_token p (at e r) ≡ Err (Unexpected, r)
+unfolding read_token
+token-stops p e r h = rw h refl
+
+pub token-reads : (p : Kinds) (e : ℕ) (t : Lexeme) (r : List Lexeme) → p t.kind ≡ true → read_token p (at e (t ∷ r)) ≡ Ok (t, at t.span.end r)
+unfolding read_token kind_of next skip
+token-reads p e t r h = rw h refl
+
+token-says-at : (p : Kinds) → Plain p → Alive ((token p).means) → (d e : ℕ) (ts : List Lexeme) (v : Bool) → sees p ts ≡ v → Says d (token p) (at e ts) (read_token p (at e ts))
+unfolding kind_of walk ended_by
+token-says-at p plain alive d e ts false h = rw (token-stops p e ts h) (record {
+  used = [];
+  split = refl;
+  tail = alive.tokens;
+  value = alive.value;
+  means = alive.means;
+  reached = d;
+  walked = refl;
+  again = λ r k. token-stops p e r (ap (holds p) (sym k) ∙ h);
+})
+token-says-at p plain alive d e [] true h = absurd (cc)
+token-says-at p plain alive d e (t ∷ ts) true h = rw (token-reads p e t ts h) (record {
+  used = t ∷ [];
+  split = refl;
+  ended = refl;
+  means = (refl, h);
+  walked = walk-plain t d (plain t.kind h).0 (plain t.kind h).1;
+  again = λ r k. token-reads p e t r h;
+})
+
+pub heads : (t x : Lexeme) (u v : List Lexeme) → t ∷ u ≡ x ∷ v → t ≡ x
+heads t x u v h = cc
+
+token-complete : (p : Kinds) (u : List Lexeme) (x : Lexeme) (e : ℕ) (r : List Lexeme) → u ≡ x ∷ [] → p x.kind ≡ true → read_token p (at e (u ++ r)) ≡ Ok (x, at (ended_by e u) r)
+unfolding ended_by
+token-complete p u x e r h g = rw h (token-reads p e x r g)
+
+pub token_law : (p : Kinds) → Plain p → Alive ((token p).means) → (d n : ℕ) → Law d n (token p) (token p)
+token_law p plain alive d n = record {
+  same = λ k. refl;
+  same_empty = refl;
+  fits = λ u x h. rw h.0 (walk-plain x n (plain x.kind h.1).0 (plain x.kind h.1).1);
+  first = λ t u x h. rw (heads t x u [] h.0) h.1;
+  empty = λ x h. absurd (let i = h.0 in cc);
+  complete = λ u x e r h w last. token-complete p u x e r h.0 h.1;
+  says = λ lt s. token-says-at p plain alive d s.ended s.left (sees p s.left) refl;
+}
+
+-- ---- one and then the other
+
+module _ {A B C : Type 0} (f : A → B → C) (l m : Language A) (l' m' : A → Language B) (ex ex' : Language B) (d n : ℕ) (a : Law d n l m) (b : (x : A) → Law d n (l' x) (m' x))
+    (ex-first : (k : Kind) → ex'.first k ≡ ex.first k) (ex-empty : ex'.empty ≡ ex.empty)
+    (as-first : (x : A) (k : Kind) → (l' x).first k ≡ ex.first k) (as-empty : (x : A) → (l' x).empty ≡ ex.empty) (as-last : (x : A) (k : Kind) → (l' x).last k ≡ ex.last k)
+    (alive : suc d < n → (x : A) → Alive ((m' x).means)) (apart : Apart l.last ex.first) where
+  bind-same : (v v' : Bool) → v' ≡ v → (k : Kind) → ((if v' then (m.first or ex'.first) else m.first) k) ≡ ((if v then (l.first or ex.first) else l.first) k)
+  bind-same true v' e k = rw (e, a.same k, ex-first k) refl
+  bind-same false v' e k = rw (e, a.same k) refl
+
+  first-in : (v : Bool) (k : Kind) → l.first k ≡ true → ((if v then (l.first or ex.first) else l.first) k) ≡ true
+  first-in true k h = or-left (l.first k) (ex.first k) h
+  first-in false k h = h
+
+  second-first : (t : Lexeme) (vs : List Lexeme) (x : A) (y : B) → (m' x).means (t ∷ vs) y → ex.first t.kind ≡ true
+  second-first t vs x y h = sym (as-first x t.kind) ∙ (b x).first t vs y h
+
+  second-empty : (x : A) (y : B) → (m' x).means [] y → ex.empty ≡ true
+  second-empty x y h = sym (as-empty x) ∙ (b x).empty y h
+
+  bind-first : (t : Lexeme) (u us vs : List Lexeme) (x : A) (y : B) → t ∷ u ≡ us ++ vs → m.means us x → (m' x).means vs y → (bind f l l' ex).first t.kind ≡ true
+  bind-first t u [] [] x y e g h = absurd (cc)
+  bind-first t u [] (t' ∷ vs) x y e g h = rw (a.empty x g, heads t t' u vs e) (or-right (l.first t'.kind) (ex.first t'.kind) (second-first t' vs x y h))
+  bind-first t u (t' ∷ us) vs x y e g h = rw (heads t t' u (us ++ vs) e) (first-in l.empty t'.kind (a.first t' us x g))
+
+  bind-empty : (us vs : List Lexeme) (x : A) (y : B) → [] ≡ us ++ vs → m.means us x → (m' x).means vs y → (l.empty && ex.empty) ≡ true
+  bind-empty [] [] x y e g h = rw (a.empty x g, second-empty x y h) refl
+  bind-empty [] (t ∷ vs) x y e g h = absurd (cc)
+  bind-empty (t ∷ us) vs x y e g h = absurd (cc)
+
+  last-right : (v : Bool) (o : Option Kind) → holds (if v then (ex.last or (ex.first or l.last)) else ex.last) o ≡ false → holds ex.last o ≡ false
+  last-right true o h = holds-left ex.last (ex.first or l.last) o h
+  last-right false o h = h
+
+  last-left : (vs : List Lexeme) (x : A) (y : B) (r : List Lexeme) → (m' x).means vs y → holds (bind f l l' ex).last (kind_of r) ≡ false → holds l.last (kind_of (vs ++ r)) ≡ false
+  unfolding kind_of
+  last-left [] x y r h last = holds-right ex.first l.last (kind_of r) (holds-right ex.last (ex.first or l.last) (kind_of r) (rw (second-empty x y h) at last))
+  last-left (t ∷ vs) x y r h last = apart t.kind (second-first t vs x y h)
+
+  bind-complete : (us vs : List Lexeme) (x : A) (y : B) (e : ℕ) (r : List Lexeme) → m.means us x → (m' x).means vs y → walk d (us ++ vs) ≡ Some d → holds (bind f l l' ex).last (kind_of r) ≡ false
+      → (bind f l l' ex).read (at e ((us ++ vs) ++ r)) ≡ Ok (f x y, at (ended_by e (us ++ vs)) r)
+  bind-complete us vs x y e r g h w last =
+      let sp = walk-split d d us vs w in
+      let k : sp.0 ≡ d = balanced us n d sp.0 (a.fits us x g) sp.1 in
+      let w1 : walk d us ≡ Some d = sp.1 ∙ ap Some k in
+      let w2 : walk d vs ≡ Some d = ap (λ i. walk i vs) (sym k) ∙ sp.2 in
+      let last2 : holds (l' x).last (kind_of r) ≡ false = holds-same (l' x).last ex.last (as-last x) (kind_of r) ∙ last-right ex.empty (kind_of r) last in
+      rw (append_assoc us vs r, a.complete us x e (vs ++ r) g w1 (last-left vs x y r h last), (b x).complete vs y (ended_by e us) r h w2 last2, ended-append e us vs) refl
+
+  pub bind_law : Law d n (bind f l l' ex) (bind f m m' ex')
+  bind_law = record {
+    same = bind-same l.empty m.empty a.same_empty;
+    same_empty = rw (a.same_empty, ex-empty) refl;
+    fits = λ u x h. rw h.4 (walk-both n n h.0 h.1 (Some n) (a.fits h.0 h.2 h.5) ((b h.2).fits h.1 h.3 h.6));
+    first = λ t u x h. bind-first t u h.0 h.1 h.2 h.3 h.4 h.5 h.6;
+    empty = λ x h. bind-empty h.0 h.1 h.2 h.3 h.4 h.5 h.6;
+    complete = λ u x e r h w last. rw (h.4, h.7) (bind-complete h.0 h.1 h.2 h.3 e r h.5 h.6 (rw h.4 at w) last);
+    says = λ lt s. bind_says f m m' ex' (alive lt) d s (l.read s) (a.says lt s) (λ x. (l' x).read) (λ x s1 e. (b x).says lt s1);
+  }
+
+module _ {A B C : Type 0} (f : A → B → C) (l m : Language A) (l' m' : Language B) (d n : ℕ) (a : Law d n l m) (b : Law d n l' m') (alive : suc d < n → Alive (m'.means)) (apart : Apart l.last l'.first) where
+  pub both_law : Law d n (both f l l') (both f m m')
+  both_law = bind_law f l m (λ _. l') (λ _. m') l' m' d n a (λ _. b) b.same b.same_empty (λ x k. refl) (λ x. refl) (λ x k. refl) (λ lt x. alive lt) apart

@@ -1,0 +1,12 @@
+pub mod Dimensions
+pub mod Elements
+pub mod Equal
+pub mod Exact
+pub mod Listed
+pub mod Repetitions
+pub mod Statements
+pub mod Terms
+pub mod Told
+pub mod Turns
+pub mod Types
+pub mod Whole
