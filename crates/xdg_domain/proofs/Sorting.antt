@@ -1,0 +1,70 @@
+-- What stands in a list stays there when it is sorted and loses its repetitions.
+use Rattle.std.proofs.Common.{◌≡◌, ℕ, ◌<◌, ◌+◌, zero, suc, List, [], ◌∷◌, ◌++◌, length, get_or, refl, ap, sym, ◌∙◌, arith, inl, inr}
+use Rattle.std.specs.Prelude.{Bool, true, false, eqb, ◌||◌, ◌==◌}
+use Rattle.std.specs.List.{range_with_len, Contains, dedup, list_any}
+use Rattle.std.specs.List.Sorted.{IsStrictlyIncreasing, IsPermutation}
+use Rattle.std.proofs.lemmas.List.Sorted.{IsPermutation-sym, Contains-permutation}
+use Rattle.std.proofs.lemmas.List.Kept.{Contains-dedup_nat, Contains-from_dedup}
+use Rattle.std.proofs.lemmas.Bool.{cases_eq, eq-eqb, ne_eqb}
+use Rattle.xdg_domain.specs.Cards.{has}
+use Rattle.xdg_domain.proofs.Masks.{apart}
+use Rattle.std.proofs.lemmas.List.FromFn.{length-range_with_len, get_or-range_with_len}
+
+pub range_rises : (first count : ℕ) → IsStrictlyIncreasing (range_with_len first count)
+range_rises first count k h =
+    let within : k + 1 < count = omega (arith, h, length-range_with_len first count) in
+    let here : get_or (range_with_len first count) k 0 ≡ first + k = get_or-range_with_len first count k 0 (omega arith) in
+    let next : get_or (range_with_len first count) (k + 1) 0 ≡ first + (k + 1) = get_or-range_with_len first count (k + 1) 0 within in
+    omega (arith, here, next)
+
+-- one number more
+grown : (first count : ℕ) → range_with_len first count ++ (first + count) ∷ [] ≡ range_with_len first (suc count)
+grown first zero = let e : first + 0 ≡ first = omega arith in ap (λ n. n ∷ []) e
+grown first (suc count) =
+    let e : first + suc count ≡ (first + 1) + count = omega arith in
+    ap (λ n. first ∷ (range_with_len (first + 1) count ++ n ∷ [])) e ∙ ap (λ t. first ∷ t) (grown (first + 1) count)
+
+pub range_more : (count : ℕ) → range_with_len 0 count ++ count ∷ [] ≡ range_with_len 0 (count + 1)
+range_more count =
+    let e : 0 + count ≡ count = omega arith in
+    let g : suc count ≡ count + 1 = omega arith in
+    ap (λ n. range_with_len 0 count ++ n ∷ []) (sym e) ∙ grown 0 count ∙ ap (λ n. range_with_len 0 n) g
+
+or_true : (a : Bool) → (a || true) ≡ true
+or_true true = refl
+or_true false = refl
+
+contains_of_has : (s : List ℕ) (n : ℕ) → has s n ≡ true → Contains s n
+contains_of_has [] n stands = apart false stands refl
+contains_of_has (m ∷ s) n stands = elim (cases_eq m n) [
+  | inl e ↦ (0, omega arith, e)
+  | inr other ↦
+      let c = contains_of_has s n (sym (ap (λ t. t || has s n) (ne_eqb m n other)) ∙ stands) in
+      (suc c.0, omega (arith, c.1), c.2)
+]
+
+has_at : (s : List ℕ) (n k : ℕ) → k < length s → get_or s k n ≡ n → has s n ≡ true
+has_at [] n k h e = absurd (omega (arith, h))
+has_at (m ∷ s) n zero h e = ap (λ t. t || has s n) (eq-eqb m n e)
+has_at (m ∷ s) n (suc k) h e = ap (λ z. (m == n) || z) (has_at s n k (omega (arith, h)) e) ∙ or_true (m == n)
+
+-- two tests that pass together are equal
+same_true : (a b : Bool) → (a ≡ true → b ≡ true) → (b ≡ true → a ≡ true) → a ≡ b
+same_true true b f g = sym (f refl)
+same_true false true f g = g refl
+same_true false false f g = refl
+
+same_members : (s t : List ℕ) (n : ℕ) → (Contains s n → Contains t n) → (Contains t n → Contains s n) → has s n ≡ has t n
+same_members s t n f g = same_true (has s n) (has t n)
+    (λ e. let c = f (contains_of_has s n e) in has_at t n c.0 c.1 c.2)
+    (λ e. let c = g (contains_of_has t n e) in has_at s n c.0 c.1 c.2)
+
+pub dedup_has : (s : List ℕ) (n : ℕ) → has (dedup eqb s) n ≡ has s n
+dedup_has s n = same_members (dedup eqb s) s n (Contains-from_dedup eqb s n) (Contains-dedup_nat s n)
+
+pub permuted_has : (s t : List ℕ) (n : ℕ) → IsPermutation s t → has t n ≡ has s n
+permuted_has s t n p = same_members t s n (Contains-permutation t s n (IsPermutation-sym s t p)) (Contains-permutation s t n p)
+
+pub any_has : (s : List ℕ) (n : ℕ) → list_any (λ m. m == n) s ≡ has s n
+any_has [] n = refl
+any_has (m ∷ s) n = ap (λ t. (m == n) || t) (any_has s n)

@@ -1,0 +1,12 @@
+use Rattle.std.proofs.Common.{◌*◌, ◌%◌, ◌^◌}
+use Rattle.xdg_domain.proofs.Masks.{members_are_cards, one_bits, one_within}
+use Rattle.xdg_domain.proofs.cards.CardSet.one.Goals as goal
+
+pub invariant_of-result : goal.invariant_of-result
+invariant_of-result c = one_within c.args.number c.requires
+
+pub returns-clause-value : goal.returns-clause-value
+returns-clause-value c = one_bits c.args.number c.requires
+
+pub returns-clause-cards : goal.returns-clause-cards
+returns-clause-cards c = let within = one_within c.args.number c.requires in members_are_cards (1 * 2 ^ c.args.number % 2 ^ 128) within.0 within.1

@@ -1,0 +1,9 @@
+use Rattle.std.proofs.Common.{length, drop, ◌+◌, ◌-◌, ◌≤◌}
+use Rattle.xdg_domain.proofs.Merging.{Meeting}
+use Rattle.xdg_domain.proofs.sets.SetOf.meet.Given as goal
+
+abbrev pub invariant-loop-i : goal.invariant-loop-i
+invariant-loop-i l = (l.i ≤ length l.mine) × (l.j ≤ length l.theirs) × Meeting l.mine l.theirs l.numbers.items (drop l.i l.mine) (drop l.j l.theirs)
+
+abbrev pub decreases-loop-i : goal.decreases-loop-i
+decreases-loop-i l = (length l.mine - l.i) + (length l.theirs - l.j)

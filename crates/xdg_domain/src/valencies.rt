@@ -1,0 +1,97 @@
+//! What is allowed by key, as the list of the keys with their cardinalities.
+
+ghost use Rattle.std.specs.Prelude.{◌≡◌, ℕ, [], ◌∷◌, IfOk, MatchOption};
+ghost use Rattle.xdg_domain.specs.Valencies.{said_at, both_say, Clash};
+
+use crate::cards::CardSet;
+use std::alloc::{AllocError, Global};
+use std::marker::Model;
+
+/// Cardinalities by key, seen as the list of the keys with what each allows. The keys rise strictly.
+#[derive(Debug, Drop)]
+pub struct CardMap {
+    entries: Vec<(u8, CardSet)>,
+}
+
+impl Model for CardMap {
+    ghost use Rattle.std.specs.Prelude.{List, ℕ};
+    ghost use Rattle.xdg_domain.specs.Valencies.{KeysRise};
+
+    ghost Value = { List (ℕ × List ℕ) };
+
+    ghost view = { λ map. map.entries.items };
+
+    ghost invariant = { λ map. KeysRise 0 map.entries.items };
+}
+
+impl CardMap {
+    /// The map that says nothing of any key. It takes no memory.
+    pub fn none(alloc: Global) -> CardMap
+        ensures { result ≡ [] }
+    {
+        CardMap {
+            entries: Vec::new(alloc),
+        }
+    }
+
+    /// The map that says something of one key alone.
+    pub fn said(alloc: Global, key: u8, cards: CardSet) -> Result<CardMap, AllocError>
+        ensures { IfOk result (λ made. made ≡ (key, cards) ∷ []) }
+    {
+        let mut entries = Vec::new(alloc);
+        entries.push((key, cards))?;
+        Ok(CardMap { entries })
+    }
+
+    /// What is said of the key, if anything is.
+    pub fn get(&self, key: u8) -> Option<CardSet>
+        ensures { result ≡ said_at self.now key }
+    {
+        for entry in self.entries.as_slice() {
+            if entry.0 == key {
+                return Some(entry.1);
+            }
+        }
+        None
+    }
+
+    /// Both maps together, key by key: what one alone says of a key is taken over, and what both
+    /// say of it are the numbers that both allow. None where they allow no number in common for
+    /// some key. The time is linear.
+    pub fn join(&self, alloc: Global, other: &CardMap) -> Result<Option<CardMap>, AllocError>
+        ensures { IfOk result (λ told. MatchOption told
+            ((key : ℕ) × Clash (said_at self.now key) (said_at other.now key))
+            (λ made. (key : ℕ) → (said_at made key ≡ both_say (said_at self.now key) (said_at other.now key)) × (Clash (said_at self.now key) (said_at other.now key) → ⊥))) }
+    {
+        let mine = self.entries.as_slice();
+        let theirs = other.entries.as_slice();
+        let mut entries = Vec::new(alloc);
+        let mut i = 0;
+        let mut j = 0;
+        while i < mine.len() && j < theirs.len() {
+            let one = mine[i];
+            let two = theirs[j];
+            if one.0 < two.0 {
+                entries.push(one)?;
+                i += 1;
+            } else if two.0 < one.0 {
+                entries.push(two)?;
+                j += 1;
+            } else {
+                match one.1.meet(&two.1) {
+                    None => return Ok(None),
+                    Some(cards) => {
+                        entries.push((one.0, cards))?;
+                        i += 1;
+                        j += 1;
+                    }
+                }
+            }
+        }
+        let (_, later) = mine.split_at(i);
+        entries.extend_from_slice(later)?;
+        let (_, more) = theirs.split_at(j);
+        entries.extend_from_slice(more)?;
+        Ok(Some(CardMap { entries }))
+    }
+}
