@@ -6,7 +6,7 @@ use crate::terms::Term;
 use crate::types::TypeTerm;
 use xdg_base::{List, Span};
 
-/// A grammar text as a tree (after the User Language of Debusmann 2006, appendix A).
+/// A grammar text as a tree, in this project's profile of the User Language of the XDG Development Kit.
 #[derive(Debug, Drop)]
 pub struct Grammar {
     /// The statements, in the order of the text.

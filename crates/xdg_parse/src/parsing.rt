@@ -40,8 +40,8 @@ fn too_deep(at: u32) -> Stop
     })
 }
 
-/// The grammar that tokens stand for, as the User Language of Debusmann 2006 (appendix A) has it. The place `end` is
-/// where the text of the tokens ends.
+/// The grammar that tokens stand for, in this project's profile of the User Language of the XDG Development Kit. The
+/// place `end` is where the text of the tokens ends.
 ///
 /// # Errors
 ///
