@@ -1,3 +1,12 @@
-pub mod Cards
 pub mod Bits
+pub mod Cards
+pub mod Defaults
+pub mod Joined
+pub mod Joins
+pub mod Keys
+pub mod Samples
+pub mod Shapes
+pub mod Sized
+pub mod Tuples
 pub mod Valencies
+pub mod Values

@@ -3,12 +3,12 @@ use Rattle.std.specs.Prelude.{◌≡◌, ℕ, ◌≤◌, ◌+◌, ◌==◌, List
 use Rattle.xdg_domain.specs.Cards.{common}
 
 -- what the list says of the key
-abbrev pub said_at : List (ℕ × List ℕ) → ℕ → Option (List ℕ)
+abbrev pub said_at : {V : Type 0} → List (ℕ × V) → ℕ → Option V
 said_at [] key = None
 said_at (entry ∷ s) key = cond (entry.0 == key) (Some entry.1) (said_at s key)
 
 -- the keys rise strictly, from low on
-abbrev pub KeysRise : ℕ → List (ℕ × List ℕ) → Type 0
+abbrev pub KeysRise : {V : Type 0} → ℕ → List (ℕ × V) → Type 0
 KeysRise low [] = Unit {0}
 KeysRise low (entry ∷ s) = (low ≤ entry.0) × KeysRise (entry.0 + 1) s
 

@@ -15,9 +15,12 @@ pub struct CardSet {
 
 impl Model for CardSet {
     ghost use Rattle.std.specs.Prelude.{ℕ, List, ◌<◌, ◌^◌};
+    ghost use Rattle.std.specs.Coded.{coded_list, coded_ℕ};
     ghost use Rattle.xdg_domain.specs.Bits.{members, number, same_bits};
 
     ghost Value = { List ℕ };
+
+    ghost coded = { coded_list coded_ℕ };
 
     ghost view = { λ s. members s.bits };
 

@@ -1,12 +1,28 @@
-//! The finite collections that values are made of. Contracts see each as a rising list.
+//! Types without names and their values: which values a type has, what two of them say together, what holds where nothing
+//! is said, and how tuples are numbered. Contracts see collections as rising lists.
 #![tactic(auto)]
 
 mod cards;
+mod copying;
+#[cfg(test)]
+mod default_tests;
+mod defaults;
+#[cfg(test)]
+mod join_tests;
+mod joining;
 mod sets;
 #[cfg(test)]
 mod tests;
+mod tuples;
+mod types;
 mod valencies;
+mod values;
 
 pub use cards::CardSet;
+pub use defaults::{MOST_PARTS, default_of, parts};
+pub use joining::join;
 pub use sets::SetOf;
+pub use tuples::{Tuple, count, tuple_index, tuple_of};
+pub use types::Ty;
 pub use valencies::CardMap;
+pub use values::Value;

@@ -136,4 +136,12 @@ impl SetOf {
     {
         self.numbers.as_slice()
     }
+
+    /// A copy.
+    pub fn copy(&self, alloc: Global) -> Result<SetOf, AllocError>
+        ensures { IfOk result (λ made. made ≡ self.now) }
+    {
+        let numbers = Vec::from_slice(alloc, self.numbers.as_slice())?;
+        Ok(SetOf { numbers })
+    }
 }

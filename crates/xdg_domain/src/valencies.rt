@@ -1,7 +1,8 @@
 //! What is allowed by key, as the list of the keys with their cardinalities.
 
-ghost use Rattle.std.specs.Prelude.{◌≡◌, ℕ, [], ◌∷◌, IfOk, MatchOption};
-ghost use Rattle.xdg_domain.specs.Valencies.{said_at, both_say, Clash};
+ghost use Rattle.std.specs.Prelude.{◌≡◌, ℕ, [], ◌∷◌, ◌++◌, IfOk, OnOk, OnErr, MatchOption};
+ghost use Rattle.xdg_domain.specs.Keys.{KeysBelow};
+ghost use Rattle.xdg_domain.specs.Valencies.{said_at, KeysRise, both_say, Clash};
 
 use crate::cards::CardSet;
 use std::alloc::{AllocError, Global};
@@ -16,8 +17,11 @@ pub struct CardMap {
 impl Model for CardMap {
     ghost use Rattle.std.specs.Prelude.{List, ℕ};
     ghost use Rattle.xdg_domain.specs.Valencies.{KeysRise};
+    ghost use Rattle.std.specs.Coded.{coded_list, coded×, coded_ℕ};
 
     ghost Value = { List (ℕ × List ℕ) };
+
+    ghost coded = { coded_list (coded× coded_ℕ (coded_list coded_ℕ)) };
 
     ghost view = { λ map. map.entries.items };
 
@@ -93,5 +97,31 @@ impl CardMap {
         let (_, more) = theirs.split_at(j);
         entries.extend_from_slice(more)?;
         Ok(Some(CardMap { entries }))
+    }
+
+    /// Adds what is said of a key above all of which something is said. On want of memory the map
+    /// stays as it was.
+    pub fn add(&mut self, key: u8, cards: CardSet) -> Result<(), AllocError>
+        requires above { KeysBelow key self.old }
+        ensures ok { OnOk result (self.new ≡ self.old ++ (key, cards) ∷ []) }
+        ensures err { OnErr result (self.new ≡ self.old) }
+    {
+        self.entries.push((key, cards))?;
+        Ok(())
+    }
+
+    /// A copy.
+    pub fn copy(&self, alloc: Global) -> Result<CardMap, AllocError>
+        ensures { IfOk result (λ made. made ≡ self.now) }
+    {
+        let entries = Vec::from_slice(alloc, self.entries.as_slice())?;
+        Ok(CardMap { entries })
+    }
+
+    /// That the keys rise. It does nothing.
+    pub(crate) fn rises(&self)
+        ensures { KeysRise 0 self.now }
+    {
+        let _ = &self.entries;
     }
 }

@@ -1,0 +1,297 @@
+-- Sets and cardinalities of which the same is said are the same, and what two of them say together.
+use Rattle.std.proofs.Common.{◌≡◌, ◌⊎◌, ℕ, ◌<◌, ◌≤◌, ◌+◌, List, [], ◌∷◌, refl, ap, ap₂, sym, ◌∙◌, arith, inl, inr, subst}
+use lib.Pointwise.{pointwise}
+use Rattle.std.specs.Prelude.{eqb, Bool, true, false, ◌&&◌, ◌||◌, ◌==◌, Option, None, Some, MatchOption, Result, Ok, Err, IfOk, filter}
+use Rattle.std.specs.List.Sorted.{IsStrictlyIncreasing}
+use Rattle.std.proofs.lemmas.Bool.{cases_eq, cases_lt, eq-eqb, eqb-true, ne_eqb, true≢false, cond_both}
+use Rattle.xdg_domain.specs.Cards.{has, cards, numbers_below, Rises, IsCards, common}
+use Rattle.xdg_domain.specs.Valencies.{said_at, KeysRise, both_say, Clash}
+use Rattle.xdg_domain.specs.Values.{AllBelow, EachSaid}
+use Rattle.xdg_domain.specs.Joins.{Both, SaysBoth, OnBoth, OnSome, IsUnion, IsMeet, AllowsBoth, IsApart}
+use Rattle.xdg_domain.specs.Joined.{above, either, both, where_some, allowed, merged, same_list}
+use Rattle.xdg_domain.proofs.Rising.{has_of, has_beyond, rises_of, numbers_agree}
+use Rattle.xdg_domain.proofs.Merging.{RisesFrom, rises_of_increasing, increasing_of_rises, absent}
+use Rattle.xdg_domain.proofs.Keyed.{says_exclusive, says_unique}
+use Rattle.xdg_domain.proofs.Merged.{merged_tells}
+
+-- ---- rising lists
+
+has_head : (x : ℕ) (s : List ℕ) (n : ℕ) → x ≡ n → has (x ∷ s) n ≡ true
+has_head x s n is = ap (λ t. t || has s n) (eq-eqb x n is)
+
+has_after : (x : ℕ) (s : List ℕ) (n : ℕ) → (x ≡ n → ⊥) → has (x ∷ s) n ≡ has s n
+has_after x s n other = ap (λ t. t || has s n) (ne_eqb x n other)
+
+members_same : (low : ℕ) (a b : List ℕ) → RisesFrom low a → RisesFrom low b → ((n : ℕ) → has a n ≡ has b n) → a ≡ b
+members_same low [] [] h k same = refl
+members_same low [] (y ∷ b) h k same = absurd (true≢false (sym (has_head y b y refl) ∙ sym (same y)))
+members_same low (x ∷ a) [] h k same = absurd (true≢false (sym (has_head x a x refl) ∙ same x))
+members_same low (x ∷ a) (y ∷ b) h k same = elim (cases_eq x y) [
+  | inl i ↦ ap₂ (λ n s. n ∷ s) i (members_same (x + 1) a b h.1 (subst (λ n. RisesFrom (n + 1) b) (sym i) k.1) (λ n. elim (cases_eq x n) [
+    | inl j ↦ absent (x + 1) n a (omega (arith, j)) h.1 ∙ sym (absent (y + 1) n b (omega (arith, i, j)) k.1)
+    | inr other ↦ sym (has_after x a n other) ∙ same n ∙ has_after y b n (λ j. other (i ∙ j))
+  ]))
+  | inr other ↦ elim (cases_lt x y) [
+    | inl less ↦ absurd (true≢false (sym (has_head x a x refl) ∙ same x ∙ absent y x (y ∷ b) less (omega arith, k.1)))
+    | inr more ↦ absurd (true≢false (sym (has_head y b y refl) ∙ sym (same y) ∙ absent x y (x ∷ a) (omega (arith, more, other)) (omega arith, h.1)))
+  ]
+]
+
+pub increasing_same : (a b : List ℕ) → IsStrictlyIncreasing a → IsStrictlyIncreasing b → ((n : ℕ) → has a n ≡ has b n) → a ≡ b
+increasing_same a b h k same = members_same 0 a b (rises_of_increasing a h) (rises_of_increasing b k) same
+
+from_rises : (low bound : ℕ) (s : List ℕ) → Rises low bound s → RisesFrom low s
+from_rises low bound [] r = tt
+from_rises low bound (n ∷ s) r = (r.0, from_rises (n + 1) bound s r.2)
+
+pub numbers_increase : (bound : ℕ) (p : ℕ → Bool) → IsStrictlyIncreasing (numbers_below bound p)
+numbers_increase bound p = increasing_of_rises 0 (numbers_below bound p) (from_rises 0 bound (numbers_below bound p) (rises_of bound p))
+
+-- ---- bounds
+
+has_beyond_above : (s : List ℕ) (n : ℕ) → above s ≤ n → has s n ≡ false
+has_beyond_above [] n order = refl
+has_beyond_above (x ∷ s) n order = has_after x s n (λ i. omega (arith, i, order)) ∙ has_beyond_above s n (omega (arith, order))
+
+pub has_below : (bound : ℕ) (s : List ℕ) (n : ℕ) → AllBelow bound s → has s n ≡ true → n < bound
+has_below bound [] n below h = absurd (true≢false (sym h))
+has_below bound (x ∷ s) n below h = elim (cases_eq x n) [
+  | inl i ↦ subst (λ m. m < bound) i below.0
+  | inr other ↦ has_below bound s n below.1 (sym (has_after x s n other) ∙ h)
+]
+
+or_true : (a : Bool) → (a || true) ≡ true
+or_true true = refl
+or_true false = refl
+
+pub below_has : (bound : ℕ) (s : List ℕ) → ((n : ℕ) → has s n ≡ true → n < bound) → AllBelow bound s
+below_has bound [] below = tt
+below_has bound (x ∷ s) below = (below x (has_head x s x refl), below_has bound s (λ n h. below n (ap (λ t. (x == n) || t) h ∙ or_true (x == n))))
+
+or_cases : (a b : Bool) → (a || b) ≡ true → (a ≡ true) ⊎ (b ≡ true)
+or_cases true b h = inl refl
+or_cases false b h = inr h
+
+and_first : (a b : Bool) → (a && b) ≡ true → a ≡ true
+and_first true b h = refl
+and_first false b h = h
+
+and_false : (a : Bool) → (a && false) ≡ false
+and_false true = refl
+and_false false = refl
+
+pub union_below : (bound : ℕ) (a b c : List ℕ) → AllBelow bound a → AllBelow bound b → IsUnion a b c → AllBelow bound c
+union_below bound a b c h k u = below_has bound c (λ n t. elim (or_cases (has a n) (has b n) (sym (u.1 n) ∙ t)) [ inl i ↦ has_below bound a n h i | inr i ↦ has_below bound b n k i ])
+
+pub meet_below : (bound : ℕ) (a b c : List ℕ) → AllBelow bound a → IsMeet a b c → AllBelow bound c
+meet_below bound a b c h u = below_has bound c (λ n t. has_below bound a n h (and_first (has a n) (has b n) (sym (u.1 n) ∙ t)))
+
+-- ---- sets
+
+pub either_is : (a b : List ℕ) → IsUnion a b (either a b)
+either_is a b = (
+  numbers_increase (above a + above b) (λ n. has a n || has b n),
+  λ n. elim (cases_lt n (above a + above b)) [
+    | inl below ↦ has_of (above a + above b) (λ m. has a m || has b m) n below
+    | inr beyond ↦ has_beyond (above a + above b) (λ m. has a m || has b m) n beyond
+        ∙ sym (ap₂ (λ s t. s || t) (has_beyond_above a n (omega (arith, beyond))) (has_beyond_above b n (omega (arith, beyond))))
+  ],
+)
+
+pub both_is : (a b : List ℕ) → IsMeet a b (both a b)
+both_is a b = (
+  numbers_increase (above a) (λ n. has a n && has b n),
+  λ n. elim (cases_lt n (above a)) [
+    | inl below ↦ has_of (above a) (λ m. has a m && has b m) n below
+    | inr beyond ↦ has_beyond (above a) (λ m. has a m && has b m) n beyond ∙ sym (ap (λ s. s && has b n) (has_beyond_above a n beyond))
+  ],
+)
+
+pub union_unique : (a b c d : List ℕ) → IsUnion a b c → IsUnion a b d → c ≡ d
+union_unique a b c d h k = increasing_same c d h.0 k.0 (λ n. h.1 n ∙ sym (k.1 n))
+
+pub meet_unique : (a b c d : List ℕ) → IsMeet a b c → IsMeet a b d → c ≡ d
+meet_unique a b c d h k = increasing_same c d h.0 k.0 (λ n. h.1 n ∙ sym (k.1 n))
+
+or_swaps : (a b : Bool) → (a || b) ≡ (b || a)
+or_swaps true true = refl
+or_swaps true false = refl
+or_swaps false true = refl
+or_swaps false false = refl
+
+and_swaps : (a b : Bool) → (a && b) ≡ (b && a)
+and_swaps true true = refl
+and_swaps true false = refl
+and_swaps false true = refl
+and_swaps false false = refl
+
+or_regroups : (a b c : Bool) → ((a || b) || c) ≡ (a || (b || c))
+or_regroups true b c = refl
+or_regroups false b c = refl
+
+and_regroups : (a b c : Bool) → ((a && b) && c) ≡ (a && (b && c))
+and_regroups true b c = refl
+and_regroups false b c = refl
+
+pub union_commutes : (a b c : List ℕ) → IsUnion a b c → IsUnion b a c
+union_commutes a b c h = (h.0, λ n. h.1 n ∙ or_swaps (has a n) (has b n))
+
+pub meet_commutes : (a b c : List ℕ) → IsMeet a b c → IsMeet b a c
+meet_commutes a b c h = (h.0, λ n. h.1 n ∙ and_swaps (has a n) (has b n))
+
+pub union_regroups : (a b c u v w : List ℕ) → IsUnion a b u → IsUnion u c w → IsUnion b c v → IsUnion a v w
+union_regroups a b c u v w h k l = (k.0, λ n. k.1 n ∙ ap (λ t. t || has c n) (h.1 n) ∙ or_regroups (has a n) (has b n) (has c n) ∙ ap (λ t. has a n || t) (sym (l.1 n)))
+
+meets : (a b c u v w : List ℕ) → ((n : ℕ) → has u n ≡ (has a n && has b n)) → ((n : ℕ) → has w n ≡ (has u n && has c n)) → ((n : ℕ) → has v n ≡ (has b n && has c n)) → (n : ℕ) → has w n ≡ (has a n && has v n)
+meets a b c u v w h k l n = k n ∙ ap (λ t. t && has c n) (h n) ∙ and_regroups (has a n) (has b n) (has c n) ∙ ap (λ t. has a n && t) (sym (l n))
+
+pub meet_regroups : (a b c u v w : List ℕ) → IsMeet a b u → IsMeet u c w → IsMeet b c v → IsMeet a v w
+meet_regroups a b c u v w h k l = (k.0, meets a b c u v w h.1 k.1 l.1)
+
+-- ---- cardinalities
+
+pub allows_unique : (a b c d : List ℕ) → AllowsBoth a b c → AllowsBoth a b d → c ≡ d
+allows_unique a b c d h k = (h.0).whole ∙ numbers_agree 128 (has c) (has d) (λ n below. h.1 n ∙ sym (k.1 n)) ∙ sym (k.0).whole
+
+pub allows_commutes : (a b c : List ℕ) → AllowsBoth a b c → AllowsBoth b a c
+allows_commutes a b c h = (h.0, λ n. h.1 n ∙ and_swaps (has a n) (has b n))
+
+pub apart_commutes : (a b : List ℕ) → IsApart a b → IsApart b a
+apart_commutes a b h n = and_swaps (has b n) (has a n) ∙ h n
+
+pub allows_regroups : (a b c u v w : List ℕ) → AllowsBoth a b u → AllowsBoth u c w → AllowsBoth b c v → AllowsBoth a v w
+allows_regroups a b c u v w h k l = (k.0, meets a b c u v w h.1 k.1 l.1)
+
+pub apart_stays : (a b c u : List ℕ) → AllowsBoth a b u → IsApart b c → IsApart u c
+apart_stays a b c u h k n = ap (λ t. t && has c n) (h.1 n) ∙ and_regroups (has a n) (has b n) (has c n) ∙ ap (λ t. has a n && t) (k n) ∙ and_false (has a n)
+
+member : (s : List ℕ) → (s ≡ [] → ⊥) → (n : ℕ) × (has s n ≡ true)
+member [] some = absurd (some refl)
+member (x ∷ s) some = (x, has_head x s x refl)
+
+pub allows_exclusive : (a b c : List ℕ) → AllowsBoth a b c → IsApart a b → ⊥
+allows_exclusive a b c h k = let m = member c (h.0).some in true≢false (sym m.1 ∙ h.1 m.0 ∙ k m.0)
+
+-- what stands in a list and passes the test
+has_filter : (p : ℕ → Bool) (s : List ℕ) (n : ℕ) → has (filter p s) n ≡ (has s n && p n)
+has_filter p [] n = refl
+has_filter p (x ∷ s) n = elim (cases_eq x n) [
+  | inl i ↦ cond_both (p x) (x ∷ filter p s) (filter p s) (λ l. has l n ≡ (has (x ∷ s) n && p n))
+      (λ t. has_head x (filter p s) n i ∙ sym (ap₂ (λ y z. y && z) (has_head x s n i) (ap p (sym i) ∙ t)))
+      (λ t. has_filter p s n ∙ ap (λ y. has s n && y) (ap p (sym i) ∙ t) ∙ and_false (has s n) ∙ sym (ap₂ (λ y z. y && z) (has_head x s n i) (ap p (sym i) ∙ t)))
+  | inr other ↦ cond_both (p x) (x ∷ filter p s) (filter p s) (λ l. has l n ≡ (has (x ∷ s) n && p n))
+      (λ t. has_after x (filter p s) n other ∙ has_filter p s n ∙ ap (λ y. y && p n) (sym (has_after x s n other)))
+      (λ t. has_filter p s n ∙ ap (λ y. y && p n) (sym (has_after x s n other)))
+]
+
+pub has_common : (a b : List ℕ) (n : ℕ) → has (common a b) n ≡ (has a n && has b n)
+has_common a b n = has_filter (has b) a n
+
+filter_rises : (p : ℕ → Bool) (low bound : ℕ) (s : List ℕ) → Rises low bound s → Rises low bound (filter p s)
+filter_rises p low bound [] r = tt
+filter_rises p low bound (x ∷ s) r =
+    let rest = filter_rises p (x + 1) bound s r.2 in
+    cond_both (p x) (x ∷ filter p s) (filter p s) (λ l. Rises low bound l) (λ t. (r.0, r.1, rest)) (λ t. sooner low (x + 1) bound (filter p s) (omega (arith, r.0)) rest)
+  where
+    sooner : (low later bound : ℕ) (s : List ℕ) → low ≤ later → Rises later bound s → Rises low bound s
+    sooner low later bound [] order h = tt
+    sooner low later bound (y ∷ s) order h = (omega (arith, order, h.0), h.1, h.2)
+
+rising_whole : (s : List ℕ) → Rises 0 128 s → s ≡ cards (has s)
+rising_whole s r = members_same 0 s (cards (has s)) (from_rises 0 128 s r) (from_rises 0 128 (cards (has s)) (rises_of 128 (has s))) (λ n. elim (cases_lt n 128) [
+  | inl below ↦ sym (has_of 128 (has s) n below)
+  | inr beyond ↦ beyond_rises 0 128 s n beyond r ∙ sym (has_beyond 128 (has s) n beyond)
+])
+  where
+    beyond_rises : (low bound : ℕ) (s : List ℕ) (n : ℕ) → bound ≤ n → Rises low bound s → has s n ≡ false
+    beyond_rises low bound [] n order h = refl
+    beyond_rises low bound (x ∷ s) n order h = has_after x s n (λ i. omega (arith, i, order, h.1)) ∙ beyond_rises (x + 1) bound s n order h.2
+
+where_tells : (s : List ℕ) → MatchOption (where_some s) (s ≡ []) (λ c. (c ≡ s) × (s ≡ [] → ⊥))
+where_tells [] = refl
+where_tells (x ∷ s) = (refl, λ e. cc)
+
+tells_along : (a b : List ℕ) → IsCards a → (o : Option (List ℕ)) → MatchOption o (common a b ≡ []) (λ c. (c ≡ common a b) × (common a b ≡ [] → ⊥)) → MatchOption o (IsApart a b) (λ c. AllowsBoth a b c)
+tells_along a b h None t = λ n. sym (has_common a b n) ∙ ap (λ s. has s n) t
+tells_along a b h (Some c) t = subst (λ s. AllowsBoth a b s) (sym t.0) (
+  record { rises = filter_rises (has b) 0 128 a h.rises; whole = rising_whole (common a b) (filter_rises (has b) 0 128 a h.rises); some = t.1 },
+  has_common a b,
+)
+
+pub allowed_tells : (a b : List ℕ) → IsCards a → MatchOption (allowed a b) (IsApart a b) (λ c. AllowsBoth a b c)
+allowed_tells a b h = tells_along a b h (allowed a b) (where_tells (common a b))
+
+-- ---- cardinalities by key
+
+abbrev IsSame : ℕ → List ℕ → List ℕ → List ℕ → Type 0
+IsSame key s t c = (c ≡ common s t) × (common s t ≡ [] → ⊥)
+
+abbrev IsNone : ℕ → List ℕ → List ℕ → Type 0
+IsNone key s t = common s t ≡ []
+
+abbrev IsAny : ℕ → List ℕ → Type 0
+IsAny key s = Unit {0}
+
+any : (s : List (ℕ × List ℕ)) → EachSaid IsAny s
+any [] = tt
+any (e ∷ s) = (tt, any s)
+
+said_clash : (o p : Option (List ℕ)) → Clash o p → OnBoth (λ s t. common s t ≡ []) o p
+said_clash None p h = h
+said_clash (Some s) None h = h
+said_clash (Some s) (Some t) h = h
+
+said_both : (o p c : Option (List ℕ)) → c ≡ both_say o p → (Clash o p → ⊥) → Both (IsSame 0) o p c
+said_both None p c is apart = is
+said_both (Some s) None c is apart = is
+said_both (Some s) (Some t) None is apart = cc
+said_both (Some s) (Some t) (Some c) is apart = let e : c ≡ common s t = cc in (e, apart)
+
+same_told : (a b : List (ℕ × List ℕ)) (told : Option (List (ℕ × List ℕ))) → MatchOption told (OnSome IsNone a b) (λ c. SaysBoth IsSame a b c)
+    → (o : Option (List (ℕ × List ℕ))) → MatchOption o (OnSome IsNone a b) (λ c. SaysBoth IsSame a b c) → told ≡ o
+same_told a b None h None k = refl
+same_told a b None h (Some d) k = absurd (says_exclusive IsSame IsNone (λ key x y z p q. p.1 q) a b d k h)
+same_told a b (Some c) h None k = absurd (says_exclusive IsSame IsNone (λ key x y z p q. p.1 q) a b c h k)
+same_told a b (Some c) h (Some d) k = ap (λ t. Some t) (says_unique IsSame (λ key x y z w p q. p.0 ∙ sym q.0) a b c d h k)
+
+-- what a join of cardinalities by key tells is what they are put together
+pub valency_none : (a b : List (ℕ × List ℕ)) → KeysRise 0 a → KeysRise 0 b → ((key : ℕ) × Clash (said_at a key) (said_at b key)) → None ≡ merged (λ key. allowed) a b
+valency_none a b h k (key, t) = same_told a b None (key, said_clash (said_at a key) (said_at b key) t) (merged (λ key. allowed) a b)
+    (merged_tells (λ key. allowed) IsSame IsNone IsAny (λ key s t _ _. where_tells (common s t)) a b h k (any a) (any b))
+
+pub valency_some : (a b c : List (ℕ × List ℕ)) → KeysRise 0 a → KeysRise 0 b → KeysRise 0 c
+    → ((key : ℕ) → (said_at c key ≡ both_say (said_at a key) (said_at b key)) × (Clash (said_at a key) (said_at b key) → ⊥)) → Some c ≡ merged (λ key. allowed) a b
+valency_some a b c h k l t = same_told a b (Some c) (l, λ key. said_both (said_at a key) (said_at b key) (said_at c key) (t key).0 (t key).1) (merged (λ key. allowed) a b)
+    (merged_tells (λ key. allowed) IsSame IsNone IsAny (λ key s t _ _. where_tells (common s t)) a b h k (any a) (any b))
+
+-- ---- answers
+
+pub either_told : {E : Type 0} (a b : List ℕ) (r : Result (List ℕ) E) → IfOk r (λ c. (n : ℕ) → has c n ≡ (has a n || has b n)) → IfOk r IsStrictlyIncreasing → IfOk r (λ c. c ≡ either a b)
+either_told a b (Ok c) h k = union_unique a b c (either a b) (k, h) (either_is a b)
+either_told a b (Err e) h k = tt
+
+pub both_told : {E : Type 0} (a b : List ℕ) (r : Result (List ℕ) E) → IfOk r (λ c. (n : ℕ) → has c n ≡ (has a n && has b n)) → IfOk r IsStrictlyIncreasing → IfOk r (λ c. c ≡ both a b)
+both_told a b (Ok c) h k = meet_unique a b c (both a b) (k, h) (both_is a b)
+both_told a b (Err e) h k = tt
+
+-- ---- texts
+
+pub same_list_is : (a b : List ℕ) → same_list a b ≡ true → a ≡ b
+same_list_is [] [] h = refl
+same_list_is [] (y ∷ b) h = absurd (true≢false (sym h))
+same_list_is (x ∷ a) [] h = absurd (true≢false (sym h))
+same_list_is (x ∷ a) (y ∷ b) h = ap₂ (λ n s. n ∷ s) (eqb-true x y (and_first (x == y) (same_list a b) h)) (same_list_is a b (and_second (x == y) (same_list a b) h))
+  where
+    and_second : (s t : Bool) → (s && t) ≡ true → t ≡ true
+    and_second true t h = h
+    and_second false t h = absurd (true≢false (sym h))
+
+pub is_same_list : (a : List ℕ) → same_list a a ≡ true
+is_same_list [] = refl
+is_same_list (x ∷ a) = ap₂ (λ s t. s && t) (eq-eqb x x refl) (is_same_list a)
+
+pub pointwise_is : (a b : List ℕ) → pointwise eqb a b ≡ same_list a b
+pointwise_is [] [] = refl
+pointwise_is [] (y ∷ b) = refl
+pointwise_is (x ∷ a) [] = refl
+pointwise_is (x ∷ a) (y ∷ b) = ap (λ t. eqb x y && t) (pointwise_is a b)

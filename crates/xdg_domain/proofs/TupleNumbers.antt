@@ -1,0 +1,93 @@
+-- The number of a tuple and the numbers of its constants tell each other.
+use Rattle.std.proofs.Common.{◌≡◌, ℕ, ◌<◌, ◌+◌, ◌*◌, ◌/◌, ◌%◌, zero, suc, List, [], ◌∷◌, length, get_or, take, drop, refl, ap, ap₂, sym, ◌∙◌, arith, subst}
+use Rattle.std.proofs.Math.Nat.{mul_comm, mul_assoc, mod-lt, div-lt_iff_lt-mul, mul-add-div_right, mul-add-mod_self_right, mod-eq_of_lt}
+use Rattle.std.proofs.lemmas.Nat.{mul-add-lt, div-mul-add, mod-mul-add, div-add-mod'}
+use Rattle.xdg_domain.specs.Shapes.{product}
+use Rattle.xdg_domain.specs.Tuples.{index, places, InRange}
+
+-- ---- both ways
+
+-- the number is below the number of tuples
+pub index_below : (sizes numbers : List ℕ) → InRange sizes numbers → index sizes numbers < product sizes
+unfolding index product
+index_below [] [] within = omega arith
+index_below [] (n ∷ ns) within = absurd within
+index_below (s ∷ ss) [] within = absurd within
+index_below (s ∷ ss) (n ∷ ns) within = subst (λ m. n * product ss + index ss ns < m) (mul_comm (product ss) s) (mul-add-lt n (product ss) (index ss ns) s within.0 (index_below ss ns within.1))
+
+-- the places of the tuple with the number of these are these
+pub places_of_index : (sizes numbers : List ℕ) → InRange sizes numbers → places sizes (index sizes numbers) ≡ numbers
+unfolding index places
+places_of_index [] [] within = refl
+places_of_index [] (n ∷ ns) within = absurd within
+places_of_index (s ∷ ss) [] within = absurd within
+places_of_index (s ∷ ss) (n ∷ ns) within =
+    let below = index_below ss ns within.1 in
+    ap₂ (λ (m : ℕ) (ms : List ℕ). m ∷ ms)
+    (div-mul-add n (product ss) (index ss ns) below)
+    (ap (places ss) (mod-mul-add n (product ss) (index ss ns) below) ∙ places_of_index ss ns within.1)
+
+some_after : (s m n : ℕ) → n < s * m → 0 < m
+some_after s zero n below = absurd (omega (arith, below))
+some_after s (suc m) n below = omega arith
+
+pub some_later : (s : ℕ) (ss : List ℕ) (n : ℕ) → n < product (s ∷ ss) → 0 < product ss
+unfolding product
+some_later s ss n below = some_after s (product ss) n below
+
+-- the number of the tuple with the places of this one is this one
+pub index_of_places : (sizes : List ℕ) (n : ℕ) → n < product sizes → index sizes (places sizes n) ≡ n
+unfolding index places product
+index_of_places [] n below = omega (arith, below)
+index_of_places (s ∷ ss) n below =
+    let some = some_after s (product ss) n below in
+    ap (λ m. n / product ss * product ss + m) (index_of_places ss (n % product ss) (mod-lt n some)) ∙ div-add-mod' n (product ss)
+
+-- the places are in range
+pub places_in_range : (sizes : List ℕ) (n : ℕ) → n < product sizes → InRange sizes (places sizes n)
+unfolding places product
+places_in_range [] n below = tt
+places_in_range (s ∷ ss) n below =
+    let some = some_after s (product ss) n below in
+    ((div-lt_iff_lt-mul {k = product ss} {x = n} {y = s} some).1 below, places_in_range ss (n % product ss) (mod-lt n some))
+
+-- ---- one place
+
+pub length_places : (sizes : List ℕ) (n : ℕ) → length (places sizes n) ≡ length sizes
+unfolding places
+length_places [] n = refl
+length_places (s ∷ ss) n = ap suc (length_places ss (n % product ss))
+
+-- the later sizes multiplied are a part of all of them
+pub later_sizes : (sizes : List ℕ) (k : ℕ) → k < length sizes → product sizes ≡ product (take k sizes) * (get_or sizes k 0 * product (drop (suc k) sizes))
+unfolding product
+later_sizes [] k within = absurd (omega (arith, within))
+later_sizes (s ∷ ss) zero within = omega arith
+later_sizes (s ∷ ss) (suc k) within = ap (λ m. s * m) (later_sizes ss k (omega (arith, within))) ∙ sym (mul_assoc s (product (take k ss)) (get_or ss k 0 * product (drop (suc k) ss)))
+
+regroup : (q a t r : ℕ) → q * (a * (t * r)) ≡ q * a * t * r
+regroup q a t r = grind arith
+
+some_factor : (a t r : ℕ) → 0 < a * (t * r) → 0 < r
+some_factor a t zero some = absurd (omega (arith, some))
+some_factor a t (suc r) some = omega arith
+
+lowest : (n p a t r : ℕ) → 0 < r → p ≡ a * (t * r) → n % p / r % t ≡ n / r % t
+lowest n p a t r some is =
+    let e : n ≡ n / p * a * t * r + n % p = sym (div-add-mod' n p) ∙ ap (λ m. n / p * m + n % p) is ∙ ap (λ m. m + n % p) (regroup (n / p) a t r) in
+    let f : n / r ≡ n / p * a * t + n % p / r = ap (λ m. m / r) e ∙ mul-add-div_right {m = r} some (n / p * a * t) (n % p) in
+    sym (ap (λ m. m % t) f ∙ mul-add-mod_self_right (n / p * a) t (n % p / r))
+
+-- the place of one field
+pub place_at : (sizes : List ℕ) (n k : ℕ) → n < product sizes → k < length sizes → get_or (places sizes n) k 0 ≡ n / product (drop (suc k) sizes) % get_or sizes k 0
+unfolding places product
+place_at [] n k below within = absurd (omega (arith, within))
+place_at (s ∷ ss) n zero below within =
+    let some = some_after s (product ss) n below in
+    sym (mod-eq_of_lt ((div-lt_iff_lt-mul {k = product ss} {x = n} {y = s} some).1 below))
+place_at (s ∷ ss) n (suc k) below within =
+    let some = some_after s (product ss) n below in
+    let inner : k < length ss = omega (arith, within) in
+    let is = later_sizes ss k inner in
+    place_at ss (n % product ss) k (mod-lt n some) inner
+    ∙ lowest n (product ss) (product (take k ss)) (get_or ss k 0) (product (drop (suc k) ss)) (some_factor (product (take k ss)) (get_or ss k 0) (product (drop (suc k) ss)) (subst (λ m. 0 < m) is some)) is
