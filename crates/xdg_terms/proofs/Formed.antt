@@ -1,0 +1,262 @@
+-- What is wrong in a term of the wanted form, told of its elements one by one.
+use Rattle.std.proofs.Common.{◌≡◌, ℕ, Bool, true, false, List, [], ◌∷◌, ◌++◌, length, Option, Some, None, refl, sym, ap, ap₂, ◌∙◌, eqb, eq-eqb}
+use Rattle.std.specs.List.{flat_map}
+use Rattle.std.proofs.lemmas.Bool.{ne_eqb, true≢false}
+use Rattle.std.proofs.lemmas.List.Folds.{flat_map-map}
+use Rattle.std.proofs.lemmas.List.Concat.{flat_map_single}
+use Rattle.std.specs.Prelude.{if◌then◌else◌}
+use Rattle.xdg_base.specs.declared.faults.Cause.TheVariants as causes
+use Rattle.xdg_base.specs.declared.faults.Fault.{Fault}
+use Rattle.xdg_ast.specs.declared.names.Name.{Name}
+use Rattle.xdg_ast.specs.declared.names.Spanned.{Spanned}
+use Rattle.xdg_ast.specs.declared.terms.TermKind.{TermKind, out-TermKind}
+use Rattle.xdg_ast.specs.declared.terms.TermKind.TheVariants as k
+use Rattle.xdg_ast.specs.declared.terms.ElemKind.{ElemKind, out-ElemKind}
+use Rattle.xdg_ast.specs.declared.terms.ElemKind.TheOpen.{TermKind-F, ElemKind-F}
+use Rattle.xdg_ast.specs.declared.terms.GenKind.{GenKind}
+use Rattle.xdg_domain.specs.Shapes as d
+use Rattle.xdg_domain.specs.Shapes.{Shape, Shapes, Fields, sizes, in_a_row, names_of}
+use Rattle.xdg_faults.specs.First.{first, earlier}
+use Rattle.xdg_faults.proofs.First.{first_append}
+use Rattle.xdg_terms.specs.Forms.{Term, Card, Bindings, bracket_of, bracket_in, then_also, all_of, braces_in, plain_in, plain_elem, bracketed_in, bracketed_elem, counted_in, counted_elem, keyed_in, keyed_elem, constants_of, brackets_of, counts_of, pairs_of, generator_of, generator_in}
+use Rattle.xdg_terms.specs.Offences.{is_some, gen_names}
+use Rattle.xdg_terms.specs.Faults as spec
+
+-- ---- layers
+
+out_tuple : (t : Term) (names : List Name) → t.kind ≡ k.Tuple names → out-TermKind t.kind ≡ TermKind-F.TermKind::Tuple names
+out_tuple t names is = ap out-TermKind is ∙ k.outs-Tuple names
+
+out_braces : (t : Term) (elems : List (Spanned ElemKind)) → t.kind ≡ k.Braces elems → out-TermKind t.kind ≡ TermKind-F.Braces elems
+out_braces t elems is = ap out-TermKind is ∙ k.outs-Braces elems
+
+out_gen : (t : Term) (gen : Spanned GenKind) → t.kind ≡ k.Gen gen → out-TermKind t.kind ≡ TermKind-F.Gen gen
+out_gen t gen is = ap out-TermKind is ∙ k.outs-Gen gen
+
+-- ---- square brackets
+
+pub bracket_right : (n : ℕ) (t : Term) (names : List Name) → t.kind ≡ k.Tuple names → length names ≡ n → bracket_of n t ≡ Some names
+unfolding bracket_of
+bracket_right n t names is so_many = ap (bracket_in n) (out_tuple t names is) ∙ ap (λ b. if b then Some names else None) (eq-eqb (length names) n so_many)
+
+pub bracket_wrong : (n : ℕ) (t : Term) (names : List Name) → t.kind ≡ k.Tuple names → (length names ≡ n → ⊥) → bracket_of n t ≡ None
+unfolding bracket_of
+bracket_wrong n t names is other = ap (bracket_in n) (out_tuple t names is) ∙ ap (λ b. if b then Some names else None) (ne_eqb (length names) n other)
+
+pub tuple_right : (ss : Shapes) (t : Term) (names : List Name) → t.kind ≡ k.Tuple names → length names ≡ length (sizes ss) → spec.missing_in_turn (d.constants_of ss) names ≡ spec.tuple_faults ss t
+unfolding spec.tuple_faults
+tuple_right ss t names is so_many = sym (ap (λ o. spec.formed o (spec.missing_in_turn (d.constants_of ss)) t) (bracket_right (length (sizes ss)) t names is so_many))
+
+pub tuple_wrong : (ss : Shapes) (t : Term) (names : List Name) → t.kind ≡ k.Tuple names → (length names ≡ length (sizes ss) → ⊥) → spec.wrong_kind t ≡ spec.tuple_faults ss t
+unfolding spec.tuple_faults
+tuple_wrong ss t names is other = sym (ap (λ o. spec.formed o (spec.missing_in_turn (d.constants_of ss)) t) (bracket_wrong (length (sizes ss)) t names is other))
+
+-- ---- braces
+
+abbrev Both : {A : Type 0} → Option A → Option (List A) → List A → Type 0
+Both {A} o os xs = (x : A) × ((ys : List A) × ((o ≡ Some x) × ((os ≡ Some ys) × (xs ≡ x ∷ ys))))
+
+both : {A : Type 0} (o : Option A) (os : Option (List A)) (xs : List A) → then_also o os ≡ Some xs → Both o os xs
+both (Some x) (Some ys) xs h = (x, (ys, (refl, (refl, cc))))
+both (Some x) None xs h = absurd (cc)
+both None (Some ys) xs h = absurd (cc)
+both None None xs h = absurd (cc)
+
+-- what holds of each element of the form holds of all
+pub told_as : {A B : Type 0} (form : Spanned ElemKind → Option A) (g : A → List B) (h : Spanned ElemKind → List B) → ((e : Spanned ElemKind) (x : A) → form e ≡ Some x → h e ≡ g x)
+    → (es : List (Spanned ElemKind)) (xs : List A) → all_of form es ≡ Some xs → flat_map h es ≡ flat_map g xs
+unfolding all_of
+told_as {A = A} {B = B} form g h each [] xs is = let e : xs ≡ [] = cc in rw e refl
+told_as {A = A} {B = B} form g h each (e ∷ es) xs is =
+    let two = both (form e) (all_of form es) xs is in
+    ap₂ (λ (ys zs : List B). ys ++ zs) (each e two.0 two.1.1.0) (told_as form g h each es two.1.0 two.1.1.1.0) ∙ sym (ap (flat_map g) two.1.1.1.1)
+
+there_is : {A : Type 0} (o : Option A) → true ≡ is_some o → (x : A) × (o ≡ Some x)
+there_is None h = absurd (true≢false h)
+there_is (Some x) h = (x, refl)
+
+there_is_none : {A : Type 0} (o : Option A) → false ≡ is_some o → o ≡ None
+there_is_none None h = refl
+there_is_none (Some x) h = absurd (true≢false (sym h))
+
+-- braces whose elements aren't all of the form
+braces_wrong : {A : Type 0} (form : Spanned ElemKind → Option A) (parts : List A → List Fault) (t : Term) (es : List (Spanned ElemKind)) → t.kind ≡ k.Braces es → false ≡ is_some (all_of form es)
+    → spec.formed (braces_in form (out-TermKind t.kind)) parts t ≡ spec.wrong_kind t
+braces_wrong form parts t es is h = ap (λ o. spec.formed o parts t) (ap (braces_in form) (out_braces t es is) ∙ there_is_none (all_of form es) h)
+
+braces_right : {A : Type 0} (form : Spanned ElemKind → Option A) (parts : List A → List Fault) (whole : List Fault) (t : Term) (es : List (Spanned ElemKind)) → t.kind ≡ k.Braces es → true ≡ is_some (all_of form es)
+    → ((xs : List A) → all_of form es ≡ Some xs → whole ≡ parts xs) → whole ≡ spec.formed (braces_in form (out-TermKind t.kind)) parts t
+braces_right form parts whole t es is h same =
+    let one = there_is (all_of form es) h in
+    same one.0 one.1 ∙ sym (ap (λ o. spec.formed o parts t) (ap (braces_in form) (out_braces t es is) ∙ one.1))
+
+-- the first of two parts of a list
+sum_told : (xs ys zs : List Fault) → xs ++ ys ≡ zs → (whole one other : Option Fault) → one ≡ first xs → other ≡ first ys → whole ≡ earlier one other → whole ≡ first zs
+sum_told xs ys zs parts whole one other a b sum = sum ∙ ap₂ earlier a b ∙ sym (first_append xs ys) ∙ ap first parts
+
+-- ---- one element
+
+plain_layer : (texts : List (List ℕ)) (l : ElemKind-F ElemKind TermKind) (x : Name) → plain_in l ≡ Some x → spec.plain_missing_in texts l ≡ spec.missing causes.NotMember texts x
+plain_layer texts (ElemKind-F.ElemKind::Const name) x h = let e : name ≡ x = cc in ap (spec.missing causes.NotMember texts) e
+plain_layer texts (ElemKind-F.Count name written) x h = absurd (cc)
+plain_layer texts (ElemKind-F.Keyed name t) x h = absurd (cc)
+plain_layer texts (ElemKind-F.ElemKind::Tuple names) x h = absurd (cc)
+
+so_many : (b : Bool) (names xs : List Name) → (if b then Some names else None) ≡ Some xs → names ≡ xs
+so_many true names xs h = cc
+so_many false names xs h = absurd (cc)
+
+bracket_layer : (ss : Shapes) (n : ℕ) (l : ElemKind-F ElemKind TermKind) (x : List Name) → bracketed_in n l ≡ Some x → spec.bracket_missing_in ss l ≡ spec.missing_in_turn (d.constants_of ss) x
+bracket_layer ss n (ElemKind-F.ElemKind::Tuple names) x h = ap (spec.missing_in_turn (d.constants_of ss)) (so_many (eqb (length names) n) names x h)
+bracket_layer ss n (ElemKind-F.ElemKind::Const name) x h = absurd (cc)
+bracket_layer ss n (ElemKind-F.Count name written) x h = absurd (cc)
+bracket_layer ss n (ElemKind-F.Keyed name t) x h = absurd (cc)
+
+count_layer : (l : ElemKind-F ElemKind TermKind) (x : Name × Card) → counted_in l ≡ Some x → spec.count_faults_in l ≡ spec.card_faults x.1
+count_layer (ElemKind-F.Count name written) x h = let e : (name, written) ≡ x = cc in ap (λ (p : Name × Card). spec.card_faults p.1) e
+count_layer (ElemKind-F.ElemKind::Const name) x h = absurd (cc)
+count_layer (ElemKind-F.Keyed name t) x h = absurd (cc)
+count_layer (ElemKind-F.ElemKind::Tuple names) x h = absurd (cc)
+
+key_counted : (rule : Name → List Fault) (l : ElemKind-F ElemKind TermKind) (x : Name × Card) → counted_in l ≡ Some x → spec.key_faults_in rule l ≡ rule x.0
+key_counted rule (ElemKind-F.Count name written) x h = let e : (name, written) ≡ x = cc in ap (λ (p : Name × Card). rule p.0) e
+key_counted rule (ElemKind-F.ElemKind::Const name) x h = absurd (cc)
+key_counted rule (ElemKind-F.Keyed name t) x h = absurd (cc)
+key_counted rule (ElemKind-F.ElemKind::Tuple names) x h = absurd (cc)
+
+key_keyed : (rule : Name → List Fault) (l : ElemKind-F ElemKind TermKind) (x : Name × Term) → keyed_in l ≡ Some x → spec.key_faults_in rule l ≡ rule x.0
+key_keyed rule (ElemKind-F.Keyed name t) x h = let e : (name, t) ≡ x = cc in ap (λ (p : Name × Term). rule p.0) e
+key_keyed rule (ElemKind-F.ElemKind::Const name) x h = absurd (cc)
+key_keyed rule (ElemKind-F.Count name written) x h = absurd (cc)
+key_keyed rule (ElemKind-F.ElemKind::Tuple names) x h = absurd (cc)
+
+counted_key : (l : ElemKind-F ElemKind TermKind) (x : Name × Card) → counted_in l ≡ Some x → spec.key_in l ≡ x.0 ∷ []
+counted_key (ElemKind-F.Count name written) x h = let e : (name, written) ≡ x = cc in ap (λ (p : Name × Card). p.0 ∷ []) e
+counted_key (ElemKind-F.ElemKind::Const name) x h = absurd (cc)
+counted_key (ElemKind-F.Keyed name t) x h = absurd (cc)
+counted_key (ElemKind-F.ElemKind::Tuple names) x h = absurd (cc)
+
+keyed_key : (l : ElemKind-F ElemKind TermKind) (x : Name × Term) → keyed_in l ≡ Some x → spec.key_in l ≡ x.0 ∷ []
+keyed_key (ElemKind-F.Keyed name t) x h = let e : (name, t) ≡ x = cc in ap (λ (p : Name × Term). p.0 ∷ []) e
+keyed_key (ElemKind-F.ElemKind::Const name) x h = absurd (cc)
+keyed_key (ElemKind-F.Count name written) x h = absurd (cc)
+keyed_key (ElemKind-F.ElemKind::Tuple names) x h = absurd (cc)
+
+value_layer : (bs : Bindings) (s : Shape) (l : ElemKind-F ElemKind TermKind) (x : Name × Term) → keyed_in l ≡ Some x → spec.value_faults_in bs s l ≡ spec.faults bs s x.1
+value_layer bs s (ElemKind-F.Keyed name t) x h = let e : (name, t) ≡ x = cc in ap (λ (p : Name × Term). spec.faults bs s p.1) e
+value_layer bs s (ElemKind-F.ElemKind::Const name) x h = absurd (cc)
+value_layer bs s (ElemKind-F.Count name written) x h = absurd (cc)
+value_layer bs s (ElemKind-F.ElemKind::Tuple names) x h = absurd (cc)
+
+field_layer : (bs : Bindings) (fs : Fields) (l : ElemKind-F ElemKind TermKind) (x : Name × Term) → keyed_in l ≡ Some x → spec.elem_faults_in bs fs l ≡ spec.field_faults bs fs x
+field_layer bs fs (ElemKind-F.Keyed name t) x h = let e : (name, t) ≡ x = cc in ap (spec.field_faults bs fs) e
+field_layer bs fs (ElemKind-F.ElemKind::Const name) x h = absurd (cc)
+field_layer bs fs (ElemKind-F.Count name written) x h = absurd (cc)
+field_layer bs fs (ElemKind-F.ElemKind::Tuple names) x h = absurd (cc)
+
+-- ---- all elements
+
+pub constants_right : (texts : List (List ℕ)) (t : Term) (es : List (Spanned ElemKind)) → t.kind ≡ k.Braces es → true ≡ is_some (all_of plain_elem es) → flat_map (spec.plain_missing texts) es ≡ spec.constants_faults texts t
+unfolding spec.constants_faults constants_of plain_elem spec.plain_missing
+constants_right texts t es is h =
+    braces_right plain_elem (spec.all_missing causes.NotMember texts) (flat_map (spec.plain_missing texts) es) t es is h (λ xs a. told_as plain_elem (spec.missing causes.NotMember texts) (spec.plain_missing texts) (λ e. plain_layer texts (out-ElemKind e.kind)) es xs a)
+
+pub constants_wrong : (texts : List (List ℕ)) (t : Term) (es : List (Spanned ElemKind)) → t.kind ≡ k.Braces es → false ≡ is_some (all_of plain_elem es) → spec.wrong_kind t ≡ spec.constants_faults texts t
+unfolding spec.constants_faults constants_of
+constants_wrong texts t es is h = sym (braces_wrong plain_elem (spec.all_missing causes.NotMember texts) t es is h)
+
+tuples_by : (ss : Shapes) (t : Term) (rows : Option (List (List Name))) (gen : Option (Spanned GenKind)) → brackets_of (length (sizes ss)) t ≡ rows → generator_of t ≡ gen → spec.either_faults ss rows gen t ≡ spec.tuples_faults ss t
+unfolding spec.tuples_faults
+tuples_by ss t rows gen a b = sym (ap₂ (λ o p. spec.either_faults ss o p t) a b)
+
+not_generated : (t : Term) (es : List (Spanned ElemKind)) → t.kind ≡ k.Braces es → generator_of t ≡ None
+unfolding generator_of
+not_generated t es is = ap generator_in (out_braces t es is)
+
+brackets_told : (n m : ℕ) (t : Term) (es : List (Spanned ElemKind)) (rows : Option (List (List Name))) → t.kind ≡ k.Braces es → n ≡ m → all_of (bracketed_elem n) es ≡ rows → brackets_of m t ≡ rows
+unfolding brackets_of
+brackets_told n m t es rows is many h = ap (braces_in (bracketed_elem m)) (out_braces t es is) ∙ ap (λ l. all_of (bracketed_elem l) es) (sym many) ∙ h
+
+bracket_each : (ss : Shapes) (n : ℕ) (e : Spanned ElemKind) (x : List Name) → bracketed_elem n e ≡ Some x → spec.bracket_missing ss e ≡ spec.missing_in_turn (d.constants_of ss) x
+unfolding bracketed_elem spec.bracket_missing
+bracket_each ss n e x h = bracket_layer ss n (out-ElemKind e.kind) x h
+
+pub tuples_right : (ss : Shapes) (n : ℕ) (t : Term) (es : List (Spanned ElemKind)) → t.kind ≡ k.Braces es → n ≡ length (sizes ss) → true ≡ is_some (all_of (bracketed_elem n) es) → flat_map (spec.bracket_missing ss) es ≡ spec.tuples_faults ss t
+tuples_right ss n t es is many h =
+    let one = there_is (all_of (bracketed_elem n) es) h in
+    told_as (bracketed_elem n) (spec.missing_in_turn (d.constants_of ss)) (spec.bracket_missing ss) (bracket_each ss n) es one.0 one.1
+    ∙ tuples_by ss t (Some one.0) None (brackets_told n (length (sizes ss)) t es (Some one.0) is many one.1) (not_generated t es is)
+
+pub tuples_wrong : (ss : Shapes) (n : ℕ) (t : Term) (es : List (Spanned ElemKind)) → t.kind ≡ k.Braces es → n ≡ length (sizes ss) → false ≡ is_some (all_of (bracketed_elem n) es) → spec.wrong_kind t ≡ spec.tuples_faults ss t
+tuples_wrong ss n t es is many h =
+    tuples_by ss t None None (brackets_told n (length (sizes ss)) t es None is many (there_is_none (all_of (bracketed_elem n) es) h)) (not_generated t es is)
+
+generated : (t : Term) (gen : Spanned GenKind) → t.kind ≡ k.Gen gen → generator_of t ≡ Some gen
+unfolding generator_of
+generated t gen is = ap generator_in (out_gen t gen is)
+
+no_brackets : (n : ℕ) (t : Term) (gen : Spanned GenKind) → t.kind ≡ k.Gen gen → brackets_of n t ≡ None
+unfolding brackets_of
+no_brackets n t gen is = ap (braces_in (bracketed_elem n)) (out_gen t gen is)
+
+pub tuples_generated : (ss : Shapes) (t : Term) (gen : Spanned GenKind) → t.kind ≡ k.Gen gen → spec.all_missing causes.NotMember (in_a_row (d.constants_of ss)) (gen_names gen.kind) ≡ spec.tuples_faults ss t
+tuples_generated ss t gen is = tuples_by ss t None (Some gen) (no_brackets (length (sizes ss)) t gen is) (generated t gen is)
+
+keys_right : {A : Type 0} (form : Spanned ElemKind → Option (Name × A)) → ((e : Spanned ElemKind) (p : Name × A) → form e ≡ Some p → spec.key_of e ≡ p.0 ∷ [])
+    → ((rule : Name → List Fault) (e : Spanned ElemKind) (p : Name × A) → form e ≡ Some p → spec.key_faults rule e ≡ rule p.0) → (rule : Name → List Fault) (es : List (Spanned ElemKind)) (xs : List (Name × A)) → all_of form es ≡ Some xs
+    → flat_map (spec.key_faults rule) es ++ spec.all_twice [] (spec.keys es) ≡ flat_map rule (spec.keys_in xs) ++ spec.all_twice [] (spec.keys_in xs)
+keys_right form key says rule es xs a =
+    ap₂ (λ (ys zs : List Fault). ys ++ zs) (told_as form (λ p. rule p.0) (spec.key_faults rule) (says rule) es xs a ∙ sym (flat_map-map rule (λ p. p.0) xs))
+    (ap (spec.all_twice []) (told_as form (λ p. p.0 ∷ []) spec.key_of key es xs a ∙ flat_map_single (λ p. p.0) xs))
+
+-- the keys and the parts of elements
+module _ {A : Type 0} (form : Spanned ElemKind → Option (Name × A)) (key : (e : Spanned ElemKind) (p : Name × A) → form e ≡ Some p → spec.key_of e ≡ p.0 ∷ [])
+    (says : (rule : Name → List Fault) (e : Spanned ElemKind) (p : Name × A) → form e ≡ Some p → spec.key_faults rule e ≡ rule p.0) where
+  pairs_right : (rule : Name → List Fault) (g : Name × A → List Fault) (h : Spanned ElemKind → List Fault) → ((e : Spanned ElemKind) (p : Name × A) → form e ≡ Some p → h e ≡ g p) → (t : Term) (es : List (Spanned ElemKind)) → t.kind ≡ k.Braces es
+      → true ≡ is_some (all_of form es) → (flat_map (spec.key_faults rule) es ++ spec.all_twice [] (spec.keys es)) ++ flat_map h es
+      ≡ spec.formed (braces_in form (out-TermKind t.kind)) (λ pairs. (flat_map rule (spec.keys_in pairs) ++ spec.all_twice [] (spec.keys_in pairs)) ++ flat_map g pairs) t
+  pairs_right rule g h each t es is right =
+      braces_right form (λ pairs. (flat_map rule (spec.keys_in pairs) ++ spec.all_twice [] (spec.keys_in pairs)) ++ flat_map g pairs) ((flat_map (spec.key_faults rule) es ++ spec.all_twice [] (spec.keys es)) ++ flat_map h es) t es is right
+      (λ xs a. ap₂ (λ (ys zs : List Fault). ys ++ zs) (keys_right form key says rule es xs a) (told_as form g h each es xs a))
+
+valency_right : (texts : List (List ℕ)) (t : Term) (es : List (Spanned ElemKind)) → t.kind ≡ k.Braces es → true ≡ is_some (all_of counted_elem es)
+    → (flat_map (spec.key_faults (spec.missing causes.NotMember texts)) es ++ spec.all_twice [] (spec.keys es)) ++ flat_map spec.count_faults es ≡ spec.valency_faults texts t
+unfolding spec.valency_faults counts_of counted_elem spec.count_faults spec.key_faults spec.key_of
+valency_right texts t es is h =
+    pairs_right counted_elem (λ e. counted_key (out-ElemKind e.kind)) (λ rule e. key_counted rule (out-ElemKind e.kind)) (spec.missing causes.NotMember texts) (λ p. spec.card_faults p.1) spec.count_faults (λ e. count_layer (out-ElemKind e.kind)) t es is h
+
+pub valency_wrong : (texts : List (List ℕ)) (t : Term) (es : List (Spanned ElemKind)) → t.kind ≡ k.Braces es → false ≡ is_some (all_of counted_elem es) → spec.wrong_kind t ≡ spec.valency_faults texts t
+unfolding spec.valency_faults counts_of
+valency_wrong texts t es is h = sym (braces_wrong counted_elem _ t es is h)
+
+mapping_right : (bs : Bindings) (texts : List (List ℕ)) (s : Shape) (t : Term) (es : List (Spanned ElemKind)) → t.kind ≡ k.Braces es → true ≡ is_some (all_of keyed_elem es)
+    → (flat_map (spec.key_faults (spec.missing causes.NotMember texts)) es ++ spec.all_twice [] (spec.keys es)) ++ flat_map (spec.value_faults bs s) es ≡ spec.mapping_faults bs texts s t
+unfolding spec.mapping_faults pairs_of keyed_elem spec.value_faults spec.key_faults spec.key_of
+mapping_right bs texts s t es is h =
+    pairs_right keyed_elem (λ e. keyed_key (out-ElemKind e.kind)) (λ rule e. key_keyed rule (out-ElemKind e.kind)) (spec.missing causes.NotMember texts) (λ p. spec.faults bs s p.1) (spec.value_faults bs s) (λ e. value_layer bs s (out-ElemKind e.kind)) t es is h
+
+pub mapping_wrong : (bs : Bindings) (texts : List (List ℕ)) (s : Shape) (t : Term) (es : List (Spanned ElemKind)) → t.kind ≡ k.Braces es → false ≡ is_some (all_of keyed_elem es) → spec.wrong_kind t ≡ spec.mapping_faults bs texts s t
+unfolding spec.mapping_faults pairs_of
+mapping_wrong bs texts s t es is h = sym (braces_wrong keyed_elem _ t es is h)
+
+record_right : (bs : Bindings) (fs : Fields) (t : Term) (es : List (Spanned ElemKind)) → t.kind ≡ k.Braces es → true ≡ is_some (all_of keyed_elem es)
+    → (flat_map (spec.key_faults (spec.missing causes.UnknownName (names_of fs))) es ++ spec.all_twice [] (spec.keys es)) ++ flat_map (spec.elem_faults bs fs) es ≡ spec.record_faults bs fs t
+unfolding spec.record_faults pairs_of keyed_elem spec.elem_faults spec.key_faults spec.key_of
+record_right bs fs t es is h =
+    pairs_right keyed_elem (λ e. keyed_key (out-ElemKind e.kind)) (λ rule e. key_keyed rule (out-ElemKind e.kind)) (spec.missing causes.UnknownName (names_of fs)) (spec.field_faults bs fs) (spec.elem_faults bs fs) (λ e. field_layer bs fs (out-ElemKind e.kind)) t es is h
+
+pub record_wrong : (bs : Bindings) (fs : Fields) (t : Term) (es : List (Spanned ElemKind)) → t.kind ≡ k.Braces es → false ≡ is_some (all_of keyed_elem es) → spec.wrong_kind t ≡ spec.record_faults bs fs t
+unfolding spec.record_faults pairs_of
+record_wrong bs fs t es is h = sym (braces_wrong keyed_elem _ t es is h)
+
+pub valency_told : (texts : List (List ℕ)) (t : Term) (es : List (Spanned ElemKind)) → t.kind ≡ k.Braces es → true ≡ is_some (all_of counted_elem es) → (whole one other : Option Fault)
+    → one ≡ first (flat_map (spec.key_faults (spec.missing causes.NotMember texts)) es ++ spec.all_twice [] (spec.keys es)) → other ≡ first (flat_map spec.count_faults es) → whole ≡ earlier one other → whole ≡ first (spec.valency_faults texts t)
+valency_told texts t es is h = sum_told (flat_map (spec.key_faults (spec.missing causes.NotMember texts)) es ++ spec.all_twice [] (spec.keys es)) (flat_map spec.count_faults es) (spec.valency_faults texts t) (valency_right texts t es is h)
+
+pub mapping_told : (bs : Bindings) (texts : List (List ℕ)) (s : Shape) (t : Term) (es : List (Spanned ElemKind)) → t.kind ≡ k.Braces es → true ≡ is_some (all_of keyed_elem es) → (whole one other : Option Fault)
+    → one ≡ first (flat_map (spec.key_faults (spec.missing causes.NotMember texts)) es ++ spec.all_twice [] (spec.keys es)) → other ≡ first (flat_map (spec.value_faults bs s) es) → whole ≡ earlier one other → whole ≡ first (spec.mapping_faults bs texts s t)
+mapping_told bs texts s t es is h = sum_told (flat_map (spec.key_faults (spec.missing causes.NotMember texts)) es ++ spec.all_twice [] (spec.keys es)) (flat_map (spec.value_faults bs s) es) (spec.mapping_faults bs texts s t) (mapping_right bs texts s t es is h)
+
+pub record_told : (bs : Bindings) (fs : Fields) (t : Term) (es : List (Spanned ElemKind)) → t.kind ≡ k.Braces es → true ≡ is_some (all_of keyed_elem es) → (whole one other : Option Fault)
+    → one ≡ first (flat_map (spec.key_faults (spec.missing causes.UnknownName (names_of fs))) es ++ spec.all_twice [] (spec.keys es)) → other ≡ first (flat_map (spec.elem_faults bs fs) es) → whole ≡ earlier one other → whole ≡ first (spec.record_faults bs fs t)
+record_told bs fs t es is h = sum_told (flat_map (spec.key_faults (spec.missing causes.UnknownName (names_of fs))) es ++ spec.all_twice [] (spec.keys es)) (flat_map (spec.elem_faults bs fs) es) (spec.record_faults bs fs t) (record_right bs fs t es is h)

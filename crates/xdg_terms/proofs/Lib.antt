@@ -1,0 +1,16 @@
+pub mod Counting
+pub mod Generating
+pub mod SameMembers
+pub mod Placing
+pub mod Saying
+pub mod Formed
+pub mod Has
+pub mod Law
+pub mod Loops
+pub mod Sizes
+pub mod Right
+pub mod Read
+pub mod Meant
+pub mod SaidKeys
+pub mod Lawful
+pub mod Meaning

@@ -1,0 +1,135 @@
+-- The value of a term without an offence is what the term means, and a value of the type.
+use Rattle.std.proofs.Common.{◌≡◌, inl, inr, ℕ, ◌<◌, zero, suc, List, [], ◌∷◌, ◌++◌, length, get_or, Option, Some, None, refl, sym, ap, ap₂, ◌∙◌, subst, arith}
+use Rattle.std.specs.Prelude.{◌↔◌, true}
+use Rattle.xdg_ast.specs.declared.names.Name.{Name}
+use Rattle.xdg_ast.specs.declared.names.Spanned.{Spanned}
+use Rattle.xdg_ast.specs.declared.terms.ElemKind.{ElemKind}
+use Rattle.xdg_domain.specs.Cards.{has}
+use Rattle.xdg_domain.specs.Shapes.{Shape, domain, tuple, Shapes, no_shape, shape_then, sizes, product, constants, constants_of, Among, Differ, IsDomain, AreDomains, IsTuple}
+use Rattle.xdg_domain.specs.Tuples.{index, places, InRange}
+use Rattle.xdg_domain.proofs.TupleNumbers.{index_below, places_of_index, index_of_places, places_in_range}
+use Rattle.xdg_faults.specs.First.{In}
+use Rattle.xdg_terms.specs.Forms.{all_of, plain_elem, bracketed_elem}
+use Rattle.xdg_terms.specs.Offences.{asked_in, asked_in_turn}
+use Rattle.xdg_terms.specs.Means.{texts_of, IsAt, chosen, tuple_texts}
+use Rattle.xdg_terms.specs.Built.{place_from, places_behind, number_of_places, tuple_number, listed}
+use Rattle.xdg_terms.proofs.Placing.{placed, are_chosen}
+use Rattle.xdg_terms.proofs.Right.{Stands}
+use Rattle.xdg_terms.proofs.Read.{listed_numbers, numbers_listed, plain_alike, bracketed_alike, each_long}
+
+-- ---- constants
+
+pub at_place : (cs : List (List ℕ)) (name : List ℕ) (n : ℕ) → place_from 0 cs name ≡ Some n → IsAt cs n name
+at_place cs name n h =
+    let p = placed 0 cs name n h in
+    let e : p.k ≡ n = omega (arith, p.is) in
+    (subst (λ k. k < length cs) e p.within, subst (λ k. get_or cs k [] ≡ name) e p.name_is)
+
+pub among_at : (cs : List (List ℕ)) (k : ℕ) (t : List ℕ) → k < length cs → get_or cs k [] ≡ t → Among cs t
+among_at [] k t within is = absurd (omega (arith, within))
+among_at (c ∷ cs) zero t within is = inl is
+among_at (c ∷ cs) (suc k) t within is = inr (among_at cs k t (omega (arith, within)) is)
+
+-- in a list whose texts all differ a text stands in one place
+one_place : (cs : List (List ℕ)) (m n : ℕ) → Differ cs → m < length cs → n < length cs → get_or cs m [] ≡ get_or cs n [] → m ≡ n
+one_place [] m n h within inside e = absurd (omega (arith, within))
+one_place (c ∷ cs) zero zero h within inside e = refl
+one_place (c ∷ cs) zero (suc n) h within inside e = absurd (h.0 (among_at cs n c (omega (arith, inside)) (sym e)))
+one_place (c ∷ cs) (suc m) zero h within inside e = absurd (h.0 (among_at cs m c (omega (arith, within)) e))
+one_place (c ∷ cs) (suc m) (suc n) h within inside e = ap suc (one_place cs m n h.1 (omega (arith, within)) (omega (arith, inside)) e)
+
+-- ---- tuples
+
+-- each of these names stands in the domain of its place
+abbrev pub AllStand : Shapes → List Name → Type 0
+AllStand ss names = (texts : List (List ℕ)) (name : Name) → In (asked_in_turn (constants_of ss) names) (texts, name) → Stands texts name
+
+pub all_places : (found : List ℕ) (ss : Shapes) (names : List Name) → length names ≡ length (sizes ss) → AllStand ss names → (ns : List ℕ) × (places_behind found (constants_of ss) names ≡ Some ns)
+all_places found no_shape [] same h = (found, refl)
+all_places found no_shape (name ∷ names) same h = absurd (omega (arith, same))
+all_places found (shape_then s ss) [] same h = absurd (omega (arith, same))
+all_places found (shape_then s ss) (name ∷ names) same h =
+    let one = h (constants s) name (inl refl) in
+    let rest = all_places (found ++ one.0 ∷ []) ss names (omega (arith, same)) (λ texts other among. h texts other (inr among)) in
+    (rest.0, ap (λ (o : Option ℕ). elim o [ None ↦ None | Some m ↦ places_behind (found ++ m ∷ []) (constants_of ss) names ]) one.1 ∙ rest.1)
+
+-- the tuple with these constants has that number
+pub record TupleOf (ss : Shapes) (names : List Name) (n : ℕ) : Type 0 where
+  pub within : n < product (sizes ss)
+  pub texts : tuple_texts ss n ≡ texts_of names
+
+pub tuple_of_places : (ss : Shapes) (names : List Name) (ns : List ℕ) → places_behind [] (constants_of ss) names ≡ Some ns → TupleOf ss names (index (sizes ss) ns)
+tuple_of_places ss names ns h =
+    let c = are_chosen [] ss names ns h in
+    let range : InRange (sizes ss) ns = subst (InRange (sizes ss)) (sym c.parts) c.range in
+    record { within = index_below (sizes ss) ns range; texts = ap (chosen (constants_of ss)) (places_of_index (sizes ss) ns range ∙ c.parts) ∙ c.texts }
+
+pub tuple_of_number : (ss : Shapes) (names : List Name) (n : ℕ) (o : Option (List ℕ)) → places_behind [] (constants_of ss) names ≡ o → number_of_places ss o ≡ Some n → TupleOf ss names n
+tuple_of_number ss names n None e h = absurd (cc)
+tuple_of_number ss names n (Some ns) e h = let same : index (sizes ss) ns ≡ n = cc in subst (TupleOf ss names) same (tuple_of_places ss names ns e)
+
+domain_differs : (s : Shape) → IsDomain s → Differ (constants s)
+domain_differs (domain cs) h = h.1
+domain_differs s h = absurd h
+
+same_chosen : (ss : Shapes) (ms ns : List ℕ) → AreDomains ss → InRange (sizes ss) ms → InRange (sizes ss) ns → chosen (constants_of ss) ms ≡ chosen (constants_of ss) ns → ms ≡ ns
+same_chosen no_shape [] [] h r q e = refl
+same_chosen no_shape [] (n ∷ ns) h r q e = absurd q
+same_chosen no_shape (m ∷ ms) ns h r q e = absurd r
+same_chosen (shape_then s ss) [] ns h r q e = absurd r
+same_chosen (shape_then s ss) (m ∷ ms) [] h r q e = absurd q
+same_chosen (shape_then s ss) (m ∷ ms) (n ∷ ns) h r q e =
+    let here : get_or (constants s) m [] ≡ get_or (constants s) n [] = cc in
+    let rest : chosen (constants_of ss) ms ≡ chosen (constants_of ss) ns = cc in
+    ap₂ (λ (k : ℕ) (ks : List ℕ). k ∷ ks) (one_place (constants s) m n (domain_differs s h.0) r.0 q.0 here) (same_chosen ss ms ns h.1 r.1 q.1 rest)
+
+-- and it is the only one
+pub number_of_tuple : (ss : Shapes) (names : List Name) (n : ℕ) → IsTuple ss → length names ≡ length (sizes ss) → AllStand ss names → n < product (sizes ss) → tuple_texts ss n ≡ texts_of names → tuple_number (tuple ss) names ≡ Some n
+number_of_tuple ss names n type same h within texts =
+    let all = all_places [] ss names same h in
+    let c = are_chosen [] ss names all.0 all.1 in
+    let range : InRange (sizes ss) all.0 = subst (InRange (sizes ss)) (sym c.parts) c.range in
+    let alike : all.0 ≡ places (sizes ss) n = same_chosen ss all.0 (places (sizes ss) n) type.domains range (places_in_range (sizes ss) n within) (ap (chosen (constants_of ss)) c.parts ∙ c.texts ∙ sym texts) in
+    ap (number_of_places ss) all.1 ∙ ap (λ ms. Some (index (sizes ss) ms)) alike ∙ ap (λ z. Some z) (index_of_places (sizes ss) n within)
+
+-- ---- sets
+
+-- the texts that stand in a list of names
+named_among : (names : List Name) (name : Name) (t : List ℕ) → In names name → name.text ≡ t → Among (texts_of names) t
+named_among [] name t h is = absurd h
+named_among (x ∷ names) name t h is = elim h [ inl e ↦ inl (ap (λ (z : Name). z.text) e ∙ is) | inr k ↦ inr (named_among names name t k is) ]
+
+among_named : (names : List Name) (t : List ℕ) → Among (texts_of names) t → (name : Name) × (In names name × (name.text ≡ t))
+among_named [] t h = absurd h
+among_named (x ∷ names) t h = elim h [ inl e ↦ (x, (inl refl, e)) | inr k ↦ (let r = among_named names t k in (r.0, (inr r.1.0, r.1.1))) ]
+
+pub asked_named : (texts : List (List ℕ)) (names : List Name) (name : Name) → In names name → In (asked_in texts names) (texts, name)
+asked_named texts [] name h = absurd h
+asked_named texts (x ∷ names) name h = elim h [ inl e ↦ inl (ap (λ (z : Name). (texts, z)) e) | inr k ↦ inr (asked_named texts names name k) ]
+
+pub domain_set : (cs : List (List ℕ)) (elems : List (Spanned ElemKind)) (names : List Name) → Differ cs → all_of plain_elem elems ≡ Some names → ((name : Name) → In names name → Stands cs name) → (n : ℕ)
+    → (has (listed (domain cs) elems) n ≡ true) ↔ ((n < length cs) × Among (texts_of names) (get_or cs n []))
+domain_set cs elems names differ read stand n = (
+  (λ h. (
+      let r = listed_numbers (domain cs) plain_elem (λ (name : Name). place_from 0 cs name.text) (plain_alike cs) elems names n read h in
+      let p = at_place cs (r.0).text n r.1.1 in
+      (p.0, named_among names r.0 (get_or cs n []) r.1.0 (sym p.1)))),
+  (λ h. (
+      let r = among_named names (get_or cs n []) h.1 in
+      let s = stand r.0 r.1.0 in
+      let p = at_place cs (r.0).text s.0 s.1 in
+      let same : s.0 ≡ n = one_place cs s.0 n differ p.0 h.0 (p.1 ∙ r.1.1) in
+      numbers_listed (domain cs) plain_elem (λ (name : Name). place_from 0 cs name.text) (plain_alike cs) elems names n read (r.0, (r.1.0, s.1 ∙ ap (λ z. Some z) same)))),
+)
+
+pub bracket_set : (ss : Shapes) (elems : List (Spanned ElemKind)) (lists : List (List Name)) → IsTuple ss → all_of (bracketed_elem (length (sizes ss))) elems ≡ Some lists → ((names : List Name) → In lists names → AllStand ss names) → (n : ℕ)
+    → (has (listed (tuple ss) elems) n ≡ true) ↔ ((n < product (sizes ss)) × ((names : List Name) × (In lists names × (tuple_texts ss n ≡ texts_of names))))
+bracket_set ss elems lists type read stand n =
+    let form = bracketed_elem (length (sizes ss)) in (
+      (λ h. (
+          let r = listed_numbers (tuple ss) form (tuple_number (tuple ss)) (bracketed_alike ss (length (sizes ss))) elems lists n read h in
+          let t = tuple_of_number ss r.0 n (places_behind [] (constants_of ss) r.0) refl r.1.1 in
+          (t.within, (r.0, (r.1.0, t.texts))))),
+      (λ h. numbers_listed (tuple ss) form (tuple_number (tuple ss)) (bracketed_alike ss (length (sizes ss))) elems lists n read
+          (h.1.0, (h.1.1.0, number_of_tuple ss h.1.0 n type (each_long (length (sizes ss)) elems lists read h.1.0 h.1.1.0) (stand h.1.0 h.1.1.0) h.0 h.1.1.1))),
+    )

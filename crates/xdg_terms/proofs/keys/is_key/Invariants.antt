@@ -1,0 +1,6 @@
+use Rattle.std.proofs.Common.{◌≡◌, drop}
+use Rattle.xdg_terms.specs.Faults as spec
+use Rattle.xdg_terms.proofs.keys.is_key.Given as goal
+
+abbrev pub invariant-loop-elem : goal.invariant-loop-elem
+invariant-loop-elem l = spec.has (spec.texts_of (spec.keys (drop l.elem-index l.elems))) l.text ≡ spec.has (spec.texts_of (spec.keys l.elems)) l.text

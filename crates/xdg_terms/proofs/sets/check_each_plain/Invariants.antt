@@ -1,0 +1,8 @@
+use Rattle.std.proofs.Common.{◌≡◌, drop}
+use Rattle.std.specs.List.{flat_map}
+use Rattle.xdg_faults.specs.First.{first, earlier}
+use Rattle.xdg_terms.specs.Faults as spec
+use Rattle.xdg_terms.proofs.sets.check_each_plain.Given as goal
+
+abbrev pub invariant-loop-elem : goal.invariant-loop-elem
+invariant-loop-elem l = earlier l.found (first (flat_map (spec.plain_missing l.texts) (drop l.elem-index l.elems))) ≡ first (flat_map (spec.plain_missing l.texts) l.elems)
