@@ -1,0 +1,85 @@
+//! The types of a grammar: three passes over it, and the table.
+
+ghost use Rattle.xdg_types.specs.Answers.{None_of, Tells, TellsResolved};
+ghost use Rattle.xdg_types.specs.Names.{NameOffends};
+
+use crate::definitions::Definitions;
+use crate::graph::{bodies, type_graph};
+use crate::kinds::check_kinds;
+use crate::leading::heads;
+use crate::names::{check_names, defined};
+use crate::table::{TypeTable, table};
+use crate::weights::weights;
+use std::alloc::Global;
+use xdg_ast::{Grammar, Statement};
+use xdg_base::Stop;
+use xdg_cycles::{closing, components};
+
+/// What the names of types lead to, or the first use of a name that leads back to the type in which it stands.
+fn resolved<'a>(alloc: Global, statements: &'a [Statement]) -> Result<Definitions<'a>, Stop>
+    requires { None_of (NameOffends statements.now) }
+    ensures { TellsResolved statements.now result }
+{
+    let names = defined(alloc, statements)?;
+    let bodies = bodies(alloc, statements)?;
+    if bodies.len() > u32::MAX as usize {
+        return Err(Stop::OutOfMemory);
+    }
+    let graph = type_graph(alloc, &names, bodies.as_slice())?;
+    let components = components(alloc, graph.as_slice())?;
+    match closing(&components, graph.as_slice()) {
+        Some(fault) => Err(Stop::Fault(fault)),
+        None => {
+            let order = components.order.as_slice();
+            let weights = weights(alloc, &names, bodies.as_slice(), order)?;
+            let heads = heads(alloc, &names, bodies.as_slice(), order)?;
+            Ok(Definitions {
+                names,
+                heads,
+                weights,
+            })
+        }
+    }
+}
+
+/// The table of a grammar whose names are right, or the first fault of the other passes.
+fn named(alloc: Global, statements: &[Statement]) -> Result<TypeTable, Stop>
+    requires { None_of (NameOffends statements.now) }
+    ensures { Tells statements.now result }
+{
+    match resolved(alloc, statements) {
+        Err(stop) => Err(stop),
+        Ok(definitions) => match check_kinds(alloc, statements, &definitions)? {
+            Some(fault) => Err(Stop::Fault(fault)),
+            None => Ok(table(alloc, statements, &definitions)?),
+        },
+    }
+}
+
+/// The dimensions of a grammar with the types of their labels, attributes and features, without names.
+///
+/// # Errors
+///
+/// The first pass that finds a fault gives it; within a pass it is the one with the least place, and at one place the
+/// one with the least number.
+///
+/// - Names: [`Cause::UnknownName`](xdg_base::Cause) at a dimension that is used, or a type that is named, without being
+///   defined; `Twice` at the second of what may stand once: the definition or the use of a dimension, the definition of a
+///   type, a part of a dimension that gives the types of its labels, attributes or features, a constant of a domain, a
+///   field of a record.
+/// - Cycles: `Cycle` at the first use of a type, in the order of the text, inside a definition to which it leads back.
+/// - Kinds and sizes: `WrongKind` at a type that isn't of the wanted kind; `TooWide` at the type of more than 32
+///   labels, a tuple type with more than 1,024 tuples, the ninth used dimension or the ninth attribute; `DomainTooBig` at a
+///   domain with more than 64 constants; `Twice` at a constant that stands in two fields of a tuple type.
+///
+/// The time is linear in the text and in what the types hold, names followed. What they hold is counted first: above
+/// 16,777,216 parts, or deeper than 1,024 types inside one another, the answer is want of memory, and nothing is made.
+pub fn types(alloc: Global, grammar: &Grammar) -> Result<TypeTable, Stop>
+    ensures { Tells grammar.now.statements result }
+{
+    let statements = grammar.statements.as_slice();
+    match check_names(alloc, statements)? {
+        Some(fault) => Err(Stop::Fault(fault)),
+        None => named(alloc, statements),
+    }
+}
