@@ -1,0 +1,5 @@
+//! Trials of the crates that judge grammars: tests alone.
+#![tactic(auto)]
+
+#[cfg(test)]
+mod judged;
