@@ -2,7 +2,7 @@
 
 ghost use Rattle.std.specs.Prelude.{◌≡◌, ◌++◌, IfOk, OnOk};
 
-use crate::values::Value;
+use crate::values::{Fields, Value, ValueMap};
 use std::alloc::{AllocError, Global};
 use xdg_base::List;
 
@@ -40,7 +40,7 @@ impl Value {
 pub(crate) fn add_entries(
     alloc: Global,
     entries: &[(u8, Value)],
-    made: &mut List<(u8, Value)>,
+    made: &mut ValueMap,
 ) -> Result<(), AllocError>
     ensures { OnOk result (made.new ≡ made.old ++ entries.now) }
 {
@@ -55,7 +55,7 @@ pub(crate) fn add_entries(
 pub(crate) fn add_fields(
     alloc: Global,
     entries: &[(u32, Value)],
-    made: &mut List<(u32, Value)>,
+    made: &mut Fields,
 ) -> Result<(), AllocError>
     ensures { OnOk result (made.new ≡ made.old ++ entries.now) }
 {

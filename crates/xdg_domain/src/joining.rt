@@ -11,7 +11,7 @@ use crate::copying::{add_entries, add_fields};
 use crate::sets::SetOf;
 use crate::types::Ty;
 use crate::valencies::CardMap;
-use crate::values::Value;
+use crate::values::{Fields, Value, ValueMap};
 use std::alloc::{AllocError, Global};
 use xdg_base::{List, OutOfMemory, Text};
 
@@ -34,6 +34,7 @@ pub fn join(
     Ok(join_values(alloc, ty, one, other)?)
 }
 
+/// The same as [`join`] for values of the type; None for values of another form. A row of the table of types is an arm.
 #[cycle(join)]
 pub(crate) fn join_values(
     alloc: Global,
@@ -117,7 +118,7 @@ fn join_entries(
     ty: &Ty,
     mine: &[(u8, Value)],
     theirs: &[(u8, Value)],
-) -> Result<Option<List<(u8, Value)>>, AllocError>
+) -> Result<Option<ValueMap>, AllocError>
     ensures { IfOk result (λ told. told ≡ merged (λ key. joined (shape ty.now)) mine.now theirs.now) }
 {
     let mut made = List::new(alloc);
@@ -156,7 +157,7 @@ fn join_fields(
     types: &[(Text, Ty)],
     mine: &[(u32, Value)],
     theirs: &[(u32, Value)],
-) -> Result<Option<List<(u32, Value)>>, AllocError>
+) -> Result<Option<Fields>, AllocError>
     ensures { IfOk result (λ told. told ≡ merged (joined_field (fields_in types.now)) mine.now theirs.now) }
 {
     let mut made = List::new(alloc);

@@ -25,4 +25,4 @@ pub use sets::SetOf;
 pub use tuples::{Tuple, count, tuple_index, tuple_of};
 pub use types::Ty;
 pub use valencies::CardMap;
-pub use values::Value;
+pub use values::{Entry, Fields, Value, ValueMap};

@@ -17,7 +17,7 @@ use crate::set_values::set;
 use std::alloc::{AllocError, Global};
 use xdg_ast::{Elem, Term};
 use xdg_base::{List, Text};
-use xdg_domain::{Ty, Value};
+use xdg_domain::{Fields, Ty, Value, ValueMap};
 
 /// The value of a term that has no offence.
 pub(crate) fn build(
@@ -76,7 +76,7 @@ fn by_key(
     of: &Ty,
     elems: &[Elem],
     bindings: &Bindings,
-) -> Result<List<(u8, Value)>, AllocError>
+) -> Result<ValueMap, AllocError>
     requires few { length constants.now ≤ 64 }
     requires is_type { IsType (shape of.now) }
     ensures { IfOk result (λ made. made ≡ spec.said_from (λ written. spec.built bindings.now (shape of.now) written) (spec.first_for keyed_elem elems.now) 0 constants.now) }
@@ -98,7 +98,7 @@ fn by_field(
     fields: &[(Text, Ty)],
     elems: &[Elem],
     bindings: &Bindings,
-) -> Result<List<(u32, Value)>, AllocError>
+) -> Result<Fields, AllocError>
     requires { AreTypes (spec.fields_in fields.now) }
     ensures value { IfOk result (λ made. made ≡ spec.fields_from bindings.now (spec.fields_in fields.now) elems.now 0) }
     ensures fits { IfOk result (λ made. EachSaid (FitsField (spec.fields_in fields.now)) made) }

@@ -72,8 +72,10 @@ fn named(alloc: Global, statements: &[Statement]) -> Result<TypeTable, Stop>
 ///   labels, a tuple type with more than 1,024 tuples, the ninth used dimension or the ninth attribute; `DomainTooBig` at a
 ///   domain with more than 64 constants; `Twice` at a constant that stands in two fields of a tuple type.
 ///
-/// The time is linear in the text and in what the types hold, names followed. What they hold is counted first: above
-/// 16,777,216 parts, or deeper than 1,024 types inside one another, the answer is want of memory, and nothing is made.
+/// The time is linear in the text and in what the types hold, names followed, but for texts that no one would write: a
+/// tuple type that names a domain of more than 64 constants many times, and many attributes given by one very wide name,
+/// take time that grows with the square. What the types hold is counted first: above 16,777,216 parts, or deeper than
+/// 1,024 types inside one another, the answer is want of memory, and nothing is made.
 pub fn types(alloc: Global, grammar: &Grammar) -> Result<TypeTable, Stop>
     ensures { Tells grammar.now.statements result }
 {
