@@ -42,6 +42,7 @@ fn maps_joined(rt: HostRuntime) -> Result<(), Fail> {
     match subj.join(rt.alloc(), &obj)? {
         None => assert_eq!(rt; true, false),
         Some(both) => {
+            assert_eq!(rt; both.as_slice().len(), 2);
             assert_eq!(rt; both.get(3).is_none(), true);
             assert_eq!(rt; both.get(2).unwrap_or(some).greatest(), 127);
             let more = CardMap::said(rt.alloc(), 4, CardSet::one(1))?;

@@ -110,6 +110,14 @@ impl CardMap {
         Ok(())
     }
 
+    /// The keys with what each allows, in order, lent.
+    pub fn as_slice(&self) -> &[(u8, CardSet)]
+        ensures same { result.now ≡ self.now }
+        ensures rising { KeysRise 0 self.now }
+    {
+        self.entries.as_slice()
+    }
+
     /// A copy.
     pub fn copy(&self, alloc: Global) -> Result<CardMap, AllocError>
         ensures { IfOk result (λ made. made ≡ self.now) }
