@@ -1,0 +1,9 @@
+pub mod Digits
+pub mod Packs
+pub mod Prefixes
+pub mod SampleLists
+pub mod Standing
+pub mod Unpacked
+pub mod Variants
+pub mod WordLists
+pub mod Writing

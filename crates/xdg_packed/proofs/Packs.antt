@@ -1,0 +1,144 @@
+-- The different records of the first entries, while further ones are added.
+use Rattle.std.proofs.Common.{◌≡◌, ℕ, zero, suc, ◌+◌, ◌<◌, ◌≤◌, List, [], ◌∷◌, ◌++◌, ◌⊎◌, length, get_or, take, Bool, false, not, if◌then◌else◌, refl, sym, ap, ap₂, inl, inr, subst, ◌∙◌, arith, Some, None, All}
+use Rattle.std.proofs.lemmas.List.{map-append, length-map, length-append, get_or-map}
+use Rattle.std.proofs.lemmas.List.Elements.{All-nil, All-push, All-tail, All-head, All-weaker}
+use Rattle.std.proofs.Math.ListN.{get_or-append}
+use Rattle.std.proofs.Math.Seq.{get_or-append_seam, take-suc}
+use Rattle.xdg_index.specs.Texts.{has_text, place_of, AllDiffer}
+use Rattle.xdg_index.proofs.Texts.{place_of-Some, place_of-None, AllDiffer-append}
+use Rattle.xdg_packed.specs.Lexicon.{Record, Entry, column, Stands, KeepsEachOnce, CountsDifferent}
+use Rattle.xdg_packed.specs.Rows.{shown, IsTable, AreSpelled, IsKnownRow, IsNewRow}
+use Rattle.xdg_packed.specs.Spelling.{spelling_of_fields}
+use Rattle.xdg_packed.proofs.Prefixes.{fields_told}
+use Rattle.xdg_packed.proofs.Standing.{stands_left, stands_right, stands_last, stands_at, rows_differ}
+
+-- ---- one record
+
+pub known_row : (rows : List Record) (spellings : List (List ℕ)) (fields : Record) (spelled : List ℕ) (place : ℕ) → AreSpelled rows spellings → spelled ≡ spelling_of_fields fields
+    → place_of spellings spelled ≡ Some place → IsKnownRow rows spellings rows spellings fields place
+known_row rows spellings fields spelled place are is found =
+    let at = place_of-Some spellings spelled place found in
+    let size : length spellings ≡ length rows = ap length (sym are.spelled) ∙ length-map rows spelling_of_fields in
+    let within : place < length rows = omega (arith, at.0, size) in
+    record {
+      rows_stay = refl;
+      spellings_stay = refl;
+      within = within;
+      stands = fields_told (get_or rows place []) fields
+          (sym (get_or-map spelling_of_fields rows place [] [] within) ∙ ap (λ ts. get_or ts place []) are.spelled ∙ at.1 ∙ is);
+    }
+
+pub new_row : (rows more : List Record) (spellings more_spellings : List (List ℕ)) (fields : Record) (spelled : List ℕ) (place : ℕ) → spelled ≡ spelling_of_fields fields
+    → place_of spellings spelled ≡ None → more ≡ rows ++ fields ∷ [] → more_spellings ≡ spellings ++ spelled ∷ [] → place ≡ length rows → IsNewRow rows spellings more more_spellings fields place
+new_row rows more spellings more_spellings fields spelled place is none grown spelled_grown last = record {
+  fresh = ap (has_text spellings) (sym is) ∙ place_of-None spellings spelled none;
+  rows_grow = grown;
+  spellings_grow = spelled_grown ∙ ap (λ t. spellings ++ t ∷ []) is;
+  last = last;
+}
+
+-- ---- all records so far
+
+-- these are the records so far, one for each entry
+pub record Packs (done rows : List Record) (spellings : List (List ℕ)) (places : List ℕ) : Type 0 where
+  pub spelled : AreSpelled rows spellings
+  pub within : All (λ place. place < length rows) places
+  pub shows : shown rows places ≡ done
+  pub used : (x : Record) → Stands rows x → Stands done x
+  pub few : length rows ≤ length done
+
+pub packs_none : Packs [] [] [] []
+packs_none = record { spelled = record { spelled = refl; differ = tt }; within = All-nil (λ place. place < 0); shows = refl; used = λ x h. h; few = omega arith }
+
+longer : (A : Type 0) (xs : List A) (x : A) → length (xs ++ x ∷ []) ≡ length xs + 1
+longer A xs x = length-append xs (x ∷ [])
+
+shown_more : (rows more : List Record) (places : List ℕ) → All (λ place. place < length rows) places → shown (rows ++ more) places ≡ shown rows places
+shown_more rows more [] within = refl
+shown_more rows more (place ∷ places) within =
+    ap₂ (λ x xs. x ∷ xs) (get_or-append rows more [] place (All-head (λ k. k < length rows) place places within)) (shown_more rows more places (All-tail (λ k. k < length rows) place places within))
+
+packs_known : (done rows : List Record) (spellings : List (List ℕ)) (places : List ℕ) (fields : Record) (place : ℕ) → Packs done rows spellings places → place < length rows → get_or rows place [] ≡ fields
+    → Packs (done ++ fields ∷ []) rows spellings (places ++ place ∷ [])
+packs_known done rows spellings places fields place packs inside stands = record {
+  spelled = packs.spelled;
+  within = All-push (λ k. k < length rows) places place packs.within inside;
+  shows = map-append (λ k. get_or rows k []) places (place ∷ []) ∙ ap₂ (λ xs x. xs ++ x ∷ []) packs.shows stands;
+  used = λ x h. stands_left done (fields ∷ []) x (packs.used x h);
+  few = let size = longer Record done fields in let few = packs.few in omega (arith, size, few);
+}
+
+packs_new : (done rows : List Record) (spellings : List (List ℕ)) (places : List ℕ) (fields : Record) (place : ℕ) → Packs done rows spellings places → has_text spellings (spelling_of_fields fields) ≡ false → place ≡ length rows
+    → Packs (done ++ fields ∷ []) (rows ++ fields ∷ []) (spellings ++ spelling_of_fields fields ∷ []) (places ++ place ∷ [])
+packs_new done rows spellings places fields place packs fresh last = record {
+  spelled = record {
+    spelled = map-append spelling_of_fields rows (fields ∷ []) ∙ ap (λ ts. ts ++ spelling_of_fields fields ∷ []) packs.spelled.spelled;
+    differ = AllDiffer-append spellings (spelling_of_fields fields) packs.spelled.differ fresh;
+  };
+  within = All-push (λ k. k < length (rows ++ fields ∷ [])) places place
+      (All-weaker (λ k. k < length rows) (λ k. k < length (rows ++ fields ∷ [])) (λ k h. let size = longer Record rows fields in omega (arith, size, h)) places packs.within)
+      (let size = longer Record rows fields in omega (arith, size, last));
+  shows = map-append (λ k. get_or (rows ++ fields ∷ []) k []) places (place ∷ [])
+      ∙ ap₂ (λ xs x. xs ++ x ∷ []) (shown_more rows (fields ∷ []) places packs.within ∙ packs.shows) (ap (λ k. get_or (rows ++ fields ∷ []) k []) last ∙ get_or-append_seam rows fields [] []);
+  used = λ x h. by x (stands_last rows fields x h);
+  few = let more = longer Record rows fields in let size = longer Record done fields in let few = packs.few in omega (arith, more, size, few);
+}
+  where
+    by : (x : Record) → Stands rows x ⊎ (fields ≡ x) → Stands (done ++ fields ∷ []) x
+    by x (inl h) = stands_left done (fields ∷ []) x (packs.used x h)
+    by x (inr e) = stands_right done (fields ∷ []) x (inl e)
+
+packs_more : (done rows more : List Record) (spellings more_spellings : List (List ℕ)) (places : List ℕ) (fields : Record) (place : ℕ) → Packs done rows spellings places
+    → IsKnownRow rows spellings more more_spellings fields place ⊎ IsNewRow rows spellings more more_spellings fields place → Packs (done ++ fields ∷ []) more more_spellings (places ++ place ∷ [])
+packs_more done rows more spellings more_spellings places fields place packs (inl k) =
+    subst (λ r. Packs (done ++ fields ∷ []) r more_spellings (places ++ place ∷ [])) (sym k.rows_stay)
+    (subst (λ t. Packs (done ++ fields ∷ []) rows t (places ++ place ∷ [])) (sym k.spellings_stay) (packs_known done rows spellings places fields place packs k.within k.stands))
+packs_more done rows more spellings more_spellings places fields place packs (inr n) =
+    subst (λ r. Packs (done ++ fields ∷ []) r more_spellings (places ++ place ∷ [])) (sym n.rows_grow)
+    (subst (λ t. Packs (done ++ fields ∷ []) (rows ++ fields ∷ []) t (places ++ place ∷ [])) (sym n.spellings_grow) (packs_new done rows spellings places fields place packs n.fresh n.last))
+
+-- the records of a dimension of one entry more
+pub column_more : (dim : ℕ) (entries : List Entry) (i : ℕ) (entry : Entry) → i < length entries → get_or entries i entry ≡ entry → column dim (take (i + 1) entries) ≡ column dim (take i entries) ++ get_or entry dim [] ∷ []
+column_more dim entries i entry within is =
+    let next : i + 1 ≡ suc i = omega arith in
+    ap (λ k. column dim (take k entries)) next
+    ∙ ap (column dim) (take-suc entries i entry within ∙ ap (λ e. take i entries ++ e ∷ []) is)
+    ∙ map-append (λ e. get_or e dim []) (take i entries) (entry ∷ [])
+
+pub any_default : {A : Type 0} (xs : List A) (i : ℕ) (d e : A) → i < length xs → get_or xs i d ≡ get_or xs i e
+any_default [] i d e within = absurd (omega (arith, within))
+any_default (x ∷ xs) zero d e within = refl
+any_default (x ∷ xs) (suc i) d e within = any_default xs i d e (omega (arith, within))
+
+pub packs_next : (dim : ℕ) (entries : List Entry) (i : ℕ) (entry held : Entry) (rows more : List Record) (spellings more_spellings : List (List ℕ)) (places : List ℕ) (fields : Record) (place : ℕ)
+    → i < length entries → All (λ e. dim < length e) entries → entry ≡ get_or entries i entry → held ≡ entry → fields ≡ get_or held dim fields → Packs (column dim (take i entries)) rows spellings places
+    → IsKnownRow rows spellings more more_spellings fields place ⊎ IsNewRow rows spellings more more_spellings fields place → Packs (column dim (take (i + 1) entries)) more more_spellings (places ++ place ∷ [])
+packs_next dim entries i entry held rows more spellings more_spellings places fields place within wide is lent own packs how =
+    let inside : dim < length held = subst (λ e. dim < length e) (sym (lent ∙ is)) (wide i entry within) in
+    let whole : fields ≡ get_or entry dim [] = own ∙ any_default held dim fields [] inside ∙ ap (λ e. get_or e dim []) lent in
+    subst (λ done. Packs done more more_spellings (places ++ place ∷ [])) (ap (λ f. column dim (take i entries) ++ f ∷ []) whole ∙ sym (column_more dim entries i entry within (sym is)))
+    (packs_more (column dim (take i entries)) rows more spellings more_spellings places fields place packs how)
+
+-- ---- the whole
+
+shown_stands : (rows : List Record) (places : List ℕ) → All (λ place. place < length rows) places → (x : Record) → Stands (shown rows places) x → Stands rows x
+shown_stands rows [] within x h = absurd h
+shown_stands rows (place ∷ places) within x (inl e) = subst (Stands rows) e (stands_at rows place [] (All-head (λ k. k < length rows) place places within))
+shown_stands rows (place ∷ places) within x (inr h) = shown_stands rows places (All-tail (λ k. k < length rows) place places within) x h
+
+pub packs_table : (done rows : List Record) (spellings : List (List ℕ)) (places : List ℕ) → Packs done rows spellings places → IsTable rows places
+packs_table done rows spellings places packs = record {
+  within = packs.within;
+  kept = record {
+    once = rows_differ rows (subst AllDiffer (sym packs.spelled.spelled) packs.spelled.differ);
+    each = shown_stands rows places packs.within;
+    only = λ x h. subst (λ xs. Stands xs x) (sym packs.shows) (packs.used x h);
+  };
+}
+
+pub table_counts : (rows : List Record) (places : List ℕ) (all : List Record) → IsTable rows places → shown rows places ≡ all → (count : ℕ) → count ≡ length rows → CountsDifferent all count
+table_counts rows places all is shows count size = (rows, subst (λ xs. KeepsEachOnce xs rows) shows is.kept, sym size)
+
+-- a spelling that has no place is added
+pub added_last : (spellings more : List (List ℕ)) (t : List ℕ) (added : Bool) → place_of spellings t ≡ None → added ≡ not (has_text spellings t) → more ≡ (if added then spellings ++ t ∷ [] else spellings) → more ≡ spellings ++ t ∷ []
+added_last spellings more t added none is e = e ∙ ap (λ b. if b then spellings ++ t ∷ [] else spellings) (is ∙ ap not (place_of-None spellings t none))

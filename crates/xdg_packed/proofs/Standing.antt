@@ -1,0 +1,47 @@
+-- Elements that stand in lists, and different records.
+use Rattle.std.proofs.Common.{◌≡◌, ℕ, zero, suc, ◌<◌, Bool, true, false, ◌||◌, List, [], ◌∷◌, ◌++◌, ◌⊎◌, length, get_or, map, refl, sym, ap, inl, inr, ◌∙◌, arith, true≢false}
+use Rattle.std.proofs.lemmas.Slice.Eq.{bytes_eq-Decides}
+use Rattle.std.specs.Prelude.{bytes_eq}
+use Rattle.xdg_index.specs.Texts.{has_text, AllDiffer}
+use Rattle.xdg_packed.specs.Lexicon.{Record, Stands, Differ}
+use Rattle.xdg_packed.specs.Spelling.{spelling_of_fields}
+
+module _ {A : Type 0} where
+  pub stands_left : (xs ys : List A) (x : A) → Stands xs x → Stands (xs ++ ys) x
+  stands_left [] ys x h = absurd h
+  stands_left (first ∷ xs) ys x (inl e) = inl e
+  stands_left (first ∷ xs) ys x (inr h) = inr (stands_left xs ys x h)
+
+  pub stands_right : (xs ys : List A) (x : A) → Stands ys x → Stands (xs ++ ys) x
+  stands_right [] ys x h = h
+  stands_right (first ∷ xs) ys x h = inr (stands_right xs ys x h)
+
+  pub stands_last : (xs : List A) (y x : A) → Stands (xs ++ y ∷ []) x → Stands xs x ⊎ (y ≡ x)
+  stands_last [] y x (inl e) = inr e
+  stands_last [] y x (inr h) = absurd h
+  stands_last (first ∷ xs) y x (inl e) = inl (inl e)
+  stands_last (first ∷ xs) y x (inr h) = by (stands_last xs y x h)
+    where
+      by : Stands xs x ⊎ (y ≡ x) → Stands (first ∷ xs) x ⊎ (y ≡ x)
+      by (inl k) = inl (inr k)
+      by (inr e) = inr e
+
+  pub stands_at : (xs : List A) (i : ℕ) (d : A) → i < length xs → Stands xs (get_or xs i d)
+  stands_at [] i d within = absurd (omega (arith, within))
+  stands_at (first ∷ xs) zero d within = inl refl
+  stands_at (first ∷ xs) (suc i) d within = inr (stands_at xs i d (omega (arith, within)))
+
+either_true : (a b : Bool) → b ≡ true → (a || b) ≡ true
+either_true true b e = refl
+either_true false b e = e
+
+-- a record that stands among others is found by its spelling
+stands_spelled : (rows : List Record) (fields : Record) → Stands rows fields → has_text (map spelling_of_fields rows) (spelling_of_fields fields) ≡ true
+stands_spelled [] fields h = absurd h
+stands_spelled (first ∷ rows) fields (inl e) = ap (λ b. b || has_text (map spelling_of_fields rows) (spelling_of_fields fields)) ((bytes_eq-Decides (spelling_of_fields first) (spelling_of_fields fields)).1 (ap spelling_of_fields e))
+stands_spelled (first ∷ rows) fields (inr h) = either_true (bytes_eq (spelling_of_fields first) (spelling_of_fields fields)) (has_text (map spelling_of_fields rows) (spelling_of_fields fields)) (stands_spelled rows fields h)
+
+-- where the spellings differ, the records do
+pub rows_differ : (rows : List Record) → AllDiffer (map spelling_of_fields rows) → Differ rows
+rows_differ [] differ = tt
+rows_differ (first ∷ rows) differ = (λ h. true≢false (sym (stands_spelled rows first h) ∙ differ.0), rows_differ rows differ.1)

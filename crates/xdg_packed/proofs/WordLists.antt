@@ -1,0 +1,244 @@
+-- The places of words, while further ones are added.
+use Rattle.std.proofs.Common.{◌≡◌, ℕ, suc, ◌+◌, ◌<◌, Bool, true, false, cond, ◌||◌, not, if◌then◌else◌, List, [], ◌∷◌, ◌++◌, length, get_or, map, take, filter, refl, sym, ap, ap₂, subst, inl, inr, ◌∙◌, arith, Some, None, true≢false, slice_set, All}
+use Rattle.std.specs.Prelude.{Option, Result, OnOk, bytes_eq, option_map}
+use Rattle.std.specs.List.{range_with_len}
+use Rattle.std.proofs.Math.Bool.{or-false}
+use Rattle.std.proofs.Math.Seq.{get_or-append_seam, take-suc}
+use Rattle.std.proofs.lemmas.Bool.{cases_Bool}
+use Rattle.std.proofs.lemmas.List.{append-nil, append_assoc, map-append, length-map, length-append, length-take-le, get_or-map}
+use Rattle.std.proofs.lemmas.Result.{on_ok_weaker}
+use Rattle.std.proofs.lemmas.Slice.Eq.{bytes_eq-Decides}
+use Rattle.xdg_base.specs.declared.ids.EntryNo.{EntryNo}
+use Rattle.xdg_index.specs.Texts.{has_text, place_of, AllDiffer}
+use Rattle.xdg_index.proofs.Texts.{has_text-append, place_of-Some, place_of-None, AllDiffer-append, stands-has_text}
+use Rattle.xdg_packed.specs.Lexicon.{Record, Entry, number, places_of, numbers_of, said_in, word_of}
+use Rattle.xdg_packed.specs.Words.{IsWordIndex}
+use Rattle.xdg_packed.proofs.Packs.{any_default, added_last}
+
+-- ---- places one by one
+
+-- the places of a word, counted from a number on
+listed : ℕ → List (List ℕ) → List ℕ → List ℕ
+listed start [] word = []
+listed start (first ∷ words) word = cond (bytes_eq first word) (start ∷ listed (start + 1) words word) (listed (start + 1) words word)
+
+places_listed : (front words : List (List ℕ)) (word : List ℕ) (start : ℕ) → start ≡ length front
+    → filter (λ place. bytes_eq (get_or (front ++ words) place []) word) (range_with_len start (length words)) ≡ listed start words word
+unfolding listed
+places_listed front [] word start size = refl
+places_listed front (first ∷ words) word start size =
+    let here : get_or (front ++ first ∷ words) start [] ≡ first = ap (λ k. get_or (front ++ first ∷ words) k []) size ∙ get_or-append_seam front first words [] in
+    let longer : start + 1 ≡ length (front ++ first ∷ []) = ap (λ k. k + 1) size ∙ sym (length-append front (first ∷ [])) in
+    let later : filter (λ place. bytes_eq (get_or (front ++ first ∷ words) place []) word) (range_with_len (start + 1) (length words)) ≡ listed (start + 1) words word =
+    ap (λ all. filter (λ place. bytes_eq (get_or all place []) word) (range_with_len (start + 1) (length words))) (sym (append_assoc front (first ∷ []) words)) ∙ places_listed (front ++ first ∷ []) words word (start + 1) longer in
+    ap₂ (λ t rest. cond (bytes_eq t word) (start ∷ rest) rest) here later
+
+places_are : (words : List (List ℕ)) (word : List ℕ) → places_of words word ≡ listed 0 words word
+places_are words word = places_listed [] words word 0 refl
+
+plus_zero : (n : ℕ) → n ≡ n + 0
+plus_zero n = omega arith
+
+zero_plus : (n : ℕ) → 0 + n ≡ n
+zero_plus n = omega arith
+
+plus_one : (n m : ℕ) → n + 1 + m ≡ n + suc m
+plus_one n m = omega arith
+
+listed_more : (start : ℕ) (words : List (List ℕ)) (last word : List ℕ) → listed start (words ++ last ∷ []) word ≡ listed start words word ++ cond (bytes_eq last word) ((start + length words) ∷ []) []
+unfolding listed
+listed_more start [] last word = ap (λ k. cond (bytes_eq last word) (k ∷ []) []) (plus_zero start)
+listed_more start (first ∷ words) last word = by (bytes_eq first word) (listed_more (start + 1) words last word ∙ ap (λ k. listed (start + 1) words word ++ cond (bytes_eq last word) (k ∷ []) []) (plus_one start (length words)))
+  where
+    by : (b : Bool) → listed (start + 1) (words ++ last ∷ []) word ≡ listed (start + 1) words word ++ cond (bytes_eq last word) ((start + suc (length words)) ∷ []) []
+        → cond b (start ∷ listed (start + 1) (words ++ last ∷ []) word) (listed (start + 1) (words ++ last ∷ []) word) ≡ cond b (start ∷ listed (start + 1) words word) (listed (start + 1) words word) ++ cond (bytes_eq last word) ((start + suc (length words)) ∷ []) []
+    by true e = ap (λ l. start ∷ l) e
+    by false e = e
+
+-- no place of a word that doesn't stand there
+listed_none : (start : ℕ) (words : List (List ℕ)) (word : List ℕ) → has_text words word ≡ false → listed start words word ≡ []
+unfolding listed
+listed_none start [] word none = refl
+listed_none start (first ∷ words) word none = by (bytes_eq first word) (listed_none (start + 1) words word) none
+  where
+    by : (b : Bool) → (has_text words word ≡ false → listed (start + 1) words word ≡ []) → (b || has_text words word) ≡ false → cond b (start ∷ listed (start + 1) words word) (listed (start + 1) words word) ≡ []
+    by true rest e = absurd (true≢false e)
+    by false rest e = rest e
+
+-- ---- numbers
+
+pub numbers_none : (words : List (List ℕ)) (word : List ℕ) → has_text words word ≡ false → numbers_of words word ≡ []
+numbers_none words word none = ap (map number) (places_are words word ∙ listed_none 0 words word none)
+
+numbers_more : (words : List (List ℕ)) (last word : List ℕ) → numbers_of (words ++ last ∷ []) word ≡ numbers_of words word ++ cond (bytes_eq last word) (number (length words) ∷ []) []
+numbers_more words last word =
+    ap (map number) (places_are (words ++ last ∷ []) word ∙ listed_more 0 words last word ∙ ap (λ k. listed 0 words word ++ cond (bytes_eq last word) (k ∷ []) []) (zero_plus (length words)) ∙ ap (λ l. l ++ cond (bytes_eq last word) (length words ∷ []) []) (sym (places_are words word)))
+    ∙ map-append number (places_of words word) (cond (bytes_eq last word) (length words ∷ []) [])
+    ∙ ap (λ l. numbers_of words word ++ l) (by (bytes_eq last word))
+  where
+    by : (b : Bool) → map number (cond b (length words ∷ []) []) ≡ cond b (number (length words) ∷ []) []
+    by true = refl
+    by false = refl
+
+-- ---- one word more
+
+module _ (said : List (List ℕ)) (last : List ℕ) where
+  abbrev before : List ℕ → List EntryNo
+  before word = numbers_of said word
+
+  abbrev after : List ℕ → List EntryNo
+  after word = numbers_of (said ++ last ∷ []) word
+
+  -- the last word has one number more
+  same_word : (word : List ℕ) → bytes_eq last word ≡ true → after word ≡ before word ++ number (length said) ∷ []
+  same_word word is = numbers_more said last word ∙ ap (λ b. before word ++ cond b (number (length said) ∷ []) []) is
+
+  -- each other word keeps its numbers
+  other_word : (word : List ℕ) → bytes_eq last word ≡ false → after word ≡ before word
+  other_word word is = numbers_more said last word ∙ ap (λ b. before word ++ cond b (number (length said) ∷ []) []) is ∙ append-nil (before word)
+
+  differs : (a b : List ℕ) → bytes_eq a b ≡ false → bytes_eq b a ≡ false
+  differs a b e = elim (cases_Bool (bytes_eq b a)) [
+    | inl t ↦ absurd (true≢false (sym ((bytes_eq-Decides a b).1 (sym ((bytes_eq-Decides b a).0 t))) ∙ e))
+    | inr f ↦ f
+  ]
+
+  split : (a b : Bool) → (a || b) ≡ false → (a ≡ false) × (b ≡ false)
+  split true b e = absurd (true≢false e)
+  split false b e = (refl, e)
+
+  others : (words : List (List ℕ)) → has_text words last ≡ false → map before words ≡ map after words
+  others [] none = refl
+  others (first ∷ words) none =
+      let n = split (bytes_eq first last) (has_text words last) none in
+      ap₂ (λ x xs. x ∷ xs) (sym (other_word first (differs first last n.0))) (others words n.1)
+
+  place_before : (found : Option ℕ) (place : ℕ) → option_map suc found ≡ Some place → (k : ℕ) × (found ≡ Some k) × (suc k ≡ place)
+  place_before None place e = cc
+  place_before (Some k) place e = (k, refl, cc)
+
+  known_numbers : (words : List (List ℕ)) (place : ℕ) → AllDiffer words → place_of words last ≡ Some place → slice_set (map before words) place (before last ++ number (length said) ∷ []) ≡ map after words
+  known_numbers [] place differ found = cc
+  known_numbers (first ∷ words) place differ found = by (bytes_eq first last) refl (λ k at. known_numbers words k differ.1 at) found
+    where
+      by : (b : Bool) → bytes_eq first last ≡ b → ((k : ℕ) → place_of words last ≡ Some k → slice_set (map before words) k (before last ++ number (length said) ∷ []) ≡ map after words) → (if b then Some 0 else option_map suc (place_of words last)) ≡ Some place
+          → slice_set (map before (first ∷ words)) place (before last ++ number (length said) ∷ []) ≡ map after (first ∷ words)
+      by true here rest e =
+          let at : 0 ≡ place = cc in
+          let is : first ≡ last = (bytes_eq-Decides first last).0 here in
+          ap (λ k. slice_set (map before (first ∷ words)) k (before last ++ number (length said) ∷ [])) (sym at)
+          ∙ ap₂ (λ x xs. x ∷ xs) (sym (same_word last ((bytes_eq-Decides last last).1 refl)) ∙ ap after (sym is)) (others words (ap (has_text words) (sym is) ∙ differ.0))
+      by false other rest e =
+          let p = place_before (place_of words last) place e in
+          ap (λ k. slice_set (map before (first ∷ words)) k (before last ++ number (length said) ∷ [])) (sym p.2)
+          ∙ ap₂ (λ x xs. x ∷ xs) (sym (other_word first (differs first last other))) (rest p.0 p.1)
+
+  -- whether the last word stands among words that stand there already
+  still : (words : List (List ℕ)) (word : List ℕ) → has_text words last ≡ true → has_text words word ≡ has_text said word → has_text words word ≡ has_text (said ++ last ∷ []) word
+  still words word stands same = elim (cases_Bool (bytes_eq last word)) [
+    | inl t ↦
+        let is : last ≡ word = (bytes_eq-Decides last word).0 t in
+        let here : has_text words word ≡ true = ap (has_text words) (sym is) ∙ stands in
+        here ∙ sym (has_text-append said (last ∷ []) word ∙ ap (λ b. has_text said word || (b || false)) t ∙ ap (λ b. b || true) (sym same ∙ here))
+    | inr f ↦ same ∙ sym (or-false (has_text said word)) ∙ sym (has_text-append said (last ∷ []) word ∙ ap (λ b. has_text said word || (b || false)) f)
+  ]
+
+  pub known_word : (words : List (List ℕ)) (numbers : List (List EntryNo)) (place : ℕ) → IsWordIndex said words numbers → place_of words last ≡ Some place
+      → IsWordIndex (said ++ last ∷ []) words (slice_set numbers place (get_or numbers place [] ++ number (length said) ∷ []))
+  known_word words numbers place index found =
+      let at = place_of-Some words last place found in
+      let own : get_or numbers place [] ≡ before last = ap (λ ns. get_or ns place []) index.numbered ∙ get_or-map before words place [] [] at.0 ∙ ap before at.1 in
+      record {
+        differ = index.differ;
+        all = λ word. still words word (stands-has_text words last place at.0 at.1) (index.all word);
+        numbered = ap₂ (λ ns n. slice_set ns place (n ++ number (length said) ∷ [])) index.numbered own ∙ known_numbers words place index.differ found;
+      }
+
+  pub new_word : (words : List (List ℕ)) (numbers : List (List EntryNo)) → IsWordIndex said words numbers → place_of words last ≡ None
+      → IsWordIndex (said ++ last ∷ []) (words ++ last ∷ []) (numbers ++ (number (length said) ∷ []) ∷ [])
+  new_word words numbers index found =
+      let none = place_of-None words last found in
+      record {
+        differ = AllDiffer-append words last index.differ none;
+        all = λ word. has_text-append words (last ∷ []) word ∙ ap (λ b. b || has_text (last ∷ []) word) (index.all word) ∙ sym (has_text-append said (last ∷ []) word);
+        numbered = ap₂ (λ ns n. ns ++ n ∷ []) (index.numbered ∙ others words none)
+            (ap (λ l. l ++ number (length said) ∷ []) (sym (numbers_none said last (sym (index.all last) ∙ none))) ∙ sym (same_word last ((bytes_eq-Decides last last).1 refl)))
+            ∙ sym (map-append after words (last ∷ []));
+      }
+
+-- ---- looking up
+
+pub word_found : (said words : List (List ℕ)) (numbers : List (List EntryNo)) (word : List ℕ) (place : ℕ) → IsWordIndex said words numbers → place_of words word ≡ Some place → get_or numbers place [] ≡ numbers_of said word
+word_found said words numbers word place index found =
+    let at = place_of-Some words word place found in
+    ap (λ ns. get_or ns place []) index.numbered ∙ get_or-map (numbers_of said) words place [] [] at.0 ∙ ap (numbers_of said) at.1
+
+pub word_unknown : (said words : List (List ℕ)) (numbers : List (List EntryNo)) (word : List ℕ) → IsWordIndex said words numbers → place_of words word ≡ None → numbers_of said word ≡ []
+word_unknown said words numbers word index found = numbers_none said word (sym (index.all word) ∙ place_of-None words word found)
+
+pub place_within : (said words : List (List ℕ)) (numbers : List (List EntryNo)) (word : List ℕ) (place : ℕ) → IsWordIndex said words numbers → place_of words word ≡ Some place → place < length numbers
+place_within said words numbers word place index found =
+    let at = place_of-Some words word place found in
+    let size : length numbers ≡ length words = ap length index.numbered ∙ length-map words (numbers_of said) in
+    omega (arith, at.0, size)
+
+-- ---- the loop over entries
+
+pub index_none : IsWordIndex [] [] []
+index_none = record { differ = tt; all = λ word. refl; numbered = refl }
+
+pub as_many : (said words : List (List ℕ)) (numbers : List (List EntryNo)) → IsWordIndex said words numbers → length numbers ≡ length words
+as_many said words numbers index = ap length index.numbered ∙ length-map words (numbers_of said)
+
+pub words_more : (dim field : ℕ) (entries : List Entry) (i : ℕ) (entry : Entry) → i < length entries → get_or entries i entry ≡ entry → map (word_of dim field) (take (i + 1) entries) ≡ map (word_of dim field) (take i entries) ++ word_of dim field entry ∷ []
+words_more dim field entries i entry within is =
+    let next : i + 1 ≡ suc i = omega arith in
+    ap (λ k. map (word_of dim field) (take k entries)) next
+    ∙ ap (map (word_of dim field)) (take-suc entries i entry within ∙ ap (λ e. take i entries ++ e ∷ []) is)
+    ∙ map-append (word_of dim field) (take i entries) (entry ∷ [])
+
+-- ---- one word more, in the code
+
+pub place_inside : (words : List (List ℕ)) (word : List ℕ) (place count : ℕ) → place_of words word ≡ Some place → count ≡ length words → place < count
+place_inside words word place count found same =
+    let at = place_of-Some words word place found in
+    omega (arith, at.0, same)
+
+named : (entry : EntryNo) (said : List (List ℕ)) → entry.0 ≡ length said → entry ≡ number (length said)
+named entry said is = ap number is
+
+pub known_pushed : {T E : Type 0} (r : Result T E) (words : List (List ℕ)) (numbers : List (List EntryNo)) (last : List ℕ) (place : ℕ) (entry : EntryNo) (old new : List EntryNo) → old ≡ get_or numbers place old → place_of words last ≡ Some place
+    → OnOk r (new ≡ old ++ entry ∷ []) → OnOk r ((before : List (List ℕ)) → entry.0 ≡ length before → IsWordIndex before words numbers → IsWordIndex (before ++ last ∷ []) words (slice_set numbers place new))
+known_pushed r words numbers last place entry old new lent found ok =
+    on_ok_weaker r
+    (λ e said is index. subst (λ ns. IsWordIndex (said ++ last ∷ []) words (slice_set numbers place ns))
+    (sym (e ∙ ap₂ (λ ns n. ns ++ n ∷ []) (lent ∙ any_default numbers place old [] (place_within said words numbers last place index found)) (named entry said is)))
+    (known_word said last words numbers place index found))
+    ok
+
+pub new_pushed : (words more : List (List ℕ)) (numbers grown : List (List EntryNo)) (last : List ℕ) (entry : EntryNo) (added : Bool) (first : List EntryNo) → place_of words last ≡ None → first ≡ entry ∷ [] → grown ≡ numbers ++ first ∷ []
+    → added ≡ not (has_text words last) → more ≡ (if added then words ++ last ∷ [] else words)
+    → (before : List (List ℕ)) → entry.0 ≡ length before → IsWordIndex before words numbers → IsWordIndex (before ++ last ∷ []) more grown
+new_pushed words more numbers grown last entry added first found one pushed is e said counted index =
+    let more_is : more ≡ words ++ last ∷ [] = added_last words more last added found is e in
+    let grown_is : grown ≡ numbers ++ (number (length said) ∷ []) ∷ [] = pushed ∙ ap (λ ns. numbers ++ ns ∷ []) (one ∙ ap (λ n. n ∷ []) (named entry said counted)) in
+    subst (λ ws. IsWordIndex (said ++ last ∷ []) ws grown) (sym more_is)
+    (subst (λ ns. IsWordIndex (said ++ last ∷ []) (words ++ last ∷ []) ns) (sym grown_is) (new_word said last words numbers index found))
+
+pub index_next : (dim field : ℕ) (entries : List Entry) (i : ℕ) (entry held : Entry) (fields : Record) (word : List ℕ) (words more : List (List ℕ)) (numbers grown : List (List EntryNo)) → i < length entries → All (λ e. dim < length e) entries
+    → entry ≡ get_or entries i entry → held ≡ entry → fields ≡ get_or held dim fields → word ≡ said_in fields field
+    → ((before : List (List ℕ)) → i ≡ length before → IsWordIndex before words numbers → IsWordIndex (before ++ word ∷ []) more grown)
+    → IsWordIndex (map (word_of dim field) (take i entries)) words numbers → IsWordIndex (map (word_of dim field) (take (i + 1) entries)) more grown
+index_next dim field entries i entry held fields word words more numbers grown within wide is lent own told step index =
+    let inside : dim < length held = subst (λ e. dim < length e) (sym (lent ∙ is)) (wide i entry within) in
+    let whole : fields ≡ get_or entry dim [] = own ∙ any_default held dim fields [] inside ∙ ap (λ e. get_or e dim []) lent in
+    let size : i ≡ length (map (word_of dim field) (take i entries)) = sym (length-map (take i entries) (word_of dim field) ∙ length-take-le i entries (omega (arith, within))) in
+    subst (λ said. IsWordIndex said more grown)
+    (ap (λ w. map (word_of dim field) (take i entries) ++ w ∷ []) (told ∙ ap (λ f. said_in f field) whole) ∙ sym (words_more dim field entries i entry within (sym is)))
+    (step (map (word_of dim field) (take i entries)) size index)
+
+-- as many lists as words, still
+pub still_as_many : (words more : List (List ℕ)) (last : List ℕ) (added : Bool) (count grown : ℕ) → place_of words last ≡ None → added ≡ not (has_text words last) → more ≡ (if added then words ++ last ∷ [] else words) → count ≡ length words → grown ≡ count + 1 → grown ≡ length more
+still_as_many words more last added count grown found is e same one =
+    let size : length more ≡ length words + 1 = ap length (added_last words more last added found is e) ∙ length-append words (last ∷ []) in
+    omega (arith, same, one, size)

@@ -1,0 +1,100 @@
+-- What is written of a spelling, piece by piece.
+use Rattle.std.proofs.Common.{◌≡◌, ℕ, suc, ◌+◌, ◌-◌, ◌/◌, ◌%◌, ◌<◌, ◌≤◌, true, false, cond, List, [], ◌∷◌, ◌++◌, drop, get_or, length, filter, refl, sym, ap, ◌∙◌, arith}
+use Rattle.std.proofs.lemmas.List.{append_assoc}
+use Rattle.std.proofs.Math.Seq.{drop-cons}
+use Rattle.std.specs.Prelude.{codes}
+use Rattle.std.specs.List.{range_with_len}
+use Rattle.xdg_domain.specs.Cards.{has, IsCards, numbers_below}
+use Rattle.xdg_packed.specs.Spelling.{digits, number, numbers, each, keyed}
+use Rattle.xdg_packed.proofs.Digits.{digits_next}
+
+-- ---- numbers
+
+pub number_next : (n : ℕ) → 0 < n → number n ≡ (48 + n % 2) ∷ number (n / 2)
+unfolding number
+number_next n some = ap (λ ds. ds ++ codes ".") (digits_next n some)
+
+-- one digit
+pub digit_written : (now after whole digit : List ℕ) (n : ℕ) → 0 < n → digit ≡ (48 + n % 2) ∷ [] → after ≡ now ++ digit → now ++ number n ≡ whole → after ++ number (n / 2) ≡ whole
+digit_written now after whole digit n some is e h =
+    ap (λ l. l ++ number (n / 2)) (e ∙ ap (λ ds. now ++ ds) is)
+    ∙ append_assoc now ((48 + n % 2) ∷ []) (number (n / 2))
+    ∙ ap (λ l. now ++ l) (sym (number_next n some))
+    ∙ h
+
+number_zero : number 0 ≡ codes "."
+unfolding number digits
+number_zero = refl
+
+-- the full stop
+pub stop_written : (now after whole : List ℕ) (n : ℕ) → n ≤ 0 → after ≡ now ++ codes "." → now ++ number n ≡ whole → after ≡ whole
+stop_written now after whole n none e h =
+    let z : n ≡ 0 = omega (arith, none) in
+    e ∙ ap (λ l. now ++ l) (sym (ap number z ∙ number_zero)) ∙ h
+
+-- ---- lists
+
+-- an element: a comma, and its spelling
+pub element_written : {A : Type 0} (code : A → List ℕ) (now marked after whole : List ℕ) (x : A) (rest : List A) → marked ≡ now ++ codes "," → after ≡ marked ++ code x → now ++ each code (x ∷ rest) ≡ whole → after ++ each code rest ≡ whole
+element_written code now marked after whole x rest m e h =
+    ap (λ l. l ++ each code rest) (e ∙ ap (λ l. l ++ code x) m ∙ append_assoc now (codes ",") (code x))
+    ∙ append_assoc now (codes "," ++ code x) (each code rest)
+    ∙ h
+
+-- the same at a place of a list
+pub element_at : {A : Type 0} (code : A → List ℕ) (now marked after whole : List ℕ) (xs : List A) (i : ℕ) (x : A) → i < length xs → get_or xs i x ≡ x → marked ≡ now ++ codes "," → after ≡ marked ++ code x → now ++ each code (drop i xs) ≡ whole → after ++ each code (drop (i + 1) xs) ≡ whole
+element_at code now marked after whole xs i x within is m e h =
+    let next : i + 1 ≡ suc i = omega arith in
+    let opened : drop i xs ≡ x ∷ drop (i + 1) xs = drop-cons xs i x within ∙ ap (λ y. y ∷ drop (suc i) xs) is ∙ ap (λ k. x ∷ drop k xs) (sym next) in
+    element_written code now marked after whole x (drop (i + 1) xs) m e (sym (ap (λ l. now ++ each code l) opened) ∙ h)
+
+-- the same of a key and what is said of it
+pub entry_at : {A : Type 0} (code : A → List ℕ) (now marked keys after whole : List ℕ) (xs : List (ℕ × A)) (i : ℕ) (x : ℕ × A) → i < length xs → get_or xs i x ≡ x
+    → marked ≡ now ++ codes "," → keys ≡ marked ++ number x.0 → after ≡ keys ++ code x.1 → now ++ keyed code (drop i xs) ≡ whole → after ++ keyed code (drop (i + 1) xs) ≡ whole
+entry_at code now marked keys after whole xs i x within is m k e h =
+    element_at (λ entry. number entry.0 ++ code entry.1) now marked after whole xs i x within is m
+    (e ∙ ap (λ l. l ++ code x.1) k ∙ append_assoc marked (number x.0) (code x.1)) h
+
+-- the semicolon
+pub end_written : {A : Type 0} (code : A → List ℕ) (now after whole : List ℕ) (rest : List A) → rest ≡ [] → after ≡ now ++ codes ";" → now ++ each code rest ≡ whole → after ≡ whole
+end_written code now after whole rest none e h = e ∙ ap (λ l. now ++ each code l) (sym none) ∙ h
+
+-- ---- cardinalities
+
+-- the numbers that are allowed, from one on and below a bound
+pub cards_from : ℕ → List ℕ → ℕ → List ℕ
+cards_from bound s n = filter (has s) (range_with_len n (bound - n))
+
+range_next : (bound n : ℕ) → n < bound → range_with_len n (bound - n) ≡ n ∷ range_with_len (n + 1) (bound - (n + 1))
+range_next bound n within =
+    let size : bound - n ≡ suc (bound - (n + 1)) = omega (arith, within) in
+    ap (range_with_len n) size
+
+from_next : (bound : ℕ) (s : List ℕ) (n : ℕ) → n < bound → cards_from bound s n ≡ cond (has s n) (n ∷ cards_from bound s (n + 1)) (cards_from bound s (n + 1))
+unfolding cards_from
+from_next bound s n within = ap (filter (has s)) (range_next bound n within)
+
+pub card_passed : (bound : ℕ) (s now whole : List ℕ) (n : ℕ) → n < bound → has s n ≡ false → now ++ numbers (cards_from bound s n) ≡ whole → now ++ numbers (cards_from bound s (n + 1)) ≡ whole
+card_passed bound s now whole n within none h =
+    ap (λ l. now ++ numbers l) (sym (from_next bound s n within ∙ ap (λ b. cond b (n ∷ cards_from bound s (n + 1)) (cards_from bound s (n + 1))) none)) ∙ h
+
+pub card_written : (bound : ℕ) (s now marked after whole : List ℕ) (n : ℕ) → n < bound → has s n ≡ true → marked ≡ now ++ codes "," → after ≡ marked ++ number n
+    → now ++ numbers (cards_from bound s n) ≡ whole → after ++ numbers (cards_from bound s (n + 1)) ≡ whole
+card_written bound s now marked after whole n within is m e h =
+    element_written number now marked after whole n (cards_from bound s (n + 1)) m e
+    (ap (λ l. now ++ numbers l) (sym (from_next bound s n within ∙ ap (λ b. cond b (n ∷ cards_from bound s (n + 1)) (cards_from bound s (n + 1))) is)) ∙ h)
+
+none_from : (bound n : ℕ) (s : List ℕ) → bound ≤ n → cards_from bound s n ≡ []
+unfolding cards_from
+none_from bound n s over =
+    let size : bound - n ≡ 0 = omega (arith, over) in
+    ap (λ k. filter (has s) (range_with_len n k)) size
+
+all_from : (s : List ℕ) → IsCards s → s ≡ cards_from 128 s 0
+unfolding cards_from numbers_below
+all_from s is = is.whole
+
+pub cards_end : (s before now after : List ℕ) (n : ℕ) → 128 ≤ n → IsCards s → after ≡ now ++ codes ";" → now ++ numbers (cards_from 128 s n) ≡ before ++ numbers (cards_from 128 s 0) → after ≡ before ++ numbers s
+cards_end s before now after n over is e h =
+    end_written number now after (before ++ numbers (cards_from 128 s 0)) (cards_from 128 s n) (none_from 128 n s over) e h
+    ∙ ap (λ l. before ++ numbers l) (sym (all_from s is))

@@ -1,0 +1,14 @@
+use Rattle.std.proofs.Common.{◌+◌, take, sym, subst}
+use Rattle.xdg_packed.specs.Lexicon.{column}
+use Rattle.xdg_packed.proofs.Packs.{Packs, packs_next, packs_table}
+use Rattle.xdg_packed.proofs.table.Table.of.Goals as goal
+
+pub loop-entry-preserved : goal.loop-entry-preserved
+loop-entry-preserved c =
+    subst (λ places. Packs (column c.args.dim (take (c.loop-entry.entry-index + 1) c.args.entries.now)) c.place_of.new.rows c.place_of.new.spellings places) (sym c.in_ok-push.ensures.ok)
+    (packs_next c.args.dim c.args.entries.now c.loop-entry.entry-index c.entry-item.result c.as_slice.result.now c.loop-entry.rows c.place_of.new.rows c.loop-entry.spellings c.place_of.new.spellings c.loop-entry.places
+    c.index-as_slice-dim.result c.in_ok-place_of.field-0
+    c.loop-entry-test.true c.requires.within c.entry-item.is c.as_slice.ensures c.index-as_slice-dim.is c.loop-entry.invariant c.in_ok-place_of.ensures)
+
+pub invariant_of-result : goal.invariant_of-result
+invariant_of-result c = packs_table (column c.args.dim (take c.loop-entry.entry-index c.args.entries.now)) c.loop-entry.rows c.loop-entry.spellings c.loop-entry.places c.loop-entry.invariant

@@ -1,0 +1,12 @@
+//! The expanded lexicon, packed: each different record of a dimension is kept once, and the entries of a word are looked up
+//! by an index of the words.
+#![tactic(auto)]
+
+mod packed;
+mod spelling;
+mod table;
+#[cfg(test)]
+mod tests;
+mod words;
+
+pub use packed::{EntryView, Packed, pack};
