@@ -1,0 +1,15 @@
+pub mod Built
+pub mod Commanded
+pub mod Filling
+pub mod Finding
+pub mod Fitting
+pub mod Lookups
+pub mod Numbers
+pub mod Outcome
+pub mod Placed
+pub mod Reader
+pub mod Rules
+pub mod Spelled
+pub mod Turns
+pub mod Uses
+pub mod Walked

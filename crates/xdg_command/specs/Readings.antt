@@ -1,0 +1,38 @@
+-- The words after a command's name, by what they say.
+use Rattle.std.specs.Prelude.{◌≡◌, ℕ, List, [], ◌∷◌, codes}
+use Rattle.xdg_command.specs.Items.{Item, AreItems, IsOnce, operands_of}
+use Rattle.xdg_command.specs.Commands.{SaysParse}
+use Rattle.xdg_command.specs.declared.commands.Command.{Command}
+use Rattle.xdg_command.specs.declared.commands.Command.TheVariants as commands
+use Rattle.xdg_command.specs.declared.commands.ParseOptions.{ParseOptions}
+use Rattle.xdg_command.specs.declared.reading.Files.{Files}
+use Rattle.xdg_command.specs.declared.reading.Verb.{Verb}
+use Rattle.xdg_command.specs.declared.reading.Verb.TheVariants as verbs
+
+-- the words are items of which the fact holds, each option given at most once
+pub record AreWords (values flags : List (List ℕ)) (words : List (List ℕ)) (P : List Item → Type 0) : Type 0 where
+  pub items : List Item
+  pub read : AreItems values flags words items
+  pub once : IsOnce items
+  pub says : P items
+
+-- one operand
+abbrev pub IsOneFile : List (List ℕ) → List ℕ → Type 0
+IsOneFile words name = AreWords [] [] words (λ items. operands_of items ≡ name ∷ [])
+
+-- two operands
+abbrev pub IsTwoFiles : List (List ℕ) → Files → Type 0
+IsTwoFiles words files = AreWords [] [] words (λ items. operands_of items ≡ files.grammar ∷ files.analysis ∷ [])
+
+-- what follows `parse`
+abbrev pub IsParse : List (List ℕ) → ParseOptions → Type 0
+IsParse words options = AreWords (codes "budget" ∷ codes "first" ∷ codes "text" ∷ []) (codes "segment" ∷ []) words (λ items. SaysParse items options)
+
+-- what follows the name of a command
+abbrev pub IsOfVerb : Verb → List (List ℕ) → Command → Type 0
+IsOfVerb verbs.Parse words (commands.Parse options) = IsParse words options
+IsOfVerb verbs.Explain words (commands.Explain grammar analysis) = IsTwoFiles words (record { grammar = grammar; analysis = analysis })
+IsOfVerb verbs.Check words (commands.Check grammar) = IsOneFile words grammar
+IsOfVerb verbs.Lexicon words (commands.Lexicon grammar) = IsOneFile words grammar
+IsOfVerb verbs.Print words (commands.Print grammar) = IsOneFile words grammar
+IsOfVerb verb words command = ⊥

@@ -1,0 +1,56 @@
+//! What the program is asked to do.
+
+use xdg_base::Text;
+
+/// In which of the two forms analyses are printed.
+#[derive(Clone, Copy, Debug, PartialEq, Eq)]
+pub enum TextForm {
+    /// The first form, where nothing else is asked for.
+    One,
+    /// The second form.
+    Two,
+}
+
+/// What `parse` is asked to do.
+#[derive(Debug, Drop)]
+pub struct ParseOptions {
+    /// The name of the grammar file.
+    pub grammar: Text,
+    /// How many counted prefixes the search may charge, 1 to 1,000,000,000.
+    pub budget: u64,
+    /// After how many analyses to stop, 1 to 1,000,000, or `None` to go on to the last.
+    pub first: Option<u64>,
+    /// Whether words are cut by the Unicode rules of word boundaries.
+    pub segment: bool,
+    /// The form in which analyses are printed.
+    pub text: TextForm,
+}
+
+/// A command with its operands and options.
+#[derive(Debug, Drop)]
+pub enum Command {
+    /// `parse`: the analyses of the sentence that the input gives.
+    Parse(ParseOptions),
+    /// `explain`: which principles of a grammar an analysis keeps.
+    Explain {
+        /// The name of the grammar file.
+        grammar: Text,
+        /// The name of the file of the analysis.
+        analysis: Text,
+    },
+    /// `check`: whether a grammar is right, and how much it holds.
+    Check {
+        /// The name of the grammar file.
+        grammar: Text,
+    },
+    /// `lexicon`: the entries of a grammar.
+    Lexicon {
+        /// The name of the grammar file.
+        grammar: Text,
+    },
+    /// `print`: the canonical text of a grammar.
+    Print {
+        /// The name of the grammar file.
+        grammar: Text,
+    },
+}

@@ -1,0 +1,13 @@
+//! The words of the command line.
+#![tactic(auto)]
+
+mod commands;
+mod matching;
+mod reading;
+mod syntax;
+#[cfg(test)]
+mod tests;
+mod values;
+
+pub use commands::{Command, ParseOptions, TextForm};
+pub use reading::command;

@@ -1,0 +1,150 @@
+//! Words as commands.
+
+ghost use Rattle.std.specs.Prelude.{◌≡◌, IfOk, map};
+ghost use Rattle.std.specs.String.{string_bytes};
+ghost use Rattle.xdg_command.specs.Answers.{IsExactly};
+ghost use Rattle.xdg_command.specs.Commands.{IsCommand};
+ghost use Rattle.xdg_command.specs.Readings.{IsOfVerb, IsOneFile, IsParse, IsTwoFiles};
+ghost use Rattle.xdg_command.specs.Verbs.{verb_of};
+ghost use Rattle.xdg_command.specs.declared.commands.Command.{Command};
+
+use crate::matching::matches;
+use crate::{Command, ParseOptions, syntax, values};
+use std::alloc::Global;
+use xdg_base::{OutOfMemory, Text};
+
+/// What the first word asks for.
+#[derive(Clone, Copy, Debug)]
+enum Verb {
+    Parse,
+    Explain,
+    Check,
+    Lexicon,
+    Print,
+}
+
+/// The operands of `explain`.
+#[derive(Debug, Drop)]
+struct Files {
+    grammar: Text,
+    analysis: Text,
+}
+
+/// The one operand of words without options.
+fn one_file(alloc: Global, words: &[String]) -> Result<Option<Text>, OutOfMemory>
+    ensures { IfOk result (IsExactly (IsOneFile (map string_bytes words.now))) }
+{
+    let Some(found) = matches(syntax::one_file(alloc)?, words)? else {
+        return Ok(None);
+    };
+    let Some(grammar) = found.get_str("grammar") else {
+        return Ok(None);
+    };
+    Ok(Some(Text::from_str(alloc, grammar)?))
+}
+
+/// The two operands of words without options.
+fn two_files(alloc: Global, words: &[String]) -> Result<Option<Files>, OutOfMemory>
+    ensures { IfOk result (IsExactly (IsTwoFiles (map string_bytes words.now))) }
+{
+    let Some(found) = matches(syntax::two_files(alloc)?, words)? else {
+        return Ok(None);
+    };
+    let Some(grammar) = found.get_str("grammar") else {
+        return Ok(None);
+    };
+    let Some(analysis) = found.get_str("analysis") else {
+        return Ok(None);
+    };
+    let grammar = Text::from_str(alloc, grammar)?;
+    let analysis = Text::from_str(alloc, analysis)?;
+    Ok(Some(Files { grammar, analysis }))
+}
+
+/// The operand and the options of `parse`.
+fn parse(alloc: Global, words: &[String]) -> Result<Option<ParseOptions>, OutOfMemory>
+    ensures { IfOk result (IsExactly (IsParse (map string_bytes words.now))) }
+{
+    let Some(found) = matches(syntax::parse(alloc)?, words)? else {
+        return Ok(None);
+    };
+    let Some(grammar) = found.get_str("grammar") else {
+        return Ok(None);
+    };
+    let Some(budget) = values::budget(found.get_str("budget")) else {
+        return Ok(None);
+    };
+    let Some(first) = values::first(found.get_str("first")) else {
+        return Ok(None);
+    };
+    let Some(text) = values::text_form(found.get_str("text")) else {
+        return Ok(None);
+    };
+    let grammar = Text::from_str(alloc, grammar)?;
+    let segment = found.get_flag("segment");
+    Ok(Some(ParseOptions {
+        grammar,
+        budget,
+        first,
+        segment,
+        text,
+    }))
+}
+
+/// The command that a word spells.
+#[tactic(auto, unfolding(crate::specs::Verbs::verb_of))]
+fn verb_of(word: &str) -> Option<Verb>
+    ensures { result ≡ verb_of word.now }
+{
+    match word {
+        "parse" => Some(Verb::Parse),
+        "explain" => Some(Verb::Explain),
+        "check" => Some(Verb::Check),
+        "lexicon" => Some(Verb::Lexicon),
+        "print" => Some(Verb::Print),
+        _ => None,
+    }
+}
+
+/// The command with this name that the later words make, or `None` where they make none.
+fn with_name(alloc: Global, verb: Verb, words: &[String]) -> Result<Option<Command>, OutOfMemory>
+    ensures { IfOk result (IsExactly (IsOfVerb verb (map string_bytes words.now))) }
+{
+    match verb {
+        Verb::Parse => match parse(alloc, words)? {
+            Some(options) => Ok(Some(Command::Parse(options))),
+            None => Ok(None),
+        },
+        Verb::Explain => match two_files(alloc, words)? {
+            Some(Files { grammar, analysis }) => Ok(Some(Command::Explain { grammar, analysis })),
+            None => Ok(None),
+        },
+        Verb::Check => match one_file(alloc, words)? {
+            Some(grammar) => Ok(Some(Command::Check { grammar })),
+            None => Ok(None),
+        },
+        Verb::Lexicon => match one_file(alloc, words)? {
+            Some(grammar) => Ok(Some(Command::Lexicon { grammar })),
+            None => Ok(None),
+        },
+        Verb::Print => match one_file(alloc, words)? {
+            Some(grammar) => Ok(Some(Command::Print { grammar })),
+            None => Ok(None),
+        },
+    }
+}
+
+/// The command that the words after the program's name are, or `None` where they are none. The first word is the name of the
+/// command, and each command reads the later words in its own way.
+pub fn command(alloc: Global, words: &[String]) -> Result<Option<Command>, OutOfMemory>
+    ensures exact { IfOk result (IsExactly (IsCommand (map string_bytes words.now))) }
+    ensures one { (a b : Command) → IsCommand (map string_bytes words.now) a → IsCommand (map string_bytes words.now) b → a ≡ b }
+{
+    let Some((name, later)) = words.split_first() else {
+        return Ok(None);
+    };
+    match verb_of(name.as_str()) {
+        Some(verb) => with_name(alloc, verb, later),
+        None => Ok(None),
+    }
+}
