@@ -7,7 +7,7 @@ use Rattle.std.proofs.lemmas.Bool.{cases_eq, false≢true}
 use Rattle.xdg_problem.specs.declared.parts.Group.{Group}
 use Rattle.xdg_problem.specs.declared.parts.Parts.{Parts}
 use Rattle.xdg_problem.specs.declared.parts.Principle.TheVariants as principles
-use Rattle.xdg_problem.specs.Relations.{first_dim}
+use Rattle.xdg_problem.specs.Arguments.{first_dim}
 use Rattle.xdg_live.specs.Steps.{has_places, MayCount, LonelyEntry, EntryStepOf, EntryStep}
 
 may_same : (P Q : Type 0) (row : List ℕ) (number : ℕ) → P ↔ Q → MayCount P row number ↔ MayCount Q row number

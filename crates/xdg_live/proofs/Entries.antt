@@ -15,7 +15,7 @@ use Rattle.xdg_problem.specs.Places.{nodes, places, edge}
 use Rattle.xdg_problem.specs.Analyses.{IsPlace}
 use Rattle.xdg_problem.specs.Vectors.{edges_in, first_place, chosen}
 use Rattle.xdg_problem.specs.Features.{row, IsWithin}
-use Rattle.xdg_problem.specs.Relations.{first_dim, label_count}
+use Rattle.xdg_problem.specs.Arguments.{first_dim, label_count}
 use Rattle.xdg_problem.specs.Tests.{Test, out_count, in_count, one_root}
 use Rattle.xdg_problem.specs.Live.{open_places}
 use Rattle.xdg_problem.specs.Problems.{IsGroup, IsValency, IsCardinality, AreFeatures}

@@ -11,10 +11,9 @@ use Rattle.xdg_problem.specs.declared.parts.Parts.{Parts}
 use Rattle.xdg_problem.specs.declared.parts.Principle.{Principle}
 use Rattle.xdg_problem.specs.declared.parts.Principle.TheVariants as principles
 use Rattle.xdg_problem.specs.Places.{nodes, places}
-use Rattle.xdg_problem.specs.Paths.{edges_on}
+use Rattle.xdg_problem.specs.Paths.{edges_on, edges_into, edges_out_of}
 use Rattle.xdg_problem.specs.Vectors.{attr_sizes, shape, first_place, entries_at, edges_in, chosen}
 use Rattle.xdg_problem.specs.Features.{in_row, out_row}
-use Rattle.xdg_problem.specs.Relations.{edges_into, edges_out_of}
 use Rattle.xdg_problem.specs.Live.{IsLiveFor, Live}
 use Rattle.xdg_problem.specs.Problems.{IsProblem, IsGroup}
 use Rattle.xdg_problem.proofs.PlaceOrder.{is_place}

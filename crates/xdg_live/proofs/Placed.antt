@@ -12,7 +12,7 @@ use Rattle.xdg_problem.specs.Places.{nodes}
 use Rattle.xdg_problem.specs.Paths.{edges_on, Above, NoCycle, roots}
 use Rattle.xdg_problem.specs.Vectors.{edges_in}
 use Rattle.xdg_problem.specs.Features.{in_row, out_row}
-use Rattle.xdg_problem.specs.Relations.{first_dim, label_count}
+use Rattle.xdg_problem.specs.Arguments.{first_dim, label_count}
 use Rattle.xdg_problem.specs.Tests.{Test, IsTest, Passes, Counts, entry_node, looks_at, out_count, in_count, one_mother, no_cycle, one_root}
 use Rattle.xdg_problem.specs.Live.{open_places, EntryStands, entry_in, Stands, IsLiveFor}
 use Rattle.xdg_problem.proofs.Shortening.{reads_same}

@@ -6,9 +6,9 @@ use Rattle.xdg_problem.specs.declared.parts.Parts.{Parts}
 use Rattle.xdg_problem.specs.declared.parts.Principle.{Principle}
 use Rattle.xdg_problem.specs.declared.parts.Principle.TheVariants as principles
 use Rattle.xdg_problem.specs.Places.{nodes}
-use Rattle.xdg_problem.specs.Paths.{edges_on, Above, mothers, roots}
+use Rattle.xdg_problem.specs.Paths.{edges_on, Above, mothers, roots, edges_into, edges_out_of}
 use Rattle.xdg_problem.specs.Features.{in_row, out_row, IsWithin}
-use Rattle.xdg_problem.specs.Relations.{first_dim, label_count, edges_into, edges_out_of}
+use Rattle.xdg_problem.specs.Arguments.{first_dim, label_count}
 
 -- a dimension has a plan with edges
 abbrev pub graph_of : Parts → ℕ → Bool

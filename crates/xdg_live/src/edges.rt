@@ -2,8 +2,7 @@
 
 ghost use Rattle.std.specs.Prelude.{◌≡◌, ℕ, ◌+◌, ◌<◌, ◌≤◌, ◌==◌, ◌&&◌, length};
 ghost use Rattle.std.specs.List.{list_any};
-ghost use Rattle.xdg_problem.specs.Paths.{edges_on, mothers, roots};
-ghost use Rattle.xdg_problem.specs.Relations.{edges_into, edges_out_of};
+ghost use Rattle.xdg_problem.specs.Paths.{edges_on, mothers, roots, edges_into, edges_out_of};
 
 use xdg_problem::Edge;
 

@@ -3,9 +3,9 @@
 ghost use Rattle.std.specs.Vec.{vec_capacity, vec_len};
 ghost use Rattle.std.specs.Prelude.{◌≡◌, ◌↔◌, ◌⊎◌, ◌<◌, ◌≤◌, ◌++◌, ◌∷◌, ◌==◌, [], true, false, cond, ℕ, length, All, Contains, IsTrue};
 ghost use Rattle.xdg_problem.specs.Places.{nodes};
-ghost use Rattle.xdg_problem.specs.Paths.{edges_on};
+ghost use Rattle.xdg_problem.specs.Paths.{edges_on, edges_into, edges_out_of};
 ghost use Rattle.xdg_problem.specs.Features.{in_row, out_row};
-ghost use Rattle.xdg_problem.specs.Relations.{first_dim, label_count, edges_into, edges_out_of};
+ghost use Rattle.xdg_problem.specs.Arguments.{first_dim, label_count};
 ghost use Rattle.xdg_live.specs.Reached.{AreWithin};
 ghost use Rattle.xdg_live.specs.Steps.{has_places, IsLastOther, MayCount, ValencyStep, TreeStep, PlaceStep, LonelyEntry, EntryStep};
 

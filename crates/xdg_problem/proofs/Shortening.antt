@@ -1,17 +1,16 @@
 -- A test whose decisions all stand in a prefix reads the same in whatever continues it.
-use Rattle.std.proofs.Common.{◌≡◌, ℕ, ◌+◌, ◌-◌, ◌↔◌, Bool, true, false, cond, List, [], ◌∷◌, ◌++◌, length, drop, refl, sym, ap, ◌∙◌, subst, arith, zero, suc, Option, Some, None, length-append, length-drop}
+use Rattle.std.proofs.Common.{◌≡◌, ℕ, ◌+◌, ◌-◌, ◌↔◌, Bool, true, false, cond, List, [], ◌∷◌, ◌++◌, length, drop, map, refl, sym, ap, ap₂, ◌∙◌, subst, arith, zero, suc, Option, Some, None, length-append, length-drop}
 use Rattle.std.specs.Prelude.{filter, All, ◌==◌}
 use Rattle.std.proofs.lemmas.List.{drop-drop, get_or_append_left}
-use Rattle.std.proofs.lemmas.List.Elements.{All-head, All-tail, All-drop}
+use Rattle.std.proofs.lemmas.List.Elements.{All-head, All-tail, All-drop, All-weaker}
 use Rattle.xdg_listing.specs.Closed.{Closed}
 use Rattle.xdg_problem.specs.declared.analysis.Edge.{Edge}
 use Rattle.xdg_problem.specs.declared.parts.Group.{Group}
 use Rattle.xdg_problem.specs.declared.parts.Parts.{Parts}
 use Rattle.xdg_problem.specs.Places.{nodes, places}
 use Rattle.xdg_problem.specs.Vectors.{first_place, edges_in, chosen}
-use Rattle.xdg_problem.specs.Relations.{first_dim}
-use Rattle.xdg_problem.specs.Tests.{Test, looks_at, entry_node, Passes}
-use Rattle.xdg_problem.specs.Live.{open_places, EntryStands, entry_in, Stands, Holds, Live}
+use Rattle.xdg_problem.specs.Tests.{Test, looks_at, entry_node, test_attrs, Passes}
+use Rattle.xdg_problem.specs.Live.{open_places, EntryStands, entry_in, AttrStands, attr_in, Stands, Holds, Live}
 
 drop_joined : (n : ℕ) (xs ys : List ℕ) → drop n (xs ++ ys) ≡ drop n xs ++ drop (n - length xs) ys
 drop_joined zero xs ys = let e : 0 - length xs ≡ 0 = omega arith in rw e refl
@@ -60,18 +59,32 @@ entry_same : (node : Option ℕ) (p t : List ℕ) → EntryStands node p → ent
 entry_same None p t stands = refl
 entry_same (Some node) p t stands = get_or_append_left p t 0 node stands
 
+attrs_stand : (parts : Parts) (p t places : List ℕ) → All (AttrStands parts p) places → All (AttrStands parts (p ++ t)) places
+attrs_stand parts p t places stand = All-weaker (AttrStands parts p) (AttrStands parts (p ++ t)) (λ place stands. omega (arith, stands, length-append p t)) places stand
+
+-- the values at places that stand in a prefix are the same in whatever continues it
+pub attrs_same : (parts : Parts) (p t places : List ℕ) → All (AttrStands parts p) places → map (attr_in parts (p ++ t)) places ≡ map (attr_in parts p) places
+attrs_same parts p t [] stand = refl
+attrs_same parts p t (place ∷ places) stand = ap₂ (λ z zs. z ∷ zs) (get_or_append_left p t 0 (length parts.candidates + place) (All-head (AttrStands parts p) place places stand)) (attrs_same parts p t places (All-tail (AttrStands parts p) place places stand))
+
 pub stands_longer : (parts : Parts) (group : Group) (test : Test) (p t : List ℕ) → Stands parts group test p → Stands parts group test (p ++ t)
 stands_longer parts group test p t stands = record {
   entry = entry_stands (entry_node test) p t stands.entry;
-  edges = open_less parts (λ place. looks_at (first_dim group) test place ≡ false) p t stands.edges;
+  attrs = attrs_stand parts p t (test_attrs parts group test) stands.attrs;
+  edges = open_less parts (λ place. looks_at group test place ≡ false) p t stands.edges;
 }
+
+-- a test says the same of what is equal
+pub passes_like : (n : ℕ) (group : Group) (test : Test) (c d : ℕ) (vs ws : List ℕ) (es fs : List Edge) → c ≡ d → vs ≡ ws → es ≡ fs → Passes n group test c vs es → Passes n group test d ws fs
+passes_like n group test c d vs ws es fs entry values edges passes = subst (λ x. Passes n group test x ws fs) entry (subst (λ x. Passes n group test c x fs) values (subst (Passes n group test c vs) edges passes))
 
 pub reads_same : (parts : Parts) (group : Group) (test : Test) (p t : List ℕ) → Stands parts group test p → Holds parts group test p ↔ Holds parts group test (p ++ t)
 reads_same parts group test p t stands =
     let entry = entry_same (entry_node test) p t stands.entry in
-    let edges = edges_same parts (looks_at (first_dim group) test) p t stands.edges in (
-      λ h. subst (λ c. Passes (nodes parts) group test c (filter (looks_at (first_dim group) test) (edges_in parts (p ++ t)))) (sym entry) (subst (Passes (nodes parts) group test (entry_in (entry_node test) p)) (sym edges) h),
-      λ h. subst (Passes (nodes parts) group test (entry_in (entry_node test) p)) edges (subst (λ c. Passes (nodes parts) group test c (filter (looks_at (first_dim group) test) (edges_in parts (p ++ t)))) entry h),
+    let values = attrs_same parts p t (test_attrs parts group test) stands.attrs in
+    let edges = edges_same parts (looks_at group test) p t stands.edges in (
+      passes_like (nodes parts) group test _ _ _ _ _ _ (sym entry) (sym values) (sym edges),
+      passes_like (nodes parts) group test _ _ _ _ _ _ entry values edges,
     )
 
 -- each front of a live prefix is live

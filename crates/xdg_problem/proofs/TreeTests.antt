@@ -1,16 +1,23 @@
--- On a whole vector all tests of the tree principle together are its relation.
-use Rattle.std.proofs.Common.{◌≡◌, ℕ, ◌<◌, ◌≤◌, ◌-◌, ◌↔◌, Bool, true, false, ◌&&◌, List, length, refl, ap, ◌∙◌, subst, arith}
+-- On a whole vector the tests of mothers, cycles, roots and labels are the conditions of tree and dag.
+use Rattle.std.proofs.Common.{◌≡◌, ℕ, ◌<◌, ◌≤◌, ◌-◌, ◌↔◌, Bool, true, false, ◌&&◌, List, [], ◌∷◌, length, refl, sym, ap, ◌∙◌, subst, arith}
 use Rattle.std.specs.Prelude.{filter, All, Contains, ◌==◌, nat_le}
 use Rattle.std.proofs.lemmas.Bool.{and_parts, le-leb}
-use Rattle.std.proofs.lemmas.List.Elements.{All-weaker}
+use Rattle.std.proofs.lemmas.List.Elements.{All-weaker, All-contains, All-filter}
 use Rattle.xdg_problem.specs.declared.analysis.Edge.{Edge}
+use Rattle.xdg_problem.specs.declared.conditions.Condition.TheVariants as conditions
 use Rattle.xdg_problem.specs.declared.parts.Group.{Group}
-use Rattle.xdg_problem.specs.declared.parts.Principle.TheVariants as principles
-use Rattle.xdg_problem.specs.Paths.{edges_on, NoCycle, mothers}
-use Rattle.xdg_problem.specs.Relations.{first_dim, IsTree}
-use Rattle.xdg_problem.specs.Tests.{out_count, in_count, one_mother, no_cycle, one_root, looks_at}
+use Rattle.xdg_problem.specs.declared.parts.Parts.{Parts}
+use Rattle.xdg_problem.specs.Places.{nodes}
+use Rattle.xdg_problem.specs.Paths.{edges_on, edges_joining, Leads, Above, NoCycle, mothers}
+use Rattle.xdg_problem.specs.Arguments.{first_dim, second_dim, label_count}
+use Rattle.xdg_problem.specs.Asking.{first, Asks}
+use Rattle.xdg_problem.specs.Relations.{IsKept, IsTree}
+use Rattle.xdg_problem.specs.Tests.{one_mother, no_cycle, one_root, one_label, looks_first, looks_second, looks_at}
 use Rattle.xdg_problem.proofs.FilterFacts.{count_of_filter, filter_alike, filter_fewer, filter_among}
-use Rattle.xdg_problem.proofs.Passing.{PassesAll}
+use Rattle.xdg_problem.proofs.Looking.{and_3, count_same}
+use Rattle.xdg_problem.proofs.Tuples.{tuples_1, pairs}
+use Rattle.xdg_problem.proofs.Passing.{PassesAt}
+use Rattle.xdg_problem.proofs.EachTest.{EachNode, EachPair}
 
 -- among fewer edges there is no cycle either
 pub no_cycle_fewer : (few many : List Edge) → ((e : Edge) → Contains few e → Contains many e) → NoCycle many → NoCycle few
@@ -25,40 +32,86 @@ pub and_true : (a t : Bool) → t ≡ true → (a && t) ≡ a
 and_true true t e = e
 and_true false t e = refl
 
+starts_within : (n : ℕ) (edges path : List Edge) (u v : ℕ) → All (λ e. e.mother.0 < n) edges → 0 < length path → All (Contains edges) path → Leads u path v → u < n
+starts_within n edges [] u v within some along leads = absurd (omega (arith, some))
+starts_within n edges (e ∷ path) u v within some along leads = subst (λ w. w < n) leads.0 (All-contains (λ e. e.mother.0 < n) edges e within (along 0 e (omega arith)))
+
+-- what is above another node is a node
+pub above_within : (n : ℕ) (edges : List Edge) (u v : ℕ) → All (λ e. e.mother.0 < n) edges → Above edges u v → u < n
+above_within n edges u v within above = starts_within n edges above.path u v within above.some above.along above.leads
+
 module _ (n : ℕ) (dim : ℕ) (edges : List Edge) where
   -- the last test of mothers looks at all edges into the node
-  mothers_last : 0 < n → All (λ e. e.mother.0 < n) edges → (v : ℕ) → length (filter (looks_at dim (one_mother v (n - 1))) edges) ≡ mothers (edges_on dim edges) v
+  mothers_last : 0 < n → All (λ e. e.mother.0 < n) edges → (v : ℕ) → length (filter (looks_first dim (one_mother v (n - 1))) edges) ≡ mothers (edges_on dim edges) v
   mothers_last some within v =
-      ap length (filter_alike (looks_at dim (one_mother v (n - 1))) (λ e. (e.dim.0 == dim) && (e.daughter.0 == v)) edges (All-weaker (λ e. e.mother.0 < n) (λ e. looks_at dim (one_mother v (n - 1)) e ≡ ((e.dim.0 == dim) && (e.daughter.0 == v))) (λ e below. and_true ((e.dim.0 == dim) && (e.daughter.0 == v)) (nat_le e.mother.0 (n - 1)) (le-leb e.mother.0 (n - 1) (omega arith))) edges within)) ∙ count_of_filter (λ e. e.daughter.0 == v) (λ e. e.dim.0 == dim) edges
+      ap length (filter_alike (looks_first dim (one_mother v (n - 1))) (λ e. (e.dim.0 == dim) && (e.daughter.0 == v)) edges (All-weaker (λ e. e.mother.0 < n) (λ e. looks_first dim (one_mother v (n - 1)) e ≡ ((e.dim.0 == dim) && (e.daughter.0 == v))) (λ e below. and_true ((e.dim.0 == dim) && (e.daughter.0 == v)) (nat_le e.mother.0 (n - 1)) (le-leb e.mother.0 (n - 1) (omega arith))) edges within)) ∙ count_of_filter (λ e. e.daughter.0 == v) (λ e. e.dim.0 == dim) edges
 
-  mothers_part : (v k : ℕ) → length (filter (looks_at dim (one_mother v k)) edges) ≤ mothers (edges_on dim edges) v
+  mothers_part : (v k : ℕ) → length (filter (looks_first dim (one_mother v k)) edges) ≤ mothers (edges_on dim edges) v
   mothers_part v k =
-      let fewer = filter_fewer (looks_at dim (one_mother v k)) (λ e. (e.dim.0 == dim) && (e.daughter.0 == v)) edges (λ e looks. (and_parts ((e.dim.0 == dim) && (e.daughter.0 == v)) (nat_le e.mother.0 k) looks).0) in
-      subst (λ m. length (filter (looks_at dim (one_mother v k)) edges) ≤ m) (count_of_filter (λ e. e.daughter.0 == v) (λ e. e.dim.0 == dim) edges) fewer
+      let fewer = filter_fewer (looks_first dim (one_mother v k)) (λ e. (e.dim.0 == dim) && (e.daughter.0 == v)) edges (λ e looks. (and_parts ((e.dim.0 == dim) && (e.daughter.0 == v)) (nat_le e.mother.0 k) looks).0) in
+      subst (λ m. length (filter (looks_first dim (one_mother v k)) edges) ≤ m) (count_of_filter (λ e. e.daughter.0 == v) (λ e. e.dim.0 == dim) edges) fewer
 
   -- the last test of cycles looks at all edges of the dimension
-  cycle_last : 0 < n → All (λ e. e.mother.0 < n) edges → filter (looks_at dim (no_cycle (n - 1))) edges ≡ edges_on dim edges
-  cycle_last some within = filter_alike (looks_at dim (no_cycle (n - 1))) (λ e. e.dim.0 == dim) edges (All-weaker (λ e. e.mother.0 < n) (λ e. looks_at dim (no_cycle (n - 1)) e ≡ (e.dim.0 == dim)) (λ e below. and_true (e.dim.0 == dim) (nat_le e.mother.0 (n - 1)) (le-leb e.mother.0 (n - 1) (omega arith))) edges within)
+  cycle_last : 0 < n → All (λ e. e.mother.0 < n) edges → filter (looks_first dim (no_cycle (n - 1))) edges ≡ edges_on dim edges
+  cycle_last some within = filter_alike (looks_first dim (no_cycle (n - 1))) (λ e. e.dim.0 == dim) edges (All-weaker (λ e. e.mother.0 < n) (λ e. looks_first dim (no_cycle (n - 1)) e ≡ (e.dim.0 == dim)) (λ e below. and_true (e.dim.0 == dim) (nat_le e.mother.0 (n - 1)) (le-leb e.mother.0 (n - 1) (omega arith))) edges within)
 
-  cycle_part : (k : ℕ) (e : Edge) → Contains (filter (looks_at dim (no_cycle k)) edges) e → Contains (edges_on dim edges) e
-  cycle_part k e c = filter_among (looks_at dim (no_cycle k)) (λ x. x.dim.0 == dim) edges (λ x looks. (and_parts (x.dim.0 == dim) (nat_le x.mother.0 k) looks).0) e c
+  cycle_part : (k : ℕ) (e : Edge) → Contains (filter (looks_first dim (no_cycle k)) edges) e → Contains (edges_on dim edges) e
+  cycle_part k e c = filter_among (looks_first dim (no_cycle k)) (λ x. x.dim.0 == dim) edges (λ x looks. (and_parts (x.dim.0 == dim) (nat_le x.mother.0 k) looks).0) e c
 
-tree_passes : (n labels : ℕ) (group : Group) (candidates : List ℕ) (edges : List Edge) → IsTree n (edges_on (first_dim group) edges) → PassesAll principles.Tree n labels group candidates edges
-tree_passes n labels group candidates edges tree (out_count v l k) is = absurd is
-tree_passes n labels group candidates edges tree (in_count v l k) is = absurd is
-tree_passes n labels group candidates edges tree (one_mother v k) is =
-    let most = tree.mothers_most v is.0 in
-    let part = mothers_part n (first_dim group) edges v k in
-    omega arith
-tree_passes n labels group candidates edges tree (no_cycle k) is = no_cycle_fewer (filter (looks_at (first_dim group) (no_cycle k)) edges) (edges_on (first_dim group) edges) (cycle_part n (first_dim group) edges k) tree.cycle
-tree_passes n labels group candidates edges tree one_root is = tree.roots_one
+module _ (parts : Parts) (group : Group) (candidates attrs : List ℕ) (edges : List Edge) (some : 0 < nodes parts) (within : All (λ e. e.mother.0 < nodes parts) edges) where
+  abbrev n : ℕ
+  n = nodes parts
 
-pub tree_tests : (n labels : ℕ) (group : Group) (candidates : List ℕ) (edges : List Edge) → 0 < n → All (λ e. e.mother.0 < n) edges → PassesAll principles.Tree n labels group candidates edges ↔ IsTree n (edges_on (first_dim group) edges)
-tree_tests n labels group candidates edges some within = (
-  λ passes. record {
-    cycle = subst NoCycle (cycle_last n (first_dim group) edges some within) (passes (no_cycle (n - 1)) (omega arith));
-    roots_one = passes one_root tt;
-    mothers_most = λ v below. subst (λ m. m ≤ 1) (mothers_last n (first_dim group) edges some within v) (passes (one_mother v (n - 1)) (below, omega arith));
-  },
-  tree_passes n labels group candidates edges,
-)
+  abbrev on : List Edge
+  on = edges_on (first_dim group) edges
+
+  on_within : All (λ e. e.mother.0 < n) on
+  on_within = All-filter (λ e. e.dim.0 == first_dim group) (λ e. e.mother.0 < n) edges within
+
+  -- what is above itself is a node, so it is enough that no node is
+  no_cycle_kept : NoCycle on ↔ IsKept parts group candidates attrs edges conditions.Cycle
+  no_cycle_kept = (
+    λ none tuple is. none (first tuple),
+    λ kept v above. kept (v ∷ []) (above_within n on v v on_within above, tt) above,
+  )
+
+  pub cycle_tests : EachNode group.truths n (label_count parts (first_dim group)) (PassesAt parts group candidates attrs edges) no_cycle ↔ IsKept parts group candidates attrs edges conditions.Cycle
+  cycle_tests = (
+    λ passes. no_cycle_kept.0 (subst NoCycle (cycle_last n (first_dim group) edges some within) (passes (n - 1) (omega (arith, some)))),
+    λ kept k below. no_cycle_fewer (filter (looks_first (first_dim group) (no_cycle k)) edges) on (cycle_part n (first_dim group) edges k) (no_cycle_kept.1 kept),
+  )
+
+  pub root_tests : PassesAt parts group candidates attrs edges one_root ↔ IsKept parts group candidates attrs edges conditions.Roots
+  root_tests = (
+    λ passes tuple is. ap first is ∙ passes,
+    λ kept. kept (_ ∷ []) refl,
+  )
+
+  pub mother_tests : EachPair group.truths n (label_count parts (first_dim group)) (PassesAt parts group candidates attrs edges) one_mother ↔ IsKept parts group candidates attrs edges conditions.Mothers
+  mother_tests = (
+    λ passes. tuples_1 (Asks conditions.Mothers parts group candidates attrs edges) n (λ v below. subst (λ m. m ≤ 1) (mothers_last n (first_dim group) edges some within v) (passes v below (n - 1) (omega (arith, some)))),
+    λ kept v below k last. (let most : mothers on v ≤ 1 = kept (v ∷ []) (below, tt) in let part = mothers_part n (first_dim group) edges v k in omega (arith, most, part)),
+  )
+
+  pub pair_tests : EachPair group.truths n (label_count parts (first_dim group)) (PassesAt parts group candidates attrs edges) one_label ↔ IsKept parts group candidates attrs edges conditions.Pair
+  pair_tests = pairs (Asks conditions.Pair parts group candidates attrs edges) (λ u v. PassesAt parts group candidates attrs edges (one_label u v)) n n (λ u v.
+      let same = count_same (looks_at group (one_label u v)) (first_dim group) edges (λ e. (e.mother.0 == u) && (e.daughter.0 == v)) (λ e looks.
+      let outer = and_parts (e.dim.0 == first_dim group) ((e.mother.0 == u) && (e.daughter.0 == v)) looks in
+      let inner = and_parts (e.mother.0 == u) (e.daughter.0 == v) outer.1 in
+      and_3 (e.dim.0 == first_dim group) (e.mother.0 == u) (e.daughter.0 == v) outer.0 inner.0 inner.1) in
+      (subst (λ m. m ≤ 1) same, subst (λ m. m ≤ 1) (sym same)))
+
+  -- the conditions of tree say that the edges of the dimension make one
+  pub tree_conditions : (IsKept parts group candidates attrs edges conditions.Cycle × IsKept parts group candidates attrs edges conditions.Roots × IsKept parts group candidates attrs edges conditions.Mothers) ↔ IsTree n on
+  tree_conditions = (
+    λ kept. record {
+      cycle = no_cycle_kept.1 kept.0;
+      roots_one = kept.1 (_ ∷ []) refl;
+      mothers_most = λ v below. kept.2 (v ∷ []) (below, tt);
+    },
+    λ tree. (
+      no_cycle_kept.0 tree.cycle,
+      λ tuple is. ap first is ∙ tree.roots_one,
+      tuples_1 (Asks conditions.Mothers parts group candidates attrs edges) n tree.mothers_most,
+    ),
+  )

@@ -1,8 +1,8 @@
 -- A whole vector is live exactly where its analysis satisfies each principle use.
-use Rattle.std.proofs.Common.{◌≡◌, ℕ, ◌<◌, ◌≤◌, ◌-◌, ◌↔◌, false, List, [], length, sym, ap, ◌∙◌, subst, arith}
-use Rattle.std.specs.Prelude.{All, Contains, slice_index}
-use Rattle.std.proofs.lemmas.List.{drop_all, get_or-take}
-use Rattle.std.proofs.lemmas.List.Elements.{All-nil, All-weaker}
+use Rattle.std.proofs.Common.{◌≡◌, ℕ, ◌<◌, ◌≤◌, ◌+◌, ◌-◌, ◌↔◌, Bool, false, List, [], ◌∷◌, length, take, drop, map, refl, sym, ap, ap₂, ◌∙◌, subst, arith, Option, Some, None}
+use Rattle.std.specs.Prelude.{All, slice_index}
+use Rattle.std.proofs.lemmas.List.{drop_all, get_or-take, get_or-drop}
+use Rattle.std.proofs.lemmas.List.Elements.{All-nil, All-head, All-tail, All-weaker}
 use Rattle.xdg_listing.specs.Fits.{Fits}
 use Rattle.xdg_problem.specs.declared.analysis.Edge.{Edge}
 use Rattle.xdg_problem.specs.declared.parts.Group.{Group}
@@ -10,68 +10,54 @@ use Rattle.xdg_problem.specs.declared.parts.Parts.{Parts}
 use Rattle.xdg_problem.specs.declared.parts.Principle.{Principle}
 use Rattle.xdg_problem.specs.declared.parts.Principle.TheVariants as principles
 use Rattle.xdg_problem.specs.Places.{nodes, places}
-use Rattle.xdg_problem.specs.Vectors.{shape, first_place, entry_places, entries_at, edges_in, analysis_of}
+use Rattle.xdg_problem.specs.Vectors.{attr_sizes, shape, first_place, entry_places, entries_at, edges_in, analysis_of}
 use Rattle.xdg_problem.specs.Analyses.{IsPlace}
-use Rattle.xdg_problem.specs.Paths.{edges_on}
-use Rattle.xdg_problem.specs.Features.{in_row, out_row}
-use Rattle.xdg_problem.specs.Relations.{first_dim, label_count, edges_into, edges_out_of, IsValent, RelationOf, Relation}
-use Rattle.xdg_problem.specs.Problems.{IsProblem}
-use Rattle.xdg_problem.specs.Tests.{Test, IsTest, out_count, in_count, one_mother, no_cycle, one_root, looks_at, entry_node}
-use Rattle.xdg_problem.specs.Live.{open_places, EntryStands, Stands, IsLiveFor, Live}
+use Rattle.xdg_problem.specs.Arguments.{first_dim, label_count}
+use Rattle.xdg_problem.specs.Relations.{Relation}
+use Rattle.xdg_problem.specs.Problems.{IsProblem, IsGroup}
+use Rattle.xdg_problem.specs.Tests.{Test, IsTest, looks_at, entry_node, test_attrs, Passes}
+use Rattle.xdg_problem.specs.Live.{open_places, EntryStands, entry_in, AttrStands, attr_in, Stands, Holds, IsLiveFor, Live}
 use Rattle.xdg_problem.proofs.VectorFacts.{length_shape, entries_back, analysis_fits}
-use Rattle.xdg_problem.proofs.Passing.{PassesAll}
-use Rattle.xdg_problem.proofs.TreeTests.{tree_tests}
-use Rattle.xdg_problem.proofs.ValencyTests.{valency_tests}
+use Rattle.xdg_problem.proofs.Shortening.{passes_like}
+use Rattle.xdg_problem.proofs.Passing.{PassesAt}
+use Rattle.xdg_problem.proofs.EachTest.{Each, each_tested, tested_each}
+use Rattle.xdg_problem.proofs.AttrPlaces.{AreWithin, each_within}
+use Rattle.xdg_problem.proofs.KeptTests.{kept_tests}
 
 -- the node whose entry a test looks at is a node
-entry_stands : (principle : Principle) (n labels : ℕ) (test : Test) (x : List ℕ) → IsTest principle n labels test → n ≤ length x → EntryStands (entry_node test) x
-entry_stands principles.Graph n labels test x is long = absurd is
-entry_stands principles.Entries n labels test x is long = absurd is
-entry_stands principles.Tree n labels (out_count v l k) x is long = absurd is
-entry_stands principles.Tree n labels (in_count v l k) x is long = absurd is
-entry_stands principles.Tree n labels (one_mother v k) x is long = tt
-entry_stands principles.Tree n labels (no_cycle k) x is long = tt
-entry_stands principles.Tree n labels one_root x is long = tt
-entry_stands principles.Valency n labels (out_count v l k) x is long = (let below : v < n = is.0 in omega arith)
-entry_stands principles.Valency n labels (in_count v l k) x is long = (let below : v < n = is.0 in omega arith)
-entry_stands principles.Valency n labels (one_mother v k) x is long = absurd is
-entry_stands principles.Valency n labels (no_cycle k) x is long = absurd is
-entry_stands principles.Valency n labels one_root x is long = absurd is
+abbrev IsNode : ℕ → Option ℕ → Type 0
+IsNode n None = Unit {0}
+IsNode n (Some node) = node < n
 
--- all decisions stand in a whole vector
-pub whole_stands : (parts : Parts) (group : Group) (test : Test) (x : List ℕ) → length parts.candidates ≡ nodes parts → length x ≡ length (shape parts) → IsTest group.principle (nodes parts) (label_count parts (first_dim group)) test → Stands parts group test x
-whole_stands parts group test x each whole is =
-    let long = length_shape parts in
-    let none : open_places parts x ≡ [] = drop_all (length x - first_place parts) (places parts) (omega arith) in
-    record {
-      entry = entry_stands group.principle (nodes parts) (label_count parts (first_dim group)) test x is (omega arith);
-      edges = subst (All (λ place. looks_at (first_dim group) test place ≡ false)) (sym none) (All-nil (λ place. looks_at (first_dim group) test place ≡ false));
-    }
+each_node : (truths : List Bool) (n labels : ℕ) (principle : Principle) → Each truths n labels (λ test. IsNode n (entry_node test)) principle
+each_node truths n labels principles.Graph = tt
+each_node truths n labels principles.Entries = tt
+each_node truths n labels principles.Tree = (λ v a k b. tt, λ k a. tt, tt)
+each_node truths n labels principles.Dag = (λ k a. tt, λ e. tt, λ e u a v b. tt)
+each_node truths n labels principles.Valency = (λ v a l b k c. a, λ v a l b k c. a)
+each_node truths n labels principles.Order = (λ e u a. tt, λ e u a. tt)
+each_node truths n labels principles.Projectivity = λ u a v b. tt
+each_node truths n labels principles.Agr = λ v a. a
+each_node truths n labels principles.Climbing = λ u a v b. tt
+each_node truths n labels principles.Barriers = λ w a v b. a
+each_node truths n labels principle = λ u a l b v c. a
 
-module _ (parts : Parts) (group : Group) (x candidates : List ℕ) (same : (v : ℕ) → v < nodes parts → slice_index x v ≡ slice_index candidates v) (edges : List Edge) where
-  valent_to : IsValent parts group x edges → IsValent parts group candidates edges
-  valent_to valent = record {
-    into = λ v l node label. subst (λ candidate. Contains (in_row group v candidate l) (edges_into edges v l)) (same v node) (valent.into v l node label);
-    out = λ v l node label. subst (λ candidate. Contains (out_row group v candidate l) (edges_out_of edges v l)) (same v node) (valent.out v l node label);
-  }
+entry_stands : (n : ℕ) (node : Option ℕ) (x : List ℕ) → IsNode n node → n ≤ length x → EntryStands node x
+entry_stands n None x is long = tt
+entry_stands n (Some node) x is long = omega (arith, is, long)
 
-  valent_from : IsValent parts group candidates edges → IsValent parts group x edges
-  valent_from valent = record {
-    into = λ v l node label. subst (λ candidate. Contains (in_row group v candidate l) (edges_into edges v l)) (sym (same v node)) (valent.into v l node label);
-    out = λ v l node label. subst (λ candidate. Contains (out_row group v candidate l) (edges_out_of edges v l)) (sym (same v node)) (valent.out v l node label);
-  }
+entry_like : (n : ℕ) (node : Option ℕ) (x candidates : List ℕ) → ((v : ℕ) → v < n → slice_index x v ≡ slice_index candidates v) → IsNode n node → entry_in node x ≡ entry_in node candidates
+entry_like n None x candidates same is = refl
+entry_like n (Some node) x candidates same is = same node is
 
-module _ (parts : Parts) (group : Group) (x candidates : List ℕ) (edges : List Edge) (some : 0 < nodes parts) (mothers : All (λ e. e.mother.0 < nodes parts) edges) (daughters : All (λ e. e.daughter.0 < nodes parts) edges) (same : (v : ℕ) → v < nodes parts → slice_index x v ≡ slice_index candidates v) where
-  -- all tests of a principle together are its relation
-  pub principle_tests : (principle : Principle) → PassesAll principle (nodes parts) (label_count parts (first_dim group)) group x edges ↔ RelationOf principle parts group candidates (edges_on (first_dim group) edges)
-  principle_tests principles.Graph = (λ passes. tt, λ relation test is. absurd is)
-  principle_tests principles.Entries = (λ passes. tt, λ relation test is. absurd is)
-  principle_tests principles.Tree = tree_tests (nodes parts) (label_count parts (first_dim group)) group x edges some mothers
-  principle_tests principles.Valency =
-      let both = valency_tests parts group x edges some mothers daughters in (
-        λ passes. valent_to parts group x candidates same (edges_on (first_dim group) edges) (both.0 passes),
-        λ valent. both.1 (valent_from parts group x candidates same (edges_on (first_dim group) edges) valent),
-      )
+attrs_like : (parts : Parts) (x places : List ℕ) → All (λ place. place < length (attr_sizes (nodes parts) parts.dims)) places → map (attr_in parts x) places ≡ map (slice_index (analysis_of parts x).attrs) places
+attrs_like parts x [] within = refl
+attrs_like parts x (place ∷ places) within =
+    let m : ℕ = length (attr_sizes (nodes parts) parts.dims) in
+    let here : place < m = All-head (λ place. place < m) place places within in
+    ap₂ (λ z zs. z ∷ zs)
+    (sym (get_or-take m (drop (length parts.candidates) x) place 0 here ∙ get_or-drop (length parts.candidates) x place 0))
+    (attrs_like parts x places (All-tail (λ place. place < m) place places within))
 
 module _ (parts : Parts) (x : List ℕ) (is : IsProblem parts) (fits : Fits (shape parts) x) (whole : length x ≡ length (shape parts)) where
   edges_placed : All (IsPlace parts) (edges_in parts x)
@@ -83,16 +69,43 @@ module _ (parts : Parts) (x : List ℕ) (is : IsProblem parts) (fits : Fits (sha
       let back = entries_back parts x is fits (omega (arith, length_shape parts)) in
       sym (ap (λ numbers. slice_index numbers v) back ∙ get_or-take (length parts.candidates) x v 0 (omega arith))
 
+  -- all decisions stand in a whole vector
+  pub whole_stands : (group : Group) → IsGroup parts group → (test : Test) → IsTest parts group test → Stands parts group test x
+  whole_stands group group_is test tested =
+      let each = is.candidates_each in
+      let long = length_shape parts in
+      let none : open_places parts x ≡ [] = drop_all (length x - first_place parts) (places parts) (omega arith) in
+      record {
+        entry = entry_stands (nodes parts) (entry_node test) x (each_tested group.truths (nodes parts) (label_count parts (first_dim group)) (λ t. IsNode (nodes parts) (entry_node t)) group.principle (each_node group.truths (nodes parts) (label_count parts (first_dim group)) group.principle) test tested) (omega arith);
+        attrs = All-weaker (λ place. place < length (attr_sizes (nodes parts) parts.dims)) (AttrStands parts x) (λ place within. omega (arith, within, long, whole)) (test_attrs parts group test)
+            (each_tested group.truths (nodes parts) (label_count parts (first_dim group)) (AreWithin parts group group_is) group.principle (each_within parts group group_is group.principle refl) test tested);
+        edges = subst (All (λ place. looks_at group test place ≡ false)) (sym none) (All-nil (λ place. looks_at group test place ≡ false));
+      }
+
+  -- what a test reads of a whole vector is what it reads of its analysis
+  whole_reads : (group : Group) → IsGroup parts group → (test : Test) → IsTest parts group test → Holds parts group test x ↔ PassesAt parts group (entry_places parts.candidates (entries_at parts.candidates x)) (analysis_of parts x).attrs (edges_in parts x) test
+  whole_reads group group_is test tested =
+      let entry = entry_like (nodes parts) (entry_node test) x (entry_places parts.candidates (entries_at parts.candidates x)) entry_same (each_tested group.truths (nodes parts) (label_count parts (first_dim group)) (λ t. IsNode (nodes parts) (entry_node t)) group.principle (each_node group.truths (nodes parts) (label_count parts (first_dim group)) group.principle) test tested) in
+      let values = attrs_like parts x (test_attrs parts group test) (each_tested group.truths (nodes parts) (label_count parts (first_dim group)) (AreWithin parts group group_is) group.principle (each_within parts group group_is group.principle refl) test tested) in (
+        passes_like (nodes parts) group test _ _ _ _ _ _ entry values refl,
+        passes_like (nodes parts) group test _ _ _ _ _ _ (sym entry) (sym values) refl,
+      )
+
   -- a whole vector is live for a principle use exactly where its analysis satisfies it
-  pub use_live : (group : Group) → IsLiveFor parts group x ↔ Relation parts group (analysis_of parts x)
-  use_live group =
-      let both = principle_tests parts group x (entry_places parts.candidates (entries_at parts.candidates x)) (edges_in parts x) is.some (All-weaker (IsPlace parts) (λ e. e.mother.0 < nodes parts) (λ e place. place.mother) (edges_in parts x) edges_placed) (All-weaker (IsPlace parts) (λ e. e.daughter.0 < nodes parts) (λ e place. place.daughter) (edges_in parts x) edges_placed) entry_same group.principle in (
-        λ live. both.0 (λ test tested. live test tested (whole_stands parts group test x is.candidates_each whole tested)),
-        λ relation test tested stands. both.1 relation test tested,
+  pub use_live : (group : Group) → IsGroup parts group → IsLiveFor parts group x ↔ Relation parts group (analysis_of parts x)
+  use_live group group_is =
+      let n : ℕ = nodes parts in
+      let labels : ℕ = label_count parts (first_dim group) in
+      let candidates : List ℕ = entry_places parts.candidates (entries_at parts.candidates x) in
+      let attrs : List ℕ = (analysis_of parts x).attrs in
+      let edges : List Edge = edges_in parts x in
+      let both = kept_tests parts group candidates attrs edges is.some (All-weaker (IsPlace parts) (λ e. e.mother.0 < nodes parts) (λ e place. place.mother) edges edges_placed) (All-weaker (IsPlace parts) (λ e. e.daughter.0 < nodes parts) (λ e place. place.daughter) edges edges_placed) group.principle refl in (
+        λ live. both.0 (tested_each group.truths n labels (PassesAt parts group candidates attrs edges) group.principle (λ test tested. (whole_reads group group_is test tested).0 (live test tested (whole_stands group group_is test tested)))),
+        λ relation test tested stands. (whole_reads group group_is test tested).1 (each_tested group.truths n labels (PassesAt parts group candidates attrs edges) group.principle (both.1 relation) test tested),
       )
 
   pub whole_live : Live parts x → All (λ group. Relation parts group (analysis_of parts x)) parts.groups
-  whole_live live = All-weaker (λ group. IsLiveFor parts group x) (λ group. Relation parts group (analysis_of parts x)) (λ group. (use_live group).0) parts.groups live
+  whole_live live k d within = (use_live _ (is.groups k d within)).0 (live k d within)
 
   pub relations_live : All (λ group. Relation parts group (analysis_of parts x)) parts.groups → Live parts x
-  relations_live relations = All-weaker (λ group. Relation parts group (analysis_of parts x)) (λ group. IsLiveFor parts group x) (λ group. (use_live group).1) parts.groups relations
+  relations_live relations k d within = (use_live _ (is.groups k d within)).1 (relations k d within)

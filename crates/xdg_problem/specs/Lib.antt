@@ -9,6 +9,9 @@ pub mod EntryNumbers
 pub mod OneToOne
 pub mod Paths
 pub mod Features
+pub mod Arguments
+pub mod Conditions
+pub mod Asking
 pub mod Relations
 pub mod Tests
 pub mod Live

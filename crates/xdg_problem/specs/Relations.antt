@@ -1,35 +1,41 @@
--- What each principle asks of an analysis.
-use Rattle.std.specs.Prelude.{◌≡◌, ℕ, ◌<◌, ◌≤◌, ◌==◌, ◌&&◌, false, List, [], length, slice_index, slice_index_or, Contains, count_by}
-use Rattle.xdg_problem.specs.declared.analysis.Edge.{Edge}
+-- What each principle use asks of an analysis.
+use Rattle.std.specs.Prelude.{◌≡◌, ℕ, ◌<◌, ◌≤◌, List, length, slice_index, slice_index_or, All, Contains}
+use Rattle.xdg_listing.specs.Order.{AtMost}
 use Rattle.xdg_problem.specs.declared.analysis.Analysis.{Analysis}
-use Rattle.xdg_problem.specs.declared.parts.DimPlan.{DimPlan}
+use Rattle.xdg_problem.specs.declared.analysis.Edge.{Edge}
+use Rattle.xdg_problem.specs.declared.conditions.Condition.{Condition}
 use Rattle.xdg_problem.specs.declared.parts.Group.{Group}
 use Rattle.xdg_problem.specs.declared.parts.Parts.{Parts}
-use Rattle.xdg_problem.specs.declared.parts.Principle.{Principle}
-use Rattle.xdg_problem.specs.declared.parts.Principle.TheVariants as principles
 use Rattle.xdg_problem.specs.Places.{nodes}
 use Rattle.xdg_problem.specs.Vectors.{entry_places}
-use Rattle.xdg_problem.specs.Paths.{edges_on, NoCycle, mothers, roots}
+use Rattle.xdg_problem.specs.Paths.{edges_on, edges_into, edges_out_of, NoCycle, mothers, roots}
 use Rattle.xdg_problem.specs.Features.{in_row, out_row}
+use Rattle.xdg_problem.specs.Arguments.{first_dim, label_count}
+use Rattle.xdg_problem.specs.Conditions.{conditions_of, IsTuple}
+use Rattle.xdg_problem.specs.Asking.{Asks}
 
--- the dimension that the principle's first dimension argument names
-abbrev pub first_dim : Group → ℕ
-first_dim group = (slice_index_or group.dims 0 (record { 0 = 0 })).0
+-- a condition holds: what it asks holds of each tuple in its range
+abbrev pub IsKept : Parts → Group → List ℕ → List ℕ → List Edge → Condition → Type 0
+IsKept parts group candidates attrs edges condition = (tuple : List ℕ) → IsTuple condition parts group edges tuple → Asks condition parts group candidates attrs edges tuple
 
-abbrev no_plan : DimPlan
-no_plan = record { name = []; labels = []; attrs = []; graph = false }
+-- an analysis satisfies one use of a principle: each of its conditions holds
+abbrev pub Relation : Parts → Group → Analysis → Type 0
+Relation parts group analysis = All (IsKept parts group (entry_places parts.candidates analysis.entries) analysis.attrs analysis.edges) (conditions_of group)
 
--- how many labels a dimension has
-abbrev pub label_count : Parts → ℕ → ℕ
-label_count parts dim = length (slice_index_or parts.dims dim no_plan).labels
+-- a tuple in the range of a condition breaks it
+pub record Breaks (parts : Parts) (group : Group) (analysis : Analysis) (condition : Condition) (tuple : List ℕ) : Type 0 where
+  pub within : IsTuple condition parts group analysis.edges tuple
+  pub fails : Asks condition parts group (entry_places parts.candidates analysis.entries) analysis.attrs analysis.edges tuple → ⊥
 
--- the number of edges with a label into a node
-abbrev pub edges_into : List Edge → ℕ → ℕ → ℕ
-edges_into edges node label = count_by (λ e. (e.daughter.0 == node) && (e.label.0 == label)) edges
-
--- the number of edges with a label out of a node
-abbrev pub edges_out_of : List Edge → ℕ → ℕ → ℕ
-edges_out_of edges node label = count_by (λ e. (e.mother.0 == node) && (e.label.0 == label)) edges
+-- What a verdict names: the first condition of the principle use that is broken, and the least tuple that breaks it,
+-- compared item by item.
+pub record IsFirstBroken (parts : Parts) (group : Group) (analysis : Analysis) (condition : Condition) (tuple : List ℕ) : Type 0 where
+  pub place : ℕ
+  pub within : place < length (conditions_of group)
+  pub is : slice_index_or (conditions_of group) place condition ≡ condition
+  pub before : (earlier : ℕ) → earlier < place → IsKept parts group (entry_places parts.candidates analysis.entries) analysis.attrs analysis.edges (slice_index_or (conditions_of group) earlier condition)
+  pub breaks : Breaks parts group analysis condition tuple
+  pub least : (other : List ℕ) → Breaks parts group analysis condition other → AtMost tuple other
 
 -- the edges make a tree: no cycle, exactly one node without mother, and at most one edge into each node
 pub record IsTree (n : ℕ) (edges : List Edge) : Type 0 where
@@ -41,14 +47,3 @@ pub record IsTree (n : ℕ) (edges : List Edge) : Type 0 where
 pub record IsValent (parts : Parts) (group : Group) (candidates : List ℕ) (edges : List Edge) : Type 0 where
   pub into : (v l : ℕ) → v < nodes parts → l < label_count parts (first_dim group) → Contains (in_row group v (slice_index candidates v) l) (edges_into edges v l)
   pub out : (v l : ℕ) → v < nodes parts → l < label_count parts (first_dim group) → Contains (out_row group v (slice_index candidates v) l) (edges_out_of edges v l)
-
--- a principle's relation on the entries, as places among the candidates, and the edges of its dimension
-abbrev pub RelationOf : Principle → Parts → Group → List ℕ → List Edge → Type 0
-RelationOf principles.Graph parts group candidates edges = Unit {0}
-RelationOf principles.Entries parts group candidates edges = Unit {0}
-RelationOf principles.Tree parts group candidates edges = IsTree (nodes parts) edges
-RelationOf principles.Valency parts group candidates edges = IsValent parts group candidates edges
-
--- an analysis satisfies one use of a principle
-abbrev pub Relation : Parts → Group → Analysis → Type 0
-Relation parts group analysis = RelationOf group.principle parts group (entry_places parts.candidates analysis.entries) (edges_on (first_dim group) analysis.edges)

@@ -6,6 +6,7 @@
 
 mod analysis;
 mod comparing;
+mod conditions;
 mod decisions;
 mod fitting;
 mod numbers;
@@ -15,6 +16,7 @@ mod problem;
 mod sizes;
 
 pub use analysis::{Analysis, Edge, is_before};
+pub use conditions::Condition;
 pub use numbers::Nums;
 pub use parts::{AttrPlan, DimPlan, Feat, Group, Parts, Principle, SentenceWord, Shown};
 pub use problem::Problem;

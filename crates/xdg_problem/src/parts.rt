@@ -35,26 +35,59 @@ pub struct DimPlan {
     pub graph: bool,
 }
 
-/// A compiled feature. That of a set has one row, that of a valency or a map a row for each label.
+/// A compiled feature. That of a set has one row, its members; that of a valency or a map has a row for each label, the
+/// numbers of its cardinality or the members of its set there.
 #[derive(Debug, Drop)]
 pub struct Feat {
     pub rows: List<Nums>,
 }
 
-/// A principle (Debusmann 2006, chapter 7).
+/// A principle (Debusmann 2006, chapters 4 and 7). D is its dimension, D1 and D2 are its first and second one; u and v are
+/// nodes, and u -l-> v is an edge with label l from u to v. A set that belongs to a node is a feature of its entry.
 #[derive(Clone, Copy, Debug, PartialEq, Eq)]
 pub enum Principle {
-    /// The dimension has edges.
+    /// D has edges. This alone asks nothing more.
     Graph,
     /// It asks nothing.
     Entries,
-    /// The edges make a tree.
+    /// The edges of D make a tree: no cycle, one node without mother, and no node with two mothers.
     Tree,
-    /// Edges in and out of a node go by the cardinalities of its entry.
+    /// D has no cycle; if asked for, one node without mother, and no two labels from one node to another.
+    Dag,
+    /// The numbers of edges in and out of a node go by the cardinalities of its entry, label by label.
     Valency,
+    /// The daughters of a node, and the node itself, stand in the sentence in the order of their labels.
+    Order,
+    /// What stands between a mother and its daughter is below the mother, so no edge crosses a projection line.
+    Projectivity,
+    /// A node has a value that its entry allows.
+    Agr,
+    /// At the labels that the entry of the mother names, mother and daughter have the same value.
+    Agreement,
+    /// At the labels for which the entry of the mother has values, the daughter has one of them.
+    Government,
+    /// What is below a node on D1 is below it on D2, so D2 is at most flatter.
+    Climbing,
+    /// A node blocks what it has below it on D2 under certain labels: that stays below it on D1 too.
+    Barriers,
+    /// A daughter v on D1 has a mother on D2 under one of the labels that u links to it.
+    LinkingEnd,
+    /// A daughter v of u on D1 is a daughter of u on D2, under one of the labels that u links to it.
+    LinkingDaughter,
+    /// A daughter v of u on D1 is a mother of u on D2, under one of the labels that u links to it.
+    LinkingMother,
+    /// A daughter v of u on D1 is below u on D2, by a path that starts with one of the labels that u links to it.
+    LinkingBelowStart,
+    /// A daughter v of u on D1 is above u on D2, by a path that starts with one of the labels that u links to it.
+    LinkingAboveStart,
+    /// A daughter v of u on D1 has a mother on D2 in common with u, under one of the labels that u links to it.
+    LinkingSisters,
+    /// A daughter v of u on D1 is no daughter of u on D2, at the labels that u names.
+    LinkingNotDaughter,
 }
 
-/// One use of a principle, with its dimensions and arguments in the order in which the principle names them.
+/// One use of a principle, with its dimensions and arguments in the order in which the principle names them (the page
+/// of the principles, docs/principles.md, has the list).
 #[derive(Debug, Drop)]
 pub struct Group {
     pub principle: Principle,

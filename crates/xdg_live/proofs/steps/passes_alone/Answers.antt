@@ -1,7 +1,7 @@
 use Rattle.std.proofs.Common.{arith, refl, ap, ◌∙◌}
 use Rattle.std.specs.Prelude.{Contains}
 use Rattle.xdg_problem.specs.Features.{in_row, out_row}
-use Rattle.xdg_problem.specs.Relations.{first_dim, label_count}
+use Rattle.xdg_problem.specs.Arguments.{first_dim, label_count}
 use Rattle.xdg_live.proofs.Allowing.{less_more, less_done, less_fails}
 use Rattle.xdg_live.proofs.steps.passes_alone.Goals as goal
 

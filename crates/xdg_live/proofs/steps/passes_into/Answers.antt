@@ -1,6 +1,5 @@
-use Rattle.xdg_problem.specs.Paths.{edges_on}
+use Rattle.xdg_problem.specs.Paths.{edges_on, edges_into}
 use Rattle.xdg_problem.specs.Features.{in_row}
-use Rattle.xdg_problem.specs.Relations.{edges_into}
 use Rattle.xdg_live.specs.Steps.{IsLastOther}
 use Rattle.xdg_live.proofs.Allowing.{may_step}
 use Rattle.xdg_live.proofs.steps.passes_into.Goals as goal

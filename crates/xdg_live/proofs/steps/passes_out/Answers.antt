@@ -1,6 +1,5 @@
-use Rattle.xdg_problem.specs.Paths.{edges_on}
+use Rattle.xdg_problem.specs.Paths.{edges_on, edges_out_of}
 use Rattle.xdg_problem.specs.Features.{out_row}
-use Rattle.xdg_problem.specs.Relations.{edges_out_of}
 use Rattle.xdg_live.specs.Steps.{IsLastOther}
 use Rattle.xdg_live.proofs.Allowing.{may_step}
 use Rattle.xdg_live.proofs.steps.passes_out.Goals as goal

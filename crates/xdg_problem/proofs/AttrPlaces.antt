@@ -1,0 +1,92 @@
+-- The values of attributes that a test looks at stand among those of the sentence.
+use Rattle.std.proofs.Common.{◌≡◌, ℕ, ◌<◌, ◌≤◌, ◌+◌, ◌*◌, zero, suc, List, [], ◌∷◌, length, take, map, sym, subst, arith, length-append}
+use Rattle.std.specs.Prelude.{All, slice_index_or}
+use Rattle.std.specs.List.{flat_map}
+use Rattle.std.proofs.lemmas.List.Elements.{All-nil, All-cons}
+use Rattle.std.proofs.lemmas.Nat.{row_fits}
+use Rattle.xdg_problem.specs.declared.parts.AttrPlan.{AttrPlan}
+use Rattle.xdg_problem.specs.declared.parts.DimPlan.{DimPlan}
+use Rattle.xdg_problem.specs.declared.parts.Group.{Group}
+use Rattle.xdg_problem.specs.declared.parts.Parts.{Parts}
+use Rattle.xdg_problem.specs.declared.parts.Principle.{Principle}
+use Rattle.xdg_problem.specs.declared.parts.Principle.TheVariants as principles
+use Rattle.xdg_problem.specs.Places.{nodes, below}
+use Rattle.xdg_problem.specs.Vectors.{attr_sizes}
+use Rattle.xdg_problem.specs.Arguments.{first_dim, label_count, attr_count, attr_of, attr_place, no_plan}
+use Rattle.xdg_problem.specs.Problems.{IsGroup, attr_arguments, dim_arguments}
+use Rattle.xdg_problem.specs.Tests.{Test, test_attrs}
+use Rattle.xdg_problem.proofs.Counted.{length_attrs_of}
+use Rattle.xdg_problem.proofs.EachTest.{Each}
+
+-- the values of a dimension stand behind those of the dimensions before it
+attrs_before : (n : ℕ) (plans : List DimPlan) (dim : ℕ) → dim < length plans → length (attr_sizes n (take dim plans)) + n * length (slice_index_or plans dim no_plan).attrs ≤ length (attr_sizes n plans)
+attrs_before n [] dim l = absurd (omega (arith, l))
+attrs_before n (plan ∷ plans) zero l =
+    let both = length-append (flat_map (λ (node : ℕ). map (λ (attr : AttrPlan). length attr.values) plan.attrs) (below n)) (attr_sizes n plans) in
+    let here = length_attrs_of n plan in
+    omega (arith, both, here)
+attrs_before n (plan ∷ plans) (suc dim) l =
+    let whole = length-append (flat_map (λ (node : ℕ). map (λ (attr : AttrPlan). length attr.values) plan.attrs) (below n)) (attr_sizes n plans) in
+    let front = length-append (flat_map (λ (node : ℕ). map (λ (attr : AttrPlan). length attr.values) plan.attrs) (below n)) (attr_sizes n (take dim plans)) in
+    let rest = attrs_before n plans dim (omega (arith, l)) in
+    omega (arith, whole, front, rest)
+
+pub attr_within : (parts : Parts) (dim node attr : ℕ) → dim < length parts.dims → node < nodes parts → attr < attr_count parts dim → attr_place parts dim node attr < length (attr_sizes (nodes parts) parts.dims)
+attr_within parts dim node attr d v a =
+    let before = attrs_before (nodes parts) parts.dims dim d in
+    let row = row_fits node (attr_count parts dim) (nodes parts) (attr_count parts dim) v (omega arith) in
+    omega (arith, before, row, a)
+
+some_dim : (principle : Principle) → 0 < dim_arguments principle
+some_dim principles.Graph = omega arith
+some_dim principle = omega arith
+
+-- the first dimension of a principle use is one of the sentence
+pub first_dim_within : (parts : Parts) (group : Group) → IsGroup parts group → first_dim group < length parts.dims
+first_dim_within parts group is =
+    let some = some_dim group.principle in
+    let count = is.dims_count in
+    is.dims 0 (record { 0 = 0 }) (omega (arith, some, count))
+
+module _ (parts : Parts) (group : Group) (is : IsGroup parts group) where
+  -- where a principle use takes an attribute, the place of its value for a node is in range
+  takes : (principle : Principle) (argument : ℕ) → group.principle ≡ principle → argument < attr_arguments principle → (node : ℕ) → node < nodes parts → attr_place parts (first_dim group) node (attr_of group argument) < length (attr_sizes (nodes parts) parts.dims)
+  takes principle argument same l node v =
+      let count : length group.attrs ≡ attr_arguments principle = subst (λ p. length group.attrs ≡ attr_arguments p) same is.attrs_count in
+      attr_within parts (first_dim group) node (attr_of group argument) (first_dim_within parts group is) v (is.attrs argument (record { 0 = 0 }) (omega (arith, l, count)))
+
+  abbrev IsWithin : ℕ → Type 0
+  IsWithin place = place < length (attr_sizes (nodes parts) parts.dims)
+
+  abbrev pub AreWithin : Test → Type 0
+  AreWithin test = All IsWithin (test_attrs parts group test)
+
+  none : All IsWithin []
+  none = All-nil IsWithin
+
+  one : (place : ℕ) → IsWithin place → All IsWithin (place ∷ [])
+  one place here = All-cons IsWithin place [] here none
+
+  pub each_within : (principle : Principle) → group.principle ≡ principle → Each group.truths (nodes parts) (label_count parts (first_dim group)) AreWithin principle
+  each_within principles.Graph same = tt
+  each_within principles.Entries same = tt
+  each_within principles.Tree same = (λ v a k b. none, λ k a. none, none)
+  each_within principles.Dag same = (λ k a. none, λ e. none, λ e u a v b. none)
+  each_within principles.Valency same = (λ v a l b k c. none, λ v a l b k c. none)
+  each_within principles.Order same = (
+    λ e u a. one _ (takes principles.Order 0 same (omega arith) u a),
+    λ e u a. one _ (takes principles.Order 0 same (omega arith) u a),
+  )
+  each_within principles.Projectivity same = λ u a v b. none
+  each_within principles.Agr same = λ v a. one _ (takes principles.Agr 0 same (omega arith) v a)
+  each_within principles.Agreement same = λ u a l b v c. All-cons IsWithin _ (attr_place parts (first_dim group) v (attr_of group 1) ∷ []) (takes principles.Agreement 0 same (omega arith) u a) (one _ (takes principles.Agreement 1 same (omega arith) v c))
+  each_within principles.Government same = λ u a l b v c. one _ (takes principles.Government 0 same (omega arith) v c)
+  each_within principles.Climbing same = λ u a v b. none
+  each_within principles.Barriers same = λ w a v b. none
+  each_within principles.LinkingEnd same = λ u a l b v c. none
+  each_within principles.LinkingDaughter same = λ u a l b v c. none
+  each_within principles.LinkingMother same = λ u a l b v c. none
+  each_within principles.LinkingBelowStart same = λ u a l b v c. none
+  each_within principles.LinkingAboveStart same = λ u a l b v c. none
+  each_within principles.LinkingSisters same = λ u a l b v c. none
+  each_within principles.LinkingNotDaughter same = λ u a l b v c. none

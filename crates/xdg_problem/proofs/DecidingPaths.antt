@@ -1,0 +1,145 @@
+-- Whether a path leads from one node to another can be decided, and what a condition asks.
+use Rattle.std.proofs.Common.{◌≡◌, ℕ, ◌<◌, ◌⊎◌, inl, inr, Bool, true, false, List, [], ◌∷◌, ◌++◌, length, refl, sym, subst, arith, suc, zero}
+use Rattle.std.specs.Prelude.{All, AllPairs, Contains, slice_index}
+use Rattle.std.specs.List.{Any, AllByRecursion}
+use Rattle.std.proofs.lemmas.Bool.{cases_eq, false≢true}
+use Rattle.std.proofs.lemmas.List.Elements.{All-from_recursion, recursion_from_All}
+use Rattle.xdg_problem.specs.declared.analysis.Edge.{Edge}
+use Rattle.xdg_problem.specs.declared.conditions.Condition.{Condition}
+use Rattle.xdg_problem.specs.declared.conditions.Condition.TheVariants as conditions
+use Rattle.xdg_problem.specs.declared.parts.Group.{Group}
+use Rattle.xdg_problem.specs.declared.parts.Principle.{Principle}
+use Rattle.xdg_problem.specs.declared.parts.Principle.TheVariants as principles
+use Rattle.xdg_problem.specs.Paths.{edges_on, edges_into, edges_out_of, edges_joining, mothers, IsDaughter, IsDaughterBy, IsDaughterByAny, IsEnteredByAny, AreSistersByAny, Leads, Above, AboveByFirst, AboveByLast}
+use Rattle.xdg_problem.specs.Features.{in_row, out_row, set_row, map_row}
+use Rattle.xdg_problem.specs.Arguments.{first_dim, second_dim, truth_of, order_of}
+use Rattle.xdg_problem.specs.Asking.{first, second, third, IsBetween, IsInItem, IsLinked, AsksLink, AsksOf}
+use Rattle.xdg_problem.proofs.Ordered.{Ordered, ordered_pairs, ordered_from_pairs, contains_head, contains_more, contains_cases, contains_none}
+use Rattle.xdg_problem.proofs.Looking.{any_of, any_weaker}
+use Rattle.xdg_problem.proofs.Deciding.{Decided, decided_like, decided_both, decided_from, decided_equal, decided_less, decided_most, decided_contains}
+use Rattle.xdg_problem.proofs.CycleTests.{Reaches, decided_reaches}
+
+pub decided_either : (P Q : Type 0) → Decided P → Decided Q → Decided (P ⊎ Q)
+decided_either P Q (inl p) other = inl (inl p)
+decided_either P Q (inr n) (inl q) = inl (inr q)
+decided_either P Q (inr n) (inr m) = inr (λ either. elim either [ inl p ↦ n p | inr q ↦ m q ])
+
+pub decided_true : (b : Bool) → Decided (b ≡ true)
+decided_true true = inl refl
+decided_true false = inr false≢true
+
+pub decided_not : (P : Type 0) → Decided P → Decided (P → ⊥)
+decided_not P (inl p) = inr (λ n. n p)
+decided_not P (inr n) = inl n
+
+module _ {X : Type 0} where
+  -- an element of a list, and that it is as P says
+  pub contained : (P : X → Type 0) (xs : List X) → Any P xs → (x : X) × Contains xs x × P x
+  contained P xs a = (a.1, (a.0, a.2, a.3), a.4)
+
+  pub decided_any : (P : X → Type 0) (xs : List X) → ((x : X) → Decided (P x)) → Decided (Any P xs)
+  decided_any P [] each = inr (λ a. let c = contained P [] a in contains_none c.0 c.1)
+  decided_any P (x ∷ xs) each = decided_like (P x ⊎ Any P xs) (Any P (x ∷ xs))
+      (λ either. elim either [
+        | inl p ↦ any_of P (x ∷ xs) x (contains_head x xs) p
+        | inr more ↦ (let c = contained P xs more in any_of P (x ∷ xs) c.0 (contains_more x xs c.0 c.1) c.2)
+      ])
+      (λ a. (let c = contained P (x ∷ xs) a in elim (contains_cases x xs c.0 c.1) [
+        | inl e ↦ inl (subst P (sym e) c.2)
+        | inr later ↦ inr (any_of P xs c.0 later c.2)
+      ]))
+      (decided_either (P x) (Any P xs) (each x) (decided_any P xs each))
+
+  decided_each : (P : X → Type 0) (xs : List X) → ((x : X) → Decided (P x)) → Decided (AllByRecursion P xs)
+  decided_each P [] each = inl tt
+  decided_each P (x ∷ xs) each = decided_both (P x) (AllByRecursion P xs) (each x) (decided_each P xs each)
+
+  decided_ordered : (R : X → X → Type 0) (xs : List X) → ((x y : X) → Decided (R x y)) → Decided (Ordered R xs)
+  decided_ordered R [] each = inl tt
+  decided_ordered R (x ∷ xs) each = decided_both (AllByRecursion (R x) xs) (Ordered R xs) (decided_each (R x) xs (each x)) (decided_ordered R xs each)
+
+  pub decided_pairs : (R : X → X → Type 0) (xs : List X) → ((x y : X) → Decided (R x y)) → Decided (AllPairs R xs)
+  decided_pairs R xs each = decided_like (Ordered R xs) (AllPairs R xs) (λ o i j d l m. ordered_pairs R xs o i j d l m) (ordered_from_pairs R xs) (decided_ordered R xs each)
+
+-- daughters
+
+pub decided_daughter : (edges : List Edge) (u v : ℕ) → Decided (IsDaughter edges u v)
+decided_daughter edges u v = decided_any (λ e. (e.mother.0 ≡ u) × (e.daughter.0 ≡ v)) edges (λ e. decided_both _ _ (decided_equal e.mother.0 u) (decided_equal e.daughter.0 v))
+
+pub triple_decided : (P Q R : Type 0) → Decided P → Decided Q → Decided R → Decided (P × Q × R)
+triple_decided P Q R p q r = decided_like (P × (Q × R)) (P × Q × R) (λ x. (x.0, x.1.0, x.1.1)) (λ x. (x.0, (x.1, x.2))) (decided_both P (Q × R) p (decided_both Q R q r))
+
+pub decided_daughter_by : (edges : List Edge) (u l v : ℕ) → Decided (IsDaughterBy edges u l v)
+decided_daughter_by edges u l v = decided_any (λ e. (e.mother.0 ≡ u) × (e.label.0 ≡ l) × (e.daughter.0 ≡ v)) edges (λ e. triple_decided _ _ _ (decided_equal e.mother.0 u) (decided_equal e.label.0 l) (decided_equal e.daughter.0 v))
+
+pub decided_daughter_by_any : (edges : List Edge) (u : ℕ) (labels : List ℕ) (v : ℕ) → Decided (IsDaughterByAny edges u labels v)
+decided_daughter_by_any edges u labels v = decided_any (λ e. (e.mother.0 ≡ u) × Contains labels e.label.0 × (e.daughter.0 ≡ v)) edges (λ e. triple_decided _ _ _ (decided_equal e.mother.0 u) (decided_contains labels e.label.0) (decided_equal e.daughter.0 v))
+
+pub decided_entered : (edges : List Edge) (labels : List ℕ) (v : ℕ) → Decided (IsEnteredByAny edges labels v)
+decided_entered edges labels v = decided_any (λ e. Contains labels e.label.0 × (e.daughter.0 ≡ v)) edges (λ e. decided_both _ _ (decided_contains labels e.label.0) (decided_equal e.daughter.0 v))
+
+pub decided_sisters : (edges : List Edge) (u : ℕ) (labels : List ℕ) (v : ℕ) → Decided (AreSistersByAny edges u labels v)
+decided_sisters edges u labels v = decided_any (λ e. (e.daughter.0 ≡ u) × IsDaughterByAny edges e.mother.0 labels v) edges (λ e. decided_both _ _ (decided_equal e.daughter.0 u) (decided_daughter_by_any edges e.mother.0 labels v))
+
+-- paths
+
+-- a path falls into its first edge and the rest
+starts : (edges path : List Edge) (u v : ℕ) → 0 < length path → All (Contains edges) path → Leads u path v → Any (λ e. (e.mother.0 ≡ u) × Reaches edges e.daughter.0 v) edges
+starts edges [] u v some along leads = absurd (omega (arith, some))
+starts edges (e ∷ path) u v some along leads =
+    let each = recursion_from_All (Contains edges) (e ∷ path) along in
+    any_of (λ e. (e.mother.0 ≡ u) × Reaches edges e.daughter.0 v) edges e each.0 (leads.0, record { path = path; along = each.1; leads = leads.1 })
+
+pub decided_above : (edges : List Edge) (u v : ℕ) → Decided (Above edges u v)
+decided_above edges u v = decided_like (Any (λ e. (e.mother.0 ≡ u) × Reaches edges e.daughter.0 v) edges) (Above edges u v)
+    (λ a. (let c = contained (λ e. (e.mother.0 ≡ u) × Reaches edges e.daughter.0 v) edges a in record {
+      path = c.0 ∷ c.2.1.path;
+      some = omega arith;
+      along = All-from_recursion (Contains edges) (c.0 ∷ c.2.1.path) (c.1, c.2.1.along);
+      leads = (c.2.0, c.2.1.leads);
+    }))
+    (λ above. starts edges above.path u v above.some above.along above.leads)
+    (decided_any (λ e. (e.mother.0 ≡ u) × Reaches edges e.daughter.0 v) edges (λ e. decided_both _ _ (decided_equal e.mother.0 u) (decided_reaches edges e.daughter.0 v)))
+
+pub decided_above_by_first : (edges : List Edge) (u : ℕ) (labels : List ℕ) (v : ℕ) → Decided (AboveByFirst edges u labels v)
+decided_above_by_first edges u labels v = decided_like (Any (λ e. (e.mother.0 ≡ u) × Contains labels e.label.0 × Reaches edges e.daughter.0 v) edges) (AboveByFirst edges u labels v)
+    (λ a. (let c = contained (λ e. (e.mother.0 ≡ u) × Contains labels e.label.0 × Reaches edges e.daughter.0 v) edges a in record {
+      first = c.0;
+      rest = c.2.2.path;
+      label = c.2.1;
+      along = All-from_recursion (Contains edges) (c.0 ∷ c.2.2.path) (c.1, c.2.2.along);
+      leads = (c.2.0, c.2.2.leads);
+    }))
+    (λ above.
+    let each = recursion_from_All (Contains edges) (above.first ∷ above.rest) above.along in
+    any_of (λ e. (e.mother.0 ≡ u) × Contains labels e.label.0 × Reaches edges e.daughter.0 v) edges above.first each.0 (above.leads.0, above.label, record { path = above.rest; along = each.1; leads = above.leads.1 }))
+    (decided_any (λ e. (e.mother.0 ≡ u) × Contains labels e.label.0 × Reaches edges e.daughter.0 v) edges (λ e. triple_decided _ _ _ (decided_equal e.mother.0 u) (decided_contains labels e.label.0) (decided_reaches edges e.daughter.0 v)))
+
+-- a path falls into its front and its last edge
+ends : (edges front : List Edge) (last : Edge) (u v : ℕ) → AllByRecursion (Contains edges) (front ++ last ∷ []) → Leads u (front ++ last ∷ []) v → Contains edges last × Reaches edges u last.mother.0 × (last.daughter.0 ≡ v)
+ends edges [] last u v along leads = (along.0, record { path = []; along = tt; leads = sym leads.0 }, leads.1)
+ends edges (e ∷ front) last u v along leads =
+    let rest = ends edges front last e.daughter.0 v along.1 leads.1 in
+    (rest.0, record { path = e ∷ rest.1.path; along = (along.0, rest.1.along); leads = (leads.0, rest.1.leads) }, rest.2)
+
+joined_along : (edges front : List Edge) (last : Edge) → AllByRecursion (Contains edges) front → Contains edges last → AllByRecursion (Contains edges) (front ++ last ∷ [])
+joined_along edges [] last along stands = (stands, tt)
+joined_along edges (e ∷ front) last along stands = (along.0, joined_along edges front last along.1 stands)
+
+joined_leads : (front : List Edge) (last : Edge) (u v : ℕ) → Leads u front last.mother.0 → last.daughter.0 ≡ v → Leads u (front ++ last ∷ []) v
+joined_leads [] last u v leads to = (sym leads, to)
+joined_leads (e ∷ front) last u v leads to = (leads.0, joined_leads front last e.daughter.0 v leads.1 to)
+
+pub decided_above_by_last : (edges : List Edge) (u : ℕ) (labels : List ℕ) (v : ℕ) → Decided (AboveByLast edges u labels v)
+decided_above_by_last edges u labels v = decided_like (Any (λ e. Reaches edges u e.mother.0 × Contains labels e.label.0 × (e.daughter.0 ≡ v)) edges) (AboveByLast edges u labels v)
+    (λ a. (let c = contained (λ e. Reaches edges u e.mother.0 × Contains labels e.label.0 × (e.daughter.0 ≡ v)) edges a in record {
+      front = c.2.0.path;
+      last = c.0;
+      label = c.2.1;
+      along = All-from_recursion (Contains edges) (c.2.0.path ++ c.0 ∷ []) (joined_along edges c.2.0.path c.0 c.2.0.along c.1);
+      leads = joined_leads c.2.0.path c.0 u v c.2.0.leads c.2.2;
+    }))
+    (λ above.
+    let parts = ends edges above.front above.last u v (recursion_from_All (Contains edges) (above.front ++ above.last ∷ []) above.along) above.leads in
+    any_of (λ e. Reaches edges u e.mother.0 × Contains labels e.label.0 × (e.daughter.0 ≡ v)) edges above.last parts.0 (parts.1, above.label, parts.2))
+    (decided_any (λ e. Reaches edges u e.mother.0 × Contains labels e.label.0 × (e.daughter.0 ≡ v)) edges (λ e. triple_decided _ _ _ (decided_reaches edges u e.mother.0) (decided_contains labels e.label.0) (decided_equal e.daughter.0 v)))

@@ -1,0 +1,89 @@
+-- The tests of each principle, written out.
+use Rattle.std.proofs.Common.{◌≡◌, ℕ, ◌<◌, Bool, true, false, List}
+use Rattle.xdg_problem.specs.declared.parts.Principle.{Principle}
+use Rattle.xdg_problem.specs.declared.parts.Principle.TheVariants as principles
+use Rattle.xdg_problem.specs.Arguments.{truth_of}
+use Rattle.xdg_problem.specs.Tests.{Test, IsTestOf, out_count, in_count, one_mother, no_cycle, one_root, one_label, ordered_daughters, ordered_yields, projective, allowed_value, agreeing, governed, climbing, not_blocked, linked_end, linked_daughter, linked_mother, linked_sister, linked_path}
+
+module _ (truths : List Bool) (n labels : ℕ) (Q : Test → Type 0) where
+  -- for each node, for each two, for each two and a label
+  abbrev pub EachNode : (ℕ → Test) → Type 0
+  EachNode test = (v : ℕ) → v < n → Q (test v)
+
+  abbrev pub EachPair : (ℕ → ℕ → Test) → Type 0
+  EachPair test = (u : ℕ) → u < n → (v : ℕ) → v < n → Q (test u v)
+
+  abbrev pub EachTriple : (ℕ → ℕ → ℕ → Test) → Type 0
+  EachTriple test = (u : ℕ) → u < n → (l : ℕ) → l < labels → (v : ℕ) → v < n → Q (test u l v)
+
+  -- Q holds of each test of a principle
+  abbrev pub Each : Principle → Type 0
+  Each principles.Graph = Unit {0}
+  Each principles.Entries = Unit {0}
+  Each principles.Tree = EachPair one_mother × EachNode no_cycle × Q one_root
+  Each principles.Dag = EachNode no_cycle × (truth_of truths 0 ≡ true → Q one_root) × (truth_of truths 1 ≡ true → EachPair one_label)
+  Each principles.Valency = EachTriple out_count × EachTriple in_count
+  Each principles.Order = (truth_of truths 0 ≡ false → EachNode ordered_daughters) × (truth_of truths 0 ≡ true → EachNode ordered_yields)
+  Each principles.Projectivity = EachPair projective
+  Each principles.Agr = EachNode allowed_value
+  Each principles.Agreement = EachTriple agreeing
+  Each principles.Government = EachTriple governed
+  Each principles.Climbing = EachPair climbing
+  Each principles.Barriers = EachPair not_blocked
+  Each principles.LinkingEnd = EachTriple linked_end
+  Each principles.LinkingDaughter = EachTriple linked_daughter
+  Each principles.LinkingMother = EachTriple linked_mother
+  Each principles.LinkingBelowStart = EachTriple linked_path
+  Each principles.LinkingAboveStart = EachTriple linked_path
+  Each principles.LinkingSisters = EachTriple linked_sister
+  Each principles.LinkingNotDaughter = EachTriple linked_daughter
+
+  abbrev pub Tested : Principle → Type 0
+  Tested principle = (test : Test) → IsTestOf principle truths n labels test → Q test
+
+  pub tested_each : (principle : Principle) → Tested principle → Each principle
+  tested_each principles.Graph t = tt
+  tested_each principles.Entries t = tt
+  tested_each principles.Tree t = (λ v a k b. t (one_mother v k) (a, b), λ k a. t (no_cycle k) a, t one_root tt)
+  tested_each principles.Dag t = (λ k a. t (no_cycle k) a, λ e. t one_root e, λ e u a v b. t (one_label u v) (e, a, b))
+  tested_each principles.Valency t = (λ v a l b k c. t (out_count v l k) (a, b, c), λ v a l b k c. t (in_count v l k) (a, b, c))
+  tested_each principles.Order t = (λ e u a. t (ordered_daughters u) (e, a), λ e u a. t (ordered_yields u) (e, a))
+  tested_each principles.Projectivity t = λ u a v b. t (projective u v) (a, b)
+  tested_each principles.Agr t = λ v a. t (allowed_value v) a
+  tested_each principles.Agreement t = λ u a l b v c. t (agreeing u l v) (a, b, c)
+  tested_each principles.Government t = λ u a l b v c. t (governed u l v) (a, b, c)
+  tested_each principles.Climbing t = λ u a v b. t (climbing u v) (a, b)
+  tested_each principles.Barriers t = λ w a v b. t (not_blocked w v) (a, b)
+  tested_each principles.LinkingEnd t = λ u a l b v c. t (linked_end u l v) (a, b, c)
+  tested_each principles.LinkingDaughter t = λ u a l b v c. t (linked_daughter u l v) (a, b, c)
+  tested_each principles.LinkingMother t = λ u a l b v c. t (linked_mother u l v) (a, b, c)
+  tested_each principles.LinkingBelowStart t = λ u a l b v c. t (linked_path u l v) (a, b, c)
+  tested_each principles.LinkingAboveStart t = λ u a l b v c. t (linked_path u l v) (a, b, c)
+  tested_each principles.LinkingSisters t = λ u a l b v c. t (linked_sister u l v) (a, b, c)
+  tested_each principles.LinkingNotDaughter t = λ u a l b v c. t (linked_daughter u l v) (a, b, c)
+
+  pub each_tested : (principle : Principle) → Each principle → Tested principle
+  each_tested principles.Tree each (one_mother v k) is = each.0 v is.0 k is.1
+  each_tested principles.Tree each (no_cycle k) is = each.1 k is
+  each_tested principles.Tree each one_root is = each.2
+  each_tested principles.Dag each (no_cycle k) is = each.0 k is
+  each_tested principles.Dag each one_root is = each.1 is
+  each_tested principles.Dag each (one_label u v) is = each.2 is.0 u is.1 v is.2
+  each_tested principles.Valency each (out_count v l k) is = each.0 v is.0 l is.1 k is.2
+  each_tested principles.Valency each (in_count v l k) is = each.1 v is.0 l is.1 k is.2
+  each_tested principles.Order each (ordered_daughters u) is = each.0 is.0 u is.1
+  each_tested principles.Order each (ordered_yields u) is = each.1 is.0 u is.1
+  each_tested principles.Projectivity each (projective u v) is = each u is.0 v is.1
+  each_tested principles.Agr each (allowed_value v) is = each v is
+  each_tested principles.Agreement each (agreeing u l v) is = each u is.0 l is.1 v is.2
+  each_tested principles.Government each (governed u l v) is = each u is.0 l is.1 v is.2
+  each_tested principles.Climbing each (climbing u v) is = each u is.0 v is.1
+  each_tested principles.Barriers each (not_blocked w v) is = each w is.0 v is.1
+  each_tested principles.LinkingEnd each (linked_end u l v) is = each u is.0 l is.1 v is.2
+  each_tested principles.LinkingDaughter each (linked_daughter u l v) is = each u is.0 l is.1 v is.2
+  each_tested principles.LinkingMother each (linked_mother u l v) is = each u is.0 l is.1 v is.2
+  each_tested principles.LinkingBelowStart each (linked_path u l v) is = each u is.0 l is.1 v is.2
+  each_tested principles.LinkingAboveStart each (linked_path u l v) is = each u is.0 l is.1 v is.2
+  each_tested principles.LinkingSisters each (linked_sister u l v) is = each u is.0 l is.1 v is.2
+  each_tested principles.LinkingNotDaughter each (linked_daughter u l v) is = each u is.0 l is.1 v is.2
+  each_tested principle each test is = absurd is

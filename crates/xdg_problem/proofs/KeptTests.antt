@@ -1,0 +1,79 @@
+-- On a whole vector all tests of a principle together are its conditions.
+use Rattle.std.proofs.Common.{◌≡◌, ℕ, ◌<◌, ◌↔◌, List, [], ◌∷◌}
+use Rattle.std.specs.Prelude.{All}
+use Rattle.xdg_problem.specs.declared.analysis.Edge.{Edge}
+use Rattle.xdg_problem.specs.declared.conditions.Condition.{Condition}
+use Rattle.xdg_problem.specs.declared.conditions.Condition.TheVariants as conditions
+use Rattle.xdg_problem.specs.declared.parts.Group.{Group}
+use Rattle.xdg_problem.specs.declared.parts.Parts.{Parts}
+use Rattle.xdg_problem.specs.declared.parts.Principle.{Principle}
+use Rattle.xdg_problem.specs.declared.parts.Principle.TheVariants as principles
+use Rattle.xdg_problem.specs.Places.{nodes}
+use Rattle.xdg_problem.specs.Arguments.{first_dim, label_count, truth_of}
+use Rattle.xdg_problem.specs.Conditions.{conditions_for}
+use Rattle.xdg_problem.specs.Relations.{IsKept}
+use Rattle.xdg_problem.specs.Tests.{Test}
+use Rattle.xdg_problem.proofs.Tuples.{none_kept, one_kept, two_kept, three_kept, chosen_kept}
+use Rattle.xdg_problem.proofs.Passing.{PassesAt}
+use Rattle.xdg_problem.proofs.EachTest.{Each}
+use Rattle.xdg_problem.proofs.TreeTests.{cycle_tests, root_tests, mother_tests, pair_tests}
+use Rattle.xdg_problem.proofs.ValencyTests.{in_tests, out_tests}
+use Rattle.xdg_problem.proofs.OrderTests.{order_tests, between_tests}
+use Rattle.xdg_problem.proofs.AgreeTests.{agr_tests, agree_tests, govern_tests}
+use Rattle.xdg_problem.proofs.PathTests.{below_tests, blocked_tests}
+use Rattle.xdg_problem.proofs.LinkTests.{end_tests, daughter_tests, mother_tests as linked_mother_tests, below_start_tests, above_start_tests, sister_tests, not_daughter_tests}
+
+then_iff : (A B C : Type 0) → A ↔ B → B ↔ C → A ↔ C
+then_iff A B C f g = (λ a. g.0 (f.0 a), λ c. f.1 (g.1 c))
+
+module _ (parts : Parts) (group : Group) (candidates attrs : List ℕ) (edges : List Edge) (some : 0 < nodes parts) (mothers : All (λ e. e.mother.0 < nodes parts) edges) (daughters : All (λ e. e.daughter.0 < nodes parts) edges) where
+  abbrev Kept : Condition → Type 0
+  Kept condition = IsKept parts group candidates attrs edges condition
+
+  abbrev Passes : Test → Type 0
+  Passes test = PassesAt parts group candidates attrs edges test
+
+  -- a principle with one condition
+  one : (A : Type 0) (condition : Condition) → A ↔ Kept condition → A ↔ All Kept (condition ∷ [])
+  one A condition tests = then_iff A (Kept condition) (All Kept (condition ∷ [])) tests (one_kept Kept condition)
+
+  pub kept_tests : (principle : Principle) → group.principle ≡ principle → Each group.truths (nodes parts) (label_count parts (first_dim group)) Passes principle ↔ All Kept (conditions_for principle group.truths)
+  kept_tests principles.Graph is = none_kept Kept
+  kept_tests principles.Entries is = none_kept Kept
+  kept_tests principles.Tree is =
+      let cycle = cycle_tests parts group candidates attrs edges some mothers in
+      let root = root_tests parts group candidates attrs edges some mothers in
+      let mother = mother_tests parts group candidates attrs edges some mothers in
+      let all = three_kept Kept conditions.Cycle conditions.Roots conditions.Mothers in (
+        λ each. all.0 (cycle.0 each.1, root.0 each.2, mother.0 each.0),
+        λ kept. (let k = all.1 kept in (mother.1 k.2, cycle.1 k.0, root.1 k.1)),
+      )
+  kept_tests principles.Dag is =
+      let cycle = cycle_tests parts group candidates attrs edges some mothers in
+      let root = root_tests parts group candidates attrs edges some mothers in
+      let pair = pair_tests parts group candidates attrs edges some mothers in
+      let all = chosen_kept Kept (truth_of group.truths 0) (truth_of group.truths 1) conditions.Cycle conditions.Roots conditions.Pair in (
+        λ each. all.0 (cycle.0 each.0, λ e. root.0 (each.1 e), λ e. pair.0 (each.2 e)),
+        λ kept. (let k = all.1 kept in (cycle.1 k.0, λ e. root.1 (k.1 e), λ e. pair.1 (k.2 e))),
+      )
+  kept_tests principles.Valency is =
+      let into = in_tests parts group candidates attrs edges some mothers in
+      let out = out_tests parts group candidates attrs edges some daughters in
+      let all = two_kept Kept conditions.InCount conditions.OutCount in (
+        λ each. all.0 (into.0 each.1, out.0 each.0),
+        λ kept. (let k = all.1 kept in (out.1 k.1, into.1 k.0)),
+      )
+  kept_tests principles.Order is = one _ conditions.Order (order_tests parts group candidates attrs edges)
+  kept_tests principles.Projectivity is = one _ conditions.Between (between_tests parts group candidates attrs edges)
+  kept_tests principles.Agr is = one _ conditions.Agr (agr_tests parts group candidates attrs edges)
+  kept_tests principles.Agreement is = one _ conditions.Agree (agree_tests parts group candidates attrs edges)
+  kept_tests principles.Government is = one _ conditions.Govern (govern_tests parts group candidates attrs edges)
+  kept_tests principles.Climbing is = one _ conditions.Below (below_tests parts group candidates attrs edges)
+  kept_tests principles.Barriers is = one _ conditions.Blocked (blocked_tests parts group candidates attrs edges)
+  kept_tests principles.LinkingEnd is = one _ conditions.Link (end_tests parts group candidates attrs edges is)
+  kept_tests principles.LinkingDaughter is = one _ conditions.Link (daughter_tests parts group candidates attrs edges is)
+  kept_tests principles.LinkingMother is = one _ conditions.Link (linked_mother_tests parts group candidates attrs edges is)
+  kept_tests principles.LinkingBelowStart is = one _ conditions.Link (below_start_tests parts group candidates attrs edges is)
+  kept_tests principles.LinkingAboveStart is = one _ conditions.Link (above_start_tests parts group candidates attrs edges is)
+  kept_tests principles.LinkingSisters is = one _ conditions.Link (sister_tests parts group candidates attrs edges is)
+  kept_tests principles.LinkingNotDaughter is = one _ conditions.Link (not_daughter_tests parts group candidates attrs edges is)

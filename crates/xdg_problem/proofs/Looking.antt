@@ -1,0 +1,70 @@
+-- What is left of the edges of a dimension, if only the edges that a test looks at are kept.
+use Rattle.std.proofs.Common.{◌≡◌, ℕ, ◌↔◌, Bool, true, false, ◌&&◌, List, length, refl, sym, ap, ◌∙◌}
+use Rattle.std.specs.Prelude.{filter, Contains, count_by, ◌==◌, ◌||◌}
+use Rattle.std.specs.List.{Any}
+use Rattle.std.proofs.lemmas.Bool.{eq-eqb}
+use Rattle.std.proofs.lemmas.List.Sums.{length-filter}
+use Rattle.xdg_problem.specs.declared.analysis.Edge.{Edge}
+use Rattle.xdg_problem.specs.Paths.{edges_on}
+use Rattle.xdg_problem.proofs.FilterFacts.{filter_both, count_of_filter, filter_alike, filter_contained}
+use Rattle.xdg_problem.proofs.Ordered.{contains_filter}
+
+-- truth values
+
+pub and_given : (a b : Bool) → (b ≡ true → a ≡ true) → (a && b) ≡ b
+and_given true b h = refl
+and_given false true h = h refl
+and_given false false h = refl
+
+pub or_left : (a b : Bool) → a ≡ true → (a || b) ≡ true
+or_left a b e = rw e refl
+
+pub or_right : (a b : Bool) → b ≡ true → (a || b) ≡ true
+or_right true b e = refl
+or_right false b e = e
+
+pub and_2 : (a b : Bool) → a ≡ true → b ≡ true → (a && b) ≡ true
+and_2 a b x y = rw (x, y) refl
+
+pub and_3 : (a b c : Bool) → a ≡ true → b ≡ true → c ≡ true → (a && b && c) ≡ true
+and_3 a b c x y z = rw (x, y, z) refl
+
+pub and_4 : (a b c d : Bool) → a ≡ true → b ≡ true → c ≡ true → d ≡ true → (a && b && c && d) ≡ true
+and_4 a b c d x y z w = rw (x, y, z, w) refl
+
+-- some edge
+
+pub any_of : {X : Type 0} (P : X → Type 0) (xs : List X) (x : X) → Contains xs x → P x → Any P xs
+any_of P xs x c p = (c.0, x, c.1, c.2, p)
+
+pub any_weaker : {X : Type 0} (P Q : X → Type 0) (xs : List X) → ((x : X) → P x → Q x) → Any P xs → Any Q xs
+any_weaker P Q xs h a = (a.0, a.1, a.2, a.3, h a.1 a.4)
+
+module _ (looks : Edge → Bool) (dim : ℕ) (edges : List Edge) where
+  -- all edges of the dimension are left, if the test looks at all its places
+  pub on_same : ((e : Edge) → (e.dim.0 == dim) ≡ true → looks e ≡ true) → edges_on dim (filter looks edges) ≡ edges_on dim edges
+  on_same h = filter_both (λ e. e.dim.0 == dim) looks edges ∙ filter_alike (λ e. looks e && (e.dim.0 == dim)) (λ e. e.dim.0 == dim) edges (λ k d l. and_given (looks _) (_ == dim) (h _))
+
+  contains_same : (e : Edge) → ((e.dim.0 == dim) ≡ true → looks e ≡ true) → Contains (edges_on dim (filter looks edges)) e ↔ Contains (edges_on dim edges) e
+  contains_same e h = (
+    λ c. (let on = filter_contained (λ x. x.dim.0 == dim) (filter looks edges) e c in contains_filter (λ x. x.dim.0 == dim) edges e on.1 (filter_contained looks edges e on.0).0),
+    λ c. (let on = filter_contained (λ x. x.dim.0 == dim) edges e c in contains_filter (λ x. x.dim.0 == dim) (filter looks edges) e on.1 (contains_filter looks edges e (h on.1) on.0)),
+  )
+
+  -- an edge of the dimension with a property is left, if the test looks at all places that may have it
+  pub any_same : (P : Edge → Type 0) → ((e : Edge) → P e → (e.dim.0 == dim) ≡ true → looks e ≡ true) → Any P (edges_on dim (filter looks edges)) ↔ Any P (edges_on dim edges)
+  any_same P h = (
+    λ a. any_of P (edges_on dim edges) a.1 ((contains_same a.1 (h a.1 a.4)).0 (a.0, a.2, a.3)) a.4,
+    λ a. any_of P (edges_on dim (filter looks edges)) a.1 ((contains_same a.1 (h a.1 a.4)).1 (a.0, a.2, a.3)) a.4,
+  )
+
+  -- as many edges of the dimension pass another test, if the test looks at all places that do
+  pub count_same : (p : Edge → Bool) → ((e : Edge) → ((e.dim.0 == dim) && p e) ≡ true → looks e ≡ true) → count_by p (edges_on dim (filter looks edges)) ≡ count_by p (edges_on dim edges)
+  count_same p h =
+      sym (count_of_filter p (λ e. e.dim.0 == dim) (filter looks edges))
+      ∙ ap length (filter_both (λ e. (e.dim.0 == dim) && p e) looks edges ∙ filter_alike (λ e. looks e && ((e.dim.0 == dim) && p e)) (λ e. (e.dim.0 == dim) && p e) edges (λ k d l. and_given (looks _) ((_ == dim) && p _) (h _)))
+      ∙ count_of_filter p (λ e. e.dim.0 == dim) edges
+
+-- an edge that is as a place says, is looked at by the test of that place
+pub sees_place : (dim u l v : ℕ) (e : Edge) → (e.mother.0 ≡ u) × (e.label.0 ≡ l) × (e.daughter.0 ≡ v) → (e.dim.0 == dim) ≡ true → ((e.dim.0 == dim) && (e.mother.0 == u) && (e.label.0 == l) && (e.daughter.0 == v)) ≡ true
+sees_place dim u l v e (m, b, d) on = and_4 (e.dim.0 == dim) (e.mother.0 == u) (e.label.0 == l) (e.daughter.0 == v) on (eq-eqb e.mother.0 u m) (eq-eqb e.label.0 l b) (eq-eqb e.daughter.0 v d)

@@ -1,0 +1,67 @@
+-- The conditions of each principle, in their order, and the tuples of which each condition speaks.
+use Rattle.std.specs.Prelude.{◌≡◌, ℕ, ◌<◌, Bool, List, [], ◌∷◌, ◌++◌, cond, length}
+use Rattle.xdg_problem.specs.declared.analysis.Edge.{Edge}
+use Rattle.xdg_problem.specs.declared.conditions.Condition.{Condition}
+use Rattle.xdg_problem.specs.declared.conditions.Condition.TheVariants as conditions
+use Rattle.xdg_problem.specs.declared.parts.Group.{Group}
+use Rattle.xdg_problem.specs.declared.parts.Parts.{Parts}
+use Rattle.xdg_problem.specs.declared.parts.Principle.{Principle}
+use Rattle.xdg_problem.specs.declared.parts.Principle.TheVariants as principles
+use Rattle.xdg_problem.specs.Places.{nodes}
+use Rattle.xdg_problem.specs.Paths.{edges_on, roots}
+use Rattle.xdg_problem.specs.Arguments.{first_dim, label_count, truth_of}
+
+-- the conditions of a principle with its truth values, which choose two of those of dag
+abbrev pub conditions_for : Principle → List Bool → List Condition
+conditions_for principles.Graph truths = []
+conditions_for principles.Entries truths = []
+conditions_for principles.Tree truths = conditions.Cycle ∷ conditions.Roots ∷ conditions.Mothers ∷ []
+conditions_for principles.Dag truths = conditions.Cycle ∷ (cond (truth_of truths 0) (conditions.Roots ∷ []) [] ++ cond (truth_of truths 1) (conditions.Pair ∷ []) [])
+conditions_for principles.Valency truths = conditions.InCount ∷ conditions.OutCount ∷ []
+conditions_for principles.Order truths = conditions.Order ∷ []
+conditions_for principles.Projectivity truths = conditions.Between ∷ []
+conditions_for principles.Agr truths = conditions.Agr ∷ []
+conditions_for principles.Agreement truths = conditions.Agree ∷ []
+conditions_for principles.Government truths = conditions.Govern ∷ []
+conditions_for principles.Climbing truths = conditions.Below ∷ []
+conditions_for principles.Barriers truths = conditions.Blocked ∷ []
+conditions_for principles.LinkingEnd truths = conditions.Link ∷ []
+conditions_for principles.LinkingDaughter truths = conditions.Link ∷ []
+conditions_for principles.LinkingMother truths = conditions.Link ∷ []
+conditions_for principles.LinkingBelowStart truths = conditions.Link ∷ []
+conditions_for principles.LinkingAboveStart truths = conditions.Link ∷ []
+conditions_for principles.LinkingSisters truths = conditions.Link ∷ []
+conditions_for principles.LinkingNotDaughter truths = conditions.Link ∷ []
+
+-- the conditions of a principle use
+abbrev pub conditions_of : Group → List Condition
+conditions_of group = conditions_for group.principle group.truths
+
+-- one number for each size, and below it
+abbrev pub AreBelow : List ℕ → List ℕ → Type 0
+AreBelow [] [] = Unit {0}
+AreBelow [] (number ∷ numbers) = ⊥
+AreBelow (size ∷ sizes) [] = ⊥
+AreBelow (size ∷ sizes) (number ∷ numbers) = (number < size) × AreBelow sizes numbers
+
+-- how many nodes of the sentence no edge of the first dimension enters
+abbrev pub root_count : Parts → Group → List Edge → ℕ
+root_count parts group edges = length (roots (nodes parts) (edges_on (first_dim group) edges))
+
+-- The tuples in the range of a condition: all nodes and, of the first dimension, all labels at the places where the
+-- condition speaks of them. Roots has one tuple, the number of nodes without mother.
+abbrev pub IsTuple : Condition → Parts → Group → List Edge → List ℕ → Type 0
+IsTuple conditions.Cycle parts group edges tuple = AreBelow (nodes parts ∷ []) tuple
+IsTuple conditions.Roots parts group edges tuple = tuple ≡ root_count parts group edges ∷ []
+IsTuple conditions.Mothers parts group edges tuple = AreBelow (nodes parts ∷ []) tuple
+IsTuple conditions.Pair parts group edges tuple = AreBelow (nodes parts ∷ nodes parts ∷ []) tuple
+IsTuple conditions.InCount parts group edges tuple = AreBelow (nodes parts ∷ label_count parts (first_dim group) ∷ []) tuple
+IsTuple conditions.OutCount parts group edges tuple = AreBelow (nodes parts ∷ label_count parts (first_dim group) ∷ []) tuple
+IsTuple conditions.Order parts group edges tuple = AreBelow (nodes parts ∷ nodes parts ∷ nodes parts ∷ []) tuple
+IsTuple conditions.Between parts group edges tuple = AreBelow (nodes parts ∷ nodes parts ∷ nodes parts ∷ []) tuple
+IsTuple conditions.Agr parts group edges tuple = AreBelow (nodes parts ∷ []) tuple
+IsTuple conditions.Agree parts group edges tuple = AreBelow (nodes parts ∷ label_count parts (first_dim group) ∷ nodes parts ∷ []) tuple
+IsTuple conditions.Govern parts group edges tuple = AreBelow (nodes parts ∷ label_count parts (first_dim group) ∷ nodes parts ∷ []) tuple
+IsTuple conditions.Below parts group edges tuple = AreBelow (nodes parts ∷ nodes parts ∷ []) tuple
+IsTuple conditions.Blocked parts group edges tuple = AreBelow (nodes parts ∷ nodes parts ∷ []) tuple
+IsTuple conditions.Link parts group edges tuple = AreBelow (nodes parts ∷ label_count parts (first_dim group) ∷ nodes parts ∷ []) tuple
