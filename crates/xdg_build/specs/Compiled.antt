@@ -26,12 +26,11 @@ row counts.AtLeastOne = range_with_len 1 127
 abbrev pub feature : List Count → Feat
 feature counts = record { rows = map row counts }
 
--- the features that a principle takes of an entry: valency takes two, what may enter a node and what may leave it
+-- the features that a principle of the plain form takes of an entry: valency takes two, what may enter a node and what may
+-- leave it; graph and tree take none
 abbrev pub features : Principle → PlainEntry → List Feat
-features principles.Graph entry = []
-features principles.Entries entry = []
-features principles.Tree entry = []
 features principles.Valency entry = feature entry.ins ∷ feature entry.outs ∷ []
+features principle entry = []
 
 -- the features of a word's candidates
 abbrev pub candidate_features : Principle → List PlainEntry → List ℕ → List (List Feat)

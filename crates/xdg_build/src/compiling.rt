@@ -4,6 +4,7 @@ ghost use Rattle.std.specs.Prelude.{◌≡◌, None, [], ◌∷◌, IfOk, IfErr,
 ghost use Rattle.xdg_build.specs.Compiled.{compiled, id_plan, lex_plan};
 ghost use Rattle.xdg_build.specs.Refusals.{refusal, IsRefused};
 ghost use Rattle.xdg_plain.specs.IsPlain.{IsPlain};
+ghost use Rattle.xdg_problem.specs.FirstFour.{OfFirstFour};
 
 use crate::features::group_of;
 use crate::lookup::all_candidates;
@@ -86,13 +87,15 @@ fn compile(
     }))
 }
 
-/// The problem that a grammar makes of the words of a sentence.
+/// The problem that a grammar makes of the words of a sentence. Its principles are among the first four that the search
+/// knows.
 ///
 /// # Errors
 ///
 /// A sentence of no word is refused by `Cause::EmptySentence` at 0, one of more than 128 words by `Cause::TooManyWords`
 /// at the 129th, and one with words that no entry has by `Cause::UnknownWord` at the first of these. Where two of them
 /// apply, the one that stands first here is told. `Stop::OutOfMemory` says that no memory was to be had.
+#[tactic(auto, using(crate::proofs::Lawful::made_of_first_four))]
 pub fn build(
     alloc: Global,
     grammar: &PlainGrammar,
@@ -100,6 +103,7 @@ pub fn build(
 ) -> Result<Problem, Stop>
     requires { IsPlain grammar.now }
     ensures built { IfOk result (λ problem. problem ≡ compiled grammar.now words) }
+    ensures few { IfOk result OfFirstFour }
     ensures known { IsOk result → refusal grammar.now words ≡ None }
     ensures refused { IfErr result (IsRefused grammar.now words) }
 {

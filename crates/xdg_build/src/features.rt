@@ -57,7 +57,7 @@ fn feature_of(alloc: Global, counts: &[Count]) -> Result<Feat, AllocError>
     Ok(Feat { rows })
 }
 
-/// The features that a principle takes of an entry.
+/// The features that a principle of the plain form takes of an entry.
 fn features_of(
     alloc: Global,
     principle: Principle,
@@ -67,12 +67,12 @@ fn features_of(
 {
     let mut made = List::new(alloc);
     match principle {
-        Principle::Graph | Principle::Entries | Principle::Tree => Ok(made),
         Principle::Valency => {
             made.push(feature_of(alloc, entry.ins.as_slice())?)?;
             made.push(feature_of(alloc, entry.outs.as_slice())?)?;
             Ok(made)
         }
+        _ => Ok(made),
     }
 }
 

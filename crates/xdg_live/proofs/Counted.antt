@@ -6,7 +6,7 @@ use Rattle.std.proofs.lemmas.List.Sums.{length-filter}
 use Rattle.xdg_problem.specs.declared.analysis.Edge.{Edge}
 use Rattle.xdg_problem.specs.Analyses.{Before}
 use Rattle.xdg_problem.specs.Paths.{edges_on, mothers, edges_into, edges_out_of}
-use Rattle.xdg_problem.specs.Tests.{Test, looks_at, out_count, in_count, one_mother, no_cycle, one_root}
+use Rattle.xdg_live.proofs.FirstTests.{Test, looks_at, out_count, in_count, one_mother, no_cycle, one_root}
 use Rattle.xdg_live.proofs.Looks.{Looks, looks_true, true_looks, follows}
 
 pub same_bool : (a b : Bool) → (a ≡ true → b ≡ true) → (b ≡ true → a ≡ true) → a ≡ b

@@ -16,11 +16,11 @@ use Rattle.xdg_problem.specs.Analyses.{IsPlace}
 use Rattle.xdg_problem.specs.Vectors.{edges_in, first_place, chosen}
 use Rattle.xdg_problem.specs.Features.{row, IsWithin}
 use Rattle.xdg_problem.specs.Arguments.{first_dim, label_count}
-use Rattle.xdg_problem.specs.Tests.{Test, out_count, in_count, one_root}
 use Rattle.xdg_problem.specs.Live.{open_places}
 use Rattle.xdg_problem.specs.Problems.{IsGroup, IsValency, IsCardinality, AreFeatures}
 use Rattle.xdg_problem.proofs.PlaceOrder.{is_place, place_is}
 use Rattle.xdg_live.specs.Steps.{graph_of, has_places}
+use Rattle.xdg_live.proofs.FirstTests.{Test, out_count, in_count, one_root}
 use Rattle.xdg_live.proofs.Looks.{Looks}
 use Rattle.xdg_live.proofs.Newest.{Blind, blind_at, blind_from, label_within}
 use Rattle.xdg_live.proofs.Placing.{chosen_none}
@@ -95,19 +95,19 @@ blind_everywhere parts dim test on none = blind_from dim test (places parts) (λ
 
 -- rows
 
-row_at : (group : Group) (labels k x argument l : ℕ) → All (AreFeatures principles.Valency labels) (slice_index_or group.feats k []) → x < length (slice_index_or group.feats k []) → argument < 2 → l < labels → IsCardinality (row group k x argument l)
-row_at group labels k x argument l all a b c =
+row_at : (parts : Parts) (group : Group) (k x argument l : ℕ) → All (AreFeatures principles.Valency parts group) (slice_index_or group.feats k []) → x < length (slice_index_or group.feats k []) → argument < 2 → l < label_count parts (first_dim group) → IsCardinality (row group k x argument l)
+row_at parts group k x argument l all a b c =
     let features = all x [] a in
     let two = features.0 in
-    let feature : IsValency labels (slice_index_or (slice_index_or (slice_index_or group.feats k []) x []) argument (record { rows = [] })) = features.1 argument (record { rows = [] }) (omega (arith, two, b)) in
+    let feature : IsValency (label_count parts (first_dim group)) (slice_index_or (slice_index_or (slice_index_or group.feats k []) x []) argument (record { rows = [] })) = features.1 argument (record { rows = [] }) (omega (arith, two, b)) in
     let count = feature.count in
     feature.rows l [] (omega (arith, count, c))
 
 pub row_is : (parts : Parts) (group : Group) (k x argument l : ℕ) → IsGroup parts group → group.principle ≡ principles.Valency → k < nodes parts → x < length (slice_index_or parts.candidates k []) → argument < 2 → l < label_count parts (first_dim group) → IsCardinality (row group k x argument l)
 row_is parts group k x argument l is valency a b c d =
     let each = is.feats_each k a in
-    row_at group (label_count parts (first_dim group)) k x argument l
-    (subst (λ (r : Principle). All (AreFeatures r (label_count parts (first_dim group))) (slice_index_or group.feats k [])) valency (is.features k a)) (omega (arith, each, b)) c d
+    row_at parts group k x argument l
+    (subst (λ (r : Principle). All (AreFeatures r parts group) (slice_index_or group.feats k [])) valency (is.features k a)) (omega (arith, each, b)) c d
 
 pub within_none : (numbers : List ℕ) → IsCardinality numbers → IsWithin numbers 0
 within_none numbers is = (slice_index_or numbers 0 0, Contains-get_or numbers 0 0 is.some, omega arith)

@@ -15,11 +15,12 @@ use Rattle.xdg_problem.specs.Paths.{roots}
 use Rattle.xdg_problem.specs.Vectors.{first_place}
 use Rattle.xdg_problem.specs.Features.{in_row, out_row}
 use Rattle.xdg_problem.specs.Arguments.{first_dim, label_count}
-use Rattle.xdg_problem.specs.Tests.{Test, IsTest, Passes, Counts, entry_node, looks_at, out_count, in_count, one_mother, no_cycle, one_root}
-use Rattle.xdg_problem.specs.Live.{EntryStands, entry_in, Stands, IsLiveFor}
+use Rattle.xdg_problem.specs.Tests.{Counts}
+use Rattle.xdg_problem.specs.Live.{EntryStands, entry_in}
 use Rattle.xdg_problem.specs.Problems.{IsGroup, IsCardinality}
-use Rattle.xdg_problem.proofs.Shortening.{reads_same}
+use Rattle.xdg_problem.proofs.AttrPlaces.{first_dim_within}
 use Rattle.xdg_live.specs.Steps.{has_places, EntryStepOf, EntryStep}
+use Rattle.xdg_live.proofs.FirstTests.{Test, IsTest, Passes, entry_node, looks_at, out_count, in_count, one_mother, no_cycle, one_root, Stands, IsLiveFor, reads_same}
 use Rattle.xdg_live.proofs.Newest.{Blind}
 use Rattle.xdg_live.proofs.Placed.{no_cycle_nil}
 use Rattle.xdg_live.proofs.Entries.{all_open, no_edges, out_sees, in_sees, root_sees, blind_everywhere, row_is, within_none}
@@ -57,16 +58,12 @@ newest_number p x v same = get_or_at p x [] 0 v (sym same)
 -- the step suffices
 
 asks_from : (principle : Principle) (test : Test) (parts : Parts) (group : Group) (p : List ℕ) (x : ℕ) → 0 < nodes parts → Entered parts group p x → group.principle ≡ principle → IsTest principle (nodes parts) (label_count parts (first_dim group)) test → EntryStands (entry_node test) (p ++ x ∷ []) → Blind (first_dim group) test (places parts) → Older parts group p x test → (length p < nodes parts → has_places parts (first_dim group) ≡ false → EntryStepOf principle parts (length p) x group) → Asks parts group test (entry_in (entry_node test) (p ++ x ∷ []))
-asks_from principles.Graph test parts group p x some entered same is stands blind older step = absurd is
-asks_from principles.Entries test parts group p x some entered same is stands blind older step = absurd is
-asks_from principles.Tree (out_count v l k) parts group p x some entered same is stands blind older step = absurd is
-asks_from principles.Tree (in_count v l k) parts group p x some entered same is stands blind older step = absurd is
 asks_from principles.Tree (one_mother v k) parts group p x some entered same is stands blind older step = omega arith
 asks_from principles.Tree (no_cycle k) parts group p x some entered same is stands blind older step = no_cycle_nil
 asks_from principles.Tree one_root parts group p x some entered same is stands blind older step =
     let short = entered.short in
     elim (cases_Bool (has_places parts (first_dim group))) [
-      | inl has ↦ absurd (root_sees parts (first_dim group) has entered.is.dim blind)
+      | inl has ↦ absurd (root_sees parts (first_dim group) has (first_dim_within parts group entered.is) blind)
       | inr none ↦ elim (cases_eq (length p) 0) [
         | inr later ↦ older (omega (arith, later)) tt
         | inl first ↦ all_roots (nodes parts) ∙ step (omega (arith, some, first)) none first
@@ -83,7 +80,7 @@ asks_from principles.Valency (out_count v l k) parts group p x some entered same
           subst (λ w. P w (slice_index (p ++ x ∷ []) v)) (sym at) (subst (λ c. P (length p) c) (sym (newest_number p x v at))
           (elim (cases_Bool (has_places parts (first_dim group))) [
             | inl has ↦ unended_counts (nodes parts) k (out_row group (length p) x l) (row_is parts group (length p) x 1 l entered.is same within (entered.value within) (omega arith) is.1)
-                (out_sees parts (first_dim group) v l k has entered.is.dim is.0 is.1 blind)
+                (out_sees parts (first_dim group) v l k has (first_dim_within parts group entered.is) is.0 is.1 blind)
             | inr none ↦ lonely_counts (nodes parts) k (out_row group (length p) x l) (step within none l is.1).1
           ]))
     ]
@@ -98,13 +95,11 @@ asks_from principles.Valency (in_count v l k) parts group p x some entered same 
           subst (λ w. P w (slice_index (p ++ x ∷ []) v)) (sym at) (subst (λ c. P (length p) c) (sym (newest_number p x v at))
           (elim (cases_Bool (has_places parts (first_dim group))) [
             | inl has ↦ unended_counts (nodes parts) k (in_row group (length p) x l) (row_is parts group (length p) x 0 l entered.is same within (entered.value within) (omega arith) is.1)
-                (in_sees parts (first_dim group) v l k has entered.is.dim is.0 is.1 blind)
+                (in_sees parts (first_dim group) v l k has (first_dim_within parts group entered.is) is.0 is.1 blind)
             | inr none ↦ lonely_counts (nodes parts) k (in_row group (length p) x l) (step within none l is.1).0
           ]))
     ]
-asks_from principles.Valency (one_mother v k) parts group p x some entered same is stands blind older step = absurd is
-asks_from principles.Valency (no_cycle k) parts group p x some entered same is stands blind older step = absurd is
-asks_from principles.Valency one_root parts group p x some entered same is stands blind older step = absurd is
+asks_from principle test parts group p x some entered same is stands blind older step = absurd is
 
 -- where the prefix is empty or live and the step holds, the longer prefix is live
 pub entry_live : (parts : Parts) (group : Group) (p : List ℕ) (x : ℕ) → 0 < nodes parts → Entered parts group p x → (0 < length p → IsLiveFor parts group p) → (length p < nodes parts → EntryStep parts (length p) x group) → IsLiveFor parts group (p ++ x ∷ [])
@@ -125,7 +120,6 @@ entry_live parts group p x some entered live step test is stands =
 
 entry_from : (principle : Principle) (parts : Parts) (group : Group) (p : List ℕ) (x : ℕ) → Entered parts group p x → length p < nodes parts → has_places parts (first_dim group) ≡ false → ((test : Test) → IsTest principle (nodes parts) (label_count parts (first_dim group)) test → EntryStands (entry_node test) (p ++ x ∷ []) → Blind (first_dim group) test (places parts) → Asks parts group test (entry_in (entry_node test) (p ++ x ∷ []))) → EntryStepOf principle parts (length p) x group
 entry_from principles.Graph parts group p x entered within none each = tt
-entry_from principles.Entries parts group p x entered within none each = tt
 entry_from principles.Tree parts group p x entered within none each = λ first.
     sym (all_roots (nodes parts)) ∙ each one_root tt tt (blind_everywhere parts (first_dim group) one_root (λ f looks. looks) none)
 entry_from principles.Valency parts group p x entered within none each = λ label small.
@@ -137,6 +131,7 @@ entry_from principles.Valency parts group p x entered within none each = λ labe
       subst (λ (c : ℕ). Contains (out_row group (length p) c label) 0) (newest_number p x (length p) refl)
           ((each (out_count (length p) label last) (within, small, omega (arith, top)) long (blind_everywhere parts (first_dim group) (out_count (length p) label last) (λ f looks. looks.0) none)).1 top),
     )
+entry_from principle parts group p x entered within none each = tt
 
 -- where the longer prefix is live, the step holds
 pub entry_step : (parts : Parts) (group : Group) (p : List ℕ) (x : ℕ) → Entered parts group p x → IsLiveFor parts group (p ++ x ∷ []) → length p < nodes parts → EntryStep parts (length p) x group

@@ -14,11 +14,14 @@ use Rattle.xdg_problem.specs.Places.{nodes, places}
 use Rattle.xdg_problem.specs.Paths.{edges_on, edges_into, edges_out_of}
 use Rattle.xdg_problem.specs.Vectors.{attr_sizes, shape, first_place, entries_at, edges_in, chosen}
 use Rattle.xdg_problem.specs.Features.{in_row, out_row}
-use Rattle.xdg_problem.specs.Live.{IsLiveFor, Live}
+use Rattle.xdg_problem.specs.Live as all
+use Rattle.xdg_problem.specs.Live.{Live}
+use Rattle.xdg_problem.specs.FirstFour.{is_of_first_four, OfFirstFour}
 use Rattle.xdg_problem.specs.Problems.{IsProblem, IsGroup}
 use Rattle.xdg_problem.proofs.PlaceOrder.{is_place}
 use Rattle.xdg_live.specs.Reached.{AreWithin}
 use Rattle.xdg_live.specs.Steps.{IsLastOther, MayCount, ValencyStep, PlaceStepOf, PlaceStep, EntryStep}
+use Rattle.xdg_live.proofs.FirstTests.{IsLiveFor, first_live}
 use Rattle.xdg_live.proofs.Placed.{place_live, place_step}
 use Rattle.xdg_live.proofs.Placing.{Setting, placed, edges_push, chosen_at}
 use Rattle.xdg_live.proofs.EntrySteps.{Entered, entry_live, entry_step}
@@ -49,9 +52,16 @@ shape_entry parts k l =
 nodes_first : (parts : Parts) → IsProblem parts → nodes parts ≤ first_place parts
 nodes_first parts is = let e = is.candidates_each in omega (arith, e)
 
-some_live : (parts : Parts) (p : List ℕ) (k : ℕ) (d : Group) → (length p ≡ 0) ⊎ Live parts p → 0 < length p → k < length parts.groups → IsLiveFor parts (slice_index_or parts.groups k d) p
-some_live parts p k d (inl none) more l = absurd (omega (arith, none, more))
-some_live parts p k d (inr live) more l = live k d l
+-- the prefix is live for the tests of a principle use, which are those of the four principles
+use_of : (parts : Parts) (p : List ℕ) (k : ℕ) (d : Group) → OfFirstFour parts → Live parts p → k < length parts.groups → IsLiveFor parts (slice_index_or parts.groups k d) p
+use_of parts p k d of live l = (first_live parts (slice_index_or parts.groups k d) p (of k d l)).1 (live k d l)
+
+of_use : (parts : Parts) (p : List ℕ) (group : Group) → is_of_first_four group.principle ≡ true → IsLiveFor parts group p → all.IsLiveFor parts group p
+of_use parts p group of live = (first_live parts group p of).0 live
+
+some_live : (parts : Parts) (p : List ℕ) (k : ℕ) (d : Group) → OfFirstFour parts → (length p ≡ 0) ⊎ Live parts p → 0 < length p → k < length parts.groups → IsLiveFor parts (slice_index_or parts.groups k d) p
+some_live parts p k d of (inl none) more l = absurd (omega (arith, none, more))
+some_live parts p k d of (inr live) more l = use_of parts p k d of live l
 
 -- the step at an entry or an attribute
 
@@ -63,17 +73,17 @@ entered parts group p x is group_is short fits = record {
       let at = shape_entry parts (length p) (omega (arith, e, l)) in omega (arith, last, at);
 }
 
-pub entry_exact : (parts : Parts) (p : List ℕ) (x : ℕ) → IsProblem parts → length p < nodes parts → Fits (shape parts) (p ++ x ∷ []) → (length p ≡ 0) ⊎ Live parts p → All (EntryStep parts (length p) x) parts.groups ↔ Live parts (p ++ x ∷ [])
-entry_exact parts p x is short fits live =
+pub entry_exact : (parts : Parts) (p : List ℕ) (x : ℕ) → IsProblem parts → OfFirstFour parts → length p < nodes parts → Fits (shape parts) (p ++ x ∷ []) → (length p ≡ 0) ⊎ Live parts p → All (EntryStep parts (length p) x) parts.groups ↔ Live parts (p ++ x ∷ [])
+entry_exact parts p x is of short fits live =
     let le = nodes_first parts is in
     let within : length p < first_place parts = omega (arith, short, le) in (
-      λ all k d l. entry_live parts (slice_index_or parts.groups k d) p x is.some (entered parts (slice_index_or parts.groups k d) p x is (is.groups k d l) within fits) (λ more. some_live parts p k d live more l) (λ n. all k d l),
-      λ q k d l. entry_step parts (slice_index_or parts.groups k d) p x (entered parts (slice_index_or parts.groups k d) p x is (is.groups k d l) within fits) (q k d l) short,
+      λ all k d l. of_use parts (p ++ x ∷ []) (slice_index_or parts.groups k d) (of k d l) (entry_live parts (slice_index_or parts.groups k d) p x is.some (entered parts (slice_index_or parts.groups k d) p x is (is.groups k d l) within fits) (λ more. some_live parts p k d of live more l) (λ n. all k d l)),
+      λ q k d l. entry_step parts (slice_index_or parts.groups k d) p x (entered parts (slice_index_or parts.groups k d) p x is (is.groups k d l) within fits) (use_of parts (p ++ x ∷ []) k d of q l) short,
     )
 
-pub attr_exact : (parts : Parts) (p : List ℕ) (x : ℕ) → IsProblem parts → nodes parts ≤ length p → length p < first_place parts → Fits (shape parts) (p ++ x ∷ []) → (length p ≡ 0) ⊎ Live parts p → Live parts (p ++ x ∷ [])
-attr_exact parts p x is long within fits live k d l =
-    entry_live parts (slice_index_or parts.groups k d) p x is.some (entered parts (slice_index_or parts.groups k d) p x is (is.groups k d l) within fits) (λ more. some_live parts p k d live more l) (λ n. absurd (omega (arith, n, long)))
+pub attr_exact : (parts : Parts) (p : List ℕ) (x : ℕ) → IsProblem parts → OfFirstFour parts → nodes parts ≤ length p → length p < first_place parts → Fits (shape parts) (p ++ x ∷ []) → (length p ≡ 0) ⊎ Live parts p → Live parts (p ++ x ∷ [])
+attr_exact parts p x is of long within fits live k d l =
+    of_use parts (p ++ x ∷ []) (slice_index_or parts.groups k d) (of k d l) (entry_live parts (slice_index_or parts.groups k d) p x is.some (entered parts (slice_index_or parts.groups k d) p x is (is.groups k d l) within fits) (λ more. some_live parts p k d of live more l) (λ n. absurd (omega (arith, n, long))))
 
 -- the step at an edge place
 
@@ -88,13 +98,12 @@ valency_along parts group p q edges e a b step = record {
 }
 
 step_along : (principle : Principle) (parts : Parts) (group : Group) (p q : List ℕ) (edges : List Edge) (e : Edge) → slice_index p e.mother.0 ≡ slice_index q e.mother.0 → slice_index p e.daughter.0 ≡ slice_index q e.daughter.0 → PlaceStepOf principle parts group p edges e → PlaceStepOf principle parts group q edges e
-step_along principles.Graph parts group p q edges e a b step = tt
-step_along principles.Entries parts group p q edges e a b step = tt
 step_along principles.Tree parts group p q edges e a b step = step
 step_along principles.Valency parts group p q edges e a b step = valency_along parts group p q edges e a b step
+step_along principle parts group p q edges e a b step = tt
 
-pub place_exact : (parts : Parts) (p : List ℕ) (x : ℕ) (e : Edge) (i : ℕ) → IsProblem parts → Setting parts p e i → (length p ≡ 0) ⊎ Live parts p → All (PlaceStep parts p (edges_in parts p ++ cond (x == 0) (e ∷ []) []) e) parts.groups ↔ Live parts (p ++ x ∷ [])
-place_exact parts p x e i is (at, within, here) before =
+pub place_exact : (parts : Parts) (p : List ℕ) (x : ℕ) (e : Edge) (i : ℕ) → IsProblem parts → OfFirstFour parts → Setting parts p e i → (length p ≡ 0) ⊎ Live parts p → All (PlaceStep parts p (edges_in parts p ++ cond (x == 0) (e ∷ []) []) e) parts.groups ↔ Live parts (p ++ x ∷ [])
+place_exact parts p x e i is of (at, within, here) before =
     let q : List ℕ = p ++ x ∷ [] in
     let n = nodes_first parts is in
     let live = after_place parts p is (omega (arith, at)) before in
@@ -105,12 +114,12 @@ place_exact parts p x e i is (at, within, here) before =
     let daughter : e.daughter.0 < nodes parts = known.at.is.daughter in
     let a : slice_index q e.mother.0 ≡ slice_index p e.mother.0 = get_or_append_left p (x ∷ []) 0 e.mother.0 (omega (arith, mother, long)) in
     let b : slice_index q e.daughter.0 ≡ slice_index p e.daughter.0 = get_or_append_left p (x ∷ []) 0 e.daughter.0 (omega (arith, daughter, long)) in (
-      λ all k d l. place_live parts (slice_index_or parts.groups k d) p x e (drop (i + 1) (places parts)) known (live k d l)
+      λ all k d l. of_use parts q (slice_index_or parts.groups k d) (of k d l) (place_live parts (slice_index_or parts.groups k d) p x e (drop (i + 1) (places parts)) known (use_of parts p k d of live l)
           (λ same. step_along (slice_index_or parts.groups k d).principle parts (slice_index_or parts.groups k d) p q (edges_on e.dim.0 (edges_in parts q)) e (sym a) (sym b)
-          (subst (λ (xs : List Edge). PlaceStepOf (slice_index_or parts.groups k d).principle parts (slice_index_or parts.groups k d) p (edges_on e.dim.0 xs) e) (sym push) (all k d l same))),
+          (subst (λ (xs : List Edge). PlaceStepOf (slice_index_or parts.groups k d).principle parts (slice_index_or parts.groups k d) p (edges_on e.dim.0 xs) e) (sym push) (all k d l same)))),
       λ new k d l same. step_along (slice_index_or parts.groups k d).principle parts (slice_index_or parts.groups k d) q p (edges_on e.dim.0 (edges_in parts p ++ cond (x == 0) (e ∷ []) [])) e a b
           (subst (λ (xs : List Edge). PlaceStepOf (slice_index_or parts.groups k d).principle parts (slice_index_or parts.groups k d) q (edges_on e.dim.0 xs) e) push
-          (place_step parts (slice_index_or parts.groups k d) p q e (drop (i + 1) (places parts)) known (new k d l) same)),
+          (place_step parts (slice_index_or parts.groups k d) p q e (drop (i + 1) (places parts)) known (use_of parts q k d of new l) same)),
     )
 
 -- the edges in a prefix are between the nodes

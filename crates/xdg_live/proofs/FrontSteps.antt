@@ -10,6 +10,7 @@ use Rattle.xdg_problem.specs.declared.parts.Parts.{Parts}
 use Rattle.xdg_problem.specs.Places.{nodes, places, edge, below}
 use Rattle.xdg_problem.specs.Vectors.{shape, attr_sizes, first_place, entries_at, edges_in}
 use Rattle.xdg_problem.specs.Live.{Live}
+use Rattle.xdg_problem.specs.FirstFour.{OfFirstFour}
 use Rattle.xdg_search.specs.Problem.{SameProblem}
 use Rattle.xdg_problem.specs.declared.parts.DimPlan.{DimPlan}
 use Rattle.xdg_problem.specs.declared.parts.AttrPlan.{AttrPlan}
@@ -101,16 +102,16 @@ edges_absent parts p x e i s ne = edges_push parts p x e i s ∙ (ap (λ b. edge
 
 -- what the tests of a step tell
 
-pub entry_iff : (parts parts2 : Parts) (p : List ℕ) (x node : ℕ) (b : Bool) → IsProblem parts → parts2 ≡ parts → node ≡ length p → length p < nodes parts → Fits (shape parts) (p ++ x ∷ []) → (length p ≡ 0) ⊎ Live parts p → IsTrue b ↔ All (EntryStep parts2 node x) parts2.groups → IsTrue b ↔ Live parts (p ++ x ∷ [])
-entry_iff parts parts2 p x node b is same at short fits live h =
-    let exact = entry_exact parts p x is short fits live in
+pub entry_iff : (parts parts2 : Parts) (p : List ℕ) (x node : ℕ) (b : Bool) → IsProblem parts → OfFirstFour parts → parts2 ≡ parts → node ≡ length p → length p < nodes parts → Fits (shape parts) (p ++ x ∷ []) → (length p ≡ 0) ⊎ Live parts p → IsTrue b ↔ All (EntryStep parts2 node x) parts2.groups → IsTrue b ↔ Live parts (p ++ x ∷ [])
+entry_iff parts parts2 p x node b is of same at short fits live h =
+    let exact = entry_exact parts p x is of short fits live in
     let P : Parts → ℕ → Type 0 = λ r n. IsTrue b ↔ All (EntryStep r n x) r.groups in
     let g = subst (λ n. P parts n) at (subst (λ r. P r node) same h) in
     (λ t. exact.0 (g.0 t), λ l. g.1 (exact.1 l))
 
-pub place_iff : (parts parts2 : Parts) (p p2 : List ℕ) (x : ℕ) (edges : List Edge) (e : Edge) (i : ℕ) (b : Bool) → IsProblem parts → parts2 ≡ parts → p2 ≡ p → Setting parts p e i → (length p ≡ 0) ⊎ Live parts p → edges ≡ edges_in parts p → IsTrue b ↔ All (PlaceStep parts2 p2 (edges ++ cond (x == 0) (e ∷ []) []) e) parts2.groups → IsTrue b ↔ Live parts (p ++ x ∷ [])
-place_iff parts parts2 p p2 x edges e i b is same as_numbers setting live are h =
-    let exact = place_exact parts p x e i is setting live in
+pub place_iff : (parts parts2 : Parts) (p p2 : List ℕ) (x : ℕ) (edges : List Edge) (e : Edge) (i : ℕ) (b : Bool) → IsProblem parts → OfFirstFour parts → parts2 ≡ parts → p2 ≡ p → Setting parts p e i → (length p ≡ 0) ⊎ Live parts p → edges ≡ edges_in parts p → IsTrue b ↔ All (PlaceStep parts2 p2 (edges ++ cond (x == 0) (e ∷ []) []) e) parts2.groups → IsTrue b ↔ Live parts (p ++ x ∷ [])
+place_iff parts parts2 p p2 x edges e i b is of same as_numbers setting live are h =
+    let exact = place_exact parts p x e i is of setting live in
     let P : Parts → List ℕ → List Edge → Type 0 = λ r ns es. IsTrue b ↔ All (PlaceStep r ns (es ++ cond (x == 0) (e ∷ []) []) e) r.groups in
     let g = subst (λ es. P parts p es) are (subst (λ ns. P parts ns edges) as_numbers (subst (λ r. P r p2 edges) same h)) in
     (λ t. exact.0 (g.0 t), λ l. g.1 (exact.1 l))

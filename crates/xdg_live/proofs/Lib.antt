@@ -1,3 +1,4 @@
+pub mod FirstTests
 pub mod Looks
 pub mod Newest
 pub mod Counted

@@ -3,7 +3,7 @@ use Rattle.std.proofs.Common.{◌≡◌, ℕ, ◌<◌, ◌≤◌, Bool, true, �
 use Rattle.std.proofs.lemmas.Bool.{and_parts, and_from, eqb-true, leb-true, eq-eqb, le-leb}
 use Rattle.xdg_problem.specs.declared.analysis.Edge.{Edge}
 use Rattle.xdg_problem.specs.Analyses.{Before}
-use Rattle.xdg_problem.specs.Tests.{Test, looks_at, out_count, in_count, one_mother, no_cycle, one_root}
+use Rattle.xdg_live.proofs.FirstTests.{Test, looks_at, out_count, in_count, one_mother, no_cycle, one_root}
 
 -- a test looks at a place, as equations
 abbrev pub Looks : ℕ → Test → Edge → Type 0

@@ -9,8 +9,8 @@ use Rattle.xdg_problem.specs.declared.parts.Parts.{Parts}
 use Rattle.xdg_problem.specs.Places.{edge, nodes}
 use Rattle.xdg_problem.specs.Analyses.{Before, IsPlace}
 use Rattle.xdg_problem.specs.Arguments.{label_count}
-use Rattle.xdg_problem.specs.Tests.{Test, looks_at, out_count, in_count, one_mother, no_cycle, one_root}
 use Rattle.xdg_live.specs.Steps.{IsLastOther}
+use Rattle.xdg_live.proofs.FirstTests.{Test, looks_at, out_count, in_count, one_mother, no_cycle, one_root}
 use Rattle.xdg_live.proofs.Looks.{Looks, looks_true, true_looks, follows}
 
 -- the newest place and the places after it

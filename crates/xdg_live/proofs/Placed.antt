@@ -13,10 +13,10 @@ use Rattle.xdg_problem.specs.Paths.{edges_on, Above, NoCycle, roots}
 use Rattle.xdg_problem.specs.Vectors.{edges_in}
 use Rattle.xdg_problem.specs.Features.{in_row, out_row}
 use Rattle.xdg_problem.specs.Arguments.{first_dim, label_count}
-use Rattle.xdg_problem.specs.Tests.{Test, IsTest, Passes, Counts, entry_node, looks_at, out_count, in_count, one_mother, no_cycle, one_root}
-use Rattle.xdg_problem.specs.Live.{open_places, EntryStands, entry_in, Stands, IsLiveFor}
-use Rattle.xdg_problem.proofs.Shortening.{reads_same}
+use Rattle.xdg_problem.specs.Tests.{Counts}
+use Rattle.xdg_problem.specs.Live.{open_places, EntryStands, entry_in}
 use Rattle.xdg_live.specs.Steps.{IsLastOther, MayCount, ValencyStep, PlaceStepOf, PlaceStep}
+use Rattle.xdg_live.proofs.FirstTests.{Test, IsTest, Passes, entry_node, looks_at, out_count, in_count, one_mother, no_cycle, one_root, Stands, IsLiveFor, reads_same}
 use Rattle.xdg_live.proofs.Looks.{Looks, looks_true, true_looks, follows}
 use Rattle.xdg_live.proofs.Newest.{At, Blind, blind_from, label_within, IsNewest, newest_of_last, last_of_newest, out_newest, out_blind, in_newest, in_blind, mother_newest, mother_blind, cycle_newest, cycle_blind, root_newest, root_blind}
 use Rattle.xdg_live.proofs.Counted.{UpTo, up_mother, out_same, in_same, mothers_same, cycle_same, root_same, kept, kept_was}
@@ -103,10 +103,6 @@ cycle_earlier parts p q e after placed old none = elim (cases_eq e.mother.0 0) [
 -- the step suffices
 
 passes_from : (principle : Principle) (test : Test) (parts : Parts) (group : Group) (p q : List ℕ) (e : Edge) (after : List Edge) (labels : ℕ) → Placed parts p q e after → IsTest principle (nodes parts) labels test → PlaceStepOf principle parts group q (edges_on e.dim.0 (edges_in parts q)) e → (principle ≡ principles.Tree → OldCycles parts p e after) → Looks e.dim.0 test e → Blind e.dim.0 test after → Passes (nodes parts) group test (entry_in (entry_node test) q) (filter (looks_at e.dim.0 test) (edges_in parts q))
-passes_from principles.Graph test parts group p q e after labels placed is step old looks blind = absurd is
-passes_from principles.Entries test parts group p q e after labels placed is step old looks blind = absurd is
-passes_from principles.Tree (out_count v l k) parts group p q e after labels placed is step old looks blind = absurd is
-passes_from principles.Tree (in_count v l k) parts group p q e after labels placed is step old looks blind = absurd is
 passes_from principles.Tree (one_mother v k) parts group p q e after labels placed is step old (d, m, le) blind =
     let P : ℕ → Type 0 = λ w. Blind e.dim.0 (one_mother w k) after → length (filter (looks_at e.dim.0 (one_mother w k)) (edges_in parts q)) ≤ 1 in
     subst P m (λ b. let most = step.mothers_most (mother_newest parts e after k placed.at le is.1 b) in let same = mothers_same e k (edges_in parts q) placed.upto le in omega (arith, most, same)) blind
@@ -122,9 +118,7 @@ passes_from principles.Valency (out_count v l k) parts group p q e after labels 
 passes_from principles.Valency (in_count v l k) parts group p q e after labels placed is step old (d, m, s, le) blind =
     let P : ℕ → ℕ → Type 0 = λ w z. Blind e.dim.0 (in_count w z k) after → Passes (nodes parts) group (in_count w z k) (slice_index q w) (filter (looks_at e.dim.0 (in_count w z k)) (edges_in parts q)) in
     subst (λ w. P w l) m (subst (λ z. P e.daughter.0 z) s (λ b. in_passes parts group p q e after k placed step is.2 le b)) blind
-passes_from principles.Valency (one_mother v k) parts group p q e after labels placed is step old looks blind = absurd is
-passes_from principles.Valency (no_cycle k) parts group p q e after labels placed is step old looks blind = absurd is
-passes_from principles.Valency one_root parts group p q e after labels placed is step old looks blind = absurd is
+passes_from principle test parts group p q e after labels placed is step old looks blind = absurd is
 
 looks_dim : (dim : ℕ) (test : Test) (e : Edge) → Looks dim test e → e.dim.0 ≡ dim
 looks_dim dim (out_count v l k) e looks = looks.0
@@ -134,18 +128,12 @@ looks_dim dim (no_cycle k) e looks = looks.0
 looks_dim dim one_root e looks = looks
 
 pub node_stands : (principle : Principle) (test : Test) (n labels : ℕ) (p : List ℕ) → IsTest principle n labels test → n ≤ length p → EntryStands (entry_node test) p
-node_stands principles.Graph test n labels p is le = absurd is
-node_stands principles.Entries test n labels p is le = absurd is
-node_stands principles.Tree (out_count v l k) n labels p is le = absurd is
-node_stands principles.Tree (in_count v l k) n labels p is le = absurd is
 node_stands principles.Tree (one_mother v k) n labels p is le = tt
 node_stands principles.Tree (no_cycle k) n labels p is le = tt
 node_stands principles.Tree one_root n labels p is le = tt
 node_stands principles.Valency (out_count v l k) n labels p is le = let h = is.0 in omega (arith, h, le)
 node_stands principles.Valency (in_count v l k) n labels p is le = let h = is.0 in omega (arith, h, le)
-node_stands principles.Valency (one_mother v k) n labels p is le = absurd is
-node_stands principles.Valency (no_cycle k) n labels p is le = absurd is
-node_stands principles.Valency one_root n labels p is le = absurd is
+node_stands principle test n labels p is le = absurd is
 
 old_cycles : (parts : Parts) (group : Group) (p : List ℕ) (e : Edge) (after : List Edge) → open_places parts p ≡ e ∷ after → IsLiveFor parts group p → first_dim group ≡ e.dim.0 → group.principle ≡ principles.Tree → OldCycles parts p e after
 old_cycles parts group p e after left live same tree k within blind =
@@ -178,7 +166,6 @@ Completed principle parts group q e after labels = (test : Test) → IsTest prin
 
 step_from : (principle : Principle) (parts : Parts) (group : Group) (p q : List ℕ) (e : Edge) (after : List Edge) → Placed parts p q e after → Completed principle parts group q e after (label_count parts e.dim.0) → PlaceStepOf principle parts group q (edges_on e.dim.0 (edges_in parts q)) e
 step_from principles.Graph parts group p q e after placed each = tt
-step_from principles.Entries parts group p q e after placed each = tt
 step_from principles.Tree parts group p q e after placed each =
     let mother : e.mother.0 < nodes parts = placed.at.is.mother in
     let daughter : e.daughter.0 < nodes parts = placed.at.is.daughter in
@@ -206,6 +193,7 @@ step_from principles.Valency parts group p q e after placed each =
           subst (λ (c : ℕ). Counts (nodes parts) k (in_row group e.daughter.0 (slice_index q e.daughter.0) e.label.0) c) (in_same e k (edges_in parts q) placed.upto (newest_up e.daughter.0 e.mother.0 k newest))
           (each (in_count e.daughter.0 e.label.0 k) (daughter, label, within) (in_blind parts e after k placed.at newest))) mother;
     }
+step_from principle parts group p q e after placed each = tt
 
 -- where the longer prefix is live, the step holds
 pub place_step : (parts : Parts) (group : Group) (p q : List ℕ) (e : Edge) (after : List Edge) → Placed parts p q e after → IsLiveFor parts group q → PlaceStep parts q (edges_in parts q) e group

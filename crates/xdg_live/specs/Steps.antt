@@ -38,11 +38,12 @@ pub record TreeStep (n labels : ℕ) (edges : List Edge) (place : Edge) : Type 0
   pub cycle : place.label.0 + 1 ≡ labels → IsLastOther n place.mother.0 place.daughter.0 → Above edges place.mother.0 place.mother.0 → ⊥
   pub roots_one : place.label.0 + 1 ≡ labels → IsLastOther n place.mother.0 place.daughter.0 → place.mother.0 + 1 ≡ n → length (roots n edges) ≡ 1
 
+-- what the search knows of tree and valency; graph and entries ask nothing, and no other principle is in a problem that
+-- it takes
 abbrev pub PlaceStepOf : Principle → Parts → Group → List ℕ → List Edge → Edge → Type 0
-PlaceStepOf principles.Graph parts group numbers edges place = Unit {0}
-PlaceStepOf principles.Entries parts group numbers edges place = Unit {0}
 PlaceStepOf principles.Tree parts group numbers edges place = TreeStep (nodes parts) (label_count parts place.dim.0) edges place
 PlaceStepOf principles.Valency parts group numbers edges place = ValencyStep parts group numbers edges place
+PlaceStepOf principle parts group numbers edges place = Unit {0}
 
 -- the tests of a principle use that the newest edge place completes hold of the edges up to it
 abbrev pub PlaceStep : Parts → List ℕ → List Edge → Edge → Group → Type 0
@@ -53,10 +54,9 @@ abbrev pub LonelyEntry : Parts → Group → ℕ → ℕ → Type 0
 LonelyEntry parts group node candidate = (label : ℕ) → label < label_count parts (first_dim group) → Contains (in_row group node candidate label) 0 × Contains (out_row group node candidate label) 0
 
 abbrev pub EntryStepOf : Principle → Parts → ℕ → ℕ → Group → Type 0
-EntryStepOf principles.Graph parts node candidate group = Unit {0}
-EntryStepOf principles.Entries parts node candidate group = Unit {0}
 EntryStepOf principles.Tree parts node candidate group = node ≡ 0 → nodes parts ≡ 1
 EntryStepOf principles.Valency parts node candidate group = LonelyEntry parts group node candidate
+EntryStepOf principle parts node candidate group = Unit {0}
 
 -- the tests of a principle use that the entry of a node completes hold: those that look at no edge place
 abbrev pub EntryStep : Parts → ℕ → ℕ → Group → Type 0

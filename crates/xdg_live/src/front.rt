@@ -5,6 +5,7 @@ ghost use Rattle.std.specs.Vec.{vec_capacity};
 ghost use Rattle.xdg_listing.specs.Fits.{Fits};
 ghost use Rattle.xdg_problem.specs.Places.{nodes, places};
 ghost use Rattle.xdg_problem.specs.Vectors.{shape, first_place, entries_at, edges_in, analysis_of};
+ghost use Rattle.xdg_problem.specs.FirstFour.{OfFirstFour};
 ghost use Rattle.xdg_problem.specs.Live.{Live};
 ghost use Rattle.xdg_problem.specs.Problems.{IsProblem};
 
@@ -25,6 +26,7 @@ pub struct LiveFront<'a> {
     numbers: Vec<u16>,
     entries: Vec<EntryNo>,
     edges: Vec<Edge>,
+    ghost first_four: { OfFirstFour problem.now },
     ghost short: { length numbers.items ≤ length (shape problem.now) },
     ghost listed: { edge_places ≡ places problem.now },
     ghost first_is: { first ≡ first_place problem.now },
@@ -38,6 +40,7 @@ pub struct LiveFront<'a> {
 impl<'a> LiveFront<'a> {
     /// The empty prefix. All memory that longer ones need is taken here.
     pub fn start(alloc: Global, problem: &'a Problem) -> Result<LiveFront<'a>, AllocError>
+        requires { OfFirstFour problem.now }
         ensures { IfOk result (λ front. (front.problem.now ≡ problem.entry.now) × (front.numbers.items ≡ [])) }
     {
         let edge_places = problem.edge_places(alloc)?;

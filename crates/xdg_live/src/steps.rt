@@ -145,8 +145,6 @@ fn passes_use(parts: &Parts, group: &Group, numbers: &[u16], edges: &[Edge], pla
         return true;
     }
     match group.principle {
-        Principle::Graph => true,
-        Principle::Entries => true,
         Principle::Tree => passes_tree(
             parts.words.len(),
             label_count_of(parts, place.dim.0),
@@ -154,6 +152,7 @@ fn passes_use(parts: &Parts, group: &Group, numbers: &[u16], edges: &[Edge], pla
             place,
         ),
         Principle::Valency => passes_valency(parts, group, numbers, edges, place),
+        _ => true,
     }
 }
 
@@ -207,10 +206,9 @@ fn passes_entry_use(parts: &Parts, group: &Group, node: usize, candidate: u16) -
         return true;
     }
     match group.principle {
-        Principle::Graph => true,
-        Principle::Entries => true,
         Principle::Tree => node != 0 || parts.words.len() == 1,
         Principle::Valency => passes_alone(parts, group, node, candidate),
+        _ => true,
     }
 }
 

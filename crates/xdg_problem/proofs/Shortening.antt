@@ -51,11 +51,11 @@ open_less parts P p t all =
     let e : short + (long - short) ≡ long = omega (arith, length-append p t) in
     subst (λ n. All P (drop n (places parts))) e (subst (All P) (drop-drop (long - short) short (places parts)) (All-drop P (long - short) (open_places parts p) all))
 
-entry_stands : (node : Option ℕ) (p t : List ℕ) → EntryStands node p → EntryStands node (p ++ t)
+pub entry_stands : (node : Option ℕ) (p t : List ℕ) → EntryStands node p → EntryStands node (p ++ t)
 entry_stands None p t stands = tt
 entry_stands (Some node) p t stands = omega (arith, length-append p t)
 
-entry_same : (node : Option ℕ) (p t : List ℕ) → EntryStands node p → entry_in node (p ++ t) ≡ entry_in node p
+pub entry_same : (node : Option ℕ) (p t : List ℕ) → EntryStands node p → entry_in node (p ++ t) ≡ entry_in node p
 entry_same None p t stands = refl
 entry_same (Some node) p t stands = get_or_append_left p t 0 node stands
 

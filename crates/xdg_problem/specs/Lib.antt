@@ -17,4 +17,5 @@ pub mod Tests
 pub mod Live
 pub mod Solutions
 pub mod Problems
+pub mod FirstFour
 pub mod Tries

@@ -5,6 +5,7 @@ ghost use Rattle.xdg_ast.specs.Derives.{Reads};
 ghost use Rattle.xdg_build.specs.Compiled.{compiled};
 ghost use Rattle.xdg_build.specs.Refusals.{fault};
 ghost use Rattle.xdg_plain.specs.IsPlain.{IsPlain};
+ghost use Rattle.xdg_problem.specs.FirstFour.{OfFirstFour};
 ghost use Rattle.xdg_words.specs.Words.{words};
 ghost use Rattle.xdg_top.specs.Places.{place_in};
 ghost use Rattle.xdg_top.specs.Texts.{HasTree};
@@ -144,6 +145,7 @@ fn problem_in(alloc: Global, grammar: &PlainGrammar, input: &[u8]) -> Result<Pro
     requires within { length input.now ≤ 65536 }
     ensures sentence { IfOk result (λ problem. IsSentence grammar.now input.now) }
     ensures problem { IfOk result (λ problem. problem ≡ compiled grammar.now (words input.now)) }
+    ensures few { IfOk result OfFirstFour }
     ensures refused { IfErr result (IsNoSentence grammar.now input.now) }
 {
     let text = match str::from_utf8(input) {
@@ -183,6 +185,7 @@ pub fn read_problem<S: Source>(
     requires plain { IsPlain grammar.now }
     ensures sentence { IfOk result (λ problem. (input : List ℕ) → S.left source.old ≡ Some input → IsSentence grammar.now input × (problem ≡ compiled grammar.now (words input))) }
     ensures all { IfOk result (λ problem. (input : List ℕ) → S.left source.old ≡ Some input → S.left source.new ≡ Some []) }
+    ensures few { IfOk result OfFirstFour }
     ensures refused { IfErr result (NoSentence grammar.now (S.left source.old) (S.faults source.old) (S.faults source.new)) }
     ensures lasting { S.faults source.old ≤ S.faults source.new }
 {

@@ -3,6 +3,7 @@
 ghost use Rattle.std.specs.Prelude.{◌≡◌, ◌≤◌, ◌^◌, ◌<◌, ◌+◌, [], None, length};
 ghost use Rattle.xdg_io.specs.Rose.{Rose};
 ghost use Rattle.xdg_problem.specs.Vectors.{shape};
+ghost use Rattle.xdg_problem.specs.FirstFour.{OfFirstFour};
 ghost use Rattle.xdg_problem.specs.Live.{Live};
 ghost use Rattle.xdg_problem.specs.Problems.{IsProblem};
 ghost use Rattle.xdg_search.specs.Lawful.{IsLawful};
@@ -25,6 +26,7 @@ pub fn print_analyses<K: Sink>(
     budget: u64,
     sink: &mut K,
 ) -> Status
+    requires { OfFirstFour problem.now }
     ensures written { Writes result budget problem.now (K.held sink.old) (K.held sink.new) }
     ensures cause { result ≡ Status.WriteFault → Rose (K.faults sink.old) (K.faults sink.new) }
     ensures lasting { K.faults sink.old ≤ K.faults sink.new }

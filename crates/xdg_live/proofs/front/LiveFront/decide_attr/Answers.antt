@@ -6,7 +6,7 @@ use Rattle.xdg_live.proofs.FrontSteps.{short_after, entries_stay, edges_stay}
 use Rattle.xdg_live.proofs.front.LiveFront.decide_attr.Goals as goal
 
 pub returns-clause-live : goal.returns-clause-live
-returns-clause-live c = attr_exact c.args.self.now.problem.now c.args.self.now.numbers.items c.args.value c.requires.problem c.requires.at c.requires.before c.requires.fits c.requires.counts
+returns-clause-live c = attr_exact c.args.self.now.problem.now c.args.self.now.numbers.items c.args.value c.requires.problem c.args.self.now.first_four c.requires.at c.requires.before c.requires.fits c.requires.counts
 
 pub invariant_of-self : goal.invariant_of-self
 invariant_of-self c =
@@ -15,6 +15,7 @@ invariant_of-self c =
     let held = c.push_reserved.ensures.capacity in
     let short : length c.push_reserved.new.self.items ≤ length (shape c.args.self.now.problem.now) = let h = short_after c.args.self.now.problem.now c.args.self.now.numbers.items c.args.value c.requires.fits in let l = ap length items in omega (arith, h, l) in
     record {
+      first_four = c.args.self.now.first_four;
       short = short;
       listed = c.args.self.now.listed;
       first_is = c.args.self.now.first_is;

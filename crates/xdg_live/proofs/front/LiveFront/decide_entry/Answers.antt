@@ -12,7 +12,7 @@ pub returns-then-not-passes_entry-clause-refused : goal.returns-then-not-passes_
 returns-then-not-passes_entry-clause-refused c = λ f. (
   refl,
   λ live. false≢true
-      ((entry_iff c.args.self.now.problem.now c.parts-parts.result.now c.args.self.now.numbers.items c.args.value c.len-node.result false c.parts-parts.ensures.kept c.parts-parts.ensures.same (let h = c.len-node.ensures in let r : c.len-node.result ≡ length c.args.self.now.numbers.items = omega (arith, h) in r) c.requires.at c.requires.fits c.requires.counts c.if-not-passes_entry.ensures).1 live),
+      ((entry_iff c.args.self.now.problem.now c.parts-parts.result.now c.args.self.now.numbers.items c.args.value c.len-node.result false c.parts-parts.ensures.kept c.args.self.now.first_four c.parts-parts.ensures.same (let h = c.len-node.ensures in let r : c.len-node.result ≡ length c.args.self.now.numbers.items = omega (arith, h) in r) c.requires.at c.requires.fits c.requires.counts c.if-not-passes_entry.ensures).1 live),
 )
 
 pub push_reserved-requires : goal.push_reserved-requires
@@ -24,7 +24,7 @@ push_reserved-requires c =
 pub returns-clause-taken : goal.returns-clause-taken
 returns-clause-taken c = λ t. (
   c.push_reserved-2.ensures.items,
-  (entry_iff c.args.self.now.problem.now c.parts-parts.result.now c.args.self.now.numbers.items c.args.value c.len-node.result true c.parts-parts.ensures.kept c.parts-parts.ensures.same (let h = c.len-node.ensures in let r : c.len-node.result ≡ length c.args.self.now.numbers.items = omega (arith, h) in r) c.requires.at c.requires.fits c.requires.counts c.if-not-passes_entry.ensures).0 refl,
+  (entry_iff c.args.self.now.problem.now c.parts-parts.result.now c.args.self.now.numbers.items c.args.value c.len-node.result true c.parts-parts.ensures.kept c.args.self.now.first_four c.parts-parts.ensures.same (let h = c.len-node.ensures in let r : c.len-node.result ≡ length c.args.self.now.numbers.items = omega (arith, h) in r) c.requires.at c.requires.fits c.requires.counts c.if-not-passes_entry.ensures).0 refl,
 )
 
 pub invariant_of-self : goal.invariant_of-self
@@ -38,6 +38,7 @@ invariant_of-self c =
     let first = nodes_before c.args.self.now.problem.now c.args.self.now.numbers.items c.parts-parts.ensures.kept c.requires.at in
     let at = (let h = c.len-node.ensures in let r : c.len-node.result ≡ length c.args.self.now.numbers.items = omega (arith, h) in r) in
     record {
+      first_four = c.args.self.now.first_four;
       short = short;
       listed = c.args.self.now.listed;
       first_is = c.args.self.now.first_is;

@@ -51,7 +51,7 @@ pub returns-then-not-try_place-clause-refused : goal.returns-then-not-try_place-
 returns-then-not-try_place-clause-refused c = λ f. (
   refl,
   λ live. false≢true
-      ((place_iff c.args.self.now.problem.now c.parts-parts.result.now c.args.self.now.numbers.items c.as_slice-2.result.now c.args.value c.args.self.now.edges.items (get_or c.as_slice.result.now (c.len.result - c.args.self.now.first) (edge 0 0 0 0)) (length c.args.self.now.numbers.items - first_place c.args.self.now.problem.now) false c.parts-parts.ensures.kept c.parts-parts.ensures.same c.as_slice-2.ensures.value (read_place c.args.self.now.problem.now c.args.self.now.numbers.items c.as_slice.result.now (c.len.result - c.args.self.now.first) (edge 0 0 0 0) (c.as_slice.ensures ∙ c.args.self.now.listed) (let len = c.len.ensures in here_is c.len.result c.args.self.now.first (first_place c.args.self.now.problem.now) (length c.args.self.now.numbers.items) (omega (arith, len)) c.args.self.now.first_is) c.requires.at (room_after c.args.self.now.problem.now c.args.self.now.numbers.items c.args.value c.requires.fits)) c.requires.counts c.args.self.now.edges_are c.if-not-try_place.ensures.exact).1 live),
+      ((place_iff c.args.self.now.problem.now c.parts-parts.result.now c.args.self.now.numbers.items c.as_slice-2.result.now c.args.value c.args.self.now.edges.items (get_or c.as_slice.result.now (c.len.result - c.args.self.now.first) (edge 0 0 0 0)) (length c.args.self.now.numbers.items - first_place c.args.self.now.problem.now) false c.parts-parts.ensures.kept c.args.self.now.first_four c.parts-parts.ensures.same c.as_slice-2.ensures.value (read_place c.args.self.now.problem.now c.args.self.now.numbers.items c.as_slice.result.now (c.len.result - c.args.self.now.first) (edge 0 0 0 0) (c.as_slice.ensures ∙ c.args.self.now.listed) (let len = c.len.ensures in here_is c.len.result c.args.self.now.first (first_place c.args.self.now.problem.now) (length c.args.self.now.numbers.items) (omega (arith, len)) c.args.self.now.first_is) c.requires.at (room_after c.args.self.now.problem.now c.args.self.now.numbers.items c.args.value c.requires.fits)) c.requires.counts c.args.self.now.edges_are c.if-not-try_place.ensures.exact).1 live),
 )
 
 pub push_reserved-requires : goal.push_reserved-requires
@@ -63,7 +63,7 @@ push_reserved-requires c =
 pub returns-clause-taken : goal.returns-clause-taken
 returns-clause-taken c = λ t. (
   c.push_reserved.ensures.items,
-  (place_iff c.args.self.now.problem.now c.parts-parts.result.now c.args.self.now.numbers.items c.as_slice-2.result.now c.args.value c.args.self.now.edges.items (get_or c.as_slice.result.now (c.len.result - c.args.self.now.first) (edge 0 0 0 0)) (length c.args.self.now.numbers.items - first_place c.args.self.now.problem.now) true c.parts-parts.ensures.kept c.parts-parts.ensures.same c.as_slice-2.ensures.value (read_place c.args.self.now.problem.now c.args.self.now.numbers.items c.as_slice.result.now (c.len.result - c.args.self.now.first) (edge 0 0 0 0) (c.as_slice.ensures ∙ c.args.self.now.listed) (let len = c.len.ensures in here_is c.len.result c.args.self.now.first (first_place c.args.self.now.problem.now) (length c.args.self.now.numbers.items) (omega (arith, len)) c.args.self.now.first_is) c.requires.at (room_after c.args.self.now.problem.now c.args.self.now.numbers.items c.args.value c.requires.fits)) c.requires.counts c.args.self.now.edges_are c.if-not-try_place.ensures.exact).0 refl,
+  (place_iff c.args.self.now.problem.now c.parts-parts.result.now c.args.self.now.numbers.items c.as_slice-2.result.now c.args.value c.args.self.now.edges.items (get_or c.as_slice.result.now (c.len.result - c.args.self.now.first) (edge 0 0 0 0)) (length c.args.self.now.numbers.items - first_place c.args.self.now.problem.now) true c.parts-parts.ensures.kept c.args.self.now.first_four c.parts-parts.ensures.same c.as_slice-2.ensures.value (read_place c.args.self.now.problem.now c.args.self.now.numbers.items c.as_slice.result.now (c.len.result - c.args.self.now.first) (edge 0 0 0 0) (c.as_slice.ensures ∙ c.args.self.now.listed) (let len = c.len.ensures in here_is c.len.result c.args.self.now.first (first_place c.args.self.now.problem.now) (length c.args.self.now.numbers.items) (omega (arith, len)) c.args.self.now.first_is) c.requires.at (room_after c.args.self.now.problem.now c.args.self.now.numbers.items c.args.value c.requires.fits)) c.requires.counts c.args.self.now.edges_are c.if-not-try_place.ensures.exact).0 refl,
 )
 
 pub invariant_of-self-2 : goal.invariant_of-self-2
@@ -75,6 +75,7 @@ invariant_of-self-2 c =
     let room3 = c.args.self.now.edge_room in
     let held3 = c.try_place.ensures.capacity in
     record {
+      first_four = c.args.self.now.first_four;
       short = short;
       listed = c.args.self.now.listed;
       first_is = c.args.self.now.first_is;

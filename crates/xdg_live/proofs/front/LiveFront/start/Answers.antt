@@ -28,6 +28,7 @@ invariant_of-result c =
     let empty : length c.in_ok-numbers.numbers.items ≡ 0 = ap length none in
     let short : length c.in_ok-numbers.numbers.items ≤ length (shape c.args.problem.now) = omega (arith, empty) in
     record {
+      first_four = c.requires;
       short = short;
       listed = listed;
       first_is = first;

@@ -22,6 +22,7 @@ invariant_of-self-then-at-len c =
     let before = nodes_before c.args.self.now.problem.now c.pop.new.self.items c.parts.ensures.kept within in
     let short : length c.pop.new.self.items ≤ length (shape c.args.self.now.problem.now) = omega (arith, long) in
     record {
+      first_four = c.args.self.now.first_four;
       short = short;
       listed = c.args.self.now.listed;
       first_is = c.args.self.now.first_is;
@@ -50,6 +51,7 @@ invariant_of-self-then-at-self c =
     let before : length c.pop.new.self.items < first_place c.args.self.now.problem.now = omega (arith, at, first, test2) in
     let short : length c.pop.new.self.items ≤ length (shape c.args.self.now.problem.now) = omega (arith, long) in
     record {
+      first_four = c.args.self.now.first_four;
       short = short;
       listed = c.args.self.now.listed;
       first_is = c.args.self.now.first_is;
@@ -78,6 +80,7 @@ invariant_of-self-then-value-ne0 c =
     let placing : first_place c.args.self.now.problem.now ≤ length c.pop.new.self.items = omega (arith, at, first, test2) in
     let short : length c.pop.new.self.items ≤ length (shape c.args.self.now.problem.now) = omega (arith, long) in
     record {
+      first_four = c.args.self.now.first_four;
       short = short;
       listed = c.args.self.now.listed;
       first_is = c.args.self.now.first_is;
@@ -108,6 +111,7 @@ invariant_of-self-2 c =
     let zero_is : c.in-Some.value ≡ 0 = omega (arith, test3) in
     let short : length c.pop.new.self.items ≤ length (shape c.args.self.now.problem.now) = omega (arith, long) in
     record {
+      first_four = c.args.self.now.first_four;
       short = short;
       listed = c.args.self.now.listed;
       first_is = c.args.self.now.first_is;
