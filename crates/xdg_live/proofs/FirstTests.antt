@@ -1,6 +1,6 @@
 -- The tests of graph, entries, tree and valency by themselves: they look at one dimension and at no attribute.
-use Rattle.std.proofs.Common.{◌≡◌, ℕ, ◌<◌, ◌≤◌, ◌+◌, ◌↔◌, ◌&&◌, Bool, true, false, List, [], ◌∷◌, ◌++◌, length, sym, subst, refl, Option, Some, None}
-use Rattle.std.specs.Prelude.{◌==◌, nat_le, filter, All, Contains, slice_index}
+use Rattle.std.proofs.Common.{◌≡◌, ℕ, ◌<◌, ◌≤◌, ◌↔◌, ◌&&◌, Bool, true, false, List, ◌++◌, length, sym, subst, Option, Some, None}
+use Rattle.std.specs.Prelude.{◌==◌, nat_le, filter, All}
 use Rattle.std.proofs.lemmas.Bool.{false≢true}
 use Rattle.std.proofs.lemmas.List.Elements.{All-nil}
 use Rattle.xdg_problem.specs.declared.analysis.Edge.{Edge}

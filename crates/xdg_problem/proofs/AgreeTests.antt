@@ -1,5 +1,5 @@
 -- On a whole vector the tests of agr, agreement and government are their conditions.
-use Rattle.std.proofs.Common.{◌≡◌, ℕ, ◌<◌, ◌↔◌, List, [], ◌∷◌}
+use Rattle.std.proofs.Common.{◌≡◌, ℕ, ◌↔◌, List}
 use Rattle.std.specs.Prelude.{filter}
 use Rattle.xdg_problem.specs.declared.analysis.Edge.{Edge}
 use Rattle.xdg_problem.specs.declared.conditions.Condition.TheVariants as conditions

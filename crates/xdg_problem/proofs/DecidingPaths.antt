@@ -1,22 +1,14 @@
 -- Whether a path leads from one node to another can be decided, and what a condition asks.
-use Rattle.std.proofs.Common.{◌≡◌, ℕ, ◌<◌, ◌⊎◌, inl, inr, Bool, true, false, List, [], ◌∷◌, ◌++◌, length, refl, sym, subst, arith, suc, zero}
-use Rattle.std.specs.Prelude.{All, AllPairs, Contains, slice_index}
+use Rattle.std.proofs.Common.{◌≡◌, ℕ, ◌<◌, ◌⊎◌, inl, inr, Bool, true, false, List, [], ◌∷◌, ◌++◌, length, refl, sym, subst, arith}
+use Rattle.std.specs.Prelude.{All, AllPairs, Contains}
 use Rattle.std.specs.List.{Any, AllByRecursion}
-use Rattle.std.proofs.lemmas.Bool.{cases_eq, false≢true}
+use Rattle.std.proofs.lemmas.Bool.{false≢true}
 use Rattle.std.proofs.lemmas.List.Elements.{All-from_recursion, recursion_from_All}
 use Rattle.xdg_problem.specs.declared.analysis.Edge.{Edge}
-use Rattle.xdg_problem.specs.declared.conditions.Condition.{Condition}
-use Rattle.xdg_problem.specs.declared.conditions.Condition.TheVariants as conditions
-use Rattle.xdg_problem.specs.declared.parts.Group.{Group}
-use Rattle.xdg_problem.specs.declared.parts.Principle.{Principle}
-use Rattle.xdg_problem.specs.declared.parts.Principle.TheVariants as principles
-use Rattle.xdg_problem.specs.Paths.{edges_on, edges_into, edges_out_of, edges_joining, mothers, IsDaughter, IsDaughterBy, IsDaughterByAny, IsEnteredByAny, AreSistersByAny, Leads, Above, AboveByFirst, AboveByLast}
-use Rattle.xdg_problem.specs.Features.{in_row, out_row, set_row, map_row}
-use Rattle.xdg_problem.specs.Arguments.{first_dim, second_dim, truth_of, order_of}
-use Rattle.xdg_problem.specs.Asking.{first, second, third, IsBetween, IsInItem, IsLinked, AsksLink, AsksOf}
+use Rattle.xdg_problem.specs.Paths.{IsDaughter, IsDaughterBy, IsDaughterByAny, IsEnteredByAny, AreSistersByAny, Leads, Above, AboveByFirst, AboveByLast}
 use Rattle.xdg_problem.proofs.Ordered.{Ordered, ordered_pairs, ordered_from_pairs, contains_head, contains_more, contains_cases, contains_none}
-use Rattle.xdg_problem.proofs.Looking.{any_of, any_weaker}
-use Rattle.xdg_problem.proofs.Deciding.{Decided, decided_like, decided_both, decided_from, decided_equal, decided_less, decided_most, decided_contains}
+use Rattle.xdg_problem.proofs.Looking.{any_of}
+use Rattle.xdg_problem.proofs.Deciding.{Decided, decided_like, decided_both, decided_equal, decided_contains}
 use Rattle.xdg_problem.proofs.CycleTests.{Reaches, decided_reaches}
 
 pub decided_either : (P Q : Type 0) → Decided P → Decided Q → Decided (P ⊎ Q)

@@ -1,6 +1,6 @@
 -- On a whole vector the tests of each linking principle are its condition.
-use Rattle.std.proofs.Common.{◌≡◌, ℕ, ◌<◌, ◌↔◌, List, [], ◌∷◌, length, sym, subst}
-use Rattle.std.specs.Prelude.{filter, slice_index, Contains, ◌==◌, ◌||◌, ◌&&◌}
+use Rattle.std.proofs.Common.{◌≡◌, ℕ, ◌<◌, ◌↔◌, List, length, sym, subst}
+use Rattle.std.specs.Prelude.{filter, slice_index, Contains, ◌==◌, ◌||◌}
 use Rattle.std.specs.List.{Any}
 use Rattle.std.proofs.lemmas.Bool.{eq-eqb}
 use Rattle.xdg_problem.specs.declared.analysis.Edge.{Edge}
@@ -13,7 +13,7 @@ use Rattle.xdg_problem.specs.Places.{nodes}
 use Rattle.xdg_problem.specs.Paths.{edges_on, IsDaughter, IsDaughterBy, IsDaughterByAny, IsEnteredByAny, AreSistersByAny, AboveByFirst}
 use Rattle.xdg_problem.specs.Features.{map_row}
 use Rattle.xdg_problem.specs.Arguments.{first_dim, second_dim, label_count}
-use Rattle.xdg_problem.specs.Asking.{IsLinked, AsksLink, Asks}
+use Rattle.xdg_problem.specs.Asking.{AsksLink, Asks}
 use Rattle.xdg_problem.specs.Relations.{IsKept}
 use Rattle.xdg_problem.specs.Tests.{Test, linked_end, linked_daughter, linked_mother, linked_sister, linked_path, looks_first, looks_second, looks_at}
 use Rattle.xdg_problem.proofs.Looking.{or_left, or_right, and_2, and_3, any_weaker, on_same, any_same, sees_place}

@@ -1,5 +1,5 @@
 -- Whether a prefix is live can be decided, so the live prefixes and the solutions have their list.
-use Rattle.std.proofs.Common.{◌≡◌, ℕ, ◌<◌, ◌+◌, ◌⊎◌, inl, Bool, true, false, List, [], ◌∷◌, length, map, Option, Some, None}
+use Rattle.std.proofs.Common.{◌≡◌, ℕ, ◌<◌, ◌+◌, ◌⊎◌, inl, Bool, false, List, [], ◌∷◌, length, map, Option, Some, None}
 use Rattle.std.specs.Prelude.{filter, All, Contains}
 use Rattle.xdg_problem.specs.declared.analysis.Edge.{Edge}
 use Rattle.xdg_problem.specs.declared.conditions.Condition.TheVariants as conditions
@@ -13,7 +13,7 @@ use Rattle.xdg_problem.specs.Paths.{roots}
 use Rattle.xdg_problem.specs.Features.{in_row, out_row, IsWithin}
 use Rattle.xdg_problem.specs.Arguments.{first_dim, label_count, truth_of}
 use Rattle.xdg_problem.specs.Asking.{AsksOf}
-use Rattle.xdg_problem.specs.Tests.{Test, IsTestOf, out_count, in_count, one_mother, no_cycle, one_root, one_label, ordered_daughters, ordered_yields, projective, allowed_value, agreeing, governed, climbing, not_blocked, linked_end, linked_daughter, linked_mother, linked_sister, linked_path, looks_at, entry_node, test_attrs, Counts, Passes}
+use Rattle.xdg_problem.specs.Tests.{Test, out_count, in_count, one_mother, no_cycle, one_root, one_label, ordered_daughters, ordered_yields, projective, allowed_value, agreeing, governed, climbing, not_blocked, linked_end, linked_daughter, linked_mother, linked_sister, linked_path, looks_at, entry_node, test_attrs, Counts, Passes}
 use Rattle.xdg_problem.specs.Live.{open_places, EntryStands, entry_in, AttrStands, attr_in, Stands, Holds, IsLiveFor, Live}
 use Rattle.xdg_problem.proofs.Deciding.{Decided, decided_like, decided_both, decided_from, decided_equal, decided_less, decided_most, decided_false, decided_below, decided_all, decided_contains, decided_within}
 use Rattle.xdg_problem.proofs.CycleTests.{decided_no_cycle}

@@ -3,7 +3,6 @@ use Rattle.std.proofs.Common.{◌≡◌, ℕ, ◌↔◌, Bool, true, false, ◌&
 use Rattle.std.specs.Prelude.{filter, Contains, count_by, ◌==◌, ◌||◌}
 use Rattle.std.specs.List.{Any}
 use Rattle.std.proofs.lemmas.Bool.{eq-eqb}
-use Rattle.std.proofs.lemmas.List.Sums.{length-filter}
 use Rattle.xdg_problem.specs.declared.analysis.Edge.{Edge}
 use Rattle.xdg_problem.specs.Paths.{edges_on}
 use Rattle.xdg_problem.proofs.FilterFacts.{filter_both, count_of_filter, filter_alike, filter_contained}

@@ -1,5 +1,5 @@
 -- On a whole vector the tests of order and projectivity are their conditions.
-use Rattle.std.proofs.Common.{◌≡◌, ℕ, ◌<◌, ◌↔◌, ◌⊎◌, inl, inr, true, false, List, [], ◌∷◌, sym, subst, ◌∙◌}
+use Rattle.std.proofs.Common.{◌≡◌, ℕ, ◌<◌, ◌↔◌, inl, inr, true, false, List, [], ◌∷◌, sym, subst, ◌∙◌}
 use Rattle.std.specs.Prelude.{filter, ◌==◌, map, slice_index, AllPairs}
 use Rattle.std.proofs.lemmas.Bool.{cases_Bool, eq-eqb, false≢true}
 use Rattle.xdg_problem.specs.declared.analysis.Edge.{Edge}
@@ -7,11 +7,11 @@ use Rattle.xdg_problem.specs.declared.conditions.Condition.TheVariants as condit
 use Rattle.xdg_problem.specs.declared.parts.Group.{Group}
 use Rattle.xdg_problem.specs.declared.parts.Parts.{Parts}
 use Rattle.xdg_problem.specs.Places.{nodes}
-use Rattle.xdg_problem.specs.Paths.{edges_on, IsDaughter, IsDaughterBy, Above}
+use Rattle.xdg_problem.specs.Paths.{edges_on, IsDaughter, Above}
 use Rattle.xdg_problem.specs.Arguments.{first_dim, label_count, truth_of, order_of}
-use Rattle.xdg_problem.specs.Asking.{IsBetween, IsInItem, Asks, AsksOf, attr_places}
+use Rattle.xdg_problem.specs.Asking.{IsBetween, IsInItem, Asks, attr_places}
 use Rattle.xdg_problem.specs.Relations.{IsKept}
-use Rattle.xdg_problem.specs.Tests.{ordered_daughters, ordered_yields, projective, looks_at, Passes}
+use Rattle.xdg_problem.specs.Tests.{ordered_daughters, ordered_yields, projective, looks_at}
 use Rattle.xdg_problem.proofs.Looking.{and_2, on_same, any_same}
 use Rattle.xdg_problem.proofs.Tuples.{tuples_3}
 use Rattle.xdg_problem.proofs.Passing.{PassesAt}

@@ -1,5 +1,5 @@
 -- On a whole vector the tests of climbing and barriers are their conditions.
-use Rattle.std.proofs.Common.{◌≡◌, ℕ, ◌<◌, ◌↔◌, List, [], ◌∷◌, sym, subst}
+use Rattle.std.proofs.Common.{ℕ, ◌↔◌, List, sym, subst}
 use Rattle.std.specs.Prelude.{filter, slice_index, ◌==◌}
 use Rattle.xdg_problem.specs.declared.analysis.Edge.{Edge}
 use Rattle.xdg_problem.specs.declared.conditions.Condition.TheVariants as conditions

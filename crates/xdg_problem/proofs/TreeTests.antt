@@ -8,11 +8,11 @@ use Rattle.xdg_problem.specs.declared.conditions.Condition.TheVariants as condit
 use Rattle.xdg_problem.specs.declared.parts.Group.{Group}
 use Rattle.xdg_problem.specs.declared.parts.Parts.{Parts}
 use Rattle.xdg_problem.specs.Places.{nodes}
-use Rattle.xdg_problem.specs.Paths.{edges_on, edges_joining, Leads, Above, NoCycle, mothers}
-use Rattle.xdg_problem.specs.Arguments.{first_dim, second_dim, label_count}
+use Rattle.xdg_problem.specs.Paths.{edges_on, Leads, Above, NoCycle, mothers}
+use Rattle.xdg_problem.specs.Arguments.{first_dim, label_count}
 use Rattle.xdg_problem.specs.Asking.{first, Asks}
 use Rattle.xdg_problem.specs.Relations.{IsKept, IsTree}
-use Rattle.xdg_problem.specs.Tests.{one_mother, no_cycle, one_root, one_label, looks_first, looks_second, looks_at}
+use Rattle.xdg_problem.specs.Tests.{one_mother, no_cycle, one_root, one_label, looks_first, looks_at}
 use Rattle.xdg_problem.proofs.FilterFacts.{count_of_filter, filter_alike, filter_fewer, filter_among}
 use Rattle.xdg_problem.proofs.Looking.{and_3, count_same}
 use Rattle.xdg_problem.proofs.Tuples.{tuples_1, pairs}

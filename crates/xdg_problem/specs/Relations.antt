@@ -8,7 +8,7 @@ use Rattle.xdg_problem.specs.declared.parts.Group.{Group}
 use Rattle.xdg_problem.specs.declared.parts.Parts.{Parts}
 use Rattle.xdg_problem.specs.Places.{nodes}
 use Rattle.xdg_problem.specs.Vectors.{entry_places}
-use Rattle.xdg_problem.specs.Paths.{edges_on, edges_into, edges_out_of, NoCycle, mothers, roots}
+use Rattle.xdg_problem.specs.Paths.{edges_into, edges_out_of, NoCycle, mothers, roots}
 use Rattle.xdg_problem.specs.Features.{in_row, out_row}
 use Rattle.xdg_problem.specs.Arguments.{first_dim, label_count}
 use Rattle.xdg_problem.specs.Conditions.{conditions_of, IsTuple}
