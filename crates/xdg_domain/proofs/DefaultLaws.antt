@@ -97,7 +97,7 @@ by_layer s x y l e o given = subst (IsRight s) (same_some y x e) (subst (λ m. I
 all_cards : IsCards (cards (λ _. true))
 all_cards = subst IsCards all_bits (members_are_cards (2 ^ 128 - 1) (omega arith) (omega arith))
 
-zero_alone : IsCards (0 ∷ [])
+pub zero_alone : IsCards (0 ∷ [])
 zero_alone = let within = one_within 0 (omega arith) in subst IsCards (one_bits 0 (omega arith)) (members_are_cards (1 * 2 ^ 0 % 2 ^ 128) within.0 within.1)
 
 -- a field's default and those of the rest
