@@ -1,6 +1,6 @@
 //! A packed lexicon.
 
-ghost use Rattle.std.specs.Prelude.{◌≡◌, ◌<◌, ◌≤◌, ◌-◌, ◌^◌, [], length, get_or, All, IfOk};
+ghost use Rattle.std.specs.Prelude.{◌≡◌, ℕ, ◌<◌, ◌≤◌, ◌-◌, ◌^◌, [], length, get_or, All, IfOk};
 ghost use Rattle.xdg_packed.specs.Lexicon.{width, columns, AreAsLong, HasWord, words_of, numbers_of, CountsRows};
 ghost use Rattle.xdg_packed.specs.Packing.{IsLexicon};
 
@@ -154,7 +154,8 @@ impl Packed {
 
     /// The number of different records, those of each dimension counted by themselves. That many are kept.
     pub fn rows(&self) -> usize
-        ensures { CountsRows (columns self.now.entries) result }
+        ensures counted { CountsRows (columns self.now.entries) result }
+        ensures only { (count : ℕ) → CountsRows (columns self.now.entries) count → count ≡ result }
     {
         self.rows
     }

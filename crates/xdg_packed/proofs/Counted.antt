@@ -1,0 +1,54 @@
+-- How many different elements stand in a list is one number, whichever list keeps them.
+use Rattle.std.proofs.Common.{◌≡◌, ℕ, suc, ◌≤◌, List, [], ◌∷◌, ◌⊎◌, length, refl, sym, inl, inr, subst, ◌∙◌, arith}
+use Rattle.xdg_packed.specs.Lexicon.{Record, Stands, Differ, CountsDifferent, CountsRows}
+
+module _ {A : Type 0} where
+  -- the list without one of its elements, and what still stands there
+  removed : (ys : List A) (x : A) → Stands ys x → (zs : List A) × (length ys ≡ suc (length zs)) × ((z : A) → Stands ys z → (x ≡ z) ⊎ Stands zs z)
+  removed [] x h = absurd h
+  removed (y ∷ ys) x (inl e) = (ys, refl, by)
+    where
+      by : (z : A) → Stands (y ∷ ys) z → (x ≡ z) ⊎ Stands ys z
+      by z (inl f) = inl (sym e ∙ f)
+      by z (inr k) = inr k
+  removed (y ∷ ys) x (inr h) = more (removed ys x h)
+    where
+      still : (zs : List A) (z : A) → (x ≡ z) ⊎ Stands zs z → (x ≡ z) ⊎ Stands (y ∷ zs) z
+      still zs z (inl e) = inl e
+      still zs z (inr k) = inr (inr k)
+
+      by : (zs : List A) → ((z : A) → Stands ys z → (x ≡ z) ⊎ Stands zs z) → (z : A) → Stands (y ∷ ys) z → (x ≡ z) ⊎ Stands (y ∷ zs) z
+      by zs rest z (inl f) = inr (inl f)
+      by zs rest z (inr k) = still zs z (rest z k)
+
+      more : ((zs : List A) × (length ys ≡ suc (length zs)) × ((z : A) → Stands ys z → (x ≡ z) ⊎ Stands zs z)) → (zs : List A) × (suc (length ys) ≡ suc (length zs)) × ((z : A) → Stands (y ∷ ys) z → (x ≡ z) ⊎ Stands zs z)
+      more (zs, size, rest) = (y ∷ zs, omega (arith, size), by zs rest)
+
+  other : (xs : List A) (x z : A) → (Stands xs x → ⊥) → Stands xs z → x ≡ z → ⊥
+  other xs x z absent h e = absent (subst (Stands xs) (sym e) h)
+
+  -- different elements that all stand in a list are no more than it is long
+  no_more : (xs ys : List A) → Differ xs → ((x : A) → Stands xs x → Stands ys x) → length xs ≤ length ys
+  no_more [] ys differ all = omega arith
+  no_more (x ∷ xs) ys differ all =
+      let r = removed ys x (all x (inl refl)) in
+      let rest = no_more xs r.0 differ.1 (λ z h. by r.0 z h (r.2 z (all z (inr h)))) in
+      let size = r.1 in
+      omega (arith, rest, size)
+    where
+      by : (zs : List A) (z : A) → Stands xs z → (x ≡ z) ⊎ Stands zs z → Stands zs z
+      by zs z h (inl e) = absurd (other xs x z differ.0 h e)
+      by zs z h (inr k) = k
+
+  one_count : (all : List A) (n m : ℕ) → CountsDifferent all n → CountsDifferent all m → n ≡ m
+  one_count all n m (xs, a, e) (ys, b, f) =
+      let there = no_more xs ys a.once (λ x h. b.each x (a.only x h)) in
+      let back = no_more ys xs b.once (λ x h. a.each x (b.only x h)) in
+      omega (arith, there, back, e, f)
+
+pub one_sum : (tables : List (List Record)) (n m : ℕ) → CountsRows tables n → CountsRows tables m → n ≡ m
+one_sum [] n m e f = e ∙ sym f
+one_sum (all ∷ tables) n m (here, later, counts, rest, sum) (there, after, counted, more, total) =
+    let first = one_count all here there counts counted in
+    let others = one_sum tables later after rest more in
+    omega (arith, first, others, sum, total)
