@@ -1,5 +1,5 @@
 -- What is found is the command that the words are.
-use Rattle.std.proofs.Common.{◌≡◌, ◌∙◌, ◌≤◌, ℕ, Bool, zero, suc, true, false, List, [], ◌∷◌, map, length, Option, Some, None, refl, sym, ap, ap₂, subst, arith}
+use Rattle.std.proofs.Common.{◌≡◌, ◌∙◌, ◌≤◌, ℕ, Bool, true, false, List, [], ◌∷◌, length, Option, Some, None, refl, sym, ap, ap₂, subst, arith}
 use Rattle.std.specs.Prelude.{codes, slice_get, slice_index, if◌then◌else◌}
 use Rattle.std.specs.Str.{bytes_eq}
 use Rattle.std.proofs.lemmas.Slice.Eq.{bytes_eq-Decides}
@@ -7,8 +7,8 @@ use Rattle.clap.specs.Matches.{first_value, found_of, one_text}
 use Rattle.clap.specs.declared.parser.matches.ArgMatches.{ArgMatches}
 use Rattle.xdg_command.specs.Answers.{IsExactly}
 use Rattle.xdg_command.specs.Commands.{HasBudget, HasFirst, HasText, IsCommand, SaysParse}
-use Rattle.xdg_command.specs.Found.{Fits, Holds, Matches}
-use Rattle.xdg_command.specs.Items.{AreItems, IsOnce, Item, has_flag, operands_of, value_of}
+use Rattle.xdg_command.specs.Found.{Matches}
+use Rattle.xdg_command.specs.Items.{AreItems, Item, has_flag, operands_of}
 use Rattle.xdg_command.specs.Readings.{AreWords, IsOfVerb, IsOneFile, IsParse, IsTwoFiles}
 use Rattle.xdg_command.specs.Syntax.{Table, is_right, one_file, parsed, two_files}
 use Rattle.xdg_command.specs.Verbs.{verb_of}
@@ -20,7 +20,7 @@ use Rattle.xdg_command.specs.declared.commands.TextForm.TheVariants as forms
 use Rattle.xdg_command.specs.declared.reading.Files.{Files}
 use Rattle.xdg_command.specs.declared.reading.Verb.{Verb}
 use Rattle.xdg_command.specs.declared.reading.Verb.TheVariants as verbs
-use Rattle.xdg_command.proofs.Lookups.{Right, right}
+use Rattle.xdg_command.proofs.Lookups.{right}
 use Rattle.xdg_command.proofs.Spelled.{read_items}
 
 pub one_file_right : is_right one_file ≡ true

@@ -1,15 +1,15 @@
 -- Items of which each option is given once, and that have not too many operands, are found.
-use Rattle.std.proofs.Common.{◌≡◌, ◌∙◌, ◌≤◌, ◌<◌, ◌+◌, ◌&&◌, ◌||◌, ℕ, Bool, zero, suc, true, false, not, List, [], ◌∷◌, ◌++◌, map, length, Option, Some, None, refl, sym, ap, ap₂, subst, arith}
-use Rattle.std.specs.Prelude.{codes, slice_get, if◌then◌else◌}
+use Rattle.std.proofs.Common.{◌≡◌, ◌∙◌, ◌≤◌, ◌<◌, ◌+◌, ◌||◌, ℕ, Bool, zero, suc, true, false, not, List, [], ◌∷◌, ◌++◌, map, length, Some, refl, sym, ap, subst, arith}
+use Rattle.std.specs.Prelude.{codes, slice_get}
 use Rattle.std.specs.Str.{bytes_eq}
 use Rattle.std.proofs.lemmas.Bool.{not-true, or_from, true≢false}
 use Rattle.clap.proofs.WalkLemmas.{both}
 use Rattle.clap.specs.Walk.{Row, Rule, has_row}
-use Rattle.xdg_command.specs.Items.{AreItems, ended, operands, by_operand, by_flag, by_next, by_equals, Item, operand, valued, flagged, IsOnce, is_among, one_if, operands_of, uses_of}
+use Rattle.xdg_command.specs.Items.{AreItems, ended, operands, by_operand, by_flag, by_next, by_equals, Item, operand, valued, flagged, is_among, one_if, operands_of, uses_of}
 use Rattle.xdg_command.specs.Syntax.{Table, all_differ}
 use Rattle.xdg_command.proofs.Fitting.{has_more, most, no_more}
 use Rattle.xdg_command.proofs.Lookups.{Right, among_at, differ, equal, not_operand}
-use Rattle.xdg_command.proofs.Placed.{put, put_operand}
+use Rattle.xdg_command.proofs.Placed.{put}
 use Rattle.xdg_command.proofs.Reader.{onward}
 use Rattle.xdg_command.proofs.Rules.{added, flag_rule, form, operand_rule, row, value_rule}
 use Rattle.xdg_command.proofs.Spelled.{flag_form, value_form}

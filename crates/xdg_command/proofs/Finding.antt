@@ -1,18 +1,18 @@
 -- What is found by its name is what the items say.
-use Rattle.std.proofs.Common.{◌≡◌, ◌∙◌, ◌≤◌, ◌<◌, ◌+◌, ◌&&◌, ◌||◌, ◌==◌, ℕ, Bool, zero, suc, true, false, not, cond, List, [], ◌∷◌, ◌++◌, map, length, Option, Some, None, refl, sym, ap, ap₂, subst, arith, append-nil}
-use Rattle.std.specs.Prelude.{codes, is_some, option_and_then, option_map, slice_get, if◌then◌else◌}
+use Rattle.std.proofs.Common.{◌≡◌, ◌∙◌, ◌+◌, ◌||◌, ℕ, Bool, zero, suc, true, false, cond, List, [], ◌∷◌, ◌++◌, map, Option, Some, None, refl, sym, ap, arith}
+use Rattle.std.specs.Prelude.{codes, option_and_then, slice_get, if◌then◌else◌}
 use Rattle.std.specs.List.{find, fold}
 use Rattle.std.specs.Str.{bytes_eq}
 use Rattle.std.proofs.lemmas.Bool.{or_parts, true≢false}
-use Rattle.clap.specs.Walk.{Row, Rule, first_of, has_row, more_values, one_of, reading_by, row_text, with_default}
+use Rattle.clap.specs.Walk.{Row, first_of, has_row, more_values, one_of, reading_by, row_text, with_default}
 use Rattle.clap.specs.declared.parser.matches.ValueSource.TheVariants.{DefaultValue}
 use Rattle.xdg_command.specs.Items.{Item, operand, valued, flagged, has_flag, is_among, operands_of, value_of}
 use Rattle.xdg_command.specs.Syntax.{Table}
-use Rattle.xdg_command.proofs.Built.{numbered, options_in, rules_in}
+use Rattle.xdg_command.proofs.Built.{numbered, rules_in}
 use Rattle.xdg_command.proofs.Filling.{Formed, distinct_at, other_name, other_operand}
 use Rattle.xdg_command.proofs.Fitting.{operand_row, rows_of_items}
 use Rattle.xdg_command.proofs.Lookups.{Right, differ, equal, same}
-use Rattle.xdg_command.proofs.Rules.{flag_rule, form, operand_rule, row, value_rule}
+use Rattle.xdg_command.proofs.Rules.{flag_rule, form, row, value_rule}
 use Rattle.xdg_command.proofs.Uses.{at_none}
 
 abbrev pub found_in : List ℕ → List Row → Option Row

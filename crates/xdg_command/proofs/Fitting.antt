@@ -1,15 +1,15 @@
 -- Items are found where each option is given once and there are not too many operands, and only there.
-use Rattle.std.proofs.Common.{◌≡◌, ◌∙◌, ◌≤◌, ◌<◌, ◌+◌, ◌&&◌, ◌||◌, ◌⊎◌, inl, inr, ⊎_elim, ℕ, Bool, zero, suc, true, false, not, List, [], ◌∷◌, ◌++◌, map, length, Option, Some, None, refl, sym, ap, ap₂, subst, arith, append_assoc, append-nil}
+use Rattle.std.proofs.Common.{◌≡◌, ◌∙◌, ◌≤◌, ◌+◌, ◌||◌, ℕ, Bool, suc, true, false, List, [], ◌∷◌, ◌++◌, length, Option, Some, None, refl, sym, ap, subst, arith, append_assoc, append-nil}
 use Rattle.std.specs.Prelude.{codes, slice_get, if◌then◌else◌}
 use Rattle.std.specs.Str.{bytes_eq}
-use Rattle.std.proofs.lemmas.Bool.{or_parts, or_right, true≢false}
+use Rattle.std.proofs.lemmas.Bool.{true≢false}
 use Rattle.clap.specs.Walk.{Row, Rule, has_row}
-use Rattle.xdg_command.specs.Items.{AreItems, ended, operands, by_operand, by_flag, by_next, by_equals, Item, operand, valued, flagged, IsOnce, is_among, one_if, operands_of, uses_of}
+use Rattle.xdg_command.specs.Items.{Item, operand, valued, flagged, one_if, operands_of, uses_of}
 use Rattle.xdg_command.specs.Syntax.{Table}
-use Rattle.xdg_command.proofs.Lookups.{Right, among_at, apart_at, differ, equal, same}
+use Rattle.xdg_command.proofs.Lookups.{same}
 use Rattle.xdg_command.proofs.Placed.{put, put_operand}
 use Rattle.xdg_command.proofs.Reader.{onward}
-use Rattle.xdg_command.proofs.Rules.{Finds, added, flag_rule, form, operand_rule, option_rule, row, value_rule}
+use Rattle.xdg_command.proofs.Rules.{added, flag_rule, operand_rule, row, value_rule}
 use Rattle.xdg_command.proofs.Walked.{within}
 
 -- ---- rows

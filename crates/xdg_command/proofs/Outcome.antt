@@ -1,30 +1,30 @@
 -- What the command of a table takes, and what it finds.
-use Rattle.std.proofs.Common.{◌≡◌, ◌∙◌, ◌≤◌, ◌<◌, ◌+◌, ◌&&◌, ◌||◌, ◌⊎◌, inl, inr, ℕ, Bool, zero, suc, true, false, not, cond, List, [], ◌∷◌, ◌++◌, map, length, Option, Some, None, refl, sym, ap, ap₂, subst, arith, String}
-use Rattle.std.specs.Prelude.{codes, slice_get, if◌then◌else◌}
-use Rattle.std.specs.List.{fold, list_any}
+use Rattle.std.proofs.Common.{◌≡◌, ◌∙◌, ◌+◌, ◌&&◌, ◌||◌, ℕ, Bool, suc, true, false, not, List, [], ◌∷◌, ◌++◌, map, Option, Some, None, refl, sym, ap, ap₂, arith, String}
+use Rattle.std.specs.Prelude.{slice_get, if◌then◌else◌}
+use Rattle.std.specs.List.{fold}
 use Rattle.std.specs.String.{string_bytes}
 use Rattle.std.proofs.lemmas.Bool.{true≢false}
 use Rattle.std.proofs.lemmas.Str.{IsUtf8-string_bytes}
-use Rattle.clap.specs.Matches.{first_value, found_of, one_text}
-use Rattle.clap.specs.Walk.{Row, Rule, first_of, has_row, nothing_held, one_of, rows_after, rows_of, settled, walk, walk_from, with_default}
-use Rattle.clap.specs.Simple.{App, Shape, argument_words, built, matches_of, names_of}
+use Rattle.clap.specs.Matches.{found_of}
+use Rattle.clap.specs.Walk.{Row, first_of, has_row, nothing_held, one_of, rows_after, rows_of, settled, walk, walk_from, with_default}
+use Rattle.clap.specs.Simple.{App, Shape, argument_words, matches_of, names_of}
 use Rattle.clap.specs.Takes.{is_given}
 use Rattle.clap.specs.Kinds.{Kinds, or_else}
 use Rattle.clap.specs.Faults.{built_fault, check_fault, default_fault, defaults_fault, fault_of, level_fault, settle_fault, walk_fault}
 use Rattle.clap.specs.declared.parser.matches.ArgMatches.{ArgMatches}
 use Rattle.clap.proofs.FaultLemmas.{leaf_fault}
 use Rattle.clap.proofs.WalkLemmas.{first_value-rows, one_text-rows}
-use Rattle.xdg_command.specs.Items.{Item, has_flag, is_among, operands_of, value_of}
-use Rattle.xdg_command.specs.Found.{Fits, Holds, Matches}
+use Rattle.xdg_command.specs.Items.{Item, has_flag, is_among}
+use Rattle.xdg_command.specs.Found.{Holds, Matches}
 use Rattle.xdg_command.specs.Syntax.{Table, app_in}
-use Rattle.xdg_command.proofs.Built.{app_is, built_is, no_rule, numbered, options_in, rules_in, shape_in}
+use Rattle.xdg_command.proofs.Built.{app_is, built_is, no_rule, numbered, rules_in, shape_in}
 use Rattle.xdg_command.proofs.Filling.{Formed, filled, formed}
-use Rattle.xdg_command.proofs.Finding.{finds_flag, finds_operand, finds_value, first_kept, flag_kept, found_in, given}
+use Rattle.xdg_command.proofs.Finding.{finds_flag, finds_operand, finds_value, first_kept, flag_kept, found_in}
 use Rattle.xdg_command.proofs.Fitting.{onward_is, put_few, put_once, put_rows, rows_of_items}
 use Rattle.xdg_command.proofs.Lookups.{Right, among_at, apart_at, finds_in}
 use Rattle.xdg_command.proofs.Placed.{put}
 use Rattle.xdg_command.proofs.Reader.{onward, read}
-use Rattle.xdg_command.proofs.Rules.{flag_rule, form, nothing, operand_rule, value_rule}
+use Rattle.xdg_command.proofs.Rules.{flag_rule, nothing, operand_rule, value_rule}
 use Rattle.xdg_command.proofs.Spelled.{flag_form, items_read, read_items, value_form}
 use Rattle.xdg_command.proofs.Turns.{between, held}
 use Rattle.xdg_command.proofs.Walked.{AreTexts, total, walked_all}

@@ -1,5 +1,5 @@
 -- What the items are found as.
-use Rattle.std.proofs.Common.{◌≡◌, ℕ, suc, List, [], ◌∷◌, Option, Some, None, refl}
+use Rattle.std.proofs.Common.{ℕ, suc, List, [], ◌∷◌, Option, Some, None}
 use Rattle.std.specs.Prelude.{codes, slice_get}
 use Rattle.clap.specs.Walk.{Row}
 use Rattle.xdg_command.specs.Items.{Item, operand, valued, flagged}

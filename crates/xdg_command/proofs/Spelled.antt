@@ -1,15 +1,15 @@
 -- The reader reads just the words that are items.
-use Rattle.std.proofs.Common.{◌≡◌, ◌≢◌, ◌∙◌, ◌&&◌, ◌||◌, ◌==◌, ℕ, Bool, true, false, not, cond, List, [], ◌∷◌, ◌++◌, map, Option, Some, None, refl, sym, ap, ap₂, subst, ◌+◌, suc, take, drop, arith}
+use Rattle.std.proofs.Common.{◌≡◌, ◌≢◌, ◌∙◌, ◌||◌, ◌==◌, ℕ, Bool, true, false, List, [], ◌∷◌, ◌++◌, map, Option, Some, None, refl, sym, ap, ap₂, subst, ◌+◌, suc, take, drop, arith}
 use Rattle.std.specs.Prelude.{if◌then◌else◌}
 use Rattle.std.specs.List.{after_first, before_first, position_or_len, list_all, list_any}
 use Rattle.std.specs.Str.{bytes_eq}
 use Rattle.std.proofs.lemmas.Bool.{and_right, eqb-true, not-true, or_parts, or_right, true≢false}
 use Rattle.clap.proofs.WalkLemmas.{both}
-use Rattle.clap.specs.Lexer.{has_byte, long_of, long_of_rest, name_and_value, short_of}
+use Rattle.clap.specs.Lexer.{has_byte, long_of, long_of_rest, short_of}
 use Rattle.xdg_command.specs.Items.{AreItems, ended, operands, by_operand, by_flag, by_next, by_equals, Item, operand, valued, flagged, dashed, is_among, is_dashed}
 use Rattle.xdg_command.specs.Syntax.{Table, is_name}
 use Rattle.xdg_command.proofs.Lookups.{Right, apart_at, same}
-use Rattle.xdg_command.proofs.Reader.{behind, by_awaited, by_form, by_letters, by_long, by_value, by_word, read, unless_long}
+use Rattle.xdg_command.proofs.Reader.{behind, by_form, by_letters, by_long, by_value, read, unless_long}
 use Rattle.xdg_command.proofs.Rules.{form}
 
 -- ---- words

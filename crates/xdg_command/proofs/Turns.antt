@@ -1,6 +1,6 @@
 -- What one word does to a walk over the words.
-use Rattle.std.proofs.Common.{◌≡◌, ◌∙◌, ◌≤◌, ◌<◌, ◌+◌, ◌&&◌, ◌||◌, ◌==◌, ℕ, Bool, zero, suc, true, false, not, cond, List, [], ◌∷◌, ◌++◌, length, min, Option, Some, None, refl, sym, ap, ap₂, arith}
-use Rattle.std.specs.Prelude.{codes, is_some, slice_get, option_map, if◌then◌else◌}
+use Rattle.std.proofs.Common.{◌≡◌, ◌≤◌, ◌+◌, ◌&&◌, ℕ, Bool, suc, true, false, List, [], ◌∷◌, min, Option, Some, None, refl, arith}
+use Rattle.std.specs.Prelude.{is_some, slice_get, if◌then◌else◌}
 use Rattle.std.specs.Str.{bytes_eq, chars}
 use Rattle.clap.specs.Lexer.{long_of, short_of, usize_max}
 use Rattle.clap.specs.Walk.{Held, Row, Rule, Waiting, Walk, idle, is_pending, option, arg_by_id, arg_by_index, arg_by_long, arg_by_short, reacted, settled, takes_values, walked}

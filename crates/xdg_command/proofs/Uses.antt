@@ -1,10 +1,10 @@
 -- One use of an argument.
-use Rattle.std.proofs.Common.{◌≡◌, ◌∙◌, ◌&&◌, ◌||◌, ℕ, Bool, true, false, not, List, [], ◌∷◌, ◌++◌, Option, Some, None, refl, sym, ap, append-nil, arith, length}
+use Rattle.std.proofs.Common.{◌≡◌, ◌∙◌, ℕ, Bool, true, false, List, [], ◌∷◌, ◌++◌, Option, Some, None, refl, ap, append-nil, arith, length}
 use Rattle.std.specs.Prelude.{codes, nat_lt, if◌then◌else◌}
 use Rattle.std.specs.Str.{bytes_eq}
 use Rattle.std.proofs.lemmas.Bool.{lt-ltb, or_parts}
 use Rattle.clap.specs.Walk.{Row, Rule, at_row, has_row, more_values, reading_by, used, with_values, without}
-use Rattle.clap.specs.Kinds.{Kinds, or_else}
+use Rattle.clap.specs.Kinds.{or_else}
 use Rattle.clap.specs.Faults.{repeat_fault, use_fault}
 use Rattle.clap.specs.declared.parser.matches.ValueSource.TheVariants.{CommandLine}
 use Rattle.xdg_command.proofs.Rules.{added, flag_rule, nothing, operand_rule, row, value_rule}

@@ -1,5 +1,5 @@
 -- A walk over words finds what the items are found as.
-use Rattle.std.proofs.Common.{◌≡◌, ◌∙◌, ◌≤◌, ◌<◌, ◌+◌, ℕ, Bool, zero, suc, true, false, not, List, [], ◌∷◌, ◌++◌, map, length, Option, Some, None, refl, sym, ap, ap₂, subst, arith, ◌==◌}
+use Rattle.std.proofs.Common.{◌≡◌, ◌∙◌, ◌≤◌, ◌<◌, ℕ, Bool, zero, suc, true, false, List, [], ◌∷◌, map, length, Option, Some, None, refl, sym, ap, ap₂, subst, arith, ◌==◌}
 use Rattle.std.specs.Prelude.{codes, slice_get, option_map, if◌then◌else◌}
 use Rattle.std.specs.List.{fold}
 use Rattle.std.specs.Str.{IsUtf8, bytes_eq, chars, encode_utf8_all}
@@ -7,14 +7,14 @@ use Rattle.std.proofs.lemmas.Bool.{eqb-true}
 use Rattle.std.proofs.lemmas.Slice.Eq.{bytes_eq-Decides}
 use Rattle.std.proofs.lemmas.Str.{IsCharBoundary-after_ascii, IsUtf8-drop, encodes-chars}
 use Rattle.clap.specs.Lexer.{long_of, short_of}
-use Rattle.clap.specs.Walk.{Held, Row, Rule, Waiting, Walk, arg_by_id, arg_by_index, arg_by_long, idle, option, reacted, settled, used, walked}
+use Rattle.clap.specs.Walk.{Held, Row, Rule, Waiting, Walk, arg_by_id, arg_by_index, idle, option, settled, used, walked}
 use Rattle.clap.specs.Simple.{Shape}
 use Rattle.clap.specs.Kinds.{Kinds, or_else}
-use Rattle.clap.specs.Faults.{react_fault, settle_fault, turn_fault, use_fault, walk_fault}
+use Rattle.clap.specs.Faults.{settle_fault, turn_fault, use_fault, walk_fault}
 use Rattle.xdg_command.specs.Items.{Item, operand, valued, flagged, dashed}
 use Rattle.xdg_command.specs.Syntax.{Table}
 use Rattle.xdg_command.proofs.Placed.{put, put_operand}
-use Rattle.xdg_command.proofs.Reader.{behind, by_awaited, by_form, by_letters, by_long, by_value, by_word, read, onward, unless_long}
+use Rattle.xdg_command.proofs.Reader.{behind, by_form, by_letters, by_long, by_value, read, onward, unless_long}
 use Rattle.xdg_command.proofs.Rules.{Finds, added, flag_rule, form, nothing, operand_rule, option_rule, value_rule}
 use Rattle.xdg_command.proofs.Turns.{awaited_end, awaited_letter, awaited_long, awaited_value, awaiting, between, end_turn, flag_refused, flag_turn, held, later_refused, later_turn, letter_refused, name_refused, name_turn, trailing_at, value_turn, word_refused, word_turn}
 use Rattle.xdg_command.proofs.Uses.{empty_refused, flag_used, operand_used, using_as, value_used}

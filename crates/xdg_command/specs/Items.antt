@@ -63,7 +63,7 @@ has_flag name (operand word ∷ items) = has_flag name items
 has_flag name (valued other value ∷ items) = has_flag name items
 has_flag name (flagged other ∷ items) = if bytes_eq other name then true else has_flag name items
 
--- one where the texts are the same
+-- a truth value as a count
 abbrev pub one_if : Bool → ℕ
 one_if true = 1
 one_if false = 0

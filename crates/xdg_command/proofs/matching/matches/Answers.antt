@@ -1,7 +1,6 @@
-use Rattle.std.proofs.Common.{◌≡◌, ⊎_elim, ap, map, sym, subst, [], List, ℕ, ◌∙◌}
+use Rattle.std.proofs.Common.{◌≡◌, ⊎_elim, ap, map, sym, subst, [], ◌∙◌}
 use Rattle.std.specs.String.{string_bytes}
 use Rattle.clap.specs.Words.{HasKind, IsAmong, app_of, is_simple_and_free, kind_of, fault_of, is_simple, matches_of, rows_of, found_of}
-use Rattle.xdg_command.specs.Syntax.{app_in}
 use Rattle.xdg_command.proofs.Built.{simple_and_free, simple_app}
 use Rattle.xdg_command.proofs.Lookups.{right}
 use Rattle.xdg_command.proofs.Outcome.{are_texts, not_taken, taken}

@@ -1,4 +1,4 @@
-use Rattle.std.proofs.Common.{◌≡◌, ◌∙◌, ℕ, Option, Some, None, ap, map, sym, subst}
+use Rattle.std.proofs.Common.{◌∙◌, ℕ, Option, Some, None, ap, map, sym, subst}
 use Rattle.std.specs.String.{string_bytes}
 use Rattle.xdg_command.specs.Answers.{IsExactly}
 use Rattle.xdg_command.specs.Commands.{HasBudget, HasFirst, HasText}

@@ -1,4 +1,4 @@
-use Rattle.std.proofs.Common.{◌≡◌, ◌∙◌, Some, None, ap, map, sym, subst}
+use Rattle.std.proofs.Common.{◌∙◌, Some, None, ap, map, sym, subst}
 use Rattle.std.specs.String.{string_bytes}
 use Rattle.xdg_command.specs.Found.{Matches}
 use Rattle.xdg_command.specs.Syntax.{two_files}
