@@ -1,0 +1,13 @@
+use Rattle.std.proofs.Common.{◌≡◌, List, map, drop}
+use Rattle.std.specs.List.{flat_map}
+use Rattle.xdg_faults.specs.First.{first, earlier}
+use Rattle.xdg_classes.specs.Definitions.{ClassDef}
+use Rattle.xdg_classes.specs.NameFaults as spec
+use Rattle.xdg_classes.specs.Known.{shown, KnowsClasses}
+use Rattle.xdg_classes.specs.Lent.{called}
+use Rattle.xdg_classes.proofs.uses.check_calls.Given as goal
+
+abbrev pub invariant-loop-call : goal.invariant-loop-call
+invariant-loop-call l =
+    (cs : List ClassDef) → KnowsClasses cs l.known.names (map shown l.known.params)
+    → earlier l.found (first (flat_map (spec.call_faults cs) (map called (drop l.call-index l.calls)))) ≡ first (flat_map (spec.call_faults cs) (map called l.calls))

@@ -1,0 +1,86 @@
+-- What is wrong with the names of dimensions, classes and parameters in the bodies of classes and entries.
+use Rattle.std.specs.Prelude.{◌≡◌, ◌⊎◌, ℕ, List, ◌∷◌, ◌++◌, map, flat_map, None, Some}
+use Rattle.xdg_ast.specs.declared.names.Name.{Name}
+use Rattle.xdg_ast.specs.declared.grammar.ClassParam.{ClassParam}
+use Rattle.xdg_base.specs.declared.faults.Cause.TheVariants as causes
+use Rattle.xdg_base.specs.declared.faults.Fault.{Fault}
+use Rattle.xdg_domain.specs.Shapes.{Among}
+use Rattle.xdg_faults.specs.First.{In}
+use Rattle.xdg_types.specs.Names.{fault_at}
+use Rattle.xdg_types.specs.Parts.{Statement}
+use Rattle.xdg_types.specs.Table.{Table}
+use Rattle.xdg_classes.specs.Bodies.{Said, Called, records, calls}
+use Rattle.xdg_classes.specs.Definitions.{ClassDef, classes, class_names, class_named, param_names, keys, texts, bodies}
+
+-- the names of the defined dimensions
+abbrev pub dim_texts : Table → List (List ℕ)
+dim_texts table = map (λ dim. dim.name) table.dims
+
+-- all records in bodies
+abbrev pub all_records : List Statement → List Said
+all_records statements = flat_map (λ scoped. records scoped.body) (bodies statements)
+
+-- all uses of classes in bodies
+abbrev pub all_calls : List Statement → List Called
+all_calls statements = flat_map (λ scoped. calls scoped.body) (bodies statements)
+
+-- something is said of a dimension that isn't defined
+pub record IsUnknownDimension (statements : List Statement) (table : Table) (f : Fault) : Type 0 where
+  pub said : Said
+  pub stands : In (all_records statements) said
+  pub missing : Among (dim_texts table) said.dim.text → ⊥
+  pub fault : f ≡ fault_at causes.UnknownName said.dim.span.start
+
+-- a class is used that isn't defined
+pub record IsUnknownClass (statements : List Statement) (f : Fault) : Type 0 where
+  pub call : Called
+  pub stands : In (all_calls statements) call
+  pub missing : Among (texts (class_names (classes statements))) call.name.text → ⊥
+  pub fault : f ≡ fault_at causes.UnknownName call.name.span.start
+
+-- The lists of names in each of which a name may stand once: the classes, the parameters of each class, and the
+-- parameters that each use gives.
+abbrev pub once : List Statement → List (List Name)
+once statements =
+    class_names (classes statements)
+    ∷ (map (λ c. param_names c.params) (classes statements) ++ map (λ call. keys call.args) (all_calls statements))
+
+-- a class, a parameter of a class, or a parameter in a use is given twice
+pub record IsTwice (statements : List Statement) (f : Fault) : Type 0 where
+  pub names : List Name
+  pub among : In (once statements) names
+  pub before : List Name
+  pub name : Name
+  pub after : List Name
+  pub parts : names ≡ before ++ name ∷ after
+  pub earlier : Among (texts before) name.text
+  pub fault : f ≡ fault_at causes.Twice name.span.start
+
+-- a use gives a parameter that the class hasn't; of two classes with one name the first counts
+pub record IsUnknownParam (statements : List Statement) (f : Fault) : Type 0 where
+  pub call : Called
+  pub stands : In (all_calls statements) call
+  pub class : ClassDef
+  pub defined : class_named (classes statements) call.name.text ≡ Some class
+  pub key : Name
+  pub given : In (keys call.args) key
+  pub missing : Among (texts (param_names class.params)) key.text → ⊥
+  pub fault : f ≡ fault_at causes.WrongParams key.span.start
+
+-- a use leaves out a parameter that has no default
+pub record IsLeftOut (statements : List Statement) (f : Fault) : Type 0 where
+  pub call : Called
+  pub stands : In (all_calls statements) call
+  pub class : ClassDef
+  pub defined : class_named (classes statements) call.name.text ≡ Some class
+  pub param : ClassParam
+  pub has : In class.params param
+  pub bare : param.preset ≡ None
+  pub missing : Among (texts (keys call.args)) param.name.text → ⊥
+  pub fault : f ≡ fault_at causes.WrongParams call.name.span.start
+
+-- what is wrong with the names in bodies, where these are the dimensions
+abbrev pub NameOffends : List Statement → Table → Fault → Type 0
+NameOffends statements table f =
+    IsUnknownDimension statements table f
+    ⊎ (IsUnknownClass statements f ⊎ (IsTwice statements f ⊎ (IsUnknownParam statements f ⊎ IsLeftOut statements f)))

@@ -1,0 +1,112 @@
+//! The pass over the names in the bodies of classes and entries.
+
+ghost use Rattle.std.specs.Prelude.{◌≡◌, map, flat_map, IfOk};
+ghost use Rattle.xdg_domain.specs.Shapes.{Differ};
+ghost use Rattle.xdg_faults.specs.First.{first, Tells};
+ghost use Rattle.xdg_types.specs.NameFaults.{unknown};
+ghost use Rattle.xdg_classes.specs.Names.{NameOffends, dim_texts};
+ghost use Rattle.xdg_classes.specs.NameFaults as spec;
+ghost use Rattle.xdg_classes.specs.Lent.{said, class_def};
+
+use crate::bodies::{Record, all_calls, all_records};
+use crate::definitions::{ClassDef, definitions};
+use crate::params::Known;
+use crate::repeats::{classes_again, params_again};
+use crate::uses::check_calls;
+use std::alloc::{AllocError, Global};
+use xdg_ast::{Name, Statement};
+use xdg_base::{Cause, Fault};
+use xdg_faults::earlier;
+use xdg_index::Index;
+use xdg_types::{DimType, TypeTable};
+
+/// The first fault of the names of dimensions, classes and parameters in the bodies of all classes and entries, used or
+/// not, if there is one; the table is that of the grammar's types. Its cause is
+///
+/// - `UnknownName` (30) at a dimension of which something is said, or a class that is used, without being defined;
+/// - `Twice` (31) at the second class with a name, the second parameter of a class with a name, or the second time that
+///   a use gives a parameter;
+/// - `WrongParams` (37) at a parameter that a use gives and the class hasn't, and at the name of the class where a use
+///   leaves out a parameter that has no default. Of two classes with one name the first counts.
+///
+/// The least place counts, and at one place the least number. A class may be used before it is defined. The time is
+/// linear in the length of the text: names are looked up in hash indexes. The error is want of memory.
+pub fn check_names(
+    alloc: Global,
+    statements: &[Statement],
+    table: &TypeTable,
+) -> Result<Option<Fault>, AllocError>
+    ensures { IfOk result (λ found. Tells (NameOffends statements.now table.now) found) }
+{
+    names_wrong(alloc, statements, table)
+}
+
+#[tactic(auto, using(xdg_faults::proofs::First::first_append))]
+fn names_wrong(
+    alloc: Global,
+    statements: &[Statement],
+    table: &TypeTable,
+) -> Result<Option<Fault>, AllocError>
+    ensures { IfOk result (λ found. found ≡ first (spec.name_faults statements.now table.now)) }
+{
+    let definitions = definitions(alloc, statements)?;
+    let mut names = Index::new(alloc);
+    let twice = classes_again(alloc, &mut names, definitions.as_slice())?;
+    let params = all_params_again(alloc, definitions.as_slice())?;
+    let dims = dim_names(alloc, table.dims())?;
+    let records = all_records(alloc, statements)?;
+    let dimensions = unknown_dims(&dims, records.as_slice());
+    let known = Known::new(alloc, definitions.as_slice())?;
+    let calls = all_calls(alloc, statements)?;
+    let uses = check_calls(alloc, &known, calls.as_slice())?;
+    Ok(earlier(dimensions, earlier(twice, earlier(params, uses))))
+}
+
+/// The first parameter of a class whose name another parameter before it has.
+fn all_params_again(alloc: Global, definitions: &[ClassDef]) -> Result<Option<Fault>, AllocError>
+    ensures { IfOk result (λ found. found ≡ first (flat_map spec.param_faults (map class_def definitions.now))) }
+{
+    let mut found = None;
+    for definition in definitions {
+        let mut seen = Index::new(alloc);
+        found = earlier(found, params_again(alloc, &mut seen, definition.params)?);
+    }
+    Ok(found)
+}
+
+/// The names of the dimensions, which differ.
+fn dim_names(alloc: Global, dims: &[DimType]) -> Result<Index, AllocError>
+    requires { Differ (map (λ dim. dim.name) dims.now) }
+    ensures { IfOk result (λ made. made ≡ map (λ dim. dim.name) dims.now) }
+{
+    let mut all = Index::new(alloc);
+    for dim in dims {
+        let _ = all.add(alloc, dim.name.as_str())?;
+    }
+    Ok(all)
+}
+
+/// The fault of a dimension that isn't among those that are known.
+fn unknown_dim(known: &Index, name: &Name) -> Option<Fault>
+    ensures { result ≡ first (unknown known.now name.now) }
+{
+    if known.contains(name.text.as_str()) {
+        return None;
+    }
+    Some(Fault {
+        cause: Cause::UnknownName,
+        at: name.span.start,
+        reached: 0,
+    })
+}
+
+/// The first record of a dimension that isn't among those that are known.
+fn unknown_dims(known: &Index, records: &[Record]) -> Option<Fault>
+    ensures { result ≡ first (flat_map (spec.said_faults known.now) (map said records.now)) }
+{
+    let mut found = None;
+    for record in records {
+        found = earlier(found, unknown_dim(known, record.dim));
+    }
+    found
+}

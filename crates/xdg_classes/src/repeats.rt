@@ -1,0 +1,77 @@
+//! Names that stand again where they may stand once.
+
+ghost use Rattle.std.specs.Prelude.{◌≡◌, map, IfOk};
+ghost use Rattle.xdg_faults.specs.First.{first};
+ghost use Rattle.xdg_types.specs.NameFaults as spec;
+ghost use Rattle.xdg_classes.specs.Definitions.{class_names, param_names, keys};
+ghost use Rattle.xdg_classes.specs.Lent.{class_def};
+
+use crate::definitions::ClassDef;
+use std::alloc::{AllocError, Global};
+use xdg_ast::{ClassParam, Name, Pair, Term};
+use xdg_base::{Cause, Fault};
+use xdg_faults::earlier;
+use xdg_index::Index;
+
+/// The fault of a name that was seen before. From then on it is seen.
+fn repeated(alloc: Global, seen: &mut Index, name: &Name) -> Result<Option<Fault>, AllocError>
+    ensures found { IfOk result (λ found. found ≡ first (spec.repeated seen.old name.now)) }
+    ensures seen { IfOk result (λ _. seen.new ≡ spec.with_text seen.old name.now.text) }
+{
+    if seen.add(alloc, name.text.as_str())? {
+        return Ok(None);
+    }
+    Ok(Some(Fault {
+        cause: Cause::Twice,
+        at: name.span.start,
+        reached: 0,
+    }))
+}
+
+/// The first class whose name was seen before. From then on all their names are seen.
+pub(crate) fn classes_again(
+    alloc: Global,
+    seen: &mut Index,
+    definitions: &[ClassDef],
+) -> Result<Option<Fault>, AllocError>
+    ensures found { IfOk result (λ found. found ≡ first (spec.repeats seen.old (class_names (map class_def definitions.now)))) }
+    ensures seen { IfOk result (λ _. seen.new ≡ spec.with_all seen.old (class_names (map class_def definitions.now))) }
+{
+    let mut found = None;
+    for definition in definitions {
+        found = earlier(found, repeated(alloc, seen, definition.name)?);
+    }
+    Ok(found)
+}
+
+/// The first parameter whose name was seen before. From then on all their names are seen.
+pub(crate) fn params_again(
+    alloc: Global,
+    seen: &mut Index,
+    params: &[ClassParam],
+) -> Result<Option<Fault>, AllocError>
+    ensures found { IfOk result (λ found. found ≡ first (spec.repeats seen.old (param_names params.now))) }
+    ensures seen { IfOk result (λ _. seen.new ≡ spec.with_all seen.old (param_names params.now)) }
+{
+    let mut found = None;
+    for param in params {
+        found = earlier(found, repeated(alloc, seen, &param.name)?);
+    }
+    Ok(found)
+}
+
+/// The first key that was seen before. From then on all keys are seen.
+pub(crate) fn keys_again(
+    alloc: Global,
+    seen: &mut Index,
+    pairs: &[Pair<Term>],
+) -> Result<Option<Fault>, AllocError>
+    ensures found { IfOk result (λ found. found ≡ first (spec.repeats seen.old (keys pairs.now))) }
+    ensures seen { IfOk result (λ _. seen.new ≡ spec.with_all seen.old (keys pairs.now)) }
+{
+    let mut found = None;
+    for pair in pairs {
+        found = earlier(found, repeated(alloc, seen, &pair.key)?);
+    }
+    Ok(found)
+}
