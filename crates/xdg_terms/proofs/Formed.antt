@@ -18,7 +18,7 @@ use Rattle.xdg_domain.specs.Shapes as d
 use Rattle.xdg_domain.specs.Shapes.{Shape, Shapes, Fields, sizes, in_a_row, names_of}
 use Rattle.xdg_faults.specs.First.{first, earlier}
 use Rattle.xdg_faults.proofs.First.{first_append}
-use Rattle.xdg_terms.specs.Forms.{Term, Card, Bindings, bracket_of, bracket_in, then_also, all_of, braces_in, plain_in, plain_elem, bracketed_in, bracketed_elem, counted_in, counted_elem, keyed_in, keyed_elem, constants_of, brackets_of, counts_of, pairs_of, generator_of, generator_in}
+use Rattle.xdg_terms.specs.Forms.{Term, Card, Look, bracket_of, bracket_in, then_also, all_of, braces_in, plain_in, plain_elem, bracketed_in, bracketed_elem, counted_in, counted_elem, keyed_in, keyed_elem, constants_of, brackets_of, counts_of, pairs_of, generator_of, generator_in}
 use Rattle.xdg_terms.specs.Offences.{is_some, gen_names}
 use Rattle.xdg_terms.specs.Faults as spec
 
@@ -27,7 +27,7 @@ use Rattle.xdg_terms.specs.Faults as spec
 out_tuple : (t : Term) (names : List Name) → t.kind ≡ k.Tuple names → out-TermKind t.kind ≡ TermKind-F.TermKind::Tuple names
 out_tuple t names is = ap out-TermKind is ∙ k.outs-Tuple names
 
-out_braces : (t : Term) (elems : List (Spanned ElemKind)) → t.kind ≡ k.Braces elems → out-TermKind t.kind ≡ TermKind-F.Braces elems
+pub out_braces : (t : Term) (elems : List (Spanned ElemKind)) → t.kind ≡ k.Braces elems → out-TermKind t.kind ≡ TermKind-F.Braces elems
 out_braces t elems is = ap out-TermKind is ∙ k.outs-Braces elems
 
 out_gen : (t : Term) (gen : Spanned GenKind) → t.kind ≡ k.Gen gen → out-TermKind t.kind ≡ TermKind-F.Gen gen
@@ -71,11 +71,11 @@ told_as {A = A} {B = B} form g h each (e ∷ es) xs is =
     let two = both (form e) (all_of form es) xs is in
     ap₂ (λ (ys zs : List B). ys ++ zs) (each e two.0 two.1.1.0) (told_as form g h each es two.1.0 two.1.1.1.0) ∙ sym (ap (flat_map g) two.1.1.1.1)
 
-there_is : {A : Type 0} (o : Option A) → true ≡ is_some o → (x : A) × (o ≡ Some x)
+pub there_is : {A : Type 0} (o : Option A) → true ≡ is_some o → (x : A) × (o ≡ Some x)
 there_is None h = absurd (true≢false h)
 there_is (Some x) h = (x, refl)
 
-there_is_none : {A : Type 0} (o : Option A) → false ≡ is_some o → o ≡ None
+pub there_is_none : {A : Type 0} (o : Option A) → false ≡ is_some o → o ≡ None
 there_is_none None h = refl
 there_is_none (Some x) h = absurd (true≢false (sym h))
 
@@ -142,17 +142,17 @@ keyed_key (ElemKind-F.ElemKind::Const name) x h = absurd (cc)
 keyed_key (ElemKind-F.Count name written) x h = absurd (cc)
 keyed_key (ElemKind-F.ElemKind::Tuple names) x h = absurd (cc)
 
-value_layer : (bs : Bindings) (s : Shape) (l : ElemKind-F ElemKind TermKind) (x : Name × Term) → keyed_in l ≡ Some x → spec.value_faults_in bs s l ≡ spec.faults bs s x.1
-value_layer bs s (ElemKind-F.Keyed name t) x h = let e : (name, t) ≡ x = cc in ap (λ (p : Name × Term). spec.faults bs s p.1) e
-value_layer bs s (ElemKind-F.ElemKind::Const name) x h = absurd (cc)
-value_layer bs s (ElemKind-F.Count name written) x h = absurd (cc)
-value_layer bs s (ElemKind-F.ElemKind::Tuple names) x h = absurd (cc)
+value_layer : (look : Look) (s : Shape) (l : ElemKind-F ElemKind TermKind) (x : Name × Term) → keyed_in l ≡ Some x → spec.value_faults_in look s l ≡ spec.faults look s x.1
+value_layer look s (ElemKind-F.Keyed name t) x h = let e : (name, t) ≡ x = cc in ap (λ (p : Name × Term). spec.faults look s p.1) e
+value_layer look s (ElemKind-F.ElemKind::Const name) x h = absurd (cc)
+value_layer look s (ElemKind-F.Count name written) x h = absurd (cc)
+value_layer look s (ElemKind-F.ElemKind::Tuple names) x h = absurd (cc)
 
-field_layer : (bs : Bindings) (fs : Fields) (l : ElemKind-F ElemKind TermKind) (x : Name × Term) → keyed_in l ≡ Some x → spec.elem_faults_in bs fs l ≡ spec.field_faults bs fs x
-field_layer bs fs (ElemKind-F.Keyed name t) x h = let e : (name, t) ≡ x = cc in ap (spec.field_faults bs fs) e
-field_layer bs fs (ElemKind-F.ElemKind::Const name) x h = absurd (cc)
-field_layer bs fs (ElemKind-F.Count name written) x h = absurd (cc)
-field_layer bs fs (ElemKind-F.ElemKind::Tuple names) x h = absurd (cc)
+field_layer : (look : Look) (fs : Fields) (l : ElemKind-F ElemKind TermKind) (x : Name × Term) → keyed_in l ≡ Some x → spec.elem_faults_in look fs l ≡ spec.field_faults look fs x
+field_layer look fs (ElemKind-F.Keyed name t) x h = let e : (name, t) ≡ x = cc in ap (spec.field_faults look fs) e
+field_layer look fs (ElemKind-F.ElemKind::Const name) x h = absurd (cc)
+field_layer look fs (ElemKind-F.Count name written) x h = absurd (cc)
+field_layer look fs (ElemKind-F.ElemKind::Tuple names) x h = absurd (cc)
 
 -- ---- all elements
 
@@ -229,34 +229,34 @@ pub valency_wrong : (texts : List (List ℕ)) (t : Term) (es : List (Spanned Ele
 unfolding spec.valency_faults counts_of
 valency_wrong texts t es is h = sym (braces_wrong counted_elem _ t es is h)
 
-mapping_right : (bs : Bindings) (texts : List (List ℕ)) (s : Shape) (t : Term) (es : List (Spanned ElemKind)) → t.kind ≡ k.Braces es → true ≡ is_some (all_of keyed_elem es)
-    → (flat_map (spec.key_faults (spec.missing causes.NotMember texts)) es ++ spec.all_twice [] (spec.keys es)) ++ flat_map (spec.value_faults bs s) es ≡ spec.mapping_faults bs texts s t
+mapping_right : (look : Look) (texts : List (List ℕ)) (s : Shape) (t : Term) (es : List (Spanned ElemKind)) → t.kind ≡ k.Braces es → true ≡ is_some (all_of keyed_elem es)
+    → (flat_map (spec.key_faults (spec.missing causes.NotMember texts)) es ++ spec.all_twice [] (spec.keys es)) ++ flat_map (spec.value_faults look s) es ≡ spec.mapping_faults look texts s t
 unfolding spec.mapping_faults pairs_of keyed_elem spec.value_faults spec.key_faults spec.key_of
-mapping_right bs texts s t es is h =
-    pairs_right keyed_elem (λ e. keyed_key (out-ElemKind e.kind)) (λ rule e. key_keyed rule (out-ElemKind e.kind)) (spec.missing causes.NotMember texts) (λ p. spec.faults bs s p.1) (spec.value_faults bs s) (λ e. value_layer bs s (out-ElemKind e.kind)) t es is h
+mapping_right look texts s t es is h =
+    pairs_right keyed_elem (λ e. keyed_key (out-ElemKind e.kind)) (λ rule e. key_keyed rule (out-ElemKind e.kind)) (spec.missing causes.NotMember texts) (λ p. spec.faults look s p.1) (spec.value_faults look s) (λ e. value_layer look s (out-ElemKind e.kind)) t es is h
 
-pub mapping_wrong : (bs : Bindings) (texts : List (List ℕ)) (s : Shape) (t : Term) (es : List (Spanned ElemKind)) → t.kind ≡ k.Braces es → false ≡ is_some (all_of keyed_elem es) → spec.wrong_kind t ≡ spec.mapping_faults bs texts s t
+pub mapping_wrong : (look : Look) (texts : List (List ℕ)) (s : Shape) (t : Term) (es : List (Spanned ElemKind)) → t.kind ≡ k.Braces es → false ≡ is_some (all_of keyed_elem es) → spec.wrong_kind t ≡ spec.mapping_faults look texts s t
 unfolding spec.mapping_faults pairs_of
-mapping_wrong bs texts s t es is h = sym (braces_wrong keyed_elem _ t es is h)
+mapping_wrong look texts s t es is h = sym (braces_wrong keyed_elem _ t es is h)
 
-record_right : (bs : Bindings) (fs : Fields) (t : Term) (es : List (Spanned ElemKind)) → t.kind ≡ k.Braces es → true ≡ is_some (all_of keyed_elem es)
-    → (flat_map (spec.key_faults (spec.missing causes.UnknownName (names_of fs))) es ++ spec.all_twice [] (spec.keys es)) ++ flat_map (spec.elem_faults bs fs) es ≡ spec.record_faults bs fs t
+record_right : (look : Look) (fs : Fields) (t : Term) (es : List (Spanned ElemKind)) → t.kind ≡ k.Braces es → true ≡ is_some (all_of keyed_elem es)
+    → (flat_map (spec.key_faults (spec.missing causes.UnknownName (names_of fs))) es ++ spec.all_twice [] (spec.keys es)) ++ flat_map (spec.elem_faults look fs) es ≡ spec.record_faults look fs t
 unfolding spec.record_faults pairs_of keyed_elem spec.elem_faults spec.key_faults spec.key_of
-record_right bs fs t es is h =
-    pairs_right keyed_elem (λ e. keyed_key (out-ElemKind e.kind)) (λ rule e. key_keyed rule (out-ElemKind e.kind)) (spec.missing causes.UnknownName (names_of fs)) (spec.field_faults bs fs) (spec.elem_faults bs fs) (λ e. field_layer bs fs (out-ElemKind e.kind)) t es is h
+record_right look fs t es is h =
+    pairs_right keyed_elem (λ e. keyed_key (out-ElemKind e.kind)) (λ rule e. key_keyed rule (out-ElemKind e.kind)) (spec.missing causes.UnknownName (names_of fs)) (spec.field_faults look fs) (spec.elem_faults look fs) (λ e. field_layer look fs (out-ElemKind e.kind)) t es is h
 
-pub record_wrong : (bs : Bindings) (fs : Fields) (t : Term) (es : List (Spanned ElemKind)) → t.kind ≡ k.Braces es → false ≡ is_some (all_of keyed_elem es) → spec.wrong_kind t ≡ spec.record_faults bs fs t
+pub record_wrong : (look : Look) (fs : Fields) (t : Term) (es : List (Spanned ElemKind)) → t.kind ≡ k.Braces es → false ≡ is_some (all_of keyed_elem es) → spec.wrong_kind t ≡ spec.record_faults look fs t
 unfolding spec.record_faults pairs_of
-record_wrong bs fs t es is h = sym (braces_wrong keyed_elem _ t es is h)
+record_wrong look fs t es is h = sym (braces_wrong keyed_elem _ t es is h)
 
 pub valency_told : (texts : List (List ℕ)) (t : Term) (es : List (Spanned ElemKind)) → t.kind ≡ k.Braces es → true ≡ is_some (all_of counted_elem es) → (whole one other : Option Fault)
     → one ≡ first (flat_map (spec.key_faults (spec.missing causes.NotMember texts)) es ++ spec.all_twice [] (spec.keys es)) → other ≡ first (flat_map spec.count_faults es) → whole ≡ earlier one other → whole ≡ first (spec.valency_faults texts t)
 valency_told texts t es is h = sum_told (flat_map (spec.key_faults (spec.missing causes.NotMember texts)) es ++ spec.all_twice [] (spec.keys es)) (flat_map spec.count_faults es) (spec.valency_faults texts t) (valency_right texts t es is h)
 
-pub mapping_told : (bs : Bindings) (texts : List (List ℕ)) (s : Shape) (t : Term) (es : List (Spanned ElemKind)) → t.kind ≡ k.Braces es → true ≡ is_some (all_of keyed_elem es) → (whole one other : Option Fault)
-    → one ≡ first (flat_map (spec.key_faults (spec.missing causes.NotMember texts)) es ++ spec.all_twice [] (spec.keys es)) → other ≡ first (flat_map (spec.value_faults bs s) es) → whole ≡ earlier one other → whole ≡ first (spec.mapping_faults bs texts s t)
-mapping_told bs texts s t es is h = sum_told (flat_map (spec.key_faults (spec.missing causes.NotMember texts)) es ++ spec.all_twice [] (spec.keys es)) (flat_map (spec.value_faults bs s) es) (spec.mapping_faults bs texts s t) (mapping_right bs texts s t es is h)
+pub mapping_told : (look : Look) (texts : List (List ℕ)) (s : Shape) (t : Term) (es : List (Spanned ElemKind)) → t.kind ≡ k.Braces es → true ≡ is_some (all_of keyed_elem es) → (whole one other : Option Fault)
+    → one ≡ first (flat_map (spec.key_faults (spec.missing causes.NotMember texts)) es ++ spec.all_twice [] (spec.keys es)) → other ≡ first (flat_map (spec.value_faults look s) es) → whole ≡ earlier one other → whole ≡ first (spec.mapping_faults look texts s t)
+mapping_told look texts s t es is h = sum_told (flat_map (spec.key_faults (spec.missing causes.NotMember texts)) es ++ spec.all_twice [] (spec.keys es)) (flat_map (spec.value_faults look s) es) (spec.mapping_faults look texts s t) (mapping_right look texts s t es is h)
 
-pub record_told : (bs : Bindings) (fs : Fields) (t : Term) (es : List (Spanned ElemKind)) → t.kind ≡ k.Braces es → true ≡ is_some (all_of keyed_elem es) → (whole one other : Option Fault)
-    → one ≡ first (flat_map (spec.key_faults (spec.missing causes.UnknownName (names_of fs))) es ++ spec.all_twice [] (spec.keys es)) → other ≡ first (flat_map (spec.elem_faults bs fs) es) → whole ≡ earlier one other → whole ≡ first (spec.record_faults bs fs t)
-record_told bs fs t es is h = sum_told (flat_map (spec.key_faults (spec.missing causes.UnknownName (names_of fs))) es ++ spec.all_twice [] (spec.keys es)) (flat_map (spec.elem_faults bs fs) es) (spec.record_faults bs fs t) (record_right bs fs t es is h)
+pub record_told : (look : Look) (fs : Fields) (t : Term) (es : List (Spanned ElemKind)) → t.kind ≡ k.Braces es → true ≡ is_some (all_of keyed_elem es) → (whole one other : Option Fault)
+    → one ≡ first (flat_map (spec.key_faults (spec.missing causes.UnknownName (names_of fs))) es ++ spec.all_twice [] (spec.keys es)) → other ≡ first (flat_map (spec.elem_faults look fs) es) → whole ≡ earlier one other → whole ≡ first (spec.record_faults look fs t)
+record_told look fs t es is h = sum_told (flat_map (spec.key_faults (spec.missing causes.UnknownName (names_of fs))) es ++ spec.all_twice [] (spec.keys es)) (flat_map (spec.elem_faults look fs) es) (spec.record_faults look fs t) (record_right look fs t es is h)

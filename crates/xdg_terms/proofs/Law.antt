@@ -23,8 +23,8 @@ use Rattle.xdg_domain.specs.Shapes.{Shape, domain, tuple, truth, integer, text, 
 use Rattle.xdg_faults.specs.First.{In, Tells, first}
 use Rattle.xdg_faults.proofs.First.{tells_as, first-tells}
 use Rattle.xdg_faults.proofs.In.{in_append, in_left, in_right, in_flat_map, flat_map_in, in_unless, unless_in, in_when, when_in}
-use Rattle.xdg_terms.specs.Forms.{Term, Card, Bindings, bound, all_of, bracketed_elem, braces_in, generator_in, constant_of, number_of, card_of, generator_of, bracket_of, constants_of, brackets_of, counts_of, pairs_of}
-use Rattle.xdg_terms.specs.Offences.{fault_at, has_form, has_set_form, asked_in_set, is_some, one_told, all_told, Asked, asked_in, asked_in_turn, asked, keys, field_keys, known_fields, cards, keys_of, gen_names, IsWrongKind, IsNotMember, IsTwice, IsUnknownField, IsOutOfRange, CardOffends, OffendsHere, Offends, OffendsField}
+use Rattle.xdg_terms.specs.Forms.{Term, Card, Look, all_of, bracketed_elem, braces_in, generator_in, constant_of, number_of, card_of, generator_of, bracket_of, constants_of, brackets_of, counts_of, pairs_of}
+use Rattle.xdg_terms.specs.Offences.{fault_at, has_form, has_set_form, asked_in_set, is_some, one_told, all_told, Asked, asked_in, asked_in_turn, asked, keys, field_keys, known_fields, cards, keys_of, gen_names, IsWrongKind, IsNotMember, IsTwice, IsUnknownField, IsOutOfRange, CardOffends, OffendsHere, OfSeen, OffendsIn, OffendsUnder, OffendsBy}
 use Rattle.xdg_terms.specs.Faults as spec
 use Rattle.xdg_terms.proofs.Has.{has_among, among_has, same_text, text_same}
 
@@ -366,76 +366,87 @@ record_by known inside t (Some pairs) =
 
 -- ---- all offences
 
-abbrev of_field : Bindings → List ℕ → Shape → Fields → Name × Term → Bool → List Fault
-of_field bs name u fs pair b = if b then spec.faults bs u pair.1 else spec.field_faults bs fs pair
+seen_in : (rule : Term → List Fault) (P : Term → Type 0) (f : Fault) → ((t : Term) → In (rule t) f → P t) → (o : Option Term) → In (spec.of_seen o rule) f → OfSeen o P
+seen_in rule P f each None h = h
+seen_in rule P f each (Some t) h = each t h
+
+in_seen : (rule : Term → List Fault) (P : Term → Type 0) (f : Fault) → ((t : Term) → P t → In (rule t) f) → (o : Option Term) → OfSeen o P → In (spec.of_seen o rule) f
+in_seen rule P f each None h = h
+in_seen rule P f each (Some t) h = each t h
+
+abbrev of_field : Look → List ℕ → Shape → Fields → Name × Term → Bool → List Fault
+of_field look name u fs pair b = if b then spec.faults look u pair.1 else spec.field_faults look fs pair
 
 mutual
-  sound : (bs : Bindings) (s : Shape) (t : Term) (f : Fault) → In (spec.faults bs s t) f → Offends bs s t f
-  sound bs (domain cs) t f h = here_sound (domain cs) (bound bs t) f (subst (λ xs. In xs f) (constant_same cs (bound bs t)) h)
-  sound bs (tuple ss) t f h = here_sound (tuple ss) (bound bs t) f (subst (λ xs. In xs f) (tuple_same ss (bound bs t)) h)
-  sound bs truth t f h = here_sound truth (bound bs t) f (subst (λ xs. In xs f) (truth_same (bound bs t)) h)
-  sound bs integer t f h = here_sound integer (bound bs t) f (subst (λ xs. In xs f) (number_same (bound bs t)) h)
-  sound bs text t f h = here_sound text (bound bs t) f (subst (λ xs. In xs f) (text_same_too (bound bs t)) h)
-  sound bs (set s) t f h = here_sound (set s) (bound bs t) f (subst (λ xs. In xs f) (set_same s (bound bs t)) h)
-  sound bs (iset s) t f h = here_sound (iset s) (bound bs t) f (subst (λ xs. In xs f) (set_same s (bound bs t)) h)
-  sound bs card t f h = here_sound card (bound bs t) f (subst (λ xs. In xs f) (card_same (bound bs t)) h)
-  sound bs (valency k) t f h = here_sound (valency k) (bound bs t) f (subst (λ xs. In xs f) (valency_same k (bound bs t)) h)
-  sound bs (mapping k u) t f h =
-      let inside = λ (pair : Name × Term). spec.faults bs u pair.1 in
-      let pairs = all_told (pairs_of (bound bs t)) in
-      elim (in_append (here (mapping k u) (bound bs t)) (flat_map inside pairs) f (subst (λ xs. In xs f) (mapping_by (d.constants k) inside (bound bs t) (pairs_of (bound bs t))) h)) [
-        | inl a ↦ inl (here_sound (mapping k u) (bound bs t) f a)
-        | inr b ↦ inr (let one = in_flat_map inside pairs f b in (one.0, (one.1.0, sound bs u one.0.1 f one.1.1)))
+  sound : (look : Look) (s : Shape) (t : Term) (f : Fault) → In (spec.faults_in look s t) f → OffendsIn look s t f
+  sound look (domain cs) t f h = here_sound (domain cs) t f (subst (λ xs. In xs f) (constant_same cs t) h)
+  sound look (tuple ss) t f h = here_sound (tuple ss) t f (subst (λ xs. In xs f) (tuple_same ss t) h)
+  sound look truth t f h = here_sound truth t f (subst (λ xs. In xs f) (truth_same t) h)
+  sound look integer t f h = here_sound integer t f (subst (λ xs. In xs f) (number_same t) h)
+  sound look text t f h = here_sound text t f (subst (λ xs. In xs f) (text_same_too t) h)
+  sound look (set s) t f h = here_sound (set s) t f (subst (λ xs. In xs f) (set_same s t) h)
+  sound look (iset s) t f h = here_sound (iset s) t f (subst (λ xs. In xs f) (set_same s t) h)
+  sound look card t f h = here_sound card t f (subst (λ xs. In xs f) (card_same t) h)
+  sound look (valency k) t f h = here_sound (valency k) t f (subst (λ xs. In xs f) (valency_same k t) h)
+  sound look (mapping k u) t f h =
+      let inside = λ (pair : Name × Term). spec.faults look u pair.1 in
+      let pairs = all_told (pairs_of t) in
+      elim (in_append (here (mapping k u) t) (flat_map inside pairs) f (subst (λ xs. In xs f) (mapping_by (d.constants k) inside t (pairs_of t)) h)) [
+        | inl a ↦ inl (here_sound (mapping k u) t f a)
+        | inr b ↦ inr (let one = in_flat_map inside pairs f b in (one.0, (one.1.0, seen_in (spec.faults_in look u) (λ w. OffendsIn look u w f) f (λ w. sound look u w f) (look one.0.1) one.1.1)))
       ]
-  sound bs (fields fs) t f h =
-      let inside = λ (pair : Name × Term). spec.field_faults bs fs pair in
-      let pairs = all_told (pairs_of (bound bs t)) in
-      elim (in_append (here (fields fs) (bound bs t)) (flat_map inside pairs) f (subst (λ xs. In xs f) (record_by (names_of fs) inside (bound bs t) (pairs_of (bound bs t))) h)) [
-        | inl a ↦ inl (here_sound (fields fs) (bound bs t) f a)
-        | inr b ↦ inr (let one = in_flat_map inside pairs f b in (one.0, (one.1.0, field_sound bs fs one.0 f one.1.1)))
+  sound look (fields fs) t f h =
+      let inside = λ (pair : Name × Term). spec.field_faults look fs pair in
+      let pairs = all_told (pairs_of t) in
+      elim (in_append (here (fields fs) t) (flat_map inside pairs) f (subst (λ xs. In xs f) (record_by (names_of fs) inside t (pairs_of t)) h)) [
+        | inl a ↦ inl (here_sound (fields fs) t f a)
+        | inr b ↦ inr (let one = in_flat_map inside pairs f b in (one.0, (one.1.0, field_sound look fs one.0 f one.1.1)))
       ]
 
-  field_sound : (bs : Bindings) (fs : Fields) (pair : Name × Term) (f : Fault) → In (spec.field_faults bs fs pair) f → OffendsField bs fs pair f
-  field_sound bs no_field pair f h = h
-  field_sound bs (field_then name u fs) pair f h =
-      elim (bytes_eq name pair.0.text) as (λ b. bytes_eq name pair.0.text ≡ b → In (of_field bs name u fs pair b) f → OffendsField bs (field_then name u fs) pair f) [
-        | true ↦ λ is k. inl (same_text name pair.0.text is, sound bs u pair.1 f k)
-        | false ↦ λ is k. inr ((λ e. true≢false (sym (text_same name pair.0.text e) ∙ is)), field_sound bs fs pair f k)
+  field_sound : (look : Look) (fs : Fields) (pair : Name × Term) (f : Fault) → In (spec.field_faults look fs pair) f → OffendsUnder look fs pair f
+  field_sound look no_field pair f h = h
+  field_sound look (field_then name u fs) pair f h =
+      elim (bytes_eq name pair.0.text) as (λ b. bytes_eq name pair.0.text ≡ b → In (of_field look name u fs pair b) f → OffendsUnder look (field_then name u fs) pair f) [
+        | true ↦ λ is k. inl (same_text name pair.0.text is, seen_in (spec.faults_in look u) (λ w. OffendsIn look u w f) f (λ w. sound look u w f) (look pair.1) k)
+        | false ↦ λ is k. inr ((λ e. true≢false (sym (text_same name pair.0.text e) ∙ is)), field_sound look fs pair f k)
       ] refl h
 
 mutual
-  complete : (bs : Bindings) (s : Shape) (t : Term) (f : Fault) → Offends bs s t f → In (spec.faults bs s t) f
-  complete bs (domain cs) t f h = subst (λ xs. In xs f) (sym (constant_same cs (bound bs t))) (here_complete (domain cs) (bound bs t) f h)
-  complete bs (tuple ss) t f h = subst (λ xs. In xs f) (sym (tuple_same ss (bound bs t))) (here_complete (tuple ss) (bound bs t) f h)
-  complete bs truth t f h = subst (λ xs. In xs f) (sym (truth_same (bound bs t))) (here_complete truth (bound bs t) f h)
-  complete bs integer t f h = subst (λ xs. In xs f) (sym (number_same (bound bs t))) (here_complete integer (bound bs t) f h)
-  complete bs text t f h = subst (λ xs. In xs f) (sym (text_same_too (bound bs t))) (here_complete text (bound bs t) f h)
-  complete bs (set s) t f h = subst (λ xs. In xs f) (sym (set_same s (bound bs t))) (here_complete (set s) (bound bs t) f h)
-  complete bs (iset s) t f h = subst (λ xs. In xs f) (sym (set_same s (bound bs t))) (here_complete (iset s) (bound bs t) f h)
-  complete bs card t f h = subst (λ xs. In xs f) (sym (card_same (bound bs t))) (here_complete card (bound bs t) f h)
-  complete bs (valency k) t f h = subst (λ xs. In xs f) (sym (valency_same k (bound bs t))) (here_complete (valency k) (bound bs t) f h)
-  complete bs (mapping k u) t f h =
-      let inside = λ (pair : Name × Term). spec.faults bs u pair.1 in
-      let pairs = all_told (pairs_of (bound bs t)) in
-      subst (λ xs. In xs f) (sym (mapping_by (d.constants k) inside (bound bs t) (pairs_of (bound bs t)))) (elim h [
-        | inl a ↦ in_left (here (mapping k u) (bound bs t)) (flat_map inside pairs) f (here_complete (mapping k u) (bound bs t) f a)
-        | inr b ↦ in_right (here (mapping k u) (bound bs t)) (flat_map inside pairs) f (flat_map_in inside pairs b.0 f b.1.0 (complete bs u b.0.1 f b.1.1))
+  complete : (look : Look) (s : Shape) (t : Term) (f : Fault) → OffendsIn look s t f → In (spec.faults_in look s t) f
+  complete look (domain cs) t f h = subst (λ xs. In xs f) (sym (constant_same cs t)) (here_complete (domain cs) t f h)
+  complete look (tuple ss) t f h = subst (λ xs. In xs f) (sym (tuple_same ss t)) (here_complete (tuple ss) t f h)
+  complete look truth t f h = subst (λ xs. In xs f) (sym (truth_same t)) (here_complete truth t f h)
+  complete look integer t f h = subst (λ xs. In xs f) (sym (number_same t)) (here_complete integer t f h)
+  complete look text t f h = subst (λ xs. In xs f) (sym (text_same_too t)) (here_complete text t f h)
+  complete look (set s) t f h = subst (λ xs. In xs f) (sym (set_same s t)) (here_complete (set s) t f h)
+  complete look (iset s) t f h = subst (λ xs. In xs f) (sym (set_same s t)) (here_complete (iset s) t f h)
+  complete look card t f h = subst (λ xs. In xs f) (sym (card_same t)) (here_complete card t f h)
+  complete look (valency k) t f h = subst (λ xs. In xs f) (sym (valency_same k t)) (here_complete (valency k) t f h)
+  complete look (mapping k u) t f h =
+      let inside = λ (pair : Name × Term). spec.faults look u pair.1 in
+      let pairs = all_told (pairs_of t) in
+      subst (λ xs. In xs f) (sym (mapping_by (d.constants k) inside t (pairs_of t))) (elim h [
+        | inl a ↦ in_left (here (mapping k u) t) (flat_map inside pairs) f (here_complete (mapping k u) t f a)
+        | inr b ↦ in_right (here (mapping k u) t) (flat_map inside pairs) f (flat_map_in inside pairs b.0 f b.1.0 (in_seen (spec.faults_in look u) (λ w. OffendsIn look u w f) f (λ w. complete look u w f) (look b.0.1) b.1.1))
       ])
-  complete bs (fields fs) t f h =
-      let inside = λ (pair : Name × Term). spec.field_faults bs fs pair in
-      let pairs = all_told (pairs_of (bound bs t)) in
-      subst (λ xs. In xs f) (sym (record_by (names_of fs) inside (bound bs t) (pairs_of (bound bs t)))) (elim h [
-        | inl a ↦ in_left (here (fields fs) (bound bs t)) (flat_map inside pairs) f (here_complete (fields fs) (bound bs t) f a)
-        | inr b ↦ in_right (here (fields fs) (bound bs t)) (flat_map inside pairs) f (flat_map_in inside pairs b.0 f b.1.0 (field_complete bs fs b.0 f b.1.1))
+  complete look (fields fs) t f h =
+      let inside = λ (pair : Name × Term). spec.field_faults look fs pair in
+      let pairs = all_told (pairs_of t) in
+      subst (λ xs. In xs f) (sym (record_by (names_of fs) inside t (pairs_of t))) (elim h [
+        | inl a ↦ in_left (here (fields fs) t) (flat_map inside pairs) f (here_complete (fields fs) t f a)
+        | inr b ↦ in_right (here (fields fs) t) (flat_map inside pairs) f (flat_map_in inside pairs b.0 f b.1.0 (field_complete look fs b.0 f b.1.1))
       ])
 
-  field_complete : (bs : Bindings) (fs : Fields) (pair : Name × Term) (f : Fault) → OffendsField bs fs pair f → In (spec.field_faults bs fs pair) f
-  field_complete bs no_field pair f h = h
-  field_complete bs (field_then name u fs) pair f h = elim h [
-    | inl a ↦ subst (λ b. In (of_field bs name u fs pair b) f) (sym (text_same name pair.0.text a.0)) (complete bs u pair.1 f a.1)
-    | inr b ↦ subst (λ c. In (of_field bs name u fs pair c) f) (sym (false_from_ne_true (bytes_eq name pair.0.text) (λ e. b.0 (same_text name pair.0.text e)))) (field_complete bs fs pair f b.1)
+  field_complete : (look : Look) (fs : Fields) (pair : Name × Term) (f : Fault) → OffendsUnder look fs pair f → In (spec.field_faults look fs pair) f
+  field_complete look no_field pair f h = h
+  field_complete look (field_then name u fs) pair f h = elim h [
+    | inl a ↦ subst (λ b. In (of_field look name u fs pair b) f) (sym (text_same name pair.0.text a.0)) (in_seen (spec.faults_in look u) (λ w. OffendsIn look u w f) f (λ w. complete look u w f) (look pair.1) a.1)
+    | inr b ↦ subst (λ c. In (of_field look name u fs pair c) f) (sym (false_from_ne_true (bytes_eq name pair.0.text) (λ e. b.0 (same_text name pair.0.text e)))) (field_complete look fs pair f b.1)
   ]
 
-pub law : (bs : Bindings) (s : Shape) (t : Term) (found : Option Fault) → found ≡ first (spec.faults bs s t) → Tells (Offends bs s t) found
-law bs s t found is =
-    subst (Tells (Offends bs s t)) (sym is) (tells_as (In (spec.faults bs s t)) (Offends bs s t) (sound bs s t) (complete bs s t) (first (spec.faults bs s t)) (first-tells (spec.faults bs s t)))
+pub law : (look : Look) (s : Shape) (t : Term) (found : Option Fault) → found ≡ first (spec.faults look s t) → Tells (OffendsBy look s t) found
+law look s t found is =
+    subst (Tells (OffendsBy look s t)) (sym is) (tells_as (In (spec.faults look s t)) (OffendsBy look s t)
+    (λ f. seen_in (spec.faults_in look s) (λ w. OffendsIn look s w f) f (λ w. sound look s w f) (look t))
+    (λ f. in_seen (spec.faults_in look s) (λ w. OffendsIn look s w f) f (λ w. complete look s w f) (look t))
+    (first (spec.faults look s t)) (first-tells (spec.faults look s t)))

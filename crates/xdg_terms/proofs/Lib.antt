@@ -14,3 +14,5 @@ pub mod Meant
 pub mod SaidKeys
 pub mod Lawful
 pub mod Meaning
+pub mod Wanting
+pub mod Straying

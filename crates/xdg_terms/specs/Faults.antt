@@ -16,7 +16,7 @@ use Rattle.xdg_ast.specs.declared.terms.ElemKind.TheOpen.{ElemKind-F}
 use Rattle.xdg_domain.specs.declared.types.Ty.{Ty}
 use Rattle.xdg_domain.specs.Shapes as d
 use Rattle.xdg_domain.specs.Shapes.{Shape, domain, tuple, truth, integer, text, set, iset, card, valency, mapping, fields, Shapes, Fields, no_field, field_then, sizes, in_a_row, names_of, fields_of, shape}
-use Rattle.xdg_terms.specs.Forms.{Term, Card, Bindings, bound, constant_of, number_of, card_of, generator_of, bracket_of, constants_of, brackets_of, counts_of, pairs_of}
+use Rattle.xdg_terms.specs.Forms.{Term, Card, Look, constant_of, number_of, card_of, generator_of, bracket_of, constants_of, brackets_of, counts_of, pairs_of}
 use Rattle.xdg_terms.specs.Offences.{fault_at, gen_names}
 
 -- ---- single rules
@@ -127,35 +127,44 @@ valency_faults texts t = formed (counts_of t) (λ pairs. keys_faults causes.NotM
 
 -- ---- all faults
 
+-- of the term that is looked at, if one is
+abbrev pub of_seen : Option Term → (Term → List Fault) → List Fault
+of_seen None rule = []
+of_seen (Some t) rule = rule t
+
 abbrev mutual
-  -- of a term
-  pub faults : Bindings → Shape → Term → List Fault
-  faults bs (domain cs) t = constant_faults cs (bound bs t)
-  faults bs (tuple ss) t = tuple_faults ss (bound bs t)
-  faults bs truth t = constant_faults truth_texts (bound bs t)
-  faults bs integer t = number_faults (bound bs t)
-  faults bs text t = text_faults (bound bs t)
-  faults bs (set s) t = set_faults s (bound bs t)
-  faults bs (iset s) t = set_faults s (bound bs t)
-  faults bs card t = cardinality_faults (bound bs t)
-  faults bs (valency k) t = valency_faults (d.constants k) (bound bs t)
-  faults bs (mapping k u) t =
-      formed (pairs_of (bound bs t)) (λ pairs. keys_faults causes.NotMember (d.constants k) (keys_in pairs) ++ flat_map (λ pair. faults bs u pair.1) pairs) (bound bs t)
-  faults bs (fields fs) t =
-      formed (pairs_of (bound bs t)) (λ pairs. keys_faults causes.UnknownName (names_of fs) (keys_in pairs) ++ flat_map (λ pair. field_faults bs fs pair) pairs) (bound bs t)
+  -- of a term that is looked at
+  pub faults_in : Look → Shape → Term → List Fault
+  faults_in look (domain cs) t = constant_faults cs t
+  faults_in look (tuple ss) t = tuple_faults ss t
+  faults_in look truth t = constant_faults truth_texts t
+  faults_in look integer t = number_faults t
+  faults_in look text t = text_faults t
+  faults_in look (set s) t = set_faults s t
+  faults_in look (iset s) t = set_faults s t
+  faults_in look card t = cardinality_faults t
+  faults_in look (valency k) t = valency_faults (d.constants k) t
+  faults_in look (mapping k u) t =
+      formed (pairs_of t) (λ pairs. keys_faults causes.NotMember (d.constants k) (keys_in pairs) ++ flat_map (λ pair. of_seen (look pair.1) (faults_in look u)) pairs) t
+  faults_in look (fields fs) t = formed (pairs_of t) (λ pairs. keys_faults causes.UnknownName (names_of fs) (keys_in pairs) ++ flat_map (λ pair. field_faults look fs pair) pairs) t
 
   -- of the value of a field, where the type has it
-  pub field_faults : Bindings → Fields → Name × Term → List Fault
-  field_faults bs no_field pair = []
-  field_faults bs (field_then name u fs) pair = if bytes_eq name pair.0.text then faults bs u pair.1 else field_faults bs fs pair
+  pub field_faults : Look → Fields → Name × Term → List Fault
+  field_faults look no_field pair = []
+  field_faults look (field_then name u fs) pair = if bytes_eq name pair.0.text then of_seen (look pair.1) (faults_in look u) else field_faults look fs pair
 
--- of a term with its parameters bound, where a map is wanted
-unfoldable pub mapping_faults : Bindings → List (List ℕ) → Shape → Term → List Fault
-mapping_faults bs texts s t = formed (pairs_of t) (λ pairs. keys_faults causes.NotMember texts (keys_in pairs) ++ flat_map (λ pair. faults bs s pair.1) pairs) t
+-- where a term stands
+abbrev pub faults : Look → Shape → Term → List Fault
+faults look s t = of_seen (look t) (faults_in look s)
+
+-- of a term where a map is wanted
+unfoldable pub mapping_faults : Look → List (List ℕ) → Shape → Term → List Fault
+mapping_faults look texts s t =
+    formed (pairs_of t) (λ pairs. keys_faults causes.NotMember texts (keys_in pairs) ++ flat_map (λ pair. of_seen (look pair.1) (faults_in look s)) pairs) t
 
 -- and where a record is wanted
-unfoldable pub record_faults : Bindings → Fields → Term → List Fault
-record_faults bs fs t = formed (pairs_of t) (λ pairs. keys_faults causes.UnknownName (names_of fs) (keys_in pairs) ++ flat_map (λ pair. field_faults bs fs pair) pairs) t
+unfoldable pub record_faults : Look → Fields → Term → List Fault
+record_faults look fs t = formed (pairs_of t) (λ pairs. keys_faults causes.UnknownName (names_of fs) (keys_in pairs) ++ flat_map (λ pair. field_faults look fs pair) pairs) t
 
 -- ---- the same of elements in braces
 
@@ -209,18 +218,18 @@ count_faults_in _ = []
 unfoldable pub count_faults : Spanned ElemKind → List Fault
 count_faults elem = count_faults_in (out-ElemKind elem.kind)
 
-abbrev pub value_faults_in : Bindings → Shape → ElemKind-F ElemKind TermKind → List Fault
-value_faults_in bs s (ElemKind-F.Keyed name t) = faults bs s t
-value_faults_in bs s _ = []
+abbrev pub value_faults_in : Look → Shape → ElemKind-F ElemKind TermKind → List Fault
+value_faults_in look s (ElemKind-F.Keyed name t) = of_seen (look t) (faults_in look s)
+value_faults_in look s _ = []
 
 -- of the term of a key
-unfoldable pub value_faults : Bindings → Shape → Spanned ElemKind → List Fault
-value_faults bs s elem = value_faults_in bs s (out-ElemKind elem.kind)
+unfoldable pub value_faults : Look → Shape → Spanned ElemKind → List Fault
+value_faults look s elem = value_faults_in look s (out-ElemKind elem.kind)
 
-abbrev pub elem_faults_in : Bindings → Fields → ElemKind-F ElemKind TermKind → List Fault
-elem_faults_in bs fs (ElemKind-F.Keyed name t) = field_faults bs fs (name, t)
-elem_faults_in bs fs _ = []
+abbrev pub elem_faults_in : Look → Fields → ElemKind-F ElemKind TermKind → List Fault
+elem_faults_in look fs (ElemKind-F.Keyed name t) = field_faults look fs (name, t)
+elem_faults_in look fs _ = []
 
 -- of the term of a field
-unfoldable pub elem_faults : Bindings → Fields → Spanned ElemKind → List Fault
-elem_faults bs fs elem = elem_faults_in bs fs (out-ElemKind elem.kind)
+unfoldable pub elem_faults : Look → Fields → Spanned ElemKind → List Fault
+elem_faults look fs elem = elem_faults_in look fs (out-ElemKind elem.kind)

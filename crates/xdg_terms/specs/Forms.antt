@@ -1,5 +1,6 @@
 -- What a term is where a type is wanted: which forms of terms there are, with the parameters bound.
 use Rattle.std.specs.Prelude.{ℕ, ◌==◌, if◌then◌else◌, List, [], ◌∷◌, length, Option, Some, None, bytes_eq}
+use Rattle.xdg_ast.specs.Grammar.{is_among}
 use Rattle.xdg_ast.specs.declared.names.Name.{Name}
 use Rattle.xdg_ast.specs.declared.names.Pair.{Pair}
 use Rattle.xdg_ast.specs.declared.names.Spanned.{Spanned}
@@ -40,6 +41,24 @@ bound_in bs t _ = t
 -- a term, or what it stands for where it is a parameter
 unfoldable pub bound : Bindings → Term → Term
 bound bs t = bound_in bs t (out-TermKind t.kind)
+
+-- ---- what is looked at
+
+-- what is looked at where a term stands, if anything is
+abbrev pub Look : Type 0
+Look = Term → Option Term
+
+-- the term, or what it stands for where it is a parameter
+abbrev pub with_bound : Bindings → Look
+with_bound bs t = Some (bound bs t)
+
+abbrev pub unless_open : List (List ℕ) → Term → TermKind-F ElemKind TermKind → Option Term
+unless_open free t (TermKind-F.Param name) = if is_among free name.text then None else Some t
+unless_open free t _ = Some t
+
+-- the term, and nothing where it is one of the open parameters
+unfoldable pub with_open : List (List ℕ) → Look
+with_open free t = unless_open free t (out-TermKind t.kind)
 
 -- ---- forms of terms
 

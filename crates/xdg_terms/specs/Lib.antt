@@ -6,3 +6,6 @@ pub mod Fitting
 pub mod Forms
 pub mod Means
 pub mod Offences
+pub mod Readings
+pub mod Wanted
+pub mod Stray

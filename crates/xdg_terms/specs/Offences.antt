@@ -13,7 +13,7 @@ use Rattle.xdg_ast.specs.declared.terms.GenKind.TheFolds.{fold-GenKind}
 use Rattle.xdg_domain.specs.Shapes as d
 use Rattle.xdg_domain.specs.Shapes.{Shape, domain, tuple, truth, integer, text, set, iset, card, valency, mapping, fields, Fields, no_field, field_then, sizes, in_a_row, names_of, Among}
 use Rattle.xdg_faults.specs.First.{In}
-use Rattle.xdg_terms.specs.Forms.{Term, Card, Bindings, bound, constant_of, number_of, card_of, generator_of, bracket_of, constants_of, brackets_of, counts_of, pairs_of}
+use Rattle.xdg_terms.specs.Forms.{Term, Card, Bindings, Look, with_bound, with_open, constant_of, number_of, card_of, generator_of, bracket_of, constants_of, brackets_of, counts_of, pairs_of}
 
 abbrev pub fault_at : Cause → ℕ → Fault
 fault_at cause place = record { cause = cause; at = place; reached = 0 }
@@ -166,16 +166,38 @@ OffendsHere s t f = IsWrongKind s t f ⊎ (IsNotMember s t f ⊎ (IsTwice s t f 
 
 -- ---- all offences
 
--- What is wrong with the term, or with a term in it: the values of a map and of the fields that the record type has.
+-- what is said of the term that is looked at, if one is
+abbrev pub OfSeen : Option Term → (Term → Type 0) → Type 0
+OfSeen None P = ⊥
+OfSeen (Some t) P = P t
+
+-- What is wrong with a term that is looked at, or with a term in it: the values of a map and of the fields that the
+-- record type has, as far as they are looked at.
 abbrev mutual
-  pub Offends : Bindings → Shape → Term → Fault → Type 0
-  Offends bs (mapping k u) t f =
-      OffendsHere (mapping k u) (bound bs t) f ⊎ ((pair : Name × Term) × (In (all_told (pairs_of (bound bs t))) pair × Offends bs u pair.1 f))
-  Offends bs (fields fs) t f =
-      OffendsHere (fields fs) (bound bs t) f ⊎ ((pair : Name × Term) × (In (all_told (pairs_of (bound bs t))) pair × OffendsField bs fs pair f))
-  Offends bs s t f = OffendsHere s (bound bs t) f
+  pub OffendsIn : Look → Shape → Term → Fault → Type 0
+  OffendsIn look (mapping k u) t f =
+      OffendsHere (mapping k u) t f ⊎ ((pair : Name × Term) × (In (all_told (pairs_of t)) pair × OfSeen (look pair.1) (λ seen. OffendsIn look u seen f)))
+  OffendsIn look (fields fs) t f = OffendsHere (fields fs) t f ⊎ ((pair : Name × Term) × (In (all_told (pairs_of t)) pair × OffendsUnder look fs pair f))
+  OffendsIn look s t f = OffendsHere s t f
 
   -- the value of a field, where the type has it
-  pub OffendsField : Bindings → Fields → Name × Term → Fault → Type 0
-  OffendsField bs no_field pair f = ⊥
-  OffendsField bs (field_then name u fs) pair f = ((name ≡ pair.0.text) × Offends bs u pair.1 f) ⊎ ((name ≡ pair.0.text → ⊥) × OffendsField bs fs pair f)
+  pub OffendsUnder : Look → Fields → Name × Term → Fault → Type 0
+  OffendsUnder look no_field pair f = ⊥
+  OffendsUnder look (field_then name u fs) pair f =
+      ((name ≡ pair.0.text) × OfSeen (look pair.1) (λ seen. OffendsIn look u seen f)) ⊎ ((name ≡ pair.0.text → ⊥) × OffendsUnder look fs pair f)
+
+-- what is wrong where a term stands
+abbrev pub OffendsBy : Look → Shape → Term → Fault → Type 0
+OffendsBy look s t f = OfSeen (look t) (λ seen. OffendsIn look s seen f)
+
+-- what is wrong with a term, with its parameters bound
+abbrev pub Offends : Bindings → Shape → Term → Fault → Type 0
+Offends bs s t f = OffendsBy (with_bound bs) s t f
+
+abbrev pub OffendsField : Bindings → Fields → Name × Term → Fault → Type 0
+OffendsField bs fs pair f = OffendsUnder (with_bound bs) fs pair f
+
+-- What is wrong with a term in which these parameters are open: nothing is wrong where one of them stands for a term,
+-- and any other parameter is of the wrong kind.
+abbrev pub OpenOffends : List (List ℕ) → Shape → Term → Fault → Type 0
+OpenOffends free s t f = OffendsBy (with_open free) s t f

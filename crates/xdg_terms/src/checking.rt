@@ -6,16 +6,17 @@ ghost use Rattle.xdg_ast.specs.declared.names.Name.{Name};
 ghost use Rattle.xdg_domain.specs.Shapes.{shape};
 ghost use Rattle.xdg_faults.specs.First.{Tells, first};
 ghost use Rattle.xdg_terms.specs.Faults as spec;
-ghost use Rattle.xdg_terms.specs.Offences.{Offends};
+ghost use Rattle.xdg_terms.specs.Offences.{Offends, OpenOffends};
+ghost use Rattle.xdg_terms.specs.Readings.{look_of};
 
-use crate::forms::{Bindings, bound, each_keyed};
+use crate::forms::{Bindings, Reading, each_keyed, seen};
 use crate::keys::{check_fields, check_keys, check_valency};
 use crate::members::{
     check_cardinality, check_domain, check_number, check_text, check_truth, check_tuple, constants,
     wrong_kind,
 };
 use crate::sets::check_set;
-use xdg_ast::{Elem, ElemKind, Name, Pair, Term, TermKind};
+use xdg_ast::{Elem, ElemKind, Name, Params, Term, TermKind};
 use xdg_base::{Fault, Text};
 use xdg_domain::Ty;
 use xdg_faults::earlier;
@@ -33,36 +34,54 @@ use xdg_faults::earlier;
 pub fn check(ty: &Ty, term: &Term, bindings: &Bindings) -> Option<Fault>
     ensures { Tells (Offends bindings.now (shape ty.now) term.now) result }
 {
-    check_term(ty, term, bindings.as_slice())
+    check_term(ty, &*term, &Reading::Bound((&*bindings).as_slice()))
 }
 
-/// The first fault of a term.
+/// The first fault of a term in which these parameters are open, as [`check`] tells it. Where one of them stands for a
+/// term nothing is wrong; any other parameter is `WrongKind` (33). It takes no memory.
+pub fn check_open(ty: &Ty, term: &Term, params: &Params) -> Option<Fault>
+    ensures { Tells (OpenOffends params.now (shape ty.now) term.now) result }
+{
+    check_term(ty, &*term, &Reading::Open(&*params))
+}
+
+/// The first fault where a term stands.
+#[cycle(check_term)]
+fn check_term<'a>(ty: &Ty, term: &'a Term, reading: &Reading<'a>) -> Option<Fault>
+    ensures { result ≡ first (spec.faults (look_of reading.now) (shape ty.now) term.now) }
+{
+    match seen(reading, term) {
+        None => None,
+        Some(meant) => check_seen(ty, meant, reading),
+    }
+}
+
+/// The first fault of a term that is looked at.
 #[cycle(check_term)]
 #[tactic(auto, unfolding(crate::specs::Faults::mapping_faults, crate::specs::Faults::record_faults))]
-fn check_term(ty: &Ty, term: &Term, bindings: &[Pair<Term>]) -> Option<Fault>
-    ensures { result ≡ first (spec.faults bindings.now (shape ty.now) term.now) }
+fn check_seen<'a>(ty: &Ty, term: &'a Term, reading: &Reading<'a>) -> Option<Fault>
+    ensures { result ≡ first (spec.faults_in (look_of reading.now) (shape ty.now) term.now) }
 {
-    let meant = bound(bindings, term);
     match ty {
-        Ty::Domain(texts) => check_domain(texts.as_slice(), meant),
-        Ty::Tuple(types) => check_tuple(types.as_slice(), meant),
-        Ty::Bool => check_truth(meant),
-        Ty::Int => check_number(meant),
-        Ty::Str => check_text(meant),
-        Ty::Set(of) => check_set(of.get(), meant),
-        Ty::ISet(of) => check_set(of.get(), meant),
-        Ty::Card => check_cardinality(meant),
-        Ty::Valency(key) => check_valency(constants(key.get()), meant),
-        Ty::Map(key, value) => check_map(value.get(), constants(key.get()), meant, bindings),
-        Ty::Rec(fields) => check_record(fields.as_slice(), meant, bindings),
+        Ty::Domain(texts) => check_domain(texts.as_slice(), term),
+        Ty::Tuple(types) => check_tuple(types.as_slice(), term),
+        Ty::Bool => check_truth(term),
+        Ty::Int => check_number(term),
+        Ty::Str => check_text(term),
+        Ty::Set(of) => check_set(of.get(), term),
+        Ty::ISet(of) => check_set(of.get(), term),
+        Ty::Card => check_cardinality(term),
+        Ty::Valency(key) => check_valency(constants(key.get()), term),
+        Ty::Map(key, value) => check_map(value.get(), constants(key.get()), term, reading),
+        Ty::Rec(fields) => check_record(fields.as_slice(), term, reading),
     }
 }
 
 /// A term where a map is wanted, whose keys are constants of the domain.
 #[cycle(check_term)]
 #[tactic(auto, unfolding(crate::specs::Faults::mapping_faults, crate::specs::Forms::pairs_of))]
-fn check_map(value: &Ty, texts: &[Text], term: &Term, bindings: &[Pair<Term>]) -> Option<Fault>
-    ensures { result ≡ first (spec.mapping_faults bindings.now texts.now (shape value.now) term.now) }
+fn check_map<'a>(value: &Ty, texts: &[Text], term: &'a Term, reading: &Reading<'a>) -> Option<Fault>
+    ensures { result ≡ first (spec.mapping_faults (look_of reading.now) texts.now (shape value.now) term.now) }
 {
     let TermKind::Braces(elems) = &term.kind else {
         return wrong_kind(term);
@@ -73,18 +92,18 @@ fn check_map(value: &Ty, texts: &[Text], term: &Term, bindings: &[Pair<Term>]) -
     }
     earlier(
         check_keys(texts, elems),
-        check_values(value, elems, bindings),
+        check_values(value, elems, reading),
     )
 }
 
 /// The values of a map.
 #[cycle(check_term)]
-fn check_values(value: &Ty, elems: &[Elem], bindings: &[Pair<Term>]) -> Option<Fault>
-    ensures { result ≡ first (flat_map (spec.value_faults bindings.now (shape value.now)) elems.now) }
+fn check_values<'a>(value: &Ty, elems: &'a [Elem], reading: &Reading<'a>) -> Option<Fault>
+    ensures { result ≡ first (flat_map (spec.value_faults (look_of reading.now) (shape value.now)) elems.now) }
 {
     let mut found = None;
     for elem in elems {
-        found = earlier(found, check_value(value, elem, bindings));
+        found = earlier(found, check_value(value, elem, reading));
     }
     found
 }
@@ -92,11 +111,11 @@ fn check_values(value: &Ty, elems: &[Elem], bindings: &[Pair<Term>]) -> Option<F
 /// A value of a map.
 #[cycle(check_term)]
 #[tactic(auto, unfolding(crate::specs::Faults::value_faults))]
-fn check_value(value: &Ty, elem: &Elem, bindings: &[Pair<Term>]) -> Option<Fault>
-    ensures { result ≡ first (spec.value_faults bindings.now (shape value.now) elem.now) }
+fn check_value<'a>(value: &Ty, elem: &'a Elem, reading: &Reading<'a>) -> Option<Fault>
+    ensures { result ≡ first (spec.value_faults (look_of reading.now) (shape value.now) elem.now) }
 {
     match &elem.kind {
-        ElemKind::Keyed(_, term) => check_term(value, term.get(), bindings),
+        ElemKind::Keyed(_, term) => check_term(value, term.get(), reading),
         _ => None,
     }
 }
@@ -104,8 +123,8 @@ fn check_value(value: &Ty, elem: &Elem, bindings: &[Pair<Term>]) -> Option<Fault
 /// A term where a record is wanted.
 #[cycle(check_term)]
 #[tactic(auto, unfolding(crate::specs::Faults::record_faults, crate::specs::Forms::pairs_of))]
-fn check_record(fields: &[(Text, Ty)], term: &Term, bindings: &[Pair<Term>]) -> Option<Fault>
-    ensures { result ≡ first (spec.record_faults bindings.now (spec.fields_in fields.now) term.now) }
+fn check_record<'a>(fields: &[(Text, Ty)], term: &'a Term, reading: &Reading<'a>) -> Option<Fault>
+    ensures { result ≡ first (spec.record_faults (look_of reading.now) (spec.fields_in fields.now) term.now) }
 {
     let TermKind::Braces(elems) = &term.kind else {
         return wrong_kind(term);
@@ -116,18 +135,18 @@ fn check_record(fields: &[(Text, Ty)], term: &Term, bindings: &[Pair<Term>]) -> 
     }
     earlier(
         check_fields(fields, elems),
-        check_parts(fields, elems, bindings),
+        check_parts(fields, elems, reading),
     )
 }
 
 /// The values of a record's fields.
 #[cycle(check_term)]
-fn check_parts(fields: &[(Text, Ty)], elems: &[Elem], bindings: &[Pair<Term>]) -> Option<Fault>
-    ensures { result ≡ first (flat_map (spec.elem_faults bindings.now (spec.fields_in fields.now)) elems.now) }
+fn check_parts<'a>(fields: &[(Text, Ty)], elems: &'a [Elem], reading: &Reading<'a>) -> Option<Fault>
+    ensures { result ≡ first (flat_map (spec.elem_faults (look_of reading.now) (spec.fields_in fields.now)) elems.now) }
 {
     let mut found = None;
     for elem in elems {
-        found = earlier(found, check_part(fields, elem, bindings));
+        found = earlier(found, check_part(fields, elem, reading));
     }
     found
 }
@@ -135,28 +154,28 @@ fn check_parts(fields: &[(Text, Ty)], elems: &[Elem], bindings: &[Pair<Term>]) -
 /// The value of a field, where the record has it.
 #[cycle(check_term)]
 #[tactic(auto, unfolding(crate::specs::Faults::elem_faults))]
-fn check_part(fields: &[(Text, Ty)], elem: &Elem, bindings: &[Pair<Term>]) -> Option<Fault>
-    ensures { result ≡ first (spec.elem_faults bindings.now (spec.fields_in fields.now) elem.now) }
+fn check_part<'a>(fields: &[(Text, Ty)], elem: &'a Elem, reading: &Reading<'a>) -> Option<Fault>
+    ensures { result ≡ first (spec.elem_faults (look_of reading.now) (spec.fields_in fields.now) elem.now) }
 {
     match &elem.kind {
-        ElemKind::Keyed(name, term) => check_under(fields, name, term.get(), bindings),
+        ElemKind::Keyed(name, term) => check_under(fields, name, term.get(), reading),
         _ => None,
     }
 }
 
 /// The term that stands under a name, where a field has it.
 #[cycle(check_term)]
-fn check_under(
+fn check_under<'a>(
     fields: &[(Text, Ty)],
     key: &Name,
-    term: &Term,
-    bindings: &[Pair<Term>],
+    term: &'a Term,
+    reading: &Reading<'a>,
 ) -> Option<Fault>
-    ensures { result ≡ first (spec.field_faults bindings.now (spec.fields_in fields.now) (key.now, term.now)) }
+    ensures { result ≡ first (spec.field_faults (look_of reading.now) (spec.fields_in fields.now) (key.now, term.now)) }
 {
     for (name, ty) in fields {
         if name.as_str() == key.text.as_str() {
-            return check_term(ty, term, bindings);
+            return check_term(ty, term, reading);
         }
     }
     None

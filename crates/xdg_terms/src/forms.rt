@@ -3,8 +3,10 @@
 ghost use Rattle.std.specs.Prelude.{◌≡◌};
 ghost use Rattle.xdg_terms.specs.Forms as spec;
 ghost use Rattle.xdg_terms.specs.Offences.{is_some};
+ghost use Rattle.xdg_terms.specs.Readings.{look_of};
+ghost use Rattle.std.specs.Option.{option_copied};
 
-use xdg_ast::{Elem, ElemKind, Pair, Term, TermKind};
+use xdg_ast::{Elem, ElemKind, Pair, Params, Term, TermKind};
 use xdg_base::List;
 
 /// What the parameters of a class stand for: pairs of a parameter's name and a term without parameters. Of two pairs
@@ -32,6 +34,42 @@ fn bound_to<'a>(bindings: &'a [Pair<Term>], name: &str, other: &'a Term) -> &'a 
         }
     }
     other
+}
+
+/// How parameters are taken where they stand for terms.
+#[derive(Clone, Copy)]
+pub(crate) enum Reading<'a> {
+    /// As what they are bound to.
+    Bound(&'a [Pair<Term>]),
+    /// Those with these names as anything that may stand there.
+    Open(&'a Params),
+}
+
+/// What is looked at where a term stands: what it stands for, and nothing where it is an open parameter.
+pub(crate) fn seen<'a>(reading: &Reading<'a>, term: &'a Term) -> Option<&'a Term>
+    ensures { option_copied result ≡ look_of reading.now term.now }
+{
+    match *reading {
+        Reading::Bound(bindings) => Some(bound(bindings, term)),
+        Reading::Open(params) => unless_open(params, term),
+    }
+}
+
+/// A term, unless it is an open parameter.
+#[tactic(auto, unfolding(crate::specs::Forms::with_open))]
+fn unless_open<'a>(params: &Params, term: &'a Term) -> Option<&'a Term>
+    ensures { option_copied result ≡ spec.with_open params.now term.now }
+{
+    match &term.kind {
+        TermKind::Param(name) => {
+            if params.contains(name.text.as_str()) {
+                None
+            } else {
+                Some(term)
+            }
+        }
+        _ => Some(term),
+    }
 }
 
 /// Whether all elements are constants.

@@ -14,9 +14,13 @@ mod parts;
 mod plain;
 mod set_values;
 mod sets;
+mod stray;
 mod tuples;
 mod values;
+mod wants;
 
-pub use checking::check;
+pub use checking::{check, check_open};
 pub use forms::Bindings;
+pub use stray::check_stray;
 pub use values::value;
+pub use wants::{Wanted, params_in};
