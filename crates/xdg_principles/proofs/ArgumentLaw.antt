@@ -1,0 +1,190 @@
+-- The offences of arguments that the pass lists are those of the rows.
+use Rattle.std.proofs.Common.{◌≡◌, inl, inr, false, List, [], ◌∷◌, ◌++◌, map, Option, None, Some, refl, sym, ap, subst}
+use Rattle.std.specs.List.{flat_map}
+use Rattle.xdg_base.specs.declared.faults.Cause.TheVariants as causes
+use Rattle.xdg_base.specs.declared.faults.Fault.{Fault}
+use Rattle.xdg_ast.specs.declared.names.Name.{Name}
+use Rattle.xdg_domain.specs.Shapes.{shape}
+use Rattle.xdg_domain.specs.declared.types.Ty.{Ty}
+use Rattle.xdg_faults.specs.First.{In, Tells, first}
+use Rattle.xdg_faults.proofs.First.{tells_as, first-tells}
+use Rattle.xdg_faults.proofs.In.{in_append, in_left, in_right, in_flat_map, flat_map_in, in_unless, unless_in}
+use Rattle.xdg_index.specs.Texts.{has_text}
+use Rattle.xdg_terms.specs.Forms.{Term}
+use Rattle.xdg_types.specs.Names.{fault_at}
+use Rattle.xdg_types.specs.NameFaults.{repeats}
+use Rattle.xdg_types.specs.Parts.{Statement}
+use Rattle.xdg_types.specs.Table.{Table}
+use Rattle.xdg_types.specs.declared.table.DimType.{DimType}
+use Rattle.xdg_types.proofs.NamesAgain.{again_sound, again_complete}
+use Rattle.xdg_principles.specs.declared.principle.Form.{Form}
+use Rattle.xdg_principles.specs.declared.principle.Parameter.{Parameter}
+use Rattle.xdg_principles.specs.declared.principle.Sort.{Sort}
+use Rattle.xdg_principles.specs.declared.principle.Which.{Which}
+use Rattle.xdg_principles.specs.declared.principle.Typing.{Typing}
+use Rattle.xdg_principles.specs.declared.principle.Wanted.{Wanted}
+use Rattle.xdg_principles.specs.declared.principle.Wanted.TheVariants as a
+use Rattle.xdg_principles.specs.Principles.{principle_named, parameters, told}
+use Rattle.xdg_principles.specs.Uses.{Use, principle_uses}
+use Rattle.xdg_principles.specs.Settings.{Setting, Argument, Called, with_form, setting, arguments_in, labels, member_type, term_in, constant_in, listed_in, called_in}
+use Rattle.xdg_principles.specs.Wanted.{is_wanted}
+use Rattle.xdg_principles.specs.Arguments.{OneOffends, ArgumentOffends, has_form, truths}
+use Rattle.xdg_principles.specs.ArgumentFaults.{form_faults, type_faults, member_faults, outside, inner_faults, one_faults, setting_faults, known_faults, use_faults, argument_faults}
+use Rattle.xdg_principles.proofs.Tests.{not_among, no_text}
+use Rattle.xdg_principles.proofs.WantedLaw.{wanted_false, true_wanted}
+use Rattle.xdg_principles.proofs.MemberPlaces.{no_type, type_there}
+
+module _ (x : Argument) where
+  abbrev s : Setting
+  s = x.setting
+
+  abbrev p : Parameter
+  p = x.parameter
+
+  -- ---- from the list
+
+  of_form : (given : Option Term) → term_in s p ≡ given → (f : Fault) → In (form_faults p.wanted given) f → OneOffends x f
+  of_form None e f h = absurd h
+  of_form (Some term) e f h =
+      let k = in_unless (has_form p.wanted term) (fault_at causes.WrongKind term.span.start) f h in
+      inl (record { term = term; given = e; form = k.0; fault = sym k.1 })
+
+  module _ (sort : Sort) (which : Which) (typing : Typing) (wanted : p.wanted ≡ a.Member sort which typing) (called : Called) (given : called_in s p ≡ Some called) where
+    of_type : (type : Option Ty) → member_type s sort which called.text ≡ type → (f : Fault) → In (type_faults s typing called.at type) f → OneOffends x f
+    of_type None e f h = elim h [
+      | inl q ↦ inr (inl (record { sort = sort; which = which; typing = typing; wanted = wanted; called = called; given = given; missing = no_type s sort which called.text e; fault = sym q }))
+      | inr z ↦ absurd z
+    ]
+    of_type (Some type) e f h =
+        let k = in_unless (is_wanted s typing (shape type)) (fault_at causes.WrongKind called.at) f h in
+        inr (inr (inl (record { sort = sort; which = which; typing = typing; wanted = wanted; called = called; given = given; type = type; has = e; wrong = wanted_false s typing (shape type) k.0; fault = sym k.1 })))
+
+  of_called : (sort : Sort) (which : Which) (typing : Typing) → p.wanted ≡ a.Member sort which typing → (called : Option Called) → called_in s p ≡ called → (f : Fault) → In (member_faults s sort which typing called) f → OneOffends x f
+  of_called sort which typing wanted None e f h = absurd h
+  of_called sort which typing wanted (Some called) e f h = of_type sort which typing wanted called e (member_type s sort which called.text) refl f h
+
+  of_truth : p.wanted ≡ a.Truth → (given : Option Name) → constant_in s p ≡ given → (f : Fault) → In (flat_map (outside truths) (told given)) f → OneOffends x f
+  of_truth wanted None e f h = absurd h
+  of_truth wanted (Some name) e f h = elim (in_append (outside truths name) [] f h) [
+    | inl o ↦ (let k = in_unless (has_text truths name.text) (fault_at causes.NotMember name.span.start) f o in
+        inr (inr (inr (inl (record { wanted = wanted; name = name; given = e; missing = not_among truths name.text k.0; fault = sym k.1 })))))
+    | inr z ↦ absurd z
+  ]
+
+  of_labels : (which : Which) → p.wanted ≡ a.Labels which → (f : Fault) → In (flat_map (outside (labels s which)) (listed_in s p) ++ repeats [] (listed_in s p)) f → OneOffends x f
+  of_labels which wanted f h = elim (in_append (flat_map (outside (labels s which)) (listed_in s p)) (repeats [] (listed_in s p)) f h) [
+    | inl o ↦ (let k = in_flat_map (outside (labels s which)) (listed_in s p) f o in
+        let e = in_unless (has_text (labels s which) k.0.text) (fault_at causes.NotMember k.0.span.start) f k.1.1 in
+        inr (inr (inr (inr (inl (record { which = which; wanted = wanted; name = k.0; given = k.1.0; missing = not_among (labels s which) k.0.text e.0; fault = sym e.1 }))))))
+    | inr r ↦ (let k = again_sound [] (listed_in s p) [] (λ t b. b) f r in
+        inr (inr (inr (inr (inr (record { which = which; wanted = wanted; before = k.before; name = k.name; after = k.after; parts = k.parts; earlier = k.earlier; fault = k.fault }))))))
+  ]
+
+  of_inner : (wanted : Wanted) → p.wanted ≡ wanted → (f : Fault) → In (inner_faults s p wanted) f → OneOffends x f
+  of_inner (a.Member sort which typing) e f h = of_called sort which typing e (called_in s p) refl f h
+  of_inner (a.Labels which) e f h = of_labels which e f h
+  of_inner a.Truth e f h = of_truth e (constant_in s p) refl f h
+
+  pub of_one : (f : Fault) → In (one_faults s p) f → OneOffends x f
+  of_one f h = elim (in_append (form_faults p.wanted (term_in s p)) (inner_faults s p p.wanted) f h) [
+    | inl l ↦ of_form (term_in s p) refl f l
+    | inr r ↦ of_inner p.wanted refl f r
+  ]
+
+  -- ---- into the list
+
+  to_form : (given : Option Term) (term : Term) → given ≡ Some term → has_form p.wanted term ≡ false → (f : Fault) → fault_at causes.WrongKind term.span.start ≡ f → In (form_faults p.wanted given) f
+  to_form given term e wrong f is = subst (λ (o : Option Term). In (form_faults p.wanted o) f) (sym e) (unless_in (has_form p.wanted term) (fault_at causes.WrongKind term.span.start) f wrong is)
+
+  inner : (wanted : Wanted) → p.wanted ≡ wanted → (f : Fault) → In (inner_faults s p wanted) f → In (one_faults s p) f
+  inner wanted e f h = in_right (form_faults p.wanted (term_in s p)) (inner_faults s p p.wanted) f (subst (λ w. In (inner_faults s p w) f) (sym e) h)
+
+  to_type : (sort : Sort) (which : Which) (typing : Typing) → p.wanted ≡ a.Member sort which typing → (called : Called) → called_in s p ≡ Some called → (type : Option Ty) → member_type s sort which called.text ≡ type
+      → (f : Fault) → In (type_faults s typing called.at type) f → In (one_faults s p) f
+  to_type sort which typing wanted called given type has f h = inner (a.Member sort which typing) wanted f
+      (subst (λ (o : Option Called). In (member_faults s sort which typing o) f) (sym given) (subst (λ (o : Option Ty). In (type_faults s typing called.at o) f) (sym has) h))
+
+  pub to_one : (f : Fault) → OneOffends x f → In (one_faults s p) f
+  to_one f h = elim h [
+    | inl w ↦ in_left (form_faults p.wanted (term_in s p)) (inner_faults s p p.wanted) f (to_form (term_in s p) w.term w.given w.form f (sym w.fault))
+    | inr h₁ ↦ elim h₁ [
+      | inl u ↦ to_type u.sort u.which u.typing u.wanted u.called u.given None (type_there s u.sort u.which u.called.text u.missing) f (inl (sym u.fault))
+      | inr h₂ ↦ elim h₂ [
+        | inl w ↦ to_type w.sort w.which w.typing w.wanted w.called w.given (Some w.type) w.has f
+            (unless_in (is_wanted s w.typing (shape w.type)) (fault_at causes.WrongKind w.called.at) f (true_wanted s w.typing (shape w.type) w.wrong) (sym w.fault))
+        | inr h₃ ↦ elim h₃ [
+          | inl n ↦ inner a.Truth n.wanted f (subst (λ (o : Option Name). In (flat_map (outside truths) (told o)) f) (sym n.given)
+              (in_left (outside truths n.name) [] f (unless_in (has_text truths n.name.text) (fault_at causes.NotMember n.name.span.start) f (no_text truths n.name.text n.missing) (sym n.fault))))
+          | inr h₄ ↦ elim h₄ [
+            | inl n ↦ inner (a.Labels n.which) n.wanted f (in_left (flat_map (outside (labels s n.which)) (listed_in s p)) (repeats [] (listed_in s p)) f
+                (flat_map_in (outside (labels s n.which)) (listed_in s p) n.name f n.given
+                (unless_in (has_text (labels s n.which) n.name.text) (fault_at causes.NotMember n.name.span.start) f (no_text (labels s n.which) n.name.text n.missing) (sym n.fault))))
+            | inr r ↦ inner (a.Labels r.which) r.wanted f (in_right (flat_map (outside (labels s r.which)) (listed_in s p)) (repeats [] (listed_in s p)) f
+                (subst (λ ns. In (repeats [] ns) f) (sym r.parts) (again_complete r.before r.name r.after [] f (inr r.earlier) (sym r.fault))))
+          ]
+        ]
+      ]
+    ]
+  ]
+
+-- ---- all arguments
+
+in_map : {A B : Type 0} (g : A → B) (xs : List A) (y : B) → In (map g xs) y → (z : A) × (In xs z × (g z ≡ y))
+in_map g [] y h = absurd h
+in_map g (x ∷ xs) y h = elim h [ inl e ↦ (x, (inl refl, e)) | inr k ↦ (let r = in_map g xs y k in (r.0, (inr r.1.0, r.1.1))) ]
+
+map_in : {A B : Type 0} (g : A → B) (xs : List A) (z : A) → In xs z → In (map g xs) (g z)
+map_in g [] z h = absurd h
+map_in g (x ∷ xs) z h = elim h [ inl e ↦ inl (ap g e) | inr k ↦ inr (map_in g xs z k) ]
+
+abbrev argument : Setting → Parameter → Argument
+argument s p = record { setting = s; parameter = p }
+
+setting_sound : (s : Setting) (f : Fault) → In (setting_faults s) f → (x : Argument) × (In (arguments_in s) x × OneOffends x f)
+setting_sound s f h =
+    let k = in_flat_map (one_faults s) (parameters s.form) f h in
+    (argument s k.0, (map_in (argument s) (parameters s.form) k.0 k.1.0, of_one (argument s k.0) f k.1.1))
+
+setting_complete : (s : Setting) (x : Argument) (f : Fault) → In (arguments_in s) x → OneOffends x f → In (setting_faults s) f
+setting_complete s x f stands h =
+    let k = in_map (argument s) (parameters s.form) x stands in
+    flat_map_in (one_faults s) (parameters s.form) k.0 f k.1.0 (to_one (argument s k.0) f (subst (λ (y : Argument). OneOffends y f) (sym k.1.1) h))
+
+module _ (dims : List DimType) (one : Use) where
+  form_sound : (form : Option Form) (f : Fault) → In (known_faults dims one form) f → (x : Argument) × (In (flat_map arguments_in (with_form dims one form)) x × OneOffends x f)
+  form_sound None f h = absurd h
+  form_sound (Some form) f h =
+      let s : Setting = record { dims = dims; one = one; form = form } in
+      let k = setting_sound s f h in
+      (k.0, (in_left (arguments_in s) [] k.0 k.1.0, k.1.1))
+
+  form_complete : (form : Option Form) (x : Argument) (f : Fault) → In (flat_map arguments_in (with_form dims one form)) x → OneOffends x f → In (known_faults dims one form) f
+  form_complete None x f stands h = absurd stands
+  form_complete (Some form) x f stands h =
+      let s : Setting = record { dims = dims; one = one; form = form } in
+      elim (in_append (arguments_in s) [] x stands) [ inl l ↦ setting_complete s x f l h | inr z ↦ absurd z ]
+
+module _ (statements : List Statement) (table : Table) where
+  abbrev dims : List DimType
+  dims = table.dims
+
+  abbrev settings : List Setting
+  settings = flat_map (setting dims) (principle_uses statements)
+
+  sound : (f : Fault) → In (argument_faults statements dims) f → ArgumentOffends statements table f
+  sound f h =
+      let k = in_flat_map (use_faults dims) (principle_uses statements) f h in
+      let r = form_sound dims k.0 (principle_named k.0.name.text) f k.1.1 in
+      let q = in_flat_map arguments_in (setting dims k.0) r.0 r.1.0 in
+      (r.0, (flat_map_in arguments_in settings q.0 r.0 (flat_map_in (setting dims) (principle_uses statements) k.0 q.0 k.1.0 q.1.0) q.1.1, r.1.1))
+
+  complete : (f : Fault) → ArgumentOffends statements table f → In (argument_faults statements dims) f
+  complete f h =
+      let k = in_flat_map arguments_in settings h.0 h.1.0 in
+      let q = in_flat_map (setting dims) (principle_uses statements) k.0 k.1.0 in
+      flat_map_in (use_faults dims) (principle_uses statements) q.0 f q.1.0
+      (form_complete dims q.0 (principle_named q.0.name.text) h.0 f (flat_map_in arguments_in (setting dims q.0) k.0 h.0 q.1.1 k.1.1) h.1.1)
+
+  -- the first of the list is the first offence
+  pub arguments_tell : Tells (ArgumentOffends statements table) (first (argument_faults statements dims))
+  arguments_tell = tells_as (In (argument_faults statements dims)) (ArgumentOffends statements table) sound complete (first (argument_faults statements dims)) (first-tells (argument_faults statements dims))

@@ -1,0 +1,40 @@
+-- Lists that are compared.
+use Rattle.std.proofs.Common.{◌≡◌, ℕ, ◌<◌, ◌≤◌, false, List, [], ◌∷◌, length, drop, map, refl, sym, ◌∙◌, length-drop, arith}
+use Rattle.std.specs.Prelude.{Bool, ◌==◌}
+use Rattle.std.proofs.lemmas.Bool.Decides.{nat_tests}
+use Rattle.std.proofs.lemmas.List.{at_drop_all}
+use Rattle.xdg_domain.specs.Shapes.{shape, shapes_of, constants_of}
+use Rattle.xdg_domain.specs.declared.types.Ty.{Ty}
+use Rattle.xdg_principles.specs.Wanted.{same_texts, same_domains}
+
+no_text : (a b : List (List ℕ)) → 0 < length a → length b ≡ 0 → same_texts a b ≡ false
+no_text [] b some none = absurd (omega (arith, some))
+no_text (x ∷ xs) [] some none = refl
+no_text (x ∷ xs) (y ∷ ys) some none = absurd (omega (arith, none))
+
+-- the second list has ended
+pub texts_short : (a b : List (List ℕ)) (i : ℕ) → i < length a → length b ≡ 0 → same_texts (drop i a) b ≡ false
+texts_short a b i within none = no_text (drop i a) b (omega (arith, length-drop i a, within)) none
+
+-- the domains of these types
+abbrev pub domains : List Ty → List (List (List ℕ))
+domains types = constants_of (shapes_of (map shape types))
+
+no_domain : (a b : List Ty) → 0 < length a → length b ≡ 0 → same_domains (domains a) (domains b) ≡ false
+no_domain [] b some none = absurd (omega (arith, some))
+no_domain (x ∷ xs) [] some none = refl
+no_domain (x ∷ xs) (y ∷ ys) some none = absurd (omega (arith, none))
+
+pub domains_short : (a b : List Ty) (i : ℕ) → i < length a → length b ≡ 0 → same_domains (domains (drop i a)) (domains b) ≡ false
+domains_short a b i within none = no_domain (drop i a) b (omega (arith, length-drop i a, within)) none
+
+not_none : (n : ℕ) → 0 < n → (n == 0) ≡ false
+not_none n some = grind (arith, nat_tests)
+
+at_end : (b : List Ty) → (length b == 0) ≡ same_domains [] (domains b)
+at_end [] = refl
+at_end (y ∷ ys) = not_none (length (y ∷ ys)) (omega arith)
+
+-- the first list has ended
+pub domains_end : (a b : List Ty) (i : ℕ) (total : Bool) → length a ≤ i → same_domains (domains (drop i a)) (domains b) ≡ total → (length b == 0) ≡ total
+domains_end a b i total past so_far = at_end b ∙ sym (at_drop_all (λ types. same_domains (domains types) (domains b)) a i past) ∙ so_far

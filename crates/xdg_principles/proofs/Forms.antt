@@ -1,0 +1,66 @@
+-- The arguments of a principle, one by one.
+use Rattle.std.proofs.Common.{◌≡◌, ℕ, Bool, true, false, ◌||◌, List, [], ◌∷◌, ◌++◌, map, Option, None, Some, refl, sym, ap, ◌∙◌}
+use Rattle.std.specs.List.{flat_map}
+use Rattle.std.specs.Str.{bytes_eq}
+use Rattle.std.proofs.lemmas.Grind.{flat_map-append}
+use Rattle.std.proofs.lemmas.List.{map-append, append-nil}
+use Rattle.xdg_base.specs.declared.faults.Fault.{Fault}
+use Rattle.xdg_faults.specs.First.{first, earlier}
+use Rattle.xdg_faults.proofs.First.{first_append, earlier-none}
+use Rattle.xdg_index.specs.Texts.{has_text}
+use Rattle.xdg_principles.specs.declared.principle.Parameter.{Parameter}
+use Rattle.xdg_principles.specs.declared.building.Arg.{Arg}
+use Rattle.xdg_principles.specs.Made.{arg, args}
+use Rattle.xdg_principles.specs.Settings.{Setting}
+use Rattle.xdg_principles.specs.Principles.{key_text, told}
+use Rattle.xdg_principles.specs.Names.{required_key}
+
+pub nothing_more : (found : Option Fault) → earlier found None ≡ found
+nothing_more found = earlier-none found
+
+or_assoc : (a b c : Bool) → ((a || b) || c) ≡ (a || (b || c))
+or_assoc true b c = refl
+or_assoc false b c = refl
+
+has_append : (xs ys : List (List ℕ)) (t : List ℕ) → has_text (xs ++ ys) t ≡ (has_text xs t || has_text ys t)
+has_append [] ys t = refl
+has_append (x ∷ xs) ys t = ap (λ b. bytes_eq x t || b) (has_append xs ys t) ∙ sym (or_assoc (bytes_eq x t) (has_text xs t) (has_text ys t))
+
+abbrev names : List Parameter → List (List ℕ)
+names ps = map (λ one. key_text one.key) ps
+
+pub has_args : (a b c : Option Parameter) (t : List ℕ)
+    → has_text (map (λ one. key_text one.key) (told a ++ (told b ++ told c))) t
+    ≡ (has_text (map (λ one. key_text one.key) (told a)) t || (has_text (map (λ one. key_text one.key) (told b)) t || has_text (map (λ one. key_text one.key) (told c)) t))
+has_args a b c t =
+    ap (λ ks. has_text ks t) (map-append (λ (one : Parameter). key_text one.key) (told a) (told b ++ told c))
+    ∙ has_append (names (told a)) (names (told b ++ told c)) t
+    ∙ ap (λ s. has_text (names (told a)) t || s)
+    (ap (λ ks. has_text ks t) (map-append (λ (one : Parameter). key_text one.key) (told b) (told c)) ∙ has_append (names (told b)) (names (told c)) t)
+
+-- what is found of two lists in a row
+split : {A : Type 0} (g : A → List Fault) (xs ys : List A) → first (flat_map g (xs ++ ys)) ≡ earlier (first (flat_map g xs)) (first (flat_map g ys))
+split g xs ys = ap first (flat_map-append g xs ys) ∙ first_append (flat_map g xs) (flat_map g ys)
+
+pub each_of : {A : Type 0} (g : A → List Fault) (a b c : List A) → first (flat_map g (a ++ (b ++ c))) ≡ earlier (first (flat_map g a)) (earlier (first (flat_map g b)) (first (flat_map g c)))
+each_of g a b c = split g a (b ++ c) ∙ ap (earlier (first (flat_map g a))) (split g b c)
+
+pub lacking_each : (g : List ℕ → List Fault) (a b c : Option Parameter)
+    → first (flat_map g (flat_map required_key (told a ++ (told b ++ told c))))
+    ≡ earlier (first (flat_map g (flat_map required_key (told a)))) (earlier (first (flat_map g (flat_map required_key (told b)))) (first (flat_map g (flat_map required_key (told c)))))
+lacking_each g a b c =
+    ap (λ ks. first (flat_map g ks))
+    (flat_map-append required_key (told a) (told b ++ told c) ∙ ap (λ ks. flat_map required_key (told a) ++ ks) (flat_map-append required_key (told b) (told c)))
+    ∙ each_of g (flat_map required_key (told a)) (flat_map required_key (told b)) (flat_map required_key (told c))
+
+-- of one that may be there
+pub one_told : (g : Parameter → List Fault) (one : Parameter) → first (flat_map g (told (Some one))) ≡ first (g one)
+one_told g one = ap first (append-nil (g one))
+
+pub all_args : (setting : Setting) (a b c : Option Parameter) → args setting (told a ++ (told b ++ told c)) ≡ args setting (told a) ++ (args setting (told b) ++ args setting (told c))
+all_args setting a b c =
+    let f : Parameter → Arg = λ parameter. arg setting parameter parameter.wanted in
+    map-append f (told a) (told b ++ told c) ∙ ap (λ xs. map f (told a) ++ xs) (map-append f (told b) (told c))
+
+pub no_arg : (xs : List Arg) → xs ≡ xs ++ []
+no_arg xs = sym (append-nil xs)

@@ -1,0 +1,12 @@
+pub mod ArgumentLaw
+pub mod Compared
+pub mod Forms
+pub mod Known
+pub mod Lookups
+pub mod MemberPlaces
+pub mod NameLaw
+pub mod Rows
+pub mod Tables
+pub mod Tests
+pub mod UseLaw
+pub mod WantedLaw

@@ -1,0 +1,129 @@
+-- Names by number.
+use Rattle.std.proofs.Common.{◌≡◌, ℕ, zero, suc, ◌+◌, ◌<◌, ◌≤◌, Bool, true, false, ◌||◌, List, [], ◌∷◌, ◌++◌, length, take, drop, drop-cons, get_or, map, Option, None, Some, add-one, ap, sym, ◌∙◌, refl, subst, arith, inl, inr}
+use Rattle.std.specs.Prelude.{slice_get, option_map, not, if◌then◌else◌}
+use Rattle.std.specs.Str.{bytes_eq}
+use Rattle.std.proofs.Math.Seq.{take-suc}
+use Rattle.std.proofs.lemmas.Bool.{cases_Bool}
+use Rattle.std.proofs.lemmas.List.{map-append}
+use Rattle.std.proofs.lemmas.Option.{slice_get-map}
+use Rattle.std.proofs.lemmas.Slice.Eq.{bytes_eq-Decides}
+use Rattle.xdg_domain.specs.Shapes.{Among, Differ}
+use Rattle.xdg_index.specs.Texts.{has_text, place_of}
+use Rattle.xdg_types.specs.declared.table.DimType.{DimType}
+use Rattle.xdg_types.specs.Table.{KeepDims, firsts}
+use Rattle.xdg_principles.specs.declared.lookup.Lookup.{Lookup}
+use Rattle.xdg_principles.specs.declared.principle.Sort.{Sort}
+use Rattle.xdg_principles.specs.declared.principle.Sort.TheVariants as s
+use Rattle.xdg_principles.specs.Lent.{Knows, names_by, member_names}
+use Rattle.xdg_principles.specs.Settings.{dim_texts, labels_in, members_in, at_place}
+
+-- ---- one name after the other
+
+module _ {A : Type 0} (name : A → List ℕ) where
+  among_at : (xs : List A) (k : ℕ) (d : A) → k < length xs → Among (map name xs) (name (get_or xs k d))
+  among_at [] k d h = absurd (omega arith)
+  among_at (x ∷ xs) zero d h = inl refl
+  among_at (x ∷ xs) (suc k) d h = inr (among_at xs k d (omega arith))
+
+  fresh : (xs : List A) (k : ℕ) (d : A) → Differ (map name xs) → k < length xs → has_text (map name (take k xs)) (name (get_or xs k d)) ≡ false
+  fresh [] k d differ h = absurd (omega arith)
+  fresh (x ∷ xs) zero d differ h = refl
+  fresh (x ∷ xs) (suc k) d differ h =
+      let less : k < length xs = omega arith in
+      let t = name (get_or xs k d) in
+      let other : bytes_eq (name x) t ≡ false = elim (cases_Bool (bytes_eq (name x) t)) [
+        | inl e ↦ absurd (differ.0 (subst (Among (map name xs)) (sym ((bytes_eq-Decides (name x) t).0 e)) (among_at xs k d less)))
+        | inr e ↦ e
+      ] in
+      ap (λ b. b || has_text (map name (take k xs)) t) other ∙ fresh xs k d differ.1 less
+
+  pub name_added : (xs : List A) (k : ℕ) (x : A) (all next : List (List ℕ)) (text : List ℕ) (added : Bool) → Differ (map name xs) → k < length xs → x ≡ get_or xs k x → text ≡ name x
+      → added ≡ not (has_text all text) → next ≡ (if added then all ++ text ∷ [] else all) → all ≡ map name (take k xs) → next ≡ map name (take (k + 1) xs)
+  name_added xs k x all next text added differ within at named new grown before =
+      let front : take (k + 1) xs ≡ take k xs ++ x ∷ [] = rw add-one (take-suc xs k x within ∙ ap (λ z. take k xs ++ z ∷ []) (sym at)) in
+      let alone : has_text all text ≡ false = ap (λ ts. has_text ts text) before ∙ ap (has_text (map name (take k xs))) (named ∙ ap name at) ∙ fresh xs k x differ within in
+      let is : added ≡ true = new ∙ ap not alone in
+      grown ∙ ap (λ b. if b then all ++ text ∷ [] else all) is ∙ ap (λ ts. ts ++ text ∷ []) before ∙ ap (λ t. map name (take k xs) ++ t ∷ []) named
+      ∙ sym (map-append name (take k xs) (x ∷ [])) ∙ sym (ap (map name) front)
+
+differ_here : (sort : Sort) (dim : DimType) → (x : KeepDims (dim ∷ [])) → Differ (firsts (members_in sort (Some dim)))
+differ_here s.Feature dim x = x.0.fields
+differ_here s.Attribute dim x = x.0.attrs
+
+pub differ_at : (dims : List DimType) (sort : Sort) (k : ℕ) (dim : DimType) → KeepDims dims → k < length dims → dim ≡ get_or dims k dim → Differ (firsts (members_in sort (Some dim)))
+differ_at [] sort k dim keeps h e = absurd (omega arith)
+differ_at (d ∷ ds) sort zero dim keeps h e = subst (λ x. Differ (firsts (members_in sort (Some x)))) (sym e) (differ_here sort d (keeps.0, tt))
+differ_at (d ∷ ds) sort (suc k) dim keeps h e = differ_at ds sort k dim keeps.1 (omega arith) e
+
+-- ---- the place of a label
+
+-- the place, counted from the label with that number
+abbrev pub shifted : ℕ → Option ℕ → Option ℕ
+shifted i None = None
+shifted i (Some n) = Some (i + n)
+
+shifted_suc : (i : ℕ) (o : Option ℕ) → shifted i (option_map suc o) ≡ shifted (i + 1) o
+shifted_suc i None = refl
+shifted_suc i (Some n) = ap Some (omega arith)
+
+front : (xs : List (List ℕ)) (i : ℕ) (x : List ℕ) → i < length xs → x ≡ get_or xs i x → drop i xs ≡ x ∷ drop (i + 1) xs
+front xs i x within is = rw (add-one, drop-cons xs i x) (ap (λ y. y ∷ drop (suc i) xs) (sym is))
+
+pub place_found : (xs : List (List ℕ)) (i : ℕ) (x t : List ℕ) → i < length xs → x ≡ get_or xs i x → bytes_eq x t ≡ true → shifted i (place_of (drop i xs) t) ≡ Some i
+place_found xs i x t within is same =
+    ap (λ ys. shifted i (place_of ys t)) (front xs i x within is)
+    ∙ ap (λ b. shifted i (if b then Some 0 else option_map suc (place_of (drop (i + 1) xs) t))) same ∙ ap Some (omega arith)
+
+pub place_later : (xs : List (List ℕ)) (i : ℕ) (x t : List ℕ) → i < length xs → x ≡ get_or xs i x → bytes_eq x t ≡ false → shifted (i + 1) (place_of (drop (i + 1) xs) t) ≡ shifted i (place_of (drop i xs) t)
+place_later xs i x t within is other = sym (
+    ap (λ ys. shifted i (place_of ys t)) (front xs i x within is)
+    ∙ ap (λ b. shifted i (if b then Some 0 else option_map suc (place_of (drop (i + 1) xs) t))) other ∙ shifted_suc i (place_of (drop (i + 1) xs) t))
+
+pub place_start : (o : Option ℕ) → shifted 0 o ≡ o
+place_start None = refl
+place_start (Some n) = ap Some (omega arith)
+
+-- ---- labels
+
+few_of : (dims : List DimType) (k : ℕ) → KeepDims dims → length (labels_in (slice_get dims k)) ≤ 32
+few_of [] k keeps = omega arith
+few_of (d ∷ ds) zero keeps = keeps.0.few_labels
+few_of (d ∷ ds) (suc k) keeps = few_of ds k keeps.1
+
+few_at : (dims : List DimType) (place : Option ℕ) → KeepDims dims → length (labels_in (at_place dims place)) ≤ 32
+few_at dims None keeps = omega arith
+few_at dims (Some k) keeps = few_of dims k keeps
+
+pub few_labels : (dims : List DimType) (lookup : Lookup) (place : Option ℕ) (labels : List (List ℕ)) → Knows dims lookup → labels ≡ labels_in (at_place dims place) → length labels ≤ 32
+few_labels dims lookup place labels h e = subst (λ (ls : List (List ℕ)). length ls ≤ 32) (sym e) (few_at dims place h.keeps)
+
+-- ---- what is found
+
+pub knows : (dims : List DimType) (lookup : Lookup) → KeepDims dims → lookup.dims ≡ dim_texts dims → lookup.features ≡ member_names s.Feature dims → lookup.attributes ≡ member_names s.Attribute dims → Knows dims lookup
+knows dims lookup keeps names features attributes = record { keeps = keeps; names = names; members = members }
+  where
+    members : (sort : Sort) → names_by lookup sort ≡ member_names sort dims
+    members s.Feature = features
+    members s.Attribute = attributes
+
+abbrev or_none : Option (List (List ℕ)) → List (List ℕ)
+or_none None = []
+or_none (Some names) = names
+
+same_names : (sort : Sort) (o : Option DimType) → firsts (members_in sort o) ≡ or_none (option_map (λ dim. firsts (members_in sort (Some dim))) o)
+same_names sort None = refl
+same_names sort (Some dim) = refl
+
+named_at : (dims : List DimType) (lookup : Lookup) (sort : Sort) (k : ℕ) → Knows dims lookup → firsts (members_in sort (slice_get dims k)) ≡ or_none (slice_get (names_by lookup sort) k)
+named_at dims lookup sort k h =
+    same_names sort (slice_get dims k) ∙ ap or_none (sym (slice_get-map (λ (dim : DimType). firsts (members_in sort (Some dim))) dims k) ∙ ap (λ names. slice_get names k) (sym (h.members sort)))
+
+pub none_there : (dims : List DimType) (lookup : Lookup) (sort : Sort) (k : ℕ) (place : Option ℕ) (name : List ℕ) → Knows dims lookup → Some k ≡ place → None ≡ slice_get (names_by lookup sort) k
+    → None ≡ place_of (firsts (members_in sort (at_place dims place))) name
+none_there dims lookup sort k place name h is none =
+    ap (λ names. place_of names name) (ap or_none none ∙ sym (named_at dims lookup sort k h)) ∙ ap (λ o. place_of (firsts (members_in sort (at_place dims o))) name) is
+
+pub found_there : (dims : List DimType) (lookup : Lookup) (sort : Sort) (k : ℕ) (place : Option ℕ) (name : List ℕ) (names : List (List ℕ)) (result : Option ℕ) → Knows dims lookup → Some k ≡ place → Some names ≡ slice_get (names_by lookup sort) k
+    → result ≡ place_of names name → result ≡ place_of (firsts (members_in sort (at_place dims place))) name
+found_there dims lookup sort k place name names result h is some found =
+    found ∙ ap (λ ns. place_of ns name) (ap or_none some ∙ sym (named_at dims lookup sort k h)) ∙ ap (λ o. place_of (firsts (members_in sort (at_place dims o))) name) is

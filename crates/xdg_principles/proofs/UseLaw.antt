@@ -1,0 +1,283 @@
+-- What is built is what is meant, where nothing is wrong.
+use Rattle.std.proofs.Common.{◌≡◌, inl, inr, ℕ, suc, true, List, [], ◌∷◌, map, Option, None, Some, refl, sym, ap, ◌∙◌, subst}
+use Rattle.std.specs.List.{flat_map}
+use Rattle.std.specs.Prelude.{option_map, if◌then◌else◌, bytes_eq, codes}
+use Rattle.std.proofs.lemmas.Bool.{true≢false, false≢true, cases_Bool}
+use Rattle.std.proofs.lemmas.Slice.Eq.{bytes_eq-Decides}
+use Rattle.xdg_ast.specs.declared.names.Name.{Name}
+use Rattle.xdg_ast.specs.declared.names.Pair.{Pair}
+use Rattle.xdg_ast.specs.declared.grammar.DimPartKind.{DimPartKind}
+use Rattle.xdg_ast.specs.declared.grammar.DimPartKind.TheVariants as v
+use Rattle.xdg_base.specs.declared.faults.Cause.TheVariants as causes
+use Rattle.xdg_base.specs.declared.faults.Fault.{Fault}
+use Rattle.xdg_domain.specs.Shapes.{Among}
+use Rattle.xdg_faults.specs.First.{In}
+use Rattle.xdg_faults.proofs.In.{in_flat_map, flat_map_in}
+use Rattle.xdg_index.specs.Texts.{place_of}
+use Rattle.xdg_terms.specs.Forms.{Term, constant_of}
+use Rattle.xdg_terms.specs.Offences.{is_some}
+use Rattle.xdg_terms.specs.Means.{truth_text}
+use Rattle.xdg_types.specs.Answers.{None_of}
+use Rattle.xdg_types.specs.Names.{fault_at}
+use Rattle.xdg_types.specs.Parts.{DimPart, Statement, Dimension, dimensions, dim_names, texts}
+use Rattle.xdg_types.specs.Table.{Table, firsts}
+use Rattle.xdg_types.proofs.Elements.{among_or_not}
+use Rattle.xdg_principles.specs.declared.principle.Form.{Form}
+use Rattle.xdg_principles.specs.declared.principle.Parameter.{Parameter}
+use Rattle.xdg_principles.specs.declared.principle.Preset.{Preset}
+use Rattle.xdg_principles.specs.declared.principle.Preset.TheVariants as p
+use Rattle.xdg_principles.specs.declared.principle.Sort.{Sort}
+use Rattle.xdg_principles.specs.declared.principle.Sort.TheVariants as s
+use Rattle.xdg_principles.specs.declared.principle.Which.{Which}
+use Rattle.xdg_principles.specs.declared.principle.Typing.{Typing}
+use Rattle.xdg_principles.specs.declared.principle.Wanted.{Wanted}
+use Rattle.xdg_principles.specs.declared.principle.Wanted.TheVariants as a
+use Rattle.xdg_principles.specs.Principles.{principle_named, dim_key, dims_in, key_text, parameters, preset_feature}
+use Rattle.xdg_principles.specs.Names.{PrincipleNameOffends, key_if_required, required_key}
+use Rattle.xdg_principles.specs.Uses.{Use, use_in, uses_in, principle_uses, keys, values, under}
+use Rattle.xdg_principles.specs.Settings.{Setting, Called, with_form, setting, arguments_in, arguments, dim_texts, dim_place, place_named, labels, members, term_in, constant_at, list_of, list_at, listed_in, called_in, called_or, called_at, called_by, names_at}
+use Rattle.xdg_principles.specs.Arguments.{OneOffends, ArgumentOffends, has_form, truths}
+use Rattle.xdg_principles.specs.Made.{HasDims, IsMember, AreLabels, IsLabelList, IsTruth, IsArg, AreArgs, ArePlaces, IsUse, AreUses, ArePrincipleUses, or_zero, place_called, member_number, label_number, truth_of, arg, args, built_with, built}
+use Rattle.xdg_principles.proofs.Rows.{IsDefaulted, sound_parameter}
+
+-- ---- lists
+
+map_in : {A B : Type 0} (g : A → B) (xs : List A) (x : A) → In xs x → In (map g xs) (g x)
+map_in g [] x h = absurd h
+map_in g (y ∷ xs) x h = elim h [ inl e ↦ inl (ap g e) | inr k ↦ inr (map_in g xs x k) ]
+
+text_in : (names : List Name) (n : Name) → In names n → Among (texts names) n.text
+text_in [] n h = absurd h
+text_in (m ∷ names) n h = elim h [ inl e ↦ inl (ap (λ (x : Name). x.text) e) | inr k ↦ inr (text_in names n k) ]
+
+abbrev IsThere : Option ℕ → Type 0
+IsThere o = o ≡ Some (or_zero o)
+
+there_more : (o : Option ℕ) → IsThere o → IsThere (option_map suc o)
+there_more None h = cc
+there_more (Some n) h = refl
+
+place_there : (known : List (List ℕ)) (t : List ℕ) → Among known t → IsThere (place_of known t)
+place_there [] t h = absurd h
+place_there (x ∷ known) t h = elim (cases_Bool (bytes_eq x t)) [
+  | inl e ↦ subst (λ b. IsThere (if b then Some 0 else option_map suc (place_of known t))) (sym e) refl
+  | inr e ↦ subst (λ b. IsThere (if b then Some 0 else option_map suc (place_of known t))) (sym e)
+      (there_more (place_of known t) (elim h [
+        | inl same ↦ absurd (true≢false (sym ((bytes_eq-Decides x t).1 same) ∙ e))
+        | inr k ↦ place_there known t k
+      ]))
+]
+
+-- ---- pairs
+
+none_under : {A : Type 0} (pairs : List (Pair A)) (key : List ℕ) → under pairs key ≡ None → Among (texts (keys pairs)) key → ⊥
+none_under [] key e h = h
+none_under {A} (pair ∷ pairs) key e h = elim (cases_Bool (bytes_eq pair.key.text key)) [
+  | inl q ↦ absurd (some_none pair.value (sym (ap (λ b. if b then Some pair.value else under pairs key) q) ∙ e))
+  | inr q ↦ elim h [
+    | inl same ↦ true≢false (sym ((bytes_eq-Decides pair.key.text key).1 same) ∙ q)
+    | inr k ↦ none_under pairs key (sym (ap (λ b. if b then Some pair.value else under pairs key) q) ∙ e) k
+  ]
+]
+  where
+    some_none : {B : Type 0} (x : B) → Some x ≡ None → ⊥
+    some_none x h = cc
+
+value_under : (pairs : List (Pair Name)) (key : List ℕ) (name : Name) → under pairs key ≡ Some name → In (values pairs) name
+value_under [] key name e = absurd cc
+value_under (pair ∷ pairs) key name e = elim (cases_Bool (bytes_eq pair.key.text key)) [
+  | inl q ↦ inl (same pair.value name (sym (ap (λ b. if b then Some pair.value else under pairs key) q) ∙ e))
+  | inr q ↦ inr (value_under pairs key name (sym (ap (λ b. if b then Some pair.value else under pairs key) q) ∙ e))
+]
+  where
+    same : (x y : Name) → Some x ≡ Some y → x ≡ y
+    same x y h = cc
+
+-- ---- where a use stands
+
+within_part : (within : Name) (kind : DimPartKind) (one : Use) → In (use_in within kind) one → one.within ≡ within
+within_part within (v.UsePrinciple name dims args) one h = elim h [ inl e ↦ sym (ap (λ (x : Use). x.within) e) | inr z ↦ absurd z ]
+within_part within (v.DefType name type) one h = absurd h
+within_part within (v.LabelType type) one h = absurd h
+within_part within (v.AttrsType type) one h = absurd h
+within_part within (v.EntryType type) one h = absurd h
+within_part within (v.Output name) one h = absurd h
+within_part within (v.UseOutput name) one h = absurd h
+
+within_dim : (statements : List Statement) (one : Use) → In (principle_uses statements) one → In (dim_names statements) one.within
+within_dim statements one h =
+    let k = in_flat_map uses_in (dimensions statements) one h in
+    let q = in_flat_map (λ (part : DimPart). use_in k.0.0 part.kind) k.0.1 one k.1.1 in
+    subst (In (dim_names statements)) (sym (within_part k.0.0 q.0.kind one q.1.1)) (map_in (λ (dim : Dimension). dim.0) (dimensions statements) k.0 k.1.0)
+
+-- ---- one argument
+
+is_some_some : {A : Type 0} (o : Option A) → is_some o ≡ true → (y : A) × (o ≡ Some y)
+is_some_some None h = absurd (false≢true h)
+is_some_some (Some y) h = (y, refl)
+
+-- a left-out feature is one by default
+preset_called : (at : ℕ) (sort : Sort) (which : Which) (typing : Typing) (preset : Preset) → IsDefaulted (a.Member sort which typing) preset → (preset ≡ p.Required → ⊥) → (called : Called) × (called_at at (preset_feature preset) ≡ Some called)
+preset_called at sort which typing p.Required h k = absurd (k refl)
+preset_called at sort which typing p.False h k = absurd h
+preset_called at sort which typing p.In h k = (record { text = codes "in"; at = at }, refl)
+preset_called at sort which typing p.Out h k = (record { text = codes "out"; at = at }, refl)
+
+labels_required : (which : Which) (preset : Preset) → IsDefaulted (a.Labels which) preset → preset ≡ p.Required
+labels_required which p.Required h = refl
+labels_required which p.False h = absurd h
+labels_required which p.In h = absurd h
+labels_required which p.Out h = absurd h
+
+truth_said : (t : List ℕ) → Among truths t → t ≡ truth_text (bytes_eq t (codes "true"))
+truth_said t h = elim h [
+  | inl e ↦ subst (λ u. u ≡ truth_text (bytes_eq u (codes "true"))) e refl
+  | inr k ↦ elim k [ inl e ↦ subst (λ u. u ≡ truth_text (bytes_eq u (codes "true"))) e refl | inr z ↦ absurd z ]
+]
+
+labels_are : (known : List (List ℕ)) (names : List Name) → ((n : Name) → In names n → Among known n.text) → AreLabels known names (map (label_number known) names)
+labels_are known [] h = tt
+labels_are known (n ∷ names) h = (place_there known n.text (h n (inl refl)), labels_are known names (λ m k. h m (inr k)))
+
+module _ (setting : Setting) (parameter : Parameter) (right : (f : Fault) → OneOffends (record { setting = setting; parameter = parameter }) f → ⊥) (sound : IsDefaulted parameter.wanted parameter.preset) (given : parameter.preset ≡ p.Required → term_in setting parameter ≡ None → ⊥) where
+  formed : (term : Term) → term_in setting parameter ≡ Some term → has_form parameter.wanted term ≡ true
+  formed term e = elim (cases_Bool (has_form parameter.wanted term)) [
+    | inl h ↦ h
+    | inr h ↦ absurd (right (fault_at causes.WrongKind term.span.start) (inl (record { term = term; given = e; form = h; fault = refl })))
+  ]
+
+  module _ (sort : Sort) (which : Which) (typing : Typing) (wanted : parameter.wanted ≡ a.Member sort which typing) where
+    called_by_term : (o : Option Term) → term_in setting parameter ≡ o → (called : Called) × (called_or (called_at setting.one.name.span.start (preset_feature parameter.preset)) o ≡ Some called)
+    called_by_term None e = preset_called setting.one.name.span.start sort which typing parameter.preset (subst (λ w. IsDefaulted w parameter.preset) wanted sound) (λ q. given q e)
+    called_by_term (Some term) e =
+        let k = is_some_some (constant_of term) (subst (λ w. has_form w term ≡ true) wanted (formed term e)) in
+        (record { text = k.0.text; at = k.0.span.start }, ap called_by k.1)
+
+    there : (called : Called) → called_in setting parameter ≡ Some called → Among (firsts (members setting sort which)) called.text
+    there called e = elim (among_or_not (firsts (members setting sort which)) called.text) [
+      | inl h ↦ h
+      | inr h ↦ absurd (right (fault_at causes.UnknownName called.at)
+          (inr (inl (record { sort = sort; which = which; typing = typing; wanted = wanted; called = called; given = e; missing = h; fault = refl }))))
+    ]
+
+    is_member : IsMember setting parameter sort which (member_number setting parameter sort which)
+    is_member =
+        let k = called_by_term (term_in setting parameter) refl in
+        (k.0, (k.1, place_there (firsts (members setting sort which)) k.0.text (there k.0 k.1) ∙ sym (ap (λ (o : Option Called). Some (or_zero (place_called setting sort which o))) k.1)))
+
+  truth_is : parameter.wanted ≡ a.Truth → (o : Option Term) → term_in setting parameter ≡ o → IsTruth (truth_of (constant_at o)) o
+  truth_is wanted None e = refl
+  truth_is wanted (Some term) e =
+      let k = is_some_some (constant_of term) (subst (λ w. has_form w term ≡ true) wanted (formed term e)) in
+      let said : Among truths k.0.text = elim (among_or_not truths k.0.text) [
+        | inl h ↦ h
+        | inr h ↦ absurd (right (fault_at causes.NotMember k.0.span.start) (inr (inr (inr (inl (record { wanted = wanted; name = k.0; given = ap constant_at e ∙ k.1; missing = h; fault = refl }))))))
+      ] in
+      (k.0, (k.1, truth_said k.0.text said ∙ sym (ap (λ (o : Option Name). truth_text (truth_of o)) k.1)))
+
+  list_is : (which : Which) → parameter.wanted ≡ a.Labels which → (o : Option Term) → term_in setting parameter ≡ o → IsLabelList (labels setting which) o (map (label_number (labels setting which)) (list_at o))
+  list_is which wanted None e = given (labels_required which parameter.preset (subst (λ w. IsDefaulted w parameter.preset) wanted sound)) e
+  list_is which wanted (Some term) e =
+      let k = is_some_some (list_of term) (subst (λ w. has_form w term ≡ true) wanted (formed term e)) in
+      let listed : listed_in setting parameter ≡ k.0 = ap list_at e ∙ ap names_at k.1 in (
+        k.0,
+        (
+          k.1,
+          subst (λ (o : Option (List Name)). AreLabels (labels setting which) k.0 (map (label_number (labels setting which)) (names_at o))) (sym k.1)
+              (labels_are (labels setting which) k.0
+              (λ n h. elim (among_or_not (labels setting which) n.text) [
+                | inl m ↦ m
+                | inr m ↦ absurd (right (fault_at causes.NotMember n.span.start)
+                    (inr (inr (inr (inr (inl (record { which = which; wanted = wanted; name = n; given = subst (λ (ns : List Name). In ns n) (sym listed) h; missing = m; fault = refl })))))))
+              ])),
+        ),
+      )
+
+  is_arg : (w : Wanted) → parameter.wanted ≡ w → IsArg setting parameter w (arg setting parameter w)
+  is_arg (a.Member s.Feature which typing) e = is_member s.Feature which typing e
+  is_arg (a.Member s.Attribute which typing) e = is_member s.Attribute which typing e
+  is_arg (a.Labels which) e = list_is which e (term_in setting parameter) refl
+  is_arg a.Truth e = truth_is e (term_in setting parameter) refl
+
+-- ---- one use
+
+args_are : (setting : Setting) (ps : List Parameter) → ((x : Parameter) → In ps x → IsArg setting x x.wanted (arg setting x x.wanted)) → AreArgs setting ps (args setting ps)
+args_are setting [] h = tt
+args_are setting (x ∷ ps) h = (h x (inl refl), args_are setting ps (λ y k. h y (inr k)))
+
+places_are : (setting : Setting) (ws : List Which) → ((w : Which) → In ws w → IsThere (dim_place setting w)) → ArePlaces setting ws (map (λ w. or_zero (dim_place setting w)) ws)
+places_are setting [] h = tt
+places_are setting (w ∷ ws) h = (h w (inl refl), places_are setting ws (λ v k. h v (inr k)))
+
+required_in : (ps : List Parameter) (x : Parameter) → In ps x → x.preset ≡ p.Required → In (flat_map required_key ps) (key_text x.key)
+required_in ps x h e = flat_map_in required_key ps x (key_text x.key) h (subst (λ (q : Preset). In (key_if_required (key_text x.key) q) (key_text x.key)) (sym e) (inl refl))
+
+module _ (statements : List Statement) (table : Table) (has : HasDims statements table) (named : None_of (PrincipleNameOffends statements)) (right : None_of (ArgumentOffends statements table)) where
+  module _ (one : Use) (stands : In (principle_uses statements) one) where
+    known_dim : (name : Name) → In (dim_names statements) name → IsThere (place_of (dim_texts table.dims) name.text)
+    known_dim name h = place_there (dim_texts table.dims) name.text (subst (λ ts. Among ts name.text) (sym has) (text_in (dim_names statements) name h))
+
+    module _ (form : Form) (known : principle_named one.name.text ≡ Some form) where
+      abbrev here : Setting
+      here = record { dims = table.dims; one = one; form = form }
+
+      stands_here : (x : Parameter) → In (parameters form) x → In (arguments statements table.dims) (record { setting = here; parameter = x })
+      stands_here x h = flat_map_in arguments_in (flat_map (setting table.dims) (principle_uses statements)) here (record { setting = here; parameter = x })
+          (flat_map_in (setting table.dims) (principle_uses statements) one here stands (subst (λ (o : Option Form). In (with_form table.dims one o) here) (sym known) (inl refl)))
+          (map_in (λ (y : Parameter). record { setting = here; parameter = y }) (parameters form) x h)
+
+      not_left_out : (x : Parameter) → In (parameters form) x → x.preset ≡ p.Required → term_in here x ≡ None → ⊥
+      not_left_out x h e none = named (fault_at causes.MissingArg one.name.span.start)
+          (inr (inr (inr (inr (inr (record {
+            one = one;
+            stands = stands;
+            form = form;
+            known = known;
+            key = key_text x.key;
+            missing = inr (required_in (parameters form) x h e, none_under one.args (key_text x.key) none);
+            fault = refl;
+          }))))))
+
+      each_arg : (x : Parameter) → In (parameters form) x → IsArg here x x.wanted (arg here x x.wanted)
+      each_arg x h = is_arg here x (λ f o. right f (record { setting = here; parameter = x }, (stands_here x h, o)))
+          (sound_parameter one.name.text form x known h) (not_left_out x h) x.wanted refl
+
+      dim_there : (w : Which) → In (dims_in form.dims) w → (o : Option Name) → under one.dims (dim_key form.dims w) ≡ o → IsThere (place_named table.dims o)
+      dim_there w h None e = absurd (named (fault_at causes.MissingArg one.name.span.start)
+          (inr (inr (inr (inr (inr (record {
+            one = one;
+            stands = stands;
+            form = form;
+            known = known;
+            key = dim_key form.dims w;
+            missing = inl (map_in (dim_key form.dims) (dims_in form.dims) w h, none_under one.dims (dim_key form.dims w) e);
+            fault = refl;
+          })))))))
+      dim_there w h (Some name) e = elim (among_or_not (texts (dim_names statements)) name.text) [
+        | inl k ↦ place_there (dim_texts table.dims) name.text (subst (λ ts. Among ts name.text) (sym has) k)
+        | inr k ↦ absurd (named (fault_at causes.UnknownName name.span.start)
+            (inr (inr (inl (record { one = one; stands = stands; name = name; named = value_under one.dims (dim_key form.dims w) name e; missing = k; fault = refl })))))
+      ]
+
+      is_use : IsUse table.dims one (built_with table.dims one (Some form))
+      is_use = record {
+        form = form;
+        known = known;
+        principle = refl;
+        at = refl;
+        home = known_dim one.within (within_dim statements one stands);
+        dimensions = places_are here (dims_in form.dims) (λ w h. dim_there w h (under one.dims (dim_key form.dims w)) refl);
+        arguments = args_are here (parameters form) each_arg;
+      }
+
+    use_by : (o : Option Form) → principle_named one.name.text ≡ o → IsUse table.dims one (built_with table.dims one o)
+    use_by None e = absurd (named (fault_at causes.UnknownPrinciple one.name.span.start) (inl (record { one = one; stands = stands; missing = e; fault = refl })))
+    use_by (Some form) e = is_use form e
+
+  all_uses : (uses : List Use) → ((one : Use) → In uses one → IsUse table.dims one (built table.dims one)) → AreUses table.dims uses (map (built table.dims) uses)
+  all_uses [] h = tt
+  all_uses (one ∷ uses) h = (h one (inl refl), all_uses uses (λ other k. h other (inr k)))
+
+  -- what is built is what is meant
+  pub are_uses : ArePrincipleUses statements table (map (built table.dims) (principle_uses statements))
+  are_uses = all_uses (principle_uses statements) (λ one stands. use_by one stands (principle_named one.name.text) refl)

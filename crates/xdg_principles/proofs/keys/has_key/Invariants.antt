@@ -1,0 +1,8 @@
+use Rattle.std.proofs.Common.{◌≡◌, drop}
+use Rattle.xdg_index.specs.Texts.{has_text}
+use Rattle.xdg_types.specs.Parts.{texts}
+use Rattle.xdg_principles.specs.Uses as spec
+use Rattle.xdg_principles.proofs.keys.has_key.Given as goal
+
+abbrev pub invariant-loop-pair : goal.invariant-loop-pair
+invariant-loop-pair g l = has_text (texts (spec.keys (drop l.pair-index l.pairs))) l.key ≡ has_text (texts (spec.keys l.pairs)) l.key

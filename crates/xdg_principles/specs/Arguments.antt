@@ -1,0 +1,98 @@
+-- What is wrong with the arguments in the uses of principles.
+use Rattle.std.specs.Prelude.{◌≡◌, ◌⊎◌, ℕ, Bool, false, List, [], ◌∷◌, ◌++◌, Some, codes}
+use Rattle.xdg_ast.specs.declared.names.Name.{Name}
+use Rattle.xdg_base.specs.declared.faults.Cause.TheVariants as causes
+use Rattle.xdg_base.specs.declared.faults.Fault.{Fault}
+use Rattle.xdg_domain.specs.Shapes.{Among, shape}
+use Rattle.xdg_domain.specs.declared.types.Ty.{Ty}
+use Rattle.xdg_faults.specs.First.{In}
+use Rattle.xdg_terms.specs.Forms.{Term, constant_of}
+use Rattle.xdg_terms.specs.Offences.{is_some}
+use Rattle.xdg_types.specs.Names.{fault_at}
+use Rattle.xdg_types.specs.Parts.{Statement, texts}
+use Rattle.xdg_types.specs.Table.{Table, firsts}
+use Rattle.xdg_principles.specs.declared.principle.Which.{Which}
+use Rattle.xdg_principles.specs.declared.principle.Typing.{Typing}
+use Rattle.xdg_principles.specs.declared.principle.Sort.{Sort}
+use Rattle.xdg_principles.specs.declared.principle.Wanted.{Wanted}
+use Rattle.xdg_principles.specs.declared.principle.Wanted.TheVariants as a
+use Rattle.xdg_principles.specs.Settings.{Argument, Called, arguments, labels, members, member_type, term_in, constant_in, listed_in, list_of, called_in}
+use Rattle.xdg_principles.specs.Wanted.{IsWanted}
+
+-- a feature, an attribute and a truth value are given by a constant, labels by square brackets
+abbrev pub has_form : Wanted → Term → Bool
+has_form (a.Member sort which typing) term = is_some (constant_of term)
+has_form (a.Labels which) term = is_some (list_of term)
+has_form a.Truth term = is_some (constant_of term)
+
+abbrev pub truths : List (List ℕ)
+truths = codes "true" ∷ codes "false" ∷ []
+
+-- ---- the rules, one by one
+
+-- the term isn't of the form that is wanted
+pub record HasWrongForm (x : Argument) (f : Fault) : Type 0 where
+  pub term : Term
+  pub given : term_in x.setting x.parameter ≡ Some term
+  pub form : has_form x.parameter.wanted term ≡ false
+  pub fault : f ≡ fault_at causes.WrongKind term.span.start
+
+-- the dimension has no such feature or attribute
+pub record IsUnknownMember (x : Argument) (f : Fault) : Type 0 where
+  pub sort : Sort
+  pub which : Which
+  pub typing : Typing
+  pub wanted : x.parameter.wanted ≡ a.Member sort which typing
+  pub called : Called
+  pub given : called_in x.setting x.parameter ≡ Some called
+  pub missing : Among (firsts (members x.setting sort which)) called.text → ⊥
+  pub fault : f ≡ fault_at causes.UnknownName called.at
+
+-- its type isn't the wanted one
+pub record HasWrongType (x : Argument) (f : Fault) : Type 0 where
+  pub sort : Sort
+  pub which : Which
+  pub typing : Typing
+  pub wanted : x.parameter.wanted ≡ a.Member sort which typing
+  pub called : Called
+  pub given : called_in x.setting x.parameter ≡ Some called
+  pub type : Ty
+  pub has : member_type x.setting sort which called.text ≡ Some type
+  pub wrong : IsWanted x.setting typing (shape type) → ⊥
+  pub fault : f ≡ fault_at causes.WrongKind called.at
+
+-- a constant is neither `true` nor `false` where a truth value is wanted
+pub record IsNoTruth (x : Argument) (f : Fault) : Type 0 where
+  pub wanted : x.parameter.wanted ≡ a.Truth
+  pub name : Name
+  pub given : constant_in x.setting x.parameter ≡ Some name
+  pub missing : Among truths name.text → ⊥
+  pub fault : f ≡ fault_at causes.NotMember name.span.start
+
+-- a constant is no label of the dimension
+pub record IsNoLabel (x : Argument) (f : Fault) : Type 0 where
+  pub which : Which
+  pub wanted : x.parameter.wanted ≡ a.Labels which
+  pub name : Name
+  pub given : In (listed_in x.setting x.parameter) name
+  pub missing : Among (labels x.setting which) name.text → ⊥
+  pub fault : f ≡ fault_at causes.NotMember name.span.start
+
+-- a label stands twice
+pub record IsLabelTwice (x : Argument) (f : Fault) : Type 0 where
+  pub which : Which
+  pub wanted : x.parameter.wanted ≡ a.Labels which
+  pub before : List Name
+  pub name : Name
+  pub after : List Name
+  pub parts : listed_in x.setting x.parameter ≡ before ++ name ∷ after
+  pub earlier : Among (texts before) name.text
+  pub fault : f ≡ fault_at causes.Twice name.span.start
+
+abbrev pub OneOffends : Argument → Fault → Type 0
+OneOffends x f =
+    HasWrongForm x f ⊎ (IsUnknownMember x f ⊎ (HasWrongType x f ⊎ (IsNoTruth x f ⊎ (IsNoLabel x f ⊎ IsLabelTwice x f))))
+
+-- what is wrong with the arguments in the uses of principles, in dimensions that are used and in others
+abbrev pub ArgumentOffends : List Statement → Table → Fault → Type 0
+ArgumentOffends statements table f = (x : Argument) × (In (arguments statements table.dims) x × OneOffends x f)

@@ -1,0 +1,10 @@
+pub mod ArgumentFaults
+pub mod Arguments
+pub mod Lent
+pub mod Made
+pub mod NameFaults
+pub mod Names
+pub mod Principles
+pub mod Settings
+pub mod Uses
+pub mod Wanted

@@ -1,0 +1,53 @@
+-- The offences of names in the uses of principles as a list, in the order in which the code comes to them.
+use Rattle.std.specs.Prelude.{ℕ, if◌then◌else◌, List, [], ◌∷◌, ◌++◌, flat_map, Option, None, Some}
+use Rattle.xdg_ast.specs.declared.names.Name.{Name}
+use Rattle.xdg_base.specs.declared.faults.Cause.TheVariants as causes
+use Rattle.xdg_base.specs.declared.faults.Fault.{Fault}
+use Rattle.xdg_index.specs.Texts.{has_text}
+use Rattle.xdg_types.specs.NameFaults.{unknown, repeats, different}
+use Rattle.xdg_types.specs.Names.{fault_at}
+use Rattle.xdg_types.specs.Parts.{Statement, dim_names, used_names, texts}
+use Rattle.xdg_principles.specs.declared.principle.Form.{Form}
+use Rattle.xdg_principles.specs.Names.{dim_keys, arg_keys, required_keys}
+use Rattle.xdg_principles.specs.Principles.{principle_named}
+use Rattle.xdg_principles.specs.Uses.{Use, principle_uses, keys, values}
+
+-- a name that isn't one of these keys
+abbrev pub foreign : List (List ℕ) → Name → List Fault
+foreign known name = if has_text known name.text then [] else fault_at causes.WrongParams name.span.start ∷ []
+
+-- a key that isn't among these names
+abbrev pub lacking : ℕ → List Name → List ℕ → List Fault
+lacking at names key = if has_text (texts names) key then [] else fault_at causes.MissingArg at ∷ []
+
+-- the keys that the principle hasn't
+abbrev pub key_faults : Form → Use → List Fault
+key_faults form one = flat_map (foreign (dim_keys form)) (keys one.dims) ++ flat_map (foreign (arg_keys form)) (keys one.args)
+
+-- the keys that it has to be given
+abbrev pub left_out : Form → Use → List Fault
+left_out form one =
+    flat_map (lacking one.name.span.start (keys one.dims)) (dim_keys form)
+    ++ flat_map (lacking one.name.span.start (keys one.args)) (required_keys form)
+
+-- where this is the principle
+abbrev pub form_faults : Use → Option Form → List Fault
+form_faults one None = fault_at causes.UnknownPrinciple one.name.span.start ∷ []
+form_faults one (Some form) = key_faults form one ++ left_out form one
+
+-- the keys that stand again
+abbrev pub again : Use → List Fault
+again one = repeats [] (keys one.dims) ++ repeats [] (keys one.args)
+
+-- the dimensions that aren't used, in a dimension that is used
+abbrev pub unused : List (List ℕ) → Use → List Fault
+unused used one = if has_text used one.within.text then flat_map (unknown used) (values one.dims) else []
+
+-- in one use
+abbrev pub use_faults : List (List ℕ) → List (List ℕ) → Use → List Fault
+use_faults defined used one =
+    again one ++ ((flat_map (unknown defined) (values one.dims) ++ unused used one) ++ form_faults one (principle_named one.name.text))
+
+-- all of them
+abbrev pub name_faults : List Statement → List Fault
+name_faults statements = flat_map (use_faults (different (dim_names statements)) (different (used_names statements))) (principle_uses statements)

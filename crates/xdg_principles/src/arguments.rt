@@ -1,0 +1,340 @@
+//! The pass over the arguments in the uses of principles.
+
+ghost use Rattle.std.specs.Prelude.{◌≡◌, [], ◌∷◌, map, flat_map, ◌++◌, IfOk};
+ghost use Rattle.xdg_base.specs.declared.faults.Cause.TheVariants as causes;
+ghost use Rattle.xdg_faults.specs.First.{first, Tells};
+ghost use Rattle.xdg_index.specs.Texts.{has_text};
+ghost use Rattle.xdg_types.specs.Names.{fault_at};
+ghost use Rattle.xdg_types.specs.NameFaults.{repeats};
+ghost use Rattle.xdg_principles.specs.ArgumentFaults as spec;
+ghost use Rattle.xdg_principles.specs.Arguments as rules;
+ghost use Rattle.xdg_principles.specs.Lent.{Knows, IsReady, as_setting};
+ghost use Rattle.xdg_principles.specs.Principles.{told};
+ghost use Rattle.xdg_principles.specs.declared.principle.Wanted.TheVariants as wanted;
+ghost use Rattle.xdg_principles.specs.Settings.{term_in, called_in, member_type};
+ghost use Rattle.xdg_principles.specs.Uses.{seen};
+
+use crate::fitting::is_wanted;
+use crate::keys::repeated;
+use crate::lookup::{Lookup, index_names};
+use crate::principle::{Parameter, Sort, Typing, Wanted, Which, principle};
+use crate::settings::{SettingRef, constant, is_list};
+use crate::using::{UseRef, principle_uses};
+use std::alloc::{AllocError, Global};
+use xdg_ast::{Name, Statement, Term};
+use xdg_base::{Cause, Fault, Text};
+use xdg_faults::earlier;
+use xdg_index::Index;
+use xdg_types::{DimType, TypeTable};
+
+/// The first fault of the arguments in the uses of principles, in dimensions that are used and in others, if there is
+/// one. The table is that of the grammar's types.
+///
+/// - `WrongKind` (33) at the first token of a term that isn't of the form that is wanted: a constant for a feature, an
+///   attribute or a truth value, square brackets for `Order`; and at a feature or an attribute whose type isn't the wanted
+///   one. Where two arguments share a type, the one that stands first in the table of principles fixes it.
+/// - `UnknownName` (30) at a feature or an attribute that the dimension hasn't.
+/// - `NotMember` (34) at a constant of `Order` that is no label, and at one that is neither `true` nor `false`.
+/// - `Twice` (31) at the second of a label in `Order`.
+///
+/// The default of an argument that is left out has the place of the principle's name.
+///
+/// Names are looked up in hash indexes, so the time is linear in the text and in the number of features, but for tuple
+/// types of very many fields, which are compared field by field.
+///
+/// # Errors
+///
+/// Want of memory.
+#[tactic(auto, using(crate::proofs::ArgumentLaw::arguments_tell))]
+pub fn check_arguments(
+    alloc: Global,
+    statements: &[Statement],
+    table: &TypeTable,
+) -> Result<Option<Fault>, AllocError>
+    ensures { IfOk result (λ found. Tells (rules.ArgumentOffends statements.now table.now) found) }
+{
+    arguments_wrong(alloc, statements, table)
+}
+
+fn arguments_wrong(
+    alloc: Global,
+    statements: &[Statement],
+    table: &TypeTable,
+) -> Result<Option<Fault>, AllocError>
+    ensures { IfOk result (λ found. found ≡ first (spec.argument_faults statements.now table.now.dims)) }
+{
+    let lookup = index_names(alloc, table)?;
+    let uses = principle_uses(alloc, statements)?;
+    check_uses(alloc, &lookup, table.dims(), uses.as_slice())
+}
+
+/// In all uses.
+fn check_uses<'a>(
+    alloc: Global,
+    lookup: &'a Lookup,
+    dims: &'a [DimType],
+    uses: &[UseRef<'a>],
+) -> Result<Option<Fault>, AllocError>
+    requires { Knows dims.now lookup.now }
+    ensures { IfOk result (λ found. found ≡ first (flat_map (spec.use_faults dims.now) (map seen uses.now))) }
+{
+    let mut found = None;
+    for one in uses {
+        found = earlier(found, check_use(alloc, lookup, dims, one)?);
+    }
+    Ok(found)
+}
+
+/// In one use.
+fn check_use<'a>(
+    alloc: Global,
+    lookup: &'a Lookup,
+    dims: &'a [DimType],
+    one: &UseRef<'a>,
+) -> Result<Option<Fault>, AllocError>
+    requires { Knows dims.now lookup.now }
+    ensures { IfOk result (λ found. found ≡ first (spec.use_faults dims.now (seen one.now))) }
+{
+    match principle(one.name.text.as_str()) {
+        None => Ok(None),
+        Some(form) => {
+            let one = *one;
+            let setting = SettingRef {
+                lookup,
+                dims,
+                one,
+                form,
+            };
+            check_setting(alloc, &setting)
+        }
+    }
+}
+
+/// In a use of a known principle.
+#[tactic(auto, using(crate::proofs::Forms::each_of))]
+fn check_setting<'a>(alloc: Global, setting: &SettingRef<'a>) -> Result<Option<Fault>, AllocError>
+    requires { IsReady setting.now }
+    ensures { IfOk result (λ found. found ≡ first (spec.setting_faults (as_setting setting.now))) }
+{
+    let first = check_parameter(alloc, setting, setting.form.first)?;
+    let second = check_parameter(alloc, setting, setting.form.second)?;
+    let third = check_parameter(alloc, setting, setting.form.third)?;
+    Ok(earlier(first, earlier(second, third)))
+}
+
+#[tactic(auto, using(crate::proofs::Forms::one_told))]
+fn check_parameter<'a>(
+    alloc: Global,
+    setting: &SettingRef<'a>,
+    parameter: Option<Parameter>,
+) -> Result<Option<Fault>, AllocError>
+    requires { IsReady setting.now }
+    ensures { IfOk result (λ found. found ≡ first (flat_map (spec.one_faults (as_setting setting.now)) (told parameter))) }
+{
+    match parameter {
+        None => Ok(None),
+        Some(parameter) => check_argument(alloc, setting, parameter),
+    }
+}
+
+/// In one argument.
+#[tactic(auto, using(xdg_faults::proofs::First::first_append))]
+fn check_argument<'a>(
+    alloc: Global,
+    setting: &SettingRef<'a>,
+    parameter: Parameter,
+) -> Result<Option<Fault>, AllocError>
+    requires { IsReady setting.now }
+    ensures { IfOk result (λ found. found ≡ first (spec.one_faults (as_setting setting.now) parameter)) }
+{
+    let inside = check_inside(alloc, setting, parameter, parameter.wanted)?;
+    Ok(earlier(check_form(setting, parameter), inside))
+}
+
+/// A term that isn't of the form that is wanted.
+fn check_form<'a>(setting: &SettingRef<'a>, parameter: Parameter) -> Option<Fault>
+    ensures { result ≡ first (spec.form_faults parameter.wanted (term_in (as_setting setting.now) parameter)) }
+{
+    match setting.term(parameter) {
+        None => None,
+        Some(term) => {
+            if has_form(parameter.wanted, term) {
+                None
+            } else {
+                Some(wrong_kind(term.span.start))
+            }
+        }
+    }
+}
+
+/// Whether the term is of the form that is wanted.
+fn has_form(wanted: Wanted, term: &Term) -> bool
+    ensures { result ≡ rules.has_form wanted term.now }
+{
+    match wanted {
+        Wanted::Member(..) => constant(term).is_some(),
+        Wanted::Labels(_) => is_list(term),
+        Wanted::Truth => constant(term).is_some(),
+    }
+}
+
+fn wrong_kind(at: u32) -> Fault
+    ensures { result ≡ fault_at causes.WrongKind at }
+{
+    Fault {
+        cause: Cause::WrongKind,
+        at,
+        reached: 0,
+    }
+}
+
+/// What is given where it has the form.
+fn check_inside<'a>(
+    alloc: Global,
+    setting: &SettingRef<'a>,
+    parameter: Parameter,
+    wanted: Wanted,
+) -> Result<Option<Fault>, AllocError>
+    requires { IsReady setting.now }
+    ensures { IfOk result (λ found. found ≡ first (spec.inner_faults (as_setting setting.now) parameter wanted)) }
+{
+    match wanted {
+        Wanted::Member(sort, which, typing) => {
+            Ok(check_member(setting, parameter, sort, which, typing))
+        }
+        Wanted::Labels(which) => {
+            check_labels(alloc, setting.labels(which), setting.listed(parameter))
+        }
+        Wanted::Truth => Ok(check_truth(setting, parameter)),
+    }
+}
+
+/// A feature or an attribute.
+fn check_member<'a>(
+    setting: &SettingRef<'a>,
+    parameter: Parameter,
+    sort: Sort,
+    which: Which,
+    typing: Typing,
+) -> Option<Fault>
+    requires { IsReady setting.now }
+    ensures { result ≡ first (spec.member_faults (as_setting setting.now) sort which typing (called_in (as_setting setting.now) parameter)) }
+{
+    match setting.called(parameter) {
+        None => None,
+        Some(called) => check_named(setting, sort, which, typing, called.text, called.at),
+    }
+}
+
+/// The feature or the attribute of that name, which stands at that place.
+fn check_named<'a>(
+    setting: &SettingRef<'a>,
+    sort: Sort,
+    which: Which,
+    typing: Typing,
+    name: &str,
+    at: u32,
+) -> Option<Fault>
+    requires { IsReady setting.now }
+    ensures { result ≡ first (spec.type_faults (as_setting setting.now) typing at (member_type (as_setting setting.now) sort which name.now)) }
+{
+    match setting.member_type(sort, which, name) {
+        None => Some(Fault {
+            cause: Cause::UnknownName,
+            at,
+            reached: 0,
+        }),
+        Some(ty) => {
+            if is_wanted(setting, typing, ty) {
+                None
+            } else {
+                Some(wrong_kind(at))
+            }
+        }
+    }
+}
+
+/// Labels, which have to be different.
+#[tactic(auto, using(xdg_faults::proofs::First::first_append))]
+fn check_labels(alloc: Global, labels: &[Text], names: &[Name]) -> Result<Option<Fault>, AllocError>
+    ensures { IfOk result (λ found. found ≡ first (flat_map (spec.outside labels.now) names.now ++ repeats [] names.now)) }
+{
+    let again = names_again(alloc, names)?;
+    Ok(earlier(outside(labels, names), again))
+}
+
+/// The first name that stands there before.
+fn names_again(alloc: Global, names: &[Name]) -> Result<Option<Fault>, AllocError>
+    ensures { IfOk result (λ found. found ≡ first (repeats [] names.now)) }
+{
+    let mut seen = Index::new(alloc);
+    let mut found = None;
+    for name in names {
+        found = earlier(found, repeated(alloc, &mut seen, name)?);
+    }
+    Ok(found)
+}
+
+/// The first name that is no label.
+fn outside(labels: &[Text], names: &[Name]) -> Option<Fault>
+    ensures { result ≡ first (flat_map (spec.outside labels.now) names.now) }
+{
+    let mut found = None;
+    for name in names {
+        found = earlier(found, not_label(labels, name));
+    }
+    found
+}
+
+fn not_label(labels: &[Text], name: &Name) -> Option<Fault>
+    ensures { result ≡ first (spec.outside labels.now name.now) }
+{
+    if is_label(labels, name.text.as_str()) {
+        None
+    } else {
+        Some(not_member(name))
+    }
+}
+
+fn is_label(labels: &[Text], name: &str) -> bool
+    ensures { result ≡ has_text labels.now name.now }
+{
+    for label in labels {
+        if label.as_str() == name {
+            return true;
+        }
+    }
+    false
+}
+
+fn not_member(name: &Name) -> Fault
+    ensures { result ≡ fault_at causes.NotMember name.now.span.start }
+{
+    Fault {
+        cause: Cause::NotMember,
+        at: name.span.start,
+        reached: 0,
+    }
+}
+
+/// A constant that is neither `true` nor `false`.
+fn check_truth<'a>(setting: &SettingRef<'a>, parameter: Parameter) -> Option<Fault>
+    ensures { result ≡ first (spec.inner_faults (as_setting setting.now) parameter wanted.Truth) }
+{
+    match setting.constant(parameter) {
+        None => None,
+        Some(name) => {
+            if is_truth(name.text.as_str()) {
+                None
+            } else {
+                Some(not_member(name))
+            }
+        }
+    }
+}
+
+fn is_truth(text: &str) -> bool
+    ensures { result ≡ has_text rules.truths text.now }
+{
+    "true" == text || "false" == text
+}

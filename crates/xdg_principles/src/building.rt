@@ -1,0 +1,260 @@
+//! The uses of principles with what they name, by number.
+
+ghost use Rattle.std.specs.Prelude.{◌≡◌, ◌≤◌, ◌++◌, length, map, IfOk};
+ghost use Rattle.xdg_types.specs.Answers.{None_of};
+ghost use Rattle.xdg_principles.specs.Arguments.{ArgumentOffends};
+ghost use Rattle.xdg_principles.specs.Lent.{Knows, IsReady, as_setting};
+ghost use Rattle.xdg_principles.specs.Made as spec;
+ghost use Rattle.xdg_principles.specs.Names.{PrincipleNameOffends};
+ghost use Rattle.xdg_principles.specs.Principles.{told, parameters};
+ghost use Rattle.xdg_principles.specs.Settings.{constant_in};
+ghost use Rattle.xdg_principles.specs.Uses.{seen, principle_uses};
+
+use crate::lookup::{Lookup, index_names};
+use crate::principle::{Dims, Parameter, Sort, Wanted, Which, principle};
+use crate::settings::SettingRef;
+use crate::using::{UseRef, principle_uses};
+use std::alloc::{AllocError, Global};
+use xdg_ast::{Name, Statement};
+use xdg_base::{List, Text};
+use xdg_types::{DimType, TypeTable};
+
+/// A use of a principle, with its dimensions and arguments by number, in the order of the table of principles.
+#[derive(Debug, Drop)]
+pub struct PrincipleUse {
+    /// The name of the principle.
+    pub principle: Text,
+    /// The place of the dimension in which it stands, among all dimensions, from 0.
+    pub home: usize,
+    /// The places of its dimensions among all, from 0: one to three.
+    pub dims: List<usize>,
+    /// Its arguments, with the defaults of those that are left out: at most three.
+    pub args: List<Arg>,
+    /// The byte place of the principle's name in the text.
+    pub at: u32,
+}
+
+/// An argument of a principle.
+#[derive(Debug, Drop)]
+pub enum Arg {
+    /// The place of a feature among those of its dimension, from 0.
+    Feature(usize),
+    /// The place of an attribute among those of its dimension, from 0.
+    Attr(usize),
+    /// The numbers of labels of its dimension, from 0: all different.
+    Labels(List<u8>),
+    /// `true` or `false`.
+    Truth(bool),
+}
+
+/// The uses of principles in all dimensions, used or not, in the order of the text, in a grammar whose uses of principles
+/// have no fault. The table is that of the grammar's types.
+///
+/// # Errors
+///
+/// Want of memory.
+#[tactic(auto, using(crate::proofs::UseLaw::are_uses))]
+pub fn uses(
+    alloc: Global,
+    statements: &[Statement],
+    table: &TypeTable,
+) -> Result<List<PrincipleUse>, AllocError>
+    requires dims { spec.HasDims statements.now table.now }
+    requires names { None_of (PrincipleNameOffends statements.now) }
+    requires arguments { None_of (ArgumentOffends statements.now table.now) }
+    ensures { IfOk result (λ made. spec.ArePrincipleUses statements.now table.now made) }
+{
+    built_uses(alloc, statements, table)
+}
+
+fn built_uses(
+    alloc: Global,
+    statements: &[Statement],
+    table: &TypeTable,
+) -> Result<List<PrincipleUse>, AllocError>
+    ensures { IfOk result (λ made. made ≡ map (spec.built table.now.dims) (principle_uses statements.now)) }
+{
+    let lookup = index_names(alloc, table)?;
+    let uses = principle_uses(alloc, statements)?;
+    build_all(alloc, &lookup, table.dims(), uses.as_slice())
+}
+
+fn build_all<'a>(
+    alloc: Global,
+    lookup: &'a Lookup,
+    dims: &'a [DimType],
+    uses: &[UseRef<'a>],
+) -> Result<List<PrincipleUse>, AllocError>
+    requires { Knows dims.now lookup.now }
+    ensures { IfOk result (λ made. made ≡ map (spec.built dims.now) (map seen uses.now)) }
+{
+    let mut made = List::new(alloc);
+    for one in uses {
+        made.push(build(alloc, lookup, dims, one)?)?;
+    }
+    Ok(made)
+}
+
+/// One use.
+fn build<'a>(
+    alloc: Global,
+    lookup: &'a Lookup,
+    dims: &'a [DimType],
+    one: &UseRef<'a>,
+) -> Result<PrincipleUse, AllocError>
+    requires { Knows dims.now lookup.now }
+    ensures { IfOk result (λ made. made ≡ spec.built dims.now (seen one.now)) }
+{
+    let home = or_zero(lookup.dims.find(one.within.text.as_str()));
+    let at = one.name.span.start;
+    let principle_text = one.name.text.copy(alloc)?;
+    match principle(one.name.text.as_str()) {
+        None => Ok(PrincipleUse {
+            principle: principle_text,
+            home,
+            dims: List::new(alloc),
+            args: List::new(alloc),
+            at,
+        }),
+        Some(form) => {
+            let one = *one;
+            let setting = SettingRef {
+                lookup,
+                dims,
+                one,
+                form,
+            };
+            Ok(PrincipleUse {
+                principle: principle_text,
+                home,
+                dims: places(alloc, &setting)?,
+                args: args(alloc, &setting)?,
+                at,
+            })
+        }
+    }
+}
+
+fn or_zero(place: Option<usize>) -> usize
+    ensures { result ≡ spec.or_zero place }
+{
+    match place {
+        None => 0,
+        Some(place) => place,
+    }
+}
+
+/// The places of the dimensions.
+fn places<'a>(alloc: Global, setting: &SettingRef<'a>) -> Result<List<usize>, AllocError>
+    requires { IsReady setting.now }
+    ensures { IfOk result (λ made. made ≡ spec.places (as_setting setting.now)) }
+{
+    let first = or_zero(setting.place(Which::First));
+    let second = or_zero(setting.place(Which::Second));
+    let third = or_zero(setting.place(Which::Third));
+    match setting.form.dims {
+        Dims::One => List::from_slice(alloc, &[first]),
+        Dims::Two => List::from_slice(alloc, &[first, second]),
+        Dims::Three => List::from_slice(alloc, &[first, second, third]),
+    }
+}
+
+/// The arguments.
+#[tactic(auto, using(crate::proofs::Forms::all_args))]
+fn args<'a>(alloc: Global, setting: &SettingRef<'a>) -> Result<List<Arg>, AllocError>
+    requires { IsReady setting.now }
+    ensures { IfOk result (λ made. made ≡ spec.args (as_setting setting.now) (parameters setting.now.form)) }
+{
+    let mut made = List::new(alloc);
+    add_arg(alloc, setting, setting.form.first, &mut made)?;
+    add_arg(alloc, setting, setting.form.second, &mut made)?;
+    add_arg(alloc, setting, setting.form.third, &mut made)?;
+    Ok(made)
+}
+
+/// Adds an argument, if the principle has it.
+#[tactic(auto, using(crate::proofs::Forms::no_arg))]
+fn add_arg<'a>(
+    alloc: Global,
+    setting: &SettingRef<'a>,
+    parameter: Option<Parameter>,
+    made: &mut List<Arg>,
+) -> Result<(), AllocError>
+    requires { IsReady setting.now }
+    ensures { IfOk result (λ _. made.new ≡ made.old ++ spec.args (as_setting setting.now) (told parameter)) }
+{
+    match parameter {
+        None => Ok(()),
+        Some(parameter) => made.push(make_arg(alloc, setting, parameter, parameter.wanted)?),
+    }
+}
+
+/// An argument, given or by default.
+fn make_arg<'a>(
+    alloc: Global,
+    setting: &SettingRef<'a>,
+    parameter: Parameter,
+    wanted: Wanted,
+) -> Result<Arg, AllocError>
+    requires { IsReady setting.now }
+    ensures { IfOk result (λ made. made ≡ spec.arg (as_setting setting.now) parameter wanted) }
+{
+    match wanted {
+        Wanted::Member(sort, which, _) => match sort {
+            Sort::Feature => Ok(Arg::Feature(member(setting, parameter, sort, which))),
+            Sort::Attribute => Ok(Arg::Attr(member(setting, parameter, sort, which))),
+        },
+        Wanted::Labels(which) => {
+            let names = setting.listed(parameter);
+            let made = label_numbers(alloc, setting.labels(which), names)?;
+            Ok(Arg::Labels(made))
+        }
+        Wanted::Truth => Ok(Arg::Truth(truth(setting, parameter))),
+    }
+}
+
+/// The place of the feature or the attribute that the argument names.
+fn member<'a>(setting: &SettingRef<'a>, parameter: Parameter, sort: Sort, which: Which) -> usize
+    requires { IsReady setting.now }
+    ensures { result ≡ spec.member_number (as_setting setting.now) parameter sort which }
+{
+    match setting.called(parameter) {
+        None => 0,
+        Some(called) => or_zero(setting.member_place(sort, which, called.text)),
+    }
+}
+
+/// The numbers of these labels.
+fn label_numbers(alloc: Global, labels: &[Text], names: &[Name]) -> Result<List<u8>, AllocError>
+    requires { length labels.now ≤ 32 }
+    ensures { IfOk result (λ made. made ≡ map (spec.label_number labels.now) names.now) }
+{
+    let mut made = List::new(alloc);
+    for name in names {
+        made.push(label_number(labels, name))?;
+    }
+    Ok(made)
+}
+
+/// The number of a label, from 0.
+fn label_number(labels: &[Text], name: &Name) -> u8
+    requires { length labels.now ≤ 32 }
+    ensures { result ≡ spec.label_number labels.now name.now }
+{
+    for (number, label) in labels.iter().enumerate() {
+        if label.as_str() == name.text.as_str() {
+            return number as u8;
+        }
+    }
+    0
+}
+
+/// The truth value that is given, or else `false`.
+fn truth<'a>(setting: &SettingRef<'a>, parameter: Parameter) -> bool
+    ensures { result ≡ spec.truth_of (constant_in (as_setting setting.now) parameter) }
+{
+    match setting.constant(parameter) {
+        None => false,
+        Some(name) => name.text.as_str() == "true",
+    }
+}
