@@ -10,7 +10,7 @@ use Rattle.xdg_problem.specs.declared.parts.Parts.{Parts}
 use Rattle.xdg_problem.specs.declared.parts.SentenceWord.{SentenceWord}
 use Rattle.xdg_problem.specs.declared.parts.Shown.{Shown}
 use Rattle.xdg_problem.specs.declared.parts.Shown.TheVariants as shown
-use Rattle.xdg_text.specs.Lines.{analysis_line, word_line, attr_line, edge_line, end_line}
+use Rattle.xdg_text.specs.Lines.{analysis_line, version_line, counts_line, word_line, attr_line, edge_line, end_line}
 use Rattle.xdg_text.specs.Values.{value_text}
 
 -- the lines of the nodes from the one numbered node on
@@ -52,10 +52,22 @@ line_of_edge plans e = let plan = slice_index_or plans e.dim.0 no_plan in edge_l
 abbrev pub edge_lines : List DimPlan → List Edge → List ℕ
 edge_lines plans edges = flat_map (line_of_edge plans) edges
 
--- the lines of the words, of the attributes and of the edges between a first and a last line
-abbrev pub block_lines : List SentenceWord → List DimPlan → ℕ → List EntryNo → List ℕ → List Edge → List ℕ
-block_lines words plans number entries attrs edges = analysis_line number ++ (word_lines 0 words entries ++ (attr_lines (length words) plans attrs ++ (edge_lines plans edges ++ end_line)))
+-- the lines of the words, of the attributes and of the edges, and the last line
+abbrev pub body_lines : List SentenceWord → List DimPlan → List EntryNo → List ℕ → List Edge → List ℕ
+body_lines words plans entries attrs edges = word_lines 0 words entries ++ (attr_lines (length words) plans attrs ++ (edge_lines plans edges ++ end_line))
 
--- the block of an analysis, with a number
+-- the lines of text 1
+abbrev pub block_lines : List SentenceWord → List DimPlan → ℕ → List EntryNo → List ℕ → List Edge → List ℕ
+block_lines words plans number entries attrs edges = analysis_line number ++ body_lines words plans entries attrs edges
+
+-- the block of an analysis, with a number: its text 1
 abbrev pub block : Parts → ℕ → Analysis → List ℕ
 block parts number analysis = block_lines parts.words parts.dims number analysis.entries analysis.attrs analysis.edges
+
+-- the lines of text 2, which tells the numbers of lines before them
+abbrev pub block2_lines : List SentenceWord → List DimPlan → ℕ → List EntryNo → List ℕ → List Edge → List ℕ
+block2_lines words plans number entries attrs edges = version_line ++ (analysis_line number ++ (counts_line (length words) (length attrs) (length edges) ++ body_lines words plans entries attrs edges))
+
+-- the text 2 of an analysis, with a number
+abbrev pub block2 : Parts → ℕ → Analysis → List ℕ
+block2 parts number analysis = block2_lines parts.words parts.dims number analysis.entries analysis.attrs analysis.edges

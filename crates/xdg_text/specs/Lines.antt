@@ -18,6 +18,14 @@ line first others = first ++ (led others ++ codes "\n")
 abbrev pub analysis_line : ℕ → List ℕ
 analysis_line number = line (codes "analysis") (decimal number ∷ [])
 
+-- the line that begins the second text of an analysis
+abbrev pub version_line : List ℕ
+version_line = line (codes "xdg") (decimal 2 ∷ [])
+
+-- the line that tells how many lines of words, of attributes and of edges follow
+abbrev pub counts_line : ℕ → ℕ → ℕ → List ℕ
+counts_line words attrs edges = line (codes "counts") (decimal words ∷ decimal attrs ∷ decimal edges ∷ [])
+
 -- the line of a node: its number, its word, and the number of its entry; both numbers count from 1
 abbrev pub word_line : ℕ → List ℕ → ℕ → List ℕ
 word_line node text entry = line (codes "word") (decimal (node + 1) ∷ quoted text ∷ decimal (entry + 1) ∷ [])

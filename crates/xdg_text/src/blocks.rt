@@ -4,8 +4,8 @@ ghost use Rattle.std.specs.Prelude.{◌≡◌, ◌<◌, ◌≤◌, ℕ, List, Op
 ghost use Rattle.xdg_io.specs.Held.{Appends, AppendsFront};
 ghost use Rattle.xdg_io.specs.Rose.{Rose};
 ghost use Rattle.xdg_problem.specs.Analyses.{IsAnalysis};
-ghost use Rattle.xdg_text.specs.Blocks.{word_lines, value_at, node_lines, dim_lines, attr_lines, line_of_edge, edge_lines, block_lines, block};
-ghost use Rattle.xdg_text.specs.Lines.{analysis_line, word_line, attr_line, end_line};
+ghost use Rattle.xdg_text.specs.Blocks.{word_lines, value_at, node_lines, dim_lines, attr_lines, line_of_edge, edge_lines, body_lines, block_lines, block, block2_lines, block2};
+ghost use Rattle.xdg_text.specs.Lines.{analysis_line, version_line, counts_line, word_line, attr_line, end_line};
 ghost use Rattle.xdg_text.specs.Ranges.{HasValues, NodesHaveValues, DimsHaveValues, HasNames};
 
 use crate::lines::{Word, write_line};
@@ -184,7 +184,33 @@ fn write_edge_lines<K: Sink>(dims: &[DimPlan], edges: &[Edge], sink: &mut K) -> 
     Ok(())
 }
 
-/// Writes the lines of a block.
+/// Writes the lines of the words, of the attributes and of the edges, and the last line.
+#[tactic(auto, using(crate::proofs::Pieces::appends_both, crate::proofs::Pieces::rose_later))]
+fn write_body<K: Sink>(
+    words: &[SentenceWord],
+    dims: &[DimPlan],
+    entries: &[EntryNo],
+    attrs: &[u16],
+    edges: &[Edge],
+    sink: &mut K,
+) -> Result<(), Failed>
+    requires most { length words.now ≤ 128 }
+    requires few { All (λ plan. length plan.attrs ≤ 8) dims.now }
+    requires entries { length entries.now ≡ length words.now }
+    requires attrs { DimsHaveValues (length words.now) dims.now attrs.now }
+    requires edges { All (HasNames dims.now) edges.now }
+    ensures all { OnOk result (Appends (K.held sink.old) (K.held sink.new) (body_lines words.now dims.now entries.now attrs.now edges.now)) }
+    ensures front { OnErr result (AppendsFront (K.held sink.old) (K.held sink.new) (body_lines words.now dims.now entries.now attrs.now edges.now)) }
+    ensures cause { OnErr result (Rose (K.faults sink.old) (K.faults sink.new)) }
+    ensures lasting { K.faults sink.old ≤ K.faults sink.new }
+{
+    write_word_lines(words, entries, sink)?;
+    write_attr_lines(dims, words.len(), attrs, sink)?;
+    write_edge_lines(dims, edges, sink)?;
+    write_line("end", &[], sink)
+}
+
+/// Writes the lines of text 1.
 #[tactic(auto, using(crate::proofs::Pieces::appends_both, crate::proofs::Pieces::rose_later))]
 fn write_block<K: Sink>(
     words: &[SentenceWord],
@@ -206,10 +232,55 @@ fn write_block<K: Sink>(
     ensures lasting { K.faults sink.old ≤ K.faults sink.new }
 {
     write_line("analysis", &[Word::Number(number)], sink)?;
-    write_word_lines(words, entries, sink)?;
-    write_attr_lines(dims, words.len(), attrs, sink)?;
-    write_edge_lines(dims, edges, sink)?;
-    write_line("end", &[], sink)
+    write_body(words, dims, entries, attrs, edges, sink)
+}
+
+/// Writes the line that tells how many lines of words, of attributes and of edges follow.
+fn write_counts<K: Sink>(
+    words: usize,
+    attrs: usize,
+    edges: usize,
+    sink: &mut K,
+) -> Result<(), Failed>
+    ensures all { OnOk result (Appends (K.held sink.old) (K.held sink.new) (counts_line words attrs edges)) }
+    ensures front { OnErr result (AppendsFront (K.held sink.old) (K.held sink.new) (counts_line words attrs edges)) }
+    ensures cause { OnErr result (Rose (K.faults sink.old) (K.faults sink.new)) }
+    ensures lasting { K.faults sink.old ≤ K.faults sink.new }
+{
+    let counts = [
+        Word::Number(words as u64),
+        Word::Number(attrs as u64),
+        Word::Number(edges as u64),
+    ];
+    write_line("counts", &counts, sink)
+}
+
+/// Writes the lines of text 2.
+#[tactic(auto, using(crate::proofs::Pieces::appends_both, crate::proofs::Pieces::rose_later))]
+fn write_block2<K: Sink>(
+    words: &[SentenceWord],
+    dims: &[DimPlan],
+    number: u64,
+    entries: &[EntryNo],
+    attrs: &[u16],
+    edges: &[Edge],
+    sink: &mut K,
+) -> Result<(), Failed>
+    requires most { length words.now ≤ 128 }
+    requires few { All (λ plan. length plan.attrs ≤ 8) dims.now }
+    requires entries { length entries.now ≡ length words.now }
+    requires attrs { DimsHaveValues (length words.now) dims.now attrs.now }
+    requires edges { All (HasNames dims.now) edges.now }
+    ensures all { OnOk result (Appends (K.held sink.old) (K.held sink.new) (block2_lines words.now dims.now number entries.now attrs.now edges.now)) }
+    ensures front { OnErr result (AppendsFront (K.held sink.old) (K.held sink.new) (block2_lines words.now dims.now number entries.now attrs.now edges.now)) }
+    ensures cause { OnErr result (Rose (K.faults sink.old) (K.faults sink.new)) }
+    ensures lasting { K.faults sink.old ≤ K.faults sink.new }
+{
+    write_line("xdg", &[Word::Number(2)], sink)?;
+    let numbers = [Word::Number(number)];
+    write_line("analysis", &numbers, sink)?;
+    write_counts(words.len(), attrs.len(), edges.len(), sink)?;
+    write_body(words, dims, entries, attrs, edges, sink)
 }
 
 /// Writes the block of the analysis that has these entries, attributes and edges. It takes no memory.
@@ -254,6 +325,32 @@ pub fn write<K: Sink>(
 {
     write_parts(
         problem,
+        number,
+        analysis.entries.as_slice(),
+        analysis.attrs.as_slice(),
+        analysis.edges.as_slice(),
+        sink,
+    )
+}
+
+/// Writes the text 2 of an analysis, whose number counts from 1: a block that tells the number of the format first, and
+/// then how many lines of words, of attributes and of edges it has. It takes no memory.
+pub fn write2<K: Sink>(
+    problem: &Problem,
+    number: u64,
+    analysis: &Analysis,
+    sink: &mut K,
+) -> Result<(), Failed>
+    requires { IsAnalysis problem.now analysis.now }
+    ensures all { OnOk result (Appends (K.held sink.old) (K.held sink.new) (block2 problem.now number analysis.now)) }
+    ensures front { OnErr result (AppendsFront (K.held sink.old) (K.held sink.new) (block2 problem.now number analysis.now)) }
+    ensures cause { OnErr result (Rose (K.faults sink.old) (K.faults sink.new)) }
+    ensures lasting { K.faults sink.old ≤ K.faults sink.new }
+{
+    let parts = problem.parts();
+    write_block2(
+        parts.words.as_slice(),
+        parts.dims.as_slice(),
         number,
         analysis.entries.as_slice(),
         analysis.attrs.as_slice(),

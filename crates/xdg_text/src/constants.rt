@@ -62,9 +62,9 @@ fn continue_name(bytes: &[u8]) -> bool
     bytes.iter().all(|byte| continues_name(*byte))
 }
 
-/// Whether a text can stand as a name.
+/// Whether a text can stand as a name: an ASCII letter or `_`, then ASCII letters, digits, `_` and `.`, and no keyword.
 #[tactic(auto, using(crate::proofs::Names::name_of_parts))]
-fn is_name(text: &str) -> bool
+pub fn is_name(text: &str) -> bool
     ensures { result ≡ is_name text.now }
 {
     match text.as_bytes().split_first() {

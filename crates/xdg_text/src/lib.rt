@@ -5,12 +5,14 @@ mod blocks;
 mod constants;
 mod faults;
 mod lines;
+mod pushing;
 mod values;
 
-pub use blocks::{write, write_parts};
-pub use constants::{write_constant, write_quoted};
+pub use blocks::{write, write_parts, write2};
+pub use constants::{is_name, write_constant, write_quoted};
 pub use faults::{fault_line, write_complete, write_first, write_spent, write_usage};
 pub use lines::{Word, write_line};
+pub use pushing::push;
 pub use values::write_value;
 
 #[cfg(test)]

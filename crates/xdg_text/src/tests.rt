@@ -4,7 +4,7 @@ ghost use Rattle.xdg_text.specs.Examples.{agr, on, id, lp, german, reading};
 use super::*;
 use std::alloc::{AllocError, Global};
 use std::test::Fail;
-use xdg_base::{Cause, DimId, EntryNo, Fault, LabelId, LineColumn, List, NodeId, Text};
+use xdg_base::{Bytes, Cause, DimId, EntryNo, Fault, LabelId, LineColumn, List, NodeId, Text};
 use xdg_io::MemSink;
 use xdg_problem::{Analysis, AttrPlan, DimPlan, Edge, Parts, Problem, SentenceWord, Shown};
 
@@ -152,6 +152,32 @@ fn a_block_is_written(rt: HostRuntime) -> Result<(), Fail> {
     let mut sink = MemSink::new(alloc, 200, 7, &[])?;
     assert_eq!(rt; write(&problem, 12, &analysis, &mut sink), Ok(()));
     assert_eq!(rt; sink.bytes(), BLOCK);
+    Ok(())
+}
+
+#[test]
+fn text_two_is_written(rt: HostRuntime) -> Result<(), Fail> {
+    let alloc = rt.alloc();
+    let problem = problem(alloc)?;
+    let analysis = analysis(alloc)?;
+    let mut sink = MemSink::new(alloc, 300, 7, &[])?;
+    assert_eq!(rt; write2(&problem, 12, &analysis, &mut sink), Ok(()));
+    let front = b"xdg 2\nanalysis 12\ncounts 2 6 1\n";
+    assert_eq!(rt;
+        sink.bytes().strip_prefix(front.as_slice()),
+        BLOCK.strip_prefix(b"analysis 12\n".as_slice())
+    );
+    Ok(())
+}
+
+#[test]
+fn a_block_is_pushed(rt: HostRuntime) -> Result<(), Fail> {
+    let alloc = rt.alloc();
+    let problem = problem(alloc)?;
+    let analysis = analysis(alloc)?;
+    let mut bytes = Bytes::new(alloc);
+    push(alloc, &mut bytes, &problem, 12, &analysis)?;
+    assert_eq!(rt; bytes.as_slice(), BLOCK);
     Ok(())
 }
 

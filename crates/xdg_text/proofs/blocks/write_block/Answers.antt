@@ -5,17 +5,8 @@ use Rattle.xdg_text.proofs.blocks.write_block.Goals as goal
 pub returns-in_err-write_line-clause-front : goal.returns-in_err-write_line-clause-front
 returns-in_err-write_line-clause-front g c = at_exit _ (front_of_first _ c.in_err-write_line.ensures.front)
 
-pub returns-in_err-write_word_lines-clause-front : goal.returns-in_err-write_word_lines-clause-front
-returns-in_err-write_word_lines-clause-front g c = at_exit _ (front_of_second c.in_ok-write_line.ensures.all (front_of_first _ c.in_err-write_word_lines.ensures.front))
-
-pub returns-in_err-write_attr_lines-clause-front : goal.returns-in_err-write_attr_lines-clause-front
-returns-in_err-write_attr_lines-clause-front g c = at_exit _ (front_of_second c.in_ok-write_line.ensures.all (front_of_second c.in_ok-write_word_lines.ensures.all (front_of_first _ c.in_err-write_attr_lines.ensures.front)))
-
-pub returns-in_err-write_edge_lines-clause-front : goal.returns-in_err-write_edge_lines-clause-front
-returns-in_err-write_edge_lines-clause-front g c = at_exit _ (front_of_second c.in_ok-write_line.ensures.all (front_of_second c.in_ok-write_word_lines.ensures.all (front_of_second c.in_ok-write_attr_lines.ensures.all (front_of_first _ c.in_err-write_edge_lines.ensures.front))))
-
 pub returns-clause-all : goal.returns-clause-all
-returns-clause-all g c = on_ok_weaker _ (λ last. appends_both c.in_ok-write_line.ensures.all (appends_both c.in_ok-write_word_lines.ensures.all (appends_both c.in_ok-write_attr_lines.ensures.all (appends_both c.in_ok-write_edge_lines.ensures.all last)))) c.write_line-2.ensures.all
+returns-clause-all g c = on_ok_weaker _ (λ last. appends_both c.in_ok-write_line.ensures.all last) c.write_body.ensures.all
 
 pub returns-clause-front : goal.returns-clause-front
-returns-clause-front g c = on_err_weaker _ (λ last. front_of_second c.in_ok-write_line.ensures.all (front_of_second c.in_ok-write_word_lines.ensures.all (front_of_second c.in_ok-write_attr_lines.ensures.all (front_of_second c.in_ok-write_edge_lines.ensures.all last)))) c.write_line-2.ensures.front
+returns-clause-front g c = on_err_weaker _ (λ last. front_of_second c.in_ok-write_line.ensures.all last) c.write_body.ensures.front
