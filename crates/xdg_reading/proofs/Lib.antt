@@ -1,0 +1,11 @@
+pub mod Constants
+pub mod Fronts
+pub mod Insides
+pub mod LineLaws
+pub mod Numbers
+pub mod Only
+pub mod Steps
+pub mod Tuples
+pub mod Values
+pub mod Walks
+pub mod Shapes

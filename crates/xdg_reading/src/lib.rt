@@ -1,0 +1,17 @@
+//! Analysis texts read back: the lines of a text, and the analysis of a problem that they show.
+//!
+//! An analysis has one spelling in each of the two texts, and every other text is refused at the first line that offends.
+#![tactic(auto)]
+
+mod cursor;
+mod line;
+mod reading;
+mod stage;
+mod texts;
+mod words;
+
+pub use reading::read;
+pub use texts::{AnalysisText, AttrLine, EdgeLine};
+
+#[cfg(test)]
+mod tests;
