@@ -38,7 +38,8 @@ pub struct LiveFront<'a> {
 }
 
 impl<'a> LiveFront<'a> {
-    /// The empty prefix. All memory that longer ones need is taken here.
+    /// The empty prefix. All memory that longer ones need is taken here. The problem's principle uses are of graph,
+    /// entries, tree and valency: these are the principles whose tests the steps know.
     pub fn start(alloc: Global, problem: &'a Problem) -> Result<LiveFront<'a>, AllocError>
         requires { OfFirstFour problem.now }
         ensures { IfOk result (λ front. (front.problem.now ≡ problem.entry.now) × (front.numbers.items ≡ [])) }

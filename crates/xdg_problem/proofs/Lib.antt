@@ -26,6 +26,7 @@ pub mod CycleTests
 pub mod DecidingPaths
 pub mod DecidingAsks
 pub mod LiveDecided
+pub mod TriedAsks
 pub mod OneList
 pub mod Counted
 pub mod Less

@@ -47,8 +47,8 @@ module _ (parts : Parts) (group : Group) (candidates attrs : List ℕ) (edges : 
   abbrev labels : ℕ
   labels = label_count parts one
 
-  abbrev M : ℕ → ℕ → List ℕ
-  M u l = map_row group u (slice_index candidates u) l
+  abbrev link_row : ℕ → ℕ → List ℕ
+  link_row u l = map_row group u (slice_index candidates u) l
 
   -- the edges that a test looks at
   abbrev seen : Test → List Edge
@@ -64,7 +64,7 @@ module _ (parts : Parts) (group : Group) (candidates attrs : List ℕ) (edges : 
   end_tests is = triples (Asks conditions.Link parts group candidates attrs edges) (λ u l v. PassesAt parts group candidates attrs edges (linked_end u l v)) n labels n (λ u l v.
       link_like principles.LinkingEnd group (slice_index candidates u) u l v (edges_on one (seen (linked_end u l v))) (edges_on one edges) (edges_on two (seen (linked_end u l v))) (edges_on two edges) is
       (any_same (looks_at group (linked_end u l v)) one edges (λ e. (e.mother.0 ≡ u) × (e.label.0 ≡ l) × (e.daughter.0 ≡ v)) (λ e here on. or_right (looks_second two (linked_end u l v) e) (looks_first one (linked_end u l v) e) (sees_place one u l v e here on)))
-      (labels_like _ _ (M u l) (end_linked u l v (M u l))))
+      (labels_like _ _ (link_row u l) (end_linked u l v (link_row u l))))
 
   daughter_linked : (u l v : ℕ) (labels : List ℕ) → IsDaughterByAny (edges_on two (seen (linked_daughter u l v))) u labels v ↔ IsDaughterByAny (edges_on two edges) u labels v
   daughter_linked u l v labels = any_same (looks_at group (linked_daughter u l v)) two edges (λ e. (e.mother.0 ≡ u) × Contains labels e.label.0 × (e.daughter.0 ≡ v)) (λ e is on. or_left (looks_second two (linked_daughter u l v) e) (looks_first one (linked_daughter u l v) e) (and_3 (e.dim.0 == two) (e.mother.0 == u) (e.daughter.0 == v) on (eq-eqb e.mother.0 u is.0) (eq-eqb e.daughter.0 v is.2)))
@@ -76,7 +76,7 @@ module _ (parts : Parts) (group : Group) (candidates attrs : List ℕ) (edges : 
   daughter_tests is = triples (Asks conditions.Link parts group candidates attrs edges) (λ u l v. PassesAt parts group candidates attrs edges (linked_daughter u l v)) n labels n (λ u l v.
       link_like principles.LinkingDaughter group (slice_index candidates u) u l v (edges_on one (seen (linked_daughter u l v))) (edges_on one edges) (edges_on two (seen (linked_daughter u l v))) (edges_on two edges) is
       (daughter_placed u l v)
-      (labels_like _ _ (M u l) (daughter_linked u l v (M u l))))
+      (labels_like _ _ (link_row u l) (daughter_linked u l v (link_row u l))))
 
   no_daughter : (u l v : ℕ) → IsDaughter (edges_on two (seen (linked_daughter u l v))) u v ↔ IsDaughter (edges_on two edges) u v
   no_daughter u l v = any_same (looks_at group (linked_daughter u l v)) two edges (λ e. (e.mother.0 ≡ u) × (e.daughter.0 ≡ v)) (λ e is on. or_left (looks_second two (linked_daughter u l v) e) (looks_first one (linked_daughter u l v) e) (and_3 (e.dim.0 == two) (e.mother.0 == u) (e.daughter.0 == v) on (eq-eqb e.mother.0 u is.0) (eq-eqb e.daughter.0 v is.1)))
@@ -94,7 +94,7 @@ module _ (parts : Parts) (group : Group) (candidates attrs : List ℕ) (edges : 
   mother_tests is = triples (Asks conditions.Link parts group candidates attrs edges) (λ u l v. PassesAt parts group candidates attrs edges (linked_mother u l v)) n labels n (λ u l v.
       link_like principles.LinkingMother group (slice_index candidates u) u l v (edges_on one (seen (linked_mother u l v))) (edges_on one edges) (edges_on two (seen (linked_mother u l v))) (edges_on two edges) is
       (any_same (looks_at group (linked_mother u l v)) one edges (λ e. (e.mother.0 ≡ u) × (e.label.0 ≡ l) × (e.daughter.0 ≡ v)) (λ e here on. or_right (looks_second two (linked_mother u l v) e) (looks_first one (linked_mother u l v) e) (sees_place one u l v e here on)))
-      (labels_like _ _ (M u l) (mother_linked u l v (M u l))))
+      (labels_like _ _ (link_row u l) (mother_linked u l v (link_row u l))))
 
   sister_placed : (u l v mother : ℕ) (labels : List ℕ) → IsDaughterByAny (edges_on two (seen (linked_sister u l v))) mother labels v ↔ IsDaughterByAny (edges_on two edges) mother labels v
   sister_placed u l v mother labels = any_same (looks_at group (linked_sister u l v)) two edges (λ e. (e.mother.0 ≡ mother) × Contains labels e.label.0 × (e.daughter.0 ≡ v)) (λ e is on. or_left (looks_second two (linked_sister u l v) e) (looks_first one (linked_sister u l v) e) (and_2 (e.dim.0 == two) ((e.daughter.0 == u) || (e.daughter.0 == v)) on (or_right (e.daughter.0 == u) (e.daughter.0 == v) (eq-eqb e.daughter.0 v is.2))))
@@ -114,7 +114,7 @@ module _ (parts : Parts) (group : Group) (candidates attrs : List ℕ) (edges : 
   sister_tests is = triples (Asks conditions.Link parts group candidates attrs edges) (λ u l v. PassesAt parts group candidates attrs edges (linked_sister u l v)) n labels n (λ u l v.
       link_like principles.LinkingSisters group (slice_index candidates u) u l v (edges_on one (seen (linked_sister u l v))) (edges_on one edges) (edges_on two (seen (linked_sister u l v))) (edges_on two edges) is
       (any_same (looks_at group (linked_sister u l v)) one edges (λ e. (e.mother.0 ≡ u) × (e.label.0 ≡ l) × (e.daughter.0 ≡ v)) (λ e here on. or_right (looks_second two (linked_sister u l v) e) (looks_first one (linked_sister u l v) e) (sees_place one u l v e here on)))
-      (labels_like _ _ (M u l) (sister_linked u l v (M u l))))
+      (labels_like _ _ (link_row u l) (sister_linked u l v (link_row u l))))
 
   path_placed : (u l v : ℕ) → IsDaughterBy (edges_on one (seen (linked_path u l v))) u l v ↔ IsDaughterBy (edges_on one edges) u l v
   path_placed u l v = any_same (looks_at group (linked_path u l v)) one edges (λ e. (e.mother.0 ≡ u) × (e.label.0 ≡ l) × (e.daughter.0 ≡ v)) (λ e is on. or_right (looks_second two (linked_path u l v) e) (looks_first one (linked_path u l v) e) (sees_place one u l v e is on))
@@ -128,10 +128,10 @@ module _ (parts : Parts) (group : Group) (candidates attrs : List ℕ) (edges : 
   below_start_tests is = triples (Asks conditions.Link parts group candidates attrs edges) (λ u l v. PassesAt parts group candidates attrs edges (linked_path u l v)) n labels n (λ u l v.
       link_like principles.LinkingBelowStart group (slice_index candidates u) u l v (edges_on one (seen (linked_path u l v))) (edges_on one edges) (edges_on two (seen (linked_path u l v))) (edges_on two edges) is
       (path_placed u l v)
-      (labels_like _ _ (M u l) (path_linked u l v u v (M u l))))
+      (labels_like _ _ (link_row u l) (path_linked u l v u v (link_row u l))))
 
   pub above_start_tests : group.principle ≡ principles.LinkingAboveStart → Linked linked_path
   above_start_tests is = triples (Asks conditions.Link parts group candidates attrs edges) (λ u l v. PassesAt parts group candidates attrs edges (linked_path u l v)) n labels n (λ u l v.
       link_like principles.LinkingAboveStart group (slice_index candidates u) u l v (edges_on one (seen (linked_path u l v))) (edges_on one edges) (edges_on two (seen (linked_path u l v))) (edges_on two edges) is
       (path_placed u l v)
-      (labels_like _ _ (M u l) (path_linked u l v v u (M u l))))
+      (labels_like _ _ (link_row u l) (path_linked u l v v u (link_row u l))))

@@ -19,7 +19,7 @@ use xdg_search::{Search, Step};
 use xdg_text::{write_complete, write_parts, write_spent};
 
 /// Searches with a budget, and prints the block of each solution when it is found, and then the last line. All memory
-/// is taken before the first byte is written.
+/// is taken before the first byte is written. The problem has principles of the first four alone, as the search wants.
 pub fn print_analyses<K: Sink>(
     alloc: Global,
     problem: &Problem,
