@@ -1,0 +1,4 @@
+pub mod Fitted
+pub mod Fits
+pub mod Names
+pub mod Slots

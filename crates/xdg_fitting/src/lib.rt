@@ -1,0 +1,12 @@
+//! The analysis of a problem that a text shows.
+#![tactic(auto)]
+
+mod attrs;
+mod edges;
+mod fitting;
+mod names;
+mod refused;
+mod slots;
+mod words;
+
+pub use fitting::fit;
