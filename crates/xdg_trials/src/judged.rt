@@ -229,7 +229,11 @@ fn judged(alloc: Global, text: &str) -> Result<String, AllocError> {
 
 /// What a row says: the text without its mark, and what is to be told: what stands before it, with the place of the mark
 /// where that is a fault.
-pub(crate) fn row_of(alloc: Global, head: &str, marked: &str) -> Result<(String, String), AllocError> {
+pub(crate) fn row_of(
+    alloc: Global,
+    head: &str,
+    marked: &str,
+) -> Result<(String, String), AllocError> {
     let (before, after) = marked.split_once('^').unwrap_or((marked, ""));
     let whole = format!(in alloc; "{}{}", before, after)?;
     let wanted = if head.starts_with('=') || head == "ok" {

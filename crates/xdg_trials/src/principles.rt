@@ -99,7 +99,11 @@ useprinciple principle.linkingNotDaughter {dims {D1: id D2: lp D3: lp} args {Lin
 
 /// A fault's number and its place behind `front` bytes.
 fn told(alloc: Global, fault: Fault, front: usize) -> Result<String, AllocError> {
-    format!(in alloc; "{} {}", number(fault.cause), (fault.at as usize).saturating_sub(front))
+    format!(in alloc;
+        "{} {}",
+        number(fault.cause),
+        (fault.at as usize).saturating_sub(front)
+    )
 }
 
 /// What the first use is.
