@@ -16,3 +16,6 @@ pub mod Lawful
 pub mod Meaning
 pub mod Wanting
 pub mod Straying
+pub mod Replacing
+pub mod Binding
+pub mod ClosedLaw

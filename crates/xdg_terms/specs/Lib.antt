@@ -9,3 +9,5 @@ pub mod Offences
 pub mod Readings
 pub mod Wanted
 pub mod Stray
+pub mod Closed
+pub mod Replaced

@@ -4,9 +4,8 @@ use Rattle.xdg_base.specs.declared.faults.Cause.TheVariants as causes
 use Rattle.xdg_base.specs.declared.faults.Fault.{Fault}
 use Rattle.xdg_ast.specs.Grammar.{is_among}
 use Rattle.xdg_ast.specs.declared.names.Name.{Name}
-use Rattle.xdg_ast.specs.declared.names.Spanned.{Spanned}
 use Rattle.xdg_ast.specs.declared.terms.TermKind.{TermKind}
-use Rattle.xdg_ast.specs.declared.terms.ElemKind.{ElemKind, out-ElemKind}
+use Rattle.xdg_ast.specs.declared.terms.ElemKind.{ElemKind}
 use Rattle.xdg_ast.specs.declared.terms.ElemKind.TheOpen.{TermKind-F, ElemKind-F}
 use Rattle.xdg_ast.specs.declared.terms.ElemKind.TheFolds.{fold-TermKind, fold-ElemKind}
 use Rattle.xdg_domain.specs.Shapes.{Among}

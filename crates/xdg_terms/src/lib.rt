@@ -5,6 +5,8 @@ mod building;
 mod cardinalities;
 mod cards;
 mod checking;
+mod closing;
+mod copying;
 mod faults;
 mod forms;
 mod generators;
@@ -20,6 +22,7 @@ mod values;
 mod wants;
 
 pub use checking::{check, check_open};
+pub use closing::close;
 pub use forms::Bindings;
 pub use stray::check_stray;
 pub use values::value;

@@ -1,6 +1,5 @@
 use Rattle.std.proofs.Common.{rules, ◌≡◌, ◌++◌, sym, ap, ◌∙◌, subst}
 use Rattle.std.specs.Prelude.{IfOk, true, bytes_eq}
-use Rattle.xdg_domain.specs.declared.types.Ty.TheViews.{the_lemmas}
 use Rattle.xdg_domain.specs.declared.types.Ty.TheVariants as y
 use Rattle.xdg_domain.specs.Shapes.{shape, mapping}
 use Rattle.xdg_terms.specs.Faults.{fields_in}

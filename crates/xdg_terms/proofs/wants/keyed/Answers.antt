@@ -1,4 +1,4 @@
-use Rattle.std.proofs.Common.{rules, sym, ◌∙◌}
+use Rattle.std.proofs.Common.{rules}
 use Rattle.xdg_terms.specs.Forms.{all_of, pairs_of}
 use Rattle.xdg_terms.proofs.Wanting.{all_keyed, not_keyed}
 use Rattle.xdg_terms.proofs.wants.keyed.Goals as goal
