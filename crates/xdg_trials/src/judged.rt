@@ -9,11 +9,11 @@ ghost use Rattle.xdg_domain.specs.Shapes.{shape, IsType};
 use std::alloc::{AllocError, Global};
 use std::test::Fail;
 use xdg_ast::{ExprKind, Grammar, StatementKind, Term};
-use xdg_base::{Stop, number};
+use xdg_base::{List, Stop, number};
 use xdg_domain::{Ty, Value};
 use xdg_lex::tokens;
 use xdg_parse::parse;
-use xdg_terms::{Bindings, value};
+use xdg_terms::{Bindings, close, value};
 use xdg_types::{TypeTable, types};
 
 /// Grammar texts: a fault's number, the number reached and the text with the fault's place, or `ok` and a text.
@@ -316,10 +316,38 @@ fn answered(alloc: Global, grammar: &Grammar) -> Result<Value, Stop> {
     value(alloc, ty, term, arguments)
 }
 
+/// The same of the term in which the arguments stand in the place of the parameters.
+fn answered_closed(alloc: Global, grammar: &Grammar) -> Result<Value, Stop> {
+    let table = types(alloc, grammar)?;
+    let Some(ty) = first_type(&table) else {
+        return Err(Stop::OutOfMemory);
+    };
+    let Some(term) = first_term(grammar) else {
+        return Err(Stop::OutOfMemory);
+    };
+    let Some(arguments) = first_arguments(grammar) else {
+        return Err(Stop::OutOfMemory);
+    };
+    let closed = close(alloc, term, arguments)?;
+    let nothing = List::new(alloc);
+    value(alloc, ty, &closed, &nothing)
+}
+
 /// What the term means: `=` and the value, or a fault's number and its place behind `front` bytes.
 fn meant(alloc: Global, text: &str, front: usize) -> Result<String, AllocError> {
     let grammar = read(alloc, text)?;
-    match answered(alloc, &grammar) {
+    told(alloc, answered(alloc, &grammar), front)
+}
+
+/// The same of the term in which the arguments stand in the place of the parameters.
+fn meant_closed(alloc: Global, text: &str, front: usize) -> Result<String, AllocError> {
+    let grammar = read(alloc, text)?;
+    told(alloc, answered_closed(alloc, &grammar), front)
+}
+
+/// An answer as it stands in a row.
+fn told(alloc: Global, answer: Result<Value, Stop>, front: usize) -> Result<String, AllocError> {
+    match answer {
         Ok(value) => format!(in alloc; "= {:?}", value),
         Err(Stop::Fault(fault)) => {
             format!(in alloc;
@@ -396,6 +424,10 @@ fn parameters_stand_for_terms(rt: HostRuntime) -> Result<(), Fail> {
         let (whole, wanted) = row_of(alloc, head, argument)?;
         let (text, at) = class_with(alloc, ty, body, whole.as_str(), true)?;
         assert_eq!(rt; meant(alloc, text.as_str(), at)?.as_str(), wanted.as_str());
+        assert_eq!(rt;
+            meant_closed(alloc, text.as_str(), at)?.as_str(),
+            wanted.as_str()
+        );
     }
     Ok(())
 }

@@ -1,0 +1,90 @@
+-- Classes and entries that are made one after the other.
+use Rattle.std.proofs.Common.{◌≡◌, inl, inr, ℕ, zero, suc, ◌<◌, ◌≤◌, ◌+◌, Bool, false, List, [], ◌∷◌, ◌++◌, length, get_or, take, map, refl, sym, ap, ap₂, ◌∙◌, subst, arith}
+use Rattle.std.specs.Prelude.{if◌then◌else◌, not}
+use Rattle.std.proofs.lemmas.Bool.{false_from_ne_true, true≢false}
+use Rattle.std.proofs.lemmas.Grind.{flat_map-append}
+use Rattle.std.proofs.lemmas.List.{take_more, take_all, map-append, append-nil}
+use Rattle.xdg_ast.specs.declared.grammar.StatementKind.TheVariants as k
+use Rattle.xdg_domain.specs.Shapes.{Among, Differ}
+use Rattle.xdg_index.specs.Texts.{has_text}
+use Rattle.xdg_types.specs.Parts.{Statement}
+use Rattle.xdg_types.proofs.Distinct.{has_among, among_has}
+use Rattle.xdg_classes.specs.Bodies.{Expr, body}
+use Rattle.xdg_classes.specs.Definitions as d
+use Rattle.xdg_classes.specs.Definitions.{ClassDef, entry, entry_at, entries}
+use Rattle.xdg_classes.specs.declared.definitions.ClassDef.{ClassDef as LentClass}
+use Rattle.xdg_classes.specs.Lent.{class_def}
+use Rattle.xdg_check.specs.declared.checked.Class.{Class}
+use Rattle.xdg_check.specs.declared.checked.EntryDef.{EntryDef}
+use Rattle.xdg_check.specs.Answers.{IsClassOf, AreClassesOf, IsEntryOf, AreEntriesOf}
+use Rattle.xdg_check.specs.Completed.{completed}
+use Rattle.xdg_check.specs.Counts.{class_texts}
+use Rattle.xdg_check.specs.Made.{AddsEntries}
+
+-- ---- classes
+
+classes_grow : (cs xs : List ClassDef) (ys : List Class) (x : ClassDef) (y : Class) → AreClassesOf cs xs ys → IsClassOf cs x y → AreClassesOf cs (xs ++ x ∷ []) (ys ++ y ∷ [])
+classes_grow cs [] [] x y h is = (is, tt)
+classes_grow cs [] (z ∷ ys) x y h is = absurd h
+classes_grow cs (w ∷ xs) [] x y h is = absurd h
+classes_grow cs (w ∷ xs) (z ∷ ys) x y h is = (h.0, classes_grow cs xs ys x y h.1 is)
+
+pub class_turn : (cs : List ClassDef) (ds : List LentClass) (i : ℕ) (x : LentClass) (old new : List Class) (m : Class) → i < length ds → x ≡ get_or ds i x → AreClassesOf cs (map class_def (take i ds)) old → IsClassOf cs (class_def x) m
+    → new ≡ old ++ m ∷ [] → AreClassesOf cs (map class_def (take (i + 1) ds)) new
+class_turn cs ds i x old new m within is so_far one grown =
+    let front : take (i + 1) ds ≡ take i ds ++ x ∷ [] = take_more ds i x within ∙ ap (λ y. take i ds ++ y ∷ []) (sym is) in
+    subst (AreClassesOf cs (map class_def (take (i + 1) ds))) (sym grown)
+    (subst (λ xs. AreClassesOf cs xs (old ++ m ∷ [])) (sym (ap (map class_def) front ∙ map-append class_def (take i ds) (x ∷ []))) (classes_grow cs (map class_def (take i ds)) old (class_def x) m so_far one))
+
+pub classes_all : (cs : List ClassDef) (ds all : List LentClass) (i : ℕ) (made : List Class) → length ds ≤ i → ds ≡ all → AreClassesOf cs (map class_def (take i ds)) made → AreClassesOf cs (map class_def all) made
+classes_all cs ds all i made past same h = subst (λ xs. AreClassesOf cs (map class_def xs) made) (take_all i ds past ∙ same) h
+
+-- ---- names
+
+stands : (cs : List Class) (i : ℕ) (c : Class) → i < length cs → c ≡ get_or cs i c → Among (class_texts cs) c.name
+stands [] i c within is = absurd (omega (arith, within))
+stands (x ∷ cs) zero c within is = inl (ap (λ (y : Class). y.name) (sym is))
+stands (x ∷ cs) (suc i) c within is = inr (stands cs i c (omega (arith, within)) is)
+
+new_name : (cs : List Class) (i : ℕ) (c : Class) → i < length cs → c ≡ get_or cs i c → Differ (class_texts cs) → has_text (class_texts (take i cs)) c.name ≡ false
+new_name [] i c within is apart = absurd (omega (arith, within))
+new_name (x ∷ cs) zero c within is apart = refl
+new_name (x ∷ cs) (suc i) c within is apart =
+    false_from_ne_true (has_text (class_texts (take (suc i) (x ∷ cs))) c.name) (λ h. elim (has_among (class_texts (take (suc i) (x ∷ cs))) c.name h) [
+      | inl e ↦ apart.0 (subst (Among (class_texts cs)) (sym e) (stands cs i c (omega (arith, within)) is))
+      | inr k ↦ true≢false (sym (among_has (class_texts (take i cs)) c.name k) ∙ new_name cs i c (omega (arith, within)) is apart.1)
+    ])
+
+pub name_turn : (cs : List Class) (i : ℕ) (c : Class) (text : List ℕ) (added : Bool) (old new : List (List ℕ)) → i < length cs → c ≡ get_or cs i c → text ≡ c.name → added ≡ not (has_text old text) → new ≡ (if added then old ++ text ∷ [] else old)
+    → (Differ (class_texts cs) → old ≡ class_texts (take i cs)) → Differ (class_texts cs) → new ≡ class_texts (take (i + 1) cs)
+name_turn cs i c text added old new within is name told grown so_far apart =
+    let absent : has_text old text ≡ false = ap₂ has_text (so_far apart) name ∙ new_name cs i c within is apart in
+    let front : take (i + 1) cs ≡ take i cs ++ c ∷ [] = take_more cs i c within ∙ ap (λ y. take i cs ++ y ∷ []) (sym is) in
+    grown ∙ ap (λ b. if b then old ++ text ∷ [] else old) (told ∙ ap not absent) ∙ ap₂ (λ ts t. ts ++ t ∷ []) (so_far apart) name
+    ∙ sym (ap class_texts front ∙ map-append (λ (x : Class). x.name) (take i cs) (c ∷ []))
+
+-- ---- entries
+
+entries_grow : (cs : List ClassDef) (xs : List d.EntryDef) (ys : List EntryDef) (x : d.EntryDef) (y : EntryDef) → AreEntriesOf cs xs ys → IsEntryOf cs x y → AreEntriesOf cs (xs ++ x ∷ []) (ys ++ y ∷ [])
+entries_grow cs [] [] x y h is = (is, tt)
+entries_grow cs [] (z ∷ ys) x y h is = absurd h
+entries_grow cs (w ∷ xs) [] x y h is = absurd h
+entries_grow cs (w ∷ xs) (z ∷ ys) x y h is = (h.0, entries_grow cs xs ys x y h.1 is)
+
+pub entry_more : (cs : List ClassDef) (statement : Statement) (source : Expr) (y : EntryDef) (old new : List EntryDef) → statement.kind ≡ k.DefEntry source → y.at ≡ statement.span.start → body y.body.kind ≡ completed cs (body source.kind)
+    → y.body.span ≡ source.span → new ≡ old ++ y ∷ [] → AddsEntries cs (entry statement) old new
+entry_more cs statement source y old new is at tree span grown sources are =
+    subst (AreEntriesOf cs (sources ++ entry statement)) (sym grown)
+    (subst (λ xs. AreEntriesOf cs (sources ++ xs) (old ++ y ∷ [])) (sym (ap (entry_at statement.span.start) is))
+    (entries_grow cs sources old (record { at = statement.span.start; body = source }) y are (record { at = at; body = tree; span = span })))
+
+pub entry_none : (cs : List ClassDef) (statement : Statement) (old new : List EntryDef) → entry statement ≡ [] → new ≡ old → AddsEntries cs (entry statement) old new
+entry_none cs statement old new none same sources are =
+    subst (AreEntriesOf cs (sources ++ entry statement)) (sym same) (subst (λ xs. AreEntriesOf cs xs old) (sym (ap (λ xs. sources ++ xs) none ∙ append-nil sources)) are)
+
+pub entry_turn : (cs : List ClassDef) (ss : List Statement) (i : ℕ) (s : Statement) (old new : List EntryDef) → i < length ss → s ≡ get_or ss i s → AreEntriesOf cs (entries (take i ss)) old → AddsEntries cs (entry s) old new
+    → AreEntriesOf cs (entries (take (i + 1) ss)) new
+entry_turn cs ss i s old new within is so_far more =
+    let front : take (i + 1) ss ≡ take i ss ++ s ∷ [] = take_more ss i s within ∙ ap (λ y. take i ss ++ y ∷ []) (sym is) in
+    let all : entries (take (i + 1) ss) ≡ entries (take i ss) ++ entry s = ap entries front ∙ flat_map-append entry (take i ss) (s ∷ []) ∙ ap (λ xs. entries (take i ss) ++ xs) (append-nil (entry s)) in
+    subst (λ xs. AreEntriesOf cs xs new) (sym all) (more (entries (take i ss)) so_far)

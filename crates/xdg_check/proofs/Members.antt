@@ -1,0 +1,52 @@
+-- Counts over the members of an expression, one after the other.
+use Rattle.std.proofs.Common.{◌≡◌, ℕ, ◌<◌, ◌≤◌, ◌+◌, ◌*◌, ◌-◌, ◌^◌, List, ◌∷◌, length, get_or, drop, min, ap, sym, ◌∙◌, arith}
+use Rattle.std.proofs.lemmas.List.{drop_more, drop_all}
+use Rattle.xdg_ast.specs.declared.expressions.ExprKind.{ExprKind}
+use Rattle.xdg_ast.specs.declared.expressions.ExprKind.TheVariants as v
+use Rattle.xdg_classes.specs.Bodies.{Expr, body}
+use Rattle.xdg_classes.proofs.Bodied.{trees, body_or, body_and}
+use Rattle.xdg_check.specs.Counts.{Counting, uses, sum_of_uses, combos, sum_of_combos, product_of_combos, capped}
+use Rattle.xdg_check.proofs.Capped.{factor_more}
+
+-- what is left at a member, and behind it
+cut : (items : List Expr) (k : ℕ) (e : Expr) → k < length items → e ≡ get_or items k e → drop k items ≡ e ∷ drop (k + 1) items
+cut items k e within is = drop_more items k e within ∙ ap (λ x. x ∷ drop (k + 1) items) (sym is)
+
+alone : (so_far most : ℕ) → so_far ≤ most → so_far ≡ min (so_far + 0) most
+alone so_far most within = omega (arith, within)
+
+alone_too : (so_far most : ℕ) → so_far ≤ most → so_far ≡ min (so_far * 1) most
+alone_too so_far most within = omega (arith, within)
+
+module _ (names : Counting) (items : List Expr) (k : ℕ) (so_far whole : ℕ) where
+  module _ (e : Expr) (grown next : ℕ) (within : k < length items) (is : e ≡ get_or items k e) where
+    pub pairs_more : grown ≡ capped (combos names (body e.kind)) → next ≡ capped (so_far * grown) → capped (so_far * product_of_combos names (trees (drop k items))) ≡ whole
+        → capped (next * product_of_combos names (trees (drop (k + 1) items))) ≡ whole
+    pairs_more g n before =
+        factor_more so_far (combos names (body e.kind)) grown next (product_of_combos names (trees (drop (k + 1) items))) (2 ^ 64 - 1) whole g n
+        (ap (λ (es : List Expr). capped (so_far * product_of_combos names (trees es))) (sym (cut items k e within is)) ∙ before)
+
+  module _ (past : length items ≤ k) (small : so_far ≤ 2 ^ 64 - 1) where
+    pub uses_all : capped (so_far + sum_of_uses names (trees (drop k items))) ≡ whole → so_far ≡ whole
+    uses_all before = alone so_far (2 ^ 64 - 1) small ∙ ap (λ (es : List Expr). capped (so_far + sum_of_uses names (trees es))) (sym (drop_all k items past)) ∙ before
+
+    pub combos_all : capped (so_far + sum_of_combos names (trees (drop k items))) ≡ whole → so_far ≡ whole
+    combos_all before = alone so_far (2 ^ 64 - 1) small ∙ ap (λ (es : List Expr). capped (so_far + sum_of_combos names (trees es))) (sym (drop_all k items past)) ∙ before
+
+    pub pairs_all : capped (so_far * product_of_combos names (trees (drop k items))) ≡ whole → so_far ≡ whole
+    pairs_all before = alone_too so_far (2 ^ 64 - 1) small ∙ ap (λ (es : List Expr). capped (so_far * product_of_combos names (trees es))) (sym (drop_all k items past)) ∙ before
+
+-- ---- the forms of expressions
+
+module _ (names : Counting) (kind : ExprKind) (members items : List Expr) (same : items ≡ members) where
+  pub uses_or : kind ≡ v.Or members → capped (sum_of_uses names (trees items)) ≡ capped (uses names (body kind))
+  uses_or is = ap (λ es. capped (sum_of_uses names (trees es))) same ∙ sym (ap (λ x. capped (uses names x)) (ap body is ∙ body_or members))
+
+  pub uses_and : kind ≡ v.And members → capped (sum_of_uses names (trees items)) ≡ capped (uses names (body kind))
+  uses_and is = ap (λ es. capped (sum_of_uses names (trees es))) same ∙ sym (ap (λ x. capped (uses names x)) (ap body is ∙ body_and members))
+
+  pub combos_or : kind ≡ v.Or members → capped (sum_of_combos names (trees items)) ≡ capped (combos names (body kind))
+  combos_or is = ap (λ es. capped (sum_of_combos names (trees es))) same ∙ sym (ap (λ x. capped (combos names x)) (ap body is ∙ body_or members))
+
+  pub combos_and : kind ≡ v.And members → capped (product_of_combos names (trees items)) ≡ capped (combos names (body kind))
+  combos_and is = ap (λ es. capped (product_of_combos names (trees es))) same ∙ sym (ap (λ x. capped (combos names x)) (ap body is ∙ body_and members))

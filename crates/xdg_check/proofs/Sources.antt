@@ -1,0 +1,130 @@
+-- Classes and entries with completed bindings, beside those of the text.
+use Rattle.std.proofs.Common.{◌≡◌, inl, inr, ℕ, Bool, true, false, List, [], ◌∷◌, ◌++◌, map, Some, refl, sym, ap, ap₂, ◌∙◌, subst}
+use Rattle.std.specs.Prelude.{if◌then◌else◌, bytes_eq}
+use Rattle.std.proofs.lemmas.List.{map-append}
+use Rattle.std.proofs.lemmas.Slice.Eq.{bytes_eq-Decides}
+use Rattle.xdg_domain.specs.Shapes.{Among}
+use Rattle.xdg_faults.specs.First.{In}
+use Rattle.xdg_faults.proofs.In.{in_left, in_right, in_flat_map, flat_map_in}
+use Rattle.xdg_types.specs.Parts.{Statement}
+use Rattle.xdg_classes.specs.Bodies.{Body, either, both, saying, calling, Bodies, no_body, body_then, body, Called, records, records_in, calls, calls_in}
+use Rattle.xdg_classes.specs.Definitions as d
+use Rattle.xdg_classes.specs.Definitions.{ClassDef, class, classes, class_names, class_named, texts, param_names, Scoped, scoped, bodies, entry, entries}
+use Rattle.xdg_classes.proofs.NameLaw.{in_map}
+use Rattle.xdg_check.specs.declared.checked.Class.{Class}
+use Rattle.xdg_check.specs.declared.checked.EntryDef.{EntryDef}
+use Rattle.xdg_check.specs.Completed.{completed, all_completed, bound_by}
+use Rattle.xdg_check.specs.Answers.{IsClassOf, AreClassesOf, IsEntryOf, AreEntriesOf}
+use Rattle.xdg_check.specs.Counts.{class_texts}
+
+-- ---- what stands in a completed body
+
+abbrev pub completed_call : List ClassDef → Called → Called
+completed_call cs call = record { name = call.name; args = bound_by (class_named cs call.name.text) call.args }
+
+module _ (cs : List ClassDef) where
+  mutual
+    pub same_records : (b : Body) → records (completed cs b) ≡ records b
+    same_records (either bs) = same_records_in bs
+    same_records (both bs) = same_records_in bs
+    same_records (saying dim pairs) = refl
+    same_records (calling name args) = refl
+
+    same_records_in : (bs : Bodies) → records_in (all_completed cs bs) ≡ records_in bs
+    same_records_in no_body = refl
+    same_records_in (body_then b bs) = ap₂ (λ x y. x ++ y) (same_records b) (same_records_in bs)
+
+  mutual
+    pub completed_calls : (b : Body) → calls (completed cs b) ≡ map (completed_call cs) (calls b)
+    completed_calls (either bs) = completed_calls_in bs
+    completed_calls (both bs) = completed_calls_in bs
+    completed_calls (saying dim pairs) = refl
+    completed_calls (calling name args) = refl
+
+    completed_calls_in : (bs : Bodies) → calls_in (all_completed cs bs) ≡ map (completed_call cs) (calls_in bs)
+    completed_calls_in no_body = refl
+    completed_calls_in (body_then b bs) = ap₂ (λ x y. x ++ y) (completed_calls b) (completed_calls_in bs) ∙ sym (map-append (completed_call cs) (calls b) (calls_in bs))
+
+pub map_in : {A B : Type 0} (f : A → B) (xs : List A) (y : B) → In (map f xs) y → (x : A) × (In xs x × (f x ≡ y))
+map_in f [] y h = absurd h
+map_in f (x ∷ xs) y h = elim h [ inl e ↦ (x, (inl refl, e)) | inr k ↦ (let r = map_in f xs y k in (r.0, (inr r.1.0, r.1.1))) ]
+
+-- ---- classes by name
+
+same_text : (a b : List ℕ) → bytes_eq a b ≡ true → a ≡ b
+same_text a b = (bytes_eq-Decides a b).0
+
+named_by : (x : ClassDef) (cs : List ClassDef) (name : List ℕ) (b : Bool) (c : ClassDef) → bytes_eq x.name.text name ≡ b → (class_named cs name ≡ Some c → In cs c × (c.name.text ≡ name))
+    → (if b then Some x else class_named cs name) ≡ Some c → In (x ∷ cs) c × (c.name.text ≡ name)
+named_by x cs name true c t rest h = let is : x ≡ c = cc in (inl is, ap (λ (y : ClassDef). y.name.text) (sym is) ∙ same_text x.name.text name t)
+named_by x cs name false c t rest h = let k = rest h in (inr k.0, k.1)
+
+-- the class that is found stands there, and has the name
+pub named_in : (cs : List ClassDef) (name : List ℕ) (c : ClassDef) → class_named cs name ≡ Some c → In cs c × (c.name.text ≡ name)
+named_in [] name c h = absurd (cc)
+named_in (x ∷ cs) name c h = named_by x cs name (bytes_eq x.name.text name) c refl (named_in cs name c) h
+
+-- a name that some class has is found
+pub named_some : (cs : List ClassDef) (name : List ℕ) → Among (texts (class_names cs)) name → (c : ClassDef) × (class_named cs name ≡ Some c)
+named_some [] name h = absurd h
+named_some (x ∷ cs) name h = by (bytes_eq x.name.text name) refl (named_some cs name)
+  where
+    by : (b : Bool) → bytes_eq x.name.text name ≡ b → (Among (texts (class_names cs)) name → (c : ClassDef) × (class_named cs name ≡ Some c)) → (c : ClassDef) × ((if b then Some x else class_named cs name) ≡ Some c)
+    by true e more = (x, refl)
+    by false e more = elim h [
+      | inl same ↦ (let clash : false ≡ true = sym e ∙ (bytes_eq-Decides x.name.text name).1 same in absurd (cc))
+      | inr k ↦ more k
+    ]
+
+-- ---- made from the text
+
+module _ (cs : List ClassDef) where
+  pub source_of : (sources : List ClassDef) (made : List Class) → AreClassesOf cs sources made → (m : Class) → In made m → (c : ClassDef) × (In sources c × IsClassOf cs c m)
+  source_of [] [] are m h = absurd h
+  source_of [] (x ∷ made) are m h = absurd are
+  source_of (c ∷ sources) [] are m h = absurd h
+  source_of (c ∷ sources) (x ∷ made) are m h = elim h [
+    | inl e ↦ (c, (inl refl, subst (IsClassOf cs c) e are.0))
+    | inr k ↦ (let r = source_of sources made are.1 m k in (r.0, (inr r.1.0, r.1.1)))
+  ]
+
+  pub made_of : (sources : List ClassDef) (made : List Class) → AreClassesOf cs sources made → (c : ClassDef) → In sources c → (m : Class) × (In made m × IsClassOf cs c m)
+  made_of [] made are c h = absurd h
+  made_of (x ∷ sources) [] are c h = absurd are
+  made_of (x ∷ sources) (m ∷ made) are c h = elim h [
+    | inl e ↦ (m, (inl refl, subst (λ y. IsClassOf cs y m) e are.0))
+    | inr k ↦ (let r = made_of sources made are.1 c k in (r.0, (inr r.1.0, r.1.1)))
+  ]
+
+  pub same_names : (sources : List ClassDef) (made : List Class) → AreClassesOf cs sources made → class_texts made ≡ texts (class_names sources)
+  same_names [] [] are = refl
+  same_names [] (m ∷ made) are = absurd are
+  same_names (c ∷ sources) [] are = absurd are
+  same_names (c ∷ sources) (m ∷ made) are = ap₂ (λ (x : List ℕ) y. x ∷ y) are.0.name (same_names sources made are.1)
+
+  pub entry_of : (sources : List d.EntryDef) (made : List EntryDef) → AreEntriesOf cs sources made → (m : EntryDef) → In made m → (e : d.EntryDef) × (In sources e × IsEntryOf cs e m)
+  entry_of [] [] are m h = absurd h
+  entry_of [] (x ∷ made) are m h = absurd are
+  entry_of (e ∷ sources) [] are m h = absurd h
+  entry_of (e ∷ sources) (x ∷ made) are m h = elim h [
+    | inl same ↦ (e, (inl refl, subst (IsEntryOf cs e) same are.0))
+    | inr k ↦ (let r = entry_of sources made are.1 m k in (r.0, (inr r.1.0, r.1.1)))
+  ]
+
+-- ---- the bodies of the text
+
+abbrev pub class_scoped : ClassDef → Scoped
+class_scoped c = record { params = texts (param_names c.params); body = body c.body.kind }
+
+abbrev pub entry_scoped : d.EntryDef → Scoped
+entry_scoped e = record { params = []; body = body e.body.kind }
+
+pub class_body : (statements : List Statement) (c : ClassDef) → In (classes statements) c → In (bodies statements) (class_scoped c)
+class_body statements c h =
+    let s = in_flat_map (λ (statement : Statement). class statement.kind) statements c h in
+    flat_map_in scoped statements s.0 (class_scoped c) s.1.0 (in_left (map class_scoped (class s.0.kind)) (map entry_scoped (entry s.0)) (class_scoped c) (in_map class_scoped (class s.0.kind) c s.1.1))
+
+pub entry_body : (statements : List Statement) (e : d.EntryDef) → In (entries statements) e → In (bodies statements) (entry_scoped e)
+entry_body statements e h =
+    let s = in_flat_map entry statements e h in
+    flat_map_in scoped statements s.0 (entry_scoped e) s.1.0 (in_right (map class_scoped (class s.0.kind)) (map entry_scoped (entry s.0)) (entry_scoped e) (in_map entry_scoped (entry s.0) e s.1.1))

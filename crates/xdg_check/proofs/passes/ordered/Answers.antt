@@ -1,0 +1,9 @@
+use Rattle.std.proofs.Common.{subst}
+use Rattle.xdg_faults.specs.First.{Tells as TellsFault}
+use Rattle.xdg_check.specs.Answers.{ValueOffends}
+use Rattle.xdg_check.proofs.Assembled.{value_refuses}
+use Rattle.xdg_check.proofs.passes.ordered.Goals as goal
+
+pub returns-in-Some : goal.returns-in-Some
+returns-in-Some c =
+    value_refuses c.args.statements.now c.args.table c.in-Some.fault c.requires.named c.requires.ordered.acyclic (subst (TellsFault (ValueOffends c.args.statements.now c.args.table)) c.in-Some.is c.in_ok-fault.ensures)
