@@ -27,6 +27,7 @@ pub mod DecidingPaths
 pub mod DecidingAsks
 pub mod LiveDecided
 pub mod TriedAsks
+pub mod Verdicts
 pub mod OneList
 pub mod Counted
 pub mod Less
