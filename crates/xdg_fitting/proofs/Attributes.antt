@@ -50,7 +50,7 @@ few_values {X = X} f xs asked same are = by xs (subst AreAttrs (sym same) are) w
   by (x ∷ xs) are (suc k) d within = by xs are.1 k d (omega (arith, within))
 
 -- how many values each has
-abbrev size : Asked → ℕ
+abbrev pub size : Asked → ℕ
 size asked = length asked.attr.values
 
 map_both : (xs ys : List Asked) → map size (xs ++ ys) ≡ map size xs ++ map size ys

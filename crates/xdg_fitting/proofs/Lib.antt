@@ -3,3 +3,6 @@ pub mod Told
 pub mod EdgeLaws
 pub mod Attributes
 pub mod Answered
+pub mod Written
+pub mod Placing
+pub mod Back

@@ -1,3 +1,4 @@
+pub mod Blocks
 pub mod Fitted
 pub mod Fits
 pub mod Names

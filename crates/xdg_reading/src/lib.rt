@@ -1,4 +1,4 @@
-//! Analysis texts read back: the lines of a text, and the analysis of a problem that they show.
+//! Analysis texts read back, line by line.
 //!
 //! An analysis has one spelling in each of the two texts, and every other text is refused at the first line that offends.
 #![tactic(auto)]
@@ -10,7 +10,9 @@ mod stage;
 mod texts;
 mod words;
 
+pub use line::Line;
 pub use reading::read;
+pub use stage::Stage;
 pub use texts::{AnalysisText, AttrLine, EdgeLine};
 
 #[cfg(test)]

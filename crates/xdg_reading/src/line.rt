@@ -20,9 +20,9 @@ const MOST_WORDS: u64 = 128;
 /// The greatest number of an entry, and the greatest of a count.
 const GREATEST: u64 = 4_294_967_295;
 
-/// A line of an analysis text.
+/// A line of an analysis text, of which the contracts speak. Its nodes and entries count from 0.
 #[derive(Debug, Drop)]
-pub(crate) enum Line {
+pub enum Line {
     /// The first line of text 2.
     Version,
     /// The line with the number of the analysis.

@@ -5,9 +5,9 @@ ghost use Rattle.xdg_reading.specs.Stages.{begins, numbered, counted, after_word
 
 use crate::line::Line;
 
-/// How far a text has been read.
+/// How far a text has been read, of which the contracts speak.
 #[derive(Clone, Copy, Debug)]
-pub(crate) enum Stage {
+pub enum Stage {
     Start,
     /// Behind the first line of text 2.
     Second,
