@@ -78,7 +78,7 @@ word_told cs ws es at (this_word c more w words x entries lacks) = ap (λ t. con
 word_told cs ws es at (later_word c more w words x entries place has later) = ap (λ t. cond t (words_fault more words entries) (Some w.at)) (entry_there c x has) ∙ word_told more words entries place later
 
 -- values
-texts_same : (xs ys : List (List ℕ)) → same_texts xs ys ≡ true → xs ≡ ys
+pub texts_same : (xs ys : List (List ℕ)) → same_texts xs ys ≡ true → xs ≡ ys
 texts_same [] [] e = refl
 texts_same [] (y ∷ ys) e = cc
 texts_same (x ∷ xs) [] e = cc

@@ -12,3 +12,6 @@ mod words;
 
 pub use fitting::fit;
 pub use laws::reads_back;
+
+#[cfg(test)]
+mod tests;
