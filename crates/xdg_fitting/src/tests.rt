@@ -114,7 +114,6 @@ fn problem(alloc: Global) -> Result<Problem, AllocError>
     }))
 }
 
-
 /// Whether two sentences have the same words.
 fn same_words(xs: &[SentenceWord], ys: &[SentenceWord]) -> bool
     ensures { result ≡ same_texts (map (λ (w : words.SentenceWord). w.text) xs.now) (map (λ (w : words.SentenceWord). w.text) ys.now) }
