@@ -1,0 +1,119 @@
+-- What a condition asks of a tuple, from what is read and tested.
+use Rattle.std.proofs.Common.{◌≡◌, ℕ, ◌+◌, ◌<◌, ◌≤◌, ◌↔◌, inl, inr, Bool, true, false, List, [], ◌∷◌, length, get_or, map, refl, ap, ap₂, sym, ◌∙◌, subst, arith}
+use Rattle.std.specs.Prelude.{IsTrue, not, Contains, AllPairs, slice_index}
+use Rattle.std.proofs.lemmas.Bool.{cases_eq, false≢true}
+use Rattle.std.proofs.lemmas.List.{get_or_default, get_or-map, length-map}
+use Rattle.xdg_base.specs.declared.ids.LabelId.{LabelId}
+use Rattle.xdg_problem.specs.declared.analysis.Edge.{Edge}
+use Rattle.xdg_problem.specs.declared.conditions.Condition.{Condition}
+use Rattle.xdg_problem.specs.declared.parts.Group.{Group}
+use Rattle.xdg_problem.specs.declared.parts.Parts.{Parts}
+use Rattle.xdg_problem.specs.Arguments.{attr_place}
+use Rattle.xdg_problem.specs.Asking.{IsBetween, IsInItem}
+use Rattle.xdg_problem.specs.Features.{row}
+use Rattle.xdg_problem.specs.Paths.{edges_on, Above, AboveByLast, IsDaughter, IsDaughterBy}
+use Rattle.xdg_judge.specs.declared.paths.Way.TheVariants as ways
+use Rattle.xdg_judge.specs.Joining.{entry, IsTable, IsJoined}
+use Rattle.xdg_judge.proofs.Ways.{last_exact, through}
+
+pub on_same : (dim d : ℕ) (es edges : List Edge) → dim ≡ d → es ≡ edges → edges_on dim es ≡ edges_on d edges
+on_same dim d es edges e f = ap (λ z. edges_on z es) e ∙ ap (λ z. edges_on d z) f
+
+pub row_same : (group : Group) (v w c d a l m : ℕ) (xs : List ℕ) → xs ≡ row group v c a l → v ≡ w → c ≡ d → l ≡ m → xs ≡ row group w d a m
+row_same group v w c d a l m xs h e f g = h ∙ (ap (λ z. row group z c a l) e ∙ (ap (λ z. row group w z a l) f ∙ ap (λ z. row group w d a z) g))
+
+pub value_same : (parts : Parts) (attrs : List ℕ) (dim d node a b r : ℕ) → r ≡ slice_index attrs (attr_place parts dim node a) → dim ≡ d → a ≡ b → r ≡ slice_index attrs (attr_place parts d node b)
+value_same parts attrs dim d node a b r h e f = h ∙ (ap (λ z. slice_index attrs (attr_place parts z node a)) e ∙ ap (λ z. slice_index attrs (attr_place parts d node z)) f)
+
+-- what cannot follow holds only where its premise fails
+denied : (b : Bool) (D X : Type 0) → IsTrue b ↔ D → (X → ⊥) → IsTrue (not b) ↔ (D → X)
+denied true D X h n = (λ t. absurd (false≢true t), λ f. absurd (n (f (h.0 refl))))
+denied false D X h n = (λ t d. absurd (false≢true (h.1 d)), λ f. refl)
+
+-- a table that says no
+pub not_above : (edges : List Edge) (table : List (List Bool)) (u v : ℕ) → IsTable edges table → u < 128 → v < 128 → false ≡ entry table u v → Above edges u v → ⊥
+not_above edges table u v is l m none a = false≢true (none ∙ (is u v l m).1 a)
+
+pub between_end : (b : Bool) (table : List (List Bool)) (E F G : List Edge) (u v w : ℕ) → E ≡ G → F ≡ G → IsTable F table → u < 128 → w < 128 → IsBetween u v w → false ≡ entry table u w → IsTrue b ↔ IsDaughter E u v → IsTrue (not b) ↔ (IsDaughter G u v → IsBetween u v w → Above G u w)
+between_end b table E F G u v w e f is l m between none h =
+    denied b (IsDaughter G u v) (IsBetween u v w → Above G u w) (subst (λ z. IsTrue b ↔ IsDaughter z u v) e h) (λ g. not_above G table u w (subst (λ z. IsTable z table) f is) l m none (g between))
+
+pub agree_end : (b : Bool) (E G : List Edge) (xs ys : List ℕ) (u l v m wanted value first second : ℕ) → E ≡ G → Contains xs m → xs ≡ ys → m ≡ l → wanted ≡ first → value ≡ second → (wanted ≡ value → ⊥) → IsTrue b ↔ IsDaughterBy E u l v → IsTrue (not b) ↔ (IsDaughterBy G u l v → Contains ys l → first ≡ second)
+agree_end b E G xs ys u l v m wanted value first second e c f g i j n h =
+    denied b (IsDaughterBy G u l v) (Contains ys l → first ≡ second) (subst (λ z. IsTrue b ↔ IsDaughterBy z u l v) e h) (λ k. n (i ∙ (k (subst (λ z. Contains z l) f (subst (Contains xs) g c)) ∙ sym j)))
+
+pub govern_end : (b : Bool) (E G : List Edge) (xs ys : List ℕ) (u l v m value second : ℕ) → E ≡ G → xs ≡ ys → (length xs ≡ 0 → ⊥) → m ≡ value → value ≡ second → (Contains xs m → ⊥) → IsTrue b ↔ IsDaughterBy E u l v → IsTrue (not b) ↔ (IsDaughterBy G u l v → 0 < length ys → Contains ys second)
+govern_end b E G xs ys u l v m value second e f some g i n h =
+    denied b (IsDaughterBy G u l v) (0 < length ys → Contains ys second) (subst (λ z. IsTrue b ↔ IsDaughterBy z u l v) e h)
+    (λ k. n (subst (λ z. Contains z m) (sym f) (subst (Contains ys) (sym (g ∙ i)) (k (let q = ap length f in let r : length xs ≡ 0 → ⊥ = some in omega (arith, q, r))))))
+
+pub blocked_end : (b : Bool) (table : List (List Bool)) (E F G H : List Edge) (xs ys : List ℕ) (w v : ℕ) → E ≡ G → F ≡ H → IsTable F table → w < 128 → v < 128 → xs ≡ ys → false ≡ entry table w v → IsTrue b ↔ IsJoined ways.Last E xs w v → IsTrue (not b) ↔ (AboveByLast G w ys v → Above H w v)
+blocked_end b table E F G H xs ys w v e f is l m g none h =
+    denied b (AboveByLast G w ys v) (Above H w v) (subst (λ z. IsTrue b ↔ AboveByLast G w z v) g (subst (λ z. IsTrue b ↔ AboveByLast z w xs v) e (through h (last_exact E xs w v))))
+    (not_above H table w v (subst (λ z. IsTable z table) f is) l m none)
+
+-- the labels of an order, one after another: whether x stands in an item of an earlier one, and none with y comes later
+pub record Ordering (InX InY : ℕ → Type 0) (labels : List LabelId) (i : ℕ) (seen : Bool) : Type 0 where
+  pub some : seen ≡ true → (j : ℕ) × (e : LabelId) × (j < i) × (e ≡ get_or labels j e) × InX e.0
+  pub none : seen ≡ false → (j : ℕ) (d : LabelId) → j < i → InX (get_or labels j d).0 → ⊥
+  pub kept : (j k : ℕ) (d : LabelId) → j < k → k < i → InX (get_or labels j d).0 → InY (get_or labels k d).0 → ⊥
+
+pub ordering_start : (InX InY : ℕ → Type 0) (labels : List LabelId) → Ordering InX InY labels 0 false
+ordering_start InX InY labels = record { some = λ e. absurd (false≢true e); none = λ e j d l. absurd (omega (arith, l)); kept = λ j k d l m. absurd (omega (arith, m)) }
+
+more_kept : (InX InY : ℕ → Type 0) (labels : List LabelId) (i : ℕ) (seen : Bool) (label : LabelId) → i < length labels → label ≡ get_or labels i label → Ordering InX InY labels i seen → (seen ≡ true → InY label.0 → ⊥) → (j k : ℕ) (d : LabelId) → j < k → k < i + 1 → InX (get_or labels j d).0 → InY (get_or labels k d).0 → ⊥
+more_kept InX InY labels i true label l at o n j k d m p x y = elim (cases_eq k i) [
+  | inl e ↦ n refl (subst (λ (z : LabelId). InY z.0) (sym (at ∙ get_or_default labels i label d l)) (subst (λ z. InY (get_or labels z d).0) e y))
+  | inr other ↦ o.kept j k d m (omega (arith, p, other)) x y
+]
+more_kept InX InY labels i false label l at o n j k d m p x y = elim (cases_eq k i) [
+  | inl e ↦ o.none refl j d (omega (arith, m, e)) x
+  | inr other ↦ o.kept j k d m (omega (arith, p, other)) x y
+]
+
+pub ordering_seen : (InX InY : ℕ → Type 0) (labels : List LabelId) (i : ℕ) (seen : Bool) (label : LabelId) → i < length labels → label ≡ get_or labels i label → Ordering InX InY labels i seen → (seen ≡ true → InY label.0 → ⊥) → InX label.0 → Ordering InX InY labels (i + 1) true
+ordering_seen InX InY labels i seen label l at o n x = record {
+  some = λ e. (i, label, omega arith, at, x);
+  none = λ e. absurd (false≢true (sym e));
+  kept = more_kept InX InY labels i seen label l at o n;
+}
+
+pub ordering_same : (InX InY : ℕ → Type 0) (labels : List LabelId) (i : ℕ) (seen : Bool) (label : LabelId) → i < length labels → label ≡ get_or labels i label → Ordering InX InY labels i seen → (seen ≡ true → InY label.0 → ⊥) → (InX label.0 → ⊥) → Ordering InX InY labels (i + 1) seen
+ordering_same InX InY labels i seen label l at o n x = record {
+  some = λ e. let h = o.some e in (h.0, h.1, (let m = h.2 in omega (arith, m)), h.3, h.4);
+  none = λ e j d m. elim (cases_eq j i) [
+    | inl s ↦ λ y. x (subst (λ (z : LabelId). InX z.0) (sym (at ∙ get_or_default labels i label d l)) (subst (λ z. InX (get_or labels z d).0) s y))
+    | inr other ↦ o.none e j d (omega (arith, m, other))
+  ];
+  kept = more_kept InX InY labels i seen label l at o n;
+}
+
+pub ordering_end : (InX InY : ℕ → Type 0) (labels : List LabelId) (i : ℕ) (seen : Bool) → Ordering InX InY labels i seen → length labels ≤ i → IsTrue true ↔ AllPairs (λ a b. InX a.0 → InY b.0 → ⊥) labels
+ordering_end InX InY labels i seen o l = (λ t j k d m p. o.kept j k d m (omega (arith, p, l)), λ a. refl)
+
+pub ordering_broken : (InX InY : ℕ → Type 0) (labels : List LabelId) (i : ℕ) (seen : Bool) (label : LabelId) → i < length labels → label ≡ get_or labels i label → Ordering InX InY labels i seen → seen ≡ true → InY label.0 → IsTrue false ↔ AllPairs (λ a b. InX a.0 → InY b.0 → ⊥) labels
+ordering_broken InX InY labels i seen label l at o s y = (
+  λ t. absurd (false≢true t),
+  λ a. let h = o.some s in absurd (a h.0 i h.1 h.2 l (subst (λ (z : LabelId). InX z.0) h.3 h.4) (subst (λ (z : LabelId). InY z.0) (at ∙ get_or_default labels i label h.1 l) y)),
+)
+
+abbrev pub zero_label : LabelId
+zero_label = record { 0 = 0 }
+
+-- where y does not stand to the right of x, the order allows no two such labels
+pub order_end : (b : Bool) (InX InY : ℕ → Type 0) (labels : List LabelId) (x y : ℕ) → (x < y → ⊥) → IsTrue b ↔ AllPairs (λ (e l : LabelId). InX e.0 → InY l.0 → ⊥) labels → IsTrue b ↔ AllPairs (λ e l. InX e → InY l → x < y) (map (λ (label : LabelId). label.0) labels)
+order_end b InX InY labels x y n h = (
+  λ t j k d m p xs ys. let q : k < length labels = (let r = length-map labels (λ (label : LabelId). label.0) in omega (arith, p, r)) in
+      absurd (h.0 t j k zero_label m q (subst InX (get_or-map (λ (label : LabelId). label.0) labels j zero_label d (omega (arith, m, q))) xs) (subst InY (get_or-map (λ (label : LabelId). label.0) labels k zero_label d q) ys)),
+  λ a. h.1 (λ j k d m p xs ys. let q : k < length (map (λ (label : LabelId). label.0) labels) = (let r = length-map labels (λ (label : LabelId). label.0) in omega (arith, p, r)) in
+      n (a j k 0 m q (subst InX (sym (get_or-map (λ (label : LabelId). label.0) labels j d 0 (omega (arith, m, p)))) xs) (subst InY (sym (get_or-map (λ (label : LabelId). label.0) labels k d 0 p)) ys))),
+)
+
+pub ordered_same : (b : Bool) (E : List Edge) (yields wanted : Bool) (own value u x y : ℕ) (labels order : List LabelId) → yields ≡ wanted → own ≡ value → labels ≡ order → IsTrue b ↔ AllPairs (λ (e l : LabelId). IsInItem E (yields ≡ true) own u e.0 x → IsInItem E (yields ≡ true) own u l.0 y → ⊥) labels → IsTrue b ↔ AllPairs (λ (e l : LabelId). IsInItem E (wanted ≡ true) value u e.0 x → IsInItem E (wanted ≡ true) value u l.0 y → ⊥) order
+ordered_same b E yields wanted own value u x y labels order f g i h =
+    subst (λ z. IsTrue b ↔ AllPairs (λ (e l : LabelId). IsInItem E (wanted ≡ true) value u e.0 x → IsInItem E (wanted ≡ true) value u l.0 y → ⊥) z) i
+    (subst (λ z. IsTrue b ↔ AllPairs (λ (e l : LabelId). IsInItem E (wanted ≡ true) z u e.0 x → IsInItem E (wanted ≡ true) z u l.0 y → ⊥) labels) g
+    (subst (λ z. IsTrue b ↔ AllPairs (λ (e l : LabelId). IsInItem E (z ≡ true) own u e.0 x → IsInItem E (z ≡ true) own u l.0 y → ⊥) labels) f h))
+
+pub arm : (P : Condition → Type 0) (condition q : Condition) → condition ≡ q → P q → P condition
+arm P condition q is h = subst P (sym is) h

@@ -1,0 +1,105 @@
+-- From what a search finds to verdicts.
+use Rattle.std.proofs.Common.{◌≡◌, ◌≢◌, ℕ, ◌+◌, ◌<◌, ◌≤◌, ◌↔◌, inl, inr, Bool, true, false, List, [], ◌∷◌, ◌++◌, length, take, get_or, refl, ap, sym, ◌∙◌, subst, arith, cond}
+use Rattle.std.specs.Prelude.{IsTrue, All, slice_index, slice_index_or}
+use Rattle.std.specs.List.{AllZip}
+use Rattle.std.proofs.lemmas.Bool.{cases_eq, false≢true}
+use Rattle.std.proofs.lemmas.List.{take_all, take_more, get_or-take, get_or_default, length-take}
+use Rattle.std.proofs.lemmas.List.Elements.{All-more}
+use Rattle.xdg_listing.specs.Order.{AtMost}
+use Rattle.xdg_problem.specs.declared.analysis.Analysis.{Analysis}
+use Rattle.xdg_problem.specs.declared.conditions.Condition.{Condition}
+use Rattle.xdg_problem.specs.declared.conditions.Condition.TheVariants as conditions
+use Rattle.xdg_problem.specs.declared.parts.Group.{Group}
+use Rattle.xdg_problem.specs.declared.parts.Parts.{Parts}
+use Rattle.xdg_problem.specs.declared.parts.Principle.{Principle}
+use Rattle.xdg_problem.specs.Conditions.{conditions_of, conditions_for, IsTuple, root_count}
+use Rattle.xdg_problem.specs.Places.{nodes}
+use Rattle.xdg_problem.specs.Relations.{IsKept, Relation, Breaks, IsFirstBroken}
+use Rattle.xdg_problem.specs.Vectors.{entry_places}
+use Rattle.xdg_judge.specs.Searching.{tuple_for, second_size, third_size, FirstOne, FirstTwo, FirstThree}
+use Rattle.xdg_judge.specs.Verdicts.{AsksHere, IsKeptHere, IsLeastBroken, IsVerdict}
+use Rattle.xdg_judge.specs.declared.verdict.Verdict.{Verdict}
+use Rattle.xdg_judge.proofs.Least.{kept_of, least_of}
+
+-- what holds of each number below one, and of the one
+
+pub less_more : (Q : ℕ → Type 0) (i : ℕ) → ((k : ℕ) → k < i → Q k) → Q i → (k : ℕ) → k < i + 1 → Q k
+less_more Q i h q k l = elim (cases_eq k i) [ inl e ↦ subst Q (sym e) q | inr ne ↦ h k (omega (arith, l, ne)) ]
+
+pub less_all : (Q : ℕ → Type 0) (i n : ℕ) → ((k : ℕ) → k < i → Q k) → n ≤ i → (k : ℕ) → k < n → Q k
+less_all Q i n h le k l = h k (omega (arith, l, le))
+
+-- the number of nodes without mother
+
+pub roots_kept : (parts : Parts) (group : Group) (analysis : Analysis) (count : ℕ) → count ≡ root_count parts group analysis.edges → count ≡ 1 → IsKeptHere parts group analysis conditions.Roots
+roots_kept parts group analysis count e one tuple is = ap (λ t. slice_index t 0) is ∙ (sym e ∙ one)
+
+pub roots_broken : (parts : Parts) (group : Group) (analysis : Analysis) (count : ℕ) → count ≡ root_count parts group analysis.edges → count ≢ 1 → IsLeastBroken parts group analysis conditions.Roots (count ∷ [])
+roots_broken parts group analysis count e other = record {
+  breaks = record { within = ap (λ n. n ∷ []) e; fails = λ one. other one };
+  least = λ t b. inl (ap (λ n. n ∷ []) e ∙ sym b.within);
+}
+
+-- a condition whose triples all pass, and one with a first triple that fails
+
+pub condition_kept : (parts : Parts) (group : Group) (analysis : Analysis) (condition : Condition) (size middle last : ℕ) → (condition ≡ conditions.Roots → ⊥) → size ≡ nodes parts → middle ≡ second_size condition parts group → last ≡ third_size condition parts group → ((a : ℕ) → a < size → (b : ℕ) → b < middle → (c : ℕ) → c < last → AsksHere parts group analysis condition (tuple_for condition a b c)) → IsKeptHere parts group analysis condition
+condition_kept parts group analysis condition size middle last no_roots e f g h =
+    kept_of condition parts group analysis.edges (AsksHere parts group analysis condition) no_roots
+    (λ a l b m c n. h a (omega (arith, l, e)) b (omega (arith, m, f)) c (omega (arith, n, g)))
+
+pub condition_broken : (parts : Parts) (group : Group) (analysis : Analysis) (condition : Condition) (size middle last u x y : ℕ) → (condition ≡ conditions.Roots → ⊥) → size ≡ nodes parts → middle ≡ second_size condition parts group → last ≡ third_size condition parts group → FirstThree size middle last (λ a b c. AsksHere parts group analysis condition (tuple_for condition a b c)) u x y → IsLeastBroken parts group analysis condition (tuple_for condition u x y)
+condition_broken parts group analysis condition size middle last u x y no_roots e f g found =
+    let at = least_of condition parts group analysis.edges (AsksHere parts group analysis condition) u x y no_roots
+    (subst (λ z. FirstThree (nodes parts) (second_size condition parts group) z (λ a b c. AsksHere parts group analysis condition (tuple_for condition a b c)) u x y) g
+    (subst (λ z. FirstThree (nodes parts) z last (λ a b c. AsksHere parts group analysis condition (tuple_for condition a b c)) u x y) f
+    (subst (λ z. FirstThree z middle last (λ a b c. AsksHere parts group analysis condition (tuple_for condition a b c)) u x y) e found))) in
+    record {
+      breaks = record { within = at.0; fails = found.here.here.fails };
+      least = λ other b. at.1 other b.within b.fails;
+    }
+
+-- the conditions of a principle
+
+pub named : (group : Group) (q : Principle) (xs : List Condition) → group.principle ≡ q → xs ≡ conditions_for q group.truths → xs ≡ conditions_of group
+named group q xs e h = h ∙ sym (ap (λ p. conditions_for p group.truths) e)
+
+-- a broken condition behind kept ones is the first broken
+
+pub first_broken : (parts : Parts) (group : Group) (analysis : Analysis) (list : List Condition) (i : ℕ) (condition : Condition) (tuple : List ℕ) → list ≡ conditions_of group → i < length list → condition ≡ get_or list i condition → All (IsKeptHere parts group analysis) (take i list) → IsLeastBroken parts group analysis condition tuple → IsFirstBroken parts group analysis condition tuple
+first_broken parts group analysis list i condition tuple e l at kept least = record {
+  place = i;
+  within = subst (λ z. i < length z) e l;
+  is = subst (λ z. get_or z i condition ≡ condition) e (sym at);
+  before = λ k m. subst (λ z. IsKeptHere parts group analysis (get_or z k condition)) e (subst (IsKeptHere parts group analysis) (get_or-take i list k condition m) (kept k condition (taken list i k l m)));
+  breaks = least.breaks;
+  least = least.least;
+} where
+  taken : (xs : List Condition) (i k : ℕ) → i < length xs → k < i → k < length (take i xs)
+  taken xs i k l m = let n = length-take i xs in omega (arith, l, m, n)
+
+pub all_kept : (parts : Parts) (group : Group) (analysis : Analysis) (list : List Condition) (i : ℕ) → list ≡ conditions_of group → All (IsKeptHere parts group analysis) (take i list) → length list ≤ i → Relation parts group analysis
+all_kept parts group analysis list i e kept l = subst (All (IsKeptHere parts group analysis)) (take_all i list l ∙ e) kept
+
+-- a principle use with a broken condition isn't satisfied
+
+pub not_related : (parts : Parts) (group : Group) (analysis : Analysis) (condition : Condition) (tuple : List ℕ) → IsFirstBroken parts group analysis condition tuple → Relation parts group analysis → ⊥
+not_related parts group analysis condition tuple b r = b.breaks.fails (subst (IsKeptHere parts group analysis) b.is (r b.place condition b.within) tuple b.breaks.within)
+
+pub zip_push : {A B : Type 0} (R : A → B → Type 0) (xs : List A) (ys : List B) (x : A) (y : B) → AllZip R xs ys → R x y → AllZip R (xs ++ x ∷ []) (ys ++ y ∷ [])
+zip_push R [] [] x y z r = (r, tt)
+zip_push R [] (b ∷ ys) x y z r = absurd z
+zip_push R (a ∷ xs) [] x y z r = absurd z
+zip_push R (a ∷ xs) (b ∷ ys) x y z r = (z.0, zip_push R xs ys x y z.1 r)
+
+pub zip_more : (parts : Parts) (analysis : Analysis) (groups : List Group) (i : ℕ) (g : Group) (vs : List Verdict) (v : Verdict) → i < length groups → g ≡ get_or groups i g → AllZip (IsVerdict parts analysis) (take i groups) vs → IsVerdict parts analysis g v → AllZip (IsVerdict parts analysis) (take (i + 1) groups) (vs ++ v ∷ [])
+zip_more parts analysis groups i g vs v l at z r =
+    subst (λ q. AllZip (IsVerdict parts analysis) q (vs ++ v ∷ [])) (sym (take_more groups i g l))
+    (zip_push (IsVerdict parts analysis) (take i groups) vs (get_or groups i g) v z (subst (λ q. IsVerdict parts analysis q v) at r))
+
+pub zip_end : (parts : Parts) (analysis : Analysis) (groups : List Group) (i : ℕ) (vs : List Verdict) → length groups ≤ i → AllZip (IsVerdict parts analysis) (take i groups) vs → AllZip (IsVerdict parts analysis) groups vs
+zip_end parts analysis groups i vs l z = subst (λ q. AllZip (IsVerdict parts analysis) q vs) (take_all i groups l) z
+
+pub not_holds : (told parts : Parts) (groups : List Group) (i : ℕ) (g given : Group) (analysis : Analysis) (condition : Condition) (tuple : List ℕ) → told ≡ parts → groups ≡ told.groups → i < length parts.groups → g ≡ get_or groups i g → IsFirstBroken told g analysis condition tuple → IsTrue false ↔ Relation parts (get_or parts.groups i given) analysis
+not_holds told parts groups i g given analysis condition tuple same e l at b =
+    let is : g ≡ get_or parts.groups i given = at ∙ (ap (λ z. get_or z i g) e ∙ (ap (λ (z : Parts). get_or z.groups i g) same ∙ get_or_default parts.groups i g given l)) in
+    (λ t. absurd (false≢true t), λ r. absurd (not_related told g analysis condition tuple b (subst (λ z. Relation z g analysis) (sym same) (subst (λ z. Relation parts z analysis) (sym is) r))))

@@ -1,0 +1,14 @@
+pub mod Counted
+pub mod Walks
+pub mod ReadLists
+pub mod Tallies
+pub mod Widening
+pub mod Scanning
+pub mod Reading
+pub mod Tables
+pub mod Least
+pub mod Ways
+pub mod Viewing
+pub mod Judging
+pub mod Asked
+pub mod Guards

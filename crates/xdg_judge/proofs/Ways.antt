@@ -1,0 +1,117 @@
+-- Edges that join two nodes, and the words of the principles.
+use Rattle.std.proofs.Common.{◌≡◌, ℕ, ◌<◌, ◌⊎◌, ◌↔◌, inl, inr, Bool, true, List, [], ◌∷◌, ◌++◌, length, refl, ap, sym, ◌∙◌, subst, arith, zero, suc}
+use Rattle.std.specs.Prelude.{IsTrue, All, Contains}
+use Rattle.std.specs.List.{Any}
+use Rattle.std.proofs.lemmas.List.Elements.{All-nil, All-cons, All-head, All-tail, All-append, All-contains_itself}
+use Rattle.xdg_problem.specs.declared.analysis.Edge.{Edge}
+use Rattle.xdg_problem.specs.declared.parts.Principle.{Principle}
+use Rattle.xdg_problem.specs.declared.parts.Principle.TheVariants as principles
+use Rattle.xdg_problem.specs.Asking.{IsInItem, IsLinked}
+use Rattle.xdg_problem.specs.Paths.{Leads, Above, AboveByFirst, AboveByLast, IsDaughterBy, IsDaughterByAny, AreSistersByAny}
+use Rattle.xdg_judge.specs.declared.paths.Way.TheVariants as ways
+use Rattle.xdg_judge.specs.Joining.{IsJoined}
+use Rattle.xdg_judge.proofs.Walks.{leads_append}
+
+first_joined : (edges : List Edge) (labels : List ℕ) (u v : ℕ) → IsJoined ways.First edges labels u v → AboveByFirst edges u labels v
+first_joined edges labels u v (k, e, l, at, (label, (m, inl d))) = record { first = e; rest = []; label = label; along = All-cons (Contains edges) e [] (k, l, at) (All-nil (Contains edges)); leads = (m, d) }
+first_joined edges labels u v (k, e, l, at, (label, (m, inr a))) = record { first = e; rest = a.path; label = label; along = All-cons (Contains edges) e a.path (k, l, at) a.along; leads = (m, a.leads) }
+
+joined_first_on : (edges : List Edge) (e : Edge) (rest : List Edge) (v : ℕ) → All (Contains edges) rest → Leads e.daughter.0 rest v → (e.daughter.0 ≡ v) ⊎ Above edges e.daughter.0 v
+joined_first_on edges e [] v along leads = inl leads
+joined_first_on edges e (f ∷ rest) v along leads = inr (record { path = f ∷ rest; some = omega arith; along = along; leads = leads })
+
+joined_first : (edges : List Edge) (labels : List ℕ) (u v : ℕ) → AboveByFirst edges u labels v → IsJoined ways.First edges labels u v
+joined_first edges labels u v a =
+    let c = All-head (Contains edges) a.first a.rest a.along in
+    (c.0, a.first, c.1, c.2, (a.label, (a.leads.0, joined_first_on edges a.first a.rest v (All-tail (Contains edges) a.first a.rest a.along) a.leads.1)))
+
+last_joined : (edges : List Edge) (labels : List ℕ) (u v : ℕ) → IsJoined ways.Last edges labels u v → AboveByLast edges u labels v
+last_joined edges labels u v (k, e, l, at, (label, (inl m, d))) = record { front = []; last = e; label = label; along = All-cons (Contains edges) e [] (k, l, at) (All-nil (Contains edges)); leads = (m, d) }
+last_joined edges labels u v (k, e, l, at, (label, (inr a, d))) = record {
+  front = a.path;
+  last = e;
+  label = label;
+  along = All-append (Contains edges) a.path (e ∷ []) a.along (All-cons (Contains edges) e [] (k, l, at) (All-nil (Contains edges)));
+  leads = leads_append a.path (e ∷ []) u e.mother.0 v a.leads (refl, d);
+}
+
+split_leads : (front : List Edge) (e : Edge) (u v : ℕ) → Leads u (front ++ e ∷ []) v → Leads u front e.mother.0 × (e.daughter.0 ≡ v)
+split_leads [] e u v (m, d) = (sym m, d)
+split_leads (f ∷ front) e u v (m, leads) = let r = split_leads front e f.daughter.0 v leads in ((m, r.0), r.1)
+
+split_along : (P : Edge → Type 0) (front : List Edge) (e : Edge) → All P (front ++ e ∷ []) → All P front × P e
+split_along P [] e all = (All-nil P, All-head P e [] all)
+split_along P (f ∷ front) e all = let r = split_along P front e (All-tail P f (front ++ e ∷ []) all) in (All-cons P f front (All-head P f (front ++ e ∷ []) all) r.0, r.1)
+
+joined_last_on : (edges : List Edge) (front : List Edge) (u m : ℕ) → All (Contains edges) front → Leads u front m → (m ≡ u) ⊎ Above edges u m
+joined_last_on edges [] u m along leads = inl (sym leads)
+joined_last_on edges (f ∷ front) u m along leads = inr (record { path = f ∷ front; some = omega arith; along = along; leads = leads })
+
+joined_last : (edges : List Edge) (labels : List ℕ) (u v : ℕ) → AboveByLast edges u labels v → IsJoined ways.Last edges labels u v
+joined_last edges labels u v a =
+    let along = split_along (Contains edges) a.front a.last a.along in
+    let leads = split_leads a.front a.last u v a.leads in
+    (along.1.0, a.last, along.1.1, along.1.2, (a.label, (joined_last_on edges a.front u a.last.mother.0 along.0 leads.0, leads.1)))
+
+pub last_exact : (edges : List Edge) (labels : List ℕ) (u v : ℕ) → IsJoined ways.Last edges labels u v ↔ AboveByLast edges u labels v
+last_exact edges labels u v = (last_joined edges labels u v, joined_last edges labels u v)
+
+first_exact : (edges : List Edge) (labels : List ℕ) (u v : ℕ) → IsJoined ways.First edges labels u v ↔ AboveByFirst edges u labels v
+first_exact edges labels u v = (first_joined edges labels u v, joined_first edges labels u v)
+
+straight_exact : (edges : List Edge) (labels : List ℕ) (u v : ℕ) → IsJoined ways.Straight edges labels u v ↔ IsDaughterByAny edges u labels v
+straight_exact edges labels u v = (λ (k, e, l, at, (label, (m, d))). (k, e, l, at, (m, label, d)), λ (k, e, l, at, (m, label, d)). (k, e, l, at, (label, (m, d))))
+
+sister_exact : (edges : List Edge) (labels : List ℕ) (u v : ℕ) → IsJoined ways.Sister edges labels u v ↔ AreSistersByAny edges u labels v
+sister_exact edges labels u v = (
+  λ (k, e, l, at, (label, ((k2, f, l2, at2, (m, d)), ev))). (k2, f, l2, at2, (d, (k, e, l, at, (sym m, label, ev)))),
+  λ (k2, f, l2, at2, (d, (k, e, l, at, (m, label, ev)))). (k, e, l, at, (label, ((k2, f, l2, at2, (sym m, d)), ev))),
+)
+
+pub through : {A B : Type 0} {b : Bool} → IsTrue b ↔ A → A ↔ B → IsTrue b ↔ B
+through f g = (λ t. g.0 (f.0 t), λ x. f.1 (g.1 x))
+
+-- what the linking principles ask, one for each
+pub linked_end : (p : Principle) (b : Bool) (edges : List Edge) (labels : List ℕ) (u v : ℕ) → p ≡ principles.LinkingEnd → IsTrue b ↔ IsJoined ways.Into edges labels u v → IsTrue b ↔ IsLinked p edges u labels v
+linked_end p b edges labels u v is h = subst (λ q. IsTrue b ↔ IsLinked q edges u labels v) (sym is) h
+
+pub linked_daughter : (p : Principle) (b : Bool) (edges : List Edge) (labels : List ℕ) (u v : ℕ) → p ≡ principles.LinkingDaughter → IsTrue b ↔ IsJoined ways.Straight edges labels u v → IsTrue b ↔ IsLinked p edges u labels v
+linked_daughter p b edges labels u v is h = subst (λ q. IsTrue b ↔ IsLinked q edges u labels v) (sym is) (through h (straight_exact edges labels u v))
+
+pub linked_mother : (p : Principle) (b : Bool) (edges : List Edge) (labels : List ℕ) (u v : ℕ) → p ≡ principles.LinkingMother → IsTrue b ↔ IsJoined ways.Straight edges labels v u → IsTrue b ↔ IsLinked p edges u labels v
+linked_mother p b edges labels u v is h = subst (λ q. IsTrue b ↔ IsLinked q edges u labels v) (sym is) (through h (straight_exact edges labels v u))
+
+pub linked_below : (p : Principle) (b : Bool) (edges : List Edge) (labels : List ℕ) (u v : ℕ) → p ≡ principles.LinkingBelowStart → IsTrue b ↔ IsJoined ways.First edges labels u v → IsTrue b ↔ IsLinked p edges u labels v
+linked_below p b edges labels u v is h = subst (λ q. IsTrue b ↔ IsLinked q edges u labels v) (sym is) (through h (first_exact edges labels u v))
+
+pub linked_above : (p : Principle) (b : Bool) (edges : List Edge) (labels : List ℕ) (u v : ℕ) → p ≡ principles.LinkingAboveStart → IsTrue b ↔ IsJoined ways.First edges labels v u → IsTrue b ↔ IsLinked p edges u labels v
+linked_above p b edges labels u v is h = subst (λ q. IsTrue b ↔ IsLinked q edges u labels v) (sym is) (through h (first_exact edges labels v u))
+
+pub linked_sisters : (p : Principle) (b : Bool) (edges : List Edge) (labels : List ℕ) (u v : ℕ) → p ≡ principles.LinkingSisters → IsTrue b ↔ IsJoined ways.Sister edges labels u v → IsTrue b ↔ IsLinked p edges u labels v
+linked_sisters p b edges labels u v is h = subst (λ q. IsTrue b ↔ IsLinked q edges u labels v) (sym is) (through h (sister_exact edges labels u v))
+
+-- x stands in an item as the node itself, as a daughter, or below one
+
+pub item_own : (edges : List Edge) (yields : Type 0) (own u label x : ℕ) → own ≡ label → x ≡ u → IsTrue true ↔ IsInItem edges yields own u label x
+item_own edges yields own u label x e s = (λ t. inl (sym e, s), λ i. refl)
+
+pub item_daughter : (edges : List Edge) (yields : Type 0) (own u label x : ℕ) → IsDaughterBy edges u label x → IsTrue true ↔ IsInItem edges yields own u label x
+item_daughter edges yields own u label x d = (λ t. inr (inl d), λ i. refl)
+
+pub no_item : (edges : List Edge) (yields : Type 0) (own u label x : ℕ) (b : Bool) → ((own ≡ label) × (x ≡ u) → ⊥) → (IsDaughterBy edges u label x → ⊥) → (yields → ⊥) → (IsTrue b → ⊥) → IsTrue b ↔ IsInItem edges yields own u label x
+no_item edges yields own u label x b n d y f = (λ t. absurd (f t), λ i. elim i [ inl s ↦ absurd (n (sym s.0, s.1)) | inr (inl e) ↦ absurd (d e) | inr (inr z) ↦ absurd (y z.0) ])
+
+one_label : (label l : ℕ) → Contains (label ∷ []) l → l ≡ label
+one_label label l (zero, m, e) = sym e
+one_label label l (suc k, m, e) = absurd (omega (arith, m))
+
+pub item_yield : (edges : List Edge) (yields : Type 0) (own u label x : ℕ) (b : Bool) → ((own ≡ label) × (x ≡ u) → ⊥) → (IsDaughterBy edges u label x → ⊥) → yields → IsTrue b ↔ IsJoined ways.First edges (label ∷ []) u x → IsTrue b ↔ IsInItem edges yields own u label x
+item_yield edges yields own u label x b n d y h = (λ t. there (h.0 t), λ i. h.1 (back i)) where
+  there : IsJoined ways.First edges (label ∷ []) u x → IsInItem edges yields own u label x
+  there (k, e, l, at, (c, (m, inl s))) = inr (inl (k, e, l, at, (m, one_label label e.label.0 c, s)))
+  there (k, e, l, at, (c, (m, inr a))) = inr (inr (y, (e.daughter.0, (k, e, l, at, (m, one_label label e.label.0 c, refl)), a)))
+
+  back : IsInItem edges yields own u label x → IsJoined ways.First edges (label ∷ []) u x
+  back (inl s) = absurd (n (sym s.0, s.1))
+  back (inr (inl e)) = absurd (d e)
+  back (inr (inr (z, (v, (k, e, l, at, (m, s, w)), a)))) = (k, e, l, at, ((0, omega arith, sym s), (m, inr (subst (λ q. Above edges q x) (sym w) a))))

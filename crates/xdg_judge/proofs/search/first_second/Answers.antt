@@ -1,0 +1,8 @@
+use Rattle.std.proofs.Common.{ℕ, ◌<◌}
+use Rattle.xdg_judge.specs.Searching.{tuple_for}
+use Rattle.xdg_judge.specs.Verdicts.{AsksHere}
+use Rattle.xdg_judge.proofs.Judging.{less_more}
+use Rattle.xdg_judge.proofs.search.first_second.Goals as goal
+
+pub loop-x-preserved : goal.loop-x-preserved
+loop-x-preserved c = less_more (λ x. (k : ℕ) → k < c.args.last → AsksHere c.args.view.now.parts.now c.args.view.now.group.now c.args.view.now.analysis.now c.args.condition (tuple_for c.args.condition c.args.u x k)) c.loop-x.x c.loop-x.invariant c.in_default.ensures

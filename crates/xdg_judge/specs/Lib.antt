@@ -1,0 +1,5 @@
+pub mod Reached
+pub mod Joining
+pub mod Searching
+pub mod Verdicts
+pub mod Views

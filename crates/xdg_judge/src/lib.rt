@@ -1,0 +1,16 @@
+//! The judge: which principle uses an analysis satisfies, and of each that it doesn't the first condition that is broken
+//! and the least tuple that breaks it. The relations are those of `xdg_problem`.
+#![tactic(auto)]
+
+mod asking;
+mod counts;
+mod judge;
+mod paths;
+mod reach;
+mod reads;
+mod search;
+mod verdict;
+mod view;
+
+pub use judge::{explain, holds};
+pub use verdict::{Tuple4, Verdict};
