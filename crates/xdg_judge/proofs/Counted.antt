@@ -1,5 +1,5 @@
 -- What a filtered list contains.
-use Rattle.std.proofs.Common.{◌≡◌, ℕ, ◌&&◌, Bool, true, false, cond, refl, arith, List, [], ◌∷◌, sym, ◌∙◌, ap, subst, zero, suc}
+use Rattle.std.proofs.Common.{◌≡◌, ◌&&◌, Bool, true, false, cond, refl, arith, List, [], ◌∷◌, sym, ◌∙◌, ap, subst, zero, suc}
 use Rattle.std.specs.Prelude.{Contains, filter}
 
 contains_tail : {X : Type 0} (y : X) (xs : List X) (x : X) → Contains xs x → Contains (y ∷ xs) x

@@ -1,5 +1,5 @@
 -- What a table of nodes above nodes rules out at once.
-use Rattle.std.proofs.Common.{◌≡◌, ℕ, ◌<◌, ◌≤◌, ◌↔◌, Bool, true, false, List, [], get_or, inl, inr, ◌⊎◌, refl, sym, subst, arith}
+use Rattle.std.proofs.Common.{◌≡◌, ℕ, ◌<◌, ◌↔◌, Bool, true, false, List, get_or, inl, inr, ◌⊎◌, refl, subst, arith}
 use Rattle.std.proofs.lemmas.Bool.{false≢true}
 use Rattle.std.specs.Prelude.{IsTrue, AllPairs}
 use Rattle.xdg_problem.specs.declared.analysis.Analysis.{Analysis}

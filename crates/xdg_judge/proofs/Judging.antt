@@ -1,22 +1,19 @@
 -- From what a search finds to verdicts.
-use Rattle.std.proofs.Common.{◌≡◌, ◌≢◌, ℕ, ◌+◌, ◌<◌, ◌≤◌, ◌↔◌, inl, inr, Bool, true, false, List, [], ◌∷◌, ◌++◌, length, take, get_or, refl, ap, sym, ◌∙◌, subst, arith, cond}
-use Rattle.std.specs.Prelude.{IsTrue, All, slice_index, slice_index_or}
+use Rattle.std.proofs.Common.{◌≡◌, ◌≢◌, ℕ, ◌+◌, ◌<◌, ◌≤◌, ◌↔◌, inl, inr, false, List, [], ◌∷◌, ◌++◌, length, take, get_or, ap, sym, ◌∙◌, subst, arith}
+use Rattle.std.specs.Prelude.{IsTrue, All, slice_index}
 use Rattle.std.specs.List.{AllZip}
 use Rattle.std.proofs.lemmas.Bool.{cases_eq, false≢true}
 use Rattle.std.proofs.lemmas.List.{take_all, take_more, get_or-take, get_or_default, length-take}
-use Rattle.std.proofs.lemmas.List.Elements.{All-more}
-use Rattle.xdg_listing.specs.Order.{AtMost}
 use Rattle.xdg_problem.specs.declared.analysis.Analysis.{Analysis}
 use Rattle.xdg_problem.specs.declared.conditions.Condition.{Condition}
 use Rattle.xdg_problem.specs.declared.conditions.Condition.TheVariants as conditions
 use Rattle.xdg_problem.specs.declared.parts.Group.{Group}
 use Rattle.xdg_problem.specs.declared.parts.Parts.{Parts}
 use Rattle.xdg_problem.specs.declared.parts.Principle.{Principle}
-use Rattle.xdg_problem.specs.Conditions.{conditions_of, conditions_for, IsTuple, root_count}
+use Rattle.xdg_problem.specs.Conditions.{conditions_of, conditions_for, root_count}
 use Rattle.xdg_problem.specs.Places.{nodes}
-use Rattle.xdg_problem.specs.Relations.{IsKept, Relation, Breaks, IsFirstBroken}
-use Rattle.xdg_problem.specs.Vectors.{entry_places}
-use Rattle.xdg_judge.specs.Searching.{tuple_for, second_size, third_size, FirstOne, FirstTwo, FirstThree}
+use Rattle.xdg_problem.specs.Relations.{Relation, IsFirstBroken}
+use Rattle.xdg_judge.specs.Searching.{tuple_for, second_size, third_size, FirstThree}
 use Rattle.xdg_judge.specs.Verdicts.{AsksHere, IsKeptHere, IsLeastBroken, IsVerdict}
 use Rattle.xdg_judge.specs.declared.verdict.Verdict.{Verdict}
 use Rattle.xdg_judge.proofs.Least.{kept_of, least_of}

@@ -12,3 +12,4 @@ pub mod Viewing
 pub mod Judging
 pub mod Asked
 pub mod Guards
+pub mod Small

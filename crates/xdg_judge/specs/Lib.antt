@@ -3,3 +3,4 @@ pub mod Joining
 pub mod Searching
 pub mod Verdicts
 pub mod Views
+pub mod Examples

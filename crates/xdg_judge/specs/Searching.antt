@@ -1,5 +1,5 @@
 -- Tuples as three numbers each, and the search for the least that fails.
-use Rattle.std.specs.Prelude.{◌≡◌, ℕ, ◌<◌, List, [], ◌∷◌}
+use Rattle.std.specs.Prelude.{ℕ, ◌<◌, List, [], ◌∷◌}
 use Rattle.xdg_problem.specs.declared.conditions.Condition.{Condition}
 use Rattle.xdg_problem.specs.declared.conditions.Condition.TheVariants as conditions
 use Rattle.xdg_problem.specs.declared.parts.Group.{Group}

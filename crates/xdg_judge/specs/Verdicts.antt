@@ -1,5 +1,5 @@
 -- What verdicts say.
-use Rattle.std.specs.Prelude.{◌≡◌, ℕ, List, take, All}
+use Rattle.std.specs.Prelude.{ℕ, List, take}
 use Rattle.std.specs.List.{AllZip}
 use Rattle.xdg_listing.specs.Order.{AtMost}
 use Rattle.xdg_problem.specs.declared.analysis.Analysis.{Analysis}

@@ -9,6 +9,8 @@ mod paths;
 mod reach;
 mod reads;
 mod search;
+#[cfg(test)]
+mod tests;
 mod verdict;
 mod view;
 

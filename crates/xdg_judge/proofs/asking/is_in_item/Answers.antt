@@ -1,4 +1,4 @@
-use Rattle.std.proofs.Common.{◌≡◌, ◌∙◌, sym, subst, true, refl, []}
+use Rattle.std.proofs.Common.{◌≡◌, ◌∙◌, sym, subst, true, []}
 use Rattle.std.specs.Prelude.{IsTrue, ◌↔◌, ◌∷◌}
 use Rattle.std.proofs.lemmas.Bool.{false≢true}
 use Rattle.xdg_problem.specs.Arguments.{first_dim}

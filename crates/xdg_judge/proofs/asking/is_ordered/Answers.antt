@@ -1,4 +1,4 @@
-use Rattle.std.proofs.Common.{ℕ, ◌≡◌, ◌∙◌, sym, true, get_or}
+use Rattle.std.proofs.Common.{◌≡◌, ◌∙◌, sym, true, get_or}
 use Rattle.std.proofs.lemmas.Bool.{false≢true}
 use Rattle.std.proofs.lemmas.List.{get_or_default}
 use Rattle.xdg_problem.specs.Arguments.{first_dim}

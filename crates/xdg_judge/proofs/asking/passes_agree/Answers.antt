@@ -1,4 +1,4 @@
-use Rattle.std.proofs.Common.{sym, refl}
+use Rattle.std.proofs.Common.{refl}
 use Rattle.std.specs.Prelude.{slice_index}
 use Rattle.xdg_problem.specs.Arguments.{first_dim, attr_of, attr_place}
 use Rattle.xdg_problem.specs.Features.{set_row}

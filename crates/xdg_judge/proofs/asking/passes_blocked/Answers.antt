@@ -1,4 +1,4 @@
-use Rattle.std.proofs.Common.{arith, sym, refl}
+use Rattle.std.proofs.Common.{arith, refl}
 use Rattle.std.specs.Prelude.{slice_index}
 use Rattle.xdg_problem.specs.Arguments.{first_dim, second_dim}
 use Rattle.xdg_problem.specs.Features.{set_row}
