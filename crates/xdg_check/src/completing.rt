@@ -8,12 +8,13 @@ ghost use Rattle.xdg_classes.specs.Lent.{class_def};
 ghost use Rattle.xdg_check.specs.Completed.{completed, bound_by, left_out, preset_pair};
 ghost use Rattle.xdg_check.specs.Made.{IsNamed};
 
-use crate::copying::{copy_name, copy_pairs, copy_term};
+use crate::copying::copy_pairs;
 use std::alloc::{AllocError, Global};
 use xdg_ast::{ClassParam, Expr, ExprKind, Pair, Spanned, Term};
 use xdg_base::List;
 use xdg_classes::Classes;
 use xdg_index::Index;
+use xdg_terms::{copy_name, copy_term};
 
 /// The keys that are given.
 pub(crate) fn known_keys(alloc: Global, args: &[Pair<Term>]) -> Result<Index, AllocError>

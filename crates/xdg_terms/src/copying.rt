@@ -6,8 +6,8 @@ use std::alloc::{AllocError, Global};
 use xdg_ast::{CardKind, CardTerm, Elem, ElemKind, Gen, GenKind, Name, Term, TermKind};
 use xdg_base::{Boxed, List};
 
-/// A copy of a name.
-pub(crate) fn copy_name(alloc: Global, name: &Name) -> Result<Name, AllocError>
+/// A copy of a name, with its place.
+pub fn copy_name(alloc: Global, name: &Name) -> Result<Name, AllocError>
     ensures { IfOk result (λ made. made ≡ name.now) }
 {
     Ok(Name {
@@ -91,7 +91,7 @@ fn add_generators(alloc: Global, members: &[Gen], made: &mut List<Gen>) -> Resul
 
 /// A copy of a term.
 #[cycle(copy_term)]
-pub(crate) fn copy_term(alloc: Global, term: &Term) -> Result<Term, AllocError>
+pub fn copy_term(alloc: Global, term: &Term) -> Result<Term, AllocError>
     ensures { IfOk result (λ made. made ≡ term.now) }
 {
     Ok(Term {

@@ -23,6 +23,7 @@ mod wants;
 
 pub use checking::{check, check_open};
 pub use closing::close;
+pub use copying::{copy_name, copy_term};
 pub use forms::Bindings;
 pub use stray::check_stray;
 pub use values::value;
