@@ -4,7 +4,7 @@
 use crate::judged::{read, row_of};
 use std::alloc::{AllocError, Global};
 use std::test::Fail;
-use xdg_base::{Stop, number};
+use xdg_base::{Stop, number, place};
 use xdg_check::check;
 use xdg_types::types;
 
@@ -687,5 +687,82 @@ fn classes_that_lead_far(rt: HostRuntime) -> Result<(), Fail> {
     let alloc = rt.alloc();
     let plain = doubling(alloc, 1_000)?;
     assert_eq!(rt; checked(alloc, plain.as_str())?.as_str(), "ok");
+    Ok(())
+}
+
+/// A grammar of thirteen lines.
+const PLAIN: &str = "\
+usedim id usedim lex\n\
+defdim lex {defentrytype {word: string}}\n\
+defdim id {\n\
+deftype id.label {det subj}\n\
+deflabeltype id.label\n\
+defentrytype {in: valency(id.label) out: valency(id.label)}\n\
+useprinciple principle.graph {dims {D: id}}\n\
+useprinciple principle.tree {dims {D: id}}\n\
+useprinciple principle.valency {dims {D: id}}\n\
+}\n\
+defentry {dim id {in: {det?}} dim lex {word: \"the\"}}\n\
+defentry {dim id {in: {subj?} out: {det!}} dim lex {word: \"dog\"}}\n\
+defentry {dim id {out: {subj!}} dim lex {word: \"barks\"}}\n";
+
+/// What the check of a text tells: `ok`, or a fault's number, line and column.
+fn checked_at(alloc: Global, text: &str) -> Result<String, AllocError> {
+    let grammar = read(alloc, text)?;
+    let told = match types(alloc, &grammar) {
+        Err(stop) => Err(stop),
+        Ok(table) => check(alloc, &grammar, table),
+    };
+    match told {
+        Ok(_) => String::from_str(alloc, "ok"),
+        Err(Stop::Fault(fault)) => {
+            if fault.at as usize > text.len() || text.len() > 100_000 {
+                return Err(AllocError);
+            }
+            let at = place(text.as_bytes(), fault.at);
+            format!(in alloc;
+                "{} line {} column {}",
+                number(fault.cause),
+                at.line,
+                at.column
+            )
+        }
+        Err(Stop::OutOfMemory) => Err(AllocError),
+    }
+}
+
+/// What is told of the grammar with each of these as its fourteenth line.
+const FOURTEENTH: &str = "\
+32 line 14 column 13|defclass a {b} defclass b {a}~\
+37 line 14 column 52|defclass a X {dim lex {word: X}} defentry {a {X: t Y: t}}~\
+33 line 14 column 15|defclass a X: #{1} {dim lex {word: X}} defentry {a}~\
+37 line 14 column 49|defclass a X: t Y {dim lex {word: X}} defentry {a}~\
+ok|defclass a X: t {dim lex {word: X}} defentry {a} defentry {a {X: u}}";
+
+#[test]
+fn a_plain_grammar_is_checked(rt: HostRuntime) -> Result<(), Fail> {
+    let alloc = rt.alloc();
+    assert_eq!(rt; FOURTEENTH.split('~').count(), 5);
+    for row in FOURTEENTH.split('~') {
+        let (wanted, line) = row.split_once('|').unwrap_or((row, ""));
+        let text = format!(in alloc; "{}{}", PLAIN, line)?;
+        assert_eq!(rt; checked_at(alloc, text.as_str())?.as_str(), wanted);
+    }
+    Ok(())
+}
+
+#[test]
+fn a_plain_grammar_is_changed(rt: HostRuntime) -> Result<(), Fail> {
+    let alloc = rt.alloc();
+    let other = PLAIN.replace(alloc, "{det?}", "{dat?}")?;
+    assert_eq!(rt;
+        checked_at(alloc, other.as_str())?.as_str(),
+        "34 line 11 column 24"
+    );
+    let twice = PLAIN.replace(alloc, "usedim id", "usedim id usedim id")?;
+    assert_eq!(rt;
+        checked_at(alloc, twice.as_str())?.as_str(),
+        "31 line 1 column 18"
+    );
     Ok(())
 }
