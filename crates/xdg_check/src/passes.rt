@@ -135,7 +135,7 @@ fn named(alloc: Global, statements: &[Statement], table: TypeTable) -> Result<Ch
 ///   default is checked at all types that are wanted of its parameter.
 /// - Words: `NoLex` (39) at place 0 where dimension `lex` isn't used or has no feature `word` of type `string`.
 ///
-/// Each class's body is counted once; a chain of many thousand classes takes more time than in proportion to the text. Where a
+/// The time is linear in the text and in what the completed bindings hold; each class's body is counted once. Where a
 /// class with defaults is used many times, the bindings hold as many copies of them; these are counted first, and above
 /// 67,108,864 bytes of the text the answer is want of memory, with nothing taken.
 pub fn check(alloc: Global, grammar: &Grammar, table: TypeTable) -> Result<Checked, Stop>
