@@ -1,20 +1,17 @@
 -- A checked grammar that is put together keeps what it has to, and is that of the text.
 use Rattle.std.proofs.lemmas.List.{append-nil, drop_all, take_all, length-map}
-use Rattle.std.proofs.Common.{◌≡◌, ◌++◌, take, drop, length, arith, Some, Err, inl, inr, ℕ, List, [], ◌∷◌, map, refl, sym, ap, ap₂, ◌∙◌, subst}
-use Rattle.xdg_ast.specs.declared.names.Name.{Name}
+use Rattle.std.proofs.Common.{◌≡◌, ◌++◌, take, drop, length, arith, Some, Err, inl, inr, ℕ, List, [], map, refl, sym, ap, ◌∙◌, subst}
 use Rattle.xdg_base.specs.declared.faults.Fault.{Fault}
-use Rattle.xdg_domain.specs.Shapes.{Shape, Differ}
+use Rattle.xdg_domain.specs.Shapes.{Differ}
 use Rattle.xdg_faults.specs.First.{In}
-use Rattle.xdg_types.specs.declared.table.DimType.{DimType}
-use Rattle.xdg_types.specs.Answers.{HasTable, None_of}
-use Rattle.xdg_types.specs.Parts.{Statement, Dimension, dimensions, dim_names}
-use Rattle.xdg_types.specs.Parts as t
+use Rattle.xdg_types.specs.Answers.{None_of}
+use Rattle.xdg_types.specs.Parts.{Statement}
 use Rattle.xdg_base.specs.declared.faults.Stop.{Stop}
 use Rattle.xdg_base.specs.declared.faults.Stop.TheVariants as stops
 use Rattle.xdg_faults.specs.First.{Tells as TellsFault}
 use Rattle.xdg_classes.specs.Graph.{CycleOffends}
 use Rattle.xdg_classes.specs.Names as c
-use Rattle.xdg_types.specs.Table.{Table, IsTable, AreDims}
+use Rattle.xdg_types.specs.Table.{Table, IsTable}
 use Rattle.xdg_classes.specs.Bodies.{body}
 use Rattle.xdg_classes.specs.Definitions.{classes, class_names, texts, entries}
 use Rattle.xdg_classes.specs.Lent.{class_def}
@@ -22,6 +19,7 @@ use Rattle.xdg_classes.specs.Ordered.{OrdersClasses, TellsClasses}
 use Rattle.xdg_classes.specs.declared.lookup.Classes.{Classes}
 use Rattle.xdg_principles.specs.declared.building.PrincipleUse.{PrincipleUse}
 use Rattle.xdg_principles.specs.Made.{ArePrincipleUses}
+use Rattle.xdg_principles.specs.Typed.{AreTypedUses}
 use Rattle.xdg_check.specs.declared.checked.Class.{Class}
 use Rattle.xdg_check.specs.declared.checked.EntryDef.{EntryDef}
 use Rattle.xdg_check.specs.Answers.{NameOffends, ValueOffends, AreClassesOf, AreEntriesOf, IsCheckedOf, Refuses, Tells}
@@ -35,17 +33,6 @@ use Rattle.xdg_check.proofs.Keeping.{RightBodies, right_body}
 use Rattle.xdg_check.proofs.Placing.{bare_classes, is_order}
 use Rattle.xdg_check.proofs.Sound.{right_bodies}
 use Rattle.xdg_check.proofs.Sources.{source_of, entry_of, same_names, class_scoped, class_body, entry_scoped, entry_body}
-
--- ---- dimensions
-
-dims_named : (names : List ℕ → Shape) (dims : List Dimension) (made : List DimType) → AreDims names dims made → map (λ (dim : DimType). dim.name) made ≡ map (λ (n : Name). n.text) (map (λ (dim : Dimension). dim.0) dims)
-dims_named names [] [] h = refl
-dims_named names [] (x ∷ made) h = absurd h
-dims_named names (dim ∷ dims) [] h = absurd h
-dims_named names (dim ∷ dims) (x ∷ made) h = ap₂ (λ (a : List ℕ) b. a ∷ b) h.0.name (dims_named names dims made h.1)
-
-pub has_dims : (statements : List Statement) (table : Table) → HasTable statements table → map (λ (dim : DimType). dim.name) table.dims ≡ t.texts (dim_names statements)
-has_dims statements table has = dims_named has.names (dimensions statements) table.dims has.table.dims
 
 -- ---- the classes
 
@@ -107,10 +94,11 @@ module _ (statements : List Statement) (table : Table) (names : None_of (NameOff
     params_apart : (c : Class) → In final c → Differ c.params
     params_apart c h = let s = source_of (classes statements) (classes statements) final final_are c h in subst Differ (sym s.1.1.params) (params_differ statements table bodies_right s.0 s.1.0)
 
-    pub is_checked : IsChecked (record { types = table; principles = principles; classes = final; entries = entry_defs; order = order })
-    is_checked = record {
+    pub is_checked : AreTypedUses table principles → IsChecked (record { types = table; principles = principles; classes = final; entries = entry_defs; order = order })
+    is_checked compiled = record {
       types = types;
       lex = lex;
+      principles = compiled;
       names = apart final final_are;
       params = params_apart;
       ordered = final_order;

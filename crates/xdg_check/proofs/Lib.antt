@@ -7,6 +7,7 @@ pub mod Gathered
 pub mod Keeping
 pub mod Members
 pub mod Naming
+pub mod Only
 pub mod Opened
 pub mod Placing
 pub mod SameCounts

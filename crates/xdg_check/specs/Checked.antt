@@ -14,6 +14,7 @@ use Rattle.xdg_classes.specs.Bodies.{Term, Body, body, Said, Called, records, ca
 use Rattle.xdg_classes.specs.Definitions.{keys, texts}
 use Rattle.xdg_arguments.specs.Wants.{NamedBody, Wants}
 use Rattle.xdg_principles.specs.declared.building.PrincipleUse.{PrincipleUse}
+use Rattle.xdg_principles.specs.Typed.{IsTypedUse}
 use Rattle.xdg_check.specs.declared.checked.Class.{Class}
 use Rattle.xdg_check.specs.declared.checked.EntryDef.{EntryDef}
 use Rattle.xdg_check.specs.Counts.{class_texts, uses, combos, AreCounted}
@@ -94,6 +95,8 @@ pub record IsOrder (cs : List Class) (order : List ℕ) : Type 0 where
 pub record IsChecked (parts : Parts) : Type 0 where
   pub types : IsTable parts.types
   pub lex : HasLex parts.types
+  -- each use of a principle names what is there, of the wanted types
+  pub principles : (u : PrincipleUse) → In parts.principles u → IsTypedUse parts.types u
   -- no two classes have one name, and no two parameters of a class
   pub names : Differ (class_texts parts.classes)
   pub params : (c : Class) → In parts.classes c → Differ c.params

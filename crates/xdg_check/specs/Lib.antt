@@ -5,3 +5,4 @@ pub mod Counts
 pub mod Filled
 pub mod Lex
 pub mod Made
+pub mod Only

@@ -1,12 +1,15 @@
 //! The passes over a grammar with its table of types, and the checked grammar.
 
-ghost use Rattle.std.specs.Prelude.{◌≡◌, IfOk};
+ghost use Rattle.std.specs.Prelude.{◌≡◌, IfOk, Result};
+ghost use Rattle.xdg_base.specs.declared.faults.Fault as faults;
 ghost use Rattle.xdg_classes.specs.Ordered.{OrdersClasses};
 ghost use Rattle.xdg_faults.specs.First.{Tells as TellsFault};
 ghost use Rattle.xdg_types.specs.Answers.{HasTable, None_of};
 ghost use Rattle.xdg_types.specs.Table.{IsTable};
 ghost use Rattle.xdg_check.specs.Answers.{NameOffends, ValueOffends, IsCheckedOf, Tells};
+ghost use Rattle.xdg_check.specs.Checked.{Parts};
 ghost use Rattle.xdg_check.specs.Lex.{HasLex};
+ghost use Rattle.xdg_check.specs.Only.{IsAnswer, Gives};
 
 use crate::checked::Checked;
 use crate::filling::fill_counts;
@@ -116,8 +119,26 @@ fn named(alloc: Global, statements: &[Statement], table: TypeTable) -> Result<Ch
     }
 }
 
+/// All passes, and the checked grammar.
+fn check_statements(
+    alloc: Global,
+    statements: &[Statement],
+    table: TypeTable,
+) -> Result<Checked, Stop>
+    requires { HasTable statements.now table }
+    ensures { Tells statements.now table result }
+{
+    match names_wrong(alloc, statements, &table)? {
+        Some(fault) => Err(Stop::Fault(fault)),
+        None => named(alloc, statements, table),
+    }
+}
+
 /// The checked grammar of a tree, given the table of its types, or its first fault. The table is that of
 /// [`types`](xdg_types::types) for this grammar; on a refusal it is dropped.
+///
+/// A grammar has one meaning or one first fault: the clause `only` says that each other answer that may be given is this fault,
+/// or has the same types, principles, classes and entries. That is a law of what the answers mean, which no body could break.
 ///
 /// # Errors
 ///
@@ -138,13 +159,11 @@ fn named(alloc: Global, statements: &[Statement], table: TypeTable) -> Result<Ch
 /// The time is linear in the text and in what the completed bindings hold; each class's body is counted once. Where a
 /// class with defaults is used many times, the bindings hold as many copies of them; these are counted first, and above
 /// 67,108,864 bytes of the text the answer is want of memory, with nothing taken.
+#[tactic(auto, using(crate::proofs::Only::only_answer))]
 pub fn check(alloc: Global, grammar: &Grammar, table: TypeTable) -> Result<Checked, Stop>
     requires { HasTable grammar.now.statements table }
-    ensures { Tells grammar.now.statements table result }
+    ensures tells { Tells grammar.now.statements table result }
+    ensures only { (answer : Result Parts faults.Fault) → IsAnswer grammar.now.statements table answer → Gives answer result }
 {
-    let statements = grammar.statements.as_slice();
-    match names_wrong(alloc, statements, &table)? {
-        Some(fault) => Err(Stop::Fault(fault)),
-        None => named(alloc, statements, table),
-    }
+    check_statements(alloc, grammar.statements.as_slice(), table)
 }

@@ -5,8 +5,13 @@ pub mod Known
 pub mod Lookups
 pub mod MemberPlaces
 pub mod NameLaw
+pub mod OneUse
 pub mod Rows
 pub mod Tables
 pub mod Tests
+pub mod TypedArgs
+pub mod TypedLaw
+pub mod TypedPlaces
+pub mod TypedRows
 pub mod UseLaw
 pub mod WantedLaw

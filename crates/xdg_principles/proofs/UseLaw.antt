@@ -83,7 +83,7 @@ none_under {A} (pair ∷ pairs) key e h = elim (cases_Bool (bytes_eq pair.key.te
     some_none : {B : Type 0} (x : B) → Some x ≡ None → ⊥
     some_none x h = cc
 
-value_under : (pairs : List (Pair Name)) (key : List ℕ) (name : Name) → under pairs key ≡ Some name → In (values pairs) name
+pub value_under : (pairs : List (Pair Name)) (key : List ℕ) (name : Name) → under pairs key ≡ Some name → In (values pairs) name
 value_under [] key name e = absurd cc
 value_under (pair ∷ pairs) key name e = elim (cases_Bool (bytes_eq pair.key.text key)) [
   | inl q ↦ inl (same pair.value name (sym (ap (λ b. if b then Some pair.value else under pairs key) q) ∙ e))
@@ -221,7 +221,7 @@ module _ (statements : List Statement) (table : Table) (has : HasDims statements
       abbrev here : Setting
       here = record { dims = table.dims; one = one; form = form }
 
-      stands_here : (x : Parameter) → In (parameters form) x → In (arguments statements table.dims) (record { setting = here; parameter = x })
+      pub stands_here : (x : Parameter) → In (parameters form) x → In (arguments statements table.dims) (record { setting = here; parameter = x })
       stands_here x h = flat_map_in arguments_in (flat_map (setting table.dims) (principle_uses statements)) here (record { setting = here; parameter = x })
           (flat_map_in (setting table.dims) (principle_uses statements) one here stands (subst (λ (o : Option Form). In (with_form table.dims one o) here) (sym known) (inl refl)))
           (map_in (λ (y : Parameter). record { setting = here; parameter = y }) (parameters form) x h)

@@ -103,6 +103,9 @@ wanted_told s (t.Set element) u = set_told (is_element s element) (IsElement s e
 wanted_told s (t.Valency which) u = valency_told (labels s which) u
 wanted_told s (t.Map which element) u = map_told (is_element s element) (IsElement s element) (element_told s element) (labels s which) u
 
+pub wanted_true : (s : Setting) (x : Typing) (u : Shape) → is_wanted s x u ≡ true → IsWanted s x u
+wanted_true s x u h = (wanted_told s x u).0 h
+
 pub wanted_false : (s : Setting) (x : Typing) (u : Shape) → is_wanted s x u ≡ false → IsWanted s x u → ⊥
 wanted_false s x u h k = true≢false (sym ((wanted_told s x u).1 k) ∙ h)
 

@@ -6,5 +6,6 @@ pub mod NameFaults
 pub mod Names
 pub mod Principles
 pub mod Settings
+pub mod Typed
 pub mod Uses
 pub mod Wanted

@@ -1,13 +1,15 @@
 //! The uses of principles with what they name, by number.
 
 ghost use Rattle.std.specs.Prelude.{◌≡◌, ◌≤◌, ◌++◌, length, map, IfOk};
-ghost use Rattle.xdg_types.specs.Answers.{None_of};
+ghost use Rattle.xdg_types.specs.Answers.{HasTable, None_of};
+ghost use Rattle.xdg_types.specs.Table.{IsTable};
 ghost use Rattle.xdg_principles.specs.Arguments.{ArgumentOffends};
 ghost use Rattle.xdg_principles.specs.Lent.{Knows, IsReady, as_setting};
 ghost use Rattle.xdg_principles.specs.Made as spec;
 ghost use Rattle.xdg_principles.specs.Names.{PrincipleNameOffends};
 ghost use Rattle.xdg_principles.specs.Principles.{told, parameters};
 ghost use Rattle.xdg_principles.specs.Settings.{constant_in};
+ghost use Rattle.xdg_principles.specs.Typed.{AreTypedUses};
 ghost use Rattle.xdg_principles.specs.Uses.{seen, principle_uses};
 
 use crate::lookup::{Lookup, index_names};
@@ -48,21 +50,21 @@ pub enum Arg {
 }
 
 /// The uses of principles in all dimensions, used or not, in the order of the text, in a grammar whose uses of principles
-/// have no fault. The table is that of the grammar's types.
+/// have no fault. The table is that of the grammar's types. Each argument is of the type that its principle wants.
 ///
 /// # Errors
 ///
 /// Want of memory.
-#[tactic(auto, using(crate::proofs::UseLaw::are_uses))]
 pub fn uses(
     alloc: Global,
     statements: &[Statement],
     table: &TypeTable,
 ) -> Result<List<PrincipleUse>, AllocError>
-    requires dims { spec.HasDims statements.now table.now }
+    requires table { HasTable statements.now table.now }
     requires names { None_of (PrincipleNameOffends statements.now) }
     requires arguments { None_of (ArgumentOffends statements.now table.now) }
-    ensures { IfOk result (λ made. spec.ArePrincipleUses statements.now table.now made) }
+    ensures meant { IfOk result (λ made. spec.ArePrincipleUses statements.now table.now made) }
+    ensures typed { IfOk result (AreTypedUses table.now) }
 {
     built_uses(alloc, statements, table)
 }
@@ -72,7 +74,8 @@ fn built_uses(
     statements: &[Statement],
     table: &TypeTable,
 ) -> Result<List<PrincipleUse>, AllocError>
-    ensures { IfOk result (λ made. made ≡ map (spec.built table.now.dims) (principle_uses statements.now)) }
+    ensures same { IfOk result (λ made. made ≡ map (spec.built table.now.dims) (principle_uses statements.now)) }
+    ensures keeps { IfOk result (λ _. IsTable table.now) }
 {
     let lookup = index_names(alloc, table)?;
     let uses = principle_uses(alloc, statements)?;

@@ -14,3 +14,4 @@ mod using;
 pub use arguments::check_arguments;
 pub use building::{Arg, PrincipleUse, uses};
 pub use names::check_names;
+pub use principle::{Dims, Element, Form, Key, Parameter, Preset, Sort, Typing, Wanted, Which};

@@ -6,7 +6,7 @@ ghost use Rattle.xdg_principles.specs.Principles as spec;
 
 /// One of a principle's dimensions, in the order of its keys.
 #[derive(Clone, Copy, Debug)]
-pub(crate) enum Which {
+pub enum Which {
     /// The first, or the only one.
     First,
     /// The second.
@@ -17,7 +17,7 @@ pub(crate) enum Which {
 
 /// How many dimensions a principle has. The key of one alone is `D`; those of more are `D1`, `D2`, `D3`.
 #[derive(Clone, Copy, Debug)]
-pub(crate) enum Dims {
+pub enum Dims {
     /// `D`.
     One,
     /// `D1` and `D2`.
@@ -28,7 +28,7 @@ pub(crate) enum Dims {
 
 /// A type of single values: a domain or a tuple type.
 #[derive(Clone, Copy, Debug)]
-pub(crate) enum Element {
+pub enum Element {
     /// The labels of a dimension.
     Labels(Which),
     /// Any domain or tuple type, one and the same for all arguments of a use that speak of it.
@@ -37,7 +37,7 @@ pub(crate) enum Element {
 
 /// The type that a feature or an attribute has to have.
 #[derive(Clone, Copy, Debug)]
-pub(crate) enum Typing {
+pub enum Typing {
     /// One element.
     One(Element),
     /// A `set` or an `iset` of elements.
@@ -50,7 +50,7 @@ pub(crate) enum Typing {
 
 /// What a dimension gives to nodes.
 #[derive(Clone, Copy, Debug)]
-pub(crate) enum Sort {
+pub enum Sort {
     /// Features, of which a node has those of its entry.
     Feature,
     /// Attributes, which an analysis gives to each node.
@@ -59,7 +59,7 @@ pub(crate) enum Sort {
 
 /// What an argument has to name or to be.
 #[derive(Clone, Copy, Debug)]
-pub(crate) enum Wanted {
+pub enum Wanted {
     /// A feature or an attribute of a dimension.
     Member(Sort, Which, Typing),
     /// Different labels of a dimension, in square brackets.
@@ -70,7 +70,7 @@ pub(crate) enum Wanted {
 
 /// What an argument is that a use leaves out.
 #[derive(Clone, Copy, Debug)]
-pub(crate) enum Preset {
+pub enum Preset {
     /// Nothing: it may not be left out.
     Required,
     /// `false`.
@@ -83,7 +83,7 @@ pub(crate) enum Preset {
 
 /// The name of an argument.
 #[derive(Clone, Copy, Debug)]
-pub(crate) enum Key {
+pub enum Key {
     /// `Agr`.
     Agr,
     /// `Agr1`.
@@ -118,26 +118,26 @@ pub(crate) enum Key {
 
 /// An argument that a principle has.
 #[derive(Clone, Copy, Debug)]
-pub(crate) struct Parameter {
+pub struct Parameter {
     /// Its name.
-    pub(crate) key: Key,
+    pub key: Key,
     /// What it has to be.
-    pub(crate) wanted: Wanted,
+    pub wanted: Wanted,
     /// What it is where it is left out.
-    pub(crate) preset: Preset,
+    pub preset: Preset,
 }
 
 /// The dimensions and the arguments of a principle: at most three arguments, in the order of the table.
 #[derive(Clone, Copy, Debug)]
-pub(crate) struct Form {
+pub struct Form {
     /// Its dimensions.
-    pub(crate) dims: Dims,
+    pub dims: Dims,
     /// Its first argument.
-    pub(crate) first: Option<Parameter>,
+    pub first: Option<Parameter>,
     /// Its second argument.
-    pub(crate) second: Option<Parameter>,
+    pub second: Option<Parameter>,
     /// Its third argument.
-    pub(crate) third: Option<Parameter>,
+    pub third: Option<Parameter>,
 }
 
 impl Dims {

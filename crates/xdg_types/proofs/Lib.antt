@@ -14,6 +14,8 @@ pub mod Made
 pub mod Members
 pub mod NameLaw
 pub mod NamesAgain
+pub mod OneShape
+pub mod Only
 pub mod Ordered
 pub mod PartsAgain
 pub mod Passes

@@ -7,6 +7,7 @@ pub mod Kinds
 pub mod Meaning
 pub mod NameFaults
 pub mod Names
+pub mod Only
 pub mod Parts
 pub mod Right
 pub mod Table

@@ -1,7 +1,11 @@
 //! The types of a grammar: three passes over it, and the table.
 
+ghost use Rattle.std.specs.Prelude.{Result};
+ghost use Rattle.xdg_base.specs.declared.faults.Fault as faults;
 ghost use Rattle.xdg_types.specs.Answers.{None_of, Tells, TellsResolved};
 ghost use Rattle.xdg_types.specs.Names.{NameOffends};
+ghost use Rattle.xdg_types.specs.Only.{IsAnswer, Gives};
+ghost use Rattle.xdg_types.specs.Table.{Table};
 
 use crate::definitions::Definitions;
 use crate::graph::{bodies, type_graph};
@@ -56,7 +60,20 @@ fn named(alloc: Global, statements: &[Statement]) -> Result<TypeTable, Stop>
     }
 }
 
+/// The table of these statements, or the first fault of all passes.
+fn types_of(alloc: Global, statements: &[Statement]) -> Result<TypeTable, Stop>
+    ensures { Tells statements.now result }
+{
+    match check_names(alloc, statements)? {
+        Some(fault) => Err(Stop::Fault(fault)),
+        None => named(alloc, statements),
+    }
+}
+
 /// The dimensions of a grammar with the types of their labels, attributes and features, without names.
+///
+/// A grammar has one table or one first fault: the clause `only` says of each answer that may be given that it is this one.
+/// That is a law of what the answers mean, which no body could break.
 ///
 /// # Errors
 ///
@@ -76,12 +93,10 @@ fn named(alloc: Global, statements: &[Statement]) -> Result<TypeTable, Stop>
 /// tuple type that names a domain of more than 64 constants many times, and many attributes given by one very wide name,
 /// take time that grows with the square. What the types hold is counted first: above 16,777,216 parts, or deeper than
 /// 1,024 types inside one another, the answer is want of memory, and nothing is made.
+#[tactic(auto, using(crate::proofs::Only::only_answer))]
 pub fn types(alloc: Global, grammar: &Grammar) -> Result<TypeTable, Stop>
-    ensures { Tells grammar.now.statements result }
+    ensures tells { Tells grammar.now.statements result }
+    ensures only { (answer : Result Table faults.Fault) → IsAnswer grammar.now.statements answer → Gives answer result }
 {
-    let statements = grammar.statements.as_slice();
-    match check_names(alloc, statements)? {
-        Some(fault) => Err(Stop::Fault(fault)),
-        None => named(alloc, statements),
-    }
+    types_of(alloc, grammar.statements.as_slice())
 }

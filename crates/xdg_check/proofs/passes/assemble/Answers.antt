@@ -2,11 +2,8 @@ use Rattle.std.proofs.Common.{sym, ◌∙◌, inr, subst}
 use Rattle.xdg_check.specs.Checked.{IsOrder}
 use Rattle.xdg_check.specs.Counts.{class_texts}
 use Rattle.xdg_domain.specs.Shapes.{Differ}
-use Rattle.xdg_check.proofs.Assembled.{has_dims, classes_are, apart, made_order, is_checked, is_checked_of, names_slice, names_final, written_back}
+use Rattle.xdg_check.proofs.Assembled.{classes_are, apart, made_order, is_checked, is_checked_of, names_slice, names_final, written_back}
 use Rattle.xdg_check.proofs.passes.assemble.Goals as goal
-
-pub uses-requires-clause-dims : goal.uses-requires-clause-dims
-uses-requires-clause-dims c = has_dims c.args.statements.now c.args.table c.requires.table
 
 pub uses-requires-clause-names : goal.uses-requires-clause-names
 uses-requires-clause-names c = λ f h. c.requires.named f (inr h)
@@ -36,7 +33,7 @@ pub invariant_of-result : goal.invariant_of-result
 invariant_of-result c = (
   is_checked c.args.statements.now c.args.table c.requires.named c.args.classes.now c.requires.ordered c.requires.valued c.requires.types c.requires.lex c.in_ok-principles.principles c.in_ok-entries.entries c.in_ok-entries.ensures
       c.in_ok-made.made.items c.as_mut_slice.result.now c.fill_counts.new.classes c.from_vec.result c.in_ok-made.ensures c.as_mut_slice.ensures.value c.fill_counts.ensures.same (c.from_vec.ensures ∙ written_back c.fill_counts.new.classes c.as_mut_slice.result.now c.in_ok-made.made.items c.in_ok-made.made.len c.in_ok-made.made.ok.0 c.as_mut_slice.ensures.value c.fill_counts.ensures.same)
-      c.in_ok-order.order (c.in_ok-order.ensures ∙ c.order-2.ensures) c.fill_counts.ensures.uses c.fill_counts.ensures.combos,
+      c.in_ok-order.order (c.in_ok-order.ensures ∙ c.order-2.ensures) c.fill_counts.ensures.uses c.fill_counts.ensures.combos c.in_ok-principles.ensures.typed,
   names_final c.args.statements.now c.args.table c.requires.named c.args.classes.now c.requires.ordered c.as_mut_slice.result.now c.fill_counts.new.classes c.from_vec.result c.in_ok-names.names
       (names_slice c.args.statements.now c.args.table c.requires.named c.args.classes.now c.requires.ordered c.in_ok-made.made.items c.as_slice.result.now c.as_mut_slice.result.now c.in_ok-names.names
       c.in_ok-made.ensures c.as_slice.ensures.value c.as_mut_slice.ensures.value c.in_ok-names.ensures)
@@ -47,4 +44,4 @@ pub returns : goal.returns
 returns c =
     is_checked_of c.args.statements.now c.args.table c.requires.named c.args.classes.now c.requires.ordered c.requires.valued c.requires.types c.requires.lex c.in_ok-principles.principles c.in_ok-entries.entries c.in_ok-entries.ensures
     c.in_ok-made.made.items c.as_mut_slice.result.now c.fill_counts.new.classes c.from_vec.result c.in_ok-made.ensures c.as_mut_slice.ensures.value c.fill_counts.ensures.same (c.from_vec.ensures ∙ written_back c.fill_counts.new.classes c.as_mut_slice.result.now c.in_ok-made.made.items c.in_ok-made.made.len c.in_ok-made.made.ok.0 c.as_mut_slice.ensures.value c.fill_counts.ensures.same)
-    c.in_ok-order.order (c.in_ok-order.ensures ∙ c.order-2.ensures) c.fill_counts.ensures.uses c.fill_counts.ensures.combos c.in_ok-principles.ensures
+    c.in_ok-order.order (c.in_ok-order.ensures ∙ c.order-2.ensures) c.fill_counts.ensures.uses c.fill_counts.ensures.combos c.in_ok-principles.ensures.meant

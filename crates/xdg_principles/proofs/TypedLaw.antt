@@ -1,0 +1,127 @@
+-- Where nothing is wrong, the uses of principles are typed.
+use Rattle.std.proofs.Common.{◌≡◌, inl, inr, ℕ, List, [], ◌∷◌, ◌++◌, map, Option, Some, Result, Ok, Err, refl, sym, ap, ◌∙◌, subst}
+use Rattle.std.specs.Prelude.{IfOk}
+use Rattle.xdg_ast.specs.declared.names.Name.{Name}
+use Rattle.xdg_base.specs.declared.faults.Cause.TheVariants as causes
+use Rattle.xdg_base.specs.declared.faults.Fault.{Fault}
+use Rattle.xdg_domain.specs.Shapes.{Shape, Among}
+use Rattle.xdg_faults.specs.First.{In}
+use Rattle.xdg_index.specs.Texts.{place_of}
+use Rattle.xdg_types.specs.declared.table.DimType.{DimType}
+use Rattle.xdg_types.specs.Answers.{HasTable, None_of}
+use Rattle.xdg_types.specs.Names.{fault_at}
+use Rattle.xdg_types.specs.Parts.{Statement, used_names, texts}
+use Rattle.xdg_types.specs.Table.{Table, IsTable, HasPlace}
+use Rattle.xdg_types.proofs.Elements.{among_or_not}
+use Rattle.xdg_principles.specs.declared.building.Arg.{Arg}
+use Rattle.xdg_principles.specs.declared.building.PrincipleUse.{PrincipleUse}
+use Rattle.xdg_principles.specs.declared.principle.Parameter.{Parameter}
+use Rattle.xdg_principles.specs.declared.principle.Which.{Which}
+use Rattle.xdg_principles.specs.Principles.{principle_named, dims_in, dim_key, parameters, told}
+use Rattle.xdg_principles.specs.Uses.{Use, principle_uses, values, under}
+use Rattle.xdg_principles.specs.Settings.{Setting, dim, dim_texts, at_place, shared}
+use Rattle.xdg_principles.specs.Names.{PrincipleNameOffends}
+use Rattle.xdg_principles.specs.Arguments.{OneOffends, ArgumentOffends}
+use Rattle.xdg_principles.specs.Made.{IsArg, AreArgs, IsUse, AreUses, ArePrincipleUses, built}
+use Rattle.xdg_principles.specs.Typed.{number_of, dim_at, IsTypedArg, AreTypedArgs, IsTypedUse, AreTypedUses}
+use Rattle.xdg_principles.proofs.Tables.{has_dims}
+use Rattle.xdg_principles.proofs.TypedArgs.{shared_or, small_shared, fixes, typed_arg}
+use Rattle.xdg_principles.proofs.TypedPlaces.{place_in, as_many, dim_of_place, name_of_dim, place_below, used_text, used_place}
+use Rattle.xdg_principles.proofs.TypedRows.{HasWhich, which_at, FixesShared, fixing, sound_wanted}
+use Rattle.xdg_principles.proofs.UseLaw.{stands_here, value_under, are_uses}
+
+-- ---- lists
+
+arg_of : (setting : Setting) (ps : List Parameter) (xs : List Arg) → AreArgs setting ps xs → (parameter : Parameter) → In ps parameter → (x : Arg) × IsArg setting parameter parameter.wanted x
+arg_of setting [] [] h parameter i = absurd i
+arg_of setting [] (x ∷ xs) h parameter i = absurd h
+arg_of setting (q ∷ ps) [] h parameter i = absurd h
+arg_of setting (q ∷ ps) (x ∷ xs) h parameter i = elim i [ inl e ↦ (x, subst (λ (r : Parameter). IsArg setting r r.wanted x) e h.0) | inr k ↦ arg_of setting ps xs h.1 parameter k ]
+
+typed_args : (setting : Setting) (table : Table) (u : PrincipleUse) (type : Shape) (ps : List Parameter) (xs : List Arg) → AreArgs setting ps xs
+    → ((parameter : Parameter) → In ps parameter → (x : Arg) → IsArg setting parameter parameter.wanted x → IsTypedArg table u type parameter.wanted x) → AreTypedArgs table u type ps xs
+typed_args setting table u type [] [] h each = tt
+typed_args setting table u type [] (x ∷ xs) h each = absurd h
+typed_args setting table u type (q ∷ ps) [] h each = absurd h
+typed_args setting table u type (q ∷ ps) (x ∷ xs) h each = (each q (inl refl) x h.0, typed_args setting table u type ps xs h.1 (λ r k. each r (inr k)))
+
+use_of : (dims : List DimType) (uses : List Use) (made : List PrincipleUse) → AreUses dims uses made → (u : PrincipleUse) → In made u → (one : Use) × (In uses one × IsUse dims one u)
+use_of dims [] [] h u i = absurd i
+use_of dims [] (v ∷ made) h u i = absurd h
+use_of dims (one ∷ uses) [] h u i = absurd h
+use_of dims (one ∷ uses) (v ∷ made) h u i = elim i [
+  | inl e ↦ (one, (inl refl, subst (IsUse dims one) e h.0))
+  | inr k ↦ (let r = use_of dims uses made h.1 u k in (r.0, (inr r.1.0, r.1.1)))
+]
+
+first_in : (first : Option Parameter) (more : List Parameter) (parameter : Parameter) → first ≡ Some parameter → In (told first ++ more) parameter
+first_in first more parameter is = subst (λ (o : Option Parameter). In (told o ++ more) parameter) (sym is) (inl refl)
+
+-- ---- one use
+
+module _ (statements : List Statement) (table : Table) (has : HasTable statements table) (named : None_of (PrincipleNameOffends statements)) (right : None_of (ArgumentOffends statements table)) where
+  module _ (types : IsTable table) (one : Use) (stands : In (principle_uses statements) one) (u : PrincipleUse) (is : IsUse table.dims one u) where
+    abbrev here : Setting
+    here = record { dims = table.dims; one = one; form = is.form }
+
+    one_right : (parameter : Parameter) → In (parameters is.form) parameter → (f : Fault) → OneOffends (record { setting = here; parameter = parameter }) f → ⊥
+    one_right parameter i f o =
+        right f (record { setting = here; parameter = parameter }, (stands_here statements table (has_dims statements table has) named right one stands is.form is.known parameter i, o))
+
+    same_dim : (which : Which) → HasWhich is.form.dims which → dim_at table u which ≡ dim here which
+    same_dim which h = ap (at_place table.dims) (place_in here (dims_in is.form.dims) u.dims is.dimensions (number_of which) which (which_at is.form.dims which h))
+
+    fixed : FixesShared is.form.first → (type : Shape) × (shared here ≡ Some type)
+    fixed h =
+        let x = fixing is.form.first h in
+        let i = first_in is.form.first (told is.form.second ++ told is.form.third) x.parameter x.stands in
+        let arg = arg_of here (parameters is.form) u.args is.arguments x.parameter i in
+        fixes here x.parameter (one_right x.parameter i) x.sort x.which x.wanted x.required x.stands arg.0 arg.1
+
+    -- a dimension of the use is one of the table, and the text names it
+    named_dim : (k : ℕ) → In u.dims k → (name : Name) × (In (values one.dims) name × (place_of (dim_texts table.dims) name.text ≡ Some k))
+    named_dim k i =
+        let which = dim_of_place here (dims_in is.form.dims) u.dims is.dimensions k i in
+        let name = name_of_dim table.dims (under one.dims (dim_key is.form.dims which.0)) k which.1 in
+        (name.0, (value_under one.dims (dim_key is.form.dims which.0) name.0 name.1.0, name.1.1))
+
+    used_too : HasPlace table.used u.home → (k : ℕ) → In u.dims k → HasPlace table.used k
+    used_too at k i =
+        let name = named_dim k i in
+        let within : Among (texts (used_names statements)) one.within.text = used_text table.dims (used_names statements) table.used has.table.used u.home one.within.text at is.home in
+        elim (among_or_not (texts (used_names statements)) name.0.text) [
+          | inl among ↦ used_place table.dims (used_names statements) table.used types.names has.table.used k name.0.text among name.1.1
+          | inr missing ↦ absurd (named (fault_at causes.UnknownName name.0.span.start)
+              (inr (inr (inr (inl (record { one = one; stands = stands; used = within; name = name.0; named = name.1.0; missing = missing; fault = refl }))))))
+        ]
+
+    typed_use : IsTypedUse table u
+    typed_use = record {
+      form = is.form;
+      known = ap principle_named is.principle ∙ is.known;
+      home = place_below table.dims one.within.text u.home is.home;
+      count = as_many here (dims_in is.form.dims) u.dims is.dimensions;
+      dims = λ k i. (let name = named_dim k i in place_below table.dims name.0.text k name.1.1);
+      used = used_too;
+      shared = shared_or (shared here);
+      small = small_shared here;
+      args = typed_args here table u (shared_or (shared here)) (parameters is.form) u.args is.arguments
+          (λ parameter i x h. typed_arg here parameter (one_right parameter i) table u same_dim fixed parameter.wanted refl (sound_wanted one.name.text is.form parameter is.known i) x h);
+    }
+
+  -- all uses are typed
+  pub typed_uses : IsTable table → (made : List PrincipleUse) → ArePrincipleUses statements table made → AreTypedUses table made
+  typed_uses types made h u i = let r = use_of table.dims (principle_uses statements) made h u i in typed_use types r.0 r.1.0 u r.1.1
+
+  -- ---- what is made
+
+  meant : (made : List PrincipleUse) → made ≡ map (built table.dims) (principle_uses statements) → ArePrincipleUses statements table made
+  meant made same = subst (ArePrincipleUses statements table) (sym same) (are_uses statements table (has_dims statements table has) named right)
+
+  pub meant_made : {E : Type 0} (result : Result (List PrincipleUse) E) → IfOk result (λ made. made ≡ map (built table.dims) (principle_uses statements)) → IfOk result (λ made. ArePrincipleUses statements table made)
+  meant_made (Ok made) same = meant made same
+  meant_made (Err error) same = tt
+
+  pub typed_made : {E : Type 0} (result : Result (List PrincipleUse) E) → IfOk result (λ made. made ≡ map (built table.dims) (principle_uses statements)) → IfOk result (λ made. IsTable table) → IfOk result (AreTypedUses table)
+  typed_made (Ok made) same types = typed_uses types made (meant made same)
+  typed_made (Err error) same types = tt

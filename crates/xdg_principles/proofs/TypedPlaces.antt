@@ -1,0 +1,101 @@
+-- Places of labels and of dimensions that are used.
+use Rattle.std.proofs.Common.{◌≡◌, inl, inr, ℕ, zero, suc, ◌<◌, List, [], ◌∷◌, length, get_or, Option, None, Some, refl, sym, ap, ◌∙◌, arith}
+use Rattle.std.specs.Prelude.{slice_get}
+use Rattle.std.proofs.lemmas.List.{length-map, get_or-map}
+use Rattle.xdg_ast.specs.declared.names.Name.{Name}
+use Rattle.xdg_domain.specs.Shapes.{Among, Differ}
+use Rattle.xdg_faults.specs.First.{In}
+use Rattle.xdg_index.specs.Texts.{place_of}
+use Rattle.xdg_index.proofs.Texts.{place_of-Some, place_of-at}
+use Rattle.xdg_types.specs.declared.table.DimType.{DimType}
+use Rattle.xdg_types.specs.Parts.{texts}
+use Rattle.xdg_types.specs.Table as table
+use Rattle.xdg_types.specs.Table.{AreUsed, HasPlace}
+use Rattle.xdg_types.proofs.Ordered.{all_differ}
+use Rattle.xdg_principles.specs.declared.principle.Which.{Which}
+use Rattle.xdg_principles.specs.Settings.{Setting, dim_texts, dim_place, place_named}
+use Rattle.xdg_principles.specs.Made.{AreLabels, ArePlaces}
+
+-- ---- labels
+
+label_again : (known : List (List ℕ)) (names : List Name) (ns : List ℕ) (k : ℕ) (t : List ℕ) → AreLabels known names ns → HasPlace ns k → place_of known t ≡ Some k → Among (texts names) t
+label_again known [] [] k t h i is = absurd i
+label_again known [] (n ∷ ns) k t h i is = absurd h
+label_again known (name ∷ names) [] k t h i is = absurd h
+label_again known (name ∷ names) (n ∷ ns) k t h i is = elim i [
+  | inl q ↦ inl (sym (place_of-Some known name.text n h.0).1 ∙ ap (λ j. get_or known j []) q ∙ (place_of-Some known t k is).1)
+  | inr r ↦ inr (label_again known names ns k t h.1 r is)
+]
+
+-- the places of different labels are places, all different
+pub label_places : (known : List (List ℕ)) (names : List Name) (ns : List ℕ) → AreLabels known names ns → Differ (texts names) → table.ArePlaces (length known) ns
+label_places known [] [] h apart = tt
+label_places known [] (n ∷ ns) h apart = absurd h
+label_places known (name ∷ names) [] h apart = absurd h
+label_places known (name ∷ names) (n ∷ ns) h apart = (
+  ((place_of-Some known name.text n h.0).0, λ i. apart.0 (label_again known names ns n name.text h.1 i h.0)),
+  label_places known names ns h.1 apart.1,
+)
+
+-- ---- the dimensions of a use
+
+some_same : {A : Type 0} (x y : A) → Some x ≡ Some y → x ≡ y
+some_same x y h = cc
+
+none_some : {A : Type 0} (x : A) → None ≡ Some x → ⊥
+none_some x h = cc
+
+-- the place of a dimension stands where the dimension does
+pub place_in : (setting : Setting) (ws : List Which) (ks : List ℕ) → ArePlaces setting ws ks → (n : ℕ) (which : Which) → slice_get ws n ≡ Some which → slice_get ks n ≡ dim_place setting which
+place_in setting [] ks h n which is = absurd (none_some which is)
+place_in setting (v ∷ ws) [] h n which is = absurd h
+place_in setting (v ∷ ws) (k ∷ ks) h zero which is = sym h.0 ∙ ap (dim_place setting) (some_same v which is)
+place_in setting (v ∷ ws) (k ∷ ks) h (suc n) which is = place_in setting ws ks h.1 n which is
+
+pub as_many : (setting : Setting) (ws : List Which) (ks : List ℕ) → ArePlaces setting ws ks → length ks ≡ length ws
+as_many setting [] [] h = refl
+as_many setting [] (k ∷ ks) h = absurd h
+as_many setting (v ∷ ws) [] h = absurd h
+as_many setting (v ∷ ws) (k ∷ ks) h = omega (arith, as_many setting ws ks h.1)
+
+pub dim_of_place : (setting : Setting) (ws : List Which) (ks : List ℕ) → ArePlaces setting ws ks → (k : ℕ) → In ks k → (which : Which) × (dim_place setting which ≡ Some k)
+dim_of_place setting [] [] h k i = absurd i
+dim_of_place setting [] (j ∷ ks) h k i = absurd h
+dim_of_place setting (v ∷ ws) [] h k i = absurd h
+dim_of_place setting (v ∷ ws) (j ∷ ks) h k i = elim i [ inl q ↦ (v, h.0 ∙ ap Some q) | inr r ↦ dim_of_place setting ws ks h.1 k r ]
+
+pub name_of_dim : (dims : List DimType) (given : Option Name) (k : ℕ) → place_named dims given ≡ Some k → (name : Name) × ((given ≡ Some name) × (place_of (dim_texts dims) name.text ≡ Some k))
+name_of_dim dims None k h = absurd (none_some k h)
+name_of_dim dims (Some name) k h = (name, (refl, h))
+
+pub place_below : (dims : List DimType) (t : List ℕ) (k : ℕ) → place_of (dim_texts dims) t ≡ Some k → k < length dims
+place_below dims t k h =
+    let len : length (dim_texts dims) ≡ length dims = length-map dims (λ dim. dim.name) in
+    omega (arith, len, (place_of-Some (dim_texts dims) t k h).0)
+
+-- ---- dimensions that are used
+
+name_at : (dims : List DimType) (k : ℕ) (dim : DimType) → k < length dims → get_or dims k dim ≡ dim → get_or (dim_texts dims) k [] ≡ dim.name
+name_at dims k dim within is = get_or-map (λ (x : DimType). x.name) dims k dim [] within ∙ ap (λ (x : DimType). x.name) is
+
+-- a dimension whose place is used is named as used
+pub used_text : (dims : List DimType) (names : List Name) (ks : List ℕ) → AreUsed dims names ks → (k : ℕ) (t : List ℕ) → HasPlace ks k → place_of (dim_texts dims) t ≡ Some k → Among (texts names) t
+used_text dims [] [] h k t i is = absurd i
+used_text dims [] (j ∷ ks) h k t i is = absurd h
+used_text dims (name ∷ names) [] h k t i is = absurd h
+used_text dims (name ∷ names) (j ∷ ks) h k t i is = elim i [
+  | inl q ↦ inl (sym h.0.1.1.1 ∙ sym (name_at dims j h.0.0 h.0.1.0 h.0.1.1.0) ∙ ap (λ n. get_or (dim_texts dims) n []) q ∙ (place_of-Some (dim_texts dims) t k is).1)
+  | inr r ↦ inr (used_text dims names ks h.1 k t r is)
+]
+
+-- the place of a dimension that is named as used is used
+pub used_place : (dims : List DimType) (names : List Name) (ks : List ℕ) → Differ (dim_texts dims) → AreUsed dims names ks → (k : ℕ) (t : List ℕ) → Among (texts names) t → place_of (dim_texts dims) t ≡ Some k → HasPlace ks k
+used_place dims [] ks apart h k t i is = absurd i
+used_place dims (name ∷ names) [] apart h k t i is = absurd h
+used_place dims (name ∷ names) (j ∷ ks) apart h k t i is = elim i [
+  | inl q ↦ inl (some_same j k (sym (place_of-at (dim_texts dims) j (all_differ (dim_texts dims) apart) inside) ∙ ap (place_of (dim_texts dims)) (name_at dims j h.0.0 h.0.1.0 h.0.1.1.0 ∙ h.0.1.1.1 ∙ q) ∙ is))
+  | inr r ↦ inr (used_place dims names ks apart h.1 k t r is)
+]
+  where
+    inside : j < length (dim_texts dims)
+    inside = let len : length (dim_texts dims) ≡ length dims = length-map dims (λ dim. dim.name) in omega (arith, len, h.0.1.0)
