@@ -5,7 +5,7 @@ use Rattle.std.specs.Prelude.{codes}
 use Rattle.xdg_domain.specs.declared.values.Value.{Value, out-Value, roll-Value, roll-out-Value, out-roll-Value, map-Value, fold_out-Value}
 use Rattle.xdg_domain.specs.declared.values.Value.TheOpen.{Value-F}
 use Rattle.xdg_domain.specs.declared.values.Value.TheFolds.{ind-Value}
-use Rattle.xdg_packed.specs.Spelling.{number, each, numbers, keyed, text, layer, truth, spelling, spelling_of_fields}
+use Rattle.xdg_packed.specs.Spelling.{number, each, numbers, keyed, text, layer, truth, spelling, spelling_of_fields, spelling_of_entry}
 use Rattle.xdg_packed.proofs.Digits.{heads, tails, apart, number_told}
 
 -- what stands at the front of a text with this spelling is this element, and the rest is told
@@ -179,7 +179,13 @@ pub value_told : (v : Value) → Told spelling v
 value_told = ind-Value (λ v. Told spelling v) (λ x z is. subst (λ l. Told spelling (roll-Value l)) is (rolled_told z))
 
 -- and each record
+record_told : (xs : List (ℕ × Value)) → Told spelling_of_fields xs
+record_told xs =
+    list_told (λ entry. number entry.0 ++ spelling entry.1) xs (each_of_all (λ entry. number entry.0 ++ spelling entry.1) (λ entry. pair_told spelling entry.0 entry.1 (value_told entry.1)) xs)
+
 pub fields_told : (xs ys : List (ℕ × Value)) → spelling_of_fields xs ≡ spelling_of_fields ys → xs ≡ ys
-fields_told xs ys e =
-    (list_told (λ entry. number entry.0 ++ spelling entry.1) xs (each_of_all (λ entry. number entry.0 ++ spelling entry.1) (λ entry. pair_told spelling entry.0 entry.1 (value_told entry.1)) xs)
-    ys [] [] (ap (λ l. l ++ []) e)).0
+fields_told xs ys e = (record_told xs ys [] [] (ap (λ l. l ++ []) e)).0
+
+-- and each entry
+pub entry_told : (xs ys : List (List (ℕ × Value))) → spelling_of_entry xs ≡ spelling_of_entry ys → xs ≡ ys
+entry_told xs ys e = (list_told spelling_of_fields xs (each_of_all spelling_of_fields record_told xs) ys [] [] (ap (λ l. l ++ []) e)).0

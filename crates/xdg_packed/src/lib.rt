@@ -10,3 +10,4 @@ mod tests;
 mod words;
 
 pub use packed::{EntryView, Packed, pack};
+pub use spelling::spell_entry;

@@ -1,24 +1,46 @@
 //! Values as texts, so that different values have different texts, and values can be looked up as texts are.
 
-ghost use Rattle.std.specs.Prelude.{◌≡◌, ◌+◌, ◌%◌, [], ◌∷◌, ◌++◌, IfOk, OnOk};
+ghost use Rattle.std.specs.Prelude.{◌≡◌, ◌+◌, ◌%◌, List, [], ◌∷◌, ◌++◌, IfOk, OnOk};
+ghost use Rattle.xdg_packed.specs.Lexicon.{Record};
 ghost use Rattle.xdg_packed.specs.Spelling as spec;
 
 use std::alloc::{AllocError, Global};
 use xdg_base::Text;
 use xdg_domain::{CardMap, CardSet, Fields, Value};
 
+/// The text that spells an entry. Different entries have different texts. The time is linear in what the entry says.
+pub fn spell_entry(alloc: Global, entry: &[Fields]) -> Result<Text, AllocError>
+    ensures spelled { IfOk result (λ made. made ≡ spec.spelling_of_entry entry.now) }
+    ensures told { IfOk result (λ made. (other : List Record) → spec.spelling_of_entry other ≡ made → other ≡ entry.now) }
+{
+    let mut out = Text::new(alloc);
+    for fields in entry {
+        out.push_str(",")?;
+        push_fields(&mut out, fields)?;
+    }
+    out.push_str(";")?;
+    Ok(out)
+}
+
 /// The text that spells a record.
 pub(crate) fn spell_fields(alloc: Global, fields: &Fields) -> Result<Text, AllocError>
     ensures { IfOk result (λ made. made ≡ spec.spelling_of_fields fields.now) }
 {
     let mut out = Text::new(alloc);
+    push_fields(&mut out, fields)?;
+    Ok(out)
+}
+
+/// Adds the spelling of a record.
+fn push_fields(out: &mut Text, fields: &Fields) -> Result<(), AllocError>
+    ensures { OnOk result (out.new ≡ out.old ++ spec.spelling_of_fields fields.now) }
+{
     for field in fields.as_slice() {
         out.push_str(",")?;
-        push_number(&mut out, u64::from(field.0))?;
-        push_value(&mut out, &field.1)?;
+        push_number(out, u64::from(field.0))?;
+        push_value(out, &field.1)?;
     }
-    out.push_str(";")?;
-    Ok(out)
+    out.push_str(";")
 }
 
 /// Adds the spelling of a value: a mark of its variant, and what it holds.

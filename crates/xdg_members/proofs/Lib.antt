@@ -1,0 +1,11 @@
+mod Bounded
+mod Denoted
+mod Dims
+mod Fields
+mod Followed
+mod Joining
+mod Made
+mod Once
+mod OneJoin
+mod OneMeaning
+mod Settled

@@ -1,0 +1,4 @@
+pub mod Denotes
+pub mod Made
+pub mod Partial
+pub mod Right

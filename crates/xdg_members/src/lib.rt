@@ -1,0 +1,12 @@
+//! What the bodies of checked grammars denote: partial entries, which say records of dimensions.
+#![tactic(auto)]
+
+mod closing;
+mod conjunction;
+mod denoting;
+mod entries;
+mod records;
+mod using;
+
+pub use denoting::members;
+pub use entries::Partial;
