@@ -1,0 +1,73 @@
+-- Entries added one by one, without those that stand there already.
+use Rattle.std.proofs.Common.{◌≡◌, inl, inr, ℕ, zero, suc, ◌+◌, ◌<◌, ◌≤◌, length, get_or, drop, add-one, drop-cons, List, [], ◌∷◌, ◌++◌, Option, None, Some, refl, sym, ap, ap₂, ◌∙◌, subst, arith}
+use Rattle.std.proofs.lemmas.List.{drop_all}
+use Rattle.xdg_faults.specs.First.{In}
+use Rattle.xdg_types.specs.Table.{Table}
+use Rattle.xdg_packed.specs.Lexicon.{Entry}
+use Rattle.xdg_members.specs.Partial.{Partial}
+use Rattle.xdg_lexicon.specs.Growing.{Puts}
+use Rattle.xdg_lexicon.specs.Lexicon.{whole, AreWhole, Adds, nothing_more, known_before, new}
+
+-- ---- what is added is told
+
+pub same_added : (known more all others : List Entry) → Adds known more all → Adds known more others → all ≡ others
+same_added _ _ _ _ (nothing_more known) (nothing_more _) = refl
+same_added known _ all others (known_before _ more _ e s a) (known_before _ _ _ _ t b) = same_added known more all others a b
+same_added known _ all others (known_before _ more _ e s a) (new _ _ _ _ n b) = absurd (n s)
+same_added known _ all others (new _ more _ e n a) (known_before _ _ _ _ s b) = absurd (n s)
+same_added known _ all others (new _ more _ e n a) (new _ _ _ _ m b) = same_added (known ++ e ∷ []) more all others a b
+
+-- ---- whole entries
+
+same_entry : (o : Option Entry) (e d : Entry) → o ≡ Some e → o ≡ Some d → e ≡ d
+same_entry o e d a b = cc
+
+pub same_whole : (table : Table) (ps : List Partial) (es ds : List Entry) → AreWhole table ps es → AreWhole table ps ds → es ≡ ds
+same_whole table [] [] [] a b = refl
+same_whole table [] [] (d ∷ ds) a b = absurd b
+same_whole table [] (e ∷ es) ds a b = absurd a
+same_whole table (p ∷ ps) [] ds a b = absurd a
+same_whole table (p ∷ ps) (e ∷ es) [] a b = absurd b
+same_whole table (p ∷ ps) (e ∷ es) (d ∷ ds) a b = ap₂ (λ x xs. x ∷ xs) (same_entry (whole table p) e d a.0 b.0) (same_whole table ps es ds a.1 b.1)
+
+apart : (o : Option Entry) (e : Entry) → o ≡ Some e → o ≡ None → ⊥
+apart o e a b = cc
+
+-- where each is whole, none lacks a feature
+pub none_lacks : (table : Table) (ps : List Partial) (es : List Entry) (p : Partial) → AreWhole table ps es → In ps p → whole table p ≡ None → ⊥
+none_lacks table [] es p a stands none = stands
+none_lacks table (q ∷ ps) [] p a stands none = a
+none_lacks table (q ∷ ps) (e ∷ es) p a stands none = elim stands [
+  | inl is ↦ apart (whole table q) e a.0 (ap (whole table) is ∙ none)
+  | inr later ↦ none_lacks table ps es p a.1 later none
+]
+
+-- ---- one after the other
+
+front : {X : Type 0} (xs : List X) (k : ℕ) (x : X) → k < length xs → x ≡ get_or xs k x → drop k xs ≡ x ∷ drop (k + 1) xs
+front xs k x within is = rw (add-one, drop-cons xs k x) (ap (λ y. y ∷ drop (suc k) xs) (sym is))
+
+pub in_at : {X : Type 0} (xs : List X) (k : ℕ) (x : X) → k < length xs → x ≡ get_or xs k x → In xs x
+in_at [] k x within is = absurd (omega (arith, within))
+in_at (y ∷ xs) zero x within is = inl (sym is)
+in_at (y ∷ xs) (suc k) x within is = inr (in_at xs k x (omega (arith, within)) is)
+
+-- What adding the rest behind those so far comes to is what adding all comes to.
+abbrev pub AddsSoFar : Table → List Entry → List Partial → ℕ → List Entry → Type 0
+AddsSoFar table known ps i now =
+    (rest all : List Entry) → AreWhole table (drop i ps) rest → Adds now rest all → (made : List Entry) × (AreWhole table ps made × Adds known made all)
+
+module _ (table : Table) (known : List Entry) (ps : List Partial) where
+  pub adds_begun : (now : List Entry) → now ≡ known → AddsSoFar table known ps 0 now
+  adds_begun now is rest all w a = (rest, (w, subst (λ k. Adds k rest all) is a))
+
+  put_first : (now next rest all : List Entry) (e : Entry) → Puts now e next → Adds next rest all → Adds now (e ∷ rest) all
+  put_first now next rest all e (inl p) a = known_before now rest all e p.0 (subst (λ k. Adds k rest all) p.1 a)
+  put_first now next rest all e (inr p) a = new now rest all e p.0 (subst (λ k. Adds k rest all) p.1 a)
+
+  pub adds_further : (i : ℕ) (now next : List Entry) (p : Partial) (e : Entry) → i < length ps → p ≡ get_or ps i p → whole table p ≡ Some e → Puts now e next → AddsSoFar table known ps i now → AddsSoFar table known ps (i + 1) next
+  adds_further i now next p e within is made puts so_far rest all w a =
+      so_far (e ∷ rest) all (subst (λ l. AreWhole table l (e ∷ rest)) (sym (front ps i p within is)) (made, w)) (put_first now next rest all e puts a)
+
+  pub adds_done : (i : ℕ) (now : List Entry) → length ps ≤ i → AddsSoFar table known ps i now → (made : List Entry) × (AreWhole table ps made × Adds known made now)
+  adds_done i now past so_far = so_far [] now (subst (λ l. AreWhole table l []) (sym (drop_all i ps past)) tt) (nothing_more now)

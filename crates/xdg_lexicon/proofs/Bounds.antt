@@ -1,0 +1,149 @@
+-- The place of words, and the limits of entries.
+use Rattle.std.proofs.Common.{◌≡◌, ℕ, zero, suc, ◌-◌, ◌^◌, ◌<◌, ◌≤◌, List, [], ◌∷◌, length, get_or, map, Option, None, Some, Ok, Err, All, false, refl, sym, ap, ◌∙◌, subst, inl, inr, arith, codes}
+use Rattle.std.specs.Prelude.{slice_get}
+use Rattle.std.proofs.lemmas.List.{length-map, get_or-map}
+use Rattle.xdg_base.specs.declared.faults.Cause.TheVariants as causes
+use Rattle.xdg_base.specs.declared.faults.Fault.{Fault}
+use Rattle.xdg_base.specs.declared.faults.Stop.{Stop}
+use Rattle.xdg_base.specs.declared.faults.Stop.TheVariants as stops
+use Rattle.xdg_domain.specs.declared.types.Ty.{Ty}
+use Rattle.xdg_domain.specs.Shapes.{Shape, Among, Differ, shape, text}
+use Rattle.xdg_faults.specs.First.{In}
+use Rattle.xdg_index.specs.Texts.{has_text, place_of}
+use Rattle.xdg_index.proofs.Texts.{place_of-Some, place_of-None}
+use Rattle.xdg_types.specs.declared.table.DimType.{DimType}
+use Rattle.xdg_types.specs.Table.{Table, IsTable, ArePlaces, HasPlace, Typed, typed, firsts}
+use Rattle.xdg_packed.specs.Lexicon.{Entry, number, numbers_of, places_of, word_of}
+use Rattle.xdg_packed.proofs.WordLists.{numbers_none}
+use Rattle.xdg_check.specs.Counts.{capped}
+use Rattle.xdg_check.specs.Lex.{HasLex}
+use Rattle.xdg_entries.specs.Entries.{IsWordPlace, count_of}
+use Rattle.xdg_lexicon.specs.Growing.{IsWordCount, IsFirstCrowded}
+use Rattle.xdg_lexicon.specs.Lexicon.{AreFewEach, reaching}
+use Rattle.xdg_lexicon.specs.Steps.{KeepsLimits}
+use Rattle.xdg_lexicon.proofs.Counting.{found_count}
+use Rattle.xdg_lexicon.proofs.Right.{keeps_at}
+
+-- ---- one place
+
+among_at : (xs : List (List ℕ)) (k : ℕ) (t : List ℕ) → slice_get xs k ≡ Some t → Among xs t
+among_at [] k t is = absurd (cc)
+among_at (x ∷ xs) zero t is = inl (cc)
+among_at (x ∷ xs) (suc k) t is = inr (among_at xs k t is)
+
+differ_once : (xs : List (List ℕ)) (j k : ℕ) (t : List ℕ) → Differ xs → slice_get xs j ≡ Some t → slice_get xs k ≡ Some t → j ≡ k
+differ_once [] j k t differ one other = absurd (cc)
+differ_once (x ∷ xs) zero zero t differ one other = refl
+differ_once (x ∷ xs) zero (suc k) t differ one other = absurd (differ.0 (let same : t ≡ x = cc in subst (Among xs) same (among_at xs k t other)))
+differ_once (x ∷ xs) (suc j) zero t differ one other = absurd (differ.0 (let same : t ≡ x = cc in subst (Among xs) same (among_at xs j t one)))
+differ_once (x ∷ xs) (suc j) (suc k) t differ one other = ap suc (differ_once xs j k t differ.1 one other)
+
+place_at : (ks : List ℕ) (i k : ℕ) → slice_get ks i ≡ Some k → HasPlace ks k
+place_at [] i k is = absurd (cc)
+place_at (j ∷ ks) zero k is = inl (cc)
+place_at (j ∷ ks) (suc i) k is = inr (place_at ks i k is)
+
+places_once : (bound : ℕ) (ks : List ℕ) (i j k : ℕ) → ArePlaces bound ks → slice_get ks i ≡ Some k → slice_get ks j ≡ Some k → i ≡ j
+places_once bound [] i j k are one other = absurd (cc)
+places_once bound (x ∷ ks) zero zero k are one other = refl
+places_once bound (x ∷ ks) zero (suc j) k are one other = absurd (are.0.1 (let same : k ≡ x = cc in subst (HasPlace ks) same (place_at ks j k other)))
+places_once bound (x ∷ ks) (suc i) zero k are one other = absurd (are.0.1 (let same : k ≡ x = cc in subst (HasPlace ks) same (place_at ks i k one)))
+places_once bound (x ∷ ks) (suc i) (suc j) k are one other = ap suc (places_once bound ks i j k are.1 one other)
+
+map_at : {A B : Type 0} (f : A → B) (xs : List A) (k : ℕ) (x : A) → slice_get xs k ≡ Some x → slice_get (map f xs) k ≡ Some (f x)
+map_at f [] k x is = absurd (cc)
+map_at f (y ∷ xs) zero x is = (let same : y ≡ x = cc in ap (λ z. Some (f z)) same)
+map_at f (y ∷ xs) (suc k) x is = map_at f xs k x is
+
+name_at : (fs : List (List ℕ × Ty)) (k : ℕ) (name : List ℕ) (s : Shape) → slice_get (typed fs) k ≡ Some (name, s) → slice_get (firsts fs) k ≡ Some name
+name_at [] k name s is = absurd (cc)
+name_at (f ∷ fs) zero name s is = ap Some (heads (f.0, shape f.1) (name, s) is)
+  where
+    heads : (a b : List ℕ × Shape) → Some a ≡ Some b → a.0 ≡ b.0
+    heads a b e = (let same : a ≡ b = cc in ap (λ (x : List ℕ × Shape). x.0) same)
+name_at (f ∷ fs) (suc k) name s is = name_at fs k name s is
+
+pub words_once : (table : Table) → IsTable table → (d f e g : ℕ) → IsWordPlace table d f → IsWordPlace table e g → (d ≡ e) × (f ≡ g)
+words_once table is d f e g x y =
+    let names = map (λ (dim : DimType). dim.name) table.dims in
+    let one : slice_get names x.used.0 ≡ Some (codes "lex") = map_at (λ (dim : DimType). dim.name) table.dims x.used.0 x.lex x.used.1.1 ∙ ap Some x.name in
+    let other : slice_get names y.used.0 ≡ Some (codes "lex") = map_at (λ (dim : DimType). dim.name) table.dims y.used.0 y.lex y.used.1.1 ∙ ap Some y.name in
+    let same_place : x.used.0 ≡ y.used.0 = differ_once names x.used.0 y.used.0 (codes "lex") is.names one other in
+    let same_dim : x.lex ≡ y.lex = same_some (slice_get table.dims x.used.0) x.lex y.lex x.used.1.1 (ap (slice_get table.dims) same_place ∙ y.used.1.1) in
+    let keeps = keeps_at table.dims x.used.0 x.lex x.used.1.1 is.dims in (
+      places_once (length table.dims) table.used d e x.used.0 is.used x.used.1.0 (y.used.1.0 ∙ ap Some (sym same_place)),
+      differ_once (firsts x.lex.fields) f g (codes "word") keeps.fields (name_at x.lex.fields f (codes "word") text x.word)
+          (name_at x.lex.fields g (codes "word") text (ap (λ (dim : DimType). slice_get (typed dim.fields) g) same_dim ∙ y.word)),
+    )
+  where
+    same_some : (o : Option DimType) (a b : DimType) → o ≡ Some a → o ≡ Some b → a ≡ b
+    same_some o a b e f = cc
+
+-- ---- words of checked grammars
+
+used_at : (ks : List ℕ) (k : ℕ) → HasPlace ks k → (i : ℕ) × (slice_get ks i ≡ Some k)
+used_at [] k has = absurd has
+used_at (j ∷ ks) k (inl is) = (0, ap Some is)
+used_at (j ∷ ks) k (inr later) = (let r = used_at ks k later in (suc r.0, r.1))
+
+field_at : (fs : Typed) (f : List ℕ × Shape) → In fs f → (i : ℕ) × (slice_get fs i ≡ Some f)
+field_at [] f stands = absurd stands
+field_at (x ∷ fs) f (inl is) = (0, ap Some is)
+field_at (x ∷ fs) f (inr later) = (let r = field_at fs f later in (suc r.0, r.1))
+
+pub has_words : (table : Table) → HasLex table → ((dim field : ℕ) → IsWordPlace table dim field → ⊥) → ⊥
+has_words table lex none =
+    let used = used_at table.used lex.place lex.used in
+    let field = field_at (typed lex.dim.fields) (codes "word", text) lex.lex.word in
+    none used.0 field.0 (record { lex = lex.dim; used = (lex.place, (used.1, lex.stands)); name = lex.lex.name; word = field.1 })
+
+-- ---- entries of words
+
+no_entry : (said : List (List ℕ)) (word : List ℕ) → has_text said word ≡ false → length (places_of said word) ≡ 0
+no_entry said word none = sym (length-map (places_of said word) number) ∙ ap (λ l. length l) (numbers_none said word none)
+
+pub few_counted : (said words : List (List ℕ)) (counts : List ℕ) (most : ℕ) (word : List ℕ) → IsWordCount said words counts → All (λ n. n ≤ most) counts → length (places_of said word) ≤ most
+few_counted said words counts most word count bound = by (place_of words word) refl
+  where
+    by : (found : Option ℕ) → place_of words word ≡ found → length (places_of said word) ≤ most
+    by None e = (let none = no_entry said word (sym (count.index.all word) ∙ place_of-None words word e) in omega (arith, none))
+    by (Some place) e =
+        let at = place_of-Some words word place e in
+        let is = found_count said words counts word count place e in
+        let size : length counts ≡ length words = ap length count.counted ∙ length-map words (λ w. length (numbers_of said w)) in
+        let within : place < length counts = omega (arith, at.0, size) in
+        let few = bound place 0 within in
+        omega (arith, is, few)
+
+pub few_scanned : (dim field : ℕ) (entries : List Entry) → ((n : ℕ) → n < length entries → count_of dim field entries (word_of dim field (get_or entries n [])) ≤ 1024) → (word : List ℕ) → count_of dim field entries word ≤ 1024
+few_scanned dim field entries few word = by (place_of (map (word_of dim field) entries) word) refl
+  where
+    by : (found : Option ℕ) → place_of (map (word_of dim field) entries) word ≡ found → count_of dim field entries word ≤ 1024
+    by None e = (let none = no_entry (map (word_of dim field) entries) word (place_of-None (map (word_of dim field) entries) word e) in omega (arith, none))
+    by (Some place) e =
+        let at = place_of-Some (map (word_of dim field) entries) word place e in
+        let within : place < length entries = subst (λ n. place < n) (length-map entries (word_of dim field)) at.0 in
+        let is : word_of dim field (get_or entries place []) ≡ word = sym (get_or-map (word_of dim field) entries place [] [] within) ∙ at.1 in
+        subst (λ w. count_of dim field entries w ≤ 1024) is (few place within)
+
+-- ---- the answer
+
+pub few_each : (table : Table) (dim field : ℕ) (entries : List Entry) → IsTable table → IsWordPlace table dim field → ((word : List ℕ) → count_of dim field entries word ≤ 1024) → AreFewEach table entries
+few_each table dim field entries is place few d f other word =
+    let same = words_once table is dim field d f place other in
+    subst (λ e. count_of e f entries word ≤ 1024) same.0 (subst (λ g. count_of dim g entries word ≤ 1024) same.1 (few word))
+
+pub limits_kept : (table : Table) (entries : List Entry) (at count most : ℕ) → count ≡ length entries → count ≤ most → most ≤ 65536 → AreFewEach table entries → KeepsLimits table entries at (Ok tt)
+limits_kept table entries at count most is few bound each = (omega (arith, is, few, bound), each)
+
+abbrev fault : ℕ → ℕ → Fault
+fault at n = record { cause = causes.TooManyEntries; at = at; reached = n }
+
+pub crowded : (table : Table) (dim field : ℕ) (entries : List Entry) (at reached : ℕ) (stop : Stop) → IsWordPlace table dim field → length entries ≤ 65536 → IsFirstCrowded dim field entries reached → reached < 2 ^ 64
+    → stop ≡ stops.Fault (record { cause = causes.TooManyEntries; at = at; reached = reached }) → KeepsLimits table entries at (Err stop)
+crowded table dim field entries at reached stop place few first fits is =
+    let small : reached ≤ 2 ^ 64 - 1 = omega (arith, fits) in
+    let whole : capped reached ≡ reached = omega (arith, small) in
+    let same : fault at reached ≡ reaching causes.TooManyEntries at reached = ap (fault at) (sym whole) in
+    subst (λ s. KeepsLimits table entries at (Err s)) (sym is)
+    (inr (few, (reached, (record { dim = dim; field = field; words = place; first = first.first; within = first.within; reached_is = first.reached_is; many = first.many; before = first.before }, same))))

@@ -1,0 +1,222 @@
+-- What is whole is an entry of the grammar.
+use Rattle.std.proofs.Common.{◌≡◌, ℕ, zero, suc, ◌+◌, ◌<◌, ◌≤◌, List, [], ◌∷◌, ◌++◌, length, get_or, Option, None, Some, refl, sym, ap, ◌∙◌, subst, arith, drop}
+use Rattle.std.specs.Prelude.{slice_get}
+use Rattle.std.proofs.lemmas.Option.{slice_get_within, get_or_from_slice_get, slice_get_read}
+use Rattle.std.proofs.lemmas.List.{at_drop_more, drop_all, append_assoc, append-nil}
+use Rattle.xdg_domain.specs.declared.types.Ty.{Ty}
+use Rattle.xdg_domain.specs.declared.values.Value.TheVariants as v
+use Rattle.xdg_domain.specs.Defaults.{record_of_defaults}
+use Rattle.xdg_domain.specs.Shapes.{fields, Fields, field_then, shape, fields_of, names_of, IsType, AreTypes, Differ}
+use Rattle.xdg_domain.specs.Valencies.{KeysRise}
+use Rattle.xdg_domain.specs.Values.{IsIn}
+use Rattle.xdg_domain.specs.Joined.{fields_in}
+use Rattle.xdg_filling.specs.Filled as filled
+use Rattle.xdg_filling.specs.Filled.{filled_fields, fields_said, AreSaid}
+use Rattle.xdg_filling.proofs.Laws.{record_said, filled_right}
+use Rattle.xdg_types.specs.declared.table.DimType.{DimType}
+use Rattle.xdg_types.specs.Table.{Table, IsTable, KeepsDim, KeepDims, ArePlaces, AreFeatures, typed, firsts}
+use Rattle.xdg_packed.specs.Lexicon.{Record, Entry}
+use Rattle.xdg_packed.proofs.Packs.{any_default}
+use Rattle.xdg_members.specs.Partial.{Partial, IsPartial, IsRecord, IsDim, features, said_of}
+use Rattle.xdg_entries.specs.Entries.{IsWhole, IsEntry, record_type}
+use Rattle.xdg_lexicon.specs.Lexicon.{whole_record, record_then, records_of, whole}
+
+-- ---- types
+
+-- both ways to see the features are one
+pub same_features : (fs : List (List ℕ × Ty)) → fields_in fs ≡ fields_of (typed fs)
+same_features [] = refl
+same_features (f ∷ fs) = ap (field_then f.0 (shape f.1)) (same_features fs)
+
+pub types_of : (fs : List (List ℕ × Ty)) → AreFeatures (typed fs) → AreTypes (fields_of (typed fs))
+types_of [] h = tt
+types_of (f ∷ fs) h = (h.0, types_of fs h.1)
+
+names_are : (fs : List (List ℕ × Ty)) → names_of (fields_of (typed fs)) ≡ firsts fs
+names_are [] = refl
+names_are (f ∷ fs) = ap (λ l. f.0 ∷ l) (names_are fs)
+
+record_is_type : (dim : DimType) → KeepsDim dim → IsType (record_type dim)
+record_is_type dim keeps = (subst Differ (sym (names_are dim.fields)) keeps.fields, types_of dim.fields keeps.features)
+
+pub keeps_at : (dims : List DimType) (k : ℕ) (dim : DimType) → slice_get dims k ≡ Some dim → KeepDims dims → KeepsDim dim
+keeps_at [] k dim is keeps = absurd (cc)
+keeps_at (d ∷ dims) zero dim is keeps = (let same : d ≡ dim = cc in subst KeepsDim same keeps.0)
+keeps_at (d ∷ dims) (suc k) dim is keeps = keeps_at dims k dim is keeps.1
+
+-- ---- records
+
+-- what is said of a dimension is right for its features
+pub said_right : (fs : Fields) (m : Record) → IsRecord fs m → KeysRise 0 m × AreSaid 0 fs m
+said_right fs m right =
+    subst (λ l. KeysRise 0 (filled.fields_in l) × AreSaid 0 fs (filled.fields_in l)) (v.outs-Rec m)
+    (record_said fs (Some (v.Rec m)) (subst (IsIn (fields fs)) (sym (v.outs-Rec m)) right))
+
+record_is_whole : (dim : DimType) (m all : Record) → KeepsDim dim → IsRecord (fields_of (typed dim.fields)) m → filled_fields 0 (fields_of (typed dim.fields)) m ≡ Some all → IsWhole dim all
+record_is_whole dim m all keeps right made =
+    let fs = fields_of (typed dim.fields) in
+    let inside : fields_said (Some (v.Rec m)) ≡ m = ap filled.fields_in (v.outs-Rec m) in
+    filled_right (record_type dim) (record_is_type dim keeps) (Some (v.Rec m)) (subst (IsIn (fields fs)) (sym (v.outs-Rec m)) right) (v.Rec all)
+    (ap record_of_defaults (ap (filled_fields 0 fs) inside ∙ made))
+
+-- ---- entries
+
+record Taken (o : Option Record) (r : Option Entry) (entry : Entry) : Type 0 where
+  head : Record
+  rest : Entry
+  one : o ≡ Some head
+  more : r ≡ Some rest
+  parts : entry ≡ head ∷ rest
+
+taken : (o : Option Record) (r : Option Entry) (entry : Entry) → record_then o r ≡ Some entry → Taken o r entry
+taken None None entry e = absurd (cc)
+taken None (Some rest) entry e = absurd (cc)
+taken (Some m) None entry e = absurd (cc)
+taken (Some m) (Some rest) entry e = (let same : m ∷ rest ≡ entry = cc in record { head = m; rest = rest; one = refl; more = refl; parts = sym same })
+
+some_record : (d : Option DimType) (m all : Record) → whole_record d m ≡ Some all → (dim : DimType) × ((d ≡ Some dim) × (filled_fields 0 (fields_of (typed dim.fields)) m ≡ Some all))
+some_record None m all e = absurd (cc)
+some_record (Some dim) m all e = (dim, (refl, e))
+
+pub size_of : (dims : List DimType) (p : Partial) (ks : List ℕ) (entry : Entry) → records_of dims p ks ≡ Some entry → length entry ≡ length ks
+size_of dims p [] entry e = (let same : [] ≡ entry = cc in ap length (sym same))
+size_of dims p (k ∷ ks) entry e =
+    let t = taken (whole_record (slice_get dims k) (said_of p k)) (records_of dims p ks) entry e in
+    ap length t.parts ∙ ap suc (size_of dims p ks t.rest t.more)
+
+record_at : (dims : List DimType) (p : Partial) (ks : List ℕ) (entry : Entry) (d k : ℕ) → records_of dims p ks ≡ Some entry → slice_get ks d ≡ Some k → whole_record (slice_get dims k) (said_of p k) ≡ Some (get_or entry d [])
+record_at dims p [] entry d k e at = absurd (cc)
+record_at dims p (j ∷ ks) entry zero k e at =
+    let t = taken (whole_record (slice_get dims j) (said_of p j)) (records_of dims p ks) entry e in
+    let same : j ≡ k = cc in
+    ap (λ i. whole_record (slice_get dims i) (said_of p i)) (sym same) ∙ t.one ∙ ap (λ (l : Entry). Some (get_or l 0 [])) (sym t.parts)
+record_at dims p (j ∷ ks) entry (suc d) k e at =
+    let t = taken (whole_record (slice_get dims j) (said_of p j)) (records_of dims p ks) entry e in
+    record_at dims p ks t.rest d k t.more at ∙ ap (λ (l : Entry). Some (get_or l (suc d) [])) (sym t.parts)
+
+pub dim_at : (dims : List DimType) (k : ℕ) (dim : DimType) → slice_get dims k ≡ Some dim → IsDim dims k dim
+dim_at dims k dim is = (slice_get_within dims k dim is, get_or_from_slice_get dims k dim dim is)
+
+-- what a partial entry comes to is an entry
+pub whole_right : (table : Table) (p : Partial) (entry : Entry) → IsTable table → IsPartial table.dims p → whole table p ≡ Some entry → IsEntry table entry
+whole_right table p entry is partial made = record {
+  count = size_of table.dims p table.used entry made;
+  each = λ d dim used.
+      let at = record_at table.dims p table.used entry d used.0 made used.1.0 in
+      let found = some_record (slice_get table.dims used.0) (said_of p used.0) (get_or entry d []) at in
+      let same : found.0 ≡ dim = same_dim (slice_get table.dims used.0) found.0 dim found.1.0 used.1.1 in
+      let right = subst (λ fs. IsRecord fs (said_of p used.0)) (same_features dim.fields) (partial.each used.0 dim (dim_at table.dims used.0 dim used.1.1)) in
+      record_is_whole dim (said_of p used.0) (get_or entry d []) (keeps_at table.dims used.0 dim used.1.1 is.dims) right
+      (subst (λ (x : DimType). filled_fields 0 (fields_of (typed x.fields)) (said_of p used.0) ≡ Some (get_or entry d [])) same found.1.1);
+}
+  where
+    same_dim : (o : Option DimType) (a b : DimType) → o ≡ Some a → o ≡ Some b → a ≡ b
+    same_dim o a b e f = cc
+
+-- ---- one record after the other
+
+abbrev pub after : Entry → Option Entry → Option Entry
+after made None = None
+after made (Some rest) = Some (made ++ rest)
+
+after_nothing : (o : Option Entry) → after [] o ≡ o
+after_nothing None = refl
+after_nothing (Some rest) = refl
+
+after_more : (made : Entry) (m : Record) (rest : Option Entry) → after (made ++ m ∷ []) rest ≡ after made (record_then (Some m) rest)
+after_more made m None = refl
+after_more made m (Some rest) = ap Some (append_assoc made (m ∷ []) rest)
+
+none_then : (rest : Option Entry) → record_then None rest ≡ None
+none_then None = refl
+none_then (Some rest) = refl
+
+-- what was made, and what the rest comes to
+abbrev pub RecordsSoFar : Table → Partial → ℕ → Entry → Type 0
+RecordsSoFar table p i made = after made (records_of table.dims p (drop i table.used)) ≡ whole table p
+
+module _ (table : Table) (p : Partial) where
+  pub records_begun : (made : Entry) → made ≡ [] → RecordsSoFar table p 0 made
+  records_begun made is = ap (λ l. after l (records_of table.dims p table.used)) is ∙ after_nothing (records_of table.dims p table.used)
+
+  opened : (i k : ℕ) (made : Entry) → i < length table.used → k ≡ get_or table.used i k → RecordsSoFar table p i made → after made (record_then (whole_record (slice_get table.dims k) (said_of p k)) (records_of table.dims p (drop (i + 1) table.used))) ≡ whole table p
+  opened i k made within is so_far =
+      ap (λ j. after made (record_then (whole_record (slice_get table.dims j) (said_of p j)) (records_of table.dims p (drop (i + 1) table.used)))) is
+      ∙ sym (at_drop_more (λ ks. after made (records_of table.dims p ks)) table.used i k within)
+      ∙ so_far
+
+  pub records_further : (i k : ℕ) (made next : Entry) (m : Record) → i < length table.used → k ≡ get_or table.used i k → whole_record (slice_get table.dims k) (said_of p k) ≡ Some m → next ≡ made ++ m ∷ [] → RecordsSoFar table p i made → RecordsSoFar table p (i + 1) next
+  records_further i k made next m within is has grown so_far =
+      let rest = records_of table.dims p (drop (i + 1) table.used) in
+      ap (λ l. after l rest) grown ∙ after_more made m rest ∙ ap (λ o. after made (record_then o rest)) (sym has) ∙ opened i k made within is so_far
+
+  pub records_lacking : (i k : ℕ) (made : Entry) → i < length table.used → k ≡ get_or table.used i k → whole_record (slice_get table.dims k) (said_of p k) ≡ None → RecordsSoFar table p i made → None ≡ whole table p
+  records_lacking i k made within is none so_far =
+      let rest = records_of table.dims p (drop (i + 1) table.used) in
+      sym (ap (after made) (none_then rest)) ∙ ap (λ o. after made (record_then o rest)) (sym none) ∙ opened i k made within is so_far
+
+  pub records_done : (i : ℕ) (made : Entry) → length table.used ≤ i → RecordsSoFar table p i made → Some made ≡ whole table p
+  records_done i made past so_far =
+      ap Some (sym (append-nil made)) ∙ sym (ap (λ ks. after made (records_of table.dims p ks)) (drop_all i table.used past)) ∙ so_far
+
+-- ---- what is looked at
+
+place_within : (bound : ℕ) (ks : List ℕ) (i k : ℕ) → ArePlaces bound ks → i < length ks → k ≡ get_or ks i k → k < bound
+place_within bound [] i k are within is = absurd (omega (arith, within))
+place_within bound (j ∷ ks) zero k are within is = subst (λ n. n < bound) (sym is) are.0.0
+place_within bound (j ∷ ks) (suc i) k are within is = place_within bound ks i k are.1 (omega (arith, within)) is
+
+module _ (table : Table) (p : Partial) (dims : List DimType) (used : List ℕ) (i : ℕ) (d : DimType) (m said : Record) (fs : List (List ℕ × Ty)) (is : IsTable table) (partial : IsPartial table.dims p) (same_dims : dims ≡ table.dims) (same_used : used ≡ table.used) (within : i < length used)
+    (d_is : d ≡ get_or dims (get_or used i 0) d) (m_is : m ≡ get_or p (get_or used i 0) m) (said_is : said ≡ m) (fs_is : fs ≡ d.fields) where
+  k : ℕ
+  k = get_or used i 0
+
+  inside : i < length table.used
+  inside = subst (λ l. i < length l) same_used within
+
+  own : k ≡ get_or table.used i k
+  unfolding k
+  own = ap (λ l. get_or l i 0) same_used ∙ any_default table.used i 0 (get_or used i 0) inside
+
+  k_within : k < length table.dims
+  k_within = place_within (length table.dims) table.used i k is.used inside own
+
+  dim_here : slice_get table.dims k ≡ Some d
+  unfolding k
+  dim_here = slice_get_read table.dims (length table.dims) (get_or used i 0) d refl k_within (d_is ∙ ap (λ l. get_or l (get_or used i 0) d) same_dims)
+
+  keeps : KeepsDim d
+  keeps = keeps_at table.dims k d dim_here is.dims
+
+  pub types_here : AreTypes (fields_of (typed fs))
+  types_here = subst (λ l. AreTypes (fields_of (typed l))) (sym fs_is) (types_of d.fields keeps.features)
+
+  said_here : said ≡ said_of p k
+  unfolding k
+  said_here = said_is ∙ m_is ∙ any_default p (get_or used i 0) m [] (subst (λ n. get_or used i 0 < n) (sym partial.count) k_within)
+
+  both_here : KeysRise 0 said × AreSaid 0 (fields_of (typed fs)) said
+  both_here =
+      let right = subst (λ l. IsRecord l (said_of p k)) (same_features d.fields) (partial.each k d (dim_at table.dims k d dim_here)) in
+      said_right (fields_of (typed fs)) said (subst (λ l. IsRecord (fields_of (typed l)) said) (sym fs_is) (subst (IsRecord (fields_of (typed d.fields))) (sym said_here) right))
+
+  pub rises_here : KeysRise 0 said
+  rises_here = both_here.0
+
+  pub are_here : AreSaid 0 (fields_of (typed fs)) said
+  are_here = both_here.1
+
+  record_here : whole_record (slice_get table.dims k) (said_of p k) ≡ filled_fields 0 (fields_of (typed fs)) said
+  record_here =
+      ap (λ o. whole_record o (said_of p k)) dim_here
+      ∙ ap (filled_fields 0 (fields_of (typed d.fields))) (sym said_here)
+      ∙ ap (λ l. filled_fields 0 (fields_of (typed l)) said) (sym fs_is)
+
+  pub further_here : (made next : Entry) (r : Record) → Some r ≡ filled_fields 0 (fields_of (typed fs)) said → next ≡ made ++ r ∷ [] → RecordsSoFar table p i made → RecordsSoFar table p (i + 1) next
+  further_here made next r has grown so_far = records_further table p i k made next r inside own (record_here ∙ sym has) grown so_far
+
+  pub lacking_here : (made : Entry) → None ≡ filled_fields 0 (fields_of (typed fs)) said → RecordsSoFar table p i made → None ≡ whole table p
+  lacking_here made none so_far = records_lacking table p i k made inside own (record_here ∙ sym none) so_far
+
+pub past : (used own : List ℕ) (i : ℕ) → used ≡ own → length used ≤ i → length own ≤ i
+past used own i same all = subst (λ l. length l ≤ i) same all

@@ -1,0 +1,243 @@
+-- The steps of expansion, put together.
+use Rattle.std.proofs.Common.{◌≡◌, ℕ, zero, suc, ◌+◌, ◌<◌, ◌≤◌, List, [], ◌∷◌, ◌++◌, length, get_or, drop, take, map, Result, Ok, Err, refl, sym, ap, ◌∙◌, subst, inl, inr, arith}
+use Rattle.std.proofs.Math.Seq.{take-suc}
+use Rattle.std.proofs.lemmas.List.{map-append}
+use Rattle.xdg_base.specs.declared.faults.Cause.{Cause}
+use Rattle.xdg_base.specs.declared.faults.Cause.TheVariants as causes
+use Rattle.xdg_base.specs.declared.faults.Fault.{Fault}
+use Rattle.xdg_base.specs.declared.faults.Stop.{Stop}
+use Rattle.xdg_base.specs.declared.faults.Stop.TheVariants as stops
+use Rattle.xdg_types.specs.Table.{Table}
+use Rattle.xdg_packed.specs.Lexicon.{Entry}
+use Rattle.xdg_classes.specs.Bodies.{Body, body}
+use Rattle.xdg_check.specs.declared.checked.EntryDef.{EntryDef}
+use Rattle.xdg_check.specs.Checked.{Parts, IsChecked}
+use Rattle.xdg_check.specs.Counts.{Counting, Agrees, uses, combos, capped}
+use Rattle.xdg_members.specs.Partial.{Partial}
+use Rattle.xdg_members.specs.Denotes.{Denotes}
+use Rattle.xdg_lexicon.specs.Sources.{Source, source_of, HasNumber}
+use Rattle.xdg_lexicon.specs.Lexicon.{Adds, SoFar, nothing_yet, IsWithin, IsExpanded, Expands, ExpandsAll, no_more, one_more, AreFewEach, IsTooMany, many_uses, many_combos, unsaid, many_entries, many_of_word, Refuses}
+use Rattle.xdg_lexicon.specs.Steps.{one_of, AddsMembers, KeepsLimits, Once, AllOnce, CountsOne, AddsOne, ExpandsOne}
+use Rattle.xdg_lexicon.proofs.Bounds.{words_once}
+use Rattle.xdg_lexicon.proofs.Numbers.{number_once, has_number, alike_uses, alike_combos}
+use Rattle.xdg_lexicon.specs.Answers.{IsAnswer, Gives, Tells}
+use Rattle.xdg_lexicon.proofs.Only.{IsDefinite, not_within, only_expanded, only_refused}
+
+-- ---- the numbers of one `defentry`
+
+-- what is told of a sum: with which numbers it goes
+abbrev pub Sums : Cause → ℕ → ℕ → ℕ → Result ℕ Stop → Type 0
+Sums cause at before here (Ok sum) = (n : ℕ) → here ≡ capped n → IsWithin before n × (sum ≡ before + n)
+Sums cause at before here (Err stop) = (n : ℕ) → here ≡ capped n → (f : Fault) × ((stop ≡ stops.Fault f) × IsTooMany cause at before n f)
+
+module _ (parts : Parts) (is : IsChecked parts) where
+  pub definite : IsDefinite (source_of parts)
+  definite = record {
+    uses_once = number_once uses alike_uses (λ c. c.uses) parts.classes is.uses;
+    combos_once = number_once combos alike_combos (λ c. c.combos) parts.classes is.combos;
+    words_once = words_once parts.types is.types;
+  }
+
+  module _ (before : SoFar) (def : EntryDef) where
+    some_uses : ℕ
+    some_uses = uses is.uses.names (body def.body.kind)
+
+    some_combos : ℕ
+    some_combos = combos is.combos.names (body def.body.kind)
+
+    has_uses : HasNumber uses (source_of parts).classes (body def.body.kind) some_uses
+    unfolding some_uses
+    has_uses = has_number uses alike_uses (λ c. c.uses) parts.classes is.uses (body def.body.kind)
+
+    has_combos : HasNumber combos (source_of parts).classes (body def.body.kind) some_combos
+    unfolding some_combos
+    has_combos = has_number combos alike_combos (λ c. c.combos) parts.classes is.combos (body def.body.kind)
+
+    module _ (here : ℕ) (uses_here : (names : Counting) → Agrees uses parts.classes names → here ≡ capped (uses names (body def.body.kind))) where
+      here_is : here ≡ capped some_uses
+      unfolding some_uses
+      here_is = uses_here is.uses.names is.uses.agrees
+
+      pub uses_refused : (n : ℕ) (stop : Stop) → before.uses ≡ n → Sums causes.TooManyUses def.at n here (Err stop) → CountsOne (source_of parts) before (one_of def) (Err stop)
+      uses_refused n stop same sums =
+          let told = sums some_uses here_is in
+          let many = subst (λ m. IsTooMany causes.TooManyUses def.at m some_uses told.0) (sym same) told.1.1 in
+          subst (λ s. CountsOne (source_of parts) before (one_of def) (Err s)) (sym told.1.0) (
+            many_uses some_uses has_uses many,
+            λ c. not_within causes.TooManyUses def.at before.uses some_uses told.0 many (subst (IsWithin before.uses) (definite.uses_once (body def.body.kind) c.uses_of some_uses c.has_uses has_uses) c.few_uses),
+          )
+
+      module _ (there : ℕ) (combos_there : (names : Counting) → Agrees combos parts.classes names → there ≡ capped (combos names (body def.body.kind))) where
+        there_is : there ≡ capped some_combos
+        unfolding some_combos
+        there_is = combos_there is.combos.names is.combos.agrees
+
+        pub combos_refused : (n m sum : ℕ) (stop : Stop) → before.uses ≡ n → before.combos ≡ m → Sums causes.TooManyUses def.at n here (Ok sum) → Sums causes.TooManyEntries def.at m there (Err stop) → CountsOne (source_of parts) before (one_of def) (Err stop)
+        combos_refused n m sum stop same alike sums refused =
+            let told = refused some_combos there_is in
+            let within = subst (λ k. IsWithin k some_uses) (sym same) (sums some_uses here_is).0 in
+            let many = subst (λ k. IsTooMany causes.TooManyEntries def.at k some_combos told.0) (sym alike) told.1.1 in
+            subst (λ s. CountsOne (source_of parts) before (one_of def) (Err s)) (sym told.1.0) (
+              many_combos some_uses some_combos has_uses within has_combos many,
+              λ c. not_within causes.TooManyEntries def.at before.combos some_combos told.0 many (subst (IsWithin before.combos) (definite.combos_once (body def.body.kind) c.combos_of some_combos c.has_combos has_combos) c.few_combos),
+            )
+
+        pub both_counted : (n m sum total : ℕ) → before.uses ≡ n → before.combos ≡ m → Sums causes.TooManyUses def.at n here (Ok sum) → Sums causes.TooManyEntries def.at m there (Ok total) → CountsOne (source_of parts) before (one_of def) (Ok (sum, total))
+        both_counted n m sum total same alike sums totals =
+            let first = sums some_uses here_is in
+            let second = totals some_combos there_is in (
+              record {
+                uses_of = some_uses;
+                has_uses = has_uses;
+                few_uses = subst (λ k. IsWithin k some_uses) (sym same) first.0;
+                combos_of = some_combos;
+                has_combos = has_combos;
+                few_combos = subst (λ k. IsWithin k some_combos) (sym alike) second.0;
+              },
+              (first.1 ∙ ap (λ k. k + some_uses) (sym same), second.1 ∙ ap (λ k. k + some_combos) (sym alike)),
+            )
+
+-- ---- the members of one `defentry`
+
+module _ (source : Source) (before : SoFar) (one : ℕ × Body) (ms : List Partial) (denotes : Denotes source.table.dims source.classes [] one.1 ms) (only : (others : List Partial) → Denotes source.table.dims source.classes [] one.1 others → others ≡ ms) where
+  once : Once source one.1
+  once others more d e = only others d ∙ sym (only more e)
+
+  pub members_refused : (old new all : List Entry) (stop : Stop) → AddsMembers source.table ms one.0 old new (Err stop) → AddsOne source before one all (Err stop)
+  members_refused old new all (stops.Fault f) told = (λ c. unsaid ms told.0 c denotes told.1.0 told.1.1.0 told.1.1.1, once)
+  members_refused old new all stops.OutOfMemory told = tt
+
+  members_added : (old new : List Entry) → before.entries ≡ old → AddsMembers source.table ms one.0 old new (Ok tt) → IsExpanded source before one.1 new
+  members_added old new same told =
+      record { members = ms; denotes = denotes; made = told.0; whole_each = told.1.0; added = subst (λ l. Adds l told.0 new) (sym same) told.1.1 }
+
+  pub limits_told : (old new : List Entry) (answer : Result (Unit {0}) Stop) → before.entries ≡ old → AddsMembers source.table ms one.0 old new (Ok tt) → KeepsLimits source.table new one.0 answer → AddsOne source before one new answer
+  limits_told old new (Ok done) same told keeps = (members_added old new same told, (keeps.0, (keeps.1, once)))
+  limits_told old new (Err (stops.Fault f)) same told (inl many) = (λ c. many_entries new c (members_added old new same told) many.0 many.1, once)
+  limits_told old new (Err (stops.Fault f)) same told (inr crowd) = (λ c. many_of_word new crowd.1.0 c (members_added old new same told) crowd.0 crowd.1.1.0 crowd.1.1.1, once)
+  limits_told old new (Err stops.OutOfMemory) same told keeps = tt
+
+-- ---- one `defentry`
+
+module _ (source : Source) (before : SoFar) (one : ℕ × Body) where
+  pub counts_refuse : (after : SoFar) (stop : Stop) → CountsOne source before one (Err stop) → ExpandsOne source before one after (Err stop)
+  counts_refuse after (stops.Fault f) told = (told.0, λ c. absurd (told.1 c))
+  counts_refuse after stops.OutOfMemory told = tt
+
+  pub adding_refuses : (after : SoFar) (sums : ℕ × ℕ) (all : List Entry) (stop : Stop) → CountsOne source before one (Ok sums) → AddsOne source before one all (Err stop) → ExpandsOne source before one after (Err stop)
+  adding_refuses after sums all (stops.Fault f) counted told = (told.0 counted.0, λ c. told.1)
+  adding_refuses after sums all stops.OutOfMemory counted told = tt
+
+  pub one_expanded : (after : SoFar) (sums : ℕ × ℕ) → CountsOne source before one (Ok sums) → AddsOne source before one after.entries (Ok tt) → after.uses ≡ sums.0 → after.combos ≡ sums.1 → ExpandsOne source before one after (Ok tt)
+  one_expanded after sums counted told same alike = (
+    record {
+      counted = counted.0;
+      uses_are = same ∙ counted.1.0;
+      combos_are = alike ∙ counted.1.1;
+      expanded = told.0;
+      few = told.1.0;
+      few_each = told.1.1.0;
+    },
+    told.1.1.1,
+  )
+
+  pub few_sums : (sums : ℕ × ℕ) → CountsOne source before one (Ok sums) → (sums.0 ≤ 1048576) × (sums.1 ≤ 1048576)
+  few_sums sums counted =
+      let u = counted.0.few_uses.1 in
+      let c = counted.0.few_combos.1 in
+      let e = counted.1.0 in
+      let f = counted.1.1 in
+      (omega (arith, u, e), omega (arith, c, f))
+
+-- ---- one after the other
+
+module _ (source : Source) where
+  pub expands_last : (before mid after : SoFar) (front : List (ℕ × Body)) (one : ℕ × Body) → ExpandsAll source before front mid → Expands source mid one.1 after → ExpandsAll source before (front ++ one ∷ []) after
+  expands_last _ mid after _ one (no_more _) x = one_more mid after after one [] x (no_more after)
+  expands_last before mid after _ one (one_more _ next _ first rest y more) x = one_more before next after first (rest ++ one ∷ []) y (expands_last next mid after rest one more x)
+
+  pub once_last : (front : List (ℕ × Body)) (one : ℕ × Body) → AllOnce source front → Once source one.1 → AllOnce source (front ++ one ∷ [])
+  once_last [] one all last = (last, tt)
+  once_last (first ∷ front) one all last = (all.0, once_last front one all.1 last)
+
+take_last : (defs : List EntryDef) (i : ℕ) (def : EntryDef) → i < length defs → def ≡ get_or defs i def → map one_of (take (i + 1) defs) ≡ map one_of (take i defs) ++ one_of def ∷ []
+take_last defs i def within is =
+    let next : i + 1 ≡ suc i = omega arith in
+    ap (λ k. map one_of (take k defs)) next
+    ∙ ap (map one_of) (take-suc defs i def within ∙ ap (λ e. take i defs ++ e ∷ []) (sym is))
+    ∙ map-append one_of (take i defs) (def ∷ [])
+
+split_at : (defs : List EntryDef) (i : ℕ) (def : EntryDef) → i < length defs → def ≡ get_or defs i def → map one_of defs ≡ map one_of (take i defs) ++ one_of def ∷ map one_of (drop (i + 1) defs)
+split_at [] i def within is = absurd (omega (arith, within))
+split_at (x ∷ defs) zero def within is = ap (λ e. one_of e ∷ map one_of defs) (sym is)
+split_at (x ∷ defs) (suc i) def within is =
+    let next : suc i + 1 ≡ suc (i + 1) = omega arith in
+    ap (λ l. one_of x ∷ l) (split_at defs i def (omega (arith, within)) is)
+    ∙ ap (λ k. one_of x ∷ map one_of (take i defs) ++ one_of def ∷ map one_of (drop k (x ∷ defs))) (sym next)
+
+-- what is known before a `defentry`: those before it are expanded, and each denotes one list
+pub record ExpandedSoFar (parts : Parts) (defs : List EntryDef) (i : ℕ) (so : SoFar) : Type 0 where
+  pub all : ExpandsAll (source_of parts) nothing_yet (map one_of (take i defs)) so
+  pub once : AllOnce (source_of parts) (map one_of (take i defs))
+  pub few : length so.entries ≤ 65536
+  pub few_each : AreFewEach parts.types so.entries
+
+module _ (parts : Parts) (defs : List EntryDef) (i : ℕ) (def : EntryDef) (within : i < length defs) (is : def ≡ get_or defs i def) (so : SoFar) (so_far : ExpandedSoFar parts defs i so) where
+  pub expanded_more : (after : SoFar) → ExpandsOne (source_of parts) so (one_of def) after (Ok tt) → ExpandedSoFar parts defs (i + 1) after
+  expanded_more after one = record {
+    all = subst (λ l. ExpandsAll (source_of parts) nothing_yet l after) (sym (take_last defs i def within is)) (expands_last (source_of parts) nothing_yet so after (map one_of (take i defs)) (one_of def) so_far.all one.0);
+    once = subst (AllOnce (source_of parts)) (sym (take_last defs i def within is)) (once_last (source_of parts) (map one_of (take i defs)) (one_of def) so_far.once one.1);
+    few = one.0.few;
+    few_each = one.0.few_each;
+  }
+
+  pub refused : (f : Fault) (after : SoFar) → parts.entries ≡ defs → ExpandsOne (source_of parts) so (one_of def) after (Err (stops.Fault f)) → Refuses (source_of parts) f
+  refused f after same one = record {
+    front = map one_of (take i defs);
+    one = one_of def;
+    rest = map one_of (drop (i + 1) defs);
+    are = ap (map one_of) same ∙ split_at defs i def within is;
+    so_far = so;
+    expanded = so_far.all;
+    offends = one.0;
+  }
+
+  pub refused_tells : (stop : Stop) (after : SoFar) → parts.entries ≡ defs → ExpandsOne (source_of parts) so (one_of def) after (Err stop) → Tells (source_of parts) (Err stop)
+  refused_tells (stops.Fault f) after same one = refused f after same one
+  refused_tells stops.OutOfMemory after same one = tt
+
+  pub refused_only : IsChecked parts → (stop : Stop) (after : SoFar) → parts.entries ≡ defs → ExpandsOne (source_of parts) so (one_of def) after (Err stop) → (answer : Result (List Entry) Fault) → IsAnswer (source_of parts) answer → Gives answer (Err stop)
+  unfolding refused
+  refused_only checked (stops.Fault f) after same one answer told = only_refused (source_of parts) (definite parts checked) f (refused f after same one) so_far.once one.1 answer told
+  refused_only checked stops.OutOfMemory after same one (Ok entries) told = tt
+  refused_only checked stops.OutOfMemory after same one (Err g) told = tt
+
+abbrev with_entries : List Entry → SoFar
+with_entries entries = record { uses = 0; combos = 0; entries = entries }
+
+none_few : (table : Table) → AreFewEach table []
+none_few table dim field place word = omega arith
+
+pub expanded_none : (parts : Parts) (defs : List EntryDef) (entries : List Entry) → entries ≡ [] → ExpandedSoFar parts defs 0 (with_entries entries)
+expanded_none parts defs entries none = subst (λ l. ExpandedSoFar parts defs 0 (with_entries l)) (sym none) (record {
+  all = no_more nothing_yet;
+  once = tt;
+  few = omega arith;
+  few_each = none_few parts.types;
+})
+
+take_past : (defs : List EntryDef) (i : ℕ) → length defs ≤ i → take i defs ≡ defs
+take_past [] zero past = refl
+take_past [] (suc i) past = refl
+take_past (def ∷ defs) zero past = absurd (omega (arith, past))
+take_past (def ∷ defs) (suc i) past = ap (λ l. def ∷ l) (take_past defs i (omega (arith, past)))
+
+module _ (parts : Parts) (defs : List EntryDef) (i : ℕ) (so : SoFar) (same : parts.entries ≡ defs) (past : length defs ≤ i) (so_far : ExpandedSoFar parts defs i so) where
+  are_all : map one_of (take i defs) ≡ map one_of parts.entries
+  are_all = ap (map one_of) (take_past defs i past ∙ sym same)
+
+  pub all_expanded : ExpandsAll (source_of parts) nothing_yet (map one_of parts.entries) so
+  all_expanded = subst (λ l. ExpandsAll (source_of parts) nothing_yet l so) are_all so_far.all
+
+  pub expanded_only : IsChecked parts → (answer : Result (List Entry) Fault) → IsAnswer (source_of parts) answer → Gives answer (Ok so.entries)
+  expanded_only checked answer told = only_expanded (source_of parts) (definite parts checked) so (subst (AllOnce (source_of parts)) are_all so_far.once) all_expanded answer told

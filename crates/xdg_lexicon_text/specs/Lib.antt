@@ -1,0 +1,4 @@
+pub mod Defaulted
+pub mod LexiconText
+pub mod ValueWords
+pub mod WordPlaces

@@ -1,0 +1,12 @@
+//! The expanded lexicon of a grammar as a text: what each entry says of each used dimension.
+#![tactic(auto)]
+
+mod cards;
+mod defaults;
+mod listing;
+mod members;
+#[cfg(test)]
+mod tests;
+mod values;
+
+pub use listing::lexicon_text;
