@@ -1,29 +1,34 @@
 -- What is known of a sentence that is not refused.
-use Rattle.std.proofs.Common.{◌≡◌, ℕ, ◌<◌, ◌≤◌, true, false, cond, List, [], ◌∷◌, length, Option, Some, None, refl, inl, inr, arith, All}
+use Rattle.std.proofs.Common.{◌≡◌, ℕ, ◌<◌, ◌≤◌, List, [], ◌∷◌, length, Option, Some, None, refl, inl, inr, arith, All}
 use Rattle.std.specs.List.{slice_get}
 use Rattle.std.proofs.lemmas.List.Elements.{All-nil, All-cons}
 use Rattle.std.proofs.lemmas.Option.{slice_get_cases}
 use Rattle.xdg_base.specs.declared.faults.Fault.{Fault}
-use Rattle.xdg_base.specs.declared.faults.Cause.TheVariants as causes
-use Rattle.xdg_plain.specs.declared.grammar.PlainEntry.{PlainEntry}
-use Rattle.xdg_plain.specs.declared.grammar.PlainGrammar.{PlainGrammar}
+use Rattle.xdg_base.specs.declared.ids.EntryNo.{EntryNo}
+use Rattle.xdg_packed.specs.Lexicon.{words_of, numbers_of}
 use Rattle.xdg_problem.specs.declared.parts.SentenceWord.{SentenceWord}
-use Rattle.xdg_build.specs.Lookup.{is_known}
-use Rattle.xdg_build.specs.Refusals.{fault, first_unknown, too_many_or, refusal}
+use Rattle.xdg_groups.specs.Grammars.{Grammar}
+use Rattle.xdg_build.specs.Refusals.{unknown_or, first_unknown, too_many_or, refusal}
+
+-- the word has an entry
+abbrev pub IsKnown : Grammar → SentenceWord → Type 0
+IsKnown g word = 0 < length (numbers_of (words_of g.lexicon) word.text)
 
 -- 1 to 128 words, each with an entry
-pub record IsAdmitted (entries : List PlainEntry) (words : List SentenceWord) : Type 0 where
+pub record IsAdmitted (g : Grammar) (words : List SentenceWord) : Type 0 where
   pub some : 0 < length words
   pub most : length words ≤ 128
-  pub known : All (λ word. is_known entries word.text ≡ true) words
+  pub known : All (IsKnown g) words
 
-each_known : (entries : List PlainEntry) (words : List SentenceWord) → first_unknown entries words ≡ None → All (λ word. is_known entries word.text ≡ true) words
-each_known entries [] = λ e. All-nil (λ word. is_known entries word.text ≡ true)
-each_known entries (word ∷ words) =
-    elim (is_known entries word.text) as (λ b. is_known entries word.text ≡ b → cond b (first_unknown entries words) (Some (fault causes.UnknownWord word.at 0)) ≡ None → All (λ word. is_known entries word.text ≡ true) (word ∷ words)) [
-      | true ↦ λ known e. All-cons (λ word. is_known entries word.text ≡ true) word words known (each_known entries words e)
-      | false ↦ λ known e. cc
-    ] refl
+has_entry : (word : SentenceWord) (numbers : List EntryNo) (later : Option Fault) → unknown_or word numbers later ≡ None → (0 < length numbers) × (later ≡ None)
+has_entry word [] later e = cc
+has_entry word (entry ∷ more) later e = (omega arith, e)
+
+each_known : (g : Grammar) (words : List SentenceWord) → first_unknown g.lexicon words ≡ None → All (IsKnown g) words
+each_known g [] e = All-nil (IsKnown g)
+each_known g (word ∷ words) e =
+    let here = has_entry word (numbers_of (words_of g.lexicon) word.text) (first_unknown g.lexicon words) e in
+    All-cons (IsKnown g) word words here.0 (each_known g words here.1)
 
 none_too_many : (over : Option SentenceWord) (other : Option Fault) → too_many_or over other ≡ None → (over ≡ None) × (other ≡ None)
 none_too_many None other e = (refl, e)
@@ -32,12 +37,8 @@ none_too_many (Some word) other e = cc
 not_longer : (words : List SentenceWord) (most : ℕ) → slice_get words most ≡ None → length words ≤ most
 not_longer words most e = elim ((slice_get_cases words most).1) [ inl found ↦ cc | inr past ↦ past.0 ]
 
-pub is_admitted : (grammar : PlainGrammar) (words : List SentenceWord) → refusal grammar words ≡ None → IsAdmitted grammar.entries words
-is_admitted grammar [] e = cc
-is_admitted grammar (word ∷ words) e =
-    let parts = none_too_many (slice_get (word ∷ words) 128) (first_unknown grammar.entries (word ∷ words)) e in
-    record {
-      some = omega arith;
-      most = not_longer (word ∷ words) 128 parts.0;
-      known = each_known grammar.entries (word ∷ words) parts.1;
-    }
+pub is_admitted : (g : Grammar) (words : List SentenceWord) → refusal g words ≡ None → IsAdmitted g words
+is_admitted g [] e = cc
+is_admitted g (word ∷ words) e =
+    let parts = none_too_many (slice_get (word ∷ words) 128) (first_unknown g.lexicon (word ∷ words)) e in
+    record { some = omega arith; most = not_longer (word ∷ words) 128 parts.0; known = each_known g (word ∷ words) parts.1 }

@@ -1,149 +1,98 @@
 -- What is compiled is a problem.
-use Rattle.std.proofs.Common.{◌≡◌, ◌≢◌, ◌<◌, ℕ, true, List, [], ◌∷◌, length, get_or, map, codes, None, refl, sym, ◌∙◌, ap, subst, arith, All}
-use Rattle.std.specs.List.{AllPairs}
-use Rattle.std.proofs.lemmas.Bool.{false≢true}
-use Rattle.std.proofs.lemmas.List.{length-map, get_or-map}
-use Rattle.std.proofs.lemmas.List.Elements.{All-nil, All-cons, All-weaker, All-map, All-filter}
-use Rattle.std.proofs.lemmas.List.Kept.{AllPairs-cons}
+use Rattle.std.proofs.Common.{◌≡◌, ℕ, ◌<◌, ◌≤◌, inl, inr, None, Some, List, length, get_or, refl, sym, ap, ◌∙◌, subst, All}
+use Rattle.std.specs.Prelude.{slice_get, slice_index_or}
+use Rattle.std.proofs.lemmas.List.{get_or-map, length-map}
+use Rattle.std.proofs.lemmas.List.Elements.{All-map, All-weaker}
+use Rattle.std.proofs.lemmas.List.FromFn.{length-map-range_with_len}
+use Rattle.std.proofs.lemmas.Option.{slice_get_cases, get_or_from_slice_get}
 use Rattle.xdg_base.specs.declared.ids.EntryNo.{EntryNo}
-use Rattle.xdg_plain.specs.declared.grammar.Count.{Count}
-use Rattle.xdg_plain.specs.declared.grammar.PlainEntry.{PlainEntry}
-use Rattle.xdg_plain.specs.declared.grammar.PlainGrammar.{PlainGrammar}
+use Rattle.xdg_domain.specs.Shapes.{Shape, count}
+use Rattle.xdg_entries.specs.Entries.{IsUsed, IsRightLexicon, IsWordPlace}
+use Rattle.xdg_packed.specs.Lexicon.{word_of, words_of, numbers_of}
+use Rattle.xdg_problem.specs.declared.parts.AttrPlan.{AttrPlan}
 use Rattle.xdg_problem.specs.declared.parts.DimPlan.{DimPlan}
-use Rattle.xdg_problem.specs.declared.parts.Feat.{Feat}
 use Rattle.xdg_problem.specs.declared.parts.Group.{Group}
 use Rattle.xdg_problem.specs.declared.parts.Parts.{Parts}
-use Rattle.xdg_problem.specs.declared.parts.Principle.{Principle}
-use Rattle.xdg_problem.specs.declared.parts.Principle.TheVariants as principles
 use Rattle.xdg_problem.specs.declared.parts.SentenceWord.{SentenceWord}
-use Rattle.xdg_problem.specs.Arguments.{first_dim, label_count}
-use Rattle.xdg_problem.specs.FirstFour.{is_of_first_four, OfFirstFour}
-use Rattle.xdg_problem.specs.Problems.{AreCandidates, IsAttr, IsDim, IsCardinality, IsValency, dim_arguments, attr_arguments, truth_arguments, IsOrderFor, AreFeatures, IsGroup, IsProblem}
-use Rattle.xdg_plain.specs.IsPlain.{IsEntryOf, IsPlain}
-use Rattle.xdg_build.specs.Lookup.{has_word, is_known, entries_of, candidates_of}
+use Rattle.xdg_problem.specs.Arguments.{no_plan, no_attr, value_count}
+use Rattle.xdg_problem.specs.Problems.{AreCandidates, IsGroup, IsProblem}
+use Rattle.xdg_types.specs.declared.table.DimType.{DimType}
+use Rattle.xdg_types.specs.Table.{typed, IsTable}
+use Rattle.xdg_groups.specs.Grammars.{Grammar, no_dim}
+use Rattle.xdg_groups.specs.Suits.{Suits}
+use Rattle.xdg_build.specs.Plans.{shown_as, attr_plan, dim_plan, plan_at, plans}
+use Rattle.xdg_build.specs.Compiled.{candidates_of}
 use Rattle.xdg_build.specs.Refusals.{refusal}
-use Rattle.xdg_build.specs.Compiled.{row, feature, features, candidate_features, group, id_plan, lex_plan, compiled}
-use Rattle.xdg_build.proofs.Ranges.{row_is_cardinality}
-use Rattle.xdg_build.proofs.Numbered.{numbers_count, are_candidates}
-use Rattle.xdg_build.proofs.Admitted.{IsAdmitted, is_admitted}
+use Rattle.xdg_build.proofs.Admitted.{IsKnown, IsAdmitted, is_admitted}
+use Rattle.xdg_build.proofs.Numbered.{each_below, are_candidates}
+use Rattle.xdg_build.proofs.Planned as planned
 
-feature_is_valency : (labels : ℕ) (counts : List Count) → length counts ≡ labels → IsValency labels (feature counts)
-feature_is_valency labels counts e = record {
-  count = length-map counts row ∙ e;
-  rows = All-map IsCardinality row counts (λ k d h. row_is_cardinality (get_or counts k d));
-}
+get_within : {X : Type 0} (xs : List X) (i : ℕ) (x : X) → slice_get xs i ≡ Some x → i < length xs
+get_within xs i x e = elim ((slice_get_cases xs i).1) [ inl found ↦ found.1 | inr past ↦ (let none : slice_get xs i ≡ None = past.1 in cc) ]
 
--- the principles of the plain form are on one dimension, and take no attributes, truth values or order
-pub record IsSimple (principle : Principle) : Type 0 where
-  pub dims : 1 ≡ dim_arguments principle
-  pub attrs : 0 ≡ attr_arguments principle
-  pub truths : 0 ≡ truth_arguments principle
-  pub order : (labels : ℕ) → IsOrderFor principle labels []
+module _ (g : Grammar) (words : List SentenceWord) (groups : List Group) where
+  abbrev made : Parts
+  made = record { words = words; candidates = candidates_of g words; dims = plans g; groups = groups }
 
-simple_principle : (principle : Principle) → is_of_first_four principle ≡ true → IsSimple principle
-simple_principle principles.Graph of = record { dims = refl; attrs = refl; truths = refl; order = λ labels. refl }
-simple_principle principles.Entries of = record { dims = refl; attrs = refl; truths = refl; order = λ labels. refl }
-simple_principle principles.Tree of = record { dims = refl; attrs = refl; truths = refl; order = λ labels. refl }
-simple_principle principles.Valency of = record { dims = refl; attrs = refl; truths = refl; order = λ labels. refl }
-simple_principle principle of = absurd (false≢true of)
+  abbrev at : ℕ → DimPlan
+  at = plan_at g g.table.dims
 
-module _ (parts : Parts) (one : Group) where
-  abbrev labels : ℕ
-  labels = label_count parts (first_dim one)
+  -- the dimension with that place among the used ones
+  plan_is : (d : ℕ) (dim : DimType) (used : IsUsed g.table d dim) → slice_index_or (plans g) d no_plan ≡ dim_plan g used.0 dim
+  plan_is d dim used =
+      get_or-map at g.table.used d 0 no_plan (get_within g.table.used d used.0 used.1.0)
+      ∙ ap at (get_or_from_slice_get g.table.used d used.0 0 used.1.0)
+      ∙ ap (dim_plan g used.0) (get_or_from_slice_get g.table.dims used.0 dim no_dim used.1.1)
 
-  are_features : (principle : Principle) (entry : PlainEntry) → is_of_first_four principle ≡ true → IsEntryOf labels entry → AreFeatures principle parts one (features principle entry)
-  are_features principles.Graph entry of h = refl
-  are_features principles.Entries entry of h = refl
-  are_features principles.Tree entry of h = refl
-  are_features principles.Valency entry of h =
-      (refl, All-cons (IsValency labels) (feature entry.ins) (feature entry.outs ∷ []) (feature_is_valency labels entry.ins h.ins) (All-cons (IsValency labels) (feature entry.outs) [] (feature_is_valency labels entry.outs h.outs) (All-nil (IsValency labels))))
-  are_features principle entry of h = absurd (false≢true of)
+  values_are : (d : ℕ) (dim : DimType) → IsUsed g.table d dim → (a : ℕ) (name : List ℕ) (type : Shape) → slice_get (typed dim.attrs) a ≡ Some (name, type) → value_count made d a ≡ count type
+  values_are d dim used a name type stands =
+      let one : List ℕ × Shape → AttrPlan = λ attr. attr_plan attr.0 attr.1 in
+      ap (λ (plan : DimPlan). length (slice_index_or plan.attrs a no_attr).values) (plan_is d dim used)
+      ∙ ap (λ (attr : AttrPlan). length attr.values) (get_or-map one (typed dim.attrs) a (name, type) no_attr (get_within (typed dim.attrs) a (name, type) stands))
+      ∙ ap (λ (attr : List ℕ × Shape). length (one attr).values) (get_or_from_slice_get (typed dim.attrs) a (name, type) (name, type) stands)
+      ∙ length-map-range_with_len (shown_as type) 0 (count type)
 
-  each_has_features : (principle : Principle) (entries : List PlainEntry) (word : List ℕ) → is_of_first_four principle ≡ true → All (IsEntryOf labels) entries → All (AreFeatures principle parts one) (candidate_features principle entries word)
-  each_has_features principle entries word of counts =
-      All-map (AreFeatures principle parts one) (features principle) (entries_of entries word)
-      (All-weaker (IsEntryOf labels) (λ entry. AreFeatures principle parts one (features principle entry)) (λ entry h. are_features principle entry of (record { word = h.word; ins = h.ins; outs = h.outs })) (entries_of entries word)
-      (All-filter (has_word word) (IsEntryOf labels) entries counts))
+  suits : Suits g (candidates_of g words) made
+  suits = record {
+    node_count = sym (length-map words (λ (word : SentenceWord). numbers_of (words_of g.lexicon) word.text));
+    candidates = refl;
+    dim_count = length-map g.table.used at;
+    labels = λ d dim used. ap (λ (plan : DimPlan). length plan.labels) (plan_is d dim used);
+    attrs = λ d dim used. ap (λ (plan : DimPlan). length plan.attrs) (plan_is d dim used) ∙ planned.attr_count g dim;
+    values = values_are;
+  }
 
-is_group : (principle : Principle) (grammar : PlainGrammar) (words : List SentenceWord) → is_of_first_four principle ≡ true → IsPlain grammar → IsGroup (compiled grammar words) (group principle grammar.entries words)
-is_group principle grammar words of lawful = record {
-  dims_count = (simple_principle principle of).dims;
-  dims = All-cons (λ dim. dim.0 < 2) (record { 0 = 0 }) [] (omega arith) (All-nil (λ dim. dim.0 < 2));
-  attrs_count = (simple_principle principle of).attrs;
-  attrs = All-nil (λ attr. attr.0 < 0);
-  order = (simple_principle principle of).order (length grammar.labels);
-  truths_count = (simple_principle principle of).truths;
-  feats = length-map words (λ word. candidate_features principle grammar.entries word.text);
-  feats_each = λ v h.
-      let none : SentenceWord = record { text = []; at = 0 } in
-      let features_here : get_or (map (λ word. candidate_features principle grammar.entries word.text) words) v [] ≡ candidate_features principle grammar.entries (get_or words v none).text =
-      get_or-map (λ word. candidate_features principle grammar.entries word.text) words v none [] h in
-      let candidates_here : get_or (map (λ word. candidates_of grammar.entries word.text) words) v [] ≡ candidates_of grammar.entries (get_or words v none).text =
-      get_or-map (λ word. candidates_of grammar.entries word.text) words v none [] h in
-      ap length features_here
-      ∙ length-map (entries_of grammar.entries (get_or words v none).text) (features principle)
-      ∙ sym (numbers_count 0 grammar.entries (get_or words v none).text)
-      ∙ sym (ap length candidates_here);
-  features = λ v h.
-      let none : SentenceWord = record { text = []; at = 0 } in
-      let P : List (List Feat) → Type 0 = All (AreFeatures principle (compiled grammar words) (group principle grammar.entries words)) in
-      subst P (sym (get_or-map (λ word. candidate_features principle grammar.entries word.text) words v none [] h))
-      (each_has_features (compiled grammar words) (group principle grammar.entries words) principle grammar.entries (get_or words v none).text of lawful.each_entry);
-}
+  module _ (table : IsTable g.table) (lexicon : IsRightLexicon g.table g.lexicon.entries) (place : IsWordPlace g.table g.lexicon.dim g.lexicon.field) (good : refusal g words ≡ None) where
+    each_candidates : All AreCandidates (candidates_of g words)
+    each_candidates =
+        let few : length (words_of g.lexicon) ≤ 65536 = subst (λ n. n ≤ 65536) (sym (length-map g.lexicon.entries (word_of g.lexicon.dim g.lexicon.field))) lexicon.few in
+        All-map AreCandidates (λ (word : SentenceWord). numbers_of (words_of g.lexicon) word.text) words
+        (All-weaker (IsKnown g) (λ (word : SentenceWord). AreCandidates (numbers_of (words_of g.lexicon) word.text))
+        (λ word known. are_candidates (words_of g.lexicon) word.text few (lexicon.each g.lexicon.dim g.lexicon.field place word.text) known) words (is_admitted g words good).known)
 
-id_is_dim : (grammar : PlainGrammar) → IsPlain grammar → IsDim (id_plan grammar.labels)
-id_is_dim grammar lawful = record {
-  labels_most = lawful.few_labels;
-  labels_differ = lawful.different;
-  attrs_most = omega arith;
-  attrs_differ = λ i j d h k. absurd (omega arith);
-  attrs = All-nil IsAttr;
-}
+    is_problem : ((parts : Parts) → Suits g (candidates_of g words) parts → All (IsGroup parts) groups) → IsProblem made
+    is_problem each =
+        let admitted : IsAdmitted g words = is_admitted g words good in
+        record {
+          some = admitted.some;
+          most = admitted.most;
+          candidates_each = length-map words (λ (word : SentenceWord). numbers_of (words_of g.lexicon) word.text);
+          candidates = each_candidates;
+          dims_most = planned.dims_few g table;
+          dims_differ = planned.dims_differ g table;
+          dims = planned.dims_are g table;
+          groups = each made suits;
+        }
 
-lex_is_dim : IsDim lex_plan
-lex_is_dim = record {
-  labels_most = omega arith;
-  labels_differ = λ i j d h k. absurd (omega arith);
-  attrs_most = omega arith;
-  attrs_differ = λ i j d h k. absurd (omega arith);
-  attrs = All-nil IsAttr;
-}
+-- the entries of words are entries of the lexicon
+pub known_entries : (g : Grammar) (words : List SentenceWord) (candidates : List (List EntryNo)) → candidates ≡ candidates_of g words → All (All (λ (entry : EntryNo). entry.0 < length g.lexicon.entries)) candidates
+known_entries g words candidates same =
+    let P : List EntryNo → Type 0 = All (λ (entry : EntryNo). entry.0 < length g.lexicon.entries) in
+    subst (All P) (sym same) (All-map P (λ (word : SentenceWord). numbers_of (words_of g.lexicon) word.text) words (λ k d within.
+    subst (λ n. All (λ (entry : EntryNo). entry.0 < n) (numbers_of (words_of g.lexicon) (get_or words k d).text)) (length-map g.lexicon.entries (word_of g.lexicon.dim g.lexicon.field)) (each_below (words_of g.lexicon) (get_or words k d).text)))
 
-names_differ : (labels : List (List ℕ)) → AllPairs (λ a b. a.name ≢ b.name) (id_plan labels ∷ lex_plan ∷ [])
-names_differ labels =
-    let R : DimPlan → DimPlan → Type 0 = λ a b. a.name ≢ b.name in
-    AllPairs-cons R (id_plan labels) (lex_plan ∷ [])
-    (All-cons (R (id_plan labels)) lex_plan [] (λ e. let f : codes "id" ≡ codes "lex" = e in cc) (All-nil (R (id_plan labels))))
-    (AllPairs-cons R lex_plan [] (All-nil (R lex_plan)) (λ i j d h k. absurd (omega arith)))
-
-pub compiled_is_problem : (grammar : PlainGrammar) (words : List SentenceWord) → IsPlain grammar → refusal grammar words ≡ None → IsProblem (compiled grammar words)
-compiled_is_problem grammar words lawful admitted =
-    let good : IsAdmitted grammar.entries words = is_admitted grammar words admitted in
-    record {
-      some = good.some;
-      most = good.most;
-      candidates_each = length-map words (λ word. candidates_of grammar.entries word.text);
-      candidates = All-map AreCandidates (λ word. candidates_of grammar.entries word.text) words
-          (All-weaker (λ word. is_known grammar.entries word.text ≡ true) (λ word. AreCandidates (candidates_of grammar.entries word.text)) (λ word known. are_candidates grammar.entries word.text lawful.few_entries known) words good.known);
-      dims_most = omega arith;
-      dims_differ = names_differ grammar.labels;
-      dims = All-cons IsDim (id_plan grammar.labels) (lex_plan ∷ []) (id_is_dim grammar lawful) (All-cons IsDim lex_plan [] lex_is_dim (All-nil IsDim));
-      groups =
-          All-cons (IsGroup (compiled grammar words)) (group principles.Graph grammar.entries words) (group principles.Tree grammar.entries words ∷ group principles.Valency grammar.entries words ∷ []) (is_group principles.Graph grammar words refl lawful)
-          (All-cons (IsGroup (compiled grammar words)) (group principles.Tree grammar.entries words) (group principles.Valency grammar.entries words ∷ []) (is_group principles.Tree grammar words refl lawful)
-          (All-cons (IsGroup (compiled grammar words)) (group principles.Valency grammar.entries words) [] (is_group principles.Valency grammar words refl lawful) (All-nil (IsGroup (compiled grammar words)))));
-    }
-
-pub made_is_problem : (grammar : PlainGrammar) (words : List SentenceWord) (candidates : List (List EntryNo)) (dims : List DimPlan) (groups : List Group) → IsPlain grammar → refusal grammar words ≡ None → candidates ≡ (compiled grammar words).candidates → dims ≡ (compiled grammar words).dims → groups ≡ (compiled grammar words).groups → IsProblem (record { words = words; candidates = candidates; dims = dims; groups = groups })
-made_is_problem grammar words candidates dims groups lawful admitted e f g = rw (e, f, g) (compiled_is_problem grammar words lawful admitted)
-
--- its principle uses are of graph, tree and valency
-pub compiled_of_first_four : (grammar : PlainGrammar) (words : List SentenceWord) → OfFirstFour (compiled grammar words)
-compiled_of_first_four grammar words =
-    let P : Group → Type 0 = λ one. is_of_first_four one.principle ≡ true in
-    let valency : Group = group principles.Valency grammar.entries words in
-    let tree : Group = group principles.Tree grammar.entries words in
-    All-cons P (group principles.Graph grammar.entries words) (tree ∷ valency ∷ []) refl (All-cons P tree (valency ∷ []) refl (All-cons P valency [] refl (All-nil P)))
-
-pub made_of_first_four : (parts : Parts) (grammar : PlainGrammar) (words : List SentenceWord) → parts ≡ compiled grammar words → OfFirstFour parts
-made_of_first_four parts grammar words same = subst OfFirstFour (sym same) (compiled_of_first_four grammar words)
+pub made_is_problem : (g : Grammar) (words : List SentenceWord) (candidates : List (List EntryNo)) (dims : List DimPlan) (groups : List Group) → IsTable g.table → IsRightLexicon g.table g.lexicon.entries → IsWordPlace g.table g.lexicon.dim g.lexicon.field → refusal g words ≡ None
+    → candidates ≡ candidates_of g words → dims ≡ plans g → ((parts : Parts) → Suits g candidates parts → All (IsGroup parts) groups) → IsProblem (record { words = words; candidates = candidates; dims = dims; groups = groups })
+made_is_problem g words candidates dims groups table lexicon place good e f each =
+    let here : (parts : Parts) → Suits g (candidates_of g words) parts → All (IsGroup parts) groups = subst (λ (numbers : List (List EntryNo)). (parts : Parts) → Suits g numbers parts → All (IsGroup parts) groups) e each in
+    rw (e, f) (is_problem g words groups table lexicon place good here)

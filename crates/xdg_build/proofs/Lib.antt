@@ -1,5 +1,11 @@
-pub mod Ranges
+pub mod Rows
+pub mod Along
 pub mod Numbered
 pub mod Admitted
+pub mod Fitting
+pub mod Keeping
+pub mod Different
+pub mod Planned
 pub mod Lawful
-pub mod Small
+pub mod Turns
+pub mod Searching

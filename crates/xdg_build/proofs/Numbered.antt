@@ -1,73 +1,92 @@
 -- The numbers of a word's entries.
-use Rattle.std.proofs.Common.{◌≡◌, ℕ, suc, ◌+◌, ◌<◌, ◌≤◌, true, false, cond, ◌||◌, List, [], ◌∷◌, length, refl, ap, arith, All}
-use Rattle.std.specs.List.{AllPairs}
-use Rattle.std.proofs.lemmas.Bool.{cond_both}
-use Rattle.std.proofs.lemmas.List.Elements.{All-nil, All-cons, All-weaker}
-use Rattle.std.proofs.lemmas.List.Kept.{AllPairs-cons}
+use Rattle.std.proofs.Common.{◌≡◌, ℕ, ◌+◌, ◌<◌, ◌≤◌, zero, suc, Bool, true, false, List, [], ◌∷◌, length, get_or, map, cond, sym, ap, ◌∙◌, subst, arith, All}
+use Rattle.std.specs.Prelude.{Contains, filter, bytes_eq, slice_index_or}
+use Rattle.std.specs.List.{AllPairs, range_with_len}
+use Rattle.std.proofs.lemmas.List.{get_or-map, length-map}
+use Rattle.std.proofs.lemmas.List.Elements.{All-contains, All-filter, All-from_get_or, All-map, filter_passes}
+use Rattle.std.proofs.lemmas.List.FromFn.{length-range_with_len, get_or-range_with_len}
+use Rattle.std.proofs.lemmas.List.Kept.{AllPairs-filter}
+use Rattle.std.proofs.lemmas.Slice.Eq.{bytes_eq-Decides}
 use Rattle.xdg_base.specs.declared.ids.EntryNo.{EntryNo}
-use Rattle.xdg_plain.specs.declared.grammar.PlainEntry.{PlainEntry}
+use Rattle.xdg_packed.specs.Lexicon.{number, places_of, numbers_of}
 use Rattle.xdg_problem.specs.Problems.{AreCandidates}
-use Rattle.xdg_build.specs.Lookup.{has_word, is_known, entries_of, numbers_of, candidates_of}
 
-abbrev number : ℕ → EntryNo
-number n = record { 0 = n }
+put : {X : Type 0} (b : Bool) (y : X) (ys : List X) (x : X) → Contains ys x → Contains (cond b (y ∷ ys) ys) x
+put true y ys x h = (let within : h.0 < length ys = h.1 in (suc h.0, omega arith, h.2))
+put false y ys x h = h
 
--- a number that counts from first on
-abbrev IsFrom : ℕ → ℕ → EntryNo → Type 0
-IsFrom first end entry = (first ≤ entry.0) × (entry.0 < end)
+contains_filter : {X : Type 0} (p : X → Bool) (xs : List X) (k : ℕ) (x : X) → k < length xs → slice_index_or xs k x ≡ x → p x ≡ true → Contains (filter p xs) x
+contains_filter p [] k x within is passes = absurd (omega (arith, within))
+contains_filter p (y ∷ ys) zero x within is passes =
+    let here : p y ≡ true = ap p is ∙ passes in
+    subst (λ b. Contains (cond b (y ∷ filter p ys) (filter p ys)) x) (sym here) (0, omega arith, is)
+contains_filter p (y ∷ ys) (suc k) x within is passes = put (p y) y (filter p ys) x (contains_filter p ys k x (omega (arith, within)) is passes)
 
-numbers_from_first : (first : ℕ) (entries : List PlainEntry) (word : List ℕ) → All (IsFrom first (first + length entries)) (numbers_of first entries word)
-numbers_from_first first [] word = All-nil (IsFrom first (first + 0))
-numbers_from_first first (entry ∷ entries) word =
-    let P : EntryNo → Type 0 = IsFrom first (first + suc (length entries)) in
-    let A : List EntryNo → Type 0 = All P in
-    let later : All P (numbers_of (suc first) entries word) =
-    All-weaker (IsFrom (suc first) (suc first + length entries)) P (λ n h. (omega arith, omega arith)) (numbers_of (suc first) entries word) (numbers_from_first (suc first) entries word) in
-    cond_both (has_word word entry) (number first ∷ numbers_of (suc first) entries word) (numbers_of (suc first) entries word) A
-    (λ e. All-cons P (number first) (numbers_of (suc first) entries word) (omega arith, omega arith) later)
-    (λ e. later)
+-- a number stands among numbers of entries
+contains_numbers : (xs : List ℕ) (entry : EntryNo) → Contains (map number xs) entry → Contains xs entry.0
+contains_numbers xs entry h =
+    let within : h.0 < length xs = subst (λ n. h.0 < n) (length-map xs number) h.1 in
+    (h.0, within, ap (λ (n : EntryNo). n.0) (sym (get_or-map number xs h.0 entry.0 entry within) ∙ h.2))
 
-numbers_rise : (first : ℕ) (entries : List PlainEntry) (word : List ℕ) → AllPairs (λ a b. a.0 < b.0) (numbers_of first entries word)
-numbers_rise first [] word = λ i j d h k. absurd (omega arith)
-numbers_rise first (entry ∷ entries) word =
-    let R : EntryNo → EntryNo → Type 0 = λ a b. a.0 < b.0 in
-    let A : List EntryNo → Type 0 = AllPairs R in
-    cond_both (has_word word entry) (number first ∷ numbers_of (suc first) entries word) (numbers_of (suc first) entries word) A
-    (λ e. AllPairs-cons R (number first) (numbers_of (suc first) entries word)
-    (All-weaker (IsFrom (suc first) (suc first + length entries)) (λ n. first < n.0) (λ n h. omega arith) (numbers_of (suc first) entries word) (numbers_from_first (suc first) entries word))
-    (numbers_rise (suc first) entries word))
-    (λ e. numbers_rise (suc first) entries word)
+numbers_contain : (xs : List ℕ) (entry : EntryNo) → Contains xs entry.0 → Contains (map number xs) entry
+numbers_contain xs entry h = (h.0, subst (λ n. h.0 < n) (sym (length-map xs number)) h.1, get_or-map number xs h.0 entry.0 entry h.1 ∙ ap number h.2)
 
--- there are as many numbers as entries with the word
-pub numbers_count : (first : ℕ) (entries : List PlainEntry) (word : List ℕ) → length (numbers_of first entries word) ≡ length (entries_of entries word)
-numbers_count first [] word = refl
-numbers_count first (entry ∷ entries) word =
-    elim (has_word word entry) as (λ b. length (cond b (number first ∷ numbers_of (suc first) entries word) (numbers_of (suc first) entries word)) ≡ length (cond b (entry ∷ entries_of entries word) (entries_of entries word))) [
-      | true ↦ ap suc (numbers_count (suc first) entries word)
-      | false ↦ numbers_count (suc first) entries word
-    ]
+rising : (count : ℕ) → AllPairs (λ (a b : ℕ). a < b) (range_with_len 0 count)
+rising count i j d before within =
+    let inside : j < count = omega (arith, within, length-range_with_len 0 count) in
+    let here : get_or (range_with_len 0 count) i d ≡ 0 + i = get_or-range_with_len 0 count i d (omega (arith, before, inside)) in
+    let next : get_or (range_with_len 0 count) j d ≡ 0 + j = get_or-range_with_len 0 count j d inside in
+    omega (arith, before, here, next)
 
-numbers_most : (first : ℕ) (entries : List PlainEntry) (word : List ℕ) → length (numbers_of first entries word) ≤ length entries
-numbers_most first [] word = omega arith
-numbers_most first (entry ∷ entries) word =
-    let h : length (numbers_of (suc first) entries word) ≤ length entries = numbers_most (suc first) entries word in
-    elim (has_word word entry) as (λ b. length (cond b (number first ∷ numbers_of (suc first) entries word) (numbers_of (suc first) entries word)) ≤ suc (length entries)) [
-      | true ↦ omega arith
-      | false ↦ omega arith
-    ]
+below_count : (count : ℕ) → All (λ n. n < count) (range_with_len 0 count)
+below_count count = All-from_get_or (λ n. n < count) (range_with_len 0 count) 0 (λ i h.
+    let inside : i < count = omega (arith, h, length-range_with_len 0 count) in
+    omega (arith, get_or-range_with_len 0 count i 0 inside, inside))
 
-numbers_some : (first : ℕ) (entries : List PlainEntry) (word : List ℕ) → is_known entries word ≡ true → 0 < length (numbers_of first entries word)
-numbers_some first [] word = λ e. cc
-numbers_some first (entry ∷ entries) word =
-    elim (has_word word entry) as (λ b. (b || is_known entries word) ≡ true → 0 < length (cond b (number first ∷ numbers_of (suc first) entries word) (numbers_of (suc first) entries word))) [
-      | true ↦ λ e. omega arith
-      | false ↦ λ e. numbers_some (suc first) entries word e
-    ]
+pub rising_numbers : (xs : List ℕ) → AllPairs (λ (a b : ℕ). a < b) xs → AllPairs (λ (a b : EntryNo). a.0 < b.0) (map number xs)
+rising_numbers xs rise i j d before within =
+    let inside : j < length xs = subst (λ n. j < n) (length-map xs number) within in
+    let here : get_or (map number xs) i d ≡ number (get_or xs i d.0) = get_or-map number xs i d.0 d (omega (arith, before, inside)) in
+    let next : get_or (map number xs) j d ≡ number (get_or xs j d.0) = get_or-map number xs j d.0 d inside in
+    let rises : get_or xs i d.0 < get_or xs j d.0 = rise i j d.0 before inside in
+    omega (arith, ap (λ (n : EntryNo). n.0) here, ap (λ (n : EntryNo). n.0) next, rises)
 
-pub are_candidates : (entries : List PlainEntry) (word : List ℕ) → length entries ≤ 1024 → is_known entries word ≡ true → AreCandidates (candidates_of entries word)
-are_candidates entries word most known = record {
-  some = numbers_some 0 entries word known;
-  most = let h : length (numbers_of 0 entries word) ≤ length entries = numbers_most 0 entries word in omega arith;
-  rising = numbers_rise 0 entries word;
-  small = All-weaker (IsFrom 0 (0 + length entries)) (λ entry. entry.0 < 4294967295) (λ n h. omega arith) (numbers_of 0 entries word) (numbers_from_first 0 entries word);
-}
+-- Each number below a count stands at its own place among all.
+pub at_itself : (count : ℕ) (entry : EntryNo) → entry.0 < count → Contains (map number (range_with_len 0 count)) entry
+at_itself count entry within =
+    numbers_contain (range_with_len 0 count) entry
+    (entry.0, subst (λ n. entry.0 < n) (sym (length-range_with_len 0 count)) within, (let e : get_or (range_with_len 0 count) entry.0 entry.0 ≡ 0 + entry.0 = get_or-range_with_len 0 count entry.0 entry.0 within in omega (arith, e)))
+
+module _ (words : List (List ℕ)) (word : List ℕ) where
+  abbrev stands : ℕ → Bool
+  stands place = bytes_eq (get_or words place []) word
+
+  abbrev all : List ℕ
+  all = range_with_len 0 (length words)
+
+  pub each_below : All (λ (entry : EntryNo). entry.0 < length words) (numbers_of words word)
+  each_below = All-map (λ (entry : EntryNo). entry.0 < length words) number (places_of words word) (All-filter stands (λ n. n < length words) all (below_count (length words)))
+
+  -- the numbers of a word are those of the places where it stands
+  pub number_stands : (entry : EntryNo) → Contains (numbers_of words word) entry → (entry.0 < length words) × (get_or words entry.0 [] ≡ word)
+  number_stands entry h =
+      let listed : Contains (places_of words word) entry.0 = contains_numbers (places_of words word) entry h in (
+        All-contains (λ n. n < length words) (places_of words word) entry.0 (All-filter stands (λ n. n < length words) all (below_count (length words))) listed,
+        (bytes_eq-Decides (get_or words entry.0 []) word).0 (All-contains (λ n. stands n ≡ true) (places_of words word) entry.0 (filter_passes stands all) listed),
+      )
+
+  pub stands_numbered : (entry : EntryNo) → entry.0 < length words → get_or words entry.0 [] ≡ word → Contains (numbers_of words word) entry
+  stands_numbered entry within is =
+      let here : get_or all entry.0 entry.0 ≡ 0 + entry.0 = get_or-range_with_len 0 (length words) entry.0 entry.0 within in
+      numbers_contain (places_of words word) entry
+      (contains_filter stands all entry.0 entry.0 (subst (λ n. entry.0 < n) (sym (length-range_with_len 0 (length words))) within) (omega (arith, here)) ((bytes_eq-Decides (get_or words entry.0 []) word).1 is))
+
+  pub are_candidates : length words ≤ 65536 → length (places_of words word) ≤ 1024 → 0 < length (numbers_of words word) → AreCandidates (numbers_of words word)
+  are_candidates few fewer some = record {
+    some = some;
+    most = subst (λ n. n ≤ 1024) (sym (length-map (places_of words word) number)) fewer;
+    rising = rising_numbers (places_of words word) (AllPairs-filter (λ (a b : ℕ). a < b) stands all (rising (length words)));
+    small = All-map (λ (entry : EntryNo). entry.0 < 4294967295) number (places_of words word) (All-filter stands (λ n. n < 4294967295) all (All-from_get_or (λ n. n < 4294967295) all 0 (λ i h.
+        let inside : i < length words = omega (arith, h, length-range_with_len 0 (length words)) in
+        omega (arith, get_or-range_with_len 0 (length words) i 0 inside, inside, few))));
+  }

@@ -1,4 +1,4 @@
-pub mod Lookup
-pub mod Refusals
+pub mod Plans
 pub mod Compiled
-pub mod Examples
+pub mod Refusals
+pub mod Solutions

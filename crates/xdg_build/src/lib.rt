@@ -1,14 +1,10 @@
-//! Compiling: a grammar and the words of a sentence make a problem, or a refusal.
-//!
-//! A grammar of the plain form has two dimensions. `id` has the edges, under `principle.graph`, `principle.tree` and
-//! `principle.valency` (Debusmann 2006, chapter 7); `lex` only ties entries to words.
+//! Compiling: a grammar with its lexicon and the words of a sentence make a problem, or a refusal.
 #![tactic(auto)]
 
-mod compiling;
-mod features;
-mod lookup;
+mod building;
+mod candidates;
+mod plans;
 mod refusals;
-#[cfg(test)]
-mod tests;
+mod shown;
 
-pub use compiling::build;
+pub use building::build;

@@ -1,22 +1,21 @@
 //! Which sentences are refused.
 
 ghost use Rattle.std.specs.Prelude.{◌≡◌};
-ghost use Rattle.xdg_build.specs.Refusals.{first_unknown, refusal};
+ghost use Rattle.xdg_build.specs.Refusals.{first_unknown, refusal_by};
 
-use crate::lookup::is_known;
 use xdg_base::{Cause, Fault};
-use xdg_plain::{PlainEntry, PlainGrammar};
+use xdg_packed::Packed;
 use xdg_problem::SentenceWord;
 
 /// The most words that a sentence may have.
 const WORDS: usize = 128;
 
 /// The first word that has no entry.
-fn first_unknown(entries: &[PlainEntry], words: &[SentenceWord]) -> Option<Fault>
-    ensures { result ≡ first_unknown entries.now words.now }
+fn first_unknown(packed: &Packed, words: &[SentenceWord]) -> Option<Fault>
+    ensures { result ≡ first_unknown packed.now words.now }
 {
     for word in words {
-        if !is_known(entries, word.text.as_str()) {
+        if packed.of_word(word.text.as_str()).is_empty() {
             return Some(Fault {
                 cause: Cause::UnknownWord,
                 at: word.at,
@@ -28,8 +27,8 @@ fn first_unknown(entries: &[PlainEntry], words: &[SentenceWord]) -> Option<Fault
 }
 
 /// Why a sentence is refused: it has no word, or too many, or a word without entry.
-pub(crate) fn refusal(grammar: &PlainGrammar, words: &[SentenceWord]) -> Option<Fault>
-    ensures { result ≡ refusal grammar.now words.now }
+pub(crate) fn refusal(packed: &Packed, words: &[SentenceWord]) -> Option<Fault>
+    ensures { result ≡ refusal_by packed.now words.now }
 {
     if words.is_empty() {
         return Some(Fault {
@@ -44,6 +43,6 @@ pub(crate) fn refusal(grammar: &PlainGrammar, words: &[SentenceWord]) -> Option<
             at: word.at,
             reached: WORDS as u64 + 1,
         }),
-        None => first_unknown(grammar.entries.as_slice(), words),
+        None => first_unknown(packed, words),
     }
 }

@@ -19,3 +19,4 @@ pub mod Solutions
 pub mod Problems
 pub mod FirstFour
 pub mod Tries
+pub mod Names

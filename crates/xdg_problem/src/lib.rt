@@ -9,6 +9,7 @@ mod comparing;
 mod conditions;
 mod decisions;
 mod fitting;
+mod names;
 mod numbers;
 mod parts;
 mod places;
@@ -17,6 +18,7 @@ mod sizes;
 
 pub use analysis::{Analysis, Edge, is_before};
 pub use conditions::Condition;
+pub use names::{principle_name, principle_named};
 pub use numbers::Nums;
 pub use parts::{AttrPlan, DimPlan, Feat, Group, Parts, Principle, SentenceWord, Shown};
 pub use problem::Problem;

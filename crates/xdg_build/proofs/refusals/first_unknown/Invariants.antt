@@ -3,4 +3,4 @@ use Rattle.xdg_build.specs.Refusals.{first_unknown}
 use Rattle.xdg_build.proofs.refusals.first_unknown.Given as goal
 
 abbrev pub invariant-loop-word : goal.invariant-loop-word
-invariant-loop-word l = first_unknown l.entries (drop l.word-index l.words) ≡ first_unknown l.entries l.words
+invariant-loop-word l = first_unknown l.packed (drop l.word-index l.words) ≡ first_unknown l.packed l.words

@@ -1,0 +1,127 @@
+-- The compiled dimensions are dimensions of a problem.
+use Rattle.std.proofs.Common.{◌≡◌, ℕ, ◌<◌, ◌≤◌, zero, suc, List, [], ◌∷◌, length, get_or, map, refl, sym, ap, ◌∙◌, subst, inl, inr, arith, All}
+use Rattle.std.specs.Prelude.{◌≢◌}
+use Rattle.std.specs.List.{AllPairs, range_with_len}
+use Rattle.std.proofs.lemmas.List.{get_or-map, length-map}
+use Rattle.std.proofs.lemmas.List.Elements.{All-nil, All-cons, All-map}
+use Rattle.std.proofs.lemmas.List.FromFn.{length-map-range_with_len, get_or-map-range_with_len}
+use Rattle.xdg_domain.specs.declared.types.Ty.{Ty}
+use Rattle.xdg_domain.specs.Shapes.{Shape, domain, tuple, count, shape, Differ, IsSmall}
+use Rattle.xdg_problem.specs.declared.parts.AttrPlan.{AttrPlan}
+use Rattle.xdg_problem.specs.declared.parts.DimPlan.{DimPlan}
+use Rattle.xdg_problem.specs.Problems.{HasConstant, IsAttr, IsDim}
+use Rattle.xdg_types.specs.declared.table.DimType.{DimType}
+use Rattle.xdg_types.specs.Table.{Typed, typed, firsts, AreAttributes, KeepsDim, KeepDims, HasPlace, ArePlaces, IsTable}
+use Rattle.xdg_groups.specs.Grammars.{Grammar, no_dim}
+use Rattle.xdg_build.specs.Plans.{shown_as, attr_plan, attr_plans, dim_plan, plan_at, plans}
+use Rattle.xdg_build.proofs.Different.{one_place, differ_by, differ_all, same_tuple, some_text}
+
+-- ---- attributes
+
+few_values : (s : Shape) → IsSmall s → count s ≤ 1024
+few_values (domain cs) small = omega (arith, small.0)
+few_values (tuple ss) small = small.few
+few_values s small = absurd small
+
+has_constant : (s : Shape) (n : ℕ) → IsSmall s → HasConstant (shown_as s n)
+has_constant (domain cs) n small = tt
+has_constant (tuple ss) n small = some_text ss n small
+has_constant s n small = absurd small
+
+-- values that are shown alike are the same
+shown_alike : (s : Shape) (m n : ℕ) → IsSmall s → m < count s → n < count s → shown_as s m ≡ shown_as s n → m ≡ n
+shown_alike (domain cs) m n small within inside e = (let texts : get_or cs m [] ≡ get_or cs n [] = cc in one_place cs m n small.1 within inside texts)
+shown_alike (tuple ss) m n small within inside e = same_tuple ss m n small within inside cc
+shown_alike s m n small within inside e = absurd small
+
+is_attr : (name : List ℕ) (s : Shape) → IsSmall s → 0 < count s → IsAttr (attr_plan name s)
+is_attr name s small some =
+    let long : length (map (shown_as s) (range_with_len 0 (count s))) ≡ count s = length-map-range_with_len (shown_as s) 0 (count s) in
+    let few : count s ≤ 1024 = few_values s small in
+    record {
+      some = omega (arith, long, some);
+      most = omega (arith, long, few);
+      shown_as = All-map HasConstant (shown_as s) (range_with_len 0 (count s)) (λ k d within. has_constant s (get_or (range_with_len 0 (count s)) k d) small);
+      differ = λ i j d before within e.
+          let inside : j < count s = omega (arith, within, long) in
+          let here : get_or (map (shown_as s) (range_with_len 0 (count s))) i d ≡ shown_as s i = get_or-map-range_with_len (shown_as s) 0 (count s) i i d (omega (arith, before, inside)) (omega arith) in
+          let there : get_or (map (shown_as s) (range_with_len 0 (count s))) j d ≡ shown_as s j = get_or-map-range_with_len (shown_as s) 0 (count s) j j d inside (omega arith) in
+          let same : i ≡ j = shown_alike s i j small (omega (arith, before, inside)) inside (sym here ∙ e ∙ there) in
+          omega (arith, same, before);
+    }
+
+are_attrs : (attrs : Typed) → AreAttributes attrs → All IsAttr (attr_plans attrs)
+are_attrs [] h = All-nil IsAttr
+are_attrs (attr ∷ attrs) h = All-cons IsAttr (attr_plan attr.0 attr.1) (attr_plans attrs) (is_attr attr.0 attr.1 h.0.0 h.0.1) (are_attrs attrs h.1)
+
+names_are : (attrs : List (List ℕ × Ty)) → map (λ (attr : AttrPlan). attr.name) (attr_plans (typed attrs)) ≡ firsts attrs
+names_are [] = refl
+names_are (attr ∷ attrs) = ap (λ (names : List (List ℕ)). attr.0 ∷ names) (names_are attrs)
+
+-- ---- dimensions
+
+module _ (g : Grammar) where
+  pub attr_count : (dim : DimType) → length (attr_plans (typed dim.attrs)) ≡ length dim.attrs
+  attr_count dim = length-map (typed dim.attrs) (λ (attr : List ℕ × Shape). attr_plan attr.0 attr.1) ∙ length-map dim.attrs (λ (one : List ℕ × Ty). (one.0, shape one.1))
+
+  is_dim : (k : ℕ) (dim : DimType) → KeepsDim dim → IsDim (dim_plan g k dim)
+  is_dim k dim h =
+      let many = attr_count dim in
+      record {
+        labels_most = h.few_labels;
+        labels_differ = differ_all dim.labels h.labels;
+        attrs_most = omega (arith, many, h.few_attrs);
+        attrs_differ = differ_by (λ (attr : AttrPlan). attr.name) (attr_plans (typed dim.attrs)) (subst Differ (sym (names_are dim.attrs)) h.attrs);
+        attrs = are_attrs (typed dim.attrs) h.attributes;
+      }
+
+pub kept_at : (dims : List DimType) (k : ℕ) → KeepDims dims → k < length dims → KeepsDim (get_or dims k no_dim)
+kept_at [] k h within = absurd (omega (arith, within))
+kept_at (dim ∷ dims) zero h within = h.0
+kept_at (dim ∷ dims) (suc k) h within = kept_at dims k h.1 (omega (arith, within))
+
+pub place_within : (bound : ℕ) (ks : List ℕ) (i d : ℕ) → ArePlaces bound ks → i < length ks → get_or ks i d < bound
+place_within bound [] i d h within = absurd (omega (arith, within))
+place_within bound (k ∷ ks) zero d h within = h.0.0
+place_within bound (k ∷ ks) (suc i) d h within = place_within bound ks i d h.1 (omega (arith, within))
+
+has_place : (ks : List ℕ) (i d : ℕ) → i < length ks → HasPlace ks (get_or ks i d)
+has_place [] i d within = absurd (omega (arith, within))
+has_place (k ∷ ks) zero d within = inl refl
+has_place (k ∷ ks) (suc i) d within = inr (has_place ks i d (omega (arith, within)))
+
+places_differ : (bound : ℕ) (ks : List ℕ) (i j d : ℕ) → ArePlaces bound ks → i < j → j < length ks → get_or ks i d ≢ get_or ks j d
+places_differ bound [] i j d h before within e = omega (arith, within)
+places_differ bound (k ∷ ks) i zero d h before within e = omega (arith, before)
+places_differ bound (k ∷ ks) zero (suc j) d h before within e = h.0.1 (subst (HasPlace ks) (sym e) (has_place ks j d (omega (arith, within))))
+places_differ bound (k ∷ ks) (suc i) (suc j) d h before within e = places_differ bound ks i j d h.1 (omega (arith, before)) (omega (arith, within)) e
+
+module _ (g : Grammar) (right : IsTable g.table) where
+  abbrev at : ℕ → DimPlan
+  at = plan_at g g.table.dims
+
+  name_at : (k : ℕ) → k < length g.table.dims → get_or (map (λ (dim : DimType). dim.name) g.table.dims) k [] ≡ (at k).name
+  name_at k within = get_or-map (λ (dim : DimType). dim.name) g.table.dims k no_dim [] within
+
+  pub dims_few : length (plans g) ≤ 8
+  dims_few = omega (arith, length-map g.table.used at, right.few_used)
+
+  pub dims_differ : AllPairs (λ (a b : DimPlan). a.name ≢ b.name) (plans g)
+  dims_differ i j d before within e =
+      let inside : j < length g.table.used = omega (arith, within, length-map g.table.used at) in
+      let earlier : i < length g.table.used = omega (arith, before, inside) in
+      let one : ℕ = get_or g.table.used i 0 in
+      let two : ℕ = get_or g.table.used j 0 in
+      let one_in : one < length g.table.dims = place_within (length g.table.dims) g.table.used i 0 right.used earlier in
+      let two_in : two < length g.table.dims = place_within (length g.table.dims) g.table.used j 0 right.used inside in
+      let here : get_or (plans g) i d ≡ at one = get_or-map at g.table.used i 0 d earlier in
+      let there : get_or (plans g) j d ≡ at two = get_or-map at g.table.used j 0 d inside in
+      let names : (at one).name ≡ (at two).name = ap (λ (plan : DimPlan). plan.name) (sym here) ∙ e ∙ ap (λ (plan : DimPlan). plan.name) there in
+      let long : length (map (λ (dim : DimType). dim.name) g.table.dims) ≡ length g.table.dims = length-map g.table.dims (λ (dim : DimType). dim.name) in
+      let same : one ≡ two = one_place (map (λ (dim : DimType). dim.name) g.table.dims) one two right.names (subst (λ n. one < n) (sym long) one_in) (subst (λ n. two < n) (sym long) two_in) (name_at one one_in ∙ names ∙ sym (name_at two two_in)) in
+      places_differ (length g.table.dims) g.table.used i j 0 right.used before inside same
+
+  pub dims_are : All IsDim (plans g)
+  dims_are = All-map IsDim at g.table.used (λ i d within.
+      let k : ℕ = get_or g.table.used i d in
+      is_dim g k (get_or g.table.dims k no_dim) (kept_at g.table.dims k right.dims (place_within (length g.table.dims) g.table.used i d right.used within)))

@@ -1,0 +1,47 @@
+-- The rows of a node's entry: the same whatever the candidates are among which the entry stands.
+use Rattle.std.proofs.Common.{◌≡◌, ℕ, ◌<◌, zero, suc, Bool, true, false, List, [], ◌∷◌, length, map, cond, refl, sym, ap, ◌∙◌, arith}
+use Rattle.std.specs.Prelude.{◌==◌, Contains, slice_index, slice_index_or}
+use Rattle.std.proofs.lemmas.Bool.{eqb-true, eq-eqb}
+use Rattle.xdg_base.specs.declared.ids.EntryNo.{EntryNo}
+use Rattle.xdg_problem.specs.declared.parts.Feat.{Feat}
+use Rattle.xdg_problem.specs.declared.parts.Group.{Group}
+use Rattle.xdg_problem.specs.Analyses.{HasCandidates}
+use Rattle.xdg_problem.specs.Features.{row}
+use Rattle.xdg_problem.specs.Vectors.{place_among, entry_places}
+
+entry_equal : (a b : EntryNo) → a.0 ≡ b.0 → a ≡ b
+entry_equal a b e = let f : ℕ → EntryNo = λ n. record { 0 = n } in ap f e
+
+contains_later : (first : EntryNo) (more : List EntryNo) (entry : EntryNo) → (first.0 == entry.0) ≡ false → (k : ℕ) → k < suc (length more) → slice_index_or (first ∷ more) k entry ≡ entry → Contains more entry
+contains_later first more entry other zero within is = let same : true ≡ false = sym (eq-eqb first.0 entry.0 (ap (λ (n : EntryNo). n.0) is)) ∙ other in cc
+contains_later first more entry other (suc k) within is = (k, omega (arith, within), is)
+
+module _ {A : Type 0} (F : EntryNo → List A) where
+  -- at the place of an entry among candidates stands what belongs to the entry
+  pub at_its_place : (candidates : List EntryNo) (entry : EntryNo) → Contains candidates entry → slice_index_or (map F candidates) (place_among candidates entry) [] ≡ F entry
+  at_its_place [] entry h = let within : h.0 < 0 = h.1 in absurd (omega arith)
+  at_its_place (first ∷ more) entry h = by (first.0 == entry.0) refl (λ e. at_its_place more entry (contains_later first more entry e h.0 h.1 h.2))
+    where
+      by : (b : Bool) → (first.0 == entry.0) ≡ b → ((first.0 == entry.0) ≡ false → slice_index_or (map F more) (place_among more entry) [] ≡ F entry) → slice_index_or (F first ∷ map F more) (cond b 0 (suc (place_among more entry))) [] ≡ F entry
+      by true e later = ap F (entry_equal first entry (eqb-true first.0 entry.0 e))
+      by false e later = later e
+
+  pub of_entries : (candidates : List (List EntryNo)) (entries : List EntryNo) → HasCandidates candidates entries → (u : ℕ)
+      → slice_index_or (slice_index_or (map (map F) candidates) u []) (slice_index (entry_places candidates entries) u) [] ≡ slice_index_or (map F entries) u []
+  of_entries [] [] h u = refl
+  of_entries [] (entry ∷ entries) h u = absurd h
+  of_entries (numbers ∷ more) [] h u = absurd h
+  of_entries (numbers ∷ more) (entry ∷ entries) h zero = at_its_place numbers entry h.0
+  of_entries (numbers ∷ more) (entry ∷ entries) h (suc u) = of_entries more entries h.1 u
+
+-- the features of entries for each node and each of its candidates
+abbrev pub spread : (EntryNo → List Feat) → List (List EntryNo) → List (List (List Feat))
+spread F candidates = map (λ numbers. map F numbers) candidates
+
+-- Two lists of candidates of the same entries give each node the same rows.
+pub same_rows : (F : EntryNo → List Feat) (one two : Group) (c d : List (List EntryNo)) (entries : List EntryNo) → one.feats ≡ spread F c → two.feats ≡ spread F d → HasCandidates c entries → HasCandidates d entries
+    → (u argument label : ℕ) → row one u (slice_index (entry_places c entries) u) argument label ≡ row two u (slice_index (entry_places d entries) u) argument label
+same_rows F one two c d entries e f h k u argument label =
+    let G : List (List (List Feat)) → List (List EntryNo) → List Feat = λ feats among. slice_index_or (slice_index_or feats u []) (slice_index (entry_places among entries) u) [] in
+    let same : G one.feats c ≡ G two.feats d = ap (λ feats. G feats c) e ∙ of_entries F c entries h u ∙ sym (of_entries F d entries k u) ∙ sym (ap (λ feats. G feats d) f) in
+    ap (λ (features : List Feat). slice_index_or (slice_index_or features argument (record { rows = [] })).rows label []) same

@@ -1,0 +1,12 @@
+mod Turns
+mod Cardinalities
+mod Calling
+mod Forms
+mod Lists
+mod Dimensions
+mod Named
+mod Values
+mod Listed
+mod Said
+mod Taken
+mod Right

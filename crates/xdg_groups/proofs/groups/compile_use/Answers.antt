@@ -1,0 +1,24 @@
+use Rattle.std.proofs.Common.{sym, ◌∙◌, ap, subst, map}
+use Rattle.std.specs.Prelude.{All}
+use Rattle.xdg_types.specs.Table.{Table}
+use Rattle.xdg_groups.specs.Grammars.{grammar_of}
+use Rattle.xdg_groups.specs.Rows.{IsSmallArg, features_by_number}
+use Rattle.xdg_groups.proofs.Named.{small_args}
+use Rattle.xdg_groups.proofs.Right.{wide, made_group}
+use Rattle.xdg_groups.proofs.groups.compile_use.Goals as goal
+
+pub attrs-requires : goal.attrs-requires
+attrs-requires c = subst (All IsSmallArg) (sym c.as_slice-args.ensures) (small_args c.args.checked.now.types c.args.one.now c.types.ensures.keeps.types.dims c.requires.typed)
+
+pub all_features-requires-clause-dim : goal.all_features-requires-clause-dim
+all_features-requires-clause-dim c =
+    wide (grammar_of c.args.checked.now c.args.packed.now) c.args.one.now c.used-used.result.now c.as_slice.result.now c.principle_called-principle.result c.as_str.result.now c.feature_place-dim.result
+    c.requires.typed c.requires.used c.requires.lexicon (c.used-used.ensures.same ∙ ap (λ (t : Table). t.used) c.types.ensures.same) c.as_slice.ensures c.as_str.ensures c.principle_called-principle.ensures c.feature_place-dim.ensures
+
+pub returns : goal.returns
+returns c =
+    made_group (grammar_of c.args.checked.now c.args.packed.now) c.args.candidates.now c.args.one.now c.principle_called-principle.result c.as_str.result.now c.as_slice.result.now c.as_slice-3.result.now c.in_ok-places.places c.as_slice-args.result.now
+    c.used-used.result.now c.feature_place-dim.result c.in_ok-dims_in.field-0 c.in_ok-attrs.field-0 c.in_ok-labels.field-0 c.in_ok-truths.field-0 c.in_ok-feats.feats
+    (c.used-used.ensures.same ∙ ap (λ (t : Table). t.used) c.types.ensures.same) c.as_slice.ensures c.as_slice-3.ensures c.as_str.ensures c.as_slice-args.ensures c.principle_called-principle.ensures c.feature_place-dim.ensures
+    c.in_ok-dims_in.ensures c.in_ok-attrs.ensures c.in_ok-labels.ensures c.in_ok-truths.ensures c.in_ok-places.ensures
+    (c.in_ok-feats.ensures ∙ ap (λ ps. map (features_by_number c.args.packed.now.entries c.feature_place-dim.result ps) c.args.candidates.now) c.as_slice-2.ensures)

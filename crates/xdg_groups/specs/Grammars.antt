@@ -1,0 +1,49 @@
+-- What sentences are compiled with.
+use Rattle.std.specs.Prelude.{ℕ, suc, ◌==◌, Bool, List, [], ◌∷◌, cond, map, get_or}
+use Rattle.std.specs.List.{list_any}
+use Rattle.xdg_faults.specs.First.{In}
+use Rattle.xdg_types.specs.declared.table.DimType.{DimType}
+use Rattle.xdg_types.specs.Table.{Table, IsTable}
+use Rattle.xdg_principles.specs.declared.building.PrincipleUse.{PrincipleUse}
+use Rattle.xdg_principles.specs.Typed.{IsTypedUse}
+use Rattle.xdg_check.specs.Checked.{Parts}
+use Rattle.xdg_packed.specs.Lexicon.{Lexicon}
+use Rattle.xdg_entries.specs.Entries.{IsRightLexicon, IsWordPlace}
+
+-- the types, the principle uses and the expanded lexicon of a grammar, and where its entries say their words
+pub record Grammar : Type 0 where
+  pub table : Table
+  pub uses : List PrincipleUse
+  pub lexicon : Lexicon
+
+abbrev pub grammar_of : Parts → Lexicon → Grammar
+grammar_of checked lexicon = record { table = checked.types; uses = checked.principles; lexicon = lexicon }
+
+-- what such a grammar keeps
+pub record IsGrammar (g : Grammar) : Type 0 where
+  pub table : IsTable g.table
+  pub typed : (u : PrincipleUse) → In g.uses u → IsTypedUse g.table u
+  pub lexicon : IsRightLexicon g.table g.lexicon.entries
+  pub words : IsWordPlace g.table g.lexicon.dim g.lexicon.field
+
+-- ---- used dimensions
+
+abbrev pub no_dim : DimType
+no_dim = record { name = []; labels = []; attrs = []; fields = [] }
+
+-- the used dimensions, in the order of their uses
+abbrev pub used_dims : Table → List DimType
+used_dims table = map (λ k. get_or table.dims k no_dim) table.used
+
+-- the dimension with that place among all is used
+abbrev pub is_used : Table → ℕ → Bool
+is_used table k = list_any (λ used. used == k) table.used
+
+-- the place of a number in a list, and the list's length where it doesn't stand there
+abbrev pub place_in : List ℕ → ℕ → ℕ
+place_in [] k = 0
+place_in (used ∷ more) k = cond (used == k) 0 (suc (place_in more k))
+
+-- the place of a dimension among the used ones, by its place among all
+abbrev pub used_place : Table → ℕ → ℕ
+used_place table k = place_in table.used k

@@ -1,0 +1,6 @@
+pub mod Grammars
+pub mod Features
+pub mod Rows
+pub mod Groups
+pub mod Suits
+pub mod Searchable

@@ -1,0 +1,31 @@
+-- What principles are called in grammar texts.
+use Rattle.std.specs.Prelude.{◌≡◌, ℕ, List, Option, None, Some, codes}
+use Rattle.xdg_problem.specs.declared.parts.Principle.{Principle}
+use Rattle.xdg_problem.specs.declared.parts.Principle.TheVariants as principles
+
+-- the name of a principle
+abbrev pub name_of : Principle → List ℕ
+name_of principles.Graph = codes "principle.graph"
+name_of principles.Entries = codes "principle.entries"
+name_of principles.Tree = codes "principle.tree"
+name_of principles.Dag = codes "principle.dag"
+name_of principles.Valency = codes "principle.valency"
+name_of principles.Order = codes "principle.order"
+name_of principles.Projectivity = codes "principle.projectivity"
+name_of principles.Agr = codes "principle.agr"
+name_of principles.Agreement = codes "principle.agreement"
+name_of principles.Government = codes "principle.government"
+name_of principles.Climbing = codes "principle.climbing"
+name_of principles.Barriers = codes "principle.barriers"
+name_of principles.LinkingEnd = codes "principle.linkingEnd"
+name_of principles.LinkingDaughter = codes "principle.linkingDaughter"
+name_of principles.LinkingMother = codes "principle.linkingMother"
+name_of principles.LinkingBelowStart = codes "principle.linkingBelowStart"
+name_of principles.LinkingAboveStart = codes "principle.linkingAboveStart"
+name_of principles.LinkingSisters = codes "principle.linkingSisters"
+name_of principles.LinkingNotDaughter = codes "principle.linkingNotDaughter"
+
+-- the principle of that name, or that there is none
+abbrev pub IsNamed : List ℕ → Option Principle → Type 0
+IsNamed name None = (principle : Principle) → name_of principle ≡ name → ⊥
+IsNamed name (Some principle) = (name_of principle ≡ name) × ((other : Principle) → name_of other ≡ name → other ≡ principle)
