@@ -1,7 +1,7 @@
 -- What a condition asks of a tuple, from what is read and tested.
-use Rattle.std.proofs.Common.{◌≡◌, ℕ, ◌+◌, ◌<◌, ◌≤◌, ◌↔◌, inl, inr, Bool, true, false, List, length, get_or, map, refl, ap, sym, ◌∙◌, subst, arith}
+use Rattle.std.proofs.Common.{◌≡◌, ℕ, ◌+◌, ◌<◌, ◌≤◌, ◌↔◌, ◌==◌, inl, inr, Bool, true, false, List, length, get_or, map, refl, ap, sym, ◌∙◌, subst, arith}
 use Rattle.std.specs.Prelude.{IsTrue, not, Contains, AllPairs, slice_index}
-use Rattle.std.proofs.lemmas.Bool.{cases_eq, false≢true}
+use Rattle.std.proofs.lemmas.Bool.{cases_eq, eq-eqb, eqb-true, false≢true}
 use Rattle.std.proofs.lemmas.List.{get_or_default, get_or-map, length-map}
 use Rattle.xdg_base.specs.declared.ids.LabelId.{LabelId}
 use Rattle.xdg_problem.specs.declared.analysis.Edge.{Edge}
@@ -9,11 +9,14 @@ use Rattle.xdg_problem.specs.declared.conditions.Condition.{Condition}
 use Rattle.xdg_problem.specs.declared.parts.Group.{Group}
 use Rattle.xdg_problem.specs.declared.parts.Parts.{Parts}
 use Rattle.xdg_problem.specs.Arguments.{attr_place}
-use Rattle.xdg_problem.specs.Asking.{IsBetween, IsInItem}
+use Rattle.xdg_problem.specs.Asking.{IsInItem}
 use Rattle.xdg_problem.specs.Features.{row}
-use Rattle.xdg_problem.specs.Paths.{edges_on, Above, AboveByLast, IsDaughter, IsDaughterBy}
+use Rattle.xdg_problem.specs.Paths.{edges_on, AboveByLast}
 use Rattle.xdg_judge.specs.declared.paths.Way.TheVariants as ways
-use Rattle.xdg_judge.specs.Joining.{entry, IsTable, IsJoined}
+use Rattle.xdg_judge.specs.declared.links.Links.{Links}
+use Rattle.xdg_judge.specs.Joining.{IsLed}
+use Rattle.xdg_judge.specs.Links.{AreLinks}
+use Rattle.xdg_judge.proofs.Meeting.{led_exact}
 use Rattle.xdg_judge.proofs.Ways.{last_exact, through}
 
 pub on_same : (dim d : ℕ) (es edges : List Edge) → dim ≡ d → es ≡ edges → edges_on dim es ≡ edges_on d edges
@@ -30,27 +33,29 @@ denied : (b : Bool) (D X : Type 0) → IsTrue b ↔ D → (X → ⊥) → IsTrue
 denied true D X h n = (λ t. absurd (false≢true t), λ f. absurd (n (f (h.0 refl))))
 denied false D X h n = (λ t d. absurd (false≢true (h.1 d)), λ f. refl)
 
--- a table that says no
-pub not_above : (edges : List Edge) (table : List (List Bool)) (u v : ℕ) → IsTable edges table → u < 128 → v < 128 → false ≡ entry table u v → Above edges u v → ⊥
-not_above edges table u v is l m none a = false≢true (none ∙ (is u v l m).1 a)
+-- where the premises of what is asked hold, a test of the conclusion is enough
 
-pub between_end : (b : Bool) (table : List (List Bool)) (E F G : List Edge) (u v w : ℕ) → E ≡ G → F ≡ G → IsTable F table → u < 128 → w < 128 → IsBetween u v w → false ≡ entry table u w → IsTrue b ↔ IsDaughter E u v → IsTrue (not b) ↔ (IsDaughter G u v → IsBetween u v w → Above G u w)
-between_end b table E F G u v w e f is l m between none h =
-    denied b (IsDaughter G u v) (IsBetween u v w → Above G u w) (subst (λ z. IsTrue b ↔ IsDaughter z u v) e h) (λ g. not_above G table u w (subst (λ z. IsTable z table) f is) l m none (g between))
+pub between_end : (b : Bool) (D B A : Type 0) → D → B → IsTrue b ↔ A → IsTrue b ↔ (D → B → A)
+between_end b D B A d w h = (λ t x y. h.0 t, λ f. h.1 (f d w))
 
-pub agree_end : (b : Bool) (E G : List Edge) (xs ys : List ℕ) (u l v m wanted value first second : ℕ) → E ≡ G → Contains xs m → xs ≡ ys → m ≡ l → wanted ≡ first → value ≡ second → (wanted ≡ value → ⊥) → IsTrue b ↔ IsDaughterBy E u l v → IsTrue (not b) ↔ (IsDaughterBy G u l v → Contains ys l → first ≡ second)
-agree_end b E G xs ys u l v m wanted value first second e c f g i j n h =
-    denied b (IsDaughterBy G u l v) (Contains ys l → first ≡ second) (subst (λ z. IsTrue b ↔ IsDaughterBy z u l v) e h) (λ k. n (i ∙ (k (subst (λ z. Contains z l) f (subst (Contains xs) g c)) ∙ sym j)))
+pub agree_end : (D : Type 0) (xs ys : List ℕ) (l m wanted value first second : ℕ) → D → Contains xs m → xs ≡ ys → m ≡ l → wanted ≡ first → value ≡ second → IsTrue (wanted == value) ↔ (D → Contains ys l → first ≡ second)
+agree_end D xs ys l m wanted value first second d c f g i j = (
+  λ t x y. sym i ∙ (eqb-true wanted value t ∙ j),
+  λ h. eq-eqb wanted value (i ∙ (h d (subst (λ z. Contains z l) f (subst (Contains xs) g c)) ∙ sym j)),
+)
 
-pub govern_end : (b : Bool) (E G : List Edge) (xs ys : List ℕ) (u l v m value second : ℕ) → E ≡ G → xs ≡ ys → (length xs ≡ 0 → ⊥) → m ≡ value → value ≡ second → (Contains xs m → ⊥) → IsTrue b ↔ IsDaughterBy E u l v → IsTrue (not b) ↔ (IsDaughterBy G u l v → 0 < length ys → Contains ys second)
-govern_end b E G xs ys u l v m value second e f some g i n h =
-    denied b (IsDaughterBy G u l v) (0 < length ys → Contains ys second) (subst (λ z. IsTrue b ↔ IsDaughterBy z u l v) e h)
-    (λ k. n (subst (λ z. Contains z m) (sym f) (subst (Contains ys) (sym (g ∙ i)) (k (let q = ap length f in let r : length xs ≡ 0 → ⊥ = some in omega (arith, q, r))))))
+pub govern_end : (b : Bool) (D : Type 0) (xs ys : List ℕ) (m value second : ℕ) → D → xs ≡ ys → (length xs ≡ 0 → ⊥) → m ≡ value → value ≡ second → IsTrue b ↔ Contains xs m → IsTrue b ↔ (D → 0 < length ys → Contains ys second)
+govern_end b D xs ys m value second d f some g i h = (
+  λ t x y. subst (λ z. Contains z second) f (subst (Contains xs) (g ∙ i) (h.0 t)),
+  λ k. h.1 (subst (λ z. Contains z m) (sym f) (subst (Contains ys) (sym (g ∙ i)) (k d (let q = ap length f in let r : length xs ≡ 0 → ⊥ = some in omega (arith, q, r))))),
+)
 
-pub blocked_end : (b : Bool) (table : List (List Bool)) (E F G H : List Edge) (xs ys : List ℕ) (w v : ℕ) → E ≡ G → F ≡ H → IsTable F table → w < 128 → v < 128 → xs ≡ ys → false ≡ entry table w v → IsTrue b ↔ IsJoined ways.Last E xs w v → IsTrue (not b) ↔ (AboveByLast G w ys v → Above H w v)
-blocked_end b table E F G H xs ys w v e f is l m g none h =
-    denied b (AboveByLast G w ys v) (Above H w v) (subst (λ z. IsTrue b ↔ AboveByLast G w z v) g (subst (λ z. IsTrue b ↔ AboveByLast z w xs v) e (through h (last_exact E xs w v))))
-    (not_above H table w v (subst (λ z. IsTable z table) f is) l m none)
+pub blocked_end : (b : Bool) (links : Links) (edges : List Edge) (A : Type 0) (xs ys : List ℕ) (w v : ℕ) → AreLinks edges links → xs ≡ ys → (A → ⊥) → IsTrue b ↔ IsLed ways.Last links xs w v → IsTrue (not b) ↔ (AboveByLast edges w ys v → A)
+blocked_end b links edges A xs ys w v are g none h =
+    denied b (AboveByLast edges w ys v) A (subst (λ z. IsTrue b ↔ AboveByLast edges w z v) g (through h (through_both (led_exact ways.Last edges links xs w v are) (last_exact edges xs w v)))) none
+  where
+    through_both : {X Y Z : Type 0} → X ↔ Y → Y ↔ Z → X ↔ Z
+    through_both f k = (λ x. k.0 (f.0 x), λ z. f.1 (k.1 z))
 
 -- the labels of an order, one after another: whether x stands in an item of an earlier one, and none with y comes later
 pub record Ordering (InX InY : ℕ → Type 0) (labels : List LabelId) (i : ℕ) (seen : Bool) : Type 0 where

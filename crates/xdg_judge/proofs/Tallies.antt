@@ -1,17 +1,115 @@
--- Counting in a filtered list.
-use Rattle.std.proofs.Common.{◌≡◌, ℕ, ◌+◌, ◌≤◌, ◌&&◌, ◌||◌, ◌++◌, Bool, true, false, cond, not, take, List, [], ◌∷◌, length, sym, ◌∙◌, ap, refl, subst, zero, suc, arith, length-append}
-use Rattle.std.specs.Prelude.{filter, count_by, ◌==◌}
+-- Counting in a filtered list, and tables of counts.
+use Rattle.std.proofs.Common.{◌≡◌, ℕ, ◌+◌, ◌<◌, ◌≤◌, ◌↔◌, ◌&&◌, ◌||◌, ◌++◌, inl, inr, Bool, true, false, cond, not, take, get_or, replicate, List, [], ◌∷◌, length, sym, ◌∙◌, ap, refl, subst, zero, suc, arith, length-append}
+use Rattle.std.specs.Prelude.{IsTrue, filter, count_by, nat_le, slice_index, slice_index_or, slice_set, ◌==◌}
 use Rattle.std.specs.List.{list_any}
-use Rattle.std.proofs.lemmas.List.{take_all}
-use Rattle.std.proofs.lemmas.List.Sums.{length-filter}
+use Rattle.std.proofs.lemmas.Bool.{cases_eq, eq-eqb, ne_eqb, leb-true, le-leb}
+use Rattle.std.proofs.lemmas.List.{take_all, append-nil, get_or-set_same, get_or-set_other, length-take}
+use Rattle.std.proofs.lemmas.List.Sums.{length-filter, count_by-le-length}
 use Rattle.std.proofs.lemmas.List.Elements.{filter-append}
 use Rattle.xdg_problem.specs.declared.analysis.Edge.{Edge}
 use Rattle.xdg_problem.specs.Places.{numbers_from}
-use Rattle.xdg_problem.specs.Paths.{roots}
-use Rattle.xdg_judge.proofs.Counted.{filter_twice}
+use Rattle.xdg_problem.specs.Paths.{edges_on, roots}
+use Rattle.xdg_problem.specs.declared.conditions.Condition.{Condition}
+use Rattle.xdg_judge.specs.Counting.{first_key, second_key, counted, IsTally}
+use Rattle.xdg_judge.proofs.Gathering.{on_more}
 
-pub count_on : {X : Type 0} (r q : X → Bool) (xs : List X) → count_by (λ x. r x && q x) xs ≡ count_by q (filter r xs)
-count_on r q xs = sym (length-filter (λ x. r x && q x) xs) ∙ (sym (ap length (filter_twice r q xs)) ∙ length-filter q (filter r xs))
+-- one more element to count
+count_behind : {X : Type 0} (p : X → Bool) (xs : List X) (y : X) → count_by p (xs ++ y ∷ []) ≡ count_by p xs + cond (p y) 1 0
+count_behind p xs y =
+    sym (length-filter p (xs ++ y ∷ []))
+    ∙ (ap length (filter-append p xs (y ∷ []))
+    ∙ (length-append (filter p xs) (filter p (y ∷ []))
+    ∙ (ap (λ n. n + length (filter p (y ∷ []))) (length-filter p xs)
+    ∙ ap (λ n. count_by p xs + n) (kept_one (p y) y))))
+  where
+    kept_one : {X : Type 0} (b : Bool) (z : X) → length (cond b (z ∷ []) []) ≡ cond b 1 0
+    kept_one true z = refl
+    kept_one false z = refl
+
+-- a row and a table that count one more
+
+here_once : (b : ℕ) → ◌≡◌ {A = ℕ} (cond (b == b) 1 0) 1
+here_once b = ap (λ q. cond q 1 0) (eq-eqb b b refl)
+
+none_here : (b m : ℕ) → (b ≡ m → ⊥) → ◌≡◌ {A = ℕ} (cond (b == m) 1 0) 0
+none_here b m n = ap (λ q. cond q 1 0) (ne_eqb b m n)
+
+pub count_at : (row : List ℕ) (b j m : ℕ) → j ≡ b → j < length row → slice_index (slice_set row j (slice_index row j + 1)) m ≡ slice_index row m + cond (b == m) 1 0
+count_at row b j m e l = elim (cases_eq m j) [
+  | inl f ↦ subst (λ z. slice_index (slice_set row j (slice_index row j + 1)) z ≡ slice_index row z + cond (b == z) 1 0) (sym f) (subst (λ z. slice_index (slice_set row j (slice_index row j + 1)) j ≡ slice_index row j + cond (z == j) 1 0) e (
+      let same : slice_index (slice_set row j (slice_index row j + 1)) j ≡ slice_index row j + 1 = get_or-set_same row j (slice_index row j + 1) 0 l in
+      let once = here_once j in
+      omega (arith, same, once)))
+  | inr g ↦ (
+      let same : slice_index (slice_set row j (slice_index row j + 1)) m ≡ slice_index row m = get_or-set_other row j m (slice_index row j + 1) 0 g in
+      let none = none_here b m (λ q. g (sym q ∙ sym e)) in
+      omega (arith, same, none))
+]
+
+pub count_row : (table : List (List ℕ)) (row : List ℕ) (a b i k m : ℕ) → i ≡ a → i < length table → ((n : ℕ) → slice_index row n ≡ slice_index (slice_index_or table i []) n + cond (b == n) 1 0) → counted (slice_set table i row) k m ≡ counted table k m + cond ((a == k) && (b == m)) 1 0
+count_row table row a b i k m e l h = elim (cases_eq k i) [
+  | inl f ↦ subst (λ z. counted (slice_set table i row) z m ≡ counted table z m + cond ((a == z) && (b == m)) 1 0) (sym f) (
+      let here : counted (slice_set table i row) i m ≡ slice_index row m = ap (λ z. slice_index z m) (get_or-set_same table i row [] l) in
+      let more = h m in
+      here ∙ (more ∙ ap (λ q. counted table i m + cond (q && (b == m)) 1 0) (sym (eq-eqb a i (sym e)))))
+  | inr g ↦ (
+      let same : counted (slice_set table i row) k m ≡ counted table k m = ap (λ z. slice_index z m) (get_or-set_other table i k row [] g) in
+      let none : ◌≡◌ {A = ℕ} (cond ((a == k) && (b == m)) 1 0) 0 = ap (λ q. cond (q && (b == m)) 1 0) (ne_eqb a k (λ q. g (sym q ∙ sym e))) in
+      omega (arith, same, none))
+]
+
+no_counts : (rows places a b : ℕ) → counted (replicate rows (replicate places 0)) a b ≡ 0
+no_counts zero places a b = refl
+no_counts (suc rows) places zero b = zeros places b where
+  zeros : (count k : ℕ) → ◌≡◌ {A = ℕ} (get_or (replicate count 0) k 0) 0
+  zeros zero k = refl
+  zeros (suc count) zero = refl
+  zeros (suc count) (suc k) = zeros count k
+no_counts (suc rows) places (suc a) b = no_counts rows places a b
+
+-- a table that counts the first edges
+pub record Tallied (condition : Condition) (dim : ℕ) (edges : List Edge) (i : ℕ) (table : List (List ℕ)) : Type 0 where
+  pub exact : (a b : ℕ) → counted table a b ≡ count_by (λ e. (first_key condition e == a) && (second_key condition e == b)) (edges_on dim (take i edges))
+
+pub tallied_start : (condition : Condition) (dim : ℕ) (edges : List Edge) (rows places : ℕ) (table : List (List ℕ)) → table ≡ replicate rows (replicate places 0) → Tallied condition dim edges 0 table
+tallied_start condition dim edges rows places table e = record { exact = λ a b. ap (λ z. counted z a b) e ∙ no_counts rows places a b }
+
+pub tallied_most : (condition : Condition) (dim : ℕ) (edges : List Edge) (i : ℕ) (table : List (List ℕ)) (a b : ℕ) → Tallied condition dim edges i table → counted table a b ≤ i
+tallied_most condition dim edges i table a b t =
+    let e = t.exact a b in
+    let m = count_by-le-length (λ (e : Edge). (first_key condition e == a) && (second_key condition e == b)) (edges_on dim (take i edges)) in
+    let f = length-filter (λ (e : Edge). e.dim.0 == dim) (take i edges) in
+    let n = count_by-le-length (λ (e : Edge). e.dim.0 == dim) (take i edges) in
+    let l = length-take i edges in
+    omega (arith, e, m, f, n, l)
+
+pub tallied_here : (condition : Condition) (dim : ℕ) (edges : List Edge) (i : ℕ) (old new : List (List ℕ)) (e : Edge) (a b : ℕ) → i < length edges → e ≡ get_or edges i e → e.dim.0 ≡ dim → a ≡ first_key condition e → b ≡ second_key condition e → ((k m : ℕ) → counted new k m ≡ counted old k m + cond ((a == k) && (b == m)) 1 0) → Tallied condition dim edges i old → Tallied condition dim edges (i + 1) new
+tallied_here condition dim edges i old new e a b l at d ea eb step t = record {
+  exact = λ k m.
+      let same : edges_on dim (take (i + 1) edges) ≡ edges_on dim (take i edges) ++ e ∷ [] = on_more dim edges i e l at ∙ ap (λ q. edges_on dim (take i edges) ++ cond q (e ∷ []) []) (eq-eqb _ _ d) in
+      step k m
+      ∙ (ap (λ z. counted old k m + cond ((z == k) && (b == m)) 1 0) ea
+      ∙ (ap (λ z. counted old k m + cond ((first_key condition e == k) && (z == m)) 1 0) eb
+      ∙ (ap (λ n. n + cond ((first_key condition e == k) && (second_key condition e == m)) 1 0) (t.exact k m)
+      ∙ sym (ap (count_by (λ f. (first_key condition f == k) && (second_key condition f == m))) same ∙ count_behind (λ (f : Edge). (first_key condition f == k) && (second_key condition f == m)) (edges_on dim (take i edges)) e))));
+}
+
+pub tallied_over : (condition : Condition) (dim : ℕ) (edges : List Edge) (i : ℕ) (table : List (List ℕ)) (e : Edge) → i < length edges → e ≡ get_or edges i e → (e.dim.0 ≡ dim → ⊥) → Tallied condition dim edges i table → Tallied condition dim edges (i + 1) table
+tallied_over condition dim edges i table e l at d t = record {
+  exact = λ k m.
+      let same : edges_on dim (take (i + 1) edges) ≡ edges_on dim (take i edges) ++ [] = on_more dim edges i e l at ∙ ap (λ q. edges_on dim (take i edges) ++ cond q (e ∷ []) []) (ne_eqb _ _ d) in
+      t.exact k m ∙ ap (count_by (λ f. (first_key condition f == k) && (second_key condition f == m))) (sym (same ∙ append-nil (edges_on dim (take i edges))));
+}
+
+pub tallied_end : (condition : Condition) (dim : ℕ) (edges : List Edge) (i : ℕ) (table : List (List ℕ)) → length edges ≤ i → Tallied condition dim edges i table → IsTally condition (edges_on dim edges) table
+tallied_end condition dim edges i table l t = λ a b. t.exact a b ∙ ap (λ xs. count_by (λ e. (first_key condition e == a) && (second_key condition e == b)) (edges_on dim xs)) (take_all i edges l)
+
+pub at_most_one : (n m : ℕ) → n ≡ m → IsTrue (nat_le n 1) ↔ (m ≤ 1)
+at_most_one n m e = (λ t. (let h = leb-true n 1 t in omega (arith, h, e)), λ l. le-leb n 1 (omega (arith, l, e)))
+
+-- what a condition counts of two numbers
+pub tallied : (condition q : Condition) (edges : List Edge) (table : List (List ℕ)) (a b n : ℕ) → condition ≡ q → IsTally condition edges table → n ≡ counted table a b → n ≡ count_by (λ e. (first_key q e == a) && (second_key q e == b)) edges
+tallied condition q edges table a b n is t e = e ∙ (t a b ∙ ap (λ c. count_by (λ f. (first_key c f == a) && (second_key c f == b)) edges) is)
 
 any_in : {X : Type 0} (q : X → Bool) (b : Bool) (x : X) (ys : List X) → list_any q (cond b (x ∷ ys) ys) ≡ ((b && q x) || list_any q ys)
 any_in q true x ys = refl
@@ -41,9 +139,6 @@ roots_more n edges =
     ∙ (length-append (filter test (numbers_from 0 n)) (filter test ((0 + n) ∷ []))
     ∙ (let z : 0 + n ≡ n = omega arith in ap (λ (m : ℕ). length (filter test (numbers_from 0 n)) + length (filter test (m ∷ []))) z
     ∙ ap (λ (m : ℕ). length (filter test (numbers_from 0 n)) + m) (one_kept (test n) n)))))
-
-pub counted_all : (r q : Edge → Bool) (xs : List Edge) (i n : ℕ) → n ≡ count_by (λ x. r x && q x) (take i xs) → length xs ≤ i → n ≡ count_by q (filter r xs)
-counted_all r q xs i n e le = e ∙ (ap (count_by (λ x. r x && q x)) (take_all i xs le) ∙ count_on r q xs)
 
 -- the count after one node more
 pub roots_step : (n dim : ℕ) (edges : List Edge) → length (roots (n + 1) (filter (λ e. e.dim.0 == dim) edges)) ≡ length (roots n (filter (λ e. e.dim.0 == dim) edges)) + cond (not (list_any (λ e. (e.dim.0 == dim) && (e.daughter.0 == n)) edges)) 1 0

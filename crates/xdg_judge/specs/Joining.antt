@@ -1,18 +1,13 @@
 -- How an edge joins two nodes.
-use Rattle.std.specs.Prelude.{◌≡◌, ℕ, ◌<◌, ◌⊎◌, ◌↔◌, Bool, true, false, List, [], slice_index_or, Contains}
+use Rattle.std.specs.Prelude.{◌≡◌, ℕ, ◌⊎◌, true, List, [], slice_index_or, Contains}
 use Rattle.std.specs.List.{Any}
 use Rattle.xdg_problem.specs.declared.analysis.Edge.{Edge}
 use Rattle.xdg_problem.specs.Paths.{Above, IsDaughter}
+use Rattle.xdg_nodeset.specs.Nodes.{has}
+use Rattle.xdg_judge.specs.declared.links.Links.{Links}
+use Rattle.xdg_judge.specs.Links.{In}
 use Rattle.xdg_judge.specs.declared.paths.Way.{Way}
 use Rattle.xdg_judge.specs.declared.paths.Way.TheVariants as ways
-
--- an entry of a table of nodes by nodes
-abbrev pub entry : List (List Bool) → ℕ → ℕ → Bool
-entry table u v = slice_index_or (slice_index_or table u []) v false
-
--- a table says which of the first 128 nodes are above which, along edges
-abbrev pub IsTable : List Edge → List (List Bool) → Type 0
-IsTable edges table = (u v : ℕ) → u < 128 → v < 128 → (entry table u v ≡ true) ↔ Above edges u v
 
 -- an edge joins u to v in a way
 abbrev pub Joins : Way → List Edge → ℕ → ℕ → Edge → Type 0
@@ -30,3 +25,27 @@ Joins ways.Sister edges u v e = IsDaughter edges e.mother.0 u × (e.daughter.0 �
 -- some edge with one of the labels joins u to v in a way
 abbrev pub IsJoined : Way → List Edge → List ℕ → ℕ → ℕ → Type 0
 IsJoined way edges labels u v = Any (λ e. Contains labels e.label.0 × Joins way edges u v e) edges
+
+-- two sets have a node in common
+abbrev pub Meet : List ℕ → List ℕ → Type 0
+Meet a b = (x : ℕ) × (has a x ≡ true) × (has b x ≡ true)
+
+-- a node at which an edge that joins u to v in a way may have its end that is neither v, where it leads into v, nor u
+abbrev pub IsEnd : Way → Links → ℕ → ℕ → ℕ → Type 0
+IsEnd ways.Into links u v x = In links.up.next v x
+IsEnd ways.Straight links u v x = v ≡ x
+IsEnd ways.First links u v x = In links.up.far v x ⊎ (v ≡ x)
+IsEnd ways.Last links u v x = In links.down.far u x ⊎ (u ≡ x)
+IsEnd ways.Sister links u v x = In links.up.next u x
+
+-- the sets of the other ends, by labels
+abbrev pub sets_for : Way → Links → ℕ → ℕ → List (List ℕ)
+sets_for ways.Into links u v = slice_index_or links.up.by_label v []
+sets_for ways.Straight links u v = slice_index_or links.down.by_label u []
+sets_for ways.First links u v = slice_index_or links.down.by_label u []
+sets_for ways.Last links u v = slice_index_or links.up.by_label v []
+sets_for ways.Sister links u v = slice_index_or links.up.by_label v []
+
+-- by the sets, some edge with one of the labels joins u to v in a way
+abbrev pub IsLed : Way → Links → List ℕ → ℕ → ℕ → Type 0
+IsLed way links labels u v = Any (λ label. (x : ℕ) × (has (slice_index_or (sets_for way links u v) label []) x ≡ true) × IsEnd way links u v x) labels

@@ -1,4 +1,6 @@
 pub mod Reached
+pub mod Links
+pub mod Counting
 pub mod Joining
 pub mod Searching
 pub mod Verdicts

@@ -12,7 +12,7 @@ ghost use Rattle.xdg_judge.specs.Searching.{tuple_for, second_size, third_size};
 ghost use Rattle.xdg_judge.specs.Views.{IsView};
 ghost use Rattle.xdg_judge.specs.Verdicts.{tuple_of, IsVerdict, AreVerdicts, IsKeptHere, IsLeastBroken};
 
-use crate::counts::count_roots;
+use crate::counts::{count_roots, tally};
 use crate::reads::{label_count_of, truth_of};
 use crate::search::first_refused;
 use crate::verdict::{Tuple4, Verdict};
@@ -93,7 +93,8 @@ fn broken_tuple(view: &View, condition: Condition) -> Option<Tuple4>
     let size = view.parts.words.len() as u8;
     let middle = second_size(view, condition);
     let last = third_size(view, condition);
-    match first_refused(view, condition, size, middle, last) {
+    let counts = tally(view.edges(), view.first_dim, condition);
+    match first_refused(view, &counts, condition, size, middle, last) {
         None => None,
         Some((u, x, y)) => Some(tuple_for(condition, u, x, y)),
     }
@@ -172,7 +173,6 @@ fn conditions_of(group: &Group) -> (usize, [Condition; 3])
 }
 
 /// The verdict on a principle use.
-
 fn judge(view: &View) -> Verdict
     requires view { IsView view.now.parts.now view.now.group.now view.now.analysis.now view.now.first_dim view.now.second_dim view.now.first view.now.second }
     ensures { IsVerdict view.now.parts.now view.now.analysis.now view.now.group.now result }
@@ -201,7 +201,6 @@ fn verdict_of(parts: &Parts, group: &Group, analysis: &Analysis) -> Verdict
 
 /// Whether an analysis satisfies a principle use, which is given by its place among those of the problem. It takes no
 /// memory from an allocator.
-
 pub fn holds(problem: &Problem, group: usize, analysis: &Analysis) -> bool
     requires fits { IsAnalysis problem.now analysis.now }
     requires within { group < length problem.now.groups }

@@ -5,10 +5,11 @@
 mod asking;
 mod counts;
 mod judge;
+mod links;
 mod paths;
-mod reach;
 mod reads;
 mod search;
+mod skips;
 #[cfg(test)]
 mod tests;
 mod verdict;

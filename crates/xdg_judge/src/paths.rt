@@ -1,12 +1,13 @@
 //! Edges that join two nodes.
 
-ghost use Rattle.std.specs.Prelude.{◌≡◌, ℕ, ◌<◌, ◌⊎◌, ◌↔◌, [], IsTrue, Contains, length, false, slice_index_or};
+ghost use Rattle.std.specs.Prelude.{◌≡◌, ℕ, ◌<◌, ◌⊎◌, ◌↔◌, true, [], IsTrue, Contains, slice_index_or};
 ghost use Rattle.std.specs.List.{Any};
-ghost use Rattle.xdg_problem.specs.Paths.{edges_on, Above, IsDaughter, IsDaughterBy};
-ghost use Rattle.xdg_judge.specs.Joining.{IsTable, Joins, IsJoined};
-ghost use Rattle.xdg_judge.specs.Reached.{AreWithin};
+ghost use Rattle.xdg_nodeset.specs.Nodes.{has};
+ghost use Rattle.xdg_judge.specs.Joining.{Meet, IsEnd, IsLed};
 
-use xdg_problem::Edge;
+use crate::links::Links;
+use xdg_base::NodeId;
+use xdg_nodeset::NodeSet;
 
 /// How an edge joins a node u to a node v.
 #[derive(Clone, Copy, Debug)]
@@ -30,98 +31,80 @@ pub fn is_member(numbers: &[u16], number: usize) -> bool
     numbers.iter().any(|member| number == usize::from(*member))
 }
 
-/// Whether a table says that u is above v.
-pub fn is_above(table: &[[bool; 128]; 128], u: u8, v: u8) -> bool
-    requires u_within { u < 128 }
-    requires v_within { v < 128 }
-    ensures { result ≡ slice_index_or (slice_index_or table.now u []) v false }
+/// A set with one node more.
+#[tactic(auto, using(crate::proofs::Sets::one_more))]
+fn including(set: NodeSet, node: u8) -> NodeSet
+    requires { node < 128 }
+    ensures { (x : ℕ) → (has result x ≡ true) ↔ ((has set x ≡ true) ⊎ (node ≡ x)) }
 {
-    table[usize::from(u)][usize::from(v)]
+    let mut set = set;
+    set.insert(NodeId(node));
+    set
 }
 
-/// Whether v is a daughter of u on a dimension.
-#[tactic(auto, using(crate::proofs::Scanning::none_start, crate::proofs::Scanning::none_more, crate::proofs::Scanning::none_end, crate::proofs::Scanning::found_here))]
-pub fn is_daughter(edges: &[Edge], dim: u8, u: u8, v: u8) -> bool
-    ensures { IsTrue result ↔ IsDaughter (edges_on dim edges.now) u v }
+/// Whether two sets have a node in common.
+#[tactic(auto, using(crate::proofs::Meeting::some_met, crate::proofs::Meeting::none_met))]
+fn overlap(a: NodeSet, b: NodeSet) -> bool
+    ensures { IsTrue result ↔ Meet a b }
 {
-    for edge in edges {
-        if edge.dim.0 == dim && edge.mother.0 == u && edge.daughter.0 == v {
+    match a.meet(&b).first() {
+        Some(_) => true,
+        None => false,
+    }
+}
+
+/// Whether the set at a label has a node in common with another set.
+#[tactic(auto, using(crate::proofs::Meeting::no_set, crate::proofs::Meeting::some_set))]
+fn meets_at(sets: &[NodeSet; 32], label: u16, nodes: NodeSet) -> bool
+    ensures { IsTrue result ↔ Meet (slice_index_or sets.now label []) nodes }
+{
+    match sets.get(usize::from(label)) {
+        Some(set) => overlap(*set, nodes),
+        None => false,
+    }
+}
+
+/// Whether the set at one of some labels has a node in common with another set.
+#[tactic(auto, using(crate::proofs::Meeting::none_start, crate::proofs::Meeting::none_more, crate::proofs::Meeting::none_end, crate::proofs::Meeting::found_here))]
+fn meets(sets: &[NodeSet; 32], labels: &[u16], nodes: NodeSet) -> bool
+    ensures { IsTrue result ↔ Any (λ label. Meet (slice_index_or sets.now label []) nodes) labels.now }
+{
+    for label in labels {
+        if meets_at(sets, *label, nodes) {
             return true;
         }
     }
     false
 }
 
-/// Whether v is a daughter of u with a label on a dimension.
-#[tactic(auto, using(crate::proofs::Scanning::none_start, crate::proofs::Scanning::none_more, crate::proofs::Scanning::none_end, crate::proofs::Scanning::found_here))]
-pub fn is_daughter_by(edges: &[Edge], dim: u8, u: u8, label: u8, v: u8) -> bool
-    ensures { IsTrue result ↔ IsDaughterBy (edges_on dim edges.now) u label v }
-{
-    for edge in edges {
-        if edge.dim.0 == dim
-            && edge.mother.0 == u
-            && edge.label.0 == label
-            && edge.daughter.0 == v
-        {
-            return true;
-        }
-    }
-    false
-}
-
-/// Whether an edge joins u to v in a way.
-fn joins(
-    edges: &[Edge],
-    dim: u8,
-    table: &[[bool; 128]; 128],
-    way: Way,
-    u: u8,
-    v: u8,
-    edge: Edge,
-) -> bool
-    requires table { IsTable (edges_on dim edges.now) table.now }
+/// The nodes at which an edge that joins u to v in a way may have its other end.
+#[tactic(auto, using(crate::proofs::Meeting::only_end))]
+fn ends(links: &Links, way: Way, u: u8, v: u8) -> NodeSet
     requires u_within { u < 128 }
     requires v_within { v < 128 }
-    requires edge_within { (edge.mother.0 < 128) × (edge.daughter.0 < 128) }
-    ensures { IsTrue result ↔ Joins way (edges_on dim edges.now) u v edge }
+    ensures { (x : ℕ) → (has result x ≡ true) ↔ IsEnd way links.now u v x }
 {
     match way {
-        Way::Into => edge.daughter.0 == v,
-        Way::Straight => edge.mother.0 == u && edge.daughter.0 == v,
-        Way::First => {
-            edge.mother.0 == u && (edge.daughter.0 == v || is_above(table, edge.daughter.0, v))
-        }
-        Way::Last => {
-            (edge.mother.0 == u || is_above(table, u, edge.mother.0)) && edge.daughter.0 == v
-        }
-        Way::Sister => { is_daughter(edges, dim, edge.mother.0, u) && edge.daughter.0 == v }
+        Way::Into => links.up.next[usize::from(v)],
+        Way::Straight => including(NodeSet::empty(), v),
+        Way::First => including(links.up.far[usize::from(v)], v),
+        Way::Last => including(links.down.far[usize::from(u)], u),
+        Way::Sister => links.up.next[usize::from(u)],
     }
 }
 
-/// Whether some edge of a dimension with one of the labels joins u to v in a way.
-#[tactic(auto, using(crate::proofs::Scanning::none_start, crate::proofs::Scanning::none_more, crate::proofs::Scanning::none_end, crate::proofs::Scanning::found_here))]
-pub fn is_joined(
-    edges: &[Edge],
-    dim: u8,
-    table: &[[bool; 128]; 128],
-    way: Way,
-    labels: &[u16],
-    u: u8,
-    v: u8,
-) -> bool
-    requires within { AreWithin 128 edges.now }
-    requires table { IsTable (edges_on dim edges.now) table.now }
+/// Whether some edge with one of the labels joins u to v in a way.
+pub fn is_joined(links: &Links, way: Way, labels: &[u16], u: u8, v: u8) -> bool
     requires u_within { u < 128 }
     requires v_within { v < 128 }
-    ensures { IsTrue result ↔ IsJoined way (edges_on dim edges.now) labels.now u v }
+    ensures { IsTrue result ↔ IsLed way links.now labels.now u v }
 {
-    for edge in edges {
-        if edge.dim.0 == dim
-            && is_member(labels, usize::from(edge.label.0))
-            && joins(edges, dim, table, way, u, v, *edge)
-        {
-            return true;
-        }
+    let ends = ends(links, way, u, v);
+    match way {
+        Way::Straight => meets(&links.down.by_label[usize::from(u)], labels, ends),
+        Way::First => meets(&links.down.by_label[usize::from(u)], labels, ends),
+        Way::Into => meets(&links.up.by_label[usize::from(v)], labels, ends),
+        Way::Last => meets(&links.up.by_label[usize::from(v)], labels, ends),
+        Way::Sister => meets(&links.up.by_label[usize::from(v)], labels, ends),
     }
-    false
 }

@@ -233,7 +233,7 @@ fn classes_that_lead_far(rt: HostRuntime) -> Result<(), Fail> {
 }
 
 /// A grammar of thirteen lines.
-const PLAIN: &str = "\
+pub(crate) const PLAIN: &str = "\
 usedim id usedim lex\n\
 defdim lex {defentrytype {word: string}}\n\
 defdim id {\n\

@@ -6,6 +6,16 @@ mod arguments;
 #[cfg(test)]
 mod checked;
 #[cfg(test)]
+mod conditions;
+#[cfg(test)]
+mod entries;
+#[cfg(test)]
+mod expanded;
+#[cfg(test)]
+mod explained;
+#[cfg(test)]
+mod grammars;
+#[cfg(test)]
 mod judged;
 #[cfg(test)]
 mod principles;

@@ -1,0 +1,171 @@
+-- Sets that have a node in common, and edges that join two nodes, by sets.
+use Rattle.std.proofs.Common.{◌≡◌, ℕ, ◌+◌, ◌<◌, ◌≤◌, ◌⊎◌, ◌↔◌, ◌&&◌, ◌||◌, inl, inr, Bool, true, false, List, [], ◌∷◌, length, take, get_or, refl, sym, ◌∙◌, ap, subst, Some, None, arith}
+use Rattle.std.specs.Prelude.{IsTrue, All, Contains, slice_get, slice_index_or}
+use Rattle.std.specs.List.{Any}
+use Rattle.std.proofs.lemmas.Bool.{eq-eqb, false≢true}
+use Rattle.std.proofs.lemmas.List.{take_all}
+use Rattle.std.proofs.lemmas.List.Elements.{All-more}
+use Rattle.xdg_nodeset.specs.Nodes.{has}
+use Rattle.xdg_problem.specs.declared.analysis.Edge.{Edge}
+use Rattle.xdg_problem.specs.Paths.{Above}
+use Rattle.xdg_judge.specs.declared.links.Links.{Links}
+use Rattle.xdg_judge.specs.declared.paths.Way.{Way}
+use Rattle.xdg_judge.specs.declared.paths.Way.TheVariants as ways
+use Rattle.xdg_judge.specs.Joining.{Meet, IsEnd, IsLed, IsJoined, sets_for}
+use Rattle.xdg_judge.specs.Links.{AreLinks}
+use Rattle.xdg_judge.proofs.ReadLists.{read_some, read_none}
+use Rattle.xdg_judge.proofs.Sets.{both}
+
+-- the first node of what two sets have in common
+
+pub some_met : (a b both_of rest : List ℕ) (node : ℕ) → both_of ≡ node ∷ rest → ((n : ℕ) → has both_of n ≡ (has a n && has b n)) → IsTrue true ↔ Meet a b
+some_met a b both_of rest node e members =
+    let here : has both_of node ≡ true = subst (λ z. has z node ≡ true) (sym e) (ap (λ q. q || has rest node) (eq-eqb node node refl)) in
+    let found = (both (has a node) (has b node)).0 (sym (members node) ∙ here) in
+    (λ t. (node, found.0, found.1), λ m. refl)
+
+pub none_met : (a b both_of : List ℕ) → both_of ≡ [] → ((n : ℕ) → has both_of n ≡ (has a n && has b n)) → IsTrue false ↔ Meet a b
+none_met a b both_of e members = (
+  λ t. absurd (false≢true t),
+  λ (x, l, r). absurd (false≢true (subst (λ z. has z x ≡ true) e (members x ∙ (both (has a x) (has b x)).1 (l, r)))),
+)
+
+pub no_set : (sets : List (List ℕ)) (label l : ℕ) (nodes : List ℕ) → None ≡ slice_get sets l → l ≡ label → IsTrue false ↔ Meet (slice_index_or sets label []) nodes
+no_set sets label l nodes h e = (
+  λ t. absurd (false≢true t),
+  λ (x, i, r). absurd (false≢true (subst (λ z. has z x ≡ true) (read_none sets label [] (subst (λ z. None ≡ slice_get sets z) e h)) i)),
+)
+
+pub some_set : (sets : List (List ℕ)) (label l : ℕ) (nodes set : List ℕ) (b : Bool) → Some set ≡ slice_get sets l → l ≡ label → IsTrue b ↔ Meet set nodes → IsTrue b ↔ Meet (slice_index_or sets label []) nodes
+some_set sets label l nodes set b h e m = subst (λ z. IsTrue b ↔ Meet z nodes) (sym (read_some sets label set [] (subst (λ z. Some set ≡ slice_get sets z) e h))) m
+
+-- a scan over labels
+
+abbrev pub NoneMeet : (ℕ → Type 0) → List ℕ → ℕ → Type 0
+NoneMeet P labels i = All (λ label. P label → ⊥) (take i labels)
+
+pub none_start : (P : ℕ → Type 0) (labels : List ℕ) → NoneMeet P labels 0
+none_start P labels k d l = absurd (omega (arith, l))
+
+pub none_more : (P : ℕ → Type 0) (labels : List ℕ) (i label : ℕ) → i < length labels → label ≡ get_or labels i label → NoneMeet P labels i → (P label → ⊥) → NoneMeet P labels (i + 1)
+none_more P labels i label l at none fails = All-more (λ m. P m → ⊥) labels i label l none (subst (λ m. P m → ⊥) at fails)
+
+pub none_end : (P : ℕ → Type 0) (labels : List ℕ) (i : ℕ) → NoneMeet P labels i → length labels ≤ i → IsTrue false ↔ Any P labels
+none_end P labels i none l = (
+  λ t. absurd (false≢true t),
+  λ (k, m, n, at, p). absurd (subst (λ xs. All (λ q. P q → ⊥) xs) (take_all i labels l) none k m n (subst P (sym at) p)),
+)
+
+pub found_here : (P : ℕ → Type 0) (labels : List ℕ) (i label : ℕ) → i < length labels → label ≡ get_or labels i label → P label → IsTrue true ↔ Any P labels
+found_here P labels i label l at p = (λ t. (i, label, l, sym at, p), λ a. refl)
+
+pub only_end : (v : ℕ) (set empty : List ℕ) → empty ≡ [] → ((x : ℕ) → (has set x ≡ true) ↔ ((has empty x ≡ true) ⊎ (v ≡ x))) → (x : ℕ) → (has set x ≡ true) ↔ (v ≡ x)
+only_end v set empty e h x = (
+  λ t. elim ((h x).0 t) [ inl n ↦ absurd (false≢true (subst (λ z. has z x ≡ true) e n)) | inr s ↦ s ],
+  λ s. (h x).1 (inr s),
+)
+
+-- by the sets of a dimension's edges, some edge joins two nodes exactly where one does
+
+led_into : (edges : List Edge) (links : Links) (labels : List ℕ) (u v : ℕ) → AreLinks edges links → IsLed ways.Into links labels u v ↔ IsJoined ways.Into edges labels u v
+led_into edges links labels u v are = (
+  λ (k, label, l, at, (x, set, end)). let (j, e, m, is, (d, la, mo)) = (are.up.by_label v label x).0 set in (j, e, m, is, (subst (Contains labels) (sym la) (k, l, at), d)),
+  λ (j, e, m, is, ((k, l, at), d)). (k, e.label.0, l, at, (e.mother.0, (are.up.by_label v e.label.0 e.mother.0).1 (j, e, m, is, (d, refl, refl)), (are.up.next v e.mother.0).1 (j, e, m, is, (d, refl)))),
+)
+
+led_straight : (edges : List Edge) (links : Links) (labels : List ℕ) (u v : ℕ) → AreLinks edges links → IsLed ways.Straight links labels u v ↔ IsJoined ways.Straight edges labels u v
+led_straight edges links labels u v are = (
+  λ (k, label, l, at, (x, set, end)). let (j, e, m, is, (mo, la, d)) = (are.down.by_label u label x).0 set in (j, e, m, is, (subst (Contains labels) (sym la) (k, l, at), (mo, d ∙ sym end))),
+  λ (j, e, m, is, ((k, l, at), (mo, d))). (k, e.label.0, l, at, (e.daughter.0, (are.down.by_label u e.label.0 e.daughter.0).1 (j, e, m, is, (mo, refl, refl)), sym d)),
+)
+
+led_first : (edges : List Edge) (links : Links) (labels : List ℕ) (u v : ℕ) → AreLinks edges links → IsLed ways.First links labels u v ↔ IsJoined ways.First edges labels u v
+led_first edges links labels u v are = (
+  λ (k, label, l, at, (x, set, end)). let (j, e, m, is, (mo, la, d)) = (are.down.by_label u label x).0 set in (
+    j,
+    e,
+    m,
+    is,
+    (
+      subst (Contains labels) (sym la) (k, l, at),
+      (
+        mo,
+        elim end [
+          | inl far ↦ inr (subst (λ z. Above edges z v) (sym d) ((are.up.far v x).0 far))
+          | inr s ↦ inl (d ∙ sym s)
+        ],
+      ),
+    ),
+  ),
+  λ (j, e, m, is, ((k, l, at), (mo, reach))). (
+    k,
+    e.label.0,
+    l,
+    at,
+    (
+      e.daughter.0,
+      (are.down.by_label u e.label.0 e.daughter.0).1 (j, e, m, is, (mo, refl, refl)),
+      elim reach [
+        | inl d ↦ inr (sym d)
+        | inr above ↦ inl ((are.up.far v e.daughter.0).1 above)
+      ],
+    ),
+  ),
+)
+
+led_last : (edges : List Edge) (links : Links) (labels : List ℕ) (u v : ℕ) → AreLinks edges links → IsLed ways.Last links labels u v ↔ IsJoined ways.Last edges labels u v
+led_last edges links labels u v are = (
+  λ (k, label, l, at, (x, set, end)). let (j, e, m, is, (d, la, mo)) = (are.up.by_label v label x).0 set in (
+    j,
+    e,
+    m,
+    is,
+    (
+      subst (Contains labels) (sym la) (k, l, at),
+      (
+        elim end [
+          | inl far ↦ inr (subst (λ z. Above edges u z) (sym mo) ((are.down.far u x).0 far))
+          | inr s ↦ inl (mo ∙ sym s)
+        ],
+        d,
+      ),
+    ),
+  ),
+  λ (j, e, m, is, ((k, l, at), (reach, d))). (
+    k,
+    e.label.0,
+    l,
+    at,
+    (
+      e.mother.0,
+      (are.up.by_label v e.label.0 e.mother.0).1 (j, e, m, is, (d, refl, refl)),
+      elim reach [
+        | inl mo ↦ inr (sym mo)
+        | inr above ↦ inl ((are.down.far u e.mother.0).1 above)
+      ],
+    ),
+  ),
+)
+
+led_sister : (edges : List Edge) (links : Links) (labels : List ℕ) (u v : ℕ) → AreLinks edges links → IsLed ways.Sister links labels u v ↔ IsJoined ways.Sister edges labels u v
+led_sister edges links labels u v are = (
+  λ (k, label, l, at, (x, set, end)). let (j, e, m, is, (d, la, mo)) = (are.up.by_label v label x).0 set in
+      let (i, f, n, here, (fd, fm)) = (are.up.next u x).0 end in (j, e, m, is, (subst (Contains labels) (sym la) (k, l, at), ((i, f, n, here, (fm ∙ sym mo, fd)), d))),
+  λ (j, e, m, is, ((k, l, at), ((i, f, n, here, (fm, fd)), d))). (k, e.label.0, l, at, (e.mother.0, (are.up.by_label v e.label.0 e.mother.0).1 (j, e, m, is, (d, refl, refl)), (are.up.next u e.mother.0).1 (i, f, n, here, (fd, fm)))),
+)
+
+pub led_exact : (way : Way) (edges : List Edge) (links : Links) (labels : List ℕ) (u v : ℕ) → AreLinks edges links → IsLed way links labels u v ↔ IsJoined way edges labels u v
+led_exact ways.Into edges links labels u v are = led_into edges links labels u v are
+led_exact ways.Straight edges links labels u v are = led_straight edges links labels u v are
+led_exact ways.First edges links labels u v are = led_first edges links labels u v are
+led_exact ways.Last edges links labels u v are = led_last edges links labels u v are
+led_exact ways.Sister edges links labels u v are = led_sister edges links labels u v are
+
+-- the sets that a way takes, and the ends that it allows
+pub led_of : (way q : Way) (links : Links) (labels : List ℕ) (u v : ℕ) (b : Bool) (sets : List (List ℕ)) (ends : List ℕ) → way ≡ q → sets ≡ sets_for q links u v → ((x : ℕ) → (has ends x ≡ true) ↔ IsEnd way links u v x) → IsTrue b ↔ Any (λ label. Meet (slice_index_or sets label []) ends) labels → IsTrue b ↔ IsLed way links labels u v
+led_of way q links labels u v b sets ends is same end h =
+    let all : sets ≡ sets_for way links u v = same ∙ ap (λ w. sets_for w links u v) (sym is) in
+    subst (λ z. IsTrue b ↔ Any (λ label. (x : ℕ) × (has (slice_index_or z label []) x ≡ true) × IsEnd way links u v x) labels) all (
+      λ t. let (k, label, l, at, (x, i, e)) = h.0 t in (k, label, l, at, (x, i, (end x).0 e)),
+      λ (k, label, l, at, (x, i, e)). h.1 (k, label, l, at, (x, i, (end x).1 e)),
+    )

@@ -1,0 +1,96 @@
+-- What holds of many tuples at once.
+use Rattle.std.proofs.Common.{◌≡◌, ℕ, ◌+◌, ◌<◌, ◌≤◌, ◌&&◌, inl, inr, Bool, true, List, length, get_or, map, sym, ◌∙◌, ap, subst, arith}
+use Rattle.std.specs.Prelude.{AllPairs, nat_lt}
+use Rattle.std.proofs.lemmas.Bool.{cases_eq, lt-ltb}
+use Rattle.std.proofs.lemmas.List.{get_or_default, get_or-map, length-map}
+use Prim.Native.Nat.{min, max}
+use Rattle.xdg_base.specs.declared.ids.LabelId.{LabelId}
+use Rattle.xdg_nodeset.specs.Nodes.{has}
+use Rattle.xdg_problem.specs.declared.analysis.Edge.{Edge}
+use Rattle.xdg_problem.specs.Asking.{IsBetween, IsInItem}
+use Rattle.xdg_problem.specs.Paths.{Above, IsDaughterBy}
+use Rattle.xdg_judge.specs.declared.links.Links.{Links}
+use Rattle.xdg_judge.specs.Links.{In, AreLinks}
+use Rattle.xdg_judge.proofs.Asked.{zero_label}
+
+is_between : (u v w : ℕ) → IsBetween u v w → (nat_lt (min u v) w && nat_lt w (max u v)) ≡ true
+is_between u v w h =
+    let low : min u v < w = elim h [ inl (l, m) ↦ omega (arith, l, m) | inr (l, m) ↦ omega (arith, l, m) ] in
+    let high : w < max u v = elim h [ inl (l, m) ↦ omega (arith, l, m) | inr (l, m) ↦ omega (arith, l, m) ] in
+    ap (λ b. b && nat_lt w (max u v)) (lt-ltb (min u v) w low) ∙ lt-ltb w (max u v) high
+
+pub enclosed : (edges : List Edge) (links : Links) (u v a b w : ℕ) (between : List ℕ) → AreLinks edges links → ((n : ℕ) → has between n ≡ (nat_lt (min a b) n && nat_lt n (max a b))) → ((n : ℕ) → has between n ≡ true → In links.down.far u n) → a ≡ u → b ≡ v → IsBetween u v w → Above edges u w
+enclosed edges links u v a b w between are members all ea eb h =
+    (are.down.far u w).0 (all w (members w ∙ (ap (λ z. nat_lt (min z b) w && nat_lt w (max z b)) ea ∙ (ap (λ z. nat_lt (min u z) w && nat_lt w (max u z)) eb ∙ is_between u v w h))))
+
+-- the nodes of an item, one after another, behind a place
+
+pub record Passed (InItem : ℕ → Type 0) (bound next i : ℕ) : Type 0 where
+  pub low : bound ≤ next
+  pub each : (x : ℕ) → x < i → InItem x → (bound ≤ x) × (x < next)
+
+pub passed_start : (InItem : ℕ → Type 0) (bound : ℕ) → Passed InItem bound bound 0
+passed_start InItem bound = record { low = omega arith; each = λ x l. absurd (omega (arith, l)) }
+
+pub passed_here : (InItem : ℕ → Type 0) (bound next i : ℕ) → bound ≤ i → Passed InItem bound next i → Passed InItem bound (i + 1) (i + 1)
+passed_here InItem bound next i l p = record {
+  low = omega (arith, l);
+  each = λ x m h. elim (cases_eq x i) [
+    | inl e ↦ (omega (arith, l, e), m)
+    | inr n ↦ ((p.each x (omega (arith, m, n)) h).0, m)
+  ];
+}
+
+pub passed_over : (InItem : ℕ → Type 0) (bound next i : ℕ) → (InItem i → ⊥) → Passed InItem bound next i → Passed InItem bound next (i + 1)
+passed_over InItem bound next i none p = record {
+  low = p.low;
+  each = λ x m h. elim (cases_eq x i) [
+    | inl e ↦ absurd (none (subst InItem e h))
+    | inr n ↦ p.each x (omega (arith, m, n)) h
+  ];
+}
+
+pub passed_end : (InItem : ℕ → Type 0) (bound next i size n : ℕ) → Passed InItem bound next i → size ≤ i → size ≡ n → (bound ≤ next) × ((x : ℕ) → x < n → InItem x → (bound ≤ x) × (x < next))
+passed_end InItem bound next i size n p l e = (p.low, λ x m h. p.each x (omega (arith, m, l, e)) h)
+
+pub passed_none : (edges : List Edge) (yields : Type 0) (own u label bound n : ℕ) → (own ≡ label → ⊥) → ((v : ℕ) → IsDaughterBy edges u label v → ⊥) → (bound ≤ bound) × ((x : ℕ) → x < n → IsInItem edges yields own u label x → (bound ≤ x) × (x < bound))
+passed_none edges yields own u label bound n other none = (omega arith, λ x l h. absurd (elim h [ inl s ↦ other (sym s.0) | inr (inl d) ↦ none x d | inr (inr z) ↦ none z.1.0 z.1.1 ]))
+
+-- the items of an order, one after another
+
+pub record Settled (InItem : ℕ → ℕ → Type 0) (labels : List LabelId) (size i bound : ℕ) : Type 0 where
+  pub before : (j : ℕ) (d : LabelId) (x : ℕ) → j < i → x < size → InItem (get_or labels j d).0 x → x < bound
+  pub kept : (j k : ℕ) (d : LabelId) (x y : ℕ) → j < k → k < i → x < size → y < size → InItem (get_or labels j d).0 x → InItem (get_or labels k d).0 y → x < y
+
+pub settled_start : (InItem : ℕ → ℕ → Type 0) (labels : List LabelId) (size : ℕ) → Settled InItem labels size 0 0
+settled_start InItem labels size = record { before = λ j d x l. absurd (omega (arith, l)); kept = λ j k d x y l m. absurd (omega (arith, m)) }
+
+pub settled_more : (InItem : ℕ → ℕ → Type 0) (labels : List LabelId) (size i bound next : ℕ) (label : LabelId) → i < length labels → label ≡ get_or labels i label → Settled InItem labels size i bound → (bound ≤ next) × ((x : ℕ) → x < size → InItem label.0 x → (bound ≤ x) × (x < next)) → Settled InItem labels size (i + 1) next
+settled_more InItem labels size i bound next label l at s p = record {
+  before = λ j d x m n h. elim (cases_eq j i) [
+    | inl e ↦ (p.1 x n (here j d x e h)).1
+    | inr o ↦ (let b = s.before j d x (omega (arith, m, o)) n h in let q = p.0 in omega (arith, b, q))
+  ];
+  kept = λ j k d x y m n lx ly h g. elim (cases_eq k i) [
+    | inl e ↦ (let b = s.before j d x (omega (arith, m, e)) lx h in let q = (p.1 y ly (here k d y e g)).0 in omega (arith, b, q))
+    | inr o ↦ s.kept j k d x y m (omega (arith, n, o)) lx ly h g
+  ];
+} where
+  here : (j : ℕ) (d : LabelId) (x : ℕ) → j ≡ i → InItem (get_or labels j d).0 x → InItem label.0 x
+  here j d x e h = subst (λ (z : LabelId). InItem z.0 x) (sym (at ∙ get_or_default labels i label d l)) (subst (λ z. InItem (get_or labels z d).0 x) e h)
+
+pub settled_end : (InItem : ℕ → ℕ → Type 0) (labels : List LabelId) (size i bound x y : ℕ) → Settled InItem labels size i bound → length labels ≤ i → x < size → y < size → AllPairs (λ (e l : LabelId). InItem e.0 x → InItem l.0 y → x < y) labels
+settled_end InItem labels size i bound x y s l lx ly = λ j k d m p h g. s.kept j k d x y m (omega (arith, p, l)) lx ly h g
+
+-- the labels of an order as numbers
+pub pairs_numbered : (InX InY : ℕ → Type 0) (labels : List LabelId) (x y : ℕ) → AllPairs (λ (e l : LabelId). InX e.0 → InY l.0 → x < y) labels → AllPairs (λ e l. InX e → InY l → x < y) (map (λ (label : LabelId). label.0) labels)
+pairs_numbered InX InY labels x y h = λ j k d m p xs ys.
+    let q : k < length labels = (let r = length-map labels (λ (label : LabelId). label.0) in omega (arith, p, r)) in
+    h j k zero_label m q (subst InX (get_or-map (λ (label : LabelId). label.0) labels j zero_label d (omega (arith, m, q))) xs) (subst InY (get_or-map (λ (label : LabelId). label.0) labels k zero_label d q) ys)
+
+pub settled_same : (edges : List Edge) (yields wanted : Bool) (own value u x y : ℕ) (labels order : List LabelId) → yields ≡ wanted → own ≡ value → labels ≡ order → AllPairs (λ (e l : LabelId). IsInItem edges (yields ≡ true) own u e.0 x → IsInItem edges (yields ≡ true) own u l.0 y → x < y) labels → AllPairs (λ e l. IsInItem edges (wanted ≡ true) value u e x → IsInItem edges (wanted ≡ true) value u l y → x < y) (map (λ (label : LabelId). label.0) order)
+settled_same edges yields wanted own value u x y labels order f g i h =
+    pairs_numbered (λ label. IsInItem edges (wanted ≡ true) value u label x) (λ label. IsInItem edges (wanted ≡ true) value u label y) order x y
+    (subst (λ z. AllPairs (λ (e l : LabelId). IsInItem edges (wanted ≡ true) value u e.0 x → IsInItem edges (wanted ≡ true) value u l.0 y → x < y) z) i
+    (subst (λ z. AllPairs (λ (e l : LabelId). IsInItem edges (wanted ≡ true) z u e.0 x → IsInItem edges (wanted ≡ true) z u l.0 y → x < y) labels) g
+    (subst (λ z. AllPairs (λ (e l : LabelId). IsInItem edges (z ≡ true) own u e.0 x → IsInItem edges (z ≡ true) own u l.0 y → x < y) labels) f h)))

@@ -1,0 +1,55 @@
+-- The edges of a dimension as sets of nodes.
+use Rattle.std.specs.Prelude.{◌≡◌, ℕ, ◌<◌, ◌↔◌, true, List, [], ◌∷◌, slice_index_or}
+use Rattle.std.specs.List.{Any}
+use Rattle.xdg_nodeset.specs.Nodes.{has}
+use Rattle.xdg_problem.specs.declared.analysis.Edge.{Edge}
+use Rattle.xdg_problem.specs.Paths.{Above}
+use Rattle.xdg_judge.specs.declared.links.Direction.{Direction}
+use Rattle.xdg_judge.specs.declared.links.Direction.TheVariants as directions
+use Rattle.xdg_judge.specs.declared.links.Links.{Links}
+use Rattle.xdg_judge.specs.declared.links.Neighbours.{Neighbours}
+
+-- a node stands in the set that a table has for a node
+abbrev pub In : List (List ℕ) → ℕ → ℕ → Type 0
+In table from to = has (slice_index_or table from []) to ≡ true
+
+-- a node stands in the set that a table has for a node and a label
+abbrev pub InBy : List (List (List ℕ)) → ℕ → ℕ → ℕ → Type 0
+InBy table from label to = has (slice_index_or (slice_index_or table from []) label []) to ≡ true
+
+-- an edge leads from a node to another in a direction
+abbrev pub Leads : Direction → ℕ → ℕ → Edge → Type 0
+Leads directions.Down from to e = (e.mother.0 ≡ from) × (e.daughter.0 ≡ to)
+Leads directions.Up from to e = (e.daughter.0 ≡ from) × (e.mother.0 ≡ to)
+
+-- an edge with a label leads from a node to another in a direction
+abbrev pub LeadsBy : Direction → ℕ → ℕ → ℕ → Edge → Type 0
+LeadsBy directions.Down from label to e = (e.mother.0 ≡ from) × (e.label.0 ≡ label) × (e.daughter.0 ≡ to)
+LeadsBy directions.Up from label to e = (e.daughter.0 ≡ from) × (e.label.0 ≡ label) × (e.mother.0 ≡ to)
+
+-- a path leads from a node to another in a direction
+abbrev pub LeadsFar : Direction → List Edge → ℕ → ℕ → Type 0
+LeadsFar directions.Down edges from to = Above edges from to
+LeadsFar directions.Up edges from to = Above edges to from
+
+-- the sets are those of the nodes that edges and paths lead to in a direction
+pub record AreNeighbours (direction : Direction) (edges : List Edge) (sets : Neighbours) : Type 0 where
+  pub by_label : (from label to : ℕ) → InBy sets.by_label from label to ↔ Any (LeadsBy direction from label to) edges
+  pub next : (from to : ℕ) → In sets.next from to ↔ Any (Leads direction from to) edges
+  pub far : (from to : ℕ) → In sets.far from to ↔ LeadsFar direction edges from to
+
+-- the sets of both directions
+pub record AreLinks (edges : List Edge) (links : Links) : Type 0 where
+  pub down : AreNeighbours directions.Down edges links.down
+  pub up : AreNeighbours directions.Up edges links.up
+
+-- a table leads from a node to another through some nodes
+abbrev pub Along : List (List ℕ) → ℕ → List ℕ → ℕ → Type 0
+Along table from [] to = In table from to
+Along table from (node ∷ nodes) to = In table from node × Along table node nodes to
+
+-- a table has what another one leads to, through the first nodes
+pub record IsClosure (size : ℕ) (old new : List (List ℕ)) : Type 0 where
+  pub contains : (from to : ℕ) → In old from to → In new from to
+  pub along : (from to : ℕ) → In new from to → (nodes : List ℕ) × Along old from nodes to
+  pub through : (from middle to : ℕ) → middle < size → In new from middle → In new middle to → In new from to
