@@ -333,6 +333,33 @@ pub fn write<K: Sink>(
     )
 }
 
+/// Writes the text 2 of the analysis that has these entries, attributes and edges. It takes no memory.
+pub fn write_parts2<K: Sink>(
+    problem: &Problem,
+    number: u64,
+    entries: &[EntryNo],
+    attrs: &[u16],
+    edges: &[Edge],
+    sink: &mut K,
+) -> Result<(), Failed>
+    requires { IsAnalysis problem.now (record { entries = entries.now; attrs = attrs.now; edges = edges.now }) }
+    ensures all { OnOk result (Appends (K.held sink.old) (K.held sink.new) (block2 problem.now number (record { entries = entries.now; attrs = attrs.now; edges = edges.now }))) }
+    ensures front { OnErr result (AppendsFront (K.held sink.old) (K.held sink.new) (block2 problem.now number (record { entries = entries.now; attrs = attrs.now; edges = edges.now }))) }
+    ensures cause { OnErr result (Rose (K.faults sink.old) (K.faults sink.new)) }
+    ensures lasting { K.faults sink.old ≤ K.faults sink.new }
+{
+    let parts = problem.parts();
+    write_block2(
+        parts.words.as_slice(),
+        parts.dims.as_slice(),
+        number,
+        entries,
+        attrs,
+        edges,
+        sink,
+    )
+}
+
 /// Writes the text 2 of an analysis, whose number counts from 1: a block that tells the number of the format first, and
 /// then how many lines of words, of attributes and of edges it has. It takes no memory.
 pub fn write2<K: Sink>(
@@ -347,10 +374,8 @@ pub fn write2<K: Sink>(
     ensures cause { OnErr result (Rose (K.faults sink.old) (K.faults sink.new)) }
     ensures lasting { K.faults sink.old ≤ K.faults sink.new }
 {
-    let parts = problem.parts();
-    write_block2(
-        parts.words.as_slice(),
-        parts.dims.as_slice(),
+    write_parts2(
+        problem,
         number,
         analysis.entries.as_slice(),
         analysis.attrs.as_slice(),

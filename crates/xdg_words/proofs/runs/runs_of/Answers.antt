@@ -4,7 +4,7 @@ use Rattle.std.specs.String.{string_bytes}
 use Rattle.xdg_problem.specs.declared.parts.SentenceWord.{SentenceWord}
 use Rattle.xdg_words.specs.Words.{words, alone, IsWord, StandsIn, StandApart}
 use Rattle.xdg_words.proofs.Reading.{white_read, black_read, all_read, each_is_word, words_stand_apart, moved, alone_within}
-use Rattle.xdg_words.proofs.words_of.Goals as goal
+use Rattle.xdg_words.proofs.runs.runs_of.Goals as goal
 
 pub loop-c-preserved-then-is_whitespace : goal.loop-c-preserved-then-is_whitespace
 loop-c-preserved-then-is_whitespace c =

@@ -1,0 +1,4 @@
+pub mod OnePrint
+pub mod Reported
+pub mod Found
+pub mod Ending

@@ -1,0 +1,6 @@
+mod ClassCount
+mod FourUses
+mod Meaning
+mod Others
+mod OneTree
+mod Words

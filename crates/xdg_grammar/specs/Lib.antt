@@ -1,0 +1,5 @@
+pub mod Texts
+pub mod Meanings
+pub mod Searchable
+pub mod Answers
+pub mod Packed

@@ -1,0 +1,2 @@
+pub mod Verdicted
+pub mod One

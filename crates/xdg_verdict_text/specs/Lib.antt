@@ -1,0 +1,2 @@
+pub mod VerdictsText
+pub mod OneText

@@ -1,0 +1,117 @@
+-- What is printed of verdicts.
+use Rattle.std.specs.Prelude.{ℕ, ◌+◌, ◌==◌, ◌&&◌, Bool, true, false, cond, List, [], ◌∷◌, ◌++◌, slice_index_or, codes, decimal}
+use Rattle.std.specs.List.{flat_map}
+use Rattle.xdg_base.specs.declared.ids.DimId.{DimId}
+use Rattle.xdg_problem.specs.declared.conditions.Condition.{Condition}
+use Rattle.xdg_problem.specs.declared.conditions.Condition.TheVariants as conditions
+use Rattle.xdg_problem.specs.declared.parts.Group.{Group}
+use Rattle.xdg_problem.specs.declared.parts.Parts.{Parts}
+use Rattle.xdg_problem.specs.Arguments.{first_dim, no_plan}
+use Rattle.xdg_problem.specs.Names.{name_of}
+use Rattle.xdg_judge.specs.declared.verdict.Verdict.{Verdict}
+use Rattle.xdg_judge.specs.declared.verdict.Verdict.TheVariants as verdicts
+use Rattle.xdg_judge.specs.Verdicts.{tuple_of}
+use Rattle.xdg_text.specs.Constants.{constant}
+use Rattle.xdg_text.specs.Lines.{line}
+
+-- ---- conditions
+
+abbrev pub condition_word : Condition → List ℕ
+condition_word conditions.Cycle = codes "cycle"
+condition_word conditions.Roots = codes "roots"
+condition_word conditions.Mothers = codes "mothers"
+condition_word conditions.Pair = codes "pair"
+condition_word conditions.InCount = codes "in"
+condition_word conditions.OutCount = codes "out"
+condition_word conditions.Order = codes "order"
+condition_word conditions.Between = codes "between"
+condition_word conditions.Agr = codes "agr"
+condition_word conditions.Agree = codes "agree"
+condition_word conditions.Govern = codes "govern"
+condition_word conditions.Below = codes "below"
+condition_word conditions.Blocked = codes "blocked"
+condition_word conditions.Link = codes "link"
+
+-- its tuples are a number of nodes
+abbrev pub counts : Condition → Bool
+counts conditions.Roots = true
+counts condition = false
+
+-- the second item of its tuples is a label, and the others are nodes
+abbrev pub names_label : Condition → Bool
+names_label conditions.InCount = true
+names_label conditions.OutCount = true
+names_label conditions.Agree = true
+names_label conditions.Govern = true
+names_label conditions.Link = true
+names_label condition = false
+
+-- the label with that number
+abbrev pub label_at : List (List ℕ) → ℕ → List ℕ
+label_at labels number = slice_index_or labels number []
+
+-- An item of a tuple as it is written, by its place in the tuple, from 0: a number of nodes as it is, a label by its name,
+-- and a node by its number, which counts from 1.
+abbrev pub item_text : List (List ℕ) → Condition → ℕ → ℕ → List ℕ
+item_text labels condition place number =
+    cond (counts condition) (decimal number) (cond (names_label condition && (place == 1)) (constant (label_at labels number)) (decimal (number + 1)))
+
+-- a word behind another: with a space before it
+abbrev pub behind : List ℕ → List ℕ
+behind word = codes " " ++ word
+
+-- the items of a tuple from a place on
+abbrev pub items_text : List (List ℕ) → Condition → ℕ → List ℕ → List ℕ
+items_text labels condition place [] = []
+items_text labels condition place (number ∷ numbers) = behind (item_text labels condition place number) ++ items_text labels condition (place + 1) numbers
+
+-- ---- lines
+
+-- the name and the labels of the dimension with that number
+abbrev pub name_at : Parts → ℕ → List ℕ
+name_at parts dim = (slice_index_or parts.dims dim no_plan).name
+
+abbrev pub labels_at : Parts → ℕ → List (List ℕ)
+labels_at parts dim = (slice_index_or parts.dims dim no_plan).labels
+
+-- the labels of the first dimension of a principle use
+abbrev pub labels_of : Parts → Group → List (List ℕ)
+labels_of parts group = labels_at parts (first_dim group)
+
+-- the name of a dimension
+abbrev pub dim_text : Parts → DimId → List ℕ
+dim_text parts dim = behind (constant (name_at parts dim.0))
+
+-- `kept`, or `broken` with the condition and its tuple
+abbrev pub said_text : List (List ℕ) → Verdict → List ℕ
+said_text labels verdicts.Kept = behind (codes "kept")
+said_text labels (verdicts.Broken condition tuple) = behind (codes "broken") ++ (behind (condition_word condition) ++ items_text labels condition 0 (tuple_of tuple))
+
+-- the line of a principle use with that number: its principle, its dimensions in their order, and what is said of it
+unfoldable pub verdict_line : Parts → ℕ → Group → Verdict → List ℕ
+verdict_line parts number group verdict =
+    decimal number ++ (behind (name_of group.principle) ++ (flat_map (dim_text parts) group.dims ++ (said_text (labels_of parts group) verdict ++ codes "\n")))
+
+-- the lines of principle uses with their verdicts, numbered from a number on
+abbrev pub verdict_lines : Parts → ℕ → List Group → List Verdict → List ℕ
+verdict_lines parts number [] said = []
+verdict_lines parts number (group ∷ groups) [] = []
+verdict_lines parts number (group ∷ groups) (verdict ∷ said) = verdict_line parts number group verdict ++ verdict_lines parts (number + 1) groups said
+
+-- no verdict tells of a broken condition
+abbrev pub is_kept : Verdict → Bool
+is_kept verdicts.Kept = true
+is_kept (verdicts.Broken condition tuple) = false
+
+abbrev pub are_kept : List Verdict → Bool
+are_kept [] = true
+are_kept (verdict ∷ said) = is_kept verdict && are_kept said
+
+-- `solution`, or `not a solution`
+abbrev pub solution_line : Bool → List ℕ
+solution_line true = line (codes "solution") []
+solution_line false = line (codes "not") (codes "a" ∷ codes "solution" ∷ [])
+
+-- what is printed: a line for each principle use, numbered from 1, and the last line
+abbrev pub verdicts_text : Parts → List Verdict → List ℕ
+verdicts_text parts said = verdict_lines parts 1 parts.groups said ++ solution_line (are_kept said)
