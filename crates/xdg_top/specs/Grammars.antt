@@ -1,39 +1,23 @@
--- Which files have a grammar of the plain form.
-use Rattle.std.specs.Prelude.{◌≡◌, ℕ, List, Option}
-use Rattle.xdg_base.specs.declared.faults.Cause.TheVariants as causes
+-- What the grammar of a file means, and with which fault it is refused.
+use Rattle.std.specs.Prelude.{◌≡◌, ℕ, List, Some, None}
 use Rattle.xdg_base.specs.declared.faults.Fault.{Fault}
-use Rattle.xdg_ast.specs.declared.grammar.Grammar.{Grammar}
-use Rattle.xdg_build.specs.Refusals.{fault}
-use Rattle.xdg_plain.specs.declared.grammar.PlainGrammar.{PlainGrammar}
-use Rattle.xdg_plain.specs.Distinct.{distinct}
-use Rattle.xdg_plain.specs.Written.{Says}
-use Rattle.xdg_top.specs.Texts.{HasTree, HasBadText}
+use Rattle.xdg_groups.specs.Grammars.{Grammar}
+use Rattle.xdg_grammar.specs.Meanings.{Meaning, Means, Offends}
+use Rattle.xdg_grammar.specs.Searchable.{first_other}
+use Rattle.xdg_top.specs.Texts.{ReadText}
 
--- a grammar without the entries that equal earlier ones
-abbrev pub lexicon_of : PlainGrammar → PlainGrammar
-lexicon_of grammar = record { labels = grammar.labels; entries = distinct grammar.entries }
+-- the grammar of a text is refused
+abbrev pub IsBadGrammar : ReadText → List ℕ → Fault → Type 0
+IsBadGrammar read text refused = (text ≡ read.text) × Offends read.tree refused
 
--- a tree has the plain form and says this grammar, its equal later entries aside
-pub record IsOfPlainForm (tree : Grammar) (grammar : PlainGrammar) : Type 0 where
-  pub written : PlainGrammar
-  pub says : Says tree written
-  pub lexicon : grammar ≡ lexicon_of written
+-- it uses a principle that the search doesn't know yet, the first at this place
+abbrev pub IsUnsearchable : ReadText → List ℕ → Fault → Type 0
+IsUnsearchable read text refused = (text ≡ read.text) × (first_other read.tree ≡ Some refused)
 
--- a tree has not the plain form
-abbrev pub IsNotPlain : Grammar → Type 0
-IsNotPlain tree = (said : PlainGrammar) → Says tree said → ⊥
+-- it uses none
+abbrev pub IsSearchable : ReadText → Unit {0} → Type 0
+IsSearchable read it = first_other read.tree ≡ None
 
--- the file of this name has a text of the plain form that says this grammar
-pub record HasGrammar (files : List ℕ → Option (List ℕ)) (name : List ℕ) (grammar : PlainGrammar) : Type 0 where
-  pub tree : Grammar
-  pub has : HasTree files name tree
-  pub plain : IsOfPlainForm tree grammar
-
--- how a grammar that has not the plain form is refused
-abbrev pub no_plain_form : Fault
-no_plain_form = fault causes.Unexpected 0 0
-
--- the text of the file of this name is refused, or it is read and has not the plain form
-pub data HasNoGrammar (files : List ℕ → Option (List ℕ)) (name text : List ℕ) (refused : Fault) : Type 0 where
-  bad_text : HasBadText files name text refused → HasNoGrammar files name text refused
-  not_plain : (tree : Grammar) → (has : HasTree files name tree) → has.text ≡ text → IsNotPlain tree → refused ≡ no_plain_form → HasNoGrammar files name text refused
+-- a grammar whose entries say their words there
+abbrev pub with_words : Meaning → ℕ → ℕ → Grammar
+with_words m dim field = record { table = m.table; uses = m.uses; lexicon = record { entries = m.entries; dim = dim; field = field } }

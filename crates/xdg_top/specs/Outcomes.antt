@@ -1,102 +1,130 @@
--- What the program prints and how it ends, from its words, the files, the input and the budget.
-use Rattle.std.specs.Prelude.{◌≡◌, ℕ, List, [], ◌∷◌, ◌++◌, length, Option, codes, decimal}
-use Rattle.xdg_ast.specs.declared.grammar.Grammar.{Grammar}
+-- The status and the text of a run, as its words, the files and the input alone determine them.
+use Rattle.std.specs.Prelude.{◌≡◌, ℕ, List, [], ◌∷◌, length, Option, codes, decimal}
 use Rattle.xdg_ast.specs.Canon.{canon}
-use Rattle.xdg_base.specs.declared.faults.Fault.{Fault}
-use Rattle.xdg_plain.specs.declared.grammar.PlainGrammar.{PlainGrammar}
-use Rattle.xdg_words.specs.Words.{words}
-use Rattle.xdg_build.specs.Compiled.{compiled}
-use Rattle.xdg_text.specs.Lines.{fault_text, usage_line}
-use Rattle.xdg_plain.specs.LexiconText.{lexicon_text}
-use Rattle.xdg_top.specs.declared.command.Verb.{Verb}
-use Rattle.xdg_top.specs.declared.command.Verb.TheVariants as verbs
-use Rattle.xdg_top.specs.Commands.{IsCommand, IsNoCommand}
-use Rattle.xdg_top.specs.Texts.{HasTree, HasBadText}
-use Rattle.xdg_top.specs.Grammars.{HasGrammar, HasNoGrammar}
-use Rattle.xdg_top.specs.Places.{place_in}
-use Rattle.xdg_top.specs.Printed.{Prints}
-use Rattle.xdg_top.specs.Sentences.{IsRefused, IsSentence}
+use Rattle.xdg_analyses.specs.Printed.{Prints}
+use Rattle.xdg_analyses.specs.declared.forms.Form.{Form}
+use Rattle.xdg_analyses.specs.declared.forms.Form.TheVariants as forms
+use Rattle.xdg_classes.specs.Definitions.{classes}
+use Rattle.xdg_command.specs.Commands.{IsCommand}
+use Rattle.xdg_command.specs.declared.commands.Command.{Command}
+use Rattle.xdg_command.specs.declared.commands.Command.TheVariants as commands
+use Rattle.xdg_command.specs.declared.commands.ParseOptions.{ParseOptions}
+use Rattle.xdg_command.specs.declared.commands.TextForm.{TextForm}
+use Rattle.xdg_command.specs.declared.commands.TextForm.TheVariants as texts
+use Rattle.xdg_grammar.specs.Meanings.{Meaning, Means}
+use Rattle.xdg_judge.specs.declared.verdict.Verdict.{Verdict}
+use Rattle.xdg_judge.specs.Verdicts.{AreVerdicts}
+use Rattle.xdg_lexicon_text.specs.LexiconText.{lexicon_text}
+use Rattle.xdg_listing.specs.declared.Ending.{Ending}
+use Rattle.xdg_listing.specs.declared.Ending.TheVariants as endings
+use Rattle.xdg_problem.specs.declared.parts.Parts.{Parts}
+use Rattle.xdg_text.specs.Lines.{usage_line, line}
+use Rattle.xdg_verdict_text.specs.VerdictsText.{verdicts_text}
+use Rattle.xdg_top.specs.Analyses.{Analysed, HasAnalysis, HasBadAnalysis}
+use Rattle.xdg_top.specs.Grammars.{IsBadGrammar, IsSearchable, IsUnsearchable}
+use Rattle.xdg_top.specs.Sentences.{HasProblem, IsBadSentence}
+use Rattle.xdg_top.specs.Stages.{Behind}
+use Rattle.xdg_top.specs.Texts.{HasBadText, HasTree, ReadText}
 use Rattle.xdg_top.specs.declared.status.Status.{Status}
 use Rattle.xdg_top.specs.declared.status.Status.TheVariants as statuses
 
--- the fault line of a text that is refused for this reason
-pub record IsFaultLine (Has : List ℕ → Fault → Type 0) (line : List ℕ) : Type 0 where
-  pub text : List ℕ
-  pub refused : Fault
-  pub because : Has text refused
-  pub line_is : line ≡ fault_text refused (place_in text refused)
+-- what the files are, by name, those that are there
+abbrev pub Files : Type 0
+Files = List ℕ → Option (List ℕ)
+
+-- ---- steps
+
+-- a grammar text is read
+abbrev pub ReadThen : Files → List ℕ → (ReadText → Status → List ℕ → Type 0) → Status → List ℕ → Type 0
+ReadThen files name next = Behind ReadText statuses.BadText (HasBadText files name) (HasTree files name) next
+
+-- what it means
+abbrev pub MeaningThen : ReadText → (Meaning → Status → List ℕ → Type 0) → Status → List ℕ → Type 0
+MeaningThen read next = Behind Meaning statuses.BadGrammar (IsBadGrammar read) (Means read.tree) next
+
+-- a grammar text is read, and what it means
+abbrev pub GrammarThen : Files → List ℕ → (ReadText → Meaning → Status → List ℕ → Type 0) → Status → List ℕ → Type 0
+GrammarThen files name next = ReadThen files name (λ read. MeaningThen read (next read))
 
 -- ---- `parse`
 
--- the file has no grammar of the plain form
-abbrev pub HasNoGrammarLine : List ℕ → (List ℕ → Option (List ℕ)) → List ℕ → Type 0
-HasNoGrammarLine name files line = IsFaultLine (HasNoGrammar files name) line
+abbrev pub form_of : TextForm → Form
+form_of texts.One = forms.One
+form_of texts.Two = forms.Two
 
--- the input is no sentence of the file's grammar
-pub record IsBadSentence (name : List ℕ) (files : List ℕ → Option (List ℕ)) (input line : List ℕ) : Type 0 where
-  pub grammar : PlainGrammar
-  pub has : HasGrammar files name grammar
-  pub refused : Fault
-  pub because : IsRefused grammar input refused
-  pub line_is : line ≡ fault_text refused (place_in input refused)
+-- the status of a search that ended so
+abbrev pub status_of : Ending → Status
+status_of endings.Complete = statuses.Done
+status_of endings.First = statuses.Done
+status_of endings.Spent = statuses.Spent
 
--- the sentence was searched
-pub record IsSearched (status : Status) (budget : ℕ) (name : List ℕ) (files : List ℕ → Option (List ℕ)) (input text : List ℕ) : Type 0 where
-  pub grammar : PlainGrammar
-  pub has : HasGrammar files name grammar
-  pub sentence : IsSentence grammar input
-  pub prints : Prints status budget (compiled grammar (words input)) text
+-- what the search of a problem prints
+pub record Searched (options : ParseOptions) (parts : Parts) (status : Status) (text : List ℕ) : Type 0 where
+  pub ending : Ending
+  pub prints : Prints ending (form_of options.text) options.budget options.first parts text
+  pub status_is : status ≡ status_of ending
 
--- the status and the text of `parse` on a file
-abbrev pub ParseOf : Status → ℕ → List ℕ → (List ℕ → Option (List ℕ)) → List ℕ → List ℕ → Type 0
-ParseOf statuses.Done budget name files input text = IsSearched statuses.Done budget name files input text
-ParseOf statuses.Spent budget name files input text = IsSearched statuses.Spent budget name files input text
-ParseOf statuses.BadText budget name files input text = HasNoGrammarLine name files text
-ParseOf statuses.BadSentence budget name files input text = IsBadSentence name files input text
-ParseOf status budget name files input text = ⊥
+-- the input is a sentence, and its problem is searched
+abbrev pub SentenceThen : ParseOptions → List ℕ → Meaning → Status → List ℕ → Type 0
+SentenceThen options input m = Behind Parts statuses.BadSentence (IsBadSentence m options.segment input) (HasProblem m options.segment input) (Searched options)
 
--- ---- `print`
+-- a tree uses no principle that the search doesn't know; it means something; and then the sentence
+abbrev pub SearchableThen : ParseOptions → List ℕ → ReadText → Status → List ℕ → Type 0
+SearchableThen options input read = Behind (Unit {0}) statuses.BadText (IsUnsearchable read) (IsSearchable read) (λ it. MeaningThen read (SentenceThen options input))
 
--- the text is the canonical text of the file's grammar
-pub record IsCanonical (name : List ℕ) (files : List ℕ → Option (List ℕ)) (text : List ℕ) : Type 0 where
-  pub tree : Grammar
-  pub has : HasTree files name tree
-  pub text_is : text ≡ canon tree
+abbrev pub ParseOf : ParseOptions → Files → List ℕ → Status → List ℕ → Type 0
+ParseOf options files input = ReadThen files options.grammar (SearchableThen options input)
 
--- the status and the text of `print` on a file
-abbrev pub PrintOf : Status → List ℕ → (List ℕ → Option (List ℕ)) → List ℕ → Type 0
-PrintOf statuses.Done name files text = IsCanonical name files text
-PrintOf statuses.BadText name files text = IsFaultLine (HasBadText files name) text
-PrintOf status name files text = ⊥
+-- ---- the other commands
 
--- ---- `check` and `lexicon`
+-- the verdicts on an analysis of a file
+pub record Judged (analysed : Analysed) (status : Status) (text : List ℕ) : Type 0 where
+  pub done : status ≡ statuses.Done
+  pub verdicts : List Verdict
+  pub are : AreVerdicts analysed.parts analysed.analysis analysed.parts.groups verdicts
+  pub text_is : text ≡ verdicts_text analysed.parts verdicts
 
--- the line of `check`: two dimensions, no class, and so many entries
-abbrev pub checked_line : PlainGrammar → List ℕ
-checked_line grammar = codes "ok dims 2 classes 0 entries " ++ (decimal (length grammar.entries) ++ 10 ∷ [])
+-- the file has an analysis, and it is judged
+abbrev pub AnalysisThen : Files → List ℕ → Meaning → Status → List ℕ → Type 0
+AnalysisThen files analysis m = Behind Analysed statuses.BadAnalysis (HasBadAnalysis files analysis m) (HasAnalysis files analysis m) Judged
 
--- what is printed of the file's grammar, as the function says
-pub record IsReport (report : PlainGrammar → List ℕ) (name : List ℕ) (files : List ℕ → Option (List ℕ)) (text : List ℕ) : Type 0 where
-  pub grammar : PlainGrammar
-  pub has : HasGrammar files name grammar
-  pub text_is : text ≡ report grammar
+abbrev pub ExplainOf : List ℕ → List ℕ → Files → Status → List ℕ → Type 0
+ExplainOf grammar analysis files = GrammarThen files grammar (λ read. AnalysisThen files analysis)
 
--- the status and the text of a command that prints what the function says of a grammar
-abbrev pub ReportOf : (PlainGrammar → List ℕ) → Status → List ℕ → (List ℕ → Option (List ℕ)) → List ℕ → Type 0
-ReportOf report statuses.Done name files text = IsReport report name files text
-ReportOf report statuses.BadText name files text = HasNoGrammarLine name files text
-ReportOf report status name files text = ⊥
+-- `ok dims D classes C entries E`
+abbrev pub counts_line : ℕ → ℕ → ℕ → List ℕ
+counts_line dims classes entries = line (codes "ok") (codes "dims" ∷ decimal dims ∷ codes "classes" ∷ decimal classes ∷ codes "entries" ∷ decimal entries ∷ [])
+
+-- the numbers of used dimensions, of classes and of entries
+abbrev pub check_line : ReadText → Meaning → List ℕ
+check_line read m = counts_line (length m.table.used) (length (classes read.tree.statements)) (length m.entries)
+
+-- the outcome is this text, and the status Done
+abbrev pub IsDone : List ℕ → Status → List ℕ → Type 0
+IsDone text status line = (status ≡ statuses.Done) × (line ≡ text)
+
+abbrev pub CheckOf : List ℕ → Files → Status → List ℕ → Type 0
+CheckOf grammar files = GrammarThen files grammar (λ read m. IsDone (check_line read m))
+
+abbrev pub LexiconOf : List ℕ → Files → Status → List ℕ → Type 0
+LexiconOf grammar files = GrammarThen files grammar (λ read m. IsDone (lexicon_text m.table m.entries))
+
+abbrev pub PrintOf : List ℕ → Files → Status → List ℕ → Type 0
+PrintOf grammar files = ReadThen files grammar (λ read. IsDone (canon read.tree))
 
 -- ---- a run
 
--- the status and the text of a command on a file
-abbrev pub CommandOf : Verb → Status → ℕ → List ℕ → (List ℕ → Option (List ℕ)) → List ℕ → List ℕ → Type 0
-CommandOf verbs.Parse status budget name files input text = ParseOf status budget name files input text
-CommandOf verbs.Check status budget name files input text = ReportOf checked_line status name files text
-CommandOf verbs.Lexicon status budget name files input text = ReportOf lexicon_text status name files text
-CommandOf verbs.Print status budget name files input text = PrintOf status name files text
+abbrev pub CommandOf : Command → Files → List ℕ → Status → List ℕ → Type 0
+CommandOf (commands.Parse options) files input = ParseOf options files input
+CommandOf (commands.Explain grammar analysis) files input = ExplainOf grammar analysis files
+CommandOf (commands.Check grammar) files input = CheckOf grammar files
+CommandOf (commands.Lexicon grammar) files input = LexiconOf grammar files
+CommandOf (commands.Print grammar) files input = PrintOf grammar files
+
+abbrev pub IsNoCommand : List (List ℕ) → Type 0
+IsNoCommand given = (command : Command) → IsCommand given command → ⊥
 
 -- the status and the text of a run
-pub data OutcomeOf (status : Status) (budget : ℕ) (given : List (List ℕ)) (files : List ℕ → Option (List ℕ)) (input text : List ℕ) : Type 0 where
-  usage : status ≡ statuses.Usage → IsNoCommand given → text ≡ usage_line → OutcomeOf status budget given files input text
-  commanded : (verb : Verb) (name : List ℕ) → IsCommand given verb name → CommandOf verb status budget name files input text → OutcomeOf status budget given files input text
+pub data OutcomeOf (given : List (List ℕ)) (files : Files) (input : List ℕ) (status : Status) (text : List ℕ) : Type 0 where
+  usage : IsNoCommand given → status ≡ statuses.Usage → text ≡ usage_line → OutcomeOf given files input status text
+  commanded : (command : Command) → IsCommand given command → CommandOf command files input status text → OutcomeOf given files input status text

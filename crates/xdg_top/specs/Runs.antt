@@ -1,10 +1,11 @@
 -- What a run leaves behind.
-use Rattle.std.specs.Prelude.{◌≡◌, ℕ, List, Option}
+use Rattle.std.specs.Prelude.{◌≡◌, ◌⊎◌, ℕ, List, Option}
+use Rattle.xdg_command.specs.Commands.{IsCommand}
+use Rattle.xdg_command.specs.declared.commands.Command.{Command}
+use Rattle.xdg_command.specs.declared.commands.Command.TheVariants as commands
+use Rattle.xdg_command.specs.declared.commands.ParseOptions.{ParseOptions}
 use Rattle.xdg_io.specs.Held.{Appends, AppendsFront}
 use Rattle.xdg_io.specs.Rose.{Rose}
-use Rattle.xdg_top.specs.declared.command.Verb.{Verb}
-use Rattle.xdg_top.specs.declared.command.Verb.TheVariants as verbs
-use Rattle.xdg_top.specs.Commands.{IsCommand}
 use Rattle.xdg_top.specs.declared.status.Status.{Status}
 use Rattle.xdg_top.specs.declared.status.Status.TheVariants as statuses
 
@@ -23,7 +24,15 @@ Leaves O statuses.OutOfMemory old new = new ≡ old
 Leaves O statuses.WriteFault old new = (status : Status) (text : List ℕ) → O status text → AppendsFront old new text
 Leaves O status old new = Ends O status old new
 
--- a read failed: the count of the shelf rose for the file that the words name, or that of the input, which `parse` reads
+-- the names of the files that a command reads
+abbrev pub ReadsFile : Command → List ℕ → Type 0
+ReadsFile (commands.Parse options) name = name ≡ options.grammar
+ReadsFile (commands.Explain grammar analysis) name = (name ≡ grammar) ⊎ (name ≡ analysis)
+ReadsFile (commands.Check grammar) name = name ≡ grammar
+ReadsFile (commands.Lexicon grammar) name = name ≡ grammar
+ReadsFile (commands.Print grammar) name = name ≡ grammar
+
+-- a read failed: the count of the shelf rose for a file that the command names, or that of the input, which `parse` reads
 pub data ReadFailed (given : List (List ℕ)) (shelf_old shelf_new : List ℕ → ℕ) (input_old input_new : ℕ) : Type 0 where
-  of_file : (verb : Verb) (name : List ℕ) → IsCommand given verb name → Rose (shelf_old name) (shelf_new name) → ReadFailed given shelf_old shelf_new input_old input_new
-  of_input : (name : List ℕ) → IsCommand given verbs.Parse name → Rose input_old input_new → ReadFailed given shelf_old shelf_new input_old input_new
+  of_file : (command : Command) (name : List ℕ) → IsCommand given command → ReadsFile command name → Rose (shelf_old name) (shelf_new name) → ReadFailed given shelf_old shelf_new input_old input_new
+  of_input : (options : ParseOptions) → IsCommand given (commands.Parse options) → Rose input_old input_new → ReadFailed given shelf_old shelf_new input_old input_new

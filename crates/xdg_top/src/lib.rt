@@ -1,18 +1,26 @@
-//! The one call that the program makes: from its words, a grammar text and a sentence to what it prints.
+//! The one call that the program makes: from its words, the files and the input to what it prints.
 #![tactic(auto)]
 
-mod command;
+mod analysis;
+mod explain;
+#[cfg(test)]
+mod explain_tests;
+#[cfg(test)]
+mod grammar_tests;
 mod loading;
 mod parse;
-mod print;
+#[cfg(test)]
+mod parse_tests;
 #[cfg(test)]
 mod print_tests;
-mod printing;
 mod refusals;
-mod report;
+mod reports;
+#[cfg(test)]
+mod rows;
 mod running;
 #[cfg(test)]
 mod samples;
+mod sentence;
 mod status;
 #[cfg(test)]
 mod tests;

@@ -1,46 +1,138 @@
 //! The command `parse`.
 
-ghost use Rattle.std.specs.Prelude.{◌≡◌, ◌≤◌, ◌⊎◌, ℕ, List, [], Option, Some};
+ghost use Rattle.std.specs.Prelude.{◌≡◌, ◌≤◌, ◌⊎◌, ℕ, List, [], None, Option, Some, All, length};
+ghost use Rattle.xdg_entries.specs.Entries.{IsRightLexicon};
+ghost use Rattle.xdg_grammar.specs.Answers.{meaning_of};
+ghost use Rattle.xdg_groups.specs.Searchable.{IsOfFour};
 ghost use Rattle.xdg_io.specs.Rose.{Rose};
-ghost use Rattle.xdg_top.specs.Outcomes.{ParseOf};
+ghost use Rattle.xdg_problem.specs.FirstFour.{OfFirstFour};
+ghost use Rattle.xdg_top.specs.Loaded.{read_of};
+ghost use Rattle.xdg_top.specs.Outcomes.{ParseOf, SearchableThen, Searched, SentenceThen, form_of};
 ghost use Rattle.xdg_top.specs.Runs.{Leaves};
+ghost use Rattle.xdg_analyses.specs.Written.{IsSome};
 
 use crate::Status;
-use crate::loading::{load_grammar, read_problem};
-use crate::printing::print_analyses;
-use crate::refusals::refuse;
+use crate::loading::{Loaded, load_tree};
+use crate::refusals::{refuse, refused_in, stopped_in};
+use crate::sentence::read_problem;
 use std::alloc::Global;
+use xdg_analyses::{Form, Printed, print_analyses};
+use xdg_base::OutOfMemory;
+use xdg_command::{ParseOptions, TextForm};
+use xdg_grammar::{Expanded, expand_tree, first_other, pack_entries};
 use xdg_io::{Shelf, Sink, Source};
+use xdg_listing::Ending;
+use xdg_problem::Problem;
 
-/// Loads a grammar, reads a sentence, and prints its analyses, or the fault line of what is refused. A search is charged
-/// a budget of counted prefixes at most.
+/// The form in which analyses are printed.
+fn form_of(text: TextForm) -> Form
+    ensures { result ≡ form_of text }
+{
+    match text {
+        TextForm::One => Form::One,
+        TextForm::Two => Form::Two,
+    }
+}
+
+/// Prints the analyses of a sentence.
+fn search<K: Sink>(alloc: Global, options: &ParseOptions, problem: &Problem, out: &mut K) -> Status
+    requires four { OfFirstFour problem.now }
+    requires some { IsSome options.now.first }
+    ensures leaves { Leaves (Searched options.now problem.now) result (K.held out.old) (K.held out.new) }
+    ensures write_fault { result ≡ Status.WriteFault → Rose (K.faults out.old) (K.faults out.new) }
+    ensures out_lasting { K.faults out.old ≤ K.faults out.new }
+    ensures ends { (result ≡ Status.Done) ⊎ ((result ≡ Status.Spent) ⊎ ((result ≡ Status.WriteFault) ⊎ (result ≡ Status.OutOfMemory))) }
+{
+    let form = form_of(options.text);
+    match print_analyses(alloc, problem, options.budget, options.first, form, out) {
+        Printed::Ended(Ending::Complete) => Status::Done,
+        Printed::Ended(Ending::First) => Status::Done,
+        Printed::Ended(Ending::Spent) => Status::Spent,
+        Printed::Failed => Status::WriteFault,
+        Printed::OutOfMemory => Status::OutOfMemory,
+    }
+}
+
+/// Reads a sentence of a grammar and prints its analyses, or the fault line of what is refused.
+fn parse_expanded<S: Source, K: Sink>(
+    alloc: Global,
+    options: &ParseOptions,
+    expanded: &Expanded,
+    input: &mut S,
+    out: &mut K,
+) -> Status
+    requires lexicon { IsRightLexicon expanded.now.checked.types expanded.now.entries }
+    requires four { All IsOfFour expanded.now.checked.principles }
+    requires some { IsSome options.now.first }
+    ensures leaves { (content : List ℕ) → S.left input.old ≡ Some content → Leaves (SentenceThen options.now content (meaning_of expanded.now)) result (K.held out.old) (K.held out.new) }
+    ensures read_fault { result ≡ Status.ReadFault → Rose (S.faults input.old) (S.faults input.new) }
+    ensures write_fault { result ≡ Status.WriteFault → Rose (K.faults out.old) (K.faults out.new) }
+    ensures input_lasting { S.faults input.old ≤ S.faults input.new }
+    ensures out_lasting { K.faults out.old ≤ K.faults out.new }
+    ensures all_read { (content : List ℕ) → (result ≡ Status.Done) ⊎ (result ≡ Status.Spent) → S.left input.old ≡ Some content → S.left input.new ≡ Some [] }
+    ensures command { (result ≡ Status.Usage → ⊥) × ((result ≡ Status.BadText → ⊥) × (result ≡ Status.BadGrammar → ⊥)) }
+{
+    let packed = match pack_entries(alloc, expanded) {
+        Ok(packed) => packed,
+        Err(OutOfMemory) => return Status::OutOfMemory,
+    };
+    match read_problem(alloc, expanded, &packed, options.segment, input) {
+        Ok(problem) => search(alloc, options, &problem, out),
+        Err(refusal) => refuse(refusal, Status::BadSentence, out),
+    }
+}
+
+/// Reads a sentence of the grammar of a text and prints its analyses, or the fault line of what is refused.
+fn parse_loaded<S: Source, K: Sink>(
+    alloc: Global,
+    options: &ParseOptions,
+    loaded: &Loaded,
+    input: &mut S,
+    out: &mut K,
+) -> Status
+    requires short { length loaded.now.text.items ≤ 4194304 }
+    requires some { IsSome options.now.first }
+    ensures leaves { (content : List ℕ) → S.left input.old ≡ Some content → Leaves (SearchableThen options.now content (read_of loaded.now)) result (K.held out.old) (K.held out.new) }
+    ensures read_fault { result ≡ Status.ReadFault → Rose (S.faults input.old) (S.faults input.new) }
+    ensures write_fault { result ≡ Status.WriteFault → Rose (K.faults out.old) (K.faults out.new) }
+    ensures input_lasting { S.faults input.old ≤ S.faults input.new }
+    ensures out_lasting { K.faults out.old ≤ K.faults out.new }
+    ensures unread { (result ≡ Status.BadText) ⊎ (result ≡ Status.BadGrammar) → S.left input.new ≡ S.left input.old }
+    ensures all_read { (content : List ℕ) → (result ≡ Status.Done) ⊎ (result ≡ Status.Spent) → S.left input.old ≡ Some content → S.left input.new ≡ Some [] }
+    ensures command { result ≡ Status.Usage → ⊥ }
+{
+    if let Some(fault) = first_other(&loaded.tree) {
+        return refuse(refused_in(&loaded.text, fault), Status::BadText, out);
+    }
+    match expand_tree(alloc, &loaded.tree) {
+        Ok(expanded) => parse_expanded(alloc, options, &expanded, input, out),
+        Err(stop) => refuse(stopped_in(&loaded.text, stop), Status::BadGrammar, out),
+    }
+}
+
+/// Loads a grammar, reads a sentence, and prints its analyses, or the fault line of what is refused. A search is charged a budget
+/// of counted prefixes at most.
 pub fn parse_sentence<H: Shelf, S: Source, K: Sink>(
     alloc: Global,
-    name: &str,
+    options: &ParseOptions,
     shelf: &mut H,
     input: &mut S,
     out: &mut K,
-    budget: u64,
 ) -> Status
-    ensures leaves { (files : List ℕ → Option (List ℕ)) (content : List ℕ) → H.files shelf.old ≡ Some files → S.left input.old ≡ Some content →
-        Leaves (λ status text. ParseOf status budget name.now files content text) result (K.held out.old) (K.held out.new) }
-    ensures read_fault { result ≡ Status.ReadFault → Rose (H.faults shelf.old name.now) (H.faults shelf.new name.now) ⊎ Rose (S.faults input.old) (S.faults input.new) }
+    requires { IsSome options.now.first }
+    ensures leaves { (files : List ℕ → Option (List ℕ)) (content : List ℕ) → H.files shelf.old ≡ Some files → S.left input.old ≡ Some content → Leaves (ParseOf options.now files content) result (K.held out.old) (K.held out.new) }
+    ensures read_fault { result ≡ Status.ReadFault → Rose (H.faults shelf.old options.now.grammar) (H.faults shelf.new options.now.grammar) ⊎ Rose (S.faults input.old) (S.faults input.new) }
     ensures write_fault { result ≡ Status.WriteFault → Rose (K.faults out.old) (K.faults out.new) }
     ensures files { H.files shelf.new ≡ H.files shelf.old }
     ensures shelf_lasting { (other : List ℕ) → H.faults shelf.old other ≤ H.faults shelf.new other }
     ensures input_lasting { S.faults input.old ≤ S.faults input.new }
     ensures out_lasting { K.faults out.old ≤ K.faults out.new }
-    ensures unread { result ≡ Status.BadText → S.left input.new ≡ S.left input.old }
+    ensures unread { (result ≡ Status.BadText) ⊎ (result ≡ Status.BadGrammar) → S.left input.new ≡ S.left input.old }
     ensures all_read { (content : List ℕ) → (result ≡ Status.Done) ⊎ (result ≡ Status.Spent) → S.left input.old ≡ Some content → S.left input.new ≡ Some [] }
     ensures command { result ≡ Status.Usage → ⊥ }
 {
-    let grammar = match load_grammar(alloc, shelf, name) {
-        Ok(grammar) => grammar,
-        Err(refusal) => return refuse(refusal, Status::BadText, out),
-    };
-    let problem = match read_problem(alloc, input, &grammar) {
-        Ok(problem) => problem,
-        Err(refusal) => return refuse(refusal, Status::BadSentence, out),
-    };
-    print_analyses(alloc, &problem, budget, out)
+    match load_tree(alloc, shelf, options.grammar.as_str()) {
+        Ok(loaded) => parse_loaded(alloc, options, &loaded, input, out),
+        Err(refusal) => refuse(refusal, Status::BadText, out),
+    }
 }

@@ -2,14 +2,26 @@
 //!
 //! A table of tests is one text: `~` stands between its rows, and `^` between a grammar and what is printed of it.
 
-ghost use Rattle.std.specs.Prelude.{◌<◌, ◌^◌, length};
+ghost use Rattle.std.specs.Prelude.{◌≤◌, length};
 
 use crate::Status;
+use crate::rows::{SOUND, Texts, run_over};
 use crate::samples::SAMPLES;
-use crate::tests::{SOUND, run_over};
 use std::alloc::Global;
 use std::test::Fail;
 use xdg_ast::{Grammar, same};
+use xdg_grammar::read_tree;
+use xdg_io::MemSink;
+
+/// What `print` tells of a grammar.
+fn printed(alloc: Global, grammar: &[u8]) -> Result<(Status, MemSink), Fail> {
+    let texts = Texts {
+        grammar,
+        analysis: b"",
+        input: b"",
+    };
+    run_over(alloc, "print g", &texts, &SOUND)
+}
 
 /// Grammars with their canonical texts.
 const CANONICAL: &str = "\
@@ -38,7 +50,7 @@ fn canonical_texts(rt: HostRuntime) -> Result<(), Fail> {
     assert_eq!(rt; CANONICAL.split('~').count(), 18);
     for row in CANONICAL.split('~') {
         let (grammar, text) = row.split_once('^').unwrap_or((row, ""));
-        let (ended, out) = run_over(alloc, &["print", "g"], grammar.as_bytes(), b"", &SOUND)?;
+        let (ended, out) = printed(alloc, grammar.as_bytes())?;
         assert_eq!(rt; ended, Status::Done);
         assert_eq!(rt; out.bytes(), text.as_bytes());
     }
@@ -122,7 +134,7 @@ fn first_faults(rt: HostRuntime) -> Result<(), Fail> {
     assert_eq!(rt; FAULTS.split('~').count(), 68);
     for row in FAULTS.split('~') {
         let (grammar, line) = row.split_once('^').unwrap_or((row, ""));
-        let (ended, out) = run_over(alloc, &["print", "g"], grammar.as_bytes(), b"", &SOUND)?;
+        let (ended, out) = printed(alloc, grammar.as_bytes())?;
         assert_eq!(rt; ended, Status::BadText);
         assert_eq!(rt; out.bytes(), line.as_bytes());
     }
@@ -143,7 +155,7 @@ fn bytes_that_are_no_characters(rt: HostRuntime) -> Result<(), Fail> {
         ),
         (b"@ \xe2\x82", "fault 20 BadUtf8 line 1 column 3\n"),
     ] {
-        let (ended, out) = run_over(alloc, &["print", "g"], grammar, b"", &SOUND)?;
+        let (ended, out) = printed(alloc, grammar)?;
         assert_eq!(rt; ended, Status::BadText);
         assert_eq!(rt; out.bytes(), line.as_bytes());
     }
@@ -152,10 +164,9 @@ fn bytes_that_are_no_characters(rt: HostRuntime) -> Result<(), Fail> {
 
 /// The tree of a text that is one.
 fn tree_of(alloc: Global, text: &[u8]) -> Result<Grammar, Fail>
-    requires { length text.now < 2 ^ 32 }
+    requires { length text.now ≤ 4194304 }
 {
-    let tokens = xdg_lex::tokens(alloc, text)?;
-    Ok(xdg_parse::parse(alloc, &tokens, text.len() as u32)?)
+    Ok(read_tree(alloc, text)?)
 }
 
 #[test]
@@ -166,12 +177,12 @@ fn sample_grammars_are_printed_and_read_again(rt: HostRuntime) -> Result<(), Fai
         let text = grammar.as_bytes();
         assert!(rt; text.len() < 1_000_000);
         let tree = tree_of(alloc, text)?;
-        let (ended, out) = run_over(alloc, &["print", "g"], grammar.as_bytes(), b"", &SOUND)?;
+        let (ended, out) = printed(alloc, grammar.as_bytes())?;
         assert_eq!(rt; ended, Status::Done);
         assert!(rt; out.bytes().len() < 1_000_000);
         let again = tree_of(alloc, out.bytes())?;
         assert!(rt; same(&tree, &again));
-        let (_, twice) = run_over(alloc, &["print", "g"], out.bytes(), b"", &SOUND)?;
+        let (_, twice) = printed(alloc, out.bytes())?;
         assert_eq!(rt; twice.bytes(), out.bytes());
     }
     Ok(())

@@ -1,25 +1,20 @@
-use Rattle.xdg_top.specs.Outcomes.{ParseOf}
+use Rattle.std.proofs.Common.{◌≡◌, Some, subst}
+use Rattle.xdg_top.specs.Loaded.{read_of}
+use Rattle.xdg_top.specs.Outcomes.{SearchableThen}
+use Rattle.xdg_top.specs.Refusals.{Stops}
+use Rattle.xdg_top.specs.Stages.{Accepts}
+use Rattle.xdg_top.specs.Texts.{HasBadText, HasTree, ReadText}
 use Rattle.xdg_top.specs.declared.status.Status.TheVariants as statuses
-use Rattle.xdg_top.proofs.Leaving.{refused_leaves}
-use Rattle.xdg_top.proofs.OneOutcome.{one_parse}
-use Rattle.xdg_top.proofs.Parsing.{no_grammar_of, bad_sentence_of, printed_leaves}
+use Rattle.xdg_top.proofs.Leaving.{accepted_leaves, stopped_leaves}
 use Rattle.xdg_top.proofs.parse.parse_sentence.Goals as goal
+
+pub returns-in-Ok-clause-leaves : goal.returns-in-Ok-clause-leaves
+returns-in-Ok-clause-leaves g c files content told given =
+    accepted_leaves ReadText statuses.BadText (HasBadText files c.args.options.now.grammar) (HasTree files c.args.options.now.grammar) (SearchableThen c.args.options.now content) (read_of c.in-Ok.loaded) c.parse_loaded.result _ _
+    (subst (λ n. Accepts ReadText (HasBadText files n) (HasTree files n) (read_of c.in-Ok.loaded)) c.as_str.ensures (c.in-Ok.ensures.found files told)) (c.parse_loaded.ensures.leaves content given)
 
 pub returns-in-Err-clause-leaves : goal.returns-in-Err-clause-leaves
 returns-in-Err-clause-leaves g c files content told given =
-    refused_leaves (λ status text. ParseOf status c.args.budget c.args.name.now files content text) c.refuse.result statuses.BadText c.in-Err.refusal _ _
-    (one_parse c.args.budget c.args.name.now files content) (λ e. e)
-    (no_grammar_of _ c.args.name.now _ _ c.in-Err.refusal files c.in-Err.ensures.refused told)
-    c.refuse.ensures.written
-
-pub returns-in-Err-read_problem-clause-leaves : goal.returns-in-Err-read_problem-clause-leaves
-returns-in-Err-read_problem-clause-leaves g c files content told given =
-    refused_leaves (λ status text. ParseOf status c.args.budget c.args.name.now files content text) _ statuses.BadSentence c.in-Err-read_problem.refusal _ _
-    (one_parse c.args.budget c.args.name.now files content) (λ e. e)
-    (bad_sentence_of c.in-Ok.grammar _ _ _ c.in-Err-read_problem.refusal c.args.name.now files content (c.in-Ok.ensures.found files told) c.in-Err-read_problem.ensures.refused given)
-    c.refuse-in-Err-read_problem.ensures.written
-
-pub returns-clause-leaves : goal.returns-clause-leaves
-returns-clause-leaves g c files content told given =
-    let is = c.in-Ok-read_problem.ensures.sentence content given in
-    printed_leaves c.print_analyses.result c.args.budget c.args.name.now files content c.in-Ok.grammar c.in-Ok-read_problem.problem _ _ (c.in-Ok.ensures.found files told) is.0 is.1 c.print_analyses.ensures.written
+    stopped_leaves ReadText statuses.BadText (HasBadText files c.args.options.now.grammar) (HasTree files c.args.options.now.grammar) (SearchableThen c.args.options.now content) (g.H.Shelf.files c.args.shelf.now ≡ Some files)
+    (g.H.Shelf.faults c.args.shelf.now c.as_str.result.now) (g.H.Shelf.faults c.load_tree.new.shelf c.as_str.result.now) c.refuse.result c.in-Err.refusal _ _ told (λ e. e)
+    (subst (λ n. Stops (g.H.Shelf.files c.args.shelf.now ≡ Some files) (g.H.Shelf.faults c.args.shelf.now c.as_str.result.now) (g.H.Shelf.faults c.load_tree.new.shelf c.as_str.result.now) ReadText (HasBadText files n) (HasTree files n) c.in-Err.refusal) c.as_str.ensures (c.in-Err.ensures.refused files)) c.refuse.ensures.written

@@ -1,7 +1,0 @@
-use Rattle.std.proofs.Common.{◌≡◌, drop}
-use Rattle.std.specs.List.{list_all}
-use Rattle.xdg_plain.specs.Plain.{is_short}
-use Rattle.xdg_plain.proofs.reading.are_short.Given as goal
-
-abbrev pub invariant-loop-text : goal.invariant-loop-text
-invariant-loop-text l = list_all is_short (drop l.text-index l.texts) ≡ list_all is_short l.texts

@@ -1,0 +1,14 @@
+use Rattle.xdg_lexicon_text.specs.LexiconText.{lexicon_text}
+use Rattle.xdg_top.specs.Outcomes.{IsDone, MeaningThen}
+use Rattle.xdg_top.specs.Texts.{HasBadText, HasTree, ReadText}
+use Rattle.xdg_top.specs.declared.status.Status.TheVariants as statuses
+use Rattle.xdg_top.proofs.Leaving.{accepted_leaves, stopped_leaves}
+use Rattle.xdg_top.proofs.reports.print_lexicon.Goals as goal
+
+pub returns-in-Ok-clause-leaves : goal.returns-in-Ok-clause-leaves
+returns-in-Ok-clause-leaves g c files told =
+    accepted_leaves ReadText statuses.BadText (HasBadText files c.args.name.now) (HasTree files c.args.name.now) (λ read. MeaningThen read (λ m. IsDone (lexicon_text m.table m.entries))) _ c.list_loaded.result _ _ (c.in-Ok.ensures.found files told) c.list_loaded.ensures.leaves
+
+pub returns-in-Err-clause-leaves : goal.returns-in-Err-clause-leaves
+returns-in-Err-clause-leaves g c files told =
+    stopped_leaves ReadText statuses.BadText (HasBadText files c.args.name.now) (HasTree files c.args.name.now) (λ read. MeaningThen read (λ m. IsDone (lexicon_text m.table m.entries))) _ _ _ c.refuse.result c.in-Err.refusal _ _ told (λ e. e) (c.in-Err.ensures.refused files) c.refuse.ensures.written
