@@ -1,5 +1,6 @@
 pub mod Counted
 pub mod Digits
+pub mod Firsts
 pub mod Packs
 pub mod Prefixes
 pub mod SampleLists

@@ -7,8 +7,9 @@ use Rattle.std.proofs.Math.Seq.{get_or-append_seam, take-suc}
 use Rattle.xdg_index.specs.Texts.{has_text, place_of, AllDiffer}
 use Rattle.xdg_index.proofs.Texts.{place_of-Some, place_of-None, AllDiffer-append}
 use Rattle.xdg_packed.specs.Lexicon.{Record, Entry, column, Stands, KeepsEachOnce, CountsDifferent}
-use Rattle.xdg_packed.specs.Rows.{shown, IsTable, AreSpelled, IsKnownRow, IsNewRow}
+use Rattle.xdg_packed.specs.Rows.{shown, IsTable, AreFirsts, AddsFirst, AreSpelled, IsKnownRow, IsNewRow}
 use Rattle.xdg_packed.specs.Spelling.{spelling_of_fields}
+use Rattle.xdg_packed.proofs.Firsts.{firsts_none, firsts_known, firsts_new}
 use Rattle.xdg_packed.proofs.Prefixes.{fields_told}
 use Rattle.xdg_packed.proofs.Standing.{stands_left, stands_right, stands_last, stands_at, rows_differ}
 
@@ -40,15 +41,17 @@ new_row rows more spellings more_spellings fields spelled place is none grown sp
 -- ---- all records so far
 
 -- these are the records so far, one for each entry
-pub record Packs (done rows : List Record) (spellings : List (List ℕ)) (places : List ℕ) : Type 0 where
+pub record Packs (done rows : List Record) (spellings : List (List ℕ)) (firsts places : List ℕ) : Type 0 where
   pub spelled : AreSpelled rows spellings
   pub within : All (λ place. place < length rows) places
   pub shows : shown rows places ≡ done
   pub used : (x : Record) → Stands rows x → Stands done x
   pub few : length rows ≤ length done
+  pub as_many : length firsts ≡ length rows
+  pub firsts_are : AreFirsts firsts places
 
-pub packs_none : Packs [] [] [] []
-packs_none = record { spelled = record { spelled = refl; differ = tt }; within = All-nil (λ place. place < 0); shows = refl; used = λ x h. h; few = omega arith }
+pub packs_none : Packs [] [] [] [] []
+packs_none = record { spelled = record { spelled = refl; differ = tt }; within = All-nil (λ place. place < 0); shows = refl; used = λ x h. h; few = omega arith; as_many = refl; firsts_are = firsts_none }
 
 longer : (A : Type 0) (xs : List A) (x : A) → length (xs ++ x ∷ []) ≡ length xs + 1
 longer A xs x = length-append xs (x ∷ [])
@@ -58,19 +61,21 @@ shown_more rows more [] within = refl
 shown_more rows more (place ∷ places) within =
     ap₂ (λ x xs. x ∷ xs) (get_or-append rows more [] place (All-head (λ k. k < length rows) place places within)) (shown_more rows more places (All-tail (λ k. k < length rows) place places within))
 
-packs_known : (done rows : List Record) (spellings : List (List ℕ)) (places : List ℕ) (fields : Record) (place : ℕ) → Packs done rows spellings places → place < length rows → get_or rows place [] ≡ fields
-    → Packs (done ++ fields ∷ []) rows spellings (places ++ place ∷ [])
-packs_known done rows spellings places fields place packs inside stands = record {
+packs_known : (done rows : List Record) (spellings : List (List ℕ)) (firsts places : List ℕ) (fields : Record) (place : ℕ) → Packs done rows spellings firsts places → place < length rows → get_or rows place [] ≡ fields
+    → Packs (done ++ fields ∷ []) rows spellings firsts (places ++ place ∷ [])
+packs_known done rows spellings firsts places fields place packs inside stands = record {
   spelled = packs.spelled;
   within = All-push (λ k. k < length rows) places place packs.within inside;
   shows = map-append (λ k. get_or rows k []) places (place ∷ []) ∙ ap₂ (λ xs x. xs ++ x ∷ []) packs.shows stands;
   used = λ x h. stands_left done (fields ∷ []) x (packs.used x h);
   few = let size = longer Record done fields in let few = packs.few in omega (arith, size, few);
+  as_many = packs.as_many;
+  firsts_are = firsts_known firsts places place (subst (λ n. place < n) (sym packs.as_many) inside) packs.firsts_are;
 }
 
-packs_new : (done rows : List Record) (spellings : List (List ℕ)) (places : List ℕ) (fields : Record) (place : ℕ) → Packs done rows spellings places → has_text spellings (spelling_of_fields fields) ≡ false → place ≡ length rows
-    → Packs (done ++ fields ∷ []) (rows ++ fields ∷ []) (spellings ++ spelling_of_fields fields ∷ []) (places ++ place ∷ [])
-packs_new done rows spellings places fields place packs fresh last = record {
+packs_new : (done rows : List Record) (spellings : List (List ℕ)) (firsts places : List ℕ) (fields : Record) (place number : ℕ) → Packs done rows spellings firsts places → has_text spellings (spelling_of_fields fields) ≡ false
+    → place ≡ length rows → number ≡ length places → Packs (done ++ fields ∷ []) (rows ++ fields ∷ []) (spellings ++ spelling_of_fields fields ∷ []) (firsts ++ number ∷ []) (places ++ place ∷ [])
+packs_new done rows spellings firsts places fields place number packs fresh last next = record {
   spelled = record {
     spelled = map-append spelling_of_fields rows (fields ∷ []) ∙ ap (λ ts. ts ++ spelling_of_fields fields ∷ []) packs.spelled.spelled;
     differ = AllDiffer-append spellings (spelling_of_fields fields) packs.spelled.differ fresh;
@@ -82,20 +87,30 @@ packs_new done rows spellings places fields place packs fresh last = record {
       ∙ ap₂ (λ xs x. xs ++ x ∷ []) (shown_more rows (fields ∷ []) places packs.within ∙ packs.shows) (ap (λ k. get_or (rows ++ fields ∷ []) k []) last ∙ get_or-append_seam rows fields [] []);
   used = λ x h. by x (stands_last rows fields x h);
   few = let more = longer Record rows fields in let size = longer Record done fields in let few = packs.few in omega (arith, more, size, few);
+  as_many = let more = longer Record rows fields in let added = longer ℕ firsts number in let same = packs.as_many in omega (arith, more, added, same);
+  firsts_are = firsts_new firsts places place number (last ∙ sym packs.as_many) next (subst (λ n. All (λ k. k < n) places) (sym packs.as_many) packs.within) packs.firsts_are;
 }
   where
     by : (x : Record) → Stands rows x ⊎ (fields ≡ x) → Stands (done ++ fields ∷ []) x
     by x (inl h) = stands_left done (fields ∷ []) x (packs.used x h)
     by x (inr e) = stands_right done (fields ∷ []) x (inl e)
 
-packs_more : (done rows more : List Record) (spellings more_spellings : List (List ℕ)) (places : List ℕ) (fields : Record) (place : ℕ) → Packs done rows spellings places
-    → IsKnownRow rows spellings more more_spellings fields place ⊎ IsNewRow rows spellings more more_spellings fields place → Packs (done ++ fields ∷ []) more more_spellings (places ++ place ∷ [])
-packs_more done rows more spellings more_spellings places fields place packs (inl k) =
-    subst (λ r. Packs (done ++ fields ∷ []) r more_spellings (places ++ place ∷ [])) (sym k.rows_stay)
-    (subst (λ t. Packs (done ++ fields ∷ []) rows t (places ++ place ∷ [])) (sym k.spellings_stay) (packs_known done rows spellings places fields place packs k.within k.stands))
-packs_more done rows more spellings more_spellings places fields place packs (inr n) =
-    subst (λ r. Packs (done ++ fields ∷ []) r more_spellings (places ++ place ∷ [])) (sym n.rows_grow)
-    (subst (λ t. Packs (done ++ fields ∷ []) (rows ++ fields ∷ []) t (places ++ place ∷ [])) (sym n.spellings_grow) (packs_new done rows spellings places fields place packs n.fresh n.last))
+packs_more : (done rows more : List Record) (spellings more_spellings : List (List ℕ)) (firsts more_firsts places : List ℕ) (fields : Record) (place number : ℕ) → Packs done rows spellings firsts places
+    → IsKnownRow rows spellings more more_spellings fields place ⊎ IsNewRow rows spellings more more_spellings fields place → AddsFirst firsts more_firsts place number → number ≡ length places
+    → Packs (done ++ fields ∷ []) more more_spellings more_firsts (places ++ place ∷ [])
+packs_more done rows more spellings more_spellings firsts more_firsts places fields place number packs (inl k) adds next =
+    let stay : more_firsts ≡ firsts = adds.known (subst (λ n. place < n) (sym packs.as_many) k.within) in
+    subst (λ f. Packs (done ++ fields ∷ []) more more_spellings f (places ++ place ∷ [])) (sym stay)
+    (subst (λ r. Packs (done ++ fields ∷ []) r more_spellings firsts (places ++ place ∷ [])) (sym k.rows_stay)
+    (subst (λ t. Packs (done ++ fields ∷ []) rows t firsts (places ++ place ∷ [])) (sym k.spellings_stay) (packs_known done rows spellings firsts places fields place packs k.within k.stands)))
+packs_more done rows more spellings more_spellings firsts more_firsts places fields place number packs (inr n) adds next =
+    let last = n.last in
+    let same = packs.as_many in
+    let grow : more_firsts ≡ firsts ++ number ∷ [] = adds.fresh (omega (arith, last, same)) in
+    subst (λ f. Packs (done ++ fields ∷ []) more more_spellings f (places ++ place ∷ [])) (sym grow)
+    (subst (λ r. Packs (done ++ fields ∷ []) r more_spellings (firsts ++ number ∷ []) (places ++ place ∷ [])) (sym n.rows_grow)
+    (subst (λ t. Packs (done ++ fields ∷ []) (rows ++ fields ∷ []) t (firsts ++ number ∷ []) (places ++ place ∷ [])) (sym n.spellings_grow)
+    (packs_new done rows spellings firsts places fields place number packs n.fresh n.last next)))
 
 -- the records of a dimension of one entry more
 pub column_more : (dim : ℕ) (entries : List Entry) (i : ℕ) (entry : Entry) → i < length entries → get_or entries i entry ≡ entry → column dim (take (i + 1) entries) ≡ column dim (take i entries) ++ get_or entry dim [] ∷ []
@@ -110,14 +125,15 @@ any_default [] i d e within = absurd (omega (arith, within))
 any_default (x ∷ xs) zero d e within = refl
 any_default (x ∷ xs) (suc i) d e within = any_default xs i d e (omega (arith, within))
 
-pub packs_next : (dim : ℕ) (entries : List Entry) (i : ℕ) (entry held : Entry) (rows more : List Record) (spellings more_spellings : List (List ℕ)) (places : List ℕ) (fields : Record) (place : ℕ)
-    → i < length entries → All (λ e. dim < length e) entries → entry ≡ get_or entries i entry → held ≡ entry → fields ≡ get_or held dim fields → Packs (column dim (take i entries)) rows spellings places
-    → IsKnownRow rows spellings more more_spellings fields place ⊎ IsNewRow rows spellings more more_spellings fields place → Packs (column dim (take (i + 1) entries)) more more_spellings (places ++ place ∷ [])
-packs_next dim entries i entry held rows more spellings more_spellings places fields place within wide is lent own packs how =
+pub packs_next : (dim : ℕ) (entries : List Entry) (i : ℕ) (entry held : Entry) (rows more : List Record) (spellings more_spellings : List (List ℕ)) (firsts more_firsts places : List ℕ) (fields : Record) (place number : ℕ)
+    → i < length entries → All (λ e. dim < length e) entries → entry ≡ get_or entries i entry → held ≡ entry → fields ≡ get_or held dim fields → Packs (column dim (take i entries)) rows spellings firsts places
+    → IsKnownRow rows spellings more more_spellings fields place ⊎ IsNewRow rows spellings more more_spellings fields place → AddsFirst firsts more_firsts place number → number ≡ length places
+    → Packs (column dim (take (i + 1) entries)) more more_spellings more_firsts (places ++ place ∷ [])
+packs_next dim entries i entry held rows more spellings more_spellings firsts more_firsts places fields place number within wide is lent own packs how adds next =
     let inside : dim < length held = subst (λ e. dim < length e) (sym (lent ∙ is)) (wide i entry within) in
     let whole : fields ≡ get_or entry dim [] = own ∙ any_default held dim fields [] inside ∙ ap (λ e. get_or e dim []) lent in
-    subst (λ done. Packs done more more_spellings (places ++ place ∷ [])) (ap (λ f. column dim (take i entries) ++ f ∷ []) whole ∙ sym (column_more dim entries i entry within (sym is)))
-    (packs_more (column dim (take i entries)) rows more spellings more_spellings places fields place packs how)
+    subst (λ done. Packs done more more_spellings more_firsts (places ++ place ∷ [])) (ap (λ f. column dim (take i entries) ++ f ∷ []) whole ∙ sym (column_more dim entries i entry within (sym is)))
+    (packs_more (column dim (take i entries)) rows more spellings more_spellings firsts more_firsts places fields place number packs how adds next)
 
 -- ---- the whole
 
@@ -126,18 +142,20 @@ shown_stands rows [] within x h = absurd h
 shown_stands rows (place ∷ places) within x (inl e) = subst (Stands rows) e (stands_at rows place [] (All-head (λ k. k < length rows) place places within))
 shown_stands rows (place ∷ places) within x (inr h) = shown_stands rows places (All-tail (λ k. k < length rows) place places within) x h
 
-pub packs_table : (done rows : List Record) (spellings : List (List ℕ)) (places : List ℕ) → Packs done rows spellings places → IsTable rows places
-packs_table done rows spellings places packs = record {
+pub packs_table : (done rows : List Record) (spellings : List (List ℕ)) (firsts places : List ℕ) → Packs done rows spellings firsts places → IsTable rows firsts places
+packs_table done rows spellings firsts places packs = record {
   within = packs.within;
   kept = record {
     once = rows_differ rows (subst AllDiffer (sym packs.spelled.spelled) packs.spelled.differ);
     each = shown_stands rows places packs.within;
     only = λ x h. subst (λ xs. Stands xs x) (sym packs.shows) (packs.used x h);
   };
+  as_many = packs.as_many;
+  firsts_are = packs.firsts_are;
 }
 
-pub table_counts : (rows : List Record) (places : List ℕ) (all : List Record) → IsTable rows places → shown rows places ≡ all → (count : ℕ) → count ≡ length rows → CountsDifferent all count
-table_counts rows places all is shows count size = (rows, subst (λ xs. KeepsEachOnce xs rows) shows is.kept, sym size)
+pub table_counts : (rows : List Record) (firsts places : List ℕ) (all : List Record) → IsTable rows firsts places → shown rows places ≡ all → (count : ℕ) → count ≡ length rows → CountsDifferent all count
+table_counts rows firsts places all is shows count size = (rows, subst (λ xs. KeepsEachOnce xs rows) shows is.kept, sym size)
 
 -- a spelling that has no place is added
 pub added_last : (spellings more : List (List ℕ)) (t : List ℕ) (added : Bool) → place_of spellings t ≡ None → added ≡ not (has_text spellings t) → more ≡ (if added then spellings ++ t ∷ [] else spellings) → more ≡ spellings ++ t ∷ []

@@ -1,13 +1,15 @@
 -- Packed entries are the entries.
 use Rattle.std.proofs.Common.{◌≡◌, ℕ, zero, suc, ◌+◌, ◌-◌, ◌^◌, ◌<◌, ◌≤◌, List, [], ◌∷◌, ◌++◌, length, get_or, map, refl, sym, ap, ap₂, subst, ◌∙◌, arith, All, Some, None}
 use Rattle.std.specs.List.{range_with_len}
-use Rattle.std.proofs.lemmas.List.{length-map, get_or-map}
+use Rattle.std.proofs.lemmas.List.{length-map}
 use Rattle.std.proofs.lemmas.List.FromFn.{length-map-range_with_len, get_or-map-range_with_len, map-range_with_len_more}
 use Rattle.xdg_base.specs.declared.ids.EntryNo.{EntryNo}
 use Rattle.xdg_index.specs.Texts.{place_of}
-use Rattle.xdg_packed.specs.Lexicon.{Record, Entry, Lexicon, HasWord, word_of, words_of, numbers_of, AreAsLong, width, column, columns, CountsDifferent, CountsRows}
+use Rattle.xdg_packed.specs.Lexicon.{Record, Entry, Lexicon, HasWord, word_of, words_of, numbers_of, AreAsLong, width, column, columns, CountsDifferent, CountsRows, IsFirstAlike}
 use Rattle.xdg_packed.specs.Packing.{unpacked, IsPacked}
+use Rattle.xdg_packed.specs.Rows.{IsFirst}
 use Rattle.xdg_packed.specs.Words.{IsWordIndex}
+use Rattle.xdg_packed.proofs.Firsts.{in_column, column_first}
 use Rattle.xdg_packed.proofs.Packs.{any_default}
 use Rattle.xdg_packed.proofs.WordLists.{word_found, word_unknown, place_within}
 
@@ -37,9 +39,6 @@ map_map g f [] = refl
 map_map g f (x ∷ xs) = ap (λ ys. g (f x) ∷ ys) (map_map g f xs)
 
 -- ---- entries
-
-in_column : (entries : List Entry) (n dim : ℕ) → n < length entries → get_or (column dim entries) n [] ≡ get_or (get_or entries n []) dim []
-in_column entries n dim within = get_or-map (λ e. get_or e dim []) entries n [] [] within
 
 entry_back : (entries : List Entry) → AreAsLong entries → (n : ℕ) → n < length entries → map (λ table. get_or table n []) (columns entries) ≡ get_or entries n []
 entry_back entries equal n within =
@@ -118,6 +117,10 @@ module _ (lexicon : Lexicon) (tables : List (List Record)) (rows : ℕ) (words :
   -- and that is the entry's
   pub record_is : (n dim : ℕ) (table : List Record) (fields : Record) → n < length lexicon.entries → dim < length tables → table ≡ get_or tables dim table → fields ≡ get_or table n [] → fields ≡ get_or (get_or lexicon.entries n []) dim []
   record_is n dim table fields within inside is own = own ∙ ap (λ t. get_or t n []) (is ∙ table_is dim table inside) ∙ in_column lexicon.entries n dim within
+
+  -- its first entry with a record is the lexicon's
+  pub first_is : (n dim : ℕ) (table : List Record) (first : ℕ) → n < length lexicon.entries → dim < length tables → table ≡ get_or tables dim table → IsFirst table n first → (first < length lexicon.entries) × IsFirstAlike lexicon dim n first
+  first_is n dim table first within inside is own = column_first lexicon dim n first within (subst (λ t. IsFirst t n first) (is ∙ table_is dim table inside) own)
 
   pub rows_are : (count : ℕ) → count ≡ rows → CountsRows (columns lexicon.entries) count
   rows_are count is = subst (λ n. CountsRows (columns lexicon.entries) n) (sym is) (subst (λ ts. CountsRows ts rows) packed.tables_are packed.counted)

@@ -1,6 +1,6 @@
 -- Lexicons: the entries in order, each with a record for each used dimension, the words of the entries, and how many different
 -- records there are.
-use Rattle.std.specs.Prelude.{◌≡◌, ℕ, ◌+◌, List, [], ◌∷◌, length, get_or, map, filter, Option, None, Some, All, bytes_eq, ◌⊎◌}
+use Rattle.std.specs.Prelude.{◌≡◌, ℕ, ◌+◌, ◌<◌, ◌≤◌, List, [], ◌∷◌, length, get_or, map, filter, Option, None, Some, All, bytes_eq, ◌⊎◌}
 use Rattle.std.specs.List.{range_with_len}
 use Rattle.xdg_base.specs.declared.ids.EntryNo.{EntryNo}
 use Rattle.xdg_domain.specs.Valencies.{said_at}
@@ -88,6 +88,12 @@ column dim entries = map (λ entry. get_or entry dim []) entries
 -- the same of each dimension
 abbrev pub columns : List Entry → List (List Record)
 columns entries = map (λ dim. column dim entries) (range_with_len 0 (width entries))
+
+-- The first entry that says in a dimension what the entry with that number says: its record of it is that entry's, and no entry
+-- with a smaller number has that record there.
+pub record IsFirstAlike (lexicon : Lexicon) (dim number first : ℕ) : Type 0 where
+  pub alike : get_or (get_or lexicon.entries first []) dim [] ≡ get_or (get_or lexicon.entries number []) dim []
+  pub least : (other : ℕ) → other < length lexicon.entries → get_or (get_or lexicon.entries other []) dim [] ≡ get_or (get_or lexicon.entries number []) dim [] → first ≤ other
 
 -- the element stands in the list
 abbrev pub Stands : {A : Type 0} → List A → A → Type 0

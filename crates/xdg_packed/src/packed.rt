@@ -1,7 +1,7 @@
 //! A packed lexicon.
 
 ghost use Rattle.std.specs.Prelude.{◌≡◌, ℕ, ◌<◌, ◌≤◌, ◌-◌, ◌^◌, [], length, get_or, All, IfOk};
-ghost use Rattle.xdg_packed.specs.Lexicon.{width, columns, AreAsLong, HasWord, words_of, numbers_of, CountsRows};
+ghost use Rattle.xdg_packed.specs.Lexicon.{width, columns, AreAsLong, HasWord, words_of, numbers_of, CountsRows, IsFirstAlike};
 ghost use Rattle.xdg_packed.specs.Packing.{IsLexicon};
 
 use crate::table::Table;
@@ -139,6 +139,17 @@ impl Packed {
             packed: self,
             number: no.0 as usize,
         }
+    }
+
+    /// The first entry that says what the entry with that number says in the dimension with that place, which counts from 0. Entries
+    /// with one record there have one such entry. Nothing is searched, and nothing takes memory.
+    pub fn first_alike(&self, no: EntryNo, dim: usize) -> EntryNo
+        requires entry { no.0 < length self.now.entries }
+        requires dim { dim < length (get_or self.now.entries no.0 []) }
+        ensures within { result.0 < length self.now.entries }
+        ensures first { IsFirstAlike self.now dim no.0 result.0 }
+    {
+        EntryNo(self.tables.as_slice()[dim].first_alike(no.0 as usize))
     }
 
     /// The numbers of the entries of a word, rising; none for an unknown word. The word is looked up by an index, and nothing

@@ -1,8 +1,8 @@
 //! The records of one dimension, each different one kept once.
 
-ghost use Rattle.std.specs.Prelude.{◌≡◌, ◌<◌, ◌≤◌, ◌-◌, ◌^◌, ◌⊎◌, [], ◌∷◌, ◌++◌, length, get_or, map, All, IfOk};
+ghost use Rattle.std.specs.Prelude.{◌≡◌, ◌<◌, ◌≤◌, ◌-◌, ◌^◌, ◌⊎◌, [], ◌∷◌, ◌++◌, length, get_or, map, All, IfOk, OnOk};
 ghost use Rattle.xdg_packed.specs.Lexicon.{column, CountsDifferent};
-ghost use Rattle.xdg_packed.specs.Rows.{AreSpelled, IsKnownRow, IsNewRow};
+ghost use Rattle.xdg_packed.specs.Rows.{AddsFirst, AreSpelled, IsFirst, IsKnownRow, IsNewRow};
 
 use crate::spelling::spell_fields;
 use std::alloc::{AllocError, Global};
@@ -16,6 +16,8 @@ use xdg_index::Index;
 pub(crate) struct Table {
     // The different records.
     rows: List<Fields>,
+    // For each of them the number of the first entry that has it.
+    firsts: List<u32>,
     // For each entry the place of its record among them.
     places: List<u32>,
 }
@@ -33,7 +35,7 @@ impl Model for Table {
 
     ghost view = { λ table. shown table.rows table.places };
 
-    ghost invariant = { λ table. IsTable table.rows table.places };
+    ghost invariant = { λ table. IsTable table.rows table.firsts table.places };
 }
 
 impl Table {
@@ -44,13 +46,20 @@ impl Table {
         ensures { IfOk result (λ table. table ≡ column dim entries.now) }
     {
         let mut rows = List::new(alloc);
+        let mut firsts = List::new(alloc);
         let mut spellings = Index::new(alloc);
         let mut places = List::new(alloc);
         for entry in entries {
             let fields = &entry.as_slice()[dim];
-            places.push(place_of(alloc, &mut rows, &mut spellings, fields)?)?;
+            let place = place_of(alloc, &mut rows, &mut spellings, fields)?;
+            add_first(&mut firsts, place, places.len() as u32)?;
+            places.push(place)?;
         }
-        Ok(Table { rows, places })
+        Ok(Table {
+            rows,
+            firsts,
+            places,
+        })
     }
 
     /// The record of the entry with that place, which counts from 0.
@@ -59,6 +68,14 @@ impl Table {
         ensures { result.now ≡ get_or self.now at [] }
     {
         &self.rows.as_slice()[self.places.as_slice()[at] as usize]
+    }
+
+    /// The number of the first entry with the record of the entry with that place, which counts from 0. It takes no memory.
+    pub(crate) fn first_alike(&self, at: usize) -> u32
+        requires { at < length self.now }
+        ensures { IsFirst self.now at result }
+    {
+        self.firsts.as_slice()[self.places.as_slice()[at] as usize]
     }
 
     /// The number of different records.
@@ -91,6 +108,16 @@ fn place_of(
             Ok(place)
         }
     }
+}
+
+/// Adds the number of an entry to the first entries of the different records, where the place of its record is a new one.
+fn add_first(firsts: &mut List<u32>, place: u32, number: u32) -> Result<(), AllocError>
+    ensures { OnOk result (AddsFirst firsts.old firsts.new place number) }
+{
+    if (place as usize) < firsts.len() {
+        return Ok(());
+    }
+    firsts.push(number)
 }
 
 /// A copy of a record.

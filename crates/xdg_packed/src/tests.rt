@@ -85,6 +85,8 @@ fn words_and_rows(rt: HostRuntime) -> Result<(), Fail> {
     );
     assert_eq!(rt; lexicon.of_word("cat"), [EntryNo(1)].as_slice());
     assert_eq!(rt; lexicon.of_word("dog").len(), 0);
+    assert_eq!(rt; lexicon.first_alike(EntryNo(1), 0), EntryNo(0));
+    assert_eq!(rt; lexicon.first_alike(EntryNo(2), 0), EntryNo(2));
     assert_eq!(rt; lexicon.entry(EntryNo(1)).fields(0).len(), 1);
     assert_eq!(rt; first_number(lexicon.entry(EntryNo(2)).fields(1)), Some(7));
     Ok(())

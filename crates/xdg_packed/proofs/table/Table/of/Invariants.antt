@@ -4,4 +4,4 @@ use Rattle.xdg_packed.proofs.Packs.{Packs}
 use Rattle.xdg_packed.proofs.table.Table.of.Given as goal
 
 abbrev pub invariant-loop-entry : goal.invariant-loop-entry
-invariant-loop-entry l = Packs (column l.dim (take l.entry-index l.entries)) l.rows l.spellings l.places
+invariant-loop-entry l = Packs (column l.dim (take l.entry-index l.entries)) l.rows l.spellings l.firsts l.places

@@ -1,0 +1,115 @@
+-- The first entry with each record of a dimension.
+use Rattle.std.proofs.Common.{◌≡◌, ℕ, zero, suc, ◌+◌, ◌<◌, ◌≤◌, List, [], ◌∷◌, ◌++◌, ◌⊎◌, length, get_or, refl, sym, ap, subst, inl, inr, ◌∙◌, arith, All}
+use Rattle.std.proofs.lemmas.Bool.{cases_lt}
+use Rattle.std.proofs.lemmas.List.{length-append, length-map, get_or-map}
+use Rattle.std.proofs.Math.ListN.{get_or-append}
+use Rattle.std.proofs.Math.Seq.{get_or-append_seam}
+use Rattle.xdg_packed.specs.Lexicon.{Record, Entry, Lexicon, column, Stands, Differ, IsFirstAlike}
+use Rattle.xdg_packed.specs.Rows.{shown, AreFirsts, IsTable, IsFirst}
+use Rattle.xdg_packed.proofs.Standing.{stands_at}
+
+-- ---- one entry more
+
+pub firsts_none : AreFirsts [] []
+firsts_none = record { have = λ row within. absurd (omega (arith, within)); least = λ entry within. absurd (omega (arith, within)) }
+
+longer : (xs : List ℕ) (x : ℕ) → length (xs ++ x ∷ []) ≡ length xs + 1
+longer xs x = length-append xs (x ∷ [])
+
+-- what holds of each place of a list and of the next one
+each_more : (P : ℕ → Type 0) (xs : List ℕ) (x : ℕ) → ((k : ℕ) → k < length xs → P k) → P (length xs) → (k : ℕ) → k < length (xs ++ x ∷ []) → P k
+each_more P xs x below here k within = by (cases_lt k (length xs))
+  where
+    by : (k < length xs) ⊎ (length xs ≤ k) → P k
+    by (inl h) = below k h
+    by (inr h) = subst P (let size = longer xs x in let e : length xs ≡ k = omega (arith, size, h, within) in e) here
+
+-- an entry with the place of a row keeps it
+still : (places : List ℕ) (place row first : ℕ) → (first < length places) × (get_or places first 0 ≡ row) → (first < length (places ++ place ∷ [])) × (get_or (places ++ place ∷ []) first 0 ≡ row)
+still places place row first (within, is) = (let size = longer places place in omega (arith, size, within), get_or-append places (place ∷ []) 0 first within ∙ is)
+
+pub firsts_known : (firsts places : List ℕ) (place : ℕ) → place < length firsts → AreFirsts firsts places → AreFirsts firsts (places ++ place ∷ [])
+firsts_known firsts places place known are = record {
+  have = λ row within. still places place row (get_or firsts row 0) (are.have row within);
+  least = each_more (λ entry. get_or firsts (get_or (places ++ place ∷ []) entry 0) 0 ≤ entry) places place
+      (λ entry within. subst (λ p. get_or firsts p 0 ≤ entry) (sym (get_or-append places (place ∷ []) 0 entry within)) (are.least entry within))
+      (subst (λ p. get_or firsts p 0 ≤ length places) (sym (get_or-append_seam places place [] 0)) (let at = are.have place known in let low = at.0 in omega (arith, low)));
+}
+
+pub firsts_new : (firsts places : List ℕ) (place number : ℕ) → place ≡ length firsts → number ≡ length places → All (λ k. k < length firsts) places → AreFirsts firsts places → AreFirsts (firsts ++ number ∷ []) (places ++ place ∷ [])
+firsts_new firsts places place number last next within are =
+    let more = firsts ++ number ∷ [] in
+    let grown = places ++ place ∷ [] in
+    record {
+      have = each_more (λ row. (get_or more row 0 < length grown) × (get_or grown (get_or more row 0) 0 ≡ row)) firsts number
+          (λ row inside.
+          subst (λ f. (f < length grown) × (get_or grown f 0 ≡ row)) (sym (get_or-append firsts (number ∷ []) 0 row inside))
+          (still places place row (get_or firsts row 0) (are.have row inside)))
+          (subst (λ f. (f < length grown) × (get_or grown f 0 ≡ length firsts)) (sym (get_or-append_seam firsts number [] 0 ∙ next))
+          (let size = longer places place in omega (arith, size), get_or-append_seam places place [] 0 ∙ last));
+      least = each_more (λ entry. get_or more (get_or grown entry 0) 0 ≤ entry) places place
+          (λ entry inside.
+          subst (λ f. f ≤ entry)
+          (sym (ap (λ p. get_or more p 0) (get_or-append places (place ∷ []) 0 entry inside) ∙ get_or-append firsts (number ∷ []) 0 (get_or places entry 0) (within entry 0 inside)))
+          (are.least entry inside))
+          (subst (λ f. f ≤ length places)
+          (sym (ap (λ p. get_or more p 0) (get_or-append_seam places place [] 0 ∙ last) ∙ get_or-append_seam firsts number [] 0 ∙ next))
+          (omega arith));
+    }
+
+-- ---- the whole
+
+-- equal rows are one row
+same_row : (rows : List Record) → Differ rows → (i j : ℕ) → i < length rows → j < length rows → get_or rows i [] ≡ get_or rows j [] → i ≡ j
+same_row [] differ i j first second e = absurd (omega (arith, first))
+same_row (row ∷ rows) differ zero zero first second e = refl
+same_row (row ∷ rows) differ zero (suc j) first second e = absurd (differ.0 (subst (Stands rows) (sym e) (stands_at rows j [] (omega (arith, second)))))
+same_row (row ∷ rows) differ (suc i) zero first second e = absurd (differ.0 (subst (Stands rows) e (stands_at rows i [] (omega (arith, first)))))
+same_row (row ∷ rows) differ (suc i) (suc j) first second e = ap suc (same_row rows differ.1 i j (omega (arith, first)) (omega (arith, second)) e)
+
+in_shown : (rows : List Record) (places : List ℕ) (k : ℕ) → k < length places → get_or (shown rows places) k [] ≡ get_or rows (get_or places k 0) []
+in_shown rows places k within = get_or-map (λ place. get_or rows place []) places k 0 [] within
+
+long_shown : (rows : List Record) (places : List ℕ) → length (shown rows places) ≡ length places
+long_shown rows places = length-map places (λ place. get_or rows place [])
+
+-- a table has the first entry with a record
+table_first : (rows : List Record) (firsts places : List ℕ) (at : ℕ) → IsTable rows firsts places → at < length places → IsFirst (shown rows places) at (get_or firsts (get_or places at 0) 0)
+table_first rows firsts places at table within =
+    let row = get_or places at 0 in
+    let first = get_or firsts row 0 in
+    let inside : row < length firsts = subst (λ n. row < n) (sym table.as_many) (table.within at 0 within) in
+    let has = table.firsts_are.have row inside in
+    let size = long_shown rows places in
+    record {
+      within = subst (λ n. first < n) (sym size) has.0;
+      alike = in_shown rows places first has.0 ∙ ap (λ p. get_or rows p []) has.1 ∙ sym (in_shown rows places at within);
+      least = λ other below same.
+          let there : other < length places = subst (λ n. other < n) size below in
+          let one : get_or places other 0 ≡ row = same_row rows table.kept.once (get_or places other 0) row (table.within other 0 there) (table.within at 0 within)
+          (sym (in_shown rows places other there) ∙ same ∙ in_shown rows places at within) in
+          subst (λ p. get_or firsts p 0 ≤ other) one (table.firsts_are.least other there);
+    }
+
+-- and it is the first of the records that are seen
+pub first_seen : (rows : List Record) (firsts places : List ℕ) (now : List Record) (at first : ℕ) → IsTable rows firsts places → shown rows places ≡ now → at < length now → first ≡ get_or firsts (get_or places at 0) 0 → IsFirst now at first
+first_seen rows firsts places now at first table is within told =
+    let inside : at < length places = subst (λ n. at < n) (sym (ap length is) ∙ long_shown rows places) within in
+    subst (λ records. IsFirst records at first) is (subst (λ f. IsFirst (shown rows places) at f) (sym told) (table_first rows firsts places at table inside))
+
+-- ---- a dimension of a lexicon
+
+pub in_column : (entries : List Entry) (n dim : ℕ) → n < length entries → get_or (column dim entries) n [] ≡ get_or (get_or entries n []) dim []
+in_column entries n dim within = get_or-map (λ e. get_or e dim []) entries n [] [] within
+
+pub column_first : (lexicon : Lexicon) (dim number first : ℕ) → number < length lexicon.entries → IsFirst (column dim lexicon.entries) number first → (first < length lexicon.entries) × IsFirstAlike lexicon dim number first
+column_first lexicon dim number first within is =
+    let entries = lexicon.entries in
+    let size : length (column dim entries) ≡ length entries = length-map entries (λ e. get_or e dim []) in
+    let below : first < length entries = subst (λ n. first < n) size is.within in (
+      below,
+      record {
+        alike = sym (in_column entries first dim below) ∙ is.alike ∙ in_column entries number dim within;
+        least = λ other inside same. is.least other (subst (λ n. other < n) (sym size) inside) (in_column entries other dim inside ∙ same ∙ sym (in_column entries number dim within));
+      },
+    )
