@@ -14,6 +14,7 @@ mod numbers;
 mod parts;
 mod places;
 mod problem;
+mod rows;
 mod sizes;
 
 pub use analysis::{Analysis, Edge, is_before};
@@ -22,3 +23,4 @@ pub use names::{principle_name, principle_named};
 pub use numbers::Nums;
 pub use parts::{AttrPlan, DimPlan, Feat, Group, Parts, Principle, SentenceWord, Shown};
 pub use problem::Problem;
+pub use rows::Rows;

@@ -1,6 +1,6 @@
 //! The parts of a compiled sentence.
 
-use crate::numbers::Nums;
+use crate::rows::Rows;
 use xdg_base::{AttrId, DimId, EntryNo, LabelId, List, Text};
 
 /// A word of the sentence.
@@ -39,7 +39,7 @@ pub struct DimPlan {
 /// numbers of its cardinality or the members of its set there.
 #[derive(Debug, Drop)]
 pub struct Feat {
-    pub rows: List<Nums>,
+    pub rows: Rows,
 }
 
 /// A principle (Debusmann 2006, chapters 4 and 7). D is its dimension, D1 and D2 are its first and second one; u and v are
