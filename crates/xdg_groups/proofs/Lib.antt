@@ -3,6 +3,7 @@ mod Cardinalities
 mod Calling
 mod Forms
 mod Lists
+mod Kept
 mod Dimensions
 mod Named
 mod Values

@@ -1,15 +1,16 @@
-//! The features of entries as rows of numbers.
+//! The features of entries as rows of numbers, compiled once for each record.
 
-ghost use Rattle.std.specs.Prelude.{◌≡◌, ◌<◌, [], ◌∷◌, length, map, get_or, All, IfOk};
+ghost use Rattle.std.specs.Prelude.{◌≡◌, ◌<◌, [], ◌∷◌, length, map, get_or, All, IfOk, OnOk};
 ghost use Rattle.xdg_domain.specs.declared.values.Value.{out-Value};
 ghost use Rattle.xdg_groups.specs.Features as features;
-ghost use Rattle.xdg_groups.specs.Rows.{feature_in, features_in_record, features_by_number};
+ghost use Rattle.xdg_groups.specs.Rows.{record_of, feature_in, features_in_record, features_by_number, AreKept};
 
+use indexmap::IndexMap;
 use std::alloc::{AllocError, Global};
 use xdg_base::{EntryNo, List};
 use xdg_domain::{CardMap, CardSet, Fields, SetOf, Value, ValueMap};
 use xdg_packed::Packed;
-use xdg_problem::{Feat, Nums};
+use xdg_problem::{Feat, Nums, Rows};
 
 /// The numbers of a cardinality.
 fn cards_row(alloc: Global, cards: &CardSet) -> Result<Nums, AllocError>
@@ -88,6 +89,15 @@ fn value_rows(alloc: Global, value: &Value) -> Result<List<Nums>, AllocError>
     }
 }
 
+/// The feature with these rows.
+fn feature_of(alloc: Global, rows: List<Nums>) -> Result<Feat, AllocError>
+    ensures { IfOk result (λ made. made ≡ record { rows = rows }) }
+{
+    Ok(Feat {
+        rows: Rows::of(alloc, rows)?,
+    })
+}
+
 /// The feature with that place, as a record has it.
 fn feature(alloc: Global, fields: &Fields, place: usize) -> Result<Feat, AllocError>
     ensures { IfOk result (λ made. made ≡ feature_in fields.now place) }
@@ -95,12 +105,10 @@ fn feature(alloc: Global, fields: &Fields, place: usize) -> Result<Feat, AllocEr
     for said in fields.as_slice() {
         if said.0 as usize == place {
             let rows = value_rows(alloc, &said.1)?;
-            return Ok(Feat { rows });
+            return feature_of(alloc, rows);
         }
     }
-    Ok(Feat {
-        rows: List::new(alloc),
-    })
+    feature_of(alloc, List::new(alloc))
 }
 
 /// The features with these places, as a record has them.
@@ -118,27 +126,71 @@ fn record_features(
     Ok(made)
 }
 
-/// The features with these places of each of the entries of a node, for one used dimension.
+/// The same features once more. Their rows are shared and not copied.
+fn shared_features(alloc: Global, features: &[Feat]) -> Result<List<Feat>, AllocError>
+    ensures { IfOk result (λ made. made ≡ features.now) }
+{
+    let mut made = List::new(alloc);
+    for feature in features {
+        made.push(Feat {
+            rows: feature.rows.share()?,
+        })?;
+    }
+    Ok(made)
+}
+
+/// The features with these places of an entry, for one used dimension. What is kept are the features of the records that came
+/// before, each under the number of the first entry with that record. The entry shares what is kept for its record; a record
+/// that comes first is compiled and kept.
+fn entry_features(
+    alloc: Global,
+    packed: &Packed,
+    dim: usize,
+    places: &[usize],
+    no: EntryNo,
+    kept: &mut IndexMap<u32, List<Feat>>,
+) -> Result<List<Feat>, AllocError>
+    requires entry { no.0 < length packed.now.entries }
+    requires dim { dim < length (get_or packed.now.entries no.0 []) }
+    requires kept { AreKept packed.now.entries dim places.now kept.old.entries }
+    ensures features { IfOk result (λ made. made ≡ features_in_record places.now (record_of packed.now.entries dim no.0)) }
+    ensures kept { OnOk result (AreKept packed.now.entries dim places.now kept.new.entries) }
+{
+    let first = packed.first_alike(no, dim).0;
+    if let Some(features) = kept.get(&first) {
+        return shared_features(alloc, features.as_slice());
+    }
+    let fields = packed.entry(no).fields(dim);
+    let made = record_features(alloc, fields, places)?;
+    let shared = shared_features(alloc, made.as_slice())?;
+    kept.insert(first, made)?;
+    Ok(shared)
+}
+
+/// The features with these places of each of the entries of a node, for one used dimension, with what is kept of records.
 fn node_features(
     alloc: Global,
     packed: &Packed,
     dim: usize,
     places: &[usize],
     numbers: &[EntryNo],
+    kept: &mut IndexMap<u32, List<Feat>>,
 ) -> Result<List<List<Feat>>, AllocError>
     requires dim { All (λ entry. dim < length entry) packed.now.entries }
     requires numbers { All (λ no. no.0 < length packed.now.entries) numbers.now }
-    ensures { IfOk result (λ made. made ≡ features_by_number packed.now.entries dim places.now numbers.now) }
+    requires kept { AreKept packed.now.entries dim places.now kept.old.entries }
+    ensures features { IfOk result (λ made. made ≡ features_by_number packed.now.entries dim places.now numbers.now) }
+    ensures kept { OnOk result (AreKept packed.now.entries dim places.now kept.new.entries) }
 {
     let mut made = List::new(alloc);
     for no in numbers {
-        let fields = packed.entry(*no).fields(dim);
-        made.push(record_features(alloc, fields, places)?)?;
+        made.push(entry_features(alloc, packed, dim, places, *no, kept)?)?;
     }
     Ok(made)
 }
 
-/// The same of the entries of each node.
+/// The same of the entries of each node. Each record is compiled once, and all entries that have it share its rows. The time is
+/// linear in the number of candidates and in what their different records say.
 pub(crate) fn all_features(
     alloc: Global,
     packed: &Packed,
@@ -151,8 +203,9 @@ pub(crate) fn all_features(
     ensures { IfOk result (λ made. made ≡ map (features_by_number packed.now.entries dim places.now) candidates.now) }
 {
     let mut made = List::new(alloc);
+    let mut kept = IndexMap::new(alloc);
     for numbers in candidates {
-        made.push(node_features(alloc, packed, dim, places, numbers.as_slice())?)?;
+        made.push(node_features(alloc, packed, dim, places, numbers.as_slice(), &mut kept)?)?;
     }
     Ok(made)
 }
