@@ -130,13 +130,13 @@ fn record_features(
 fn shared_features(alloc: Global, features: &[Feat]) -> Result<List<Feat>, AllocError>
     ensures { IfOk result (λ made. made ≡ features.now) }
 {
-    let mut made = List::new(alloc);
+    let mut made = Vec::with_capacity(alloc, features.len())?;
     for feature in features {
         made.push(Feat {
             rows: feature.rows.share()?,
         })?;
     }
-    Ok(made)
+    Ok(List::from_vec(made))
 }
 
 /// The features with these places of an entry, for one used dimension. What is kept are the features of the records that came
