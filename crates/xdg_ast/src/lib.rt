@@ -7,8 +7,6 @@ mod grammar;
 mod names;
 mod params;
 mod terms;
-#[cfg(test)]
-mod tests;
 mod types;
 
 pub use comparing::same;

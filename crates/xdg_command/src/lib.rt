@@ -5,8 +5,6 @@ mod commands;
 mod matching;
 mod reading;
 mod syntax;
-#[cfg(test)]
-mod tests;
 mod values;
 
 pub use commands::{Command, ParseOptions, TextForm};

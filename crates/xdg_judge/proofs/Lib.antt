@@ -14,4 +14,3 @@ pub mod Judging
 pub mod Asked
 pub mod Guards
 pub mod Skipping
-pub mod Small

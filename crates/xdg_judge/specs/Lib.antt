@@ -5,4 +5,3 @@ pub mod Joining
 pub mod Searching
 pub mod Verdicts
 pub mod Views
-pub mod Examples

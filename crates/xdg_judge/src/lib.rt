@@ -10,8 +10,6 @@ mod paths;
 mod reads;
 mod search;
 mod skips;
-#[cfg(test)]
-mod tests;
 mod verdict;
 mod view;
 

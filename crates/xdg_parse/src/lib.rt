@@ -10,8 +10,6 @@ mod names;
 mod parsing;
 mod statements;
 mod terms;
-#[cfg(test)]
-mod tests;
 mod types;
 
 pub use parsing::parse;

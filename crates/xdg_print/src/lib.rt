@@ -5,8 +5,6 @@ mod expressions;
 mod printer;
 mod statements;
 mod terms;
-#[cfg(test)]
-mod tests;
 mod types;
 mod words;
 

@@ -6,6 +6,8 @@ mod arguments;
 #[cfg(test)]
 mod checked;
 #[cfg(test)]
+mod commands;
+#[cfg(test)]
 mod conditions;
 #[cfg(test)]
 mod entries;
@@ -18,4 +20,10 @@ mod grammars;
 #[cfg(test)]
 mod judged;
 #[cfg(test)]
+mod parsed;
+#[cfg(test)]
 mod principles;
+#[cfg(test)]
+mod printed;
+#[cfg(test)]
+mod trees;

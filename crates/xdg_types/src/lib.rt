@@ -8,8 +8,6 @@ mod dimensions;
 mod graph;
 mod kinds;
 mod leading;
-#[cfg(test)]
-mod name_tests;
 mod names;
 mod repeats;
 mod resolving;

@@ -1,6 +1,5 @@
 //! Small grammars and their canonical texts.
 
-use crate::print;
 use std::alloc::{AllocError, Global};
 use std::test::Fail;
 use xdg_ast::{
@@ -8,6 +7,7 @@ use xdg_ast::{
     Name, Num, Pair, Spanned, StatementKind, Term, TermKind, TypeKind, TypeTerm,
 };
 use xdg_base::{Boxed, List, Span, Text};
+use xdg_print::print;
 
 const NOWHERE: Span = Span { start: 0, end: 0 };
 

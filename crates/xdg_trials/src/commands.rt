@@ -2,9 +2,9 @@
 //!
 //! A table is one text: each of its rows has the words, an arrow and what they say, or `none`. An empty word is written `_`.
 
-use crate::{Command, ParseOptions, TextForm, command};
 use std::alloc::{AllocError, Global};
 use std::test::Fail;
+use xdg_command::{Command, ParseOptions, TextForm, command};
 
 /// What the rows of one column say, worked out by hand.
 const ROWS: &str = "\

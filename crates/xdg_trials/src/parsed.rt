@@ -2,11 +2,11 @@
 
 ghost use Rattle.std.specs.Prelude.{◌<◌, ◌^◌, length};
 
-use crate::parse;
 use std::alloc::{AllocError, Global};
 use std::test::Fail;
 use xdg_base::{Stop, number};
 use xdg_lex::tokens;
+use xdg_parse::parse;
 
 /// The grammar of a text, or the refusal.
 fn shown(alloc: Global, text: &str) -> Result<String, AllocError>

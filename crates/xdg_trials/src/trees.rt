@@ -1,13 +1,11 @@
 //! Small grammars that differ in one respect each.
 
-use crate::expressions::ExprKind;
-use crate::grammar::{ClassParam, DimPartKind, Grammar, Statement, StatementKind};
-use crate::names::{Name, Pair, Spanned};
-use crate::terms::{CardKind, ElemKind, Term, TermKind};
-use crate::types::TypeKind;
-use crate::{Params, same};
 use std::alloc::{AllocError, Global};
 use std::test::Fail;
+use xdg_ast::{
+    CardKind, ClassParam, DimPartKind, ElemKind, ExprKind, Grammar, Name, Pair, Params, Spanned,
+    Statement, StatementKind, Term, TermKind, TypeKind, same,
+};
 use xdg_base::{Boxed, List, Span, Text};
 
 /// What is changed.
