@@ -49,6 +49,20 @@ stairs_more from k now next x more_text all more long counted steps grown one sa
 pub stairs_done : (from k size : ℕ) (all : List (List ℕ)) → size ≤ k → k ≤ size → size ≤ 64 → length all ≡ k → Steps from all → IsDomain (shape (t.Domain all))
 stairs_done from k size all ended within few counted steps = subst IsDomain (sym (shape_domain all)) (omega (arith, ended, within, few, counted), steps_differ from all steps)
 
+-- a domain is a type of its own, and sets are made of it
+pub domain_alone : (s : Shape) → IsDomain s → IsSmall s × IsType s
+domain_alone (domain ts) h = (h, h)
+domain_alone (tuple ss) h = absurd h
+domain_alone truth h = absurd h
+domain_alone integer h = absurd h
+domain_alone text h = absurd h
+domain_alone (set s) h = absurd h
+domain_alone (iset s) h = absurd h
+domain_alone card h = absurd h
+domain_alone (valency k) h = absurd h
+domain_alone (mapping k u) h = absurd h
+domain_alone (fields fs) h = absurd h
+
 stairs_are : (from size : ℕ) (s : Shape) → IsStairs from size s → (length (constants s) ≡ size) × Steps from (constants s)
 stairs_are from size (domain ts) h = h
 stairs_are from size (tuple ss) h = absurd h

@@ -1,8 +1,9 @@
 //! The default of each type, and the numbers of tuples.
 
-ghost use Rattle.std.specs.Prelude.{◌≡◌, ◌≤◌, ◌+◌, ◌*◌, [], ◌∷◌, IfOk};
+ghost use Rattle.std.specs.Prelude.{◌≡◌, ◌<◌, ◌≤◌, ◌+◌, ◌*◌, [], ◌∷◌, IfOk};
 ghost use Rattle.xdg_domain.specs.Shapes.{shape, sizes_in, count, IsDomain, IsSmall, IsTupleType, IsType, IsMapped};
 ghost use Rattle.xdg_domain.specs.Samples.{IsStairs};
+ghost use Rattle.xdg_domain.specs.Tuples.{InRange};
 
 use super::*;
 use std::alloc::{AllocError, Global};
@@ -14,6 +15,8 @@ fn stairs(alloc: Global, from: u8, size: u8) -> Result<Ty, AllocError>
     requires { size ≤ 64 }
     ensures stairs { IfOk result (λ ty. IsStairs from size (shape ty)) }
     ensures domain { IfOk result (λ ty. IsDomain (shape ty)) }
+    ensures small { IfOk result (λ ty. IsSmall (shape ty)) }
+    ensures right { IfOk result (λ ty. IsType (shape ty)) }
 {
     let mut text = Text::new(alloc);
     for _i in 0..from {
@@ -61,22 +64,39 @@ fn triple(alloc: Global) -> Result<Ty, AllocError>
     Ok(Ty::Tuple(fields))
 }
 
+/// Whether the tuple with that number has these constants, and they have that number.
+fn is_tuple(ty: &Ty, number: u16, constants: &[u8]) -> bool
+    requires tuple { IsTupleType (shape ty.now) }
+    requires range { InRange (sizes_in (shape ty.now)) constants.now }
+    requires below { number < count (shape ty.now) }
+{
+    tuple_index(ty, constants) == number && has_constants(&tuple_of(ty, number), constants)
+}
+
+/// Whether the tuple has these constants.
+fn has_constants(tuple: &Tuple<'_>, constants: &[u8]) -> bool {
+    if tuple.len() != constants.len() {
+        return false;
+    }
+    for (field, constant) in constants.iter().enumerate() {
+        if tuple.at(field) != *constant {
+            return false;
+        }
+    }
+    true
+}
+
 #[test]
 fn twelve_tuples(rt: HostRuntime) -> Result<(), Fail> {
     let ty = triple(rt.alloc())?;
     assert_eq!(rt; count(&ty), 12);
-    for a in 0..2u8 {
-        for b in 0..3u8 {
-            for c in 0..2u8 {
-                let number = tuple_index(&ty, [a, b, c].as_slice());
-                assert_eq!(rt; number, u16::from(a) * 6 + u16::from(b) * 2 + u16::from(c));
-                let tuple = tuple_of(&ty, number);
-                assert_eq!(rt; tuple.len(), 3);
-                assert_eq!(rt; tuple.at(0), a);
-                assert_eq!(rt; tuple.at(1), b);
-                assert_eq!(rt; tuple.at(2), c);
-            }
-        }
+    for number in 0..12u16 {
+        let constants = [
+            (number / 6) as u8,
+            (number / 2 % 3) as u8,
+            (number % 2) as u8,
+        ];
+        assert_eq!(rt; is_tuple(&ty, number, constants.as_slice()), true);
     }
     Ok(())
 }
@@ -85,75 +105,72 @@ fn twelve_tuples(rt: HostRuntime) -> Result<(), Fail> {
 fn most_tuples(rt: HostRuntime) -> Result<(), Fail> {
     let ty = pair(rt.alloc(), 32, 32)?;
     assert_eq!(rt; count(&ty), 1024);
-    assert_eq!(rt; tuple_index(&ty, [31, 31].as_slice()), 1023);
+    assert_eq!(rt; is_tuple(&ty, 1023, [31, 31].as_slice()), true);
     assert_eq!(rt; tuple_index(&ty, [0, 31].as_slice()), 31);
     assert_eq!(rt; tuple_index(&ty, [31, 0].as_slice()), 992);
-    let tuple = tuple_of(&ty, 1023);
-    assert_eq!(rt; tuple.len(), 2);
-    assert_eq!(rt; tuple.at(0), 31);
-    assert_eq!(rt; tuple.at(1), 31);
     Ok(())
+}
+
+/// The default of a type, printed.
+fn told(alloc: Global, ty: Ty) -> Result<String, OutOfMemory>
+    requires { IsType (shape ty) }
+{
+    let value = default_of(alloc, &ty)?;
+    Ok(format!(in alloc; "{value:?}")?)
+}
+
+/// Sets of a domain or of tuples, joined by union.
+fn set_of(alloc: Global, of: Ty) -> Result<Ty, AllocError>
+    requires { IsSmall (shape of) }
+    ensures right { IfOk result (λ ty. IsType (shape ty)) }
+    ensures mapped { IfOk result (λ ty. IsMapped (shape ty)) }
+{
+    Ok(Ty::Set(Boxed::new(alloc, of)?))
+}
+
+/// Sets of a domain or of tuples, joined by intersection.
+fn iset_of(alloc: Global, of: Ty) -> Result<Ty, AllocError>
+    requires { IsSmall (shape of) }
+    ensures { IfOk result (λ ty. IsType (shape ty)) }
+{
+    Ok(Ty::ISet(Boxed::new(alloc, of)?))
 }
 
 #[test]
 fn plain_types_have_none(rt: HostRuntime) -> Result<(), Fail> {
-    let domain = stairs(rt.alloc(), 0, 3)?;
-    let tuple = pair(rt.alloc(), 2, 3)?;
-    assert_eq!(rt; default_of(rt.alloc(), &Ty::Bool)?.is_none(), true);
-    assert_eq!(rt; default_of(rt.alloc(), &Ty::Int)?.is_none(), true);
-    assert_eq!(rt; default_of(rt.alloc(), &Ty::Str)?.is_none(), true);
-    assert_eq!(rt; default_of(rt.alloc(), &domain)?.is_none(), true);
-    assert_eq!(rt; default_of(rt.alloc(), &tuple)?.is_none(), true);
+    let alloc = rt.alloc();
+    assert_eq!(rt; told(alloc, Ty::Bool)?.as_str(), "None");
+    assert_eq!(rt; told(alloc, Ty::Int)?.as_str(), "None");
+    assert_eq!(rt; told(alloc, Ty::Str)?.as_str(), "None");
+    assert_eq!(rt; told(alloc, stairs(alloc, 0, 3)?)?.as_str(), "None");
+    assert_eq!(rt; told(alloc, pair(alloc, 2, 3)?)?.as_str(), "None");
     Ok(())
-}
-
-/// Whether the default of the type is the set of these numbers.
-fn is_set(alloc: Global, ty: &Ty, numbers: &[u16]) -> Result<bool, OutOfMemory>
-    requires { IsType (shape ty.now) }
-{
-    match default_of(alloc, ty)? {
-        None => Ok(false),
-        Some(value) => Ok(has_members(&value, numbers)),
-    }
-}
-
-/// Whether the value is the set of these numbers.
-fn has_members(value: &Value, numbers: &[u16]) -> bool {
-    let Value::Set(members) = value else {
-        return false;
-    };
-    members.as_slice() == numbers
-}
-
-/// Whether the value allows all numbers.
-fn allows_all(value: &Value) -> bool {
-    let Value::Card(cards) = value else {
-        return false;
-    };
-    cards.equals(&CardSet::all())
 }
 
 #[test]
 fn sets(rt: HostRuntime) -> Result<(), Fail> {
     let alloc = rt.alloc();
-    let set = Ty::Set(Boxed::new(alloc, stairs(alloc, 0, 3)?)?);
-    assert_eq!(rt; is_set(alloc, &set, [].as_slice())?, true);
-    let full = Ty::ISet(Boxed::new(alloc, stairs(alloc, 0, 3)?)?);
-    assert_eq!(rt; is_set(alloc, &full, [0, 1, 2].as_slice())?, true);
-    let tuples = Ty::ISet(Boxed::new(alloc, pair(alloc, 2, 3)?)?);
     assert_eq!(rt;
-        is_set(alloc, &tuples, [0, 1, 2, 3, 4, 5].as_slice())?,
-        true
+        told(alloc, set_of(alloc, stairs(alloc, 0, 3)?)?)?.as_str(),
+        "Some(Set(SetOf { numbers: [] }))"
+    );
+    assert_eq!(rt;
+        told(alloc, iset_of(alloc, stairs(alloc, 0, 3)?)?)?.as_str(),
+        "Some(Set(SetOf { numbers: [0, 1, 2] }))"
+    );
+    assert_eq!(rt;
+        told(alloc, iset_of(alloc, pair(alloc, 2, 3)?)?)?.as_str(),
+        "Some(Set(SetOf { numbers: [0, 1, 2, 3, 4, 5] }))"
     );
     Ok(())
 }
 
 #[test]
 fn cardinalities(rt: HostRuntime) -> Result<(), Fail> {
-    match default_of(rt.alloc(), &Ty::Card)? {
-        None => assert_eq!(rt; true, false),
-        Some(value) => assert_eq!(rt; allows_all(&value), true),
-    }
+    assert_eq!(rt;
+        told(rt.alloc(), Ty::Card)?.as_str(),
+        "Some(Card(CardSet { bits: 340282366920938463463374607431768211455 }))"
+    );
     Ok(())
 }
 
@@ -190,120 +207,54 @@ fn record(alloc: Global, of: Ty) -> Result<Ty, AllocError>
     Ok(Ty::Rec(fields))
 }
 
-/// Whether the value is such a valency of that many keys: the number 0 alone for each, and no more.
-fn zero_for_each(value: &Value, keys: u8) -> bool {
-    let Value::Valency(map) = value else {
-        return false;
-    };
-    for key in 0..keys {
-        match map.get(key) {
-            None => return false,
-            Some(cards) => {
-                if !cards.equals(&CardSet::one(0)) {
-                    return false;
-                }
-            }
-        }
-    }
-    map.get(keys).is_none()
-}
-
-/// Whether the value is a record of one field that is such a map.
-fn one_field(value: &Value) -> bool {
-    let Value::Rec(fields) = value else {
-        return false;
-    };
-    for (place, part) in fields.as_slice() {
-        if *place != 0 || !twice_zero(part, 3, 2) {
-            return false;
-        }
-    }
-    fields.len() == 1
-}
-
 #[test]
 fn valencies(rt: HostRuntime) -> Result<(), Fail> {
     let alloc = rt.alloc();
-    match default_of(alloc, &valency(alloc, 3)?)? {
-        None => assert_eq!(rt; true, false),
-        Some(value) => assert_eq!(rt; zero_for_each(&value, 3), true),
-    }
+    assert_eq!(rt;
+        told(alloc, valency(alloc, 3)?)?.as_str(),
+        "Some(Valency(CardMap { entries: [(0, CardSet { bits: 1 }), (1, CardSet { bits: 1 }), (2, CardSet { bits: 1 })] }))"
+    );
     Ok(())
 }
+
+/// A record of maps of maps of valencies, with 3, 2 and 3 keys.
+fn mapped_twice(alloc: Global) -> Result<Ty, AllocError>
+    ensures { IfOk result (λ ty. IsType (shape ty)) }
+{
+    let inner = map_of(alloc, 2, valency(alloc, 3)?)?;
+    record(alloc, map_of(alloc, 3, inner)?)
+}
+
+/// Its default, printed: the number 0 alone for each key.
+const MAPPED_TWICE: &str = "Some(Rec(List { items: [(0, Map(List { items: [\
+(0, Map(List { items: [\
+(0, Valency(CardMap { entries: [(0, CardSet { bits: 1 }), (1, CardSet { bits: 1 }), (2, CardSet { bits: 1 })] })), \
+(1, Valency(CardMap { entries: [(0, CardSet { bits: 1 }), (1, CardSet { bits: 1 }), (2, CardSet { bits: 1 })] }))] })), \
+(1, Map(List { items: [\
+(0, Valency(CardMap { entries: [(0, CardSet { bits: 1 }), (1, CardSet { bits: 1 }), (2, CardSet { bits: 1 })] })), \
+(1, Valency(CardMap { entries: [(0, CardSet { bits: 1 }), (1, CardSet { bits: 1 }), (2, CardSet { bits: 1 })] }))] })), \
+(2, Map(List { items: [\
+(0, Valency(CardMap { entries: [(0, CardSet { bits: 1 }), (1, CardSet { bits: 1 }), (2, CardSet { bits: 1 })] })), \
+(1, Valency(CardMap { entries: [(0, CardSet { bits: 1 }), (1, CardSet { bits: 1 }), (2, CardSet { bits: 1 })] }))] }))] }))] }))";
 
 #[test]
 fn records(rt: HostRuntime) -> Result<(), Fail> {
     let alloc = rt.alloc();
-    let inner = map_of(alloc, 2, valency(alloc, 3)?)?;
-    let ty = record(alloc, map_of(alloc, 3, inner)?)?;
-    match default_of(alloc, &ty)? {
-        None => assert_eq!(rt; true, false),
-        Some(value) => assert_eq!(rt; one_field(&value), true),
-    }
+    assert_eq!(rt; told(alloc, mapped_twice(alloc)?)?.as_str(), MAPPED_TWICE);
     let plain = record(alloc, record(alloc, Ty::Int)?)?;
-    assert_eq!(rt; default_of(alloc, &plain)?.is_none(), true);
+    assert_eq!(rt; told(alloc, plain)?.as_str(), "None");
     Ok(())
-}
-
-/// Whether the value maps so many keys, from 0 on, each to the empty set.
-fn empty_for_each(value: &Value, keys: u8) -> bool {
-    let Value::Map(all) = value else {
-        return false;
-    };
-    let mut next = 0u8;
-    for (key, part) in all.as_slice() {
-        let Value::Set(members) = part else {
-            return false;
-        };
-        if *key != next || !members.as_slice().is_empty() {
-            return false;
-        }
-        next = next.saturating_add(1);
-    }
-    next == keys
 }
 
 #[test]
 fn map_of_sets(rt: HostRuntime) -> Result<(), Fail> {
     let alloc = rt.alloc();
-    let set = Ty::Set(Boxed::new(alloc, stairs(alloc, 0, 3)?)?);
-    let ty = map_of(alloc, 2, set)?;
-    match default_of(alloc, &ty)? {
-        None => assert_eq!(rt; true, false),
-        Some(value) => assert_eq!(rt; empty_for_each(&value, 2), true),
-    }
+    let ty = map_of(alloc, 2, set_of(alloc, stairs(alloc, 0, 3)?)?)?;
+    assert_eq!(rt;
+        told(alloc, ty)?.as_str(),
+        "Some(Map(List { items: [(0, Set(SetOf { numbers: [] })), (1, Set(SetOf { numbers: [] }))] }))"
+    );
     Ok(())
-}
-
-/// Whether the value maps each of so many keys to a map of so many keys, and each of these to the
-/// number 0 alone for each of three keys.
-fn twice_zero(value: &Value, outer: u8, inner: u8) -> bool {
-    let Value::Map(all) = value else {
-        return false;
-    };
-    let mut next = 0u8;
-    for (key, part) in all.as_slice() {
-        if *key != next || !once_zero(part, inner) {
-            return false;
-        }
-        next = next.saturating_add(1);
-    }
-    next == outer
-}
-
-/// The same of the inner maps.
-fn once_zero(value: &Value, keys: u8) -> bool {
-    let Value::Map(all) = value else {
-        return false;
-    };
-    let mut next = 0u8;
-    for (key, part) in all.as_slice() {
-        if *key != next || !zero_for_each(part, 3) {
-            return false;
-        }
-        next = next.saturating_add(1);
-    }
-    next == keys
 }
 
 /// A map of maps, so deep, of 64 keys each.
@@ -317,12 +268,22 @@ fn nested(alloc: Global, depth: u8) -> Result<Ty, AllocError>
     Ok(ty)
 }
 
+/// How many parts the default of such a map has.
+fn parts_of_nested(alloc: Global, depth: u8) -> Result<u64, AllocError> {
+    Ok(parts(&nested(alloc, depth)?))
+}
+
+/// Whether the default of such a map is refused.
+fn is_refused(alloc: Global, depth: u8) -> Result<bool, AllocError> {
+    Ok(default_of(alloc, &nested(alloc, depth)?).is_err())
+}
+
 #[test]
 fn too_many_parts(rt: HostRuntime) -> Result<(), Fail> {
-    let ty = nested(rt.alloc(), 12)?;
-    assert_eq!(rt; parts(&ty), u64::MAX);
-    assert_eq!(rt; default_of(rt.alloc(), &ty).is_err(), true);
-    assert_eq!(rt; parts(&nested(rt.alloc(), 4)?) > MOST_PARTS, true);
-    assert_eq!(rt; parts(&nested(rt.alloc(), 2)?), 4161);
+    let alloc = rt.alloc();
+    assert_eq!(rt; parts_of_nested(alloc, 12)?, u64::MAX);
+    assert_eq!(rt; is_refused(alloc, 12)?, true);
+    assert_eq!(rt; parts_of_nested(alloc, 4)? > MOST_PARTS, true);
+    assert_eq!(rt; parts_of_nested(alloc, 2)?, 4161);
     Ok(())
 }

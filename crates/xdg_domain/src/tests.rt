@@ -1,4 +1,7 @@
+ghost use Rattle.std.specs.Prelude.{◌<◌};
+
 use super::*;
+use std::alloc::{AllocError, Global};
 use std::test::Fail;
 
 #[test]
@@ -16,44 +19,103 @@ fn numbers_in_common(rt: HostRuntime) -> Result<(), Fail> {
     Ok(())
 }
 
+fn union(alloc: Global, one: SetOf, other: SetOf) -> Result<SetOf, AllocError> {
+    one.union(alloc, &other)
+}
+
+fn meet(alloc: Global, one: SetOf, other: SetOf) -> Result<SetOf, AllocError> {
+    one.meet(alloc, &other)
+}
+
+fn listed(alloc: Global, set: SetOf) -> Result<String, AllocError> {
+    format!(in alloc; "{:?}", set.as_slice())
+}
+
+fn one(alloc: Global) -> Result<SetOf, AllocError> {
+    SetOf::of(alloc, [7, 3, 7, 500].as_slice())
+}
+
+fn other(alloc: Global) -> Result<SetOf, AllocError> {
+    SetOf::of(alloc, [8, 500, 3].as_slice())
+}
+
+fn of_either(alloc: Global) -> Result<SetOf, AllocError> {
+    let one = one(alloc)?;
+    union(alloc, one, other(alloc)?)
+}
+
+fn of_both(alloc: Global) -> Result<SetOf, AllocError> {
+    let one = one(alloc)?;
+    meet(alloc, one, other(alloc)?)
+}
+
+fn contains(set: SetOf, number: u16) -> bool {
+    set.contains(number)
+}
+
 #[test]
 fn sets_from_slices(rt: HostRuntime) -> Result<(), Fail> {
-    let one = SetOf::of(rt.alloc(), [7, 3, 7, 500].as_slice())?;
-    let other = SetOf::of(rt.alloc(), [8, 500, 3].as_slice())?;
-    let all = one.union(rt.alloc(), &other)?;
-    assert_eq!(rt; all.as_slice(), [3, 7, 8, 500].as_slice());
-    let both = one.meet(rt.alloc(), &other)?;
-    assert_eq!(rt; both.as_slice(), [3, 500].as_slice());
-    assert_eq!(rt; both.contains(7), false);
-    let full = SetOf::full(rt.alloc(), 3)?;
-    assert_eq!(rt; full.as_slice(), [0, 1, 2].as_slice());
-    assert_eq!(rt; SetOf::none(rt.alloc()).contains(0), false);
+    let alloc = rt.alloc();
+    assert_eq!(rt;
+        listed(alloc, of_either(alloc)?)?.as_str(),
+        "[3, 7, 8, 500]"
+    );
+    assert_eq!(rt; listed(alloc, of_both(alloc)?)?.as_str(), "[3, 500]");
+    assert_eq!(rt; contains(of_both(alloc)?, 7), false);
+    assert_eq!(rt;
+        listed(alloc, SetOf::full(alloc, 3)?)?.as_str(),
+        "[0, 1, 2]"
+    );
+    assert_eq!(rt; contains(SetOf::none(alloc), 0), false);
     Ok(())
+}
+
+fn joined(alloc: Global, one: CardMap, other: CardMap) -> Result<Option<CardMap>, AllocError> {
+    one.join(alloc, &other)
+}
+
+fn printed(alloc: Global, map: Option<CardMap>) -> Result<String, AllocError> {
+    format!(in alloc; "{map:?}")
+}
+
+// The numbers 0 and 1 for the key 4, and all for the key 2.
+fn both_keys(alloc: Global) -> Result<CardMap, AllocError> {
+    let subj = CardMap::said(alloc, 4, CardSet::one(0).with(1))?;
+    let obj = CardMap::said(alloc, 2, CardSet::all())?;
+    Ok(joined(alloc, subj, obj)?.unwrap_or(CardMap::none(alloc)))
+}
+
+// These, where the key 4 has the number too.
+fn and_number(alloc: Global, number: u8) -> Result<Option<CardMap>, AllocError>
+    requires { number < 128 }
+{
+    let both = both_keys(alloc)?;
+    joined(alloc, both, CardMap::said(alloc, 4, CardSet::one(number))?)
+}
+
+fn get(map: CardMap, key: u8) -> Option<CardSet> {
+    map.get(key)
 }
 
 #[test]
 fn maps_joined(rt: HostRuntime) -> Result<(), Fail> {
-    let some = CardSet::one(0).with(1);
-    let subj = CardMap::said(rt.alloc(), 4, some)?;
-    let obj = CardMap::said(rt.alloc(), 2, CardSet::all())?;
-    let none = CardMap::none(rt.alloc());
-    let nothing = none.join(rt.alloc(), &none)?;
+    let alloc = rt.alloc();
+    let nothing = joined(alloc, CardMap::none(alloc), CardMap::none(alloc))?;
     assert_eq!(rt; nothing.is_some(), true);
-    match subj.join(rt.alloc(), &obj)? {
-        None => assert_eq!(rt; true, false),
-        Some(both) => {
-            assert_eq!(rt; both.as_slice().len(), 2);
-            assert_eq!(rt; both.get(3).is_none(), true);
-            assert_eq!(rt; both.get(2).unwrap_or(some).greatest(), 127);
-            let more = CardMap::said(rt.alloc(), 4, CardSet::one(1))?;
-            match both.join(rt.alloc(), &more)? {
-                None => assert_eq!(rt; true, false),
-                Some(last) => assert_eq!(rt; last.get(4).unwrap_or(some).least(), 1),
-            }
-            let other = CardMap::said(rt.alloc(), 4, CardSet::one(2))?;
-            let clash = both.join(rt.alloc(), &other)?;
-            assert_eq!(rt; clash.is_none(), true);
-        }
-    }
+    assert_eq!(rt; both_keys(alloc)?.as_slice().len(), 2);
+    assert_eq!(rt; get(both_keys(alloc)?, 3).is_none(), true);
+    assert_eq!(rt;
+        get(both_keys(alloc)?, 2).map_or(0, |cards| cards.greatest()),
+        127
+    );
+    Ok(())
+}
+
+#[test]
+fn keys_joined_again(rt: HostRuntime) -> Result<(), Fail> {
+    let alloc = rt.alloc();
+    let more = and_number(alloc, 1)?.unwrap_or(CardMap::none(alloc));
+    assert_eq!(rt; get(more, 4).map_or(9, |cards| cards.least()), 1);
+    assert_eq!(rt; and_number(alloc, 2)?.is_none(), true);
     Ok(())
 }

@@ -1,5 +1,5 @@
 use Rattle.std.proofs.Common.{refl, arith}
-use Rattle.xdg_domain.proofs.Stairs.{stairs_more, stairs_done}
+use Rattle.xdg_domain.proofs.Stairs.{stairs_more, stairs_done, domain_alone}
 use Rattle.xdg_domain.proofs.default_tests.stairs.Goals as goal
 
 pub loop-k-preserved : goal.loop-k-preserved
@@ -8,3 +8,9 @@ loop-k-preserved c =
 
 pub returns-clause-domain : goal.returns-clause-domain
 returns-clause-domain c = stairs_done c.args.from c.loop-k._k c.args.size c.loop-k.all c.loop-k-test.false c.loop-k.auto._k-end c.requires c.loop-k.invariant.1 c.loop-k.invariant.2
+
+pub returns-clause-small : goal.returns-clause-small
+returns-clause-small c = (domain_alone _ (stairs_done c.args.from c.loop-k._k c.args.size c.loop-k.all c.loop-k-test.false c.loop-k.auto._k-end c.requires c.loop-k.invariant.1 c.loop-k.invariant.2)).0
+
+pub returns-clause-right : goal.returns-clause-right
+returns-clause-right c = (domain_alone _ (stairs_done c.args.from c.loop-k._k c.args.size c.loop-k.all c.loop-k-test.false c.loop-k.auto._k-end c.requires c.loop-k.invariant.1 c.loop-k.invariant.2)).1
