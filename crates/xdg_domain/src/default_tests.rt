@@ -111,12 +111,18 @@ fn most_tuples(rt: HostRuntime) -> Result<(), Fail> {
     Ok(())
 }
 
-/// The default of a type, printed.
-fn told(alloc: Global, ty: Ty) -> Result<String, OutOfMemory>
+/// Whether this is the default of a type, printed.
+fn tells(alloc: Global, ty: Ty, wanted: &str) -> Result<bool, OutOfMemory>
     requires { IsType (shape ty) }
 {
     let value = default_of(alloc, &ty)?;
-    Ok(format!(in alloc; "{value:?}")?)
+    is_printed(alloc, value, wanted)
+}
+
+/// Whether the value is printed so.
+fn is_printed(alloc: Global, value: Option<Value>, wanted: &str) -> Result<bool, OutOfMemory> {
+    let told = format!(in alloc; "{value:?}")?;
+    Ok(told.as_str() == wanted)
 }
 
 /// Sets of a domain or of tuples, joined by union.
@@ -139,37 +145,49 @@ fn iset_of(alloc: Global, of: Ty) -> Result<Ty, AllocError>
 #[test]
 fn plain_types_have_none(rt: HostRuntime) -> Result<(), Fail> {
     let alloc = rt.alloc();
-    assert_eq!(rt; told(alloc, Ty::Bool)?.as_str(), "None");
-    assert_eq!(rt; told(alloc, Ty::Int)?.as_str(), "None");
-    assert_eq!(rt; told(alloc, Ty::Str)?.as_str(), "None");
-    assert_eq!(rt; told(alloc, stairs(alloc, 0, 3)?)?.as_str(), "None");
-    assert_eq!(rt; told(alloc, pair(alloc, 2, 3)?)?.as_str(), "None");
+    assert!(rt; tells(alloc, Ty::Bool, "None")?);
+    assert!(rt; tells(alloc, Ty::Int, "None")?);
+    assert!(rt; tells(alloc, Ty::Str, "None")?);
+    assert!(rt; tells(alloc, stairs(alloc, 0, 3)?, "None")?);
+    assert!(rt; tells(alloc, pair(alloc, 2, 3)?, "None")?);
     Ok(())
 }
 
 #[test]
 fn sets(rt: HostRuntime) -> Result<(), Fail> {
     let alloc = rt.alloc();
-    assert_eq!(rt;
-        told(alloc, set_of(alloc, stairs(alloc, 0, 3)?)?)?.as_str(),
-        "Some(Set(SetOf { numbers: [] }))"
+    assert!(rt;
+        tells(
+            alloc,
+            set_of(alloc, stairs(alloc, 0, 3)?)?,
+            "Some(Set(SetOf { numbers: [] }))"
+        )?
     );
-    assert_eq!(rt;
-        told(alloc, iset_of(alloc, stairs(alloc, 0, 3)?)?)?.as_str(),
-        "Some(Set(SetOf { numbers: [0, 1, 2] }))"
+    assert!(rt;
+        tells(
+            alloc,
+            iset_of(alloc, stairs(alloc, 0, 3)?)?,
+            "Some(Set(SetOf { numbers: [0, 1, 2] }))"
+        )?
     );
-    assert_eq!(rt;
-        told(alloc, iset_of(alloc, pair(alloc, 2, 3)?)?)?.as_str(),
-        "Some(Set(SetOf { numbers: [0, 1, 2, 3, 4, 5] }))"
+    assert!(rt;
+        tells(
+            alloc,
+            iset_of(alloc, pair(alloc, 2, 3)?)?,
+            "Some(Set(SetOf { numbers: [0, 1, 2, 3, 4, 5] }))"
+        )?
     );
     Ok(())
 }
 
 #[test]
 fn cardinalities(rt: HostRuntime) -> Result<(), Fail> {
-    assert_eq!(rt;
-        told(rt.alloc(), Ty::Card)?.as_str(),
-        "Some(Card(CardSet { bits: 340282366920938463463374607431768211455 }))"
+    assert!(rt;
+        tells(
+            rt.alloc(),
+            Ty::Card,
+            "Some(Card(CardSet { bits: 340282366920938463463374607431768211455 }))"
+        )?
     );
     Ok(())
 }
@@ -210,9 +228,12 @@ fn record(alloc: Global, of: Ty) -> Result<Ty, AllocError>
 #[test]
 fn valencies(rt: HostRuntime) -> Result<(), Fail> {
     let alloc = rt.alloc();
-    assert_eq!(rt;
-        told(alloc, valency(alloc, 3)?)?.as_str(),
-        "Some(Valency(CardMap { entries: [(0, CardSet { bits: 1 }), (1, CardSet { bits: 1 }), (2, CardSet { bits: 1 })] }))"
+    assert!(rt;
+        tells(
+            alloc,
+            valency(alloc, 3)?,
+            "Some(Valency(CardMap { entries: [(0, CardSet { bits: 1 }), (1, CardSet { bits: 1 }), (2, CardSet { bits: 1 })] }))"
+        )?
     );
     Ok(())
 }
@@ -240,9 +261,9 @@ const MAPPED_TWICE: &str = "Some(Rec(List { items: [(0, Map(List { items: [\
 #[test]
 fn records(rt: HostRuntime) -> Result<(), Fail> {
     let alloc = rt.alloc();
-    assert_eq!(rt; told(alloc, mapped_twice(alloc)?)?.as_str(), MAPPED_TWICE);
+    assert!(rt; tells(alloc, mapped_twice(alloc)?, MAPPED_TWICE)?);
     let plain = record(alloc, record(alloc, Ty::Int)?)?;
-    assert_eq!(rt; told(alloc, plain)?.as_str(), "None");
+    assert!(rt; tells(alloc, plain, "None")?);
     Ok(())
 }
 
@@ -250,9 +271,12 @@ fn records(rt: HostRuntime) -> Result<(), Fail> {
 fn map_of_sets(rt: HostRuntime) -> Result<(), Fail> {
     let alloc = rt.alloc();
     let ty = map_of(alloc, 2, set_of(alloc, stairs(alloc, 0, 3)?)?)?;
-    assert_eq!(rt;
-        told(alloc, ty)?.as_str(),
-        "Some(Map(List { items: [(0, Set(SetOf { numbers: [] })), (1, Set(SetOf { numbers: [] }))] }))"
+    assert!(rt;
+        tells(
+            alloc,
+            ty,
+            "Some(Map(List { items: [(0, Set(SetOf { numbers: [] })), (1, Set(SetOf { numbers: [] }))] }))"
+        )?
     );
     Ok(())
 }

@@ -165,10 +165,14 @@ fn value(alloc: Global, text: &str) -> Result<Value, AllocError> {
     field(alloc, u32::from(number(place)), entry(alloc, said)?)
 }
 
-// What both say together, printed.
-fn printed(alloc: Global, ty: Ty, one: Value, other: Value) -> Result<String, AllocError> {
-    let told = join_values(alloc, &ty, &one, &other)?;
+// What is told, printed.
+fn printed(alloc: Global, told: Option<Value>) -> Result<String, AllocError> {
     format!(in alloc; "{told:?}")
+}
+
+// What both values of the type say together, printed.
+fn both(alloc: Global, ty: Ty, one: Value, other: Value) -> Result<String, AllocError> {
+    printed(alloc, join_values(alloc, &ty, &one, &other)?)
 }
 
 // The same of two values of a type that texts stand for.
@@ -176,7 +180,7 @@ fn told(alloc: Global, ty: &str, values: &str) -> Result<String, AllocError> {
     let (one, other) = cut(values, '^');
     let ty = type_of(alloc, ty)?;
     let one = value(alloc, one)?;
-    printed(alloc, ty, one, value(alloc, other)?)
+    both(alloc, ty, one, value(alloc, other)?)
 }
 
 #[test]
