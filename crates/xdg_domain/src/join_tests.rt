@@ -63,13 +63,13 @@ fn by_letter(alloc: Global, of: Ty) -> Result<Ty, AllocError> {
     Ok(Ty::Map(boxed_letters(alloc)?, of))
 }
 
-fn sets_by_letter(alloc: Global) -> Result<Ty, AllocError> {
-    by_letter(alloc, Ty::Set(boxed_letters(alloc)?))
+fn sets(alloc: Global) -> Result<Ty, AllocError> {
+    Ok(Ty::Set(boxed_letters(alloc)?))
 }
 
 // The fields after the first: a set of letters for each letter.
 fn later_field(alloc: Global) -> Result<(Text, Ty), AllocError> {
-    let sets = sets_by_letter(alloc)?;
+    let sets = by_letter(alloc, sets(alloc)?)?;
     Ok((Text::from_str(alloc, "g")?, sets))
 }
 
@@ -88,7 +88,7 @@ fn type_of(alloc: Global, word: &str) -> Result<Ty, AllocError> {
         "bool" => Ok(Ty::Bool),
         "int" => Ok(Ty::Int),
         "string" => Ok(Ty::Str),
-        "set" => Ok(Ty::Set(boxed_letters(alloc)?)),
+        "set" => sets(alloc),
         "iset" => Ok(Ty::ISet(boxed_letters(alloc)?)),
         "valency" => Ok(Ty::Valency(boxed_letters(alloc)?)),
         "map" => by_letter(alloc, Ty::Card),
