@@ -3,6 +3,7 @@
 ghost use Rattle.std.specs.Prelude.{◌≡◌, ℕ, ◌<◌, ◌++◌, [], ◌∷◌, ◌==◌, ◌&&◌, ◌||◌, length, not, false, ◌↔◌, MatchOption, nat_lt};
 ghost use Prim.Native.Nat.{min, max};
 ghost use Rattle.xdg_nodeset.specs.Nodes.{has, IsNodes, with_node, without, union, meet, minus, between};
+ghost use Rattle.xdg_nodeset.specs.Words.{in_words};
 
 use crate::walk::NodeIter;
 use std::marker::Model;
@@ -40,6 +41,17 @@ impl NodeSet {
         ensures nodes { IsNodes result }
     {
         NodeSet { bits: 0 }
+    }
+
+    /// The nodes whose bits are set in two words: the first has those of the nodes below 64, the second those of the next
+    /// 64, each the least node at its lowest bit.
+    pub fn from_words(low: u64, high: u64) -> NodeSet
+        ensures members { (n : ℕ) → has result n ≡ in_words low high n }
+        ensures nodes { IsNodes result }
+    {
+        NodeSet {
+            bits: u128::from(low) | (u128::from(high) << 64),
+        }
     }
 
     /// Whether the node is a member.

@@ -20,3 +20,4 @@ pub mod Problems
 pub mod FirstFour
 pub mod Tries
 pub mod Names
+pub mod Boxes

@@ -1,0 +1,55 @@
+-- Two words side by side, as one number.
+use Rattle.std.proofs.Common.{◌≡◌, ℕ, ◌<◌, ◌≤◌, ◌+◌, ◌-◌, ◌*◌, ◌/◌, ◌%◌, ◌^◌, refl, ap, ap₂, sym, ◌∙◌, arith, inl, inr, bit_or}
+use Rattle.std.specs.Prelude.{Bool, true, false, ◌==◌, cond, nat_lt}
+use Rattle.std.specs.Int.{bit_at}
+use Prim.Native.Nat.{max}
+use Rattle.std.proofs.lemmas.Bool.{cases_lt, lt-ltb, le-ltb}
+use Rattle.std.proofs.lemmas.Nat.{or_lt}
+use Rattle.std.proofs.lemmas.Nat.Bits.{bit_at_or, bit_at_cat_low, bit_at_cat_high, bit_at_above, bit_at-zero, bit_at-lt}
+use Rattle.xdg_nodeset.specs.Nodes.{has, nodes}
+use Rattle.xdg_nodeset.specs.Bits.{is_set, members}
+use Rattle.xdg_nodeset.specs.Words.{in_words}
+use Rattle.xdg_nodeset.proofs.Rising.{has_of, has_beyond}
+
+no_wrap : (high : ℕ) → high < 2 ^ 64 → high * 2 ^ 64 % 2 ^ 128 ≡ high * 2 ^ 64 + 0
+no_wrap high small = omega arith
+
+pub joined_small : (low high : ℕ) → low < 2 ^ 64 → high < 2 ^ 64 → bit_or low (high * 2 ^ 64 % 2 ^ 128) < 2 ^ 128
+joined_small low high l h = or_lt 128 low (high * 2 ^ 64 % 2 ^ 128) (omega arith) (omega arith)
+
+max_zero : (x : ℕ) → max x 0 ≡ x
+max_zero x = omega arith
+
+zero_max : (x : ℕ) → max 0 x ≡ x
+zero_max x = omega arith
+
+joined_low : (low high n : ℕ) → low < 2 ^ 64 → high < 2 ^ 64 → n < 64 → bit_at (bit_or low (high * 2 ^ 64 % 2 ^ 128)) n ≡ bit_at low n
+joined_low low high n l h below =
+    bit_at_or low (high * 2 ^ 64 % 2 ^ 128) n
+    ∙ ap (λ z. max (bit_at low n) (bit_at z n)) (no_wrap high h)
+    ∙ ap (max (bit_at low n)) (bit_at_cat_low high 64 0 n below ∙ bit_at-zero n)
+    ∙ max_zero (bit_at low n)
+
+joined_high : (low high n : ℕ) → low < 2 ^ 64 → high < 2 ^ 64 → 64 ≤ n → bit_at (bit_or low (high * 2 ^ 64 % 2 ^ 128)) n ≡ bit_at high (n - 64)
+joined_high low high n l h above =
+    bit_at_or low (high * 2 ^ 64 % 2 ^ 128) n
+    ∙ ap₂ (λ x z. max x (bit_at z n)) (bit_at_above low 64 n l above) (no_wrap high h)
+    ∙ zero_max (bit_at (high * 2 ^ 64 + 0) n)
+    ∙ bit_at_cat_high high 64 0 n (omega arith) above
+
+joined_bit : (low high n : ℕ) → low < 2 ^ 64 → high < 2 ^ 64 → is_set (bit_or low (high * 2 ^ 64 % 2 ^ 128)) n ≡ in_words low high n
+joined_bit low high n l h = elim (cases_lt n 64) [
+  | inl below ↦ ap (λ z. z == 1) (joined_low low high n l h below) ∙ sym (ap (λ t. cond t (bit_at low n == 1) (bit_at high (n - 64) == 1)) (lt-ltb n 64 below))
+  | inr above ↦ ap (λ z. z == 1) (joined_high low high n l h above) ∙ sym (ap (λ t. cond t (bit_at low n == 1) (bit_at high (n - 64) == 1)) (le-ltb n 64 above))
+]
+
+none_above : (low high n : ℕ) → high < 2 ^ 64 → 128 ≤ n → in_words low high n ≡ false
+none_above low high n h above =
+    ap (λ t. cond t (bit_at low n == 1) (bit_at high (n - 64) == 1)) (le-ltb n 64 (omega (arith, above)))
+    ∙ ap (λ z. z == 1) (bit_at_above high 64 (n - 64) h (omega (arith, above)))
+
+pub joined_has : (low high n : ℕ) → low < 2 ^ 64 → high < 2 ^ 64 → has (members (bit_or low (high * 2 ^ 64 % 2 ^ 128))) n ≡ in_words low high n
+joined_has low high n l h = elim (cases_lt n 128) [
+  | inl below ↦ has_of 128 (is_set (bit_or low (high * 2 ^ 64 % 2 ^ 128))) n below ∙ joined_bit low high n l h
+  | inr above ↦ has_beyond 128 (is_set (bit_or low (high * 2 ^ 64 % 2 ^ 128))) n above ∙ sym (none_above low high n h above)
+]

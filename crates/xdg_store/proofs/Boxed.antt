@@ -1,0 +1,108 @@
+-- Boxes of a shape: the full one, and one from which a value was taken.
+use Rattle.std.proofs.Common.{◌≡◌, ◌≢◌, ℕ, ◌<◌, ◌≤◌, ◌+◌, inl, inr, Bool, true, false, List, [], ◌∷◌, ◌++◌, length, get_or, set, map, replicate, ap, ap₂, sym, ◌∙◌, arith, subst, zero, suc, refl}
+use Rattle.std.specs.Prelude.{sum}
+use Rattle.std.specs.List.{AllByRecursion, flat_map}
+use Rattle.std.proofs.lemmas.Bool.{cases_eq, cases_lt}
+use Rattle.std.proofs.lemmas.List.{length-map, length-replicate, length-set, get_or-set_same, get_or-set_other, get_or_past}
+use Rattle.std.proofs.lemmas.List.Elements.{recursion_from_All}
+use Rattle.std.proofs.lemmas.List.Sums.{sum_by-cons}
+use Rattle.xdg_base.specs.declared.ids.EntryNo.{EntryNo}
+use Rattle.xdg_problem.specs.declared.analysis.Edge.{Edge}
+use Rattle.xdg_problem.specs.declared.parts.AttrPlan.{AttrPlan}
+use Rattle.xdg_problem.specs.declared.parts.DimPlan.{DimPlan}
+use Rattle.xdg_problem.specs.declared.parts.Parts.{Parts}
+use Rattle.xdg_problem.specs.Boxes.{Has, IsBox, full, without}
+use Rattle.xdg_problem.specs.Places.{below, nodes, places}
+use Rattle.xdg_problem.specs.Problems.{AreCandidates, IsAttr, IsDim, IsProblem}
+use Rattle.xdg_problem.specs.Vectors.{attr_sizes, shape}
+use Rattle.xdg_problem.proofs.Ordered.{each_append, each_flat_map, each_map, each_of_all, each_weaker}
+use Rattle.xdg_store.specs.States.{values_in, remaining}
+use Rattle.xdg_store.proofs.Counting.{Filled}
+
+-- ---- what has a value
+
+pub has_decision : (box : List (List Bool)) (d v : ℕ) → Has box d v → d < length box
+has_decision [] d v h = cc
+has_decision (row ∷ box) zero v h = omega arith
+has_decision (row ∷ box) (suc d) v h = let e = has_decision box d v h in omega (arith, e)
+
+pub has_place : (row : List Bool) (v : ℕ) → get_or row v false ≡ true → v < length row
+has_place [] v h = cc
+has_place (x ∷ row) zero h = omega arith
+has_place (x ∷ row) (suc v) h = let e = has_place row v h in omega (arith, e)
+
+-- ---- a value is taken that isn't the last of its decision
+
+kept_beside : (box : List (List Bool)) (d v x : ℕ) → Has box d x → x ≢ v → Has (without box d v) d x
+kept_beside box d v x h n =
+    ap (λ row. get_or row x false) (get_or-set_same box d (set (get_or box d []) v false) [] (has_decision box d x h))
+    ∙ get_or-set_other (get_or box d []) v x false false n ∙ h
+
+kept_elsewhere : (box : List (List Bool)) (d v e x : ℕ) → Has box e x → e ≢ d → Has (without box d v) e x
+kept_elsewhere box d v e x h n = ap (λ row. get_or row x false) (get_or-set_other box d e (set (get_or box d []) v false) [] n) ∙ h
+
+pub filled_taken : (box : List (List Bool)) (d v x : ℕ) → Filled box → Has box d x → x ≢ v → Filled (without box d v)
+filled_taken box d v x f h n e l =
+    let s = length-set box d (set (get_or box d []) v false) in
+    elim (cases_eq e d) [
+      | inl same ↦ (x, subst (λ i. Has (without box d v) i x) (sym same) (kept_beside box d v x h n))
+      | inr other ↦ (let g = f e (omega (arith, l, s)) in (g.0, kept_elsewhere box d v e g.0 g.1 other))
+    ]
+
+-- ---- how many values the decisions have at first
+
+abbrev IsSize : ℕ → Type 0
+IsSize size = (1 ≤ size) × (size ≤ 1024)
+
+candidate_sizes : (parts : Parts) → IsProblem parts → AllByRecursion IsSize (map length parts.candidates)
+candidate_sizes parts p = each_map IsSize length parts.candidates (each_weaker AreCandidates (λ c. IsSize (length c)) parts.candidates (λ c a. (let s = a.some in omega (arith, s), a.most)) (recursion_from_All AreCandidates parts.candidates p.candidates))
+
+value_sizes : (n : ℕ) (plans : List DimPlan) → AllByRecursion IsDim plans → AllByRecursion IsSize (attr_sizes n plans)
+value_sizes n [] a = tt
+value_sizes n (plan ∷ plans) a = each_append IsSize (flat_map (λ node. map (λ (attr : AttrPlan). length attr.values) plan.attrs) (below n)) (attr_sizes n plans)
+    (each_flat_map IsSize (λ node. map (λ (attr : AttrPlan). length attr.values) plan.attrs) 0 n (λ i l m.
+    each_map IsSize (λ (attr : AttrPlan). length attr.values) plan.attrs (each_weaker IsAttr (λ attr. IsSize (length attr.values)) plan.attrs (λ attr b. (let s = b.some in omega (arith, s), b.most)) (recursion_from_All IsAttr plan.attrs a.0.attrs))))
+    (value_sizes n plans a.1)
+
+pub sizes_fit : (parts : Parts) → IsProblem parts → AllByRecursion IsSize (shape parts)
+sizes_fit parts p = each_append IsSize (map length parts.candidates) (attr_sizes (nodes parts) parts.dims ++ map (λ place. 2) (places parts)) (candidate_sizes parts p)
+    (each_append IsSize (attr_sizes (nodes parts) parts.dims) (map (λ place. 2) (places parts)) (value_sizes (nodes parts) parts.dims (recursion_from_All IsDim parts.dims p.dims))
+    (each_map IsSize (λ (place : Edge). 2) (places parts) (each_of_all (λ (place : Edge). IsSize 2) (places parts) (λ place. (omega arith, omega arith)))))
+
+-- ---- the full box
+
+values_full : (size : ℕ) → values_in (replicate size true) ≡ size
+values_full zero = refl
+values_full (suc size) = let e = values_full size in omega (arith, e)
+
+pub remaining_full : (sizes : List ℕ) → remaining (full sizes) ≡ sum sizes
+remaining_full [] = refl
+remaining_full (size ∷ sizes) =
+    let a = values_full size in
+    let b = remaining_full sizes in
+    let c = sum_by-cons (λ x. x) size sizes in
+    omega (arith, a, b, c)
+
+full_sizes : (sizes : List ℕ) → map length (full sizes) ≡ sizes
+full_sizes [] = refl
+full_sizes (size ∷ sizes) = ap₂ (λ x xs. x ∷ xs) (length-replicate size true) (full_sizes sizes)
+
+first_of_full : (size : ℕ) → 1 ≤ size → get_or (replicate size true) 0 false ≡ true
+first_of_full zero l = absurd (omega (arith, l))
+first_of_full (suc size) l = refl
+
+full_filled : (sizes : List ℕ) → AllByRecursion IsSize sizes → (d : ℕ) → d < length sizes → (v : ℕ) × Has (full sizes) d v
+full_filled [] a d l = absurd (omega (arith, l))
+full_filled (size ∷ sizes) a zero l = (0, first_of_full size a.0.0)
+full_filled (size ∷ sizes) a (suc d) l = full_filled sizes a.1 d (omega (arith, l))
+
+pub full_is_box : (parts : Parts) → IsProblem parts → IsBox (shape parts) (full (shape parts))
+full_is_box parts p = record { sizes = full_sizes (shape parts); filled = full_filled (shape parts) (sizes_fit parts p) }
+
+-- ---- a box and its shape
+
+pub length_box : (sizes : List ℕ) (box : List (List Bool)) → IsBox sizes box → length box ≡ length sizes
+length_box sizes box is = sym (length-map box length) ∙ ap length is.sizes
+
+pub box_filled : (sizes : List ℕ) (box : List (List Bool)) → IsBox sizes box → Filled box
+box_filled sizes box is d l = let e = length_box sizes box is in is.filled d (omega (arith, l, e))

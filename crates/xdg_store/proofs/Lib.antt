@@ -1,0 +1,9 @@
+pub mod Bits
+pub mod Separate
+pub mod Located
+pub mod Sizes
+pub mod Apart
+pub mod Counting
+pub mod Boxed
+pub mod Histories
+pub mod Removals

@@ -1,0 +1,5 @@
+pub mod Layout
+pub mod States
+pub mod InRange
+pub mod Change
+pub mod Rows

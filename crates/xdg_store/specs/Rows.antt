@@ -1,0 +1,28 @@
+-- What is taken from words on a trail.
+use Rattle.std.specs.Prelude.{◌≡◌, ℕ, ◌+◌, ◌*◌, ◌/◌, ◌%◌, ◌^◌, ◌<◌, ◌≢◌, true, false, List, ◌∷◌, length, slice_index, slice_set}
+use Rattle.std.specs.Int.{bit_not, w64}
+use lib.Bits.{bit_and}
+use Rattle.xdg_trail.specs.Trailed.{Trailed, past}
+use Rattle.xdg_store.specs.Layout.{is_set}
+use Rattle.xdg_store.specs.declared.change.Change.{Change}
+use Rattle.xdg_store.specs.declared.change.Change.TheVariants as changes
+
+-- the words without a bit
+unfoldable pub cleared : List ℕ → ℕ → List ℕ
+cleared words bit = slice_set words (bit / 64) (bit_and (slice_index words (bit / 64)) (bit_not w64 (1 * 2 ^ (bit % 64) % 2 ^ 64)))
+
+-- a bit was cleared, with one record on the trail
+pub record Clears (old new : Trailed) (bit : ℕ) : Type 0 where
+  pub words : new.words ≡ cleared old.words bit
+  pub past_is : past new ≡ cleared old.words bit ∷ past old
+  pub room : new.spare + length new.records ≡ old.spare + length old.records
+
+-- a row has a bit that is set beside that of a value
+abbrev pub HasOther : List ℕ → ℕ → ℕ → ℕ → Type 0
+HasOther words start size value = (x : ℕ) × (x < size) × (x ≢ value) × (is_set words (start + x) ≡ true)
+
+-- a bit was taken, unless it was not set, or no other bit stood beside it
+abbrev pub Takes : Change → Trailed → Trailed → ℕ → Type 0 → Type 0
+Takes changes.Same old new bit Other = (is_set old.words bit ≡ false) × (new ≡ old)
+Takes changes.Changed old new bit Other = (is_set old.words bit ≡ true) × Other × Clears old new bit
+Takes changes.Emptied old new bit Other = (is_set old.words bit ≡ true) × (Other → ⊥) × (new ≡ old)

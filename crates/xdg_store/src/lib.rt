@@ -1,0 +1,18 @@
+//! The values that a search has left: for each decision on a sentence, which of its values remain, and all that it was
+//! before, on one trail of words.
+//!
+//! Below this crate are words and bits, above it only boxes: for each decision the values that remain.
+#![tactic(auto)]
+
+mod change;
+mod layout;
+mod masks;
+mod rows;
+mod start;
+mod store;
+#[cfg(test)]
+mod tests;
+
+pub use change::Change;
+pub use store::Store;
+pub use xdg_trail::Mark;

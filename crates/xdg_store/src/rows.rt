@@ -1,0 +1,74 @@
+//! Bits on a trail of words.
+
+ghost use Rattle.std.specs.Prelude.{◌≡◌, ◌≢◌, ◌<◌, ◌≤◌, ◌+◌, ◌*◌, ℕ, ◌↔◌, IsTrue, true, length};
+ghost use Rattle.xdg_store.specs.Layout.{is_set};
+ghost use Rattle.xdg_store.specs.Rows.{Clears, HasOther, Takes};
+
+use crate::change::Change;
+use xdg_trail::Trail;
+
+/// Whether a bit is set.
+pub(crate) fn is_set(trail: &Trail, bit: usize) -> bool
+    requires { bit < 64 * length trail.now.words }
+    ensures { result ≡ is_set trail.now.words bit }
+{
+    (trail.word(bit / 64) >> (bit % 64)) & 1 == 1
+}
+
+/// Clears a bit that is set.
+fn clear(trail: &mut Trail, bit: usize)
+    requires within { bit < 64 * length trail.old.words }
+    requires set { is_set trail.old.words bit ≡ true }
+    requires room { 1 ≤ trail.old.spare }
+    ensures { Clears trail.old trail.new bit }
+{
+    let word = trail.word(bit / 64);
+    trail.set(bit / 64, word & !(1 << (bit % 64)));
+}
+
+/// Whether a row has another bit that is set beside that of a value.
+fn has_other(trail: &Trail, start: usize, size: usize, value: usize) -> bool
+    requires { start + size ≤ 64 * length trail.now.words }
+    ensures { IsTrue result ↔ HasOther trail.now.words start size value }
+{
+    for other in 0..size {
+        if other != value && is_set(trail, start + other) {
+            return true;
+        }
+    }
+    false
+}
+
+/// Takes a value from a row of bits, unless it is the last.
+pub(crate) fn take_of_row(trail: &mut Trail, start: usize, size: usize, value: usize) -> Change
+    requires within { start + size ≤ 64 * length trail.old.words }
+    requires value { value < size }
+    requires room { is_set trail.old.words (start + value) ≡ true → HasOther trail.old.words start size value → 1 ≤ trail.old.spare }
+    ensures { Takes result trail.old trail.new (start + value) (HasOther trail.old.words start size value) }
+{
+    if !is_set(trail, start + value) {
+        return Change::Same;
+    }
+    if !has_other(trail, start, size, value) {
+        return Change::Emptied;
+    }
+    clear(trail, start + value);
+    Change::Changed
+}
+
+/// Takes a bit, unless it is the last of two.
+pub(crate) fn take_of_pair(trail: &mut Trail, bit: usize, other: usize) -> Change
+    requires bit_within { bit < 64 * length trail.old.words }
+    requires other_within { other < 64 * length trail.old.words }
+    requires room { is_set trail.old.words bit ≡ true → is_set trail.old.words other ≡ true → 1 ≤ trail.old.spare }
+    ensures { Takes result trail.old trail.new bit (is_set trail.old.words other ≡ true) }
+{
+    if !is_set(trail, bit) {
+        return Change::Same;
+    }
+    if !is_set(trail, other) {
+        return Change::Emptied;
+    }
+    clear(trail, bit);
+    Change::Changed
+}

@@ -1,0 +1,300 @@
+//! The values that remain.
+
+ghost use Rattle.std.specs.Prelude.{◌≡◌, ◌≢◌, ℕ, ◌<◌, ◌+◌, ◌-◌, ◌^◌, ◌↔◌, [], ◌∷◌, IsTrue, IfOk, length, min, slice_index_or, take};
+ghost use Rattle.xdg_nodeset.specs.Nodes.{has};
+ghost use Rattle.xdg_problem.specs.Analyses.{IsPlace};
+ghost use Rattle.xdg_problem.specs.Boxes.{Has, IsSingle, May, Must, full, entry_decision, attr_decision, edge_decision};
+ghost use Rattle.xdg_problem.specs.Places.{edge, nodes};
+ghost use Rattle.xdg_problem.specs.Vectors.{shape};
+ghost use Rattle.xdg_store.specs.Change.{Removes};
+ghost use Rattle.xdg_store.specs.InRange.{HasCandidate, HasEdges, HasValue};
+ghost use Rattle.xdg_store.specs.States.{Known};
+
+use crate::change::Change;
+use crate::layout::{attr_row, edge_row, entry_row};
+use crate::masks::{nodes_below, row_nodes};
+use crate::rows::{is_set, take_of_pair, take_of_row};
+use crate::start::free_values;
+use std::alloc::Global;
+use std::marker::Model;
+use xdg_base::{AttrId, DimId, LabelId, NodeId, OutOfMemory};
+use xdg_nodeset::NodeSet;
+use xdg_problem::{Edge, Problem};
+use xdg_trail::{Mark, Trail};
+
+/// For each decision on a sentence the values that remain, a box. Each decision keeps at least one. Values are removed
+/// one at a time, and all removals since a [`Mark`] can be undone at once. Only [`Store::start`] takes memory.
+#[derive(Debug, Drop)]
+pub struct Store<'a> {
+    problem: &'a Problem,
+    // A bit for each value: whether it remains. Each removal is one record.
+    trail: Trail,
+    node_count: usize,
+    all: NodeSet,
+    // How much room the trail has left when each decision has one value.
+    single: usize,
+    turns: u64,
+}
+
+impl<'a> Model for Store<'a> {
+    ghost use Rattle.std.specs.Prelude.{◌≡◌, ℕ, ◌≤◌, ◌+◌, ◌*◌, length, sum, nat_lt};
+    ghost use Rattle.xdg_nodeset.specs.Nodes.{has};
+    ghost use Rattle.xdg_problem.specs.Places.{nodes};
+    ghost use Rattle.xdg_problem.specs.Problems.{IsProblem};
+    ghost use Rattle.xdg_problem.specs.Vectors.{shape};
+    ghost use Rattle.xdg_trail.specs.Trailed.{past};
+    ghost use Rattle.xdg_store.specs.Layout.{bit_count, bits_of, box_in};
+    ghost use Rattle.xdg_store.specs.States.{State, Sound, oldest};
+
+    ghost Value = { State };
+
+    ghost view = { λ s. record {
+      parts = s.problem.now;
+      now = box_in (bits_of s.problem.now) s.trail.words;
+      history = oldest (bits_of s.problem.now) (past s.trail);
+      turns = s.turns;
+    } };
+
+    ghost invariant = { λ s. IsProblem s.problem.now
+        × (s.node_count ≡ nodes s.problem.now)
+        × ((node : ℕ) → has s.all node ≡ nat_lt node (nodes s.problem.now))
+        × (bit_count s.problem.now ≤ 64 * length s.trail.words)
+        × (s.single + sum (shape s.problem.now) ≡ s.trail.spare + length s.trail.records + length (shape s.problem.now))
+        × Sound (shape s.problem.now) (sum (shape s.problem.now)) (bits_of s.problem.now) (past s.trail) };
+}
+
+impl<'a> Store<'a> {
+    /// The box of all values of a problem.
+    pub fn start(alloc: Global, problem: &'a Problem) -> Result<Store<'a>, OutOfMemory>
+        ensures parts { IfOk result (λ store. store.parts ≡ problem.entry.now) }
+        ensures now { IfOk result (λ store. store.now ≡ full (shape problem.entry.now)) }
+        ensures history { IfOk result (λ store. store.history ≡ store.now ∷ []) }
+        ensures turns { IfOk result (λ store. store.turns ≡ 0) }
+        ensures known { IfOk result (λ store. Known store) }
+    {
+        let parts = problem.parts();
+        let node_count = parts.words.len();
+        let free = free_values(problem);
+        let count = node_count * 16 + parts.dims.len() * node_count * 256;
+        let words = vec![in alloc; u64::MAX; count]?;
+        let trail = Trail::start(alloc, words, free)?;
+        let single = trail.spare() - free;
+        Ok(Store {
+            problem,
+            trail,
+            node_count,
+            all: nodes_below(node_count),
+            single,
+            turns: 0,
+        })
+    }
+
+    /// The problem whose decisions these are.
+    pub fn problem(&self) -> &'a Problem
+        ensures parts { result.now ≡ self.now.parts }
+        ensures known { Known self.now }
+    {
+        self.problem
+    }
+
+    /// Takes a node's candidate at a place away.
+    pub fn remove_entry(&mut self, node: NodeId, place: u16) -> Change
+        requires { HasCandidate self.old.parts node.0 place }
+        ensures removes { Removes result self.old self.new (entry_decision node.0) place }
+        ensures known { Known self.new }
+    {
+        let candidates = self.problem.parts().candidates.as_slice();
+        let size = candidates[node.0 as usize].len();
+        take_of_row(&mut self.trail, entry_row(node), size, place as usize)
+    }
+
+    /// Takes a value of a node's attribute away.
+    pub fn remove_attr(&mut self, node: NodeId, dim: DimId, attr: AttrId, value: u16) -> Change
+        requires { HasValue self.old.parts node.0 dim.0 attr.0 value }
+        ensures removes { Removes result self.old self.new (attr_decision self.old.parts dim.0 node.0 attr.0) value }
+        ensures known { Known self.new }
+    {
+        let plan = &self.problem.parts().dims.as_slice()[dim.0 as usize];
+        let size = plan.attrs.as_slice()[attr.0 as usize].values.len();
+        let row = attr_row(self.node_count, dim, node, attr);
+        take_of_row(&mut self.trail, row, size, value as usize)
+    }
+
+    /// Takes away that an edge is absent.
+    pub fn force_edge(&mut self, edge: Edge) -> Change
+        requires { IsPlace self.old.parts edge }
+        ensures removes { Removes result self.old self.new (edge_decision self.old.parts edge) 1 }
+        ensures known { Known self.new }
+    {
+        let row = edge_row(self.node_count, edge.dim, edge.mother, edge.label);
+        let present = row + edge.daughter.0 as usize;
+        take_of_pair(&mut self.trail, present + 128, present)
+    }
+
+    /// Takes away that an edge is present.
+    pub fn forbid_edge(&mut self, edge: Edge) -> Change
+        requires { IsPlace self.old.parts edge }
+        ensures removes { Removes result self.old self.new (edge_decision self.old.parts edge) 0 }
+        ensures known { Known self.new }
+    {
+        let row = edge_row(self.node_count, edge.dim, edge.mother, edge.label);
+        let present = row + edge.daughter.0 as usize;
+        take_of_pair(&mut self.trail, present, present + 128)
+    }
+
+    /// Whether a node's candidate at a place remains.
+    pub fn entry_in(&self, node: NodeId, place: u16) -> bool
+        requires { HasCandidate self.now.parts node.0 place }
+        ensures exact { IsTrue result ↔ Has self.now.now (entry_decision node.0) place }
+        ensures known { Known self.now }
+    {
+        is_set(&self.trail, entry_row(node) + place as usize)
+    }
+
+    /// Whether a value of a node's attribute remains.
+    pub fn attr_in(&self, node: NodeId, dim: DimId, attr: AttrId, value: u16) -> bool
+        requires { HasValue self.now.parts node.0 dim.0 attr.0 value }
+        ensures exact { IsTrue result ↔ Has self.now.now (attr_decision self.now.parts dim.0 node.0 attr.0) value }
+        ensures known { Known self.now }
+    {
+        let row = attr_row(self.node_count, dim, node, attr);
+        is_set(&self.trail, row + value as usize)
+    }
+
+    /// Whether an edge may be present.
+    pub fn may(&self, edge: Edge) -> bool
+        requires { IsPlace self.now.parts edge }
+        ensures exact { IsTrue result ↔ May self.now.parts self.now.now edge }
+        ensures known { Known self.now }
+    {
+        let row = edge_row(self.node_count, edge.dim, edge.mother, edge.label);
+        is_set(&self.trail, row + edge.daughter.0 as usize)
+    }
+
+    /// Whether an edge must be present: that it is absent remains no more.
+    pub fn must(&self, edge: Edge) -> bool
+        requires { IsPlace self.now.parts edge }
+        ensures exact { IsTrue result ↔ Must self.now.parts self.now.now edge }
+        ensures known { Known self.now }
+    {
+        let row = edge_row(self.node_count, edge.dim, edge.mother, edge.label);
+        !is_set(&self.trail, row + edge.daughter.0 as usize + 128)
+    }
+
+    /// Whether each decision has one value.
+    pub fn is_single(&self) -> bool
+        ensures exact { IsTrue result ↔ IsSingle self.now.now }
+        ensures known { Known self.now }
+    {
+        self.trail.spare() == self.single
+    }
+
+    /// The daughters that an edge with a label out of a mother may have.
+    pub fn daughters_may(&self, dim: DimId, mother: NodeId, label: LabelId) -> NodeSet
+        requires { HasEdges self.now.parts dim.0 mother.0 label.0 }
+        ensures exact { (node : ℕ) → IsTrue (has result node) ↔ ((node < nodes self.now.parts) × (mother.0 ≢ node) × May self.now.parts self.now.now (edge dim.0 mother.0 label.0 node)) }
+        ensures known { Known self.now }
+    {
+        let row = edge_row(self.node_count, dim, mother, label);
+        let mut daughters = row_nodes(&self.trail, row).meet(&self.all);
+        daughters.remove(mother);
+        daughters
+    }
+
+    /// The daughters to which an edge with a label out of a mother must lead.
+    pub fn daughters_must(&self, dim: DimId, mother: NodeId, label: LabelId) -> NodeSet
+        requires { HasEdges self.now.parts dim.0 mother.0 label.0 }
+        ensures exact { (node : ℕ) → IsTrue (has result node) ↔ ((node < nodes self.now.parts) × (mother.0 ≢ node) × Must self.now.parts self.now.now (edge dim.0 mother.0 label.0 node)) }
+        ensures known { Known self.now }
+    {
+        let row = edge_row(self.node_count, dim, mother, label);
+        let mut daughters = self.all.minus(&row_nodes(&self.trail, row + 128));
+        daughters.remove(mother);
+        daughters
+    }
+
+    /// The mothers that an edge with a label into a daughter may have.
+    pub fn mothers_may(&self, dim: DimId, daughter: NodeId, label: LabelId) -> NodeSet
+        requires { HasEdges self.now.parts dim.0 daughter.0 label.0 }
+        ensures exact { (node : ℕ) → IsTrue (has result node) ↔ ((node < nodes self.now.parts) × (node ≢ daughter.0) × May self.now.parts self.now.now (edge dim.0 node label.0 daughter.0)) }
+        ensures known { Known self.now }
+    {
+        let mut mothers = NodeSet::empty();
+        for node in 0..self.node_count as u8 {
+            let mother = NodeId(node);
+            if node != daughter.0 {
+                let edge = Edge {
+                    dim,
+                    mother,
+                    label,
+                    daughter,
+                };
+                if self.may(edge) {
+                    mothers.insert(mother);
+                }
+            }
+        }
+        mothers
+    }
+
+    /// The mothers from which an edge with a label into a daughter must lead.
+    pub fn mothers_must(&self, dim: DimId, daughter: NodeId, label: LabelId) -> NodeSet
+        requires { HasEdges self.now.parts dim.0 daughter.0 label.0 }
+        ensures exact { (node : ℕ) → IsTrue (has result node) ↔ ((node < nodes self.now.parts) × (node ≢ daughter.0) × Must self.now.parts self.now.now (edge dim.0 node label.0 daughter.0)) }
+        ensures known { Known self.now }
+    {
+        let mut mothers = NodeSet::empty();
+        for node in 0..self.node_count as u8 {
+            let mother = NodeId(node);
+            if node != daughter.0 {
+                let edge = Edge {
+                    dim,
+                    mother,
+                    label,
+                    daughter,
+                };
+                if self.must(edge) {
+                    mothers.insert(mother);
+                }
+            }
+        }
+        mothers
+    }
+
+    /// The present time, to which [`Store::undo`] can go back: how many boxes there were before this one.
+    pub fn mark(&self) -> Mark
+        ensures mark { result + 1 ≡ length self.now.history }
+        ensures last { slice_index_or self.now.history result [] ≡ self.now.now }
+        ensures known { Known self.now }
+    {
+        self.trail.mark()
+    }
+
+    /// Goes back to the box that stood at the mark.
+    pub fn undo(&mut self, mark: Mark)
+        requires { mark < length self.old.history }
+        ensures history { self.new.history ≡ take (mark + 1) self.old.history }
+        ensures now { self.new.now ≡ slice_index_or self.old.history mark [] }
+        ensures parts { self.new.parts ≡ self.old.parts }
+        ensures turns { self.new.turns ≡ self.old.turns }
+        ensures known { Known self.new }
+    {
+        self.trail.undo(mark);
+    }
+
+    /// Counts a turn of a propagator, up to the greatest number.
+    pub fn turn(&mut self)
+        ensures turns { self.new ≡ record { parts = self.old.parts; now = self.old.now; history = self.old.history; turns = min (self.old.turns + 1) (2 ^ 64 - 1) } }
+        ensures known { Known self.new }
+    {
+        self.turns = self.turns.saturating_add(1);
+    }
+
+    /// How many turns were counted.
+    pub fn turns(&self) -> u64
+        ensures turns { result ≡ self.now.turns }
+        ensures known { Known self.now }
+    {
+        self.turns
+    }
+}
