@@ -1,5 +1,5 @@
 -- A bit of the words.
-use Rattle.std.proofs.Common.{◌≡◌, ◌≢◌, ℕ, ◌<◌, ◌≤◌, ◌+◌, ◌*◌, ◌/◌, ◌%◌, ◌^◌, inl, inr, true, false, List, length, get_or, set, ap, sym, ◌∙◌, arith}
+use Rattle.std.proofs.Common.{◌≡◌, ◌≢◌, ℕ, ◌<◌, ◌≤◌, ◌+◌, ◌*◌, ◌/◌, ◌%◌, ◌^◌, inl, inr, true, false, List, ◌∷◌, length, get_or, set, ap, sym, ◌∙◌, arith}
 use Rattle.std.specs.Prelude.{nat_eq}
 use Rattle.std.specs.Int.{bit_at, bit_not, w64}
 use lib.Bits.{bit_and}
@@ -7,7 +7,8 @@ use Rattle.std.proofs.lemmas.Bool.{cases_eq}
 use Rattle.std.proofs.lemmas.List.{length-set, get_or-set_same, get_or-set_other}
 use Rattle.std.proofs.lemmas.Nat.Bits.{bit_at_clear_same, bit_at_clear_other, shr_and_one}
 use Rattle.xdg_store.specs.Layout.{is_set}
-use Rattle.xdg_store.specs.Rows.{cleared}
+use Rattle.xdg_trail.specs.Trailed.{Trailed, past}
+use Rattle.xdg_store.specs.Rows.{cleared, Clears}
 
 -- what the code reads
 pub read : (words : List ℕ) (bit w : ℕ) → w ≡ get_or words (bit / 64) 0 → nat_eq (bit_and (w / 2 ^ (bit % 64)) 1) 1 ≡ is_set words bit
@@ -46,3 +47,15 @@ cleared_differs words bit t e =
 pub length-cleared : (words : List ℕ) (bit : ℕ) → length (cleared words bit) ≡ length words
 unfolding cleared
 length-cleared words bit = length-set words (bit / 64) (without_bit words bit)
+
+-- the word was written without the bit
+pub clears_of : (t u : Trailed) (bit w : ℕ) → is_set t.words bit ≡ true → w ≡ get_or t.words (bit / 64) 0 → u.words ≡ set t.words (bit / 64) (bit_and w (bit_not w64 (1 * 2 ^ (bit % 64) % 2 ^ 64))) → (get_or t.words (bit / 64) 0 ≢ bit_and w (bit_not w64 (1 * 2 ^ (bit % 64) % 2 ^ 64)) → past u ≡ set t.words (bit / 64) (bit_and w (bit_not w64 (1 * 2 ^ (bit % 64) % 2 ^ 64))) ∷ past t) → u.spare + length u.records ≡ t.spare + length t.records → Clears t u bit
+unfolding cleared
+clears_of t u bit w is e words past_is room =
+    let mask = bit_not w64 (1 * 2 ^ (bit % 64) % 2 ^ 64) in
+    let differs : get_or t.words (bit / 64) 0 ≢ bit_and w mask = λ s. cleared_differs t.words bit is (s ∙ ap (λ z. bit_and z mask) e) in
+    record {
+      words = words ∙ ap (λ z. set t.words (bit / 64) (bit_and z mask)) e;
+      past_is = past_is differs ∙ ap (λ z. set t.words (bit / 64) (bit_and z mask) ∷ past t) e;
+      room = room;
+    }

@@ -51,7 +51,7 @@ filled_taken box d v x f h n e l =
 
 -- ---- how many values the decisions have at first
 
-abbrev IsSize : ℕ → Type 0
+abbrev pub IsSize : ℕ → Type 0
 IsSize size = (1 ≤ size) × (size ≤ 1024)
 
 candidate_sizes : (parts : Parts) → IsProblem parts → AllByRecursion IsSize (map length parts.candidates)

@@ -7,3 +7,6 @@ pub mod Counting
 pub mod Boxed
 pub mod Histories
 pub mod Removals
+pub mod Room
+pub mod Starting
+pub mod NodeRows

@@ -1,6 +1,6 @@
 //! Bits on a trail of words.
 
-ghost use Rattle.std.specs.Prelude.{◌≡◌, ◌≢◌, ◌<◌, ◌≤◌, ◌+◌, ◌*◌, ℕ, ◌↔◌, IsTrue, true, length};
+ghost use Rattle.std.specs.Prelude.{◌≡◌, ◌≢◌, ◌<◌, ◌≤◌, ◌+◌, ◌*◌, ◌^◌, ℕ, ◌↔◌, IsTrue, true, length};
 ghost use Rattle.xdg_store.specs.Layout.{is_set};
 ghost use Rattle.xdg_store.specs.Rows.{Clears, HasOther, Takes};
 
@@ -28,7 +28,8 @@ fn clear(trail: &mut Trail, bit: usize)
 
 /// Whether a row has another bit that is set beside that of a value.
 fn has_other(trail: &Trail, start: usize, size: usize, value: usize) -> bool
-    requires { start + size ≤ 64 * length trail.now.words }
+    requires within { start + size ≤ 64 * length trail.now.words }
+    requires small { start + size < 2 ^ 32 }
     ensures { IsTrue result ↔ HasOther trail.now.words start size value }
 {
     for other in 0..size {
@@ -42,6 +43,7 @@ fn has_other(trail: &Trail, start: usize, size: usize, value: usize) -> bool
 /// Takes a value from a row of bits, unless it is the last.
 pub(crate) fn take_of_row(trail: &mut Trail, start: usize, size: usize, value: usize) -> Change
     requires within { start + size ≤ 64 * length trail.old.words }
+    requires small { start + size < 2 ^ 32 }
     requires value { value < size }
     requires room { is_set trail.old.words (start + value) ≡ true → HasOther trail.old.words start size value → 1 ≤ trail.old.spare }
     ensures { Takes result trail.old trail.new (start + value) (HasOther trail.old.words start size value) }

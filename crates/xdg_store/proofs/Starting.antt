@@ -1,0 +1,59 @@
+-- The box of all values.
+use Rattle.std.proofs.Common.{◌≡◌, ℕ, ◌<◌, ◌≤◌, ◌+◌, ◌-◌, ◌*◌, ◌/◌, ◌%◌, ◌^◌, Bool, true, List, [], ◌∷◌, length, map, replicate, ap, sym, ◌∙◌, arith, subst}
+use Rattle.std.specs.Prelude.{nat_eq, sum}
+use Rattle.std.specs.Int.{bit_at}
+use Rattle.std.specs.List.{AllByRecursion}
+use Rattle.std.proofs.lemmas.List.{get_or-replicate, length-replicate}
+use Rattle.std.proofs.lemmas.Nat.Bits.{bit_at_ones}
+use Rattle.xdg_problem.specs.declared.parts.DimPlan.{DimPlan}
+use Rattle.xdg_problem.specs.declared.parts.Parts.{Parts}
+use Rattle.xdg_problem.specs.Boxes.{IsBox, full}
+use Rattle.xdg_problem.specs.Places.{nodes}
+use Rattle.xdg_problem.specs.Problems.{IsProblem}
+use Rattle.xdg_problem.specs.Vectors.{shape}
+use Rattle.xdg_problem.proofs.Ordered.{each_weaker}
+use Rattle.xdg_trail.specs.Trailed.{Trailed, states}
+use Rattle.xdg_store.specs.Layout.{bit_count, bits_of, box_in, is_set}
+use Rattle.xdg_store.specs.States.{Sound, remaining, oldest}
+use Rattle.xdg_store.proofs.Apart.{bits_within}
+use Rattle.xdg_store.proofs.Boxed.{full_is_box, remaining_full}
+use Rattle.xdg_store.proofs.Removals.{Keeps}
+use Rattle.xdg_store.proofs.Separate.{all_rows_set}
+use Rattle.xdg_store.proofs.Sizes.{bits_sizes}
+
+ones_set : (count b : ℕ) (words : List ℕ) → words ≡ replicate count 18446744073709551615 → b < 64 * count → is_set words b ≡ true
+ones_set count b words e l =
+    let place : b / 64 < count = omega (arith, l) in
+    ap (λ (z : List ℕ). is_set z b) e
+    ∙ ap (λ w. nat_eq (bit_at w (b % 64)) 1) (get_or-replicate count (b / 64) 18446744073709551615 0 place)
+    ∙ ap (λ m. nat_eq m 1) (bit_at_ones 64 (b % 64) (omega arith))
+
+pub full_words : (parts : Parts) (count : ℕ) (words : List ℕ) → IsProblem parts → bit_count parts ≤ 64 * count → words ≡ replicate count 18446744073709551615 → box_in (bits_of parts) words ≡ full (shape parts)
+unfolding box_in
+full_words parts count words p l e =
+    all_rows_set (is_set words) (bits_of parts)
+    (each_weaker (λ row. AllByRecursion (λ b. b < bit_count parts) row) (λ row. AllByRecursion (λ b. is_set words b ≡ true) row) (bits_of parts)
+    (λ row a. each_weaker (λ b. b < bit_count parts) (λ b. is_set words b ≡ true) row (λ b w. ones_set count b words e (omega (arith, w, l))) a) (bits_within parts p))
+    ∙ ap (map (λ size. replicate size true)) (bits_sizes parts)
+
+pub keeps_start : (parts : Parts) (t : Trailed) (single free count : ℕ) → IsProblem parts → bit_count parts ≤ 64 * count → t.words ≡ replicate count 18446744073709551615 → t.records ≡ [] → free + length (shape parts) ≡ sum (shape parts) → free ≤ t.spare → single ≡ t.spare - free → Keeps parts t single
+keeps_start parts t single free count p l words none all room left =
+    let box = full_words parts count t.words p l words in
+    record {
+      problem = p;
+      long = (let n = ap length words in let r = length-replicate {A = ℕ} count 18446744073709551615 in omega (arith, n, r, l));
+      spare = (let n = ap length none in omega (arith, n, all, room, left));
+      sound = subst (λ rs. Sound (shape parts) (sum (shape parts)) (bits_of parts) (states t.words rs)) (sym none) (
+        (let e : remaining (box_in (bits_of parts) t.words) ≡ sum (shape parts) = ap remaining box ∙ remaining_full (shape parts) in omega (arith, e)),
+        subst (IsBox (shape parts)) (sym box) (full_is_box parts p),
+        tt,
+      );
+    }
+
+-- the code's count of words
+pub words_are : (parts shown : Parts) (n d : ℕ) → shown ≡ parts → n ≡ length shown.words → d ≡ length shown.dims → bit_count parts ≤ 64 * (n * 16 + d * n * 256)
+words_are parts shown n d s e f =
+    let a : n ≡ nodes parts = e ∙ ap (λ (q : Parts). length q.words) s in
+    let b : d ≡ length parts.dims = f ∙ ap (λ (q : Parts). length q.dims) s in
+    let c : d * n ≡ length parts.dims * nodes parts = ap (λ i. i * n) b ∙ ap (λ i. length parts.dims * i) a in
+    omega (arith, a, c)

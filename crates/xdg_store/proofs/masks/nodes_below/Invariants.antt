@@ -1,0 +1,6 @@
+use Rattle.std.proofs.Common.{◌≡◌, ℕ, nat_lt}
+use Rattle.xdg_nodeset.specs.Nodes.{has}
+use Rattle.xdg_store.proofs.masks.nodes_below.Given as goal
+
+abbrev pub invariant-loop-node : goal.invariant-loop-node
+invariant-loop-node l = (n : ℕ) → has l.nodes n ≡ nat_lt n l.node

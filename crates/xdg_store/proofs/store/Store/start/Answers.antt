@@ -1,0 +1,29 @@
+use Rattle.std.proofs.Common.{◌≡◌, ◌≤◌, ◌+◌, ◌-◌, ◌*◌, ℕ, length, replicate, ap, ◌∙◌, arith}
+use Rattle.xdg_problem.specs.Places.{nodes}
+use Rattle.xdg_problem.specs.declared.parts.Parts.{Parts}
+use Rattle.xdg_store.specs.Layout.{bit_count}
+use Rattle.xdg_store.proofs.Histories.{known_of}
+use Rattle.xdg_store.proofs.Removals.{Keeps}
+use Rattle.xdg_store.proofs.Starting.{full_words, keeps_start, words_are}
+use Rattle.xdg_problem.specs.Vectors.{shape}
+use Rattle.std.specs.Prelude.{sum}
+use Rattle.xdg_store.proofs.store.Store.start.Goals as goal
+
+the_words : (c : goal.After-nodes_below) → bit_count c.args.problem.now ≤ 64 * (c.len-node_count.result * 16 + c.len.result * c.len-node_count.result * 256)
+the_words c = words_are c.args.problem.now c.parts-parts.result.now c.len-node_count.result c.len.result c.parts-parts.ensures.same c.len-node_count.ensures c.len.ensures
+
+the_keeps : (c : goal.After-nodes_below) → Keeps c.args.problem.now c.in_ok-trail.trail (c.spare.result - c.free_values-free.result)
+the_keeps c = keeps_start c.args.problem.now c.in_ok-trail.trail (c.spare.result - c.free_values-free.result) c.free_values-free.result (c.len-node_count.result * 16 + c.len.result * c.len-node_count.result * 256)
+    c.free_values-free.ensures.problem (the_words c) (c.in_ok-trail.ensures.words ∙ c.in_ok-words.ensures.items_if_clones_equal (λ y h. h)) c.in_ok-trail.ensures.records c.free_values-free.ensures.free c.in_ok-trail.ensures.spare (ap (λ (i : ℕ). i - c.free_values-free.result) c.spare.ensures)
+
+pub invariant_of-result : goal.invariant_of-result
+invariant_of-result c =
+    let k = the_keeps c in
+    let n : c.len-node_count.result ≡ nodes c.args.problem.now = c.len-node_count.ensures ∙ ap (λ (q : Parts). length q.words) c.parts-parts.ensures.same in
+    (k.problem, n, rw (← n) c.nodes_below.ensures, k.long, k.spare, k.sound)
+
+pub returns-clause-now : goal.returns-clause-now
+returns-clause-now c = full_words c.args.problem.now (c.len-node_count.result * 16 + c.len.result * c.len-node_count.result * 256) c.in_ok-trail.trail.words c.free_values-free.ensures.problem (the_words c) (c.in_ok-trail.ensures.words ∙ c.in_ok-words.ensures.items_if_clones_equal (λ y h. h))
+
+pub returns-clause-known : goal.returns-clause-known
+returns-clause-known c = known_of c.args.problem.now (sum (shape c.args.problem.now)) 0 c.in_ok-trail.trail c.free_values-free.ensures.problem (the_keeps c).sound
