@@ -10,3 +10,5 @@ pub mod Removals
 pub mod Room
 pub mod Starting
 pub mod NodeRows
+pub mod Rowwise
+pub mod Pairs

@@ -13,7 +13,7 @@ use Rattle.xdg_trail.specs.Trailed.{Trailed, past}
 use Rattle.xdg_store.specs.Change.{Removes, with_box}
 use Rattle.xdg_store.specs.Layout.{bits_of, bit_count, box_in, is_set}
 use Rattle.xdg_store.specs.Rows.{Clears, Takes, cleared}
-use Rattle.xdg_store.specs.States.{State, Sound, oldest, remaining}
+use Rattle.xdg_store.specs.States.{State, Keeps, Sound, oldest, remaining}
 use Rattle.xdg_store.specs.declared.change.Change.{Change}
 use Rattle.xdg_store.specs.declared.change.Change.TheVariants as changes
 use Rattle.xdg_store.proofs.Apart.{bits_separate, bits_within}
@@ -24,13 +24,6 @@ use Rattle.xdg_store.proofs.Histories.{seen, present, length-states}
 use Rattle.xdg_store.proofs.Located.{Located}
 use Rattle.xdg_store.proofs.Separate.{rows_taken, value_read}
 use Rattle.xdg_store.proofs.Sizes.{bits_sizes}
-
--- what a store keeps of its trail
-pub record Keeps (parts : Parts) (t : Trailed) (single : ℕ) : Type 0 where
-  pub problem : IsProblem parts
-  pub long : bit_count parts ≤ 64 * length t.words
-  pub spare : single + sum (shape parts) ≡ t.spare + length t.records + length (shape parts)
-  pub sound : Sound (shape parts) (sum (shape parts)) (bits_of parts) (past t)
 
 -- the box says of a value what its bit says
 pub has_bit : (parts : Parts) (d v : ℕ) (row words : List ℕ) → Located parts d row → v < length row → get_or (get_or (box_in (bits_of parts) words) d []) v false ≡ is_set words (get_or row v 0)

@@ -14,10 +14,9 @@ use Rattle.xdg_problem.specs.Vectors.{shape}
 use Rattle.xdg_problem.proofs.Ordered.{each_weaker}
 use Rattle.xdg_trail.specs.Trailed.{Trailed, states}
 use Rattle.xdg_store.specs.Layout.{bit_count, bits_of, box_in, is_set}
-use Rattle.xdg_store.specs.States.{Sound, remaining, oldest}
+use Rattle.xdg_store.specs.States.{Keeps, Sound, remaining}
 use Rattle.xdg_store.proofs.Apart.{bits_within}
 use Rattle.xdg_store.proofs.Boxed.{full_is_box, remaining_full}
-use Rattle.xdg_store.proofs.Removals.{Keeps}
 use Rattle.xdg_store.proofs.Separate.{all_rows_set}
 use Rattle.xdg_store.proofs.Sizes.{bits_sizes}
 

@@ -1,10 +1,11 @@
 -- What a store is seen as.
-use Rattle.std.specs.Prelude.{◌≡◌, ℕ, ◌<◌, ◌+◌, ◌-◌, Bool, true, false, List, [], ◌∷◌, ◌++◌, length, slice_index_or}
+use Rattle.std.specs.Prelude.{◌≡◌, ℕ, ◌<◌, ◌≤◌, ◌+◌, ◌-◌, ◌*◌, Bool, true, false, List, [], ◌∷◌, ◌++◌, length, sum, slice_index_or}
 use Rattle.xdg_problem.specs.declared.parts.Parts.{Parts}
 use Rattle.xdg_problem.specs.Boxes.{IsBox}
 use Rattle.xdg_problem.specs.Problems.{IsProblem}
 use Rattle.xdg_problem.specs.Vectors.{shape}
-use Rattle.xdg_store.specs.Layout.{box_in}
+use Rattle.xdg_trail.specs.Trailed.{Trailed, past}
+use Rattle.xdg_store.specs.Layout.{bit_count, bits_of, box_in}
 
 -- the parts of the problem, the present box, all boxes up to it, the oldest first, and the number of turns
 pub record State : Type 0 where
@@ -40,3 +41,11 @@ oldest bits (words ∷ before) = oldest bits before ++ (box_in bits words ∷ []
 abbrev pub Sound : List ℕ → ℕ → List (List ℕ) → List (List ℕ) → Type 0
 Sound sizes total bits [] = Unit {0}
 Sound sizes total bits (words ∷ before) = (remaining (box_in bits words) + length before ≡ total) × IsBox sizes (box_in bits words) × Sound sizes total bits before
+
+-- what a store keeps of its trail: it has a word for each bit, room for each value that can still be removed, and each
+-- earlier time of it says a box; single is how much room is left when no decision can lose a value
+pub record Keeps (parts : Parts) (t : Trailed) (single : ℕ) : Type 0 where
+  pub problem : IsProblem parts
+  pub long : bit_count parts ≤ 64 * length t.words
+  pub spare : single + sum (shape parts) ≡ t.spare + length t.records + length (shape parts)
+  pub sound : Sound (shape parts) (sum (shape parts)) (bits_of parts) (past t)

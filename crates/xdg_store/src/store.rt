@@ -37,14 +37,12 @@ pub struct Store<'a> {
 }
 
 impl<'a> Model for Store<'a> {
-    ghost use Rattle.std.specs.Prelude.{◌≡◌, ℕ, ◌≤◌, ◌+◌, ◌*◌, length, sum, nat_lt};
+    ghost use Rattle.std.specs.Prelude.{◌≡◌, ℕ, nat_lt};
     ghost use Rattle.xdg_nodeset.specs.Nodes.{has};
     ghost use Rattle.xdg_problem.specs.Places.{nodes};
-    ghost use Rattle.xdg_problem.specs.Problems.{IsProblem};
-    ghost use Rattle.xdg_problem.specs.Vectors.{shape};
     ghost use Rattle.xdg_trail.specs.Trailed.{past};
-    ghost use Rattle.xdg_store.specs.Layout.{bit_count, bits_of, box_in};
-    ghost use Rattle.xdg_store.specs.States.{State, Sound, oldest};
+    ghost use Rattle.xdg_store.specs.Layout.{bits_of, box_in};
+    ghost use Rattle.xdg_store.specs.States.{State, Keeps, oldest};
 
     ghost Value = { State };
 
@@ -55,12 +53,9 @@ impl<'a> Model for Store<'a> {
       turns = s.turns;
     } };
 
-    ghost invariant = { λ s. IsProblem s.problem.now
+    ghost invariant = { λ s. Keeps s.problem.now s.trail s.single
         × (s.node_count ≡ nodes s.problem.now)
-        × ((node : ℕ) → has s.all node ≡ nat_lt node (nodes s.problem.now))
-        × (bit_count s.problem.now ≤ 64 * length s.trail.words)
-        × (s.single + sum (shape s.problem.now) ≡ s.trail.spare + length s.trail.records + length (shape s.problem.now))
-        × Sound (shape s.problem.now) (sum (shape s.problem.now)) (bits_of s.problem.now) (past s.trail) };
+        × ((node : ℕ) → has s.all node ≡ nat_lt node (nodes s.problem.now)) };
 }
 
 impl<'a> Store<'a> {

@@ -3,7 +3,7 @@ use Rattle.xdg_problem.specs.Places.{nodes}
 use Rattle.xdg_problem.specs.declared.parts.Parts.{Parts}
 use Rattle.xdg_store.specs.Layout.{bit_count}
 use Rattle.xdg_store.proofs.Histories.{known_of}
-use Rattle.xdg_store.proofs.Removals.{Keeps}
+use Rattle.xdg_store.specs.States.{Keeps}
 use Rattle.xdg_store.proofs.Starting.{full_words, keeps_start, words_are}
 use Rattle.xdg_problem.specs.Vectors.{shape}
 use Rattle.std.specs.Prelude.{sum}
@@ -20,7 +20,7 @@ pub invariant_of-result : goal.invariant_of-result
 invariant_of-result c =
     let k = the_keeps c in
     let n : c.len-node_count.result ≡ nodes c.args.problem.now = c.len-node_count.ensures ∙ ap (λ (q : Parts). length q.words) c.parts-parts.ensures.same in
-    (k.problem, n, rw (← n) c.nodes_below.ensures, k.long, k.spare, k.sound)
+    (k, n, rw (← n) c.nodes_below.ensures)
 
 pub returns-clause-now : goal.returns-clause-now
 returns-clause-now c = full_words c.args.problem.now (c.len-node_count.result * 16 + c.len.result * c.len-node_count.result * 256) c.in_ok-trail.trail.words c.free_values-free.ensures.problem (the_words c) (c.in_ok-trail.ensures.words ∙ c.in_ok-words.ensures.items_if_clones_equal (λ y h. h))
