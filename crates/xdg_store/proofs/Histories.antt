@@ -1,13 +1,17 @@
 -- The boxes of the words that stood.
-use Rattle.std.proofs.Common.{◌≡◌, ◌≢◌, ℕ, ◌<◌, ◌≤◌, ◌+◌, ◌-◌, Bool, false, List, [], ◌∷◌, ◌++◌, length, get_or, set, take, drop, refl, ap, sym, ◌∙◌, arith, subst, zero, suc, length-append}
+use Rattle.std.proofs.Common.{◌≡◌, ◌≢◌, ℕ, ◌<◌, ◌≤◌, ◌+◌, ◌-◌, ◌↔◌, Bool, true, false, List, [], ◌∷◌, ◌++◌, length, get_or, set, take, drop, refl, ap, sym, ◌∙◌, arith, subst, zero, suc, length-append}
 use Rattle.std.proofs.lemmas.List.{take-append-le, take_all, get_or-take, length-take-le, get_or_push}
 use Rattle.xdg_problem.specs.declared.parts.Parts.{Parts}
-use Rattle.xdg_problem.specs.Boxes.{IsBox}
+use Rattle.std.specs.Prelude.{nat_eq, sum}
+use Rattle.std.proofs.lemmas.Bool.{eq-eqb, eqb-true}
+use Rattle.xdg_problem.specs.Boxes.{IsBox, IsSingle}
 use Rattle.xdg_problem.specs.Problems.{IsProblem}
 use Rattle.xdg_problem.specs.Vectors.{shape}
 use Rattle.xdg_trail.specs.Trailed.{Trailed, states, past}
 use Rattle.xdg_store.specs.Layout.{bits_of, box_in}
-use Rattle.xdg_store.specs.States.{State, Known, Sound, oldest, remaining}
+use Rattle.xdg_store.specs.States.{State, Keeps, Known, Sound, oldest, remaining}
+use Rattle.xdg_store.proofs.Boxed.{box_filled, length_box}
+use Rattle.xdg_store.proofs.Counting.{count_from_single, single_from_count}
 
 -- what a store with these parts, this trail and these turns is seen as
 abbrev pub seen : Parts → Trailed → ℕ → State
@@ -88,3 +92,39 @@ cut_last h m l =
     let n = length-take-le (m + 1) h (omega arith) in
     let e : length (take (m + 1) h) - 1 ≡ m = omega (arith, n) in
     ap (λ i. get_or (take (m + 1) h) i []) e ∙ get_or-take (m + 1) h m [] (omega arith)
+
+pub keeps_undone : (parts : Parts) (old new : Trailed) (single mark : ℕ) → Keeps parts old single → length new.words ≡ length old.words → new.spare + length new.records ≡ old.spare + length old.records → past new ≡ drop (length old.records - mark) (past old) → Keeps parts new single
+keeps_undone parts old new single mark keeps len room e = record {
+  problem = keeps.problem;
+  long = (let l = keeps.long in omega (arith, len, l));
+  spare = (let s = keeps.spare in omega (arith, room, s));
+  sound = subst (Sound (shape parts) (sum (shape parts)) (bits_of parts)) (sym e) (sound_drop (shape parts) (sum (shape parts)) (bits_of parts) (length old.records - mark) (past old) keeps.sound);
+}
+
+-- ---- marks
+
+-- the number of records is the number of boxes before this one
+pub marked : (parts : Parts) (t : Trailed) (turns mark : ℕ) (now : State) → seen parts t turns ≡ now → mark ≡ length t.records → mark + 1 ≡ length now.history
+marked parts t turns mark now is e =
+    let n = history_length (bits_of parts) t in
+    let h : length (oldest (bits_of parts) (past t)) ≡ length now.history = ap (λ s. length s.history) is in
+    omega (arith, n, h, e)
+
+pub last_at : (now : State) (mark : ℕ) → Known now → mark + 1 ≡ length now.history → get_or now.history mark [] ≡ now.now
+last_at now mark known e =
+    let i : mark ≡ length now.history - 1 = omega (arith, e) in
+    ap (λ k. get_or now.history k []) i ∙ known.last
+
+-- ---- single boxes
+
+pub single_exact : (parts : Parts) (t : Trailed) (single spare : ℕ) → Keeps parts t single → spare ≡ t.spare → (nat_eq spare single ≡ true) ↔ IsSingle (box_in (bits_of parts) t.words)
+single_exact parts t single spare keeps e =
+    let now = present (shape parts) (sum (shape parts)) (bits_of parts) t keeps.sound in
+    let count = now.0 in
+    let room = keeps.spare in
+    let box = box_in (bits_of parts) t.words in
+    let filled = box_filled (shape parts) box now.1 in
+    let size = length_box (shape parts) box now.1 in (
+      λ h. (let s : spare ≡ single = eqb-true spare single h in single_from_count box filled (omega (arith, count, room, e, s, size))),
+      λ h. (let r = count_from_single box filled h in eq-eqb spare single (omega (arith, count, room, e, r, size))),
+    )
