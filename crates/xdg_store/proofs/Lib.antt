@@ -12,3 +12,4 @@ pub mod Starting
 pub mod NodeRows
 pub mod Rowwise
 pub mod Pairs
+pub mod Daughters
