@@ -13,3 +13,5 @@ pub mod NodeRows
 pub mod Rowwise
 pub mod Pairs
 pub mod Daughters
+pub mod OneWord
+pub mod Small

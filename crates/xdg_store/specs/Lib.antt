@@ -3,3 +3,4 @@ pub mod States
 pub mod InRange
 pub mod Change
 pub mod Rows
+pub mod Example

@@ -1,6 +1,6 @@
 -- What is taken from words on a trail.
 use Rattle.std.specs.Prelude.{◌≡◌, ℕ, ◌+◌, ◌*◌, ◌/◌, ◌%◌, ◌^◌, ◌<◌, ◌≢◌, true, false, List, ◌∷◌, length, slice_index, slice_set}
-use Rattle.std.specs.Int.{bit_not, w64}
+use Rattle.std.specs.Int.{bit_at, bit_not, w64}
 use lib.Bits.{bit_and}
 use Rattle.xdg_trail.specs.Trailed.{Trailed, past}
 use Rattle.xdg_store.specs.Layout.{is_set}
@@ -20,6 +20,10 @@ pub record Clears (old new : Trailed) (bit : ℕ) : Type 0 where
 -- a row has a bit that is set beside that of a value
 abbrev pub HasOther : List ℕ → ℕ → ℕ → ℕ → Type 0
 HasOther words start size value = (x : ℕ) × (x < size) × (x ≢ value) × (is_set words (start + x) ≡ true)
+
+-- a word of a row has a bit that is set beside that of a value; its lowest bit is that of the value first
+abbrev pub HasOtherInWord : ℕ → ℕ → ℕ → ℕ → Type 0
+HasOtherInWord word first size value = (i : ℕ) × (i < 64) × (first + i < size) × (first + i ≢ value) × (bit_at word i ≡ 1)
 
 -- a bit was taken, unless it was not set, or no other bit stood beside it
 abbrev pub Takes : Change → Trailed → Trailed → ℕ → Type 0 → Type 0

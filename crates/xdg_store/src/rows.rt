@@ -1,8 +1,9 @@
 //! Bits on a trail of words.
 
-ghost use Rattle.std.specs.Prelude.{◌≡◌, ◌≢◌, ◌<◌, ◌≤◌, ◌+◌, ◌*◌, ◌^◌, ℕ, ◌↔◌, IsTrue, true, length};
+ghost use Rattle.std.specs.Prelude.{◌≡◌, ◌<◌, ◌≤◌, ◌+◌, ◌*◌, ◌%◌, ◌^◌, ◌==◌, ℕ, ◌↔◌, IsTrue, true, cond, length, nat_lt};
+ghost use Rattle.std.specs.Int.{bit_at};
 ghost use Rattle.xdg_store.specs.Layout.{is_set};
-ghost use Rattle.xdg_store.specs.Rows.{Clears, HasOther, Takes};
+ghost use Rattle.xdg_store.specs.Rows.{Clears, HasOther, HasOtherInWord, Takes};
 
 use crate::change::Change;
 use xdg_trail::Trail;
@@ -26,22 +27,54 @@ fn clear(trail: &mut Trail, bit: usize)
     trail.set(bit / 64, word & !(1 << (bit % 64)));
 }
 
-/// Whether a row has another bit that is set beside that of a value.
+/// A word with so many of its lowest bits set, or with all of them.
+fn low_bits(count: usize) -> u64
+    ensures { (i : ℕ) → i < 64 → bit_at result i ≡ cond (nat_lt i count) 1 0 }
+{
+    if count < 64 {
+        return (1u64 << count) - 1;
+    }
+    u64::MAX
+}
+
+/// A word with the bit of a value set, where its lowest bit is that of the value `first`; 0 where it has no such bit.
+fn bit_of(value: usize, first: usize) -> u64
+    ensures { (i : ℕ) → i < 64 → bit_at result i ≡ cond (first + i == value) 1 0 }
+{
+    if value < first || value - first >= 64 {
+        return 0;
+    }
+    1u64 << (value - first)
+}
+
+/// Whether a word of a row has a bit that is set beside that of a value. Its lowest bit is that of the value `first`.
+fn has_other_in_word(word: u64, first: usize, size: usize, value: usize) -> bool
+    requires { first < size }
+    ensures { IsTrue result ↔ HasOtherInWord word first size value }
+{
+    let others = word & low_bits(size - first) & !bit_of(value, first);
+    others != 0
+}
+
+/// Whether a row has another bit that is set beside that of a value. The row starts with the first bit of a word.
 fn has_other(trail: &Trail, start: usize, size: usize, value: usize) -> bool
+    requires first { start % 64 ≡ 0 }
     requires within { start + size ≤ 64 * length trail.now.words }
     requires small { start + size < 2 ^ 32 }
     ensures { IsTrue result ↔ HasOther trail.now.words start size value }
 {
-    for other in 0..size {
-        if other != value && is_set(trail, start + other) {
+    for place in 0..(size + 63) / 64 {
+        let word = trail.word(start / 64 + place);
+        if has_other_in_word(word, place * 64, size, value) {
             return true;
         }
     }
     false
 }
 
-/// Takes a value from a row of bits, unless it is the last.
+/// Takes a value from a row of bits, unless it is the last. The row starts with the first bit of a word.
 pub(crate) fn take_of_row(trail: &mut Trail, start: usize, size: usize, value: usize) -> Change
+    requires first { start % 64 ≡ 0 }
     requires within { start + size ≤ 64 * length trail.old.words }
     requires small { start + size < 2 ^ 32 }
     requires value { value < size }

@@ -1,6 +1,6 @@
-use Rattle.std.proofs.Common.{◌≡◌, ◌≢◌, ◌<◌, ◌+◌, ℕ, true}
+use Rattle.std.proofs.Common.{◌≡◌, ◌≢◌, ◌<◌, ◌+◌, ◌*◌, ℕ, true}
 use Rattle.xdg_store.specs.Layout.{is_set}
 use Rattle.xdg_store.proofs.rows.has_other.Given as goal
 
-abbrev pub invariant-loop-other : goal.invariant-loop-other
-invariant-loop-other l = (x : ℕ) → x < l.other → x ≢ l.value → is_set l.trail.words (l.start + x) ≡ true → ⊥
+abbrev pub invariant-loop-place : goal.invariant-loop-place
+invariant-loop-place l = (x : ℕ) → x < l.place * 64 → x < l.size → x ≢ l.value → is_set l.trail.words (l.start + x) ≡ true → ⊥
