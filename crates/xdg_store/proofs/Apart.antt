@@ -47,8 +47,8 @@ entries_within first (c ∷ cs) a =
     let most = a.0.most in (
       wider (entry_row first) (entry_row first + length c) (first * 1024) ((first + suc (length cs)) * 1024) (numbers_from (entry_row first) (length c)) (omega arith) (omega (arith, most)) (numbers_within (entry_row first) (length c)),
       each_weaker (Within (suc first * 1024) ((suc first + length cs) * 1024)) (Within (first * 1024) ((first + suc (length cs)) * 1024)) (entry_bits (suc first) cs)
-      (λ row w. wider (suc first * 1024) ((suc first + length cs) * 1024) (first * 1024) ((first + suc (length cs)) * 1024) row (omega arith) (omega arith) w)
-      (entries_within (suc first) cs a.1),
+          (λ row w. wider (suc first * 1024) ((suc first + length cs) * 1024) (first * 1024) ((first + suc (length cs)) * 1024) row (omega arith) (omega arith) w)
+          (entries_within (suc first) cs a.1),
     )
 
 entries_apart : (first : ℕ) (cs : List (List EntryNo)) → AllByRecursion AreCandidates cs → Ordered Apart (entry_bits first cs)
@@ -56,8 +56,8 @@ entries_apart first [] a = tt
 entries_apart first (c ∷ cs) a =
     let most = a.0.most in (
       each_weaker (Within (suc first * 1024) ((suc first + length cs) * 1024)) (Apart (numbers_from (entry_row first) (length c))) (entry_bits (suc first) cs)
-      (λ row w. ranges_apart (entry_row first) (entry_row first + length c) (suc first * 1024) ((suc first + length cs) * 1024) (numbers_from (entry_row first) (length c)) row (omega (arith, most)) (numbers_within (entry_row first) (length c)) w)
-      (entries_within (suc first) cs a.1),
+          (λ row w. ranges_apart (entry_row first) (entry_row first + length c) (suc first * 1024) ((suc first + length cs) * 1024) (numbers_from (entry_row first) (length c)) row (omega (arith, most)) (numbers_within (entry_row first) (length c)) w)
+          (entries_within (suc first) cs a.1),
       entries_apart (suc first) cs a.1,
     )
 
@@ -73,8 +73,8 @@ rows_within start (attr ∷ attrs) a =
     let most = a.0.most in (
       wider start (start + length attr.values) start (start + suc (length attrs) * 1024) (numbers_from start (length attr.values)) (omega arith) (omega (arith, most)) (numbers_within start (length attr.values)),
       each_weaker (Within (start + 1024) ((start + 1024) + length attrs * 1024)) (Within start (start + suc (length attrs) * 1024)) (row_bits (start + 1024) attrs)
-      (λ row w. wider (start + 1024) ((start + 1024) + length attrs * 1024) start (start + suc (length attrs) * 1024) row (omega arith) (omega arith) w)
-      (rows_within (start + 1024) attrs a.1),
+          (λ row w. wider (start + 1024) ((start + 1024) + length attrs * 1024) start (start + suc (length attrs) * 1024) row (omega arith) (omega arith) w)
+          (rows_within (start + 1024) attrs a.1),
     )
 
 rows_apart : (start : ℕ) (attrs : List AttrPlan) → AllByRecursion IsAttr attrs → Ordered Apart (row_bits start attrs)
@@ -82,8 +82,8 @@ rows_apart start [] a = tt
 rows_apart start (attr ∷ attrs) a =
     let most = a.0.most in (
       each_weaker (Within (start + 1024) ((start + 1024) + length attrs * 1024)) (Apart (numbers_from start (length attr.values))) (row_bits (start + 1024) attrs)
-      (λ row w. ranges_apart start (start + length attr.values) (start + 1024) ((start + 1024) + length attrs * 1024) (numbers_from start (length attr.values)) row (omega (arith, most)) (numbers_within start (length attr.values)) w)
-      (rows_within (start + 1024) attrs a.1),
+          (λ row w. ranges_apart start (start + length attr.values) (start + 1024) ((start + 1024) + length attrs * 1024) (numbers_from start (length attr.values)) row (omega (arith, most)) (numbers_within start (length attr.values)) w)
+          (rows_within (start + 1024) attrs a.1),
       rows_apart (start + 1024) attrs a.1,
     )
 

@@ -120,10 +120,10 @@ module _ (parts : Parts) (t : Trailed) (single d v : ℕ) (row : List ℕ) (keep
       spare = (let r = clears.room in let s = keeps.spare in omega (arith, r, s));
       sound = subst (Sound (shape parts) (sum (shape parts)) (bits_of parts)) (sym clears.past_is) (
         (let now = (present (shape parts) (sum (shape parts)) (bits_of parts) t keeps.sound).0 in
-        let one = remaining_taken box d v (has e) in
-        let n = length-states t.words t.records in
-        let same : remaining (box_in (bits_of parts) (cleared t.words (get_or row v 0))) ≡ remaining new_box = ap remaining (box_cleared parts d v row t.words keeps.problem keeps.long at within) in
-        omega (arith, now, one, n, same)),
+            let one = remaining_taken box d v (has e) in
+            let n = length-states t.words t.records in
+            let same : remaining (box_in (bits_of parts) (cleared t.words (get_or row v 0))) ≡ remaining new_box = ap remaining (box_cleared parts d v row t.words keeps.problem keeps.long at within) in
+            omega (arith, now, one, n, same)),
         subst (IsBox (shape parts)) (sym (box_cleared parts d v row t.words keeps.problem keeps.long at within)) (new_is_box other),
         keeps.sound,
       );

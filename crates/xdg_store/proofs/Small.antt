@@ -1,5 +1,5 @@
 -- The sample problem is a problem, and what a test asks of it is in range.
-use Rattle.std.proofs.Common.{◌≡◌, ◌≢◌, ◌<◌, ◌-◌, ℕ, zero, suc, inl, inr, List, [], ◌∷◌, All, AllPairs, refl, subst, sym, ap, ◌∙◌, arith, lit<, lit≤, codes}
+use Rattle.std.proofs.Common.{◌≡◌, ◌≢◌, ◌<◌, ◌≤◌, ◌-◌, ℕ, length, length-append, zero, suc, inl, inr, List, [], ◌∷◌, All, AllPairs, refl, subst, sym, ap, ◌∙◌, arith, lit<, lit≤, codes, true, false, nat_eq, get_or}
 use Rattle.xdg_base.specs.declared.ids.EntryNo.{EntryNo}
 use Rattle.xdg_problem.specs.declared.parts.AttrPlan.{AttrPlan}
 use Rattle.xdg_problem.specs.declared.parts.DimPlan.{DimPlan}
@@ -7,6 +7,7 @@ use Rattle.xdg_problem.specs.declared.parts.Parts.{Parts}
 use Rattle.xdg_problem.specs.declared.parts.Shown.{Shown}
 use Rattle.xdg_problem.specs.declared.parts.Shown.TheVariants as shown
 use Rattle.xdg_problem.specs.Analyses.{IsPlace}
+use Rattle.xdg_problem.specs.Boxes.{without}
 use Rattle.xdg_problem.specs.Places.{edge}
 use Rattle.xdg_problem.specs.Problems.{IsProblem, IsDim, IsAttr, IsGroup, AreCandidates, HasConstant}
 use Rattle.xdg_store.specs.Change.{Removes}
@@ -41,8 +42,12 @@ pairs_two R x y r (suc i) (suc zero) d before within = absurd (omega (arith, bef
 two_candidates : AreCandidates (record { 0 = 3 } ∷ record { 0 = 5 } ∷ [])
 two_candidates = record { some = lit< tt; most = lit≤ tt; rising = pairs_two (λ (a b : EntryNo). a.0 < b.0) (record { 0 = 3 }) (record { 0 = 5 }) (lit< tt); small = all_two (λ (e : EntryNo). e.0 < 4294967295) (record { 0 = 3 }) (record { 0 = 5 }) (lit< tt) (lit< tt) }
 
+abbrev first_byte : Shown → ℕ
+first_byte (shown.One text) = get_or text 0 0
+first_byte (shown.Many texts) = 0
+
 differ_values : (shown.One (codes "x")) ≢ (shown.One (codes "y"))
-differ_values same = cc
+differ_values same = let h : true ≡ false = ap (λ v. nat_eq (first_byte v) 120) same in cc
 
 is_colour : IsAttr colour
 is_colour = record { some = lit< tt; most = lit≤ tt; shown_as = all_two HasConstant (shown.One (codes "x")) (shown.One (codes "y")) tt tt; differ = pairs_two (λ (a b : Shown). a ≢ b) (shown.One (codes "x")) (shown.One (codes "y")) differ_values }
@@ -87,3 +92,9 @@ pub parts_stay : (change : Change) (old new : State) (d v : ℕ) → Removes cha
 parts_stay changes.Same old new d v r = ap (λ s. s.parts) r.1
 parts_stay changes.Changed old new d v r = ap (λ s. s.parts) r.2
 parts_stay changes.Emptied old new d v r = ap (λ s. s.parts) r.2
+
+-- and each box that stood
+pub history_stays : (change : Change) (old new : State) (d v : ℕ) → Removes change old new d v → length old.history ≤ length new.history
+history_stays changes.Same old new d v r = let e = ap (λ s. length s.history) r.1 in omega (arith, e)
+history_stays changes.Changed old new d v r = let e = ap (λ s. length s.history) r.2 in let n = length-append old.history (without old.now d v ∷ []) in omega (arith, e, n)
+history_stays changes.Emptied old new d v r = let e = ap (λ s. length s.history) r.2 in omega (arith, e)

@@ -1,4 +1,4 @@
-ghost use Rattle.std.specs.Prelude.{◌≡◌, ◌<◌, [], ◌∷◌, IfOk};
+ghost use Rattle.std.specs.Prelude.{◌≡◌, ◌<◌, ◌≤◌, ◌-◌, [], ◌∷◌, IfOk, length};
 ghost use Rattle.xdg_store.specs.Example.{colour, plan, small};
 
 use super::*;
@@ -90,40 +90,44 @@ fn edge_out(mother: u8) -> Edge
     }
 }
 
-#[tactic(auto, using(crate::proofs::Small::has_candidate, crate::proofs::Small::parts_stay))]
+#[tactic(auto, using(crate::proofs::Small::has_candidate, crate::proofs::Small::parts_stay, crate::proofs::Small::history_stays))]
 fn remove_entry(store: &mut Store, node: u8, place: u16) -> Change
     requires parts { store.old.parts ≡ small }
     requires node { node < 2 }
     requires place { place < 2 }
-    ensures { store.new.parts ≡ small }
+    ensures parts { store.new.parts ≡ small }
+    ensures history { length store.old.history ≤ length store.new.history }
 {
     store.remove_entry(NodeId(node), place)
 }
 
-#[tactic(auto, using(crate::proofs::Small::has_value, crate::proofs::Small::parts_stay))]
+#[tactic(auto, using(crate::proofs::Small::has_value, crate::proofs::Small::parts_stay, crate::proofs::Small::history_stays))]
 fn remove_value(store: &mut Store, node: u8, value: u16) -> Change
     requires parts { store.old.parts ≡ small }
     requires node { node < 2 }
     requires value { value < 2 }
-    ensures { store.new.parts ≡ small }
+    ensures parts { store.new.parts ≡ small }
+    ensures history { length store.old.history ≤ length store.new.history }
 {
     store.remove_attr(NodeId(node), DimId(0), AttrId(0), value)
 }
 
-#[tactic(auto, using(crate::proofs::Small::has_place, crate::proofs::Small::parts_stay))]
+#[tactic(auto, using(crate::proofs::Small::has_place, crate::proofs::Small::parts_stay, crate::proofs::Small::history_stays))]
 fn force(store: &mut Store, mother: u8) -> Change
     requires parts { store.old.parts ≡ small }
     requires mother { mother < 2 }
-    ensures { store.new.parts ≡ small }
+    ensures parts { store.new.parts ≡ small }
+    ensures history { length store.old.history ≤ length store.new.history }
 {
     store.force_edge(edge_out(mother))
 }
 
-#[tactic(auto, using(crate::proofs::Small::has_place, crate::proofs::Small::parts_stay))]
+#[tactic(auto, using(crate::proofs::Small::has_place, crate::proofs::Small::parts_stay, crate::proofs::Small::history_stays))]
 fn forbid(store: &mut Store, mother: u8) -> Change
     requires parts { store.old.parts ≡ small }
     requires mother { mother < 2 }
-    ensures { store.new.parts ≡ small }
+    ensures parts { store.new.parts ≡ small }
+    ensures history { length store.old.history ≤ length store.new.history }
 {
     store.forbid_edge(edge_out(mother))
 }

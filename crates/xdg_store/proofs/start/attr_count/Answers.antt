@@ -1,5 +1,3 @@
-use Rattle.std.proofs.Common.{◌≡◌, ◌+◌, ◌*◌, ◌≤◌, length, take}
-use Rattle.xdg_problem.specs.Vectors.{attr_sizes}
 use Rattle.xdg_store.proofs.Room.{attrs_step}
 use Rattle.xdg_store.proofs.start.attr_count.Goals as goal
 

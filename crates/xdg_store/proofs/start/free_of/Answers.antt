@@ -1,4 +1,4 @@
-use Rattle.std.proofs.Common.{◌≡◌, ◌<◌, length, arith}
+use Rattle.std.proofs.Common.{◌<◌, length, arith}
 use Rattle.xdg_problem.specs.Vectors.{shape}
 use Rattle.xdg_store.proofs.Room.{free_step, some_values}
 use Rattle.xdg_store.proofs.start.free_of.Goals as goal

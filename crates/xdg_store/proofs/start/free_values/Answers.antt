@@ -1,6 +1,5 @@
-use Rattle.std.proofs.Common.{◌≡◌, ◌+◌, ◌-◌, length, ap, arith, subst, sym}
-use Rattle.std.specs.Prelude.{sum}
-use Rattle.xdg_problem.specs.Vectors.{first_place, shape}
+use Rattle.std.proofs.Common.{◌≡◌, ◌+◌, arith}
+use Rattle.xdg_problem.specs.Vectors.{first_place}
 use Rattle.xdg_store.proofs.Room.{first_is, free_whole, length_first, places_few}
 use Rattle.xdg_store.proofs.start.free_values.Goals as goal
 

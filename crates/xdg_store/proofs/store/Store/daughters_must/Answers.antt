@@ -1,4 +1,4 @@
-use Rattle.std.proofs.Common.{◌≡◌, ◌≢◌, ◌<◌, ◌↔◌, ℕ, IsTrue, subst, sym}
+use Rattle.std.proofs.Common.{◌≢◌, ◌<◌, ◌↔◌, IsTrue, subst, sym}
 use Rattle.xdg_nodeset.specs.Nodes.{has}
 use Rattle.xdg_problem.specs.Boxes.{Must}
 use Rattle.xdg_problem.specs.Places.{edge, nodes}

@@ -1,4 +1,4 @@
-use Rattle.std.proofs.Common.{◌≡◌, ◌≢◌, ◌<◌, ◌↔◌, ℕ, IsTrue}
+use Rattle.std.proofs.Common.{◌≢◌, ◌<◌, ◌↔◌, ℕ, IsTrue}
 use Rattle.xdg_nodeset.specs.Nodes.{has}
 use Rattle.xdg_problem.specs.Boxes.{May}
 use Rattle.xdg_problem.specs.Places.{edge}

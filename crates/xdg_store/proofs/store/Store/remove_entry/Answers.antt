@@ -1,4 +1,4 @@
-use Rattle.std.proofs.Common.{◌≡◌, [], length, get_or, subst, sym}
+use Rattle.std.proofs.Common.{subst, sym}
 use Rattle.std.specs.Prelude.{sum}
 use Rattle.xdg_problem.specs.Boxes.{entry_decision}
 use Rattle.xdg_problem.specs.Vectors.{shape}
