@@ -33,12 +33,12 @@ has_place (x ∷ row) (suc v) h = let e = has_place row v h in omega (arith, e)
 
 -- ---- a value is taken that isn't the last of its decision
 
-kept_beside : (box : List (List Bool)) (d v x : ℕ) → Has box d x → x ≢ v → Has (without box d v) d x
+pub kept_beside : (box : List (List Bool)) (d v x : ℕ) → Has box d x → x ≢ v → Has (without box d v) d x
 kept_beside box d v x h n =
     ap (λ row. get_or row x false) (get_or-set_same box d (set (get_or box d []) v false) [] (has_decision box d x h))
     ∙ get_or-set_other (get_or box d []) v x false false n ∙ h
 
-kept_elsewhere : (box : List (List Bool)) (d v e x : ℕ) → Has box e x → e ≢ d → Has (without box d v) e x
+pub kept_elsewhere : (box : List (List Bool)) (d v e x : ℕ) → Has box e x → e ≢ d → Has (without box d v) e x
 kept_elsewhere box d v e x h n = ap (λ row. get_or row x false) (get_or-set_other box d e (set (get_or box d []) v false) [] n) ∙ h
 
 pub filled_taken : (box : List (List Bool)) (d v x : ℕ) → Filled box → Has box d x → x ≢ v → Filled (without box d v)

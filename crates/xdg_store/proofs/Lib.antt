@@ -14,4 +14,5 @@ pub mod Rowwise
 pub mod Pairs
 pub mod Daughters
 pub mod OneWord
+pub mod Leaving
 pub mod Small

@@ -7,15 +7,10 @@ use Rattle.xdg_problem.specs.declared.parts.Parts.{Parts}
 use Rattle.xdg_problem.specs.declared.parts.Shown.{Shown}
 use Rattle.xdg_problem.specs.declared.parts.Shown.TheVariants as shown
 use Rattle.xdg_problem.specs.Analyses.{IsPlace}
-use Rattle.xdg_problem.specs.Boxes.{without}
 use Rattle.xdg_problem.specs.Places.{edge}
 use Rattle.xdg_problem.specs.Problems.{IsProblem, IsDim, IsAttr, IsGroup, AreCandidates, HasConstant}
-use Rattle.xdg_store.specs.Change.{Removes}
 use Rattle.xdg_store.specs.Example.{colour, plan, small}
 use Rattle.xdg_store.specs.InRange.{HasCandidate, HasEdges, HasValue}
-use Rattle.xdg_store.specs.States.{State}
-use Rattle.xdg_store.specs.declared.change.Change.{Change}
-use Rattle.xdg_store.specs.declared.change.Change.TheVariants as changes
 
 all_none : {X : Type 0} (P : X → Type 0) → All P []
 all_none P k d within = absurd (omega (arith, within))
@@ -86,15 +81,3 @@ has_place parts mother is l = subst (λ p. IsPlace p (edge 0 mother 0 (1 - mothe
 
 pub has_edges : (parts : Parts) (node : ℕ) → parts ≡ small → node < 2 → HasEdges parts 0 node 0
 has_edges parts node is l = subst (λ p. HasEdges p 0 node 0) (sym is) (record { dim_in = lit< tt; graph = refl; node_in = l; label_in = lit< tt })
-
--- a removal leaves the parts as they were
-pub parts_stay : (change : Change) (old new : State) (d v : ℕ) → Removes change old new d v → new.parts ≡ old.parts
-parts_stay changes.Same old new d v r = ap (λ s. s.parts) r.1
-parts_stay changes.Changed old new d v r = ap (λ s. s.parts) r.2
-parts_stay changes.Emptied old new d v r = ap (λ s. s.parts) r.2
-
--- and each box that stood
-pub history_stays : (change : Change) (old new : State) (d v : ℕ) → Removes change old new d v → length old.history ≤ length new.history
-history_stays changes.Same old new d v r = let e = ap (λ s. length s.history) r.1 in omega (arith, e)
-history_stays changes.Changed old new d v r = let e = ap (λ s. length s.history) r.2 in let n = length-append old.history (without old.now d v ∷ []) in omega (arith, e, n)
-history_stays changes.Emptied old new d v r = let e = ap (λ s. length s.history) r.2 in omega (arith, e)

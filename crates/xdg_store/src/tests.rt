@@ -90,7 +90,7 @@ fn edge_out(mother: u8) -> Edge
     }
 }
 
-#[tactic(auto, using(crate::proofs::Small::has_candidate, crate::proofs::Small::parts_stay, crate::proofs::Small::history_stays))]
+#[tactic(auto, using(crate::proofs::Small::has_candidate, crate::proofs::Leaving::parts_stay, crate::proofs::Leaving::history_stays))]
 fn remove_entry(store: &mut Store, node: u8, place: u16) -> Change
     requires parts { store.old.parts ≡ small }
     requires node { node < 2 }
@@ -101,7 +101,7 @@ fn remove_entry(store: &mut Store, node: u8, place: u16) -> Change
     store.remove_entry(NodeId(node), place)
 }
 
-#[tactic(auto, using(crate::proofs::Small::has_value, crate::proofs::Small::parts_stay, crate::proofs::Small::history_stays))]
+#[tactic(auto, using(crate::proofs::Small::has_value, crate::proofs::Leaving::parts_stay, crate::proofs::Leaving::history_stays))]
 fn remove_value(store: &mut Store, node: u8, value: u16) -> Change
     requires parts { store.old.parts ≡ small }
     requires node { node < 2 }
@@ -112,7 +112,7 @@ fn remove_value(store: &mut Store, node: u8, value: u16) -> Change
     store.remove_attr(NodeId(node), DimId(0), AttrId(0), value)
 }
 
-#[tactic(auto, using(crate::proofs::Small::has_place, crate::proofs::Small::parts_stay, crate::proofs::Small::history_stays))]
+#[tactic(auto, using(crate::proofs::Small::has_place, crate::proofs::Leaving::parts_stay, crate::proofs::Leaving::history_stays))]
 fn force(store: &mut Store, mother: u8) -> Change
     requires parts { store.old.parts ≡ small }
     requires mother { mother < 2 }
@@ -122,7 +122,7 @@ fn force(store: &mut Store, mother: u8) -> Change
     store.force_edge(edge_out(mother))
 }
 
-#[tactic(auto, using(crate::proofs::Small::has_place, crate::proofs::Small::parts_stay, crate::proofs::Small::history_stays))]
+#[tactic(auto, using(crate::proofs::Small::has_place, crate::proofs::Leaving::parts_stay, crate::proofs::Leaving::history_stays))]
 fn forbid(store: &mut Store, mother: u8) -> Change
     requires parts { store.old.parts ≡ small }
     requires mother { mother < 2 }
