@@ -1,6 +1,5 @@
 -- No two values of decisions have the same bit, and all bits are in range.
-use Rattle.std.proofs.Common.{◌≡◌, ◌≢◌, ℕ, ◌<◌, ◌≤◌, ◌+◌, ◌*◌, ◌⊎◌, inl, inr, List, [], ◌∷◌, ◌++◌, length, map, ap, sym, ◌∙◌, arith, zero, suc, subst}
-use Rattle.std.specs.Prelude.{All}
+use Rattle.std.proofs.Common.{◌≡◌, ◌≢◌, ℕ, ◌<◌, ◌≤◌, ◌+◌, ◌*◌, ◌⊎◌, inl, inr, List, [], ◌∷◌, ◌++◌, length, map, ap, arith, suc, subst}
 use Rattle.std.specs.List.{AllByRecursion, flat_map}
 use Rattle.std.proofs.lemmas.List.Elements.{recursion_from_All}
 use Rattle.std.proofs.lemmas.Nat.{row_fits}
@@ -12,9 +11,9 @@ use Rattle.xdg_problem.specs.declared.parts.Parts.{Parts}
 use Rattle.xdg_problem.specs.Analyses.{IsPlace, Before}
 use Rattle.xdg_problem.specs.Places.{numbers_from, below, nodes, places}
 use Rattle.xdg_problem.specs.Problems.{AreCandidates, IsAttr, IsDim, IsProblem}
-use Rattle.xdg_problem.proofs.Ordered.{Ordered, each_at, each_weaker, each_append, each_map, each_both, each_across, each_flat_map, numbers_within, numbers_ordered, ordered_append, ordered_map, ordered_flat_map}
+use Rattle.xdg_problem.proofs.Ordered.{Ordered, each_weaker, each_append, each_map, each_both, each_across, each_flat_map, numbers_within, numbers_ordered, ordered_append, ordered_map, ordered_flat_map}
 use Rattle.xdg_problem.proofs.PlaceOrder.{places_ordered, each_is_place}
-use Rattle.xdg_store.specs.Layout.{entry_row, block, entry_bits, row_bits, attr_bits, edge_bit, pair_bits, bits_of, bit_count}
+use Rattle.xdg_store.specs.Layout.{entry_row, block, entry_bits, row_bits, attr_bits, pair_bits, bits_of, bit_count}
 use Rattle.xdg_store.proofs.Separate.{Differ, Apart, AreSeparate}
 
 -- all bits of a row stand in a range

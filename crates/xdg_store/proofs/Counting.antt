@@ -1,5 +1,5 @@
 -- How many values remain in a box, and what that tells.
-use Rattle.std.proofs.Common.{◌≡◌, ◌≢◌, ℕ, ◌<◌, ◌≤◌, ◌+◌, Bool, true, false, List, [], ◌∷◌, length, get_or, set, ap, sym, ◌∙◌, arith, zero, suc, refl}
+use Rattle.std.proofs.Common.{◌≡◌, ℕ, ◌<◌, ◌≤◌, ◌+◌, Bool, true, false, List, [], ◌∷◌, length, get_or, set, ap, arith, zero, suc, refl}
 use Rattle.xdg_problem.specs.Boxes.{Has, IsSingle, without}
 use Rattle.xdg_store.specs.States.{values_in, remaining}
 

@@ -1,5 +1,5 @@
 -- The daughters of a mother as a set.
-use Rattle.std.proofs.Common.{◌≡◌, ◌≢◌, ℕ, ◌<◌, ◌+◌, ◌↔◌, Bool, true, false, not, IsTrue, List, [], length, get_or, ap, ap₂, sym, ◌∙◌, arith, refl}
+use Rattle.std.proofs.Common.{◌≡◌, ◌≢◌, ℕ, ◌<◌, ◌+◌, ◌↔◌, not, IsTrue, List, get_or, ap, sym, ◌∙◌, arith, refl}
 use Rattle.std.specs.Prelude.{◌&&◌, ◌==◌, nat_lt}
 use Rattle.std.proofs.lemmas.Bool.{and_parts, and_from, eqb-false, lt-ltb, ltb-true, ne_eqb, not-true}
 use Rattle.std.proofs.lemmas.List.{get_or_default}

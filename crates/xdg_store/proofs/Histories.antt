@@ -1,5 +1,5 @@
 -- The boxes of the words that stood.
-use Rattle.std.proofs.Common.{◌≡◌, ◌≢◌, ℕ, ◌<◌, ◌≤◌, ◌+◌, ◌-◌, ◌↔◌, Bool, true, false, List, [], ◌∷◌, ◌++◌, length, get_or, set, take, drop, refl, ap, sym, ◌∙◌, arith, subst, zero, suc, length-append}
+use Rattle.std.proofs.Common.{◌≡◌, ℕ, ◌<◌, ◌≤◌, ◌+◌, ◌-◌, ◌↔◌, Bool, true, List, [], ◌∷◌, ◌++◌, length, get_or, set, take, drop, refl, ap, sym, ◌∙◌, arith, subst, zero, suc, length-append}
 use Rattle.std.proofs.lemmas.List.{take-append-le, take_all, get_or-take, length-take-le, get_or_push}
 use Rattle.xdg_problem.specs.declared.parts.Parts.{Parts}
 use Rattle.std.specs.Prelude.{nat_eq, sum}

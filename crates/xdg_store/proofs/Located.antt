@@ -1,5 +1,5 @@
 -- Where the bits of an entry, of an attribute and of an edge stand among those of all decisions.
-use Rattle.std.proofs.Common.{◌≡◌, ℕ, ◌<◌, ◌≤◌, ◌+◌, ◌*◌, ◌-◌, Bool, true, false, cond, inl, inr, List, [], ◌∷◌, ◌++◌, length, get_or, take, map, ap, sym, ◌∙◌, arith, subst, zero, suc, refl, length-append}
+use Rattle.std.proofs.Common.{◌≡◌, ℕ, ◌<◌, ◌+◌, ◌*◌, true, cond, inl, inr, List, [], ◌∷◌, ◌++◌, length, get_or, take, map, ap, sym, ◌∙◌, arith, subst, zero, suc, refl, length-append}
 use Rattle.std.specs.Prelude.{Contains}
 use Rattle.std.specs.List.{flat_map}
 use Rattle.std.proofs.lemmas.Bool.{cases_Bool}
@@ -21,7 +21,7 @@ use Rattle.xdg_problem.proofs.Edges.{same_edge_equal, same_edge_itself}
 use Rattle.xdg_problem.proofs.Ordered.{contains_cases, contains_none}
 use Rattle.xdg_problem.proofs.PlaceOrder.{place_is}
 use Rattle.xdg_store.specs.Layout.{entry_row, attr_row, block, entry_bits, row_bits, attr_bits, pair_bits, bits_of}
-use Rattle.xdg_store.proofs.Sizes.{row_sizes, attr_lengths}
+use Rattle.xdg_store.proofs.Sizes.{attr_lengths}
 
 -- the bits of a decision: it is one of the decisions, and these are its bits
 pub record Located (parts : Parts) (d : ℕ) (row : List ℕ) : Type 0 where

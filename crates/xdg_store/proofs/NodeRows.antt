@@ -1,6 +1,6 @@
 -- Sets of nodes from rows of bits.
-use Rattle.std.proofs.Common.{◌≡◌, ◌≢◌, ℕ, ◌<◌, ◌≤◌, ◌+◌, inl, inr, true, false, List, ap, ap₂, sym, ◌∙◌, arith}
-use Rattle.std.specs.Prelude.{Bool, ◌||◌, ◌==◌, nat_lt}
+use Rattle.std.proofs.Common.{◌≡◌, ℕ, ◌+◌, inl, inr, List, ap, ap₂, sym, ◌∙◌, arith}
+use Rattle.std.specs.Prelude.{◌||◌, ◌==◌, nat_lt}
 use Rattle.std.proofs.lemmas.Bool.{cases_eq, cases_lt, eq-eqb, ne_eqb, lt-ltb, le-ltb}
 use Rattle.xdg_nodeset.specs.Nodes.{has}
 

@@ -1,9 +1,9 @@
 -- Edge places: decisions with two bits.
-use Rattle.std.proofs.Common.{◌≡◌, ◌≢◌, ℕ, ◌<◌, ◌≤◌, ◌+◌, ◌↔◌, Bool, true, false, not, IsTrue, List, [], ◌∷◌, length, get_or, ap, sym, ◌∙◌, arith, subst, refl, zero, suc}
+use Rattle.std.proofs.Common.{◌≡◌, ℕ, ◌≤◌, ◌+◌, ◌↔◌, Bool, true, false, not, IsTrue, List, [], get_or, ap, sym, ◌∙◌, arith, subst, refl}
 use Rattle.xdg_problem.specs.declared.analysis.Edge.{Edge}
 use Rattle.xdg_problem.specs.declared.parts.Parts.{Parts}
 use Rattle.xdg_problem.specs.Analyses.{IsPlace}
-use Rattle.xdg_problem.specs.Boxes.{Has, May, Must, edge_decision}
+use Rattle.xdg_problem.specs.Boxes.{May, Must, edge_decision}
 use Rattle.xdg_problem.specs.Places.{nodes}
 use Rattle.xdg_problem.specs.Problems.{IsProblem}
 use Rattle.xdg_trail.specs.Trailed.{Trailed}

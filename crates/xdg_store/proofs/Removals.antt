@@ -1,5 +1,5 @@
 -- What it does to a store that a bit is taken.
-use Rattle.std.proofs.Common.{◌≡◌, ◌≢◌, ℕ, ◌<◌, ◌≤◌, ◌+◌, ◌*◌, ◌↔◌, inl, inr, Bool, true, false, List, [], ◌∷◌, ◌++◌, length, get_or, set, map, ap, ap₂, sym, ◌∙◌, arith, subst, refl}
+use Rattle.std.proofs.Common.{◌≡◌, ◌≢◌, ℕ, ◌<◌, ◌≤◌, ◌*◌, inl, inr, Bool, true, false, List, [], ◌∷◌, ◌++◌, length, get_or, set, map, ap, ap₂, sym, ◌∙◌, arith, subst, refl}
 use Rattle.std.specs.Prelude.{sum}
 use Rattle.std.specs.List.{AllByRecursion}
 use Rattle.std.proofs.lemmas.Bool.{cases_eq}
@@ -13,7 +13,7 @@ use Rattle.xdg_trail.specs.Trailed.{Trailed, past}
 use Rattle.xdg_store.specs.Change.{Removes, with_box}
 use Rattle.xdg_store.specs.Layout.{bits_of, bit_count, box_in, is_set}
 use Rattle.xdg_store.specs.Rows.{Clears, Takes, cleared}
-use Rattle.xdg_store.specs.States.{State, Keeps, Sound, oldest, remaining}
+use Rattle.xdg_store.specs.States.{Keeps, Sound, oldest, remaining}
 use Rattle.xdg_store.specs.declared.change.Change.{Change}
 use Rattle.xdg_store.specs.declared.change.Change.TheVariants as changes
 use Rattle.xdg_store.proofs.Apart.{bits_separate, bits_within}

@@ -1,11 +1,11 @@
 -- Entries and attributes: decisions whose bits stand in a row.
-use Rattle.std.proofs.Common.{◌≡◌, ◌≢◌, ℕ, ◌<◌, ◌≤◌, ◌+◌, ◌↔◌, Bool, true, false, IsTrue, List, [], length, get_or, ap, sym, ◌∙◌, arith, subst}
+use Rattle.std.proofs.Common.{◌≡◌, ℕ, ◌<◌, ◌≤◌, ◌+◌, ◌↔◌, Bool, true, false, IsTrue, List, [], length, get_or, ap, sym, ◌∙◌, arith, subst}
 use Rattle.std.proofs.lemmas.List.{get_or_default}
 use Rattle.xdg_base.specs.declared.ids.EntryNo.{EntryNo}
 use Rattle.xdg_problem.specs.declared.parts.AttrPlan.{AttrPlan}
 use Rattle.xdg_problem.specs.declared.parts.DimPlan.{DimPlan}
 use Rattle.xdg_problem.specs.declared.parts.Parts.{Parts}
-use Rattle.xdg_problem.specs.Arguments.{no_plan, no_attr, attr_count, value_count}
+use Rattle.xdg_problem.specs.Arguments.{no_plan, no_attr, value_count}
 use Rattle.xdg_problem.specs.Boxes.{Has, entry_decision, attr_decision}
 use Rattle.xdg_problem.specs.Places.{nodes, numbers_from}
 use Rattle.xdg_problem.specs.Problems.{IsProblem}

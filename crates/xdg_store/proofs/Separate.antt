@@ -1,5 +1,5 @@
 -- Rows of bits of which no two are the same, and the box that they say after one of them was cleared.
-use Rattle.std.proofs.Common.{◌≡◌, ◌≢◌, ℕ, ◌<◌, ◌≤◌, ◌+◌, Bool, true, false, List, [], ◌∷◌, ◌++◌, length, get_or, set, map, ap, ap₂, sym, ◌∙◌, arith, subst, zero, suc, refl, replicate}
+use Rattle.std.proofs.Common.{◌≡◌, ◌≢◌, ℕ, ◌<◌, Bool, true, false, List, [], ◌∷◌, length, get_or, set, map, ap, ap₂, sym, ◌∙◌, arith, zero, suc, refl, replicate}
 use Rattle.std.specs.List.{AllByRecursion}
 use Rattle.std.proofs.lemmas.List.{get_or-map}
 use Rattle.xdg_problem.proofs.Ordered.{Ordered, each_at, each_weaker}

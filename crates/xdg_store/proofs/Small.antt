@@ -1,5 +1,5 @@
 -- The sample problem is a problem, and what a test asks of it is in range.
-use Rattle.std.proofs.Common.{◌≡◌, ◌≢◌, ◌<◌, ◌≤◌, ◌-◌, ℕ, length, length-append, zero, suc, inl, inr, List, [], ◌∷◌, All, AllPairs, refl, subst, sym, ap, ◌∙◌, arith, lit<, lit≤, codes, true, false, nat_eq, get_or}
+use Rattle.std.proofs.Common.{◌≡◌, ◌≢◌, ◌<◌, ◌-◌, ℕ, zero, suc, List, [], ◌∷◌, All, AllPairs, refl, subst, sym, ap, arith, lit<, lit≤, codes, true, false, nat_eq, get_or}
 use Rattle.xdg_base.specs.declared.ids.EntryNo.{EntryNo}
 use Rattle.xdg_problem.specs.declared.parts.AttrPlan.{AttrPlan}
 use Rattle.xdg_problem.specs.declared.parts.DimPlan.{DimPlan}
