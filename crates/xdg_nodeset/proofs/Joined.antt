@@ -1,12 +1,12 @@
 -- Two words side by side, as one number.
-use Rattle.std.proofs.Common.{◌≡◌, ℕ, ◌<◌, ◌≤◌, ◌+◌, ◌-◌, ◌*◌, ◌/◌, ◌%◌, ◌^◌, refl, ap, ap₂, sym, ◌∙◌, arith, inl, inr, bit_or}
-use Rattle.std.specs.Prelude.{Bool, true, false, ◌==◌, cond, nat_lt}
+use Rattle.std.proofs.Common.{◌≡◌, ℕ, ◌<◌, ◌≤◌, ◌+◌, ◌-◌, ◌*◌, ◌%◌, ◌^◌, ap, ap₂, sym, ◌∙◌, arith, inl, inr, bit_or}
+use Rattle.std.specs.Prelude.{false, ◌==◌, cond}
 use Rattle.std.specs.Int.{bit_at}
 use Prim.Native.Nat.{max}
 use Rattle.std.proofs.lemmas.Bool.{cases_lt, lt-ltb, le-ltb}
 use Rattle.std.proofs.lemmas.Nat.{or_lt}
-use Rattle.std.proofs.lemmas.Nat.Bits.{bit_at_or, bit_at_cat_low, bit_at_cat_high, bit_at_above, bit_at-zero, bit_at-lt}
-use Rattle.xdg_nodeset.specs.Nodes.{has, nodes}
+use Rattle.std.proofs.lemmas.Nat.Bits.{bit_at_or, bit_at_cat_low, bit_at_cat_high, bit_at_above, bit_at-zero}
+use Rattle.xdg_nodeset.specs.Nodes.{has}
 use Rattle.xdg_nodeset.specs.Bits.{is_set, members}
 use Rattle.xdg_nodeset.specs.Words.{in_words}
 use Rattle.xdg_nodeset.proofs.Rising.{has_of, has_beyond}

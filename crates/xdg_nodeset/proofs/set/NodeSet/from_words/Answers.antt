@@ -1,7 +1,5 @@
-use Rattle.std.proofs.Common.{◌*◌, ◌%◌, ap₂, bit_or, ◌≡◌}
-use Rattle.xdg_nodeset.specs.Nodes.{has}
-use Rattle.xdg_nodeset.specs.Bits.{members}
-use Rattle.xdg_nodeset.proofs.Joined.{joined_has, joined_small}
+use Rattle.std.proofs.Common.{◌*◌, ◌%◌, bit_or}
+use Rattle.xdg_nodeset.proofs.Joined.{joined_has}
 use Rattle.xdg_nodeset.proofs.Masks.{members_are_nodes}
 use Rattle.xdg_nodeset.proofs.set.NodeSet.from_words.Goals as goal
 
