@@ -30,7 +30,8 @@ decided_order n group u candidate values edges = decided_like ((x : ℕ) → x <
     (λ h x a y b. h x y a b)
     (decided_below (λ x. (y : ℕ) → y < n → AsksOf conditions.Order group candidate values edges (u ∷ x ∷ y ∷ [])) n (λ x. decided_below (λ y. AsksOf conditions.Order group candidate values edges (u ∷ x ∷ y ∷ [])) n (λ y. decided_asks conditions.Order group candidate values edges (u ∷ x ∷ y ∷ []))))
 
-decided_passes : (n : ℕ) (group : Group) (test : Test) (candidate : ℕ) (values : List ℕ) (edges : List Edge) → Decided (Passes n group test candidate values edges)
+-- whether a test passes
+pub decided_passes : (n : ℕ) (group : Group) (test : Test) (candidate : ℕ) (values : List ℕ) (edges : List Edge) → Decided (Passes n group test candidate values edges)
 decided_passes n group (out_count v l k) candidate values edges = decided_counts n k (out_row group v candidate l) (length edges)
 decided_passes n group (in_count v l k) candidate values edges = decided_counts n k (in_row group v candidate l) (length edges)
 decided_passes n group (one_mother v k) candidate values edges = decided_most (length edges) 1

@@ -1,0 +1,4 @@
+pub mod Keeping
+pub mod Among
+pub mod Sizes
+pub mod Shrinking

@@ -1,0 +1,80 @@
+-- The sizes of a box's decisions.
+use Rattle.std.proofs.Common.{◌≡◌, ℕ, ◌+◌, ◌<◌, ◌≤◌, ◌⊎◌, inl, inr, zero, suc, Bool, true, false, cond, List, [], ◌∷◌, ◌++◌, length, map, refl, sym, ap, ◌∙◌, arith, subst}
+use Rattle.std.specs.Prelude.{Contains, slice_index, slice_index_or}
+use Rattle.std.proofs.lemmas.Bool.{cases_Bool, false≢true}
+use Rattle.std.proofs.lemmas.List.{get_or-append-add, length-map}
+use Rattle.xdg_problem.specs.declared.analysis.Edge.{Edge}
+use Rattle.xdg_problem.specs.declared.parts.Parts.{Parts}
+use Rattle.xdg_problem.specs.Places.{nodes, places, same_edge}
+use Rattle.xdg_problem.specs.Vectors.{attr_sizes, shape, first_place}
+use Rattle.xdg_problem.specs.Problems.{IsProblem}
+use Rattle.xdg_problem.proofs.Edges.{same_edge_itself, same_edge_equal}
+use Rattle.xdg_problem.proofs.Ordered.{contains_cases, contains_none}
+use Rattle.xdg_problem.proofs.VectorFacts.{length_shape}
+use Rattle.xdg_rules.specs.Boxes.{Has, IsBox, place_in, edge_decision, entry_decision}
+
+row_within : (row : List Bool) (v : ℕ) → slice_index_or row v false ≡ true → v < length row
+row_within [] v has = absurd (false≢true has)
+row_within (b ∷ row) zero has = omega arith
+row_within (b ∷ row) (suc v) has = (let rest = row_within row v has in omega (arith, rest))
+
+-- what remains is a value of its decision
+pub within_sizes : (box : List (List Bool)) (d v : ℕ) → Has box d v → v < slice_index_or (map length box) d 0
+within_sizes [] d v has = absurd (false≢true has)
+within_sizes (row ∷ box) zero v has = row_within row v has
+within_sizes (row ∷ box) (suc d) v has = within_sizes box d v has
+
+-- a place among places stands at its number
+place_put : (b : Bool) (n k : ℕ) → (b ≡ false → k < n) → cond b 0 (suc k) < suc n
+place_put true n k h = omega arith
+place_put false n k h = (let l = h refl in omega (arith, l))
+
+pub place_within : (edges : List Edge) (e : Edge) → Contains edges e → place_in edges e < length edges
+place_within [] e c = absurd (contains_none e c)
+place_within (place ∷ edges) e c = place_put (same_edge place e) (length edges) (place_in edges e) (λ other. elim (contains_cases place edges e c) [
+  | inl is ↦ absurd (false≢true (sym other ∙ ap (λ x. same_edge x e) is ∙ same_edge_itself e))
+  | inr later ↦ place_within edges e later
+])
+
+-- each edge place has two values
+twos : (edges : List Edge) (k : ℕ) → k < length edges → slice_index (map (λ (place : Edge). 2) edges) k ≡ 2
+twos [] k l = absurd (omega arith)
+twos (e ∷ edges) zero l = refl
+twos (e ∷ edges) (suc k) l = twos edges k (omega arith)
+
+pub edge_size : (parts : Parts) (e : Edge) → Contains (places parts) e → slice_index (shape parts) (edge_decision parts e) ≡ 2
+edge_size parts e c =
+    let k : ℕ = place_in (places parts) e in
+    let entries : List ℕ = map length parts.candidates in
+    let attrs : List ℕ = attr_sizes (nodes parts) parts.dims in
+    let edges : List ℕ = map (λ (place : Edge). 2) (places parts) in
+    let same : edge_decision parts e ≡ length entries + (length attrs + k) = (let n = length-map parts.candidates length in omega (arith, n)) in
+    ap (λ d. slice_index_or (shape parts) d 0) same
+    ∙ get_or-append-add entries (attrs ++ edges) (length attrs + k) 0
+    ∙ get_or-append-add attrs edges k 0
+    ∙ twos (places parts) k (place_within (places parts) e c)
+
+pub edge_within : (parts : Parts) (e : Edge) → Contains (places parts) e → edge_decision parts e < length (shape parts)
+edge_within parts e c = (let long = length_shape parts in let k = place_within (places parts) e c in omega (arith, long, k))
+
+pub node_within : (parts : Parts) (node : ℕ) → IsProblem parts → node < nodes parts → entry_decision node < length (shape parts)
+node_within parts node is l = (let long = length_shape parts in let each = is.candidates_each in omega (arith, long, each))
+
+pub attr_place_within : (parts : Parts) (place : ℕ) → place < length (attr_sizes (nodes parts) parts.dims) → length parts.candidates + place < length (shape parts)
+attr_place_within parts place l = (let long = length_shape parts in omega (arith, long))
+
+-- the remaining values of an edge place are 0 and 1
+pub edge_values : (parts : Parts) (box : List (List Bool)) → IsBox (shape parts) box → (e : Edge) → Contains (places parts) e → (v : ℕ) → Has box (edge_decision parts e) v → v < 2
+edge_values parts box is e c v has =
+    let l = within_sizes box (edge_decision parts e) v has in
+    subst (λ n. v < n) (edge_size parts e c) (subst (λ sizes. v < slice_index_or sizes (edge_decision parts e) 0) is.sizes l)
+
+-- one of the two remains
+pub edge_some : (parts : Parts) (box : List (List Bool)) → IsBox (shape parts) box → (e : Edge) → Contains (places parts) e → Has box (edge_decision parts e) 0 ⊎ Has box (edge_decision parts e) 1
+edge_some parts box is e c =
+    let filled = is.filled (edge_decision parts e) (edge_within parts e c) in
+    by filled.0 (edge_values parts box is e c filled.0 filled.1) filled.1 where
+      by : (v : ℕ) → v < 2 → Has box (edge_decision parts e) v → Has box (edge_decision parts e) 0 ⊎ Has box (edge_decision parts e) 1
+      by zero l has = inl has
+      by (suc zero) l has = inr has
+      by (suc (suc v)) l has = absurd (omega arith)

@@ -1,0 +1,371 @@
+-- Rules on boxes: which values a principle use takes away from a box. What they take stands in no analysis of the box that
+-- satisfies the principle use.
+use Rattle.std.specs.Prelude.{◌≡◌, ◌≢◌, ℕ, suc, ◌+◌, ◌<◌, ◌≤◌, ◌⊎◌, ◌==◌, ◌&&◌, Bool, true, false, not, List, [], ◌∷◌, length, map, filter, Option, Some, None, Contains, All, slice_index, slice_index_or}
+use Rattle.xdg_problem.specs.declared.analysis.Edge.{Edge}
+use Rattle.xdg_problem.specs.declared.parts.Group.{Group}
+use Rattle.xdg_problem.specs.declared.parts.Parts.{Parts}
+use Rattle.xdg_problem.specs.declared.parts.Principle.{Principle}
+use Rattle.xdg_problem.specs.declared.parts.Principle.TheVariants as principles
+use Rattle.xdg_problem.specs.Arguments.{first_dim, second_dim, label_count, attr_of, order_of, truth_of}
+use Rattle.xdg_problem.specs.Asking.{IsBetween, IsLinked}
+use Rattle.xdg_rules.specs.Boxes.{Box, Has, IsOnly, entry_decision, attr_decision, edge_decision}
+use Rattle.xdg_problem.specs.Features.{in_row, out_row, set_row, map_row}
+use Rattle.xdg_problem.specs.Paths.{edges_into, edges_out_of, mothers, roots, IsDaughterBy, IsDaughter, Above}
+use Rattle.xdg_problem.specs.Places.{nodes, places}
+use Rattle.xdg_problem.specs.Tests.{Test, IsTest, looks_at, entry_node, test_attrs, Passes}
+
+-- ---- the two graphs of a box
+
+-- whether the value v of the decision d remains
+abbrev pub has : List (List Bool) → ℕ → ℕ → Bool
+has box d v = slice_index_or (slice_index_or box d []) v false
+
+-- the edges of a dimension that may be present
+abbrev pub may_edges : Parts → List (List Bool) → ℕ → List Edge
+may_edges parts box dim = filter (λ e. (e.dim.0 == dim) && has box (edge_decision parts e) 0) (places parts)
+
+-- the edges of a dimension that must be present: they may be, and they can't be absent
+abbrev pub must_edges : Parts → List (List Bool) → ℕ → List Edge
+must_edges parts box dim = filter (λ e. (e.dim.0 == dim) && (has box (edge_decision parts e) 0 && not (has box (edge_decision parts e) 1))) (places parts)
+
+-- ---- what a rule takes
+
+-- an edge place of a dimension
+abbrev pub IsPlaceOn : Parts → ℕ → Edge → Type 0
+IsPlaceOn parts dim e = Contains (places parts) e × (e.dim.0 ≡ dim)
+
+-- the value v of the decision d says that the edge is present
+abbrev pub SaysPresent : Parts → Edge → ℕ → ℕ → Type 0
+SaysPresent parts e d v = (d ≡ edge_decision parts e) × (v ≡ 0)
+
+-- the value v of the decision d says that the edge is absent
+abbrev pub SaysAbsent : Parts → Edge → ℕ → ℕ → Type 0
+SaysAbsent parts e d v = (d ≡ edge_decision parts e) × (v ≡ 1)
+
+-- each entry of a node that remains, by its place among the candidates
+abbrev pub EachEntry : List (List Bool) → ℕ → (ℕ → Type 0) → Type 0
+EachEntry box node P = (c : ℕ) → Has box (entry_decision node) c → P c
+
+-- ---- tests whose decisions have one value each
+
+-- the decision has one value
+abbrev pub IsDecided : List (List Bool) → ℕ → Type 0
+IsDecided box d = (v : ℕ) × Has box d v × IsOnly box d v
+
+-- the first value that remains, and behind all values where none does
+abbrev pub first_true : List Bool → ℕ
+first_true [] = 0
+first_true (true ∷ flags) = 0
+first_true (false ∷ flags) = suc (first_true flags)
+
+-- the value of a decision that has one
+abbrev pub value_in : List (List Bool) → ℕ → ℕ
+value_in box d = first_true (slice_index_or box d [])
+
+abbrev pub EntryDecided : List (List Bool) → Option ℕ → Type 0
+EntryDecided box None = Unit {0}
+EntryDecided box (Some node) = IsDecided box (entry_decision node)
+
+abbrev pub entry_value : List (List Bool) → Option ℕ → ℕ
+entry_value box None = 0
+entry_value box (Some node) = value_in box (entry_decision node)
+
+-- the decisions that a test looks at have one value each
+pub record TestDecided (parts : Parts) (group : Group) (box : List (List Bool)) (test : Test) : Type 0 where
+  pub entry : EntryDecided box (entry_node test)
+  pub attrs : All (λ place. IsDecided box (length parts.candidates + place)) (test_attrs parts group test)
+  pub edges : All (λ e. looks_at group test e ≡ true → IsDecided box (edge_decision parts e)) (places parts)
+
+-- what the test asks, of these values
+abbrev pub TestPasses : Parts → Group → List (List Bool) → Test → Type 0
+TestPasses parts group box test = Passes (nodes parts) group test (entry_value box (entry_node test)) (map (λ place. value_in box (length parts.candidates + place)) (test_attrs parts group test)) (filter (λ e. looks_at group test e && has box (edge_decision parts e) 0) (places parts))
+
+-- a test is decided and fails
+pub record FailsTest (parts : Parts) (group : Group) (box : List (List Bool)) : Type 0 where
+  pub test : Test
+  pub is : IsTest parts group test
+  pub decided : TestDecided parts group box test
+  pub fails : TestPasses parts group box test → ⊥
+
+-- ---- valency
+
+-- no number of the cardinality lies between the two
+abbrev pub HasNoneWithin : List ℕ → ℕ → ℕ → Type 0
+HasNoneWithin cardinality least most = (k : ℕ) → Contains cardinality k → least ≤ k → k ≤ most → ⊥
+
+-- the number is the greatest that a remaining entry of the node allows
+pub record IsGreatest (box : List (List Bool)) (node : ℕ) (row : ℕ → List ℕ) (number : ℕ) : Type 0 where
+  pub entry : ℕ
+  pub remains : Has box (entry_decision node) entry
+  pub allowed : Contains (row entry) number
+  pub most : EachEntry box node (λ c. All (λ k. k ≤ number) (row c))
+
+-- the number is the least that a remaining entry of the node allows
+pub record IsLeast (box : List (List Bool)) (node : ℕ) (row : ℕ → List ℕ) (number : ℕ) : Type 0 where
+  pub entry : ℕ
+  pub remains : Has box (entry_decision node) entry
+  pub allowed : Contains (row entry) number
+  pub least : EachEntry box node (λ c. All (λ k. number ≤ k) (row c))
+
+-- an entry of a node: no number of edges between those that must be and those that may be is in its cardinality
+pub record ValencyEntry (parts : Parts) (group : Group) (box : List (List Bool)) (d v : ℕ) : Type 0 where
+  pub node : ℕ
+  pub within : node < nodes parts
+  pub label : ℕ
+  pub known : label < label_count parts (first_dim group)
+  pub is : d ≡ entry_decision node
+  pub none :
+    HasNoneWithin (out_row group node v label) (edges_out_of (must_edges parts box (first_dim group)) node label) (edges_out_of (may_edges parts box (first_dim group)) node label)
+    ⊎ HasNoneWithin (in_row group node v label) (edges_into (must_edges parts box (first_dim group)) node label) (edges_into (may_edges parts box (first_dim group)) node label)
+
+-- a further edge: as many as the entries of its node allow at most must be
+pub record ValencyFull (parts : Parts) (group : Group) (box : List (List Bool)) (d v : ℕ) : Type 0 where
+  pub place : Edge
+  pub is : IsPlaceOn parts (first_dim group) place
+  pub says : SaysPresent parts place d v
+  pub free : Contains (must_edges parts box (first_dim group)) place → ⊥
+  pub full :
+    IsGreatest box place.mother.0 (λ c. out_row group place.mother.0 c place.label.0) (edges_out_of (must_edges parts box (first_dim group)) place.mother.0 place.label.0)
+    ⊎ IsGreatest box place.daughter.0 (λ c. in_row group place.daughter.0 c place.label.0) (edges_into (must_edges parts box (first_dim group)) place.daughter.0 place.label.0)
+
+-- the absence of an edge: only as many as the entries of its node want at least may be
+pub record ValencyNeeded (parts : Parts) (group : Group) (box : List (List Bool)) (d v : ℕ) : Type 0 where
+  pub place : Edge
+  pub may : Contains (may_edges parts box (first_dim group)) place
+  pub says : SaysAbsent parts place d v
+  pub needed :
+    IsLeast box place.mother.0 (λ c. out_row group place.mother.0 c place.label.0) (edges_out_of (may_edges parts box (first_dim group)) place.mother.0 place.label.0)
+    ⊎ IsLeast box place.daughter.0 (λ c. in_row group place.daughter.0 c place.label.0) (edges_into (may_edges parts box (first_dim group)) place.daughter.0 place.label.0)
+
+-- ---- tree and dag
+
+-- a second edge into a node: another one into it must be
+pub record OneMother (parts : Parts) (group : Group) (box : List (List Bool)) (d v : ℕ) : Type 0 where
+  pub place : Edge
+  pub is : IsPlaceOn parts (first_dim group) place
+  pub says : SaysPresent parts place d v
+  pub other : Edge
+  pub must : Contains (must_edges parts box (first_dim group)) other
+  pub differs : place ≢ other
+  pub both : place.daughter.0 ≡ other.daughter.0
+
+-- an edge into the one node into which no edge must be
+pub record RootFound (parts : Parts) (group : Group) (box : List (List Bool)) (d v : ℕ) : Type 0 where
+  pub place : Edge
+  pub is : IsPlaceOn parts (first_dim group) place
+  pub says : SaysPresent parts place d v
+  pub root : roots (nodes parts) (must_edges parts box (first_dim group)) ≡ place.daughter.0 ∷ []
+
+-- into each node an edge must be
+abbrev pub HasNoRoot : Parts → Group → List (List Bool) → Type 0
+HasNoRoot parts group box = roots (nodes parts) (must_edges parts box (first_dim group)) ≡ []
+
+-- the absence of the only edge that may lead into a node, where into another node none may
+pub record OnlyMother (parts : Parts) (group : Group) (box : List (List Bool)) (d v : ℕ) : Type 0 where
+  pub place : Edge
+  pub may : Contains (may_edges parts box (first_dim group)) place
+  pub says : SaysAbsent parts place d v
+  pub only : mothers (may_edges parts box (first_dim group)) place.daughter.0 ≡ 1
+  pub other : ℕ
+  pub root : Contains (roots (nodes parts) (may_edges parts box (first_dim group))) other
+
+-- into two nodes no edge may lead
+abbrev pub HasTwoRoots : Parts → Group → List (List Bool) → Type 0
+HasTwoRoots parts group box = 2 ≤ length (roots (nodes parts) (may_edges parts box (first_dim group)))
+
+-- an edge from u to v, where v is above u by edges that must be
+pub record NoCycle (parts : Parts) (group : Group) (box : List (List Bool)) (d v : ℕ) : Type 0 where
+  pub place : Edge
+  pub is : IsPlaceOn parts (first_dim group) place
+  pub says : SaysPresent parts place d v
+  pub back : Above (must_edges parts box (first_dim group)) place.daughter.0 place.mother.0
+
+-- an edge between two nodes, where another with its own label must be
+pub record OneLabel (parts : Parts) (group : Group) (box : List (List Bool)) (d v : ℕ) : Type 0 where
+  pub place : Edge
+  pub is : IsPlaceOn parts (first_dim group) place
+  pub says : SaysPresent parts place d v
+  pub other : Edge
+  pub must : Contains (must_edges parts box (first_dim group)) other
+  pub differs : place ≢ other
+  pub mother : place.mother.0 ≡ other.mother.0
+  pub daughter : place.daughter.0 ≡ other.daughter.0
+
+-- ---- attributes
+
+-- the decision of an attribute argument of a node
+abbrev pub attr_of_node : Parts → Group → ℕ → ℕ → ℕ
+attr_of_node parts group argument node = attr_decision parts (first_dim group) node (attr_of group argument)
+
+-- a value of Agr that the set of no remaining entry has, or an entry whose set has no remaining value
+pub record AgrValues (parts : Parts) (group : Group) (box : List (List Bool)) (d v : ℕ) : Type 0 where
+  pub node : ℕ
+  pub within : node < nodes parts
+  pub lacks :
+    ((d ≡ attr_of_node parts group 0 node) × EachEntry box node (λ c. Contains (set_row group node c) v → ⊥))
+    ⊎ ((d ≡ entry_decision node) × ((x : ℕ) → Has box (attr_of_node parts group 0 node) x → Contains (set_row group node v) x → ⊥))
+
+-- each remaining entry of the mother asks for agreement at the label of the edge
+abbrev pub AsksAgreement : Group → List (List Bool) → Edge → Type 0
+AsksAgreement group box place = EachEntry box place.mother.0 (λ c. Contains (set_row group place.mother.0 c) place.label.0)
+
+-- an edge whose two ends have no value in common, or a value that the other end of an edge that must be hasn't
+pub record AgreementValues (parts : Parts) (group : Group) (box : List (List Bool)) (d v : ℕ) : Type 0 where
+  pub place : Edge
+  pub is : IsPlaceOn parts (first_dim group) place
+  pub asks : AsksAgreement group box place
+  pub lacks :
+    (SaysPresent parts place d v × ((x : ℕ) → Has box (attr_of_node parts group 0 place.mother.0) x → Has box (attr_of_node parts group 1 place.daughter.0) x → ⊥))
+    ⊎ (Contains (must_edges parts box (first_dim group)) place
+      × (((d ≡ attr_of_node parts group 0 place.mother.0) × (Has box (attr_of_node parts group 1 place.daughter.0) v → ⊥))
+        ⊎ ((d ≡ attr_of_node parts group 1 place.daughter.0) × (Has box (attr_of_node parts group 0 place.mother.0) v → ⊥))))
+
+-- each remaining entry of the mother governs at the label of the edge
+abbrev pub Governs : Group → List (List Bool) → Edge → Type 0
+Governs group box place = EachEntry box place.mother.0 (λ c. 0 < length (map_row group place.mother.0 c place.label.0))
+
+-- an edge for which no set has a remaining value of the daughter, or a value in none of the sets where the edge must be
+pub record GovernmentValues (parts : Parts) (group : Group) (box : List (List Bool)) (d v : ℕ) : Type 0 where
+  pub place : Edge
+  pub is : IsPlaceOn parts (first_dim group) place
+  pub governs : Governs group box place
+  pub lacks :
+    (SaysPresent parts place d v × EachEntry box place.mother.0 (λ c. (x : ℕ) → Has box (attr_of_node parts group 0 place.daughter.0) x → Contains (map_row group place.mother.0 c place.label.0) x → ⊥))
+    ⊎ (Contains (must_edges parts box (first_dim group)) place
+      × (d ≡ attr_of_node parts group 0 place.daughter.0)
+      × EachEntry box place.mother.0 (λ c. Contains (map_row group place.mother.0 c place.label.0) v → ⊥))
+
+-- ---- order and projectivity
+
+-- a label stands before another in the order
+abbrev pub ComesBefore : List ℕ → ℕ → ℕ → Type 0
+ComesBefore [] l m = ⊥
+ComesBefore (label ∷ order) l m = ((label ≡ l) × Contains order m) ⊎ ComesBefore order l m
+
+-- an edge to a daughter that stands on the wrong side of another, whose edge must be, or where that one stands
+pub record DaughterOrder (parts : Parts) (group : Group) (box : List (List Bool)) (d v : ℕ) : Type 0 where
+  pub place : Edge
+  pub is : IsPlaceOn parts (first_dim group) place
+  pub says : SaysPresent parts place d v
+  pub other : Edge
+  pub must : Contains (must_edges parts box (first_dim group)) other
+  pub mother : place.mother.0 ≡ other.mother.0
+  pub wrong :
+    (ComesBefore (order_of group) other.label.0 place.label.0 × (place.daughter.0 ≤ other.daughter.0))
+    ⊎ (ComesBefore (order_of group) place.label.0 other.label.0 × (other.daughter.0 ≤ place.daughter.0))
+
+-- under its own label x the mother of an edge stands on the wrong side of the daughter
+abbrev pub HeadOffends : Group → ℕ → Edge → Type 0
+HeadOffends group x place =
+    (ComesBefore (order_of group) place.label.0 x × (place.mother.0 < place.daughter.0))
+    ⊎ (ComesBefore (order_of group) x place.label.0 × (place.daughter.0 < place.mother.0))
+
+-- an edge of a mother that has one own label left, and stands on the wrong side
+pub record AboutHead (parts : Parts) (group : Group) (box : List (List Bool)) (d v : ℕ) : Type 0 where
+  pub place : Edge
+  pub is : IsPlaceOn parts (first_dim group) place
+  pub says : SaysPresent parts place d v
+  pub own : ℕ
+  pub remains : Has box (attr_of_node parts group 0 place.mother.0) own
+  pub only : IsOnly box (attr_of_node parts group 0 place.mother.0) own
+  pub offends : HeadOffends group own place
+
+-- an own label of a mother, under which it stands on the wrong side of a daughter whose edge must be
+pub record OfHead (parts : Parts) (group : Group) (box : List (List Bool)) (d v : ℕ) : Type 0 where
+  pub place : Edge
+  pub must : Contains (must_edges parts box (first_dim group)) place
+  pub is : d ≡ attr_of_node parts group 0 place.mother.0
+  pub offends : HeadOffends group v place
+
+-- an edge across a node that can't be below its mother
+pub record ProjectivityReach (parts : Parts) (group : Group) (box : List (List Bool)) (d v : ℕ) : Type 0 where
+  pub place : Edge
+  pub is : IsPlaceOn parts (first_dim group) place
+  pub says : SaysPresent parts place d v
+  pub node : ℕ
+  pub within : node < nodes parts
+  pub between : IsBetween place.mother.0 place.daughter.0 node
+  pub apart : Above (may_edges parts box (first_dim group)) place.mother.0 node → ⊥
+
+-- ---- two dimensions
+
+-- an edge of the first dimension, whose daughter can't be below its mother on the second
+pub record ClimbingReach (parts : Parts) (group : Group) (box : List (List Bool)) (d v : ℕ) : Type 0 where
+  pub place : Edge
+  pub is : IsPlaceOn parts (first_dim group) place
+  pub says : SaysPresent parts place d v
+  pub apart : Above (may_edges parts box (second_dim group)) place.mother.0 place.daughter.0 → ⊥
+
+-- an edge of the second dimension, whose label a node blocks that is its mother or must be above it, and under which its
+-- daughter can't be on the first dimension
+pub record BarriersReach (parts : Parts) (group : Group) (box : List (List Bool)) (d v : ℕ) : Type 0 where
+  pub place : Edge
+  pub is : IsPlaceOn parts (second_dim group) place
+  pub says : SaysPresent parts place d v
+  pub barrier : ℕ
+  pub above : (barrier ≡ place.mother.0) ⊎ Above (must_edges parts box (second_dim group)) barrier place.mother.0
+  pub blocks : EachEntry box barrier (λ c. Contains (set_row group barrier c) place.label.0)
+  pub apart : Above (may_edges parts box (first_dim group)) barrier place.daughter.0 → ⊥
+
+-- an edge of the first dimension, for which each remaining entry of its mother links, and by no edges that may be
+pub record LinkingReach (parts : Parts) (group : Group) (box : List (List Bool)) (d v : ℕ) : Type 0 where
+  pub place : Edge
+  pub is : IsPlaceOn parts (first_dim group) place
+  pub says : SaysPresent parts place d v
+  pub links : EachEntry box place.mother.0 (λ c. 0 < length (map_row group place.mother.0 c place.label.0))
+  pub apart : EachEntry box place.mother.0 (λ c. IsLinked group.principle (may_edges parts box (second_dim group)) place.mother.0 (map_row group place.mother.0 c place.label.0) place.daughter.0 → ⊥)
+
+-- two edges from one node to another, of the first dimension and of the second, that each remaining entry keeps apart: either
+-- one where the other must be
+pub record LinkingNotDaughter (parts : Parts) (group : Group) (box : List (List Bool)) (d v : ℕ) : Type 0 where
+  pub place : Edge
+  pub is : IsPlaceOn parts (first_dim group) place
+  pub other : Edge
+  pub other_is : IsPlaceOn parts (second_dim group) other
+  pub mother : place.mother.0 ≡ other.mother.0
+  pub daughter : place.daughter.0 ≡ other.daughter.0
+  pub keeps : EachEntry box place.mother.0 (λ c. Contains (set_row group place.mother.0 c) place.label.0)
+  pub one :
+    (SaysPresent parts place d v × Contains (must_edges parts box (second_dim group)) other)
+    ⊎ (SaysPresent parts other d v × Contains (must_edges parts box (first_dim group)) place)
+
+-- ---- principles
+
+-- the two rules of a dimension with one root, which take single values, and where they fail all
+abbrev pub TakesForRoot : Parts → Group → List (List Bool) → ℕ → ℕ → Type 0
+TakesForRoot parts group box d v = RootFound parts group box d v ⊎ (HasNoRoot parts group box ⊎ (OnlyMother parts group box d v ⊎ HasTwoRoots parts group box))
+
+-- what the rules of a principle take, beside its tests
+abbrev pub TakesBy : Principle → Parts → Group → List (List Bool) → ℕ → ℕ → Type 0
+TakesBy principles.Tree parts group box d v = OneMother parts group box d v ⊎ (TakesForRoot parts group box d v ⊎ NoCycle parts group box d v)
+TakesBy principles.Dag parts group box d v = NoCycle parts group box d v ⊎ (((truth_of group.truths 0 ≡ true) × TakesForRoot parts group box d v) ⊎ ((truth_of group.truths 1 ≡ true) × OneLabel parts group box d v))
+TakesBy principles.Valency parts group box d v = ValencyEntry parts group box d v ⊎ (ValencyFull parts group box d v ⊎ ValencyNeeded parts group box d v)
+TakesBy principles.Order parts group box d v = DaughterOrder parts group box d v ⊎ (AboutHead parts group box d v ⊎ OfHead parts group box d v)
+TakesBy principles.Projectivity parts group box d v = ProjectivityReach parts group box d v
+TakesBy principles.Agr parts group box d v = AgrValues parts group box d v
+TakesBy principles.Agreement parts group box d v = AgreementValues parts group box d v
+TakesBy principles.Government parts group box d v = GovernmentValues parts group box d v
+TakesBy principles.Climbing parts group box d v = ClimbingReach parts group box d v
+TakesBy principles.Barriers parts group box d v = BarriersReach parts group box d v
+TakesBy principles.LinkingEnd parts group box d v = LinkingReach parts group box d v
+TakesBy principles.LinkingDaughter parts group box d v = LinkingReach parts group box d v
+TakesBy principles.LinkingMother parts group box d v = LinkingReach parts group box d v
+TakesBy principles.LinkingBelowStart parts group box d v = LinkingReach parts group box d v
+TakesBy principles.LinkingAboveStart parts group box d v = LinkingReach parts group box d v
+TakesBy principles.LinkingSisters parts group box d v = LinkingReach parts group box d v
+TakesBy principles.LinkingNotDaughter parts group box d v = LinkingNotDaughter parts group box d v
+TakesBy principle parts group box d v = ⊥
+
+-- what a principle use takes from a box: everything where a test of it fails that is decided, and what its rules take
+abbrev pub Takes : Parts → Group → List (List Bool) → ℕ → ℕ → Type 0
+Takes parts group box d v = FailsTest parts group box ⊎ TakesBy group.principle parts group box d v
+
+-- ---- closed boxes
+
+-- a principle use takes nothing that remains
+abbrev pub IsClosedFor : Parts → Group → List (List Bool) → Type 0
+IsClosedFor parts group box = (d v : ℕ) → Has box d v → Takes parts group box d v → ⊥
+
+-- no principle use takes anything that remains
+abbrev pub IsClosed : Parts → List (List Bool) → Type 0
+IsClosed parts box = All (λ group. IsClosedFor parts group box) parts.groups

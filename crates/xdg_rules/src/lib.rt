@@ -1,0 +1,2 @@
+//! Boxes of values, and what the rules of the principles take from them: definitions and their laws alone.
+#![tactic(auto)]
