@@ -25,11 +25,11 @@ use Rattle.xdg_problem.proofs.AttrPlaces.{AreWithin, each_within}
 use Rattle.xdg_problem.proofs.KeptTests.{kept_tests}
 
 -- the node whose entry a test looks at is a node
-abbrev IsNode : ℕ → Option ℕ → Type 0
+abbrev pub IsNode : ℕ → Option ℕ → Type 0
 IsNode n None = Unit {0}
 IsNode n (Some node) = node < n
 
-each_node : (truths : List Bool) (n labels : ℕ) (principle : Principle) → Each truths n labels (λ test. IsNode n (entry_node test)) principle
+pub each_node : (truths : List Bool) (n labels : ℕ) (principle : Principle) → Each truths n labels (λ test. IsNode n (entry_node test)) principle
 each_node truths n labels principles.Graph = tt
 each_node truths n labels principles.Entries = tt
 each_node truths n labels principles.Tree = (λ v a k b. tt, λ k a. tt, tt)

@@ -2,3 +2,8 @@ pub mod Keeping
 pub mod Among
 pub mod Sizes
 pub mod Shrinking
+pub mod Antitone
+pub mod Counting
+pub mod Rooted
+pub mod Failing
+pub mod Monotone
