@@ -63,7 +63,8 @@ module _ (parts : Parts) (x : List ℕ) (is : IsProblem parts) (fits : Fits (sha
   edges_placed : All (IsPlace parts) (edges_in parts x)
   edges_placed = (analysis_fits parts x is fits whole).places
 
-  entry_same : (v : ℕ) → v < nodes parts → slice_index x v ≡ slice_index (entry_places parts.candidates (entries_at parts.candidates x)) v
+  -- the number of an entry is that of its place among the candidates
+  pub entry_same : (v : ℕ) → v < nodes parts → slice_index x v ≡ slice_index (entry_places parts.candidates (entries_at parts.candidates x)) v
   entry_same v below =
       let each = is.candidates_each in
       let back = entries_back parts x is fits (omega (arith, length_shape parts)) in

@@ -7,3 +7,6 @@ pub mod Counting
 pub mod Rooted
 pub mod Failing
 pub mod Monotone
+pub mod Agreeing
+pub mod ClosedLive
+pub mod Whole

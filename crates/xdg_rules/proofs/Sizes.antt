@@ -13,7 +13,7 @@ use Rattle.xdg_problem.proofs.Ordered.{contains_cases, contains_none}
 use Rattle.xdg_problem.proofs.VectorFacts.{length_shape}
 use Rattle.xdg_rules.specs.Boxes.{Has, IsBox, place_in, edge_decision, entry_decision}
 
-row_within : (row : List Bool) (v : ℕ) → slice_index_or row v false ≡ true → v < length row
+pub row_within : (row : List Bool) (v : ℕ) → slice_index_or row v false ≡ true → v < length row
 row_within [] v has = absurd (false≢true has)
 row_within (b ∷ row) zero has = omega arith
 row_within (b ∷ row) (suc v) has = (let rest = row_within row v has in omega (arith, rest))

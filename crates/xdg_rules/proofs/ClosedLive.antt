@@ -1,0 +1,48 @@
+-- A prefix with which a closed box agrees is live, and so are all its fronts.
+use Rattle.std.proofs.Common.{◌≡◌, ℕ, ◌<◌, ◌⊎◌, inl, inr, Bool, List, ◌++◌, length, map, refl}
+use Rattle.std.specs.Prelude.{filter, All}
+use Rattle.xdg_listing.specs.Closed.{Closed}
+use Rattle.xdg_problem.specs.declared.parts.Group.{Group}
+use Rattle.xdg_problem.specs.declared.parts.Parts.{Parts}
+use Rattle.xdg_problem.specs.Live.{entry_in, attr_in, IsLiveFor, Live}
+use Rattle.xdg_problem.specs.Places.{nodes}
+use Rattle.xdg_problem.specs.Problems.{IsProblem}
+use Rattle.xdg_problem.specs.Tests.{looks_at, entry_node, test_attrs}
+use Rattle.xdg_problem.specs.Vectors.{shape, edges_in}
+use Rattle.xdg_problem.proofs.LiveDecided.{decided_passes}
+use Rattle.xdg_rules.specs.Boxes.{Has, IsBox, Agrees}
+use Rattle.xdg_rules.specs.Rules.{FailsTest, IsClosedFor, IsClosed}
+use Rattle.xdg_rules.specs.Boxed.{Boxed}
+use Rattle.xdg_rules.proofs.Sizes.{node_within}
+use Rattle.xdg_rules.proofs.Agreeing.{agrees_front, stands_decided, holds_passes}
+
+-- something remains in a box of a problem
+pub some_value : (parts : Parts) (box : List (List Bool)) → IsProblem parts → IsBox (shape parts) box → (v : ℕ) × Has box 0 v
+some_value parts box problem is = is.filled 0 (node_within parts 0 problem problem.some)
+
+-- in a box that is closed for a principle use no test of it fails
+pub none_fails : (parts : Parts) (group : Group) (box : List (List Bool)) → IsProblem parts → IsBox (shape parts) box → IsClosedFor parts group box → FailsTest parts group box → ⊥
+none_fails parts group box problem is closed failing = (let some = some_value parts box problem is in closed 0 some.0 some.1 (inl failing))
+
+module _ (parts : Parts) (box : List (List Bool)) (p : List ℕ) (problem : IsProblem parts) (is : IsBox (shape parts) box) (agrees : Agrees box p) where
+  pub closed_live_for : (group : Group) → IsClosedFor parts group box → IsLiveFor parts group p
+  closed_live_for group closed test tested stands = elim (decided_passes (nodes parts) group test (entry_in (entry_node test) p) (map (attr_in parts p) (test_attrs parts group test)) (filter (looks_at group test) (edges_in parts p))) [
+    | inl holds ↦ holds
+    | inr fails ↦ absurd (none_fails parts group box problem is closed (record {
+        test = test;
+        is = tested;
+        decided = stands_decided parts box p agrees group test stands;
+        fails = λ passes. fails ((holds_passes parts box p agrees group test stands).1 passes);
+      }))
+  ]
+
+  pub closed_live : IsClosed parts box → Live parts p
+  closed_live closed k d within = closed_live_for _ (closed k d within)
+
+-- each boxed prefix is live
+pub boxed_live : (parts : Parts) (p : List ℕ) → IsProblem parts → Boxed parts p → Live parts p
+boxed_live parts p problem boxed = closed_live parts boxed.box p problem boxed.is boxed.agrees boxed.closed
+
+-- each front of a boxed prefix is boxed
+pub boxed_closed : (parts : Parts) → Closed (Boxed parts)
+boxed_closed parts p t some boxed = record { box = boxed.box; is = boxed.is; closed = boxed.closed; agrees = agrees_front boxed.box p t boxed.agrees }

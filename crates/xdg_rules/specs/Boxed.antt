@@ -1,0 +1,24 @@
+-- The box of a vector's values, and the prefixes with which a closed box agrees.
+use Rattle.std.specs.Prelude.{ℕ, ◌==◌, Bool, List, [], ◌∷◌, map}
+use Rattle.xdg_problem.specs.declared.parts.Parts.{Parts}
+use Rattle.xdg_problem.specs.Places.{below}
+use Rattle.xdg_problem.specs.Vectors.{shape}
+use Rattle.xdg_rules.specs.Boxes.{IsBox, Agrees, full}
+use Rattle.xdg_rules.specs.Rules.{IsClosed}
+
+-- of so many values one remains
+abbrev pub one_value : ℕ → ℕ → List Bool
+one_value size x = map (λ v. v == x) (below size)
+
+-- the box in which each decision of a vector has its number alone; a decision behind the vector has all its values
+abbrev pub only : List ℕ → List ℕ → List (List Bool)
+only sizes [] = full sizes
+only [] (x ∷ numbers) = []
+only (size ∷ sizes) (x ∷ numbers) = one_value size x ∷ only sizes numbers
+
+-- a prefix is boxed where a closed box of the problem's shape agrees with it
+pub record Boxed (parts : Parts) (prefix : List ℕ) : Type 0 where
+  pub box : List (List Bool)
+  pub is : IsBox (shape parts) box
+  pub closed : IsClosed parts box
+  pub agrees : Agrees box prefix
