@@ -23,10 +23,13 @@ use Rattle.xdg_rules.proofs.Sizes.{node_within}
 use Rattle.xdg_rules.proofs.Shrinking.{may_or_not, must_or_not, may_count, must_count, may_count_more, must_count_more, may_is}
 
 -- the label of a place is one of its dimension
-pub label_known : (parts : Parts) (e : Edge) → IsPlace parts e → e.label.0 < label_count parts e.dim.0
+label_known : (parts : Parts) (e : Edge) → IsPlace parts e → e.label.0 < label_count parts e.dim.0
 label_known parts e is =
     let plan : slice_index_or parts.dims e.dim.0 no_plan ≡ is.plan = get_or_default parts.dims e.dim.0 no_plan is.plan is.dim ∙ is.is_plan in
     subst (λ (p : DimPlan). e.label.0 < length p.labels) (sym plan) is.label
+
+pub label_on : (parts : Parts) (dim : ℕ) (e : Edge) → IsPlace parts e → e.dim.0 ≡ dim → e.label.0 < label_count parts dim
+label_on parts dim e is on = subst (λ k. e.label.0 < label_count parts k) on (label_known parts e is)
 
 -- The greatest number of the larger box is that of the smaller one, as soon as an entry of the smaller one has a number within
 -- its counts: m is the count of the larger box, from and to are those of the smaller.
@@ -92,7 +95,7 @@ module _ (parts : Parts) (group : Group) (small large : List (List Bool)) (probl
     stands = is_place parts place placed
 
     known : l < label_count parts one
-    known = subst (λ dim. l < label_count parts dim) on (label_known parts place stands)
+    known = label_on parts one place stands on
 
     -- an entry of a node remains, and a number of it lies within the counts of the small box, as far as nothing follows from it
     out_some : ((c k : ℕ) → Has small (entry_decision u) c → Contains (out_row group u c l) k → edges_out_of (must small) u l ≤ k → k ≤ edges_out_of (may small) u l → ⊥) → ⊥

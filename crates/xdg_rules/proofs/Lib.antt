@@ -10,3 +10,5 @@ pub mod Monotone
 pub mod Agreeing
 pub mod ClosedLive
 pub mod Whole
+pub mod SoundTree
+pub mod SoundValues
