@@ -12,3 +12,5 @@ pub mod ClosedLive
 pub mod Whole
 pub mod SoundTree
 pub mod SoundValues
+pub mod SoundPaths
+pub mod Solved
