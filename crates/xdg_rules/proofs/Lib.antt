@@ -14,3 +14,5 @@ pub mod SoundTree
 pub mod SoundValues
 pub mod SoundPaths
 pub mod Solved
+pub mod Single
+pub mod RuleLaws

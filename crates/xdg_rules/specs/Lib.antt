@@ -1,3 +1,4 @@
 pub mod Boxes
 pub mod Rules
 pub mod Boxed
+pub mod Laws

@@ -1,0 +1,46 @@
+-- What the rules of all principles keep.
+use Rattle.std.specs.Prelude.{◌≡◌, ◌↔◌, ℕ, Bool, List, length, All}
+use Rattle.xdg_listing.specs.Closed.{Closed}
+use Rattle.xdg_listing.specs.Fits.{Fits}
+use Rattle.xdg_problem.specs.declared.analysis.Analysis.{Analysis}
+use Rattle.xdg_problem.specs.declared.parts.Group.{Group}
+use Rattle.xdg_problem.specs.declared.parts.Parts.{Parts}
+use Rattle.xdg_problem.specs.Analyses.{IsAnalysis}
+use Rattle.xdg_problem.specs.Live.{Live}
+use Rattle.xdg_problem.specs.Problems.{IsGroup}
+use Rattle.xdg_problem.specs.Relations.{Relation}
+use Rattle.xdg_problem.specs.Solutions.{IsSolution}
+use Rattle.xdg_problem.specs.Vectors.{shape, vector, analysis_of}
+use Rattle.xdg_rules.specs.Boxes.{Has, IsBox, LiesIn, IsIn}
+use Rattle.xdg_rules.specs.Rules.{Takes, IsClosedFor}
+use Rattle.xdg_rules.specs.Boxed.{only, Boxed}
+
+-- a box of the shape that is closed for a principle use, lies in another box, and has a value there
+pub record IsInside (parts : Parts) (group : Group) (box : List (List Bool)) (d v : ℕ) : Type 0 where
+  pub small : List (List Bool)
+  pub is : IsBox (shape parts) small
+  pub closed : IsClosedFor parts group small
+  pub lies : LiesIn small box
+  pub remains : Has small d v
+
+-- what a principle use keeps of every box
+pub record RuleLaws (parts : Parts) (group : Group) : Type 0 where
+  -- what it takes from a box remains in no box inside that is closed for it
+  pub monotone : (small large : List (List Bool)) → IsBox (shape parts) small → LiesIn small large → IsClosedFor parts group small → (d v : ℕ) → Takes parts group large d v → Has small d v → ⊥
+  -- a box whose values all remain in boxes inside that are closed for it is closed for it
+  pub covered : (box : List (List Bool)) → ((d v : ℕ) → Has box d v → IsInside parts group box d v) → IsClosedFor parts group box
+  -- the box of an analysis is closed for it exactly where the analysis satisfies it
+  pub single : (analysis : Analysis) → IsAnalysis parts analysis → IsClosedFor parts group (only (shape parts) (vector parts analysis)) ↔ Relation parts group analysis
+  -- it takes no value of an analysis of the box that satisfies it
+  pub stays : (box : List (List Bool)) (analysis : Analysis) → IsAnalysis parts analysis → IsIn box (vector parts analysis) → Relation parts group analysis → (d v : ℕ) → Takes parts group box d v → Has (only (shape parts) (vector parts analysis)) d v → ⊥
+
+-- what boxed prefixes keep
+pub record BoxedLaws (parts : Parts) : Type 0 where
+  -- each front of a boxed prefix is boxed
+  pub fronts : Closed (Boxed parts)
+  -- each boxed prefix is live
+  pub live : (prefix : List ℕ) → Boxed parts prefix → Live parts prefix
+  -- a whole vector is boxed exactly where its analysis is a solution
+  pub whole : (numbers : List ℕ) → Fits (shape parts) numbers → length numbers ≡ length (shape parts) → Boxed parts numbers ↔ IsSolution parts (analysis_of parts numbers)
+  -- the vector of each solution is boxed
+  pub solutions : (analysis : Analysis) → IsSolution parts analysis → Boxed parts (vector parts analysis)
