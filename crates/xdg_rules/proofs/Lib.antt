@@ -15,4 +15,5 @@ pub mod SoundValues
 pub mod SoundPaths
 pub mod Solved
 pub mod Single
+pub mod Removing
 pub mod RuleLaws

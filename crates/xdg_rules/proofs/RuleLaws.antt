@@ -12,17 +12,26 @@ use Rattle.xdg_problem.specs.Solutions.{IsSolution}
 use Rattle.xdg_problem.specs.Vectors.{shape, vector, analysis_of}
 use Rattle.xdg_problem.proofs.VectorFacts.{analysis_fits, analysis_vector, vector_fits, length_vector}
 use Rattle.xdg_problem.proofs.WholeTests.{whole_live}
-use Rattle.xdg_rules.specs.Boxes.{Has, IsBox, LiesIn, IsIn}
+use Rattle.xdg_rules.specs.Boxes.{Has, IsBox, LiesIn, IsIn, without}
 use Rattle.xdg_rules.specs.Rules.{Takes, IsClosedFor}
 use Rattle.xdg_rules.specs.Boxed.{only, Boxed}
 use Rattle.xdg_rules.specs.Laws.{IsInside, RuleLaws, BoxedLaws}
-use Rattle.xdg_rules.proofs.ClosedLive.{boxed_live, boxed_closed}
+use Rattle.xdg_rules.proofs.ClosedLive.{some_value, boxed_live, boxed_closed}
 use Rattle.xdg_rules.proofs.Monotone.{monotone}
+use Rattle.xdg_rules.proofs.Removing.{lies_without}
 use Rattle.xdg_rules.proofs.Single.{only_agrees, only_box, only_lies}
 use Rattle.xdg_rules.proofs.Solved.{closed_is_relation}
 
 module _ (parts : Parts) (problem : IsProblem parts) where
   module _ (group : Group) (group_is : IsGroup parts group) where
+    without_taken : (small large : List (List Bool)) → IsBox (shape parts) small → LiesIn small large → IsClosedFor parts group small → (d v : ℕ) → Takes parts group large d v → LiesIn small (without large d v)
+    without_taken small large is lies closed d v takes = lies_without small large d v lies (monotone parts group small large problem group_is is lies closed d v takes)
+
+    none_left : (small large : List (List Bool)) → IsBox (shape parts) small → LiesIn small large → IsClosedFor parts group small → ((d v : ℕ) → Has large d v → Takes parts group large d v) → ⊥
+    none_left small large is lies closed all =
+        let some = some_value parts small problem is in
+        monotone parts group small large problem group_is is lies closed 0 some.0 (all 0 some.0 (lies 0 some.0 some.1)) some.1
+
     covered : (box : List (List Bool)) → ((d v : ℕ) → Has box d v → IsInside parts group box d v) → IsClosedFor parts group box
     covered box inside d v has takes =
         let in_small = inside d v has in
@@ -44,6 +53,8 @@ module _ (parts : Parts) (problem : IsProblem parts) where
     pub rule_laws : RuleLaws parts group
     rule_laws = record {
       monotone = λ small large is lies closed. monotone parts group small large problem group_is is lies closed;
+      without_taken = without_taken;
+      none_left = none_left;
       covered = covered;
       single = single;
       stays = stays;

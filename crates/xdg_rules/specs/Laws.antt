@@ -11,7 +11,7 @@ use Rattle.xdg_problem.specs.Problems.{IsGroup}
 use Rattle.xdg_problem.specs.Relations.{Relation}
 use Rattle.xdg_problem.specs.Solutions.{IsSolution}
 use Rattle.xdg_problem.specs.Vectors.{shape, vector, analysis_of}
-use Rattle.xdg_rules.specs.Boxes.{Has, IsBox, LiesIn, IsIn}
+use Rattle.xdg_rules.specs.Boxes.{Has, IsBox, LiesIn, IsIn, without}
 use Rattle.xdg_rules.specs.Rules.{Takes, IsClosedFor}
 use Rattle.xdg_rules.specs.Boxed.{only, Boxed}
 
@@ -27,6 +27,10 @@ pub record IsInside (parts : Parts) (group : Group) (box : List (List Bool)) (d 
 pub record RuleLaws (parts : Parts) (group : Group) : Type 0 where
   -- what it takes from a box remains in no box inside that is closed for it
   pub monotone : (small large : List (List Bool)) → IsBox (shape parts) small → LiesIn small large → IsClosedFor parts group small → (d v : ℕ) → Takes parts group large d v → Has small d v → ⊥
+  -- a box inside that is closed for it lies in the box without what it takes
+  pub without_taken : (small large : List (List Bool)) → IsBox (shape parts) small → LiesIn small large → IsClosedFor parts group small → (d v : ℕ) → Takes parts group large d v → LiesIn small (without large d v)
+  -- where it takes all that remains no box inside is closed for it
+  pub none_left : (small large : List (List Bool)) → IsBox (shape parts) small → LiesIn small large → IsClosedFor parts group small → ((d v : ℕ) → Has large d v → Takes parts group large d v) → ⊥
   -- a box whose values all remain in boxes inside that are closed for it is closed for it
   pub covered : (box : List (List Bool)) → ((d v : ℕ) → Has box d v → IsInside parts group box d v) → IsClosedFor parts group box
   -- the box of an analysis is closed for it exactly where the analysis satisfies it
