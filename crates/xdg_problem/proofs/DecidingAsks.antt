@@ -16,7 +16,7 @@ use Rattle.xdg_problem.proofs.Deciding.{Decided, decided_like, decided_both, dec
 use Rattle.xdg_problem.proofs.DecidingPaths.{decided_either, decided_true, decided_not, decided_any, contained, decided_pairs, triple_decided, decided_daughter, decided_daughter_by, decided_daughter_by_any, decided_entered, decided_sisters, decided_above, decided_above_by_first, decided_above_by_last}
 use Rattle.xdg_problem.proofs.Looking.{any_of}
 
-decided_between : (u v w : ℕ) → Decided (IsBetween u v w)
+pub decided_between : (u v w : ℕ) → Decided (IsBetween u v w)
 decided_between u v w = decided_either ((u < w) × (w < v)) ((v < w) × (w < u)) (decided_both _ _ (decided_less u w) (decided_less w v)) (decided_both _ _ (decided_less v w) (decided_less w u))
 
 decided_yield : (edges : List Edge) (u label x : ℕ) → Decided ((v : ℕ) × IsDaughterBy edges u label v × Above edges v x)
@@ -30,7 +30,7 @@ decided_item edges yields own u label x takes = decided_either ((label ≡ own) 
     (decided_both _ _ (decided_equal label own) (decided_equal x u))
     (decided_either (IsDaughterBy edges u label x) (yields × ((v : ℕ) × IsDaughterBy edges u label v × Above edges v x)) (decided_daughter_by edges u label x) (decided_both _ _ takes (decided_yield edges u label x)))
 
-decided_linked : (principle : Principle) (edges : List Edge) (u : ℕ) (labels : List ℕ) (v : ℕ) → Decided (IsLinked principle edges u labels v)
+pub decided_linked : (principle : Principle) (edges : List Edge) (u : ℕ) (labels : List ℕ) (v : ℕ) → Decided (IsLinked principle edges u labels v)
 decided_linked principles.LinkingEnd edges u labels v = decided_entered edges labels v
 decided_linked principles.LinkingDaughter edges u labels v = decided_daughter_by_any edges u labels v
 decided_linked principles.LinkingMother edges u labels v = decided_daughter_by_any edges v labels u

@@ -77,7 +77,7 @@ module _ (truths : List Bool) (n labels : ℕ) (Q : Test → Type 0) (each : (te
   each_triple : (test : ℕ → ℕ → ℕ → Test) → Decided (EachTriple truths n labels Q test)
   each_triple test = decided_below (λ u. (l : ℕ) → l < labels → (v : ℕ) → v < n → Q (test u l v)) n (λ u. decided_below (λ l. (v : ℕ) → v < n → Q (test u l v)) labels (λ l. decided_below (λ v. Q (test u l v)) n (λ v. each (test u l v))))
 
-  decided_tests : (principle : Principle) → Decided (Each truths n labels Q principle)
+  pub decided_tests : (principle : Principle) → Decided (Each truths n labels Q principle)
   decided_tests principles.Graph = inl tt
   decided_tests principles.Entries = inl tt
   decided_tests principles.Tree = triple_decided _ _ _ (each_pair one_mother) (each_node no_cycle) (each one_root)

@@ -1,10 +1,9 @@
 -- A box that agrees with a prefix: what remains of the decisions that stand there, and what tests make of it.
-use Rattle.std.proofs.Common.{◌≡◌, ℕ, ◌+◌, ◌-◌, ◌<◌, ◌≤◌, ◌⊎◌, ◌↔◌, inl, inr, zero, suc, Bool, true, false, ◌&&◌, cond, List, [], ◌∷◌, ◌++◌, length, map, drop, refl, sym, ap, ap₂, ◌∙◌, arith, subst, Option, Some, None, length-drop}
+use Rattle.std.proofs.Common.{◌≡◌, ℕ, ◌+◌, ◌-◌, ◌<◌, ◌≤◌, ◌↔◌, inl, inr, zero, suc, Bool, true, false, ◌&&◌, cond, List, [], ◌∷◌, ◌++◌, length, map, drop, refl, sym, ap, ap₂, ◌∙◌, arith, Option, Some, None}
 use Rattle.std.specs.Prelude.{filter, Contains, All, slice_index, slice_index_or, ◌==◌}
-use Rattle.std.specs.List.{AllByRecursion}
-use Rattle.std.proofs.lemmas.Bool.{cases_lt, eq-eqb, eqb-true, false≢true, false_from_ne_true}
+use Rattle.std.proofs.lemmas.Bool.{cases_lt, eq-eqb, eqb-true, false≢true}
 use Rattle.std.proofs.lemmas.List.{get_or_default, get_or-drop}
-use Rattle.std.proofs.lemmas.List.Elements.{All-nil, All-cons, All-head, All-tail, All-weaker, All-contains, All-contains_itself, All-from_recursion}
+use Rattle.std.proofs.lemmas.List.Elements.{All-head, All-tail, All-weaker, All-contains, All-contains_itself, All-from_recursion}
 use Rattle.xdg_listing.specs.Fits.{Fits}
 use Rattle.xdg_problem.specs.declared.analysis.Edge.{Edge}
 use Rattle.xdg_problem.specs.declared.parts.Group.{Group}
@@ -13,15 +12,15 @@ use Rattle.xdg_problem.specs.Analyses.{Before}
 use Rattle.xdg_problem.specs.Live.{open_places, EntryStands, entry_in, AttrStands, attr_in, Stands, Holds}
 use Rattle.xdg_problem.specs.Places.{nodes, places, same_edge}
 use Rattle.xdg_problem.specs.Tests.{Test, looks_at, entry_node, test_attrs}
-use Rattle.xdg_problem.specs.Vectors.{shape, first_place, chosen, edges_in}
+use Rattle.xdg_problem.specs.Vectors.{first_place, chosen, edges_in}
 use Rattle.xdg_problem.proofs.Edges.{same_edge_itself, before_apart}
 use Rattle.xdg_problem.proofs.FilterFacts.{filter_both, filter_alike}
 use Rattle.xdg_problem.proofs.Ordered.{Ordered, contains_cases, contains_none}
 use Rattle.xdg_problem.proofs.PlaceOrder.{places_ordered}
 use Rattle.xdg_problem.proofs.Shortening.{passes_like}
-use Rattle.xdg_rules.specs.Boxes.{Has, IsBox, Agrees, place_in, edge_decision, entry_decision}
+use Rattle.xdg_rules.specs.Boxes.{Has, Agrees, place_in, edge_decision, entry_decision}
 use Rattle.xdg_rules.specs.Rules.{has, IsDecided, value_in, EntryDecided, entry_value, TestDecided, TestPasses}
-use Rattle.xdg_rules.proofs.Sizes.{row_within, place_within}
+use Rattle.xdg_rules.proofs.Sizes.{row_within}
 use Rattle.xdg_rules.proofs.Failing.{value_is}
 
 -- what remains of a decision of the prefix is its number
@@ -58,8 +57,10 @@ chosen_filter (e ∷ edges) [] ordered = sym (none_chosen (e ∷ edges) (e ∷ e
 chosen_filter (e ∷ edges) (number ∷ numbers) ordered = ap₂ (λ b rest. cond b (e ∷ rest) rest) here (chosen_filter edges numbers ordered.1 ∙ later) where
   here : (number == 0) ≡ says_present (number ∷ numbers) (place_in (e ∷ edges) e)
   here = rw (same_edge_itself e) refl
+
   step : (f : Edge) → Before e f → says_present numbers (place_in edges f) ≡ says_present (number ∷ numbers) (place_in (e ∷ edges) f)
   step f before = rw (before_apart e f before) refl
+
   later : filter (λ f. says_present numbers (place_in edges f)) edges ≡ filter (λ f. says_present (number ∷ numbers) (place_in (e ∷ edges) f)) edges
   later = filter_alike (λ f. says_present numbers (place_in edges f)) (λ f. says_present (number ∷ numbers) (place_in (e ∷ edges) f)) edges
       (All-weaker (Before e) (λ f. says_present numbers (place_in edges f) ≡ says_present (number ∷ numbers) (place_in (e ∷ edges) f)) step edges (All-from_recursion (Before e) edges ordered.0))

@@ -1,6 +1,6 @@
 -- Paths, links and roots of edges that are all among others.
-use Rattle.std.proofs.Common.{◌≡◌, ℕ, ◌≤◌, inl, inr, Bool, true, false, List, [], ◌∷◌, length, refl, sym, ap, ◌∙◌, arith, subst}
-use Rattle.std.specs.Prelude.{filter, All, Contains, not, ◌==◌, ◌||◌}
+use Rattle.std.proofs.Common.{◌≡◌, ℕ, ◌≤◌, inl, inr, Bool, true, List, [], ◌∷◌, length, ap, ◌∙◌}
+use Rattle.std.specs.Prelude.{Contains, not, ◌==◌}
 use Rattle.std.specs.List.{Any, list_any}
 use Rattle.std.proofs.lemmas.Bool.{cases_Bool, or_cases, false≢true, both_ways, not-true, not_from_false, eqb-true, eq-eqb}
 use Rattle.std.proofs.lemmas.List.Elements.{All-weaker}
@@ -8,12 +8,12 @@ use Rattle.xdg_problem.specs.declared.analysis.Edge.{Edge}
 use Rattle.xdg_problem.specs.declared.parts.Principle.{Principle}
 use Rattle.xdg_problem.specs.declared.parts.Principle.TheVariants as principles
 use Rattle.xdg_problem.specs.Asking.{IsLinked}
-use Rattle.xdg_problem.specs.Paths.{IsDaughter, IsDaughterByAny, Above, AboveByFirst, roots}
+use Rattle.xdg_problem.specs.Paths.{IsDaughterByAny, Above, AboveByFirst, roots}
 use Rattle.xdg_problem.specs.Places.{below}
 use Rattle.xdg_problem.proofs.Looking.{any_of, any_weaker, or_left, or_right}
 use Rattle.xdg_problem.proofs.FilterFacts.{filter_contained}
 use Rattle.xdg_problem.proofs.Ordered.{contains_head, contains_more, contains_cases, contains_none, contains_filter}
-use Rattle.xdg_rules.proofs.Keeping.{Less, less_length, filter_one, filter_none}
+use Rattle.xdg_rules.proofs.Keeping.{Less, less_length}
 
 pub list_any_of : {X : Type 0} (test : X → Bool) (xs : List X) (x : X) → Contains xs x → test x ≡ true → list_any test xs ≡ true
 list_any_of test [] x c passes = absurd (contains_none x c)

@@ -1,5 +1,5 @@
 -- What most rules take from a box they take from each box that lies in it, too.
-use Rattle.std.proofs.Common.{◌≡◌, ℕ, ◌<◌, ◌≤◌, ◌⊎◌, inl, inr, Bool, List, [], ◌∷◌, length, refl, subst, sym, arith}
+use Rattle.std.proofs.Common.{◌≡◌, ℕ, ◌<◌, ◌≤◌, inl, inr, Bool, List, length, subst, arith}
 use Rattle.std.specs.Prelude.{Contains}
 use Rattle.xdg_problem.specs.declared.analysis.Edge.{Edge}
 use Rattle.xdg_problem.specs.declared.parts.Group.{Group}
@@ -8,11 +8,10 @@ use Rattle.xdg_problem.specs.Arguments.{first_dim, second_dim}
 use Rattle.xdg_problem.specs.Features.{in_row, out_row, set_row, map_row}
 use Rattle.xdg_problem.specs.Paths.{edges_into, edges_out_of, Above}
 use Rattle.xdg_problem.specs.Places.{nodes}
-use Rattle.xdg_problem.specs.Problems.{IsProblem}
 use Rattle.xdg_problem.specs.Vectors.{shape}
 use Rattle.xdg_problem.proofs.PlaceOrder.{is_place}
 use Rattle.xdg_rules.specs.Boxes.{Has, IsBox, LiesIn, entry_decision}
-use Rattle.xdg_rules.specs.Rules.{may_edges, must_edges, EachEntry, HasNoneWithin, ValencyEntry, OneMother, NoCycle, OneLabel, attr_of_node, AgrValues, AsksAgreement, AgreementValues, Governs, GovernmentValues, DaughterOrder, AboutHead, OfHead, ProjectivityReach, ClimbingReach, BarriersReach, LinkingReach, LinkingNotDaughter, HasNoRoot, HasTwoRoots}
+use Rattle.xdg_rules.specs.Rules.{may_edges, must_edges, EachEntry, HasNoneWithin, ValencyEntry, OneMother, NoCycle, OneLabel, attr_of_node, AgrValues, AgreementValues, GovernmentValues, DaughterOrder, AboutHead, OfHead, ProjectivityReach, ClimbingReach, BarriersReach, LinkingReach, LinkingNotDaughter, HasNoRoot, HasTwoRoots}
 use Rattle.xdg_rules.proofs.Among.{above_among, linked_among, roots_less, roots_length, is_root}
 use Rattle.xdg_rules.proofs.Keeping.{filter_none}
 use Rattle.xdg_rules.proofs.Shrinking.{may_among, must_among, may_count, must_count}
@@ -96,10 +95,13 @@ module _ (parts : Parts) (group : Group) (small large : List (List Bool)) (is : 
     asks = each_entry rule.place.mother.0 (λ c. Contains (set_row group rule.place.mother.0 c) rule.place.label.0) rule.asks;
     lacks = elim rule.lacks [
       | inl edge ↦ inl (edge.0, λ x a b. edge.1 x (lies (attr_of_node parts group 0 rule.place.mother.0) x a) (lies (attr_of_node parts group 1 rule.place.daughter.0) x b))
-      | inr value ↦ inr (must_among parts small large is lies one rule.place value.0, elim value.1 [
-        | inl mother ↦ inl (mother.0, λ remains. mother.1 (lies (attr_of_node parts group 1 rule.place.daughter.0) v remains))
-        | inr daughter ↦ inr (daughter.0, λ remains. daughter.1 (lies (attr_of_node parts group 0 rule.place.mother.0) v remains))
-      ])
+      | inr value ↦ inr (
+        must_among parts small large is lies one rule.place value.0,
+        elim value.1 [
+          | inl mother ↦ inl (mother.0, λ remains. mother.1 (lies (attr_of_node parts group 1 rule.place.daughter.0) v remains))
+          | inr daughter ↦ inr (daughter.0, λ remains. daughter.1 (lies (attr_of_node parts group 0 rule.place.mother.0) v remains))
+        ],
+      )
     ];
   }
 

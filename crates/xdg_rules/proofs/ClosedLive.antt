@@ -1,6 +1,6 @@
 -- A prefix with which a closed box agrees is live, and so are all its fronts.
-use Rattle.std.proofs.Common.{◌≡◌, ℕ, ◌<◌, ◌⊎◌, inl, inr, Bool, List, ◌++◌, length, map, refl}
-use Rattle.std.specs.Prelude.{filter, All}
+use Rattle.std.proofs.Common.{ℕ, inl, inr, Bool, List, map}
+use Rattle.std.specs.Prelude.{filter}
 use Rattle.xdg_listing.specs.Closed.{Closed}
 use Rattle.xdg_problem.specs.declared.parts.Group.{Group}
 use Rattle.xdg_problem.specs.declared.parts.Parts.{Parts}
@@ -29,11 +29,11 @@ module _ (parts : Parts) (box : List (List Bool)) (p : List ℕ) (problem : IsPr
   closed_live_for group closed test tested stands = elim (decided_passes (nodes parts) group test (entry_in (entry_node test) p) (map (attr_in parts p) (test_attrs parts group test)) (filter (looks_at group test) (edges_in parts p))) [
     | inl holds ↦ holds
     | inr fails ↦ absurd (none_fails parts group box problem is closed (record {
-        test = test;
-        is = tested;
-        decided = stands_decided parts box p agrees group test stands;
-        fails = λ passes. fails ((holds_passes parts box p agrees group test stands).1 passes);
-      }))
+      test = test;
+      is = tested;
+      decided = stands_decided parts box p agrees group test stands;
+      fails = λ passes. fails ((holds_passes parts box p agrees group test stands).1 passes);
+    }))
   ]
 
   pub closed_live : IsClosed parts box → Live parts p

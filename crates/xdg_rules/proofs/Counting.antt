@@ -1,6 +1,6 @@
 -- What valency takes of edges from a box, it takes from each closed box that lies in it, too: where no entry is taken, the
 -- counts of the smaller box are those of the larger one.
-use Rattle.std.proofs.Common.{◌≡◌, ℕ, ◌+◌, ◌<◌, ◌≤◌, ◌⊎◌, inl, inr, Bool, true, List, [], ◌∷◌, length, refl, sym, ap, ◌∙◌, arith, subst}
+use Rattle.std.proofs.Common.{◌≡◌, ℕ, ◌<◌, ◌≤◌, inl, inr, Bool, true, List, length, refl, sym, ◌∙◌, arith, subst}
 use Rattle.std.specs.Prelude.{Contains, All, slice_index_or, ◌==◌, ◌&&◌}
 use Rattle.std.proofs.lemmas.Bool.{and_from, eq-eqb}
 use Rattle.std.proofs.lemmas.List.{get_or_default}
@@ -13,14 +13,14 @@ use Rattle.xdg_problem.specs.Analyses.{IsPlace}
 use Rattle.xdg_problem.specs.Arguments.{first_dim, label_count, no_plan}
 use Rattle.xdg_problem.specs.Features.{in_row, out_row}
 use Rattle.xdg_problem.specs.Paths.{edges_into, edges_out_of}
-use Rattle.xdg_problem.specs.Places.{nodes, places}
+use Rattle.xdg_problem.specs.Places.{places}
 use Rattle.xdg_problem.specs.Problems.{IsProblem}
 use Rattle.xdg_problem.specs.Vectors.{shape}
 use Rattle.xdg_problem.proofs.PlaceOrder.{is_place}
 use Rattle.xdg_rules.specs.Boxes.{Has, IsBox, LiesIn, entry_decision}
-use Rattle.xdg_rules.specs.Rules.{may_edges, must_edges, EachEntry, HasNoneWithin, IsGreatest, IsLeast, ValencyEntry, ValencyFull, ValencyNeeded}
+use Rattle.xdg_rules.specs.Rules.{may_edges, must_edges, IsGreatest, IsLeast, ValencyEntry, ValencyFull, ValencyNeeded}
 use Rattle.xdg_rules.proofs.Sizes.{node_within}
-use Rattle.xdg_rules.proofs.Shrinking.{may_or_not, must_or_not, may_count, must_count, may_count_more, must_count_more, may_is}
+use Rattle.xdg_rules.proofs.Shrinking.{may_or_not, may_count, must_count, may_count_more, must_count_more, may_is}
 
 -- the label of a place is one of its dimension
 label_known : (parts : Parts) (e : Edge) → IsPlace parts e → e.label.0 < label_count parts e.dim.0

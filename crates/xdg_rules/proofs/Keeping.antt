@@ -1,5 +1,5 @@
 -- Two filters of one list, of which the first keeps less.
-use Rattle.std.proofs.Common.{◌≡◌, ℕ, ◌+◌, ◌≤◌, ◌⊎◌, inl, inr, Bool, true, false, ◌&&◌, cond, List, [], ◌∷◌, length, refl, sym, ap, ◌∙◌, arith, subst}
+use Rattle.std.proofs.Common.{◌≡◌, ◌+◌, ◌≤◌, ◌⊎◌, inl, inr, Bool, true, false, ◌&&◌, cond, List, [], ◌∷◌, length, refl, sym, ap, ◌∙◌, arith}
 use Rattle.std.specs.Prelude.{◌<◌, filter, Contains, count_by, slice_index_or}
 use Rattle.std.proofs.lemmas.Bool.{and_parts, and_from, cases_lt, false≢true}
 use Rattle.std.proofs.lemmas.List.{get_or_default}
@@ -75,6 +75,7 @@ counts_put r x (y ∷ xs) c passes = elim (contains_cases y xs x c) [
   at_head : (b : Bool) → b ≡ true → 1 ≤ length (cond b (y ∷ filter r xs) (filter r xs))
   at_head true e = omega arith
   at_head false e = absurd (false≢true e)
+
   at_tail : (b : Bool) → 1 ≤ length (filter r xs) → 1 ≤ length (cond b (y ∷ filter r xs) (filter r xs))
   at_tail true some = omega arith
   at_tail false some = some
@@ -94,6 +95,7 @@ two_put r x y (z ∷ xs) c d differ passes also = elim (contains_cases z xs x c)
   at_head : (b : Bool) → b ≡ true → 1 ≤ length (filter r xs) → 2 ≤ length (cond b (z ∷ filter r xs) (filter r xs))
   at_head true e some = omega arith
   at_head false e some = absurd (false≢true e)
+
   at_tail : (b : Bool) → 2 ≤ length (filter r xs) → 2 ≤ length (cond b (z ∷ filter r xs) (filter r xs))
   at_tail true some = omega arith
   at_tail false some = some

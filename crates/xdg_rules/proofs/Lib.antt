@@ -17,3 +17,5 @@ pub mod Solved
 pub mod Single
 pub mod Removing
 pub mod RuleLaws
+pub mod DecidingBoxes
+pub mod DecidingRules

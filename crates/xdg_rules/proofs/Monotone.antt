@@ -1,5 +1,5 @@
 -- The monotone law: what a principle use takes from a box remains in no closed box that lies in it.
-use Rattle.std.proofs.Common.{◌≡◌, ℕ, ◌+◌, ◌<◌, ◌⊎◌, inl, inr, Bool, List, length, refl, sym, subst, arith}
+use Rattle.std.proofs.Common.{◌≡◌, ℕ, ◌<◌, inl, inr, Bool, List, length, refl, sym, subst, arith}
 use Rattle.xdg_problem.specs.declared.parts.Group.{Group}
 use Rattle.xdg_problem.specs.declared.parts.Parts.{Parts}
 use Rattle.xdg_problem.specs.declared.parts.Principle.{Principle}
@@ -10,10 +10,10 @@ use Rattle.xdg_problem.specs.Problems.{IsProblem, IsGroup, attr_arguments}
 use Rattle.xdg_problem.specs.Vectors.{shape}
 use Rattle.xdg_problem.proofs.AttrPlaces.{attr_within, first_dim_within}
 use Rattle.xdg_rules.specs.Boxes.{Has, IsBox, LiesIn}
-use Rattle.xdg_rules.specs.Rules.{FailsTest, TakesForRoot, TakesBy, Takes, IsClosedFor, attr_of_node}
+use Rattle.xdg_rules.specs.Rules.{TakesForRoot, TakesBy, Takes, IsClosedFor, attr_of_node}
 use Rattle.xdg_rules.proofs.Sizes.{attr_place_within}
 use Rattle.xdg_rules.proofs.Antitone.{valency_entry, one_mother, no_root, two_roots, no_cycle, one_label, agr_values, agreement_values, government_values, daughter_order, about_head, of_head, projectivity_reach, climbing_reach, barriers_reach, linking_reach, linking_not_daughter}
-use Rattle.xdg_rules.proofs.Counting.{KeepsEntries, valency_full, valency_needed}
+use Rattle.xdg_rules.proofs.Counting.{valency_full, valency_needed}
 use Rattle.xdg_rules.proofs.Rooted.{root_found, only_mother}
 use Rattle.xdg_rules.proofs.Failing.{fails_test}
 

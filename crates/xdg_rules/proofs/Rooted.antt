@@ -1,17 +1,17 @@
 -- What the rules of the one root take from a box, they take from each closed box that lies in it, too: there they don't fail.
-use Rattle.std.proofs.Common.{◌≡◌, ℕ, ◌+◌, ◌<◌, ◌≤◌, ◌⊎◌, inl, inr, Bool, true, List, [], ◌∷◌, length, refl, sym, ap, ◌∙◌, arith, subst}
-use Rattle.std.specs.Prelude.{Contains, count_by, ◌==◌}
-use Rattle.std.proofs.lemmas.Bool.{eq-eqb, eqb-true}
+use Rattle.std.proofs.Common.{◌≡◌, ℕ, ◌<◌, inl, inr, Bool, List, refl, arith}
+use Rattle.std.specs.Prelude.{Contains, ◌==◌}
+use Rattle.std.proofs.lemmas.Bool.{eq-eqb}
 use Rattle.xdg_problem.specs.declared.analysis.Edge.{Edge}
 use Rattle.xdg_problem.specs.declared.parts.Group.{Group}
 use Rattle.xdg_problem.specs.declared.parts.Parts.{Parts}
 use Rattle.xdg_problem.specs.Arguments.{first_dim}
 use Rattle.xdg_problem.specs.Paths.{mothers, roots}
-use Rattle.xdg_problem.specs.Places.{nodes, places, below}
+use Rattle.xdg_problem.specs.Places.{nodes, below}
 use Rattle.xdg_problem.specs.Vectors.{shape}
 use Rattle.xdg_problem.proofs.Ordered.{contains_numbers, contains_filter}
 use Rattle.xdg_problem.proofs.PlaceOrder.{is_place}
-use Rattle.xdg_rules.specs.Boxes.{Has, IsBox, LiesIn}
+use Rattle.xdg_rules.specs.Boxes.{IsBox, LiesIn}
 use Rattle.xdg_rules.specs.Rules.{may_edges, must_edges, RootFound, HasNoRoot, OnlyMother, HasTwoRoots}
 use Rattle.xdg_rules.proofs.Among.{is_root, roots_less, roots_among, root_contained, root_free, free_root}
 use Rattle.xdg_rules.proofs.Keeping.{filter_one, counts_one, two_elements}
@@ -61,9 +61,9 @@ module _ (parts : Parts) (group : Group) (small large : List (List Bool)) (is : 
             let less = may_count parts small large is lies one (enters rule.place.daughter.0) in
             let some = counts_one (enters rule.place.daughter.0) rule.place (may small) stays (eq-eqb rule.place.daughter.0 rule.place.daughter.0 refl) in
             none (record { place = rule.place; may = stays; says = rule.says; only = omega (arith, less, some, most); other = rule.other; root = other_root rule.other rule.root })
-          )
+            )
         | inr gone ↦ (
             let less = may_count_more parts small large is lies one (enters rule.place.daughter.0) rule.place (eq-eqb rule.place.daughter.0 rule.place.daughter.0 refl) rule.may gone in
             few (second_root rule.place.daughter.0 rule.other (is_place parts rule.place there.place).daughter (not_other rule.place rule.other rule.may rule.root) (omega (arith, less, most)) (other_root rule.other rule.root))
-          )
+            )
       ]

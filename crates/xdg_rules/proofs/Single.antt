@@ -1,5 +1,5 @@
 -- The box of a vector's values: it is a box that agrees with the vector, and it lies in each box in which the vector lies.
-use Rattle.std.proofs.Common.{◌≡◌, ℕ, ◌+◌, ◌<◌, ◌≤◌, ◌↔◌, zero, suc, Bool, true, false, List, [], ◌∷◌, length, map, refl, sym, ap, ap₂, ◌∙◌, arith, subst}
+use Rattle.std.proofs.Common.{◌≡◌, ℕ, ◌+◌, ◌<◌, ◌↔◌, zero, suc, Bool, true, false, List, [], ◌∷◌, length, map, refl, sym, ap₂, ◌∙◌, arith, subst}
 use Rattle.std.specs.Prelude.{slice_index, slice_index_or, ◌==◌}
 use Rattle.std.proofs.lemmas.Bool.{eq-eqb, eqb-true, false≢true}
 use Rattle.std.proofs.lemmas.List.{length-map}

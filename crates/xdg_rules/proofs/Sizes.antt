@@ -1,14 +1,14 @@
 -- The sizes of a box's decisions.
-use Rattle.std.proofs.Common.{◌≡◌, ℕ, ◌+◌, ◌<◌, ◌≤◌, ◌⊎◌, inl, inr, zero, suc, Bool, true, false, cond, List, [], ◌∷◌, ◌++◌, length, map, refl, sym, ap, ◌∙◌, arith, subst}
+use Rattle.std.proofs.Common.{◌≡◌, ℕ, ◌+◌, ◌<◌, ◌⊎◌, inl, inr, zero, suc, Bool, true, false, cond, List, [], ◌∷◌, ◌++◌, length, map, refl, sym, ap, ◌∙◌, arith, subst}
 use Rattle.std.specs.Prelude.{Contains, slice_index, slice_index_or}
-use Rattle.std.proofs.lemmas.Bool.{cases_Bool, false≢true}
+use Rattle.std.proofs.lemmas.Bool.{false≢true}
 use Rattle.std.proofs.lemmas.List.{get_or-append-add, length-map}
 use Rattle.xdg_problem.specs.declared.analysis.Edge.{Edge}
 use Rattle.xdg_problem.specs.declared.parts.Parts.{Parts}
 use Rattle.xdg_problem.specs.Places.{nodes, places, same_edge}
-use Rattle.xdg_problem.specs.Vectors.{attr_sizes, shape, first_place}
+use Rattle.xdg_problem.specs.Vectors.{attr_sizes, shape}
 use Rattle.xdg_problem.specs.Problems.{IsProblem}
-use Rattle.xdg_problem.proofs.Edges.{same_edge_itself, same_edge_equal}
+use Rattle.xdg_problem.proofs.Edges.{same_edge_itself}
 use Rattle.xdg_problem.proofs.Ordered.{contains_cases, contains_none}
 use Rattle.xdg_problem.proofs.VectorFacts.{length_shape}
 use Rattle.xdg_rules.specs.Boxes.{Has, IsBox, place_in, edge_decision, entry_decision}

@@ -1,5 +1,5 @@
 -- A box that agrees with a whole vector is closed for a principle use exactly where the vector's analysis satisfies it.
-use Rattle.std.proofs.Common.{◌≡◌, ℕ, ◌<◌, ◌⊎◌, ◌↔◌, inl, inr, Bool, true, List, length, refl, sym, subst, arith}
+use Rattle.std.proofs.Common.{◌≡◌, ℕ, ◌<◌, ◌↔◌, inl, inr, Bool, List, length, refl, sym, subst, arith}
 use Rattle.std.specs.Prelude.{All}
 use Rattle.xdg_problem.specs.declared.conditions.Condition.{Condition}
 use Rattle.xdg_problem.specs.declared.conditions.Condition.TheVariants as conditions
@@ -15,7 +15,7 @@ use Rattle.xdg_problem.specs.Vectors.{shape, analysis_of}
 use Rattle.xdg_problem.proofs.Tuples.{one_kept, two_kept, three_kept, chosen_kept}
 use Rattle.xdg_problem.proofs.WholeTests.{use_live, whole_stands}
 use Rattle.xdg_rules.specs.Boxes.{Has, IsBox, Agrees}
-use Rattle.xdg_rules.specs.Rules.{FailsTest, TakesBy, IsClosedFor, IsClosed}
+use Rattle.xdg_rules.specs.Rules.{FailsTest, TakesBy, IsClosedFor}
 use Rattle.xdg_rules.proofs.Agreeing.{holds_passes}
 use Rattle.xdg_rules.proofs.ClosedLive.{closed_live_for}
 use Rattle.xdg_rules.proofs.Whole.{whole_fits}

@@ -1,8 +1,7 @@
 -- In a box that agrees with a whole vector the rules of paths and links take nothing that remains, if the conditions hold.
-use Rattle.std.proofs.Common.{◌≡◌, ℕ, ◌+◌, ◌<◌, ◌≤◌, ◌⊎◌, inl, inr, Bool, true, List, [], ◌∷◌, ◌++◌, length, refl, sym, ap, ◌∙◌, arith, subst, length-append}
+use Rattle.std.proofs.Common.{◌≡◌, ℕ, ◌<◌, ◌⊎◌, inl, inr, Bool, List, [], ◌∷◌, ◌++◌, length, refl, sym, ◌∙◌, arith, subst}
 use Rattle.std.specs.Prelude.{Contains, All, slice_index, ◌==◌}
-use Rattle.std.specs.List.{Any}
-use Rattle.std.proofs.lemmas.List.Elements.{All-nil, All-cons, All-append, All-filter, All-weaker, All-contains}
+use Rattle.std.proofs.lemmas.List.Elements.{All-nil, All-cons, All-append, All-filter, All-weaker}
 use Rattle.xdg_problem.specs.declared.analysis.Edge.{Edge}
 use Rattle.xdg_problem.specs.declared.conditions.Condition.{Condition}
 use Rattle.xdg_problem.specs.declared.conditions.Condition.TheVariants as conditions
@@ -11,22 +10,22 @@ use Rattle.xdg_problem.specs.declared.parts.Parts.{Parts}
 use Rattle.xdg_problem.specs.declared.parts.Principle.{Principle}
 use Rattle.xdg_problem.specs.declared.parts.Principle.TheVariants as principles
 use Rattle.xdg_problem.specs.Analyses.{IsPlace}
-use Rattle.xdg_problem.specs.Arguments.{first_dim, second_dim, label_count}
-use Rattle.xdg_problem.specs.Asking.{IsBetween, IsLinked, AsksLink}
+use Rattle.xdg_problem.specs.Arguments.{first_dim, second_dim}
+use Rattle.xdg_problem.specs.Asking.{IsLinked, AsksLink}
 use Rattle.xdg_problem.specs.Features.{set_row, map_row}
 use Rattle.xdg_problem.specs.Paths.{edges_on, IsDaughter, IsDaughterBy, Leads, Above, AboveByLast}
 use Rattle.xdg_problem.specs.Places.{nodes, places}
-use Rattle.xdg_problem.specs.Problems.{IsProblem, IsGroup}
-use Rattle.xdg_problem.specs.Vectors.{shape, entry_places, entries_at, edges_in, analysis_of}
+use Rattle.xdg_problem.specs.Problems.{IsProblem}
+use Rattle.xdg_problem.specs.Vectors.{shape, entry_places, entries_at, edges_in}
 use Rattle.xdg_problem.proofs.Looking.{any_of}
 use Rattle.xdg_problem.proofs.PlaceOrder.{is_place}
 use Rattle.xdg_problem.proofs.TreeTests.{above_within}
 use Rattle.xdg_problem.proofs.VectorFacts.{analysis_fits}
-use Rattle.xdg_rules.specs.Boxes.{Has, IsBox, Agrees, entry_decision}
+use Rattle.xdg_rules.specs.Boxes.{Has, IsBox, Agrees}
 use Rattle.xdg_rules.specs.Rules.{may_edges, must_edges, ProjectivityReach, ClimbingReach, BarriersReach, LinkingReach, LinkingNotDaughter}
 use Rattle.xdg_rules.proofs.Counting.{label_on}
 use Rattle.xdg_rules.proofs.SoundTree.{Kept}
-use Rattle.xdg_rules.proofs.Whole.{whole_fits, may_on, must_on, present, entry_is, entry_has}
+use Rattle.xdg_rules.proofs.Whole.{whole_fits, may_on, must_on, present, entry_has}
 
 leads_on : (u : ℕ) (path : List Edge) (v : ℕ) (e : Edge) → Leads u path v → e.mother.0 ≡ v → Leads u (path ++ e ∷ []) e.daughter.0
 leads_on u [] v e leads from = (from ∙ sym leads, refl)

@@ -1,6 +1,6 @@
 -- In a box that agrees with a whole vector the rules of tree, dag and valency take nothing that remains, if the conditions hold.
-use Rattle.std.proofs.Common.{◌≡◌, ℕ, ◌+◌, ◌<◌, ◌≤◌, ◌⊎◌, inl, inr, Bool, true, ◌&&◌, List, [], ◌∷◌, length, refl, sym, ap, ◌∙◌, arith, subst}
-use Rattle.std.specs.Prelude.{Contains, All, slice_index, ◌==◌}
+use Rattle.std.proofs.Common.{◌≡◌, ℕ, ◌≤◌, inl, inr, Bool, ◌&&◌, List, [], ◌∷◌, length, refl, sym, ap, ◌∙◌, arith, subst}
+use Rattle.std.specs.Prelude.{Contains, ◌==◌}
 use Rattle.std.proofs.lemmas.Bool.{and_from, eq-eqb}
 use Rattle.std.proofs.lemmas.List.Elements.{All-cons}
 use Rattle.xdg_problem.specs.declared.analysis.Edge.{Edge}
@@ -11,14 +11,14 @@ use Rattle.xdg_problem.specs.declared.parts.Parts.{Parts}
 use Rattle.xdg_problem.specs.Arguments.{first_dim}
 use Rattle.xdg_problem.specs.Features.{in_row, out_row}
 use Rattle.xdg_problem.specs.Paths.{edges_on, edges_into, edges_out_of, edges_joining, mothers, roots, Above}
-use Rattle.xdg_problem.specs.Places.{nodes, places}
+use Rattle.xdg_problem.specs.Places.{nodes}
 use Rattle.xdg_problem.specs.Problems.{IsProblem}
 use Rattle.xdg_problem.specs.Relations.{IsKept}
 use Rattle.xdg_problem.specs.Vectors.{shape, entry_places, entries_at, edges_in, analysis_of}
 use Rattle.xdg_problem.proofs.Ordered.{contains_head}
 use Rattle.xdg_problem.proofs.PlaceOrder.{is_place}
-use Rattle.xdg_rules.specs.Boxes.{Has, IsBox, Agrees, entry_decision}
-use Rattle.xdg_rules.specs.Rules.{may_edges, must_edges, HasNoneWithin, ValencyEntry, ValencyFull, ValencyNeeded, OneMother, RootFound, HasNoRoot, OnlyMother, HasTwoRoots, TakesForRoot, NoCycle, OneLabel}
+use Rattle.xdg_rules.specs.Boxes.{Has, IsBox, Agrees}
+use Rattle.xdg_rules.specs.Rules.{may_edges, must_edges, HasNoneWithin, ValencyEntry, ValencyFull, ValencyNeeded, OneMother, RootFound, HasNoRoot, HasTwoRoots, TakesForRoot, NoCycle, OneLabel}
 use Rattle.xdg_rules.proofs.Among.{root_contained, root_free}
 use Rattle.xdg_rules.proofs.Keeping.{counts_two}
 use Rattle.xdg_rules.proofs.Whole.{may_on, must_on, present, absent, entry_is}
@@ -103,8 +103,8 @@ module _ (parts : Parts) (group : Group) (box : List (List Bool)) (x : List ℕ)
       let u : ℕ = rule.place.mother.0 in
       let w : ℕ = rule.place.daughter.0 in
       let two = counts_two (λ e. (e.mother.0 == u) && (e.daughter.0 == w)) rule.place rule.other (on one) (present parts box x problem is whole agrees one rule.place d v rule.is rule.says has) (must_stands rule.other rule.must) rule.differs
-          (and_from (rule.place.mother.0 == u) (rule.place.daughter.0 == w) (eq-eqb u u refl) (eq-eqb w w refl))
-          (and_from (rule.other.mother.0 == u) (rule.other.daughter.0 == w) (eq-eqb rule.other.mother.0 u (sym rule.mother)) (eq-eqb rule.other.daughter.0 w (sym rule.daughter))) in
+      (and_from (rule.place.mother.0 == u) (rule.place.daughter.0 == w) (eq-eqb u u refl) (eq-eqb w w refl))
+      (and_from (rule.other.mother.0 == u) (rule.other.daughter.0 == w) (eq-eqb rule.other.mother.0 u (sym rule.mother)) (eq-eqb rule.other.daughter.0 w (sym rule.daughter))) in
       let place = is_place parts rule.place rule.is.0 in
       let most : edges_joining (on one) u w ≤ 1 = kept (u ∷ w ∷ []) (place.mother, (place.daughter, tt)) in
       omega (arith, two, most)

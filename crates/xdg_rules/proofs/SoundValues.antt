@@ -1,7 +1,7 @@
 -- In a box that agrees with a whole vector the rules of agr, agreement, government and order take nothing that remains, if
 -- the conditions hold.
-use Rattle.std.proofs.Common.{◌≡◌, ℕ, ◌+◌, ◌<◌, ◌≤◌, ◌⊎◌, inl, inr, Bool, true, List, [], ◌∷◌, length, refl, sym, ap, ◌∙◌, arith, subst}
-use Rattle.std.specs.Prelude.{Contains, All, AllPairs, slice_index}
+use Rattle.std.proofs.Common.{◌≡◌, ℕ, ◌<◌, inl, inr, Bool, true, List, [], ◌∷◌, length, refl, sym, ◌∙◌, arith, subst}
+use Rattle.std.specs.Prelude.{Contains, slice_index}
 use Rattle.xdg_problem.specs.declared.analysis.Edge.{Edge}
 use Rattle.xdg_problem.specs.declared.conditions.Condition.{Condition}
 use Rattle.xdg_problem.specs.declared.conditions.Condition.TheVariants as conditions
@@ -17,7 +17,7 @@ use Rattle.xdg_problem.specs.Vectors.{shape, entry_places, entries_at, edges_in,
 use Rattle.xdg_problem.proofs.Looking.{any_of}
 use Rattle.xdg_problem.proofs.Ordered.{Ordered, ordered_from_pairs, each_contained}
 use Rattle.xdg_problem.proofs.PlaceOrder.{is_place}
-use Rattle.xdg_rules.specs.Boxes.{Has, IsBox, Agrees, entry_decision}
+use Rattle.xdg_rules.specs.Boxes.{Has, IsBox, Agrees}
 use Rattle.xdg_rules.specs.Rules.{must_edges, AgrValues, AgreementValues, GovernmentValues, ComesBefore, DaughterOrder, HeadOffends, AboutHead, OfHead, attr_of_node}
 use Rattle.xdg_rules.proofs.Whole.{must_on, present, entry_is, entry_has, attr_is, attr_has}
 use Rattle.xdg_rules.proofs.SoundTree.{Kept}

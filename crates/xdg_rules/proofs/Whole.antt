@@ -1,7 +1,7 @@
 -- A box that agrees with a whole vector: its entries, values and edges are those of the analysis.
-use Rattle.std.proofs.Common.{◌≡◌, ℕ, ◌+◌, ◌<◌, ◌≤◌, ◌↔◌, Bool, true, false, ◌&&◌, List, length, take, drop, refl, sym, ap, ◌∙◌, arith, subst}
-use Rattle.std.specs.Prelude.{filter, Contains, All, not, slice_index, ◌==◌}
-use Rattle.std.proofs.lemmas.Bool.{false_from_ne_true, both_ways}
+use Rattle.std.proofs.Common.{◌≡◌, ℕ, ◌+◌, ◌<◌, Bool, true, false, ◌&&◌, List, length, take, drop, refl, sym, ap, ◌∙◌, arith, subst}
+use Rattle.std.specs.Prelude.{Contains, not, slice_index, ◌==◌}
+use Rattle.std.proofs.lemmas.Bool.{false_from_ne_true}
 use Rattle.std.proofs.lemmas.List.{get_or-take, get_or-drop}
 use Rattle.std.proofs.lemmas.List.Elements.{All-weaker, All-contains_itself}
 use Rattle.xdg_listing.specs.Fits.{Fits}
@@ -12,7 +12,7 @@ use Rattle.xdg_problem.specs.Arguments.{first_dim, attr_of, attr_place}
 use Rattle.xdg_problem.specs.Paths.{edges_on}
 use Rattle.xdg_problem.specs.Places.{nodes, places}
 use Rattle.xdg_problem.specs.Problems.{IsProblem, IsGroup, attr_arguments}
-use Rattle.xdg_problem.specs.Vectors.{attr_sizes, shape, entry_places, entries_at, edges_in, analysis_of}
+use Rattle.xdg_problem.specs.Vectors.{attr_sizes, shape, entry_places, entries_at, edges_in}
 use Rattle.xdg_problem.proofs.AttrPlaces.{attr_within, first_dim_within}
 use Rattle.xdg_problem.proofs.FilterFacts.{filter_both, filter_alike}
 use Rattle.xdg_problem.proofs.WholeTests.{entry_same}

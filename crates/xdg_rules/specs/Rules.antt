@@ -1,6 +1,6 @@
 -- Rules on boxes: which values a principle use takes away from a box. What they take stands in no analysis of the box that
 -- satisfies the principle use.
-use Rattle.std.specs.Prelude.{◌≡◌, ◌≢◌, ℕ, suc, ◌+◌, ◌<◌, ◌≤◌, ◌⊎◌, ◌==◌, ◌&&◌, Bool, true, false, not, List, [], ◌∷◌, length, map, filter, Option, Some, None, Contains, All, slice_index, slice_index_or}
+use Rattle.std.specs.Prelude.{◌≡◌, ◌≢◌, ℕ, suc, ◌+◌, ◌<◌, ◌≤◌, ◌⊎◌, ◌==◌, ◌&&◌, Bool, true, false, not, List, [], ◌∷◌, length, map, filter, Option, Some, None, Contains, All, slice_index_or}
 use Rattle.xdg_problem.specs.declared.analysis.Edge.{Edge}
 use Rattle.xdg_problem.specs.declared.parts.Group.{Group}
 use Rattle.xdg_problem.specs.declared.parts.Parts.{Parts}
@@ -8,9 +8,9 @@ use Rattle.xdg_problem.specs.declared.parts.Principle.{Principle}
 use Rattle.xdg_problem.specs.declared.parts.Principle.TheVariants as principles
 use Rattle.xdg_problem.specs.Arguments.{first_dim, second_dim, label_count, attr_of, order_of, truth_of}
 use Rattle.xdg_problem.specs.Asking.{IsBetween, IsLinked}
-use Rattle.xdg_rules.specs.Boxes.{Box, Has, IsOnly, entry_decision, attr_decision, edge_decision}
+use Rattle.xdg_rules.specs.Boxes.{Has, IsOnly, entry_decision, attr_decision, edge_decision}
 use Rattle.xdg_problem.specs.Features.{in_row, out_row, set_row, map_row}
-use Rattle.xdg_problem.specs.Paths.{edges_into, edges_out_of, mothers, roots, IsDaughterBy, IsDaughter, Above}
+use Rattle.xdg_problem.specs.Paths.{edges_into, edges_out_of, mothers, roots, Above}
 use Rattle.xdg_problem.specs.Places.{nodes, places}
 use Rattle.xdg_problem.specs.Tests.{Test, IsTest, looks_at, entry_node, test_attrs, Passes}
 
@@ -62,10 +62,12 @@ first_true (false ∷ flags) = suc (first_true flags)
 abbrev pub value_in : List (List Bool) → ℕ → ℕ
 value_in box d = first_true (slice_index_or box d [])
 
+-- the entry of the node that a test looks at, if it looks at one, has one value
 abbrev pub EntryDecided : List (List Bool) → Option ℕ → Type 0
 EntryDecided box None = Unit {0}
 EntryDecided box (Some node) = IsDecided box (entry_decision node)
 
+-- the value of that entry
 abbrev pub entry_value : List (List Bool) → Option ℕ → ℕ
 entry_value box None = 0
 entry_value box (Some node) = value_in box (entry_decision node)
@@ -115,8 +117,8 @@ pub record ValencyEntry (parts : Parts) (group : Group) (box : List (List Bool))
   pub known : label < label_count parts (first_dim group)
   pub is : d ≡ entry_decision node
   pub none :
-    HasNoneWithin (out_row group node v label) (edges_out_of (must_edges parts box (first_dim group)) node label) (edges_out_of (may_edges parts box (first_dim group)) node label)
-    ⊎ HasNoneWithin (in_row group node v label) (edges_into (must_edges parts box (first_dim group)) node label) (edges_into (may_edges parts box (first_dim group)) node label)
+      HasNoneWithin (out_row group node v label) (edges_out_of (must_edges parts box (first_dim group)) node label) (edges_out_of (may_edges parts box (first_dim group)) node label)
+      ⊎ HasNoneWithin (in_row group node v label) (edges_into (must_edges parts box (first_dim group)) node label) (edges_into (may_edges parts box (first_dim group)) node label)
 
 -- a further edge: as many as the entries of its node allow at most must be
 pub record ValencyFull (parts : Parts) (group : Group) (box : List (List Bool)) (d v : ℕ) : Type 0 where
@@ -125,8 +127,8 @@ pub record ValencyFull (parts : Parts) (group : Group) (box : List (List Bool)) 
   pub says : SaysPresent parts place d v
   pub free : Contains (must_edges parts box (first_dim group)) place → ⊥
   pub full :
-    IsGreatest box place.mother.0 (λ c. out_row group place.mother.0 c place.label.0) (edges_out_of (must_edges parts box (first_dim group)) place.mother.0 place.label.0)
-    ⊎ IsGreatest box place.daughter.0 (λ c. in_row group place.daughter.0 c place.label.0) (edges_into (must_edges parts box (first_dim group)) place.daughter.0 place.label.0)
+      IsGreatest box place.mother.0 (λ c. out_row group place.mother.0 c place.label.0) (edges_out_of (must_edges parts box (first_dim group)) place.mother.0 place.label.0)
+      ⊎ IsGreatest box place.daughter.0 (λ c. in_row group place.daughter.0 c place.label.0) (edges_into (must_edges parts box (first_dim group)) place.daughter.0 place.label.0)
 
 -- the absence of an edge: only as many as the entries of its node want at least may be
 pub record ValencyNeeded (parts : Parts) (group : Group) (box : List (List Bool)) (d v : ℕ) : Type 0 where
@@ -134,8 +136,8 @@ pub record ValencyNeeded (parts : Parts) (group : Group) (box : List (List Bool)
   pub may : Contains (may_edges parts box (first_dim group)) place
   pub says : SaysAbsent parts place d v
   pub needed :
-    IsLeast box place.mother.0 (λ c. out_row group place.mother.0 c place.label.0) (edges_out_of (may_edges parts box (first_dim group)) place.mother.0 place.label.0)
-    ⊎ IsLeast box place.daughter.0 (λ c. in_row group place.daughter.0 c place.label.0) (edges_into (may_edges parts box (first_dim group)) place.daughter.0 place.label.0)
+      IsLeast box place.mother.0 (λ c. out_row group place.mother.0 c place.label.0) (edges_out_of (may_edges parts box (first_dim group)) place.mother.0 place.label.0)
+      ⊎ IsLeast box place.daughter.0 (λ c. in_row group place.daughter.0 c place.label.0) (edges_into (may_edges parts box (first_dim group)) place.daughter.0 place.label.0)
 
 -- ---- tree and dag
 
@@ -202,8 +204,8 @@ pub record AgrValues (parts : Parts) (group : Group) (box : List (List Bool)) (d
   pub node : ℕ
   pub within : node < nodes parts
   pub lacks :
-    ((d ≡ attr_of_node parts group 0 node) × EachEntry box node (λ c. Contains (set_row group node c) v → ⊥))
-    ⊎ ((d ≡ entry_decision node) × ((x : ℕ) → Has box (attr_of_node parts group 0 node) x → Contains (set_row group node v) x → ⊥))
+      ((d ≡ attr_of_node parts group 0 node) × EachEntry box node (λ c. Contains (set_row group node c) v → ⊥))
+      ⊎ ((d ≡ entry_decision node) × ((x : ℕ) → Has box (attr_of_node parts group 0 node) x → Contains (set_row group node v) x → ⊥))
 
 -- each remaining entry of the mother asks for agreement at the label of the edge
 abbrev pub AsksAgreement : Group → List (List Bool) → Edge → Type 0
@@ -215,10 +217,10 @@ pub record AgreementValues (parts : Parts) (group : Group) (box : List (List Boo
   pub is : IsPlaceOn parts (first_dim group) place
   pub asks : AsksAgreement group box place
   pub lacks :
-    (SaysPresent parts place d v × ((x : ℕ) → Has box (attr_of_node parts group 0 place.mother.0) x → Has box (attr_of_node parts group 1 place.daughter.0) x → ⊥))
-    ⊎ (Contains (must_edges parts box (first_dim group)) place
+      (SaysPresent parts place d v × ((x : ℕ) → Has box (attr_of_node parts group 0 place.mother.0) x → Has box (attr_of_node parts group 1 place.daughter.0) x → ⊥))
+      ⊎ (Contains (must_edges parts box (first_dim group)) place
       × (((d ≡ attr_of_node parts group 0 place.mother.0) × (Has box (attr_of_node parts group 1 place.daughter.0) v → ⊥))
-        ⊎ ((d ≡ attr_of_node parts group 1 place.daughter.0) × (Has box (attr_of_node parts group 0 place.mother.0) v → ⊥))))
+      ⊎ ((d ≡ attr_of_node parts group 1 place.daughter.0) × (Has box (attr_of_node parts group 0 place.mother.0) v → ⊥))))
 
 -- each remaining entry of the mother governs at the label of the edge
 abbrev pub Governs : Group → List (List Bool) → Edge → Type 0
@@ -230,8 +232,8 @@ pub record GovernmentValues (parts : Parts) (group : Group) (box : List (List Bo
   pub is : IsPlaceOn parts (first_dim group) place
   pub governs : Governs group box place
   pub lacks :
-    (SaysPresent parts place d v × EachEntry box place.mother.0 (λ c. (x : ℕ) → Has box (attr_of_node parts group 0 place.daughter.0) x → Contains (map_row group place.mother.0 c place.label.0) x → ⊥))
-    ⊎ (Contains (must_edges parts box (first_dim group)) place
+      (SaysPresent parts place d v × EachEntry box place.mother.0 (λ c. (x : ℕ) → Has box (attr_of_node parts group 0 place.daughter.0) x → Contains (map_row group place.mother.0 c place.label.0) x → ⊥))
+      ⊎ (Contains (must_edges parts box (first_dim group)) place
       × (d ≡ attr_of_node parts group 0 place.daughter.0)
       × EachEntry box place.mother.0 (λ c. Contains (map_row group place.mother.0 c place.label.0) v → ⊥))
 
@@ -251,8 +253,8 @@ pub record DaughterOrder (parts : Parts) (group : Group) (box : List (List Bool)
   pub must : Contains (must_edges parts box (first_dim group)) other
   pub mother : place.mother.0 ≡ other.mother.0
   pub wrong :
-    (ComesBefore (order_of group) other.label.0 place.label.0 × (place.daughter.0 ≤ other.daughter.0))
-    ⊎ (ComesBefore (order_of group) place.label.0 other.label.0 × (other.daughter.0 ≤ place.daughter.0))
+      (ComesBefore (order_of group) other.label.0 place.label.0 × (place.daughter.0 ≤ other.daughter.0))
+      ⊎ (ComesBefore (order_of group) place.label.0 other.label.0 × (other.daughter.0 ≤ place.daughter.0))
 
 -- under its own label x the mother of an edge stands on the wrong side of the daughter
 abbrev pub HeadOffends : Group → ℕ → Edge → Type 0
@@ -326,8 +328,8 @@ pub record LinkingNotDaughter (parts : Parts) (group : Group) (box : List (List 
   pub daughter : place.daughter.0 ≡ other.daughter.0
   pub keeps : EachEntry box place.mother.0 (λ c. Contains (set_row group place.mother.0 c) place.label.0)
   pub one :
-    (SaysPresent parts place d v × Contains (must_edges parts box (second_dim group)) other)
-    ⊎ (SaysPresent parts other d v × Contains (must_edges parts box (first_dim group)) place)
+      (SaysPresent parts place d v × Contains (must_edges parts box (second_dim group)) other)
+      ⊎ (SaysPresent parts other d v × Contains (must_edges parts box (first_dim group)) place)
 
 -- ---- principles
 
