@@ -1,11 +1,11 @@
 -- What can be decided of the values that remain in a box, of its edges and of its entries.
-use Rattle.std.proofs.Common.{◌≡◌, ℕ, ◌<◌, ◌≤◌, ◌⊎◌, inl, inr, zero, suc, Bool, true, false, List, [], ◌∷◌, length, refl, sym, ap, ap₂, ◌∙◌, arith, subst}
+use Rattle.std.proofs.Common.{◌≡◌, ℕ, ◌<◌, ◌≤◌, inl, inr, zero, suc, Bool, true, false, List, [], ◌∷◌, length, refl, ap, ap₂, arith, subst}
 use Rattle.std.specs.Prelude.{All, Contains, slice_index_or}
 use Rattle.std.specs.List.{Any}
 use Rattle.std.proofs.lemmas.Bool.{cases_Bool, cases_eq, both_ways}
 use Rattle.std.proofs.lemmas.List.Elements.{All-contains, All-contains_itself, All-weaker}
 use Rattle.xdg_problem.specs.declared.analysis.Edge.{Edge}
-use Rattle.xdg_problem.proofs.Deciding.{Decided, decided_like, decided_both, decided_from, decided_equal, decided_less, decided_most, decided_below, decided_all, decided_contains}
+use Rattle.xdg_problem.proofs.Deciding.{Decided, decided_like, decided_both, decided_from, decided_equal, decided_most, decided_below, decided_all, decided_contains}
 use Rattle.xdg_problem.proofs.DecidingPaths.{decided_either, decided_true, decided_not, decided_any, contained}
 use Rattle.xdg_problem.proofs.Edges.{same_edge_itself, same_edge_equal}
 use Rattle.xdg_problem.proofs.Looking.{any_of}
@@ -69,6 +69,7 @@ decided_lists (x ∷ xs) (y ∷ ys) = decided_like ((x ≡ y) × (xs ≡ ys)) (x
     first_of_list : ℕ → List ℕ → ℕ
     first_of_list d [] = d
     first_of_list d (z ∷ zs) = z
+
     rest_of_list : List ℕ → List ℕ
     rest_of_list [] = []
     rest_of_list (z ∷ zs) = zs

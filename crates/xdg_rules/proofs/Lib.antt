@@ -16,6 +16,7 @@ pub mod SoundPaths
 pub mod Solved
 pub mod Single
 pub mod Removing
-pub mod RuleLaws
 pub mod DecidingBoxes
 pub mod DecidingRules
+pub mod DecidingClosed
+pub mod RuleLaws

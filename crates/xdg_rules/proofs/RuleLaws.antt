@@ -16,6 +16,7 @@ use Rattle.xdg_rules.specs.Rules.{Takes, IsClosedFor}
 use Rattle.xdg_rules.specs.Boxed.{only, Boxed}
 use Rattle.xdg_rules.specs.Laws.{IsInside, RuleLaws, BoxedLaws}
 use Rattle.xdg_rules.proofs.ClosedLive.{some_value, boxed_live, boxed_closed}
+use Rattle.xdg_rules.proofs.DecidingClosed.{one_boxed_list}
 use Rattle.xdg_rules.proofs.Monotone.{monotone}
 use Rattle.xdg_rules.proofs.Removing.{lies_without}
 use Rattle.xdg_rules.proofs.Single.{only_agrees, only_box, only_lies}
@@ -78,5 +79,6 @@ module _ (parts : Parts) (problem : IsProblem parts) where
     fronts = boxed_closed parts;
     live = λ prefix boxed. boxed_live parts prefix problem boxed;
     whole = λ x fits whole. (boxed_solution x fits whole, solution_boxed x fits whole);
+    listed = one_boxed_list parts problem;
     solutions = λ analysis solution. solution_boxed (vector parts analysis) (vector_fits parts analysis problem solution.fits) (length_vector parts analysis problem solution.fits) (subst (IsSolution parts) (sym (analysis_vector parts analysis problem solution.fits)) solution);
   }

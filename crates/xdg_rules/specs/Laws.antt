@@ -2,6 +2,7 @@
 use Rattle.std.specs.Prelude.{◌≡◌, ◌↔◌, ℕ, Bool, List, length}
 use Rattle.xdg_listing.specs.Closed.{Closed}
 use Rattle.xdg_listing.specs.Fits.{Fits}
+use Rattle.xdg_listing.specs.Listing.{HasOneListing}
 use Rattle.xdg_problem.specs.declared.analysis.Analysis.{Analysis}
 use Rattle.xdg_problem.specs.declared.parts.Group.{Group}
 use Rattle.xdg_problem.specs.declared.parts.Parts.{Parts}
@@ -45,5 +46,7 @@ pub record BoxedLaws (parts : Parts) : Type 0 where
   pub live : (prefix : List ℕ) → Boxed parts prefix → Live parts prefix
   -- a whole vector is boxed exactly where its analysis is a solution
   pub whole : (numbers : List ℕ) → Fits (shape parts) numbers → length numbers ≡ length (shape parts) → Boxed parts numbers ↔ IsSolution parts (analysis_of parts numbers)
+  -- from any start on they have one list
+  pub listed : (start : List ℕ) → HasOneListing (shape parts) (Boxed parts) start
   -- the vector of each solution is boxed
   pub solutions : (analysis : Analysis) → IsSolution parts analysis → Boxed parts (vector parts analysis)
