@@ -21,7 +21,7 @@ use Rattle.xdg_problem.proofs.Shortening.{passes_like}
 use Rattle.xdg_rules.specs.Boxes.{Has, Agrees, place_in, edge_decision, entry_decision}
 use Rattle.xdg_rules.specs.Rules.{has, IsDecided, value_in, EntryDecided, entry_value, TestDecided, TestPasses}
 use Rattle.xdg_rules.proofs.Sizes.{row_within}
-use Rattle.xdg_rules.proofs.Failing.{value_is}
+use Rattle.xdg_rules.proofs.Failing.{same_flag, value_is}
 
 -- what remains of a decision of the prefix is its number
 pub agrees_at : (box : List (List Bool)) (p : List ℕ) → Agrees box p → (d : ℕ) → d < length p → (v : ℕ) → Has box d v ↔ (v ≡ slice_index p d)
@@ -70,11 +70,6 @@ pub edges_present : (parts : Parts) (p : List ℕ) → edges_in parts p ≡ filt
 edges_present parts p = chosen_filter (places parts) (drop (first_place parts) p) (places_ordered parts)
     ∙ filter_alike (λ e. says_present (drop (first_place parts) p) (place_in (places parts) e)) (λ e. says_present p (edge_decision parts e)) (places parts)
     (λ k d l. ap (λ n. n == 0) (get_or-drop (first_place parts) p (place_in (places parts) _) 1))
-
-same_flag : (a b : Bool) → (a ≡ true → b ≡ true) → (b ≡ true → a ≡ true) → a ≡ b
-same_flag true b to from = sym (to refl)
-same_flag false true to from = absurd (false≢true (from refl))
-same_flag false false to from = refl
 
 swapped : (a b c : Bool) → (b ≡ true → a ≡ c) → (a && b) ≡ (b && c)
 swapped true true c same = same refl

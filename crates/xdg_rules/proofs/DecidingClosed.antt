@@ -34,7 +34,7 @@ decision_within (row ∷ box) zero v has = omega arith
 decision_within (row ∷ box) (suc d) v has = (let l = decision_within box d v has in omega (arith, l))
 
 -- of all values that remain
-decided_everywhere : (box : List (List Bool)) (P : ℕ → ℕ → Type 0) → ((d v : ℕ) → Decided (P d v)) → Decided ((d v : ℕ) → Has box d v → P d v)
+pub decided_everywhere : (box : List (List Bool)) (P : ℕ → ℕ → Type 0) → ((d v : ℕ) → Decided (P d v)) → Decided ((d v : ℕ) → Has box d v → P d v)
 decided_everywhere box P each = decided_like ((d : ℕ) → d < length box → (v : ℕ) → Has box d v → P d v) ((d v : ℕ) → Has box d v → P d v)
     (λ all d v has. all d (decision_within box d v has) v has)
     (λ all d l v has. all d v has)
@@ -123,7 +123,7 @@ row_contained [] = contains_head [] []
 row_contained (true ∷ row) = contains_left (map (λ r. true ∷ r) (all_rows (length row))) (map (λ r. false ∷ r) (all_rows (length row))) (true ∷ row) (contains_map (λ r. true ∷ r) (all_rows (length row)) row (row_contained row))
 row_contained (false ∷ row) = contains_right (map (λ r. true ∷ r) (all_rows (length row))) (map (λ r. false ∷ r) (all_rows (length row))) (false ∷ row) (contains_map (λ r. false ∷ r) (all_rows (length row)) row (row_contained row))
 
-all_boxes : List ℕ → List (List (List Bool))
+pub all_boxes : List ℕ → List (List (List Bool))
 all_boxes [] = [] ∷ []
 all_boxes (size ∷ sizes) = flat_map (λ row. map (λ box. row ∷ box) (all_boxes sizes)) (all_rows size)
 
@@ -134,12 +134,12 @@ contains_flat f (z ∷ xs) x y c d = elim (contains_cases z xs x c) [
   | inr later ↦ contains_right (f z) (flat_map f xs) y (contains_flat f xs x y later d)
 ]
 
-box_contained : (box : List (List Bool)) → Contains (all_boxes (map length box)) box
+pub box_contained : (box : List (List Bool)) → Contains (all_boxes (map length box)) box
 unfolding all_boxes
 box_contained [] = contains_head [] []
 box_contained (row ∷ box) = contains_flat (λ r. map (λ b. r ∷ b) (all_boxes (map length box))) (all_rows (length row)) row (row ∷ box) (row_contained row) (contains_map (λ b. row ∷ b) (all_boxes (map length box)) box (box_contained box))
 
-decided_box : (sizes : List ℕ) (box : List (List Bool)) → Decided (IsBox sizes box)
+pub decided_box : (sizes : List ℕ) (box : List (List Bool)) → Decided (IsBox sizes box)
 decided_box sizes box = decided_like ((map length box ≡ sizes) × ((d : ℕ) → d < length sizes → (v : ℕ) × Has box d v × Unit {0})) (IsBox sizes box)
     (λ both. record { sizes = both.0; filled = λ d l. ((both.1 d l).0, (both.1 d l).1) })
     (λ is. (is.sizes, λ d l. ((is.filled d l).0, (is.filled d l).1, tt)))

@@ -30,12 +30,12 @@ first_only (false ∷ row) (suc v) has only = ap suc (first_only row v has (λ x
 pub value_is : (box : List (List Bool)) (d : ℕ) (decided : IsDecided box d) → value_in box d ≡ decided.0
 value_is box d decided = first_only (slice_index_or box d []) decided.0 decided.1 decided.2
 
-same_flag : (a b : Bool) → (a ≡ true → b ≡ true) → (b ≡ true → a ≡ true) → a ≡ b
+pub same_flag : (a b : Bool) → (a ≡ true → b ≡ true) → (b ≡ true → a ≡ true) → a ≡ b
 same_flag true b to from = sym (to refl)
 same_flag false true to from = absurd (false≢true (from refl))
 same_flag false false to from = refl
 
-pub same_and : (a b c : Bool) → (a ≡ true → b ≡ c) → (a && b) ≡ (a && c)
+same_and : (a b c : Bool) → (a ≡ true → b ≡ c) → (a && b) ≡ (a && c)
 same_and true b c same = same refl
 same_and false b c same = refl
 

@@ -19,4 +19,5 @@ pub mod Removing
 pub mod DecidingBoxes
 pub mod DecidingRules
 pub mod DecidingClosed
+pub mod Greatest
 pub mod RuleLaws

@@ -12,14 +12,15 @@ use Rattle.xdg_problem.specs.Vectors.{shape, vector, analysis_of}
 use Rattle.xdg_problem.proofs.VectorFacts.{analysis_fits, analysis_vector, vector_fits, length_vector}
 use Rattle.xdg_problem.proofs.WholeTests.{whole_live}
 use Rattle.xdg_rules.specs.Boxes.{Has, IsBox, LiesIn, IsIn, without}
-use Rattle.xdg_rules.specs.Rules.{Takes, IsClosedFor}
+use Rattle.xdg_rules.specs.Rules.{Takes, IsClosedFor, IsClosed}
 use Rattle.xdg_rules.specs.Boxed.{only, Boxed}
 use Rattle.xdg_rules.specs.Laws.{IsInside, RuleLaws, BoxedLaws}
 use Rattle.xdg_rules.proofs.ClosedLive.{some_value, boxed_live, boxed_closed}
 use Rattle.xdg_rules.proofs.DecidingClosed.{one_boxed_list}
+use Rattle.xdg_rules.proofs.Greatest.{greatest_closed}
 use Rattle.xdg_rules.proofs.Monotone.{monotone}
 use Rattle.xdg_rules.proofs.Removing.{lies_without}
-use Rattle.xdg_rules.proofs.Single.{only_agrees, only_box, only_lies}
+use Rattle.xdg_rules.proofs.Single.{only_agrees, only_box, only_lies, agrees_lies, lies_agrees}
 use Rattle.xdg_rules.proofs.Solved.{closed_is_relation}
 
 module _ (parts : Parts) (problem : IsProblem parts) where
@@ -74,8 +75,16 @@ module _ (parts : Parts) (problem : IsProblem parts) where
     agrees = only_agrees (shape parts) x fits;
   }
 
+  boxed_inside : (prefix : List ℕ) → Fits (shape parts) prefix → Boxed parts prefix ↔ ((box : List (List Bool)) × IsBox (shape parts) box × IsClosed parts box × LiesIn box (only (shape parts) prefix))
+  boxed_inside prefix fits = (
+    λ boxed. (boxed.box, boxed.is, boxed.closed, agrees_lies (shape parts) boxed.box prefix boxed.is boxed.agrees),
+    λ inside. record { box = inside.0; is = inside.1; closed = inside.2; agrees = lies_agrees (shape parts) prefix inside.0 fits inside.1 inside.3 },
+  )
+
   pub boxed_laws : BoxedLaws parts
   boxed_laws = record {
+    greatest = greatest_closed parts problem;
+    inside = boxed_inside;
     fronts = boxed_closed parts;
     live = λ prefix boxed. boxed_live parts prefix problem boxed;
     whole = λ x fits whole. (boxed_solution x fits whole, solution_boxed x fits whole);

@@ -1,5 +1,5 @@
 -- What follows for a box that lies in a larger one: what may be among its edges, and what must be.
-use Rattle.std.proofs.Common.{◌≡◌, ℕ, ◌+◌, ◌≤◌, ◌⊎◌, inl, inr, Bool, true, false, List}
+use Rattle.std.proofs.Common.{◌≡◌, ℕ, ◌+◌, ◌≤◌, ◌⊎◌, ◌↔◌, inl, inr, Bool, true, false, List}
 use Rattle.std.specs.Prelude.{Contains, count_by, not, ◌==◌, ◌&&◌}
 use Rattle.std.proofs.lemmas.Bool.{and_parts, and_from, cases_Bool, not-true, not_from_false, eq-eqb, eqb-true, both_ways, false_from_ne_true}
 use Rattle.xdg_problem.specs.declared.analysis.Edge.{Edge}
@@ -8,8 +8,8 @@ use Rattle.xdg_problem.specs.Places.{places}
 use Rattle.xdg_problem.specs.Vectors.{shape}
 use Rattle.xdg_problem.proofs.FilterFacts.{filter_contained}
 use Rattle.xdg_problem.proofs.Ordered.{contains_filter}
-use Rattle.xdg_rules.specs.Boxes.{Has, IsBox, LiesIn, edge_decision}
-use Rattle.xdg_rules.specs.Rules.{has, may_edges, must_edges}
+use Rattle.xdg_rules.specs.Boxes.{Has, IsBox, LiesIn, May, Must, edge_decision}
+use Rattle.xdg_rules.specs.Rules.{has, may_edges, must_edges, IsPlaceOn}
 use Rattle.xdg_rules.proofs.Keeping.{Less, less_among, less_count, strictly_count}
 use Rattle.xdg_rules.proofs.Sizes.{edge_some}
 use Rattle.xdg_rules.proofs.Among.{Among}
@@ -77,22 +77,30 @@ module _ (parts : Parts) (box : List (List Bool)) (dim : ℕ) (e : Edge) where
   pub must_fails : (Contains (must_edges parts box dim) e → ⊥) → Contains (places parts) e → must_be parts box dim e ≡ false
   must_fails free place = false_from_ne_true (must_be parts box dim e) (λ passes. free (contains_filter (must_be parts box dim) (places parts) e passes place))
 
-  -- an edge of the dimension that may be, and can be absent, need not be
+  -- a place is among the edges that may be, or it isn't
   pub may_or_not : Contains (places parts) e → (Contains (may_edges parts box dim) e) ⊎ (Contains (may_edges parts box dim) e → ⊥)
   may_or_not place = elim (cases_Bool (may_be parts box dim e)) [
     | inl passes ↦ inl (contains_filter (may_be parts box dim) (places parts) e passes place)
     | inr fails ↦ inr (λ c. both_ways (may_be parts box dim e) fails (filter_contained (may_be parts box dim) (places parts) e c).1)
   ]
 
-  pub must_or_not : Contains (places parts) e → (Contains (must_edges parts box dim) e) ⊎ (Contains (must_edges parts box dim) e → ⊥)
-  must_or_not place = elim (cases_Bool (must_be parts box dim e)) [
-    | inl passes ↦ inl (contains_filter (must_be parts box dim) (places parts) e passes place)
-    | inr fails ↦ inr (λ c. both_ways (must_be parts box dim e) fails (filter_contained (must_be parts box dim) (places parts) e c).1)
-  ]
+-- the edges that may be are the places that may be, and those that must be the places that must be
+pub may_exact : (parts : Parts) (box : List (List Bool)) (dim : ℕ) (e : Edge) → Contains (may_edges parts box dim) e ↔ (IsPlaceOn parts dim e × May parts box e)
+may_exact parts box dim e = (
+  λ c. (let is = may_is parts box dim e c in ((is.place, is.dim_is), is.present)),
+  λ both. may_of parts box dim e (record { place = both.0.0; dim_is = both.0.1; present = both.1 }),
+)
 
--- what must be may be
-pub must_may : (parts : Parts) (box : List (List Bool)) (dim : ℕ) → Among (must_edges parts box dim) (may_edges parts box dim)
-must_may parts box dim e c = (let is = must_is parts box dim e c in may_of parts box dim e (record { place = is.place; dim_is = is.dim_is; present = is.present }))
+pub must_exact : (parts : Parts) (box : List (List Bool)) (dim : ℕ) (e : Edge) → IsBox (shape parts) box → Contains (must_edges parts box dim) e ↔ (IsPlaceOn parts dim e × Must parts box e)
+must_exact parts box dim e is = (
+  λ c. (let all = must_is parts box dim e c in ((all.place, all.dim_is), λ absent. both_ways (has box (edge_decision parts e) 1) all.not_absent absent)),
+  λ both. must_of parts box dim e (record {
+    place = both.0.0;
+    dim_is = both.0.1;
+    present = elim (edge_some parts box is e both.0.0) [ inl here ↦ here | inr there ↦ absurd (both.1 there) ];
+    not_absent = false_from_ne_true (has box (edge_decision parts e) 1) both.1;
+  }),
+)
 
 module _ (parts : Parts) (small large : List (List Bool)) (is : IsBox (shape parts) small) (lies : LiesIn small large) where
   pub may_less : (dim : ℕ) → Less (may_be parts small dim) (may_be parts large dim) (places parts)
@@ -128,6 +136,3 @@ module _ (parts : Parts) (small large : List (List Bool)) (is : IsBox (shape par
   must_count_more dim test e counts c free =
       let both = filter_contained (must_be parts small dim) (places parts) e c in
       strictly_count (must_be parts large dim) (must_be parts small dim) test (places parts) (must_less dim) e both.0 (must_fails parts large dim e free both.0) both.1 counts
-
-must_edges_may : (parts : Parts) (box : List (List Bool)) (dim : ℕ) → Less (must_be parts box dim) (may_be parts box dim) (places parts)
-must_edges_may parts box dim e c passes = (let all = must_parts parts box dim e passes in may_test parts box dim e all.0 all.1)

@@ -1,29 +1,30 @@
 -- The box of a vector's values: it is a box that agrees with the vector, and it lies in each box in which the vector lies.
-use Rattle.std.proofs.Common.{◌≡◌, ℕ, ◌+◌, ◌<◌, ◌↔◌, zero, suc, Bool, true, false, List, [], ◌∷◌, length, map, refl, sym, ap₂, ◌∙◌, arith, subst}
+use Rattle.std.proofs.Common.{◌≡◌, ℕ, ◌+◌, ◌<◌, ◌↔◌, zero, suc, Bool, true, false, List, [], ◌∷◌, length, map, refl, sym, ap₂, ◌∙◌, arith, subst, ◌≤◌}
 use Rattle.std.specs.Prelude.{slice_index, slice_index_or, ◌==◌}
 use Rattle.std.proofs.lemmas.Bool.{eq-eqb, eqb-true, false≢true}
-use Rattle.std.proofs.lemmas.List.{length-map}
+use Rattle.std.proofs.lemmas.List.{length-map, get_or-replicate}
 use Rattle.xdg_listing.specs.Fits.{Fits}
 use Rattle.xdg_problem.specs.Places.{numbers_from, below}
 use Rattle.xdg_problem.proofs.Ordered.{numbers_length}
-use Rattle.xdg_rules.specs.Boxes.{Has, IsBox, LiesIn, IsIn, Agrees}
+use Rattle.xdg_rules.specs.Boxes.{full, Has, IsBox, LiesIn, IsIn, Agrees}
 use Rattle.xdg_rules.specs.Boxed.{one_value, only}
+use Rattle.xdg_rules.proofs.Sizes.{row_within, within_sizes}
 
 -- the flag at k is that of the number k behind the first
-one_from : (first count x k : ℕ) → slice_index_or (map (λ v. v == x) (numbers_from first count)) k false ≡ true → first + k ≡ x
-one_from first zero x k flag = absurd (false≢true flag)
-one_from first (suc count) x zero flag = (let e = eqb-true first x flag in omega (arith, e))
-one_from first (suc count) x (suc k) flag = (let e = one_from (suc first) count x k flag in omega (arith, e))
+pub flag_from : (test : ℕ → Bool) (first count k : ℕ) → slice_index_or (map test (numbers_from first count)) k false ≡ true → test (first + k) ≡ true
+flag_from test first zero k flag = absurd (false≢true flag)
+flag_from test first (suc count) zero flag = subst (λ n. test n ≡ true) (omega arith) flag
+flag_from test first (suc count) (suc k) flag = subst (λ n. test n ≡ true) (omega arith) (flag_from test (suc first) count k flag)
 
-from_one : (first count x k : ℕ) → k < count → first + k ≡ x → slice_index_or (map (λ v. v == x) (numbers_from first count)) k false ≡ true
-from_one first zero x k l e = absurd (omega (arith, l))
-from_one first (suc count) x zero l e = eq-eqb first x (omega (arith, e))
-from_one first (suc count) x (suc k) l e = from_one (suc first) count x k (omega (arith, l)) (omega (arith, e))
+pub from_flag : (test : ℕ → Bool) (first count k : ℕ) → k < count → test (first + k) ≡ true → slice_index_or (map test (numbers_from first count)) k false ≡ true
+from_flag test first zero k l passes = absurd (omega (arith, l))
+from_flag test first (suc count) zero l passes = subst (λ n. test n ≡ true) (omega arith) passes
+from_flag test first (suc count) (suc k) l passes = from_flag test (suc first) count k (omega (arith, l)) (subst (λ n. test n ≡ true) (omega arith) passes)
 
 one_value_is : (size x : ℕ) → x < size → (v : ℕ) → (slice_index_or (one_value size x) v false ≡ true) ↔ (v ≡ x)
 one_value_is size x l v = (
-  λ flag. (let e = one_from 0 size x v flag in omega (arith, e)),
-  λ e. from_one 0 size x v (omega (arith, l, e)) (omega (arith, e)),
+  λ flag. (let e = eqb-true (0 + v) x (flag_from (λ k. k == x) 0 size v flag) in omega (arith, e)),
+  λ e. from_flag (λ k. k == x) 0 size v (omega (arith, l, e)) (eq-eqb (0 + v) x (omega (arith, e))),
 )
 
 pub only_agrees : (sizes x : List ℕ) → Fits sizes x → Agrees (only sizes x) x
@@ -68,3 +69,39 @@ agrees_in [] [] same agrees = tt
 agrees_in (row ∷ box) [] same agrees = absurd (omega (arith, same))
 agrees_in [] (a ∷ x) same agrees = absurd agrees
 agrees_in (row ∷ box) (a ∷ x) same agrees = ((agrees.0 a).1 refl, agrees_in box x (omega (arith, same)) agrees.1)
+
+-- what a box of all values has
+full_has : (sizes : List ℕ) (d v : ℕ) → v < slice_index sizes d → Has (full sizes) d v
+full_has [] d v l = absurd (omega (arith, l))
+full_has (size ∷ sizes) zero v l = get_or-replicate size v true false l
+full_has (size ∷ sizes) (suc d) v l = full_has sizes d v l
+
+-- a box that agrees with a prefix lies in the box of the prefix
+agreeing_lies : (box : List (List Bool)) (p : List ℕ) → Agrees box p → LiesIn box (only (map length box) p)
+agreeing_lies box [] agrees d v has = full_has (map length box) d v (within_sizes box d v has)
+agreeing_lies [] (x ∷ p) agrees d v has = absurd agrees
+agreeing_lies (row ∷ box) (x ∷ p) agrees zero v has = (one_value_is (length row) x (row_within row x ((agrees.0 x).1 refl)) v).1 ((agrees.0 v).0 has)
+agreeing_lies (row ∷ box) (x ∷ p) agrees (suc d) v has = agreeing_lies box p agrees.1 d v has
+
+pub agrees_lies : (sizes : List ℕ) (box : List (List Bool)) (p : List ℕ) → IsBox sizes box → Agrees box p → LiesIn box (only sizes p)
+agrees_lies sizes box p is agrees = subst (λ ns. LiesIn box (only ns p)) is.sizes (agreeing_lies box p agrees)
+
+-- and a box that lies there agrees with the prefix, if it has a value for each decision
+lying_agrees : (sizes p : List ℕ) (box : List (List Bool)) → Fits sizes p → ((d : ℕ) → d < length p → (v : ℕ) × Has box d v) → LiesIn box (only sizes p) → Agrees box p
+lying_agrees sizes [] box fits filled lies = tt
+lying_agrees [] (x ∷ p) box fits filled lies = absurd fits
+lying_agrees (size ∷ sizes) (x ∷ p) [] fits filled lies = absurd (false≢true (filled 0 (omega arith)).1)
+lying_agrees (size ∷ sizes) (x ∷ p) (row ∷ box) fits filled lies =
+    let some = filled 0 (omega arith) in
+    let value : (v : ℕ) → slice_index_or row v false ≡ true → v ≡ x = λ v flag. (one_value_is size x fits.0 v).0 (lies 0 v flag) in (
+      λ v. (value v, λ e. subst (λ k. slice_index_or row k false ≡ true) (value some.0 some.1 ∙ sym e) some.1),
+      lying_agrees sizes p box fits.1 (λ d l. filled (suc d) (omega (arith, l))) (λ d v has. lies (suc d) v has),
+    )
+
+fits_length : (sizes p : List ℕ) → Fits sizes p → length p ≤ length sizes
+fits_length sizes [] fits = omega arith
+fits_length [] (x ∷ p) fits = absurd fits
+fits_length (size ∷ sizes) (x ∷ p) fits = (let l = fits_length sizes p fits.1 in omega (arith, l))
+
+pub lies_agrees : (sizes p : List ℕ) (box : List (List Bool)) → Fits sizes p → IsBox sizes box → LiesIn box (only sizes p) → Agrees box p
+lies_agrees sizes p box fits is lies = lying_agrees sizes p box fits (λ d l. is.filled d (let short = fits_length sizes p fits in omega (arith, l, short))) lies

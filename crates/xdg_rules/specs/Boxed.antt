@@ -3,7 +3,7 @@ use Rattle.std.specs.Prelude.{ℕ, ◌==◌, Bool, List, [], ◌∷◌, map}
 use Rattle.xdg_problem.specs.declared.parts.Parts.{Parts}
 use Rattle.xdg_problem.specs.Places.{below}
 use Rattle.xdg_problem.specs.Vectors.{shape}
-use Rattle.xdg_rules.specs.Boxes.{IsBox, Agrees, full}
+use Rattle.xdg_rules.specs.Boxes.{IsBox, LiesIn, Agrees, full}
 use Rattle.xdg_rules.specs.Rules.{IsClosed}
 
 -- of so many values one remains
@@ -22,3 +22,14 @@ pub record Boxed (parts : Parts) (prefix : List ℕ) : Type 0 where
   pub is : IsBox (shape parts) box
   pub closed : IsClosed parts box
   pub agrees : Agrees box prefix
+
+-- no closed box lies in the box
+abbrev pub HasNoClosed : Parts → List (List Bool) → Type 0
+HasNoClosed parts box = (small : List (List Bool)) → IsBox (shape parts) small → IsClosed parts small → LiesIn small box → ⊥
+
+-- the greatest closed box that lies in a box: each other one lies in it
+pub record IsGreatestClosed (parts : Parts) (box greatest : List (List Bool)) : Type 0 where
+  pub is : IsBox (shape parts) greatest
+  pub closed : IsClosed parts greatest
+  pub lies : LiesIn greatest box
+  pub most : (small : List (List Bool)) → IsBox (shape parts) small → IsClosed parts small → LiesIn small box → LiesIn small greatest

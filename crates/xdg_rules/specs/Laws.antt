@@ -1,5 +1,5 @@
 -- What the rules of all principles keep.
-use Rattle.std.specs.Prelude.{◌≡◌, ◌↔◌, ℕ, Bool, List, length}
+use Rattle.std.specs.Prelude.{◌≡◌, ◌⊎◌, ◌↔◌, ℕ, Bool, List, length}
 use Rattle.xdg_listing.specs.Closed.{Closed}
 use Rattle.xdg_listing.specs.Fits.{Fits}
 use Rattle.xdg_listing.specs.Listing.{HasOneListing}
@@ -12,8 +12,8 @@ use Rattle.xdg_problem.specs.Relations.{Relation}
 use Rattle.xdg_problem.specs.Solutions.{IsSolution}
 use Rattle.xdg_problem.specs.Vectors.{shape, vector, analysis_of}
 use Rattle.xdg_rules.specs.Boxes.{Has, IsBox, LiesIn, IsIn, without}
-use Rattle.xdg_rules.specs.Rules.{Takes, IsClosedFor}
-use Rattle.xdg_rules.specs.Boxed.{only, Boxed}
+use Rattle.xdg_rules.specs.Rules.{Takes, IsClosedFor, IsClosed}
+use Rattle.xdg_rules.specs.Boxed.{only, Boxed, IsGreatestClosed, HasNoClosed}
 
 -- a box of the shape that is closed for a principle use, lies in another box, and has a value there
 pub record IsInside (parts : Parts) (group : Group) (box : List (List Bool)) (d v : ℕ) : Type 0 where
@@ -38,8 +38,12 @@ pub record RuleLaws (parts : Parts) (group : Group) : Type 0 where
   -- it takes no value of an analysis of the box that satisfies it
   pub stays : (box : List (List Bool)) (analysis : Analysis) → IsAnalysis parts analysis → IsIn box (vector parts analysis) → Relation parts group analysis → (d v : ℕ) → Takes parts group box d v → Has (only (shape parts) (vector parts analysis)) d v → ⊥
 
--- what boxed prefixes keep
+-- what closed boxes and boxed prefixes keep
 pub record BoxedLaws (parts : Parts) : Type 0 where
+  -- in each box lies a greatest closed one, or none
+  pub greatest : (box : List (List Bool)) → ((inside : List (List Bool)) × IsGreatestClosed parts box inside) ⊎ HasNoClosed parts box
+  -- a prefix is boxed exactly where a closed box lies in the box that has its numbers and all values of the later decisions
+  pub inside : (prefix : List ℕ) → Fits (shape parts) prefix → Boxed parts prefix ↔ ((box : List (List Bool)) × IsBox (shape parts) box × IsClosed parts box × LiesIn box (only (shape parts) prefix))
   -- each front of a boxed prefix is boxed
   pub fronts : Closed (Boxed parts)
   -- each boxed prefix is live
