@@ -21,7 +21,7 @@ use Rattle.xdg_rules.specs.Rules.{has, IsDecided, first_true, value_in, EntryDec
 use Rattle.xdg_rules.proofs.Sizes.{edge_within, node_within, attr_place_within}
 
 -- the first value that remains is the only one
-first_only : (row : List Bool) (v : ℕ) → slice_index_or row v false ≡ true → ((x : ℕ) → slice_index_or row x false ≡ true → x ≡ v) → first_true row ≡ v
+pub first_only : (row : List Bool) (v : ℕ) → slice_index_or row v false ≡ true → ((x : ℕ) → slice_index_or row x false ≡ true → x ≡ v) → first_true row ≡ v
 first_only [] v has only = absurd (false≢true has)
 first_only (true ∷ row) v has only = only 0 refl
 first_only (false ∷ row) zero has only = absurd (false≢true has)

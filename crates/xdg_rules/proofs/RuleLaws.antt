@@ -1,5 +1,6 @@
 -- The laws of the rules and of boxed prefixes, all of them.
-use Rattle.std.proofs.Common.{◌≡◌, ℕ, ◌↔◌, Bool, List, length, sym, subst}
+use Rattle.std.proofs.Common.{◌≡◌, ℕ, ◌↔◌, Bool, List, length, sym, subst, ap, ◌∙◌, arith}
+use Rattle.std.proofs.lemmas.List.{length-map}
 use Rattle.xdg_listing.specs.Fits.{Fits}
 use Rattle.xdg_problem.specs.declared.analysis.Analysis.{Analysis}
 use Rattle.xdg_problem.specs.declared.parts.Group.{Group}
@@ -11,16 +12,16 @@ use Rattle.xdg_problem.specs.Solutions.{IsSolution}
 use Rattle.xdg_problem.specs.Vectors.{shape, vector, analysis_of}
 use Rattle.xdg_problem.proofs.VectorFacts.{analysis_fits, analysis_vector, vector_fits, length_vector}
 use Rattle.xdg_problem.proofs.WholeTests.{whole_live}
-use Rattle.xdg_rules.specs.Boxes.{Has, IsBox, LiesIn, IsIn, without}
-use Rattle.xdg_rules.specs.Rules.{Takes, IsClosedFor, IsClosed}
-use Rattle.xdg_rules.specs.Boxed.{only, Boxed}
+use Rattle.xdg_rules.specs.Boxes.{Has, IsBox, LiesIn, IsSingle, IsIn, without}
+use Rattle.xdg_rules.specs.Rules.{first_true, Takes, IsClosedFor, IsClosed}
+use Rattle.xdg_rules.specs.Boxed.{only, first_numbers, Boxed}
 use Rattle.xdg_rules.specs.Laws.{IsInside, RuleLaws, BoxedLaws}
 use Rattle.xdg_rules.proofs.ClosedLive.{some_value, boxed_live, boxed_closed}
 use Rattle.xdg_rules.proofs.DecidingClosed.{one_boxed_list}
 use Rattle.xdg_rules.proofs.Greatest.{greatest_closed}
 use Rattle.xdg_rules.proofs.Monotone.{monotone}
 use Rattle.xdg_rules.proofs.Removing.{lies_without}
-use Rattle.xdg_rules.proofs.Single.{only_agrees, only_box, only_lies, agrees_lies, lies_agrees}
+use Rattle.xdg_rules.proofs.Single.{single_agrees, only_agrees, only_box, only_lies, agrees_lies, lies_agrees}
 use Rattle.xdg_rules.proofs.Solved.{closed_is_relation}
 
 module _ (parts : Parts) (problem : IsProblem parts) where
@@ -45,6 +46,11 @@ module _ (parts : Parts) (problem : IsProblem parts) where
     single : (analysis : Analysis) → IsAnalysis parts analysis → IsClosedFor parts group (only (shape parts) (vector parts analysis)) ↔ Relation parts group analysis
     single analysis is = subst (λ a. IsClosedFor parts group (only (shape parts) (vector parts analysis)) ↔ Relation parts group a) (analysis_vector parts analysis problem is) (whole_single (vector parts analysis) (vector_fits parts analysis problem is) (length_vector parts analysis problem is))
 
+    alone : (box : List (List Bool)) → IsBox (shape parts) box → IsSingle box → IsClosedFor parts group box ↔ Relation parts group (analysis_of parts (first_numbers box))
+    alone box is ones =
+        let long : length box ≡ length (shape parts) = sym (length-map box length) ∙ ap length is.sizes in
+        closed_is_relation parts group group_is box (first_numbers box) problem is (length-map box first_true ∙ long) (single_agrees box (λ d l. is.filled d (omega (arith, l, long))) ones)
+
     stays : (box : List (List Bool)) (analysis : Analysis) → IsAnalysis parts analysis → IsIn box (vector parts analysis) → Relation parts group analysis → (d v : ℕ) → Takes parts group box d v → Has (only (shape parts) (vector parts analysis)) d v → ⊥
     stays box analysis is lies relation =
         let fits = vector_fits parts analysis problem is in
@@ -58,6 +64,7 @@ module _ (parts : Parts) (problem : IsProblem parts) where
       none_left = none_left;
       covered = covered;
       single = single;
+      alone = alone;
       stays = stays;
     }
 

@@ -6,8 +6,10 @@ use Rattle.std.proofs.lemmas.List.{length-map, get_or-replicate}
 use Rattle.xdg_listing.specs.Fits.{Fits}
 use Rattle.xdg_problem.specs.Places.{numbers_from, below}
 use Rattle.xdg_problem.proofs.Ordered.{numbers_length}
-use Rattle.xdg_rules.specs.Boxes.{full, Has, IsBox, LiesIn, IsIn, Agrees}
-use Rattle.xdg_rules.specs.Boxed.{one_value, only}
+use Rattle.xdg_rules.specs.Boxes.{full, Has, IsBox, IsSingle, LiesIn, IsIn, Agrees}
+use Rattle.xdg_rules.specs.Boxed.{one_value, only, first_numbers}
+use Rattle.xdg_rules.specs.Rules.{first_true}
+use Rattle.xdg_rules.proofs.Failing.{first_only}
 use Rattle.xdg_rules.proofs.Sizes.{row_within, within_sizes}
 
 -- the flag at k is that of the number k behind the first
@@ -105,3 +107,13 @@ fits_length (size ∷ sizes) (x ∷ p) fits = (let l = fits_length sizes p fits.
 
 pub lies_agrees : (sizes p : List ℕ) (box : List (List Bool)) → Fits sizes p → IsBox sizes box → LiesIn box (only sizes p) → Agrees box p
 lies_agrees sizes p box fits is lies = lying_agrees sizes p box fits (λ d l. is.filled d (let short = fits_length sizes p fits in omega (arith, l, short))) lies
+
+-- a box of single values agrees with them
+pub single_agrees : (box : List (List Bool)) → ((d : ℕ) → d < length box → (v : ℕ) × Has box d v) → IsSingle box → Agrees box (first_numbers box)
+single_agrees [] filled single = tt
+single_agrees (row ∷ box) filled single =
+    let some = filled 0 (omega arith) in
+    let first : first_true row ≡ some.0 = first_only row some.0 some.1 (λ x flag. single 0 some.0 x some.1 flag) in (
+      λ v. (λ flag. single 0 some.0 v some.1 flag ∙ sym first, λ e. subst (λ k. slice_index_or row k false ≡ true) (sym (e ∙ first)) some.1),
+      single_agrees box (λ d l. filled (suc d) (omega (arith, l))) (λ d v x here there. single (suc d) v x here there),
+    )

@@ -4,7 +4,7 @@ use Rattle.xdg_problem.specs.declared.parts.Parts.{Parts}
 use Rattle.xdg_problem.specs.Places.{below}
 use Rattle.xdg_problem.specs.Vectors.{shape}
 use Rattle.xdg_rules.specs.Boxes.{IsBox, LiesIn, Agrees, full}
-use Rattle.xdg_rules.specs.Rules.{IsClosed}
+use Rattle.xdg_rules.specs.Rules.{first_true, IsClosed}
 
 -- of so many values one remains
 abbrev pub one_value : ℕ → ℕ → List Bool
@@ -15,6 +15,10 @@ abbrev pub only : List ℕ → List ℕ → List (List Bool)
 only sizes [] = full sizes
 only [] (x ∷ numbers) = []
 only (size ∷ sizes) (x ∷ numbers) = one_value size x ∷ only sizes numbers
+
+-- the first value that remains of each decision; in a box of single values the only one
+abbrev pub first_numbers : List (List Bool) → List ℕ
+first_numbers box = map first_true box
 
 -- a prefix is boxed where a closed box of the problem's shape agrees with it
 pub record Boxed (parts : Parts) (prefix : List ℕ) : Type 0 where

@@ -11,9 +11,9 @@ use Rattle.xdg_problem.specs.Live.{Live}
 use Rattle.xdg_problem.specs.Relations.{Relation}
 use Rattle.xdg_problem.specs.Solutions.{IsSolution}
 use Rattle.xdg_problem.specs.Vectors.{shape, vector, analysis_of}
-use Rattle.xdg_rules.specs.Boxes.{Has, IsBox, LiesIn, IsIn, without}
+use Rattle.xdg_rules.specs.Boxes.{Has, IsBox, LiesIn, IsSingle, IsIn, without}
 use Rattle.xdg_rules.specs.Rules.{Takes, IsClosedFor, IsClosed}
-use Rattle.xdg_rules.specs.Boxed.{only, Boxed, IsGreatestClosed, HasNoClosed}
+use Rattle.xdg_rules.specs.Boxed.{only, first_numbers, Boxed, IsGreatestClosed, HasNoClosed}
 
 -- a box of the shape that is closed for a principle use, lies in another box, and has a value there
 pub record IsInside (parts : Parts) (group : Group) (box : List (List Bool)) (d v : ℕ) : Type 0 where
@@ -35,6 +35,8 @@ pub record RuleLaws (parts : Parts) (group : Group) : Type 0 where
   pub covered : (box : List (List Bool)) → ((d v : ℕ) → Has box d v → IsInside parts group box d v) → IsClosedFor parts group box
   -- the box of an analysis is closed for it exactly where the analysis satisfies it
   pub single : (analysis : Analysis) → IsAnalysis parts analysis → IsClosedFor parts group (only (shape parts) (vector parts analysis)) ↔ Relation parts group analysis
+  -- a box of single values is closed for it exactly where their analysis satisfies it
+  pub alone : (box : List (List Bool)) → IsBox (shape parts) box → IsSingle box → IsClosedFor parts group box ↔ Relation parts group (analysis_of parts (first_numbers box))
   -- it takes no value of an analysis of the box that satisfies it
   pub stays : (box : List (List Bool)) (analysis : Analysis) → IsAnalysis parts analysis → IsIn box (vector parts analysis) → Relation parts group analysis → (d v : ℕ) → Takes parts group box d v → Has (only (shape parts) (vector parts analysis)) d v → ⊥
 
