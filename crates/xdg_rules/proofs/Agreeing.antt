@@ -18,7 +18,7 @@ use Rattle.xdg_problem.proofs.FilterFacts.{filter_both, filter_alike}
 use Rattle.xdg_problem.proofs.Ordered.{Ordered, contains_cases, contains_none}
 use Rattle.xdg_problem.proofs.PlaceOrder.{places_ordered}
 use Rattle.xdg_problem.proofs.Shortening.{passes_like}
-use Rattle.xdg_rules.specs.Boxes.{Has, Agrees, place_in, edge_decision, entry_decision}
+use Rattle.xdg_problem.specs.Boxes.{Has, Agrees, place_in, edge_decision, entry_decision}
 use Rattle.xdg_rules.specs.Rules.{has, IsDecided, value_in, EntryDecided, entry_value, TestDecided, TestPasses}
 use Rattle.xdg_rules.proofs.Sizes.{row_within}
 use Rattle.xdg_rules.proofs.Failing.{same_flag, value_is}

@@ -10,7 +10,7 @@ use Rattle.xdg_problem.specs.Paths.{edges_into, edges_out_of, Above}
 use Rattle.xdg_problem.specs.Places.{nodes}
 use Rattle.xdg_problem.specs.Vectors.{shape}
 use Rattle.xdg_problem.proofs.PlaceOrder.{is_place}
-use Rattle.xdg_rules.specs.Boxes.{Has, IsBox, LiesIn, entry_decision}
+use Rattle.xdg_problem.specs.Boxes.{Has, IsBox, LiesIn, entry_decision}
 use Rattle.xdg_rules.specs.Rules.{may_edges, must_edges, EachEntry, HasNoneWithin, ValencyEntry, OneMother, NoCycle, OneLabel, attr_of_node, AgrValues, AgreementValues, GovernmentValues, DaughterOrder, AboutHead, OfHead, ProjectivityReach, ClimbingReach, BarriersReach, LinkingReach, LinkingNotDaughter, HasNoRoot, HasTwoRoots}
 use Rattle.xdg_rules.proofs.Among.{above_among, linked_among, roots_less, roots_length, is_root}
 use Rattle.xdg_rules.proofs.Keeping.{filter_none}

@@ -17,7 +17,7 @@ use Rattle.xdg_problem.specs.Places.{places}
 use Rattle.xdg_problem.specs.Problems.{IsProblem}
 use Rattle.xdg_problem.specs.Vectors.{shape}
 use Rattle.xdg_problem.proofs.PlaceOrder.{is_place}
-use Rattle.xdg_rules.specs.Boxes.{Has, IsBox, LiesIn, entry_decision}
+use Rattle.xdg_problem.specs.Boxes.{Has, IsBox, LiesIn, entry_decision}
 use Rattle.xdg_rules.specs.Rules.{may_edges, must_edges, IsGreatest, IsLeast, ValencyEntry, ValencyFull, ValencyNeeded}
 use Rattle.xdg_rules.proofs.Sizes.{node_within}
 use Rattle.xdg_rules.proofs.Shrinking.{may_or_not, may_count, must_count, may_count_more, must_count_more, may_is}

@@ -10,7 +10,7 @@ use Rattle.xdg_problem.proofs.DecidingPaths.{decided_either, decided_true, decid
 use Rattle.xdg_problem.proofs.Edges.{same_edge_itself, same_edge_equal}
 use Rattle.xdg_problem.proofs.Looking.{any_of}
 use Rattle.xdg_problem.specs.Places.{same_edge}
-use Rattle.xdg_rules.specs.Boxes.{Has, IsOnly, entry_decision}
+use Rattle.xdg_problem.specs.Boxes.{Has, IsOnly, entry_decision}
 use Rattle.xdg_rules.specs.Rules.{EachEntry, IsDecided, HasNoneWithin, IsGreatest, IsLeast, ComesBefore}
 use Rattle.xdg_rules.proofs.Sizes.{row_within}
 

@@ -19,7 +19,7 @@ use Rattle.xdg_problem.proofs.EachTest.{Each, tested_each, each_tested}
 use Rattle.xdg_problem.proofs.LiveDecided.{decided_passes, decided_tests}
 use Rattle.xdg_problem.proofs.Looking.{any_of}
 use Rattle.xdg_problem.proofs.Ordered.{contains_head, contains_none, contains_cases, contains_left, contains_right, contains_map}
-use Rattle.xdg_rules.specs.Boxes.{Has, IsBox, Agrees, edge_decision, entry_decision}
+use Rattle.xdg_problem.specs.Boxes.{Has, IsBox, Agrees, edge_decision, entry_decision}
 use Rattle.xdg_rules.specs.Rules.{has, IsDecided, EntryDecided, entry_value, value_in, TestDecided, TestPasses, FailsTest, TakesBy, IsClosedFor, IsClosed}
 use Rattle.xdg_rules.specs.Boxed.{Boxed}
 use Rattle.xdg_rules.proofs.Sizes.{row_within}

@@ -17,7 +17,7 @@ use Rattle.xdg_problem.proofs.Deciding.{Decided, decided_like, decided_both, dec
 use Rattle.xdg_problem.proofs.DecidingAsks.{decided_between, decided_linked}
 use Rattle.xdg_problem.proofs.DecidingPaths.{decided_either, decided_true, decided_not, decided_any, contained, triple_decided, decided_above}
 use Rattle.xdg_problem.proofs.Looking.{any_of}
-use Rattle.xdg_rules.specs.Boxes.{Has, IsOnly, entry_decision, edge_decision}
+use Rattle.xdg_problem.specs.Boxes.{Has, IsOnly, entry_decision, edge_decision}
 use Rattle.xdg_rules.specs.Rules.{may_edges, must_edges, IsPlaceOn, SaysPresent, SaysAbsent, EachEntry, HasNoneWithin, IsGreatest, IsLeast, ValencyEntry, ValencyFull, ValencyNeeded, OneMother, RootFound, OnlyMother, NoCycle, OneLabel, attr_of_node, AgrValues, AsksAgreement, AgreementValues, Governs, GovernmentValues, ComesBefore, DaughterOrder, HeadOffends, AboutHead, OfHead, ProjectivityReach, ClimbingReach, BarriersReach, LinkingReach, LinkingNotDaughter, TakesForRoot, TakesBy}
 use Rattle.xdg_rules.proofs.DecidingBoxes.{decided_some_below, decided_has, decided_remaining, decided_some, decided_only, decided_each_entry, decided_lists, decided_edges, decided_among, decided_none_within, decided_greatest, decided_least, decided_comes}
 

@@ -16,7 +16,7 @@ use Rattle.xdg_problem.proofs.EachTest.{each_tested}
 use Rattle.xdg_problem.proofs.FilterFacts.{filter_alike}
 use Rattle.xdg_problem.proofs.Shortening.{passes_like}
 use Rattle.xdg_problem.proofs.WholeTests.{IsNode, each_node}
-use Rattle.xdg_rules.specs.Boxes.{Has, IsBox, LiesIn, edge_decision, entry_decision}
+use Rattle.xdg_problem.specs.Boxes.{Has, IsBox, LiesIn, edge_decision, entry_decision}
 use Rattle.xdg_rules.specs.Rules.{has, IsDecided, first_true, value_in, EntryDecided, entry_value, FailsTest}
 use Rattle.xdg_rules.proofs.Sizes.{edge_within, node_within, attr_place_within}
 

@@ -12,7 +12,7 @@ use Rattle.xdg_problem.proofs.Deciding.{Decided, decided_both}
 use Rattle.xdg_problem.proofs.DecidingPaths.{decided_any, contained, triple_decided}
 use Rattle.xdg_problem.proofs.Looking.{any_of}
 use Rattle.xdg_problem.proofs.Ordered.{numbers_length}
-use Rattle.xdg_rules.specs.Boxes.{Has, IsBox, LiesIn}
+use Rattle.xdg_problem.specs.Boxes.{Has, IsBox, LiesIn}
 use Rattle.xdg_rules.specs.Rules.{IsClosed}
 use Rattle.xdg_rules.specs.Boxed.{IsGreatestClosed, HasNoClosed}
 use Rattle.xdg_rules.proofs.Sizes.{within_sizes}

@@ -9,7 +9,7 @@ use Rattle.xdg_problem.specs.Places.{nodes}
 use Rattle.xdg_problem.specs.Problems.{IsProblem, IsGroup, attr_arguments}
 use Rattle.xdg_problem.specs.Vectors.{shape}
 use Rattle.xdg_problem.proofs.AttrPlaces.{attr_within, first_dim_within}
-use Rattle.xdg_rules.specs.Boxes.{Has, IsBox, LiesIn}
+use Rattle.xdg_problem.specs.Boxes.{Has, IsBox, LiesIn}
 use Rattle.xdg_rules.specs.Rules.{TakesForRoot, TakesBy, Takes, IsClosedFor, attr_of_node}
 use Rattle.xdg_rules.proofs.Sizes.{attr_place_within}
 use Rattle.xdg_rules.proofs.Antitone.{valency_entry, one_mother, no_root, two_roots, no_cycle, one_label, agr_values, agreement_values, government_values, daughter_order, about_head, of_head, projectivity_reach, climbing_reach, barriers_reach, linking_reach, linking_not_daughter}

@@ -3,7 +3,7 @@ use Rattle.std.proofs.Common.{◌≡◌, ℕ, inl, inr, Bool, true, false, List,
 use Rattle.std.specs.Prelude.{slice_index_or, slice_set}
 use Rattle.std.proofs.lemmas.Bool.{cases_eq, cases_lt}
 use Rattle.std.proofs.lemmas.List.{get_or-set_same, get_or-set_other, set_past}
-use Rattle.xdg_rules.specs.Boxes.{Has, LiesIn, without}
+use Rattle.xdg_problem.specs.Boxes.{Has, LiesIn, without}
 
 -- the row is the same but at v
 row_keeps : (row : List Bool) (v w : ℕ) → (w ≡ v → ⊥) → slice_index_or row w false ≡ true → slice_index_or (slice_set row v false) w false ≡ true

@@ -11,7 +11,7 @@ use Rattle.xdg_problem.specs.Places.{nodes, below}
 use Rattle.xdg_problem.specs.Vectors.{shape}
 use Rattle.xdg_problem.proofs.Ordered.{contains_numbers, contains_filter}
 use Rattle.xdg_problem.proofs.PlaceOrder.{is_place}
-use Rattle.xdg_rules.specs.Boxes.{IsBox, LiesIn}
+use Rattle.xdg_problem.specs.Boxes.{IsBox, LiesIn}
 use Rattle.xdg_rules.specs.Rules.{may_edges, must_edges, RootFound, HasNoRoot, OnlyMother, HasTwoRoots}
 use Rattle.xdg_rules.proofs.Among.{is_root, roots_less, roots_among, root_contained, root_free, free_root}
 use Rattle.xdg_rules.proofs.Keeping.{filter_one, counts_one, two_elements}

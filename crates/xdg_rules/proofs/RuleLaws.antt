@@ -12,7 +12,7 @@ use Rattle.xdg_problem.specs.Solutions.{IsSolution}
 use Rattle.xdg_problem.specs.Vectors.{shape, vector, analysis_of}
 use Rattle.xdg_problem.proofs.VectorFacts.{analysis_fits, analysis_vector, vector_fits, length_vector}
 use Rattle.xdg_problem.proofs.WholeTests.{whole_live}
-use Rattle.xdg_rules.specs.Boxes.{Has, IsBox, LiesIn, IsSingle, IsIn, without}
+use Rattle.xdg_problem.specs.Boxes.{Has, IsBox, LiesIn, IsSingle, IsIn, without}
 use Rattle.xdg_rules.specs.Rules.{first_true, Takes, IsClosedFor, IsClosed}
 use Rattle.xdg_rules.specs.Boxed.{only, first_numbers, Boxed}
 use Rattle.xdg_rules.specs.Laws.{IsInside, RuleLaws, BoxedLaws}

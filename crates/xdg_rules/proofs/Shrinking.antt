@@ -8,7 +8,7 @@ use Rattle.xdg_problem.specs.Places.{places}
 use Rattle.xdg_problem.specs.Vectors.{shape}
 use Rattle.xdg_problem.proofs.FilterFacts.{filter_contained}
 use Rattle.xdg_problem.proofs.Ordered.{contains_filter}
-use Rattle.xdg_rules.specs.Boxes.{Has, IsBox, LiesIn, May, Must, edge_decision}
+use Rattle.xdg_problem.specs.Boxes.{Has, IsBox, LiesIn, May, Must, edge_decision}
 use Rattle.xdg_rules.specs.Rules.{has, may_edges, must_edges, IsPlaceOn}
 use Rattle.xdg_rules.proofs.Keeping.{Less, less_among, less_count, strictly_count}
 use Rattle.xdg_rules.proofs.Sizes.{edge_some}

@@ -6,7 +6,7 @@ use Rattle.std.proofs.lemmas.List.{length-map, get_or-replicate}
 use Rattle.xdg_listing.specs.Fits.{Fits}
 use Rattle.xdg_problem.specs.Places.{numbers_from, below}
 use Rattle.xdg_problem.proofs.Ordered.{numbers_length}
-use Rattle.xdg_rules.specs.Boxes.{full, Has, IsBox, IsSingle, LiesIn, IsIn, Agrees}
+use Rattle.xdg_problem.specs.Boxes.{full, Has, IsBox, IsSingle, LiesIn, IsIn, Agrees}
 use Rattle.xdg_rules.specs.Boxed.{one_value, only, first_numbers}
 use Rattle.xdg_rules.specs.Rules.{first_true}
 use Rattle.xdg_rules.proofs.Failing.{first_only}

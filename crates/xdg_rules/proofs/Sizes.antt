@@ -11,7 +11,7 @@ use Rattle.xdg_problem.specs.Problems.{IsProblem}
 use Rattle.xdg_problem.proofs.Edges.{same_edge_itself}
 use Rattle.xdg_problem.proofs.Ordered.{contains_cases, contains_none}
 use Rattle.xdg_problem.proofs.VectorFacts.{length_shape}
-use Rattle.xdg_rules.specs.Boxes.{Has, IsBox, place_in, edge_decision, entry_decision}
+use Rattle.xdg_problem.specs.Boxes.{Has, IsBox, place_in, edge_decision, entry_decision}
 
 pub row_within : (row : List Bool) (v : ℕ) → slice_index_or row v false ≡ true → v < length row
 row_within [] v has = absurd (false≢true has)

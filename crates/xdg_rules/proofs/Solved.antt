@@ -14,7 +14,7 @@ use Rattle.xdg_problem.specs.Relations.{Relation}
 use Rattle.xdg_problem.specs.Vectors.{shape, analysis_of}
 use Rattle.xdg_problem.proofs.Tuples.{one_kept, two_kept, three_kept, chosen_kept}
 use Rattle.xdg_problem.proofs.WholeTests.{use_live, whole_stands}
-use Rattle.xdg_rules.specs.Boxes.{Has, IsBox, Agrees}
+use Rattle.xdg_problem.specs.Boxes.{Has, IsBox, Agrees}
 use Rattle.xdg_rules.specs.Rules.{FailsTest, TakesBy, IsClosedFor}
 use Rattle.xdg_rules.proofs.Agreeing.{holds_passes}
 use Rattle.xdg_rules.proofs.ClosedLive.{closed_live_for}

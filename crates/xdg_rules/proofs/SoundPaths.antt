@@ -21,7 +21,7 @@ use Rattle.xdg_problem.proofs.Looking.{any_of}
 use Rattle.xdg_problem.proofs.PlaceOrder.{is_place}
 use Rattle.xdg_problem.proofs.TreeTests.{above_within}
 use Rattle.xdg_problem.proofs.VectorFacts.{analysis_fits}
-use Rattle.xdg_rules.specs.Boxes.{Has, IsBox, Agrees}
+use Rattle.xdg_problem.specs.Boxes.{Has, IsBox, Agrees}
 use Rattle.xdg_rules.specs.Rules.{may_edges, must_edges, ProjectivityReach, ClimbingReach, BarriersReach, LinkingReach, LinkingNotDaughter}
 use Rattle.xdg_rules.proofs.Counting.{label_on}
 use Rattle.xdg_rules.proofs.SoundTree.{Kept}

@@ -17,7 +17,7 @@ use Rattle.xdg_problem.specs.Relations.{IsKept}
 use Rattle.xdg_problem.specs.Vectors.{shape, entry_places, entries_at, edges_in, analysis_of}
 use Rattle.xdg_problem.proofs.Ordered.{contains_head}
 use Rattle.xdg_problem.proofs.PlaceOrder.{is_place}
-use Rattle.xdg_rules.specs.Boxes.{Has, IsBox, Agrees}
+use Rattle.xdg_problem.specs.Boxes.{Has, IsBox, Agrees}
 use Rattle.xdg_rules.specs.Rules.{may_edges, must_edges, HasNoneWithin, ValencyEntry, ValencyFull, ValencyNeeded, OneMother, RootFound, HasNoRoot, HasTwoRoots, TakesForRoot, NoCycle, OneLabel}
 use Rattle.xdg_rules.proofs.Among.{root_contained, root_free}
 use Rattle.xdg_rules.proofs.Keeping.{counts_two}

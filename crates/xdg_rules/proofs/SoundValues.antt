@@ -17,7 +17,7 @@ use Rattle.xdg_problem.specs.Vectors.{shape, entry_places, entries_at, edges_in,
 use Rattle.xdg_problem.proofs.Looking.{any_of}
 use Rattle.xdg_problem.proofs.Ordered.{Ordered, ordered_from_pairs, each_contained}
 use Rattle.xdg_problem.proofs.PlaceOrder.{is_place}
-use Rattle.xdg_rules.specs.Boxes.{Has, IsBox, Agrees}
+use Rattle.xdg_problem.specs.Boxes.{Has, IsBox, Agrees}
 use Rattle.xdg_rules.specs.Rules.{must_edges, AgrValues, AgreementValues, GovernmentValues, ComesBefore, DaughterOrder, HeadOffends, AboutHead, OfHead, attr_of_node}
 use Rattle.xdg_rules.proofs.Whole.{must_on, present, entry_is, entry_has, attr_is, attr_has}
 use Rattle.xdg_rules.proofs.SoundTree.{Kept}

@@ -16,7 +16,7 @@ use Rattle.xdg_problem.specs.Vectors.{attr_sizes, shape, entry_places, entries_a
 use Rattle.xdg_problem.proofs.AttrPlaces.{attr_within, first_dim_within}
 use Rattle.xdg_problem.proofs.FilterFacts.{filter_both, filter_alike}
 use Rattle.xdg_problem.proofs.WholeTests.{entry_same}
-use Rattle.xdg_rules.specs.Boxes.{Has, IsBox, Agrees, edge_decision, entry_decision}
+use Rattle.xdg_problem.specs.Boxes.{Has, IsBox, Agrees, edge_decision, entry_decision}
 use Rattle.xdg_rules.specs.Rules.{has, may_edges, must_edges, SaysPresent, SaysAbsent, IsPlaceOn, attr_of_node}
 use Rattle.xdg_rules.proofs.Sizes.{edge_within, node_within, attr_place_within}
 use Rattle.xdg_rules.proofs.Agreeing.{agrees_fits, says_present, edges_present, at, present_at}

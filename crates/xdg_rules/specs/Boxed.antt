@@ -3,7 +3,7 @@ use Rattle.std.specs.Prelude.{ℕ, ◌==◌, Bool, List, [], ◌∷◌, map}
 use Rattle.xdg_problem.specs.declared.parts.Parts.{Parts}
 use Rattle.xdg_problem.specs.Places.{below}
 use Rattle.xdg_problem.specs.Vectors.{shape}
-use Rattle.xdg_rules.specs.Boxes.{IsBox, LiesIn, Agrees, full}
+use Rattle.xdg_problem.specs.Boxes.{IsBox, LiesIn, Agrees, full}
 use Rattle.xdg_rules.specs.Rules.{first_true, IsClosed}
 
 -- of so many values one remains

@@ -11,7 +11,7 @@ use Rattle.xdg_problem.specs.Live.{Live}
 use Rattle.xdg_problem.specs.Relations.{Relation}
 use Rattle.xdg_problem.specs.Solutions.{IsSolution}
 use Rattle.xdg_problem.specs.Vectors.{shape, vector, analysis_of}
-use Rattle.xdg_rules.specs.Boxes.{Has, IsBox, LiesIn, IsSingle, IsIn, without}
+use Rattle.xdg_problem.specs.Boxes.{Has, IsBox, LiesIn, IsSingle, IsIn, without}
 use Rattle.xdg_rules.specs.Rules.{Takes, IsClosedFor, IsClosed}
 use Rattle.xdg_rules.specs.Boxed.{only, first_numbers, Boxed, IsGreatestClosed, HasNoClosed}
 

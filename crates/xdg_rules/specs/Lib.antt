@@ -1,4 +1,3 @@
-pub mod Boxes
 pub mod Rules
 pub mod Boxed
 pub mod Laws

@@ -8,7 +8,7 @@ use Rattle.xdg_problem.specs.declared.parts.Principle.{Principle}
 use Rattle.xdg_problem.specs.declared.parts.Principle.TheVariants as principles
 use Rattle.xdg_problem.specs.Arguments.{first_dim, second_dim, label_count, attr_of, order_of, truth_of}
 use Rattle.xdg_problem.specs.Asking.{IsBetween, IsLinked}
-use Rattle.xdg_rules.specs.Boxes.{Has, IsOnly, entry_decision, attr_decision, edge_decision}
+use Rattle.xdg_problem.specs.Boxes.{Has, IsOnly, entry_decision, attr_decision, edge_decision}
 use Rattle.xdg_problem.specs.Features.{in_row, out_row, set_row, map_row}
 use Rattle.xdg_problem.specs.Paths.{edges_into, edges_out_of, mothers, roots, Above}
 use Rattle.xdg_problem.specs.Places.{nodes, places}
