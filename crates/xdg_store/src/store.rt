@@ -23,7 +23,8 @@ use xdg_problem::{Edge, Problem};
 use xdg_trail::{Mark, Trail};
 
 /// For each decision on a sentence the values that remain, a box. Each decision keeps at least one. Values are removed
-/// one at a time, and all removals since a [`Mark`] can be undone at once. Only [`Store::start`] takes memory.
+/// one at a time, and all removals since a [`Mark`] can be undone at once. Nodes, dimensions, labels, attributes, places
+/// among candidates and numbers of values count from 0 and are those of the problem. Only [`Store::start`] takes memory.
 #[derive(Debug, Drop)]
 pub struct Store<'a> {
     problem: &'a Problem,
@@ -59,7 +60,8 @@ impl<'a> Model for Store<'a> {
 }
 
 impl<'a> Store<'a> {
-    /// The box of all values of a problem.
+    /// The box of all values of a problem, or that no memory was to be had. All memory for later removals is taken here: 2
+    /// kilobytes for each node on each dimension, and 16 bytes for each value that can be removed.
     pub fn start(alloc: Global, problem: &'a Problem) -> Result<Store<'a>, OutOfMemory>
         ensures parts { IfOk result (λ store. store.parts ≡ problem.entry.now) }
         ensures now { IfOk result (λ store. store.now ≡ full (shape problem.entry.now)) }
@@ -92,7 +94,7 @@ impl<'a> Store<'a> {
         self.problem
     }
 
-    /// Takes a node's candidate at a place away.
+    /// Takes the candidate of a node at a place away, unless it is the node's last.
     pub fn remove_entry(&mut self, node: NodeId, place: u16) -> Change
         requires { HasCandidate self.old.parts node.0 place }
         ensures removes { Removes result self.old self.new (entry_decision node.0) place }
@@ -103,7 +105,7 @@ impl<'a> Store<'a> {
         take_of_row(&mut self.trail, entry_row(node), size, place as usize)
     }
 
-    /// Takes a value of a node's attribute away.
+    /// Takes a value of a node's attribute away, unless it is the attribute's last.
     pub fn remove_attr(&mut self, node: NodeId, dim: DimId, attr: AttrId, value: u16) -> Change
         requires { HasValue self.old.parts node.0 dim.0 attr.0 value }
         ensures removes { Removes result self.old self.new (attr_decision self.old.parts dim.0 node.0 attr.0) value }
@@ -115,7 +117,7 @@ impl<'a> Store<'a> {
         take_of_row(&mut self.trail, row, size, value as usize)
     }
 
-    /// Takes away that an edge is absent.
+    /// Takes away that an edge is absent, unless it can't be present.
     pub fn force_edge(&mut self, edge: Edge) -> Change
         requires { IsPlace self.old.parts edge }
         ensures removes { Removes result self.old self.new (edge_decision self.old.parts edge) 1 }
@@ -126,7 +128,7 @@ impl<'a> Store<'a> {
         take_of_pair(&mut self.trail, present + 128, present)
     }
 
-    /// Takes away that an edge is present.
+    /// Takes away that an edge is present, unless it must be.
     pub fn forbid_edge(&mut self, edge: Edge) -> Change
         requires { IsPlace self.old.parts edge }
         ensures removes { Removes result self.old self.new (edge_decision self.old.parts edge) 0 }
@@ -176,7 +178,7 @@ impl<'a> Store<'a> {
         !is_set(&self.trail, row + edge.daughter.0 as usize + 128)
     }
 
-    /// Whether each decision has one value.
+    /// Whether each decision has one value. It compares two numbers.
     pub fn is_single(&self) -> bool
         ensures exact { IsTrue result ↔ IsSingle self.now.now }
         ensures known { Known self.now }
@@ -208,7 +210,7 @@ impl<'a> Store<'a> {
         daughters
     }
 
-    /// The mothers that an edge with a label into a daughter may have.
+    /// The mothers that an edge with a label into a daughter may have. It asks of each node.
     pub fn mothers_may(&self, dim: DimId, daughter: NodeId, label: LabelId) -> NodeSet
         requires { HasEdges self.now.parts dim.0 daughter.0 label.0 }
         ensures exact { (node : ℕ) → IsTrue (has result node) ↔ ((node < nodes self.now.parts) × (node ≢ daughter.0) × May self.now.parts self.now.now (edge dim.0 node label.0 daughter.0)) }
@@ -232,7 +234,7 @@ impl<'a> Store<'a> {
         mothers
     }
 
-    /// The mothers from which an edge with a label into a daughter must lead.
+    /// The mothers from which an edge with a label into a daughter must lead. It asks of each node.
     pub fn mothers_must(&self, dim: DimId, daughter: NodeId, label: LabelId) -> NodeSet
         requires { HasEdges self.now.parts dim.0 daughter.0 label.0 }
         ensures exact { (node : ℕ) → IsTrue (has result node) ↔ ((node < nodes self.now.parts) × (node ≢ daughter.0) × Must self.now.parts self.now.now (edge dim.0 node label.0 daughter.0)) }
