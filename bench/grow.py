@@ -5,7 +5,8 @@ Usage: python3 bench/grow.py [PROGRAM]      (PROGRAM is ./xdg of this repository
 
 Each table goes over one family of grammars whose text doubles from row to row; a cell has the seconds of a run and its peak
 memory in MiB, and the last column how the seconds of `check` grew since the row before, per byte of the text. A figure near 1.0
-there says that the time goes in proportion to the length of the text. The last table is of `explain`, on sentences of growing length.
+there says that the time goes in proportion to the length of the text. The last two tables are of long sentences: compiled, and judged by
+`explain`.
 """
 
 import os
@@ -43,6 +44,20 @@ def many(count):
     """That many entries of one word."""
     return COUNTED + "".join(
         f"defentry {{dim id {{n: {k}}} dim lex {{word: w}}}}\n" for k in range(1, count + 1)
+    )
+
+
+def alike(count, labels=32):
+    """That many entries of one word, which say all the same of the edges: any number with each of so many labels."""
+    names = " ".join(f"l{k}" for k in range(labels))
+    takes = "{" + " ".join(f"l{k}*" for k in range(labels)) + "}"
+    return (
+        "usedim id usedim lex\ndefdim lex {defentrytype {word: string n: int}}\n"
+        f"defdim id {{\ndeftype id.label {{{names}}}\ndeflabeltype id.label\n"
+        "defentrytype {in: valency(id.label) out: valency(id.label)}\n"
+        "useprinciple principle.graph {dims {D: id}}\nuseprinciple principle.valency {dims {D: id}}\n}\n"
+        f"defclass c N {{dim lex {{word: w n: N}} & dim id {{in: {takes} out: {takes}}}}}\n"
+        + "".join(f"defentry {{c {{N: {k}}}}}\n" for k in range(count))
     )
 
 
@@ -111,6 +126,17 @@ def judged(program, folder):
         print(f"{words:>10} {len(analysis):>9}  {seconds:7.3f}s{memory:5.0f}M  {told}")
 
 
+def compiled(program, folder):
+    """A row for each number of entries: what it takes to compile a sentence of 128 words, with a budget of one prefix."""
+    print("\n128 words, each with so many entries that share one record of 32 labels; the search is cut at once")
+    print(f"{'entries':>10} {'bytes':>9}  {'parse':>14}")
+    for count in (64, 128, 256, 512, 1_024):
+        grammar = alike(count)
+        (folder / "g.xdg").write_text(grammar)
+        seconds, memory, told = run(program, ["parse", str(folder / "g.xdg"), "--budget", "1"], b"w " * 128)
+        print(f"{count:>10} {len(grammar):>9}  {seconds:7.3f}s{memory:5.0f}M  {told}")
+
+
 def run(program, words, sentence=b""):
     """The seconds and the peak memory in MiB of one run, and the last line that it prints or its status."""
     with tempfile.TemporaryFile() as out:
@@ -166,6 +192,7 @@ def main():
               [(f"2^{n}", combined(n)) for n in (10, 12, 14, 15, 16)], b"w")
         table(program, folder, "classes that use one another, so deep",
               [(str(n), nested(n)) for n in (1_000, 2_000, 4_000, 8_000, 16_000, 32_000, 65_000)], b"w")
+        compiled(program, folder)
         judged(program, folder)
 
 
