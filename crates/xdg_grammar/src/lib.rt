@@ -5,8 +5,6 @@ mod expanding;
 mod packing;
 mod reading;
 mod searchable;
-#[cfg(test)]
-mod tests;
 
 pub use expanding::{Expanded, expand_tree};
 pub use packing::pack_entries;
