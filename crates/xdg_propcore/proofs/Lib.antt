@@ -1,0 +1,11 @@
+pub mod Flags
+pub mod Losses
+pub mod Waking
+pub mod Settling
+pub mod Analyses
+pub mod DecisionKinds
+pub mod Removing
+pub mod SampleSteps
+pub mod SampleProblem
+pub mod Losing
+pub mod Naming

@@ -1,0 +1,20 @@
+//! Propagators, which take values away from a box by the rules of a principle use, and the greatest closed box inside a box.
+//!
+//! A family of principles gives one type with an `impl` of [`Propagator`]; all that is proved here holds for each of them.
+#![tactic(auto)]
+
+mod agenda;
+mod awake;
+mod fixpoint;
+mod moved;
+mod propagator;
+mod running;
+#[cfg(test)]
+mod tests;
+mod wake;
+
+pub use agenda::{Agenda, settle};
+pub use fixpoint::Fixpoint;
+pub use moved::Moved;
+pub use propagator::Propagator;
+pub use wake::Wake;
