@@ -9,3 +9,5 @@ pub mod SampleSteps
 pub mod SampleProblem
 pub mod Losing
 pub mod Naming
+pub mod Passing
+pub mod Sweeping

@@ -4,5 +4,7 @@ pub mod Uses
 pub mod Steps
 pub mod Fixed
 pub mod Flags
+pub mod Passes
+pub mod Sweeps
 pub mod Sample
 pub mod SampleLaws

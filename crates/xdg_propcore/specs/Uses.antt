@@ -1,5 +1,5 @@
 -- For which principle uses a propagator stands.
-use Rattle.std.specs.Prelude.{ℕ, ◌<◌, Bool, List, [], length, slice_index_or}
+use Rattle.std.specs.Prelude.{ℕ, ◌<◌, Bool, List, [], length, slice_index_or, All, Contains}
 use Rattle.xdg_problem.specs.declared.analysis.Analysis.{Analysis}
 use Rattle.xdg_problem.specs.declared.parts.Group.{Group}
 use Rattle.xdg_problem.specs.declared.parts.Parts.{Parts}
@@ -30,3 +30,8 @@ IsClosedBy stands parts box = (number : ℕ) → StandsFor stands parts number �
 -- the analysis satisfies each principle use for which the propagator stands
 abbrev pub Satisfies : (Parts → ℕ → Type 0) → Parts → Analysis → Type 0
 Satisfies stands parts analysis = (number : ℕ) → StandsFor stands parts number → Relation parts (use_at parts number) analysis
+
+-- each propagator stands for a principle use of the sentence, and each principle use has one that stands for it
+pub record AllStandIn {P : Type 0} (stands : P → Parts → ℕ → Type 0) (props : List P) (parts : Parts) : Type 0 where
+  pub each : All (λ p. StandsIn (stands p) parts) props
+  pub all : (number : ℕ) → number < length parts.groups → (p : P) × Contains props p × stands p parts number

@@ -7,6 +7,7 @@ mod agenda;
 mod awake;
 mod fixpoint;
 mod moved;
+mod pass;
 mod propagator;
 mod running;
 #[cfg(test)]
@@ -16,5 +17,6 @@ mod wake;
 pub use agenda::{Agenda, settle};
 pub use fixpoint::Fixpoint;
 pub use moved::Moved;
+pub use pass::Pass;
 pub use propagator::Propagator;
 pub use wake::Wake;

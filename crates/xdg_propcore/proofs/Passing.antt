@@ -1,0 +1,322 @@
+-- Steps that take values, part by part.
+use Rattle.std.proofs.Common.{◌≡◌, ◌≢◌, ◌⊎◌, ◌↔◌, ℕ, ◌<◌, ◌^◌, inl, inr, Bool, true, false, List, [], ◌∷◌, length, get_or, ap, sym, ◌∙◌, arith, subst, refl, append-nil}
+use Rattle.std.specs.Int.{bit_at, w64, trailing_zeros}
+use lib.Bits.{bit_or}
+use Rattle.std.proofs.lemmas.Bool.{cases_eq}
+use Rattle.std.proofs.lemmas.Nat.Bits.{bit_at_or, bit_at-lt, bit_at-zero, bit_at-pow_same, bit_at-pow_other, bit_at-trailing_zeros, same_from_bits}
+use Rattle.xdg_problem.specs.declared.parts.Group.{Group}
+use Rattle.xdg_problem.specs.declared.parts.Parts.{Parts}
+use Rattle.xdg_problem.specs.declared.analysis.Edge.{Edge}
+use Rattle.xdg_problem.specs.Analyses.{IsPlace}
+use Rattle.xdg_problem.specs.Boxes.{Has, IsBox, IsOnly, LiesIn, without, entry_decision, attr_decision, edge_decision}
+use Rattle.xdg_problem.specs.Problems.{IsGroup, IsProblem}
+use Rattle.xdg_problem.specs.Vectors.{shape}
+use Rattle.xdg_problem.proofs.PlaceOrder.{place_is}
+use Rattle.xdg_rules.specs.Rules.{IsClosedFor, Takes}
+use Rattle.xdg_rules.proofs.Removing.{lies_without}
+use Rattle.xdg_rules.proofs.RuleLaws.{rule_laws}
+use Rattle.xdg_store.specs.Change.{Removes, with_box}
+use Rattle.xdg_store.specs.InRange.{HasCandidate, HasValue}
+use Rattle.xdg_store.specs.States.{State, Known}
+use Rattle.xdg_store.specs.declared.change.Change.{Change}
+use Rattle.xdg_store.specs.declared.change.Change.TheVariants as changes
+use Rattle.xdg_store.proofs.Boxed.{has_decision, length_box}
+use Rattle.xdg_store.proofs.Leaving.{taken_gone, without_inside, others_stay, parts_stay, box_shrinks}
+use Rattle.xdg_propcore.specs.Kinds.{kind_of, entry_kind, attr_kind, edge_kind}
+use Rattle.xdg_propcore.specs.Losses.{IsLost, Loses, LosesKind}
+use Rattle.xdg_propcore.specs.Passes.{Progress, Goes, Clears, EachValue, HasNoneClosed, IsQuiet, Answers, noted, untouched}
+use Rattle.xdg_propcore.specs.Steps.{Extends, Keeps, KeepsBoxes, Moves}
+use Rattle.xdg_propcore.specs.Uses.{IsClosedBy, StandsFor, use_at}
+use Rattle.xdg_propcore.specs.declared.moved.Moved.{Moved}
+use Rattle.xdg_propcore.specs.declared.moved.Moved.TheVariants as moves
+use Rattle.xdg_propcore.proofs.Analyses.{keeps_boxes}
+use Rattle.xdg_propcore.proofs.DecisionKinds.{kind_of_entry, kind_of_attr, kind_of_edge}
+use Rattle.xdg_propcore.proofs.Settling.{extends_both}
+
+either : (b : Bool) → (b ≡ true) ⊎ (b ≡ true → ⊥)
+either true = inl refl
+either false = inr (λ e. cc)
+
+-- ---- nothing is done
+
+pub goes_none : (group : Group) (p : Progress) (s : State) → Goes group p s p s
+goes_none group p s = record {
+  extends = record { same = refl; more = []; grown = sym (append-nil s.history); inside = λ d v h. h };
+  turns = refl;
+  keeps = λ box is closed lies. lies;
+  before = λ kind h. h;
+  each = λ d v l. absurd (l.1 l.0);
+  only = λ kind h. inl h;
+  dead = λ h. inl h;
+  quiet = λ q. (q, refl);
+}
+
+-- ---- one part of a step after another
+
+module _ (group : Group) (p q r : Progress) (old mid new : State) (a : Goes group p old q mid) (b : Goes group q mid r new) where
+  each_both : (d v : ℕ) → IsLost old.now new.now d v → bit_at r.lost (kind_of old.parts d) ≡ 1
+  each_both d v l = elim (either (get_or (get_or mid.now d []) v false)) [
+    | inl there ↦ subst (λ parts. bit_at r.lost (kind_of parts d) ≡ 1) a.extends.same (b.each d v (there, l.1))
+    | inr gone ↦ b.before (kind_of old.parts d) (a.each d v (l.0, gone))
+  ]
+
+  only_both : (kind : ℕ) → bit_at r.lost kind ≡ 1 → (bit_at p.lost kind ≡ 1) ⊎ LosesKind old.parts old.now new.now kind
+  only_both kind h = elim (b.only kind h) [
+    | inl e ↦ elim (a.only kind e) [
+      | inl z ↦ inl z
+      | inr l ↦ inr (record { decision = l.decision; value = l.value; lost = (l.lost.0, λ n. l.lost.1 (b.extends.inside l.decision l.value n)); is = l.is })
+    ]
+    | inr l ↦ inr (record { decision = l.decision; value = l.value; lost = (a.extends.inside l.decision l.value l.lost.0, l.lost.1); is = subst (λ parts. kind_of parts l.decision ≡ kind) a.extends.same l.is })
+  ]
+
+  keeps_both : (box : List (List Bool)) → IsBox (shape old.parts) box → IsClosedFor old.parts group box → LiesIn box old.now → LiesIn box new.now
+  keeps_both box is closed lies = b.keeps box (subst (λ parts. IsBox (shape parts) box) (sym a.extends.same) is) (subst (λ parts. IsClosedFor parts group box) (sym a.extends.same) closed) (a.keeps box is closed lies)
+
+  dead_both : r.dead ≡ true → (p.dead ≡ true) ⊎ HasNoneClosed old.parts group old.now
+  dead_both h = elim (b.dead h) [
+    | inl e ↦ a.dead e
+    | inr none ↦ inr (λ box is closed lies. none box (subst (λ parts. IsBox (shape parts) box) (sym a.extends.same) is) (subst (λ parts. IsClosedFor parts group box) (sym a.extends.same) closed) (a.keeps box is closed lies))
+  ]
+
+  pub goes_both : Goes group p old r new
+  goes_both = record {
+    extends = extends_both old mid new a.extends b.extends;
+    turns = b.turns ∙ a.turns;
+    keeps = keeps_both;
+    before = λ kind h. b.before kind (a.before kind h);
+    each = each_both;
+    only = only_both;
+    dead = dead_both;
+    quiet = λ z. (let y = b.quiet z in let x = a.quiet y.0 in (x.0, y.1 ∙ x.1));
+  }
+
+-- ---- a value is taken
+
+bit_before : (a b kind : ℕ) → bit_at a kind ≡ 1 → bit_at (bit_or a b) kind ≡ 1
+bit_before a b kind h = let e = bit_at_or a b kind in let l = bit_at-lt b kind in omega (arith, e, l, h)
+
+bit_new : (a k : ℕ) → bit_at (bit_or a (2 ^ k)) k ≡ 1
+bit_new a k = let e = bit_at_or a (2 ^ k) k in let l = bit_at-lt a k in let s = bit_at-pow_same k in omega (arith, e, l, s)
+
+bit_old : (a k kind : ℕ) → kind ≢ k → bit_at (bit_or a (2 ^ k)) kind ≡ 1 → bit_at a kind ≡ 1
+bit_old a k kind n h = let e = bit_at_or a (2 ^ k) kind in let s = bit_at-pow_other k kind n in omega (arith, e, s, h)
+
+never_quiet : (p : Progress) (kind : ℕ) → bit_or p.lost (2 ^ kind) ≡ 0 → ⊥
+never_quiet p kind e = (let n = bit_new p.lost kind in let z = ap (λ m. bit_at m kind) e in let y = bit_at-zero kind in omega (arith, n, z, y))
+
+module _ (group : Group) (p : Progress) (old : State) (around : List (List Bool)) (d v kind : ℕ) (known : IsProblem old.parts) (is : IsGroup old.parts group) (kind_is : kind_of old.parts d ≡ kind) (lies : LiesIn old.now around) (takes : Takes old.parts group around d v) where
+  only_one : (e x : ℕ) → IsLost old.now (without old.now d v) e x → e ≡ d
+  only_one e x l = elim (cases_eq e d) [
+    | inl same ↦ same
+    | inr other ↦ absurd (l.1 (others_stay old.now d v e x l.0 (inl other)))
+  ]
+
+  -- no closed box inside has it
+  in_none : (box : List (List Bool)) → IsBox (shape old.parts) box → IsClosedFor old.parts group box → LiesIn box old.now → Has box d v → ⊥
+  in_none box box_is closed inside = (rule_laws old.parts known group is).monotone box around box_is (λ e x h. lies e x (inside e x h)) closed d v takes
+
+  lost_one : Has old.now d v → Goes group p old (noted changes.Changed p (2 ^ kind)) (with_box old (without old.now d v))
+  lost_one has = record {
+    extends = record { same = refl; more = without old.now d v ∷ []; grown = refl; inside = without_inside old.now d v };
+    turns = refl;
+    keeps = λ box box_is closed inside. lies_without box old.now d v inside (in_none box box_is closed inside);
+    before = λ k h. bit_before p.lost (2 ^ kind) k h;
+    each = λ e x l. subst (λ i. bit_at (bit_or p.lost (2 ^ kind)) (kind_of old.parts i) ≡ 1) (sym (only_one e x l)) (subst (λ k. bit_at (bit_or p.lost (2 ^ kind)) k ≡ 1) (sym kind_is) (bit_new p.lost kind));
+    only = λ k h. elim (cases_eq k kind) [
+      | inl same ↦ inr (record { decision = d; value = v; lost = (has, taken_gone old.now d v); is = kind_is ∙ sym same })
+      | inr other ↦ inl (bit_old p.lost kind k other h)
+    ];
+    dead = λ h. inl h;
+    quiet = λ q. absurd (never_quiet p kind q.0);
+  }
+
+  -- the last value of its decision
+  lost_last : IsOnly old.now d v → Has old.now d v → d < length (shape old.parts) → HasNoneClosed old.parts group old.now
+  lost_last alone has within box box_is closed inside =
+      let some = box_is.filled d within in
+      in_none box box_is closed inside (subst (λ x. Has box d x) (alone some.0 (inside d some.0 some.1)) some.1)
+
+dead_goes : (group : Group) (p : Progress) (s : State) → HasNoneClosed s.parts group s.now → Goes group p s (noted changes.Emptied p 0) s
+dead_goes group p s none = record {
+  extends = record { same = refl; more = []; grown = sym (append-nil s.history); inside = λ d v h. h };
+  turns = refl;
+  keeps = λ box is closed lies. lies;
+  before = λ kind h. h;
+  each = λ d v l. absurd (l.1 l.0);
+  only = λ kind h. inl h;
+  dead = λ h. inr none;
+  quiet = λ q. (let e = q.1 in cc);
+}
+
+-- a value that is taken, from the box or from one around it
+pub goes_taken : (change : Change) (group : Group) (p : Progress) (old new : State) (around : List (List Bool)) (d v kind : ℕ) → Known new → IsGroup old.parts group → kind_of old.parts d ≡ kind → Removes change old new d v → LiesIn old.now around → Takes old.parts group around d v → Goes group p old (noted change p (2 ^ kind)) new
+goes_taken changes.Same group p old new around d v kind known is kind_is r lies takes = subst (λ s. Goes group p old p s) (sym r.1) (goes_none group p old)
+goes_taken changes.Changed group p old new around d v kind known is kind_is r lies takes =
+    let same : new.parts ≡ old.parts = ap (λ (s : State). s.parts) r.2 in
+    let problem : IsProblem old.parts = subst IsProblem same known.problem in
+    subst (λ s. Goes group p old (noted changes.Changed p (2 ^ kind)) s) (sym r.2) (lost_one group p old around d v kind problem is kind_is lies takes r.0)
+goes_taken changes.Emptied group p old new around d v kind known is kind_is r lies takes =
+    let mine : Known old = subst Known r.2 known in
+    let long = length_box (shape old.parts) old.now mine.is_box in
+    let within = has_decision old.now d v r.0 in
+    subst (λ s. Goes group p old (noted changes.Emptied p 0) s) (sym r.2) (dead_goes group p old (lost_last group p old around d v kind mine.problem is kind_is lies takes r.1 r.0 (omega (arith, long, within))))
+
+-- it remains no more, unless it was the last
+pub taken_out : (change : Change) (p : Progress) (old new : State) (d v kinds : ℕ) → Removes change old new d v → Has new.now d v → (noted change p kinds).dead ≡ true
+taken_out changes.Same p old new d v kinds r h = absurd (r.0 (subst (λ s. Has s.now d v) r.1 h))
+taken_out changes.Changed p old new d v kinds r h = absurd (taken_gone old.now d v (subst (λ s. Has s.now d v) r.2 h))
+taken_out changes.Emptied p old new d v kinds r h = refl
+
+quiet_taken : (change : Change) (p : Progress) (old new : State) (d v kind : ℕ) → Removes change old new d v → IsQuiet (noted change p (2 ^ kind)) → IsQuiet p × (new.now ≡ old.now)
+quiet_taken changes.Same p old new d v kind r q = (q, ap (λ (s : State). s.now) r.1)
+quiet_taken changes.Changed p old new d v kind r q = absurd (never_quiet p kind q.0)
+quiet_taken changes.Emptied p old new d v kind r q = (let e = q.1 in cc)
+
+gone_taken : (change : Change) (p : Progress) (old new : State) (d v kinds : ℕ) → Removes change old new d v → IsQuiet (noted change p kinds) → Has new.now d v → ⊥
+gone_taken change p old new d v kinds r q h = (let e = q.1 in let t = taken_out change p old new d v kinds r h in cc)
+
+one_value : (d v e x : ℕ) (box : List (List Bool)) → e ≡ d → x ≡ v → Has box e x → Has box d v
+one_value d v e x box same value h = subst (λ i. Has box i v) same (subst (λ y. Has box e y) value h)
+
+-- one value is cleared
+pub clears_taken : (change : Change) (p q : Progress) (old new : State) (d v kind kinds : ℕ) → Known new → kind_of old.parts d ≡ kind → Removes change old new d v → kinds ≡ 2 ^ kind → q ≡ noted change p kinds → Clears (λ e x. (e ≡ d) × (x ≡ v)) p old q new
+clears_taken change p q old new d v kind kinds known kind_is r kinds_is q_is =
+    let progress : q ≡ noted change p (2 ^ kind) = q_is ∙ ap (noted change p) kinds_is in
+    record {
+      same = parts_stay change old new d v r;
+      inside = box_shrinks change old new d v r;
+      quiet = λ z. quiet_taken change p old new d v kind r (subst IsQuiet progress z);
+      gone = λ z e x aim h. gone_taken change p old new d v (2 ^ kind) r (subst IsQuiet progress z) (one_value d v e x new.now aim.0 aim.1 h);
+      goes = λ group around is lies takes. subst (λ z. Goes group p old z new) (sym progress) (goes_taken change group p old new around d v kind known is kind_is r lies (takes d v (refl, refl)));
+    }
+
+-- nothing is aimed at
+pub clears_none : (Aim : ℕ → ℕ → Type 0) (p : Progress) (s : State) → ((d v : ℕ) → Aim d v → ⊥) → Clears Aim p s p s
+clears_none Aim p s none = record {
+  same = refl;
+  inside = λ d v h. h;
+  quiet = λ q. (q, refl);
+  gone = λ q d v aim h. none d v aim;
+  goes = λ group around is lies takes. goes_none group p s;
+}
+
+-- the same values, told in another way
+pub clears_like : (A B : ℕ → ℕ → Type 0) (p q : Progress) (old new : State) → ((d v : ℕ) → A d v → B d v) → ((d v : ℕ) → B d v → A d v) → Clears A p old q new → Clears B p old q new
+clears_like A B p q old new to from c = record {
+  same = c.same;
+  inside = c.inside;
+  quiet = c.quiet;
+  gone = λ z d v aim. c.gone z d v (from d v aim);
+  goes = λ group around is lies takes. c.goes group around is lies (λ d v aim. takes d v (to d v aim));
+}
+
+-- some values, and then others
+pub clears_both : (A B C : ℕ → ℕ → Type 0) (p q r : Progress) (old mid new : State) → ((d v : ℕ) → A d v → C d v) → ((d v : ℕ) → B d v → C d v) → ((d v : ℕ) → C d v → A d v ⊎ B d v) → Clears A p old q mid → Clears B q mid r new → Clears C p old r new
+clears_both A B C p q r old mid new first second each a b = record {
+  same = b.same ∙ a.same;
+  inside = λ d v h. a.inside d v (b.inside d v h);
+  quiet = λ z. (let y = b.quiet z in let x = a.quiet y.0 in (x.0, y.1 ∙ x.1));
+  gone = λ z d v aim h. elim (each d v aim) [
+    | inl x ↦ (let y = b.quiet z in a.gone y.0 d v x (subst (λ box. Has box d v) y.1 h))
+    | inr x ↦ b.gone z d v x h
+  ];
+  goes = λ group around is lies takes. goes_both group p q r old mid new
+      (a.goes group around is lies (λ d v x. takes d v (first d v x)))
+      (b.goes group around (subst (λ parts. IsGroup parts group) (sym a.same) is) (λ d v h. lies d v (a.inside d v h)) (λ d v x. subst (λ parts. Takes parts group around d v) (sym a.same) (takes d v (second d v x))));
+}
+
+-- a value of an edge place
+pub edge_clears : (change : Change) (p q : Progress) (old new : State) (e : Edge) (v kinds : ℕ) → Known new → IsPlace old.parts e → Removes change old new (edge_decision old.parts e) v → kinds ≡ 2 ^ edge_kind e.dim.0 → q ≡ noted change p kinds → Clears (λ d x. (d ≡ edge_decision old.parts e) × (x ≡ v)) p old q new
+edge_clears change p q old new e v kinds known is r kinds_is q_is = clears_taken change p q old new (edge_decision old.parts e) v (edge_kind e.dim.0) kinds known (kind_of_edge old.parts e (place_is old.parts e is)) r kinds_is q_is
+
+-- a candidate of a node
+pub entry_clears : (change : Change) (p q : Progress) (old new : State) (node v kinds : ℕ) → Known new → HasCandidate old.parts node v → Removes change old new (entry_decision node) v → kinds ≡ 2 ^ entry_kind → q ≡ noted change p kinds → Clears (λ d x. (d ≡ entry_decision node) × (x ≡ v)) p old q new
+entry_clears change p q old new node v kinds known is r kinds_is q_is =
+    let same = parts_stay change old new (entry_decision node) v r in
+    let problem : IsProblem old.parts = subst IsProblem same known.problem in
+    let each = problem.candidates_each in
+    let within = is.node_in in
+    clears_taken change p q old new (entry_decision node) v entry_kind kinds known (kind_of_entry old.parts node (omega (arith, each, within))) r kinds_is q_is
+
+-- a value of a node's attribute
+pub attr_clears : (change : Change) (p q : Progress) (old new : State) (node dim attr v kinds : ℕ) → Known new → HasValue old.parts node dim attr v → Removes change old new (attr_decision old.parts dim node attr) v → kinds ≡ 2 ^ attr_kind dim → q ≡ noted change p kinds → Clears (λ d x. (d ≡ attr_decision old.parts dim node attr) × (x ≡ v)) p old q new
+attr_clears change p q old new node dim attr v kinds known is r kinds_is q_is = clears_taken change p q old new (attr_decision old.parts dim node attr) v (attr_kind dim) kinds known (kind_of_attr old.parts dim node attr is.dim_in is.node_in is.attr_in) r kinds_is q_is
+
+-- what is cleared from a box is taken from it
+pub goes_cleared : (group : Group) (p q : Progress) (old new : State) (d v : ℕ) → Clears (λ e x. (e ≡ d) × (x ≡ v)) p old q new → IsGroup old.parts group → Takes old.parts group old.now d v → Goes group p old q new
+goes_cleared group p q old new d v c is takes = c.goes group old.now is (λ e x h. h) (λ e x aim. subst (λ i. Takes old.parts group old.now i x) (sym aim.0) (subst (λ y. Takes old.parts group old.now d y) (sym aim.1) takes))
+
+-- each value is taken
+pub goes_failed : (group : Group) (p : Progress) (s : State) → Known s → IsGroup s.parts group → ((d v : ℕ) → Has s.now d v → Takes s.parts group s.now d v) → Goes group p s (noted changes.Emptied p 0) s
+goes_failed group p s known is all = dead_goes group p s (λ box box_is closed lies. (rule_laws s.parts known.problem group is).none_left box s.now box_is lies closed all)
+
+pub clears_failed : (p q : Progress) (s : State) → Known s → q ≡ noted changes.Emptied p 0 → Clears EachValue p s q s
+clears_failed p q s known q_is = record {
+  same = refl;
+  inside = λ d v h. h;
+  quiet = λ z. absurd (let e : true ≡ false = ap (λ (y : Progress). y.dead) (sym q_is) ∙ z.1 in cc);
+  gone = λ z d v aim h. (let e : true ≡ false = ap (λ (y : Progress). y.dead) (sym q_is) ∙ z.1 in cc);
+  goes = λ group around is lies takes. subst (λ z. Goes group p s z s) (sym q_is) (dead_goes group p s (λ box box_is closed inside. (rule_laws s.parts known.problem group is).none_left box around box_is (λ d v h. lies d v (inside d v h)) closed (λ d v h. takes d v tt)));
+}
+
+-- ---- a whole step
+
+-- a store with its turns counted
+abbrev pub turned : State → ℕ → State
+turned s turns = record { parts = s.parts; now = s.now; history = s.history; turns = turns }
+
+some_bit : (n : ℕ) → n ≢ 0 → n < 2 ^ 64 → (kind : ℕ) × (bit_at n kind ≡ 1)
+some_bit n some small = (trailing_zeros w64 n, (bit_at-trailing_zeros w64 n (omega (arith, some)) small).1)
+
+no_bits : (n : ℕ) → ((kind : ℕ) → bit_at n kind ≡ 1 → ⊥) → n ≡ 0
+no_bits n none = same_from_bits n 0 (λ k. (let z = bit_at-zero k in let l = bit_at-lt n k in elim (cases_eq (bit_at n k) 1) [ inl e ↦ absurd (none k e) | inr o ↦ (omega (arith, z, l, o)) ]))
+
+module _ (stands : Parts → ℕ → Type 0) (number turns : ℕ) (group : Group) (old new : State) (p : Progress) (one : (k : ℕ) → stands old.parts k → k ≡ number) (use_is : use_at old.parts number ≡ group) (known_old : Known (turned old turns)) (known : Known new) (goes : Goes group untouched (turned old turns) p new) where
+  pub step_extends : Extends old new
+  step_extends = record { same = goes.extends.same; more = goes.extends.more; grown = goes.extends.grown; inside = goes.extends.inside }
+
+  my_closed : (k : ℕ) → StandsFor stands old.parts k → (box : List (List Bool)) → IsClosedFor old.parts (use_at old.parts k) box → IsClosedFor old.parts group box
+  my_closed k mine box closed = subst (λ g. IsClosedFor old.parts g box) use_is (subst (λ i. IsClosedFor old.parts (use_at old.parts i) box) (one k mine.1) closed)
+
+  not_dead : p.dead ≡ true → HasNoneClosed old.parts group old.now
+  not_dead h = elim (goes.dead h) [ inl e ↦ absurd (let z : false ≡ true = e in cc) | inr none ↦ none ]
+
+  boxes_kept : (moved : Moved) → Answers moved p → KeepsBoxes stands old.parts moved old.now new.now
+  boxes_kept moves.Same a k mine box is closed lies = (λ e. cc, goes.keeps box is (my_closed k mine box closed) lies)
+  boxes_kept (moves.Changed wakes) a k mine box is closed lies = (λ e. cc, goes.keeps box is (my_closed k mine box closed) lies)
+  boxes_kept moves.Dead a k mine box is closed lies = absurd (not_dead a box is (my_closed k mine box closed) lies)
+
+  pub step_keeps : (moved : Moved) → Answers moved p → Keeps stands moved old new
+  step_keeps moved a = keeps_boxes stands moved old new known goes.extends.same (boxes_kept moved a)
+
+  kind_lost : (kind : ℕ) → bit_at p.lost kind ≡ 1 → LosesKind old.parts old.now new.now kind
+  kind_lost kind h = elim (goes.only kind h) [ inl e ↦ absurd (let z : bit_at 0 kind ≡ 1 = e in let y = bit_at-zero kind in omega (arith, z, y)) | inr l ↦ l ]
+
+  kinds_lost : (wakes : ℕ) → wakes ≡ p.lost → p.lost ≢ 0 → p.lost < 2 ^ 64 → Loses old.parts wakes old.now new.now
+  kinds_lost wakes e some small = record {
+    some = (let k = some_bit p.lost some small in (k.0, kind_lost k.0 k.1));
+    each = λ d v l. subst (λ n. bit_at n (kind_of old.parts d) ≡ 1) (sym e) (goes.each d v l);
+    only = λ kind h. kind_lost kind (subst (λ n. bit_at n kind ≡ 1) e h);
+  }
+
+  pub step_moves : (moved : Moved) → Answers moved p → Moves moved old new
+  step_moves moves.Same a = (goes.quiet a).1
+  step_moves (moves.Changed wakes) a = kinds_lost wakes.0 a.0 a.1 a.2
+  step_moves moves.Dead a = tt
+
+  -- where the box is closed at the start nothing is taken
+  none_taken : IsClosedFor old.parts group old.now → (moved : Moved) → Answers moved p → moved ≡ moves.Same
+  none_taken closed moves.Same a = refl
+  none_taken closed (moves.Changed wakes) a = absurd (a.1 (no_bits p.lost (λ kind h. (let l = kind_lost kind h in l.lost.1 (goes.keeps old.now known_old.is_box closed (λ d v k. k) l.decision l.value l.lost.0)))))
+  none_taken closed moves.Dead a = absurd (not_dead a old.now known_old.is_box closed (λ d v k. k))
+
+  closed_then : (IsQuiet p → IsClosedFor old.parts group new.now) → (moved : Moved) → Answers moved p → moved ≡ moves.Same → IsClosedFor old.parts group old.now
+  closed_then closes moves.Same a e = subst (λ box. IsClosedFor old.parts group box) (goes.quiet a).1 (closes a)
+  closed_then closes (moves.Changed wakes) a e = cc
+  closed_then closes moves.Dead a e = cc
+
+  pub step_same : StandsFor stands old.parts number → (IsQuiet p → IsClosedFor old.parts group new.now) → (moved : Moved) → Answers moved p → (moved ≡ moves.Same) ↔ IsClosedBy stands old.parts old.now
+  step_same mine closes moved a = (
+    λ e k here. subst (λ i. IsClosedFor old.parts (use_at old.parts i) old.now) (sym (one k here.1)) (subst (λ g. IsClosedFor old.parts g old.now) (sym use_is) (closed_then closes moved a e)),
+    λ closed. none_taken (my_closed number mine old.now (closed number mine)) moved a,
+  )
