@@ -1,0 +1,4 @@
+pub mod Places
+pub mod Failing
+pub mod Standing
+pub mod Named

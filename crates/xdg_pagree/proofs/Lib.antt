@@ -1,0 +1,8 @@
+pub mod ReadLists
+pub mod Remaining
+pub mod Principles
+pub mod Sweeping
+pub mod AtPlaces
+pub mod AtNodes
+pub mod Waking
+pub mod Stepping

@@ -1,0 +1,34 @@
+use Rattle.std.proofs.Common.{◌+◌}
+use Rattle.std.specs.Prelude.{min}
+use Rattle.xdg_pagree.proofs.Stepping.{number_within, group_known, family_known, extends, keeps, moved_so, same_so, turns_so}
+use Rattle.xdg_pagree.proofs.agree_prop.AgreePropPropagator.step.Goals as goal
+
+pub bounds-as_slice-self : goal.bounds-as_slice-self
+bounds-as_slice-self c = number_within c.args.self.now.number c.args.self.now.wakes.0 (min (c.args.store.now.turns + 1) 18446744073709551615) c.args.store.now c.turn.new.self c.requires.stands c.turn.ensures.turns c.turn.ensures.known c.as_slice.result.now c.parts.result.now c.problem-problem.result.now c.as_slice.ensures c.parts.ensures.same c.problem-problem.ensures.parts
+
+pub sweep_nodes-requires-clause-known : goal.sweep_nodes-requires-clause-known
+sweep_nodes-requires-clause-known c = c.turn.ensures.known
+
+pub sweep_nodes-requires-clause-group : goal.sweep_nodes-requires-clause-group
+sweep_nodes-requires-clause-group c = group_known c.args.self.now.number c.args.self.now.wakes.0 (min (c.args.store.now.turns + 1) 18446744073709551615) c.args.store.now c.turn.new.self c.requires.stands c.turn.ensures.turns c.turn.ensures.known c.as_slice.result.now c.parts.result.now c.problem-problem.result.now c.as_slice.ensures c.parts.ensures.same c.problem-problem.ensures.parts c.index-as_slice-self.result c.index-as_slice-self.is
+
+pub sweep_nodes-requires-clause-principle : goal.sweep_nodes-requires-clause-principle
+sweep_nodes-requires-clause-principle c = family_known c.args.self.now.number c.args.self.now.wakes.0 (min (c.args.store.now.turns + 1) 18446744073709551615) c.args.store.now c.turn.new.self c.requires.stands c.turn.ensures.turns c.turn.ensures.known c.as_slice.result.now c.parts.result.now c.problem-problem.result.now c.as_slice.ensures c.parts.ensures.same c.problem-problem.ensures.parts c.index-as_slice-self.result c.index-as_slice-self.is
+
+pub returns-clause-extends : goal.returns-clause-extends
+returns-clause-extends c = extends c.args.self.now.number c.args.self.now.wakes.0 (min (c.args.store.now.turns + 1) 18446744073709551615) c.args.store.now c.turn.new.self c.requires.stands c.turn.ensures.turns c.turn.ensures.known c.as_slice.result.now c.parts.result.now c.problem-problem.result.now c.as_slice.ensures c.parts.ensures.same c.problem-problem.ensures.parts c.index-as_slice-self.result c.index-as_slice-self.is c.start-pass.result c.sweep_nodes.new.pass c.sweep_nodes.new.store c.start-pass.ensures c.sweep_nodes.ensures
+
+pub returns-clause-keeps : goal.returns-clause-keeps
+returns-clause-keeps c = keeps c.args.self.now.number c.args.self.now.wakes.0 (min (c.args.store.now.turns + 1) 18446744073709551615) c.args.store.now c.turn.new.self c.requires.stands c.turn.ensures.turns c.turn.ensures.known c.as_slice.result.now c.parts.result.now c.problem-problem.result.now c.as_slice.ensures c.parts.ensures.same c.problem-problem.ensures.parts c.index-as_slice-self.result c.index-as_slice-self.is c.start-pass.result c.sweep_nodes.new.pass c.sweep_nodes.new.store c.start-pass.ensures c.sweep_nodes.ensures c.moved.result c.moved.ensures
+
+pub returns-clause-same : goal.returns-clause-same
+returns-clause-same c = same_so c.args.self.now.number c.args.self.now.wakes.0 (min (c.args.store.now.turns + 1) 18446744073709551615) c.args.store.now c.turn.new.self c.requires.stands c.turn.ensures.turns c.turn.ensures.known c.as_slice.result.now c.parts.result.now c.problem-problem.result.now c.as_slice.ensures c.parts.ensures.same c.problem-problem.ensures.parts c.index-as_slice-self.result c.index-as_slice-self.is c.start-pass.result c.sweep_nodes.new.pass c.sweep_nodes.new.store c.start-pass.ensures c.sweep_nodes.ensures c.moved.result c.moved.ensures
+
+pub returns-clause-moves : goal.returns-clause-moves
+returns-clause-moves c = moved_so c.args.self.now.number c.args.self.now.wakes.0 (min (c.args.store.now.turns + 1) 18446744073709551615) c.args.store.now c.turn.new.self c.requires.stands c.turn.ensures.turns c.turn.ensures.known c.as_slice.result.now c.parts.result.now c.problem-problem.result.now c.as_slice.ensures c.parts.ensures.same c.problem-problem.ensures.parts c.index-as_slice-self.result c.index-as_slice-self.is c.start-pass.result c.sweep_nodes.new.pass c.sweep_nodes.new.store c.start-pass.ensures c.sweep_nodes.ensures c.moved.result c.moved.ensures
+
+pub returns-clause-turns : goal.returns-clause-turns
+returns-clause-turns c = turns_so c.args.self.now.number c.args.self.now.wakes.0 (min (c.args.store.now.turns + 1) 18446744073709551615) c.args.store.now c.turn.new.self c.requires.stands c.turn.ensures.turns c.turn.ensures.known c.as_slice.result.now c.parts.result.now c.problem-problem.result.now c.as_slice.ensures c.parts.ensures.same c.problem-problem.ensures.parts c.index-as_slice-self.result c.index-as_slice-self.is c.start-pass.result c.sweep_nodes.new.pass c.sweep_nodes.new.store c.start-pass.ensures c.sweep_nodes.ensures
+
+pub returns-clause-known : goal.returns-clause-known
+returns-clause-known c = c.sweep_nodes.ensures.known

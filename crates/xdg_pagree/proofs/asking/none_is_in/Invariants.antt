@@ -1,0 +1,7 @@
+use Rattle.std.proofs.Common.{ℕ, ◌<◌, Contains}
+use Rattle.xdg_problem.specs.Boxes.{Has}
+use Rattle.xdg_pagree.specs.Slots.{decision_of}
+use Rattle.xdg_pagree.proofs.asking.none_is_in.Given as goal
+
+abbrev pub invariant-loop-value : goal.invariant-loop-value
+invariant-loop-value l = (x : ℕ) → x < l.value → Has l.store.now (decision_of l.store.parts l.slot) x → Contains l.set x → ⊥

@@ -1,0 +1,6 @@
+pub mod Slots
+pub mod Family
+pub mod Places
+pub mod Standing
+pub mod Closing
+pub mod Staying

@@ -1,0 +1,13 @@
+//! What agr, agreement and government take from a box: values of attributes that no entry allows or that the other end of an
+//! edge lacks, entries that allow no value that remains, and edges whose ends can't agree.
+#![tactic(auto)]
+
+mod agree_prop;
+mod asking;
+mod nodes;
+mod places;
+mod reads;
+mod slot;
+mod taking;
+
+pub use agree_prop::AgreeProp;

@@ -1,0 +1,55 @@
+-- Where nothing is left to take at each place, the box is closed for the principle use.
+use Rattle.std.proofs.Common.{ℕ, inl, inr, Bool, List, refl, ap, arith, subst}
+use Rattle.xdg_problem.specs.declared.analysis.Edge.{Edge}
+use Rattle.xdg_problem.specs.declared.parts.Group.{Group}
+use Rattle.xdg_problem.specs.declared.parts.Parts.{Parts}
+use Rattle.xdg_problem.specs.declared.parts.Principle.{Principle}
+use Rattle.xdg_problem.specs.declared.parts.Principle.TheVariants as principles
+use Rattle.xdg_problem.specs.Arguments.{first_dim}
+use Rattle.xdg_problem.specs.Boxes.{Has, IsBox}
+use Rattle.xdg_problem.specs.Places.{nodes}
+use Rattle.xdg_problem.specs.Vectors.{shape}
+use Rattle.xdg_problem.proofs.PlaceOrder.{is_place}
+use Rattle.xdg_rules.specs.Rules.{IsClosedFor, IsPlaceOn, TakesBy}
+use Rattle.xdg_linking.specs.Family.{IsLinking}
+use Rattle.xdg_plink.specs.Steps.{AreMothersDone, IsExact, TakesAt}
+use Rattle.xdg_plink.specs.Ways.{edge_labels}
+use Rattle.xdg_linking.proofs.Places.{edge_at}
+use Rattle.xdg_plink.proofs.Edges.{label_below}
+use Rattle.xdg_linking.proofs.Failing.{none_fails}
+
+-- each rule takes at a place
+at_place : (p : Principle) → IsLinking p → (parts : Parts) (group : Group) (box : List (List Bool)) (d v : ℕ) → TakesBy p parts group box d v → (place : Edge) × IsPlaceOn parts (first_dim group) place × TakesAt p parts group box place d v
+at_place principles.LinkingEnd f parts group box d v t = (t.place, t.is, (t, refl))
+at_place principles.LinkingDaughter f parts group box d v t = (t.place, t.is, (t, refl))
+at_place principles.LinkingMother f parts group box d v t = (t.place, t.is, (t, refl))
+at_place principles.LinkingBelowStart f parts group box d v t = (t.place, t.is, (t, refl))
+at_place principles.LinkingAboveStart f parts group box d v t = (t.place, t.is, (t, refl))
+at_place principles.LinkingSisters f parts group box d v t = (t.place, t.is, (t, refl))
+at_place principles.LinkingNotDaughter f parts group box d v t = (t.place, t.is, (t, refl))
+at_place principles.Graph f parts group box d v t = absurd f
+at_place principles.Entries f parts group box d v t = absurd f
+at_place principles.Tree f parts group box d v t = absurd f
+at_place principles.Dag f parts group box d v t = absurd f
+at_place principles.Valency f parts group box d v t = absurd f
+at_place principles.Order f parts group box d v t = absurd f
+at_place principles.Projectivity f parts group box d v t = absurd f
+at_place principles.Agr f parts group box d v t = absurd f
+at_place principles.Agreement f parts group box d v t = absurd f
+at_place principles.Government f parts group box d v t = absurd f
+at_place principles.Climbing f parts group box d v t = absurd f
+at_place principles.Barriers f parts group box d v t = absurd f
+
+pub all_done : (parts : Parts) (group : Group) (table : List (List ℕ)) (box : List (List Bool)) → IsBox (shape parts) box → IsLinking group.principle → IsExact parts group table box → AreMothersDone parts group table (nodes parts) box → IsClosedFor parts group box
+all_done parts group table box is linking exact done d v has takes = elim takes [
+  | inl failing ↦ none_fails parts group box is linking none failing
+  | inr rule ↦ none d v has rule
+] where
+  none : (d x : ℕ) → Has box d x → TakesBy group.principle parts group box d x → ⊥
+  none d x h rule =
+      let (e, on, takes) = at_place group.principle linking parts group box d x rule in
+      let place = is_place parts e on.0 in
+      let below = label_below parts e place in
+      let same = ap (edge_labels parts) on.1 in
+      let at = edge_at e (first_dim group) e.mother.0 e.label.0 e.daughter.0 on.1 refl refl refl in
+      done e.mother.0 place.mother e.label.0 (omega (arith, below, same)) exact e.daughter.0 place.daughter d x h (subst (λ f. TakesAt group.principle parts group box f d x) at takes)

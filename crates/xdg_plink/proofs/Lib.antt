@@ -1,0 +1,10 @@
+pub mod ReadLists
+pub mod Remaining
+pub mod Edges
+pub mod Tables
+pub mod Leading
+pub mod Linking
+pub mod Sweeping
+pub mod Apart
+pub mod Closing
+pub mod Stepping

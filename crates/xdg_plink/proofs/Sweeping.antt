@@ -1,0 +1,248 @@
+-- Parts of a step, one after another.
+use Rattle.std.proofs.Common.{◌≡◌, ◌≢◌, ℕ, ◌<◌, ◌≤◌, ◌+◌, ◌↔◌, inl, inr, Bool, true, false, IsTrue, List, refl, sym, ◌∙◌, arith, subst}
+use Rattle.std.specs.Prelude.{Contains}
+use Rattle.std.proofs.lemmas.Bool.{cases_lt, false≢true}
+use Rattle.xdg_problem.specs.declared.analysis.Edge.{Edge}
+use Rattle.xdg_problem.specs.declared.parts.Group.{Group}
+use Rattle.xdg_problem.specs.declared.parts.Parts.{Parts}
+use Rattle.xdg_problem.specs.declared.parts.Principle.{Principle}
+use Rattle.xdg_problem.specs.declared.parts.Principle.TheVariants as principles
+use Rattle.xdg_problem.specs.Analyses.{IsPlace}
+use Rattle.xdg_problem.specs.Arguments.{first_dim, second_dim}
+use Rattle.xdg_problem.specs.Boxes.{Has, IsBox, LiesIn, edge_decision}
+use Rattle.xdg_problem.specs.Features.{map_row}
+use Rattle.xdg_problem.specs.Places.{edge, nodes, places}
+use Rattle.xdg_problem.specs.Problems.{IsGroup}
+use Rattle.xdg_problem.specs.Vectors.{shape}
+use Rattle.xdg_problem.proofs.Looking.{any_of}
+use Rattle.xdg_problem.proofs.PlaceOrder.{is_place, place_is}
+use Rattle.xdg_rules.specs.Rules.{LinkingReach, Takes, TakesBy, may_edges}
+use Rattle.xdg_rules.proofs.Among.{above_among}
+use Rattle.xdg_rules.proofs.Shrinking.{may_among}
+use Rattle.xdg_store.specs.States.{State, Known}
+use Rattle.xdg_propcore.specs.Passes.{Progress, Goes}
+use Rattle.xdg_propcore.proofs.Sweeping.{sweeps_next, sweeps_skip, sweeps_start}
+use Rattle.xdg_linking.specs.Family.{IsLinking, Reaches}
+use Rattle.xdg_propcore.specs.Sweeps.{Sweeps}
+use Rattle.xdg_plink.specs.Steps.{AreLabelsDone, AreMothersDone, AreNodesDone, DoneAt, IsAtPlace, IsCut, IsDoneAt, IsExact, IsOnPlace, IsReady, TakesAt}
+use Rattle.xdg_plink.specs.Ways.{Covers, edge_labels, way_of}
+use Rattle.xdg_plink.specs.declared.way.Way.{Way}
+use Rattle.xdg_plink.specs.declared.way.Way.TheVariants as ways
+use Rattle.xdg_plink.proofs.Edges.{place_between}
+use Rattle.xdg_plink.proofs.Linking.{linked_led, led_linked}
+
+-- ---- what the table covers
+
+covers_less : (way : Way) (parts : Parts) (small large : List (List Bool)) (dim : ℕ) (table : List (List ℕ)) → IsBox (shape parts) small → LiesIn small large → Covers way (may_edges parts large dim) table → Covers way (may_edges parts small dim) table
+covers_less ways.First parts small large dim table is lies covers = λ from to above. covers from to (above_among (may_edges parts small dim) (may_edges parts large dim) (may_among parts small large is lies dim) to from above)
+covers_less ways.Sister parts small large dim table is lies covers = λ from to (k, e, l, at, (m, d)). covers from to (any_of (λ f. (f.mother.0 ≡ to) × (f.daughter.0 ≡ from)) (may_edges parts large dim) e (may_among parts small large is lies dim e (k, l, at)) (m, d))
+covers_less ways.Into parts small large dim table is lies covers = tt
+covers_less ways.Straight parts small large dim table is lies covers = tt
+
+-- it stays so
+pub ready_later : (group : Group) (table : List (List ℕ)) (Done : List (List Bool) → Type 0) (p : Progress) (old : State) (q : Progress) (new : State) → IsReady group table old → Sweeps group Done p old q new → IsReady group table new
+ready_later group table Done p old q new ready a = record {
+  known = a.known;
+  group_is = subst (λ parts. IsGroup parts group) (sym a.goes.extends.same) ready.group_is;
+  linking = ready.linking;
+  covers = subst (λ parts. Covers (way_of group.principle) (may_edges parts new.now (second_dim group)) table) (sym a.goes.extends.same)
+      (covers_less (way_of group.principle) old.parts new.now old.now (second_dim group) table (subst (λ parts. IsBox (shape parts) new.now) a.goes.extends.same a.known.is_box) a.goes.extends.inside ready.covers);
+}
+
+-- ---- principles
+
+pub reach_at : (p : Principle) → Reaches p → (parts : Parts) (group : Group) (box : List (List Bool)) (place : Edge) (d v : ℕ) → TakesAt p parts group box place d v → (rule : LinkingReach parts group box d v) × (rule.place ≡ place)
+reach_at principles.LinkingEnd r parts group box place d v t = t
+reach_at principles.LinkingDaughter r parts group box place d v t = t
+reach_at principles.LinkingMother r parts group box place d v t = t
+reach_at principles.LinkingBelowStart r parts group box place d v t = t
+reach_at principles.LinkingAboveStart r parts group box place d v t = t
+reach_at principles.LinkingSisters r parts group box place d v t = t
+reach_at principles.LinkingNotDaughter r parts group box place d v t = absurd r
+reach_at principles.Graph r parts group box place d v t = absurd r
+reach_at principles.Entries r parts group box place d v t = absurd r
+reach_at principles.Tree r parts group box place d v t = absurd r
+reach_at principles.Dag r parts group box place d v t = absurd r
+reach_at principles.Valency r parts group box place d v t = absurd r
+reach_at principles.Order r parts group box place d v t = absurd r
+reach_at principles.Projectivity r parts group box place d v t = absurd r
+reach_at principles.Agr r parts group box place d v t = absurd r
+reach_at principles.Agreement r parts group box place d v t = absurd r
+reach_at principles.Government r parts group box place d v t = absurd r
+reach_at principles.Climbing r parts group box place d v t = absurd r
+reach_at principles.Barriers r parts group box place d v t = absurd r
+
+pub reach_takes : (p : Principle) → Reaches p → (parts : Parts) (group : Group) (box : List (List Bool)) (d v : ℕ) → LinkingReach parts group box d v → TakesBy p parts group box d v
+reach_takes principles.LinkingEnd r parts group box d v t = t
+reach_takes principles.LinkingDaughter r parts group box d v t = t
+reach_takes principles.LinkingMother r parts group box d v t = t
+reach_takes principles.LinkingBelowStart r parts group box d v t = t
+reach_takes principles.LinkingAboveStart r parts group box d v t = t
+reach_takes principles.LinkingSisters r parts group box d v t = t
+reach_takes principles.LinkingNotDaughter r parts group box d v t = absurd r
+reach_takes principles.Graph r parts group box d v t = absurd r
+reach_takes principles.Entries r parts group box d v t = absurd r
+reach_takes principles.Tree r parts group box d v t = absurd r
+reach_takes principles.Dag r parts group box d v t = absurd r
+reach_takes principles.Valency r parts group box d v t = absurd r
+reach_takes principles.Order r parts group box d v t = absurd r
+reach_takes principles.Projectivity r parts group box d v t = absurd r
+reach_takes principles.Agr r parts group box d v t = absurd r
+reach_takes principles.Agreement r parts group box d v t = absurd r
+reach_takes principles.Government r parts group box d v t = absurd r
+reach_takes principles.Climbing r parts group box d v t = absurd r
+reach_takes principles.Barriers r parts group box d v t = absurd r
+
+-- ---- one place
+
+module _ (group : Group) (table : List (List ℕ)) (p : Progress) (s : State) (place : Edge) (ready : IsReady group table s) (reaches : Reaches group.principle) where
+  abbrev box : List (List Bool)
+  box = s.now
+
+  -- where it is not to go, the rule doesn't take it
+  cut_of : IsExact s.parts group table box → (d v : ℕ) → Has box d v → TakesAt group.principle s.parts group box place d v → IsCut s.parts group table box place
+  cut_of exact d v has takes =
+      let (rule, same) = reach_at group.principle reaches s.parts group box place d v takes in
+      subst (λ e. IsCut s.parts group table box e) same (
+        subst (λ i. Has box i 0) rule.says.0 (subst (λ x. Has box d x) rule.says.1 has),
+        rule.links,
+        λ c remains led. rule.apart c remains (led_linked group.principle reaches (may_edges s.parts box (second_dim group)) table (map_row group rule.place.mother.0 c rule.place.label.0) rule.place.mother.0 rule.place.daughter.0 exact led),
+      )
+
+  pub cut_none : (b : Bool) → b ≡ false → IsTrue b ↔ IsCut s.parts group table box place → Sweeps group (DoneAt s.parts group table place) p s p s
+  cut_none b fails exactly = sweeps_start group (DoneAt s.parts group table place) p s ready.known (λ exact d v has takes. false≢true (sym fails ∙ exactly.1 (cut_of exact d v has takes)))
+
+  -- where it is, the rule takes it
+  pub cut_takes : IsPlace s.parts place → place.dim.0 ≡ first_dim group → IsCut s.parts group table box place → Takes s.parts group box (edge_decision s.parts place) 0
+  cut_takes is on cut = inr (reach_takes group.principle reaches s.parts group box (edge_decision s.parts place) 0 (record {
+    place = place;
+    is = (place_is s.parts place is, on);
+    says = (refl, refl);
+    links = cut.1;
+    apart = λ c remains link. cut.2 c remains (linked_led group.principle reaches (may_edges s.parts box (second_dim group)) table (map_row group place.mother.0 c place.label.0) place.mother.0 place.daughter.0 ready.covers link);
+  }))
+
+  pub cut_taken : (q : Progress) (new : State) → Known new → new.parts ≡ s.parts → Goes group p s q new → (Has new.now (edge_decision s.parts place) 0 → q.dead ≡ true) → Sweeps group (DoneAt s.parts group table place) p s q new
+  cut_taken q new known same goes gone = record {
+    goes = goes;
+    known = known;
+    done = λ quiet exact d v has takes.
+        let (rule, at) = reach_at group.principle reaches s.parts group new.now place d v takes in
+        let here : Has new.now (edge_decision s.parts place) 0 = subst (λ e. Has new.now (edge_decision s.parts e) 0) at (subst (λ i. Has new.now i 0) rule.says.0 (subst (λ x. Has new.now d x) rule.says.1 has)) in
+        false≢true (sym quiet.1 ∙ gone here);
+  }
+
+-- ---- loops
+
+pub nodes_first : (parts : Parts) (group : Group) (table : List (List ℕ)) (u label : ℕ) (box : List (List Bool)) → AreNodesDone parts group table u label 0 box
+nodes_first parts group table u label box exact v l = absurd (omega (arith, l))
+
+pub nodes_next : (parts : Parts) (group : Group) (table : List (List ℕ)) (u label k : ℕ) (box : List (List Bool)) → AreNodesDone parts group table u label k box → DoneAt parts group table (edge (first_dim group) u label k) box → AreNodesDone parts group table u label (k + 1) box
+nodes_next parts group table u label k box before here exact v l = elim (cases_lt v k) [
+  | inl less ↦ before exact v less
+  | inr past ↦ (let e : v ≡ k = omega (arith, l, past) in subst (λ i. IsDoneAt parts group (edge (first_dim group) u label i) box) (sym e) (here exact))
+]
+
+pub labels_first : (parts : Parts) (group : Group) (table : List (List ℕ)) (u : ℕ) (box : List (List Bool)) → AreLabelsDone parts group table u 0 box
+labels_first parts group table u box label l = absurd (omega (arith, l))
+
+pub labels_next : (parts : Parts) (group : Group) (table : List (List ℕ)) (u k : ℕ) (box : List (List Bool)) → AreLabelsDone parts group table u k box → AreNodesDone parts group table u k (nodes parts) box → AreLabelsDone parts group table u (k + 1) box
+labels_next parts group table u k box before here label l = elim (cases_lt label k) [
+  | inl less ↦ before label less
+  | inr past ↦ (let e : label ≡ k = omega (arith, l, past) in subst (λ i. AreNodesDone parts group table u i (nodes parts) box) (sym e) here)
+]
+
+pub mothers_first : (parts : Parts) (group : Group) (table : List (List ℕ)) (box : List (List Bool)) → AreMothersDone parts group table 0 box
+mothers_first parts group table box u l = absurd (omega (arith, l))
+
+pub mothers_next : (parts : Parts) (group : Group) (table : List (List ℕ)) (k : ℕ) (box : List (List Bool)) → AreMothersDone parts group table k box → AreLabelsDone parts group table k (edge_labels parts (first_dim group)) box → AreMothersDone parts group table (k + 1) box
+mothers_next parts group table k box before here u l = elim (cases_lt u k) [
+  | inl less ↦ before u less
+  | inr past ↦ (let e : u ≡ k = omega (arith, l, past) in subst (λ i. AreLabelsDone parts group table i (edge_labels parts (first_dim group)) box) (sym e) here)
+]
+
+-- ---- turns and ends
+
+pub nodes_turn : (group : Group) (table : List (List ℕ)) (u label k : ℕ) (p : Progress) (old : State) (q : Progress) (mid : State) (r : Progress) (new : State) → Sweeps group (AreNodesDone old.parts group table u label k) p old q mid → Sweeps group (DoneAt mid.parts group table (edge (first_dim group) u label k)) q mid r new → Sweeps group (AreNodesDone old.parts group table u label (k + 1)) p old r new
+nodes_turn group table u label k p old q mid r new a b = sweeps_next group (AreNodesDone old.parts group table u label k) (AreNodesDone old.parts group table u label (k + 1)) (λ parts. DoneAt parts group table (edge (first_dim group) u label k)) p old q mid r new a b (nodes_next old.parts group table u label k)
+
+pub labels_turn : (group : Group) (table : List (List ℕ)) (u k : ℕ) (p : Progress) (old : State) (q : Progress) (mid : State) (r : Progress) (new : State) → Sweeps group (AreLabelsDone old.parts group table u k) p old q mid → Sweeps group (AreNodesDone mid.parts group table u k (nodes mid.parts)) q mid r new → Sweeps group (AreLabelsDone old.parts group table u (k + 1)) p old r new
+labels_turn group table u k p old q mid r new a b = sweeps_next group (AreLabelsDone old.parts group table u k) (AreLabelsDone old.parts group table u (k + 1)) (λ parts. AreNodesDone parts group table u k (nodes parts)) p old q mid r new a b (labels_next old.parts group table u k)
+
+pub mothers_turn : (group : Group) (table : List (List ℕ)) (k : ℕ) (p : Progress) (old : State) (q : Progress) (mid : State) (r : Progress) (new : State) → Sweeps group (AreMothersDone old.parts group table k) p old q mid → Sweeps group (AreLabelsDone mid.parts group table k (edge_labels mid.parts (first_dim group))) q mid r new → Sweeps group (AreMothersDone old.parts group table (k + 1)) p old r new
+mothers_turn group table k p old q mid r new a b = sweeps_next group (AreMothersDone old.parts group table k) (AreMothersDone old.parts group table (k + 1)) (λ parts. AreLabelsDone parts group table k (edge_labels parts (first_dim group))) p old q mid r new a b (mothers_next old.parts group table k)
+
+pub nodes_end : (group : Group) (table : List (List ℕ)) (u label k : ℕ) (p : Progress) (old : State) (q : Progress) (new : State) → nodes old.parts ≤ k → Sweeps group (AreNodesDone old.parts group table u label k) p old q new → Sweeps group (AreNodesDone old.parts group table u label (nodes old.parts)) p old q new
+nodes_end group table u label k p old q new all a = sweeps_skip group (AreNodesDone old.parts group table u label k) (AreNodesDone old.parts group table u label (nodes old.parts)) p old q new a (λ done exact v l. done exact v (omega (arith, l, all)))
+
+pub labels_end : (group : Group) (table : List (List ℕ)) (u k : ℕ) (p : Progress) (old : State) (q : Progress) (new : State) → edge_labels old.parts (first_dim group) ≤ k → Sweeps group (AreLabelsDone old.parts group table u k) p old q new → Sweeps group (AreLabelsDone old.parts group table u (edge_labels old.parts (first_dim group))) p old q new
+labels_end group table u k p old q new all a = sweeps_skip group (AreLabelsDone old.parts group table u k) (AreLabelsDone old.parts group table u (edge_labels old.parts (first_dim group))) p old q new a (λ done label l. done label (omega (arith, l, all)))
+
+pub mothers_end : (group : Group) (table : List (List ℕ)) (k : ℕ) (p : Progress) (old : State) (q : Progress) (new : State) → nodes old.parts ≤ k → Sweeps group (AreMothersDone old.parts group table k) p old q new → Sweeps group (AreMothersDone old.parts group table (nodes old.parts)) p old q new
+mothers_end group table k p old q new all a = sweeps_skip group (AreMothersDone old.parts group table k) (AreMothersDone old.parts group table (nodes old.parts)) p old q new a (λ done u l. done u (omega (arith, l, all)))
+
+-- a number below those of the sentence stays so
+pub below_later : (group : Group) (Done : List (List Bool) → Type 0) (count : Parts → ℕ) (k : ℕ) (p : Progress) (old : State) (q : Progress) (new : State) → k < count old.parts → Sweeps group Done p old q new → k < count new.parts
+below_later group Done count k p old q new l a = subst (λ parts. k < count parts) (sym a.goes.extends.same) l
+
+-- no place leads from a node to itself
+place_of : (p : Principle) → IsLinking p → (parts : Parts) (group : Group) (box : List (List Bool)) (place : Edge) (d v : ℕ) → TakesAt p parts group box place d v → Contains (places parts) place
+place_of principles.LinkingEnd f parts group b place d v t = subst (Contains (places parts)) t.1 t.0.is.0
+place_of principles.LinkingDaughter f parts group b place d v t = subst (Contains (places parts)) t.1 t.0.is.0
+place_of principles.LinkingMother f parts group b place d v t = subst (Contains (places parts)) t.1 t.0.is.0
+place_of principles.LinkingBelowStart f parts group b place d v t = subst (Contains (places parts)) t.1 t.0.is.0
+place_of principles.LinkingAboveStart f parts group b place d v t = subst (Contains (places parts)) t.1 t.0.is.0
+place_of principles.LinkingSisters f parts group b place d v t = subst (Contains (places parts)) t.1 t.0.is.0
+place_of principles.LinkingNotDaughter f parts group b place d v t = subst (Contains (places parts)) t.1 t.0.is.0
+place_of principles.Graph f parts group b place d v t = absurd f
+place_of principles.Entries f parts group b place d v t = absurd f
+place_of principles.Tree f parts group b place d v t = absurd f
+place_of principles.Dag f parts group b place d v t = absurd f
+place_of principles.Valency f parts group b place d v t = absurd f
+place_of principles.Order f parts group b place d v t = absurd f
+place_of principles.Projectivity f parts group b place d v t = absurd f
+place_of principles.Agr f parts group b place d v t = absurd f
+place_of principles.Agreement f parts group b place d v t = absurd f
+place_of principles.Government f parts group b place d v t = absurd f
+place_of principles.Climbing f parts group b place d v t = absurd f
+place_of principles.Barriers f parts group b place d v t = absurd f
+
+pub same_node : (group : Group) (table : List (List ℕ)) (p : Progress) (s : State) (u label v : ℕ) → IsReady group table s → u ≡ v → Sweeps group (DoneAt s.parts group table (edge (first_dim group) u label v)) p s p s
+same_node group table p s u label v ready same = sweeps_start group (DoneAt s.parts group table (edge (first_dim group) u label v)) p s ready.known (λ exact d x has takes. (is_place s.parts (edge (first_dim group) u label v) (place_of group.principle ready.linking s.parts group s.now (edge (first_dim group) u label v) d x takes)).differ same)
+
+-- of the linking principles the others ask for edges
+pub apart_else : (p : Principle) → IsLinking p → (Reaches p → ⊥) → p ≡ principles.LinkingNotDaughter
+apart_else principles.LinkingNotDaughter f n = refl
+apart_else principles.LinkingEnd f n = absurd (n tt)
+apart_else principles.LinkingDaughter f n = absurd (n tt)
+apart_else principles.LinkingMother f n = absurd (n tt)
+apart_else principles.LinkingBelowStart f n = absurd (n tt)
+apart_else principles.LinkingAboveStart f n = absurd (n tt)
+apart_else principles.LinkingSisters f n = absurd (n tt)
+apart_else principles.Graph f n = absurd f
+apart_else principles.Entries f n = absurd f
+apart_else principles.Tree f n = absurd f
+apart_else principles.Dag f n = absurd f
+apart_else principles.Valency f n = absurd f
+apart_else principles.Order f n = absurd f
+apart_else principles.Projectivity f n = absurd f
+apart_else principles.Agr f n = absurd f
+apart_else principles.Agreement f n = absurd f
+apart_else principles.Government f n = absurd f
+apart_else principles.Climbing f n = absurd f
+apart_else principles.Barriers f n = absurd f
+
+-- the place that the code names
+pub on_place : (group : Group) (table : List (List ℕ)) (s : State) (dim u label v : ℕ) → IsAtPlace group table u label v s → dim ≡ first_dim group → u ≢ v → IsOnPlace group (edge dim u label v) s
+on_place group table s dim u label v at same differ = record {
+  known = at.0.0.0.known;
+  group_is = at.0.0.0.group_is;
+  place_is = place_between s.parts dim u label v at.0.0.1 at.1 differ (subst (λ i. label < edge_labels s.parts i) (sym same) at.0.1);
+  on = same;
+}
+
+pub done_on : (group : Group) (table : List (List ℕ)) (dim u label v : ℕ) (p : Progress) (old : State) (q : Progress) (new : State) → dim ≡ first_dim group → Sweeps group (DoneAt old.parts group table (edge dim u label v)) p old q new → Sweeps group (DoneAt old.parts group table (edge (first_dim group) u label v)) p old q new
+done_on group table dim u label v p old q new same = subst (λ i. Sweeps group (DoneAt old.parts group table (edge i u label v)) p old q new) same
+
+pub parted_on : (group : Group) (table : List (List ℕ)) (dim u label v : ℕ) (p : Progress) (old : State) (q : Progress) (new : State) → dim ≡ first_dim group → Sweeps group (IsDoneAt old.parts group (edge dim u label v)) p old q new → Sweeps group (DoneAt old.parts group table (edge (first_dim group) u label v)) p old q new
+parted_on group table dim u label v p old q new same a = sweeps_skip group (IsDoneAt old.parts group (edge (first_dim group) u label v)) (DoneAt old.parts group table (edge (first_dim group) u label v)) p old q new (subst (λ i. Sweeps group (IsDoneAt old.parts group (edge i u label v)) p old q new) same a) (λ done exact. done)

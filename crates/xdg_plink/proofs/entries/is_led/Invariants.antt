@@ -1,0 +1,7 @@
+use Rattle.xdg_judge.proofs.Meeting.{NoneMeet}
+use Rattle.xdg_rules.specs.Rules.{may_edges}
+use Rattle.xdg_plink.proofs.Leading.{LedBy}
+use Rattle.xdg_plink.proofs.entries.is_led.Given as goal
+
+abbrev pub invariant-loop-label : goal.invariant-loop-label
+invariant-loop-label l = NoneMeet (LedBy l.way (may_edges l.store.parts l.store.now l.dim.0) l.table l.a.0 l.b.0) l.labels l.label-index

@@ -1,0 +1,21 @@
+use Rattle.std.proofs.Common.{arith}
+use Rattle.xdg_problem.specs.Arguments.{first_dim}
+use Rattle.xdg_problem.specs.Places.{nodes}
+use Rattle.xdg_plink.specs.Ways.{edge_labels}
+use Rattle.xdg_plink.proofs.Sweeping.{below_later, labels_end, labels_first, labels_turn, ready_later}
+use Rattle.xdg_propcore.proofs.Sweeping.{sweeps_start}
+use Rattle.xdg_plink.proofs.taking.take_node.Goals as goal
+
+pub loop-label-init : goal.loop-label-init
+loop-label-init c = sweeps_start c.args.group.now _ c.args.pass.now c.args.store.now c.requires.0.known (labels_first c.args.store.now.parts c.args.group.now c.args.table.now c.args.u.0 c.args.store.now.now)
+
+pub take_label-requires : goal.take_label-requires
+take_label-requires c =
+    let a = c.loop-label.invariant in
+    ((ready_later c.args.group.now c.args.table.now _ c.args.pass.now c.args.store.now c.loop-label.pass c.loop-label.store c.requires.0 a, below_later c.args.group.now _ nodes c.args.u.0 c.args.pass.now c.args.store.now c.loop-label.pass c.loop-label.store c.requires.1 a), below_later c.args.group.now _ (λ parts. edge_labels parts (first_dim c.args.group.now)) c.loop-label.label c.args.pass.now c.args.store.now c.loop-label.pass c.loop-label.store (let e = c.first_labels-label-end.ensures in let t = c.loop-label-test.true in omega (arith, e, t)) a)
+
+pub loop-label-preserved : goal.loop-label-preserved
+loop-label-preserved c = labels_turn c.args.group.now c.args.table.now c.args.u.0 c.loop-label.label c.args.pass.now c.args.store.now c.loop-label.pass c.loop-label.store c.take_label.new.pass c.take_label.new.store c.loop-label.invariant c.take_label.ensures
+
+pub returns : goal.returns
+returns c = labels_end c.args.group.now c.args.table.now c.args.u.0 c.loop-label.label c.args.pass.now c.args.store.now c.loop-label.pass c.loop-label.store (let e = c.first_labels-label-end.ensures in let t = c.loop-label-test.false in omega (arith, e, t)) c.loop-label.invariant

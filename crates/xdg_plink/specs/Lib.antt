@@ -1,0 +1,4 @@
+pub mod Ways
+pub mod Steps
+pub mod Standing
+pub mod Laws

@@ -1,0 +1,105 @@
+-- What a part of a step does.
+use Rattle.std.specs.Prelude.{◌≡◌, ℕ, ◌<◌, Bool, List, length, Contains}
+use Rattle.xdg_problem.specs.declared.analysis.Edge.{Edge}
+use Rattle.xdg_problem.specs.declared.parts.Group.{Group}
+use Rattle.xdg_problem.specs.declared.parts.Parts.{Parts}
+use Rattle.xdg_problem.specs.declared.parts.Principle.{Principle}
+use Rattle.xdg_problem.specs.declared.parts.Principle.TheVariants as principles
+use Rattle.xdg_problem.specs.Analyses.{IsPlace}
+use Rattle.xdg_problem.specs.Arguments.{first_dim, second_dim}
+use Rattle.xdg_problem.specs.Boxes.{Has, May, Must}
+use Rattle.xdg_problem.specs.Places.{edge, nodes}
+use Rattle.xdg_problem.specs.Features.{map_row, set_row}
+use Rattle.xdg_problem.specs.Problems.{IsGroup}
+use Rattle.xdg_rules.specs.Rules.{EachEntry, LinkingNotDaughter, LinkingReach, SaysPresent, may_edges, must_edges}
+use Rattle.xdg_store.specs.States.{State, Known}
+use Rattle.xdg_linking.specs.Family.{IsLinking, Reaches}
+use Rattle.xdg_plink.specs.Ways.{Covers, IsLed, Keeps, edge_labels, from_node, way_of}
+
+-- what the rule of a principle takes at a place of the first dimension
+abbrev pub TakesAt : Principle → Parts → Group → List (List Bool) → Edge → ℕ → ℕ → Type 0
+TakesAt principles.LinkingNotDaughter parts group box place d v = (rule : LinkingNotDaughter parts group box d v) × (rule.place ≡ place)
+TakesAt principle parts group box place d v = (rule : LinkingReach parts group box d v) × (rule.place ≡ place)
+
+-- it takes nothing there that remains
+abbrev pub IsDoneAt : Parts → Group → Edge → List (List Bool) → Type 0
+IsDoneAt parts group place box = (d v : ℕ) → Has box d v → TakesAt group.principle parts group box place d v → ⊥
+
+-- the table has no more than the box allows
+abbrev pub IsExact : Parts → Group → List (List ℕ) → List (List Bool) → Type 0
+IsExact parts group table box = Keeps (way_of group.principle) (may_edges parts box (second_dim group)) table
+
+-- by the table, the edge is to go
+abbrev pub IsCut : Parts → Group → List (List ℕ) → List (List Bool) → Edge → Type 0
+IsCut parts group table box place =
+    May parts box place
+    × EachEntry box place.mother.0 (λ c. 0 < length (map_row group place.mother.0 c place.label.0))
+    × EachEntry box place.mother.0 (λ c. IsLed (way_of group.principle) (may_edges parts box (second_dim group)) table (map_row group place.mother.0 c place.label.0) (from_node group.principle place.mother.0 place.daughter.0) (from_node group.principle place.daughter.0 place.mother.0) → ⊥)
+
+-- nothing is done at a place, if the table is exact
+abbrev pub DoneAt : Parts → Group → List (List ℕ) → Edge → List (List Bool) → Type 0
+DoneAt parts group table place box = IsExact parts group table box → IsDoneAt parts group place box
+
+-- nothing at the places of a label from u to the first nodes, if the table is exact
+abbrev pub AreNodesDone : Parts → Group → List (List ℕ) → ℕ → ℕ → ℕ → List (List Bool) → Type 0
+AreNodesDone parts group table u label k box = IsExact parts group table box → (v : ℕ) → v < k → IsDoneAt parts group (edge (first_dim group) u label v) box
+
+-- nothing at the places of the first labels from u
+abbrev pub AreLabelsDone : Parts → Group → List (List ℕ) → ℕ → ℕ → List (List Bool) → Type 0
+AreLabelsDone parts group table u k box = (label : ℕ) → label < k → AreNodesDone parts group table u label (nodes parts) box
+
+-- nothing at the places from the first nodes
+abbrev pub AreMothersDone : Parts → Group → List (List ℕ) → ℕ → List (List Bool) → Type 0
+AreMothersDone parts group table k box = (u : ℕ) → u < k → AreLabelsDone parts group table u (edge_labels parts (first_dim group)) box
+
+-- the store can be searched for a linking principle: the table has at least what the box allows
+pub record IsReady (group : Group) (table : List (List ℕ)) (s : State) : Type 0 where
+  pub known : Known s
+  pub group_is : IsGroup s.parts group
+  pub linking : IsLinking group.principle
+  pub covers : Covers (way_of group.principle) (may_edges s.parts s.now (second_dim group)) table
+
+-- an edge with one of the first labels must lead from u to v
+abbrev pub MustJoin : Parts → List (List Bool) → ℕ → ℕ → ℕ → ℕ → Type 0
+MustJoin parts box dim u v k = (label : ℕ) × (label < k) × Must parts box (edge dim u label v)
+
+-- the rule takes nothing that remains of what keeps two edges apart: neither the one of the first dimension
+abbrev pub IsFirstDone : Parts → Group → Edge → List (List Bool) → Type 0
+IsFirstDone parts group place box = (d v : ℕ) → Has box d v → (rule : LinkingNotDaughter parts group box d v) → rule.place ≡ place → SaysPresent parts rule.place d v → Contains (must_edges parts box (second_dim group)) rule.other → ⊥
+
+-- nor the one of the second
+abbrev pub IsSecondDone : Parts → Group → Edge → List (List Bool) → Type 0
+IsSecondDone parts group place box = (d v : ℕ) → Has box d v → (rule : LinkingNotDaughter parts group box d v) → rule.place ≡ place → SaysPresent parts rule.other d v → ⊥
+
+-- ---- where the code stands
+
+-- at a node of the sentence
+abbrev pub IsAtNode : Group → List (List ℕ) → ℕ → State → Type 0
+IsAtNode group table u s = IsReady group table s × (u < nodes s.parts)
+
+-- at a label of a node
+abbrev pub IsAtLabel : Group → List (List ℕ) → ℕ → ℕ → State → Type 0
+IsAtLabel group table u label s = IsAtNode group table u s × (label < edge_labels s.parts (first_dim group))
+
+-- at two nodes and a label
+abbrev pub IsAtPlace : Group → List (List ℕ) → ℕ → ℕ → ℕ → State → Type 0
+IsAtPlace group table u label v s = IsAtLabel group table u label s × (v < nodes s.parts)
+
+-- at an edge place of the first dimension
+pub record IsOnPlace (group : Group) (place : Edge) (s : State) : Type 0 where
+  pub known : Known s
+  pub group_is : IsGroup s.parts group
+  pub place_is : IsPlace s.parts place
+  pub on : place.dim.0 ≡ first_dim group
+
+-- for a principle that asks for edges
+abbrev pub CanCut : Group → List (List ℕ) → Edge → State → Type 0
+CanCut group table place s = IsOnPlace group place s × IsReady group table s × Reaches group.principle
+
+-- for one that keeps edges apart
+abbrev pub CanPart : Group → Edge → State → Type 0
+CanPart group place s = IsOnPlace group place s × (group.principle ≡ principles.LinkingNotDaughter)
+
+-- whose entries ask for it
+abbrev pub AsksApart : Group → Edge → List (List Bool) → Type 0
+AsksApart group place box = EachEntry box place.mother.0 (λ c. Contains (set_row group place.mother.0 c) place.label.0)

@@ -1,0 +1,3 @@
+pub mod Labelled
+pub mod Edges
+pub mod Noting
