@@ -51,8 +51,8 @@ fn closed(table: &[NodeSet; 128], size: u8) -> [NodeSet; 128]
     closed
 }
 
-/// For each node those below it: a path of one or more of the edges leads to them. Its time grows with the square of the
-/// number of nodes.
+/// For each node those below it: a path of one or more of the edges leads to them. It takes 128 operations on sets for each
+/// node, and one for each node and label.
 pub fn above(store: &Store, which: Which, dim: DimId) -> [NodeSet; 128]
     ensures exact { (a b : ℕ) → In result a b ↔ Above (edges_of which store.now.parts store.now.now dim.0) a b }
     ensures known { Known store.now }

@@ -1,0 +1,7 @@
+pub mod ReadLists
+pub mod Remaining
+pub mod Forbidding
+pub mod Aiming
+pub mod Blocked
+pub mod Waking
+pub mod Stepping

@@ -1,0 +1,48 @@
+use Rattle.std.proofs.Common.{◌≡◌, [], ◌∷◌, arith}
+use Rattle.xdg_reach.specs.Edges.{edge_labels}
+use Rattle.xdg_pmulti.proofs.Aiming.{ByBarrier, barrier_out, stopped_all, under_within}
+use Rattle.xdg_pmulti.proofs.Forbidding.{passed_more, passed_node, passed_start, stays_below}
+use Rattle.xdg_pmulti.proofs.barriers.forbid_stopped.Goals as goal
+
+pub loop-barrier-init : goal.loop-barrier-init
+loop-barrier-init c = (tt, tt, passed_start c.args.store.now.parts c.args.dim.0 (ByBarrier c.args.label.0 c.args.over.now c.args.near.now) c.into_iter-barrier-iterator.result c.args.pass.now c.args.store.now, c.requires.known)
+
+pub and_below-mothers-requires : goal.and_below-mothers-requires
+and_below-mothers-requires c =
+    let left_is : c.loop-barrier.barrier-iterator ≡ c.in-Some.barrier.0 ∷ c.next.new.self = c.in-Some.ensures.steps in
+    let within = passed_node c.args.dim.0 (ByBarrier c.args.label.0 c.args.over.now c.args.near.now) c.args.barriers c.iter-barrier-items.result c.into_iter-barrier-iterator.result c.loop-barrier.barrier-iterator c.next.new.self c.in-Some.barrier.0 c.args.pass.now c.loop-barrier.pass c.args.store.now c.loop-barrier.store c.iter-barrier-items.ensures.value c.into_iter-barrier-iterator.ensures.into_iter_gives left_is c.requires.barriers c.loop-barrier.invariant.2 in
+    let most = c.loop-barrier.invariant.3.problem.most in
+    omega (arith, within, most)
+
+pub set_at-within-requires : goal.set_at-within-requires
+set_at-within-requires c =
+    let left_is : c.loop-barrier.barrier-iterator ≡ c.in-Some.barrier.0 ∷ c.next.new.self = c.in-Some.ensures.steps in
+    let within = passed_node c.args.dim.0 (ByBarrier c.args.label.0 c.args.over.now c.args.near.now) c.args.barriers c.iter-barrier-items.result c.into_iter-barrier-iterator.result c.loop-barrier.barrier-iterator c.next.new.self c.in-Some.barrier.0 c.args.pass.now c.loop-barrier.pass c.args.store.now c.loop-barrier.store c.iter-barrier-items.ensures.value c.into_iter-barrier-iterator.ensures.into_iter_gives left_is c.requires.barriers c.loop-barrier.invariant.2 in
+    let most = c.loop-barrier.invariant.3.problem.most in
+    omega (arith, within, most)
+
+pub forbid_out-requires-clause-known : goal.forbid_out-requires-clause-known
+forbid_out-requires-clause-known c = c.loop-barrier.invariant.3
+
+pub forbid_out-requires-clause-nodes : goal.forbid_out-requires-clause-nodes
+forbid_out-requires-clause-nodes c =
+    let left_is : c.loop-barrier.barrier-iterator ≡ c.in-Some.barrier.0 ∷ c.next.new.self = c.in-Some.ensures.steps in
+    let within = passed_node c.args.dim.0 (ByBarrier c.args.label.0 c.args.over.now c.args.near.now) c.args.barriers c.iter-barrier-items.result c.into_iter-barrier-iterator.result c.loop-barrier.barrier-iterator c.next.new.self c.in-Some.barrier.0 c.args.pass.now c.loop-barrier.pass c.args.store.now c.loop-barrier.store c.iter-barrier-items.ensures.value c.into_iter-barrier-iterator.ensures.into_iter_gives left_is c.requires.barriers c.loop-barrier.invariant.2 in
+    under_within c.args.store.now.parts c.loop-barrier.store.parts c.args.over.now c.in-Some.barrier.0 c.and_below-mothers.result c.loop-barrier.invariant.2.clears.same c.requires.over within c.and_below-mothers.ensures
+
+pub forbid_out-requires-clause-label : goal.forbid_out-requires-clause-label
+forbid_out-requires-clause-label c = stays_below (λ parts. edge_labels parts c.args.dim.0) c.args.label.0 c.loop-barrier.store.parts c.args.store.now.parts c.loop-barrier.invariant.2.clears.same c.requires.label
+
+pub loop-barrier-preserved : goal.loop-barrier-preserved
+loop-barrier-preserved c =
+    let left_is : c.loop-barrier.barrier-iterator ≡ c.in-Some.barrier.0 ∷ c.next.new.self = c.in-Some.ensures.steps in
+    let out = barrier_out c.loop-barrier.store.parts c.args.dim.0 c.args.label.0 c.in-Some.barrier.0 c.args.over.now c.args.near.now c.and_below-mothers.result c.set_at-within.result c.loop-barrier.pass c.forbid_out.new.pass c.loop-barrier.store c.forbid_out.new.store c.and_below-mothers.ensures c.set_at-within.ensures c.forbid_out.ensures.clears in
+    (tt, tt, passed_more c.args.dim.0 (ByBarrier c.args.label.0 c.args.over.now c.args.near.now) c.into_iter-barrier-iterator.result c.loop-barrier.barrier-iterator c.next.new.self c.in-Some.barrier.0 c.args.pass.now c.loop-barrier.pass c.forbid_out.new.pass c.args.store.now c.loop-barrier.store c.forbid_out.new.store left_is c.loop-barrier.invariant.2 out, c.forbid_out.ensures.known)
+
+pub returns-clause-clears : goal.returns-clause-clears
+returns-clause-clears c =
+    let left_is : c.loop-barrier.barrier-iterator ≡ [] = c.in-None.ensures.steps.0 in
+    stopped_all c.args.store.now.parts c.args.dim.0 c.args.label.0 c.args.barriers c.iter-barrier-items.result c.into_iter-barrier-iterator.result c.loop-barrier.barrier-iterator c.args.over.now c.args.near.now c.args.pass.now c.loop-barrier.pass c.args.store.now c.loop-barrier.store c.iter-barrier-items.ensures.value c.into_iter-barrier-iterator.ensures.into_iter_gives left_is c.loop-barrier.invariant.2
+
+pub returns-clause-known : goal.returns-clause-known
+returns-clause-known c = c.loop-barrier.invariant.3
