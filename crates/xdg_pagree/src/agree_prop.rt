@@ -14,7 +14,7 @@ use xdg_problem::{Group, Problem};
 use xdg_propcore::{Moved, Pass, Propagator, Wake};
 use xdg_store::Store;
 
-/// The propagator of a use of agr, agreement or government.
+/// Takes from a box what a use of agr, of agreement or of government takes.
 #[derive(Debug, Drop)]
 pub struct AgreeProp {
     number: usize,
@@ -36,8 +36,7 @@ fn wakes_of(group: &Group) -> Wake
 }
 
 impl AgreeProp {
-    /// The propagator of the principle use of a problem with a number, from 0, one of agr, agreement or government. It takes no
-    /// memory, so it gives no error.
+    /// The propagator of a principle use of a sentence, by its number from 0. It takes no memory, so it gives no error.
     pub fn of(problem: &Problem, group: usize) -> Result<AgreeProp, OutOfMemory>
         requires within { group < length problem.now.groups }
         requires family { IsOfFamily (use_at problem.now group).principle }

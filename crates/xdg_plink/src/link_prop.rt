@@ -39,7 +39,7 @@ fn kinds_of(group: &Group) -> Wake
 }
 
 impl LinkProp {
-    /// The propagator of a principle use of a sentence, by its number from 0. It takes no memory.
+    /// The propagator of a principle use of a sentence, by its number from 0. It takes no memory, so it gives no error.
     pub fn of(problem: &Problem, group: usize) -> Result<LinkProp, OutOfMemory>
         requires within { group < length problem.now.groups }
         requires linking { IsLinking (use_at problem.now group).principle }
