@@ -1,0 +1,173 @@
+-- The rules of valency, bundle by bundle.
+use Rattle.std.proofs.Common.{◌≡◌, ℕ, ◌<◌, ◌≤◌, ◌+◌, ◌⊎◌, inl, inr, Bool, true, List, refl, sym, subst, arith}
+use Rattle.std.specs.Prelude.{◌==◌, ◌&&◌, not, count_by}
+use Rattle.std.proofs.lemmas.Bool.{and_from, and_parts, cases_lt}
+use Rattle.xdg_problem.specs.declared.analysis.Edge.{Edge}
+use Rattle.xdg_problem.specs.declared.parts.Group.{Group}
+use Rattle.xdg_problem.specs.declared.parts.Parts.{Parts}
+use Rattle.xdg_problem.specs.declared.parts.Principle.TheVariants as principles
+use Rattle.xdg_problem.specs.Arguments.{first_dim, label_count}
+use Rattle.xdg_problem.specs.Boxes.{Has, entry_decision, edge_decision}
+use Rattle.xdg_problem.specs.Features.{in_row, out_row}
+use Rattle.xdg_problem.specs.Paths.{edges_into, edges_out_of}
+use Rattle.xdg_problem.specs.Places.{nodes, places}
+use Rattle.xdg_problem.specs.Problems.{IsGroup}
+use Rattle.xdg_rules.specs.Rules.{has, Takes, TakesBy, HasNoneWithin, IsGreatest, IsLeast, may_edges, must_edges}
+use Rattle.xdg_rules.proofs.Keeping.{Less, strictly_count}
+use Rattle.xdg_rules.proofs.Shrinking.{IsMay, may_be, must_be, may_is, may_test, must_fails}
+use Rattle.xdg_store.specs.States.{State, Known}
+use Rattle.xdg_propcore.specs.Passes.{Progress, Clears}
+use Rattle.xdg_propcore.specs.Sweeps.{Sweeps}
+use Rattle.xdg_propcore.proofs.Passing.{goes_both}
+use Rattle.xdg_propcore.proofs.Sweeping.{sweeps_skip, sweeps_both}
+use Rattle.xdg_pgraph.specs.declared.bundle.Way.{Way}
+use Rattle.xdg_pgraph.specs.declared.bundle.Way.TheVariants as ways
+use Rattle.xdg_pgraph.specs.declared.bundle.Bundle.{Bundle}
+use Rattle.xdg_pgraph.specs.declared.found.Which.TheVariants as whichs
+use Rattle.xdg_pgraph.specs.Bundles.{near_node, numbers_of, count_of, Barred, EdgeAt, IsOpen, IsBundleDone, IsLabelDone, AreLabelsDone, AreNodesDone}
+use Rattle.xdg_pgraph.proofs.Allowed.{entry_below}
+use Rattle.xdg_pgraph.proofs.Ends.{in_bundle, in_from}
+use Rattle.xdg_pgraph.proofs.PlaneFacts.{which_place}
+
+-- ---- what is taken is taken by the rules
+
+none_by : (way : Way) (group : Group) (node label v : ℕ) (must may : List Edge) → HasNoneWithin (numbers_of way group node label v) (count_of way must node label) (count_of way may node label) → HasNoneWithin (out_row group node v label) (edges_out_of must node label) (edges_out_of may node label) ⊎ HasNoneWithin (in_row group node v label) (edges_into must node label) (edges_into may node label)
+none_by ways.Out group node label v must may none = inl none
+none_by ways.In group node label v must may none = inr none
+
+module _ (group : Group) (box : List (List Bool)) (node label : ℕ) (edges : List Edge) (e : Edge) (label_is : e.label.0 ≡ label) where
+  full_by : (way : Way) → near_node way e ≡ node → IsGreatest box node (numbers_of way group node label) (count_of way edges node label) → IsGreatest box e.mother.0 (λ c. out_row group e.mother.0 c e.label.0) (edges_out_of edges e.mother.0 e.label.0) ⊎ IsGreatest box e.daughter.0 (λ c. in_row group e.daughter.0 c e.label.0) (edges_into edges e.daughter.0 e.label.0)
+  full_by ways.Out near is = inl (subst (λ n. IsGreatest box n (λ c. out_row group n c e.label.0) (edges_out_of edges n e.label.0)) (sym near) (subst (λ l. IsGreatest box node (λ c. out_row group node c l) (edges_out_of edges node l)) (sym label_is) is))
+  full_by ways.In near is = inr (subst (λ n. IsGreatest box n (λ c. in_row group n c e.label.0) (edges_into edges n e.label.0)) (sym near) (subst (λ l. IsGreatest box node (λ c. in_row group node c l) (edges_into edges node l)) (sym label_is) is))
+
+  needed_by : (way : Way) → near_node way e ≡ node → IsLeast box node (numbers_of way group node label) (count_of way edges node label) → IsLeast box e.mother.0 (λ c. out_row group e.mother.0 c e.label.0) (edges_out_of edges e.mother.0 e.label.0) ⊎ IsLeast box e.daughter.0 (λ c. in_row group e.daughter.0 c e.label.0) (edges_into edges e.daughter.0 e.label.0)
+  needed_by ways.Out near is = inl (subst (λ n. IsLeast box n (λ c. out_row group n c e.label.0) (edges_out_of edges n e.label.0)) (sym near) (subst (λ l. IsLeast box node (λ c. out_row group node c l) (edges_out_of edges node l)) (sym label_is) is))
+  needed_by ways.In near is = inr (subst (λ n. IsLeast box n (λ c. in_row group n c e.label.0) (edges_into edges n e.label.0)) (sym near) (subst (λ l. IsLeast box node (λ c. in_row group node c l) (edges_into edges node l)) (sym label_is) is))
+
+module _ (group : Group) (principle : group.principle ≡ principles.Valency) (way : Way) (node label : ℕ) where
+  by_valency : (parts : Parts) (box : List (List Bool)) (d v : ℕ) → TakesBy principles.Valency parts group box d v → Takes parts group box d v
+  by_valency parts box d v rule = inr (subst (λ p. TakesBy p parts group box d v) (sym principle) rule)
+
+  edge_takes : (parts : Parts) (box : List (List Bool)) (d v : ℕ) → EdgeAt way parts group box node label d v → Takes parts group box d v
+  edge_takes parts box d v (inl f) = by_valency parts box d v (inr (inl (record {
+    place = f.place;
+    is = which_place whichs.May parts box (first_dim group) f.place f.is.may.among;
+    says = f.says;
+    free = f.is.free;
+    full = full_by group box node label (must_edges parts box (first_dim group)) f.place f.is.may.label_is way f.is.may.near f.full;
+  })))
+  edge_takes parts box d v (inr f) = by_valency parts box d v (inr (inr (record {
+    place = f.place;
+    may = f.is.may.among;
+    says = f.says;
+    needed = needed_by group box node label (may_edges parts box (first_dim group)) f.place f.is.may.label_is way f.is.may.near f.needed;
+  })))
+
+  entry_takes : (parts : Parts) (box : List (List Bool)) (c : ℕ) → node < nodes parts → label < label_count parts (first_dim group) → HasNoneWithin (numbers_of way group node label c) (count_of way (must_edges parts box (first_dim group)) node label) (count_of way (may_edges parts box (first_dim group)) node label) → Takes parts group box (entry_decision node) c
+  entry_takes parts box c within known none = by_valency parts box (entry_decision node) c (inl (record { node = node; within = within; label = label; known = known; is = refl; none = none_by way group node label c (must_edges parts box (first_dim group)) (may_edges parts box (first_dim group)) none }))
+
+-- ---- an edge that may be and need not makes one more
+
+must_may : (parts : Parts) (box : List (List Bool)) (dim : ℕ) → Less (must_be parts box dim) (may_be parts box dim) (places parts)
+must_may parts box dim e place must =
+    let both = and_parts (e.dim.0 == dim) (has box (edge_decision parts e) 0 && not (has box (edge_decision parts e) 1)) must in
+    let two = and_parts (has box (edge_decision parts e) 0) (not (has box (edge_decision parts e) 1)) both.1 in
+    and_from (e.dim.0 == dim) (has box (edge_decision parts e) 0) both.0 two.0
+
+open_more : (way : Way) (parts : Parts) (box : List (List Bool)) (dim node label : ℕ) (e : Edge) → IsOpen way parts box dim node label e → count_of way (must_edges parts box dim) node label + 1 ≤ count_of way (may_edges parts box dim) node label
+open_more way parts box dim node label e is =
+    by way (in_from way node label e is.may.near is.may.label_is)
+  where
+    may : IsMay parts box dim e
+    may = may_is parts box dim e is.may.among
+
+    more : (inside : Edge → Bool) → inside e ≡ true → count_by inside (must_edges parts box dim) + 1 ≤ count_by inside (may_edges parts box dim)
+    more inside here = strictly_count (must_be parts box dim) (may_be parts box dim) inside (places parts) (must_may parts box dim) e may.place (must_fails parts box dim e is.free may.place) (may_test parts box dim e may.dim_is may.present) here
+
+    by : (w : Way) → in_bundle w node label e ≡ true → count_of w (must_edges parts box dim) node label + 1 ≤ count_of w (may_edges parts box dim) node label
+    by ways.Out here = more (in_bundle ways.Out node label) here
+    by ways.In here = more (in_bundle ways.In node label) here
+
+no_more : (way : Way) (parts : Parts) (group : Group) (box : List (List Bool)) (node label d v : ℕ) → EdgeAt way parts group box node label d v → count_of way (must_edges parts box (first_dim group)) node label ≡ count_of way (may_edges parts box (first_dim group)) node label → ⊥
+no_more way parts group box node label d v (inl f) same = (let m = open_more way parts box (first_dim group) node label f.place f.is in omega (arith, m, same))
+no_more way parts group box node label d v (inr f) same = (let m = open_more way parts box (first_dim group) node label f.place f.is in omega (arith, m, same))
+
+-- ---- a bundle
+
+module _ (bundle : Bundle) (group : Group) (p q r : Progress) (old mid new : State) (is : IsGroup old.parts group) (principle : group.principle ≡ principles.Valency) (dim : ℕ) (on : dim ≡ first_dim group) (known : Known old) (within : bundle.node < nodes old.parts) (label_known : bundle.label < label_count old.parts dim) (least most : ℕ) (least_is : least ≡ count_of bundle.way (must_edges old.parts old.now dim) bundle.node bundle.label) (most_is : most ≡ count_of bundle.way (may_edges old.parts old.now dim) bundle.node bundle.label) where
+  abbrev Counted : (ℕ → ℕ → Type 0) → Type 0
+  Counted P = P (count_of bundle.way (must_edges old.parts old.now (first_dim group)) bundle.node bundle.label) (count_of bundle.way (may_edges old.parts old.now (first_dim group)) bundle.node bundle.label)
+
+  counted_from : (P : ℕ → ℕ → Type 0) → P least most → Counted P
+  counted_from P h = subst (λ k. P (count_of bundle.way (must_edges old.parts old.now k) bundle.node bundle.label) (count_of bundle.way (may_edges old.parts old.now k) bundle.node bundle.label)) on (subst (λ m. P (count_of bundle.way (must_edges old.parts old.now dim) bundle.node bundle.label) m) most_is (subst (λ l. P l most) least_is h))
+
+  counted_to : (P : ℕ → ℕ → Type 0) → Counted P → P least most
+  counted_to P h = subst (λ l. P l most) (sym least_is) (subst (λ m. P (count_of bundle.way (must_edges old.parts old.now dim) bundle.node bundle.label) m) (sym most_is) (subst (λ k. P (count_of bundle.way (must_edges old.parts old.now k) bundle.node bundle.label) (count_of bundle.way (may_edges old.parts old.now k) bundle.node bundle.label)) (sym on) h))
+
+  barred_takes : (d v : ℕ) → Barred old.parts group bundle least most d v → Takes old.parts group old.now d v
+  barred_takes d v x = subst (λ k. Takes old.parts group old.now k v) (sym x.0) (entry_takes group principle bundle.way bundle.node bundle.label old.parts old.now v within (subst (λ k. bundle.label < label_count old.parts k) on label_known) (counted_from (HasNoneWithin (numbers_of bundle.way group bundle.node bundle.label v)) x.2))
+
+  -- no entry that remains lacks a number between the counts
+  entries_done : (t : State) (z : Progress) → Clears (Barred old.parts group bundle least most) p old z t → ((d v : ℕ) → Barred old.parts group bundle least most d v → Has t.now d v → ⊥) → t.now ≡ old.now → (c : ℕ) → Has t.now (entry_decision bundle.node) c → HasNoneWithin (numbers_of bundle.way group bundle.node bundle.label c) (count_of bundle.way (must_edges old.parts t.now (first_dim group)) bundle.node bundle.label) (count_of bundle.way (may_edges old.parts t.now (first_dim group)) bundle.node bundle.label) → ⊥
+  entries_done t z a gone same c h none = gone (entry_decision bundle.node) c
+      (refl, entry_below old bundle.node c known within (subst (λ box. Has box (entry_decision bundle.node) c) same h), counted_to (HasNoneWithin (numbers_of bundle.way group bundle.node bundle.label c)) (subst (λ box. HasNoneWithin (numbers_of bundle.way group bundle.node bundle.label c) (count_of bundle.way (must_edges old.parts box (first_dim group)) bundle.node bundle.label) (count_of bundle.way (may_edges old.parts box (first_dim group)) bundle.node bundle.label)) same none))
+      h
+
+  pub bundle_swept : Known new → Clears (Barred old.parts group bundle least most) p old q mid → Clears (EdgeAt bundle.way mid.parts group mid.now bundle.node bundle.label) q mid r new → Sweeps group (IsBundleDone bundle.way old.parts group bundle.node bundle.label) p old r new
+  bundle_swept known_new a b = record {
+    goes = goes_both group p q r old mid new
+        (a.goes group old.now is (λ d v h. h) barred_takes)
+        (b.goes group mid.now (subst (λ parts. IsGroup parts group) (sym a.same) is) (λ d v h. h) (edge_takes group principle bundle.way bundle.node bundle.label mid.parts mid.now));
+    known = known_new;
+    done = λ quiet.
+        let y = b.quiet quiet in
+        let x = a.quiet y.0 in
+        record {
+          entries = subst (λ box. (c : ℕ) → Has box (entry_decision bundle.node) c → HasNoneWithin (numbers_of bundle.way group bundle.node bundle.label c) (count_of bundle.way (must_edges old.parts box (first_dim group)) bundle.node bundle.label) (count_of bundle.way (may_edges old.parts box (first_dim group)) bundle.node bundle.label) → ⊥) (sym y.1) (entries_done mid q a (a.gone y.0) x.1);
+          edges = λ d v h e. b.gone quiet d v (subst (λ box. EdgeAt bundle.way mid.parts group box bundle.node bundle.label d v) y.1 (subst (λ parts. EdgeAt bundle.way parts group new.now bundle.node bundle.label d v) (sym a.same) e)) h;
+        };
+  }
+
+  -- where each edge that may be must be
+  pub bundle_decided : Known mid → least ≡ most → Clears (Barred old.parts group bundle least most) p old q mid → Sweeps group (IsBundleDone bundle.way old.parts group bundle.node bundle.label) p old q mid
+  bundle_decided known_mid decided a = record {
+    goes = a.goes group old.now is (λ d v h. h) barred_takes;
+    known = known_mid;
+    done = λ quiet.
+        let x = a.quiet quiet in
+        record {
+          entries = entries_done mid q a (a.gone quiet) x.1;
+          edges = λ d v h e. no_more bundle.way old.parts group old.now bundle.node bundle.label d v (subst (λ box. EdgeAt bundle.way old.parts group box bundle.node bundle.label d v) x.1 e) (counted_from (λ l m. l ≡ m) decided);
+        };
+  }
+
+-- ---- bundles, one after another
+
+pub next_both : (group : Group) (Done Next : List (List Bool) → Type 0) (M : Parts → List (List Bool) → Type 0) (p : Progress) (old : State) (q : Progress) (mid : State) (r : Progress) (new : State) → Sweeps group Done p old q mid → Sweeps group (M mid.parts) q mid r new → ((box : List (List Bool)) → Done box → M old.parts box → Next box) → Sweeps group Next p old r new
+next_both group Done Next M p old q mid r new a b next =
+    let both = sweeps_both group Done (M old.parts) p old q mid r new a (subst (λ parts. Sweeps group (M parts) q mid r new) a.goes.extends.same b) in
+    sweeps_skip group (λ box. Done box × M old.parts box) Next p old r new both (λ done. next new.now done.0 done.1)
+
+pub labels_first : (parts : Parts) (group : Group) (node : ℕ) (box : List (List Bool)) → AreLabelsDone 0 parts group node box
+labels_first parts group node box l less = absurd (omega (arith, less))
+
+pub labels_next : (k : ℕ) (parts : Parts) (group : Group) (node : ℕ) (box : List (List Bool)) → AreLabelsDone k parts group node box → IsLabelDone parts group node k box → AreLabelsDone (k + 1) parts group node box
+labels_next k parts group node box before here l less = elim (cases_lt l k) [
+  | inl below ↦ before l below
+  | inr past ↦ (let e : l ≡ k = omega (arith, less, past) in subst (λ m. IsLabelDone parts group node m box) (sym e) here)
+]
+
+pub labels_last : (k labels : ℕ) (parts : Parts) (group : Group) (node : ℕ) (box : List (List Bool)) → labels ≤ k → AreLabelsDone k parts group node box → AreLabelsDone labels parts group node box
+labels_last k labels parts group node box all before l less = before l (omega (arith, less, all))
+
+pub nodes_first : (labels : ℕ) (parts : Parts) (group : Group) (box : List (List Bool)) → AreNodesDone 0 labels parts group box
+nodes_first labels parts group box n less = absurd (omega (arith, less))
+
+pub nodes_next : (k labels : ℕ) (parts : Parts) (group : Group) (box : List (List Bool)) → AreNodesDone k labels parts group box → AreLabelsDone labels parts group k box → AreNodesDone (k + 1) labels parts group box
+nodes_next k labels parts group box before here n less = elim (cases_lt n k) [
+  | inl below ↦ before n below
+  | inr past ↦ (let e : n ≡ k = omega (arith, less, past) in subst (λ m. AreLabelsDone labels parts group m box) (sym e) here)
+]
+
+pub nodes_last : (k count labels : ℕ) (parts : Parts) (group : Group) (box : List (List Bool)) → count ≤ k → AreNodesDone k labels parts group box → AreNodesDone count labels parts group box
+nodes_last k count labels parts group box all before n less = before n (omega (arith, less, all))

@@ -1,0 +1,174 @@
+-- The other nodes of the edges of a bundle, and how many there are.
+use Rattle.std.proofs.Common.{◌≡◌, ◌≢◌, ℕ, ◌<◌, ◌≤◌, ◌↔◌, ◌&&◌, inl, inr, Bool, true, IsTrue, List, length, map, refl, ◌∙◌, ap, subst, arith}
+use Rattle.std.specs.Prelude.{Contains, filter, ◌==◌}
+use Rattle.std.specs.List.{AllByRecursion}
+use Rattle.std.proofs.lemmas.Bool.{and_parts, and_from, eq-eqb, eqb-true}
+use Rattle.std.proofs.lemmas.List.Elements.{All-weaker, All-contains_itself, recursion_from_All}
+use Rattle.std.proofs.lemmas.List.{length-map}
+use Rattle.std.proofs.lemmas.List.Sums.{length-filter}
+use Rattle.xdg_nodeset.specs.Nodes.{has, IsNodes}
+use Rattle.xdg_problem.specs.declared.analysis.Edge.{Edge}
+use Rattle.xdg_problem.specs.declared.parts.Parts.{Parts}
+use Rattle.xdg_problem.specs.Analyses.{Before}
+use Rattle.xdg_problem.specs.Boxes.{May, Must, IsBox}
+use Rattle.xdg_problem.specs.Places.{edge, nodes, places}
+use Rattle.xdg_problem.specs.Vectors.{shape}
+use Rattle.xdg_problem.proofs.Edges.{edge_equal}
+use Rattle.xdg_problem.proofs.FilterFacts.{filter_contained}
+use Rattle.xdg_problem.proofs.Ordered.{Ordered, each_both, each_filter, each_passed, ordered_filter, contains_filter, contains_map}
+use Rattle.xdg_problem.proofs.PlaceOrder.{places_ordered}
+use Rattle.xdg_rules.specs.Rules.{IsPlaceOn}
+use Rattle.xdg_rules.proofs.Shrinking.{may_be, must_be, may_exact, must_exact}
+use Rattle.xdg_store.specs.States.{State, Known}
+use Rattle.xdg_pgraph.specs.declared.bundle.Way.{Way}
+use Rattle.xdg_pgraph.specs.declared.bundle.Way.TheVariants as ways
+use Rattle.xdg_pgraph.specs.declared.found.Which.{Which}
+use Rattle.xdg_pgraph.specs.declared.found.Which.TheVariants as whichs
+use Rattle.xdg_pgraph.specs.declared.plane.Plane.{Plane}
+use Rattle.xdg_pgraph.specs.Bundles.{edge_to, near_node, far_node, count_of}
+use Rattle.xdg_pgraph.specs.Planes.{IsPlane, IsOnPlane}
+use Rattle.xdg_pgraph.specs.Seeking.{edges_of}
+use Rattle.xdg_pgraph.proofs.PlaneFacts.{edge_on, which_place}
+use Rattle.xdg_pgraph.proofs.Rising.{AreRising, rising_alike, nodes_rising, has_contained, contained_has, map_contained, map_rising}
+
+-- ---- an edge is told by its two nodes
+
+pub near_is : (way : Way) (dim node label other : ℕ) → near_node way (edge_to way dim node label other) ≡ node
+near_is ways.Out dim node label other = refl
+near_is ways.In dim node label other = refl
+
+pub far_is : (way : Way) (dim node label other : ℕ) → far_node way (edge_to way dim node label other) ≡ other
+far_is ways.Out dim node label other = refl
+far_is ways.In dim node label other = refl
+
+pub label_is : (way : Way) (dim node label other : ℕ) → (edge_to way dim node label other).label.0 ≡ label
+label_is ways.Out dim node label other = refl
+label_is ways.In dim node label other = refl
+
+pub dim_is : (way : Way) (dim node label other : ℕ) → (edge_to way dim node label other).dim.0 ≡ dim
+dim_is ways.Out dim node label other = refl
+dim_is ways.In dim node label other = refl
+
+pub edge_told : (way : Way) (dim node label : ℕ) (e : Edge) → e.dim.0 ≡ dim → near_node way e ≡ node → e.label.0 ≡ label → e ≡ edge_to way dim node label (far_node way e)
+edge_told ways.Out dim node label e d n l = edge_equal e (edge dim node label e.daughter.0) d n l refl
+edge_told ways.In dim node label e d n l = edge_equal e (edge dim e.mother.0 label node) d refl l n
+
+pub far_within : (way : Way) (plane : Plane) (e : Edge) → IsOnPlane plane e → far_node way e < plane.nodes
+far_within ways.Out plane e on = on.daughter
+far_within ways.In plane e on = on.mother
+
+-- ---- those of a list of edges
+
+abbrev pub in_bundle : Way → ℕ → ℕ → Edge → Bool
+in_bundle ways.Out node label e = (e.mother.0 == node) && (e.label.0 == label)
+in_bundle ways.In node label e = (e.daughter.0 == node) && (e.label.0 == label)
+
+in_parts : (way : Way) (node label : ℕ) (e : Edge) → in_bundle way node label e ≡ true → (near_node way e ≡ node) × (e.label.0 ≡ label)
+in_parts ways.Out node label e h = (let both = and_parts (e.mother.0 == node) (e.label.0 == label) h in (eqb-true e.mother.0 node both.0, eqb-true e.label.0 label both.1))
+in_parts ways.In node label e h = (let both = and_parts (e.daughter.0 == node) (e.label.0 == label) h in (eqb-true e.daughter.0 node both.0, eqb-true e.label.0 label both.1))
+
+pub in_from : (way : Way) (node label : ℕ) (e : Edge) → near_node way e ≡ node → e.label.0 ≡ label → in_bundle way node label e ≡ true
+in_from ways.Out node label e n l = and_from (e.mother.0 == node) (e.label.0 == label) (eq-eqb e.mother.0 node n) (eq-eqb e.label.0 label l)
+in_from ways.In node label e n l = and_from (e.daughter.0 == node) (e.label.0 == label) (eq-eqb e.daughter.0 node n) (eq-eqb e.label.0 label l)
+
+counted : (way : Way) (edges : List Edge) (node label : ℕ) → length (filter (in_bundle way node label) edges) ≡ count_of way edges node label
+counted ways.Out edges node label = length-filter (in_bundle ways.Out node label) edges
+counted ways.In edges node label = length-filter (in_bundle ways.In node label) edges
+
+-- of two edges of one bundle the later one has the greater other node
+later_far : (way : Way) (dim node label : ℕ) (a b : Edge) → a.dim.0 ≡ dim → b.dim.0 ≡ dim → in_bundle way node label a ≡ true → in_bundle way node label b ≡ true → Before a b → far_node way a < far_node way b
+later_far way dim node label a b da db ia ib before =
+    let pa = in_parts way node label a ia in
+    let pb = in_parts way node label b ib in
+    by way pa.0 pb.0 pa.1 pb.1 before
+  where
+    by : (w : Way) → near_node w a ≡ node → near_node w b ≡ node → a.label.0 ≡ label → b.label.0 ≡ label → Before a b → far_node w a < far_node w b
+    by ways.Out na nb la lb (inl d) = absurd (omega (arith, d, da, db))
+    by ways.Out na nb la lb (inr (d, inl m)) = absurd (omega (arith, m, na, nb))
+    by ways.Out na nb la lb (inr (d, inr (m, inl l))) = absurd (omega (arith, l, la, lb))
+    by ways.Out na nb la lb (inr (d, inr (m, inr (l, w)))) = w
+    by ways.In na nb la lb (inl d) = absurd (omega (arith, d, da, db))
+    by ways.In na nb la lb (inr (d, inl m)) = m
+    by ways.In na nb la lb (inr (d, inr (m, inl l))) = absurd (omega (arith, l, la, lb))
+    by ways.In na nb la lb (inr (d, inr (m, inr (l, w)))) = absurd (omega (arith, w, na, nb))
+
+module _ (way : Way) (edges : List Edge) (dim node label : ℕ) (ends : List ℕ) (ordered : Ordered Before edges) (on : (e : Edge) → Contains edges e → e.dim.0 ≡ dim) (is : IsNodes ends) (exact : (other : ℕ) → IsTrue (has ends other) ↔ Contains edges (edge_to way dim node label other)) where
+  abbrev ys : List Edge
+  ys = filter (in_bundle way node label) edges
+
+  on_all : AllByRecursion (λ e. e.dim.0 ≡ dim) ys
+  on_all = each_filter (λ e. e.dim.0 ≡ dim) (in_bundle way node label) edges (recursion_from_All (λ e. e.dim.0 ≡ dim) edges (All-weaker (Contains edges) (λ e. e.dim.0 ≡ dim) on edges (All-contains_itself edges)))
+
+  rising : AreRising (map (far_node way) ys)
+  rising = map_rising Before (λ e. (e.dim.0 ≡ dim) × (in_bundle way node label e ≡ true)) (far_node way) (λ x y px py. later_far way dim node label x y px.0 py.0 px.1 py.1) ys
+      (each_both (λ e. e.dim.0 ≡ dim) (λ e. in_bundle way node label e ≡ true) ys on_all (each_passed (in_bundle way node label) edges))
+      (ordered_filter Before (in_bundle way node label) edges ordered)
+
+  there : (n : ℕ) → Contains ends n → Contains (map (far_node way) ys) n
+  there n c =
+      let e : Edge = edge_to way dim node label n in
+      let among = (exact n).0 (contained_has ends n c) in
+      let kept = contains_filter (in_bundle way node label) edges e (in_from way node label e (near_is way dim node label n) (label_is way dim node label n)) among in
+      subst (Contains (map (far_node way) ys)) (far_is way dim node label n) (contains_map (far_node way) ys e kept)
+
+  back : (n : ℕ) → Contains (map (far_node way) ys) n → Contains ends n
+  back n c =
+      let found = map_contained (far_node way) ys n c in
+      let both = filter_contained (in_bundle way node label) edges found.0 found.1 in
+      let told = in_parts way node label found.0 both.1 in
+      let same : found.0 ≡ edge_to way dim node label n = edge_told way dim node label found.0 (on found.0 both.0) told.0 told.1 ∙ ap (edge_to way dim node label) found.2 in
+      has_contained ends n ((exact n).1 (subst (Contains edges) same both.0))
+
+  -- where the set has the other nodes of those edges of a list, it has as many nodes as there are edges
+  pub ends_counted : length ends ≡ count_of way edges node label
+  ends_counted = rising_alike ends (map (far_node way) ys) (nodes_rising ends is) rising there back ∙ length-map ys (far_node way) ∙ counted way edges node label
+
+which_ordered : (which : Which) (parts : Parts) (box : List (List Bool)) (dim : ℕ) → Ordered Before (edges_of which parts box dim)
+which_ordered whichs.May parts box dim = ordered_filter Before (may_be parts box dim) (places parts) (places_ordered parts)
+which_ordered whichs.Must parts box dim = ordered_filter Before (must_be parts box dim) (places parts) (places_ordered parts)
+
+pub which_counted : (which : Which) (way : Way) (parts : Parts) (box : List (List Bool)) (dim node label : ℕ) (ends : List ℕ) → IsNodes ends → ((other : ℕ) → IsTrue (has ends other) ↔ Contains (edges_of which parts box dim) (edge_to way dim node label other)) → length ends ≡ count_of way (edges_of which parts box dim) node label
+which_counted which way parts box dim node label ends is exact = ends_counted way (edges_of which parts box dim) dim node label ends (which_ordered which parts box dim) (λ e c. (which_place which parts box dim e c).1) is exact
+
+-- ---- what the store tells
+
+-- an edge may be present, or must be
+abbrev pub IsThere : Which → Parts → List (List Bool) → Edge → Type 0
+IsThere whichs.May parts box e = May parts box e
+IsThere whichs.Must parts box e = Must parts box e
+
+which_exact : (which : Which) (parts : Parts) (box : List (List Bool)) (dim : ℕ) (e : Edge) → IsBox (shape parts) box → Contains (edges_of which parts box dim) e ↔ (IsPlaceOn parts dim e × IsThere which parts box e)
+which_exact whichs.May parts box dim e is = may_exact parts box dim e
+which_exact whichs.Must parts box dim e is = must_exact parts box dim e is
+
+module _ (which : Which) (s : State) (plane : Plane) (plane_is : IsPlane s.parts plane) (known : Known s) (node label : ℕ) (within : node < plane.nodes) (small : label < plane.labels) (other : ℕ) (b : Bool) where
+  pub out_told : IsTrue b ↔ ((other < nodes s.parts) × (node ≢ other) × IsThere which s.parts s.now (edge plane.dim.0 node label other)) → IsTrue b ↔ Contains (edges_of which s.parts s.now plane.dim.0) (edge plane.dim.0 node label other)
+  out_told exact = (
+    λ t. (let e = exact.0 t in (which_exact which s.parts s.now plane.dim.0 (edge plane.dim.0 node label other) known.is_box).1 (edge_on s.parts plane node label other plane_is within (let l = e.0 in let n = plane_is.nodes_is in omega (arith, l, n)) e.1 small, e.2)),
+    λ c.
+        let both = (which_exact which s.parts s.now plane.dim.0 (edge plane.dim.0 node label other) known.is_box).0 c in
+        let on = (plane_is.exact (edge plane.dim.0 node label other)).0 both.0 in
+        exact.1 ((let l = on.daughter in let n = plane_is.nodes_is in omega (arith, l, n)), on.differ, both.1),
+  )
+
+  pub in_told : IsTrue b ↔ ((other < nodes s.parts) × (other ≢ node) × IsThere which s.parts s.now (edge plane.dim.0 other label node)) → IsTrue b ↔ Contains (edges_of which s.parts s.now plane.dim.0) (edge plane.dim.0 other label node)
+  in_told exact = (
+    λ t. (let e = exact.0 t in (which_exact which s.parts s.now plane.dim.0 (edge plane.dim.0 other label node) known.is_box).1 (edge_on s.parts plane other label node plane_is (let l = e.0 in let n = plane_is.nodes_is in omega (arith, l, n)) within e.1 small, e.2)),
+    λ c.
+        let both = (which_exact which s.parts s.now plane.dim.0 (edge plane.dim.0 other label node) known.is_box).0 c in
+        let on = (plane_is.exact (edge plane.dim.0 other label node)).0 both.0 in
+        exact.1 ((let l = on.mother in let n = plane_is.nodes_is in omega (arith, l, n)), on.differ, both.1),
+  )
+
+-- the set has the other nodes of those edges of a bundle that may be, or must be
+abbrev pub TellsEnds : Which → State → ℕ → ℕ → ℕ → List ℕ → Way → Type 0
+TellsEnds which s dim node label ends way = (other : ℕ) → IsTrue (has ends other) ↔ Contains (edges_of which s.parts s.now dim) (edge_to way dim node label other)
+
+-- a label behind those of the dimension's edges
+pub none_behind : (which : Which) (way : Way) (parts : Parts) (box : List (List Bool)) (plane : Plane) (node label other : ℕ) → IsPlane parts plane → plane.labels ≤ label → Contains (edges_of which parts box plane.dim.0) (edge_to way plane.dim.0 node label other) → ⊥
+none_behind which way parts box plane node label other plane_is behind c =
+    let e : Edge = edge_to way plane.dim.0 node label other in
+    let on = (plane_is.exact e).0 (which_place which parts box plane.dim.0 e c) in
+    let l = on.label in
+    let same = label_is way plane.dim.0 node label other in
+    omega (arith, l, same, behind)

@@ -1,0 +1,87 @@
+-- Rising lists of numbers.
+use Rattle.std.proofs.Common.{◌≡◌, ℕ, ◌<◌, ◌≤◌, inl, inr, true, List, [], ◌∷◌, length, map, ◌+◌, sym, subst, arith}
+use Rattle.std.specs.Prelude.{Contains, ◌==◌}
+use Rattle.std.specs.List.{AllByRecursion}
+use Rattle.std.proofs.lemmas.Bool.{cases_eq, or_cases, eq-eqb, eqb-true, false≢true}
+use Rattle.xdg_nodeset.specs.Nodes.{has, Rises, IsNodes}
+use Rattle.xdg_problem.proofs.Looking.{or_left, or_right}
+use Rattle.xdg_problem.proofs.Ordered.{Ordered, each_contained, each_weaker, each_both, each_map, contains_head, contains_more, contains_cases, contains_none}
+
+abbrev pub AreRising : List ℕ → Type 0
+AreRising xs = Ordered (λ a b. a < b) xs
+
+-- a rising list of numbers that are all in another has no more of them
+pub rising_fewer : (s t : List ℕ) → AreRising s → AreRising t → ((n : ℕ) → Contains s n → Contains t n) → length s ≤ length t
+rising_fewer [] t so to within = omega arith
+rising_fewer (x ∷ s) [] so to within = absurd (contains_none x (within x (contains_head x s)))
+rising_fewer (x ∷ s) (y ∷ t) so to within = elim (cases_eq x y) [
+  | inl same ↦ (
+      let rest = rising_fewer s t so.1 to.1 (λ n c. elim (contains_cases y t n (within n (contains_more x s n c))) [
+        | inl e ↦ absurd (let l = each_contained (λ m. x < m) s n so.0 c in omega (arith, l, e, same))
+        | inr later ↦ later
+      ]) in
+      omega (arith, rest)
+      )
+  | inr other ↦ (
+      let above : y < x = elim (contains_cases y t x (within x (contains_head x s))) [
+        | inl e ↦ absurd (other (sym e))
+        | inr later ↦ each_contained (λ m. y < m) t x to.0 later
+      ] in
+      let rest = rising_fewer (x ∷ s) t so to.1 (λ n c. elim (contains_cases y t n (within n c)) [
+        | inl e ↦ absurd (elim (contains_cases x s n c) [
+          | inl f ↦ omega (arith, e, f, above)
+          | inr more ↦ (let l = each_contained (λ m. x < m) s n so.0 more in omega (arith, l, e, above))
+        ])
+        | inr later ↦ later
+      ]) in
+      omega (arith, rest)
+      )
+]
+
+-- rising lists of the same numbers are equally long
+pub rising_alike : (s t : List ℕ) → AreRising s → AreRising t → ((n : ℕ) → Contains s n → Contains t n) → ((n : ℕ) → Contains t n → Contains s n) → length s ≡ length t
+rising_alike s t so to there back = (let a = rising_fewer s t so to there in let b = rising_fewer t s to so back in omega (arith, a, b))
+
+-- ---- sets of nodes
+
+rises_from : (low bound : ℕ) (s : List ℕ) → Rises low bound s → AllByRecursion (λ n. low ≤ n) s
+rises_from low bound [] r = tt
+rises_from low bound (n ∷ s) r = (r.0, each_weaker (λ m. n + 1 ≤ m) (λ m. low ≤ m) s (λ m l. (let k = r.0 in omega (arith, l, k))) (rises_from (n + 1) bound s r.2))
+
+rises_ordered : (low bound : ℕ) (s : List ℕ) → Rises low bound s → AreRising s
+rises_ordered low bound [] r = tt
+rises_ordered low bound (n ∷ s) r = (each_weaker (λ m. n + 1 ≤ m) (λ m. n < m) s (λ m l. omega (arith, l)) (rises_from (n + 1) bound s r.2), rises_ordered (n + 1) bound s r.2)
+
+pub nodes_rising : (s : List ℕ) → IsNodes s → AreRising s
+nodes_rising s is = rises_ordered 0 128 s is.rises
+
+pub has_contained : (s : List ℕ) (n : ℕ) → has s n ≡ true → Contains s n
+has_contained [] n h = absurd (false≢true h)
+has_contained (m ∷ s) n h = elim (or_cases (m == n) (has s n) h) [
+  | inl here ↦ subst (Contains (m ∷ s)) (eqb-true m n here) (contains_head m s)
+  | inr there ↦ contains_more m s n (has_contained s n there)
+]
+
+pub contained_has : (s : List ℕ) (n : ℕ) → Contains s n → has s n ≡ true
+contained_has [] n c = absurd (contains_none n c)
+contained_has (m ∷ s) n c = elim (contains_cases m s n c) [
+  | inl here ↦ or_left (m == n) (has s n) (eq-eqb m n here)
+  | inr there ↦ or_right (m == n) (has s n) (contained_has s n there)
+]
+
+-- ---- lists told by a number of each element
+
+pub map_contained : {X : Type 0} (f : X → ℕ) (xs : List X) (n : ℕ) → Contains (map f xs) n → (x : X) × Contains xs x × (f x ≡ n)
+map_contained f [] n c = absurd (contains_none n c)
+map_contained f (x ∷ xs) n c = elim (contains_cases (f x) (map f xs) n c) [
+  | inl here ↦ (x, contains_head x xs, here)
+  | inr there ↦ (let more = map_contained f xs n there in (more.0, contains_more x xs more.0 more.1, more.2))
+]
+
+-- where a later element has a greater number
+pub map_rising : {X : Type 0} (R : X → X → Type 0) (P : X → Type 0) (f : X → ℕ) → ((x y : X) → P x → P y → R x y → f x < f y) → (xs : List X) → AllByRecursion P xs → Ordered R xs → AreRising (map f xs)
+map_rising R P f more [] all ordered = tt
+map_rising R P f more (x ∷ xs) all ordered = (
+  each_map (λ n. f x < n) f xs (each_weaker (λ y. P y × R x y) (λ y. f x < f y) xs (λ y both. more x y all.0 both.0 both.1) (each_both P (R x) xs all.1 ordered.0)),
+  map_rising R P f more xs all.1 ordered.1,
+)

@@ -1,0 +1,74 @@
+-- The rules of roots, step by step.
+use Rattle.std.proofs.Common.{◌≡◌, ℕ, ◌+◌, ◌<◌, ◌≤◌, inl, inr, Bool, List, [], ◌∷◌, length, get_or, sym, ◌∙◌, ap, subst, arith}
+use Rattle.std.specs.Prelude.{Contains}
+use Rattle.xdg_problem.specs.declared.analysis.Edge.{Edge}
+use Rattle.xdg_problem.specs.declared.parts.Group.{Group}
+use Rattle.xdg_problem.specs.declared.parts.Parts.{Parts}
+use Rattle.xdg_problem.specs.Arguments.{first_dim}
+use Rattle.xdg_problem.specs.Paths.{roots}
+use Rattle.xdg_problem.specs.Places.{below, nodes}
+use Rattle.xdg_problem.proofs.Ordered.{contains_head, each_contained, numbers_within}
+use Rattle.xdg_rules.proofs.Among.{root_contained}
+use Rattle.xdg_rules.specs.Rules.{IsPlaceOn, must_edges}
+use Rattle.xdg_store.specs.States.{State}
+use Rattle.xdg_propcore.specs.Passes.{Progress, Clears, EachValue}
+use Rattle.xdg_pgraph.specs.declared.finding.Roots.{Roots}
+use Rattle.xdg_pgraph.specs.declared.finding.Roots.TheVariants as rootss
+use Rattle.xdg_pgraph.specs.declared.found.Found.TheVariants as founds
+use Rattle.xdg_pgraph.specs.declared.plane.Plane.{Plane}
+use Rattle.xdg_pgraph.specs.Planes.{IsPlane}
+use Rattle.xdg_pgraph.specs.Seeking.{Aims, ToNode, RootsAre}
+use Rattle.xdg_pgraph.specs.Ruling.{RunsFor, ForRoot}
+use Rattle.xdg_pgraph.proofs.Ruled.{runs_none, runs_turn}
+
+-- a node that is the only root is a node
+pub root_within : (n : ℕ) (edges : List Edge) (found : Roots) (w : ℕ) → RootsAre (roots n edges) found → found ≡ rootss.One w → w < n
+root_within n edges found w are is =
+    let one : roots n edges ≡ w ∷ [] = subst (RootsAre (roots n edges)) is are in
+    let c = root_contained n edges w (subst (λ xs. Contains xs w) (sym one) (contains_head w [])) in
+    let l = each_contained (λ i. (0 ≤ i) × (i < 0 + n)) (below n) w (numbers_within 0 n) c.0 in
+    let r = l.1 in omega (arith, r)
+
+-- no value
+abbrev Never : List (List Bool) → ℕ → ℕ → Type 0
+Never box d v = ⊥
+
+module _ (plane : Plane) (p q : Progress) (old new : State) (plane_is : IsPlane old.parts plane) where
+  abbrev dim : ℕ
+  dim = plane.dim.0
+
+  -- what is cleared, where all of it is taken by the rule, and the rule takes nothing else
+  pub all_cleared : (TakesRule : Parts → Group → List (List Bool) → ℕ → ℕ → Type 0) (Aim : ℕ → ℕ → Type 0) → Clears Aim p old q new → ((group : Group) → first_dim group ≡ dim → (d v : ℕ) → Aim d v → TakesRule old.parts group old.now d v) → ((group : Group) → first_dim group ≡ dim → (d v : ℕ) → TakesRule old.parts group old.now d v → Aim d v) → RunsFor TakesRule dim p old q new
+  all_cleared TakesRule Aim c to from group is on takes = runs_turn Never (TakesRule old.parts group) Aim group p p q old old new (runs_none Never group p old (λ d v a. a)) c is (λ d v aim. takes old.now d v (to group on d v aim)) (λ d v a. inr (from group on d v a))
+
+  must_roots : (group : Group) → first_dim group ≡ dim → roots (nodes old.parts) (must_edges old.parts old.now (first_dim group)) ≡ roots plane.nodes (must_edges old.parts old.now dim)
+  must_roots group on = ap (λ k. roots (nodes old.parts) (must_edges old.parts old.now k)) on ∙ ap (λ n. roots n (must_edges old.parts old.now dim)) (sym plane_is.nodes_is)
+
+  pub no_root_runs : (found : Roots) → RootsAre (roots plane.nodes (must_edges old.parts old.now dim)) found → found ≡ rootss.Nothing → Clears EachValue p old q new → RunsFor ForRoot dim p old q new
+  no_root_runs found are is c = all_cleared ForRoot EachValue c (λ group on d v a. inr (must_roots group on ∙ subst (RootsAre (roots plane.nodes (must_edges old.parts old.now dim))) is are)) (λ group on d v a. tt)
+
+  module _ (w : ℕ) (one : roots plane.nodes (must_edges old.parts old.now dim) ≡ w ∷ []) where
+    aim_found : (group : Group) → first_dim group ≡ dim → (d v : ℕ) → Aims old.parts dim founds.More (ToNode w) d v → ForRoot old.parts group old.now d v
+    aim_found group on d v a = inl (record { place = a.place; is = subst (λ k. IsPlaceOn old.parts k a.place) (sym on) a.is; says = a.says; root = must_roots group on ∙ one ∙ ap (λ k. k ∷ []) (sym a.aimed) })
+
+    found_aim : (group : Group) → first_dim group ≡ dim → (d v : ℕ) → ForRoot old.parts group old.now d v → Aims old.parts dim founds.More (ToNode w) d v
+    found_aim group on d v a = elim a [
+      | inl r ↦ record { place = r.place; is = subst (λ k. IsPlaceOn old.parts k r.place) on r.is; aimed = ap (λ xs. get_or xs 0 0) (sym r.root ∙ must_roots group on ∙ one); other = tt; says = r.says }
+      | inr none ↦ absurd (let e = ap length (sym none ∙ must_roots group on ∙ one) in omega (arith, e))
+    ]
+
+    pub one_root_clears : Clears (Aims old.parts dim founds.More (ToNode w)) p old q new → RunsFor ForRoot dim p old q new
+    one_root_clears c = all_cleared ForRoot (Aims old.parts dim founds.More (ToNode w)) c aim_found found_aim
+
+  pub one_root_runs : (found : Roots) (w : ℕ) → RootsAre (roots plane.nodes (must_edges old.parts old.now dim)) found → found ≡ rootss.One w → Clears (Aims old.parts dim founds.More (ToNode w)) p old q new → RunsFor ForRoot dim p old q new
+  one_root_runs found w are is c = one_root_clears w (subst (RootsAre (roots plane.nodes (must_edges old.parts old.now dim))) is are) c
+
+module _ (plane : Plane) (p : Progress) (old : State) (plane_is : IsPlane old.parts plane) where
+  none_for_root : (many : 2 ≤ length (roots plane.nodes (must_edges old.parts old.now plane.dim.0))) (group : Group) → first_dim group ≡ plane.dim.0 → (d v : ℕ) → ForRoot old.parts group old.now d v → ⊥
+  none_for_root many group on d v a = elim a [
+    | inl r ↦ (let e = ap length (sym r.root ∙ must_roots plane p p old old plane_is group on) in omega (arith, e, many))
+    | inr none ↦ (let e = ap length (sym none ∙ must_roots plane p p old old plane_is group on) in omega (arith, e, many))
+  ]
+
+  pub more_roots_run : (found : Roots) → RootsAre (roots plane.nodes (must_edges old.parts old.now plane.dim.0)) found → found ≡ rootss.More → RunsFor ForRoot plane.dim.0 p old p old
+  more_roots_run found are is group is_group on takes = runs_none (ForRoot old.parts group) group p old (none_for_root (subst (RootsAre (roots plane.nodes (must_edges old.parts old.now plane.dim.0))) is are) group on)

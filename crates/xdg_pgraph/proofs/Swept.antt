@@ -1,0 +1,106 @@
+-- Where the rules of a principle use were run and took nothing the box is closed.
+use Rattle.std.proofs.Common.{◌≡◌, ℕ, ◌<◌, inl, inr, Bool, true, false, List, refl, sym, ◌∙◌, ap, subst, arith}
+use Rattle.std.specs.Prelude.{Contains}
+use Rattle.xdg_problem.specs.declared.parts.Group.{Group}
+use Rattle.xdg_problem.specs.declared.parts.Principle.{Principle}
+use Rattle.xdg_problem.specs.declared.parts.Principle.TheVariants as principles
+use Rattle.xdg_problem.specs.Arguments.{first_dim, label_count, truth_of}
+use Rattle.xdg_problem.specs.Boxes.{Has, IsBox, edge_decision}
+use Rattle.xdg_problem.specs.Places.{nodes}
+use Rattle.xdg_problem.specs.Problems.{IsGroup, IsProblem}
+use Rattle.xdg_problem.specs.Vectors.{shape}
+use Rattle.xdg_problem.proofs.PlaceOrder.{is_place}
+use Rattle.xdg_rules.specs.Rules.{IsClosedFor, TakesBy, must_edges}
+use Rattle.xdg_rules.proofs.Counting.{label_on}
+use Rattle.xdg_rules.proofs.Shrinking.{may_is, may_of, must_is}
+use Rattle.xdg_store.specs.States.{State, Known}
+use Rattle.xdg_propcore.specs.Passes.{Progress}
+use Rattle.xdg_propcore.specs.Sweeps.{Sweeps}
+use Rattle.xdg_propcore.proofs.Sweeping.{sweeps_skip}
+use Rattle.xdg_pgraph.specs.Bundles.{AreNodesDone, IsLabelDone}
+use Rattle.xdg_pgraph.specs.Closing.{closed_by_rules}
+use Rattle.xdg_pgraph.specs.Family.{IsOfFamily}
+use Rattle.xdg_pgraph.specs.Ruling.{RunsFor, ByTree, ByDag}
+
+module _ (group : Group) (p q : Progress) (old new : State) (is : IsGroup old.parts group) (family : IsOfFamily group.principle) (same : new.parts ≡ old.parts) (known : Known new) (dim : ℕ) (on : dim ≡ first_dim group) where
+  closes : (principle : Principle) → group.principle ≡ principle → ((d v : ℕ) → Has new.now d v → TakesBy principle old.parts group new.now d v → ⊥) → IsClosedFor old.parts group new.now
+  closes principle principle_is none = closed_by_rules old.parts group new.now (subst IsProblem same known.problem) (subst (λ parts. IsBox (shape parts) new.now) same known.is_box) family (subst (λ z. (d v : ℕ) → Has new.now d v → TakesBy z old.parts group new.now d v → ⊥) (sym principle_is) none)
+
+  -- the rules of a principle were run
+  ruled : (principle : Principle) → group.principle ≡ principle → RunsFor (TakesBy principle) dim p old q new → Sweeps group (IsClosedFor old.parts group) p old q new
+  ruled principle principle_is c =
+      let runs = c group is (sym on) (λ box d v rule. inr (subst (λ z. TakesBy z old.parts group box d v) (sym principle_is) rule)) in
+      record {
+        goes = runs.goes;
+        known = known;
+        done = λ quiet. closes principle principle_is (λ d v h rule. runs.done quiet d v rule h);
+      }
+
+  pub tree_swept : group.principle ≡ principles.Tree → RunsFor ByTree dim p old q new → Sweeps group (IsClosedFor old.parts group) p old q new
+  tree_swept principle_is c = ruled principles.Tree principle_is c
+
+  -- of a dag, whose truth values are those that were read
+  dag_by : (rooted disjoint : Bool) → rooted ≡ truth_of group.truths 0 → disjoint ≡ truth_of group.truths 1 → (box : List (List Bool)) (d v : ℕ) → ByDag rooted disjoint old.parts group box d v → TakesBy principles.Dag old.parts group box d v
+  dag_by rooted disjoint rooted_is disjoint_is box d v rule = elim rule [
+    | inl cycle ↦ inl cycle
+    | inr more ↦ elim more [
+      | inl root ↦ inr (inl (sym rooted_is ∙ root.0, root.1))
+      | inr label ↦ inr (inr (sym disjoint_is ∙ label.0, label.1))
+    ]
+  ]
+
+  by_dag : (rooted disjoint : Bool) → rooted ≡ truth_of group.truths 0 → disjoint ≡ truth_of group.truths 1 → (box : List (List Bool)) (d v : ℕ) → TakesBy principles.Dag old.parts group box d v → ByDag rooted disjoint old.parts group box d v
+  by_dag rooted disjoint rooted_is disjoint_is box d v rule = elim rule [
+    | inl cycle ↦ inl cycle
+    | inr more ↦ elim more [
+      | inl root ↦ inr (inl (rooted_is ∙ root.0, root.1))
+      | inr label ↦ inr (inr (disjoint_is ∙ label.0, label.1))
+    ]
+  ]
+
+  pub dag_swept : (rooted disjoint : Bool) → rooted ≡ truth_of group.truths 0 → disjoint ≡ truth_of group.truths 1 → group.principle ≡ principles.Dag → RunsFor (ByDag rooted disjoint) dim p old q new → Sweeps group (IsClosedFor old.parts group) p old q new
+  dag_swept rooted disjoint rooted_is disjoint_is principle_is c =
+      let runs = c group is (sym on) (λ box d v rule. inr (subst (λ z. TakesBy z old.parts group box d v) (sym principle_is) (dag_by rooted disjoint rooted_is disjoint_is box d v rule))) in
+      record {
+        goes = runs.goes;
+        known = known;
+        done = λ quiet. closes principles.Dag principle_is (λ d v h rule. runs.done quiet d v (by_dag rooted disjoint rooted_is disjoint_is new.now d v rule) h);
+      }
+
+  -- ---- valency
+
+  module _ (labels : ℕ) (labels_are : labels ≡ label_count old.parts (first_dim group)) (done : AreNodesDone (nodes old.parts) labels old.parts group new.now) where
+    at_label : (node label : ℕ) → node < nodes old.parts → label < label_count old.parts (first_dim group) → IsLabelDone old.parts group node label new.now
+    at_label node label within label_known = done node within label (omega (arith, label_known, labels_are))
+
+    no_valency : (d v : ℕ) → Has new.now d v → TakesBy principles.Valency old.parts group new.now d v → ⊥
+    no_valency d v h (inl r) =
+        let here = at_label r.node r.label r.within r.known in
+        let mine = subst (λ k. Has new.now k v) r.is h in
+        elim r.none [
+          | inl out ↦ here.0.entries v mine out
+          | inr into ↦ here.1.entries v mine into
+        ]
+    no_valency d v h (inr (inl r)) =
+        let place = is_place old.parts r.place r.is.0 in
+        let label_known = label_on old.parts (first_dim group) r.place place r.is.1 in
+        let present : Has new.now (edge_decision old.parts r.place) 0 = subst (Has new.now (edge_decision old.parts r.place)) r.says.1 (subst (λ k. Has new.now k v) r.says.0 h) in
+        let may = may_of old.parts new.now (first_dim group) r.place (record { place = r.is.0; dim_is = r.is.1; present = present }) in
+        elim r.full [
+          | inl out ↦ (at_label r.place.mother.0 r.place.label.0 place.mother label_known).0.edges d v h (inl (record { place = r.place; is = record { may = record { among = may; near = refl; label_is = refl }; free = r.free }; says = r.says; full = out }))
+          | inr into ↦ (at_label r.place.daughter.0 r.place.label.0 place.daughter label_known).1.edges d v h (inl (record { place = r.place; is = record { may = record { among = may; near = refl; label_is = refl }; free = r.free }; says = r.says; full = into }))
+        ]
+    no_valency d v h (inr (inr r)) =
+        let may = may_is old.parts new.now (first_dim group) r.place r.may in
+        let place = is_place old.parts r.place may.place in
+        let label_known = label_on old.parts (first_dim group) r.place place may.dim_is in
+        let absent : Has new.now (edge_decision old.parts r.place) 1 = subst (Has new.now (edge_decision old.parts r.place)) r.says.1 (subst (λ k. Has new.now k v) r.says.0 h) in
+        let free : Contains (must_edges old.parts new.now (first_dim group)) r.place → ⊥ = (λ c. (let must = must_is old.parts new.now (first_dim group) r.place c in let not = must.not_absent in let z : true ≡ false = sym absent ∙ not in cc)) in
+        elim r.needed [
+          | inl out ↦ (at_label r.place.mother.0 r.place.label.0 place.mother label_known).0.edges d v h (inr (record { place = r.place; is = record { may = record { among = r.may; near = refl; label_is = refl }; free = free }; says = r.says; needed = out }))
+          | inr into ↦ (at_label r.place.daughter.0 r.place.label.0 place.daughter label_known).1.edges d v h (inr (record { place = r.place; is = record { may = record { among = r.may; near = refl; label_is = refl }; free = free }; says = r.says; needed = into }))
+        ]
+
+  pub valency_swept : (labels count : ℕ) → labels ≡ label_count old.parts dim → count ≡ nodes old.parts → group.principle ≡ principles.Valency → Sweeps group (AreNodesDone count labels old.parts group) p old q new → Sweeps group (IsClosedFor old.parts group) p old q new
+  valency_swept labels count labels_are count_is principle_is sweep = sweeps_skip group (AreNodesDone count labels old.parts group) (IsClosedFor old.parts group) p old q new sweep
+      (λ done. closes principles.Valency principle_is (no_valency labels (labels_are ∙ ap (label_count old.parts) on) (subst (λ n. AreNodesDone n labels old.parts group new.now) count_is done)))

@@ -1,0 +1,32 @@
+use Rattle.std.proofs.Common.{◌≡◌, ◌≤◌, ◌↔◌, ◌∙◌, IsTrue, All, Contains, true, false, refl, sym, subst, arith}
+use Rattle.std.proofs.lemmas.Bool.{false≢true}
+use Rattle.xdg_pgraph.specs.Bundles.{numbers_of}
+use Rattle.xdg_pgraph.proofs.Allowed.{seen_start, seen_skip, seen_kept, seen_asked, seen_least, entry_end}
+use Rattle.xdg_pgraph.proofs.bounds.is_least.Goals as goal
+use Rattle.xdg_pgraph.proofs.bounds.is_least.Goals.{then-found, else-found}
+
+pub loop-place-init : goal.loop-place-init
+loop-place-init c = seen_start (λ n k. n ≤ k) c.args.store.now.now c.args.bundle.node (numbers_of c.args.bundle.way c.args.group.now c.args.bundle.node c.args.bundle.label) c.args.number
+
+pub loop-place-preserved-then-not-entry_in : goal.loop-place-preserved-then-not-entry_in
+loop-place-preserved-then-not-entry_in c = seen_skip (λ n k. n ≤ k) c.args.store.now.now c.args.bundle.node (numbers_of c.args.bundle.way c.args.group.now c.args.bundle.node c.args.bundle.label) c.args.number c.loop-place.found c.loop-place.place c.loop-place.invariant (λ has. (let t : false ≡ true = c.if-not-entry_in.ensures.exact.1 has in cc))
+
+pub returns-then-not-are_least : goal.returns-then-not-are_least
+returns-then-not-are_least c = (
+  λ t. absurd (false≢true t),
+  λ g. (let t : false ≡ true = c.if-not-are_least.ensures.1 (subst (All (λ k. c.args.number ≤ k)) (sym c.numbers_of-numbers.ensures) (g.least c.loop-place.place (c.if-not-entry_in.ensures.exact.0 refl))) in cc),
+)
+
+pub loop-place-preserved : goal.loop-place-preserved
+loop-place-preserved c =
+    let has = c.if-not-entry_in.ensures.exact.0 refl in
+    let all = subst (All (λ k. c.args.number ≤ k)) c.numbers_of-numbers.ensures (c.if-not-are_least.ensures.0 refl) in
+    elim c.if-found.branch [
+      | then-found w ↦ seen_kept (λ n k. n ≤ k) c.args.store.now.now c.args.bundle.node (numbers_of c.args.bundle.way c.args.group.now c.args.bundle.node c.args.bundle.label) c.args.number c.loop-place.found c.if-found.found c.loop-place.place c.loop-place.invariant has all w.if-found.true (w.found-is ∙ w.if-found.true)
+      | else-found w ↦ seen_asked (λ n k. n ≤ k) c.args.store.now.now c.args.bundle.node (numbers_of c.args.bundle.way c.args.group.now c.args.bundle.node c.args.bundle.label) c.args.number c.loop-place.found w.is_among-found.result c.if-found.found c.loop-place.place c.loop-place.invariant has all w.if-found.false (subst (λ row. IsTrue w.is_among-found.result ↔ Contains row c.args.number) c.numbers_of-numbers.ensures w.is_among-found.ensures) w.found-is
+    ]
+
+pub returns : goal.returns
+returns c = seen_least c.args.store.now.now c.args.bundle.node (numbers_of c.args.bundle.way c.args.group.now c.args.bundle.node c.args.bundle.label) c.args.number c.loop-place.found c.loop-place.place
+    (λ k has. entry_end c.args.store.now c.problem.result.now c.parts.result.now c.args.bundle.node k c.entry_count-place-end.result c.loop-place.place c.requires.known c.requires.node c.parts.ensures.same c.problem.ensures.parts c.entry_count-place-end.ensures.count (let n = c.loop-place-test.false in omega (arith, n)) has)
+    c.loop-place.invariant

@@ -1,0 +1,13 @@
+use Rattle.std.proofs.Common.{sym, subst}
+use Rattle.xdg_nodeset.specs.Nodes.{has}
+use Rattle.xdg_pgraph.specs.declared.found.Which.TheVariants as whichs
+use Rattle.xdg_pgraph.proofs.Ends.{TellsEnds, out_told, in_told}
+use Rattle.xdg_pgraph.proofs.bundle.must_ends.Goals as goal
+
+pub returns-in-Out : goal.returns-in-Out
+returns-in-Out c = subst (TellsEnds whichs.Must c.args.store.now c.args.plane.now.dim.0 c.args.bundle.node c.args.bundle.label c.daughters_must.result) (sym c.in-Out.is)
+    (λ other. out_told whichs.Must c.args.store.now c.args.plane.now c.requires.plane c.requires.known c.args.bundle.node c.args.bundle.label c.requires.node c.requires.label other (has c.daughters_must.result other) (c.daughters_must.ensures.exact other))
+
+pub returns-in-In : goal.returns-in-In
+returns-in-In c = subst (TellsEnds whichs.Must c.args.store.now c.args.plane.now.dim.0 c.args.bundle.node c.args.bundle.label c.mothers_must.result) (sym c.in-In.is)
+    (λ other. in_told whichs.Must c.args.store.now c.args.plane.now c.requires.plane c.requires.known c.args.bundle.node c.args.bundle.label c.requires.node c.requires.label other (has c.mothers_must.result other) (c.mothers_must.ensures.exact other))

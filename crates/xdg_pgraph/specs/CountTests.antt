@@ -1,0 +1,112 @@
+-- Where the rule of entries of valency takes nothing that remains no decided test of valency fails.
+use Rattle.std.proofs.Common.{◌≡◌, ℕ, ◌<◌, ◌≤◌, ◌+◌, ◌⊎◌, ◌&&◌, inl, inr, Bool, true, List, [], ◌∷◌, length, refl, sym, subst, arith}
+use Rattle.std.specs.Prelude.{All, Contains, filter, nat_le, ◌==◌, count_by}
+use Rattle.std.proofs.lemmas.Bool.{and_parts, and_from, eq-eqb, eqb-true, le-leb, false_from_ne_true, cases_lt}
+use Rattle.std.proofs.lemmas.List.Elements.{All-contains}
+use Rattle.xdg_problem.specs.declared.analysis.Edge.{Edge}
+use Rattle.xdg_problem.specs.declared.parts.Group.{Group}
+use Rattle.xdg_problem.specs.declared.parts.Parts.{Parts}
+use Rattle.xdg_problem.specs.Analyses.{IsPlace}
+use Rattle.xdg_problem.specs.Arguments.{first_dim, label_count}
+use Rattle.xdg_problem.specs.Boxes.{Has, entry_decision, edge_decision}
+use Rattle.xdg_problem.specs.Features.{in_row, out_row}
+use Rattle.xdg_problem.specs.Places.{nodes, places}
+use Rattle.xdg_problem.specs.Tests.{Test, Counts, looks_at, out_count, in_count}
+use Rattle.xdg_problem.proofs.FilterFacts.{count_of_filter}
+use Rattle.xdg_problem.proofs.Ordered.{contains_head, contains_more, contains_cases, contains_none}
+use Rattle.xdg_problem.proofs.PlaceOrder.{is_place}
+use Rattle.xdg_rules.specs.Rules.{has, IsDecided, HasNoneWithin, TestDecided, TestPasses, ValencyEntry, may_edges, must_edges, value_in}
+use Rattle.xdg_rules.proofs.Failing.{value_is}
+use Rattle.xdg_rules.proofs.Keeping.{less_length}
+use Rattle.xdg_rules.proofs.Shrinking.{may_be, must_be, must_test}
+
+-- a number of a list lies between two others, or none does
+some_within : (xs : List ℕ) (least most : ℕ) → ((k : ℕ) × Contains xs k × (least ≤ k) × (k ≤ most)) ⊎ HasNoneWithin xs least most
+some_within [] least most = inr (λ k c from to. contains_none k c)
+some_within (x ∷ xs) least most = elim (some_within xs least most) [
+  | inl some ↦ inl (some.0, contains_more x xs some.0 some.1, some.2, some.3)
+  | inr none ↦ elim (cases_lt x least) [
+    | inl before ↦ inr (λ k c l m. elim (contains_cases x xs k c) [ inl e ↦ omega (arith, e, l, before) | inr d ↦ none k d l m ])
+    | inr from ↦ elim (cases_lt most x) [
+      | inl past ↦ inr (λ k c l m. elim (contains_cases x xs k c) [ inl e ↦ omega (arith, e, m, past) | inr d ↦ none k d l m ])
+      | inr to ↦ inl (x, contains_head x xs, from, to)
+    ]
+  ]
+]
+
+module _ (parts : Parts) (group : Group) (box : List (List Bool)) where
+  abbrev dim : ℕ
+  dim = first_dim group
+
+  module _ (test : Test) (inside : Edge → Bool) (k : ℕ) (to : (e : Edge) → looks_at group test e ≡ true → (e.dim.0 ≡ dim) × (inside e ≡ true)) (from : (e : Edge) → IsPlace parts e → e.dim.0 ≡ dim → inside e ≡ true → k + 1 ≡ nodes parts → looks_at group test e ≡ true) (decided : All (λ e. looks_at group test e ≡ true → IsDecided box (edge_decision parts e)) (places parts)) where
+    -- the edges that are present at the places of the test
+    abbrev seen : Edge → Bool
+    seen e = looks_at group test e && has box (edge_decision parts e) 0
+
+    few : length (filter seen (places parts)) ≤ count_by inside (must_edges parts box dim)
+    few =
+        let less = less_length seen (λ e. must_be parts box dim e && inside e) (places parts) (λ e place h.
+        let both = and_parts (looks_at group test e) (has box (edge_decision parts e) 0) h in
+        let is = to e both.0 in
+        let one = All-contains (λ f. looks_at group test f ≡ true → IsDecided box (edge_decision parts f)) (places parts) e decided place both.0 in
+        and_from (must_be parts box dim e) (inside e) (must_test parts box dim e is.0 both.1 (false_from_ne_true (has box (edge_decision parts e) 1) (λ there. (let a = one.2 0 both.1 in let b = one.2 1 there in omega (arith, a, b))))) is.1) in
+        subst (λ m. length (filter seen (places parts)) ≤ m) (count_of_filter inside (must_be parts box dim) (places parts)) less
+
+    many : k + 1 ≡ nodes parts → count_by inside (may_edges parts box dim) ≤ length (filter seen (places parts))
+    many last =
+        let less = less_length (λ e. may_be parts box dim e && inside e) seen (places parts) (λ e place h.
+        let both = and_parts (may_be parts box dim e) (inside e) h in
+        let may = and_parts (e.dim.0 == dim) (has box (edge_decision parts e) 0) both.0 in
+        and_from (looks_at group test e) (has box (edge_decision parts e) 0) (from e (is_place parts e place) (eqb-true e.dim.0 dim may.0) both.1 last) may.1) in
+        subst (λ m. m ≤ length (filter seen (places parts))) (count_of_filter inside (may_be parts box dim) (places parts)) less
+
+    counts : (row : List ℕ) → (HasNoneWithin row (count_by inside (must_edges parts box dim)) (count_by inside (may_edges parts box dim)) → ⊥) → Counts (nodes parts) k row (length (filter seen (places parts)))
+    counts row some = elim (some_within row (count_by inside (must_edges parts box dim)) (count_by inside (may_edges parts box dim))) [
+      | inl x ↦ (
+        (x.0, x.1, (let f = few in let l = x.2 in omega (arith, f, l))),
+        λ last. (let f = few in let m = many last in let l = x.2 in let h = x.3 in let e : x.0 ≡ length (filter seen (places parts)) = omega (arith, f, m, l, h) in subst (Contains row) e x.1),
+      )
+      | inr none ↦ absurd (some none)
+    ]
+
+  abbrev KeepsEntries : Type 0
+  KeepsEntries = (d c : ℕ) → Has box d c → ValencyEntry parts group box d c → ⊥
+
+  value_has : (d : ℕ) → IsDecided box d → Has box d (value_in box d)
+  value_has d decided = subst (Has box d) (sym (value_is box d decided)) decided.1
+
+  pub out_passes : (v l k : ℕ) → v < nodes parts → l < label_count parts dim → TestDecided parts group box (out_count v l k) → KeepsEntries → TestPasses parts group box (out_count v l k)
+  out_passes v l k within known decided keeps =
+      let c : ℕ = value_in box (entry_decision v) in
+      counts (out_count v l k) (λ e. (e.mother.0 == v) && (e.label.0 == l)) k
+      (λ e h.
+      let a = and_parts ((e.dim.0 == dim) && (e.mother.0 == v) && (e.label.0 == l)) (nat_le e.daughter.0 k) h in
+      let b = and_parts ((e.dim.0 == dim) && (e.mother.0 == v)) (e.label.0 == l) a.0 in
+      let d = and_parts (e.dim.0 == dim) (e.mother.0 == v) b.0 in
+      (eqb-true e.dim.0 dim d.0, and_from (e.mother.0 == v) (e.label.0 == l) d.1 b.1))
+      (λ e place on h last.
+      let both = and_parts (e.mother.0 == v) (e.label.0 == l) h in
+      let below = place.daughter in
+      and_from ((e.dim.0 == dim) && (e.mother.0 == v) && (e.label.0 == l)) (nat_le e.daughter.0 k)
+      (and_from ((e.dim.0 == dim) && (e.mother.0 == v)) (e.label.0 == l) (and_from (e.dim.0 == dim) (e.mother.0 == v) (eq-eqb e.dim.0 dim on) both.0) both.1)
+      (le-leb e.daughter.0 k (omega (arith, below, last))))
+      decided.edges (out_row group v c l)
+      (λ none. keeps (entry_decision v) c (value_has (entry_decision v) decided.entry) (record { node = v; within = within; label = l; known = known; is = refl; none = inl none }))
+
+  pub in_passes : (v l k : ℕ) → v < nodes parts → l < label_count parts dim → TestDecided parts group box (in_count v l k) → KeepsEntries → TestPasses parts group box (in_count v l k)
+  in_passes v l k within known decided keeps =
+      let c : ℕ = value_in box (entry_decision v) in
+      counts (in_count v l k) (λ e. (e.daughter.0 == v) && (e.label.0 == l)) k
+      (λ e h.
+      let a = and_parts ((e.dim.0 == dim) && (e.daughter.0 == v) && (e.label.0 == l)) (nat_le e.mother.0 k) h in
+      let b = and_parts ((e.dim.0 == dim) && (e.daughter.0 == v)) (e.label.0 == l) a.0 in
+      let d = and_parts (e.dim.0 == dim) (e.daughter.0 == v) b.0 in
+      (eqb-true e.dim.0 dim d.0, and_from (e.daughter.0 == v) (e.label.0 == l) d.1 b.1))
+      (λ e place on h last.
+      let both = and_parts (e.daughter.0 == v) (e.label.0 == l) h in
+      let below = place.mother in
+      and_from ((e.dim.0 == dim) && (e.daughter.0 == v) && (e.label.0 == l)) (nat_le e.mother.0 k)
+      (and_from ((e.dim.0 == dim) && (e.daughter.0 == v)) (e.label.0 == l) (and_from (e.dim.0 == dim) (e.daughter.0 == v) (eq-eqb e.dim.0 dim on) both.0) both.1)
+      (le-leb e.mother.0 k (omega (arith, below, last))))
+      decided.edges (in_row group v c l)
+      (λ none. keeps (entry_decision v) c (value_has (entry_decision v) decided.entry) (record { node = v; within = within; label = l; known = known; is = refl; none = inr none }))

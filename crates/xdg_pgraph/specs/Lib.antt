@@ -1,0 +1,12 @@
+pub mod Planes
+pub mod Seeking
+pub mod Ruling
+pub mod Bundles
+pub mod Family
+pub mod Standing
+pub mod TreeTests
+pub mod CountTests
+pub mod Closing
+pub mod EdgesStay
+pub mod CountsStay
+pub mod Staying

@@ -1,0 +1,106 @@
+-- Edges that are looked for, and edges that are taken away.
+use Rattle.std.specs.Prelude.{◌≡◌, ◌≢◌, ◌≤◌, ℕ, Bool, List, [], ◌∷◌, length, Contains}
+use Rattle.xdg_problem.specs.declared.analysis.Edge.{Edge}
+use Rattle.xdg_problem.specs.declared.parts.Parts.{Parts}
+use Rattle.xdg_problem.specs.Paths.{mothers}
+use Rattle.xdg_judge.specs.Links.{In}
+use Rattle.xdg_rules.specs.Rules.{IsPlaceOn, SaysPresent, SaysAbsent, may_edges, must_edges}
+use Rattle.xdg_pgraph.specs.declared.found.Found.{Found}
+use Rattle.xdg_pgraph.specs.declared.found.Found.TheVariants as founds
+use Rattle.xdg_pgraph.specs.declared.found.Which.{Which}
+use Rattle.xdg_pgraph.specs.declared.found.Which.TheVariants as whichs
+use Rattle.xdg_pgraph.specs.declared.finding.Roots.{Roots}
+use Rattle.xdg_pgraph.specs.declared.finding.Roots.TheVariants as rootss
+
+-- the edges of a dimension that may be, or those that must be
+abbrev pub edges_of : Which → Parts → List (List Bool) → ℕ → List Edge
+edges_of whichs.May parts box dim = may_edges parts box dim
+edges_of whichs.Must parts box dim = must_edges parts box dim
+
+-- an edge from a node to another
+abbrev pub FromTo : ℕ → ℕ → Edge → Type 0
+FromTo u v e = (e.mother.0 ≡ u) × (e.daughter.0 ≡ v)
+
+-- an edge into a node
+abbrev pub ToNode : ℕ → Edge → Type 0
+ToNode v e = e.daughter.0 ≡ v
+
+-- one of the edges, from a node to another
+abbrev pub Joins : List Edge → ℕ → ℕ → Edge → Type 0
+Joins edges u v e = Contains edges e × FromTo u v e
+
+-- one of the edges, into a node
+abbrev pub Into : List Edge → ℕ → Edge → Type 0
+Into edges v e = Contains edges e × ToNode v e
+
+-- what was found, of the edges that are looked for
+abbrev pub Finds : (Edge → Type 0) → Found → Type 0
+Finds P founds.Nothing = (e : Edge) → P e → ⊥
+Finds P (founds.One f) = P f × ((e : Edge) → P e → f ≡ e)
+Finds P founds.More = (f : Edge) × (g : Edge) × P f × P g × (f ≡ g → ⊥)
+
+abbrev pub found_with : Found → Edge → Found
+found_with founds.Nothing e = founds.One e
+found_with (founds.One f) e = founds.More
+found_with founds.More e = founds.More
+
+abbrev pub found_merged : Found → Found → Found
+found_merged founds.Nothing other = other
+found_merged (founds.One f) other = found_with other f
+found_merged founds.More other = founds.More
+
+-- an edge other than this one was found
+abbrev pub IsOther : Found → Edge → Type 0
+IsOther founds.Nothing e = ⊥
+IsOther (founds.One f) e = f ≡ e → ⊥
+IsOther founds.More e = Unit {0}
+
+-- the value that says that an edge of the dimension is present, beside which another edge was found
+pub record Aims (parts : Parts) (dim : ℕ) (others : Found) (P : Edge → Type 0) (d v : ℕ) : Type 0 where
+  pub place : Edge
+  pub is : IsPlaceOn parts dim place
+  pub aimed : P place
+  pub other : IsOther others place
+  pub says : SaysPresent parts place d v
+
+-- no node, one alone, or more
+abbrev pub RootsAre : List ℕ → Roots → Type 0
+RootsAre xs rootss.Nothing = xs ≡ []
+RootsAre xs (rootss.One v) = xs ≡ v ∷ []
+RootsAre xs rootss.More = 2 ≤ length xs
+
+abbrev pub roots_with : Roots → ℕ → Roots
+roots_with rootss.Nothing v = rootss.One v
+roots_with (rootss.One u) v = rootss.More
+roots_with rootss.More v = rootss.More
+
+-- the value that says that an edge is absent, which is the only one of the edges into a node
+pub record Only (parts : Parts) (edges : List Edge) (node d v : ℕ) : Type 0 where
+  pub place : Edge
+  pub among : Contains edges place
+  pub into : place.daughter.0 ≡ node
+  pub one : mothers edges node ≡ 1
+  pub says : SaysAbsent parts place d v
+
+-- one of the edges leads from a node to another
+abbrev pub Steps : List Edge → ℕ → ℕ → Type 0
+Steps edges u v = (e : Edge) × Joins edges u v e
+
+-- the table leads from the daughter of an edge back to its mother
+abbrev pub Backs : List (List ℕ) → Edge → Type 0
+Backs far e = In far e.daughter.0 e.mother.0
+
+-- and the edge leaves a node
+abbrev pub BacksFrom : List (List ℕ) → ℕ → Edge → Type 0
+BacksFrom far u e = (e.mother.0 ≡ u) × Backs far e
+
+-- the value that says that an edge from a node to another is present, beside which one of some edges leads there
+pub record Doubled (parts : Parts) (dim : ℕ) (edges : List Edge) (u v d x : ℕ) : Type 0 where
+  pub place : Edge
+  pub is : IsPlaceOn parts dim place
+  pub from : FromTo u v place
+  pub other : Edge
+  pub among : Contains edges other
+  pub differs : place ≢ other
+  pub joins : FromTo u v other
+  pub says : SaysPresent parts place d x

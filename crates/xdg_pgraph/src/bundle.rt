@@ -1,0 +1,141 @@
+//! The edges with a label out of a node, or into it.
+
+ghost use Rattle.std.specs.Prelude.{◌≡◌, ◌<◌, ◌≤◌, ◌↔◌, ℕ, IsTrue, [], Contains, length, slice_index_or};
+ghost use Rattle.xdg_nodeset.specs.Nodes.{has};
+ghost use Rattle.xdg_problem.specs.Places.{nodes};
+ghost use Rattle.xdg_problem.specs.Problems.{IsProblem};
+ghost use Rattle.xdg_store.specs.States.{Known};
+ghost use Rattle.xdg_pgraph.specs.Bundles.{argument_of, count_of, edge_to, numbers_of};
+ghost use Rattle.xdg_pgraph.specs.Planes.{IsPlane};
+ghost use Rattle.xdg_pgraph.specs.Seeking.{edges_of};
+
+use crate::found::Which;
+use crate::plane::Plane;
+use xdg_base::{LabelId, NodeId};
+use xdg_nodeset::NodeSet;
+use xdg_problem::{Edge, Group, Parts};
+use xdg_store::Store;
+
+/// Out of a node, or into it.
+#[derive(Clone, Copy, Debug)]
+pub(crate) enum Way {
+    Out,
+    In,
+}
+
+/// The edges with a label out of a node, or into it.
+#[derive(Clone, Copy, Debug)]
+pub(crate) struct Bundle {
+    pub way: Way,
+    pub node: u8,
+    pub label: u8,
+}
+
+impl Bundle {
+    /// The edge to another node, or from it.
+    pub(crate) fn edge(self, plane: &Plane, other: u8) -> Edge
+        ensures { result ≡ edge_to self.way plane.now.dim.0 self.node self.label other }
+    {
+        match self.way {
+            Way::Out => plane.edge(self.node, self.label, other),
+            Way::In => plane.edge(other, self.label, self.node),
+        }
+    }
+}
+
+/// The place of the feature that says how many edges there may be.
+fn argument(way: Way) -> usize
+    ensures { result ≡ argument_of way }
+{
+    match way {
+        Way::Out => 1,
+        Way::In => 0,
+    }
+}
+
+/// The numbers of edges that a candidate of the node allows.
+pub(crate) fn numbers_of(group: &Group, bundle: Bundle, place: u16) -> &[u16]
+    ensures { result.now ≡ numbers_of bundle.way group.now bundle.node bundle.label place }
+{
+    let Some(candidates) = group.feats.get(bundle.node as usize) else {
+        return &[];
+    };
+    let Some(features) = candidates.get(place as usize) else {
+        return &[];
+    };
+    let Some(feature) = features.get(argument(bundle.way)) else {
+        return &[];
+    };
+    let Some(numbers) = feature.rows.get(bundle.label as usize) else {
+        return &[];
+    };
+    numbers.as_slice()
+}
+
+/// How many candidates a node has.
+pub(crate) fn entry_count(parts: &Parts, node: u8) -> u16
+    requires problem { IsProblem parts.now }
+    requires node { node < nodes parts.now }
+    ensures count { result ≡ length (slice_index_or parts.now.candidates node []) }
+    ensures small { result ≤ 1024 }
+{
+    parts.candidates.as_slice()[node as usize].len() as u16
+}
+
+/// The other nodes of the edges of a bundle that may be present.
+fn may_ends(store: &Store, plane: &Plane, bundle: Bundle) -> NodeSet
+    requires plane { IsPlane store.now.parts plane.now }
+    requires known { Known store.now }
+    requires node { bundle.node < plane.now.nodes }
+    requires label { bundle.label < plane.now.labels }
+    ensures { (other : ℕ) → IsTrue (has result other) ↔ Contains (edges_of Which.May store.now.parts store.now.now plane.now.dim.0) (edge_to bundle.way plane.now.dim.0 bundle.node bundle.label other) }
+{
+    let node = NodeId(bundle.node);
+    let label = LabelId(bundle.label);
+    match bundle.way {
+        Way::Out => store.daughters_may(plane.dim, node, label),
+        Way::In => store.mothers_may(plane.dim, node, label),
+    }
+}
+
+/// The other nodes of those that must be present.
+fn must_ends(store: &Store, plane: &Plane, bundle: Bundle) -> NodeSet
+    requires plane { IsPlane store.now.parts plane.now }
+    requires known { Known store.now }
+    requires node { bundle.node < plane.now.nodes }
+    requires label { bundle.label < plane.now.labels }
+    ensures { (other : ℕ) → IsTrue (has result other) ↔ Contains (edges_of Which.Must store.now.parts store.now.now plane.now.dim.0) (edge_to bundle.way plane.now.dim.0 bundle.node bundle.label other) }
+{
+    let node = NodeId(bundle.node);
+    let label = LabelId(bundle.label);
+    match bundle.way {
+        Way::Out => store.daughters_must(plane.dim, node, label),
+        Way::In => store.mothers_must(plane.dim, node, label),
+    }
+}
+
+/// The other nodes of the edges of a bundle; a dimension without edges has none.
+pub(crate) fn ends(store: &Store, plane: &Plane, which: Which, bundle: Bundle) -> NodeSet
+    requires plane { IsPlane store.now.parts plane.now }
+    requires known { Known store.now }
+    requires node { bundle.node < plane.now.nodes }
+    ensures { (other : ℕ) → IsTrue (has result other) ↔ Contains (edges_of which store.now.parts store.now.now plane.now.dim.0) (edge_to bundle.way plane.now.dim.0 bundle.node bundle.label other) }
+{
+    if bundle.label >= plane.labels {
+        return NodeSet::empty();
+    }
+    match which {
+        Which::May => may_ends(store, plane, bundle),
+        Which::Must => must_ends(store, plane, bundle),
+    }
+}
+
+/// How many edges of a bundle may be present, or must be.
+pub(crate) fn count_of(store: &Store, plane: &Plane, which: Which, bundle: Bundle) -> usize
+    requires plane { IsPlane store.now.parts plane.now }
+    requires known { Known store.now }
+    requires node { bundle.node < plane.now.nodes }
+    ensures { result ≡ count_of bundle.way (edges_of which store.now.parts store.now.now plane.now.dim.0) bundle.node bundle.label }
+{
+    ends(store, plane, which, bundle).len()
+}

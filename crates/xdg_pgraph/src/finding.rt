@@ -1,0 +1,101 @@
+//! Looking for edges.
+
+ghost use Rattle.std.specs.Prelude.{◌≡◌, ◌≢◌, ◌<◌, ◌↔◌, IsTrue, Contains};
+ghost use Rattle.xdg_problem.specs.Analyses.{IsPlace};
+ghost use Rattle.xdg_problem.specs.Paths.{roots};
+ghost use Rattle.xdg_store.specs.States.{Known};
+ghost use Rattle.xdg_pgraph.specs.Seeking.{Finds, Into, Joins, RootsAre, edges_of, roots_with};
+ghost use Rattle.xdg_pgraph.specs.Planes.{IsPlane};
+
+use crate::found::{Found, Which};
+use crate::plane::Plane;
+use xdg_problem::Edge;
+use xdg_store::Store;
+
+/// Whether an edge may be present, or must be.
+fn is_among(store: &Store, which: Which, edge: Edge) -> bool
+    requires place { IsPlace store.now.parts edge }
+    requires known { Known store.now }
+    ensures { IsTrue result ↔ Contains (edges_of which store.now.parts store.now.now edge.dim.0) edge }
+{
+    match which {
+        Which::May => store.may(edge),
+        Which::Must => store.must(edge),
+    }
+}
+
+/// The edges from a node to another.
+pub(crate) fn joined(store: &Store, plane: &Plane, which: Which, mother: u8, daughter: u8) -> Found
+    requires plane { IsPlane store.now.parts plane.now }
+    requires known { Known store.now }
+    requires mother { mother < plane.now.nodes }
+    requires daughter { daughter < plane.now.nodes }
+    requires differ { mother ≢ daughter }
+    ensures { Finds (Joins (edges_of which store.now.parts store.now.now plane.now.dim.0) mother daughter) result }
+{
+    let mut found = Found::Nothing;
+    for label in 0..plane.labels {
+        let edge = plane.edge(mother, label, daughter);
+        if is_among(store, which, edge) {
+            found = found.with(edge);
+        }
+    }
+    found
+}
+
+/// The edges into a node.
+pub(crate) fn entering(store: &Store, plane: &Plane, which: Which, daughter: u8) -> Found
+    requires plane { IsPlane store.now.parts plane.now }
+    requires known { Known store.now }
+    requires daughter { daughter < plane.now.nodes }
+    ensures { Finds (Into (edges_of which store.now.parts store.now.now plane.now.dim.0) daughter) result }
+{
+    let mut found = Found::Nothing;
+    for mother in 0..plane.nodes {
+        if mother != daughter {
+            found = found.merged(joined(store, plane, which, mother, daughter));
+        }
+    }
+    found
+}
+
+/// Nodes without mother.
+#[derive(Clone, Copy, Debug)]
+pub(crate) enum Roots {
+    /// No node.
+    Nothing,
+    /// This node alone.
+    One(u8),
+    /// More than one node.
+    More,
+}
+
+impl Roots {
+    /// One node more.
+    fn with(self, node: u8) -> Roots
+        ensures { result ≡ roots_with self node }
+    {
+        match self {
+            Roots::Nothing => Roots::One(node),
+            Roots::One(_) => Roots::More,
+            Roots::More => Roots::More,
+        }
+    }
+}
+
+/// The nodes into which no edge leads.
+pub(crate) fn find_roots(store: &Store, plane: &Plane, which: Which) -> Roots
+    requires plane { IsPlane store.now.parts plane.now }
+    requires known { Known store.now }
+    ensures { RootsAre (roots plane.now.nodes (edges_of which store.now.parts store.now.now plane.now.dim.0)) result }
+{
+    let mut nodes = Roots::Nothing;
+    for node in 0..plane.nodes {
+        match entering(store, plane, which, node) {
+            Found::Nothing => nodes = nodes.with(node),
+            Found::One(_) => {}
+            Found::More => {}
+        }
+    }
+    nodes
+}

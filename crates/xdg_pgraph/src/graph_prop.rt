@@ -1,0 +1,105 @@
+//! The propagator.
+
+ghost use Rattle.std.specs.Prelude.{◌≡◌, ◌<◌, ◌+◌, ◌-◌, ◌^◌, ◌↔◌, ℕ, Bool, List, IfOk, length, min};
+ghost use Rattle.xdg_problem.specs.declared.parts.Parts.{Parts as Sentence};
+ghost use Rattle.xdg_problem.specs.Arguments.{first_dim};
+ghost use Rattle.xdg_problem.specs.Problems.{IsGroup};
+ghost use Rattle.xdg_rules.specs.Rules.{IsClosedFor};
+ghost use Rattle.xdg_store.specs.States.{Known};
+ghost use Rattle.xdg_propcore.specs.Kinds.{AreNamed};
+ghost use Rattle.xdg_propcore.specs.Steps.{Extends, Keeps, Moves};
+ghost use Rattle.xdg_propcore.specs.Sweeps.{Sweeps};
+ghost use Rattle.xdg_propcore.specs.Uses.{IsClosedBy, StandsFor, StandsIn, use_at};
+ghost use Rattle.xdg_pgraph.specs.Family.{IsOfFamily, kinds_of};
+ghost use Rattle.xdg_pgraph.specs.Standing.{stands_for};
+ghost use Rattle.xdg_pgraph.specs.Staying.{stays_still};
+
+use crate::label::{take_dag, take_tree};
+use crate::plane::{Plane, first_dim, label_count, truth_of};
+use crate::valency::take_valency;
+use xdg_base::OutOfMemory;
+use xdg_problem::{Group, Parts, Principle, Problem};
+use xdg_propcore::{Moved, Pass, Propagator, Wake};
+use xdg_store::Store;
+
+/// The propagator of a use of graph, entries, tree, dag or valency. The first two take nothing.
+#[derive(Debug, Drop)]
+pub struct GraphProp {
+    number: usize,
+    wakes: Wake,
+}
+
+/// The kinds of values at which a principle use looks.
+fn kinds_of(group: &Group) -> Wake
+    requires dim { first_dim group.now < 8 }
+    requires family { IsOfFamily group.now.principle }
+    ensures { result.0 ≡ kinds_of group.now.principle (first_dim group.now) }
+{
+    let edges = Wake::edges(first_dim(group));
+    match group.principle {
+        Principle::Tree => edges,
+        Principle::Dag => edges,
+        Principle::Valency => Wake(Wake::entries().0 | edges.0),
+        _ => Wake(0),
+    }
+}
+
+/// Takes what a principle use takes.
+fn sweep(store: &mut Store, pass: &mut Pass, parts: &Parts, group: &Group)
+    requires parts { parts.now ≡ store.old.parts }
+    requires known { Known store.old }
+    requires group { IsGroup store.old.parts group.now }
+    requires family { IsOfFamily group.now.principle }
+    ensures { Sweeps group.now (IsClosedFor store.old.parts group.now) pass.old store.old pass.new store.new }
+{
+    let plane = Plane::of(parts, group);
+    match group.principle {
+        Principle::Tree => take_tree(store, pass, &plane),
+        Principle::Dag => take_dag(store, pass, &plane, truth_of(group, 0), truth_of(group, 1)),
+        Principle::Valency => {
+            take_valency(store, pass, &plane, group, label_count(parts, &plane));
+        }
+        _ => {}
+    }
+}
+
+impl GraphProp {
+    /// The propagator of the principle use of a problem with a number, from 0, one of graph, entries, tree, dag or valency. It
+    /// takes no memory, so it gives no error.
+    pub fn of(problem: &Problem, group: usize) -> Result<GraphProp, OutOfMemory>
+        requires within { group < length problem.now.groups }
+        requires family { IsOfFamily (use_at problem.now group).principle }
+        ensures { IfOk result (λ p. StandsFor (stands_for p) problem.now group) }
+    {
+        let parts = problem.parts();
+        Ok(GraphProp {
+            number: group,
+            wakes: kinds_of(&parts.groups.as_slice()[group]),
+        })
+    }
+}
+
+impl Propagator for GraphProp {
+    ghost stands = { stands_for };
+
+    ghost still = { λ p parts box. IsClosedBy (stands_for p) parts box };
+
+    ghost kinds = { λ p. p.wakes.0 };
+
+    fn wakes(&self) -> Wake {
+        self.wakes
+    }
+
+    fn step(&self, store: &mut Store) -> Moved {
+        store.turn();
+        let parts = store.problem().parts();
+        let group = &parts.groups.as_slice()[self.number];
+        let mut pass = Pass::start();
+        sweep(store, &mut pass, parts, group);
+        pass.moved()
+    }
+
+    ghost still_closed = { λ p parts box problem is still. still };
+
+    ghost stays_still = { stays_still };
+}

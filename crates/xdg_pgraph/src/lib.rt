@@ -1,0 +1,16 @@
+//! Propagators of the principles that look at the edges of one dimension: graph, entries, tree, dag and valency.
+#![tactic(auto)]
+
+mod bounds;
+mod bundle;
+mod finding;
+mod found;
+mod graph_prop;
+mod label;
+mod plane;
+mod reach;
+mod taking;
+mod tree;
+mod valency;
+
+pub use graph_prop::GraphProp;

@@ -1,0 +1,216 @@
+//! The rules of valency: the numbers of edges with a label out of a node and into it are some that its entry allows.
+
+ghost use Rattle.std.specs.Prelude.{◌≡◌, ◌<◌, ℕ, cond, true};
+ghost use Rattle.xdg_nodeset.specs.Nodes.{has};
+ghost use Rattle.xdg_problem.specs.declared.parts.Principle.TheVariants as principles;
+ghost use Rattle.xdg_problem.specs.Analyses.{IsPlace};
+ghost use Rattle.xdg_problem.specs.Arguments.{first_dim, label_count};
+ghost use Rattle.xdg_problem.specs.Boxes.{edge_decision};
+ghost use Rattle.xdg_problem.specs.Places.{nodes};
+ghost use Rattle.xdg_problem.specs.Problems.{IsGroup};
+ghost use Rattle.xdg_store.specs.States.{Known};
+ghost use Rattle.xdg_propcore.specs.Passes.{Clears};
+ghost use Rattle.xdg_propcore.specs.Sweeps.{Sweeps};
+ghost use Rattle.xdg_pgraph.specs.Bundles.{AreLabelsDone, AreNodesDone, Barred, EdgeAt, IsBundleDone, IsLabelDone, OpenTo, edge_to};
+ghost use Rattle.xdg_pgraph.specs.Planes.{IsPlane};
+
+use crate::bounds::{has_none_within, is_greatest, is_least};
+use crate::bundle::{Bundle, Way, count_of, ends, entry_count, numbers_of};
+use crate::found::Which;
+use crate::plane::Plane;
+use xdg_base::NodeId;
+use xdg_nodeset::NodeSet;
+use xdg_problem::{Edge, Group};
+use xdg_propcore::Pass;
+use xdg_store::Store;
+
+/// Takes the entries of a node away that allow no number between two counts.
+fn take_entries(
+    store: &mut Store,
+    pass: &mut Pass,
+    group: &Group,
+    bundle: Bundle,
+    least: usize,
+    most: usize,
+)
+    requires known { Known store.old }
+    requires node { bundle.node < nodes store.old.parts }
+    ensures clears { Clears (Barred store.old.parts group.now bundle least most) pass.old store.old pass.new store.new }
+    ensures known { Known store.new }
+{
+    for place in 0..entry_count(store.problem().parts(), bundle.node) {
+        if !has_none_within(numbers_of(group, bundle, place), least, most) {
+            continue;
+        }
+        pass.remove_entry(store, NodeId(bundle.node), place);
+    }
+}
+
+/// Takes away that an edge is present, or that it is absent.
+fn take_value(store: &mut Store, pass: &mut Pass, edge: Edge, present: bool)
+    requires place { IsPlace store.old.parts edge }
+    ensures clears { Clears (λ d v. (d ≡ edge_decision store.old.parts edge) × (v ≡ cond present 0 1)) pass.old store.old pass.new store.new }
+    ensures known { Known store.new }
+{
+    if present {
+        pass.forbid(store, edge);
+        return;
+    }
+    pass.force(store, edge);
+}
+
+/// Takes away that the edges to some nodes are present, or that they are absent.
+fn take_open(
+    store: &mut Store,
+    pass: &mut Pass,
+    plane: &Plane,
+    bundle: Bundle,
+    others: NodeSet,
+    present: bool,
+)
+    requires plane { IsPlane store.old.parts plane.now }
+    requires known { Known store.old }
+    requires places { (other : ℕ) → has others other ≡ true → IsPlace store.old.parts (edge_to bundle.way plane.now.dim.0 bundle.node bundle.label other) }
+    ensures clears { Clears (OpenTo store.old.parts plane.now.dim.0 bundle others (cond present 0 1)) pass.old store.old pass.new store.new }
+    ensures known { Known store.new }
+{
+    for other in 0..plane.nodes {
+        if !others.contains(NodeId(other)) {
+            continue;
+        }
+        take_value(store, pass, bundle.edge(plane, other), present);
+    }
+}
+
+/// The same, where it is wanted.
+fn take_open_if(
+    store: &mut Store,
+    pass: &mut Pass,
+    plane: &Plane,
+    bundle: Bundle,
+    others: NodeSet,
+    present: bool,
+    wanted: bool,
+)
+    requires plane { IsPlane store.old.parts plane.now }
+    requires known { Known store.old }
+    requires places { (other : ℕ) → has others other ≡ true → IsPlace store.old.parts (edge_to bundle.way plane.now.dim.0 bundle.node bundle.label other) }
+    ensures clears { Clears (λ d v. (wanted ≡ true) × OpenTo store.old.parts plane.now.dim.0 bundle others (cond present 0 1) d v) pass.old store.old pass.new store.new }
+    ensures known { Known store.new }
+{
+    if !wanted {
+        return;
+    }
+    take_open(store, pass, plane, bundle, others, present);
+}
+
+/// Takes away that further edges of a bundle are present, where as many must be as the entries allow at most, and that they
+/// are absent, where only as many may be as the entries want at least.
+fn take_edges(store: &mut Store, pass: &mut Pass, plane: &Plane, group: &Group, bundle: Bundle)
+    requires plane { IsPlane store.old.parts plane.now }
+    requires dim { plane.now.dim.0 ≡ first_dim group.now }
+    requires known { Known store.old }
+    requires node { bundle.node < plane.now.nodes }
+    ensures clears { Clears (EdgeAt bundle.way store.old.parts group.now store.old.now bundle.node bundle.label) pass.old store.old pass.new store.new }
+    ensures known { Known store.new }
+{
+    let must = ends(store, plane, Which::Must, bundle);
+    let may = ends(store, plane, Which::May, bundle);
+    let open = may.minus(&must);
+    if open.len() == 0 {
+        return;
+    }
+    let full = is_greatest(store, group, bundle, must.len());
+    let needed = is_least(store, group, bundle, may.len());
+    take_open_if(store, pass, plane, bundle, open, true, full);
+    take_open_if(store, pass, plane, bundle, open, false, needed);
+}
+
+/// Takes what valency takes at a bundle.
+fn take_bundle(store: &mut Store, pass: &mut Pass, plane: &Plane, group: &Group, bundle: Bundle)
+    requires plane { IsPlane store.old.parts plane.now }
+    requires dim { plane.now.dim.0 ≡ first_dim group.now }
+    requires known { Known store.old }
+    requires group { IsGroup store.old.parts group.now }
+    requires principle { group.now.principle ≡ principles.Valency }
+    requires node { bundle.node < plane.now.nodes }
+    requires label { bundle.label < label_count store.old.parts plane.now.dim.0 }
+    ensures { Sweeps group.now (IsBundleDone bundle.way store.old.parts group.now bundle.node bundle.label) pass.old store.old pass.new store.new }
+{
+    let least = count_of(store, plane, Which::Must, bundle);
+    let most = count_of(store, plane, Which::May, bundle);
+    take_entries(store, pass, group, bundle, least, most);
+    if least == most {
+        return;
+    }
+    take_edges(store, pass, plane, group, bundle);
+}
+
+/// Takes what valency takes at a node and a label.
+fn take_label(store: &mut Store, pass: &mut Pass, plane: &Plane, group: &Group, node: u8, label: u8)
+    requires plane { IsPlane store.old.parts plane.now }
+    requires dim { plane.now.dim.0 ≡ first_dim group.now }
+    requires known { Known store.old }
+    requires group { IsGroup store.old.parts group.now }
+    requires principle { group.now.principle ≡ principles.Valency }
+    requires node { node < plane.now.nodes }
+    requires label { label < label_count store.old.parts plane.now.dim.0 }
+    ensures { Sweeps group.now (IsLabelDone store.old.parts group.now node label) pass.old store.old pass.new store.new }
+{
+    let out = Bundle {
+        way: Way::Out,
+        node,
+        label,
+    };
+    take_bundle(store, pass, plane, group, out);
+    let into = Bundle {
+        way: Way::In,
+        node,
+        label,
+    };
+    take_bundle(store, pass, plane, group, into);
+}
+
+/// Takes what valency takes at a node and all labels.
+fn take_labels(
+    store: &mut Store,
+    pass: &mut Pass,
+    plane: &Plane,
+    group: &Group,
+    node: u8,
+    labels: u8,
+)
+    requires plane { IsPlane store.old.parts plane.now }
+    requires dim { plane.now.dim.0 ≡ first_dim group.now }
+    requires known { Known store.old }
+    requires group { IsGroup store.old.parts group.now }
+    requires principle { group.now.principle ≡ principles.Valency }
+    requires node { node < plane.now.nodes }
+    requires labels { labels ≡ label_count store.old.parts plane.now.dim.0 }
+    ensures { Sweeps group.now (AreLabelsDone labels store.old.parts group.now node) pass.old store.old pass.new store.new }
+{
+    for label in 0..labels {
+        take_label(store, pass, plane, group, node, label);
+    }
+}
+
+/// Takes what valency takes at all nodes, on a dimension with so many labels.
+pub(crate) fn take_valency(
+    store: &mut Store,
+    pass: &mut Pass,
+    plane: &Plane,
+    group: &Group,
+    labels: u8,
+)
+    requires plane { IsPlane store.old.parts plane.now }
+    requires dim { plane.now.dim.0 ≡ first_dim group.now }
+    requires known { Known store.old }
+    requires group { IsGroup store.old.parts group.now }
+    requires principle { group.now.principle ≡ principles.Valency }
+    requires labels { labels ≡ label_count store.old.parts plane.now.dim.0 }
+    ensures { Sweeps group.now (AreNodesDone plane.now.nodes labels store.old.parts group.now) pass.old store.old pass.new store.new }
+{
+    for node in 0..plane.nodes {
+        take_labels(store, pass, plane, group, node, labels);
+    }
+}
