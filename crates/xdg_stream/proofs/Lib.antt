@@ -1,0 +1,10 @@
+pub mod Named
+pub mod Restricting
+pub mod Longer
+pub mod Sized
+pub mod Fronts
+pub mod Opening
+pub mod Pushing
+pub mod Filling
+pub mod Written
+pub mod Streaming

@@ -1,0 +1,127 @@
+-- All values of a decision but one are taken away.
+use Rattle.std.proofs.Common.{◌≡◌, ◌≢◌, ℕ, ◌<◌, ◌≤◌, ◌+◌, inl, inr, Bool, List, refl, ap, sym, ◌∙◌, arith, subst}
+use Rattle.std.specs.Prelude.{slice_index, slice_index_or}
+use Rattle.std.proofs.lemmas.Bool.{cases_eq, cases_lt}
+use Rattle.xdg_problem.specs.Boxes.{Has, IsOnly, LiesIn}
+use Rattle.xdg_problem.specs.Vectors.{shape}
+use Rattle.xdg_propcore.specs.Steps.{Extends}
+use Rattle.xdg_propcore.proofs.Settling.{extends_none, extends_both}
+use Rattle.xdg_rules.proofs.Removing.{lies_without}
+use Rattle.xdg_rules.proofs.Sizes.{within_sizes}
+use Rattle.xdg_store.specs.Change.{Removes}
+use Rattle.xdg_store.specs.States.{State, Known}
+use Rattle.xdg_store.specs.declared.change.Change.{Change}
+use Rattle.xdg_store.specs.declared.change.Change.TheVariants as changes
+use Rattle.xdg_store.proofs.Leaving.{taken_gone, others_stay, parts_stay, history_grows, box_shrinks}
+use Rattle.xdg_stream.specs.Levels.{IsRestricted, Restricts}
+
+-- the removal leaves the history before as the front of the one after
+pub removal_extends : (made : Change) (now new : State) (d v : ℕ) → Removes made now new d v → Extends now new
+removal_extends made now new d v r =
+    let grows = history_grows made now new d v r in
+    record { same = parts_stay made now new d v r; more = grows.0; grown = grows.1; inside = box_shrinks made now new d v r }
+
+-- so far the values below i were taken
+pub record Restricting (old now : State) (made : Change) (d v i : ℕ) : Type 0 where
+  pub known : Known now
+  pub extends : Extends old now
+  pub proper : made ≢ changes.Emptied
+  pub same : made ≡ changes.Same → now ≡ old
+  pub gone : (x : ℕ) → x < i → x ≢ v → Has now.now d x → ⊥
+  pub kept : (small : List (List Bool)) → LiesIn small old.now → IsOnly small d v → LiesIn small now.now
+  pub stays : Has old.now d v → Has now.now d v
+
+abbrev not_emptied : Change → Type 0
+not_emptied changes.Emptied = ⊥
+not_emptied _ = Unit {0}
+
+abbrev not_same : Change → Type 0
+not_same changes.Same = ⊥
+not_same _ = Unit {0}
+
+same_proper : changes.Same ≢ changes.Emptied
+same_proper e = subst not_emptied e tt
+
+changed_proper : changes.Changed ≢ changes.Emptied
+changed_proper e = subst not_emptied e tt
+
+changed_same : changes.Changed ≡ changes.Same → ⊥
+changed_same e = subst not_same e tt
+
+pub restrict_start : (old : State) (d v i : ℕ) → Known old → i ≡ 0 → Restricting old old changes.Same d v i
+restrict_start old d v i known z = record {
+  known = known;
+  extends = extends_none old;
+  proper = same_proper;
+  same = λ e. refl;
+  gone = λ x l. absurd (omega (arith, l, z));
+  kept = λ small lies only. lies;
+  stays = λ h. h;
+}
+
+next_gone : (P : ℕ → Type 0) (v i x : ℕ) → ((y : ℕ) → y < i → y ≢ v → P y → ⊥) → (i ≢ v → P i → ⊥) → x < i + 1 → x ≢ v → P x → ⊥
+next_gone P v i x before here l n p = elim (cases_lt x i) [
+  | inl less ↦ before x less n p
+  | inr more ↦ (let e : x ≡ i = omega (arith, l, more) in here (λ q. n (e ∙ q)) (subst P e p))
+]
+
+-- the value that stays
+pub restrict_skip : (old now : State) (made : Change) (d v i : ℕ) → i ≡ v → Restricting old now made d v i → Restricting old now made d v (i + 1)
+restrict_skip old now made d v i e r = record {
+  known = r.known;
+  extends = r.extends;
+  proper = r.proper;
+  same = r.same;
+  gone = λ x l n. next_gone (Has now.now d) v i x r.gone (λ other. absurd (other e)) l n;
+  kept = r.kept;
+  stays = r.stays;
+}
+
+-- a value that didn't remain
+pub restrict_same : (old now new : State) (made : Change) (d v i : ℕ) → Known new → Removes changes.Same now new d i → Restricting old now made d v i → Restricting old new made d v (i + 1)
+restrict_same old now new made d v i known m r = record {
+  known = known;
+  extends = extends_both old now new r.extends (removal_extends changes.Same now new d i m);
+  proper = r.proper;
+  same = λ e. m.1 ∙ r.same e;
+  gone = λ x l n. next_gone (Has new.now d) v i x (λ y k o h. r.gone y k o (subst (λ s. Has s.now d y) m.1 h)) (λ other h. m.0 (subst (λ s. Has s.now d i) m.1 h)) l n;
+  kept = λ small lies only. subst (λ s. LiesIn small s.now) (sym m.1) (r.kept small lies only);
+  stays = λ h. subst (λ s. Has s.now d v) (sym m.1) (r.stays h);
+}
+
+-- a value that is taken
+pub restrict_changed : (old now new : State) (made : Change) (d v i : ℕ) → i ≢ v → Known new → Removes changes.Changed now new d i → Restricting old now made d v i → Restricting old new changes.Changed d v (i + 1)
+restrict_changed old now new made d v i other known m r = record {
+  known = known;
+  extends = extends_both old now new r.extends (removal_extends changes.Changed now new d i m);
+  proper = changed_proper;
+  same = λ e. absurd (changed_same e);
+  gone = λ x l n. next_gone (Has new.now d) v i x (λ y k o h. r.gone y k o (box_shrinks changes.Changed now new d i m d y h)) (λ n h. taken_gone now.now d i (subst (λ s. Has s.now d i) m.2 h)) l n;
+  kept = λ small lies only. subst (λ s. LiesIn small s.now) (sym m.2) (lies_without small now.now d i (r.kept small lies only) (λ h. other (only i h)));
+  stays = λ h. subst (λ s. Has s.now d v) (sym m.2) (others_stay now.now d i d v (r.stays h) (inr (λ e. other (sym e))));
+}
+
+-- the value to stay doesn't remain
+pub restrict_emptied : (old now new : State) (made : Change) (d v i : ℕ) → i ≢ v → Removes changes.Emptied now new d i → Restricting old now made d v i → Restricts changes.Emptied old.now new.now d v
+restrict_emptied old now new made d v i other m r h = other (sym (m.1 v (r.stays h)))
+
+pub emptied_extends : (old now new : State) (made : Change) (d v i e : ℕ) → Removes changes.Emptied now new e i → Restricting old now made d v i → Extends old new
+emptied_extends old now new made d v i e m r = extends_both old now new r.extends (removal_extends changes.Emptied now new e i m)
+
+all_gone : (old now : State) (made : Change) (d v i size : ℕ) → size ≡ slice_index (shape old.parts) d → size ≤ i → Restricting old now made d v i → IsRestricted old.now now.now d v
+all_gone old now made d v i size is past r = record {
+  inside = r.extends.inside;
+  only = λ x h. elim (cases_eq x v) [
+    | inl e ↦ e
+    | inr n ↦ absurd (
+        let l : x < slice_index (shape old.parts) d = subst (λ s. x < slice_index (shape s) d) r.extends.same (subst (λ z. x < slice_index_or z d 0) r.known.is_box.sizes (within_sizes now.now d x h)) in
+        r.gone x (omega (arith, l, is, past)) n h
+        )
+  ];
+  most = r.kept;
+}
+
+pub restrict_done : (old now : State) (made : Change) (d v i size : ℕ) → size ≡ slice_index (shape old.parts) d → size ≤ i → Restricting old now made d v i → Restricts made old.now now.now d v
+restrict_done old now changes.Same d v i size is past r = (ap (λ s. s.now) (r.same refl), all_gone old now changes.Same d v i size is past r)
+restrict_done old now changes.Changed d v i size is past r = all_gone old now changes.Changed d v i size is past r
+restrict_done old now changes.Emptied d v i size is past r = absurd (r.proper refl)

@@ -1,0 +1,290 @@
+-- What a call does to a stream.
+use Rattle.std.proofs.Common.{◌≡◌, ◌≢◌, ℕ, ◌<◌, ◌≤◌, ◌-◌, inl, inr, ◌⊎◌, true, List, [], ◌∷◌, ◌++◌, length, take, refl, ap, sym, ◌∙◌, arith, subst, eq-eqb, None, Some}
+use Rattle.std.specs.Prelude.{Option, filter}
+use Rattle.std.proofs.Math.Seq.{take-append_seam}
+use Rattle.xdg_listing.specs.Answered.{Drawn}
+use Rattle.xdg_listing.specs.Fits.{Fits}
+use Rattle.xdg_listing.specs.Listing.{Member}
+use Rattle.xdg_listing.specs.Order.{Less}
+use Rattle.xdg_listing.specs.Passed.{Finds}
+use Rattle.xdg_listing.specs.Whole.{Whole, is_whole}
+use Rattle.xdg_listing.proofs.Drawing.{drawn_none, drawn_found, drawn_charged}
+use Rattle.xdg_listing.proofs.Joined.{so_far_split}
+use Rattle.xdg_listing.proofs.Ordered.{less_irreflexive, less_transitive, at_most_less, at_most_transitive, at_most_of, less_or, not_less}
+use Rattle.xdg_listing.proofs.Wholes.{filter_member}
+use Rattle.xdg_problem.specs.declared.analysis.Analysis.{Analysis}
+use Rattle.xdg_problem.specs.declared.parts.Parts.{Parts}
+use Rattle.xdg_problem.specs.Problems.{IsProblem}
+use Rattle.xdg_problem.specs.Solutions.{IsSolution}
+use Rattle.xdg_problem.specs.Vectors.{shape, vector}
+use Rattle.xdg_problem.proofs.VectorFacts.{vector_analysis, vector_fits, length_vector}
+use Rattle.xdg_rules.specs.Boxed.{Boxed}
+use Rattle.xdg_rules.proofs.RuleLaws.{boxed_laws}
+use Rattle.xdg_search.specs.Halts.{Halts}
+use Rattle.xdg_search.specs.Lawful.{IsLawful}
+use Rattle.xdg_search.specs.Place.{place, Next}
+use Rattle.xdg_search.specs.declared.Step.{Step}
+use Rattle.xdg_search.specs.declared.Step.TheVariants as steps
+use Rattle.xdg_stream.specs.Streamed.{Streamed, seen, IsStart, start_vector, Leaves, IsCharged, IsNext, with_found, Advances, IsStream}
+
+-- ---- steps that differ
+
+abbrev is_found : Step → Type 0
+is_found steps.Found = Unit {0}
+is_found steps.End = ⊥
+is_found steps.Spent = ⊥
+
+abbrev is_spent : Step → Type 0
+is_spent steps.Spent = Unit {0}
+is_spent steps.Found = ⊥
+is_spent steps.End = ⊥
+
+pub end_found : steps.End ≢ steps.Found
+end_found e = subst is_found (sym e) tt
+
+pub spent_found : steps.Spent ≢ steps.Found
+spent_found e = subst is_found (sym e) tt
+
+pub spent_end : steps.Spent ≢ steps.End
+spent_end e = subst is_spent e tt
+
+abbrev is_some_step : Option Step → Type 0
+is_some_step None = ⊥
+is_some_step (Some step) = Unit {0}
+
+pub some_none : (step : Step) → Some step ≡ None → ⊥
+some_none step e = subst is_some_step e tt
+
+pub cases_done : (done : Option Step) → (done ≡ None) ⊎ ((step : Step) × (done ≡ Some step))
+cases_done None = inl refl
+cases_done (Some step) = inr (step, refl)
+
+with_same : (step : Step) → step ≢ steps.Found → (answers : List (List ℕ)) (last : List ℕ) → with_found step answers last ≡ answers
+with_same steps.Found other answers last = absurd (other refl)
+with_same steps.End other answers last = refl
+with_same steps.Spent other answers last = refl
+
+-- ---- whole prefixes
+
+whole_test : (shape x : List ℕ) → length x ≡ length shape → is_whole shape x ≡ true
+whole_test shape x e = eq-eqb (length x) (length shape) e
+
+member_split : (xs : List (List ℕ)) (c x : List ℕ) → Member (xs ++ c ∷ []) x → Member xs x ⊎ (x ≡ c)
+member_split [] c x (inl e) = inr e
+member_split [] c x (inr m) = absurd m
+member_split (y ∷ xs) c x (inl e) = inl (inl e)
+member_split (y ∷ xs) c x (inr m) = elim (member_split xs c x m) [ inl h ↦ inl (inr h) | inr e ↦ inr e ]
+
+-- among prefixes none of which is whole no whole one stands
+none_whole : (shape x : List ℕ) (xs : List (List ℕ)) → filter (is_whole shape) xs ≡ [] → length x ≡ length shape → Member xs x → ⊥
+none_whole shape x xs none whole m = subst (λ z. Member z x) none (filter_member (is_whole shape) x xs (whole_test shape x whole) m)
+
+-- ---- solutions
+
+module _ (parts : Parts) (problem : IsProblem parts) where
+  -- the vector of a solution is whole and boxed
+  solution_fits : (a : Analysis) → IsSolution parts a → Fits (shape parts) (vector parts a) × Whole (shape parts) (Boxed parts) (vector parts a)
+  solution_fits a solves =
+      let laws = boxed_laws parts problem in
+      (vector_fits parts a problem solves.fits, (laws.solutions a solves, length_vector parts a problem solves.fits))
+
+  -- of as many boxed prefixes from one start on the whole ones are the same
+  drawn_once : (start to other : List ℕ) (n : ℕ) (answers more : List (List ℕ)) → Drawn (shape parts) (Boxed parts) start to n answers → Drawn (shape parts) (Boxed parts) start other n more → answers ≡ more
+  drawn_once start to other n answers more d e =
+      let laws = boxed_laws parts problem in
+      let all = laws.listed start in
+      let s = so_far_split (shape parts) (Boxed parts) start to d.passed all.members d.forward d.listing all.listing in
+      let t = so_far_split (shape parts) (Boxed parts) start other e.passed all.members e.forward e.listing all.listing in
+      let first : take n all.members ≡ d.passed = ap (take n) s.1 ∙ subst (λ k. take k (d.passed ++ s.0) ≡ d.passed) d.count (take-append_seam d.passed s.0) in
+      let second : take n all.members ≡ e.passed = ap (take n) t.1 ∙ subst (λ k. take k (e.passed ++ t.0) ≡ e.passed) e.count (take-append_seam e.passed t.0) in
+      d.drawn ∙ ap (filter (is_whole (shape parts))) (sym first ∙ second) ∙ sym e.drawn
+
+-- ---- the start
+
+-- the vector of the analysis behind which a stream begins fits
+pub start_fits : (parts : Parts) (after : Option Analysis) → IsProblem parts → IsStart parts after → Fits (shape parts) (start_vector parts after)
+start_fits parts None problem is = tt
+start_fits parts (Some a) problem is = vector_fits parts a problem is
+
+pub stream_start : (parts : Parts) (start last numbers : List ℕ) (value : ℕ) (done : Option Step) (charged budget : ℕ) → IsProblem parts → IsLawful (shape parts) (Boxed parts) numbers done charged budget → Next (shape parts) (Boxed parts) start (place numbers value) → last ≡ start → charged ≡ 0 → done ≡ None → (is : IsStream (seen parts start budget charged last done) numbers value) × (is.answers ≡ [])
+stream_start parts start last numbers value done charged budget problem lawful next same zero_is none = (
+  record {
+    problem = problem;
+    lawful = lawful;
+    answers = [];
+    so_far = record {
+      front = start;
+      drawn = drawn_none (shape parts) (Boxed parts) start charged zero_is;
+      within = lawful.within;
+      reached = inl same;
+      between = λ a solves l. subst (λ z. Less z (vector parts a)) same l;
+      leaves = subst (λ d. Leaves d parts start charged budget) (sym none) tt;
+    };
+    next = λ e. next;
+  },
+  refl,
+)
+
+-- ---- a call
+
+-- a stream that has the problem, start and budget of another
+moved : (s t : Streamed) (last : List ℕ) → t.parts ≡ s.parts → t.start ≡ s.start → t.budget ≡ s.budget → t.last ≡ last → t ≡ seen s.parts s.start s.budget t.charged last t.ended
+moved s t last p q b l =
+    ap (λ z. seen z t.start t.budget t.charged t.last t.ended) p
+    ∙ ap (λ z. seen s.parts z t.budget t.charged t.last t.ended) q
+    ∙ ap (λ z. seen s.parts s.start z t.charged t.last t.ended) b
+    ∙ ap (λ z. seen s.parts s.start s.budget t.charged z t.ended) l
+
+module _ (s : Streamed) (numbers : List ℕ) (value : ℕ) (is : IsStream s numbers value) where
+  -- there are no other answers so far
+  answered : (answers : List (List ℕ)) → IsCharged s answers → answers ≡ is.answers
+  answered answers so_far = drawn_once s.parts is.problem s.start so_far.front is.so_far.front s.charged answers is.answers so_far.drawn is.so_far.drawn
+
+  -- the same again
+  pub again : (step other : Step) (t : Streamed) → step ≢ steps.Found → s.ended ≡ Some other → step ≡ other → t ≡ s → Advances s step t
+  again step other t different ended same stays = subst (Advances s step) (sym stays) (record {
+    given = (refl, refl, refl);
+    charged = λ answers so_far. subst (IsCharged s) (sym (with_same step different answers s.last)) so_far;
+    rises = omega arith;
+    found = λ e. absurd (different e);
+    costs = λ e. absurd (different e);
+    stops = λ e. (ended ∙ ap Some (sym same), refl);
+    none = λ e a solves l. (
+        let fits = solution_fits s.parts is.problem a solves in
+        subst (λ d. Leaves d s.parts is.so_far.front s.charged s.budget) (ended ∙ ap Some (sym same ∙ e)) is.so_far.leaves (vector s.parts a) fits.0 fits.1.0 (is.so_far.between a solves l)
+        );
+    repeats = λ more e. (same ∙ some_one other more (sym ended ∙ e), refl);
+  })
+    where
+      some_of : Option Step → Step
+      some_of None = other
+      some_of (Some x) = x
+
+      some_one : (x y : Step) → Some x ≡ Some y → x ≡ y
+      some_one x y e = ap some_of e
+
+  module _ (t : Streamed) (numbers' : List ℕ) (value' : ℕ) (same : t.parts ≡ s.parts) (begun : t.start ≡ s.start) (spends : t.budget ≡ s.budget) (lawful : IsLawful (shape t.parts) (Boxed t.parts) numbers' t.ended t.charged t.budget) (rises : s.charged ≤ t.charged) where
+    -- something was found
+    module _ (open_still : s.ended ≡ None) (last_is : t.last ≡ numbers') (goes_on : t.ended ≡ None) (finds : (from : List ℕ) → Next (shape s.parts) (Boxed s.parts) from (place numbers value) → Less from numbers' × Finds (shape s.parts) (Boxed s.parts) from numbers' (t.charged - s.charged)) where
+      later : Streamed
+      later = seen s.parts s.start s.budget t.charged numbers' t.ended
+
+      path : t ≡ later
+      unfolding later
+      path = moved s t numbers' same begun spends last_is
+
+      so_far_found : IsCharged later (is.answers ++ numbers' ∷ [])
+      unfolding later
+      so_far_found =
+          let f = finds is.so_far.front (is.next open_still) in
+          record {
+            front = numbers';
+            drawn = drawn_found (shape s.parts) (Boxed s.parts) s.start is.so_far.front numbers' s.charged (t.charged - s.charged) t.charged is.answers is.so_far.drawn (inr f.0) f.1 (omega (arith, rises));
+            within = (let w = lawful.within in omega (arith, w, spends));
+            reached = inl refl;
+            between = λ a solves l. l;
+            leaves = subst (λ d. Leaves d s.parts numbers' t.charged s.budget) (sym goes_on) tt;
+          }
+
+      pub stream_found : Next (shape s.parts) (Boxed s.parts) numbers' (place numbers' value') → IsStream t numbers' value'
+      unfolding later so_far_found
+      stream_found next = subst (λ z. IsStream z numbers' value') (sym path) (record {
+        problem = is.problem;
+        lawful = subst (λ z. IsLawful (shape z.parts) (Boxed z.parts) numbers' z.ended z.charged z.budget) path lawful;
+        answers = is.answers ++ numbers' ∷ [];
+        so_far = so_far_found;
+        next = λ e. next;
+      })
+
+      next_found : Fits (shape s.parts) numbers' → Whole (shape s.parts) (Boxed s.parts) numbers' → IsNext s.parts s.last numbers'
+      next_found fits whole =
+          let f = finds is.so_far.front (is.next open_still) in
+          let laws = boxed_laws s.parts is.problem in
+          record {
+            after = at_most_less s.last is.so_far.front numbers' is.so_far.reached f.0;
+            solution = (laws.whole numbers' fits whole.1).0 whole.0;
+            is_vector = vector_analysis s.parts numbers' is.problem fits whole.1;
+            least = λ a solves l. at_most_of numbers' (vector s.parts a) (λ before.
+                let x : List ℕ = vector s.parts a in
+                let own = solution_fits s.parts is.problem a solves in
+                let member = f.1.listing.all x own.0 (own.1.0, λ beyond. less_irreflexive x (less_transitive x numbers' x before beyond)) (is.so_far.between a solves l) in
+                elim (member_split f.1.passed numbers' x member) [
+                  | inl m ↦ none_whole (shape s.parts) x f.1.passed f.1.none own.1.1 m
+                  | inr e ↦ less_irreflexive numbers' (subst (λ z. Less z numbers') e before)
+                ]);
+          }
+
+      pub found_advances : s.charged < t.charged → Fits (shape s.parts) numbers' → Whole (shape s.parts) (Boxed s.parts) numbers' → Advances s steps.Found t
+      unfolding later
+      found_advances costs fits whole = subst (Advances s steps.Found) (sym path) (record {
+        given = (refl, refl, refl);
+        charged = λ answers so_far. subst (λ z. IsCharged later (z ++ numbers' ∷ [])) (sym (answered answers so_far)) so_far_found;
+        rises = rises;
+        found = λ e. (open_still, goes_on, next_found fits whole);
+        costs = λ e. costs;
+        stops = λ e. absurd (e refl);
+        none = λ e. absurd (end_found (sym e));
+        repeats = λ other e. absurd (some_none other (sym e ∙ open_still));
+      })
+
+    -- nothing was found
+    module _ (open_still : s.ended ≡ None) (step : Step) (different : step ≢ steps.Found) (last_is : t.last ≡ s.last) (stopped : t.ended ≡ Some step) (Rest : List ℕ → Type 0) (halts : (from : List ℕ) → Next (shape s.parts) (Boxed s.parts) from (place numbers value) → Halts (shape s.parts) (Boxed s.parts) from (t.charged - s.charged) Rest) (leaves : (p : List ℕ) → Rest p → Leaves (Some step) s.parts p t.charged s.budget) where
+      ended : Streamed
+      ended = seen s.parts s.start s.budget t.charged s.last t.ended
+
+      route : t ≡ ended
+      unfolding ended
+      route = moved s t s.last same begun spends last_is
+
+      so_far_stopped : IsCharged ended is.answers
+      unfolding ended
+      so_far_stopped =
+          let h = halts is.so_far.front (is.next open_still) in
+          record {
+            front = h.to;
+            drawn = drawn_charged (shape s.parts) (Boxed s.parts) s.start is.so_far.front h.to s.charged (t.charged - s.charged) t.charged is.answers is.so_far.drawn h.forward h.charges (omega (arith, rises));
+            within = (let w = lawful.within in omega (arith, w, spends));
+            reached = at_most_transitive s.last is.so_far.front h.to is.so_far.reached h.forward;
+            between = λ a solves l. (
+                let x : List ℕ = vector s.parts a in
+                let own = solution_fits s.parts is.problem a solves in
+                elim (less_or h.to x) [
+                  | inl beyond ↦ beyond
+                  | inr before ↦ absurd (none_whole (shape s.parts) x h.charges.passed h.charges.none own.1.1 (h.charges.listing.all x own.0 (own.1.0, not_less x h.to before) (is.so_far.between a solves l)))
+                ]
+                );
+            leaves = subst (λ d. Leaves d s.parts h.to t.charged s.budget) (sym stopped) (leaves h.to h.rest);
+          }
+
+      pub stream_stopped : IsStream t numbers' value'
+      unfolding ended
+      stream_stopped = subst (λ z. IsStream z numbers' value') (sym route) (record {
+        problem = is.problem;
+        lawful = subst (λ z. IsLawful (shape z.parts) (Boxed z.parts) numbers' z.ended z.charged z.budget) route lawful;
+        answers = is.answers;
+        so_far = so_far_stopped;
+        next = λ e. absurd (some_none step (sym stopped ∙ e));
+      })
+
+      pub stopped_advances : Advances s step t
+      unfolding ended
+      stopped_advances = subst (Advances s step) (sym route) (record {
+        given = (refl, refl, refl);
+        charged = λ answers so_far. subst (IsCharged ended) (sym (with_same step different answers s.last ∙ answered answers so_far)) so_far_stopped;
+        rises = rises;
+        found = λ e. absurd (different e);
+        costs = λ e. absurd (different e);
+        stops = λ e. (stopped, refl);
+        none = λ e a solves l. (
+            let own = solution_fits s.parts is.problem a solves in
+            subst (λ d. Leaves d s.parts so_far_stopped.front t.charged s.budget) (stopped ∙ ap Some e) so_far_stopped.leaves (vector s.parts a) own.0 own.1.0 (so_far_stopped.between a solves l)
+            );
+        repeats = λ other e. absurd (some_none other (sym e ∙ open_still));
+      })
+
+    -- a call that found nothing, be it the first or the same again
+    pub ended_call : (step : Step) → step ≢ steps.Found → t.last ≡ s.last → t.ended ≡ Some step → (Rest : List ℕ → Type 0) → (s.ended ≡ None → (from : List ℕ) → Next (shape s.parts) (Boxed s.parts) from (place numbers value) → Halts (shape s.parts) (Boxed s.parts) from (t.charged - s.charged) Rest) → (s.ended ≡ None → (p : List ℕ) → Rest p → Leaves (Some step) s.parts p t.charged s.budget) → ((other : Step) → s.ended ≡ Some other → (step ≡ other) × (t ≡ s) × IsStream t numbers' value') → IsStream t numbers' value' × Advances s step t
+    ended_call step different last_is stopped Rest halts leaves repeats = elim (cases_done s.ended) [
+      | inl none ↦ (stream_stopped none step different last_is stopped Rest (halts none) (leaves none), stopped_advances none step different last_is stopped Rest (halts none) (leaves none))
+      | inr some ↦ (let r = repeats some.0 some.1 in (r.2, again step some.0 t different some.1 r.0 r.1))
+    ]

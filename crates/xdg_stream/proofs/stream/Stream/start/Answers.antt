@@ -1,0 +1,52 @@
+use Rattle.std.proofs.Common.{◌∙◌, arith, ap, length, subst, sym}
+use Rattle.std.specs.Option.{is_some, option_copied}
+use Rattle.xdg_listing.specs.Fits.{Fits}
+use Rattle.xdg_problem.specs.declared.parts.Parts.{Parts}
+use Rattle.xdg_problem.specs.Problems.{IsProblem}
+use Rattle.xdg_problem.specs.Vectors.{shape}
+use Rattle.xdg_rules.specs.Boxed.{Boxed}
+use Rattle.xdg_search.specs.Place.{place, Next}
+use Rattle.xdg_stream.specs.Streamed.{IsCharged, seen, start_vector}
+use Rattle.xdg_stream.proofs.Sized.{fits_short}
+use Rattle.xdg_stream.proofs.Streaming.{start_fits, stream_start}
+use Rattle.xdg_stream.proofs.stream.Stream.start.Goals as goal
+
+pub start-requires : goal.start-requires
+start-requires g c = c.requires.stand
+
+pub refill-requires-clause-short : goal.refill-requires-clause-short
+refill-requires-clause-short g c =
+    let parts = c.args.problem.now in
+    let fits = start_fits parts (option_copied c.args.after) c.in_ok-last.ensures.problem c.requires.fits in
+    let short = fits_short (shape parts) (start_vector parts (option_copied c.args.after)) fits in
+    let given = ap length (c.as_slice.ensures.value ∙ c.in_ok-start.ensures) in
+    let same = ap (λ (p : Parts). length (shape p)) c.in_ok-last.ensures.empty.0 in
+    omega (arith, short, given, same)
+
+pub start-requires-3-clause-fits : goal.start-requires-3-clause-fits
+start-requires-3-clause-fits g c =
+    let parts = c.args.problem.now in
+    let fits = start_fits parts (option_copied c.args.after) c.in_ok-last.ensures.problem c.requires.fits in
+    subst (λ z. Fits (shape z) c.as_slice-2.result.now) (sym c.in_ok-front.ensures.0) (subst (Fits (shape parts)) (sym (c.as_slice-2.ensures.value ∙ c.in_ok-start.ensures)) fits)
+
+pub invariant_of-result : goal.invariant_of-result
+invariant_of-result g c =
+    let r = c.start-3.result in
+    let q = c.start-3.ensures.problem in
+    let fresh = c.start-3.ensures.fresh in
+    let start = c.in_ok-start.start.items in
+    let next = subst (λ z. Next (shape r.front.parts) (Boxed r.front.parts) z (place r.front.numbers r.value)) c.as_slice-2.ensures.value (subst (λ z. Next (shape z) (Boxed z) c.as_slice-2.result.now (place r.front.numbers r.value)) (sym q) c.start-3.ensures.next) in (
+      (stream_start r.front.parts start c.refill.new.self.numbers r.front.numbers r.value r.done r.charged r.budget (subst IsProblem (sym (q ∙ c.in_ok-front.ensures.0)) c.in_ok-last.ensures.problem) c.start-3.ensures.lawful next (c.refill.ensures.numbers ∙ c.as_slice.ensures.value) fresh.0 fresh.2).0,
+      c.refill.ensures.parts ∙ c.in_ok-last.ensures.empty.0 ∙ sym (q ∙ c.in_ok-front.ensures.0),
+      sym (ap is_some fresh.2),
+    )
+
+pub returns-clause-charged : goal.returns-clause-charged
+returns-clause-charged g c =
+    let r = c.start-3.result in
+    let q = c.start-3.ensures.problem in
+    let fresh = c.start-3.ensures.fresh in
+    let start = c.in_ok-start.start.items in
+    let next = subst (λ z. Next (shape r.front.parts) (Boxed r.front.parts) z (place r.front.numbers r.value)) c.as_slice-2.ensures.value (subst (λ z. Next (shape z) (Boxed z) c.as_slice-2.result.now (place r.front.numbers r.value)) (sym q) c.start-3.ensures.next) in
+    let begun = stream_start r.front.parts start c.refill.new.self.numbers r.front.numbers r.value r.done r.charged r.budget (subst IsProblem (sym (q ∙ c.in_ok-front.ensures.0)) c.in_ok-last.ensures.problem) c.start-3.ensures.lawful next (c.refill.ensures.numbers ∙ c.as_slice.ensures.value) fresh.0 fresh.2 in
+    subst (IsCharged (seen r.front.parts start r.budget r.charged c.refill.new.self.numbers r.done)) begun.1 begun.0.so_far

@@ -1,0 +1,6 @@
+pub mod Decisions
+pub mod Levels
+pub mod Closing
+pub mod Fronted
+pub mod Vectored
+pub mod Streamed

@@ -1,0 +1,84 @@
+//! Decisions, named by what is decided.
+
+ghost use Rattle.std.specs.Prelude.{◌≡◌, ◌<◌, ◌+◌, length, slice_index};
+ghost use Rattle.xdg_problem.specs.Places.{nodes, places};
+ghost use Rattle.xdg_problem.specs.Problems.{IsProblem};
+ghost use Rattle.xdg_problem.specs.Vectors.{attr_sizes, shape};
+ghost use Rattle.xdg_store.specs.Change.{Removes};
+ghost use Rattle.xdg_store.specs.States.{Known};
+ghost use Rattle.xdg_stream.specs.Decisions.{IsDecision, number_of};
+
+use xdg_base::{AttrId, DimId, NodeId};
+use xdg_problem::{Edge, Parts, Problem};
+use xdg_store::{Change, Store};
+
+/// A decision on a sentence.
+#[derive(Clone, Copy, Debug)]
+pub(crate) enum Decision {
+    /// The entry of a node.
+    Entry(NodeId),
+    /// The value of an attribute of a node.
+    Attr(DimId, NodeId, AttrId),
+    /// Whether an edge is present.
+    Place(Edge),
+}
+
+/// The decision on the attribute at a place among those of all dimensions.
+fn attr_at(parts: &Parts, at: usize) -> Decision
+    requires problem { IsProblem parts.now }
+    requires within { at < length (attr_sizes (nodes parts.now) parts.now.dims) }
+    ensures is { IsDecision parts.now result }
+    ensures number { number_of parts.now result ≡ length parts.now.candidates + at }
+{
+    let nodes = parts.words.len();
+    let mut rest = at;
+    for (dim, plan) in parts.dims.as_slice().iter().enumerate() {
+        let width = plan.attrs.len();
+        if rest < nodes * width {
+            let node = NodeId((rest / width) as u8);
+            let attr = AttrId((rest % width) as u8);
+            return Decision::Attr(DimId(dim as u8), node, attr);
+        }
+        rest -= nodes * width;
+    }
+    Decision::Entry(NodeId(0))
+}
+
+/// The decision at a place among all decisions on a sentence, whose edge places are given.
+pub(crate) fn decision_at(problem: &Problem, edge_places: &[Edge], at: usize) -> Decision
+    requires listed { edge_places.now ≡ places problem.now }
+    requires within { at < length (shape problem.now) }
+    ensures is { IsDecision problem.now result }
+    ensures number { number_of problem.now result ≡ at }
+{
+    let parts = problem.parts();
+    let nodes = parts.candidates.len();
+    if at < nodes {
+        return Decision::Entry(NodeId(at as u8));
+    }
+    let first = problem.decisions() as usize - edge_places.len();
+    if at < first {
+        return attr_at(parts, at - nodes);
+    }
+    Decision::Place(edge_places[at - first])
+}
+
+/// Takes a value of a decision away, unless it is the last.
+pub(crate) fn remove(store: &mut Store, decision: Decision, value: u16) -> Change
+    requires is { IsDecision store.old.parts decision }
+    requires value { value < slice_index (shape store.old.parts) (number_of store.old.parts decision) }
+    requires known { Known store.old }
+    ensures removes { Removes result store.old store.new (number_of store.old.parts decision) value }
+    ensures known { Known store.new }
+{
+    match decision {
+        Decision::Entry(node) => store.remove_entry(node, value),
+        Decision::Attr(dim, node, attr) => store.remove_attr(node, dim, attr, value),
+        Decision::Place(edge) => {
+            if value == 0 {
+                return store.forbid_edge(edge);
+            }
+            store.force_edge(edge)
+        }
+    }
+}

@@ -1,0 +1,96 @@
+//! From the box of a prefix to that of the prefix and one number more.
+
+ghost use Rattle.std.specs.Prelude.{◌≡◌, ◌<◌, ℕ, List, ◌++◌, ◌∷◌, [], length, map, slice_index};
+ghost use Rattle.xdg_problem.specs.Places.{places};
+ghost use Rattle.xdg_problem.specs.Vectors.{shape};
+ghost use Rattle.xdg_propcore.specs.Steps.{Extends};
+ghost use Rattle.xdg_store.specs.States.{Known};
+ghost use Rattle.xdg_stream.specs.Decisions.{IsDecision, number_of};
+ghost use Rattle.xdg_propcore.specs.Uses.{AllStandIn};
+ghost use Rattle.xdg_stream.specs.Levels.{IsLevel, Narrows, Restricts};
+
+use crate::decision::{Decision, decision_at, remove};
+use xdg_problem::Edge;
+use xdg_propcore::{Agenda, Fixpoint, Propagator, settle};
+use xdg_store::{Change, Store};
+
+/// Takes all values of a decision away but one, if that one remains. It answers whether others were taken; where the value
+/// doesn't remain, some may be.
+fn restrict(store: &mut Store, decision: Decision, size: u16, value: u16) -> Change
+    requires is { IsDecision store.old.parts decision }
+    requires size { size ≡ slice_index (shape store.old.parts) (number_of store.old.parts decision) }
+    requires value { value < size }
+    requires known { Known store.old }
+    ensures extends { Extends store.old store.new }
+    ensures restricts { Restricts result store.old.now store.new.now (number_of store.old.parts decision) value }
+    ensures known { Known store.new }
+{
+    let mut change = Change::Same;
+    for other in 0..size {
+        if other == value {
+            continue;
+        }
+        match remove(store, decision, other) {
+            Change::Same => {}
+            Change::Changed => change = Change::Changed,
+            Change::Emptied => return Change::Emptied,
+        }
+    }
+    change
+}
+
+/// From the greatest closed box of a prefix to that of the prefix and a number for the next decision, if there is one.
+pub(crate) fn narrow<P: Propagator>(
+    store: &mut Store,
+    props: &[P],
+    agenda: &mut Agenda,
+    decision: Decision,
+    size: u16,
+    value: u16,
+) -> bool
+    requires stand { AllStandIn P.stands props.now store.old.parts }
+    requires agenda { agenda.old ≡ map P.kinds props.now }
+    requires is { IsDecision store.old.parts decision }
+    requires size { size ≡ slice_index (shape store.old.parts) (number_of store.old.parts decision) }
+    requires value { value < size }
+    requires known { Known store.old }
+    ensures extends { Extends store.old store.new }
+    ensures narrows { (p : List ℕ) → length p ≡ number_of store.old.parts decision → IsLevel store.old.parts p store.old.now → Narrows result store.old.parts (p ++ value ∷ []) store.new.now }
+    ensures known { Known store.new }
+    ensures agenda { agenda.new ≡ agenda.old }
+{
+    match restrict(store, decision, size, value) {
+        Change::Same => true,
+        Change::Changed => match settle(store, props, agenda) {
+            Fixpoint::Settled => true,
+            Fixpoint::Dead => false,
+        },
+        Change::Emptied => false,
+    }
+}
+
+/// The same, by the number of the decision. The edge places of the sentence are given.
+pub(crate) fn lengthen<P: Propagator>(
+    store: &mut Store,
+    props: &[P],
+    agenda: &mut Agenda,
+    edge_places: &[Edge],
+    at: usize,
+    value: u16,
+) -> bool
+    requires stand { AllStandIn P.stands props.now store.old.parts }
+    requires agenda { agenda.old ≡ map P.kinds props.now }
+    requires listed { edge_places.now ≡ places store.old.parts }
+    requires within { at < length (shape store.old.parts) }
+    requires value { value < slice_index (shape store.old.parts) at }
+    requires known { Known store.old }
+    ensures extends { Extends store.old store.new }
+    ensures narrows { (p : List ℕ) → length p ≡ at → IsLevel store.old.parts p store.old.now → Narrows result store.old.parts (p ++ value ∷ []) store.new.now }
+    ensures known { Known store.new }
+    ensures agenda { agenda.new ≡ agenda.old }
+{
+    let problem = store.problem();
+    let decision = decision_at(problem, edge_places, at);
+    let size = problem.value_count(at) as u16;
+    narrow(store, props, agenda, decision, size, value)
+}
