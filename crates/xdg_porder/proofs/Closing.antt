@@ -1,0 +1,143 @@
+-- Where nothing is left to take the box is closed: no rule takes a value that remains, and no test is decided and fails.
+use Rattle.std.proofs.Common.{◌≡◌, ℕ, ◌<◌, ◌↔◌, ◌&&◌, inl, inr, Bool, true, List, [], length, get_or, refl, sym, ap, ◌∙◌, arith, subst}
+use Rattle.std.specs.Prelude.{Contains, AllPairs}
+use Rattle.std.proofs.lemmas.Bool.{cases_Bool, false≢true}
+use Rattle.std.proofs.lemmas.List.{get_or_default, length-map}
+use Rattle.xdg_base.specs.declared.ids.LabelId.{LabelId}
+use Rattle.xdg_judge.specs.Links.{In}
+use Rattle.xdg_nodeset.specs.Nodes.{has}
+use Rattle.xdg_problem.specs.declared.analysis.Edge.{Edge}
+use Rattle.xdg_problem.specs.declared.parts.Group.{Group}
+use Rattle.xdg_problem.specs.declared.parts.Parts.{Parts}
+use Rattle.xdg_problem.specs.declared.parts.Principle.TheVariants as principles
+use Rattle.xdg_problem.specs.Analyses.{IsPlace}
+use Rattle.xdg_problem.specs.Arguments.{first_dim, order_of, truth_of, label_count}
+use Rattle.xdg_problem.specs.Asking.{IsBetween}
+use Rattle.xdg_problem.specs.Boxes.{Has, IsBox, May, Must, edge_decision}
+use Rattle.xdg_problem.specs.Paths.{Above, IsDaughter, edges_on}
+use Rattle.xdg_problem.specs.Places.{edge, nodes}
+use Rattle.xdg_problem.specs.Tests.{Test, IsTestOf, looks_at, ordered_daughters, ordered_yields, projective}
+use Rattle.xdg_problem.specs.Vectors.{shape}
+use Rattle.xdg_problem.proofs.PlaceOrder.{is_place}
+use Rattle.xdg_rules.specs.Rules.{may_edges, must_edges, AboutHead, ComesBefore, DaughterOrder, OfHead, FailsTest, IsClosedFor, IsPlaceOn, ProjectivityReach, SaysPresent, TakesBy, TestDecided, TestPasses, has as flag}
+use Rattle.xdg_rules.proofs.Shrinking.{may_exact, must_exact}
+use Rattle.xdg_reach.specs.Edges.{edge_labels}
+use Rattle.xdg_reach.proofs.Labelled.{label_below}
+use Rattle.xdg_porder.specs.Across.{AreNodesDone}
+use Rattle.xdg_porder.specs.Items.{AreEarlierDone, AreMothersDone, IsPairDone, MayFollow, MustFollow, label_at}
+use Rattle.xdg_porder.proofs.Pairing.{pairs_before}
+use Rattle.xdg_porder.proofs.Testing.{all_seen, daughters_pass}
+
+module _ (parts : Parts) (group : Group) (box : List (List Bool)) (is : IsBox (shape parts) box) where
+  -- a place of the dimension whose edge may be
+  follows : (e : Edge) → IsPlaceOn parts (first_dim group) e → May parts box e → MayFollow parts group box e.mother.0 e.label.0 e.daughter.0
+  follows e on here = subst (λ i. IsPlace parts (edge i e.mother.0 e.label.0 e.daughter.0) × May parts box (edge i e.mother.0 e.label.0 e.daughter.0)) on.1 (is_place parts e on.0, here)
+
+  must_follow : (e : Edge) → Contains (must_edges parts box (first_dim group)) e → MustFollow parts group box e.mother.0 e.label.0 e.daughter.0
+  must_follow e c =
+      let both = (must_exact parts box (first_dim group) e is).0 c in
+      subst (λ i. IsPlace parts (edge i e.mother.0 e.label.0 e.daughter.0) × Must parts box (edge i e.mother.0 e.label.0 e.daughter.0)) both.0.1 (is_place parts e both.0.0, both.1)
+
+  said : (e : Edge) (d v : ℕ) → SaysPresent parts e d v → Has box d v → May parts box e
+  said e d v says remains = subst (λ i. Has box i 0) says.0 (subst (λ x. Has box d x) says.1 remains)
+
+  -- ---- order
+
+  all_pairs : (u : ℕ) → AreEarlierDone parts group u (length group.order) box → AllPairs (λ l m. IsPairDone parts group u l m box) (order_of group)
+  all_pairs u done i j d less within =
+      let c = length-map group.order (λ (label : LabelId). label.0) in
+      subst (λ l. IsPairDone parts group u l (get_or (order_of group) j d) box) (get_or_default (order_of group) i 0 d (omega (arith, less, within)))
+      (subst (λ m. IsPairDone parts group u (label_at group i) m box) (get_or_default (order_of group) j 0 d within)
+      (done i (omega (arith, less, within, c)) j (omega (arith, within, c)) less))
+
+  pair_done : (u l m : ℕ) → AreEarlierDone parts group u (length group.order) box → ComesBefore (order_of group) l m → IsPairDone parts group u l m box
+  pair_done u l m done comes = pairs_before (λ a b. IsPairDone parts group u a b box) (order_of group) l m (all_pairs u done) comes
+
+  no_daughter : AreMothersDone parts group (nodes parts) box → (d v : ℕ) → Has box d v → DaughterOrder parts group box d v → ⊥
+  no_daughter done d v remains rule =
+      let place = rule.place in
+      let u = place.mother.0 in
+      let here = done u (is_place parts place rule.is.0).mother in
+      let may = follows place rule.is (said place d v rule.says remains) in
+      let must : MustFollow parts group box u rule.other.label.0 rule.other.daughter.0 = subst (λ k. MustFollow parts group box k rule.other.label.0 rule.other.daughter.0) (sym rule.mother) (must_follow rule.other rule.must) in
+      elim rule.wrong [
+        | inl after ↦ (pair_done u rule.other.label.0 place.label.0 here after.0).0 place.daughter.0 rule.other.daughter.0 (inr may) (inr must) after.1
+        | inr before ↦ (pair_done u place.label.0 rule.other.label.0 here before.0).1 place.daughter.0 rule.other.daughter.0 (inr may) (inr must) before.1
+      ]
+
+  no_edge : AreMothersDone parts group (nodes parts) box → (d v : ℕ) → Has box d v → AboutHead parts group box d v → ⊥
+  no_edge done d v remains rule =
+      let place = rule.place in
+      let u = place.mother.0 in
+      let here = done u (is_place parts place rule.is.0).mother in
+      let may = follows place rule.is (said place d v rule.says remains) in
+      elim rule.offends [
+        | inl after ↦ (pair_done u place.label.0 rule.own here after.0).1 place.daughter.0 u (inr may) (inl (refl, (rule.remains, rule.only))) (let l = after.1 in omega (arith, l))
+        | inr before ↦ (pair_done u rule.own place.label.0 here before.0).0 place.daughter.0 u (inr may) (inl (refl, (rule.remains, rule.only))) (let l = before.1 in omega (arith, l))
+      ]
+
+  no_own : AreMothersDone parts group (nodes parts) box → (d v : ℕ) → Has box d v → OfHead parts group box d v → ⊥
+  no_own done d v remains rule =
+      let place = rule.place in
+      let u = place.mother.0 in
+      let must = must_follow place rule.must in
+      let here = done u must.0.mother in
+      let own = subst (λ i. Has box i v) rule.is remains in
+      elim rule.offends [
+        | inl after ↦ (pair_done u place.label.0 v here after.0).0 u place.daughter.0 (inl (refl, own)) (inr must) (let l = after.1 in omega (arith, l))
+        | inr before ↦ (pair_done u v place.label.0 here before.0).1 u place.daughter.0 (inl (refl, own)) (inr must) (let l = before.1 in omega (arith, l))
+      ]
+
+  order_passes : AreMothersDone parts group (nodes parts) box → (truth_of group.truths 0 ≡ true → FailsTest parts group box → ⊥) → group.principle ≡ principles.Order → FailsTest parts group box → ⊥
+  order_passes done along order failing = fine failing.test (subst (λ p. IsTestOf p group.truths (nodes parts) (label_count parts (first_dim group)) failing.test) order failing.is) failing.decided failing.fails
+    where
+      fine : (test : Test) → IsTestOf principles.Order group.truths (nodes parts) (label_count parts (first_dim group)) test → TestDecided parts group box test → (TestPasses parts group box test → ⊥) → ⊥
+      fine (ordered_daughters u) test_is decided fails = fails (daughters_pass parts group box is u test_is.0 decided (done u test_is.1))
+      fine (ordered_yields u) test_is decided fails = along test_is.0 failing
+      fine test test_is decided fails = absurd test_is
+
+  pub order_closed : group.principle ≡ principles.Order → AreMothersDone parts group (nodes parts) box → (truth_of group.truths 0 ≡ true → FailsTest parts group box → ⊥) → IsClosedFor parts group box
+  order_closed order done along d v remains takes = elim takes [
+    | inl failing ↦ order_passes done along order failing
+    | inr rule ↦ elim (subst (λ p. TakesBy p parts group box d v) order rule) [
+      | inl daughter ↦ no_daughter done d v remains daughter
+      | inr more ↦ elim more [
+        | inl edge_rule ↦ no_edge done d v remains edge_rule
+        | inr own ↦ no_own done d v remains own
+      ]
+    ]
+  ]
+
+  -- ---- projectivity
+
+  module _ (table : List (List ℕ)) (exact : (a b : ℕ) → In table a b ↔ Above (may_edges parts box (first_dim group)) a b) (done : AreNodesDone parts group table (nodes parts) box) where
+    -- each node across which an edge may lead is below its mother
+    crossed : (e : Edge) → IsPlaceOn parts (first_dim group) e → May parts box e → (w : ℕ) → IsBetween e.mother.0 e.daughter.0 w → Above (may_edges parts box (first_dim group)) e.mother.0 w
+    crossed e on here w between = elim (cases_Bool (has (get_or table e.mother.0 []) w)) [
+      | inl there ↦ (exact e.mother.0 w).0 there
+      | inr out ↦ absurd (
+          let place = is_place parts e on.0 in
+          let below = label_below parts e place in
+          let same = ap (edge_labels parts) on.1 in
+          done e.mother.0 place.mother e.label.0 (omega (arith, below, same)) e.daughter.0 (follows e on here) w between (λ h. false≢true (sym out ∙ h)))
+    ]
+
+    abbrev few : ℕ → ℕ → List Edge
+    few u v = edges_on (first_dim group) (Rattle.std.specs.Prelude.filter (λ e. looks_at group (projective u v) e && flag box (edge_decision parts e) 0) (Rattle.xdg_problem.specs.Places.places parts))
+
+    abbrev Asks : List Edge → ℕ → ℕ → Type 0
+    Asks edges u v = (w : ℕ) → w < nodes parts → IsDaughter edges u v → IsBetween u v w → Above edges u w
+
+    passes : (u v : ℕ) → Asks (may_edges parts box (first_dim group)) u v
+    passes u v w within (k, e, l, at, (m, d)) between =
+        let may = (may_exact parts box (first_dim group) e).0 (k, l, at) in
+        subst (λ x. Above (may_edges parts box (first_dim group)) x w) m (crossed e may.0 may.1 w (subst (λ x. IsBetween x e.daughter.0 w) (sym m) (subst (λ x. IsBetween u x w) (sym d) between)))
+
+    pub across_closed : group.principle ≡ principles.Projectivity → IsClosedFor parts group box
+    across_closed flat d v remains takes = elim takes [
+      | inl failing ↦ fine failing.test (subst (λ p. IsTestOf p group.truths (nodes parts) (label_count parts (first_dim group)) failing.test) flat failing.is) failing.decided failing.fails
+      | inr rule ↦ (let r : ProjectivityReach parts group box d v = subst (λ p. TakesBy p parts group box d v) flat rule in r.apart (crossed r.place r.is (said r.place d v r.says remains) r.node r.between))
+    ] where
+      fine : (test : Test) → IsTestOf principles.Projectivity group.truths (nodes parts) (label_count parts (first_dim group)) test → TestDecided parts group box test → (TestPasses parts group box test → ⊥) → ⊥
+      fine (projective u v) test_is decided fails = fails (subst (λ es. Asks es u v) (sym (all_seen parts group box is (projective u v) (λ e on. on))) (passes u v))
+      fine test test_is decided fails = absurd test_is

@@ -1,0 +1,151 @@
+-- Sets that gather what each node of another set brings.
+use Rattle.std.proofs.Common.{◌≡◌, ℕ, ◌<◌, ◌≤◌, ◌⊎◌, ◌↔◌, ◌==◌, ◌||◌, ◌&&◌, inl, inr, Bool, true, false, IsTrue, List, [], ◌∷◌, refl, sym, ap, ◌∙◌, arith, subst}
+use Rattle.std.specs.Prelude.{not, nat_lt}
+use Prim.Native.Nat.{min, max}
+use Rattle.std.proofs.lemmas.Bool.{cases_lt, eq-eqb, eqb-true, lt-ltb, ltb-true, false≢true}
+use Rattle.xdg_judge.proofs.Sets.{either, both}
+use Rattle.xdg_nodeset.specs.Nodes.{has, IsNodes}
+use Rattle.xdg_nodeset.proofs.Rising.{has_beyond}
+use Rattle.xdg_problem.specs.Asking.{IsBetween}
+use Rattle.xdg_porder.specs.Across.{Crosses}
+
+-- what was gathered, and what the nodes still to come bring, is what all bring
+abbrev pub Gathers : (ℕ → ℕ → Type 0) → List ℕ → List ℕ → List ℕ → Type 0
+Gathers Q first left acc = (x : ℕ) → ((has acc x ≡ true) ⊎ ((v : ℕ) × (has left v ≡ true) × Q v x)) ↔ ((v : ℕ) × (has first v ≡ true) × Q v x)
+
+no_member : (set : List ℕ) (x : ℕ) → set ≡ [] → has set x ≡ true → ⊥
+no_member set x empty h = false≢true (subst (λ s. has s x ≡ true) empty h)
+
+pub gathers_start : (Q : ℕ → ℕ → Type 0) (first acc : List ℕ) → acc ≡ [] → Gathers Q first first acc
+gathers_start Q first acc empty x = (
+  λ h. elim h [ inl there ↦ absurd (no_member acc x empty there) | inr more ↦ more ],
+  λ h. inr h,
+)
+
+pub head_in : (left rest : List ℕ) (v : ℕ) → left ≡ v ∷ rest → has left v ≡ true
+head_in left rest v is = subst (λ s. has s v ≡ true) (sym is) ((either (v == v) (has rest v)).1 (inl (eq-eqb v v refl)))
+
+pub tail_in : (left rest : List ℕ) (v w : ℕ) → left ≡ v ∷ rest → has rest w ≡ true → has left w ≡ true
+tail_in left rest v w is h = subst (λ s. has s w ≡ true) (sym is) ((either (v == w) (has rest w)).1 (inr h))
+
+pub head_or_tail : (left rest : List ℕ) (v w : ℕ) → left ≡ v ∷ rest → has left w ≡ true → (v ≡ w) ⊎ (has rest w ≡ true)
+head_or_tail left rest v w is h = elim ((either (v == w) (has rest w)).0 (subst (λ s. has s w ≡ true) is h)) [
+  | inl same ↦ inl (eqb-true v w same)
+  | inr later ↦ inr later
+]
+
+pub gathers_next : (Q : ℕ → ℕ → Type 0) (first left rest acc new : List ℕ) (v : ℕ) → left ≡ v ∷ rest → ((x : ℕ) → (has new x ≡ true) ↔ ((has acc x ≡ true) ⊎ Q v x)) → Gathers Q first left acc → Gathers Q first rest new
+gathers_next Q first left rest acc new v is step before x = (
+  λ h. elim h [
+    | inl there ↦ elim ((step x).0 there) [
+      | inl old ↦ (before x).0 (inl old)
+      | inr here ↦ (before x).0 (inr (v, head_in left rest v is, here))
+    ]
+    | inr (w, later, q) ↦ (before x).0 (inr (w, tail_in left rest v w is later, q))
+  ],
+  λ h. elim ((before x).1 h) [
+    | inl old ↦ inl ((step x).1 (inl old))
+    | inr (w, there, q) ↦ elim (head_or_tail left rest v w is there) [
+      | inl same ↦ inl ((step x).1 (inr (subst (λ k. Q k x) (sym same) q)))
+      | inr later ↦ inr (w, later, q)
+    ]
+  ],
+)
+
+pub gathers_end : (Q : ℕ → ℕ → Type 0) (first left acc : List ℕ) → left ≡ [] → Gathers Q first left acc → (x : ℕ) → (has acc x ≡ true) ↔ ((v : ℕ) × (has first v ≡ true) × Q v x)
+gathers_end Q first left acc empty before x = (
+  λ h. (before x).0 (inl h),
+  λ h. elim ((before x).1 h) [ inl there ↦ there | inr (v, none, q) ↦ absurd (no_member left v empty none) ],
+)
+
+-- where each node brings itself, if it is as asked
+pub kept_end : (P : ℕ → Type 0) (first acc : List ℕ) → ((x : ℕ) → (has acc x ≡ true) ↔ ((v : ℕ) × (has first v ≡ true) × ((x ≡ v) × P v))) → (x : ℕ) → (has acc x ≡ true) ↔ ((has first x ≡ true) × P x)
+kept_end P first acc exact x = (
+  λ h. (let (v, there, (same, p)) = (exact x).0 h in (subst (λ k. has first k ≡ true) (sym same) there, subst P (sym same) p)),
+  λ (there, p). (exact x).1 (x, there, (refl, p)),
+)
+
+-- the nodes of a set are below 128
+abbrev pub AreSmall : List ℕ → Type 0
+AreSmall set = (v : ℕ) → has set v ≡ true → v < 128
+
+pub nodes_small : (set : List ℕ) → IsNodes set → AreSmall set
+nodes_small set is v h = elim (cases_lt v 128) [
+  | inl less ↦ less
+  | inr past ↦ absurd (false≢true (sym (ap (λ s. has s v) is.whole ∙ has_beyond 128 (has set) v past) ∙ h))
+]
+
+pub small_later : (left rest : List ℕ) (v : ℕ) → left ≡ v ∷ rest → AreSmall left → AreSmall rest
+small_later left rest v is small w h = small w (tail_in left rest v w is h)
+
+pub same_set : (set of : List ℕ) → set ≡ of → (x : ℕ) → (has set x ≡ true) ↔ (has of x ≡ true)
+same_set set of is x = (λ h. subst (λ s. has s x ≡ true) is h, λ h. subst (λ s. has s x ≡ true) (sym is) h)
+
+-- one set more
+pub unions : (Q : ℕ → Type 0) (acc more new : List ℕ) → ((x : ℕ) → (has more x ≡ true) ↔ Q x) → ((x : ℕ) → has new x ≡ (has acc x || has more x)) → (x : ℕ) → (has new x ≡ true) ↔ ((has acc x ≡ true) ⊎ Q x)
+unions Q acc more new exact is x = (
+  λ h. elim ((either (has acc x) (has more x)).0 (sym (is x) ∙ h)) [ inl old ↦ inl old | inr m ↦ inr ((exact x).0 m) ],
+  λ h. is x ∙ (either (has acc x) (has more x)).1 (elim h [ inl old ↦ inl old | inr q ↦ inr ((exact x).1 q) ]),
+)
+
+-- a set has a node, or none
+pub some_or_none : (set : List ℕ) → ((v : ℕ) × (has set v ≡ true)) ⊎ ((v : ℕ) → has set v ≡ true → ⊥)
+some_or_none [] = inr (λ v h. false≢true h)
+some_or_none (v ∷ rest) = inl (v, (either (v == v) (has rest v)).1 (inl (eq-eqb v v refl)))
+
+pub none_exact : (set : List ℕ) → set ≡ [] → IsTrue true ↔ ((v : ℕ) → has set v ≡ true → ⊥)
+none_exact set empty = (λ t v h. no_member set v empty h, λ n. refl)
+
+pub some_exact : (set rest : List ℕ) (node : ℕ) → set ≡ node ∷ rest → IsTrue false ↔ ((v : ℕ) → has set v ≡ true → ⊥)
+some_exact set rest node is = (λ t. absurd (false≢true t), λ n. absurd (n node (head_in set rest node is)))
+
+-- ---- ranges
+
+inside_exact : (a b v : ℕ) → ((nat_lt (min a b) v && nat_lt v (max a b)) ≡ true) ↔ IsBetween a b v
+inside_exact a b v = (
+  λ h. (let two = (both (nat_lt (min a b) v) (nat_lt v (max a b))).0 h in
+      let l = ltb-true (min a b) v two.0 in
+      let m = ltb-true v (max a b) two.1 in
+      elim (cases_lt a b) [
+        | inl less ↦ inl (omega (arith, l, m, less), omega (arith, l, m, less))
+        | inr past ↦ inr (omega (arith, l, m, past), omega (arith, l, m, past))
+      ]),
+  λ h. (both (nat_lt (min a b) v) (nat_lt v (max a b))).1 (elim h [
+    | inl up ↦ (let x = up.0 in let y = up.1 in (lt-ltb (min a b) v (omega (arith, x, y)), lt-ltb v (max a b) (omega (arith, x, y))))
+    | inr down ↦ (let x = down.0 in let y = down.1 in (lt-ltb (min a b) v (omega (arith, x, y)), lt-ltb v (max a b) (omega (arith, x, y))))
+  ]),
+)
+
+-- ---- what two sets have in common
+
+pub meets_left : (nodes reach met : List ℕ) (Q : ℕ → Type 0) → ((v : ℕ) → (has reach v ≡ true) ↔ Q v) → ((v : ℕ) → has met v ≡ (has nodes v && has reach v)) → (v : ℕ) → (has met v ≡ true) ↔ ((has nodes v ≡ true) × Q v)
+meets_left nodes reach met Q exact is v = (
+  λ h. (let two = (both (has nodes v) (has reach v)).0 (sym (is v) ∙ h) in (two.0, (exact v).0 two.1)),
+  λ (there, q). is v ∙ (both (has nodes v) (has reach v)).1 (there, (exact v).1 q),
+)
+
+pub meets_right : (nodes ends reach met : List ℕ) → IsNodes nodes → ((v : ℕ) → (has reach v ≡ true) ↔ ((w : ℕ) × (has ends w ≡ true) × ((w ≤ v) × (v < 128)))) → ((v : ℕ) → has met v ≡ (has nodes v && has reach v)) → (v : ℕ) → (has met v ≡ true) ↔ ((has nodes v ≡ true) × ((w : ℕ) × (has ends w ≡ true) × (w ≤ v)))
+meets_right nodes ends reach met small exact is v = (
+  λ h. (let two = (both (has nodes v) (has reach v)).0 (sym (is v) ∙ h) in let (w, there, (l, m)) = (exact v).0 two.1 in (two.0, (w, there, l))),
+  λ (here, (w, there, l)). is v ∙ (both (has nodes v) (has reach v)).1 (here, (exact v).1 (w, there, (l, nodes_small nodes small v here))),
+)
+
+-- ---- crossing
+
+left_out : (a b : Bool) → ((a && not b) ≡ true) ↔ ((a ≡ true) × (b ≡ true → ⊥))
+left_out true true = (λ h. absurd (false≢true h), λ h. absurd (h.1 refl))
+left_out true false = (λ h. (refl, λ e. false≢true e), λ h. refl)
+left_out false b = (λ h. absurd (false≢true h), λ h. absurd (false≢true h.0))
+
+pub crosses_exact : (u v : ℕ) (reached inner gaps : List ℕ) (b : Bool) → ((w : ℕ) → has inner w ≡ (nat_lt (min u v) w && nat_lt w (max u v))) → ((w : ℕ) → has gaps w ≡ (has inner w && not (has reached w))) → IsTrue b ↔ ((w : ℕ) → has gaps w ≡ true → ⊥) → IsTrue (not b) ↔ Crosses u reached v
+crosses_exact u v reached inner gaps true is is_gaps exact = (
+  λ t. absurd (false≢true t),
+  λ (w, between, out). absurd (exact.0 refl w (is_gaps w ∙ (left_out (has inner w) (has reached w)).1 (is w ∙ (inside_exact u v w).1 between, out))),
+)
+crosses_exact u v reached inner gaps false is is_gaps exact = (
+  λ t. (elim (some_or_none gaps) [
+    | inl found ↦ (let two = (left_out (has inner found.0) (has reached found.0)).0 (sym (is_gaps found.0) ∙ found.1) in (found.0, (inside_exact u v found.0).0 (sym (is found.0) ∙ two.0), two.1))
+    | inr none ↦ absurd (false≢true (exact.1 none))
+  ]),
+  λ c. refl,
+)

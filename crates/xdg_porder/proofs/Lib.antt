@@ -1,0 +1,12 @@
+pub mod Gathering
+pub mod Following
+pub mod Removing
+pub mod Pairing
+pub mod Looping
+pub mod Crossing
+pub mod Settling
+pub mod Testing
+pub mod Closing
+pub mod Ending
+pub mod Stepping
+pub mod Waking

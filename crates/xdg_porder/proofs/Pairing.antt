@@ -1,0 +1,159 @@
+-- Two labels of an order, the items with them, and what order takes of these.
+use Rattle.std.proofs.Common.{◌≡◌, ◌≢◌, ℕ, zero, suc, ◌<◌, ◌≤◌, ◌⊎◌, ◌↔◌, inl, inr, true, List, [], ◌∷◌, length, get_or, refl, sym, ap, ◌∙◌, arith, subst}
+use Rattle.std.specs.Prelude.{Contains, AllPairs}
+use Rattle.std.proofs.lemmas.List.{get_or_default, get_or-map, length-map}
+use Rattle.xdg_base.specs.declared.ids.LabelId.{LabelId}
+use Rattle.xdg_nodeset.specs.Nodes.{has}
+use Rattle.xdg_problem.specs.declared.parts.Group.{Group}
+use Rattle.xdg_problem.specs.declared.parts.Parts.{Parts}
+use Rattle.xdg_problem.specs.declared.parts.Principle.{Principle}
+use Rattle.xdg_problem.specs.declared.parts.Principle.TheVariants as principles
+use Rattle.xdg_problem.specs.Analyses.{IsPlace}
+use Rattle.xdg_problem.specs.Arguments.{first_dim, order_of, label_count}
+use Rattle.xdg_problem.specs.Boxes.{Has, IsBox, edge_decision}
+use Rattle.xdg_problem.specs.Problems.{IsGroup, IsOrderFor}
+use Rattle.xdg_problem.proofs.PlaceOrder.{place_is}
+use Rattle.xdg_rules.specs.Rules.{ComesBefore, Takes, TakesBy, attr_of_node, must_edges}
+use Rattle.xdg_rules.proofs.Shrinking.{must_exact}
+use Rattle.xdg_store.specs.States.{State, Known}
+use Rattle.xdg_propcore.specs.Passes.{Progress}
+use Rattle.xdg_propcore.specs.Sweeps.{Sweeps}
+use Rattle.xdg_porder.specs.Items.{IsAtNode, IsAtPair, IsLeftDone, IsRightDone, MayStand, MustStand, NoneStand, TakesItems, edge_to}
+
+-- ---- labels that come before others
+
+-- what holds of each label and each later one holds of two of which the first comes before the second
+pub pairs_before : (R : ℕ → ℕ → Type 0) (order : List ℕ) (l m : ℕ) → AllPairs R order → ComesBefore order l m → R l m
+pairs_before R [] l m all comes = absurd comes
+pairs_before R (label ∷ order) l m all comes = elim comes [
+  | inl (same, (k, within, at)) ↦ subst (λ z. R z m) same (subst (R label) at (all 0 (suc k) m (omega arith) (omega (arith, within))))
+  | inr later ↦ pairs_before R order l m (λ i j d a b. all (suc i) (suc j) d (omega (arith, a)) (omega (arith, b))) later
+]
+
+-- the label at a place comes before those at later places
+pub at_comes : (order : List ℕ) (i j : ℕ) → i < j → j < length order → ComesBefore order (get_or order i 0) (get_or order j 0)
+at_comes [] i j l m = absurd (omega (arith, m))
+at_comes (label ∷ order) zero zero l m = absurd (omega (arith, l))
+at_comes (label ∷ order) zero (suc j) l m = inl (refl, (j, omega (arith, m), get_or_default order j (get_or order j 0) 0 (omega (arith, m))))
+at_comes (label ∷ order) (suc i) zero l m = absurd (omega (arith, l))
+at_comes (label ∷ order) (suc i) (suc j) l m = inr (at_comes order i j (omega (arith, l)) (omega (arith, m)))
+
+order_is : (p : Principle) → p ≡ principles.Order → (labels : ℕ) (order : List LabelId) → IsOrderFor p labels order → AllPairs (λ a b. a ≢ b) order
+order_is p same labels order is = (let both : IsOrderFor principles.Order labels order = subst (λ q. IsOrderFor q labels order) same is in both.1)
+
+-- labels of which one comes before the other differ
+pub comes_differ : (parts : Parts) (group : Group) → IsGroup parts group → group.principle ≡ principles.Order → (l m : ℕ) → ComesBefore (order_of group) l m → l ≢ m
+comes_differ parts group is same l m comes =
+    let differ = order_is group.principle same (label_count parts (first_dim group)) group.order is.order in
+    pairs_before (λ a b. a ≢ b) (order_of group) l m (λ i j d less within equal.
+    let count = length-map group.order (λ (label : LabelId). label.0) in
+    let first = get_or-map (λ (label : LabelId). label.0) group.order i (record { 0 = 0 }) d (omega (arith, less, within, count)) in
+    let second = get_or-map (λ (label : LabelId). label.0) group.order j (record { 0 = 0 }) d (omega (arith, within, count)) in
+    differ i j (record { 0 = 0 }) less (omega (arith, within, count)) (ap (λ n. record { 0 = n }) (sym first ∙ equal ∙ second))) comes
+
+-- ---- what is taken
+
+-- an item v with a label l stands on the wrong side of an item w with a label m
+abbrev pub IsWrong : Group → ℕ → ℕ → ℕ → ℕ → Type 0
+IsWrong group l m v w = (ComesBefore (order_of group) m l × (v ≤ w)) ⊎ (ComesBefore (order_of group) l m × (w ≤ v))
+
+module _ (group : Group) (u l m : ℕ) (s : State) (at : IsAtNode group u s) where
+  known_is : Known s
+  known_is = at.0.0.known
+
+  takes_by : (d x : ℕ) → TakesBy principles.Order s.parts group s.now d x → Takes s.parts group s.now d x
+  takes_by d x rule = inr (subst (λ p. TakesBy p s.parts group s.now d x) (sym at.0.1) rule)
+
+  differ : (v w : ℕ) → IsWrong group l m v w → l ≢ m
+  differ v w wrong = elim wrong [
+    | inl after ↦ (λ same. comes_differ s.parts group at.0.0.group_is at.0.1 m l after.0 (sym same))
+    | inr before ↦ comes_differ s.parts group at.0.0.group_is at.0.1 l m before.0
+  ]
+
+  must_of : (label v : ℕ) → IsPlace s.parts (edge_to group u label v) → Rattle.xdg_problem.specs.Boxes.Must s.parts s.now (edge_to group u label v) → Contains (must_edges s.parts s.now (first_dim group)) (edge_to group u label v)
+  must_of label v is must = (must_exact s.parts s.now (first_dim group) (edge_to group u label v) known_is.is_box).1 ((place_is s.parts (edge_to group u label v) is, refl), must)
+
+  -- the node itself goes, as an item
+  own_goes : (w : ℕ) → MustStand s.parts group s.now u m w → IsWrong group l m u w → Has s.now (attr_of_node s.parts group 0 u) l → Takes s.parts group s.now (attr_of_node s.parts group 0 u) l
+  own_goes w must wrong own = elim must [
+    | inl (here, (has, only)) ↦ absurd (differ u w wrong (only l own))
+    | inr (is, must) ↦ takes_by (attr_of_node s.parts group 0 u) l (inr (inr (record {
+      place = edge_to group u m w;
+      must = must_of m w is must;
+      is = refl;
+      offends = elim wrong [
+        | inl after ↦ inl (after.0, (let far = after.1 in let apart = is.differ in omega (arith, far, apart)))
+        | inr before ↦ inr (before.0, (let far = before.1 in let apart = is.differ in omega (arith, far, apart)))
+      ];
+    })))
+  ]
+
+  -- a daughter goes
+  edge_goes : (v w : ℕ) → IsPlace s.parts (edge_to group u l v) → MustStand s.parts group s.now u m w → IsWrong group l m v w → Takes s.parts group s.now (edge_decision s.parts (edge_to group u l v)) 0
+  edge_goes v w is must wrong = elim must [
+    | inl (here, (has, only)) ↦ takes_by (edge_decision s.parts (edge_to group u l v)) 0 (inr (inl (record {
+      place = edge_to group u l v;
+      is = (place_is s.parts (edge_to group u l v) is, refl);
+      says = (refl, refl);
+      own = m;
+      remains = has;
+      only = only;
+      offends = elim wrong [
+        | inl after ↦ inr (after.0, (let far = after.1 in let apart = is.differ in omega (arith, far, apart, here)))
+        | inr before ↦ inl (before.0, (let far = before.1 in let apart = is.differ in omega (arith, far, apart, here)))
+      ];
+    })))
+    | inr (other_is, must) ↦ takes_by (edge_decision s.parts (edge_to group u l v)) 0 (inl (record {
+      place = edge_to group u l v;
+      is = (place_is s.parts (edge_to group u l v) is, refl);
+      says = (refl, refl);
+      other = edge_to group u m w;
+      must = must_of m w other_is must;
+      mother = refl;
+      wrong = wrong;
+    }))
+  ]
+
+  -- items on the wrong side are taken
+  pub items_go : (set : List ℕ) → ((v : ℕ) → has set v ≡ true → MayStand s.parts group s.now u l v × ((w : ℕ) × MustStand s.parts group s.now u m w × IsWrong group l m v w)) → TakesItems group u l set s
+  items_go set refused = (
+    λ here. (let (may, (w, must, wrong)) = refused u here in elim may [
+      | inl (same, own) ↦ (own, own_goes w must wrong own)
+      | inr (is, may) ↦ absurd (is.differ refl)
+    ]),
+    λ v there other. (let (may, (w, must, wrong)) = refused v there in elim may [
+      | inl (same, own) ↦ absurd (other same)
+      | inr (is, may) ↦ (is, edge_goes v w is must wrong)
+    ]),
+  )
+
+-- ---- sets
+
+pub refused_exact : (A B : ℕ → Type 0) (Q : ℕ → ℕ → Type 0) (nodes ends refused : List ℕ) → ((v : ℕ) → (has refused v ≡ true) ↔ ((has nodes v ≡ true) × ((w : ℕ) × (has ends w ≡ true) × Q v w))) → ((v : ℕ) → (has nodes v ≡ true) ↔ A v) → ((w : ℕ) → (has ends w ≡ true) ↔ B w) → (v : ℕ) → (has refused v ≡ true) ↔ (A v × ((w : ℕ) × B w × Q v w))
+refused_exact A B Q nodes ends refused exact a b v = (
+  λ h. (let (here, (w, there, q)) = (exact v).0 h in ((a v).0 here, (w, (b w).0 there, q))),
+  λ (here, (w, there, q)). (exact v).1 ((a v).1 here, (w, (b w).1 there, q)),
+)
+
+module _ (group : Group) (u earlier later : ℕ) (p : Progress) (old : State) (refused : List ℕ) (at : IsAtPair group u earlier later old) where
+  module _ (exact : (v : ℕ) → (has refused v ≡ true) ↔ (MayStand old.parts group old.now u later v × ((w : ℕ) × MustStand old.parts group old.now u earlier w × (v ≤ w)))) where
+    pub left_takes : TakesItems group u later refused old
+    left_takes = items_go group u later earlier old at.0 refused (λ v h. (let (may, (w, must, l)) = (exact v).0 h in (may, (w, must, inl (at.1, l)))))
+
+    pub left_done : (q : Progress) (new : State) → Sweeps group (NoneStand old.parts group u later refused) p old q new → Sweeps group (IsLeftDone old.parts group u earlier later) p old q new
+    left_done q new a = record {
+      goes = a.goes;
+      known = a.known;
+      done = λ quiet v w may must l. (let same = (a.goes.quiet quiet).1 in a.done quiet v ((exact v).1 (subst (λ box. MayStand old.parts group box u later v) same may, (w, subst (λ box. MustStand old.parts group box u earlier w) same must, l))) may);
+    }
+
+  module _ (exact : (v : ℕ) → (has refused v ≡ true) ↔ (MayStand old.parts group old.now u earlier v × ((w : ℕ) × MustStand old.parts group old.now u later w × (w ≤ v)))) where
+    pub right_takes : TakesItems group u earlier refused old
+    right_takes = items_go group u earlier later old at.0 refused (λ v h. (let (may, (w, must, l)) = (exact v).0 h in (may, (w, must, inr (at.1, l)))))
+
+    pub right_done : (q : Progress) (new : State) → Sweeps group (NoneStand old.parts group u earlier refused) p old q new → Sweeps group (IsRightDone old.parts group u earlier later) p old q new
+    right_done q new a = record {
+      goes = a.goes;
+      known = a.known;
+      done = λ quiet v w may must l. (let same = (a.goes.quiet quiet).1 in a.done quiet v ((exact v).1 (subst (λ box. MayStand old.parts group box u earlier v) same may, (w, subst (λ box. MustStand old.parts group box u later w) same must, l))) may);
+    }

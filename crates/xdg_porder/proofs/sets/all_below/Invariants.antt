@@ -1,0 +1,10 @@
+use Rattle.xdg_judge.specs.Links.{In}
+use Rattle.xdg_porder.proofs.Gathering.{AreSmall, Gathers}
+use Rattle.xdg_porder.proofs.sets.all_below.Given as goal
+
+abbrev pub invariant-loop-node : goal.invariant-loop-node
+invariant-loop-node l =
+    (goal.iterator-loop-node).can_next l.node-iterator
+    × (goal.iterator-loop-node).is_finite l.node-iterator
+    × AreSmall l.node-iterator
+    × Gathers (λ v x. In l.table v x) l.initial.node-iterator l.node-iterator l.below

@@ -1,0 +1,61 @@
+//! What projectivity takes: edges across nodes that can't be below their mothers.
+
+ghost use Rattle.std.specs.Prelude.{◌≡◌, ◌<◌};
+ghost use Rattle.xdg_problem.specs.Arguments.{first_dim};
+ghost use Rattle.xdg_problem.specs.Places.{nodes};
+ghost use Rattle.xdg_propcore.specs.Sweeps.{Sweeps};
+ghost use Rattle.xdg_reach.specs.Edges.{edge_labels};
+ghost use Rattle.xdg_porder.specs.Across.{AreLabelsDone, AreNodesDone, IsAcrossLabel, IsAcrossNode, IsLabelDone, IsTabled};
+
+use crate::items::may_follow;
+use crate::reads::label_count;
+use crate::sets::{across, set_at};
+use crate::taking::take_edges;
+use xdg_base::{LabelId, NodeId};
+use xdg_nodeset::NodeSet;
+use xdg_problem::Group;
+use xdg_propcore::Pass;
+use xdg_reach::node_count;
+use xdg_store::Store;
+
+/// Takes the edges from a node with a label across nodes that by a table can't be below it.
+fn take_across_label(
+    store: &mut Store,
+    pass: &mut Pass,
+    group: &Group,
+    table: &[NodeSet; 128],
+    u: NodeId,
+    label: LabelId,
+)
+    requires { IsAcrossLabel group.now table.now u.0 label.0 store.old }
+    ensures { Sweeps group.now (IsLabelDone store.old.parts group.now table.now u.0 label.0) pass.old store.old pass.new store.new }
+{
+    let refused = across(may_follow(store, group, u, label), u, set_at(table, u));
+    take_edges(store, pass, group, u, label, refused);
+}
+
+/// Takes the edges from a node across nodes that by a table can't be below it.
+fn take_across_node(
+    store: &mut Store,
+    pass: &mut Pass,
+    group: &Group,
+    table: &[NodeSet; 128],
+    u: NodeId,
+)
+    requires { IsAcrossNode group.now table.now u.0 store.old }
+    ensures { Sweeps group.now (AreLabelsDone store.old.parts group.now table.now u.0 (edge_labels store.old.parts (first_dim group.now))) pass.old store.old pass.new store.new }
+{
+    for label in 0..label_count(store, group) {
+        take_across_label(store, pass, group, table, u, LabelId(label));
+    }
+}
+
+/// Takes the edges across nodes that by a table can't be below their mothers.
+pub(crate) fn take_across(store: &mut Store, pass: &mut Pass, group: &Group, table: &[NodeSet; 128])
+    requires { IsTabled group.now table.now store.old }
+    ensures { Sweeps group.now (AreNodesDone store.old.parts group.now table.now (nodes store.old.parts)) pass.old store.old pass.new store.new }
+{
+    for u in 0..node_count(store) {
+        take_across_node(store, pass, group, table, NodeId(u));
+    }
+}

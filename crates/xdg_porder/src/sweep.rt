@@ -1,0 +1,64 @@
+//! What order and projectivity take, at once.
+
+ghost use Rattle.std.specs.Prelude.{◌≡◌, true};
+ghost use Rattle.xdg_problem.specs.declared.parts.Principle.TheVariants as principles;
+ghost use Rattle.xdg_rules.specs.Rules.{FailsTest, IsClosedFor};
+ghost use Rattle.xdg_propcore.specs.Sweeps.{Sweeps};
+ghost use Rattle.xdg_problem.specs.Arguments.{truth_of};
+ghost use Rattle.xdg_porder.specs.Family.{IsOfFamily};
+ghost use Rattle.xdg_porder.specs.Items.{IsOrdering, IsReady};
+
+use crate::across::take_across;
+use crate::failing::fails_test;
+use crate::pairs::take_nodes;
+use crate::reads::{dim_of, is_order, takes_yields};
+use xdg_problem::Group;
+use xdg_propcore::Pass;
+use xdg_reach::{Which, above};
+use xdg_store::Store;
+
+/// Takes all, where yields are taken along and a test is decided and fails.
+fn take_failing(store: &mut Store, pass: &mut Pass, group: &Group)
+    requires { IsOrdering group.now store.old }
+    ensures { Sweeps group.now (λ box. truth_of group.now.truths 0 ≡ true → FailsTest store.old.parts group.now box → ⊥) pass.old store.old pass.new store.new }
+{
+    if !takes_yields(group) {
+        return;
+    }
+    if !fails_test(store, group) {
+        return;
+    }
+    pass.fail(store);
+}
+
+/// Takes what an order takes.
+fn take_order(store: &mut Store, pass: &mut Pass, group: &Group)
+    requires { IsOrdering group.now store.old }
+    ensures { Sweeps group.now (IsClosedFor store.old.parts group.now) pass.old store.old pass.new store.new }
+{
+    take_nodes(store, pass, group);
+    take_failing(store, pass, group);
+}
+
+/// Takes what a projectivity takes.
+fn take_projective(store: &mut Store, pass: &mut Pass, group: &Group)
+    requires ready { IsReady group.now store.old }
+    requires projective { group.now.principle ≡ principles.Projectivity }
+    ensures { Sweeps group.now (IsClosedFor store.old.parts group.now) pass.old store.old pass.new store.new }
+{
+    let table = above(store, Which::May, dim_of(group));
+    take_across(store, pass, group, &table);
+}
+
+/// Takes what a principle use of the family takes.
+pub(crate) fn take_all(store: &mut Store, pass: &mut Pass, group: &Group)
+    requires ready { IsReady group.now store.old }
+    requires family { IsOfFamily group.now.principle }
+    ensures { Sweeps group.now (IsClosedFor store.old.parts group.now) pass.old store.old pass.new store.new }
+{
+    if is_order(group) {
+        take_order(store, pass, group);
+        return;
+    }
+    take_projective(store, pass, group);
+}
