@@ -1,0 +1,16 @@
+use Rattle.xdg_engine.proofs.any_prop.AnyPropPropagator.wakes.Goals as goal
+
+pub returns-in-Graph-clause-named : goal.returns-in-Graph-clause-named
+returns-in-Graph-clause-named c = rw c.in-Graph.is c.wakes.ensures.named
+
+pub returns-in-Order-clause-named : goal.returns-in-Order-clause-named
+returns-in-Order-clause-named c = rw c.in-Order.is c.wakes-in-Order.ensures.named
+
+pub returns-in-Agree-clause-named : goal.returns-in-Agree-clause-named
+returns-in-Agree-clause-named c = rw c.in-Agree.is c.wakes-in-Agree.ensures.named
+
+pub returns-in-Multi-clause-named : goal.returns-in-Multi-clause-named
+returns-in-Multi-clause-named c = rw c.in-Multi.is c.wakes-in-Multi.ensures.named
+
+pub returns-in-Link-clause-named : goal.returns-in-Link-clause-named
+returns-in-Link-clause-named c = rw c.in-Link.is c.wakes-in-Link.ensures.named

@@ -1,0 +1,23 @@
+-- For which principle uses a propagator of any family stands.
+use Rattle.std.specs.Prelude.{◌≡◌, ℕ, ◌<◌, List, length, slice_index_or}
+use Rattle.xdg_problem.specs.declared.parts.Parts.{Parts}
+use Rattle.xdg_pgraph.specs.Standing as graph
+use Rattle.xdg_porder.specs.Standing as order
+use Rattle.xdg_pagree.specs.Standing as agree
+use Rattle.xdg_pmulti.specs.Standing as multi
+use Rattle.xdg_plink.specs.Standing as link
+use Rattle.xdg_engine.specs.declared.any_prop.AnyProp.{AnyProp}
+use Rattle.xdg_engine.specs.declared.any_prop.AnyProp.TheVariants as any
+
+-- for those for which it stands in its family
+abbrev pub stands_for : AnyProp → Parts → ℕ → Type 0
+stands_for (any.Graph p) = graph.stands_for p
+stands_for (any.Order p) = order.stands_for p
+stands_for (any.Agree p) = agree.stands_for p
+stands_for (any.Multi p) = multi.stands_for p
+stands_for (any.Link p) = link.stands_for p
+
+-- the propagators stand for the first principle uses of the sentence, so many, one for each and in the order of the uses
+pub record AreInOrder (parts : Parts) (count : ℕ) (props : List AnyProp) : Type 0 where
+  pub count_is : length props ≡ count
+  pub each : (number : ℕ) (p : AnyProp) → number < count → stands_for (slice_index_or props number p) parts number
