@@ -21,6 +21,7 @@ use xdg_search::{Search, Step};
 #[derive(Drop)]
 pub struct Stream<'a, P: Propagator> {
     search: Search<BoxFront<'a, P>>,
+    // The vector of the start, of which contracts speak. No call changes it.
     start: Vec<u16>,
     // The solution that was found last, and before that the start.
     last: Held<'a>,
@@ -96,8 +97,8 @@ impl<'a, P: Propagator> Stream<'a, P> {
         }
     }
 
-    /// The vector that was found last, and before that the start's.
-    pub fn last(&self) -> &[u16]
+    /// The vector of the analysis that was found last, and before that the start's.
+    pub fn vector(&self) -> &[u16]
         ensures { result.now ≡ self.now.last }
     {
         self.last.numbers()
