@@ -5,8 +5,8 @@ Usage: python3 bench/grow.py [PROGRAM]      (PROGRAM is ./xdg of this repository
 
 Each table goes over one family of grammars whose text doubles from row to row; a cell has the seconds of a run and its peak
 memory in MiB, and the last column how the seconds of `check` grew since the row before, per byte of the text. A figure near 1.0
-there says that the time goes in proportion to the length of the text. The last two tables are of long sentences: compiled, and judged by
-`explain`.
+there says that the time goes in proportion to the length of the text. The last three tables are of long sentences: compiled, searched,
+and judged by `explain`.
 """
 
 import os
@@ -126,6 +126,34 @@ def judged(program, folder):
         print(f"{words:>10} {len(analysis):>9}  {seconds:7.3f}s{memory:5.0f}M  {told}")
 
 
+CHAIN = """usedim id usedim lex
+defdim lex {defentrytype {word: string}}
+defdim id {
+deftype id.label {own next}
+deflabeltype id.label
+defattrstype {on: id.label}
+defentrytype {in: valency(id.label) out: valency(id.label) ons: set(id.label)}
+useprinciple principle.graph {dims {D: id}}
+useprinciple principle.tree {dims {D: id}}
+useprinciple principle.valency {dims {D: id}}
+useprinciple principle.agr {dims {D: id} args {Agr: on Agrs: ons}}
+useprinciple principle.order {dims {D: id} args {Order: [own next] On: on}}
+}
+defentry {dim id {in: {next?} out: {next?} ons: {own}} dim lex {word: w}}
+"""
+
+
+def searched(program, folder):
+    """A row for each length of a sentence whose only analysis is a chain of its words: the boxed prefixes are the fronts of that one."""
+    print("\nso many words, whose one analysis is a chain; its fronts are the boxed prefixes")
+    print(f"{'words':>10} {'prefixes':>9}  {'parse':>14}  {'a prefix':>9}")
+    (folder / "g.xdg").write_text(CHAIN)
+    for words in (8, 16, 32, 64, 128):
+        prefixes = 2 * words * words
+        seconds, memory, told = run(program, ["parse", str(folder / "g.xdg"), "--budget", str(prefixes)], b"w " * words)
+        print(f"{words:>10} {prefixes:>9}  {seconds:7.3f}s{memory:5.0f}M  {1e6 * seconds / prefixes:7.1f}us  {told}")
+
+
 def compiled(program, folder):
     """A row for each number of entries: what it takes to compile a sentence of 128 words, with a budget of one prefix."""
     print("\n128 words, each with so many entries that share one record of 32 labels; the search is cut at once")
@@ -193,6 +221,7 @@ def main():
         table(program, folder, "classes that use one another, so deep",
               [(str(n), nested(n)) for n in (1_000, 2_000, 4_000, 8_000, 16_000, 32_000, 65_000)], b"w")
         compiled(program, folder)
+        searched(program, folder)
         judged(program, folder)
 
 

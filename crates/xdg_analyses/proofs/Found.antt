@@ -1,51 +1,54 @@
--- What a search has found and printed so far.
-use Rattle.std.proofs.Common.{◌≡◌, ◌⊎◌, inl, inr, ℕ, ◌<◌, ◌≤◌, ◌+◌, ◌-◌, List, [], ◌∷◌, ◌++◌, length, map, refl, ap, sym, ◌∙◌, subst, arith, append_assoc, append-nil, length-append, Some, None, Bool, true, false, ◌==◌, eqb, eq-eqb}
-use Rattle.std.proofs.lemmas.List.{length-map}
+-- What a stream has found, and what is printed of it so far.
+use Rattle.std.proofs.Common.{◌≡◌, inl, inr, ℕ, ◌≤◌, ◌+◌, List, [], ◌∷◌, ◌++◌, length, map, refl, ap, sym, ◌∙◌, subst, arith, append_assoc, append-nil, length-append, Some, None, true, false, ◌==◌, eqb, eq-eqb}
 use Rattle.std.specs.Prelude.{Option}
+use Rattle.std.specs.Option.{option_eq}
+use Rattle.std.proofs.lemmas.Bool.{eqb-true}
+use Rattle.std.proofs.lemmas.List.{length-map}
+use Rattle.xdg_base.specs.declared.ids.EntryNo.{EntryNo}
 use Rattle.xdg_io.specs.Held.{Appends}
 use Rattle.xdg_io.proofs.Written.{appends_nothing, appends_both}
-use Rattle.xdg_listing.specs.Order.{Less}
-use Rattle.xdg_listing.specs.Passed.{Finds}
-use Rattle.xdg_base.specs.declared.ids.EntryNo.{EntryNo}
+use Rattle.xdg_listing.specs.Answered.{Answered, Drawn}
+use Rattle.xdg_listing.specs.Endings.{IsBelow, IsUpTo, IsAt}
+use Rattle.xdg_listing.specs.declared.Ending.{Ending}
+use Rattle.xdg_listing.specs.declared.Ending.TheVariants as endings
+use Rattle.xdg_listing.proofs.Ordered.{three_cases}
 use Rattle.xdg_problem.specs.declared.analysis.Analysis.{Analysis}
 use Rattle.xdg_problem.specs.declared.analysis.Edge.{Edge}
 use Rattle.xdg_problem.specs.declared.parts.Parts.{Parts}
+use Rattle.xdg_problem.specs.Analyses.{IsAnalysis}
 use Rattle.xdg_problem.specs.Vectors.{shape, analysis_of}
-use Rattle.xdg_problem.specs.Live.{Live}
-use Rattle.xdg_search.specs.Problem.{SameProblem}
-use Rattle.xdg_search.specs.Place.{place, Next}
-use Rattle.xdg_search.specs.Progress.{Progress}
+use Rattle.xdg_rules.specs.Boxed.{Boxed}
 use Rattle.xdg_search.specs.declared.Step.{Step}
-use Rattle.xdg_search.proofs.Progressing.{progress_start, progress_found, progress_first}
-use Rattle.xdg_listing.specs.Answered.{Answered}
-use Rattle.xdg_listing.specs.declared.Ending.TheVariants as endings
-use Rattle.std.specs.Option.{option_eq}
-use Rattle.std.proofs.lemmas.Bool.{eqb-true}
-use Rattle.xdg_listing.specs.Endings.{IsBelow, IsUpTo, IsAt}
-use Rattle.xdg_listing.proofs.Ordered.{three_cases}
+use Rattle.xdg_search.specs.declared.Step.TheVariants as steps
+use Rattle.xdg_stream.specs.Streamed.{Streamed, Leaves, IsCharged, Advances}
+use Rattle.xdg_stream.proofs.Streaming.{end_found, spent_found}
 use Rattle.xdg_analyses.specs.declared.forms.Form.{Form}
 use Rattle.xdg_analyses.specs.Printed.{shown, blocks}
 
--- The blocks of the vectors that were found are printed, and the search goes on. `held` are the parts that the front has.
-pub record Found (form : Form) (wanted : Option ℕ) (parts held : Parts) (numbers : List ℕ) (value : ℕ) (halt : Option Step) (charged count : ℕ) (old new : Option (List ℕ)) : Type 0 where
-  pub problem : held ≡ parts
-  pub open_still : halt ≡ None
+-- The blocks of the vectors that were found are printed, and the stream, which began with the first of all, goes on.
+pub record Found (form : Form) (wanted : Option ℕ) (parts : Parts) (budget : ℕ) (s : Streamed) (count : ℕ) (old new : Option (List ℕ)) : Type 0 where
+  pub problem : s.parts ≡ parts
+  pub begun : s.start ≡ []
+  pub spends : s.budget ≡ budget
+  pub open_still : s.ended ≡ None
   pub found : List (List ℕ)
-  pub progress : Progress (shape parts) (Live parts) [] (shape held) (Live held) numbers value halt charged found
+  pub so_far : IsCharged s found
   pub count_is : count ≡ length found
-  pub few : length found ≤ charged
+  pub few : length found ≤ s.charged
   pub below : IsBelow (length found) wanted
   pub written : Appends old new (blocks form parts 1 (map (analysis_of parts) found))
 
-pub found_none : (form : Form) (wanted : Option ℕ) (parts held : Parts) (numbers : List ℕ) (value : ℕ) (halt : Option Step) (charged : ℕ) (old : Option (List ℕ)) → IsBelow 0 wanted → held ≡ parts → halt ≡ None → Progress (shape parts) (Live parts) [] (shape held) (Live held) numbers value halt charged [] → Found form wanted parts held numbers value halt charged 0 old old
-found_none form wanted parts held numbers value halt charged old b e d p = record {
-  problem = e;
-  open_still = d;
+pub found_none : (form : Form) (wanted : Option ℕ) (parts : Parts) (budget : ℕ) (s : Streamed) (old : Option (List ℕ)) → IsBelow 0 wanted → s.parts ≡ parts → s.start ≡ [] → s.budget ≡ budget → s.ended ≡ None → IsCharged s [] → Found form wanted parts budget s 0 old old
+found_none form wanted parts budget s old below problem begun spends open_still so_far = record {
+  problem = problem;
+  begun = begun;
+  spends = spends;
+  open_still = open_still;
   found = [];
-  progress = p;
+  so_far = so_far;
   count_is = refl;
   few = omega arith;
-  below = b;
+  below = below;
   written = appends_nothing old;
 }
 
@@ -93,24 +96,6 @@ below_more (Some n) k m b e other = elim (three_cases m n) [
   | inr (inr g) ↦ absurd (omega (arith, b, e, g))
 ]
 
--- a vector more was found, and its block printed
-pub found_more : (form : Form) (wanted : Option ℕ) (parts held later : Parts) (numbers : List ℕ) (value : ℕ) (halt : Option Step) (charged count : ℕ) (grown : List ℕ) (after : ℕ) (halted : Option Step) (more : ℕ) (old mid new : Option (List ℕ)) (a : Analysis) → Found form wanted parts held numbers value halt charged count old mid → later ≡ held → halted ≡ None → charged < more → SameProblem (shape held) (Live held) (shape later) (Live later) → Next (shape held) (Live held) grown (place grown after) → ((from : List ℕ) → Next (shape held) (Live held) from (place numbers value) → Less from grown × Finds (shape held) (Live held) from grown (more - charged)) → a ≡ analysis_of parts grown → Appends mid new (shown form parts (count + 1) a) → (wanted ≡ Some (count + 1) → ⊥) → Found form wanted parts later grown after halted more (count + 1) old new
-found_more form wanted parts held later numbers value halt charged count grown after halted more old mid new a f e h m same next finds is added other =
-    let parts_same : later ≡ parts = e ∙ f.problem in
-    let n = length-append f.found (grown ∷ []) in
-    let k = f.count_is in
-    let w = f.few in
-    record {
-      problem = parts_same;
-      open_still = h;
-      found = f.found ++ grown ∷ [];
-      progress = progress_found _ _ _ _ _ _ _ _ _ _ _ _ _ _ _ _ f.progress f.open_still (omega arith) same next finds;
-      count_is = omega (arith, n, k);
-      few = omega (arith, n, w);
-      below = below_more wanted (length f.found) (length (f.found ++ grown ∷ [])) f.below (omega (arith, n)) (λ s. other (s ∙ ap Some (omega (arith, k, n))));
-      written = subst (Appends old new) (sym (blocks_found form parts f.found grown (count + 1) (omega (arith, k)))) (appends_both f.written (subst (λ z. Appends mid new (shown form parts (count + 1) z)) is added));
-    }
-
 -- three lists that are those of an analysis are the analysis
 pub analysis_is : (parts held : Parts) (x : List ℕ) (entries : List EntryNo) (attrs : List ℕ) (edges : List Edge) → held ≡ parts → entries ≡ (analysis_of held x).entries → attrs ≡ (analysis_of held x).attrs → edges ≡ (analysis_of held x).edges → record { entries = entries; attrs = attrs; edges = edges } ≡ analysis_of parts x
 analysis_is parts held x entries attrs edges e p q r =
@@ -120,33 +105,86 @@ analysis_is parts held x entries attrs edges e p q r =
     let three : List Edge → Analysis = λ z. record { entries = A.entries; attrs = A.attrs; edges = z } in
     ap one p ∙ ap two q ∙ ap three r ∙ ap (λ z. analysis_of z x) e
 
--- the vectors that were found and one more are answers of a search that wants so many
-pub found_answered : (form : Form) (wanted : Option ℕ) (budget : ℕ) (parts held later : Parts) (numbers : List ℕ) (value : ℕ) (halt : Option Step) (charged count : ℕ) (grown : List ℕ) (after : ℕ) (halted : Option Step) (more : ℕ) (old mid : Option (List ℕ)) → (f : Found form wanted parts held numbers value halt charged count old mid) → charged < more → more ≤ budget → SameProblem (shape held) (Live held) (shape later) (Live later) → Next (shape held) (Live held) grown (place grown after) → ((from : List ℕ) → Next (shape held) (Live held) from (place numbers value) → Less from grown × Finds (shape held) (Live held) from grown (more - charged)) → Answered endings.First (shape parts) (Live parts) [] budget (Some (length (f.found ++ grown ∷ []))) (f.found ++ grown ∷ [])
-found_answered form wanted budget parts held later numbers value halt charged count grown after halted more old mid f m b same next finds =
-    progress_first (shape parts) (Live parts) [] (shape later) (Live later) grown after halted more budget (Some (length (f.found ++ grown ∷ []))) (f.found ++ grown ∷ [])
-    (progress_found _ _ _ _ _ _ _ _ _ _ _ _ _ _ _ _ f.progress f.open_still (omega arith) same next finds) b refl
+-- the answers of a stream that began with the first of all, by how it has ended
+module _ (wanted : Option ℕ) (parts : Parts) (budget : ℕ) (s : Streamed) (found : List (List ℕ)) (problem : s.parts ≡ parts) (begun : s.start ≡ []) (spends : s.budget ≡ budget) (so_far : IsCharged s found) where
+  moved : (ending : Ending) → Answered ending (shape s.parts) (Boxed s.parts) s.start s.budget wanted found → Answered ending (shape parts) (Boxed parts) [] budget wanted found
+  moved ending answered =
+      subst (λ p. Answered ending (shape p) (Boxed p) [] budget wanted found) problem
+      (subst (λ z. Answered ending (shape s.parts) (Boxed s.parts) z budget wanted found) begun
+      (subst (λ b. Answered ending (shape s.parts) (Boxed s.parts) s.start b wanted found) spends answered))
 
--- the block of one more vector behind those that are printed
-pub written_more : (form : Form) (wanted : Option ℕ) (parts held : Parts) (numbers : List ℕ) (value : ℕ) (halt : Option Step) (charged count : ℕ) (grown : List ℕ) (old mid new : Option (List ℕ)) (a : Analysis) → (f : Found form wanted parts held numbers value halt charged count old mid) → a ≡ analysis_of parts grown → Appends mid new (shown form parts (count + 1) a) → Appends old new (blocks form parts 1 (map (analysis_of parts) (f.found ++ grown ∷ [])))
-written_more form wanted parts held numbers value halt charged count grown old mid new a f is added =
-    let k = f.count_is in
-    subst (Appends old new) (sym (blocks_found form parts f.found grown (count + 1) (omega (arith, k)))) (appends_both f.written (subst (λ z. Appends mid new (shown form parts (count + 1) z)) is added))
+  left : (step : Step) → s.ended ≡ Some step → Leaves (Some step) s.parts so_far.front s.charged s.budget
+  left step e = subst (λ d. Leaves d s.parts so_far.front s.charged s.budget) e so_far.leaves
 
--- as many as wanted
-pub all_wanted : (budget : ℕ) (wanted : Option ℕ) (parts : Parts) (found : List (List ℕ)) (k : ℕ) → wanted ≡ Some k → k ≡ length found → Answered endings.First (shape parts) (Live parts) [] budget (Some (length found)) found → Answered endings.First (shape parts) (Live parts) [] budget wanted found
-all_wanted budget wanted parts found k e n answered = subst (λ z. Answered endings.First (shape parts) (Live parts) [] budget z found) (sym (e ∙ ap Some n)) answered
+  pub first_answers : IsAt (length found) wanted → Answered endings.First (shape parts) (Boxed parts) [] budget wanted found
+  first_answers at = moved endings.First (so_far.front, s.charged, so_far.drawn, so_far.within, at)
+
+  pub all_answers : s.ended ≡ Some steps.End → IsBelow (length found) wanted → Answered endings.Complete (shape parts) (Boxed parts) [] budget wanted found
+  all_answers e below = moved endings.Complete (so_far.front, s.charged, so_far.drawn, left steps.End e, so_far.within, below)
+
+  pub spent_answers : s.ended ≡ Some steps.Spent → IsBelow (length found) wanted → Answered endings.Spent (shape parts) (Boxed parts) [] budget wanted found
+  spent_answers e below =
+      let rest = left steps.Spent e in
+      moved endings.Spent (so_far.front, subst (λ n. Drawn (shape s.parts) (Boxed s.parts) s.start so_far.front n found) rest.0 so_far.drawn, rest.1, below)
 
 pub counted_more : (found : List (List ℕ)) (x : List ℕ) (count : ℕ) → count ≡ length found → count + 1 ≡ length (found ++ x ∷ [])
 counted_more found x count e = let l = length-append found (x ∷ []) in omega (arith, l, e)
 
--- the vectors that were found and one more are as many as wanted
-pub first_answered : (form : Form) (wanted : Option ℕ) (budget : ℕ) (parts held later : Parts) (numbers : List ℕ) (value : ℕ) (halt : Option Step) (charged count : ℕ) (grown : List ℕ) (after : ℕ) (halted : Option Step) (more own : ℕ) (old mid : Option (List ℕ)) → (f : Found form wanted parts held numbers value halt charged count old mid) → charged < more → more ≤ own → own ≡ budget → SameProblem (shape held) (Live held) (shape later) (Live later) → Next (shape held) (Live held) grown (place grown after) → ((from : List ℕ) → Next (shape held) (Live held) from (place numbers value) → Less from grown × Finds (shape held) (Live held) from grown (more - charged)) → wanted ≡ Some (count + 1) → Answered endings.First (shape parts) (Live parts) [] budget wanted (f.found ++ grown ∷ [])
-first_answered form wanted budget parts held later numbers value halt charged count grown after halted more own old mid f m w b same next finds e =
-    all_wanted budget wanted parts (f.found ++ grown ∷ []) (count + 1) e (counted_more f.found grown count f.count_is)
-    (found_answered form wanted budget parts held later numbers value halt charged count grown after halted more old mid f m (omega (arith, w, b)) same next finds)
+-- one more call
+module _ (form : Form) (wanted : Option ℕ) (parts : Parts) (budget : ℕ) (s t : Streamed) (count : ℕ) (old mid : Option (List ℕ)) (f : Found form wanted parts budget s count old mid) where
+  -- nothing more was found
+  pub complete_answered : Advances s steps.End t → Answered endings.Complete (shape parts) (Boxed parts) [] budget wanted f.found
+  complete_answered step = all_answers wanted parts budget t f.found (step.given.0 ∙ f.problem) (step.given.1 ∙ f.begun) (step.given.2 ∙ f.spends) (step.charged f.found f.so_far) (step.stops end_found).0 f.below
 
--- a search that has just started, of a problem that is the one asked for
-pub starts : (parts held later : Parts) (numbers : List ℕ) (value : ℕ) (halt : Option Step) (charged : ℕ) → held ≡ parts → later ≡ held → SameProblem (shape held) (Live held) (shape later) (Live later) → Next (shape held) (Live held) [] (place numbers value) → charged ≡ 0 → Progress (shape parts) (Live parts) [] (shape parts) (Live parts) numbers value halt charged []
-starts parts held later numbers value halt charged e d same next z =
-    subst (λ p. Progress (shape p) (Live p) [] (shape p) (Live p) numbers value halt charged []) e
-    (progress_start (shape held) (Live held) [] (shape held) (Live held) numbers value halt charged (subst (λ p. SameProblem (shape held) (Live held) (shape p) (Live p)) d same) next z)
+  pub spent_answered : Advances s steps.Spent t → Answered endings.Spent (shape parts) (Boxed parts) [] budget wanted f.found
+  spent_answered step = spent_answers wanted parts budget t f.found (step.given.0 ∙ f.problem) (step.given.1 ∙ f.begun) (step.given.2 ∙ f.spends) (step.charged f.found f.so_far) (step.stops spent_found).0 f.below
+
+  -- a vector more was found
+  module _ (step : Advances s steps.Found t) where
+    -- it stands for an analysis of the sentence
+    pub found_fits : IsAnalysis parts (analysis_of parts t.last)
+    found_fits = subst (λ p. IsAnalysis p (analysis_of p t.last)) f.problem (step.found refl).2.solution.fits
+
+    -- the numbers stay in range
+    pub found_counted : (count + 1 ≤ t.charged) × (t.charged ≤ budget)
+    found_counted =
+        let few = f.few in
+        let k = f.count_is in
+        let costs = step.costs refl in
+        let within = (step.charged f.found f.so_far).within in
+        let spends = step.given.2 ∙ f.spends in
+        (omega (arith, few, k, costs), omega (arith, within, spends))
+
+    -- as many as were found are answers of a search that wants so many
+    pub found_answered : Answered endings.First (shape parts) (Boxed parts) [] budget (Some (length (f.found ++ t.last ∷ []))) (f.found ++ t.last ∷ [])
+    found_answered = first_answers (Some (length (f.found ++ t.last ∷ []))) parts budget t (f.found ++ t.last ∷ []) (step.given.0 ∙ f.problem) (step.given.1 ∙ f.begun) (step.given.2 ∙ f.spends) (step.charged f.found f.so_far) refl
+
+    -- and of this one, where they are as many as wanted
+    pub first_answered : wanted ≡ Some (count + 1) → Answered endings.First (shape parts) (Boxed parts) [] budget wanted (f.found ++ t.last ∷ [])
+    first_answered e = subst (λ z. Answered endings.First (shape parts) (Boxed parts) [] budget z (f.found ++ t.last ∷ [])) (sym (e ∙ ap Some (counted_more f.found t.last count f.count_is))) found_answered
+
+    module _ (a : Analysis) (is : a ≡ analysis_of parts t.last) (new : Option (List ℕ)) (added : Appends mid new (shown form parts (count + 1) a)) where
+      -- its block stands behind those that are printed
+      pub written_more : Appends old new (blocks form parts 1 (map (analysis_of parts) (f.found ++ t.last ∷ [])))
+      written_more =
+          let k = f.count_is in
+          subst (Appends old new) (sym (blocks_found form parts f.found t.last (count + 1) (omega (arith, k)))) (appends_both f.written (subst (λ z. Appends mid new (shown form parts (count + 1) z)) is added))
+
+      pub found_more : (wanted ≡ Some (count + 1) → ⊥) → Found form wanted parts budget t (count + 1) old new
+      found_more other =
+          let k = f.count_is in
+          let n = length-append f.found (t.last ∷ []) in
+          let few = f.few in
+          let costs = step.costs refl in
+          record {
+            problem = step.given.0 ∙ f.problem;
+            begun = step.given.1 ∙ f.begun;
+            spends = step.given.2 ∙ f.spends;
+            open_still = (step.found refl).1;
+            found = f.found ++ t.last ∷ [];
+            so_far = step.charged f.found f.so_far;
+            count_is = omega (arith, k, n);
+            few = omega (arith, few, n, costs);
+            below = below_more wanted (length f.found) (length (f.found ++ t.last ∷ [])) f.below (omega (arith, n)) (λ e. other (e ∙ ap Some (omega (arith, k, n))));
+            written = written_more;
+          }

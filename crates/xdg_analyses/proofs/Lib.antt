@@ -1,3 +1,4 @@
+pub mod Boxing
 pub mod OnePrint
 pub mod Reported
 pub mod Found

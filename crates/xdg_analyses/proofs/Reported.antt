@@ -7,20 +7,22 @@ use Rattle.xdg_listing.specs.declared.Ending.{Ending}
 use Rattle.xdg_listing.proofs.Drawing.{ending_of}
 use Rattle.xdg_problem.specs.declared.parts.Parts.{Parts}
 use Rattle.xdg_problem.specs.Vectors.{shape, vector, analysis_of}
-use Rattle.xdg_problem.specs.Live.{Live}
 use Rattle.xdg_problem.specs.Problems.{IsProblem}
-use Rattle.xdg_problem.proofs.SolutionLists.{solution_listing, analyses_back}
-use Rattle.xdg_problem.proofs.OneList.{one_live_list, some_solution_list}
+use Rattle.xdg_problem.proofs.SolutionLists.{analyses_back}
+use Rattle.xdg_problem.proofs.OneList.{some_solution_list}
+use Rattle.xdg_rules.specs.Boxed.{Boxed}
+use Rattle.xdg_rules.proofs.RuleLaws.{boxed_laws}
 use Rattle.xdg_analyses.specs.declared.forms.Form.{Form}
 use Rattle.xdg_analyses.specs.Printed.{blocks, last_line, Prints}
+use Rattle.xdg_analyses.proofs.Boxing.{boxed_listing}
 
 -- the blocks of the vectors that a search found, and its last line, are what the search prints
-pub prints_of : (ending : Ending) (form : Form) (budget : ℕ) (wanted : Option ℕ) (parts : Parts) (found : List (List ℕ)) (text : List ℕ) → IsProblem parts → Answered ending (shape parts) (Live parts) [] budget wanted found → text ≡ blocks form parts 1 (map (analysis_of parts) found) ++ last_line ending (length found) → Prints ending form budget wanted parts text
+pub prints_of : (ending : Ending) (form : Form) (budget : ℕ) (wanted : Option ℕ) (parts : Parts) (found : List (List ℕ)) (text : List ℕ) → IsProblem parts → Answered ending (shape parts) (Boxed parts) [] budget wanted found → text ≡ blocks form parts 1 (map (analysis_of parts) found) ++ last_line ending (length found) → Prints ending form budget wanted parts text
 prints_of ending form budget wanted parts found text is answered said =
-    let counted = one_live_list parts [] in
+    let counted = (boxed_laws parts is).listed [] in
     let solutions = some_solution_list parts [] is in
-    let vectors = solution_listing parts is [] solutions.0 solutions.1 in
-    let ends = ending_of ending (shape parts) (Live parts) [] budget wanted found answered counted.members (map (vector parts) solutions.0) counted.listing vectors in
+    let vectors = boxed_listing parts is [] solutions.0 solutions.1 in
+    let ends = ending_of ending (shape parts) (Boxed parts) [] budget wanted found answered counted.members (map (vector parts) solutions.0) counted.listing vectors in
     let taken = ap (map (analysis_of parts)) ends.0 ∙ sym (take-map (analysis_of parts) (length found) (map (vector parts) solutions.0)) ∙ ap (take (length found)) (analyses_back parts is solutions.0 solutions.1.each) in
     record {
       counted = counted.members;

@@ -7,8 +7,8 @@ use Rattle.xdg_listing.specs.declared.Ending.TheVariants as endings
 use Rattle.xdg_problem.specs.declared.analysis.Analysis.{Analysis}
 use Rattle.xdg_problem.specs.declared.parts.Parts.{Parts}
 use Rattle.xdg_problem.specs.Vectors.{shape, vector}
-use Rattle.xdg_problem.specs.Live.{Live}
 use Rattle.xdg_problem.specs.Solutions.{IsSolutionList}
+use Rattle.xdg_rules.specs.Boxed.{Boxed}
 use Rattle.xdg_text.specs.Blocks.{block, block2}
 use Rattle.xdg_text.specs.Lines.{complete_line, first_line, spent_line}
 use Rattle.xdg_analyses.specs.declared.forms.Form.{Form}
@@ -31,10 +31,10 @@ last_line endings.First m = first_line m
 last_line endings.Spent m = spent_line m
 
 -- What a search with a budget prints, and how it ends, where so many analyses are wanted or all of them: over the one list of
--- the live prefixes and the one list of the solutions, the first m solutions and the last line with m.
+-- the boxed prefixes and the one list of the solutions, the first m solutions and the last line with m.
 pub record Prints (ending : Ending) (form : Form) (budget : ℕ) (wanted : Option ℕ) (parts : Parts) (text : List ℕ) : Type 0 where
   pub counted : List (List ℕ)
-  pub counted_are : IsListing (shape parts) (Live parts) [] counted
+  pub counted_are : IsListing (shape parts) (Boxed parts) [] counted
   pub solutions : List Analysis
   pub solutions_are : IsSolutionList parts [] solutions
   pub printed : ℕ

@@ -1,23 +1,20 @@
 //! Searching, and printing what is found.
 
-ghost use Rattle.std.specs.Prelude.{◌≡◌, ◌≤◌, [], None, length};
+ghost use Rattle.std.specs.Prelude.{◌≡◌, ◌≤◌, ◌<◌, ◌^◌, [], None};
 ghost use Rattle.xdg_analyses.specs.Printed.{IsOnePrint};
 ghost use Rattle.xdg_analyses.specs.Written.{IsSome, Writes};
 ghost use Rattle.xdg_io.specs.Rose.{Rose};
-ghost use Rattle.xdg_problem.specs.FirstFour.{OfFirstFour};
-ghost use Rattle.xdg_problem.specs.Live.{Live};
 ghost use Rattle.xdg_problem.specs.Problems.{IsProblem};
-ghost use Rattle.xdg_problem.specs.Vectors.{shape};
-ghost use Rattle.xdg_search.specs.Lawful.{IsLawful};
-ghost use Rattle.xdg_search.specs.Progress.{Progress};
+ghost use Rattle.xdg_propcore.specs.Uses.{AllStandIn};
+ghost use Rattle.xdg_stream.specs.Streamed.{IsCharged};
 
 use crate::forms::{Form, write_shown};
 use std::alloc::Global;
 use xdg_io::Sink;
 use xdg_listing::Ending;
-use xdg_live::LiveFront;
 use xdg_problem::Problem;
-use xdg_search::{Search, Step};
+use xdg_propcore::Propagator;
+use xdg_stream::{Step, Stream};
 use xdg_text::{write_complete, write_first, write_spent};
 
 /// What printing the analyses of a sentence came to.
@@ -32,17 +29,18 @@ pub enum Printed {
 }
 
 /// Searches with a budget, and prints each solution when it is found, and then the last line. Where a number of analyses is
-/// asked for, at least one, it stops behind so many. All memory is taken before the first byte is written. The problem has
-/// principles of the first four alone, as the search wants.
-pub fn print_analyses<K: Sink>(
+/// asked for, at least one, it stops behind so many. All memory is taken before the first byte is written. The propagators
+/// stand for the principle uses of the sentence.
+pub fn print_analyses<P: Propagator, K: Sink>(
     alloc: Global,
     problem: &Problem,
+    props: &[P],
     budget: u64,
     first: Option<u64>,
     form: Form,
     sink: &mut K,
 ) -> Printed
-    requires four { OfFirstFour problem.now }
+    requires stand { AllStandIn P.stands props.now problem.now }
     requires some { IsSome first }
     ensures written { Writes result form budget first problem.now (K.held sink.old) (K.held sink.new) }
     ensures one { IsOnePrint form budget first problem.now }
@@ -50,50 +48,42 @@ pub fn print_analyses<K: Sink>(
     ensures lasting { K.faults sink.old ≤ K.faults sink.new }
 {
     let _parts = problem.parts();
-    let Ok(front) = LiveFront::start(alloc, problem) else {
+    let Ok(mut stream) = Stream::start(alloc, problem, props, budget, None) else {
         return Printed::OutOfMemory;
     };
-    print_found(
-        problem,
-        Search::start(front, budget, &[]),
-        first,
-        form,
-        sink,
-    )
+    print_found(problem, &mut stream, first, form, sink)
 }
 
-/// Prints what a search that has just started finds.
-fn print_found<K: Sink>(
+/// Prints what a stream that has just started finds.
+fn print_found<P: Propagator, K: Sink>(
     problem: &Problem,
-    search: Search<LiveFront<'_>>,
+    stream: &mut Stream<'_, P>,
     first: Option<u64>,
     form: Form,
     sink: &mut K,
 ) -> Printed
     requires parts { IsProblem problem.now }
     requires some { IsSome first }
-    requires problem { search.front.problem.now ≡ problem.now }
-    requires lawful { IsLawful (shape problem.now) (Live problem.now) search.front.numbers.items search.done search.charged search.budget }
-    requires fresh { search.done ≡ None }
-    requires progress { Progress (shape problem.now) (Live problem.now) [] (shape problem.now) (Live problem.now) search.front.numbers.items search.value search.done search.charged [] }
-    ensures written { Writes result form search.entry.budget first problem.now (K.held sink.old) (K.held sink.new) }
+    requires given { (stream.old.parts ≡ problem.now) × (stream.old.start ≡ []) }
+    requires fresh { stream.old.ended ≡ None }
+    requires small { stream.old.budget < 2 ^ 64 }
+    requires charged { IsCharged stream.old [] }
+    ensures written { Writes result form stream.old.budget first problem.now (K.held sink.old) (K.held sink.new) }
     ensures cause { result ≡ Printed.Failed → Rose (K.faults sink.old) (K.faults sink.new) }
     ensures lasting { K.faults sink.old ≤ K.faults sink.new }
 {
-    let mut search = search;
     let mut count: u64 = 0;
     'draw: loop {
-        match search.advance() {
+        match stream.advance() {
             Step::Found => {
                 count += 1;
-                let front = search.front();
                 let written = write_shown(
                     form,
                     problem,
                     count,
-                    front.entries(),
-                    front.attrs(),
-                    front.edges(),
+                    stream.entries(),
+                    stream.attrs(),
+                    stream.edges(),
                     sink,
                 );
                 if written.is_err() {

@@ -8,4 +8,3 @@ pub mod Different
 pub mod Planned
 pub mod Lawful
 pub mod Turns
-pub mod Searching

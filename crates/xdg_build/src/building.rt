@@ -1,13 +1,11 @@
 //! The problem of a sentence.
 
-ghost use Rattle.std.specs.Prelude.{◌≡◌, None, All, IfOk, IfErr};
+ghost use Rattle.std.specs.Prelude.{◌≡◌, None, IfOk, IfErr};
 ghost use Rattle.xdg_build.specs.Compiled.{compiled};
 ghost use Rattle.xdg_build.specs.Refusals.{refusal, IsRefused};
 ghost use Rattle.xdg_build.specs.Solutions.{KeepsSolutions};
 ghost use Rattle.xdg_entries.specs.Entries.{IsRightLexicon, IsWordPlace};
 ghost use Rattle.xdg_groups.specs.Grammars.{grammar_of};
-ghost use Rattle.xdg_groups.specs.Searchable.{IsOfFour};
-ghost use Rattle.xdg_problem.specs.FirstFour.{OfFirstFour};
 
 use crate::candidates::candidates;
 use crate::plans::plans;
@@ -45,15 +43,12 @@ fn compile(
 /// The problem that a grammar makes of the words of a sentence. The packed lexicon is that of the grammar. The analyses
 /// and the solutions of the problem are those of the grammar and the words.
 ///
-/// Where all uses of principles are of graph, entries, tree and valency, so are those of the problem, as the search over live
-/// prefixes wants.
-///
 /// # Errors
 ///
 /// A sentence of no word is refused by `Cause::EmptySentence` at 0, one of more than 128 words by `Cause::TooManyWords`
 /// at the 129th, and one with words that no entry has by `Cause::UnknownWord` at the first of these. Where two of them
 /// apply, the one that stands first here is told. `Stop::OutOfMemory` says that no memory was to be had.
-#[tactic(auto, using(crate::proofs::Keeping::made_keeps_solutions, crate::proofs::Searching::made_of_first_four))]
+#[tactic(auto, using(crate::proofs::Keeping::made_keeps_solutions))]
 pub fn build(
     alloc: Global,
     checked: &Checked,
@@ -65,7 +60,6 @@ pub fn build(
     ensures compiled { IfOk result (λ problem. problem ≡ compiled (grammar_of checked.now packed.now) words) }
     ensures sentence { IfOk result (λ problem. refusal (grammar_of checked.now packed.now) words ≡ None) }
     ensures keeps { IfOk result (KeepsSolutions (grammar_of checked.now packed.now) words) }
-    ensures four { All IsOfFour checked.now.principles → IfOk result OfFirstFour }
     ensures refused { IfErr result (IsRefused (grammar_of checked.now packed.now) words) }
 {
     match refusal(packed, words.as_slice()) {

@@ -1,6 +1,4 @@
 mod ClassCount
-mod FourUses
 mod Meaning
-mod Others
 mod OneTree
 mod Words

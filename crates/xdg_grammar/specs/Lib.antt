@@ -1,5 +1,4 @@
 pub mod Texts
 pub mod Meanings
-pub mod Searchable
 pub mod Answers
 pub mod Packed

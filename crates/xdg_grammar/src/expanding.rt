@@ -1,13 +1,11 @@
 //! What a tree means.
 
-ghost use Rattle.std.specs.Prelude.{◌≡◌, Result, All, None, IfOk, length};
+ghost use Rattle.std.specs.Prelude.{◌≡◌, Result, IfOk, length};
 ghost use Rattle.xdg_base.specs.declared.faults.Fault as faults;
 ghost use Rattle.xdg_classes.specs.Definitions.{classes};
 ghost use Rattle.xdg_entries.specs.Entries.{IsRightLexicon};
 ghost use Rattle.xdg_grammar.specs.Answers.{Gives, IsAnswer, Tells};
 ghost use Rattle.xdg_grammar.specs.Meanings.{Meaning};
-ghost use Rattle.xdg_grammar.specs.Searchable.{first_other};
-ghost use Rattle.xdg_groups.specs.Searchable.{IsOfFour};
 
 use std::alloc::Global;
 use xdg_ast::Grammar;
@@ -37,7 +35,6 @@ pub fn expand_tree(alloc: Global, tree: &Grammar) -> Result<Expanded, Stop>
     ensures only { (answer : Result Meaning faults.Fault) → IsAnswer tree.now answer → Gives answer result }
     ensures right { IfOk result (λ made. IsRightLexicon made.checked.types made.entries) }
     ensures classes { IfOk result (λ made. length made.checked.classes ≡ length (classes tree.now.statements)) }
-    ensures four { first_other tree.now ≡ None → IfOk result (λ made. All IsOfFour made.checked.principles) }
 {
     let table = match types(alloc, tree) {
         Ok(table) => table,

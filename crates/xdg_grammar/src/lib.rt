@@ -4,9 +4,7 @@
 mod expanding;
 mod packing;
 mod reading;
-mod searchable;
 
 pub use expanding::{Expanded, expand_tree};
 pub use packing::pack_entries;
 pub use reading::read_tree;
-pub use searchable::first_other;

@@ -3,4 +3,3 @@ pub mod Features
 pub mod Rows
 pub mod Groups
 pub mod Suits
-pub mod Searchable

@@ -1,15 +1,13 @@
 -- What a tree means: accepted or rejected.
-use Rattle.std.proofs.Common.{◌≡◌, ℕ, List, Some, None, Ok, Err, refl, sym, ◌∙◌, ap, subst}
+use Rattle.std.proofs.Common.{◌≡◌, ℕ, List, Ok, Err, refl, sym, ◌∙◌, ap, subst}
 use Rattle.std.specs.Prelude.{Option, Result}
 use Rattle.xdg_base.specs.declared.faults.Fault.{Fault}
 use Rattle.xdg_base.specs.declared.faults.Stop.{Stop}
 use Rattle.xdg_base.specs.declared.faults.Stop.TheVariants as stops
 use Rattle.xdg_grammar.specs.Answers.{IsAnswer, Gives, Tells, meaning_of}
 use Rattle.xdg_grammar.specs.Meanings.{Meaning, Means}
-use Rattle.xdg_grammar.specs.Searchable.{first_other}
 use Rattle.xdg_grammar.specs.declared.expanding.Expanded.{Expanded}
-use Rattle.xdg_top.specs.Grammars.{IsBadGrammar, IsUnsearchable, IsSearchable}
-use Rattle.xdg_top.specs.Places.{place_in}
+use Rattle.xdg_top.specs.Grammars.{IsBadGrammar}
 use Rattle.xdg_top.specs.Refusals.{RejectsAt, Stops, refusal_of}
 use Rattle.xdg_top.specs.Stages.{Accepts, Behind, Rejects}
 use Rattle.xdg_top.specs.Texts.{ReadText}
@@ -17,7 +15,6 @@ use Rattle.xdg_top.specs.Outcomes.{MeaningThen}
 use Rattle.xdg_top.specs.Refusals.{Refuses}
 use Rattle.xdg_top.specs.Runs.{Leaves}
 use Rattle.xdg_top.specs.declared.refusals.Refusal.{Refusal}
-use Rattle.xdg_top.specs.declared.refusals.Refusal.TheVariants as refusals
 use Rattle.xdg_top.specs.declared.status.Status.{Status}
 use Rattle.xdg_top.specs.declared.status.Status.TheVariants as statuses
 use Rattle.xdg_top.proofs.Leaving.{accepted_leaves, stopped_leaves}
@@ -48,31 +45,3 @@ meaning_refused read next result text stop refusal old new e tells only r writte
 pub meaning_leaves : (read : ReadText) (next : Meaning → Status → List ℕ → Type 0) (result : Status) (made : Expanded) (old new : Option (List ℕ)) → Tells read.tree (Ok made) → Only read (Ok made) → Leaves (next (meaning_of made)) result old new → Leaves (MeaningThen read next) result old new
 meaning_leaves read next result made old new tells only leaves =
     accepted_leaves Meaning statuses.BadGrammar (IsBadGrammar read) (Means read.tree) next (meaning_of made) result old new (meaning_accepted read made tells only) leaves
-
--- ---- the principles that the search doesn't know
-
-pub searchable : (read : ReadText) → first_other read.tree ≡ None → Accepts (Unit {0}) (IsUnsearchable read) (IsSearchable read) tt
-searchable read e = record { has = e; one = λ b h. refl; never = λ text f o. let r : None ≡ Some f = sym e ∙ o.1 in absurd cc }
-
-pub unsearchable : (read : ReadText) (f : Fault) → first_other read.tree ≡ Some f → Stops (Unit {0}) 0 0 (Unit {0}) (IsUnsearchable read) (IsSearchable read) (refusals.Text f (place_in read.text f))
-unsearchable read f e = λ told. record {
-  text = read.text;
-  rejects = record {
-    is = (refl, e);
-    one = λ text g o. (o.0, let r : Some g ≡ Some f = sym o.1 ∙ e in cc);
-    never = λ b h. let r : None ≡ Some f = sym h ∙ e in absurd cc;
-  };
-  place_is = refl;
-}
-
--- a tree that isn't searched leaves what the step leaves
-pub unsearchable_leaves : (read : ReadText) (next : Unit {0} → Status → List ℕ → Type 0) (result : Status) (text : List ℕ) (f : Fault) (refusal : Refusal) (old new : Option (List ℕ)) → text ≡ read.text → Some f ≡ first_other read.tree → refusal ≡ refusals.Text f (place_in text f)
-    → Refuses result statuses.BadText refusal old new → Leaves (Behind (Unit {0}) statuses.BadText (IsUnsearchable read) (IsSearchable read) next) result old new
-unsearchable_leaves read next result text f refusal old new e is r written =
-    stopped_leaves (Unit {0}) statuses.BadText (IsUnsearchable read) (IsSearchable read) next (Unit {0}) 0 0 result refusal old new tt (λ z. z)
-    (subst (Stops (Unit {0}) 0 0 (Unit {0}) (IsUnsearchable read) (IsSearchable read)) (sym (r ∙ ap (λ z. refusals.Text f (place_in z f)) e)) (unsearchable read f (sym is))) written
-
--- what is no fault is none
-pub none_of : (o : Option Fault) → ((f : Fault) → o ≡ Some f → ⊥) → o ≡ None
-none_of None none = refl
-none_of (Some f) none = absurd (none f refl)

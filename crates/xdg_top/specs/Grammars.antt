@@ -1,22 +1,13 @@
 -- What the grammar of a file means, and with which fault it is refused.
-use Rattle.std.specs.Prelude.{◌≡◌, ℕ, List, Some, None}
+use Rattle.std.specs.Prelude.{◌≡◌, ℕ, List}
 use Rattle.xdg_base.specs.declared.faults.Fault.{Fault}
 use Rattle.xdg_groups.specs.Grammars.{Grammar}
 use Rattle.xdg_grammar.specs.Meanings.{Meaning, Means, Offends}
-use Rattle.xdg_grammar.specs.Searchable.{first_other}
 use Rattle.xdg_top.specs.Texts.{ReadText}
 
 -- the grammar of a text is refused
 abbrev pub IsBadGrammar : ReadText → List ℕ → Fault → Type 0
 IsBadGrammar read text refused = (text ≡ read.text) × Offends read.tree refused
-
--- it uses a principle that the search doesn't know yet, the first at this place
-abbrev pub IsUnsearchable : ReadText → List ℕ → Fault → Type 0
-IsUnsearchable read text refused = (text ≡ read.text) × (first_other read.tree ≡ Some refused)
-
--- it uses none
-abbrev pub IsSearchable : ReadText → Unit {0} → Type 0
-IsSearchable read it = first_other read.tree ≡ None
 
 -- a grammar whose entries say their words there
 abbrev pub with_words : Meaning → ℕ → ℕ → Grammar

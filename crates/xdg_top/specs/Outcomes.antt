@@ -21,7 +21,7 @@ use Rattle.xdg_problem.specs.declared.parts.Parts.{Parts}
 use Rattle.xdg_text.specs.Lines.{usage_line, line}
 use Rattle.xdg_verdict_text.specs.VerdictsText.{verdicts_text}
 use Rattle.xdg_top.specs.Analyses.{Analysed, HasAnalysis, HasBadAnalysis}
-use Rattle.xdg_top.specs.Grammars.{IsBadGrammar, IsSearchable, IsUnsearchable}
+use Rattle.xdg_top.specs.Grammars.{IsBadGrammar}
 use Rattle.xdg_top.specs.Sentences.{HasProblem, IsBadSentence}
 use Rattle.xdg_top.specs.Stages.{Behind}
 use Rattle.xdg_top.specs.Texts.{HasBadText, HasTree, ReadText}
@@ -68,12 +68,8 @@ pub record Searched (options : ParseOptions) (parts : Parts) (status : Status) (
 abbrev pub SentenceThen : ParseOptions → List ℕ → Meaning → Status → List ℕ → Type 0
 SentenceThen options input m = Behind Parts statuses.BadSentence (IsBadSentence m options.segment input) (HasProblem m options.segment input) (Searched options)
 
--- a tree uses no principle that the search doesn't know; it means something; and then the sentence
-abbrev pub SearchableThen : ParseOptions → List ℕ → ReadText → Status → List ℕ → Type 0
-SearchableThen options input read = Behind (Unit {0}) statuses.BadText (IsUnsearchable read) (IsSearchable read) (λ it. MeaningThen read (SentenceThen options input))
-
 abbrev pub ParseOf : ParseOptions → Files → List ℕ → Status → List ℕ → Type 0
-ParseOf options files input = ReadThen files options.grammar (SearchableThen options input)
+ParseOf options files input = GrammarThen files options.grammar (λ read. SentenceThen options input)
 
 -- ---- the other commands
 

@@ -12,6 +12,8 @@ mod parse;
 #[cfg(test)]
 mod parse_tests;
 #[cfg(test)]
+mod principle_tests;
+#[cfg(test)]
 mod print_tests;
 mod refusals;
 mod reports;

@@ -1,25 +1,24 @@
 //! The command `parse`.
 
-ghost use Rattle.std.specs.Prelude.{◌≡◌, ◌≤◌, ◌⊎◌, ℕ, List, [], None, Option, Some, All, length};
+ghost use Rattle.std.specs.Prelude.{◌≡◌, ◌≤◌, ◌⊎◌, ℕ, List, [], Option, Some, length};
 ghost use Rattle.xdg_entries.specs.Entries.{IsRightLexicon};
 ghost use Rattle.xdg_grammar.specs.Answers.{meaning_of};
-ghost use Rattle.xdg_groups.specs.Searchable.{IsOfFour};
 ghost use Rattle.xdg_io.specs.Rose.{Rose};
-ghost use Rattle.xdg_problem.specs.FirstFour.{OfFirstFour};
 ghost use Rattle.xdg_top.specs.Loaded.{read_of};
-ghost use Rattle.xdg_top.specs.Outcomes.{ParseOf, SearchableThen, Searched, SentenceThen, form_of};
+ghost use Rattle.xdg_top.specs.Outcomes.{MeaningThen, ParseOf, Searched, SentenceThen, form_of};
 ghost use Rattle.xdg_top.specs.Runs.{Leaves};
 ghost use Rattle.xdg_analyses.specs.Written.{IsSome};
 
 use crate::Status;
 use crate::loading::{Loaded, load_tree};
-use crate::refusals::{refuse, refused_in, stopped_in};
+use crate::refusals::{refuse, stopped_in};
 use crate::sentence::read_problem;
 use std::alloc::Global;
 use xdg_analyses::{Form, Printed, print_analyses};
 use xdg_base::OutOfMemory;
 use xdg_command::{ParseOptions, TextForm};
-use xdg_grammar::{Expanded, expand_tree, first_other, pack_entries};
+use xdg_engine::props;
+use xdg_grammar::{Expanded, expand_tree, pack_entries};
 use xdg_io::{Shelf, Sink, Source};
 use xdg_listing::Ending;
 use xdg_problem::Problem;
@@ -34,9 +33,8 @@ fn form_of(text: TextForm) -> Form
     }
 }
 
-/// Prints the analyses of a sentence.
+/// Makes the propagators of a sentence, and prints its analyses.
 fn search<K: Sink>(alloc: Global, options: &ParseOptions, problem: &Problem, out: &mut K) -> Status
-    requires four { OfFirstFour problem.now }
     requires some { IsSome options.now.first }
     ensures leaves { Leaves (Searched options.now problem.now) result (K.held out.old) (K.held out.new) }
     ensures write_fault { result ≡ Status.WriteFault → Rose (K.faults out.old) (K.faults out.new) }
@@ -44,7 +42,18 @@ fn search<K: Sink>(alloc: Global, options: &ParseOptions, problem: &Problem, out
     ensures ends { (result ≡ Status.Done) ⊎ ((result ≡ Status.Spent) ⊎ ((result ≡ Status.WriteFault) ⊎ (result ≡ Status.OutOfMemory))) }
 {
     let form = form_of(options.text);
-    match print_analyses(alloc, problem, options.budget, options.first, form, out) {
+    let Ok(propagators) = props(alloc, problem) else {
+        return Status::OutOfMemory;
+    };
+    match print_analyses(
+        alloc,
+        problem,
+        propagators.as_slice(),
+        options.budget,
+        options.first,
+        form,
+        out,
+    ) {
         Printed::Ended(Ending::Complete) => Status::Done,
         Printed::Ended(Ending::First) => Status::Done,
         Printed::Ended(Ending::Spent) => Status::Spent,
@@ -62,7 +71,6 @@ fn parse_expanded<S: Source, K: Sink>(
     out: &mut K,
 ) -> Status
     requires lexicon { IsRightLexicon expanded.now.checked.types expanded.now.entries }
-    requires four { All IsOfFour expanded.now.checked.principles }
     requires some { IsSome options.now.first }
     ensures leaves { (content : List ℕ) → S.left input.old ≡ Some content → Leaves (SentenceThen options.now content (meaning_of expanded.now)) result (K.held out.old) (K.held out.new) }
     ensures read_fault { result ≡ Status.ReadFault → Rose (S.faults input.old) (S.faults input.new) }
@@ -92,7 +100,7 @@ fn parse_loaded<S: Source, K: Sink>(
 ) -> Status
     requires short { length loaded.now.text.items ≤ 4194304 }
     requires some { IsSome options.now.first }
-    ensures leaves { (content : List ℕ) → S.left input.old ≡ Some content → Leaves (SearchableThen options.now content (read_of loaded.now)) result (K.held out.old) (K.held out.new) }
+    ensures leaves { (content : List ℕ) → S.left input.old ≡ Some content → Leaves (MeaningThen (read_of loaded.now) (SentenceThen options.now content)) result (K.held out.old) (K.held out.new) }
     ensures read_fault { result ≡ Status.ReadFault → Rose (S.faults input.old) (S.faults input.new) }
     ensures write_fault { result ≡ Status.WriteFault → Rose (K.faults out.old) (K.faults out.new) }
     ensures input_lasting { S.faults input.old ≤ S.faults input.new }
@@ -101,9 +109,6 @@ fn parse_loaded<S: Source, K: Sink>(
     ensures all_read { (content : List ℕ) → (result ≡ Status.Done) ⊎ (result ≡ Status.Spent) → S.left input.old ≡ Some content → S.left input.new ≡ Some [] }
     ensures command { result ≡ Status.Usage → ⊥ }
 {
-    if let Some(fault) = first_other(&loaded.tree) {
-        return refuse(refused_in(&loaded.text, fault), Status::BadText, out);
-    }
     match expand_tree(alloc, &loaded.tree) {
         Ok(expanded) => parse_expanded(alloc, options, &expanded, input, out),
         Err(stop) => refuse(stopped_in(&loaded.text, stop), Status::BadGrammar, out),
@@ -111,7 +116,7 @@ fn parse_loaded<S: Source, K: Sink>(
 }
 
 /// Loads a grammar, reads a sentence, and prints its analyses, or the fault line of what is refused. A search is charged a budget
-/// of counted prefixes at most.
+/// of boxed prefixes at most.
 pub fn parse_sentence<H: Shelf, S: Source, K: Sink>(
     alloc: Global,
     options: &ParseOptions,

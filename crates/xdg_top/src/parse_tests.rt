@@ -1,7 +1,7 @@
 //! The command `parse`: sentences, options and refusals.
 
 use crate::rows::{told, wrong_rows};
-use crate::samples::{PAIR, PLAIN};
+use crate::samples::PLAIN;
 use std::alloc::Global;
 use std::test::Fail;
 
@@ -122,22 +122,20 @@ fn sentences_of_the_plain_grammar(rt: HostRuntime) -> Result<(), Fail> {
     Ok(())
 }
 
-/// Grammars that use a principle which the search doesn't know, or none such.
-const PRINCIPLES: &str = "\
-parse g^usedim zz defdim id {useprinciple principle.tree {dims {D: id}} useprinciple principle.order {dims {D: qq}}}^w^3
-fault 23 Unexpected line 1 column 78
-~parse g^defdim id {useprinciple principle.order {dims {D: qq}} ;^w^3
+/// Whole grammars with their first faults: of the text, of types, of names, of the dimension of words. The last one has none.
+const GRAMMARS: &str = "\
+parse g^defdim id {useprinciple principle.order {dims {D: qq}} ;^w^3
 fault 21 BadChar line 1 column 56
 ~parse g^defdim id {useprinciple principle.order {dims {D: id}}}}^w^3
 fault 23 Unexpected line 1 column 56
-~parse g^defdim un {useprinciple principle.trees {dims {D: un}} useprinciple principle.dag {dims {D: un}}}^w^3
-fault 23 Unexpected line 1 column 69
+~parse g^usedim zz defdim id {useprinciple principle.tree {dims {D: id}} useprinciple principle.order {dims {D: qq}}}^w^4
+fault 30 UnknownName line 1 column 8
 ~check g^usedim un defdim un {useprinciple principle.trees {dims {D: un}}}^w^4
 fault 36 UnknownPrinciple line 1 column 35
 ~parse g^usedim un defdim un {useprinciple principle.trees {dims {D: un}}}^w^4
 fault 36 UnknownPrinciple line 1 column 35
-~parse g^defdim un {useprinciple \"principle.agr\" {dims {}}}^w^3
-fault 23 Unexpected line 1 column 25
+~parse g^defdim un {useprinciple \"principle.agr\" {dims {}}}^w^4
+fault 35 MissingArg line 1 column 25
 ~parse g^^w^4
 fault 39 NoLex line 1 column 1
 ~parse g^usedim id^w^4
@@ -150,13 +148,9 @@ complete 1
 ";
 
 #[test]
-fn principles_that_the_search_does_not_know(rt: HostRuntime) -> Result<(), Fail> {
+fn first_faults_of_whole_grammars(rt: HostRuntime) -> Result<(), Fail> {
     let alloc = rt.alloc();
-    assert_eq!(rt; wrong_rows(alloc, "", PRINCIPLES)?.as_str(), "");
-    assert_eq!(rt;
-        told(alloc, "parse g", PAIR, "w w")?.as_str(),
-        "3\nfault 23 Unexpected line 7 column 14\n"
-    );
+    assert_eq!(rt; wrong_rows(alloc, "", GRAMMARS)?.as_str(), "");
     Ok(())
 }
 

@@ -159,3 +159,8 @@ useprinciple principle.linkingNotDaughter {dims {D1: a D2: b D3: m} args {Link: 
 defentry {dim b {blocks: {y}} dim m {link: {x: {y}} not: {x}} dim lex {word: w}}
 ~usedim id usedim lex defdim lex {defentrytype {word: string}} defdim id {deftype s {x y} defentrytype {sense: s}} defentry {dim id {sense: x} & dim lex {word: w}} defentry {dim id {sense: y} & dim lex {word: w}}
 ";
+
+/// The sample grammar of this number, from 0.
+pub fn sample(number: usize) -> &'static str {
+    SAMPLES.split('~').nth(number).unwrap_or("")
+}

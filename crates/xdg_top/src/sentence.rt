@@ -1,12 +1,10 @@
 //! The sentence that the input gives.
 
-ghost use Rattle.std.specs.Prelude.{◌≡◌, ◌≤◌, ℕ, List, [], Some, All, length, IfErr, IfOk};
-ghost use Rattle.xdg_groups.specs.Searchable.{IsOfFour};
+ghost use Rattle.std.specs.Prelude.{◌≡◌, ◌≤◌, ℕ, List, [], Some, length, IfErr, IfOk};
 ghost use Rattle.xdg_entries.specs.Entries.{IsRightLexicon};
 ghost use Rattle.xdg_grammar.specs.Answers.{meaning_of};
 ghost use Rattle.xdg_grammar.specs.Packed.{IsPackedOf};
 ghost use Rattle.xdg_io.specs.Rose.{Rose};
-ghost use Rattle.xdg_problem.specs.FirstFour.{OfFirstFour};
 ghost use Rattle.xdg_problem.specs.declared.parts.Parts as declared;
 ghost use Rattle.xdg_top.specs.Places.{fault, place_in};
 ghost use Rattle.xdg_top.specs.Refusals.{Stops};
@@ -53,7 +51,6 @@ fn problem_in(
     requires lexicon { IsRightLexicon expanded.now.checked.types expanded.now.entries }
     requires packed { IsPackedOf expanded.now packed.now }
     ensures found { IfOk result (Accepts declared.Parts (IsBadSentence (meaning_of expanded.now) segment input.now) (HasProblem (meaning_of expanded.now) segment input.now)) }
-    ensures four { All IsOfFour expanded.now.checked.principles → IfOk result OfFirstFour }
     ensures refused { IfErr result (Stops (Unit {0}) 0 0 declared.Parts (IsBadSentence (meaning_of expanded.now) segment input.now) (HasProblem (meaning_of expanded.now) segment input.now)) }
 {
     let text = match str::from_utf8(input) {
@@ -80,7 +77,6 @@ pub fn read_problem<S: Source>(
     requires lexicon { IsRightLexicon expanded.now.checked.types expanded.now.entries }
     requires packed { IsPackedOf expanded.now packed.now }
     ensures found { IfOk result (λ problem. (input : List ℕ) → S.left source.old ≡ Some input → Accepts declared.Parts (IsBadSentence (meaning_of expanded.now) segment input) (HasProblem (meaning_of expanded.now) segment input) problem) }
-    ensures four { All IsOfFour expanded.now.checked.principles → IfOk result OfFirstFour }
     ensures refused { IfErr result (λ refusal. (input : List ℕ) → Stops (S.left source.old ≡ Some input) (S.faults source.old) (S.faults source.new) declared.Parts (IsBadSentence (meaning_of expanded.now) segment input) (HasProblem (meaning_of expanded.now) segment input) refusal) }
     ensures failed { IfErr result (λ refusal. refusal ≡ Refusal.Read → Rose (S.faults source.old) (S.faults source.new)) }
     ensures all { IfOk result (λ problem. (input : List ℕ) → S.left source.old ≡ Some input → S.left source.new ≡ Some []) }

@@ -1,5 +1,4 @@
 use Rattle.xdg_grammar.proofs.ClassCount.{as_many_classes}
-use Rattle.xdg_grammar.proofs.FourUses.{all_four}
 use Rattle.xdg_grammar.proofs.Meaning.{check_tells, expand_tells, made_tells, types_only_tell, check_only_tell, expand_only_tell, made_only}
 use Rattle.xdg_grammar.proofs.expanding.expand_tree.Goals as goal
 
@@ -20,9 +19,6 @@ returns-in-Ok-expand-clause-only c = made_only c.args.tree.now c.in-Ok.table c.i
 
 pub returns-in-Ok-expand-clause-classes : goal.returns-in-Ok-expand-clause-classes
 returns-in-Ok-expand-clause-classes c = as_many_classes c.args.tree.now c.in-Ok.table c.in-Ok-check.checked c.in-Ok-check.ensures.tells
-
-pub returns-in-Ok-expand-clause-four : goal.returns-in-Ok-expand-clause-four
-returns-in-Ok-expand-clause-four c = all_four c.args.tree.now c.in-Ok.table c.in-Ok-check.checked c.in-Ok-check.ensures.tells
 
 pub returns-in-Err-expand-clause-tells : goal.returns-in-Err-expand-clause-tells
 returns-in-Err-expand-clause-tells c = expand_tells c.args.tree.now c.in-Ok.table c.in-Ok-check.checked c.in-Err-expand.stop c.in-Ok.ensures.tells c.in-Ok-check.ensures.tells c.in-Err-expand.ensures.tells

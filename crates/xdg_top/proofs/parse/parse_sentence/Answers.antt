@@ -1,6 +1,6 @@
 use Rattle.std.proofs.Common.{◌≡◌, Some, subst}
 use Rattle.xdg_top.specs.Loaded.{read_of}
-use Rattle.xdg_top.specs.Outcomes.{SearchableThen}
+use Rattle.xdg_top.specs.Outcomes.{MeaningThen, SentenceThen}
 use Rattle.xdg_top.specs.Refusals.{Stops}
 use Rattle.xdg_top.specs.Stages.{Accepts}
 use Rattle.xdg_top.specs.Texts.{HasBadText, HasTree, ReadText}
@@ -10,11 +10,11 @@ use Rattle.xdg_top.proofs.parse.parse_sentence.Goals as goal
 
 pub returns-in-Ok-clause-leaves : goal.returns-in-Ok-clause-leaves
 returns-in-Ok-clause-leaves g c files content told given =
-    accepted_leaves ReadText statuses.BadText (HasBadText files c.args.options.now.grammar) (HasTree files c.args.options.now.grammar) (SearchableThen c.args.options.now content) (read_of c.in-Ok.loaded) c.parse_loaded.result _ _
+    accepted_leaves ReadText statuses.BadText (HasBadText files c.args.options.now.grammar) (HasTree files c.args.options.now.grammar) (λ read. MeaningThen read (SentenceThen c.args.options.now content)) (read_of c.in-Ok.loaded) c.parse_loaded.result _ _
     (subst (λ n. Accepts ReadText (HasBadText files n) (HasTree files n) (read_of c.in-Ok.loaded)) c.as_str.ensures (c.in-Ok.ensures.found files told)) (c.parse_loaded.ensures.leaves content given)
 
 pub returns-in-Err-clause-leaves : goal.returns-in-Err-clause-leaves
 returns-in-Err-clause-leaves g c files content told given =
-    stopped_leaves ReadText statuses.BadText (HasBadText files c.args.options.now.grammar) (HasTree files c.args.options.now.grammar) (SearchableThen c.args.options.now content) (g.H.Shelf.files c.args.shelf.now ≡ Some files)
+    stopped_leaves ReadText statuses.BadText (HasBadText files c.args.options.now.grammar) (HasTree files c.args.options.now.grammar) (λ read. MeaningThen read (SentenceThen c.args.options.now content)) (g.H.Shelf.files c.args.shelf.now ≡ Some files)
     (g.H.Shelf.faults c.args.shelf.now c.as_str.result.now) (g.H.Shelf.faults c.load_tree.new.shelf c.as_str.result.now) c.refuse.result c.in-Err.refusal _ _ told (λ e. e)
     (subst (λ n. Stops (g.H.Shelf.files c.args.shelf.now ≡ Some files) (g.H.Shelf.faults c.args.shelf.now c.as_str.result.now) (g.H.Shelf.faults c.load_tree.new.shelf c.as_str.result.now) ReadText (HasBadText files n) (HasTree files n) c.in-Err.refusal) c.as_str.ensures (c.in-Err.ensures.refused files)) c.refuse.ensures.written

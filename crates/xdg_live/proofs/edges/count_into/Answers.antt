@@ -1,6 +1,0 @@
-use Rattle.std.proofs.Common.{◌==◌, ◌&&◌, arith}
-use Rattle.xdg_live.proofs.Tallies.{counted_all}
-use Rattle.xdg_live.proofs.edges.count_into.Goals as goal
-
-pub returns : goal.returns
-returns c = counted_all (λ e. e.dim.0 == c.args.dim) (λ e. (e.daughter.0 == c.args.daughter) && (e.label.0 == c.args.label)) c.args.edges.now c.loop-edge.edge-index c.loop-edge.count c.loop-edge.invariant.0 (omega arith)
