@@ -1,6 +1,6 @@
 -- Where nothing is left to take the box is closed: no rule takes a value that remains, and no test is decided and fails.
 use Rattle.std.proofs.Common.{◌≡◌, ℕ, ◌<◌, ◌↔◌, ◌&&◌, inl, inr, Bool, true, List, [], length, get_or, refl, sym, ap, ◌∙◌, arith, subst}
-use Rattle.std.specs.Prelude.{Contains, AllPairs}
+use Rattle.std.specs.Prelude.{Contains, filter, AllPairs}
 use Rattle.std.proofs.lemmas.Bool.{cases_Bool, false≢true}
 use Rattle.std.proofs.lemmas.List.{get_or_default, length-map}
 use Rattle.xdg_base.specs.declared.ids.LabelId.{LabelId}
@@ -15,7 +15,7 @@ use Rattle.xdg_problem.specs.Arguments.{first_dim, order_of, truth_of, label_cou
 use Rattle.xdg_problem.specs.Asking.{IsBetween}
 use Rattle.xdg_problem.specs.Boxes.{Has, IsBox, May, Must, edge_decision}
 use Rattle.xdg_problem.specs.Paths.{Above, IsDaughter, edges_on}
-use Rattle.xdg_problem.specs.Places.{edge, nodes}
+use Rattle.xdg_problem.specs.Places.{edge, nodes, places}
 use Rattle.xdg_problem.specs.Tests.{Test, IsTestOf, looks_at, ordered_daughters, ordered_yields, projective}
 use Rattle.xdg_problem.specs.Vectors.{shape}
 use Rattle.xdg_problem.proofs.PlaceOrder.{is_place}
@@ -123,7 +123,7 @@ module _ (parts : Parts) (group : Group) (box : List (List Bool)) (is : IsBox (s
     ]
 
     abbrev few : ℕ → ℕ → List Edge
-    few u v = edges_on (first_dim group) (Rattle.std.specs.Prelude.filter (λ e. looks_at group (projective u v) e && flag box (edge_decision parts e) 0) (Rattle.xdg_problem.specs.Places.places parts))
+    few u v = edges_on (first_dim group) (filter (λ e. looks_at group (projective u v) e && flag box (edge_decision parts e) 0) (places parts))
 
     abbrev Asks : List Edge → ℕ → ℕ → Type 0
     Asks edges u v = (w : ℕ) → w < nodes parts → IsDaughter edges u v → IsBetween u v w → Above edges u w

@@ -1,18 +1,14 @@
 -- The items of a node, as sets and as values that remain.
-use Rattle.std.proofs.Common.{◌≡◌, ◌≢◌, ℕ, ◌<◌, ◌≤◌, ◌⊎◌, ◌↔◌, ◌||◌, ◌==◌, inl, inr, Bool, true, false, IsTrue, List, [], length, get_or, map, refl, sym, ap, ◌∙◌, arith, subst}
+use Rattle.std.proofs.Common.{◌≡◌, ◌≢◌, ℕ, ◌<◌, ◌≤◌, ◌⊎◌, ◌↔◌, inl, inr, Bool, true, IsTrue, List, [], length, get_or, map, sym, ap, ◌∙◌, arith, subst}
 use Rattle.std.proofs.lemmas.Bool.{false≢true}
 use Rattle.std.proofs.lemmas.List.{get_or-map}
-use Rattle.xdg_judge.proofs.Sets.{one_more}
 use Rattle.xdg_nodeset.specs.Nodes.{has}
 use Rattle.xdg_problem.specs.declared.analysis.Edge.{Edge}
-use Rattle.xdg_problem.specs.declared.parts.Group.{Group}
 use Rattle.xdg_problem.specs.declared.parts.Parts.{Parts}
-use Rattle.xdg_problem.specs.declared.parts.Principle.TheVariants as principles
 use Rattle.xdg_problem.specs.Analyses.{IsPlace}
 use Rattle.xdg_problem.specs.Arguments.{value_count}
 use Rattle.xdg_problem.specs.Boxes.{Has, IsBox}
 use Rattle.xdg_problem.specs.Places.{edge, nodes, numbers_from}
-use Rattle.xdg_problem.specs.Problems.{attr_arguments, dim_arguments}
 use Rattle.xdg_problem.specs.Vectors.{shape}
 use Rattle.xdg_problem.proofs.Ordered.{numbers_length}
 use Rattle.xdg_rules.proofs.Sizes.{within_sizes}
@@ -41,15 +37,6 @@ follow_none P parts first u label set empty past v = (
 
 -- ---- a set and a node more
 
-pub with_asked : (nodes all : List ℕ) (node : ℕ) → ((n : ℕ) → has all n ≡ ((n == node) || has nodes n)) → (v : ℕ) → (has all v ≡ true) ↔ (((v ≡ node) × (true ≡ true)) ⊎ (has nodes v ≡ true))
-with_asked nodes all node is v = (
-  λ h. elim ((one_more all nodes node v (is v)).0 h) [ inl old ↦ inr old | inr new ↦ inl (sym new, refl) ],
-  λ h. (one_more all nodes node v (is v)).1 (elim h [ inl new ↦ inr (sym new.0) | inr old ↦ inl old ]),
-)
-
-pub with_none : (nodes : List ℕ) (node : ℕ) (asked : Bool) → asked ≡ false → (v : ℕ) → (has nodes v ≡ true) ↔ (((v ≡ node) × (asked ≡ true)) ⊎ (has nodes v ≡ true))
-with_none nodes node asked not_so v = (λ h. inr h, λ h. elim h [ inl new ↦ absurd (false≢true (sym not_so ∙ new.1)) | inr old ↦ old ])
-
 pub items_exact : (Own : Type 0) (Follow : ℕ → Type 0) (asked : Bool) (u : ℕ) (nodes all : List ℕ) → (asked ≡ true) ↔ Own → ((v : ℕ) → (has nodes v ≡ true) ↔ Follow v) → ((v : ℕ) → (has all v ≡ true) ↔ (((v ≡ u) × (asked ≡ true)) ⊎ (has nodes v ≡ true))) → (v : ℕ) → (has all v ≡ true) ↔ (((v ≡ u) × Own) ⊎ Follow v)
 items_exact Own Follow asked u nodes all own follow exact v = (
   λ h. elim ((exact v).0 h) [ inl here ↦ inl (here.0, own.0 here.1) | inr there ↦ inr ((follow v).0 there) ],
@@ -74,9 +61,3 @@ slot_below s slot v known is has =
 -- the values but one, up to a number
 abbrev pub NoOther : List (List Bool) → ℕ → ℕ → ℕ → Type 0
 NoOther box d value k = (x : ℕ) → x < k → Has box d x → x ≡ value
-
-pub order_attrs : (group : Group) → group.principle ≡ principles.Order → 0 < attr_arguments group.principle
-order_attrs group order = subst (λ p. 0 < attr_arguments p) (sym order) (omega arith)
-
-pub order_dims : (group : Group) → group.principle ≡ principles.Order → 0 < dim_arguments group.principle
-order_dims group order = subst (λ p. 0 < dim_arguments p) (sym order) (omega arith)

@@ -93,9 +93,6 @@ pub some_or_none : (set : List ℕ) → ((v : ℕ) × (has set v ≡ true)) ⊎ 
 some_or_none [] = inr (λ v h. false≢true h)
 some_or_none (v ∷ rest) = inl (v, (either (v == v) (has rest v)).1 (inl (eq-eqb v v refl)))
 
-pub none_exact : (set : List ℕ) → set ≡ [] → IsTrue true ↔ ((v : ℕ) → has set v ≡ true → ⊥)
-none_exact set empty = (λ t v h. no_member set v empty h, λ n. refl)
-
 pub some_exact : (set rest : List ℕ) (node : ℕ) → set ≡ node ∷ rest → IsTrue false ↔ ((v : ℕ) → has set v ≡ true → ⊥)
 some_exact set rest node is = (λ t. absurd (false≢true t), λ n. absurd (n node (head_in set rest node is)))
 
@@ -117,12 +114,6 @@ inside_exact a b v = (
 )
 
 -- ---- what two sets have in common
-
-pub meets_left : (nodes reach met : List ℕ) (Q : ℕ → Type 0) → ((v : ℕ) → (has reach v ≡ true) ↔ Q v) → ((v : ℕ) → has met v ≡ (has nodes v && has reach v)) → (v : ℕ) → (has met v ≡ true) ↔ ((has nodes v ≡ true) × Q v)
-meets_left nodes reach met Q exact is v = (
-  λ h. (let two = (both (has nodes v) (has reach v)).0 (sym (is v) ∙ h) in (two.0, (exact v).0 two.1)),
-  λ (there, q). is v ∙ (both (has nodes v) (has reach v)).1 (there, (exact v).1 q),
-)
 
 pub meets_right : (nodes ends reach met : List ℕ) → IsNodes nodes → ((v : ℕ) → (has reach v ≡ true) ↔ ((w : ℕ) × (has ends w ≡ true) × ((w ≤ v) × (v < 128)))) → ((v : ℕ) → has met v ≡ (has nodes v && has reach v)) → (v : ℕ) → (has met v ≡ true) ↔ ((has nodes v ≡ true) × ((w : ℕ) × (has ends w ≡ true) × (w ≤ v)))
 meets_right nodes ends reach met small exact is v = (

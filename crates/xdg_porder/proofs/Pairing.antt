@@ -10,7 +10,7 @@ use Rattle.xdg_problem.specs.declared.parts.Principle.{Principle}
 use Rattle.xdg_problem.specs.declared.parts.Principle.TheVariants as principles
 use Rattle.xdg_problem.specs.Analyses.{IsPlace}
 use Rattle.xdg_problem.specs.Arguments.{first_dim, order_of, label_count}
-use Rattle.xdg_problem.specs.Boxes.{Has, IsBox, edge_decision}
+use Rattle.xdg_problem.specs.Boxes.{Has, Must, edge_decision}
 use Rattle.xdg_problem.specs.Problems.{IsGroup, IsOrderFor}
 use Rattle.xdg_problem.proofs.PlaceOrder.{place_is}
 use Rattle.xdg_rules.specs.Rules.{ComesBefore, Takes, TakesBy, attr_of_node, must_edges}
@@ -70,7 +70,7 @@ module _ (group : Group) (u l m : ℕ) (s : State) (at : IsAtNode group u s) whe
     | inr before ↦ comes_differ s.parts group at.0.0.group_is at.0.1 l m before.0
   ]
 
-  must_of : (label v : ℕ) → IsPlace s.parts (edge_to group u label v) → Rattle.xdg_problem.specs.Boxes.Must s.parts s.now (edge_to group u label v) → Contains (must_edges s.parts s.now (first_dim group)) (edge_to group u label v)
+  must_of : (label v : ℕ) → IsPlace s.parts (edge_to group u label v) → Must s.parts s.now (edge_to group u label v) → Contains (must_edges s.parts s.now (first_dim group)) (edge_to group u label v)
   must_of label v is must = (must_exact s.parts s.now (first_dim group) (edge_to group u label v) known_is.is_box).1 ((place_is s.parts (edge_to group u label v) is, refl), must)
 
   -- the node itself goes, as an item

@@ -1,7 +1,7 @@
 -- Items that are taken, one by one.
 use Rattle.std.proofs.Common.{◌≡◌, ◌≢◌, ℕ, ◌<◌, ◌==◌, ◌&&◌, inl, inr, Bool, true, false, List, [], ◌∷◌, refl, sym, ap, ◌∙◌, arith, subst}
 use Rattle.std.specs.Prelude.{not}
-use Rattle.std.proofs.lemmas.Bool.{cases_eq, cases_lt, false≢true, eq-eqb}
+use Rattle.std.proofs.lemmas.Bool.{ne_eqb, cases_eq, false≢true, eq-eqb}
 use Rattle.xdg_judge.proofs.Sets.{both}
 use Rattle.xdg_nodeset.specs.Nodes.{has}
 use Rattle.xdg_problem.specs.declared.parts.Group.{Group}
@@ -100,7 +100,7 @@ module _ (group : Group) (u label : ℕ) (refused daughters : List ℕ) (own : B
   differs v h same = false≢true (sym (ap not (eq-eqb v u same)) ∙ h)
 
   other : (v : ℕ) → v ≢ u → has refused v ≡ true → has daughters v ≡ true
-  other v differ there = left_is v ∙ (both (not (v == u)) (has refused v)).1 (ap not (Rattle.std.proofs.lemmas.Bool.ne_eqb v u differ), there)
+  other v differ there = left_is v ∙ (both (not (v == u)) (has refused v)).1 (ap not (ne_eqb v u differ), there)
 
   pub own_takes : own ≡ true → MayOwn old.parts group old.now u label × Takes old.parts group old.now (attr_of_node old.parts group 0 u) label
   own_takes so = takes.0 (sym own_is ∙ so)

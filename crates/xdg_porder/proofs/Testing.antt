@@ -27,6 +27,7 @@ use Rattle.xdg_rules.proofs.Failing.{value_is}
 use Rattle.xdg_rules.proofs.Shrinking.{may_exact}
 use Rattle.xdg_rules.proofs.Sizes.{edge_some, edge_values}
 use Rattle.xdg_reach.specs.declared.which.Which.TheVariants as whichs
+use Rattle.xdg_reach.specs.Edges.{edge_labels}
 use Rattle.xdg_reach.proofs.Edges.{stands_by}
 use Rattle.xdg_reach.proofs.Labelled.{label_below}
 use Rattle.xdg_porder.specs.Items.{AreEarlierDone, IsPairDone, MayFollow, MayStand, MustFollow, MustStand, edge_to, label_at}
@@ -138,7 +139,7 @@ module _ (parts : Parts) (group : Group) (box : List (List Bool)) (is : IsBox (s
 
       pair : (i j d : ℕ) → i < j → j < length (order_of group) → IsPairDone parts group u (get_or (order_of group) i d) (get_or (order_of group) j d) box
       pair i j d less within =
-          let c = Rattle.std.proofs.lemmas.List.length-map group.order (λ (label : LabelId). label.0) in
+          let c = length-map group.order (λ (label : LabelId). label.0) in
           subst (λ l. IsPairDone parts group u l (get_or (order_of group) j d) box) (get_or_default (order_of group) i 0 d (omega (arith, less, within)))
           (subst (λ m. IsPairDone parts group u (label_at group i) m box) (get_or_default (order_of group) j 0 d within)
           (done i (omega (arith, less, within, c)) j (omega (arith, within, c)) less))
@@ -193,7 +194,7 @@ module _ (parts : Parts) (group : Group) (box : List (List Bool)) (is : IsBox (s
     settled_decided settled e on =
         let place = is_place parts e on.0 in
         let below = label_below parts e place in
-        let same = ap (Rattle.xdg_reach.specs.Edges.edge_labels parts) on.1 in
+        let same = ap (edge_labels parts) on.1 in
         let must : May parts box e → Must parts box e = λ here. subst (λ i. Must parts box (edge i e.mother.0 e.label.0 e.daughter.0)) (sym on.1) (settled e.mother.0 place.mother e.label.0 (omega (arith, below, same)) e.daughter.0
         (subst (λ i. IsPlace parts (edge i e.mother.0 e.label.0 e.daughter.0)) on.1 place)
         (subst (λ i. May parts box (edge i e.mother.0 e.label.0 e.daughter.0)) on.1 here)) in
@@ -230,7 +231,7 @@ module _ (parts : Parts) (group : Group) (box : List (List Bool)) (is : IsBox (s
       };
       fails = λ passes.
           let orders : Orders may u = subst (λ es. Orders es u) (yields_seen u) passes in
-          let c = Rattle.std.proofs.lemmas.List.length-map group.order (λ (label : LabelId). label.0) in
+          let c = length-map group.order (λ (label : LabelId). label.0) in
           let l = orders x y (below_within u (label_at group i) x within first) (below_within u (label_at group j) y within second) i j 0 less (omega (arith, jw, c)) (below_item u (label_at group i) x along own first) (below_item u (label_at group j) y along own second) in
           omega (arith, l, far);
     }
@@ -242,7 +243,7 @@ module _ (parts : Parts) (group : Group) (box : List (List Bool)) (is : IsBox (s
         orders u within own x y xl yl i j d less jw first second = elim (cases_lt x y) [
           | inl left ↦ left
           | inr past ↦ absurd (
-              let c = Rattle.std.proofs.lemmas.List.length-map group.order (λ (label : LabelId). label.0) in
+              let c = length-map group.order (λ (label : LabelId). label.0) in
               let at_i = get_or_default (order_of group) i d 0 (omega (arith, less, jw)) in
               let at_j = get_or_default (order_of group) j d 0 jw in
               none u within (

@@ -1,6 +1,7 @@
 -- The items of a node under labels: its daughters, and the node itself under its own label.
 use Rattle.std.specs.Prelude.{◌≡◌, ◌≢◌, ℕ, ◌<◌, ◌≤◌, ◌⊎◌, true, Bool, List, length, slice_index_or}
 use Rattle.xdg_nodeset.specs.Nodes.{has}
+use Rattle.xdg_problem.specs.declared.analysis.Edge.{Edge}
 use Rattle.xdg_problem.specs.declared.parts.Group.{Group}
 use Rattle.xdg_problem.specs.declared.parts.Parts.{Parts}
 use Rattle.xdg_problem.specs.declared.parts.Principle.TheVariants as principles
@@ -13,7 +14,7 @@ use Rattle.xdg_rules.specs.Rules.{ComesBefore, Takes, attr_of_node}
 use Rattle.xdg_store.specs.States.{State, Known}
 
 -- the edge of the principle use's dimension from u with a label to v
-abbrev pub edge_to : Group → ℕ → ℕ → ℕ → Rattle.xdg_problem.specs.declared.analysis.Edge.Edge
+abbrev pub edge_to : Group → ℕ → ℕ → ℕ → Edge
 edge_to group u label v = edge (first_dim group) u label v
 
 -- v may be a daughter of u with a label
