@@ -17,3 +17,5 @@ pub mod Single
 pub mod Reached
 pub mod Tables
 pub mod Labels
+pub mod Told
+pub mod Skipped

@@ -1,5 +1,5 @@
 -- What paths lead to, step by step.
-use Rattle.std.proofs.Common.{◌≡◌, ◌≢◌, ℕ, ◌+◌, ◌<◌, ◌≤◌, ◌⊎◌, ◌↔◌, ◌||◌, inl, inr, Bool, true, IsTrue, List, [], refl, sym, ◌∙◌, subst, arith}
+use Rattle.std.proofs.Common.{◌≡◌, ℕ, ◌+◌, ◌<◌, ◌≤◌, ◌⊎◌, ◌↔◌, ◌||◌, inl, inr, Bool, true, IsTrue, List, [], refl, sym, ◌∙◌, subst, arith}
 use Rattle.std.specs.Prelude.{Contains}
 use Rattle.std.specs.List.{Any}
 use Rattle.std.proofs.lemmas.Bool.{cases_eq, false≢true}
@@ -129,15 +129,6 @@ module _ (plane : Plane) (far : List (List ℕ)) (p q r : Progress) (old mid new
       (λ e x. ((x.0, subst (λ k. In far e.daughter.0 k) (sym x.0) (subst (λ k. In far k u) (sym x.1) back)), (let l = x.1 in omega (arith, l))))
       (λ e on x. into_cases u w e x)
       a b
-
-  pub back_left : (u w : ℕ) → ((u ≢ w) × In far w u → ⊥) → Clears (There (BacksInto far u w)) p old q mid → Clears (There (BacksInto far u (w + 1))) p old q mid
-  back_left u w none a = aims_same old.parts plane.dim.0 founds.More (BacksInto far u w) (BacksInto far u (w + 1)) p q old mid
-      (λ e on x. (x.0, (let l = x.1 in omega (arith, l))))
-      (λ e on x. elim (into_cases u w e x) [
-        | inl y ↦ y
-        | inr y ↦ absurd (none ((λ same. ((plane_is.exact e).0 on).differ (y.0 ∙ same ∙ sym y.1)), subst (λ k. In far k u) y.1 (subst (λ k. In far e.daughter.0 k) y.0 x.0.1)))
-      ])
-      a
 
   pub back_end : (u w : ℕ) → plane.nodes ≤ w → Clears (There (BacksInto far u w)) p old q mid → Clears (There (BacksFrom far u)) p old q mid
   back_end u w all a = aims_same old.parts plane.dim.0 founds.More (BacksInto far u w) (BacksFrom far u) p q old mid (λ e on x. x.0) (λ e on x. (x, (let k = ((plane_is.exact e).0 on).daughter in omega (arith, k, all)))) a

@@ -12,8 +12,8 @@ use Rattle.xdg_rules.proofs.Among.{root_contained}
 use Rattle.xdg_rules.specs.Rules.{IsPlaceOn, must_edges}
 use Rattle.xdg_store.specs.States.{State}
 use Rattle.xdg_propcore.specs.Passes.{Progress, Clears, EachValue}
-use Rattle.xdg_pgraph.specs.declared.finding.Roots.{Roots}
-use Rattle.xdg_pgraph.specs.declared.finding.Roots.TheVariants as rootss
+use Rattle.xdg_pgraph.specs.declared.entered.Roots.{Roots}
+use Rattle.xdg_pgraph.specs.declared.entered.Roots.TheVariants as rootss
 use Rattle.xdg_pgraph.specs.declared.found.Found.TheVariants as founds
 use Rattle.xdg_pgraph.specs.declared.plane.Plane.{Plane}
 use Rattle.xdg_pgraph.specs.Planes.{IsPlane}

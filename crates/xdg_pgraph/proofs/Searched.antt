@@ -10,8 +10,8 @@ use Rattle.xdg_problem.specs.Paths.{roots}
 use Rattle.xdg_problem.specs.Places.{below, edge}
 use Rattle.xdg_problem.proofs.Edges.{edge_equal}
 use Rattle.xdg_rules.proofs.Among.{is_root, free_root, root_free}
-use Rattle.xdg_pgraph.specs.declared.finding.Roots.{Roots}
-use Rattle.xdg_pgraph.specs.declared.finding.Roots.TheVariants as rootss
+use Rattle.xdg_pgraph.specs.declared.entered.Roots.{Roots}
+use Rattle.xdg_pgraph.specs.declared.entered.Roots.TheVariants as rootss
 use Rattle.xdg_pgraph.specs.declared.found.Found.{Found}
 use Rattle.xdg_pgraph.specs.declared.found.Found.TheVariants as founds
 use Rattle.xdg_pgraph.specs.declared.found.Which.{Which}
@@ -127,14 +127,3 @@ module _ (which : Which) (parts : Parts) (box : List (List Bool)) (plane : Plane
 
     pub into_end : (v m : ℕ) (found : Found) → plane.nodes ≤ m → Finds (IntoBelow those v m) found → Finds (Into those v) found
     into_end v m found all f = into_all those v m found (λ e c. (let k = (those_plane e c).mother in omega (arith, k, all))) f
-
-  pub root_yes : (v : ℕ) (found : Found) (r new : Roots) → found ≡ founds.Nothing → new ≡ roots_with r v → Finds (Into those v) found → RootsAre (roots v those) r → RootsAre (roots (v + 1) those) new
-  root_yes v found r new none new_is f is = subst (RootsAre (roots (v + 1) those)) (sym new_is) (root_taken those v r (subst (Finds (Into those v)) none f) is)
-
-  pub root_one : (v : ℕ) (found : Found) (e : Edge) (r new : Roots) → found ≡ founds.One e → new ≡ r → Finds (Into those v) found → RootsAre (roots v those) r → RootsAre (roots (v + 1) those) new
-  root_one v found e r new one new_is f is = subst (RootsAre (roots (v + 1) those)) (sym new_is) (root_left those v r e (subst (Finds (Into those v)) one f).0 is)
-
-  pub root_more : (v : ℕ) (found : Found) (r new : Roots) → found ≡ founds.More → new ≡ r → Finds (Into those v) found → RootsAre (roots v those) r → RootsAre (roots (v + 1) those) new
-  root_more v found r new more new_is f is =
-      let g = subst (Finds (Into those v)) more f in
-      subst (RootsAre (roots (v + 1) those)) (sym new_is) (root_left those v r g.0 g.2 is)

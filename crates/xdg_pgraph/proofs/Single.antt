@@ -24,8 +24,8 @@ use Rattle.xdg_rules.proofs.Shrinking.{may_be, may_among}
 use Rattle.xdg_store.specs.States.{State, Known}
 use Rattle.xdg_propcore.specs.Passes.{Progress, Clears, EachValue}
 use Rattle.xdg_propcore.proofs.Passing.{clears_none, clears_like}
-use Rattle.xdg_pgraph.specs.declared.finding.Roots.{Roots}
-use Rattle.xdg_pgraph.specs.declared.finding.Roots.TheVariants as rootss
+use Rattle.xdg_pgraph.specs.declared.entered.Roots.{Roots}
+use Rattle.xdg_pgraph.specs.declared.entered.Roots.TheVariants as rootss
 use Rattle.xdg_pgraph.specs.declared.found.Found.{Found}
 use Rattle.xdg_pgraph.specs.declared.found.Found.TheVariants as founds
 use Rattle.xdg_pgraph.specs.declared.found.Which.TheVariants as whichs

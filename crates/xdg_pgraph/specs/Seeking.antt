@@ -9,8 +9,8 @@ use Rattle.xdg_pgraph.specs.declared.found.Found.{Found}
 use Rattle.xdg_pgraph.specs.declared.found.Found.TheVariants as founds
 use Rattle.xdg_pgraph.specs.declared.found.Which.{Which}
 use Rattle.xdg_pgraph.specs.declared.found.Which.TheVariants as whichs
-use Rattle.xdg_pgraph.specs.declared.finding.Roots.{Roots}
-use Rattle.xdg_pgraph.specs.declared.finding.Roots.TheVariants as rootss
+use Rattle.xdg_pgraph.specs.declared.entered.Roots.{Roots}
+use Rattle.xdg_pgraph.specs.declared.entered.Roots.TheVariants as rootss
 
 -- the edges of a dimension that may be, or those that must be
 abbrev pub edges_of : Which → Parts → List (List Bool) → ℕ → List Edge

@@ -2,9 +2,8 @@
 
 ghost use Rattle.std.specs.Prelude.{◌≡◌, ◌≢◌, ◌<◌, ◌↔◌, IsTrue, Contains};
 ghost use Rattle.xdg_problem.specs.Analyses.{IsPlace};
-ghost use Rattle.xdg_problem.specs.Paths.{roots};
 ghost use Rattle.xdg_store.specs.States.{Known};
-ghost use Rattle.xdg_pgraph.specs.Seeking.{Finds, Into, Joins, RootsAre, edges_of, roots_with};
+ghost use Rattle.xdg_pgraph.specs.Seeking.{Finds, Into, Joins, edges_of};
 ghost use Rattle.xdg_pgraph.specs.Planes.{IsPlane};
 
 use crate::found::{Found, Which};
@@ -57,45 +56,4 @@ pub(crate) fn entering(store: &Store, plane: &Plane, which: Which, daughter: u8)
         }
     }
     found
-}
-
-/// Nodes without mother.
-#[derive(Clone, Copy, Debug)]
-pub(crate) enum Roots {
-    /// No node.
-    Nothing,
-    /// This node alone.
-    One(u8),
-    /// More than one node.
-    More,
-}
-
-impl Roots {
-    /// One node more.
-    fn with(self, node: u8) -> Roots
-        ensures { result ≡ roots_with self node }
-    {
-        match self {
-            Roots::Nothing => Roots::One(node),
-            Roots::One(_) => Roots::More,
-            Roots::More => Roots::More,
-        }
-    }
-}
-
-/// The nodes into which no edge leads.
-pub(crate) fn find_roots(store: &Store, plane: &Plane, which: Which) -> Roots
-    requires plane { IsPlane store.now.parts plane.now }
-    requires known { Known store.now }
-    ensures { RootsAre (roots plane.now.nodes (edges_of which store.now.parts store.now.now plane.now.dim.0)) result }
-{
-    let mut nodes = Roots::Nothing;
-    for node in 0..plane.nodes {
-        match entering(store, plane, which, node) {
-            Found::Nothing => nodes = nodes.with(node),
-            Found::One(_) => {}
-            Found::More => {}
-        }
-    }
-    nodes
 }

@@ -8,12 +8,15 @@ ghost use Rattle.xdg_pgraph.specs.Planes.{IsPlane};
 ghost use Rattle.xdg_pgraph.specs.Ruling.{RunsFor, OneLabelOf, RootIf, LabelIf, ByTree, ByDag};
 ghost use Rattle.xdg_pgraph.specs.Seeking.{Doubled};
 
+use crate::entered::entered_from;
 use crate::finding::joined;
 use crate::found::Which;
+use crate::incoming::Incoming;
 use crate::plane::Plane;
 use crate::reach::no_cycle;
 use crate::taking::forbid_joined;
 use crate::tree::{for_others, for_root, one_mother};
+use xdg_base::NodeId;
 use xdg_propcore::Pass;
 use xdg_store::Store;
 
@@ -40,8 +43,12 @@ fn one_label_from(store: &mut Store, pass: &mut Pass, plane: &Plane, mother: u8)
     ensures parts { store.new.parts ≡ store.old.parts }
     ensures known { Known store.new }
 {
+    let must = entered_from(store, plane, Which::Must, mother);
+    let doubled = must
+        .some
+        .meet(&entered_from(store, plane, Which::May, mother).more);
     for daughter in 0..plane.nodes {
-        if mother != daughter {
+        if doubled.contains(NodeId(daughter)) {
             one_label_between(store, pass, plane, mother, daughter);
         }
     }
@@ -68,9 +75,12 @@ pub(crate) fn take_tree(store: &mut Store, pass: &mut Pass, plane: &Plane)
     ensures parts { store.new.parts ≡ store.old.parts }
     ensures known { Known store.new }
 {
-    one_mother(store, pass, plane);
-    for_root(store, pass, plane);
-    for_others(store, pass, plane);
+    let first = Incoming::of(store, plane);
+    one_mother(store, pass, plane, &first);
+    let second = first.renewed(store, pass, plane);
+    for_root(store, pass, plane, &second);
+    let third = second.renewed(store, pass, plane);
+    for_others(store, pass, plane, &third);
     no_cycle(store, pass, plane);
 }
 
@@ -85,8 +95,10 @@ fn take_root(store: &mut Store, pass: &mut Pass, plane: &Plane, wanted: bool)
     if !wanted {
         return;
     }
-    for_root(store, pass, plane);
-    for_others(store, pass, plane);
+    let first = Incoming::of(store, plane);
+    for_root(store, pass, plane, &first);
+    let second = first.renewed(store, pass, plane);
+    for_others(store, pass, plane, &second);
 }
 
 /// The rule of labels, where it is asked for.

@@ -3,9 +3,11 @@
 
 mod bounds;
 mod bundle;
+mod entered;
 mod finding;
 mod found;
 mod graph_prop;
+mod incoming;
 mod label;
 mod plane;
 mod reach;

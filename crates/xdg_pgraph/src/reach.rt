@@ -1,6 +1,6 @@
 //! What paths along edges that must be lead to.
 
-ghost use Rattle.std.specs.Prelude.{◌≡◌, ◌≢◌, ◌↔◌, ◌⊎◌, ℕ, ◌<◌, ◌≤◌, true, IsTrue};
+ghost use Rattle.std.specs.Prelude.{◌≡◌, ◌↔◌, ◌⊎◌, ℕ, ◌<◌, ◌≤◌, true, IsTrue};
 ghost use Rattle.xdg_judge.specs.Links.{In, IsClosure};
 ghost use Rattle.xdg_nodeset.specs.Nodes.{has};
 ghost use Rattle.xdg_problem.specs.Paths.{Above};
@@ -12,6 +12,7 @@ ghost use Rattle.xdg_pgraph.specs.Ruling.{RunsFor};
 ghost use Rattle.xdg_pgraph.specs.Seeking.{Aims, BacksFrom, Backs, Steps};
 
 use crate::bundle::{Bundle, Way, ends};
+use crate::entered::entered_from;
 use crate::found::{Found, Which};
 use crate::plane::Plane;
 use crate::taking::forbid_joined;
@@ -47,6 +48,9 @@ fn widen(table: &mut [NodeSet; 128], middle: u8)
     ensures { (a b : ℕ) → In table.new a b ↔ (In table.old a b ⊎ (In table.old a middle × In table.old middle b)) }
 {
     let beyond = table[usize::from(middle)];
+    if beyond.len() == 0 {
+        return;
+    }
     for set in table.iter_mut() {
         *set = extended(*set, middle, beyond);
     }
@@ -115,13 +119,13 @@ fn above(store: &Store, plane: &Plane) -> [NodeSet; 128]
     closed(&next(store, plane), plane.nodes)
 }
 
-/// Whether an edge from a node to another would close a cycle.
-fn is_back(far: &[NodeSet; 128], mother: u8, daughter: u8) -> bool
+/// Whether an edge from a node to one of some others would close a cycle.
+fn is_back(far: &[NodeSet; 128], mother: u8, daughters: NodeSet, daughter: u8) -> bool
     requires mother { mother < 128 }
     requires daughter { daughter < 128 }
-    ensures { IsTrue result ↔ ((mother ≢ daughter) × In far.now daughter mother) }
+    ensures { IsTrue result ↔ ((has daughters daughter ≡ true) × In far.now daughter mother) }
 {
-    mother != daughter && far[usize::from(daughter)].contains(NodeId(mother))
+    daughters.contains(NodeId(daughter)) && far[usize::from(daughter)].contains(NodeId(mother))
 }
 
 /// Takes away the edges out of a node that would close a cycle.
@@ -138,8 +142,9 @@ fn no_cycle_from(
     ensures clears { Clears (Aims store.old.parts plane.now.dim.0 Found.More (BacksFrom far.now mother)) pass.old store.old pass.new store.new }
     ensures known { Known store.new }
 {
+    let daughters = entered_from(store, plane, Which::May, mother).some;
     for daughter in 0..plane.nodes {
-        if is_back(far, mother, daughter) {
+        if is_back(far, mother, daughters, daughter) {
             forbid_joined(store, pass, plane, mother, daughter, Found::More);
         }
     }

@@ -1,0 +1,154 @@
+-- Nodes at which the rules take nothing that remains.
+use Rattle.std.proofs.Common.{◌≡◌, ◌≢◌, ℕ, ◌+◌, ◌&&◌, inl, inr, Bool, true, false, List, refl, sym, ◌∙◌, ap, subst, arith}
+use Rattle.std.specs.Prelude.{Contains, not}
+use Rattle.std.proofs.lemmas.Bool.{cases_eq, false≢true, false_from_ne_true, not_from_false}
+use Rattle.xdg_judge.proofs.Sets.{both}
+use Rattle.xdg_judge.specs.Links.{In}
+use Rattle.xdg_nodeset.specs.Nodes.{has}
+use Rattle.xdg_problem.specs.declared.analysis.Edge.{Edge}
+use Rattle.xdg_problem.specs.declared.parts.Group.{Group}
+use Rattle.xdg_problem.specs.declared.parts.Parts.{Parts}
+use Rattle.xdg_problem.specs.Boxes.{Has, edge_decision}
+use Rattle.xdg_problem.specs.Paths.{mothers}
+use Rattle.xdg_rules.specs.Rules.{IsPlaceOn, SaysPresent, may_edges, must_edges}
+use Rattle.xdg_rules.proofs.DecidingBoxes.{decided_edges}
+use Rattle.xdg_rules.proofs.Shrinking.{may_of, must_is}
+use Rattle.xdg_store.specs.States.{State}
+use Rattle.xdg_propcore.specs.Passes.{Progress, Clears, IsQuiet}
+use Rattle.xdg_propcore.proofs.Passing.{goes_none}
+use Rattle.xdg_pgraph.specs.declared.entered.Entered.{Entered}
+use Rattle.xdg_pgraph.specs.declared.found.Found.TheVariants as founds
+use Rattle.xdg_pgraph.specs.declared.incoming.Incoming.{Incoming}
+use Rattle.xdg_pgraph.specs.declared.plane.Plane.{Plane}
+use Rattle.xdg_pgraph.specs.Entering.{Tells, Leaving}
+use Rattle.xdg_pgraph.specs.Incomings.{AreOf}
+use Rattle.xdg_pgraph.specs.Ruling.{Runs, RunsFor, OneLabelOf}
+use Rattle.xdg_pgraph.specs.Seeking.{Aims, ToNode}
+use Rattle.xdg_pgraph.proofs.Labels.{LabelInto}
+use Rattle.xdg_pgraph.proofs.Reached.{BacksInto}
+use Rattle.xdg_pgraph.proofs.Ruled.{OneMotherBelow}
+use Rattle.xdg_pgraph.proofs.Single.{OnlyMotherBelow, not_more}
+
+-- more is looked at, where the rule takes nothing that remained at first
+pub runs_skip : (A C : List (List Bool) → ℕ → ℕ → Type 0) (group : Group) (p q : Progress) (old mid : State) → ((d v : ℕ) → C old.now d v → Has old.now d v → A old.now d v) → Runs A group p old q mid → Runs C group p old q mid
+runs_skip A C group p q old mid each a = record {
+  goes = a.goes;
+  done = λ z d v c h.
+      let same = (a.goes.quiet z).1 in
+      a.done z d v (subst (λ box. A box d v) (sym same) (each d v (subst (λ box. C box d v) same c) (subst (λ box. Has box d v) same h))) h;
+}
+
+-- where nothing was taken, the box is the same
+abbrev pub Stays : Progress → State → Progress → State → Type 0
+Stays p old q new = IsQuiet q → IsQuiet p × (new.now ≡ old.now)
+
+pub stays_both : (p q r : Progress) (old mid new : State) → Stays p old q mid → Stays q mid r new → Stays p old r new
+stays_both p q r old mid new a b z =
+    let y = b z in
+    let x = a y.0 in
+    (x.0, y.1 ∙ x.1)
+
+-- the nodes of a box are those of the box now, where nothing was taken
+pub still_of : (dim : ℕ) (p : Progress) (old new : State) (incoming : Incoming) → AreOf old.parts old.now dim incoming → new.parts ≡ old.parts → (IsQuiet p → new.now ≡ old.now) → IsQuiet p → AreOf new.parts new.now dim incoming
+still_of dim p old new incoming are same quiet z = subst (λ z. AreOf z new.now dim incoming) (sym same) (subst (λ box. AreOf old.parts box dim incoming) (sym (quiet z)) are)
+
+-- an edge that may lead into a node beside one that must
+crowded : (P Q : Edge → Type 0) (must may : Entered) (both_there : List ℕ) (w : ℕ) → Tells P must → Tells Q may → ((n : ℕ) → has both_there n ≡ (has must.some n && has may.more n)) → has both_there w ≡ false → (place other : Edge) → P other → Q other → Q place → ToNode w place → ToNode w other → place ≢ other → ⊥
+crowded P Q must may both_there w m y is none place other p q r into too differ =
+    false≢true (sym none ∙ is w ∙ (both (has must.some w) (has may.more w)).1 ((m.once w).1 (other, p, too), (y.twice w).1 (record { first = place; one = (r, into); second = other; two = (q, too); differ = differ })))
+
+module _ (parts : Parts) (box : List (List Bool)) (dim : ℕ) where
+  must_may : (e : Edge) → Contains (must_edges parts box dim) e → Contains (may_edges parts box dim) e
+  must_may e c = (let m = must_is parts box dim e c in may_of parts box dim e (record { place = m.place; dim_is = m.dim_is; present = m.present }))
+
+  place_may : (e : Edge) (d v : ℕ) → IsPlaceOn parts dim e → SaysPresent parts e d v → Has box d v → Contains (may_edges parts box dim) e
+  place_may e d v on says h = may_of parts box dim e (record { place = on.0; dim_is = on.1; present = subst (λ k. Has box (edge_decision parts e) k) says.1 (subst (λ k. Has box k v) says.0 h) })
+
+-- no edge that may be leads into a node
+pub none_enters : (dim w : ℕ) (p : Progress) (s : State) (incoming : Incoming) → AreOf s.parts s.now dim incoming → has incoming.may.some w ≡ false → Clears (Aims s.parts dim founds.More (ToNode w)) p s p s
+none_enters dim w p s incoming are none = record {
+  same = refl;
+  inside = λ d v h. h;
+  quiet = λ z. (z, refl);
+  gone = λ z d v aim h. false≢true (sym none ∙ (are.may.once w).1 (aim.place, place_may s.parts s.now dim aim.place d v aim.is aim.says h, aim.aimed));
+  goes = λ group around is lies takes. goes_none group p s;
+}
+
+-- more is aimed at, of which nothing remained at first
+clears_skip : (A B : ℕ → ℕ → Type 0) (p q : Progress) (old new : State) → ((d v : ℕ) → A d v → B d v) → ((d v : ℕ) → B d v → Has old.now d v → A d v) → Clears A p old q new → Clears B p old q new
+clears_skip A B p q old new to from c = record {
+  same = c.same;
+  inside = c.inside;
+  quiet = c.quiet;
+  gone = λ z d v b h. c.gone z d v (from d v b (c.inside d v h)) h;
+  goes = λ group around is lies takes. c.goes group around is lies (λ d v a. takes d v (to d v a));
+}
+
+-- no edge that may be leads to a node and closes a cycle
+pub back_skip : (plane : Plane) (far : List (List ℕ)) (p q : Progress) (old mid : State) (u w : ℕ) (may : Entered) → Tells (Leaving (may_edges old.parts old.now plane.dim.0) u) may → ((has may.some w ≡ true) × In far w u → ⊥) → Clears (Aims old.parts plane.dim.0 founds.More (BacksInto far u w)) p old q mid → Clears (Aims old.parts plane.dim.0 founds.More (BacksInto far u (w + 1))) p old q mid
+back_skip plane far p q old mid u w may tells none = clears_skip (Aims old.parts plane.dim.0 founds.More (BacksInto far u w)) (Aims old.parts plane.dim.0 founds.More (BacksInto far u (w + 1))) p q old mid
+    (λ d v a. record { place = a.place; is = a.is; aimed = (a.aimed.0, (let l = a.aimed.1 in omega (arith, l))); other = a.other; says = a.says })
+    (λ d v a h. elim (cases_eq a.place.daughter.0 w) [
+      | inl at ↦ absurd (none (
+        (tells.once w).1 (a.place, (place_may old.parts old.now plane.dim.0 a.place d v a.is a.says h, a.aimed.0.0), at),
+        subst (λ k. In far k u) at (subst (λ k. In far a.place.daughter.0 k) a.aimed.0.0 a.aimed.0.1),
+      ))
+      | inr other ↦ record { place = a.place; is = a.is; aimed = (a.aimed.0, (let l = a.aimed.1 in omega (arith, l, other))); other = a.other; says = a.says }
+    ])
+
+module _ (plane : Plane) (p q : Progress) (old mid : State) (must may : Entered) (w : ℕ) where
+  abbrev dim : ℕ
+  dim = plane.dim.0
+
+  pub one_mother_skip : (both_there : List ℕ) → Tells (Contains (must_edges old.parts old.now dim)) must → Tells (Contains (may_edges old.parts old.now dim)) may → ((n : ℕ) → has both_there n ≡ (has must.some n && has may.more n)) → has both_there w ≡ false → RunsFor (OneMotherBelow w) dim p old q mid → RunsFor (OneMotherBelow (w + 1)) dim p old q mid
+  one_mother_skip both_there m y is none before group is_group on takes = runs_skip (OneMotherBelow w old.parts group) (OneMotherBelow (w + 1) old.parts group) group p q old mid
+      (λ d v x h. elim (cases_eq x.rule.place.daughter.0 w) [
+        | inl at ↦ absurd (
+            let other = subst (λ k. Contains (must_edges old.parts old.now k) x.rule.other) on x.rule.must in
+            crowded (Contains (must_edges old.parts old.now dim)) (Contains (may_edges old.parts old.now dim)) must may both_there w m y is none x.rule.place x.rule.other other (must_may old.parts old.now dim x.rule.other other)
+            (place_may old.parts old.now dim x.rule.place d v (subst (λ k. IsPlaceOn old.parts k x.rule.place) on x.rule.is) x.rule.says h)
+            at (sym x.rule.both ∙ at) x.rule.differs)
+        | inr other ↦ record { rule = x.rule; below = (let b = x.below in omega (arith, b, other)) }
+      ])
+      (before group is_group on (λ box d v x. takes box d v (record { rule = x.rule; below = (let l = x.below in omega (arith, l)) })))
+
+  pub label_skip : (u : ℕ) (both_there : List ℕ) → Tells (Leaving (must_edges old.parts old.now dim) u) must → Tells (Leaving (may_edges old.parts old.now dim) u) may → ((n : ℕ) → has both_there n ≡ (has must.some n && has may.more n)) → has both_there w ≡ false → RunsFor (OneLabelOf (LabelInto u w)) dim p old q mid → RunsFor (OneLabelOf (LabelInto u (w + 1))) dim p old q mid
+  label_skip u both_there m y is none before group is_group on takes = runs_skip (OneLabelOf (LabelInto u w) old.parts group) (OneLabelOf (LabelInto u (w + 1)) old.parts group) group p q old mid
+      (λ d v x h. elim (cases_eq x.rule.place.daughter.0 w) [
+        | inl at ↦ absurd (
+            let other = subst (λ k. Contains (must_edges old.parts old.now k) x.rule.other) on x.rule.must in
+            let from : x.rule.other.mother.0 ≡ u = sym x.rule.mother ∙ x.of.0 in
+            crowded (Leaving (must_edges old.parts old.now dim) u) (Leaving (may_edges old.parts old.now dim) u) must may both_there w m y is none x.rule.place x.rule.other (other, from) (must_may old.parts old.now dim x.rule.other other, from)
+            (place_may old.parts old.now dim x.rule.place d v (subst (λ k. IsPlaceOn old.parts k x.rule.place) on x.rule.is) x.rule.says h, x.of.0)
+            at (sym x.rule.daughter ∙ at) x.rule.differs)
+        | inr other ↦ record { rule = x.rule; of = (x.of.0, (let l = x.of.1 in omega (arith, l, other))) }
+      ])
+      (before group is_group on (λ box d v x. takes box d v (record { rule = x.rule; of = (x.of.0, (let l = x.of.1 in omega (arith, l))) })))
+
+  module _ (twice single : List ℕ) (m : Tells (Contains (must_edges old.parts old.now dim)) must) (y : Tells (Contains (may_edges old.parts old.now dim)) may) (once_is : (n : ℕ) → has twice n ≡ (has may.some n && not (has may.more n))) (single_is : (n : ℕ) → has single n ≡ (has twice n && not (has must.some n))) where
+    single_there : (e : Edge) (d v : ℕ) → Contains (may_edges old.parts old.now dim) e → ToNode w e → mothers (may_edges old.parts old.now dim) w ≡ 1 → (d ≡ edge_decision old.parts e) × (v ≡ 1) → Has old.now d v → has single w ≡ true
+    single_there e d v c into one says h =
+        let no_second : (f : Edge) → Contains (may_edges old.parts old.now dim) f → ToNode w f → e ≢ f → ⊥ = (λ f there too differ. not_more old.parts old.now dim w (e, f, (c, into), (there, too), differ) one) in
+        let few : has may.more w ≡ false = false_from_ne_true (has may.more w) (λ t. (let s = (y.twice w).0 t in not_more old.parts old.now dim w (s.first, s.second, s.one, s.two, s.differ) one)) in
+        let open_one : has must.some w ≡ false = false_from_ne_true (has must.some w) (λ t. (
+        let s = (m.once w).0 t in
+        elim (decided_edges e s.0) [
+          | inl same ↦ false≢true (sym (must_is old.parts old.now dim e (subst (Contains (must_edges old.parts old.now dim)) (sym same) s.1)).not_absent ∙ subst (λ k. Has old.now (edge_decision old.parts e) k) says.1 (subst (λ k. Has old.now k v) says.0 h))
+          | inr differ ↦ no_second s.0 (must_may old.parts old.now dim s.0 s.1) s.2 differ
+        ])) in
+        single_is w ∙ (both (has twice w) (not (has must.some w))).1 (
+          once_is w ∙ (both (has may.some w) (not (has may.more w))).1 ((y.once w).1 (e, c, into), not_from_false (has may.more w) few),
+          not_from_false (has must.some w) open_one,
+        )
+
+    pub only_skip : has single w ≡ false → RunsFor (OnlyMotherBelow w) dim p old q mid → RunsFor (OnlyMotherBelow (w + 1)) dim p old q mid
+    only_skip none before group is_group on takes = runs_skip (OnlyMotherBelow w old.parts group) (OnlyMotherBelow (w + 1) old.parts group) group p q old mid
+        (λ d v x h. elim (cases_eq x.rule.place.daughter.0 w) [
+          | inl at ↦ absurd (false≢true (sym none ∙ single_there x.rule.place d v
+              (subst (λ k. Contains (may_edges old.parts old.now k) x.rule.place) on x.rule.may)
+              at
+              (ap (mothers (may_edges old.parts old.now dim)) (sym at) ∙ subst (λ k. mothers (may_edges old.parts old.now k) x.rule.place.daughter.0 ≡ 1) on x.rule.only)
+              x.rule.says h))
+          | inr other ↦ record { rule = x.rule; below = (let b = x.below in omega (arith, b, other)) }
+        ])
+        (before group is_group on (λ box d v x. takes box d v (record { rule = x.rule; below = (let l = x.below in omega (arith, l)) })))

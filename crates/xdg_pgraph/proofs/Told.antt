@@ -1,0 +1,159 @@
+-- The nodes into which some edges lead, step by step.
+use Rattle.std.proofs.Common.{◌≡◌, ◌≢◌, ℕ, ◌+◌, ◌<◌, ◌≤◌, ◌⊎◌, ◌↔◌, ◌||◌, ◌&&◌, inl, inr, Bool, true, false, IsTrue, List, [], refl, sym, ◌∙◌, subst, arith}
+use Rattle.std.specs.Prelude.{Contains}
+use Rattle.std.proofs.lemmas.Bool.{cases_eq, false≢true}
+use Rattle.xdg_judge.proofs.Sets.{either, both}
+use Rattle.xdg_nodeset.specs.Nodes.{has}
+use Rattle.xdg_problem.specs.declared.analysis.Edge.{Edge}
+use Rattle.xdg_problem.specs.declared.parts.Parts.{Parts}
+use Rattle.xdg_problem.specs.Paths.{roots}
+use Rattle.xdg_problem.specs.Places.{edge}
+use Rattle.xdg_problem.proofs.Edges.{edge_equal}
+use Rattle.xdg_pgraph.specs.declared.entered.Entered.{Entered}
+use Rattle.xdg_pgraph.specs.declared.entered.Roots.{Roots}
+use Rattle.xdg_pgraph.specs.declared.found.Which.{Which}
+use Rattle.xdg_pgraph.specs.declared.plane.Plane.{Plane}
+use Rattle.xdg_pgraph.specs.Entering.{Enters, EnterTwice, Tells, Leaving, Labelled}
+use Rattle.xdg_pgraph.specs.Planes.{IsPlane, IsOnPlane}
+use Rattle.xdg_pgraph.specs.Seeking.{ToNode, RootsAre, edges_of, roots_with}
+use Rattle.xdg_pgraph.proofs.PlaneFacts.{which_place}
+use Rattle.xdg_pgraph.proofs.Searched.{root_taken, root_left}
+
+-- the same edges, told in another way
+pub tells_like : (P Q : Edge → Type 0) (a : Entered) → ((e : Edge) → P e → Q e) → ((e : Edge) → Q e → P e) → Tells P a → Tells Q a
+tells_like P Q a to from t = record {
+  once = λ v. (
+    λ h. (let s = (t.once v).0 h in (s.0, to s.0 s.1, s.2)),
+    λ s. (t.once v).1 (s.0, from s.0 s.1, s.2),
+  );
+  twice = λ v. (
+    λ h. (let s = (t.twice v).0 h in record { first = s.first; one = (to s.first s.one.0, s.one.1); second = s.second; two = (to s.second s.two.0, s.two.1); differ = s.differ }),
+    λ s. (t.twice v).1 (record { first = s.first; one = (from s.first s.one.0, s.one.1); second = s.second; two = (from s.second s.two.0, s.two.1); differ = s.differ }),
+  );
+}
+
+-- some edges, and others
+module _ (P Q R : Edge → Type 0) (a b c : Entered) (first : (e : Edge) → P e → R e) (second : (e : Edge) → Q e → R e) (each : (e : Edge) → R e → P e ⊎ Q e) (apart : (e : Edge) → P e → Q e → ⊥) (p : Tells P a) (q : Tells Q b) (some_is : (n : ℕ) → has c.some n ≡ (has a.some n || has b.some n)) (more_is : (n : ℕ) → has c.more n ≡ (has a.more n || (has b.more n || (has a.some n && has b.some n)))) where
+  once_both : (v : ℕ) → IsTrue (has c.some v) ↔ Enters R v
+  once_both v = (
+    λ h. elim ((either (has a.some v) (has b.some v)).0 (sym (some_is v) ∙ h)) [
+      | inl x ↦ (let s = (p.once v).0 x in (s.0, first s.0 s.1, s.2))
+      | inr y ↦ (let s = (q.once v).0 y in (s.0, second s.0 s.1, s.2))
+    ],
+    λ s. some_is v ∙ (either (has a.some v) (has b.some v)).1 (elim (each s.0 s.1) [
+      | inl x ↦ inl ((p.once v).1 (s.0, x, s.2))
+      | inr y ↦ inr ((q.once v).1 (s.0, y, s.2))
+    ]),
+  )
+
+  cross : (v : ℕ) → (has a.some v && has b.some v) ≡ true → EnterTwice R v
+  cross v h =
+      let two = (both (has a.some v) (has b.some v)).0 h in
+      let s = (p.once v).0 two.0 in
+      let t = (q.once v).0 two.1 in
+      record { first = s.0; one = (first s.0 s.1, s.2); second = t.0; two = (second t.0 t.1, t.2); differ = λ same. apart s.0 s.1 (subst Q (sym same) t.1) }
+
+  twice_there : (v : ℕ) → has c.more v ≡ true → EnterTwice R v
+  twice_there v h = elim ((either (has a.more v) (has b.more v || (has a.some v && has b.some v))).0 (sym (more_is v) ∙ h)) [
+    | inl x ↦ (let s = (p.twice v).0 x in record { first = s.first; one = (first s.first s.one.0, s.one.1); second = s.second; two = (first s.second s.two.0, s.two.1); differ = s.differ })
+    | inr y ↦ elim ((either (has b.more v) (has a.some v && has b.some v)).0 y) [
+      | inl z ↦ (let s = (q.twice v).0 z in record { first = s.first; one = (second s.first s.one.0, s.one.1); second = s.second; two = (second s.second s.two.0, s.two.1); differ = s.differ })
+      | inr z ↦ cross v z
+    ]
+  ]
+
+  twice_case : (v : ℕ) → EnterTwice R v → (has a.more v ≡ true) ⊎ ((has b.more v ≡ true) ⊎ ((has a.some v && has b.some v) ≡ true))
+  twice_case v s = elim (each s.first s.one.0) [
+    | inl x ↦ elim (each s.second s.two.0) [
+      | inl y ↦ inl ((p.twice v).1 (record { first = s.first; one = (x, s.one.1); second = s.second; two = (y, s.two.1); differ = s.differ }))
+      | inr y ↦ inr (inr ((both (has a.some v) (has b.some v)).1 ((p.once v).1 (s.first, x, s.one.1), (q.once v).1 (s.second, y, s.two.1))))
+    ]
+    | inr x ↦ elim (each s.second s.two.0) [
+      | inl y ↦ inr (inr ((both (has a.some v) (has b.some v)).1 ((p.once v).1 (s.second, y, s.two.1), (q.once v).1 (s.first, x, s.one.1))))
+      | inr y ↦ inr (inl ((q.twice v).1 (record { first = s.first; one = (x, s.one.1); second = s.second; two = (y, s.two.1); differ = s.differ })))
+    ]
+  ]
+
+  pub tells_both : Tells R c
+  tells_both = record {
+    once = once_both;
+    twice = λ v. (
+      twice_there v,
+      λ s. more_is v ∙ (either (has a.more v) (has b.more v || (has a.some v && has b.some v))).1 (elim (twice_case v s) [
+        | inl x ↦ inl x
+        | inr y ↦ inr ((either (has b.more v) (has a.some v && has b.some v)).1 y)
+      ]),
+    );
+  }
+
+-- the edges out of a node with a label below a bound
+abbrev pub LeavingBelow : List Edge → ℕ → ℕ → Edge → Type 0
+LeavingBelow edges u l e = Leaving edges u e × (e.label.0 < l)
+
+-- the edges out of the nodes below a bound
+abbrev pub FromBelow : List Edge → ℕ → Edge → Type 0
+FromBelow edges u e = Contains edges e × (e.mother.0 < u)
+
+module _ (which : Which) (parts : Parts) (box : List (List Bool)) (plane : Plane) where
+  abbrev those : List Edge
+  those = edges_of which parts box plane.dim.0
+
+  -- the edges with one label out of one node
+  pub label_told : (u l : ℕ) (some more : List ℕ) → more ≡ [] → ((v : ℕ) → IsTrue (has some v) ↔ Contains those (edge plane.dim.0 u l v)) → Tells (Labelled those u l) (record { some = some; more = more })
+  label_told u l some more none here = record {
+    once = λ v. (
+      λ h. (edge plane.dim.0 u l v, (((here v).0 h, refl), refl), refl),
+      λ s. (here v).1 (subst (Contains those) (this v s.0 s.1 s.2) s.1.0.0),
+    );
+    twice = λ v. (
+      λ h. absurd (false≢true (subst (λ s. has s v ≡ true) none h)),
+      λ s. absurd (s.differ (this v s.first s.one.0 s.one.1 ∙ sym (this v s.second s.two.0 s.two.1))),
+    );
+  } where
+    this : (v : ℕ) (e : Edge) → Labelled those u l e → ToNode v e → e ≡ edge plane.dim.0 u l v
+    this v e k into = edge_equal e (edge plane.dim.0 u l v) (which_place which parts box plane.dim.0 e k.0.0).1 k.0.1 k.1 into
+
+  pub from_start : (u : ℕ) (a : Entered) → Tells (λ e. ⊥) a → Tells (LeavingBelow those u 0) a
+  from_start u a t = tells_like (λ e. ⊥) (LeavingBelow those u 0) a (λ e x. absurd x) (λ e x. (let l = x.1 in omega (arith, l))) t
+
+  pub from_turn : (u l : ℕ) (a b c : Entered) → ((n : ℕ) → has c.some n ≡ (has a.some n || has b.some n)) → ((n : ℕ) → has c.more n ≡ (has a.more n || (has b.more n || (has a.some n && has b.some n)))) → Tells (LeavingBelow those u l) a → Tells (Labelled those u l) b → Tells (LeavingBelow those u (l + 1)) c
+  from_turn u l a b c some_is more_is p q = tells_both (LeavingBelow those u l) (Labelled those u l) (LeavingBelow those u (l + 1)) a b c
+      (λ e x. (x.0, (let k = x.1 in omega (arith, k))))
+      (λ e x. (x.0, (let k = x.1 in omega (arith, k))))
+      (λ e x. elim (cases_eq e.label.0 l) [ inl same ↦ inr (x.0, same) | inr other ↦ inl (x.0, (let k = x.1 in omega (arith, k, other))) ])
+      (λ e x y. (let k = x.1 in let n = y.1 in omega (arith, k, n)))
+      p q some_is more_is
+
+  pub all_start : (a : Entered) → Tells (λ e. ⊥) a → Tells (FromBelow those 0) a
+  all_start a t = tells_like (λ e. ⊥) (FromBelow those 0) a (λ e x. absurd x) (λ e x. (let l = x.1 in omega (arith, l))) t
+
+  pub all_turn : (u : ℕ) (a b c : Entered) → ((n : ℕ) → has c.some n ≡ (has a.some n || has b.some n)) → ((n : ℕ) → has c.more n ≡ (has a.more n || (has b.more n || (has a.some n && has b.some n)))) → Tells (FromBelow those u) a → Tells (Leaving those u) b → Tells (FromBelow those (u + 1)) c
+  all_turn u a b c some_is more_is p q = tells_both (FromBelow those u) (Leaving those u) (FromBelow those (u + 1)) a b c
+      (λ e x. (x.0, (let k = x.1 in omega (arith, k))))
+      (λ e x. (x.0, (let k = x.1 in omega (arith, k))))
+      (λ e x. elim (cases_eq e.mother.0 u) [ inl same ↦ inr (x.0, same) | inr other ↦ inl (x.0, (let k = x.1 in omega (arith, k, other))) ])
+      (λ e x y. (let k = x.1 in let n = y.1 in omega (arith, k, n)))
+      p q some_is more_is
+
+  module _ (plane_is : IsPlane parts plane) where
+    those_plane : (e : Edge) → Contains those e → IsOnPlane plane e
+    those_plane e c = (plane_is.exact e).0 (which_place which parts box plane.dim.0 e c)
+
+    pub from_end : (u l : ℕ) (a : Entered) → plane.labels ≤ l → Tells (LeavingBelow those u l) a → Tells (Leaving those u) a
+    from_end u l a all t = tells_like (LeavingBelow those u l) (Leaving those u) a (λ e x. x.0) (λ e x. (x, (let k = (those_plane e x.0).label in omega (arith, k, all)))) t
+
+    pub all_end : (u : ℕ) (a : Entered) → plane.nodes ≤ u → Tells (FromBelow those u) a → Tells (Contains those) a
+    all_end u a all t = tells_like (FromBelow those u) (Contains those) a (λ e x. x.0) (λ e x. (x, (let k = (those_plane e x).mother in omega (arith, k, all)))) t
+
+    -- no edge leads from a node to itself
+    pub leaves_other : (u v : ℕ) (a : Entered) → Tells (Leaving those u) a → has a.some v ≡ true → u ≢ v
+    leaves_other u v a t h same = (let s = (t.once v).0 h in (those_plane s.0 s.1.0).differ (s.1.1 ∙ same ∙ sym s.2))
+
+-- ---- roots
+
+module _ (edges : List Edge) (v : ℕ) (a : Entered) (r new : Roots) (t : Tells (Contains edges) a) where
+  pub root_out : has a.some v ≡ false → new ≡ roots_with r v → RootsAre (roots v edges) r → RootsAre (roots (v + 1) edges) new
+  root_out none new_is is = subst (RootsAre (roots (v + 1) edges)) (sym new_is) (root_taken edges v r (λ e into. false≢true (sym none ∙ (t.once v).1 (e, into.0, into.1))) is)
+
+  pub root_in : has a.some v ≡ true → new ≡ r → RootsAre (roots v edges) r → RootsAre (roots (v + 1) edges) new
+  root_in some new_is is = (let s = (t.once v).0 some in subst (RootsAre (roots (v + 1) edges)) (sym new_is) (root_left edges v r s.0 (s.1, s.2) is))

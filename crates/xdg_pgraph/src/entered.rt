@@ -1,0 +1,132 @@
+//! The nodes into which edges lead.
+
+ghost use Rattle.std.specs.Prelude.{◌≡◌, ◌<◌, ◌≤◌, ◌||◌, ◌&&◌, ℕ, List, Contains};
+ghost use Rattle.xdg_nodeset.specs.Nodes.{has};
+ghost use Rattle.xdg_problem.specs.declared.analysis.Edge.{Edge as Arrow};
+ghost use Rattle.xdg_problem.specs.Paths.{roots};
+ghost use Rattle.xdg_store.specs.States.{Known};
+ghost use Rattle.xdg_pgraph.specs.Entering.{Tells, Leaving, Labelled};
+ghost use Rattle.xdg_pgraph.specs.Planes.{IsPlane};
+ghost use Rattle.xdg_pgraph.specs.Seeking.{RootsAre, edges_of, roots_with};
+
+use crate::bundle::{Bundle, Way, ends};
+use crate::found::Which;
+use crate::plane::Plane;
+use xdg_base::NodeId;
+use xdg_nodeset::NodeSet;
+use xdg_store::Store;
+
+/// The nodes into which some edges lead: one at least, and more than one.
+#[derive(Clone, Copy, Debug)]
+pub(crate) struct Entered {
+    pub some: NodeSet,
+    pub more: NodeSet,
+}
+
+impl Entered {
+    /// No edge leads anywhere.
+    fn nowhere() -> Entered
+        ensures { Tells (λ (e : Arrow). ⊥) result }
+    {
+        Entered {
+            some: NodeSet::empty(),
+            more: NodeSet::empty(),
+        }
+    }
+
+    /// What other edges add.
+    fn merged(&self, other: &Entered) -> Entered
+        ensures some { (n : ℕ) → has result.some n ≡ (has self.now.some n || has other.now.some n) }
+        ensures more { (n : ℕ) → has result.more n ≡ (has self.now.more n || (has other.now.more n || (has self.now.some n && has other.now.some n))) }
+    {
+        Entered {
+            some: self.some.union(&other.some),
+            more: self
+                .more
+                .union(&other.more.union(&self.some.meet(&other.some))),
+        }
+    }
+}
+
+/// What the edges with a label out of a node lead to.
+fn entered_with(store: &Store, plane: &Plane, which: Which, mother: u8, label: u8) -> Entered
+    requires plane { IsPlane store.now.parts plane.now }
+    requires known { Known store.now }
+    requires mother { mother < plane.now.nodes }
+    ensures { Tells (Labelled (edges_of which store.now.parts store.now.now plane.now.dim.0) mother label) result }
+{
+    let bundle = Bundle {
+        way: Way::Out,
+        node: mother,
+        label,
+    };
+    Entered {
+        some: ends(store, plane, which, bundle),
+        more: NodeSet::empty(),
+    }
+}
+
+/// What the edges out of a node lead to.
+pub(crate) fn entered_from(store: &Store, plane: &Plane, which: Which, mother: u8) -> Entered
+    requires plane { IsPlane store.now.parts plane.now }
+    requires known { Known store.now }
+    requires mother { mother < plane.now.nodes }
+    ensures { Tells (Leaving (edges_of which store.now.parts store.now.now plane.now.dim.0) mother) result }
+{
+    let mut entered = Entered::nowhere();
+    for label in 0..plane.labels {
+        entered = entered.merged(&entered_with(store, plane, which, mother, label));
+    }
+    entered
+}
+
+/// What all edges lead to.
+pub(crate) fn all_entered(store: &Store, plane: &Plane, which: Which) -> Entered
+    requires plane { IsPlane store.now.parts plane.now }
+    requires known { Known store.now }
+    ensures { Tells (Contains (edges_of which store.now.parts store.now.now plane.now.dim.0)) result }
+{
+    let mut entered = Entered::nowhere();
+    for mother in 0..plane.nodes {
+        entered = entered.merged(&entered_from(store, plane, which, mother));
+    }
+    entered
+}
+
+/// Nodes without mother.
+#[derive(Clone, Copy, Debug)]
+pub(crate) enum Roots {
+    /// No node.
+    Nothing,
+    /// This node alone.
+    One(u8),
+    /// More than one node.
+    More,
+}
+
+impl Roots {
+    /// One node more.
+    fn with(self, node: u8) -> Roots
+        ensures { result ≡ roots_with self node }
+    {
+        match self {
+            Roots::Nothing => Roots::One(node),
+            Roots::One(_) => Roots::More,
+            Roots::More => Roots::More,
+        }
+    }
+}
+
+/// The nodes into which no edge leads.
+pub(crate) fn find_roots(plane: &Plane, entered: &Entered) -> Roots
+    requires small { plane.now.nodes ≤ 128 }
+    ensures { (edges : List Arrow) → Tells (Contains edges) entered.now → RootsAre (roots plane.now.nodes edges) result }
+{
+    let mut nodes = Roots::Nothing;
+    for node in 0..plane.nodes {
+        if !entered.some.contains(NodeId(node)) {
+            nodes = nodes.with(node);
+        }
+    }
+    nodes
+}
