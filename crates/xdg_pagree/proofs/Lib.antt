@@ -1,4 +1,3 @@
-pub mod ReadLists
 pub mod Remaining
 pub mod Principles
 pub mod Sweeping

@@ -1,53 +1,23 @@
--- What remains of a decision, value by value.
-use Rattle.std.proofs.Common.{◌≡◌, ℕ, ◌<◌, ◌≤◌, ◌+◌, inl, inr, Bool, List, [], length, get_or, map, ap, sym, ◌∙◌, arith, subst}
-use Rattle.std.proofs.lemmas.Bool.{cases_lt}
-use Rattle.std.proofs.lemmas.List.{get_or-map}
+-- Attributes of nodes: the values that remain are of their types.
+use Rattle.std.proofs.Common.{◌≡◌, ℕ, ◌<◌, sym, arith, subst}
 use Rattle.xdg_problem.specs.declared.parts.Parts.{Parts}
 use Rattle.xdg_problem.specs.Arguments.{value_count}
-use Rattle.xdg_problem.specs.Boxes.{Has, IsBox, entry_decision}
-use Rattle.xdg_problem.specs.Places.{nodes, numbers_from}
-use Rattle.xdg_problem.specs.Vectors.{shape}
-use Rattle.xdg_problem.proofs.Ordered.{numbers_length}
-use Rattle.xdg_rules.proofs.Sizes.{within_sizes}
-use Rattle.xdg_store.specs.Layout.{bits_of, entry_row, attr_row}
+use Rattle.xdg_problem.specs.Boxes.{Has}
+use Rattle.xdg_problem.specs.Places.{nodes}
+use Rattle.xdg_store.specs.Layout.{attr_row}
 use Rattle.xdg_store.specs.InRange.{HasValue}
 use Rattle.xdg_store.specs.States.{State, Known}
-use Rattle.xdg_store.proofs.Located.{Located, entry_located, attr_located}
-use Rattle.xdg_store.proofs.Sizes.{bits_sizes}
+use Rattle.xdg_store.proofs.Located.{attr_located}
+use Rattle.xdg_uses.proofs.Remaining.{below_size}
 use Rattle.xdg_pagree.specs.Slots.{IsSlot, decision_of}
 use Rattle.xdg_pagree.specs.declared.slot.Slot.{Slot}
 
--- ---- a value that remains is one of the decision's
-
-below_size : (parts : Parts) (box : List (List Bool)) (d start size v : ℕ) → IsBox (shape parts) box → Located parts d (numbers_from start size) → Has box d v → v < size
-below_size parts box d start size v is at has =
-    let within : v < get_or (map length box) d 0 = within_sizes box d v has in
-    let count : get_or (map length box) d 0 ≡ size = ap (λ s. get_or s d 0) (is.sizes ∙ sym (bits_sizes parts)) ∙ get_or-map length (bits_of parts) d [] 0 at.within ∙ ap length at.is ∙ numbers_length start size in
-    omega (arith, within, count)
-
-pub entry_below : (s : State) (node v : ℕ) → Known s → node < nodes s.parts → Has s.now (entry_decision node) v → v < length (get_or s.parts.candidates node [])
-entry_below s node v known l has = below_size s.parts s.now (entry_decision node) (entry_row node) (length (get_or s.parts.candidates node [])) v known.is_box (entry_located s.parts known.problem.candidates_each node l) has
-
+-- a value that remains is one of its type
 pub slot_below : (s : State) (slot : Slot) (v : ℕ) → Known s → IsSlot s.parts slot → Has s.now (decision_of s.parts slot) v → v < slot.count
 slot_below s slot v known is has =
     let l = below_size s.parts s.now (decision_of s.parts slot) (attr_row (nodes s.parts) slot.dim.0 slot.node.0 slot.attr.0) (value_count s.parts slot.dim.0 slot.attr.0) v known.is_box (attr_located s.parts known.problem.candidates_each slot.dim.0 slot.node.0 slot.attr.0 is.dim_in is.node_in is.attr_in) has in
     let e = is.count_is in
     omega (arith, l, e)
-
--- ---- what is said of the first values is said of all
-
-pub next_value : (box : List (List Bool)) (d k : ℕ) (P : ℕ → Type 0) → ((c : ℕ) → c < k → Has box d c → P c) → (Has box d k → P k) → (c : ℕ) → c < k + 1 → Has box d c → P c
-next_value box d k P before here c l has = elim (cases_lt c k) [
-  | inl less ↦ before c less has
-  | inr past ↦ (let e : c ≡ k = omega (arith, l, past) in subst P (sym e) (here (subst (Has box d) e has)))
-]
-
--- the loop over the candidates of a node came to its end
-pub entry_end : (s : State) (problem shown : Parts) (node v count place : ℕ) → Known s → node < nodes s.parts → shown ≡ problem → problem ≡ s.parts → count ≡ length (get_or shown.candidates node []) → count ≤ place → Has s.now (entry_decision node) v → v < place
-entry_end s problem shown node v count place known l same is counted past has =
-    let below = entry_below s node v known l has in
-    let e : length (get_or shown.candidates node []) ≡ length (get_or s.parts.candidates node []) = ap (λ (p : Parts). length (get_or p.candidates node [])) (same ∙ is) in
-    omega (arith, below, e, counted, past)
 
 -- an attribute of a node stays one where the parts stay
 pub slot_stays : (new old : Parts) (slot : Slot) → new ≡ old → IsSlot old slot → IsSlot new slot
@@ -58,7 +28,3 @@ slot_value new old slot value same is l =
     let mine = slot_stays new old slot same is in
     let c = mine.count_is in
     record { node_in = mine.node_in; dim_in = mine.dim_in; attr_in = mine.attr_in; value_in = omega (arith, l, c) }
-
--- the same where the box has changed since
-pub entry_loop_end : (first s : State) (problem shown : Parts) (node v count place : ℕ) → Known s → s.parts ≡ first.parts → node < nodes first.parts → shown ≡ problem → problem ≡ first.parts → count ≡ length (get_or shown.candidates node []) → count ≤ place → Has s.now (entry_decision node) v → v < place
-entry_loop_end first s problem shown node v count place known stays l same is counted past has = entry_end s problem shown node v count place known (subst (λ (parts : Parts). node < nodes parts) (sym stays) l) same (is ∙ sym stays) counted past has

@@ -8,11 +8,12 @@ ghost use Rattle.xdg_pagree.specs.Family.{IsOfFamily};
 ghost use Rattle.xdg_pagree.specs.Staying.{agree_stays};
 
 use crate::nodes::sweep_nodes;
-use crate::reads::{dim_of, is_agr};
+use crate::reads::is_agr;
 use xdg_base::OutOfMemory;
 use xdg_problem::{Group, Problem};
 use xdg_propcore::{Moved, Pass, Propagator, Wake};
 use xdg_store::Store;
+use xdg_uses::dim_of;
 
 /// Takes from a box what a use of agr, of agreement or of government takes.
 #[derive(Debug, Drop)]
@@ -27,7 +28,7 @@ fn wakes_of(group: &Group) -> Wake
     requires principle { IsOfFamily group.now.principle }
     ensures { HasKinds group.now result.0 }
 {
-    let dim = dim_of(group);
+    let dim = dim_of(group, 0);
     let values = Wake::entries().0 | Wake::attrs(dim).0;
     if is_agr(group) {
         return Wake(values);

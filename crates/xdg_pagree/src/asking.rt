@@ -9,50 +9,11 @@ ghost use Rattle.xdg_store.specs.States.{Known};
 ghost use Rattle.xdg_pagree.specs.Places.{LacksEntry, LacksOther, LacksValue};
 ghost use Rattle.xdg_pagree.specs.Slots.{IsSlot, decision_of};
 
-use crate::reads::{entry_count, is_member, row_of};
 use crate::slot::Slot;
 use xdg_base::{LabelId, NodeId};
 use xdg_problem::Group;
 use xdg_store::Store;
-
-/// Whether the set that each remaining entry of a node has at a label has a number.
-pub(crate) fn each_entry_has(
-    store: &Store,
-    group: &Group,
-    node: NodeId,
-    label: LabelId,
-    number: u16,
-) -> bool
-    requires { node.0 < nodes store.now.parts }
-    ensures exact { IsTrue result ↔ EachEntry store.now.now node.0 (λ c. Contains (map_row group.now node.0 c label.0) number) }
-    ensures known { Known store.now }
-{
-    for place in 0..entry_count(store.problem().parts(), node) {
-        if store.entry_in(node, place) && !is_member(row_of(group, node, place, label), number) {
-            return false;
-        }
-    }
-    true
-}
-
-/// Whether the set that each remaining entry of a node has at a label has a member.
-pub(crate) fn each_entry_has_some(
-    store: &Store,
-    group: &Group,
-    node: NodeId,
-    label: LabelId,
-) -> bool
-    requires { node.0 < nodes store.now.parts }
-    ensures exact { IsTrue result ↔ EachEntry store.now.now node.0 (λ c. 0 < length (map_row group.now node.0 c label.0)) }
-    ensures known { Known store.now }
-{
-    for place in 0..entry_count(store.problem().parts(), node) {
-        if store.entry_in(node, place) && row_of(group, node, place, label).len() == 0 {
-            return false;
-        }
-    }
-    true
-}
+use xdg_uses::{entry_count, is_member, row_of};
 
 /// Whether the set that each remaining entry of a node has at a label lacks a number.
 pub(crate) fn no_entry_has(

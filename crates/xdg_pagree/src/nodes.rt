@@ -11,11 +11,12 @@ ghost use Rattle.xdg_pagree.specs.Places.{AreNodesDone, IsLabelDone, IsNodeDone,
 ghost use Rattle.xdg_propcore.specs.Sweeps.{Sweeps};
 
 use crate::places::{agr_at, asks, place_at};
-use crate::reads::{dim_of, is_agr};
+use crate::reads::is_agr;
 use xdg_base::{DimId, LabelId, NodeId};
 use xdg_problem::{Edge, Group};
 use xdg_propcore::Pass;
 use xdg_store::Store;
+use xdg_uses::dim_of;
 
 /// Takes what the principle use takes at the places of a label out of a mother, whose entries ask for it.
 fn sweep_daughters(
@@ -54,7 +55,7 @@ fn sweep_labels(store: &mut Store, pass: &mut Pass, group: &Group, mother: NodeI
     requires node { mother.0 < nodes store.old.parts }
     ensures { Sweeps group.now (λ box. (label : ℕ) → PlaceAsks group.now.principle group.now box mother.0 label → IsLabelDone store.old.parts group.now mother.0 label box) pass.old store.old pass.new store.new }
 {
-    let dim = dim_of(group);
+    let dim = dim_of(group, 0);
     let plan = &store.problem().parts().dims.as_slice()[dim.0 as usize];
     if !plan.graph {
         return;

@@ -10,12 +10,12 @@ ghost use Rattle.xdg_pagree.specs.Slots.{IsSlot, decision_of};
 ghost use Rattle.xdg_propcore.specs.Sweeps.{Sweeps, TakesInside};
 
 use crate::asking::{lacks_entry, lacks_other, lacks_value};
-use crate::reads::entry_count;
 use crate::slot::Slot;
 use xdg_base::{LabelId, NodeId};
 use xdg_problem::Group;
 use xdg_propcore::Pass;
 use xdg_store::Store;
+use xdg_uses::entry_count;
 
 /// Takes for a principle use the values of an attribute that don't remain of another.
 pub(crate) fn keep_common(

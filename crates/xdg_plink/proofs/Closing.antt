@@ -13,9 +13,9 @@ use Rattle.xdg_problem.proofs.PlaceOrder.{is_place}
 use Rattle.xdg_rules.specs.Rules.{IsClosedFor, IsPlaceOn, TakesBy}
 use Rattle.xdg_linking.specs.Family.{IsLinking}
 use Rattle.xdg_plink.specs.Steps.{AreMothersDone, IsExact, TakesAt}
-use Rattle.xdg_plink.specs.Ways.{edge_labels}
+use Rattle.xdg_reach.specs.Edges.{edge_labels}
 use Rattle.xdg_linking.proofs.Places.{edge_at}
-use Rattle.xdg_plink.proofs.Edges.{label_below}
+use Rattle.xdg_reach.proofs.Labelled.{label_below}
 use Rattle.xdg_linking.proofs.Failing.{none_fails}
 
 -- each rule takes at a place

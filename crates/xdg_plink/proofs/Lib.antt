@@ -1,7 +1,4 @@
-pub mod ReadLists
-pub mod Remaining
 pub mod Edges
-pub mod Tables
 pub mod Leading
 pub mod Linking
 pub mod Sweeping

@@ -2,23 +2,12 @@
 use Rattle.std.specs.Prelude.{◌≡◌, ℕ, ◌⊎◌, Bool, true, false, cond, List}
 use Rattle.std.specs.List.{Any}
 use Rattle.xdg_problem.specs.declared.analysis.Edge.{Edge}
-use Rattle.xdg_problem.specs.declared.parts.DimPlan.{DimPlan}
-use Rattle.xdg_problem.specs.declared.parts.Parts.{Parts}
 use Rattle.xdg_problem.specs.declared.parts.Principle.{Principle}
 use Rattle.xdg_problem.specs.declared.parts.Principle.TheVariants as principles
-use Rattle.xdg_problem.specs.Arguments.{no_plan}
 use Rattle.xdg_problem.specs.Paths.{Above, IsDaughter, IsDaughterBy}
-use Rattle.std.specs.Prelude.{length, slice_index_or}
 use Rattle.xdg_judge.specs.Links.{In}
 use Rattle.xdg_plink.specs.declared.way.Way.{Way}
 use Rattle.xdg_plink.specs.declared.way.Way.TheVariants as ways
-
--- how many labels the edges of a dimension can have: none where it has no edges
-abbrev pub plan_labels : DimPlan → ℕ
-plan_labels plan = cond plan.graph (length plan.labels) 0
-
-abbrev pub edge_labels : Parts → ℕ → ℕ
-edge_labels parts dim = plan_labels (slice_index_or parts.dims dim no_plan)
 
 -- how a principle links
 abbrev pub way_of : Principle → Way

@@ -6,11 +6,12 @@ ghost use Rattle.xdg_store.specs.States.{Known};
 ghost use Rattle.xdg_propcore.specs.Sweeps.{Sweeps};
 ghost use Rattle.xdg_plink.specs.Steps.{CanCut, DoneAt, IsCut};
 
-use crate::entries::{each_entry_links, none_links};
+use crate::entries::none_links;
 use xdg_nodeset::NodeSet;
 use xdg_problem::{Edge, Group};
 use xdg_propcore::Pass;
 use xdg_store::Store;
+use xdg_uses::each_entry_has_some;
 
 /// Whether by a table an edge of the first dimension is to go: it may be present, each remaining entry of its mother asks for a
 /// link, and for none of them there may be one.
@@ -22,7 +23,7 @@ fn is_cut(store: &Store, group: &Group, table: &[NodeSet; 128], place: Edge) -> 
     if !store.may(place) {
         return false;
     }
-    if !each_entry_links(store, group, place.mother, place.label) {
+    if !each_entry_has_some(store, group, place.mother, place.label) {
         return false;
     }
     none_links(

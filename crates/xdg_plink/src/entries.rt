@@ -1,58 +1,24 @@
 //! What each remaining entry of a node asks.
 
-ghost use Rattle.std.specs.Prelude.{◌≡◌, ◌<◌, ◌≤◌, ◌↔◌, ◌⊎◌, ℕ, true, [], IsTrue, Contains, length, slice_index_or};
+ghost use Rattle.std.specs.Prelude.{◌≡◌, ◌<◌, ◌≤◌, ◌↔◌, ◌⊎◌, ℕ, true, IsTrue};
 ghost use Rattle.std.specs.List.{Any};
 ghost use Rattle.xdg_nodeset.specs.Nodes.{has};
 ghost use Rattle.xdg_judge.specs.Joining.{Meet};
 ghost use Rattle.xdg_problem.specs.Arguments.{second_dim};
-ghost use Rattle.xdg_problem.specs.Features.{map_row, set_row};
+ghost use Rattle.xdg_problem.specs.Features.{map_row};
 ghost use Rattle.xdg_problem.specs.Places.{nodes};
 ghost use Rattle.xdg_rules.specs.Rules.{EachEntry, may_edges};
 ghost use Rattle.xdg_store.specs.States.{Known};
 ghost use Rattle.xdg_plink.specs.Ways.{way_of, from_node, Stands, IsEnd, IsLed};
 
-use crate::neighbours::{daughters_by, mothers_by};
-use crate::reads::{dim_of, entry_count, is_member, row_of};
+use crate::neighbours::{may_daughters, may_mothers};
 use crate::way::{Way, is_turned, way_of};
 use xdg_base::{DimId, LabelId, NodeId};
 use xdg_nodeset::NodeSet;
 use xdg_problem::{Group, Principle};
+use xdg_reach::set_at;
 use xdg_store::Store;
-
-/// Whether the set that each remaining entry of a node has at a label has a member.
-pub(crate) fn each_entry_links(store: &Store, group: &Group, node: NodeId, label: LabelId) -> bool
-    requires { node.0 < nodes store.now.parts }
-    ensures exact { IsTrue result ↔ EachEntry store.now.now node.0 (λ c. 0 < length (map_row group.now node.0 c label.0)) }
-    ensures known { Known store.now }
-{
-    for place in 0..entry_count(store.problem().parts(), node) {
-        if store.entry_in(node, place) && row_of(group, node, place, label).len() == 0 {
-            return false;
-        }
-    }
-    true
-}
-
-/// Whether each remaining entry of a node has a label in its set.
-pub(crate) fn each_entry_keeps_apart(
-    store: &Store,
-    group: &Group,
-    node: NodeId,
-    label: LabelId,
-) -> bool
-    requires { node.0 < nodes store.now.parts }
-    ensures exact { IsTrue result ↔ EachEntry store.now.now node.0 (λ c. Contains (set_row group.now node.0 c) label.0) }
-    ensures known { Known store.now }
-{
-    for place in 0..entry_count(store.problem().parts(), node) {
-        if store.entry_in(node, place)
-            && !is_member(row_of(group, node, place, LabelId(0)), u16::from(label.0))
-        {
-            return false;
-        }
-    }
-    true
-}
+use xdg_uses::{dim_of, entry_count, row_of};
 
 /// Whether two sets have a node in common.
 #[tactic(auto, using(xdg_judge::proofs::Meeting::some_met, xdg_judge::proofs::Meeting::none_met))]
@@ -77,14 +43,6 @@ fn overlap_or_has(others: NodeSet, node: NodeId, far: NodeSet) -> bool
     overlap(others, far)
 }
 
-/// The set that a table has for a node.
-fn set_at(table: &[NodeSet; 128], node: NodeId) -> NodeSet
-    requires { node.0 < 128 }
-    ensures { result ≡ slice_index_or table.now node.0 [] }
-{
-    table[usize::from(node.0)]
-}
-
 /// Whether one of some nodes may be the other end of an edge that links a to b, by a table.
 fn has_end(others: NodeSet, table: &[NodeSet; 128], way: Way, a: NodeId, b: NodeId) -> bool
     requires a { a.0 < 128 }
@@ -107,10 +65,10 @@ fn others(store: &Store, dim: DimId, way: Way, a: NodeId, b: NodeId, label: u16)
     ensures known { Known store.now }
 {
     match way {
-        Way::Into => mothers_by(store, dim, b, label),
-        Way::Sister => mothers_by(store, dim, b, label),
-        Way::Straight => daughters_by(store, dim, a, label),
-        Way::First => daughters_by(store, dim, a, label),
+        Way::Into => may_mothers(store, dim, b, label),
+        Way::Sister => may_mothers(store, dim, b, label),
+        Way::Straight => may_daughters(store, dim, a, label),
+        Way::First => may_daughters(store, dim, a, label),
     }
 }
 

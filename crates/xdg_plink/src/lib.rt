@@ -8,7 +8,6 @@ mod link_prop;
 mod neighbours;
 mod parting;
 mod reach;
-mod reads;
 mod taking;
 mod way;
 

@@ -12,7 +12,6 @@ ghost use Rattle.xdg_plink.specs.Standing.{AreSmall, stands_for};
 ghost use Rattle.xdg_plink.specs.Laws.{link_stays};
 
 use crate::reach::table_for;
-use crate::reads::dim_of;
 use crate::taking::take_all;
 use crate::way::way_of;
 use bitflags::Flags;
@@ -20,6 +19,7 @@ use xdg_base::OutOfMemory;
 use xdg_problem::{Group, Problem};
 use xdg_propcore::{Moved, Pass, Propagator, Wake};
 use xdg_store::Store;
+use xdg_uses::dim_of;
 
 /// Takes from a box what a linking principle use takes.
 #[derive(Debug, Drop)]

@@ -3,18 +3,17 @@
 ghost use Rattle.std.specs.Prelude.{◌≢◌, ◌<◌, ◌↔◌, IsTrue};
 ghost use Rattle.xdg_problem.specs.Boxes.{Must};
 ghost use Rattle.xdg_problem.specs.Places.{nodes};
+ghost use Rattle.xdg_reach.specs.Edges.{edge_labels};
 ghost use Rattle.xdg_store.specs.States.{Known};
 ghost use Rattle.xdg_propcore.specs.Sweeps.{Sweeps};
 ghost use Rattle.xdg_plink.specs.Steps.{AsksApart, CanPart, IsDoneAt, IsFirstDone, IsSecondDone, MustJoin};
-ghost use Rattle.xdg_plink.specs.Ways.{edge_labels};
 
-use crate::entries::each_entry_keeps_apart;
-use crate::neighbours::edge_labels;
-use crate::reads::dim_of;
 use xdg_base::{DimId, LabelId, NodeId};
 use xdg_problem::{Edge, Group};
 use xdg_propcore::Pass;
+use xdg_reach::labels_of;
 use xdg_store::Store;
+use xdg_uses::{dim_of, each_entry_has};
 
 /// Whether some edge of a dimension must lead from a node to another.
 #[tactic(auto, using(crate::proofs::Apart::none_joins_first, crate::proofs::Apart::none_joins_next, crate::proofs::Apart::one_joins))]
@@ -25,7 +24,7 @@ fn must_join(store: &Store, dim: DimId, mother: NodeId, daughter: NodeId) -> boo
     ensures exact { IsTrue result ↔ MustJoin store.now.parts store.now.now dim.0 mother.0 daughter.0 (edge_labels store.now.parts dim.0) }
     ensures known { Known store.now }
 {
-    for label in 0..edge_labels(store.problem().parts(), dim) {
+    for label in 0..labels_of(store, dim) {
         let label = LabelId(label);
         let edge = Edge {
             dim,
@@ -60,7 +59,7 @@ fn part_second(store: &mut Store, pass: &mut Pass, group: &Group, place: Edge)
     ensures { Sweeps group.now (IsSecondDone store.old.parts group.now place) pass.old store.old pass.new store.new }
 {
     let dim = dim_of(group, 1);
-    for label in 0..edge_labels(store.problem().parts(), dim) {
+    for label in 0..labels_of(store, dim) {
         let edge = Edge {
             dim,
             mother: place.mother,
@@ -77,7 +76,13 @@ pub(crate) fn part(store: &mut Store, pass: &mut Pass, group: &Group, place: Edg
     requires { CanPart group.now place store.old }
     ensures { Sweeps group.now (IsDoneAt store.old.parts group.now place) pass.old store.old pass.new store.new }
 {
-    if !each_entry_keeps_apart(store, group, place.mother, place.label) {
+    if !each_entry_has(
+        store,
+        group,
+        place.mother,
+        LabelId(0),
+        u16::from(place.label.0),
+    ) {
         return;
     }
     part_first(store, pass, group, place);

@@ -5,19 +5,18 @@ ghost use Rattle.xdg_problem.specs.Arguments.{first_dim};
 ghost use Rattle.xdg_problem.specs.Places.{edge, nodes};
 ghost use Rattle.xdg_linking.specs.Family.{Reaches};
 ghost use Rattle.xdg_propcore.specs.Sweeps.{Sweeps};
+ghost use Rattle.xdg_reach.specs.Edges.{edge_labels};
 ghost use Rattle.xdg_plink.specs.Steps.{AreLabelsDone, AreMothersDone, AreNodesDone, DoneAt, IsAtLabel, IsAtNode, IsAtPlace, IsReady};
-ghost use Rattle.xdg_plink.specs.Ways.{edge_labels};
 
 use crate::cutting::cut;
-use crate::neighbours::edge_labels;
 use crate::parting::part;
-use crate::reach::size_of;
-use crate::reads::dim_of;
 use xdg_base::{LabelId, NodeId};
 use xdg_nodeset::NodeSet;
 use xdg_problem::{Edge, Group, Principle};
 use xdg_propcore::Pass;
+use xdg_reach::{labels_of, node_count};
 use xdg_store::Store;
+use xdg_uses::dim_of;
 
 /// Whether a principle asks for edges of the second dimension.
 fn asks_edges(principle: Principle) -> bool
@@ -75,7 +74,7 @@ fn take_label(
     requires { IsAtLabel group.now table.now u.0 label.0 store.old }
     ensures { Sweeps group.now (AreNodesDone store.old.parts group.now table.now u.0 label.0 (nodes store.old.parts)) pass.old store.old pass.new store.new }
 {
-    for v in 0..size_of(store) {
+    for v in 0..node_count(store) {
         take_at(store, pass, group, table, u, label, NodeId(v));
     }
 }
@@ -84,7 +83,7 @@ fn take_label(
 fn first_labels(store: &Store, group: &Group) -> u8
     ensures { result ≡ edge_labels store.now.parts (first_dim group.now) }
 {
-    edge_labels(store.problem().parts(), dim_of(group, 0))
+    labels_of(store, dim_of(group, 0))
 }
 
 /// Takes for a principle use what its rule takes at the places out of a node.
@@ -102,7 +101,7 @@ pub(crate) fn take_all(store: &mut Store, pass: &mut Pass, group: &Group, table:
     requires { IsReady group.now table.now store.old }
     ensures { Sweeps group.now (AreMothersDone store.old.parts group.now table.now (nodes store.old.parts)) pass.old store.old pass.new store.new }
 {
-    for u in 0..size_of(store) {
+    for u in 0..node_count(store) {
         take_node(store, pass, group, table, NodeId(u));
     }
 }

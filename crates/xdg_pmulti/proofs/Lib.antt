@@ -1,5 +1,3 @@
-pub mod ReadLists
-pub mod Remaining
 pub mod Forbidding
 pub mod Aiming
 pub mod Blocked

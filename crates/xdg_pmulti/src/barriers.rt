@@ -11,14 +11,14 @@ ghost use Rattle.xdg_store.specs.States.{Known};
 ghost use Rattle.xdg_pmulti.specs.Aims.{AreNodes, Forbids, IsStopped, StoppedBy};
 
 use crate::blocking::blocking;
-use crate::reads::{dim_of, labels_of, set_at};
 use crate::taking::forbid_out;
 use xdg_base::{DimId, LabelId, NodeId};
 use xdg_nodeset::NodeSet;
 use xdg_problem::Group;
 use xdg_propcore::Pass;
-use xdg_reach::{Which, above};
+use xdg_reach::{Which, above, labels_of, set_at};
 use xdg_store::Store;
+use xdg_uses::dim_of;
 
 /// The nodes that a table has for a label.
 fn barriers_at(table: &[NodeSet; 32], label: LabelId) -> NodeSet

@@ -8,12 +8,12 @@ ghost use Rattle.xdg_reach.specs.Edges.{edge_labels};
 ghost use Rattle.xdg_store.specs.States.{Known};
 ghost use Rattle.xdg_pmulti.specs.Aims.{Blocks};
 
-use crate::reads::{entry_count, is_member, labels_of, row_of};
 use xdg_base::{DimId, LabelId, NodeId};
 use xdg_nodeset::NodeSet;
 use xdg_problem::Group;
-use xdg_reach::node_count;
+use xdg_reach::{labels_of, node_count};
 use xdg_store::Store;
+use xdg_uses::each_entry_has;
 
 /// Whether each remaining entry of a node blocks a label.
 fn blocks(store: &Store, group: &Group, node: NodeId, label: LabelId) -> bool
@@ -21,14 +21,7 @@ fn blocks(store: &Store, group: &Group, node: NodeId, label: LabelId) -> bool
     ensures exact { IsTrue result ↔ Blocks group.now store.now.now node.0 label.0 }
     ensures known { Known store.now }
 {
-    for place in 0..entry_count(store.problem().parts(), node) {
-        if store.entry_in(node, place)
-            && !is_member(row_of(group, node, place, LabelId(0)), u16::from(label.0))
-        {
-            return false;
-        }
-    }
-    true
+    each_entry_has(store, group, node, LabelId(0), u16::from(label.0))
 }
 
 /// A set, and a node that is added to it if it blocks a label.

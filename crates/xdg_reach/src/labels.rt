@@ -26,6 +26,15 @@ pub fn edge_labels(parts: &Parts, dim: DimId) -> u8
     plan.labels.len() as u8
 }
 
+/// How many labels the edges of a dimension can have, in the sentence of a store.
+pub fn labels_of(store: &Store, dim: DimId) -> u8
+    ensures count { result ≡ edge_labels store.now.parts dim.0 }
+    ensures small { result ≤ 32 }
+    ensures known { Known store.now }
+{
+    edge_labels(store.problem().parts(), dim)
+}
+
 /// How many nodes the sentence has.
 pub fn node_count(store: &Store) -> u8
     ensures size { result ≡ nodes store.now.parts }

@@ -1,4 +1,4 @@
-//! The nodes below each node.
+//! The nodes below each node, and those above it.
 
 ghost use Rattle.std.specs.Prelude.{◌≡◌, ◌≤◌, ◌<◌, ◌↔◌, ◌⊎◌, ℕ, true};
 ghost use Rattle.xdg_nodeset.specs.Nodes.{has};
@@ -9,6 +9,7 @@ ghost use Rattle.xdg_reach.specs.Edges.{edges_of};
 
 use crate::labels::node_count;
 use crate::tables::daughters;
+use crate::upward::mothers;
 use crate::which::Which;
 use xdg_base::{DimId, NodeId};
 use xdg_nodeset::NodeSet;
@@ -38,9 +39,10 @@ fn widen(table: &mut [NodeSet; 128], middle: u8)
     }
 }
 
-/// What a table leads to through the first nodes, by the algorithm of Warshall (1962).
+/// What a table leads to through the first nodes, by the algorithm of Warshall (1962). It takes 128 operations on sets for each
+/// of them.
 #[tactic(auto, using(xdg_judge::proofs::Closing::closure_start, xdg_judge::proofs::Closing::closure_more))]
-fn closed(table: &[NodeSet; 128], size: u8) -> [NodeSet; 128]
+pub fn closed(table: &[NodeSet; 128], size: u8) -> [NodeSet; 128]
     requires { size ≤ 128 }
     ensures { IsClosure size table.now result }
 {
@@ -58,4 +60,12 @@ pub fn above(store: &Store, which: Which, dim: DimId) -> [NodeSet; 128]
     ensures known { Known store.now }
 {
     closed(&daughters(store, which, dim), node_count(store))
+}
+
+/// For each node those above it: a path of one or more of the edges leads from them. It takes as much as `above`.
+pub fn ancestors(store: &Store, which: Which, dim: DimId) -> [NodeSet; 128]
+    ensures exact { (a b : ℕ) → In result a b ↔ Above (edges_of which store.now.parts store.now.now dim.0) b a }
+    ensures known { Known store.now }
+{
+    closed(&mothers(store, which, dim), node_count(store))
 }

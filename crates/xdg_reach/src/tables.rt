@@ -1,6 +1,6 @@
 //! The daughters of each node.
 
-ghost use Rattle.std.specs.Prelude.{◌≡◌, ◌<◌, ◌↔◌, ℕ, IsTrue};
+ghost use Rattle.std.specs.Prelude.{◌≡◌, ◌<◌, ◌↔◌, ℕ, [], IsTrue, slice_index_or};
 ghost use Rattle.xdg_nodeset.specs.Nodes.{has};
 ghost use Rattle.xdg_judge.specs.Links.{In};
 ghost use Rattle.xdg_problem.specs.Paths.{IsDaughter, IsDaughterBy};
@@ -8,11 +8,19 @@ ghost use Rattle.xdg_problem.specs.Places.{nodes};
 ghost use Rattle.xdg_store.specs.States.{Known};
 ghost use Rattle.xdg_reach.specs.Edges.{edge_labels, edges_of};
 
-use crate::labels::{edge_labels, node_count};
+use crate::labels::{labels_of, node_count};
 use crate::which::Which;
 use xdg_base::{DimId, LabelId, NodeId};
 use xdg_nodeset::NodeSet;
 use xdg_store::Store;
+
+/// The set that a table has for a node.
+pub fn set_at(table: &[NodeSet; 128], node: NodeId) -> NodeSet
+    requires { node.0 < 128 }
+    ensures { result ≡ slice_index_or table.now node.0 [] }
+{
+    table[usize::from(node.0)]
+}
 
 /// The nodes to which an edge with a label leads from a node.
 pub fn daughters_by(
@@ -31,14 +39,6 @@ pub fn daughters_by(
         Which::May => store.daughters_may(dim, mother, label),
         Which::Must => store.daughters_must(dim, mother, label),
     }
-}
-
-/// How many labels the edges of a dimension of a store can have.
-fn labels_of(store: &Store, dim: DimId) -> u8
-    ensures count { result ≡ edge_labels store.now.parts dim.0 }
-    ensures known { Known store.now }
-{
-    edge_labels(store.problem().parts(), dim)
 }
 
 /// The nodes to which an edge leads from a node.

@@ -10,10 +10,10 @@ loop-u-init c = sweeps_start c.args.group.now _ c.args.pass.now c.args.store.now
 pub take_node-requires : goal.take_node-requires
 take_node-requires c =
     let a = c.loop-u.invariant in
-    (ready_later c.args.group.now c.args.table.now _ c.args.pass.now c.args.store.now c.loop-u.pass c.loop-u.store c.requires a, below_later c.args.group.now _ nodes c.loop-u.u c.args.pass.now c.args.store.now c.loop-u.pass c.loop-u.store (let e = c.size_of-u-end.ensures.size in let t = c.loop-u-test.true in omega (arith, e, t)) a)
+    (ready_later c.args.group.now c.args.table.now _ c.args.pass.now c.args.store.now c.loop-u.pass c.loop-u.store c.requires a, below_later c.args.group.now _ nodes c.loop-u.u c.args.pass.now c.args.store.now c.loop-u.pass c.loop-u.store (let e = c.node_count-u-end.ensures.size in let t = c.loop-u-test.true in omega (arith, e, t)) a)
 
 pub loop-u-preserved : goal.loop-u-preserved
 loop-u-preserved c = mothers_turn c.args.group.now c.args.table.now c.loop-u.u c.args.pass.now c.args.store.now c.loop-u.pass c.loop-u.store c.take_node.new.pass c.take_node.new.store c.loop-u.invariant c.take_node.ensures
 
 pub returns : goal.returns
-returns c = mothers_end c.args.group.now c.args.table.now c.loop-u.u c.args.pass.now c.args.store.now c.loop-u.pass c.loop-u.store (let e = c.size_of-u-end.ensures.size in let t = c.loop-u-test.false in omega (arith, e, t)) c.loop-u.invariant
+returns c = mothers_end c.args.group.now c.args.table.now c.loop-u.u c.args.pass.now c.args.store.now c.loop-u.pass c.loop-u.store (let e = c.node_count-u-end.ensures.size in let t = c.loop-u-test.false in omega (arith, e, t)) c.loop-u.invariant

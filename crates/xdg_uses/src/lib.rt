@@ -1,0 +1,11 @@
+//! What a principle use gives to read: the dimensions, attributes and truth values that it names, the rows of its features,
+//! and what the remaining entries of a node say.
+#![tactic(auto)]
+
+mod arguments;
+mod entries;
+mod features;
+
+pub use arguments::{attr_of, dim_of, truth_of};
+pub use entries::{each_entry_has, each_entry_has_some, entry_count};
+pub use features::{feature_row, is_member, row_of};
