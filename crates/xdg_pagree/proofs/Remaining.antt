@@ -5,7 +5,6 @@ use Rattle.xdg_problem.specs.Arguments.{value_count}
 use Rattle.xdg_problem.specs.Boxes.{Has}
 use Rattle.xdg_problem.specs.Places.{nodes}
 use Rattle.xdg_store.specs.Layout.{attr_row}
-use Rattle.xdg_store.specs.InRange.{HasValue}
 use Rattle.xdg_store.specs.States.{State, Known}
 use Rattle.xdg_store.proofs.Located.{attr_located}
 use Rattle.xdg_uses.proofs.Remaining.{below_size}
@@ -22,9 +21,3 @@ slot_below s slot v known is has =
 -- an attribute of a node stays one where the parts stay
 pub slot_stays : (new old : Parts) (slot : Slot) → new ≡ old → IsSlot old slot → IsSlot new slot
 slot_stays new old slot same is = subst (λ parts. IsSlot parts slot) (sym same) is
-
-pub slot_value : (new old : Parts) (slot : Slot) (value : ℕ) → new ≡ old → IsSlot old slot → value < slot.count → HasValue new slot.node.0 slot.dim.0 slot.attr.0 value
-slot_value new old slot value same is l =
-    let mine = slot_stays new old slot same is in
-    let c = mine.count_is in
-    record { node_in = mine.node_in; dim_in = mine.dim_in; attr_in = mine.attr_in; value_in = omega (arith, l, c) }

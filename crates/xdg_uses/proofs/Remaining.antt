@@ -1,6 +1,5 @@
 -- What remains of a decision, value by value.
-use Rattle.std.proofs.Common.{◌≡◌, ℕ, ◌<◌, ◌≤◌, ◌+◌, inl, inr, Bool, List, [], length, get_or, map, ap, sym, ◌∙◌, arith, subst}
-use Rattle.std.proofs.lemmas.Bool.{cases_lt}
+use Rattle.std.proofs.Common.{◌≡◌, ℕ, ◌<◌, ◌≤◌, Bool, List, [], length, get_or, map, ap, sym, ◌∙◌, arith, subst}
 use Rattle.std.proofs.lemmas.List.{get_or-map}
 use Rattle.xdg_problem.specs.declared.parts.Parts.{Parts}
 use Rattle.xdg_problem.specs.Boxes.{Has, IsBox, entry_decision}
@@ -23,14 +22,6 @@ below_size parts box d start size v is at has =
 
 pub entry_below : (s : State) (node v : ℕ) → Known s → node < nodes s.parts → Has s.now (entry_decision node) v → v < length (get_or s.parts.candidates node [])
 entry_below s node v known l has = below_size s.parts s.now (entry_decision node) (entry_row node) (length (get_or s.parts.candidates node [])) v known.is_box (entry_located s.parts known.problem.candidates_each node l) has
-
--- ---- what is said of the first values is said of all
-
-pub next_value : (box : List (List Bool)) (d k : ℕ) (P : ℕ → Type 0) → ((c : ℕ) → c < k → Has box d c → P c) → (Has box d k → P k) → (c : ℕ) → c < k + 1 → Has box d c → P c
-next_value box d k P before here c l has = elim (cases_lt c k) [
-  | inl less ↦ before c less has
-  | inr past ↦ (let e : c ≡ k = omega (arith, l, past) in subst P (sym e) (here (subst (Has box d) e has)))
-]
 
 -- the loop over the candidates of a node came to its end
 pub entry_end : (s : State) (problem shown : Parts) (node v count place : ℕ) → Known s → node < nodes s.parts → shown ≡ problem → problem ≡ s.parts → count ≡ length (get_or shown.candidates node []) → count ≤ place → Has s.now (entry_decision node) v → v < place
