@@ -9,13 +9,13 @@ ghost use Rattle.xdg_porder.specs.Across.{AreLabelsDone, AreNodesDone, IsAcrossL
 
 use crate::items::may_follow;
 use crate::reads::label_count;
-use crate::sets::{across, set_at};
+use crate::sets::across;
 use crate::taking::take_edges;
 use xdg_base::{LabelId, NodeId};
 use xdg_nodeset::NodeSet;
 use xdg_problem::Group;
 use xdg_propcore::Pass;
-use xdg_reach::node_count;
+use xdg_reach::{node_count, set_at};
 use xdg_store::Store;
 
 /// Takes the edges from a node with a label across nodes that by a table can't be below it.

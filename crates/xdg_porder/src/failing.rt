@@ -6,12 +6,12 @@ ghost use Rattle.xdg_problem.specs.Places.{nodes};
 ghost use Rattle.xdg_rules.specs.Rules.{FailsTest};
 ghost use Rattle.xdg_porder.specs.Items.{IsOrdering};
 
-use crate::reads::dim_of;
 use crate::yields::{are_settled, fails_at};
 use xdg_base::NodeId;
 use xdg_problem::Group;
 use xdg_reach::{Which, above, node_count};
 use xdg_store::Store;
+use xdg_uses::dim_of;
 
 /// Whether the test of some node is decided and fails.
 pub(crate) fn fails_test(store: &Store, group: &Group) -> bool
@@ -22,7 +22,7 @@ pub(crate) fn fails_test(store: &Store, group: &Group) -> bool
     if !are_settled(store, group) {
         return false;
     }
-    let table = above(store, Which::May, dim_of(group));
+    let table = above(store, Which::May, dim_of(group, 0));
     for u in 0..node_count(store) {
         if fails_at(store, group, &table, NodeId(u)) {
             return true;

@@ -9,12 +9,13 @@ ghost use Rattle.xdg_store.specs.States.{Known};
 ghost use Rattle.xdg_porder.specs.Items.{IsAtNode, MayFollow, MayOwn, MayStand, MustFollow, MustOwn, MustStand};
 ghost use Rattle.xdg_porder.specs.Slots.{IsSlot, decision_of};
 
-use crate::reads::{dim_of, label_count};
+use crate::reads::label_count;
 use crate::slot::{Slot, slot_of};
 use xdg_base::{LabelId, NodeId};
 use xdg_nodeset::NodeSet;
 use xdg_problem::Group;
 use xdg_store::Store;
+use xdg_uses::dim_of;
 
 /// The nodes that may be daughters of a node with a label.
 pub(crate) fn may_follow(store: &Store, group: &Group, u: NodeId, label: LabelId) -> NodeSet
@@ -25,7 +26,7 @@ pub(crate) fn may_follow(store: &Store, group: &Group, u: NodeId, label: LabelId
     if label.0 >= label_count(store, group) {
         return NodeSet::empty();
     }
-    store.daughters_may(dim_of(group), u, label)
+    store.daughters_may(dim_of(group, 0), u, label)
 }
 
 /// The nodes that must be.
@@ -37,7 +38,7 @@ pub(crate) fn must_follow(store: &Store, group: &Group, u: NodeId, label: LabelI
     if label.0 >= label_count(store, group) {
         return NodeSet::empty();
     }
-    store.daughters_must(dim_of(group), u, label)
+    store.daughters_must(dim_of(group, 0), u, label)
 }
 
 /// Whether a value of an attribute remains.

@@ -7,12 +7,13 @@ ghost use Rattle.xdg_porder.specs.Family.{HasKinds, IsOfFamily};
 ghost use Rattle.xdg_porder.specs.Standing.{stands_for};
 ghost use Rattle.xdg_porder.specs.Staying.{stays_still};
 
-use crate::reads::{dim_of, is_order};
+use crate::reads::is_order;
 use crate::sweep::take_all;
 use xdg_base::OutOfMemory;
 use xdg_problem::{Group, Problem};
 use xdg_propcore::{Moved, Pass, Propagator, Wake};
 use xdg_store::Store;
+use xdg_uses::dim_of;
 
 /// The propagator of a use of order or projectivity.
 #[derive(Debug, Drop)]
@@ -26,7 +27,7 @@ fn wakes_of(group: &Group) -> Wake
     requires { first_dim group.now < 8 }
     ensures { HasKinds group.now result.0 }
 {
-    let dim = dim_of(group);
+    let dim = dim_of(group, 0);
     let edges = Wake::edges(dim);
     if is_order(group) {
         return Wake(Wake::attrs(dim).0 | edges.0);

@@ -1,12 +1,13 @@
 //! Sets of nodes by where they stand.
 
-ghost use Rattle.std.specs.Prelude.{◌≡◌, ◌<◌, ◌≤◌, ◌↔◌, ◌⊎◌, ℕ, [], true, IsTrue, slice_index_or};
+ghost use Rattle.std.specs.Prelude.{◌≡◌, ◌<◌, ◌≤◌, ◌↔◌, ◌⊎◌, ℕ, true, IsTrue};
 ghost use Rattle.xdg_judge.specs.Links.{In};
 ghost use Rattle.xdg_nodeset.specs.Nodes.{has};
 ghost use Rattle.xdg_porder.specs.Across.{Crosses};
 
 use xdg_base::NodeId;
 use xdg_nodeset::NodeSet;
+use xdg_reach::set_at;
 
 /// Whether a set has no node.
 pub(crate) fn is_empty(set: NodeSet) -> bool
@@ -76,14 +77,6 @@ pub(crate) fn at_or_right(nodes: NodeSet, ends: NodeSet) -> NodeSet
     // Each set has nodes below 128 alone.
     let _ = nodes.len();
     nodes.meet(&right_of(ends))
-}
-
-/// The set that a table has for a node.
-pub(crate) fn set_at(table: &[NodeSet; 128], node: NodeId) -> NodeSet
-    requires { node.0 < 128 }
-    ensures { result ≡ slice_index_or table.now node.0 [] }
-{
-    table[usize::from(node.0)]
 }
 
 /// The nodes that a table has for some nodes.

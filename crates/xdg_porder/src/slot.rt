@@ -6,10 +6,10 @@ ghost use Rattle.xdg_problem.specs.Problems.{IsProblem, IsGroup, attr_arguments,
 ghost use Rattle.xdg_rules.specs.Rules.{attr_of_node};
 ghost use Rattle.xdg_porder.specs.Slots.{IsSlot, decision_of};
 
-use crate::reads::{attr_of, dim_of};
 use xdg_base::{AttrId, DimId, NodeId};
 use xdg_problem::{Group, Parts};
 use xdg_store::Store;
+use xdg_uses::{attr_of, dim_of};
 
 /// An attribute of a node.
 #[derive(Clone, Copy)]
@@ -32,7 +32,7 @@ fn slot_in(parts: &Parts, group: &Group, argument: usize, node: NodeId) -> Slot
     ensures decision { decision_of parts.now result ≡ attr_of_node parts.now group.now argument node.0 }
     ensures node { result.node ≡ node }
 {
-    let dim = dim_of(group);
+    let dim = dim_of(group, 0);
     let attr = attr_of(group, argument);
     let plan = &parts.dims.as_slice()[usize::from(dim.0)];
     let count = plan.attrs.as_slice()[usize::from(attr.0)].values.len() as u16;

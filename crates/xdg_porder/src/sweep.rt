@@ -11,18 +11,19 @@ ghost use Rattle.xdg_porder.specs.Items.{IsOrdering, IsReady};
 use crate::across::take_across;
 use crate::failing::fails_test;
 use crate::pairs::take_nodes;
-use crate::reads::{dim_of, is_order, takes_yields};
+use crate::reads::is_order;
 use xdg_problem::Group;
 use xdg_propcore::Pass;
 use xdg_reach::{Which, above};
 use xdg_store::Store;
+use xdg_uses::{dim_of, truth_of};
 
 /// Takes all, where yields are taken along and a test is decided and fails.
 fn take_failing(store: &mut Store, pass: &mut Pass, group: &Group)
     requires { IsOrdering group.now store.old }
     ensures { Sweeps group.now (λ box. truth_of group.now.truths 0 ≡ true → FailsTest store.old.parts group.now box → ⊥) pass.old store.old pass.new store.new }
 {
-    if !takes_yields(group) {
+    if !truth_of(group, 0) {
         return;
     }
     if !fails_test(store, group) {
@@ -46,7 +47,7 @@ fn take_projective(store: &mut Store, pass: &mut Pass, group: &Group)
     requires projective { group.now.principle ≡ principles.Projectivity }
     ensures { Sweeps group.now (IsClosedFor store.old.parts group.now) pass.old store.old pass.new store.new }
 {
-    let table = above(store, Which::May, dim_of(group));
+    let table = above(store, Which::May, dim_of(group, 0));
     take_across(store, pass, group, &table);
 }
 

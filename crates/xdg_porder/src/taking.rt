@@ -6,13 +6,13 @@ ghost use Rattle.xdg_rules.specs.Rules.{Takes, attr_of_node};
 ghost use Rattle.xdg_propcore.specs.Sweeps.{Sweeps};
 ghost use Rattle.xdg_porder.specs.Items.{IsAtNode, IsReady, MayOwn, NoneFollow, NoneStand, TakesEdges, TakesItems};
 
-use crate::reads::dim_of;
 use crate::slot::slot_of;
 use xdg_base::{LabelId, NodeId};
 use xdg_nodeset::NodeSet;
 use xdg_problem::{Edge, Group};
 use xdg_propcore::Pass;
 use xdg_store::Store;
+use xdg_uses::dim_of;
 
 /// Takes the edges from a node with a label to the nodes of a set.
 pub(crate) fn take_edges(
@@ -27,7 +27,7 @@ pub(crate) fn take_edges(
     requires takes { TakesEdges group.now u.0 label.0 refused store.old }
     ensures { Sweeps group.now (NoneFollow store.old.parts group.now u.0 label.0 refused) pass.old store.old pass.new store.new }
 {
-    let dim = dim_of(group);
+    let dim = dim_of(group, 0);
     for daughter in refused.iter() {
         let edge = Edge {
             dim,
