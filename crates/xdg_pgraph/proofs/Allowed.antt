@@ -1,22 +1,12 @@
 -- The numbers of edges that entries allow.
-use Rattle.std.proofs.Common.{◌≡◌, ℕ, ◌<◌, ◌≤◌, ◌+◌, ◌⊎◌, ◌↔◌, inl, inr, Bool, true, false, IsTrue, List, [], length, get_or, map, refl, sym, ◌∙◌, ap, subst, arith}
+use Rattle.std.proofs.Common.{◌≡◌, ℕ, ◌<◌, ◌≤◌, ◌+◌, ◌⊎◌, ◌↔◌, inl, inr, Bool, true, false, IsTrue, List, refl, sym, ◌∙◌, ap, subst, arith}
 use Rattle.std.specs.Prelude.{Contains, All, ◌||◌}
 use Rattle.std.proofs.lemmas.Bool.{cases_Bool, cases_lt, or_cases}
-use Rattle.std.proofs.lemmas.List.{get_or-map}
 use Rattle.xdg_problem.specs.declared.parts.Group.{Group}
-use Rattle.xdg_problem.specs.declared.parts.Parts.{Parts}
-use Rattle.xdg_problem.specs.Boxes.{Has, IsBox, entry_decision}
+use Rattle.xdg_problem.specs.Boxes.{Has, entry_decision}
 use Rattle.xdg_problem.specs.Features.{row}
-use Rattle.xdg_problem.specs.Places.{nodes, numbers_from}
-use Rattle.xdg_problem.specs.Vectors.{shape}
 use Rattle.xdg_problem.proofs.Looking.{or_left, or_right}
-use Rattle.xdg_problem.proofs.Ordered.{numbers_length}
 use Rattle.xdg_rules.specs.Rules.{IsGreatest, IsLeast}
-use Rattle.xdg_rules.proofs.Sizes.{within_sizes}
-use Rattle.xdg_store.specs.Layout.{bits_of, entry_row}
-use Rattle.xdg_store.specs.States.{State, Known}
-use Rattle.xdg_store.proofs.Located.{Located, entry_located}
-use Rattle.xdg_store.proofs.Sizes.{bits_sizes}
 use Rattle.xdg_pgraph.specs.declared.bundle.Way.{Way}
 use Rattle.xdg_pgraph.specs.declared.bundle.Way.TheVariants as ways
 use Rattle.xdg_pgraph.specs.Bundles.{argument_of, numbers_of}
@@ -24,17 +14,6 @@ use Rattle.xdg_pgraph.specs.Bundles.{argument_of, numbers_of}
 pub numbers_row : (way : Way) (group : Group) (node label candidate : ℕ) → row group node candidate (argument_of way) label ≡ numbers_of way group node label candidate
 numbers_row ways.Out group node label candidate = refl
 numbers_row ways.In group node label candidate = refl
-
--- ---- an entry that remains is one of the node's
-
-below_size : (parts : Parts) (box : List (List Bool)) (d start size v : ℕ) → IsBox (shape parts) box → Located parts d (numbers_from start size) → Has box d v → v < size
-below_size parts box d start size v is at has =
-    let within : v < get_or (map length box) d 0 = within_sizes box d v has in
-    let count : get_or (map length box) d 0 ≡ size = ap (λ s. get_or s d 0) (is.sizes ∙ sym (bits_sizes parts)) ∙ get_or-map length (bits_of parts) d [] 0 at.within ∙ ap length at.is ∙ numbers_length start size in
-    omega (arith, within, count)
-
-pub entry_below : (s : State) (node v : ℕ) → Known s → node < nodes s.parts → Has s.now (entry_decision node) v → v < length (get_or s.parts.candidates node [])
-entry_below s node v known l has = below_size s.parts s.now (entry_decision node) (entry_row node) (length (get_or s.parts.candidates node [])) v known.is_box (entry_located s.parts known.problem.candidates_each node l) has
 
 -- ---- the greatest and the least number, entry by entry
 
@@ -110,10 +89,3 @@ module _ (box : List (List Bool)) (node : ℕ) (row : ℕ → List ℕ) (number 
       | inr f ↦ absurd (s.none f g.entry (all g.entry g.remains) g.remains g.allowed)
     ],
   )
-
--- the loop over the candidates of a node came to its end
-pub entry_end : (s : State) (problem shown : Parts) (node v count place : ℕ) → Known s → node < nodes s.parts → shown ≡ problem → problem ≡ s.parts → count ≡ length (get_or shown.candidates node []) → count ≤ place → Has s.now (entry_decision node) v → v < place
-entry_end s problem shown node v count place known l same is counted past has =
-    let below = entry_below s node v known l has in
-    let e : length (get_or shown.candidates node []) ≡ length (get_or s.parts.candidates node []) = ap (λ (p : Parts). length (get_or p.candidates node [])) (same ∙ is) in
-    omega (arith, below, e, counted, past)

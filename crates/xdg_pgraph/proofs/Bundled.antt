@@ -20,12 +20,12 @@ use Rattle.xdg_propcore.specs.Passes.{Progress, Clears}
 use Rattle.xdg_propcore.specs.Sweeps.{Sweeps}
 use Rattle.xdg_propcore.proofs.Passing.{goes_both}
 use Rattle.xdg_propcore.proofs.Sweeping.{sweeps_skip, sweeps_both}
+use Rattle.xdg_uses.proofs.Remaining.{entry_below}
 use Rattle.xdg_pgraph.specs.declared.bundle.Way.{Way}
 use Rattle.xdg_pgraph.specs.declared.bundle.Way.TheVariants as ways
 use Rattle.xdg_pgraph.specs.declared.bundle.Bundle.{Bundle}
 use Rattle.xdg_pgraph.specs.declared.found.Which.TheVariants as whichs
 use Rattle.xdg_pgraph.specs.Bundles.{near_node, numbers_of, count_of, Barred, EdgeAt, IsOpen, IsBundleDone, IsLabelDone, AreLabelsDone, AreNodesDone}
-use Rattle.xdg_pgraph.proofs.Allowed.{entry_below}
 use Rattle.xdg_pgraph.proofs.Ends.{in_bundle, in_from}
 use Rattle.xdg_pgraph.proofs.PlaneFacts.{which_place}
 

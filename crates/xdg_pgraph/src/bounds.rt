@@ -6,10 +6,11 @@ ghost use Rattle.xdg_rules.specs.Rules.{IsGreatest, IsLeast};
 ghost use Rattle.xdg_store.specs.States.{Known};
 ghost use Rattle.xdg_pgraph.specs.Bundles.{numbers_of};
 
-use crate::bundle::{Bundle, entry_count, numbers_of};
+use crate::bundle::{Bundle, numbers_of};
 use xdg_base::NodeId;
 use xdg_problem::Group;
 use xdg_store::Store;
+use xdg_uses::entry_count;
 
 /// Whether no number lies between two others, or is one of them.
 pub(crate) fn has_none_within(numbers: &[u16], least: usize, most: usize) -> bool
@@ -46,7 +47,7 @@ pub(crate) fn is_greatest(store: &Store, group: &Group, bundle: Bundle, number: 
     ensures { IsTrue result ↔ IsGreatest store.now.now bundle.node (numbers_of bundle.way group.now bundle.node bundle.label) number }
 {
     let mut found = false;
-    for place in 0..entry_count(store.problem().parts(), bundle.node) {
+    for place in 0..entry_count(store.problem().parts(), NodeId(bundle.node)) {
         if !store.entry_in(NodeId(bundle.node), place) {
             continue;
         }
@@ -66,7 +67,7 @@ pub(crate) fn is_least(store: &Store, group: &Group, bundle: Bundle, number: usi
     ensures { IsTrue result ↔ IsLeast store.now.now bundle.node (numbers_of bundle.way group.now bundle.node bundle.label) number }
 {
     let mut found = false;
-    for place in 0..entry_count(store.problem().parts(), bundle.node) {
+    for place in 0..entry_count(store.problem().parts(), NodeId(bundle.node)) {
         if !store.entry_in(NodeId(bundle.node), place) {
             continue;
         }

@@ -1,9 +1,7 @@
 //! The edges with a label out of a node, or into it.
 
-ghost use Rattle.std.specs.Prelude.{◌≡◌, ◌<◌, ◌≤◌, ◌↔◌, ℕ, IsTrue, [], Contains, length, slice_index_or};
+ghost use Rattle.std.specs.Prelude.{◌≡◌, ◌<◌, ◌↔◌, ℕ, IsTrue, Contains};
 ghost use Rattle.xdg_nodeset.specs.Nodes.{has};
-ghost use Rattle.xdg_problem.specs.Places.{nodes};
-ghost use Rattle.xdg_problem.specs.Problems.{IsProblem};
 ghost use Rattle.xdg_store.specs.States.{Known};
 ghost use Rattle.xdg_pgraph.specs.Bundles.{argument_of, count_of, edge_to, numbers_of};
 ghost use Rattle.xdg_pgraph.specs.Planes.{IsPlane};
@@ -13,8 +11,9 @@ use crate::found::Which;
 use crate::plane::Plane;
 use xdg_base::{LabelId, NodeId};
 use xdg_nodeset::NodeSet;
-use xdg_problem::{Edge, Group, Parts};
+use xdg_problem::{Edge, Group};
 use xdg_store::Store;
+use xdg_uses::feature_row;
 
 /// Out of a node, or into it.
 #[derive(Clone, Copy, Debug)]
@@ -57,29 +56,13 @@ fn argument(way: Way) -> usize
 pub(crate) fn numbers_of(group: &Group, bundle: Bundle, place: u16) -> &[u16]
     ensures { result.now ≡ numbers_of bundle.way group.now bundle.node bundle.label place }
 {
-    let Some(candidates) = group.feats.get(bundle.node as usize) else {
-        return &[];
-    };
-    let Some(features) = candidates.get(place as usize) else {
-        return &[];
-    };
-    let Some(feature) = features.get(argument(bundle.way)) else {
-        return &[];
-    };
-    let Some(numbers) = feature.rows.get(bundle.label as usize) else {
-        return &[];
-    };
-    numbers.as_slice()
-}
-
-/// How many candidates a node has.
-pub(crate) fn entry_count(parts: &Parts, node: u8) -> u16
-    requires problem { IsProblem parts.now }
-    requires node { node < nodes parts.now }
-    ensures count { result ≡ length (slice_index_or parts.now.candidates node []) }
-    ensures small { result ≤ 1024 }
-{
-    parts.candidates.as_slice()[node as usize].len() as u16
+    feature_row(
+        group,
+        NodeId(bundle.node),
+        place,
+        argument(bundle.way),
+        LabelId(bundle.label),
+    )
 }
 
 /// The other nodes of the edges of a bundle that may be present.

@@ -15,12 +15,13 @@ ghost use Rattle.xdg_pgraph.specs.Standing.{stands_for};
 ghost use Rattle.xdg_pgraph.specs.Staying.{stays_still};
 
 use crate::label::{take_dag, take_tree};
-use crate::plane::{Plane, first_dim, label_count, truth_of};
+use crate::plane::{Plane, label_count};
 use crate::valency::take_valency;
 use xdg_base::OutOfMemory;
 use xdg_problem::{Group, Parts, Principle, Problem};
 use xdg_propcore::{Moved, Pass, Propagator, Wake};
 use xdg_store::Store;
+use xdg_uses::{dim_of, truth_of};
 
 /// The propagator of a use of graph, entries, tree, dag or valency. The first two take nothing.
 #[derive(Debug, Drop)]
@@ -35,7 +36,7 @@ fn kinds_of(group: &Group) -> Wake
     requires family { IsOfFamily group.now.principle }
     ensures { result.0 ≡ kinds_of group.now.principle (first_dim group.now) }
 {
-    let edges = Wake::edges(first_dim(group));
+    let edges = Wake::edges(dim_of(group, 0));
     match group.principle {
         Principle::Tree => edges,
         Principle::Dag => edges,

@@ -1,13 +1,14 @@
 //! The places of a dimension.
 
-ghost use Rattle.std.specs.Prelude.{◌≡◌, ◌≤◌, ◌<◌, length};
-ghost use Rattle.xdg_problem.specs.Arguments.{first_dim, label_count, truth_of};
+ghost use Rattle.std.specs.Prelude.{◌≡◌, ◌<◌, length};
+ghost use Rattle.xdg_problem.specs.Arguments.{first_dim, label_count};
 ghost use Rattle.xdg_problem.specs.Places.{edge};
 ghost use Rattle.xdg_problem.specs.Problems.{IsProblem, IsGroup};
 ghost use Rattle.xdg_pgraph.specs.Planes.{IsPlane};
 
 use xdg_base::{DimId, LabelId, NodeId};
 use xdg_problem::{Edge, Group, Parts};
+use xdg_uses::dim_of;
 
 /// A dimension with its number of nodes and of labels; a dimension without edges has no labels here.
 #[derive(Clone, Copy, Debug)]
@@ -15,26 +16,6 @@ pub(crate) struct Plane {
     pub dim: DimId,
     pub nodes: u8,
     pub labels: u8,
-}
-
-/// The first dimension of a principle use.
-pub(crate) fn first_dim(group: &Group) -> DimId
-    ensures { result.0 ≡ first_dim group.now }
-{
-    match group.dims.get(0) {
-        Some(dim) => *dim,
-        None => DimId(0),
-    }
-}
-
-/// A truth value of a principle use.
-pub(crate) fn truth_of(group: &Group, argument: usize) -> bool
-    ensures { result ≡ truth_of group.now.truths argument }
-{
-    match group.truths.get(argument) {
-        Some(truth) => *truth,
-        None => false,
-    }
 }
 
 /// How many labels the dimension has, with edges or without.
@@ -54,7 +35,7 @@ impl Plane {
         ensures plane { IsPlane parts.now result }
         ensures dim { result.dim.0 ≡ first_dim group.now }
     {
-        let dim = first_dim(group);
+        let dim = dim_of(group, 0);
         let plan = &parts.dims.as_slice()[usize::from(dim.0)];
         let labels = if plan.graph { plan.labels.len() } else { 0 };
         Plane {

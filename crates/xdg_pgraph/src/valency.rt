@@ -15,7 +15,7 @@ ghost use Rattle.xdg_pgraph.specs.Bundles.{AreLabelsDone, AreNodesDone, Barred, 
 ghost use Rattle.xdg_pgraph.specs.Planes.{IsPlane};
 
 use crate::bounds::{has_none_within, is_greatest, is_least};
-use crate::bundle::{Bundle, Way, count_of, ends, entry_count, numbers_of};
+use crate::bundle::{Bundle, Way, count_of, ends, numbers_of};
 use crate::found::Which;
 use crate::plane::Plane;
 use xdg_base::NodeId;
@@ -23,6 +23,7 @@ use xdg_nodeset::NodeSet;
 use xdg_problem::{Edge, Group};
 use xdg_propcore::Pass;
 use xdg_store::Store;
+use xdg_uses::entry_count;
 
 /// Takes the entries of a node away that allow no number between two counts.
 fn take_entries(
@@ -38,7 +39,7 @@ fn take_entries(
     ensures clears { Clears (Barred store.old.parts group.now bundle least most) pass.old store.old pass.new store.new }
     ensures known { Known store.new }
 {
-    for place in 0..entry_count(store.problem().parts(), bundle.node) {
+    for place in 0..entry_count(store.problem().parts(), NodeId(bundle.node)) {
         if !has_none_within(numbers_of(group, bundle, place), least, most) {
             continue;
         }
