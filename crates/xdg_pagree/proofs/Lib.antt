@@ -1,4 +1,3 @@
-pub mod Remaining
 pub mod Principles
 pub mod Sweeping
 pub mod AtPlaces

@@ -1,4 +1,3 @@
-pub mod Slots
 pub mod Family
 pub mod Places
 pub mod Standing

@@ -7,7 +7,6 @@ mod asking;
 mod nodes;
 mod places;
 mod reads;
-mod slot;
 mod taking;
 
 pub use agree_prop::AgreeProp;

@@ -1,25 +1,14 @@
 -- The items of a node, as sets and as values that remain.
-use Rattle.std.proofs.Common.{◌≡◌, ◌≢◌, ℕ, ◌<◌, ◌≤◌, ◌⊎◌, ◌↔◌, inl, inr, Bool, true, IsTrue, List, [], length, get_or, map, sym, ap, ◌∙◌, arith, subst}
+use Rattle.std.proofs.Common.{◌≡◌, ◌≢◌, ℕ, ◌<◌, ◌≤◌, ◌⊎◌, ◌↔◌, inl, inr, Bool, true, IsTrue, List, [], sym, arith, subst}
 use Rattle.std.proofs.lemmas.Bool.{false≢true}
-use Rattle.std.proofs.lemmas.List.{get_or-map}
 use Rattle.xdg_nodeset.specs.Nodes.{has}
 use Rattle.xdg_problem.specs.declared.analysis.Edge.{Edge}
 use Rattle.xdg_problem.specs.declared.parts.Parts.{Parts}
 use Rattle.xdg_problem.specs.Analyses.{IsPlace}
-use Rattle.xdg_problem.specs.Arguments.{value_count}
-use Rattle.xdg_problem.specs.Boxes.{Has, IsBox}
-use Rattle.xdg_problem.specs.Places.{edge, nodes, numbers_from}
-use Rattle.xdg_problem.specs.Vectors.{shape}
-use Rattle.xdg_problem.proofs.Ordered.{numbers_length}
-use Rattle.xdg_rules.proofs.Sizes.{within_sizes}
-use Rattle.xdg_store.specs.Layout.{bits_of, attr_row}
-use Rattle.xdg_store.specs.States.{State, Known}
-use Rattle.xdg_store.proofs.Located.{Located, attr_located}
-use Rattle.xdg_store.proofs.Sizes.{bits_sizes}
+use Rattle.xdg_problem.specs.Boxes.{Has}
+use Rattle.xdg_problem.specs.Places.{edge, nodes}
 use Rattle.xdg_reach.specs.Edges.{edge_labels}
 use Rattle.xdg_reach.proofs.Labelled.{label_below, place_between}
-use Rattle.xdg_porder.specs.Slots.{IsSlot, decision_of}
-use Rattle.xdg_porder.specs.declared.slot.Slot.{Slot}
 
 -- ---- daughters
 
@@ -44,19 +33,6 @@ items_exact Own Follow asked u nodes all own follow exact v = (
 )
 
 -- ---- own labels
-
-below_size : (parts : Parts) (box : List (List Bool)) (d start size v : ℕ) → IsBox (shape parts) box → Located parts d (numbers_from start size) → Has box d v → v < size
-below_size parts box d start size v is at has =
-    let within : v < get_or (map length box) d 0 = within_sizes box d v has in
-    let count : get_or (map length box) d 0 ≡ size = ap (λ s. get_or s d 0) (is.sizes ∙ sym (bits_sizes parts)) ∙ get_or-map length (bits_of parts) d [] 0 at.within ∙ ap length at.is ∙ numbers_length start size in
-    omega (arith, within, count)
-
--- a value that remains is one of the attribute's
-pub slot_below : (s : State) (slot : Slot) (v : ℕ) → Known s → IsSlot s.parts slot → Has s.now (decision_of s.parts slot) v → v < slot.count
-slot_below s slot v known is has =
-    let l = below_size s.parts s.now (decision_of s.parts slot) (attr_row (nodes s.parts) slot.dim.0 slot.node.0 slot.attr.0) (value_count s.parts slot.dim.0 slot.attr.0) v known.is_box (attr_located s.parts known.problem.candidates_each slot.dim.0 slot.node.0 slot.attr.0 is.dim_in is.node_in is.attr_in) has in
-    let e = is.count_is in
-    omega (arith, l, e)
 
 -- the values but one, up to a number
 abbrev pub NoOther : List (List Bool) → ℕ → ℕ → ℕ → Type 0

@@ -1,4 +1,3 @@
-pub mod Slots
 pub mod Family
 pub mod Standing
 pub mod Items

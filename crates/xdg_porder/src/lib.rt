@@ -9,7 +9,6 @@ mod order_prop;
 mod pairs;
 mod reads;
 mod sets;
-mod slot;
 mod sweep;
 mod taking;
 mod yields;

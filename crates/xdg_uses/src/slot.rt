@@ -4,21 +4,24 @@ ghost use Rattle.std.specs.Prelude.{◌≡◌, ◌<◌};
 ghost use Rattle.xdg_problem.specs.Places.{nodes};
 ghost use Rattle.xdg_problem.specs.Problems.{IsProblem, IsGroup, attr_arguments, dim_arguments};
 ghost use Rattle.xdg_rules.specs.Rules.{attr_of_node};
-ghost use Rattle.xdg_porder.specs.Slots.{IsSlot, decision_of};
+ghost use Rattle.xdg_uses.specs.Slots.{IsSlot, decision_of};
 
+use crate::arguments::{attr_of, dim_of};
 use xdg_base::{AttrId, DimId, NodeId};
 use xdg_problem::{Group, Parts};
 use xdg_store::Store;
-use xdg_uses::{attr_of, dim_of};
 
 /// An attribute of a node.
-#[derive(Clone, Copy)]
-pub(crate) struct Slot {
-    pub(crate) node: NodeId,
-    pub(crate) dim: DimId,
-    pub(crate) attr: AttrId,
+#[derive(Clone, Copy, Debug)]
+pub struct Slot {
+    /// The node.
+    pub node: NodeId,
+    /// The dimension of the attribute.
+    pub dim: DimId,
+    /// The attribute.
+    pub attr: AttrId,
     /// How many values its type has.
-    pub(crate) count: u16,
+    pub count: u16,
 }
 
 /// The attribute of a node that an attribute argument names, in the parts of a problem.
@@ -45,7 +48,7 @@ fn slot_in(parts: &Parts, group: &Group, argument: usize, node: NodeId) -> Slot
 }
 
 /// The attribute of a node that an attribute argument names.
-pub(crate) fn slot_of(store: &Store, group: &Group, argument: usize, node: NodeId) -> Slot
+pub fn slot_of(store: &Store, group: &Group, argument: usize, node: NodeId) -> Slot
     requires group { IsGroup store.now.parts group.now }
     requires argument { argument < attr_arguments group.now.principle }
     requires dim { 0 < dim_arguments group.now.principle }

@@ -2,8 +2,8 @@ use Rattle.std.proofs.Common.{◌≡◌, ◌<◌, ◌∙◌, sym, subst}
 use Rattle.xdg_problem.specs.Places.{nodes}
 use Rattle.xdg_problem.specs.Problems.{IsProblem, IsGroup}
 use Rattle.xdg_rules.specs.Rules.{attr_of_node}
-use Rattle.xdg_porder.specs.Slots.{IsSlot, decision_of}
-use Rattle.xdg_porder.proofs.slot.slot_of.Goals as goal
+use Rattle.xdg_uses.specs.Slots.{IsSlot, decision_of}
+use Rattle.xdg_uses.proofs.slot.slot_of.Goals as goal
 
 pub slot_in-requires-clause-problem : goal.slot_in-requires-clause-problem
 slot_in-requires-clause-problem c = subst IsProblem (sym c.parts.ensures.same) c.parts.ensures.kept

@@ -8,8 +8,8 @@ use Rattle.xdg_store.specs.Layout.{attr_row}
 use Rattle.xdg_store.specs.States.{State, Known}
 use Rattle.xdg_store.proofs.Located.{attr_located}
 use Rattle.xdg_uses.proofs.Remaining.{below_size}
-use Rattle.xdg_pagree.specs.Slots.{IsSlot, decision_of}
-use Rattle.xdg_pagree.specs.declared.slot.Slot.{Slot}
+use Rattle.xdg_uses.specs.Slots.{IsSlot, decision_of}
+use Rattle.xdg_uses.specs.declared.slot.Slot.{Slot}
 
 -- a value that remains is one of its type
 pub slot_below : (s : State) (slot : Slot) (v : ℕ) → Known s → IsSlot s.parts slot → Has s.now (decision_of s.parts slot) v → v < slot.count

@@ -4,7 +4,7 @@ use Rattle.xdg_problem.specs.declared.parts.Parts.{Parts}
 use Rattle.xdg_problem.specs.Arguments.{attr_count, value_count}
 use Rattle.xdg_problem.specs.Boxes.{attr_decision}
 use Rattle.xdg_problem.specs.Places.{nodes}
-use Rattle.xdg_pagree.specs.declared.slot.Slot.{Slot}
+use Rattle.xdg_uses.specs.declared.slot.Slot.{Slot}
 
 -- an attribute of a node of the sentence, and the number of its values
 pub record IsSlot (parts : Parts) (slot : Slot) : Type 0 where
