@@ -1,7 +1,7 @@
 #!/usr/bin/env python3
 """Time and peak memory of the built program on grammars of growing size.
 
-Usage: python3 bench/grow.py [PROGRAM]      (PROGRAM is ./xdg of this repository where none is given)
+Usage: python3 bench/grow.py [PROGRAM]      (where none is given, the program that ./xdg runs, which is built where need be)
 
 Each table goes over one family of grammars whose text doubles from row to row; a cell has the seconds of a run and its peak
 memory in MiB, and the last column how the seconds of `check` grew since the row before, per byte of the text. A figure near 1.0
@@ -205,9 +205,18 @@ def table(program, folder, title, family, sentence):
         print(f"{name:>10} {len(text):>9}  {shown}  {growth:>6}  {told}")
 
 
+def built(root):
+    """The program that ./xdg runs, by its own path: that script looks at the sources first, which is no part of what is measured."""
+    subprocess.run([root / "xdg", "check", root / "examples" / "plain.xdg"], stdout=subprocess.DEVNULL, check=True)
+    for folder in (root / "out", root / "release"):
+        if subprocess.run([root / "release" / "sum", "--fits", folder], stdout=subprocess.DEVNULL).returncode == 0:
+            return str(folder / "xdg")
+    sys.exit("./xdg has run, but its program isn't found")
+
+
 def main():
     root = pathlib.Path(__file__).resolve().parent.parent
-    program = sys.argv[1:2] or [str(root / "xdg")]
+    program = sys.argv[1:2] or [built(root)]
     resource.setrlimit(resource.RLIMIT_CORE, (0, 0))
     with tempfile.TemporaryDirectory() as name:
         folder = pathlib.Path(name)
