@@ -8,7 +8,8 @@ use Rattle.xdg_faults.specs.First.{In}
 use Rattle.xdg_faults.proofs.In.{in_index}
 use Rattle.xdg_index.specs.Texts.{has_text, place_of}
 use Rattle.xdg_index.proofs.Texts.{place_of-Some, place_of-None, place_of-at, None-place_of}
-use Rattle.xdg_types.proofs.Ordered.{has_among, among_has, all_differ}
+use Rattle.xdg_types.proofs.Distinct.{has_among, among_has}
+use Rattle.xdg_types.proofs.Elements.{all_differ}
 use Rattle.xdg_classes.specs.Bodies.{Body, body, Called, calls}
 use Rattle.xdg_check.specs.declared.checked.Class.{Class}
 use Rattle.xdg_check.specs.Counts.{Counting, class_texts, Agrees}

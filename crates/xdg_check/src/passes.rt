@@ -135,7 +135,7 @@ fn check_statements(
 }
 
 /// The checked grammar of a tree, given the table of its types, or its first fault. The table is that of
-/// [`types`](xdg_types::types) for this grammar; on a refusal it is dropped.
+/// `types` of `xdg_typing` for this grammar; on a refusal it is dropped.
 ///
 /// A grammar has one meaning or one first fault: the clause `only` says that each other answer that may be given is this fault,
 /// or has the same types, principles, classes and entries. That is a law of what the answers mean, which no body could break.

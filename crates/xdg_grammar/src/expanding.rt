@@ -13,7 +13,7 @@ use xdg_base::{List, Stop};
 use xdg_check::{Checked, check};
 use xdg_domain::Entry;
 use xdg_lexicon::expand;
-use xdg_types::types;
+use xdg_typing::types;
 
 /// A checked grammar with its expanded lexicon.
 #[derive(Debug, Drop)]

@@ -3,7 +3,7 @@ use Rattle.std.specs.Prelude.{List}
 use Rattle.xdg_types.specs.Answers.{HasTable}
 use Rattle.xdg_types.specs.Parts.{Statement, dimensions}
 use Rattle.xdg_types.specs.Table.{Table}
-use Rattle.xdg_types.proofs.RightTable.{names_made}
+use Rattle.xdg_types.proofs.Made.{names_made}
 use Rattle.xdg_principles.specs.Made.{HasDims}
 
 -- its dimensions have the names of those of the text

@@ -11,7 +11,7 @@ use Rattle.xdg_types.specs.declared.table.DimType.{DimType}
 use Rattle.xdg_types.specs.Parts.{texts}
 use Rattle.xdg_types.specs.Table as table
 use Rattle.xdg_types.specs.Table.{AreUsed, HasPlace}
-use Rattle.xdg_types.proofs.Ordered.{all_differ}
+use Rattle.xdg_types.proofs.Elements.{all_differ}
 use Rattle.xdg_principles.specs.declared.principle.Which.{Which}
 use Rattle.xdg_principles.specs.Settings.{Setting, dim_texts, dim_place, place_named}
 use Rattle.xdg_principles.specs.Made.{AreLabels, ArePlaces}

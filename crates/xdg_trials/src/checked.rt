@@ -6,7 +6,7 @@ use std::alloc::{AllocError, Global};
 use std::test::Fail;
 use xdg_base::{Stop, number, place};
 use xdg_check::check;
-use xdg_types::types;
+use xdg_typing::types;
 
 /// What stands behind each row of `STATEMENTS`.
 const COMMON: &str =

@@ -6,7 +6,7 @@ use std::test::Fail;
 use xdg_base::{Stop, number};
 use xdg_check::check;
 use xdg_lexicon::expand;
-use xdg_types::types;
+use xdg_typing::types;
 
 /// What stands before each row of `ENTRIES`.
 const BEFORE: &str =

@@ -14,7 +14,8 @@ use xdg_domain::{Ty, Value};
 use xdg_lex::tokens;
 use xdg_parse::parse;
 use xdg_terms::{Bindings, close, value};
-use xdg_types::{TypeTable, types};
+use xdg_types::TypeTable;
+use xdg_typing::types;
 
 /// Grammar texts: a fault's number, the number reached and the text with the fault's place, or `ok` and a text.
 const TYPES: &str = "\

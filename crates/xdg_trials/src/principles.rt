@@ -8,7 +8,8 @@ use std::test::Fail;
 use xdg_ast::{Grammar, Statement};
 use xdg_base::{Fault, Stop, number};
 use xdg_principles::{PrincipleUse, check_arguments, check_names, uses};
-use xdg_types::{TypeTable, types};
+use xdg_types::TypeTable;
+use xdg_typing::types;
 
 /// What stands before a use of a principle.
 const FRONT: &str = "\

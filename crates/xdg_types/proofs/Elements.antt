@@ -1,13 +1,14 @@
 -- Texts that stand in lists, and lists whose texts differ.
 use Rattle.std.proofs.Common.{◌≡◌, ◌⊎◌, inl, inr, ℕ, zero, suc, ◌<◌, ◌≤◌, true, List, [], ◌∷◌, ◌++◌, length, ap, sym, ◌∙◌, refl, arith}
 use Rattle.std.specs.Str.{bytes_eq}
-use Rattle.std.proofs.lemmas.Bool.{cases_Bool, true≢false}
+use Rattle.std.proofs.lemmas.Bool.{cases_Bool, true≢false, false_from_ne_true}
 use Rattle.std.proofs.lemmas.Slice.Eq.{bytes_eq-Decides}
 use Rattle.xdg_ast.specs.declared.names.Name.{Name}
 use Rattle.xdg_domain.specs.Shapes.{Among, Differ}
 use Rattle.xdg_faults.specs.First.{In}
-use Rattle.xdg_index.specs.Texts.{has_text}
+use Rattle.xdg_index.specs.Texts.{has_text, AllDiffer}
 use Rattle.xdg_types.specs.Parts.{texts}
+use Rattle.xdg_types.proofs.Distinct.{has_among}
 
 pub not_more : (m n : ℕ) → (m < n → ⊥) → n ≤ m
 not_more m n h = omega arith
@@ -101,3 +102,8 @@ differ_append (x ∷ xs) ys h k apart = (
   λ a. elim (among_append xs ys x a) [ inl l ↦ h.0 l | inr r ↦ apart x (inl refl) r ],
   differ_append xs ys h.1 k (λ t l r. apart t (inr l) r),
 )
+
+-- texts that differ are found each at its own place
+pub all_differ : (xs : List (List ℕ)) → Differ xs → AllDiffer xs
+all_differ [] h = tt
+all_differ (x ∷ xs) h = (false_from_ne_true (has_text xs x) (λ e. h.0 (has_among xs x e)), all_differ xs h.1)

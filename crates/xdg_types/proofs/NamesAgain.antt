@@ -7,8 +7,8 @@ use Rattle.xdg_domain.specs.Shapes.{Among, Differ}
 use Rattle.xdg_faults.specs.First.{In}
 use Rattle.xdg_faults.proofs.In.{in_append, in_left, in_right, in_when, when_in}
 use Rattle.xdg_index.specs.Texts.{has_text}
-use Rattle.xdg_types.specs.Parts.{texts}
-use Rattle.xdg_types.specs.Names.{fault_at}
+use Rattle.xdg_types.specs.Parts.{Statement, texts}
+use Rattle.xdg_types.specs.Names.{fault_at, NameOffends, once}
 use Rattle.xdg_types.specs.NameFaults.{repeated, repeats, with_text}
 use Rattle.xdg_types.proofs.Distinct.{has_among, among_has, with_splits, with_old, with_new, texts_left, texts_right}
 
@@ -76,3 +76,8 @@ differ_by (n ∷ names) none = (
   differ_by names
       (λ f k. none f (record { before = n ∷ k.before; name = k.name; after = k.after; parts = ap (λ ns. n ∷ ns) k.parts; earlier = inr k.earlier; fault = k.fault })),
 )
+
+-- where no name offends, the names of each list in which a name may stand once differ
+pub no_repeat : (statements : List Statement) → ((f : Fault) → NameOffends statements f → ⊥) → (names : List Name) → In (once statements) names → Differ (texts names)
+no_repeat statements none names among = differ_by names (λ f k.
+    none f (inr (inr (inl (record { names = names; among = among; before = k.before; name = k.name; after = k.after; parts = k.parts; earlier = k.earlier; fault = k.fault })))))

@@ -1,15 +1,12 @@
 -- What an answer tells of the types of a grammar.
-use Rattle.std.specs.Prelude.{◌≡◌, ◌⊎◌, ℕ, List, map, Result, Ok, Err, Some}
+use Rattle.std.specs.Prelude.{◌≡◌, ◌⊎◌, ℕ, List, Result, Ok, Err, Some}
 use Rattle.xdg_base.specs.declared.faults.Fault.{Fault}
 use Rattle.xdg_base.specs.declared.faults.Stop.{Stop}
 use Rattle.xdg_base.specs.declared.faults.Stop.TheVariants as stops
 use Rattle.xdg_cycles.specs.Closing.{IsClosing}
 use Rattle.xdg_domain.specs.Shapes.{Shape}
 use Rattle.xdg_faults.specs.First.{Tells as TellsFault}
-use Rattle.xdg_types.specs.declared.definitions.Definitions.{Definitions}
-use Rattle.xdg_types.specs.Heads.{Knows}
-use Rattle.xdg_types.specs.Right.{IsRanked}
-use Rattle.xdg_types.specs.Parts.{TypeTerm, Statement}
+use Rattle.xdg_types.specs.Parts.{Statement}
 use Rattle.xdg_types.specs.Names.{NameOffends}
 use Rattle.xdg_types.specs.Graph.{type_graph}
 use Rattle.xdg_types.specs.Meaning.{Resolves}
@@ -42,22 +39,6 @@ pub record HasWrongKind (statements : List Statement) (f : Fault) : Type 0 where
   pub resolves : Resolves statements names
   pub only : (others : List ℕ → Shape) → Resolves statements others → (name : List ℕ) → others name ≡ names name
   pub first : TellsFault (KindOffends names statements) (Some f)
-
--- What is known once the names are right and no type leads back to itself: what the names mean, which is one thing, and
--- that the types at the places of the names mean it.
-pub record IsResolved (statements : List Statement) (known : List (List ℕ)) (heads : List TypeTerm) : Type 0 where
-  pub acyclic : None_of (CycleOffends statements)
-  pub names : List ℕ → Shape
-  pub resolves : Resolves statements names
-  pub only : (others : List ℕ → Shape) → Resolves statements others → (name : List ℕ) → others name ≡ names name
-  pub rank : List ℕ → ℕ
-  pub ranked : IsRanked statements rank
-  pub knows : Knows names known heads
-
-abbrev pub TellsResolved : List Statement → Result Definitions Stop → Type 0
-TellsResolved statements (Ok made) = IsResolved statements made.names (map (λ head. head.now) made.heads.items)
-TellsResolved statements (Err (stops.Fault f)) = TellsFault (CycleOffends statements) (Some f)
-TellsResolved statements (Err stops.OutOfMemory) = Unit {0}
 
 -- A fault is the first of the first of the three passes that finds one: names, cycles, kinds.
 abbrev pub Refuses : List Statement → Fault → Type 0

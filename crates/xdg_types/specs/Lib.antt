@@ -1,15 +1,10 @@
 pub mod Answers
-pub mod Branches
 pub mod Graph
-pub mod Heads
-pub mod KindFaults
 pub mod Kinds
 pub mod Meaning
 pub mod NameFaults
 pub mod Names
 pub mod Only
 pub mod Parts
-pub mod Right
 pub mod Table
-pub mod Used
 pub mod Written

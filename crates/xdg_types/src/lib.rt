@@ -1,25 +1,6 @@
-//! The types of a grammar.
+//! What the types of a grammar are: what types mean, what is wrong with them, and the table of its dimensions.
 #![tactic(auto)]
 
-mod attributes;
-mod contents;
-mod definitions;
-mod dimensions;
-mod graph;
-mod kinds;
-mod leading;
-mod names;
-mod repeats;
-mod resolving;
-mod shared;
-mod singles;
-mod sizes;
 mod table;
-mod typing;
-mod uses;
-mod walk;
-mod wanted;
-mod weights;
 
 pub use table::{DimType, TypeTable};
-pub use typing::types;

@@ -1,17 +1,10 @@
 //! The table of a grammar's dimensions and types.
 
-ghost use Rattle.std.specs.Prelude.{◌≡◌, map, IfOk};
-ghost use Rattle.xdg_types.specs.Branches.{Naming};
-ghost use Rattle.xdg_types.specs.Heads.{Knows};
-ghost use Rattle.xdg_types.specs.Table.{IsTable, IsTableOf};
-ghost use Rattle.xdg_types.specs.Right.{AreRight};
+ghost use Rattle.std.specs.Prelude.{◌≡◌};
+ghost use Rattle.xdg_types.specs.Table.{IsTable};
 
-use crate::definitions::Definitions;
-use crate::dimensions::{is_small, names_of, resolve_dimensions, used_places};
-use std::alloc::Global;
 use std::marker::Model;
-use xdg_ast::Statement;
-use xdg_base::{List, OutOfMemory, Text};
+use xdg_base::{List, Text};
 use xdg_domain::Ty;
 
 /// A dimension with its types.
@@ -52,6 +45,14 @@ impl Model for TypeTable {
 }
 
 impl TypeTable {
+    /// The table of these dimensions, of which those at these places are used.
+    pub fn new(dims: List<DimType>, used: List<usize>) -> TypeTable
+        requires { IsTable (record { dims = dims; used = used }) }
+        ensures { result ≡ record { dims = dims; used = used } }
+    {
+        TypeTable { dims, used }
+    }
+
     /// The dimensions in the order of the text, used or not, lent.
     pub fn dims(&self) -> &[DimType]
         ensures same { result.now ≡ self.now.dims }
@@ -67,23 +68,4 @@ impl TypeTable {
     {
         self.used.as_slice()
     }
-}
-
-/// The dimensions of a grammar with their types. Want of memory where the types together have more than
-/// [`MOST_PARTS`](crate::resolving::MOST_PARTS) parts, names followed, or nest too deep; then nothing is made.
-pub(crate) fn table<'a>(
-    alloc: Global,
-    statements: &'a [Statement],
-    definitions: &Definitions<'a>,
-) -> Result<TypeTable, OutOfMemory>
-    requires known { (names : Naming) × (Knows names definitions.now.names (map (λ head. head.now) definitions.now.heads.items) × AreRight statements.now names) }
-    ensures { IfOk result (λ made. (names : Naming) → Knows names definitions.now.names (map (λ head. head.now) definitions.now.heads.items) → IsTableOf names statements.now made) }
-{
-    if !is_small(definitions, statements) {
-        return Err(OutOfMemory);
-    }
-    let dims = resolve_dimensions(alloc, definitions, statements)?;
-    let known = names_of(alloc, dims.as_slice())?;
-    let used = used_places(alloc, &known, statements)?;
-    Ok(TypeTable { dims, used })
 }

@@ -1,0 +1,43 @@
+//! The named types of a grammar.
+
+ghost use Rattle.std.specs.Prelude.{ℕ, List, map};
+ghost use Rattle.xdg_domain.specs.Shapes.{Shape};
+ghost use Rattle.xdg_type_heads.specs.Heads.{Knows, IsHeadOf};
+
+use crate::weights::{Weight, weigh};
+use xdg_ast::{TypeKind, TypeTerm};
+use xdg_index::Index;
+
+/// The types that the names of a grammar's types lead to, by number.
+#[derive(Drop)]
+pub struct Definitions<'a> {
+    /// The names of the definitions, in the order of the text.
+    pub names: Index,
+    /// For each definition the type that it leads to, which is no name.
+    pub heads: Vec<&'a TypeTerm>,
+    /// For each definition how much its type holds, names followed.
+    pub weights: Vec<Weight>,
+}
+
+impl<'a> Definitions<'a> {
+    /// The type that a type leads to where it is a name, and else the type itself.
+    pub fn head(&self, ty: &'a TypeTerm) -> &'a TypeTerm
+        ensures { (names : List ℕ → Shape) → Knows names self.now.names (map (λ head. head.now) self.now.heads.items) → IsHeadOf names ty.now.kind result.now.kind }
+    {
+        let TypeKind::Named(name) = &ty.kind else {
+            return ty;
+        };
+        let Some(number) = self.names.find(name.text.as_str()) else {
+            return ty;
+        };
+        match self.heads.get(number) {
+            Some(head) => head,
+            None => ty,
+        }
+    }
+
+    /// How much a type holds, names followed. It takes time linear in the type as it is written.
+    pub fn weight(&self, ty: &TypeTerm) -> Weight {
+        weigh(&self.names, self.weights.as_slice(), &ty.kind)
+    }
+}

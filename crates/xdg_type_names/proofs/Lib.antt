@@ -1,0 +1,4 @@
+pub mod Each
+pub mod Inside
+pub mod NameLaw
+pub mod PartsAgain

@@ -1,6 +1,0 @@
-use Rattle.std.proofs.Common.{◌≡◌, take}
-use Rattle.xdg_types.specs.Parts.{texts}
-use Rattle.xdg_types.proofs.resolving.copies.Given as goal
-
-abbrev pub invariant-loop-name : goal.invariant-loop-name
-invariant-loop-name l = l.all ≡ texts (take l.name-index l.names)

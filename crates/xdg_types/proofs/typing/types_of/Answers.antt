@@ -1,7 +1,0 @@
-use Rattle.std.proofs.Common.{inl, subst}
-use Rattle.xdg_faults.specs.First.{Tells as TellsFault}
-use Rattle.xdg_types.specs.Names.{NameOffends}
-use Rattle.xdg_types.proofs.typing.types_of.Goals as goal
-
-pub returns-in-Some : goal.returns-in-Some
-returns-in-Some c = inl (subst (TellsFault (NameOffends c.args.statements.now)) c.in-Some.is c.in_ok-fault.ensures)

@@ -1,0 +1,301 @@
+-- What a written type means is a type as grammars may have it where nothing is wrong with it.
+use Rattle.std.proofs.Common.{◌≡◌, inl, inr, ℕ, ◌*◌, ◌<◌, ◌≤◌, Bool, true, false, ◌||◌, List, [], ◌∷◌, length, ap, sym, refl, subst, arith}
+use Rattle.std.specs.Prelude.{not}
+use Rattle.std.proofs.Math.Nat.{mul-lt-mul_of_pos_left}
+use Rattle.std.proofs.lemmas.Bool.{cases_Bool, true≢false, false≢true}
+use Rattle.std.proofs.lemmas.List.{length-map}
+use Rattle.xdg_base.specs.declared.faults.Cause.TheVariants as causes
+use Rattle.xdg_base.specs.declared.faults.Fault.{Fault}
+use Rattle.xdg_ast.specs.declared.names.Name.{Name}
+use Rattle.xdg_domain.specs.Shapes.{Shape, domain, tuple, truth, integer, text, set, iset, card, valency, mapping, fields, Shapes, no_shape, shape_then, Fields, no_field, field_then, constants, constants_of, in_a_row, sizes, product, count, Among, Differ, IsDomain, AreDomains, IsSmall, IsMapped, names_of, IsType, AreTypes}
+use Rattle.xdg_faults.specs.First.{In}
+use Rattle.xdg_faults.proofs.In.{in_left, in_right}
+use Rattle.xdg_types.specs.Written.{Tree, nothing, listed, recorded, tupled, set_of, iset_of, valency_of, map_of, a_card, a_bool, an_int, a_string, named, Trees, no_tree, tree_then, Members, no_member, member_then, member_names, uses, uses_in_trees, uses_in_members, lists, lists_in_trees, lists_in_members}
+use Rattle.xdg_types.specs.Parts.{texts}
+use Rattle.xdg_types.specs.Meaning.{meaning, domains_meaning, fields_meaning, as_domain}
+use Rattle.xdg_types.specs.Names.{fault_at}
+use Rattle.xdg_types.specs.Kinds.{Wanted, anything, a_domain, a_small, a_mapped, an_attribute, Site, inside, inside_trees, inside_members, inside_attributes, is_domain, is_small, is_mapped, is_empty_domain, has_empty_domain, is_attribute, is_of_kind, SiteOffends, Split, SharesAt}
+use Rattle.xdg_typing.specs.Branches.{Naming}
+use Rattle.xdg_types.proofs.Elements.{not_more, among_in, among_left, among_right, among_append, among_name, differ_append}
+
+-- ---- shapes of the wanted kind
+
+pub as_type : (s : Shape) → IsType s → IsType (as_domain s)
+as_type (fields no_field) h = (omega arith, tt)
+as_type (fields (field_then name u fs)) h = h
+as_type (domain cs) h = h
+as_type (tuple ss) h = h
+as_type truth h = h
+as_type integer h = h
+as_type text h = h
+as_type (set u) h = h
+as_type (iset u) h = h
+as_type card h = h
+as_type (valency u) h = h
+as_type (mapping k u) h = h
+
+pub domain_of : (s : Shape) → is_domain s ≡ true → IsType s → IsDomain s
+domain_of (domain cs) k h = h
+domain_of (fields fs) k h = absurd (false≢true k)
+domain_of (tuple ss) k h = absurd (false≢true k)
+domain_of truth k h = absurd (false≢true k)
+domain_of integer k h = absurd (false≢true k)
+domain_of text k h = absurd (false≢true k)
+domain_of (set u) k h = absurd (false≢true k)
+domain_of (iset u) k h = absurd (false≢true k)
+domain_of card k h = absurd (false≢true k)
+domain_of (valency u) k h = absurd (false≢true k)
+domain_of (mapping l u) k h = absurd (false≢true k)
+
+small_of : (s : Shape) → is_small s ≡ true → IsType s → IsSmall s
+small_of (domain cs) k h = h
+small_of (tuple ss) k h = h
+small_of (fields fs) k h = absurd (false≢true k)
+small_of truth k h = absurd (false≢true k)
+small_of integer k h = absurd (false≢true k)
+small_of text k h = absurd (false≢true k)
+small_of (set u) k h = absurd (false≢true k)
+small_of (iset u) k h = absurd (false≢true k)
+small_of card k h = absurd (false≢true k)
+small_of (valency u) k h = absurd (false≢true k)
+small_of (mapping l u) k h = absurd (false≢true k)
+
+mapped_of : (s : Shape) → is_mapped s ≡ true → IsMapped s
+mapped_of (set u) k = tt
+mapped_of (iset u) k = tt
+mapped_of card k = tt
+mapped_of (valency u) k = tt
+mapped_of (mapping l u) k = tt
+mapped_of (domain cs) k = absurd (false≢true k)
+mapped_of (tuple ss) k = absurd (false≢true k)
+mapped_of (fields fs) k = absurd (false≢true k)
+mapped_of truth k = absurd (false≢true k)
+mapped_of integer k = absurd (false≢true k)
+mapped_of text k = absurd (false≢true k)
+
+-- a domain's constants differ, and what is no domain has none
+pub constants_differ : (s : Shape) → IsDomain s → Differ (constants s)
+constants_differ (domain cs) h = h.1
+constants_differ (tuple ss) h = absurd h
+constants_differ (fields fs) h = absurd h
+constants_differ truth h = absurd h
+constants_differ integer h = absurd h
+constants_differ text h = absurd h
+constants_differ (set u) h = absurd h
+constants_differ (iset u) h = absurd h
+constants_differ card h = absurd h
+constants_differ (valency u) h = absurd h
+constants_differ (mapping l u) h = absurd h
+
+none_in_fields : (fs : Fields) (t : List ℕ) → Among (constants (as_domain (fields fs))) t → ⊥
+none_in_fields no_field t h = h
+none_in_fields (field_then name u fs) t h = h
+
+not_neither : (a b : Bool) → (a || b) ≡ false → (a ≡ false) × (b ≡ false)
+not_neither true b h = absurd (true≢false h)
+not_neither false b h = (refl, h)
+
+not_true : (b : Bool) → not b ≡ true → b ≡ false
+not_true true h = absurd (false≢true h)
+not_true false h = refl
+
+-- ---- attributes
+
+some_constant : (s : Shape) → IsDomain s → is_empty_domain s ≡ false → 0 < length (constants s)
+some_constant (domain []) h k = absurd (true≢false k)
+some_constant (domain (c ∷ cs)) h k = omega arith
+some_constant (tuple ss) h k = absurd h
+some_constant (fields fs) h k = absurd h
+some_constant truth h k = absurd h
+some_constant integer h k = absurd h
+some_constant text h k = absurd h
+some_constant (set u) h k = absurd h
+some_constant (iset u) h k = absurd h
+some_constant card h k = absurd h
+some_constant (valency u) h k = absurd h
+some_constant (mapping l u) h k = absurd h
+
+both_positive : (m n : ℕ) → 0 < m → 0 < n → 0 < m * n
+both_positive m n h k = omega (arith, mul-lt-mul_of_pos_left {m = 0} {n = n} {k = m} k h)
+
+some_tuple : (ss : Shapes) → AreDomains ss → has_empty_domain ss ≡ false → 0 < product (sizes ss)
+unfolding product
+some_tuple no_shape h k = omega arith
+some_tuple (shape_then s ss) h k = let e = not_neither (is_empty_domain s) (has_empty_domain ss) k in both_positive (length (constants s)) (product (sizes ss)) (some_constant s h.0 e.0) (some_tuple ss h.1 e.1)
+
+pub attribute_of : (s : Shape) → IsType s → is_attribute s ≡ true → IsSmall s × (0 < count s)
+attribute_of (domain cs) h k = (h, some_constant (domain cs) h (not_true (is_empty_domain (domain cs)) k))
+attribute_of (tuple ss) h k = (h, some_tuple ss h.domains (not_true (has_empty_domain ss) k))
+attribute_of (fields fs) h k = absurd (false≢true k)
+attribute_of truth h k = absurd (false≢true k)
+attribute_of integer h k = absurd (false≢true k)
+attribute_of text h k = absurd (false≢true k)
+attribute_of (set u) h k = absurd (false≢true k)
+attribute_of (iset u) h k = absurd (false≢true k)
+attribute_of card h k = absurd (false≢true k)
+attribute_of (valency u) h k = absurd (false≢true k)
+attribute_of (mapping l u) h k = absurd (false≢true k)
+
+-- ---- types
+
+pub names_are : (names : Naming) (ms : Members) → names_of (fields_meaning names ms) ≡ texts (member_names ms)
+names_are names no_member = refl
+names_are names (member_then name at t ms) = ap (λ ts. name.text ∷ ts) (names_are names ms)
+
+module _ (names : Naming) where
+  abbrev pub IsFine : Site → Type 0
+  IsFine site = (f : Fault) → SiteOffends names site f → ⊥
+
+  abbrev pub AreFine : List Site → Type 0
+  AreFine sites = (site : Site) → In sites site → IsFine site
+
+  abbrev pub HaveTypes : List Name → Type 0
+  HaveTypes all = (u : Name) → In all u → IsType (names u.text)
+
+  abbrev pub AllOnce : List (List Name) → Type 0
+  AllOnce all = (ns : List Name) → In all ns → Differ (texts ns)
+
+  pub kind_of : (wanted : Wanted) (at : ℕ) (t : Tree) → IsFine (record { wanted = wanted; at = at; written = t }) → is_of_kind wanted (meaning names t) ≡ true
+  kind_of wanted at t fine = elim (cases_Bool (is_of_kind wanted (meaning names t))) [
+    | inl e ↦ e
+    | inr e ↦ absurd (fine (fault_at causes.WrongKind at) (inl (record { kind = inl e; fault = refl })))
+  ]
+
+  -- ---- tuples
+
+  abbrev row : Trees → List (List ℕ)
+  row ts = in_a_row (constants_of (domains_meaning names ts))
+
+  abbrev own : Tree → List (List ℕ)
+  own t = constants (as_domain (meaning names t))
+
+  abbrev NoneShared : Trees → Type 0
+  NoneShared ts = (before : Trees) (at : ℕ) (field : Tree) (after : Trees) (c : List ℕ) → Split before ts at field after → Among (own field) c → Among (row before) c → ⊥
+
+  record HasField (ts : Trees) (c : List ℕ) : Type 0 where
+    before : Trees
+    at : ℕ
+    field : Tree
+    after : Trees
+    parts : Split before ts at field after
+    has : Among (own field) c
+
+  field_with : (ts : Trees) (c : List ℕ) → Among (row ts) c → HasField ts c
+  field_with no_tree c h = absurd h
+  field_with (tree_then at t ts) c h = elim (among_append (own t) (row ts) c h) [
+    | inl l ↦ record { before = no_tree; at = at; field = t; after = ts; parts = refl; has = l }
+    | inr r ↦ (let w = field_with ts c r in record { before = tree_then at t w.before; at = w.at; field = w.field; after = w.after; parts = (ts, (refl, w.parts)); has = w.has })
+  ]
+
+  apart : (ts : Trees) → NoneShared ts → AreDomains (domains_meaning names ts) → Differ (row ts)
+  apart no_tree none domains = tt
+  apart (tree_then at t ts) none domains =
+      differ_append (own t) (row ts) (constants_differ (as_domain (meaning names t)) domains.0)
+      (apart ts (λ before there field after c split has earlier. none (tree_then at t before) there field after c (ts, (refl, split)) has (among_right (own t) (row before) c earlier)) domains.1)
+      (λ c has later. let w = field_with ts c later in none (tree_then at t w.before) w.at w.field w.after c (ts, (refl, w.parts)) w.has (among_left (own t) (row w.before) c has))
+
+  shares : (earlier : List (List ℕ)) (at : ℕ) (t : Tree) (c : List ℕ) → Among (own t) c → Among earlier c → (f : Fault) × SharesAt names earlier at t f
+  shares earlier at (listed cs) c has before = let w = among_name cs c has in (fault_at causes.Twice w.0.span.start, (w.0, (w.1.0, (subst (Among earlier) (sym w.1.1) before, refl))))
+  shares earlier at (named name) c has before = (fault_at causes.Twice at, (c, (among_in (own (named name)) c has, (before, refl))))
+  shares earlier at (recorded ms) c has before = absurd (none_in_fields (fields_meaning names ms) c has)
+  shares earlier at nothing c has before = absurd has
+  shares earlier at (tupled ts) c has before = absurd has
+  shares earlier at (set_of there t) c has before = absurd has
+  shares earlier at (iset_of there t) c has before = absurd has
+  shares earlier at (valency_of there t) c has before = absurd has
+  shares earlier at (map_of there t further u) c has before = absurd has
+  shares earlier at a_card c has before = absurd has
+  shares earlier at a_bool c has before = absurd has
+  shares earlier at an_int c has before = absurd has
+  shares earlier at a_string c has before = absurd has
+
+  none_shared : (wanted : Wanted) (at : ℕ) (ts : Trees) → IsFine (record { wanted = wanted; at = at; written = tupled ts }) → NoneShared ts
+  none_shared wanted at ts fine before there field after c split has earlier =
+      let w = shares (row before) there field c has earlier in
+      fine w.0 (inr (inr (inr (inr (inl (record { members = ts; is = refl; before = before; at = there; field = field; after = after; parts = split; shares = w.1 }))))))
+
+  few_tuples : (wanted : Wanted) (at : ℕ) (ts : Trees) → IsFine (record { wanted = wanted; at = at; written = tupled ts }) → product (sizes (domains_meaning names ts)) ≤ 1024
+  few_tuples wanted at ts fine = not_more 1024 (product (sizes (domains_meaning names ts))) (λ h. fine _ (inr (inr (inr (inl (record { members = ts; is = refl; many = h; fault = refl }))))))
+
+  some_field : (wanted : Wanted) (at : ℕ) (ts : Trees) → IsFine (record { wanted = wanted; at = at; written = tupled ts }) → domains_meaning names ts ≡ no_shape → ⊥
+  some_field wanted at no_tree fine e = fine (fault_at causes.WrongKind at) (inl (record { kind = inr refl; fault = refl }))
+  some_field wanted at (tree_then there t ts) fine e = cc
+
+  few_constants : (wanted : Wanted) (at : ℕ) (cs : List Name) → IsFine (record { wanted = wanted; at = at; written = listed cs }) → length (texts cs) ≤ 64
+  few_constants wanted at cs fine =
+      let len : length (texts cs) ≡ length cs = length-map cs (λ name. name.text) in
+      let few : length cs ≤ 64 = not_more 64 (length cs) (λ h. fine _ (inr (inl (record { constants = cs; is = refl; many = h; fault = refl })))) in
+      omega (arith, len, few)
+
+  mutual
+    pub right_type : (wanted : Wanted) (at : ℕ) (t : Tree) → IsFine (record { wanted = wanted; at = at; written = t }) → AreFine (inside t) → AllOnce (lists t) → HaveTypes (uses t) → IsType (meaning names t)
+    right_type wanted at nothing fine all once used = (tt, tt)
+    right_type wanted at (listed cs) fine all once used = (few_constants wanted at cs fine, once cs (inl refl))
+    right_type wanted at (recorded ms) fine all once used = (subst Differ (sym (names_are names ms)) (once (member_names ms) (inl refl)), right_members anything ms all (λ ns i. once ns (inr i)) used)
+    right_type wanted at (tupled ts) fine all once used =
+        let domains = right_domains ts all once used in
+        record { some = some_field wanted at ts fine; domains = domains; apart = apart ts (none_shared wanted at ts fine) domains; few = few_tuples wanted at ts fine }
+    right_type wanted at (set_of there t) fine all once used =
+        let here = all _ (inl refl) in
+        small_of (as_domain (meaning names t)) (kind_of a_small there t here) (as_type (meaning names t) (right_type a_small there t here (λ s i. all s (inr i)) once used))
+    right_type wanted at (iset_of there t) fine all once used =
+        let here = all _ (inl refl) in
+        small_of (as_domain (meaning names t)) (kind_of a_small there t here) (as_type (meaning names t) (right_type a_small there t here (λ s i. all s (inr i)) once used))
+    right_type wanted at (valency_of there t) fine all once used =
+        let here = all _ (inl refl) in
+        domain_of (as_domain (meaning names t)) (kind_of a_domain there t here) (as_type (meaning names t) (right_type a_domain there t here (λ s i. all s (inr i)) once used))
+    right_type wanted at (map_of there t further u) fine all once used =
+        let key_sites = record { wanted = a_domain; at = there; written = t } ∷ inside t in
+        let value_sites = record { wanted = a_mapped; at = further; written = u } ∷ inside u in
+        let key = all _ (in_left key_sites value_sites _ (inl refl)) in
+        let value = all _ (in_right key_sites value_sites _ (inl refl)) in (
+          domain_of (as_domain (meaning names t)) (kind_of a_domain there t key)
+              (as_type (meaning names t) (right_type a_domain there t key (λ s i. all s (in_left key_sites value_sites s (inr i))) (λ ns i. once ns (in_left (lists t) (lists u) ns i)) (λ n i. used n (in_left (uses t) (uses u) n i)))),
+          (
+            mapped_of (meaning names u) (kind_of a_mapped further u value),
+            right_type a_mapped further u value (λ s i. all s (in_right key_sites value_sites s (inr i))) (λ ns i. once ns (in_right (lists t) (lists u) ns i)) (λ n i. used n (in_right (uses t) (uses u) n i)),
+          ),
+        )
+    right_type wanted at a_card fine all once used = tt
+    right_type wanted at a_bool fine all once used = tt
+    right_type wanted at an_int fine all once used = tt
+    right_type wanted at a_string fine all once used = tt
+    right_type wanted at (named name) fine all once used = used name (inl refl)
+
+    right_domains : (ts : Trees) → AreFine (inside_trees ts) → AllOnce (lists_in_trees ts) → HaveTypes (uses_in_trees ts) → AreDomains (domains_meaning names ts)
+    right_domains no_tree all once used = tt
+    right_domains (tree_then at t ts) all once used =
+        let sites = record { wanted = a_domain; at = at; written = t } ∷ inside t in
+        let here = all _ (in_left sites (inside_trees ts) _ (inl refl)) in (
+          domain_of (as_domain (meaning names t)) (kind_of a_domain at t here)
+              (as_type (meaning names t) (right_type a_domain at t here (λ s i. all s (in_left sites (inside_trees ts) s (inr i))) (λ ns i. once ns (in_left (lists t) (lists_in_trees ts) ns i)) (λ n i. used n (in_left (uses t) (uses_in_trees ts) n i)))),
+          right_domains ts (λ s i. all s (in_right sites (inside_trees ts) s i)) (λ ns i. once ns (in_right (lists t) (lists_in_trees ts) ns i)) (λ n i. used n (in_right (uses t) (uses_in_trees ts) n i)),
+        )
+
+    pub right_members : (wanted : Wanted) (ms : Members) → AreFine (inside_members wanted ms) → AllOnce (lists_in_members ms) → HaveTypes (uses_in_members ms) → AreTypes (fields_meaning names ms)
+    right_members wanted no_member all once used = tt
+    right_members wanted (member_then name at t ms) all once used =
+        let sites = record { wanted = wanted; at = at; written = t } ∷ inside t in
+        let here = all _ (in_left sites (inside_members wanted ms) _ (inl refl)) in (
+          right_type wanted at t here (λ s i. all s (in_left sites (inside_members wanted ms) s (inr i))) (λ ns i. once ns (in_left (lists t) (lists_in_members ms) ns i)) (λ n i. used n (in_left (uses t) (uses_in_members ms) n i)),
+          right_members wanted ms (λ s i. all s (in_right sites (inside_members wanted ms) s i)) (λ ns i. once ns (in_right (lists t) (lists_in_members ms) ns i)) (λ n i. used n (in_right (uses t) (uses_in_members ms) n i)),
+        )
+
+  pub right_fields : (wanted : Wanted) (ms : Members) → AreFine (inside_members wanted ms) → AllOnce (member_names ms ∷ lists_in_members ms) → HaveTypes (uses_in_members ms) → IsType (fields (fields_meaning names ms))
+  right_fields wanted ms all once used = (subst Differ (sym (names_are names ms)) (once (member_names ms) (inl refl)), right_members wanted ms all (λ ns i. once ns (inr i)) used)
+
+  -- a record of attributes
+  pub right_attributes : (wanted : Wanted) (at : ℕ) (t : Tree) → IsFine (record { wanted = wanted; at = at; written = t }) → AreFine (inside_attributes t) → AllOnce (lists t) → HaveTypes (uses t) → IsType (meaning names t)
+  right_attributes wanted at (recorded ms) fine all once used = right_fields an_attribute ms all once used
+  right_attributes wanted at nothing fine all once used = right_type wanted at nothing fine all once used
+  right_attributes wanted at (listed cs) fine all once used = right_type wanted at (listed cs) fine all once used
+  right_attributes wanted at (tupled ts) fine all once used = right_type wanted at (tupled ts) fine all once used
+  right_attributes wanted at (set_of there t) fine all once used = right_type wanted at (set_of there t) fine all once used
+  right_attributes wanted at (iset_of there t) fine all once used = right_type wanted at (iset_of there t) fine all once used
+  right_attributes wanted at (valency_of there t) fine all once used = right_type wanted at (valency_of there t) fine all once used
+  right_attributes wanted at (map_of there t further u) fine all once used = right_type wanted at (map_of there t further u) fine all once used
+  right_attributes wanted at a_card fine all once used = tt
+  right_attributes wanted at a_bool fine all once used = tt
+  right_attributes wanted at an_int fine all once used = tt
+  right_attributes wanted at a_string fine all once used = tt
+  right_attributes wanted at (named name) fine all once used = used name (inl refl)

@@ -1,0 +1,114 @@
+-- The shapes of types, form by form.
+use Rattle.std.proofs.Common.{◌≡◌, ℕ, ◌+◌, ◌<◌, ◌≤◌, List, [], ◌∷◌, ◌++◌, length, take, get_or, map, add-one, ap, ap₂, sym, ◌∙◌, refl, Bool, arith}
+use Rattle.std.specs.Prelude.{IsTrue, ◌↔◌}
+use Rattle.std.proofs.Math.Seq.{take-suc}
+use Rattle.std.proofs.lemmas.List.{map-append}
+use Rattle.std.proofs.lemmas.Grind.{common_steps}
+use Rattle.xdg_ast.specs.declared.names.Pair.{Pair}
+use Rattle.xdg_ast.specs.declared.types.TypeKind.{TypeKind}
+use Rattle.xdg_ast.specs.declared.types.TypeKind.TheVariants as y
+use Rattle.xdg_domain.specs.declared.types.Ty.{Ty, out-Ty, map-Ty, fold_out-Ty}
+use Rattle.xdg_domain.specs.declared.types.Ty.TheOpen.{Ty-F}
+use Rattle.xdg_domain.specs.declared.types.Ty.TheVariants as t
+use Rattle.xdg_domain.specs.Shapes.{Shape, domain, tuple, truth, integer, text, set, iset, card, valency, mapping, fields, no_field, field_then, shape_then, layer, shape, shapes_of, fields_of}
+use Rattle.xdg_types.specs.Written.{tree}
+use Rattle.xdg_types.specs.Parts.{TypeTerm}
+use Rattle.xdg_types.specs.Meaning.{meaning, domains_meaning, fields_meaning, as_domain}
+use Rattle.xdg_types.specs.Table.{typed}
+use Rattle.xdg_typing.specs.Branches.{domain_meaning, field_meaning}
+use Rattle.xdg_types.proofs.Treed.{trees, members, tree_set, tree_iset, tree_valency, tree_map, tree_tuple, tree_rec}
+
+by_layer : (ty : Ty) (l : Ty-F Ty) → out-Ty ty ≡ l → shape ty ≡ layer (map-Ty Ty Shape shape l)
+by_layer ty l is = fold_out-Ty Shape layer ty ∙ ap (λ m. layer (map-Ty Ty Shape shape m)) is
+
+shape_tuple : (all : List Ty) → shape (t.Tuple all) ≡ tuple (shapes_of (map shape all))
+shape_tuple all = by_layer (t.Tuple all) (Ty-F.Tuple all) (t.outs-Tuple all)
+
+shape_set : (of : Ty) → shape (t.Set of) ≡ set (shape of)
+shape_set of = by_layer (t.Set of) (Ty-F.Set of) (t.outs-Set of)
+
+shape_iset : (of : Ty) → shape (t.ISet of) ≡ iset (shape of)
+shape_iset of = by_layer (t.ISet of) (Ty-F.ISet of) (t.outs-ISet of)
+
+shape_valency : (of : Ty) → shape (t.Valency of) ≡ valency (shape of)
+shape_valency of = by_layer (t.Valency of) (Ty-F.Valency of) (t.outs-Valency of)
+
+shape_map : (key of : Ty) → shape (t.Map key of) ≡ mapping (shape key) (shape of)
+shape_map key of = by_layer (t.Map key of) (Ty-F.Map key of) (t.outs-Map key of)
+
+shape_rec : (all : List (List ℕ × Ty)) → shape (t.Rec all) ≡ fields (fields_of (typed all))
+shape_rec all = by_layer (t.Rec all) (Ty-F.Rec all) (t.outs-Rec all)
+
+-- a record, and whether it has fields
+pub rec_is_empty : (ty : Ty) (all : List (List ℕ × Ty)) (b : Bool) → ty ≡ t.Rec all → (IsTrue b ↔ (all ≡ [])) → IsTrue b ↔ (shape ty ≡ fields no_field)
+rec_is_empty ty all b is told = (
+  λ h. ap shape is ∙ shape_rec all ∙ ap (λ fs. fields (fields_of (typed fs))) (told.0 h),
+  λ h. told.1 (none all (sym (shape_rec all) ∙ sym (ap shape is) ∙ h)),
+) where
+  none : (fs : List (List ℕ × Ty)) → fields (fields_of (typed fs)) ≡ fields no_field → fs ≡ []
+  none [] h = refl
+  none (f ∷ fs) h = absurd cc
+
+-- ---- the forms
+
+module _ (names : List ℕ → Shape) where
+  pub made_set : (kind : TypeKind) (part written : TypeTerm) (inner held : Ty) → kind ≡ y.Set part → written ≡ part → held ≡ inner → shape inner ≡ as_domain (meaning names (tree written.kind)) → shape (t.Set held) ≡ meaning names (tree kind)
+  made_set kind part written inner held is same holds h = shape_set held ∙ ap set (ap shape holds ∙ h ∙ ap (λ (w : TypeTerm). as_domain (meaning names (tree w.kind))) same) ∙ sym (ap (meaning names) (ap tree is ∙ tree_set part))
+
+  pub made_iset : (kind : TypeKind) (part written : TypeTerm) (inner held : Ty) → kind ≡ y.ISet part → written ≡ part → held ≡ inner → shape inner ≡ as_domain (meaning names (tree written.kind)) → shape (t.ISet held) ≡ meaning names (tree kind)
+  made_iset kind part written inner held is same holds h = shape_iset held ∙ ap iset (ap shape holds ∙ h ∙ ap (λ (w : TypeTerm). as_domain (meaning names (tree w.kind))) same) ∙ sym (ap (meaning names) (ap tree is ∙ tree_iset part))
+
+  pub made_valency : (kind : TypeKind) (part written : TypeTerm) (inner held : Ty) → kind ≡ y.Valency part → written ≡ part → held ≡ inner → shape inner ≡ as_domain (meaning names (tree written.kind)) → shape (t.Valency held) ≡ meaning names (tree kind)
+  made_valency kind part written inner held is same holds h = shape_valency held ∙ ap valency (ap shape holds ∙ h ∙ ap (λ (w : TypeTerm). as_domain (meaning names (tree w.kind))) same) ∙ sym (ap (meaning names) (ap tree is ∙ tree_valency part))
+
+  pub made_map : (kind : TypeKind) (key of key_written of_written : TypeTerm) (from to held_from held_to : Ty) → kind ≡ y.Map key of → key_written ≡ key → of_written ≡ of → held_from ≡ from → held_to ≡ to
+      → shape from ≡ as_domain (meaning names (tree key_written.kind)) → shape to ≡ meaning names (tree of_written.kind) → shape (t.Map held_from held_to) ≡ meaning names (tree kind)
+  made_map kind key of key_written of_written from to held_from held_to is same_key same_of holds_from holds_to h k =
+      shape_map held_from held_to
+      ∙ ap₂ mapping (ap shape holds_from ∙ h ∙ ap (λ (w : TypeTerm). as_domain (meaning names (tree w.kind))) same_key) (ap shape holds_to ∙ k ∙ ap (λ (w : TypeTerm). meaning names (tree w.kind)) same_of)
+      ∙ sym (ap (meaning names) (ap tree is ∙ tree_map key of))
+
+  domains_are : (ts : List TypeTerm) → shapes_of (map (domain_meaning names) ts) ≡ domains_meaning names (trees ts)
+  domains_are [] = refl
+  domains_are (t ∷ ts) = ap (shape_then (domain_meaning names t)) (domains_are ts)
+
+  fields_are : (ps : List (Pair TypeTerm)) → fields_of (map (field_meaning names) ps) ≡ fields_meaning names (members ps)
+  fields_are [] = refl
+  fields_are (p ∷ ps) = ap (field_then p.key.text (meaning names (tree p.value.kind))) (fields_are ps)
+
+  pub made_tuple : (kind : TypeKind) (types written : List TypeTerm) (made : List Ty) → kind ≡ y.Tuple types → written ≡ types → map shape made ≡ map (domain_meaning names) written → shape (t.Tuple made) ≡ meaning names (tree kind)
+  made_tuple kind types written made is same h = shape_tuple made ∙ ap (λ ss. tuple (shapes_of ss)) h ∙ ap (λ ts. tuple (shapes_of (map (domain_meaning names) ts))) same ∙ ap tuple (domains_are types) ∙ sym (ap (meaning names) (ap tree is ∙ tree_tuple types))
+
+  pub made_rec : (kind : TypeKind) (all written : List (Pair TypeTerm)) (made : List (List ℕ × Ty)) → kind ≡ y.Rec all → written ≡ all → typed made ≡ map (field_meaning names) written → shape (t.Rec made) ≡ meaning names (tree kind)
+  made_rec kind all written made is same h = shape_rec made ∙ ap (λ fs. fields (fields_of fs)) h ∙ ap (λ ps. fields (fields_of (map (field_meaning names) ps))) same ∙ ap fields (fields_are all) ∙ sym (ap (meaning names) (ap tree is ∙ tree_rec all))
+
+-- ---- where a domain is wanted
+
+pub stays_domain : (s m : Shape) → s ≡ m → (s ≡ fields no_field → ⊥) → s ≡ as_domain m
+stays_domain s m is not_empty = is ∙ kept m (λ e. not_empty (is ∙ e)) where
+  kept : (m : Shape) → (m ≡ fields no_field → ⊥) → m ≡ as_domain m
+  kept (fields no_field) h = absurd (h refl)
+  kept (fields (field_then name u fs)) h = refl
+  kept (domain cs) h = refl
+  kept (tuple ss) h = refl
+  kept truth h = refl
+  kept integer h = refl
+  kept text h = refl
+  kept (set u) h = refl
+  kept (iset u) h = refl
+  kept card h = refl
+  kept (valency u) h = refl
+  kept (mapping k u) h = refl
+
+-- ---- lists, element by element
+
+pub map_more : {A B C : Type 0} (f : B → C) (g : A → C) (xs : List A) (k : ℕ) (x : A) (made next : List B) (y : B) → k < length xs → x ≡ get_or xs k x → f y ≡ g x → next ≡ made ++ y ∷ []
+    → map f made ≡ map g (take k xs) → map f next ≡ map g (take (k + 1) xs)
+map_more f g xs k x made next y within at is grown before =
+    let front : take (k + 1) xs ≡ take k xs ++ x ∷ [] = rw add-one (take-suc xs k x within ∙ ap (λ z. take k xs ++ z ∷ []) (sym at)) in
+    ap (map f) grown ∙ map-append f made (y ∷ []) ∙ ap₂ (λ u z. u ++ z ∷ []) before is ∙ sym (map-append g (take k xs) (x ∷ [])) ∙ sym (ap (map g) front)
+
+pub map_done : {A B C : Type 0} (f : B → C) (g : A → C) (xs : List A) (k : ℕ) (made : List B) → length xs ≤ k → map f made ≡ map g (take k xs) → map f made ≡ map g xs
+map_done f g xs k made ended before = before ∙ ap (map g) (whole k xs ended) where
+  whole : {A : Type 0} (k : ℕ) (xs : List A) → length xs ≤ k → take k xs ≡ xs
+  whole k xs h = grind (arith, common_steps)

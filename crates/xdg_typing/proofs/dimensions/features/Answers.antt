@@ -1,0 +1,9 @@
+use Rattle.std.proofs.Common.{◌≡◌, IfOk, subst}
+use Rattle.xdg_types.specs.Table.{typed}
+use Rattle.xdg_typing.proofs.Dims.{features_are}
+use Rattle.xdg_typing.proofs.dimensions.features.Goals as goal
+
+pub returns-in-Rec : goal.returns-in-Rec
+returns-in-Rec c = λ names knows.
+    subst (λ all. IfOk c.resolve_members.result (λ made. typed made ≡ all)) (features_are names _ c.in-Some.ty.now c.head.result.now c.in-Rec.fields _ c.in-Some.ensures (c.head.ensures names knows) c.in-Rec.is c.as_slice.ensures)
+    (c.resolve_members.ensures names knows)

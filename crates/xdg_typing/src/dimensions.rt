@@ -1,0 +1,219 @@
+//! Dimensions with their types.
+
+ghost use Rattle.std.specs.Prelude.{◌≡◌, map, slice_get, IfOk};
+ghost use Rattle.std.specs.Option.{option_copied};
+ghost use Rattle.xdg_domain.specs.Shapes.{constants, Differ};
+ghost use Rattle.xdg_types.specs.Parts as spec;
+ghost use Rattle.xdg_typing.specs.Branches.{Naming};
+ghost use Rattle.xdg_types.specs.Meaning.{as_domain};
+ghost use Rattle.xdg_type_heads.specs.Heads.{Knows};
+ghost use Rattle.xdg_types.specs.Table.{typed, fields_in, first_meaning, IsDim, AreDims};
+ghost use Rattle.xdg_typing.specs.Used.{found, places};
+
+use crate::resolving::{MOST_LEVELS, MOST_PARTS, copies, resolve_attributes, resolve_members};
+use std::alloc::{AllocError, Global};
+use xdg_ast::{DimPart, DimPartKind, Name, Statement, StatementKind, TypeKind, TypeTerm};
+use xdg_base::{List, Text};
+use xdg_domain::Ty;
+use xdg_index::Index;
+use xdg_type_heads::{Definitions, NOTHING, Weight};
+use xdg_types::DimType;
+
+/// Whether the types of all dimensions together have few enough parts and nest little enough.
+pub(crate) fn is_small<'a>(definitions: &Definitions<'a>, statements: &'a [Statement]) -> bool {
+    let mut all = NOTHING;
+    for statement in statements {
+        if let StatementKind::DefDim(_, parts) = &statement.kind {
+            all = all.beside(weigh_parts(definitions, parts.as_slice()));
+        }
+    }
+    all.parts <= MOST_PARTS && all.levels <= MOST_LEVELS
+}
+
+/// The weight of the types of the labels, attributes and features.
+fn weigh_parts<'a>(definitions: &Definitions<'a>, parts: &'a [DimPart]) -> Weight {
+    let mut all = NOTHING;
+    for part in parts {
+        if let DimPartKind::LabelType(ty)
+        | DimPartKind::AttrsType(ty)
+        | DimPartKind::EntryType(ty) = &part.kind
+        {
+            all = all.beside(definitions.weight(ty));
+        }
+    }
+    all
+}
+
+/// The dimensions, in the order of the text.
+pub(crate) fn resolve_dimensions<'a>(
+    alloc: Global,
+    definitions: &Definitions<'a>,
+    statements: &'a [Statement],
+) -> Result<List<DimType>, AllocError>
+    ensures { (names : Naming) → Knows names definitions.now.names (map (λ head. head.now) definitions.now.heads.items) → IfOk result (λ made. AreDims names (spec.dimensions statements.now) made) }
+{
+    let mut all = List::new(alloc);
+    for statement in statements {
+        match &statement.kind {
+            StatementKind::DefDim(name, parts) => {
+                all.push(resolve_dimension(alloc, definitions, name, parts.as_slice())?)?;
+            }
+            _ => {}
+        }
+    }
+    Ok(all)
+}
+
+/// The dimension with this name and these parts.
+fn resolve_dimension<'a>(
+    alloc: Global,
+    definitions: &Definitions<'a>,
+    name: &Name,
+    parts: &'a [DimPart],
+) -> Result<DimType, AllocError>
+    ensures { (names : Naming) → Knows names definitions.now.names (map (λ head. head.now) definitions.now.heads.items) → IfOk result (λ made. IsDim names (name.now, parts.now) made) }
+{
+    Ok(DimType {
+        name: name.text.copy(alloc)?,
+        labels: labels(alloc, definitions, parts)?,
+        attrs: attributes(alloc, definitions, parts)?,
+        fields: features(alloc, definitions, parts)?,
+    })
+}
+
+/// The labels of a dimension.
+fn labels<'a>(
+    alloc: Global,
+    definitions: &Definitions<'a>,
+    parts: &'a [DimPart],
+) -> Result<List<Text>, AllocError>
+    ensures { (names : Naming) → Knows names definitions.now.names (map (λ head. head.now) definitions.now.heads.items) → IfOk result (λ made. made ≡ constants (as_domain (first_meaning names (spec.in_parts spec.label_type parts.now)))) }
+{
+    let Some(ty) = label_type(parts) else {
+        return Ok(List::new(alloc));
+    };
+    match &definitions.head(ty).kind {
+        TypeKind::Domain(constants) => copies(alloc, constants.as_slice()),
+        _ => Ok(List::new(alloc)),
+    }
+}
+
+/// The attributes of a dimension, with their types.
+fn attributes<'a>(
+    alloc: Global,
+    definitions: &Definitions<'a>,
+    parts: &'a [DimPart],
+) -> Result<List<(Text, Ty)>, AllocError>
+    ensures { (names : Naming) → Knows names definitions.now.names (map (λ head. head.now) definitions.now.heads.items) → IfOk result (λ made. typed made ≡ map (λ one. (one.0, as_domain one.1)) (fields_in (first_meaning names (spec.in_parts spec.attrs_type parts.now)))) }
+{
+    let Some(ty) = attrs_type(parts) else {
+        return Ok(List::new(alloc));
+    };
+    match &definitions.head(ty).kind {
+        TypeKind::Rec(fields) => {
+            resolve_attributes(alloc, definitions, fields.as_slice(), MOST_LEVELS)
+        }
+        _ => Ok(List::new(alloc)),
+    }
+}
+
+/// The features of a dimension, with their types.
+fn features<'a>(
+    alloc: Global,
+    definitions: &Definitions<'a>,
+    parts: &'a [DimPart],
+) -> Result<List<(Text, Ty)>, AllocError>
+    ensures { (names : Naming) → Knows names definitions.now.names (map (λ head. head.now) definitions.now.heads.items) → IfOk result (λ made. typed made ≡ fields_in (first_meaning names (spec.in_parts spec.entry_type parts.now))) }
+{
+    let Some(ty) = entry_type(parts) else {
+        return Ok(List::new(alloc));
+    };
+    match &definitions.head(ty).kind {
+        TypeKind::Rec(fields) => resolve_members(
+            alloc,
+            definitions,
+            fields.as_slice(),
+            MOST_LEVELS,
+        ),
+        _ => Ok(List::new(alloc)),
+    }
+}
+
+/// The type of the labels, if it is given.
+fn label_type<'a>(parts: &'a [DimPart]) -> Option<&'a TypeTerm>
+    ensures { option_copied result ≡ slice_get (spec.in_parts spec.label_type parts.now) 0 }
+{
+    for part in parts {
+        match &part.kind {
+            DimPartKind::LabelType(ty) => return Some(ty),
+            _ => {}
+        }
+    }
+    None
+}
+
+/// The type of the attributes, if it is given.
+fn attrs_type<'a>(parts: &'a [DimPart]) -> Option<&'a TypeTerm>
+    ensures { option_copied result ≡ slice_get (spec.in_parts spec.attrs_type parts.now) 0 }
+{
+    for part in parts {
+        match &part.kind {
+            DimPartKind::AttrsType(ty) => return Some(ty),
+            _ => {}
+        }
+    }
+    None
+}
+
+/// The type of the features, if it is given.
+fn entry_type<'a>(parts: &'a [DimPart]) -> Option<&'a TypeTerm>
+    ensures { option_copied result ≡ slice_get (spec.in_parts spec.entry_type parts.now) 0 }
+{
+    for part in parts {
+        match &part.kind {
+            DimPartKind::EntryType(ty) => return Some(ty),
+            _ => {}
+        }
+    }
+    None
+}
+
+/// The names of dimensions by number.
+pub(crate) fn names_of(alloc: Global, dims: &[DimType]) -> Result<Index, AllocError>
+    requires { Differ (map (λ dim. dim.name) dims.now) }
+    ensures { IfOk result (λ made. made ≡ map (λ dim. dim.name) dims.now) }
+{
+    let mut all = Index::new(alloc);
+    for dim in dims {
+        all.add(alloc, dim.name.as_str())?;
+    }
+    Ok(all)
+}
+
+/// The places of the dimensions that are used, in the order of their uses.
+pub(crate) fn used_places(
+    alloc: Global,
+    known: &Index,
+    statements: &[Statement],
+) -> Result<List<usize>, AllocError>
+    ensures { IfOk result (λ made. made ≡ places known.now (spec.used_names statements.now)) }
+{
+    let mut all = List::new(alloc);
+    for statement in statements {
+        match used_place(known, statement) {
+            Some(place) => all.push(place)?,
+            None => {}
+        }
+    }
+    Ok(all)
+}
+
+/// The place of the dimension that a statement uses.
+fn used_place(known: &Index, statement: &Statement) -> Option<usize>
+    ensures { found result ≡ places known.now (spec.used_name statement.now.kind) }
+{
+    match &statement.kind {
+        StatementKind::UseDim(name) => known.find(name.text.as_str()),
+        _ => None,
+    }
+}

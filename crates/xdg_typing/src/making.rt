@@ -1,0 +1,33 @@
+//! The table of a grammar whose types are right.
+
+ghost use Rattle.std.specs.Prelude.{map, IfOk};
+ghost use Rattle.xdg_types.specs.Table.{IsTableOf};
+ghost use Rattle.xdg_type_heads.specs.Heads.{Knows};
+ghost use Rattle.xdg_typing.specs.Branches.{Naming};
+ghost use Rattle.xdg_typing.specs.Right.{AreRight};
+
+use crate::dimensions::{is_small, names_of, resolve_dimensions, used_places};
+use std::alloc::Global;
+use xdg_ast::Statement;
+use xdg_base::OutOfMemory;
+use xdg_type_heads::Definitions;
+use xdg_types::TypeTable;
+
+/// The dimensions of a grammar with their types. Want of memory where the types together have more than
+/// [`MOST_PARTS`](crate::resolving::MOST_PARTS) parts, names followed, or nest too deep; then nothing is made.
+pub(crate) fn table<'a>(
+    alloc: Global,
+    statements: &'a [Statement],
+    definitions: &Definitions<'a>,
+) -> Result<TypeTable, OutOfMemory>
+    requires known { (names : Naming) × (Knows names definitions.now.names (map (λ head. head.now) definitions.now.heads.items) × AreRight statements.now names) }
+    ensures { IfOk result (λ made. (names : Naming) → Knows names definitions.now.names (map (λ head. head.now) definitions.now.heads.items) → IsTableOf names statements.now made) }
+{
+    if !is_small(definitions, statements) {
+        return Err(OutOfMemory);
+    }
+    let dims = resolve_dimensions(alloc, definitions, statements)?;
+    let known = names_of(alloc, dims.as_slice())?;
+    let used = used_places(alloc, &known, statements)?;
+    Ok(TypeTable::new(dims, used))
+}
