@@ -5,8 +5,6 @@
 mod graph;
 mod meeting;
 mod numbering;
-#[cfg(test)]
-mod tests;
 mod walk;
 
 pub use graph::{Components, Use};

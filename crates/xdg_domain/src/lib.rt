@@ -4,15 +4,9 @@
 
 mod cards;
 mod copying;
-#[cfg(test)]
-mod default_tests;
 mod defaults;
-#[cfg(test)]
-mod join_tests;
 mod joining;
 mod sets;
-#[cfg(test)]
-mod tests;
 mod tuples;
 mod types;
 mod valencies;

@@ -2,7 +2,5 @@
 #![tactic(auto)]
 
 mod filling;
-#[cfg(test)]
-mod tests;
 
 pub use filling::fill;

@@ -12,6 +12,3 @@ mod words;
 
 pub use fitting::fit;
 pub use laws::reads_back;
-
-#[cfg(test)]
-mod tests;

@@ -20,6 +20,3 @@ pub use memory_source::MemSource;
 pub use shelf::Shelf;
 pub use sink::{Sink, write_all};
 pub use source::{Source, read_all};
-
-#[cfg(test)]
-mod tests;

@@ -4,8 +4,6 @@
 mod contents;
 mod pieces;
 mod reading;
-#[cfg(test)]
-mod tests;
 mod token;
 
 pub use contents::{content, value};

@@ -5,8 +5,6 @@ mod cards;
 mod defaults;
 mod listing;
 mod members;
-#[cfg(test)]
-mod tests;
 mod values;
 
 pub use listing::lexicon_text;

@@ -2,8 +2,6 @@
 #![tactic(auto)]
 
 mod set;
-#[cfg(test)]
-mod tests;
 mod walk;
 
 pub use set::NodeSet;

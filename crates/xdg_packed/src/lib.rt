@@ -5,8 +5,6 @@
 mod packed;
 mod spelling;
 mod table;
-#[cfg(test)]
-mod tests;
 mod words;
 
 pub use packed::{EntryView, Packed, pack};

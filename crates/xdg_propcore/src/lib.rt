@@ -10,8 +10,6 @@ mod moved;
 mod pass;
 mod propagator;
 mod running;
-#[cfg(test)]
-mod tests;
 mod wake;
 
 pub use agenda::{Agenda, settle};

@@ -14,6 +14,3 @@ pub use line::Line;
 pub use reading::read;
 pub use stage::Stage;
 pub use texts::{AnalysisText, AttrLine, EdgeLine};
-
-#[cfg(test)]
-mod tests;

@@ -14,8 +14,6 @@ ghost use Rattle.xdg_search.specs.Lawful.{IsLawful};
 ghost use Rattle.xdg_search.specs.declared.Step.{Step};
 
 mod run;
-#[cfg(test)]
-mod tests;
 
 pub use run::{Outcome, collect, numbers_of, solve};
 

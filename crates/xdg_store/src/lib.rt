@@ -10,8 +10,6 @@ mod masks;
 mod rows;
 mod start;
 mod store;
-#[cfg(test)]
-mod tests;
 
 pub use change::Change;
 pub use store::Store;

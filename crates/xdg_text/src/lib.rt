@@ -14,6 +14,3 @@ pub use faults::{fault_line, write_complete, write_first, write_spent, write_usa
 pub use lines::{Word, write_line};
 pub use pushing::push;
 pub use values::write_value;
-
-#[cfg(test)]
-mod tests;

@@ -119,6 +119,3 @@ impl Trail {
         self.records.capacity() - self.records.len()
     }
 }
-
-#[cfg(test)]
-mod tests;

@@ -2,8 +2,6 @@
 #![tactic(auto)]
 
 mod conditions;
-#[cfg(test)]
-mod tests;
 mod verdicts;
 mod words;
 

@@ -3,8 +3,6 @@
 
 mod runs;
 mod segments;
-#[cfg(test)]
-mod tests;
 mod words;
 
 pub use words::words_of;

@@ -1,5 +1,0 @@
-use Rattle.xdg_text.proofs.Small.{small_analysis}
-use Rattle.xdg_text.proofs.tests.a_block_is_pushed.Goals as goal
-
-pub push-requires : goal.push-requires
-push-requires g c = small_analysis _ _ c.in_ok-problem.ensures c.in_ok-analysis.ensures

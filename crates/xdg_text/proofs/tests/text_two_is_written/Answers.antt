@@ -1,5 +1,0 @@
-use Rattle.xdg_text.proofs.Small.{small_analysis}
-use Rattle.xdg_text.proofs.tests.text_two_is_written.Goals as goal
-
-pub write2-requires : goal.write2-requires
-write2-requires g c = small_analysis _ _ c.in_ok-problem.ensures c.in_ok-analysis.ensures
