@@ -1,0 +1,1 @@
+"""What the programs in this folder share: reading what `xdg` prints, laying out arcs, drawing them."""
