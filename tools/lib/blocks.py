@@ -1,5 +1,5 @@
-"""Reads what `xdg parse` and `xdg corpus` print (docs/texts.md): blocks of analyses in text 1 or text 2, last lines,
-the lines `sentence k`, and fault lines.
+"""Reads what `xdg parse` prints (docs/texts.md): blocks of analyses in text 1 or text 2, last lines and fault lines,
+of one run or of many. Before what was printed of a sentence a line `sentence k` may stand.
 
 `events` gives them one after another. `runs` gives what belongs to one sentence together. Whatever has another form
 raises `Bad`, which tells the line. Everything but standard input is left alone.
@@ -86,7 +86,7 @@ class Fault:
 
 @dataclass
 class Sentence:
-    """The line that goes before what `xdg corpus` prints of a sentence."""
+    """The line that tells the number of the sentence of which the next lines speak."""
 
     number: int
     line: int

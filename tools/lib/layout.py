@@ -91,14 +91,12 @@ def panels_of(analysis: Analysis, dimensions: list[str]) -> list[Panel]:
 
 
 def set_levels(arcs: list[Arc]) -> None:
-    """Gives each arc the lowest level, from 1, above the arcs that it encloses, where it overlaps no other."""
+    """Gives each arc, shorter ones first, the lowest level, from 1, on which it overlaps no other. So it lies above the
+    arcs that it encloses: on each level below one of these stands an arc that overlaps that one, and so this one."""
     done: list[Arc] = []
     for arc in sorted(arcs, key=lambda it: (it.right - it.left, it.left)):
-        inside = [it.level for it in done if arc.left <= it.left and it.right <= arc.right]
         taken = {it.level for it in done if it.left < arc.right and arc.left < it.right}
-        arc.level = 1 + max(inside, default=0)
-        while arc.level in taken:
-            arc.level += 1
+        arc.level = min(set(range(1, len(taken) + 2)) - taken)
         done.append(arc)
 
 
