@@ -1,0 +1,36 @@
+# Completion of xdg for bash: commands, options of the command, and files.
+#
+#     source completions/xdg.bash
+#
+# It serves `./xdg` too, since bash looks for the name behind the last slash.
+
+_xdg_files() {
+    local IFS=$'\n' it
+    COMPREPLY=()
+    for it in $(compgen -f -- "$1"); do
+        if [ -d "$it" ]; then COMPREPLY+=("$it/"); else COMPREPLY+=("$it"); fi
+    done
+    compopt -o filenames 2>/dev/null
+}
+
+_xdg() {
+    local word=${COMP_WORDS[COMP_CWORD]} before=${COMP_WORDS[COMP_CWORD - 1]} options=
+    COMPREPLY=()
+    if [ "$COMP_CWORD" -eq 1 ]; then
+        COMPREPLY=($(compgen -W "parse explain check lexicon print" -- "$word"))
+        return
+    fi
+    case ${COMP_WORDS[1]} in
+        parse) options="--budget --first --segment --text" ;;
+    esac
+    case $before in
+        --text) COMPREPLY=($(compgen -W "1 2" -- "$word")) && return ;;
+        --budget | --first) return ;;
+    esac
+    case $word in
+        -*) COMPREPLY=($(compgen -W "$options" -- "$word")) ;;
+        *) _xdg_files "$word" ;;
+    esac
+}
+
+complete -F _xdg xdg
