@@ -5,17 +5,20 @@
 # It serves `./xdg` too, since bash looks for the name behind the last slash.
 
 _xdg_files() {
-    local IFS=$'\n' it
-    COMPREPLY=()
-    for it in $(compgen -f -- "$1"); do
-        if [ -d "$it" ]; then COMPREPLY+=("$it/"); else COMPREPLY+=("$it"); fi
-    done
+    local IFS=$'\n'
+    COMPREPLY=($(compgen -f -- "$1"))
     compopt -o filenames 2>/dev/null
 }
 
 _xdg() {
     local word=${COMP_WORDS[COMP_CWORD]} before=${COMP_WORDS[COMP_CWORD - 1]} options=
     COMPREPLY=()
+    # bash cuts `--text=1` into three words
+    if [ "$word" = "=" ]; then
+        word=
+    elif [ "$before" = "=" ]; then
+        before=${COMP_WORDS[COMP_CWORD - 2]}
+    fi
     if [ "$COMP_CWORD" -eq 1 ]; then
         COMPREPLY=($(compgen -W "parse explain check lexicon print" -- "$word"))
         return

@@ -43,7 +43,7 @@ def text(x: float, y: float, content: str, size: float, more: str = "", anchor: 
     return f'<text x="{cut(x)}" y="{cut(y)}" font-size="{cut(size)}" fill="{ink}"{side}{more}>{escape(content)}</text>'
 
 
-STYLE = Style(measure=lambda it: text_width(it, SMALL), foot=10, gap=16, beside=BEND + 1, line=0, root=32, whole=False)
+STYLE = Style(measure=lambda it: text_width(it, SMALL), foot=10, gap=16, beside=BEND + 4, line=0, root=32, whole=False)
 
 
 def tip(x: float, y: float) -> str:
@@ -142,6 +142,10 @@ class Page:
 
     def line(self, content: str) -> None:
         self.put([text(0, SMALL, content, SMALL, anchor="start", ink=PALE)], text_width(content, SMALL), SMALL + 12)
+
+    def heading(self, content: str) -> None:
+        title = text(0, HEADING + 10, content, HEADING, ' font-weight="bold"', "start", ACCENT)
+        self.put([title], text_width(content, HEADING), HEADING + 26)
 
     def text(self) -> str:
         """The whole picture."""
