@@ -288,7 +288,10 @@ def char_width(char: str) -> int:
 
 
 def shown(text: str) -> str:
-    """A text as it can be shown in one line: control characters as symbols, a mark that stands first on a ring."""
+    """A text as it can be shown in one line: control characters as symbols, a mark that stands first on a ring, and
+    two quotation marks for the text without characters."""
+    if not text:
+        return '""'
     out = []
     for char in text:
         code = ord(char)
