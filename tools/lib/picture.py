@@ -8,6 +8,7 @@ from lib.layout import Arc, Layout, Panel, Style, panels_of
 WORD, SMALL, TITLE, HEADING = 16, 12, 14, 16  # sizes of letters
 LEVEL, BEND, LEG = 22, 7, 16                  # between two levels, of a rounded corner, under the lowest level
 ROW, MARGIN, BETWEEN = 17, 20, 16             # a line under the words, around the picture, names to words
+BOLD = 1.15                                   # how much wider bold letters are
 PAPER, INK, PALE, ACCENT = "#ffffff", "#1b1b1b", "#5c5c5c", "#0b4f8a"
 FONT = "'DejaVu Sans', Verdana, Arial, Helvetica, 'Noto Sans', 'Noto Sans CJK JP', sans-serif"
 # how wide the characters from space to ~ are in DejaVu Sans, as hundredths of the size of the letters
@@ -103,10 +104,11 @@ class Sheet:
         panels = panels_of(analysis, dimensions)
         words = [shown(it[0]) for it in analysis.words]
         layout = Layout([text_width(it, WORD) for it in words], panels, STYLE)
-        start = max(text_width(name, SMALL) for panel in panels for name, _ in panel.rows) + BETWEEN
+        names = [text_width(name, SMALL) for panel in panels for name, _ in panel.rows]
+        start = max(*names, *(text_width(it.name, TITLE) * BOLD for it in panels)) + BETWEEN
         heading = f"analysis {analysis.number}"
         self.out = [text(0, HEADING, heading, HEADING, ' font-weight="bold"', "start")]
-        self.width = max(start + layout.right, text_width(heading, HEADING), *(text_width(it.name, TITLE) for it in panels))
+        self.width = max(start + layout.right, text_width(heading, HEADING) * BOLD)
         y = HEADING + 12.0
         for panel in panels:
             if panel.name:
@@ -145,7 +147,7 @@ class Page:
 
     def heading(self, content: str) -> None:
         title = text(0, HEADING + 10, content, HEADING, ' font-weight="bold"', "start", ACCENT)
-        self.put([title], text_width(content, HEADING), HEADING + 26)
+        self.put([title], text_width(content, HEADING) * BOLD, HEADING + 26)
 
     def text(self) -> str:
         """The whole picture."""
