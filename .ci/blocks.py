@@ -9,7 +9,7 @@ with `%` are comments. A command is a line that begins with `$ `; where it ends 
 it. What stands below it, up to the next command, is exactly what it prints. A block that is one command and shows
 nothing below it is run, and only has to end with status 0.
 
-The commands run in bash, in a folder of their own with a copy of examples/ and docs/, and with the program as ./xdg. The
+The commands run in bash, in a folder of their own with a copy of examples/, docs/ and tools/, and with the program as ./xdg. The
 blocks of one file share the folder, so that a later one can read what an earlier one wrote. Nothing in the repository is
 written to.
 """
@@ -29,7 +29,7 @@ class Scratch:
 
     def __init__(self, program):
         self.path = tempfile.mkdtemp(prefix="xdg-blocks-")
-        for name in ("examples", "docs"):
+        for name in ("examples", "docs", "tools"):
             shutil.copytree(os.path.join(ROOT, name), os.path.join(self.path, name))
         os.symlink(os.path.abspath(program), os.path.join(self.path, "xdg"))
 
