@@ -1,29 +1,25 @@
-//! Trials of the crates that judge grammars: tests alone.
+//! Trials of what no command shows: tests alone. What a command does is a row of `rows/`.
 #![tactic(auto)]
 
 #[cfg(test)]
-mod arguments;
+mod blocks;
 #[cfg(test)]
-mod checked;
+mod cards;
 #[cfg(test)]
-mod commands;
+mod circles;
 #[cfg(test)]
-mod conditions;
+mod devices;
 #[cfg(test)]
-mod entries;
+mod nodes;
 #[cfg(test)]
-mod expanded;
+mod packing;
 #[cfg(test)]
-mod explained;
+mod searching;
 #[cfg(test)]
-mod grammars;
+mod settling;
 #[cfg(test)]
-mod judged;
+mod storing;
 #[cfg(test)]
-mod parsed;
-#[cfg(test)]
-mod principles;
-#[cfg(test)]
-mod printed;
+mod trails;
 #[cfg(test)]
 mod trees;

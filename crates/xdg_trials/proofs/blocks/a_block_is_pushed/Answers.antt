@@ -1,0 +1,5 @@
+use Rattle.xdg_text.proofs.Small.{small_analysis}
+use Rattle.xdg_trials.proofs.blocks.a_block_is_pushed.Goals as goal
+
+pub push-requires : goal.push-requires
+push-requires g c = small_analysis _ _ c.in_ok-problem.ensures c.in_ok-analysis.ensures
