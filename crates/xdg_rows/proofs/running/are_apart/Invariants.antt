@@ -1,5 +1,5 @@
 -- The files before a later one are apart from each other; those before an earlier one are apart from the later one too.
-use Rattle.std.proofs.Common.{◌≡◌, ◌≢◌, ◌<◌, ◌≤◌, ℕ, length, slice_index_or}
+use Rattle.std.proofs.Common.{◌≢◌, ◌<◌, ℕ, slice_index_or}
 use Rattle.std.specs.String.{string_bytes}
 use Rattle.xdg_rows.proofs.running.are_apart.Given as goal
 
