@@ -2,6 +2,7 @@
 #![tactic(auto)]
 
 ghost use Rattle.std.specs.Prelude.{◌≡◌, ◌≢◌, ◌<◌, ◌≤◌, ◌+◌, ◌-◌, ◌⊎◌, ◌++◌, ◌∷◌, [], ℕ, Bool, true, false, List, Option, Some, None, length, slice_index, take};
+ghost use Rattle.std.specs.Vec.{vec_capacity};
 ghost use Rattle.xdg_listing.specs.Order.{Less, AtMost};
 ghost use Rattle.xdg_listing.specs.Fits.{Fits};
 ghost use Rattle.xdg_listing.specs.Closed.{Closed, NoneAfter, SomeAfter};
@@ -9,7 +10,7 @@ ghost use Rattle.xdg_listing.specs.Passed.{Charges, Finds};
 ghost use Rattle.xdg_listing.specs.Whole.{Whole};
 ghost use Rattle.xdg_search.specs.Problem.{SameProblem};
 ghost use Rattle.xdg_search.specs.Place.{place, Next, Stands};
-ghost use Rattle.xdg_search.specs.Halts.{Halts};
+ghost use Rattle.xdg_search.specs.Halts.{HaltsAt};
 ghost use Rattle.xdg_search.specs.Lawful.{IsLawful};
 ghost use Rattle.xdg_search.specs.declared.Step.{Step};
 
@@ -112,6 +113,7 @@ fn descend<F: Front>(front: &mut F, after: &[u16]) -> u32
     ensures problem { F.problem front.new ≡ F.problem front.old }
     ensures same { SameProblem (F.shape front.old) (F.counted front.old) (F.shape front.new) (F.counted front.new) }
     ensures stands { Stands (F.shape front.old) (F.counted front.old) (F.numbers front.new) }
+    ensures begins { take (length (F.numbers front.new)) after.now ≡ F.numbers front.new }
     ensures next { Next (F.shape front.old) (F.counted front.old) after.now (place (F.numbers front.new) result) }
 {
     for number in after {
@@ -122,11 +124,23 @@ fn descend<F: Front>(front: &mut F, after: &[u16]) -> u32
     0
 }
 
+/// Keeps the numbers of a prefix, whose first ones are the first of those that are kept, and whose last is given.
+fn keep(reached: &mut Vec<u16>, first: usize, last: u16)
+    requires { first < vec_capacity reached.old }
+    ensures items { reached.new.items ≡ take first reached.old.items ++ last ∷ [] }
+    ensures room { vec_capacity reached.new ≡ vec_capacity reached.old }
+{
+    reached.truncate(first);
+    reached.push_reserved(last);
+}
+
 /// A search: its front, the value that it tries next behind the front, and what it has charged.
 #[derive(Drop)]
 pub struct Search<F: Front> {
     front: F,
     value: u32,
+    // The numbers of the prefix that was charged last, and before that those of the start. The front is one of its fronts.
+    reached: Vec<u16>,
     charged: u64,
     budget: u64,
     done: Option<Step>,
@@ -134,21 +148,24 @@ pub struct Search<F: Front> {
 
 impl<F: Front> Search<F> {
     /// A search with a budget that goes on right behind a start. The start need not be counted. The empty one comes before
-    /// every prefix.
-    pub fn start(front: F, budget: u64, after: &[u16]) -> Search<F>
+    /// every prefix. It comes in a vector with room for the numbers of each prefix.
+    pub fn start(front: F, budget: u64, after: Vec<u16>) -> Search<F>
         requires empty { F.numbers front ≡ [] }
-        requires fits { Fits (F.shape front) after.now }
+        requires fits { Fits (F.shape front) after.items }
+        requires room { length (F.shape front) ≤ vec_capacity after }
         ensures problem { F.problem result.front ≡ F.problem front }
         ensures same { SameProblem (F.shape front) (F.counted front) (F.shape result.front) (F.counted result.front) }
-        ensures lawful { IsLawful (F.shape result.front) (F.counted result.front) (F.numbers result.front) result.done result.charged result.budget }
-        ensures next { Next (F.shape front) (F.counted front) after.now (place (F.numbers result.front) result.value) }
+        ensures lawful { IsLawful (F.shape result.front) (F.counted result.front) (F.numbers result.front) result.reached.items (vec_capacity result.reached) result.done result.charged result.budget }
+        ensures next { Next (F.shape front) (F.counted front) after.items (place (F.numbers result.front) result.value) }
         ensures fresh { (result.charged ≡ 0) × (result.budget ≡ budget) × (result.done ≡ None) }
+        ensures reached { result.reached.items ≡ after.items }
     {
         let mut front = front;
-        let value = descend(&mut front, after);
+        let value = descend(&mut front, after.as_slice());
         Search {
             front,
             value,
+            reached: after,
             charged: 0,
             budget,
             done: None,
@@ -158,6 +175,8 @@ impl<F: Front> Search<F> {
     /// Goes on to the next whole vector, and charges each counted prefix on the way.
     fn seek(&mut self) -> Step
         requires stands { Stands (F.shape self.old.front) (F.counted self.old.front) (F.numbers self.old.front) }
+        requires begins { take (length (F.numbers self.old.front)) self.old.reached.items ≡ F.numbers self.old.front }
+        requires room { length (F.shape self.old.front) ≤ vec_capacity self.old.reached }
         requires within { self.old.charged ≤ self.old.budget }
         ensures problem { F.problem self.new.front ≡ F.problem self.old.front }
         ensures same { SameProblem (F.shape self.old.front) (F.counted self.old.front) (F.shape self.new.front) (F.counted self.new.front) }
@@ -168,18 +187,20 @@ impl<F: Front> Search<F> {
             Next (F.shape self.old.front) (F.counted self.old.front) from (place (F.numbers self.old.front) self.old.value) →
             Less from (F.numbers self.new.front)
             × Finds (F.shape self.old.front) (F.counted self.old.front) from (F.numbers self.new.front) (self.new.charged - self.old.charged) }
+        ensures reached { result ≡ Step.Found → self.new.reached.items ≡ F.numbers self.new.front }
         ensures whole { result ≡ Step.Found → Whole (F.shape self.old.front) (F.counted self.old.front) (F.numbers self.new.front) }
         ensures end { result ≡ Step.End → (from : List ℕ) →
             Next (F.shape self.old.front) (F.counted self.old.front) from (place (F.numbers self.old.front) self.old.value) →
-            Halts (F.shape self.old.front) (F.counted self.old.front) from (self.new.charged - self.old.charged)
-            (NoneAfter (F.shape self.old.front) (F.counted self.old.front)) }
+            HaltsAt (F.shape self.old.front) (F.counted self.old.front) from (self.new.charged - self.old.charged)
+            (NoneAfter (F.shape self.old.front) (F.counted self.old.front)) self.old.reached.items self.new.reached.items }
         ensures spent { result ≡ Step.Spent → (self.new.charged ≡ self.old.budget) × ((from : List ℕ) →
             Next (F.shape self.old.front) (F.counted self.old.front) from (place (F.numbers self.old.front) self.old.value) →
-            Halts (F.shape self.old.front) (F.counted self.old.front) from (self.new.charged - self.old.charged)
-            (SomeAfter (F.shape self.old.front) (F.counted self.old.front))) }
+            HaltsAt (F.shape self.old.front) (F.counted self.old.front) from (self.new.charged - self.old.charged)
+            (SomeAfter (F.shape self.old.front) (F.counted self.old.front)) self.old.reached.items self.new.reached.items) }
         ensures charged { (self.old.charged ≤ self.new.charged) × (self.new.charged ≤ self.old.budget) }
         ensures forward { result ≡ Step.Found → self.old.charged < self.new.charged }
         ensures kept { (self.new.budget ≡ self.old.budget) × (self.new.done ≡ self.old.done) }
+        ensures room { vec_capacity self.new.reached ≡ vec_capacity self.old.reached }
     {
         'steps: loop {
             match candidate(&self.front, self.value) {
@@ -196,7 +217,9 @@ impl<F: Front> Search<F> {
                         }
                         self.charged += 1;
                         self.value = 0;
-                        if self.front.len() == self.front.decisions() {
+                        let len = self.front.len();
+                        keep(&mut self.reached, len - 1, value);
+                        if len == self.front.decisions() {
                             return Step::Found;
                         }
                     } else {
@@ -210,8 +233,8 @@ impl<F: Front> Search<F> {
     /// Goes on to the next whole vector that is counted. After `End` and `Spent` it answers the same again and changes
     /// nothing.
     pub fn advance(&mut self) -> Step
-        requires lawful { IsLawful (F.shape self.old.front) (F.counted self.old.front) (F.numbers self.old.front) self.old.done self.old.charged self.old.budget }
-        ensures lawful { IsLawful (F.shape self.new.front) (F.counted self.new.front) (F.numbers self.new.front) self.new.done self.new.charged self.new.budget }
+        requires lawful { IsLawful (F.shape self.old.front) (F.counted self.old.front) (F.numbers self.old.front) self.old.reached.items (vec_capacity self.old.reached) self.old.done self.old.charged self.old.budget }
+        ensures lawful { IsLawful (F.shape self.new.front) (F.counted self.new.front) (F.numbers self.new.front) self.new.reached.items (vec_capacity self.new.reached) self.new.done self.new.charged self.new.budget }
         ensures problem { F.problem self.new.front ≡ F.problem self.old.front }
         ensures same { SameProblem (F.shape self.old.front) (F.counted self.old.front) (F.shape self.new.front) (F.counted self.new.front) }
         ensures found { result ≡ Step.Found → (self.old.done ≡ None) × (self.new.done ≡ None) ×
@@ -219,6 +242,8 @@ impl<F: Front> Search<F> {
         ensures whole { result ≡ Step.Found →
             Fits (F.shape self.old.front) (F.numbers self.new.front)
             × Whole (F.shape self.old.front) (F.counted self.old.front) (F.numbers self.new.front) }
+        // What was found is the prefix that was charged last.
+        ensures reached { result ≡ Step.Found → self.new.reached.items ≡ F.numbers self.new.front }
         // Whatever the search went on right behind of, the counted prefixes from there on up to the front are charged, each
         // once, and only the front is whole.
         ensures finds { result ≡ Step.Found → (from : List ℕ) →
@@ -228,13 +253,13 @@ impl<F: Front> Search<F> {
         // Those up to some prefix are charged, none of them whole, and no counted prefix comes after it.
         ensures end { result ≡ Step.End → self.old.done ≡ None → (from : List ℕ) →
             Next (F.shape self.old.front) (F.counted self.old.front) from (place (F.numbers self.old.front) self.old.value) →
-            Halts (F.shape self.old.front) (F.counted self.old.front) from (self.new.charged - self.old.charged)
-            (NoneAfter (F.shape self.old.front) (F.counted self.old.front)) }
+            HaltsAt (F.shape self.old.front) (F.counted self.old.front) from (self.new.charged - self.old.charged)
+            (NoneAfter (F.shape self.old.front) (F.counted self.old.front)) self.old.reached.items self.new.reached.items }
         // The whole budget is charged, for prefixes that are not whole, and another counted prefix comes after them.
         ensures spent { result ≡ Step.Spent → self.old.done ≡ None → (self.new.charged ≡ self.old.budget) × ((from : List ℕ) →
             Next (F.shape self.old.front) (F.counted self.old.front) from (place (F.numbers self.old.front) self.old.value) →
-            Halts (F.shape self.old.front) (F.counted self.old.front) from (self.new.charged - self.old.charged)
-            (SomeAfter (F.shape self.old.front) (F.counted self.old.front))) }
+            HaltsAt (F.shape self.old.front) (F.counted self.old.front) from (self.new.charged - self.old.charged)
+            (SomeAfter (F.shape self.old.front) (F.counted self.old.front)) self.old.reached.items self.new.reached.items) }
         ensures charged { self.old.charged ≤ self.new.charged }
         ensures forward { result ≡ Step.Found → self.old.charged < self.new.charged }
         ensures budget { self.new.budget ≡ self.old.budget }

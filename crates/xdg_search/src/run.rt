@@ -1,6 +1,7 @@
 //! A whole run: the answers of a search from its start on, up to its end, to a wanted number of answers or to its budget.
 
-ghost use Rattle.std.specs.Prelude.{◌≡◌, ◌++◌, ◌∷◌, [], List, IfOk, length, take};
+ghost use Rattle.std.specs.Prelude.{◌≡◌, ◌≤◌, ◌++◌, ◌∷◌, [], List, IfOk, length, take};
+ghost use Rattle.std.specs.Vec.{vec_capacity};
 ghost use Rattle.xdg_listing.specs.Fits.{Fits};
 ghost use Rattle.xdg_listing.specs.Answered.{Answered};
 ghost use Rattle.xdg_search.specs.Outcomes.{IsOutcome};
@@ -34,6 +35,19 @@ pub fn numbers_of<F: Front>(alloc: Global, front: &F) -> Result<Vec<u16>, AllocE
     Ok(numbers)
 }
 
+/// Numbers in a vector that has room for more.
+fn with_room(alloc: Global, room: usize, numbers: &[u16]) -> Result<Vec<u16>, AllocError>
+    requires { length numbers.now ≤ room }
+    ensures items { IfOk result (λ made. made.items ≡ numbers.now) }
+    ensures room { IfOk result (λ made. room ≤ vec_capacity made) }
+{
+    let mut made = Vec::with_capacity(alloc, room)?;
+    for number in numbers {
+        made.push_reserved(*number);
+    }
+    Ok(made)
+}
+
 /// All whole vectors after a start that are counted, or as many as are wanted, or as many as the budget reaches.
 ///
 /// # Errors
@@ -50,7 +64,8 @@ pub fn collect<F: Front + Drop>(
     requires fits { Fits (F.shape front) after.now }
     ensures { IfOk result (λ outcome. Answered outcome.ending (F.shape front) (F.counted front) after.now budget wanted (vectors outcome.answers.items)) }
 {
-    let mut search = Search::start(front, budget, after);
+    let reached = with_room(alloc, front.decisions(), after)?;
+    let mut search = Search::start(front, budget, reached);
     let mut answers = Vec::new(alloc);
     'draw: loop {
         if wanted == Some(answers.len()) {

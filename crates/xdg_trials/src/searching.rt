@@ -111,7 +111,7 @@ fn starts_behind_a_solution(rt: HostRuntime) -> Result<(), Fail> {
 
 #[test]
 fn says_the_end_again(rt: HostRuntime) -> Result<(), Fail> {
-    let mut search = Search::start(start(), 6, &[]);
+    let mut search = Search::start(start(), 6, Vec::with_capacity(rt.alloc(), 3)?);
     assert_eq!(rt; search.advance(), Step::Found);
     assert_eq!(rt; search.advance(), Step::Found);
     assert_eq!(rt; search.advance(), Step::End);

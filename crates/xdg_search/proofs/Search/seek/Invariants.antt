@@ -1,4 +1,5 @@
-use Rattle.std.proofs.Common.{◌≡◌, ℕ, ◌≤◌, ◌-◌, List}
+use Rattle.std.proofs.Common.{◌≡◌, ℕ, ◌≤◌, ◌-◌, List, length, take}
+use Rattle.std.specs.Vec.{vec_capacity}
 use Rattle.xdg_search.specs.Problem.{SameProblem}
 use Rattle.xdg_search.specs.Place.{place, Next, Stands}
 use Rattle.xdg_search.proofs.Passing.{Passes}
@@ -15,8 +16,10 @@ invariant-steps g l =
       stands : Stands shape counted (g.F.Front.numbers l.self.front);
       charged : (l.fn.self.charged ≤ l.self.charged) × (l.self.charged ≤ l.self.budget);
       kept : (l.self.budget ≡ l.fn.self.budget) × (l.self.done ≡ l.fn.self.done);
+      begins : take (length (g.F.Front.numbers l.self.front)) l.self.reached.items ≡ g.F.Front.numbers l.self.front;
+      room : vec_capacity l.self.reached ≡ vec_capacity l.fn.self.reached;
       passed : (from : List ℕ) → Next shape counted from (place (g.F.Front.numbers l.fn.self.front) l.fn.self.value) →
-          Passes shape counted from (place (g.F.Front.numbers l.self.front) l.self.value) (l.self.charged - l.fn.self.charged);
+          Passes shape counted from (place (g.F.Front.numbers l.self.front) l.self.value) (l.self.charged - l.fn.self.charged) l.fn.self.reached.items l.self.reached.items;
     }
 
 abbrev pub decreases-steps : goal.decreases-steps

@@ -1,5 +1,6 @@
 use Rattle.std.proofs.Common.{◌++◌, ◌∷◌, [], arith, length, refl, ap, sym, ◌∙◌, subst, length-append}
 use Rattle.xdg_listing.specs.Endings.{IsBelow}
+use Rattle.xdg_listing.proofs.Fitting.{fits_length}
 use Rattle.xdg_search.specs.Progress.{Progress}
 use Rattle.xdg_search.specs.Vectors.{vectors}
 use Rattle.xdg_search.proofs.Progressing.{progress_found, progress_end, progress_spent}
@@ -29,11 +30,17 @@ returns-in-End g c =
     let b = c.advance.ensures.budget in
     let w = c.advance.ensures.lawful.within in
     let k = i.budget in
-    progress_end _ _ _ _ _ _ _ _ _ c.advance.new.self.charged _ _ _ i.progress i.open_still c.advance.ensures.charged (omega (arith, b, w, k)) (subst (λ m. IsBelow m c.args.wanted) (sym n) (wanted_go_on _ (length c.draw.answers.items) _ (omega arith) i.wanted (sym c.if-eq.ensures))) (c.in-End.ensures.end refl i.open_still)
+    progress_end _ _ _ _ _ _ _ _ _ c.advance.new.self.charged _ _ _ i.progress i.open_still c.advance.ensures.charged (omega (arith, b, w, k)) (subst (λ m. IsBelow m c.args.wanted) (sym n) (wanted_go_on _ (length c.draw.answers.items) _ (omega arith) i.wanted (sym c.if-eq.ensures))) (λ from next. (c.in-End.ensures.end refl i.open_still from next).0)
 
 pub returns-in-Spent : goal.returns-in-Spent
 returns-in-Spent g c =
     let i = c.draw.invariant in
     let n = vectors_length c.draw.answers.items in
     let s = c.in-Spent.ensures.spent refl i.open_still in
-    progress_spent _ _ _ _ _ _ _ _ _ c.advance.new.self.charged _ _ _ i.progress i.open_still c.advance.ensures.charged (s.0 ∙ i.budget) (subst (λ m. IsBelow m c.args.wanted) (sym n) (wanted_go_on _ (length c.draw.answers.items) _ (omega arith) i.wanted (sym c.if-eq.ensures))) s.1
+    progress_spent _ _ _ _ _ _ _ _ _ c.advance.new.self.charged _ _ _ i.progress i.open_still c.advance.ensures.charged (s.0 ∙ i.budget) (subst (λ m. IsBelow m c.args.wanted) (sym n) (wanted_go_on _ (length c.draw.answers.items) _ (omega arith) i.wanted (sym c.if-eq.ensures))) (λ from next. (s.1 from next).0)
+
+pub with_room-requires : goal.with_room-requires
+with_room-requires g c =
+    let k = fits_length (g.F.Front.shape c.args.front) c.args.after.now c.requires.fits in
+    let n = c.decisions.ensures in
+    omega (arith, k, n)

@@ -1,4 +1,5 @@
 use Rattle.std.proofs.Common.{◌≡◌, ◌-◌, length, None}
+use Rattle.std.specs.Vec.{vec_capacity}
 use Rattle.xdg_listing.specs.Endings.{IsUpTo}
 use Rattle.xdg_search.specs.Lawful.{IsLawful}
 use Rattle.xdg_search.specs.Progress.{Progress}
@@ -11,7 +12,7 @@ invariant-draw g l =
     let counted = g.F.Front.counted l.search.front in
     let numbers = g.F.Front.numbers l.search.front in
     record {
-      lawful : IsLawful shape counted numbers l.search.done l.search.charged l.search.budget;
+      lawful : IsLawful shape counted numbers l.search.reached.items (vec_capacity l.search.reached) l.search.done l.search.charged l.search.budget;
       open_still : l.search.done ≡ None;
       budget : l.search.budget ≡ l.budget;
       wanted : IsUpTo (length l.answers.items) l.wanted;
