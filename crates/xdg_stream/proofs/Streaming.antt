@@ -5,8 +5,8 @@ use Rattle.std.proofs.Math.Seq.{take-append_seam}
 use Rattle.xdg_listing.specs.Answered.{Drawn}
 use Rattle.xdg_listing.specs.Fits.{Fits}
 use Rattle.xdg_listing.specs.Listing.{Member}
-use Rattle.xdg_listing.specs.Order.{Less}
-use Rattle.xdg_listing.specs.Passed.{Finds}
+use Rattle.xdg_listing.specs.Order.{AtMost, Less}
+use Rattle.xdg_listing.specs.Passed.{Charges, Finds}
 use Rattle.xdg_listing.specs.Whole.{Whole, is_whole}
 use Rattle.xdg_listing.proofs.Drawing.{drawn_none, drawn_found, drawn_charged}
 use Rattle.xdg_listing.proofs.Joined.{so_far_split}
@@ -20,7 +20,7 @@ use Rattle.xdg_problem.specs.Vectors.{shape, vector}
 use Rattle.xdg_problem.proofs.VectorFacts.{vector_analysis, vector_fits, length_vector}
 use Rattle.xdg_rules.specs.Boxed.{Boxed}
 use Rattle.xdg_rules.proofs.RuleLaws.{boxed_laws}
-use Rattle.xdg_search.specs.Halts.{Halts}
+use Rattle.xdg_search.specs.Halts.{HaltsAt}
 use Rattle.xdg_search.specs.Lawful.{IsLawful}
 use Rattle.xdg_search.specs.Place.{place, Next}
 use Rattle.xdg_search.specs.declared.Step.{Step}
@@ -106,21 +106,20 @@ pub start_fits : (parts : Parts) (after : Option Analysis) → IsProblem parts �
 start_fits parts None problem is = tt
 start_fits parts (Some a) problem is = vector_fits parts a problem is
 
-pub stream_start : (parts : Parts) (start last numbers : List ℕ) (value : ℕ) (done : Option Step) (charged budget : ℕ) → IsProblem parts → IsLawful (shape parts) (Boxed parts) numbers done charged budget → Next (shape parts) (Boxed parts) start (place numbers value) → last ≡ start → charged ≡ 0 → done ≡ None → (is : IsStream (seen parts start budget charged last done) numbers value) × (is.answers ≡ [])
-stream_start parts start last numbers value done charged budget problem lawful next same zero_is none = (
+pub stream_start : (parts : Parts) (start front last numbers : List ℕ) (value room : ℕ) (done : Option Step) (charged budget : ℕ) → IsProblem parts → IsLawful (shape parts) (Boxed parts) numbers front room done charged budget → Next (shape parts) (Boxed parts) start (place numbers value) → front ≡ start → last ≡ start → charged ≡ 0 → done ≡ None → (is : IsStream (seen parts start budget charged front last done) numbers value room) × (is.answers ≡ [])
+stream_start parts start front last numbers value room done charged budget problem lawful next here same zero_is none = (
   record {
     problem = problem;
     lawful = lawful;
     answers = [];
     so_far = record {
-      front = start;
-      drawn = drawn_none (shape parts) (Boxed parts) start charged zero_is;
+      drawn = subst (λ z. Drawn (shape parts) (Boxed parts) start z charged []) (sym here) (drawn_none (shape parts) (Boxed parts) start charged zero_is);
       within = lawful.within;
-      reached = inl same;
-      between = λ a solves l. subst (λ z. Less z (vector parts a)) same l;
-      leaves = subst (λ d. Leaves d parts start charged budget) (sym none) tt;
+      reached = inl (same ∙ sym here);
+      between = λ a solves l. subst (λ z. Less z (vector parts a)) (same ∙ sym here) l;
+      leaves = subst (λ d. Leaves d parts front charged budget) (sym none) tt;
     };
-    next = λ e. next;
+    next = λ e. subst (λ z. Next (shape parts) (Boxed parts) z (place numbers value)) (sym here) next;
   },
   refl,
 )
@@ -128,17 +127,18 @@ stream_start parts start last numbers value done charged budget problem lawful n
 -- ---- a call
 
 -- a stream that has the problem, start and budget of another
-moved : (s t : Streamed) (last : List ℕ) → t.parts ≡ s.parts → t.start ≡ s.start → t.budget ≡ s.budget → t.last ≡ last → t ≡ seen s.parts s.start s.budget t.charged last t.ended
-moved s t last p q b l =
-    ap (λ z. seen z t.start t.budget t.charged t.last t.ended) p
-    ∙ ap (λ z. seen s.parts z t.budget t.charged t.last t.ended) q
-    ∙ ap (λ z. seen s.parts s.start z t.charged t.last t.ended) b
-    ∙ ap (λ z. seen s.parts s.start s.budget t.charged z t.ended) l
+moved : (s t : Streamed) (front last : List ℕ) → t.parts ≡ s.parts → t.start ≡ s.start → t.budget ≡ s.budget → t.front ≡ front → t.last ≡ last → t ≡ seen s.parts s.start s.budget t.charged front last t.ended
+moved s t front last p q b f l =
+    ap (λ z. seen z t.start t.budget t.charged t.front t.last t.ended) p
+    ∙ ap (λ z. seen s.parts z t.budget t.charged t.front t.last t.ended) q
+    ∙ ap (λ z. seen s.parts s.start z t.charged t.front t.last t.ended) b
+    ∙ ap (λ z. seen s.parts s.start s.budget t.charged z t.last t.ended) f
+    ∙ ap (λ z. seen s.parts s.start s.budget t.charged front z t.ended) l
 
-module _ (s : Streamed) (numbers : List ℕ) (value : ℕ) (is : IsStream s numbers value) where
+module _ (s : Streamed) (numbers : List ℕ) (value room : ℕ) (is : IsStream s numbers value room) where
   -- there are no other answers so far
   answered : (answers : List (List ℕ)) → IsCharged s answers → answers ≡ is.answers
-  answered answers so_far = drawn_once s.parts is.problem s.start so_far.front is.so_far.front s.charged answers is.answers so_far.drawn is.so_far.drawn
+  answered answers so_far = drawn_once s.parts is.problem s.start s.front s.front s.charged answers is.answers so_far.drawn is.so_far.drawn
 
   -- the same again
   pub again : (step other : Step) (t : Streamed) → step ≢ steps.Found → s.ended ≡ Some other → step ≡ other → t ≡ s → Advances s step t
@@ -151,7 +151,7 @@ module _ (s : Streamed) (numbers : List ℕ) (value : ℕ) (is : IsStream s numb
     stops = λ e. (ended ∙ ap Some (sym same), refl);
     none = λ e a solves l. (
         let fits = solution_fits s.parts is.problem a solves in
-        subst (λ d. Leaves d s.parts is.so_far.front s.charged s.budget) (ended ∙ ap Some (sym same ∙ e)) is.so_far.leaves (vector s.parts a) fits.0 fits.1.0 (is.so_far.between a solves l)
+        subst (λ d. Leaves d s.parts s.front s.charged s.budget) (ended ∙ ap Some (sym same ∙ e)) is.so_far.leaves (vector s.parts a) fits.0 fits.1.0 (is.so_far.between a solves l)
         );
     repeats = λ more e. (same ∙ some_one other more (sym ended ∙ e), refl);
   })
@@ -163,34 +163,33 @@ module _ (s : Streamed) (numbers : List ℕ) (value : ℕ) (is : IsStream s numb
       some_one : (x y : Step) → Some x ≡ Some y → x ≡ y
       some_one x y e = ap some_of e
 
-  module _ (t : Streamed) (numbers' : List ℕ) (value' : ℕ) (same : t.parts ≡ s.parts) (begun : t.start ≡ s.start) (spends : t.budget ≡ s.budget) (lawful : IsLawful (shape t.parts) (Boxed t.parts) numbers' t.ended t.charged t.budget) (rises : s.charged ≤ t.charged) where
+  module _ (t : Streamed) (numbers' : List ℕ) (value' room' : ℕ) (same : t.parts ≡ s.parts) (begun : t.start ≡ s.start) (spends : t.budget ≡ s.budget) (lawful : IsLawful (shape t.parts) (Boxed t.parts) numbers' t.front room' t.ended t.charged t.budget) (rises : s.charged ≤ t.charged) where
     -- something was found
-    module _ (open_still : s.ended ≡ None) (last_is : t.last ≡ numbers') (goes_on : t.ended ≡ None) (finds : (from : List ℕ) → Next (shape s.parts) (Boxed s.parts) from (place numbers value) → Less from numbers' × Finds (shape s.parts) (Boxed s.parts) from numbers' (t.charged - s.charged)) where
+    module _ (open_still : s.ended ≡ None) (front_is : t.front ≡ numbers') (last_is : t.last ≡ numbers') (goes_on : t.ended ≡ None) (finds : (from : List ℕ) → Next (shape s.parts) (Boxed s.parts) from (place numbers value) → Less from numbers' × Finds (shape s.parts) (Boxed s.parts) from numbers' (t.charged - s.charged)) where
       later : Streamed
-      later = seen s.parts s.start s.budget t.charged numbers' t.ended
+      later = seen s.parts s.start s.budget t.charged numbers' numbers' t.ended
 
       path : t ≡ later
       unfolding later
-      path = moved s t numbers' same begun spends last_is
+      path = moved s t numbers' numbers' same begun spends front_is last_is
 
       so_far_found : IsCharged later (is.answers ++ numbers' ∷ [])
       unfolding later
       so_far_found =
-          let f = finds is.so_far.front (is.next open_still) in
+          let f = finds s.front (is.next open_still) in
           record {
-            front = numbers';
-            drawn = drawn_found (shape s.parts) (Boxed s.parts) s.start is.so_far.front numbers' s.charged (t.charged - s.charged) t.charged is.answers is.so_far.drawn (inr f.0) f.1 (omega (arith, rises));
+            drawn = drawn_found (shape s.parts) (Boxed s.parts) s.start s.front numbers' s.charged (t.charged - s.charged) t.charged is.answers is.so_far.drawn (inr f.0) f.1 (omega (arith, rises));
             within = (let w = lawful.within in omega (arith, w, spends));
             reached = inl refl;
             between = λ a solves l. l;
             leaves = subst (λ d. Leaves d s.parts numbers' t.charged s.budget) (sym goes_on) tt;
           }
 
-      pub stream_found : Next (shape s.parts) (Boxed s.parts) numbers' (place numbers' value') → IsStream t numbers' value'
+      pub stream_found : Next (shape s.parts) (Boxed s.parts) numbers' (place numbers' value') → IsStream t numbers' value' room'
       unfolding later so_far_found
-      stream_found next = subst (λ z. IsStream z numbers' value') (sym path) (record {
+      stream_found next = subst (λ z. IsStream z numbers' value' room') (sym path) (record {
         problem = is.problem;
-        lawful = subst (λ z. IsLawful (shape z.parts) (Boxed z.parts) numbers' z.ended z.charged z.budget) path lawful;
+        lawful = subst (λ z. IsLawful (shape z.parts) (Boxed z.parts) numbers' z.front room' z.ended z.charged z.budget) path lawful;
         answers = is.answers ++ numbers' ∷ [];
         so_far = so_far_found;
         next = λ e. next;
@@ -198,10 +197,10 @@ module _ (s : Streamed) (numbers : List ℕ) (value : ℕ) (is : IsStream s numb
 
       next_found : Fits (shape s.parts) numbers' → Whole (shape s.parts) (Boxed s.parts) numbers' → IsNext s.parts s.last numbers'
       next_found fits whole =
-          let f = finds is.so_far.front (is.next open_still) in
+          let f = finds s.front (is.next open_still) in
           let laws = boxed_laws s.parts is.problem in
           record {
-            after = at_most_less s.last is.so_far.front numbers' is.so_far.reached f.0;
+            after = at_most_less s.last s.front numbers' is.so_far.reached f.0;
             solution = (laws.whole numbers' fits whole.1).0 whole.0;
             is_vector = vector_analysis s.parts numbers' is.problem fits whole.1;
             least = λ a solves l. at_most_of numbers' (vector s.parts a) (λ before.
@@ -220,7 +219,7 @@ module _ (s : Streamed) (numbers : List ℕ) (value : ℕ) (is : IsStream s numb
         given = (refl, refl, refl);
         charged = λ answers so_far. subst (λ z. IsCharged later (z ++ numbers' ∷ [])) (sym (answered answers so_far)) so_far_found;
         rises = rises;
-        found = λ e. (open_still, goes_on, next_found fits whole);
+        found = λ e. (open_still, goes_on, refl, next_found fits whole);
         costs = λ e. costs;
         stops = λ e. absurd (e refl);
         none = λ e. absurd (end_found (sym e));
@@ -228,39 +227,41 @@ module _ (s : Streamed) (numbers : List ℕ) (value : ℕ) (is : IsStream s numb
       })
 
     -- nothing was found
-    module _ (open_still : s.ended ≡ None) (step : Step) (different : step ≢ steps.Found) (last_is : t.last ≡ s.last) (stopped : t.ended ≡ Some step) (Rest : List ℕ → Type 0) (halts : (from : List ℕ) → Next (shape s.parts) (Boxed s.parts) from (place numbers value) → Halts (shape s.parts) (Boxed s.parts) from (t.charged - s.charged) Rest) (leaves : (p : List ℕ) → Rest p → Leaves (Some step) s.parts p t.charged s.budget) where
+    module _ (open_still : s.ended ≡ None) (step : Step) (different : step ≢ steps.Found) (last_is : t.last ≡ s.last) (stopped : t.ended ≡ Some step) (Rest : List ℕ → Type 0) (halts : (from : List ℕ) → Next (shape s.parts) (Boxed s.parts) from (place numbers value) → HaltsAt (shape s.parts) (Boxed s.parts) from (t.charged - s.charged) Rest s.front t.front) (leaves : (p : List ℕ) → Rest p → Leaves (Some step) s.parts p t.charged s.budget) where
       ended : Streamed
-      ended = seen s.parts s.start s.budget t.charged s.last t.ended
+      ended = seen s.parts s.start s.budget t.charged t.front s.last t.ended
 
       route : t ≡ ended
       unfolding ended
-      route = moved s t s.last same begun spends last_is
+      route = moved s t t.front s.last same begun spends refl last_is
 
       so_far_stopped : IsCharged ended is.answers
       unfolding ended
       so_far_stopped =
-          let h = halts is.so_far.front (is.next open_still) in
+          let both = halts s.front (is.next open_still) in
+          let here = both.1 refl in
+          let forward : AtMost s.front t.front = subst (AtMost s.front) here both.0.forward in
+          let charges : Charges (shape s.parts) (Boxed s.parts) s.front t.front (t.charged - s.charged) = subst (λ z. Charges (shape s.parts) (Boxed s.parts) s.front z (t.charged - s.charged)) here both.0.charges in
           record {
-            front = h.to;
-            drawn = drawn_charged (shape s.parts) (Boxed s.parts) s.start is.so_far.front h.to s.charged (t.charged - s.charged) t.charged is.answers is.so_far.drawn h.forward h.charges (omega (arith, rises));
+            drawn = drawn_charged (shape s.parts) (Boxed s.parts) s.start s.front t.front s.charged (t.charged - s.charged) t.charged is.answers is.so_far.drawn forward charges (omega (arith, rises));
             within = (let w = lawful.within in omega (arith, w, spends));
-            reached = at_most_transitive s.last is.so_far.front h.to is.so_far.reached h.forward;
+            reached = at_most_transitive s.last s.front t.front is.so_far.reached forward;
             between = λ a solves l. (
                 let x : List ℕ = vector s.parts a in
                 let own = solution_fits s.parts is.problem a solves in
-                elim (less_or h.to x) [
+                elim (less_or t.front x) [
                   | inl beyond ↦ beyond
-                  | inr before ↦ absurd (none_whole (shape s.parts) x h.charges.passed h.charges.none own.1.1 (h.charges.listing.all x own.0 (own.1.0, not_less x h.to before) (is.so_far.between a solves l)))
+                  | inr before ↦ absurd (none_whole (shape s.parts) x charges.passed charges.none own.1.1 (charges.listing.all x own.0 (own.1.0, not_less x t.front before) (is.so_far.between a solves l)))
                 ]
                 );
-            leaves = subst (λ d. Leaves d s.parts h.to t.charged s.budget) (sym stopped) (leaves h.to h.rest);
+            leaves = subst (λ d. Leaves d s.parts t.front t.charged s.budget) (sym stopped) (leaves t.front (subst Rest here both.0.rest));
           }
 
-      pub stream_stopped : IsStream t numbers' value'
+      pub stream_stopped : IsStream t numbers' value' room'
       unfolding ended
-      stream_stopped = subst (λ z. IsStream z numbers' value') (sym route) (record {
+      stream_stopped = subst (λ z. IsStream z numbers' value' room') (sym route) (record {
         problem = is.problem;
-        lawful = subst (λ z. IsLawful (shape z.parts) (Boxed z.parts) numbers' z.ended z.charged z.budget) route lawful;
+        lawful = subst (λ z. IsLawful (shape z.parts) (Boxed z.parts) numbers' z.front room' z.ended z.charged z.budget) route lawful;
         answers = is.answers;
         so_far = so_far_stopped;
         next = λ e. absurd (some_none step (sym stopped ∙ e));
@@ -277,13 +278,13 @@ module _ (s : Streamed) (numbers : List ℕ) (value : ℕ) (is : IsStream s numb
         stops = λ e. (stopped, refl);
         none = λ e a solves l. (
             let own = solution_fits s.parts is.problem a solves in
-            subst (λ d. Leaves d s.parts so_far_stopped.front t.charged s.budget) (stopped ∙ ap Some e) so_far_stopped.leaves (vector s.parts a) own.0 own.1.0 (so_far_stopped.between a solves l)
+            subst (λ d. Leaves d s.parts t.front t.charged s.budget) (stopped ∙ ap Some e) so_far_stopped.leaves (vector s.parts a) own.0 own.1.0 (so_far_stopped.between a solves l)
             );
         repeats = λ other e. absurd (some_none other (sym e ∙ open_still));
       })
 
     -- a call that found nothing, be it the first or the same again
-    pub ended_call : (step : Step) → step ≢ steps.Found → t.last ≡ s.last → t.ended ≡ Some step → (Rest : List ℕ → Type 0) → (s.ended ≡ None → (from : List ℕ) → Next (shape s.parts) (Boxed s.parts) from (place numbers value) → Halts (shape s.parts) (Boxed s.parts) from (t.charged - s.charged) Rest) → (s.ended ≡ None → (p : List ℕ) → Rest p → Leaves (Some step) s.parts p t.charged s.budget) → ((other : Step) → s.ended ≡ Some other → (step ≡ other) × (t ≡ s) × IsStream t numbers' value') → IsStream t numbers' value' × Advances s step t
+    pub ended_call : (step : Step) → step ≢ steps.Found → t.last ≡ s.last → t.ended ≡ Some step → (Rest : List ℕ → Type 0) → (s.ended ≡ None → (from : List ℕ) → Next (shape s.parts) (Boxed s.parts) from (place numbers value) → HaltsAt (shape s.parts) (Boxed s.parts) from (t.charged - s.charged) Rest s.front t.front) → (s.ended ≡ None → (p : List ℕ) → Rest p → Leaves (Some step) s.parts p t.charged s.budget) → ((other : Step) → s.ended ≡ Some other → (step ≡ other) × (t ≡ s) × IsStream t numbers' value' room') → IsStream t numbers' value' room' × Advances s step t
     ended_call step different last_is stopped Rest halts leaves repeats = elim (cases_done s.ended) [
       | inl none ↦ (stream_stopped none step different last_is stopped Rest (halts none) (leaves none), stopped_advances none step different last_is stopped Rest (halts none) (leaves none))
       | inr some ↦ (let r = repeats some.0 some.1 in (r.2, again step some.0 t different some.1 r.0 r.1))

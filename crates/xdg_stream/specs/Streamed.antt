@@ -16,19 +16,20 @@ use Rattle.xdg_search.specs.Place.{place, Next}
 use Rattle.xdg_search.specs.declared.Step.{Step}
 use Rattle.xdg_search.specs.declared.Step.TheVariants as steps
 
--- the parts of the sentence, the start, the budget, how many boxed prefixes were charged, the vector that was found last, and
--- before that the start, and how it has ended, if it has
+-- the parts of the sentence, the start, the budget, how many boxed prefixes were charged, the one that was charged last, the vector
+-- that was found last, and how the stream has ended, if it has; before anything was charged or found the start stands in both places
 pub record Streamed : Type 0 where
   pub parts : Parts
   pub start : List ℕ
   pub budget : ℕ
   pub charged : ℕ
+  pub front : List ℕ
   pub last : List ℕ
   pub ended : Option Step
 
 -- a stream by these
-abbrev pub seen : Parts → List ℕ → ℕ → ℕ → List ℕ → Option Step → Streamed
-seen parts start budget charged last ended = record { parts = parts; start = start; budget = budget; charged = charged; last = last; ended = ended }
+abbrev pub seen : Parts → List ℕ → ℕ → ℕ → List ℕ → List ℕ → Option Step → Streamed
+seen parts start budget charged front last ended = record { parts = parts; start = start; budget = budget; charged = charged; front = front; last = last; ended = ended }
 
 -- the analysis behind which a stream begins belongs to the sentence, if there is one
 abbrev pub IsStart : Parts → Option Analysis → Type 0
@@ -49,15 +50,14 @@ Leaves (Some steps.End) parts front charged budget = NoneAfter (shape parts) (Bo
 -- the budget is charged, and a boxed prefix is left
 Leaves (Some steps.Spent) parts front charged budget = (charged ≡ budget) × SomeAfter (shape parts) (Boxed parts) front
 
--- Exactly the boxed prefixes after the start and not after a front are charged, each once, within the budget; the answers are
+-- Exactly the boxed prefixes after the start and not after the front are charged, each once, within the budget; the answers are
 -- the whole ones among them, and no solution comes after the last and not after the front.
 pub record IsCharged (s : Streamed) (answers : List (List ℕ)) : Type 0 where
-  pub front : List ℕ
-  pub drawn : Drawn (shape s.parts) (Boxed s.parts) s.start front s.charged answers
+  pub drawn : Drawn (shape s.parts) (Boxed s.parts) s.start s.front s.charged answers
   pub within : s.charged ≤ s.budget
-  pub reached : AtMost s.last front
-  pub between : (a : Analysis) → IsSolution s.parts a → Less s.last (vector s.parts a) → Less front (vector s.parts a)
-  pub leaves : Leaves s.ended s.parts front s.charged s.budget
+  pub reached : AtMost s.last s.front
+  pub between : (a : Analysis) → IsSolution s.parts a → Less s.last (vector s.parts a) → Less s.front (vector s.parts a)
+  pub leaves : Leaves s.ended s.parts s.front s.charged s.budget
 
 -- the vector of the least solution after the last
 pub record IsNext (parts : Parts) (last found : List ℕ) : Type 0 where
@@ -82,8 +82,8 @@ pub record Advances (old : Streamed) (step : Step) (new : Streamed) : Type 0 whe
   -- to the answers so far the one that was found comes, and no other
   pub charged : (answers : List (List ℕ)) → IsCharged old answers → IsCharged new (with_found step answers new.last)
   pub rises : old.charged ≤ new.charged
-  -- the least solution after the last was found
-  pub found : step ≡ steps.Found → (old.ended ≡ None) × (new.ended ≡ None) × IsNext old.parts old.last new.last
+  -- the least solution after the last was found, and it is what was charged last: nothing behind it is charged
+  pub found : step ≡ steps.Found → (old.ended ≡ None) × (new.ended ≡ None) × (new.front ≡ new.last) × IsNext old.parts old.last new.last
   pub costs : step ≡ steps.Found → old.charged < new.charged
   -- the stream has ended so, and the last stays
   pub stops : step ≢ steps.Found → (new.ended ≡ Some step) × (new.last ≡ old.last)
@@ -101,10 +101,10 @@ abbrev pub steps_left : Option Step → ℕ → Count
 steps_left None unspent = at_most (unspent + 1)
 steps_left (Some step) unspent = at_most 0
 
--- what a stream keeps: it goes on right behind the front
-pub record IsStream (s : Streamed) (numbers : List ℕ) (value : ℕ) : Type 0 where
+-- what a stream keeps: it goes on right behind the front, and has room for the numbers of each prefix
+pub record IsStream (s : Streamed) (numbers : List ℕ) (value room : ℕ) : Type 0 where
   pub problem : IsProblem s.parts
-  pub lawful : IsLawful (shape s.parts) (Boxed s.parts) numbers s.ended s.charged s.budget
+  pub lawful : IsLawful (shape s.parts) (Boxed s.parts) numbers s.front room s.ended s.charged s.budget
   pub answers : List (List ℕ)
   pub so_far : IsCharged s answers
-  pub next : s.ended ≡ None → Next (shape s.parts) (Boxed s.parts) so_far.front (place numbers value)
+  pub next : s.ended ≡ None → Next (shape s.parts) (Boxed s.parts) s.front (place numbers value)

@@ -46,7 +46,7 @@ fn candidate_at(candidates: &[EntryNo], place: u16) -> EntryNo
 }
 
 /// Puts the numbers of a vector in the place of others, in the memory that is there.
-fn refill_numbers(held: &mut Vec<u16>, numbers: &[u16])
+pub(crate) fn refill_numbers(held: &mut Vec<u16>, numbers: &[u16])
     requires { length numbers.now ≤ vec_capacity held.old }
     ensures items { held.new.items ≡ numbers.now }
     ensures room { vec_capacity held.new ≡ vec_capacity held.old }

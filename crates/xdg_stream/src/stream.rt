@@ -7,7 +7,7 @@ ghost use Rattle.xdg_propcore.specs.Uses.{AllStandIn};
 ghost use Rattle.xdg_stream.specs.Streamed.{Advances, IsCharged, IsStart, start_vector};
 
 use crate::front::BoxFront;
-use crate::held::Held;
+use crate::held::{Held, refill_numbers};
 use crate::starting::start_of;
 use std::alloc::Global;
 use std::marker::Model;
@@ -31,13 +31,14 @@ pub struct Stream<'a, P: Propagator> {
 impl<'a, P: Propagator> Model for Stream<'a, P> {
     ghost use Rattle.std.specs.Prelude.{◌≡◌};
     ghost use Rattle.std.specs.Option.{is_some};
+    ghost use Rattle.std.specs.Vec.{vec_capacity};
     ghost use Rattle.xdg_stream.specs.Streamed.{IsStream, Streamed, seen};
 
     ghost Value = { Streamed };
 
-    ghost view = { λ s. seen s.search.front.parts s.start.items s.search.budget s.search.charged s.last.numbers s.search.done };
+    ghost view = { λ s. seen s.search.front.parts s.start.items s.search.budget s.search.charged s.search.reached.items s.last.numbers s.search.done };
 
-    ghost invariant = { λ s. IsStream (seen s.search.front.parts s.start.items s.search.budget s.search.charged s.last.numbers s.search.done) s.search.front.numbers s.search.value
+    ghost invariant = { λ s. IsStream (seen s.search.front.parts s.start.items s.search.budget s.search.charged s.search.reached.items s.last.numbers s.search.done) s.search.front.numbers s.search.value (vec_capacity s.search.reached)
         × (s.last.parts ≡ s.search.front.parts)
         × (s.ended ≡ is_some s.search.done) };
 }
@@ -59,15 +60,17 @@ impl<'a, P: Propagator> Stream<'a, P> {
         requires stand { AllStandIn P.stands props.now problem.now }
         requires fits { IsStart problem.now (option_copied after) }
         ensures given { IfOk result (λ stream. (stream.parts ≡ problem.entry.now) × (stream.start ≡ start_vector problem.entry.now (option_copied after.entry)) × (stream.budget ≡ budget)) }
-        ensures fresh { IfOk result (λ stream. (stream.last ≡ stream.start) × (stream.charged ≡ 0) × (stream.ended ≡ None)) }
+        ensures fresh { IfOk result (λ stream. (stream.front ≡ stream.start) × (stream.last ≡ stream.start) × (stream.charged ≡ 0) × (stream.ended ≡ None)) }
         ensures charged { IfOk result (λ stream. IsCharged stream []) }
     {
         let front = BoxFront::start(alloc, problem, props)?;
         let start = start_of(alloc, problem, front.edge_places(), after)?;
         let mut last = Held::start(alloc, problem, front.edge_places())?;
         last.refill(front.edge_places(), start.as_slice());
+        let mut reached = Vec::with_capacity(alloc, problem.decisions() as usize)?;
+        refill_numbers(&mut reached, start.as_slice());
         Ok(Stream {
-            search: Search::start(front, budget, start.as_slice()),
+            search: Search::start(front, budget, reached),
             start,
             last,
             ended: false,

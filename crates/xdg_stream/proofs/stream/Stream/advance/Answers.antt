@@ -1,5 +1,6 @@
 use Rattle.std.proofs.Common.{◌∙◌, ap, refl, subst, sym}
 use Rattle.std.specs.Option.{is_some}
+use Rattle.std.specs.Vec.{vec_capacity}
 use Rattle.xdg_listing.specs.Closed.{NoneAfter, SomeAfter}
 use Rattle.xdg_problem.specs.Vectors.{shape}
 use Rattle.xdg_rules.specs.Boxed.{Boxed}
@@ -14,13 +15,13 @@ invariant_of-self g c =
     let s = c.self.inside.search in
     let n = c.advance-step.new.self in
     let start = c.self.inside.start.items in
-    let old = seen s.front.parts start s.budget s.charged c.self.inside.last.numbers s.done in
-    let new = seen n.front.parts start n.budget n.charged c.refill.new.self.numbers n.done in
+    let old = seen s.front.parts start s.budget s.charged s.reached.items c.self.inside.last.numbers s.done in
+    let new = seen n.front.parts start n.budget n.charged n.reached.items c.refill.new.self.numbers n.done in
     let step = c.advance-step.ensures in
     let found = c.in-Found.ensures.found refl in
     let whole = c.in-Found.ensures.whole refl in
     let items = c.refill.ensures.numbers ∙ c.numbers.ensures ∙ ap (λ (f : Fronted). f.numbers) c.front-front.ensures in (
-      stream_found old s.front.numbers s.value c.self.invariant.0 new n.front.numbers n.value step.problem refl step.budget step.lawful step.charged found.0 items found.1 (c.in-Found.ensures.finds refl) found.2,
+      stream_found old s.front.numbers s.value (vec_capacity s.reached) c.self.invariant.0 new n.front.numbers n.value (vec_capacity n.reached) step.problem refl step.budget step.lawful step.charged found.0 (c.in-Found.ensures.reached refl) items found.1 (c.in-Found.ensures.finds refl) found.2,
       c.refill.ensures.parts ∙ c.self.invariant.1 ∙ sym step.problem,
       c.self.invariant.2 ∙ ap is_some (found.0 ∙ sym found.1),
     )
@@ -30,26 +31,26 @@ returns-in-Found-clause-step g c =
     let s = c.self.inside.search in
     let n = c.advance-step.new.self in
     let start = c.self.inside.start.items in
-    let old = seen s.front.parts start s.budget s.charged c.self.inside.last.numbers s.done in
-    let new = seen n.front.parts start n.budget n.charged c.refill.new.self.numbers n.done in
+    let old = seen s.front.parts start s.budget s.charged s.reached.items c.self.inside.last.numbers s.done in
+    let new = seen n.front.parts start n.budget n.charged n.reached.items c.refill.new.self.numbers n.done in
     let step = c.advance-step.ensures in
     let found = c.in-Found.ensures.found refl in
     let whole = c.in-Found.ensures.whole refl in
     let items = c.refill.ensures.numbers ∙ c.numbers.ensures ∙ ap (λ (f : Fronted). f.numbers) c.front-front.ensures in
-    subst (λ z. Advances z steps.Found new) c.self.view_is (found_advances old s.front.numbers s.value c.self.invariant.0 new n.front.numbers n.value step.problem refl step.budget step.lawful step.charged found.0 items found.1 (c.in-Found.ensures.finds refl) (c.in-Found.ensures.forward refl) whole.0 whole.1)
+    subst (λ z. Advances z steps.Found new) c.self.view_is (found_advances old s.front.numbers s.value (vec_capacity s.reached) c.self.invariant.0 new n.front.numbers n.value (vec_capacity n.reached) step.problem refl step.budget step.lawful step.charged found.0 (c.in-Found.ensures.reached refl) items found.1 (c.in-Found.ensures.finds refl) (c.in-Found.ensures.forward refl) whole.0 whole.1)
 
 pub returns-in-Found-clause-charged : goal.returns-in-Found-clause-charged
 returns-in-Found-clause-charged g c =
     let s = c.self.inside.search in
     let n = c.advance-step.new.self in
     let start = c.self.inside.start.items in
-    let old = seen s.front.parts start s.budget s.charged c.self.inside.last.numbers s.done in
-    let new = seen n.front.parts start n.budget n.charged c.refill.new.self.numbers n.done in
+    let old = seen s.front.parts start s.budget s.charged s.reached.items c.self.inside.last.numbers s.done in
+    let new = seen n.front.parts start n.budget n.charged n.reached.items c.refill.new.self.numbers n.done in
     let step = c.advance-step.ensures in
     let found = c.in-Found.ensures.found refl in
     let whole = c.in-Found.ensures.whole refl in
     let items = c.refill.ensures.numbers ∙ c.numbers.ensures ∙ ap (λ (f : Fronted). f.numbers) c.front-front.ensures in
-    let stream = stream_found old s.front.numbers s.value c.self.invariant.0 new n.front.numbers n.value step.problem refl step.budget step.lawful step.charged found.0 items found.1 (c.in-Found.ensures.finds refl) found.2 in
+    let stream = stream_found old s.front.numbers s.value (vec_capacity s.reached) c.self.invariant.0 new n.front.numbers n.value (vec_capacity n.reached) step.problem refl step.budget step.lawful step.charged found.0 (c.in-Found.ensures.reached refl) items found.1 (c.in-Found.ensures.finds refl) found.2 in
     (stream.answers, stream.so_far)
 
 pub invariant_of-self-in-End : goal.invariant_of-self-in-End
@@ -58,14 +59,14 @@ invariant_of-self-in-End g c =
     let n = c.advance-step.new.self in
     let start = c.self.inside.start.items in
     let last = c.self.inside.last.numbers in
-    let old = seen s.front.parts start s.budget s.charged last s.done in
-    let new = seen n.front.parts start n.budget n.charged last n.done in
+    let old = seen s.front.parts start s.budget s.charged s.reached.items last s.done in
+    let new = seen n.front.parts start n.budget n.charged n.reached.items last n.done in
     let step = c.advance-step.ensures in
     let stops = c.in-End.ensures.stops end_found in
-    let call = ended_call old s.front.numbers s.value c.self.invariant.0 new n.front.numbers n.value step.problem refl step.budget step.lawful step.charged steps.End end_found refl stops (NoneAfter (shape s.front.parts) (Boxed s.front.parts))
+    let call = ended_call old s.front.numbers s.value (vec_capacity s.reached) c.self.invariant.0 new n.front.numbers n.value (vec_capacity n.reached) step.problem refl step.budget step.lawful step.charged steps.End end_found refl stops (NoneAfter (shape s.front.parts) (Boxed s.front.parts))
     (λ none. c.in-End.ensures.end refl none) (λ none p r. r) (λ other e. (
     let again = c.in-End.ensures.repeats other e in
-    (again.0, ap (λ z. seen z.front.parts start z.budget z.charged last z.done) again.1, subst (λ z. IsStream (seen z.front.parts start z.budget z.charged last z.done) z.front.numbers z.value) (sym again.1) c.self.invariant.0)
+    (again.0, ap (λ z. seen z.front.parts start z.budget z.charged z.reached.items last z.done) again.1, subst (λ z. IsStream (seen z.front.parts start z.budget z.charged z.reached.items last z.done) z.front.numbers z.value (vec_capacity z.reached)) (sym again.1) c.self.invariant.0)
     )) in
     (call.0, c.self.invariant.1 ∙ sym step.problem, sym (ap is_some stops))
 
@@ -75,14 +76,14 @@ returns-in-End-clause-step g c =
     let n = c.advance-step.new.self in
     let start = c.self.inside.start.items in
     let last = c.self.inside.last.numbers in
-    let old = seen s.front.parts start s.budget s.charged last s.done in
-    let new = seen n.front.parts start n.budget n.charged last n.done in
+    let old = seen s.front.parts start s.budget s.charged s.reached.items last s.done in
+    let new = seen n.front.parts start n.budget n.charged n.reached.items last n.done in
     let step = c.advance-step.ensures in
     let stops = c.in-End.ensures.stops end_found in
-    let call = ended_call old s.front.numbers s.value c.self.invariant.0 new n.front.numbers n.value step.problem refl step.budget step.lawful step.charged steps.End end_found refl stops (NoneAfter (shape s.front.parts) (Boxed s.front.parts))
+    let call = ended_call old s.front.numbers s.value (vec_capacity s.reached) c.self.invariant.0 new n.front.numbers n.value (vec_capacity n.reached) step.problem refl step.budget step.lawful step.charged steps.End end_found refl stops (NoneAfter (shape s.front.parts) (Boxed s.front.parts))
     (λ none. c.in-End.ensures.end refl none) (λ none p r. r) (λ other e. (
     let again = c.in-End.ensures.repeats other e in
-    (again.0, ap (λ z. seen z.front.parts start z.budget z.charged last z.done) again.1, subst (λ z. IsStream (seen z.front.parts start z.budget z.charged last z.done) z.front.numbers z.value) (sym again.1) c.self.invariant.0)
+    (again.0, ap (λ z. seen z.front.parts start z.budget z.charged z.reached.items last z.done) again.1, subst (λ z. IsStream (seen z.front.parts start z.budget z.charged z.reached.items last z.done) z.front.numbers z.value (vec_capacity z.reached)) (sym again.1) c.self.invariant.0)
     )) in
     subst (λ z. Advances z steps.End new) c.self.view_is call.1
 
@@ -92,14 +93,14 @@ returns-in-End-clause-charged g c =
     let n = c.advance-step.new.self in
     let start = c.self.inside.start.items in
     let last = c.self.inside.last.numbers in
-    let old = seen s.front.parts start s.budget s.charged last s.done in
-    let new = seen n.front.parts start n.budget n.charged last n.done in
+    let old = seen s.front.parts start s.budget s.charged s.reached.items last s.done in
+    let new = seen n.front.parts start n.budget n.charged n.reached.items last n.done in
     let step = c.advance-step.ensures in
     let stops = c.in-End.ensures.stops end_found in
-    let call = ended_call old s.front.numbers s.value c.self.invariant.0 new n.front.numbers n.value step.problem refl step.budget step.lawful step.charged steps.End end_found refl stops (NoneAfter (shape s.front.parts) (Boxed s.front.parts))
+    let call = ended_call old s.front.numbers s.value (vec_capacity s.reached) c.self.invariant.0 new n.front.numbers n.value (vec_capacity n.reached) step.problem refl step.budget step.lawful step.charged steps.End end_found refl stops (NoneAfter (shape s.front.parts) (Boxed s.front.parts))
     (λ none. c.in-End.ensures.end refl none) (λ none p r. r) (λ other e. (
     let again = c.in-End.ensures.repeats other e in
-    (again.0, ap (λ z. seen z.front.parts start z.budget z.charged last z.done) again.1, subst (λ z. IsStream (seen z.front.parts start z.budget z.charged last z.done) z.front.numbers z.value) (sym again.1) c.self.invariant.0)
+    (again.0, ap (λ z. seen z.front.parts start z.budget z.charged z.reached.items last z.done) again.1, subst (λ z. IsStream (seen z.front.parts start z.budget z.charged z.reached.items last z.done) z.front.numbers z.value (vec_capacity z.reached)) (sym again.1) c.self.invariant.0)
     )) in
     (call.0.answers, call.0.so_far)
 
@@ -109,14 +110,14 @@ invariant_of-self-in-Spent g c =
     let n = c.advance-step.new.self in
     let start = c.self.inside.start.items in
     let last = c.self.inside.last.numbers in
-    let old = seen s.front.parts start s.budget s.charged last s.done in
-    let new = seen n.front.parts start n.budget n.charged last n.done in
+    let old = seen s.front.parts start s.budget s.charged s.reached.items last s.done in
+    let new = seen n.front.parts start n.budget n.charged n.reached.items last n.done in
     let step = c.advance-step.ensures in
     let stops = c.in-Spent.ensures.stops spent_found in
-    let call = ended_call old s.front.numbers s.value c.self.invariant.0 new n.front.numbers n.value step.problem refl step.budget step.lawful step.charged steps.Spent spent_found refl stops (SomeAfter (shape s.front.parts) (Boxed s.front.parts))
+    let call = ended_call old s.front.numbers s.value (vec_capacity s.reached) c.self.invariant.0 new n.front.numbers n.value (vec_capacity n.reached) step.problem refl step.budget step.lawful step.charged steps.Spent spent_found refl stops (SomeAfter (shape s.front.parts) (Boxed s.front.parts))
     (λ none. (c.in-Spent.ensures.spent refl none).1) (λ none p r. ((c.in-Spent.ensures.spent refl none).0, r)) (λ other e. (
     let again = c.in-Spent.ensures.repeats other e in
-    (again.0, ap (λ z. seen z.front.parts start z.budget z.charged last z.done) again.1, subst (λ z. IsStream (seen z.front.parts start z.budget z.charged last z.done) z.front.numbers z.value) (sym again.1) c.self.invariant.0)
+    (again.0, ap (λ z. seen z.front.parts start z.budget z.charged z.reached.items last z.done) again.1, subst (λ z. IsStream (seen z.front.parts start z.budget z.charged z.reached.items last z.done) z.front.numbers z.value (vec_capacity z.reached)) (sym again.1) c.self.invariant.0)
     )) in
     (call.0, c.self.invariant.1 ∙ sym step.problem, sym (ap is_some stops))
 
@@ -126,14 +127,14 @@ returns-in-Spent-clause-step g c =
     let n = c.advance-step.new.self in
     let start = c.self.inside.start.items in
     let last = c.self.inside.last.numbers in
-    let old = seen s.front.parts start s.budget s.charged last s.done in
-    let new = seen n.front.parts start n.budget n.charged last n.done in
+    let old = seen s.front.parts start s.budget s.charged s.reached.items last s.done in
+    let new = seen n.front.parts start n.budget n.charged n.reached.items last n.done in
     let step = c.advance-step.ensures in
     let stops = c.in-Spent.ensures.stops spent_found in
-    let call = ended_call old s.front.numbers s.value c.self.invariant.0 new n.front.numbers n.value step.problem refl step.budget step.lawful step.charged steps.Spent spent_found refl stops (SomeAfter (shape s.front.parts) (Boxed s.front.parts))
+    let call = ended_call old s.front.numbers s.value (vec_capacity s.reached) c.self.invariant.0 new n.front.numbers n.value (vec_capacity n.reached) step.problem refl step.budget step.lawful step.charged steps.Spent spent_found refl stops (SomeAfter (shape s.front.parts) (Boxed s.front.parts))
     (λ none. (c.in-Spent.ensures.spent refl none).1) (λ none p r. ((c.in-Spent.ensures.spent refl none).0, r)) (λ other e. (
     let again = c.in-Spent.ensures.repeats other e in
-    (again.0, ap (λ z. seen z.front.parts start z.budget z.charged last z.done) again.1, subst (λ z. IsStream (seen z.front.parts start z.budget z.charged last z.done) z.front.numbers z.value) (sym again.1) c.self.invariant.0)
+    (again.0, ap (λ z. seen z.front.parts start z.budget z.charged z.reached.items last z.done) again.1, subst (λ z. IsStream (seen z.front.parts start z.budget z.charged z.reached.items last z.done) z.front.numbers z.value (vec_capacity z.reached)) (sym again.1) c.self.invariant.0)
     )) in
     subst (λ z. Advances z steps.Spent new) c.self.view_is call.1
 
@@ -143,13 +144,13 @@ returns-in-Spent-clause-charged g c =
     let n = c.advance-step.new.self in
     let start = c.self.inside.start.items in
     let last = c.self.inside.last.numbers in
-    let old = seen s.front.parts start s.budget s.charged last s.done in
-    let new = seen n.front.parts start n.budget n.charged last n.done in
+    let old = seen s.front.parts start s.budget s.charged s.reached.items last s.done in
+    let new = seen n.front.parts start n.budget n.charged n.reached.items last n.done in
     let step = c.advance-step.ensures in
     let stops = c.in-Spent.ensures.stops spent_found in
-    let call = ended_call old s.front.numbers s.value c.self.invariant.0 new n.front.numbers n.value step.problem refl step.budget step.lawful step.charged steps.Spent spent_found refl stops (SomeAfter (shape s.front.parts) (Boxed s.front.parts))
+    let call = ended_call old s.front.numbers s.value (vec_capacity s.reached) c.self.invariant.0 new n.front.numbers n.value (vec_capacity n.reached) step.problem refl step.budget step.lawful step.charged steps.Spent spent_found refl stops (SomeAfter (shape s.front.parts) (Boxed s.front.parts))
     (λ none. (c.in-Spent.ensures.spent refl none).1) (λ none p r. ((c.in-Spent.ensures.spent refl none).0, r)) (λ other e. (
     let again = c.in-Spent.ensures.repeats other e in
-    (again.0, ap (λ z. seen z.front.parts start z.budget z.charged last z.done) again.1, subst (λ z. IsStream (seen z.front.parts start z.budget z.charged last z.done) z.front.numbers z.value) (sym again.1) c.self.invariant.0)
+    (again.0, ap (λ z. seen z.front.parts start z.budget z.charged z.reached.items last z.done) again.1, subst (λ z. IsStream (seen z.front.parts start z.budget z.charged z.reached.items last z.done) z.front.numbers z.value (vec_capacity z.reached)) (sym again.1) c.self.invariant.0)
     )) in
     (call.0.answers, call.0.so_far)

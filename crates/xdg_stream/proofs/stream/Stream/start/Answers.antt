@@ -1,5 +1,6 @@
 use Rattle.std.proofs.Common.{◌∙◌, arith, ap, length, subst, sym}
 use Rattle.std.specs.Option.{is_some, option_copied}
+use Rattle.std.specs.Vec.{vec_capacity}
 use Rattle.xdg_listing.specs.Fits.{Fits}
 use Rattle.xdg_problem.specs.declared.parts.Parts.{Parts}
 use Rattle.xdg_problem.specs.Problems.{IsProblem}
@@ -23,11 +24,29 @@ refill-requires-clause-short g c =
     let same = ap (λ (p : Parts). length (shape p)) c.in_ok-last.ensures.empty.0 in
     omega (arith, short, given, same)
 
+pub refill_numbers-requires : goal.refill_numbers-requires
+refill_numbers-requires g c =
+    let parts = c.args.problem.now in
+    let fits = start_fits parts (option_copied c.args.after) c.in_ok-last.ensures.problem c.requires.fits in
+    let short = fits_short (shape parts) (start_vector parts (option_copied c.args.after)) fits in
+    let given = ap length (c.as_slice-2.ensures.value ∙ c.in_ok-start.ensures) in
+    let room = c.in_ok-reached.ensures.capacity in
+    let n = c.decisions.ensures in
+    omega (arith, short, given, room, n)
+
 pub start-requires-3-clause-fits : goal.start-requires-3-clause-fits
 start-requires-3-clause-fits g c =
     let parts = c.args.problem.now in
     let fits = start_fits parts (option_copied c.args.after) c.in_ok-last.ensures.problem c.requires.fits in
-    subst (λ z. Fits (shape z) c.as_slice-2.result.now) (sym c.in_ok-front.ensures.0) (subst (Fits (shape parts)) (sym (c.as_slice-2.ensures.value ∙ c.in_ok-start.ensures)) fits)
+    subst (λ z. Fits (shape z) c.refill_numbers.new.held.items) (sym c.in_ok-front.ensures.0) (subst (Fits (shape parts)) (sym (c.refill_numbers.ensures.items ∙ c.as_slice-2.ensures.value ∙ c.in_ok-start.ensures)) fits)
+
+pub start-requires-3-clause-room : goal.start-requires-3-clause-room
+start-requires-3-clause-room g c =
+    let room = c.in_ok-reached.ensures.capacity in
+    let same = c.refill_numbers.ensures.room in
+    let n = c.decisions.ensures in
+    let e = ap (λ (p : Parts). length (shape p)) c.in_ok-front.ensures.0 in
+    omega (arith, room, same, n, e)
 
 pub invariant_of-result : goal.invariant_of-result
 invariant_of-result g c =
@@ -35,8 +54,9 @@ invariant_of-result g c =
     let q = c.start-3.ensures.problem in
     let fresh = c.start-3.ensures.fresh in
     let start = c.in_ok-start.start.items in
-    let next = subst (λ z. Next (shape r.front.parts) (Boxed r.front.parts) z (place r.front.numbers r.value)) c.as_slice-2.ensures.value (subst (λ z. Next (shape z) (Boxed z) c.as_slice-2.result.now (place r.front.numbers r.value)) (sym q) c.start-3.ensures.next) in (
-      (stream_start r.front.parts start c.refill.new.self.numbers r.front.numbers r.value r.done r.charged r.budget (subst IsProblem (sym (q ∙ c.in_ok-front.ensures.0)) c.in_ok-last.ensures.problem) c.start-3.ensures.lawful next (c.refill.ensures.numbers ∙ c.as_slice.ensures.value) fresh.0 fresh.2).0,
+    let held = c.refill_numbers.ensures.items ∙ c.as_slice-2.ensures.value in
+    let next = subst (λ z. Next (shape r.front.parts) (Boxed r.front.parts) z (place r.front.numbers r.value)) held (subst (λ z. Next (shape z) (Boxed z) c.refill_numbers.new.held.items (place r.front.numbers r.value)) (sym q) c.start-3.ensures.next) in (
+      (stream_start r.front.parts start r.reached.items c.refill.new.self.numbers r.front.numbers r.value (vec_capacity r.reached) r.done r.charged r.budget (subst IsProblem (sym (q ∙ c.in_ok-front.ensures.0)) c.in_ok-last.ensures.problem) c.start-3.ensures.lawful next (c.start-3.ensures.reached ∙ held) (c.refill.ensures.numbers ∙ c.as_slice.ensures.value) fresh.0 fresh.2).0,
       c.refill.ensures.parts ∙ c.in_ok-last.ensures.empty.0 ∙ sym (q ∙ c.in_ok-front.ensures.0),
       sym (ap is_some fresh.2),
     )
@@ -47,6 +67,7 @@ returns-clause-charged g c =
     let q = c.start-3.ensures.problem in
     let fresh = c.start-3.ensures.fresh in
     let start = c.in_ok-start.start.items in
-    let next = subst (λ z. Next (shape r.front.parts) (Boxed r.front.parts) z (place r.front.numbers r.value)) c.as_slice-2.ensures.value (subst (λ z. Next (shape z) (Boxed z) c.as_slice-2.result.now (place r.front.numbers r.value)) (sym q) c.start-3.ensures.next) in
-    let begun = stream_start r.front.parts start c.refill.new.self.numbers r.front.numbers r.value r.done r.charged r.budget (subst IsProblem (sym (q ∙ c.in_ok-front.ensures.0)) c.in_ok-last.ensures.problem) c.start-3.ensures.lawful next (c.refill.ensures.numbers ∙ c.as_slice.ensures.value) fresh.0 fresh.2 in
-    subst (IsCharged (seen r.front.parts start r.budget r.charged c.refill.new.self.numbers r.done)) begun.1 begun.0.so_far
+    let held = c.refill_numbers.ensures.items ∙ c.as_slice-2.ensures.value in
+    let next = subst (λ z. Next (shape r.front.parts) (Boxed r.front.parts) z (place r.front.numbers r.value)) held (subst (λ z. Next (shape z) (Boxed z) c.refill_numbers.new.held.items (place r.front.numbers r.value)) (sym q) c.start-3.ensures.next) in
+    let begun = stream_start r.front.parts start r.reached.items c.refill.new.self.numbers r.front.numbers r.value (vec_capacity r.reached) r.done r.charged r.budget (subst IsProblem (sym (q ∙ c.in_ok-front.ensures.0)) c.in_ok-last.ensures.problem) c.start-3.ensures.lawful next (c.start-3.ensures.reached ∙ held) (c.refill.ensures.numbers ∙ c.as_slice.ensures.value) fresh.0 fresh.2 in
+    subst (IsCharged (seen r.front.parts start r.budget r.charged r.reached.items c.refill.new.self.numbers r.done)) begun.1 begun.0.so_far
