@@ -6,15 +6,16 @@ use Rattle.std.proofs.lemmas.Slice.Eq.{bytes_eq-Decides}
 use Rattle.clap.specs.Matches.{first_value, found_of, one_text}
 use Rattle.clap.specs.declared.parser.matches.ArgMatches.{ArgMatches}
 use Rattle.xdg_command.specs.Answers.{IsExactly}
-use Rattle.xdg_command.specs.Commands.{HasBudget, HasFirst, HasText, IsCommand, SaysParse}
+use Rattle.xdg_command.specs.Commands.{HasBudget, HasFirst, HasText, IsCommand, SaysParse, SaysResume}
 use Rattle.xdg_command.specs.Found.{Matches}
 use Rattle.xdg_command.specs.Items.{AreItems, Item, has_flag, operands_of}
-use Rattle.xdg_command.specs.Readings.{AreWords, IsOfVerb, IsOneFile, IsParse, IsTwoFiles}
-use Rattle.xdg_command.specs.Syntax.{Table, is_right, one_file, parsed, two_files}
+use Rattle.xdg_command.specs.Readings.{AreWords, IsOfVerb, IsOneFile, IsParse, IsResume, IsTwoFiles}
+use Rattle.xdg_command.specs.Syntax.{Table, is_right, one_file, parsed, resumed, two_files}
 use Rattle.xdg_command.specs.Verbs.{verb_of}
 use Rattle.xdg_command.specs.declared.commands.Command.{Command}
 use Rattle.xdg_command.specs.declared.commands.Command.TheVariants as commands
 use Rattle.xdg_command.specs.declared.commands.ParseOptions.{ParseOptions}
+use Rattle.xdg_command.specs.declared.commands.ResumeOptions.{ResumeOptions}
 use Rattle.xdg_command.specs.declared.commands.TextForm.{TextForm}
 use Rattle.xdg_command.specs.declared.commands.TextForm.TheVariants as forms
 use Rattle.xdg_command.specs.declared.reading.Files.{Files}
@@ -31,6 +32,9 @@ two_files_right = refl
 
 pub parsed_right : is_right parsed ≡ true
 parsed_right = refl
+
+pub resumed_right : is_right resumed ≡ true
+resumed_right = refl
 
 -- ---- words and their items
 
@@ -177,11 +181,66 @@ module _ (words : List (List ℕ)) where
               (λ i. let made : ParseOptions = record { grammar = grammar_is i; budget = budget_is i; first = first_is i; segment = segment_is i; text = text_is i } in made),
         )
 
+  -- ---- `resume`
+
+  pub resume_none : Matches resumed words None → (options : ResumeOptions) → IsResume words options → ⊥
+  resume_none none options w = unsaid resumed words (λ items. SaysResume items options) none (λ items says. few_of 2 _ _ says.files (omega arith)) w
+
+  module _ (found : ArgMatches) (m : Matches resumed words (Some found)) where
+    resume_said : (options : ResumeOptions) → IsResume words options → SaysResume m.0 options
+    resume_said options w = said resumed resumed_right words m.0 (λ items. SaysResume items options) m.1.read w
+
+    pub resume_missing : first_value (found_of found) (codes "grammar") ≡ None → (options : ResumeOptions) → IsResume words options → ⊥
+    resume_missing none options w = first_none (operands_of m.0) options.grammar (options.analysis ∷ []) (sym (m.2.operands 0 (codes "grammar") refl) ∙ none) (resume_said options w).files
+
+    pub start_missing : first_value (found_of found) (codes "analysis") ≡ None → (options : ResumeOptions) → IsResume words options → ⊥
+    start_missing none options w = second_none (operands_of m.0) options.grammar options.analysis (sym (m.2.operands 1 (codes "analysis") refl) ∙ none) (resume_said options w).files
+
+    pub no_budget : ((b : ℕ) → HasBudget (first_value (found_of found) (codes "budget")) b → ⊥) → (options : ResumeOptions) → IsResume words options → ⊥
+    no_budget none options w = none options.budget (subst (λ o. HasBudget o options.budget) (sym (m.2.values (codes "budget") refl)) (resume_said options w).budget)
+
+    pub no_first : ((f : Option ℕ) → HasFirst (first_value (found_of found) (codes "first")) f → ⊥) → (options : ResumeOptions) → IsResume words options → ⊥
+    no_first none options w = none options.first (subst (λ o. HasFirst o options.first) (sym (m.2.values (codes "first") refl)) (resume_said options w).first)
+
+    pub no_text : ((form : TextForm) → HasText (first_value (found_of found) (codes "text")) form → ⊥) → (options : ResumeOptions) → IsResume words options → ⊥
+    no_text none options w = none options.text (subst (λ o. HasText o options.text) (sym (m.2.values (codes "text") refl)) (resume_said options w).text)
+
+    pub resume_found : (options : ResumeOptions) → first_value (found_of found) (codes "grammar") ≡ Some options.grammar → first_value (found_of found) (codes "analysis") ≡ Some options.analysis
+        → IsExactly (HasBudget (first_value (found_of found) (codes "budget"))) (Some options.budget) → IsExactly (HasFirst (first_value (found_of found) (codes "first"))) (Some options.first)
+        → IsExactly (HasText (first_value (found_of found) (codes "text"))) (Some options.text) → IsExactly (IsResume words) (Some options)
+    resume_found options e f budget first text =
+        let is = double (operands_of m.0) options.grammar options.analysis (sym (m.2.operands 0 (codes "grammar") refl) ∙ e) (sym (m.2.operands 1 (codes "analysis") refl) ∙ f) m.1.few in
+        let budget_at = m.2.values (codes "budget") refl in
+        let first_at = m.2.values (codes "first") refl in
+        let text_at = m.2.values (codes "text") refl in (
+          record {
+            items = m.0;
+            read = m.1.read;
+            once = m.1.once;
+            says = record {
+              files = is;
+              budget = subst (λ o. HasBudget o options.budget) budget_at budget.0;
+              first = subst (λ o. HasFirst o options.first) first_at first.0;
+              text = subst (λ o. HasText o options.text) text_at text.0;
+            };
+          },
+          λ other w.
+              let says = resume_said other w in
+              let same : options.grammar ∷ options.analysis ∷ [] ≡ other.grammar ∷ other.analysis ∷ [] = sym is ∙ says.files in
+              let grammar_is : other.grammar ≡ options.grammar = cc in
+              let analysis_is : other.analysis ≡ options.analysis = cc in
+              let budget_is = budget.1 other.budget (subst (λ o. HasBudget o other.budget) (sym budget_at) says.budget) in
+              let first_is = first.1 other.first (subst (λ o. HasFirst o other.first) (sym first_at) says.first) in
+              let text_is = text.1 other.text (subst (λ o. HasText o other.text) (sym text_at) says.text) in
+              (λ i. let made : ResumeOptions = record { grammar = grammar_is i; analysis = analysis_is i; budget = budget_is i; first = first_is i; text = text_is i } in made),
+        )
+
 -- ---- commands
 
 -- the verb of a command
 verb_for : Command → Verb
 verb_for (commands.Parse options) = verbs.Parse
+verb_for (commands.Resume options) = verbs.Resume
 verb_for (commands.Explain grammar analysis) = verbs.Explain
 verb_for (commands.Check grammar) = verbs.Check
 verb_for (commands.Lexicon grammar) = verbs.Lexicon
@@ -190,6 +249,7 @@ verb_for (commands.Print grammar) = verbs.Print
 -- how a verb is spelled
 spelling_of : Verb → List ℕ
 spelling_of verbs.Parse = codes "parse"
+spelling_of verbs.Resume = codes "resume"
 spelling_of verbs.Explain = codes "explain"
 spelling_of verbs.Check = codes "check"
 spelling_of verbs.Lexicon = codes "lexicon"
@@ -198,32 +258,34 @@ spelling_of verbs.Print = codes "print"
 verb_spelled : (verb : Verb) → verb_of (spelling_of verb) ≡ Some verb
 unfolding verb_of spelling_of
 verb_spelled verbs.Parse = refl
+verb_spelled verbs.Resume = refl
 verb_spelled verbs.Explain = refl
 verb_spelled verbs.Check = refl
 verb_spelled verbs.Lexicon = refl
 verb_spelled verbs.Print = refl
 
-chosen : Bool → Bool → Bool → Bool → Bool → Option Verb
-chosen a b c d e =
+chosen : Bool → Bool → Bool → Bool → Bool → Bool → Option Verb
+chosen a g b c d e =
     if a then Some verbs.Parse else
-    (if b then Some verbs.Explain else (if c then Some verbs.Check else (if d then Some verbs.Lexicon else (if e then Some verbs.Print else None))))
+    (if g then Some verbs.Resume else (if b then Some verbs.Explain else (if c then Some verbs.Check else (if d then Some verbs.Lexicon else (if e then Some verbs.Print else None)))))
 
-chosen_spells : (a b c d e : Bool) (word : List ℕ) (verb : Verb) → (a ≡ true → word ≡ codes "parse") → (b ≡ true → word ≡ codes "explain") → (c ≡ true → word ≡ codes "check")
-    → (d ≡ true → word ≡ codes "lexicon") → (e ≡ true → word ≡ codes "print") → chosen a b c d e ≡ Some verb → word ≡ spelling_of verb
+chosen_spells : (a g b c d e : Bool) (word : List ℕ) (verb : Verb) → (a ≡ true → word ≡ codes "parse") → (g ≡ true → word ≡ codes "resume") → (b ≡ true → word ≡ codes "explain") → (c ≡ true → word ≡ codes "check")
+    → (d ≡ true → word ≡ codes "lexicon") → (e ≡ true → word ≡ codes "print") → chosen a g b c d e ≡ Some verb → word ≡ spelling_of verb
 unfolding chosen spelling_of
-chosen_spells true b c d e word verb p q r s t f = let is : verbs.Parse ≡ verb = cc in subst (λ v. word ≡ spelling_of v) is (p refl)
-chosen_spells false true c d e word verb p q r s t f = let is : verbs.Explain ≡ verb = cc in subst (λ v. word ≡ spelling_of v) is (q refl)
-chosen_spells false false true d e word verb p q r s t f = let is : verbs.Check ≡ verb = cc in subst (λ v. word ≡ spelling_of v) is (r refl)
-chosen_spells false false false true e word verb p q r s t f = let is : verbs.Lexicon ≡ verb = cc in subst (λ v. word ≡ spelling_of v) is (s refl)
-chosen_spells false false false false true word verb p q r s t f = let is : verbs.Print ≡ verb = cc in subst (λ v. word ≡ spelling_of v) is (t refl)
-chosen_spells false false false false false word verb p q r s t f = absurd cc
+chosen_spells true g b c d e word verb p h q r s t f = let is : verbs.Parse ≡ verb = cc in subst (λ v. word ≡ spelling_of v) is (p refl)
+chosen_spells false true b c d e word verb p h q r s t f = let is : verbs.Resume ≡ verb = cc in subst (λ v. word ≡ spelling_of v) is (h refl)
+chosen_spells false false true c d e word verb p h q r s t f = let is : verbs.Explain ≡ verb = cc in subst (λ v. word ≡ spelling_of v) is (q refl)
+chosen_spells false false false true d e word verb p h q r s t f = let is : verbs.Check ≡ verb = cc in subst (λ v. word ≡ spelling_of v) is (r refl)
+chosen_spells false false false false true e word verb p h q r s t f = let is : verbs.Lexicon ≡ verb = cc in subst (λ v. word ≡ spelling_of v) is (s refl)
+chosen_spells false false false false false true word verb p h q r s t f = let is : verbs.Print ≡ verb = cc in subst (λ v. word ≡ spelling_of v) is (t refl)
+chosen_spells false false false false false false word verb p h q r s t f = absurd cc
 
 -- a word is the spelling of the verb that it spells
 spells : (word : List ℕ) (verb : Verb) → verb_of word ≡ Some verb → word ≡ spelling_of verb
 unfolding verb_of chosen
 spells word verb e =
-    chosen_spells (bytes_eq word (codes "parse")) (bytes_eq word (codes "explain")) (bytes_eq word (codes "check")) (bytes_eq word (codes "lexicon")) (bytes_eq word (codes "print")) word verb
-    (bytes_eq-Decides word (codes "parse")).0 (bytes_eq-Decides word (codes "explain")).0 (bytes_eq-Decides word (codes "check")).0 (bytes_eq-Decides word (codes "lexicon")).0
+    chosen_spells (bytes_eq word (codes "parse")) (bytes_eq word (codes "resume")) (bytes_eq word (codes "explain")) (bytes_eq word (codes "check")) (bytes_eq word (codes "lexicon")) (bytes_eq word (codes "print")) word verb
+    (bytes_eq-Decides word (codes "parse")).0 (bytes_eq-Decides word (codes "resume")).0 (bytes_eq-Decides word (codes "explain")).0 (bytes_eq-Decides word (codes "check")).0 (bytes_eq-Decides word (codes "lexicon")).0
     (bytes_eq-Decides word (codes "print")).0 e
 
 -- a command is spelled by its verb, which the later words follow
@@ -231,6 +293,7 @@ of_command : (words : List (List ℕ)) (command : Command) → IsCommand words c
     → (later : List (List ℕ)) × (words ≡ spelling_of (verb_for command) ∷ later) × IsOfVerb (verb_for command) later command
 unfolding spelling_of verb_for
 of_command words (commands.Parse options) w = (w.later, w.words_are, record { items = w.items; read = w.read; once = w.once; says = w.says })
+of_command words (commands.Resume options) w = (w.later, w.words_are, record { items = w.items; read = w.read; once = w.once; says = w.says })
 of_command words (commands.Explain grammar analysis) w = (w.later, w.words_are, record { items = w.items; read = w.read; once = w.once; says = w.says })
 of_command words (commands.Check grammar) w = (w.later, w.words_are, record { items = w.items; read = w.read; once = w.once; says = w.says })
 of_command words (commands.Lexicon grammar) w = (w.later, w.words_are, record { items = w.items; read = w.read; once = w.once; says = w.says })
@@ -240,6 +303,7 @@ of_command words (commands.Print grammar) w = (w.later, w.words_are, record { it
 to_command : (verb : Verb) (later : List (List ℕ)) (command : Command) → IsOfVerb verb later command → IsCommand (spelling_of verb ∷ later) command
 unfolding spelling_of
 to_command verbs.Parse later (commands.Parse options) w = record { later = later; items = w.items; words_are = refl; read = w.read; once = w.once; says = w.says }
+to_command verbs.Resume later (commands.Resume options) w = record { later = later; items = w.items; words_are = refl; read = w.read; once = w.once; says = w.says }
 to_command verbs.Explain later (commands.Explain grammar analysis) w = record { later = later; items = w.items; words_are = refl; read = w.read; once = w.once; says = w.says }
 to_command verbs.Check later (commands.Check grammar) w = record { later = later; items = w.items; words_are = refl; read = w.read; once = w.once; says = w.says }
 to_command verbs.Lexicon later (commands.Lexicon grammar) w = record { later = later; items = w.items; words_are = refl; read = w.read; once = w.once; says = w.says }
@@ -304,6 +368,17 @@ one_parse words a b p q =
     let text = one_text_form _ a.text b.text p.says.text says.text in
     (λ i. let made : ParseOptions = record { grammar = grammar i; budget = budget i; first = first i; segment = segment i; text = text i } in made)
 
+one_resume : (words : List (List ℕ)) (a b : ResumeOptions) → IsResume words a → IsResume words b → a ≡ b
+one_resume words a b p q =
+    let says = said resumed resumed_right words p.items (λ items. SaysResume items b) p.read q in
+    let same : a.grammar ∷ a.analysis ∷ [] ≡ b.grammar ∷ b.analysis ∷ [] = sym p.says.files ∙ says.files in
+    let grammar : a.grammar ≡ b.grammar = cc in
+    let analysis : a.analysis ≡ b.analysis = cc in
+    let budget = one_budget _ a.budget b.budget p.says.budget says.budget in
+    let first = one_first _ a.first b.first p.says.first says.first in
+    let text = one_text_form _ a.text b.text p.says.text says.text in
+    (λ i. let made : ResumeOptions = record { grammar = grammar i; analysis = analysis i; budget = budget i; first = first i; text = text i } in made)
+
 one_file_name : (words : List (List ℕ)) (a b : List ℕ) → IsOneFile words a → IsOneFile words b → a ≡ b
 one_file_name words a b p q =
     let same : a ∷ [] ≡ b ∷ [] = sym p.says ∙ said one_file one_file_right words p.items (λ items. operands_of items ≡ b ∷ []) p.read q in
@@ -316,6 +391,7 @@ one_pair words a b p q =
 
 one_of_verb : (verb : Verb) (words : List (List ℕ)) (a b : Command) → IsOfVerb verb words a → IsOfVerb verb words b → a ≡ b
 one_of_verb verbs.Parse words (commands.Parse a) (commands.Parse b) p q = ap (λ o. commands.Parse o) (one_parse words a b p q)
+one_of_verb verbs.Resume words (commands.Resume a) (commands.Resume b) p q = ap (λ o. commands.Resume o) (one_resume words a b p q)
 one_of_verb verbs.Explain words (commands.Explain a c) (commands.Explain b d) p q =
     let same = one_pair words (record { grammar = a; analysis = c }) (record { grammar = b; analysis = d }) p q in
     ap₂ (λ x y. commands.Explain x y) same.0 same.1
@@ -323,6 +399,7 @@ one_of_verb verbs.Check words (commands.Check a) (commands.Check b) p q = ap (λ
 one_of_verb verbs.Lexicon words (commands.Lexicon a) (commands.Lexicon b) p q = ap (λ n. commands.Lexicon n) (one_file_name words a b p q)
 one_of_verb verbs.Print words (commands.Print a) (commands.Print b) p q = ap (λ n. commands.Print n) (one_file_name words a b p q)
 one_of_verb verbs.Parse words (commands.Parse a) b p q = absurd q
+one_of_verb verbs.Resume words (commands.Resume a) b p q = absurd q
 one_of_verb verbs.Explain words (commands.Explain a c) b p q = absurd q
 one_of_verb verbs.Check words (commands.Check a) b p q = absurd q
 one_of_verb verbs.Lexicon words (commands.Lexicon a) b p q = absurd q

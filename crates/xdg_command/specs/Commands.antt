@@ -7,6 +7,7 @@ use Rattle.xdg_command.specs.Items.{Item, AreItems, IsOnce, has_flag, operands_o
 use Rattle.xdg_command.specs.declared.commands.Command.{Command}
 use Rattle.xdg_command.specs.declared.commands.Command.TheVariants as commands
 use Rattle.xdg_command.specs.declared.commands.ParseOptions.{ParseOptions}
+use Rattle.xdg_command.specs.declared.commands.ResumeOptions.{ResumeOptions}
 use Rattle.xdg_command.specs.declared.commands.TextForm.{TextForm}
 use Rattle.xdg_command.specs.declared.commands.TextForm.TheVariants as forms
 
@@ -44,6 +45,7 @@ HasText (Some text) forms.Two = text ≡ codes "2"
 -- how a command is spelled
 abbrev pub spelled : Command → List ℕ
 spelled (commands.Parse options) = codes "parse"
+spelled (commands.Resume options) = codes "resume"
 spelled (commands.Explain grammar analysis) = codes "explain"
 spelled (commands.Check grammar) = codes "check"
 spelled (commands.Lexicon grammar) = codes "lexicon"
@@ -52,6 +54,7 @@ spelled (commands.Print grammar) = codes "print"
 -- the names of a command's options that take a value
 abbrev pub values_of : Command → List (List ℕ)
 values_of (commands.Parse options) = codes "budget" ∷ codes "first" ∷ codes "text" ∷ []
+values_of (commands.Resume options) = codes "budget" ∷ codes "first" ∷ codes "text" ∷ []
 values_of _ = []
 
 -- the names of a command's options that take none
@@ -67,9 +70,17 @@ pub record SaysParse (items : List Item) (options : ParseOptions) : Type 0 where
   pub segment : options.segment ≡ has_flag (codes "segment") items
   pub text : HasText (value_of (codes "text") items) options.text
 
+-- the items of `resume`
+pub record SaysResume (items : List Item) (options : ResumeOptions) : Type 0 where
+  pub files : operands_of items ≡ options.grammar ∷ options.analysis ∷ []
+  pub budget : HasBudget (value_of (codes "budget") items) options.budget
+  pub first : HasFirst (value_of (codes "first") items) options.first
+  pub text : HasText (value_of (codes "text") items) options.text
+
 -- the items are the operands and options of the command
 abbrev pub Says : List Item → Command → Type 0
 Says items (commands.Parse options) = SaysParse items options
+Says items (commands.Resume options) = SaysResume items options
 Says items (commands.Explain grammar analysis) = operands_of items ≡ grammar ∷ analysis ∷ []
 Says items (commands.Check grammar) = operands_of items ≡ grammar ∷ []
 Says items (commands.Lexicon grammar) = operands_of items ≡ grammar ∷ []

@@ -1,10 +1,11 @@
 -- The words after a command's name, by what they say.
 use Rattle.std.specs.Prelude.{◌≡◌, ℕ, List, [], ◌∷◌, codes}
 use Rattle.xdg_command.specs.Items.{Item, AreItems, IsOnce, operands_of}
-use Rattle.xdg_command.specs.Commands.{SaysParse}
+use Rattle.xdg_command.specs.Commands.{SaysParse, SaysResume}
 use Rattle.xdg_command.specs.declared.commands.Command.{Command}
 use Rattle.xdg_command.specs.declared.commands.Command.TheVariants as commands
 use Rattle.xdg_command.specs.declared.commands.ParseOptions.{ParseOptions}
+use Rattle.xdg_command.specs.declared.commands.ResumeOptions.{ResumeOptions}
 use Rattle.xdg_command.specs.declared.reading.Files.{Files}
 use Rattle.xdg_command.specs.declared.reading.Verb.{Verb}
 use Rattle.xdg_command.specs.declared.reading.Verb.TheVariants as verbs
@@ -28,9 +29,14 @@ IsTwoFiles words files = AreWords [] [] words (λ items. operands_of items ≡ f
 abbrev pub IsParse : List (List ℕ) → ParseOptions → Type 0
 IsParse words options = AreWords (codes "budget" ∷ codes "first" ∷ codes "text" ∷ []) (codes "segment" ∷ []) words (λ items. SaysParse items options)
 
+-- what follows `resume`
+abbrev pub IsResume : List (List ℕ) → ResumeOptions → Type 0
+IsResume words options = AreWords (codes "budget" ∷ codes "first" ∷ codes "text" ∷ []) [] words (λ items. SaysResume items options)
+
 -- what follows the name of a command
 abbrev pub IsOfVerb : Verb → List (List ℕ) → Command → Type 0
 IsOfVerb verbs.Parse words (commands.Parse options) = IsParse words options
+IsOfVerb verbs.Resume words (commands.Resume options) = IsResume words options
 IsOfVerb verbs.Explain words (commands.Explain grammar analysis) = IsTwoFiles words (record { grammar = grammar; analysis = analysis })
 IsOfVerb verbs.Check words (commands.Check grammar) = IsOneFile words grammar
 IsOfVerb verbs.Lexicon words (commands.Lexicon grammar) = IsOneFile words grammar

@@ -24,6 +24,9 @@ two_files = record { operands = codes "grammar" ∷ codes "analysis" ∷ []; val
 abbrev pub parsed : Table
 parsed = record { operands = codes "grammar" ∷ []; values = codes "budget" ∷ codes "first" ∷ codes "text" ∷ []; flags = codes "segment" ∷ [] }
 
+abbrev pub resumed : Table
+resumed = record { operands = codes "grammar" ∷ codes "analysis" ∷ []; values = codes "budget" ∷ codes "first" ∷ codes "text" ∷ []; flags = [] }
+
 -- an operand, an option with a value that isn't empty, and an option without value
 abbrev pub operand_arg : List ℕ → Rule
 operand_arg name = record (new_rule name) { action = Some Set }

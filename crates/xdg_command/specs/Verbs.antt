@@ -6,8 +6,9 @@ use Rattle.xdg_command.specs.declared.reading.Verb.TheVariants as verbs
 unfoldable pub verb_of : List ℕ → Option Verb
 verb_of word =
     if bytes_eq word (codes "parse") then Some verbs.Parse else
+    (if bytes_eq word (codes "resume") then Some verbs.Resume else
     (if bytes_eq word (codes "explain") then Some verbs.Explain else
     (if bytes_eq word (codes "check") then Some verbs.Check else
     (if bytes_eq word (codes "lexicon") then Some verbs.Lexicon else
     (if bytes_eq word (codes "print") then Some verbs.Print else
-    None))))
+    None)))))

@@ -26,11 +26,28 @@ pub struct ParseOptions {
     pub text: TextForm,
 }
 
+/// What `resume` is asked to do.
+#[derive(Debug, Drop)]
+pub struct ResumeOptions {
+    /// The name of the grammar file.
+    pub grammar: Text,
+    /// The name of the file of the analysis behind which the search goes on.
+    pub analysis: Text,
+    /// How many counted prefixes the search may charge, 1 to 1,000,000,000.
+    pub budget: u64,
+    /// After how many analyses to stop, 1 to 1,000,000, or `None` to go on to the last.
+    pub first: Option<u64>,
+    /// The form in which analyses are printed.
+    pub text: TextForm,
+}
+
 /// A command with its operands and options.
 #[derive(Debug, Drop)]
 pub enum Command {
     /// `parse`: the analyses of the sentence that the input gives.
     Parse(ParseOptions),
+    /// `resume`: the analyses of a sentence behind a given one.
+    Resume(ResumeOptions),
     /// `explain`: which principles of a grammar an analysis keeps.
     Explain {
         /// The name of the grammar file.

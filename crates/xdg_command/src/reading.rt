@@ -4,12 +4,12 @@ ghost use Rattle.std.specs.Prelude.{◌≡◌, IfOk, map};
 ghost use Rattle.std.specs.String.{string_bytes};
 ghost use Rattle.xdg_command.specs.Answers.{IsExactly};
 ghost use Rattle.xdg_command.specs.Commands.{IsCommand};
-ghost use Rattle.xdg_command.specs.Readings.{IsOfVerb, IsOneFile, IsParse, IsTwoFiles};
+ghost use Rattle.xdg_command.specs.Readings.{IsOfVerb, IsOneFile, IsParse, IsResume, IsTwoFiles};
 ghost use Rattle.xdg_command.specs.Verbs.{verb_of};
 ghost use Rattle.xdg_command.specs.declared.commands.Command.{Command};
 
 use crate::matching::matches;
-use crate::{Command, ParseOptions, syntax, values};
+use crate::{Command, ParseOptions, ResumeOptions, syntax, values};
 use std::alloc::Global;
 use xdg_base::{OutOfMemory, Text};
 
@@ -17,6 +17,7 @@ use xdg_base::{OutOfMemory, Text};
 #[derive(Clone, Copy, Debug)]
 enum Verb {
     Parse,
+    Resume,
     Explain,
     Check,
     Lexicon,
@@ -91,6 +92,39 @@ fn parse(alloc: Global, words: &[String]) -> Result<Option<ParseOptions>, OutOfM
     }))
 }
 
+/// The operands and the options of `resume`.
+fn resume(alloc: Global, words: &[String]) -> Result<Option<ResumeOptions>, OutOfMemory>
+    ensures { IfOk result (IsExactly (IsResume (map string_bytes words.now))) }
+{
+    let Some(found) = matches(syntax::resume(alloc)?, words)? else {
+        return Ok(None);
+    };
+    let Some(grammar) = found.get_str("grammar") else {
+        return Ok(None);
+    };
+    let Some(analysis) = found.get_str("analysis") else {
+        return Ok(None);
+    };
+    let Some(budget) = values::budget(found.get_str("budget")) else {
+        return Ok(None);
+    };
+    let Some(first) = values::first(found.get_str("first")) else {
+        return Ok(None);
+    };
+    let Some(text) = values::text_form(found.get_str("text")) else {
+        return Ok(None);
+    };
+    let grammar = Text::from_str(alloc, grammar)?;
+    let analysis = Text::from_str(alloc, analysis)?;
+    Ok(Some(ResumeOptions {
+        grammar,
+        analysis,
+        budget,
+        first,
+        text,
+    }))
+}
+
 /// The command that a word spells.
 #[tactic(auto, unfolding(crate::specs::Verbs::verb_of))]
 fn verb_of(word: &str) -> Option<Verb>
@@ -98,6 +132,7 @@ fn verb_of(word: &str) -> Option<Verb>
 {
     match word {
         "parse" => Some(Verb::Parse),
+        "resume" => Some(Verb::Resume),
         "explain" => Some(Verb::Explain),
         "check" => Some(Verb::Check),
         "lexicon" => Some(Verb::Lexicon),
@@ -113,6 +148,10 @@ fn with_name(alloc: Global, verb: Verb, words: &[String]) -> Result<Option<Comma
     match verb {
         Verb::Parse => match parse(alloc, words)? {
             Some(options) => Ok(Some(Command::Parse(options))),
+            None => Ok(None),
+        },
+        Verb::Resume => match resume(alloc, words)? {
+            Some(options) => Ok(Some(Command::Resume(options))),
             None => Ok(None),
         },
         Verb::Explain => match two_files(alloc, words)? {
