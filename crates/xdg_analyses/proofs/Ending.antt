@@ -26,19 +26,19 @@ use Rattle.xdg_analyses.proofs.OnePrint.{one_print}
 use Rattle.xdg_analyses.proofs.Reported.{prints_of}
 
 -- the blocks and the last line of a search that ended
-pub writes_whole : (ending : Ending) (form : Form) (budget : ℕ) (wanted : Option ℕ) (parts : Parts) (found : List (List ℕ)) (old mid new : Option (List ℕ)) → IsProblem parts → Answered ending (shape parts) (Boxed parts) [] budget wanted found → Appends old mid (blocks form parts 1 (map (analysis_of parts) found)) → Appends mid new (last_line ending (length found)) → WritesWhole ending form budget wanted parts old new
-writes_whole ending form budget wanted parts found old mid new is answered before last = record {
+pub writes_whole : (ending : Ending) (form : Form) (budget : ℕ) (wanted : Option ℕ) (parts : Parts) (start : List ℕ) (found : List (List ℕ)) (old mid new : Option (List ℕ)) → IsProblem parts → Answered ending (shape parts) (Boxed parts) start budget wanted found → Appends old mid (blocks form parts 1 (map (analysis_of parts) found)) → Appends mid new (last_line ending (length found)) → WritesWhole ending form budget wanted parts start old new
+writes_whole ending form budget wanted parts start found old mid new is answered before last = record {
   text = blocks form parts 1 (map (analysis_of parts) found) ++ last_line ending (length found);
-  prints = prints_of ending form budget wanted parts found (blocks form parts 1 (map (analysis_of parts) found) ++ last_line ending (length found)) is answered refl;
+  prints = prints_of ending form budget wanted parts start found (blocks form parts 1 (map (analysis_of parts) found) ++ last_line ending (length found)) is answered refl;
   appends = appends_both before last;
 }
 
 -- the sink failed at the last line
-pub last_failed : (ending : Ending) (form : Form) (budget : ℕ) (wanted : Option ℕ) (parts : Parts) (found : List (List ℕ)) (old mid new : Option (List ℕ)) → IsProblem parts → Answered ending (shape parts) (Boxed parts) [] budget wanted found → Appends old mid (blocks form parts 1 (map (analysis_of parts) found)) → AppendsFront mid new (last_line ending (length found)) → (other : Ending) (text : List ℕ) → Prints other form budget wanted parts text → AppendsFront old new text
-last_failed ending form budget wanted parts found old mid new is answered before last other text prints =
+pub last_failed : (ending : Ending) (form : Form) (budget : ℕ) (wanted : Option ℕ) (parts : Parts) (start : List ℕ) (found : List (List ℕ)) (old mid new : Option (List ℕ)) → IsProblem parts → Answered ending (shape parts) (Boxed parts) start budget wanted found → Appends old mid (blocks form parts 1 (map (analysis_of parts) found)) → AppendsFront mid new (last_line ending (length found)) → (other : Ending) (text : List ℕ) → Prints other form budget wanted parts start text → AppendsFront old new text
+last_failed ending form budget wanted parts start found old mid new is answered before last other text prints =
     let whole : List ℕ = blocks form parts 1 (map (analysis_of parts) found) ++ last_line ending (length found) in
-    let own = prints_of ending form budget wanted parts found whole is answered refl in
-    front_in_second before (one_print form budget wanted parts is ending other whole text own prints).1 last
+    let own = prints_of ending form budget wanted parts start found whole is answered refl in
+    front_in_second before (one_print form budget wanted parts start is ending other whole text own prints).1 last
 
 -- a number that is wanted is at least each number up to it
 at_least : (wanted : Option ℕ) (m k : ℕ) → IsAt m wanted → IsUpTo k wanted → k ≤ m
@@ -60,12 +60,12 @@ blocks_front form parts number (a ∷ list) more =
     ∙ sym (append_assoc (shown form parts number a) (blocks form parts (number + 1) list) (blocks form parts (number + length (a ∷ list)) more))
 
 -- the sink failed in the block of one more vector that the budget covers
-pub block_failed : (form : Form) (budget : ℕ) (wanted : Option ℕ) (parts : Parts) (found : List (List ℕ)) (grown : List ℕ) (count : ℕ) (old mid new : Option (List ℕ)) → IsProblem parts → Answered endings.First (shape parts) (Boxed parts) [] budget (Some (length (found ++ grown ∷ []))) (found ++ grown ∷ []) → count ≡ length found + 1 → IsUpTo (length (found ++ grown ∷ [])) wanted → Appends old mid (blocks form parts 1 (map (analysis_of parts) found)) → AppendsFront mid new (shown form parts count (analysis_of parts grown)) → (other : Ending) (text : List ℕ) → Prints other form budget wanted parts text → AppendsFront old new text
-block_failed form budget wanted parts found grown count old mid new is answered e up before failed other text p =
+pub block_failed : (form : Form) (budget : ℕ) (wanted : Option ℕ) (parts : Parts) (start : List ℕ) (found : List (List ℕ)) (grown : List ℕ) (count : ℕ) (old mid new : Option (List ℕ)) → IsProblem parts → Answered endings.First (shape parts) (Boxed parts) start budget (Some (length (found ++ grown ∷ []))) (found ++ grown ∷ []) → count ≡ length found + 1 → IsUpTo (length (found ++ grown ∷ [])) wanted → Appends old mid (blocks form parts 1 (map (analysis_of parts) found)) → AppendsFront mid new (shown form parts count (analysis_of parts grown)) → (other : Ending) (text : List ℕ) → Prints other form budget wanted parts start text → AppendsFront old new text
+block_failed form budget wanted parts start found grown count old mid new is answered e up before failed other text p =
     let all : List (List ℕ) = found ++ grown ∷ [] in
     let k : ℕ = length all in
-    let vectors = boxed_listing parts is [] p.solutions p.solutions_are in
-    let ends = ending_of endings.First (shape parts) (Boxed parts) [] budget (Some k) all answered p.counted (map (vector parts) p.solutions) p.counted_are vectors in
+    let vectors = boxed_listing parts is start p.solutions p.solutions_are in
+    let ends = ending_of endings.First (shape parts) (Boxed parts) start budget (Some k) all answered p.counted (map (vector parts) p.solutions) p.counted_are vectors in
     let front_is : map (analysis_of parts) all ≡ take k p.solutions = ap (map (analysis_of parts)) ends.0 ∙ sym (take-map (analysis_of parts) k (map (vector parts) p.solutions)) ∙ ap (take k) (analyses_back parts is p.solutions p.solutions_are.each) in
     let long : k ≤ length (map (vector parts) p.solutions) = (let t = ap length ends.0 in let u = length-take k (map (vector parts) p.solutions) in omega (arith, t, u)) in
     let within : k ≤ p.printed = most_printed other budget wanted parts p.counted p.solutions p.printed k p.end up ends.1.1 long in

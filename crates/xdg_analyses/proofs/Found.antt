@@ -25,10 +25,10 @@ use Rattle.xdg_stream.proofs.Streaming.{end_found, spent_found}
 use Rattle.xdg_analyses.specs.declared.forms.Form.{Form}
 use Rattle.xdg_analyses.specs.Printed.{shown, blocks}
 
--- The blocks of the vectors that were found are printed, and the stream, which began with the first of all, goes on.
-pub record Found (form : Form) (wanted : Option ℕ) (parts : Parts) (budget : ℕ) (s : Streamed) (count : ℕ) (old new : Option (List ℕ)) : Type 0 where
+-- The blocks of the vectors that were found are printed, and the stream, which began right behind a start, goes on.
+pub record Found (form : Form) (wanted : Option ℕ) (parts : Parts) (start : List ℕ) (budget : ℕ) (s : Streamed) (count : ℕ) (old new : Option (List ℕ)) : Type 0 where
   pub problem : s.parts ≡ parts
-  pub begun : s.start ≡ []
+  pub begun : s.start ≡ start
   pub spends : s.budget ≡ budget
   pub open_still : s.ended ≡ None
   pub found : List (List ℕ)
@@ -38,8 +38,8 @@ pub record Found (form : Form) (wanted : Option ℕ) (parts : Parts) (budget : �
   pub below : IsBelow (length found) wanted
   pub written : Appends old new (blocks form parts 1 (map (analysis_of parts) found))
 
-pub found_none : (form : Form) (wanted : Option ℕ) (parts : Parts) (budget : ℕ) (s : Streamed) (old : Option (List ℕ)) → IsBelow 0 wanted → s.parts ≡ parts → s.start ≡ [] → s.budget ≡ budget → s.ended ≡ None → IsCharged s [] → Found form wanted parts budget s 0 old old
-found_none form wanted parts budget s old below problem begun spends open_still so_far = record {
+pub found_none : (form : Form) (wanted : Option ℕ) (parts : Parts) (start : List ℕ) (budget : ℕ) (s : Streamed) (old : Option (List ℕ)) → IsBelow 0 wanted → s.parts ≡ parts → s.start ≡ start → s.budget ≡ budget → s.ended ≡ None → IsCharged s [] → Found form wanted parts start budget s 0 old old
+found_none form wanted parts start budget s old below problem begun spends open_still so_far = record {
   problem = problem;
   begun = begun;
   spends = spends;
@@ -105,45 +105,45 @@ analysis_is parts held x entries attrs edges e p q r =
     let three : List Edge → Analysis = λ z. record { entries = A.entries; attrs = A.attrs; edges = z } in
     ap one p ∙ ap two q ∙ ap three r ∙ ap (λ z. analysis_of z x) e
 
--- the answers of a stream that began with the first of all, by how it has ended
-module _ (wanted : Option ℕ) (parts : Parts) (budget : ℕ) (s : Streamed) (found : List (List ℕ)) (problem : s.parts ≡ parts) (begun : s.start ≡ []) (spends : s.budget ≡ budget) (so_far : IsCharged s found) where
-  moved : (ending : Ending) → Answered ending (shape s.parts) (Boxed s.parts) s.start s.budget wanted found → Answered ending (shape parts) (Boxed parts) [] budget wanted found
+-- the answers of a stream, by how it has ended
+module _ (wanted : Option ℕ) (parts : Parts) (start : List ℕ) (budget : ℕ) (s : Streamed) (found : List (List ℕ)) (problem : s.parts ≡ parts) (begun : s.start ≡ start) (spends : s.budget ≡ budget) (so_far : IsCharged s found) where
+  moved : (ending : Ending) → Answered ending (shape s.parts) (Boxed s.parts) s.start s.budget wanted found → Answered ending (shape parts) (Boxed parts) start budget wanted found
   moved ending answered =
-      subst (λ p. Answered ending (shape p) (Boxed p) [] budget wanted found) problem
+      subst (λ p. Answered ending (shape p) (Boxed p) start budget wanted found) problem
       (subst (λ z. Answered ending (shape s.parts) (Boxed s.parts) z budget wanted found) begun
       (subst (λ b. Answered ending (shape s.parts) (Boxed s.parts) s.start b wanted found) spends answered))
 
-  left : (step : Step) → s.ended ≡ Some step → Leaves (Some step) s.parts so_far.front s.charged s.budget
-  left step e = subst (λ d. Leaves d s.parts so_far.front s.charged s.budget) e so_far.leaves
+  left : (step : Step) → s.ended ≡ Some step → Leaves (Some step) s.parts s.front s.charged s.budget
+  left step e = subst (λ d. Leaves d s.parts s.front s.charged s.budget) e so_far.leaves
 
-  pub first_answers : IsAt (length found) wanted → Answered endings.First (shape parts) (Boxed parts) [] budget wanted found
-  first_answers at = moved endings.First (so_far.front, s.charged, so_far.drawn, so_far.within, at)
+  pub first_answers : IsAt (length found) wanted → Answered endings.First (shape parts) (Boxed parts) start budget wanted found
+  first_answers at = moved endings.First (s.front, s.charged, so_far.drawn, so_far.within, at)
 
-  pub all_answers : s.ended ≡ Some steps.End → IsBelow (length found) wanted → Answered endings.Complete (shape parts) (Boxed parts) [] budget wanted found
-  all_answers e below = moved endings.Complete (so_far.front, s.charged, so_far.drawn, left steps.End e, so_far.within, below)
+  pub all_answers : s.ended ≡ Some steps.End → IsBelow (length found) wanted → Answered endings.Complete (shape parts) (Boxed parts) start budget wanted found
+  all_answers e below = moved endings.Complete (s.front, s.charged, so_far.drawn, left steps.End e, so_far.within, below)
 
-  pub spent_answers : s.ended ≡ Some steps.Spent → IsBelow (length found) wanted → Answered endings.Spent (shape parts) (Boxed parts) [] budget wanted found
+  pub spent_answers : s.ended ≡ Some steps.Spent → IsBelow (length found) wanted → Answered endings.Spent (shape parts) (Boxed parts) start budget wanted found
   spent_answers e below =
       let rest = left steps.Spent e in
-      moved endings.Spent (so_far.front, subst (λ n. Drawn (shape s.parts) (Boxed s.parts) s.start so_far.front n found) rest.0 so_far.drawn, rest.1, below)
+      moved endings.Spent (s.front, subst (λ n. Drawn (shape s.parts) (Boxed s.parts) s.start s.front n found) rest.0 so_far.drawn, rest.1, below)
 
 pub counted_more : (found : List (List ℕ)) (x : List ℕ) (count : ℕ) → count ≡ length found → count + 1 ≡ length (found ++ x ∷ [])
 counted_more found x count e = let l = length-append found (x ∷ []) in omega (arith, l, e)
 
 -- one more call
-module _ (form : Form) (wanted : Option ℕ) (parts : Parts) (budget : ℕ) (s t : Streamed) (count : ℕ) (old mid : Option (List ℕ)) (f : Found form wanted parts budget s count old mid) where
+module _ (form : Form) (wanted : Option ℕ) (parts : Parts) (start : List ℕ) (budget : ℕ) (s t : Streamed) (count : ℕ) (old mid : Option (List ℕ)) (f : Found form wanted parts start budget s count old mid) where
   -- nothing more was found
-  pub complete_answered : Advances s steps.End t → Answered endings.Complete (shape parts) (Boxed parts) [] budget wanted f.found
-  complete_answered step = all_answers wanted parts budget t f.found (step.given.0 ∙ f.problem) (step.given.1 ∙ f.begun) (step.given.2 ∙ f.spends) (step.charged f.found f.so_far) (step.stops end_found).0 f.below
+  pub complete_answered : Advances s steps.End t → Answered endings.Complete (shape parts) (Boxed parts) start budget wanted f.found
+  complete_answered step = all_answers wanted parts start budget t f.found (step.given.0 ∙ f.problem) (step.given.1 ∙ f.begun) (step.given.2 ∙ f.spends) (step.charged f.found f.so_far) (step.stops end_found).0 f.below
 
-  pub spent_answered : Advances s steps.Spent t → Answered endings.Spent (shape parts) (Boxed parts) [] budget wanted f.found
-  spent_answered step = spent_answers wanted parts budget t f.found (step.given.0 ∙ f.problem) (step.given.1 ∙ f.begun) (step.given.2 ∙ f.spends) (step.charged f.found f.so_far) (step.stops spent_found).0 f.below
+  pub spent_answered : Advances s steps.Spent t → Answered endings.Spent (shape parts) (Boxed parts) start budget wanted f.found
+  spent_answered step = spent_answers wanted parts start budget t f.found (step.given.0 ∙ f.problem) (step.given.1 ∙ f.begun) (step.given.2 ∙ f.spends) (step.charged f.found f.so_far) (step.stops spent_found).0 f.below
 
   -- a vector more was found
   module _ (step : Advances s steps.Found t) where
     -- it stands for an analysis of the sentence
     pub found_fits : IsAnalysis parts (analysis_of parts t.last)
-    found_fits = subst (λ p. IsAnalysis p (analysis_of p t.last)) f.problem (step.found refl).2.solution.fits
+    found_fits = subst (λ p. IsAnalysis p (analysis_of p t.last)) f.problem (step.found refl).3.solution.fits
 
     -- the numbers stay in range
     pub found_counted : (count + 1 ≤ t.charged) × (t.charged ≤ budget)
@@ -156,12 +156,12 @@ module _ (form : Form) (wanted : Option ℕ) (parts : Parts) (budget : ℕ) (s t
         (omega (arith, few, k, costs), omega (arith, within, spends))
 
     -- as many as were found are answers of a search that wants so many
-    pub found_answered : Answered endings.First (shape parts) (Boxed parts) [] budget (Some (length (f.found ++ t.last ∷ []))) (f.found ++ t.last ∷ [])
-    found_answered = first_answers (Some (length (f.found ++ t.last ∷ []))) parts budget t (f.found ++ t.last ∷ []) (step.given.0 ∙ f.problem) (step.given.1 ∙ f.begun) (step.given.2 ∙ f.spends) (step.charged f.found f.so_far) refl
+    pub found_answered : Answered endings.First (shape parts) (Boxed parts) start budget (Some (length (f.found ++ t.last ∷ []))) (f.found ++ t.last ∷ [])
+    found_answered = first_answers (Some (length (f.found ++ t.last ∷ []))) parts start budget t (f.found ++ t.last ∷ []) (step.given.0 ∙ f.problem) (step.given.1 ∙ f.begun) (step.given.2 ∙ f.spends) (step.charged f.found f.so_far) refl
 
     -- and of this one, where they are as many as wanted
-    pub first_answered : wanted ≡ Some (count + 1) → Answered endings.First (shape parts) (Boxed parts) [] budget wanted (f.found ++ t.last ∷ [])
-    first_answered e = subst (λ z. Answered endings.First (shape parts) (Boxed parts) [] budget z (f.found ++ t.last ∷ [])) (sym (e ∙ ap Some (counted_more f.found t.last count f.count_is))) found_answered
+    pub first_answered : wanted ≡ Some (count + 1) → Answered endings.First (shape parts) (Boxed parts) start budget wanted (f.found ++ t.last ∷ [])
+    first_answered e = subst (λ z. Answered endings.First (shape parts) (Boxed parts) start budget z (f.found ++ t.last ∷ [])) (sym (e ∙ ap Some (counted_more f.found t.last count f.count_is))) found_answered
 
     module _ (a : Analysis) (is : a ≡ analysis_of parts t.last) (new : Option (List ℕ)) (added : Appends mid new (shown form parts (count + 1) a)) where
       -- its block stands behind those that are printed
@@ -170,7 +170,7 @@ module _ (form : Form) (wanted : Option ℕ) (parts : Parts) (budget : ℕ) (s t
           let k = f.count_is in
           subst (Appends old new) (sym (blocks_found form parts f.found t.last (count + 1) (omega (arith, k)))) (appends_both f.written (subst (λ z. Appends mid new (shown form parts (count + 1) z)) is added))
 
-      pub found_more : (wanted ≡ Some (count + 1) → ⊥) → Found form wanted parts budget t (count + 1) old new
+      pub found_more : (wanted ≡ Some (count + 1) → ⊥) → Found form wanted parts start budget t (count + 1) old new
       found_more other =
           let k = f.count_is in
           let n = length-append f.found (t.last ∷ []) in

@@ -31,16 +31,17 @@ last_line endings.First m = first_line m
 last_line endings.Spent m = spent_line m
 
 -- What a search with a budget prints, and how it ends, where so many analyses are wanted or all of them: over the one list of
--- the boxed prefixes and the one list of the solutions, the first m solutions and the last line with m.
-pub record Prints (ending : Ending) (form : Form) (budget : ℕ) (wanted : Option ℕ) (parts : Parts) (text : List ℕ) : Type 0 where
+-- the boxed prefixes after a start and the one list of the solutions after it, the first m solutions, numbered from 1, and the
+-- last line with m. The empty list is the start of all.
+pub record Prints (ending : Ending) (form : Form) (budget : ℕ) (wanted : Option ℕ) (parts : Parts) (start text : List ℕ) : Type 0 where
   pub counted : List (List ℕ)
-  pub counted_are : IsListing (shape parts) (Boxed parts) [] counted
+  pub counted_are : IsListing (shape parts) (Boxed parts) start counted
   pub solutions : List Analysis
-  pub solutions_are : IsSolutionList parts [] solutions
+  pub solutions_are : IsSolutionList parts start solutions
   pub printed : ℕ
   pub end : IsEnding ending (shape parts) budget wanted counted (map (vector parts) solutions) printed
   pub text_is : text ≡ blocks form parts 1 (take printed solutions) ++ last_line ending printed
 
 -- a search has one text and one ending
-abbrev pub IsOnePrint : Form → ℕ → Option ℕ → Parts → Type 0
-IsOnePrint form budget wanted parts = (one other : Ending) (text more : List ℕ) → Prints one form budget wanted parts text → Prints other form budget wanted parts more → (one ≡ other) × (text ≡ more)
+abbrev pub IsOnePrint : Form → ℕ → Option ℕ → Parts → List ℕ → Type 0
+IsOnePrint form budget wanted parts start = (one other : Ending) (text more : List ℕ) → Prints one form budget wanted parts start text → Prints other form budget wanted parts start more → (one ≡ other) × (text ≡ more)
