@@ -6,6 +6,7 @@ use Rattle.xdg_command.specs.Commands.{IsCommand}
 use Rattle.xdg_command.specs.declared.commands.Command.{Command}
 use Rattle.xdg_command.specs.declared.commands.Command.TheVariants as commands
 use Rattle.xdg_command.specs.declared.commands.ParseOptions.{ParseOptions}
+use Rattle.xdg_command.specs.declared.commands.ResumeOptions.{ResumeOptions}
 use Rattle.xdg_io.specs.Rose.{Rose}
 use Rattle.xdg_text.specs.Lines.{usage_line}
 use Rattle.xdg_top.specs.Outcomes.{Files, CommandOf, IsNoCommand, OutcomeOf, usage, commanded}
@@ -69,3 +70,8 @@ pub explain_failed : (given : List (List ℕ)) (command : Command) (grammar anal
     → grammar_name ≡ grammar → analysis_name ≡ analysis → Rose (shelf_old grammar_name) (shelf_new grammar_name) ⊎ Rose (shelf_old analysis_name) (shelf_new analysis_name) → ReadFailed given shelf_old shelf_new input_old input_new
 explain_failed given command grammar analysis grammar_name analysis_name shelf_old shelf_new input_old input_new e exact is_grammar is_analysis (inl rose) = of_file (commands.Explain grammar analysis) grammar_name (subst (IsCommand given) e exact.0) (inl is_grammar) rose
 explain_failed given command grammar analysis grammar_name analysis_name shelf_old shelf_new input_old input_new e exact is_grammar is_analysis (inr rose) = of_file (commands.Explain grammar analysis) analysis_name (subst (IsCommand given) e exact.0) (inr is_analysis) rose
+
+pub resume_failed : (given : List (List ℕ)) (command : Command) (options : ResumeOptions) (shelf_old shelf_new : List ℕ → ℕ) (input_old input_new : ℕ) → command ≡ commands.Resume options → IsTheCommand given command
+    → Rose (shelf_old options.grammar) (shelf_new options.grammar) ⊎ Rose (shelf_old options.analysis) (shelf_new options.analysis) → ReadFailed given shelf_old shelf_new input_old input_new
+resume_failed given command options shelf_old shelf_new input_old input_new e exact (inl rose) = of_file (commands.Resume options) options.grammar (subst (IsCommand given) e exact.0) (inl refl) rose
+resume_failed given command options shelf_old shelf_new input_old input_new e exact (inr rose) = of_file (commands.Resume options) options.analysis (subst (IsCommand given) e exact.0) (inr refl) rose

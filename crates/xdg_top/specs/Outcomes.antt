@@ -9,6 +9,7 @@ use Rattle.xdg_command.specs.Commands.{IsCommand}
 use Rattle.xdg_command.specs.declared.commands.Command.{Command}
 use Rattle.xdg_command.specs.declared.commands.Command.TheVariants as commands
 use Rattle.xdg_command.specs.declared.commands.ParseOptions.{ParseOptions}
+use Rattle.xdg_command.specs.declared.commands.ResumeOptions.{ResumeOptions}
 use Rattle.xdg_command.specs.declared.commands.TextForm.{TextForm}
 use Rattle.xdg_command.specs.declared.commands.TextForm.TheVariants as texts
 use Rattle.xdg_grammar.specs.Meanings.{Meaning, Means}
@@ -18,6 +19,7 @@ use Rattle.xdg_lexicon_text.specs.LexiconText.{lexicon_text}
 use Rattle.xdg_listing.specs.declared.Ending.{Ending}
 use Rattle.xdg_listing.specs.declared.Ending.TheVariants as endings
 use Rattle.xdg_problem.specs.declared.parts.Parts.{Parts}
+use Rattle.xdg_problem.specs.Vectors.{vector}
 use Rattle.xdg_text.specs.Lines.{usage_line, line}
 use Rattle.xdg_verdict_text.specs.VerdictsText.{verdicts_text}
 use Rattle.xdg_top.specs.Analyses.{Analysed, HasAnalysis, HasBadAnalysis}
@@ -46,7 +48,11 @@ MeaningThen read next = Behind Meaning statuses.BadGrammar (IsBadGrammar read) (
 abbrev pub GrammarThen : Files → List ℕ → (ReadText → Meaning → Status → List ℕ → Type 0) → Status → List ℕ → Type 0
 GrammarThen files name next = ReadThen files name (λ read. MeaningThen read (next read))
 
--- ---- `parse`
+-- a file has an analysis of the grammar
+abbrev pub AnalysisThen : Files → List ℕ → (Analysed → Status → List ℕ → Type 0) → Meaning → Status → List ℕ → Type 0
+AnalysisThen files name next m = Behind Analysed statuses.BadAnalysis (HasBadAnalysis files name m) (HasAnalysis files name m) next
+
+-- ---- `parse` and `resume`
 
 abbrev pub form_of : TextForm → Form
 form_of texts.One = forms.One
@@ -58,18 +64,29 @@ status_of endings.Complete = statuses.Done
 status_of endings.First = statuses.Done
 status_of endings.Spent = statuses.Spent
 
--- what the search of a problem prints
-pub record Searched (options : ParseOptions) (parts : Parts) (status : Status) (text : List ℕ) : Type 0 where
+-- what the search of a problem from behind a start on prints
+pub record Searched (form : Form) (budget : ℕ) (wanted : Option ℕ) (parts : Parts) (start : List ℕ) (status : Status) (text : List ℕ) : Type 0 where
   pub ending : Ending
-  pub prints : Prints ending (form_of options.text) options.budget options.first parts text
+  pub prints : Prints ending form budget wanted parts start text
   pub status_is : status ≡ status_of ending
+
+-- the search of a problem from its beginning on
+abbrev pub Parsed : ParseOptions → Parts → Status → List ℕ → Type 0
+Parsed options parts = Searched (form_of options.text) options.budget options.first parts []
+
+-- the search of the problem of an analysis, from behind the analysis on
+abbrev pub Resumed : ResumeOptions → Analysed → Status → List ℕ → Type 0
+Resumed options analysed = Searched (form_of options.text) options.budget options.first analysed.parts (vector analysed.parts analysed.analysis)
 
 -- the input is a sentence, and its problem is searched
 abbrev pub SentenceThen : ParseOptions → List ℕ → Meaning → Status → List ℕ → Type 0
-SentenceThen options input m = Behind Parts statuses.BadSentence (IsBadSentence m options.segment input) (HasProblem m options.segment input) (Searched options)
+SentenceThen options input m = Behind Parts statuses.BadSentence (IsBadSentence m options.segment input) (HasProblem m options.segment input) (Parsed options)
 
 abbrev pub ParseOf : ParseOptions → Files → List ℕ → Status → List ℕ → Type 0
 ParseOf options files input = GrammarThen files options.grammar (λ read. SentenceThen options input)
+
+abbrev pub ResumeOf : ResumeOptions → Files → Status → List ℕ → Type 0
+ResumeOf options files = GrammarThen files options.grammar (λ read. AnalysisThen files options.analysis (Resumed options))
 
 -- ---- the other commands
 
@@ -80,12 +97,8 @@ pub record Judged (analysed : Analysed) (status : Status) (text : List ℕ) : Ty
   pub are : AreVerdicts analysed.parts analysed.analysis analysed.parts.groups verdicts
   pub text_is : text ≡ verdicts_text analysed.parts verdicts
 
--- the file has an analysis, and it is judged
-abbrev pub AnalysisThen : Files → List ℕ → Meaning → Status → List ℕ → Type 0
-AnalysisThen files analysis m = Behind Analysed statuses.BadAnalysis (HasBadAnalysis files analysis m) (HasAnalysis files analysis m) Judged
-
 abbrev pub ExplainOf : List ℕ → List ℕ → Files → Status → List ℕ → Type 0
-ExplainOf grammar analysis files = GrammarThen files grammar (λ read. AnalysisThen files analysis)
+ExplainOf grammar analysis files = GrammarThen files grammar (λ read. AnalysisThen files analysis Judged)
 
 -- `ok dims D classes C entries E`
 abbrev pub counts_line : ℕ → ℕ → ℕ → List ℕ
@@ -112,6 +125,7 @@ PrintOf grammar files = ReadThen files grammar (λ read. IsDone (canon read.tree
 
 abbrev pub CommandOf : Command → Files → List ℕ → Status → List ℕ → Type 0
 CommandOf (commands.Parse options) files input = ParseOf options files input
+CommandOf (commands.Resume options) files input = ResumeOf options files
 CommandOf (commands.Explain grammar analysis) files input = ExplainOf grammar analysis files
 CommandOf (commands.Check grammar) files input = CheckOf grammar files
 CommandOf (commands.Lexicon grammar) files input = LexiconOf grammar files

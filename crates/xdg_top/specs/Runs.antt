@@ -27,6 +27,7 @@ Leaves O status old new = Ends O status old new
 -- the names of the files that a command reads
 abbrev pub ReadsFile : Command → List ℕ → Type 0
 ReadsFile (commands.Parse options) name = name ≡ options.grammar
+ReadsFile (commands.Resume options) name = (name ≡ options.grammar) ⊎ (name ≡ options.analysis)
 ReadsFile (commands.Explain grammar analysis) name = (name ≡ grammar) ⊎ (name ≡ analysis)
 ReadsFile (commands.Check grammar) name = name ≡ grammar
 ReadsFile (commands.Lexicon grammar) name = name ≡ grammar

@@ -48,7 +48,7 @@ fn explain_expanded<H: Shelf, K: Sink>(
     out: &mut K,
 ) -> Status
     requires { IsRightLexicon expanded.now.checked.types expanded.now.entries }
-    ensures leaves { (files : List ℕ → Option (List ℕ)) → H.files shelf.old ≡ Some files → Leaves (AnalysisThen files name.now (meaning_of expanded.now)) result (K.held out.old) (K.held out.new) }
+    ensures leaves { (files : List ℕ → Option (List ℕ)) → H.files shelf.old ≡ Some files → Leaves (AnalysisThen files name.now Judged (meaning_of expanded.now)) result (K.held out.old) (K.held out.new) }
     ensures read_fault { result ≡ Status.ReadFault → Rose (H.faults shelf.old name.now) (H.faults shelf.new name.now) }
     ensures write_fault { result ≡ Status.WriteFault → Rose (K.faults out.old) (K.faults out.new) }
     ensures files { H.files shelf.new ≡ H.files shelf.old }
@@ -75,7 +75,7 @@ fn explain_loaded<H: Shelf, K: Sink>(
     out: &mut K,
 ) -> Status
     requires { length loaded.now.text.items ≤ 4194304 }
-    ensures leaves { (files : List ℕ → Option (List ℕ)) → H.files shelf.old ≡ Some files → Leaves (MeaningThen (read_of loaded.now) (AnalysisThen files name.now)) result (K.held out.old) (K.held out.new) }
+    ensures leaves { (files : List ℕ → Option (List ℕ)) → H.files shelf.old ≡ Some files → Leaves (MeaningThen (read_of loaded.now) (AnalysisThen files name.now Judged)) result (K.held out.old) (K.held out.new) }
     ensures read_fault { result ≡ Status.ReadFault → Rose (H.faults shelf.old name.now) (H.faults shelf.new name.now) }
     ensures write_fault { result ≡ Status.WriteFault → Rose (K.faults out.old) (K.faults out.new) }
     ensures files { H.files shelf.new ≡ H.files shelf.old }

@@ -7,6 +7,7 @@ mod loading;
 mod parse;
 mod refusals;
 mod reports;
+mod resume;
 mod running;
 mod sentence;
 mod status;

@@ -1,6 +1,7 @@
 //! The command `parse`.
 
 ghost use Rattle.std.specs.Prelude.{◌≡◌, ◌≤◌, ◌⊎◌, ℕ, List, [], Option, Some, length};
+ghost use Rattle.std.specs.Option.{option_copied};
 ghost use Rattle.xdg_entries.specs.Entries.{IsRightLexicon};
 ghost use Rattle.xdg_grammar.specs.Answers.{meaning_of};
 ghost use Rattle.xdg_io.specs.Rose.{Rose};
@@ -8,6 +9,7 @@ ghost use Rattle.xdg_top.specs.Loaded.{read_of};
 ghost use Rattle.xdg_top.specs.Outcomes.{MeaningThen, ParseOf, Searched, SentenceThen, form_of};
 ghost use Rattle.xdg_top.specs.Runs.{Leaves};
 ghost use Rattle.xdg_analyses.specs.Written.{IsSome};
+ghost use Rattle.xdg_stream.specs.Streamed.{IsStart, start_vector};
 
 use crate::Status;
 use crate::loading::{Loaded, load_tree};
@@ -21,7 +23,7 @@ use xdg_engine::props;
 use xdg_grammar::{Expanded, expand_tree, pack_entries};
 use xdg_io::{Shelf, Sink, Source};
 use xdg_listing::Ending;
-use xdg_problem::Problem;
+use xdg_problem::{Analysis, Problem};
 
 /// The form in which analyses are printed.
 fn form_of(text: TextForm) -> Form
@@ -33,15 +35,24 @@ fn form_of(text: TextForm) -> Form
     }
 }
 
-/// Makes the propagators of a sentence, and prints its analyses.
-fn search<K: Sink>(alloc: Global, options: &ParseOptions, problem: &Problem, out: &mut K) -> Status
-    requires some { IsSome options.now.first }
-    ensures leaves { Leaves (Searched options.now problem.now) result (K.held out.old) (K.held out.new) }
+/// Makes the propagators of a sentence, and prints its analyses from behind a given one on, or from the first of all.
+pub fn search<K: Sink>(
+    alloc: Global,
+    problem: &Problem,
+    after: Option<&Analysis>,
+    budget: u64,
+    first: Option<u64>,
+    text: TextForm,
+    out: &mut K,
+) -> Status
+    requires fits { IsStart problem.now (option_copied after) }
+    requires some { IsSome first }
+    ensures leaves { Leaves (Searched (form_of text) budget first problem.now (start_vector problem.now (option_copied after.entry))) result (K.held out.old) (K.held out.new) }
     ensures write_fault { result ≡ Status.WriteFault → Rose (K.faults out.old) (K.faults out.new) }
     ensures out_lasting { K.faults out.old ≤ K.faults out.new }
     ensures ends { (result ≡ Status.Done) ⊎ ((result ≡ Status.Spent) ⊎ ((result ≡ Status.WriteFault) ⊎ (result ≡ Status.OutOfMemory))) }
 {
-    let form = form_of(options.text);
+    let form = form_of(text);
     let Ok(propagators) = props(alloc, problem) else {
         return Status::OutOfMemory;
     };
@@ -49,8 +60,9 @@ fn search<K: Sink>(alloc: Global, options: &ParseOptions, problem: &Problem, out
         alloc,
         problem,
         propagators.as_slice(),
-        options.budget,
-        options.first,
+        budget,
+        after,
+        first,
         form,
         out,
     ) {
@@ -85,7 +97,15 @@ fn parse_expanded<S: Source, K: Sink>(
         Err(OutOfMemory) => return Status::OutOfMemory,
     };
     match read_problem(alloc, expanded, &packed, options.segment, input) {
-        Ok(problem) => search(alloc, options, &problem, out),
+        Ok(problem) => search(
+            alloc,
+            &problem,
+            None,
+            options.budget,
+            options.first,
+            options.text,
+            out,
+        ),
         Err(refusal) => refuse(refusal, Status::BadSentence, out),
     }
 }

@@ -14,6 +14,7 @@ use crate::Status;
 use crate::explain::explain_analysis;
 use crate::parse::parse_sentence;
 use crate::reports::{check_grammar, print_grammar, print_lexicon};
+use crate::resume::resume_analysis;
 use std::alloc::Global;
 use xdg_base::OutOfMemory;
 use xdg_command::{Command, command};
@@ -62,6 +63,7 @@ pub fn run<H: Shelf, S: Source, K: Sink>(
     };
     match &command {
         Command::Parse(options) => parse_sentence(alloc, options, shelf, input, out),
+        Command::Resume(options) => resume_analysis(alloc, options, shelf, out),
         Command::Explain { grammar, analysis } => {
             explain_analysis(alloc, grammar.as_str(), analysis.as_str(), shelf, out)
         }

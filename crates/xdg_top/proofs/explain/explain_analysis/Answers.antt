@@ -1,5 +1,5 @@
 use Rattle.std.proofs.Common.{◌∙◌}
-use Rattle.xdg_top.specs.Outcomes.{AnalysisThen, MeaningThen}
+use Rattle.xdg_top.specs.Outcomes.{AnalysisThen, Judged, MeaningThen}
 use Rattle.xdg_top.specs.Texts.{HasBadText, HasTree, ReadText}
 use Rattle.xdg_top.specs.declared.status.Status.TheVariants as statuses
 use Rattle.xdg_top.proofs.Leaving.{accepted_leaves, stopped_leaves}
@@ -7,9 +7,9 @@ use Rattle.xdg_top.proofs.explain.explain_analysis.Goals as goal
 
 pub returns-in-Ok-clause-leaves : goal.returns-in-Ok-clause-leaves
 returns-in-Ok-clause-leaves g c files told =
-    accepted_leaves ReadText statuses.BadText (HasBadText files c.args.grammar.now) (HasTree files c.args.grammar.now) (λ read. MeaningThen read (AnalysisThen files c.args.analysis.now)) _ c.explain_loaded.result _ _ (c.in-Ok.ensures.found files told)
+    accepted_leaves ReadText statuses.BadText (HasBadText files c.args.grammar.now) (HasTree files c.args.grammar.now) (λ read. MeaningThen read (AnalysisThen files c.args.analysis.now Judged)) _ c.explain_loaded.result _ _ (c.in-Ok.ensures.found files told)
     (c.explain_loaded.ensures.leaves files (c.load_tree.ensures.kept ∙ told))
 
 pub returns-in-Err-clause-leaves : goal.returns-in-Err-clause-leaves
 returns-in-Err-clause-leaves g c files told =
-    stopped_leaves ReadText statuses.BadText (HasBadText files c.args.grammar.now) (HasTree files c.args.grammar.now) (λ read. MeaningThen read (AnalysisThen files c.args.analysis.now)) _ _ _ c.refuse.result c.in-Err.refusal _ _ told (λ e. e) (c.in-Err.ensures.refused files) c.refuse.ensures.written
+    stopped_leaves ReadText statuses.BadText (HasBadText files c.args.grammar.now) (HasTree files c.args.grammar.now) (λ read. MeaningThen read (AnalysisThen files c.args.analysis.now Judged)) _ _ _ c.refuse.result c.in-Err.refusal _ _ told (λ e. e) (c.in-Err.ensures.refused files) c.refuse.ensures.written

@@ -1,6 +1,6 @@
 use Rattle.xdg_grammar.specs.Answers.{meaning_of}
 use Rattle.xdg_problem.specs.declared.parts.Parts.{Parts}
-use Rattle.xdg_top.specs.Outcomes.{Searched}
+use Rattle.xdg_top.specs.Outcomes.{Parsed}
 use Rattle.xdg_top.specs.Sentences.{HasProblem, IsBadSentence}
 use Rattle.xdg_top.specs.declared.status.Status.TheVariants as statuses
 use Rattle.xdg_top.proofs.Leaving.{accepted_leaves, stopped_leaves}
@@ -8,10 +8,10 @@ use Rattle.xdg_top.proofs.parse.parse_expanded.Goals as goal
 
 pub returns-in-Ok-read_problem-clause-leaves : goal.returns-in-Ok-read_problem-clause-leaves
 returns-in-Ok-read_problem-clause-leaves g c content told =
-    accepted_leaves Parts statuses.BadSentence (IsBadSentence (meaning_of c.args.expanded.now) c.args.options.now.segment content) (HasProblem (meaning_of c.args.expanded.now) c.args.options.now.segment content) (Searched c.args.options.now) c.in-Ok-read_problem.problem c.search.result _ _
+    accepted_leaves Parts statuses.BadSentence (IsBadSentence (meaning_of c.args.expanded.now) c.args.options.now.segment content) (HasProblem (meaning_of c.args.expanded.now) c.args.options.now.segment content) (Parsed c.args.options.now) c.in-Ok-read_problem.problem c.search.result _ _
     (c.in-Ok-read_problem.ensures.found content told) c.search.ensures.leaves
 
 pub returns-clause-leaves : goal.returns-clause-leaves
 returns-clause-leaves g c content told =
-    stopped_leaves Parts statuses.BadSentence (IsBadSentence (meaning_of c.args.expanded.now) c.args.options.now.segment content) (HasProblem (meaning_of c.args.expanded.now) c.args.options.now.segment content) (Searched c.args.options.now) _ _ _ c.refuse.result c.in-Err-read_problem.refusal _ _
+    stopped_leaves Parts statuses.BadSentence (IsBadSentence (meaning_of c.args.expanded.now) c.args.options.now.segment content) (HasProblem (meaning_of c.args.expanded.now) c.args.options.now.segment content) (Parsed c.args.options.now) _ _ _ c.refuse.result c.in-Err-read_problem.refusal _ _
     told (λ e. e) (c.in-Err-read_problem.ensures.refused content) c.refuse.ensures.written

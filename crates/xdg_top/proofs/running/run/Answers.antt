@@ -6,7 +6,7 @@ use Rattle.xdg_text.specs.Lines.{usage_line}
 use Rattle.xdg_top.specs.Outcomes.{CheckOf, ExplainOf, LexiconOf, OutcomeOf, PrintOf}
 use Rattle.xdg_top.specs.Runs.{Leaves}
 use Rattle.xdg_top.specs.declared.status.Status.TheVariants as statuses
-use Rattle.xdg_top.proofs.Commanded.{commanded_leaves, explain_failed, file_failed, only_usage, parse_failed, the_command, the_none}
+use Rattle.xdg_top.proofs.Commanded.{commanded_leaves, explain_failed, file_failed, only_usage, parse_failed, resume_failed, the_command, the_none}
 use Rattle.xdg_top.proofs.Leaving.{ends_of, front_of}
 use Rattle.xdg_top.proofs.running.run.Goals as goal
 
@@ -33,6 +33,19 @@ returns-in-Parse-clause-read_fault g c failed =
 
 pub returns-in-Parse-clause-files_alone : goal.returns-in-Parse-clause-files_alone
 returns-in-Parse-clause-files_alone g c none = absurd (none c.in-Parse.options (subst (IsCommand (map string_bytes c.args.words.now)) c.in-Parse.is (the_command (map string_bytes c.args.words.now) c.in-Ok-Some.field-0 c.in-Ok-Some.command c.in-Ok-Some.field-0-is c.in-Ok-Some.ensures.exact).0))
+
+pub returns-in-Resume-clause-leaves : goal.returns-in-Resume-clause-leaves
+returns-in-Resume-clause-leaves g c files content told given =
+    commanded_leaves (map string_bytes c.args.words.now) files content c.in-Ok-Some.command (commands.Resume c.in-Resume.options) c.resume_analysis.result (g.K.Sink.held c.args.out.now) (g.K.Sink.held c.resume_analysis.new.out) c.in-Resume.is (the_command (map string_bytes c.args.words.now) c.in-Ok-Some.field-0 c.in-Ok-Some.command c.in-Ok-Some.field-0-is c.in-Ok-Some.ensures.exact)
+    (c.resume_analysis.ensures.leaves files told)
+
+pub returns-in-Resume-clause-no_command : goal.returns-in-Resume-clause-no_command
+returns-in-Resume-clause-no_command g c none = absurd (none c.in-Ok-Some.command (the_command (map string_bytes c.args.words.now) c.in-Ok-Some.field-0 c.in-Ok-Some.command c.in-Ok-Some.field-0-is c.in-Ok-Some.ensures.exact).0)
+
+pub returns-in-Resume-clause-read_fault : goal.returns-in-Resume-clause-read_fault
+returns-in-Resume-clause-read_fault g c failed =
+    resume_failed (map string_bytes c.args.words.now) c.in-Ok-Some.command c.in-Resume.options (g.H.Shelf.faults c.args.shelf.now) (g.H.Shelf.faults c.resume_analysis.new.shelf) (g.S.Source.faults c.args.input.now) (g.S.Source.faults c.args.input.now)
+    c.in-Resume.is (the_command (map string_bytes c.args.words.now) c.in-Ok-Some.field-0 c.in-Ok-Some.command c.in-Ok-Some.field-0-is c.in-Ok-Some.ensures.exact) (c.resume_analysis.ensures.read_fault failed)
 
 pub returns-in-Explain-clause-leaves : goal.returns-in-Explain-clause-leaves
 returns-in-Explain-clause-leaves g c files content told given =

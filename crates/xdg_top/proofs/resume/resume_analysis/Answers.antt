@@ -1,0 +1,23 @@
+use Rattle.std.proofs.Common.{◌≡◌, ◌∙◌, Some, subst}
+use Rattle.xdg_top.specs.Loaded.{read_of}
+use Rattle.xdg_top.specs.Outcomes.{AnalysisThen, MeaningThen, Resumed}
+use Rattle.xdg_top.specs.Refusals.{Stops}
+use Rattle.xdg_top.specs.Stages.{Accepts}
+use Rattle.xdg_top.specs.Texts.{HasBadText, HasTree, ReadText}
+use Rattle.xdg_top.specs.declared.status.Status.TheVariants as statuses
+use Rattle.xdg_top.proofs.Leaving.{accepted_leaves, stopped_leaves}
+use Rattle.xdg_top.proofs.resume.resume_analysis.Goals as goal
+
+pub returns-in-Ok-clause-leaves : goal.returns-in-Ok-clause-leaves
+returns-in-Ok-clause-leaves g c files told =
+    let o = c.args.options.now in
+    accepted_leaves ReadText statuses.BadText (HasBadText files o.grammar) (HasTree files o.grammar) (λ read. MeaningThen read (AnalysisThen files o.analysis (Resumed o))) (read_of c.in-Ok.loaded) c.resume_loaded.result _ _
+    (subst (λ n. Accepts ReadText (HasBadText files n) (HasTree files n) (read_of c.in-Ok.loaded)) c.as_str.ensures (c.in-Ok.ensures.found files told)) (c.resume_loaded.ensures.leaves files (c.load_tree.ensures.kept ∙ told))
+
+pub returns-in-Err-clause-leaves : goal.returns-in-Err-clause-leaves
+returns-in-Err-clause-leaves g c files told =
+    let o = c.args.options.now in
+    let old = g.H.Shelf.faults c.args.shelf.now c.as_str.result.now in
+    let new = g.H.Shelf.faults c.load_tree.new.shelf c.as_str.result.now in
+    stopped_leaves ReadText statuses.BadText (HasBadText files o.grammar) (HasTree files o.grammar) (λ read. MeaningThen read (AnalysisThen files o.analysis (Resumed o))) (g.H.Shelf.files c.args.shelf.now ≡ Some files) old new c.refuse.result c.in-Err.refusal _ _ told (λ e. e)
+    (subst (λ n. Stops (g.H.Shelf.files c.args.shelf.now ≡ Some files) old new ReadText (HasBadText files n) (HasTree files n) c.in-Err.refusal) c.as_str.ensures (c.in-Err.ensures.refused files)) c.refuse.ensures.written
