@@ -4,7 +4,7 @@ use Rattle.std.specs.Prelude.{filter, Option}
 use Rattle.std.proofs.lemmas.List.{take-append-drop, take_all}
 use Rattle.std.proofs.lemmas.List.Elements.{filter-append}
 use Rattle.xdg_listing.specs.Whole.{is_whole, reach}
-use Rattle.xdg_listing.specs.Endings.{IsBelow, IsAt, IsEnding}
+use Rattle.xdg_listing.specs.Endings.{IsBelow, IsAt, IsEnding, OneEnding}
 use Rattle.xdg_listing.specs.declared.Ending.{Ending}
 use Rattle.xdg_listing.specs.declared.Ending.TheVariants as endings
 use Rattle.xdg_listing.proofs.Ordered.{three_cases}
@@ -65,3 +65,14 @@ ending_exists shape b wanted counted solutions e = elim (wanted_or wanted (reach
     | inr c ↦ (endings.Spent, reach shape b counted, (refl, c, l))
   ]
 ]
+
+-- so there is one
+pub one_ending : OneEnding
+one_ending shape b wanted counted =
+    let some = ending_exists shape b wanted counted (filter (is_whole shape) counted) refl in
+    record {
+      ending = some.0;
+      number = some.1;
+      is = some.2;
+      only = λ other m is. ending_unique other some.0 shape b wanted counted (filter (is_whole shape) counted) m some.1 refl is some.2;
+    }

@@ -9,6 +9,7 @@ use Rattle.xdg_listing.specs.Order.{Less}
 use Rattle.xdg_listing.specs.Fits.{Fits}
 use Rattle.xdg_listing.specs.Listing.{Member, RisesFrom, IsListing}
 use Rattle.xdg_listing.specs.Whole.{Whole, is_whole}
+use Rattle.xdg_listing.specs.Endings.{WholeListed}
 use Rattle.xdg_listing.proofs.Ordered.{less_transitive}
 use Rattle.xdg_listing.proofs.Unique.{listing_unique}
 
@@ -45,6 +46,9 @@ whole_listing shape P a xs i = record {
   each = filter_each (λ x. Fits shape x × P x) (λ x. Fits shape x × Whole shape P x) (is_whole shape) xs (λ x q e. (q.0, (q.1, eqb-true (length x) (length shape) e))) i.each;
   all = λ x f w l. filter_member (is_whole shape) x xs (eq-eqb (length x) (length shape) w.1) (i.all x f w.0 l);
 }
+
+pub whole_listed : WholeListed
+whole_listed shape test start counted listing = whole_listing shape (λ x. test x ≡ true) start counted listing
 
 pub whole_unique : (shape : List ℕ) (P : List ℕ → Type 0) (a : List ℕ) (counted solutions : List (List ℕ)) → IsListing shape P a counted → IsListing shape (Whole shape P) a solutions → filter (is_whole shape) counted ≡ solutions
 whole_unique shape P a counted solutions i j = listing_unique shape (Whole shape P) a (filter (is_whole shape) counted) solutions (whole_listing shape P a counted i) j

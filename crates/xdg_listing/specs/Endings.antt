@@ -1,6 +1,7 @@
 -- The three ways in which answers can end: m of them, for a budget b and a wanted number n, where there is one.
-use Rattle.std.specs.Prelude.{◌≡◌, ℕ, ◌<◌, ◌≤◌, List, length, Option, Some, None}
-use Rattle.xdg_listing.specs.Whole.{reach}
+use Rattle.std.specs.Prelude.{◌≡◌, ℕ, ◌<◌, ◌≤◌, Bool, true, List, length, filter, Option, Some, None}
+use Rattle.xdg_listing.specs.Listing.{IsListing}
+use Rattle.xdg_listing.specs.Whole.{Whole, is_whole, reach}
 use Rattle.xdg_listing.specs.declared.Ending.{Ending}
 use Rattle.xdg_listing.specs.declared.Ending.TheVariants as endings
 
@@ -36,3 +37,21 @@ abbrev pub IsEnding : Ending → List ℕ → ℕ → Option ℕ → List (List 
 IsEnding endings.Complete shape b wanted counted solutions m = Complete shape b wanted counted solutions m
 IsEnding endings.First shape b wanted counted solutions m = First shape b wanted counted solutions m
 IsEnding endings.Spent shape b wanted counted solutions m = Spent shape b wanted counted solutions m
+
+-- over the list of the counted prefixes, of which the solutions are the whole ones, there is one ending with one number of
+-- answers, and no other
+pub record HasOneEnding (shape : List ℕ) (b : ℕ) (wanted : Option ℕ) (counted : List (List ℕ)) : Type 0 where
+  pub ending : Ending
+  pub number : ℕ
+  pub is : IsEnding ending shape b wanted counted (filter (is_whole shape) counted) number
+  pub only : (other : Ending) (m : ℕ) → IsEnding other shape b wanted counted (filter (is_whole shape) counted) m → (other ≡ ending) × (m ≡ number)
+
+-- each budget, each wanted number and each list have one ending
+abbrev pub OneEnding : Type 0
+OneEnding = (shape : List ℕ) (b : ℕ) (wanted : Option ℕ) (counted : List (List ℕ)) → HasOneEnding shape b wanted counted
+
+-- the whole ones in the list of all that pass a test are the list of the whole ones that pass it
+abbrev pub WholeListed : Type 0
+WholeListed =
+    (shape : List ℕ) (test : List ℕ → Bool) (start : List ℕ) (counted : List (List ℕ)) → IsListing shape (λ x. test x ≡ true) start counted
+    → IsListing shape (Whole shape (λ x. test x ≡ true)) start (filter (is_whole shape) counted)

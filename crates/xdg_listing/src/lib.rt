@@ -9,6 +9,7 @@ ghost use Rattle.std.specs.Prelude.{◌≡◌, ◌↔◌, ℕ, Bool, true, List,
 ghost use Rattle.xdg_listing.specs.Order.{Less, IsStrictOrder};
 ghost use Rattle.xdg_listing.specs.Fits.{Fits};
 ghost use Rattle.xdg_listing.specs.Listing.{HasOneListing};
+ghost use Rattle.xdg_listing.specs.Endings.{OneEnding, WholeListed};
 
 use std::cmp::Ordering;
 
@@ -50,3 +51,12 @@ pub fn fits(shape: &[u16], numbers: &[u16]) -> bool
     }
     true
 }
+
+/// A law, and nothing to run: over the one list of counted prefixes the answers end in exactly one way, with exactly one number
+/// of answers, and their solutions are the list of the whole vectors among them. It rests on the order: what is listed rises, so
+/// a budget cuts off a front.
+#[tactic(auto, using(crate::proofs::OneEnding::one_ending))]
+pub fn one_ending()
+    ensures one { OneEnding }
+    ensures whole { WholeListed }
+{}
