@@ -4,7 +4,7 @@ use Rattle.std.specs.Prelude.{Bool, true, false, Option, None, Some, MatchOption
 use Rattle.std.proofs.lemmas.Bool.{cases_eq, eq-eqb, ne_eqb, true≢false}
 use Rattle.xdg_domain.specs.Cards.{IsCards}
 use Rattle.xdg_domain.specs.Values.{IsIn, IsFieldOf, IsValue}
-use Rattle.xdg_domain.specs.Joins.{SaysBoth, OnSome, AllowsBoth, IsApart, JoinsIn, JoinsField, Joins, ClashesIn, ClashesField, Clashes}
+use Rattle.xdg_domain.specs.Joins.{SaysBoth, OnSome, AllowsBoth, IsApart, JoinsIn, JoinsField, Joins, ClashesIn, ClashesField, Clashes, HasOneJoin, JoinLaws}
 use Rattle.xdg_domain.specs.Joined.{merged, allowed, same_list, same_number, same_bool, of_card, of_valency, of_map, of_record, joined_in, joined_field, joined, TellsJoin}
 use Rattle.xdg_domain.specs.Shapes.{Shape, Shapes, domain, tuple, truth, integer, text, set, iset, card, valency, mapping, fields, Fields, no_field, field_then, count}
 use Rattle.xdg_domain.specs.declared.values.Value.{Value, out-Value, roll-Value, roll-out-Value}
@@ -274,6 +274,21 @@ associates s x y z u w f g h i j = elim (decided s y z g h) [
   | inl (t, (k, _)) ↦ (t, (k, regroups s (out-Value x) (out-Value y) (out-Value z) (out-Value u) (out-Value t) (out-Value w) i j k))
   | inr clash ↦ absurd (apart s (out-Value u) (out-Value z) (out-Value w) j (stays s (out-Value x) (out-Value y) (out-Value z) (out-Value u) i clash))
 ]
+
+-- ---- all of it
+
+one_or_clash : (s : Shape) (x y : Value) → Decided s x y → HasOneJoin s x y ⊎ Clashes s x y
+one_or_clash s x y (inl (z, (joins, (is, only)))) = inl (record { value = z; joins = joins; is = is; only = only })
+one_or_clash s x y (inr clash) = inr clash
+
+pub lawful : (s : Shape) → JoinLaws s
+lawful s = record {
+  decided = λ x y g h. one_or_clash s x y (decided s x y g h);
+  exclusive = λ x y z g h. exclusive s x y g h z;
+  commutes = commutes s;
+  clash_commutes = clash_commutes s;
+  associates = λ x y z both all f g h i j. (let later = associates s x y z both all f g h i j in record { value = later.0; later = later.1; joins = later.2 });
+}
 
 -- ---- what a call of the join tells
 

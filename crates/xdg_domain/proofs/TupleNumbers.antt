@@ -3,7 +3,7 @@ use Rattle.std.proofs.Common.{◌≡◌, ℕ, ◌<◌, ◌+◌, ◌*◌, ◌/◌
 use Rattle.std.proofs.Math.Nat.{mul_comm, mul_assoc, mod-lt, div-lt_iff_lt-mul, mul-add-div_right, mul-add-mod_self_right, mod-eq_of_lt}
 use Rattle.std.proofs.lemmas.Nat.{mul-add-lt, div-mul-add, mod-mul-add, div-add-mod'}
 use Rattle.xdg_domain.specs.Shapes.{product}
-use Rattle.xdg_domain.specs.Tuples.{index, places, InRange}
+use Rattle.xdg_domain.specs.Tuples.{index, places, InRange, TupleLaws}
 
 -- ---- both ways
 
@@ -50,6 +50,14 @@ places_in_range [] n below = tt
 places_in_range (s ∷ ss) n below =
     let some = some_after s (product ss) n below in
     ((div-lt_iff_lt-mul {k = product ss} {x = n} {y = s} some).1 below, places_in_range ss (n % product ss) (mod-lt n some))
+
+pub tuples_one_to_one : (sizes : List ℕ) → TupleLaws sizes
+tuples_one_to_one sizes = record {
+  below = index_below sizes;
+  range = places_in_range sizes;
+  back = places_of_index sizes;
+  forth = index_of_places sizes;
+}
 
 -- ---- one place
 

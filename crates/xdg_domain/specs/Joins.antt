@@ -1,9 +1,10 @@
 -- What two values of a type say together.
-use Rattle.std.specs.Prelude.{◌≡◌, ℕ, zero, suc, ◌&&◌, ◌||◌, false, List, Option, None, Some}
+use Rattle.std.specs.Prelude.{◌≡◌, ◌⊎◌, ℕ, zero, suc, ◌&&◌, ◌||◌, false, List, Option, None, Some}
 use Rattle.std.specs.List.Sorted.{IsStrictlyIncreasing}
 use Rattle.xdg_domain.specs.Cards.{has, IsCards}
 use Rattle.xdg_domain.specs.Valencies.{said_at, KeysRise}
 use Rattle.xdg_domain.specs.Shapes.{Shape, domain, tuple, truth, integer, text, set, iset, card, valency, mapping, fields, Fields, no_field, field_then}
+use Rattle.xdg_domain.specs.Values.{IsValue}
 use Rattle.xdg_domain.specs.declared.values.Value.{Value, out-Value}
 use Rattle.xdg_domain.specs.declared.values.Value.TheOpen.{Value-F}
 
@@ -95,3 +96,29 @@ abbrev mutual
 
 abbrev pub Clashes : Shape → Value → Value → Type 0
 Clashes s x y = ClashesIn s (out-Value x) (out-Value y)
+
+-- ---- what joins obey
+
+-- exactly one value joins the two, and it is one of the type
+pub record HasOneJoin (s : Shape) (x y : Value) : Type 0 where
+  pub value : Value
+  pub joins : Joins s x y value
+  pub is : IsValue s value
+  pub only : (other : Value) → Joins s x y other → other ≡ value
+
+-- a value that joins x with what joins y and z
+pub record JoinsLater (s : Shape) (x y z all : Value) : Type 0 where
+  pub value : Value
+  pub later : Joins s y z value
+  pub joins : Joins s x value all
+
+-- Two values of a type have exactly one join or they clash, never both. In which order two are joined, and in which grouping
+-- three, makes no difference.
+pub record JoinLaws (s : Shape) : Type 0 where
+  pub decided : (x y : Value) → IsValue s x → IsValue s y → HasOneJoin s x y ⊎ Clashes s x y
+  pub exclusive : (x y z : Value) → IsValue s x → IsValue s y → Joins s x y z → Clashes s x y → ⊥
+  pub commutes : (x y z : Value) → Joins s x y z → Joins s y x z
+  pub clash_commutes : (x y : Value) → Clashes s x y → Clashes s y x
+  pub associates :
+      (x y z both all : Value) → IsValue s x → IsValue s y → IsValue s z → Joins s x y both → Joins s both z all
+      → JoinsLater s x y z all

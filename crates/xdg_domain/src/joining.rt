@@ -1,9 +1,9 @@
 //! What two values of a type say together.
 
 ghost use Rattle.std.specs.Prelude.{◌≡◌, IfOk, IfSome, MatchOption};
-ghost use Rattle.xdg_domain.specs.Shapes.{shape};
+ghost use Rattle.xdg_domain.specs.Shapes.{Shape, shape};
 ghost use Rattle.xdg_domain.specs.Values.{IsValue};
-ghost use Rattle.xdg_domain.specs.Joins.{Joins, Clashes};
+ghost use Rattle.xdg_domain.specs.Joins.{Joins, Clashes, JoinLaws};
 ghost use Rattle.xdg_domain.specs.Joined.{either, both, allowed, merged, same_list, joined, joined_field, fields_in};
 
 use crate::cards::CardSet;
@@ -33,6 +33,13 @@ pub fn join(
 {
     Ok(join_values(alloc, ty, one, other)?)
 }
+
+/// A law, and nothing to run: two values of a type have exactly one join, or they clash; it commutes and associates. So what
+/// many values say together is one value, in whatever order they are joined. Joins are those of feature structures, whose
+/// conjunction is their least upper bound.
+pub fn join_laws()
+    ensures { (s : Shape) → JoinLaws s }
+{}
 
 /// The same as [`join`] for values of the type; None for values of another form. A row of the table of types is an arm.
 #[cycle(join)]

@@ -14,9 +14,9 @@ mod values;
 
 pub use cards::CardSet;
 pub use defaults::{MOST_PARTS, default_of, parts};
-pub use joining::join;
+pub use joining::{join, join_laws};
 pub use sets::SetOf;
-pub use tuples::{Tuple, count, tuple_index, tuple_of};
+pub use tuples::{Tuple, count, tuple_index, tuple_laws, tuple_of};
 pub use types::Ty;
 pub use valencies::CardMap;
 pub use values::{Entry, Fields, Value, ValueMap};

@@ -1,9 +1,9 @@
 //! The numbers of constants and of tuples.
 
-ghost use Rattle.std.specs.Prelude.{◌≡◌, ℕ, ◌<◌, ◌≤◌, ◌+◌, ◌-◌, ◌*◌, ◌^◌, length, min, get_or, map};
+ghost use Rattle.std.specs.Prelude.{◌≡◌, ℕ, ◌<◌, ◌≤◌, ◌+◌, ◌-◌, ◌*◌, ◌^◌, List, length, min, get_or, map};
 ghost use Rattle.xdg_domain.specs.Shapes.{shape, shapes_of, constants, sizes_in, product, count, IsSmall, IsTuple, IsTupleType};
 ghost use Rattle.xdg_domain.specs.Sized.{sizes_of};
-ghost use Rattle.xdg_domain.specs.Tuples.{index, places, InRange};
+ghost use Rattle.xdg_domain.specs.Tuples.{index, places, InRange, TupleLaws};
 ghost use Rattle.xdg_domain.specs.Values.{AllBelow};
 
 use crate::types::Ty;
@@ -155,3 +155,9 @@ impl<'a> Tuple<'a> {
         constant_at(self.fields, self.number, field)
     }
 }
+
+/// A law, and nothing to run: [`tuple_index`] and [`tuple_of`] are inverse to one another. Numbers with mixed bases, one base a
+/// field, the first field counting slowest.
+pub fn tuple_laws()
+    ensures { (sizes : List ℕ) → TupleLaws sizes }
+{}
