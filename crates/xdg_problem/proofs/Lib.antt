@@ -29,6 +29,7 @@ pub mod LiveDecided
 pub mod TriedAsks
 pub mod Verdicts
 pub mod OneList
+pub mod Lawful
 pub mod Counted
 pub mod Less
 pub mod EntryOrder

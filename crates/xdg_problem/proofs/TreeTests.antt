@@ -11,7 +11,7 @@ use Rattle.xdg_problem.specs.Places.{nodes}
 use Rattle.xdg_problem.specs.Paths.{edges_on, Leads, Above, NoCycle, mothers}
 use Rattle.xdg_problem.specs.Arguments.{first_dim, label_count}
 use Rattle.xdg_problem.specs.Asking.{first, Asks}
-use Rattle.xdg_problem.specs.Relations.{IsKept, IsTree}
+use Rattle.xdg_problem.specs.Relations.{IsKept}
 use Rattle.xdg_problem.specs.Tests.{one_mother, no_cycle, one_root, one_label, looks_first, looks_at}
 use Rattle.xdg_problem.proofs.FilterFacts.{count_of_filter, filter_alike, filter_fewer, filter_among}
 use Rattle.xdg_problem.proofs.Looking.{and_3, count_same}
@@ -100,18 +100,3 @@ module _ (parts : Parts) (group : Group) (candidates attrs : List ℕ) (edges : 
       let inner = and_parts (e.mother.0 == u) (e.daughter.0 == v) outer.1 in
       and_3 (e.dim.0 == first_dim group) (e.mother.0 == u) (e.daughter.0 == v) outer.0 inner.0 inner.1) in
       (subst (λ m. m ≤ 1) same, subst (λ m. m ≤ 1) (sym same)))
-
-  -- the conditions of tree say that the edges of the dimension make one
-  pub tree_conditions : (IsKept parts group candidates attrs edges conditions.Cycle × IsKept parts group candidates attrs edges conditions.Roots × IsKept parts group candidates attrs edges conditions.Mothers) ↔ IsTree n on
-  tree_conditions = (
-    λ kept. record {
-      cycle = no_cycle_kept.1 kept.0;
-      roots_one = kept.1 (_ ∷ []) refl;
-      mothers_most = λ v below. kept.2 (v ∷ []) (below, tt);
-    },
-    λ tree. (
-      no_cycle_kept.0 tree.cycle,
-      λ tuple is. ap first is ∙ tree.roots_one,
-      tuples_1 (Asks conditions.Mothers parts group candidates attrs edges) n tree.mothers_most,
-    ),
-  )

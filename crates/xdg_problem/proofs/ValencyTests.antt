@@ -12,7 +12,7 @@ use Rattle.xdg_problem.specs.Paths.{edges_on, edges_into, edges_out_of}
 use Rattle.xdg_problem.specs.Features.{in_row, out_row}
 use Rattle.xdg_problem.specs.Arguments.{first_dim, label_count}
 use Rattle.xdg_problem.specs.Asking.{Asks}
-use Rattle.xdg_problem.specs.Relations.{IsKept, IsValent}
+use Rattle.xdg_problem.specs.Relations.{IsKept}
 use Rattle.xdg_problem.specs.Tests.{out_count, in_count, looks_first, Counts}
 use Rattle.xdg_problem.proofs.FilterFacts.{count_of_filter, filter_alike, filter_fewer}
 use Rattle.xdg_problem.proofs.Tuples.{tuples_2}
@@ -81,17 +81,4 @@ module _ (parts : Parts) (group : Group) (candidates attrs : List ℕ) (edges : 
   out_tests daughters = (
     λ passes. tuples_2 (Asks conditions.OutCount parts group candidates attrs edges) n labels (λ v node l label. subst (Contains (out_row group v (slice_index candidates v) l)) (out_last n (first_dim group) v l edges daughters (n - 1) last) ((passes v node l label (n - 1) below_last).1 last)),
     λ kept v node l label k below. counts_part n k (edges_out_of (edges_on (first_dim group) edges) v l) (length (filter (looks_first (first_dim group) (out_count v l k)) edges)) (out_row group v (slice_index candidates v) l) (kept (v ∷ l ∷ []) (node, (label, tt))) (out_part n (first_dim group) v l edges k) (out_last n (first_dim group) v l edges daughters k),
-  )
-
-  -- the conditions of valency say that each number of edges is one that the entry allows
-  pub valency_conditions : (IsKept parts group candidates attrs edges conditions.InCount × IsKept parts group candidates attrs edges conditions.OutCount) ↔ IsValent parts group candidates (edges_on (first_dim group) edges)
-  valency_conditions = (
-    λ kept. record {
-      into = λ v l node label. kept.0 (v ∷ l ∷ []) (node, (label, tt));
-      out = λ v l node label. kept.1 (v ∷ l ∷ []) (node, (label, tt));
-    },
-    λ valent. (
-      tuples_2 (Asks conditions.InCount parts group candidates attrs edges) n labels (λ v node l label. valent.into v l node label),
-      tuples_2 (Asks conditions.OutCount parts group candidates attrs edges) n labels (λ v node l label. valent.out v l node label),
-    ),
   )

@@ -17,7 +17,7 @@ pub mod Tests
 pub mod Live
 pub mod Solutions
 pub mod Problems
-pub mod FirstFour
+pub mod Laws
 pub mod Tries
 pub mod Names
 pub mod Boxes

@@ -1,16 +1,12 @@
 -- What each principle use asks of an analysis.
-use Rattle.std.specs.Prelude.{◌≡◌, ℕ, ◌<◌, ◌≤◌, List, length, slice_index, slice_index_or, All, Contains}
+use Rattle.std.specs.Prelude.{◌≡◌, ℕ, ◌<◌, List, length, slice_index_or, All}
 use Rattle.xdg_listing.specs.Order.{AtMost}
 use Rattle.xdg_problem.specs.declared.analysis.Analysis.{Analysis}
 use Rattle.xdg_problem.specs.declared.analysis.Edge.{Edge}
 use Rattle.xdg_problem.specs.declared.conditions.Condition.{Condition}
 use Rattle.xdg_problem.specs.declared.parts.Group.{Group}
 use Rattle.xdg_problem.specs.declared.parts.Parts.{Parts}
-use Rattle.xdg_problem.specs.Places.{nodes}
 use Rattle.xdg_problem.specs.Vectors.{entry_places}
-use Rattle.xdg_problem.specs.Paths.{edges_into, edges_out_of, NoCycle, mothers, roots}
-use Rattle.xdg_problem.specs.Features.{in_row, out_row}
-use Rattle.xdg_problem.specs.Arguments.{first_dim, label_count}
 use Rattle.xdg_problem.specs.Conditions.{conditions_of, IsTuple}
 use Rattle.xdg_problem.specs.Asking.{Asks}
 
@@ -36,14 +32,3 @@ pub record IsFirstBroken (parts : Parts) (group : Group) (analysis : Analysis) (
   pub before : (earlier : ℕ) → earlier < place → IsKept parts group (entry_places parts.candidates analysis.entries) analysis.attrs analysis.edges (slice_index_or (conditions_of group) earlier condition)
   pub breaks : Breaks parts group analysis condition tuple
   pub least : (other : List ℕ) → Breaks parts group analysis condition other → AtMost tuple other
-
--- the edges make a tree: no cycle, exactly one node without mother, and at most one edge into each node
-pub record IsTree (n : ℕ) (edges : List Edge) : Type 0 where
-  pub cycle : NoCycle edges
-  pub roots_one : length (roots n edges) ≡ 1
-  pub mothers_most : (v : ℕ) → v < n → mothers edges v ≤ 1
-
--- for each node and label the number of edges in, and the number out, is one that the node's entry allows
-pub record IsValent (parts : Parts) (group : Group) (candidates : List ℕ) (edges : List Edge) : Type 0 where
-  pub into : (v l : ℕ) → v < nodes parts → l < label_count parts (first_dim group) → Contains (in_row group v (slice_index candidates v) l) (edges_into edges v l)
-  pub out : (v l : ℕ) → v < nodes parts → l < label_count parts (first_dim group) → Contains (out_row group v (slice_index candidates v) l) (edges_out_of edges v l)

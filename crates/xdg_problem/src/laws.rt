@@ -1,0 +1,28 @@
+//! What tests, live prefixes, solutions and verdicts keep.
+
+ghost use Rattle.std.specs.Prelude.{ℕ, List};
+ghost use Rattle.xdg_problem.specs.declared.analysis.Analysis.{Analysis};
+ghost use Rattle.xdg_problem.specs.declared.parts.Group.{Group};
+ghost use Rattle.xdg_problem.specs.declared.parts.Parts.{Parts};
+ghost use Rattle.xdg_problem.specs.Laws.{HasOneVerdict, LiveLaws, SolutionLaws};
+ghost use Rattle.xdg_problem.specs.Problems.{IsProblem};
+
+/// A law, and nothing to run: on a whole analysis all tests of a principle together are its relation, so a whole vector is
+/// live exactly where its analysis is a solution, and each prefix of a solution is live. The tests are those of a search that
+/// looks ahead: a constraint is asked as soon as all that it reads is decided.
+#[tactic(auto, using(crate::proofs::Lawful::live_lawful))]
+pub fn live_laws()
+    ensures { (parts : Parts) → IsProblem parts → LiveLaws parts }
+{}
+
+/// A law, and nothing to run: after any start there is one list of the solutions, in rising order, and it is that of the whole
+/// live vectors. The order is that of the decisions, as a search by depth first meets them.
+pub fn solution_laws()
+    ensures { (parts : Parts) (start : List ℕ) → IsProblem parts → SolutionLaws parts start }
+{}
+
+/// A law, and nothing to run: of each principle use an analysis satisfies the relation, or exactly one condition with one tuple
+/// is the first that it breaks. Conditions come in their order and tuples item by item, so there is a least that is broken.
+pub fn verdict_laws()
+    ensures { (parts : Parts) (group : Group) (analysis : Analysis) → HasOneVerdict parts group analysis }
+{}
