@@ -15,7 +15,7 @@ use Rattle.xdg_problem.proofs.WholeTests.{whole_live}
 use Rattle.xdg_problem.specs.Boxes.{Has, IsBox, LiesIn, IsSingle, IsIn, without}
 use Rattle.xdg_rules.specs.Rules.{first_true, Takes, IsClosedFor, IsClosed}
 use Rattle.xdg_rules.specs.Boxed.{only, first_numbers, Boxed}
-use Rattle.xdg_rules.specs.Laws.{IsInside, RuleLaws, BoxedLaws}
+use Rattle.xdg_rules.specs.Laws.{IsInside, RuleLaws, EachRuleLaws, BoxedLaws}
 use Rattle.xdg_rules.proofs.ClosedLive.{some_value, boxed_live, boxed_closed}
 use Rattle.xdg_rules.proofs.DecidingClosed.{one_boxed_list}
 use Rattle.xdg_rules.proofs.Greatest.{greatest_closed}
@@ -67,6 +67,9 @@ module _ (parts : Parts) (problem : IsProblem parts) where
       alone = alone;
       stays = stays;
     }
+
+  pub each_rule_laws : EachRuleLaws parts
+  each_rule_laws k d within = rule_laws _ (problem.groups k d within)
 
   boxed_solution : (x : List ℕ) → Fits (shape parts) x → length x ≡ length (shape parts) → Boxed parts x → IsSolution parts (analysis_of parts x)
   boxed_solution x fits whole boxed = record {

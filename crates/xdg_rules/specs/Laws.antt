@@ -1,5 +1,5 @@
 -- What the rules of all principles keep.
-use Rattle.std.specs.Prelude.{◌≡◌, ◌⊎◌, ◌↔◌, ℕ, Bool, List, length}
+use Rattle.std.specs.Prelude.{◌≡◌, ◌⊎◌, ◌↔◌, ℕ, Bool, List, length, All}
 use Rattle.xdg_listing.specs.Closed.{Closed}
 use Rattle.xdg_listing.specs.Fits.{Fits}
 use Rattle.xdg_listing.specs.Listing.{HasOneListing}
@@ -39,6 +39,10 @@ pub record RuleLaws (parts : Parts) (group : Group) : Type 0 where
   pub alone : (box : List (List Bool)) → IsBox (shape parts) box → IsSingle box → IsClosedFor parts group box ↔ Relation parts group (analysis_of parts (first_numbers box))
   -- it takes no value of an analysis of the box that satisfies it
   pub stays : (box : List (List Bool)) (analysis : Analysis) → IsAnalysis parts analysis → IsIn box (vector parts analysis) → Relation parts group analysis → (d v : ℕ) → Takes parts group box d v → Has (only (shape parts) (vector parts analysis)) d v → ⊥
+
+-- what each principle use keeps
+abbrev pub EachRuleLaws : Parts → Type 0
+EachRuleLaws parts = All (RuleLaws parts) parts.groups
 
 -- what closed boxes and boxed prefixes keep
 pub record BoxedLaws (parts : Parts) : Type 0 where
