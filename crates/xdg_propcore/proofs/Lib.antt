@@ -3,6 +3,7 @@ pub mod Losses
 pub mod Waking
 pub mod Settling
 pub mod Analyses
+pub mod Decided
 pub mod DecisionKinds
 pub mod Removing
 pub mod SampleSteps

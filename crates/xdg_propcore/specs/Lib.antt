@@ -1,6 +1,7 @@
 pub mod Kinds
 pub mod Losses
 pub mod Uses
+pub mod Decides
 pub mod Steps
 pub mod Fixed
 pub mod Flags

@@ -5,6 +5,7 @@
 
 mod agenda;
 mod awake;
+mod deciding;
 mod fixpoint;
 mod moved;
 mod pass;
@@ -13,6 +14,7 @@ mod running;
 mod wake;
 
 pub use agenda::{Agenda, settle};
+pub use deciding::still_decides;
 pub use fixpoint::Fixpoint;
 pub use moved::Moved;
 pub use pass::Pass;
