@@ -287,7 +287,7 @@ lawful s = record {
   exclusive = λ x y z g h. exclusive s x y g h z;
   commutes = commutes s;
   clash_commutes = clash_commutes s;
-  associates = λ x y z both all f g h i j. (let later = associates s x y z both all f g h i j in record { value = later.0; later = later.1; joins = later.2 });
+  associates = λ x y z both all f g h i j. (let later = associates s x y z both all f g h i j in record { value = later.0; later = later.1.0; joins = later.1.1 });
 }
 
 -- ---- what a call of the join tells
