@@ -1,9 +1,11 @@
 //! The pass over the names in the bodies of classes and entries.
 
-ghost use Rattle.std.specs.Prelude.{◌≡◌, map, flat_map, IfOk};
+ghost use Rattle.std.specs.Prelude.{◌≡◌, [], ◌++◌, map, flat_map, IfOk};
 ghost use Rattle.xdg_domain.specs.Shapes.{Differ};
 ghost use Rattle.xdg_faults.specs.First.{first, Tells};
-ghost use Rattle.xdg_types.specs.NameFaults.{unknown};
+ghost use Rattle.xdg_types.specs.NameFaults.{unknown, repeats};
+ghost use Rattle.xdg_classes.specs.Definitions.{class_names};
+ghost use Rattle.xdg_classes.specs.Names as sites;
 ghost use Rattle.xdg_classes.specs.Names.{NameOffends, dim_texts};
 ghost use Rattle.xdg_classes.specs.NameFaults as spec;
 ghost use Rattle.xdg_classes.specs.Lent.{said, class_def};
@@ -41,6 +43,7 @@ pub fn check_names(
     names_wrong(alloc, statements, table)
 }
 
+/// The first fault of all passes over names.
 #[tactic(auto, using(xdg_faults::proofs::First::first_append))]
 fn names_wrong(
     alloc: Global,
@@ -49,17 +52,62 @@ fn names_wrong(
 ) -> Result<Option<Fault>, AllocError>
     ensures { IfOk result (λ found. found ≡ first (spec.name_faults statements.now table.now)) }
 {
+    let dimensions = dims_wrong(alloc, statements, table)?;
     let definitions = definitions(alloc, statements)?;
-    let mut names = Index::new(alloc);
-    let twice = classes_again(alloc, &mut names, definitions.as_slice())?;
-    let params = all_params_again(alloc, definitions.as_slice())?;
+    let classes = classes_wrong(alloc, statements, definitions.as_slice())?;
+    Ok(earlier(dimensions, classes))
+}
+
+/// The first record of a dimension that isn't in the table.
+fn dims_wrong(
+    alloc: Global,
+    statements: &[Statement],
+    table: &TypeTable,
+) -> Result<Option<Fault>, AllocError>
+    ensures { IfOk result (λ found. found ≡ first (flat_map (spec.said_faults (dim_texts table.now)) (sites.all_records statements.now))) }
+{
     let dims = dim_names(alloc, table.dims())?;
     let records = all_records(alloc, statements)?;
-    let dimensions = unknown_dims(&dims, records.as_slice());
-    let known = Known::new(alloc, definitions.as_slice())?;
+    Ok(unknown_dims(&dims, records.as_slice()))
+}
+
+/// The first fault of the names of classes and parameters, where these are the classes of the statements.
+#[tactic(auto, using(xdg_faults::proofs::First::first_append))]
+fn classes_wrong(
+    alloc: Global,
+    statements: &[Statement],
+    definitions: &[ClassDef],
+) -> Result<Option<Fault>, AllocError>
+    ensures { IfOk result (λ found. found ≡ first (repeats [] (class_names (map class_def definitions.now))
+        ++ (flat_map spec.param_faults (map class_def definitions.now) ++ flat_map (spec.call_faults (map class_def definitions.now)) (sites.all_calls statements.now)))) }
+{
+    let twice = class_names_again(alloc, definitions)?;
+    let params = all_params_again(alloc, definitions)?;
+    let uses = uses_wrong(alloc, statements, definitions)?;
+    Ok(earlier(twice, earlier(params, uses)))
+}
+
+/// The first class whose name another class before it has.
+fn class_names_again(alloc: Global, definitions: &[ClassDef]) -> Result<Option<Fault>, AllocError>
+    ensures { IfOk result (λ found. found ≡ first (repeats [] (class_names (map class_def definitions.now)))) }
+{
+    let mut names = Index::new(alloc);
+    let twice = classes_again(alloc, &mut names, definitions)?;
+    Ok(twice)
+}
+
+/// The first fault of the uses of classes, where these are the classes.
+fn uses_wrong(
+    alloc: Global,
+    statements: &[Statement],
+    definitions: &[ClassDef],
+) -> Result<Option<Fault>, AllocError>
+    ensures { IfOk result (λ found. found ≡ first (flat_map (spec.call_faults (map class_def definitions.now)) (sites.all_calls statements.now))) }
+{
+    let known = Known::new(alloc, definitions)?;
     let calls = all_calls(alloc, statements)?;
     let uses = check_calls(alloc, &known, calls.as_slice())?;
-    Ok(earlier(dimensions, earlier(twice, earlier(params, uses))))
+    Ok(uses)
 }
 
 /// The first parameter of a class whose name another parameter before it has.
