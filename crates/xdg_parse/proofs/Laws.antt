@@ -1,8 +1,10 @@
 use Rattle.std.proofs.Common.{◌≡◌, ℕ, zero, suc, ◌+◌, Bool, true, false, if◌then◌else◌, List, [], ◌∷◌, ◌++◌, Option, Some, None, Ok, Err, refl, sym, ◌∙◌, ap, append_assoc, arith}
 use Rattle.xdg_lex.specs.Lexed.{Lexeme}
-use Rattle.xdg_ast.specs.Language.{Language, kind_of, ended_by, State, Unexpected, TooDeep, Outcome, ◌>>=◌, bind}
+use Rattle.xdg_ast.specs.Language.{Language, kind_of, State, Unexpected, TooDeep, Outcome, ◌>>=◌, bind}
 use Rattle.xdg_ast.specs.Brackets.{is_opening, is_closing, less, then_walk, past, walk}
-use Rattle.xdg_parse.specs.Laws.{at, WasRead, Says, Alive}
+use Rattle.xdg_parse_terms.specs.Steadiness.{at}
+use Rattle.xdg_parse_terms.proofs.Ended.{ended-append}
+use Rattle.xdg_parse.specs.Laws.{WasRead, Says, Alive}
 
 -- ---- lists of tokens
 
@@ -10,11 +12,6 @@ pub kind-append : (u r r' : List Lexeme) → kind_of r ≡ kind_of r' → kind_o
 unfolding kind_of
 kind-append [] r r' e = e
 kind-append (t ∷ u) r r' e = refl
-
-pub ended-append : (e : ℕ) (u v : List Lexeme) → ended_by e (u ++ v) ≡ ended_by (ended_by e u) v
-unfolding ended_by
-ended-append e [] v = refl
-ended-append e (t ∷ u) v = ended-append t.span.end u v
 
 walk-append-by : (o : Option ℕ) (u v : List Lexeme) → ((m : ℕ) → walk m (u ++ v) ≡ then_walk (walk m u) (λ k. walk k v))
     → then_walk o (λ m. walk m (u ++ v)) ≡ then_walk (then_walk o (λ m. walk m u)) (λ k. walk k v)

@@ -1,15 +1,8 @@
-pub mod Loop
 pub mod Laws
-pub mod Items
 pub mod Combinators
 pub mod More
 pub mod Nested
 pub mod EachKind
-pub mod Sees
-pub mod SteadyParts
-pub mod SteadyTerms
-pub mod SteadyRules
-pub mod Shortens
 pub mod RuleParts
 pub mod Bodies
 pub mod RulesTerms
@@ -18,5 +11,3 @@ pub mod RulesStatements
 pub mod Whole
 pub mod Unique
 pub mod Once
-pub mod Members
-pub mod Tags

@@ -4,10 +4,13 @@ use Rattle.xdg_base.specs.declared.places.Span.{Span}
 use Rattle.xdg_lex.specs.Lexed.{Lexeme}
 use Rattle.xdg_ast.specs.Language.{Language, ◌or◌, kind_of, holds, sees, start_of, ended_by, span_of, State, Unexpected, TooDeep, Outcome, ◌>>=◌, both, either, each, items, many, spanned}
 use Rattle.xdg_ast.specs.Brackets.{walk}
-use Rattle.xdg_parse.specs.Laws.{at, Says, Alive, Shrinks, Law}
-use Rattle.xdg_parse.proofs.Items.{Shortens, turn, none_at}
-use Rattle.xdg_parse.proofs.Laws.{ended-append, walk-both, walk-split, balanced, says_as, bind_says}
-use Rattle.xdg_parse.proofs.Combinators.{or-left, or-right, holds-left, holds-right, holds-same, Apart, not-empty, first-holds, shortens_of, heads}
+use Rattle.xdg_parse_terms.specs.Steadiness.{at, Shrinks}
+use Rattle.xdg_parse.specs.Laws.{Says, Alive, Law}
+use Rattle.xdg_parse_terms.proofs.Items.{Shortens, turn, none_at}
+use Rattle.xdg_parse_terms.proofs.Ended.{ended-append}
+use Rattle.xdg_parse.proofs.Laws.{walk-both, walk-split, balanced, says_as, bind_says}
+use Rattle.xdg_parse_terms.proofs.Shrinking.{shortens_of}
+use Rattle.xdg_parse.proofs.Combinators.{or-left, or-right, holds-left, holds-right, holds-same, Apart, not-empty, first-holds, heads}
 
 -- ---- either
 

@@ -7,7 +7,8 @@ use Rattle.xdg_lex.specs.Lexed.{Lexeme}
 use Rattle.xdg_ast.specs.Language.{Language, Kinds, is, none, Within, each, span_of, token, nothing, both, either, many, nested, spanned, made, behind, pair, optional, chain}
 use Rattle.xdg_ast.specs.Grammar.{Params, Inside, is_constant, gen, elems, terms, expr, type_term, two_types, more_types, braced, keyed_names, principle, parts, inside, under}
 use Rattle.xdg_ast.specs.Brackets.{is_opening, is_closing}
-use Rattle.xdg_parse.specs.Laws.{Alive, Steady, Law}
+use Rattle.xdg_parse_terms.specs.Steadiness.{Steady}
+use Rattle.xdg_parse.specs.Laws.{Alive, Law}
 use Rattle.xdg_parse.proofs.Combinators.{Apart, Plain, nothing_law, token_law, both_law}
 use Rattle.xdg_parse.proofs.More.{either_law, many_law, spanned_law}
 use Rattle.xdg_parse.proofs.Nested.{nested_none, nested_deep, nested_inner, group-alive}

@@ -10,9 +10,10 @@ use Rattle.xdg_ast.specs.Language.{kind_of, start_of, ended_by, span_of, State, 
 use Rattle.xdg_ast.specs.Grammar.{Statement, statements}
 use Rattle.xdg_ast.specs.Brackets.{is_opening, is_closing, past, walk}
 use Rattle.xdg_ast.specs.Derives.{DerivesWithin, Derives, most_brackets, IsShallow, place_of, Ends, IsUnexpectedAt, IsTooDeepAt, IsRefused, unexpected, too_deep}
-use Rattle.xdg_parse.specs.Laws.{at, Says, Law}
+use Rattle.xdg_parse_terms.specs.Steadiness.{at}
+use Rattle.xdg_parse.specs.Laws.{Says, Law}
 use Rattle.xdg_parse.proofs.Laws.{balanced, one, some-same, some-from}
-use Rattle.xdg_parse.proofs.SteadyRules.{statements_steady}
+use Rattle.xdg_parse_terms.proofs.SteadyRules.{statements_steady}
 use Rattle.xdg_parse.proofs.RulesStatements.{statements_rule}
 
 statements_law : (d n : ℕ) → Law d n (statements d) (statements n)

@@ -1,12 +1,10 @@
 -- What holds of a language as it is read with at most so many open brackets, and as it is meant with at most so many others.
-use Rattle.std.specs.Prelude.{◌≡◌, ℕ, suc, ◌+◌, ◌<◌, ◌≤◌, Bool, true, false, List, [], ◌∷◌, ◌++◌, length, Some, Ok, Err}
+use Rattle.std.specs.Prelude.{◌≡◌, ℕ, suc, ◌<◌, true, false, List, [], ◌∷◌, ◌++◌, Some, Ok, Err}
 use Rattle.xdg_lex.specs.declared.token.Kind.{Kind}
 use Rattle.xdg_lex.specs.Lexed.{Lexeme}
 use Rattle.xdg_ast.specs.Language.{Language, kind_of, holds, ended_by, State, Unexpected, TooDeep, Outcome}
 use Rattle.xdg_ast.specs.Brackets.{is_opening, walk}
-
-abbrev pub at : ℕ → List Lexeme → State
-at e ts = record { ended = e; left = ts }
+use Rattle.xdg_parse_terms.specs.Steadiness.{at}
 
 -- ---- what an outcome says
 
@@ -52,26 +50,6 @@ pub record Alive {A : Type 0} (relation : List Lexeme → A → Type 0) : Type 0
   pub tokens : List Lexeme
   pub value : A
   pub means : relation tokens value
-
-abbrev pub least : Bool → ℕ
-least true = 0
-least false = 1
-
--- it never goes back, and goes on if the language lacks the empty list
-pub record Shrinks {A : Type 0} (l : Language A) : Type 0 where
-  pub by : (s : State) (x : A) (s' : State) → l.read s ≡ Ok (x, s') → length s'.left + least l.empty ≤ length s.left
-
--- the tokens from one state to the next are a list of the language that means this
-pub record Taken {A : Type 0} (l : Language A) (s : State) (x : A) (s' : State) : Type 0 where
-  pub used : List Lexeme
-  pub split : s.left ≡ used ++ s'.left
-  pub ended : s'.ended ≡ ended_by s.ended used
-  pub means : l.means used x
-
--- what is read is meant, and nothing goes back
-pub record Steady {A : Type 0} (l : Language A) : Type 0 where
-  pub shrinks : Shrinks l
-  pub sound : (s : State) (x : A) (s' : State) → l.read s ≡ Ok (x, s') → Taken l s x s'
 
 -- read is a language with d brackets to open, and meant the same with n; what is read so is told where n is greater by two or more
 pub record Law {A : Type 0} (d n : ℕ) (read meant : Language A) : Type 0 where

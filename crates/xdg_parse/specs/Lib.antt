@@ -1,4 +1,2 @@
 pub mod Laws
 pub mod Outcome
-pub mod Parts
-pub mod Steps

@@ -8,12 +8,12 @@ ghost use Rattle.xdg_lex.specs.Lexed.{lexemes_of};
 ghost use Rattle.xdg_ast.specs.declared.grammar.Grammar as trees;
 ghost use Rattle.xdg_parse.specs.Outcome.{IsAnswer, Tells, Gives};
 
-use crate::cursor::{Cursor, Why};
 use crate::statements::statements;
 use std::alloc::Global;
 use xdg_ast::Grammar;
 use xdg_base::{Cause, Fault, List, Stop};
 use xdg_lex::Token;
+use xdg_parse_terms::{Cursor, Why};
 
 /// How many brackets may be open at a time.
 const MOST_BRACKETS: u32 = 64;
