@@ -1,6 +1,6 @@
 -- The tree of a type, and what the form of a head tells, layer by layer.
-use Rattle.std.proofs.Common.{◌≡◌, ℕ, ◌<◌, ◌+◌, Bool, false, ◌||◌, List, [], ◌∷◌, length, drop, get_or, map, refl, sym, ap, ◌∙◌, subst, arith}
-use Rattle.std.specs.Prelude.{not, ltb}
+use Rattle.std.proofs.Common.{◌≡◌, ℕ, ◌<◌, ◌+◌, Bool, true, false, ◌||◌, List, [], ◌∷◌, length, drop, get_or, map, refl, sym, ap, ◌∙◌, subst, arith}
+use Rattle.std.specs.Prelude.{not, ltb, ◌&&◌}
 use Rattle.std.proofs.lemmas.Bool.{lt-ltb}
 use Rattle.std.proofs.lemmas.List.{at_drop_more}
 use Rattle.xdg_ast.specs.declared.names.Pair.{Pair}
@@ -12,7 +12,7 @@ use Rattle.xdg_types.specs.Written.{Tree, recorded, tupled, map_of, member_then,
 use Rattle.xdg_types.specs.Parts.{TypeTerm}
 use Rattle.xdg_types.specs.Meaning.{meaning, domains_meaning, as_domain, IsHead}
 use Rattle.xdg_type_heads.specs.Heads.{IsHeadOf}
-use Rattle.xdg_types.specs.Kinds.{is_domain, is_small, is_empty_domain, has_empty_domain, is_attribute, has_no_field}
+use Rattle.xdg_types.specs.Kinds.{is_domain, is_small, is_empty_domain, are_domains, has_empty_domain, has_no_tuple, is_attribute, has_no_field}
 use Rattle.xdg_type_kinds.specs.KindFaults.{trees_in, members_in, form_tree, domain_form, small_form, empty_form, fieldless_form}
 
 trees_are : (types : List TypeTerm) → trees_of (map (λ type. record { kind = tree type.kind; span = type.span }) types) ≡ trees_in types
@@ -145,9 +145,9 @@ module _ (names : List ℕ → Shape) where
 
   -- a tuple type
   pub tuple_told : (head : TypeKind) (types given : List TypeTerm) (found : Bool) → head ≡ y.Tuple types → given ≡ types
-      → found ≡ has_empty_domain (domains_meaning names (trees_in given)) → not found ≡ is_attribute (as_domain (meaning names (tree head)))
+      → found ≡ has_no_tuple (domains_meaning names (trees_in given)) → not found ≡ is_attribute (as_domain (meaning names (tree head)))
   tuple_told head types given found is same has =
-      ap not (has ∙ ap (λ ts. has_empty_domain (domains_meaning names (trees_in ts))) same)
+      ap not (has ∙ ap (λ ts. has_no_tuple (domains_meaning names (trees_in ts))) same)
       ∙ ap (λ t. is_attribute (as_domain (meaning names t))) (sym (tree_tuple head types is))
 
   -- the next of some types is no domain without constants
@@ -156,3 +156,25 @@ module _ (names : List ℕ → Shape) where
   not_empty_here types i type within is none =
       let all = λ (ts : List TypeTerm). has_empty_domain (domains_meaning names (trees_in ts)) in
       sym (at_drop_more all types i type within ∙ ap (λ t. all (t ∷ drop (i + 1) types)) (sym is) ∙ ap (λ b. b || all (drop (i + 1) types)) none)
+
+  -- the next of some types is a domain
+  pub domain_here : (types : List TypeTerm) (i : ℕ) (type : TypeTerm) → i < length types → type ≡ get_or types i type → is_domain (as_domain (meaning names (tree type.kind))) ≡ true
+      → are_domains (domains_meaning names (trees_in (drop (i + 1) types))) ≡ are_domains (domains_meaning names (trees_in (drop i types)))
+  domain_here types i type within is one =
+      let all = λ (ts : List TypeTerm). are_domains (domains_meaning names (trees_in ts)) in
+      sym (at_drop_more all types i type within ∙ ap (λ t. all (t ∷ drop (i + 1) types)) (sym is) ∙ ap (λ b. b && all (drop (i + 1) types)) one)
+
+  -- or it is none
+  pub no_domain_here : (types : List TypeTerm) (i : ℕ) (type : TypeTerm) → i < length types → type ≡ get_or types i type → is_domain (as_domain (meaning names (tree type.kind))) ≡ false
+      → false ≡ are_domains (domains_meaning names (trees_in (drop i types)))
+  no_domain_here types i type within is none =
+      let all = λ (ts : List TypeTerm). are_domains (domains_meaning names (trees_in ts)) in
+      sym (at_drop_more all types i type within ∙ ap (λ t. all (t ∷ drop (i + 1) types)) (sym is) ∙ ap (λ b. b && all (drop (i + 1) types)) none)
+
+  -- a tuple type all of whose fields are domains, or one with a field that is none
+  pub tuples_told : (types : List TypeTerm) (empty : Bool) → true ≡ are_domains (domains_meaning names (trees_in types)) → empty ≡ has_empty_domain (domains_meaning names (trees_in types))
+      → empty ≡ has_no_tuple (domains_meaning names (trees_in types))
+  tuples_told types empty all has = has ∙ ap (λ b. b && has_empty_domain (domains_meaning names (trees_in types))) all
+
+  pub other_told : (types : List TypeTerm) → false ≡ are_domains (domains_meaning names (trees_in types)) → false ≡ has_no_tuple (domains_meaning names (trees_in types))
+  other_told types none = ap (λ b. b && has_empty_domain (domains_meaning names (trees_in types))) none

@@ -6,7 +6,7 @@ ghost use Rattle.xdg_domain.specs.Shapes.{Shape};
 ghost use Rattle.xdg_types.specs.Written.{tree};
 ghost use Rattle.xdg_types.specs.Meaning.{meaning, domains_meaning, as_domain, IsHead};
 ghost use Rattle.xdg_type_heads.specs.Heads.{Knows};
-ghost use Rattle.xdg_types.specs.Kinds.{has_empty_domain, is_attribute, is_of_kind};
+ghost use Rattle.xdg_types.specs.Kinds.{are_domains, has_empty_domain, has_no_tuple, is_attribute, is_of_kind};
 ghost use Rattle.xdg_type_kinds.specs.KindFaults.{asked, trees_in, domain_form, small_form, mapped_form, record_form, empty_form, fieldless_form};
 
 use xdg_ast::{TypeKind, TypeTerm};
@@ -23,7 +23,7 @@ pub(crate) enum Wanted {
     Small,
     /// What the values of a map may be: a set, a cardinality, a valency or a map.
     Mapped,
-    /// A domain or a tuple type with a value.
+    /// A domain or a tuple type with a value, where that has a number of tuples.
     Attribute,
     /// The domain of the labels.
     Labels,
@@ -96,6 +96,18 @@ pub(crate) fn has_no_field(kind: &TypeKind) -> bool
     }
 }
 
+fn are_domains<'a>(definitions: &Definitions<'a>, types: &'a [TypeTerm]) -> bool
+    ensures { (names : List ℕ → Shape) → Knows names definitions.now.names (map (λ head. head.now) definitions.now.heads.items)
+        → result ≡ are_domains (domains_meaning names (trees_in types.now)) }
+{
+    for ty in types {
+        if !is_domain(&definitions.head(ty).kind) {
+            return false;
+        }
+    }
+    true
+}
+
 fn has_empty_domain<'a>(definitions: &Definitions<'a>, types: &'a [TypeTerm]) -> bool
     ensures { (names : List ℕ → Shape) → Knows names definitions.now.names (map (λ head. head.now) definitions.now.heads.items)
         → result ≡ has_empty_domain (domains_meaning names (trees_in types.now)) }
@@ -108,18 +120,31 @@ fn has_empty_domain<'a>(definitions: &Definitions<'a>, types: &'a [TypeTerm]) ->
     false
 }
 
+/// Whether all fields of a tuple type are domains, and one is without constants.
+fn has_no_tuple<'a>(definitions: &Definitions<'a>, types: &'a [TypeTerm]) -> bool
+    ensures { (names : List ℕ → Shape) → Knows names definitions.now.names (map (λ head. head.now) definitions.now.heads.items)
+        → result ≡ has_no_tuple (domains_meaning names (trees_in types.now)) }
+{
+    if are_domains(definitions, types) {
+        has_empty_domain(definitions, types)
+    } else {
+        false
+    }
+}
+
 fn is_attribute_head<'a>(definitions: &Definitions<'a>, head: &'a TypeKind) -> bool
     ensures { (names : List ℕ → Shape) → Knows names definitions.now.names (map (λ head. head.now) definitions.now.heads.items)
         → IsHead names (tree head.now) → result ≡ is_attribute (as_domain (meaning names (tree head.now))) }
 {
     match head {
         TypeKind::Domain(constants) => 0 < constants.len(),
-        TypeKind::Tuple(types) => !has_empty_domain(definitions, types.as_slice()),
+        TypeKind::Tuple(types) => !has_no_tuple(definitions, types.as_slice()),
         _ => false,
     }
 }
 
-/// Whether a type is one of an attribute: a domain or a tuple type with a value.
+/// Whether a type is one of an attribute: a domain with a constant, or a tuple type that isn't without tuples. Where a field
+/// of a tuple type is no domain, only that field is wrong.
 pub(crate) fn is_attribute<'a>(definitions: &Definitions<'a>, ty: &'a TypeTerm) -> bool
     ensures { (names : List ℕ → Shape) → Knows names definitions.now.names (map (λ head. head.now) definitions.now.heads.items)
         → result ≡ is_attribute (as_domain (meaning names (tree ty.now.kind))) }

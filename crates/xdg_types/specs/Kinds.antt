@@ -1,5 +1,5 @@
 -- What is wrong with the kinds and the sizes of types.
-use Rattle.std.specs.Prelude.{◌≡◌, ◌⊎◌, ℕ, ◌<◌, ◌+◌, ◌-◌, ◌^◌, min, Bool, true, false, ◌||◌, not, List, [], ◌∷◌, ◌++◌, length, flat_map}
+use Rattle.std.specs.Prelude.{◌≡◌, ◌⊎◌, ℕ, ◌<◌, ◌+◌, ◌-◌, ◌^◌, min, Bool, true, false, ◌||◌, ◌&&◌, not, List, [], ◌∷◌, ◌++◌, length, flat_map}
 use Rattle.xdg_base.specs.declared.faults.Cause.{Cause}
 use Rattle.xdg_base.specs.declared.faults.Cause.TheVariants as causes
 use Rattle.xdg_base.specs.declared.faults.Fault.{Fault}
@@ -98,14 +98,23 @@ abbrev pub is_empty_domain : Shape → Bool
 is_empty_domain (domain []) = true
 is_empty_domain _ = false
 
+abbrev pub are_domains : Shapes → Bool
+are_domains no_shape = true
+are_domains (shape_then s ss) = is_domain s && are_domains ss
+
 abbrev pub has_empty_domain : Shapes → Bool
 has_empty_domain no_shape = false
 has_empty_domain (shape_then s ss) = is_empty_domain s || has_empty_domain ss
 
--- a domain with a constant, or a tuple type none of whose fields is a domain without constants
+-- all fields of a tuple type are domains, and one is without constants, so that it has no tuple
+abbrev pub has_no_tuple : Shapes → Bool
+has_no_tuple ss = are_domains ss && has_empty_domain ss
+
+-- A domain with a constant, or a tuple type that isn't without tuples. One with a field that is no domain has no number of
+-- tuples: it is an attribute's type as far as this goes, and refused for that field alone.
 abbrev pub is_attribute : Shape → Bool
 is_attribute (domain cs) = not (is_empty_domain (domain cs))
-is_attribute (tuple ss) = not (has_empty_domain ss)
+is_attribute (tuple ss) = not (has_no_tuple ss)
 is_attribute _ = false
 
 -- what is written means something of the wanted kind
