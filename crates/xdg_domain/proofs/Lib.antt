@@ -16,4 +16,3 @@ pub mod Each
 pub mod Made
 pub mod Shaped
 pub mod DefaultLaws
-pub mod Stairs

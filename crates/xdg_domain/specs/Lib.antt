@@ -4,7 +4,6 @@ pub mod Defaults
 pub mod Joined
 pub mod Joins
 pub mod Keys
-pub mod Samples
 pub mod Shapes
 pub mod Sized
 pub mod Tuples

@@ -3,7 +3,6 @@ pub mod Digits
 pub mod Firsts
 pub mod Packs
 pub mod Prefixes
-pub mod SampleLists
 pub mod Standing
 pub mod Unpacked
 pub mod Variants

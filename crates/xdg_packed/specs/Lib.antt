@@ -1,6 +1,5 @@
 pub mod Lexicon
 pub mod Packing
 pub mod Rows
-pub mod Samples
 pub mod Spelling
 pub mod Words
