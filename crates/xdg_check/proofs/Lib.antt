@@ -15,3 +15,4 @@ pub mod Sound
 pub mod Sources
 pub mod Told
 pub mod Words
+pub mod LeftOut

@@ -6,3 +6,4 @@ pub mod Filled
 pub mod Lex
 pub mod Made
 pub mod Only
+pub mod Weights

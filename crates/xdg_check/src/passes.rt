@@ -1,7 +1,8 @@
 //! The passes over a grammar with its table of types, and the checked grammar.
 
-ghost use Rattle.std.specs.Prelude.{◌≡◌, IfOk, Result};
+ghost use Rattle.std.specs.Prelude.{◌≡◌, ◌≤◌, IfOk, Result};
 ghost use Rattle.xdg_base.specs.declared.faults.Fault as faults;
+ghost use Rattle.xdg_classes.specs.Definitions as d;
 ghost use Rattle.xdg_classes.specs.Ordered.{OrdersClasses};
 ghost use Rattle.xdg_faults.specs.First.{Tells as TellsFault};
 ghost use Rattle.xdg_types.specs.Answers.{HasTable, None_of};
@@ -10,6 +11,7 @@ ghost use Rattle.xdg_check.specs.Answers.{NameOffends, ValueOffends, IsCheckedOf
 ghost use Rattle.xdg_check.specs.Checked.{Parts};
 ghost use Rattle.xdg_check.specs.Lex.{HasLex};
 ghost use Rattle.xdg_check.specs.Only.{IsAnswer, Gives};
+ghost use Rattle.xdg_check.specs.Weights.{default_bytes, most_bytes};
 
 use crate::checked::Checked;
 use crate::filling::fill_counts;
@@ -65,9 +67,11 @@ fn assemble(
     requires ordered { OrdersClasses statements.now classes.now }
     requires valued { None_of (ValueOffends statements.now table) }
     requires lex { HasLex table }
-    ensures { IfOk result (λ made. IsCheckedOf statements.now table made) }
+    ensures made { IfOk result (λ made. IsCheckedOf statements.now table made) }
+    ensures within { IfOk result (λ _. default_bytes (d.classes statements.now) statements.now ≤ most_bytes) }
 {
-    if !are_small(alloc, classes, statements)? {
+    let small = are_small(alloc, classes, statements)?;
+    if !small {
         return Err(AllocError);
     }
     let principles = xdg_principles::uses(alloc, statements, &table)?;
@@ -96,7 +100,8 @@ fn ordered(
     requires table { HasTable statements.now table }
     requires named { None_of (NameOffends statements.now table) }
     requires ordered { OrdersClasses statements.now classes.now }
-    ensures { Tells statements.now table result }
+    ensures tells { Tells statements.now table result }
+    ensures within { IfOk result (λ _. default_bytes (d.classes statements.now) statements.now ≤ most_bytes) }
 {
     match values_wrong(alloc, statements, &table, classes)? {
         Some(fault) => Err(Stop::Fault(fault)),
@@ -111,7 +116,8 @@ fn ordered(
 fn named(alloc: Global, statements: &[Statement], table: TypeTable) -> Result<Checked, Stop>
     requires table { HasTable statements.now table }
     requires named { None_of (NameOffends statements.now table) }
-    ensures { Tells statements.now table result }
+    ensures tells { Tells statements.now table result }
+    ensures within { IfOk result (λ _. default_bytes (d.classes statements.now) statements.now ≤ most_bytes) }
 {
     match classes(alloc, statements) {
         Err(stop) => Err(stop),
@@ -126,7 +132,8 @@ fn check_statements(
     table: TypeTable,
 ) -> Result<Checked, Stop>
     requires { HasTable statements.now table }
-    ensures { Tells statements.now table result }
+    ensures tells { Tells statements.now table result }
+    ensures within { IfOk result (λ _. default_bytes (d.classes statements.now) statements.now ≤ most_bytes) }
 {
     match names_wrong(alloc, statements, &table)? {
         Some(fault) => Err(Stop::Fault(fault)),
@@ -164,6 +171,7 @@ pub fn check(alloc: Global, grammar: &Grammar, table: TypeTable) -> Result<Check
     requires { HasTable grammar.now.statements table }
     ensures tells { Tells grammar.now.statements table result }
     ensures only { (answer : Result Parts faults.Fault) → IsAnswer grammar.now.statements table answer → Gives answer result }
+    ensures within { IfOk result (λ _. default_bytes (d.classes grammar.now.statements) grammar.now.statements ≤ most_bytes) }
 {
     check_statements(alloc, grammar.statements.as_slice(), table)
 }

@@ -69,6 +69,10 @@ abbrev mutual
   weights no_field = 0
   weights (field_then name u fs) = weight u + weights fs
 
+-- how many parts a default may have
+abbrev pub most_parts : ℕ
+most_parts = 16777216
+
 -- The value says something of each key below the count of a valency or a map, and of each field of a record, at any depth.
 abbrev mutual
   pub IsFilledIn : Shape → Value-F Value → Type 0

@@ -1,9 +1,9 @@
 //! What a feature holds of which nothing is said.
 
-ghost use Rattle.std.specs.Prelude.{◌≡◌, ℕ, ◌-◌, ◌^◌, ◌<◌, ◌≤◌, [], ◌∷◌, map, min, IfOk};
+ghost use Rattle.std.specs.Prelude.{◌≡◌, ◌↔◌, IsTrue, ℕ, ◌-◌, ◌^◌, ◌<◌, ◌≤◌, [], ◌∷◌, map, min, IfOk};
 ghost use Rattle.xdg_domain.specs.Shapes.{shape, fields_of, count, IsDomain, IsType, IsMapped, AreTypes};
 ghost use Rattle.xdg_domain.specs.Sized.{shape_of_field};
-ghost use Rattle.xdg_domain.specs.Defaults.{default, defaults, for_each_key, map_of_default, record_of_defaults, weight, weights};
+ghost use Rattle.xdg_domain.specs.Defaults.{default, defaults, for_each_key, map_of_default, record_of_defaults, weight, weights, most_parts};
 
 use crate::cards::CardSet;
 use crate::sets::SetOf;
@@ -15,27 +15,35 @@ use std::alloc::{AllocError, Global};
 use xdg_base::{List, OutOfMemory, Text};
 
 /// How many parts a default may have.
-pub const MOST_PARTS: u64 = 16_777_216;
+const MOST_PARTS: u64 = 16_777_216;
 
 /// What a value of the type holds where nothing is said: the empty set of a set, the full set of an
 /// iset, all numbers of a cardinality, the number 0 alone for each key of a valency, the default of
 /// the values for each key of a map, and the defaults of the fields of a record. None for the plain
 /// types, which are domains, tuples, bool, int and string, and for a record with a plain field at
-/// any depth. The parts that it would hold are counted first: above `MOST_PARTS` the answer is
+/// any depth. The parts that it would hold are counted first: above 16,777,216 the answer is
 /// want of memory, and none is taken.
 pub fn default_of(alloc: Global, ty: &Ty) -> Result<Option<Value>, OutOfMemory>
     requires { IsType (shape ty.now) }
-    ensures { IfOk result (λ told. told ≡ default (shape ty.now)) }
+    ensures value { IfOk result (λ told. told ≡ default (shape ty.now)) }
+    ensures within { IfOk result (λ _. weight (shape ty.now) ≤ most_parts) }
 {
-    if parts(ty) > MOST_PARTS {
+    if !has_few_parts(ty) {
         return Err(OutOfMemory);
     }
     made(alloc, ty)
 }
 
+/// Whether the default of a type would hold at most 16,777,216 parts. The time is linear in the type.
+pub fn has_few_parts(ty: &Ty) -> bool
+    ensures { IsTrue result ↔ (weight (shape ty.now) ≤ most_parts) }
+{
+    parts(ty) <= MOST_PARTS
+}
+
 /// How many parts the default of a type holds, with itself, a count that stops at the greatest u64.
 #[cycle(parts)]
-pub fn parts(ty: &Ty) -> u64
+fn parts(ty: &Ty) -> u64
     ensures { result ≡ min (weight (shape ty.now)) (2 ^ 64 - 1) }
 {
     match ty {

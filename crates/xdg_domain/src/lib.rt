@@ -13,7 +13,7 @@ mod valencies;
 mod values;
 
 pub use cards::CardSet;
-pub use defaults::{MOST_PARTS, default_of, parts};
+pub use defaults::{default_of, has_few_parts};
 pub use joining::{join, join_laws};
 pub use sets::SetOf;
 pub use tuples::{Tuple, count, tuple_index, tuple_laws, tuple_of};

@@ -1,32 +1,33 @@
 //! Values with their defaults.
 
-ghost use Rattle.std.specs.Prelude.{◌≡◌, ◌↔◌, ◌+◌, ◌<◌, ℕ, map, None, IfOk, IfSome};
+ghost use Rattle.std.specs.Prelude.{◌≡◌, ◌↔◌, ◌+◌, ◌<◌, ◌≤◌, ℕ, map, None, IfOk, IfSome};
 ghost use Rattle.std.specs.Option.{option_copied};
 ghost use Rattle.std.specs.List.{range_with_len};
 ghost use Rattle.xdg_domain.specs.Shapes.{shape, count, fields_of, IsDomain, IsType, AreTypes};
 ghost use Rattle.xdg_domain.specs.Sized.{shape_of_field};
 ghost use Rattle.xdg_domain.specs.Valencies.{said_at, KeysRise};
 ghost use Rattle.xdg_domain.specs.Values.{IsValue};
-ghost use Rattle.xdg_domain.specs.Defaults.{IsFilled, record_of_defaults};
+ghost use Rattle.xdg_domain.specs.Defaults.{IsFilled, record_of_defaults, weight, most_parts};
 ghost use Rattle.xdg_filling.specs.Filled as spec;
 ghost use Rattle.xdg_filling.specs.Filled.{Lacks, IsSaid, AreValuesOf, AreSaid};
 
 use std::alloc::{AllocError, Global};
 use xdg_base::{List, OutOfMemory, Text};
-use xdg_domain::{CardMap, CardSet, MOST_PARTS, Ty, Value, count, default_of, parts};
+use xdg_domain::{CardMap, CardSet, Ty, Value, count, default_of, has_few_parts};
 
 /// What a feature of this type holds of which this is said, with all defaults: a valency holds a cardinality for each key,
 /// a map a value for each key and a record one for each field. None where nothing is said of a plain type, or of a plain
-/// field of a record at any depth. The parts that it may hold are counted first: above
-/// [`MOST_PARTS`](xdg_domain::MOST_PARTS) the answer is want of memory, and none is taken.
+/// field of a record at any depth. The parts that its default would hold are counted first, those of plain fields with them:
+/// above 16,777,216 the answer is want of memory, and none is taken.
 pub fn fill(alloc: Global, ty: &Ty, said: Option<&Value>) -> Result<Option<Value>, OutOfMemory>
     requires right { IsType (shape ty.now) }
     requires said { IsSaid (shape ty.now) (option_copied said) }
     ensures filled { IfOk result (λ told. told ≡ spec.filled (shape ty.now) (option_copied said.entry)) }
     ensures lacks { IfOk result (λ told. (told ≡ None) ↔ Lacks (shape ty.now) (option_copied said.entry)) }
     ensures value { IfOk result (λ told. IfSome told (λ made. IsValue (shape ty.now) made × IsFilled (shape ty.now) made)) }
+    ensures within { IfOk result (λ _. weight (shape ty.now) ≤ most_parts) }
 {
-    if parts(ty) > MOST_PARTS {
+    if !has_few_parts(ty) {
         return Err(OutOfMemory);
     }
     filled(alloc, ty, said)

@@ -14,7 +14,10 @@ use Rattle.xdg_type_heads.specs.Heads.{Agrees, Knows, NamesFirst, RightBefore}
 use Rattle.xdg_types.specs.Answers.{None_of}
 use Rattle.xdg_type_heads.specs.Answers.{IsResolved}
 use Rattle.xdg_types.proofs.NamesAgain.{no_repeat}
-use Rattle.xdg_type_heads.proofs.Ordered.{is_graph, in_order, names_first, knows, agrees, rank, ranks}
+use Rattle.xdg_types.specs.Meaning.{Resolves}
+use Rattle.xdg_type_heads.specs.declared.weights.Weight.{Weight}
+use Rattle.xdg_type_heads.specs.Weights.{Weighs, UsesFirst, WeighedBefore}
+use Rattle.xdg_type_heads.proofs.Ordered.{is_graph, in_order, names_first, uses_first, knows, weighs, agrees, rank, ranks}
 use Rattle.xdg_type_heads.proofs.OneMeaning.{names, names_resolve, one_meaning}
 
 abbrev at : Bor TypeTerm → TypeTerm
@@ -60,6 +63,16 @@ module _ (statements : List Statement) (named : None_of (NameOffends statements)
 
         pub order_first : NamesFirst told (map at bodies) order
         order_first = subst (λ k. NamesFirst k (map at bodies) order) (sym (same apart)) (subst (λ bs. NamesFirst known bs order) (sym are) (names_first statements numbers order parts acyclic))
+
+        pub order_uses : UsesFirst told (map at bodies) order
+        order_uses = subst (λ k. UsesFirst k (map at bodies) order) (sym (same apart)) (subst (λ bs. UsesFirst known bs order) (sym are) (uses_first statements numbers order parts acyclic))
+
+        pub resolved_weighs : (weights : List Weight) → ((ns : List ℕ → Shape) → Agrees ns told (map at bodies) → WeighedBefore ns told order (length order) weights)
+            → (ns : List ℕ → Shape) → Resolves statements ns → Weighs ns told weights
+        resolved_weighs weights right ns resolves =
+            let agree = agrees statements ns resolves in
+            let before = right ns (subst (λ k. Agrees ns k (map at bodies)) (sym (same apart)) (subst (Agrees ns known) (sym are) agree)) in
+            subst (λ k. Weighs ns k weights) (sym (same apart)) (weighs statements numbers order parts acyclic ns weights agree (subst (λ k. WeighedBefore ns k order (length order) weights) (same apart) before))
 
         pub resolved_knows : (heads : List (Bor TypeTerm)) → length heads ≡ length bodies
             → ((ns : List ℕ → Shape) → Agrees ns told (map at bodies) → RightBefore ns told order (length order) (map at heads)) → IsResolved statements told (map at heads)

@@ -1,6 +1,9 @@
-pub mod GraphUses
-pub mod Heading
 pub mod Heads
-pub mod Joined
-pub mod Ordered
+pub mod GraphUses
 pub mod OneMeaning
+pub mod Ordered
+pub mod Heading
+pub mod Joined
+pub mod Weighed
+pub mod WeightLaws
+pub mod Weighing

@@ -19,6 +19,8 @@ use Rattle.xdg_types.specs.Graph.{use_at, use_of, uses_in, type_graph}
 use Rattle.xdg_types.specs.Meaning.{Resolves, meaning, IsHead}
 use Rattle.xdg_type_heads.specs.Heads.{Agrees, NamesFirst, Knows, RightBefore}
 use Rattle.xdg_type_heads.specs.Answers.{IsRanked}
+use Rattle.xdg_type_heads.specs.declared.weights.Weight.{Weight}
+use Rattle.xdg_type_heads.specs.Weights.{Weighs, UsesFirst, WeighedBefore, looked, weight_of, leaf}
 use Rattle.xdg_types.proofs.Distinct.{among_has}
 use Rattle.xdg_types.proofs.Elements.{all_differ}
 
@@ -86,6 +88,18 @@ module _ (statements : List Statement) where
         let stands : In (uses_in known (named name)) u = flat_map_in (use_of known) (name ∷ []) name u (inl refl) here in
         follows g numbers order made acyclic i h u (subst (λ us. In us u) (sym (uses_at a inside some ∙ ap (uses_in known) body)) stands)
 
+    -- what a type uses comes before it
+    pub uses_first : UsesFirst known (map (λ d. d.body) ds) order
+    uses_first i h t name k used place =
+        let a = slice_index_or order i 0 in
+        let inside : a < length ds = in_order i h in
+        let some = some_of ds a inside in
+        let stands : In (uses (tree (get_or ds a some).body.kind)) name = subst (λ (x : TypeTerm). In (uses (tree x.kind)) name) (get_or-map (λ d. d.body) ds a some t inside) used in
+        let u : Use = record { to = k; at = name.span.start } in
+        let here : In (use_of known name) u = subst (λ o. In (use_at name o) u) (sym place) (inl refl) in
+        follows g numbers order made acyclic i h u
+        (subst (λ us. In us u) (sym (uses_at a inside some)) (flat_map_in (use_of known) (uses (tree (get_or ds a some).body.kind)) name u stands here))
+
     -- the rank of a name is the number of its definition's component
     abbrev pub rank_at : Option ℕ → ℕ
     rank_at None = 0
@@ -127,6 +141,18 @@ module _ (statements : List Statement) where
           );
       missing = agrees.undefined;
     }
+
+    -- every name has its weight
+    pub weighs : (names : List ℕ → Shape) (weights : List Weight) → Agrees names known (map (λ d. d.body) ds) → WeighedBefore names known order (length order) weights → Weighs names known weights
+    weighs names weights agrees right name =
+        elim (place_of known name) as (λ o. place_of known name ≡ o → looked weights o ≡ weight_of (names name)) [
+          | None ↦ λ e. sym (ap weight_of (agrees.undefined name e))
+          | Some k ↦ λ e. (let at = place_of-Some known name k e in
+              let inside : k < length ds = omega (arith, at.0, known_len) in
+              let j = in_index order k 0 (made.placed k (omega (arith, inside, graph_len))) in
+              subst (λ n. get_or weights k leaf ≡ weight_of (names n)) at.1
+              (subst (λ m. get_or weights m leaf ≡ weight_of (names (get_or known m []))) j.1.1 (right j.0 j.1.0)))
+        ] refl
 
   -- names that mean what their definitions say agree with the types at their places
   pub agrees : (names : List ℕ → Shape) → Resolves statements names → Agrees names known (map (λ d. d.body) ds)

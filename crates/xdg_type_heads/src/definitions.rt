@@ -1,8 +1,11 @@
 //! The named types of a grammar.
 
-ghost use Rattle.std.specs.Prelude.{ℕ, List, map};
+ghost use Rattle.std.specs.Prelude.{◌≡◌, ℕ, List, map};
 ghost use Rattle.xdg_domain.specs.Shapes.{Shape};
+ghost use Rattle.xdg_types.specs.Meaning.{meaning};
+ghost use Rattle.xdg_types.specs.Written.{tree};
 ghost use Rattle.xdg_type_heads.specs.Heads.{Knows, IsHeadOf};
+ghost use Rattle.xdg_type_heads.specs.Weights.{Weighs, weight_of};
 
 use crate::weights::{Weight, weigh};
 use xdg_ast::{TypeKind, TypeTerm};
@@ -37,7 +40,9 @@ impl<'a> Definitions<'a> {
     }
 
     /// How much a type holds, names followed. It takes time linear in the type as it is written.
-    pub fn weight(&self, ty: &TypeTerm) -> Weight {
+    pub fn weight(&self, ty: &TypeTerm) -> Weight
+        ensures { (names : List ℕ → Shape) → Weighs names self.now.names self.now.weights.items → result ≡ weight_of (meaning names (tree ty.now.kind)) }
+    {
         weigh(&self.names, self.weights.as_slice(), &ty.kind)
     }
 }

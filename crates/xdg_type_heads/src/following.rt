@@ -1,8 +1,12 @@
 //! The pass over the uses of types by name.
 
+ghost use Rattle.std.specs.Prelude.{ℕ, List, IfOk};
+ghost use Rattle.xdg_domain.specs.Shapes.{Shape};
 ghost use Rattle.xdg_types.specs.Answers.{None_of};
+ghost use Rattle.xdg_types.specs.Meaning.{Resolves};
 ghost use Rattle.xdg_types.specs.Names.{NameOffends};
 ghost use Rattle.xdg_type_heads.specs.Answers.{TellsResolved};
+ghost use Rattle.xdg_type_heads.specs.Weights.{Weighs};
 
 use crate::definitions::Definitions;
 use crate::graph::{bodies, type_graph};
@@ -22,7 +26,8 @@ use xdg_type_names::defined;
 /// ([`Cause::Cycle`](xdg_base::Cause)), or want of memory.
 pub fn resolved<'a>(alloc: Global, statements: &'a [Statement]) -> Result<Definitions<'a>, Stop>
     requires { None_of (NameOffends statements.now) }
-    ensures { TellsResolved statements.now result }
+    ensures tells { TellsResolved statements.now result }
+    ensures weighs { IfOk result (λ made. (names : List ℕ → Shape) → Resolves statements.now names → Weighs names made.names made.weights.items) }
 {
     let names = defined(alloc, statements)?;
     let bodies = bodies(alloc, statements)?;

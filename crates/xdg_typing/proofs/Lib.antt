@@ -6,3 +6,4 @@ pub mod RightTable
 pub mod RightText
 pub mod RightTypes
 pub mod Shaped
+pub mod SmallTypes

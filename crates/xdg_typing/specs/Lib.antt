@@ -1,3 +1,4 @@
 pub mod Branches
 pub mod Right
+pub mod Small
 pub mod Used

@@ -1,6 +1,6 @@
 //! Dimensions with their types.
 
-ghost use Rattle.std.specs.Prelude.{◌≡◌, map, slice_get, IfOk};
+ghost use Rattle.std.specs.Prelude.{◌≡◌, ◌↔◌, map, slice_get, IfOk, IsTrue};
 ghost use Rattle.std.specs.Option.{option_copied};
 ghost use Rattle.xdg_domain.specs.Shapes.{constants, Differ};
 ghost use Rattle.xdg_types.specs.Parts as spec;
@@ -8,6 +8,9 @@ ghost use Rattle.xdg_typing.specs.Branches.{Naming};
 ghost use Rattle.xdg_types.specs.Meaning.{as_domain};
 ghost use Rattle.xdg_type_heads.specs.Heads.{Knows};
 ghost use Rattle.xdg_types.specs.Table.{typed, fields_in, first_meaning, IsDim, AreDims};
+ghost use Rattle.xdg_type_heads.specs.Weights.{Weighs};
+ghost use Rattle.xdg_typing.specs.Small as small;
+ghost use Rattle.xdg_typing.specs.Small.{weight_of_all, AreSmall};
 ghost use Rattle.xdg_typing.specs.Used.{found, places};
 
 use crate::resolving::{MOST_LEVELS, MOST_PARTS, copies, resolve_attributes, resolve_members};
@@ -20,28 +23,56 @@ use xdg_type_heads::{Definitions, NOTHING, Weight};
 use xdg_types::DimType;
 
 /// Whether the types of all dimensions together have few enough parts and nest little enough.
-pub(crate) fn is_small<'a>(definitions: &Definitions<'a>, statements: &'a [Statement]) -> bool {
-    let mut all = NOTHING;
-    for statement in statements {
-        if let StatementKind::DefDim(_, parts) = &statement.kind {
-            all = all.beside(weigh_parts(definitions, parts.as_slice()));
-        }
-    }
+pub(crate) fn is_small<'a>(definitions: &Definitions<'a>, statements: &'a [Statement]) -> bool
+    ensures { (names : Naming) → Weighs names definitions.now.names definitions.now.weights.items → IsTrue result ↔ AreSmall names statements.now }
+{
+    let all = weigh_all(definitions, statements);
     all.parts <= MOST_PARTS && all.levels <= MOST_LEVELS
 }
 
-/// The weight of the types of the labels, attributes and features.
-fn weigh_parts<'a>(definitions: &Definitions<'a>, parts: &'a [DimPart]) -> Weight {
+/// The weight of the types of all dimensions.
+fn weigh_all<'a>(definitions: &Definitions<'a>, statements: &'a [Statement]) -> Weight
+    ensures { (names : Naming) → Weighs names definitions.now.names definitions.now.weights.items → result ≡ weight_of_all names (small.given_types statements.now) }
+{
     let mut all = NOTHING;
-    for part in parts {
-        if let DimPartKind::LabelType(ty)
-        | DimPartKind::AttrsType(ty)
-        | DimPartKind::EntryType(ty) = &part.kind
-        {
-            all = all.beside(definitions.weight(ty));
-        }
+    for statement in statements {
+        all = all.beside(weigh_statement(definitions, statement));
     }
     all
+}
+
+/// The weight of the types of a dimension, where the statement defines one.
+fn weigh_statement<'a>(definitions: &Definitions<'a>, statement: &'a Statement) -> Weight
+    ensures { (names : Naming) → Weighs names definitions.now.names definitions.now.weights.items → result ≡ weight_of_all names (small.given_by statement.now.kind) }
+{
+    match &statement.kind {
+        StatementKind::DefDim(_, parts) => weigh_parts(definitions, parts.as_slice()),
+        _ => NOTHING,
+    }
+}
+
+/// The weight of the types of the labels, attributes and features.
+fn weigh_parts<'a>(definitions: &Definitions<'a>, parts: &'a [DimPart]) -> Weight
+    ensures { (names : Naming) → Weighs names definitions.now.names definitions.now.weights.items → result ≡ weight_of_all names (small.given_in parts.now) }
+{
+    let mut all = NOTHING;
+    for part in parts {
+        all = all.beside(weigh_part(definitions, part));
+    }
+    all
+}
+
+/// The weight of the type of the labels, attributes or features, where a part gives one.
+#[tactic(auto, using(crate::proofs::SmallTypes::one_type))]
+fn weigh_part<'a>(definitions: &Definitions<'a>, part: &'a DimPart) -> Weight
+    ensures { (names : Naming) → Weighs names definitions.now.names definitions.now.weights.items → result ≡ weight_of_all names (small.given part.now.kind) }
+{
+    match &part.kind {
+        DimPartKind::LabelType(ty) => definitions.weight(ty),
+        DimPartKind::AttrsType(ty) => definitions.weight(ty),
+        DimPartKind::EntryType(ty) => definitions.weight(ty),
+        _ => NOTHING,
+    }
 }
 
 /// The dimensions, in the order of the text.

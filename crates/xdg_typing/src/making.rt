@@ -4,7 +4,9 @@ ghost use Rattle.std.specs.Prelude.{map, IfOk};
 ghost use Rattle.xdg_types.specs.Table.{IsTableOf};
 ghost use Rattle.xdg_type_heads.specs.Heads.{Knows};
 ghost use Rattle.xdg_typing.specs.Branches.{Naming};
+ghost use Rattle.xdg_type_heads.specs.Weights.{Weighs};
 ghost use Rattle.xdg_typing.specs.Right.{AreRight};
+ghost use Rattle.xdg_typing.specs.Small.{AreSmall};
 
 use crate::dimensions::{is_small, names_of, resolve_dimensions, used_places};
 use std::alloc::Global;
@@ -21,7 +23,8 @@ pub(crate) fn table<'a>(
     definitions: &Definitions<'a>,
 ) -> Result<TypeTable, OutOfMemory>
     requires known { (names : Naming) × (Knows names definitions.now.names (map (λ head. head.now) definitions.now.heads.items) × AreRight statements.now names) }
-    ensures { IfOk result (λ made. (names : Naming) → Knows names definitions.now.names (map (λ head. head.now) definitions.now.heads.items) → IsTableOf names statements.now made) }
+    ensures made { IfOk result (λ made. (names : Naming) → Knows names definitions.now.names (map (λ head. head.now) definitions.now.heads.items) → IsTableOf names statements.now made) }
+    ensures within { IfOk result (λ _. (names : Naming) → Weighs names definitions.now.names definitions.now.weights.items → AreSmall names statements.now) }
 {
     if !is_small(definitions, statements) {
         return Err(OutOfMemory);

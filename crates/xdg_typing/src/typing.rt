@@ -1,11 +1,14 @@
 //! The types of a grammar: three passes over it, and the table.
 
-ghost use Rattle.std.specs.Prelude.{Result};
+ghost use Rattle.std.specs.Prelude.{Result, IfOk};
 ghost use Rattle.xdg_base.specs.declared.faults.Fault as faults;
 ghost use Rattle.xdg_types.specs.Answers.{None_of, Tells};
 ghost use Rattle.xdg_types.specs.Names.{NameOffends};
+ghost use Rattle.xdg_types.specs.Meaning.{Resolves};
 ghost use Rattle.xdg_types.specs.Only.{IsAnswer, Gives};
 ghost use Rattle.xdg_types.specs.Table.{Table};
+ghost use Rattle.xdg_typing.specs.Branches.{Naming};
+ghost use Rattle.xdg_typing.specs.Small.{AreSmall};
 
 use crate::making::table;
 use std::alloc::Global;
@@ -19,7 +22,8 @@ use xdg_types::TypeTable;
 /// The table of a grammar whose names are right, or the first fault of the other passes.
 fn named(alloc: Global, statements: &[Statement]) -> Result<TypeTable, Stop>
     requires { None_of (NameOffends statements.now) }
-    ensures { Tells statements.now result }
+    ensures tells { Tells statements.now result }
+    ensures within { IfOk result (λ _. (names : Naming) → Resolves statements.now names → AreSmall names statements.now) }
 {
     match resolved(alloc, statements) {
         Err(stop) => Err(stop),
@@ -32,7 +36,8 @@ fn named(alloc: Global, statements: &[Statement]) -> Result<TypeTable, Stop>
 
 /// The table of these statements, or the first fault of all passes.
 fn types_of(alloc: Global, statements: &[Statement]) -> Result<TypeTable, Stop>
-    ensures { Tells statements.now result }
+    ensures tells { Tells statements.now result }
+    ensures within { IfOk result (λ _. (names : Naming) → Resolves statements.now names → AreSmall names statements.now) }
 {
     match check_names(alloc, statements)? {
         Some(fault) => Err(Stop::Fault(fault)),
@@ -67,6 +72,7 @@ fn types_of(alloc: Global, statements: &[Statement]) -> Result<TypeTable, Stop>
 pub fn types(alloc: Global, grammar: &Grammar) -> Result<TypeTable, Stop>
     ensures tells { Tells grammar.now.statements result }
     ensures only { (answer : Result Table faults.Fault) → IsAnswer grammar.now.statements answer → Gives answer result }
+    ensures within { IfOk result (λ _. (names : Naming) → Resolves grammar.now.statements names → AreSmall names grammar.now.statements) }
 {
     types_of(alloc, grammar.statements.as_slice())
 }

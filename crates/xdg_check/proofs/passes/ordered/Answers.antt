@@ -4,6 +4,6 @@ use Rattle.xdg_check.specs.Answers.{ValueOffends}
 use Rattle.xdg_check.proofs.Assembled.{value_refuses}
 use Rattle.xdg_check.proofs.passes.ordered.Goals as goal
 
-pub returns-in-Some : goal.returns-in-Some
-returns-in-Some c =
+pub returns-in-Some-clause-tells : goal.returns-in-Some-clause-tells
+returns-in-Some-clause-tells c =
     value_refuses c.args.statements.now c.args.table c.in-Some.fault c.requires.named c.requires.ordered.acyclic (subst (TellsFault (ValueOffends c.args.statements.now c.args.table)) c.in-Some.is c.in_ok-fault.ensures)

@@ -27,8 +27,8 @@ new-requires c =
     let are = c.in_ok-dims.ensures known.0 known.1.0 in
     is_table c.args.statements.now known.0 known.1.1 c.in_ok-dims.dims c.in_ok-used.used are (used_by c.args.statements.now known.0 _ _ _ _ known.1.1 are c.as_slice.ensures c.in_ok-known.ensures c.in_ok-used.ensures)
 
-pub returns : goal.returns
-returns c = λ names knows.
+pub returns-clause-made : goal.returns-clause-made
+returns-clause-made c = λ names knows.
     let known = c.requires.known in
     let are = c.in_ok-dims.ensures known.0 known.1.0 in
     subst (IsTableOf names c.args.statements.now) (sym c.new.ensures)

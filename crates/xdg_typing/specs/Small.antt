@@ -1,0 +1,47 @@
+-- How much the types of a grammar hold together, names followed.
+use Rattle.std.specs.Prelude.{◌≡◌, ℕ, ◌≤◌, ◌+◌, max, List, [], ◌∷◌, flat_map}
+use Rattle.xdg_ast.specs.declared.grammar.DimPartKind.{DimPartKind}
+use Rattle.xdg_ast.specs.declared.grammar.DimPartKind.TheVariants as p
+use Rattle.xdg_ast.specs.declared.grammar.StatementKind.{StatementKind}
+use Rattle.xdg_ast.specs.declared.grammar.StatementKind.TheVariants as s
+use Rattle.xdg_types.specs.Written.{tree}
+use Rattle.xdg_types.specs.Parts.{TypeTerm, DimPart, Statement}
+use Rattle.xdg_types.specs.Meaning.{meaning}
+use Rattle.xdg_type_heads.specs.declared.weights.Weight.{Weight}
+use Rattle.xdg_type_heads.specs.Weights.{parts, levels, capped}
+use Rattle.xdg_typing.specs.Branches.{Naming}
+
+-- the type of labels, attributes or features that a part of a dimension gives
+abbrev pub given : DimPartKind → List TypeTerm
+given (p.LabelType type) = type ∷ []
+given (p.AttrsType type) = type ∷ []
+given (p.EntryType type) = type ∷ []
+given _ = []
+
+abbrev pub given_in : List DimPart → List TypeTerm
+given_in parts = flat_map (λ part. given part.kind) parts
+
+abbrev pub given_by : StatementKind → List TypeTerm
+given_by (s.DefDim name parts) = given_in parts
+given_by _ = []
+
+-- those of all dimensions, in the order of the text
+abbrev pub given_types : List Statement → List TypeTerm
+given_types statements = flat_map (λ statement. given_by statement.kind) statements
+
+-- how many parts these types have together
+abbrev pub all_parts : Naming → List TypeTerm → ℕ
+all_parts names [] = 0
+all_parts names (type ∷ types) = parts (meaning names (tree type.kind)) + all_parts names types
+
+-- how deep the deepest of them nests
+abbrev pub all_levels : Naming → List TypeTerm → ℕ
+all_levels names [] = 0
+all_levels names (type ∷ types) = max (levels (meaning names (tree type.kind))) (all_levels names types)
+
+abbrev pub weight_of_all : Naming → List TypeTerm → Weight
+weight_of_all names types = capped (all_parts names types) (all_levels names types)
+
+-- The types of all dimensions have few enough parts together, and nest little enough.
+abbrev pub AreSmall : Naming → List Statement → Type 0
+AreSmall names statements = (all_parts names (given_types statements) ≤ 16777216) × (all_levels names (given_types statements) ≤ 1024)
