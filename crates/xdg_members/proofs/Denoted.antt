@@ -1,40 +1,22 @@
 -- What a body denotes, form by form.
-use Rattle.std.proofs.Common.{◌≡◌, ℕ, zero, suc, ◌<◌, ◌≤◌, ◌+◌, ◌*◌, ◌-◌, List, [], ◌∷◌, ◌++◌, length, take, drop, map, get_or, refl, ap, ap₂, sym, ◌∙◌, arith, inl, inr, subst, append_assoc, add-one, drop-cons, Option, slice_get, slice_index_or}
-use Rattle.std.specs.Prelude.{None, Some}
+use Rattle.std.proofs.Common.{◌≡◌, ℕ, suc, ◌<◌, ◌≤◌, ◌+◌, ◌-◌, List, [], ◌∷◌, ◌++◌, length, drop, get_or, ap, sym, ◌∙◌, arith, subst, append_assoc, add-one, drop-cons, Option}
 use Rattle.std.specs.Prelude.{Result, Ok, Err, IfOk}
-use Rattle.std.proofs.Math.Nat.{suc-mul}
-use Rattle.std.proofs.lemmas.List.{drop_all, get_or-map, get_or_default}
-use Rattle.std.proofs.lemmas.Option.{get_or_from_slice_get, slice_get_within}
+use Rattle.std.proofs.lemmas.List.{drop_all, get_or_default}
 use Rattle.xdg_ast.specs.declared.names.Name.{Name}
 use Rattle.xdg_ast.specs.declared.expressions.ExprKind.{ExprKind}
 use Rattle.xdg_ast.specs.declared.expressions.ExprKind.TheVariants as v
 use Rattle.xdg_domain.proofs.Merging.{append_nothing}
-use Rattle.xdg_faults.specs.First.{In}
-use Rattle.xdg_index.specs.Texts.{place_of}
-use Rattle.xdg_index.proofs.Texts.{place_of-Some}
 use Rattle.xdg_terms.specs.Forms.{Bindings}
-use Rattle.xdg_classes.specs.Bodies.{Pairs, Expr, Body, either, both, saying, calling, Bodies, no_body, body_then, given, body, Called, calls, calls_in}
-use Rattle.xdg_classes.proofs.Bodied.{trees, body_or, body_and, body_dim, body_use, calls_use}
-use Rattle.xdg_check.specs.declared.checked.Class.{Class}
-use Rattle.xdg_check.specs.Checked.{Parts, IsChecked, IsOrder, named_body, named_bodies}
-use Rattle.xdg_check.specs.Counts.{class_texts}
+use Rattle.xdg_classes.specs.Bodies.{Pairs, Expr, Body, either, both, saying, calling, no_body, given, body}
+use Rattle.xdg_classes.proofs.Bodied.{trees, body_dim, body_use}
+use Rattle.xdg_check.specs.Checked.{Parts, named_bodies}
 use Rattle.xdg_members.specs.Denotes as den
-use Rattle.xdg_members.specs.Denotes.{JoinsAll, closed_args, Denotes, DenotesBoth, DenotesEither, IsRanked}
+use Rattle.xdg_members.specs.Denotes.{JoinsAll, Denotes, DenotesBoth, DenotesEither}
+use Rattle.xdg_members.specs.Frames.{EitherSoFar, BothSoFar}
 use Rattle.xdg_members.specs.Partial.{Partial, ArePartial, SaysRecord, nothing}
-use Rattle.xdg_members.proofs.Settled.{calls_at}
 
-front : {X : Type 0} (xs : List X) (k : ℕ) (x : X) → k < length xs → x ≡ get_or xs k x → drop k xs ≡ x ∷ drop (k + 1) xs
+pub front : {X : Type 0} (xs : List X) (k : ℕ) (x : X) → k < length xs → x ≡ get_or xs k x → drop k xs ≡ x ∷ drop (k + 1) xs
 front xs k x within is = rw (add-one, drop-cons xs k x) (ap (λ y. y ∷ drop (suc k) xs) (sym is))
-
--- ---- parts of a body
-
-pub ranked_or : (checked : Parts) (depth : ℕ) (kind : ExprKind) (es items : List Expr) (i : ℕ) (e : Expr) → kind ≡ v.Or es → items ≡ es → i < length items → e ≡ get_or items i e → IsRanked checked depth (body kind) → IsRanked checked depth (body e.kind)
-ranked_or checked depth kind es items i e is same within at r call h =
-    r call (subst (λ b. In (calls b) call) (sym (ap body is ∙ body_or es ∙ ap (λ l. either (trees l)) (sym same))) (calls_at items i e call within at h))
-
-pub ranked_and : (checked : Parts) (depth : ℕ) (kind : ExprKind) (es items : List Expr) (i : ℕ) (e : Expr) → kind ≡ v.And es → items ≡ es → i < length items → e ≡ get_or items i e → IsRanked checked depth (body kind) → IsRanked checked depth (body e.kind)
-ranked_and checked depth kind es items i e is same within at r call h =
-    r call (subst (λ b. In (calls b) call) (sym (ap body is ∙ body_and es ∙ ap (λ l. both (trees l)) (sym same))) (calls_at items i e call within at h))
 
 -- ---- records and uses
 
@@ -54,9 +36,6 @@ module _ (P : Body → Type 0) (kind : ExprKind) (name : Name) (args : Option Pa
 
 -- ---- disjunctions, from the first to the last
 
-abbrev pub EitherSoFar : Parts → Bindings → List Expr → ℕ → List Partial → Type 0
-EitherSoFar checked bs items i made = (ns : List Partial) → DenotesEither checked.types.dims (named_bodies checked.classes) bs (trees (drop i items)) ns → DenotesEither checked.types.dims (named_bodies checked.classes) bs (trees items) (made ++ ns)
-
 module _ (checked : Parts) (bs : Bindings) (items : List Expr) (i : ℕ) (made : List Partial) where
   pub either_begun : made ≡ [] → EitherSoFar checked bs items 0 made
   either_begun is ns d = subst (λ l. DenotesEither checked.types.dims (named_bodies checked.classes) bs (trees items) (l ++ ns)) (sym is) d
@@ -66,16 +45,12 @@ module _ (checked : Parts) (bs : Bindings) (items : List Expr) (i : ℕ) (made :
       subst (DenotesEither checked.types.dims (named_bodies checked.classes) bs (trees items)) (sym (ap (λ l. l ++ ns) grown ∙ append_assoc made ms ns))
       (so_far (ms ++ ns) (subst (λ l. DenotesEither checked.types.dims (named_bodies checked.classes) bs (trees l) (ms ++ ns)) (sym (front items i e within is)) (den.list_first bs (body e.kind) (trees (drop (i + 1) items)) ms ns d more)))
 
-  pub either_denotes : (kind : ExprKind) (es : List Expr) → kind ≡ v.Or es → items ≡ es → length items ≤ i → EitherSoFar checked bs items i made → Denotes checked.types.dims (named_bodies checked.classes) bs (body kind) made
-  either_denotes kind es is same past so_far =
-      subst (λ b. Denotes checked.types.dims (named_bodies checked.classes) bs b made) (sym (ap body is ∙ body_or es ∙ ap (λ l. either (trees l)) (sym same)))
-      (den.disjunction bs (trees items) made (subst (DenotesEither checked.types.dims (named_bodies checked.classes) bs (trees items)) (append_nothing made)
-      (so_far [] (subst (λ l. DenotesEither checked.types.dims (named_bodies checked.classes) bs (trees l) []) (sym (drop_all i items past)) (den.all_listed bs)))))
+  pub either_denotes : length items ≤ i → EitherSoFar checked bs items i made → Denotes checked.types.dims (named_bodies checked.classes) bs (either (trees items)) made
+  either_denotes past so_far =
+      den.disjunction bs (trees items) made (subst (DenotesEither checked.types.dims (named_bodies checked.classes) bs (trees items)) (append_nothing made)
+      (so_far [] (subst (λ l. DenotesEither checked.types.dims (named_bodies checked.classes) bs (trees l) []) (sym (drop_all i items past)) (den.all_listed bs))))
 
 -- ---- conjunctions, from the last to the first
-
-abbrev pub BothSoFar : Parts → Bindings → List Expr → ℕ → List Partial → Type 0
-BothSoFar checked bs items left made = (left ≤ length items) × (DenotesBoth checked.types.dims (named_bodies checked.classes) bs (trees (drop left items)) made × ArePartial checked.types.dims made)
 
 module _ (checked : Parts) (bs : Bindings) (items : List Expr) where
   pub both_begun : (p : Partial) (made : List Partial) → p ≡ nothing checked.types.dims → made ≡ p ∷ [] → ArePartial checked.types.dims (p ∷ []) → BothSoFar checked bs items (length items) made
@@ -102,10 +77,9 @@ module _ (checked : Parts) (bs : Bindings) (items : List Expr) where
         ),
       )
 
-  pub both_denotes : (kind : ExprKind) (es : List Expr) (left : ℕ) (made : List Partial) → kind ≡ v.And es → items ≡ es → left ≡ 0 → BothSoFar checked bs items left made → Denotes checked.types.dims (named_bodies checked.classes) bs (body kind) made
-  both_denotes kind es left made is same none so_far =
-      subst (λ b. Denotes checked.types.dims (named_bodies checked.classes) bs b made) (sym (ap body is ∙ body_and es ∙ ap (λ l. both (trees l)) (sym same)))
-      (den.conjunction bs (trees items) made (subst (λ n. DenotesBoth checked.types.dims (named_bodies checked.classes) bs (trees (drop n items)) made) none so_far.1.0))
+  pub both_denotes : (left : ℕ) (made : List Partial) → left ≡ 0 → BothSoFar checked bs items left made → Denotes checked.types.dims (named_bodies checked.classes) bs (both (trees items)) made
+  both_denotes left made none so_far =
+      den.conjunction bs (trees items) made (subst (λ n. DenotesBoth checked.types.dims (named_bodies checked.classes) bs (trees (drop n items)) made) none so_far.1.0)
 
 -- ---- answers
 

@@ -8,14 +8,15 @@ use Rattle.xdg_faults.specs.First.{In}
 use Rattle.xdg_index.specs.Texts.{place_of}
 use Rattle.xdg_index.proofs.Texts.{place_of-Some}
 use Rattle.xdg_terms.specs.Forms.{Bindings}
-use Rattle.xdg_classes.specs.Bodies.{Pairs, Body, calling, body, calls}
+use Rattle.xdg_classes.specs.Bodies.{Pairs, Body, calling, body}
 use Rattle.xdg_check.specs.declared.checked.Class.{Class}
 use Rattle.xdg_check.specs.Checked.{Parts, IsChecked, named_body, named_bodies}
-use Rattle.xdg_check.specs.Counts.{class_texts}
+use Rattle.xdg_check.specs.Counts.{class_texts, kept_at, kept_by}
 use Rattle.xdg_members.specs.Denotes as den
 use Rattle.xdg_members.specs.Denotes.{closed_args, Denotes, IsRanked}
 use Rattle.xdg_members.specs.Partial.{Partial}
 use Rattle.xdg_members.specs.Right.{IsRightUnder}
+use Rattle.xdg_members.specs.Weights.{weigh, sized}
 use Rattle.xdg_members.proofs.Settled.{named_stands, used_right}
 
 -- ---- classes by name
@@ -44,14 +45,23 @@ place_within cs lent text k same found =
 abbrev pub IsClassOf : Parts → List ℕ → Class → Type 0
 IsClassOf checked text c = (k : ℕ) × ((place_of (class_texts checked.classes) text ≡ Some k) × (slice_get checked.classes k ≡ Some c))
 
+-- the body of a class weighs what a use of it is taken for
+class_sized : (checked : Parts) (depth : ℕ) (text : List ℕ) (c : Class) → 1 ≤ depth → IsClassOf checked text c → sized checked depth text ≡ weigh (sized checked (depth - 1)) (body c.body.kind)
+class_sized checked zero text c some found = absurd (omega (arith, some))
+class_sized checked (suc depth) text c some found =
+    let weight : Class → ℕ = λ (x : Class). weigh (sized checked depth) (body x.body.kind) in
+    let less : depth ≡ suc depth - 1 = omega arith in
+    subst (λ d. sized checked (suc depth) text ≡ weigh (sized checked d) (body c.body.kind)) less (ap (kept_at weight checked.classes) found.1.0 ∙ ap (kept_by weight) found.1.1)
+
 -- ---- one class after the other
 
--- the body b under the bindings is so far the body of the class under the bindings inside
-pub record Following (checked : Parts) (bs : Bindings) (b : Body) (class : Class) (inside : Bindings) (left : ℕ) : Type 0 where
+-- the body b, which weighs so much under the bindings, is so far the body of the class under the bindings inside
+pub record Following (checked : Parts) (bs : Bindings) (b : Body) (weight : ℕ) (class : Class) (inside : Bindings) (left : ℕ) : Type 0 where
   pub within : left ≤ length checked.order
   pub ranked : IsRanked checked left (body class.body.kind)
   pub right : IsRightUnder checked.types checked.classes inside (body class.body.kind)
   pub means : (ms : List Partial) → Denotes checked.types.dims (named_bodies checked.classes) inside (body class.body.kind) ms → Denotes checked.types.dims (named_bodies checked.classes) bs b ms
+  pub lighter : 1 + weigh (sized checked left) (body class.body.kind) < weight
 
 module _ (checked : Parts) (depth : ℕ) (name : Name) (args : Pairs) (r : IsRanked checked depth (calling name args)) where
   rank : (j : ℕ) × ((j < depth) × (place_of (class_texts checked.classes) name.text ≡ Some (slice_index_or checked.order j 0)))
@@ -74,14 +84,29 @@ module _ (checked : Parts) (depth : ℕ) (name : Name) (args : Pairs) (r : IsRan
     class_name : c.name ≡ name.text
     class_name = sym (name_at checked.classes found.0 c found.1.1) ∙ (place_of-Some (class_texts checked.classes) text found.0 found.1.0).1 ∙ same
 
-    pub entered : (bs inside : Bindings) → inside ≡ closed_args bs args → IsRightUnder checked.types checked.classes bs (calling name args) → Following checked bs (calling name args) c inside (depth - 1)
-    entered bs inside closes right = subst (λ i. Following checked bs (calling name args) c i (depth - 1)) (sym closes) (record {
+    light : 1 + weigh (sized checked (depth - 1)) (body c.body.kind) < weigh (sized checked depth) (calling name args)
+    light =
+        let size : sized checked depth name.text ≡ weigh (sized checked (depth - 1)) (body c.body.kind) =
+        ap (sized checked depth) (sym same) ∙ class_sized checked depth text c some_depth found in
+        omega (arith, size)
+
+    pub entered : (bs inside : Bindings) → inside ≡ closed_args bs args → IsRightUnder checked.types checked.classes bs (calling name args)
+        → Following checked bs (calling name args) (weigh (sized checked depth) (calling name args)) c inside (depth - 1)
+    entered bs inside closes right = subst (λ i. Following checked bs (calling name args) (weigh (sized checked depth) (calling name args)) c i (depth - 1)) (sym closes) (record {
       within = omega (arith, within);
       ranked = below;
       right = used_right checked bs (calling name args) (record { name = name; args = args }) c keeps right (inl refl) (in_at checked.classes found.0 c found.1.1) class_name;
       means = λ ms d. den.class_used bs name args (named_body c) ms (named_stands checked.classes c (in_at checked.classes found.0 c found.1.1)) class_name d;
+      lighter = light;
     })
 
 -- what is followed further
-pub joined : (checked : Parts) (bs inside deeper : Bindings) (b : Body) (class next : Class) (left less : ℕ) → Following checked bs b class inside left → Following checked inside (body class.body.kind) next deeper less → Following checked bs b next deeper less
-joined checked bs inside deeper b class next left less f g = record { within = g.within; ranked = g.ranked; right = g.right; means = λ ms d. f.means ms (g.means ms d) }
+pub joined : (checked : Parts) (bs inside deeper : Bindings) (b : Body) (weight : ℕ) (class next : Class) (left less : ℕ) → Following checked bs b weight class inside left
+    → Following checked inside (body class.body.kind) (weigh (sized checked left) (body class.body.kind)) next deeper less → Following checked bs b weight next deeper less
+joined checked bs inside deeper b weight class next left less f g = record {
+  within = g.within;
+  ranked = g.ranked;
+  right = g.right;
+  means = λ ms d. f.means ms (g.means ms d);
+  lighter = (let one = f.lighter in let two = g.lighter in omega (arith, one, two));
+}

@@ -3,9 +3,11 @@ mod Denoted
 mod Dims
 mod Fields
 mod Followed
+mod Framed
 mod Joining
 mod Made
 mod Once
 mod OneJoin
 mod OneMeaning
 mod Settled
+mod Weighed

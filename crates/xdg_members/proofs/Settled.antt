@@ -1,5 +1,5 @@
 -- Nothing is wrong where a body is denoted: in an entry, in each part of a body, and in the body of a class that is used.
-use Rattle.std.proofs.Common.{◌≡◌, ◌⊎◌, inl, inr, ℕ, zero, suc, ◌<◌, List, [], ◌∷◌, ◌++◌, length, map, get_or, refl, sym, ap, ◌∙◌, subst, arith}
+use Rattle.std.proofs.Common.{◌≡◌, inl, inr, ℕ, zero, suc, ◌<◌, List, [], ◌∷◌, length, map, get_or, refl, sym, ap, ◌∙◌, subst, arith}
 use Rattle.std.specs.Prelude.{Bool, true, false, bytes_eq, if◌then◌else◌, Option, None, Some, IfSome}
 use Rattle.std.proofs.lemmas.Bool.{true≢false}
 use Rattle.xdg_ast.specs.declared.names.Name.{Name}
@@ -21,14 +21,13 @@ use Rattle.xdg_terms.specs.Wanted.{params_in}
 use Rattle.xdg_terms.proofs.Binding.{bound_law}
 use Rattle.xdg_terms.proofs.ClosedLaw.{closed_law}
 use Rattle.xdg_terms.proofs.Has.{same_text, text_same}
-use Rattle.xdg_classes.specs.Bodies.{Pairs, Expr, Body, either, both, saying, calling, given, body, Said, Called, records, records_in, calls, calls_in}
+use Rattle.xdg_classes.specs.Bodies.{Pairs, Expr, Body, either, body, Said, Called, records, records_in, calls, calls_in}
 use Rattle.xdg_classes.specs.Definitions.{keys, texts}
-use Rattle.xdg_classes.proofs.Bodied.{trees, body_or, body_and, body_dim, body_use}
-use Rattle.xdg_arguments.specs.Wants.{NamedBody, Wants, at_feature, at_argument, feature_shape, feature_in, dim_named, type_named}
+use Rattle.xdg_classes.proofs.Bodied.{trees, body_dim}
+use Rattle.xdg_arguments.specs.Wants.{Wants, at_feature, at_argument, feature_shape, feature_in, dim_named, type_named}
 use Rattle.xdg_check.specs.declared.checked.Class.{Class}
 use Rattle.xdg_check.specs.declared.checked.EntryDef.{EntryDef}
-use Rattle.xdg_check.specs.Checked.{Parts, IsChecked, IsBound, IsScoped, IsRightBody, named_body, named_bodies}
-use Rattle.xdg_check.specs.Counts.{class_texts}
+use Rattle.xdg_check.specs.Checked.{Parts, IsChecked, IsBound, IsScoped, named_body, named_bodies}
 use Rattle.xdg_check.proofs.Opened.{wants_stand}
 use Rattle.xdg_members.specs.Denotes.{closed_args}
 use Rattle.xdg_members.specs.Partial.{written}
@@ -118,23 +117,12 @@ calls_at [] i e call within is h = absurd (omega (arith, within))
 calls_at (x ∷ es) zero e call within is h = in_left (calls (body x.kind)) (calls_in (trees es)) call (subst (λ (y : Expr). In (calls (body y.kind)) call) is h)
 calls_at (x ∷ es) (suc i) e call within is h = in_right (calls (body x.kind)) (calls_in (trees es)) call (calls_at es i e call (omega (arith, within)) is h)
 
-module _ (table : Table) (cs : List Class) (bs : Bindings) (kind : ExprKind) (es items : List Expr) (i : ℕ) (e : Expr) (same : items ≡ es) (within : i < length items) (at : e ≡ get_or items i e) (right : IsRightUnder table cs bs (body kind)) where
-  part_right : ((said : Said) → In (records_in (trees items)) said → In (records (body kind)) said) → ((call : Called) → In (calls_in (trees items)) call → In (calls (body kind)) call) → IsRightUnder table cs bs (body e.kind)
-  part_right more_records more_calls = record {
-    said = λ said h. right.said said (more_records said (records_at items i e said within at h));
-    bound = λ call h. right.bound call (more_calls call (calls_at items i e call within at h));
-    given = λ call h. right.given call (more_calls call (calls_at items i e call within at h));
-  }
-
-  pub right_or : kind ≡ v.Or es → IsRightUnder table cs bs (body e.kind)
-  right_or is =
-      let tree = ap body is ∙ body_or es ∙ ap (λ l. either (trees l)) (sym same) in
-      part_right (λ said. subst (λ b. In (records b) said) (sym tree)) (λ call. subst (λ b. In (calls b) call) (sym tree))
-
-  pub right_and : kind ≡ v.And es → IsRightUnder table cs bs (body e.kind)
-  right_and is =
-      let tree = ap body is ∙ body_and es ∙ ap (λ l. both (trees l)) (sym same) in
-      part_right (λ said. subst (λ b. In (records b) said) (sym tree)) (λ call. subst (λ b. In (calls b) call) (sym tree))
+pub part_right : (table : Table) (cs : List Class) (bs : Bindings) (items : List Expr) (i : ℕ) (e : Expr) → i < length items → e ≡ get_or items i e → IsRightUnder table cs bs (either (trees items)) → IsRightUnder table cs bs (body e.kind)
+part_right table cs bs items i e within at right = record {
+  said = λ said h. right.said said (records_at items i e said within at h);
+  bound = λ call h. right.bound call (calls_at items i e call within at h);
+  given = λ call h. right.given call (calls_at items i e call within at h);
+}
 
 -- ---- entries
 

@@ -1,4 +1,6 @@
 pub mod Denotes
+pub mod Frames
 pub mod Made
 pub mod Partial
 pub mod Right
+pub mod Weights

@@ -5,6 +5,7 @@ mod closing;
 mod conjunction;
 mod denoting;
 mod entries;
+mod frames;
 mod records;
 mod using;
 

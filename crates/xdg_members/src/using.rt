@@ -1,15 +1,18 @@
 //! Uses of classes.
 
-ghost use Rattle.std.specs.Prelude.{◌≡◌, ◌≤◌, ◌<◌, ◌∷◌, ℕ, List, length, slice_get, Some, IfOk};
+ghost use Rattle.std.specs.Prelude.{◌≡◌, ◌≤◌, ◌<◌, ◌+◌, ◌∷◌, ℕ, List, length, slice_get, Some, IfOk};
 ghost use Rattle.xdg_index.specs.Texts.{place_of};
 ghost use Rattle.xdg_classes.specs.Bodies.{body, calling, given};
 ghost use Rattle.xdg_check.specs.Checked.{IsChecked, named_bodies};
 ghost use Rattle.xdg_check.specs.Counts.{class_texts};
 ghost use Rattle.xdg_members.specs.Denotes.{Denotes, IsRanked};
+ghost use Rattle.xdg_members.specs.Frames.{Stands};
 ghost use Rattle.xdg_members.specs.Partial as spec;
 ghost use Rattle.xdg_members.specs.Right.{IsRightUnder};
+ghost use Rattle.xdg_members.specs.Weights.{sized, weigh};
 
 use crate::closing::close_args;
+use crate::frames::Scope;
 use std::alloc::{AllocError, Global};
 use xdg_ast::{ExprKind, Name, Pair, Term};
 use xdg_base::List;
@@ -21,10 +24,8 @@ use xdg_terms::Bindings;
 pub(crate) struct Used<'a> {
     /// The body, which is no use of a class.
     pub(crate) body: &'a ExprKind,
-    /// What its parameters are bound to.
-    pub(crate) bindings: Bindings,
-    /// Among how many first ones in the order of the classes those are that it uses.
-    pub(crate) depth: usize,
+    /// Where it stands.
+    pub(crate) scope: Scope,
 }
 
 /// The arguments of a use of a class.
@@ -62,11 +63,10 @@ pub(crate) fn follow<'a>(
     requires within { depth ≤ length checked.now.order }
     requires ranked { IsRanked checked.now depth (calling name.now args.now) }
     requires right { IsRightUnder checked.now.types checked.now.classes bindings.now (calling name.now args.now) }
-    ensures within { IfOk result (λ used. used.depth ≤ length checked.now.order) }
-    ensures ranked { IfOk result (λ used. IsRanked checked.now used.depth (body used.body.now)) }
-    ensures right { IfOk result (λ used. IsRightUnder checked.now.types checked.now.classes used.bindings (body used.body.now)) }
-    ensures means { IfOk result (λ used. (ms : List spec.Partial) → Denotes checked.now.types.dims (named_bodies checked.now.classes) used.bindings (body used.body.now) ms
+    ensures stands { IfOk result (λ used. Stands checked.now used.scope (body used.body.now)) }
+    ensures means { IfOk result (λ used. (ms : List spec.Partial) → Denotes checked.now.types.dims (named_bodies checked.now.classes) used.scope.bindings (body used.body.now) ms
         → Denotes checked.now.types.dims (named_bodies checked.now.classes) bindings.now (calling name.now args.now) ms) }
+    ensures lighter { IfOk result (λ used. 1 + weigh (sized checked.now used.scope.depth) (body used.body.now) < weigh (sized checked.now depth) (calling name.now args.now)) }
 {
     let mut class = class_of(checked, name.text.as_str());
     let mut inside = close_args(alloc, args, bindings)?;
@@ -78,7 +78,9 @@ pub(crate) fn follow<'a>(
     }
     Ok(Used {
         body: &class.body.kind,
-        bindings: inside,
-        depth: left,
+        scope: Scope {
+            bindings: inside,
+            depth: left,
+        },
     })
 }

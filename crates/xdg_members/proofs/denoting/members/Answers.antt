@@ -1,9 +1,8 @@
-use Rattle.std.proofs.Common.{◌≡◌, ◌≤◌, ◌∙◌, [], length, sym, subst}
+use Rattle.std.proofs.Common.{◌≤◌, ◌∙◌, [], length, sym, subst}
 use Rattle.xdg_classes.specs.Bodies.{body}
 use Rattle.xdg_check.specs.Checked.{named_bodies}
 use Rattle.xdg_check.specs.Counts.{combos}
-use Rattle.xdg_members.specs.Denotes.{Denotes, IsRanked}
-use Rattle.xdg_members.specs.Right.{IsRightUnder}
+use Rattle.xdg_members.specs.Denotes.{IsRanked}
 use Rattle.xdg_members.proofs.Bounded.{few, entry_ranked}
 use Rattle.xdg_members.proofs.Once.{once, bodies_differ}
 use Rattle.xdg_members.proofs.Settled.{entry_right}
@@ -16,15 +15,14 @@ denote-requires-clause-ranked c =
 
 pub returns-clause-few : goal.returns-clause-few
 returns-clause-few c names agrees =
-    subst (λ made. length made ≤ combos names (body c.args.expr.now.kind)) (sym c.from_vec.ensures) (few c.args.checked.now names agrees c.new-none.result (body c.args.expr.now.kind) c.in_ok-made.made.items c.in_ok-made.ensures.denotes)
+    subst (λ made. length made ≤ combos names (body c.args.expr.now.kind)) (sym c.from_vec.ensures) (few c.args.checked.now names agrees [] (body c.args.expr.now.kind) c.in_ok-made.made.items c.in_ok-made.ensures.denotes)
 
 pub denote-requires-clause-right : goal.denote-requires-clause-right
 denote-requires-clause-right c =
     let entry = c.requires.entry in
-    subst (λ bs. IsRightUnder c.args.checked.now.types c.args.checked.now.classes bs (body c.args.expr.now.kind)) (sym c.new-none.ensures) (entry_right c.args.checked.now entry.0 c.args.expr.now c.order-order.ensures.keeps entry.1.0 entry.1.1)
+    entry_right c.args.checked.now entry.0 c.args.expr.now c.order-order.ensures.keeps entry.1.0 entry.1.1
 
 pub returns-clause-once : goal.returns-clause-once
 returns-clause-once c others d =
     let keeps = c.order-order.ensures.keeps in
-    let whole = subst (λ bs. Denotes c.args.checked.now.types.dims (named_bodies c.args.checked.now.classes) bs (body c.args.expr.now.kind) c.in_ok-made.made.items) c.new-none.ensures c.in_ok-made.ensures.denotes in
-    once c.args.checked.now.types.dims (named_bodies c.args.checked.now.classes) keeps.types.dims (bodies_differ c.args.checked.now.classes keeps.names) [] (body c.args.expr.now.kind) c.in_ok-made.made.items whole others d ∙ sym c.from_vec.ensures
+    once c.args.checked.now.types.dims (named_bodies c.args.checked.now.classes) keeps.types.dims (bodies_differ c.args.checked.now.classes keeps.names) [] (body c.args.expr.now.kind) c.in_ok-made.made.items c.in_ok-made.ensures.denotes others d ∙ sym c.from_vec.ensures

@@ -1,7 +1,8 @@
-use Rattle.std.proofs.Common.{◌≡◌, ◌<◌, ◌≤◌, ◌-◌, sym, subst, arith}
-use Rattle.xdg_classes.specs.Bodies.{Body, body, calling}
+use Rattle.std.proofs.Common.{◌-◌, arith}
+use Rattle.xdg_classes.specs.Bodies.{Body, calling}
 use Rattle.xdg_members.specs.Denotes.{IsRanked}
 use Rattle.xdg_members.specs.Right.{IsRightUnder}
+use Rattle.xdg_members.specs.Weights.{weigh, sized}
 use Rattle.xdg_members.proofs.Denoted.{as_use, of_use}
 use Rattle.xdg_members.proofs.Followed.{Following, some_depth, has_place, entered, joined}
 use Rattle.xdg_members.proofs.using.follow.Goals as goal
@@ -41,5 +42,6 @@ loop-class-preserved c =
     let right = as_use (IsRightUnder c.args.checked.now.types c.args.checked.now.classes c.loop-class.inside) kind c.in-Use.next c.in-Use.given c.args_of.result.now c.in-Use.is c.args_of.ensures c.loop-class.invariant.right in
     let further = entered c.args.checked.now c.loop-class.left c.in-Use.next c.args_of.result.now ranked c.class_of-class-in-Use.ensures.keeps c.loop-class.invariant.within c.as_str-in-Use.result.now c.as_str-in-Use.ensures next c.class_of-class-in-Use.ensures.found
     c.loop-class.inside c.in_ok-inside-2.inside c.in_ok-inside-2.ensures right in
-    joined c.args.checked.now c.args.bindings.now c.loop-class.inside c.in_ok-inside-2.inside (calling c.args.name.now c.args.args.now) c.loop-class.class.now next c.loop-class.left (c.loop-class.left - 1) c.loop-class.invariant
-    (of_use (λ (b : Body). Following c.args.checked.now c.loop-class.inside b next c.in_ok-inside-2.inside (c.loop-class.left - 1)) kind c.in-Use.next c.in-Use.given c.args_of.result.now c.in-Use.is c.args_of.ensures further)
+    joined c.args.checked.now c.args.bindings.now c.loop-class.inside c.in_ok-inside-2.inside (calling c.args.name.now c.args.args.now) (weigh (sized c.args.checked.now c.args.depth) (calling c.args.name.now c.args.args.now)) c.loop-class.class.now next c.loop-class.left
+    (c.loop-class.left - 1) c.loop-class.invariant
+    (of_use (λ (b : Body). Following c.args.checked.now c.loop-class.inside b (weigh (sized c.args.checked.now c.loop-class.left) b) next c.in_ok-inside-2.inside (c.loop-class.left - 1)) kind c.in-Use.next c.in-Use.given c.args_of.result.now c.in-Use.is c.args_of.ensures further)
