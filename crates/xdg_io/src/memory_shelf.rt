@@ -1,6 +1,6 @@
 //! A shelf in memory.
 
-ghost use Rattle.std.specs.Prelude.{◌≡◌, ◌≢◌, ◌<◌, ◌≤◌, ◌+◌, ◌⊎◌, ◌↔◌, ℕ, Some, None, List, length, string_bytes, AllPairs, IfOk, IfErr, OnOk, IsErrOf};
+ghost use Rattle.std.specs.Prelude.{◌≡◌, ◌≢◌, ◌<◌, ◌≤◌, ◌+◌, ◌⊎◌, ◌↔◌, ℕ, Some, None, List, length, string_bytes, AllPairs, IfOk, IfErr, OnOk, IsErrOf, MatchResult};
 ghost use Rattle.std.specs.Option.{option_copied};
 ghost use Rattle.xdg_io.specs.Files.{HasFile, HasLongFile};
 ghost use Rattle.xdg_io.specs.Memory.{IsListed, counted, stopped, file_of, listed_files};
@@ -60,6 +60,8 @@ impl Shelf for MemShelf {
         ensures cause { IfErr result (λ stop. stop ≡ LoadStop.Failed → Rose self.old.calls.faults self.new.calls.faults) }
         ensures kept { self.new.files ≡ self.old.files }
         ensures lasting { (other : List ℕ) → self.old.calls.faults ≤ self.new.calls.faults }
+        ensures quiet { (other : List ℕ) → MatchResult result (λ _. self.new.calls.faults ≡ self.old.calls.faults) (λ stop.
+            stop ≢ LoadStop.Failed → self.new.calls.faults ≡ self.old.calls.faults) }
         ensures fails { IsErrOf result LoadStop.Failed ↔ (IsListed self.old.calls ⊎ (file_of self.old.files name.now ≡ None)) }
         ensures ok { OnOk result (self.new ≡ record self.old { calls = counted self.old.calls }) }
         ensures err { IfErr result (λ stop. self.new ≡ record self.old { calls = stopped stop self.old.calls }) }

@@ -1,6 +1,6 @@
 //! A sink in memory.
 
-ghost use Rattle.std.specs.Prelude.{◌≡◌, ◌<◌, ◌≤◌, ◌⊎◌, ◌↔◌, ◌++◌, ◌-◌, [], Some, length, min, take, vec_len, vec_capacity, ◌+◌, IsErr, IfOk, OnErr};
+ghost use Rattle.std.specs.Prelude.{◌≡◌, ◌<◌, ◌≤◌, ◌⊎◌, ◌↔◌, ◌++◌, ◌-◌, [], Some, length, min, take, vec_len, vec_capacity, ◌+◌, IsErr, IfOk, OnOk, OnErr};
 ghost use Rattle.xdg_io.specs.Held.{Appends};
 ghost use Rattle.xdg_io.specs.Memory.{IsListed, counted, failed};
 ghost use Rattle.xdg_io.specs.Rose.{Rose};
@@ -80,6 +80,7 @@ impl Sink for MemSink {
         ensures kept { OnErr result (Some self.new.held ≡ Some self.old.held) }
         ensures cause { OnErr result (Rose self.old.calls.faults self.new.calls.faults) }
         ensures lasting { self.old.calls.faults ≤ self.new.calls.faults }
+        ensures quiet { OnOk result (self.new.calls.faults ≡ self.old.calls.faults) }
         ensures fails { IsErr result ↔ (IsListed self.old.calls ⊎ (self.old.room ≤ length self.old.held)) }
         ensures count { IfOk result (λ count. count ≡ min self.old.cut (min (length piece.now) (self.old.room - length self.old.held))) }
         ensures ok { IfOk result (λ count. self.new ≡ record self.old { held = self.old.held ++ take count piece.now; calls = counted self.old.calls }) }

@@ -1,6 +1,6 @@
 //! A source in memory.
 
-ghost use Rattle.std.specs.Prelude.{◌≡◌, ◌<◌, ◌≤◌, ◌↔◌, Some, length, min, take, drop, IsErr, IfOk, OnErr};
+ghost use Rattle.std.specs.Prelude.{◌≡◌, ◌<◌, ◌≤◌, ◌↔◌, Some, length, min, take, drop, IsErr, IfOk, OnOk, OnErr};
 ghost use Rattle.xdg_io.specs.Left.{Takes, EndsAt};
 ghost use Rattle.xdg_io.specs.Memory.{IsListed, counted, failed};
 ghost use Rattle.xdg_io.specs.Rose.{Rose};
@@ -72,6 +72,7 @@ impl Source for MemSource {
         ensures kept { OnErr result (Some self.new.left ≡ Some self.old.left) }
         ensures cause { OnErr result (Rose self.old.calls.faults self.new.calls.faults) }
         ensures lasting { self.old.calls.faults ≤ self.new.calls.faults }
+        ensures quiet { OnOk result (self.new.calls.faults ≡ self.old.calls.faults) }
         ensures fails { IsErr result ↔ IsListed self.old.calls }
         ensures count { IfOk result (λ count. count ≡ min self.old.cut (min (length buffer.old) (length self.old.left))) }
         ensures given { IfOk result (λ count. take count buffer.new ≡ take count self.old.left) }

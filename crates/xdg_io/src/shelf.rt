@@ -1,6 +1,6 @@
 //! Where files are loaded from.
 
-ghost use Rattle.std.specs.Prelude.{◌≡◌, Option, ◌<◌, ◌≤◌, ◌+◌, ℕ, List, length, IfOk, IfErr};
+ghost use Rattle.std.specs.Prelude.{◌≡◌, ◌≢◌, Option, ◌<◌, ◌≤◌, ◌+◌, ℕ, List, length, IfOk, IfErr, MatchResult};
 ghost use Rattle.xdg_io.specs.Files.{HasFile, HasLongFile};
 ghost use Rattle.xdg_io.specs.Rose.{Rose};
 
@@ -26,5 +26,7 @@ pub trait Shelf {
         ensures cause { IfErr result (λ stop. stop ≡ LoadStop.Failed →
             Rose (faults self.old name.now) (faults self.new name.now)) }
         ensures kept { files self.new ≡ files self.old }
-        ensures lasting { (other : List ℕ) → faults self.old other ≤ faults self.new other };
+        ensures lasting { (other : List ℕ) → faults self.old other ≤ faults self.new other }
+        ensures quiet { (other : List ℕ) → MatchResult result (λ _. faults self.new other ≡ faults self.old other) (λ stop.
+            stop ≢ LoadStop.Failed → faults self.new other ≡ faults self.old other) };
 }

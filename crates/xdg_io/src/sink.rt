@@ -23,7 +23,8 @@ pub trait Sink {
         ensures added { IfOk result (λ count. Appends (held self.old) (held self.new) (take count piece.now)) }
         ensures kept { OnErr result (held self.new ≡ held self.old) }
         ensures cause { OnErr result (Rose (faults self.old) (faults self.new)) }
-        ensures lasting { faults self.old ≤ faults self.new };
+        ensures lasting { faults self.old ≤ faults self.new }
+        ensures quiet { OnOk result (faults self.new ≡ faults self.old) };
 }
 
 /// Writes a whole piece, by as many calls as the sink wants. An empty piece makes no call. It takes
@@ -34,6 +35,7 @@ pub fn write_all<K: Sink>(sink: &mut K, piece: &[u8]) -> Result<(), Failed>
     ensures front { OnErr result (AppendsFront (K.held sink.old) (K.held sink.new) piece.now) }
     ensures cause { OnErr result (Rose (K.faults sink.old) (K.faults sink.new)) }
     ensures lasting { K.faults sink.old ≤ K.faults sink.new }
+    ensures quiet { OnOk result (K.faults sink.new ≡ K.faults sink.old) }
 {
     let mut rest = piece;
     while !rest.is_empty() {

@@ -1,6 +1,6 @@
 //! Where bytes are read from.
 
-ghost use Rattle.std.specs.Prelude.{◌≡◌, Option, ◌<◌, ◌≤◌, ◌+◌, ◌-◌, ℕ, List, length, take, IfOk, IfErr, OnErr};
+ghost use Rattle.std.specs.Prelude.{◌≡◌, ◌≢◌, Option, ◌<◌, ◌≤◌, ◌+◌, ◌-◌, ℕ, List, length, take, IfOk, IfErr, OnOk, OnErr, MatchResult};
 ghost use Rattle.xdg_io.specs.Left.{Takes, TakesAll, TakesCount, TakesUpTo, EndsAt, GivesPiece};
 ghost use Rattle.xdg_io.specs.Rose.{Rose};
 
@@ -24,7 +24,8 @@ pub trait Source {
         ensures end { IfOk result (λ count. EndsAt (left self.old) count) }
         ensures kept { OnErr result (left self.new ≡ left self.old) }
         ensures cause { OnErr result (Rose (faults self.old) (faults self.new)) }
-        ensures lasting { faults self.old ≤ faults self.new };
+        ensures lasting { faults self.old ≤ faults self.new }
+        ensures quiet { OnOk result (faults self.new ≡ faults self.old) };
 }
 
 /// How many bytes are asked for at once.
@@ -44,6 +45,8 @@ pub fn read_all<S: Source>(alloc: Global, source: &mut S, limit: u64) -> Result<
     ensures memory { IfErr result (λ stop. stop ≡ ReadStop.OutOfMemory →
         TakesUpTo (S.left source.old) (S.left source.new) limit) }
     ensures lasting { S.faults source.old ≤ S.faults source.new }
+    ensures quiet { MatchResult result (λ _. S.faults source.new ≡ S.faults source.old) (λ stop.
+        stop ≢ ReadStop.ReadFault → S.faults source.new ≡ S.faults source.old) }
 {
     let mut bytes = Vec::new(alloc);
     let mut buffer = [0; PIECE];
@@ -76,6 +79,8 @@ fn read_piece<S: Source>(
     ensures memory { IfErr result (λ stop. stop ≡ ReadStop.OutOfMemory →
         TakesUpTo (S.left source.old) (S.left source.new) (limit - length bytes.old.items)) }
     ensures lasting { S.faults source.old ≤ S.faults source.new }
+    ensures quiet { MatchResult result (λ _. S.faults source.new ≡ S.faults source.old) (λ stop.
+        stop ≢ ReadStop.ReadFault → S.faults source.new ≡ S.faults source.old) }
 {
     let count = source.read(piece)?;
     let reached = bytes.len() as u64 + count as u64;
