@@ -2,3 +2,4 @@ pub mod Counts
 pub mod Written
 pub mod Read
 pub mod Shelves
+pub mod Streams

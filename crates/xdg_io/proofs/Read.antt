@@ -85,3 +85,7 @@ takes_front at count bytes left given left_is given_is =
 pub ends_exactly : (cut room count : ℕ) (left : List ℕ) → 0 < cut → 0 < room → count ≡ min cut (min room (length left)) → (count ≡ 0) ↔ (left ≡ [])
 ends_exactly cut room count left some_cut some_room is =
     (λ none. empty_list left (omega (arith, none, is, some_cut, some_room)), λ none. omega (arith, is, ap (λ z. length z) none))
+
+-- as many as there is room for, at most as many as there are
+pub at_most : (room there count : ℕ) → count ≡ min room (min room there) → count ≡ min room there
+at_most room there count is = omega (arith, is)

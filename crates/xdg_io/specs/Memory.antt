@@ -1,5 +1,5 @@
 -- The devices in memory as contracts see them: what they have, and their calls.
-use Rattle.std.specs.Prelude.{◌+◌, ℕ, List, Option, [], ◌∷◌, None, Some, IsTrue, nat_eq, min, cond, String, string_bytes, Vec, map}
+use Rattle.std.specs.Prelude.{◌+◌, ℕ, List, Option, [], ◌∷◌, None, Some, IsTrue, nat_eq, min, cond, String, string_bytes, Vec, map, codes}
 use Rattle.std.specs.List.{list_any}
 use Rattle.std.specs.Str.{bytes_eq}
 use Rattle.std.specs.declared.alloc.Global.{Global}
@@ -49,6 +49,15 @@ listed_files files = map (λ file. (string_bytes file.0, file.1.items)) files
 pub record ShelfState : Type 0 where
   pub files : List (List ℕ × List ℕ)
   pub calls : Calls
+
+-- a shelf in memory that never fails: its two texts
+pub record SafeFiles : Type 0 where
+  pub grammar : List ℕ
+  pub analysis : List ℕ
+
+-- the analysis for the name `a`, and the grammar for every other name
+abbrev pub safe_file : SafeFiles → List ℕ → Option (List ℕ)
+safe_file files name = Some (cond (bytes_eq name (codes "a")) files.analysis files.grammar)
 
 -- the calls after a file was not loaded
 abbrev pub stopped : LoadStop → Calls → Calls

@@ -1,14 +1,17 @@
-//! The devices of the running program: its files, its input and its output. What they give and take
-//! is not told.
+//! The devices of the running program: its files, its input and its output. What they have and hold
+//! is not told, but what is read and written is what their streams lose and gain.
 
-ghost use Rattle.std.specs.Prelude.{◌≡◌, ◌≤◌, ◌<◌, None};
+ghost use Rattle.std.specs.Prelude.{◌≡◌, ◌≤◌, ◌<◌, ℕ, List, Option, None, length, take, IfOk, OnOk, OnErr};
+ghost use Rattle.std.specs.Io.KnownBytes.{ReadConsumes, WriteAppends};
+ghost use Rattle.xdg_io.specs.Held.{Appends};
+ghost use Rattle.xdg_io.specs.Left.{Takes, EndsAt};
 ghost use Rattle.xdg_io.specs.Rose.{Rose};
 
-use crate::{Failed, LoadStop, ReadStop, Shelf, Sink, Source, read_all};
+use crate::{Failed, LoadStop, ReadStop, Shelf, Sink, Source, read_all, write_all};
 use std::alloc::Global;
-use std::fs;
-use std::io::{Input, Print, Read};
+use std::io::{Input, Print, Printer, Read, Write};
 use std::rt::Files;
+use std::{fs, io};
 
 /// The files of the program, by their paths.
 #[derive(Drop)]
@@ -36,7 +39,7 @@ impl<'a, R: Files> Shelf for FileShelf<'a, R> {
             self.faults = raised(self.faults);
             return Err(LoadStop::Failed);
         };
-        let mut source = ReaderSource { reader, faults: 0 };
+        let mut source = ReaderSource::new(reader);
         match read_all(alloc, &mut source, limit) {
             Ok(bytes) => Ok(bytes),
             Err(ReadStop::TooLong { reached }) => Err(LoadStop::TooLong { reached }),
@@ -61,10 +64,7 @@ impl<R: Input> StdinSource<R> {
         ensures { result.source.faults ≡ 0 }
     {
         StdinSource {
-            source: ReaderSource {
-                reader: runtime.reader(),
-                faults: 0,
-            },
+            source: ReaderSource::new(runtime.reader()),
         }
     }
 }
@@ -74,7 +74,17 @@ impl<R: Input> Source for StdinSource<R> {
 
     ghost faults = { λ source. source.source.faults };
 
-    fn read(&mut self, buffer: &mut [u8]) -> Result<usize, Failed> {
+    fn read(&mut self, buffer: &mut [u8]) -> Result<usize, Failed>
+        requires { 0 < length buffer.old }
+        ensures within { IfOk result (λ count. count ≤ length buffer.new) }
+        ensures taken { IfOk result (λ count. Takes None None (take count buffer.new)) }
+        ensures end { IfOk result (λ count. EndsAt None count) }
+        ensures kept { OnErr result (◌≡◌ {A = Option (List ℕ)} None None) }
+        ensures cause { OnErr result (Rose self.old.source.faults self.new.source.faults) }
+        ensures lasting { self.old.source.faults ≤ self.new.source.faults }
+        ensures quiet { OnOk result (self.new.source.faults ≡ self.old.source.faults) }
+        ensures stream { ReadConsumes (R.Reader.remaining self.old.source.reader) (R.Reader.remaining self.new.source.reader) result buffer.new }
+    {
         self.source.read(buffer)
     }
 }
@@ -85,23 +95,21 @@ const LINE: usize = 4096;
 /// The output of the program, which is written line by line: bytes are kept until their line ends or is long.
 #[derive(Drop)]
 pub struct StdoutSink<'a, R> {
-    runtime: &'a R,
+    sink: WriterSink<Printer<'a, R>>,
     line: [u8; LINE],
     kept: usize,
-    faults: u64,
     ghost within: { kept < 4096 },
 }
 
 impl<'a, R: Print> StdoutSink<'a, R> {
     /// A sink that has not failed.
     pub fn new(runtime: &'a R) -> StdoutSink<'a, R>
-        ensures { result.faults ≡ 0 }
+        ensures { result.sink.faults ≡ 0 }
     {
         StdoutSink {
-            runtime,
+            sink: WriterSink::new(io::writer(runtime)),
             line: [0; LINE],
             kept: 0,
-            faults: 0,
         }
     }
 }
@@ -109,7 +117,7 @@ impl<'a, R: Print> StdoutSink<'a, R> {
 impl<'a, R: Print> Sink for StdoutSink<'a, R> {
     ghost held = { λ _. None };
 
-    ghost faults = { λ sink. sink.faults };
+    ghost faults = { λ sink. sink.sink.faults };
 
     fn write(&mut self, piece: &[u8]) -> Result<usize, Failed> {
         let count = piece.len().min(LINE - self.kept);
@@ -120,34 +128,27 @@ impl<'a, R: Print> Sink for StdoutSink<'a, R> {
             return Ok(count);
         }
         self.kept = 0;
-        if write_through(self.runtime, &self.line[..end]).is_err() {
-            self.faults = raised(self.faults);
-            return Err(Failed);
-        }
+        let line = self.line;
+        write_all(&mut self.sink, &line[..end])?;
         Ok(count)
     }
 }
 
-/// Writes bytes to the output, however many it takes at once.
-fn write_through<R: Print>(runtime: &R, bytes: &[u8]) -> Result<(), Failed> {
-    let mut rest = bytes;
-    while !rest.is_empty() {
-        match runtime.write_some(rest) {
-            Ok(count) if count > 0 => {
-                let (_, later) = rest.split_at(count);
-                rest = later;
-            }
-            _ => return Err(Failed),
-        }
-    }
-    Ok(())
-}
-
-/// A source over a reader.
+/// A source over a reader: what it gives is what the reader's stream loses.
 #[derive(Drop)]
-struct ReaderSource<I> {
+pub struct ReaderSource<I> {
     reader: I,
     faults: u64,
+}
+
+impl<I: Read> ReaderSource<I> {
+    /// A source that has not failed.
+    pub fn new(reader: I) -> ReaderSource<I>
+        ensures reader { result.reader ≡ reader }
+        ensures faults { result.faults ≡ 0 }
+    {
+        ReaderSource { reader, faults: 0 }
+    }
 }
 
 impl<I: Read> Source for ReaderSource<I> {
@@ -155,7 +156,17 @@ impl<I: Read> Source for ReaderSource<I> {
 
     ghost faults = { λ source. source.faults };
 
-    fn read(&mut self, buffer: &mut [u8]) -> Result<usize, Failed> {
+    fn read(&mut self, buffer: &mut [u8]) -> Result<usize, Failed>
+        requires { 0 < length buffer.old }
+        ensures within { IfOk result (λ count. count ≤ length buffer.new) }
+        ensures taken { IfOk result (λ count. Takes None None (take count buffer.new)) }
+        ensures end { IfOk result (λ count. EndsAt None count) }
+        ensures kept { OnErr result (◌≡◌ {A = Option (List ℕ)} None None) }
+        ensures cause { OnErr result (Rose self.old.faults self.new.faults) }
+        ensures lasting { self.old.faults ≤ self.new.faults }
+        ensures quiet { OnOk result (self.new.faults ≡ self.old.faults) }
+        ensures stream { ReadConsumes (I.remaining self.old.reader) (I.remaining self.new.reader) result buffer.new }
+    {
         match self.reader.read(buffer) {
             Ok(count) => Ok(count),
             Err(_) => {
@@ -163,6 +174,52 @@ impl<I: Read> Source for ReaderSource<I> {
                 Err(Failed)
             }
         }
+    }
+}
+
+/// A sink over a writer: what it takes is what the writer's stream gains.
+#[derive(Drop)]
+pub struct WriterSink<W> {
+    writer: W,
+    faults: u64,
+}
+
+impl<W: Write> WriterSink<W> {
+    /// A sink that has not failed.
+    pub fn new(writer: W) -> WriterSink<W>
+        ensures writer { result.writer ≡ writer }
+        ensures faults { result.faults ≡ 0 }
+    {
+        WriterSink { writer, faults: 0 }
+    }
+}
+
+impl<W: Write> Sink for WriterSink<W> {
+    ghost held = { λ _. None };
+
+    ghost faults = { λ sink. sink.faults };
+
+    #[tactic(auto, using(crate::proofs::Streams::gained_nothing))]
+    fn write(&mut self, piece: &[u8]) -> Result<usize, Failed>
+        requires { 0 < length piece.now }
+        ensures some { IfOk result (λ count. 0 < count) }
+        ensures within { IfOk result (λ count. count ≤ length piece.now) }
+        ensures added { IfOk result (λ count. Appends None None (take count piece.now)) }
+        ensures kept { OnErr result (◌≡◌ {A = Option (List ℕ)} None None) }
+        ensures cause { OnErr result (Rose self.old.faults self.new.faults) }
+        ensures lasting { self.old.faults ≤ self.new.faults }
+        ensures quiet { OnOk result (self.new.faults ≡ self.old.faults) }
+        ensures stream { WriteAppends (W.contents self.old.writer) (W.contents self.new.writer) result piece.now }
+    {
+        let Ok(count) = self.writer.write(piece) else {
+            self.faults = raised(self.faults);
+            return Err(Failed);
+        };
+        if count == 0 {
+            self.faults = raised(self.faults);
+            return Err(Failed);
+        }
+        Ok(count)
     }
 }
 

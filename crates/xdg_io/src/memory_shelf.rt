@@ -78,7 +78,7 @@ impl Shelf for MemShelf {
 }
 
 /// A copy of the bytes, where they are at most `limit`.
-fn copy_within(alloc: Global, bytes: &[u8], limit: u64) -> Result<Vec<u8>, LoadStop>
+pub(crate) fn copy_within(alloc: Global, bytes: &[u8], limit: u64) -> Result<Vec<u8>, LoadStop>
     requires { limit < 18446744073709551615 }
     ensures copy { IfOk result (λ copy. copy.items ≡ bytes.now) }
     ensures within { IfOk result (λ copy. length copy.items ≤ limit) }

@@ -89,7 +89,7 @@ impl Source for MemSource {
 
 /// Copies as many of the first bytes as there are, at most `cut` and at most as many as there is room
 /// for. Answers how many.
-fn copy_front(bytes: &[u8], cut: usize, buffer: &mut [u8]) -> usize
+pub(crate) fn copy_front(bytes: &[u8], cut: usize, buffer: &mut [u8]) -> usize
     ensures count { result ≡ min cut (min (length buffer.old) (length bytes.now)) }
     ensures front { take result buffer.new ≡ take result bytes.now }
 {

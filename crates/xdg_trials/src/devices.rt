@@ -5,8 +5,8 @@ ghost use Rattle.std.specs.Prelude.{◌<◌};
 use std::alloc::Global;
 use std::test::Fail;
 use xdg_io::{
-    FileShelf, LoadStop, MemShelf, MemSource, ReadStop, Shelf, StdinSource, StdoutSink, read_all,
-    write_all,
+    FileShelf, LoadStop, MemShelf, MemSource, NullSink, ReadStop, ReaderSource, SafeShelf,
+    SafeSource, Shelf, Sink, StdinSource, StdoutSink, WriterSink, read_all, write_all,
 };
 
 fn read_bytes(
@@ -50,6 +50,33 @@ fn a_shelf_loads_its_files(rt: HostRuntime) -> Result<(), Fail> {
     assert_eq!(rt; absent.err(), Some(LoadStop::Failed));
     let failing = shelf.load(alloc, "g.xdg", 3);
     assert_eq!(rt; failing.err(), Some(LoadStop::Failed));
+    Ok(())
+}
+
+#[test]
+fn devices_that_never_fail_answer(rt: HostRuntime) -> Result<(), Fail> {
+    let alloc = rt.alloc();
+    let mut source = SafeSource::new(alloc, b"abcde")?;
+    let bytes = read_all(alloc, &mut source, 5);
+    assert_eq!(rt; bytes.ok().as_deref(), Some(b"abcde".as_slice()));
+    let mut shelf = SafeShelf::new(alloc, b"grammar", b"analysis")?;
+    let grammar = shelf.load(alloc, "g.xdg", 9);
+    assert_eq!(rt; grammar.ok().as_deref(), Some(b"grammar".as_slice()));
+    let analysis = shelf.load(alloc, "a", 9);
+    assert_eq!(rt; analysis.ok().as_deref(), Some(b"analysis".as_slice()));
+    let mut nothing = NullSink::new();
+    assert_eq!(rt; write_all(&mut nothing, b"abc"), Ok(()));
+    Ok(())
+}
+
+#[test]
+fn streams_are_devices(rt: HostRuntime) -> Result<(), Fail> {
+    let alloc = rt.alloc();
+    let mut source = ReaderSource::new(b"abcde".as_slice());
+    let bytes = read_all(alloc, &mut source, 5);
+    assert_eq!(rt; bytes.ok().as_deref(), Some(b"abcde".as_slice()));
+    let mut sink = WriterSink::new(Vec::new(alloc));
+    assert_eq!(rt; sink.write(b"abc"), Ok(3));
     Ok(())
 }
 
