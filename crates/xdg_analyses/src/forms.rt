@@ -1,6 +1,6 @@
 //! The two texts of an analysis.
 
-ghost use Rattle.std.specs.Prelude.{◌≤◌, OnErr, OnOk};
+ghost use Rattle.std.specs.Prelude.{◌≡◌, ◌≤◌, OnErr, OnOk};
 ghost use Rattle.xdg_analyses.specs.Printed.{shown};
 ghost use Rattle.xdg_io.specs.Held.{Appends, AppendsFront};
 ghost use Rattle.xdg_io.specs.Rose.{Rose};
@@ -35,6 +35,7 @@ pub(crate) fn write_shown<K: Sink>(
     ensures front { OnErr result (AppendsFront (K.held sink.old) (K.held sink.new) (shown form problem.now number (record { entries = entries.now; attrs = attrs.now; edges = edges.now }))) }
     ensures cause { OnErr result (Rose (K.faults sink.old) (K.faults sink.new)) }
     ensures lasting { K.faults sink.old ≤ K.faults sink.new }
+    ensures quiet { OnOk result (K.faults sink.new ≡ K.faults sink.old) }
 {
     match form {
         Form::One => write_parts(problem, number, entries, attrs, edges, sink),

@@ -1,6 +1,6 @@
 //! Searching, and printing what is found.
 
-ghost use Rattle.std.specs.Prelude.{◌≡◌, ◌≤◌, ◌<◌, ◌^◌, [], None};
+ghost use Rattle.std.specs.Prelude.{◌≡◌, ◌≢◌, ◌≤◌, ◌<◌, ◌^◌, [], None};
 ghost use Rattle.std.specs.Option.{option_copied};
 ghost use Rattle.xdg_analyses.specs.Printed.{IsOnePrint};
 ghost use Rattle.xdg_analyses.specs.Written.{IsSome, Writes};
@@ -49,6 +49,7 @@ pub fn print_analyses<P: Propagator, K: Sink>(
     ensures one { IsOnePrint form budget first problem.now (start_vector problem.now (option_copied after.entry)) }
     ensures cause { result ≡ Printed.Failed → Rose (K.faults sink.old) (K.faults sink.new) }
     ensures lasting { K.faults sink.old ≤ K.faults sink.new }
+    ensures quiet { result ≢ Printed.Failed → K.faults sink.new ≡ K.faults sink.old }
 {
     let _parts = problem.parts();
     let Ok(mut stream) = Stream::start(alloc, problem, props, budget, after) else {
@@ -74,6 +75,7 @@ fn print_found<P: Propagator, K: Sink>(
     ensures written { Writes result form stream.old.budget first problem.now stream.old.start (K.held sink.old) (K.held sink.new) }
     ensures cause { result ≡ Printed.Failed → Rose (K.faults sink.old) (K.faults sink.new) }
     ensures lasting { K.faults sink.old ≤ K.faults sink.new }
+    ensures quiet { result ≢ Printed.Failed → K.faults sink.new ≡ K.faults sink.old }
 {
     let mut count: u64 = 0;
     'draw: loop {

@@ -15,8 +15,8 @@ use Rattle.xdg_io.proofs.Counts as counts
 pub rose_later : (a b c : ℕ) → a ≤ b → Rose b c → Rose a c
 rose_later a b c same rose = counts.rose_later a b c same rose
 
-pub lasts : {a b c : ℕ} → a ≤ b → b ≤ c → a ≤ c
-lasts first second = omega (arith, first, second)
+pub stays : {a b c : ℕ} → b ≡ a → c ≡ b → c ≡ a
+stays first second = second ∙ first
 
 -- a part was added, and then another
 pub appends_both : {a b c : Option (List ℕ)} {x y : List ℕ} → Appends a b x → Appends b c y → Appends a c (x ++ y)

@@ -95,6 +95,7 @@ fn write_escaped_byte<K: Sink>(byte: u8, sink: &mut K) -> Result<(), Failed>
     ensures front { OnErr result (AppendsFront (K.held sink.old) (K.held sink.new) (escaped byte)) }
     ensures cause { OnErr result (Rose (K.faults sink.old) (K.faults sink.new)) }
     ensures lasting { K.faults sink.old ≤ K.faults sink.new }
+    ensures quiet { OnOk result (K.faults sink.new ≡ K.faults sink.old) }
 {
     if is_escaped(byte) {
         write_all(sink, &[b'\\', byte])
@@ -110,6 +111,7 @@ fn write_escaped_bytes<K: Sink>(bytes: &[u8], sink: &mut K) -> Result<(), Failed
     ensures front { OnErr result (AppendsFront (K.held sink.old) (K.held sink.new) (flat_map escaped bytes.now)) }
     ensures cause { OnErr result (Rose (K.faults sink.old) (K.faults sink.new)) }
     ensures lasting { K.faults sink.old ≤ K.faults sink.new }
+    ensures quiet { OnOk result (K.faults sink.new ≡ K.faults sink.old) }
 {
     for byte in bytes {
         write_escaped_byte(*byte, sink)?;
@@ -123,6 +125,7 @@ fn write_escaped<K: Sink>(text: &str, sink: &mut K) -> Result<(), Failed>
     ensures front { OnErr result (AppendsFront (K.held sink.old) (K.held sink.new) (flat_map escaped text.now)) }
     ensures cause { OnErr result (Rose (K.faults sink.old) (K.faults sink.new)) }
     ensures lasting { K.faults sink.old ≤ K.faults sink.new }
+    ensures quiet { OnOk result (K.faults sink.new ≡ K.faults sink.old) }
 {
     let bytes = text.as_bytes();
     if has_escaped(bytes) {
@@ -139,6 +142,7 @@ pub fn write_quoted<K: Sink>(text: &str, sink: &mut K) -> Result<(), Failed>
     ensures front { OnErr result (AppendsFront (K.held sink.old) (K.held sink.new) (quoted text.now)) }
     ensures cause { OnErr result (Rose (K.faults sink.old) (K.faults sink.new)) }
     ensures lasting { K.faults sink.old ≤ K.faults sink.new }
+    ensures quiet { OnOk result (K.faults sink.new ≡ K.faults sink.old) }
 {
     write_all(sink, b"\"")?;
     write_escaped(text, sink)?;
@@ -151,6 +155,7 @@ pub fn write_constant<K: Sink>(text: &str, sink: &mut K) -> Result<(), Failed>
     ensures front { OnErr result (AppendsFront (K.held sink.old) (K.held sink.new) (constant text.now)) }
     ensures cause { OnErr result (Rose (K.faults sink.old) (K.faults sink.new)) }
     ensures lasting { K.faults sink.old ≤ K.faults sink.new }
+    ensures quiet { OnOk result (K.faults sink.new ≡ K.faults sink.old) }
 {
     if is_name(text) {
         write_all(sink, text.as_bytes())

@@ -16,6 +16,7 @@ pub fn fault_line<K: Sink>(fault: &Fault, place: LineColumn, sink: &mut K) -> Re
     ensures front { OnErr result (AppendsFront (K.held sink.old) (K.held sink.new) (fault_text fault.now place)) }
     ensures cause { OnErr result (Rose (K.faults sink.old) (K.faults sink.new)) }
     ensures lasting { K.faults sink.old ≤ K.faults sink.new }
+    ensures quiet { OnOk result (K.faults sink.new ≡ K.faults sink.old) }
 {
     let words = [
         Word::Number(number(fault.cause) as u64),
@@ -40,6 +41,7 @@ pub fn write_complete<K: Sink>(count: u64, sink: &mut K) -> Result<(), Failed>
     ensures front { OnErr result (AppendsFront (K.held sink.old) (K.held sink.new) (complete_line count)) }
     ensures cause { OnErr result (Rose (K.faults sink.old) (K.faults sink.new)) }
     ensures lasting { K.faults sink.old ≤ K.faults sink.new }
+    ensures quiet { OnOk result (K.faults sink.new ≡ K.faults sink.old) }
 {
     write_line("complete", &[Word::Number(count)], sink)
 }
@@ -50,6 +52,7 @@ pub fn write_spent<K: Sink>(count: u64, sink: &mut K) -> Result<(), Failed>
     ensures front { OnErr result (AppendsFront (K.held sink.old) (K.held sink.new) (spent_line count)) }
     ensures cause { OnErr result (Rose (K.faults sink.old) (K.faults sink.new)) }
     ensures lasting { K.faults sink.old ≤ K.faults sink.new }
+    ensures quiet { OnOk result (K.faults sink.new ≡ K.faults sink.old) }
 {
     write_line("spent", &[Word::Number(count)], sink)
 }
@@ -60,6 +63,7 @@ pub fn write_first<K: Sink>(count: u64, sink: &mut K) -> Result<(), Failed>
     ensures front { OnErr result (AppendsFront (K.held sink.old) (K.held sink.new) (first_line count)) }
     ensures cause { OnErr result (Rose (K.faults sink.old) (K.faults sink.new)) }
     ensures lasting { K.faults sink.old ≤ K.faults sink.new }
+    ensures quiet { OnOk result (K.faults sink.new ≡ K.faults sink.old) }
 {
     write_line("first", &[Word::Number(count)], sink)
 }
@@ -70,6 +74,7 @@ pub fn write_usage<K: Sink>(sink: &mut K) -> Result<(), Failed>
     ensures front { OnErr result (AppendsFront (K.held sink.old) (K.held sink.new) usage_line) }
     ensures cause { OnErr result (Rose (K.faults sink.old) (K.faults sink.new)) }
     ensures lasting { K.faults sink.old ≤ K.faults sink.new }
+    ensures quiet { OnOk result (K.faults sink.new ≡ K.faults sink.old) }
 {
     write_all(
         sink,

@@ -34,6 +34,7 @@ fn write_plain<K: Sink>(text: &str, sink: &mut K) -> Result<(), Failed>
     ensures front { OnErr result (AppendsFront (K.held sink.old) (K.held sink.new) (text.now)) }
     ensures cause { OnErr result (Rose (K.faults sink.old) (K.faults sink.new)) }
     ensures lasting { K.faults sink.old ≤ K.faults sink.new }
+    ensures quiet { OnOk result (K.faults sink.new ≡ K.faults sink.old) }
 {
     write_all(sink, text.as_bytes())
 }
@@ -44,6 +45,7 @@ fn write_number<K: Sink>(number: u64, sink: &mut K) -> Result<(), Failed>
     ensures front { OnErr result (AppendsFront (K.held sink.old) (K.held sink.new) (decimal number)) }
     ensures cause { OnErr result (Rose (K.faults sink.old) (K.faults sink.new)) }
     ensures lasting { K.faults sink.old ≤ K.faults sink.new }
+    ensures quiet { OnOk result (K.faults sink.new ≡ K.faults sink.old) }
 {
     let mut buffer = Buffer::new();
     write_all(sink, buffer.format(number).as_bytes())
@@ -55,6 +57,7 @@ fn write_word<K: Sink>(word: &Word, sink: &mut K) -> Result<(), Failed>
     ensures front { OnErr result (AppendsFront (K.held sink.old) (K.held sink.new) (word_text word.now)) }
     ensures cause { OnErr result (Rose (K.faults sink.old) (K.faults sink.new)) }
     ensures lasting { K.faults sink.old ≤ K.faults sink.new }
+    ensures quiet { OnOk result (K.faults sink.new ≡ K.faults sink.old) }
 {
     match word {
         Word::Plain(text) => write_plain(text, sink),
@@ -72,6 +75,7 @@ fn write_led_word<K: Sink>(word: &Word, sink: &mut K) -> Result<(), Failed>
     ensures front { OnErr result (AppendsFront (K.held sink.old) (K.held sink.new) (led_word word.now)) }
     ensures cause { OnErr result (Rose (K.faults sink.old) (K.faults sink.new)) }
     ensures lasting { K.faults sink.old ≤ K.faults sink.new }
+    ensures quiet { OnOk result (K.faults sink.new ≡ K.faults sink.old) }
 {
     write_all(sink, b" ")?;
     write_word(word, sink)
@@ -84,6 +88,7 @@ fn write_led_words<K: Sink>(words: &[Word], sink: &mut K) -> Result<(), Failed>
     ensures front { OnErr result (AppendsFront (K.held sink.old) (K.held sink.new) (flat_map led_word words.now)) }
     ensures cause { OnErr result (Rose (K.faults sink.old) (K.faults sink.new)) }
     ensures lasting { K.faults sink.old ≤ K.faults sink.new }
+    ensures quiet { OnOk result (K.faults sink.new ≡ K.faults sink.old) }
 {
     for word in words {
         write_led_word(word, sink)?;
@@ -98,6 +103,7 @@ pub fn write_line<K: Sink>(first: &str, others: &[Word], sink: &mut K) -> Result
     ensures front { OnErr result (AppendsFront (K.held sink.old) (K.held sink.new) (line first.now (map word_text others.now))) }
     ensures cause { OnErr result (Rose (K.faults sink.old) (K.faults sink.new)) }
     ensures lasting { K.faults sink.old ≤ K.faults sink.new }
+    ensures quiet { OnOk result (K.faults sink.new ≡ K.faults sink.old) }
 {
     write_plain(first, sink)?;
     write_led_words(others, sink)?;

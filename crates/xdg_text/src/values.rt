@@ -18,6 +18,7 @@ fn write_text<K: Sink>(text: &Text, sink: &mut K) -> Result<(), Failed>
     ensures front { OnErr result (AppendsFront (K.held sink.old) (K.held sink.new) (constant text.now)) }
     ensures cause { OnErr result (Rose (K.faults sink.old) (K.faults sink.new)) }
     ensures lasting { K.faults sink.old ≤ K.faults sink.new }
+    ensures quiet { OnOk result (K.faults sink.new ≡ K.faults sink.old) }
 {
     write_constant(text.as_str(), sink)
 }
@@ -29,6 +30,7 @@ fn write_led_constant<K: Sink>(text: &Text, sink: &mut K) -> Result<(), Failed>
     ensures front { OnErr result (AppendsFront (K.held sink.old) (K.held sink.new) (led_constant text.now)) }
     ensures cause { OnErr result (Rose (K.faults sink.old) (K.faults sink.new)) }
     ensures lasting { K.faults sink.old ≤ K.faults sink.new }
+    ensures quiet { OnOk result (K.faults sink.new ≡ K.faults sink.old) }
 {
     write_all(sink, b" ")?;
     write_text(text, sink)
@@ -41,6 +43,7 @@ fn write_led_constants<K: Sink>(texts: &[Text], sink: &mut K) -> Result<(), Fail
     ensures front { OnErr result (AppendsFront (K.held sink.old) (K.held sink.new) (flat_map led_constant texts.now)) }
     ensures cause { OnErr result (Rose (K.faults sink.old) (K.faults sink.new)) }
     ensures lasting { K.faults sink.old ≤ K.faults sink.new }
+    ensures quiet { OnOk result (K.faults sink.new ≡ K.faults sink.old) }
 {
     for text in texts {
         write_led_constant(text, sink)?;
@@ -55,6 +58,7 @@ fn write_constants<K: Sink>(texts: &[Text], sink: &mut K) -> Result<(), Failed>
     ensures front { OnErr result (AppendsFront (K.held sink.old) (K.held sink.new) (join_by constant (codes " ") texts.now)) }
     ensures cause { OnErr result (Rose (K.faults sink.old) (K.faults sink.new)) }
     ensures lasting { K.faults sink.old ≤ K.faults sink.new }
+    ensures quiet { OnOk result (K.faults sink.new ≡ K.faults sink.old) }
 {
     match texts.split_first() {
         Some((first, others)) => {
@@ -72,6 +76,7 @@ fn write_tuple<K: Sink>(texts: &[Text], sink: &mut K) -> Result<(), Failed>
     ensures front { OnErr result (AppendsFront (K.held sink.old) (K.held sink.new) (codes "[" ++ (join_by constant (codes " ") texts.now ++ codes "]"))) }
     ensures cause { OnErr result (Rose (K.faults sink.old) (K.faults sink.new)) }
     ensures lasting { K.faults sink.old ≤ K.faults sink.new }
+    ensures quiet { OnOk result (K.faults sink.new ≡ K.faults sink.old) }
 {
     write_all(sink, b"[")?;
     write_constants(texts, sink)?;
@@ -84,6 +89,7 @@ pub fn write_value<K: Sink>(value: &Shown, sink: &mut K) -> Result<(), Failed>
     ensures front { OnErr result (AppendsFront (K.held sink.old) (K.held sink.new) (value_text value.now)) }
     ensures cause { OnErr result (Rose (K.faults sink.old) (K.faults sink.new)) }
     ensures lasting { K.faults sink.old ≤ K.faults sink.new }
+    ensures quiet { OnOk result (K.faults sink.new ≡ K.faults sink.old) }
 {
     match value {
         Shown::One(text) => write_text(text, sink),

@@ -79,6 +79,7 @@ fn write_item<K: Sink>(
     ensures front { OnErr result (AppendsFront (K.held sink.old) (K.held sink.new) (spec.behind (spec.item_text labels.now condition place number))) }
     ensures cause { OnErr result (Rose (K.faults sink.old) (K.faults sink.new)) }
     ensures lasting { K.faults sink.old ≤ K.faults sink.new }
+    ensures quiet { OnOk result (K.faults sink.new ≡ K.faults sink.old) }
 {
     if counts(condition) {
         return write_number(u64::from(number), sink);
@@ -101,6 +102,7 @@ pub(crate) fn write_items<K: Sink>(
     ensures front { OnErr result (AppendsFront (K.held sink.old) (K.held sink.new) (spec.items_text labels.now condition 0 numbers.now)) }
     ensures cause { OnErr result (Rose (K.faults sink.old) (K.faults sink.new)) }
     ensures lasting { K.faults sink.old ≤ K.faults sink.new }
+    ensures quiet { OnOk result (K.faults sink.new ≡ K.faults sink.old) }
 {
     for (place, number) in numbers.iter().enumerate() {
         write_item(labels, condition, place, *number, sink)?;

@@ -54,6 +54,7 @@ fn write_dims<K: Sink>(parts: &Parts, dims: &[DimId], sink: &mut K) -> Result<()
     ensures front { OnErr result (AppendsFront (K.held sink.old) (K.held sink.new) (flat_map (spec.dim_text parts.now) dims.now)) }
     ensures cause { OnErr result (Rose (K.faults sink.old) (K.faults sink.new)) }
     ensures lasting { K.faults sink.old ≤ K.faults sink.new }
+    ensures quiet { OnOk result (K.faults sink.new ≡ K.faults sink.old) }
 {
     for dim in dims {
         write_constant_behind(dim_name(parts, *dim), sink)?;
@@ -84,6 +85,7 @@ pub(crate) fn write_said<K: Sink>(
     ensures front { OnErr result (AppendsFront (K.held sink.old) (K.held sink.new) (spec.said_text labels.now verdict.now)) }
     ensures cause { OnErr result (Rose (K.faults sink.old) (K.faults sink.new)) }
     ensures lasting { K.faults sink.old ≤ K.faults sink.new }
+    ensures quiet { OnOk result (K.faults sink.new ≡ K.faults sink.old) }
 {
     match verdict {
         Verdict::Kept => write_word("kept", sink),
@@ -107,6 +109,7 @@ fn write_verdict<K: Sink>(
     ensures front { OnErr result (AppendsFront (K.held sink.old) (K.held sink.new) (spec.verdict_line parts.now number group.now verdict.now)) }
     ensures cause { OnErr result (Rose (K.faults sink.old) (K.faults sink.new)) }
     ensures lasting { K.faults sink.old ≤ K.faults sink.new }
+    ensures quiet { OnOk result (K.faults sink.new ≡ K.faults sink.old) }
 {
     write_first(number, sink)?;
     write_word(principle_name(group.principle), sink)?;
@@ -128,6 +131,7 @@ fn write_verdict_lines<K: Sink>(
     ensures front { OnErr result (AppendsFront (K.held sink.old) (K.held sink.new) (spec.verdict_lines parts.now 1 groups.now verdicts.now)) }
     ensures cause { OnErr result (Rose (K.faults sink.old) (K.faults sink.new)) }
     ensures lasting { K.faults sink.old ≤ K.faults sink.new }
+    ensures quiet { OnOk result (K.faults sink.new ≡ K.faults sink.old) }
 {
     for (place, group) in groups.iter().enumerate() {
         write_verdict(parts, place as u64 + 1, group, &verdicts[place], sink)?;
@@ -154,6 +158,7 @@ pub(crate) fn write_last<K: Sink>(kept: bool, sink: &mut K) -> Result<(), Failed
     ensures front { OnErr result (AppendsFront (K.held sink.old) (K.held sink.new) (spec.solution_line kept)) }
     ensures cause { OnErr result (Rose (K.faults sink.old) (K.faults sink.new)) }
     ensures lasting { K.faults sink.old ≤ K.faults sink.new }
+    ensures quiet { OnOk result (K.faults sink.new ≡ K.faults sink.old) }
 {
     if kept {
         return write_line("solution", &[], sink);
@@ -180,6 +185,7 @@ pub fn write_verdicts<K: Sink>(
     ensures front { OnErr result (AppendsFront (K.held sink.old) (K.held sink.new) (spec.verdicts_text problem.now verdicts.now)) }
     ensures cause { OnErr result (Rose (K.faults sink.old) (K.faults sink.new)) }
     ensures lasting { K.faults sink.old ≤ K.faults sink.new }
+    ensures quiet { OnOk result (K.faults sink.new ≡ K.faults sink.old) }
     ensures one { IsOneText problem.now }
 {
     let _parts = problem.parts();
@@ -197,6 +203,7 @@ fn write_all_verdicts<K: Sink>(
     ensures front { OnErr result (AppendsFront (K.held sink.old) (K.held sink.new) (spec.verdicts_text problem.now verdicts.now)) }
     ensures cause { OnErr result (Rose (K.faults sink.old) (K.faults sink.new)) }
     ensures lasting { K.faults sink.old ≤ K.faults sink.new }
+    ensures quiet { OnOk result (K.faults sink.new ≡ K.faults sink.old) }
 {
     let parts = problem.parts();
     write_verdict_lines(parts, parts.groups.as_slice(), verdicts, sink)?;

@@ -17,6 +17,7 @@ pub(crate) fn write_word<K: Sink>(word: &str, sink: &mut K) -> Result<(), Failed
     ensures front { OnErr result (AppendsFront (K.held sink.old) (K.held sink.new) (behind word.now)) }
     ensures cause { OnErr result (Rose (K.faults sink.old) (K.faults sink.new)) }
     ensures lasting { K.faults sink.old ≤ K.faults sink.new }
+    ensures quiet { OnOk result (K.faults sink.new ≡ K.faults sink.old) }
 {
     write_all(sink, b" ")?;
     write_all(sink, word.as_bytes())
@@ -29,6 +30,7 @@ pub(crate) fn write_constant_behind<K: Sink>(text: &str, sink: &mut K) -> Result
     ensures front { OnErr result (AppendsFront (K.held sink.old) (K.held sink.new) (behind (constant text.now))) }
     ensures cause { OnErr result (Rose (K.faults sink.old) (K.faults sink.new)) }
     ensures lasting { K.faults sink.old ≤ K.faults sink.new }
+    ensures quiet { OnOk result (K.faults sink.new ≡ K.faults sink.old) }
 {
     write_all(sink, b" ")?;
     write_constant(text, sink)
@@ -40,6 +42,7 @@ pub(crate) fn write_number<K: Sink>(number: u64, sink: &mut K) -> Result<(), Fai
     ensures front { OnErr result (AppendsFront (K.held sink.old) (K.held sink.new) (behind (decimal number))) }
     ensures cause { OnErr result (Rose (K.faults sink.old) (K.faults sink.new)) }
     ensures lasting { K.faults sink.old ≤ K.faults sink.new }
+    ensures quiet { OnOk result (K.faults sink.new ≡ K.faults sink.old) }
 {
     let mut buffer = Buffer::new();
     write_word(buffer.format(number), sink)
@@ -51,6 +54,7 @@ pub(crate) fn write_first<K: Sink>(number: u64, sink: &mut K) -> Result<(), Fail
     ensures front { OnErr result (AppendsFront (K.held sink.old) (K.held sink.new) (decimal number)) }
     ensures cause { OnErr result (Rose (K.faults sink.old) (K.faults sink.new)) }
     ensures lasting { K.faults sink.old ≤ K.faults sink.new }
+    ensures quiet { OnOk result (K.faults sink.new ≡ K.faults sink.old) }
 {
     let mut buffer = Buffer::new();
     write_all(sink, buffer.format(number).as_bytes())

@@ -33,11 +33,9 @@ draw-preserved g c =
     let step = c.in-Found.ensures.step in
     let new = c.advance.new.self in
     let is = analysis_is parts new.parts new.last c.entries.result.now c.attrs.result.now c.edges.result.now (step.given.0 ∙ f.problem) c.entries.ensures c.attrs.ensures c.edges.ensures in
-    let l = c.write_shown-written.ensures.lasting in
-    let m = c.draw.invariant.lasting in
     record {
       found = found_more c.args.form c.args.first parts start budget c.draw.stream new c.draw.count _ _ f step _ is _ (done_of c.write_shown-written.result _ (sym c.is_err.ensures.value ∙ c.if-is_err.false) c.write_shown-written.ensures.all) (not_wanted c.args.first (c.draw.count + 1) (sym c.eq.ensures ∙ c.if-eq.false));
-      lasting = omega (arith, l, m);
+      quiet = done_of c.write_shown-written.result _ (sym c.is_err.ensures.value ∙ c.if-is_err.false) c.write_shown-written.ensures.quiet ∙ c.draw.invariant.quiet;
     }
 
 pub returns-then-is_err-2-clause-written : goal.returns-then-is_err-2-clause-written
@@ -116,3 +114,14 @@ returns-in-Spent-clause-written g c =
     (spent_answered c.args.form c.args.first parts start budget c.draw.stream c.advance.new.self c.draw.count _ _ f c.in-Spent.ensures.step)
     f.written
     (subst (λ n. Appends (g.K.Sink.held c.draw.sink) (g.K.Sink.held c.write_spent-written.new.sink) (spent_line n)) f.count_is (done_of c.write_spent-written.result _ (sym c.is_err-in-Spent.ensures.value ∙ c.if-is_err-4.false) c.write_spent-written.ensures.all))
+
+pub returns-then-eq-clause-quiet : goal.returns-then-eq-clause-quiet
+returns-then-eq-clause-quiet g c ended =
+    done_of c.write_first-written.result _ (sym c.is_err-then-eq.ensures.value ∙ c.if-is_err-2.false) c.write_first-written.ensures.quiet
+    ∙ done_of c.write_shown-written.result _ (sym c.is_err.ensures.value ∙ c.if-is_err.false) c.write_shown-written.ensures.quiet ∙ c.draw.invariant.quiet
+
+pub returns-in-End-clause-quiet : goal.returns-in-End-clause-quiet
+returns-in-End-clause-quiet g c ended = done_of c.write_complete-written.result _ (sym c.is_err-in-End.ensures.value ∙ c.if-is_err-3.false) c.write_complete-written.ensures.quiet ∙ c.draw.invariant.quiet
+
+pub returns-in-Spent-clause-quiet : goal.returns-in-Spent-clause-quiet
+returns-in-Spent-clause-quiet g c ended = done_of c.write_spent-written.result _ (sym c.is_err-in-Spent.ensures.value ∙ c.if-is_err-4.false) c.write_spent-written.ensures.quiet ∙ c.draw.invariant.quiet

@@ -1,11 +1,11 @@
-use Rattle.std.proofs.Common.{◌-◌, ◌≤◌}
+use Rattle.std.proofs.Common.{◌≡◌, ◌-◌}
 use Rattle.xdg_analyses.proofs.Found.{Found}
 use Rattle.xdg_analyses.proofs.printing.print_found.Given as goal
 
 abbrev pub invariant-draw : goal.invariant-draw
 invariant-draw g l = record {
   found : Found l.fn.form l.fn.first l.problem l.fn.stream.start l.fn.stream.budget l.stream l.count (g.K.Sink.held l.initial.sink) (g.K.Sink.held l.sink);
-  lasting : g.K.Sink.faults l.initial.sink ≤ g.K.Sink.faults l.sink;
+  quiet : g.K.Sink.faults l.sink ≡ g.K.Sink.faults l.initial.sink;
 }
 
 abbrev pub decreases-draw : goal.decreases-draw

@@ -1,5 +1,5 @@
 use Rattle.std.proofs.Common.{refl}
-use Rattle.xdg_text.proofs.Pieces.{next_by, stop_by, at_exit, lasts}
+use Rattle.xdg_text.proofs.Pieces.{next_by, stop_by, at_exit, stays}
 use Rattle.xdg_text.proofs.Rests.{dims_from, dims_values, nodes_length}
 use Rattle.xdg_text.proofs.blocks.write_attr_lines.Goals as goal
 
@@ -15,6 +15,6 @@ pub loop-dim-preserved : goal.loop-dim-preserved
 loop-dim-preserved g c =
     let values = dims_values c.args.nodes c.args.dims.now c.loop-dim.dim-index c.dim-item.result c.loop-dim.rest.now c.len.result c.split_at.result.1.now c.loop-dim-test.true c.dim-item.is c.len.ensures c.split_at.ensures.back c.loop-dim.invariant.2 in (
       next_by (dims_from c.args.nodes c.args.dims.now c.loop-dim.dim-index c.dim-item.result c.loop-dim.rest.now c.len.result c.split_at.result.1.now c.loop-dim-test.true c.dim-item.is c.len.ensures c.split_at.ensures.back) c.loop-dim.invariant.0 c.in_ok-write_dim_lines.ensures.all,
-      lasts c.loop-dim.invariant.1 c.write_dim_lines.ensures.lasting,
+      stays c.loop-dim.invariant.1 c.in_ok-write_dim_lines.ensures.quiet,
       values.1,
     )

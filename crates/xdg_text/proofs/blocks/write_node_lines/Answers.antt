@@ -1,6 +1,6 @@
 use Rattle.std.proofs.Common.{arith, ◌<◌, length, get_or}
 use Rattle.std.proofs.lemmas.List.{get_or_default}
-use Rattle.xdg_text.proofs.Pieces.{next_by, stop_by, at_exit, lasts}
+use Rattle.xdg_text.proofs.Pieces.{next_by, stop_by, at_exit, stays}
 use Rattle.xdg_text.proofs.Rests.{attrs_from, values_length, values_at}
 use Rattle.xdg_text.proofs.blocks.write_node_lines.Goals as goal
 
@@ -18,4 +18,4 @@ returns-in_err-write_attr_line-clause-front g c =
 pub loop-at-preserved : goal.loop-at-preserved
 loop-at-preserved g c =
     let within : c.loop-at.at < length c.args.values.now = omega (arith, c.loop-at-test.true, values_length c.args.attrs.now c.args.values.now c.requires.within) in
-    (next_by (attrs_from c.args.dim.now c.args.node c.args.attrs.now c.args.values.now c.loop-at.at c.index-attrs-at.result (get_or c.args.values.now c.loop-at.at 0) c.loop-at-test.true within c.index-attrs-at.is (get_or_default _ _ _ _ within)) c.loop-at.invariant.0 c.in_ok-write_attr_line.ensures.all, lasts c.loop-at.invariant.1 c.write_attr_line.ensures.lasting)
+    (next_by (attrs_from c.args.dim.now c.args.node c.args.attrs.now c.args.values.now c.loop-at.at c.index-attrs-at.result (get_or c.args.values.now c.loop-at.at 0) c.loop-at-test.true within c.index-attrs-at.is (get_or_default _ _ _ _ within)) c.loop-at.invariant.0 c.in_ok-write_attr_line.ensures.all, stays c.loop-at.invariant.1 c.in_ok-write_attr_line.ensures.quiet)

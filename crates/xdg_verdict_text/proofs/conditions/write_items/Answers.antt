@@ -1,4 +1,4 @@
-use Rattle.xdg_text.proofs.Pieces.{next_by, stop_by, at_exit, lasts}
+use Rattle.xdg_text.proofs.Pieces.{next_by, stop_by, at_exit, stays}
 use Rattle.xdg_verdict_text.proofs.Verdicted.{items_from}
 use Rattle.xdg_verdict_text.proofs.conditions.write_items.Goals as goal
 
@@ -9,5 +9,5 @@ returns-in_err-write_item-clause-front g c =
 pub loop-place-preserved : goal.loop-place-preserved
 loop-place-preserved g c = (
   next_by (items_from c.args.labels.now c.args.condition c.args.numbers.now c.loop-place.place c.loop-place-test.true) c.loop-place.invariant.0 c.in_ok-write_item.ensures.all,
-  lasts c.loop-place.invariant.1 c.write_item.ensures.lasting,
+  stays c.loop-place.invariant.1 c.in_ok-write_item.ensures.quiet,
 )
