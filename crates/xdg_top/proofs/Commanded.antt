@@ -1,16 +1,18 @@
 -- What a run leaves, from what its command leaves.
-use Rattle.std.proofs.Common.{◌≡◌, ◌⊎◌, inl, inr, ℕ, List, Some, None, refl, sym, ◌∙◌, subst}
-use Rattle.std.specs.Prelude.{Option}
+use Rattle.std.proofs.Common.{◌≡◌, ◌<◌, ◌⊎◌, inl, inr, ℕ, List, Some, None, refl, sym, ◌∙◌, subst, arith}
+use Rattle.std.specs.Prelude.{◌≢◌, Option, codes}
 use Rattle.xdg_command.specs.Answers.{IsExactly}
-use Rattle.xdg_command.specs.Commands.{IsCommand}
+use Rattle.xdg_analyses.specs.Written.{IsSome}
+use Rattle.xdg_command.specs.Commands.{HasFirst, IsCommand}
+use Rattle.xdg_command.specs.Items.{value_of}
 use Rattle.xdg_command.specs.declared.commands.Command.{Command}
 use Rattle.xdg_command.specs.declared.commands.Command.TheVariants as commands
 use Rattle.xdg_command.specs.declared.commands.ParseOptions.{ParseOptions}
 use Rattle.xdg_command.specs.declared.commands.ResumeOptions.{ResumeOptions}
 use Rattle.xdg_io.specs.Rose.{Rose}
 use Rattle.xdg_text.specs.Lines.{usage_line}
-use Rattle.xdg_top.specs.Outcomes.{Files, CommandOf, IsNoCommand, OutcomeOf, usage, commanded}
-use Rattle.xdg_top.specs.Runs.{Ends, Leaves, ReadFailed, ReadsFile, of_file, of_input}
+use Rattle.xdg_top.specs.Outcomes.{Files, CommandOf, IsNoCommand, IsUsage, OutcomeOf, WantsSome, usage, commanded}
+use Rattle.xdg_top.specs.Runs.{Ends, EndsWith, FailsToRead, Leaves, ReadsFile, ReadsInput, Wrote, of_file, of_input}
 use Rattle.xdg_top.specs.declared.status.Status.{Status}
 use Rattle.xdg_top.specs.declared.status.Status.TheVariants as statuses
 use Rattle.xdg_top.proofs.Leaving.{IsOnly}
@@ -34,6 +36,10 @@ run_leaves given files input command statuses.OutOfMemory old new is one e = e
 run_leaves given files input command statuses.WriteFault old new is one e = λ status text o. e status text (of_command given files input command is one status text o)
 run_leaves given files input command result old new is one e = command_ends given files input command result old new is one e
 
+-- the line of words that are no command
+pub usage_alone : IsOnly IsUsage statuses.Usage usage_line
+usage_alone = record { is = (refl, refl); only = λ other more o. (sym o.0, sym o.1) }
+
 -- words that are no command
 pub only_usage : (given : List (List ℕ)) (files : Files) (input : List ℕ) → IsNoCommand given → IsOnly (OutcomeOf given files input) statuses.Usage usage_line
 only_usage given files input none = record { is = usage none refl refl; only = λ other more o. same other more o }
@@ -54,24 +60,77 @@ the_command given told command e exact = subst (IsExactly (IsCommand given)) e e
 pub the_none : (given : List (List ℕ)) (told : Option Command) → told ≡ None → IsExactly (IsCommand given) told → IsNoCommand given
 the_none given told e exact = subst (IsExactly (IsCommand given)) e exact
 
-pub commanded_leaves : (given : List (List ℕ)) (files : Files) (input : List ℕ) (command said : Command) (result : Status) (old new : Option (List ℕ)) → command ≡ said → IsTheCommand given command → Leaves (CommandOf said files input) result old new → Leaves (OutcomeOf given files input) result old new
-commanded_leaves given files input command said result old new e exact leaves = run_leaves given files input command result old new exact.0 exact.1 (subst (λ z. Leaves (CommandOf z files input) result old new) (sym e) leaves)
+some_first : (told : Option (List ℕ)) (first : Option ℕ) → HasFirst told first → IsSome first
+some_first None None has = tt
+some_first None (Some first) has = absurd has
+some_first (Some text) None has = tt
+some_first (Some text) (Some first) has = has.above
+
+-- a command that words are asks for no analyses or for some
+pub wants_some : (given : List (List ℕ)) (command : Command) → IsCommand given command → WantsSome command
+wants_some given (commands.Parse options) is = some_first (value_of (codes "first") is.items) options.first is.says.first
+wants_some given (commands.Resume options) is = some_first (value_of (codes "first") is.items) options.first is.says.first
+wants_some given command is = tt
+
+-- what is left for the command is left for any that the words are
+pub asked_leaves : (given : List (List ℕ)) (files : Files) (input : List ℕ) (command asked : Command) (result : Status) (old new : Option (List ℕ)) → IsTheCommand given command → IsCommand given asked → Leaves (CommandOf command files input) result old new → Leaves (CommandOf asked files input) result old new
+asked_leaves given files input command asked result old new exact is leaves = subst (λ z. Leaves (CommandOf z files input) result old new) (sym (exact.1 asked is)) leaves
+
+-- no command ends as words that are none
+never_usage : (command : Command) → EndsWith command statuses.Usage → ⊥
+never_usage (commands.Parse options) e = e
+never_usage (commands.Resume options) e = e
+never_usage (commands.Explain grammar analysis) e = e
+never_usage (commands.Check grammar) e = e
+never_usage (commands.Lexicon grammar) e = e
+never_usage (commands.Print grammar) e = e
+
+-- each may end for want of memory
+pub memory_ends : (command : Command) → EndsWith command statuses.OutOfMemory
+memory_ends (commands.Parse options) = tt
+memory_ends (commands.Resume options) = tt
+memory_ends (commands.Explain grammar analysis) = tt
+memory_ends (commands.Check grammar) = tt
+memory_ends (commands.Lexicon grammar) = tt
+memory_ends (commands.Print grammar) = tt
+
+pub not_usage : (command : Command) (result : Status) → EndsWith command result → result ≡ statuses.Usage → ⊥
+not_usage command result ends e = never_usage command (subst (EndsWith command) e ends)
+
+-- a command that reads the input is `parse`
+pub reads_parse : (given : List (List ℕ)) (command : Command) → IsCommand given command → ReadsInput command → ((options : ParseOptions) → IsCommand given (commands.Parse options) → ⊥) → ⊥
+reads_parse given (commands.Parse options) is reads none = none options is
+reads_parse given command is reads none = absurd reads
+
+-- a count that rose though only a failed read raises it
+pub read_won : (status : Status) (old new : ℕ) → (status ≢ statuses.ReadFault → new ≡ old) → old < new → status ≡ statuses.ReadFault
+read_won statuses.ReadFault old new quiet rose = refl
+read_won status old new quiet rose = absurd (let same : new ≡ old = quiet (λ e. cc) in omega (arith, rose, same))
+
+-- ---- the command that is given
+
+pub said_leaves : (files : Files) (input : List ℕ) (command said : Command) (result : Status) (old new : Option (List ℕ)) → command ≡ said → Leaves (CommandOf said files input) result old new → Leaves (CommandOf command files input) result old new
+said_leaves files input command said result old new e leaves = subst (λ z. Leaves (CommandOf z files input) result old new) (sym e) leaves
+
+pub said_wrote : (command said : Command) (result : Status) (count_old count_new : ℕ) (old new : Option (List ℕ)) → command ≡ said → Wrote (EndsWith said) result count_old count_new old new → Wrote (EndsWith command) result count_old count_new old new
+said_wrote command said result count_old count_new old new e wrote = subst (λ z. Wrote (EndsWith z) result count_old count_new old new) (sym e) wrote
+
+pub said_reads : (command said : Command) → command ≡ said → ReadsInput said → ReadsInput command
+said_reads command said e reads = subst ReadsInput (sym e) reads
 
 -- a file that the command reads failed
-pub file_failed : (given : List (List ℕ)) (command said : Command) (name : List ℕ) (shelf_old shelf_new : List ℕ → ℕ) (input_old input_new : ℕ) → command ≡ said → IsTheCommand given command → ReadsFile said name → Rose (shelf_old name) (shelf_new name) → ReadFailed given shelf_old shelf_new input_old input_new
-file_failed given command said name shelf_old shelf_new input_old input_new e exact reads rose = of_file said name (subst (IsCommand given) e exact.0) reads rose
+pub file_failed : (command said : Command) (name : List ℕ) (shelf_old shelf_new : List ℕ → ℕ) (input_old input_new : ℕ) → command ≡ said → ReadsFile said name → Rose (shelf_old name) (shelf_new name) → FailsToRead command shelf_old shelf_new input_old input_new
+file_failed command said name shelf_old shelf_new input_old input_new e reads rose = of_file name (subst (λ z. ReadsFile z name) (sym e) reads) rose
 
-pub parse_failed : (given : List (List ℕ)) (command : Command) (options : ParseOptions) (shelf_old shelf_new : List ℕ → ℕ) (input_old input_new : ℕ) → command ≡ commands.Parse options → IsTheCommand given command
-    → Rose (shelf_old options.grammar) (shelf_new options.grammar) ⊎ Rose input_old input_new → ReadFailed given shelf_old shelf_new input_old input_new
-parse_failed given command options shelf_old shelf_new input_old input_new e exact (inl rose) = of_file (commands.Parse options) options.grammar (subst (IsCommand given) e exact.0) refl rose
-parse_failed given command options shelf_old shelf_new input_old input_new e exact (inr rose) = of_input options (subst (IsCommand given) e exact.0) rose
+pub parse_failed : (command : Command) (options : ParseOptions) (shelf_old shelf_new : List ℕ → ℕ) (input_old input_new : ℕ) → command ≡ commands.Parse options → Rose (shelf_old options.grammar) (shelf_new options.grammar) ⊎ Rose input_old input_new → FailsToRead command shelf_old shelf_new input_old input_new
+parse_failed command options shelf_old shelf_new input_old input_new e (inl rose) = file_failed command (commands.Parse options) options.grammar shelf_old shelf_new input_old input_new e refl rose
+parse_failed command options shelf_old shelf_new input_old input_new e (inr rose) = of_input (said_reads command (commands.Parse options) e tt) rose
 
-pub explain_failed : (given : List (List ℕ)) (command : Command) (grammar analysis grammar_name analysis_name : List ℕ) (shelf_old shelf_new : List ℕ → ℕ) (input_old input_new : ℕ) → command ≡ commands.Explain grammar analysis → IsTheCommand given command
-    → grammar_name ≡ grammar → analysis_name ≡ analysis → Rose (shelf_old grammar_name) (shelf_new grammar_name) ⊎ Rose (shelf_old analysis_name) (shelf_new analysis_name) → ReadFailed given shelf_old shelf_new input_old input_new
-explain_failed given command grammar analysis grammar_name analysis_name shelf_old shelf_new input_old input_new e exact is_grammar is_analysis (inl rose) = of_file (commands.Explain grammar analysis) grammar_name (subst (IsCommand given) e exact.0) (inl is_grammar) rose
-explain_failed given command grammar analysis grammar_name analysis_name shelf_old shelf_new input_old input_new e exact is_grammar is_analysis (inr rose) = of_file (commands.Explain grammar analysis) analysis_name (subst (IsCommand given) e exact.0) (inr is_analysis) rose
+pub explain_failed : (command : Command) (grammar analysis grammar_name analysis_name : List ℕ) (shelf_old shelf_new : List ℕ → ℕ) (input_old input_new : ℕ) → command ≡ commands.Explain grammar analysis → grammar_name ≡ grammar → analysis_name ≡ analysis
+    → Rose (shelf_old grammar_name) (shelf_new grammar_name) ⊎ Rose (shelf_old analysis_name) (shelf_new analysis_name) → FailsToRead command shelf_old shelf_new input_old input_new
+explain_failed command grammar analysis grammar_name analysis_name shelf_old shelf_new input_old input_new e is_grammar is_analysis (inl rose) = file_failed command (commands.Explain grammar analysis) grammar_name shelf_old shelf_new input_old input_new e (inl is_grammar) rose
+explain_failed command grammar analysis grammar_name analysis_name shelf_old shelf_new input_old input_new e is_grammar is_analysis (inr rose) = file_failed command (commands.Explain grammar analysis) analysis_name shelf_old shelf_new input_old input_new e (inr is_analysis) rose
 
-pub resume_failed : (given : List (List ℕ)) (command : Command) (options : ResumeOptions) (shelf_old shelf_new : List ℕ → ℕ) (input_old input_new : ℕ) → command ≡ commands.Resume options → IsTheCommand given command
-    → Rose (shelf_old options.grammar) (shelf_new options.grammar) ⊎ Rose (shelf_old options.analysis) (shelf_new options.analysis) → ReadFailed given shelf_old shelf_new input_old input_new
-resume_failed given command options shelf_old shelf_new input_old input_new e exact (inl rose) = of_file (commands.Resume options) options.grammar (subst (IsCommand given) e exact.0) (inl refl) rose
-resume_failed given command options shelf_old shelf_new input_old input_new e exact (inr rose) = of_file (commands.Resume options) options.analysis (subst (IsCommand given) e exact.0) (inr refl) rose
+pub resume_failed : (command : Command) (options : ResumeOptions) (shelf_old shelf_new : List ℕ → ℕ) (input_old input_new : ℕ) → command ≡ commands.Resume options → Rose (shelf_old options.grammar) (shelf_new options.grammar) ⊎ Rose (shelf_old options.analysis) (shelf_new options.analysis) → FailsToRead command shelf_old shelf_new input_old input_new
+resume_failed command options shelf_old shelf_new input_old input_new e (inl rose) = file_failed command (commands.Resume options) options.grammar shelf_old shelf_new input_old input_new e (inl refl) rose
+resume_failed command options shelf_old shelf_new input_old input_new e (inr rose) = file_failed command (commands.Resume options) options.analysis shelf_old shelf_new input_old input_new e (inr refl) rose

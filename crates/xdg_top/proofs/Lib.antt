@@ -5,3 +5,4 @@ pub mod Searching
 pub mod Sentencing
 pub mod Analysing
 pub mod Commanded
+pub mod Writing

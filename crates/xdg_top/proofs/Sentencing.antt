@@ -1,6 +1,6 @@
 -- The sentence that the input gives: accepted or rejected.
 use Rattle.std.proofs.Common.{◌≡◌, inl, inr, ℕ, ◌+◌, ◌<◌, ◌≤◌, Bool, List, [], length, Some, None, Ok, Err, refl, sym, ◌∙◌, ap, subst, arith}
-use Rattle.std.specs.Prelude.{Option, Result, IsUtf8, IfOk, IfErr}
+use Rattle.std.specs.Prelude.{◌≢◌, Option, Result, IsUtf8, IfOk, IfErr, MatchResult}
 use Rattle.std.specs.Str.{IsValidUpTo}
 use Rattle.std.proofs.lemmas.Str.{utf8_valid_len-IsValidUpTo}
 use Rattle.xdg_base.specs.declared.faults.Cause.TheVariants as causes
@@ -151,6 +151,11 @@ never_read m segment bytes before after refused s e = absurd (still (subst (Stop
 pub input_read : (m : Meaning) (segment : Bool) (bytes : List ℕ) (before after : ℕ) (result : Result Parts Refusal) → IfErr result (Stops (Unit {0}) 0 0 Parts (IsBadSentence m segment bytes) (HasProblem m segment bytes)) → IfErr result (λ refused. refused ≡ refusals.Read → Rose before after)
 input_read m segment bytes before after (Ok parts) s = tt
 input_read m segment bytes before after (Err refused) s = never_read m segment bytes before after refused s
+
+-- a reading that left the count of failures as it was
+pub input_quiet : (result : Result Parts Refusal) (before after : ℕ) → after ≡ before → MatchResult result (λ parts. after ≡ before) (λ refused. refused ≢ refusals.Read → after ≡ before)
+input_quiet (Ok parts) before after same = same
+input_quiet (Err refused) before after same = λ differs. same
 
 -- and the input is read whole
 pub input_taken : (told new : Option (List ℕ)) (bytes : List ℕ) (result : Result Parts Refusal) → TakesAll told new bytes → IfOk result (λ parts. (input : List ℕ) → told ≡ Some input → new ≡ Some [])

@@ -2,6 +2,7 @@
 use Rattle.std.specs.Prelude.{◌≡◌, ℕ, List, [], ◌∷◌, length, Option, codes, decimal}
 use Rattle.xdg_ast.specs.Canon.{canon}
 use Rattle.xdg_analyses.specs.Printed.{Prints}
+use Rattle.xdg_analyses.specs.Written.{IsSome}
 use Rattle.xdg_analyses.specs.declared.forms.Form.{Form}
 use Rattle.xdg_analyses.specs.declared.forms.Form.TheVariants as forms
 use Rattle.xdg_classes.specs.Definitions.{classes}
@@ -123,6 +124,12 @@ PrintOf grammar files = ReadThen files grammar (λ read. IsDone (canon read.tree
 
 -- ---- a run
 
+-- where a command is asked for a number of analyses, it is at least one
+abbrev pub WantsSome : Command → Type 0
+WantsSome (commands.Parse options) = IsSome options.first
+WantsSome (commands.Resume options) = IsSome options.first
+WantsSome command = Unit {0}
+
 abbrev pub CommandOf : Command → Files → List ℕ → Status → List ℕ → Type 0
 CommandOf (commands.Parse options) files input = ParseOf options files input
 CommandOf (commands.Resume options) files input = ResumeOf options files
@@ -133,6 +140,10 @@ CommandOf (commands.Print grammar) files input = PrintOf grammar files
 
 abbrev pub IsNoCommand : List (List ℕ) → Type 0
 IsNoCommand given = (command : Command) → IsCommand given command → ⊥
+
+-- the outcome of words that are no command
+abbrev pub IsUsage : Status → List ℕ → Type 0
+IsUsage status text = (status ≡ statuses.Usage) × (text ≡ usage_line)
 
 -- the status and the text of a run
 pub data OutcomeOf (given : List (List ℕ)) (files : Files) (input : List ℕ) (status : Status) (text : List ℕ) : Type 0 where

@@ -1,6 +1,6 @@
 //! Analysis files.
 
-ghost use Rattle.std.specs.Prelude.{◌≡◌, ◌≤◌, ℕ, List, Option, Some, length, IfErr, IfOk};
+ghost use Rattle.std.specs.Prelude.{◌≡◌, ◌≢◌, ◌≤◌, ℕ, List, Option, Some, length, IfErr, IfOk, MatchResult};
 ghost use Rattle.xdg_entries.specs.Entries.{IsRightLexicon};
 ghost use Rattle.xdg_grammar.specs.Answers.{meaning_of};
 ghost use Rattle.xdg_grammar.specs.Packed.{IsPackedOf};
@@ -101,6 +101,8 @@ pub fn load_analysis<H: Shelf>(
     ensures failed { IfErr result (λ refusal. refusal ≡ Refusal.Read → Rose (H.faults shelf.old name.now) (H.faults shelf.new name.now)) }
     ensures kept { H.files shelf.new ≡ H.files shelf.old }
     ensures lasting { (other : List ℕ) → H.faults shelf.old other ≤ H.faults shelf.new other }
+    ensures quiet { (other : List ℕ) → MatchResult result (λ _. H.faults shelf.new other ≡ H.faults shelf.old other) (λ refusal.
+        refusal ≢ Refusal.Read → H.faults shelf.new other ≡ H.faults shelf.old other) }
 {
     let bytes = match shelf.load(alloc, name, ANALYSIS_LIMIT) {
         Ok(bytes) => bytes,

@@ -1,6 +1,6 @@
 //! The command `explain`.
 
-ghost use Rattle.std.specs.Prelude.{◌≡◌, ◌≤◌, ◌⊎◌, ℕ, List, Option, Some, length};
+ghost use Rattle.std.specs.Prelude.{◌≡◌, ◌≢◌, ◌≤◌, ◌⊎◌, ℕ, List, Option, Some, length};
 ghost use Rattle.xdg_entries.specs.Entries.{IsRightLexicon};
 ghost use Rattle.xdg_grammar.specs.Answers.{meaning_of};
 ghost use Rattle.xdg_io.specs.Rose.{Rose};
@@ -8,7 +8,7 @@ ghost use Rattle.xdg_problem.specs.Analyses.{IsAnalysis};
 ghost use Rattle.xdg_top.specs.Judging.{analysed_of};
 ghost use Rattle.xdg_top.specs.Loaded.{read_of};
 ghost use Rattle.xdg_top.specs.Outcomes.{AnalysisThen, ExplainOf, Judged, MeaningThen};
-ghost use Rattle.xdg_top.specs.Runs.{Leaves};
+ghost use Rattle.xdg_top.specs.Runs.{ExplainEnds, Leaves, Wrote};
 
 use crate::Status;
 use crate::analysis::{Judgeable, load_analysis};
@@ -27,6 +27,7 @@ fn judge<K: Sink>(alloc: Global, judgeable: &Judgeable, out: &mut K) -> Status
     ensures leaves { Leaves (Judged (analysed_of judgeable.now)) result (K.held out.old) (K.held out.new) }
     ensures write_fault { result ≡ Status.WriteFault → Rose (K.faults out.old) (K.faults out.new) }
     ensures out_lasting { K.faults out.old ≤ K.faults out.new }
+    ensures out_quiet { result ≢ Status.WriteFault → K.faults out.new ≡ K.faults out.old }
     ensures ends { (result ≡ Status.Done) ⊎ ((result ≡ Status.WriteFault) ⊎ (result ≡ Status.OutOfMemory)) }
 {
     let verdicts = match explain(alloc, &judgeable.problem, &judgeable.analysis) {
@@ -53,7 +54,9 @@ fn explain_expanded<H: Shelf, K: Sink>(
     ensures write_fault { result ≡ Status.WriteFault → Rose (K.faults out.old) (K.faults out.new) }
     ensures files { H.files shelf.new ≡ H.files shelf.old }
     ensures shelf_lasting { (other : List ℕ) → H.faults shelf.old other ≤ H.faults shelf.new other }
+    ensures shelf_quiet { (other : List ℕ) → result ≢ Status.ReadFault → H.faults shelf.new other ≡ H.faults shelf.old other }
     ensures out_lasting { K.faults out.old ≤ K.faults out.new }
+    ensures wrote { Wrote ExplainEnds result (K.faults out.old) (K.faults out.new) (K.held out.old) (K.held out.new) }
     ensures command { result ≡ Status.Usage → ⊥ }
 {
     let packed = match pack_entries(alloc, expanded) {
@@ -80,7 +83,9 @@ fn explain_loaded<H: Shelf, K: Sink>(
     ensures write_fault { result ≡ Status.WriteFault → Rose (K.faults out.old) (K.faults out.new) }
     ensures files { H.files shelf.new ≡ H.files shelf.old }
     ensures shelf_lasting { (other : List ℕ) → H.faults shelf.old other ≤ H.faults shelf.new other }
+    ensures shelf_quiet { (other : List ℕ) → result ≢ Status.ReadFault → H.faults shelf.new other ≡ H.faults shelf.old other }
     ensures out_lasting { K.faults out.old ≤ K.faults out.new }
+    ensures wrote { Wrote ExplainEnds result (K.faults out.old) (K.faults out.new) (K.held out.old) (K.held out.new) }
     ensures command { result ≡ Status.Usage → ⊥ }
 {
     match expand_tree(alloc, &loaded.tree) {
@@ -103,7 +108,9 @@ pub fn explain_analysis<H: Shelf, K: Sink>(
     ensures write_fault { result ≡ Status.WriteFault → Rose (K.faults out.old) (K.faults out.new) }
     ensures files { H.files shelf.new ≡ H.files shelf.old }
     ensures shelf_lasting { (other : List ℕ) → H.faults shelf.old other ≤ H.faults shelf.new other }
+    ensures shelf_quiet { (other : List ℕ) → result ≢ Status.ReadFault → H.faults shelf.new other ≡ H.faults shelf.old other }
     ensures out_lasting { K.faults out.old ≤ K.faults out.new }
+    ensures wrote { Wrote ExplainEnds result (K.faults out.old) (K.faults out.new) (K.held out.old) (K.held out.new) }
     ensures command { result ≡ Status.Usage → ⊥ }
 {
     match load_tree(alloc, shelf, grammar) {

@@ -1,6 +1,6 @@
 //! Grammar files.
 
-ghost use Rattle.std.specs.Prelude.{◌≡◌, ◌≤◌, ℕ, List, Option, Some, length, IfErr, IfOk};
+ghost use Rattle.std.specs.Prelude.{◌≡◌, ◌≢◌, ◌≤◌, ℕ, List, Option, Some, length, IfErr, IfOk, MatchResult};
 ghost use Rattle.xdg_io.specs.Rose.{Rose};
 ghost use Rattle.xdg_top.specs.Loaded.{read_of};
 ghost use Rattle.xdg_top.specs.Stages.{Accepts};
@@ -31,6 +31,8 @@ pub fn load_tree<H: Shelf>(alloc: Global, shelf: &mut H, name: &str) -> Result<L
     ensures failed { IfErr result (λ refusal. refusal ≡ Refusal.Read → Rose (H.faults shelf.old name.now) (H.faults shelf.new name.now)) }
     ensures kept { H.files shelf.new ≡ H.files shelf.old }
     ensures lasting { (other : List ℕ) → H.faults shelf.old other ≤ H.faults shelf.new other }
+    ensures quiet { (other : List ℕ) → MatchResult result (λ _. H.faults shelf.new other ≡ H.faults shelf.old other) (λ refusal.
+        refusal ≢ Refusal.Read → H.faults shelf.new other ≡ H.faults shelf.old other) }
 {
     let text = match shelf.load(alloc, name, GRAMMAR_LIMIT) {
         Ok(text) => text,

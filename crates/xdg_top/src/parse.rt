@@ -1,13 +1,13 @@
 //! The command `parse`.
 
-ghost use Rattle.std.specs.Prelude.{◌≡◌, ◌≤◌, ◌⊎◌, ℕ, List, [], Option, Some, length};
+ghost use Rattle.std.specs.Prelude.{◌≡◌, ◌≢◌, ◌≤◌, ◌⊎◌, ℕ, List, [], Option, Some, length};
 ghost use Rattle.std.specs.Option.{option_copied};
 ghost use Rattle.xdg_entries.specs.Entries.{IsRightLexicon};
 ghost use Rattle.xdg_grammar.specs.Answers.{meaning_of};
 ghost use Rattle.xdg_io.specs.Rose.{Rose};
 ghost use Rattle.xdg_top.specs.Loaded.{read_of};
 ghost use Rattle.xdg_top.specs.Outcomes.{MeaningThen, ParseOf, Searched, SentenceThen, form_of};
-ghost use Rattle.xdg_top.specs.Runs.{Leaves};
+ghost use Rattle.xdg_top.specs.Runs.{Leaves, ParseEnds, Wrote};
 ghost use Rattle.xdg_analyses.specs.Written.{IsSome};
 ghost use Rattle.xdg_stream.specs.Streamed.{IsStart, start_vector};
 
@@ -50,6 +50,7 @@ pub fn search<K: Sink>(
     ensures leaves { Leaves (Searched (form_of text) budget first problem.now (start_vector problem.now (option_copied after.entry))) result (K.held out.old) (K.held out.new) }
     ensures write_fault { result ≡ Status.WriteFault → Rose (K.faults out.old) (K.faults out.new) }
     ensures out_lasting { K.faults out.old ≤ K.faults out.new }
+    ensures out_quiet { result ≢ Status.WriteFault → K.faults out.new ≡ K.faults out.old }
     ensures ends { (result ≡ Status.Done) ⊎ ((result ≡ Status.Spent) ⊎ ((result ≡ Status.WriteFault) ⊎ (result ≡ Status.OutOfMemory))) }
 {
     let form = form_of(text);
@@ -88,7 +89,9 @@ fn parse_expanded<S: Source, K: Sink>(
     ensures read_fault { result ≡ Status.ReadFault → Rose (S.faults input.old) (S.faults input.new) }
     ensures write_fault { result ≡ Status.WriteFault → Rose (K.faults out.old) (K.faults out.new) }
     ensures input_lasting { S.faults input.old ≤ S.faults input.new }
+    ensures input_quiet { result ≢ Status.ReadFault → S.faults input.new ≡ S.faults input.old }
     ensures out_lasting { K.faults out.old ≤ K.faults out.new }
+    ensures wrote { Wrote ParseEnds result (K.faults out.old) (K.faults out.new) (K.held out.old) (K.held out.new) }
     ensures all_read { (content : List ℕ) → (result ≡ Status.Done) ⊎ (result ≡ Status.Spent) → S.left input.old ≡ Some content → S.left input.new ≡ Some [] }
     ensures command { (result ≡ Status.Usage → ⊥) × ((result ≡ Status.BadText → ⊥) × (result ≡ Status.BadGrammar → ⊥)) }
 {
@@ -124,7 +127,9 @@ fn parse_loaded<S: Source, K: Sink>(
     ensures read_fault { result ≡ Status.ReadFault → Rose (S.faults input.old) (S.faults input.new) }
     ensures write_fault { result ≡ Status.WriteFault → Rose (K.faults out.old) (K.faults out.new) }
     ensures input_lasting { S.faults input.old ≤ S.faults input.new }
+    ensures input_quiet { result ≢ Status.ReadFault → S.faults input.new ≡ S.faults input.old }
     ensures out_lasting { K.faults out.old ≤ K.faults out.new }
+    ensures wrote { Wrote ParseEnds result (K.faults out.old) (K.faults out.new) (K.held out.old) (K.held out.new) }
     ensures unread { (result ≡ Status.BadText) ⊎ (result ≡ Status.BadGrammar) → S.left input.new ≡ S.left input.old }
     ensures all_read { (content : List ℕ) → (result ≡ Status.Done) ⊎ (result ≡ Status.Spent) → S.left input.old ≡ Some content → S.left input.new ≡ Some [] }
     ensures command { result ≡ Status.Usage → ⊥ }
@@ -150,8 +155,11 @@ pub fn parse_sentence<H: Shelf, S: Source, K: Sink>(
     ensures write_fault { result ≡ Status.WriteFault → Rose (K.faults out.old) (K.faults out.new) }
     ensures files { H.files shelf.new ≡ H.files shelf.old }
     ensures shelf_lasting { (other : List ℕ) → H.faults shelf.old other ≤ H.faults shelf.new other }
+    ensures shelf_quiet { (other : List ℕ) → result ≢ Status.ReadFault → H.faults shelf.new other ≡ H.faults shelf.old other }
     ensures input_lasting { S.faults input.old ≤ S.faults input.new }
+    ensures input_quiet { result ≢ Status.ReadFault → S.faults input.new ≡ S.faults input.old }
     ensures out_lasting { K.faults out.old ≤ K.faults out.new }
+    ensures wrote { Wrote ParseEnds result (K.faults out.old) (K.faults out.new) (K.held out.old) (K.held out.new) }
     ensures unread { (result ≡ Status.BadText) ⊎ (result ≡ Status.BadGrammar) → S.left input.new ≡ S.left input.old }
     ensures all_read { (content : List ℕ) → (result ≡ Status.Done) ⊎ (result ≡ Status.Spent) → S.left input.old ≡ Some content → S.left input.new ≡ Some [] }
     ensures command { result ≡ Status.Usage → ⊥ }

@@ -1,6 +1,6 @@
 //! Texts that are refused.
 
-ghost use Rattle.std.specs.Prelude.{◌≡◌, ◌≤◌, ◌<◌, ◌⊎◌, ◌^◌, length};
+ghost use Rattle.std.specs.Prelude.{◌≡◌, ◌≢◌, ◌≤◌, ◌<◌, ◌⊎◌, ◌^◌, length};
 ghost use Rattle.xdg_io.specs.Rose.{Rose};
 ghost use Rattle.xdg_top.specs.Places.{fault, place_in};
 ghost use Rattle.xdg_top.specs.Refusals.{Refuses, refusal_of};
@@ -69,6 +69,7 @@ pub fn refuse<K: Sink>(refusal: Refusal, status: Status, out: &mut K) -> Status
     ensures written { Refuses result status refusal (K.held out.old) (K.held out.new) }
     ensures cause { result ≡ Status.WriteFault → (status ≡ Status.WriteFault) ⊎ Rose (K.faults out.old) (K.faults out.new) }
     ensures lasting { K.faults out.old ≤ K.faults out.new }
+    ensures quiet { result ≢ Status.WriteFault → K.faults out.new ≡ K.faults out.old }
 {
     match refusal {
         Refusal::Read => Status::ReadFault,

@@ -1,11 +1,11 @@
 //! The commands `check`, `lexicon` and `print`.
 
-ghost use Rattle.std.specs.Prelude.{◌≡◌, ◌≤◌, ◌⊎◌, ℕ, List, Option, Some, length};
+ghost use Rattle.std.specs.Prelude.{◌≡◌, ◌≢◌, ◌≤◌, ◌⊎◌, ℕ, List, Option, Some, length};
 ghost use Rattle.xdg_io.specs.Rose.{Rose};
 ghost use Rattle.xdg_top.specs.Loaded.{read_of};
 ghost use Rattle.xdg_top.specs.Outcomes.{CheckOf, IsDone, LexiconOf, MeaningThen, PrintOf, check_line, counts_line};
 ghost use Rattle.xdg_lexicon_text.specs.LexiconText as entries;
-ghost use Rattle.xdg_top.specs.Runs.{Leaves};
+ghost use Rattle.xdg_top.specs.Runs.{Leaves, PrintEnds, ReportEnds, Wrote};
 
 use crate::Status;
 use crate::loading::{Loaded, load_tree};
@@ -24,6 +24,7 @@ fn write_text<K: Sink>(text: &str, out: &mut K) -> Status
     ensures ends { (result ≡ Status.Done) ⊎ (result ≡ Status.WriteFault) }
     ensures write_fault { result ≡ Status.WriteFault → Rose (K.faults out.old) (K.faults out.new) }
     ensures out_lasting { K.faults out.old ≤ K.faults out.new }
+    ensures out_quiet { result ≢ Status.WriteFault → K.faults out.new ≡ K.faults out.old }
 {
     match write_all(out, text.as_bytes()) {
         Ok(()) => Status::Done,
@@ -37,6 +38,7 @@ fn write_counts<K: Sink>(dims: usize, classes: usize, entries: usize, out: &mut 
     ensures ends { (result ≡ Status.Done) ⊎ (result ≡ Status.WriteFault) }
     ensures write_fault { result ≡ Status.WriteFault → Rose (K.faults out.old) (K.faults out.new) }
     ensures out_lasting { K.faults out.old ≤ K.faults out.new }
+    ensures out_quiet { result ≢ Status.WriteFault → K.faults out.new ≡ K.faults out.old }
 {
     let words = [
         Word::Plain("dims"),
@@ -58,6 +60,7 @@ fn check_loaded<K: Sink>(alloc: Global, loaded: &Loaded, out: &mut K) -> Status
     ensures leaves { Leaves (MeaningThen (read_of loaded.now) (λ m. IsDone (check_line (read_of loaded.now) m))) result (K.held out.old) (K.held out.new) }
     ensures write_fault { result ≡ Status.WriteFault → Rose (K.faults out.old) (K.faults out.new) }
     ensures out_lasting { K.faults out.old ≤ K.faults out.new }
+    ensures wrote { Wrote ReportEnds result (K.faults out.old) (K.faults out.new) (K.held out.old) (K.held out.new) }
     ensures command { (result ≡ Status.Usage → ⊥) × (result ≡ Status.ReadFault → ⊥) }
 {
     let expanded = match expand_tree(alloc, &loaded.tree) {
@@ -75,6 +78,7 @@ fn list_loaded<K: Sink>(alloc: Global, loaded: &Loaded, out: &mut K) -> Status
     ensures leaves { Leaves (MeaningThen (read_of loaded.now) (λ m. IsDone (entries.lexicon_text m.table m.entries))) result (K.held out.old) (K.held out.new) }
     ensures write_fault { result ≡ Status.WriteFault → Rose (K.faults out.old) (K.faults out.new) }
     ensures out_lasting { K.faults out.old ≤ K.faults out.new }
+    ensures wrote { Wrote ReportEnds result (K.faults out.old) (K.faults out.new) (K.held out.old) (K.held out.new) }
     ensures command { (result ≡ Status.Usage → ⊥) × (result ≡ Status.ReadFault → ⊥) }
 {
     let expanded = match expand_tree(alloc, &loaded.tree) {
@@ -99,7 +103,9 @@ pub fn check_grammar<H: Shelf, K: Sink>(
     ensures write_fault { result ≡ Status.WriteFault → Rose (K.faults out.old) (K.faults out.new) }
     ensures files { H.files shelf.new ≡ H.files shelf.old }
     ensures shelf_lasting { (other : List ℕ) → H.faults shelf.old other ≤ H.faults shelf.new other }
+    ensures shelf_quiet { (other : List ℕ) → result ≢ Status.ReadFault → H.faults shelf.new other ≡ H.faults shelf.old other }
     ensures out_lasting { K.faults out.old ≤ K.faults out.new }
+    ensures wrote { Wrote ReportEnds result (K.faults out.old) (K.faults out.new) (K.held out.old) (K.held out.new) }
     ensures command { result ≡ Status.Usage → ⊥ }
 {
     match load_tree(alloc, shelf, name) {
@@ -120,7 +126,9 @@ pub fn print_lexicon<H: Shelf, K: Sink>(
     ensures write_fault { result ≡ Status.WriteFault → Rose (K.faults out.old) (K.faults out.new) }
     ensures files { H.files shelf.new ≡ H.files shelf.old }
     ensures shelf_lasting { (other : List ℕ) → H.faults shelf.old other ≤ H.faults shelf.new other }
+    ensures shelf_quiet { (other : List ℕ) → result ≢ Status.ReadFault → H.faults shelf.new other ≡ H.faults shelf.old other }
     ensures out_lasting { K.faults out.old ≤ K.faults out.new }
+    ensures wrote { Wrote ReportEnds result (K.faults out.old) (K.faults out.new) (K.held out.old) (K.held out.new) }
     ensures command { result ≡ Status.Usage → ⊥ }
 {
     match load_tree(alloc, shelf, name) {
@@ -141,7 +149,9 @@ pub fn print_grammar<H: Shelf, K: Sink>(
     ensures write_fault { result ≡ Status.WriteFault → Rose (K.faults out.old) (K.faults out.new) }
     ensures files { H.files shelf.new ≡ H.files shelf.old }
     ensures shelf_lasting { (other : List ℕ) → H.faults shelf.old other ≤ H.faults shelf.new other }
+    ensures shelf_quiet { (other : List ℕ) → result ≢ Status.ReadFault → H.faults shelf.new other ≡ H.faults shelf.old other }
     ensures out_lasting { K.faults out.old ≤ K.faults out.new }
+    ensures wrote { Wrote PrintEnds result (K.faults out.old) (K.faults out.new) (K.held out.old) (K.held out.new) }
     ensures command { result ≡ Status.Usage → ⊥ }
 {
     let loaded = match load_tree(alloc, shelf, name) {

@@ -1,13 +1,13 @@
 //! The command `resume`.
 
-ghost use Rattle.std.specs.Prelude.{◌≡◌, ◌≤◌, ◌⊎◌, ℕ, List, Option, Some, length};
+ghost use Rattle.std.specs.Prelude.{◌≡◌, ◌≢◌, ◌≤◌, ◌⊎◌, ℕ, List, Option, Some, length};
 ghost use Rattle.xdg_analyses.specs.Written.{IsSome};
 ghost use Rattle.xdg_entries.specs.Entries.{IsRightLexicon};
 ghost use Rattle.xdg_grammar.specs.Answers.{meaning_of};
 ghost use Rattle.xdg_io.specs.Rose.{Rose};
 ghost use Rattle.xdg_top.specs.Loaded.{read_of};
 ghost use Rattle.xdg_top.specs.Outcomes.{AnalysisThen, MeaningThen, ResumeOf, Resumed};
-ghost use Rattle.xdg_top.specs.Runs.{Leaves};
+ghost use Rattle.xdg_top.specs.Runs.{Leaves, ResumeEnds, Wrote};
 
 use crate::Status;
 use crate::analysis::load_analysis;
@@ -35,7 +35,9 @@ fn resume_expanded<H: Shelf, K: Sink>(
     ensures write_fault { result ≡ Status.WriteFault → Rose (K.faults out.old) (K.faults out.new) }
     ensures files { H.files shelf.new ≡ H.files shelf.old }
     ensures shelf_lasting { (other : List ℕ) → H.faults shelf.old other ≤ H.faults shelf.new other }
+    ensures shelf_quiet { (other : List ℕ) → result ≢ Status.ReadFault → H.faults shelf.new other ≡ H.faults shelf.old other }
     ensures out_lasting { K.faults out.old ≤ K.faults out.new }
+    ensures wrote { Wrote ResumeEnds result (K.faults out.old) (K.faults out.new) (K.held out.old) (K.held out.new) }
     ensures command { result ≡ Status.Usage → ⊥ }
 {
     let packed = match pack_entries(alloc, expanded) {
@@ -71,7 +73,9 @@ fn resume_loaded<H: Shelf, K: Sink>(
     ensures write_fault { result ≡ Status.WriteFault → Rose (K.faults out.old) (K.faults out.new) }
     ensures files { H.files shelf.new ≡ H.files shelf.old }
     ensures shelf_lasting { (other : List ℕ) → H.faults shelf.old other ≤ H.faults shelf.new other }
+    ensures shelf_quiet { (other : List ℕ) → result ≢ Status.ReadFault → H.faults shelf.new other ≡ H.faults shelf.old other }
     ensures out_lasting { K.faults out.old ≤ K.faults out.new }
+    ensures wrote { Wrote ResumeEnds result (K.faults out.old) (K.faults out.new) (K.held out.old) (K.held out.new) }
     ensures command { result ≡ Status.Usage → ⊥ }
 {
     match expand_tree(alloc, &loaded.tree) {
@@ -94,7 +98,9 @@ pub fn resume_analysis<H: Shelf, K: Sink>(
     ensures write_fault { result ≡ Status.WriteFault → Rose (K.faults out.old) (K.faults out.new) }
     ensures files { H.files shelf.new ≡ H.files shelf.old }
     ensures shelf_lasting { (other : List ℕ) → H.faults shelf.old other ≤ H.faults shelf.new other }
+    ensures shelf_quiet { (other : List ℕ) → result ≢ Status.ReadFault → H.faults shelf.new other ≡ H.faults shelf.old other }
     ensures out_lasting { K.faults out.old ≤ K.faults out.new }
+    ensures wrote { Wrote ResumeEnds result (K.faults out.old) (K.faults out.new) (K.held out.old) (K.held out.new) }
     ensures command { result ≡ Status.Usage → ⊥ }
 {
     match load_tree(alloc, shelf, options.grammar.as_str()) {

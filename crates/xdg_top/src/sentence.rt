@@ -1,6 +1,6 @@
 //! The sentence that the input gives.
 
-ghost use Rattle.std.specs.Prelude.{◌≡◌, ◌≤◌, ℕ, List, [], Some, length, IfErr, IfOk};
+ghost use Rattle.std.specs.Prelude.{◌≡◌, ◌≢◌, ◌≤◌, ℕ, List, [], Some, length, IfErr, IfOk, MatchResult};
 ghost use Rattle.xdg_entries.specs.Entries.{IsRightLexicon};
 ghost use Rattle.xdg_grammar.specs.Answers.{meaning_of};
 ghost use Rattle.xdg_grammar.specs.Packed.{IsPackedOf};
@@ -81,6 +81,8 @@ pub fn read_problem<S: Source>(
     ensures failed { IfErr result (λ refusal. refusal ≡ Refusal.Read → Rose (S.faults source.old) (S.faults source.new)) }
     ensures all { IfOk result (λ problem. (input : List ℕ) → S.left source.old ≡ Some input → S.left source.new ≡ Some []) }
     ensures lasting { S.faults source.old ≤ S.faults source.new }
+    ensures quiet { MatchResult result (λ _. S.faults source.new ≡ S.faults source.old) (λ refusal.
+        refusal ≢ Refusal.Read → S.faults source.new ≡ S.faults source.old) }
 {
     let input = match read_all(alloc, source, SENTENCE_LIMIT) {
         Ok(input) => input,

@@ -1,6 +1,9 @@
 use Rattle.xdg_top.specs.Loaded.{read_of}
 use Rattle.xdg_top.specs.Outcomes.{SentenceThen}
 use Rattle.xdg_top.proofs.Meaning.{meaning_leaves, meaning_refused}
+use Rattle.xdg_top.specs.declared.status.Status.TheVariants as statuses
+use Rattle.xdg_top.specs.Runs.{ParseEnds}
+use Rattle.xdg_top.proofs.Writing.{refused_wrote}
 use Rattle.xdg_top.proofs.parse.parse_loaded.Goals as goal
 
 pub returns-in-Ok-clause-leaves : goal.returns-in-Ok-clause-leaves
@@ -10,3 +13,7 @@ returns-in-Ok-clause-leaves g c content told =
 pub returns-in-Err-clause-leaves : goal.returns-in-Err-clause-leaves
 returns-in-Err-clause-leaves g c content told =
     meaning_refused (read_of c.args.loaded.now) (SentenceThen c.args.options.now content) c.refuse.result _ c.in-Err.stop _ _ _ c.deref.ensures.value c.in-Err.ensures.tells c.in-Err.ensures.only c.stopped_in.ensures c.refuse.ensures.written
+
+pub returns-in-Err-clause-wrote : goal.returns-in-Err-clause-wrote
+returns-in-Err-clause-wrote g c =
+    refused_wrote ParseEnds statuses.BadGrammar c.refuse.result c.stopped_in.result _ _ _ _ tt tt tt tt tt c.refuse.ensures.written c.refuse.ensures.quiet

@@ -2,8 +2,10 @@ use Rattle.std.proofs.Common.{◌∙◌, ap, length, subst}
 use Rattle.xdg_classes.specs.Definitions.{classes}
 use Rattle.xdg_top.specs.Loaded.{read_of}
 use Rattle.xdg_top.specs.Outcomes.{IsDone, check_line, counts_line}
-use Rattle.xdg_top.specs.Runs.{Leaves}
+use Rattle.xdg_top.specs.Runs.{Leaves, ReportEnds}
 use Rattle.xdg_top.proofs.Meaning.{meaning_leaves, meaning_refused}
+use Rattle.xdg_top.specs.declared.status.Status.TheVariants as statuses
+use Rattle.xdg_top.proofs.Writing.{refused_wrote, text_wrote}
 use Rattle.xdg_top.proofs.reports.check_loaded.Goals as goal
 
 pub returns-in-Err-clause-leaves : goal.returns-in-Err-clause-leaves
@@ -17,3 +19,10 @@ returns-clause-leaves g c =
     (ap (λ z. counts_line (length z) (length c.classes-classes.result.now) c.len.result) (c.used-dims.ensures.same ∙ ap (λ t. t.used) c.types.ensures.same)
     ∙ ap (λ n. counts_line (length c.in-Ok.expanded.checked.types.used) n c.len.result) (ap length c.classes-classes.ensures.same ∙ c.in-Ok.ensures.classes)
     ∙ ap (counts_line (length c.in-Ok.expanded.checked.types.used) (length (classes c.args.loaded.now.tree.statements))) c.len.ensures) c.write_counts.ensures.leaves)
+
+pub returns-in-Err-clause-wrote : goal.returns-in-Err-clause-wrote
+returns-in-Err-clause-wrote g c =
+    refused_wrote ReportEnds statuses.BadGrammar c.refuse.result c.stopped_in.result _ _ _ _ tt tt tt tt tt c.refuse.ensures.written c.refuse.ensures.quiet
+
+pub returns-clause-wrote : goal.returns-clause-wrote
+returns-clause-wrote g c = text_wrote ReportEnds c.write_counts.result _ _ _ _ tt tt c.write_counts.ensures.ends c.write_counts.ensures.out_quiet

@@ -6,6 +6,8 @@ use Rattle.xdg_top.specs.Stages.{Accepts}
 use Rattle.xdg_top.specs.Texts.{HasBadText, HasTree, ReadText}
 use Rattle.xdg_top.specs.declared.status.Status.TheVariants as statuses
 use Rattle.xdg_top.proofs.Leaving.{accepted_leaves, stopped_leaves}
+use Rattle.xdg_top.specs.Runs.{ResumeEnds}
+use Rattle.xdg_top.proofs.Writing.{refused_quiet, refused_wrote}
 use Rattle.xdg_top.proofs.resume.resume_analysis.Goals as goal
 
 pub returns-in-Ok-clause-leaves : goal.returns-in-Ok-clause-leaves
@@ -21,3 +23,14 @@ returns-in-Err-clause-leaves g c files told =
     let new = g.H.Shelf.faults c.load_tree.new.shelf c.as_str.result.now in
     stopped_leaves ReadText statuses.BadText (HasBadText files o.grammar) (HasTree files o.grammar) (λ read. MeaningThen read (AnalysisThen files o.analysis (Resumed o))) (g.H.Shelf.files c.args.shelf.now ≡ Some files) old new c.refuse.result c.in-Err.refusal _ _ told (λ e. e)
     (subst (λ n. Stops (g.H.Shelf.files c.args.shelf.now ≡ Some files) old new ReadText (HasBadText files n) (HasTree files n) c.in-Err.refusal) c.as_str.ensures (c.in-Err.ensures.refused files)) c.refuse.ensures.written
+
+pub returns-in-Ok-clause-shelf_quiet : goal.returns-in-Ok-clause-shelf_quiet
+returns-in-Ok-clause-shelf_quiet g c other differs = c.resume_loaded.ensures.shelf_quiet other differs ∙ c.in-Ok.ensures.quiet other
+
+pub returns-in-Err-clause-wrote : goal.returns-in-Err-clause-wrote
+returns-in-Err-clause-wrote g c =
+    refused_wrote ResumeEnds statuses.BadText c.refuse.result c.in-Err.refusal _ _ _ _ tt tt tt tt tt c.refuse.ensures.written c.refuse.ensures.quiet
+
+pub returns-in-Err-clause-shelf_quiet : goal.returns-in-Err-clause-shelf_quiet
+returns-in-Err-clause-shelf_quiet g c other differs =
+    refused_quiet statuses.BadText c.refuse.result c.in-Err.refusal _ _ (g.H.Shelf.faults c.args.shelf.now other) (g.H.Shelf.faults c.load_tree.new.shelf other) c.refuse.ensures.written (c.in-Err.ensures.quiet other) differs

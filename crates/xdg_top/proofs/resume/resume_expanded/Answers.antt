@@ -7,6 +7,8 @@ use Rattle.xdg_top.specs.Refusals.{Stops}
 use Rattle.xdg_top.specs.Stages.{Accepts}
 use Rattle.xdg_top.specs.declared.status.Status.TheVariants as statuses
 use Rattle.xdg_top.proofs.Leaving.{accepted_leaves, stopped_leaves}
+use Rattle.xdg_top.specs.Runs.{ResumeEnds}
+use Rattle.xdg_top.proofs.Writing.{refused_quiet, refused_wrote, searched_wrote}
 use Rattle.xdg_top.proofs.resume.resume_expanded.Goals as goal
 
 pub returns-in-Ok-load_analysis-clause-leaves : goal.returns-in-Ok-load_analysis-clause-leaves
@@ -23,3 +25,14 @@ returns-clause-leaves g c files told =
     stopped_leaves Analysed statuses.BadAnalysis (HasBadAnalysis files c.args.options.now.analysis m) (HasAnalysis files c.args.options.now.analysis m) (Resumed c.args.options.now) (g.H.Shelf.files c.args.shelf.now ≡ Some files) old new c.refuse.result c.in-Err-load_analysis.refusal _ _
     told (λ e. e)
     (subst (λ n. Stops (g.H.Shelf.files c.args.shelf.now ≡ Some files) old new Analysed (HasBadAnalysis files n m) (HasAnalysis files n m) c.in-Err-load_analysis.refusal) c.as_str.ensures (c.in-Err-load_analysis.ensures.refused files)) c.refuse.ensures.written
+
+pub returns-in-Ok-load_analysis-clause-wrote : goal.returns-in-Ok-load_analysis-clause-wrote
+returns-in-Ok-load_analysis-clause-wrote g c = searched_wrote ResumeEnds (Resumed c.args.options.now (analysed_of c.in-Ok-load_analysis.found)) c.search.result _ _ _ _ tt tt tt tt c.search.ensures.ends c.search.ensures.leaves c.search.ensures.out_quiet
+
+pub returns-clause-wrote : goal.returns-clause-wrote
+returns-clause-wrote g c =
+    refused_wrote ResumeEnds statuses.BadAnalysis c.refuse.result c.in-Err-load_analysis.refusal _ _ _ _ tt tt tt tt tt c.refuse.ensures.written c.refuse.ensures.quiet
+
+pub returns-clause-shelf_quiet : goal.returns-clause-shelf_quiet
+returns-clause-shelf_quiet g c other differs =
+    refused_quiet statuses.BadAnalysis c.refuse.result c.in-Err-load_analysis.refusal _ _ (g.H.Shelf.faults c.args.shelf.now other) (g.H.Shelf.faults c.load_analysis.new.shelf other) c.refuse.ensures.written (c.in-Err-load_analysis.ensures.quiet other) differs

@@ -1,0 +1,97 @@
+use Rattle.std.proofs.Common.{subst}
+use Rattle.xdg_command.specs.declared.commands.Command.TheVariants as commands
+use Rattle.xdg_top.specs.Outcomes.{CheckOf, ExplainOf, LexiconOf, PrintOf, WantsSome}
+use Rattle.xdg_top.specs.Runs.{Leaves, ReadsInput}
+use Rattle.xdg_top.proofs.Commanded.{explain_failed, file_failed, parse_failed, resume_failed, said_leaves, said_reads, said_wrote}
+use Rattle.xdg_top.proofs.running.run_command.Goals as goal
+
+pub parse_sentence-requires : goal.parse_sentence-requires
+parse_sentence-requires g c = subst WantsSome c.in-Parse.is c.requires
+
+pub resume_analysis-requires : goal.resume_analysis-requires
+resume_analysis-requires g c = subst WantsSome c.in-Resume.is c.requires
+
+pub returns-in-Parse-clause-leaves : goal.returns-in-Parse-clause-leaves
+returns-in-Parse-clause-leaves g c files content told given =
+    said_leaves files content c.args.command.now (commands.Parse c.in-Parse.options) c.parse_sentence.result (g.K.Sink.held c.args.out.now) (g.K.Sink.held c.parse_sentence.new.out) c.in-Parse.is
+    (c.parse_sentence.ensures.leaves files content told (given (said_reads c.args.command.now (commands.Parse c.in-Parse.options) c.in-Parse.is tt)))
+
+pub returns-in-Parse-clause-wrote : goal.returns-in-Parse-clause-wrote
+returns-in-Parse-clause-wrote g c = said_wrote c.args.command.now (commands.Parse c.in-Parse.options) c.parse_sentence.result (g.K.Sink.faults c.args.out.now) (g.K.Sink.faults c.parse_sentence.new.out) (g.K.Sink.held c.args.out.now) (g.K.Sink.held c.parse_sentence.new.out) c.in-Parse.is c.parse_sentence.ensures.wrote
+
+pub returns-in-Parse-clause-read_fault : goal.returns-in-Parse-clause-read_fault
+returns-in-Parse-clause-read_fault g c failed = parse_failed c.args.command.now c.in-Parse.options (g.H.Shelf.faults c.args.shelf.now) (g.H.Shelf.faults c.parse_sentence.new.shelf) (g.S.Source.faults c.args.input.now) (g.S.Source.faults c.parse_sentence.new.input) c.in-Parse.is (c.parse_sentence.ensures.read_fault failed)
+
+pub returns-in-Parse-clause-files_alone : goal.returns-in-Parse-clause-files_alone
+returns-in-Parse-clause-files_alone g c none = absurd (none (said_reads c.args.command.now (commands.Parse c.in-Parse.options) c.in-Parse.is tt))
+
+pub returns-in-Resume-clause-leaves : goal.returns-in-Resume-clause-leaves
+returns-in-Resume-clause-leaves g c files content told given =
+    said_leaves files content c.args.command.now (commands.Resume c.in-Resume.options) c.resume_analysis.result (g.K.Sink.held c.args.out.now) (g.K.Sink.held c.resume_analysis.new.out) c.in-Resume.is
+    (c.resume_analysis.ensures.leaves files told)
+
+pub returns-in-Resume-clause-wrote : goal.returns-in-Resume-clause-wrote
+returns-in-Resume-clause-wrote g c = said_wrote c.args.command.now (commands.Resume c.in-Resume.options) c.resume_analysis.result (g.K.Sink.faults c.args.out.now) (g.K.Sink.faults c.resume_analysis.new.out) (g.K.Sink.held c.args.out.now) (g.K.Sink.held c.resume_analysis.new.out) c.in-Resume.is c.resume_analysis.ensures.wrote
+
+pub returns-in-Resume-clause-read_fault : goal.returns-in-Resume-clause-read_fault
+returns-in-Resume-clause-read_fault g c failed = resume_failed c.args.command.now c.in-Resume.options (g.H.Shelf.faults c.args.shelf.now) (g.H.Shelf.faults c.resume_analysis.new.shelf) (g.S.Source.faults c.args.input.now) (g.S.Source.faults c.args.input.now) c.in-Resume.is (c.resume_analysis.ensures.read_fault failed)
+
+pub returns-in-Resume-clause-all_read : goal.returns-in-Resume-clause-all_read
+returns-in-Resume-clause-all_read g c content reads done told = absurd (subst ReadsInput c.in-Resume.is reads)
+
+pub returns-in-Explain-clause-leaves : goal.returns-in-Explain-clause-leaves
+returns-in-Explain-clause-leaves g c files content told given =
+    said_leaves files content c.args.command.now (commands.Explain c.in-Explain.grammar c.in-Explain.analysis) c.explain_analysis.result (g.K.Sink.held c.args.out.now) (g.K.Sink.held c.explain_analysis.new.out) c.in-Explain.is
+    (subst (λ n. Leaves (ExplainOf n c.in-Explain.analysis files) c.explain_analysis.result (g.K.Sink.held c.args.out.now) (g.K.Sink.held c.explain_analysis.new.out)) c.as_str.ensures
+    (subst (λ n. Leaves (ExplainOf c.as_str.result.now n files) c.explain_analysis.result (g.K.Sink.held c.args.out.now) (g.K.Sink.held c.explain_analysis.new.out)) c.as_str-in-Explain.ensures (c.explain_analysis.ensures.leaves files told)))
+
+pub returns-in-Explain-clause-wrote : goal.returns-in-Explain-clause-wrote
+returns-in-Explain-clause-wrote g c = said_wrote c.args.command.now (commands.Explain c.in-Explain.grammar c.in-Explain.analysis) c.explain_analysis.result (g.K.Sink.faults c.args.out.now) (g.K.Sink.faults c.explain_analysis.new.out) (g.K.Sink.held c.args.out.now) (g.K.Sink.held c.explain_analysis.new.out) c.in-Explain.is c.explain_analysis.ensures.wrote
+
+pub returns-in-Explain-clause-read_fault : goal.returns-in-Explain-clause-read_fault
+returns-in-Explain-clause-read_fault g c failed = explain_failed c.args.command.now c.in-Explain.grammar c.in-Explain.analysis c.as_str.result.now c.as_str-in-Explain.result.now (g.H.Shelf.faults c.args.shelf.now) (g.H.Shelf.faults c.explain_analysis.new.shelf) (g.S.Source.faults c.args.input.now) (g.S.Source.faults c.args.input.now) c.in-Explain.is c.as_str.ensures c.as_str-in-Explain.ensures (c.explain_analysis.ensures.read_fault failed)
+
+pub returns-in-Explain-clause-all_read : goal.returns-in-Explain-clause-all_read
+returns-in-Explain-clause-all_read g c content reads done told = absurd (subst ReadsInput c.in-Explain.is reads)
+
+pub returns-in-Check-clause-leaves : goal.returns-in-Check-clause-leaves
+returns-in-Check-clause-leaves g c files content told given =
+    said_leaves files content c.args.command.now (commands.Check c.in-Check.grammar) c.check_grammar.result (g.K.Sink.held c.args.out.now) (g.K.Sink.held c.check_grammar.new.out) c.in-Check.is
+    (subst (λ n. Leaves (CheckOf n files) c.check_grammar.result (g.K.Sink.held c.args.out.now) (g.K.Sink.held c.check_grammar.new.out)) c.as_str-in-Check.ensures (c.check_grammar.ensures.leaves files told))
+
+pub returns-in-Check-clause-wrote : goal.returns-in-Check-clause-wrote
+returns-in-Check-clause-wrote g c = said_wrote c.args.command.now (commands.Check c.in-Check.grammar) c.check_grammar.result (g.K.Sink.faults c.args.out.now) (g.K.Sink.faults c.check_grammar.new.out) (g.K.Sink.held c.args.out.now) (g.K.Sink.held c.check_grammar.new.out) c.in-Check.is c.check_grammar.ensures.wrote
+
+pub returns-in-Check-clause-read_fault : goal.returns-in-Check-clause-read_fault
+returns-in-Check-clause-read_fault g c failed = file_failed c.args.command.now (commands.Check c.in-Check.grammar) c.as_str-in-Check.result.now (g.H.Shelf.faults c.args.shelf.now) (g.H.Shelf.faults c.check_grammar.new.shelf) (g.S.Source.faults c.args.input.now) (g.S.Source.faults c.args.input.now) c.in-Check.is c.as_str-in-Check.ensures (c.check_grammar.ensures.read_fault failed)
+
+pub returns-in-Check-clause-all_read : goal.returns-in-Check-clause-all_read
+returns-in-Check-clause-all_read g c content reads done told = absurd (subst ReadsInput c.in-Check.is reads)
+
+pub returns-in-Lexicon-clause-leaves : goal.returns-in-Lexicon-clause-leaves
+returns-in-Lexicon-clause-leaves g c files content told given =
+    said_leaves files content c.args.command.now (commands.Lexicon c.in-Lexicon.grammar) c.print_lexicon.result (g.K.Sink.held c.args.out.now) (g.K.Sink.held c.print_lexicon.new.out) c.in-Lexicon.is
+    (subst (λ n. Leaves (LexiconOf n files) c.print_lexicon.result (g.K.Sink.held c.args.out.now) (g.K.Sink.held c.print_lexicon.new.out)) c.as_str-in-Lexicon.ensures (c.print_lexicon.ensures.leaves files told))
+
+pub returns-in-Lexicon-clause-wrote : goal.returns-in-Lexicon-clause-wrote
+returns-in-Lexicon-clause-wrote g c = said_wrote c.args.command.now (commands.Lexicon c.in-Lexicon.grammar) c.print_lexicon.result (g.K.Sink.faults c.args.out.now) (g.K.Sink.faults c.print_lexicon.new.out) (g.K.Sink.held c.args.out.now) (g.K.Sink.held c.print_lexicon.new.out) c.in-Lexicon.is c.print_lexicon.ensures.wrote
+
+pub returns-in-Lexicon-clause-read_fault : goal.returns-in-Lexicon-clause-read_fault
+returns-in-Lexicon-clause-read_fault g c failed = file_failed c.args.command.now (commands.Lexicon c.in-Lexicon.grammar) c.as_str-in-Lexicon.result.now (g.H.Shelf.faults c.args.shelf.now) (g.H.Shelf.faults c.print_lexicon.new.shelf) (g.S.Source.faults c.args.input.now) (g.S.Source.faults c.args.input.now) c.in-Lexicon.is c.as_str-in-Lexicon.ensures (c.print_lexicon.ensures.read_fault failed)
+
+pub returns-in-Lexicon-clause-all_read : goal.returns-in-Lexicon-clause-all_read
+returns-in-Lexicon-clause-all_read g c content reads done told = absurd (subst ReadsInput c.in-Lexicon.is reads)
+
+pub returns-in-Print-clause-leaves : goal.returns-in-Print-clause-leaves
+returns-in-Print-clause-leaves g c files content told given =
+    said_leaves files content c.args.command.now (commands.Print c.in-Print.grammar) c.print_grammar.result (g.K.Sink.held c.args.out.now) (g.K.Sink.held c.print_grammar.new.out) c.in-Print.is
+    (subst (λ n. Leaves (PrintOf n files) c.print_grammar.result (g.K.Sink.held c.args.out.now) (g.K.Sink.held c.print_grammar.new.out)) c.as_str-in-Print.ensures (c.print_grammar.ensures.leaves files told))
+
+pub returns-in-Print-clause-wrote : goal.returns-in-Print-clause-wrote
+returns-in-Print-clause-wrote g c = said_wrote c.args.command.now (commands.Print c.in-Print.grammar) c.print_grammar.result (g.K.Sink.faults c.args.out.now) (g.K.Sink.faults c.print_grammar.new.out) (g.K.Sink.held c.args.out.now) (g.K.Sink.held c.print_grammar.new.out) c.in-Print.is c.print_grammar.ensures.wrote
+
+pub returns-in-Print-clause-read_fault : goal.returns-in-Print-clause-read_fault
+returns-in-Print-clause-read_fault g c failed = file_failed c.args.command.now (commands.Print c.in-Print.grammar) c.as_str-in-Print.result.now (g.H.Shelf.faults c.args.shelf.now) (g.H.Shelf.faults c.print_grammar.new.shelf) (g.S.Source.faults c.args.input.now) (g.S.Source.faults c.args.input.now) c.in-Print.is c.as_str-in-Print.ensures (c.print_grammar.ensures.read_fault failed)
+
+pub returns-in-Print-clause-all_read : goal.returns-in-Print-clause-all_read
+returns-in-Print-clause-all_read g c content reads done told = absurd (subst ReadsInput c.in-Print.is reads)
