@@ -1,0 +1,75 @@
+//! Jobs.
+
+ghost use Rattle.std.specs.Prelude.{◌≡◌, IfOk};
+ghost use Rattle.xdg_split.specs.Answers.{IsAnswer};
+ghost use Rattle.xdg_split.specs.Asked.{IsJob, asked};
+
+use crate::answer::Answer;
+use crate::kept::Kept;
+use std::alloc::Global;
+use std::marker::Model;
+use xdg_analyses::{Form, Printed, print_analyses};
+use xdg_base::{List, OutOfMemory};
+use xdg_problem::Problem;
+use xdg_propcore::Propagator;
+
+/// A sentence that is to be searched from the beginning, with a budget of its own. Contracts see what is asked for. The propagators
+/// are no part of that: by whichever a sentence is searched, its answer is the same.
+#[derive(Drop)]
+pub struct Job<P: Propagator> {
+    problem: Problem,
+    props: List<P>,
+    budget: u64,
+    first: Option<u64>,
+}
+
+impl<P: Propagator> Model for Job<P> {
+    ghost use Rattle.xdg_split.specs.Asked.{Asked, IsJob, asked};
+
+    ghost Value = { Asked };
+
+    ghost view = { λ job. asked job.problem job.budget job.first };
+
+    ghost invariant = { λ job. IsJob P.stands job.props (asked job.problem job.budget job.first) };
+}
+
+impl<P: Propagator> Job<P> {
+    /// The search of a sentence by these propagators, which stand for its principle uses. The budget is 1 to 1,000,000,000 boxed
+    /// prefixes. Where a number of analyses is given, at least 1, the search stops behind so many.
+    pub fn of(problem: Problem, props: List<P>, budget: u64, first: Option<u64>) -> Job<P>
+        requires { IsJob P.stands props (asked problem budget first) }
+        ensures { result ≡ asked problem budget first }
+    {
+        Job {
+            problem,
+            props,
+            budget,
+            first,
+        }
+    }
+
+    /// Searches the sentence and keeps what is printed. The memory of the search is given back when it has ended.
+    pub(crate) fn answer(&self, alloc: Global) -> Result<Answer, OutOfMemory>
+        ensures { IfOk result (λ answer. IsAnswer self.now answer) }
+    {
+        let mut sink = Kept::new(alloc);
+        let printed = print_analyses(
+            alloc,
+            &self.problem,
+            self.props.as_slice(),
+            self.budget,
+            None,
+            self.first,
+            Form::One,
+            &mut sink,
+        );
+        match printed {
+            Printed::Ended(ending) => {
+                let bytes = sink.into_bytes();
+                Ok(Answer { bytes, ending })
+            }
+            Printed::Failed => Err(OutOfMemory),
+            Printed::OutOfMemory => Err(OutOfMemory),
+        }
+    }
+}

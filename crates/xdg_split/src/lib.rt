@@ -1,0 +1,11 @@
+//! Sentences searched side by side. Each is searched by itself, so its answer is the one that it has alone.
+#![tactic(auto)]
+
+mod answer;
+mod answering;
+mod job;
+mod kept;
+
+pub use answer::Answer;
+pub use answering::answers;
+pub use job::Job;
