@@ -10,6 +10,8 @@ mod circles;
 #[cfg(test)]
 mod devices;
 #[cfg(test)]
+mod meeting;
+#[cfg(test)]
 mod nodes;
 #[cfg(test)]
 mod packing;

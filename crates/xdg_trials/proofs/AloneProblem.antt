@@ -1,0 +1,87 @@
+-- The sentence of one word is a problem, and each propagator that stands for uses of graph stands for its only use.
+use Rattle.std.proofs.Common.{◌≡◌, ◌≢◌, ◌<◌, ℕ, zero, suc, List, [], ◌∷◌, All, AllPairs, length, refl, subst, sym, arith, lit<, lit≤}
+use Rattle.std.specs.Prelude.{Option, None, slice_index_or}
+use Rattle.xdg_base.specs.declared.ids.AttrId.{AttrId}
+use Rattle.xdg_base.specs.declared.ids.DimId.{DimId}
+use Rattle.xdg_base.specs.declared.ids.EntryNo.{EntryNo}
+use Rattle.xdg_problem.specs.declared.parts.AttrPlan.{AttrPlan}
+use Rattle.xdg_problem.specs.declared.parts.DimPlan.{DimPlan}
+use Rattle.xdg_problem.specs.declared.parts.Parts.{Parts}
+use Rattle.xdg_problem.specs.Problems.{IsProblem, IsAttr, IsDim, IsGroup, AreCandidates, AreFeatures}
+use Rattle.xdg_propcore.specs.Uses.{AllStandIn, StandsIn}
+use Rattle.xdg_split.specs.Asked.{IsJob, asked}
+use Rattle.xdg_trials.specs.Alone.{IsGraph, alone, graph_use, plan}
+
+all_none : {X : Type 0} (P : X → Type 0) → All P []
+all_none P k d within = absurd (omega (arith, within))
+
+all_one : {X : Type 0} (P : X → Type 0) (x : X) → P x → All P (x ∷ [])
+all_one P x p zero d within = p
+all_one P x p (suc k) d within = absurd (omega (arith, within))
+
+pairs_none : {X : Type 0} (R : X → X → Type 0) → AllPairs R []
+pairs_none R i j d before within = absurd (omega (arith, before, within))
+
+pairs_one : {X : Type 0} (R : X → X → Type 0) (x : X) → AllPairs R (x ∷ [])
+pairs_one R x i j d before within = absurd (omega (arith, before, within))
+
+one_candidate : AreCandidates (record { 0 = 3 } ∷ [])
+one_candidate = record { some = lit< tt; most = lit≤ tt; rising = pairs_one (λ (a b : EntryNo). a.0 < b.0) (record { 0 = 3 }); small = all_one (λ (e : EntryNo). e.0 < 4294967295) (record { 0 = 3 }) (lit< tt) }
+
+is_plan : IsDim plan
+is_plan = record { labels_most = lit≤ tt; labels_differ = pairs_none (λ (a b : List ℕ). a ≢ b); attrs_most = lit≤ tt; attrs_differ = pairs_none (λ (a b : AttrPlan). a.name ≢ b.name); attrs = all_none IsAttr }
+
+feats_each_at : (v : ℕ) → v < 1 → length (slice_index_or graph_use.feats v []) ≡ length (slice_index_or alone.candidates v [])
+feats_each_at zero l = refl
+feats_each_at (suc v) l = absurd (omega (arith, l))
+
+feats_at : (v : ℕ) → v < 1 → All (AreFeatures graph_use.principle alone graph_use) (slice_index_or graph_use.feats v [])
+feats_at zero l = all_one (AreFeatures graph_use.principle alone graph_use) [] refl
+feats_at (suc v) l = absurd (omega (arith, l))
+
+is_use : IsGroup alone graph_use
+is_use = record {
+  dims_count = refl;
+  dims = all_one (λ (dim : DimId). dim.0 < 1) (record { 0 = 0 }) (lit< tt);
+  attrs_count = refl;
+  attrs = all_none (λ (attr : AttrId). attr.0 < 0);
+  order = refl;
+  truths_count = refl;
+  feats = refl;
+  feats_each = feats_each_at;
+  features = feats_at;
+}
+
+is_problem : IsProblem alone
+is_problem = record {
+  some = lit< tt;
+  most = lit≤ tt;
+  candidates_each = refl;
+  candidates = all_one AreCandidates (record { 0 = 3 } ∷ []) one_candidate;
+  dims_most = lit≤ tt;
+  dims_differ = pairs_one (λ (a b : DimPlan). a.name ≢ b.name) plan;
+  dims = all_one IsDim plan is_plan;
+  groups = all_one (IsGroup alone) graph_use is_use;
+}
+
+pub alone_problem : (parts : Parts) → parts ≡ alone → IsProblem parts
+alone_problem parts is = subst IsProblem (sym is) is_problem
+
+use_is : (number : ℕ) → number < 1 → IsGraph alone number
+use_is zero l = refl
+use_is (suc number) l = absurd (omega (arith, l))
+
+stand_alone : {P : Type 0} (p : P) → AllStandIn (λ (_ : P). IsGraph) (p ∷ []) alone
+stand_alone p = record {
+  each = all_one (λ _. StandsIn IsGraph alone) p (0, (lit< tt, refl));
+  all = λ number l. (p, (0, lit< tt, refl), use_is number l);
+}
+
+-- a job of the sentence, by one such propagator
+pub alone_job : {P : Type 0} (p : P) (props : List P) (parts : Parts) (budget : ℕ) (first : Option ℕ) → props ≡ p ∷ [] → parts ≡ alone → budget ≡ 10 → first ≡ None → IsJob (λ (_ : P). IsGraph) props (asked parts budget first)
+alone_job p props parts budget first props_are is small none =
+    subst (λ ps. IsJob (λ _. IsGraph) ps (asked parts budget first)) (sym props_are)
+    (subst (λ q. IsJob (λ _. IsGraph) (p ∷ []) (asked q budget first)) (sym is)
+    (subst (λ n. IsJob (λ _. IsGraph) (p ∷ []) (asked alone n first)) (sym small)
+    (subst (λ o. IsJob (λ _. IsGraph) (p ∷ []) (asked alone 10 o)) (sym none)
+    (record { stand = stand_alone p; some = lit≤ tt; most = lit≤ tt; first = tt }))))

@@ -1,0 +1,151 @@
+//! Jobs that wait for one another in a step of a propagator, so that they come to their end only side by side.
+
+ghost use Rattle.std.specs.Prelude.{⊤, ◌≡◌, [], ◌∷◌, IfOk};
+ghost use Rattle.xdg_trials.specs.Graphs.{graph_closed};
+ghost use Rattle.xdg_trials.specs.Alone.{IsGraph, alone, graph_use, plan};
+
+use std::alloc::{AllocError, Global};
+use std::sync::atomic::{AtomicBool, Ordering};
+use std::test::Fail;
+use xdg_base::{DimId, EntryNo, List, OutOfMemory, Text};
+use xdg_listing::Ending;
+use xdg_problem::{DimPlan, Group, Parts, Principle, Problem, SentenceWord};
+use xdg_propcore::{Moved, Propagator, Wake};
+use xdg_split::{Job, answers};
+use xdg_store::Store;
+
+/// How often a flag is read before it is given up.
+const READS: u32 = 1_000_000_000;
+
+/// Takes nothing. In each step it raises its flag and waits for another one.
+#[derive(Drop)]
+struct Meets<'a> {
+    own: &'a AtomicBool,
+    other: &'a AtomicBool,
+    missed: &'a AtomicBool,
+}
+
+/// Raises a flag, and reads another until it stands. Where it never does, a third is raised.
+fn meet(own: &AtomicBool, other: &AtomicBool, missed: &AtomicBool) {
+    own.store(true, Ordering::SeqCst);
+    for _ in 0..READS {
+        if other.load(Ordering::SeqCst) {
+            return;
+        }
+    }
+    missed.store(true, Ordering::SeqCst);
+}
+
+impl Propagator for Meets<'_> {
+    ghost stands = { λ p parts number. IsGraph parts number };
+
+    ghost still = { λ p parts box. ⊤ };
+
+    ghost kinds = { λ p. 0 };
+
+    #[tactic(auto, using(xdg_propcore::proofs::Naming::named_none))]
+    fn wakes(&self) -> Wake {
+        Wake(0)
+    }
+
+    fn step(&self, store: &mut Store) -> Moved {
+        store.turn();
+        meet(self.own, self.other, self.missed);
+        Moved::Same
+    }
+
+    ghost still_closed = { λ p parts box problem is still. graph_closed parts box };
+
+    ghost stays_still = { λ p parts number old new problem mine is more inside none still. still };
+}
+
+fn one<T: Drop>(alloc: Global, item: T) -> Result<List<T>, AllocError>
+    ensures { IfOk result (λ list. list ≡ item ∷ []) }
+{
+    let mut list = List::new(alloc);
+    list.push(item)?;
+    Ok(list)
+}
+
+fn plan(alloc: Global) -> Result<DimPlan, AllocError>
+    ensures { IfOk result (λ made. made ≡ plan) }
+{
+    Ok(DimPlan {
+        name: Text::from_str(alloc, "id")?,
+        labels: List::new(alloc),
+        attrs: List::new(alloc),
+        graph: true,
+    })
+}
+
+fn graph_use(alloc: Global) -> Result<Group, AllocError>
+    ensures { IfOk result (λ group. group ≡ graph_use) }
+{
+    let dims = one(alloc, DimId(0))?;
+    let of_node = one(alloc, List::new(alloc))?;
+    let feats = one(alloc, of_node)?;
+    Ok(Group {
+        principle: Principle::Graph,
+        dims,
+        attrs: List::new(alloc),
+        order: List::new(alloc),
+        truths: List::new(alloc),
+        feats,
+    })
+}
+
+#[tactic(auto, using(crate::proofs::AloneProblem::alone_problem))]
+fn problem(alloc: Global) -> Result<Problem, AllocError>
+    ensures { IfOk result (λ problem. problem ≡ alone) }
+{
+    let text = Text::from_str(alloc, "a")?;
+    let words = one(alloc, SentenceWord { text, at: 0 })?;
+    let entries = one(alloc, EntryNo(3))?;
+    let candidates = one(alloc, entries)?;
+    let plan = plan(alloc)?;
+    let dims = one(alloc, plan)?;
+    let group = graph_use(alloc)?;
+    let groups = one(alloc, group)?;
+    Ok(Problem::of(Parts {
+        words,
+        candidates,
+        dims,
+        groups,
+    }))
+}
+
+fn job<'a>(
+    alloc: Global,
+    own: &'a AtomicBool,
+    other: &'a AtomicBool,
+    missed: &'a AtomicBool,
+) -> Result<Job<Meets<'a>>, AllocError> {
+    let problem = problem(alloc)?;
+    let props = one(alloc, Meets { own, other, missed })?;
+    Ok(Job::of(problem, props, 10, None))
+}
+
+#[test]
+fn two_jobs_meet(rt: HostRuntime) -> Result<(), Fail> {
+    let alloc = rt.alloc();
+    let first = AtomicBool::new(false);
+    let second = AtomicBool::new(false);
+    let missed = AtomicBool::new(false);
+    let jobs = [
+        job(alloc, &first, &second, &missed)?,
+        job(alloc, &second, &first, &missed)?,
+    ];
+    let answers = answers(&rt, alloc, &jobs)?;
+    assert!(rt; first.load(Ordering::SeqCst));
+    assert!(rt; second.load(Ordering::SeqCst));
+    assert!(rt; !missed.load(Ordering::SeqCst));
+    assert_eq!(rt; answers.len(), 2);
+    for answer in answers.as_slice() {
+        assert_eq!(rt; answer.ending, Ending::Complete);
+        assert_eq!(rt;
+            answer.bytes.as_slice(),
+            b"analysis 1\nword 1 \"a\" 4\nend\ncomplete 1\n".as_slice()
+        );
+    }
+    Ok(())
+}
