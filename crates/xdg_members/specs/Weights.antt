@@ -23,11 +23,13 @@ abbrev mutual
 -- the weights of the bodies of classes, where uses of classes go so deep
 abbrev pub sized : Parts → ℕ → List ℕ → ℕ
 sized checked zero name = 0
-sized checked (suc depth) name = looked_up (λ (c : Class). weigh (sized checked depth) (body c.body.kind)) (class_texts checked.classes) checked.classes name
+sized checked (suc depth) name =
+    looked_up (λ (c : Class). weigh (sized checked depth) (body c.body.kind)) (class_texts checked.classes) checked.classes name
 
 -- the weight of what is still to be visited of what is open, from the inmost, where uses of classes go so deep
 abbrev pub heavy : Parts → List Frame → ℕ → ℕ
 heavy checked [] depth = 0
-heavy checked (frame.Listing members place listed ∷ fs) depth = 1 + weigh_in (sized checked depth) (trees (drop (place + 1) members.now)) + heavy checked fs depth
+heavy checked (frame.Listing members place listed ∷ fs) depth =
+    1 + weigh_in (sized checked depth) (trees (drop (place + 1) members.now)) + heavy checked fs depth
 heavy checked (frame.Joining members place joined ∷ fs) depth = 1 + weigh_in (sized checked depth) (trees (take place members.now)) + heavy checked fs depth
 heavy checked (frame.Using outside ∷ fs) depth = 1 + heavy checked fs outside.depth

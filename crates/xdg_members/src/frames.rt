@@ -78,7 +78,8 @@ impl<'a> Walk<'a> {
         requires enters { Enters checked.now (body self.old.whole.now) (open_in self.old) self.old.scope (body part.now) }
         ensures leaves { IfOk result (λ made. Leaves checked.now (body self.old.whole.now) (open_in self.new) self.new.scope made.items) }
         ensures same { IfOk result (λ _. body self.new.whole.now ≡ body self.old.whole.now) }
-        ensures less { IfOk result (λ _. heavy checked.now (open_in self.new) self.new.scope.depth < heavy checked.now (open_in self.old) self.old.scope.depth + weigh (sized checked.now self.old.scope.depth) (body part.now)) }
+        ensures less { IfOk result (λ _. heavy checked.now (open_in self.new) self.new.scope.depth
+            < heavy checked.now (open_in self.old) self.old.scope.depth + weigh (sized checked.now self.old.scope.depth) (body part.now)) }
     {
         let dims = checked.types().dims();
         let mut kind = part;
@@ -134,7 +135,8 @@ impl<'a> Walk<'a> {
         requires leaves { Leaves checked.now (body self.old.whole.now) (Frame.Listing members place listed ∷ open_in self.old) self.old.scope made.items }
         ensures leaves { IfOk result (λ next. Leaves checked.now (body self.old.whole.now) (open_in self.new) self.new.scope next.items) }
         ensures same { IfOk result (λ _. body self.new.whole.now ≡ body self.old.whole.now) }
-        ensures less { IfOk result (λ _. heavy checked.now (open_in self.new) self.new.scope.depth < heavy checked.now (Frame.Listing members.entry place listed ∷ open_in self.old) self.old.scope.depth) }
+        ensures less { IfOk result (λ _. heavy checked.now (open_in self.new) self.new.scope.depth
+            < heavy checked.now (Frame.Listing members.entry place listed ∷ open_in self.old) self.old.scope.depth) }
     {
         listed.append(&mut made)?;
         let next = place + 1;
@@ -158,7 +160,8 @@ impl<'a> Walk<'a> {
         requires leaves { Leaves checked.now (body self.old.whole.now) (Frame.Joining members place joined ∷ open_in self.old) self.old.scope made.items }
         ensures leaves { IfOk result (λ next. Leaves checked.now (body self.old.whole.now) (open_in self.new) self.new.scope next.items) }
         ensures same { IfOk result (λ _. body self.new.whole.now ≡ body self.old.whole.now) }
-        ensures less { IfOk result (λ _. heavy checked.now (open_in self.new) self.new.scope.depth < heavy checked.now (Frame.Joining members.entry place joined ∷ open_in self.old) self.old.scope.depth) }
+        ensures less { IfOk result (λ _. heavy checked.now (open_in self.new) self.new.scope.depth
+            < heavy checked.now (Frame.Joining members.entry place joined ∷ open_in self.old) self.old.scope.depth) }
     {
         let dims = checked.types().dims();
         let both = join_all(alloc, dims, made.as_slice(), joined.as_slice())?;
@@ -181,7 +184,8 @@ impl<'a> Walk<'a> {
         requires leaves { Leaves checked.now (body self.old.whole.now) (open_in self.old) self.old.scope made.items }
         ensures leaves { IfOk result (λ next. Leaves checked.now (body self.old.whole.now) (open_in self.new) self.new.scope next.items) }
         ensures same { IfOk result (λ _. body self.new.whole.now ≡ body self.old.whole.now) }
-        ensures less { IfOk result (λ _. heavy checked.now (open_in self.new) self.new.scope.depth ≤ heavy checked.now (open_in self.old) self.old.scope.depth - 1) }
+        ensures less { IfOk result (λ _. heavy checked.now (open_in self.new) self.new.scope.depth
+            ≤ heavy checked.now (open_in self.old) self.old.scope.depth - 1) }
     {
         let Some(frame) = self.frames.pop() else {
             return Ok(made);

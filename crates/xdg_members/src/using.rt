@@ -64,9 +64,11 @@ pub(crate) fn follow<'a>(
     requires ranked { IsRanked checked.now depth (calling name.now args.now) }
     requires right { IsRightUnder checked.now.types checked.now.classes bindings.now (calling name.now args.now) }
     ensures stands { IfOk result (λ used. Stands checked.now used.scope (body used.body.now)) }
-    ensures means { IfOk result (λ used. (ms : List spec.Partial) → Denotes checked.now.types.dims (named_bodies checked.now.classes) used.scope.bindings (body used.body.now) ms
+    ensures means { IfOk result (λ used. (ms : List spec.Partial)
+        → Denotes checked.now.types.dims (named_bodies checked.now.classes) used.scope.bindings (body used.body.now) ms
         → Denotes checked.now.types.dims (named_bodies checked.now.classes) bindings.now (calling name.now args.now) ms) }
-    ensures lighter { IfOk result (λ used. 1 + weigh (sized checked.now used.scope.depth) (body used.body.now) < weigh (sized checked.now depth) (calling name.now args.now)) }
+    ensures lighter { IfOk result (λ used. 1 + weigh (sized checked.now used.scope.depth) (body used.body.now)
+        < weigh (sized checked.now depth) (calling name.now args.now)) }
 {
     let mut class = class_of(checked, name.text.as_str());
     let mut inside = close_args(alloc, args, bindings)?;
