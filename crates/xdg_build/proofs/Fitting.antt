@@ -20,12 +20,11 @@ use Rattle.xdg_problem.specs.Vectors.{attr_sizes}
 use Rattle.xdg_types.specs.declared.table.DimType.{DimType}
 use Rattle.xdg_types.specs.Table.{Typed, typed}
 use Rattle.xdg_groups.specs.Grammars.{Grammar, no_dim, used_dims}
-use Rattle.xdg_groups.specs.Groups.{all_entries}
 use Rattle.xdg_build.specs.Plans.{shown_as, attr_plans, plan_at, plans}
 use Rattle.xdg_build.specs.Compiled.{candidates_of, compiled}
 use Rattle.xdg_build.specs.Solutions.{IsEntryOf, all_value_counts, IsEdge, IsAnalysisOf}
 use Rattle.xdg_build.proofs.Admitted.{IsAdmitted}
-use Rattle.xdg_build.proofs.Numbered.{number_stands, stands_numbered, at_itself}
+use Rattle.xdg_build.proofs.Numbered.{number_stands, stands_numbered}
 
 -- ---- entries
 
@@ -56,13 +55,6 @@ module _ (g : Grammar) where
   are_candidates_of [] (entry ∷ entries) h = h
   are_candidates_of (word ∷ words) [] h = h
   are_candidates_of (word ∷ words) (entry ∷ entries) h = (candidate_of word entry h.0, are_candidates_of words entries h.1)
-
-  -- each stands among all entries too
-  pub among_all : (words : List SentenceWord) (entries : List EntryNo) → HasCandidates (candidates_of g words) entries → HasCandidates (map (λ (word : SentenceWord). all_entries g) words) entries
-  among_all [] [] h = h
-  among_all [] (entry ∷ entries) h = h
-  among_all (word ∷ words) [] h = h
-  among_all (word ∷ words) (entry ∷ entries) h = (at_itself (length g.lexicon.entries) entry (entry_of word entry h.0).0, among_all words entries h.1)
 
 -- ---- attributes
 

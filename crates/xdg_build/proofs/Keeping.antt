@@ -1,82 +1,108 @@
 -- A compiled sentence keeps the solutions of the grammar.
-use Rattle.std.proofs.Common.{◌≡◌, ◌<◌, None, List, [], ◌∷◌, map, refl, sym, subst, All}
-use Rattle.std.specs.Prelude.{◌↔◌}
-use Rattle.std.specs.List.{AllZip, flat_map}
+use Rattle.std.proofs.Common.{◌≡◌, ◌<◌, Bool, true, cond, None, List, [], ◌∷◌, map, refl, sym, subst, inl, inr, All}
+use Rattle.std.specs.Prelude.{◌↔◌, filter, get_or}
+use Rattle.std.specs.List.{AllZip}
+use Rattle.std.proofs.lemmas.Bool.{cases_Bool}
 use Rattle.std.proofs.lemmas.List.{get_or-map, length-map}
-use Rattle.std.proofs.lemmas.List.Elements.{All-map, All-weaker}
-use Rattle.xdg_base.specs.declared.ids.EntryNo.{EntryNo}
+use Rattle.std.proofs.lemmas.List.Elements.{All-map}
+use Rattle.xdg_faults.specs.First.{In}
 use Rattle.xdg_problem.specs.declared.analysis.Analysis.{Analysis}
 use Rattle.xdg_problem.specs.declared.parts.Group.{Group}
 use Rattle.xdg_problem.specs.declared.parts.Parts.{Parts}
 use Rattle.xdg_problem.specs.declared.parts.SentenceWord.{SentenceWord}
-use Rattle.xdg_problem.specs.Analyses.{HasCandidates, IsAnalysis}
+use Rattle.xdg_problem.specs.Analyses.{IsAnalysis}
 use Rattle.xdg_problem.specs.Relations.{Relation}
 use Rattle.xdg_problem.specs.Solutions as compiled
+use Rattle.xdg_types.specs.Table.{IsTable}
+use Rattle.xdg_entries.specs.Entries.{IsRightLexicon}
 use Rattle.xdg_principles.specs.declared.building.PrincipleUse.{PrincipleUse}
-use Rattle.xdg_groups.specs.Grammars.{Grammar}
-use Rattle.xdg_groups.specs.Groups.{called, attrs_in, labels_in, truths_in, dims_of, features_at, group_of, used_uses, groups_of, all_entries}
-use Rattle.xdg_build.specs.Plans.{plans}
-use Rattle.xdg_build.specs.Compiled.{over, candidates_of, compiled}
+use Rattle.xdg_principles.specs.Typed.{AreTypedUses}
+use Rattle.xdg_check.specs.Checked.{IsChecked}
+use Rattle.xdg_check.specs.Checked as checked
+use Rattle.xdg_packed.specs.Lexicon.{Lexicon}
+use Rattle.xdg_groups.specs.Grammars.{Grammar, grammar_of, is_used}
+use Rattle.xdg_groups.specs.Groups.{group_of, used_uses}
+use Rattle.xdg_groups.proofs.Lists.{in_at}
+use Rattle.xdg_build.specs.Compiled.{candidates_of, compiled}
+use Rattle.xdg_build.specs.Principles.{Satisfies}
 use Rattle.xdg_build.specs.Refusals.{refusal}
-use Rattle.xdg_build.specs.Solutions.{Satisfies, IsSolutionOf, KeepsSolutions}
+use Rattle.xdg_build.specs.Solutions.{IsSolutionOf, KeepsSolutions}
 use Rattle.xdg_build.proofs.Admitted.{IsAdmitted, is_admitted}
-use Rattle.xdg_build.proofs.Along.{relation_along}
-use Rattle.xdg_build.proofs.Fitting.{among_all, same_analyses}
-use Rattle.xdg_build.proofs.Rows.{spread, same_rows}
+use Rattle.xdg_build.proofs.Fitting.{same_analyses}
+use Rattle.xdg_build.proofs.Satisfied.{Given, satisfied_same}
 
-zip_map : {A B : Type 0} (R : A → B → Type 0) (f : A → B) (xs : List A) → ((x : A) → R x (f x)) → AllZip R xs (map f xs)
+-- ---- lists
+
+zip_map : {A B : Type 0} (R : A → B → Type 0) (f : A → B) (xs : List A) → ((x : A) → In xs x → R x (f x)) → AllZip R xs (map f xs)
 zip_map R f [] h = tt
-zip_map R f (x ∷ xs) h = (h x, zip_map R f xs h)
+zip_map R f (x ∷ xs) h = (h x (inl refl), zip_map R f xs (λ y i. h y (inr i)))
 
 unmapped : {A B : Type 0} (P : B → Type 0) (f : A → B) (xs : List A) → All P (map f xs) → All (λ x. P (f x)) xs
 unmapped P f xs all k d within = subst P (get_or-map f xs k d (f d) within) (all k (f d) (subst (λ n. k < n) (sym (length-map xs f)) within))
 
-module _ (g : Grammar) (words : List SentenceWord) (a : Analysis) where
-  abbrev own : List (List EntryNo)
-  own = candidates_of g words
+along : {A : Type 0} (P Q : A → Type 0) (xs : List A) → ((x : A) → In xs x → P x → Q x) → All P xs → All Q xs
+along P Q xs h all k d within = h (get_or xs k d) (in_at xs k d within) (all k d within)
 
-  abbrev every : List (List EntryNo)
-  every = map (λ (word : SentenceWord). all_entries g) words
+in_filter : {A : Type 0} (p : A → Bool) (xs : List A) (x : A) → In (filter p xs) x → In xs x × (p x ≡ true)
+in_filter p [] x h = absurd h
+in_filter p (y ∷ ys) x h = elim (cases_Bool (p y)) [
+  | inl t ↦ (
+      let one : In (y ∷ filter p ys) x = subst (λ b. In (cond b (y ∷ filter p ys) (filter p ys)) x) t h in
+      elim one [
+        | inl e ↦ (inl e, subst (λ z. p z ≡ true) e t)
+        | inr r ↦ (let more = in_filter p ys x r in (inr more.0, more.1))
+      ]
+      )
+  | inr f ↦ (
+      let one : In (filter p ys) x = subst (λ b. In (cond b (y ∷ filter p ys) (filter p ys)) x) f h in
+      let more = in_filter p ys x one in
+      (inr more.0, more.1)
+      )
+]
 
-  -- whether a principle use is satisfied doesn't go by the candidates
-  goes_over : (u : PrincipleUse) (c d : List (List EntryNo)) → HasCandidates c a.entries → HasCandidates d a.entries → Relation (over g words c) (group_of g c u) a → Relation (over g words d) (group_of g d u) a
-  goes_over u c d h k =
-      relation_along (called u.principle) (dims_of g u) (flat_map attrs_in u.args) (flat_map labels_in u.args) (flat_map truths_in u.args) (spread (features_at g u) c) (spread (features_at g u) d)
-      words (plans g) c d (groups_of g c) (groups_of g d) a (same_rows (features_at g u) (group_of g c u) (group_of g d u) c d a.entries refl refl h k)
+-- ---- solutions
 
-  module _ (is : IsAnalysis (compiled g words) a) where
-    satisfied : (u : PrincipleUse) → Satisfies g words a u ↔ Relation (compiled g words) (group_of g own u) a
-    satisfied u =
-        let all : HasCandidates every a.entries = among_all g words a.entries is.entries in
-        (goes_over u every own all is.entries, goes_over u own every is.entries all)
+module _ (g : Grammar) (words : List SentenceWord) (table : IsTable g.table) (typed : AreTypedUses g.table g.uses) (lexicon : IsRightLexicon g.table g.lexicon.entries) (admitted : IsAdmitted g words) where
+  abbrev of_use : PrincipleUse → Group
+  of_use = group_of g (candidates_of g words)
+
+  module _ (a : Analysis) (is : IsAnalysis (compiled g words) a) where
+    given : (u : PrincipleUse) → In (used_uses g) u → Given g words a u
+    given u i =
+        let both = in_filter (λ (one : PrincipleUse). is_used g.table one.home) g.uses u i in
+        record { table = table; lexicon = lexicon; used = both.1; right = typed u both.0; fit = is; is = (same_analyses g words admitted a).0 is }
+
+    satisfied : (u : PrincipleUse) → In (used_uses g) u → Satisfies g words a u ↔ Relation (compiled g words) (of_use u) a
+    satisfied u i = satisfied_same g words a u (given u i)
 
     each_use : AllZip (λ (u : PrincipleUse) (group : Group). Satisfies g words a u ↔ Relation (compiled g words) group a) (used_uses g) (compiled g words).groups
-    each_use = zip_map (λ (u : PrincipleUse) (group : Group). Satisfies g words a u ↔ Relation (compiled g words) group a) (group_of g own) (used_uses g) satisfied
+    each_use = zip_map (λ (u : PrincipleUse) (group : Group). Satisfies g words a u ↔ Relation (compiled g words) group a) of_use (used_uses g) satisfied
 
     all_satisfied : All (λ (group : Group). Relation (compiled g words) group a) (compiled g words).groups → All (Satisfies g words a) (used_uses g)
     all_satisfied all =
-        All-weaker (λ (u : PrincipleUse). Relation (compiled g words) (group_of g own u) a) (Satisfies g words a) (λ u. (satisfied u).1) (used_uses g)
-        (unmapped (λ (group : Group). Relation (compiled g words) group a) (group_of g own) (used_uses g) all)
+        along (λ (u : PrincipleUse). Relation (compiled g words) (of_use u) a) (Satisfies g words a) (used_uses g) (λ u i. (satisfied u i).1)
+        (unmapped (λ (group : Group). Relation (compiled g words) group a) of_use (used_uses g) all)
 
     all_related : All (Satisfies g words a) (used_uses g) → All (λ (group : Group). Relation (compiled g words) group a) (compiled g words).groups
     all_related all =
-        All-map (λ (group : Group). Relation (compiled g words) group a) (group_of g own) (used_uses g)
-        (All-weaker (Satisfies g words a) (λ (u : PrincipleUse). Relation (compiled g words) (group_of g own u) a) (λ u. (satisfied u).0) (used_uses g) all)
+        All-map (λ (group : Group). Relation (compiled g words) group a) of_use (used_uses g)
+        (along (Satisfies g words a) (λ (u : PrincipleUse). Relation (compiled g words) (of_use u) a) (used_uses g) (λ u i. (satisfied u i).0) all)
 
-solution_of : (g : Grammar) (words : List SentenceWord) → IsAdmitted g words → (a : Analysis) → compiled.IsSolution (compiled g words) a → IsSolutionOf g words a
-solution_of g words admitted a h = record { fits = (same_analyses g words admitted a).0 h.fits; each = all_satisfied g words a h.fits h.each }
+  solution_of : (a : Analysis) → compiled.IsSolution (compiled g words) a → IsSolutionOf g words a
+  solution_of a h = record { fits = (same_analyses g words admitted a).0 h.fits; each = all_satisfied a h.fits h.each }
 
-of_solution : (g : Grammar) (words : List SentenceWord) → IsAdmitted g words → (a : Analysis) → IsSolutionOf g words a → compiled.IsSolution (compiled g words) a
-of_solution g words admitted a h = let is : IsAnalysis (compiled g words) a = (same_analyses g words admitted a).1 h.fits in record { fits = is; each = all_related g words a is h.each }
+  of_solution : (a : Analysis) → IsSolutionOf g words a → compiled.IsSolution (compiled g words) a
+  of_solution a h = let is : IsAnalysis (compiled g words) a = (same_analyses g words admitted a).1 h.fits in record { fits = is; each = all_related a is h.each }
 
-pub keeps_solutions : (g : Grammar) (words : List SentenceWord) → refusal g words ≡ None → KeepsSolutions g words (compiled g words)
-keeps_solutions g words good =
-    let admitted : IsAdmitted g words = is_admitted g words good in
-    record {
-      fits = same_analyses g words admitted;
-      uses = each_use g words;
-      solutions = λ a. (solution_of g words admitted a, of_solution g words admitted a);
-    }
+  keeps_solutions : KeepsSolutions g words (compiled g words)
+  keeps_solutions = record {
+    fits = same_analyses g words admitted;
+    uses = each_use;
+    solutions = λ a. (solution_of a, of_solution a);
+  }
 
-pub made_keeps_solutions : (g : Grammar) (words : List SentenceWord) (parts : Parts) → refusal g words ≡ None → parts ≡ compiled g words → KeepsSolutions g words parts
-made_keeps_solutions g words parts good same = subst (KeepsSolutions g words) (sym same) (keeps_solutions g words good)
+pub made_keeps_solutions : (parts : checked.Parts) (lexicon : Lexicon) (words : List SentenceWord) (made : Parts) → IsChecked parts → IsRightLexicon parts.types lexicon.entries → refusal (grammar_of parts lexicon) words ≡ None → made ≡ compiled (grammar_of parts lexicon) words
+    → KeepsSolutions (grammar_of parts lexicon) words made
+made_keeps_solutions parts lexicon words made is right good same =
+    let g : Grammar = grammar_of parts lexicon in
+    subst (KeepsSolutions g words) (sym same) (keeps_solutions g words is.types is.principles right (is_admitted g words good))

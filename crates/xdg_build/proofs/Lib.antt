@@ -1,5 +1,10 @@
 pub mod Rows
-pub mod Along
+pub mod Conditions
+pub mod Values
+pub mod Readings
+pub mod Arguments
+pub mod Told
+pub mod Satisfied
 pub mod Numbered
 pub mod Admitted
 pub mod Fitting

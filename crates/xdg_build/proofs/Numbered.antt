@@ -51,12 +51,6 @@ rising_numbers xs rise i j d before within =
     let rises : get_or xs i d.0 < get_or xs j d.0 = rise i j d.0 before inside in
     omega (arith, ap (λ (n : EntryNo). n.0) here, ap (λ (n : EntryNo). n.0) next, rises)
 
--- Each number below a count stands at its own place among all.
-pub at_itself : (count : ℕ) (entry : EntryNo) → entry.0 < count → Contains (map number (range_with_len 0 count)) entry
-at_itself count entry within =
-    numbers_contain (range_with_len 0 count) entry
-    (entry.0, subst (λ n. entry.0 < n) (sym (length-range_with_len 0 count)) within, (let e : get_or (range_with_len 0 count) entry.0 entry.0 ≡ 0 + entry.0 = get_or-range_with_len 0 count entry.0 entry.0 within in omega (arith, e)))
-
 module _ (words : List (List ℕ)) (word : List ℕ) where
   abbrev stands : ℕ → Bool
   stands place = bytes_eq (get_or words place []) word

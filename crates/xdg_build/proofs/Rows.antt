@@ -1,12 +1,9 @@
--- The rows of a node's entry: the same whatever the candidates are among which the entry stands.
+-- What belongs to a node's entry, whatever the candidates are among which the entry stands.
 use Rattle.std.proofs.Common.{◌≡◌, ℕ, ◌<◌, zero, suc, Bool, true, false, List, [], ◌∷◌, length, map, cond, refl, sym, ap, ◌∙◌, arith}
 use Rattle.std.specs.Prelude.{◌==◌, Contains, slice_index, slice_index_or}
 use Rattle.std.proofs.lemmas.Bool.{eqb-true, eq-eqb}
 use Rattle.xdg_base.specs.declared.ids.EntryNo.{EntryNo}
-use Rattle.xdg_problem.specs.declared.parts.Feat.{Feat}
-use Rattle.xdg_problem.specs.declared.parts.Group.{Group}
 use Rattle.xdg_problem.specs.Analyses.{HasCandidates}
-use Rattle.xdg_problem.specs.Features.{row}
 use Rattle.xdg_problem.specs.Vectors.{place_among, entry_places}
 
 entry_equal : (a b : EntryNo) → a.0 ≡ b.0 → a ≡ b
@@ -33,15 +30,3 @@ module _ {A : Type 0} (F : EntryNo → List A) where
   of_entries (numbers ∷ more) [] h u = absurd h
   of_entries (numbers ∷ more) (entry ∷ entries) h zero = at_its_place numbers entry h.0
   of_entries (numbers ∷ more) (entry ∷ entries) h (suc u) = of_entries more entries h.1 u
-
--- the features of entries for each node and each of its candidates
-abbrev pub spread : (EntryNo → List Feat) → List (List EntryNo) → List (List (List Feat))
-spread F candidates = map (λ numbers. map F numbers) candidates
-
--- Two lists of candidates of the same entries give each node the same rows.
-pub same_rows : (F : EntryNo → List Feat) (one two : Group) (c d : List (List EntryNo)) (entries : List EntryNo) → one.feats ≡ spread F c → two.feats ≡ spread F d → HasCandidates c entries → HasCandidates d entries
-    → (u argument label : ℕ) → row one u (slice_index (entry_places c entries) u) argument label ≡ row two u (slice_index (entry_places d entries) u) argument label
-same_rows F one two c d entries e f h k u argument label =
-    let G : List (List (List Feat)) → List (List EntryNo) → List Feat = λ feats among. slice_index_or (slice_index_or feats u []) (slice_index (entry_places among entries) u) [] in
-    let same : G one.feats c ≡ G two.feats d = ap (λ feats. G feats c) e ∙ of_entries F c entries h u ∙ sym (of_entries F d entries k u) ∙ sym (ap (λ feats. G feats d) f) in
-    ap (λ (features : List Feat). slice_index_or (slice_index_or features argument (record { rows = [] })).rows label []) same

@@ -5,7 +5,7 @@ use Rattle.xdg_packed.specs.Lexicon.{words_of, numbers_of}
 use Rattle.xdg_problem.specs.declared.parts.Parts.{Parts}
 use Rattle.xdg_problem.specs.declared.parts.SentenceWord.{SentenceWord}
 use Rattle.xdg_groups.specs.Grammars.{Grammar}
-use Rattle.xdg_groups.specs.Groups.{all_entries, groups_of}
+use Rattle.xdg_groups.specs.Groups.{groups_of}
 use Rattle.xdg_build.specs.Plans.{plans}
 
 -- the problem of nodes that may have these entries
@@ -19,8 +19,3 @@ candidates_of g words = map (λ word. numbers_of (words_of g.lexicon) word.text)
 -- each node may have the entries of its word
 abbrev pub compiled : Grammar → List SentenceWord → Parts
 compiled g words = over g words (candidates_of g words)
-
--- The grammar over so many nodes, whatever their words are: each may have any entry of the lexicon, and the place of an
--- entry among them is its number.
-abbrev pub whole : Grammar → List SentenceWord → Parts
-whole g words = over g words (map (λ word. all_entries g) words)

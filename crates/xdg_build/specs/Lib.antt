@@ -1,4 +1,6 @@
 pub mod Plans
 pub mod Compiled
 pub mod Refusals
+pub mod Readings
+pub mod Principles
 pub mod Solutions

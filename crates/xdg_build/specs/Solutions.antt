@@ -18,9 +18,9 @@ use Rattle.xdg_principles.specs.declared.building.PrincipleUse.{PrincipleUse}
 use Rattle.xdg_types.specs.declared.table.DimType.{DimType}
 use Rattle.xdg_types.specs.Table.{typed}
 use Rattle.xdg_groups.specs.Grammars.{Grammar, used_dims, no_dim}
-use Rattle.xdg_groups.specs.Groups.{all_entries, group_of, used_uses}
+use Rattle.xdg_groups.specs.Groups.{used_uses}
 use Rattle.xdg_build.specs.Plans.{has_graph}
-use Rattle.xdg_build.specs.Compiled.{whole}
+use Rattle.xdg_build.specs.Principles.{Satisfies}
 
 -- ---- fit
 
@@ -56,12 +56,7 @@ pub record IsAnalysisOf (g : Grammar) (words : List SentenceWord) (a : Analysis)
   pub edges : All (IsEdge g (length words)) a.edges
   pub rise : EdgesRise a.edges
 
--- ---- relations
-
--- The analysis satisfies a principle use: the relation of its principle, where the features of a node are those of the entry of
--- the lexicon that it has.
-abbrev pub Satisfies : Grammar → List SentenceWord → Analysis → PrincipleUse → Type 0
-Satisfies g words a u = Relation (whole g words) (group_of g (map (λ word. all_entries g) words) u) a
+-- ---- solutions
 
 -- a solution: an analysis that satisfies each principle use of each used dimension
 pub record IsSolutionOf (g : Grammar) (words : List SentenceWord) (a : Analysis) : Type 0 where
@@ -74,5 +69,6 @@ pub record IsSolutionOf (g : Grammar) (words : List SentenceWord) (a : Analysis)
 -- relation of its group holds; so the solutions of the problem are those of the grammar.
 pub record KeepsSolutions (g : Grammar) (words : List SentenceWord) (parts : Parts) : Type 0 where
   pub fits : (a : Analysis) → IsAnalysis parts a ↔ IsAnalysisOf g words a
-  pub uses : (a : Analysis) → IsAnalysis parts a → AllZip (λ (u : PrincipleUse) (group : Group). Satisfies g words a u ↔ Relation parts group a) (used_uses g) parts.groups
+  pub uses : (a : Analysis) → IsAnalysis parts a
+      → AllZip (λ (u : PrincipleUse) (group : Group). Satisfies g words a u ↔ Relation parts group a) (used_uses g) parts.groups
   pub solutions : (a : Analysis) → compiled.IsSolution parts a ↔ IsSolutionOf g words a

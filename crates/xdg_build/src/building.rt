@@ -4,6 +4,7 @@ ghost use Rattle.std.specs.Prelude.{◌≡◌, None, IfOk, IfErr};
 ghost use Rattle.xdg_build.specs.Compiled.{compiled};
 ghost use Rattle.xdg_build.specs.Refusals.{refusal, IsRefused};
 ghost use Rattle.xdg_build.specs.Solutions.{KeepsSolutions};
+ghost use Rattle.xdg_check.specs.Checked.{IsChecked};
 ghost use Rattle.xdg_entries.specs.Entries.{IsRightLexicon, IsWordPlace};
 ghost use Rattle.xdg_groups.specs.Grammars.{grammar_of};
 
@@ -27,7 +28,8 @@ fn compile(
     requires lexicon { IsRightLexicon checked.now.types packed.now.entries }
     requires place { IsWordPlace checked.now.types packed.now.dim packed.now.field }
     requires admitted { refusal (grammar_of checked.now packed.now) words ≡ None }
-    ensures { IfOk result (λ problem. problem ≡ compiled (grammar_of checked.now packed.now) words) }
+    ensures compiled { IfOk result (λ problem. problem ≡ compiled (grammar_of checked.now packed.now) words) }
+    ensures keeps { IfOk result (λ _. IsChecked checked.now) }
 {
     let candidates = candidates(alloc, packed, words.as_slice())?;
     let dims = plans(alloc, checked)?;

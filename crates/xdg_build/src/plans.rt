@@ -3,10 +3,11 @@
 ghost use Rattle.std.specs.Prelude.{◌≡◌, ◌<◌, length, map, All, IfOk};
 ghost use Rattle.std.specs.List.{list_any};
 ghost use Rattle.xdg_build.specs.Plans as spec;
+ghost use Rattle.xdg_check.specs.Checked.{IsChecked};
 ghost use Rattle.xdg_domain.specs.Shapes.{shape, IsSmall};
 ghost use Rattle.xdg_groups.specs.Grammars.{grammar_of};
 ghost use Rattle.xdg_packed.specs.Lexicon.{Lexicon};
-ghost use Rattle.xdg_types.specs.Table.{typed, AreAttributes, KeepDims, IsTable};
+ghost use Rattle.xdg_types.specs.Table.{typed, AreAttributes, KeepDims};
 
 use crate::shown::shown;
 use std::alloc::{AllocError, Global};
@@ -112,7 +113,7 @@ fn plans_of(
 /// The used dimensions, in the order of their uses. They don't go by the lexicon.
 pub(crate) fn plans(alloc: Global, checked: &Checked) -> Result<List<DimPlan>, AllocError>
     ensures plans { IfOk result (λ made. (lexicon : Lexicon) → made ≡ spec.plans (grammar_of checked.now lexicon)) }
-    ensures keeps { IsTable checked.now.types }
+    ensures keeps { IsChecked checked.now }
 {
     let types = checked.types();
     plans_of(alloc, checked, types.dims(), types.used())

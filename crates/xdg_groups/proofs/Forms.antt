@@ -51,7 +51,7 @@ form_of principles.LinkingAboveStart = linking labels_to_labels
 form_of principles.LinkingSisters = linking labels_to_labels
 form_of principles.LinkingNotDaughter = linking (t.Set (e.Labels w.First))
 
-form-name_of : (p : Principle) → principle_named (name_of p) ≡ Some (form_of p)
+pub form-name_of : (p : Principle) → principle_named (name_of p) ≡ Some (form_of p)
 unfolding principle_named
 form-name_of principles.Graph = refl
 form-name_of principles.Entries = refl
@@ -101,7 +101,7 @@ matches : Matches in_table table.principles
 unfolding in_table
 matches = (refl, (refl, (refl, (refl, (refl, (refl, (refl, (refl, (refl, (refl, (refl, (refl, (refl, (refl, (refl, (refl, (refl, (refl, (refl, tt)))))))))))))))))))
 
-one_of_them : (name : List ℕ) (form : Form) → principle_named name ≡ Some form → (p : Principle) × (name ≡ name_of p)
+pub one_of_them : (name : List ℕ) (form : Form) → principle_named name ≡ Some form → (p : Principle) × (name ≡ name_of p)
 unfolding principle_named
 one_of_them name form h = found name in_table table.principles form matches h
 

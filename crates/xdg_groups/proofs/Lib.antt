@@ -1,13 +1,13 @@
 mod Turns
 mod Cardinalities
-mod Calling
-mod Forms
-mod Lists
+pub mod Calling
+pub mod Forms
+pub mod Lists
 mod Kept
-mod Dimensions
-mod Named
-mod Values
+pub mod Dimensions
+pub mod Named
+pub mod Values
 mod Listed
-mod Said
+pub mod Said
 mod Taken
-mod Right
+pub mod Right

@@ -66,10 +66,10 @@ pub record Use (g : Grammar) (u : PrincipleUse) (q : Principle) : Type 0 where
 
 -- ---- dimensions
 
-dim_count : (g : Grammar) (u : PrincipleUse) (q : Principle) → Use g u q → length u.dims ≡ length (dims_in (form_of q).dims)
+pub dim_count : (g : Grammar) (u : PrincipleUse) (q : Principle) → Use g u q → length u.dims ≡ length (dims_in (form_of q).dims)
 dim_count g u q use_of = use_of.typed.count ∙ ap (λ form. length (dims_in form.dims)) use_of.form
 
-args_of : (g : Grammar) (u : PrincipleUse) (q : Principle) (one : Use g u q) → AreTypedArgs g.table u one.typed.shared (parameters (form_of q)) u.args
+pub args_of : (g : Grammar) (u : PrincipleUse) (q : Principle) (one : Use g u q) → AreTypedArgs g.table u one.typed.shared (parameters (form_of q)) u.args
 args_of g u q one = subst (λ form. AreTypedArgs g.table u one.typed.shared (parameters form) u.args) one.form one.typed.args
 
 abbrev dim_id : ℕ → DimId
@@ -184,7 +184,7 @@ right g candidates parts u q one lexicon within suits =
 
 -- ---- all uses
 
-use_of : (g : Grammar) (u : PrincipleUse) → IsTypedUse g.table u → is_used g.table u.home ≡ true → Use g u (called u.principle)
+pub use_of : (g : Grammar) (u : PrincipleUse) → IsTypedUse g.table u → is_used g.table u.home ≡ true → Use g u (called u.principle)
 use_of g u typed_so used = record { typed = typed_so; used = used; form = form_called u.principle typed_so.form typed_so.known }
 
 group_right : (g : Grammar) (candidates : List (List EntryNo)) (parts : Parts) (u : PrincipleUse) → IsTypedUse g.table u → is_used g.table u.home ≡ true → IsRightLexicon g.table g.lexicon.entries → All (All (λ entry. entry.0 < length g.lexicon.entries)) candidates

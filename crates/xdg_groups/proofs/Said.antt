@@ -35,7 +35,7 @@ told (Some x) P h = (x, refl, h)
 same_type : (one : List ℕ × Shape) (name : List ℕ) (type : Shape) → Some one ≡ Some (name, type) → one.1 ≡ type
 same_type one name type h = ap (λ (f : List ℕ × Shape). f.1) (some_same one (name, type) h)
 
-filled_at : (all : Typed) (place at k : ℕ) (name : List ℕ) (type : Shape) (m : Record) → at ≡ place + k → slice_get all k ≡ Some (name, type) → AreFilled place (fields_of all) m → (x : Value) × (said_at m at ≡ Some x) × IsFilledIn type (out-Value x)
+pub filled_at : (all : Typed) (place at k : ℕ) (name : List ℕ) (type : Shape) (m : Record) → at ≡ place + k → slice_get all k ≡ Some (name, type) → AreFilled place (fields_of all) m → (x : Value) × (said_at m at ≡ Some x) × IsFilledIn type (out-Value x)
 filled_at [] place at k name type m same h filled = absurd (none_some (name, type) h)
 filled_at (one ∷ all) place at zero name type m same h filled =
     let here : place ≡ at = omega (arith, same) in
@@ -43,18 +43,18 @@ filled_at (one ∷ all) place at zero name type m same h filled =
     (subst (λ u. MatchOption (said_at m at) ⊥ (λ x. IsFilledIn u (out-Value x))) (same_type one name type h) (subst (λ n. MatchOption (said_at m n) ⊥ (λ x. IsFilledIn one.1 (out-Value x))) here filled.0))
 filled_at (one ∷ all) place at (suc k) name type m same h filled = filled_at all (place + 1) at k name type m (omega (arith, same)) h filled.1
 
-field_in : (all : Typed) (k : ℕ) (name : List ℕ) (type : Shape) (x : Value) → slice_get all k ≡ Some (name, type) → IsFieldOf (fields_of all) k x → IsIn type (out-Value x)
+pub field_in : (all : Typed) (k : ℕ) (name : List ℕ) (type : Shape) (x : Value) → slice_get all k ≡ Some (name, type) → IsFieldOf (fields_of all) k x → IsIn type (out-Value x)
 field_in [] k name type x h is = absurd is
 field_in (one ∷ all) zero name type x h is = subst (λ u. IsIn u (out-Value x)) (same_type one name type h) is
 field_in (one ∷ all) (suc k) name type x h is = field_in all k name type x h is
 
-each_of : (dim : DimType) (m : Record) → IsWhole dim m → EachSaid (IsFieldOf (fields_of (typed dim.fields))) m
+pub each_of : (dim : DimType) (m : Record) → IsWhole dim m → EachSaid (IsFieldOf (fields_of (typed dim.fields))) m
 each_of dim m whole = (subst (λ x. IsIn (record_type dim) x) (v.outs-Rec m) whole.0).1
 
-filled_of : (dim : DimType) (m : Record) → IsWhole dim m → AreFilled 0 (fields_of (typed dim.fields)) m
+pub filled_of : (dim : DimType) (m : Record) → IsWhole dim m → AreFilled 0 (fields_of (typed dim.fields)) m
 filled_of dim m whole = subst (λ x. IsFilledIn (record_type dim) x) (v.outs-Rec m) whole.1
 
-zero_first : (k : ℕ) → k ≡ 0 + k
+pub zero_first : (k : ℕ) → k ≡ 0 + k
 zero_first k = omega arith
 
 said_rows : (labels : Which → List (List ℕ)) (shared : Shape) (typing : Typing) (dim : DimType) (m : Record) (place : ℕ) (name : List ℕ) (type : Shape) → IsWhole dim m → slice_get (typed dim.fields) place ≡ Some (name, type) → IsTypedAs labels shared typing type

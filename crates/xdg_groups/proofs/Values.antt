@@ -26,7 +26,7 @@ use Rattle.xdg_groups.proofs.Lists.{all_none, all_cons, all_one}
 
 -- ---- how many elements
 
-sizes_again : (ss : Shapes) → sizes ss ≡ map length (constants_of ss)
+pub sizes_again : (ss : Shapes) → sizes ss ≡ map length (constants_of ss)
 sizes_again no_shape = refl
 sizes_again (shape_then s ss) = ap (λ ns. length (constants s) ∷ ns) (sizes_again ss)
 
@@ -69,7 +69,7 @@ set_right bound ns rising h = record { rising = rising; small = all_below bound 
 
 -- ---- what is said of each key
 
-is_said : {V : Type 0} (Q : V → Type 0) (o : Option V) → MatchOption o ⊥ Q → o ≡ None → ⊥
+pub is_said : {V : Type 0} (Q : V → Type 0) (o : Option V) → MatchOption o ⊥ Q → o ≡ None → ⊥
 is_said Q None h is = h
 is_said Q (Some x) h is = absurd (cc is)
 

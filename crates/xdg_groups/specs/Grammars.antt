@@ -1,14 +1,11 @@
 -- What sentences are compiled with.
 use Rattle.std.specs.Prelude.{ℕ, suc, ◌==◌, Bool, List, [], ◌∷◌, cond, map, get_or}
 use Rattle.std.specs.List.{list_any}
-use Rattle.xdg_faults.specs.First.{In}
 use Rattle.xdg_types.specs.declared.table.DimType.{DimType}
-use Rattle.xdg_types.specs.Table.{Table, IsTable}
+use Rattle.xdg_types.specs.Table.{Table}
 use Rattle.xdg_principles.specs.declared.building.PrincipleUse.{PrincipleUse}
-use Rattle.xdg_principles.specs.Typed.{IsTypedUse}
 use Rattle.xdg_check.specs.Checked.{Parts}
 use Rattle.xdg_packed.specs.Lexicon.{Lexicon}
-use Rattle.xdg_entries.specs.Entries.{IsRightLexicon, IsWordPlace}
 
 -- the types, the principle uses and the expanded lexicon of a grammar, and where its entries say their words
 pub record Grammar : Type 0 where
@@ -18,13 +15,6 @@ pub record Grammar : Type 0 where
 
 abbrev pub grammar_of : Parts → Lexicon → Grammar
 grammar_of checked lexicon = record { table = checked.types; uses = checked.principles; lexicon = lexicon }
-
--- what such a grammar keeps
-pub record IsGrammar (g : Grammar) : Type 0 where
-  pub table : IsTable g.table
-  pub typed : (u : PrincipleUse) → In g.uses u → IsTypedUse g.table u
-  pub lexicon : IsRightLexicon g.table g.lexicon.entries
-  pub words : IsWordPlace g.table g.lexicon.dim g.lexicon.field
 
 -- ---- used dimensions
 

@@ -1,6 +1,5 @@
 -- Principle uses compiled.
-use Rattle.std.specs.Prelude.{ℕ, Bool, List, [], ◌∷◌, cond, map, filter, flat_map, length, get_or, bytes_eq}
-use Rattle.std.specs.List.{range_with_len}
+use Rattle.std.specs.Prelude.{ℕ, Bool, List, [], ◌∷◌, cond, map, filter, flat_map, get_or, bytes_eq}
 use Rattle.xdg_base.specs.declared.ids.AttrId.{AttrId}
 use Rattle.xdg_base.specs.declared.ids.DimId.{DimId}
 use Rattle.xdg_base.specs.declared.ids.EntryNo.{EntryNo}
@@ -86,7 +85,3 @@ used_uses g = filter (λ u. is_used g.table u.home) g.uses
 
 abbrev pub groups_of : Grammar → List (List EntryNo) → List Group
 groups_of g candidates = map (group_of g candidates) (used_uses g)
-
--- all entries of the lexicon, by their numbers
-abbrev pub all_entries : Grammar → List EntryNo
-all_entries g = map (λ n. record { 0 = n }) (range_with_len 0 (length g.lexicon.entries))

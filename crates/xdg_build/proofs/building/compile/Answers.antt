@@ -12,7 +12,7 @@ compile_uses-requires-clause-candidates c =
 
 pub of-requires : goal.of-requires
 of-requires c =
-    made_is_problem (grammar_of c.args.checked.now c.args.packed.now) c.args.words c.in_ok-candidates.candidates c.in_ok-dims.dims c.in_ok-groups.groups c.plans.ensures.keeps c.requires.lexicon c.requires.place c.requires.admitted
+    made_is_problem (grammar_of c.args.checked.now c.args.packed.now) c.args.words c.in_ok-candidates.candidates c.in_ok-dims.dims c.in_ok-groups.groups c.plans.ensures.keeps.types c.requires.lexicon c.requires.place c.requires.admitted
     (c.in_ok-candidates.ensures ∙ ap (map (λ word. numbers_of (words_of c.args.packed.now) word.text)) c.as_slice.ensures)
     (c.in_ok-dims.ensures.plans c.args.packed.now)
     (λ parts suits. c.in_ok-groups.ensures.groups parts (subst (λ numbers. Suits (grammar_of c.args.checked.now c.args.packed.now) numbers parts) (sym c.as_slice-2.ensures) suits))

@@ -1,0 +1,333 @@
+-- The conditions of principles over tuples of numbers, and the same said of nodes and edges in other words.
+use Rattle.std.proofs.Common.{◌≡◌, ℕ, ◌<◌, ◌↔◌, true, List, [], ◌∷◌, ◌++◌, length, get_or, map, refl, sym, ap, ◌∙◌, subst, arith}
+use Rattle.std.specs.Prelude.{◌≤◌, All, Any, AllPairs, Contains, slice_index}
+use Rattle.std.proofs.lemmas.List.{get_or-map, length-map}
+use Rattle.std.proofs.lemmas.List.Elements.{All-contains, Contains-push}
+use Rattle.xdg_problem.specs.declared.analysis.Edge.{Edge}
+use Rattle.xdg_problem.specs.declared.conditions.Condition.{Condition}
+use Rattle.xdg_problem.specs.declared.conditions.Condition.TheVariants as conditions
+use Rattle.xdg_problem.specs.declared.parts.Group.{Group}
+use Rattle.xdg_problem.specs.declared.parts.Parts.{Parts}
+use Rattle.xdg_problem.specs.declared.parts.Principle.{Principle}
+use Rattle.xdg_problem.specs.declared.parts.Principle.TheVariants as principles
+use Rattle.xdg_problem.specs.Arguments.{first_dim, second_dim, label_count, order_of, truth_of, attr_of, attr_place}
+use Rattle.xdg_problem.specs.Asking.{IsBetween, IsInItem, IsLinked, AsksLink, Asks}
+use Rattle.xdg_problem.specs.Conditions.{AreBelow}
+use Rattle.xdg_problem.specs.Features.{in_row, out_row, set_row, map_row}
+use Rattle.xdg_problem.specs.Paths.{edges_on, edges_into, edges_out_of, edges_joining, mothers, roots, IsDaughter, IsDaughterBy, IsDaughterByAny, Above, AboveByFirst, AboveByLast}
+use Rattle.xdg_problem.specs.Places.{nodes}
+use Rattle.xdg_problem.specs.Relations.{IsKept}
+use Rattle.xdg_problem.proofs.Tuples.{tuples_1, tuples_2, tuples_3}
+use Rattle.xdg_build.specs.Principles.{StartsBy, EndsBy}
+
+-- ---- what is said of numbers in range, and of all tuples
+
+pub singles_within : (P : List ℕ → Type 0) (Q : ℕ → Type 0) (a : ℕ) → ((u : ℕ) → u < a → Q u ↔ P (u ∷ [])) → ((u : ℕ) → u < a → Q u) ↔ ((tuple : List ℕ) → AreBelow (a ∷ []) tuple → P tuple)
+singles_within P Q a same = (
+  λ q. tuples_1 P a (λ u l. (same u l).0 (q u l)),
+  λ p u l. (same u l).1 (p (u ∷ []) (l, tt)),
+)
+
+pub pairs_within : (P : List ℕ → Type 0) (Q : ℕ → ℕ → Type 0) (a b : ℕ) → ((u : ℕ) → u < a → (v : ℕ) → v < b → Q u v ↔ P (u ∷ v ∷ []))
+    → ((u : ℕ) → u < a → (v : ℕ) → v < b → Q u v) ↔ ((tuple : List ℕ) → AreBelow (a ∷ b ∷ []) tuple → P tuple)
+pairs_within P Q a b same = (
+  λ q. tuples_2 P a b (λ u l v m. (same u l v m).0 (q u l v m)),
+  λ p u l v m. (same u l v m).1 (p (u ∷ v ∷ []) (l, (m, tt))),
+)
+
+pub triples_within : (P : List ℕ → Type 0) (Q : ℕ → ℕ → ℕ → Type 0) (a b c : ℕ) → ((u : ℕ) → u < a → (v : ℕ) → v < b → (w : ℕ) → w < c → Q u v w ↔ P (u ∷ v ∷ w ∷ []))
+    → ((u : ℕ) → u < a → (v : ℕ) → v < b → (w : ℕ) → w < c → Q u v w) ↔ ((tuple : List ℕ) → AreBelow (a ∷ b ∷ c ∷ []) tuple → P tuple)
+triples_within P Q a b c same = (
+  λ q. tuples_3 P a b c (λ u x v y w z. (same u x v y w z).0 (q u x v y w z)),
+  λ p u x v y w z. (same u x v y w z).1 (p (u ∷ v ∷ w ∷ []) (x, (y, (z, tt)))),
+)
+
+-- ---- what is said of edges
+
+-- the nodes and the label of each of the edges are in range
+pub record AreWithin (n labels : ℕ) (edges : List Edge) : Type 0 where
+  pub mother : (e : Edge) → Contains edges e → e.mother.0 < n
+  pub label : (e : Edge) → Contains edges e → e.label.0 < labels
+  pub daughter : (e : Edge) → Contains edges e → e.daughter.0 < n
+
+pub any_same : (P Q : Edge → Type 0) (edges : List Edge) → ((e : Edge) → Contains edges e → P e ↔ Q e) → Any P edges ↔ Any Q edges
+any_same P Q edges same = (
+  λ h. (h.0, h.1, h.2, h.3, (same h.1 (h.0, h.2, h.3)).0 h.4),
+  λ h. (h.0, h.1, h.2, h.3, (same h.1 (h.0, h.2, h.3)).1 h.4),
+)
+
+along_edge : (C : ℕ → ℕ → ℕ → Type 0) (e : Edge) (u l v : ℕ) → e.mother.0 ≡ u → e.label.0 ≡ l → e.daughter.0 ≡ v → C e.mother.0 e.label.0 e.daughter.0 → C u l v
+along_edge C e u l v p q r c = subst (λ x. C u l x) r (subst (λ x. C u x e.daughter.0) q (subst (λ x. C x e.label.0 e.daughter.0) p c))
+
+-- what holds of each edge, and of each tuple that is one
+pub each_edge : (n labels : ℕ) (edges : List Edge) (B : Edge → Type 0) (C : ℕ → ℕ → ℕ → Type 0) → AreWithin n labels edges → ((e : Edge) → Contains edges e → B e ↔ C e.mother.0 e.label.0 e.daughter.0)
+    → ((e : Edge) → Contains edges e → B e) ↔ ((u : ℕ) → u < n → (l : ℕ) → l < labels → (v : ℕ) → v < n → IsDaughterBy edges u l v → C u l v)
+each_edge n labels edges B C within same = (
+  λ h u x l y v z d.
+      let e : Edge = d.1 in
+      let is : Contains edges e = (d.0, d.2, d.3) in
+      along_edge C e u l v d.4.0 d.4.1 d.4.2 ((same e is).0 (h e is)),
+  λ h e is. (same e is).1 (h e.mother.0 (within.mother e is) e.label.0 (within.label e is) e.daughter.0 (within.daughter e is) (is.0, e, is.1, is.2, (refl, refl, refl))),
+)
+
+-- ---- paths
+
+pub starts_same : (edges : List Edge) (P : Edge → Type 0) (labels : List ℕ) (u v : ℕ) → ((f : Edge) → Contains edges f → P f ↔ Contains labels f.label.0) → StartsBy edges u P v ↔ AboveByFirst edges u labels v
+starts_same edges P labels u v same = (
+  λ h. record { first = h.first; rest = h.rest; label = (same h.first (h.along 0 h.first (omega arith))).0 h.holds; along = h.along; leads = h.leads },
+  λ h. record { first = h.first; rest = h.rest; holds = (same h.first (h.along 0 h.first (omega arith))).1 h.label; along = h.along; leads = h.leads },
+)
+
+pub ends_same : (edges : List Edge) (P : Edge → Type 0) (labels : List ℕ) (u v : ℕ) → ((f : Edge) → Contains edges f → P f ↔ Contains labels f.label.0) → EndsBy edges u P v ↔ AboveByLast edges u labels v
+ends_same edges P labels u v same = (
+  λ h.
+      let is : Contains edges h.last = All-contains (Contains edges) (h.front ++ h.last ∷ []) h.last h.along (Contains-push h.front h.last) in
+      record { front = h.front; last = h.last; label = (same h.last is).0 h.holds; along = h.along; leads = h.leads },
+  λ h.
+      let is : Contains edges h.last = All-contains (Contains edges) (h.front ++ h.last ∷ []) h.last h.along (Contains-push h.front h.last) in
+      record { front = h.front; last = h.last; holds = (same h.last is).1 h.label; along = h.along; leads = h.leads },
+)
+
+-- ---- orders
+
+pub pairs_named : (name : ℕ → List ℕ) (ks : List ℕ) (labels : ℕ) (I : List ℕ → ℕ → Type 0) (J : ℕ → ℕ → Type 0) (x y : ℕ) → All (λ k. k < labels) ks → ((l : ℕ) → l < labels → (z : ℕ) → I (name l) z ↔ J l z)
+    → AllPairs (λ l m. I l x → I m y → x < y) (map name ks) ↔ AllPairs (λ l m. J l x → J m y → x < y) ks
+pairs_named name ks labels I J x y small same = (
+  λ h i j d before within.
+      let inside : i < length ks = omega (arith, before, within) in
+      let l : ℕ = get_or ks i d in
+      let m : ℕ = get_or ks j d in
+      let here : get_or (map name ks) i [] ≡ name l = get_or-map name ks i d [] inside in
+      let there : get_or (map name ks) j [] ≡ name m = get_or-map name ks j d [] within in
+      let one : I (name l) x → I (name m) y → x < y = subst (λ s. I (name l) x → I s y → x < y) there (subst (λ s. I s x → I (get_or (map name ks) j []) y → x < y) here (h i j [] before (subst (λ n. j < n) (sym (length-map ks name)) within))) in
+      λ p q. one ((same l (small i d inside) x).1 p) ((same m (small j d within) y).1 q),
+  λ h i j d before within.
+      let last : j < length ks = subst (λ n. j < n) (length-map ks name) within in
+      let inside : i < length ks = omega (arith, before, last) in
+      let l : ℕ = get_or ks i 0 in
+      let m : ℕ = get_or ks j 0 in
+      let here : get_or (map name ks) i d ≡ name l = get_or-map name ks i 0 d inside in
+      let there : get_or (map name ks) j d ≡ name m = get_or-map name ks j 0 d last in
+      let one : I (name l) x → I (name m) y → x < y = λ p q. h i j 0 before last ((same l (small i 0 inside) x).0 p) ((same m (small j 0 last) y).0 q) in
+      subst (λ s. I (get_or (map name ks) i d) x → I s y → x < y) (sym there) (subst (λ s. I s x → I (name m) y → x < y) (sym here) one),
+)
+
+-- ---- conditions
+
+module _ (parts : Parts) (group : Group) (candidates attrs : List ℕ) (edges : List Edge) where
+  abbrev n : ℕ
+  n = nodes parts
+
+  abbrev on_first : List Edge
+  on_first = edges_on (first_dim group) edges
+
+  abbrev on_second : List Edge
+  on_second = edges_on (second_dim group) edges
+
+  abbrev labels : ℕ
+  labels = label_count parts (first_dim group)
+
+  abbrev pub Kept : Condition → Type 0
+  Kept condition = IsKept parts group candidates attrs edges condition
+
+  -- the number of v's value for the attribute argument with that number
+  abbrev pub value : ℕ → ℕ → ℕ
+  value v argument = slice_index attrs (attr_place parts (first_dim group) v (attr_of group argument))
+
+  abbrev pub candidate : ℕ → ℕ
+  candidate v = slice_index candidates v
+
+  pub cycle_same : ((v : ℕ) → v < n → Above on_first v v → ⊥) ↔ Kept conditions.Cycle
+  cycle_same = singles_within (Asks conditions.Cycle parts group candidates attrs edges) (λ v. Above on_first v v → ⊥) n (λ v l. (λ p. p, λ p. p))
+
+  pub roots_same : (length (roots n on_first) ≡ 1) ↔ Kept conditions.Roots
+  roots_same = (λ one tuple is. ap (λ (t : List ℕ). get_or t 0 0) is ∙ one, λ kept. kept (length (roots n on_first) ∷ []) refl)
+
+  pub mothers_same : ((v : ℕ) → v < n → mothers on_first v ≤ 1) ↔ Kept conditions.Mothers
+  mothers_same = singles_within (Asks conditions.Mothers parts group candidates attrs edges) (λ v. mothers on_first v ≤ 1) n (λ v l. (λ p. p, λ p. p))
+
+  pub pair_same : ((x : ℕ) → x < n → (v : ℕ) → v < n → edges_joining on_first x v ≤ 1) ↔ Kept conditions.Pair
+  pair_same = pairs_within (Asks conditions.Pair parts group candidates attrs edges) (λ x v. edges_joining on_first x v ≤ 1) n n (λ x l v m. (λ p. p, λ p. p))
+
+  pub in_same : (Has : ℕ → ℕ → ℕ → Type 0) → ((v : ℕ) → v < n → (l : ℕ) → l < labels → (k : ℕ) → Has v l k ↔ Contains (in_row group v (candidate v) l) k)
+      → ((v : ℕ) → v < n → (l : ℕ) → l < labels → Has v l (edges_into on_first v l)) ↔ Kept conditions.InCount
+  in_same Has same = pairs_within (Asks conditions.InCount parts group candidates attrs edges) (λ v l. Has v l (edges_into on_first v l)) n labels (λ v x l y. same v x l y (edges_into on_first v l))
+
+  pub out_same : (Has : ℕ → ℕ → ℕ → Type 0) → ((v : ℕ) → v < n → (l : ℕ) → l < labels → (k : ℕ) → Has v l k ↔ Contains (out_row group v (candidate v) l) k)
+      → ((v : ℕ) → v < n → (l : ℕ) → l < labels → Has v l (edges_out_of on_first v l)) ↔ Kept conditions.OutCount
+  out_same Has same = pairs_within (Asks conditions.OutCount parts group candidates attrs edges) (λ v l. Has v l (edges_out_of on_first v l)) n labels (λ v x l y. same v x l y (edges_out_of on_first v l))
+
+  pub order_same : (Q : ℕ → ℕ → ℕ → Type 0)
+      → ((w : ℕ) → w < n → (x : ℕ) → x < n → (y : ℕ) → y < n → Q w x y ↔ AllPairs (λ l m. IsInItem on_first (truth_of group.truths 0 ≡ true) (value w 0) w l x → IsInItem on_first (truth_of group.truths 0 ≡ true) (value w 0) w m y → x < y) (order_of group))
+      → ((w : ℕ) → w < n → (x : ℕ) → x < n → (y : ℕ) → y < n → Q w x y) ↔ Kept conditions.Order
+  order_same Q same = triples_within (Asks conditions.Order parts group candidates attrs edges) Q n n n same
+
+  pub between_same : AreWithin n labels on_first → ((e : Edge) → Contains on_first e → (w : ℕ) → w < n → IsBetween e.mother.0 e.daughter.0 w → Above on_first e.mother.0 w) ↔ Kept conditions.Between
+  between_same within =
+      let C : ℕ → ℕ → ℕ → Type 0 = λ u v w. IsDaughter on_first u v → IsBetween u v w → Above on_first u w in (
+        λ h. tuples_3 (Asks conditions.Between parts group candidates attrs edges) n n n (λ u x v y w z d.
+            let e : Edge = d.1 in
+            subst (λ k. IsBetween u k w → Above on_first u w) d.4.1 (subst (λ k. IsBetween k e.daughter.0 w → Above on_first k w) d.4.0 (h e (d.0, d.2, d.3) w z))),
+        λ kept e is w z. kept (e.mother.0 ∷ e.daughter.0 ∷ w ∷ []) (within.mother e is, (within.daughter e is, (z, tt))) (is.0, e, is.1, is.2, (refl, refl)),
+      )
+
+  pub agr_same : (Q : ℕ → Type 0) → ((v : ℕ) → v < n → Q v ↔ Contains (set_row group v (candidate v)) (value v 0)) → ((v : ℕ) → v < n → Q v) ↔ Kept conditions.Agr
+  agr_same Q same = singles_within (Asks conditions.Agr parts group candidates attrs edges) Q n same
+
+  by_edges : (B : Edge → Type 0) (C : ℕ → ℕ → ℕ → Type 0) (condition : Condition) → AreWithin n labels on_first → ((e : Edge) → Contains on_first e → B e ↔ C e.mother.0 e.label.0 e.daughter.0)
+      → ((u : ℕ) → u < n → (l : ℕ) → l < labels → (v : ℕ) → v < n → IsDaughterBy on_first u l v → C u l v) ↔ Kept condition → ((e : Edge) → Contains on_first e → B e) ↔ Kept condition
+  by_edges B C condition within same kept =
+      let each = each_edge n labels on_first B C within same in
+      (λ h. kept.0 (each.0 h), λ k. each.1 (kept.1 k))
+
+  pub agree_same : (B : Edge → Type 0) → AreWithin n labels on_first
+      → ((e : Edge) → Contains on_first e → B e ↔ (Contains (set_row group e.mother.0 (candidate e.mother.0)) e.label.0 → value e.mother.0 0 ≡ value e.daughter.0 1))
+      → ((e : Edge) → Contains on_first e → B e) ↔ Kept conditions.Agree
+  agree_same B within same =
+      let C : ℕ → ℕ → ℕ → Type 0 = λ u l v. Contains (set_row group u (candidate u)) l → value u 0 ≡ value v 1 in
+      by_edges B C conditions.Agree within same
+      (triples_within (Asks conditions.Agree parts group candidates attrs edges) (λ u l v. IsDaughterBy on_first u l v → C u l v) n labels n (λ u x l y v z. (λ p. p, λ p. p)))
+
+  pub govern_same : (B : Edge → Type 0) → AreWithin n labels on_first
+      → ((e : Edge) → Contains on_first e → B e ↔ (0 < length (map_row group e.mother.0 (candidate e.mother.0) e.label.0) → Contains (map_row group e.mother.0 (candidate e.mother.0) e.label.0) (value e.daughter.0 0)))
+      → ((e : Edge) → Contains on_first e → B e) ↔ Kept conditions.Govern
+  govern_same B within same =
+      let C : ℕ → ℕ → ℕ → Type 0 = λ u l v. 0 < length (map_row group u (candidate u) l) → Contains (map_row group u (candidate u) l) (value v 0) in
+      by_edges B C conditions.Govern within same
+      (triples_within (Asks conditions.Govern parts group candidates attrs edges) (λ u l v. IsDaughterBy on_first u l v → C u l v) n labels n (λ u x l y v z. (λ p. p, λ p. p)))
+
+  pub below_same : ((x : ℕ) → x < n → (v : ℕ) → v < n → Above on_first x v → Above on_second x v) ↔ Kept conditions.Below
+  below_same = pairs_within (Asks conditions.Below parts group candidates attrs edges) (λ x v. Above on_first x v → Above on_second x v) n n (λ x l v m. (λ p. p, λ p. p))
+
+  pub blocked_same : (P : ℕ → Edge → Type 0) → ((w : ℕ) → w < n → (f : Edge) → Contains on_second f → P w f ↔ Contains (set_row group w (candidate w)) f.label.0)
+      → ((w : ℕ) → w < n → (v : ℕ) → v < n → EndsBy on_second w (P w) v → Above on_first w v) ↔ Kept conditions.Blocked
+  blocked_same P same = pairs_within (Asks conditions.Blocked parts group candidates attrs edges) (λ w v. EndsBy on_second w (P w) v → Above on_first w v) n n (λ w l v m.
+      let ends = ends_same on_second (P w) (set_row group w (candidate w)) w v (same w l) in
+      (λ p h. p (ends.1 h), λ p h. p (ends.0 h)))
+
+  pub link_same : (q : Principle) (B : Edge → Type 0) → group.principle ≡ q → AreWithin n labels on_first
+      → ((e : Edge) → Contains on_first e → B e ↔ AsksLink q group (candidate e.mother.0) on_second e.mother.0 e.label.0 e.daughter.0)
+      → ((e : Edge) → Contains on_first e → B e) ↔ Kept conditions.Link
+  link_same q B is within same =
+      let C : ℕ → ℕ → ℕ → Type 0 = λ u l v. AsksLink q group (candidate u) on_second u l v in
+      by_edges B C conditions.Link within same
+      (triples_within (Asks conditions.Link parts group candidates attrs edges) (λ u l v. IsDaughterBy on_first u l v → C u l v) n labels n (λ u x l y v z. (
+        λ p d. subst (λ (r : Principle). AsksLink r group (candidate u) on_second u l v) (sym is) (p d),
+        λ p d. subst (λ (r : Principle). AsksLink r group (candidate u) on_second u l v) is (p d),
+      )))
+
+-- ---- the same with names for the edges and for the number of labels
+
+module _ (parts : Parts) (group : Group) (candidates attrs : List ℕ) (edges : List Edge) (E1 E2 : List Edge) (L : ℕ) (one : edges_on (first_dim group) edges ≡ E1) (two : edges_on (second_dim group) edges ≡ E2) (many : label_count parts (first_dim group) ≡ L) where
+  abbrev m : ℕ
+  m = nodes parts
+
+  abbrev C : Condition → Type 0
+  C condition = IsKept parts group candidates attrs edges condition
+
+  abbrev val : ℕ → ℕ → ℕ
+  val v argument = slice_index attrs (attr_place parts (first_dim group) v (attr_of group argument))
+
+  abbrev can : ℕ → ℕ
+  can v = slice_index candidates v
+
+  pub cycle_at : ((v : ℕ) → v < m → Above E1 v v → ⊥) ↔ C conditions.Cycle
+  cycle_at = subst (λ (E : List Edge). ((v : ℕ) → v < m → Above E v v → ⊥) ↔ C conditions.Cycle) one (cycle_same parts group candidates attrs edges)
+
+  pub roots_at : (length (roots m E1) ≡ 1) ↔ C conditions.Roots
+  roots_at = subst (λ (E : List Edge). (length (roots m E) ≡ 1) ↔ C conditions.Roots) one (roots_same parts group candidates attrs edges)
+
+  pub mothers_at : ((v : ℕ) → v < m → mothers E1 v ≤ 1) ↔ C conditions.Mothers
+  mothers_at = subst (λ (E : List Edge). ((v : ℕ) → v < m → mothers E v ≤ 1) ↔ C conditions.Mothers) one (mothers_same parts group candidates attrs edges)
+
+  pub pair_at : ((x : ℕ) → x < m → (v : ℕ) → v < m → edges_joining E1 x v ≤ 1) ↔ C conditions.Pair
+  pair_at = subst (λ (E : List Edge). ((x : ℕ) → x < m → (v : ℕ) → v < m → edges_joining E x v ≤ 1) ↔ C conditions.Pair) one (pair_same parts group candidates attrs edges)
+
+  pub in_at : (Has : ℕ → ℕ → ℕ → Type 0) → ((v : ℕ) → v < m → (l : ℕ) → l < L → (k : ℕ) → Has v l k ↔ Contains (in_row group v (can v) l) k)
+      → ((v : ℕ) → v < m → (l : ℕ) → l < L → Has v l (edges_into E1 v l)) ↔ C conditions.InCount
+  in_at Has =
+      subst (λ (b : ℕ). ((v : ℕ) → v < m → (l : ℕ) → l < b → (k : ℕ) → Has v l k ↔ Contains (in_row group v (can v) l) k) → ((v : ℕ) → v < m → (l : ℕ) → l < b → Has v l (edges_into E1 v l)) ↔ C conditions.InCount) many
+      (subst (λ (E : List Edge). ((v : ℕ) → v < m → (l : ℕ) → l < label_count parts (first_dim group) → (k : ℕ) → Has v l k ↔ Contains (in_row group v (can v) l) k) → ((v : ℕ) → v < m → (l : ℕ) → l < label_count parts (first_dim group) → Has v l (edges_into E v l)) ↔ C conditions.InCount) one
+      (in_same parts group candidates attrs edges Has))
+
+  pub out_at : (Has : ℕ → ℕ → ℕ → Type 0) → ((v : ℕ) → v < m → (l : ℕ) → l < L → (k : ℕ) → Has v l k ↔ Contains (out_row group v (can v) l) k)
+      → ((v : ℕ) → v < m → (l : ℕ) → l < L → Has v l (edges_out_of E1 v l)) ↔ C conditions.OutCount
+  out_at Has =
+      subst (λ (b : ℕ). ((v : ℕ) → v < m → (l : ℕ) → l < b → (k : ℕ) → Has v l k ↔ Contains (out_row group v (can v) l) k) → ((v : ℕ) → v < m → (l : ℕ) → l < b → Has v l (edges_out_of E1 v l)) ↔ C conditions.OutCount) many
+      (subst (λ (E : List Edge). ((v : ℕ) → v < m → (l : ℕ) → l < label_count parts (first_dim group) → (k : ℕ) → Has v l k ↔ Contains (out_row group v (can v) l) k) → ((v : ℕ) → v < m → (l : ℕ) → l < label_count parts (first_dim group) → Has v l (edges_out_of E v l)) ↔ C conditions.OutCount) one
+      (out_same parts group candidates attrs edges Has))
+
+  pub order_at : (Q : ℕ → ℕ → ℕ → Type 0)
+      → ((w : ℕ) → w < m → (x : ℕ) → x < m → (y : ℕ) → y < m → Q w x y ↔ AllPairs (λ l k. IsInItem E1 (truth_of group.truths 0 ≡ true) (val w 0) w l x → IsInItem E1 (truth_of group.truths 0 ≡ true) (val w 0) w k y → x < y) (order_of group))
+      → ((w : ℕ) → w < m → (x : ℕ) → x < m → (y : ℕ) → y < m → Q w x y) ↔ C conditions.Order
+  order_at Q =
+      subst (λ (E : List Edge). ((w : ℕ) → w < m → (x : ℕ) → x < m → (y : ℕ) → y < m → Q w x y ↔ AllPairs (λ l k. IsInItem E (truth_of group.truths 0 ≡ true) (val w 0) w l x → IsInItem E (truth_of group.truths 0 ≡ true) (val w 0) w k y → x < y) (order_of group))
+      → ((w : ℕ) → w < m → (x : ℕ) → x < m → (y : ℕ) → y < m → Q w x y) ↔ C conditions.Order) one (order_same parts group candidates attrs edges Q)
+
+  pub between_at : AreWithin m L E1 → ((e : Edge) → Contains E1 e → (w : ℕ) → w < m → IsBetween e.mother.0 e.daughter.0 w → Above E1 e.mother.0 w) ↔ C conditions.Between
+  between_at =
+      subst (λ (b : ℕ). AreWithin m b E1 → ((e : Edge) → Contains E1 e → (w : ℕ) → w < m → IsBetween e.mother.0 e.daughter.0 w → Above E1 e.mother.0 w) ↔ C conditions.Between) many
+      (subst (λ (E : List Edge). AreWithin m (label_count parts (first_dim group)) E → ((e : Edge) → Contains E e → (w : ℕ) → w < m → IsBetween e.mother.0 e.daughter.0 w → Above E e.mother.0 w) ↔ C conditions.Between) one
+      (between_same parts group candidates attrs edges))
+
+  pub agree_at : (B : Edge → Type 0) → AreWithin m L E1
+      → ((e : Edge) → Contains E1 e → B e ↔ (Contains (set_row group e.mother.0 (can e.mother.0)) e.label.0 → val e.mother.0 0 ≡ val e.daughter.0 1))
+      → ((e : Edge) → Contains E1 e → B e) ↔ C conditions.Agree
+  agree_at B =
+      subst (λ (b : ℕ). AreWithin m b E1 → ((e : Edge) → Contains E1 e → B e ↔ (Contains (set_row group e.mother.0 (can e.mother.0)) e.label.0 → val e.mother.0 0 ≡ val e.daughter.0 1)) → ((e : Edge) → Contains E1 e → B e) ↔ C conditions.Agree) many
+      (subst (λ (E : List Edge). AreWithin m (label_count parts (first_dim group)) E → ((e : Edge) → Contains E e → B e ↔ (Contains (set_row group e.mother.0 (can e.mother.0)) e.label.0 → val e.mother.0 0 ≡ val e.daughter.0 1)) → ((e : Edge) → Contains E e → B e) ↔ C conditions.Agree) one
+      (agree_same parts group candidates attrs edges B))
+
+  pub govern_at : (B : Edge → Type 0) → AreWithin m L E1
+      → ((e : Edge) → Contains E1 e → B e ↔ (0 < length (map_row group e.mother.0 (can e.mother.0) e.label.0) → Contains (map_row group e.mother.0 (can e.mother.0) e.label.0) (val e.daughter.0 0)))
+      → ((e : Edge) → Contains E1 e → B e) ↔ C conditions.Govern
+  govern_at B =
+      subst (λ (b : ℕ). AreWithin m b E1 → ((e : Edge) → Contains E1 e → B e ↔ (0 < length (map_row group e.mother.0 (can e.mother.0) e.label.0) → Contains (map_row group e.mother.0 (can e.mother.0) e.label.0) (val e.daughter.0 0))) → ((e : Edge) → Contains E1 e → B e) ↔ C conditions.Govern) many
+      (subst (λ (E : List Edge). AreWithin m (label_count parts (first_dim group)) E → ((e : Edge) → Contains E e → B e ↔ (0 < length (map_row group e.mother.0 (can e.mother.0) e.label.0) → Contains (map_row group e.mother.0 (can e.mother.0) e.label.0) (val e.daughter.0 0))) → ((e : Edge) → Contains E e → B e) ↔ C conditions.Govern) one
+      (govern_same parts group candidates attrs edges B))
+
+  pub below_at : ((x : ℕ) → x < m → (v : ℕ) → v < m → Above E1 x v → Above E2 x v) ↔ C conditions.Below
+  below_at =
+      subst (λ (F : List Edge). ((x : ℕ) → x < m → (v : ℕ) → v < m → Above E1 x v → Above F x v) ↔ C conditions.Below) two
+      (subst (λ (E : List Edge). ((x : ℕ) → x < m → (v : ℕ) → v < m → Above E x v → Above (edges_on (second_dim group) edges) x v) ↔ C conditions.Below) one (below_same parts group candidates attrs edges))
+
+  pub blocked_at : (P : ℕ → Edge → Type 0) → ((w : ℕ) → w < m → (f : Edge) → Contains E2 f → P w f ↔ Contains (set_row group w (can w)) f.label.0)
+      → ((w : ℕ) → w < m → (v : ℕ) → v < m → EndsBy E2 w (P w) v → Above E1 w v) ↔ C conditions.Blocked
+  blocked_at P =
+      subst (λ (F : List Edge). ((w : ℕ) → w < m → (f : Edge) → Contains F f → P w f ↔ Contains (set_row group w (can w)) f.label.0) → ((w : ℕ) → w < m → (v : ℕ) → v < m → EndsBy F w (P w) v → Above E1 w v) ↔ C conditions.Blocked) two
+      (subst (λ (E : List Edge). ((w : ℕ) → w < m → (f : Edge) → Contains (edges_on (second_dim group) edges) f → P w f ↔ Contains (set_row group w (can w)) f.label.0) → ((w : ℕ) → w < m → (v : ℕ) → v < m → EndsBy (edges_on (second_dim group) edges) w (P w) v → Above E w v) ↔ C conditions.Blocked) one
+      (blocked_same parts group candidates attrs edges P))
+
+  pub link_at : (q : Principle) (B : Edge → Type 0) → group.principle ≡ q → AreWithin m L E1
+      → ((e : Edge) → Contains E1 e → B e ↔ AsksLink q group (can e.mother.0) E2 e.mother.0 e.label.0 e.daughter.0)
+      → ((e : Edge) → Contains E1 e → B e) ↔ C conditions.Link
+  link_at q B is =
+      subst (λ (F : List Edge). AreWithin m L E1 → ((e : Edge) → Contains E1 e → B e ↔ AsksLink q group (can e.mother.0) F e.mother.0 e.label.0 e.daughter.0) → ((e : Edge) → Contains E1 e → B e) ↔ C conditions.Link) two
+      (subst (λ (b : ℕ). AreWithin m b E1 → ((e : Edge) → Contains E1 e → B e ↔ AsksLink q group (can e.mother.0) (edges_on (second_dim group) edges) e.mother.0 e.label.0 e.daughter.0) → ((e : Edge) → Contains E1 e → B e) ↔ C conditions.Link) many
+      (subst (λ (E : List Edge). AreWithin m (label_count parts (first_dim group)) E → ((e : Edge) → Contains E e → B e ↔ AsksLink q group (can e.mother.0) (edges_on (second_dim group) edges) e.mother.0 e.label.0 e.daughter.0) → ((e : Edge) → Contains E e → B e) ↔ C conditions.Link) one
+      (link_same parts group candidates attrs edges q B is)))
+
+-- ---- linking
+
+-- what a map asks where its row isn't empty
+pub where_some : (Some : Type 0) (row : List ℕ) (A B : Type 0) → (Some ↔ (0 < length row)) → A ↔ B → (Some → A) ↔ (0 < length row → B)
+where_some Some row A B some same = (λ p l. same.0 (p (some.1 l)), λ p s. same.1 (p (some.0 s)))
+
+module _ (edges : List Edge) (P : Edge → Type 0) (row : List ℕ) (same : (f : Edge) → Contains edges f → P f ↔ Contains row f.label.0) where
+  pub by_daughter : (u v : ℕ) → Any (λ f. (f.mother.0 ≡ u) × (f.daughter.0 ≡ v) × P f) edges ↔ IsDaughterByAny edges u row v
+  by_daughter u v = any_same (λ f. (f.mother.0 ≡ u) × (f.daughter.0 ≡ v) × P f) (λ f. (f.mother.0 ≡ u) × Contains row f.label.0 × (f.daughter.0 ≡ v)) edges (λ f is. (
+    λ p. (p.0, (same f is).0 p.2, p.1),
+    λ p. (p.0, p.2, (same f is).1 p.1),
+  ))
+
+  pub end_linked : (u v : ℕ) → Any (λ f. (f.daughter.0 ≡ v) × P f) edges ↔ IsLinked principles.LinkingEnd edges u row v
+  end_linked u v = any_same (λ f. (f.daughter.0 ≡ v) × P f) (λ f. Contains row f.label.0 × (f.daughter.0 ≡ v)) edges (λ f is. (
+    λ p. ((same f is).0 p.1, p.0),
+    λ p. (p.1, (same f is).1 p.0),
+  ))
+
+  pub sisters_linked : (u v : ℕ) → Any (λ h. (h.daughter.0 ≡ u) × Any (λ f. (f.mother.0 ≡ h.mother.0) × (f.daughter.0 ≡ v) × P f) edges) edges ↔ IsLinked principles.LinkingSisters edges u row v
+  sisters_linked u v = any_same (λ h. (h.daughter.0 ≡ u) × Any (λ f. (f.mother.0 ≡ h.mother.0) × (f.daughter.0 ≡ v) × P f) edges) (λ h. (h.daughter.0 ≡ u) × IsDaughterByAny edges h.mother.0 row v) edges (λ h is. (
+    λ p. (p.0, (by_daughter h.mother.0 v).0 p.1),
+    λ p. (p.0, (by_daughter h.mother.0 v).1 p.1),
+  ))

@@ -1,0 +1,154 @@
+-- A typed use in a used dimension: its dimensions, and what the entries of nodes say for its features.
+use Rattle.std.proofs.Common.{◌≡◌, ℕ, zero, suc, ◌<◌, ◌↔◌, true, List, [], ◌∷◌, length, get_or, map, sym, ap, ap₂, ◌∙◌, subst, arith}
+use Rattle.std.specs.Prelude.{Option, Some, MatchOption, slice_get, slice_index, flat_map}
+use Rattle.std.proofs.lemmas.List.{get_or-map}
+use Rattle.std.proofs.lemmas.Option.{slice_get_within, get_or_from_slice_get}
+use Rattle.xdg_base.specs.declared.ids.DimId.{DimId}
+use Rattle.xdg_base.specs.declared.ids.EntryNo.{EntryNo}
+use Rattle.xdg_domain.specs.Defaults.{IsFilledIn}
+use Rattle.xdg_domain.specs.Shapes.{Shape, text, IsType, fields_of, count, IsSmall}
+use Rattle.xdg_domain.specs.Valencies.{said_at}
+use Rattle.xdg_domain.specs.Values.{IsIn, IsFieldOf}
+use Rattle.xdg_domain.specs.declared.values.Value.{Value, out-Value}
+use Rattle.xdg_domain.specs.declared.values.Value.TheOpen.{Value-F}
+use Rattle.xdg_domain.proofs.Keyed.{said_right}
+use Rattle.xdg_packed.specs.Lexicon.{Record}
+use Rattle.xdg_problem.specs.declared.analysis.Analysis.{Analysis}
+use Rattle.xdg_problem.specs.declared.parts.Feat.{Feat}
+use Rattle.xdg_problem.specs.declared.parts.Principle.{Principle}
+use Rattle.xdg_problem.specs.declared.parts.SentenceWord.{SentenceWord}
+use Rattle.xdg_problem.specs.Analyses.{HasCandidates}
+use Rattle.xdg_problem.specs.Features.{row}
+use Rattle.xdg_problem.specs.Vectors.{entry_places}
+use Rattle.xdg_types.specs.declared.table.DimType.{DimType}
+use Rattle.xdg_types.specs.Table.{Typed, typed, IsTable, KeepsDim, KeepDims, AreFeatures, AreAttributes, HasPlace}
+use Rattle.xdg_entries.specs.Entries.{IsWhole, IsEntry, IsRightLexicon}
+use Rattle.xdg_principles.specs.declared.building.Arg.{Arg}
+use Rattle.xdg_principles.specs.declared.building.Arg.TheVariants as arg
+use Rattle.xdg_principles.specs.declared.building.PrincipleUse.{PrincipleUse}
+use Rattle.xdg_principles.specs.declared.principle.Sort.TheVariants as sorts
+use Rattle.xdg_principles.specs.declared.principle.Typing.{Typing}
+use Rattle.xdg_principles.specs.declared.principle.Which.{Which}
+use Rattle.xdg_principles.specs.Typed.{IsTypedUse, IsTypedMember, number_of, labels_at}
+use Rattle.xdg_groups.specs.Features.{rows_in, rows_of, feature, feature_dim}
+use Rattle.xdg_groups.specs.Grammars.{Grammar, is_used, no_dim, used_place}
+use Rattle.xdg_groups.specs.Groups.{called, features_in, features_at, group_of, dims_of}
+use Rattle.xdg_groups.proofs.Dimensions.{Home, home_of, has_place, is_used_home, labels-home, members-home}
+use Rattle.xdg_groups.proofs.Lists.{in_at}
+use Rattle.xdg_groups.proofs.Said as reading
+use Rattle.xdg_build.specs.Readings.{dimension, type_at, record_for, entry_at, said_for, OnFeature, feature_place}
+use Rattle.xdg_build.specs.Solutions.{IsAnalysisOf}
+use Rattle.xdg_build.proofs.Readings.{record_same, entry_within}
+use Rattle.xdg_build.proofs.Rows.{of_entries}
+
+abbrev dim_id : ℕ → DimId
+dim_id n = record { 0 = n }
+
+feature_right : (all : Typed) (f : ℕ) (name : List ℕ) (type : Shape) → AreFeatures all → slice_get all f ≡ Some (name, type) → IsType type
+feature_right [] f name type h stands = absurd cc
+feature_right (one ∷ all) zero name type h stands = (let same : one ≡ (name, type) = cc in subst (λ (x : List ℕ × Shape). IsType x.1) same h.0)
+feature_right (one ∷ all) (suc f) name type h stands = feature_right all f name type h.1 stands
+
+attribute_right : (all : Typed) (i : ℕ) (name : List ℕ) (type : Shape) → AreAttributes all → slice_get all i ≡ Some (name, type) → IsSmall type × (0 < count type)
+attribute_right [] i name type h stands = absurd cc
+attribute_right (one ∷ all) zero name type h stands = (let same : one ≡ (name, type) = cc in subst (λ (x : List ℕ × Shape). IsSmall x.1 × (0 < count x.1)) same h.0)
+attribute_right (one ∷ all) (suc i) name type h stands = attribute_right all i name type h.1 stands
+
+kept_at : (dims : List DimType) (k : ℕ) → KeepDims dims → k < length dims → KeepsDim (get_or dims k no_dim)
+kept_at [] k h within = absurd (omega (arith, within))
+kept_at (dim ∷ dims) zero h within = h.0
+kept_at (dim ∷ dims) (suc k) h within = kept_at dims k h.1 (omega (arith, within))
+
+-- what a node's entry says for a feature: a value of its type, whole
+pub record IsTold (g : Grammar) (a : Analysis) (k v f : ℕ) (type : Shape) : Type 0 where
+  pub value : Value
+  pub said : said_for g a k v f ≡ Some value
+  pub typed : type_at (typed (dimension g k).fields) f ≡ type
+  pub right : IsIn type (out-Value value)
+  pub filled : IsFilledIn type (out-Value value)
+
+pub on_feature : (g : Grammar) (a : Analysis) (k v f : ℕ) (type : Shape) (argument : Option Arg) (P : Shape → Value-F Value → Type 0) (told : IsTold g a k v f type) → argument ≡ Some (arg.Feature f)
+    → OnFeature g a k v (feature_place argument) P ↔ P type (out-Value told.value)
+on_feature g a k v f type argument P told is =
+    let A : Option Value → Shape → Type 0 = λ o t. MatchOption o ⊥ (λ x. P t (out-Value x)) in (
+      λ h. subst (A (Some told.value)) told.typed (subst (λ o. A o (type_at (typed (dimension g k).fields) f)) told.said (subst (λ o. OnFeature g a k v (feature_place o) P) is h)),
+      λ p. subst (λ o. OnFeature g a k v (feature_place o) P) (sym is) (subst (λ o. A o (type_at (typed (dimension g k).fields) f)) (sym told.said) (subst (A (Some told.value)) (sym told.typed) p)),
+    )
+
+module _ (g : Grammar) (words : List SentenceWord) (a : Analysis) (u : PrincipleUse) (table : IsTable g.table) (lexicon : IsRightLexicon g.table g.lexicon.entries) (used : is_used g.table u.home ≡ true) (right : IsTypedUse g.table u) (is : IsAnalysisOf g words a) where
+  abbrev pub dim_number : Which → ℕ
+  dim_number which = get_or u.dims (number_of which) 0
+
+  pub has_dim : (m : ℕ) → m < length u.dims → HasPlace g.table.used (get_or u.dims m 0)
+  has_dim m within = right.used (has_place g.table.used u.home used) (get_or u.dims m 0) (in_at u.dims m 0 within)
+
+  -- the dimension with that number, compiled
+  pub dim_same : (m : ℕ) → m < length u.dims → (get_or (dims_of g u) m (record { 0 = 0 })).0 ≡ used_place g.table (get_or u.dims m 0)
+  dim_same m within = ap (λ (d : DimId). d.0) (get_or-map (λ (k : ℕ). dim_id (used_place g.table k)) u.dims m 0 (dim_id 0) within)
+
+  home : (m : ℕ) → m < length u.dims → Home g.table (get_or u.dims m 0)
+  home m within = home_of g.table u right used m within
+
+  dim_is : (m : ℕ) (within : m < length u.dims) → dimension g (get_or u.dims m 0) ≡ (home m within).dim
+  dim_is m within = get_or_from_slice_get g.table.dims (get_or u.dims m 0) (home m within).dim no_dim (home m within).stands
+
+  pub labels_are : (which : Which) → number_of which < length u.dims → labels_at g.table u which ≡ (dimension g (dim_number which)).labels
+  labels_are which within = labels-home g.table u which within (home (number_of which) within) ∙ ap (λ (dim : DimType). dim.labels) (sym (dim_is (number_of which) within))
+
+  pub kept_dim : (m : ℕ) → m < length u.dims → KeepsDim (dimension g (get_or u.dims m 0))
+  kept_dim m within = kept_at g.table.dims (get_or u.dims m 0) table.dims (slice_get_within g.table.dims (get_or u.dims m 0) (home m within).dim (home m within).stands)
+
+  module _ (shared : Shape) where
+    pub attribute_stands : (which : Which) (typing : Typing) (i : ℕ) → number_of which < length u.dims → (member : IsTypedMember g.table u shared sorts.Attribute which typing i) → slice_get (typed (dimension g (dim_number which)).attrs) i ≡ Some (member.name, member.type)
+    attribute_stands which typing i within member =
+        ap (λ (dim : DimType). slice_get (typed dim.attrs) i) (dim_is (number_of which) within)
+        ∙ sym (ap (λ (all : Typed). slice_get all i) (members-home g.table u sorts.Attribute which within (home (number_of which) within))) ∙ member.stands
+
+    pub attribute_small : (which : Which) (typing : Typing) (i : ℕ) → number_of which < length u.dims → (member : IsTypedMember g.table u shared sorts.Attribute which typing i) → IsSmall member.type × (0 < count member.type)
+    attribute_small which typing i within member = attribute_right (typed (dimension g (dim_number which)).attrs) i member.name member.type (kept_dim (number_of which) within).attributes (attribute_stands which typing i within member)
+
+    feature_stands : (which : Which) (typing : Typing) (f : ℕ) (within : number_of which < length u.dims) (member : IsTypedMember g.table u shared sorts.Feature which typing f) → slice_get (typed (home (number_of which) within).dim.fields) f ≡ Some (member.name, member.type)
+    feature_stands which typing f within member = sym (ap (λ (all : Typed). slice_get all f) (members-home g.table u sorts.Feature which within (home (number_of which) within))) ∙ member.stands
+
+    feature_there : (which : Which) (typing : Typing) (f : ℕ) (within : number_of which < length u.dims) (member : IsTypedMember g.table u shared sorts.Feature which typing f) → slice_get (typed (dimension g (dim_number which)).fields) f ≡ Some (member.name, member.type)
+    feature_there which typing f within member = ap (λ (dim : DimType). slice_get (typed dim.fields) f) (dim_is (number_of which) within) ∙ feature_stands which typing f within member
+
+    pub feature_type : (which : Which) (typing : Typing) (f : ℕ) → number_of which < length u.dims → (member : IsTypedMember g.table u shared sorts.Feature which typing f) → IsType member.type
+    feature_type which typing f within member = feature_right (typed (dimension g (dim_number which)).fields) f member.name member.type (kept_dim (number_of which) within).features (feature_there which typing f within member)
+
+    entry_is : (v : ℕ) → v < length words → IsEntry g.table (entry_at g a v)
+    entry_is v node = reading.entry_at g.table g.lexicon.entries (get_or a.entries v (record { 0 = 0 })).0 lexicon.entries (entry_within g words a table.used is v node).1
+
+    record_is : (k v : ℕ) → v < length words → record_for g.table.used (entry_at g a v) k ≡ get_or (entry_at g a v) (used_place g.table k) []
+    record_is k v node = record_same g.table.used (entry_at g a v) k (entry_is v node).count
+
+    pub told : (which : Which) (typing : Typing) (f v : ℕ) → number_of which < length u.dims → (member : IsTypedMember g.table u shared sorts.Feature which typing f) → v < length words → IsTold g a (dim_number which) v f member.type
+    told which typing f v within member node =
+        let k : ℕ = dim_number which in
+        let there : Home g.table k = home (number_of which) within in
+        let m : Record = get_or (entry_at g a v) (used_place g.table k) [] in
+        let whole : IsWhole there.dim m = (entry_is v node).each (used_place g.table k) there.dim (is_used_home g.table k there) in
+        let stands : slice_get (typed there.dim.fields) f ≡ Some (member.name, member.type) = feature_stands which typing f within member in
+        let x : (x : Value) × (said_at m f ≡ Some x) × IsFilledIn member.type (out-Value x) = reading.filled_at (typed there.dim.fields) 0 f f member.name member.type m (reading.zero_first f) stands (reading.filled_of there.dim m whole) in
+        record {
+          value = x.0;
+          said = ap (λ (r : Record). said_at r f) (record_is k v node) ∙ x.1;
+          typed = ap (λ (one : List ℕ × Shape). one.1) (get_or_from_slice_get (typed (dimension g k).fields) f (member.name, member.type) ([], text) (feature_there which typing f within member));
+          right = reading.field_in (typed there.dim.fields) f member.name member.type x.0 stands (said_right (IsFieldOf (fields_of (typed there.dim.fields))) m f x.0 (reading.each_of there.dim m whole) x.1);
+          filled = x.2;
+        }
+
+    -- the rows of a feature of a node's entry, compiled
+    pub row_is : (which : Which) (q : Principle) (places : List ℕ) (f v j l : ℕ) (type : Shape) (candidates : List (List EntryNo)) → called u.principle ≡ q → feature_dim q ≡ number_of which → flat_map features_in u.args ≡ places → j < length places → get_or places j 0 ≡ f
+        → HasCandidates candidates a.entries → v < length words → (x : IsTold g a (dim_number which) v f type)
+        → row (group_of g candidates u) v (slice_index (entry_places candidates a.entries) v) j l ≡ get_or (rows_in (out-Value x.value)) l []
+    row_is which q places f v j l type candidates is_called which_is places_are within at has node x =
+        let k : ℕ = dim_number which in
+        let e : EntryNo = get_or a.entries v (record { 0 = 0 }) in
+        let one : ℕ → ℕ → Feat = λ d place. feature g.table (entry_at g a v) d place in
+        let kd : get_or u.dims (feature_dim (called u.principle)) 0 ≡ k = ap (λ p. get_or u.dims (feature_dim p) 0) is_called ∙ ap (λ n. get_or u.dims n 0) which_is in
+        let feats : features_at g u e ≡ map (one k) places = ap₂ (λ d ps. map (one d) ps) kd places_are in
+        let here : get_or (features_at g u e) j (record { rows = [] }) ≡ one k f = ap (λ (fs : List Feat). get_or fs j (record { rows = [] })) feats ∙ get_or-map (one k) places j 0 (record { rows = [] }) within ∙ ap (one k) at in
+        let rows : (one k f).rows ≡ rows_in (out-Value x.value) = ap rows_of (ap (λ (r : Record). said_at r f) (sym (record_is k v node)) ∙ x.said) in
+        ap (λ (fs : List Feat). get_or (get_or fs j (record { rows = [] })).rows l []) (of_entries (features_at g u) candidates a.entries has v ∙ get_or-map (features_at g u) a.entries v (record { 0 = 0 }) [] (entry_within g words a table.used is v node).0)
+        ∙ ap (λ (one : Feat). get_or one.rows l []) here ∙ ap (λ (rs : List (List ℕ)). get_or rs l []) rows
