@@ -1,6 +1,6 @@
 //! A sink in memory.
 
-ghost use Rattle.std.specs.Prelude.{◌≡◌, ◌<◌, ◌≤◌, Some, [], length, take};
+ghost use Rattle.std.specs.Prelude.{◌≡◌, Some, []};
 
 use std::alloc::Global;
 use xdg_base::Bytes;
