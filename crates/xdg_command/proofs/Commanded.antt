@@ -2,14 +2,15 @@
 use Rattle.std.proofs.Common.{◌≡◌, ◌∙◌, ◌≤◌, ℕ, Bool, true, false, List, [], ◌∷◌, length, Option, Some, None, refl, sym, ap, ap₂, subst, arith}
 use Rattle.std.specs.Prelude.{codes, slice_get, slice_index, if◌then◌else◌}
 use Rattle.std.specs.Str.{bytes_eq}
+use Rattle.std.specs.Str.Parse.{digits_value}
 use Rattle.std.proofs.lemmas.Slice.Eq.{bytes_eq-Decides}
 use Rattle.clap.specs.Matches.{first_value, found_of, one_text}
 use Rattle.clap.specs.declared.parser.matches.ArgMatches.{ArgMatches}
 use Rattle.xdg_command.specs.Answers.{IsExactly}
-use Rattle.xdg_command.specs.Commands.{HasBudget, HasFirst, HasText, IsCommand, SaysParse, SaysResume}
+use Rattle.xdg_command.specs.Commands.{HasBudget, HasFirst, HasText, IsCommand, IsDrillNumber, SaysParse, SaysResume}
 use Rattle.xdg_command.specs.Found.{Matches}
 use Rattle.xdg_command.specs.Items.{AreItems, Item, has_flag, operands_of}
-use Rattle.xdg_command.specs.Readings.{AreWords, IsOfVerb, IsOneFile, IsParse, IsResume, IsTwoFiles}
+use Rattle.xdg_command.specs.Readings.{AreWords, IsDrill, IsOfVerb, IsOneFile, IsParse, IsResume, IsTwoFiles}
 use Rattle.xdg_command.specs.Syntax.{Table, is_right, one_file, parsed, resumed, two_files}
 use Rattle.xdg_command.specs.Verbs.{verb_of}
 use Rattle.xdg_command.specs.declared.commands.Command.{Command}
@@ -92,6 +93,22 @@ module _ (words : List (List ℕ)) where
             let same : name ∷ [] ≡ other ∷ [] = sym is ∙ said one_file one_file_right words m.0 (λ items. operands_of items ≡ other ∷ []) m.1.read w in
             cc,
       )
+
+  -- ---- `drill`
+
+  -- the words of a number are one operand
+  file_of : (number : ℕ) (w : IsDrill words number) → IsOneFile words w.says.text
+  file_of number w = record { items = w.items; read = w.read; once = w.once; says = w.says.alone }
+
+  pub drill_none : ((name : List ℕ) → IsOneFile words name → ⊥) → (number : ℕ) → IsDrill words number → ⊥
+  drill_none none number w = none w.says.text (file_of number w)
+
+  pub drill_found : (text : List ℕ) → IsExactly (IsOneFile words) (Some text) → (answer : Option ℕ) → IsExactly (IsDrillNumber text) answer → IsExactly (IsDrill words) answer
+  drill_found text file None none = λ number w. none number (subst (λ t. IsDrillNumber t number) (file.1 w.says.text (file_of number w)) w.says.writes)
+  drill_found text file (Some number) exact = (
+    record { items = file.0.items; read = file.0.read; once = file.0.once; says = record { text = text; alone = file.0.says; writes = exact.0 } },
+    λ other w. exact.1 other (subst (λ t. IsDrillNumber t other) (file.1 w.says.text (file_of other w)) w.says.writes),
+  )
 
   -- ---- two files
 
@@ -245,6 +262,7 @@ verb_for (commands.Explain grammar analysis) = verbs.Explain
 verb_for (commands.Check grammar) = verbs.Check
 verb_for (commands.Lexicon grammar) = verbs.Lexicon
 verb_for (commands.Print grammar) = verbs.Print
+verb_for (commands.Drill number) = verbs.Drill
 
 -- how a verb is spelled
 spelling_of : Verb → List ℕ
@@ -254,6 +272,7 @@ spelling_of verbs.Explain = codes "explain"
 spelling_of verbs.Check = codes "check"
 spelling_of verbs.Lexicon = codes "lexicon"
 spelling_of verbs.Print = codes "print"
+spelling_of verbs.Drill = codes "drill"
 
 verb_spelled : (verb : Verb) → verb_of (spelling_of verb) ≡ Some verb
 unfolding verb_of spelling_of
@@ -263,30 +282,31 @@ verb_spelled verbs.Explain = refl
 verb_spelled verbs.Check = refl
 verb_spelled verbs.Lexicon = refl
 verb_spelled verbs.Print = refl
+verb_spelled verbs.Drill = refl
 
-chosen : Bool → Bool → Bool → Bool → Bool → Bool → Option Verb
-chosen a g b c d e =
-    if a then Some verbs.Parse else
-    (if g then Some verbs.Resume else (if b then Some verbs.Explain else (if c then Some verbs.Check else (if d then Some verbs.Lexicon else (if e then Some verbs.Print else None)))))
+chosen : Bool → Bool → Bool → Bool → Bool → Bool → Bool → Option Verb
+chosen a g b c d e i =
+    if a then Some verbs.Parse else (if g then Some verbs.Resume else (if b then Some verbs.Explain else (if c then Some verbs.Check else (if d then Some verbs.Lexicon else (if e then Some verbs.Print else (if i then Some verbs.Drill else None))))))
 
-chosen_spells : (a g b c d e : Bool) (word : List ℕ) (verb : Verb) → (a ≡ true → word ≡ codes "parse") → (g ≡ true → word ≡ codes "resume") → (b ≡ true → word ≡ codes "explain") → (c ≡ true → word ≡ codes "check")
-    → (d ≡ true → word ≡ codes "lexicon") → (e ≡ true → word ≡ codes "print") → chosen a g b c d e ≡ Some verb → word ≡ spelling_of verb
+chosen_spells : (a g b c d e i : Bool) (word : List ℕ) (verb : Verb) → (a ≡ true → word ≡ codes "parse") → (g ≡ true → word ≡ codes "resume") → (b ≡ true → word ≡ codes "explain") → (c ≡ true → word ≡ codes "check")
+    → (d ≡ true → word ≡ codes "lexicon") → (e ≡ true → word ≡ codes "print") → (i ≡ true → word ≡ codes "drill") → chosen a g b c d e i ≡ Some verb → word ≡ spelling_of verb
 unfolding chosen spelling_of
-chosen_spells true g b c d e word verb p h q r s t f = let is : verbs.Parse ≡ verb = cc in subst (λ v. word ≡ spelling_of v) is (p refl)
-chosen_spells false true b c d e word verb p h q r s t f = let is : verbs.Resume ≡ verb = cc in subst (λ v. word ≡ spelling_of v) is (h refl)
-chosen_spells false false true c d e word verb p h q r s t f = let is : verbs.Explain ≡ verb = cc in subst (λ v. word ≡ spelling_of v) is (q refl)
-chosen_spells false false false true d e word verb p h q r s t f = let is : verbs.Check ≡ verb = cc in subst (λ v. word ≡ spelling_of v) is (r refl)
-chosen_spells false false false false true e word verb p h q r s t f = let is : verbs.Lexicon ≡ verb = cc in subst (λ v. word ≡ spelling_of v) is (s refl)
-chosen_spells false false false false false true word verb p h q r s t f = let is : verbs.Print ≡ verb = cc in subst (λ v. word ≡ spelling_of v) is (t refl)
-chosen_spells false false false false false false word verb p h q r s t f = absurd cc
+chosen_spells true g b c d e i word verb p h q r s t u f = let is : verbs.Parse ≡ verb = cc in subst (λ v. word ≡ spelling_of v) is (p refl)
+chosen_spells false true b c d e i word verb p h q r s t u f = let is : verbs.Resume ≡ verb = cc in subst (λ v. word ≡ spelling_of v) is (h refl)
+chosen_spells false false true c d e i word verb p h q r s t u f = let is : verbs.Explain ≡ verb = cc in subst (λ v. word ≡ spelling_of v) is (q refl)
+chosen_spells false false false true d e i word verb p h q r s t u f = let is : verbs.Check ≡ verb = cc in subst (λ v. word ≡ spelling_of v) is (r refl)
+chosen_spells false false false false true e i word verb p h q r s t u f = let is : verbs.Lexicon ≡ verb = cc in subst (λ v. word ≡ spelling_of v) is (s refl)
+chosen_spells false false false false false true i word verb p h q r s t u f = let is : verbs.Print ≡ verb = cc in subst (λ v. word ≡ spelling_of v) is (t refl)
+chosen_spells false false false false false false true word verb p h q r s t u f = let is : verbs.Drill ≡ verb = cc in subst (λ v. word ≡ spelling_of v) is (u refl)
+chosen_spells false false false false false false false word verb p h q r s t u f = absurd cc
 
 -- a word is the spelling of the verb that it spells
 spells : (word : List ℕ) (verb : Verb) → verb_of word ≡ Some verb → word ≡ spelling_of verb
 unfolding verb_of chosen
 spells word verb e =
-    chosen_spells (bytes_eq word (codes "parse")) (bytes_eq word (codes "resume")) (bytes_eq word (codes "explain")) (bytes_eq word (codes "check")) (bytes_eq word (codes "lexicon")) (bytes_eq word (codes "print")) word verb
+    chosen_spells (bytes_eq word (codes "parse")) (bytes_eq word (codes "resume")) (bytes_eq word (codes "explain")) (bytes_eq word (codes "check")) (bytes_eq word (codes "lexicon")) (bytes_eq word (codes "print")) (bytes_eq word (codes "drill")) word verb
     (bytes_eq-Decides word (codes "parse")).0 (bytes_eq-Decides word (codes "resume")).0 (bytes_eq-Decides word (codes "explain")).0 (bytes_eq-Decides word (codes "check")).0 (bytes_eq-Decides word (codes "lexicon")).0
-    (bytes_eq-Decides word (codes "print")).0 e
+    (bytes_eq-Decides word (codes "print")).0 (bytes_eq-Decides word (codes "drill")).0 e
 
 -- a command is spelled by its verb, which the later words follow
 of_command : (words : List (List ℕ)) (command : Command) → IsCommand words command
@@ -298,6 +318,7 @@ of_command words (commands.Explain grammar analysis) w = (w.later, w.words_are, 
 of_command words (commands.Check grammar) w = (w.later, w.words_are, record { items = w.items; read = w.read; once = w.once; says = w.says })
 of_command words (commands.Lexicon grammar) w = (w.later, w.words_are, record { items = w.items; read = w.read; once = w.once; says = w.says })
 of_command words (commands.Print grammar) w = (w.later, w.words_are, record { items = w.items; read = w.read; once = w.once; says = w.says })
+of_command words (commands.Drill number) w = (w.later, w.words_are, record { items = w.items; read = w.read; once = w.once; says = w.says })
 
 -- and back
 to_command : (verb : Verb) (later : List (List ℕ)) (command : Command) → IsOfVerb verb later command → IsCommand (spelling_of verb ∷ later) command
@@ -308,6 +329,7 @@ to_command verbs.Explain later (commands.Explain grammar analysis) w = record { 
 to_command verbs.Check later (commands.Check grammar) w = record { later = later; items = w.items; words_are = refl; read = w.read; once = w.once; says = w.says }
 to_command verbs.Lexicon later (commands.Lexicon grammar) w = record { later = later; items = w.items; words_are = refl; read = w.read; once = w.once; says = w.says }
 to_command verbs.Print later (commands.Print grammar) w = record { later = later; items = w.items; words_are = refl; read = w.read; once = w.once; says = w.says }
+to_command verbs.Drill later (commands.Drill number) w = record { later = later; items = w.items; words_are = refl; read = w.read; once = w.once; says = w.says }
 to_command verb later command w = absurd w
 
 -- words of which the first is no command's are no command
@@ -384,6 +406,11 @@ one_file_name words a b p q =
     let same : a ∷ [] ≡ b ∷ [] = sym p.says ∙ said one_file one_file_right words p.items (λ items. operands_of items ≡ b ∷ []) p.read q in
     cc
 
+one_drill : (words : List (List ℕ)) (a b : ℕ) → IsDrill words a → IsDrill words b → a ≡ b
+one_drill words a b p q =
+    let text : p.says.text ≡ q.says.text = one_file_name words p.says.text q.says.text (file_of words a p) (file_of words b q) in
+    p.says.writes.value ∙ ap (digits_value 10) text ∙ sym q.says.writes.value
+
 one_pair : (words : List (List ℕ)) (a b : Files) → IsTwoFiles words a → IsTwoFiles words b → (a.grammar ≡ b.grammar) × (a.analysis ≡ b.analysis)
 one_pair words a b p q =
     let same : a.grammar ∷ a.analysis ∷ [] ≡ b.grammar ∷ b.analysis ∷ [] = sym p.says ∙ said two_files two_files_right words p.items (λ items. operands_of items ≡ b.grammar ∷ b.analysis ∷ []) p.read q in
@@ -398,12 +425,14 @@ one_of_verb verbs.Explain words (commands.Explain a c) (commands.Explain b d) p 
 one_of_verb verbs.Check words (commands.Check a) (commands.Check b) p q = ap (λ n. commands.Check n) (one_file_name words a b p q)
 one_of_verb verbs.Lexicon words (commands.Lexicon a) (commands.Lexicon b) p q = ap (λ n. commands.Lexicon n) (one_file_name words a b p q)
 one_of_verb verbs.Print words (commands.Print a) (commands.Print b) p q = ap (λ n. commands.Print n) (one_file_name words a b p q)
+one_of_verb verbs.Drill words (commands.Drill a) (commands.Drill b) p q = ap (λ n. commands.Drill n) (one_drill words a b p q)
 one_of_verb verbs.Parse words (commands.Parse a) b p q = absurd q
 one_of_verb verbs.Resume words (commands.Resume a) b p q = absurd q
 one_of_verb verbs.Explain words (commands.Explain a c) b p q = absurd q
 one_of_verb verbs.Check words (commands.Check a) b p q = absurd q
 one_of_verb verbs.Lexicon words (commands.Lexicon a) b p q = absurd q
 one_of_verb verbs.Print words (commands.Print a) b p q = absurd q
+one_of_verb verbs.Drill words (commands.Drill a) b p q = absurd q
 one_of_verb verb words a b p q = absurd p
 
 pub one_command : (words : List (List ℕ)) (a b : Command) → IsCommand words a → IsCommand words b → a ≡ b

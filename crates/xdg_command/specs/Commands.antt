@@ -20,6 +20,10 @@ pub record IsNumber (least most : ℕ) (text : List ℕ) (number : ℕ) : Type 0
   pub above : least ≤ number
   pub below : number ≤ most
 
+-- the number of a drill, 0 to 999,999
+abbrev pub IsDrillNumber : List ℕ → ℕ → Type 0
+IsDrillNumber text number = IsNumber 0 999999 text number
+
 -- ---- the values of options
 
 -- `--budget N`, 1 to 1,000,000,000; 10,000,000 where it isn't given
@@ -50,6 +54,7 @@ spelled (commands.Explain grammar analysis) = codes "explain"
 spelled (commands.Check grammar) = codes "check"
 spelled (commands.Lexicon grammar) = codes "lexicon"
 spelled (commands.Print grammar) = codes "print"
+spelled (commands.Drill number) = codes "drill"
 
 -- the names of a command's options that take a value
 abbrev pub values_of : Command → List (List ℕ)
@@ -77,6 +82,12 @@ pub record SaysResume (items : List Item) (options : ResumeOptions) : Type 0 whe
   pub first : HasFirst (value_of (codes "first") items) options.first
   pub text : HasText (value_of (codes "text") items) options.text
 
+-- the items of `drill`: one operand, which writes the number
+pub record SaysDrill (items : List Item) (number : ℕ) : Type 0 where
+  pub text : List ℕ
+  pub alone : operands_of items ≡ text ∷ []
+  pub writes : IsDrillNumber text number
+
 -- the items are the operands and options of the command
 abbrev pub Says : List Item → Command → Type 0
 Says items (commands.Parse options) = SaysParse items options
@@ -85,6 +96,7 @@ Says items (commands.Explain grammar analysis) = operands_of items ≡ grammar �
 Says items (commands.Check grammar) = operands_of items ≡ grammar ∷ []
 Says items (commands.Lexicon grammar) = operands_of items ≡ grammar ∷ []
 Says items (commands.Print grammar) = operands_of items ≡ grammar ∷ []
+Says items (commands.Drill number) = SaysDrill items number
 
 -- The words are the command: its spelling, and then items, each option at most once, that say what it is to do.
 pub record IsCommand (words : List (List ℕ)) (command : Command) : Type 0 where

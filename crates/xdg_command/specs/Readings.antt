@@ -1,7 +1,7 @@
 -- The words after a command's name, by what they say.
 use Rattle.std.specs.Prelude.{◌≡◌, ℕ, List, [], ◌∷◌, codes}
 use Rattle.xdg_command.specs.Items.{Item, AreItems, IsOnce, operands_of}
-use Rattle.xdg_command.specs.Commands.{SaysParse, SaysResume}
+use Rattle.xdg_command.specs.Commands.{SaysDrill, SaysParse, SaysResume}
 use Rattle.xdg_command.specs.declared.commands.Command.{Command}
 use Rattle.xdg_command.specs.declared.commands.Command.TheVariants as commands
 use Rattle.xdg_command.specs.declared.commands.ParseOptions.{ParseOptions}
@@ -25,6 +25,10 @@ IsOneFile words name = AreWords [] [] words (λ items. operands_of items ≡ nam
 abbrev pub IsTwoFiles : List (List ℕ) → Files → Type 0
 IsTwoFiles words files = AreWords [] [] words (λ items. operands_of items ≡ files.grammar ∷ files.analysis ∷ [])
 
+-- what follows `drill`
+abbrev pub IsDrill : List (List ℕ) → ℕ → Type 0
+IsDrill words number = AreWords [] [] words (λ items. SaysDrill items number)
+
 -- what follows `parse`
 abbrev pub IsParse : List (List ℕ) → ParseOptions → Type 0
 IsParse words options = AreWords (codes "budget" ∷ codes "first" ∷ codes "text" ∷ []) (codes "segment" ∷ []) words (λ items. SaysParse items options)
@@ -41,4 +45,5 @@ IsOfVerb verbs.Explain words (commands.Explain grammar analysis) = IsTwoFiles wo
 IsOfVerb verbs.Check words (commands.Check grammar) = IsOneFile words grammar
 IsOfVerb verbs.Lexicon words (commands.Lexicon grammar) = IsOneFile words grammar
 IsOfVerb verbs.Print words (commands.Print grammar) = IsOneFile words grammar
+IsOfVerb verbs.Drill words (commands.Drill number) = IsDrill words number
 IsOfVerb verb words command = ⊥

@@ -11,4 +11,5 @@ verb_of word =
     (if bytes_eq word (codes "check") then Some verbs.Check else
     (if bytes_eq word (codes "lexicon") then Some verbs.Lexicon else
     (if bytes_eq word (codes "print") then Some verbs.Print else
-    None)))))
+    (if bytes_eq word (codes "drill") then Some verbs.Drill else
+    None))))))

@@ -70,4 +70,9 @@ pub enum Command {
         /// The name of the grammar file.
         grammar: Text,
     },
+    /// `drill`: how many analyses the sentence of a generated grammar has, and how many of them break a principle.
+    Drill {
+        /// The number that the grammar and the sentence are made from, 0 to 999,999.
+        number: u64,
+    },
 }

@@ -4,7 +4,7 @@ ghost use Rattle.std.specs.Prelude.{◌≡◌, IfOk, map};
 ghost use Rattle.std.specs.String.{string_bytes};
 ghost use Rattle.xdg_command.specs.Answers.{IsExactly};
 ghost use Rattle.xdg_command.specs.Commands.{IsCommand};
-ghost use Rattle.xdg_command.specs.Readings.{IsOfVerb, IsOneFile, IsParse, IsResume, IsTwoFiles};
+ghost use Rattle.xdg_command.specs.Readings.{IsDrill, IsOfVerb, IsOneFile, IsParse, IsResume, IsTwoFiles};
 ghost use Rattle.xdg_command.specs.Verbs.{verb_of};
 ghost use Rattle.xdg_command.specs.declared.commands.Command.{Command};
 
@@ -22,6 +22,7 @@ enum Verb {
     Check,
     Lexicon,
     Print,
+    Drill,
 }
 
 /// The operands of `explain`.
@@ -60,6 +61,16 @@ fn two_files(alloc: Global, words: &[String]) -> Result<Option<Files>, OutOfMemo
     let grammar = Text::from_str(alloc, grammar)?;
     let analysis = Text::from_str(alloc, analysis)?;
     Ok(Some(Files { grammar, analysis }))
+}
+
+/// The number that is the one operand of words without options.
+fn drill(alloc: Global, words: &[String]) -> Result<Option<u64>, OutOfMemory>
+    ensures { IfOk result (IsExactly (IsDrill (map string_bytes words.now))) }
+{
+    match one_file(alloc, words)? {
+        Some(text) => Ok(values::drill_number(text.as_str())),
+        None => Ok(None),
+    }
 }
 
 /// The operand and the options of `parse`.
@@ -137,6 +148,7 @@ fn verb_of(word: &str) -> Option<Verb>
         "check" => Some(Verb::Check),
         "lexicon" => Some(Verb::Lexicon),
         "print" => Some(Verb::Print),
+        "drill" => Some(Verb::Drill),
         _ => None,
     }
 }
@@ -168,6 +180,10 @@ fn with_name(alloc: Global, verb: Verb, words: &[String]) -> Result<Option<Comma
         },
         Verb::Print => match one_file(alloc, words)? {
             Some(grammar) => Ok(Some(Command::Print { grammar })),
+            None => Ok(None),
+        },
+        Verb::Drill => match drill(alloc, words)? {
+            Some(number) => Ok(Some(Command::Drill { number })),
             None => Ok(None),
         },
     }

@@ -4,7 +4,7 @@ ghost use Rattle.std.specs.Prelude.{◌≡◌, ◌≤◌, option_map};
 ghost use Rattle.std.specs.List.{list_all};
 ghost use Rattle.std.specs.Char.{is_ascii_digit};
 ghost use Rattle.xdg_command.specs.Answers.{IsExactly};
-ghost use Rattle.xdg_command.specs.Commands.{HasBudget, HasFirst, HasText, IsNumber};
+ghost use Rattle.xdg_command.specs.Commands.{HasBudget, HasFirst, HasText, IsDrillNumber, IsNumber};
 
 use crate::TextForm;
 
@@ -16,6 +16,9 @@ const GREATEST_BUDGET: u64 = 1_000_000_000;
 
 /// The greatest number of analyses after which to stop.
 const GREATEST_FIRST: u64 = 1_000_000;
+
+/// The greatest number of a drill.
+const GREATEST_DRILL: u64 = 999_999;
 
 /// Whether each of the bytes is a digit.
 fn are_digits(bytes: &[u8]) -> bool
@@ -59,6 +62,13 @@ pub(crate) fn first(given: Option<&str>) -> Option<Option<u64>>
         },
         None => Some(None),
     }
+}
+
+/// The number of a drill, from its operand.
+pub(crate) fn drill_number(text: &str) -> Option<u64>
+    ensures { IsExactly (IsDrillNumber text.now) result }
+{
+    number(text, 0, GREATEST_DRILL)
 }
 
 /// The form of analyses, from the value of `--text`.
