@@ -1,0 +1,4 @@
+pub mod Tallies
+pub mod Tallying
+pub mod OneCount
+pub mod Sound
