@@ -22,6 +22,8 @@ mod settling;
 #[cfg(test)]
 mod storing;
 #[cfg(test)]
+mod streaming;
+#[cfg(test)]
 mod trails;
 #[cfg(test)]
 mod trees;
