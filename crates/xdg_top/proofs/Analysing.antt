@@ -8,7 +8,6 @@ use Rattle.xdg_base.specs.declared.faults.Stop.TheVariants as stops
 use Rattle.xdg_build.specs.Compiled.{compiled}
 use Rattle.xdg_build.specs.Refusals.{refusal, IsRefused}
 use Rattle.xdg_build.specs.Solutions.{KeepsSolutions}
-use Rattle.xdg_entries.specs.Entries.{IsWordPlace}
 use Rattle.xdg_fitting.specs.Fits as fitting
 use Rattle.xdg_grammar.specs.Answers.{meaning_of}
 use Rattle.xdg_grammar.specs.Packed.{IsPackedOf}
@@ -24,7 +23,7 @@ use Rattle.xdg_reading.specs.declared.texts.AnalysisText.{AnalysisText}
 use Rattle.xdg_top.specs.Analyses.{Analysed, HasAnalysis, HasBadAnalysis, IsNoAnalysis, too_long, unreadable, unknown_word, unfit, analysis_limit}
 use Rattle.xdg_top.specs.Grammars.{with_words}
 use Rattle.xdg_top.specs.Judging.{IsJudged, IsNotJudged, no_memory, word_unknown, not_fit, analysed_of, of_words}
-use Rattle.xdg_top.specs.Places.{place_in, fault}
+use Rattle.xdg_top.specs.Places.{fault}
 use Rattle.xdg_top.specs.Refusals.{RejectsAt, Stops, refusal_of}
 use Rattle.xdg_top.specs.Stages.{Accepts, Rejects}
 use Rattle.xdg_top.specs.declared.analysis.Judgeable.{Judgeable}

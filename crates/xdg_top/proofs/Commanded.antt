@@ -1,5 +1,5 @@
 -- What a run leaves, from what its command leaves.
-use Rattle.std.proofs.Common.{◌≡◌, ◌<◌, ◌⊎◌, inl, inr, ℕ, List, Some, None, refl, sym, ◌∙◌, subst, arith}
+use Rattle.std.proofs.Common.{◌≡◌, ◌<◌, ◌⊎◌, inl, inr, ℕ, List, Some, None, refl, sym, subst, arith}
 use Rattle.std.specs.Prelude.{◌≢◌, Option, codes}
 use Rattle.xdg_command.specs.Answers.{IsExactly}
 use Rattle.xdg_analyses.specs.Written.{IsSome}
@@ -84,6 +84,7 @@ never_usage (commands.Explain grammar analysis) e = e
 never_usage (commands.Check grammar) e = e
 never_usage (commands.Lexicon grammar) e = e
 never_usage (commands.Print grammar) e = e
+never_usage (commands.Drill number) e = e
 
 -- each may end for want of memory
 pub memory_ends : (command : Command) → EndsWith command statuses.OutOfMemory
@@ -93,6 +94,7 @@ memory_ends (commands.Explain grammar analysis) = tt
 memory_ends (commands.Check grammar) = tt
 memory_ends (commands.Lexicon grammar) = tt
 memory_ends (commands.Print grammar) = tt
+memory_ends (commands.Drill number) = tt
 
 pub not_usage : (command : Command) (result : Status) → EndsWith command result → result ≡ statuses.Usage → ⊥
 not_usage command result ends e = never_usage command (subst (EndsWith command) e ends)

@@ -1,12 +1,11 @@
 -- What a run leaves behind, from what its steps left.
-use Rattle.std.proofs.Common.{◌≡◌, ◌⊎◌, inl, inr, ℕ, List, refl, sym, ◌∙◌, ap, subst}
+use Rattle.std.proofs.Common.{◌≡◌, inl, inr, ℕ, List, refl, sym, ◌∙◌, ap, subst}
 use Rattle.std.specs.Prelude.{Option}
 use Rattle.xdg_base.specs.declared.faults.Fault.{Fault}
-use Rattle.xdg_base.specs.declared.places.LineColumn.{LineColumn}
 use Rattle.xdg_io.specs.Held.{Appends, AppendsFront}
 use Rattle.xdg_text.specs.Lines.{fault_text}
 use Rattle.xdg_top.specs.Places.{place_in}
-use Rattle.xdg_top.specs.Refusals.{RejectsAt, Stops, Refuses}
+use Rattle.xdg_top.specs.Refusals.{Stops, Refuses}
 use Rattle.xdg_top.specs.Runs.{Ends, Leaves}
 use Rattle.xdg_top.specs.Stages.{Behind, refused, accepted, Accepts, Rejects}
 use Rattle.xdg_top.specs.Outcomes.{IsDone}

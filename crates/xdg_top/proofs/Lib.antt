@@ -6,3 +6,4 @@ pub mod Sentencing
 pub mod Analysing
 pub mod Commanded
 pub mod Writing
+pub mod Drilling

@@ -8,8 +8,8 @@ use Rattle.xdg_grammar.specs.Answers.{IsAnswer, Gives, Tells, meaning_of}
 use Rattle.xdg_grammar.specs.Meanings.{Meaning, Means}
 use Rattle.xdg_grammar.specs.declared.expanding.Expanded.{Expanded}
 use Rattle.xdg_top.specs.Grammars.{IsBadGrammar}
-use Rattle.xdg_top.specs.Refusals.{RejectsAt, Stops, refusal_of}
-use Rattle.xdg_top.specs.Stages.{Accepts, Rejects}
+use Rattle.xdg_top.specs.Refusals.{Stops, refusal_of}
+use Rattle.xdg_top.specs.Stages.{Accepts}
 use Rattle.xdg_top.specs.Texts.{ReadText}
 use Rattle.xdg_top.specs.Outcomes.{MeaningThen}
 use Rattle.xdg_top.specs.Refusals.{Refuses}

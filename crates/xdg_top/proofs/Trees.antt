@@ -5,18 +5,16 @@ use Rattle.xdg_base.specs.declared.faults.Cause.TheVariants as causes
 use Rattle.xdg_base.specs.declared.faults.Fault.{Fault}
 use Rattle.xdg_base.specs.declared.faults.Stop.{Stop}
 use Rattle.xdg_base.specs.declared.faults.Stop.TheVariants as stops
-use Rattle.xdg_base.specs.declared.places.LineColumn.{LineColumn}
 use Rattle.xdg_base.specs.Places.{line_of, column_of}
 use Rattle.xdg_ast.specs.declared.grammar.Grammar.{Grammar}
 use Rattle.xdg_ast.specs.Derives.{Reads}
 use Rattle.xdg_grammar.specs.Texts.{IsUnreadable, IsReadAs, ReadsAs, TellsTree}
-use Rattle.xdg_io.specs.Files.{HasFile, HasLongFile}
+use Rattle.xdg_io.specs.Files.{HasFile}
 use Rattle.xdg_top.specs.Places.{place_in, fault}
 use Rattle.xdg_top.specs.Refusals.{RejectsAt, Stops, refusal_of}
 use Rattle.xdg_top.specs.Stages.{Accepts, Rejects}
 use Rattle.xdg_top.specs.Texts.{ReadText, HasTree, HasBadText, IsBadText, too_long, unreadable, grammar_limit}
 use Rattle.xdg_top.specs.declared.refusals.Refusal.{Refusal}
-use Rattle.xdg_top.specs.declared.refusals.Refusal.TheVariants as refusals
 
 -- what `read_tree` says of its answer
 abbrev pub Only : List ℕ → Result Grammar Stop → Type 0

@@ -2,7 +2,7 @@
 use Rattle.std.specs.Prelude.{◌≡◌, ℕ, List}
 use Rattle.xdg_base.specs.declared.faults.Fault.{Fault}
 use Rattle.xdg_groups.specs.Grammars.{Grammar}
-use Rattle.xdg_grammar.specs.Meanings.{Meaning, Means, Offends}
+use Rattle.xdg_grammar.specs.Meanings.{Meaning, Offends}
 use Rattle.xdg_top.specs.Texts.{ReadText}
 
 -- the grammar of a text is refused

@@ -1,5 +1,5 @@
 -- The status and the text of a run, as its words, the files and the input alone determine them.
-use Rattle.std.specs.Prelude.{◌≡◌, ℕ, List, [], ◌∷◌, length, Option, codes, decimal}
+use Rattle.std.specs.Prelude.{◌≡◌, ℕ, false, List, [], ◌∷◌, length, Option, Some, codes, decimal}
 use Rattle.xdg_ast.specs.Canon.{canon}
 use Rattle.xdg_analyses.specs.Printed.{Prints}
 use Rattle.xdg_analyses.specs.Written.{IsSome}
@@ -13,6 +13,9 @@ use Rattle.xdg_command.specs.declared.commands.ParseOptions.{ParseOptions}
 use Rattle.xdg_command.specs.declared.commands.ResumeOptions.{ResumeOptions}
 use Rattle.xdg_command.specs.declared.commands.TextForm.{TextForm}
 use Rattle.xdg_command.specs.declared.commands.TextForm.TheVariants as texts
+use Rattle.xdg_counts.specs.Counted.{AreCounts}
+use Rattle.xdg_counts.specs.declared.counting.Counts.{Counts}
+use Rattle.xdg_drill.specs.Generated.{grammar_text, sentence_text}
 use Rattle.xdg_grammar.specs.Meanings.{Meaning, Means}
 use Rattle.xdg_judge.specs.declared.verdict.Verdict.{Verdict}
 use Rattle.xdg_judge.specs.Verdicts.{AreVerdicts}
@@ -122,6 +125,45 @@ LexiconOf grammar files = GrammarThen files grammar (λ read m. IsDone (lexicon_
 abbrev pub PrintOf : List ℕ → Files → Status → List ℕ → Type 0
 PrintOf grammar files = ReadThen files grammar (λ read. IsDone (canon read.tree))
 
+-- ---- `drill`
+
+-- each name is that of a file with the generated grammar
+abbrev pub generated : ℕ → Files
+generated number name = Some (grammar_text number)
+
+-- the word behind the counts where the budget is spent
+abbrev pub spent_word : Ending → List (List ℕ)
+spent_word endings.Complete = []
+spent_word endings.First = []
+spent_word endings.Spent = codes "spent" ∷ []
+
+-- A analyses were found, B of them with a broken verdict
+abbrev pub counts_words : Counts → List (List ℕ)
+counts_words counts = codes "analyses" ∷ decimal counts.analyses ∷ codes "broken" ∷ decimal counts.broken ∷ spent_word counts.ending
+
+-- `drill N words W entries E analyses A broken B`, and `spent` where the budget is
+abbrev pub drill_line : ℕ → ℕ → ℕ → Counts → List ℕ
+drill_line number words entries counts =
+    line (codes "drill") (decimal number ∷ codes "words" ∷ decimal words ∷ codes "entries" ∷ decimal entries ∷ counts_words counts)
+
+-- the analyses of a problem are counted and judged, with the budget that a search has where none is given
+pub record Drilled (number : ℕ) (m : Meaning) (parts : Parts) (status : Status) (text : List ℕ) : Type 0 where
+  pub counts : Counts
+  pub are : AreCounts 10000000 parts counts
+  pub status_is : status ≡ status_of counts.ending
+  pub text_is : text ≡ drill_line number (length parts.words) (length m.entries) counts
+
+-- a text is a sentence of the grammar, with words between white space, and its problem comes next
+abbrev pub ProblemThen : List ℕ → Meaning → (Parts → Status → List ℕ → Type 0) → Status → List ℕ → Type 0
+ProblemThen input m next = Behind Parts statuses.BadSentence (IsBadSentence m false input) (HasProblem m false input) next
+
+-- so is the generated sentence, and its problem is searched
+abbrev pub DrillSentence : ℕ → Meaning → Status → List ℕ → Type 0
+DrillSentence number m = ProblemThen (sentence_text number) m (Drilled number m)
+
+abbrev pub DrillOf : ℕ → Status → List ℕ → Type 0
+DrillOf number = GrammarThen (generated number) [] (λ read. DrillSentence number)
+
 -- ---- a run
 
 -- where a command is asked for a number of analyses, it is at least one
@@ -137,6 +179,7 @@ CommandOf (commands.Explain grammar analysis) files input = ExplainOf grammar an
 CommandOf (commands.Check grammar) files input = CheckOf grammar files
 CommandOf (commands.Lexicon grammar) files input = LexiconOf grammar files
 CommandOf (commands.Print grammar) files input = PrintOf grammar files
+CommandOf (commands.Drill number) files input = DrillOf number
 
 abbrev pub IsNoCommand : List (List ℕ) → Type 0
 IsNoCommand given = (command : Command) → IsCommand given command → ⊥

@@ -33,6 +33,7 @@ ReadsFile (commands.Explain grammar analysis) name = (name ≡ grammar) ⊎ (nam
 ReadsFile (commands.Check grammar) name = name ≡ grammar
 ReadsFile (commands.Lexicon grammar) name = name ≡ grammar
 ReadsFile (commands.Print grammar) name = name ≡ grammar
+ReadsFile (commands.Drill number) name = ⊥
 
 -- the command reads the input
 abbrev pub ReadsInput : Command → Type 0
@@ -76,6 +77,15 @@ ExplainEnds statuses.BadRules = ⊥
 ExplainEnds statuses.BadCosts = ⊥
 ExplainEnds status = Unit {0}
 
+-- `drill`, which reads nothing
+abbrev pub DrillEnds : Status → Type 0
+DrillEnds statuses.Usage = ⊥
+DrillEnds statuses.ReadFault = ⊥
+DrillEnds statuses.BadAnalysis = ⊥
+DrillEnds statuses.BadRules = ⊥
+DrillEnds statuses.BadCosts = ⊥
+DrillEnds status = Unit {0}
+
 -- `check` and `lexicon`
 abbrev pub ReportEnds : Status → Type 0
 ReportEnds statuses.Usage = ⊥
@@ -103,6 +113,7 @@ EndsWith (commands.Explain grammar analysis) = ExplainEnds
 EndsWith (commands.Check grammar) = ReportEnds
 EndsWith (commands.Lexicon grammar) = ReportEnds
 EndsWith (commands.Print grammar) = PrintEnds
+EndsWith (commands.Drill number) = DrillEnds
 
 -- after a failed read and for want of memory nothing was added
 abbrev pub Unwritten : Status → Option (List ℕ) → Option (List ℕ) → Type 0

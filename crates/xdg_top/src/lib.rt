@@ -2,6 +2,7 @@
 #![tactic(auto)]
 
 mod analysis;
+mod drill;
 mod explain;
 mod loading;
 mod parse;

@@ -11,6 +11,7 @@ ghost use Rattle.xdg_top.specs.Outcomes.{CommandOf, IsNoCommand, IsUsage, Outcom
 ghost use Rattle.xdg_top.specs.Runs.{EndsWith, FailsToRead, Leaves, ReadFailed, ReadsInput, Wrote};
 
 use crate::Status;
+use crate::drill::drill;
 use crate::explain::explain_analysis;
 use crate::parse::parse_sentence;
 use crate::reports::{check_grammar, print_grammar, print_lexicon};
@@ -56,6 +57,7 @@ fn run_command<H: Shelf, S: Source, K: Sink>(
         Command::Check { grammar } => check_grammar(alloc, grammar.as_str(), shelf, out),
         Command::Lexicon { grammar } => print_lexicon(alloc, grammar.as_str(), shelf, out),
         Command::Print { grammar } => print_grammar(alloc, grammar.as_str(), shelf, out),
+        Command::Drill { number } => drill(alloc, *number, out),
     }
 }
 

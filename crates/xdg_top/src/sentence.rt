@@ -40,7 +40,7 @@ fn no_text(input: &[u8], at: usize) -> Refusal
 }
 
 /// The problem of a sentence, whose words are cut by the Unicode rules of word boundaries where that is asked for.
-fn problem_in(
+pub fn problem_in(
     alloc: Global,
     expanded: &Expanded,
     packed: &Packed,

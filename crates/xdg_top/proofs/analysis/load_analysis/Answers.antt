@@ -1,4 +1,4 @@
-use Rattle.std.proofs.Common.{sym, ◌∙◌, ap}
+use Rattle.std.proofs.Common.{◌∙◌, ap}
 use Rattle.xdg_top.specs.Refusals.{refusal_of}
 use Rattle.xdg_top.proofs.Analysing.{entries_of, unread_stops, unjudged_stops, judged_accepted}
 use Rattle.xdg_top.proofs.analysis.load_analysis.Goals as goal

@@ -1,7 +1,7 @@
 use Rattle.std.proofs.Common.{subst}
 use Rattle.xdg_command.specs.declared.commands.Command.TheVariants as commands
 use Rattle.xdg_top.specs.Outcomes.{CheckOf, ExplainOf, LexiconOf, PrintOf, WantsSome}
-use Rattle.xdg_top.specs.Runs.{Leaves, ReadsInput}
+use Rattle.xdg_top.specs.Runs.{DrillEnds, Leaves, ReadsInput}
 use Rattle.xdg_top.proofs.Commanded.{explain_failed, file_failed, parse_failed, resume_failed, said_leaves, said_reads, said_wrote}
 use Rattle.xdg_top.proofs.running.run_command.Goals as goal
 
@@ -95,3 +95,16 @@ returns-in-Print-clause-read_fault g c failed = file_failed c.args.command.now (
 
 pub returns-in-Print-clause-all_read : goal.returns-in-Print-clause-all_read
 returns-in-Print-clause-all_read g c content reads done told = absurd (subst ReadsInput c.in-Print.is reads)
+
+pub returns-in-Drill-clause-leaves : goal.returns-in-Drill-clause-leaves
+returns-in-Drill-clause-leaves g c files content told given =
+    said_leaves files content c.args.command.now (commands.Drill c.in-Drill.number) c.drill.result (g.K.Sink.held c.args.out.now) (g.K.Sink.held c.drill.new.out) c.in-Drill.is c.drill.ensures.leaves
+
+pub returns-in-Drill-clause-wrote : goal.returns-in-Drill-clause-wrote
+returns-in-Drill-clause-wrote g c = said_wrote c.args.command.now (commands.Drill c.in-Drill.number) c.drill.result (g.K.Sink.faults c.args.out.now) (g.K.Sink.faults c.drill.new.out) (g.K.Sink.held c.args.out.now) (g.K.Sink.held c.drill.new.out) c.in-Drill.is c.drill.ensures.wrote
+
+pub returns-in-Drill-clause-read_fault : goal.returns-in-Drill-clause-read_fault
+returns-in-Drill-clause-read_fault g c failed = absurd (subst DrillEnds failed c.drill.ensures.wrote.ends)
+
+pub returns-in-Drill-clause-all_read : goal.returns-in-Drill-clause-all_read
+returns-in-Drill-clause-all_read g c content reads done told = absurd (subst ReadsInput c.in-Drill.is reads)

@@ -2,7 +2,7 @@ use Rattle.std.proofs.Common.{sym, ◌∙◌, ap, subst}
 use Rattle.std.specs.Str.{IsValidUpTo}
 use Rattle.xdg_grammar.specs.Answers.{meaning_of}
 use Rattle.xdg_problem.specs.declared.parts.Parts.{Parts}
-use Rattle.xdg_top.specs.Refusals.{Stops, refusal_of}
+use Rattle.xdg_top.specs.Refusals.{Stops}
 use Rattle.xdg_top.specs.Sentences.{HasProblem, IsBadSentence}
 use Rattle.xdg_words.specs.Segments.{words_in}
 use Rattle.xdg_top.proofs.Sentencing.{no_text_rejected, problem_accepted, words_stop}
