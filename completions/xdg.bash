@@ -20,7 +20,7 @@ _xdg() {
         before=${COMP_WORDS[COMP_CWORD - 2]}
     fi
     if [ "$COMP_CWORD" -eq 1 ]; then
-        COMPREPLY=($(compgen -W "parse resume explain check lexicon print" -- "$word"))
+        COMPREPLY=($(compgen -W "parse resume explain check lexicon print drill" -- "$word"))
         return
     fi
     case ${COMP_WORDS[1]} in
