@@ -1,6 +1,8 @@
 pub mod Same
 pub mod Measure
 pub mod Passing
+pub mod Following
+pub mod Backing
 pub mod Steps
 pub mod Starting
 pub mod Progressing

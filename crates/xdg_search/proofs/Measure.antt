@@ -33,8 +33,19 @@ ahead_taken (s ∷ shape) [] v h = let k = first_below shape in omega (arith, k)
 ahead_taken [] (a ∷ q) v h = absurd (omega arith)
 ahead_taken (s ∷ shape) (a ∷ q) v h = let k = ahead_taken shape q v h in omega (arith, k)
 
-pub ahead_popped : (shape r : List ℕ) (w v : ℕ) → w < get_or shape (length r) 0 → ahead shape (r ++ (w + 1) ∷ []) < ahead shape ((r ++ w ∷ []) ++ v ∷ [])
-ahead_popped [] [] w v h = absurd (omega arith)
-ahead_popped (s ∷ shape) [] w v h = fewer (s - (w + 1)) (s - w) (full shape) (full shape) (ahead shape (v ∷ [])) (omega arith) (omega arith)
-ahead_popped [] (a ∷ r) w v h = absurd (omega arith)
-ahead_popped (s ∷ shape) (a ∷ r) w v h = let k = ahead_popped shape r w v h in omega (arith, k)
+-- behind a greater number in the place of w fewer are left than behind whatever begins with w
+pub ahead_back : (shape r t : List ℕ) (w : ℕ) → w < get_or shape (length r) 0 → ahead shape (r ++ (w + 1) ∷ []) < ahead shape (r ++ w ∷ t)
+ahead_back [] [] t w h = absurd (omega arith)
+ahead_back (s ∷ shape) [] t w h = fewer (s - (w + 1)) (s - w) (full shape) (full shape) (ahead shape t) (omega arith) (omega arith)
+ahead_back [] (a ∷ r) t w h = absurd (omega arith)
+ahead_back (s ∷ shape) (a ∷ r) t w h = let k = ahead_back shape r t w h in omega (arith, k)
+
+scaled : (k m n : ℕ) → k ≤ m → k * n ≤ m * n
+scaled k m n h = grind arith
+
+-- behind 0 there is most
+pub ahead_first : (shape q : List ℕ) (v : ℕ) → ahead shape (q ++ v ∷ []) ≤ ahead shape (q ++ 0 ∷ [])
+ahead_first [] [] v = omega arith
+ahead_first (s ∷ shape) [] v = let k = scaled (s - v) (s - 0) (1 + full shape) (omega arith) in omega (arith, k)
+ahead_first [] (a ∷ q) v = omega arith
+ahead_first (s ∷ shape) (a ∷ q) v = let k = ahead_first shape q v in omega (arith, k)

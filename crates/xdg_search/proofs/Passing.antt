@@ -8,7 +8,7 @@ use Rattle.xdg_listing.specs.Closed.{Closed, NoneAfter, SomeAfter}
 use Rattle.xdg_listing.specs.Passed.{Charges, Finds}
 use Rattle.xdg_listing.proofs.Ordered.{less_transitive, less_push, less_step, zero_next, not_less, less_or}
 use Rattle.xdg_listing.proofs.Wholes.{filter_more}
-use Rattle.xdg_listing.proofs.Reached.{before_later, before_taken, refused_none, exhausted_none, finished_none, last_from, so_far_last, last_before, last_append, last_at_most, none_after_last}
+use Rattle.xdg_listing.proofs.Reached.{before_later, before_taken, refused_none, last_from, so_far_last, last_before, last_append, last_at_most, none_after_last}
 use Rattle.xdg_search.specs.Place.{Next}
 use Rattle.xdg_search.specs.Halts.{HaltsAt}
 
@@ -31,7 +31,7 @@ passes_none shape P from c n kept z e = record {
   told = λ same. same;
 }
 
-later : (shape : List ℕ) (P : List ℕ → Type 0) (from c d : List ℕ) (n : ℕ) (kept now : List ℕ) → Less c d → ((x : List ℕ) → Fits shape x → P x → AtMost c x → AtMost d x) → Passes shape P from c n kept now → Passes shape P from d n kept now
+pub later : (shape : List ℕ) (P : List ℕ → Type 0) (from c d : List ℕ) (n : ℕ) (kept now : List ℕ) → Less c d → ((x : List ℕ) → Fits shape x → P x → AtMost c x → AtMost d x) → Passes shape P from c n kept now → Passes shape P from d n kept now
 later shape P from c d n kept now l none p = record {
   above = less_transitive from c d p.above l;
   passed = p.passed;
@@ -47,14 +47,6 @@ some_behind q v = let a = length-append q (v ∷ []) in omega (arith, a)
 -- the candidate is not counted, and so nothing that begins with it
 pub passes_refused : (shape : List ℕ) (P : List ℕ → Type 0) (from q : List ℕ) (v n : ℕ) (kept now : List ℕ) → Closed P → (P (q ++ v ∷ []) → ⊥) → Passes shape P from (q ++ v ∷ []) n kept now → Passes shape P from (q ++ (v + 1) ∷ []) n kept now
 passes_refused shape P from q v n kept now closed denied p = later shape P from (q ++ v ∷ []) (q ++ (v + 1) ∷ []) n kept now (less_step q v) (λ x f px k. refused_none P q x v closed denied (some_behind q v) px k) p
-
-less_pop : (r : List ℕ) (w v : ℕ) → Less ((r ++ w ∷ []) ++ v ∷ []) (r ++ (w + 1) ∷ [])
-less_pop [] w v = inl (omega arith)
-less_pop (a ∷ r) w v = inr (refl, less_pop r w v)
-
--- the candidate is out of range, and so is every later one behind this front
-pub passes_popped : (shape : List ℕ) (P : List ℕ → Type 0) (from r : List ℕ) (w v n : ℕ) (kept now : List ℕ) → get_or shape (length (r ++ w ∷ [])) 0 ≤ v → Passes shape P from ((r ++ w ∷ []) ++ v ∷ []) n kept now → Passes shape P from (r ++ (w + 1) ∷ []) n kept now
-passes_popped shape P from r w v n kept now out p = later shape P from ((r ++ w ∷ []) ++ v ∷ []) (r ++ (w + 1) ∷ []) n kept now (less_pop r w v) (λ x f px k. exhausted_none shape r x w v out f k) p
 
 -- the candidate is counted and not whole
 pub passes_taken : (shape : List ℕ) (P : List ℕ → Type 0) (from c : List ℕ) (n : ℕ) (kept now : List ℕ) → Fits shape c → P c → length c ≢ length shape → Passes shape P from c n kept now → Passes shape P from (c ++ 0 ∷ []) (n + 1) kept c
@@ -97,15 +89,15 @@ spent_at shape P from c n kept now f pc p = (
 )
 
 -- no candidate is left
-pub ended_at : (shape : List ℕ) (P : List ℕ → Type 0) (from : List ℕ) (v n : ℕ) (kept now : List ℕ) → get_or shape 0 0 ≤ v → Passes shape P from (v ∷ []) n kept now → HaltsAt shape P from n (NoneAfter shape P) kept now
-ended_at shape P from v n kept now out p = (
+pub ended_at : (shape : List ℕ) (P : List ℕ → Type 0) (from c : List ℕ) (n : ℕ) (kept now : List ℕ) → ((x : List ℕ) → Fits shape x → P x → AtMost c x → ⊥) → Passes shape P from c n kept now → HaltsAt shape P from n (NoneAfter shape P) kept now
+ended_at shape P from c n kept now none p = (
   record {
     to = last_from from p.passed;
     forward = last_at_most from p.passed p.listing.rises;
-    charges = charges_last shape P from (v ∷ []) n kept now p;
-    rest = λ x f px l. elim (less_or x (v ∷ [])) [
-      | inl k ↦ none_after_last shape P from (v ∷ []) p.passed p.listing x f px l k
-      | inr k ↦ finished_none shape x v out f k
+    charges = charges_last shape P from c n kept now p;
+    rest = λ x f px l. elim (less_or x c) [
+      | inl k ↦ none_after_last shape P from c p.passed p.listing x f px l k
+      | inr k ↦ none x f px k
     ];
   },
   p.told,

@@ -5,4 +5,5 @@ pub mod Lawful
 pub mod Progress
 pub mod Outcomes
 pub mod Vectors
+pub mod Forced
 pub mod Apart

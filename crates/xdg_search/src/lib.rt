@@ -1,7 +1,7 @@
 //! A search, in rising order, through the counted prefixes of a finite problem.
 #![tactic(auto)]
 
-ghost use Rattle.std.specs.Prelude.{◌≡◌, ◌≢◌, ◌<◌, ◌≤◌, ◌+◌, ◌-◌, ◌⊎◌, ◌++◌, ◌∷◌, [], ℕ, Bool, true, false, List, Option, Some, None, length, slice_index, take};
+ghost use Rattle.std.specs.Prelude.{◌≡◌, ◌≢◌, ◌<◌, ◌≤◌, ◌+◌, ◌-◌, ◌⊎◌, ◌++◌, ◌∷◌, [], ℕ, Bool, true, false, List, Option, Some, None, length, slice_index, take, drop};
 ghost use Rattle.std.specs.Vec.{vec_capacity};
 ghost use Rattle.xdg_listing.specs.Order.{Less, AtMost};
 ghost use Rattle.xdg_listing.specs.Fits.{Fits};
@@ -10,6 +10,7 @@ ghost use Rattle.xdg_listing.specs.Passed.{Charges, Finds};
 ghost use Rattle.xdg_listing.specs.Whole.{Whole};
 ghost use Rattle.xdg_search.specs.Problem.{SameProblem};
 ghost use Rattle.xdg_search.specs.Place.{place, Next, Stands};
+ghost use Rattle.xdg_search.specs.Forced.{Backs, Follows};
 ghost use Rattle.xdg_search.specs.Halts.{HaltsAt};
 ghost use Rattle.xdg_search.specs.Lawful.{IsLawful};
 ghost use Rattle.xdg_search.specs.declared.Step.{Step};
@@ -18,10 +19,10 @@ mod run;
 
 pub use run::{Outcome, collect, numbers_of, solve};
 
-/// A prefix of a finite problem that grows and shrinks by one number at a time, and stays counted.
+/// A prefix of a finite problem that grows and shrinks, and stays counted.
 ///
-/// An implementer keeps its own state in step with the prefix: what it knows of the prefix is made by `push` and undone
-/// by `pop`.
+/// An implementer keeps its own state in step with the prefix: what it knows of the prefix is made by `push` and `follow`, and
+/// undone by `back`.
 pub trait Front {
     /// What a problem is given as.
     type Given;
@@ -38,9 +39,9 @@ pub trait Front {
     /// The present prefix.
     ghost numbers: { Self → List ℕ };
 
-    /// The length of the prefix.
-    fn len(&self) -> usize
-        ensures { result ≡ length (numbers self.now) };
+    /// The numbers of the prefix.
+    fn prefix(&self) -> &[u16]
+        ensures { result.now ≡ numbers self.now };
 
     /// How many decisions there are.
     fn decisions(&self) -> usize
@@ -50,11 +51,6 @@ pub trait Front {
     fn size(&self, decision: usize) -> u16
         requires { decision < length (shape self.now) }
         ensures { result ≡ slice_index (shape self.now) decision };
-
-    /// The number that the prefix has for a decision.
-    fn number(&self, decision: usize) -> u16
-        requires { decision < length (numbers self.now) }
-        ensures { result ≡ slice_index (numbers self.now) decision };
 
     /// Adds a number, if the prefix with it is counted.
     fn push(&mut self, value: u16) -> bool
@@ -67,13 +63,22 @@ pub trait Front {
         ensures refused { result ≡ false →
             (numbers self.new ≡ numbers self.old) × (counted self.old (numbers self.old ++ value ∷ []) → ⊥) };
 
-    /// Takes the last number off.
-    fn pop(&mut self) -> u16
-        requires some { 0 < length (numbers self.old) }
+    /// Adds numbers of which there is no choice, as far as that is known, and so many of them at most. It answers how many.
+    fn follow(&mut self, most: u64) -> u64
+        requires fits { Fits (shape self.old) (numbers self.old) }
         requires counts { counted self.old (numbers self.old) }
         ensures kept { problem self.new ≡ problem self.old }
         ensures same { SameProblem (shape self.old) (counted self.old) (shape self.new) (counted self.new) }
-        ensures popped { numbers self.old ≡ numbers self.new ++ result ∷ [] };
+        ensures follows { Follows (shape self.old) (counted self.old) (numbers self.old) (numbers self.new) most result };
+
+    /// Takes numbers off, the last first, down to one in whose place a greater one may be counted, and answers that one. Where
+    /// there is none, all of them.
+    fn back(&mut self) -> Option<u16>
+        requires fits { Fits (shape self.old) (numbers self.old) }
+        requires counts { (length (numbers self.old) ≡ 0) ⊎ counted self.old (numbers self.old) }
+        ensures kept { problem self.new ≡ problem self.old }
+        ensures same { SameProblem (shape self.old) (counted self.old) (shape self.new) (counted self.new) }
+        ensures backs { Backs (shape self.old) (counted self.old) (numbers self.old) result (numbers self.new) };
 
     /// Each front of a counted prefix is counted.
     ghost closed: { (x : Self) → Closed (counted x) };
@@ -96,7 +101,7 @@ fn candidate<F: Front>(front: &F, value: u32) -> Option<u16>
     ensures some { (v : ℕ) → result ≡ Some v → (v ≡ value) × (v < slice_index (F.shape front.now) (length (F.numbers front.now))) }
     ensures none { result ≡ None → slice_index (F.shape front.now) (length (F.numbers front.now)) ≤ value }
 {
-    let len = front.len();
+    let len = front.prefix().len();
     if len == front.decisions() {
         return None;
     }
@@ -124,14 +129,17 @@ fn descend<F: Front>(front: &mut F, after: &[u16]) -> u32
     0
 }
 
-/// Keeps the numbers of a prefix, whose first ones are the first of those that are kept, and whose last is given.
-fn keep(reached: &mut Vec<u16>, first: usize, last: u16)
-    requires { first < vec_capacity reached.old }
-    ensures items { reached.new.items ≡ take first reached.old.items ++ last ∷ [] }
+/// Keeps the numbers of a prefix, the first of which are kept already.
+fn keep(reached: &mut Vec<u16>, first: usize, numbers: &[u16])
+    requires first { first ≤ length numbers.now }
+    requires room { length numbers.now ≤ vec_capacity reached.old }
+    ensures items { reached.new.items ≡ take first reached.old.items ++ drop first numbers.now }
     ensures room { vec_capacity reached.new ≡ vec_capacity reached.old }
 {
     reached.truncate(first);
-    reached.push_reserved(last);
+    for number in &numbers[first..] {
+        reached.push_reserved(*number);
+    }
 }
 
 /// A search: its front, the value that it tries next behind the front, and what it has charged.
@@ -204,22 +212,21 @@ impl<F: Front> Search<F> {
     {
         'steps: loop {
             match candidate(&self.front, self.value) {
-                None => {
-                    if self.front.len() == 0 {
-                        return Step::End;
-                    }
-                    self.value = u32::from(self.front.pop()) + 1;
-                }
+                None => match self.front.back() {
+                    None => return Step::End,
+                    Some(value) => self.value = u32::from(value) + 1,
+                },
                 Some(value) => {
                     if self.front.push(value) {
                         if self.charged == self.budget {
                             return Step::Spent;
                         }
+                        let first = self.front.prefix().len() - 1;
                         self.charged += 1;
+                        self.charged += self.front.follow(self.budget - self.charged);
                         self.value = 0;
-                        let len = self.front.len();
-                        keep(&mut self.reached, len - 1, value);
-                        if len == self.front.decisions() {
+                        keep(&mut self.reached, first, self.front.prefix());
+                        if self.front.prefix().len() == self.front.decisions() {
                             return Step::Found;
                         }
                     } else {

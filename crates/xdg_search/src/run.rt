@@ -28,11 +28,7 @@ pub struct Outcome {
 pub fn numbers_of<F: Front>(alloc: Global, front: &F) -> Result<Vec<u16>, AllocError>
     ensures { IfOk result (λ numbers. numbers.items ≡ F.numbers front.now) }
 {
-    let mut numbers = Vec::new(alloc);
-    for decision in 0..front.len() {
-        numbers.push(front.number(decision))?;
-    }
-    Ok(numbers)
+    Vec::from_slice(alloc, front.prefix())
 }
 
 /// Numbers in a vector that has room for more.

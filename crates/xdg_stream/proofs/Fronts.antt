@@ -1,29 +1,13 @@
 -- The boxes of the fronts of a prefix that grows and shrinks.
-use Rattle.std.proofs.Common.{◌≡◌, ◌≢◌, ℕ, ◌<◌, ◌≤◌, ◌+◌, zero, suc, inl, inr, Bool, List, [], ◌∷◌, ◌++◌, length, get_or, take, refl, ap, sym, ◌∙◌, arith, subst, length-append}
+use Rattle.std.proofs.Common.{◌≡◌, ◌≢◌, ℕ, ◌<◌, ◌≤◌, ◌+◌, zero, suc, inl, inr, Bool, List, [], ◌∷◌, ◌++◌, length, take, refl, ap, sym, ◌∙◌, arith, subst, length-append}
 use Rattle.std.specs.Prelude.{slice_index, slice_index_or}
 use Rattle.std.proofs.lemmas.Bool.{cases_lt}
-use Rattle.std.proofs.lemmas.List.{get_or_append_left, length-take-le, take_all}
+use Rattle.std.proofs.lemmas.List.{get_or_append_left, get_or-take, length-take-le, take-append-le, take-take, take_all}
 use Rattle.xdg_problem.specs.declared.parts.Parts.{Parts}
 use Rattle.xdg_rules.specs.Boxed.{Boxed}
 use Rattle.xdg_stream.specs.Levels.{IsLevel, HasLevels, AreLevels}
 
--- ---- lists
-
-taken_at : {A : Type 0} (xs : List A) (n k : ℕ) (d : A) → k < n → get_or (take n xs) k d ≡ get_or xs k d
-taken_at [] zero k d l = refl
-taken_at [] (suc n) k d l = refl
-taken_at (x ∷ xs) zero k d l = absurd (omega (arith, l))
-taken_at (x ∷ xs) (suc n) zero d l = refl
-taken_at (x ∷ xs) (suc n) (suc k) d l = taken_at xs n k d (omega (arith, l))
-
-take_front : (xs ys : List ℕ) (k : ℕ) → k ≤ length xs → take k (xs ++ ys) ≡ take k xs
-take_front [] [] zero l = refl
-take_front [] (y ∷ ys) zero l = refl
-take_front [] ys (suc k) l = absurd (omega (arith, l))
-take_front (x ∷ xs) ys zero l = refl
-take_front (x ∷ xs) ys (suc k) l = ap (λ z. x ∷ z) (take_front xs ys k (omega (arith, l)))
-
-last_at : (xs : List ℕ) (v : ℕ) → slice_index (xs ++ v ∷ []) (length xs) ≡ v
+pub last_at : (xs : List ℕ) (v : ℕ) → slice_index (xs ++ v ∷ []) (length xs) ≡ v
 last_at [] v = refl
 last_at (x ∷ xs) v = last_at xs v
 
@@ -36,11 +20,6 @@ module _ (parts : Parts) (history : List (List (List Bool))) (marks numbers : Li
   pub none_there : AreLevels parts history marks numbers → length marks ≡ 0 → (p : List ℕ) → Boxed parts p → ⊥
   none_there (inl has) z = absurd (let c = has.count in omega (arith, c, z))
   none_there (inr none) z = none.2
-
-  -- some number was pushed
-  pub levels_some : AreLevels parts history marks numbers → 0 < length numbers → HasLevels parts history marks numbers
-  levels_some (inl has) l = has
-  levels_some (inr none) l = absurd (let z = ap length none.1 in omega (arith, z, l))
 
   module _ (has : HasLevels parts history marks numbers) (at : ℕ) (is : at + 1 ≡ length marks) where
     here : at < length marks
@@ -66,7 +45,7 @@ module _ (parts : Parts) (history : List (List (List Bool))) (marks numbers : Li
           rising = has.rising;
           each = λ k l. (
               let r = has.rising k at (omega (arith, l, is)) here in
-              subst (IsLevel parts (take k numbers)) (sym (taken_at history (slice_index marks at + 1) (slice_index marks k) [] (omega (arith, r)))) (has.each k l)
+              subst (IsLevel parts (take k numbers)) (sym (get_or-take (slice_index marks at + 1) history (slice_index marks k) [] (omega (arith, r)))) (has.each k l)
               );
         }
 
@@ -79,9 +58,9 @@ module _ (parts : Parts) (history : List (List (List Bool))) (marks numbers : Li
     each = λ k l. subst (IsLevel parts (take k numbers)) (sym (get_or_append_left history more [] (slice_index marks k) (has.within k l))) (has.each k l);
   }
 
-  -- the newest box is that of the prefix and a number more
-  pub levels_pushed : (mark v : ℕ) → HasLevels parts history marks numbers → mark + 1 ≡ length history → IsLevel parts (numbers ++ v ∷ []) (slice_index_or history mark []) → HasLevels parts history (marks ++ mark ∷ []) (numbers ++ v ∷ [])
-  levels_pushed mark v has newest level = record { count = count; within = within; rising = rising; each = each }
+  -- a front more, whose box stood no earlier than those of the others
+  pub levels_with : (mark v : ℕ) → HasLevels parts history marks numbers → mark < length history → ((k : ℕ) → k < length marks → slice_index marks k ≤ mark) → IsLevel parts (numbers ++ v ∷ []) (slice_index_or history mark []) → HasLevels parts history (marks ++ mark ∷ []) (numbers ++ v ∷ [])
+  levels_with mark v has there above level = record { count = count; within = within; rising = rising; each = each }
     where
       long : length (marks ++ mark ∷ []) ≡ length marks + 1
       long = length-append marks (mark ∷ [])
@@ -104,19 +83,25 @@ module _ (parts : Parts) (history : List (List (List Bool))) (marks numbers : Li
       within : (k : ℕ) → k < length (marks ++ mark ∷ []) → slice_index (marks ++ mark ∷ []) k < length history
       within k l = elim (cases_lt k (length marks)) [
         | inl b ↦ (let e = before k b in let w = has.within k b in omega (arith, e, w))
-        | inr p ↦ (let e = (last k l p).1 in omega (arith, e, newest))
+        | inr p ↦ (let e = (last k l p).1 in omega (arith, e, there))
+      ]
+
+      under : (j : ℕ) → j < length (marks ++ mark ∷ []) → slice_index (marks ++ mark ∷ []) j ≤ mark
+      under j l = elim (cases_lt j (length marks)) [
+        | inl b ↦ (let e = before j b in let a = above j b in omega (arith, e, a))
+        | inr p ↦ (let e = (last j l p).1 in omega (arith, e))
       ]
 
       rising : (j k : ℕ) → j ≤ k → k < length (marks ++ mark ∷ []) → slice_index (marks ++ mark ∷ []) j ≤ slice_index (marks ++ mark ∷ []) k
       rising j k o l = elim (cases_lt k (length marks)) [
         | inl b ↦ (let e = before k b in let f = before j (omega (arith, o, b)) in let r = has.rising j k o b in omega (arith, e, f, r))
-        | inr p ↦ (let e = (last k l p).1 in let w = within j (omega (arith, o, l)) in omega (arith, e, w, newest))
+        | inr p ↦ (let e = (last k l p).1 in let u = under j (omega (arith, o, l)) in omega (arith, e, u))
       ]
 
       each : (k : ℕ) → k < length (marks ++ mark ∷ []) → IsLevel parts (take k (numbers ++ v ∷ [])) (slice_index_or history (slice_index (marks ++ mark ∷ []) k) [])
       each k l = elim (cases_lt k (length marks)) [
         | inl b ↦
-            let front : take k (numbers ++ v ∷ []) ≡ take k numbers = take_front numbers (v ∷ []) k (let c = has.count in omega (arith, b, c)) in
+            let front : take k (numbers ++ v ∷ []) ≡ take k numbers = take-append-le k numbers (v ∷ []) (let c = has.count in omega (arith, b, c)) in
             subst (λ p. IsLevel parts p (slice_index_or history (slice_index (marks ++ mark ∷ []) k) [])) (sym front)
             (subst (λ i. IsLevel parts (take k numbers) (slice_index_or history i [])) (sym (before k b)) (has.each k b))
         | inr p ↦
@@ -129,34 +114,36 @@ module _ (parts : Parts) (history : List (List (List Bool))) (marks numbers : Li
             (subst (λ i. IsLevel parts (numbers ++ v ∷ []) (slice_index_or history i [])) (sym at.1) level)
       ]
 
-  -- the last number goes
-  pub levels_popped : (mark v : ℕ) → HasLevels parts history (marks ++ mark ∷ []) (numbers ++ v ∷ []) → HasLevels parts history marks numbers
-  levels_popped mark v has = record { count = count; within = within; rising = rising; each = each }
+  -- the newest box is that of the prefix and a number more
+  pub levels_pushed : (mark v : ℕ) → HasLevels parts history marks numbers → mark + 1 ≡ length history → IsLevel parts (numbers ++ v ∷ []) (slice_index_or history mark []) → HasLevels parts history (marks ++ mark ∷ []) (numbers ++ v ∷ [])
+  levels_pushed mark v has newest level = levels_with mark v has (omega (arith, newest)) (λ k l. (let w = has.within k l in omega (arith, w, newest))) level
+
+  -- the last numbers go
+  pub levels_cut : (d : ℕ) → d ≤ length numbers → HasLevels parts history marks numbers → HasLevels parts history (take (d + 1) marks) (take d numbers)
+  levels_cut d short has = record { count = count; within = within; rising = rising; each = each }
     where
-      long : length (marks ++ mark ∷ []) ≡ length marks + 1
-      long = length-append marks (mark ∷ [])
+      long : length (take (d + 1) marks) ≡ d + 1
+      long = length-take-le (d + 1) marks (let c = has.count in omega (arith, c, short))
 
-      longer : length (numbers ++ v ∷ []) ≡ length numbers + 1
-      longer = length-append numbers (v ∷ [])
+      count : length (take (d + 1) marks) ≡ length (take d numbers) + 1
+      count = (let e = long in let f = length-take-le d numbers short in omega (arith, e, f))
 
-      count : length marks ≡ length numbers + 1
-      count = (let e = long in let f = longer in let c = has.count in omega (arith, e, f, c))
+      before : (k : ℕ) → k < length (take (d + 1) marks) → slice_index (take (d + 1) marks) k ≡ slice_index marks k
+      before k l = get_or-take (d + 1) marks k 0 (let e = long in omega (arith, e, l))
 
-      before : (k : ℕ) → k < length marks → slice_index (marks ++ mark ∷ []) k ≡ slice_index marks k
-      before k l = get_or_append_left marks (mark ∷ []) 0 k l
+      there : (k : ℕ) → k < length (take (d + 1) marks) → k < length marks
+      there k l = (let e = long in let c = has.count in omega (arith, e, c, short, l))
 
-      within : (k : ℕ) → k < length marks → slice_index marks k < length history
-      within k l = (let e = before k l in let f = long in let w = has.within k (omega (arith, f, l)) in omega (arith, e, w))
+      within : (k : ℕ) → k < length (take (d + 1) marks) → slice_index (take (d + 1) marks) k < length history
+      within k l = (let e = before k l in let w = has.within k (there k l) in omega (arith, e, w))
 
-      rising : (j k : ℕ) → j ≤ k → k < length marks → slice_index marks j ≤ slice_index marks k
-      rising j k o l = (let e = before k l in let f = before j (omega (arith, o, l)) in let g = long in let r = has.rising j k o (omega (arith, g, l)) in omega (arith, e, f, r))
+      rising : (j k : ℕ) → j ≤ k → k < length (take (d + 1) marks) → slice_index (take (d + 1) marks) j ≤ slice_index (take (d + 1) marks) k
+      rising j k o l = (let e = before k l in let f = before j (omega (arith, o, l)) in let r = has.rising j k o (there k l) in omega (arith, e, f, r))
 
-      each : (k : ℕ) → k < length marks → IsLevel parts (take k numbers) (slice_index_or history (slice_index marks k) [])
+      each : (k : ℕ) → k < length (take (d + 1) marks) → IsLevel parts (take k (take d numbers)) (slice_index_or history (slice_index (take (d + 1) marks) k) [])
       each k l =
-          let g = long in
-          let c = count in
-          subst (λ p. IsLevel parts p (slice_index_or history (slice_index marks k) [])) (take_front numbers (v ∷ []) k (omega (arith, l, c)))
-          (subst (λ i. IsLevel parts (take k (numbers ++ v ∷ [])) (slice_index_or history i [])) (before k l) (has.each k (omega (arith, g, l))))
+          subst (λ p. IsLevel parts p (slice_index_or history (slice_index (take (d + 1) marks) k) [])) (sym (take-take k d numbers (let e = long in omega (arith, e, l))))
+          (subst (λ i. IsLevel parts (take k numbers) (slice_index_or history i [])) (sym (before k l)) (has.each k (there k l)))
 
 -- the first box
 pub levels_first : (parts : Parts) (history : List (List (List Bool))) (mark : ℕ) → mark < length history → IsLevel parts [] (slice_index_or history mark []) → HasLevels parts history (mark ∷ []) []

@@ -3,6 +3,8 @@ pub mod Restricting
 pub mod Longer
 pub mod Sized
 pub mod Fronts
+pub mod Forcing
+pub mod Finding
 pub mod Opening
 pub mod Pushing
 pub mod Filling

@@ -41,7 +41,7 @@ agrees_of [] (x ∷ p) l at = absurd (omega (arith, l))
 agrees_of (row ∷ box) (x ∷ p) l at = (at 0 (omega arith), agrees_of box p (omega (arith, l)) (λ d m. at (suc d) (omega (arith, m))))
 
 -- the last number of a longer prefix
-last_of : (p : List ℕ) (v : ℕ) → slice_index (p ++ v ∷ []) (length p) ≡ v
+pub last_of : (p : List ℕ) (v : ℕ) → slice_index (p ++ v ∷ []) (length p) ≡ v
 last_of [] v = refl
 last_of (x ∷ p) v = last_of p v
 
@@ -56,7 +56,7 @@ module _ (parts : Parts) (p : List ℕ) (v : ℕ) where
   long = length-append p (v ∷ [])
 
   -- a box that agrees with the longer prefix has its last number alone
-  last_only : (box : List (List Bool)) → Agrees box longer → IsOnly box (length p) v
+  pub last_only : (box : List (List Bool)) → Agrees box longer → IsOnly box (length p) v
   last_only box agrees x h = (let e = long in (agrees_at box longer agrees (length p) (omega (arith, e)) x).0 h ∙ last_of p v)
 
   -- a box inside one that agrees with the prefix, with the number alone, agrees with the longer prefix
@@ -114,7 +114,7 @@ module _ (parts : Parts) (p : List ℕ) (v : ℕ) where
 
 -- ---- the same, as the code tells it
 
-within_of : (xs : List ℕ) (d v : ℕ) → v < slice_index xs d → d < length xs
+pub within_of : (xs : List ℕ) (d v : ℕ) → v < slice_index xs d → d < length xs
 within_of [] d v l = absurd (omega (arith, l))
 within_of (x ∷ xs) zero v l = omega arith
 within_of (x ∷ xs) (suc d) v l = (let k = within_of xs d v l in omega (arith, k))

@@ -1,7 +1,7 @@
--- A number more, or a number less, on a front.
-use Rattle.std.proofs.Common.{◌≡◌, ℕ, ◌<◌, ◌≤◌, ◌+◌, zero, suc, inl, Bool, List, [], ◌∷◌, ◌++◌, length, take, refl, ap, sym, ◌∙◌, arith, subst, length-append}
+-- Numbers more, or numbers less, on a front.
+use Rattle.std.proofs.Common.{◌≡◌, ◌≢◌, ℕ, ◌<◌, ◌≤◌, ◌+◌, ◌-◌, zero, suc, inl, inr, Bool, List, [], ◌∷◌, ◌++◌, Some, None, length, map, take, drop, refl, ap, ap₂, sym, ◌∙◌, arith, subst}
 use Rattle.std.specs.Prelude.{slice_index, slice_index_or}
-use Rattle.std.proofs.lemmas.List.{get_or_default}
+use Rattle.std.proofs.lemmas.List.{append_assoc, get_or_default, get_or-take, length-take-le, take-append-drop, take_more}
 use Rattle.xdg_listing.specs.Fits.{Fits}
 use Rattle.xdg_problem.specs.declared.analysis.Edge.{Edge}
 use Rattle.xdg_problem.specs.declared.parts.Parts.{Parts}
@@ -10,10 +10,13 @@ use Rattle.xdg_problem.specs.Vectors.{shape}
 use Rattle.xdg_propcore.specs.Steps.{Extends}
 use Rattle.xdg_rules.specs.Boxed.{Boxed}
 use Rattle.xdg_store.specs.States.{State}
+use Rattle.xdg_search.specs.Forced.{AreLast, Backs, Follows}
 use Rattle.xdg_search.specs.Problem.{SameProblem}
 use Rattle.xdg_stream.specs.Fronted.{Fronted, HasFront}
 use Rattle.xdg_stream.specs.Levels.{IsLevel, HasLevels, AreLevels}
-use Rattle.xdg_stream.proofs.Fronts.{levels_there, none_there, levels_some, top_within, top_level, levels_undone, levels_grown, levels_pushed, levels_popped}
+use Rattle.xdg_stream.specs.Runs.{Adds, AreAlone}
+use Rattle.xdg_stream.proofs.Forcing.{all_forced, level_boxed, levels_last, levels_run}
+use Rattle.xdg_stream.proofs.Fronts.{levels_there, none_there, top_within, top_level, levels_undone, levels_grown, levels_pushed, levels_cut}
 use Rattle.xdg_stream.proofs.Sized.{fits_last}
 
 -- the same sentence, with other boxes
@@ -34,9 +37,38 @@ module _ (old mid : State) (edge_places : List Edge) (marks numbers : List ℕ) 
     pub mid_level : IsLevel mid.parts numbers mid.now
     mid_level = subst (λ z. IsLevel z numbers mid.now) (sym same) (subst (IsLevel old.parts numbers) (sym now_is) (top_level old.parts old.history marks numbers has_levels at is))
 
+    undone_levels : HasLevels old.parts mid.history marks numbers
+    undone_levels = subst (λ h. HasLevels old.parts h marks numbers) (sym undone) (levels_undone old.parts old.history marks numbers has_levels at is)
+
+    module _ (marks' numbers' : List ℕ) (mark most n : ℕ) (mark_is : mark ≡ slice_index marks at) (adds : Adds mid.now mark marks numbers marks' numbers' most n) where
+      -- the numbers that remain alone are forced
+      pub run_follows : Follows (shape old.parts) (Boxed old.parts) numbers numbers' most n
+      run_follows = record {
+        added = adds.added;
+        joined = adds.numbers_are;
+        count = adds.count;
+        within = adds.within;
+        forced = all_forced old.parts mid.now numbers adds.added (subst (λ z. IsLevel z numbers mid.now) same mid_level) adds.alone;
+      }
+
+      -- and have the box of the prefix
+      pub run_front : (mark_room' number_room' : ℕ) → mark_room ≡ mark_room' → number_room ≡ number_room' → HasFront mid.parts mid.history edge_places marks' numbers' mark_room' number_room'
+      run_front mark_room' number_room' same_marks same_numbers =
+          let top = top_in in
+          let long = length-take-le (slice_index marks at + 1) old.history (omega (arith, top)) in
+          let there : mark < length mid.history = (let e = ap length undone in omega (arith, e, long, mark_is)) in
+          let box_is : slice_index_or mid.history mark [] ≡ mid.now = ap₂ (λ h i. slice_index_or h i []) undone mark_is ∙ get_or-take (slice_index marks at + 1) old.history (slice_index marks at) [] (omega arith) ∙ sym now_is in
+          let level : IsLevel old.parts numbers (slice_index_or mid.history mark []) = subst (IsLevel old.parts numbers) (sym box_is) (subst (λ z. IsLevel z numbers mid.now) same mid_level) in
+          let before : (k : ℕ) → k < length marks → slice_index marks k ≤ mark = (λ k l. (let r = undone_levels.rising k at (omega (arith, is, l)) (omega (arith, is)) in omega (arith, r, mark_is))) in
+          let run = levels_run old.parts mid.history mark marks numbers adds.added undone_levels there before level (subst (λ b. AreAlone b (length numbers) adds.added) (sym box_is) adds.alone) in
+          let both : HasLevels old.parts mid.history marks' numbers' = subst (λ m. HasLevels old.parts mid.history m numbers') (sym adds.marks_are) (subst (HasLevels old.parts mid.history (marks ++ map (λ _. mark) adds.added)) (sym adds.numbers_are) run) in
+          let a = has.for_numbers in
+          let b = has.for_marks in
+          moved old.parts mid.parts mid.history edge_places marks' numbers' mark_room' number_room' same has.listed (inl both) (omega (arith, a, same_numbers)) (omega (arith, b, same_marks))
+
     module _ (new : State) (extends : Extends mid new) where
       grown : HasLevels old.parts new.history marks numbers
-      grown = subst (λ h. HasLevels old.parts h marks numbers) (sym extends.grown) (levels_grown old.parts mid.history marks numbers extends.more (subst (λ h. HasLevels old.parts h marks numbers) (sym undone) (levels_undone old.parts old.history marks numbers has_levels at is)))
+      grown = subst (λ h. HasLevels old.parts h marks numbers) (sym extends.grown) (levels_grown old.parts mid.history marks numbers extends.more undone_levels)
 
       -- the number isn't taken
       pub kept_front : HasFront new.parts new.history edge_places marks numbers mark_room number_room
@@ -52,28 +84,37 @@ module _ (old mid : State) (edge_places : List Edge) (marks numbers : List ℕ) 
           let b = has.for_marks in
           moved old.parts new.parts new.history edge_places marks' numbers' mark_room' number_room' (extends.same ∙ same) has.listed (inl both) (omega (arith, a, same_numbers)) (omega (arith, b, same_marks))
 
--- a level makes its prefix boxed
-pub level_boxed : (parts : Parts) (p : List ℕ) (box : List (List Bool)) → IsLevel parts p box → Boxed parts p
-level_boxed parts p box level = record { box = box; is = level.is; closed = level.closed; agrees = level.agrees }
-
 -- where there is no box there is no boxed prefix
 pub none_boxed : (parts : Parts) (history : List (List (List Bool))) (edge_places : List Edge) (marks numbers : List ℕ) (mark_room number_room : ℕ) → HasFront parts history edge_places marks numbers mark_room number_room → length marks ≡ 0 → (p : List ℕ) → Boxed parts p → ⊥
 none_boxed parts history edge_places marks numbers mark_room number_room has z = none_there parts history marks numbers has.levels z
 
--- the last number goes
-pub popped_front : (parts : Parts) (history : List (List (List Bool))) (edge_places : List Edge) (marks numbers marks' numbers' : List ℕ) (mark_room number_room mark_room' number_room' mark v : ℕ) → HasFront parts history edge_places marks numbers mark_room number_room → marks ≡ marks' ++ mark ∷ [] → numbers ≡ numbers' ++ v ∷ [] → mark_room ≡ mark_room' → number_room ≡ number_room' → HasFront parts history edge_places marks' numbers' mark_room' number_room'
-popped_front parts history edge_places marks numbers marks' numbers' mark_room number_room mark_room' number_room' mark v has marks_are numbers_are same_marks same_numbers =
-    let some : 0 < length numbers = (let e = ap length numbers_are in let f = length-append numbers' (v ∷ []) in omega (arith, e, f)) in
-    let levels = levels_some parts history marks numbers has.levels some in
-    let shown : HasLevels parts history (marks' ++ mark ∷ []) (numbers' ++ v ∷ []) = subst (λ m. HasLevels parts history m (numbers' ++ v ∷ [])) marks_are (subst (HasLevels parts history marks) numbers_are levels) in
+abbrev empty : List ℕ
+empty = []
+
+take_none : (n : ℕ) → take n empty ≡ empty
+take_none zero = refl
+take_none (suc n) = refl
+
+cut_levels : (parts : Parts) (history : List (List (List Bool))) (marks numbers : List ℕ) (d : ℕ) → d ≤ length numbers → AreLevels parts history marks numbers → AreLevels parts history (take (d + 1) marks) (take d numbers)
+cut_levels parts history marks numbers d short (inl has) = inl (levels_cut parts history marks numbers d short has)
+cut_levels parts history marks numbers d short (inr none) = inr (ap (take (d + 1)) none.0 ∙ take_none (d + 1), ap (take d) none.1 ∙ take_none d, none.2)
+
+-- the last numbers go
+pub cut_front : (parts : Parts) (history : List (List (List Bool))) (edge_places : List Edge) (marks numbers marks' numbers' : List ℕ) (mark_room number_room mark_room' number_room' d : ℕ) → HasFront parts history edge_places marks numbers mark_room number_room → d ≤ length numbers → marks' ≡ take (d + 1) marks → numbers' ≡ take d numbers → mark_room ≡ mark_room' → number_room ≡ number_room' → HasFront parts history edge_places marks' numbers' mark_room' number_room'
+cut_front parts history edge_places marks numbers marks' numbers' mark_room number_room mark_room' number_room' d has short marks_are numbers_are same_marks same_numbers =
     let a = has.for_numbers in
     let b = has.for_marks in
     record {
       listed = has.listed;
-      levels = inl (levels_popped parts history marks' numbers' mark v shown);
+      levels = subst (λ m. AreLevels parts history m numbers') (sym marks_are) (subst (AreLevels parts history (take (d + 1) marks)) (sym numbers_are) (cut_levels parts history marks numbers d short has.levels));
       for_numbers = omega (arith, a, same_numbers);
       for_marks = omega (arith, b, same_marks);
     }
+
+-- a place among the marks is one among the numbers or right behind them
+pub mark_place : (parts : Parts) (history : List (List (List Bool))) (marks numbers : List ℕ) (d : ℕ) → AreLevels parts history marks numbers → d ≤ length marks - 1 → d ≤ length numbers
+mark_place parts history marks numbers d (inl has) l = (let c = has.count in omega (arith, c, l))
+mark_place parts history marks numbers d (inr none) l = (let c = ap length none.0 in omega (arith, c, l))
 
 -- the element at a place of a list
 pub read_at : (xs ys : List ℕ) (k r : ℕ) → ys ≡ xs → k < length xs → r ≡ slice_index_or ys k r → r ≡ slice_index xs k
@@ -95,21 +136,32 @@ refused_here f parts other numbers v view same none = (ap (λ z. z.numbers) view
 pub taken_here : (f : Fronted) (parts other : Parts) (numbers numbers' : List ℕ) (v : ℕ) (box : List (List Bool)) → record { parts = parts; numbers = numbers } ≡ f → other ≡ parts → numbers' ≡ numbers ++ v ∷ [] → IsLevel other (numbers ++ v ∷ []) box → (numbers' ≡ f.numbers ++ v ∷ []) × Boxed f.parts (f.numbers ++ v ∷ [])
 taken_here f parts other numbers numbers' v box view same is level = (is ∙ ap (λ z. z.numbers ++ v ∷ []) view, subst (λ z. Boxed z.parts (z.numbers ++ v ∷ [])) view (subst (λ q. Boxed q (numbers ++ v ∷ [])) same (level_boxed other (numbers ++ v ∷ []) box level)))
 
--- a list by its last element
-ends : (xs : List ℕ) (k : ℕ) → k + 1 ≡ length xs → xs ≡ take k xs ++ slice_index xs k ∷ []
-ends [] k l = absurd (omega (arith, l))
-ends (x ∷ []) zero l = refl
-ends (x ∷ y ∷ xs) zero l = absurd (omega (arith, l))
-ends (x ∷ []) (suc k) l = absurd (omega (arith, l))
-ends (x ∷ y ∷ xs) (suc k) l = ap (λ z. x ∷ z) (ends (y ∷ xs) k (omega (arith, l)))
+-- numbers that have no choice are taken
+pub follows_here : (f : Fronted) (parts : Parts) (numbers numbers' : List ℕ) (most n : ℕ) → record { parts = parts; numbers = numbers } ≡ f → Follows (shape parts) (Boxed parts) numbers numbers' most n → Follows (shape f.parts) (Boxed f.parts) f.numbers numbers' most n
+follows_here f parts numbers numbers' most n view follows = subst (λ z. Follows (shape z.parts) (Boxed z.parts) z.numbers numbers' most n) view follows
 
-pub cut_last : (xs ys : List ℕ) (k : ℕ) → k + 1 ≡ length xs → ys ≡ take k xs → xs ≡ ys ++ slice_index xs k ∷ []
-cut_last xs ys k l cut = ends xs k l ∙ ap (λ z. z ++ slice_index xs k ∷ []) (sym cut)
+-- a list by one of its elements
+around : (numbers : List ℕ) (d : ℕ) → 0 < d → d ≤ length numbers → take d numbers ≡ take (d - 1) numbers ++ slice_index numbers (d - 1) ∷ []
+around numbers d some short =
+    let e : d ≡ (d - 1) + 1 = omega (arith, some) in
+    ap (λ k. take k numbers) e ∙ take_more numbers (d - 1) 0 (omega (arith, some, short))
 
--- where there is a number there is a mark
-pub marks_some : (parts : Parts) (history : List (List (List Bool))) (edge_places : List Edge) (marks numbers : List ℕ) (mark_room number_room : ℕ) → HasFront parts history edge_places marks numbers mark_room number_room → 0 < length numbers → 0 < length marks
-marks_some parts history edge_places marks numbers mark_room number_room has l = (let h = levels_some parts history marks numbers has.levels l in let c = h.count in omega (arith, c))
+-- back to a number in whose place a greater one may be boxed
+pub backs_some : (f : Fronted) (parts : Parts) (history : List (List (List Bool))) (marks numbers numbers' : List ℕ) (d v : ℕ) → record { parts = parts; numbers = numbers } ≡ f → AreLevels parts history marks numbers → d ≢ 0 → d ≤ length marks - 1 → ((k : ℕ) → d ≤ k → k < length marks → slice_index marks k ≡ slice_index marks d) → v ≡ slice_index numbers (d - 1) → numbers' ≡ take (d - 1) numbers → Backs (shape f.parts) (Boxed f.parts) f.numbers (Some v) numbers'
+backs_some f parts history marks numbers numbers' d v view levels some within same v_is cut =
+    let has = levels_there parts history marks numbers levels (λ z. (let c = z in omega (arith, c, within, some))) in
+    let short = mark_place parts history marks numbers d levels within in
+    let last = levels_last parts history marks numbers d short has same in
+    let front : numbers' ++ v ∷ [] ≡ take d numbers = ap₂ (λ a b. a ++ b ∷ []) cut v_is ∙ sym (around numbers d (omega (arith, some)) short) in
+    let joined : numbers ≡ numbers' ++ v ∷ drop d numbers = sym (take-append-drop d numbers) ∙ ap (λ z. z ++ drop d numbers) (sym front) ∙ append_assoc numbers' (v ∷ []) (drop d numbers) in
+    subst (λ z. Backs (shape z.parts) (Boxed z.parts) z.numbers (Some v) numbers') view (drop d numbers, joined, subst (λ z. AreLast (shape parts) (Boxed parts) z (drop d numbers)) (sym front) last)
 
--- there is a number where the front is seen to have one
-pub some_number : (f : Fronted) (parts : Parts) (numbers : List ℕ) → record { parts = parts; numbers = numbers } ≡ f → 0 < length f.numbers → 0 < length numbers
-some_number f parts numbers view l = (let e = ap (λ z. length z.numbers) view in omega (arith, e, l))
+all_last : (parts : Parts) (history : List (List (List Bool))) (marks numbers : List ℕ) → AreLevels parts history marks numbers → ((k : ℕ) → 0 ≤ k → k < length marks → slice_index marks k ≡ slice_index marks 0) → AreLast (shape parts) (Boxed parts) [] numbers
+all_last parts history marks numbers (inl has) same = levels_last parts history marks numbers 0 (omega arith) has same
+all_last parts history marks numbers (inr none) same = subst (AreLast (shape parts) (Boxed parts) []) (sym none.1) tt
+
+-- back to nothing
+pub backs_none : (f : Fronted) (parts : Parts) (history : List (List (List Bool))) (marks numbers numbers' : List ℕ) (d : ℕ) → record { parts = parts; numbers = numbers } ≡ f → AreLevels parts history marks numbers → d ≡ 0 → ((k : ℕ) → d ≤ k → k < length marks → slice_index marks k ≡ slice_index marks d) → numbers' ≡ [] → Backs (shape f.parts) (Boxed f.parts) f.numbers None numbers'
+backs_none f parts history marks numbers numbers' d view levels none same cut =
+    let first : (k : ℕ) → 0 ≤ k → k < length marks → slice_index marks k ≡ slice_index marks 0 = subst (λ i. (k : ℕ) → i ≤ k → k < length marks → slice_index marks k ≡ slice_index marks i) none same in
+    subst (λ z. Backs (shape z.parts) (Boxed z.parts) z.numbers None numbers') view (cut, all_last parts history marks numbers levels first)

@@ -1,5 +1,6 @@
 pub mod Decisions
 pub mod Levels
+pub mod Runs
 pub mod Closing
 pub mod Fronted
 pub mod Vectored

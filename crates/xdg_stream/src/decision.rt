@@ -1,6 +1,7 @@
 //! Decisions, named by what is decided.
 
-ghost use Rattle.std.specs.Prelude.{◌≡◌, ◌<◌, ◌+◌, length, slice_index};
+ghost use Rattle.std.specs.Prelude.{◌≡◌, ◌↔◌, ◌<◌, ◌+◌, IsTrue, length, slice_index};
+ghost use Rattle.xdg_problem.specs.Boxes.{Has};
 ghost use Rattle.xdg_problem.specs.Places.{nodes, places};
 ghost use Rattle.xdg_problem.specs.Problems.{IsProblem};
 ghost use Rattle.xdg_problem.specs.Vectors.{attr_sizes, shape};
@@ -79,6 +80,25 @@ pub(crate) fn remove(store: &mut Store, decision: Decision, value: u16) -> Chang
                 return store.forbid_edge(edge);
             }
             store.force_edge(edge)
+        }
+    }
+}
+
+/// Whether a value of a decision remains.
+pub(crate) fn remains(store: &Store, decision: Decision, value: u16) -> bool
+    requires is { IsDecision store.now.parts decision }
+    requires value { value < slice_index (shape store.now.parts) (number_of store.now.parts decision) }
+    requires known { Known store.now }
+    ensures { IsTrue result ↔ Has store.now.now (number_of store.now.parts decision) value }
+{
+    match decision {
+        Decision::Entry(node) => store.entry_in(node, value),
+        Decision::Attr(dim, node, attr) => store.attr_in(node, dim, attr, value),
+        Decision::Place(edge) => {
+            if value == 0 {
+                return store.may(edge);
+            }
+            !store.must(edge)
         }
     }
 }

@@ -10,6 +10,7 @@ ghost use Rattle.xdg_store.specs.States.{Known};
 ghost use Rattle.xdg_propcore.specs.Uses.{AllStandIn};
 ghost use Rattle.xdg_stream.specs.Levels.{AreLevels};
 
+use crate::forced::{add_alone, last_turn};
 use crate::narrowing::lengthen;
 use std::alloc::Global;
 use std::marker::Model;
@@ -21,7 +22,7 @@ use xdg_store::{Mark, Store};
 
 /// A boxed prefix of the decisions on a sentence: some closed box agrees with it. It is the front of a depth-first search.
 /// For each of its fronts it keeps the greatest closed box, as a mark on the trail of one store; a number more takes the
-/// other values of its decision away and settles. That takes no memory.
+/// other values of its decision away and settles, and where there are none the box stays, with its mark. That takes no memory.
 #[derive(Debug, Drop)]
 pub struct BoxFront<'a, P: Propagator> {
     store: Store<'a>,
@@ -90,13 +91,6 @@ impl<'a, P: Propagator> BoxFront<'a, P> {
     {
         self.edge_places.as_slice()
     }
-
-    /// The numbers of the prefix.
-    pub fn numbers(&self) -> &[u16]
-        ensures { result.now ≡ self.now.numbers }
-    {
-        self.numbers.as_slice()
-    }
 }
 
 impl<P: Propagator> Front for BoxFront<'_, P> {
@@ -117,8 +111,8 @@ impl<P: Propagator> Front for BoxFront<'_, P> {
 
     ghost closed = { λ front. front_closed front.parts };
 
-    fn len(&self) -> usize {
-        self.numbers.len()
+    fn prefix(&self) -> &[u16] {
+        self.numbers.as_slice()
     }
 
     fn decisions(&self) -> usize {
@@ -127,10 +121,6 @@ impl<P: Propagator> Front for BoxFront<'_, P> {
 
     fn size(&self, decision: usize) -> u16 {
         self.store.problem().value_count(decision) as u16
-    }
-
-    fn number(&self, decision: usize) -> u16 {
-        self.numbers.as_slice()[decision]
     }
 
     fn push(&mut self, value: u16) -> bool {
@@ -154,11 +144,34 @@ impl<P: Propagator> Front for BoxFront<'_, P> {
         true
     }
 
-    fn pop(&mut self) -> u16 {
-        self.marks.pop();
-        let Some(value) = self.numbers.pop() else {
+    // A number whose decision has one value left doesn't change the box: its front has the mark of the front before it.
+    fn follow(&mut self, most: u64) -> u64 {
+        let depth = self.marks.len();
+        if depth == 0 {
             return 0;
-        };
-        value
+        }
+        let mark = self.marks.as_slice()[depth - 1];
+        self.store.undo(mark);
+        add_alone(
+            &self.store,
+            self.edge_places.as_slice(),
+            mark,
+            &mut self.marks,
+            &mut self.numbers,
+            most,
+        )
+    }
+
+    fn back(&mut self) -> Option<u16> {
+        let depth = last_turn(self.marks.as_slice());
+        if depth == 0 {
+            self.marks.truncate(1);
+            self.numbers.clear();
+            return None;
+        }
+        let value = self.numbers.as_slice()[depth - 1];
+        self.marks.truncate(depth);
+        self.numbers.truncate(depth - 1);
+        Some(value)
     }
 }

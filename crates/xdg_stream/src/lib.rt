@@ -3,6 +3,7 @@
 #![tactic(auto)]
 
 mod decision;
+mod forced;
 mod front;
 mod held;
 mod narrowing;

@@ -14,7 +14,7 @@ use std::marker::Model;
 use xdg_base::{EntryNo, OutOfMemory};
 use xdg_problem::{Analysis, Edge, Problem};
 use xdg_propcore::Propagator;
-use xdg_search::{Search, Step};
+use xdg_search::{Front, Search, Step};
 
 /// The solutions of a sentence after a start, one after another. It goes through the boxed prefixes and charges each once.
 /// Only [`Stream::start`] takes memory. As an iterator it gives each step up to the first `End` or `Spent`.
@@ -86,7 +86,7 @@ impl<'a, P: Propagator> Stream<'a, P> {
         match step {
             Step::Found => {
                 let front = self.search.front();
-                self.last.refill(front.edge_places(), front.numbers());
+                self.last.refill(front.edge_places(), front.prefix());
                 Step::Found
             }
             Step::End => {

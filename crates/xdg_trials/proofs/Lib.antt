@@ -1,1 +1,2 @@
 pub mod AloneProblem
+pub mod Binary

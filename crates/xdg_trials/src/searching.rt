@@ -40,8 +40,8 @@ impl Front for Apart {
 
     ghost closed = { λ _. apart_closed };
 
-    fn len(&self) -> usize {
-        self.len
+    fn prefix(&self) -> &[u16] {
+        &self.numbers[..self.len]
     }
 
     fn decisions(&self) -> usize {
@@ -50,11 +50,6 @@ impl Front for Apart {
 
     fn size(&self, _decision: usize) -> u16 {
         2
-    }
-
-    fn number(&self, decision: usize) -> u16 {
-        let numbers = &self.numbers[..self.len];
-        numbers[decision]
     }
 
     fn push(&mut self, value: u16) -> bool {
@@ -66,9 +61,23 @@ impl Front for Apart {
         true
     }
 
-    fn pop(&mut self) -> u16 {
-        self.len -= 1;
-        self.numbers[self.len]
+    // Behind a number only the other one is counted.
+    fn follow(&mut self, most: u64) -> u64 {
+        if most == 0 || self.len == 0 || self.len == 3 {
+            return 0;
+        }
+        self.numbers[self.len] = 1 - self.numbers[self.len - 1];
+        self.len += 1;
+        1
+    }
+
+    // So only in the place of the first number a greater one may be counted.
+    fn back(&mut self) -> Option<u16> {
+        if self.len == 0 {
+            return None;
+        }
+        self.len = 0;
+        Some(self.numbers[0])
     }
 }
 
@@ -117,5 +126,13 @@ fn says_the_end_again(rt: HostRuntime) -> Result<(), Fail> {
     assert_eq!(rt; search.advance(), Step::End);
     assert_eq!(rt; search.advance(), Step::End);
     assert_eq!(rt; search.charged(), 6);
+    Ok(())
+}
+
+#[test]
+fn ends_within_a_run(rt: HostRuntime) -> Result<(), Fail> {
+    let mut search = Search::start(start(), 2, Vec::with_capacity(rt.alloc(), 3)?);
+    assert_eq!(rt; search.advance(), Step::Spent);
+    assert_eq!(rt; search.charged(), 2);
     Ok(())
 }

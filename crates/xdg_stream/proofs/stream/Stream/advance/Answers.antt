@@ -20,7 +20,7 @@ invariant_of-self g c =
     let step = c.advance-step.ensures in
     let found = c.in-Found.ensures.found refl in
     let whole = c.in-Found.ensures.whole refl in
-    let items = c.refill.ensures.numbers ∙ c.numbers.ensures ∙ ap (λ (f : Fronted). f.numbers) c.front-front.ensures in (
+    let items = c.refill.ensures.numbers ∙ c.prefix.ensures ∙ ap (λ (f : Fronted). f.numbers) c.front-front.ensures in (
       stream_found old s.front.numbers s.value (vec_capacity s.reached) c.self.invariant.0 new n.front.numbers n.value (vec_capacity n.reached) step.problem refl step.budget step.lawful step.charged found.0 (c.in-Found.ensures.reached refl) items found.1 (c.in-Found.ensures.finds refl) found.2,
       c.refill.ensures.parts ∙ c.self.invariant.1 ∙ sym step.problem,
       c.self.invariant.2 ∙ ap is_some (found.0 ∙ sym found.1),
@@ -36,7 +36,7 @@ returns-in-Found-clause-step g c =
     let step = c.advance-step.ensures in
     let found = c.in-Found.ensures.found refl in
     let whole = c.in-Found.ensures.whole refl in
-    let items = c.refill.ensures.numbers ∙ c.numbers.ensures ∙ ap (λ (f : Fronted). f.numbers) c.front-front.ensures in
+    let items = c.refill.ensures.numbers ∙ c.prefix.ensures ∙ ap (λ (f : Fronted). f.numbers) c.front-front.ensures in
     subst (λ z. Advances z steps.Found new) c.self.view_is (found_advances old s.front.numbers s.value (vec_capacity s.reached) c.self.invariant.0 new n.front.numbers n.value (vec_capacity n.reached) step.problem refl step.budget step.lawful step.charged found.0 (c.in-Found.ensures.reached refl) items found.1 (c.in-Found.ensures.finds refl) (c.in-Found.ensures.forward refl) whole.0 whole.1)
 
 pub returns-in-Found-clause-charged : goal.returns-in-Found-clause-charged
@@ -49,7 +49,7 @@ returns-in-Found-clause-charged g c =
     let step = c.advance-step.ensures in
     let found = c.in-Found.ensures.found refl in
     let whole = c.in-Found.ensures.whole refl in
-    let items = c.refill.ensures.numbers ∙ c.numbers.ensures ∙ ap (λ (f : Fronted). f.numbers) c.front-front.ensures in
+    let items = c.refill.ensures.numbers ∙ c.prefix.ensures ∙ ap (λ (f : Fronted). f.numbers) c.front-front.ensures in
     let stream = stream_found old s.front.numbers s.value (vec_capacity s.reached) c.self.invariant.0 new n.front.numbers n.value (vec_capacity n.reached) step.problem refl step.budget step.lawful step.charged found.0 (c.in-Found.ensures.reached refl) items found.1 (c.in-Found.ensures.finds refl) found.2 in
     (stream.answers, stream.so_far)
 
