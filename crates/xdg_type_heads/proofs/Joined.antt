@@ -15,7 +15,6 @@ use Rattle.xdg_types.specs.Answers.{None_of}
 use Rattle.xdg_type_heads.specs.Answers.{IsResolved}
 use Rattle.xdg_types.proofs.NamesAgain.{no_repeat}
 use Rattle.xdg_types.specs.Meaning.{Resolves}
-use Rattle.xdg_type_heads.specs.declared.weights.Weight.{Weight}
 use Rattle.xdg_type_heads.specs.Weights.{Weighs, UsesFirst, WeighedBefore}
 use Rattle.xdg_type_heads.proofs.Ordered.{is_graph, in_order, names_first, uses_first, knows, weighs, agrees, rank, ranks}
 use Rattle.xdg_type_heads.proofs.OneMeaning.{names, names_resolve, one_meaning}
@@ -67,7 +66,7 @@ module _ (statements : List Statement) (named : None_of (NameOffends statements)
         pub order_uses : UsesFirst told (map at bodies) order
         order_uses = subst (λ k. UsesFirst k (map at bodies) order) (sym (same apart)) (subst (λ bs. UsesFirst known bs order) (sym are) (uses_first statements numbers order parts acyclic))
 
-        pub resolved_weighs : (weights : List Weight) → ((ns : List ℕ → Shape) → Agrees ns told (map at bodies) → WeighedBefore ns told order (length order) weights)
+        pub resolved_weighs : (weights : List ℕ) → ((ns : List ℕ → Shape) → Agrees ns told (map at bodies) → WeighedBefore ns told order (length order) weights)
             → (ns : List ℕ → Shape) → Resolves statements ns → Weighs ns told weights
         resolved_weighs weights right ns resolves =
             let agree = agrees statements ns resolves in

@@ -19,7 +19,6 @@ use Rattle.xdg_types.specs.Graph.{use_at, use_of, uses_in, type_graph}
 use Rattle.xdg_types.specs.Meaning.{Resolves, meaning, IsHead}
 use Rattle.xdg_type_heads.specs.Heads.{Agrees, NamesFirst, Knows, RightBefore}
 use Rattle.xdg_type_heads.specs.Answers.{IsRanked}
-use Rattle.xdg_type_heads.specs.declared.weights.Weight.{Weight}
 use Rattle.xdg_type_heads.specs.Weights.{Weighs, UsesFirst, WeighedBefore, looked, weight_of, leaf}
 use Rattle.xdg_types.proofs.Distinct.{among_has}
 use Rattle.xdg_types.proofs.Elements.{all_differ}
@@ -143,7 +142,7 @@ module _ (statements : List Statement) where
     }
 
     -- every name has its weight
-    pub weighs : (names : List ℕ → Shape) (weights : List Weight) → Agrees names known (map (λ d. d.body) ds) → WeighedBefore names known order (length order) weights → Weighs names known weights
+    pub weighs : (names : List ℕ → Shape) (weights : List ℕ) → Agrees names known (map (λ d. d.body) ds) → WeighedBefore names known order (length order) weights → Weighs names known weights
     weighs names weights agrees right name =
         elim (place_of known name) as (λ o. place_of known name ≡ o → looked weights o ≡ weight_of (names name)) [
           | None ↦ λ e. sym (ap weight_of (agrees.undefined name e))

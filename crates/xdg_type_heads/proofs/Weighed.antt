@@ -1,5 +1,5 @@
 -- The weights of written types, form by form.
-use Rattle.std.proofs.Common.{◌≡◌, ℕ, ◌<◌, ◌≤◌, ◌+◌, List, [], ◌∷◌, length, drop, get_or, sym, ap, ap₂, ◌∙◌, refl}
+use Rattle.std.proofs.Common.{◌≡◌, ℕ, ◌<◌, ◌≤◌, ◌+◌, List, ◌∷◌, length, drop, get_or, sym, ap, ◌∙◌}
 use Rattle.std.proofs.lemmas.List.{at_drop_more, drop_all}
 use Rattle.xdg_ast.specs.declared.names.Name.{Name}
 use Rattle.xdg_ast.specs.declared.names.Pair.{Pair}
@@ -8,10 +8,9 @@ use Rattle.xdg_ast.specs.declared.types.TypeKind.TheVariants as y
 use Rattle.xdg_types.specs.Written.{tree}
 use Rattle.xdg_types.specs.Parts.{TypeTerm}
 use Rattle.xdg_types.proofs.Treed.{trees, members, tree_named, tree_domain, tree_set, tree_iset, tree_valency, tree_map, tree_tuple, tree_rec}
-use Rattle.xdg_type_heads.specs.declared.weights.Weight.{Weight}
-use Rattle.xdg_type_heads.specs.Weights.{weighed, beside_trees, beside_members, beside, held, of_constants, nothing_held}
+use Rattle.xdg_type_heads.specs.Weights.{weighed, beside_trees, beside_members, beside, held, of_constants}
 
-module _ (at : Name → Weight) where
+module _ (at : Name → ℕ) where
   pub of_set : (t : TypeTerm) → weighed at (tree (y.Set t)) ≡ held (weighed at (tree t.kind))
   of_set t = ap (weighed at) (tree_set t)
 
@@ -32,24 +31,24 @@ module _ (at : Name → Weight) where
 
   -- ---- fields
 
-  pub trees_more : (ts : List TypeTerm) (i : ℕ) (t : TypeTerm) (all : Weight) → i < length ts → t ≡ get_or ts i t
+  pub trees_more : (ts : List TypeTerm) (i : ℕ) (t : TypeTerm) (all : ℕ) → i < length ts → t ≡ get_or ts i t
       → beside_trees at (beside all (weighed at (tree t.kind))) (trees (drop (i + 1) ts)) ≡ beside_trees at all (trees (drop i ts))
   trees_more ts i t all within is =
       sym (at_drop_more (λ (us : List TypeTerm). beside_trees at all (trees us)) ts i t within ∙ ap (λ (u : TypeTerm). beside_trees at all (trees (u ∷ drop (i + 1) ts))) (sym is))
 
-  pub members_more : (ps : List (Pair TypeTerm)) (i : ℕ) (p : Pair TypeTerm) (all : Weight) → i < length ps → p ≡ get_or ps i p
+  pub members_more : (ps : List (Pair TypeTerm)) (i : ℕ) (p : Pair TypeTerm) (all : ℕ) → i < length ps → p ≡ get_or ps i p
       → beside_members at (beside all (weighed at (tree p.value.kind))) (members (drop (i + 1) ps)) ≡ beside_members at all (members (drop i ps))
   members_more ps i p all within is =
       sym (at_drop_more (λ (qs : List (Pair TypeTerm)). beside_members at all (members qs)) ps i p within ∙ ap (λ (q : Pair TypeTerm). beside_members at all (members (q ∷ drop (i + 1) ps))) (sym is))
 
-  pub tuple_weighed : (kind : TypeKind) (ts items : List TypeTerm) (i : ℕ) (all : Weight) → kind ≡ y.Tuple ts → items ≡ ts → length items ≤ i
-      → beside_trees at all (trees (drop i items)) ≡ beside_trees at nothing_held (trees items) → held all ≡ weighed at (tree kind)
+  pub tuple_weighed : (kind : TypeKind) (ts items : List TypeTerm) (i : ℕ) (all : ℕ) → kind ≡ y.Tuple ts → items ≡ ts → length items ≤ i
+      → beside_trees at all (trees (drop i items)) ≡ beside_trees at 0 (trees items) → held all ≡ weighed at (tree kind)
   tuple_weighed kind ts items i all is same past so_far =
-      ap held (ap (λ (us : List TypeTerm). beside_trees at all (trees us)) (sym (drop_all i items past)) ∙ so_far ∙ ap (λ (us : List TypeTerm). beside_trees at nothing_held (trees us)) same)
+      ap held (ap (λ (us : List TypeTerm). beside_trees at all (trees us)) (sym (drop_all i items past)) ∙ so_far ∙ ap (λ (us : List TypeTerm). beside_trees at 0 (trees us)) same)
       ∙ sym (ap (λ k. weighed at (tree k)) is ∙ ap (weighed at) (tree_tuple ts))
 
-  pub record_weighed : (kind : TypeKind) (ps items : List (Pair TypeTerm)) (i : ℕ) (all : Weight) → kind ≡ y.Rec ps → items ≡ ps → length items ≤ i
-      → beside_members at all (members (drop i items)) ≡ beside_members at nothing_held (members items) → held all ≡ weighed at (tree kind)
+  pub record_weighed : (kind : TypeKind) (ps items : List (Pair TypeTerm)) (i : ℕ) (all : ℕ) → kind ≡ y.Rec ps → items ≡ ps → length items ≤ i
+      → beside_members at all (members (drop i items)) ≡ beside_members at 0 (members items) → held all ≡ weighed at (tree kind)
   record_weighed kind ps items i all is same past so_far =
-      ap held (ap (λ (qs : List (Pair TypeTerm)). beside_members at all (members qs)) (sym (drop_all i items past)) ∙ so_far ∙ ap (λ (qs : List (Pair TypeTerm)). beside_members at nothing_held (members qs)) same)
+      ap held (ap (λ (qs : List (Pair TypeTerm)). beside_members at all (members qs)) (sym (drop_all i items past)) ∙ so_far ∙ ap (λ (qs : List (Pair TypeTerm)). beside_members at 0 (members qs)) same)
       ∙ sym (ap (λ k. weighed at (tree k)) is ∙ ap (weighed at) (tree_rec ps))

@@ -3,14 +3,12 @@ use Rattle.std.proofs.Common.{◌≡◌, ℕ, ◌<◌, ◌+◌, List, [], map, l
 use Rattle.std.proofs.lemmas.Bool.{cases_eq, cases_lt}
 use Rattle.std.proofs.lemmas.List.{get_or-map, length-map, get_or-set_same, get_or-set_other}
 use Rattle.xdg_index.proofs.Texts.{place_of-Some}
-use Rattle.xdg_ast.specs.declared.names.Name.{Name}
 use Rattle.xdg_domain.specs.Shapes.{Shape}
 use Rattle.xdg_faults.specs.First.{In}
 use Rattle.xdg_index.specs.Texts.{place_of}
 use Rattle.xdg_types.specs.Written.{tree, uses}
 use Rattle.xdg_types.specs.Parts.{TypeTerm}
 use Rattle.xdg_types.specs.Meaning.{meaning}
-use Rattle.xdg_type_heads.specs.declared.weights.Weight.{Weight}
 use Rattle.xdg_type_heads.specs.Heads.{Agrees}
 use Rattle.xdg_type_heads.specs.Weights.{weighed, named_weight, looked, weight_of, leaf, UsesFirst, WeighedBefore}
 use Rattle.xdg_type_heads.proofs.WeightLaws.{weigh_right}
@@ -18,7 +16,7 @@ use Rattle.xdg_type_heads.proofs.WeightLaws.{weigh_right}
 module _ (names : List ℕ → Shape) (known : List (List ℕ)) (bodies : List TypeTerm) (order : List ℕ) (agrees : Agrees names known bodies) (first : UsesFirst known bodies order)
     (within : (i : ℕ) → i < length order → slice_index_or order i 0 < length bodies) where
   -- what is weighed next uses names whose weights are right
-  pub next_weight : (weights : List Weight) (i : ℕ) (body : TypeTerm) → i < length order → WeighedBefore names known order i weights → body ≡ get_or bodies (slice_index_or order i 0) body
+  pub next_weight : (weights : List ℕ) (i : ℕ) (body : TypeTerm) → i < length order → WeighedBefore names known order i weights → body ≡ get_or bodies (slice_index_or order i 0) body
       → weighed (named_weight known weights) (tree body.kind) ≡ weight_of (names (get_or known (slice_index_or order i 0) []))
   next_weight weights i body inside before is =
       let a = slice_index_or order i 0 in
@@ -32,7 +30,7 @@ module _ (names : List ℕ → Shape) (known : List (List ℕ)) (bodies : List T
       ∙ ap weight_of (sym (agrees.defined a (within i inside) body ∙ ap (λ (t : TypeTerm). meaning names (tree t.kind)) (sym is)))
 
   -- a right weight more
-  pub weight_more : (weights : List Weight) (i : ℕ) (next : Weight) → i < length order → length weights ≡ length bodies → WeighedBefore names known order i weights
+  pub weight_more : (weights : List ℕ) (i : ℕ) (next : ℕ) → i < length order → length weights ≡ length bodies → WeighedBefore names known order i weights
       → next ≡ weight_of (names (get_or known (slice_index_or order i 0) [])) → WeighedBefore names known order (i + 1) (set weights (slice_index_or order i 0) next)
   weight_more weights i next inside len before right j below =
       let a = slice_index_or order i 0 in
@@ -50,7 +48,7 @@ abbrev at : Bor TypeTerm → TypeTerm
 at h = h.now
 
 -- a turn of the loop over the order
-pub weights_step : (known : List (List ℕ)) (bodies : List (Bor TypeTerm)) (weights slice : List Weight) (order : List ℕ) (i : ℕ) (body : Bor TypeTerm) (next : Weight)
+pub weights_step : (known : List (List ℕ)) (bodies : List (Bor TypeTerm)) (weights slice : List ℕ) (order : List ℕ) (i : ℕ) (body : Bor TypeTerm) (next : ℕ)
     → UsesFirst known (map at bodies) order → ((k : ℕ) → k < length order → slice_index_or order k 0 < length bodies) → i < length order → length weights ≡ length bodies
     → ((names : List ℕ → Shape) → Agrees names known (map at bodies) → WeighedBefore names known order i weights)
     → body ≡ get_or bodies (slice_index_or order i 0) body → slice ≡ weights → next ≡ weighed (named_weight known slice) (tree body.now.kind)

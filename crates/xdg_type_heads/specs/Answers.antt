@@ -1,7 +1,6 @@
 -- What is known once no type leads back to itself.
 use Rattle.std.specs.Prelude.{◌≡◌, ℕ, ◌<◌, List, map, Result, Ok, Err, Some}
 use Rattle.xdg_ast.specs.declared.names.Name.{Name}
-use Rattle.xdg_base.specs.declared.faults.Fault.{Fault}
 use Rattle.xdg_base.specs.declared.faults.Stop.{Stop}
 use Rattle.xdg_base.specs.declared.faults.Stop.TheVariants as stops
 use Rattle.xdg_domain.specs.Shapes.{Shape, Among}

@@ -1,10 +1,9 @@
--- How much types hold, names followed, and how that is counted.
-use Rattle.std.specs.Prelude.{◌≡◌, ℕ, ◌<◌, ◌+◌, ◌-◌, ◌^◌, min, max, List, [], ◌∷◌, length, get_or, slice_index_or, Option, None, Some}
+-- How many parts types have, names followed, and how they are counted.
+use Rattle.std.specs.Prelude.{◌≡◌, ℕ, ◌<◌, ◌+◌, ◌-◌, ◌^◌, min, List, [], length, get_or, slice_index_or, Option, None, Some}
 use Rattle.xdg_ast.specs.declared.names.Name.{Name}
 use Rattle.xdg_domain.specs.Shapes.{Shape, domain, tuple, set, iset, valency, mapping, fields, Shapes, no_shape, shape_then, Fields, no_field, field_then}
 use Rattle.xdg_faults.specs.First.{In}
 use Rattle.xdg_index.specs.Texts.{place_of}
-use Rattle.xdg_type_heads.specs.declared.weights.Weight.{Weight}
 use Rattle.xdg_types.specs.Written.{Tree, listed, recorded, tupled, set_of, iset_of, valency_of, map_of, named, Trees, no_tree, tree_then, Members, no_member, member_then, uses, tree}
 use Rattle.xdg_types.specs.Parts.{TypeTerm}
 
@@ -30,56 +29,37 @@ abbrev mutual
   parts_in no_field = 0
   parts_in (field_then name u fs) = parts u + parts_in fs
 
--- how deep a type nests: 1 for a type without types in it
-abbrev mutual
-  pub levels : Shape → ℕ
-  levels (tuple ss) = 1 + levels_of ss
-  levels (set s) = 1 + levels s
-  levels (iset s) = 1 + levels s
-  levels (valency k) = 1 + levels k
-  levels (mapping k u) = 1 + max (levels k) (levels u)
-  levels (fields fs) = 1 + levels_in fs
-  levels _ = 1
-
-  pub levels_of : Shapes → ℕ
-  levels_of no_shape = 0
-  levels_of (shape_then s ss) = max (levels s) (levels_of ss)
-
-  pub levels_in : Fields → ℕ
-  levels_in no_field = 0
-  levels_in (field_then name u fs) = max (levels u) (levels_in fs)
-
 -- ---- as they are counted
 
--- Each count stops at the greatest number of its width.
-abbrev pub capped : ℕ → ℕ → Weight
-capped m n = record { parts = min m (2 ^ 64 - 1); levels = min n (2 ^ 32 - 1) }
+-- A count stops at the greatest number of its width.
+abbrev pub capped : ℕ → ℕ
+capped n = min n (2 ^ 64 - 1)
 
-abbrev pub weight_of : Shape → Weight
-weight_of s = capped (parts s) (levels s)
+-- the weight of a type: its parts, as they are counted
+abbrev pub weight_of : Shape → ℕ
+weight_of s = capped (parts s)
 
-abbrev pub nothing_held : Weight
-nothing_held = record { parts = 0; levels = 0 }
+-- the weight of a type without types and constants in it
+abbrev pub leaf : ℕ
+leaf = 1
 
-abbrev pub leaf : Weight
-leaf = record { parts = 1; levels = 1 }
-
-abbrev pub beside : Weight → Weight → Weight
-beside a b = record { parts = min (a.parts + b.parts) (2 ^ 64 - 1); levels = max a.levels b.levels }
+-- of both beside one another
+abbrev pub beside : ℕ → ℕ → ℕ
+beside a b = capped (a + b)
 
 -- of a type that holds these
-abbrev pub held : Weight → Weight
-held a = record { parts = min (a.parts + 1) (2 ^ 64 - 1); levels = min (a.levels + 1) (2 ^ 32 - 1) }
+abbrev pub held : ℕ → ℕ
+held a = capped (a + 1)
 
-abbrev pub of_constants : ℕ → Weight
-of_constants n = record { parts = min (n + 1) (2 ^ 64 - 1); levels = 1 }
+abbrev pub of_constants : ℕ → ℕ
+of_constants n = capped (n + 1)
 
 -- the weight of a type as it is written, where the names have these
 abbrev mutual
-  pub weighed : (Name → Weight) → Tree → Weight
+  pub weighed : (Name → ℕ) → Tree → ℕ
   weighed at (listed names) = of_constants (length names)
-  weighed at (recorded ms) = held (beside_members at nothing_held ms)
-  weighed at (tupled ts) = held (beside_trees at nothing_held ts)
+  weighed at (recorded ms) = held (beside_members at 0 ms)
+  weighed at (tupled ts) = held (beside_trees at 0 ts)
   weighed at (set_of place t) = held (weighed at t)
   weighed at (iset_of place t) = held (weighed at t)
   weighed at (valency_of place t) = held (weighed at t)
@@ -87,26 +67,26 @@ abbrev mutual
   weighed at (named name) = at name
   weighed at _ = leaf
 
-  pub beside_trees : (Name → Weight) → Weight → Trees → Weight
+  pub beside_trees : (Name → ℕ) → ℕ → Trees → ℕ
   beside_trees at all no_tree = all
   beside_trees at all (tree_then place t ts) = beside_trees at (beside all (weighed at t)) ts
 
-  pub beside_members : (Name → Weight) → Weight → Members → Weight
+  pub beside_members : (Name → ℕ) → ℕ → Members → ℕ
   beside_members at all no_member = all
   beside_members at all (member_then name place t ms) = beside_members at (beside all (weighed at t)) ms
 
 -- the weight at a place; a name that no definition has is a type without types in it
-abbrev pub looked : List Weight → Option ℕ → Weight
+abbrev pub looked : List ℕ → Option ℕ → ℕ
 looked weights None = leaf
 looked weights (Some k) = get_or weights k leaf
 
-abbrev pub named_weight : List (List ℕ) → List Weight → Name → Weight
+abbrev pub named_weight : List (List ℕ) → List ℕ → Name → ℕ
 named_weight known weights name = looked weights (place_of known name.text)
 
 -- ---- the definitions
 
 -- the weights at the places of the names are those of what the names mean
-abbrev pub Weighs : (List ℕ → Shape) → List (List ℕ) → List Weight → Type 0
+abbrev pub Weighs : (List ℕ → Shape) → List (List ℕ) → List ℕ → Type 0
 Weighs names known weights = (name : List ℕ) → looked weights (place_of known name) ≡ weight_of (names name)
 
 -- what a type uses comes in the order before it
@@ -116,6 +96,6 @@ UsesFirst known bodies order =
     → place_of known name.text ≡ Some k → (j : ℕ) × ((j < i) × (slice_index_or order j 0 ≡ k))
 
 -- the weights of the definitions that stand before a place in the order are right
-abbrev pub WeighedBefore : (List ℕ → Shape) → List (List ℕ) → List ℕ → ℕ → List Weight → Type 0
+abbrev pub WeighedBefore : (List ℕ → Shape) → List (List ℕ) → List ℕ → ℕ → List ℕ → Type 0
 WeighedBefore names known order i weights =
     (j : ℕ) → j < i → get_or weights (slice_index_or order j 0) leaf ≡ weight_of (names (get_or known (slice_index_or order j 0) []))

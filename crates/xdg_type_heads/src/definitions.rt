@@ -7,7 +7,7 @@ ghost use Rattle.xdg_types.specs.Written.{tree};
 ghost use Rattle.xdg_type_heads.specs.Heads.{Knows, IsHeadOf};
 ghost use Rattle.xdg_type_heads.specs.Weights.{Weighs, weight_of};
 
-use crate::weights::{Weight, weigh};
+use crate::weights::weigh;
 use xdg_ast::{TypeKind, TypeTerm};
 use xdg_index::Index;
 
@@ -18,8 +18,8 @@ pub struct Definitions<'a> {
     pub names: Index,
     /// For each definition the type that it leads to, which is no name.
     pub heads: Vec<&'a TypeTerm>,
-    /// For each definition how much its type holds, names followed.
-    pub weights: Vec<Weight>,
+    /// For each definition how many parts its type has, names followed, a count that stops at the greatest u64.
+    pub weights: Vec<u64>,
 }
 
 impl<'a> Definitions<'a> {
@@ -39,8 +39,9 @@ impl<'a> Definitions<'a> {
         }
     }
 
-    /// How much a type holds, names followed. It takes time linear in the type as it is written.
-    pub fn weight(&self, ty: &TypeTerm) -> Weight
+    /// How many parts a type has, with itself, names followed: the types and constants in it. The count stops at the greatest u64. It takes time
+    /// linear in the type as it is written.
+    pub fn weight(&self, ty: &TypeTerm) -> u64
         ensures { (names : List ℕ → Shape) → Weighs names self.now.names self.now.weights.items → result ≡ weight_of (meaning names (tree ty.now.kind)) }
     {
         weigh(&self.names, self.weights.as_slice(), &ty.kind)

@@ -9,4 +9,3 @@ mod weights;
 
 pub use definitions::Definitions;
 pub use following::resolved;
-pub use weights::{NOTHING, Weight};

@@ -5,5 +5,6 @@ pub mod Passes
 pub mod RightTable
 pub mod RightText
 pub mod RightTypes
+pub mod Rooms
 pub mod Shaped
 pub mod SmallTypes

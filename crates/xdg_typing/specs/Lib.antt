@@ -1,4 +1,5 @@
 pub mod Branches
 pub mod Right
+pub mod Room
 pub mod Small
 pub mod Used

@@ -1,5 +1,5 @@
--- How much the types of a grammar hold together, names followed.
-use Rattle.std.specs.Prelude.{◌≡◌, ℕ, ◌≤◌, ◌+◌, max, List, [], ◌∷◌, flat_map}
+-- How many parts the types of a grammar have together, names followed.
+use Rattle.std.specs.Prelude.{ℕ, ◌≤◌, ◌+◌, List, [], ◌∷◌, flat_map}
 use Rattle.xdg_ast.specs.declared.grammar.DimPartKind.{DimPartKind}
 use Rattle.xdg_ast.specs.declared.grammar.DimPartKind.TheVariants as p
 use Rattle.xdg_ast.specs.declared.grammar.StatementKind.{StatementKind}
@@ -7,8 +7,7 @@ use Rattle.xdg_ast.specs.declared.grammar.StatementKind.TheVariants as s
 use Rattle.xdg_types.specs.Written.{tree}
 use Rattle.xdg_types.specs.Parts.{TypeTerm, DimPart, Statement}
 use Rattle.xdg_types.specs.Meaning.{meaning}
-use Rattle.xdg_type_heads.specs.declared.weights.Weight.{Weight}
-use Rattle.xdg_type_heads.specs.Weights.{parts, levels, capped}
+use Rattle.xdg_type_heads.specs.Weights.{parts, capped}
 use Rattle.xdg_typing.specs.Branches.{Naming}
 
 -- the type of labels, attributes or features that a part of a dimension gives
@@ -34,14 +33,9 @@ abbrev pub all_parts : Naming → List TypeTerm → ℕ
 all_parts names [] = 0
 all_parts names (type ∷ types) = parts (meaning names (tree type.kind)) + all_parts names types
 
--- how deep the deepest of them nests
-abbrev pub all_levels : Naming → List TypeTerm → ℕ
-all_levels names [] = 0
-all_levels names (type ∷ types) = max (levels (meaning names (tree type.kind))) (all_levels names types)
+abbrev pub weight_of_all : Naming → List TypeTerm → ℕ
+weight_of_all names types = capped (all_parts names types)
 
-abbrev pub weight_of_all : Naming → List TypeTerm → Weight
-weight_of_all names types = capped (all_parts names types) (all_levels names types)
-
--- The types of all dimensions have few enough parts together, and nest little enough.
+-- The types of all dimensions have few enough parts together.
 abbrev pub AreSmall : Naming → List Statement → Type 0
-AreSmall names statements = (all_parts names (given_types statements) ≤ 16777216) × (all_levels names (given_types statements) ≤ 1024)
+AreSmall names statements = all_parts names (given_types statements) ≤ 16777216

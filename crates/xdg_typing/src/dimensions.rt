@@ -10,68 +10,68 @@ ghost use Rattle.xdg_type_heads.specs.Heads.{Knows};
 ghost use Rattle.xdg_types.specs.Table.{typed, fields_in, first_meaning, IsDim, AreDims};
 ghost use Rattle.xdg_type_heads.specs.Weights.{Weighs};
 ghost use Rattle.xdg_typing.specs.Small as small;
-ghost use Rattle.xdg_typing.specs.Small.{weight_of_all, AreSmall};
+ghost use Rattle.xdg_typing.specs.Room.{HasRoom};
+ghost use Rattle.xdg_typing.specs.Small.{all_parts, weight_of_all, AreSmall};
 ghost use Rattle.xdg_typing.specs.Used.{found, places};
 
-use crate::resolving::{MOST_LEVELS, MOST_PARTS, copies, resolve_attributes, resolve_members};
+use crate::resolving::{MOST_PARTS, copies, resolve_attributes, resolve_members};
 use std::alloc::{AllocError, Global};
 use xdg_ast::{DimPart, DimPartKind, Name, Statement, StatementKind, TypeKind, TypeTerm};
 use xdg_base::{List, Text};
 use xdg_domain::Ty;
 use xdg_index::Index;
-use xdg_type_heads::{Definitions, NOTHING, Weight};
+use xdg_type_heads::Definitions;
 use xdg_types::DimType;
 
-/// Whether the types of all dimensions together have few enough parts and nest little enough.
+/// Whether the types of all dimensions together have few enough parts.
 pub(crate) fn is_small<'a>(definitions: &Definitions<'a>, statements: &'a [Statement]) -> bool
     ensures { (names : Naming) → Weighs names definitions.now.names definitions.now.weights.items → IsTrue result ↔ AreSmall names statements.now }
 {
-    let all = weigh_all(definitions, statements);
-    all.parts <= MOST_PARTS && all.levels <= MOST_LEVELS
+    weigh_all(definitions, statements) <= MOST_PARTS
 }
 
 /// The weight of the types of all dimensions.
-fn weigh_all<'a>(definitions: &Definitions<'a>, statements: &'a [Statement]) -> Weight
+fn weigh_all<'a>(definitions: &Definitions<'a>, statements: &'a [Statement]) -> u64
     ensures { (names : Naming) → Weighs names definitions.now.names definitions.now.weights.items → result ≡ weight_of_all names (small.given_types statements.now) }
 {
-    let mut all = NOTHING;
+    let mut all = 0u64;
     for statement in statements {
-        all = all.beside(weigh_statement(definitions, statement));
+        all = all.saturating_add(weigh_statement(definitions, statement));
     }
     all
 }
 
 /// The weight of the types of a dimension, where the statement defines one.
-fn weigh_statement<'a>(definitions: &Definitions<'a>, statement: &'a Statement) -> Weight
+fn weigh_statement<'a>(definitions: &Definitions<'a>, statement: &'a Statement) -> u64
     ensures { (names : Naming) → Weighs names definitions.now.names definitions.now.weights.items → result ≡ weight_of_all names (small.given_by statement.now.kind) }
 {
     match &statement.kind {
         StatementKind::DefDim(_, parts) => weigh_parts(definitions, parts.as_slice()),
-        _ => NOTHING,
+        _ => 0,
     }
 }
 
 /// The weight of the types of the labels, attributes and features.
-fn weigh_parts<'a>(definitions: &Definitions<'a>, parts: &'a [DimPart]) -> Weight
+fn weigh_parts<'a>(definitions: &Definitions<'a>, parts: &'a [DimPart]) -> u64
     ensures { (names : Naming) → Weighs names definitions.now.names definitions.now.weights.items → result ≡ weight_of_all names (small.given_in parts.now) }
 {
-    let mut all = NOTHING;
+    let mut all = 0u64;
     for part in parts {
-        all = all.beside(weigh_part(definitions, part));
+        all = all.saturating_add(weigh_part(definitions, part));
     }
     all
 }
 
 /// The weight of the type of the labels, attributes or features, where a part gives one.
 #[tactic(auto, using(crate::proofs::SmallTypes::one_type))]
-fn weigh_part<'a>(definitions: &Definitions<'a>, part: &'a DimPart) -> Weight
+fn weigh_part<'a>(definitions: &Definitions<'a>, part: &'a DimPart) -> u64
     ensures { (names : Naming) → Weighs names definitions.now.names definitions.now.weights.items → result ≡ weight_of_all names (small.given part.now.kind) }
 {
     match &part.kind {
         DimPartKind::LabelType(ty) => definitions.weight(ty),
         DimPartKind::AttrsType(ty) => definitions.weight(ty),
         DimPartKind::EntryType(ty) => definitions.weight(ty),
-        _ => NOTHING,
+        _ => 0,
     }
 }
 
@@ -81,6 +81,7 @@ pub(crate) fn resolve_dimensions<'a>(
     definitions: &Definitions<'a>,
     statements: &'a [Statement],
 ) -> Result<List<DimType>, AllocError>
+    requires { HasRoom definitions.now.names (map (λ head. head.now) definitions.now.heads.items) (λ names. all_parts names (small.given_types statements.now)) 16777216 }
     ensures { (names : Naming) → Knows names definitions.now.names (map (λ head. head.now) definitions.now.heads.items) → IfOk result (λ made. AreDims names (spec.dimensions statements.now) made) }
 {
     let mut all = List::new(alloc);
@@ -102,6 +103,7 @@ fn resolve_dimension<'a>(
     name: &Name,
     parts: &'a [DimPart],
 ) -> Result<DimType, AllocError>
+    requires { HasRoom definitions.now.names (map (λ head. head.now) definitions.now.heads.items) (λ names. all_parts names (small.given_in parts.now)) 16777216 }
     ensures { (names : Naming) → Knows names definitions.now.names (map (λ head. head.now) definitions.now.heads.items) → IfOk result (λ made. IsDim names (name.now, parts.now) made) }
 {
     Ok(DimType {
@@ -135,6 +137,7 @@ fn attributes<'a>(
     definitions: &Definitions<'a>,
     parts: &'a [DimPart],
 ) -> Result<List<(Text, Ty)>, AllocError>
+    requires { HasRoom definitions.now.names (map (λ head. head.now) definitions.now.heads.items) (λ names. all_parts names (small.given_in parts.now)) 16777216 }
     ensures { (names : Naming) → Knows names definitions.now.names (map (λ head. head.now) definitions.now.heads.items) → IfOk result (λ made. typed made ≡ map (λ one. (one.0, as_domain one.1)) (fields_in (first_meaning names (spec.in_parts spec.attrs_type parts.now)))) }
 {
     let Some(ty) = attrs_type(parts) else {
@@ -142,7 +145,7 @@ fn attributes<'a>(
     };
     match &definitions.head(ty).kind {
         TypeKind::Rec(fields) => {
-            resolve_attributes(alloc, definitions, fields.as_slice(), MOST_LEVELS)
+            resolve_attributes(alloc, definitions, fields.as_slice(), MOST_PARTS)
         }
         _ => Ok(List::new(alloc)),
     }
@@ -154,18 +157,14 @@ fn features<'a>(
     definitions: &Definitions<'a>,
     parts: &'a [DimPart],
 ) -> Result<List<(Text, Ty)>, AllocError>
+    requires { HasRoom definitions.now.names (map (λ head. head.now) definitions.now.heads.items) (λ names. all_parts names (small.given_in parts.now)) 16777216 }
     ensures { (names : Naming) → Knows names definitions.now.names (map (λ head. head.now) definitions.now.heads.items) → IfOk result (λ made. typed made ≡ fields_in (first_meaning names (spec.in_parts spec.entry_type parts.now))) }
 {
     let Some(ty) = entry_type(parts) else {
         return Ok(List::new(alloc));
     };
     match &definitions.head(ty).kind {
-        TypeKind::Rec(fields) => resolve_members(
-            alloc,
-            definitions,
-            fields.as_slice(),
-            MOST_LEVELS,
-        ),
+        TypeKind::Rec(fields) => resolve_members(alloc, definitions, fields.as_slice(), MOST_PARTS),
         _ => Ok(List::new(alloc)),
     }
 }

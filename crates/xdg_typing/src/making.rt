@@ -16,13 +16,13 @@ use xdg_type_heads::Definitions;
 use xdg_types::TypeTable;
 
 /// The dimensions of a grammar with their types. Want of memory where the types together have more than
-/// [`MOST_PARTS`](crate::resolving::MOST_PARTS) parts, names followed, or nest too deep; then nothing is made.
+/// [`MOST_PARTS`](crate::resolving::MOST_PARTS) parts, names followed; then nothing is made.
 pub(crate) fn table<'a>(
     alloc: Global,
     statements: &'a [Statement],
     definitions: &Definitions<'a>,
 ) -> Result<TypeTable, OutOfMemory>
-    requires known { (names : Naming) × (Knows names definitions.now.names (map (λ head. head.now) definitions.now.heads.items) × AreRight statements.now names) }
+    requires known { (names : Naming) × (Knows names definitions.now.names (map (λ head. head.now) definitions.now.heads.items) × (Weighs names definitions.now.names definitions.now.weights.items × AreRight statements.now names)) }
     ensures made { IfOk result (λ made. (names : Naming) → Knows names definitions.now.names (map (λ head. head.now) definitions.now.heads.items) → IsTableOf names statements.now made) }
     ensures within { IfOk result (λ _. (names : Naming) → Weighs names definitions.now.names definitions.now.weights.items → AreSmall names statements.now) }
 {

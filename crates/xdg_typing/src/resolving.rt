@@ -1,10 +1,13 @@
 //! Types without names, made from written ones.
 
-ghost use Rattle.std.specs.Prelude.{◌≡◌, ◌↔◌, map, IfOk, IsTrue};
+ghost use Rattle.std.specs.Prelude.{◌≡◌, ◌↔◌, ◌+◌, map, IfOk, IsTrue};
 ghost use Rattle.xdg_domain.specs.Shapes.{shape, fields, no_field};
+ghost use Rattle.xdg_type_heads.specs.Weights.{parts};
 ghost use Rattle.xdg_types.specs.Written.{tree};
 ghost use Rattle.xdg_types.specs.Parts.{texts};
 ghost use Rattle.xdg_typing.specs.Branches.{Naming, domain_meaning, field_meaning, attribute_meaning};
+ghost use Rattle.xdg_typing.specs.Room.{HasRoom, field_types};
+ghost use Rattle.xdg_typing.specs.Small.{all_parts};
 ghost use Rattle.xdg_types.specs.Meaning.{meaning, as_domain, IsHead};
 ghost use Rattle.xdg_types.specs.Table.{typed};
 ghost use Rattle.xdg_type_heads.specs.Heads.{Knows};
@@ -15,64 +18,60 @@ use xdg_base::{Boxed, List, Text};
 use xdg_domain::Ty;
 use xdg_type_heads::Definitions;
 
-/// How deep a type may nest, names followed: above, the answer is want of memory.
-pub(crate) const MOST_LEVELS: u32 = 1024;
-
-/// How many parts the types of a grammar may have together, names followed.
+/// How many parts the types of a grammar may have together, names followed: above, the answer is want of memory.
 pub(crate) const MOST_PARTS: u64 = 16_777_216;
 
-/// The type without names. Want of memory where it nests deeper than the levels.
+/// The type without names, which has at most `room` parts. So it nests no deeper than that, and the recursion ends.
 #[cycle(resolving)]
 pub(crate) fn resolve<'a>(
     alloc: Global,
     definitions: &Definitions<'a>,
     ty: &'a TypeTerm,
-    levels: u32,
+    room: u64,
 ) -> Result<Ty, AllocError>
+    requires { HasRoom definitions.now.names (map (λ head. head.now) definitions.now.heads.items) (λ names. parts (meaning names (tree ty.now.kind))) room }
     ensures { (names : Naming) → Knows names definitions.now.names (map (λ head. head.now) definitions.now.heads.items) → IfOk result (λ made. shape made ≡ meaning names (tree ty.now.kind)) }
 {
-    if levels == 0 {
-        return Err(AllocError);
-    }
-    resolve_form(alloc, definitions, &definitions.head(ty).kind, levels - 1)
+    resolve_form(alloc, definitions, &definitions.head(ty).kind, room - 1)
 }
 
-/// The same of what no name is.
+/// The same of what no name is, and has one part more.
 #[cycle(resolving)]
 fn resolve_form<'a>(
     alloc: Global,
     definitions: &Definitions<'a>,
     form: &'a TypeKind,
-    levels: u32,
+    room: u64,
 ) -> Result<Ty, AllocError>
+    requires { HasRoom definitions.now.names (map (λ head. head.now) definitions.now.heads.items) (λ names. parts (meaning names (tree form.now))) (room + 1) }
     ensures { (names : Naming) → Knows names definitions.now.names (map (λ head. head.now) definitions.now.heads.items) → IsHead names (tree form.now) → IfOk result (λ made. shape made ≡ meaning names (tree form.now)) }
 {
     match form {
         TypeKind::Empty => Ok(Ty::Rec(List::new(alloc))),
         TypeKind::Domain(constants) => Ok(Ty::Domain(copies(alloc, constants.as_slice())?)),
         TypeKind::Rec(members) => {
-            let made = resolve_members(alloc, definitions, members.as_slice(), levels)?;
+            let made = resolve_members(alloc, definitions, members.as_slice(), room)?;
             Ok(Ty::Rec(made))
         }
         TypeKind::Tuple(types) => {
-            let made = resolve_domains(alloc, definitions, types.as_slice(), levels)?;
+            let made = resolve_domains(alloc, definitions, types.as_slice(), room)?;
             Ok(Ty::Tuple(made))
         }
         TypeKind::Set(part) => {
-            let made = resolve_domain(alloc, definitions, part.get(), levels)?;
+            let made = resolve_domain(alloc, definitions, part.get(), room)?;
             Ok(Ty::Set(Boxed::new(alloc, made)?))
         }
         TypeKind::ISet(part) => {
-            let made = resolve_domain(alloc, definitions, part.get(), levels)?;
+            let made = resolve_domain(alloc, definitions, part.get(), room)?;
             Ok(Ty::ISet(Boxed::new(alloc, made)?))
         }
         TypeKind::Valency(part) => {
-            let made = resolve_domain(alloc, definitions, part.get(), levels)?;
+            let made = resolve_domain(alloc, definitions, part.get(), room)?;
             Ok(Ty::Valency(Boxed::new(alloc, made)?))
         }
         TypeKind::Map(key, value) => {
-            let from = resolve_domain(alloc, definitions, key.get(), levels)?;
-            let to = resolve(alloc, definitions, value.get(), levels)?;
+            let from = resolve_domain(alloc, definitions, key.get(), room)?;
+            let to = resolve(alloc, definitions, value.get(), room)?;
             Ok(Ty::Map(Boxed::new(alloc, from)?, Boxed::new(alloc, to)?))
         }
         TypeKind::Card => Ok(Ty::Card),
@@ -89,11 +88,12 @@ fn resolve_domain<'a>(
     alloc: Global,
     definitions: &Definitions<'a>,
     ty: &'a TypeTerm,
-    levels: u32,
+    room: u64,
 ) -> Result<Ty, AllocError>
+    requires { HasRoom definitions.now.names (map (λ head. head.now) definitions.now.heads.items) (λ names. parts (meaning names (tree ty.now.kind))) room }
     ensures { (names : Naming) → Knows names definitions.now.names (map (λ head. head.now) definitions.now.heads.items) → IfOk result (λ made. shape made ≡ as_domain (meaning names (tree ty.now.kind))) }
 {
-    let made = resolve(alloc, definitions, ty, levels)?;
+    let made = resolve(alloc, definitions, ty, room)?;
     if is_empty_record(&made) {
         return Ok(Ty::Domain(List::new(alloc)));
     }
@@ -106,13 +106,14 @@ fn resolve_domains<'a>(
     alloc: Global,
     definitions: &Definitions<'a>,
     types: &'a [TypeTerm],
-    levels: u32,
+    room: u64,
 ) -> Result<List<Ty>, AllocError>
+    requires { HasRoom definitions.now.names (map (λ head. head.now) definitions.now.heads.items) (λ names. all_parts names types.now) room }
     ensures { (names : Naming) → Knows names definitions.now.names (map (λ head. head.now) definitions.now.heads.items) → IfOk result (λ made. map shape made ≡ map (domain_meaning names) types.now) }
 {
     let mut all = List::new(alloc);
     for ty in types {
-        let made = resolve_domain(alloc, definitions, ty, levels)?;
+        let made = resolve_domain(alloc, definitions, ty, room)?;
         all.push(made)?;
     }
     Ok(all)
@@ -124,13 +125,14 @@ pub(crate) fn resolve_members<'a>(
     alloc: Global,
     definitions: &Definitions<'a>,
     fields: &'a [Pair<TypeTerm>],
-    levels: u32,
+    room: u64,
 ) -> Result<List<(Text, Ty)>, AllocError>
+    requires { HasRoom definitions.now.names (map (λ head. head.now) definitions.now.heads.items) (λ names. all_parts names (field_types fields.now)) room }
     ensures { (names : Naming) → Knows names definitions.now.names (map (λ head. head.now) definitions.now.heads.items) → IfOk result (λ made. typed made ≡ map (field_meaning names) fields.now) }
 {
     let mut all = List::new(alloc);
     for field in fields {
-        let made = resolve(alloc, definitions, &field.value, levels)?;
+        let made = resolve(alloc, definitions, &field.value, room)?;
         all.push((field.key.text.copy(alloc)?, made))?;
     }
     Ok(all)
@@ -141,13 +143,14 @@ pub(crate) fn resolve_attributes<'a>(
     alloc: Global,
     definitions: &Definitions<'a>,
     fields: &'a [Pair<TypeTerm>],
-    levels: u32,
+    room: u64,
 ) -> Result<List<(Text, Ty)>, AllocError>
+    requires { HasRoom definitions.now.names (map (λ head. head.now) definitions.now.heads.items) (λ names. all_parts names (field_types fields.now)) room }
     ensures { (names : Naming) → Knows names definitions.now.names (map (λ head. head.now) definitions.now.heads.items) → IfOk result (λ made. typed made ≡ map (attribute_meaning names) fields.now) }
 {
     let mut all = List::new(alloc);
     for field in fields {
-        let made = resolve_domain(alloc, definitions, &field.value, levels)?;
+        let made = resolve_domain(alloc, definitions, &field.value, room)?;
         all.push((field.key.text.copy(alloc)?, made))?;
     }
     Ok(all)

@@ -66,8 +66,8 @@ fn types_of(alloc: Global, statements: &[Statement]) -> Result<TypeTable, Stop>
 ///
 /// The time is linear in the text and in what the types hold, names followed, but for texts that no one would write: a
 /// tuple type that names a domain of more than 64 constants many times, and many attributes given by one very wide name,
-/// take time that grows with the square. What the types hold is counted first: above 16,777,216 parts, or deeper than
-/// 1,024 types inside one another, the answer is want of memory, and nothing is made.
+/// take time that grows with the square. What the types hold is counted first: above 16,777,216 parts the
+/// answer is want of memory, and nothing is made.
 #[tactic(auto, using(crate::proofs::Only::only_answer))]
 pub fn types(alloc: Global, grammar: &Grammar) -> Result<TypeTable, Stop>
     ensures tells { Tells grammar.now.statements result }

@@ -19,17 +19,17 @@ used_by statements names dims lent known used right are same is_known is =
 pub names_of-requires : goal.names_of-requires
 names_of-requires c =
     let known = c.requires.known in
-    subst (λ ds. Differ (names_in ds)) (sym c.as_slice.ensures) (names_differ c.args.statements.now known.0 known.1.1 c.in_ok-dims.dims (c.in_ok-dims.ensures known.0 known.1.0))
+    subst (λ ds. Differ (names_in ds)) (sym c.as_slice.ensures) (names_differ c.args.statements.now known.0 known.1.1.1 c.in_ok-dims.dims (c.in_ok-dims.ensures known.0 known.1.0))
 
 pub new-requires : goal.new-requires
 new-requires c =
     let known = c.requires.known in
     let are = c.in_ok-dims.ensures known.0 known.1.0 in
-    is_table c.args.statements.now known.0 known.1.1 c.in_ok-dims.dims c.in_ok-used.used are (used_by c.args.statements.now known.0 _ _ _ _ known.1.1 are c.as_slice.ensures c.in_ok-known.ensures c.in_ok-used.ensures)
+    is_table c.args.statements.now known.0 known.1.1.1 c.in_ok-dims.dims c.in_ok-used.used are (used_by c.args.statements.now known.0 _ _ _ _ known.1.1.1 are c.as_slice.ensures c.in_ok-known.ensures c.in_ok-used.ensures)
 
 pub returns-clause-made : goal.returns-clause-made
 returns-clause-made c = λ names knows.
     let known = c.requires.known in
     let are = c.in_ok-dims.ensures known.0 known.1.0 in
     subst (IsTableOf names c.args.statements.now) (sym c.new.ensures)
-    (record { dims = c.in_ok-dims.ensures names knows; used = used_by c.args.statements.now known.0 _ _ _ _ known.1.1 are c.as_slice.ensures c.in_ok-known.ensures c.in_ok-used.ensures })
+    (record { dims = c.in_ok-dims.ensures names knows; used = used_by c.args.statements.now known.0 _ _ _ _ known.1.1.1 are c.as_slice.ensures c.in_ok-known.ensures c.in_ok-used.ensures })
