@@ -1,0 +1,10 @@
+pub mod Ranked
+pub mod Times
+pub mod Ends
+pub mod Turning
+pub mod Nexts
+pub mod Reaching
+pub mod Fronts
+pub mod Existing
+pub mod Held
+pub mod Worded
