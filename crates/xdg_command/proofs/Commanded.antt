@@ -7,14 +7,15 @@ use Rattle.std.proofs.lemmas.Slice.Eq.{bytes_eq-Decides}
 use Rattle.clap.specs.Matches.{first_value, found_of, one_text}
 use Rattle.clap.specs.declared.parser.matches.ArgMatches.{ArgMatches}
 use Rattle.xdg_command.specs.Answers.{IsExactly}
-use Rattle.xdg_command.specs.Commands.{HasBudget, HasFirst, HasText, IsCommand, IsDrillNumber, SaysParse, SaysResume}
+use Rattle.xdg_command.specs.Commands.{HasBudget, HasFirst, HasText, IsCommand, IsDrillNumber, SaysCorpus, SaysParse, SaysResume}
 use Rattle.xdg_command.specs.Found.{Matches}
 use Rattle.xdg_command.specs.Items.{AreItems, Item, has_flag, operands_of}
-use Rattle.xdg_command.specs.Readings.{AreWords, IsDrill, IsOfVerb, IsOneFile, IsParse, IsResume, IsTwoFiles}
-use Rattle.xdg_command.specs.Syntax.{Table, is_right, one_file, parsed, resumed, two_files}
+use Rattle.xdg_command.specs.Readings.{AreWords, IsCorpus, IsDrill, IsOfVerb, IsOneFile, IsParse, IsResume, IsTwoFiles}
+use Rattle.xdg_command.specs.Syntax.{Table, corpused, is_right, one_file, parsed, resumed, two_files}
 use Rattle.xdg_command.specs.Verbs.{verb_of}
 use Rattle.xdg_command.specs.declared.commands.Command.{Command}
 use Rattle.xdg_command.specs.declared.commands.Command.TheVariants as commands
+use Rattle.xdg_command.specs.declared.commands.CorpusOptions.{CorpusOptions}
 use Rattle.xdg_command.specs.declared.commands.ParseOptions.{ParseOptions}
 use Rattle.xdg_command.specs.declared.commands.ResumeOptions.{ResumeOptions}
 use Rattle.xdg_command.specs.declared.commands.TextForm.{TextForm}
@@ -37,6 +38,9 @@ parsed_right = refl
 pub resumed_right : is_right resumed ≡ true
 resumed_right = refl
 
+pub corpused_right : is_right corpused ≡ true
+corpused_right = refl
+
 -- ---- words and their items
 
 -- words are read as one list of items
@@ -44,7 +48,7 @@ one_reading : (t : Table) → is_right t ≡ true → (words : List (List ℕ)) 
 one_reading t e words a b left right_one = let is : Some a ≡ Some b = sym (read_items t (right t e) words a left) ∙ read_items t (right t e) words b right_one in cc
 
 -- what words say, their items say
-said : (t : Table) → is_right t ≡ true → (words : List (List ℕ)) (items : List Item) (P : List Item → Type 0) → AreItems t.values t.flags words items → AreWords t.values t.flags words P → P items
+pub said : (t : Table) → is_right t ≡ true → (words : List (List ℕ)) (items : List Item) (P : List Item → Type 0) → AreItems t.values t.flags words items → AreWords t.values t.flags words P → P items
 said t e words items P read w = subst P (one_reading t e words w.items items w.read read) w.says
 
 -- words that don't fit say nothing
@@ -54,13 +58,13 @@ unsaid t words P none few w = none w.items (record { read = w.read; once = w.onc
 
 -- ---- operands
 
-first_none : (xs : List (List ℕ)) (x : List ℕ) (more : List (List ℕ)) → slice_get xs 0 ≡ None → xs ≡ x ∷ more → ⊥
+pub first_none : (xs : List (List ℕ)) (x : List ℕ) (more : List (List ℕ)) → slice_get xs 0 ≡ None → xs ≡ x ∷ more → ⊥
 first_none xs x more none is = let bad : None ≡ Some x = sym none ∙ ap (λ ys. slice_get ys 0) is in cc
 
 second_none : (xs : List (List ℕ)) (x y : List ℕ) → slice_get xs 1 ≡ None → xs ≡ x ∷ y ∷ [] → ⊥
 second_none xs x y none is = let bad : None ≡ Some y = sym none ∙ ap (λ ys. slice_get ys 1) is in cc
 
-single : (xs : List (List ℕ)) (x : List ℕ) → slice_get xs 0 ≡ Some x → length xs ≤ 1 → xs ≡ x ∷ []
+pub single : (xs : List (List ℕ)) (x : List ℕ) → slice_get xs 0 ≡ Some x → length xs ≤ 1 → xs ≡ x ∷ []
 single [] x e few = absurd cc
 single (y ∷ []) x e few = let is : y ≡ x = cc in ap (λ z. z ∷ []) is
 single (y ∷ z ∷ xs) x e few = absurd (omega (arith, few))
@@ -71,7 +75,7 @@ double (a ∷ []) x y e f few = absurd cc
 double (a ∷ b ∷ []) x y e f few = let first : a ≡ x = cc in let second : b ≡ y = cc in ap₂ (λ p q. p ∷ q ∷ []) first second
 double (a ∷ b ∷ c ∷ xs) x y e f few = absurd (omega (arith, few))
 
-few_of : (n : ℕ) (xs ys : List (List ℕ)) → xs ≡ ys → length ys ≤ n → length xs ≤ n
+pub few_of : (n : ℕ) (xs ys : List (List ℕ)) → xs ≡ ys → length ys ≤ n → length xs ≤ n
 few_of n xs ys is few = subst (λ zs. length zs ≤ n) (sym is) few
 
 -- ---- one file
@@ -263,6 +267,7 @@ verb_for (commands.Check grammar) = verbs.Check
 verb_for (commands.Lexicon grammar) = verbs.Lexicon
 verb_for (commands.Print grammar) = verbs.Print
 verb_for (commands.Drill number) = verbs.Drill
+verb_for (commands.Corpus options) = verbs.Corpus
 
 -- how a verb is spelled
 spelling_of : Verb → List ℕ
@@ -273,6 +278,7 @@ spelling_of verbs.Check = codes "check"
 spelling_of verbs.Lexicon = codes "lexicon"
 spelling_of verbs.Print = codes "print"
 spelling_of verbs.Drill = codes "drill"
+spelling_of verbs.Corpus = codes "corpus"
 
 verb_spelled : (verb : Verb) → verb_of (spelling_of verb) ≡ Some verb
 unfolding verb_of spelling_of
@@ -283,30 +289,33 @@ verb_spelled verbs.Check = refl
 verb_spelled verbs.Lexicon = refl
 verb_spelled verbs.Print = refl
 verb_spelled verbs.Drill = refl
+verb_spelled verbs.Corpus = refl
 
-chosen : Bool → Bool → Bool → Bool → Bool → Bool → Bool → Option Verb
-chosen a g b c d e i =
-    if a then Some verbs.Parse else (if g then Some verbs.Resume else (if b then Some verbs.Explain else (if c then Some verbs.Check else (if d then Some verbs.Lexicon else (if e then Some verbs.Print else (if i then Some verbs.Drill else None))))))
+chosen : Bool → Bool → Bool → Bool → Bool → Bool → Bool → Bool → Option Verb
+chosen a g b c d e i j =
+    if a then Some verbs.Parse else (if g then Some verbs.Resume else (if b then Some verbs.Explain else (if c then Some verbs.Check else (if d then Some verbs.Lexicon else (if e then Some verbs.Print else (if i then Some verbs.Drill else (if j then Some verbs.Corpus else None)))))))
 
-chosen_spells : (a g b c d e i : Bool) (word : List ℕ) (verb : Verb) → (a ≡ true → word ≡ codes "parse") → (g ≡ true → word ≡ codes "resume") → (b ≡ true → word ≡ codes "explain") → (c ≡ true → word ≡ codes "check")
-    → (d ≡ true → word ≡ codes "lexicon") → (e ≡ true → word ≡ codes "print") → (i ≡ true → word ≡ codes "drill") → chosen a g b c d e i ≡ Some verb → word ≡ spelling_of verb
+chosen_spells : (a g b c d e i j : Bool) (word : List ℕ) (verb : Verb) → (a ≡ true → word ≡ codes "parse") → (g ≡ true → word ≡ codes "resume") → (b ≡ true → word ≡ codes "explain") → (c ≡ true → word ≡ codes "check")
+    → (d ≡ true → word ≡ codes "lexicon") → (e ≡ true → word ≡ codes "print") → (i ≡ true → word ≡ codes "drill") → (j ≡ true → word ≡ codes "corpus") → chosen a g b c d e i j ≡ Some verb → word ≡ spelling_of verb
 unfolding chosen spelling_of
-chosen_spells true g b c d e i word verb p h q r s t u f = let is : verbs.Parse ≡ verb = cc in subst (λ v. word ≡ spelling_of v) is (p refl)
-chosen_spells false true b c d e i word verb p h q r s t u f = let is : verbs.Resume ≡ verb = cc in subst (λ v. word ≡ spelling_of v) is (h refl)
-chosen_spells false false true c d e i word verb p h q r s t u f = let is : verbs.Explain ≡ verb = cc in subst (λ v. word ≡ spelling_of v) is (q refl)
-chosen_spells false false false true d e i word verb p h q r s t u f = let is : verbs.Check ≡ verb = cc in subst (λ v. word ≡ spelling_of v) is (r refl)
-chosen_spells false false false false true e i word verb p h q r s t u f = let is : verbs.Lexicon ≡ verb = cc in subst (λ v. word ≡ spelling_of v) is (s refl)
-chosen_spells false false false false false true i word verb p h q r s t u f = let is : verbs.Print ≡ verb = cc in subst (λ v. word ≡ spelling_of v) is (t refl)
-chosen_spells false false false false false false true word verb p h q r s t u f = let is : verbs.Drill ≡ verb = cc in subst (λ v. word ≡ spelling_of v) is (u refl)
-chosen_spells false false false false false false false word verb p h q r s t u f = absurd cc
+chosen_spells true g b c d e i j word verb p h q r s t u v f = let is : verbs.Parse ≡ verb = cc in subst (λ o. word ≡ spelling_of o) is (p refl)
+chosen_spells false true b c d e i j word verb p h q r s t u v f = let is : verbs.Resume ≡ verb = cc in subst (λ o. word ≡ spelling_of o) is (h refl)
+chosen_spells false false true c d e i j word verb p h q r s t u v f = let is : verbs.Explain ≡ verb = cc in subst (λ o. word ≡ spelling_of o) is (q refl)
+chosen_spells false false false true d e i j word verb p h q r s t u v f = let is : verbs.Check ≡ verb = cc in subst (λ o. word ≡ spelling_of o) is (r refl)
+chosen_spells false false false false true e i j word verb p h q r s t u v f = let is : verbs.Lexicon ≡ verb = cc in subst (λ o. word ≡ spelling_of o) is (s refl)
+chosen_spells false false false false false true i j word verb p h q r s t u v f = let is : verbs.Print ≡ verb = cc in subst (λ o. word ≡ spelling_of o) is (t refl)
+chosen_spells false false false false false false true j word verb p h q r s t u v f = let is : verbs.Drill ≡ verb = cc in subst (λ o. word ≡ spelling_of o) is (u refl)
+chosen_spells false false false false false false false true word verb p h q r s t u v f = let is : verbs.Corpus ≡ verb = cc in subst (λ o. word ≡ spelling_of o) is (v refl)
+chosen_spells false false false false false false false false word verb p h q r s t u v f = absurd cc
 
 -- a word is the spelling of the verb that it spells
 spells : (word : List ℕ) (verb : Verb) → verb_of word ≡ Some verb → word ≡ spelling_of verb
 unfolding verb_of chosen
 spells word verb e =
-    chosen_spells (bytes_eq word (codes "parse")) (bytes_eq word (codes "resume")) (bytes_eq word (codes "explain")) (bytes_eq word (codes "check")) (bytes_eq word (codes "lexicon")) (bytes_eq word (codes "print")) (bytes_eq word (codes "drill")) word verb
-    (bytes_eq-Decides word (codes "parse")).0 (bytes_eq-Decides word (codes "resume")).0 (bytes_eq-Decides word (codes "explain")).0 (bytes_eq-Decides word (codes "check")).0 (bytes_eq-Decides word (codes "lexicon")).0
-    (bytes_eq-Decides word (codes "print")).0 (bytes_eq-Decides word (codes "drill")).0 e
+    chosen_spells (bytes_eq word (codes "parse")) (bytes_eq word (codes "resume")) (bytes_eq word (codes "explain")) (bytes_eq word (codes "check")) (bytes_eq word (codes "lexicon")) (bytes_eq word (codes "print"))
+    (bytes_eq word (codes "drill")) (bytes_eq word (codes "corpus")) word verb
+    (bytes_eq-Decides word (codes "parse")).0 (bytes_eq-Decides word (codes "resume")).0 (bytes_eq-Decides word (codes "explain")).0 (bytes_eq-Decides word (codes "check")).0
+    (bytes_eq-Decides word (codes "lexicon")).0 (bytes_eq-Decides word (codes "print")).0 (bytes_eq-Decides word (codes "drill")).0 (bytes_eq-Decides word (codes "corpus")).0 e
 
 -- a command is spelled by its verb, which the later words follow
 of_command : (words : List (List ℕ)) (command : Command) → IsCommand words command
@@ -319,6 +328,7 @@ of_command words (commands.Check grammar) w = (w.later, w.words_are, record { it
 of_command words (commands.Lexicon grammar) w = (w.later, w.words_are, record { items = w.items; read = w.read; once = w.once; says = w.says })
 of_command words (commands.Print grammar) w = (w.later, w.words_are, record { items = w.items; read = w.read; once = w.once; says = w.says })
 of_command words (commands.Drill number) w = (w.later, w.words_are, record { items = w.items; read = w.read; once = w.once; says = w.says })
+of_command words (commands.Corpus options) w = (w.later, w.words_are, record { items = w.items; read = w.read; once = w.once; says = w.says })
 
 -- and back
 to_command : (verb : Verb) (later : List (List ℕ)) (command : Command) → IsOfVerb verb later command → IsCommand (spelling_of verb ∷ later) command
@@ -330,6 +340,7 @@ to_command verbs.Check later (commands.Check grammar) w = record { later = later
 to_command verbs.Lexicon later (commands.Lexicon grammar) w = record { later = later; items = w.items; words_are = refl; read = w.read; once = w.once; says = w.says }
 to_command verbs.Print later (commands.Print grammar) w = record { later = later; items = w.items; words_are = refl; read = w.read; once = w.once; says = w.says }
 to_command verbs.Drill later (commands.Drill number) w = record { later = later; items = w.items; words_are = refl; read = w.read; once = w.once; says = w.says }
+to_command verbs.Corpus later (commands.Corpus options) w = record { later = later; items = w.items; words_are = refl; read = w.read; once = w.once; says = w.says }
 to_command verb later command w = absurd w
 
 -- words of which the first is no command's are no command
@@ -390,6 +401,16 @@ one_parse words a b p q =
     let text = one_text_form _ a.text b.text p.says.text says.text in
     (λ i. let made : ParseOptions = record { grammar = grammar i; budget = budget i; first = first i; segment = segment i; text = text i } in made)
 
+one_corpus : (words : List (List ℕ)) (a b : CorpusOptions) → IsCorpus words a → IsCorpus words b → a ≡ b
+one_corpus words a b p q =
+    let says = said corpused corpused_right words p.items (λ items. SaysCorpus items b) p.read q in
+    let same : a.grammar ∷ [] ≡ b.grammar ∷ [] = sym p.says.grammar ∙ says.grammar in
+    let grammar : a.grammar ≡ b.grammar = cc in
+    let budget = one_budget _ a.budget b.budget p.says.budget says.budget in
+    let first = one_first _ a.first b.first p.says.first says.first in
+    let segment : a.segment ≡ b.segment = p.says.segment ∙ sym says.segment in
+    (λ i. let made : CorpusOptions = record { grammar = grammar i; budget = budget i; first = first i; segment = segment i } in made)
+
 one_resume : (words : List (List ℕ)) (a b : ResumeOptions) → IsResume words a → IsResume words b → a ≡ b
 one_resume words a b p q =
     let says = said resumed resumed_right words p.items (λ items. SaysResume items b) p.read q in
@@ -426,6 +447,7 @@ one_of_verb verbs.Check words (commands.Check a) (commands.Check b) p q = ap (λ
 one_of_verb verbs.Lexicon words (commands.Lexicon a) (commands.Lexicon b) p q = ap (λ n. commands.Lexicon n) (one_file_name words a b p q)
 one_of_verb verbs.Print words (commands.Print a) (commands.Print b) p q = ap (λ n. commands.Print n) (one_file_name words a b p q)
 one_of_verb verbs.Drill words (commands.Drill a) (commands.Drill b) p q = ap (λ n. commands.Drill n) (one_drill words a b p q)
+one_of_verb verbs.Corpus words (commands.Corpus a) (commands.Corpus b) p q = ap (λ o. commands.Corpus o) (one_corpus words a b p q)
 one_of_verb verbs.Parse words (commands.Parse a) b p q = absurd q
 one_of_verb verbs.Resume words (commands.Resume a) b p q = absurd q
 one_of_verb verbs.Explain words (commands.Explain a c) b p q = absurd q
@@ -433,6 +455,7 @@ one_of_verb verbs.Check words (commands.Check a) b p q = absurd q
 one_of_verb verbs.Lexicon words (commands.Lexicon a) b p q = absurd q
 one_of_verb verbs.Print words (commands.Print a) b p q = absurd q
 one_of_verb verbs.Drill words (commands.Drill a) b p q = absurd q
+one_of_verb verbs.Corpus words (commands.Corpus a) b p q = absurd q
 one_of_verb verb words a b p q = absurd p
 
 pub one_command : (words : List (List ℕ)) (a b : Command) → IsCommand words a → IsCommand words b → a ≡ b

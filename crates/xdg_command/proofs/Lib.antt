@@ -1,5 +1,6 @@
 pub mod Built
 pub mod Commanded
+pub mod Corpused
 pub mod Filling
 pub mod Finding
 pub mod Fitting

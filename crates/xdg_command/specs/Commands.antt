@@ -6,6 +6,7 @@ use Rattle.std.specs.Str.Parse.{digits_value}
 use Rattle.xdg_command.specs.Items.{Item, AreItems, IsOnce, has_flag, operands_of, value_of}
 use Rattle.xdg_command.specs.declared.commands.Command.{Command}
 use Rattle.xdg_command.specs.declared.commands.Command.TheVariants as commands
+use Rattle.xdg_command.specs.declared.commands.CorpusOptions.{CorpusOptions}
 use Rattle.xdg_command.specs.declared.commands.ParseOptions.{ParseOptions}
 use Rattle.xdg_command.specs.declared.commands.ResumeOptions.{ResumeOptions}
 use Rattle.xdg_command.specs.declared.commands.TextForm.{TextForm}
@@ -55,16 +56,19 @@ spelled (commands.Check grammar) = codes "check"
 spelled (commands.Lexicon grammar) = codes "lexicon"
 spelled (commands.Print grammar) = codes "print"
 spelled (commands.Drill number) = codes "drill"
+spelled (commands.Corpus options) = codes "corpus"
 
 -- the names of a command's options that take a value
 abbrev pub values_of : Command → List (List ℕ)
 values_of (commands.Parse options) = codes "budget" ∷ codes "first" ∷ codes "text" ∷ []
 values_of (commands.Resume options) = codes "budget" ∷ codes "first" ∷ codes "text" ∷ []
+values_of (commands.Corpus options) = codes "budget" ∷ codes "first" ∷ []
 values_of _ = []
 
 -- the names of a command's options that take none
 abbrev pub flags_of : Command → List (List ℕ)
 flags_of (commands.Parse options) = codes "segment" ∷ []
+flags_of (commands.Corpus options) = codes "segment" ∷ []
 flags_of _ = []
 
 -- the items of `parse`
@@ -88,6 +92,13 @@ pub record SaysDrill (items : List Item) (number : ℕ) : Type 0 where
   pub alone : operands_of items ≡ text ∷ []
   pub writes : IsDrillNumber text number
 
+-- the items of `corpus`
+pub record SaysCorpus (items : List Item) (options : CorpusOptions) : Type 0 where
+  pub grammar : operands_of items ≡ options.grammar ∷ []
+  pub budget : HasBudget (value_of (codes "budget") items) options.budget
+  pub first : HasFirst (value_of (codes "first") items) options.first
+  pub segment : options.segment ≡ has_flag (codes "segment") items
+
 -- the items are the operands and options of the command
 abbrev pub Says : List Item → Command → Type 0
 Says items (commands.Parse options) = SaysParse items options
@@ -97,6 +108,7 @@ Says items (commands.Check grammar) = operands_of items ≡ grammar ∷ []
 Says items (commands.Lexicon grammar) = operands_of items ≡ grammar ∷ []
 Says items (commands.Print grammar) = operands_of items ≡ grammar ∷ []
 Says items (commands.Drill number) = SaysDrill items number
+Says items (commands.Corpus options) = SaysCorpus items options
 
 -- The words are the command: its spelling, and then items, each option at most once, that say what it is to do.
 pub record IsCommand (words : List (List ℕ)) (command : Command) : Type 0 where

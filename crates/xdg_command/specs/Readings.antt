@@ -1,9 +1,10 @@
 -- The words after a command's name, by what they say.
 use Rattle.std.specs.Prelude.{◌≡◌, ℕ, List, [], ◌∷◌, codes}
 use Rattle.xdg_command.specs.Items.{Item, AreItems, IsOnce, operands_of}
-use Rattle.xdg_command.specs.Commands.{SaysDrill, SaysParse, SaysResume}
+use Rattle.xdg_command.specs.Commands.{SaysCorpus, SaysDrill, SaysParse, SaysResume}
 use Rattle.xdg_command.specs.declared.commands.Command.{Command}
 use Rattle.xdg_command.specs.declared.commands.Command.TheVariants as commands
+use Rattle.xdg_command.specs.declared.commands.CorpusOptions.{CorpusOptions}
 use Rattle.xdg_command.specs.declared.commands.ParseOptions.{ParseOptions}
 use Rattle.xdg_command.specs.declared.commands.ResumeOptions.{ResumeOptions}
 use Rattle.xdg_command.specs.declared.reading.Files.{Files}
@@ -37,6 +38,10 @@ IsParse words options = AreWords (codes "budget" ∷ codes "first" ∷ codes "te
 abbrev pub IsResume : List (List ℕ) → ResumeOptions → Type 0
 IsResume words options = AreWords (codes "budget" ∷ codes "first" ∷ codes "text" ∷ []) [] words (λ items. SaysResume items options)
 
+-- what follows `corpus`
+abbrev pub IsCorpus : List (List ℕ) → CorpusOptions → Type 0
+IsCorpus words options = AreWords (codes "budget" ∷ codes "first" ∷ []) (codes "segment" ∷ []) words (λ items. SaysCorpus items options)
+
 -- what follows the name of a command
 abbrev pub IsOfVerb : Verb → List (List ℕ) → Command → Type 0
 IsOfVerb verbs.Parse words (commands.Parse options) = IsParse words options
@@ -46,4 +51,5 @@ IsOfVerb verbs.Check words (commands.Check grammar) = IsOneFile words grammar
 IsOfVerb verbs.Lexicon words (commands.Lexicon grammar) = IsOneFile words grammar
 IsOfVerb verbs.Print words (commands.Print grammar) = IsOneFile words grammar
 IsOfVerb verbs.Drill words (commands.Drill number) = IsDrill words number
+IsOfVerb verbs.Corpus words (commands.Corpus options) = IsCorpus words options
 IsOfVerb verb words command = ⊥

@@ -27,6 +27,9 @@ parsed = record { operands = codes "grammar" ∷ []; values = codes "budget" ∷
 abbrev pub resumed : Table
 resumed = record { operands = codes "grammar" ∷ codes "analysis" ∷ []; values = codes "budget" ∷ codes "first" ∷ codes "text" ∷ []; flags = [] }
 
+abbrev pub corpused : Table
+corpused = record { operands = codes "grammar" ∷ []; values = codes "budget" ∷ codes "first" ∷ []; flags = codes "segment" ∷ [] }
+
 -- an operand, an option with a value that isn't empty, and an option without value
 abbrev pub operand_arg : List ℕ → Rule
 operand_arg name = record (new_rule name) { action = Some Set }

@@ -12,4 +12,5 @@ verb_of word =
     (if bytes_eq word (codes "lexicon") then Some verbs.Lexicon else
     (if bytes_eq word (codes "print") then Some verbs.Print else
     (if bytes_eq word (codes "drill") then Some verbs.Drill else
-    None))))))
+    (if bytes_eq word (codes "corpus") then Some verbs.Corpus else
+    None)))))))

@@ -41,6 +41,19 @@ pub struct ResumeOptions {
     pub text: TextForm,
 }
 
+/// What `corpus` is asked to do.
+#[derive(Debug, Drop)]
+pub struct CorpusOptions {
+    /// The name of the grammar file.
+    pub grammar: Text,
+    /// How many counted prefixes the search of each line may charge, 1 to 1,000,000,000.
+    pub budget: u64,
+    /// After how many analyses of a line to stop, 1 to 1,000,000, or `None` to go on to the last.
+    pub first: Option<u64>,
+    /// Whether words are cut by the Unicode rules of word boundaries.
+    pub segment: bool,
+}
+
 /// A command with its operands and options.
 #[derive(Debug, Drop)]
 pub enum Command {
@@ -75,4 +88,6 @@ pub enum Command {
         /// The number that the grammar and the sentence are made from, 0 to 999,999.
         number: u64,
     },
+    /// `corpus`: the analyses of each line that the input gives.
+    Corpus(CorpusOptions),
 }

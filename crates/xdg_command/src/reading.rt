@@ -4,12 +4,12 @@ ghost use Rattle.std.specs.Prelude.{◌≡◌, IfOk, map};
 ghost use Rattle.std.specs.String.{string_bytes};
 ghost use Rattle.xdg_command.specs.Answers.{IsExactly};
 ghost use Rattle.xdg_command.specs.Commands.{IsCommand};
-ghost use Rattle.xdg_command.specs.Readings.{IsDrill, IsOfVerb, IsOneFile, IsParse, IsResume, IsTwoFiles};
+ghost use Rattle.xdg_command.specs.Readings.{IsCorpus, IsDrill, IsOfVerb, IsOneFile, IsParse, IsResume, IsTwoFiles};
 ghost use Rattle.xdg_command.specs.Verbs.{verb_of};
 ghost use Rattle.xdg_command.specs.declared.commands.Command.{Command};
 
 use crate::matching::matches;
-use crate::{Command, ParseOptions, ResumeOptions, syntax, values};
+use crate::{Command, CorpusOptions, ParseOptions, ResumeOptions, syntax, values};
 use std::alloc::Global;
 use xdg_base::{OutOfMemory, Text};
 
@@ -23,6 +23,7 @@ enum Verb {
     Lexicon,
     Print,
     Drill,
+    Corpus,
 }
 
 /// The operands of `explain`.
@@ -136,6 +137,32 @@ fn resume(alloc: Global, words: &[String]) -> Result<Option<ResumeOptions>, OutO
     }))
 }
 
+/// The operand and the options of `corpus`.
+fn corpus(alloc: Global, words: &[String]) -> Result<Option<CorpusOptions>, OutOfMemory>
+    ensures { IfOk result (IsExactly (IsCorpus (map string_bytes words.now))) }
+{
+    let Some(found) = matches(syntax::corpus(alloc)?, words)? else {
+        return Ok(None);
+    };
+    let Some(grammar) = found.get_str("grammar") else {
+        return Ok(None);
+    };
+    let Some(budget) = values::budget(found.get_str("budget")) else {
+        return Ok(None);
+    };
+    let Some(first) = values::first(found.get_str("first")) else {
+        return Ok(None);
+    };
+    let grammar = Text::from_str(alloc, grammar)?;
+    let segment = found.get_flag("segment");
+    Ok(Some(CorpusOptions {
+        grammar,
+        budget,
+        first,
+        segment,
+    }))
+}
+
 /// The command that a word spells.
 #[tactic(auto, unfolding(crate::specs::Verbs::verb_of))]
 fn verb_of(word: &str) -> Option<Verb>
@@ -149,6 +176,7 @@ fn verb_of(word: &str) -> Option<Verb>
         "lexicon" => Some(Verb::Lexicon),
         "print" => Some(Verb::Print),
         "drill" => Some(Verb::Drill),
+        "corpus" => Some(Verb::Corpus),
         _ => None,
     }
 }
@@ -184,6 +212,10 @@ fn with_name(alloc: Global, verb: Verb, words: &[String]) -> Result<Option<Comma
         },
         Verb::Drill => match drill(alloc, words)? {
             Some(number) => Ok(Some(Command::Drill { number })),
+            None => Ok(None),
+        },
+        Verb::Corpus => match corpus(alloc, words)? {
+            Some(options) => Ok(Some(Command::Corpus(options))),
             None => Ok(None),
         },
     }

@@ -1,21 +1,27 @@
 -- What a run leaves, from what its command leaves.
-use Rattle.std.proofs.Common.{◌≡◌, ◌<◌, ◌⊎◌, inl, inr, ℕ, List, Some, None, refl, sym, subst, arith}
+use Rattle.std.proofs.Common.{◌≡◌, ◌<◌, ◌≤◌, ◌⊎◌, inl, inr, ℕ, List, Some, None, refl, sym, subst, arith}
 use Rattle.std.specs.Prelude.{◌≢◌, Option, codes}
 use Rattle.xdg_command.specs.Answers.{IsExactly}
 use Rattle.xdg_analyses.specs.Written.{IsSome}
-use Rattle.xdg_command.specs.Commands.{HasFirst, IsCommand}
+use Rattle.xdg_command.specs.Commands.{HasBudget, HasFirst, IsCommand}
 use Rattle.xdg_command.specs.Items.{value_of}
 use Rattle.xdg_command.specs.declared.commands.Command.{Command}
 use Rattle.xdg_command.specs.declared.commands.Command.TheVariants as commands
+use Rattle.xdg_command.specs.declared.commands.CorpusOptions.{CorpusOptions}
 use Rattle.xdg_command.specs.declared.commands.ParseOptions.{ParseOptions}
 use Rattle.xdg_command.specs.declared.commands.ResumeOptions.{ResumeOptions}
+use Rattle.xdg_corpus.specs.Outcomes.{CorpusEnds}
+use Rattle.xdg_corpus.specs.Runs.{LeavesPart}
+use Rattle.xdg_corpus.proofs.Parting.{leaves_part, memory_part}
 use Rattle.xdg_io.specs.Rose.{Rose}
 use Rattle.xdg_text.specs.Lines.{usage_line}
-use Rattle.xdg_top.specs.Outcomes.{Files, CommandOf, IsNoCommand, IsUsage, OutcomeOf, WantsSome, usage, commanded}
-use Rattle.xdg_top.specs.Runs.{Ends, EndsWith, FailsToRead, Leaves, ReadsFile, ReadsInput, Wrote, of_file, of_input}
-use Rattle.xdg_top.specs.declared.status.Status.{Status}
-use Rattle.xdg_top.specs.declared.status.Status.TheVariants as statuses
-use Rattle.xdg_top.proofs.Leaving.{IsOnly}
+use Rattle.xdg_outcomes.specs.Outcomes.{Files}
+use Rattle.xdg_top.specs.Outcomes.{CommandOf, IsNoCommand, IsUsage, OutcomeOf, WantsSome, usage, commanded}
+use Rattle.xdg_outcomes.specs.Runs.{Ends, Leaves, Unwritten, Wrote}
+use Rattle.xdg_top.specs.Runs.{CommandWrote, EndsWith, FailsToRead, IsCorpus, LeavesBy, LeavesOf, ReadsFile, ReadsInput, UnwrittenBy, of_file, of_input}
+use Rattle.xdg_outcomes.specs.declared.status.Status.{Status}
+use Rattle.xdg_outcomes.specs.declared.status.Status.TheVariants as statuses
+use Rattle.xdg_outcomes.proofs.Leaving.{IsOnly}
 
 -- the outcomes of words that are a command are those of the command
 of_command : (given : List (List ℕ)) (files : Files) (input : List ℕ) (command : Command) → IsCommand given command → ((b : Command) → IsCommand given b → b ≡ command) → (status : Status) (text : List ℕ) → OutcomeOf given files input status text → CommandOf command files input status text
@@ -35,6 +41,51 @@ run_leaves given files input command statuses.ReadFault old new is one e = e
 run_leaves given files input command statuses.OutOfMemory old new is one e = e
 run_leaves given files input command statuses.WriteFault old new is one e = λ status text o. e status text (of_command given files input command is one status text o)
 run_leaves given files input command result old new is one e = command_ends given files input command result old new is one e
+
+run_part : (given : List (List ℕ)) (files : Files) (input : List ℕ) (command : Command) (result : Status) (old new : Option (List ℕ)) → IsCommand given command → ((b : Command) → IsCommand given b → b ≡ command) → LeavesPart (CommandOf command files input) result old new
+    → LeavesPart (OutcomeOf given files input) result old new
+run_part given files input command statuses.ReadFault old new is one e = e
+run_part given files input command statuses.OutOfMemory old new is one e = λ status text o. e status text (of_command given files input command is one status text o)
+run_part given files input command statuses.WriteFault old new is one e = λ status text o. e status text (of_command given files input command is one status text o)
+run_part given files input command result old new is one e = command_ends given files input command result old new is one e
+
+-- a command other than `corpus` takes all its memory before it writes
+at_once : (given : List (List ℕ)) (files : Files) (input : List ℕ) (command : Command) (result : Status) (old new : Option (List ℕ)) → IsCommand given command → ((b : Command) → IsCommand given b → b ≡ command) → Leaves (CommandOf command files input) result old new
+    → LeavesBy given (OutcomeOf given files input) result old new
+at_once given files input command result old new is one leaves =
+    let all = run_leaves given files input command result old new is one leaves in
+    record { part = leaves_part (OutcomeOf given files input) result old new all; at_once = λ other. all }
+
+-- what a command leaves is what its words leave
+pub words_leave : (given : List (List ℕ)) (files : Files) (input : List ℕ) (command : Command) (result : Status) (old new : Option (List ℕ)) → IsCommand given command → ((b : Command) → IsCommand given b → b ≡ command) → LeavesOf command (CommandOf command files input) result old new
+    → LeavesBy given (OutcomeOf given files input) result old new
+words_leave given files input (commands.Corpus options) result old new is one leaves =
+    record { part = run_part given files input (commands.Corpus options) result old new is one leaves; at_once = λ other. absurd (other (options, is)) }
+words_leave given files input (commands.Parse options) result old new is one leaves = at_once given files input (commands.Parse options) result old new is one leaves
+words_leave given files input (commands.Resume options) result old new is one leaves = at_once given files input (commands.Resume options) result old new is one leaves
+words_leave given files input (commands.Explain grammar analysis) result old new is one leaves = at_once given files input (commands.Explain grammar analysis) result old new is one leaves
+words_leave given files input (commands.Check grammar) result old new is one leaves = at_once given files input (commands.Check grammar) result old new is one leaves
+words_leave given files input (commands.Lexicon grammar) result old new is one leaves = at_once given files input (commands.Lexicon grammar) result old new is one leaves
+words_leave given files input (commands.Print grammar) result old new is one leaves = at_once given files input (commands.Print grammar) result old new is one leaves
+words_leave given files input (commands.Drill number) result old new is one leaves = at_once given files input (commands.Drill number) result old new is one leaves
+
+-- for want of memory nothing was added
+pub memory_leaves : (given : List (List ℕ)) (O : Status → List ℕ → Type 0) (held : Option (List ℕ)) → LeavesBy given O statuses.OutOfMemory held held
+memory_leaves given O held = record { part = memory_part O held; at_once = λ other. refl }
+
+pub memory_left : (command : Command) (O : Status → List ℕ → Type 0) (held : Option (List ℕ)) → LeavesOf command O statuses.OutOfMemory held held
+memory_left (commands.Corpus options) O held = memory_part O held
+memory_left (commands.Parse options) O held = refl
+memory_left (commands.Resume options) O held = refl
+memory_left (commands.Explain grammar analysis) O held = refl
+memory_left (commands.Check grammar) O held = refl
+memory_left (commands.Lexicon grammar) O held = refl
+memory_left (commands.Print grammar) O held = refl
+memory_left (commands.Drill number) O held = refl
+
+-- words that are no command write the usage line, or nothing
+pub usage_leaves : (given : List (List ℕ)) (O : Status → List ℕ → Type 0) (result : Status) (old new : Option (List ℕ)) → Leaves O result old new → LeavesBy given O result old new
+usage_leaves given O result old new leaves = record { part = leaves_part O result old new leaves; at_once = λ other. leaves }
 
 -- the line of words that are no command
 pub usage_alone : IsOnly IsUsage statuses.Usage usage_line
@@ -66,15 +117,23 @@ some_first None (Some first) has = absurd has
 some_first (Some text) None has = tt
 some_first (Some text) (Some first) has = has.above
 
+-- a budget is in its range
+in_range : (told : Option (List ℕ)) (budget : ℕ) → HasBudget told budget → (1 ≤ budget) × (budget ≤ 1000000000)
+in_range None budget has = (omega (arith, has), omega (arith, has))
+in_range (Some text) budget has = (has.above, has.below)
+
 -- a command that words are asks for no analyses or for some
 pub wants_some : (given : List (List ℕ)) (command : Command) → IsCommand given command → WantsSome command
 wants_some given (commands.Parse options) is = some_first (value_of (codes "first") is.items) options.first is.says.first
 wants_some given (commands.Resume options) is = some_first (value_of (codes "first") is.items) options.first is.says.first
+wants_some given (commands.Corpus options) is =
+    let range = in_range (value_of (codes "budget") is.items) options.budget is.says.budget in
+    record { some = range.0; most = range.1; first = some_first (value_of (codes "first") is.items) options.first is.says.first }
 wants_some given command is = tt
 
 -- what is left for the command is left for any that the words are
-pub asked_leaves : (given : List (List ℕ)) (files : Files) (input : List ℕ) (command asked : Command) (result : Status) (old new : Option (List ℕ)) → IsTheCommand given command → IsCommand given asked → Leaves (CommandOf command files input) result old new → Leaves (CommandOf asked files input) result old new
-asked_leaves given files input command asked result old new exact is leaves = subst (λ z. Leaves (CommandOf z files input) result old new) (sym (exact.1 asked is)) leaves
+pub asked_leaves : (given : List (List ℕ)) (files : Files) (input : List ℕ) (command asked : Command) (result : Status) (old new : Option (List ℕ)) → IsTheCommand given command → IsCommand given asked → LeavesOf command (CommandOf command files input) result old new → LeavesOf asked (CommandOf asked files input) result old new
+asked_leaves given files input command asked result old new exact is leaves = subst (λ z. LeavesOf z (CommandOf z files input) result old new) (sym (exact.1 asked is)) leaves
 
 -- no command ends as words that are none
 never_usage : (command : Command) → EndsWith command statuses.Usage → ⊥
@@ -85,6 +144,7 @@ never_usage (commands.Check grammar) e = e
 never_usage (commands.Lexicon grammar) e = e
 never_usage (commands.Print grammar) e = e
 never_usage (commands.Drill number) e = e
+never_usage (commands.Corpus options) e = e
 
 -- each may end for want of memory
 pub memory_ends : (command : Command) → EndsWith command statuses.OutOfMemory
@@ -95,14 +155,15 @@ memory_ends (commands.Check grammar) = tt
 memory_ends (commands.Lexicon grammar) = tt
 memory_ends (commands.Print grammar) = tt
 memory_ends (commands.Drill number) = tt
+memory_ends (commands.Corpus options) = tt
 
 pub not_usage : (command : Command) (result : Status) → EndsWith command result → result ≡ statuses.Usage → ⊥
 not_usage command result ends e = never_usage command (subst (EndsWith command) e ends)
 
--- a command that reads the input is `parse`
-pub reads_parse : (given : List (List ℕ)) (command : Command) → IsCommand given command → ReadsInput command → ((options : ParseOptions) → IsCommand given (commands.Parse options) → ⊥) → ⊥
-reads_parse given (commands.Parse options) is reads none = none options is
-reads_parse given command is reads none = absurd reads
+-- a corpus whose lines are searched is done
+pub corpus_done : (result : Status) → CorpusEnds result → (result ≡ statuses.Done) ⊎ (result ≡ statuses.Spent) → result ≡ statuses.Done
+corpus_done result ends (inl done) = done
+corpus_done result ends (inr spent) = absurd (subst CorpusEnds spent ends)
 
 -- a count that rose though only a failed read raises it
 pub read_won : (status : Status) (old new : ℕ) → (status ≢ statuses.ReadFault → new ≡ old) → old < new → status ≡ statuses.ReadFault
@@ -111,11 +172,34 @@ read_won status old new quiet rose = absurd (let same : new ≡ old = quiet (λ 
 
 -- ---- the command that is given
 
-pub said_leaves : (files : Files) (input : List ℕ) (command said : Command) (result : Status) (old new : Option (List ℕ)) → command ≡ said → Leaves (CommandOf said files input) result old new → Leaves (CommandOf command files input) result old new
-said_leaves files input command said result old new e leaves = subst (λ z. Leaves (CommandOf z files input) result old new) (sym e) leaves
+pub said_leaves : (files : Files) (input : List ℕ) (command said : Command) (result : Status) (old new : Option (List ℕ)) → command ≡ said → LeavesOf said (CommandOf said files input) result old new → LeavesOf command (CommandOf command files input) result old new
+said_leaves files input command said result old new e leaves = subst (λ z. LeavesOf z (CommandOf z files input) result old new) (sym e) leaves
 
-pub said_wrote : (command said : Command) (result : Status) (count_old count_new : ℕ) (old new : Option (List ℕ)) → command ≡ said → Wrote (EndsWith said) result count_old count_new old new → Wrote (EndsWith command) result count_old count_new old new
-said_wrote command said result count_old count_new old new e wrote = subst (λ z. Wrote (EndsWith z) result count_old count_new old new) (sym e) wrote
+pub said_wrote : (command said : Command) (result : Status) (count_old count_new : ℕ) (old new : Option (List ℕ)) → command ≡ said → (Unwritten result old new → UnwrittenBy said result old new) → Wrote (EndsWith said) result count_old count_new old new
+    → CommandWrote command result count_old count_new old new
+said_wrote command said result count_old count_new old new e by wrote =
+    record { ends = subst (λ z. EndsWith z result) (sym e) wrote.ends; unwritten = subst (λ z. UnwrittenBy z result old new) (sym e) (by wrote.unwritten); quiet = wrote.quiet }
+
+pub corpus_wrote : (command : Command) (options : CorpusOptions) (result : Status) (count_old count_new : ℕ) (old new : Option (List ℕ)) → command ≡ commands.Corpus options → CorpusEnds result → (result ≡ statuses.ReadFault → new ≡ old) → (result ≢ statuses.WriteFault → count_new ≡ count_old)
+    → CommandWrote command result count_old count_new old new
+corpus_wrote command options result count_old count_new old new e ends unwritten quiet =
+    record { ends = subst (λ z. EndsWith z result) (sym e) ends; unwritten = subst (λ z. UnwrittenBy z result old new) (sym e) unwritten; quiet = quiet }
+
+without : (given : List (List ℕ)) (result : Status) → (result ≡ statuses.ReadFault) ⊎ ((result ≡ statuses.OutOfMemory) × (IsCorpus given → ⊥)) → (result ≡ statuses.ReadFault) ⊎ (result ≡ statuses.OutOfMemory)
+without given result (inl read) = inl read
+without given result (inr memory) = inr memory.0
+
+-- nothing was added
+pub nothing_added : (given : List (List ℕ)) (command : Command) (result : Status) (old new : Option (List ℕ)) → IsCommand given command → UnwrittenBy command result old new → (result ≡ statuses.ReadFault) ⊎ ((result ≡ statuses.OutOfMemory) × (IsCorpus given → ⊥)) → new ≡ old
+nothing_added given (commands.Corpus options) result old new is unwritten (inl read) = unwritten read
+nothing_added given (commands.Corpus options) result old new is unwritten (inr memory) = absurd (memory.1 (options, is))
+nothing_added given (commands.Parse options) result old new is unwritten ended = unwritten (without given result ended)
+nothing_added given (commands.Resume options) result old new is unwritten ended = unwritten (without given result ended)
+nothing_added given (commands.Explain grammar analysis) result old new is unwritten ended = unwritten (without given result ended)
+nothing_added given (commands.Check grammar) result old new is unwritten ended = unwritten (without given result ended)
+nothing_added given (commands.Lexicon grammar) result old new is unwritten ended = unwritten (without given result ended)
+nothing_added given (commands.Print grammar) result old new is unwritten ended = unwritten (without given result ended)
+nothing_added given (commands.Drill number) result old new is unwritten ended = unwritten (without given result ended)
 
 pub said_reads : (command said : Command) → command ≡ said → ReadsInput said → ReadsInput command
 said_reads command said e reads = subst ReadsInput (sym e) reads
@@ -136,3 +220,7 @@ explain_failed command grammar analysis grammar_name analysis_name shelf_old she
 pub resume_failed : (command : Command) (options : ResumeOptions) (shelf_old shelf_new : List ℕ → ℕ) (input_old input_new : ℕ) → command ≡ commands.Resume options → Rose (shelf_old options.grammar) (shelf_new options.grammar) ⊎ Rose (shelf_old options.analysis) (shelf_new options.analysis) → FailsToRead command shelf_old shelf_new input_old input_new
 resume_failed command options shelf_old shelf_new input_old input_new e (inl rose) = file_failed command (commands.Resume options) options.grammar shelf_old shelf_new input_old input_new e (inl refl) rose
 resume_failed command options shelf_old shelf_new input_old input_new e (inr rose) = file_failed command (commands.Resume options) options.analysis shelf_old shelf_new input_old input_new e (inr refl) rose
+
+pub corpus_failed : (command : Command) (options : CorpusOptions) (shelf_old shelf_new : List ℕ → ℕ) (input_old input_new : ℕ) → command ≡ commands.Corpus options → Rose (shelf_old options.grammar) (shelf_new options.grammar) ⊎ Rose input_old input_new → FailsToRead command shelf_old shelf_new input_old input_new
+corpus_failed command options shelf_old shelf_new input_old input_new e (inl rose) = file_failed command (commands.Corpus options) options.grammar shelf_old shelf_new input_old input_new e refl rose
+corpus_failed command options shelf_old shelf_new input_old input_new e (inr rose) = of_input (said_reads command (commands.Corpus options) e tt) rose

@@ -1,12 +1,2 @@
-pub mod Codes
-pub mod Places
 pub mod Runs
-pub mod Stages
-pub mod Refusals
-pub mod Texts
-pub mod Loaded
-pub mod Grammars
-pub mod Sentences
-pub mod Analyses
-pub mod Judging
 pub mod Outcomes

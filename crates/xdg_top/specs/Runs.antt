@@ -1,27 +1,17 @@
--- What a run leaves behind.
+-- What a command reads, and how it can end.
 use Rattle.std.specs.Prelude.{◌≡◌, ◌≢◌, ◌⊎◌, ℕ, List, Option}
 use Rattle.xdg_command.specs.Commands.{IsCommand}
 use Rattle.xdg_command.specs.declared.commands.Command.{Command}
 use Rattle.xdg_command.specs.declared.commands.Command.TheVariants as commands
-use Rattle.xdg_io.specs.Held.{Appends, AppendsFront}
+use Rattle.xdg_command.specs.declared.commands.CorpusOptions.{CorpusOptions}
+use Rattle.xdg_corpus.specs.Outcomes.{CorpusEnds}
+use Rattle.xdg_corpus.specs.Runs.{LeavesPart}
 use Rattle.xdg_io.specs.Rose.{Rose}
-use Rattle.xdg_top.specs.declared.status.Status.{Status}
-use Rattle.xdg_top.specs.declared.status.Status.TheVariants as statuses
-
--- O says which status and text are the outcome. Its text was added, and there is no other outcome.
-pub record Ends (O : Status → List ℕ → Type 0) (status : Status) (old new : Option (List ℕ)) : Type 0 where
-  pub text : List ℕ
-  pub outcome : O status text
-  pub only : (other : Status) (more : List ℕ) → O other more → (status ≡ other) × (text ≡ more)
-  pub appends : Appends old new text
-
--- A run that nothing interrupts ends with the outcome's status and text. Where a read fails or memory is wanting nothing was
--- added, and where the sink fails a front of the outcome's text, not all of it.
-abbrev pub Leaves : (Status → List ℕ → Type 0) → Status → Option (List ℕ) → Option (List ℕ) → Type 0
-Leaves O statuses.ReadFault old new = new ≡ old
-Leaves O statuses.OutOfMemory old new = new ≡ old
-Leaves O statuses.WriteFault old new = (status : Status) (text : List ℕ) → O status text → AppendsFront old new text
-Leaves O status old new = Ends O status old new
+use Rattle.xdg_outcomes.specs.Runs.{Leaves, Unwritten}
+use Rattle.xdg_outcomes.specs.declared.status.Status.{Status}
+use Rattle.xdg_outcomes.specs.declared.status.Status.TheVariants as statuses
+use Rattle.xdg_reports.specs.Runs.{ExplainEnds, ReportEnds, PrintEnds}
+use Rattle.xdg_searches.specs.Runs.{ParseEnds, ResumeEnds, DrillEnds}
 
 -- ---- what a command reads
 
@@ -34,10 +24,12 @@ ReadsFile (commands.Check grammar) name = name ≡ grammar
 ReadsFile (commands.Lexicon grammar) name = name ≡ grammar
 ReadsFile (commands.Print grammar) name = name ≡ grammar
 ReadsFile (commands.Drill number) name = ⊥
+ReadsFile (commands.Corpus options) name = name ≡ options.grammar
 
 -- the command reads the input
 abbrev pub ReadsInput : Command → Type 0
 ReadsInput (commands.Parse options) = Unit {0}
+ReadsInput (commands.Corpus options) = Unit {0}
 ReadsInput command = ⊥
 
 -- a read of the command failed: the count of the shelf rose for a file that it reads, or that of the input, where it reads that
@@ -53,59 +45,7 @@ pub record ReadFailed (given : List (List ℕ)) (shelf_old shelf_new : List ℕ 
 
 -- ---- whatever the devices tell
 
--- The statuses with which each command can end: all but these.
-
-abbrev pub ParseEnds : Status → Type 0
-ParseEnds statuses.Usage = ⊥
-ParseEnds statuses.BadAnalysis = ⊥
-ParseEnds statuses.BadRules = ⊥
-ParseEnds statuses.BadCosts = ⊥
-ParseEnds status = Unit {0}
-
-abbrev pub ResumeEnds : Status → Type 0
-ResumeEnds statuses.Usage = ⊥
-ResumeEnds statuses.BadSentence = ⊥
-ResumeEnds statuses.BadRules = ⊥
-ResumeEnds statuses.BadCosts = ⊥
-ResumeEnds status = Unit {0}
-
-abbrev pub ExplainEnds : Status → Type 0
-ExplainEnds statuses.Usage = ⊥
-ExplainEnds statuses.BadSentence = ⊥
-ExplainEnds statuses.Spent = ⊥
-ExplainEnds statuses.BadRules = ⊥
-ExplainEnds statuses.BadCosts = ⊥
-ExplainEnds status = Unit {0}
-
--- `drill`, which reads nothing
-abbrev pub DrillEnds : Status → Type 0
-DrillEnds statuses.Usage = ⊥
-DrillEnds statuses.ReadFault = ⊥
-DrillEnds statuses.BadAnalysis = ⊥
-DrillEnds statuses.BadRules = ⊥
-DrillEnds statuses.BadCosts = ⊥
-DrillEnds status = Unit {0}
-
--- `check` and `lexicon`
-abbrev pub ReportEnds : Status → Type 0
-ReportEnds statuses.Usage = ⊥
-ReportEnds statuses.BadSentence = ⊥
-ReportEnds statuses.Spent = ⊥
-ReportEnds statuses.BadAnalysis = ⊥
-ReportEnds statuses.BadRules = ⊥
-ReportEnds statuses.BadCosts = ⊥
-ReportEnds status = Unit {0}
-
-abbrev pub PrintEnds : Status → Type 0
-PrintEnds statuses.Usage = ⊥
-PrintEnds statuses.BadGrammar = ⊥
-PrintEnds statuses.BadSentence = ⊥
-PrintEnds statuses.Spent = ⊥
-PrintEnds statuses.BadAnalysis = ⊥
-PrintEnds statuses.BadRules = ⊥
-PrintEnds statuses.BadCosts = ⊥
-PrintEnds status = Unit {0}
-
+-- the statuses with which each command can end
 abbrev pub EndsWith : Command → Status → Type 0
 EndsWith (commands.Parse options) = ParseEnds
 EndsWith (commands.Resume options) = ResumeEnds
@@ -114,13 +54,31 @@ EndsWith (commands.Check grammar) = ReportEnds
 EndsWith (commands.Lexicon grammar) = ReportEnds
 EndsWith (commands.Print grammar) = PrintEnds
 EndsWith (commands.Drill number) = DrillEnds
+EndsWith (commands.Corpus options) = CorpusEnds
 
--- after a failed read and for want of memory nothing was added
-abbrev pub Unwritten : Status → Option (List ℕ) → Option (List ℕ) → Type 0
-Unwritten status old new = (status ≡ statuses.ReadFault) ⊎ (status ≡ statuses.OutOfMemory) → new ≡ old
+-- ---- what a command leaves
 
--- A command ends with one of these statuses. The count of the sink's failures stays, unless a write failed.
-pub record Wrote (CanEnd : Status → Type 0) (status : Status) (count_old count_new : ℕ) (old new : Option (List ℕ)) : Type 0 where
-  pub ends : CanEnd status
-  pub unwritten : Unwritten status old new
+-- `corpus` writes the texts of a group before it takes the memory for the next one; each other command takes all of it before it writes
+abbrev pub LeavesOf : Command → (Status → List ℕ → Type 0) → Status → Option (List ℕ) → Option (List ℕ) → Type 0
+LeavesOf (commands.Corpus options) O status old new = LeavesPart O status old new
+LeavesOf command O status old new = Leaves O status old new
+
+-- the words are `corpus`
+abbrev pub IsCorpus : List (List ℕ) → Type 0
+IsCorpus given = (options : CorpusOptions) × IsCommand given (commands.Corpus options)
+
+-- What words leave: where they aren't `corpus`, all memory was taken before something was written.
+pub record LeavesBy (given : List (List ℕ)) (O : Status → List ℕ → Type 0) (status : Status) (old new : Option (List ℕ)) : Type 0 where
+  pub part : LeavesPart O status old new
+  pub at_once : (IsCorpus given → ⊥) → Leaves O status old new
+
+-- after a failed read nothing was added, and for want of memory nothing by another command than `corpus`
+abbrev pub UnwrittenBy : Command → Status → Option (List ℕ) → Option (List ℕ) → Type 0
+UnwrittenBy (commands.Corpus options) status old new = status ≡ statuses.ReadFault → new ≡ old
+UnwrittenBy command status old new = Unwritten status old new
+
+-- A command ends with one of its statuses. The count of the sink's failures stays, unless a write failed.
+pub record CommandWrote (command : Command) (status : Status) (count_old count_new : ℕ) (old new : Option (List ℕ)) : Type 0 where
+  pub ends : EndsWith command status
+  pub unwritten : UnwrittenBy command status old new
   pub quiet : status ≢ statuses.WriteFault → count_new ≡ count_old

@@ -4,26 +4,25 @@ ghost use Rattle.std.specs.Prelude.{◌≡◌, ◌≢◌, ◌≤◌, ◌<◌, �
 ghost use Rattle.std.specs.String.{string_bytes};
 ghost use Rattle.xdg_command.specs.Commands.{IsCommand};
 ghost use Rattle.xdg_command.specs.declared.commands.Command as declared;
-ghost use Rattle.xdg_command.specs.declared.commands.ParseOptions as options;
-ghost use Rattle.xdg_command.specs.declared.commands.Command.TheVariants as commands;
 ghost use Rattle.xdg_io.specs.Rose.{Rose};
+ghost use Rattle.xdg_outcomes.specs.Runs.{Leaves};
 ghost use Rattle.xdg_top.specs.Outcomes.{CommandOf, IsNoCommand, IsUsage, OutcomeOf, WantsSome};
-ghost use Rattle.xdg_top.specs.Runs.{EndsWith, FailsToRead, Leaves, ReadFailed, ReadsInput, Wrote};
+ghost use Rattle.xdg_top.specs.Runs.{CommandWrote, EndsWith, FailsToRead, IsCorpus, LeavesBy, LeavesOf, ReadFailed, ReadsInput};
 
-use crate::Status;
-use crate::drill::drill;
-use crate::explain::explain_analysis;
-use crate::parse::parse_sentence;
-use crate::reports::{check_grammar, print_grammar, print_lexicon};
-use crate::resume::resume_analysis;
 use std::alloc::Global;
+use std::thread::Threads;
 use xdg_base::OutOfMemory;
 use xdg_command::{Command, command};
+use xdg_corpus::corpus;
 use xdg_io::{Failed, Shelf, Sink, Source};
+use xdg_outcomes::Status;
+use xdg_reports::{check_grammar, explain_analysis, print_grammar, print_lexicon};
+use xdg_searches::{drill, parse_sentence, resume_analysis};
 use xdg_text::write_usage;
 
 /// Runs a command.
-fn run_command<H: Shelf, S: Source, K: Sink>(
+fn run_command<R: Threads + Sync, H: Shelf, S: Source, K: Sink>(
+    rt: &R,
     alloc: Global,
     command: &Command,
     shelf: &mut H,
@@ -32,8 +31,8 @@ fn run_command<H: Shelf, S: Source, K: Sink>(
 ) -> Status
     requires { WantsSome command.now }
     ensures leaves { (files : List ℕ → Option (List ℕ)) (content : List ℕ) → H.files shelf.old ≡ Some files →
-        (ReadsInput command.now → S.left input.old ≡ Some content) → Leaves (CommandOf command.now files content) result (K.held out.old) (K.held out.new) }
-    ensures wrote { Wrote (EndsWith command.now) result (K.faults out.old) (K.faults out.new) (K.held out.old) (K.held out.new) }
+        (ReadsInput command.now → S.left input.old ≡ Some content) → LeavesOf command.now (CommandOf command.now files content) result (K.held out.old) (K.held out.new) }
+    ensures wrote { CommandWrote command.now result (K.faults out.old) (K.faults out.new) (K.held out.old) (K.held out.new) }
     ensures read_fault { result ≡ Status.ReadFault →
         FailsToRead command.now (H.faults shelf.old) (H.faults shelf.new) (S.faults input.old) (S.faults input.new) }
     ensures write_fault { result ≡ Status.WriteFault → Rose (K.faults out.old) (K.faults out.new) }
@@ -58,28 +57,33 @@ fn run_command<H: Shelf, S: Source, K: Sink>(
         Command::Lexicon { grammar } => print_lexicon(alloc, grammar.as_str(), shelf, out),
         Command::Print { grammar } => print_grammar(alloc, grammar.as_str(), shelf, out),
         Command::Drill { number } => drill(alloc, *number, out),
+        Command::Corpus(options) => corpus(rt, alloc, options, shelf, input, out),
     }
 }
 
 /// Runs the command that the words after the program's name are: reads the files that it names and the input, and
-/// writes the text of its outcome. The status says how that went.
-pub fn run<H: Shelf, S: Source, K: Sink>(
+/// writes the text of its outcome. The status says how that went. Sentences that are searched side by side are searched in threads
+/// of the runtime.
+pub fn run<R: Threads + Sync, H: Shelf, S: Source, K: Sink>(
+    rt: &R,
     alloc: Global,
     words: &[String],
     shelf: &mut H,
     input: &mut S,
     out: &mut K,
 ) -> Status
-    // Where the files and the input are told, what was added is the text of the one outcome.
+    // Where the files and the input are told, what was added is the text of the one outcome. Only `corpus` may have written some of it
+    // where memory was wanting.
     ensures leaves { (files : List ℕ → Option (List ℕ)) (content : List ℕ) → H.files shelf.old ≡ Some files → S.left input.old ≡ Some content →
-        Leaves (OutcomeOf (map string_bytes words.now) files content) result (K.held out.old) (K.held out.new) }
+        LeavesBy (map string_bytes words.now) (OutcomeOf (map string_bytes words.now) files content) result (K.held out.old) (K.held out.new) }
 
     // The input needs to be told only for a command that reads it, and of words that are no command nothing needs to be told.
     ensures reports { (files : List ℕ → Option (List ℕ)) (content : List ℕ) (given : declared.Command) → H.files shelf.old ≡ Some files →
         IsCommand (map string_bytes words.now) given → (ReadsInput given → S.left input.old ≡ Some content) →
-        Leaves (CommandOf given files content) result (K.held out.old) (K.held out.new) }
+        LeavesOf given (CommandOf given files content) result (K.held out.old) (K.held out.new) }
     ensures usage_text { IsNoCommand (map string_bytes words.now) → Leaves IsUsage result (K.held out.old) (K.held out.new) }
-    ensures nothing_written { (result ≡ Status.ReadFault) ⊎ (result ≡ Status.OutOfMemory) → K.held out.new ≡ K.held out.old }
+    ensures nothing_written { (result ≡ Status.ReadFault) ⊎ ((result ≡ Status.OutOfMemory) × (IsCorpus (map string_bytes words.now) → ⊥)) →
+        K.held out.new ≡ K.held out.old }
 
     // The words alone decide whether they are a command, and the command decides which statuses it can end with.
     ensures usage { result ≡ Status.Usage → IsNoCommand (map string_bytes words.now) }
@@ -104,9 +108,9 @@ pub fn run<H: Shelf, S: Source, K: Sink>(
     ensures input_lasting { S.faults input.old ≤ S.faults input.new }
     ensures out_lasting { K.faults out.old ≤ K.faults out.new }
     ensures unread { (result ≡ Status.Usage) ⊎ ((result ≡ Status.BadText) ⊎ (result ≡ Status.BadGrammar)) → S.left input.new ≡ S.left input.old }
-    ensures files_alone { ((given : options.ParseOptions) → IsCommand (map string_bytes words.now) (commands.Parse given) → ⊥) →
+    ensures files_alone { ((given : declared.Command) → IsCommand (map string_bytes words.now) given → ReadsInput given → ⊥) →
         S.left input.new ≡ S.left input.old }
-    ensures all_read { (given : options.ParseOptions) (content : List ℕ) → IsCommand (map string_bytes words.now) (commands.Parse given) →
+    ensures all_read { (given : declared.Command) (content : List ℕ) → IsCommand (map string_bytes words.now) given → ReadsInput given →
         (result ≡ Status.Done) ⊎ (result ≡ Status.Spent) → S.left input.old ≡ Some content → S.left input.new ≡ Some [] }
 {
     let command = match command(alloc, words) {
@@ -119,5 +123,5 @@ pub fn run<H: Shelf, S: Source, K: Sink>(
         }
         Err(OutOfMemory) => return Status::OutOfMemory,
     };
-    run_command(alloc, &command, shelf, input, out)
+    run_command(rt, alloc, &command, shelf, input, out)
 }

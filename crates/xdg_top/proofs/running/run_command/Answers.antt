@@ -1,8 +1,11 @@
-use Rattle.std.proofs.Common.{subst}
+use Rattle.std.proofs.Common.{subst, rules}
 use Rattle.xdg_command.specs.declared.commands.Command.TheVariants as commands
-use Rattle.xdg_top.specs.Outcomes.{CheckOf, ExplainOf, LexiconOf, PrintOf, WantsSome}
-use Rattle.xdg_top.specs.Runs.{DrillEnds, Leaves, ReadsInput}
-use Rattle.xdg_top.proofs.Commanded.{explain_failed, file_failed, parse_failed, resume_failed, said_leaves, said_reads, said_wrote}
+use Rattle.xdg_reports.specs.Outcomes.{CheckOf, ExplainOf, LexiconOf, PrintOf}
+use Rattle.xdg_top.specs.Outcomes.{WantsSome}
+use Rattle.xdg_outcomes.specs.Runs.{Leaves}
+use Rattle.xdg_searches.specs.Runs.{DrillEnds}
+use Rattle.xdg_top.specs.Runs.{ReadsInput}
+use Rattle.xdg_top.proofs.Commanded.{corpus_done, corpus_failed, corpus_wrote, explain_failed, file_failed, parse_failed, resume_failed, said_leaves, said_reads, said_wrote}
 use Rattle.xdg_top.proofs.running.run_command.Goals as goal
 
 pub parse_sentence-requires : goal.parse_sentence-requires
@@ -11,13 +14,16 @@ parse_sentence-requires g c = subst WantsSome c.in-Parse.is c.requires
 pub resume_analysis-requires : goal.resume_analysis-requires
 resume_analysis-requires g c = subst WantsSome c.in-Resume.is c.requires
 
+pub corpus-requires : goal.corpus-requires
+corpus-requires g c = (search rules, subst WantsSome c.in-Corpus.is c.requires)
+
 pub returns-in-Parse-clause-leaves : goal.returns-in-Parse-clause-leaves
 returns-in-Parse-clause-leaves g c files content told given =
     said_leaves files content c.args.command.now (commands.Parse c.in-Parse.options) c.parse_sentence.result (g.K.Sink.held c.args.out.now) (g.K.Sink.held c.parse_sentence.new.out) c.in-Parse.is
     (c.parse_sentence.ensures.leaves files content told (given (said_reads c.args.command.now (commands.Parse c.in-Parse.options) c.in-Parse.is tt)))
 
 pub returns-in-Parse-clause-wrote : goal.returns-in-Parse-clause-wrote
-returns-in-Parse-clause-wrote g c = said_wrote c.args.command.now (commands.Parse c.in-Parse.options) c.parse_sentence.result (g.K.Sink.faults c.args.out.now) (g.K.Sink.faults c.parse_sentence.new.out) (g.K.Sink.held c.args.out.now) (g.K.Sink.held c.parse_sentence.new.out) c.in-Parse.is c.parse_sentence.ensures.wrote
+returns-in-Parse-clause-wrote g c = said_wrote c.args.command.now (commands.Parse c.in-Parse.options) c.parse_sentence.result (g.K.Sink.faults c.args.out.now) (g.K.Sink.faults c.parse_sentence.new.out) (g.K.Sink.held c.args.out.now) (g.K.Sink.held c.parse_sentence.new.out) c.in-Parse.is (λ u. u) c.parse_sentence.ensures.wrote
 
 pub returns-in-Parse-clause-read_fault : goal.returns-in-Parse-clause-read_fault
 returns-in-Parse-clause-read_fault g c failed = parse_failed c.args.command.now c.in-Parse.options (g.H.Shelf.faults c.args.shelf.now) (g.H.Shelf.faults c.parse_sentence.new.shelf) (g.S.Source.faults c.args.input.now) (g.S.Source.faults c.parse_sentence.new.input) c.in-Parse.is (c.parse_sentence.ensures.read_fault failed)
@@ -31,7 +37,7 @@ returns-in-Resume-clause-leaves g c files content told given =
     (c.resume_analysis.ensures.leaves files told)
 
 pub returns-in-Resume-clause-wrote : goal.returns-in-Resume-clause-wrote
-returns-in-Resume-clause-wrote g c = said_wrote c.args.command.now (commands.Resume c.in-Resume.options) c.resume_analysis.result (g.K.Sink.faults c.args.out.now) (g.K.Sink.faults c.resume_analysis.new.out) (g.K.Sink.held c.args.out.now) (g.K.Sink.held c.resume_analysis.new.out) c.in-Resume.is c.resume_analysis.ensures.wrote
+returns-in-Resume-clause-wrote g c = said_wrote c.args.command.now (commands.Resume c.in-Resume.options) c.resume_analysis.result (g.K.Sink.faults c.args.out.now) (g.K.Sink.faults c.resume_analysis.new.out) (g.K.Sink.held c.args.out.now) (g.K.Sink.held c.resume_analysis.new.out) c.in-Resume.is (λ u. u) c.resume_analysis.ensures.wrote
 
 pub returns-in-Resume-clause-read_fault : goal.returns-in-Resume-clause-read_fault
 returns-in-Resume-clause-read_fault g c failed = resume_failed c.args.command.now c.in-Resume.options (g.H.Shelf.faults c.args.shelf.now) (g.H.Shelf.faults c.resume_analysis.new.shelf) (g.S.Source.faults c.args.input.now) (g.S.Source.faults c.args.input.now) c.in-Resume.is (c.resume_analysis.ensures.read_fault failed)
@@ -46,7 +52,7 @@ returns-in-Explain-clause-leaves g c files content told given =
     (subst (λ n. Leaves (ExplainOf c.as_str.result.now n files) c.explain_analysis.result (g.K.Sink.held c.args.out.now) (g.K.Sink.held c.explain_analysis.new.out)) c.as_str-in-Explain.ensures (c.explain_analysis.ensures.leaves files told)))
 
 pub returns-in-Explain-clause-wrote : goal.returns-in-Explain-clause-wrote
-returns-in-Explain-clause-wrote g c = said_wrote c.args.command.now (commands.Explain c.in-Explain.grammar c.in-Explain.analysis) c.explain_analysis.result (g.K.Sink.faults c.args.out.now) (g.K.Sink.faults c.explain_analysis.new.out) (g.K.Sink.held c.args.out.now) (g.K.Sink.held c.explain_analysis.new.out) c.in-Explain.is c.explain_analysis.ensures.wrote
+returns-in-Explain-clause-wrote g c = said_wrote c.args.command.now (commands.Explain c.in-Explain.grammar c.in-Explain.analysis) c.explain_analysis.result (g.K.Sink.faults c.args.out.now) (g.K.Sink.faults c.explain_analysis.new.out) (g.K.Sink.held c.args.out.now) (g.K.Sink.held c.explain_analysis.new.out) c.in-Explain.is (λ u. u) c.explain_analysis.ensures.wrote
 
 pub returns-in-Explain-clause-read_fault : goal.returns-in-Explain-clause-read_fault
 returns-in-Explain-clause-read_fault g c failed = explain_failed c.args.command.now c.in-Explain.grammar c.in-Explain.analysis c.as_str.result.now c.as_str-in-Explain.result.now (g.H.Shelf.faults c.args.shelf.now) (g.H.Shelf.faults c.explain_analysis.new.shelf) (g.S.Source.faults c.args.input.now) (g.S.Source.faults c.args.input.now) c.in-Explain.is c.as_str.ensures c.as_str-in-Explain.ensures (c.explain_analysis.ensures.read_fault failed)
@@ -60,7 +66,7 @@ returns-in-Check-clause-leaves g c files content told given =
     (subst (λ n. Leaves (CheckOf n files) c.check_grammar.result (g.K.Sink.held c.args.out.now) (g.K.Sink.held c.check_grammar.new.out)) c.as_str-in-Check.ensures (c.check_grammar.ensures.leaves files told))
 
 pub returns-in-Check-clause-wrote : goal.returns-in-Check-clause-wrote
-returns-in-Check-clause-wrote g c = said_wrote c.args.command.now (commands.Check c.in-Check.grammar) c.check_grammar.result (g.K.Sink.faults c.args.out.now) (g.K.Sink.faults c.check_grammar.new.out) (g.K.Sink.held c.args.out.now) (g.K.Sink.held c.check_grammar.new.out) c.in-Check.is c.check_grammar.ensures.wrote
+returns-in-Check-clause-wrote g c = said_wrote c.args.command.now (commands.Check c.in-Check.grammar) c.check_grammar.result (g.K.Sink.faults c.args.out.now) (g.K.Sink.faults c.check_grammar.new.out) (g.K.Sink.held c.args.out.now) (g.K.Sink.held c.check_grammar.new.out) c.in-Check.is (λ u. u) c.check_grammar.ensures.wrote
 
 pub returns-in-Check-clause-read_fault : goal.returns-in-Check-clause-read_fault
 returns-in-Check-clause-read_fault g c failed = file_failed c.args.command.now (commands.Check c.in-Check.grammar) c.as_str-in-Check.result.now (g.H.Shelf.faults c.args.shelf.now) (g.H.Shelf.faults c.check_grammar.new.shelf) (g.S.Source.faults c.args.input.now) (g.S.Source.faults c.args.input.now) c.in-Check.is c.as_str-in-Check.ensures (c.check_grammar.ensures.read_fault failed)
@@ -74,7 +80,7 @@ returns-in-Lexicon-clause-leaves g c files content told given =
     (subst (λ n. Leaves (LexiconOf n files) c.print_lexicon.result (g.K.Sink.held c.args.out.now) (g.K.Sink.held c.print_lexicon.new.out)) c.as_str-in-Lexicon.ensures (c.print_lexicon.ensures.leaves files told))
 
 pub returns-in-Lexicon-clause-wrote : goal.returns-in-Lexicon-clause-wrote
-returns-in-Lexicon-clause-wrote g c = said_wrote c.args.command.now (commands.Lexicon c.in-Lexicon.grammar) c.print_lexicon.result (g.K.Sink.faults c.args.out.now) (g.K.Sink.faults c.print_lexicon.new.out) (g.K.Sink.held c.args.out.now) (g.K.Sink.held c.print_lexicon.new.out) c.in-Lexicon.is c.print_lexicon.ensures.wrote
+returns-in-Lexicon-clause-wrote g c = said_wrote c.args.command.now (commands.Lexicon c.in-Lexicon.grammar) c.print_lexicon.result (g.K.Sink.faults c.args.out.now) (g.K.Sink.faults c.print_lexicon.new.out) (g.K.Sink.held c.args.out.now) (g.K.Sink.held c.print_lexicon.new.out) c.in-Lexicon.is (λ u. u) c.print_lexicon.ensures.wrote
 
 pub returns-in-Lexicon-clause-read_fault : goal.returns-in-Lexicon-clause-read_fault
 returns-in-Lexicon-clause-read_fault g c failed = file_failed c.args.command.now (commands.Lexicon c.in-Lexicon.grammar) c.as_str-in-Lexicon.result.now (g.H.Shelf.faults c.args.shelf.now) (g.H.Shelf.faults c.print_lexicon.new.shelf) (g.S.Source.faults c.args.input.now) (g.S.Source.faults c.args.input.now) c.in-Lexicon.is c.as_str-in-Lexicon.ensures (c.print_lexicon.ensures.read_fault failed)
@@ -88,7 +94,7 @@ returns-in-Print-clause-leaves g c files content told given =
     (subst (λ n. Leaves (PrintOf n files) c.print_grammar.result (g.K.Sink.held c.args.out.now) (g.K.Sink.held c.print_grammar.new.out)) c.as_str-in-Print.ensures (c.print_grammar.ensures.leaves files told))
 
 pub returns-in-Print-clause-wrote : goal.returns-in-Print-clause-wrote
-returns-in-Print-clause-wrote g c = said_wrote c.args.command.now (commands.Print c.in-Print.grammar) c.print_grammar.result (g.K.Sink.faults c.args.out.now) (g.K.Sink.faults c.print_grammar.new.out) (g.K.Sink.held c.args.out.now) (g.K.Sink.held c.print_grammar.new.out) c.in-Print.is c.print_grammar.ensures.wrote
+returns-in-Print-clause-wrote g c = said_wrote c.args.command.now (commands.Print c.in-Print.grammar) c.print_grammar.result (g.K.Sink.faults c.args.out.now) (g.K.Sink.faults c.print_grammar.new.out) (g.K.Sink.held c.args.out.now) (g.K.Sink.held c.print_grammar.new.out) c.in-Print.is (λ u. u) c.print_grammar.ensures.wrote
 
 pub returns-in-Print-clause-read_fault : goal.returns-in-Print-clause-read_fault
 returns-in-Print-clause-read_fault g c failed = file_failed c.args.command.now (commands.Print c.in-Print.grammar) c.as_str-in-Print.result.now (g.H.Shelf.faults c.args.shelf.now) (g.H.Shelf.faults c.print_grammar.new.shelf) (g.S.Source.faults c.args.input.now) (g.S.Source.faults c.args.input.now) c.in-Print.is c.as_str-in-Print.ensures (c.print_grammar.ensures.read_fault failed)
@@ -101,10 +107,28 @@ returns-in-Drill-clause-leaves g c files content told given =
     said_leaves files content c.args.command.now (commands.Drill c.in-Drill.number) c.drill.result (g.K.Sink.held c.args.out.now) (g.K.Sink.held c.drill.new.out) c.in-Drill.is c.drill.ensures.leaves
 
 pub returns-in-Drill-clause-wrote : goal.returns-in-Drill-clause-wrote
-returns-in-Drill-clause-wrote g c = said_wrote c.args.command.now (commands.Drill c.in-Drill.number) c.drill.result (g.K.Sink.faults c.args.out.now) (g.K.Sink.faults c.drill.new.out) (g.K.Sink.held c.args.out.now) (g.K.Sink.held c.drill.new.out) c.in-Drill.is c.drill.ensures.wrote
+returns-in-Drill-clause-wrote g c = said_wrote c.args.command.now (commands.Drill c.in-Drill.number) c.drill.result (g.K.Sink.faults c.args.out.now) (g.K.Sink.faults c.drill.new.out) (g.K.Sink.held c.args.out.now) (g.K.Sink.held c.drill.new.out) c.in-Drill.is (λ u. u) c.drill.ensures.wrote
 
 pub returns-in-Drill-clause-read_fault : goal.returns-in-Drill-clause-read_fault
 returns-in-Drill-clause-read_fault g c failed = absurd (subst DrillEnds failed c.drill.ensures.wrote.ends)
 
 pub returns-in-Drill-clause-all_read : goal.returns-in-Drill-clause-all_read
 returns-in-Drill-clause-all_read g c content reads done told = absurd (subst ReadsInput c.in-Drill.is reads)
+
+pub returns-in-Corpus-clause-leaves : goal.returns-in-Corpus-clause-leaves
+returns-in-Corpus-clause-leaves g c files content told given =
+    said_leaves files content c.args.command.now (commands.Corpus c.in-Corpus.options) c.corpus.result (g.K.Sink.held c.args.out.now) (g.K.Sink.held c.corpus.new.out) c.in-Corpus.is
+    (c.corpus.ensures.leaves files content told (given (said_reads c.args.command.now (commands.Corpus c.in-Corpus.options) c.in-Corpus.is tt)))
+
+pub returns-in-Corpus-clause-wrote : goal.returns-in-Corpus-clause-wrote
+returns-in-Corpus-clause-wrote g c =
+    corpus_wrote c.args.command.now c.in-Corpus.options c.corpus.result (g.K.Sink.faults c.args.out.now) (g.K.Sink.faults c.corpus.new.out) (g.K.Sink.held c.args.out.now) (g.K.Sink.held c.corpus.new.out) c.in-Corpus.is c.corpus.ensures.ends c.corpus.ensures.unwritten c.corpus.ensures.out_quiet
+
+pub returns-in-Corpus-clause-read_fault : goal.returns-in-Corpus-clause-read_fault
+returns-in-Corpus-clause-read_fault g c failed = corpus_failed c.args.command.now c.in-Corpus.options (g.H.Shelf.faults c.args.shelf.now) (g.H.Shelf.faults c.corpus.new.shelf) (g.S.Source.faults c.args.input.now) (g.S.Source.faults c.corpus.new.input) c.in-Corpus.is (c.corpus.ensures.read_fault failed)
+
+pub returns-in-Corpus-clause-files_alone : goal.returns-in-Corpus-clause-files_alone
+returns-in-Corpus-clause-files_alone g c none = absurd (none (said_reads c.args.command.now (commands.Corpus c.in-Corpus.options) c.in-Corpus.is tt))
+
+pub returns-in-Corpus-clause-all_read : goal.returns-in-Corpus-clause-all_read
+returns-in-Corpus-clause-all_read g c content reads ended told = c.corpus.ensures.all_read content (corpus_done c.corpus.result c.corpus.ensures.ends ended) told

@@ -1,0 +1,6 @@
+pub mod Lines
+pub mod Inputs
+pub mod Texts
+pub mod Groups
+pub mod Outcomes
+pub mod Runs

@@ -1,0 +1,145 @@
+//! Groups of lines.
+
+ghost use Rattle.std.specs.Prelude.{◌≡◌, ◌≤◌, ◌<◌, ◌∷◌, ◌++◌, ℕ, List, [], length, IfErr, IfOk, OnOk};
+ghost use Rattle.xdg_corpus.specs.Groups.{AsksFor, HasLines, TakesLines};
+ghost use Rattle.xdg_corpus.specs.Texts.{CanSearch};
+ghost use Rattle.xdg_entries.specs.Entries.{IsRightLexicon};
+ghost use Rattle.xdg_grammar.specs.Answers.{meaning_of};
+ghost use Rattle.xdg_grammar.specs.Packed.{IsPackedOf};
+ghost use Rattle.xdg_inputs.specs.Sentences.{StopsWords};
+
+use crate::lines::first_line;
+use std::alloc::{AllocError, Global};
+use xdg_base::{Fault, LineColumn, OutOfMemory, Stop};
+use xdg_command::CorpusOptions;
+use xdg_engine::{AnyProp, props};
+use xdg_grammar::Expanded;
+use xdg_inputs::problem_of;
+use xdg_outcomes::{Refusal, stopped_in};
+use xdg_packed::Packed;
+use xdg_split::Job;
+
+/// How many lines are searched side by side.
+const GROUP: usize = 16;
+
+/// What stands for a line.
+#[derive(Debug, Drop)]
+pub(crate) enum Sentence {
+    /// Its words are refused, at this line and column of it.
+    Refused(Fault, LineColumn),
+    /// It is searched by the job with this place among those of its group.
+    Job(usize),
+}
+
+/// Lines, and the searches of those that are not refused.
+#[derive(Drop)]
+pub(crate) struct Group {
+    /// What stands for each line, in their order.
+    pub(crate) sentences: Vec<Sentence>,
+    /// The searches, in the order of their lines.
+    pub(crate) jobs: Vec<Job<AnyProp>>,
+}
+
+impl Group {
+    /// A group without lines.
+    fn new(alloc: Global) -> Group
+        ensures sentences { result.sentences.items ≡ [] }
+        ensures jobs { result.jobs.items ≡ [] }
+    {
+        Group {
+            sentences: Vec::new(alloc),
+            jobs: Vec::new(alloc),
+        }
+    }
+
+    /// Adds a line that is refused.
+    fn refuse(&mut self, fault: Fault, place: LineColumn) -> Result<(), AllocError>
+        ensures sentences { OnOk result (self.new.sentences.items ≡ self.old.sentences.items ++ Sentence.Refused fault place ∷ []) }
+        ensures jobs { OnOk result (self.new.jobs.items ≡ self.old.jobs.items) }
+    {
+        self.sentences.push(Sentence::Refused(fault, place))?;
+        Ok(())
+    }
+
+    /// Adds a line with its search.
+    fn ask(&mut self, job: Job<AnyProp>) -> Result<(), AllocError>
+        ensures sentences { OnOk result (self.new.sentences.items ≡ self.old.sentences.items ++ Sentence.Job (length self.old.jobs.items) ∷ []) }
+        ensures jobs { OnOk result (self.new.jobs.items ≡ self.old.jobs.items ++ job ∷ []) }
+    {
+        let place = self.jobs.len();
+        self.jobs.push(job)?;
+        self.sentences.push(Sentence::Job(place))?;
+        Ok(())
+    }
+}
+
+/// The search of a line.
+fn job_of(
+    alloc: Global,
+    options: &CorpusOptions,
+    expanded: &Expanded,
+    packed: &Packed,
+    line: &str,
+) -> Result<Job<AnyProp>, Stop>
+    requires small { length line.now ≤ 4194304 }
+    requires lexicon { IsRightLexicon expanded.now.checked.types expanded.now.entries }
+    requires packed { IsPackedOf expanded.now packed.now }
+    requires range { CanSearch options.now }
+    ensures found { IfOk result (AsksFor (meaning_of expanded.now) options.now line.now) }
+    ensures refused { IfErr result (StopsWords (meaning_of expanded.now) options.now.segment line.now) }
+{
+    let problem = problem_of(alloc, expanded, packed, options.segment, line)?;
+    let Ok(propagators) = props(alloc, &problem) else {
+        return Err(Stop::OutOfMemory);
+    };
+    Ok(Job::of(problem, propagators, options.budget, options.first))
+}
+
+/// Adds a line to a group: its search, or its refusal.
+fn add_line(
+    alloc: Global,
+    options: &CorpusOptions,
+    expanded: &Expanded,
+    packed: &Packed,
+    line: &str,
+    group: &mut Group,
+) -> Result<(), AllocError>
+    requires small { length line.now ≤ 4194304 }
+    requires lexicon { IsRightLexicon expanded.now.checked.types expanded.now.entries }
+    requires packed { IsPackedOf expanded.now packed.now }
+    requires range { CanSearch options.now }
+    ensures { OnOk result ((taken : List (List ℕ)) → HasLines (meaning_of expanded.now) options.now taken group.old → HasLines (meaning_of expanded.now) options.now (taken ++ line.now ∷ []) group.new) }
+{
+    match job_of(alloc, options, expanded, packed, line) {
+        Ok(job) => group.ask(job),
+        Err(stop) => match stopped_in(line.as_bytes(), stop) {
+            Refusal::Text(fault, place) => group.refuse(fault, place),
+            _ => Err(AllocError),
+        },
+    }
+}
+
+/// The group of the first lines of a text, and the text behind them.
+pub(crate) fn take_group<'a>(
+    alloc: Global,
+    options: &CorpusOptions,
+    expanded: &Expanded,
+    packed: &Packed,
+    text: &'a str,
+) -> Result<(Group, &'a str), OutOfMemory>
+    requires small { length text.now ≤ 4194304 }
+    requires lexicon { IsRightLexicon expanded.now.checked.types expanded.now.entries }
+    requires packed { IsPackedOf expanded.now packed.now }
+    requires range { CanSearch options.now }
+    ensures takes { IfOk result (λ made. TakesLines (meaning_of expanded.now) options.now text.entry.now made.0 made.1.now) }
+    ensures some { IfOk result (λ made. 0 < length text.entry.now → length made.1.now < length text.entry.now) }
+{
+    let mut group = Group::new(alloc);
+    let mut rest = text;
+    while group.sentences.len() < GROUP && !rest.is_empty() {
+        let (line, later) = first_line(rest);
+        add_line(alloc, options, expanded, packed, line, &mut group)?;
+        rest = later;
+    }
+    Ok((group, rest))
+}

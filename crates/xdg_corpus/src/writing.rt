@@ -1,0 +1,68 @@
+//! What is written of a group.
+
+ghost use Rattle.std.specs.Prelude.{◌≡◌, ◌≤◌, ◌<◌, ◌+◌, ◌++◌, ◌^◌, length, OnErr, OnOk};
+ghost use Rattle.xdg_corpus.specs.Groups.{group_text, own_text};
+ghost use Rattle.xdg_corpus.specs.Texts.{sentence_line};
+ghost use Rattle.xdg_io.specs.Held.{Appends, AppendsFront};
+ghost use Rattle.xdg_io.specs.Rose.{Rose};
+
+use crate::group::Sentence;
+use xdg_io::{Failed, Sink, write_all};
+use xdg_split::Answer;
+use xdg_text::{Word, fault_line, write_line};
+
+/// Writes the text of a line alone.
+fn write_own<K: Sink>(sentence: &Sentence, answers: &[Answer], out: &mut K) -> Result<(), Failed>
+    ensures all { OnOk result (Appends (K.held out.old) (K.held out.new) (own_text answers.now sentence.now)) }
+    ensures front { OnErr result (AppendsFront (K.held out.old) (K.held out.new) (own_text answers.now sentence.now)) }
+    ensures cause { OnErr result (Rose (K.faults out.old) (K.faults out.new)) }
+    ensures lasting { K.faults out.old ≤ K.faults out.new }
+    ensures quiet { OnOk result (K.faults out.new ≡ K.faults out.old) }
+{
+    match sentence {
+        Sentence::Refused(fault, place) => fault_line(fault, *place, out),
+        Sentence::Job(place) => match answers.get(*place) {
+            Some(answer) => write_all(out, answer.bytes.as_slice()),
+            None => Ok(()),
+        },
+    }
+}
+
+/// Writes the number of a line, and its text.
+#[tactic(auto, using(xdg_text::proofs::Pieces::appends_both, xdg_text::proofs::Pieces::rose_later))]
+fn write_sentence<K: Sink>(
+    number: u64,
+    sentence: &Sentence,
+    answers: &[Answer],
+    out: &mut K,
+) -> Result<(), Failed>
+    ensures all { OnOk result (Appends (K.held out.old) (K.held out.new) (sentence_line number ++ own_text answers.now sentence.now)) }
+    ensures front { OnErr result (AppendsFront (K.held out.old) (K.held out.new) (sentence_line number ++ own_text answers.now sentence.now)) }
+    ensures cause { OnErr result (Rose (K.faults out.old) (K.faults out.new)) }
+    ensures lasting { K.faults out.old ≤ K.faults out.new }
+    ensures quiet { OnOk result (K.faults out.new ≡ K.faults out.old) }
+{
+    write_line("sentence", &[Word::Number(number)], out)?;
+    write_own(sentence, answers, out)
+}
+
+/// Writes the texts of lines in their order, of which the first has this number.
+#[tactic(auto, using(xdg_text::proofs::Pieces::start, xdg_text::proofs::Pieces::done, xdg_text::proofs::Pieces::rose_later))]
+pub(crate) fn write_group<K: Sink>(
+    first: u64,
+    sentences: &[Sentence],
+    answers: &[Answer],
+    out: &mut K,
+) -> Result<(), Failed>
+    requires { first + length sentences.now < 2 ^ 64 }
+    ensures all { OnOk result (Appends (K.held out.old) (K.held out.new) (group_text answers.now first sentences.now)) }
+    ensures front { OnErr result (AppendsFront (K.held out.old) (K.held out.new) (group_text answers.now first sentences.now)) }
+    ensures cause { OnErr result (Rose (K.faults out.old) (K.faults out.new)) }
+    ensures lasting { K.faults out.old ≤ K.faults out.new }
+    ensures quiet { OnOk result (K.faults out.new ≡ K.faults out.old) }
+{
+    for (place, sentence) in sentences.iter().enumerate() {
+        write_sentence(first + place as u64, sentence, answers, out)?;
+    }
+    Ok(())
+}

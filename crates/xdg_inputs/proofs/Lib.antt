@@ -1,0 +1,3 @@
+pub mod Wording
+pub mod Sentencing
+pub mod Analysing

@@ -1,0 +1,4 @@
+pub mod Sentences
+pub mod Analyses
+pub mod Judging
+pub mod Outcomes

@@ -1,0 +1,36 @@
+//! The problem of the words of a text.
+
+ghost use Rattle.std.specs.Prelude.{◌<◌, ◌^◌, length, IfErr, IfOk};
+ghost use Rattle.xdg_entries.specs.Entries.{IsRightLexicon};
+ghost use Rattle.xdg_grammar.specs.Answers.{meaning_of};
+ghost use Rattle.xdg_grammar.specs.Packed.{IsPackedOf};
+ghost use Rattle.xdg_inputs.specs.Sentences.{AcceptsWords, StopsWords};
+
+use std::alloc::Global;
+use xdg_base::Stop;
+use xdg_build::build;
+use xdg_grammar::Expanded;
+use xdg_packed::Packed;
+use xdg_problem::Problem;
+use xdg_words::words_of;
+
+/// The problem of the words of a text, which are cut by the Unicode rules of word boundaries where that is asked for. The fault of a
+/// text that is refused, and its place there, are those of its words; want of memory is the other error.
+pub fn problem_of(
+    alloc: Global,
+    expanded: &Expanded,
+    packed: &Packed,
+    segment: bool,
+    text: &str,
+) -> Result<Problem, Stop>
+    requires small { length text.now < 2 ^ 32 }
+    requires lexicon { IsRightLexicon expanded.now.checked.types expanded.now.entries }
+    requires packed { IsPackedOf expanded.now packed.now }
+    ensures found { IfOk result (AcceptsWords (meaning_of expanded.now) segment text.now) }
+    ensures refused { IfErr result (StopsWords (meaning_of expanded.now) segment text.now) }
+{
+    let Ok(words) = words_of(alloc, text, segment) else {
+        return Err(Stop::OutOfMemory);
+    };
+    build(alloc, &expanded.checked, packed, words)
+}

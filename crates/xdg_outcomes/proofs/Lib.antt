@@ -1,0 +1,4 @@
+pub mod Leaving
+pub mod Trees
+pub mod Meaning
+pub mod Writing

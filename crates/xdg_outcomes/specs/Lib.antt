@@ -1,0 +1,9 @@
+pub mod Codes
+pub mod Places
+pub mod Runs
+pub mod Stages
+pub mod Refusals
+pub mod Texts
+pub mod Loaded
+pub mod Grammars
+pub mod Outcomes

@@ -1,0 +1,30 @@
+use Rattle.std.proofs.Common.{◌∙◌}
+use Rattle.xdg_outcomes.specs.Outcomes.{MeaningThen}
+use Rattle.xdg_inputs.specs.Outcomes.{AnalysisThen}
+use Rattle.xdg_reports.specs.Outcomes.{Judged}
+use Rattle.xdg_outcomes.specs.Texts.{HasBadText, HasTree, ReadText}
+use Rattle.xdg_outcomes.specs.declared.status.Status.TheVariants as statuses
+use Rattle.xdg_outcomes.proofs.Leaving.{accepted_leaves, stopped_leaves}
+use Rattle.xdg_reports.specs.Runs.{ExplainEnds}
+use Rattle.xdg_outcomes.proofs.Writing.{refused_quiet, refused_wrote}
+use Rattle.xdg_reports.proofs.explain.explain_analysis.Goals as goal
+
+pub returns-in-Ok-clause-leaves : goal.returns-in-Ok-clause-leaves
+returns-in-Ok-clause-leaves g c files told =
+    accepted_leaves ReadText statuses.BadText (HasBadText files c.args.grammar.now) (HasTree files c.args.grammar.now) (λ read. MeaningThen read (AnalysisThen files c.args.analysis.now Judged)) _ c.explain_loaded.result _ _ (c.in-Ok.ensures.found files told)
+    (c.explain_loaded.ensures.leaves files (c.load_tree.ensures.kept ∙ told))
+
+pub returns-in-Err-clause-leaves : goal.returns-in-Err-clause-leaves
+returns-in-Err-clause-leaves g c files told =
+    stopped_leaves ReadText statuses.BadText (HasBadText files c.args.grammar.now) (HasTree files c.args.grammar.now) (λ read. MeaningThen read (AnalysisThen files c.args.analysis.now Judged)) _ _ _ c.refuse.result c.in-Err.refusal _ _ told (λ e. e) (c.in-Err.ensures.refused files) c.refuse.ensures.written
+
+pub returns-in-Ok-clause-shelf_quiet : goal.returns-in-Ok-clause-shelf_quiet
+returns-in-Ok-clause-shelf_quiet g c other differs = c.explain_loaded.ensures.shelf_quiet other differs ∙ c.in-Ok.ensures.quiet other
+
+pub returns-in-Err-clause-wrote : goal.returns-in-Err-clause-wrote
+returns-in-Err-clause-wrote g c =
+    refused_wrote ExplainEnds statuses.BadText c.refuse.result c.in-Err.refusal _ _ _ _ tt tt tt tt tt c.refuse.ensures.written c.refuse.ensures.quiet
+
+pub returns-in-Err-clause-shelf_quiet : goal.returns-in-Err-clause-shelf_quiet
+returns-in-Err-clause-shelf_quiet g c other differs =
+    refused_quiet statuses.BadText c.refuse.result c.in-Err.refusal _ _ (g.H.Shelf.faults c.args.shelf.now other) (g.H.Shelf.faults c.load_tree.new.shelf other) c.refuse.ensures.written (c.in-Err.ensures.quiet other) differs

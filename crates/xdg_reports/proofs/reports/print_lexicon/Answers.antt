@@ -1,0 +1,24 @@
+use Rattle.xdg_lexicon_text.specs.LexiconText.{lexicon_text}
+use Rattle.xdg_outcomes.specs.Outcomes.{IsDone, MeaningThen}
+use Rattle.xdg_outcomes.specs.Texts.{HasBadText, HasTree, ReadText}
+use Rattle.xdg_outcomes.specs.declared.status.Status.TheVariants as statuses
+use Rattle.xdg_outcomes.proofs.Leaving.{accepted_leaves, stopped_leaves}
+use Rattle.xdg_reports.specs.Runs.{ReportEnds}
+use Rattle.xdg_outcomes.proofs.Writing.{refused_quiet, refused_wrote}
+use Rattle.xdg_reports.proofs.reports.print_lexicon.Goals as goal
+
+pub returns-in-Ok-clause-leaves : goal.returns-in-Ok-clause-leaves
+returns-in-Ok-clause-leaves g c files told =
+    accepted_leaves ReadText statuses.BadText (HasBadText files c.args.name.now) (HasTree files c.args.name.now) (λ read. MeaningThen read (λ m. IsDone (lexicon_text m.table m.entries))) _ c.list_loaded.result _ _ (c.in-Ok.ensures.found files told) c.list_loaded.ensures.leaves
+
+pub returns-in-Err-clause-leaves : goal.returns-in-Err-clause-leaves
+returns-in-Err-clause-leaves g c files told =
+    stopped_leaves ReadText statuses.BadText (HasBadText files c.args.name.now) (HasTree files c.args.name.now) (λ read. MeaningThen read (λ m. IsDone (lexicon_text m.table m.entries))) _ _ _ c.refuse.result c.in-Err.refusal _ _ told (λ e. e) (c.in-Err.ensures.refused files) c.refuse.ensures.written
+
+pub returns-in-Err-clause-wrote : goal.returns-in-Err-clause-wrote
+returns-in-Err-clause-wrote g c =
+    refused_wrote ReportEnds statuses.BadText c.refuse.result c.in-Err.refusal _ _ _ _ tt tt tt tt tt c.refuse.ensures.written c.refuse.ensures.quiet
+
+pub returns-in-Err-clause-shelf_quiet : goal.returns-in-Err-clause-shelf_quiet
+returns-in-Err-clause-shelf_quiet g c other differs =
+    refused_quiet statuses.BadText c.refuse.result c.in-Err.refusal _ _ (g.H.Shelf.faults c.args.shelf.now other) (g.H.Shelf.faults c.load_tree.new.shelf other) c.refuse.ensures.written (c.in-Err.ensures.quiet other) differs

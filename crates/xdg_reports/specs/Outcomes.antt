@@ -1,0 +1,47 @@
+-- The status and the text of `check`, `lexicon`, `print` and `explain`, as the files alone determine them.
+use Rattle.std.specs.Prelude.{◌≡◌, ℕ, List, [], ◌∷◌, length, codes, decimal}
+use Rattle.xdg_ast.specs.Canon.{canon}
+use Rattle.xdg_classes.specs.Definitions.{classes}
+use Rattle.xdg_grammar.specs.Meanings.{Meaning}
+use Rattle.xdg_judge.specs.declared.verdict.Verdict.{Verdict}
+use Rattle.xdg_judge.specs.Verdicts.{AreVerdicts}
+use Rattle.xdg_lexicon_text.specs.LexiconText.{lexicon_text}
+use Rattle.xdg_text.specs.Lines.{line}
+use Rattle.xdg_verdict_text.specs.VerdictsText.{verdicts_text}
+use Rattle.xdg_outcomes.specs.Outcomes.{Files, ReadThen, GrammarThen, IsDone}
+use Rattle.xdg_outcomes.specs.Texts.{ReadText}
+use Rattle.xdg_outcomes.specs.declared.status.Status.TheVariants as statuses
+use Rattle.xdg_outcomes.specs.declared.status.Status.{Status}
+use Rattle.xdg_inputs.specs.Analyses.{Analysed}
+use Rattle.xdg_inputs.specs.Outcomes.{AnalysisThen}
+
+-- ---- `explain`
+
+-- the verdicts on an analysis of a file
+pub record Judged (analysed : Analysed) (status : Status) (text : List ℕ) : Type 0 where
+  pub done : status ≡ statuses.Done
+  pub verdicts : List Verdict
+  pub are : AreVerdicts analysed.parts analysed.analysis analysed.parts.groups verdicts
+  pub text_is : text ≡ verdicts_text analysed.parts verdicts
+
+abbrev pub ExplainOf : List ℕ → List ℕ → Files → Status → List ℕ → Type 0
+ExplainOf grammar analysis files = GrammarThen files grammar (λ read. AnalysisThen files analysis Judged)
+
+-- ---- `check`, `lexicon` and `print`
+
+-- `ok dims D classes C entries E`
+abbrev pub counts_line : ℕ → ℕ → ℕ → List ℕ
+counts_line dims classes entries = line (codes "ok") (codes "dims" ∷ decimal dims ∷ codes "classes" ∷ decimal classes ∷ codes "entries" ∷ decimal entries ∷ [])
+
+-- the numbers of used dimensions, of classes and of entries
+abbrev pub check_line : ReadText → Meaning → List ℕ
+check_line read m = counts_line (length m.table.used) (length (classes read.tree.statements)) (length m.entries)
+
+abbrev pub CheckOf : List ℕ → Files → Status → List ℕ → Type 0
+CheckOf grammar files = GrammarThen files grammar (λ read m. IsDone (check_line read m))
+
+abbrev pub LexiconOf : List ℕ → Files → Status → List ℕ → Type 0
+LexiconOf grammar files = GrammarThen files grammar (λ read m. IsDone (lexicon_text m.table m.entries))
+
+abbrev pub PrintOf : List ℕ → Files → Status → List ℕ → Type 0
+PrintOf grammar files = ReadThen files grammar (λ read. IsDone (canon read.tree))

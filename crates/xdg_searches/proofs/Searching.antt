@@ -1,0 +1,30 @@
+-- What a search leaves.
+use Rattle.std.proofs.Common.{◌≡◌, ℕ, List, refl, sym, ◌∙◌, ap, subst}
+use Rattle.std.specs.Prelude.{Option}
+use Rattle.xdg_analyses.specs.Printed.{Prints, IsOnePrint}
+use Rattle.xdg_analyses.specs.Written.{WritesWhole}
+use Rattle.xdg_analyses.specs.declared.forms.Form.{Form}
+use Rattle.xdg_io.specs.Held.{AppendsFront}
+use Rattle.xdg_listing.specs.declared.Ending.{Ending}
+use Rattle.xdg_problem.specs.declared.parts.Parts.{Parts}
+use Rattle.xdg_searches.specs.Outcomes.{Searched, status_of}
+use Rattle.xdg_outcomes.specs.Runs.{Ends}
+use Rattle.xdg_outcomes.specs.declared.status.Status.{Status}
+
+-- a search that ended
+pub searched_ends : (asked : Form) (budget : ℕ) (wanted : Option ℕ) (parts : Parts) (start : List ℕ) (ending : Ending) (form : Form) (old new : Option (List ℕ)) → form ≡ asked
+    → WritesWhole ending form budget wanted parts start old new → IsOnePrint form budget wanted parts start → Ends (Searched asked budget wanted parts start) (status_of ending) old new
+searched_ends asked budget wanted parts start ending form old new e w one =
+    let one_print : IsOnePrint asked budget wanted parts start = subst (λ z. IsOnePrint z budget wanted parts start) e one in
+    let prints : Prints ending asked budget wanted parts start w.text = subst (λ z. Prints ending z budget wanted parts start w.text) e w.prints in
+    record {
+      text = w.text;
+      outcome = record { ending = ending; prints = prints; status_is = refl };
+      only = λ other more o. let same = one_print ending o.ending w.text more prints o.prints in (ap status_of same.0 ∙ sym o.status_is, same.1);
+      appends = w.appends;
+    }
+
+-- a search whose sink failed
+pub searched_front : (asked : Form) (budget : ℕ) (wanted : Option ℕ) (parts : Parts) (start : List ℕ) (form : Form) (old new : Option (List ℕ)) → form ≡ asked
+    → ((ending : Ending) (text : List ℕ) → Prints ending form budget wanted parts start text → AppendsFront old new text) → (status : Status) (text : List ℕ) → Searched asked budget wanted parts start status text → AppendsFront old new text
+searched_front asked budget wanted parts start form old new e w status text o = w o.ending text (subst (λ z. Prints o.ending z budget wanted parts start text) (sym e) o.prints)

@@ -1,0 +1,33 @@
+use Rattle.std.proofs.Common.{◌∙◌, ap, length, sym}
+use Rattle.xdg_analyses.proofs.Ending.{done_of, failed_of}
+use Rattle.xdg_grammar.specs.Answers.{meaning_of}
+use Rattle.xdg_listing.specs.declared.Ending.TheVariants as endings
+use Rattle.xdg_searches.proofs.Drilled.{drilled_ends, drilled_front}
+use Rattle.xdg_searches.proofs.drilling.drill_problem.Goals as goal
+
+pub returns-then-is_err-clause-leaves : goal.returns-then-is_err-clause-leaves
+returns-then-is_err-clause-leaves g c =
+    drilled_front c.args.number (meaning_of c.args.expanded.now) c.args.problem.now c.len-words.result c.len.result c.in-Ok-count_judged.counts
+    (c.len-words.ensures ∙ ap (λ p. length p.words) c.parts.ensures.same) c.len.ensures c.in-Ok-count_judged.ensures.counts c.count_judged.ensures.one _ _
+    (failed_of c.write_counts-written.result _ (sym c.is_err.ensures.value ∙ c.if-is_err.true) c.write_counts-written.ensures.front)
+
+pub returns-in-Complete-clause-leaves : goal.returns-in-Complete-clause-leaves
+returns-in-Complete-clause-leaves g c =
+    drilled_ends c.args.number (meaning_of c.args.expanded.now) c.args.problem.now c.len-words.result c.len.result c.in-Ok-count_judged.counts
+    (c.len-words.ensures ∙ ap (λ p. length p.words) c.parts.ensures.same) c.len.ensures c.in-Ok-count_judged.ensures.counts c.count_judged.ensures.one endings.Complete _ _ c.in-Complete.is
+    (done_of c.write_counts-written.result _ (sym c.is_err.ensures.value ∙ c.if-is_err.false) c.write_counts-written.ensures.all)
+
+pub returns-in-First-clause-leaves : goal.returns-in-First-clause-leaves
+returns-in-First-clause-leaves g c =
+    drilled_ends c.args.number (meaning_of c.args.expanded.now) c.args.problem.now c.len-words.result c.len.result c.in-Ok-count_judged.counts
+    (c.len-words.ensures ∙ ap (λ p. length p.words) c.parts.ensures.same) c.len.ensures c.in-Ok-count_judged.ensures.counts c.count_judged.ensures.one endings.First _ _ c.in-First.is
+    (done_of c.write_counts-written.result _ (sym c.is_err.ensures.value ∙ c.if-is_err.false) c.write_counts-written.ensures.all)
+
+pub returns-clause-leaves : goal.returns-clause-leaves
+returns-clause-leaves g c =
+    drilled_ends c.args.number (meaning_of c.args.expanded.now) c.args.problem.now c.len-words.result c.len.result c.in-Ok-count_judged.counts
+    (c.len-words.ensures ∙ ap (λ p. length p.words) c.parts.ensures.same) c.len.ensures c.in-Ok-count_judged.ensures.counts c.count_judged.ensures.one endings.Spent _ _ c.in-Spent.is
+    (done_of c.write_counts-written.result _ (sym c.is_err.ensures.value ∙ c.if-is_err.false) c.write_counts-written.ensures.all)
+
+pub returns-clause-out_quiet : goal.returns-clause-out_quiet
+returns-clause-out_quiet g c differs = done_of c.write_counts-written.result _ (sym c.is_err.ensures.value ∙ c.if-is_err.false) c.write_counts-written.ensures.quiet

@@ -1,0 +1,100 @@
+-- The status and the text of `parse`, `resume` and `drill`, as the files and the input alone determine them.
+use Rattle.std.specs.Prelude.{◌≡◌, ℕ, false, List, [], ◌∷◌, length, Option, Some, codes, decimal}
+use Rattle.xdg_analyses.specs.Printed.{Prints}
+use Rattle.xdg_analyses.specs.declared.forms.Form.{Form}
+use Rattle.xdg_analyses.specs.declared.forms.Form.TheVariants as forms
+use Rattle.xdg_command.specs.declared.commands.ParseOptions.{ParseOptions}
+use Rattle.xdg_command.specs.declared.commands.ResumeOptions.{ResumeOptions}
+use Rattle.xdg_command.specs.declared.commands.TextForm.{TextForm}
+use Rattle.xdg_command.specs.declared.commands.TextForm.TheVariants as texts
+use Rattle.xdg_counts.specs.Counted.{AreCounts}
+use Rattle.xdg_counts.specs.declared.counting.Counts.{Counts}
+use Rattle.xdg_drill.specs.Generated.{grammar_text, sentence_text}
+use Rattle.xdg_grammar.specs.Meanings.{Meaning}
+use Rattle.xdg_listing.specs.declared.Ending.{Ending}
+use Rattle.xdg_listing.specs.declared.Ending.TheVariants as endings
+use Rattle.xdg_problem.specs.declared.parts.Parts.{Parts}
+use Rattle.xdg_problem.specs.Vectors.{vector}
+use Rattle.xdg_text.specs.Lines.{line}
+use Rattle.xdg_outcomes.specs.Outcomes.{Files, GrammarThen}
+use Rattle.xdg_outcomes.specs.Stages.{Behind}
+use Rattle.xdg_outcomes.specs.declared.status.Status.TheVariants as statuses
+use Rattle.xdg_outcomes.specs.declared.status.Status.{Status}
+use Rattle.xdg_inputs.specs.Analyses.{Analysed}
+use Rattle.xdg_inputs.specs.Outcomes.{AnalysisThen}
+use Rattle.xdg_inputs.specs.Sentences.{HasProblem, IsBadSentence}
+
+-- ---- `parse` and `resume`
+
+abbrev pub form_of : TextForm → Form
+form_of texts.One = forms.One
+form_of texts.Two = forms.Two
+
+-- the status of a search that ended so
+abbrev pub status_of : Ending → Status
+status_of endings.Complete = statuses.Done
+status_of endings.First = statuses.Done
+status_of endings.Spent = statuses.Spent
+
+-- what the search of a problem from behind a start on prints
+pub record Searched (form : Form) (budget : ℕ) (wanted : Option ℕ) (parts : Parts) (start : List ℕ) (status : Status) (text : List ℕ) : Type 0 where
+  pub ending : Ending
+  pub prints : Prints ending form budget wanted parts start text
+  pub status_is : status ≡ status_of ending
+
+-- the search of a problem from its beginning on
+abbrev pub Parsed : ParseOptions → Parts → Status → List ℕ → Type 0
+Parsed options parts = Searched (form_of options.text) options.budget options.first parts []
+
+-- the search of the problem of an analysis, from behind the analysis on
+abbrev pub Resumed : ResumeOptions → Analysed → Status → List ℕ → Type 0
+Resumed options analysed = Searched (form_of options.text) options.budget options.first analysed.parts (vector analysed.parts analysed.analysis)
+
+-- the input is a sentence, and its problem is searched
+abbrev pub SentenceThen : ParseOptions → List ℕ → Meaning → Status → List ℕ → Type 0
+SentenceThen options input m = Behind Parts statuses.BadSentence (IsBadSentence m options.segment input) (HasProblem m options.segment input) (Parsed options)
+
+abbrev pub ParseOf : ParseOptions → Files → List ℕ → Status → List ℕ → Type 0
+ParseOf options files input = GrammarThen files options.grammar (λ read. SentenceThen options input)
+
+abbrev pub ResumeOf : ResumeOptions → Files → Status → List ℕ → Type 0
+ResumeOf options files = GrammarThen files options.grammar (λ read. AnalysisThen files options.analysis (Resumed options))
+
+-- ---- `drill`
+
+-- each name is that of a file with the generated grammar
+abbrev pub generated : ℕ → Files
+generated number name = Some (grammar_text number)
+
+-- the word behind the counts where the budget is spent
+abbrev pub spent_word : Ending → List (List ℕ)
+spent_word endings.Complete = []
+spent_word endings.First = []
+spent_word endings.Spent = codes "spent" ∷ []
+
+-- A analyses were found, B of them with a broken verdict
+abbrev pub counts_words : Counts → List (List ℕ)
+counts_words counts = codes "analyses" ∷ decimal counts.analyses ∷ codes "broken" ∷ decimal counts.broken ∷ spent_word counts.ending
+
+-- `drill N words W entries E analyses A broken B`, and `spent` where the budget is
+abbrev pub drill_line : ℕ → ℕ → ℕ → Counts → List ℕ
+drill_line number words entries counts =
+    line (codes "drill") (decimal number ∷ codes "words" ∷ decimal words ∷ codes "entries" ∷ decimal entries ∷ counts_words counts)
+
+-- the analyses of a problem are counted and judged, with the budget that a search has where none is given
+pub record Drilled (number : ℕ) (m : Meaning) (parts : Parts) (status : Status) (text : List ℕ) : Type 0 where
+  pub counts : Counts
+  pub are : AreCounts 10000000 parts counts
+  pub status_is : status ≡ status_of counts.ending
+  pub text_is : text ≡ drill_line number (length parts.words) (length m.entries) counts
+
+-- a text is a sentence of the grammar, with words between white space, and its problem comes next
+abbrev pub ProblemThen : List ℕ → Meaning → (Parts → Status → List ℕ → Type 0) → Status → List ℕ → Type 0
+ProblemThen input m next = Behind Parts statuses.BadSentence (IsBadSentence m false input) (HasProblem m false input) next
+
+-- so is the generated sentence, and its problem is searched
+abbrev pub DrillSentence : ℕ → Meaning → Status → List ℕ → Type 0
+DrillSentence number m = ProblemThen (sentence_text number) m (Drilled number m)
+
+abbrev pub DrillOf : ℕ → Status → List ℕ → Type 0
+DrillOf number = GrammarThen (generated number) [] (λ read. DrillSentence number)

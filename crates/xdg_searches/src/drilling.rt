@@ -1,0 +1,158 @@
+//! The command `drill`.
+
+ghost use Rattle.std.specs.Prelude.{◌≡◌, ◌≢◌, ◌≤◌, ◌⊎◌, length, OnErr, OnOk};
+ghost use Rattle.xdg_entries.specs.Entries.{IsRightLexicon};
+ghost use Rattle.xdg_grammar.specs.Answers.{meaning_of};
+ghost use Rattle.xdg_io.specs.Held.{Appends, AppendsFront};
+ghost use Rattle.xdg_io.specs.Rose.{Rose};
+ghost use Rattle.xdg_outcomes.specs.Outcomes.{MeaningThen};
+ghost use Rattle.xdg_outcomes.specs.Runs.{Leaves, Wrote};
+ghost use Rattle.xdg_searches.specs.Outcomes.{DrillOf, DrillSentence, Drilled, drill_line};
+ghost use Rattle.xdg_searches.specs.Runs.{DrillEnds};
+
+use std::alloc::Global;
+use xdg_ast::Grammar;
+use xdg_base::OutOfMemory;
+use xdg_counts::{Counts, count_judged};
+use xdg_drill::{grammar_text, sentence_text};
+use xdg_engine::props;
+use xdg_grammar::{Expanded, expand_tree, pack_entries, read_tree};
+use xdg_inputs::problem_in;
+use xdg_io::{Failed, Sink};
+use xdg_listing::Ending;
+use xdg_outcomes::{Status, refuse, stopped_in};
+use xdg_problem::Problem;
+use xdg_text::{Word, write_line};
+
+/// How many boxed prefixes the search of a drill may charge.
+const BUDGET: u64 = 10_000_000;
+
+/// Writes the one line of a drill.
+fn write_counts<K: Sink>(
+    number: u64,
+    words: usize,
+    entries: usize,
+    counts: Counts,
+    out: &mut K,
+) -> Result<(), Failed>
+    ensures all { OnOk result (Appends (K.held out.old) (K.held out.new) (drill_line number words entries counts)) }
+    ensures front { OnErr result (AppendsFront (K.held out.old) (K.held out.new) (drill_line number words entries counts)) }
+    ensures cause { OnErr result (Rose (K.faults out.old) (K.faults out.new)) }
+    ensures lasting { K.faults out.old ≤ K.faults out.new }
+    ensures quiet { OnOk result (K.faults out.new ≡ K.faults out.old) }
+{
+    let line = [
+        Word::Number(number),
+        Word::Plain("words"),
+        Word::Number(words as u64),
+        Word::Plain("entries"),
+        Word::Number(entries as u64),
+        Word::Plain("analyses"),
+        Word::Number(counts.analyses),
+        Word::Plain("broken"),
+        Word::Number(counts.broken),
+        Word::Plain("spent"),
+    ];
+    match counts.ending {
+        Ending::Complete => write_line("drill", &line[..9], out),
+        Ending::First => write_line("drill", &line[..9], out),
+        Ending::Spent => write_line("drill", &line, out),
+    }
+}
+
+/// Judges the analyses of a sentence and prints how many there are.
+fn drill_problem<K: Sink>(
+    alloc: Global,
+    number: u64,
+    expanded: &Expanded,
+    problem: &Problem,
+    out: &mut K,
+) -> Status
+    ensures leaves { Leaves (Drilled number (meaning_of expanded.now) problem.now) result (K.held out.old) (K.held out.new) }
+    ensures write_fault { result ≡ Status.WriteFault → Rose (K.faults out.old) (K.faults out.new) }
+    ensures out_lasting { K.faults out.old ≤ K.faults out.new }
+    ensures out_quiet { result ≢ Status.WriteFault → K.faults out.new ≡ K.faults out.old }
+    ensures ends { (result ≡ Status.Done) ⊎ ((result ≡ Status.Spent) ⊎ ((result ≡ Status.WriteFault) ⊎ (result ≡ Status.OutOfMemory))) }
+{
+    let Ok(propagators) = props(alloc, problem) else {
+        return Status::OutOfMemory;
+    };
+    let Ok(counts) = count_judged(alloc, problem, propagators.as_slice(), BUDGET) else {
+        return Status::OutOfMemory;
+    };
+    let words = problem.parts().words.len();
+    let written = write_counts(number, words, expanded.entries.len(), counts, out);
+    if written.is_err() {
+        return Status::WriteFault;
+    }
+    match counts.ending {
+        Ending::Complete => Status::Done,
+        Ending::First => Status::Done,
+        Ending::Spent => Status::Spent,
+    }
+}
+
+/// Makes the problem of the generated sentence and prints how many analyses it has, or the fault line of what is refused.
+fn drill_expanded<K: Sink>(alloc: Global, number: u64, expanded: &Expanded, out: &mut K) -> Status
+    requires { IsRightLexicon expanded.now.checked.types expanded.now.entries }
+    ensures leaves { Leaves (DrillSentence number (meaning_of expanded.now)) result (K.held out.old) (K.held out.new) }
+    ensures write_fault { result ≡ Status.WriteFault → Rose (K.faults out.old) (K.faults out.new) }
+    ensures out_lasting { K.faults out.old ≤ K.faults out.new }
+    ensures wrote { Wrote DrillEnds result (K.faults out.old) (K.faults out.new) (K.held out.old) (K.held out.new) }
+{
+    let packed = match pack_entries(alloc, expanded) {
+        Ok(packed) => packed,
+        Err(OutOfMemory) => return Status::OutOfMemory,
+    };
+    let Ok(sentence) = sentence_text(alloc, number) else {
+        return Status::OutOfMemory;
+    };
+    match problem_in(
+        alloc,
+        expanded,
+        &packed,
+        false,
+        sentence.as_str().as_bytes(),
+    ) {
+        Ok(problem) => drill_problem(alloc, number, expanded, &problem, out),
+        Err(refusal) => refuse(refusal, Status::BadSentence, out),
+    }
+}
+
+/// Finds out what the generated grammar means, and prints how many analyses its sentence has, or the fault line of what is refused.
+fn drill_tree<K: Sink>(
+    alloc: Global,
+    number: u64,
+    text: &[u8],
+    tree: &Grammar,
+    out: &mut K,
+) -> Status
+    requires { length text.now ≤ 4194304 }
+    ensures leaves { Leaves (MeaningThen (record { text = text.now; tree = tree.now }) (DrillSentence number)) result (K.held out.old) (K.held out.new) }
+    ensures write_fault { result ≡ Status.WriteFault → Rose (K.faults out.old) (K.faults out.new) }
+    ensures out_lasting { K.faults out.old ≤ K.faults out.new }
+    ensures wrote { Wrote DrillEnds result (K.faults out.old) (K.faults out.new) (K.held out.old) (K.held out.new) }
+{
+    match expand_tree(alloc, tree) {
+        Ok(expanded) => drill_expanded(alloc, number, &expanded, out),
+        Err(stop) => refuse(stopped_in(text, stop), Status::BadGrammar, out),
+    }
+}
+
+/// Makes a grammar and a sentence from a number, reads, checks and expands the one, finds all analyses of the other and judges each,
+/// and prints how much that was. A grammar or a sentence that is refused gets its fault line, as that of a file does.
+pub fn drill<K: Sink>(alloc: Global, number: u64, out: &mut K) -> Status
+    ensures leaves { Leaves (DrillOf number) result (K.held out.old) (K.held out.new) }
+    ensures write_fault { result ≡ Status.WriteFault → Rose (K.faults out.old) (K.faults out.new) }
+    ensures out_lasting { K.faults out.old ≤ K.faults out.new }
+    ensures wrote { Wrote DrillEnds result (K.faults out.old) (K.faults out.new) (K.held out.old) (K.held out.new) }
+{
+    let Ok(text) = grammar_text(alloc, number) else {
+        return Status::OutOfMemory;
+    };
+    let bytes = text.as_str().as_bytes();
+    match read_tree(alloc, bytes) {
+        Ok(tree) => drill_tree(alloc, number, bytes, &tree, out),
+        Err(stop) => refuse(stopped_in(bytes, stop), Status::BadText, out),
+    }
+}

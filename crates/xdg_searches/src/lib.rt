@@ -1,0 +1,10 @@
+//! The commands that search: `parse`, `resume` and `drill`.
+#![tactic(auto)]
+
+mod drilling;
+mod parse;
+mod resume;
+
+pub use drilling::drill;
+pub use parse::parse_sentence;
+pub use resume::resume_analysis;
