@@ -5,27 +5,30 @@
 #![tactic(auto)]
 
 mod content;
+mod counted;
 mod repeated;
 mod row;
 mod running;
 mod table;
 mod telling;
+mod trial;
 
 use crate::table::Table;
 use std::alloc::{AllocError, Global};
 use std::io;
+use std::thread::Threads;
 
 /// What is told of the rows of a table.
-fn told(alloc: Global, text: &str) -> Result<String, AllocError> {
+fn told<R: Threads + Sync>(rt: &R, alloc: Global, text: &str) -> Result<String, AllocError> {
     let mut table = Table::new(alloc);
     for line in text.split('\n') {
-        table.read(alloc, line)?;
+        table.read(rt, alloc, line)?;
     }
-    table.into_told(alloc)
+    table.into_told(rt, alloc)
 }
 
 fn main(rt: HostRuntime) -> io::Result<()> {
     let text = io::read_to_string(rt.alloc(), rt.reader())?;
-    let told = told(rt.alloc(), text.as_str())?;
+    let told = told(&rt, rt.alloc(), text.as_str())?;
     rt.print(told.as_str())
 }

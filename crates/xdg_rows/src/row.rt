@@ -1,6 +1,7 @@
 //! What a row says.
 
 use crate::content::add_content;
+use crate::trial::Device;
 use std::alloc::{AllocError, Global};
 use std::str;
 
@@ -39,6 +40,8 @@ pub struct Devices {
     pub room: usize,
     /// The greatest room, where the row is run with each room from `room` on, and is to fill it with a front of the wanted text.
     pub last_room: Option<usize>,
+    /// Whether the row is also run with each call of each device failing in turn.
+    pub is_each_failed: bool,
     /// The numbers, from 1, of the calls of the shelf that fail.
     pub shelf_fails: Vec<u64>,
     /// The numbers of the calls of the input that fail.
@@ -57,14 +60,28 @@ impl Devices {
             cut: 65_536,
             room: AMPLE,
             last_room: None,
+            is_each_failed: false,
             shelf_fails: Vec::new(alloc),
             input_fails: Vec::new(alloc),
             output_fails: Vec::new(alloc),
         }
     }
 
-    /// Reads which call of a device fails, as `input 2`. Whether that could be read.
+    /// The numbers of the calls of a device that fail.
+    pub fn fails(&self, device: Device) -> &[u64] {
+        match device {
+            Device::Shelf => self.shelf_fails.as_slice(),
+            Device::Input => self.input_fails.as_slice(),
+            Device::Output => self.output_fails.as_slice(),
+        }
+    }
+
+    /// Reads which call of a device fails, as `input 2`, or that each does in turn, `each`. Whether that could be read.
     fn fail(&mut self, said: &str) -> Result<bool, AllocError> {
+        if said == "each" {
+            self.is_each_failed = true;
+            return Ok(true);
+        }
         let Some((device, number)) = said.split_once(' ') else {
             return Ok(false);
         };

@@ -6,6 +6,7 @@ use crate::row::{Named, Row};
 use crate::running::first_apart;
 use crate::telling::{tell_difference, tell_row};
 use std::alloc::{AllocError, Global};
+use std::thread::Threads;
 
 /// What the lines of content that come next belong to.
 #[derive(Clone, Copy, PartialEq, Eq)]
@@ -54,16 +55,21 @@ impl Table {
     }
 
     /// Reads a line. One that says nothing of the kind that stands there is told.
-    pub fn read(&mut self, alloc: Global, line: &str) -> Result<(), AllocError> {
+    pub fn read<R: Threads + Sync>(
+        &mut self,
+        rt: &R,
+        alloc: Global,
+        line: &str,
+    ) -> Result<(), AllocError> {
         self.line = self.line.saturating_add(1);
         if line.is_empty() || line.starts_with('#') {
             return Ok(());
         }
         let (key, said) = line.split_once(' ').unwrap_or((line, ""));
         let is_read = match key {
-            "group" => self.begin_group(alloc, said)?,
-            "text" => self.begin_text(alloc, said)?,
-            "row" => self.begin_row(alloc, said)?,
+            "group" => self.begin_group(rt, alloc, said)?,
+            "text" => self.begin_text(rt, alloc, said)?,
+            "row" => self.begin_row(rt, alloc, said)?,
             "|" | "." | "\\" | "=" | "*" => self.add_content(alloc, key, said)?,
             _ => self.read_of_row(alloc, key, said)?,
         };
@@ -79,16 +85,26 @@ impl Table {
     }
 
     /// Ends the group, and begins one.
-    fn begin_group(&mut self, alloc: Global, name: &str) -> Result<bool, AllocError> {
-        self.end_group(alloc)?;
+    fn begin_group<R: Threads + Sync>(
+        &mut self,
+        rt: &R,
+        alloc: Global,
+        name: &str,
+    ) -> Result<bool, AllocError> {
+        self.end_group(rt, alloc)?;
         self.group = String::from_str(alloc, name)?;
         self.line = 0;
         Ok(!name.is_empty())
     }
 
     /// Ends the row, and begins a named text.
-    fn begin_text(&mut self, alloc: Global, name: &str) -> Result<bool, AllocError> {
-        self.end_row(alloc)?;
+    fn begin_text<R: Threads + Sync>(
+        &mut self,
+        rt: &R,
+        alloc: Global,
+        name: &str,
+    ) -> Result<bool, AllocError> {
+        self.end_row(rt, alloc)?;
         if name.is_empty() || find(self.texts.as_slice(), name).is_some() {
             return Ok(false);
         }
@@ -99,8 +115,13 @@ impl Table {
     }
 
     /// Ends the row, and begins one.
-    fn begin_row(&mut self, alloc: Global, name: &str) -> Result<bool, AllocError> {
-        self.end_row(alloc)?;
+    fn begin_row<R: Threads + Sync>(
+        &mut self,
+        rt: &R,
+        alloc: Global,
+        name: &str,
+    ) -> Result<bool, AllocError> {
+        self.end_row(rt, alloc)?;
         self.rows = self.rows.saturating_add(1);
         self.row = Some(Row::new(alloc, name, self.line)?);
         Ok(!self.group.is_empty())
@@ -171,7 +192,7 @@ impl Table {
     }
 
     /// Runs the row, if there is one, and tells of it where it doesn't give what it wants.
-    fn end_row(&mut self, alloc: Global) -> Result<(), AllocError> {
+    fn end_row<R: Threads + Sync>(&mut self, rt: &R, alloc: Global) -> Result<(), AllocError> {
         self.place = Place::Nowhere;
         let Some(row) = self.row.take() else {
             return Ok(());
@@ -180,7 +201,7 @@ impl Table {
             Some(status) if row.is_readable => status,
             _ => return tell_row(&mut self.told, self.group.as_str(), &row),
         };
-        let Some(apart) = first_apart(alloc, &row, status)? else {
+        let Some(apart) = first_apart(rt, alloc, &row, status)? else {
             self.passed = self.passed.saturating_add(1);
             return Ok(());
         };
@@ -189,8 +210,8 @@ impl Table {
     }
 
     /// Ends the row, and tells how many of the group's rows give what they want.
-    fn end_group(&mut self, alloc: Global) -> Result<(), AllocError> {
-        self.end_row(alloc)?;
+    fn end_group<R: Threads + Sync>(&mut self, rt: &R, alloc: Global) -> Result<(), AllocError> {
+        self.end_row(rt, alloc)?;
         let group = self.group.as_str();
         let passed = self.passed;
         let rows = self.rows;
@@ -203,8 +224,12 @@ impl Table {
     }
 
     /// What is told of all rows.
-    pub fn into_told(mut self, alloc: Global) -> Result<String, AllocError> {
-        self.end_group(alloc)?;
+    pub fn into_told<R: Threads + Sync>(
+        mut self,
+        rt: &R,
+        alloc: Global,
+    ) -> Result<String, AllocError> {
+        self.end_group(rt, alloc)?;
         Ok(self.told)
     }
 }

@@ -72,10 +72,15 @@ pub fn tell_row(told: &mut String, group: &str, row: &Row) -> Result<(), AllocEr
 
 /// Adds what was wanted of a row and what it gave.
 pub fn tell_difference(told: &mut String, apart: &Difference) -> Result<(), AllocError> {
-    let room = apart.room;
     let Some(given) = &apart.given else {
         return told.push_str(" two of its files have one name\n");
     };
+    if let Some(failing) = &apart.trial.failing {
+        let call = failing.call[0];
+        let device = failing.device.name();
+        writeln!(told, " with call {call} of the {device} failing,")?;
+    }
+    let room = apart.trial.room;
     let around = first_line_apart(apart.wanted.bytes.as_slice(), given.bytes.as_slice());
     writeln!(
         told,
