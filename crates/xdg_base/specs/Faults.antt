@@ -28,6 +28,10 @@ number_of causes.EmptySentence = 50
 number_of causes.TooManyWords = 51
 number_of causes.UnknownWord = 52
 number_of causes.NotAnalysis = 60
+number_of causes.TooManyRules = 70
+number_of causes.TooNested = 71
+number_of causes.ArrangeLimit = 72
+number_of causes.NoEntry = 73
 
 abbrev pub name_of : Cause → List ℕ
 name_of causes.BadUtf8 = codes "BadUtf8"
@@ -54,8 +58,12 @@ name_of causes.EmptySentence = codes "EmptySentence"
 name_of causes.TooManyWords = codes "TooManyWords"
 name_of causes.UnknownWord = codes "UnknownWord"
 name_of causes.NotAnalysis = codes "NotAnalysis"
+name_of causes.TooManyRules = codes "TooManyRules"
+name_of causes.TooNested = codes "TooNested"
+name_of causes.ArrangeLimit = codes "ArrangeLimit"
+name_of causes.NoEntry = codes "NoEntry"
 
--- a limit was passed, so the fault tells how far: 40 to 45, and 51
+-- a limit was passed, so the fault tells how far: 40 to 45, 51, and 70 to 72
 abbrev pub tells_reached : Cause → Bool
 tells_reached causes.TooLong = true
 tells_reached causes.TooDeep = true
@@ -64,4 +72,7 @@ tells_reached causes.TooManyEntries = true
 tells_reached causes.TooWide = true
 tells_reached causes.DomainTooBig = true
 tells_reached causes.TooManyWords = true
+tells_reached causes.TooManyRules = true
+tells_reached causes.TooNested = true
+tells_reached causes.ArrangeLimit = true
 tells_reached _ = false

@@ -56,6 +56,14 @@ pub enum Cause {
     UnknownWord,
     /// The bytes are no analysis text of the grammar.
     NotAnalysis,
+    /// A rules text has more than 32 rules.
+    TooManyRules,
+    /// More than three quantifiers of a rule stand open.
+    TooNested,
+    /// There are more than eight words to arrange.
+    ArrangeLimit,
+    /// An entry number is 0 or above the number of entries.
+    NoEntry,
 }
 
 /// The number of a cause, as fault lines print it.
@@ -87,6 +95,10 @@ pub fn number(cause: Cause) -> u8
         Cause::TooManyWords => 51,
         Cause::UnknownWord => 52,
         Cause::NotAnalysis => 60,
+        Cause::TooManyRules => 70,
+        Cause::TooNested => 71,
+        Cause::ArrangeLimit => 72,
+        Cause::NoEntry => 73,
     }
 }
 
@@ -120,6 +132,10 @@ impl Cause {
             Cause::TooManyWords => "TooManyWords",
             Cause::UnknownWord => "UnknownWord",
             Cause::NotAnalysis => "NotAnalysis",
+            Cause::TooManyRules => "TooManyRules",
+            Cause::TooNested => "TooNested",
+            Cause::ArrangeLimit => "ArrangeLimit",
+            Cause::NoEntry => "NoEntry",
         }
     }
 
@@ -134,7 +150,10 @@ impl Cause {
             | Cause::TooManyEntries
             | Cause::TooWide
             | Cause::DomainTooBig
-            | Cause::TooManyWords => true,
+            | Cause::TooManyWords
+            | Cause::TooManyRules
+            | Cause::TooNested
+            | Cause::ArrangeLimit => true,
             _ => false,
         }
     }

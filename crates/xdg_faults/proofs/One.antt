@@ -12,7 +12,7 @@ abbrev Rows : Type 0
 Rows = List (ℕ × Cause)
 
 found : ℕ → Rows → Cause
-found n [] = causes.NotAnalysis
+found n [] = causes.NoEntry
 found n (row ∷ rows) = if row.0 == n then row.1 else found n rows
 
 rows : Rows
@@ -21,7 +21,8 @@ rows =
     ∷ (30, causes.UnknownName) ∷ (31, causes.Twice) ∷ (32, causes.Cycle) ∷ (33, causes.WrongKind) ∷ (34, causes.NotMember)
     ∷ (35, causes.MissingArg) ∷ (36, causes.UnknownPrinciple) ∷ (37, causes.WrongParams) ∷ (38, causes.CardRange) ∷ (39, causes.NoLex)
     ∷ (40, causes.TooLong) ∷ (41, causes.TooDeep) ∷ (42, causes.TooManyUses) ∷ (43, causes.TooManyEntries) ∷ (44, causes.TooWide)
-    ∷ (45, causes.DomainTooBig) ∷ (50, causes.EmptySentence) ∷ (51, causes.TooManyWords) ∷ (52, causes.UnknownWord) ∷ []
+    ∷ (45, causes.DomainTooBig) ∷ (50, causes.EmptySentence) ∷ (51, causes.TooManyWords) ∷ (52, causes.UnknownWord)
+    ∷ (60, causes.NotAnalysis) ∷ (70, causes.TooManyRules) ∷ (71, causes.TooNested) ∷ (72, causes.ArrangeLimit) ∷ []
 
 -- the cause of a number
 cause_by : ℕ → Cause
@@ -53,6 +54,10 @@ decoded causes.EmptySentence = refl
 decoded causes.TooManyWords = refl
 decoded causes.UnknownWord = refl
 decoded causes.NotAnalysis = refl
+decoded causes.TooManyRules = refl
+decoded causes.TooNested = refl
+decoded causes.ArrangeLimit = refl
+decoded causes.NoEntry = refl
 
 -- causes of one number are one
 pub one_cause : (c d : Cause) → number_of c ≡ number_of d → c ≡ d
