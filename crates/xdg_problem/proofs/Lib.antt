@@ -38,3 +38,4 @@ pub mod FitSteps
 pub mod OneToOne
 pub mod PlaceSteps
 pub mod ValueCounts
+pub mod Claimed

@@ -7,8 +7,10 @@
 mod analysis;
 mod comparing;
 mod conditions;
+mod costs;
 mod decisions;
 mod fitting;
+mod formula;
 mod laws;
 mod names;
 mod numbers;
@@ -20,6 +22,8 @@ mod sizes;
 
 pub use analysis::{Analysis, Edge, is_before};
 pub use conditions::Condition;
+pub use costs::Costs;
+pub use formula::Formula;
 pub use laws::{live_laws, solution_laws, verdict_laws};
 pub use names::{principle_name, principle_named};
 pub use numbers::Nums;
