@@ -7,6 +7,7 @@
 mod analysis;
 mod comparing;
 mod conditions;
+mod copying;
 mod costs;
 mod decisions;
 mod fitting;
