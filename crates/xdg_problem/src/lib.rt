@@ -20,7 +20,7 @@ mod sizes;
 
 pub use analysis::{Analysis, Edge, is_before};
 pub use conditions::Condition;
-pub use laws::{live_laws, solution_laws, verdict_laws};
+pub use laws::{branch_laws, live_laws, solution_laws, verdict_laws};
 pub use names::{principle_name, principle_named};
 pub use numbers::Nums;
 pub use parts::{AttrPlan, DimPlan, Feat, Group, Parts, Principle, SentenceWord, Shown};
