@@ -16,6 +16,7 @@ mod parts;
 mod places;
 mod problem;
 mod rows;
+mod shared;
 mod sizes;
 
 pub use analysis::{Analysis, Edge, is_before};
@@ -26,3 +27,4 @@ pub use numbers::Nums;
 pub use parts::{AttrPlan, DimPlan, Feat, Group, Parts, Principle, SentenceWord, Shown};
 pub use problem::Problem;
 pub use rows::Rows;
+pub use shared::Shared;

@@ -1,6 +1,7 @@
 //! The parts of a compiled sentence.
 
 use crate::rows::Rows;
+use crate::shared::Shared;
 use xdg_base::{AttrId, DimId, EntryNo, LabelId, List, Text};
 
 /// A word of the sentence.
@@ -96,8 +97,9 @@ pub struct Group {
     /// The labels of the argument `Order`.
     pub order: List<LabelId>,
     pub truths: List<bool>,
-    /// For each node, in it for each candidate entry, in it for each feature argument, the feature.
-    pub feats: List<List<List<Feat>>>,
+    /// For each node, in it for each candidate entry, in it for each feature argument, the feature. Nodes with the same candidates
+    /// share theirs.
+    pub feats: List<Shared<List<List<Feat>>>>,
 }
 
 /// What a problem is made of.
@@ -106,9 +108,9 @@ pub struct Parts {
     /// The words, one for each node.
     pub words: List<SentenceWord>,
     /// For each node the entries of its word, rising.
-    pub candidates: List<List<EntryNo>>,
+    pub candidates: List<Shared<List<EntryNo>>>,
     /// The used dimensions, in the order of their `usedim` statements.
-    pub dims: List<DimPlan>,
+    pub dims: Shared<List<DimPlan>>,
     /// The principle uses of the used dimensions, in text order.
     pub groups: List<Group>,
 }

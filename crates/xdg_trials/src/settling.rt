@@ -8,7 +8,8 @@ use std::alloc::{AllocError, Global};
 use std::test::Fail;
 use xdg_base::{AttrId, DimId, EntryNo, List, NodeId, Text};
 use xdg_problem::{
-    AttrPlan, DimPlan, Feat, Group, Nums, Parts, Principle, Problem, Rows, SentenceWord, Shown,
+    AttrPlan, DimPlan, Feat, Group, Nums, Parts, Principle, Problem, Rows, SentenceWord, Shared,
+    Shown,
 };
 use xdg_propcore::{Agenda, Fixpoint, Moved, Propagator, Wake, settle};
 use xdg_store::{Change, Store};
@@ -80,7 +81,7 @@ fn plan(alloc: Global) -> Result<DimPlan, AllocError>
 }
 
 // The set of the first value, for the only candidate of the only node.
-fn feats(alloc: Global) -> Result<List<List<List<Feat>>>, AllocError>
+fn feats(alloc: Global) -> Result<List<Shared<List<List<Feat>>>>, AllocError>
     ensures { IfOk result (λ feats. feats ≡ ((first_alone ∷ []) ∷ []) ∷ []) }
 {
     let mut numbers = Vec::new(alloc);
@@ -88,7 +89,7 @@ fn feats(alloc: Global) -> Result<List<List<List<Feat>>>, AllocError>
     let rows = one(alloc, Nums::of(numbers))?;
     let rows = Rows::of(alloc, rows)?;
     let of_entry = one(alloc, Feat { rows })?;
-    let of_node = one(alloc, of_entry)?;
+    let of_node = Shared::new(alloc, one(alloc, of_entry)?)?;
     one(alloc, of_node)
 }
 
@@ -114,10 +115,10 @@ fn problem(alloc: Global) -> Result<Problem, AllocError>
 {
     let text = Text::from_str(alloc, "a")?;
     let words = one(alloc, SentenceWord { text, at: 0 })?;
-    let entries = one(alloc, EntryNo(3))?;
+    let entries = Shared::new(alloc, one(alloc, EntryNo(3))?)?;
     let candidates = one(alloc, entries)?;
     let plan = plan(alloc)?;
-    let dims = one(alloc, plan)?;
+    let dims = Shared::new(alloc, one(alloc, plan)?)?;
     let group = agr_use(alloc)?;
     let groups = one(alloc, group)?;
     Ok(Problem::of(Parts {
