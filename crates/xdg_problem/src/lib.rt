@@ -5,6 +5,7 @@
 #![tactic(auto)]
 
 mod analysis;
+mod branching;
 mod comparing;
 mod conditions;
 mod decisions;
