@@ -15,7 +15,6 @@ mod numbers;
 mod parts;
 mod places;
 mod problem;
-mod rows;
 mod shared;
 mod sizes;
 
@@ -26,5 +25,4 @@ pub use names::{principle_name, principle_named};
 pub use numbers::Nums;
 pub use parts::{AttrPlan, DimPlan, Feat, Group, Parts, Principle, SentenceWord, Shown};
 pub use problem::Problem;
-pub use rows::Rows;
-pub use shared::Shared;
+pub use shared::SharedList;
