@@ -16,7 +16,6 @@ mod numbers;
 mod parts;
 mod places;
 mod problem;
-mod rows;
 mod shared;
 mod sizes;
 
@@ -27,5 +26,4 @@ pub use names::{principle_name, principle_named};
 pub use numbers::Nums;
 pub use parts::{AttrPlan, DimPlan, Feat, Group, Parts, Principle, SentenceWord, Shown};
 pub use problem::Problem;
-pub use rows::Rows;
-pub use shared::Shared;
+pub use shared::SharedList;

@@ -1,59 +1,71 @@
-//! A value that is shared, which contracts see as the value that it is.
+//! Lists that are shared.
 
-ghost use Rattle.std.specs.Prelude.{◌≡◌, IfOk};
+ghost use Rattle.std.specs.Prelude.{◌≡◌, length, slice_get, IfOk};
+ghost use Rattle.std.specs.Option.{option_copied};
 
 use std::alloc::{AllocError, Global};
 use std::marker::Model;
-use std::ops::Deref;
 use std::sync::Arc;
+use xdg_base::List;
 
-/// A value that no one changes any more. All that hold it share it, also among threads, and its memory is given back with the last
-/// of these.
+/// A list that no one changes any more. All that hold it share it, also among threads, and its memory is given back with the last of
+/// these.
 #[derive(Debug, Drop)]
-pub struct Shared<T> {
-    inner: Arc<T>,
+pub struct SharedList<T> {
+    shared: Arc<List<T>>,
 }
 
-impl<T> Model for Shared<T> {
+impl<T> Model for SharedList<T> {
+    ghost use Rattle.std.specs.Prelude.{List};
     ghost use Rattle.std.specs.Arc.{arc_value};
+    ghost use Rattle.std.specs.Coded.{coded_list};
 
-    ghost Value = { T };
+    ghost Value = { List T };
 
-    ghost coded = { T.code };
+    ghost coded = { coded_list T.code };
 
-    ghost view = { λ shared. arc_value shared.inner };
+    ghost view = { λ list. arc_value list.shared };
 }
 
-impl<T> Deref for Shared<T> {
-    type Target = T;
-
-    ghost deref_gives = { λ shared value. value ≡ shared };
-
-    /// The value, lent.
-    fn deref(&self) -> &T
+impl<T> SharedList<T> {
+    /// The elements in order, lent.
+    pub fn as_slice(&self) -> &[T]
         ensures { result.now ≡ self.now }
     {
-        &self.inner
+        self.shared.as_slice()
+    }
+
+    /// The number of elements.
+    pub fn len(&self) -> usize
+        ensures { result ≡ length self.now }
+    {
+        self.shared.len()
+    }
+
+    /// The element at a place, which counts from 0.
+    pub fn get(&self, at: usize) -> Option<&T>
+        ensures { option_copied result ≡ slice_get self.now at }
+    {
+        self.shared.get(at)
     }
 }
 
-impl<T: Drop> Shared<T> {
-    /// Moves a value to the heap, to be shared. On want of memory the value is dropped.
-    pub fn new(alloc: Global, value: T) -> Result<Shared<T>, AllocError>
-        ensures { IfOk result (λ shared. shared ≡ value) }
+impl<T: Drop> SharedList<T> {
+    /// Moves a list to the heap, to be shared. On want of memory the list is dropped.
+    pub fn of(alloc: Global, list: List<T>) -> Result<SharedList<T>, AllocError>
+        ensures { IfOk result (λ made. made ≡ list) }
     {
-        Ok(Shared {
-            inner: Arc::new(alloc, value)?,
+        Ok(SharedList {
+            shared: Arc::new(alloc, list)?,
         })
     }
 
-    /// The same value once more. It copies nothing and takes no memory; an error says that the value has as many owners as can be
-    /// counted.
-    pub fn share(&self) -> Result<Shared<T>, AllocError>
-        ensures { IfOk result (λ shared. shared ≡ self.now) }
+    /// The same list once more. It copies nothing and takes no memory; an error says that the list has as many owners as can be counted.
+    pub fn share(&self) -> Result<SharedList<T>, AllocError>
+        ensures { IfOk result (λ made. made ≡ self.now) }
     {
-        Ok(Shared {
-            inner: Arc::try_clone(&self.inner)?,
+        Ok(SharedList {
+            shared: Arc::try_clone(&self.shared)?,
         })
     }
 }

@@ -10,7 +10,7 @@ none = record { 0 = 0 }
 
 pub returns-then-not-is_candidate : goal.returns-then-not-is_candidate
 returns-then-not-is_candidate c =
-    let item : c.as_slice.result.now ≡ get_or c.args.candidates.now c.loop-k.k c.index-candidates-k.result = c.as_slice.ensures ∙ c.deref.ensures ∙ c.index-candidates-k.is in (
+    let item : c.as_slice.result.now ≡ get_or c.args.candidates.now c.loop-k.k c.index-candidates-k.result = c.as_slice.ensures ∙ c.index-candidates-k.is in (
       λ e. absurd (false≢true e),
       λ h. absurd (entries_refused c.args.candidates.now c.args.entries.now c.loop-k.k c.index-candidates-k.result none (omega arith) (omega arith)
           (λ d. refuses c.is_candidate.result c.if-not-is_candidate.true c.is_candidate.ensures (subst (λ z. Contains z (get_or c.args.entries.now c.loop-k.k none)) (sym item) d))
