@@ -38,3 +38,8 @@ pub mod FitSteps
 pub mod OneToOne
 pub mod PlaceSteps
 pub mod ValueCounts
+pub mod BranchParts
+pub mod BranchAsks
+pub mod BranchVectors
+pub mod BranchSolutions
+pub mod BranchesJoined
