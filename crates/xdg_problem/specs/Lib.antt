@@ -10,6 +10,9 @@ pub mod OneToOne
 pub mod Paths
 pub mod Features
 pub mod Arguments
+pub mod Claims
+pub mod Truths
+pub mod Costs
 pub mod Conditions
 pub mod Asking
 pub mod Relations
