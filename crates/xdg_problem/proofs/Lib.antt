@@ -40,4 +40,9 @@ pub mod FitSteps
 pub mod OneToOne
 pub mod PlaceSteps
 pub mod ValueCounts
+pub mod BranchParts
+pub mod BranchAsks
+pub mod BranchVectors
+pub mod BranchSolutions
+pub mod BranchesJoined
 pub mod Claimed
