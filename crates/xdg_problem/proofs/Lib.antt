@@ -50,3 +50,4 @@ pub mod Bounded
 pub mod FurtherTruths
 pub mod FurtherUses
 pub mod FurtherLawful
+pub mod Turning
