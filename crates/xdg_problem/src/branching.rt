@@ -135,7 +135,7 @@ fn branch_group(alloc: Global, group: &Group, place: usize) -> Result<Group, All
     ensures { IfOk result (λ made. made ≡ spec.branch_group place group.now) }
 {
     Ok(Group {
-        principle: group.principle,
+        principle: group.principle.copy(alloc)?,
         dims: List::from_slice(alloc, group.dims.as_slice())?,
         attrs: List::from_slice(alloc, group.attrs.as_slice())?,
         order: List::from_slice(alloc, group.order.as_slice())?,
@@ -145,11 +145,7 @@ fn branch_group(alloc: Global, group: &Group, place: usize) -> Result<Group, All
 }
 
 /// The principle uses, each so.
-fn branch_groups(
-    alloc: Global,
-    groups: &[Group],
-    place: usize,
-) -> Result<List<Group>, AllocError>
+fn branch_groups(alloc: Global, groups: &[Group], place: usize) -> Result<List<Group>, AllocError>
     ensures { IfOk result (λ made. made ≡ map (spec.branch_group place) groups.now) }
 {
     let mut made = List::new(alloc);
