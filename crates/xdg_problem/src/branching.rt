@@ -58,6 +58,16 @@ fn with_first<T: Drop>(
     Ok(made)
 }
 
+/// The candidate at a place.
+fn entry_at(candidates: &[EntryNo], place: usize) -> EntryNo
+    ensures { result ≡ slice_index_or candidates.now place no_entry }
+{
+    match candidates.get(place) {
+        Some(candidate) => *candidate,
+        None => EntryNo(0),
+    }
+}
+
 /// The candidates of the nodes, of which the first has the one at a place alone.
 fn branch_candidates(
     alloc: Global,
@@ -69,11 +79,7 @@ fn branch_candidates(
     let Some((first, others)) = candidates.split_first() else {
         return Ok(List::new(alloc));
     };
-    let candidate = match first.get(place) {
-        Some(candidate) => *candidate,
-        None => EntryNo(0),
-    };
-    with_first(alloc, candidate, others)
+    with_first(alloc, entry_at(first.as_slice(), place), others)
 }
 
 /// A copy of the features of a candidate, whose rows are shared.
@@ -118,6 +124,16 @@ fn branch_features(
     with_first(alloc, features, others)
 }
 
+/// The truth value at a place.
+fn says_at(row: &[bool], place: usize) -> bool
+    ensures { result ≡ slice_index_or row.now place false }
+{
+    match row.get(place) {
+        Some(says) => *says,
+        None => false,
+    }
+}
+
 /// A table of truth values, which has for the first node that of the candidate at a place alone.
 fn branch_table(
     alloc: Global,
@@ -129,12 +145,8 @@ fn branch_table(
     let Some((first, others)) = table.split_first() else {
         return Ok(List::new(alloc));
     };
-    let says = match first.get(place) {
-        Some(says) => *says,
-        None => false,
-    };
     let mut made = List::new(alloc);
-    made.push(List::from_slice(alloc, &[says])?)?;
+    made.push(List::from_slice(alloc, &[says_at(first.as_slice(), place)])?)?;
     for row in others {
         made.push(List::from_slice(alloc, row.as_slice())?)?;
     }
