@@ -30,6 +30,9 @@ resumed = record { operands = codes "grammar" ∷ codes "analysis" ∷ []; value
 abbrev pub corpused : Table
 corpused = record { operands = codes "grammar" ∷ []; values = codes "budget" ∷ codes "first" ∷ []; flags = codes "segment" ∷ [] }
 
+abbrev pub arranged : Table
+arranged = record { operands = codes "grammar" ∷ []; values = codes "budget" ∷ []; flags = codes "segment" ∷ [] }
+
 -- an operand, an option with a value that isn't empty, and an option without value
 abbrev pub operand_arg : List ℕ → Rule
 operand_arg name = record (new_rule name) { action = Some Set }

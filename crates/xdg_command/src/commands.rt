@@ -54,6 +54,17 @@ pub struct CorpusOptions {
     pub segment: bool,
 }
 
+/// What `arrange` is asked to do.
+#[derive(Debug, Drop)]
+pub struct ArrangeOptions {
+    /// The name of the grammar file.
+    pub grammar: Text,
+    /// How many counted prefixes the search of each arrangement may charge, 1 to 1,000,000,000.
+    pub budget: u64,
+    /// Whether words are cut by the Unicode rules of word boundaries.
+    pub segment: bool,
+}
+
 /// A command with its operands and options.
 #[derive(Debug, Drop)]
 pub enum Command {
@@ -90,4 +101,6 @@ pub enum Command {
     },
     /// `corpus`: the analyses of each line that the input gives.
     Corpus(CorpusOptions),
+    /// `arrange`: the arrangements of the words that the input gives, those that have an analysis, with their analyses.
+    Arrange(ArrangeOptions),
 }
