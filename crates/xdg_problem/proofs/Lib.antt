@@ -40,6 +40,8 @@ pub mod FitSteps
 pub mod OneToOne
 pub mod PlaceSteps
 pub mod ValueCounts
+pub mod BranchLists
+pub mod BranchTruths
 pub mod BranchParts
 pub mod BranchAsks
 pub mod BranchVectors
