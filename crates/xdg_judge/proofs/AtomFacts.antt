@@ -1,6 +1,6 @@
 -- What tables of edges and paths say of atoms.
-use Rattle.std.proofs.Common.{◌≡◌, ◌↔◌, ℕ, ◌+◌, ◌<◌, ◌≤◌, inl, inr, Bool, true, false, List, [], ◌∷◌, length, get_or, sym, ◌∙◌, subst, arith, refl}
-use Rattle.std.specs.Prelude.{IsTrue, All, Contains, slice_index_or, slice_set, ◌==◌}
+use Rattle.std.proofs.Common.{◌≡◌, ◌↔◌, ℕ, ◌+◌, ◌<◌, ◌≤◌, inl, inr, Bool, true, false, List, [], ◌∷◌, length, get_or, sym, ap, ◌∙◌, subst, arith, refl}
+use Rattle.std.specs.Prelude.{IsTrue, All, Contains, Some, None, slice_get, slice_index_or, slice_set, ◌==◌}
 use Rattle.std.proofs.lemmas.Bool.{cases_eq, eqb-true, false≢true}
 use Rattle.std.proofs.lemmas.List.{get_or-set_same, get_or-set_other}
 use Rattle.std.proofs.lemmas.List.Elements.{All-head}
@@ -11,12 +11,14 @@ use Rattle.xdg_problem.specs.Analyses.{IsAnalysis, IsPlace}
 use Rattle.xdg_problem.specs.Paths.{edges_on, Above, IsDaughterBy}
 use Rattle.xdg_problem.specs.Places.{nodes}
 use Rattle.xdg_problem.specs.Problems.{IsProblem}
+use Rattle.xdg_problem.specs.Truths.{says}
 use Rattle.xdg_problem.proofs.FilterFacts.{filter_contained}
 use Rattle.xdg_problem.proofs.FitSteps.{entries_lengths}
 use Rattle.xdg_judge.specs.declared.links.Direction.TheVariants as directions
 use Rattle.xdg_judge.specs.declared.links.Neighbours.{Neighbours}
 use Rattle.xdg_judge.specs.Graphs.{AreGraphs, IsReady}
 use Rattle.xdg_judge.specs.Links.{AreNeighbours, In, InBy}
+use Rattle.xdg_judge.proofs.ReadLists.{read_none, read_some}
 
 -- no edge is of a dimension that the problem lacks
 
@@ -80,3 +82,17 @@ has_an_entry parts analysis node problem fits within =
     let each = problem.candidates_each in
     let same = entries_lengths parts.candidates analysis.entries fits.entries in
     omega (arith, each, same, within)
+
+-- what a table says of it
+
+pub no_row : (table : List (List Bool)) (node candidate : ℕ) → None ≡ slice_get table node → false ≡ says table node candidate
+no_row table node candidate none = sym (ap (λ row. slice_index_or row candidate false) (read_none table node [] none))
+
+row_said : (table : List (List Bool)) (node candidate : ℕ) (row : List Bool) → Some row ≡ slice_get table node → says table node candidate ≡ slice_index_or row candidate false
+row_said table node candidate row some = ap (λ r. slice_index_or r candidate false) (read_some table node row [] some)
+
+pub no_truth : (table : List (List Bool)) (node candidate : ℕ) (row : List Bool) → Some row ≡ slice_get table node → None ≡ slice_get row candidate → false ≡ says table node candidate
+no_truth table node candidate row some none = sym (row_said table node candidate row some ∙ read_none row candidate false none)
+
+pub the_truth : (table : List (List Bool)) (node candidate : ℕ) (row : List Bool) (truth : Bool) → Some row ≡ slice_get table node → Some truth ≡ slice_get row candidate → truth ≡ says table node candidate
+the_truth table node candidate row truth some here = sym (row_said table node candidate row some ∙ read_some row candidate truth false here)

@@ -17,10 +17,10 @@ turned true P told = (λ t. absurd (false≢true t), λ none. absurd (none (told
 turned false P told = (λ t p. false≢true (told.1 p), λ none. refl)
 
 refused : (result : Bool) (P Q : Type 0) → result ≡ false → IsTrue result ↔ P → (Q → P) → IsTrue false ↔ Q
-refused result P Q no told to = (λ t. absurd (false≢true t), λ q. absurd (false≢true (sym no ∙ told.1 (to q))))
+refused result P Q fails told to = (λ t. absurd (false≢true t), λ q. absurd (false≢true (sym fails ∙ told.1 (to q))))
 
 found : (result : Bool) (P Q : Type 0) → result ≡ true → IsTrue result ↔ P → (P → Q) → IsTrue true ↔ Q
-found result P Q yes told to = (λ t. to (told.0 yes), λ q. refl)
+found result P Q holds told to = (λ t. to (told.0 holds), λ q. refl)
 
 one_more : (P : ℕ → Type 0) (k : ℕ) → ((node : ℕ) → node < k → P node) → P k → (node : ℕ) → node < k + 1 → P node
 one_more P k all last node l = elim (cases_eq node k) [ inl same ↦ subst P (sym same) last | inr other ↦ all node (omega (arith, l, other)) ]
@@ -61,10 +61,10 @@ module _ (parts : Parts) (analysis : Analysis) (b : ℕ → ℕ) where
   NoneSoFar fs i = T (disjunction (claims_of (map claim (take i fs)))) → ⊥
 
   pub and_turn : (fs : List Formula) (i : ℕ) (f : Formula) (result : Bool) → i < length fs → f ≡ get_or fs i f → AllSoFar fs i → IsTrue result ↔ T (claim f) → result ≡ true → AllSoFar fs (i + 1)
-  and_turn fs i f result l at all told yes = subst (λ cs. T (conjunction (claims_of cs))) (sym (front_more fs i f l at)) (each_more (map claim (take i fs)) (claim f) all (told.0 yes))
+  and_turn fs i f result l at all told holds = subst (λ cs. T (conjunction (claims_of cs))) (sym (front_more fs i f l at)) (each_more (map claim (take i fs)) (claim f) all (told.0 holds))
 
   pub or_turn : (fs : List Formula) (i : ℕ) (f : Formula) (result : Bool) → i < length fs → f ≡ get_or fs i f → NoneSoFar fs i → IsTrue result ↔ T (claim f) → result ≡ false → NoneSoFar fs (i + 1)
-  or_turn fs i f result l at none told no = subst (λ cs. T (disjunction (claims_of cs)) → ⊥) (sym (front_more fs i f l at)) (none_more (map claim (take i fs)) (claim f) none (λ t. false≢true (sym no ∙ told.1 t)))
+  or_turn fs i f result l at none told fails = subst (λ cs. T (disjunction (claims_of cs)) → ⊥) (sym (front_more fs i f l at)) (none_more (map claim (take i fs)) (claim f) none (λ t. false≢true (sym fails ∙ told.1 t)))
 
   module _ (formula : Formula) where
     -- a formula of a form that claims this
@@ -75,10 +75,10 @@ module _ (parts : Parts) (analysis : Analysis) (b : ℕ → ℕ) where
     not_told f g result is same told = told_as (y.Not f) (negation (claim f)) (IsTrue (not result)) is (claim_not f) (turned result (T (claim f)) (subst (λ h. IsTrue result ↔ T (claim h)) same told))
 
     pub and_refused : (fs items : List Formula) (i : ℕ) (f : Formula) (result : Bool) → formula ≡ y.And fs → items ≡ fs → i < length items → f ≡ get_or items i f → IsTrue result ↔ T (claim f) → result ≡ false → IsTrue false ↔ T (claim formula)
-    and_refused fs items i f result is same l at told no =
+    and_refused fs items i f result is same l at told fails =
         told_as (y.And fs) (conjunction (claims_of (map claim fs))) (IsTrue false) is (claim_and fs)
         (subst (λ hs. IsTrue false ↔ T (conjunction (claims_of (map claim hs)))) same
-        (refused result (T (claim f)) (T (conjunction (claims_of (map claim items)))) no told (λ all. subst (λ g. T (claim g)) (sym at) (each_at items i f l all))))
+        (refused result (T (claim f)) (T (conjunction (claims_of (map claim items)))) fails told (λ all. subst (λ g. T (claim g)) (sym at) (each_at items i f l all))))
 
     pub and_end : (fs items : List Formula) (i : ℕ) → formula ≡ y.And fs → items ≡ fs → length items ≤ i → AllSoFar items i → IsTrue true ↔ T (claim formula)
     and_end fs items i is same past all =
@@ -86,10 +86,10 @@ module _ (parts : Parts) (analysis : Analysis) (b : ℕ → ℕ) where
         (λ t. subst (λ hs. T (conjunction (claims_of (map claim hs)))) (take_all i items past ∙ same) all, λ t. refl)
 
     pub or_found : (fs items : List Formula) (i : ℕ) (f : Formula) (result : Bool) → formula ≡ y.Or fs → items ≡ fs → i < length items → f ≡ get_or items i f → IsTrue result ↔ T (claim f) → result ≡ true → IsTrue true ↔ T (claim formula)
-    or_found fs items i f result is same l at told yes =
+    or_found fs items i f result is same l at told holds =
         told_as (y.Or fs) (disjunction (claims_of (map claim fs))) (IsTrue true) is (claim_or fs)
         (subst (λ hs. IsTrue true ↔ T (disjunction (claims_of (map claim hs)))) same
-        (found result (T (claim f)) (T (disjunction (claims_of (map claim items)))) yes told (λ here. some_at items i f l (subst (λ g. T (claim g)) at here))))
+        (found result (T (claim f)) (T (disjunction (claims_of (map claim items)))) holds told (λ here. some_at items i f l (subst (λ g. T (claim g)) at here))))
 
     pub or_end : (fs items : List Formula) (i : ℕ) → formula ≡ y.Or fs → items ≡ fs → length items ≤ i → NoneSoFar items i → IsTrue false ↔ T (claim formula)
     or_end fs items i is same past none =
@@ -112,31 +112,31 @@ module _ (parts : Parts) (analysis : Analysis) (b : ℕ → ℕ) where
     inside : (name node : ℕ) (f : Formula) (c : ℕ → ℕ) (result : Bool) → c ≡ bound b name node → IsTrue result ↔ IsTrueIn parts analysis (claim f) c → IsTrue result ↔ At name f node
     inside name node f c result is told = subst (λ d. IsTrue result ↔ IsTrueIn parts analysis (claim f) d) is told
 
-    pub every_turn : (name : ℕ) (f : Formula) (k : ℕ) (c : ℕ → ℕ) (result : Bool) → EachBelow name f k → c ≡ bound b name k → IsTrue result ↔ IsTrueIn parts analysis (claim f) c → result ≡ true → EachBelow name f (k + 1)
-    every_turn name f k c result all is told yes = one_more (At name f) k all ((inside name k f c result is told).0 yes)
+    at_of : (name node : ℕ) (f g : Formula) (c : ℕ → ℕ) (result : Bool) → g ≡ f → c ≡ bound b name node → IsTrue result ↔ IsTrueIn parts analysis (claim g) c → IsTrue result ↔ At name f node
+    at_of name node f g c result same bind told = subst (λ h. IsTrue result ↔ At name h node) same (inside name node g c result bind told)
 
-    pub any_turn : (name : ℕ) (f : Formula) (k : ℕ) (c : ℕ → ℕ) (result : Bool) → NoneBelow name f k → c ≡ bound b name k → IsTrue result ↔ IsTrueIn parts analysis (claim f) c → result ≡ false → NoneBelow name f (k + 1)
-    any_turn name f k c result none is told no = one_more (λ node. At name f node → ⊥) k none (λ t. false≢true (sym no ∙ (inside name k f c result is told).1 t))
+    pub every_turn : (name : ℕ) (f g : Formula) (k : ℕ) (c : ℕ → ℕ) (result : Bool) → EachBelow name f k → g ≡ f → c ≡ bound b name k → IsTrue result ↔ IsTrueIn parts analysis (claim g) c → result ≡ true → EachBelow name f (k + 1)
+    every_turn name f g k c result all same bind told holds = one_more (At name f) k all ((at_of name k f g c result same bind told).0 holds)
+
+    pub any_turn : (name : ℕ) (f g : Formula) (k : ℕ) (c : ℕ → ℕ) (result : Bool) → NoneBelow name f k → g ≡ f → c ≡ bound b name k → IsTrue result ↔ IsTrueIn parts analysis (claim g) c → result ≡ false → NoneBelow name f (k + 1)
+    any_turn name f g k c result none same bind told fails = one_more (λ node. At name f node → ⊥) k none (λ t. false≢true (sym fails ∙ (at_of name k f g c result same bind told).1 t))
 
     pub every_refused : (name : ℕ) (f g : Formula) (k : ℕ) (c : ℕ → ℕ) (result : Bool) → formula ≡ y.Every name f → g ≡ f → k < nodes parts → c ≡ bound b name k → IsTrue result ↔ IsTrueIn parts analysis (claim g) c → result ≡ false → IsTrue false ↔ T (claim formula)
-    every_refused name f g k c result is same l bind told no =
-        told_as (y.Every name f) (every name (claim f)) (IsTrue false) is (claim_every name f)
-        (refused result (At name f k) (T (every name (claim f))) no (subst (λ h. IsTrue result ↔ At name h k) same (inside name k g c result bind told)) (λ all. all k l))
+    every_refused name f g k c result is same l bind told fails =
+        told_as (y.Every name f) (every name (claim f)) (IsTrue false) is (claim_every name f) (refused result (At name f k) (T (every name (claim f))) fails (at_of name k f g c result same bind told) (λ all. all k l))
 
-    pub every_end : (name : ℕ) (f g : Formula) (k : ℕ) → formula ≡ y.Every name f → g ≡ f → nodes parts ≤ k → EachBelow name g k → IsTrue true ↔ T (claim formula)
-    every_end name f g k is same past all =
-        told_as (y.Every name f) (every name (claim f)) (IsTrue true) is (claim_every name f)
-        (λ t node l. subst (λ h. At name h node) same (all node (omega (arith, l, past))), λ t. refl)
+    pub every_end : (name : ℕ) (f : Formula) (k : ℕ) → formula ≡ y.Every name f → nodes parts ≤ k → EachBelow name f k → IsTrue true ↔ T (claim formula)
+    every_end name f k is past all =
+        told_as (y.Every name f) (every name (claim f)) (IsTrue true) is (claim_every name f) (λ t node l. all node (omega (arith, l, past)), λ t. refl)
 
     pub any_found : (name : ℕ) (f g : Formula) (k : ℕ) (c : ℕ → ℕ) (result : Bool) → formula ≡ y.Any name f → g ≡ f → k < nodes parts → c ≡ bound b name k → IsTrue result ↔ IsTrueIn parts analysis (claim g) c → result ≡ true → IsTrue true ↔ T (claim formula)
-    any_found name f g k c result is same l bind told yes =
-        told_as (y.Any name f) (some name (claim f)) (IsTrue true) is (claim_any name f)
-        (found result (At name f k) (T (some name (claim f))) yes (subst (λ h. IsTrue result ↔ At name h k) same (inside name k g c result bind told)) (λ here. (k, l, here)))
+    any_found name f g k c result is same l bind told holds =
+        told_as (y.Any name f) (some name (claim f)) (IsTrue true) is (claim_any name f) (found result (At name f k) (T (some name (claim f))) holds (at_of name k f g c result same bind told) (λ here. (k, l, here)))
 
-    pub any_end : (name : ℕ) (f g : Formula) (k : ℕ) → formula ≡ y.Any name f → g ≡ f → nodes parts ≤ k → NoneBelow name g k → IsTrue false ↔ T (claim formula)
-    any_end name f g k is same past none =
+    pub any_end : (name : ℕ) (f : Formula) (k : ℕ) → formula ≡ y.Any name f → nodes parts ≤ k → NoneBelow name f k → IsTrue false ↔ T (claim formula)
+    any_end name f k is past none =
         told_as (y.Any name f) (some name (claim f)) (IsTrue false) is (claim_any name f)
-        (λ t. absurd (false≢true t), λ one. absurd (none one.0 (let l = one.1 in omega (arith, l, past)) (subst (λ h. At name h one.0) (sym same) one.2)))
+        (λ t. absurd (false≢true t), λ one. absurd (none one.0 (let l = one.1 in omega (arith, l, past)) one.2))
 
 -- no name is bound at first
 pub holds_unbound : (parts : Parts) (analysis : Analysis) (formula : Formula) (b : ℕ → ℕ) (result : Bool) → b ≡ unbound → IsTrue result ↔ IsTrueIn parts analysis (claim formula) b → IsTrue result ↔ FormulaHolds parts analysis formula

@@ -78,10 +78,10 @@ pub(crate) fn has_value(
 }
 
 /// What a table says for a candidate of a node.
-fn says(table: &List<List<bool>>, node: u8, candidate: usize) -> bool
+fn says(table: &List<List<bool>>, node: usize, candidate: usize) -> bool
     ensures { result ≡ says table.now node candidate }
 {
-    let Some(row) = table.get(usize::from(node)) else {
+    let Some(row) = table.get(node) else {
         return false;
     };
     match row.get(candidate) {
@@ -103,5 +103,6 @@ pub(crate) fn has_entry(
     requires node { node < nodes parts.now }
     ensures { IsTrue result ↔ (says table.now node (slice_index (entry_places parts.now.candidates analysis.now.entries) node) ≡ true) }
 {
-    says(table, node, candidate_of(parts, analysis, usize::from(node)))
+    let node = usize::from(node);
+    says(table, node, candidate_of(parts, analysis, node))
 }

@@ -1,8 +1,7 @@
 //! Bindings of names to nodes.
 
-ghost use Rattle.std.specs.Prelude.{◌≡◌, ◌<◌};
-ghost use Rattle.xdg_problem.specs.Places.{nodes};
-ghost use Rattle.xdg_problem.specs.Truths.{bound};
+ghost use Rattle.std.specs.Prelude.{◌≡◌};
+ghost use Rattle.xdg_problem.specs.Truths.{bound, unbound};
 ghost use Rattle.xdg_judge.specs.Graphs.{stands};
 
 /// A node for each name.
@@ -23,4 +22,12 @@ pub(crate) fn bind(binding: &Binding, name: u8, node: u8) -> Binding
     let mut inside = *binding;
     inside[usize::from(name)] = node;
     inside
+}
+
+/// The binding in which each name stands for the first node.
+
+pub(crate) fn none_bound() -> Binding
+    ensures { stands result ≡ unbound }
+{
+    [0; 256]
 }

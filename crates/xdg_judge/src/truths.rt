@@ -8,7 +8,7 @@ ghost use Rattle.xdg_problem.specs.Truths.{FormulaHolds, IsTrueIn};
 ghost use Rattle.xdg_judge.specs.Graphs.{AreGraphs, AreNodes, IsReady, stands};
 
 use crate::atoms::{has_entry, has_value, is_edge, is_path};
-use crate::binding::{Binding, bind, node_of};
+use crate::binding::{Binding, bind, node_of, none_bound};
 use crate::links::{Direction, Neighbours};
 use xdg_problem::{Analysis, Formula, Parts};
 
@@ -90,5 +90,6 @@ pub(crate) fn formula_holds(parts: &Parts, analysis: &Analysis, formula: &Formul
         let edges = analysis.edges.as_slice();
         tables[usize::from(dim)] = Neighbours::of(edges, dim, Direction::Down, size);
     }
-    is_true(parts, analysis, &tables, &[0; 256], formula)
+    let binding = none_bound();
+    is_true(parts, analysis, &tables, &binding, formula)
 }

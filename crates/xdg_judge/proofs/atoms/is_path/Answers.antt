@@ -1,0 +1,10 @@
+use Rattle.std.proofs.Common.{arith}
+use Rattle.xdg_judge.proofs.AtomFacts.{no_path}
+use Rattle.xdg_judge.proofs.atoms.is_path.Goals as goal
+
+pub returns-then-at-len : goal.returns-then-at-len
+returns-then-at-len c =
+    let past = c.if-at-len.true in
+    let at = c.from-at.ensures in
+    let count = c.len.ensures in
+    no_path c.args.parts.now c.args.analysis.now c.args.tables.now c.args.dim.0 c.args.upper c.args.lower c.requires.ready (omega (arith, past, at, count))
