@@ -5,12 +5,15 @@ use Rattle.std.specs.List.{AllZip}
 use Rattle.std.proofs.lemmas.Bool.{cases_eq, false≢true}
 use Rattle.std.proofs.lemmas.List.{take_all, take_more, get_or-take, get_or_default, length-take}
 use Rattle.xdg_problem.specs.declared.analysis.Analysis.{Analysis}
+use Rattle.xdg_problem.specs.declared.analysis.Edge.{Edge}
 use Rattle.xdg_problem.specs.declared.conditions.Condition.{Condition}
 use Rattle.xdg_problem.specs.declared.conditions.Condition.TheVariants as conditions
 use Rattle.xdg_problem.specs.declared.parts.Group.{Group}
 use Rattle.xdg_problem.specs.declared.parts.Parts.{Parts}
 use Rattle.xdg_problem.specs.declared.parts.Principle.{Principle}
 use Rattle.xdg_problem.specs.Conditions.{conditions_of, conditions_for, root_count}
+use Rattle.xdg_problem.specs.Arguments.{first_dim}
+use Rattle.xdg_problem.specs.Paths.{edges_on, roots}
 use Rattle.xdg_problem.specs.Places.{nodes}
 use Rattle.xdg_problem.specs.Relations.{Relation, IsKeptWhole, IsFirstBroken}
 use Rattle.xdg_judge.specs.Searching.{IsSearched, tuple_for, second_size, third_size, FirstThree}
@@ -30,6 +33,10 @@ less_all Q i n h le k l = h k (omega (arith, l, le))
 
 pub roots_kept : (parts : Parts) (group : Group) (analysis : Analysis) (count : ℕ) → count ≡ root_count parts group analysis.edges → count ≡ 1 → IsKeptHere parts group analysis conditions.Roots
 roots_kept parts group analysis count e one tuple is = ap (λ t. slice_index t 0) is ∙ (sym e ∙ one)
+
+pub roots_counted : (parts : Parts) (group : Group) (analysis : Analysis) (count n dim : ℕ) (edges : List Edge) → count ≡ length (roots n (edges_on dim edges)) → n ≡ nodes parts → dim ≡ first_dim group → edges ≡ analysis.edges → count ≡ root_count parts group analysis.edges
+roots_counted parts group analysis count n dim edges is size on same =
+    is ∙ (ap (λ k. length (roots k (edges_on dim edges))) size ∙ (ap (λ d. length (roots (nodes parts) (edges_on d edges))) on ∙ ap (λ es. length (roots (nodes parts) (edges_on (first_dim group) es))) same))
 
 pub roots_broken : (parts : Parts) (group : Group) (analysis : Analysis) (count : ℕ) → count ≡ root_count parts group analysis.edges → count ≢ 1 → IsLeastBroken parts group analysis conditions.Roots (count ∷ [])
 roots_broken parts group analysis count e other = record {

@@ -17,3 +17,4 @@ pub mod Skipping
 pub mod Bindings
 pub mod AtomFacts
 pub mod Formed
+pub mod Bounds
