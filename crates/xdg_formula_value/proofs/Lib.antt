@@ -1,0 +1,6 @@
+pub mod Stood
+pub mod Edged
+pub mod Filled
+pub mod Rowed
+pub mod Fronts
+pub mod Formed

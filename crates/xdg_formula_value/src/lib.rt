@@ -1,0 +1,14 @@
+//! What a formula is worth in a box, found for all nodes at once where one name is left, and the propagator of a rule.
+#![tactic(auto)]
+
+mod atoms;
+mod binding;
+mod look;
+mod pair;
+mod rows;
+mod value;
+mod way;
+
+pub use pair::Pair;
+pub use value::is_false;
+pub use way::Way;
