@@ -24,3 +24,5 @@ pub mod Laws
 pub mod Tries
 pub mod Names
 pub mod Boxes
+pub mod Branches
+pub mod BranchLaws

@@ -1,9 +1,11 @@
 //! What tests, live prefixes, solutions and verdicts keep.
 
-ghost use Rattle.std.specs.Prelude.{ℕ, List};
+ghost use Rattle.std.specs.Prelude.{ℕ, ◌<◌, List, length};
 ghost use Rattle.xdg_problem.specs.declared.analysis.Analysis.{Analysis};
 ghost use Rattle.xdg_problem.specs.declared.parts.Group.{Group};
 ghost use Rattle.xdg_problem.specs.declared.parts.Parts.{Parts};
+ghost use Rattle.xdg_problem.specs.BranchLaws.{BranchLaws, BranchesJoin};
+ghost use Rattle.xdg_problem.specs.Branches.{first_candidates};
 ghost use Rattle.xdg_problem.specs.Laws.{HasOneVerdict, LiveLaws, SolutionLaws};
 ghost use Rattle.xdg_problem.specs.Problems.{IsProblem};
 
@@ -25,4 +27,11 @@ pub fn solution_laws()
 /// is the first that it breaks. Conditions come in their order and tuples item by item, so there is a least that is broken.
 pub fn verdict_laws()
     ensures { (parts : Parts) (group : Group) (analysis : Analysis) → HasOneVerdict parts group analysis }
+{}
+
+/// A law, and nothing to run: the branches of a problem are problems, whose analyses, solutions and order are those of the problem for
+/// the candidate that the first node has alone; and the lists of their solutions, one branch after another, are the problem's list.
+pub fn branch_laws()
+    ensures each { (parts : Parts) (place : ℕ) → IsProblem parts → place < length (first_candidates parts) → BranchLaws parts place }
+    ensures join { (parts : Parts) → IsProblem parts → BranchesJoin parts }
 {}

@@ -5,6 +5,7 @@
 #![tactic(auto)]
 
 mod analysis;
+mod branching;
 mod comparing;
 mod conditions;
 mod costs;
@@ -17,16 +18,16 @@ mod numbers;
 mod parts;
 mod places;
 mod problem;
-mod rows;
+mod shared;
 mod sizes;
 
 pub use analysis::{Analysis, Edge, is_before};
 pub use conditions::Condition;
 pub use costs::Costs;
 pub use formula::Formula;
-pub use laws::{live_laws, solution_laws, verdict_laws};
+pub use laws::{branch_laws, live_laws, solution_laws, verdict_laws};
 pub use names::{principle_name, principle_named};
 pub use numbers::Nums;
 pub use parts::{AttrPlan, DimPlan, Feat, Group, Parts, Principle, SentenceWord, Shown};
 pub use problem::Problem;
-pub use rows::Rows;
+pub use shared::SharedList;

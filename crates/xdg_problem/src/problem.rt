@@ -28,6 +28,11 @@ impl Model for Problem {
 
     ghost Value = { Parts };
 
+    ghost use Rattle.std.specs.Coded.{codes};
+    ghost use Rattle.xdg_problem.specs.contracts.formula.Formula as formula;
+
+    ghost coded = { Prim.hlevel (codes, formula.the_row.coded) };
+
     ghost view = { λ problem. problem.parts };
 
     ghost invariant = { λ problem. IsProblem problem.parts };
