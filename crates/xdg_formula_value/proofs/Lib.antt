@@ -4,3 +4,5 @@ pub mod Filled
 pub mod Rowed
 pub mod Fronts
 pub mod Formed
+pub mod Named
+pub mod Stepping

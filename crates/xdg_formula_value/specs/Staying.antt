@@ -20,7 +20,7 @@ use Rattle.xdg_problem.specs.Tests.{IsTestOf}
 use Rattle.xdg_problem.specs.Truths.{bound, unbound}
 use Rattle.xdg_problem.specs.Vectors.{shape}
 use Rattle.xdg_problem.proofs.FilterFacts.{filter_alike}
-use Rattle.xdg_rules.specs.Rules.{has, may_edges, must_edges, FailsTest, TakesBy, IsClosedFor}
+use Rattle.xdg_rules.specs.Rules.{has, may_edges, must_edges, FailsTest, TakesBy, Takes, IsClosedFor}
 use Rattle.xdg_rules.specs.WorthLaws.{AreNodes}
 use Rattle.xdg_rules.specs.Worths.{Makes, MakesEach, MakesSome, RuleFalse}
 use Rattle.xdg_rules.proofs.Bound.{bound_nodes}
@@ -30,7 +30,7 @@ use Rattle.xdg_propcore.specs.Losses.{LosesOutside}
 use Rattle.xdg_propcore.specs.Uses.{IsClosedBy, StandsFor, use_at, no_use}
 use Rattle.xdg_propcore.proofs.DecisionKinds.{kind_of_entry, kind_of_attr, kind_of_edge}
 use Rattle.xdg_formula_value.specs.ClaimKinds.{IsKindOf, SomeKindOf, HasKinds}
-use Rattle.xdg_formula_value.specs.Standing.{stands_for}
+use Rattle.xdg_formula_value.specs.Standing.{IsRule, HasKindsOf, stands_for}
 use Rattle.xdg_formula_value.specs.declared.rule_prop.RuleProp.{RuleProp}
 
 same_and : (on a c : Bool) → (on ≡ true → a ≡ c) → (on && a) ≡ (on && c)
@@ -104,25 +104,37 @@ module _ (parts : Parts) (problem : IsProblem parts) (wakes : ℕ) (old new : Li
       | inr later ↦ inr (some_before cs truth b suits.1 are (λ kind is. kinds kind (inr is)) later)
     ]
 
--- a rule has no tests
-no_test : (parts : Parts) (group : Group) (box : List (List Bool)) (formula : Formula) → group.principle ≡ principles.Rule formula → FailsTest parts group box → ⊥
-no_test parts group box formula is failing = subst (λ p. IsTestOf p group.truths (nodes parts) (label_count parts (first_dim group)) failing.test) is failing.is
+-- ---- a rule
 
--- where the formula isn't false the box is closed for the rule
-pub closed_for_rule : (parts : Parts) (group : Group) (box : List (List Bool)) (formula : Formula) → group.principle ≡ principles.Rule formula → (RuleFalse parts formula box → ⊥) → IsClosedFor parts group box
-closed_for_rule parts group box formula is open_or_true d v remains (inl failing) = no_test parts group box formula is failing
-closed_for_rule parts group box formula is open_or_true d v remains (inr by) = open_or_true (subst (λ p. TakesBy p parts group box d v) is by)
+module _ (parts : Parts) (group : Group) (box : List (List Bool)) where
+  -- it has no tests
+  no_test : (p : Principle) → IsRule p → group.principle ≡ p → FailsTest parts group box → ⊥
+  no_test (principles.Rule formula) rule is failing = subst (λ p. IsTestOf p group.truths (nodes parts) (label_count parts (first_dim group)) failing.test) is failing.is
+  no_test p rule is failing = absurd rule
 
--- and where the box is closed the formula isn't false
-pub rule_not_false : (parts : Parts) (group : Group) (box : List (List Bool)) (formula : Formula) → IsProblem parts → IsBox (shape parts) box → group.principle ≡ principles.Rule formula → IsClosedFor parts group box → RuleFalse parts formula box → ⊥
-rule_not_false parts group box formula problem is_box is closed fails = (let some_left = some_value parts box problem is_box in closed 0 some_left.0 some_left.1 (inr (subst (λ p. TakesBy p parts group box 0 some_left.0) (sym is) fails)))
+  -- where its formula isn't false the box is closed for it
+  pub closed_for_rule : (formula : Formula) → group.principle ≡ principles.Rule formula → (RuleFalse parts formula box → ⊥) → IsClosedFor parts group box
+  closed_for_rule formula is not_false d v remains (inl failing) = no_test (principles.Rule formula) tt is failing
+  closed_for_rule formula is not_false d v remains (inr by) = not_false (subst (λ p. TakesBy p parts group box d v) is by)
+
+  -- where it is, all is taken
+  pub rule_takes : (formula : Formula) → group.principle ≡ principles.Rule formula → RuleFalse parts formula box → (d v : ℕ) → Takes parts group box d v
+  rule_takes formula is fails d v = inr (subst (λ p. TakesBy p parts group box d v) (sym is) fails)
+
+  -- so it isn't where the box is closed
+  pub rule_not_false : (formula : Formula) → IsProblem parts → IsBox (shape parts) box → group.principle ≡ principles.Rule formula → IsClosedFor parts group box → RuleFalse parts formula box → ⊥
+  rule_not_false formula problem is_box is closed fails = (let some_left = some_value parts box problem is_box in closed 0 some_left.0 some_left.1 (rule_takes formula is fails 0 some_left.0))
+
+closed_still : (parts : Parts) (problem : IsProblem parts) (group : Group) (group_is : IsGroup parts group) (wakes : ℕ) (old new : List (List Bool)) → IsBox (shape parts) old → LiesIn new old → LosesOutside parts wakes old new
+    → (p : Principle) → IsRule p → HasKindsOf p wakes → group.principle ≡ p → IsClosedFor parts group old → IsClosedFor parts group new
+closed_still parts problem group group_is wakes old new old_is inside outside (principles.Rule formula) rule kinds is closed =
+    let suits : Suits parts formula = subst (λ q. IsSuited q parts) is group_is.suits in
+    closed_for_rule parts group new formula is (λ fails. rule_not_false parts group old formula problem old_is is closed
+    (made_before parts problem wakes old new inside outside (claim formula) false unbound suits.is_of (λ name. problem.some) kinds fails))
+closed_still parts problem group group_is wakes old new old_is inside outside p rule kinds is closed = absurd rule
 
 -- where the propagator is still, it stays so while the box loses values of other kinds
 pub rule_stays : (p : RuleProp) (parts : Parts) (number : ℕ) (old new : List (List Bool)) → IsProblem parts → StandsFor (stands_for p) parts number → IsBox (shape parts) old → IsBox (shape parts) new → LiesIn new old
     → LosesOutside parts p.wakes.0 old new → IsClosedBy (stands_for p) parts old → IsClosedBy (stands_for p) parts new
 rule_stays p parts number old new problem stands old_is new_is inside outside still k here =
-    let group : Group = use_at parts k in
-    let group_is : IsGroup parts group = problem.groups k no_use here.0 in
-    let suits : Suits parts here.1.formula = subst (λ q. IsSuited q parts) here.1.rule group_is.suits in
-    closed_for_rule parts group new here.1.formula here.1.rule (λ fails. rule_not_false parts group old here.1.formula problem old_is here.1.rule (still k here)
-    (made_before parts problem p.wakes.0 old new inside outside (claim here.1.formula) false unbound suits.is_of (λ name. problem.some) here.1.kinds fails))
+    closed_still parts problem (use_at parts k) (problem.groups k no_use here.0) p.wakes.0 old new old_is inside outside (use_at parts k).principle here.1.rule here.1.kinds refl (still k here)
