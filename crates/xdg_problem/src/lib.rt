@@ -8,6 +8,7 @@ mod analysis;
 mod branching;
 mod comparing;
 mod conditions;
+mod copying;
 mod costs;
 mod decisions;
 mod fitting;

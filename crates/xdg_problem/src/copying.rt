@@ -1,0 +1,111 @@
+//! Copies of formulas and principles.
+
+ghost use Rattle.std.specs.Prelude.{◌≡◌, ◌++◌, IfOk, OnOk};
+
+use crate::formula::Formula;
+use crate::parts::Principle;
+use std::alloc::{AllocError, Global};
+use xdg_base::{Boxed, List};
+
+impl Formula {
+    /// A copy.
+    #[cycle(copy)]
+    pub fn copy(&self, alloc: Global) -> Result<Formula, AllocError>
+        ensures { IfOk result (λ made. made ≡ self.now) }
+    {
+        match self {
+            Formula::Not(part) => {
+                let made = part.get().copy(alloc)?;
+                Ok(Formula::Not(Boxed::new(alloc, made)?))
+            }
+            Formula::And(parts) => {
+                let mut made = List::new(alloc);
+                add_formulas(alloc, parts.as_slice(), &mut made)?;
+                Ok(Formula::And(made))
+            }
+            Formula::Or(parts) => {
+                let mut made = List::new(alloc);
+                add_formulas(alloc, parts.as_slice(), &mut made)?;
+                Ok(Formula::Or(made))
+            }
+            Formula::Every(name, part) => {
+                let made = part.get().copy(alloc)?;
+                Ok(Formula::Every(*name, Boxed::new(alloc, made)?))
+            }
+            Formula::Any(name, part) => {
+                let made = part.get().copy(alloc)?;
+                Ok(Formula::Any(*name, Boxed::new(alloc, made)?))
+            }
+            Formula::Edge(dim, mother, label, daughter) => {
+                Ok(Formula::Edge(*dim, *mother, *label, *daughter))
+            }
+            Formula::Above(dim, upper, lower) => Ok(Formula::Above(*dim, *upper, *lower)),
+            Formula::Left(first, second) => Ok(Formula::Left(*first, *second)),
+            Formula::Same(first, second) => Ok(Formula::Same(*first, *second)),
+            Formula::Attr(name, dim, attr, value) => {
+                Ok(Formula::Attr(*name, *dim, *attr, *value))
+            }
+            Formula::Feat(name, table) => Ok(Formula::Feat(
+                *name,
+                copy_table(alloc, table.as_slice())?,
+            )),
+        }
+    }
+}
+
+/// Adds copies of formulas.
+#[cycle(copy)]
+fn add_formulas(
+    alloc: Global,
+    formulas: &[Formula],
+    made: &mut List<Formula>,
+) -> Result<(), AllocError>
+    ensures { OnOk result (made.new ≡ made.old ++ formulas.now) }
+{
+    for formula in formulas {
+        made.push(formula.copy(alloc)?)?;
+    }
+    Ok(())
+}
+
+/// A copy of a table of truth values.
+fn copy_table(alloc: Global, table: &[List<bool>]) -> Result<List<List<bool>>, AllocError>
+    ensures { IfOk result (λ made. made ≡ table.now) }
+{
+    let mut made = List::new(alloc);
+    for row in table {
+        made.push(List::from_slice(alloc, row.as_slice())?)?;
+    }
+    Ok(made)
+}
+
+impl Principle {
+    /// A copy.
+    pub fn copy(&self, alloc: Global) -> Result<Principle, AllocError>
+        ensures { IfOk result (λ made. made ≡ self.now) }
+    {
+        match self {
+            Principle::Graph => Ok(Principle::Graph),
+            Principle::Entries => Ok(Principle::Entries),
+            Principle::Tree => Ok(Principle::Tree),
+            Principle::Dag => Ok(Principle::Dag),
+            Principle::Valency => Ok(Principle::Valency),
+            Principle::Order => Ok(Principle::Order),
+            Principle::Projectivity => Ok(Principle::Projectivity),
+            Principle::Agr => Ok(Principle::Agr),
+            Principle::Agreement => Ok(Principle::Agreement),
+            Principle::Government => Ok(Principle::Government),
+            Principle::Climbing => Ok(Principle::Climbing),
+            Principle::Barriers => Ok(Principle::Barriers),
+            Principle::LinkingEnd => Ok(Principle::LinkingEnd),
+            Principle::LinkingDaughter => Ok(Principle::LinkingDaughter),
+            Principle::LinkingMother => Ok(Principle::LinkingMother),
+            Principle::LinkingBelowStart => Ok(Principle::LinkingBelowStart),
+            Principle::LinkingAboveStart => Ok(Principle::LinkingAboveStart),
+            Principle::LinkingSisters => Ok(Principle::LinkingSisters),
+            Principle::LinkingNotDaughter => Ok(Principle::LinkingNotDaughter),
+            Principle::Rule(formula) => Ok(Principle::Rule(formula.copy(alloc)?)),
+            Principle::Bound(costs, bound) => Ok(Principle::Bound(costs.copy(alloc)?, *bound)),
+        }
+    }
+}
