@@ -62,7 +62,7 @@ module _ (parts : Parts) (place : ℕ) (is : IsProblem parts) (within : place < 
         feats = length_alone [] place group.feats ∙ g.feats;
         feats_each = λ v l. same_lengths [] no_entry place group.feats parts.candidates v (g.feats ∙ sym is.candidates_each) (g.feats_each v l);
         features = λ v l. All-weaker (AreFeatures group.principle parts group) (AreFeatures group.principle (branch_of parts place) (branch_group place group)) (same_features group.principle parts group place) (get_or (first_alone [] place group.feats) v [])
-        (features_alone (AreFeatures group.principle parts group) group.feats place (nodes parts) v is.some inside g.features l);
+            (features_alone (AreFeatures group.principle parts group) group.feats place (nodes parts) v is.some inside g.features l);
       }
 
   pub branch_problem : IsProblem (branch_of parts place)

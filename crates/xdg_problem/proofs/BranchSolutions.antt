@@ -25,8 +25,7 @@ module _ (parts : Parts) (place : ℕ) (is : IsProblem parts) (within : place < 
       let differ = branch_entries parts place is within a fits in
       let alone = first_alone no_entry place parts.candidates in
       let groups = map (branch_group place) parts.groups in
-      let feats = first_alone [] place group.feats in
-      (
+      let feats = first_alone [] place group.feats in (
         λ kept. subst (λ xs. All (IsKept parts group xs a.attrs a.edges) (conditions_of group)) (sym differ.whole)
             (same_relation parts alone parts.candidates groups parts.groups group feats group.feats (0 ∷ differ.more) (place ∷ differ.more) a.attrs a.edges (alone_rows group group.feats place differ.more)
             (subst (λ xs. All (IsKept branch (branch_group place group) xs a.attrs a.edges) (conditions_of group)) differ.branch kept)),

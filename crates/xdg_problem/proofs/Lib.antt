@@ -46,3 +46,7 @@ pub mod BranchVectors
 pub mod BranchSolutions
 pub mod BranchesJoined
 pub mod Claimed
+pub mod Bounded
+pub mod FurtherTruths
+pub mod FurtherUses
+pub mod FurtherLawful

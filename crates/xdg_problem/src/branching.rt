@@ -6,7 +6,7 @@ ghost use Rattle.xdg_problem.specs.Branches as spec;
 
 use crate::parts::{Feat, Group, Parts, SentenceWord};
 use crate::problem::Problem;
-use crate::shared::Shared;
+use crate::shared::SharedList;
 use std::alloc::{AllocError, Global};
 use xdg_base::{EntryNo, List, OutOfMemory};
 
@@ -56,14 +56,14 @@ fn copy_words(alloc: Global, words: &[SentenceWord]) -> Result<List<SentenceWord
 fn with_first<T: Drop>(
     alloc: Global,
     first: T,
-    others: &[Shared<List<T>>],
-) -> Result<List<Shared<List<T>>>, AllocError>
+    others: &[SharedList<T>],
+) -> Result<List<SharedList<T>>, AllocError>
     ensures { IfOk result (λ made. made ≡ (first ∷ []) ∷ others.now) }
 {
     let mut alone = List::new(alloc);
     alone.push(first)?;
     let mut made = List::new(alloc);
-    made.push(Shared::new(alloc, alone)?)?;
+    made.push(SharedList::of(alloc, alone)?)?;
     for other in others {
         made.push(other.share()?)?;
     }
@@ -73,9 +73,9 @@ fn with_first<T: Drop>(
 /// The candidates of the nodes, of which the first has the one at a place alone.
 fn branch_candidates(
     alloc: Global,
-    candidates: &[Shared<List<EntryNo>>],
+    candidates: &[SharedList<EntryNo>],
     place: usize,
-) -> Result<List<Shared<List<EntryNo>>>, AllocError>
+) -> Result<List<SharedList<EntryNo>>, AllocError>
     ensures { IfOk result (λ made. made ≡ first_alone no_entry place candidates.now) }
 {
     let Some((first, others)) = candidates.split_first() else {
@@ -104,7 +104,7 @@ fn share_features(alloc: Global, features: &[Feat]) -> Result<List<Feat>, AllocE
 /// The features of the candidate at a place.
 fn features_at(
     alloc: Global,
-    features: &List<List<Feat>>,
+    features: &SharedList<List<Feat>>,
     place: usize,
 ) -> Result<List<Feat>, AllocError>
     ensures { IfOk result (λ made. made ≡ slice_index_or features.now place []) }
@@ -118,9 +118,9 @@ fn features_at(
 /// The features of the nodes, of which the first has those of the candidate at a place alone.
 fn branch_features(
     alloc: Global,
-    feats: &[Shared<List<List<Feat>>>],
+    feats: &[SharedList<List<Feat>>],
     place: usize,
-) -> Result<List<Shared<List<List<Feat>>>>, AllocError>
+) -> Result<List<SharedList<List<Feat>>>, AllocError>
     ensures { IfOk result (λ made. made ≡ first_alone [] place feats.now) }
 {
     let Some((first, others)) = feats.split_first() else {
@@ -135,7 +135,7 @@ fn branch_group(alloc: Global, group: &Group, place: usize) -> Result<Group, All
     ensures { IfOk result (λ made. made ≡ spec.branch_group place group.now) }
 {
     Ok(Group {
-        principle: group.principle,
+        principle: group.principle.copy(alloc)?,
         dims: List::from_slice(alloc, group.dims.as_slice())?,
         attrs: List::from_slice(alloc, group.attrs.as_slice())?,
         order: List::from_slice(alloc, group.order.as_slice())?,
@@ -145,11 +145,7 @@ fn branch_group(alloc: Global, group: &Group, place: usize) -> Result<Group, All
 }
 
 /// The principle uses, each so.
-fn branch_groups(
-    alloc: Global,
-    groups: &[Group],
-    place: usize,
-) -> Result<List<Group>, AllocError>
+fn branch_groups(alloc: Global, groups: &[Group], place: usize) -> Result<List<Group>, AllocError>
     ensures { IfOk result (λ made. made ≡ map (spec.branch_group place) groups.now) }
 {
     let mut made = List::new(alloc);

@@ -1,9 +1,10 @@
-//! Copies of formulas and principles.
+//! Copies of formulas, principles and problems.
 
 ghost use Rattle.std.specs.Prelude.{◌≡◌, ◌++◌, IfOk, OnOk};
 
 use crate::formula::Formula;
-use crate::parts::Principle;
+use crate::parts::{Group, Parts, Principle, SentenceWord};
+use crate::shared::SharedList;
 use std::alloc::{AllocError, Global};
 use xdg_base::{Boxed, List};
 
@@ -108,4 +109,72 @@ impl Principle {
             Principle::Bound(costs, bound) => Ok(Principle::Bound(costs.copy(alloc)?, *bound)),
         }
     }
+}
+
+/// A copy of words.
+pub(crate) fn copy_words(
+    alloc: Global,
+    words: &[SentenceWord],
+) -> Result<List<SentenceWord>, AllocError>
+    ensures { IfOk result (λ made. made ≡ words.now) }
+{
+    let mut made = List::new(alloc);
+    for word in words {
+        made.push(SentenceWord {
+            text: word.text.copy(alloc)?,
+            at: word.at,
+        })?;
+    }
+    Ok(made)
+}
+
+/// The same lists once more, shared.
+pub(crate) fn share_lists<T: Drop>(
+    alloc: Global,
+    lists: &[SharedList<T>],
+) -> Result<List<SharedList<T>>, AllocError>
+    ensures { IfOk result (λ made. made ≡ lists.now) }
+{
+    let mut made = List::new(alloc);
+    for list in lists {
+        made.push(list.share()?)?;
+    }
+    Ok(made)
+}
+
+/// A copy of a principle use. It shares the features.
+fn copy_group(alloc: Global, group: &Group) -> Result<Group, AllocError>
+    ensures { IfOk result (λ made. made ≡ group.now) }
+{
+    Ok(Group {
+        principle: group.principle.copy(alloc)?,
+        dims: List::from_slice(alloc, group.dims.as_slice())?,
+        attrs: List::from_slice(alloc, group.attrs.as_slice())?,
+        order: List::from_slice(alloc, group.order.as_slice())?,
+        truths: List::from_slice(alloc, group.truths.as_slice())?,
+        feats: share_lists(alloc, group.feats.as_slice())?,
+    })
+}
+
+/// Copies of principle uses.
+fn copy_groups(alloc: Global, groups: &[Group]) -> Result<List<Group>, AllocError>
+    ensures { IfOk result (λ made. made ≡ groups.now) }
+{
+    let mut made = List::new(alloc);
+    for group in groups {
+        made.push(copy_group(alloc, group)?)?;
+    }
+    Ok(made)
+}
+
+/// A copy of the parts of a problem. It shares candidates, dimensions and features.
+pub(crate) fn copy_parts(alloc: Global, parts: &Parts) -> Result<Parts, AllocError>
+    ensures { IfOk result (λ made. made ≡ parts.now) }
+{
+    Ok(Parts {
+        words: copy_words(alloc, parts.words.as_slice())?,
+        candidates: share_lists(alloc, parts.candidates.as_slice())?,
+        dims: parts.dims.share()?,
+        groups: copy_groups(alloc, parts.groups.as_slice())?,
+    })
 }
