@@ -31,7 +31,7 @@ told dim m label e on mother label_is = ap (λ k. edge k e.mother.0 e.label.0 e.
 -- ---- the edges out of one node
 
 -- those out of a node are left open no more
-abbrev NoneOut : ℕ → ℕ → ℕ → Parts → List (List Bool) → Type 0
+abbrev pub NoneOut : ℕ → ℕ → ℕ → Parts → List (List Bool) → Type 0
 NoneOut dim label m parts box = (x : ℕ) → IsPlace parts (edge dim m label x) → Has box (edge_decision parts (edge dim m label x)) 0 → Has box (edge_decision parts (edge dim m label x)) 1 → ⊥
 
 module _ (group : Group) (dim label m : ℕ) (mid : State) (must : List ℕ) (known : Known mid) (is : IsGroup mid.parts group) (takes : TakesFree mid.parts group mid.now dim label)
@@ -70,24 +70,25 @@ module _ (group : Group) (dim label m : ℕ) (mid : State) (must : List ℕ) (kn
 
 -- ---- one after another
 
+-- at each of the first numbers
+abbrev pub Upto : (ℕ → Parts → List (List Bool) → Type 0) → ℕ → Parts → List (List Bool) → Type 0
+Upto P k parts box = (i : ℕ) → i < k → P i parts box
+
 module _ (group : Group) (P : ℕ → Parts → List (List Bool) → Type 0) where
-  abbrev pub Upto : ℕ → Parts → List (List Bool) → Type 0
-  Upto k parts box = (i : ℕ) → i < k → P i parts box
+  pub upto_first : (p : Progress) (s : State) → Known s → Sweeps group (Upto P 0 s.parts) p s p s
+  upto_first p s known = sweeps_start group (Upto P 0 s.parts) p s known (λ i l. absurd (omega (arith, l)))
 
-  pub upto_first : (p : Progress) (s : State) → Known s → Sweeps group (Upto 0 s.parts) p s p s
-  upto_first p s known = sweeps_start group (Upto 0 s.parts) p s known (λ i l. absurd (omega (arith, l)))
-
-  more : (k : ℕ) (parts : Parts) (box : List (List Bool)) → Upto k parts box → P k parts box → Upto (k + 1) parts box
+  more : (k : ℕ) (parts : Parts) (box : List (List Bool)) → Upto P k parts box → P k parts box → Upto P (k + 1) parts box
   more k parts box before here i l = elim (cases_eq i k) [
     | inl same ↦ subst (λ j. P j parts box) (sym same) here
     | inr other ↦ before i (omega (arith, l, other))
   ]
 
-  pub upto_more : (k : ℕ) (p : Progress) (old : State) (q : Progress) (mid : State) (r : Progress) (new : State) → Sweeps group (Upto k old.parts) p old q mid → Sweeps group (P k mid.parts) q mid r new → Sweeps group (Upto (k + 1) old.parts) p old r new
-  upto_more k p old q mid r new a b = sweeps_next group (Upto k old.parts) (Upto (k + 1) old.parts) (P k) p old q mid r new a b (λ box before here. more k old.parts box before here)
+  pub upto_more : (k : ℕ) (p : Progress) (old : State) (q : Progress) (mid : State) (r : Progress) (new : State) → Sweeps group (Upto P k old.parts) p old q mid → Sweeps group (P k mid.parts) q mid r new → Sweeps group (Upto P (k + 1) old.parts) p old r new
+  upto_more k p old q mid r new a b = sweeps_next group (Upto P k old.parts) (Upto P (k + 1) old.parts) (P k) p old q mid r new a b (λ box before here. more k old.parts box before here)
 
-  pub upto_skip : (k : ℕ) (p : Progress) (old : State) (q : Progress) (mid : State) → Sweeps group (Upto k old.parts) p old q mid → P k old.parts mid.now → Sweeps group (Upto (k + 1) old.parts) p old q mid
-  upto_skip k p old q mid a here = sweeps_skip group (Upto k old.parts) (Upto (k + 1) old.parts) p old q mid a (λ before. more k old.parts mid.now before here)
+  pub upto_skip : (k : ℕ) (p : Progress) (old : State) (q : Progress) (mid : State) → Sweeps group (Upto P k old.parts) p old q mid → P k old.parts mid.now → Sweeps group (Upto P (k + 1) old.parts) p old q mid
+  upto_skip k p old q mid a here = sweeps_skip group (Upto P k old.parts) (Upto P (k + 1) old.parts) p old q mid a (λ before. more k old.parts mid.now before here)
 
 -- what is taken in each box inside is taken later
 pub free_later : (group : Group) (dim label : ℕ) (Done : List (List Bool) → Type 0) (p : Progress) (old : State) (q : Progress) (mid : State) → Sweeps group Done p old q mid → TakesFree old.parts group old.now dim label → TakesFree mid.parts group mid.now dim label
@@ -99,15 +100,15 @@ free_later group dim label Done p old q mid a takes box is lies m x place absent
 
 module _ (group : Group) (dim label : ℕ) (p : Progress) (old : State) (takes : TakesFree old.parts group old.now dim label) (is : IsGroup old.parts group) where
   abbrev pub NodesDone : ℕ → Progress → State → Type 0
-  NodesDone m q mid = Sweeps group (Upto group (NoneOut dim label) m old.parts) p old q mid
+  NodesDone m q mid = Sweeps group (Upto (NoneOut dim label) m old.parts) p old q mid
 
   pub nodes_more : (m : ℕ) (q : Progress) (mid : State) (must : List ℕ) (r : Progress) (new : State) → NodesDone m q mid
       → ((x : ℕ) → IsTrue (sets.has must x) ↔ IsDaughterBy (edges_of whichs.Must mid.parts mid.now dim) m label x) → Clears (Forbids mid.parts dim (Beyond m label must)) q mid r new → Known new → NodesDone (m + 1) r new
   nodes_more m q mid must r new a exact c known = upto_more group (NoneOut dim label) m p old q mid r new a
-      (out_gone group dim label m mid must a.known (group_stays group p old q mid a.goes a.known is) (free_later group dim label (Upto group (NoneOut dim label) m old.parts) p old q mid a takes) exact q r new c known)
+      (out_gone group dim label m mid must a.known (group_stays group p old q mid a.goes a.known is) (free_later group dim label (Upto (NoneOut dim label) m old.parts) p old q mid a takes) exact q r new c known)
 
   pub nodes_end : (m n : ℕ) (q : Progress) (mid : State) → n ≤ m → NodesDone m q mid → Sweeps group (NoneFree old.parts dim label n) p old q mid
-  nodes_end m n q mid past a = sweeps_skip group (Upto group (NoneOut dim label) m old.parts) (NoneFree old.parts dim label n) p old q mid a (λ all u x l. all u (omega (arith, l, past)) x)
+  nodes_end m n q mid past a = sweeps_skip group (Upto (NoneOut dim label) m old.parts) (NoneFree old.parts dim label n) p old q mid a (λ all u x l. all u (omega (arith, l, past)) x)
 
 -- ---- the labels of a dimension
 

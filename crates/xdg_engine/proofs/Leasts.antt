@@ -13,8 +13,8 @@ use Rattle.xdg_engine.specs.CostRows.{entry_row, entry_rows}
 
 module _ (remains : ℕ → Bool) (cost : ℕ → ℕ) (k : ℕ) where
   least_put : (b : Bool) → remains k ≡ b → least_below remains cost (k + 1) ≡ cond b (Some (with_least (cost k) (least_below remains cost k))) (least_below remains cost k)
-  least_put b is = subst (λ j. least_below remains cost j ≡ cond b (Some (with_least (cost k) (least_below remains cost k))) (least_below remains cost k)) (omega arith)
-      (ap (λ c. cond c (Some (with_least (cost k) (least_below remains cost k))) (least_below remains cost k)) is)
+  least_put b is = (let next : suc k ≡ k + 1 = omega arith in subst (λ j. least_below remains cost j ≡ cond b (Some (with_least (cost k) (least_below remains cost k))) (least_below remains cost k)) next
+      (ap (λ c. cond c (Some (with_least (cost k) (least_below remains cost k))) (least_below remains cost k)) is))
 
   -- one that remains
   pub least_more : remains k ≡ true → least_below remains cost (k + 1) ≡ Some (with_least (cost k) (least_below remains cost k))
@@ -25,7 +25,7 @@ module _ (remains : ℕ → Bool) (cost : ℕ → ℕ) (k : ℕ) where
   least_same gone = least_put false gone
 
 pub sum_more : (f : ℕ → ℕ) (k : ℕ) → sum_below f (k + 1) ≡ sum_below f k + f k
-sum_more f k = subst (λ j. sum_below f j ≡ sum_below f k + f k) (omega arith) refl
+sum_more f k = (let next : suc k ≡ k + 1 = omega arith in subst (λ j. sum_below f j ≡ sum_below f k + f k) next refl)
 
 least_costs : (remains : ℕ → Bool) (these those : ℕ → ℕ) (k : ℕ) → ((c : ℕ) → c < k → these c ≡ those c) → least_below remains these k ≡ least_below remains those k
 least_costs remains these those zero same = refl
