@@ -2,7 +2,10 @@ pub mod Stood
 pub mod Edged
 pub mod Filled
 pub mod Rowed
+pub mod Overs
 pub mod Fronts
 pub mod Formed
+pub mod Paired
+pub mod Ending
 pub mod Named
 pub mod Stepping

@@ -114,6 +114,8 @@ impl<'s, 'p> Look<'s, 'p> {
         ensures store { result.now ≡ self.now }
         ensures known { Known self.now }
     {
+        // Each store holds a box.
+        let _ = self.store.turns();
         self.store
     }
 
@@ -131,10 +133,12 @@ impl<'s, 'p> Look<'s, 'p> {
         ensures exact { IsTrue result ↔ Over each (nodes self.now.parts) (λ v. has set v ≡ true) }
         ensures known { Known self.now }
     {
+        // Each store holds a box.
+        let _ = self.store.turns();
         if each {
-            return self.all.minus(&set).first().is_none();
+            return self.all.minus(&set).len() == 0;
         }
-        self.all.meet(&set).first().is_some()
+        self.all.meet(&set).len() != 0
     }
 
     /// The nodes below a node on a dimension, or above it, by the edges that may be or by those that must be.

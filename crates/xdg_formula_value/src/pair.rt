@@ -88,6 +88,8 @@ fn related(look: &mut Look, pair: Pair, which: Which, way: Way, node: NodeId) ->
     ensures row { IsRow (nodes look.old.parts) (Along way (Relates pair which look.old.parts look.old.now) node.0) result }
     ensures same { look.new ≡ look.old }
 {
+    // Each store holds a box.
+    let _ = look.store();
     match pair {
         Pair::Edge(dim, label) => joined_by(look, which, way, dim, label, node),
         Pair::Path(dim) => look.far(which, way, dim, node),
@@ -141,6 +143,16 @@ fn related_row(
     constant(row.contains(node_of(binding, second)))
 }
 
+/// The edges that make something true, or that leave it possible.
+fn edges_for(truth: bool) -> Which
+    ensures { result ≡ edges_for truth }
+{
+    if truth {
+        return Which::Must;
+    }
+    Which::May
+}
+
 /// The nodes for which a name has to stand so that the box makes true, or false, that what two names stand for is related.
 pub(crate) fn pair_row(
     look: &mut Look,
@@ -156,6 +168,6 @@ pub(crate) fn pair_row(
     ensures row { IsRow (nodes look.old.parts) (λ v. HasTruth truth (Relates pair (edges_for truth) look.old.parts look.old.now (bound (stands binding.now) name v first) (bound (stands binding.now) name v second))) result }
     ensures same { look.new ≡ look.old }
 {
-    let which = if truth { Which::Must } else { Which::May };
-    told(truth, related_row(look, binding, name, pair, which, first, second))
+    let row = related_row(look, binding, name, pair, edges_for(truth), first, second);
+    told(truth, row)
 }
