@@ -12,7 +12,7 @@ ghost use Rattle.xdg_rules.specs.WorthLaws.{AreNodes};
 ghost use Rattle.xdg_rules.specs.Worths.{EachValue};
 ghost use Rattle.xdg_store.specs.InRange.{HasValue};
 ghost use Rattle.xdg_store.specs.States.{Known};
-ghost use Rattle.xdg_formula_value.specs.Rows.{IsRow, stands};
+ghost use Rattle.xdg_formula_value.specs.Rows.{AreFirst, IsRowOn, stands};
 
 use crate::binding::node_of;
 use crate::look::Look;
@@ -68,7 +68,7 @@ fn attr_told(
     !store.attr_in(node, dim, attr, value)
 }
 
-/// The nodes for which a name has to stand so that the box makes true, or false, that an attribute has a value.
+/// Of some nodes, those for which a name has to stand so that the box makes true, or false, that an attribute has a value.
 pub(crate) fn attr_row(
     look: &Look,
     binding: &[u8; 256],
@@ -78,18 +78,23 @@ pub(crate) fn attr_row(
     attr: AttrId,
     value: u16,
     truth: bool,
+    care: NodeSet,
 ) -> NodeSet
+    requires care { AreFirst (nodes look.now.parts) care }
     requires dim { dim.0 < length look.now.parts.dims }
     requires attr { attr.0 < attr_count look.now.parts dim.0 }
     requires value { value < value_count look.now.parts dim.0 attr.0 }
     requires nodes { AreNodes look.now.parts (stands binding.now) }
-    ensures row { IsRow (nodes look.now.parts) (λ v. EachValue look.now.now (attr_decision look.now.parts dim.0 (bound (stands binding.now) name v node) attr.0) (λ x. HasTruth truth (x ≡ value))) result }
+    ensures row { IsRowOn care (λ v. EachValue look.now.now (attr_decision look.now.parts dim.0 (bound (stands binding.now) name v node) attr.0) (λ x. HasTruth truth (x ≡ value))) result }
 {
     if node != name {
         return constant(attr_told(look.store(), node_of(binding, node), dim, attr, value, truth));
     }
     let mut row = NodeSet::empty();
     for one in 0..look.node_count() {
+        if !care.contains(NodeId(one)) {
+            continue;
+        }
         row = kept(row, one, attr_told(look.store(), NodeId(one), dim, attr, value, truth));
     }
     row
@@ -122,7 +127,7 @@ fn entries_told(store: &Store, node: NodeId, table: &List<List<bool>>, truth: bo
     true
 }
 
-/// The nodes for which a name has to stand so that the box makes true, or false, what a table says of entries.
+/// Of some nodes, those for which a name has to stand so that the box makes true, or false, what a table says of entries.
 pub(crate) fn feat_row(
     look: &Look,
     binding: &[u8; 256],
@@ -130,15 +135,20 @@ pub(crate) fn feat_row(
     node: u8,
     table: &List<List<bool>>,
     truth: bool,
+    care: NodeSet,
 ) -> NodeSet
+    requires care { AreFirst (nodes look.now.parts) care }
     requires nodes { AreNodes look.now.parts (stands binding.now) }
-    ensures row { IsRow (nodes look.now.parts) (λ v. EachEntry look.now.now (bound (stands binding.now) name v node) (λ c. HasTruth truth (says table.now (bound (stands binding.now) name v node) c ≡ true))) result }
+    ensures row { IsRowOn care (λ v. EachEntry look.now.now (bound (stands binding.now) name v node) (λ c. HasTruth truth (says table.now (bound (stands binding.now) name v node) c ≡ true))) result }
 {
     if node != name {
         return constant(entries_told(look.store(), node_of(binding, node), table, truth));
     }
     let mut row = NodeSet::empty();
     for one in 0..look.node_count() {
+        if !care.contains(NodeId(one)) {
+            continue;
+        }
         row = kept(row, one, entries_told(look.store(), NodeId(one), table, truth));
     }
     row

@@ -128,6 +128,13 @@ impl<'s, 'p> Look<'s, 'p> {
         node_count(self.store)
     }
 
+    /// The nodes.
+    pub(crate) fn all(&self) -> NodeSet
+        ensures { IsEvery (nodes self.now.parts) result }
+    {
+        self.all
+    }
+
     /// Whether a set has each node, or some.
     pub(crate) fn has_over(&self, each: bool, set: NodeSet) -> bool
         ensures exact { IsTrue result ↔ Over each (nodes self.now.parts) (λ v. has set v ≡ true) }

@@ -3,7 +3,7 @@
 ghost use Rattle.std.specs.Prelude.{◌≡◌, ◌⊎◌, ◌↔◌, ◌<◌, ℕ, Bool, true, not, IsTrue};
 ghost use Rattle.xdg_nodeset.specs.Nodes.{has};
 ghost use Rattle.xdg_problem.specs.Truths.{HasTruth};
-ghost use Rattle.xdg_formula_value.specs.Rows.{Joined};
+ghost use Rattle.xdg_formula_value.specs.Rows.{Joined, open_in};
 
 use xdg_base::NodeId;
 use xdg_nodeset::NodeSet;
@@ -45,6 +45,16 @@ pub(crate) fn kept(set: NodeSet, node: u8, holds: bool) -> NodeSet
         more.insert(NodeId(node));
     }
     more
+}
+
+/// Those of some nodes at which two sets together are still open, where the first is known.
+pub(crate) fn still_open(both: bool, care: NodeSet, set: NodeSet) -> NodeSet
+    ensures { (v : ℕ) → has result v ≡ open_in both care set v }
+{
+    if both {
+        return care.meet(&set);
+    }
+    care.minus(&set)
 }
 
 /// The nodes of both sets, or of either.
