@@ -1,7 +1,7 @@
 -- In a box that agrees with a whole vector, a rule or a bound takes nothing exactly where the vector's analysis is as it asks.
 use Rattle.std.proofs.Common.{◌≡◌, ℕ, ◌<◌, ◌≤◌, inl, inr, Bool, true, false, List, length, sym, ap, ◌∙◌, subst, arith}
 use Rattle.std.proofs.lemmas.Bool.{cases_lt}
-use Rattle.std.proofs.lemmas.List.{length-take}
+use Rattle.std.proofs.lemmas.List.{length-take-le}
 use Rattle.xdg_problem.specs.declared.analysis.Edge.{Edge}
 use Rattle.xdg_problem.specs.declared.formula.Formula.{Formula}
 use Rattle.xdg_problem.specs.declared.parts.Group.{Group}
@@ -53,7 +53,7 @@ module _ (parts : Parts) (group : Group) (box : List (List Bool)) (x : List ℕ)
   chosen_length =
       let long = length_shape parts in
       let short : length parts.candidates ≤ length x = omega (arith, long, whole) in
-      ap length (entries_back parts x problem (whole_fits parts box x is agrees) short) ∙ length-take (length parts.candidates) x short
+      ap length (entries_back parts x problem (whole_fits parts box x is agrees) short) ∙ length-take-le (length parts.candidates) x short
 
   cost_is : (costs : CostLists) → least_cost parts costs box ≡ total_cost costs (entries_at parts.candidates candidates) edges
   cost_is costs = cost_whole parts costs box x problem is whole agrees chosen_length

@@ -10,7 +10,7 @@ use Rattle.xdg_problem.specs.Places.{nodes}
 use Rattle.xdg_problem.specs.Problems.{IsProblem, IsGroup, attr_arguments}
 use Rattle.xdg_problem.specs.Truths.{unbound}
 use Rattle.xdg_problem.specs.Vectors.{shape}
-use Rattle.xdg_problem.proofs.AttrPlaces.{attr_within, first_dim_within}
+use Rattle.xdg_problem.proofs.AttrPlaces.{attr_within, attr_dim_within}
 use Rattle.xdg_problem.specs.Boxes.{Has, IsBox, LiesIn}
 use Rattle.xdg_rules.specs.Rules.{TakesForRoot, TakesBy, Takes, IsClosedFor, attr_of_node}
 use Rattle.xdg_rules.proofs.Sizes.{attr_place_within}
@@ -25,7 +25,7 @@ use Rattle.xdg_rules.proofs.Costing.{cost_more, bound_kept}
 pub attr_decided : (parts : Parts) (group : Group) → IsGroup parts group → (argument : ℕ) → argument < attr_arguments group.principle → (node : ℕ) → node < nodes parts → attr_of_node parts group argument node < length (shape parts)
 attr_decided parts group is argument known node within =
     let count = is.attrs_count in
-    attr_place_within parts _ (attr_within parts (first_dim group) node (attr_of group argument) (first_dim_within parts group is) within (is.attrs argument (record { 0 = 0 }) (omega (arith, known, count))))
+    attr_place_within parts _ (attr_within parts (first_dim group) node (attr_of group argument) (attr_dim_within parts group is argument known) within (is.attrs argument (record { 0 = 0 }) (omega (arith, known, count))))
 
 module _ (parts : Parts) (group : Group) (small large : List (List Bool)) (problem : IsProblem parts) (group_is : IsGroup parts group) (is : IsBox (shape parts) small) (lies : LiesIn small large) where
   -- the rules of a principle take nothing that remains in the small box
