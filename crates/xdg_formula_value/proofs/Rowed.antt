@@ -16,13 +16,13 @@ joined_like false P Q A B p q = (
 )
 
 -- two rows, the second of which is right where it still matters
-pub row_more : (both : Bool) (care open : List ℕ) (P Q R : ℕ → Type 0) (old part new : List ℕ) → IsRowOn care P old → ((v : ℕ) → has open v ≡ open_in both care old v) → IsRowOn open Q part → ((v : ℕ) → (has new v ≡ true) ↔ Joined both (has old v ≡ true) (has part v ≡ true)) → ((v : ℕ) → Joined both (P v) (Q v) ↔ R v) → IsRowOn care R new
-row_more true care open P Q R old part new first open_is second is like v within =
+pub row_more : (both : Bool) (care still : List ℕ) (P Q R : ℕ → Type 0) (old part new : List ℕ) → IsRowOn care P old → ((v : ℕ) → has still v ≡ open_in both care old v) → IsRowOn still Q part → ((v : ℕ) → (has new v ≡ true) ↔ Joined both (has old v ≡ true) (has part v ≡ true)) → ((v : ℕ) → Joined both (P v) (Q v) ↔ R v) → IsRowOn care R new
+row_more true care still P Q R old part new first open_is second is like v within =
     let here = λ there. second v (open_is v ∙ and_from (has care v) (has old v) within there) in (
       λ h. (let both = (is v).0 h in (like v).0 ((first v within).0 both.0, (here both.0).0 both.1)),
       λ r. (let both = (like v).1 r in let there = (first v within).1 both.0 in (is v).1 (there, (here there).1 both.1)),
     )
-row_more false care open P Q R old part new first open_is second is like v within = elim (cases_Bool (has old v)) [
+row_more false care still P Q R old part new first open_is second is like v within = elim (cases_Bool (has old v)) [
   | inl there ↦ (λ h. (like v).0 (inl ((first v within).0 there)), λ r. (is v).1 (inl there))
   | inr off ↦ (let here = second v (open_is v ∙ and_from (has care v) (not (has old v)) within (not_from_false (has old v) off)) in (
       λ h. elim ((is v).0 h) [ inl old_has ↦ absurd (both_ways (has old v) off old_has) | inr part_has ↦ (like v).0 (inr (here.0 part_has)) ],
@@ -31,9 +31,9 @@ row_more false care open P Q R old part new first open_is second is like v withi
 ]
 
 -- what is still open is among the first nodes
-pub open_first : (both : Bool) (n : ℕ) (care old open : List ℕ) → AreFirst n care → ((v : ℕ) → has open v ≡ open_in both care old v) → AreFirst n open
-open_first true n care old open first is v h = first v (and_parts (has care v) (has old v) (sym (is v) ∙ h)).0
-open_first false n care old open first is v h = first v (and_parts (has care v) (not (has old v)) (sym (is v) ∙ h)).0
+pub open_first : (both : Bool) (n : ℕ) (care old still : List ℕ) → AreFirst n care → ((v : ℕ) → has still v ≡ open_in both care old v) → AreFirst n still
+open_first true n care old still first is v h = first v (and_parts (has care v) (has old v) (sym (is v) ∙ h)).0
+open_first false n care old still first is v h = first v (and_parts (has care v) (not (has old v)) (sym (is v) ∙ h)).0
 
 pub row_like : (care : List ℕ) (P Q : ℕ → Type 0) (set : List ℕ) → ((v : ℕ) → P v ↔ Q v) → IsRowOn care P set → IsRowOn care Q set
 row_like care P Q set like row v within = (λ h. (like v).0 ((row v within).0 h), λ q. (row v within).1 ((like v).1 q))

@@ -40,16 +40,16 @@ fn row_of(
         Formula::And(parts) => {
             let mut row = constant(truth);
             for part in parts.as_slice() {
-                let open = still_open(truth, care, row);
-                row = joined(truth, row, row_of(look, binding, name, part, truth, open));
+                let still = still_open(truth, care, row);
+                row = joined(truth, row, row_of(look, binding, name, part, truth, still));
             }
             row
         }
         Formula::Or(parts) => {
             let mut row = constant(!truth);
             for part in parts.as_slice() {
-                let open = still_open(!truth, care, row);
-                row = joined(!truth, row, row_of(look, binding, name, part, truth, open));
+                let still = still_open(!truth, care, row);
+                row = joined(!truth, row, row_of(look, binding, name, part, truth, still));
             }
             row
         }
