@@ -39,12 +39,12 @@ module _ (parts : Parts) (group : Group) (costs : CostLists) (bound : ℕ) (prob
   none_dear rows least room box least_is room_is below costs_are few small done = closed_for_bound parts group box costs bound is
       (λ reached. (omega (arith, reached, below, least_is)))
       (λ d v remains rule.
-          let e = rule.place in
-          let place = is_place parts e rule.is in
-          let label_in = label_below parts e place in
-          let label_small = small e.dim.0 in
-          let dim_in = place.dim in
-          let cost = costs_are e.dim.0 e.label.0 (omega (arith, dim_in, few)) (omega (arith, label_in, label_small)) in
-          let reaches = rule.reaches in
-          done e.dim.0 dim_in e.label.0 label_in (omega (arith, reaches, cost, least_is, room_is)) e.mother.0 e.daughter.0 place.mother place
-          (subst (λ i. Has box (_) i) rule.says.1 (subst (λ i. Has box i v) rule.says.0 remains)) rule.free)
+      let e = rule.place in
+      let place = is_place parts e rule.is in
+      let label_in = label_below parts e place in
+      let label_small = small e.dim.0 in
+      let dim_in = place.dim in
+      let cost = costs_are e.dim.0 e.label.0 (omega (arith, dim_in, few)) (omega (arith, label_in, label_small)) in
+      let reaches = rule.reaches in
+      done e.dim.0 dim_in e.label.0 label_in (omega (arith, reaches, cost, least_is, room_is)) e.mother.0 e.daughter.0 place.mother place
+      (subst (λ i. Has box (_) i) rule.says.1 (subst (λ i. Has box i v) rule.says.0 remains)) rule.free)

@@ -73,20 +73,21 @@ fn forbid_on(
 }
 
 /// Takes the edges that need not be and cost so much.
-fn forbid_dear(
-    store: &mut Store,
-    pass: &mut Pass,
-    group: &Group,
-    rows: &[[u32; 32]; 8],
-    room: u64,
-)
+fn forbid_dear(store: &mut Store, pass: &mut Pass, group: &Group, rows: &[[u32; 32]; 8], room: u64)
     requires known { Known store.old }
     requires group { IsGroup store.old.parts group.now }
     requires takes { (dim label : ℕ) → dim < length store.old.parts.dims → label < edge_labels store.old.parts dim → Dear (slice_index_or rows.now dim []) room label → TakesFree store.old.parts group.now store.old.now dim label }
     ensures { Sweeps group.now (OfDims rows.now room (length store.old.parts.dims) store.old.parts) pass.old store.old pass.new store.new }
 {
     for dim in 0..store.problem().parts().dims.len() as u8 {
-        forbid_on(store, pass, group, DimId(dim), &rows[usize::from(dim)], room);
+        forbid_on(
+            store,
+            pass,
+            group,
+            DimId(dim),
+            &rows[usize::from(dim)],
+            room,
+        );
     }
 }
 
@@ -154,7 +155,14 @@ impl Propagator for CostProp {
         let parts = store.problem().parts();
         let group = &parts.groups.as_slice()[self.number];
         let mut pass = Pass::start();
-        sweep(store, &mut pass, group, &self.entries, &self.labels, self.bound);
+        sweep(
+            store,
+            &mut pass,
+            group,
+            &self.entries,
+            &self.labels,
+            self.bound,
+        );
         pass.moved()
     }
 

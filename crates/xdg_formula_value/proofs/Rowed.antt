@@ -25,9 +25,9 @@ row_more true care still P Q R old part new first open_is second is like v withi
 row_more false care still P Q R old part new first open_is second is like v within = elim (cases_Bool (has old v)) [
   | inl there ↦ (λ h. (like v).0 (inl ((first v within).0 there)), λ r. (is v).1 (inl there))
   | inr off ↦ (let here = second v (open_is v ∙ and_from (has care v) (not (has old v)) within (not_from_false (has old v) off)) in (
-      λ h. elim ((is v).0 h) [ inl old_has ↦ absurd (both_ways (has old v) off old_has) | inr part_has ↦ (like v).0 (inr (here.0 part_has)) ],
-      λ r. elim ((like v).1 r) [ inl p ↦ (is v).1 (inl ((first v within).1 p)) | inr q ↦ (is v).1 (inr (here.1 q)) ],
-    ))
+    λ h. elim ((is v).0 h) [ inl old_has ↦ absurd (both_ways (has old v) off old_has) | inr part_has ↦ (like v).0 (inr (here.0 part_has)) ],
+    λ r. elim ((like v).1 r) [ inl p ↦ (is v).1 (inl ((first v within).1 p)) | inr q ↦ (is v).1 (inr (here.1 q)) ],
+  ))
 ]
 
 -- what is still open is among the first nodes

@@ -50,14 +50,7 @@ fn is_only(store: &Store, node: NodeId, dim: DimId, attr: AttrId, value: u16) ->
 }
 
 /// Whether each value of a node's attribute that remains is this one, or none is.
-fn attr_told(
-    store: &Store,
-    node: NodeId,
-    dim: DimId,
-    attr: AttrId,
-    value: u16,
-    truth: bool,
-) -> bool
+fn attr_told(store: &Store, node: NodeId, dim: DimId, attr: AttrId, value: u16, truth: bool) -> bool
     requires { HasValue store.now.parts node.0 dim.0 attr.0 value }
     ensures exact { IsTrue result ↔ EachValue store.now.now (attr_decision store.now.parts dim.0 node.0 attr.0) (λ v. HasTruth truth (v ≡ value)) }
     ensures known { Known store.now }
@@ -88,14 +81,25 @@ pub(crate) fn attr_row(
     ensures row { IsRowOn care (λ v. EachValue look.now.now (attr_decision look.now.parts dim.0 (bound (stands binding.now) name v node) attr.0) (λ x. HasTruth truth (x ≡ value))) result }
 {
     if node != name {
-        return constant(attr_told(look.store(), node_of(binding, node), dim, attr, value, truth));
+        return constant(attr_told(
+            look.store(),
+            node_of(binding, node),
+            dim,
+            attr,
+            value,
+            truth,
+        ));
     }
     let mut row = NodeSet::empty();
     for one in 0..look.node_count() {
         if !care.contains(NodeId(one)) {
             continue;
         }
-        row = kept(row, one, attr_told(look.store(), NodeId(one), dim, attr, value, truth));
+        row = kept(
+            row,
+            one,
+            attr_told(look.store(), NodeId(one), dim, attr, value, truth),
+        );
     }
     row
 }
@@ -149,7 +153,11 @@ pub(crate) fn feat_row(
         if !care.contains(NodeId(one)) {
             continue;
         }
-        row = kept(row, one, entries_told(look.store(), NodeId(one), table, truth));
+        row = kept(
+            row,
+            one,
+            entries_told(look.store(), NodeId(one), table, truth),
+        );
     }
     row
 }

@@ -158,14 +158,28 @@ impl<'s, 'p> Look<'s, 'p> {
     {
         match way {
             Way::Down => {
-                fill(self.store, Way::Down, &mut self.below_known, &mut self.below_may, &mut self.below_must, dim);
+                fill(
+                    self.store,
+                    Way::Down,
+                    &mut self.below_known,
+                    &mut self.below_may,
+                    &mut self.below_must,
+                    dim,
+                );
                 match which {
                     Which::May => self.below_may[usize::from(dim.0)][usize::from(node.0)],
                     Which::Must => self.below_must[usize::from(dim.0)][usize::from(node.0)],
                 }
             }
             Way::Up => {
-                fill(self.store, Way::Up, &mut self.above_known, &mut self.above_may, &mut self.above_must, dim);
+                fill(
+                    self.store,
+                    Way::Up,
+                    &mut self.above_known,
+                    &mut self.above_may,
+                    &mut self.above_must,
+                    dim,
+                );
                 match which {
                     Which::May => self.above_may[usize::from(dim.0)][usize::from(node.0)],
                     Which::Must => self.above_must[usize::from(dim.0)][usize::from(node.0)],

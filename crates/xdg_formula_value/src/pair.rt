@@ -10,7 +10,7 @@ ghost use Rattle.xdg_formula_value.specs.Rows.{IsRow, stands};
 
 use crate::binding::node_of;
 use crate::look::Look;
-use crate::rows::{constant, kept, opposite, told};
+use crate::rows::{constant, kept, opposite, told, up_to};
 use crate::way::Way;
 use xdg_base::{DimId, LabelId, NodeId};
 use xdg_nodeset::NodeSet;
@@ -27,17 +27,6 @@ pub enum Pair {
     Left,
     /// Both are one.
     Same,
-}
-
-/// The nodes up to a node.
-fn up_to(node: NodeId) -> NodeSet
-    requires { node.0 < 128 }
-    ensures { (v : ℕ) → (has result v ≡ true) ↔ (v ≤ node.0) }
-{
-    let mut front = NodeSet::between(NodeId(0), node);
-    front.insert(NodeId(0));
-    front.insert(node);
-    front
 }
 
 /// The nodes before a node.

@@ -31,10 +31,10 @@ joining_edge edges dim u l v by =
     let e : Edge = found.0 in
     let on : e.dim.0 ≡ dim = eqb-true e.dim.0 dim (filter_contained (λ (f : Edge). f.dim.0 == dim) edges e found.1).1 in
     let is : e ≡ edge dim u l v =
-        ap (λ d. edge d e.mother.0 e.label.0 e.daughter.0) on
-        ∙ ap (λ m. edge dim m e.label.0 e.daughter.0) found.2.0
-        ∙ ap (λ k. edge dim u k e.daughter.0) found.2.1
-        ∙ ap (λ d. edge dim u l d) found.2.2 in
+    ap (λ d. edge d e.mother.0 e.label.0 e.daughter.0) on
+    ∙ ap (λ m. edge dim m e.label.0 e.daughter.0) found.2.0
+    ∙ ap (λ k. edge dim u k e.daughter.0) found.2.1
+    ∙ ap (λ d. edge dim u l d) found.2.2 in
     subst (Contains (edges_on dim edges)) is found.1
 
 module _ (parts : Parts) (box : List (List Bool)) (x : List ℕ) (problem : IsProblem parts) (is : IsBox (shape parts) box) (whole : length x ≡ length (shape parts)) (agrees : Agrees box x) where
