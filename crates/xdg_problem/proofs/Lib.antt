@@ -40,6 +40,8 @@ pub mod FitSteps
 pub mod OneToOne
 pub mod PlaceSteps
 pub mod ValueCounts
+pub mod BranchLists
+pub mod BranchTruths
 pub mod BranchParts
 pub mod BranchAsks
 pub mod BranchVectors
@@ -50,3 +52,4 @@ pub mod Bounded
 pub mod FurtherTruths
 pub mod FurtherUses
 pub mod FurtherLawful
+pub mod Turning
