@@ -18,7 +18,7 @@ part_of parts (f ∷ fs) zero d l all = all.0
 part_of parts (f ∷ fs) (suc i) d l all = part_of parts fs i d (omega (arith, l)) all.1
 
 -- one more of the first
-front_more : (fs : List Formula) (i : ℕ) (f : Formula) → i < length fs → f ≡ get_or fs i f → map claim (take (i + 1) fs) ≡ map claim (take i fs) ++ claim f ∷ []
+pub front_more : (fs : List Formula) (i : ℕ) (f : Formula) → i < length fs → f ≡ get_or fs i f → map claim (take (i + 1) fs) ≡ map claim (take i fs) ++ claim f ∷ []
 front_more fs i f l is = ap (map claim) (take_more fs i f l) ∙ map-append claim (take i fs) (get_or fs i f ∷ []) ∙ ap (λ g. map claim (take i fs) ++ claim g ∷ []) (sym is)
 
 module _ (parts : Parts) (box : List (List Bool)) (b : ℕ → ℕ) where

@@ -7,5 +7,6 @@ pub mod Fronts
 pub mod Formed
 pub mod Paired
 pub mod Ending
+pub mod Kinding
 pub mod Named
 pub mod Stepping

@@ -40,8 +40,12 @@ impl<'s, 'p> Model for Look<'s, 'p> {
     ghost use Rattle.xdg_formula_value.specs.Filling.{AreFilled};
     ghost use Rattle.xdg_formula_value.specs.Rows.{IsEvery};
     ghost use Rattle.xdg_formula_value.specs.declared.way.Way.TheVariants as ways;
+    ghost use Rattle.std.specs.Coded.{codes};
+    ghost use Rattle.xdg_problem.specs.contracts.formula.Formula as formula;
 
     ghost Value = { State };
+
+    ghost coded = { Prim.hlevel (codes, formula.the_row.coded) };
 
     ghost view = { λ look. look.store.now };
 
