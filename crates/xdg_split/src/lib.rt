@@ -5,6 +5,7 @@ mod answer;
 mod answering;
 mod job;
 mod kept;
+mod slots;
 
 pub use answer::Answer;
 pub use answering::answers;
