@@ -7,11 +7,16 @@ use Rattle.xdg_base.specs.declared.ids.EntryNo.{EntryNo}
 use Rattle.xdg_index.specs.Texts.{has_text, place_of}
 use Rattle.xdg_index.proofs.Texts.{place_of-None, place_of-Some}
 use Rattle.xdg_packed.specs.Lexicon.{word_of, words_of, numbers_of}
+use Rattle.xdg_problem.specs.declared.parts.DimPlan.{DimPlan}
+use Rattle.xdg_problem.specs.declared.parts.Group.{Group}
+use Rattle.xdg_problem.specs.declared.parts.Parts.{Parts}
 use Rattle.xdg_problem.specs.declared.parts.SentenceWord.{SentenceWord}
 use Rattle.xdg_groups.specs.declared.nodes.NodePlan.{NodePlan}
 use Rattle.xdg_groups.specs.Grammars.{Grammar}
+use Rattle.xdg_groups.specs.Groups.{groups_of}
 use Rattle.xdg_groups.specs.Nodes.{IsNodePlan, candidates_in}
-use Rattle.xdg_build.specs.Compiled.{candidates_of}
+use Rattle.xdg_build.specs.Compiled.{candidates_of, compiled}
+use Rattle.xdg_build.specs.Plans.{plans}
 use Rattle.xdg_build.specs.Stocks.{word_plan}
 use Rattle.xdg_build.proofs.Numbered.{each_below}
 
@@ -26,6 +31,11 @@ candidates_are g words again nodes same are = ap candidates_in are ∙ mapped g 
 
 pub each_plan : (g : Grammar) (words : List SentenceWord) (nodes : List NodePlan) → nodes ≡ map (λ word. word_plan g word.text) words → All (IsNodePlan g) nodes
 each_plan g words nodes are = subst (All (IsNodePlan g)) (sym are) (All-map (IsNodePlan g) (λ word. word_plan g word.text) words (λ k d within. refl))
+
+-- the problem that is made of the parts is the compiled one
+pub made_compiled : (g : Grammar) (words : List SentenceWord) (made : Parts) (candidates : List (List EntryNo)) (dims : List DimPlan) (groups : List Group) → made ≡ record { words = words; candidates = candidates; dims = dims; groups = groups }
+    → candidates ≡ candidates_of g words → dims ≡ plans g → groups ≡ groups_of g (candidates_of g words) → made ≡ compiled g words
+made_compiled g words made candidates dims groups is e f h = is ∙ (λ i. record { words = words; candidates = e i; dims = f i; groups = h i })
 
 -- ---- one word
 
@@ -45,8 +55,8 @@ found_plan g texts nodes word place node are found is =
     is ∙ ap (λ ns. get_or ns place node) are ∙ get_or-map (word_plan g) texts place [] node there.0 ∙ ap (word_plan g) there.1
 
 -- a new word comes behind the others, with its node
-pub grown : (g : Grammar) (texts after : List (List ℕ)) (nodes more : List NodePlan) (word : List ℕ) (node : NodePlan) (added : Bool) → nodes ≡ map (word_plan g) texts → None ≡ place_of texts word → node ≡ word_plan g word → more ≡ nodes ++ node ∷ []
+pub grown : (g : Grammar) (texts after : List (List ℕ)) (nodes more : List NodePlan) (word : List ℕ) (node : NodePlan) (added : Bool) → nodes ≡ map (word_plan g) texts → place_of texts word ≡ None → node ≡ word_plan g word → more ≡ nodes ++ node ∷ []
     → added ≡ not (has_text texts word) → after ≡ (if added then texts ++ word ∷ [] else texts) → more ≡ map (word_plan g) after
 grown g texts after nodes more word node added are unknown is pushed new told =
-    let behind : after ≡ texts ++ word ∷ [] = told ∙ ap (λ b. if b then texts ++ word ∷ [] else texts) (new ∙ ap not (place_of-None texts word (sym unknown))) in
+    let behind : after ≡ texts ++ word ∷ [] = told ∙ ap (λ b. if b then texts ++ word ∷ [] else texts) (new ∙ ap not (place_of-None texts word unknown)) in
     pushed ∙ ap (λ ns. ns ++ node ∷ []) are ∙ ap (λ n. map (word_plan g) texts ++ n ∷ []) is ∙ sym (map-append (word_plan g) texts (word ∷ [])) ∙ ap (map (word_plan g)) (sym behind)

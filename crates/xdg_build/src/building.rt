@@ -37,7 +37,10 @@ fn compile(
     ensures keeps { IfOk result (λ _. IsChecked checked.now) }
     ensures stock { OnOk result (IsStock (grammar_of checked.now packed.now) stock.new) }
 {
+    let _ = checked.principles();
     let nodes = stock.nodes_of(alloc, checked, packed, words.as_slice())?;
+    let candidates = candidates(alloc, nodes.as_slice())?;
+    let dims = stock.dims.share()?;
     let groups = over_nodes(
         alloc,
         checked,
@@ -47,8 +50,8 @@ fn compile(
     )?;
     Ok(Problem::of(Parts {
         words,
-        candidates: candidates(alloc, nodes.as_slice())?,
-        dims: stock.dims.share()?,
+        candidates,
+        dims,
         groups,
     }))
 }

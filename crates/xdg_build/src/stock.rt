@@ -1,9 +1,10 @@
 //! What the problems of a grammar share.
 
-ghost use Rattle.std.specs.Prelude.{◌≡◌, map, IfOk, OnOk};
+ghost use Rattle.std.specs.Prelude.{◌≡◌, None, map, IfOk, OnOk};
 ghost use Rattle.xdg_build.specs.Stocks.{IsStock, word_plan};
 ghost use Rattle.xdg_entries.specs.Entries.{IsRightLexicon};
 ghost use Rattle.xdg_groups.specs.Grammars.{grammar_of};
+ghost use Rattle.xdg_index.specs.Texts.{place_of};
 
 use crate::plans::plans;
 use std::alloc::{AllocError, Global};
@@ -59,9 +60,26 @@ impl Stock {
         ensures node { IfOk result (λ node. node ≡ word_plan (grammar_of checked.now packed.now) word.now) }
         ensures stock { OnOk result (IsStock (grammar_of checked.now packed.now) self.new) }
     {
-        if let Some(place) = self.words.find(word) {
-            return self.nodes.as_slice()[place].share();
+        match self.words.find(word) {
+            Some(place) => self.nodes.as_slice()[place].share(),
+            None => self.learn(alloc, checked, packed, word),
         }
+    }
+
+    /// What a node has by a word that comes for the first time.
+    fn learn(
+        &mut self,
+        alloc: Global,
+        checked: &Checked,
+        packed: &Packed,
+        word: &str,
+    ) -> Result<NodePlan, AllocError>
+        requires lexicon { IsRightLexicon checked.now.types packed.now.entries }
+        requires stock { IsStock (grammar_of checked.now packed.now) self.old }
+        requires first { place_of self.old.words word.now ≡ None }
+        ensures node { IfOk result (λ node. node ≡ word_plan (grammar_of checked.now packed.now) word.now) }
+        ensures stock { OnOk result (IsStock (grammar_of checked.now packed.now) self.new) }
+    {
         let numbers = packed.of_word(word);
         let node = plan_node(alloc, checked, packed, numbers, &mut self.records)?;
         self.nodes.push(node.share()?)?;
