@@ -40,9 +40,16 @@ pub mod FitSteps
 pub mod OneToOne
 pub mod PlaceSteps
 pub mod ValueCounts
+pub mod BranchLists
+pub mod BranchTruths
 pub mod BranchParts
 pub mod BranchAsks
 pub mod BranchVectors
 pub mod BranchSolutions
 pub mod BranchesJoined
 pub mod Claimed
+pub mod Bounded
+pub mod FurtherTruths
+pub mod FurtherUses
+pub mod FurtherLawful
+pub mod Turning

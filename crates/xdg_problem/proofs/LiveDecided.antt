@@ -113,8 +113,8 @@ decided_use parts prefix group =
     (λ both. record { tests = each_tested truths n labels Q group.principle both.0; whole = both.1 })
     (λ live. (tested_each truths n labels Q group.principle live.tests, live.whole))
     (decided_both _ _
-      (decided_tests truths n labels Q (λ test. decided_from (Stands parts group test prefix) (Holds parts group test prefix) (decided_stands parts group test prefix) (decided_passes n group test (entry_in (entry_node test) prefix) (map (attr_in parts prefix) (test_attrs parts group test)) (filter (looks_at group test) (edges_in parts prefix)))) group.principle)
-      (decided_from _ _ (decided_most (length (shape parts)) (length prefix)) (decided_whole parts (entry_places parts.candidates analysis.entries) analysis.attrs analysis.edges group.principle)))
+    (decided_tests truths n labels Q (λ test. decided_from (Stands parts group test prefix) (Holds parts group test prefix) (decided_stands parts group test prefix) (decided_passes n group test (entry_in (entry_node test) prefix) (map (attr_in parts prefix) (test_attrs parts group test)) (filter (looks_at group test) (edges_in parts prefix)))) group.principle)
+    (decided_from _ _ (decided_most (length (shape parts)) (length prefix)) (decided_whole parts (entry_places parts.candidates analysis.entries) analysis.attrs analysis.edges group.principle)))
 
 pub live_decided : (parts : Parts) (prefix : List ℕ) → Live parts prefix ⊎ (Live parts prefix → ⊥)
 live_decided parts prefix = decided_all (λ group. IsLiveFor parts group prefix) parts.groups (decided_use parts prefix)

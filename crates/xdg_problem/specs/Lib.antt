@@ -21,6 +21,7 @@ pub mod Live
 pub mod Solutions
 pub mod Problems
 pub mod Laws
+pub mod Further
 pub mod Tries
 pub mod Names
 pub mod Boxes

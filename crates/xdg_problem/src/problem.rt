@@ -55,6 +55,14 @@ impl Problem {
         &self.parts
     }
 
+    /// The parts, given back.
+    pub(crate) fn into_parts(self) -> Parts
+        ensures same { result ≡ self }
+        ensures kept { IsProblem self }
+    {
+        self.parts
+    }
+
     /// How many decisions the sentence has: one for each node, attribute of a node, and place of an edge.
     pub fn decisions(&self) -> u64
         ensures { result ≡ length (shape self.now) }
