@@ -30,8 +30,12 @@ pub struct Job<P: Propagator> {
 
 impl<P: Propagator> Model for Job<P> {
     ghost use Rattle.xdg_split.specs.Asked.{Asked, IsJob, asked};
+    ghost use Rattle.std.specs.Coded.{codes};
+    ghost use Rattle.xdg_problem.specs.contracts.formula.Formula as formula;
 
     ghost Value = { Asked };
+
+    ghost coded = { Prim.hlevel (codes, formula.the_row.coded) };
 
     ghost view = { λ job. asked job.problem job.budget job.first };
 
