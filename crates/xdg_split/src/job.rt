@@ -57,6 +57,11 @@ impl<P: Propagator> Job<P> {
         }
     }
 
+    /// How many decisions the sentence has.
+    pub(crate) fn decisions(&self) -> u64 {
+        self.problem.decisions()
+    }
+
     /// Searches the sentence and keeps what is printed. The memory of the search is given back when it has ended.
     pub(crate) fn answer(&self, alloc: Global) -> Result<Answer, OutOfMemory>
         ensures { IfOk result (λ answer. IsAnswer self.now answer) }
