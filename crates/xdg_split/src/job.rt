@@ -106,8 +106,13 @@ impl<P: Propagator> Job<P> {
         ensures { IfOk result (λ found. IsSplit self.now.first (self.now ∷ []) found.ending found.found.items) }
     {
         let _parts = self.problem.parts();
-        let mut stream =
-            Stream::start(alloc, &self.problem, self.props.as_slice(), self.budget, None)?;
+        let mut stream = Stream::start(
+            alloc,
+            &self.problem,
+            self.props.as_slice(),
+            self.budget,
+            None,
+        )?;
         find(alloc, &mut stream, self.first)
     }
 }
