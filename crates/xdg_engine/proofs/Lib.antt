@@ -1,1 +1,5 @@
 pub mod Ordering
+pub mod Leasts
+pub mod Summed
+pub mod Freed
+pub mod Bounded

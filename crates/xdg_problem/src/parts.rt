@@ -1,5 +1,7 @@
 //! The parts of a compiled sentence.
 
+use crate::costs::Costs;
+use crate::formula::Formula;
 use crate::numbers::Nums;
 use crate::shared::SharedList;
 use xdg_base::{AttrId, DimId, EntryNo, LabelId, List, Text};
@@ -45,7 +47,7 @@ pub struct Feat {
 
 /// A principle (Debusmann 2006, chapters 4 and 7). D is its dimension, D1 and D2 are its first and second one; u and v are
 /// nodes, and u -l-> v is an edge with label l from u to v. A set that belongs to a node is a feature of its entry.
-#[derive(Clone, Copy, Debug, PartialEq, Eq)]
+#[derive(Debug, Drop)]
 pub enum Principle {
     /// D has edges. This alone asks nothing more.
     Graph,
@@ -85,6 +87,10 @@ pub enum Principle {
     LinkingSisters,
     /// A daughter v of u on D1 is no daughter of u on D2, at the labels that u names.
     LinkingNotDaughter,
+    /// The formula of a user is true. No grammar text uses it.
+    Rule(Formula),
+    /// The cost is below a bound. No grammar text uses it.
+    Bound(Costs, u64),
 }
 
 /// One use of a principle, with its dimensions and arguments in the order in which the principle names them (the page
