@@ -98,7 +98,7 @@ fn over(alloc: Global, place: usize, nodes: &[NodePlan], group: &Group) -> Resul
     ensures { IfOk result (λ made. made ≡ spec.over place nodes.now group.now) }
 {
     Ok(Group {
-        principle: group.principle,
+        principle: group.principle.copy(alloc)?,
         dims: List::from_slice(alloc, group.dims.as_slice())?,
         attrs: List::from_slice(alloc, group.attrs.as_slice())?,
         order: List::from_slice(alloc, group.order.as_slice())?,
