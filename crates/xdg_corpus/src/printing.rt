@@ -2,12 +2,10 @@
 
 ghost use Rattle.std.specs.Prelude.{◌≡◌, ◌≢◌, ◌≤◌, ◌⊎◌, ℕ, List, length};
 ghost use Rattle.xdg_corpus.specs.Outcomes.{AreSearched};
-ghost use Rattle.xdg_build.specs.Stocks.{IsStock};
 ghost use Rattle.xdg_corpus.specs.Texts.{CanSearch};
 ghost use Rattle.xdg_entries.specs.Entries.{IsRightLexicon};
 ghost use Rattle.xdg_grammar.specs.Answers.{meaning_of};
 ghost use Rattle.xdg_grammar.specs.Packed.{IsPackedOf};
-ghost use Rattle.xdg_groups.specs.Grammars.{grammar_of};
 ghost use Rattle.xdg_io.specs.Rose.{Rose};
 ghost use Rattle.xdg_corpus.specs.Runs.{LeavesPart};
 
@@ -24,15 +22,14 @@ use xdg_packed::Packed;
 use xdg_split::answers;
 
 /// Prints the lines of a text: groups of lines, one after the other. The lines of a group are searched side by side, and their texts are
-/// written in order before the next group begins, so no more than its searches take memory at once. What their problems share is taken
-/// from a stock of the grammar.
+/// written in order before the next group begins, so no more than its searches take memory at once. What their problems share is made
+/// once.
 pub(crate) fn print_lines<R: Threads + Sync, K: Sink>(
     rt: &R,
     alloc: Global,
     options: &CorpusOptions,
     expanded: &Expanded,
     packed: &Packed,
-    mut stock: Stock,
     text: &str,
     out: &mut K,
 ) -> Status
@@ -40,13 +37,15 @@ pub(crate) fn print_lines<R: Threads + Sync, K: Sink>(
     requires lexicon { IsRightLexicon expanded.now.checked.types expanded.now.entries }
     requires packed { IsPackedOf expanded.now packed.now }
     requires range { CanSearch options.now }
-    requires stock { IsStock (grammar_of expanded.now.checked packed.now) stock }
     ensures leaves { LeavesPart (AreSearched options.now (meaning_of expanded.now) text.now) result (K.held out.old) (K.held out.new) }
     ensures write_fault { result ≡ Status.WriteFault → Rose (K.faults out.old) (K.faults out.new) }
     ensures out_lasting { K.faults out.old ≤ K.faults out.new }
     ensures out_quiet { result ≢ Status.WriteFault → K.faults out.new ≡ K.faults out.old }
     ensures ends { (result ≡ Status.Done) ⊎ ((result ≡ Status.WriteFault) ⊎ (result ≡ Status.OutOfMemory)) }
 {
+    let Ok(mut stock) = Stock::new(alloc, &expanded.checked, packed) else {
+        return Status::OutOfMemory;
+    };
     let mut number: u64 = 1;
     let mut rest = text;
     while !rest.is_empty() {
