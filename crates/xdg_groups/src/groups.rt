@@ -75,7 +75,7 @@ fn compile_use(
 {
     let used = checked.types().used();
     let principle = principle_called(one.principle.as_str());
-    let dim = feature_place(used, principle, one.dims.as_slice());
+    let dim = feature_place(used, &principle, one.dims.as_slice());
     let args = one.args.as_slice();
     let places = feature_places(alloc, args)?;
     let feats = all_features(alloc, packed, dim, places.as_slice(), candidates)?;

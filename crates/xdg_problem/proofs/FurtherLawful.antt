@@ -97,8 +97,8 @@ rules_relations parts (formula ∷ formulas) analysis =
 pub rules_lawful : (parts : Parts) (formulas : List Formula) → IsProblem parts → All (Suits parts) formulas → FurtherLaws parts (rules_of parts formulas) (λ analysis. All (FormulaHolds parts analysis) formulas)
 rules_lawful parts formulas problem suit = lawful parts (rules_of parts formulas) (λ analysis. All (FormulaHolds parts analysis) formulas) problem (rules_are parts formulas problem suit) (λ analysis fits. rules_relations parts formulas analysis)
 
-pub rules_kept : (parts : Parts) (formulas : List Formula) → IsProblem parts → All (Suits parts) formulas → IsProblem (with_uses parts (rules_of parts formulas))
-rules_kept parts formulas problem suit = problem_still parts (rules_of parts formulas) problem (rules_are parts formulas problem suit)
+pub rules_problem : (self old made : Parts) (formulas : List Formula) → IsProblem self → All (Suits self) formulas → old ≡ self → made ≡ with_uses old (rules_of old formulas) → IsProblem made
+rules_problem self old made formulas problem suit same is = subst IsProblem (sym (is ∙ ap (λ (z : Parts). with_uses z (rules_of z formulas)) same)) (problem_still self (rules_of self formulas) problem (rules_are self formulas problem suit))
 
 -- a bound
 
@@ -114,5 +114,5 @@ bound_relations parts costs bound analysis fits =
 pub bound_lawful : (parts : Parts) (costs : CostLists) (bound : ℕ) → IsProblem parts → FurtherLaws parts (bound_of parts costs bound) (λ analysis. cost_of costs analysis < bound)
 bound_lawful parts costs bound problem = lawful parts (bound_of parts costs bound) (λ analysis. cost_of costs analysis < bound) problem (bound_are parts costs bound problem) (bound_relations parts costs bound)
 
-pub bound_kept : (parts : Parts) (costs : CostLists) (bound : ℕ) → IsProblem parts → IsProblem (with_uses parts (bound_of parts costs bound))
-bound_kept parts costs bound problem = problem_still parts (bound_of parts costs bound) problem (bound_are parts costs bound problem)
+pub bound_problem : (self old made : Parts) (costs : CostLists) (bound : ℕ) → IsProblem self → old ≡ self → made ≡ with_uses old (bound_of old costs bound) → IsProblem made
+bound_problem self old made costs bound problem same is = subst IsProblem (sym (is ∙ ap (λ (z : Parts). with_uses z (bound_of z costs bound)) same)) (problem_still self (bound_of self costs bound) problem (bound_are self costs bound problem))

@@ -52,3 +52,4 @@ pub mod Bounded
 pub mod FurtherTruths
 pub mod FurtherUses
 pub mod FurtherLawful
+pub mod Turning

@@ -233,7 +233,7 @@ fn branch_group(alloc: Global, group: &Group, place: usize) -> Result<Group, All
     ensures { IfOk result (λ made. made ≡ spec.branch_group place group.now) }
 {
     Ok(Group {
-        principle: group.principle.copy(alloc)?,
+        principle: group.principle.branch(alloc, place)?,
         dims: List::from_slice(alloc, group.dims.as_slice())?,
         attrs: List::from_slice(alloc, group.attrs.as_slice())?,
         order: List::from_slice(alloc, group.order.as_slice())?,

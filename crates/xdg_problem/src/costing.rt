@@ -39,7 +39,6 @@ fn edges_cost(costs: &Costs, edges: &[Edge]) -> u64
 }
 
 /// What an analysis costs: its entries and its edges.
-#[tactic(auto, using(crate::proofs::Bounded::entries_few, crate::proofs::Bounded::edges_few))]
 pub fn cost_of(parts: &Parts, costs: &Costs, analysis: &Analysis) -> u64
     requires problem { IsProblem parts.now }
     requires fits { IsAnalysis parts.now analysis.now }

@@ -1,14 +1,14 @@
 //! Problems with a bound on costs.
 
-ghost use Rattle.std.specs.Prelude.{◌≡◌, IfOk};
+ghost use Rattle.std.specs.Prelude.{◌≡◌, IfOk, OnOk};
 ghost use Rattle.xdg_problem.specs.Further as further;
 
 use crate::copying::copy_parts;
 use crate::costs::Costs;
-use crate::parts::Principle;
+use crate::parts::{Parts, Principle};
 use crate::problem::Problem;
 use crate::uses::{no_features, use_of};
-use std::alloc::Global;
+use std::alloc::{AllocError, Global};
 use xdg_base::OutOfMemory;
 
 impl Problem {
@@ -18,21 +18,21 @@ impl Problem {
     /// # Errors
     ///
     /// Fails where memory runs out.
-    #[tactic(auto, using(crate::proofs::FurtherLawful::bound_kept))]
-    pub fn with_bound(
-        &self,
-        alloc: Global,
-        costs: &Costs,
-        bound: u64,
-    ) -> Result<Problem, OutOfMemory>
+    pub fn with_bound(&self, alloc: Global, costs: &Costs, bound: u64) -> Result<Problem, OutOfMemory>
         ensures { IfOk result (λ made. made ≡ further.with_uses self.now (further.bound_of self.now costs.now bound)) }
     {
         let mut parts = copy_parts(alloc, self.parts())?;
-        let feats = no_features(alloc, parts.candidates.as_slice())?;
-        let principle = Principle::Bound(costs.copy(alloc)?, bound);
-        parts
-            .groups
-            .push(use_of(alloc, feats.as_slice(), principle)?)?;
+        add_bound(alloc, &mut parts, costs, bound)?;
         Ok(Problem::of(parts))
     }
+}
+
+/// Adds a bound.
+#[tactic(auto, using(crate::proofs::Turning::bound_placed))]
+fn add_bound(alloc: Global, parts: &mut Parts, costs: &Costs, bound: u64) -> Result<(), AllocError>
+    ensures { OnOk result (parts.new ≡ further.with_uses parts.old (further.bound_of parts.old costs.now bound)) }
+{
+    let feats = no_features(alloc, parts.candidates.as_slice())?;
+    let principle = Principle::Bound(costs.copy(alloc)?, bound);
+    parts.groups.push(use_of(alloc, feats.as_slice(), principle)?)
 }

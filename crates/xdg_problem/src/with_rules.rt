@@ -6,7 +6,7 @@ ghost use Rattle.xdg_problem.specs.Claims.{Suits};
 ghost use Rattle.xdg_problem.specs.Further as further;
 
 use crate::formula::Formula;
-use crate::parts::{Feat, Group, Principle};
+use crate::parts::{Feat, Group, Parts, Principle};
 use crate::problem::Problem;
 use crate::shared::SharedList;
 use crate::uses::{no_features, use_of};
@@ -20,20 +20,28 @@ impl Problem {
     /// # Errors
     ///
     /// Fails where memory runs out, and then drops the problem.
-    #[tactic(auto, using(crate::proofs::FurtherLawful::rules_kept))]
     pub fn with_rules(self, alloc: Global, formulas: List<Formula>) -> Result<Problem, OutOfMemory>
         requires { All (Suits self) formulas }
         ensures { IfOk result (λ made. made ≡ further.with_uses self (further.rules_of self formulas)) }
     {
         let mut parts = self.into_parts();
-        let feats = no_features(alloc, parts.candidates.as_slice())?;
-        let mut uses = rules_turned(alloc, feats.as_slice(), formulas)?;
-        move_turned(&mut uses, &mut parts.groups)?;
+        add_rules(alloc, &mut parts, formulas)?;
         Ok(Problem::of(parts))
     }
 }
 
+/// Adds a rule for each formula.
+#[tactic(auto, using(crate::proofs::Turning::rules_placed))]
+fn add_rules(alloc: Global, parts: &mut Parts, formulas: List<Formula>) -> Result<(), AllocError>
+    ensures { OnOk result (parts.new ≡ further.with_uses parts.old (further.rules_of parts.old formulas)) }
+{
+    let feats = no_features(alloc, parts.candidates.as_slice())?;
+    let mut uses = rules_turned(alloc, feats.as_slice(), formulas)?;
+    move_turned(&mut uses, &mut parts.groups)
+}
+
 /// The uses of rules, the last formula's first.
+#[tactic(auto, using(crate::proofs::Turning::rule_more, crate::proofs::Turning::rule_end))]
 fn rules_turned(
     alloc: Global,
     feats: &[SharedList<List<Feat>>],
@@ -50,6 +58,7 @@ fn rules_turned(
 }
 
 /// Moves principle uses behind others, the last first.
+#[tactic(auto, using(crate::proofs::Turning::move_more, crate::proofs::Turning::move_end))]
 fn move_turned(uses: &mut List<Group>, groups: &mut List<Group>) -> Result<(), AllocError>
     ensures { OnOk result (groups.new ≡ groups.old ++ reverse uses.old) }
 {
