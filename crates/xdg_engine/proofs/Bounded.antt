@@ -5,7 +5,7 @@ use Rattle.xdg_problem.specs.declared.parts.Group.{Group}
 use Rattle.xdg_problem.specs.declared.parts.Parts.{Parts}
 use Rattle.xdg_problem.specs.declared.parts.Principle.{Principle}
 use Rattle.xdg_problem.specs.declared.parts.Principle.TheVariants as principles
-use Rattle.xdg_problem.specs.Boxes.{Has}
+use Rattle.xdg_problem.specs.Boxes.{Has, edge_decision}
 use Rattle.xdg_problem.specs.Costs.{CostLists, label_cost}
 use Rattle.xdg_problem.specs.Places.{edge, nodes}
 use Rattle.xdg_problem.specs.Problems.{IsProblem}
@@ -46,5 +46,6 @@ module _ (parts : Parts) (group : Group) (costs : CostLists) (bound : ℕ) (prob
       let dim_in = place.dim in
       let cost = costs_are e.dim.0 e.label.0 (omega (arith, dim_in, few)) (omega (arith, label_in, label_small)) in
       let reaches = rule.reaches in
-      done e.dim.0 dim_in e.label.0 label_in (omega (arith, reaches, cost, least_is, room_is)) e.mother.0 e.daughter.0 place.mother place
-      (subst (λ i. Has box (_) i) rule.says.1 (subst (λ i. Has box i v) rule.says.0 remains)) rule.free)
+      let k : ℕ = edge_decision parts e in
+      let present : Has box k 0 = subst (λ j. Has box k j) rule.says.1 (subst (λ j. Has box j v) rule.says.0 remains) in
+      done e.dim.0 dim_in e.label.0 label_in (omega (arith, reaches, cost, least_is, room_is)) e.mother.0 e.daughter.0 place.mother place present rule.free)

@@ -34,8 +34,7 @@ told dim m label e on mother label_is = ap (λ k. edge k e.mother.0 e.label.0 e.
 abbrev pub NoneOut : ℕ → ℕ → ℕ → Parts → List (List Bool) → Type 0
 NoneOut dim label m parts box = (x : ℕ) → IsPlace parts (edge dim m label x) → Has box (edge_decision parts (edge dim m label x)) 0 → Has box (edge_decision parts (edge dim m label x)) 1 → ⊥
 
-module _ (group : Group) (dim label m : ℕ) (mid : State) (must : List ℕ) (known : Known mid) (is : IsGroup mid.parts group) (takes : TakesFree mid.parts group mid.now dim label)
-    (exact : (x : ℕ) → IsTrue (sets.has must x) ↔ IsDaughterBy (edges_of whichs.Must mid.parts mid.now dim) m label x) where
+module _ (group : Group) (dim label m : ℕ) (mid : State) (must : List ℕ) (known : Known mid) (is : IsGroup mid.parts group) (takes : TakesFree mid.parts group mid.now dim label) (exact : (x : ℕ) → IsTrue (sets.has must x) ↔ IsDaughterBy (edges_of whichs.Must mid.parts mid.now dim) m label x) where
   abbrev k : ℕ → ℕ
   k x = edge_decision mid.parts (edge dim m label x)
 

@@ -3,3 +3,5 @@ pub mod Leasts
 pub mod Summed
 pub mod Freed
 pub mod Bounded
+pub mod BoundNamed
+pub mod BoundStepping

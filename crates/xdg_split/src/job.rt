@@ -1,6 +1,7 @@
 //! Jobs.
 
 ghost use Rattle.std.specs.Prelude.{◌≡◌, [], ◌∷◌, IfOk};
+ghost use Rattle.xdg_analyses.specs.Written.{IsSome};
 ghost use Rattle.xdg_problem.specs.Problems.{IsProblem};
 ghost use Rattle.xdg_split.specs.Answers.{IsAnswer};
 ghost use Rattle.xdg_split.specs.Asked.{IsJob, asked};
@@ -89,7 +90,8 @@ impl<P: Propagator> Job<P> {
 
     /// How many analyses are wanted, or all.
     pub(crate) fn first(&self) -> Option<u64>
-        ensures { result ≡ self.now.first }
+        ensures is { result ≡ self.now.first }
+        ensures some { IsSome result }
     {
         self.first
     }
