@@ -1,7 +1,7 @@
 use Rattle.std.proofs.Common.{arith, sym, subst, ◌+◌}
 use Rattle.xdg_store.specs.Change.{Removes}
 use Rattle.xdg_store.specs.declared.change.Change.TheVariants as changes
-use Rattle.xdg_stream.specs.Decisions.{number_of}
+use Rattle.xdg_store.specs.Decisions.{number_of}
 use Rattle.xdg_stream.proofs.Restricting.{Restricting, restrict_same, restrict_changed, restrict_done}
 use Rattle.xdg_stream.proofs.narrowing.restrict.Goals as goal
 use Rattle.xdg_stream.proofs.narrowing.restrict.Goals.{in-Same, in-Changed}
