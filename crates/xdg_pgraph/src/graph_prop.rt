@@ -1,13 +1,13 @@
 //! The propagator.
 
 ghost use Rattle.std.specs.Prelude.{◌≡◌, ◌<◌, ◌+◌, ◌-◌, ◌^◌, ◌↔◌, ℕ, Bool, List, IfOk, length, min};
+ghost use Rattle.xdg_propcore.specs.Kinds.{AreNamed};
 ghost use Rattle.xdg_problem.specs.declared.parts.Parts.{Parts as Sentence};
 ghost use Rattle.xdg_problem.specs.declared.parts.Principle.TheVariants as principles;
 ghost use Rattle.xdg_problem.specs.Arguments.{first_dim};
 ghost use Rattle.xdg_problem.specs.Problems.{IsGroup};
 ghost use Rattle.xdg_rules.specs.Rules.{IsClosedFor};
 ghost use Rattle.xdg_store.specs.States.{Known};
-ghost use Rattle.xdg_propcore.specs.Kinds.{AreNamed};
 ghost use Rattle.xdg_propcore.specs.Standing.{Held, HeldIf};
 ghost use Rattle.xdg_propcore.specs.Steps.{Extends, Keeps, Moves};
 ghost use Rattle.xdg_propcore.specs.Sweeps.{Sweeps};

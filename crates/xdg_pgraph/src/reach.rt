@@ -1,15 +1,14 @@
 //! What paths along edges that must be lead to.
 
-ghost use Rattle.std.specs.Prelude.{◌≡◌, ◌↔◌, ◌⊎◌, ℕ, ◌<◌, ◌≤◌, true, IsTrue};
-ghost use Rattle.xdg_judge.specs.Links.{In, IsClosure};
+ghost use Rattle.std.specs.Prelude.{◌≡◌, ◌↔◌, ◌<◌, true, IsTrue};
+ghost use Rattle.xdg_judge.specs.Links.{In};
 ghost use Rattle.xdg_nodeset.specs.Nodes.{has};
-ghost use Rattle.xdg_problem.specs.Paths.{Above};
 ghost use Rattle.xdg_propcore.specs.Passes.{Clears};
-ghost use Rattle.xdg_rules.specs.Rules.{NoCycle, must_edges};
+ghost use Rattle.xdg_rules.specs.Rules.{NoCycle};
 ghost use Rattle.xdg_store.specs.States.{Known};
 ghost use Rattle.xdg_pgraph.specs.Planes.{IsPlane};
 ghost use Rattle.xdg_pgraph.specs.Ruling.{RunsFor};
-ghost use Rattle.xdg_pgraph.specs.Seeking.{Aims, BacksFrom, Backs, Steps};
+ghost use Rattle.xdg_pgraph.specs.Seeking.{Aims, BacksFrom};
 
 use crate::entered::entered_from;
 use crate::found::{Found, Which as Edges};

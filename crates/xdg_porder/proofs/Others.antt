@@ -1,5 +1,5 @@
 -- Nodes of which nothing was lost: there order takes no more than before.
-use Rattle.std.proofs.Common.{◌≡◌, ℕ, ◌<◌, ◌≤◌, ◌+◌, ◌||◌, inl, inr, Bool, true, false, List, [], ◌∷◌, length, refl, sym, ◌∙◌, ap, subst, arith}
+use Rattle.std.proofs.Common.{◌≡◌, ℕ, ◌<◌, ◌+◌, ◌||◌, inl, inr, Bool, true, false, List, [], ◌∷◌, length, refl, sym, ◌∙◌, ap, subst, arith}
 use Rattle.std.specs.Prelude.{◌==◌, slice_index_or}
 use Rattle.std.proofs.lemmas.Bool.{cases_Bool, cases_eq, eq-eqb, eqb-true}
 use Rattle.std.proofs.lemmas.List.{length-map}
@@ -20,8 +20,7 @@ use Rattle.xdg_propcore.specs.Passes.{Progress, IsQuiet}
 use Rattle.xdg_propcore.specs.Sweeps.{Sweeps}
 use Rattle.xdg_propcore.specs.Touching.{HasTouched}
 use Rattle.xdg_propcore.specs.declared.touched.Touched.{Touched}
-use Rattle.xdg_porder.specs.Items.{AreEarlierDone, AreMothersDone, AreOthersDone, IsAtNode, IsLeftDone, IsRightDone, MayStand, MustStand, edge_to, label_at}
-use Rattle.xdg_porder.proofs.Looping.{AreBelow}
+use Rattle.xdg_porder.specs.Items.{AreEarlierDone, AreMothersDone, AreOthersDone, IsAtNode, MayStand, MustStand, edge_to, label_at}
 use Rattle.xdg_porder.proofs.Pairing.{IsWrong, at_comes, items_go}
 
 -- ---- where the box is closed nothing is left

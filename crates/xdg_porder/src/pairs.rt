@@ -1,6 +1,6 @@
 //! What order takes, pair of labels by pair of labels.
 
-ghost use Rattle.std.specs.Prelude.{◌≡◌, ◌<◌, ◌+◌, length};
+ghost use Rattle.std.specs.Prelude.{◌<◌, ◌+◌, length};
 ghost use Rattle.xdg_problem.specs.Places.{nodes};
 ghost use Rattle.xdg_propcore.specs.Passes.{IsQuiet};
 ghost use Rattle.xdg_propcore.specs.Sweeps.{Sweeps};

@@ -1,12 +1,12 @@
 -- Boxes of the history on which propagators were still.
-use Rattle.std.proofs.Common.{◌≡◌, ◌≢◌, ℕ, ◌<◌, ◌+◌, inl, inr, Bool, List, [], Option, Some, None, All, length, get_or, set, refl, ap, sym, ◌∙◌, arith, subst, length-append, length-set}
+use Rattle.std.proofs.Common.{◌≡◌, ℕ, ◌<◌, ◌+◌, inl, inr, Bool, List, [], Option, Some, None, All, length, get_or, set, ap, sym, ◌∙◌, arith, subst, length-append, length-set}
 use Rattle.std.proofs.lemmas.Bool.{cases_eq}
 use Rattle.std.proofs.lemmas.List.{get_or_append_left, get_or_default, get_or-set_same, get_or-set_other}
 use Rattle.xdg_problem.specs.declared.parts.Parts.{Parts}
 use Rattle.xdg_problem.specs.Boxes.{IsBox, LiesIn}
 use Rattle.xdg_problem.specs.Vectors.{shape}
 use Rattle.xdg_store.specs.States.{State, Known}
-use Rattle.xdg_propcore.specs.Standing.{AreHeld, Held, HeldIf, WereStill, box_at}
+use Rattle.xdg_propcore.specs.Standing.{AreHeld, Held, box_at}
 use Rattle.xdg_propcore.specs.Steps.{Extends}
 
 module _ (still : Parts → List (List Bool) → Type 0) where

@@ -16,7 +16,6 @@ use Rattle.xdg_propcore.specs.Kinds.{kind_of}
 use Rattle.xdg_propcore.specs.Losses.{Loses, LosesOutside, lost_count, woken_count, wakers}
 use Rattle.xdg_propcore.specs.Steps.{Extends, Keeps, KeepsBoxes}
 use Rattle.xdg_propcore.specs.Uses.{IsClosedBy, StandsFor, StandsIn}
-use Rattle.xdg_propcore.specs.declared.wake.Wake.{Wake}
 use Rattle.xdg_propcore.specs.declared.moved.Moved.{Moved}
 use Rattle.xdg_propcore.specs.declared.moved.Moved.TheVariants as moves
 use Rattle.xdg_propcore.proofs.Losses.{weight_from, balance, lost_one, apart, hits, hits_within, woken_within}

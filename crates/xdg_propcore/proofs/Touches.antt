@@ -1,11 +1,13 @@
 -- The nodes of the decisions that have lost values.
-use Rattle.std.proofs.Common.{◌≡◌, ◌≢◌, ℕ, ◌<◌, ◌≤◌, ◌+◌, ◌-◌, ◌*◌, inl, inr, Bool, true, false, IsTrue, List, [], ◌∷◌, Contains, length, get_or, set, cond, refl, ap, sym, ◌∙◌, arith, subst}
-use Rattle.std.specs.Prelude.{◌==◌, ◌||◌, nat_lt}
+use Rattle.std.proofs.Common.{◌≡◌, ℕ, ◌<◌, ◌≤◌, ◌+◌, ◌-◌, ◌*◌, inl, inr, Bool, true, false, List, [], Contains, length, get_or, set, replicate, cond, refl, ap, sym, ◌∙◌, arith, subst}
+use Rattle.std.specs.Prelude.{◌==◌, ◌||◌}
 use Rattle.std.specs.Int.{bit_at}
-use Rattle.std.proofs.lemmas.Bool.{cases_eq, cases_lt, eq-eqb}
+use Rattle.std.proofs.lemmas.Bool.{cases_eq, cases_lt, eq-eqb, le-ltb, lt-ltb}
+use Rattle.std.proofs.lemmas.Nat.Bits.{bit_at_ones}
 use Rattle.std.proofs.lemmas.Nat.{row_fits}
-use Rattle.std.proofs.lemmas.List.{get_or_default, get_or-set_same, get_or-set_other}
+use Rattle.std.proofs.lemmas.List.{get_or_default, get_or-replicate, get_or-set_same, get_or-set_other}
 use Rattle.xdg_nodeset.specs.Nodes.{has}
+use Rattle.xdg_nodeset.specs.Words.{in_words}
 use Rattle.xdg_problem.specs.declared.analysis.Edge.{Edge}
 use Rattle.xdg_problem.specs.declared.parts.Parts.{Parts}
 use Rattle.xdg_problem.specs.Analyses.{IsPlace}
@@ -19,8 +21,7 @@ use Rattle.xdg_store.specs.Naming.{Names}
 use Rattle.xdg_store.specs.declared.decision.Decision.{Decision}
 use Rattle.xdg_store.specs.declared.decision.Decision.TheVariants as decisions
 use Rattle.xdg_store.proofs.Located.{place_found}
-use Rattle.xdg_propcore.specs.Kinds.{entry_kind, attr_kind, edge_kind, kind_of}
-use Rattle.xdg_propcore.specs.Losses.{IsLost}
+use Rattle.xdg_propcore.specs.Kinds.{kind_of}
 use Rattle.xdg_propcore.specs.Touching.{Grows, HasTouched, InTable, IsSmall, Marks, MarksEdge}
 use Rattle.xdg_propcore.specs.declared.touched.Touched.{Touched}
 use Rattle.xdg_propcore.proofs.DecisionKinds.{kind_of_attr, kind_of_edge, kind_of_entry}
@@ -35,15 +36,31 @@ or_there : (a b : Bool) → b ≡ true → (a || b) ≡ true
 or_there true b h = refl
 or_there false b h = h
 
-module _ (table : List (List ℕ)) (at node : ℕ) (set' : List ℕ) (within : at < length table) (members : (n : ℕ) → has set' n ≡ ((n == node) || has (get_or table at []) n)) where
-  pub inserted_here : InTable (set table at set') at node
-  inserted_here = subst (λ s. has s node ≡ true) (sym (get_or-set_same table at set' [] within)) (members node ∙ or_here (node == node) (has (get_or table at []) node) (eq-eqb node node refl))
+pub with_here : (nodes more : List ℕ) (node : ℕ) → ((n : ℕ) → has more n ≡ ((n == node) || has nodes n)) → has more node ≡ true
+with_here nodes more node members = members node ∙ or_here (node == node) (has nodes node) (eq-eqb node node refl)
 
-  pub inserted_stays : (l n : ℕ) → InTable table l n → InTable (set table at set') l n
-  inserted_stays l n h = elim (cases_eq l at) [
-    | inl q ↦ subst (λ i. InTable (set table at set') i n) (sym q) (subst (λ s. has s n ≡ true) (sym (get_or-set_same table at set' [] within)) (members n ∙ or_there (n == node) (has (get_or table at []) n) (subst (λ i. InTable table i n) q h)))
-    | inr f ↦ subst (λ s. has s n ≡ true) (sym (get_or-set_other table at l set' [] f)) h
-  ]
+pub with_stays : (nodes more : List ℕ) (node : ℕ) → ((n : ℕ) → has more n ≡ ((n == node) || has nodes n)) → (n : ℕ) → has nodes n ≡ true → has more n ≡ true
+with_stays nodes more node members n h = members n ∙ or_there (n == node) (has nodes n) h
+
+pub entry_here : (table : List (List ℕ)) (at node : ℕ) (more : List ℕ) → at < length table → has more node ≡ true → InTable (set table at more) at node
+entry_here table at node more within h = subst (λ s. has s node ≡ true) (sym (get_or-set_same table at more [] within)) h
+
+pub entry_stays : (table : List (List ℕ)) (at : ℕ) (nodes more : List ℕ) → at < length table → nodes ≡ get_or table at [] → ((n : ℕ) → has nodes n ≡ true → has more n ≡ true) → (l n : ℕ) → InTable table l n → InTable (set table at more) l n
+entry_stays table at nodes more within is stays l n h = elim (cases_eq l at) [
+  | inl q ↦ subst (λ i. InTable (set table at more) i n) (sym q) (subst (λ s. has s n ≡ true) (sym (get_or-set_same table at more [] within)) (stays n (subst (λ s. has s n ≡ true) (sym is) (subst (λ i. InTable table i n) q h))))
+  | inr f ↦ subst (λ s. has s n ≡ true) (sym (get_or-set_other table at l more [] f)) h
+]
+
+-- ---- all nodes
+
+pub words_all : (set : List ℕ) → ((n : ℕ) → has set n ≡ in_words 18446744073709551615 18446744073709551615 n) → (n : ℕ) → n < 128 → has set n ≡ true
+words_all set members n l = members n ∙ elim (cases_lt n 64) [
+  | inl k ↦ ap (λ b. cond b (bit_at 18446744073709551615 n == 1) (bit_at 18446744073709551615 (n - 64) == 1)) (lt-ltb n 64 k) ∙ eq-eqb (bit_at 18446744073709551615 n) 1 (bit_at_ones 64 n k)
+  | inr k ↦ ap (λ b. cond b (bit_at 18446744073709551615 n == 1) (bit_at 18446744073709551615 (n - 64) == 1)) (le-ltb n 64 k) ∙ eq-eqb (bit_at 18446744073709551615 (n - 64)) 1 (bit_at_ones 64 (n - 64) (omega (arith, l, k)))
+]
+
+pub table_all : (set : List ℕ) → ((n : ℕ) → n < 128 → has set n ≡ true) → (l n : ℕ) → l < 32 → n < 128 → InTable (replicate 32 set) l n
+table_all set all l n k m = subst (λ s. has s n ≡ true) (sym (get_or-replicate 32 l set [] k)) (all n m)
 
 -- ---- one decision after another
 

@@ -35,10 +35,7 @@ impl Rests {
     pub(crate) fn start(alloc: Global, count: usize) -> Result<Rests, AllocError>
         ensures { IfOk result (λ rests. length rests ≡ count) }
     {
-        let mut marks = Vec::new(alloc);
-        for _ in 0..count {
-            marks.push(None)?;
-        }
+        let marks = vec![in alloc; None; count]?;
         Ok(Rests { marks })
     }
 

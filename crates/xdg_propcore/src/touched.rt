@@ -1,6 +1,6 @@
 //! What has lost values.
 
-ghost use Rattle.std.specs.Prelude.{◌≡◌, ℕ, ◌<◌, ◌⊎◌, true, [], length, slice_index_or};
+ghost use Rattle.std.specs.Prelude.{◌≡◌, ℕ, ◌<◌, true, length};
 ghost use Rattle.xdg_nodeset.specs.Nodes.{has};
 ghost use Rattle.xdg_store.specs.States.{Known};
 ghost use Rattle.xdg_propcore.specs.Standing.{box_at};
@@ -27,7 +27,20 @@ pub struct Touched {
     pub into: [NodeSet; 32],
 }
 
-/// Adds a node to a set of a table.
+/// A set with a node more.
+#[tactic(auto, using(crate::proofs::Touches::with_here, crate::proofs::Touches::with_stays))]
+fn with_node(nodes: NodeSet, node: NodeId) -> NodeSet
+    requires { node.0 < 128 }
+    ensures here { has result node.0 ≡ true }
+    ensures stays { (n : ℕ) → has nodes n ≡ true → has result n ≡ true }
+{
+    let mut more = nodes;
+    more.insert(node);
+    more
+}
+
+/// Adds a node to one of the sets of a table.
+#[tactic(auto, using(crate::proofs::Touches::entry_here, crate::proofs::Touches::entry_stays))]
 fn insert(table: &mut [NodeSet; 32], label: LabelId, node: NodeId)
     requires label { label.0 < 32 }
     requires node { node.0 < 128 }
@@ -35,9 +48,7 @@ fn insert(table: &mut [NodeSet; 32], label: LabelId, node: NodeId)
     ensures stays { (l n : ℕ) → InTable table.old l n → InTable table.new l n }
 {
     let place = usize::from(label.0);
-    let mut nodes = table[place];
-    nodes.insert(node);
-    table[place] = nodes;
+    table[place] = with_node(table[place], node);
 }
 
 impl Touched {
@@ -64,20 +75,20 @@ impl Touched {
     {
         match decision {
             Decision::Entry(node) => {
-                self.entries.insert(node);
+                self.entries = with_node(self.entries, node);
             }
             Decision::Attr(on, node, _) => {
                 if on.0 != dim.0 {
                     return;
                 }
-                self.attrs.insert(node);
+                self.attrs = with_node(self.attrs, node);
             }
             Decision::Place(edge) => {
                 if edge.dim.0 != dim.0 {
                     return;
                 }
-                self.mothers.insert(edge.mother);
-                self.daughters.insert(edge.daughter);
+                self.mothers = with_node(self.mothers, edge.mother);
+                self.daughters = with_node(self.daughters, edge.daughter);
                 insert(&mut self.out, edge.label, edge.mother);
                 insert(&mut self.into, edge.label, edge.daughter);
             }

@@ -1,5 +1,5 @@
 -- Of which decisions values were removed.
-use Rattle.std.proofs.Common.{◌≡◌, ◌≢◌, ℕ, ◌<◌, ◌≤◌, ◌+◌, ◌-◌, inl, inr, Bool, true, false, List, [], ◌∷◌, ◌++◌, Contains, length, get_or, take, drop, refl, ap, sym, ◌∙◌, arith, subst, zero, suc, length-append}
+use Rattle.std.proofs.Common.{◌≡◌, ℕ, ◌<◌, ◌≤◌, ◌+◌, ◌-◌, inl, inr, Bool, true, false, List, [], ◌∷◌, ◌++◌, length, get_or, take, drop, ap, sym, ◌∙◌, arith, subst, zero, suc, length-append}
 use Rattle.std.specs.Prelude.{sum}
 use Rattle.std.proofs.lemmas.Bool.{cases_Bool, cases_eq, cases_lt}
 use Rattle.std.proofs.lemmas.List.{get_or_append_left, get_or_at, get_or_default, get_or-drop, get_or-take, length-drop, length-take-le}
@@ -18,7 +18,7 @@ use Rattle.xdg_store.specs.declared.decision.Decision.{Decision}
 use Rattle.xdg_store.specs.declared.decision.Decision.TheVariants as decisions
 use Rattle.xdg_store.proofs.Boxed.{box_filled, kept_elsewhere, length_box}
 use Rattle.xdg_store.proofs.Counting.{enough_left}
-use Rattle.xdg_store.proofs.Histories.{history_length, present, seen}
+use Rattle.xdg_store.proofs.Histories.{history_cut, history_length, known_of, present, seen}
 
 module _ (parts : Parts) where
   -- what is said of a step, by the decision and the two boxes
@@ -42,7 +42,7 @@ module _ (parts : Parts) where
       let taken = without s.now (number_of parts decision) v in
       let last : k ≡ length s.history - 1 = omega (arith, count, at) in
       says_alike _ _ _ _ _ _
-      (get_or_at removed decision [] d k at)
+      (get_or_at removed decision [] d k (sym at))
       (get_or_append_left s.history (taken ∷ []) [] k (omega (arith, count, at)) ∙ ap (λ i. get_or s.history i []) last ∙ known.last)
       (get_or_at s.history taken [] [] (k + 1) (omega (arith, count, at)))
       (is, λ e x h n. kept_elsewhere s.now (number_of parts decision) v e x h n)
@@ -108,13 +108,17 @@ module _ (parts : Parts) where
     lost_at : (n : ℕ) → mark + n ≤ length removed → Has (get_or history mark []) d v → (Has (get_or history (mark + n) []) d v → ⊥) → (k : ℕ) × (k < n) × (number_of parts (get_or removed (mark + k) default) ≡ d)
     lost_at zero l h gone = absurd (gone (let q : mark ≡ mark + 0 = omega arith in subst (λ i. Has (get_or history i []) d v) q h))
     lost_at (suc n) l h gone = elim (cases_Bool (get_or (get_or (get_or history (mark + n) []) d []) v false)) [
-      | inl there ↦ (n, omega arith, elim (cases_eq d (number_of parts (get_or removed (mark + n) default))) [
-        | inl q ↦ sym q
-        | inr f ↦ absurd (gone (
-            let q : (mark + n) + 1 ≡ mark + suc n = omega arith in
-            subst (λ i. Has (get_or history i []) d v) q ((each (mark + n) (omega (arith, l)) default).1 d v there f)
-            ))
-      ])
+      | inl there ↦ (
+        n,
+        omega arith,
+        elim (cases_eq d (number_of parts (get_or removed (mark + n) default))) [
+          | inl q ↦ sym q
+          | inr f ↦ absurd (gone (
+              let q : (mark + n) + 1 ≡ mark + suc n = omega arith in
+              subst (λ i. Has (get_or history i []) d v) q ((each (mark + n) (omega (arith, l)) default).1 d v there f)
+              ))
+        ],
+      )
       | inr no_more ↦
           let f = lost_at n (omega (arith, l)) h (λ on. (let q : true ≡ false = sym on ∙ no_more in cc)) in
           (f.0, (let w = f.1 in omega (arith, w)), f.2)
@@ -135,3 +139,26 @@ module _ (parts : Parts) where
             let x = get_or removed (mark + f.0) default in
             (x, (f.0, omega (arith, w, len), get_or-drop mark removed f.0 x ∙ get_or_default removed (mark + f.0) x default (omega (arith, w))), f.2);
       }
+
+module _ (parts : Parts) where
+  -- ---- as the code goes
+
+  pub steps_after : (change : Change) (t u : Trailed) (turns single : ℕ) (removed removed' : List Decision) (decision : Decision) (v room room' : ℕ) → Keeps parts t single → IsDecision parts decision → AreSteps parts (oldest (bits_of parts) (past t)) removed room → Removes change (seen parts t turns) (seen parts u turns) (number_of parts decision) v → removed' ≡ noted change removed decision → room' ≡ room → AreSteps parts (oldest (bits_of parts) (past u)) removed' room'
+  steps_after change t u turns single removed removed' decision v room room' keeps is steps removes removed_is room_is =
+      subst (λ n. AreSteps parts (oldest (bits_of parts) (past u)) removed' n) (sym room_is)
+      (subst (λ xs. AreSteps parts (oldest (bits_of parts) (past u)) xs room) (sym removed_is)
+      (noted_steps parts change (seen parts t turns) (seen parts u turns) removed decision v room (known_of parts (sum (shape parts)) turns t keeps.problem keeps.sound) is steps removes))
+
+  pub steps_cut : (t u : Trailed) (removed removed' : List Decision) (room room' mark n : ℕ) → mark ≤ length t.records → past u ≡ drop (length t.records - mark) (past t) → AreSteps parts (oldest (bits_of parts) (past t)) removed room → removed' ≡ take n removed → n ≡ mark → room' ≡ room → AreSteps parts (oldest (bits_of parts) (past u)) removed' room'
+  steps_cut t u removed removed' room room' mark n l past_is steps removed_is n_is room_is =
+      let long = history_length (bits_of parts) t in
+      subst (λ h. AreSteps parts h removed' room') (sym (history_cut (bits_of parts) t u mark l past_is))
+      (subst (λ r. AreSteps parts (take (mark + 1) (oldest (bits_of parts) (past t))) removed' r) (sym room_is)
+      (subst (λ xs. AreSteps parts (take (mark + 1) (oldest (bits_of parts) (past t))) xs room) (sym (removed_is ∙ ap (λ i. take i removed) n_is))
+      (cut_steps parts (oldest (bits_of parts) (past t)) removed room mark (omega (arith, long, l)) steps)))
+
+  pub steps_start : (t : Trailed) (removed : List Decision) (room free : ℕ) → t.records ≡ [] → removed ≡ [] → free ≤ room → free + length (shape parts) ≡ sum (shape parts) → AreSteps parts (oldest (bits_of parts) (past t)) removed room
+  steps_start t removed room free none empty enough all =
+      let long = history_length (bits_of parts) t in
+      let records = ap length none in
+      subst (λ xs. AreSteps parts (oldest (bits_of parts) (past t)) xs room) (sym empty) (first_steps parts (oldest (bits_of parts) (past t)) room (omega (arith, long, records)) (omega (arith, enough, all)))

@@ -1,6 +1,6 @@
 //! Of which decisions values were removed.
 
-ghost use Rattle.std.specs.Prelude.{◌≡◌, ◌<◌, length};
+ghost use Rattle.std.specs.Prelude.{◌≡◌, ◌<◌, drop, length};
 ghost use Rattle.std.specs.Vec.{vec_capacity};
 ghost use Rattle.xdg_store.specs.Naming.{noted};
 ghost use Rattle.xdg_store.specs.declared.change.Change.TheVariants as changes;
@@ -19,4 +19,14 @@ pub(crate) fn note(removed: &mut Vec<Decision>, change: Change, decision: Decisi
         Change::Changed => removed.push_reserved(decision),
         Change::Emptied => {}
     }
+}
+
+/// The decisions behind the first so many.
+pub(crate) fn behind(removed: &[Decision], first: usize) -> &[Decision]
+    ensures { result.now ≡ drop first removed.now }
+{
+    if removed.len() <= first {
+        return &[];
+    }
+    &removed[first..]
 }

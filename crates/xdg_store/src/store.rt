@@ -15,7 +15,7 @@ use crate::change::Change;
 use crate::decision::Decision;
 use crate::layout::{attr_row, edge_row, entry_row};
 use crate::masks::{nodes_below, row_nodes};
-use crate::naming::note;
+use crate::naming::{behind, note};
 use crate::rows::{is_set, take_of_pair, take_of_row};
 use crate::start::free_values;
 use std::alloc::Global;
@@ -304,7 +304,7 @@ impl<'a> Store<'a> {
         ensures names { Names self.now.parts (slice_index_or self.now.history mark []) self.now.now result.now }
         ensures known { Known self.now }
     {
-        &self.removed.as_slice()[mark.records()..]
+        behind(self.removed.as_slice(), mark.records())
     }
 
     /// Counts a turn of a propagator, up to the greatest number.

@@ -1,4 +1,4 @@
-use Rattle.std.proofs.Common.{refl, sym, subst}
+use Rattle.std.proofs.Common.{subst}
 use Rattle.xdg_propcore.specs.Standing.{box_at}
 use Rattle.xdg_propcore.specs.Touching.{HasTouched}
 use Rattle.xdg_pgraph.proofs.Others.{others_none, others_stay}

@@ -1,4 +1,4 @@
-use Rattle.std.proofs.Common.{◌<◌, ap, arith, refl, subst}
+use Rattle.std.proofs.Common.{◌<◌, arith, subst}
 use Rattle.xdg_problem.specs.Arguments.{label_count}
 use Rattle.xdg_propcore.proofs.Passing.{goes_none}
 use Rattle.xdg_pgraph.proofs.valency.take_touched.Goals as goal

@@ -1,8 +1,4 @@
-use Rattle.std.proofs.Common.{◌≡◌, ◌<◌, ◌≢◌, ◌∙◌, ℕ, arith, get_or, length, map, subst, sym}
-use lib.Bits.{bit_and}
-use Rattle.xdg_propcore.specs.Flags.{IsOn}
 use Rattle.xdg_propcore.proofs.Analyses.{all_kept}
-use Rattle.xdg_propcore.proofs.Settling.{on_within, others_sleep}
 use Rattle.xdg_propcore.proofs.agenda.settle_since.Goals as goal
 
 pub returns-clause-analyses : goal.returns-clause-analyses

@@ -1,4 +1,4 @@
-use Rattle.std.proofs.Common.{◌≢◌, ℕ, ◌<◌, ◌∙◌, subst, sym, length, map, get_or, arith, refl}
+use Rattle.std.proofs.Common.{◌≢◌, ℕ, ◌<◌, ◌∙◌, subst, sym, length, get_or, arith, refl}
 use Rattle.std.proofs.lemmas.List.{length-map}
 use lib.Bits.{bit_and}
 use Rattle.xdg_store.proofs.Boxed.{has_place}
@@ -11,13 +11,15 @@ use Rattle.xdg_propcore.proofs.running.run.Goals as goal
 pub loop-at-init : goal.loop-at-init
 loop-at-init g c = (running_start g.P.Propagator.stands g.P.Propagator.still g.P.Propagator.kinds c.args.props.now c.args.store.now (on_count c.args.awake.now) c.args.awake.now c.requires.known c.requires.awake c.requires.asleep (omega arith), c.requires.rests)
 
-pub step-requires : goal.step-requires
-step-requires g c =
+pub step-requires-clause-stands : goal.step-requires-clause-stands
+step-requires-clause-stands g c =
     let l : c.in-Some.at < length c.args.props.now = (let e = c.loop-at.invariant.0.lengths in let q = has_place c.loop-at.awake c.in-Some.at c.in-Some.ensures.some in omega (arith, e, q)) in
-    record {
-      stands = my_use g.P.Propagator.stands g.P.Propagator.still g.P.Propagator.kinds c.args.props.now c.args.store.now (on_count c.args.awake.now) c.loop-at.store c.in-Some.at c.index-props-at.result c.loop-at.invariant.0.extends l c.index-props-at.is c.requires.stand;
-      held = λ mark some. subst (λ z. Held (g.P.Propagator.still z) c.loop-at.store mark) (sym c.index-props-at.is) (c.loop-at.invariant.1.each c.in-Some.at c.index-props-at.result l mark (sym c.mark_of.ensures ∙ some));
-    }
+    my_use g.P.Propagator.stands g.P.Propagator.still g.P.Propagator.kinds c.args.props.now c.args.store.now (on_count c.args.awake.now) c.loop-at.store c.in-Some.at c.index-props-at.result c.loop-at.invariant.0.extends l c.index-props-at.is c.requires.stand
+
+pub step-requires-clause-held : goal.step-requires-clause-held
+step-requires-clause-held g c mark some =
+    let l : c.in-Some.at < length c.args.props.now = (let e = c.loop-at.invariant.0.lengths in let q = has_place c.loop-at.awake c.in-Some.at c.in-Some.ensures.some in omega (arith, e, q)) in
+    subst (λ z. Held (g.P.Propagator.still z) c.loop-at.store mark) (sym c.index-props-at.is) (c.loop-at.invariant.1.each c.in-Some.at c.index-props-at.result l mark (sym c.mark_of.ensures ∙ some))
 
 pub loop-at-smaller-in-Same : goal.loop-at-smaller-in-Same
 loop-at-smaller-in-Same g c = smaller_same g.P.Propagator.stands g.P.Propagator.still g.P.Propagator.kinds c.args.props.now c.args.store.now (on_count c.args.awake.now) c.loop-at.store c.step.new.store c.loop-at.awake c.sleep.new.self c.in-Some.at c.in-Some.ensures.some c.sleep.ensures c.in-Same.ensures.moves

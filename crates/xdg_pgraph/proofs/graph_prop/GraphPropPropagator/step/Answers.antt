@@ -1,4 +1,3 @@
-use Rattle.std.proofs.Common.{◌≡◌, Some, None}
 use Rattle.xdg_pgraph.proofs.graph_prop.GraphPropPropagator.step.Goals as goal
 
 pub take_step-requires-clause-held : goal.take_step-requires-clause-held

@@ -1,4 +1,3 @@
-use Rattle.std.proofs.Common.{◌≡◌, Some, None}
 use Rattle.xdg_porder.proofs.order_prop.OrderPropPropagator.step.Goals as goal
 
 pub take_step-requires-clause-held : goal.take_step-requires-clause-held
