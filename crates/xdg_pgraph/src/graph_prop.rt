@@ -50,25 +50,25 @@ fn kinds_of(group: &Group) -> Wake
 }
 
 /// What was lost since a mark at which valency was still, or all where there is no such mark.
-fn touched_since(store: &Store, group: &Group, since: Option<Mark>) -> Touched
+fn touched_since(store: &Store, group: &Group, since: &Option<Mark>) -> Touched
     requires known { Known store.now }
     requires principle { group.now.principle ≡ principles.Valency }
-    requires held { HeldIf (λ parts box. IsClosedFor parts group.now box) store.now since }
+    requires held { HeldIf (λ parts box. IsClosedFor parts group.now box) store.now since.now }
     ensures { AreOthersDone result store.now.parts group.now store.now.now }
 {
-    match since {
+    match *since {
         Some(mark) => Touched::since(store, mark, dim_of(group, 0)),
         None => Touched::all(),
     }
 }
 
 /// Takes what a principle use takes, which was still at a mark, if there is one.
-fn sweep(store: &mut Store, pass: &mut Pass, parts: &Parts, group: &Group, since: Option<Mark>)
+fn sweep(store: &mut Store, pass: &mut Pass, parts: &Parts, group: &Group, since: &Option<Mark>)
     requires parts { parts.now ≡ store.old.parts }
     requires known { Known store.old }
     requires group { IsGroup store.old.parts group.now }
     requires family { IsOfFamily group.now.principle }
-    requires held { HeldIf (λ parts box. IsClosedFor parts group.now box) store.old since }
+    requires held { HeldIf (λ parts box. IsClosedFor parts group.now box) store.old since.now }
     ensures { Sweeps group.now (IsClosedFor store.old.parts group.now) pass.old store.old pass.new store.new }
 {
     let plane = Plane::of(parts, group);
@@ -114,7 +114,7 @@ impl GraphProp {
         let parts = store.problem().parts();
         let group = &parts.groups.as_slice()[self.number];
         let mut pass = Pass::start();
-        sweep(store, &mut pass, parts, group, since);
+        sweep(store, &mut pass, parts, group, &since);
         pass.moved()
     }
 }

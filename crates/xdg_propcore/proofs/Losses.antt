@@ -117,7 +117,7 @@ apart wakes lost kind e h =
     omega (arith, m, z, l, h)
 
 -- two wake sets that share one
-pub shared : (wakes lost : ℕ) → lost < 2 ^ 64 → bit_and wakes lost ≢ 0 → (kind : ℕ) × (bit_at wakes kind ≡ 1) × (bit_at lost kind ≡ 1)
+shared : (wakes lost : ℕ) → lost < 2 ^ 64 → bit_and wakes lost ≢ 0 → (kind : ℕ) × (bit_at wakes kind ≡ 1) × (bit_at lost kind ≡ 1)
 shared wakes lost fits h =
     let small : bit_and wakes lost < 2 ^ 64 = (let r = and_le_r wakes lost in omega (arith, r, fits)) in
     let t = bit_at-trailing_zeros w64 (bit_and wakes lost) (omega arith) small in

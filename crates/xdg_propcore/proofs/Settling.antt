@@ -16,6 +16,7 @@ use Rattle.xdg_propcore.specs.Kinds.{kind_of}
 use Rattle.xdg_propcore.specs.Losses.{Loses, LosesOutside, lost_count, woken_count, wakers}
 use Rattle.xdg_propcore.specs.Steps.{Extends, Keeps, KeepsBoxes}
 use Rattle.xdg_propcore.specs.Uses.{IsClosedBy, StandsFor, StandsIn}
+use Rattle.xdg_propcore.specs.declared.wake.Wake.{Wake}
 use Rattle.xdg_propcore.specs.declared.moved.Moved.{Moved}
 use Rattle.xdg_propcore.specs.declared.moved.Moved.TheVariants as moves
 use Rattle.xdg_propcore.proofs.Losses.{weight_from, balance, lost_one, apart, hits, hits_within, woken_within}
@@ -74,6 +75,13 @@ extends_both a b c e f = record {
   grown = f.grown ∙ ap (λ h. h ++ f.more) e.grown ∙ append_assoc a.history e.more f.more;
   inside = λ d v h. e.inside d v (f.inside d v h);
 }
+
+-- what is said of the wake sets is said of the kinds of the propagators
+pub kinds_in : (wakes : List Wake) (sets : List ℕ) (lost count : ℕ) (next : List Bool) → map (λ w. w.0) wakes ≡ sets → length sets ≡ count → ((i : ℕ) → i < length wakes → bit_and (get_or (map (λ w. w.0) wakes) i 0) lost ≢ 0 → IsOn next i) → (i : ℕ) → i < count → bit_and (get_or sets i 0) lost ≢ 0 → IsOn next i
+kinds_in wakes sets lost count next is l woken i m hit =
+    let n = ap length is in
+    let k = length-map wakes (λ w. w.0) in
+    woken i (omega (arith, n, k, l, m)) (subst (λ z. bit_and (get_or z i 0) lost ≢ 0) (sym is) hit)
 
 module _ {P : Type 0} (stands : P → Parts → ℕ → Type 0) (still : P → Parts → List (List Bool) → Type 0) (kinds : P → ℕ) (props : List P) (old : State) (first : ℕ) where
   pub record Running (now : State) (awake : List Bool) : Type 0 where

@@ -7,7 +7,6 @@ pub mod Fixed
 pub mod Flags
 pub mod Standing
 pub mod Touching
-pub mod Wakers
 pub mod Passes
 pub mod Sweeps
 pub mod Sample

@@ -12,10 +12,9 @@ use crate::awake::Awake;
 use crate::fixpoint::Fixpoint;
 use crate::propagator::Propagator;
 use crate::rests::Rests;
-use crate::running::run;
+use crate::running::{run, wake};
 use crate::wake::Wake;
-use crate::wakers::Wakers;
-use std::alloc::Global;
+use std::alloc::{AllocError, Global};
 use std::marker::Model;
 use xdg_base::OutOfMemory;
 use xdg_problem::Problem;
@@ -24,19 +23,30 @@ use xdg_store::{Mark, Store};
 /// Which of some propagators are awake, and what wakes each: a list of wake sets. Only [`Agenda::start`] takes memory.
 #[derive(Debug, Drop)]
 pub struct Agenda {
-    wakers: Wakers,
+    wakes: Vec<Wake>,
     awake: Awake,
     rests: Rests,
 }
 
 impl Model for Agenda {
-    ghost use Rattle.std.specs.Prelude.{◌≡◌, ℕ, List, length};
+    ghost use Rattle.std.specs.Prelude.{◌≡◌, ℕ, List, length, map};
 
     ghost Value = { List ℕ };
 
-    ghost view = { λ a. a.wakers };
+    ghost view = { λ a. map (λ w. w.0) a.wakes.items };
 
-    ghost invariant = { λ a. (length a.awake ≡ length a.wakers) × (length a.rests ≡ length a.wakers) };
+    ghost invariant = { λ a. (length a.awake ≡ length a.wakes.items) × (length a.rests ≡ length a.wakes.items) };
+}
+
+/// The wake sets of propagators.
+fn wakes_of<P: Propagator>(alloc: Global, props: &[P]) -> Result<Vec<Wake>, AllocError>
+    ensures { IfOk result (λ wakes. map (λ w. w.0) wakes.items ≡ map P.kinds props.now) }
+{
+    let mut wakes = Vec::new(alloc);
+    for p in props {
+        wakes.push(p.wakes())?;
+    }
+    Ok(wakes)
 }
 
 impl Agenda {
@@ -48,11 +58,11 @@ impl Agenda {
     ) -> Result<Agenda, OutOfMemory>
         ensures { IfOk result (λ agenda. agenda ≡ map P.kinds props.now) }
     {
-        let wakers = Wakers::start(alloc, props)?;
+        let wakes = wakes_of(alloc, props)?;
         let awake = Awake::start(alloc, props.len())?;
         let rests = Rests::start(alloc, props.len())?;
         Ok(Agenda {
-            wakers,
+            wakes,
             awake,
             rests,
         })
@@ -75,11 +85,11 @@ pub fn settle<P: Propagator>(store: &mut Store, props: &[P], agenda: &mut Agenda
     // Each store holds a box, also where there is no propagator.
     let _ = store.turns();
     agenda.awake.wake_all();
-    agenda.rests.set_all(None);
+    agenda.rests.forget_all();
     run(
         store,
         props,
-        &agenda.wakers,
+        &agenda.wakes,
         &mut agenda.awake,
         &mut agenda.rests,
     )
@@ -96,7 +106,7 @@ pub fn settle_since<P: Propagator>(
 ) -> Fixpoint
     requires stand { All (λ p. StandsIn (P.stands p) store.old.parts) props.now }
     requires agenda { agenda.old ≡ map P.kinds props.now }
-    requires was { WereStill P.still props.now store.old since lost.0 }
+    requires were { WereStill P.still props.now store.old since lost.0 }
     ensures extends { Extends store.old store.new }
     ensures settles { Settles result P.stands props.now store.old store.new }
     ensures analyses { KeepsAll result P.stands props.now store.old store.new }
@@ -108,12 +118,12 @@ pub fn settle_since<P: Propagator>(
     // Each store holds a box.
     let _ = store.turns();
     agenda.awake.sleep_all();
-    agenda.wakers.wake(lost, &mut agenda.awake);
-    agenda.rests.set_all(Some(since));
+    wake(&agenda.wakes, lost, &mut agenda.awake);
+    agenda.rests.set_all(since);
     run(
         store,
         props,
-        &agenda.wakers,
+        &agenda.wakes,
         &mut agenda.awake,
         &mut agenda.rests,
     )

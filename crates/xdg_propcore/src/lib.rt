@@ -14,7 +14,6 @@ mod rests;
 mod running;
 mod touched;
 mod wake;
-mod wakers;
 
 pub use agenda::{Agenda, settle, settle_since};
 pub use deciding::still_decides;

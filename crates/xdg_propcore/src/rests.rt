@@ -20,13 +20,23 @@ impl Model for Rests {
     ghost view = { λ r. r.marks.items };
 }
 
-/// Puts the same into each place.
-fn fill(marks: &mut Vec<Option<Mark>>, mark: Option<Mark>)
+/// Clears each place.
+fn clear(marks: &mut Vec<Option<Mark>>)
     ensures length { length marks.new.items ≡ length marks.old.items }
-    ensures each { (at : ℕ) → at < length marks.new.items → slice_index_or marks.new.items at None ≡ mark }
+    ensures each { (at : ℕ) → at < length marks.new.items → slice_index_or marks.new.items at None ≡ None }
 {
     for at in 0..marks.len() {
-        marks[at] = mark;
+        marks[at] = None;
+    }
+}
+
+/// Puts a mark into each place.
+fn fill(marks: &mut Vec<Option<Mark>>, mark: Mark)
+    ensures length { length marks.new.items ≡ length marks.old.items }
+    ensures each { (at : ℕ) → at < length marks.new.items → slice_index_or marks.new.items at None ≡ Some mark }
+{
+    for at in 0..marks.len() {
+        marks[at] = Some(mark);
     }
 }
 
@@ -44,7 +54,10 @@ impl Rests {
         requires { at < length self.now }
         ensures { result ≡ slice_index_or self.now at None }
     {
-        self.marks[at]
+        match self.marks[at] {
+            Some(mark) => Some(mark),
+            None => None,
+        }
     }
 
     /// Gives one another mark.
@@ -55,10 +68,18 @@ impl Rests {
         self.marks[at] = Some(mark);
     }
 
-    /// Gives all the same mark, or none.
-    pub(crate) fn set_all(&mut self, mark: Option<Mark>)
+    /// Of none of them anything is known any more.
+    pub(crate) fn forget_all(&mut self)
         ensures length { length self.new ≡ length self.old }
-        ensures each { (at : ℕ) → at < length self.new → slice_index_or self.new at None ≡ mark }
+        ensures each { (at : ℕ) → at < length self.new → slice_index_or self.new at None ≡ None }
+    {
+        clear(&mut self.marks);
+    }
+
+    /// Gives all the same mark.
+    pub(crate) fn set_all(&mut self, mark: Mark)
+        ensures length { length self.new ≡ length self.old }
+        ensures each { (at : ℕ) → at < length self.new → slice_index_or self.new at None ≡ Some mark }
     {
         fill(&mut self.marks, mark);
     }

@@ -1,9 +1,10 @@
 //! Propagators run until each is still.
 
-ghost use Rattle.std.specs.Prelude.{◌≡◌, ◌≤◌, ◌+◌, ◌-◌, ◌^◌, ◌↔◌, length, map, min, All};
+ghost use Rattle.std.specs.Prelude.{◌≡◌, ◌≢◌, ℕ, ◌<◌, ◌≤◌, ◌+◌, ◌-◌, ◌^◌, ◌↔◌, length, map, min, slice_index, All};
+ghost use lib.Bits.{bit_and};
 ghost use Rattle.xdg_store.specs.States.{Known};
 ghost use Rattle.xdg_propcore.specs.Fixed.{AreStill, Settles};
-ghost use Rattle.xdg_propcore.specs.Flags.{on_count};
+ghost use Rattle.xdg_propcore.specs.Flags.{IsOn, on_count};
 ghost use Rattle.xdg_propcore.specs.Losses.{lost_count, woken_count};
 ghost use Rattle.xdg_propcore.specs.Standing.{AreHeld, HeldIf, SleepersStill};
 ghost use Rattle.xdg_propcore.specs.Steps.{Extends, Keeps, Moves};
@@ -15,8 +16,25 @@ use crate::fixpoint::Fixpoint;
 use crate::moved::Moved;
 use crate::propagator::Propagator;
 use crate::rests::Rests;
-use crate::wakers::Wakers;
+use crate::wake::Wake;
+use bitflags::Flags;
 use xdg_store::{Mark, Store};
+
+/// Wakes those whose wake set has a kind of values that were lost.
+pub(crate) fn wake(wakes: &[Wake], lost: Wake, awake: &mut Awake)
+    requires { length wakes.now ≡ length awake.old }
+    ensures kept { (at : ℕ) → IsOn awake.old at → IsOn awake.new at }
+    ensures woken { (at : ℕ) → at < length wakes.now → bit_and (slice_index (map (λ w. w.0) wakes.now) at) lost.0 ≢ 0 → IsOn awake.new at }
+    ensures only { (at : ℕ) → IsOn awake.new at → (IsOn awake.old at → ⊥) → bit_and (slice_index (map (λ w. w.0) wakes.now) at) lost.0 ≢ 0 }
+    ensures length { length awake.new ≡ length awake.old }
+    ensures small { lost.0 < 2 ^ 64 }
+{
+    for (at, wake) in wakes.iter().enumerate() {
+        if wake.intersects(lost) {
+            awake.wake(at);
+        }
+    }
+}
 
 /// Lets a propagator take a step, which was still at a mark, if there is one.
 fn step<P: Propagator>(prop: &P, store: &mut Store, since: Option<Mark>) -> Moved
@@ -36,15 +54,16 @@ fn step<P: Propagator>(prop: &P, store: &mut Store, since: Option<Mark>) -> Move
 }
 
 /// Lets each propagator that is awake take its steps, until all are still or one finds no closed box.
+#[tactic(auto, using(crate::proofs::Settling::running_done))]
 pub(crate) fn run<P: Propagator>(
     store: &mut Store,
     props: &[P],
-    wakers: &Wakers,
+    wakes: &[Wake],
     awake: &mut Awake,
     rests: &mut Rests,
 ) -> Fixpoint
     requires stand { All (λ p. StandsIn (P.stands p) store.old.parts) props.now }
-    requires wakes { wakers.now ≡ map P.kinds props.now }
+    requires wakes { map (λ w. w.0) wakes.now ≡ map P.kinds props.now }
     requires awake { length awake.old ≡ length props.now }
     requires asleep { SleepersStill P.still props.now awake.old store.old.parts store.old.now }
     requires rests { AreHeld P.still props.now store.old rests.old }
@@ -63,7 +82,7 @@ pub(crate) fn run<P: Propagator>(
                 awake.sleep(at);
                 rests.set(at, store.mark());
             }
-            Moved::Changed(lost) => wakers.wake(lost, awake),
+            Moved::Changed(lost) => wake(wakes, lost, awake),
             Moved::Dead => return Fixpoint::Dead,
         }
     }

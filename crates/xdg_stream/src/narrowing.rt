@@ -2,6 +2,7 @@
 
 ghost use Rattle.std.specs.Prelude.{◌≡◌, ◌<◌, ℕ, List, ◌++◌, ◌∷◌, [], true, length, map, slice_index};
 ghost use Rattle.xdg_problem.specs.Places.{places};
+ghost use Rattle.xdg_problem.specs.Problems.{IsProblem};
 ghost use Rattle.xdg_problem.specs.Vectors.{shape};
 ghost use Rattle.xdg_propcore.specs.Steps.{Extends};
 ghost use Rattle.xdg_store.specs.States.{Known};
@@ -45,11 +46,10 @@ fn restrict(store: &mut Store, decision: Decision, size: u16, value: u16) -> Cha
 
 /// The kind of the values of a decision.
 fn kind_of(problem: &Problem, decision: Decision) -> Wake
-    requires { IsDecision problem.now decision }
+    requires problem { IsProblem problem.now }
+    requires is { IsDecision problem.now decision }
     ensures { bit_at result.0 (kind_of problem.now (number_of problem.now decision)) ≡ 1 }
 {
-    // A sentence has eight dimensions at most.
-    let _ = problem.decisions();
     match decision {
         Decision::Entry(_) => Wake::entries(),
         Decision::Attr(dim, _, _) => Wake::attrs(dim),

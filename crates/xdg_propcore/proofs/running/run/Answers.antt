@@ -1,9 +1,9 @@
-use Rattle.std.proofs.Common.{◌≢◌, ℕ, ◌<◌, ◌∙◌, subst, sym, length, get_or, arith, refl}
+use Rattle.std.proofs.Common.{◌≢◌, ℕ, ◌<◌, ◌∙◌, subst, sym, length, map, get_or, arith, refl}
 use Rattle.std.proofs.lemmas.List.{length-map}
 use lib.Bits.{bit_and}
 use Rattle.xdg_store.proofs.Boxed.{has_place}
 use Rattle.xdg_propcore.specs.Flags.{IsOn, on_count}
-use Rattle.xdg_propcore.proofs.Settling.{running_start, running_same, running_changed, running_dead, extends_both, done_turns, dead_turns, smaller_same, smaller_changed, my_use}
+use Rattle.xdg_propcore.proofs.Settling.{running_start, running_same, running_changed, running_dead, extends_both, done_turns, dead_turns, smaller_same, smaller_changed, my_use, kinds_in}
 use Rattle.xdg_propcore.specs.Standing.{Held}
 use Rattle.xdg_propcore.proofs.Holding.{are_held_on, held_now, held_set}
 use Rattle.xdg_propcore.proofs.running.run.Goals as goal
@@ -44,7 +44,7 @@ loop-at-preserved g c =
       running_changed g.P.Propagator.stands g.P.Propagator.still g.P.Propagator.kinds c.args.props.now c.args.store.now (on_count c.args.awake.now) c.loop-at.store c.step.new.store c.loop-at.awake c.wake.new.awake c.in-Some.at c.index-props-at.result c.in-Changed.lost.0 _ c.loop-at.invariant.0 l c.index-props-at.is c.requires.stand c.in-Changed.ensures.extends c.in-Changed.ensures.known c.in-Changed.ensures.keeps (let t = c.in-Changed.ensures.turns in omega (arith, t)) c.wake.ensures.small c.in-Changed.ensures.moves
           g.met.P.Propagator.stays_still
           c.wake.ensures.length c.wake.ensures.kept
-          (λ i m. subst (λ z. (i : ℕ) → i < length z → bit_and (get_or z i 0) c.in-Changed.lost.0 ≢ 0 → IsOn c.wake.new.awake i) c.requires.wakes c.wake.ensures.woken i (let e = length-map c.args.props.now g.P.Propagator.kinds in omega (arith, e, m)))
+          (kinds_in c.args.wakes.now (map g.P.Propagator.kinds c.args.props.now) c.in-Changed.lost.0 (length c.args.props.now) c.wake.new.awake c.requires.wakes (length-map c.args.props.now g.P.Propagator.kinds) c.wake.ensures.woken)
           (subst (λ z. (i : ℕ) → IsOn c.wake.new.awake i → (IsOn c.loop-at.awake i → ⊥) → bit_and (get_or z i 0) c.in-Changed.lost.0 ≢ 0) c.requires.wakes c.wake.ensures.only),
       are_held_on g.P.Propagator.still c.args.props.now c.loop-at.store c.step.new.store c.loop-at.rests c.in-Changed.ensures.extends c.loop-at.invariant.1,
     )
