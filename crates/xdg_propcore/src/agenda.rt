@@ -118,7 +118,7 @@ pub fn settle_since<P: Propagator>(
     // Each store holds a box.
     let _ = store.turns();
     agenda.awake.sleep_all();
-    wake(&agenda.wakes, lost, &mut agenda.awake);
+    wake(agenda.wakes.as_slice(), lost, &mut agenda.awake);
     agenda.rests.set_all(since);
     run(
         store,

@@ -54,7 +54,6 @@ fn step<P: Propagator>(prop: &P, store: &mut Store, since: Option<Mark>) -> Move
 }
 
 /// Lets each propagator that is awake take its steps, until all are still or one finds no closed box.
-#[tactic(auto, using(crate::proofs::Settling::running_done))]
 pub(crate) fn run<P: Propagator>(
     store: &mut Store,
     props: &[P],

@@ -8,7 +8,7 @@ use Rattle.xdg_propcore.proofs.Settling.{kinds_in, on_within, others_sleep}
 use Rattle.xdg_propcore.proofs.agenda.settle_since.Goals as goal
 
 pub wake-requires : goal.wake-requires
-wake-requires g c = sym (c.sleep_all.ensures.length ∙ c.agenda.invariant.0)
+wake-requires g c = ap length c.as_slice.ensures.value ∙ sym (c.sleep_all.ensures.length ∙ c.agenda.invariant.0)
 
 pub run-requires-clause-awake : goal.run-requires-clause-awake
 run-requires-clause-awake g c =
@@ -20,7 +20,7 @@ run-requires-clause-asleep g c =
     let long = length-map c.args.props.now g.P.Propagator.kinds in
     others_sleep g.P.Propagator.stands g.P.Propagator.still g.P.Propagator.kinds c.args.props.now c.args.store.now c.args.since c.args.lost.0 c.wake.new.awake c.turns.ensures.known c.requires.stand c.requires.were
     g.met.P.Propagator.stays_still
-    (λ i m. kinds_in c.agenda.inside.wakes.items (map g.P.Propagator.kinds c.args.props.now) c.args.lost.0 (length c.args.props.now) c.wake.new.awake (c.agenda.view_is ∙ c.requires.agenda) long c.wake.ensures.woken i (omega (arith, m, long)))
+    (λ i m. kinds_in c.as_slice.result.now (map g.P.Propagator.kinds c.args.props.now) c.args.lost.0 (length c.args.props.now) c.wake.new.awake (ap (map (λ (w : Wake). w.0)) c.as_slice.ensures.value ∙ c.agenda.view_is ∙ c.requires.agenda) long c.wake.ensures.woken i (omega (arith, m, long)))
 
 pub run-requires-clause-rests : goal.run-requires-clause-rests
 run-requires-clause-rests g c =

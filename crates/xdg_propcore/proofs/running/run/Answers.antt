@@ -3,7 +3,7 @@ use Rattle.std.proofs.lemmas.List.{length-map}
 use lib.Bits.{bit_and}
 use Rattle.xdg_store.proofs.Boxed.{has_place}
 use Rattle.xdg_propcore.specs.Flags.{IsOn, on_count}
-use Rattle.xdg_propcore.proofs.Settling.{running_start, running_same, running_changed, running_dead, extends_both, done_turns, dead_turns, smaller_same, smaller_changed, my_use, kinds_in}
+use Rattle.xdg_propcore.proofs.Settling.{running_start, running_same, running_changed, running_dead, running_done, extends_both, done_turns, dead_turns, smaller_same, smaller_changed, my_use, kinds_in}
 use Rattle.xdg_propcore.specs.Standing.{Held}
 use Rattle.xdg_propcore.proofs.Holding.{are_held_on, held_now, held_set}
 use Rattle.xdg_propcore.proofs.running.run.Goals as goal
@@ -68,3 +68,8 @@ mark_of-requires g c = let e = c.loop-at.invariant.0.lengths in let n = c.loop-a
 
 pub set-requires : goal.set-requires
 set-requires g c = let e = c.loop-at.invariant.0.lengths in let n = c.loop-at.invariant.1.count in let q = has_place c.loop-at.awake c.in-Some.at c.in-Some.ensures.some in omega (arith, e, n, q)
+
+pub returns-clause-settles : goal.returns-clause-settles
+returns-clause-settles g c =
+    let none : (at : ℕ) → IsOn c.loop-at.awake at → ⊥ = search rules in
+    running_done g.P.Propagator.stands g.P.Propagator.still g.P.Propagator.kinds c.args.props.now c.args.store.now (on_count c.args.awake.now) c.loop-at.store c.loop-at.awake c.loop-at.invariant.0 none g.met.P.Propagator.still_closed
