@@ -1,4 +1,4 @@
-use Rattle.std.proofs.Common.{◌≢◌, ℕ, ◌<◌, ◌∙◌, subst, sym, length, map, get_or, arith, refl}
+use Rattle.std.proofs.Common.{◌≢◌, ℕ, ◌<◌, ◌∙◌, subst, sym, length, map, get_or, arith, refl, rules}
 use Rattle.std.proofs.lemmas.List.{length-map}
 use lib.Bits.{bit_and}
 use Rattle.xdg_store.proofs.Boxed.{has_place}
