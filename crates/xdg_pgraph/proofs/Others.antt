@@ -1,13 +1,15 @@
 -- Bundles of which nothing was lost: there valency takes no more than before.
 use Rattle.std.proofs.Common.{◌≡◌, ℕ, ◌<◌, inl, inr, Bool, true, false, List, length, refl, sym, ◌∙◌, ap, subst, arith}
 use Rattle.std.specs.Prelude.{Contains, filter, not, ◌==◌, ◌&&◌}
-use Rattle.std.proofs.lemmas.Bool.{cases_Bool}
+use Rattle.std.proofs.lemmas.Bool.{cases_Bool, cases_lt}
+use Rattle.std.proofs.lemmas.List.{get_or_past}
 use Rattle.std.proofs.lemmas.List.Elements.{All-weaker, All-contains_itself}
 use Rattle.xdg_problem.specs.declared.analysis.Edge.{Edge}
+use Rattle.xdg_problem.specs.declared.parts.DimPlan.{DimPlan}
 use Rattle.xdg_problem.specs.declared.parts.Group.{Group}
 use Rattle.xdg_problem.specs.declared.parts.Parts.{Parts}
 use Rattle.xdg_problem.specs.declared.parts.Principle.TheVariants as principles
-use Rattle.xdg_problem.specs.Arguments.{first_dim, label_count}
+use Rattle.xdg_problem.specs.Arguments.{first_dim, label_count, no_plan}
 use Rattle.xdg_problem.specs.Boxes.{Has, LiesIn, entry_decision, edge_decision}
 use Rattle.xdg_problem.specs.Places.{nodes, places}
 use Rattle.xdg_problem.specs.Problems.{IsProblem}
@@ -165,3 +167,11 @@ pub others_on : (t : Touched) (group : Group) (Done : List (List Bool) → Type 
 others_on t group Done p old q mid a others quiet =
     let same = a.goes.quiet quiet in
     subst (λ box. AreOthersDone t mid.parts group box) (sym same.1) (subst (λ parts. AreOthersDone t parts group old.now) (sym a.goes.extends.same) (others same.0))
+
+-- ---- labels
+
+pub few_labels : (parts : Parts) (dim label : ℕ) → IsProblem parts → label < label_count parts dim → label < 32
+few_labels parts dim label problem known = elim (cases_lt dim (length parts.dims)) [
+  | inl within ↦ (let most = (problem.dims dim no_plan within).labels_most in omega (arith, known, most))
+  | inr past ↦ absurd (let none : label_count parts dim ≡ 0 = ap (λ (plan : DimPlan). length plan.labels) (get_or_past parts.dims dim no_plan past) in omega (arith, known, none))
+]

@@ -1,6 +1,6 @@
 //! The rules of valency: the numbers of edges with a label out of a node and into it are some that its entry allows.
 
-ghost use Rattle.std.specs.Prelude.{◌≡◌, ◌<◌, ◌↔◌, ℕ, IsTrue, cond, true};
+ghost use Rattle.std.specs.Prelude.{◌≡◌, ◌<◌, ◌↔◌, [], ℕ, IsTrue, cond, slice_index_or, true};
 ghost use Rattle.xdg_nodeset.specs.Nodes.{has};
 ghost use Rattle.xdg_problem.specs.declared.parts.Principle.TheVariants as principles;
 ghost use Rattle.xdg_problem.specs.Analyses.{IsPlace};
@@ -13,7 +13,7 @@ ghost use Rattle.xdg_propcore.specs.Passes.{Clears, IsQuiet};
 ghost use Rattle.xdg_propcore.specs.Sweeps.{Sweeps};
 ghost use Rattle.xdg_pgraph.specs.Bundles.{AreLabelsDone, AreNodesDone, Barred, EdgeAt, IsBundleDone, IsLabelDone, OpenTo, edge_to};
 ghost use Rattle.xdg_pgraph.specs.Planes.{IsPlane};
-ghost use Rattle.xdg_pgraph.specs.Untouched.{AreOthersDone, IsTouched};
+ghost use Rattle.xdg_pgraph.specs.Untouched.{AreOthersDone, IsTouched, side};
 
 use crate::bounds::{has_none_within, is_greatest, is_least};
 use crate::bundle::{Bundle, Way, count_of, ends, numbers_of};
@@ -151,19 +151,32 @@ fn take_bundle(store: &mut Store, pass: &mut Pass, plane: &Plane, group: &Group,
     take_edges(store, pass, plane, group, bundle);
 }
 
+/// The nodes that have lost values of edges out of them, or into them, by their labels.
+fn side(touched: &Touched, way: Way) -> &[NodeSet; 32]
+    ensures { result.now ≡ side way touched.now }
+{
+    match way {
+        Way::Out => &touched.out,
+        Way::In => &touched.into,
+    }
+}
+
+/// The nodes that a table has for a label.
+fn nodes_at(table: &[NodeSet; 32], label: u8) -> NodeSet
+    requires { label < 32 }
+    ensures { result ≡ slice_index_or table.now label [] }
+{
+    table[usize::from(label)]
+}
+
 /// Whether something was lost of a bundle.
 fn is_touched(touched: &Touched, bundle: Bundle) -> bool
     requires node { bundle.node < 128 }
     requires label { bundle.label < 32 }
     ensures { IsTrue result ↔ IsTouched bundle.way touched.now bundle.node bundle.label }
 {
-    let node = NodeId(bundle.node);
-    let label = usize::from(bundle.label);
-    touched.entries.contains(node)
-        || match bundle.way {
-            Way::Out => touched.out[label].contains(node),
-            Way::In => touched.into[label].contains(node),
-        }
+    let nodes = nodes_at(side(touched, bundle.way), bundle.label);
+    touched.entries.union(&nodes).contains(NodeId(bundle.node))
 }
 
 /// Takes what valency takes at a bundle, if something was lost of it.

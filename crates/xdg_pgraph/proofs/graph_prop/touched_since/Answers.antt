@@ -12,3 +12,6 @@ returns-in-Some c =
 
 pub returns-in-None : goal.returns-in-None
 returns-in-None c = others_none c.all.result c.args.store.now.parts c.args.group.now c.args.store.now.now c.requires.known.problem c.all.ensures
+
+pub since-requires : goal.since-requires
+since-requires c = (c.requires.held c.in-Some.mark c.in-Some.is).within

@@ -44,9 +44,9 @@ pub returns-in-Emptied-clause-narrows : goal.returns-in-Emptied-clause-narrows
 returns-in-Emptied-clause-narrows g c p is level = emptied_at c.args.store.now.parts p c.args.value (number_of c.args.store.now.parts c.args.decision) c.args.size c.args.store.now.now c.restrict.new.store.now is c.requires.size c.requires.value level c.in-Emptied.ensures.restricts
 
 pub returns-in-Same-clause-still : goal.returns-in-Same-clause-still
-returns-in-Same-clause-still g c yes =
+returns-in-Same-clause-still g c t =
     let calm = AllStill g.P.Propagator.still c.args.props.now in
     subst (calm c.restrict.new.store.parts) (sym c.in-Same.ensures.restricts.0) (subst (λ q. calm q c.args.store.now.now) (sym c.in-Same.ensures.extends.same) c.requires.still)
 
 pub returns-in-Settled-clause-still : goal.returns-in-Settled-clause-still
-returns-in-Settled-clause-still g c yes = c.in-Settled.ensures.still
+returns-in-Settled-clause-still g c t = c.in-Settled.ensures.still
