@@ -69,7 +69,7 @@ impl OrderProp {
         let problem = store.problem();
         let group = &problem.parts().groups.as_slice()[self.number];
         let mut pass = Pass::start();
-        take_all(store, &mut pass, group, since);
+        take_all(store, &mut pass, group, &since);
         pass.moved()
     }
 }

@@ -35,12 +35,12 @@ fn take_failing(store: &mut Store, pass: &mut Pass, group: &Group)
 }
 
 /// The nodes at which order may have something to take, where it was still at a mark, if there is one.
-fn touched_since(store: &Store, group: &Group, since: Option<Mark>) -> NodeSet
+fn touched_since(store: &Store, group: &Group, since: &Option<Mark>) -> NodeSet
     requires at { IsOrdering group.now store.now }
-    requires held { HeldIf (λ parts box. IsClosedFor parts group.now box) store.now since }
+    requires held { HeldIf (λ parts box. IsClosedFor parts group.now box) store.now since.now }
     ensures { AreOthersDone result store.now.parts group.now store.now.now }
 {
-    match since {
+    match *since {
         Some(mark) => {
             let touched = Touched::since(store, mark, dim_of(group, 0));
             touched.mothers.union(&touched.attrs)
@@ -50,9 +50,9 @@ fn touched_since(store: &Store, group: &Group, since: Option<Mark>) -> NodeSet
 }
 
 /// Takes what an order takes.
-fn take_order(store: &mut Store, pass: &mut Pass, group: &Group, since: Option<Mark>)
+fn take_order(store: &mut Store, pass: &mut Pass, group: &Group, since: &Option<Mark>)
     requires at { IsOrdering group.now store.old }
-    requires held { HeldIf (λ parts box. IsClosedFor parts group.now box) store.old since }
+    requires held { HeldIf (λ parts box. IsClosedFor parts group.now box) store.old since.now }
     ensures { Sweeps group.now (IsClosedFor store.old.parts group.now) pass.old store.old pass.new store.new }
 {
     let touched = touched_since(store, group, since);
@@ -71,10 +71,10 @@ fn take_projective(store: &mut Store, pass: &mut Pass, group: &Group)
 }
 
 /// Takes what a principle use of the family takes, which was still at a mark, if there is one.
-pub(crate) fn take_all(store: &mut Store, pass: &mut Pass, group: &Group, since: Option<Mark>)
+pub(crate) fn take_all(store: &mut Store, pass: &mut Pass, group: &Group, since: &Option<Mark>)
     requires ready { IsReady group.now store.old }
     requires family { IsOfFamily group.now.principle }
-    requires held { HeldIf (λ parts box. IsClosedFor parts group.now box) store.old since }
+    requires held { HeldIf (λ parts box. IsClosedFor parts group.now box) store.old since.now }
     ensures { Sweeps group.now (IsClosedFor store.old.parts group.now) pass.old store.old pass.new store.new }
 {
     if is_order(group) {
