@@ -19,3 +19,4 @@ pub mod Reached
 pub mod Labels
 pub mod Told
 pub mod Skipped
+pub mod Needing
