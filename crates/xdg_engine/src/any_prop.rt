@@ -94,6 +94,8 @@ impl Propagator for AnyProp {
             AnyProp::Agree(p) => p.step_since(store, since),
             AnyProp::Multi(p) => p.step_since(store, since),
             AnyProp::Link(p) => p.step_since(store, since),
+            AnyProp::Rule(p) => p.step_since(store, since),
+            AnyProp::Cost(p) => p.step_since(store, since),
         }
     }
 
