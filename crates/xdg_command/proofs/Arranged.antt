@@ -10,8 +10,7 @@ use Rattle.xdg_command.specs.Items.{has_flag, operands_of}
 use Rattle.xdg_command.specs.Readings.{IsArrange}
 use Rattle.xdg_command.specs.Syntax.{arranged}
 use Rattle.xdg_command.specs.declared.commands.ArrangeOptions.{ArrangeOptions}
-use Rattle.xdg_command.proofs.Commanded.{arranged_right, few_of, first_none, said, single, unsaid}
-use Rattle.xdg_command.proofs.Corpused.{flag_said}
+use Rattle.xdg_command.proofs.Commanded.{arranged_right, few_of, first_none, flag_said, said, single, unsaid}
 
 module _ (words : List (List ℕ)) where
   pub arrange_none : Matches arranged words None → (options : ArrangeOptions) → IsArrange words options → ⊥

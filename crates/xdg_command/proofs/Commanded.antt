@@ -71,6 +71,13 @@ double (a ∷ b ∷ c ∷ xs) x y e f few = absurd (omega (arith, few))
 pub few_of : (n : ℕ) (xs ys : List (List ℕ)) → xs ≡ ys → length ys ≤ n → length xs ≤ n
 few_of n xs ys is few = subst (λ zs. length zs ≤ n) (sym is) few
 
+-- ---- options without value
+
+-- what an option without value was found to be
+pub flag_said : (text : Option (List ℕ)) (b x : Bool) → text ≡ Some (if x then codes "true" else codes "false") → (text ≡ Some (codes "true") → b ≡ true) → (text ≡ Some (codes "false") → b ≡ false) → b ≡ x
+flag_said text b true e set unset = set e
+flag_said text b false e set unset = unset e
+
 -- ---- one file
 
 module _ (words : List (List ℕ)) where
@@ -156,18 +163,19 @@ module _ (words : List (List ℕ)) where
     pub bad_text : ((form : TextForm) → HasText (first_value (found_of found) (codes "text")) form → ⊥) → (options : ParseOptions) → IsParse words options → ⊥
     bad_text none options w = none options.text (subst (λ o. HasText o options.text) (sym (m.2.values (codes "text") refl)) (parse_said options w).text)
 
-    pub segment_found : (b : Bool) → (one_text (found_of found) (codes "segment") ≡ None → b ≡ false) → (one_text (found_of found) (codes "segment") ≡ Some (codes "true") → b ≡ true)
-        → (one_text (found_of found) (codes "segment") ≡ Some (codes "false") → b ≡ false) → b ≡ has_flag (codes "segment") m.0
-    segment_found b none set unset = go (has_flag (codes "segment") m.0) (m.2.flags (codes "segment") refl)
-      where
-        go : (x : Bool) → one_text (found_of found) (codes "segment") ≡ Some (if x then codes "true" else codes "false") → b ≡ x
-        go true e = set e
-        go false e = unset e
+    pub segment_found : (b : Bool) → (one_text (found_of found) (codes "segment") ≡ Some (codes "true") → b ≡ true) → (one_text (found_of found) (codes "segment") ≡ Some (codes "false") → b ≡ false)
+        → b ≡ has_flag (codes "segment") m.0
+    segment_found b set unset = flag_said (one_text (found_of found) (codes "segment")) b (has_flag (codes "segment") m.0) (m.2.flags (codes "segment") refl) set unset
+
+    pub split_found : (b : Bool) → (one_text (found_of found) (codes "split") ≡ Some (codes "true") → b ≡ true) → (one_text (found_of found) (codes "split") ≡ Some (codes "false") → b ≡ false)
+        → b ≡ has_flag (codes "split") m.0
+    split_found b set unset = flag_said (one_text (found_of found) (codes "split")) b (has_flag (codes "split") m.0) (m.2.flags (codes "split") refl) set unset
 
     pub parse_found : (options : ParseOptions) → first_value (found_of found) (codes "grammar") ≡ Some options.grammar
         → IsExactly (HasBudget (first_value (found_of found) (codes "budget"))) (Some options.budget) → IsExactly (HasFirst (first_value (found_of found) (codes "first"))) (Some options.first)
-        → IsExactly (HasText (first_value (found_of found) (codes "text"))) (Some options.text) → options.segment ≡ has_flag (codes "segment") m.0 → IsExactly (IsParse words) (Some options)
-    parse_found options e budget first text segment =
+        → IsExactly (HasText (first_value (found_of found) (codes "text"))) (Some options.text) → options.segment ≡ has_flag (codes "segment") m.0
+        → options.split ≡ has_flag (codes "split") m.0 → IsExactly (IsParse words) (Some options)
+    parse_found options e budget first text segment split =
         let is = single (operands_of m.0) options.grammar (sym (m.2.operands 0 (codes "grammar") refl) ∙ e) m.1.few in
         let budget_at = m.2.values (codes "budget") refl in
         let first_at = m.2.values (codes "first") refl in
@@ -182,6 +190,7 @@ module _ (words : List (List ℕ)) where
               first = subst (λ o. HasFirst o options.first) first_at first.0;
               segment = segment;
               text = subst (λ o. HasText o options.text) text_at text.0;
+              split = split;
             };
           },
           λ other w.
@@ -192,7 +201,8 @@ module _ (words : List (List ℕ)) where
               let first_is = first.1 other.first (subst (λ o. HasFirst o other.first) (sym first_at) says.first) in
               let text_is = text.1 other.text (subst (λ o. HasText o other.text) (sym text_at) says.text) in
               let segment_is : other.segment ≡ options.segment = says.segment ∙ sym segment in
-              (λ i. let made : ParseOptions = record { grammar = grammar_is i; budget = budget_is i; first = first_is i; segment = segment_is i; text = text_is i } in made),
+              let split_is : other.split ≡ options.split = says.split ∙ sym split in
+              (λ i. let made : ParseOptions = record { grammar = grammar_is i; budget = budget_is i; first = first_is i; segment = segment_is i; text = text_is i; split = split_is i } in made),
         )
 
   -- ---- `resume`

@@ -166,7 +166,8 @@ one_parse words a b p q =
     let first = one_first _ a.first b.first p.says.first says.first in
     let segment : a.segment ≡ b.segment = p.says.segment ∙ sym says.segment in
     let text = one_text_form _ a.text b.text p.says.text says.text in
-    (λ i. let made : ParseOptions = record { grammar = grammar i; budget = budget i; first = first i; segment = segment i; text = text i } in made)
+    let split : a.split ≡ b.split = p.says.split ∙ sym says.split in
+    (λ i. let made : ParseOptions = record { grammar = grammar i; budget = budget i; first = first i; segment = segment i; text = text i; split = split i } in made)
 
 one_corpus : (words : List (List ℕ)) (a b : CorpusOptions) → IsCorpus words a → IsCorpus words b → a ≡ b
 one_corpus words a b p q =

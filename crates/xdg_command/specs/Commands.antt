@@ -70,7 +70,7 @@ values_of _ = []
 
 -- the names of a command's options that take none
 abbrev pub flags_of : Command → List (List ℕ)
-flags_of (commands.Parse options) = codes "segment" ∷ []
+flags_of (commands.Parse options) = codes "segment" ∷ codes "split" ∷ []
 flags_of (commands.Corpus options) = codes "segment" ∷ []
 flags_of (commands.Arrange options) = codes "segment" ∷ []
 flags_of _ = []
@@ -82,6 +82,7 @@ pub record SaysParse (items : List Item) (options : ParseOptions) : Type 0 where
   pub first : HasFirst (value_of (codes "first") items) options.first
   pub segment : options.segment ≡ has_flag (codes "segment") items
   pub text : HasText (value_of (codes "text") items) options.text
+  pub split : options.split ≡ has_flag (codes "split") items
 
 -- the items of `resume`
 pub record SaysResume (items : List Item) (options : ResumeOptions) : Type 0 where

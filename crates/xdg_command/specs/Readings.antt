@@ -33,7 +33,7 @@ IsDrill words number = AreWords [] [] words (λ items. SaysDrill items number)
 
 -- what follows `parse`
 abbrev pub IsParse : List (List ℕ) → ParseOptions → Type 0
-IsParse words options = AreWords (codes "budget" ∷ codes "first" ∷ codes "text" ∷ []) (codes "segment" ∷ []) words (λ items. SaysParse items options)
+IsParse words options = AreWords (codes "budget" ∷ codes "first" ∷ codes "text" ∷ []) (codes "segment" ∷ codes "split" ∷ []) words (λ items. SaysParse items options)
 
 -- what follows `resume`
 abbrev pub IsResume : List (List ℕ) → ResumeOptions → Type 0

@@ -22,7 +22,7 @@ abbrev pub two_files : Table
 two_files = record { operands = codes "grammar" ∷ codes "analysis" ∷ []; values = []; flags = [] }
 
 abbrev pub parsed : Table
-parsed = record { operands = codes "grammar" ∷ []; values = codes "budget" ∷ codes "first" ∷ codes "text" ∷ []; flags = codes "segment" ∷ [] }
+parsed = record { operands = codes "grammar" ∷ []; values = codes "budget" ∷ codes "first" ∷ codes "text" ∷ []; flags = codes "segment" ∷ codes "split" ∷ [] }
 
 abbrev pub resumed : Table
 resumed = record { operands = codes "grammar" ∷ codes "analysis" ∷ []; values = codes "budget" ∷ codes "first" ∷ codes "text" ∷ []; flags = [] }

@@ -24,6 +24,8 @@ pub struct ParseOptions {
     pub segment: bool,
     /// The form in which analyses are printed.
     pub text: TextForm,
+    /// Whether the branches of the first word's entries are searched side by side, each with the whole budget.
+    pub split: bool,
 }
 
 /// What `resume` is asked to do.

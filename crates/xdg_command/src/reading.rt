@@ -96,12 +96,14 @@ fn parse(alloc: Global, words: &[String]) -> Result<Option<ParseOptions>, OutOfM
     };
     let grammar = Text::from_str(alloc, grammar)?;
     let segment = found.get_flag("segment");
+    let split = found.get_flag("split");
     Ok(Some(ParseOptions {
         grammar,
         budget,
         first,
         segment,
         text,
+        split,
     }))
 }
 

@@ -72,7 +72,8 @@ pub(crate) fn parse<'a>(alloc: Global) -> Result<Command<'a>, AllocError>
         .arg(option_with_value(alloc, "budget"))?
         .arg(option_with_value(alloc, "first"))?
         .arg(option_with_value(alloc, "text"))?
-        .arg(flag(alloc, "segment"))
+        .arg(flag(alloc, "segment"))?
+        .arg(flag(alloc, "split"))
 }
 
 /// The grammar file and the options of `corpus`.

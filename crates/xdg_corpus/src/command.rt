@@ -15,6 +15,7 @@ use crate::printing::print_lines;
 use std::alloc::Global;
 use std::thread::Threads;
 use xdg_base::OutOfMemory;
+use xdg_build::Stock;
 use xdg_command::CorpusOptions;
 use xdg_grammar::{Expanded, expand_tree, pack_entries};
 use xdg_io::{Shelf, Sink, Source};
@@ -51,10 +52,14 @@ fn corpus_expanded<R: Threads + Sync, S: Source, K: Sink>(
         Ok(bytes) => bytes,
         Err(refusal) => return refuse(refusal, Status::BadSentence, out),
     };
-    match text_of(&bytes) {
-        Ok(text) => print_lines(rt, alloc, options, expanded, &packed, text, out),
-        Err(refusal) => refuse(refusal, Status::BadSentence, out),
-    }
+    let text = match text_of(&bytes) {
+        Ok(text) => text,
+        Err(refusal) => return refuse(refusal, Status::BadSentence, out),
+    };
+    let Ok(stock) = Stock::new(alloc, &expanded.checked, &packed) else {
+        return Status::OutOfMemory;
+    };
+    print_lines(rt, alloc, options, expanded, &packed, stock, text, out)
 }
 
 /// Searches the lines of the input by the grammar of a text, or prints the fault line of what is refused.

@@ -2,10 +2,12 @@
 
 ghost use Rattle.std.specs.Prelude.{◌≡◌, ◌≢◌, ◌≤◌, ◌⊎◌, ℕ, List, length};
 ghost use Rattle.xdg_corpus.specs.Outcomes.{AreSearched};
+ghost use Rattle.xdg_build.specs.Stocks.{IsStock};
 ghost use Rattle.xdg_corpus.specs.Texts.{CanSearch};
 ghost use Rattle.xdg_entries.specs.Entries.{IsRightLexicon};
 ghost use Rattle.xdg_grammar.specs.Answers.{meaning_of};
 ghost use Rattle.xdg_grammar.specs.Packed.{IsPackedOf};
+ghost use Rattle.xdg_groups.specs.Grammars.{grammar_of};
 ghost use Rattle.xdg_io.specs.Rose.{Rose};
 ghost use Rattle.xdg_corpus.specs.Runs.{LeavesPart};
 
@@ -13,6 +15,7 @@ use crate::group::take_group;
 use crate::writing::write_group;
 use std::alloc::Global;
 use std::thread::Threads;
+use xdg_build::Stock;
 use xdg_command::CorpusOptions;
 use xdg_grammar::Expanded;
 use xdg_io::Sink;
@@ -21,13 +24,15 @@ use xdg_packed::Packed;
 use xdg_split::answers;
 
 /// Prints the lines of a text: groups of lines, one after the other. The lines of a group are searched side by side, and their texts are
-/// written in order before the next group begins, so no more than its searches take memory at once.
+/// written in order before the next group begins, so no more than its searches take memory at once. What their problems share is taken
+/// from a stock of the grammar.
 pub(crate) fn print_lines<R: Threads + Sync, K: Sink>(
     rt: &R,
     alloc: Global,
     options: &CorpusOptions,
     expanded: &Expanded,
     packed: &Packed,
+    mut stock: Stock,
     text: &str,
     out: &mut K,
 ) -> Status
@@ -35,6 +40,7 @@ pub(crate) fn print_lines<R: Threads + Sync, K: Sink>(
     requires lexicon { IsRightLexicon expanded.now.checked.types expanded.now.entries }
     requires packed { IsPackedOf expanded.now packed.now }
     requires range { CanSearch options.now }
+    requires stock { IsStock (grammar_of expanded.now.checked packed.now) stock }
     ensures leaves { LeavesPart (AreSearched options.now (meaning_of expanded.now) text.now) result (K.held out.old) (K.held out.new) }
     ensures write_fault { result ≡ Status.WriteFault → Rose (K.faults out.old) (K.faults out.new) }
     ensures out_lasting { K.faults out.old ≤ K.faults out.new }
@@ -44,7 +50,8 @@ pub(crate) fn print_lines<R: Threads + Sync, K: Sink>(
     let mut number: u64 = 1;
     let mut rest = text;
     while !rest.is_empty() {
-        let Ok((group, later)) = take_group(alloc, options, expanded, packed, rest) else {
+        let Ok((group, later)) = take_group(alloc, options, expanded, packed, &mut stock, rest)
+        else {
             return Status::OutOfMemory;
         };
         let Ok(answered) = answers(rt, alloc, group.jobs.as_slice()) else {

@@ -17,11 +17,15 @@ pub enum Family {
     Multi,
     /// The linking principles.
     Link,
+    /// Rules.
+    Rule,
+    /// Bounds.
+    Bound,
 }
 
 /// The family of a principle.
-pub(crate) fn family_of(principle: Principle) -> Family
-    ensures { Holds result principle }
+pub(crate) fn family_of(principle: &Principle) -> Family
+    ensures { Holds result principle.now }
 {
     match principle {
         Principle::Graph => Family::Graph,
@@ -43,5 +47,7 @@ pub(crate) fn family_of(principle: Principle) -> Family
         Principle::LinkingAboveStart => Family::Link,
         Principle::LinkingSisters => Family::Link,
         Principle::LinkingNotDaughter => Family::Link,
+        Principle::Rule(_) => Family::Rule,
+        Principle::Bound(_, _) => Family::Bound,
     }
 }

@@ -19,3 +19,4 @@ pub mod Tables
 pub mod Labels
 pub mod Told
 pub mod Skipped
+pub mod Needing

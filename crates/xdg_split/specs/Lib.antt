@@ -1,2 +1,5 @@
 pub mod Asked
 pub mod Answers
+pub mod Splits
+pub mod Finds
+pub mod Slots

@@ -44,8 +44,12 @@ impl<'a> Model for Store<'a> {
     ghost use Rattle.xdg_trail.specs.Trailed.{past};
     ghost use Rattle.xdg_store.specs.Layout.{bits_of, box_in};
     ghost use Rattle.xdg_store.specs.States.{State, Keeps, oldest};
+    ghost use Rattle.std.specs.Coded.{codes};
+    ghost use Rattle.xdg_problem.specs.contracts.formula.Formula as formula;
 
     ghost Value = { State };
+
+    ghost coded = { Prim.hlevel (codes, formula.the_row.coded) };
 
     ghost view = { λ s. record {
       parts = s.problem.now;

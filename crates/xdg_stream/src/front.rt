@@ -40,8 +40,12 @@ impl<'a, P: Propagator> Model for BoxFront<'a, P> {
     ghost use Rattle.xdg_store.specs.States.{Known};
     ghost use Rattle.xdg_stream.specs.Fronted.{Fronted, HasFront};
     ghost use Rattle.xdg_propcore.specs.Uses.{AllStandIn};
+    ghost use Rattle.std.specs.Coded.{codes};
+    ghost use Rattle.xdg_problem.specs.contracts.formula.Formula as formula;
 
     ghost Value = { Fronted };
+
+    ghost coded = { Prim.hlevel (codes, formula.the_row.coded) };
 
     ghost view = { λ f. record { parts = f.store.parts; numbers = f.numbers.items } };
 
