@@ -1,10 +1,11 @@
 //! Arrangements, one after another.
 
-ghost use Rattle.std.specs.Prelude.{◌≡◌, ◌≢◌, ◌≤◌, ◌<◌, ◌+◌, ◌⊎◌, ◌==◌, ◌^◌, cond, length, IfOk};
+ghost use Rattle.std.specs.Prelude.{◌≡◌, ◌≢◌, ◌≤◌, ◌<◌, ◌+◌, ◌⊎◌, ◌==◌, ◌^◌, cond, length, IfOk, OnOk};
 ghost use Rattle.xdg_arrange.specs.Found.{IsOneFind, Writes, arrangement_line};
 ghost use Rattle.xdg_arrange.specs.Texts.{AreArranged};
 ghost use Rattle.xdg_build.specs.Compiled.{compiled};
 ghost use Rattle.xdg_build.specs.Solutions.{KeepsSolutions};
+ghost use Rattle.xdg_build.specs.Stocks.{IsStock};
 ghost use Rattle.xdg_entries.specs.Entries.{IsRightLexicon};
 ghost use Rattle.xdg_grammar.specs.Packed.{IsPackedOf};
 ghost use Rattle.xdg_groups.specs.Grammars.{grammar_of};
@@ -15,7 +16,7 @@ ghost use Rattle.xdg_outcomes.specs.Runs.{LeavesFront};
 use crate::searching::{Searched, print_arrangement};
 use std::alloc::{AllocError, Global};
 use xdg_base::{List, OutOfMemory};
-use xdg_build::build;
+use xdg_build::Stock;
 use xdg_grammar::Expanded;
 use xdg_io::Sink;
 use xdg_linear::Arrangements;
@@ -44,21 +45,25 @@ fn words_at(
     Ok(made)
 }
 
-/// The problem of the words at ranks. Each of the words has an entry, so it is not refused.
+/// The problem of the words at ranks, with what the problems of a grammar share from a stock of the grammar. Each of the words has an
+/// entry, so it is not refused.
 fn problem_at(
     alloc: Global,
     expanded: &Expanded,
     packed: &Packed,
+    stock: &mut Stock,
     words: &[SentenceWord],
     ranks: &[u8],
 ) -> Result<Problem, OutOfMemory>
     requires lexicon { IsRightLexicon expanded.now.checked.types expanded.now.entries }
     requires packed { IsPackedOf expanded.now packed.now }
+    requires stock { IsStock (grammar_of expanded.now.checked packed.now) stock.old }
+    ensures stock { OnOk result (IsStock (grammar_of expanded.now.checked packed.now) stock.new) }
     ensures compiled { IfOk result (λ problem. problem ≡ compiled (grammar_of expanded.now.checked packed.now) (words_at words.now ranks.now)) }
     ensures keeps { IfOk result (KeepsSolutions (grammar_of expanded.now.checked packed.now) (words_at words.now ranks.now)) }
 {
     let words = words_at(alloc, words, ranks)?;
-    match build(alloc, &expanded.checked, packed, words) {
+    match stock.build(alloc, &expanded.checked, packed, words) {
         Ok(problem) => Ok(problem),
         Err(_) => Err(OutOfMemory),
     }
@@ -70,6 +75,7 @@ fn print_ranks<K: Sink>(
     budget: u64,
     expanded: &Expanded,
     packed: &Packed,
+    stock: &mut Stock,
     words: &[SentenceWord],
     ranks: &[u8],
     number: u64,
@@ -77,6 +83,8 @@ fn print_ranks<K: Sink>(
 ) -> Searched
     requires lexicon { IsRightLexicon expanded.now.checked.types expanded.now.entries }
     requires packed { IsPackedOf expanded.now packed.now }
+    requires stock { IsStock (grammar_of expanded.now.checked packed.now) stock.old }
+    ensures stock { result ≢ Searched.OutOfMemory → IsStock (grammar_of expanded.now.checked packed.now) stock.new }
     ensures written { Writes result budget (compiled (grammar_of expanded.now.checked packed.now) (words_at words.now ranks.now)) (arrangement_line number (words_at words.now ranks.now)) (K.held out.old) (K.held out.new) }
     ensures one { result ≢ Searched.OutOfMemory → IsOneFind budget (compiled (grammar_of expanded.now.checked packed.now) (words_at words.now ranks.now)) }
     ensures keeps { result ≢ Searched.OutOfMemory → KeepsSolutions (grammar_of expanded.now.checked packed.now) (words_at words.now ranks.now) (compiled (grammar_of expanded.now.checked packed.now) (words_at words.now ranks.now)) }
@@ -84,7 +92,7 @@ fn print_ranks<K: Sink>(
     ensures lasting { K.faults out.old ≤ K.faults out.new }
     ensures quiet { result ≢ Searched.Failed → K.faults out.new ≡ K.faults out.old }
 {
-    match problem_at(alloc, expanded, packed, words, ranks) {
+    match problem_at(alloc, expanded, packed, stock, words, ranks) {
         Ok(problem) => print_arrangement(alloc, &problem, budget, number, out),
         Err(OutOfMemory) => Searched::OutOfMemory,
     }
@@ -117,6 +125,9 @@ pub(crate) fn print_arrangements<K: Sink>(
     ensures out_quiet { result ≢ Status.WriteFault → K.faults out.new ≡ K.faults out.old }
     ensures ends { (result ≡ Status.Done) ⊎ ((result ≡ Status.Spent) ⊎ ((result ≡ Status.WriteFault) ⊎ (result ≡ Status.OutOfMemory))) }
 {
+    let Ok(mut stock) = Stock::new(alloc, &expanded.checked, packed) else {
+        return Status::OutOfMemory;
+    };
     let Ok(mut arrangements) = Arrangements::of(alloc, words) else {
         return Status::OutOfMemory;
     };
@@ -134,6 +145,7 @@ pub(crate) fn print_arrangements<K: Sink>(
             budget,
             expanded,
             packed,
+            &mut stock,
             words.as_slice(),
             arrangements.view(),
             printed + 1,
