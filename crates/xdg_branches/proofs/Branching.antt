@@ -26,7 +26,7 @@ use Rattle.xdg_split.specs.Asked.{Asked, asked}
 use Rattle.xdg_split.specs.Splits.{AllWant, AreFirst, AreProblems, Ends, IsSplit, IsWhole, Reach, wanted_of}
 use Rattle.xdg_split.specs.Splits.Reaches.{all, some}
 use Rattle.xdg_split.proofs.Reaching.{not_both}
-use Rattle.xdg_split.proofs.Splitting.{have_one_split}
+use Rattle.xdg_split.proofs.Together.{have_one_split}
 
 -- ---- fronts of lists
 

@@ -1,6 +1,6 @@
 mod Halves
 mod Searched
 pub mod Reaching
-pub mod Splitting
+pub mod Together
 mod Collecting
 mod Turning

@@ -13,7 +13,7 @@ use Rattle.xdg_split.specs.Finds.{Joins}
 use Rattle.xdg_split.specs.Splits.{AllWant, AreProblems, IsSplit}
 use Rattle.xdg_split.proofs.Collecting.{below_some}
 use Rattle.xdg_split.proofs.Reaching.{some_reach}
-use Rattle.xdg_split.proofs.Splitting.{split_stopped}
+use Rattle.xdg_split.proofs.Together.{split_stopped}
 
 -- no jobs come to nothing
 pub split_none : (wanted : Option ℕ) → IsSome wanted → IsSplit wanted [] endings.Complete []
