@@ -1,4 +1,4 @@
-mod Halves
+mod Slotted
 mod Searched
 pub mod Reaching
 pub mod Together

@@ -52,9 +52,9 @@ module _ (job : Asked) (counted : List (List ℕ)) (solutions : List Analysis) (
   first_single : (wanted : Option ℕ) → IsAt m wanted → m ≤ reach (shape job.parts) job.budget counted → IsSplit wanted (job ∷ []) endings.First (take m solutions)
   first_single wanted at within = elim (three_cases job.budget (length counted)) [
     | inl beyond ↦ (let front : List Analysis = take (reach (shape job.parts) job.budget counted) solutions in
-      let same : take m solutions ≡ take m front = sym (take-take m (reach (shape job.parts) job.budget counted) solutions within) in
-      let long : m ≤ length front = long_front same in
-      record { whole = false; reached = front; reach = part_single beyond; end = first_at wanted front at long same })
+        let same : take m solutions ≡ take m front = sym (take-take m (reach (shape job.parts) job.budget counted) solutions within) in
+        let long : m ≤ length front = long_front same in
+        record { whole = false; reached = front; reach = part_single beyond; end = first_at wanted front at long same })
     | inr (inl same) ↦ record { whole = true; reached = solutions; reach = whole_single (omega (arith, same)); end = first_at wanted solutions at no_more refl }
     | inr (inr less) ↦ record { whole = true; reached = solutions; reach = whole_single (omega (arith, less)); end = first_at wanted solutions at no_more refl }
   ] where

@@ -31,8 +31,12 @@ pub struct Job<P: Propagator> {
 
 impl<P: Propagator> Model for Job<P> {
     ghost use Rattle.xdg_split.specs.Asked.{Asked, IsJob, asked};
+    ghost use Rattle.std.specs.Coded.{codes};
+    ghost use Rattle.xdg_problem.specs.contracts.formula.Formula as formula;
 
     ghost Value = { Asked };
+
+    ghost coded = { Prim.hlevel (codes, formula.the_row.coded) };
 
     ghost view = { λ job. asked job.problem job.budget job.first };
 
@@ -52,6 +56,11 @@ impl<P: Propagator> Job<P> {
             budget,
             first,
         }
+    }
+
+    /// How many decisions the sentence has.
+    pub(crate) fn decisions(&self) -> u64 {
+        self.problem.decisions()
     }
 
     /// Searches the sentence and keeps what is printed. The memory of the search is given back when it has ended.
@@ -99,8 +108,13 @@ impl<P: Propagator> Job<P> {
         ensures { IfOk result (λ found. IsSplit self.now.first (self.now ∷ []) found.ending found.found.items) }
     {
         let _parts = self.problem.parts();
-        let mut stream =
-            Stream::start(alloc, &self.problem, self.props.as_slice(), self.budget, None)?;
+        let mut stream = Stream::start(
+            alloc,
+            &self.problem,
+            self.props.as_slice(),
+            self.budget,
+            None,
+        )?;
         find(alloc, &mut stream, self.first)
     }
 }
