@@ -4,7 +4,6 @@ ghost use Rattle.std.specs.Prelude.{◌≡◌, ◌<◌, length, IfOk};
 ghost use Rattle.xdg_branches.specs.Branched.{CanBranch};
 ghost use Rattle.xdg_branches.specs.Branched as spec;
 ghost use Rattle.xdg_problem.specs.Branches.{first_candidates};
-ghost use Rattle.xdg_problem.specs.Problems.{IsProblem};
 
 use std::alloc::Global;
 use xdg_base::{List, OutOfMemory};
