@@ -154,6 +154,11 @@ joins_complete wanted f g found later ending cut jobs others x y = record {
   end = cut_ends wanted x.reached y.reached g found y.whole later ending y.end (subst (λ z. IsCut wanted later (z ++ g) ending found) x.end.1 cut);
 }
 
+-- two lists of answers are one, of which as many as wanted are kept
+pub joins_cut : (wanted : Option ℕ) (ending later middle new : Ending) (f g joined found : List Analysis) → ending ≡ endings.Complete → middle ≡ later → joined ≡ f ++ g → IsCut wanted middle joined new found → Joins wanted ending f later g new found
+joins_cut wanted ending later middle new f g joined found is same grown cut jobs others x y =
+    joins_complete wanted f g found later new (subst (λ z. IsCut wanted later z new found) grown (subst (λ z. IsCut wanted z joined new found) same cut)) jobs others (subst (λ z. IsSplit wanted jobs z f) is x) y
+
 -- as many as wanted are the first of what is reached, and of what is reached with others
 first_stopped : (wanted : Option ℕ) (jobs others : List Asked) (found : List Analysis) (w v : Bool) (r s : List Analysis) → Reach jobs w r → Reach others v s → AreFirst wanted r found → IsSplit wanted (jobs ++ others) endings.First found
 first_stopped None jobs others found w v r s x y e = absurd e
@@ -174,6 +179,9 @@ split_stopped wanted jobs others endings.Spent found v s ended x y = record {
 
 pub joins_stopped : (wanted : Option ℕ) (f g : List Analysis) (ending later : Ending) → (ending ≡ endings.Complete → ⊥) → Joins wanted ending f later g ending f
 joins_stopped wanted f g ending later ended jobs others x y = split_stopped wanted jobs others ending f y.whole y.reached ended x y.reach
+
+pub not_complete : (e ending : Ending) → ending ≡ e → (e ≡ endings.Complete → ⊥) → ending ≡ endings.Complete → ⊥
+not_complete e ending is other c = other (sym is ∙ c)
 
 -- ---- one answer
 
