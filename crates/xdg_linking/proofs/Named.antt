@@ -45,6 +45,8 @@ naming_test principles.Agreement f truths one two = absurd f
 naming_test principles.Government f truths one two = absurd f
 naming_test principles.Climbing f truths one two = absurd f
 naming_test principles.Barriers f truths one two = absurd f
+naming_test (principles.Rule formula) f truths one two = absurd f
+naming_test (principles.Bound costs bound) f truths one two = absurd f
 
 module _ (parts : Parts) (group : Group) (linking : IsLinking group.principle) where
   abbrev one : ℕ
@@ -79,4 +81,4 @@ module _ (parts : Parts) (group : Group) (linking : IsLinking group.principle) w
 
 -- the kinds that a propagator keeps
 pub are_named : (own wakes : ℕ) (parts : Parts) (number : ℕ) → StandsFor (stands_at own wakes) parts number → AreNamed parts (use_at parts number) wakes
-are_named own wakes parts number mine kind h = kind_named parts (use_at parts number) mine.1.1 kind (subst (λ w. bit_at w kind ≡ 1) mine.1.2 h)
+are_named own wakes parts number mine kind h = inr (kind_named parts (use_at parts number) mine.1.1 kind (subst (λ w. bit_at w kind ≡ 1) mine.1.2 h))
