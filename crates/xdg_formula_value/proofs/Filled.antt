@@ -1,29 +1,29 @@
 -- Tables of paths that are filled one dimension after another.
-use Rattle.std.proofs.Common.{◌≡◌, ◌≢◌, ℕ, ◌<◌, ◌↔◌, inl, inr, Bool, true, false, List, [], length, sym, ◌∙◌, subst, ap, arith}
+use Rattle.std.proofs.Common.{◌≡◌, ◌↔◌, ℕ, ◌+◌, ◌<◌, inl, inr, Bool, true, false, List, [], length, sym, ◌∙◌, subst, ap, arith}
 use Rattle.std.specs.Prelude.{slice_index_or, slice_set}
 use Rattle.std.proofs.lemmas.Bool.{cases_eq, false≢true}
 use Rattle.std.proofs.lemmas.List.{get_or-set_same, get_or-set_other}
 use Rattle.xdg_judge.specs.Links.{In}
 use Rattle.xdg_problem.specs.Paths.{Above}
-use Rattle.xdg_rules.specs.Rules.{may_edges, must_edges}
+use Rattle.xdg_reach.specs.declared.which.Which.{Which}
+use Rattle.xdg_reach.specs.Edges.{edges_of}
 use Rattle.xdg_store.specs.States.{State}
-use Rattle.xdg_formula_value.specs.Filling.{IsFilled, AreFilled}
+use Rattle.xdg_formula_value.specs.Filling.{TellsPaths}
 use Rattle.xdg_formula_value.specs.Pairs.{Along}
 use Rattle.xdg_formula_value.specs.declared.way.Way.{Way}
 
--- with the tables of one more
-pub filled_more : (way : Way) (s : State) (known : List Bool) (may must : List (List (List ℕ))) (dim : ℕ) (few many : List (List ℕ)) → dim < length may → dim < length must → AreFilled way s known may must
-    → ((a b : ℕ) → In few a b ↔ Along way (Above (may_edges s.parts s.now dim)) a b) → ((a b : ℕ) → In many a b ↔ Along way (Above (must_edges s.parts s.now dim)) a b)
-    → AreFilled way s (slice_set known dim true) (slice_set may dim few) (slice_set must dim many)
-filled_more way s known may must dim few many short also filled may_be must_be d is = elim (cases_eq d dim) [
-  | inl same ↦ subst (λ k. IsFilled way s k (slice_index_or (slice_set may dim few) k []) (slice_index_or (slice_set must dim many) k [])) (sym same)
-      (subst (λ t. IsFilled way s dim t (slice_index_or (slice_set must dim many) dim [])) (sym (get_or-set_same may dim few [] short))
-      (subst (λ t. IsFilled way s dim few t) (sym (get_or-set_same must dim many [] also)) (record { may_be = may_be; must_be = must_be })))
-  | inr other ↦ (let before = filled d (sym (get_or-set_other known dim d true false other) ∙ is) in
-      subst (λ t. IsFilled way s d t (slice_index_or (slice_set must dim many) d [])) (sym (get_or-set_other may dim d few [] other))
-      (subst (λ t. IsFilled way s d (slice_index_or may d []) t) (sym (get_or-set_other must dim d many [] other)) before))
-]
+module _ (way : Way) (which : Which) (s : State) (k : ℕ) (known : List Bool) (tables : List (List (List ℕ))) (before : TellsPaths way which s k known tables) where
+  -- a dimension of which none is wanted
+  pub tells_skip : slice_index_or known k false ≡ false → TellsPaths way which s (k + 1) known tables
+  tells_skip off dim l wanted = elim (cases_eq dim k) [
+    | inl same ↦ absurd (false≢true (sym off ∙ subst (λ j. slice_index_or known j false ≡ true) same wanted))
+    | inr other ↦ before dim (omega (arith, l, other)) wanted
+  ]
 
--- at first none is known
-pub none_filled : (way : Way) (s : State) (known : List Bool) (may must : List (List (List ℕ))) → ((d : ℕ) → slice_index_or known d false ≡ false) → AreFilled way s known may must
-none_filled way s known may must none d is = absurd (false≢true (sym (none d) ∙ is))
+  -- the table of one more
+  pub tells_more : (table : List (List ℕ)) → k < length tables → ((a b : ℕ) → In table a b ↔ Along way (Above (edges_of which s.parts s.now k)) a b) → TellsPaths way which s (k + 1) known (slice_set tables k table)
+  tells_more table within is dim l wanted = elim (cases_eq dim k) [
+    | inl same ↦ subst (λ j. (a b : ℕ) → In (slice_index_or (slice_set tables k table) j []) a b ↔ Along way (Above (edges_of which s.parts s.now j)) a b) (sym same)
+        (subst (λ t. (a b : ℕ) → In t a b ↔ Along way (Above (edges_of which s.parts s.now k)) a b) (sym (get_or-set_same tables k table [] within)) is)
+    | inr other ↦ subst (λ t. (a b : ℕ) → In t a b ↔ Along way (Above (edges_of which s.parts s.now dim)) a b) (sym (get_or-set_other tables k dim table [] other)) (before dim (omega (arith, l, other)) wanted)
+  ]

@@ -1,17 +1,31 @@
 -- Tables of paths, dimension by dimension.
-use Rattle.std.specs.Prelude.{◌≡◌, ◌↔◌, ℕ, Bool, true, false, List, [], slice_index_or}
+use Rattle.std.specs.Prelude.{◌≡◌, ◌↔◌, ℕ, ◌<◌, Bool, true, false, List, [], slice_index_or}
 use Rattle.xdg_judge.specs.Links.{In}
 use Rattle.xdg_problem.specs.Paths.{Above}
-use Rattle.xdg_rules.specs.Rules.{may_edges, must_edges}
+use Rattle.xdg_problem.specs.Places.{nodes}
+use Rattle.xdg_reach.specs.declared.which.Which.{Which}
+use Rattle.xdg_reach.specs.declared.which.Which.TheVariants as whichs
+use Rattle.xdg_reach.specs.Edges.{edges_of}
 use Rattle.xdg_store.specs.States.{State}
 use Rattle.xdg_formula_value.specs.Pairs.{Along}
+use Rattle.xdg_formula_value.specs.Rows.{IsEvery}
+use Rattle.xdg_formula_value.specs.declared.paths.Filled.{Filled}
+use Rattle.xdg_formula_value.specs.declared.paths.Paths.{Paths}
 use Rattle.xdg_formula_value.specs.declared.way.Way.{Way}
+use Rattle.xdg_formula_value.specs.declared.way.Way.TheVariants as ways
 
--- the two tables of a dimension have for each node the nodes to which paths lead
-pub record IsFilled (way : Way) (s : State) (dim : ℕ) (may must : List (List ℕ)) : Type 0 where
-  pub may_be : (a b : ℕ) → In may a b ↔ Along way (Above (may_edges s.parts s.now dim)) a b
-  pub must_be : (a b : ℕ) → In must a b ↔ Along way (Above (must_edges s.parts s.now dim)) a b
+-- of the first dimensions, the table of each that is known has for each node the nodes to which paths lead
+abbrev pub TellsPaths : Way → Which → State → ℕ → List Bool → List (List (List ℕ)) → Type 0
+TellsPaths way which s k known tables =
+    (dim : ℕ) → dim < k → slice_index_or known dim false ≡ true → (a b : ℕ) → In (slice_index_or tables dim []) a b ↔ Along way (Above (edges_of which s.parts s.now dim)) a b
 
--- the tables of each dimension that is known are filled
-abbrev pub AreFilled : Way → State → List Bool → List (List (List ℕ)) → List (List (List ℕ)) → Type 0
-AreFilled way s known may must = (dim : ℕ) → slice_index_or known dim false ≡ true → IsFilled way s dim (slice_index_or may dim []) (slice_index_or must dim [])
+-- the tables of both kinds of edges do
+pub record AreFilled (way : Way) (s : State) (filled : Filled) : Type 0 where
+  pub may : TellsPaths way whichs.May s 8 filled.known filled.may
+  pub must : TellsPaths way whichs.Must s 8 filled.known filled.must
+
+-- the nodes are those of the sentence, and the tables are filled
+pub record ArePaths (s : State) (paths : Paths) : Type 0 where
+  pub all : IsEvery (nodes s.parts) paths.all
+  pub below : AreFilled ways.Down s paths.below
+  pub above : AreFilled ways.Up s paths.above

@@ -15,11 +15,11 @@ ghost use Rattle.xdg_store.specs.States.{Known};
 ghost use Rattle.xdg_formula_value.specs.Rows.{AreFirst, IsRowOn, stands};
 
 use crate::binding::node_of;
-use crate::look::Look;
 use crate::rows::{constant, kept};
 use xdg_base::{AttrId, DimId, List, NodeId};
 use xdg_nodeset::NodeSet;
 use xdg_problem::Parts;
+use xdg_reach::node_count;
 use xdg_store::Store;
 use xdg_uses::entry_count;
 
@@ -63,7 +63,7 @@ fn attr_told(store: &Store, node: NodeId, dim: DimId, attr: AttrId, value: u16, 
 
 /// Of some nodes, those for which a name has to stand so that the box makes true, or false, that an attribute has a value.
 pub(crate) fn attr_row(
-    look: &Look,
+    store: &Store,
     binding: &[u8; 256],
     name: u8,
     node: u8,
@@ -73,32 +73,25 @@ pub(crate) fn attr_row(
     truth: bool,
     care: NodeSet,
 ) -> NodeSet
-    requires care { AreFirst (nodes look.now.parts) care }
-    requires dim { dim.0 < length look.now.parts.dims }
-    requires attr { attr.0 < attr_count look.now.parts dim.0 }
-    requires value { value < value_count look.now.parts dim.0 attr.0 }
-    requires nodes { AreNodes look.now.parts (stands binding.now) }
-    ensures row { IsRowOn care (λ v. EachValue look.now.now (attr_decision look.now.parts dim.0 (bound (stands binding.now) name v node) attr.0) (λ x. HasTruth truth (x ≡ value))) result }
+    requires care { AreFirst (nodes store.now.parts) care }
+    requires dim { dim.0 < length store.now.parts.dims }
+    requires attr { attr.0 < attr_count store.now.parts dim.0 }
+    requires value { value < value_count store.now.parts dim.0 attr.0 }
+    requires nodes { AreNodes store.now.parts (stands binding.now) }
+    ensures row { IsRowOn care (λ v. EachValue store.now.now (attr_decision store.now.parts dim.0 (bound (stands binding.now) name v node) attr.0) (λ x. HasTruth truth (x ≡ value))) result }
 {
     if node != name {
-        return constant(attr_told(
-            look.store(),
-            node_of(binding, node),
-            dim,
-            attr,
-            value,
-            truth,
-        ));
+        return constant(attr_told(store, node_of(binding, node), dim, attr, value, truth));
     }
     let mut row = NodeSet::empty();
-    for one in 0..look.node_count() {
+    for one in 0..node_count(store) {
         if !care.contains(NodeId(one)) {
             continue;
         }
         row = kept(
             row,
             one,
-            attr_told(look.store(), NodeId(one), dim, attr, value, truth),
+            attr_told(store, NodeId(one), dim, attr, value, truth),
         );
     }
     row
@@ -133,7 +126,7 @@ fn entries_told(store: &Store, node: NodeId, table: &List<List<bool>>, truth: bo
 
 /// Of some nodes, those for which a name has to stand so that the box makes true, or false, what a table says of entries.
 pub(crate) fn feat_row(
-    look: &Look,
+    store: &Store,
     binding: &[u8; 256],
     name: u8,
     node: u8,
@@ -141,23 +134,19 @@ pub(crate) fn feat_row(
     truth: bool,
     care: NodeSet,
 ) -> NodeSet
-    requires care { AreFirst (nodes look.now.parts) care }
-    requires nodes { AreNodes look.now.parts (stands binding.now) }
-    ensures row { IsRowOn care (λ v. EachEntry look.now.now (bound (stands binding.now) name v node) (λ c. HasTruth truth (says table.now (bound (stands binding.now) name v node) c ≡ true))) result }
+    requires care { AreFirst (nodes store.now.parts) care }
+    requires nodes { AreNodes store.now.parts (stands binding.now) }
+    ensures row { IsRowOn care (λ v. EachEntry store.now.now (bound (stands binding.now) name v node) (λ c. HasTruth truth (says table.now (bound (stands binding.now) name v node) c ≡ true))) result }
 {
     if node != name {
-        return constant(entries_told(look.store(), node_of(binding, node), table, truth));
+        return constant(entries_told(store, node_of(binding, node), table, truth));
     }
     let mut row = NodeSet::empty();
-    for one in 0..look.node_count() {
+    for one in 0..node_count(store) {
         if !care.contains(NodeId(one)) {
             continue;
         }
-        row = kept(
-            row,
-            one,
-            entries_told(look.store(), NodeId(one), table, truth),
-        );
+        row = kept(row, one, entries_told(store, NodeId(one), table, truth));
     }
     row
 }

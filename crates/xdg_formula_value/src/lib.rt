@@ -4,14 +4,15 @@
 mod atoms;
 mod binding;
 mod kinds;
-mod look;
 mod pair;
+mod paths;
 mod rows;
 mod rule_prop;
 mod value;
 mod way;
 
 pub use pair::Pair;
+pub use paths::{Filled, Paths};
 pub use rule_prop::RuleProp;
 pub use value::is_false;
 pub use way::Way;

@@ -5,16 +5,18 @@ ghost use Rattle.xdg_nodeset.specs.Nodes.{has};
 ghost use Rattle.xdg_problem.specs.Places.{nodes};
 ghost use Rattle.xdg_problem.specs.Truths.{bound, HasTruth};
 ghost use Rattle.xdg_rules.specs.WorthLaws.{AreNodes};
+ghost use Rattle.xdg_formula_value.specs.Filling.{ArePaths};
 ghost use Rattle.xdg_formula_value.specs.Pairs.{Along, IsPairOf, Relates, edges_for};
 ghost use Rattle.xdg_formula_value.specs.Rows.{IsRow, stands};
 
 use crate::binding::node_of;
-use crate::look::Look;
+use crate::paths::{Paths, far};
 use crate::rows::{constant, kept, opposite, told, up_to};
 use crate::way::Way;
 use xdg_base::{DimId, LabelId, NodeId};
 use xdg_nodeset::NodeSet;
-use xdg_reach::{Which, daughters_by, labels_of, mothers_by};
+use xdg_reach::{Which, daughters_by, labels_of, mothers_by, node_count};
+use xdg_store::Store;
 
 /// What may hold of two nodes.
 #[derive(Clone, Copy, Debug)]
@@ -51,39 +53,46 @@ fn only(node: NodeId) -> NodeSet
 
 /// The nodes that edges with a label join to a node, one way.
 fn joined_by(
-    look: &Look,
+    store: &Store,
     which: Which,
     way: Way,
     dim: DimId,
     label: LabelId,
     node: NodeId,
 ) -> NodeSet
-    requires node { node.0 < nodes look.now.parts }
-    ensures row { IsRow (nodes look.now.parts) (Along way (Relates (Pair.Edge dim label) which look.now.parts look.now.now) node.0) result }
+    requires node { node.0 < nodes store.now.parts }
+    ensures row { IsRow (nodes store.now.parts) (Along way (Relates (Pair.Edge dim label) which store.now.parts store.now.now) node.0) result }
 {
-    if label.0 >= labels_of(look.store(), dim) {
+    if label.0 >= labels_of(store, dim) {
         return NodeSet::empty();
     }
     match way {
-        Way::Down => daughters_by(look.store(), which, dim, node, label),
-        Way::Up => mothers_by(look.store(), which, dim, node, label),
+        Way::Down => daughters_by(store, which, dim, node, label),
+        Way::Up => mothers_by(store, which, dim, node, label),
     }
 }
 
 /// The nodes to which a node is related, or which are related to it.
-fn related(look: &mut Look, pair: Pair, which: Which, way: Way, node: NodeId) -> NodeSet
-    requires pair { IsPairOf look.old.parts pair }
-    requires node { node.0 < nodes look.old.parts }
-    ensures row { IsRow (nodes look.old.parts) (Along way (Relates pair which look.old.parts look.old.now) node.0) result }
-    ensures same { look.new ≡ look.old }
+fn related(
+    store: &Store,
+    paths: &Paths,
+    pair: Pair,
+    which: Which,
+    way: Way,
+    node: NodeId,
+) -> NodeSet
+    requires paths { ArePaths store.now paths.now }
+    requires pair { IsPairOf store.now.parts pair }
+    requires node { node.0 < nodes store.now.parts }
+    ensures row { IsRow (nodes store.now.parts) (Along way (Relates pair which store.now.parts store.now.now) node.0) result }
 {
     // Each store holds a box.
-    let _ = look.store();
+    let _ = store.turns();
     match pair {
-        Pair::Edge(dim, label) => joined_by(look, which, way, dim, label, node),
+        Pair::Edge(dim, label) => joined_by(store, which, way, dim, label, node),
         Pair::Path(dim) => match way {
-            Way::Down => look.below(which, dim, node),
-            Way::Up => look.above(which, dim, node),
+            Way::Down => far(store, &paths.below, Way::Down, which, dim, node),
+            Way::Up => far(store, &paths.above, Way::Up, which, dim, node),
         },
         Pair::Left => match way {
             Way::Down => opposite(up_to(node)),
@@ -94,14 +103,16 @@ fn related(look: &mut Look, pair: Pair, which: Which, way: Way, node: NodeId) ->
 }
 
 /// The nodes that are related to themselves. It looks at each.
-fn to_itself(look: &mut Look, pair: Pair, which: Which) -> NodeSet
-    requires pair { IsPairOf look.old.parts pair }
-    ensures row { IsRow (nodes look.old.parts) (λ v. Relates pair which look.old.parts look.old.now v v) result }
-    ensures same { look.new ≡ look.old }
+fn to_itself(store: &Store, paths: &Paths, pair: Pair, which: Which) -> NodeSet
+    requires paths { ArePaths store.now paths.now }
+    requires pair { IsPairOf store.now.parts pair }
+    ensures row { IsRow (nodes store.now.parts) (λ v. Relates pair which store.now.parts store.now.now v v) result }
 {
     let mut row = NodeSet::empty();
-    for node in 0..look.node_count() {
-        let there = related(look, pair, which, Way::Down, NodeId(node)).contains(NodeId(node));
+    for node in 0..node_count(store) {
+        let there = related(store, paths, pair, which, Way::Down, NodeId(node)).contains(NodeId(
+            node,
+        ));
         row = kept(row, node, there);
     }
     row
@@ -109,7 +120,8 @@ fn to_itself(look: &mut Look, pair: Pair, which: Which) -> NodeSet
 
 /// The nodes for which a name has to stand so that what two names stand for is related.
 fn related_row(
-    look: &mut Look,
+    store: &Store,
+    paths: &Paths,
     binding: &[u8; 256],
     name: u8,
     pair: Pair,
@@ -117,18 +129,25 @@ fn related_row(
     first: u8,
     second: u8,
 ) -> NodeSet
-    requires pair { IsPairOf look.old.parts pair }
-    requires nodes { AreNodes look.old.parts (stands binding.now) }
-    ensures row { IsRow (nodes look.old.parts) (λ v. Relates pair which look.old.parts look.old.now (bound (stands binding.now) name v first) (bound (stands binding.now) name v second)) result }
-    ensures same { look.new ≡ look.old }
+    requires paths { ArePaths store.now paths.now }
+    requires pair { IsPairOf store.now.parts pair }
+    requires nodes { AreNodes store.now.parts (stands binding.now) }
+    ensures row { IsRow (nodes store.now.parts) (λ v. Relates pair which store.now.parts store.now.now (bound (stands binding.now) name v first) (bound (stands binding.now) name v second)) result }
 {
     if first == name {
         if second == name {
-            return to_itself(look, pair, which);
+            return to_itself(store, paths, pair, which);
         }
-        return related(look, pair, which, Way::Up, node_of(binding, second));
+        return related(store, paths, pair, which, Way::Up, node_of(binding, second));
     }
-    let row = related(look, pair, which, Way::Down, node_of(binding, first));
+    let row = related(
+        store,
+        paths,
+        pair,
+        which,
+        Way::Down,
+        node_of(binding, first),
+    );
     if second == name {
         return row;
     }
@@ -147,7 +166,8 @@ fn edges_for(truth: bool) -> Which
 
 /// The nodes for which a name has to stand so that the box makes true, or false, that what two names stand for is related.
 pub(crate) fn pair_row(
-    look: &mut Look,
+    store: &Store,
+    paths: &Paths,
     binding: &[u8; 256],
     name: u8,
     pair: Pair,
@@ -155,11 +175,20 @@ pub(crate) fn pair_row(
     second: u8,
     truth: bool,
 ) -> NodeSet
-    requires pair { IsPairOf look.old.parts pair }
-    requires nodes { AreNodes look.old.parts (stands binding.now) }
-    ensures row { IsRow (nodes look.old.parts) (λ v. HasTruth truth (Relates pair (edges_for truth) look.old.parts look.old.now (bound (stands binding.now) name v first) (bound (stands binding.now) name v second))) result }
-    ensures same { look.new ≡ look.old }
+    requires paths { ArePaths store.now paths.now }
+    requires pair { IsPairOf store.now.parts pair }
+    requires nodes { AreNodes store.now.parts (stands binding.now) }
+    ensures row { IsRow (nodes store.now.parts) (λ v. HasTruth truth (Relates pair (edges_for truth) store.now.parts store.now.now (bound (stands binding.now) name v first) (bound (stands binding.now) name v second))) result }
 {
-    let row = related_row(look, binding, name, pair, edges_for(truth), first, second);
+    let row = related_row(
+        store,
+        paths,
+        binding,
+        name,
+        pair,
+        edges_for(truth),
+        first,
+        second,
+    );
     told(truth, row)
 }

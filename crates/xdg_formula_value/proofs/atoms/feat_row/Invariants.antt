@@ -5,4 +5,4 @@ use Rattle.xdg_formula_value.specs.Rows.{Gathers}
 use Rattle.xdg_formula_value.proofs.atoms.feat_row.Given as goal
 
 abbrev pub invariant-loop-one : goal.invariant-loop-one
-invariant-loop-one l = Gathers l.one l.care (λ v. EachEntry l.look.now v (λ c. HasTruth l.truth (says l.table v c ≡ true))) l.row
+invariant-loop-one l = Gathers l.one l.care (λ v. EachEntry l.store.now v (λ c. HasTruth l.truth (says l.table v c ≡ true))) l.row

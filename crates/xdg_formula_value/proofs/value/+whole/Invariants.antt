@@ -5,7 +5,7 @@ use Rattle.xdg_formula_value.specs.Rows.{stands}
 use Rattle.xdg_formula_value.proofs.value.+whole.Given as goal
 
 abbrev pub invariant-loop-part : goal.invariant-loop-part
-invariant-loop-part l = (l.look ≡ l.initial.look) × ((l.so_far ≡ true) ↔ Makes l.initial.look.parts l.initial.look.now (conjunction (claims_of (map claim (take l.part-index l.part-items)))) l.truth (stands l.binding))
+invariant-loop-part l = ((l.so_far ≡ true) ↔ Makes l.store.parts l.store.now (conjunction (claims_of (map claim (take l.part-index l.part-items)))) l.truth (stands l.binding))
 
 abbrev pub invariant-loop-part-2 : goal.invariant-loop-part-2
-invariant-loop-part-2 l = (l.look ≡ l.initial.look) × ((l.so_far ≡ true) ↔ Makes l.initial.look.parts l.initial.look.now (disjunction (claims_of (map claim (take l.part-index l.part-items)))) l.truth (stands l.binding))
+invariant-loop-part-2 l = ((l.so_far ≡ true) ↔ Makes l.store.parts l.store.now (disjunction (claims_of (map claim (take l.part-index l.part-items)))) l.truth (stands l.binding))
