@@ -1,8 +1,1 @@
 pub mod Ordering
-pub mod Leasts
-pub mod OutCounted
-pub mod Summed
-pub mod Freed
-pub mod Bounded
-pub mod BoundNamed
-pub mod BoundStepping

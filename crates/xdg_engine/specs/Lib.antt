@@ -1,6 +1,2 @@
 pub mod Families
-pub mod CostRows
-pub mod Bounding
-pub mod Freeing
-pub mod BoundStaying
 pub mod Standing

@@ -17,10 +17,8 @@ pub enum Family {
     Multi,
     /// The linking principles.
     Link,
-    /// Rules.
-    Rule,
-    /// Bounds.
-    Bound,
+    /// Rules and bounds, for which no propagator stands yet.
+    Later,
 }
 
 /// The family of a principle.
@@ -47,7 +45,7 @@ pub(crate) fn family_of(principle: &Principle) -> Family
         Principle::LinkingAboveStart => Family::Link,
         Principle::LinkingSisters => Family::Link,
         Principle::LinkingNotDaughter => Family::Link,
-        Principle::Rule(_) => Family::Rule,
-        Principle::Bound(_, _) => Family::Bound,
+        Principle::Rule(_) => Family::Later,
+        Principle::Bound(_, _) => Family::Later,
     }
 }

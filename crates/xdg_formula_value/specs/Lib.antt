@@ -1,6 +1,0 @@
-pub mod Rows
-pub mod Pairs
-pub mod Filling
-pub mod ClaimKinds
-pub mod Standing
-pub mod Staying
