@@ -39,6 +39,8 @@ at_place principles.Agreement f parts group box d v t = absurd f
 at_place principles.Government f parts group box d v t = absurd f
 at_place principles.Climbing f parts group box d v t = absurd f
 at_place principles.Barriers f parts group box d v t = absurd f
+at_place (principles.Rule formula) f parts group box d v t = absurd f
+at_place (principles.Bound costs bound) f parts group box d v t = absurd f
 
 pub all_done : (parts : Parts) (group : Group) (table : List (List ℕ)) (box : List (List Bool)) → IsBox (shape parts) box → IsLinking group.principle → IsExact parts group table box → AreMothersDone parts group table (nodes parts) box → IsClosedFor parts group box
 all_done parts group table box is linking exact done d v has takes = elim takes [

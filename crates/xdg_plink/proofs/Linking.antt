@@ -68,6 +68,8 @@ linked_led principles.Agreement r edges table labels u v covers h = absurd r
 linked_led principles.Government r edges table labels u v covers h = absurd r
 linked_led principles.Climbing r edges table labels u v covers h = absurd r
 linked_led principles.Barriers r edges table labels u v covers h = absurd r
+linked_led (principles.Rule formula) r edges table labels u v covers h = absurd r
+linked_led (principles.Bound costs bound) r edges table labels u v covers h = absurd r
 
 -- what is led to is linked, where the table has no more than that
 pub led_linked : (p : Principle) → Reaches p → (edges : List Edge) (table : List (List ℕ)) (labels : List ℕ) (u v : ℕ) → Keeps (way_of p) edges table → IsLed (way_of p) edges table labels (from_node p u v) (from_node p v u) → IsLinked p edges u labels v
@@ -90,3 +92,5 @@ led_linked principles.Agreement r edges table labels u v keeps h = absurd r
 led_linked principles.Government r edges table labels u v keeps h = absurd r
 led_linked principles.Climbing r edges table labels u v keeps h = absurd r
 led_linked principles.Barriers r edges table labels u v keeps h = absurd r
+led_linked (principles.Rule formula) r edges table labels u v keeps h = absurd r
+led_linked (principles.Bound costs bound) r edges table labels u v keeps h = absurd r

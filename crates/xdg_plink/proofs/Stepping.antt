@@ -66,6 +66,8 @@ two_dims principles.Agreement f = absurd f
 two_dims principles.Government f = absurd f
 two_dims principles.Climbing f = absurd f
 two_dims principles.Barriers f = absurd f
+two_dims (principles.Rule formula) f = absurd f
+two_dims (principles.Bound costs bound) f = absurd f
 
 pub are_small : (parts : Parts) (group : Group) → IsProblem parts → IsGroup parts group → IsLinking group.principle → AreSmall group
 are_small parts group problem is linking =

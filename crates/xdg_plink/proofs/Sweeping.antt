@@ -72,6 +72,8 @@ reach_at principles.Agreement r parts group box place d v t = absurd r
 reach_at principles.Government r parts group box place d v t = absurd r
 reach_at principles.Climbing r parts group box place d v t = absurd r
 reach_at principles.Barriers r parts group box place d v t = absurd r
+reach_at (principles.Rule formula) r parts group box place d v t = absurd r
+reach_at (principles.Bound costs bound) r parts group box place d v t = absurd r
 
 pub reach_takes : (p : Principle) → Reaches p → (parts : Parts) (group : Group) (box : List (List Bool)) (d v : ℕ) → LinkingReach parts group box d v → TakesBy p parts group box d v
 reach_takes principles.LinkingEnd r parts group box d v t = t
@@ -93,6 +95,8 @@ reach_takes principles.Agreement r parts group box d v t = absurd r
 reach_takes principles.Government r parts group box d v t = absurd r
 reach_takes principles.Climbing r parts group box d v t = absurd r
 reach_takes principles.Barriers r parts group box d v t = absurd r
+reach_takes (principles.Rule formula) r parts group box d v t = absurd r
+reach_takes (principles.Bound costs bound) r parts group box d v t = absurd r
 
 -- ---- one place
 
@@ -207,6 +211,8 @@ place_of principles.Agreement f parts group b place d v t = absurd f
 place_of principles.Government f parts group b place d v t = absurd f
 place_of principles.Climbing f parts group b place d v t = absurd f
 place_of principles.Barriers f parts group b place d v t = absurd f
+place_of (principles.Rule formula) f parts group b place d v t = absurd f
+place_of (principles.Bound costs bound) f parts group b place d v t = absurd f
 
 pub same_node : (group : Group) (table : List (List ℕ)) (p : Progress) (s : State) (u label v : ℕ) → IsReady group table s → u ≡ v → Sweeps group (DoneAt s.parts group table (edge (first_dim group) u label v)) p s p s
 same_node group table p s u label v ready same = sweeps_start group (DoneAt s.parts group table (edge (first_dim group) u label v)) p s ready.known (λ exact d x has takes. (is_place s.parts (edge (first_dim group) u label v) (place_of group.principle ready.linking s.parts group s.now (edge (first_dim group) u label v) d x takes)).differ same)
@@ -232,6 +238,8 @@ apart_else principles.Agreement f n = absurd f
 apart_else principles.Government f n = absurd f
 apart_else principles.Climbing f n = absurd f
 apart_else principles.Barriers f n = absurd f
+apart_else (principles.Rule formula) f n = absurd f
+apart_else (principles.Bound costs bound) f n = absurd f
 
 -- the place that the code names
 pub on_place : (group : Group) (table : List (List ℕ)) (s : State) (dim u label v : ℕ) → IsAtPlace group table u label v s → dim ≡ first_dim group → u ≢ v → IsOnPlace group (edge dim u label v) s
