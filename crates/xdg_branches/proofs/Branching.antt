@@ -68,6 +68,9 @@ begins_on (x ∷ xs) (y ∷ ys) (z ∷ zs) b c =
     tail [] = []
     tail (u ∷ us) = us
 
+begins_taken : (n : ℕ) (found solutions more : List Analysis) → found ≡ take n solutions → Begins found (solutions ++ more)
+begins_taken n found solutions more is = subst (λ z. Begins z (solutions ++ more)) (sym is) (begins_on (take n solutions) solutions (solutions ++ more) (begins_take n solutions) (begins_more solutions more))
+
 -- ---- what the branches reach
 
 module _ (parts : Parts) (is : IsProblem parts) (budget : ℕ) (wanted : Option ℕ) where
@@ -129,12 +132,11 @@ module _ (parts : Parts) (is : IsProblem parts) (budget : ℕ) (wanted : Option 
       }
   listed place (suc n) whole found within (some counted solutions lists beyond spent found_is) =
       let rest = some_lists_from (suc place) n (omega (arith, within)) in
-      let front = take _ solutions in
       record {
         lists = solutions ∷ rest.0;
         many = ap suc rest.1;
         are = (lists.solutions_are, rest.2);
-        begins = subst (λ z. Begins z (solutions ++ joined rest.0)) (sym found_is) (begins_on (take _ solutions) solutions (solutions ++ joined rest.0) (begins_take _ solutions) (begins_more solutions (joined rest.0)));
+        begins = begins_taken _ found solutions (joined rest.0) found_is;
         all_of = λ e. not_both (sym e ∙ spent);
       }
 
@@ -170,9 +172,9 @@ module _ (parts : Parts) (is : IsProblem parts) (budget : ℕ) (wanted : Option 
       (same.0, p.text_is ∙ ap₂ (λ xs (z : Ending). blocks form parts 1 xs ++ last_line z (length xs)) same.1 same.0 ∙ sym q.text_is)
 
   spent_not : (w : Option ℕ) (whole : Bool) (reached found : List Analysis) (ending : Ending) → whole ≡ true → Ends ending w whole reached found → ending ≢ endings.Spent
-  spent_not w whole reached found ending yes e is =
+  spent_not w whole reached found ending all_whole e is =
       let ends : Ends endings.Spent w whole reached found = subst (λ z. Ends z w whole reached found) is e in
-      not_both (sym yes ∙ ends.0)
+      not_both (sym all_whole ∙ ends.0)
 
   enough : (ending : Ending) (found : List Analysis) → All IsWhole (branch_jobs parts budget wanted) → IsBranched budget wanted parts ending found → ending ≢ endings.Spent
   enough ending found each b =

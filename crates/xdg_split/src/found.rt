@@ -1,6 +1,6 @@
 //! What searches find.
 
-ghost use Rattle.std.specs.Prelude.{◌≡◌, ◌++◌, [], IfOk};
+ghost use Rattle.std.specs.Prelude.{◌≡◌, ◌≢◌, ◌++◌, [], IfOk, IsTrue};
 ghost use Rattle.xdg_split.specs.Finds.{IsCut, Joins};
 
 use std::alloc::{AllocError, Global};
@@ -23,6 +23,17 @@ impl Found {
         Found {
             found: Vec::new(alloc),
             ending: Ending::Complete,
+        }
+    }
+
+    /// Whether nothing that is found later belongs to them.
+    pub(crate) fn has_ended(&self) -> bool
+        ensures { IsTrue result → self.now.ending ≢ Ending.Complete }
+    {
+        match self.ending {
+            Ending::Complete => false,
+            Ending::First => true,
+            Ending::Spent => true,
         }
     }
 

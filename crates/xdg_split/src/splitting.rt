@@ -82,7 +82,10 @@ fn search_in_turns<R: Threads + Sync, P: Propagator + Sync>(
     know_problems(jobs);
     let mut answer = Found::none(alloc);
     let mut rest = jobs;
-    while !rest.is_empty() && answer.ending == Ending::Complete {
+    while !rest.is_empty() {
+        if answer.has_ended() {
+            return Ok(answer);
+        }
         let (turn, later) = rest.split_at(min(rest.len(), SIDE_BY_SIDE));
         let next = search_all(rt, alloc, turn, first)?;
         answer = answer.followed_by(next, first)?;

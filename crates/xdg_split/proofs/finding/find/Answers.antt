@@ -1,4 +1,4 @@
-use Rattle.std.proofs.Common.{◌∙◌, sym}
+use Rattle.std.proofs.Common.{◌≡◌, ◌∙◌, length, rules, sym}
 use Rattle.xdg_analyses.proofs.Found.{is_wanted, not_wanted}
 use Rattle.xdg_split.proofs.Collecting.{collected_end, collected_first, collected_more, collected_none, collected_spent}
 use Rattle.xdg_split.proofs.finding.find.Goals as goal
@@ -8,13 +8,15 @@ draw-init g c = collected_none c.args.first c.args.stream.now c.new-found.result
 
 pub returns-then-eq : goal.returns-then-eq
 returns-then-eq g c =
+    let same : c.len.result ≡ length c.keep_last.new.found.items = search rules in
     collected_first c.args.first c.args.stream.now.parts c.args.stream.now.budget c.draw.stream c.advance.new.self c.draw.found.items c.draw.invariant c.in-Found.ensures.step c.keep_last.new.found.items c.in_ok-keep_last-in-Found.ensures
-    c.len.result c.len.ensures (is_wanted c.args.first c.len.result (sym c.eq.ensures ∙ c.if-eq.true))
+    c.len.result same (is_wanted c.args.first c.len.result (sym c.eq.ensures ∙ c.if-eq.true))
 
 pub draw-preserved : goal.draw-preserved
 draw-preserved g c =
+    let same : c.len.result ≡ length c.keep_last.new.found.items = search rules in
     collected_more c.args.first c.args.stream.now.parts c.args.stream.now.budget c.draw.stream c.advance.new.self c.draw.found.items c.draw.invariant c.in-Found.ensures.step c.keep_last.new.found.items c.in_ok-keep_last-in-Found.ensures
-    c.len.result c.len.ensures (not_wanted c.args.first c.len.result (sym c.eq.ensures ∙ c.if-eq.false))
+    c.len.result same (not_wanted c.args.first c.len.result (sym c.eq.ensures ∙ c.if-eq.false))
 
 pub returns-in-End : goal.returns-in-End
 returns-in-End g c = collected_end c.args.first c.args.stream.now.parts c.args.stream.now.budget c.draw.stream c.advance.new.self c.draw.found.items c.draw.invariant c.in-End.ensures.step
