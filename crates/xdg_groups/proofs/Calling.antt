@@ -9,7 +9,7 @@ use Rattle.xdg_problem.specs.Names.{name_of, IsOfTexts}
 use Rattle.xdg_groups.specs.Groups.{called, called_in, all_principles}
 
 -- grammar texts can use each of the principles
-AreOfTexts : List Principle → Type 0
+abbrev AreOfTexts : List Principle → Type 0
 AreOfTexts [] = Unit {0}
 AreOfTexts (p ∷ ps) = IsOfTexts p × AreOfTexts ps
 

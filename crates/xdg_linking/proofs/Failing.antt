@@ -192,6 +192,8 @@ module _ (parts : Parts) (group : Group) (box : List (List Bool)) (is : IsBox (s
   each_fine principles.Government f e closed = absurd f
   each_fine principles.Climbing f e closed = absurd f
   each_fine principles.Barriers f e closed = absurd f
+  each_fine (principles.Rule formula) f e closed = absurd f
+  each_fine (principles.Bound costs bound) f e closed = absurd f
 
   pub none_fails : IsLinking group.principle → ((d x : ℕ) → Has box d x → TakesBy group.principle parts group box d x → ⊥) → FailsTest parts group box → ⊥
   none_fails linking closed failing = each_tested group.truths (nodes parts) (label_count parts one) Fine group.principle (each_fine group.principle linking refl closed) failing.test failing.is failing.decided failing.fails

@@ -45,6 +45,8 @@ naming_test principles.Agreement f truths one two = absurd f
 naming_test principles.Government f truths one two = absurd f
 naming_test principles.Climbing f truths one two = absurd f
 naming_test principles.Barriers f truths one two = absurd f
+naming_test (principles.Rule formula) f truths one two = absurd f
+naming_test (principles.Bound costs bound) f truths one two = absurd f
 
 module _ (parts : Parts) (group : Group) (linking : IsLinking group.principle) where
   abbrev one : ℕ

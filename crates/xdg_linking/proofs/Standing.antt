@@ -121,6 +121,8 @@ module _ (parts : Parts) (group : Group) (old new : List (List Bool)) (problem :
   takes_kept principles.Government f d v t = absurd f
   takes_kept principles.Climbing f d v t = absurd f
   takes_kept principles.Barriers f d v t = absurd f
+  takes_kept (principles.Rule formula) f d v t = absurd f
+  takes_kept (principles.Bound costs bound) f d v t = absurd f
 
   closed_kept : IsLinking group.principle → IsClosedFor parts group old → IsClosedFor parts group new
   closed_kept linking closed d v has takes = elim takes [
