@@ -31,6 +31,8 @@ condition_word conditions.Govern = codes "govern"
 condition_word conditions.Below = codes "below"
 condition_word conditions.Blocked = codes "blocked"
 condition_word conditions.Link = codes "link"
+condition_word conditions.Rule = codes "rule"
+condition_word conditions.Bound = codes "bound"
 
 -- its tuples are a number of nodes
 abbrev pub counts : Condition → Bool

@@ -29,6 +29,8 @@ pub(crate) fn condition_word(condition: Condition) -> &'static str
         Condition::Below => "below",
         Condition::Blocked => "blocked",
         Condition::Link => "link",
+        Condition::Rule => "rule",
+        Condition::Bound => "bound",
     }
 }
 
