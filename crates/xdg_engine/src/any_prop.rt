@@ -15,7 +15,7 @@ use xdg_plink::LinkProp;
 use xdg_pmulti::MultiProp;
 use xdg_porder::OrderProp;
 use xdg_propcore::{Moved, Propagator, Wake};
-use xdg_store::Store;
+use xdg_store::{Mark, Store};
 
 /// The propagator of a principle use of any principle.
 #[derive(Debug, Drop)]
@@ -68,6 +68,16 @@ impl Propagator for AnyProp {
             AnyProp::Agree(p) => p.step(store),
             AnyProp::Multi(p) => p.step(store),
             AnyProp::Link(p) => p.step(store),
+        }
+    }
+
+    fn step_since(&self, store: &mut Store, since: Mark) -> Moved {
+        match self {
+            AnyProp::Graph(p) => p.step_since(store, since),
+            AnyProp::Order(p) => p.step_since(store, since),
+            AnyProp::Agree(p) => p.step_since(store, since),
+            AnyProp::Multi(p) => p.step_since(store, since),
+            AnyProp::Link(p) => p.step_since(store, since),
         }
     }
 
