@@ -4,31 +4,37 @@
     python3 bench/search.py OLD NEW [--only NAME ..] [--runs N] [--seconds S] [--budget N]
 
 OLD and NEW are built programs, not the script ./xdg, which looks at the sources first. bench/search/problems.tsv has a line for each problem: its name, the
-grammar beside it, the sentence and a note. Each program runs each problem N times, in turns. A line has the median seconds of both, how many times longer OLD
-takes, the last line that was printed, and whether all that both printed is the same. A run that takes more than S seconds is ended. The last line has the
-least, the median and the greatest ratio. The machine should have nothing else to do; only ratios of one run count.
+grammar beside it, the sentence and a note. Each program runs each problem N times, in turns. A line has the median seconds of a processor that both took, how many times
+more OLD takes, the last line that was printed, and, where what they printed isn't the same, that it differs. A run that takes more than S seconds by the clock is ended. The last line
+has the least, the median and the greatest ratio. Only ratios of one run count.
 
 The status is 1 where two programs print different texts.
 """
 
 import argparse
 import pathlib
+import resource
 import statistics
 import subprocess
 import sys
-import time
 
 PROBLEMS = pathlib.Path(__file__).resolve().parent / "search"
 
 
+def used():
+    """Returns the processor seconds that all runs so far took."""
+    children = resource.getrusage(resource.RUSAGE_CHILDREN)
+    return children.ru_utime + children.ru_stime
+
+
 def run(words, sentence, seconds):
-    """Returns the seconds that a run took and what it printed, or None where it was ended."""
-    begin = time.perf_counter()
+    """Returns the processor seconds that a run took and what it printed, or None where it was ended."""
+    begin = used()
     try:
         done = subprocess.run(words, input=sentence.encode(), stdout=subprocess.PIPE, stderr=subprocess.STDOUT, timeout=seconds, check=False)
     except subprocess.TimeoutExpired:
         return None
-    return time.perf_counter() - begin, done.stdout
+    return used() - begin, done.stdout
 
 
 def in_turns(commands, sentence, runs, seconds):
@@ -47,7 +53,7 @@ def line(name, results, limit):
     shown = [f"> {limit:g}" if it is None else f"{it[0]:.3f}" for it in results]
     texts = [it[1] for it in results if it is not None]
     last = texts[-1].rstrip(b"\n").rsplit(b"\n", 1)[-1].decode() if texts else "-"
-    ratio = results[0][0] / results[1][0] if None not in results else None
+    ratio = results[0][0] / max(results[1][0], 0.001) if None not in results else None
     same = len(set(texts)) < 2
     print(f"{name:16} {shown[0]:>9} {shown[1]:>9} {f'{ratio:.2f}' if ratio else '-':>7}  {last}{'' if same else '  DIFFERENT'}", flush=True)
     return ratio, same
