@@ -1,149 +1,91 @@
 #!/usr/bin/env python3
-"""Times of searches: two built programs side by side, or `parse` beside `parse --split` of one.
+"""Two built programs side by side on problems of search.
 
-Usage: python3 bench/search.py OLD NEW [--table FILE] [--only NAME ..] [--runs N] [--seconds S]
-       python3 bench/search.py --split PROGRAM [--runs N]
+    python3 bench/search.py OLD NEW [--only NAME ..] [--runs N] [--seconds S] [--budget N]
 
-With OLD and NEW each problem of the table is run by both in turn, N times (3). A line has the median seconds of both, how many times longer OLD takes
-than NEW, and the last line that was printed. What they print must be the same, byte for byte. A run over S seconds (60) is stopped. The last line has the least, the
-median and the greatest ratio. A line of the table has the name of a problem, its grammar, the file of its sentence and further words of the command, with tabs between
-them; the files are relative to the table. Without a table, the sentences below are taken, over grammars of examples/.
+OLD and NEW are built programs, not the script ./xdg, which looks at the sources first. bench/search/problems.tsv has a line for each problem: its name, the
+grammar beside it, the sentence and a note. Each program runs each problem N times, in turns. A line has the median seconds of a processor that both took, how many times
+more OLD takes, the last line that was printed, and, where what they printed isn't the same, that it differs. A run that takes more than S seconds by the clock is ended. The last line
+has the least, the median and the greatest ratio. Only ratios of one run count.
 
-With --split a sentence whose first word has four entries of like work is searched with and without the option, on one, two, three and on all processors up to four.
-Times differ from machine to machine and from run to run, so only ratios of one run count.
+The status is 1 where two programs print different texts.
 """
 
 import argparse
-import os
 import pathlib
+import resource
 import statistics
 import subprocess
 import sys
-import tempfile
-import time
 
-ROOT = pathlib.Path(__file__).resolve().parent.parent
-TABLE = [
-    ("german", "german.xdg", "dass der Mann der Frau die Blumen schenkt .", ""),
-    ("attachment 5", "attachment.xdg", "the man saw the dog", ""),
-    ("attachment 17", "attachment.xdg", "the man saw the dog" + " on the hill with the telescope" * 2, ""),
-    ("attachment 23", "attachment.xdg", "the man saw the dog" + " on the hill with the telescope" * 3, ""),
-]
-# The first word has four entries, which differ in a number alone. Each other word may hang at any of the words before it.
-FOUR = """usedim id usedim lex
-defdim lex {defentrytype {word: string}}
-defdim id {
-deflabeltype {a}
-defentrytype {in: valency({a}) out: valency({a}) n: int}
-useprinciple principle.graph {dims {D: id}}
-useprinciple principle.tree {dims {D: id}}
-useprinciple principle.valency {dims {D: id}}
-useprinciple principle.projectivity {dims {D: id}}
-}
-defentry {dim id {out: {a*}} & (dim id {n: 1} | dim id {n: 2} | dim id {n: 3} | dim id {n: 4}) & dim lex {word: root}}
-defentry {dim id {in: {a!} out: {a*} n: 0} dim lex {word: w}}
-"""
+PROBLEMS = pathlib.Path(__file__).resolve().parent / "search"
+
+
+def used():
+    """Returns the processor seconds that all runs so far took."""
+    children = resource.getrusage(resource.RUSAGE_CHILDREN)
+    return children.ru_utime + children.ru_stime
 
 
 def run(words, sentence, seconds):
-    """The seconds and the bytes of one run, or None where it takes longer."""
-    begin = time.perf_counter()
+    """Returns the processor seconds that a run took and what it printed, or None where it was ended."""
+    begin = used()
     try:
-        done = subprocess.run(words, input=sentence, capture_output=True, timeout=seconds, check=False)
+        done = subprocess.run(words, input=sentence.encode(), stdout=subprocess.PIPE, stderr=subprocess.STDOUT, timeout=seconds, check=False)
     except subprocess.TimeoutExpired:
         return None
-    if done.returncode not in (0, 6):
-        sys.exit("%s ends with status %d: %s" % (" ".join(words), done.returncode, done.stdout[:200].decode(errors="replace")))
-    return time.perf_counter() - begin, done.stdout
+    return used() - begin, done.stdout
 
 
-def last_line(told):
-    """The last line that was printed."""
-    return told.rstrip(b"\n").rsplit(b"\n", 1)[-1].decode(errors="replace")
+def in_turns(commands, sentence, runs, seconds):
+    """Returns for each command the median seconds and the text, or None where a run was ended."""
+    found = [[] for _ in commands]
+    for _ in range(runs):
+        for place, words in enumerate(commands):
+            if found[place] is not None:
+                one = run(words, sentence, seconds)
+                found[place] = None if one is None else found[place] + [one]
+    return [None if it is None else (statistics.median(seconds for seconds, _ in it), it[-1][1]) for it in found]
 
 
-def problems(table):
-    """Name, grammar, bytes of the sentence and further words of each problem."""
-    if table is None:
-        return [(name, str(ROOT / "examples" / grammar), sentence.encode(), words.split()) for name, grammar, sentence, words in TABLE]
-    folder = pathlib.Path(table).resolve().parent
-    found = []
-    for line in open(table, encoding="utf-8"):
-        name, grammar, sentence, *words = line.rstrip("\n").split("\t")
-        options = [word for word in " ".join(words).split() if word.startswith("--")]
-        found.append((name, str(folder / grammar), (folder / sentence).read_bytes(), options))
-    return found
-
-
-def compare(old, new, options):
-    """Tells of each problem how many times longer the old program takes than the new one."""
-    ratios = []
-    for name, grammar, sentence, words in problems(options.table):
-        if options.only and name not in options.only:
-            continue
-        times, told = {old: [], new: []}, {}
-        for _ in range(options.runs):
-            for program in (old, new):
-                got = run([program, "parse", grammar, *words], sentence, options.seconds) if times[program] is not None else None
-                if got is None:
-                    times[program] = None
-                    continue
-                times[program].append(got[0])
-                told[program] = got[1]
-        shown = ["%9.3f" % statistics.median(times[p]) if times[p] else "   > %4g" % options.seconds for p in (old, new)]
-        if not times[old] or not times[new]:
-            print(f"{name:16} {shown[0]} {shown[1]}        -", flush=True)
-            continue
-        if told[old] != told[new]:
-            sys.exit(f"{name}: the two programs print different texts")
-        ratios.append(statistics.median(times[old]) / statistics.median(times[new]))
-        print(f"{name:16} {shown[0]} {shown[1]} {ratios[-1]:8.2f}  {last_line(told[new])}", flush=True)
-    if ratios:
-        print(f"least {min(ratios):.2f}, median {statistics.median(ratios):.2f}, greatest {max(ratios):.2f} over {len(ratios)}")
-
-
-def split(program, options):
-    """Tells how many times longer a sentence takes as one than by the four entries of its first word."""
-    with tempfile.NamedTemporaryFile("w", suffix=".xdg") as grammar:
-        grammar.write(FOUR)
-        grammar.flush()
-        sentence = b"root" + b" w" * 7
-        words = [program, "parse", grammar.name]
-        processors = sorted(os.sched_getaffinity(0))
-        print(f"{'processors':>10} {'one':>9} {'--split':>9} {'ratio':>6}   of a processor")
-        for count in sorted({1, 2, 3, min(4, len(processors))} & set(range(1, len(processors) + 1))):
-            held = ["taskset", "-c", ",".join(str(number) for number in processors[:count])]
-            times, told = {(): [], ("--split",): []}, {}
-            for _ in range(options.runs):
-                for further in times:
-                    got = run([*held, *words, *further], sentence, options.seconds)
-                    if got is None:
-                        sys.exit("a run takes over %g seconds" % options.seconds)
-                    times[further].append(got[0])
-                    told[further] = got[1]
-            if told[()] != told[("--split",)]:
-                sys.exit("--split prints another text")
-            one, parts = (statistics.median(times[further]) for further in times)
-            print(f"{count:10} {one:9.3f} {parts:9.3f} {one / parts:6.2f}   {one / parts / count:.2f}  {last_line(told[()])}", flush=True)
+def line(name, results, limit):
+    """Prints the line of a problem. Returns the ratio, or None, and whether the texts are the same."""
+    shown = [f"> {limit:g}" if it is None else f"{it[0]:.3f}" for it in results]
+    texts = [it[1] for it in results if it is not None]
+    last = texts[-1].rstrip(b"\n").rsplit(b"\n", 1)[-1].decode() if texts else "-"
+    ratio = results[0][0] / max(results[1][0], 0.001) if None not in results else None
+    same = len(set(texts)) < 2
+    print(f"{name:16} {shown[0]:>9} {shown[1]:>9} {f'{ratio:.2f}' if ratio else '-':>7}  {last}{'' if same else '  DIFFERENT'}", flush=True)
+    return ratio, same
 
 
 def main():
-    parser = argparse.ArgumentParser(description=__doc__, formatter_class=argparse.RawDescriptionHelpFormatter)
-    parser.add_argument("programs", nargs="+", metavar="PROGRAM")
-    parser.add_argument("--split", action="store_true")
-    parser.add_argument("--table")
-    parser.add_argument("--only", nargs="*", default=[])
-    parser.add_argument("--runs", type=int, default=3)
-    parser.add_argument("--seconds", type=float, default=60)
-    options = parser.parse_args()
-    programs = [os.path.abspath(program) for program in options.programs]
-    if len(programs) != (1 if options.split else 2):
-        parser.error("two programs, or one with --split")
-    if options.split:
-        split(programs[0], options)
-    else:
-        compare(*programs, options)
+    """Reads the words, and runs the problems."""
+    words = argparse.ArgumentParser(description=__doc__, formatter_class=argparse.RawDescriptionHelpFormatter)
+    words.add_argument("programs", nargs=2, metavar="PROGRAM")
+    words.add_argument("--only", nargs="*", default=[], metavar="NAME")
+    words.add_argument("--runs", type=int, default=3, metavar="N")
+    words.add_argument("--seconds", type=float, default=60, metavar="S")
+    words.add_argument("--budget", type=int, metavar="N")
+    given = words.parse_args()
+    budget = ["--budget", str(given.budget)] if given.budget else []
+    ratios, all_same = [], True
+
+    def one(name, commands, sentence):
+        nonlocal all_same
+        ratio, same = line(name, in_turns(commands, sentence, given.runs, given.seconds), given.seconds)
+        all_same = all_same and same
+        if ratio:
+            ratios.append(ratio)
+
+    for problem in (PROBLEMS / "problems.tsv").read_text(encoding="utf-8").splitlines():
+        name, grammar, sentence, _ = problem.split("\t")
+        if not given.only or name in given.only:
+            one(name, [[it, "parse", str(PROBLEMS / grammar), *budget] for it in given.programs], sentence)
+    if ratios:
+        print(f"least {min(ratios):.2f}, median {statistics.median(ratios):.2f}, greatest {max(ratios):.2f} of {len(ratios)}")
+    return 0 if all_same else 1
 
 
 if __name__ == "__main__":
-    main()
+    sys.exit(main())

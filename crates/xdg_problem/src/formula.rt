@@ -7,7 +7,6 @@ use xdg_base::{AttrId, Boxed, DimId, LabelId, List};
 ///
 /// A formula is as deep as it nests. Who makes one of a text makes of a run of negations none or one, so that its depth goes by
 /// the brackets and quantifiers of the text alone, and no call that goes down it needs a deep stack.
-#[cycle(formula)]
 #[derive(Debug, Drop)]
 pub enum Formula {
     /// It is false.
