@@ -12,7 +12,7 @@ use Rattle.xdg_problem.proofs.Verdicts.{broken_fails, one_verdict}
 use Rattle.xdg_judge.specs.declared.verdict.Verdict.{Verdict}
 use Rattle.xdg_judge.specs.declared.verdict.Verdict.TheVariants as verdicts
 use Rattle.xdg_judge.specs.Verdicts.{IsVerdict, AreVerdicts, tuple_of}
-use Rattle.xdg_verdict_text.specs.VerdictsText.{said_text, labels_of, verdict_line, verdict_lines, is_kept, are_kept, solution_line, verdicts_text, behind, condition_word, items_text, dim_text}
+use Rattle.xdg_verdict_text.specs.VerdictsText.{said_text, labels_of, verdict_line, verdict_lines, is_kept, are_kept, solution_line, verdicts_text, behind, condition_text, dim_text}
 use Rattle.xdg_verdict_text.specs.OneText.{IsOneText}
 
 -- two verdicts on one principle use say the same
@@ -22,7 +22,7 @@ same_said parts a group labels verdicts.Kept (verdicts.Broken c t) p q = absurd 
 same_said parts a group labels (verdicts.Broken c t) verdicts.Kept p q = absurd (broken_fails parts group a c (tuple_of t) p q)
 same_said parts a group labels (verdicts.Broken c t) (verdicts.Broken d u) p q =
     let one = one_verdict parts group a c d (tuple_of t) (tuple_of u) p q in
-    (ap₂ (λ e x. behind (codes "broken") ++ (behind (condition_word e) ++ items_text labels e 0 x)) one.0 one.1, refl)
+    (ap₂ (λ e x. behind (codes "broken") ++ condition_text labels e x) one.0 one.1, refl)
 
 same_line : (parts : Parts) (number : ℕ) (group : Group) (v w : Verdict) → said_text (labels_of parts group) v ≡ said_text (labels_of parts group) w → verdict_line parts number group v ≡ verdict_line parts number group w
 unfolding verdict_line

@@ -34,6 +34,12 @@ condition_word conditions.Link = codes "link"
 condition_word conditions.Rule = codes "rule"
 condition_word conditions.Bound = codes "bound"
 
+-- a rule and a bound have one condition, which isn't named
+abbrev pub is_told : Condition → Bool
+is_told conditions.Rule = false
+is_told conditions.Bound = false
+is_told condition = true
+
 -- its tuples are a number of nodes
 abbrev pub counts : Condition → Bool
 counts conditions.Roots = true
@@ -67,6 +73,10 @@ abbrev pub items_text : List (List ℕ) → Condition → ℕ → List ℕ → L
 items_text labels condition place [] = []
 items_text labels condition place (number ∷ numbers) = behind (item_text labels condition place number) ++ items_text labels condition (place + 1) numbers
 
+-- a condition with its tuple
+abbrev pub condition_text : List (List ℕ) → Condition → List ℕ → List ℕ
+condition_text labels condition numbers = cond (is_told condition) (behind (condition_word condition) ++ items_text labels condition 0 numbers) []
+
 -- ---- lines
 
 -- the name and the labels of the dimension with that number
@@ -87,7 +97,7 @@ dim_text parts dim = behind (constant (name_at parts dim.0))
 -- `kept`, or `broken` with the condition and its tuple
 abbrev pub said_text : List (List ℕ) → Verdict → List ℕ
 said_text labels verdicts.Kept = behind (codes "kept")
-said_text labels (verdicts.Broken condition tuple) = behind (codes "broken") ++ (behind (condition_word condition) ++ items_text labels condition 0 (tuple_of tuple))
+said_text labels (verdicts.Broken condition tuple) = behind (codes "broken") ++ condition_text labels condition (tuple_of tuple)
 
 -- the line of a principle use with that number: its principle, its dimensions in their order, and what is said of it
 unfoldable pub verdict_line : Parts → ℕ → Group → Verdict → List ℕ

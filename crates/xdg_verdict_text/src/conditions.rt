@@ -5,13 +5,13 @@ ghost use Rattle.xdg_io.specs.Held.{Appends, AppendsFront};
 ghost use Rattle.xdg_io.specs.Rose.{Rose};
 ghost use Rattle.xdg_verdict_text.specs.VerdictsText as spec;
 
-use crate::words::{write_constant_behind, write_number};
+use crate::words::{write_constant_behind, write_number, write_word};
 use xdg_base::Text;
 use xdg_io::{Failed, Sink};
 use xdg_problem::Condition;
 
 /// The word of a condition.
-pub(crate) fn condition_word(condition: Condition) -> &'static str
+fn condition_word(condition: Condition) -> &'static str
     ensures { result.now ≡ spec.condition_word condition }
 {
     match condition {
@@ -31,6 +31,16 @@ pub(crate) fn condition_word(condition: Condition) -> &'static str
         Condition::Link => "link",
         Condition::Rule => "rule",
         Condition::Bound => "bound",
+    }
+}
+
+/// Whether the condition is named: a rule and a bound have no other.
+fn is_told(condition: Condition) -> bool
+    ensures { result ≡ spec.is_told condition }
+{
+    match condition {
+        Condition::Rule | Condition::Bound => false,
+        _ => true,
     }
 }
 
@@ -94,7 +104,7 @@ fn write_item<K: Sink>(
 
 /// Writes the items of a condition's tuple.
 #[tactic(auto, using(xdg_text::proofs::Pieces::appends_both, xdg_text::proofs::Pieces::start, xdg_text::proofs::Pieces::done, xdg_text::proofs::Pieces::rose_later))]
-pub(crate) fn write_items<K: Sink>(
+fn write_items<K: Sink>(
     labels: &[Text],
     condition: Condition,
     numbers: &[u8],
@@ -110,4 +120,25 @@ pub(crate) fn write_items<K: Sink>(
         write_item(labels, condition, place, *number, sink)?;
     }
     Ok(())
+}
+
+/// Writes a condition with its tuple, and nothing of a rule or a bound.
+#[tactic(auto, using(xdg_text::proofs::Pieces::appends_both, xdg_text::proofs::Pieces::start, xdg_text::proofs::Pieces::done, xdg_text::proofs::Pieces::rose_later))]
+pub(crate) fn write_condition<K: Sink>(
+    labels: &[Text],
+    condition: Condition,
+    numbers: &[u8],
+    sink: &mut K,
+) -> Result<(), Failed>
+    ensures all { OnOk result (Appends (K.held sink.old) (K.held sink.new) (spec.condition_text labels.now condition numbers.now)) }
+    ensures front { OnErr result (AppendsFront (K.held sink.old) (K.held sink.new) (spec.condition_text labels.now condition numbers.now)) }
+    ensures cause { OnErr result (Rose (K.faults sink.old) (K.faults sink.new)) }
+    ensures lasting { K.faults sink.old ≤ K.faults sink.new }
+    ensures quiet { OnOk result (K.faults sink.new ≡ K.faults sink.old) }
+{
+    if !is_told(condition) {
+        return Ok(());
+    }
+    write_word(condition_word(condition), sink)?;
+    write_items(labels, condition, numbers, sink)
 }

@@ -9,7 +9,7 @@ ghost use Rattle.xdg_judge.specs.Verdicts.{AreVerdicts, tuple_of};
 ghost use Rattle.xdg_verdict_text.specs.OneText.{IsOneText};
 ghost use Rattle.xdg_verdict_text.specs.VerdictsText as spec;
 
-use crate::conditions::{condition_word, write_items};
+use crate::conditions::write_condition;
 use crate::words::{write_constant_behind, write_first, write_word};
 use xdg_base::{DimId, Text};
 use xdg_io::{Failed, Sink, write_all};
@@ -91,8 +91,7 @@ pub(crate) fn write_said<K: Sink>(
         Verdict::Kept => write_word("kept", sink),
         Verdict::Broken { condition, tuple } => {
             write_word("broken", sink)?;
-            write_word(condition_word(*condition), sink)?;
-            write_items(labels, *condition, numbers_of(tuple), sink)
+            write_condition(labels, *condition, numbers_of(tuple), sink)
         }
     }
 }
