@@ -8,7 +8,7 @@ use Rattle.xdg_command.specs.Commands.{HasBudget, HasFirst, HasText, IsDrillNumb
 use Rattle.xdg_command.specs.Found.{Matches}
 use Rattle.xdg_command.specs.Items.{AreItems, Item, has_flag, operands_of}
 use Rattle.xdg_command.specs.Readings.{AreWords, IsDrill, IsOneFile, IsParse, IsResume, IsTwoFiles}
-use Rattle.xdg_command.specs.Syntax.{Table, arranged, corpused, is_right, one_file, parsed, resumed, two_files}
+use Rattle.xdg_command.specs.Syntax.{Table, arranged, corpused, costed, is_right, one_file, parsed, resumed, two_files}
 use Rattle.xdg_command.specs.declared.commands.ParseOptions.{ParseOptions}
 use Rattle.xdg_command.specs.declared.commands.ResumeOptions.{ResumeOptions}
 use Rattle.xdg_command.specs.declared.commands.TextForm.{TextForm}
@@ -34,6 +34,9 @@ corpused_right = refl
 pub arranged_right : is_right arranged ≡ true
 arranged_right = refl
 
+pub costed_right : is_right costed ≡ true
+costed_right = refl
+
 -- ---- words and their items
 
 -- words are read as one list of items
@@ -54,7 +57,7 @@ unsaid t words P none few w = none w.items (record { read = w.read; once = w.onc
 pub first_none : (xs : List (List ℕ)) (x : List ℕ) (more : List (List ℕ)) → slice_get xs 0 ≡ None → xs ≡ x ∷ more → ⊥
 first_none xs x more none is = let bad : None ≡ Some x = sym none ∙ ap (λ ys. slice_get ys 0) is in cc
 
-second_none : (xs : List (List ℕ)) (x y : List ℕ) → slice_get xs 1 ≡ None → xs ≡ x ∷ y ∷ [] → ⊥
+pub second_none : (xs : List (List ℕ)) (x y : List ℕ) → slice_get xs 1 ≡ None → xs ≡ x ∷ y ∷ [] → ⊥
 second_none xs x y none is = let bad : None ≡ Some y = sym none ∙ ap (λ ys. slice_get ys 1) is in cc
 
 pub single : (xs : List (List ℕ)) (x : List ℕ) → slice_get xs 0 ≡ Some x → length xs ≤ 1 → xs ≡ x ∷ []
@@ -62,7 +65,7 @@ single [] x e few = absurd cc
 single (y ∷ []) x e few = let is : y ≡ x = cc in ap (λ z. z ∷ []) is
 single (y ∷ z ∷ xs) x e few = absurd (omega (arith, few))
 
-double : (xs : List (List ℕ)) (x y : List ℕ) → slice_get xs 0 ≡ Some x → slice_get xs 1 ≡ Some y → length xs ≤ 2 → xs ≡ x ∷ y ∷ []
+pub double : (xs : List (List ℕ)) (x y : List ℕ) → slice_get xs 0 ≡ Some x → slice_get xs 1 ≡ Some y → length xs ≤ 2 → xs ≡ x ∷ y ∷ []
 double [] x y e f few = absurd cc
 double (a ∷ []) x y e f few = absurd cc
 double (a ∷ b ∷ []) x y e f few = let first : a ≡ x = cc in let second : b ≡ y = cc in ap₂ (λ p q. p ∷ q ∷ []) first second

@@ -5,12 +5,13 @@ use Rattle.std.specs.Str.{bytes_eq}
 use Rattle.std.specs.Str.Parse.{digits_value}
 use Rattle.std.proofs.lemmas.Slice.Eq.{bytes_eq-Decides}
 use Rattle.xdg_command.specs.Answers.{IsExactly}
-use Rattle.xdg_command.specs.Commands.{HasBudget, HasFirst, HasText, IsCommand, SaysArrange, SaysCorpus, SaysParse, SaysResume}
+use Rattle.xdg_command.specs.Commands.{HasBudget, HasFirst, HasText, IsCommand, SaysArrange, SaysBest, SaysCorpus, SaysParse, SaysResume}
 use Rattle.xdg_command.specs.Items.{operands_of}
-use Rattle.xdg_command.specs.Readings.{IsArrange, IsCorpus, IsDrill, IsOfVerb, IsOneFile, IsParse, IsResume, IsTwoFiles}
-use Rattle.xdg_command.specs.Syntax.{arranged, corpused, one_file, parsed, resumed, two_files}
+use Rattle.xdg_command.specs.Readings.{IsArrange, IsBest, IsCorpus, IsDrill, IsOfVerb, IsOneFile, IsParse, IsResume, IsTwoFiles}
+use Rattle.xdg_command.specs.Syntax.{arranged, corpused, costed, one_file, parsed, resumed, two_files}
 use Rattle.xdg_command.specs.Verbs.{verb_of}
 use Rattle.xdg_command.specs.declared.commands.ArrangeOptions.{ArrangeOptions}
+use Rattle.xdg_command.specs.declared.commands.BestOptions.{BestOptions}
 use Rattle.xdg_command.specs.declared.commands.Command.{Command}
 use Rattle.xdg_command.specs.declared.commands.Command.TheVariants as commands
 use Rattle.xdg_command.specs.declared.commands.CorpusOptions.{CorpusOptions}
@@ -21,7 +22,7 @@ use Rattle.xdg_command.specs.declared.commands.TextForm.TheVariants as forms
 use Rattle.xdg_command.specs.declared.reading.Files.{Files}
 use Rattle.xdg_command.specs.declared.reading.Verb.{Verb}
 use Rattle.xdg_command.specs.declared.reading.Verb.TheVariants as verbs
-use Rattle.xdg_command.proofs.Commanded.{arranged_right, corpused_right, file_of, one_file_right, parsed_right, resumed_right, said, two_files_right}
+use Rattle.xdg_command.proofs.Commanded.{arranged_right, corpused_right, costed_right, file_of, one_file_right, parsed_right, resumed_right, said, two_files_right}
 
 -- the verb of a command
 verb_for : Command → Verb
@@ -34,6 +35,7 @@ verb_for (commands.Print grammar) = verbs.Print
 verb_for (commands.Drill number) = verbs.Drill
 verb_for (commands.Corpus options) = verbs.Corpus
 verb_for (commands.Arrange options) = verbs.Arrange
+verb_for (commands.Best options) = verbs.Best
 
 -- how a verb is spelled
 spelling_of : Verb → List ℕ
@@ -46,6 +48,7 @@ spelling_of verbs.Print = codes "print"
 spelling_of verbs.Drill = codes "drill"
 spelling_of verbs.Corpus = codes "corpus"
 spelling_of verbs.Arrange = codes "arrange"
+spelling_of verbs.Best = codes "best"
 
 verb_spelled : (verb : Verb) → verb_of (spelling_of verb) ≡ Some verb
 unfolding verb_of spelling_of
@@ -58,6 +61,7 @@ verb_spelled verbs.Print = refl
 verb_spelled verbs.Drill = refl
 verb_spelled verbs.Corpus = refl
 verb_spelled verbs.Arrange = refl
+verb_spelled verbs.Best = refl
 
 -- a word that one name spells, or what the others spell
 spells_step : (word name : List ℕ) (one verb : Verb) (rest : Option Verb) → name ≡ spelling_of one → (rest ≡ Some verb → word ≡ spelling_of verb)
@@ -80,7 +84,8 @@ spells word verb =
     (spells_step word (codes "print") verbs.Print verb _ refl
     (spells_step word (codes "drill") verbs.Drill verb _ refl
     (spells_step word (codes "corpus") verbs.Corpus verb _ refl
-    (spells_step word (codes "arrange") verbs.Arrange verb None refl (λ e. absurd cc)))))))))
+    (spells_step word (codes "arrange") verbs.Arrange verb _ refl
+    (spells_step word (codes "best") verbs.Best verb None refl (λ e. absurd cc))))))))))
 
 -- a command is spelled by its verb, which the later words follow
 of_command : (words : List (List ℕ)) (command : Command) → IsCommand words command
@@ -95,6 +100,7 @@ of_command words (commands.Print grammar) w = (w.later, w.words_are, record { it
 of_command words (commands.Drill number) w = (w.later, w.words_are, record { items = w.items; read = w.read; once = w.once; says = w.says })
 of_command words (commands.Corpus options) w = (w.later, w.words_are, record { items = w.items; read = w.read; once = w.once; says = w.says })
 of_command words (commands.Arrange options) w = (w.later, w.words_are, record { items = w.items; read = w.read; once = w.once; says = w.says })
+of_command words (commands.Best options) w = (w.later, w.words_are, record { items = w.items; read = w.read; once = w.once; says = w.says })
 
 -- and back
 to_command : (verb : Verb) (later : List (List ℕ)) (command : Command) → IsOfVerb verb later command → IsCommand (spelling_of verb ∷ later) command
@@ -108,6 +114,7 @@ to_command verbs.Print later (commands.Print grammar) w = record { later = later
 to_command verbs.Drill later (commands.Drill number) w = record { later = later; items = w.items; words_are = refl; read = w.read; once = w.once; says = w.says }
 to_command verbs.Corpus later (commands.Corpus options) w = record { later = later; items = w.items; words_are = refl; read = w.read; once = w.once; says = w.says }
 to_command verbs.Arrange later (commands.Arrange options) w = record { later = later; items = w.items; words_are = refl; read = w.read; once = w.once; says = w.says }
+to_command verbs.Best later (commands.Best options) w = record { later = later; items = w.items; words_are = refl; read = w.read; once = w.once; says = w.says }
 to_command verb later command w = absurd w
 
 -- words of which the first is no command's are no command
@@ -188,6 +195,16 @@ one_arrange words a b p q =
     let segment : a.segment ≡ b.segment = p.says.segment ∙ sym says.segment in
     (λ i. let made : ArrangeOptions = record { grammar = grammar i; budget = budget i; segment = segment i } in made)
 
+one_best : (words : List (List ℕ)) (a b : BestOptions) → IsBest words a → IsBest words b → a ≡ b
+one_best words a b p q =
+    let says = said costed costed_right words p.items (λ items. SaysBest items b) p.read q in
+    let same : a.grammar ∷ a.costs ∷ [] ≡ b.grammar ∷ b.costs ∷ [] = sym p.says.files ∙ says.files in
+    let grammar : a.grammar ≡ b.grammar = cc in
+    let costs : a.costs ≡ b.costs = cc in
+    let budget = one_budget _ a.budget b.budget p.says.budget says.budget in
+    let segment : a.segment ≡ b.segment = p.says.segment ∙ sym says.segment in
+    (λ i. let made : BestOptions = record { grammar = grammar i; costs = costs i; budget = budget i; segment = segment i } in made)
+
 one_resume : (words : List (List ℕ)) (a b : ResumeOptions) → IsResume words a → IsResume words b → a ≡ b
 one_resume words a b p q =
     let says = said resumed resumed_right words p.items (λ items. SaysResume items b) p.read q in
@@ -226,6 +243,7 @@ one_of_verb verbs.Print words (commands.Print a) (commands.Print b) p q = ap (λ
 one_of_verb verbs.Drill words (commands.Drill a) (commands.Drill b) p q = ap (λ n. commands.Drill n) (one_drill words a b p q)
 one_of_verb verbs.Corpus words (commands.Corpus a) (commands.Corpus b) p q = ap (λ o. commands.Corpus o) (one_corpus words a b p q)
 one_of_verb verbs.Arrange words (commands.Arrange a) (commands.Arrange b) p q = ap (λ o. commands.Arrange o) (one_arrange words a b p q)
+one_of_verb verbs.Best words (commands.Best a) (commands.Best b) p q = ap (λ o. commands.Best o) (one_best words a b p q)
 one_of_verb verbs.Parse words (commands.Parse a) b p q = absurd q
 one_of_verb verbs.Resume words (commands.Resume a) b p q = absurd q
 one_of_verb verbs.Explain words (commands.Explain a c) b p q = absurd q
@@ -235,6 +253,7 @@ one_of_verb verbs.Print words (commands.Print a) b p q = absurd q
 one_of_verb verbs.Drill words (commands.Drill a) b p q = absurd q
 one_of_verb verbs.Corpus words (commands.Corpus a) b p q = absurd q
 one_of_verb verbs.Arrange words (commands.Arrange a) b p q = absurd q
+one_of_verb verbs.Best words (commands.Best a) b p q = absurd q
 one_of_verb verb words a b p q = absurd p
 
 pub one_command : (words : List (List ℕ)) (a b : Command) → IsCommand words a → IsCommand words b → a ≡ b

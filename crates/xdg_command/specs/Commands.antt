@@ -5,6 +5,7 @@ use Rattle.std.specs.Char.{is_ascii_digit}
 use Rattle.std.specs.Str.Parse.{digits_value}
 use Rattle.xdg_command.specs.Items.{Item, AreItems, IsOnce, has_flag, operands_of, value_of}
 use Rattle.xdg_command.specs.declared.commands.ArrangeOptions.{ArrangeOptions}
+use Rattle.xdg_command.specs.declared.commands.BestOptions.{BestOptions}
 use Rattle.xdg_command.specs.declared.commands.Command.{Command}
 use Rattle.xdg_command.specs.declared.commands.Command.TheVariants as commands
 use Rattle.xdg_command.specs.declared.commands.CorpusOptions.{CorpusOptions}
@@ -59,6 +60,7 @@ spelled (commands.Print grammar) = codes "print"
 spelled (commands.Drill number) = codes "drill"
 spelled (commands.Corpus options) = codes "corpus"
 spelled (commands.Arrange options) = codes "arrange"
+spelled (commands.Best options) = codes "best"
 
 -- the names of a command's options that take a value
 abbrev pub values_of : Command → List (List ℕ)
@@ -66,6 +68,7 @@ values_of (commands.Parse options) = codes "budget" ∷ codes "first" ∷ codes 
 values_of (commands.Resume options) = codes "budget" ∷ codes "first" ∷ codes "text" ∷ []
 values_of (commands.Corpus options) = codes "budget" ∷ codes "first" ∷ []
 values_of (commands.Arrange options) = codes "budget" ∷ []
+values_of (commands.Best options) = codes "budget" ∷ []
 values_of _ = []
 
 -- the names of a command's options that take none
@@ -73,6 +76,7 @@ abbrev pub flags_of : Command → List (List ℕ)
 flags_of (commands.Parse options) = codes "segment" ∷ codes "split" ∷ []
 flags_of (commands.Corpus options) = codes "segment" ∷ []
 flags_of (commands.Arrange options) = codes "segment" ∷ []
+flags_of (commands.Best options) = codes "segment" ∷ []
 flags_of _ = []
 
 -- the items of `parse`
@@ -110,6 +114,12 @@ pub record SaysArrange (items : List Item) (options : ArrangeOptions) : Type 0 w
   pub budget : HasBudget (value_of (codes "budget") items) options.budget
   pub segment : options.segment ≡ has_flag (codes "segment") items
 
+-- the items of `best`
+pub record SaysBest (items : List Item) (options : BestOptions) : Type 0 where
+  pub files : operands_of items ≡ options.grammar ∷ options.costs ∷ []
+  pub budget : HasBudget (value_of (codes "budget") items) options.budget
+  pub segment : options.segment ≡ has_flag (codes "segment") items
+
 -- the items are the operands and options of the command
 abbrev pub Says : List Item → Command → Type 0
 Says items (commands.Parse options) = SaysParse items options
@@ -121,6 +131,7 @@ Says items (commands.Print grammar) = operands_of items ≡ grammar ∷ []
 Says items (commands.Drill number) = SaysDrill items number
 Says items (commands.Corpus options) = SaysCorpus items options
 Says items (commands.Arrange options) = SaysArrange items options
+Says items (commands.Best options) = SaysBest items options
 
 -- The words are the command: its spelling, and then items, each option at most once, that say what it is to do.
 pub record IsCommand (words : List (List ℕ)) (command : Command) : Type 0 where

@@ -1,8 +1,9 @@
 -- The words after a command's name, by what they say.
 use Rattle.std.specs.Prelude.{◌≡◌, ℕ, List, [], ◌∷◌, codes}
 use Rattle.xdg_command.specs.Items.{Item, AreItems, IsOnce, operands_of}
-use Rattle.xdg_command.specs.Commands.{SaysArrange, SaysCorpus, SaysDrill, SaysParse, SaysResume}
+use Rattle.xdg_command.specs.Commands.{SaysArrange, SaysBest, SaysCorpus, SaysDrill, SaysParse, SaysResume}
 use Rattle.xdg_command.specs.declared.commands.ArrangeOptions.{ArrangeOptions}
+use Rattle.xdg_command.specs.declared.commands.BestOptions.{BestOptions}
 use Rattle.xdg_command.specs.declared.commands.Command.{Command}
 use Rattle.xdg_command.specs.declared.commands.Command.TheVariants as commands
 use Rattle.xdg_command.specs.declared.commands.CorpusOptions.{CorpusOptions}
@@ -47,6 +48,10 @@ IsCorpus words options = AreWords (codes "budget" ∷ codes "first" ∷ []) (cod
 abbrev pub IsArrange : List (List ℕ) → ArrangeOptions → Type 0
 IsArrange words options = AreWords (codes "budget" ∷ []) (codes "segment" ∷ []) words (λ items. SaysArrange items options)
 
+-- what follows `best`
+abbrev pub IsBest : List (List ℕ) → BestOptions → Type 0
+IsBest words options = AreWords (codes "budget" ∷ []) (codes "segment" ∷ []) words (λ items. SaysBest items options)
+
 -- what follows the name of a command
 abbrev pub IsOfVerb : Verb → List (List ℕ) → Command → Type 0
 IsOfVerb verbs.Parse words (commands.Parse options) = IsParse words options
@@ -58,4 +63,5 @@ IsOfVerb verbs.Print words (commands.Print grammar) = IsOneFile words grammar
 IsOfVerb verbs.Drill words (commands.Drill number) = IsDrill words number
 IsOfVerb verbs.Corpus words (commands.Corpus options) = IsCorpus words options
 IsOfVerb verbs.Arrange words (commands.Arrange options) = IsArrange words options
+IsOfVerb verbs.Best words (commands.Best options) = IsBest words options
 IsOfVerb verb words command = ⊥

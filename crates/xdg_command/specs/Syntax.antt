@@ -33,6 +33,9 @@ corpused = record { operands = codes "grammar" ∷ []; values = codes "budget" �
 abbrev pub arranged : Table
 arranged = record { operands = codes "grammar" ∷ []; values = codes "budget" ∷ []; flags = codes "segment" ∷ [] }
 
+abbrev pub costed : Table
+costed = record { operands = codes "grammar" ∷ codes "costs" ∷ []; values = codes "budget" ∷ []; flags = codes "segment" ∷ [] }
+
 -- an operand, an option with a value that isn't empty, and an option without value
 abbrev pub operand_arg : List ℕ → Rule
 operand_arg name = record (new_rule name) { action = Some Set }

@@ -67,6 +67,19 @@ pub struct ArrangeOptions {
     pub segment: bool,
 }
 
+/// What `best` is asked to do.
+#[derive(Debug, Drop)]
+pub struct BestOptions {
+    /// The name of the grammar file.
+    pub grammar: Text,
+    /// The name of the costs file.
+    pub costs: Text,
+    /// How many counted prefixes the search may charge, 1 to 1,000,000,000.
+    pub budget: u64,
+    /// Whether words are cut by the Unicode rules of word boundaries.
+    pub segment: bool,
+}
+
 /// A command with its operands and options.
 #[derive(Debug, Drop)]
 pub enum Command {
@@ -105,4 +118,6 @@ pub enum Command {
     Corpus(CorpusOptions),
     /// `arrange`: the arrangements of the words that the input gives, those that have an analysis, with their analyses.
     Arrange(ArrangeOptions),
+    /// `best`: an analysis of least cost of the sentence that the input gives, and its cost.
+    Best(BestOptions),
 }

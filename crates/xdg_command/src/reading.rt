@@ -4,12 +4,15 @@ ghost use Rattle.std.specs.Prelude.{◌≡◌, IfOk, map};
 ghost use Rattle.std.specs.String.{string_bytes};
 ghost use Rattle.xdg_command.specs.Answers.{IsExactly};
 ghost use Rattle.xdg_command.specs.Commands.{IsCommand};
-ghost use Rattle.xdg_command.specs.Readings.{IsArrange, IsCorpus, IsDrill, IsOfVerb, IsOneFile, IsParse, IsResume, IsTwoFiles};
+ghost use Rattle.xdg_command.specs.Readings.{IsArrange, IsBest, IsCorpus, IsDrill, IsOfVerb, IsOneFile, IsParse, IsResume, IsTwoFiles};
 ghost use Rattle.xdg_command.specs.Verbs.{verb_of};
 ghost use Rattle.xdg_command.specs.declared.commands.Command.{Command};
 
 use crate::matching::matches;
-use crate::{ArrangeOptions, Command, CorpusOptions, ParseOptions, ResumeOptions, syntax, values};
+use crate::{
+    ArrangeOptions, BestOptions, Command, CorpusOptions, ParseOptions, ResumeOptions, syntax,
+    values,
+};
 use std::alloc::Global;
 use xdg_base::{OutOfMemory, Text};
 
@@ -25,6 +28,7 @@ enum Verb {
     Drill,
     Corpus,
     Arrange,
+    Best,
 }
 
 /// The operands of `explain`.
@@ -188,6 +192,33 @@ fn arrange(alloc: Global, words: &[String]) -> Result<Option<ArrangeOptions>, Ou
     }))
 }
 
+/// The operands and the options of `best`.
+fn best(alloc: Global, words: &[String]) -> Result<Option<BestOptions>, OutOfMemory>
+    ensures { IfOk result (IsExactly (IsBest (map string_bytes words.now))) }
+{
+    let Some(found) = matches(syntax::best(alloc)?, words)? else {
+        return Ok(None);
+    };
+    let Some(grammar) = found.get_str("grammar") else {
+        return Ok(None);
+    };
+    let Some(costs) = found.get_str("costs") else {
+        return Ok(None);
+    };
+    let Some(budget) = values::budget(found.get_str("budget")) else {
+        return Ok(None);
+    };
+    let grammar = Text::from_str(alloc, grammar)?;
+    let costs = Text::from_str(alloc, costs)?;
+    let segment = found.get_flag("segment");
+    Ok(Some(BestOptions {
+        grammar,
+        costs,
+        budget,
+        segment,
+    }))
+}
+
 /// The command that a word spells.
 #[tactic(auto, unfolding(crate::specs::Verbs::verb_of))]
 fn verb_of(word: &str) -> Option<Verb>
@@ -203,6 +234,7 @@ fn verb_of(word: &str) -> Option<Verb>
         "drill" => Some(Verb::Drill),
         "corpus" => Some(Verb::Corpus),
         "arrange" => Some(Verb::Arrange),
+        "best" => Some(Verb::Best),
         _ => None,
     }
 }
@@ -246,6 +278,10 @@ fn with_name(alloc: Global, verb: Verb, words: &[String]) -> Result<Option<Comma
         },
         Verb::Arrange => match arrange(alloc, words)? {
             Some(options) => Ok(Some(Command::Arrange(options))),
+            None => Ok(None),
+        },
+        Verb::Best => match best(alloc, words)? {
+            Some(options) => Ok(Some(Command::Best(options))),
             None => Ok(None),
         },
     }

@@ -3,7 +3,7 @@
 ghost use Rattle.std.specs.Prelude.{◌≡◌, IfOk, codes, false};
 ghost use Rattle.clap.specs.Walk.{rule_of};
 ghost use Rattle.clap.specs.Simple.{app_of};
-ghost use Rattle.xdg_command.specs.Syntax.{app_in, arranged, bare, corpused, flag_arg, one_file, operand_arg, parsed, resumed, two_files, value_arg};
+ghost use Rattle.xdg_command.specs.Syntax.{app_in, arranged, bare, corpused, costed, flag_arg, one_file, operand_arg, parsed, resumed, two_files, value_arg};
 
 use clap::builder::ValueParser;
 use clap::{Arg, ArgAction, Command};
@@ -93,6 +93,17 @@ pub(crate) fn arrange<'a>(alloc: Global) -> Result<Command<'a>, AllocError>
 {
     bare(alloc)
         .arg(operand(alloc, "grammar"))?
+        .arg(option_with_value(alloc, "budget"))?
+        .arg(flag(alloc, "segment"))
+}
+
+/// The grammar file, the costs file, and the options of `best`.
+pub(crate) fn best<'a>(alloc: Global) -> Result<Command<'a>, AllocError>
+    ensures { IfOk result (λ made. app_of made ≡ app_in costed) }
+{
+    bare(alloc)
+        .arg(operand(alloc, "grammar"))?
+        .arg(operand(alloc, "costs"))?
         .arg(option_with_value(alloc, "budget"))?
         .arg(flag(alloc, "segment"))
 }
