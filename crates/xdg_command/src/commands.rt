@@ -26,6 +26,8 @@ pub struct ParseOptions {
     pub text: TextForm,
     /// Whether the branches of the first word's entries are searched side by side, each with the whole budget.
     pub split: bool,
+    /// The name of the file of further rules, if one is given.
+    pub rules: Option<Text>,
 }
 
 /// What `resume` is asked to do.
@@ -41,6 +43,19 @@ pub struct ResumeOptions {
     pub first: Option<u64>,
     /// The form in which analyses are printed.
     pub text: TextForm,
+    /// The name of the file of further rules, if one is given.
+    pub rules: Option<Text>,
+}
+
+/// What `explain` is asked to do.
+#[derive(Debug, Drop)]
+pub struct ExplainOptions {
+    /// The name of the grammar file.
+    pub grammar: Text,
+    /// The name of the file of the analysis.
+    pub analysis: Text,
+    /// The name of the file of further rules, if one is given.
+    pub rules: Option<Text>,
 }
 
 /// What `corpus` is asked to do.
@@ -88,12 +103,7 @@ pub enum Command {
     /// `resume`: the analyses of a sentence behind a given one.
     Resume(ResumeOptions),
     /// `explain`: which principles of a grammar an analysis keeps.
-    Explain {
-        /// The name of the grammar file.
-        grammar: Text,
-        /// The name of the file of the analysis.
-        analysis: Text,
-    },
+    Explain(ExplainOptions),
     /// `check`: whether a grammar is right, and how much it holds.
     Check {
         /// The name of the grammar file.

@@ -8,6 +8,7 @@ mod syntax;
 mod values;
 
 pub use commands::{
-    ArrangeOptions, BestOptions, Command, CorpusOptions, ParseOptions, ResumeOptions, TextForm,
+    ArrangeOptions, BestOptions, Command, CorpusOptions, ExplainOptions, ParseOptions,
+    ResumeOptions, TextForm,
 };
 pub use reading::command;
