@@ -2,8 +2,10 @@
 use Rattle.std.proofs.Common.{◌≡◌, ◌∙◌, ℕ, ◌+◌, ◌-◌, ◌<◌, ◌≤◌, Bool, true, false, List, [], arith, refl, sym, ap, subst, Some, None}
 use Rattle.std.specs.Prelude.{Option}
 use Rattle.xdg_best.specs.declared.rounds.BestAnswer.{BestAnswer}
+use Rattle.xdg_best.specs.declared.searching.Round.{Round}
 use Rattle.xdg_best.specs.Best.{IsAnswer}
 use Rattle.xdg_best.specs.Rounds.{Finds, FindsNone, Rounds, used_up, ends, goes_on, found_cost, round_parts, round_start}
+use Rattle.xdg_best.specs.Searches.{IsRound}
 use Rattle.xdg_best.proofs.Cheapest.{rounds_best, rounds_solve}
 use Rattle.xdg_best.proofs.Reached.{passed_none, rounds_reached}
 use Rattle.xdg_problem.specs.declared.analysis.Analysis.{Analysis}
@@ -12,10 +14,20 @@ use Rattle.xdg_problem.specs.Analyses.{IsAnalysis}
 use Rattle.xdg_problem.specs.Costs.{CostLists, cost_of}
 use Rattle.xdg_problem.specs.Further.{bound_of, FurtherLaws}
 use Rattle.xdg_problem.specs.Problems.{IsProblem}
+use Rattle.xdg_problem.proofs.FurtherLawful.{bound_lawful}
 use Rattle.xdg_stream.specs.Streamed.{IsStart}
 
 abbrev BoundLaws : Parts → CostLists → Type 0
 BoundLaws parts costs = (bound : ℕ) → FurtherLaws parts (bound_of parts costs bound) (λ analysis. cost_of costs analysis < bound)
+
+pub bound_laws : (parts : Parts) (costs : CostLists) → IsProblem parts → BoundLaws parts costs
+bound_laws parts costs is bound = bound_lawful parts costs bound is
+
+-- what the search of a round came to, by other names
+pub round_as : (parts : Parts) (costs : CostLists) (last found : Option Analysis) (left : ℕ) (round other : Round) → last ≡ found → round ≡ other → IsRound (round_parts parts costs last) (round_start parts last) left round
+    → IsRound (round_parts parts costs found) (round_start parts found) left other
+round_as parts costs last found left round other same is r =
+    subst (λ z. IsRound (round_parts parts costs z) (round_start parts z) left other) same (subst (IsRound (round_parts parts costs last) (round_start parts last) left) is r)
 
 -- the rounds behind what was found last are those behind nothing, with the whole budget
 pub record Going (parts : Parts) (costs : CostLists) (budget : ℕ) (found : Option Analysis) (cost left : ℕ) : Type 0 where
