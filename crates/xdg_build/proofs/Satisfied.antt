@@ -22,7 +22,7 @@ use Rattle.xdg_problem.specs.Arguments.{label_count, first_dim, second_dim, attr
 use Rattle.xdg_problem.specs.Asking.{IsInItem, AsksLink, IsLinked}
 use Rattle.xdg_problem.specs.Conditions.{conditions_for}
 use Rattle.xdg_problem.specs.Features.{row, set_row, map_row}
-use Rattle.xdg_problem.specs.Names.{name_of}
+use Rattle.xdg_problem.specs.Names.{name_of, IsOfTexts}
 use Rattle.xdg_problem.specs.Paths.{edges_on, IsDaughter, IsDaughterBy}
 use Rattle.xdg_problem.specs.Relations.{Relation}
 use Rattle.xdg_problem.specs.Vectors.{entry_places}
@@ -49,7 +49,7 @@ use Rattle.xdg_groups.specs.Features.{feature_dim, members_in, rows_in}
 use Rattle.xdg_groups.specs.Grammars.{Grammar, is_used}
 use Rattle.xdg_groups.specs.Groups.{called, features_in, attrs_in, labels_in, truths_in, group_of}
 use Rattle.xdg_groups.proofs.Calling.{one_called}
-use Rattle.xdg_groups.proofs.Forms.{form_of, form-name_of, one_of_them, first_within}
+use Rattle.xdg_groups.proofs.Forms.{form_of, form-name_of, one_of_them, of_texts, first_within}
 use Rattle.xdg_groups.proofs.Right.{Use, use_of, dim_count, args_of}
 use Rattle.xdg_groups.proofs.Values.{same_count}
 use Rattle.xdg_build.specs.Compiled.{candidates_of, compiled}
@@ -160,8 +160,11 @@ module _ (g : Grammar) (words : List SentenceWord) (a : Analysis) (u : Principle
   abbrev rows : ℕ → ℕ → ℕ → List ℕ
   rows v j l = row group v (candidate v) j l
 
+  is_of_texts : IsOfTexts q
+  is_of_texts = of_texts q u.principle h.right.form named h.right.known
+
   called_is : called u.principle ≡ q
-  called_is = one_called u.principle q named
+  called_is = one_called u.principle q is_of_texts named
 
   one_use : Use g u q
   one_use = subst (Use g u) called_is (use_of g u h.right h.used)
@@ -176,7 +179,7 @@ module _ (g : Grammar) (words : List SentenceWord) (a : Analysis) (u : Principle
   arguments = wanted_arguments g.table u one_use.typed.shared (parameters (form_of q)) u.args (args_of g u q one_use)
 
   argument_is : (xs : List Arg) (key : List ℕ) → u.args ≡ xs → argument u key ≡ argument_with (Some (form_of q)) xs key
-  argument_is xs key same = ap₂ (λ (f : Option Form) (ys : List Arg). argument_with f ys key) (ap principle_named (sym named) ∙ form-name_of q) same
+  argument_is xs key same = ap₂ (λ (f : Option Form) (ys : List Arg). argument_with f ys key) (ap principle_named (sym named) ∙ form-name_of q is_of_texts) same
 
   -- ---- dimensions
 
@@ -733,9 +736,11 @@ module _ (g : Grammar) (words : List SentenceWord) (a : Analysis) (u : Principle
   same_for principles.LinkingAboveStart named = linking_above_start named
   same_for principles.LinkingSisters named = linking_sisters named
   same_for principles.LinkingNotDaughter named = linking_not_daughter named
+  same_for (principles.Rule formula) named = absurd (is_of_texts g words a u h (principles.Rule formula) named)
+  same_for (principles.Bound costs bound) named = absurd (is_of_texts g words a u h (principles.Bound costs bound) named)
 
   conditions_are : (q : Principle) → name_of q ≡ u.principle → conditions_for q G.truths ≡ conditions_for G.principle G.truths
-  conditions_are q named = ap (λ (p : Principle). conditions_for p G.truths) (sym (one_called u.principle q named))
+  conditions_are q named = ap (λ (p : Principle). conditions_for p G.truths) (sym (one_called u.principle q (is_of_texts g words a u h q named) named))
 
   -- the use is satisfied exactly where the relation of its group holds
   pub satisfied_same : Satisfies g words a u ↔ Relation (compiled g words) G a

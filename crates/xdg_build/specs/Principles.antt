@@ -201,6 +201,9 @@ module _ (g : Grammar) (words : List SentenceWord) (a : Analysis) (u : Principle
   -- for each x -l-> v on D1 where l is in x's `Link`: no edge on D2 leads from x to v
   Asks principles.LinkingNotDaughter =
       Edges D1 (λ e. InSet D3 (codes "Link") e.mother.0 (label D1 e ∷ []) → IsDaughter (edges D2) e.mother.0 e.daughter.0 → ⊥)
+  -- grammar texts use no others
+  Asks (principles.Rule formula) = ⊥
+  Asks (principles.Bound costs bound) = ⊥
 
 -- the analysis satisfies the use: it is one of a principle of the table, and what that principle asks is so
 abbrev pub Satisfies : Grammar → List SentenceWord → Analysis → PrincipleUse → Type 0

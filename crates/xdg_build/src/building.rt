@@ -16,7 +16,7 @@ use xdg_base::{List, Stop};
 use xdg_check::Checked;
 use xdg_groups::compile_uses;
 use xdg_packed::Packed;
-use xdg_problem::{Parts, Problem, SentenceWord};
+use xdg_problem::{Parts, Problem, SentenceWord, SharedList};
 
 /// The problem of a sentence that is not refused.
 fn compile(
@@ -32,7 +32,7 @@ fn compile(
     ensures keeps { IfOk result (λ _. IsChecked checked.now) }
 {
     let candidates = candidates(alloc, packed, words.as_slice())?;
-    let dims = plans(alloc, checked)?;
+    let dims = SharedList::of(alloc, plans(alloc, checked)?)?;
     let groups = compile_uses(alloc, checked, packed, candidates.as_slice())?;
     Ok(Problem::of(Parts {
         words,

@@ -1,28 +1,18 @@
--- What is found is the command that the words are.
+-- What is found is what the words after a name say.
 use Rattle.std.proofs.Common.{◌≡◌, ◌∙◌, ◌≤◌, ℕ, Bool, true, false, List, [], ◌∷◌, length, Option, Some, None, refl, sym, ap, ap₂, subst, arith}
-use Rattle.std.specs.Prelude.{codes, slice_get, slice_index, if◌then◌else◌}
-use Rattle.std.specs.Str.{bytes_eq}
-use Rattle.std.specs.Str.Parse.{digits_value}
-use Rattle.std.proofs.lemmas.Slice.Eq.{bytes_eq-Decides}
+use Rattle.std.specs.Prelude.{codes, slice_get, if◌then◌else◌}
 use Rattle.clap.specs.Matches.{first_value, found_of, one_text}
 use Rattle.clap.specs.declared.parser.matches.ArgMatches.{ArgMatches}
 use Rattle.xdg_command.specs.Answers.{IsExactly}
-use Rattle.xdg_command.specs.Commands.{HasBudget, HasFirst, HasText, IsCommand, IsDrillNumber, SaysCorpus, SaysParse, SaysResume}
+use Rattle.xdg_command.specs.Commands.{HasBudget, HasFirst, HasText, IsDrillNumber, SaysParse, SaysResume}
 use Rattle.xdg_command.specs.Found.{Matches}
 use Rattle.xdg_command.specs.Items.{AreItems, Item, has_flag, operands_of}
-use Rattle.xdg_command.specs.Readings.{AreWords, IsCorpus, IsDrill, IsOfVerb, IsOneFile, IsParse, IsResume, IsTwoFiles}
-use Rattle.xdg_command.specs.Syntax.{Table, corpused, is_right, one_file, parsed, resumed, two_files}
-use Rattle.xdg_command.specs.Verbs.{verb_of}
-use Rattle.xdg_command.specs.declared.commands.Command.{Command}
-use Rattle.xdg_command.specs.declared.commands.Command.TheVariants as commands
-use Rattle.xdg_command.specs.declared.commands.CorpusOptions.{CorpusOptions}
+use Rattle.xdg_command.specs.Readings.{AreWords, IsDrill, IsOneFile, IsParse, IsResume, IsTwoFiles}
+use Rattle.xdg_command.specs.Syntax.{Table, arranged, corpused, is_right, one_file, parsed, resumed, two_files}
 use Rattle.xdg_command.specs.declared.commands.ParseOptions.{ParseOptions}
 use Rattle.xdg_command.specs.declared.commands.ResumeOptions.{ResumeOptions}
 use Rattle.xdg_command.specs.declared.commands.TextForm.{TextForm}
-use Rattle.xdg_command.specs.declared.commands.TextForm.TheVariants as forms
 use Rattle.xdg_command.specs.declared.reading.Files.{Files}
-use Rattle.xdg_command.specs.declared.reading.Verb.{Verb}
-use Rattle.xdg_command.specs.declared.reading.Verb.TheVariants as verbs
 use Rattle.xdg_command.proofs.Lookups.{right}
 use Rattle.xdg_command.proofs.Spelled.{read_items}
 
@@ -40,6 +30,9 @@ resumed_right = refl
 
 pub corpused_right : is_right corpused ≡ true
 corpused_right = refl
+
+pub arranged_right : is_right arranged ≡ true
+arranged_right = refl
 
 -- ---- words and their items
 
@@ -78,6 +71,13 @@ double (a ∷ b ∷ c ∷ xs) x y e f few = absurd (omega (arith, few))
 pub few_of : (n : ℕ) (xs ys : List (List ℕ)) → xs ≡ ys → length ys ≤ n → length xs ≤ n
 few_of n xs ys is few = subst (λ zs. length zs ≤ n) (sym is) few
 
+-- ---- options without value
+
+-- what an option without value was found to be
+pub flag_said : (text : Option (List ℕ)) (b x : Bool) → text ≡ Some (if x then codes "true" else codes "false") → (text ≡ Some (codes "true") → b ≡ true) → (text ≡ Some (codes "false") → b ≡ false) → b ≡ x
+flag_said text b true e set unset = set e
+flag_said text b false e set unset = unset e
+
 -- ---- one file
 
 module _ (words : List (List ℕ)) where
@@ -101,7 +101,7 @@ module _ (words : List (List ℕ)) where
   -- ---- `drill`
 
   -- the words of a number are one operand
-  file_of : (number : ℕ) (w : IsDrill words number) → IsOneFile words w.says.text
+  pub file_of : (number : ℕ) (w : IsDrill words number) → IsOneFile words w.says.text
   file_of number w = record { items = w.items; read = w.read; once = w.once; says = w.says.alone }
 
   pub drill_none : ((name : List ℕ) → IsOneFile words name → ⊥) → (number : ℕ) → IsDrill words number → ⊥
@@ -163,18 +163,19 @@ module _ (words : List (List ℕ)) where
     pub bad_text : ((form : TextForm) → HasText (first_value (found_of found) (codes "text")) form → ⊥) → (options : ParseOptions) → IsParse words options → ⊥
     bad_text none options w = none options.text (subst (λ o. HasText o options.text) (sym (m.2.values (codes "text") refl)) (parse_said options w).text)
 
-    pub segment_found : (b : Bool) → (one_text (found_of found) (codes "segment") ≡ None → b ≡ false) → (one_text (found_of found) (codes "segment") ≡ Some (codes "true") → b ≡ true)
-        → (one_text (found_of found) (codes "segment") ≡ Some (codes "false") → b ≡ false) → b ≡ has_flag (codes "segment") m.0
-    segment_found b none set unset = go (has_flag (codes "segment") m.0) (m.2.flags (codes "segment") refl)
-      where
-        go : (x : Bool) → one_text (found_of found) (codes "segment") ≡ Some (if x then codes "true" else codes "false") → b ≡ x
-        go true e = set e
-        go false e = unset e
+    pub segment_found : (b : Bool) → (one_text (found_of found) (codes "segment") ≡ Some (codes "true") → b ≡ true) → (one_text (found_of found) (codes "segment") ≡ Some (codes "false") → b ≡ false)
+        → b ≡ has_flag (codes "segment") m.0
+    segment_found b set unset = flag_said (one_text (found_of found) (codes "segment")) b (has_flag (codes "segment") m.0) (m.2.flags (codes "segment") refl) set unset
+
+    pub split_found : (b : Bool) → (one_text (found_of found) (codes "split") ≡ Some (codes "true") → b ≡ true) → (one_text (found_of found) (codes "split") ≡ Some (codes "false") → b ≡ false)
+        → b ≡ has_flag (codes "split") m.0
+    split_found b set unset = flag_said (one_text (found_of found) (codes "split")) b (has_flag (codes "split") m.0) (m.2.flags (codes "split") refl) set unset
 
     pub parse_found : (options : ParseOptions) → first_value (found_of found) (codes "grammar") ≡ Some options.grammar
         → IsExactly (HasBudget (first_value (found_of found) (codes "budget"))) (Some options.budget) → IsExactly (HasFirst (first_value (found_of found) (codes "first"))) (Some options.first)
-        → IsExactly (HasText (first_value (found_of found) (codes "text"))) (Some options.text) → options.segment ≡ has_flag (codes "segment") m.0 → IsExactly (IsParse words) (Some options)
-    parse_found options e budget first text segment =
+        → IsExactly (HasText (first_value (found_of found) (codes "text"))) (Some options.text) → options.segment ≡ has_flag (codes "segment") m.0
+        → options.split ≡ has_flag (codes "split") m.0 → IsExactly (IsParse words) (Some options)
+    parse_found options e budget first text segment split =
         let is = single (operands_of m.0) options.grammar (sym (m.2.operands 0 (codes "grammar") refl) ∙ e) m.1.few in
         let budget_at = m.2.values (codes "budget") refl in
         let first_at = m.2.values (codes "first") refl in
@@ -189,6 +190,7 @@ module _ (words : List (List ℕ)) where
               first = subst (λ o. HasFirst o options.first) first_at first.0;
               segment = segment;
               text = subst (λ o. HasText o options.text) text_at text.0;
+              split = split;
             };
           },
           λ other w.
@@ -199,7 +201,8 @@ module _ (words : List (List ℕ)) where
               let first_is = first.1 other.first (subst (λ o. HasFirst o other.first) (sym first_at) says.first) in
               let text_is = text.1 other.text (subst (λ o. HasText o other.text) (sym text_at) says.text) in
               let segment_is : other.segment ≡ options.segment = says.segment ∙ sym segment in
-              (λ i. let made : ParseOptions = record { grammar = grammar_is i; budget = budget_is i; first = first_is i; segment = segment_is i; text = text_is i } in made),
+              let split_is : other.split ≡ options.split = says.split ∙ sym split in
+              (λ i. let made : ParseOptions = record { grammar = grammar_is i; budget = budget_is i; first = first_is i; segment = segment_is i; text = text_is i; split = split_is i } in made),
         )
 
   -- ---- `resume`
@@ -255,216 +258,3 @@ module _ (words : List (List ℕ)) where
               let text_is = text.1 other.text (subst (λ o. HasText o other.text) (sym text_at) says.text) in
               (λ i. let made : ResumeOptions = record { grammar = grammar_is i; analysis = analysis_is i; budget = budget_is i; first = first_is i; text = text_is i } in made),
         )
-
--- ---- commands
-
--- the verb of a command
-verb_for : Command → Verb
-verb_for (commands.Parse options) = verbs.Parse
-verb_for (commands.Resume options) = verbs.Resume
-verb_for (commands.Explain grammar analysis) = verbs.Explain
-verb_for (commands.Check grammar) = verbs.Check
-verb_for (commands.Lexicon grammar) = verbs.Lexicon
-verb_for (commands.Print grammar) = verbs.Print
-verb_for (commands.Drill number) = verbs.Drill
-verb_for (commands.Corpus options) = verbs.Corpus
-
--- how a verb is spelled
-spelling_of : Verb → List ℕ
-spelling_of verbs.Parse = codes "parse"
-spelling_of verbs.Resume = codes "resume"
-spelling_of verbs.Explain = codes "explain"
-spelling_of verbs.Check = codes "check"
-spelling_of verbs.Lexicon = codes "lexicon"
-spelling_of verbs.Print = codes "print"
-spelling_of verbs.Drill = codes "drill"
-spelling_of verbs.Corpus = codes "corpus"
-
-verb_spelled : (verb : Verb) → verb_of (spelling_of verb) ≡ Some verb
-unfolding verb_of spelling_of
-verb_spelled verbs.Parse = refl
-verb_spelled verbs.Resume = refl
-verb_spelled verbs.Explain = refl
-verb_spelled verbs.Check = refl
-verb_spelled verbs.Lexicon = refl
-verb_spelled verbs.Print = refl
-verb_spelled verbs.Drill = refl
-verb_spelled verbs.Corpus = refl
-
-chosen : Bool → Bool → Bool → Bool → Bool → Bool → Bool → Bool → Option Verb
-chosen a g b c d e i j =
-    if a then Some verbs.Parse else (if g then Some verbs.Resume else (if b then Some verbs.Explain else (if c then Some verbs.Check else (if d then Some verbs.Lexicon else (if e then Some verbs.Print else (if i then Some verbs.Drill else (if j then Some verbs.Corpus else None)))))))
-
-chosen_spells : (a g b c d e i j : Bool) (word : List ℕ) (verb : Verb) → (a ≡ true → word ≡ codes "parse") → (g ≡ true → word ≡ codes "resume") → (b ≡ true → word ≡ codes "explain") → (c ≡ true → word ≡ codes "check")
-    → (d ≡ true → word ≡ codes "lexicon") → (e ≡ true → word ≡ codes "print") → (i ≡ true → word ≡ codes "drill") → (j ≡ true → word ≡ codes "corpus") → chosen a g b c d e i j ≡ Some verb → word ≡ spelling_of verb
-unfolding chosen spelling_of
-chosen_spells true g b c d e i j word verb p h q r s t u v f = let is : verbs.Parse ≡ verb = cc in subst (λ o. word ≡ spelling_of o) is (p refl)
-chosen_spells false true b c d e i j word verb p h q r s t u v f = let is : verbs.Resume ≡ verb = cc in subst (λ o. word ≡ spelling_of o) is (h refl)
-chosen_spells false false true c d e i j word verb p h q r s t u v f = let is : verbs.Explain ≡ verb = cc in subst (λ o. word ≡ spelling_of o) is (q refl)
-chosen_spells false false false true d e i j word verb p h q r s t u v f = let is : verbs.Check ≡ verb = cc in subst (λ o. word ≡ spelling_of o) is (r refl)
-chosen_spells false false false false true e i j word verb p h q r s t u v f = let is : verbs.Lexicon ≡ verb = cc in subst (λ o. word ≡ spelling_of o) is (s refl)
-chosen_spells false false false false false true i j word verb p h q r s t u v f = let is : verbs.Print ≡ verb = cc in subst (λ o. word ≡ spelling_of o) is (t refl)
-chosen_spells false false false false false false true j word verb p h q r s t u v f = let is : verbs.Drill ≡ verb = cc in subst (λ o. word ≡ spelling_of o) is (u refl)
-chosen_spells false false false false false false false true word verb p h q r s t u v f = let is : verbs.Corpus ≡ verb = cc in subst (λ o. word ≡ spelling_of o) is (v refl)
-chosen_spells false false false false false false false false word verb p h q r s t u v f = absurd cc
-
--- a word is the spelling of the verb that it spells
-spells : (word : List ℕ) (verb : Verb) → verb_of word ≡ Some verb → word ≡ spelling_of verb
-unfolding verb_of chosen
-spells word verb e =
-    chosen_spells (bytes_eq word (codes "parse")) (bytes_eq word (codes "resume")) (bytes_eq word (codes "explain")) (bytes_eq word (codes "check")) (bytes_eq word (codes "lexicon")) (bytes_eq word (codes "print"))
-    (bytes_eq word (codes "drill")) (bytes_eq word (codes "corpus")) word verb
-    (bytes_eq-Decides word (codes "parse")).0 (bytes_eq-Decides word (codes "resume")).0 (bytes_eq-Decides word (codes "explain")).0 (bytes_eq-Decides word (codes "check")).0
-    (bytes_eq-Decides word (codes "lexicon")).0 (bytes_eq-Decides word (codes "print")).0 (bytes_eq-Decides word (codes "drill")).0 (bytes_eq-Decides word (codes "corpus")).0 e
-
--- a command is spelled by its verb, which the later words follow
-of_command : (words : List (List ℕ)) (command : Command) → IsCommand words command
-    → (later : List (List ℕ)) × (words ≡ spelling_of (verb_for command) ∷ later) × IsOfVerb (verb_for command) later command
-unfolding spelling_of verb_for
-of_command words (commands.Parse options) w = (w.later, w.words_are, record { items = w.items; read = w.read; once = w.once; says = w.says })
-of_command words (commands.Resume options) w = (w.later, w.words_are, record { items = w.items; read = w.read; once = w.once; says = w.says })
-of_command words (commands.Explain grammar analysis) w = (w.later, w.words_are, record { items = w.items; read = w.read; once = w.once; says = w.says })
-of_command words (commands.Check grammar) w = (w.later, w.words_are, record { items = w.items; read = w.read; once = w.once; says = w.says })
-of_command words (commands.Lexicon grammar) w = (w.later, w.words_are, record { items = w.items; read = w.read; once = w.once; says = w.says })
-of_command words (commands.Print grammar) w = (w.later, w.words_are, record { items = w.items; read = w.read; once = w.once; says = w.says })
-of_command words (commands.Drill number) w = (w.later, w.words_are, record { items = w.items; read = w.read; once = w.once; says = w.says })
-of_command words (commands.Corpus options) w = (w.later, w.words_are, record { items = w.items; read = w.read; once = w.once; says = w.says })
-
--- and back
-to_command : (verb : Verb) (later : List (List ℕ)) (command : Command) → IsOfVerb verb later command → IsCommand (spelling_of verb ∷ later) command
-unfolding spelling_of
-to_command verbs.Parse later (commands.Parse options) w = record { later = later; items = w.items; words_are = refl; read = w.read; once = w.once; says = w.says }
-to_command verbs.Resume later (commands.Resume options) w = record { later = later; items = w.items; words_are = refl; read = w.read; once = w.once; says = w.says }
-to_command verbs.Explain later (commands.Explain grammar analysis) w = record { later = later; items = w.items; words_are = refl; read = w.read; once = w.once; says = w.says }
-to_command verbs.Check later (commands.Check grammar) w = record { later = later; items = w.items; words_are = refl; read = w.read; once = w.once; says = w.says }
-to_command verbs.Lexicon later (commands.Lexicon grammar) w = record { later = later; items = w.items; words_are = refl; read = w.read; once = w.once; says = w.says }
-to_command verbs.Print later (commands.Print grammar) w = record { later = later; items = w.items; words_are = refl; read = w.read; once = w.once; says = w.says }
-to_command verbs.Drill later (commands.Drill number) w = record { later = later; items = w.items; words_are = refl; read = w.read; once = w.once; says = w.says }
-to_command verbs.Corpus later (commands.Corpus options) w = record { later = later; items = w.items; words_are = refl; read = w.read; once = w.once; says = w.says }
-to_command verb later command w = absurd w
-
--- words of which the first is no command's are no command
-pub no_verb : (word : List ℕ) (later : List (List ℕ)) → verb_of word ≡ None → (command : Command) → IsCommand (word ∷ later) command → ⊥
-no_verb word later none command w =
-    let found = of_command (word ∷ later) command w in
-    let word_is : word ≡ spelling_of (verb_for command) = let is : word ∷ later ≡ spelling_of (verb_for command) ∷ found.0 = found.1 in cc in
-    let bad : None ≡ Some (verb_for command) = sym none ∙ ap verb_of word_is ∙ verb_spelled (verb_for command) in
-    cc
-
--- the command of the words is that of the later ones under the verb
-under_verb : (word : List ℕ) (later : List (List ℕ)) (verb : Verb) → verb_of word ≡ Some verb → (command : Command) → IsCommand (word ∷ later) command → IsOfVerb verb later command
-under_verb word later verb e command w =
-    let found = of_command (word ∷ later) command w in
-    let is : word ∷ later ≡ spelling_of (verb_for command) ∷ found.0 = found.1 in
-    let word_is : word ≡ spelling_of (verb_for command) = cc in
-    let later_is : found.0 ≡ later = cc in
-    let some : Some (verb_for command) ≡ Some verb = sym (verb_spelled (verb_for command)) ∙ ap verb_of (sym word_is) ∙ e in
-    let verb_is : verb_for command ≡ verb = cc in
-    subst (λ v. IsOfVerb v later command) verb_is (subst (λ ws. IsOfVerb (verb_for command) ws command) later_is found.2)
-
-pub by_verb : (word : List ℕ) (later : List (List ℕ)) (verb : Verb) (answer : Option Command) → verb_of word ≡ Some verb → IsExactly (IsOfVerb verb later) answer → IsExactly (IsCommand (word ∷ later)) answer
-by_verb word later verb None e exact = λ command w. exact command (under_verb word later verb e command w)
-by_verb word later verb (Some found) e exact = (
-  subst (λ first. IsCommand (first ∷ later) found) (sym (spells word verb e)) (to_command verb later found exact.0),
-  λ command w. exact.1 command (under_verb word later verb e command w),
-)
-
--- ---- words are at most one command
-
-one_budget : (given : Option (List ℕ)) (a b : ℕ) → HasBudget given a → HasBudget given b → a ≡ b
-one_budget None a b p q = p ∙ sym q
-one_budget (Some text) a b p q = p.value ∙ sym q.value
-
-one_first : (given : Option (List ℕ)) (a b : Option ℕ) → HasFirst given a → HasFirst given b → a ≡ b
-one_first None None None p q = refl
-one_first None None (Some b) p q = absurd q
-one_first None (Some a) b p q = absurd p
-one_first (Some text) None b p q = absurd p
-one_first (Some text) (Some a) None p q = absurd q
-one_first (Some text) (Some a) (Some b) p q = ap (λ n. Some n) (p.value ∙ sym q.value)
-
-one_text_form : (given : Option (List ℕ)) (a b : TextForm) → HasText given a → HasText given b → a ≡ b
-one_text_form None a b p q = p ∙ sym q
-one_text_form (Some text) forms.One forms.One p q = refl
-one_text_form (Some text) forms.One forms.Two p q = let bad : 49 ≡ 50 = ap (λ xs. slice_index xs 0) (sym p ∙ q) in absurd (omega (arith, bad))
-one_text_form (Some text) forms.Two forms.One p q = let bad : 50 ≡ 49 = ap (λ xs. slice_index xs 0) (sym p ∙ q) in absurd (omega (arith, bad))
-one_text_form (Some text) forms.Two forms.Two p q = refl
-
-one_parse : (words : List (List ℕ)) (a b : ParseOptions) → IsParse words a → IsParse words b → a ≡ b
-one_parse words a b p q =
-    let says = said parsed parsed_right words p.items (λ items. SaysParse items b) p.read q in
-    let same : a.grammar ∷ [] ≡ b.grammar ∷ [] = sym p.says.grammar ∙ says.grammar in
-    let grammar : a.grammar ≡ b.grammar = cc in
-    let budget = one_budget _ a.budget b.budget p.says.budget says.budget in
-    let first = one_first _ a.first b.first p.says.first says.first in
-    let segment : a.segment ≡ b.segment = p.says.segment ∙ sym says.segment in
-    let text = one_text_form _ a.text b.text p.says.text says.text in
-    (λ i. let made : ParseOptions = record { grammar = grammar i; budget = budget i; first = first i; segment = segment i; text = text i } in made)
-
-one_corpus : (words : List (List ℕ)) (a b : CorpusOptions) → IsCorpus words a → IsCorpus words b → a ≡ b
-one_corpus words a b p q =
-    let says = said corpused corpused_right words p.items (λ items. SaysCorpus items b) p.read q in
-    let same : a.grammar ∷ [] ≡ b.grammar ∷ [] = sym p.says.grammar ∙ says.grammar in
-    let grammar : a.grammar ≡ b.grammar = cc in
-    let budget = one_budget _ a.budget b.budget p.says.budget says.budget in
-    let first = one_first _ a.first b.first p.says.first says.first in
-    let segment : a.segment ≡ b.segment = p.says.segment ∙ sym says.segment in
-    (λ i. let made : CorpusOptions = record { grammar = grammar i; budget = budget i; first = first i; segment = segment i } in made)
-
-one_resume : (words : List (List ℕ)) (a b : ResumeOptions) → IsResume words a → IsResume words b → a ≡ b
-one_resume words a b p q =
-    let says = said resumed resumed_right words p.items (λ items. SaysResume items b) p.read q in
-    let same : a.grammar ∷ a.analysis ∷ [] ≡ b.grammar ∷ b.analysis ∷ [] = sym p.says.files ∙ says.files in
-    let grammar : a.grammar ≡ b.grammar = cc in
-    let analysis : a.analysis ≡ b.analysis = cc in
-    let budget = one_budget _ a.budget b.budget p.says.budget says.budget in
-    let first = one_first _ a.first b.first p.says.first says.first in
-    let text = one_text_form _ a.text b.text p.says.text says.text in
-    (λ i. let made : ResumeOptions = record { grammar = grammar i; analysis = analysis i; budget = budget i; first = first i; text = text i } in made)
-
-one_file_name : (words : List (List ℕ)) (a b : List ℕ) → IsOneFile words a → IsOneFile words b → a ≡ b
-one_file_name words a b p q =
-    let same : a ∷ [] ≡ b ∷ [] = sym p.says ∙ said one_file one_file_right words p.items (λ items. operands_of items ≡ b ∷ []) p.read q in
-    cc
-
-one_drill : (words : List (List ℕ)) (a b : ℕ) → IsDrill words a → IsDrill words b → a ≡ b
-one_drill words a b p q =
-    let text : p.says.text ≡ q.says.text = one_file_name words p.says.text q.says.text (file_of words a p) (file_of words b q) in
-    p.says.writes.value ∙ ap (digits_value 10) text ∙ sym q.says.writes.value
-
-one_pair : (words : List (List ℕ)) (a b : Files) → IsTwoFiles words a → IsTwoFiles words b → (a.grammar ≡ b.grammar) × (a.analysis ≡ b.analysis)
-one_pair words a b p q =
-    let same : a.grammar ∷ a.analysis ∷ [] ≡ b.grammar ∷ b.analysis ∷ [] = sym p.says ∙ said two_files two_files_right words p.items (λ items. operands_of items ≡ b.grammar ∷ b.analysis ∷ []) p.read q in
-    (cc, cc)
-
-one_of_verb : (verb : Verb) (words : List (List ℕ)) (a b : Command) → IsOfVerb verb words a → IsOfVerb verb words b → a ≡ b
-one_of_verb verbs.Parse words (commands.Parse a) (commands.Parse b) p q = ap (λ o. commands.Parse o) (one_parse words a b p q)
-one_of_verb verbs.Resume words (commands.Resume a) (commands.Resume b) p q = ap (λ o. commands.Resume o) (one_resume words a b p q)
-one_of_verb verbs.Explain words (commands.Explain a c) (commands.Explain b d) p q =
-    let same = one_pair words (record { grammar = a; analysis = c }) (record { grammar = b; analysis = d }) p q in
-    ap₂ (λ x y. commands.Explain x y) same.0 same.1
-one_of_verb verbs.Check words (commands.Check a) (commands.Check b) p q = ap (λ n. commands.Check n) (one_file_name words a b p q)
-one_of_verb verbs.Lexicon words (commands.Lexicon a) (commands.Lexicon b) p q = ap (λ n. commands.Lexicon n) (one_file_name words a b p q)
-one_of_verb verbs.Print words (commands.Print a) (commands.Print b) p q = ap (λ n. commands.Print n) (one_file_name words a b p q)
-one_of_verb verbs.Drill words (commands.Drill a) (commands.Drill b) p q = ap (λ n. commands.Drill n) (one_drill words a b p q)
-one_of_verb verbs.Corpus words (commands.Corpus a) (commands.Corpus b) p q = ap (λ o. commands.Corpus o) (one_corpus words a b p q)
-one_of_verb verbs.Parse words (commands.Parse a) b p q = absurd q
-one_of_verb verbs.Resume words (commands.Resume a) b p q = absurd q
-one_of_verb verbs.Explain words (commands.Explain a c) b p q = absurd q
-one_of_verb verbs.Check words (commands.Check a) b p q = absurd q
-one_of_verb verbs.Lexicon words (commands.Lexicon a) b p q = absurd q
-one_of_verb verbs.Print words (commands.Print a) b p q = absurd q
-one_of_verb verbs.Drill words (commands.Drill a) b p q = absurd q
-one_of_verb verbs.Corpus words (commands.Corpus a) b p q = absurd q
-one_of_verb verb words a b p q = absurd p
-
-pub one_command : (words : List (List ℕ)) (a b : Command) → IsCommand words a → IsCommand words b → a ≡ b
-one_command words a b p q =
-    let first = of_command words a p in
-    let second = of_command words b q in
-    let same : spelling_of (verb_for a) ∷ first.0 ≡ spelling_of (verb_for b) ∷ second.0 = sym first.1 ∙ second.1 in
-    let spelling : spelling_of (verb_for a) ≡ spelling_of (verb_for b) = cc in
-    let later : second.0 ≡ first.0 = cc in
-    let some : Some (verb_for b) ≡ Some (verb_for a) = sym (verb_spelled (verb_for b)) ∙ ap verb_of (sym spelling) ∙ verb_spelled (verb_for a) in
-    let verb : verb_for b ≡ verb_for a = cc in
-    one_of_verb (verb_for a) first.0 a b first.2 (subst (λ v. IsOfVerb v first.0 b) verb (subst (λ ws. IsOfVerb (verb_for b) ws b) later second.2))

@@ -1,6 +1,6 @@
 -- What is found of `corpus` is what its words say.
 use Rattle.std.proofs.Common.{◌≡◌, ◌∙◌, ℕ, Bool, true, false, List, [], ◌∷◌, Option, Some, None, refl, sym, subst, arith}
-use Rattle.std.specs.Prelude.{codes, if◌then◌else◌}
+use Rattle.std.specs.Prelude.{codes}
 use Rattle.clap.specs.Matches.{first_value, found_of, one_text}
 use Rattle.clap.specs.declared.parser.matches.ArgMatches.{ArgMatches}
 use Rattle.xdg_command.specs.Answers.{IsExactly}
@@ -10,12 +10,7 @@ use Rattle.xdg_command.specs.Items.{has_flag, operands_of}
 use Rattle.xdg_command.specs.Readings.{IsCorpus}
 use Rattle.xdg_command.specs.Syntax.{corpused}
 use Rattle.xdg_command.specs.declared.commands.CorpusOptions.{CorpusOptions}
-use Rattle.xdg_command.proofs.Commanded.{corpused_right, few_of, first_none, said, single, unsaid}
-
--- what an option without value was found to be
-pub flag_said : (text : Option (List ℕ)) (b x : Bool) → text ≡ Some (if x then codes "true" else codes "false") → (text ≡ Some (codes "true") → b ≡ true) → (text ≡ Some (codes "false") → b ≡ false) → b ≡ x
-flag_said text b true e set unset = set e
-flag_said text b false e set unset = unset e
+use Rattle.xdg_command.proofs.Commanded.{corpused_right, few_of, first_none, flag_said, said, single, unsaid}
 
 module _ (words : List (List ℕ)) where
   pub corpus_none : Matches corpused words None → (options : CorpusOptions) → IsCorpus words options → ⊥

@@ -1,3 +1,4 @@
+pub mod Arranged
 pub mod Built
 pub mod Commanded
 pub mod Corpused
@@ -5,6 +6,7 @@ pub mod Filling
 pub mod Finding
 pub mod Fitting
 pub mod Lookups
+pub mod Naming
 pub mod Numbers
 pub mod Outcome
 pub mod Placed

@@ -4,6 +4,7 @@ use Rattle.std.specs.List.{list_all}
 use Rattle.std.specs.Char.{is_ascii_digit}
 use Rattle.std.specs.Str.Parse.{digits_value}
 use Rattle.xdg_command.specs.Items.{Item, AreItems, IsOnce, has_flag, operands_of, value_of}
+use Rattle.xdg_command.specs.declared.commands.ArrangeOptions.{ArrangeOptions}
 use Rattle.xdg_command.specs.declared.commands.Command.{Command}
 use Rattle.xdg_command.specs.declared.commands.Command.TheVariants as commands
 use Rattle.xdg_command.specs.declared.commands.CorpusOptions.{CorpusOptions}
@@ -57,18 +58,21 @@ spelled (commands.Lexicon grammar) = codes "lexicon"
 spelled (commands.Print grammar) = codes "print"
 spelled (commands.Drill number) = codes "drill"
 spelled (commands.Corpus options) = codes "corpus"
+spelled (commands.Arrange options) = codes "arrange"
 
 -- the names of a command's options that take a value
 abbrev pub values_of : Command → List (List ℕ)
 values_of (commands.Parse options) = codes "budget" ∷ codes "first" ∷ codes "text" ∷ []
 values_of (commands.Resume options) = codes "budget" ∷ codes "first" ∷ codes "text" ∷ []
 values_of (commands.Corpus options) = codes "budget" ∷ codes "first" ∷ []
+values_of (commands.Arrange options) = codes "budget" ∷ []
 values_of _ = []
 
 -- the names of a command's options that take none
 abbrev pub flags_of : Command → List (List ℕ)
-flags_of (commands.Parse options) = codes "segment" ∷ []
+flags_of (commands.Parse options) = codes "segment" ∷ codes "split" ∷ []
 flags_of (commands.Corpus options) = codes "segment" ∷ []
+flags_of (commands.Arrange options) = codes "segment" ∷ []
 flags_of _ = []
 
 -- the items of `parse`
@@ -78,6 +82,7 @@ pub record SaysParse (items : List Item) (options : ParseOptions) : Type 0 where
   pub first : HasFirst (value_of (codes "first") items) options.first
   pub segment : options.segment ≡ has_flag (codes "segment") items
   pub text : HasText (value_of (codes "text") items) options.text
+  pub split : options.split ≡ has_flag (codes "split") items
 
 -- the items of `resume`
 pub record SaysResume (items : List Item) (options : ResumeOptions) : Type 0 where
@@ -99,6 +104,12 @@ pub record SaysCorpus (items : List Item) (options : CorpusOptions) : Type 0 whe
   pub first : HasFirst (value_of (codes "first") items) options.first
   pub segment : options.segment ≡ has_flag (codes "segment") items
 
+-- the items of `arrange`
+pub record SaysArrange (items : List Item) (options : ArrangeOptions) : Type 0 where
+  pub grammar : operands_of items ≡ options.grammar ∷ []
+  pub budget : HasBudget (value_of (codes "budget") items) options.budget
+  pub segment : options.segment ≡ has_flag (codes "segment") items
+
 -- the items are the operands and options of the command
 abbrev pub Says : List Item → Command → Type 0
 Says items (commands.Parse options) = SaysParse items options
@@ -109,6 +120,7 @@ Says items (commands.Lexicon grammar) = operands_of items ≡ grammar ∷ []
 Says items (commands.Print grammar) = operands_of items ≡ grammar ∷ []
 Says items (commands.Drill number) = SaysDrill items number
 Says items (commands.Corpus options) = SaysCorpus items options
+Says items (commands.Arrange options) = SaysArrange items options
 
 -- The words are the command: its spelling, and then items, each option at most once, that say what it is to do.
 pub record IsCommand (words : List (List ℕ)) (command : Command) : Type 0 where

@@ -1,7 +1,8 @@
 -- The words after a command's name, by what they say.
 use Rattle.std.specs.Prelude.{◌≡◌, ℕ, List, [], ◌∷◌, codes}
 use Rattle.xdg_command.specs.Items.{Item, AreItems, IsOnce, operands_of}
-use Rattle.xdg_command.specs.Commands.{SaysCorpus, SaysDrill, SaysParse, SaysResume}
+use Rattle.xdg_command.specs.Commands.{SaysArrange, SaysCorpus, SaysDrill, SaysParse, SaysResume}
+use Rattle.xdg_command.specs.declared.commands.ArrangeOptions.{ArrangeOptions}
 use Rattle.xdg_command.specs.declared.commands.Command.{Command}
 use Rattle.xdg_command.specs.declared.commands.Command.TheVariants as commands
 use Rattle.xdg_command.specs.declared.commands.CorpusOptions.{CorpusOptions}
@@ -32,7 +33,7 @@ IsDrill words number = AreWords [] [] words (λ items. SaysDrill items number)
 
 -- what follows `parse`
 abbrev pub IsParse : List (List ℕ) → ParseOptions → Type 0
-IsParse words options = AreWords (codes "budget" ∷ codes "first" ∷ codes "text" ∷ []) (codes "segment" ∷ []) words (λ items. SaysParse items options)
+IsParse words options = AreWords (codes "budget" ∷ codes "first" ∷ codes "text" ∷ []) (codes "segment" ∷ codes "split" ∷ []) words (λ items. SaysParse items options)
 
 -- what follows `resume`
 abbrev pub IsResume : List (List ℕ) → ResumeOptions → Type 0
@@ -41,6 +42,10 @@ IsResume words options = AreWords (codes "budget" ∷ codes "first" ∷ codes "t
 -- what follows `corpus`
 abbrev pub IsCorpus : List (List ℕ) → CorpusOptions → Type 0
 IsCorpus words options = AreWords (codes "budget" ∷ codes "first" ∷ []) (codes "segment" ∷ []) words (λ items. SaysCorpus items options)
+
+-- what follows `arrange`
+abbrev pub IsArrange : List (List ℕ) → ArrangeOptions → Type 0
+IsArrange words options = AreWords (codes "budget" ∷ []) (codes "segment" ∷ []) words (λ items. SaysArrange items options)
 
 -- what follows the name of a command
 abbrev pub IsOfVerb : Verb → List (List ℕ) → Command → Type 0
@@ -52,4 +57,5 @@ IsOfVerb verbs.Lexicon words (commands.Lexicon grammar) = IsOneFile words gramma
 IsOfVerb verbs.Print words (commands.Print grammar) = IsOneFile words grammar
 IsOfVerb verbs.Drill words (commands.Drill number) = IsDrill words number
 IsOfVerb verbs.Corpus words (commands.Corpus options) = IsCorpus words options
+IsOfVerb verbs.Arrange words (commands.Arrange options) = IsArrange words options
 IsOfVerb verb words command = ⊥

@@ -22,13 +22,16 @@ abbrev pub two_files : Table
 two_files = record { operands = codes "grammar" ∷ codes "analysis" ∷ []; values = []; flags = [] }
 
 abbrev pub parsed : Table
-parsed = record { operands = codes "grammar" ∷ []; values = codes "budget" ∷ codes "first" ∷ codes "text" ∷ []; flags = codes "segment" ∷ [] }
+parsed = record { operands = codes "grammar" ∷ []; values = codes "budget" ∷ codes "first" ∷ codes "text" ∷ []; flags = codes "segment" ∷ codes "split" ∷ [] }
 
 abbrev pub resumed : Table
 resumed = record { operands = codes "grammar" ∷ codes "analysis" ∷ []; values = codes "budget" ∷ codes "first" ∷ codes "text" ∷ []; flags = [] }
 
 abbrev pub corpused : Table
 corpused = record { operands = codes "grammar" ∷ []; values = codes "budget" ∷ codes "first" ∷ []; flags = codes "segment" ∷ [] }
+
+abbrev pub arranged : Table
+arranged = record { operands = codes "grammar" ∷ []; values = codes "budget" ∷ []; flags = codes "segment" ∷ [] }
 
 -- an operand, an option with a value that isn't empty, and an option without value
 abbrev pub operand_arg : List ℕ → Rule

@@ -13,4 +13,5 @@ verb_of word =
     (if bytes_eq word (codes "print") then Some verbs.Print else
     (if bytes_eq word (codes "drill") then Some verbs.Drill else
     (if bytes_eq word (codes "corpus") then Some verbs.Corpus else
-    None)))))))
+    (if bytes_eq word (codes "arrange") then Some verbs.Arrange else
+    None))))))))

@@ -24,6 +24,8 @@ pub struct ParseOptions {
     pub segment: bool,
     /// The form in which analyses are printed.
     pub text: TextForm,
+    /// Whether the branches of the first word's entries are searched side by side, each with the whole budget.
+    pub split: bool,
 }
 
 /// What `resume` is asked to do.
@@ -50,6 +52,17 @@ pub struct CorpusOptions {
     pub budget: u64,
     /// After how many analyses of a line to stop, 1 to 1,000,000, or `None` to go on to the last.
     pub first: Option<u64>,
+    /// Whether words are cut by the Unicode rules of word boundaries.
+    pub segment: bool,
+}
+
+/// What `arrange` is asked to do.
+#[derive(Debug, Drop)]
+pub struct ArrangeOptions {
+    /// The name of the grammar file.
+    pub grammar: Text,
+    /// How many counted prefixes the search of each arrangement may charge, 1 to 1,000,000,000.
+    pub budget: u64,
     /// Whether words are cut by the Unicode rules of word boundaries.
     pub segment: bool,
 }
@@ -90,4 +103,6 @@ pub enum Command {
     },
     /// `corpus`: the analyses of each line that the input gives.
     Corpus(CorpusOptions),
+    /// `arrange`: the arrangements of the words that the input gives, those that have an analysis, with their analyses.
+    Arrange(ArrangeOptions),
 }

@@ -7,5 +7,5 @@ mod reading;
 mod syntax;
 mod values;
 
-pub use commands::{Command, CorpusOptions, ParseOptions, ResumeOptions, TextForm};
+pub use commands::{ArrangeOptions, Command, CorpusOptions, ParseOptions, ResumeOptions, TextForm};
 pub use reading::command;

@@ -4,12 +4,12 @@ ghost use Rattle.std.specs.Prelude.{◌≡◌, IfOk, map};
 ghost use Rattle.std.specs.String.{string_bytes};
 ghost use Rattle.xdg_command.specs.Answers.{IsExactly};
 ghost use Rattle.xdg_command.specs.Commands.{IsCommand};
-ghost use Rattle.xdg_command.specs.Readings.{IsCorpus, IsDrill, IsOfVerb, IsOneFile, IsParse, IsResume, IsTwoFiles};
+ghost use Rattle.xdg_command.specs.Readings.{IsArrange, IsCorpus, IsDrill, IsOfVerb, IsOneFile, IsParse, IsResume, IsTwoFiles};
 ghost use Rattle.xdg_command.specs.Verbs.{verb_of};
 ghost use Rattle.xdg_command.specs.declared.commands.Command.{Command};
 
 use crate::matching::matches;
-use crate::{Command, CorpusOptions, ParseOptions, ResumeOptions, syntax, values};
+use crate::{ArrangeOptions, Command, CorpusOptions, ParseOptions, ResumeOptions, syntax, values};
 use std::alloc::Global;
 use xdg_base::{OutOfMemory, Text};
 
@@ -24,6 +24,7 @@ enum Verb {
     Print,
     Drill,
     Corpus,
+    Arrange,
 }
 
 /// The operands of `explain`.
@@ -95,12 +96,14 @@ fn parse(alloc: Global, words: &[String]) -> Result<Option<ParseOptions>, OutOfM
     };
     let grammar = Text::from_str(alloc, grammar)?;
     let segment = found.get_flag("segment");
+    let split = found.get_flag("split");
     Ok(Some(ParseOptions {
         grammar,
         budget,
         first,
         segment,
         text,
+        split,
     }))
 }
 
@@ -163,6 +166,28 @@ fn corpus(alloc: Global, words: &[String]) -> Result<Option<CorpusOptions>, OutO
     }))
 }
 
+/// The operand and the options of `arrange`.
+fn arrange(alloc: Global, words: &[String]) -> Result<Option<ArrangeOptions>, OutOfMemory>
+    ensures { IfOk result (IsExactly (IsArrange (map string_bytes words.now))) }
+{
+    let Some(found) = matches(syntax::arrange(alloc)?, words)? else {
+        return Ok(None);
+    };
+    let Some(grammar) = found.get_str("grammar") else {
+        return Ok(None);
+    };
+    let Some(budget) = values::budget(found.get_str("budget")) else {
+        return Ok(None);
+    };
+    let grammar = Text::from_str(alloc, grammar)?;
+    let segment = found.get_flag("segment");
+    Ok(Some(ArrangeOptions {
+        grammar,
+        budget,
+        segment,
+    }))
+}
+
 /// The command that a word spells.
 #[tactic(auto, unfolding(crate::specs::Verbs::verb_of))]
 fn verb_of(word: &str) -> Option<Verb>
@@ -177,6 +202,7 @@ fn verb_of(word: &str) -> Option<Verb>
         "print" => Some(Verb::Print),
         "drill" => Some(Verb::Drill),
         "corpus" => Some(Verb::Corpus),
+        "arrange" => Some(Verb::Arrange),
         _ => None,
     }
 }
@@ -216,6 +242,10 @@ fn with_name(alloc: Global, verb: Verb, words: &[String]) -> Result<Option<Comma
         },
         Verb::Corpus => match corpus(alloc, words)? {
             Some(options) => Ok(Some(Command::Corpus(options))),
+            None => Ok(None),
+        },
+        Verb::Arrange => match arrange(alloc, words)? {
+            Some(options) => Ok(Some(Command::Arrange(options))),
             None => Ok(None),
         },
     }

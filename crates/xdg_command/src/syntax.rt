@@ -3,7 +3,7 @@
 ghost use Rattle.std.specs.Prelude.{◌≡◌, IfOk, codes, false};
 ghost use Rattle.clap.specs.Walk.{rule_of};
 ghost use Rattle.clap.specs.Simple.{app_of};
-ghost use Rattle.xdg_command.specs.Syntax.{app_in, bare, corpused, flag_arg, one_file, operand_arg, parsed, resumed, two_files, value_arg};
+ghost use Rattle.xdg_command.specs.Syntax.{app_in, arranged, bare, corpused, flag_arg, one_file, operand_arg, parsed, resumed, two_files, value_arg};
 
 use clap::builder::ValueParser;
 use clap::{Arg, ArgAction, Command};
@@ -72,7 +72,8 @@ pub(crate) fn parse<'a>(alloc: Global) -> Result<Command<'a>, AllocError>
         .arg(option_with_value(alloc, "budget"))?
         .arg(option_with_value(alloc, "first"))?
         .arg(option_with_value(alloc, "text"))?
-        .arg(flag(alloc, "segment"))
+        .arg(flag(alloc, "segment"))?
+        .arg(flag(alloc, "split"))
 }
 
 /// The grammar file and the options of `corpus`.
@@ -83,6 +84,16 @@ pub(crate) fn corpus<'a>(alloc: Global) -> Result<Command<'a>, AllocError>
         .arg(operand(alloc, "grammar"))?
         .arg(option_with_value(alloc, "budget"))?
         .arg(option_with_value(alloc, "first"))?
+        .arg(flag(alloc, "segment"))
+}
+
+/// The grammar file and the options of `arrange`.
+pub(crate) fn arrange<'a>(alloc: Global) -> Result<Command<'a>, AllocError>
+    ensures { IfOk result (λ made. app_of made ≡ app_in arranged) }
+{
+    bare(alloc)
+        .arg(operand(alloc, "grammar"))?
+        .arg(option_with_value(alloc, "budget"))?
         .arg(flag(alloc, "segment"))
 }
 

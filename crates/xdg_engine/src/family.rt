@@ -20,8 +20,8 @@ pub enum Family {
 }
 
 /// The family of a principle.
-pub(crate) fn family_of(principle: Principle) -> Family
-    ensures { Holds result principle }
+pub(crate) fn family_of(principle: &Principle) -> Family
+    ensures { Holds result principle.now }
 {
     match principle {
         Principle::Graph => Family::Graph,

@@ -21,7 +21,7 @@ fn family_at(problem: &Problem, group: usize) -> Family
     requires { group < length problem.now.groups }
     ensures { Holds result (use_at problem.now group).principle }
 {
-    family_of(problem.parts().groups.as_slice()[group].principle)
+    family_of(&problem.parts().groups.as_slice()[group].principle)
 }
 
 /// The propagator of a principle use, by its number from 0.

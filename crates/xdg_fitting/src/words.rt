@@ -4,7 +4,7 @@ ghost use Rattle.std.specs.Prelude.{◌≡◌, length};
 ghost use Rattle.xdg_fitting.specs.Fitted.{has_entry, words_fault};
 
 use xdg_base::{EntryNo, List};
-use xdg_problem::SentenceWord;
+use xdg_problem::{SentenceWord, SharedList};
 
 /// Whether an entry is one of the candidates.
 fn has_entry(candidates: &[EntryNo], entry: EntryNo) -> bool
@@ -15,7 +15,7 @@ fn has_entry(candidates: &[EntryNo], entry: EntryNo) -> bool
 
 /// The place of the first line of a word that has an entry of another word.
 pub(crate) fn words_fault(
-    candidates: &[List<EntryNo>],
+    candidates: &[SharedList<EntryNo>],
     words: &[SentenceWord],
     entries: &[EntryNo],
 ) -> Option<u32>

@@ -1,11 +1,11 @@
--- The nineteen principles with what the table of principles says of them.
+-- The nineteen principles with what the table of principles says of them. A rule and a bound stand in no table.
 use Rattle.std.proofs.Common.{◌≡◌, inl, inr, ℕ, ◌+◌, ◌<◌, List, [], ◌∷◌, refl, sym, ap, ◌∙◌, arith}
 use Rattle.std.specs.Prelude.{None, Some, bytes_eq, if◌then◌else◌, length, flat_map}
 use Rattle.std.proofs.lemmas.Bool.{cases_Bool}
 use Rattle.std.proofs.lemmas.Slice.Eq.{bytes_eq-Decides}
 use Rattle.xdg_problem.specs.declared.parts.Principle.{Principle}
 use Rattle.xdg_problem.specs.declared.parts.Principle.TheVariants as principles
-use Rattle.xdg_problem.specs.Names.{name_of}
+use Rattle.xdg_problem.specs.Names.{name_of, IsOfTexts}
 use Rattle.xdg_problem.specs.Problems.{dim_arguments, attr_arguments, truth_arguments}
 use Rattle.xdg_principles.specs.declared.principle.Dims.TheVariants as d
 use Rattle.xdg_principles.specs.declared.principle.Element.TheVariants as e
@@ -32,6 +32,8 @@ use Rattle.xdg_groups.proofs.Calling.{one_called}
 
 abbrev pub form_of : Principle → Form
 form_of principles.Graph = has d.One None None None
+form_of (principles.Rule formula) = has d.One None None None
+form_of (principles.Bound costs bound) = has d.One None None None
 form_of principles.Entries = has d.One None None None
 form_of principles.Tree = has d.One None None None
 form_of principles.Projectivity = has d.One None None None
@@ -51,27 +53,39 @@ form_of principles.LinkingAboveStart = linking labels_to_labels
 form_of principles.LinkingSisters = linking labels_to_labels
 form_of principles.LinkingNotDaughter = linking (t.Set (e.Labels w.First))
 
-pub form-name_of : (p : Principle) → principle_named (name_of p) ≡ Some (form_of p)
+pub form-name_of : (p : Principle) → IsOfTexts p → principle_named (name_of p) ≡ Some (form_of p)
 unfolding principle_named
-form-name_of principles.Graph = refl
-form-name_of principles.Entries = refl
-form-name_of principles.Tree = refl
-form-name_of principles.Projectivity = refl
-form-name_of principles.Dag = refl
-form-name_of principles.Valency = refl
-form-name_of principles.Order = refl
-form-name_of principles.Agr = refl
-form-name_of principles.Agreement = refl
-form-name_of principles.Government = refl
-form-name_of principles.Climbing = refl
-form-name_of principles.Barriers = refl
-form-name_of principles.LinkingEnd = refl
-form-name_of principles.LinkingDaughter = refl
-form-name_of principles.LinkingMother = refl
-form-name_of principles.LinkingBelowStart = refl
-form-name_of principles.LinkingAboveStart = refl
-form-name_of principles.LinkingSisters = refl
-form-name_of principles.LinkingNotDaughter = refl
+form-name_of principles.Graph of = refl
+form-name_of principles.Entries of = refl
+form-name_of principles.Tree of = refl
+form-name_of principles.Projectivity of = refl
+form-name_of principles.Dag of = refl
+form-name_of principles.Valency of = refl
+form-name_of principles.Order of = refl
+form-name_of principles.Agr of = refl
+form-name_of principles.Agreement of = refl
+form-name_of principles.Government of = refl
+form-name_of principles.Climbing of = refl
+form-name_of principles.Barriers of = refl
+form-name_of principles.LinkingEnd of = refl
+form-name_of principles.LinkingDaughter of = refl
+form-name_of principles.LinkingMother of = refl
+form-name_of principles.LinkingBelowStart of = refl
+form-name_of principles.LinkingAboveStart of = refl
+form-name_of principles.LinkingSisters of = refl
+form-name_of principles.LinkingNotDaughter of = refl
+form-name_of (principles.Rule formula) of = absurd of
+form-name_of (principles.Bound costs bound) of = absurd of
+
+none_some : (form : Form) → None ≡ Some form → ⊥
+none_some form h = cc
+
+-- a principle that has a known name is one of grammar texts
+pub of_texts : (p : Principle) (name : List ℕ) (form : Form) → name_of p ≡ name → principle_named name ≡ Some form → IsOfTexts p
+unfolding principle_named
+of_texts (principles.Rule formula) name form is h = none_some form (ap principle_named is ∙ h)
+of_texts (principles.Bound costs bound) name form is h = none_some form (ap principle_named is ∙ h)
+of_texts p name form is h = tt
 
 -- ---- a known principle is one of them
 
@@ -110,7 +124,7 @@ same_form x y h = cc
 
 form_at : (name : List ℕ) (form : Form) (p : Principle) → principle_named name ≡ Some form → name ≡ name_of p → form ≡ form_of (called name)
 form_at name form p h is =
-    same_form form (form_of p) (sym h ∙ ap principle_named is ∙ form-name_of p) ∙ ap form_of (sym (one_called name p (sym is)))
+    same_form form (form_of p) (sym h ∙ ap principle_named is ∙ form-name_of p (of_texts p name form (sym is) h)) ∙ ap form_of (sym (one_called name p (of_texts p name form (sym is) h) (sym is)))
 
 -- what a known principle has goes by what it is called
 pub form_called : (name : List ℕ) (form : Form) → principle_named name ≡ Some form → form ≡ form_of (called name)
@@ -134,29 +148,33 @@ feature_typings p = all_typings s.Feature (parameters (form_of p))
 abbrev pub attr_typings : Principle → List (Which × Typing)
 attr_typings p = all_typings s.Attribute (parameters (form_of p))
 
-pub dims_wanted : (p : Principle) → length (dims_in (form_of p).dims) ≡ dim_arguments p
-dims_wanted principles.Graph = refl
-dims_wanted principles.Entries = refl
-dims_wanted principles.Tree = refl
-dims_wanted principles.Projectivity = refl
-dims_wanted principles.Dag = refl
-dims_wanted principles.Valency = refl
-dims_wanted principles.Order = refl
-dims_wanted principles.Agr = refl
-dims_wanted principles.Agreement = refl
-dims_wanted principles.Government = refl
-dims_wanted principles.Climbing = refl
-dims_wanted principles.Barriers = refl
-dims_wanted principles.LinkingEnd = refl
-dims_wanted principles.LinkingDaughter = refl
-dims_wanted principles.LinkingMother = refl
-dims_wanted principles.LinkingBelowStart = refl
-dims_wanted principles.LinkingAboveStart = refl
-dims_wanted principles.LinkingSisters = refl
-dims_wanted principles.LinkingNotDaughter = refl
+pub dims_wanted : (p : Principle) → IsOfTexts p → length (dims_in (form_of p).dims) ≡ dim_arguments p
+dims_wanted principles.Graph of = refl
+dims_wanted principles.Entries of = refl
+dims_wanted principles.Tree of = refl
+dims_wanted principles.Projectivity of = refl
+dims_wanted principles.Dag of = refl
+dims_wanted principles.Valency of = refl
+dims_wanted principles.Order of = refl
+dims_wanted principles.Agr of = refl
+dims_wanted principles.Agreement of = refl
+dims_wanted principles.Government of = refl
+dims_wanted principles.Climbing of = refl
+dims_wanted principles.Barriers of = refl
+dims_wanted principles.LinkingEnd of = refl
+dims_wanted principles.LinkingDaughter of = refl
+dims_wanted principles.LinkingMother of = refl
+dims_wanted principles.LinkingBelowStart of = refl
+dims_wanted principles.LinkingAboveStart of = refl
+dims_wanted principles.LinkingSisters of = refl
+dims_wanted principles.LinkingNotDaughter of = refl
+dims_wanted (principles.Rule formula) of = absurd of
+dims_wanted (principles.Bound costs bound) of = absurd of
 
 pub attrs_wanted : (p : Principle) → length (attr_typings p) ≡ attr_arguments p
 attrs_wanted principles.Graph = refl
+attrs_wanted (principles.Rule formula) = refl
+attrs_wanted (principles.Bound costs bound) = refl
 attrs_wanted principles.Entries = refl
 attrs_wanted principles.Tree = refl
 attrs_wanted principles.Projectivity = refl
@@ -187,6 +205,8 @@ truths_in_all (x ∷ xs) = truths_wanted_by x.wanted + truths_in_all xs
 
 pub truths_wanted : (p : Principle) → truths_in_all (parameters (form_of p)) ≡ truth_arguments p
 truths_wanted principles.Graph = refl
+truths_wanted (principles.Rule formula) = refl
+truths_wanted (principles.Bound costs bound) = refl
 truths_wanted principles.Entries = refl
 truths_wanted principles.Tree = refl
 truths_wanted principles.Projectivity = refl
@@ -221,6 +241,8 @@ feature_which p = w.First
 
 pub number-feature_which : (p : Principle) → number_of (feature_which p) ≡ feature_dim p
 number-feature_which principles.Graph = refl
+number-feature_which (principles.Rule formula) = refl
+number-feature_which (principles.Bound costs bound) = refl
 number-feature_which principles.Entries = refl
 number-feature_which principles.Tree = refl
 number-feature_which principles.Projectivity = refl
@@ -247,6 +269,8 @@ AreOf which (one ∷ more) = (one.0 ≡ which) × AreOf which more
 
 pub features_of_which : (p : Principle) → AreOf (feature_which p) (feature_typings p)
 features_of_which principles.Graph = tt
+features_of_which (principles.Rule formula) = tt
+features_of_which (principles.Bound costs bound) = tt
 features_of_which principles.Entries = tt
 features_of_which principles.Tree = tt
 features_of_which principles.Projectivity = tt
@@ -268,6 +292,8 @@ features_of_which principles.LinkingNotDaughter = (refl, tt)
 
 pub attrs_of_first : (p : Principle) → AreOf w.First (attr_typings p)
 attrs_of_first principles.Graph = tt
+attrs_of_first (principles.Rule formula) = tt
+attrs_of_first (principles.Bound costs bound) = tt
 attrs_of_first principles.Entries = tt
 attrs_of_first principles.Tree = tt
 attrs_of_first principles.Projectivity = tt
@@ -290,6 +316,8 @@ attrs_of_first principles.LinkingNotDaughter = tt
 -- each of its dimensions is one of those that it has
 pub which_within : (p : Principle) → feature_dim p < length (dims_in (form_of p).dims)
 which_within principles.Graph = omega arith
+which_within (principles.Rule formula) = omega arith
+which_within (principles.Bound costs bound) = omega arith
 which_within principles.Entries = omega arith
 which_within principles.Tree = omega arith
 which_within principles.Projectivity = omega arith
@@ -311,6 +339,8 @@ which_within principles.LinkingNotDaughter = omega arith
 
 pub first_within : (p : Principle) → 0 < length (dims_in (form_of p).dims)
 first_within principles.Graph = omega arith
+first_within (principles.Rule formula) = omega arith
+first_within (principles.Bound costs bound) = omega arith
 first_within principles.Entries = omega arith
 first_within principles.Tree = omega arith
 first_within principles.Projectivity = omega arith

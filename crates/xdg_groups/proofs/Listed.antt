@@ -85,6 +85,8 @@ listed table u shared (g.Truth b ∷ xs) h = absurd h.0
 pub order_right : (p : Principle) (table : Table) (u : PrincipleUse) (shared : Shape) (xs : List Arg) → AreTypedArgs table u shared (parameters (form_of p)) xs → IsOrderFor p (length (labels_at table u w.First)) (flat_map labels_in xs)
 order_right principles.Order table u shared xs h = listed table u shared xs h
 order_right principles.Graph table u shared xs h = unlisted table u shared (parameters (form_of principles.Graph)) xs tt h
+order_right (principles.Rule formula) table u shared xs h = unlisted table u shared (parameters (form_of principles.Graph)) xs tt h
+order_right (principles.Bound costs bound) table u shared xs h = unlisted table u shared (parameters (form_of principles.Graph)) xs tt h
 order_right principles.Entries table u shared xs h = unlisted table u shared (parameters (form_of principles.Entries)) xs tt h
 order_right principles.Tree table u shared xs h = unlisted table u shared (parameters (form_of principles.Tree)) xs tt h
 order_right principles.Projectivity table u shared xs h = unlisted table u shared (parameters (form_of principles.Projectivity)) xs tt h

@@ -26,14 +26,17 @@ use Rattle.xdg_problem.specs.declared.parts.Feat.{Feat}
 use Rattle.xdg_problem.specs.declared.parts.Group.{Group}
 use Rattle.xdg_problem.specs.declared.parts.Parts.{Parts}
 use Rattle.xdg_problem.specs.declared.parts.Principle.{Principle}
+use Rattle.xdg_problem.specs.declared.parts.Principle.TheVariants as principles
 use Rattle.xdg_problem.specs.Arguments.{label_count, attr_count, value_count}
 use Rattle.xdg_problem.specs.Places.{nodes}
-use Rattle.xdg_problem.specs.Problems.{IsGroup, AreFeatures, IsOrderFor}
+use Rattle.xdg_problem.specs.Names.{IsOfTexts}
+use Rattle.xdg_problem.specs.Problems.{IsGroup, AreFeatures, IsOrderFor, IsSuited}
 use Rattle.xdg_groups.specs.Features.{feature, feature_dim}
 use Rattle.xdg_groups.specs.Grammars.{Grammar, is_used, used_place, place_in}
 use Rattle.xdg_groups.specs.Groups.{attrs_in, labels_in, truths_in, features_in, called, dims_of, group_of, groups_of}
 use Rattle.xdg_groups.specs.Rows.{features_by_number}
 use Rattle.xdg_groups.specs.Suits.{Suits}
+use Rattle.xdg_groups.proofs.Calling.{called_of_texts}
 use Rattle.xdg_groups.proofs.Dimensions.{Home, home_of, below_at, is_used_home, labels-home, members-home}
 use Rattle.xdg_groups.proofs.Forms.{form_of, form_called, feature_typings, attr_typings, feature_which, number-feature_which, features_of_which, attrs_of_first, dims_wanted, attrs_wanted, truths_wanted, which_within, first_within, AreOf}
 use Rattle.xdg_groups.proofs.Listed.{order_right}
@@ -148,12 +151,17 @@ one_right g candidates parts u q one lexicon suits entry within =
 
 -- ---- the group
 
-right : (g : Grammar) (candidates : List (List EntryNo)) (parts : Parts) (u : PrincipleUse) (q : Principle) → Use g u q → IsRightLexicon g.table g.lexicon.entries → All (All (λ entry. entry.0 < length g.lexicon.entries)) candidates → Suits g candidates parts
+-- a principle of grammar texts holds nothing that has to go with a problem
+suited : (q : Principle) (parts : Parts) → IsOfTexts q → IsSuited q parts
+suited (principles.Rule formula) parts of = absurd of
+suited q parts of = tt
+
+right : (g : Grammar) (candidates : List (List EntryNo)) (parts : Parts) (u : PrincipleUse) (q : Principle) → IsOfTexts q → Use g u q → IsRightLexicon g.table g.lexicon.entries → All (All (λ entry. entry.0 < length g.lexicon.entries)) candidates → Suits g candidates parts
     → IsGroup parts (group_at g candidates u q)
-right g candidates parts u q one lexicon within suits =
+right g candidates parts u q of one lexicon within suits =
     let members = all_members g.table u one.typed.shared s.Attribute (parameters (form_of q)) u.args (args_of g u q one) in
     record {
-      dims_count = length-map u.dims (λ k. dim_id (used_place g.table k)) ∙ dim_count g u q one ∙ dims_wanted q;
+      dims_count = length-map u.dims (λ k. dim_id (used_place g.table k)) ∙ dim_count g u q one ∙ dims_wanted q of;
       dims = all_mapped (λ k. dim_id (used_place g.table k)) (λ dim. dim.0 < length parts.dims) u.dims (all_in (λ k. used_place g.table k < length parts.dims) u.dims
           (λ k stands. subst (λ n. used_place g.table k < n) (sym suits.dim_count) (below_at g.table u one.typed one.used k stands)));
       attrs_count = ap length (all_attrs u.args) ∙ length-map (flat_map (numbers s.Attribute) u.args) attr_id
@@ -167,6 +175,7 @@ right g candidates parts u q one lexicon within suits =
       features = λ v less. subst (All (AreFeatures q parts (group_at g candidates u q))) (sym (row v less))
           (all_mapped (taken_at g u q) (AreFeatures q parts (group_at g candidates u q)) (get_or candidates v [])
           (λ k d small. one_right g candidates parts u q one lexicon suits (get_or (get_or candidates v []) k d) (within v [] (node v less) k d small)));
+      suits = suited q parts of;
     }
   where
     node : (v : ℕ) → v < nodes parts → v < length candidates
@@ -189,7 +198,7 @@ use_of g u typed_so used = record { typed = typed_so; used = used; form = form_c
 
 group_right : (g : Grammar) (candidates : List (List EntryNo)) (parts : Parts) (u : PrincipleUse) → IsTypedUse g.table u → is_used g.table u.home ≡ true → IsRightLexicon g.table g.lexicon.entries → All (All (λ entry. entry.0 < length g.lexicon.entries)) candidates
     → Suits g candidates parts → IsGroup parts (group_of g candidates u)
-group_right g candidates parts u typed_so used lexicon within suits = right g candidates parts u (called u.principle) (use_of g u typed_so used) lexicon within suits
+group_right g candidates parts u typed_so used lexicon within suits = right g candidates parts u (called u.principle) (called_of_texts u.principle) (use_of g u typed_so used) lexicon within suits
 
 all_passing : {X : Type 0} (P : X → Type 0) (p : X → Bool) (xs : List X) → ((x : X) → In xs x → p x ≡ true → P x) → All P (filter p xs)
 all_passing P p [] h = all_none P

@@ -61,6 +61,8 @@ two_valencies labels shared rows (f ∷ g ∷ k ∷ feats) long h = absurd h.1.1
 
 pub taken : (p : Principle) (parts : Parts) (group : Group) (labels : Which → List (List ℕ)) (shared : Shape) (feats : List Feat) → Sizes p parts group labels shared → FitAll labels shared (feature_typings p) feats → AreFeatures p parts group feats
 taken principles.Graph parts group labels shared feats sizes h = none labels shared feats h
+taken (principles.Rule formula) parts group labels shared feats sizes h = none labels shared feats h
+taken (principles.Bound costs bound) parts group labels shared feats sizes h = none labels shared feats h
 taken principles.Entries parts group labels shared feats sizes h = none labels shared feats h
 taken principles.Tree parts group labels shared feats sizes h = none labels shared feats h
 taken principles.Projectivity parts group labels shared feats sizes h = none labels shared feats h

@@ -16,7 +16,7 @@ use std::alloc::{AllocError, Global};
 use xdg_base::{EntryNo, List};
 use xdg_check::{Checked, PrincipleUse};
 use xdg_packed::Packed;
-use xdg_problem::Group;
+use xdg_problem::{Group, SharedList};
 
 /// The uses of principles in used dimensions, in the order of the text, over nodes that may have these entries. The features
 /// of an entry are those of its expanded records, as numbers. The error is want of memory.
@@ -24,7 +24,7 @@ pub fn compile_uses(
     alloc: Global,
     checked: &Checked,
     packed: &Packed,
-    candidates: &[List<EntryNo>],
+    candidates: &[SharedList<EntryNo>],
 ) -> Result<List<Group>, AllocError>
     requires lexicon { IsRightLexicon checked.now.types packed.now.entries }
     requires candidates { All (All (λ no. no.0 < length packed.now.entries)) candidates.now }
@@ -40,7 +40,7 @@ fn compile_all(
     alloc: Global,
     checked: &Checked,
     packed: &Packed,
-    candidates: &[List<EntryNo>],
+    candidates: &[SharedList<EntryNo>],
     uses: &[PrincipleUse],
 ) -> Result<List<Group>, AllocError>
     requires lexicon { IsRightLexicon checked.now.types packed.now.entries }
@@ -64,7 +64,7 @@ fn compile_use(
     alloc: Global,
     checked: &Checked,
     packed: &Packed,
-    candidates: &[List<EntryNo>],
+    candidates: &[SharedList<EntryNo>],
     one: &PrincipleUse,
 ) -> Result<Group, AllocError>
     requires lexicon { IsRightLexicon checked.now.types packed.now.entries }
@@ -75,7 +75,7 @@ fn compile_use(
 {
     let used = checked.types().used();
     let principle = principle_called(one.principle.as_str());
-    let dim = feature_place(used, principle, one.dims.as_slice());
+    let dim = feature_place(used, &principle, one.dims.as_slice());
     let args = one.args.as_slice();
     let places = feature_places(alloc, args)?;
     let feats = all_features(alloc, packed, dim, places.as_slice(), candidates)?;

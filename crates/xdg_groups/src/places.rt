@@ -22,8 +22,8 @@ pub(crate) fn principle_called(name: &str) -> Principle
 }
 
 /// Which of a principle's dimensions has its features.
-fn feature_dim(principle: Principle) -> usize
-    ensures { result ≡ features.feature_dim principle }
+fn feature_dim(principle: &Principle) -> usize
+    ensures { result ≡ features.feature_dim principle.now }
 {
     match principle {
         Principle::Barriers => 1,
@@ -44,7 +44,9 @@ fn feature_dim(principle: Principle) -> usize
         | Principle::Agr
         | Principle::Agreement
         | Principle::Government
-        | Principle::Climbing => 0,
+        | Principle::Climbing
+        | Principle::Rule(_)
+        | Principle::Bound(_, _) => 0,
     }
 }
 
@@ -70,8 +72,8 @@ pub(crate) fn place_in(used: &[usize], place: usize) -> usize
 }
 
 /// The place among the used ones of the dimension that has the features of a principle with these dimensions.
-pub(crate) fn feature_place(used: &[usize], principle: Principle, dims: &[usize]) -> usize
-    ensures { result ≡ grammars.place_in used.now (get_or dims.now (features.feature_dim principle) 0) }
+pub(crate) fn feature_place(used: &[usize], principle: &Principle, dims: &[usize]) -> usize
+    ensures { result ≡ grammars.place_in used.now (get_or dims.now (features.feature_dim principle.now) 0) }
 {
     match dims.get(feature_dim(principle)) {
         None => place_in(used, 0),

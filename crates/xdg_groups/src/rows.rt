@@ -10,7 +10,7 @@ use std::alloc::{AllocError, Global};
 use xdg_base::{EntryNo, List};
 use xdg_domain::{CardMap, CardSet, Fields, SetOf, Value, ValueMap};
 use xdg_packed::Packed;
-use xdg_problem::{Feat, Nums, Rows};
+use xdg_problem::{Feat, Nums, SharedList};
 
 /// The numbers of a cardinality.
 fn cards_row(alloc: Global, cards: &CardSet) -> Result<Nums, AllocError>
@@ -94,7 +94,7 @@ fn feature_of(alloc: Global, rows: List<Nums>) -> Result<Feat, AllocError>
     ensures { IfOk result (λ made. made ≡ record { rows = rows }) }
 {
     Ok(Feat {
-        rows: Rows::of(alloc, rows)?,
+        rows: SharedList::of(alloc, rows)?,
     })
 }
 
@@ -196,8 +196,8 @@ pub(crate) fn all_features(
     packed: &Packed,
     dim: usize,
     places: &[usize],
-    candidates: &[List<EntryNo>],
-) -> Result<List<List<List<Feat>>>, AllocError>
+    candidates: &[SharedList<EntryNo>],
+) -> Result<List<SharedList<List<Feat>>>, AllocError>
     requires dim { All (λ entry. dim < length entry) packed.now.entries }
     requires candidates { All (All (λ no. no.0 < length packed.now.entries)) candidates.now }
     ensures { IfOk result (λ made. made ≡ map (features_by_number packed.now.entries dim places.now) candidates.now) }
@@ -205,7 +205,8 @@ pub(crate) fn all_features(
     let mut made = List::new(alloc);
     let mut kept = IndexMap::new(alloc);
     for numbers in candidates {
-        made.push(node_features(alloc, packed, dim, places, numbers.as_slice(), &mut kept)?)?;
+        let features = node_features(alloc, packed, dim, places, numbers.as_slice(), &mut kept)?;
+        made.push(SharedList::of(alloc, features)?)?;
     }
     Ok(made)
 }

@@ -1,5 +1,5 @@
 -- From what a search finds to verdicts.
-use Rattle.std.proofs.Common.{◌≡◌, ◌≢◌, ℕ, ◌+◌, ◌<◌, ◌≤◌, ◌↔◌, inl, inr, false, List, [], ◌∷◌, ◌++◌, length, take, get_or, ap, sym, ◌∙◌, subst, arith}
+use Rattle.std.proofs.Common.{◌≡◌, ◌≢◌, ℕ, ◌+◌, ◌<◌, ◌≤◌, ◌↔◌, inl, inr, false, List, [], ◌∷◌, ◌++◌, length, take, get_or, refl, ap, sym, ◌∙◌, subst, arith}
 use Rattle.std.specs.Prelude.{IsTrue, All, slice_index}
 use Rattle.std.specs.List.{AllZip}
 use Rattle.std.proofs.lemmas.Bool.{cases_eq, false≢true}
@@ -12,9 +12,9 @@ use Rattle.xdg_problem.specs.declared.parts.Parts.{Parts}
 use Rattle.xdg_problem.specs.declared.parts.Principle.{Principle}
 use Rattle.xdg_problem.specs.Conditions.{conditions_of, conditions_for, root_count}
 use Rattle.xdg_problem.specs.Places.{nodes}
-use Rattle.xdg_problem.specs.Relations.{Relation, IsFirstBroken}
-use Rattle.xdg_judge.specs.Searching.{tuple_for, second_size, third_size, FirstThree}
-use Rattle.xdg_judge.specs.Verdicts.{AsksHere, IsKeptHere, IsLeastBroken, IsVerdict}
+use Rattle.xdg_problem.specs.Relations.{Relation, IsKeptWhole, IsFirstBroken}
+use Rattle.xdg_judge.specs.Searching.{IsSearched, tuple_for, second_size, third_size, FirstThree}
+use Rattle.xdg_judge.specs.Verdicts.{AsksHere, IsOfWhole, IsKeptHere, IsLeastBroken, IsVerdict}
 use Rattle.xdg_judge.specs.declared.verdict.Verdict.{Verdict}
 use Rattle.xdg_judge.proofs.Least.{kept_of, least_of}
 
@@ -39,14 +39,14 @@ roots_broken parts group analysis count e other = record {
 
 -- a condition whose triples all pass, and one with a first triple that fails
 
-pub condition_kept : (parts : Parts) (group : Group) (analysis : Analysis) (condition : Condition) (size middle last : ℕ) → (condition ≡ conditions.Roots → ⊥) → size ≡ nodes parts → middle ≡ second_size condition parts group → last ≡ third_size condition parts group → ((a : ℕ) → a < size → (b : ℕ) → b < middle → (c : ℕ) → c < last → AsksHere parts group analysis condition (tuple_for condition a b c)) → IsKeptHere parts group analysis condition
-condition_kept parts group analysis condition size middle last no_roots e f g h =
-    kept_of condition parts group analysis.edges (AsksHere parts group analysis condition) no_roots
+pub condition_kept : (parts : Parts) (group : Group) (analysis : Analysis) (condition : Condition) (size middle last : ℕ) → IsSearched condition → size ≡ nodes parts → middle ≡ second_size condition parts group → last ≡ third_size condition parts group → ((a : ℕ) → a < size → (b : ℕ) → b < middle → (c : ℕ) → c < last → AsksHere parts group analysis condition (tuple_for condition a b c)) → IsKeptHere parts group analysis condition
+condition_kept parts group analysis condition size middle last searched e f g h =
+    kept_of condition parts group analysis.edges (AsksHere parts group analysis condition) searched
     (λ a l b m c n. h a (omega (arith, l, e)) b (omega (arith, m, f)) c (omega (arith, n, g)))
 
-pub condition_broken : (parts : Parts) (group : Group) (analysis : Analysis) (condition : Condition) (size middle last u x y : ℕ) → (condition ≡ conditions.Roots → ⊥) → size ≡ nodes parts → middle ≡ second_size condition parts group → last ≡ third_size condition parts group → FirstThree size middle last (λ a b c. AsksHere parts group analysis condition (tuple_for condition a b c)) u x y → IsLeastBroken parts group analysis condition (tuple_for condition u x y)
-condition_broken parts group analysis condition size middle last u x y no_roots e f g found =
-    let at = least_of condition parts group analysis.edges (AsksHere parts group analysis condition) u x y no_roots
+pub condition_broken : (parts : Parts) (group : Group) (analysis : Analysis) (condition : Condition) (size middle last u x y : ℕ) → IsSearched condition → size ≡ nodes parts → middle ≡ second_size condition parts group → last ≡ third_size condition parts group → FirstThree size middle last (λ a b c. AsksHere parts group analysis condition (tuple_for condition a b c)) u x y → IsLeastBroken parts group analysis condition (tuple_for condition u x y)
+condition_broken parts group analysis condition size middle last u x y searched e f g found =
+    let at = least_of condition parts group analysis.edges (AsksHere parts group analysis condition) u x y searched
     (subst (λ z. FirstThree (nodes parts) (second_size condition parts group) z (λ a b c. AsksHere parts group analysis condition (tuple_for condition a b c)) u x y) g
     (subst (λ z. FirstThree (nodes parts) z last (λ a b c. AsksHere parts group analysis condition (tuple_for condition a b c)) u x y) f
     (subst (λ z. FirstThree z middle last (λ a b c. AsksHere parts group analysis condition (tuple_for condition a b c)) u x y) e found))) in
@@ -54,6 +54,31 @@ condition_broken parts group analysis condition size middle last u x y no_roots 
       breaks = record { within = at.0; fails = found.here.here.fails };
       least = λ other b. at.1 other b.within b.fails;
     }
+
+-- what is asked of all decisions together
+
+pub whole_kept : (parts : Parts) (group : Group) (analysis : Analysis) (condition : Condition) → IsOfWhole condition → IsKeptWhole parts group analysis → IsKeptHere parts group analysis condition
+whole_kept parts group analysis conditions.Rule of kept tuple is = kept
+whole_kept parts group analysis conditions.Bound of kept tuple is = kept
+whole_kept parts group analysis condition of kept tuple is = absurd of
+
+pub whole_broken : (parts : Parts) (group : Group) (analysis : Analysis) (condition : Condition) (tuple : List ℕ) → IsOfWhole condition → (IsKeptWhole parts group analysis → ⊥) → tuple ≡ [] → IsLeastBroken parts group analysis condition tuple
+whole_broken parts group analysis conditions.Rule tuple of fails is = record {
+  breaks = record { within = is; fails = fails };
+  least = λ other breaks. inl (is ∙ sym breaks.within);
+}
+whole_broken parts group analysis conditions.Bound tuple of fails is = record {
+  breaks = record { within = is; fails = fails };
+  least = λ other breaks. inl (is ∙ sym breaks.within);
+}
+whole_broken parts group analysis condition tuple of fails is = absurd of
+
+-- the other conditions go by tuples
+pub searched_else : (condition : Condition) → (condition ≡ conditions.Roots → ⊥) → (condition ≡ conditions.Rule → ⊥) → (condition ≡ conditions.Bound → ⊥) → IsSearched condition
+searched_else conditions.Roots no_roots no_rule no_bound = no_roots refl
+searched_else conditions.Rule no_roots no_rule no_bound = no_rule refl
+searched_else conditions.Bound no_roots no_rule no_bound = no_bound refl
+searched_else condition no_roots no_rule no_bound = tt
 
 -- the conditions of a principle
 

@@ -29,6 +29,7 @@ within_of parts analysis edges n problem fits e most = subst (AreWithin n) (sym 
 pub view_of : (parts : Parts) (group : Group) (analysis : Analysis) (edges : List Edge) (dim other : ℕ) (first second : Links) → IsProblem parts → IsAnalysis parts analysis → edges ≡ analysis.edges → dim ≡ first_dim group → other ≡ second_dim group → AreLinks (edges_on dim edges) first → AreLinks (edges_on other edges) second → IsView parts group analysis dim other first second
 view_of parts group analysis edges dim other first second problem fits e f g t s = record {
   problem = problem;
+  fits = fits;
   few = problem.most;
   candidates = problem.candidates_each;
   entries = entries_lengths parts.candidates analysis.entries fits.entries ∙ problem.candidates_each;

@@ -5,3 +5,4 @@ pub mod Joining
 pub mod Searching
 pub mod Verdicts
 pub mod Views
+pub mod Graphs

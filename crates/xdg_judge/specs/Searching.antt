@@ -23,6 +23,15 @@ tuple_for conditions.Govern u x y = u ∷ x ∷ y ∷ []
 tuple_for conditions.Below u x y = u ∷ x ∷ []
 tuple_for conditions.Blocked u x y = u ∷ x ∷ []
 tuple_for conditions.Link u x y = u ∷ x ∷ y ∷ []
+tuple_for conditions.Rule u x y = []
+tuple_for conditions.Bound u x y = []
+
+-- the tuples of a condition are those of numbers below sizes
+abbrev pub IsSearched : Condition → Type 0
+IsSearched conditions.Roots = ⊥
+IsSearched conditions.Rule = ⊥
+IsSearched conditions.Bound = ⊥
+IsSearched condition = Unit {0}
 
 -- below what the second number stands: 1 where the tuples have no second
 abbrev pub second_size : Condition → Parts → Group → ℕ

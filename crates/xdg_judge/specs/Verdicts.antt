@@ -4,6 +4,7 @@ use Rattle.std.specs.List.{AllZip}
 use Rattle.xdg_listing.specs.Order.{AtMost}
 use Rattle.xdg_problem.specs.declared.analysis.Analysis.{Analysis}
 use Rattle.xdg_problem.specs.declared.conditions.Condition.{Condition}
+use Rattle.xdg_problem.specs.declared.conditions.Condition.TheVariants as conditions
 use Rattle.xdg_problem.specs.declared.parts.Group.{Group}
 use Rattle.xdg_problem.specs.declared.parts.Parts.{Parts}
 use Rattle.xdg_problem.specs.Vectors.{entry_places}
@@ -34,6 +35,12 @@ AsksHere parts group analysis condition tuple = Asks condition parts group (entr
 -- a condition is kept by the analysis
 abbrev pub IsKeptHere : Parts → Group → Analysis → Condition → Type 0
 IsKeptHere parts group analysis condition = IsKept parts group (entry_places parts.candidates analysis.entries) analysis.attrs analysis.edges condition
+
+-- a condition is asked of all decisions together, by the empty tuple
+abbrev pub IsOfWhole : Condition → Type 0
+IsOfWhole conditions.Rule = Unit {0}
+IsOfWhole conditions.Bound = Unit {0}
+IsOfWhole condition = ⊥
 
 -- the least tuple that breaks a condition
 pub record IsLeastBroken (parts : Parts) (group : Group) (analysis : Analysis) (condition : Condition) (tuple : List ℕ) : Type 0 where

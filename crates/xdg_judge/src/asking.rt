@@ -9,7 +9,7 @@ ghost use Rattle.xdg_problem.specs.Features.{in_row, out_row};
 ghost use Rattle.xdg_problem.specs.Paths.{edges_on, Above};
 ghost use Rattle.xdg_problem.specs.Places.{nodes};
 ghost use Rattle.xdg_judge.specs.Counting.{IsTally};
-ghost use Rattle.xdg_judge.specs.Searching.{tuple_for, second_size, third_size};
+ghost use Rattle.xdg_judge.specs.Searching.{IsSearched, tuple_for, second_size, third_size};
 ghost use Rattle.xdg_judge.specs.Views.{IsView};
 ghost use Rattle.xdg_judge.specs.Verdicts.{AsksHere};
 
@@ -246,7 +246,7 @@ fn is_linked(view: &View, labels: &[u16], u: u8, v: u8) -> bool
     ensures { IsTrue result ↔ IsLinked view.now.group.now.principle (edges_on (second_dim view.now.group.now) view.now.analysis.now.edges) u labels.now v }
 {
     let links = &view.second;
-    match view.group.principle {
+    match &view.group.principle {
         Principle::LinkingEnd => is_joined(links, Way::Into, labels, u, v),
         Principle::LinkingDaughter => is_joined(links, Way::Straight, labels, u, v),
         Principle::LinkingMother => is_joined(links, Way::Straight, labels, v, u),
@@ -264,7 +264,7 @@ fn links(view: &View, u: u8, label: u8, v: u8) -> bool
     requires v_within { v < nodes view.now.parts.now }
     ensures { IsTrue result ↔ AsksLink view.now.group.now.principle view.now.group.now (slice_index (entry_places view.now.parts.now.candidates view.now.analysis.now.entries) u) (edges_on (second_dim view.now.group.now) view.now.analysis.now.edges) u label v }
 {
-    if matches!(view.group.principle, Principle::LinkingNotDaughter) {
+    if matches!(&view.group.principle, Principle::LinkingNotDaughter) {
         let labels = row_of(view.group, usize::from(u), view.candidate(u), 0, 0);
         if !is_member(labels, usize::from(label)) {
             return true;
@@ -309,7 +309,7 @@ pub fn passes(
 ) -> bool
     requires view { IsView view.now.parts.now view.now.group.now view.now.analysis.now view.now.first_dim view.now.second_dim view.now.first view.now.second }
     requires counts { IsTally condition (edges_on (first_dim view.now.group.now) view.now.analysis.now.edges) counts.now }
-    requires not_roots { condition ≡ conditions.Roots → ⊥ }
+    requires searched { IsSearched condition }
     requires u_within { u < nodes view.now.parts.now }
     requires x_within { x < second_size condition view.now.parts.now view.now.group.now }
     requires y_within { y < third_size condition view.now.parts.now view.now.group.now }
@@ -330,5 +330,7 @@ pub fn passes(
         Condition::Below => passes_below(view, u, x),
         Condition::Blocked => passes_blocked(view, u, x),
         Condition::Link => passes_link(view, u, x, y),
+        Condition::Rule => true,
+        Condition::Bound => true,
     }
 }

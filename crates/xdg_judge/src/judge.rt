@@ -8,15 +8,16 @@ ghost use Rattle.xdg_problem.specs.declared.parts.Principle.TheVariants as princ
 ghost use Rattle.xdg_problem.specs.Conditions.{conditions_of, conditions_for};
 ghost use Rattle.xdg_problem.specs.Problems.{IsProblem};
 ghost use Rattle.xdg_problem.specs.Relations.{Relation};
-ghost use Rattle.xdg_judge.specs.Searching.{tuple_for, second_size, third_size};
+ghost use Rattle.xdg_judge.specs.Searching.{IsSearched, tuple_for, second_size, third_size};
 ghost use Rattle.xdg_judge.specs.Views.{IsView};
-ghost use Rattle.xdg_judge.specs.Verdicts.{tuple_of, IsVerdict, AreVerdicts, IsKeptHere, IsLeastBroken};
+ghost use Rattle.xdg_judge.specs.Verdicts.{IsOfWhole, tuple_of, IsVerdict, AreVerdicts, IsKeptHere, IsLeastBroken};
 
 use crate::counts::{count_roots, tally};
 use crate::reads::{label_count_of, truth_of};
 use crate::search::first_refused;
 use crate::verdict::{Tuple4, Verdict};
 use crate::view::View;
+use crate::whole::keeps_whole;
 use std::alloc::{AllocError, Global};
 use xdg_base::List;
 use xdg_problem::{Analysis, Condition, Group, Parts, Principle, Problem};
@@ -80,6 +81,7 @@ fn tuple_for(condition: Condition, u: u8, x: u8, y: u8) -> Tuple4
         | Condition::OutCount
         | Condition::Below
         | Condition::Blocked => Tuple4::two(u, x),
+        Condition::Rule | Condition::Bound => Tuple4::none(),
         _ => Tuple4::three(u, x, y),
     }
 }
@@ -87,7 +89,7 @@ fn tuple_for(condition: Condition, u: u8, x: u8, y: u8) -> Tuple4
 /// The least tuple of nodes and labels that breaks a condition.
 fn broken_tuple(view: &View, condition: Condition) -> Option<Tuple4>
     requires view { IsView view.now.parts.now view.now.group.now view.now.analysis.now view.now.first_dim view.now.second_dim view.now.first view.now.second }
-    requires not_roots { condition ≡ conditions.Roots → ⊥ }
+    requires searched { IsSearched condition }
     ensures { MatchOption result (IsKeptHere view.now.parts.now view.now.group.now view.now.analysis.now condition) (λ tuple. IsLeastBroken view.now.parts.now view.now.group.now view.now.analysis.now condition (tuple_of tuple)) }
 {
     let size = view.parts.words.len() as u8;
@@ -100,6 +102,19 @@ fn broken_tuple(view: &View, condition: Condition) -> Option<Tuple4>
     }
 }
 
+/// The empty tuple, where the rule or the bound of a principle use isn't kept.
+#[tactic(auto, using(crate::proofs::Judging::whole_kept, crate::proofs::Judging::whole_broken))]
+fn broken_whole(view: &View, condition: Condition) -> Option<Tuple4>
+    requires view { IsView view.now.parts.now view.now.group.now view.now.analysis.now view.now.first_dim view.now.second_dim view.now.first view.now.second }
+    requires whole { IsOfWhole condition }
+    ensures { MatchOption result (IsKeptHere view.now.parts.now view.now.group.now view.now.analysis.now condition) (λ tuple. IsLeastBroken view.now.parts.now view.now.group.now view.now.analysis.now condition (tuple_of tuple)) }
+{
+    if keeps_whole(view) {
+        return None;
+    }
+    Some(Tuple4::none())
+}
+
 /// The least tuple that breaks a condition.
 fn broken(view: &View, condition: Condition) -> Option<Tuple4>
     requires view { IsView view.now.parts.now view.now.group.now view.now.analysis.now view.now.first_dim view.now.second_dim view.now.first view.now.second }
@@ -107,6 +122,8 @@ fn broken(view: &View, condition: Condition) -> Option<Tuple4>
 {
     match condition {
         Condition::Roots => broken_roots(view),
+        Condition::Rule => broken_whole(view, condition),
+        Condition::Bound => broken_whole(view, condition),
         _ => broken_tuple(view, condition),
     }
 }
@@ -129,13 +146,13 @@ fn dag_conditions(roots: bool, pair: bool) -> (usize, [Condition; 3])
 }
 
 /// The conditions of a principle that has one.
-fn only_condition(principle: Principle) -> Condition
-    requires graph { principle ≡ principles.Graph → ⊥ }
-    requires entries { principle ≡ principles.Entries → ⊥ }
-    requires tree { principle ≡ principles.Tree → ⊥ }
-    requires dag { principle ≡ principles.Dag → ⊥ }
-    requires valency { principle ≡ principles.Valency → ⊥ }
-    ensures { (truths : List Bool) → result ∷ [] ≡ conditions_for principle truths }
+fn only_condition(principle: &Principle) -> Condition
+    requires graph { principle.now ≡ principles.Graph → ⊥ }
+    requires entries { principle.now ≡ principles.Entries → ⊥ }
+    requires tree { principle.now ≡ principles.Tree → ⊥ }
+    requires dag { principle.now ≡ principles.Dag → ⊥ }
+    requires valency { principle.now ≡ principles.Valency → ⊥ }
+    ensures { (truths : List Bool) → result ∷ [] ≡ conditions_for principle.now truths }
 {
     match principle {
         Principle::Order => Condition::Order,
@@ -145,6 +162,8 @@ fn only_condition(principle: Principle) -> Condition
         Principle::Government => Condition::Govern,
         Principle::Climbing => Condition::Below,
         Principle::Barriers => Condition::Blocked,
+        Principle::Rule(_) => Condition::Rule,
+        Principle::Bound(_, _) => Condition::Bound,
         _ => Condition::Link,
     }
 }
@@ -155,7 +174,7 @@ fn conditions_of(group: &Group) -> (usize, [Condition; 3])
     ensures listed { take result.0 result.1 ≡ conditions_of group.now }
     ensures count { result.0 ≤ 3 }
 {
-    let principle = group.principle;
+    let principle = &group.principle;
     match principle {
         Principle::Graph => (0, [Condition::Link, Condition::Link, Condition::Link]),
         Principle::Entries => (0, [Condition::Link, Condition::Link, Condition::Link]),

@@ -3,6 +3,8 @@
 #![tactic(auto)]
 
 mod asking;
+mod atoms;
+mod binding;
 mod counts;
 mod judge;
 mod links;
@@ -10,8 +12,10 @@ mod paths;
 mod reads;
 mod search;
 mod skips;
+mod truths;
 mod verdict;
 mod view;
+mod whole;
 
 pub use judge::{explain, holds};
 pub use verdict::{Tuple4, Verdict};

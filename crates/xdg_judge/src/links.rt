@@ -141,7 +141,7 @@ fn closed(table: &[NodeSet; 128], size: u8) -> [NodeSet; 128]
 impl Neighbours {
     /// No edge leads anywhere.
     #[tactic(auto, using(crate::proofs::Sets::no_in, crate::proofs::Sets::no_by))]
-    fn none() -> Neighbours
+    pub(crate) fn none() -> Neighbours
         ensures by_label { (from label to : ℕ) → InBy result.by_label from label to → ⊥ }
         ensures next { (from to : ℕ) → In result.next from to → ⊥ }
     {
@@ -185,7 +185,7 @@ impl Neighbours {
     }
 
     /// What the edges of a dimension lead to in a direction.
-    fn of(edges: &[Edge], dim: u8, direction: Direction, size: u8) -> Neighbours
+    pub(crate) fn of(edges: &[Edge], dim: u8, direction: Direction, size: u8) -> Neighbours
         requires size { size ≤ 128 }
         requires within { AreWithin size edges.now }
         ensures { AreNeighbours direction (edges_on dim edges.now) result }

@@ -1,12 +1,11 @@
 //! The search for the least tuple that a condition refuses.
 
 ghost use Rattle.std.specs.Prelude.{◌≡◌, ℕ, ◌<◌, MatchOption};
-ghost use Rattle.xdg_problem.specs.declared.conditions.Condition.TheVariants as conditions;
 ghost use Rattle.xdg_problem.specs.Arguments.{first_dim};
 ghost use Rattle.xdg_problem.specs.Paths.{edges_on};
 ghost use Rattle.xdg_problem.specs.Places.{nodes};
 ghost use Rattle.xdg_judge.specs.Counting.{IsTally};
-ghost use Rattle.xdg_judge.specs.Searching.{tuple_for, second_size, third_size, FirstOne, FirstTwo, FirstThree};
+ghost use Rattle.xdg_judge.specs.Searching.{IsSearched, tuple_for, second_size, third_size, FirstOne, FirstTwo, FirstThree};
 ghost use Rattle.xdg_judge.specs.Views.{IsView};
 ghost use Rattle.xdg_judge.specs.Verdicts.{AsksHere};
 
@@ -27,7 +26,7 @@ fn first_third(
 ) -> Option<u8>
     requires view { IsView view.now.parts.now view.now.group.now view.now.analysis.now view.now.first_dim view.now.second_dim view.now.first view.now.second }
     requires counts { IsTally condition (edges_on (first_dim view.now.group.now) view.now.analysis.now.edges) counts.now }
-    requires not_roots { condition ≡ conditions.Roots → ⊥ }
+    requires searched { IsSearched condition }
     requires u_within { u < nodes view.now.parts.now }
     requires x_within { x < second_size condition view.now.parts.now view.now.group.now }
     requires size { last ≡ third_size condition view.now.parts.now view.now.group.now }
@@ -56,7 +55,7 @@ fn first_second(
 ) -> Option<(u8, u8)>
     requires view { IsView view.now.parts.now view.now.group.now view.now.analysis.now view.now.first_dim view.now.second_dim view.now.first view.now.second }
     requires counts { IsTally condition (edges_on (first_dim view.now.group.now) view.now.analysis.now.edges) counts.now }
-    requires not_roots { condition ≡ conditions.Roots → ⊥ }
+    requires searched { IsSearched condition }
     requires u_within { u < nodes view.now.parts.now }
     requires middle_size { middle ≡ second_size condition view.now.parts.now view.now.group.now }
     requires size { last ≡ third_size condition view.now.parts.now view.now.group.now }
@@ -85,7 +84,7 @@ pub fn first_refused(
 ) -> Option<(u8, u8, u8)>
     requires view { IsView view.now.parts.now view.now.group.now view.now.analysis.now view.now.first_dim view.now.second_dim view.now.first view.now.second }
     requires counts { IsTally condition (edges_on (first_dim view.now.group.now) view.now.analysis.now.edges) counts.now }
-    requires not_roots { condition ≡ conditions.Roots → ⊥ }
+    requires searched { IsSearched condition }
     requires size_is { size ≡ nodes view.now.parts.now }
     requires middle_size { middle ≡ second_size condition view.now.parts.now view.now.group.now }
     requires last_size { last ≡ third_size condition view.now.parts.now view.now.group.now }

@@ -22,6 +22,16 @@ pub enum Verdict {
 }
 
 impl Tuple4 {
+    /// The empty tuple.
+    pub(crate) fn none() -> Tuple4
+        ensures { tuple_of result ≡ [] }
+    {
+        Tuple4 {
+            len: 0,
+            items: [0, 0, 0, 0],
+        }
+    }
+
     /// The tuple of one number.
     pub(crate) fn one(a: u8) -> Tuple4
         ensures { tuple_of result ≡ a ∷ [] }

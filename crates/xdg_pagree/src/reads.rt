@@ -9,7 +9,7 @@ use xdg_problem::{Group, Principle};
 pub(crate) fn is_agr(group: &Group) -> bool
     ensures { IsTrue result ↔ (group.now.principle ≡ principles.Agr) }
 {
-    match group.principle {
+    match &group.principle {
         Principle::Agr => true,
         _ => false,
     }
@@ -19,7 +19,7 @@ pub(crate) fn is_agr(group: &Group) -> bool
 pub(crate) fn is_agreement(group: &Group) -> bool
     ensures { IsTrue result ↔ (group.now.principle ≡ principles.Agreement) }
 {
-    match group.principle {
+    match &group.principle {
         Principle::Agreement => true,
         _ => false,
     }

@@ -37,7 +37,7 @@ fn kinds_of(group: &Group) -> Wake
     ensures { result.0 ≡ kinds_of group.now.principle (first_dim group.now) }
 {
     let edges = Wake::edges(dim_of(group, 0));
-    match group.principle {
+    match &group.principle {
         Principle::Tree => edges,
         Principle::Dag => edges,
         Principle::Valency => Wake(Wake::entries().0 | edges.0),
@@ -54,7 +54,7 @@ fn sweep(store: &mut Store, pass: &mut Pass, parts: &Parts, group: &Group)
     ensures { Sweeps group.now (IsClosedFor store.old.parts group.now) pass.old store.old pass.new store.new }
 {
     let plane = Plane::of(parts, group);
-    match group.principle {
+    match &group.principle {
         Principle::Tree => take_tree(store, pass, &plane),
         Principle::Dag => take_dag(store, pass, &plane, truth_of(group, 0), truth_of(group, 1)),
         Principle::Valency => {

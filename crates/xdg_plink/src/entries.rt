@@ -99,8 +99,8 @@ fn is_led(
 }
 
 /// For an edge from u to v the node that a principle links.
-fn linked(principle: Principle, u: NodeId, v: NodeId) -> NodeId
-    ensures node { result.0 ≡ from_node principle u.0 v.0 }
+fn linked(principle: &Principle, u: NodeId, v: NodeId) -> NodeId
+    ensures node { result.0 ≡ from_node principle.now u.0 v.0 }
     ensures within { (n : ℕ) → u.0 < n → v.0 < n → result.0 < n }
 {
     if is_turned(principle) {
@@ -125,9 +125,9 @@ fn entry_links(
     ensures known { Known store.now }
 {
     let dim = dim_of(group, 1);
-    let way = way_of(group.principle);
-    let from = linked(group.principle, u, v);
-    let to = linked(group.principle, v, u);
+    let way = way_of(&group.principle);
+    let from = linked(&group.principle, u, v);
+    let to = linked(&group.principle, v, u);
     is_led(
         store,
         dim,

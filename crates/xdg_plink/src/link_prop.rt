@@ -67,7 +67,7 @@ impl Propagator for LinkProp {
     fn step(&self, store: &mut Store) -> Moved {
         store.turn();
         let group = &store.problem().parts().groups.as_slice()[self.number];
-        let table = table_for(store, dim_of(group, 1), way_of(group.principle));
+        let table = table_for(store, dim_of(group, 1), way_of(&group.principle));
         let mut pass = Pass::start();
         take_all(store, &mut pass, group, &table);
         pass.moved()

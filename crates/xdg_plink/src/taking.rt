@@ -19,8 +19,8 @@ use xdg_store::Store;
 use xdg_uses::dim_of;
 
 /// Whether a principle asks for edges of the second dimension.
-fn asks_edges(principle: Principle) -> bool
-    ensures { IsTrue result ↔ Reaches principle }
+fn asks_edges(principle: &Principle) -> bool
+    ensures { IsTrue result ↔ Reaches principle.now }
 {
     match principle {
         Principle::LinkingEnd => true,
@@ -55,7 +55,7 @@ fn take_at(
         label,
         daughter: v,
     };
-    if asks_edges(group.principle) {
+    if asks_edges(&group.principle) {
         cut(store, pass, group, table, place);
         return;
     }

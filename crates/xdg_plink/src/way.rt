@@ -19,8 +19,8 @@ pub enum Way {
 }
 
 /// How a principle links.
-pub(crate) fn way_of(principle: Principle) -> Way
-    ensures { result ≡ way_of principle }
+pub(crate) fn way_of(principle: &Principle) -> Way
+    ensures { result ≡ way_of principle.now }
 {
     match principle {
         Principle::LinkingDaughter => Way::Straight,
@@ -33,8 +33,8 @@ pub(crate) fn way_of(principle: Principle) -> Way
 }
 
 /// Whether a principle links the daughter to the mother, and not the mother to the daughter.
-pub(crate) fn is_turned(principle: Principle) -> bool
-    ensures { result ≡ is_turned principle }
+pub(crate) fn is_turned(principle: &Principle) -> bool
+    ensures { result ≡ is_turned principle.now }
 {
     match principle {
         Principle::LinkingMother => true,

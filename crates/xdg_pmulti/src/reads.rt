@@ -9,7 +9,7 @@ use xdg_problem::{Group, Principle};
 pub(crate) fn is_climbing(group: &Group) -> bool
     ensures { IsTrue result ↔ (group.now.principle ≡ principles.Climbing) }
 {
-    match group.principle {
+    match &group.principle {
         Principle::Climbing => true,
         _ => false,
     }

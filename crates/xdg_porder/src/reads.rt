@@ -17,7 +17,7 @@ use xdg_uses::dim_of;
 pub(crate) fn is_order(group: &Group) -> bool
     ensures { IsTrue result ↔ (group.now.principle ≡ principles.Order) }
 {
-    match group.principle {
+    match &group.principle {
         Principle::Order => true,
         _ => false,
     }

@@ -1,5 +1,5 @@
 -- The values of attributes that a test looks at stand among those of the sentence.
-use Rattle.std.proofs.Common.{◌≡◌, ℕ, ◌<◌, ◌≤◌, ◌+◌, ◌*◌, zero, suc, List, [], ◌∷◌, length, take, map, subst, arith, length-append}
+use Rattle.std.proofs.Common.{◌≡◌, ℕ, ◌<◌, ◌≤◌, ◌+◌, ◌*◌, zero, suc, List, [], ◌∷◌, length, take, map, sym, subst, arith, length-append}
 use Rattle.std.specs.Prelude.{All, slice_index_or}
 use Rattle.std.specs.List.{flat_map}
 use Rattle.std.proofs.lemmas.List.Elements.{All-nil, All-cons}
@@ -37,23 +37,29 @@ attr_within parts dim node attr d v a =
     let row = row_fits node (attr_count parts dim) (nodes parts) (attr_count parts dim) v (omega arith) in
     omega (arith, before, row, a)
 
-some_dim : (principle : Principle) → 0 < dim_arguments principle
-some_dim principles.Graph = omega arith
-some_dim principle = omega arith
+-- a principle that takes an attribute takes a dimension
+attr_dim : (principle : Principle) (argument : ℕ) → argument < attr_arguments principle → 0 < dim_arguments principle
+attr_dim principles.Graph argument l = omega arith
+attr_dim (principles.Rule formula) argument l = absurd (omega (arith, l))
+attr_dim (principles.Bound costs bound) argument l = absurd (omega (arith, l))
+attr_dim principle argument l = omega arith
 
--- the first dimension of a principle use is one of the sentence
-pub first_dim_within : (parts : Parts) (group : Group) → IsGroup parts group → first_dim group < length parts.dims
-first_dim_within parts group is =
-    let some = some_dim group.principle in
+-- the first dimension of a principle use is one of the sentence, where its principle takes one
+pub first_dim_within : (parts : Parts) (group : Group) → IsGroup parts group → 0 < dim_arguments group.principle → first_dim group < length parts.dims
+first_dim_within parts group is some =
     let count = is.dims_count in
     is.dims 0 (record { 0 = 0 }) (omega (arith, some, count))
+
+-- and where it takes an attribute
+pub attr_dim_within : (parts : Parts) (group : Group) → IsGroup parts group → (argument : ℕ) → argument < attr_arguments group.principle → first_dim group < length parts.dims
+attr_dim_within parts group is argument l = first_dim_within parts group is (attr_dim group.principle argument l)
 
 module _ (parts : Parts) (group : Group) (is : IsGroup parts group) where
   -- where a principle use takes an attribute, the place of its value for a node is in range
   takes : (principle : Principle) (argument : ℕ) → group.principle ≡ principle → argument < attr_arguments principle → (node : ℕ) → node < nodes parts → attr_place parts (first_dim group) node (attr_of group argument) < length (attr_sizes (nodes parts) parts.dims)
   takes principle argument same l node v =
       let count : length group.attrs ≡ attr_arguments principle = subst (λ p. length group.attrs ≡ attr_arguments p) same is.attrs_count in
-      attr_within parts (first_dim group) node (attr_of group argument) (first_dim_within parts group is) v (is.attrs argument (record { 0 = 0 }) (omega (arith, l, count)))
+      attr_within parts (first_dim group) node (attr_of group argument) (attr_dim_within parts group is argument (subst (λ p. argument < attr_arguments p) (sym same) l)) v (is.attrs argument (record { 0 = 0 }) (omega (arith, l, count)))
 
   abbrev IsWithin : ℕ → Type 0
   IsWithin place = place < length (attr_sizes (nodes parts) parts.dims)
@@ -90,3 +96,5 @@ module _ (parts : Parts) (group : Group) (is : IsGroup parts group) where
   each_within principles.LinkingAboveStart same = λ u a l b v c. none
   each_within principles.LinkingSisters same = λ u a l b v c. none
   each_within principles.LinkingNotDaughter same = λ u a l b v c. none
+  each_within (principles.Rule formula) same = tt
+  each_within (principles.Bound costs bound) same = tt

@@ -1,19 +1,21 @@
 -- What a condition asks of a tuple can be decided.
-use Rattle.std.proofs.Common.{◌≡◌, ℕ, ◌<◌, ◌⊎◌, inl, true, List, length, refl, sym, subst}
+use Rattle.std.proofs.Common.{◌≡◌, ℕ, ◌<◌, ◌⊎◌, inl, true, List, length, map, refl, sym, subst}
 use Rattle.std.specs.Prelude.{slice_index}
 use Rattle.std.specs.List.{Any}
 use Rattle.xdg_problem.specs.declared.analysis.Edge.{Edge}
 use Rattle.xdg_problem.specs.declared.conditions.Condition.{Condition}
 use Rattle.xdg_problem.specs.declared.conditions.Condition.TheVariants as conditions
 use Rattle.xdg_problem.specs.declared.parts.Group.{Group}
+use Rattle.xdg_problem.specs.declared.parts.Parts.{Parts}
 use Rattle.xdg_problem.specs.declared.parts.Principle.{Principle}
 use Rattle.xdg_problem.specs.declared.parts.Principle.TheVariants as principles
 use Rattle.xdg_problem.specs.Paths.{edges_on, edges_into, edges_out_of, edges_joining, mothers, IsDaughter, IsDaughterBy, Above}
 use Rattle.xdg_problem.specs.Features.{in_row, out_row, set_row, map_row}
 use Rattle.xdg_problem.specs.Arguments.{first_dim, second_dim, truth_of, order_of}
-use Rattle.xdg_problem.specs.Asking.{first, second, third, IsBetween, IsInItem, IsLinked, AsksLink, AsksOf}
+use Rattle.xdg_problem.specs.Asking.{first, second, third, IsBetween, IsInItem, IsLinked, AsksLink, AsksOf, attr_places, Asks}
 use Rattle.xdg_problem.proofs.Deciding.{Decided, decided_like, decided_both, decided_from, decided_equal, decided_less, decided_most, decided_contains}
 use Rattle.xdg_problem.proofs.DecidingPaths.{decided_either, decided_true, decided_not, decided_any, contained, decided_pairs, triple_decided, decided_daughter, decided_daughter_by, decided_daughter_by_any, decided_entered, decided_sisters, decided_above, decided_above_by_first, decided_above_by_last}
+use Rattle.xdg_problem.proofs.DecidingTruths.{decided_whole}
 use Rattle.xdg_problem.proofs.Looking.{any_of}
 
 pub decided_between : (u v w : ℕ) → Decided (IsBetween u v w)
@@ -63,4 +65,25 @@ decided_asks conditions.Agree group candidate values edges tuple = decided_from 
 decided_asks conditions.Govern group candidate values edges tuple = decided_from _ _ (decided_daughter_by (edges_on (first_dim group) edges) (first tuple) (second tuple) (third tuple)) (labelled (map_row group (first tuple) candidate (second tuple)) _ (decided_contains (map_row group (first tuple) candidate (second tuple)) (slice_index values 0)))
 decided_asks conditions.Below group candidate values edges tuple = decided_from _ _ (decided_above (edges_on (first_dim group) edges) (first tuple) (second tuple)) (decided_above (edges_on (second_dim group) edges) (first tuple) (second tuple))
 decided_asks conditions.Blocked group candidate values edges tuple = decided_from _ _ (decided_above_by_last (edges_on (second_dim group) edges) (first tuple) (set_row group (first tuple) candidate) (second tuple)) (decided_above (edges_on (first_dim group) edges) (first tuple) (second tuple))
+decided_asks conditions.Rule group candidate values edges tuple = inl tt
+decided_asks conditions.Bound group candidate values edges tuple = inl tt
 decided_asks conditions.Link group candidate values edges tuple = decided_from _ _ (decided_daughter_by (edges_on (first_dim group) edges) (first tuple) (second tuple) (third tuple)) (decided_link group.principle group candidate (edges_on (second_dim group) edges) (first tuple) (second tuple) (third tuple))
+
+-- and what it asks of a tuple of an analysis
+pub decided_asked : (condition : Condition) (parts : Parts) (group : Group) (candidates attrs : List ℕ) (edges : List Edge) (tuple : List ℕ) → Decided (Asks condition parts group candidates attrs edges tuple)
+decided_asked conditions.Rule parts group candidates attrs edges tuple = decided_whole parts candidates attrs edges group.principle
+decided_asked conditions.Bound parts group candidates attrs edges tuple = decided_whole parts candidates attrs edges group.principle
+decided_asked conditions.Cycle parts group candidates attrs edges tuple = decided_asks conditions.Cycle group (slice_index candidates (first tuple)) (map (slice_index attrs) (attr_places conditions.Cycle parts group tuple)) edges tuple
+decided_asked conditions.Roots parts group candidates attrs edges tuple = decided_asks conditions.Roots group (slice_index candidates (first tuple)) (map (slice_index attrs) (attr_places conditions.Roots parts group tuple)) edges tuple
+decided_asked conditions.Mothers parts group candidates attrs edges tuple = decided_asks conditions.Mothers group (slice_index candidates (first tuple)) (map (slice_index attrs) (attr_places conditions.Mothers parts group tuple)) edges tuple
+decided_asked conditions.Pair parts group candidates attrs edges tuple = decided_asks conditions.Pair group (slice_index candidates (first tuple)) (map (slice_index attrs) (attr_places conditions.Pair parts group tuple)) edges tuple
+decided_asked conditions.InCount parts group candidates attrs edges tuple = decided_asks conditions.InCount group (slice_index candidates (first tuple)) (map (slice_index attrs) (attr_places conditions.InCount parts group tuple)) edges tuple
+decided_asked conditions.OutCount parts group candidates attrs edges tuple = decided_asks conditions.OutCount group (slice_index candidates (first tuple)) (map (slice_index attrs) (attr_places conditions.OutCount parts group tuple)) edges tuple
+decided_asked conditions.Order parts group candidates attrs edges tuple = decided_asks conditions.Order group (slice_index candidates (first tuple)) (map (slice_index attrs) (attr_places conditions.Order parts group tuple)) edges tuple
+decided_asked conditions.Between parts group candidates attrs edges tuple = decided_asks conditions.Between group (slice_index candidates (first tuple)) (map (slice_index attrs) (attr_places conditions.Between parts group tuple)) edges tuple
+decided_asked conditions.Agr parts group candidates attrs edges tuple = decided_asks conditions.Agr group (slice_index candidates (first tuple)) (map (slice_index attrs) (attr_places conditions.Agr parts group tuple)) edges tuple
+decided_asked conditions.Agree parts group candidates attrs edges tuple = decided_asks conditions.Agree group (slice_index candidates (first tuple)) (map (slice_index attrs) (attr_places conditions.Agree parts group tuple)) edges tuple
+decided_asked conditions.Govern parts group candidates attrs edges tuple = decided_asks conditions.Govern group (slice_index candidates (first tuple)) (map (slice_index attrs) (attr_places conditions.Govern parts group tuple)) edges tuple
+decided_asked conditions.Below parts group candidates attrs edges tuple = decided_asks conditions.Below group (slice_index candidates (first tuple)) (map (slice_index attrs) (attr_places conditions.Below parts group tuple)) edges tuple
+decided_asked conditions.Blocked parts group candidates attrs edges tuple = decided_asks conditions.Blocked group (slice_index candidates (first tuple)) (map (slice_index attrs) (attr_places conditions.Blocked parts group tuple)) edges tuple
+decided_asked conditions.Link parts group candidates attrs edges tuple = decided_asks conditions.Link group (slice_index candidates (first tuple)) (map (slice_index attrs) (attr_places conditions.Link parts group tuple)) edges tuple

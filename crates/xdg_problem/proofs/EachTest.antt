@@ -37,6 +37,8 @@ module _ (truths : List Bool) (n labels : ℕ) (Q : Test → Type 0) where
   Each principles.LinkingAboveStart = EachTriple linked_path
   Each principles.LinkingSisters = EachTriple linked_sister
   Each principles.LinkingNotDaughter = EachTriple linked_daughter
+  Each (principles.Rule formula) = Unit {0}
+  Each (principles.Bound costs bound) = Unit {0}
 
   abbrev pub Tested : Principle → Type 0
   Tested principle = (test : Test) → IsTestOf principle truths n labels test → Q test
@@ -61,6 +63,8 @@ module _ (truths : List Bool) (n labels : ℕ) (Q : Test → Type 0) where
   tested_each principles.LinkingAboveStart t = λ u a l b v c. t (linked_path u l v) (a, b, c)
   tested_each principles.LinkingSisters t = λ u a l b v c. t (linked_sister u l v) (a, b, c)
   tested_each principles.LinkingNotDaughter t = λ u a l b v c. t (linked_daughter u l v) (a, b, c)
+  tested_each (principles.Rule formula) t = tt
+  tested_each (principles.Bound costs bound) t = tt
 
   pub each_tested : (principle : Principle) → Each principle → Tested principle
   each_tested principles.Tree each (one_mother v k) is = each.0 v is.0 k is.1

@@ -1,5 +1,5 @@
 -- What tests, live prefixes and solutions keep, all of it.
-use Rattle.std.proofs.Common.{◌≡◌, ◌↔◌, ℕ, ◌<◌, List, ◌++◌, length, sym, subst}
+use Rattle.std.proofs.Common.{◌≡◌, ◌↔◌, ℕ, ◌<◌, List, ◌++◌, length, sym, subst, arith}
 use Rattle.std.specs.Prelude.{filter}
 use Rattle.xdg_listing.specs.Fits.{Fits}
 use Rattle.xdg_listing.specs.Whole.{is_whole}
@@ -11,7 +11,7 @@ use Rattle.xdg_problem.specs.Analyses.{IsAnalysis}
 use Rattle.xdg_problem.specs.Laws.{AllTestsHold, TestsAreRelation, LiveLaws, SolutionLaws, HasOneVerdict}
 use Rattle.xdg_problem.specs.Live.{Live}
 use Rattle.xdg_problem.specs.Problems.{IsProblem, IsGroup}
-use Rattle.xdg_problem.specs.Relations.{Relation}
+use Rattle.xdg_problem.specs.Relations.{Relation, IsKeptWhole}
 use Rattle.xdg_problem.specs.Solutions.{IsSolution, HasOneSolutionList}
 use Rattle.xdg_problem.specs.Vectors.{shape, vector, analysis_of}
 use Rattle.xdg_problem.proofs.OneList.{one_live_list, some_solution_list}
@@ -28,8 +28,14 @@ module _ (parts : Parts) (problem : IsProblem parts) where
       let fits = vector_fits parts analysis problem is in
       let long = length_vector parts analysis problem is in
       let both = use_live parts (vector parts analysis) problem fits long group group_is in (
-        λ holds. both.0 (λ test tested stands. holds test tested),
-        λ relation test tested. both.1 relation test tested (whole_stands parts (vector parts analysis) problem fits long group group_is test tested),
+        λ holds. both.0 (record {
+          tests = λ test tested stands. holds.tests test tested;
+          whole = λ l. subst (IsKeptWhole parts group) (sym (analysis_vector parts analysis problem is)) holds.whole;
+        }),
+        λ relation. record {
+          tests = λ test tested. (both.1 relation).tests test tested (whole_stands parts (vector parts analysis) problem fits long group group_is test tested);
+          whole = subst (IsKeptWhole parts group) (analysis_vector parts analysis problem is) ((both.1 relation).whole (omega (arith, long)));
+        },
       )
 
   tests_are : (group : Group) → IsGroup parts group → TestsAreRelation parts group

@@ -5,6 +5,7 @@ pub mod PlaceCount
 pub mod EntryPlaces
 pub mod Presence
 pub mod VectorFacts
+pub mod Continued
 pub mod Shortening
 pub mod FilterFacts
 pub mod Passing
@@ -24,6 +25,7 @@ pub mod SolutionLists
 pub mod Deciding
 pub mod CycleTests
 pub mod DecidingPaths
+pub mod DecidingTruths
 pub mod DecidingAsks
 pub mod LiveDecided
 pub mod TriedAsks
@@ -38,3 +40,16 @@ pub mod FitSteps
 pub mod OneToOne
 pub mod PlaceSteps
 pub mod ValueCounts
+pub mod BranchLists
+pub mod BranchTruths
+pub mod BranchParts
+pub mod BranchAsks
+pub mod BranchVectors
+pub mod BranchSolutions
+pub mod BranchesJoined
+pub mod Claimed
+pub mod Bounded
+pub mod FurtherTruths
+pub mod FurtherUses
+pub mod FurtherLawful
+pub mod Turning

@@ -1,5 +1,5 @@
 -- Whether a prefix is live can be decided, so the live prefixes and the solutions have their list.
-use Rattle.std.proofs.Common.{◌≡◌, ℕ, ◌<◌, ◌+◌, ◌⊎◌, inl, Bool, false, List, [], ◌∷◌, length, map, Option, Some, None}
+use Rattle.std.proofs.Common.{◌≡◌, ℕ, ◌<◌, ◌≤◌, ◌+◌, ◌⊎◌, inl, Bool, false, List, [], ◌∷◌, length, map, Option, Some, None}
 use Rattle.std.specs.Prelude.{filter, All, Contains}
 use Rattle.xdg_problem.specs.declared.analysis.Edge.{Edge}
 use Rattle.xdg_problem.specs.declared.conditions.Condition.TheVariants as conditions
@@ -8,7 +8,8 @@ use Rattle.xdg_problem.specs.declared.parts.Parts.{Parts}
 use Rattle.xdg_problem.specs.declared.parts.Principle.{Principle}
 use Rattle.xdg_problem.specs.declared.parts.Principle.TheVariants as principles
 use Rattle.xdg_problem.specs.Places.{nodes}
-use Rattle.xdg_problem.specs.Vectors.{edges_in}
+use Rattle.xdg_problem.specs.Vectors.{shape, entry_places, edges_in, analysis_of}
+use Rattle.xdg_problem.specs.Relations.{IsKeptWhole}
 use Rattle.xdg_problem.specs.Paths.{roots}
 use Rattle.xdg_problem.specs.Features.{in_row, out_row, IsWithin}
 use Rattle.xdg_problem.specs.Arguments.{first_dim, label_count, truth_of}
@@ -18,6 +19,7 @@ use Rattle.xdg_problem.specs.Live.{open_places, EntryStands, entry_in, AttrStand
 use Rattle.xdg_problem.proofs.Deciding.{Decided, decided_like, decided_both, decided_from, decided_equal, decided_less, decided_most, decided_false, decided_below, decided_all, decided_contains, decided_within}
 use Rattle.xdg_problem.proofs.CycleTests.{decided_no_cycle}
 use Rattle.xdg_problem.proofs.DecidingPaths.{decided_true, triple_decided}
+use Rattle.xdg_problem.proofs.DecidingTruths.{decided_whole}
 use Rattle.xdg_problem.proofs.DecidingAsks.{decided_asks}
 use Rattle.xdg_problem.proofs.EachTest.{EachNode, EachPair, EachTriple, Each, tested_each, each_tested}
 
@@ -97,14 +99,22 @@ module _ (truths : List Bool) (n labels : ℕ) (Q : Test → Type 0) (each : (te
   decided_tests principles.LinkingAboveStart = each_triple linked_path
   decided_tests principles.LinkingSisters = each_triple linked_sister
   decided_tests principles.LinkingNotDaughter = each_triple linked_daughter
+  decided_tests (principles.Rule formula) = inl tt
+  decided_tests (principles.Bound costs bound) = inl tt
 
 decided_use : (parts : Parts) (prefix : List ℕ) (group : Group) → Decided (IsLiveFor parts group prefix)
 decided_use parts prefix group =
     let Q : Test → Type 0 = λ test. Stands parts group test prefix → Holds parts group test prefix in
-    decided_like (Each group.truths (nodes parts) (label_count parts (first_dim group)) Q group.principle) (IsLiveFor parts group prefix)
-    (each_tested group.truths (nodes parts) (label_count parts (first_dim group)) Q group.principle)
-    (tested_each group.truths (nodes parts) (label_count parts (first_dim group)) Q group.principle)
-    (decided_tests group.truths (nodes parts) (label_count parts (first_dim group)) Q (λ test. decided_from (Stands parts group test prefix) (Holds parts group test prefix) (decided_stands parts group test prefix) (decided_passes (nodes parts) group test (entry_in (entry_node test) prefix) (map (attr_in parts prefix) (test_attrs parts group test)) (filter (looks_at group test) (edges_in parts prefix)))) group.principle)
+    let truths = group.truths in
+    let n = nodes parts in
+    let labels = label_count parts (first_dim group) in
+    let analysis = analysis_of parts prefix in
+    decided_like (Each truths n labels Q group.principle × (length (shape parts) ≤ length prefix → IsKeptWhole parts group analysis)) (IsLiveFor parts group prefix)
+    (λ both. record { tests = each_tested truths n labels Q group.principle both.0; whole = both.1 })
+    (λ live. (tested_each truths n labels Q group.principle live.tests, live.whole))
+    (decided_both _ _
+    (decided_tests truths n labels Q (λ test. decided_from (Stands parts group test prefix) (Holds parts group test prefix) (decided_stands parts group test prefix) (decided_passes n group test (entry_in (entry_node test) prefix) (map (attr_in parts prefix) (test_attrs parts group test)) (filter (looks_at group test) (edges_in parts prefix)))) group.principle)
+    (decided_from _ _ (decided_most (length (shape parts)) (length prefix)) (decided_whole parts (entry_places parts.candidates analysis.entries) analysis.attrs analysis.edges group.principle)))
 
 pub live_decided : (parts : Parts) (prefix : List ℕ) → Live parts prefix ⊎ (Live parts prefix → ⊥)
 live_decided parts prefix = decided_all (λ group. IsLiveFor parts group prefix) parts.groups (decided_use parts prefix)

@@ -10,12 +10,9 @@ use Rattle.xdg_problem.specs.declared.parts.Parts.{Parts}
 use Rattle.xdg_problem.specs.Places.{nodes, places}
 use Rattle.xdg_problem.specs.Vectors.{first_place, edges_in, chosen}
 use Rattle.xdg_problem.specs.Tests.{Test, looks_at, entry_node, test_attrs, Passes}
-use Rattle.xdg_problem.specs.Live.{open_places, EntryStands, entry_in, AttrStands, attr_in, Stands, Holds, Live}
-
-drop_joined : (n : ℕ) (xs ys : List ℕ) → drop n (xs ++ ys) ≡ drop n xs ++ drop (n - length xs) ys
-drop_joined zero xs ys = let e : 0 - length xs ≡ 0 = omega arith in rw e refl
-drop_joined (suc n) [] ys = let e : suc n - 0 ≡ suc n = omega arith in rw e refl
-drop_joined (suc n) (x ∷ xs) ys = let e : suc n - suc (length xs) ≡ n - length xs = omega arith in rw e (drop_joined n xs ys)
+use Rattle.xdg_problem.specs.Live.{open_places, EntryStands, entry_in, AttrStands, attr_in, Stands, Holds, IsLiveFor, Live}
+use Rattle.xdg_problem.specs.Relations.{IsKeptWhole}
+use Rattle.xdg_problem.proofs.Continued.{drop_joined, analysis_same}
 
 filter_put : (test : Edge → Bool) (chooses : Bool) (e : Edge) (xs ys : List Edge) → filter test xs ≡ filter test ys → filter test (cond chooses (e ∷ xs) xs) ≡ filter test (cond chooses (e ∷ ys) ys)
 filter_put test true e xs ys same = ap (λ z. cond (test e) (e ∷ z) z) same
@@ -88,5 +85,12 @@ reads_same parts group test p t stands =
     )
 
 -- each front of a live prefix is live
+
+use_closed : (parts : Parts) (group : Group) (p t : List ℕ) → IsLiveFor parts group (p ++ t) → IsLiveFor parts group p
+use_closed parts group p t live = record {
+  tests = λ test is stands. (reads_same parts group test p t stands).1 (live.tests test is (stands_longer parts group test p t stands));
+  whole = λ long. subst (IsKeptWhole parts group) (analysis_same parts p t long) (live.whole (omega (arith, long, length-append p t)));
+}
+
 pub live_closed : (parts : Parts) → Closed (Live parts)
-live_closed parts p t some live = λ k d within test is stands. (reads_same parts _ test p t stands).1 (live k d within test is (stands_longer parts _ test p t stands))
+live_closed parts p t some live = λ k d within. use_closed parts _ p t (live k d within)

@@ -1,6 +1,6 @@
 -- A principle use has one verdict: its relation holds, or one condition and one tuple are the first that break it.
-use Rattle.std.proofs.Common.{◌≡◌, ℕ, ◌<◌, ◌⊎◌, inl, inr, List, [], ◌∷◌, length, map, refl, sym, ap, ◌∙◌, subst, arith, zero, suc}
-use Rattle.std.specs.Prelude.{slice_index, slice_index_or}
+use Rattle.std.proofs.Common.{◌≡◌, ℕ, ◌<◌, ◌⊎◌, inl, inr, List, [], ◌∷◌, length, refl, sym, ap, ◌∙◌, subst, arith, zero, suc}
+use Rattle.std.specs.Prelude.{slice_index_or}
 use Rattle.std.proofs.lemmas.Bool.{cases_eq, cases_order}
 use Rattle.std.proofs.lemmas.List.{get_or_default}
 use Rattle.xdg_listing.specs.Order.{AtMost}
@@ -15,11 +15,11 @@ use Rattle.xdg_problem.specs.Places.{nodes}
 use Rattle.xdg_problem.specs.Vectors.{entry_places}
 use Rattle.xdg_problem.specs.Arguments.{first_dim, label_count}
 use Rattle.xdg_problem.specs.Conditions.{conditions_of, AreBelow, root_count, IsTuple}
-use Rattle.xdg_problem.specs.Asking.{first, attr_places, Asks}
+use Rattle.xdg_problem.specs.Asking.{Asks}
 use Rattle.xdg_problem.specs.Relations.{IsKept, Relation, Breaks, IsFirstBroken}
 use Rattle.xdg_problem.proofs.Deciding.{Decided}
 use Rattle.xdg_problem.proofs.DecidingPaths.{decided_not}
-use Rattle.xdg_problem.proofs.DecidingAsks.{decided_asks}
+use Rattle.xdg_problem.proofs.DecidingAsks.{decided_asked}
 
 -- the first number below a bound for which something that can be decided holds
 first_below : (Q : ℕ → Type 0) → ((u : ℕ) → Decided (Q u)) → (n : ℕ) → ((u : ℕ) → u < n → Q u → ⊥) ⊎ ((u : ℕ) × (u < n) × Q u × ((w : ℕ) → w < u → Q w → ⊥))
@@ -74,7 +74,7 @@ module _ (parts : Parts) (group : Group) (candidates attrs : List ℕ) (edges : 
   Here condition tuple = Asks condition parts group candidates attrs edges tuple
 
   decided_here : (condition : Condition) (tuple : List ℕ) → Decided (Here condition tuple)
-  decided_here condition tuple = decided_asks condition group (slice_index candidates (first tuple)) (map (slice_index attrs) (attr_places condition parts group tuple)) edges tuple
+  decided_here condition tuple = decided_asked condition parts group candidates attrs edges tuple
 
   -- the least tuple that breaks a condition
   abbrev LeastBroken : Condition → Type 0
@@ -91,6 +91,14 @@ module _ (parts : Parts) (group : Group) (candidates attrs : List ℕ) (edges : 
   none_or_least conditions.Roots = elim (decided_here conditions.Roots (root_count parts group edges ∷ [])) [
     | inl asks ↦ inl (λ tuple is fails. fails (subst (Here conditions.Roots) (sym is) asks))
     | inr fails ↦ inr (root_count parts group edges ∷ [], refl, fails, λ other is q. inl (sym is))
+  ]
+  none_or_least conditions.Rule = elim (decided_here conditions.Rule []) [
+    | inl asks ↦ inl (λ tuple is fails. fails asks)
+    | inr fails ↦ inr ([], refl, fails, λ other is q. inl (sym is))
+  ]
+  none_or_least conditions.Bound = elim (decided_here conditions.Bound []) [
+    | inl asks ↦ inl (λ tuple is fails. fails asks)
+    | inr fails ↦ inr ([], refl, fails, λ other is q. inl (sym is))
   ]
   none_or_least conditions.Mothers = search_in (nodes parts ∷ []) conditions.Mothers
   none_or_least conditions.Pair = search_in (nodes parts ∷ nodes parts ∷ []) conditions.Pair

@@ -40,6 +40,8 @@ each_node truths n labels principles.Projectivity = λ u a v b. tt
 each_node truths n labels principles.Agr = λ v a. a
 each_node truths n labels principles.Climbing = λ u a v b. tt
 each_node truths n labels principles.Barriers = λ w a v b. a
+each_node truths n labels (principles.Rule formula) = tt
+each_node truths n labels (principles.Bound costs bound) = tt
 each_node truths n labels principle = λ u a l b v c. a
 
 entry_stands : (n : ℕ) (node : Option ℕ) (x : List ℕ) → IsNode n node → n ≤ length x → EntryStands node x
@@ -101,8 +103,11 @@ module _ (parts : Parts) (x : List ℕ) (is : IsProblem parts) (fits : Fits (sha
       let attrs : List ℕ = (analysis_of parts x).attrs in
       let edges : List Edge = edges_in parts x in
       let both = kept_tests parts group candidates attrs edges is.some (All-weaker (IsPlace parts) (λ e. e.mother.0 < nodes parts) (λ e place. place.mother) edges edges_placed) (All-weaker (IsPlace parts) (λ e. e.daughter.0 < nodes parts) (λ e place. place.daughter) edges edges_placed) group.principle refl in (
-        λ live. both.0 (tested_each group.truths n labels (PassesAt parts group candidates attrs edges) group.principle (λ test tested. (whole_reads group group_is test tested).0 (live test tested (whole_stands group group_is test tested)))),
-        λ relation test tested stands. (whole_reads group group_is test tested).1 (each_tested group.truths n labels (PassesAt parts group candidates attrs edges) group.principle (both.1 relation) test tested),
+        λ live. both.0 (tested_each group.truths n labels (PassesAt parts group candidates attrs edges) group.principle (λ test tested. (whole_reads group group_is test tested).0 (live.tests test tested (whole_stands group group_is test tested))), live.whole (omega (arith, whole))),
+        λ relation. record {
+          tests = λ test tested stands. (whole_reads group group_is test tested).1 (each_tested group.truths n labels (PassesAt parts group candidates attrs edges) group.principle (both.1 relation).0 test tested);
+          whole = λ long. (both.1 relation).1;
+        },
       )
 
   pub whole_live : Live parts x → All (λ group. Relation parts group (analysis_of parts x)) parts.groups

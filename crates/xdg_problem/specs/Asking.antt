@@ -10,6 +10,10 @@ use Rattle.xdg_problem.specs.declared.parts.Principle.TheVariants as principles
 use Rattle.xdg_problem.specs.Paths.{edges_on, edges_into, edges_out_of, edges_joining, mothers, IsDaughter, IsDaughterBy, IsDaughterByAny, IsEnteredByAny, AreSistersByAny, Above, AboveByFirst, AboveByLast}
 use Rattle.xdg_problem.specs.Features.{in_row, out_row, set_row, map_row}
 use Rattle.xdg_problem.specs.Arguments.{first_dim, second_dim, attr_of, order_of, truth_of, attr_place}
+use Rattle.xdg_problem.specs.Vectors.{entries_at}
+use Rattle.xdg_problem.specs.Claims.{claim}
+use Rattle.xdg_problem.specs.Truths.{unbound, IsTrueOf}
+use Rattle.xdg_problem.specs.Costs.{total_cost}
 
 -- the items of a tuple
 abbrev pub first : List ℕ → ℕ
@@ -83,6 +87,18 @@ AsksOf conditions.Below group candidate values edges tuple = Above (edges_on (fi
 AsksOf conditions.Blocked group candidate values edges tuple = AboveByLast (edges_on (second_dim group) edges) (first tuple) (set_row group (first tuple) candidate) (second tuple) → Above (edges_on (first_dim group) edges) (first tuple) (second tuple)
 -- where u -l-> v on the first dimension, v is linked to u by edges of the second as the principle says
 AsksOf conditions.Link group candidate values edges tuple = IsDaughterBy (edges_on (first_dim group) edges) (first tuple) (second tuple) (third tuple) → AsksLink group.principle group candidate (edges_on (second_dim group) edges) (first tuple) (second tuple) (third tuple)
+-- a rule and a bound ask nothing of what is read here, but of all decisions
+AsksOf conditions.Rule group candidate values edges tuple = Unit {0}
+AsksOf conditions.Bound group candidate values edges tuple = Unit {0}
+
+-- What a rule or a bound asks of all decisions together: of the entries as places among the candidates, the values of attributes
+-- and the edges. No other principle asks anything there.
+abbrev pub AsksWhole : Principle → Parts → List ℕ → List ℕ → List Edge → Type 0
+-- the formula is true
+AsksWhole (principles.Rule formula) parts candidates attrs edges = IsTrueOf parts candidates attrs edges (claim formula) unbound
+-- the entries and the edges cost less than the bound
+AsksWhole (principles.Bound costs bound) parts candidates attrs edges = total_cost costs (entries_at parts.candidates candidates) edges < bound
+AsksWhole principle parts candidates attrs edges = Unit {0}
 
 -- where the attributes stand that a condition names: On of u; Agr of v; Agr1 of u and Agr2 of v; Agr of v
 abbrev pub attr_places : Condition → Parts → Group → List ℕ → List ℕ
@@ -95,4 +111,6 @@ attr_places condition parts group tuple = []
 -- What a condition asks of a tuple of an analysis: of the entries as places among the candidates, the values of attributes
 -- and the edges.
 abbrev pub Asks : Condition → Parts → Group → List ℕ → List ℕ → List Edge → List ℕ → Type 0
+Asks conditions.Rule parts group candidates attrs edges tuple = AsksWhole group.principle parts candidates attrs edges
+Asks conditions.Bound parts group candidates attrs edges tuple = AsksWhole group.principle parts candidates attrs edges
 Asks condition parts group candidates attrs edges tuple = AsksOf condition group (slice_index candidates (first tuple)) (map (slice_index attrs) (attr_places condition parts group tuple)) edges tuple

@@ -32,6 +32,8 @@ conditions_for principles.LinkingBelowStart truths = conditions.Link ∷ []
 conditions_for principles.LinkingAboveStart truths = conditions.Link ∷ []
 conditions_for principles.LinkingSisters truths = conditions.Link ∷ []
 conditions_for principles.LinkingNotDaughter truths = conditions.Link ∷ []
+conditions_for (principles.Rule formula) truths = conditions.Rule ∷ []
+conditions_for (principles.Bound costs bound) truths = conditions.Bound ∷ []
 
 -- the conditions of a principle use
 abbrev pub conditions_of : Group → List Condition
@@ -49,7 +51,7 @@ abbrev pub root_count : Parts → Group → List Edge → ℕ
 root_count parts group edges = length (roots (nodes parts) (edges_on (first_dim group) edges))
 
 -- The tuples in the range of a condition: all nodes and, of the first dimension, all labels at the places where the
--- condition speaks of them. Roots has one tuple, the number of nodes without mother.
+-- condition speaks of them. Roots has one tuple, the number of nodes without mother, and a rule and a bound have the empty one.
 abbrev pub IsTuple : Condition → Parts → Group → List Edge → List ℕ → Type 0
 IsTuple conditions.Cycle parts group edges tuple = AreBelow (nodes parts ∷ []) tuple
 IsTuple conditions.Roots parts group edges tuple = tuple ≡ root_count parts group edges ∷ []
@@ -65,3 +67,5 @@ IsTuple conditions.Govern parts group edges tuple = AreBelow (nodes parts ∷ la
 IsTuple conditions.Below parts group edges tuple = AreBelow (nodes parts ∷ nodes parts ∷ []) tuple
 IsTuple conditions.Blocked parts group edges tuple = AreBelow (nodes parts ∷ nodes parts ∷ []) tuple
 IsTuple conditions.Link parts group edges tuple = AreBelow (nodes parts ∷ label_count parts (first_dim group) ∷ nodes parts ∷ []) tuple
+IsTuple conditions.Rule parts group edges tuple = tuple ≡ []
+IsTuple conditions.Bound parts group edges tuple = tuple ≡ []

@@ -10,14 +10,15 @@ use Rattle.xdg_problem.specs.declared.parts.Group.{Group}
 use Rattle.xdg_problem.specs.declared.parts.Parts.{Parts}
 use Rattle.xdg_problem.specs.Analyses.{IsAnalysis}
 use Rattle.xdg_problem.specs.Live.{Holds, Live}
-use Rattle.xdg_problem.specs.Relations.{Relation, IsFirstBroken}
+use Rattle.xdg_problem.specs.Relations.{Relation, IsKeptWhole, IsFirstBroken}
 use Rattle.xdg_problem.specs.Solutions.{IsSolution, IsSolutionList, HasOneSolutionList}
 use Rattle.xdg_problem.specs.Tests.{Test, IsTest}
 use Rattle.xdg_problem.specs.Vectors.{shape, vector, analysis_of}
 
--- each test of the principle use holds of the decisions of an analysis
-abbrev pub AllTestsHold : Parts → Group → Analysis → Type 0
-AllTestsHold parts group analysis = (test : Test) → IsTest parts group test → Holds parts group test (vector parts analysis)
+-- each test of the principle use holds of the decisions of an analysis, and what it asks of all of them together
+pub record AllTestsHold (parts : Parts) (group : Group) (analysis : Analysis) : Type 0 where
+  pub tests : (test : Test) → IsTest parts group test → Holds parts group test (vector parts analysis)
+  pub whole : IsKeptWhole parts group analysis
 
 -- on a whole analysis all tests of the principle use together are its relation
 abbrev pub TestsAreRelation : Parts → Group → Type 0

@@ -10,6 +10,9 @@ pub mod OneToOne
 pub mod Paths
 pub mod Features
 pub mod Arguments
+pub mod Claims
+pub mod Truths
+pub mod Costs
 pub mod Conditions
 pub mod Asking
 pub mod Relations
@@ -18,6 +21,9 @@ pub mod Live
 pub mod Solutions
 pub mod Problems
 pub mod Laws
+pub mod Further
 pub mod Tries
 pub mod Names
 pub mod Boxes
+pub mod Branches
+pub mod BranchLaws

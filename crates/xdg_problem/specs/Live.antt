@@ -1,10 +1,12 @@
--- Which prefixes of a vector are live: each test whose decisions all stand in the prefix holds.
-use Rattle.std.specs.Prelude.{◌≡◌, ℕ, ◌<◌, ◌+◌, ◌-◌, List, length, map, filter, drop, false, slice_index, Option, Some, None, All}
+-- Which prefixes of a vector are live: each test whose decisions all stand in the prefix holds, and where all decisions stand in it
+-- the rules are true and the bounds are kept.
+use Rattle.std.specs.Prelude.{◌≡◌, ℕ, ◌<◌, ◌≤◌, ◌+◌, ◌-◌, List, length, map, filter, drop, false, slice_index, Option, Some, None, All}
 use Rattle.xdg_problem.specs.declared.analysis.Edge.{Edge}
 use Rattle.xdg_problem.specs.declared.parts.Group.{Group}
 use Rattle.xdg_problem.specs.declared.parts.Parts.{Parts}
 use Rattle.xdg_problem.specs.Places.{nodes, places}
-use Rattle.xdg_problem.specs.Vectors.{first_place, edges_in}
+use Rattle.xdg_problem.specs.Vectors.{shape, first_place, edges_in, analysis_of}
+use Rattle.xdg_problem.specs.Relations.{IsKeptWhole}
 use Rattle.xdg_problem.specs.Tests.{Test, IsTest, looks_at, entry_node, test_attrs, Passes}
 
 -- the edge places that a prefix leaves open
@@ -36,8 +38,10 @@ pub record Stands (parts : Parts) (group : Group) (test : Test) (prefix : List �
 abbrev pub Holds : Parts → Group → Test → List ℕ → Type 0
 Holds parts group test prefix = Passes (nodes parts) group test (entry_in (entry_node test) prefix) (map (attr_in parts prefix) (test_attrs parts group test)) (filter (looks_at group test) (edges_in parts prefix))
 
-abbrev pub IsLiveFor : Parts → Group → List ℕ → Type 0
-IsLiveFor parts group prefix = (test : Test) → IsTest parts group test → Stands parts group test prefix → Holds parts group test prefix
+-- a prefix is live for a principle use
+pub record IsLiveFor (parts : Parts) (group : Group) (prefix : List ℕ) : Type 0 where
+  pub tests : (test : Test) → IsTest parts group test → Stands parts group test prefix → Holds parts group test prefix
+  pub whole : length (shape parts) ≤ length prefix → IsKeptWhole parts group (analysis_of parts prefix)
 
 abbrev pub Live : Parts → List ℕ → Type 0
 Live parts prefix = All (λ group. IsLiveFor parts group prefix) parts.groups

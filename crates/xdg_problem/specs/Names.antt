@@ -1,4 +1,4 @@
--- What principles are called in grammar texts.
+-- What principles are called.
 use Rattle.std.specs.Prelude.{◌≡◌, ℕ, List, Option, None, Some, codes}
 use Rattle.xdg_problem.specs.declared.parts.Principle.{Principle}
 use Rattle.xdg_problem.specs.declared.parts.Principle.TheVariants as principles
@@ -24,8 +24,16 @@ name_of principles.LinkingBelowStart = codes "principle.linkingBelowStart"
 name_of principles.LinkingAboveStart = codes "principle.linkingAboveStart"
 name_of principles.LinkingSisters = codes "principle.linkingSisters"
 name_of principles.LinkingNotDaughter = codes "principle.linkingNotDaughter"
+name_of (principles.Rule formula) = codes "rule"
+name_of (principles.Bound costs bound) = codes "bound"
 
--- the principle of that name, or that there is none
+-- grammar texts can use the principle
+abbrev pub IsOfTexts : Principle → Type 0
+IsOfTexts (principles.Rule formula) = ⊥
+IsOfTexts (principles.Bound costs bound) = ⊥
+IsOfTexts principle = Unit {0}
+
+-- the principle of grammar texts that has the name, or that there is none
 abbrev pub IsNamed : List ℕ → Option Principle → Type 0
-IsNamed name None = (principle : Principle) → name_of principle ≡ name → ⊥
-IsNamed name (Some principle) = (name_of principle ≡ name) × ((other : Principle) → name_of other ≡ name → other ≡ principle)
+IsNamed name None = (principle : Principle) → IsOfTexts principle → name_of principle ≡ name → ⊥
+IsNamed name (Some principle) = IsOfTexts principle × (name_of principle ≡ name) × ((other : Principle) → name_of other ≡ name → other ≡ principle)

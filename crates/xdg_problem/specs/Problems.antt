@@ -13,6 +13,7 @@ use Rattle.xdg_problem.specs.declared.parts.Shown.TheVariants as shown
 use Rattle.xdg_problem.specs.declared.parts.Principle.{Principle}
 use Rattle.xdg_problem.specs.declared.parts.Principle.TheVariants as principles
 use Rattle.xdg_problem.specs.Places.{nodes}
+use Rattle.xdg_problem.specs.Claims.{Suits}
 use Rattle.xdg_problem.specs.Arguments.{first_dim, second_dim, label_count, attr_count, value_count, attr_of}
 
 -- the candidates of a node: 1 to 1,024, rising
@@ -74,6 +75,8 @@ dim_arguments principles.LinkingBelowStart = 3
 dim_arguments principles.LinkingAboveStart = 3
 dim_arguments principles.LinkingSisters = 3
 dim_arguments principles.LinkingNotDaughter = 3
+dim_arguments (principles.Rule formula) = 0
+dim_arguments (principles.Bound costs bound) = 0
 dim_arguments principle = 1
 
 -- how many attributes of its dimension a principle takes
@@ -119,8 +122,13 @@ AreFeatures principles.LinkingNotDaughter parts group features = (length feature
 -- the other principles take none
 AreFeatures principle parts group features = length features ≡ 0
 
+-- what a principle holds goes with the problem: the formula of a rule. What costs speak of need not be there.
+abbrev pub IsSuited : Principle → Parts → Type 0
+IsSuited (principles.Rule formula) parts = Suits parts formula
+IsSuited principle parts = Unit {0}
+
 -- a principle use: as many dimensions, attributes and truth values as the principle takes, those that are numbers in
--- range, and the features for each candidate of each node
+-- range, the features for each candidate of each node, and a principle that goes with the problem
 pub record IsGroup (parts : Parts) (group : Group) : Type 0 where
   pub dims_count : length group.dims ≡ dim_arguments group.principle
   pub dims : All (λ dim. dim.0 < length parts.dims) group.dims
@@ -131,6 +139,7 @@ pub record IsGroup (parts : Parts) (group : Group) : Type 0 where
   pub feats : length group.feats ≡ nodes parts
   pub feats_each : (v : ℕ) → v < nodes parts → length (slice_index_or group.feats v []) ≡ length (slice_index_or parts.candidates v [])
   pub features : (v : ℕ) → v < nodes parts → All (AreFeatures group.principle parts group) (slice_index_or group.feats v [])
+  pub suits : IsSuited group.principle parts
 
 -- a problem: 1 to 128 words, candidates for each, at most 8 dimensions with different names, and principle uses on them
 pub record IsProblem (parts : Parts) : Type 0 where

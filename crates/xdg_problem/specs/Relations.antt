@@ -8,7 +8,7 @@ use Rattle.xdg_problem.specs.declared.parts.Group.{Group}
 use Rattle.xdg_problem.specs.declared.parts.Parts.{Parts}
 use Rattle.xdg_problem.specs.Vectors.{entry_places}
 use Rattle.xdg_problem.specs.Conditions.{conditions_of, IsTuple}
-use Rattle.xdg_problem.specs.Asking.{Asks}
+use Rattle.xdg_problem.specs.Asking.{Asks, AsksWhole}
 
 -- a condition holds: what it asks holds of each tuple in its range
 abbrev pub IsKept : Parts → Group → List ℕ → List ℕ → List Edge → Condition → Type 0
@@ -17,6 +17,10 @@ IsKept parts group candidates attrs edges condition = (tuple : List ℕ) → IsT
 -- an analysis satisfies one use of a principle: each of its conditions holds
 abbrev pub Relation : Parts → Group → Analysis → Type 0
 Relation parts group analysis = All (IsKept parts group (entry_places parts.candidates analysis.entries) analysis.attrs analysis.edges) (conditions_of group)
+
+-- what a use of a principle asks of all decisions together holds of an analysis: of a rule or a bound its relation, of others nothing
+abbrev pub IsKeptWhole : Parts → Group → Analysis → Type 0
+IsKeptWhole parts group analysis = AsksWhole group.principle parts (entry_places parts.candidates analysis.entries) analysis.attrs analysis.edges
 
 -- a tuple in the range of a condition breaks it
 pub record Breaks (parts : Parts) (group : Group) (analysis : Analysis) (condition : Condition) (tuple : List ℕ) : Type 0 where

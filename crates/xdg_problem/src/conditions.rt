@@ -33,4 +33,8 @@ pub enum Condition {
     Blocked,
     /// `u l v`: an edge u -l-> v on the first dimension is linked to the second as the entry of u asks.
     Link,
+    /// No node and no label: the formula is true.
+    Rule,
+    /// No node and no label: the cost is below the bound.
+    Bound,
 }

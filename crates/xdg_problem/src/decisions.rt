@@ -44,7 +44,8 @@ fn count_all(dims: &[DimPlan], nodes: u64) -> u64
 #[tactic(auto, using(crate::proofs::Counted::count_shape))]
 pub fn count(parts: &Parts) -> u64
     requires { IsProblem parts.now }
-    ensures { result ≡ length (shape parts.now) }
+    ensures exact { result ≡ length (shape parts.now) }
+    ensures small { result ≤ 4169856 }
 {
     let nodes = parts.words.len() as u64;
     parts.candidates.len() as u64 + count_all(parts.dims.as_slice(), nodes)

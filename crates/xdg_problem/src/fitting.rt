@@ -12,6 +12,7 @@ ghost use Rattle.xdg_problem.specs.Values.{AreValues, value_counts};
 
 use crate::analysis::{Analysis, Edge, is_before};
 use crate::parts::{AttrPlan, DimPlan, Parts};
+use crate::shared::SharedList;
 use xdg_base::{EntryNo, List};
 
 /// Whether an entry is one of the candidates.
@@ -28,7 +29,7 @@ fn is_candidate(candidates: &[EntryNo], entry: EntryNo) -> bool
 
 /// Whether each node has one of its candidates.
 #[tactic(auto, using(crate::proofs::FitSteps::entries_lengths, crate::proofs::FitSteps::entries_step, crate::proofs::FitSteps::entries_refused, crate::proofs::FitSteps::entries_end))]
-fn entries_fit(candidates: &[List<EntryNo>], entries: &[EntryNo]) -> bool
+fn entries_fit(candidates: &[SharedList<EntryNo>], entries: &[EntryNo]) -> bool
     ensures { IsTrue result ↔ HasCandidates candidates.now entries.now }
 {
     if entries.len() != candidates.len() {

@@ -5,24 +5,35 @@
 #![tactic(auto)]
 
 mod analysis;
+mod branching;
 mod comparing;
 mod conditions;
+mod copying;
+mod costing;
+mod costs;
 mod decisions;
 mod fitting;
+mod formula;
 mod laws;
 mod names;
 mod numbers;
 mod parts;
 mod places;
 mod problem;
-mod rows;
+mod shared;
 mod sizes;
+mod uses;
+mod with_bound;
+mod with_rules;
 
 pub use analysis::{Analysis, Edge, is_before};
 pub use conditions::Condition;
-pub use laws::{live_laws, solution_laws, verdict_laws};
+pub use costing::cost_of;
+pub use costs::Costs;
+pub use formula::Formula;
+pub use laws::{branch_laws, further_laws, live_laws, solution_laws, verdict_laws};
 pub use names::{principle_name, principle_named};
 pub use numbers::Nums;
 pub use parts::{AttrPlan, DimPlan, Feat, Group, Parts, Principle, SentenceWord, Shown};
 pub use problem::Problem;
-pub use rows::Rows;
+pub use shared::SharedList;

@@ -5,9 +5,9 @@ ghost use Rattle.xdg_problem.specs.Names as names;
 
 use crate::parts::Principle;
 
-/// The name of a principle in grammar texts.
-pub fn principle_name(principle: Principle) -> &'static str
-    ensures { result.now ≡ names.name_of principle }
+/// The name of a principle: that in grammar texts, or `rule` or `bound`.
+pub fn principle_name(principle: &Principle) -> &'static str
+    ensures { result.now ≡ names.name_of principle.now }
 {
     match principle {
         Principle::Graph => "principle.graph",
@@ -29,10 +29,12 @@ pub fn principle_name(principle: Principle) -> &'static str
         Principle::LinkingAboveStart => "principle.linkingAboveStart",
         Principle::LinkingSisters => "principle.linkingSisters",
         Principle::LinkingNotDaughter => "principle.linkingNotDaughter",
+        Principle::Rule(_) => "rule",
+        Principle::Bound(_, _) => "bound",
     }
 }
 
-/// The principle that is called so, if there is one.
+/// The principle that is called so in grammar texts, if there is one.
 pub fn principle_named(name: &str) -> Option<Principle>
     ensures { names.IsNamed name.now result }
 {

@@ -1,6 +1,9 @@
 //! The parts of a compiled sentence.
 
-use crate::rows::Rows;
+use crate::costs::Costs;
+use crate::formula::Formula;
+use crate::numbers::Nums;
+use crate::shared::SharedList;
 use xdg_base::{AttrId, DimId, EntryNo, LabelId, List, Text};
 
 /// A word of the sentence.
@@ -39,12 +42,12 @@ pub struct DimPlan {
 /// numbers of its cardinality or the members of its set there.
 #[derive(Debug, Drop)]
 pub struct Feat {
-    pub rows: Rows,
+    pub rows: SharedList<Nums>,
 }
 
 /// A principle (Debusmann 2006, chapters 4 and 7). D is its dimension, D1 and D2 are its first and second one; u and v are
 /// nodes, and u -l-> v is an edge with label l from u to v. A set that belongs to a node is a feature of its entry.
-#[derive(Clone, Copy, Debug, PartialEq, Eq)]
+#[derive(Debug, Drop)]
 pub enum Principle {
     /// D has edges. This alone asks nothing more.
     Graph,
@@ -84,6 +87,10 @@ pub enum Principle {
     LinkingSisters,
     /// A daughter v of u on D1 is no daughter of u on D2, at the labels that u names.
     LinkingNotDaughter,
+    /// The formula of a user is true. No grammar text uses it.
+    Rule(Formula),
+    /// The cost is below a bound. No grammar text uses it.
+    Bound(Costs, u64),
 }
 
 /// One use of a principle, with its dimensions and arguments in the order in which the principle names them (the page
@@ -96,8 +103,9 @@ pub struct Group {
     /// The labels of the argument `Order`.
     pub order: List<LabelId>,
     pub truths: List<bool>,
-    /// For each node, in it for each candidate entry, in it for each feature argument, the feature.
-    pub feats: List<List<List<Feat>>>,
+    /// For each node, in it for each candidate entry, in it for each feature argument, the feature. Nodes with the same candidates
+    /// share theirs.
+    pub feats: List<SharedList<List<Feat>>>,
 }
 
 /// What a problem is made of.
@@ -106,9 +114,9 @@ pub struct Parts {
     /// The words, one for each node.
     pub words: List<SentenceWord>,
     /// For each node the entries of its word, rising.
-    pub candidates: List<List<EntryNo>>,
+    pub candidates: List<SharedList<EntryNo>>,
     /// The used dimensions, in the order of their `usedim` statements.
-    pub dims: List<DimPlan>,
+    pub dims: SharedList<DimPlan>,
     /// The principle uses of the used dimensions, in text order.
     pub groups: List<Group>,
 }

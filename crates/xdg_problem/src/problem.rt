@@ -28,6 +28,11 @@ impl Model for Problem {
 
     ghost Value = { Parts };
 
+    ghost use Rattle.std.specs.Coded.{codes};
+    ghost use Rattle.xdg_problem.specs.contracts.formula.Formula as formula;
+
+    ghost coded = { Prim.hlevel (codes, formula.the_row.coded) };
+
     ghost view = { λ problem. problem.parts };
 
     ghost invariant = { λ problem. IsProblem problem.parts };
@@ -48,6 +53,14 @@ impl Problem {
         ensures kept { IsProblem self.now }
     {
         &self.parts
+    }
+
+    /// The parts, given back.
+    pub(crate) fn into_parts(self) -> Parts
+        ensures same { result ≡ self }
+        ensures kept { IsProblem self }
+    {
+        self.parts
     }
 
     /// How many decisions the sentence has: one for each node, attribute of a node, and place of an edge.

@@ -1,2 +1,4 @@
 pub mod Asked
 pub mod Answers
+pub mod Splits
+pub mod Finds

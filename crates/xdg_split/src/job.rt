@@ -1,10 +1,14 @@
 //! Jobs.
 
-ghost use Rattle.std.specs.Prelude.{◌≡◌, IfOk};
+ghost use Rattle.std.specs.Prelude.{◌≡◌, [], ◌∷◌, IfOk};
+ghost use Rattle.xdg_problem.specs.Problems.{IsProblem};
 ghost use Rattle.xdg_split.specs.Answers.{IsAnswer};
 ghost use Rattle.xdg_split.specs.Asked.{IsJob, asked};
+ghost use Rattle.xdg_split.specs.Splits.{IsSplit};
 
 use crate::answer::Answer;
+use crate::finding::find;
+use crate::found::Found;
 use crate::kept::Kept;
 use std::alloc::Global;
 use std::marker::Model;
@@ -12,6 +16,7 @@ use xdg_analyses::{Form, Printed, print_analyses};
 use xdg_base::{List, OutOfMemory};
 use xdg_problem::Problem;
 use xdg_propcore::Propagator;
+use xdg_stream::Stream;
 
 /// A sentence that is to be searched from the beginning, with a budget of its own. Contracts see what is asked for. The propagators
 /// are no part of that: by whichever a sentence is searched, its answer is the same.
@@ -71,5 +76,29 @@ impl<P: Propagator> Job<P> {
             Printed::Failed => Err(OutOfMemory),
             Printed::OutOfMemory => Err(OutOfMemory),
         }
+    }
+
+    /// How many analyses are wanted, or all.
+    pub(crate) fn first(&self) -> Option<u64>
+        ensures { result ≡ self.now.first }
+    {
+        self.first
+    }
+
+    /// Says what its sentence is, and does nothing.
+    pub(crate) fn know_problem(&self)
+        ensures { IsProblem self.now.parts }
+    {
+        let _parts = self.problem.parts();
+    }
+
+    /// Searches the sentence and keeps what is found. The memory of the search is given back when it has ended.
+    pub(crate) fn search(&self, alloc: Global) -> Result<Found, OutOfMemory>
+        ensures { IfOk result (λ found. IsSplit self.now.first (self.now ∷ []) found.ending found.found.items) }
+    {
+        let _parts = self.problem.parts();
+        let mut stream =
+            Stream::start(alloc, &self.problem, self.props.as_slice(), self.budget, None)?;
+        find(alloc, &mut stream, self.first)
     }
 }

@@ -1,11 +1,16 @@
-//! Sentences searched side by side. Each is searched by itself, so its answer is the one that it has alone.
+//! Sentences searched side by side. Each is searched by itself, so its answer is the one that it has alone; or what they find is put
+//! together, one behind the other, so that the parts of one sentence answer for it.
 #![tactic(auto)]
 
 mod answer;
 mod answering;
+mod finding;
+mod found;
 mod job;
 mod kept;
+mod splitting;
 
 pub use answer::Answer;
 pub use answering::answers;
 pub use job::Job;
+pub use splitting::{SplitAnswer, split, split_laws};

@@ -10,7 +10,7 @@ ghost use Rattle.xdg_problem.specs.Vectors.{analysis_of, chosen, entries_at, sha
 use std::alloc::{AllocError, Global};
 use std::marker::Model;
 use xdg_base::{EntryNo, List};
-use xdg_problem::{Edge, Problem};
+use xdg_problem::{Edge, Problem, SharedList};
 
 /// A vector of decisions, whole or not, with the entries and edges that it stands for. All memory is taken at the start.
 #[derive(Debug, Drop)]
@@ -58,7 +58,7 @@ pub(crate) fn refill_numbers(held: &mut Vec<u16>, numbers: &[u16])
 }
 
 /// Puts the entries of a vector in the place of others, in the memory that is there.
-fn refill_entries(held: &mut Vec<EntryNo>, candidates: &[List<EntryNo>], numbers: &[u16])
+fn refill_entries(held: &mut Vec<EntryNo>, candidates: &[SharedList<EntryNo>], numbers: &[u16])
     requires { length candidates.now ≤ vec_capacity held.old }
     ensures items { held.new.items ≡ entries_at candidates.now numbers.now }
     ensures room { vec_capacity held.new ≡ vec_capacity held.old }

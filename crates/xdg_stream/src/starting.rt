@@ -12,7 +12,7 @@ ghost use Rattle.xdg_stream.specs.Vectored.{marks, stands_first};
 
 use std::alloc::{AllocError, Global};
 use xdg_base::{EntryNo, List};
-use xdg_problem::{Analysis, Edge, Problem};
+use xdg_problem::{Analysis, Edge, Problem, SharedList};
 
 /// The place of an entry among the candidates of its node.
 fn place_of(candidates: &[EntryNo], entry: EntryNo) -> u16
@@ -28,7 +28,7 @@ fn place_of(candidates: &[EntryNo], entry: EntryNo) -> u16
 }
 
 /// Adds the places of entries among the candidates of their nodes.
-fn push_entries(numbers: &mut Vec<u16>, candidates: &[List<EntryNo>], entries: &[EntryNo])
+fn push_entries(numbers: &mut Vec<u16>, candidates: &[SharedList<EntryNo>], entries: &[EntryNo])
     requires small { All (λ (list : List EntryNo). length list ≤ 1024) candidates.now }
     requires room { length numbers.old.items + length candidates.now ≤ vec_capacity numbers.old }
     ensures items { numbers.new.items ≡ numbers.old.items ++ entry_places candidates.now entries.now }

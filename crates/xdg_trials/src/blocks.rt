@@ -7,7 +7,9 @@ use std::alloc::{AllocError, Global};
 use std::test::Fail;
 use xdg_base::{Bytes, DimId, EntryNo, LabelId, List, NodeId, Text};
 use xdg_io::MemSink;
-use xdg_problem::{Analysis, AttrPlan, DimPlan, Edge, Parts, Problem, SentenceWord, Shown};
+use xdg_problem::{
+    Analysis, AttrPlan, DimPlan, Edge, Parts, Problem, SentenceWord, SharedList, Shown,
+};
 use xdg_text::{push, write, write2};
 
 fn one<T: Drop>(alloc: Global, item: T) -> Result<List<T>, AllocError>
@@ -100,12 +102,12 @@ fn problem(alloc: Global) -> Result<Problem, AllocError>
     let first = word(alloc, "der", 0)?;
     let second = word(alloc, "Frau", 4)?;
     let words = two(alloc, first, second)?;
-    let first = one(alloc, EntryNo(9))?;
-    let second = one(alloc, EntryNo(3))?;
+    let first = SharedList::of(alloc, one(alloc, EntryNo(9))?)?;
+    let second = SharedList::of(alloc, one(alloc, EntryNo(3))?)?;
     let candidates = two(alloc, first, second)?;
     let id = id_plan(alloc)?;
     let lp = lp_plan(alloc)?;
-    let dims = two(alloc, id, lp)?;
+    let dims = SharedList::of(alloc, two(alloc, id, lp)?)?;
     Ok(Problem::of(Parts {
         words,
         candidates,

@@ -9,7 +9,7 @@ use std::sync::atomic::{AtomicBool, Ordering};
 use std::test::Fail;
 use xdg_base::{DimId, EntryNo, List, OutOfMemory, Text};
 use xdg_listing::Ending;
-use xdg_problem::{DimPlan, Group, Parts, Principle, Problem, SentenceWord};
+use xdg_problem::{DimPlan, Group, Parts, Principle, Problem, SentenceWord, SharedList};
 use xdg_propcore::{Moved, Propagator, Wake};
 use xdg_split::{Job, answers};
 use xdg_store::Store;
@@ -82,7 +82,7 @@ fn graph_use(alloc: Global) -> Result<Group, AllocError>
     ensures { IfOk result (λ group. group ≡ graph_use) }
 {
     let dims = one(alloc, DimId(0))?;
-    let of_node = one(alloc, List::new(alloc))?;
+    let of_node = SharedList::of(alloc, one(alloc, List::new(alloc))?)?;
     let feats = one(alloc, of_node)?;
     Ok(Group {
         principle: Principle::Graph,
@@ -100,10 +100,10 @@ fn problem(alloc: Global) -> Result<Problem, AllocError>
 {
     let text = Text::from_str(alloc, "a")?;
     let words = one(alloc, SentenceWord { text, at: 0 })?;
-    let entries = one(alloc, EntryNo(3))?;
+    let entries = SharedList::of(alloc, one(alloc, EntryNo(3))?)?;
     let candidates = one(alloc, entries)?;
     let plan = plan(alloc)?;
-    let dims = one(alloc, plan)?;
+    let dims = SharedList::of(alloc, one(alloc, plan)?)?;
     let group = graph_use(alloc)?;
     let groups = one(alloc, group)?;
     Ok(Problem::of(Parts {

@@ -8,7 +8,8 @@ use std::alloc::{AllocError, Global};
 use std::test::Fail;
 use xdg_base::{AttrId, DimId, EntryNo, List, NodeId, Text};
 use xdg_problem::{
-    AttrPlan, DimPlan, Feat, Group, Nums, Parts, Principle, Problem, Rows, SentenceWord, Shown,
+    AttrPlan, DimPlan, Feat, Group, Nums, Parts, Principle, Problem, SentenceWord, SharedList,
+    Shown,
 };
 use xdg_propcore::{Agenda, Fixpoint, Moved, Propagator, Wake, settle};
 use xdg_store::{Change, Store};
@@ -80,15 +81,15 @@ fn plan(alloc: Global) -> Result<DimPlan, AllocError>
 }
 
 // The set of the first value, for the only candidate of the only node.
-fn feats(alloc: Global) -> Result<List<List<List<Feat>>>, AllocError>
+fn feats(alloc: Global) -> Result<List<SharedList<List<Feat>>>, AllocError>
     ensures { IfOk result (λ feats. feats ≡ ((first_alone ∷ []) ∷ []) ∷ []) }
 {
     let mut numbers = Vec::new(alloc);
     numbers.push(0)?;
     let rows = one(alloc, Nums::of(numbers))?;
-    let rows = Rows::of(alloc, rows)?;
+    let rows = SharedList::of(alloc, rows)?;
     let of_entry = one(alloc, Feat { rows })?;
-    let of_node = one(alloc, of_entry)?;
+    let of_node = SharedList::of(alloc, one(alloc, of_entry)?)?;
     one(alloc, of_node)
 }
 
@@ -114,10 +115,10 @@ fn problem(alloc: Global) -> Result<Problem, AllocError>
 {
     let text = Text::from_str(alloc, "a")?;
     let words = one(alloc, SentenceWord { text, at: 0 })?;
-    let entries = one(alloc, EntryNo(3))?;
+    let entries = SharedList::of(alloc, one(alloc, EntryNo(3))?)?;
     let candidates = one(alloc, entries)?;
     let plan = plan(alloc)?;
-    let dims = one(alloc, plan)?;
+    let dims = SharedList::of(alloc, one(alloc, plan)?)?;
     let group = agr_use(alloc)?;
     let groups = one(alloc, group)?;
     Ok(Problem::of(Parts {

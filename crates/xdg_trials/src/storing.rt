@@ -6,7 +6,7 @@ ghost use Rattle.xdg_store.specs.Example.{colour, plan, small};
 use std::alloc::{AllocError, Global};
 use std::test::Fail;
 use xdg_base::{AttrId, DimId, EntryNo, LabelId, List, NodeId, Text};
-use xdg_problem::{AttrPlan, DimPlan, Edge, Parts, Problem, SentenceWord, Shown};
+use xdg_problem::{AttrPlan, DimPlan, Edge, Parts, Problem, SentenceWord, SharedList, Shown};
 use xdg_store::{Change, Store};
 
 fn one<T: Drop>(alloc: Global, item: T) -> Result<List<T>, AllocError>
@@ -66,11 +66,10 @@ fn problem(alloc: Global) -> Result<Problem, AllocError>
     let first = word(alloc, "a", 0)?;
     let second = word(alloc, "b", 2)?;
     let words = two(alloc, first, second)?;
-    let first = two(alloc, EntryNo(3), EntryNo(5))?;
-    let second = two(alloc, EntryNo(3), EntryNo(5))?;
-    let candidates = two(alloc, first, second)?;
+    let entries = SharedList::of(alloc, two(alloc, EntryNo(3), EntryNo(5))?)?;
+    let candidates = two(alloc, entries.share()?, entries)?;
     let plan = plan(alloc)?;
-    let dims = one(alloc, plan)?;
+    let dims = SharedList::of(alloc, one(alloc, plan)?)?;
     Ok(Problem::of(Parts {
         words,
         candidates,

@@ -112,7 +112,7 @@ fn write_verdict<K: Sink>(
     ensures quiet { OnOk result (K.faults sink.new ≡ K.faults sink.old) }
 {
     write_first(number, sink)?;
-    write_word(principle_name(group.principle), sink)?;
+    write_word(principle_name(&group.principle), sink)?;
     write_dims(parts, group.dims.as_slice(), sink)?;
     write_said(labels_of(parts, group), verdict, sink)?;
     write_all(sink, b"\n")

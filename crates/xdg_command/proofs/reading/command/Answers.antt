@@ -4,7 +4,7 @@ use Rattle.std.specs.String.{string_bytes}
 use Rattle.xdg_command.specs.Answers.{IsExactly}
 use Rattle.xdg_command.specs.Commands.{IsCommand}
 use Rattle.xdg_command.specs.Verbs.{verb_of}
-use Rattle.xdg_command.proofs.Commanded.{by_verb, no_verb, one_command}
+use Rattle.xdg_command.proofs.Naming.{by_verb, no_verb, one_command}
 use Rattle.xdg_command.proofs.reading.command.Goals as goal
 
 pub returns-in-Some-verb_of-clause-exact : goal.returns-in-Some-verb_of-clause-exact

@@ -6,7 +6,7 @@ use Rattle.xdg_command.specs.declared.commands.ParseOptions.{ParseOptions}
 use Rattle.xdg_command.specs.declared.commands.TextForm.{TextForm}
 use Rattle.xdg_command.specs.Found.{Matches}
 use Rattle.xdg_command.specs.Syntax.{parsed}
-use Rattle.xdg_command.proofs.Commanded.{bad_budget, bad_first, bad_text, parse_found, parse_missing, parse_none, parsed_right, segment_found}
+use Rattle.xdg_command.proofs.Commanded.{bad_budget, bad_first, bad_text, parse_found, parse_missing, parse_none, parsed_right, segment_found, split_found}
 use Rattle.xdg_command.proofs.reading.parse.Goals as goal
 
 pub returns-in_default : goal.returns-in_default
@@ -49,10 +49,12 @@ returns c =
       first = c.in-Some-first.first;
       segment = c.get_flag-segment.result;
       text = c.in-Some-text_form.text;
+      split = c.get_flag-split.result;
     } in
     parse_found words c.in-Some.found matched options
     (sym c.in-Some-get_str.ensures ∙ ap (λ x. Some x) (sym c.in_ok-grammar.ensures))
     (subst (λ o. IsExactly (HasBudget o) (Some options.budget)) c.get_str-2.ensures c.in-Some-budget.ensures)
     (subst (λ o. IsExactly (HasFirst o) (Some options.first)) c.get_str-3.ensures c.in-Some-first.ensures)
     (subst (λ o. IsExactly (HasText o) (Some options.text)) c.get_str-4.ensures c.in-Some-text_form.ensures)
-    (segment_found words c.in-Some.found matched options.segment c.get_flag-segment.ensures.none c.get_flag-segment.ensures.value c.get_flag-segment.ensures.other)
+    (segment_found words c.in-Some.found matched options.segment c.get_flag-segment.ensures.value c.get_flag-segment.ensures.other)
+    (split_found words c.in-Some.found matched options.split c.get_flag-split.ensures.value c.get_flag-split.ensures.other)

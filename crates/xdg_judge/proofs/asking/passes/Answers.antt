@@ -5,7 +5,7 @@ use Rattle.xdg_problem.specs.Arguments.{first_dim}
 use Rattle.xdg_problem.specs.Features.{in_row, out_row}
 use Rattle.xdg_problem.specs.Paths.{edges_on}
 use Rattle.xdg_problem.specs.Vectors.{entry_places}
-use Rattle.xdg_judge.specs.Searching.{tuple_for}
+use Rattle.xdg_judge.specs.Searching.{IsSearched, tuple_for}
 use Rattle.xdg_judge.specs.Verdicts.{AsksHere}
 use Rattle.xdg_judge.proofs.Asked.{arm}
 use Rattle.xdg_judge.proofs.Tallies.{at_most_one, tallied}
@@ -44,3 +44,12 @@ returns-in-OutCount c =
     let is = tallied c.args.condition conditions.OutCount (edges_on (first_dim c.args.view.now.group.now) c.args.view.now.analysis.now.edges) c.args.counts.now c.args.u c.args.x c.counted-in-OutCount.result c.in-OutCount.is c.requires.counts c.counted-in-OutCount.ensures in
     arm (λ k. IsTrue c.passes_out.result ↔ AsksHere c.args.view.now.parts.now c.args.view.now.group.now c.args.view.now.analysis.now k (tuple_for k c.args.u c.args.x c.args.y)) c.args.condition conditions.OutCount c.in-OutCount.is
     (subst (λ n. IsTrue c.passes_out.result ↔ Contains (out_row c.args.view.now.group.now c.args.u (slice_index (entry_places c.args.view.now.parts.now.candidates c.args.view.now.analysis.now.entries) c.args.u) c.args.x) n) is c.passes_out.ensures)
+
+pub returns-in-Roots : goal.returns-in-Roots
+returns-in-Roots c = absurd (subst IsSearched c.in-Roots.is c.requires.searched)
+
+pub returns-in-Rule : goal.returns-in-Rule
+returns-in-Rule c = absurd (subst IsSearched c.in-Rule.is c.requires.searched)
+
+pub returns-in-Bound : goal.returns-in-Bound
+returns-in-Bound c = absurd (subst IsSearched c.in-Bound.is c.requires.searched)

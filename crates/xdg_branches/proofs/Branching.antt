@@ -1,0 +1,180 @@
+-- What the branches of a sentence find is a front of the list of its solutions.
+use Rattle.std.proofs.Common.{◌≡◌, ◌≢◌, ℕ, ◌<◌, ◌≤◌, ◌+◌, Bool, true, false, List, [], ◌∷◌, ◌++◌, length, map, take, zero, suc, refl, ap, ap₂, sym, ◌∙◌, subst, arith, Some, None}
+use Rattle.std.specs.Prelude.{All, Option}
+use Rattle.std.proofs.Math.Seq.{take-length}
+use Rattle.std.proofs.lemmas.List.{length-take-le, take-take}
+use Rattle.std.proofs.lemmas.List.Elements.{All-nil, All-cons, All-take, All-weaker}
+use Rattle.xdg_analyses.specs.Printed.{blocks, last_line}
+use Rattle.xdg_analyses.specs.declared.forms.Form.{Form}
+use Rattle.xdg_branches.specs.Branched.{CanBranch, IsBranched, PrintsBranches, branch_job, branch_jobs}
+use Rattle.xdg_branches.specs.Laws.{BranchedLaws, IsFrontOf, IsOneBranched}
+use Rattle.xdg_listing.specs.Endings.{IsBelow}
+use Rattle.xdg_listing.specs.declared.Ending.{Ending}
+use Rattle.xdg_listing.specs.declared.Ending.TheVariants as endings
+use Rattle.xdg_problem.specs.declared.analysis.Analysis.{Analysis}
+use Rattle.xdg_problem.specs.declared.parts.Parts.{Parts}
+use Rattle.xdg_problem.specs.Analyses.{IsAnalysis}
+use Rattle.xdg_problem.specs.Branches.{branch_of, first_candidates}
+use Rattle.xdg_problem.specs.BranchLaws.{AreBranchLists, joined}
+use Rattle.xdg_problem.specs.Places.{below, numbers_from}
+use Rattle.xdg_problem.specs.Problems.{IsProblem}
+use Rattle.xdg_problem.specs.Solutions.{IsSolution, IsSolutionList}
+use Rattle.xdg_problem.proofs.BranchSolutions.{branch_laws}
+use Rattle.xdg_problem.proofs.BranchesJoined.{branches_join}
+use Rattle.xdg_problem.proofs.OneList.{some_solution_list}
+use Rattle.xdg_split.specs.Asked.{Asked, asked}
+use Rattle.xdg_split.specs.Splits.{AllWant, AreFirst, AreProblems, Ends, IsSplit, IsWhole, Reach, wanted_of}
+use Rattle.xdg_split.specs.Splits.Reaches.{all, some}
+use Rattle.xdg_split.proofs.Reaching.{not_both}
+use Rattle.xdg_split.proofs.Splitting.{have_one_split}
+
+-- ---- fronts of lists
+
+-- the first list begins the second
+abbrev Begins : List Analysis → List Analysis → Type 0
+Begins xs ys = xs ≡ take (length xs) ys
+
+begins_same : (xs : List Analysis) → Begins xs xs
+begins_same xs = sym (take-length xs)
+
+begins_more : (xs ys : List Analysis) → Begins xs (xs ++ ys)
+begins_more [] ys = refl
+begins_more (x ∷ xs) ys = ap (λ z. x ∷ z) (begins_more xs ys)
+
+begins_behind : (xs ys zs : List Analysis) → Begins ys zs → Begins (xs ++ ys) (xs ++ zs)
+begins_behind [] ys zs b = b
+begins_behind (x ∷ xs) ys zs b = ap (λ z. x ∷ z) (begins_behind xs ys zs b)
+
+begins_take : (n : ℕ) (xs : List Analysis) → Begins (take n xs) xs
+begins_take zero xs = refl
+begins_take (suc n) [] = refl
+begins_take (suc n) (x ∷ xs) = ap (λ z. x ∷ z) (begins_take n xs)
+
+begins_on : (xs ys zs : List Analysis) → Begins xs ys → Begins ys zs → Begins xs zs
+begins_on [] ys zs b c = refl
+begins_on (x ∷ xs) [] zs b c = absurd (let n = ap length b in omega (arith, n))
+begins_on (x ∷ xs) (y ∷ ys) [] b c = absurd (let n = ap length c in omega (arith, n))
+begins_on (x ∷ xs) (y ∷ ys) (z ∷ zs) b c =
+    ap₂ (λ u us. u ∷ us) (ap (head x) b ∙ ap (head y) c) (begins_on xs ys zs (ap tail b) (ap tail c))
+  where
+    head : Analysis → List Analysis → Analysis
+    head d [] = d
+    head d (u ∷ us) = u
+
+    tail : List Analysis → List Analysis
+    tail [] = []
+    tail (u ∷ us) = us
+
+-- ---- what the branches reach
+
+module _ (parts : Parts) (is : IsProblem parts) (budget : ℕ) (wanted : Option ℕ) where
+  abbrev count : ℕ
+  count = length (first_candidates parts)
+
+  abbrev jobs_from : ℕ → ℕ → List Asked
+  jobs_from place n = map (branch_job parts budget wanted) (numbers_from place n)
+
+  branch_is : (place : ℕ) → place < count → IsProblem (branch_of parts place)
+  branch_is place within = (branch_laws parts place is within).problem
+
+  problems_from : (place n : ℕ) → place + n ≤ count → AreProblems (jobs_from place n)
+  problems_from place zero within = All-nil (λ (job : Asked). IsProblem job.parts)
+  problems_from place (suc n) within = All-cons (λ (job : Asked). IsProblem job.parts) (branch_job parts budget wanted place) (jobs_from (suc place) n) (branch_is place (omega (arith, within))) (problems_from (suc place) n (omega (arith, within)))
+
+  wants_from : (place n : ℕ) → AllWant wanted (jobs_from place n)
+  wants_from place zero = All-nil (λ (job : Asked). job.first ≡ wanted)
+  wants_from place (suc n) = All-cons (λ (job : Asked). job.first ≡ wanted) (branch_job parts budget wanted place) (jobs_from (suc place) n) refl (wants_from (suc place) n)
+
+  pub are_problems : AreProblems (branch_jobs parts budget wanted)
+  are_problems = problems_from 0 count (omega arith)
+
+  wanted_from : (place n : ℕ) → 0 < n → wanted_of (jobs_from place n) ≡ wanted
+  wanted_from place zero some = absurd (omega (arith, some))
+  wanted_from place (suc n) some = refl
+
+  pub wanted_is : 0 < count → wanted_of (branch_jobs parts budget wanted) ≡ wanted
+  wanted_is some = wanted_from 0 count some
+
+  pub all_want : 0 < count → AllWant (wanted_of (branch_jobs parts budget wanted)) (branch_jobs parts budget wanted)
+  all_want some = subst (λ w. AllWant w (branch_jobs parts budget wanted)) (sym (wanted_is some)) (wants_from 0 count)
+
+  -- lists of the branches, of which those that are reached begin the joined ones
+  record Listed (place n : ℕ) (whole : Bool) (found : List Analysis) : Type 0 where
+    lists : List (List Analysis)
+    many : length lists ≡ n
+    are : AreBranchLists parts place lists
+    begins : Begins found (joined lists)
+    all_of : whole ≡ true → found ≡ joined lists
+
+  some_lists_from : (place n : ℕ) → place + n ≤ count → (lists : List (List Analysis)) × (length lists ≡ n) × AreBranchLists parts place lists
+  some_lists_from place zero within = ([], refl, tt)
+  some_lists_from place (suc n) within =
+      let here = some_solution_list (branch_of parts place) [] (branch_is place (omega (arith, within))) in
+      let later = some_lists_from (suc place) n (omega (arith, within)) in
+      (here.0 ∷ later.0, ap suc later.1, (here.1, later.2))
+
+  listed : (place n : ℕ) (whole : Bool) (found : List Analysis) → place + n ≤ count → Reach (jobs_from place n) whole found → Listed place n whole found
+  listed place zero whole found within here = record { lists = []; many = refl; are = tt; begins = subst (λ z. Begins z []) (sym here.1) refl; all_of = λ e. here.1 }
+  listed place (suc n) whole found within (all counted solutions more lists covered later found_is) =
+      let rest = listed (suc place) n whole more (omega (arith, within)) later in
+      record {
+        lists = solutions ∷ rest.lists;
+        many = ap suc rest.many;
+        are = (lists.solutions_are, rest.are);
+        begins = subst (λ z. Begins z (solutions ++ joined rest.lists)) (sym found_is) (begins_behind solutions more (joined rest.lists) rest.begins);
+        all_of = λ e. found_is ∙ ap (λ z. solutions ++ z) (rest.all_of e);
+      }
+  listed place (suc n) whole found within (some counted solutions lists beyond spent found_is) =
+      let rest = some_lists_from (suc place) n (omega (arith, within)) in
+      let front = take _ solutions in
+      record {
+        lists = solutions ∷ rest.0;
+        many = ap suc rest.1;
+        are = (lists.solutions_are, rest.2);
+        begins = subst (λ z. Begins z (solutions ++ joined rest.0)) (sym found_is) (begins_on (take _ solutions) solutions (solutions ++ joined rest.0) (begins_take _ solutions) (begins_more solutions (joined rest.0)));
+        all_of = λ e. not_both (sym e ∙ spent);
+      }
+
+  ends_begin : (ending : Ending) (w : Option ℕ) (whole : Bool) (reached found : List Analysis) → Ends ending w whole reached found → Begins found reached
+  ends_begin endings.First None whole reached found e = absurd e
+  ends_begin endings.First (Some n) whole reached found e = subst (λ z. Begins z reached) (sym e.1) (begins_take n reached)
+  ends_begin endings.Complete w whole reached found e = subst (λ z. Begins found z) e.1 (begins_same found)
+  ends_begin endings.Spent w whole reached found e = subst (λ z. Begins found z) e.1 (begins_same found)
+
+  ends_whole : (ending : Ending) (w : Option ℕ) (whole : Bool) (reached found : List Analysis) → Ends ending w whole reached found → ending ≡ endings.Complete → (whole ≡ true) × (found ≡ reached)
+  ends_whole ending w whole reached found e is =
+      let ends : Ends endings.Complete w whole reached found = subst (λ z. Ends z w whole reached found) is e in
+      (ends.0, ends.1)
+
+  pub front_of : (ending : Ending) (found : List Analysis) → IsBranched budget wanted parts ending found → IsFrontOf parts ending found
+  front_of ending found b =
+      let l = listed 0 count b.whole b.reached (omega arith) b.reach in
+      record {
+        solutions = joined l.lists;
+        are = branches_join parts is l.lists l.many l.are;
+        front = begins_on found b.reached (joined l.lists) (ends_begin ending wanted b.whole b.reached found b.end) l.begins;
+        whole = λ complete. (let e = ends_whole ending wanted b.whole b.reached found b.end complete in e.1 ∙ l.all_of e.0);
+      }
+
+  pub found_fit : (ending : Ending) (found : List Analysis) → IsBranched budget wanted parts ending found → All (IsAnalysis parts) found
+  found_fit ending found b =
+      let f = front_of ending found b in
+      subst (All (IsAnalysis parts)) (sym f.front) (All-weaker (IsSolution parts) (IsAnalysis parts) (λ a s. s.fits) (take (length found) f.solutions) (All-take (IsSolution parts) (length found) f.solutions f.are.each))
+
+  one_branched : (form : Form) → IsOneBranched form budget wanted parts
+  one_branched form e h text more p q =
+      let same = (have_one_split (branch_jobs parts budget wanted) are_problems).one wanted e h p.found q.found p.is q.is in
+      (same.0, p.text_is ∙ ap₂ (λ xs (z : Ending). blocks form parts 1 xs ++ last_line z (length xs)) same.1 same.0 ∙ sym q.text_is)
+
+  spent_not : (w : Option ℕ) (whole : Bool) (reached found : List Analysis) (ending : Ending) → whole ≡ true → Ends ending w whole reached found → ending ≢ endings.Spent
+  spent_not w whole reached found ending yes e is =
+      let ends : Ends endings.Spent w whole reached found = subst (λ z. Ends z w whole reached found) is e in
+      not_both (sym yes ∙ ends.0)
+
+  enough : (ending : Ending) (found : List Analysis) → All IsWhole (branch_jobs parts budget wanted) → IsBranched budget wanted parts ending found → ending ≢ endings.Spent
+  enough ending found each b =
+      let law = have_one_split (branch_jobs parts budget wanted) are_problems in
+      spent_not wanted b.whole b.reached found ending ((law.only b.whole b.reached b.reach).0 ∙ law.enough each) b.end
+
+  pub branched_laws : (form : Form) → BranchedLaws form budget wanted parts
+  branched_laws form = record { one = one_branched form; fronts = front_of; enough = enough }

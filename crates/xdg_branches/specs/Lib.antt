@@ -1,0 +1,3 @@
+pub mod Branched
+pub mod Written
+pub mod Laws

@@ -1,0 +1,60 @@
+//! The searches of the branches.
+
+ghost use Rattle.std.specs.Prelude.{◌≡◌, ◌<◌, ◌≤◌, ◌×◌, length, IfOk};
+ghost use Rattle.xdg_branches.specs.Branched.{CanBranch};
+ghost use Rattle.xdg_branches.specs.Branched as spec;
+ghost use Rattle.xdg_problem.specs.Branches.{first_candidates};
+ghost use Rattle.xdg_problem.specs.Problems.{IsProblem};
+
+use std::alloc::Global;
+use xdg_base::OutOfMemory;
+use xdg_engine::{AnyProp, props};
+use xdg_problem::Problem;
+use xdg_split::Job;
+
+/// How many entries the first word has: 1 to 1,024.
+fn first_count(problem: &Problem) -> u16
+    ensures is { result ≡ length (first_candidates problem.now) }
+    ensures some { 0 < result }
+{
+    let parts = problem.parts();
+    match parts.candidates.as_slice().first() {
+        Some(candidates) => candidates.len() as u16,
+        None => 0,
+    }
+}
+
+/// The search of the branch of an entry.
+fn branch_job(
+    alloc: Global,
+    problem: &Problem,
+    place: u16,
+    budget: u64,
+    first: Option<u64>,
+) -> Result<Job<AnyProp>, OutOfMemory>
+    requires place { place < length (first_candidates problem.now) }
+    requires range { CanBranch budget first }
+    ensures { IfOk result (λ job. job ≡ spec.branch_job problem.now budget first place) }
+{
+    let branch = problem.branch(alloc, place)?;
+    let propagators = props(alloc, &branch)?;
+    Ok(Job::of(branch, propagators, budget, first))
+}
+
+/// The searches of all branches, in the order of the entries.
+pub(crate) fn branch_jobs(
+    alloc: Global,
+    problem: &Problem,
+    budget: u64,
+    first: Option<u64>,
+) -> Result<Vec<Job<AnyProp>>, OutOfMemory>
+    requires { CanBranch budget first }
+    ensures { IfOk result (λ jobs. jobs.items ≡ spec.branch_jobs problem.now budget first) }
+{
+    let count = first_count(problem);
+    let mut jobs = Vec::new(alloc);
+    for place in 0..count {
+        jobs.push(branch_job(alloc, problem, place, budget, first)?)?;
+    }
+    Ok(jobs)
+}

@@ -1,0 +1,82 @@
+-- What tables of edges and paths say of atoms.
+use Rattle.std.proofs.Common.{◌≡◌, ◌↔◌, ℕ, ◌+◌, ◌<◌, ◌≤◌, inl, inr, Bool, true, false, List, [], ◌∷◌, length, get_or, sym, ◌∙◌, subst, arith, refl}
+use Rattle.std.specs.Prelude.{IsTrue, All, Contains, slice_index_or, slice_set, ◌==◌}
+use Rattle.std.proofs.lemmas.Bool.{cases_eq, eqb-true, false≢true}
+use Rattle.std.proofs.lemmas.List.{get_or-set_same, get_or-set_other}
+use Rattle.std.proofs.lemmas.List.Elements.{All-head}
+use Rattle.xdg_problem.specs.declared.analysis.Analysis.{Analysis}
+use Rattle.xdg_problem.specs.declared.analysis.Edge.{Edge}
+use Rattle.xdg_problem.specs.declared.parts.Parts.{Parts}
+use Rattle.xdg_problem.specs.Analyses.{IsAnalysis, IsPlace}
+use Rattle.xdg_problem.specs.Paths.{edges_on, Above, IsDaughterBy}
+use Rattle.xdg_problem.specs.Places.{nodes}
+use Rattle.xdg_problem.specs.Problems.{IsProblem}
+use Rattle.xdg_problem.proofs.FilterFacts.{filter_contained}
+use Rattle.xdg_problem.proofs.FitSteps.{entries_lengths}
+use Rattle.xdg_judge.specs.declared.links.Direction.TheVariants as directions
+use Rattle.xdg_judge.specs.declared.links.Neighbours.{Neighbours}
+use Rattle.xdg_judge.specs.Graphs.{AreGraphs, IsReady}
+use Rattle.xdg_judge.specs.Links.{AreNeighbours, In, InBy}
+
+-- no edge is of a dimension that the problem lacks
+
+on_dim : (parts : Parts) (analysis : Analysis) (dim : ℕ) (e : Edge) → IsAnalysis parts analysis → length parts.dims ≤ dim → Contains (edges_on dim analysis.edges) e → ⊥
+on_dim parts analysis dim e fits past on =
+    let found = filter_contained (λ x. x.dim.0 == dim) analysis.edges e on in
+    let place : IsPlace parts e = subst (IsPlace parts) found.0.2 (fits.places found.0.0 e found.0.1) in
+    let is = eqb-true e.dim.0 dim found.1 in
+    let within = place.dim in
+    omega (arith, past, is, within)
+
+not_told : (P : Type 0) → (P → ⊥) → IsTrue false ↔ P
+not_told P none = (λ t. absurd (false≢true t), λ p. absurd (none p))
+
+pub no_edge : (parts : Parts) (analysis : Analysis) (tables : List Neighbours) (dim u l v : ℕ) → IsReady parts analysis tables → length parts.dims ≤ dim → IsTrue false ↔ IsDaughterBy (edges_on dim analysis.edges) u l v
+no_edge parts analysis tables dim u l v ready past = not_told _ (λ a. on_dim parts analysis dim a.1 ready.fits past (a.0, a.2, a.3))
+
+first_along : (edges path : List Edge) → 0 < length path → All (Contains edges) path → (e : Edge) × Contains edges e
+first_along edges [] some along = absurd (omega (arith, some))
+first_along edges (e ∷ path) some along = (e, All-head (Contains edges) e path along)
+
+pub no_path : (parts : Parts) (analysis : Analysis) (tables : List Neighbours) (dim u v : ℕ) → IsReady parts analysis tables → length parts.dims ≤ dim → IsTrue false ↔ Above (edges_on dim analysis.edges) u v
+no_path parts analysis tables dim u v ready past = not_told _ (λ above. (let first = first_along (edges_on dim analysis.edges) above.path above.some above.along in on_dim parts analysis dim first.0 ready.fits past first.1))
+
+-- the tables of the others
+
+then_iff : (A B C : Type 0) → A ↔ B → B ↔ C → A ↔ C
+then_iff A B C f g = (λ a. g.0 (f.0 a), λ c. f.1 (g.1 c))
+
+table_is : (parts : Parts) (analysis : Analysis) (tables : List Neighbours) (table : Neighbours) (dim : ℕ) → IsReady parts analysis tables → dim < length parts.dims → table ≡ slice_index_or tables dim table → AreNeighbours directions.Down (edges_on dim analysis.edges) table
+table_is parts analysis tables table dim ready within is = subst (AreNeighbours directions.Down (edges_on dim analysis.edges)) (sym is) (ready.graphs dim table within)
+
+pub edge_told : (parts : Parts) (analysis : Analysis) (tables : List Neighbours) (table : Neighbours) (dim u l v : ℕ) (result : Bool) → IsReady parts analysis tables → dim < length parts.dims → table ≡ slice_index_or tables dim table → IsTrue result ↔ InBy table.by_label u l v → IsTrue result ↔ IsDaughterBy (edges_on dim analysis.edges) u l v
+edge_told parts analysis tables table dim u l v result ready within is told = then_iff _ _ _ told ((table_is parts analysis tables table dim ready within is).by_label u l v)
+
+pub path_told : (parts : Parts) (analysis : Analysis) (tables : List Neighbours) (table : Neighbours) (dim u v : ℕ) (result : Bool) → IsReady parts analysis tables → dim < length parts.dims → table ≡ slice_index_or tables dim table → IsTrue result ↔ In table.far u v → IsTrue result ↔ Above (edges_on dim analysis.edges) u v
+path_told parts analysis tables table dim u v result ready within is told = then_iff _ _ _ told ((table_is parts analysis tables table dim ready within is).far u v)
+
+-- one more table
+
+pub graphs_more : (analysis : Analysis) (tables : List Neighbours) (dim : ℕ) (table : Neighbours) → dim < length tables → AreGraphs dim analysis tables → AreNeighbours directions.Down (edges_on dim analysis.edges) table → AreGraphs (dim + 1) analysis (slice_set tables dim table)
+graphs_more analysis tables dim table short so_far here other given l = elim (cases_eq other dim) [
+  | inl same ↦ subst (λ k. AreNeighbours directions.Down (edges_on k analysis.edges) (slice_index_or (slice_set tables dim table) k given)) (sym same) (subst (AreNeighbours directions.Down (edges_on dim analysis.edges)) (sym (get_or-set_same tables dim table given short)) here)
+  | inr differ ↦ subst (AreNeighbours directions.Down (edges_on other analysis.edges)) (sym (get_or-set_other tables dim other table given differ)) (so_far other given (omega (arith, l, differ)))
+]
+
+pub ready_of : (parts : Parts) (analysis : Analysis) (tables : List Neighbours) (count : ℕ) → IsProblem parts → IsAnalysis parts analysis → AreGraphs count analysis tables → length parts.dims ≤ count → IsReady parts analysis tables
+ready_of parts analysis tables count problem fits graphs all = record {
+  problem = problem;
+  fits = fits;
+  graphs = λ dim given l. graphs dim given (omega (arith, l, all));
+}
+
+-- the entry of a node
+
+pub has_candidates : (parts : Parts) (node : ℕ) → IsProblem parts → node < nodes parts → node < length parts.candidates
+has_candidates parts node problem within = (let each = problem.candidates_each in omega (arith, each, within))
+
+pub has_an_entry : (parts : Parts) (analysis : Analysis) (node : ℕ) → IsProblem parts → IsAnalysis parts analysis → node < nodes parts → node < length analysis.entries
+has_an_entry parts analysis node problem fits within =
+    let each = problem.candidates_each in
+    let same = entries_lengths parts.candidates analysis.entries fits.entries in
+    omega (arith, each, same, within)

@@ -1,0 +1,29 @@
+-- What formulas are judged on.
+use Rattle.std.specs.Prelude.{ℕ, ◌<◌, List, length, slice_index, slice_index_or}
+use Rattle.xdg_problem.specs.declared.analysis.Analysis.{Analysis}
+use Rattle.xdg_problem.specs.declared.parts.Parts.{Parts}
+use Rattle.xdg_problem.specs.Analyses.{IsAnalysis}
+use Rattle.xdg_problem.specs.Paths.{edges_on}
+use Rattle.xdg_problem.specs.Places.{nodes}
+use Rattle.xdg_problem.specs.Problems.{IsProblem}
+use Rattle.xdg_judge.specs.declared.links.Direction.TheVariants as directions
+use Rattle.xdg_judge.specs.declared.links.Neighbours.{Neighbours}
+use Rattle.xdg_judge.specs.Links.{AreNeighbours}
+
+-- the tables of the first dimensions lead down along their edges
+abbrev pub AreGraphs : ℕ → Analysis → List Neighbours → Type 0
+AreGraphs count analysis tables = (dim : ℕ) (given : Neighbours) → dim < count → AreNeighbours directions.Down (edges_on dim analysis.edges) (slice_index_or tables dim given)
+
+-- an analysis of a problem, with a table for each of its dimensions
+pub record IsReady (parts : Parts) (analysis : Analysis) (tables : List Neighbours) : Type 0 where
+  pub problem : IsProblem parts
+  pub fits : IsAnalysis parts analysis
+  pub graphs : AreGraphs (length parts.dims) analysis tables
+
+-- the node for which a name stands, in a table with a node for each name
+abbrev pub stands : List ℕ → ℕ → ℕ
+stands table name = slice_index table name
+
+-- each name stands for a node of the sentence
+abbrev pub AreNodes : Parts → (ℕ → ℕ) → Type 0
+AreNodes parts b = (name : ℕ) → b name < nodes parts

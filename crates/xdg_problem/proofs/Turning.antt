@@ -1,0 +1,53 @@
+-- Lists that are moved from their ends, and so turned.
+use Rattle.std.proofs.Common.{◌≡◌, ℕ, ◌+◌, ◌<◌, List, [], ◌∷◌, ◌++◌, length, map, take, get_or, reverse, sym, ap, ◌∙◌}
+use Rattle.std.proofs.lemmas.List.{append_assoc, append-nil, map-append, reverse-append, reverse-reverse, take_more}
+use Rattle.xdg_base.specs.declared.ids.EntryNo.{EntryNo}
+use Rattle.xdg_problem.specs.declared.formula.Formula.{Formula}
+use Rattle.xdg_problem.specs.declared.parts.Feat.{Feat}
+use Rattle.xdg_problem.specs.declared.parts.Group.{Group}
+use Rattle.xdg_problem.specs.declared.parts.Parts.{Parts}
+use Rattle.xdg_problem.specs.declared.parts.Principle.{Principle}
+use Rattle.xdg_problem.specs.declared.parts.Principle.TheVariants as principles
+use Rattle.xdg_problem.specs.Costs.{CostLists}
+use Rattle.xdg_problem.specs.Further.{bare_use, bound_of, no_features, rules_of, with_uses}
+
+abbrev none_of : EntryNo → List Feat
+none_of entry = []
+
+-- the last of some moved behind others
+pub move_more : (groups moved uses rest start : List Group) (last : Group) → groups ++ reverse uses ≡ start → uses ≡ rest ++ last ∷ [] → moved ≡ groups ++ last ∷ [] → moved ++ reverse rest ≡ start
+move_more groups moved uses rest start last so_far is now =
+    ap (λ z. z ++ reverse rest) now ∙ (append_assoc groups (last ∷ []) (reverse rest) ∙ (ap (λ z. groups ++ z) (sym (reverse-append rest (last ∷ []))) ∙ (ap (λ z. groups ++ reverse z) (sym is) ∙ so_far)))
+
+pub move_end : (groups uses start : List Group) → groups ++ reverse uses ≡ start → uses ≡ [] → groups ≡ start
+move_end groups uses start so_far none = sym (append-nil groups) ∙ (ap (λ z. groups ++ reverse z) (sym none) ∙ so_far)
+
+-- the use of the last of some formulas behind others
+pub rule_more : (feats : List (List (List Feat))) (made more : List Group) (formulas rest : List Formula) (start : List Group) (last : Formula) → made ++ reverse (map (λ formula. bare_use feats (principles.Rule formula)) formulas) ≡ start → formulas ≡ rest ++ last ∷ []
+    → more ≡ made ++ bare_use feats (principles.Rule last) ∷ [] → more ++ reverse (map (λ formula. bare_use feats (principles.Rule formula)) rest) ≡ start
+rule_more feats made more formulas rest start last so_far is now =
+    let rule : Formula → Group = λ formula. bare_use feats (principles.Rule formula) in
+    move_more made more (map rule formulas) (map rule rest) start (rule last) so_far (ap (map rule) is ∙ map-append rule rest (last ∷ [])) now
+
+pub rule_end : (feats : List (List (List Feat))) (made : List Group) (formulas : List Formula) (start : List Group) → made ++ reverse (map (λ formula. bare_use feats (principles.Rule formula)) formulas) ≡ start → formulas ≡ [] → made ≡ start
+rule_end feats made formulas start so_far none =
+    let rule : Formula → Group = λ formula. bare_use feats (principles.Rule formula) in
+    move_end made (map rule formulas) start so_far (ap (map rule) none)
+
+-- turned twice they stand behind the others in their order
+pub rules_placed : (parts : Parts) (feats : List (List (List Feat))) (uses groups : List Group) (formulas : List Formula) → feats ≡ no_features parts.candidates → uses ≡ reverse (map (λ formula. bare_use feats (principles.Rule formula)) formulas) → groups ≡ parts.groups ++ reverse uses
+    → record parts { groups = groups } ≡ with_uses parts (rules_of parts formulas)
+rules_placed parts feats uses groups formulas none turned now =
+    let rules : List (List (List Feat)) → List Group = λ fs. map (λ formula. bare_use fs (principles.Rule formula)) formulas in
+    let back : reverse uses ≡ rules (no_features parts.candidates) = ap reverse turned ∙ (reverse-reverse (rules feats) ∙ ap rules none) in
+    ap (λ (z : List Group). record parts { groups = z }) (now ∙ ap (λ z. parts.groups ++ z) back)
+
+-- a bound behind the others
+pub bound_placed : (parts : Parts) (feats : List (List (List Feat))) (groups : List Group) (copied costs : CostLists) (bound : ℕ) → feats ≡ no_features parts.candidates → copied ≡ costs → groups ≡ parts.groups ++ bare_use feats (principles.Bound copied bound) ∷ [] → record parts { groups = groups } ≡ with_uses parts (bound_of parts costs bound)
+bound_placed parts feats groups copied costs bound none same now =
+    ap (λ (z : List Group). record parts { groups = z }) now ∙ (ap (λ (fs : List (List (List Feat))). record parts { groups = parts.groups ++ bare_use fs (principles.Bound copied bound) ∷ [] }) none
+    ∙ ap (λ (z : CostLists). record parts { groups = parts.groups ++ bare_use (no_features parts.candidates) (principles.Bound z bound) ∷ [] }) same)
+
+-- no features of one more candidate
+pub nothing_more : (entries : List EntryNo) (i : ℕ) (d : EntryNo) → i < length entries → map (λ (entry : EntryNo). none_of entry) (take (i + 1) entries) ≡ map (λ (entry : EntryNo). none_of entry) (take i entries) ++ [] ∷ []
+nothing_more entries i d l = ap (map none_of) (take_more entries i d l) ∙ map-append none_of (take i entries) (get_or entries i d ∷ [])
