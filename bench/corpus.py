@@ -122,7 +122,7 @@ def against_check(program, grammar, lines):
         sys.exit("check ends with status %d: %s" % (status, told.decode(errors="replace")))
     seconds, memory, _ = corpus(program, grammar, lines, True)
     print(f"  check                          {check:9.2f} s  {check_memory:6.0f} MiB   {told.decode().strip()}")
-    print(f"  corpus on one processor        {seconds:9.2f} s  {memory:6.0f} MiB   {seconds / check:.2f} times as long as check", flush=True)
+    print(f"  corpus on one processor        {seconds:9.2f} s  {memory:6.0f} MiB   {seconds - check:.2f} s more than check", flush=True)
 
 
 def main():

@@ -24,7 +24,7 @@ _xdg() {
         return
     fi
     case ${COMP_WORDS[1]} in
-        parse) options="--budget --first --segment --text" ;;
+        parse) options="--budget --first --segment --split --text" ;;
         resume) options="--budget --first --text" ;;
         corpus) options="--budget --first --segment" ;;
     esac

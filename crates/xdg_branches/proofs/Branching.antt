@@ -89,14 +89,14 @@ module _ (parts : Parts) (is : IsProblem parts) (budget : ℕ) (wanted : Option 
   are_problems = problems_from 0 count (omega arith)
 
   wanted_from : (place n : ℕ) → 0 < n → wanted_of (jobs_from place n) ≡ wanted
-  wanted_from place zero some = absurd (omega (arith, some))
-  wanted_from place (suc n) some = refl
+  wanted_from place zero more = absurd (omega (arith, more))
+  wanted_from place (suc n) more = refl
 
   pub wanted_is : 0 < count → wanted_of (branch_jobs parts budget wanted) ≡ wanted
-  wanted_is some = wanted_from 0 count some
+  wanted_is more = wanted_from 0 count more
 
   pub all_want : 0 < count → AllWant (wanted_of (branch_jobs parts budget wanted)) (branch_jobs parts budget wanted)
-  all_want some = subst (λ w. AllWant w (branch_jobs parts budget wanted)) (sym (wanted_is some)) (wants_from 0 count)
+  all_want more = subst (λ w. AllWant w (branch_jobs parts budget wanted)) (sym (wanted_is more)) (wants_from 0 count)
 
   -- lists of the branches, of which those that are reached begin the joined ones
   record Listed (place n : ℕ) (whole : Bool) (found : List Analysis) : Type 0 where

@@ -19,7 +19,7 @@ use xdg_io::{Failed, Sink};
 use xdg_listing::Ending;
 use xdg_problem::{Analysis, Problem};
 use xdg_split::{SplitAnswer, split};
-use xdg_text::{write, write2, write_complete, write_first, write_spent};
+use xdg_text::{write, write_complete, write_first, write_spent, write2};
 
 /// Searches a sentence by the branches of its first word's entries, each with the whole budget, and then prints each solution that was
 /// found, in their order, and the last line. Where a number of analyses is asked for, at least one, it prints so many. Four branches are

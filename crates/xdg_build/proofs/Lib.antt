@@ -13,3 +13,4 @@ pub mod Different
 pub mod Planned
 pub mod Lawful
 pub mod Turns
+mod Stocked

@@ -4,3 +4,4 @@ pub mod Refusals
 pub mod Readings
 pub mod Principles
 pub mod Solutions
+pub mod Stocks

@@ -1,25 +1,23 @@
 //! The entries that nodes may have.
 
-ghost use Rattle.std.specs.Prelude.{◌≡◌, map, IfOk};
-ghost use Rattle.xdg_packed.specs.Lexicon.{words_of, numbers_of};
+ghost use Rattle.std.specs.Prelude.{◌≡◌, IfOk};
+ghost use Rattle.xdg_groups.specs.Nodes.{candidates_in};
 
 use std::alloc::{AllocError, Global};
 use xdg_base::{EntryNo, List};
-use xdg_packed::Packed;
-use xdg_problem::{SentenceWord, SharedList};
+use xdg_groups::NodePlan;
+use xdg_problem::SharedList;
 
-/// The entries of each word, by their numbers.
+/// The candidate entries of nodes.
 pub(crate) fn candidates(
     alloc: Global,
-    packed: &Packed,
-    words: &[SentenceWord],
+    nodes: &[NodePlan],
 ) -> Result<List<SharedList<EntryNo>>, AllocError>
-    ensures { IfOk result (λ made. made ≡ map (λ word. numbers_of (words_of packed.now) word.text) words.now) }
+    ensures { IfOk result (λ made. made ≡ candidates_in nodes.now) }
 {
     let mut made = List::new(alloc);
-    for word in words {
-        let numbers = List::from_slice(alloc, packed.of_word(word.text.as_str()))?;
-        made.push(SharedList::of(alloc, numbers)?)?;
+    for node in nodes {
+        made.push(node.candidates.share()?)?;
     }
     Ok(made)
 }

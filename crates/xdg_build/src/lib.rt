@@ -6,5 +6,7 @@ mod candidates;
 mod plans;
 mod refusals;
 mod shown;
+mod stock;
 
 pub use building::build;
+pub use stock::Stock;

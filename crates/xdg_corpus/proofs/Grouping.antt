@@ -52,6 +52,12 @@ get_last : {X : Type 0} (xs : List X) (x : X) → slice_get (xs ++ x ∷ []) (le
 get_last [] x = refl
 get_last (a ∷ xs) x = get_last xs x
 
+-- what holds after each fault holds where a fault was told
+pub stays_at_text : {T E : Type 0} (P : Type 0) (result : Result T E) (line : List ℕ) (stop : Stop) (refusal : Refusal) (f : Fault) (place : LineColumn) → ((g : Fault) → stop ≡ stops.Fault g → P) → refusal ≡ refusal_of line stop → refusal ≡ refusals.Text f place → OnOk result P
+stays_at_text P (Ok done) line (stops.Fault g) refusal f place told is text = told g refl
+stays_at_text P (Ok done) line stops.OutOfMemory refusal f place told is text = absurd (let e : refusals.Memory ≡ refusals.Text f place = sym is ∙ text in cc)
+stays_at_text P (Err e) line stop refusal f place told is text = tt
+
 -- ---- lines
 
 module _ (m : Meaning) (options : CorpusOptions) where

@@ -1,20 +1,25 @@
 //! Groups of lines.
 
-ghost use Rattle.std.specs.Prelude.{◌≡◌, ◌≤◌, ◌<◌, ◌∷◌, ◌++◌, ℕ, List, [], length, IfErr, IfOk, OnOk};
+ghost use Rattle.std.specs.Prelude.{◌≡◌, ◌≤◌, ◌<◌, ◌∷◌, ◌++◌, ℕ, List, [], length, IfErr, IfOk, MatchResult, OnOk};
+ghost use Rattle.xdg_base.specs.declared.faults.Fault as faults;
+ghost use Rattle.xdg_base.specs.declared.faults.Stop.TheVariants as stops;
+ghost use Rattle.xdg_build.specs.Stocks.{IsStock};
 ghost use Rattle.xdg_corpus.specs.Groups.{AsksFor, HasLines, TakesLines};
 ghost use Rattle.xdg_corpus.specs.Texts.{CanSearch};
 ghost use Rattle.xdg_entries.specs.Entries.{IsRightLexicon};
 ghost use Rattle.xdg_grammar.specs.Answers.{meaning_of};
 ghost use Rattle.xdg_grammar.specs.Packed.{IsPackedOf};
+ghost use Rattle.xdg_groups.specs.Grammars.{grammar_of};
 ghost use Rattle.xdg_inputs.specs.Sentences.{StopsWords};
 
 use crate::lines::first_line;
 use std::alloc::{AllocError, Global};
 use xdg_base::{Fault, LineColumn, OutOfMemory, Stop};
+use xdg_build::Stock;
 use xdg_command::CorpusOptions;
 use xdg_engine::{AnyProp, props};
 use xdg_grammar::Expanded;
-use xdg_inputs::problem_of;
+use xdg_inputs::problem_from;
 use xdg_outcomes::{Refusal, stopped_in};
 use xdg_packed::Packed;
 use xdg_split::Job;
@@ -79,16 +84,20 @@ fn job_of(
     options: &CorpusOptions,
     expanded: &Expanded,
     packed: &Packed,
+    stock: &mut Stock,
     line: &str,
 ) -> Result<Job<AnyProp>, Stop>
     requires small { length line.now ≤ 4194304 }
     requires lexicon { IsRightLexicon expanded.now.checked.types expanded.now.entries }
     requires packed { IsPackedOf expanded.now packed.now }
     requires range { CanSearch options.now }
+    requires stock { IsStock (grammar_of expanded.now.checked packed.now) stock.old }
     ensures found { IfOk result (AsksFor (meaning_of expanded.now) options.now line.now) }
     ensures refused { IfErr result (StopsWords (meaning_of expanded.now) options.now.segment line.now) }
+    ensures stock { MatchResult result (λ _. IsStock (grammar_of expanded.now.checked packed.now) stock.new) (λ stop.
+        (fault : faults.Fault) → stop ≡ stops.Fault fault → IsStock (grammar_of expanded.now.checked packed.now) stock.new) }
 {
-    let problem = problem_of(alloc, expanded, packed, options.segment, line)?;
+    let problem = problem_from(alloc, expanded, packed, stock, options.segment, line)?;
     let Ok(propagators) = props(alloc, &problem) else {
         return Err(Stop::OutOfMemory);
     };
@@ -101,6 +110,7 @@ fn add_line(
     options: &CorpusOptions,
     expanded: &Expanded,
     packed: &Packed,
+    stock: &mut Stock,
     line: &str,
     group: &mut Group,
 ) -> Result<(), AllocError>
@@ -108,9 +118,11 @@ fn add_line(
     requires lexicon { IsRightLexicon expanded.now.checked.types expanded.now.entries }
     requires packed { IsPackedOf expanded.now packed.now }
     requires range { CanSearch options.now }
-    ensures { OnOk result ((taken : List (List ℕ)) → HasLines (meaning_of expanded.now) options.now taken group.old → HasLines (meaning_of expanded.now) options.now (taken ++ line.now ∷ []) group.new) }
+    requires stock { IsStock (grammar_of expanded.now.checked packed.now) stock.old }
+    ensures stock { OnOk result (IsStock (grammar_of expanded.now.checked packed.now) stock.new) }
+    ensures lines { OnOk result ((taken : List (List ℕ)) → HasLines (meaning_of expanded.now) options.now taken group.old → HasLines (meaning_of expanded.now) options.now (taken ++ line.now ∷ []) group.new) }
 {
-    match job_of(alloc, options, expanded, packed, line) {
+    match job_of(alloc, options, expanded, packed, stock, line) {
         Ok(job) => group.ask(job),
         Err(stop) => match stopped_in(line.as_bytes(), stop) {
             Refusal::Text(fault, place) => group.refuse(fault, place),
@@ -125,12 +137,15 @@ pub(crate) fn take_group<'a>(
     options: &CorpusOptions,
     expanded: &Expanded,
     packed: &Packed,
+    stock: &mut Stock,
     text: &'a str,
 ) -> Result<(Group, &'a str), OutOfMemory>
     requires small { length text.now ≤ 4194304 }
     requires lexicon { IsRightLexicon expanded.now.checked.types expanded.now.entries }
     requires packed { IsPackedOf expanded.now packed.now }
     requires range { CanSearch options.now }
+    requires stock { IsStock (grammar_of expanded.now.checked packed.now) stock.old }
+    ensures stock { OnOk result (IsStock (grammar_of expanded.now.checked packed.now) stock.new) }
     ensures takes { IfOk result (λ made. TakesLines (meaning_of expanded.now) options.now text.entry.now made.0 made.1.now) }
     ensures some { IfOk result (λ made. 0 < length text.entry.now → length made.1.now < length text.entry.now) }
 {
@@ -138,7 +153,7 @@ pub(crate) fn take_group<'a>(
     let mut rest = text;
     while group.sentences.len() < GROUP && !rest.is_empty() {
         let (line, later) = first_line(rest);
-        add_line(alloc, options, expanded, packed, line, &mut group)?;
+        add_line(alloc, options, expanded, packed, stock, line, &mut group)?;
         rest = later;
     }
     Ok((group, rest))

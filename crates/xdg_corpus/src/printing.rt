@@ -13,6 +13,7 @@ use crate::group::take_group;
 use crate::writing::write_group;
 use std::alloc::Global;
 use std::thread::Threads;
+use xdg_build::Stock;
 use xdg_command::CorpusOptions;
 use xdg_grammar::Expanded;
 use xdg_io::Sink;
@@ -21,7 +22,8 @@ use xdg_packed::Packed;
 use xdg_split::answers;
 
 /// Prints the lines of a text: groups of lines, one after the other. The lines of a group are searched side by side, and their texts are
-/// written in order before the next group begins, so no more than its searches take memory at once.
+/// written in order before the next group begins, so no more than its searches take memory at once. What their problems share is made
+/// once.
 pub(crate) fn print_lines<R: Threads + Sync, K: Sink>(
     rt: &R,
     alloc: Global,
@@ -41,10 +43,14 @@ pub(crate) fn print_lines<R: Threads + Sync, K: Sink>(
     ensures out_quiet { result ≢ Status.WriteFault → K.faults out.new ≡ K.faults out.old }
     ensures ends { (result ≡ Status.Done) ⊎ ((result ≡ Status.WriteFault) ⊎ (result ≡ Status.OutOfMemory)) }
 {
+    let Ok(mut stock) = Stock::new(alloc, &expanded.checked, packed) else {
+        return Status::OutOfMemory;
+    };
     let mut number: u64 = 1;
     let mut rest = text;
     while !rest.is_empty() {
-        let Ok((group, later)) = take_group(alloc, options, expanded, packed, rest) else {
+        let Ok((group, later)) = take_group(alloc, options, expanded, packed, &mut stock, rest)
+        else {
             return Status::OutOfMemory;
         };
         let Ok(answered) = answers(rt, alloc, group.jobs.as_slice()) else {

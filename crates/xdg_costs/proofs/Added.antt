@@ -1,16 +1,14 @@
 -- What has been said so far, and one statement more.
-use Rattle.std.proofs.Common.{◌≡◌, ◌≢◌, ◌∙◌, ℕ, zero, suc, ◌+◌, ◌-◌, ◌<◌, ◌≤◌, ◌==◌, ◌&&◌, ◌||◌, ◌⊎◌, inl, inr, Bool, true, false, List, [], ◌∷◌, ◌++◌, length, get_or, set, arith, refl, sym, ap, ap₂, subst, append_assoc, append-nil, get_or-set_same, get_or-set_other, Some, None, Ok, Err, nat_lt, All, AllPairs, replicate}
+use Rattle.std.proofs.Common.{◌≡◌, ◌≢◌, ◌∙◌, ℕ, zero, suc, ◌+◌, ◌-◌, ◌<◌, ◌≤◌, ◌==◌, ◌&&◌, ◌||◌, ◌⊎◌, inl, inr, Bool, true, false, List, [], ◌∷◌, ◌++◌, length, get_or, set, arith, refl, sym, ap, ap₂, subst, append_assoc, append-nil, get_or-set_same, get_or-set_other, Some, None, Ok, Err, nat_lt, AllPairs, replicate}
 use Rattle.std.specs.Prelude.{Option, Result, if◌then◌else◌}
 use Rattle.std.specs.List.{list_any}
 use Rattle.std.proofs.lemmas.List.{length-replicate, get_or-replicate, length-set}
 use Rattle.std.proofs.lemmas.List.Folds.{list_any-append}
 use Rattle.std.proofs.lemmas.List.Quantifiers.{all_pairs_push}
-use Rattle.std.proofs.lemmas.Bool.{eqb-true, eqb-false, eq-eqb, ltb-false, or_cases, and_from, cases_eq, false_from_ne_true, ne_eqb, le-ltb, true≢false, false≢true}
+use Rattle.std.proofs.lemmas.Bool.{eqb-true, eqb-false, eq-eqb, ltb-false, cases_eq, false_from_ne_true, ne_eqb, le-ltb, true≢false, false≢true}
 use Rattle.xdg_base.specs.declared.faults.Fault.{Fault}
-use Rattle.xdg_base.specs.declared.faults.Stop.{Stop}
 use Rattle.xdg_base.specs.declared.faults.Stop.TheVariants as stops
 use Rattle.xdg_base.specs.declared.ids.DimId.{DimId}
-use Rattle.xdg_base.specs.declared.ids.EntryNo.{EntryNo}
 use Rattle.xdg_base.specs.declared.ids.LabelId.{LabelId}
 use Rattle.xdg_base.specs.declared.faults.Cause.TheVariants as causes
 use Rattle.xdg_lex.specs.Pieces.{refusal}
@@ -22,7 +20,7 @@ use Rattle.xdg_costs.specs.declared.building.Building.{Building}
 use Rattle.xdg_costs.specs.declared.statements.Statement.{Statement}
 use Rattle.xdg_costs.specs.declared.statements.Statement.TheVariants as statements
 use Rattle.xdg_costs.specs.Building.{has_entry, has_place, IsFreshPlace, Built, Adds}
-use Rattle.xdg_costs.specs.Meaning.{entry_costs, label_costs, placed, is_of_entry, is_at, is_of_place, entry_fault, edge_fault, fault_in}
+use Rattle.xdg_costs.specs.Meaning.{entry_costs, label_costs, placed, is_of_entry, is_at, is_of_place, entry_fault, edge_fault}
 use Rattle.xdg_costs.specs.Naming.{Place, place_of}
 
 -- ---- lists

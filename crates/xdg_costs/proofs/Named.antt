@@ -1,9 +1,9 @@
 -- The numbers of used dimensions and of labels are small.
-use Rattle.std.proofs.Common.{◌≡◌, ◌∙◌, ℕ, zero, suc, ◌+◌, ◌<◌, ◌≤◌, List, [], ◌∷◌, length, arith, refl, sym, ap, subst, Some, None}
+use Rattle.std.proofs.Common.{◌≡◌, ℕ, zero, suc, ◌<◌, ◌≤◌, List, [], ◌∷◌, length, arith, sym, Some, None}
 use Rattle.std.specs.Prelude.{Option, IfSome, bytes_eq, slice_get}
 use Rattle.std.proofs.lemmas.List.Quantifiers.{position-Some}
 use Rattle.xdg_types.specs.declared.table.DimType.{DimType}
-use Rattle.xdg_types.specs.Table.{Table, IsTable, KeepDims, KeepsDim}
+use Rattle.xdg_types.specs.Table.{Table, IsTable, KeepDims}
 use Rattle.xdg_costs.specs.Naming.{is_named, place_named, label_number, labels_in, labels_at, labels_of}
 
 pub small_dim : (table : Table) (name : List ℕ) (result : Option ℕ) → IsTable table → result ≡ place_named table.dims table.used name → IfSome result (λ dim. dim < 8)

@@ -1,5 +1,5 @@
 -- What a costs text says is one thing.
-use Rattle.std.proofs.Common.{◌≡◌, ◌∙◌, ℕ, List, [], length, refl, sym, ap, subst, Ok, Err, Some, None}
+use Rattle.std.proofs.Common.{◌≡◌, ◌∙◌, ℕ, List, [], length, sym, ap, subst, Ok, Err, Some, None}
 use Rattle.std.specs.Prelude.{Result, Option}
 use Rattle.xdg_base.specs.declared.faults.Fault.{Fault}
 use Rattle.xdg_base.specs.declared.faults.Stop.{Stop}
@@ -11,7 +11,6 @@ use Rattle.xdg_lex.specs.Lexed.{Lexeme, Lexed, lexemes_of}
 use Rattle.xdg_lex.specs.Offends as tokens_told
 use Rattle.xdg_lex.specs.Spans.{StandFrom}
 use Rattle.xdg_lex.specs.Tokenizes.{Spells}
-use Rattle.xdg_lex.specs.declared.token.Token.{Token}
 use Rattle.xdg_problem.specs.Costs.{CostLists}
 use Rattle.xdg_types.specs.Table.{Table}
 use Rattle.xdg_costs.specs.declared.statements.Statement.{Statement}
@@ -19,7 +18,7 @@ use Rattle.xdg_costs.specs.Building.{Comes}
 use Rattle.xdg_costs.specs.Meaning.{costs_of, Offends, first_fault}
 use Rattle.xdg_costs.specs.Reading as reading
 use Rattle.xdg_costs.specs.Statements.{Derives}
-use Rattle.xdg_costs.specs.Texts.{Reads, Says, IsRefused, no_tokens, no_statements, wrong, IsAnswer, Gives, Tells}
+use Rattle.xdg_costs.specs.Texts.{Reads, no_tokens, no_statements, wrong, IsAnswer, Gives, Tells}
 use Rattle.xdg_costs.proofs.Firsts.{rises, first_told}
 
 abbrev Answer : Type 0

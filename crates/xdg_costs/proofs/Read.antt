@@ -1,7 +1,7 @@
 -- Tokens that are gone through once say what the definitions say that they say.
 use Rattle.std.proofs.Common.{◌≡◌, ◌∙◌, ℕ, ◌&&◌, Bool, true, false, List, [], ◌∷◌, ◌++◌, refl, sym, ap, subst, append_assoc, append-nil, Ok, Err}
-use Rattle.std.specs.Prelude.{Result, if◌then◌else◌, codes, bytes_eq}
-use Rattle.std.proofs.lemmas.Bool.{true≢false, false≢true}
+use Rattle.std.specs.Prelude.{Result, if◌then◌else◌, bytes_eq}
+use Rattle.std.proofs.lemmas.Bool.{false≢true}
 use Rattle.std.proofs.lemmas.Slice.Eq.{bytes_eq-Decides}
 use Rattle.xdg_base.specs.declared.faults.Fault.{Fault}
 use Rattle.xdg_base.specs.declared.faults.Cause.TheVariants as causes
@@ -20,7 +20,7 @@ use Rattle.xdg_costs.specs.declared.statements.Turn.{Turn}
 use Rattle.xdg_costs.specs.declared.statements.Turn.TheVariants as turns
 use Rattle.xdg_costs.specs.Statements.{is_number, is_constant, is_name, is_word, entry_word, edge_word, Says, entry, edge, Derives}
 use Rattle.xdg_costs.specs.Reading.{Starts, Ends, IsUnexpectedAt, IsRefused, unexpected, IsAnswer, Tells, Gives}
-use Rattle.xdg_costs.specs.Turns.{begun, turn_of, Outcome, after_turn, after_last, run, Runs}
+use Rattle.xdg_costs.specs.Turns.{turn_of, Outcome, after_turn, after_last, run, Runs}
 
 -- ---- one step
 

@@ -1,12 +1,11 @@
 -- How the loop over tokens goes on.
 use Rattle.std.proofs.Common.{◌≡◌, ◌∙◌, ℕ, ◌+◌, ◌<◌, ◌≤◌, true, false, List, [], ◌∷◌, ◌++◌, length, drop, get_or, refl, sym, ap, ap₂, subst, Ok, Err}
-use Rattle.std.specs.Prelude.{Result}
 use Rattle.std.proofs.lemmas.List.{drop_more, drop_all}
 use Rattle.xdg_base.specs.declared.faults.Cause.TheVariants as causes
 use Rattle.xdg_base.specs.declared.faults.Stop.{Stop}
 use Rattle.xdg_base.specs.declared.faults.Stop.TheVariants as stops
 use Rattle.xdg_lex.specs.declared.token.Token.{Token}
-use Rattle.xdg_lex.specs.Lexed.{Lexeme, lexeme_of, lexemes_of}
+use Rattle.xdg_lex.specs.Lexed.{lexeme_of, lexemes_of}
 use Rattle.xdg_lex.specs.Pieces.{refusal}
 use Rattle.xdg_costs.specs.declared.statements.Open.{Open}
 use Rattle.xdg_costs.specs.declared.statements.Open.TheVariants as open_

@@ -1,1 +1,7 @@
 pub mod Ordering
+pub mod Leasts
+pub mod Summed
+pub mod Freed
+pub mod Bounded
+pub mod BoundNamed
+pub mod BoundStepping

@@ -17,6 +17,10 @@ pub enum Family {
     Multi,
     /// The linking principles.
     Link,
+    /// Rules.
+    Rule,
+    /// Bounds.
+    Bound,
 }
 
 /// The family of a principle.
@@ -43,5 +47,7 @@ pub(crate) fn family_of(principle: &Principle) -> Family
         Principle::LinkingAboveStart => Family::Link,
         Principle::LinkingSisters => Family::Link,
         Principle::LinkingNotDaughter => Family::Link,
+        Principle::Rule(_) => Family::Rule,
+        Principle::Bound(_, _) => Family::Bound,
     }
 }

@@ -4,6 +4,8 @@ pub mod Calling
 pub mod Forms
 pub mod Lists
 mod Kept
+mod Noded
+mod Recorded
 pub mod Dimensions
 pub mod Named
 pub mod Values

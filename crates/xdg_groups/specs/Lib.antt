@@ -3,3 +3,5 @@ pub mod Features
 pub mod Rows
 pub mod Groups
 pub mod Suits
+pub mod Known
+pub mod Nodes

@@ -3,7 +3,11 @@
 
 mod arguments;
 mod groups;
+mod nodes;
 mod places;
+mod records;
 mod rows;
 
 pub use groups::compile_uses;
+pub use nodes::{NodePlan, over_nodes, plan_node};
+pub use records::Records;

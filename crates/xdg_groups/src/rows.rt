@@ -189,23 +189,25 @@ fn node_features(
     Ok(made)
 }
 
-/// The same of the entries of each node. Each record is compiled once, and all entries that have it share its rows. The time is
-/// linear in the number of candidates and in what their different records say.
+/// The same of the entries of each node. A record that comes first is compiled, and all entries that have it share its rows. The time
+/// is linear in the number of candidates and in what the different records say that come first.
 pub(crate) fn all_features(
     alloc: Global,
     packed: &Packed,
     dim: usize,
     places: &[usize],
     candidates: &[SharedList<EntryNo>],
+    kept: &mut IndexMap<u32, List<Feat>>,
 ) -> Result<List<SharedList<List<Feat>>>, AllocError>
     requires dim { All (λ entry. dim < length entry) packed.now.entries }
     requires candidates { All (All (λ no. no.0 < length packed.now.entries)) candidates.now }
-    ensures { IfOk result (λ made. made ≡ map (features_by_number packed.now.entries dim places.now) candidates.now) }
+    requires kept { AreKept packed.now.entries dim places.now kept.old.entries }
+    ensures features { IfOk result (λ made. made ≡ map (features_by_number packed.now.entries dim places.now) candidates.now) }
+    ensures kept { OnOk result (AreKept packed.now.entries dim places.now kept.new.entries) }
 {
     let mut made = List::new(alloc);
-    let mut kept = IndexMap::new(alloc);
     for numbers in candidates {
-        let features = node_features(alloc, packed, dim, places, numbers.as_slice(), &mut kept)?;
+        let features = node_features(alloc, packed, dim, places, numbers.as_slice(), kept)?;
         made.push(SharedList::of(alloc, features)?)?;
     }
     Ok(made)

@@ -7,4 +7,4 @@ mod words;
 
 pub use analysis::{Judgeable, load_analysis};
 pub use sentence::{problem_in, read_problem};
-pub use words::problem_of;
+pub use words::{problem_from, problem_of};

@@ -1,14 +1,18 @@
 //! The problem of the words of a text.
 
-ghost use Rattle.std.specs.Prelude.{◌<◌, ◌^◌, length, IfErr, IfOk};
+ghost use Rattle.std.specs.Prelude.{◌≡◌, ◌<◌, ◌^◌, length, IfErr, IfOk, MatchResult};
+ghost use Rattle.xdg_base.specs.declared.faults.Fault.{Fault};
+ghost use Rattle.xdg_base.specs.declared.faults.Stop.TheVariants as stops;
+ghost use Rattle.xdg_build.specs.Stocks.{IsStock};
 ghost use Rattle.xdg_entries.specs.Entries.{IsRightLexicon};
 ghost use Rattle.xdg_grammar.specs.Answers.{meaning_of};
 ghost use Rattle.xdg_grammar.specs.Packed.{IsPackedOf};
+ghost use Rattle.xdg_groups.specs.Grammars.{grammar_of};
 ghost use Rattle.xdg_inputs.specs.Sentences.{AcceptsWords, StopsWords};
 
 use std::alloc::Global;
 use xdg_base::Stop;
-use xdg_build::build;
+use xdg_build::{Stock, build};
 use xdg_grammar::Expanded;
 use xdg_packed::Packed;
 use xdg_problem::Problem;
@@ -33,4 +37,29 @@ pub fn problem_of(
         return Err(Stop::OutOfMemory);
     };
     build(alloc, &expanded.checked, packed, words)
+}
+
+/// The same, with what the problems of a grammar share: that is taken from a stock of the grammar, which is kept for the next text.
+/// After want of memory nothing more is to be taken from it.
+pub fn problem_from(
+    alloc: Global,
+    expanded: &Expanded,
+    packed: &Packed,
+    stock: &mut Stock,
+    segment: bool,
+    text: &str,
+) -> Result<Problem, Stop>
+    requires small { length text.now < 2 ^ 32 }
+    requires lexicon { IsRightLexicon expanded.now.checked.types expanded.now.entries }
+    requires packed { IsPackedOf expanded.now packed.now }
+    requires stock { IsStock (grammar_of expanded.now.checked packed.now) stock.old }
+    ensures found { IfOk result (AcceptsWords (meaning_of expanded.now) segment text.now) }
+    ensures refused { IfErr result (StopsWords (meaning_of expanded.now) segment text.now) }
+    ensures stock { MatchResult result (λ _. IsStock (grammar_of expanded.now.checked packed.now) stock.new) (λ stop.
+        (fault : Fault) → stop ≡ stops.Fault fault → IsStock (grammar_of expanded.now.checked packed.now) stock.new) }
+{
+    let Ok(words) = words_of(alloc, text, segment) else {
+        return Err(Stop::OutOfMemory);
+    };
+    stock.build(alloc, &expanded.checked, packed, words)
 }

@@ -103,5 +103,9 @@ pub(crate) fn has_entry(
     requires node { node < nodes parts.now }
     ensures { IsTrue result ↔ (says table.now node (slice_index (entry_places parts.now.candidates analysis.now.entries) node) ≡ true) }
 {
-    says(table, node, candidate_of(parts, analysis, usize::from(node)))
+    says(
+        table,
+        node,
+        candidate_of(parts, analysis, usize::from(node)),
+    )
 }

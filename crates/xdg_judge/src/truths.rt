@@ -72,7 +72,14 @@ fn is_true(
         Formula::Left(first, second) => node_of(binding, *first) < node_of(binding, *second),
         Formula::Same(first, second) => node_of(binding, *first) == node_of(binding, *second),
         Formula::Attr(name, dim, attr, value) => {
-            has_value(parts, analysis, node_of(binding, *name), *dim, *attr, *value)
+            has_value(
+                parts,
+                analysis,
+                node_of(binding, *name),
+                *dim,
+                *attr,
+                *value,
+            )
         }
         Formula::Feat(name, table) => has_entry(parts, analysis, node_of(binding, *name), table),
     }

@@ -79,4 +79,4 @@ module _ (parts : Parts) (group : Group) (linking : IsLinking group.principle) w
 
 -- the kinds that a propagator keeps
 pub are_named : (own wakes : ℕ) (parts : Parts) (number : ℕ) → StandsFor (stands_at own wakes) parts number → AreNamed parts (use_at parts number) wakes
-are_named own wakes parts number mine kind h = kind_named parts (use_at parts number) mine.1.1 kind (subst (λ w. bit_at w kind ≡ 1) mine.1.2 h)
+are_named own wakes parts number mine kind h = inr (kind_named parts (use_at parts number) mine.1.1 kind (subst (λ w. bit_at w kind ≡ 1) mine.1.2 h))

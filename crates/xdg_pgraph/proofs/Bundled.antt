@@ -48,7 +48,7 @@ module _ (group : Group) (principle : group.principle ≡ principles.Valency) (w
   by_valency : (parts : Parts) (box : List (List Bool)) (d v : ℕ) → TakesBy principles.Valency parts group box d v → Takes parts group box d v
   by_valency parts box d v rule = inr (subst (λ p. TakesBy p parts group box d v) (sym principle) rule)
 
-  edge_takes : (parts : Parts) (box : List (List Bool)) (d v : ℕ) → EdgeAt way parts group box node label d v → Takes parts group box d v
+  pub edge_takes : (parts : Parts) (box : List (List Bool)) (d v : ℕ) → EdgeAt way parts group box node label d v → Takes parts group box d v
   edge_takes parts box d v (inl f) = by_valency parts box d v (inr (inl (record {
     place = f.place;
     is = which_place whichs.May parts box (first_dim group) f.place f.is.may.among;
@@ -63,7 +63,7 @@ module _ (group : Group) (principle : group.principle ≡ principles.Valency) (w
     needed = needed_by group box node label (may_edges parts box (first_dim group)) f.place f.is.may.label_is way f.is.may.near f.needed;
   })))
 
-  entry_takes : (parts : Parts) (box : List (List Bool)) (c : ℕ) → node < nodes parts → label < label_count parts (first_dim group) → HasNoneWithin (numbers_of way group node label c) (count_of way (must_edges parts box (first_dim group)) node label) (count_of way (may_edges parts box (first_dim group)) node label) → Takes parts group box (entry_decision node) c
+  pub entry_takes : (parts : Parts) (box : List (List Bool)) (c : ℕ) → node < nodes parts → label < label_count parts (first_dim group) → HasNoneWithin (numbers_of way group node label c) (count_of way (must_edges parts box (first_dim group)) node label) (count_of way (may_edges parts box (first_dim group)) node label) → Takes parts group box (entry_decision node) c
   entry_takes parts box c within known none = by_valency parts box (entry_decision node) c (inl (record { node = node; within = within; label = label; known = known; is = refl; none = none_by way group node label c (must_edges parts box (first_dim group)) (may_edges parts box (first_dim group)) none }))
 
 -- ---- an edge that may be and need not makes one more

@@ -8,7 +8,7 @@ use Rattle.xdg_problem.specs.declared.analysis.Edge.{Edge}
 use Rattle.xdg_problem.specs.declared.parts.Group.{Group}
 use Rattle.xdg_problem.specs.declared.parts.Parts.{Parts}
 use Rattle.xdg_problem.specs.Analyses.{IsPlace}
-use Rattle.xdg_problem.specs.Boxes.{entry_decision, edge_decision}
+use Rattle.xdg_problem.specs.Boxes.{Has, entry_decision, edge_decision}
 use Rattle.xdg_problem.proofs.PlaceOrder.{place_is}
 use Rattle.xdg_rules.specs.Rules.{HasNoneWithin}
 use Rattle.xdg_store.specs.States.{State}
@@ -56,6 +56,19 @@ module _ (parts : Parts) (group : Group) (bundle : Bundle) (least most : ℕ) (p
           | inr other ↦ (let l = a.1 in omega (arith, l, other))
         ],
       ))
+
+  -- an entry that doesn't remain
+  pub barred_absent : (k : ℕ) → (Has mid.now (entry_decision bundle.node) k → ⊥) → Clears (Below k) p old q mid → Clears (Below (k + 1)) p old q mid
+  barred_absent k absent c = record {
+    same = c.same;
+    inside = c.inside;
+    quiet = c.quiet;
+    gone = λ z d v a h. elim (cases_eq v k) [
+      | inl same ↦ absent (subst (λ e. Has mid.now e k) a.0.0 (subst (Has mid.now d) same h))
+      | inr other ↦ c.gone z d v (a.0, (let l = a.1 in omega (arith, l, other))) h
+    ];
+    goes = λ group around is lies takes. c.goes group around is lies (λ d v a. takes d v (a.0, (let l = a.1 in omega (arith, l))));
+  }
 
   pub barred_taken : (k : ℕ) → k < length (get_or parts.candidates bundle.node []) → All (Outside least most) (numbers k) → Clears (Below k) p old q mid → Clears (λ d v. (d ≡ entry_decision bundle.node) × (v ≡ k)) q mid r new → Clears (Below (k + 1)) p old r new
   barred_taken k within all a b = clears_both (Below k) (λ d v. (d ≡ entry_decision bundle.node) × (v ≡ k)) (Below (k + 1)) p q r old mid new

@@ -63,7 +63,7 @@ abbrev pub in_bundle : Way → ℕ → ℕ → Edge → Bool
 in_bundle ways.Out node label e = (e.mother.0 == node) && (e.label.0 == label)
 in_bundle ways.In node label e = (e.daughter.0 == node) && (e.label.0 == label)
 
-in_parts : (way : Way) (node label : ℕ) (e : Edge) → in_bundle way node label e ≡ true → (near_node way e ≡ node) × (e.label.0 ≡ label)
+pub in_parts : (way : Way) (node label : ℕ) (e : Edge) → in_bundle way node label e ≡ true → (near_node way e ≡ node) × (e.label.0 ≡ label)
 in_parts ways.Out node label e h = (let both = and_parts (e.mother.0 == node) (e.label.0 == label) h in (eqb-true e.mother.0 node both.0, eqb-true e.label.0 label both.1))
 in_parts ways.In node label e h = (let both = and_parts (e.daughter.0 == node) (e.label.0 == label) h in (eqb-true e.daughter.0 node both.0, eqb-true e.label.0 label both.1))
 
@@ -71,7 +71,7 @@ pub in_from : (way : Way) (node label : ℕ) (e : Edge) → near_node way e ≡ 
 in_from ways.Out node label e n l = and_from (e.mother.0 == node) (e.label.0 == label) (eq-eqb e.mother.0 node n) (eq-eqb e.label.0 label l)
 in_from ways.In node label e n l = and_from (e.daughter.0 == node) (e.label.0 == label) (eq-eqb e.daughter.0 node n) (eq-eqb e.label.0 label l)
 
-counted : (way : Way) (edges : List Edge) (node label : ℕ) → length (filter (in_bundle way node label) edges) ≡ count_of way edges node label
+pub counted : (way : Way) (edges : List Edge) (node label : ℕ) → length (filter (in_bundle way node label) edges) ≡ count_of way edges node label
 counted ways.Out edges node label = length-filter (in_bundle ways.Out node label) edges
 counted ways.In edges node label = length-filter (in_bundle ways.In node label) edges
 

@@ -3,6 +3,7 @@ pub mod Swept
 pub mod Stepping
 pub mod OpenEdges
 pub mod Bundled
+pub mod Others
 pub mod Clearing
 pub mod Allowed
 pub mod Rising
@@ -15,7 +16,7 @@ pub mod Ruled
 pub mod RuledRoots
 pub mod Single
 pub mod Reached
-pub mod Tables
 pub mod Labels
 pub mod Told
 pub mod Skipped
+pub mod Needing

@@ -13,10 +13,10 @@ use Rattle.xdg_rules.specs.Rules.{HasNoneWithin, IsGreatest, IsLeast, ValencyEnt
 use Rattle.xdg_rules.proofs.Shrinking.{may_is}
 
 module _ (old new : List (List Bool)) (lies : LiesIn new old) (node : ℕ) (entries : (c : ℕ) → Has old (entry_decision node) c → Has new (entry_decision node) c) (row : ℕ → List ℕ) (number : ℕ) where
-  greatest_before : IsGreatest new node row number → IsGreatest old node row number
+  pub greatest_before : IsGreatest new node row number → IsGreatest old node row number
   greatest_before g = record { entry = g.entry; remains = lies (entry_decision node) g.entry g.remains; allowed = g.allowed; most = λ c h. g.most c (entries c h) }
 
-  least_before : IsLeast new node row number → IsLeast old node row number
+  pub least_before : IsLeast new node row number → IsLeast old node row number
   least_before g = record { entry = g.entry; remains = lies (entry_decision node) g.entry g.remains; allowed = g.allowed; least = λ c h. g.least c (entries c h) }
 
 module _ (parts : Parts) (group : Group) (old new : List (List Bool)) (d v : ℕ) (lies : LiesIn new old) (may : may_edges parts new (first_dim group) ≡ may_edges parts old (first_dim group)) (must : must_edges parts new (first_dim group) ≡ must_edges parts old (first_dim group)) where

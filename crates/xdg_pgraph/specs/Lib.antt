@@ -4,6 +4,7 @@ pub mod Entering
 pub mod Incomings
 pub mod Ruling
 pub mod Bundles
+pub mod Untouched
 pub mod Family
 pub mod Standing
 pub mod TreeTests

@@ -83,8 +83,6 @@ pub record Only (parts : Parts) (edges : List Edge) (node d v : ℕ) : Type 0 wh
   pub says : SaysAbsent parts place d v
 
 -- one of the edges leads from a node to another
-abbrev pub Steps : List Edge → ℕ → ℕ → Type 0
-Steps edges u v = (e : Edge) × Joins edges u v e
 
 -- the table leads from the daughter of an edge back to its mother
 abbrev pub Backs : List (List ℕ) → Edge → Type 0

@@ -1,26 +1,30 @@
 //! The propagator.
 
 ghost use Rattle.std.specs.Prelude.{◌≡◌, ◌<◌, ◌+◌, ◌-◌, ◌^◌, ◌↔◌, ℕ, Bool, List, IfOk, length, min};
+ghost use Rattle.xdg_propcore.specs.Kinds.{AreNamed};
 ghost use Rattle.xdg_problem.specs.declared.parts.Parts.{Parts as Sentence};
+ghost use Rattle.xdg_problem.specs.declared.parts.Principle.TheVariants as principles;
 ghost use Rattle.xdg_problem.specs.Arguments.{first_dim};
 ghost use Rattle.xdg_problem.specs.Problems.{IsGroup};
 ghost use Rattle.xdg_rules.specs.Rules.{IsClosedFor};
 ghost use Rattle.xdg_store.specs.States.{Known};
-ghost use Rattle.xdg_propcore.specs.Kinds.{AreNamed};
+ghost use Rattle.xdg_propcore.specs.Standing.{Held, HeldIf};
 ghost use Rattle.xdg_propcore.specs.Steps.{Extends, Keeps, Moves};
 ghost use Rattle.xdg_propcore.specs.Sweeps.{Sweeps};
+ghost use Rattle.xdg_propcore.specs.declared.moved.Moved.TheVariants as moves;
 ghost use Rattle.xdg_propcore.specs.Uses.{IsClosedBy, StandsFor, StandsIn, use_at};
 ghost use Rattle.xdg_pgraph.specs.Family.{IsOfFamily, kinds_of};
 ghost use Rattle.xdg_pgraph.specs.Standing.{stands_for};
 ghost use Rattle.xdg_pgraph.specs.Staying.{stays_still};
+ghost use Rattle.xdg_pgraph.specs.Untouched.{AreOthersDone};
 
 use crate::label::{take_dag, take_tree};
 use crate::plane::{Plane, label_count};
 use crate::valency::take_valency;
 use xdg_base::OutOfMemory;
 use xdg_problem::{Group, Parts, Principle, Problem};
-use xdg_propcore::{Moved, Pass, Propagator, Wake};
-use xdg_store::Store;
+use xdg_propcore::{Moved, Pass, Propagator, Touched, Wake};
+use xdg_store::{Mark, Store};
 use xdg_uses::{dim_of, truth_of};
 
 /// The propagator of a use of graph, entries, tree, dag or valency. The first two take nothing.
@@ -45,12 +49,26 @@ fn kinds_of(group: &Group) -> Wake
     }
 }
 
-/// Takes what a principle use takes.
-fn sweep(store: &mut Store, pass: &mut Pass, parts: &Parts, group: &Group)
+/// What was lost since a mark at which valency was still, or all where there is no such mark.
+fn touched_since(store: &Store, group: &Group, since: &Option<Mark>) -> Touched
+    requires known { Known store.now }
+    requires principle { group.now.principle ≡ principles.Valency }
+    requires held { HeldIf (λ parts box. IsClosedFor parts group.now box) store.now since.now }
+    ensures { AreOthersDone result store.now.parts group.now store.now.now }
+{
+    match *since {
+        Some(mark) => Touched::since(store, mark, dim_of(group, 0)),
+        None => Touched::all(),
+    }
+}
+
+/// Takes what a principle use takes, which was still at a mark, if there is one.
+fn sweep(store: &mut Store, pass: &mut Pass, parts: &Parts, group: &Group, since: &Option<Mark>)
     requires parts { parts.now ≡ store.old.parts }
     requires known { Known store.old }
     requires group { IsGroup store.old.parts group.now }
     requires family { IsOfFamily group.now.principle }
+    requires held { HeldIf (λ parts box. IsClosedFor parts group.now box) store.old since.now }
     ensures { Sweeps group.now (IsClosedFor store.old.parts group.now) pass.old store.old pass.new store.new }
 {
     let plane = Plane::of(parts, group);
@@ -58,7 +76,9 @@ fn sweep(store: &mut Store, pass: &mut Pass, parts: &Parts, group: &Group)
         Principle::Tree => take_tree(store, pass, &plane),
         Principle::Dag => take_dag(store, pass, &plane, truth_of(group, 0), truth_of(group, 1)),
         Principle::Valency => {
-            take_valency(store, pass, &plane, group, label_count(parts, &plane));
+            let touched = touched_since(store, group, since);
+            let labels = label_count(parts, &plane);
+            take_valency(store, pass, &plane, group, &touched, labels);
         }
         _ => {}
     }
@@ -78,6 +98,25 @@ impl GraphProp {
             wakes: kinds_of(&parts.groups.as_slice()[group]),
         })
     }
+
+    /// Takes a step, where it was still at a mark, if there is one.
+    fn take_step(&self, store: &mut Store, since: Option<Mark>) -> Moved
+        requires stands { StandsIn (stands_for self.now) store.old.parts }
+        requires held { HeldIf (λ parts box. IsClosedBy (stands_for self.now) parts box) store.old since }
+        ensures extends { Extends store.old store.new }
+        ensures keeps { Keeps (stands_for self.now) result store.old store.new }
+        ensures same { (result ≡ moves.Same) ↔ IsClosedBy (stands_for self.now) store.old.parts store.old.now }
+        ensures moves { Moves result store.old store.new }
+        ensures turns { store.new.turns ≡ min (store.old.turns + 1) (2 ^ 64 - 1) }
+        ensures known { Known store.new }
+    {
+        store.turn();
+        let parts = store.problem().parts();
+        let group = &parts.groups.as_slice()[self.number];
+        let mut pass = Pass::start();
+        sweep(store, &mut pass, parts, group, &since);
+        pass.moved()
+    }
 }
 
 impl Propagator for GraphProp {
@@ -92,12 +131,11 @@ impl Propagator for GraphProp {
     }
 
     fn step(&self, store: &mut Store) -> Moved {
-        store.turn();
-        let parts = store.problem().parts();
-        let group = &parts.groups.as_slice()[self.number];
-        let mut pass = Pass::start();
-        sweep(store, &mut pass, parts, group);
-        pass.moved()
+        self.take_step(store, None)
+    }
+
+    fn step_since(&self, store: &mut Store, since: Mark) -> Moved {
+        self.take_step(store, Some(since))
     }
 
     ghost still_closed = { λ p parts box problem is still. still };

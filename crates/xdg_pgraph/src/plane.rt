@@ -4,6 +4,7 @@ ghost use Rattle.std.specs.Prelude.{◌≡◌, ◌<◌, length};
 ghost use Rattle.xdg_problem.specs.Arguments.{first_dim, label_count};
 ghost use Rattle.xdg_problem.specs.Places.{edge};
 ghost use Rattle.xdg_problem.specs.Problems.{IsProblem, IsGroup};
+ghost use Rattle.xdg_pgraph.specs.Family.{IsOfFamily};
 ghost use Rattle.xdg_pgraph.specs.Planes.{IsPlane};
 
 use xdg_base::{DimId, LabelId, NodeId};
@@ -32,6 +33,7 @@ impl Plane {
     pub(crate) fn of(parts: &Parts, group: &Group) -> Plane
         requires problem { IsProblem parts.now }
         requires group { IsGroup parts.now group.now }
+        requires family { IsOfFamily group.now.principle }
         ensures plane { IsPlane parts.now result }
         ensures dim { result.dim.0 ≡ first_dim group.now }
     {

@@ -1,6 +1,6 @@
 //! The rules of valency: the numbers of edges with a label out of a node and into it are some that its entry allows.
 
-ghost use Rattle.std.specs.Prelude.{◌≡◌, ◌<◌, ℕ, cond, true};
+ghost use Rattle.std.specs.Prelude.{◌≡◌, ◌<◌, ◌↔◌, [], ℕ, IsTrue, cond, slice_index_or, true};
 ghost use Rattle.xdg_nodeset.specs.Nodes.{has};
 ghost use Rattle.xdg_problem.specs.declared.parts.Principle.TheVariants as principles;
 ghost use Rattle.xdg_problem.specs.Analyses.{IsPlace};
@@ -9,10 +9,11 @@ ghost use Rattle.xdg_problem.specs.Boxes.{edge_decision};
 ghost use Rattle.xdg_problem.specs.Places.{nodes};
 ghost use Rattle.xdg_problem.specs.Problems.{IsGroup};
 ghost use Rattle.xdg_store.specs.States.{Known};
-ghost use Rattle.xdg_propcore.specs.Passes.{Clears};
+ghost use Rattle.xdg_propcore.specs.Passes.{Clears, IsQuiet};
 ghost use Rattle.xdg_propcore.specs.Sweeps.{Sweeps};
 ghost use Rattle.xdg_pgraph.specs.Bundles.{AreLabelsDone, AreNodesDone, Barred, EdgeAt, IsBundleDone, IsLabelDone, OpenTo, edge_to};
 ghost use Rattle.xdg_pgraph.specs.Planes.{IsPlane};
+ghost use Rattle.xdg_pgraph.specs.Untouched.{AreOthersDone, IsTouched, side};
 
 use crate::bounds::{has_none_within, is_greatest, is_least};
 use crate::bundle::{Bundle, Way, count_of, ends, numbers_of};
@@ -21,7 +22,7 @@ use crate::plane::Plane;
 use xdg_base::NodeId;
 use xdg_nodeset::NodeSet;
 use xdg_problem::{Edge, Group};
-use xdg_propcore::Pass;
+use xdg_propcore::{Pass, Touched};
 use xdg_store::Store;
 use xdg_uses::entry_count;
 
@@ -40,6 +41,9 @@ fn take_entries(
     ensures known { Known store.new }
 {
     for place in 0..entry_count(store.problem().parts(), NodeId(bundle.node)) {
+        if !store.entry_in(NodeId(bundle.node), place) {
+            continue;
+        }
         if !has_none_within(numbers_of(group, bundle, place), least, most) {
             continue;
         }
@@ -147,8 +151,69 @@ fn take_bundle(store: &mut Store, pass: &mut Pass, plane: &Plane, group: &Group,
     take_edges(store, pass, plane, group, bundle);
 }
 
+/// The nodes that have lost values of edges out of them, or into them, by their labels.
+fn side(touched: &Touched, way: Way) -> &[NodeSet; 32]
+    ensures { result.now ≡ side way touched.now }
+{
+    match way {
+        Way::Out => &touched.out,
+        Way::In => &touched.into,
+    }
+}
+
+/// The nodes that a table has for a label.
+fn nodes_at(table: &[NodeSet; 32], label: u8) -> NodeSet
+    requires { label < 32 }
+    ensures { result ≡ slice_index_or table.now label [] }
+{
+    table[usize::from(label)]
+}
+
+/// Whether something was lost of a bundle.
+fn is_touched(touched: &Touched, bundle: Bundle) -> bool
+    requires node { bundle.node < 128 }
+    requires label { bundle.label < 32 }
+    ensures { IsTrue result ↔ IsTouched bundle.way touched.now bundle.node bundle.label }
+{
+    let nodes = nodes_at(side(touched, bundle.way), bundle.label);
+    touched.entries.union(&nodes).contains(NodeId(bundle.node))
+}
+
+/// Takes what valency takes at a bundle, if something was lost of it.
+fn take_touched(
+    store: &mut Store,
+    pass: &mut Pass,
+    plane: &Plane,
+    group: &Group,
+    touched: &Touched,
+    bundle: Bundle,
+)
+    requires plane { IsPlane store.old.parts plane.now }
+    requires dim { plane.now.dim.0 ≡ first_dim group.now }
+    requires known { Known store.old }
+    requires group { IsGroup store.old.parts group.now }
+    requires principle { group.now.principle ≡ principles.Valency }
+    requires node { bundle.node < plane.now.nodes }
+    requires label { bundle.label < label_count store.old.parts plane.now.dim.0 }
+    requires others { IsQuiet pass.old → AreOthersDone touched.now store.old.parts group.now store.old.now }
+    ensures { Sweeps group.now (IsBundleDone bundle.way store.old.parts group.now bundle.node bundle.label) pass.old store.old pass.new store.new }
+{
+    if !is_touched(touched, bundle) {
+        return;
+    }
+    take_bundle(store, pass, plane, group, bundle);
+}
+
 /// Takes what valency takes at a node and a label.
-fn take_label(store: &mut Store, pass: &mut Pass, plane: &Plane, group: &Group, node: u8, label: u8)
+fn take_label(
+    store: &mut Store,
+    pass: &mut Pass,
+    plane: &Plane,
+    group: &Group,
+    touched: &Touched,
+    node: u8,
+    label: u8,
+)
     requires plane { IsPlane store.old.parts plane.now }
     requires dim { plane.now.dim.0 ≡ first_dim group.now }
     requires known { Known store.old }
@@ -156,6 +221,7 @@ fn take_label(store: &mut Store, pass: &mut Pass, plane: &Plane, group: &Group, 
     requires principle { group.now.principle ≡ principles.Valency }
     requires node { node < plane.now.nodes }
     requires label { label < label_count store.old.parts plane.now.dim.0 }
+    requires others { IsQuiet pass.old → AreOthersDone touched.now store.old.parts group.now store.old.now }
     ensures { Sweeps group.now (IsLabelDone store.old.parts group.now node label) pass.old store.old pass.new store.new }
 {
     let out = Bundle {
@@ -163,13 +229,13 @@ fn take_label(store: &mut Store, pass: &mut Pass, plane: &Plane, group: &Group, 
         node,
         label,
     };
-    take_bundle(store, pass, plane, group, out);
+    take_touched(store, pass, plane, group, touched, out);
     let into = Bundle {
         way: Way::In,
         node,
         label,
     };
-    take_bundle(store, pass, plane, group, into);
+    take_touched(store, pass, plane, group, touched, into);
 }
 
 /// Takes what valency takes at a node and all labels.
@@ -178,6 +244,7 @@ fn take_labels(
     pass: &mut Pass,
     plane: &Plane,
     group: &Group,
+    touched: &Touched,
     node: u8,
     labels: u8,
 )
@@ -188,19 +255,22 @@ fn take_labels(
     requires principle { group.now.principle ≡ principles.Valency }
     requires node { node < plane.now.nodes }
     requires labels { labels ≡ label_count store.old.parts plane.now.dim.0 }
+    requires others { IsQuiet pass.old → AreOthersDone touched.now store.old.parts group.now store.old.now }
     ensures { Sweeps group.now (AreLabelsDone labels store.old.parts group.now node) pass.old store.old pass.new store.new }
 {
     for label in 0..labels {
-        take_label(store, pass, plane, group, node, label);
+        take_label(store, pass, plane, group, touched, node, label);
     }
 }
 
-/// Takes what valency takes at all nodes, on a dimension with so many labels.
+/// Takes what valency takes at all nodes, on a dimension with so many labels. Where nothing was lost of a bundle nothing is left
+/// to take there.
 pub(crate) fn take_valency(
     store: &mut Store,
     pass: &mut Pass,
     plane: &Plane,
     group: &Group,
+    touched: &Touched,
     labels: u8,
 )
     requires plane { IsPlane store.old.parts plane.now }
@@ -209,9 +279,10 @@ pub(crate) fn take_valency(
     requires group { IsGroup store.old.parts group.now }
     requires principle { group.now.principle ≡ principles.Valency }
     requires labels { labels ≡ label_count store.old.parts plane.now.dim.0 }
+    requires others { IsQuiet pass.old → AreOthersDone touched.now store.old.parts group.now store.old.now }
     ensures { Sweeps group.now (AreNodesDone plane.now.nodes labels store.old.parts group.now) pass.old store.old pass.new store.new }
 {
     for node in 0..plane.nodes {
-        take_labels(store, pass, plane, group, node, labels);
+        take_labels(store, pass, plane, group, touched, node, labels);
     }
 }

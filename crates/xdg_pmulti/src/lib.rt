@@ -10,3 +10,4 @@ mod reads;
 mod taking;
 
 pub use multi_prop::MultiProp;
+pub use taking::forbid_beyond;

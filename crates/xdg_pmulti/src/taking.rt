@@ -16,7 +16,7 @@ use xdg_reach::{Which, daughters_by};
 use xdg_store::Store;
 
 /// Takes away that an edge with a label out of a node is present, each whose daughter is outside a set.
-pub(crate) fn forbid_beyond(
+pub fn forbid_beyond(
     store: &mut Store,
     pass: &mut Pass,
     dim: DimId,

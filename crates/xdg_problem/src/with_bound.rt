@@ -18,7 +18,12 @@ impl Problem {
     /// # Errors
     ///
     /// Fails where memory runs out.
-    pub fn with_bound(&self, alloc: Global, costs: &Costs, bound: u64) -> Result<Problem, OutOfMemory>
+    pub fn with_bound(
+        &self,
+        alloc: Global,
+        costs: &Costs,
+        bound: u64,
+    ) -> Result<Problem, OutOfMemory>
         ensures { IfOk result (λ made. made ≡ further.with_uses self.now (further.bound_of self.now costs.now bound)) }
     {
         let mut parts = copy_parts(alloc, self.parts())?;
@@ -34,5 +39,7 @@ fn add_bound(alloc: Global, parts: &mut Parts, costs: &Costs, bound: u64) -> Res
 {
     let feats = no_features(alloc, parts.candidates.as_slice())?;
     let principle = Principle::Bound(costs.copy(alloc)?, bound);
-    parts.groups.push(use_of(alloc, feats.as_slice(), principle)?)
+    parts
+        .groups
+        .push(use_of(alloc, feats.as_slice(), principle)?)
 }

@@ -2,6 +2,8 @@ pub mod Flags
 pub mod Losses
 pub mod Waking
 pub mod Settling
+pub mod Holding
+pub mod Touches
 pub mod Analyses
 pub mod Decided
 pub mod DecisionKinds

@@ -15,7 +15,7 @@ named_none parts group kind one = absurd (let z = bit_at-zero kind in omega (ari
 -- the set of one kind
 pub named_one : (parts : Parts) (group : Group) (kind wakes : ℕ) → wakes ≡ 2 ^ kind → IsNamed parts group kind → AreNamed parts group wakes
 named_one parts group kind wakes is named other one = elim (cases_eq other kind) [
-  | inl q ↦ subst (IsNamed parts group) (sym q) named
+  | inl q ↦ inr (subst (IsNamed parts group) (sym q) named)
   | inr n ↦ absurd (let z = bit_at-pow_other kind other n in let y = ap (λ m. bit_at m other) is in omega (arith, z, y, one))
 ]
 

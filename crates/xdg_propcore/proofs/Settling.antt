@@ -11,6 +11,7 @@ use Rattle.xdg_problem.specs.Vectors.{shape}
 use Rattle.xdg_store.specs.States.{State, Known}
 use Rattle.xdg_propcore.specs.Fixed.{IsClosedByAll, IsGreatest}
 use Rattle.xdg_propcore.specs.Flags.{IsOn, on_count}
+use Rattle.xdg_propcore.specs.Standing.{Held, SleepersStill, WereStill, box_at}
 use Rattle.xdg_propcore.specs.Kinds.{kind_of}
 use Rattle.xdg_propcore.specs.Losses.{Loses, LosesOutside, lost_count, woken_count, wakers}
 use Rattle.xdg_propcore.specs.Steps.{Extends, Keeps, KeepsBoxes}
@@ -35,7 +36,7 @@ one_less (false ∷ flags) zero h = cc
 one_less (true ∷ flags) (suc at) h = let e = one_less flags at h in omega (arith, e)
 one_less (false ∷ flags) (suc at) h = one_less flags at h
 
-on_within : (flags : List Bool) → on_count flags ≤ length flags
+pub on_within : (flags : List Bool) → on_count flags ≤ length flags
 on_within [] = omega arith
 on_within (true ∷ flags) = let e = on_within flags in omega (arith, e)
 on_within (false ∷ flags) = let e = on_within flags in omega (arith, e)
@@ -82,23 +83,23 @@ kinds_in wakes sets lost count next is l woken i m hit =
     let k = length-map wakes (λ w. w.0) in
     woken i (omega (arith, n, k, l, m)) (subst (λ z. bit_and (get_or z i 0) lost ≢ 0) (sym is) hit)
 
-module _ {P : Type 0} (stands : P → Parts → ℕ → Type 0) (still : P → Parts → List (List Bool) → Type 0) (kinds : P → ℕ) (props : List P) (old : State) where
+module _ {P : Type 0} (stands : P → Parts → ℕ → Type 0) (still : P → Parts → List (List Bool) → Type 0) (kinds : P → ℕ) (props : List P) (old : State) (first : ℕ) where
   pub record Running (now : State) (awake : List Bool) : Type 0 where
     pub extends : Extends old now
     pub known : Known now
     pub lengths : length awake ≡ length props
     pub keeps : (box : List (List Bool)) → IsClosedByAll stands props old.parts box → LiesIn box old.now → LiesIn box now.now
     pub asleep : (at : ℕ) (d : P) → at < length props → (IsOn awake at → ⊥) → still (get_or props at d) old.parts now.now
-    pub paid : now.turns + (on_count awake + cost (map kinds props) old.parts now.now) ≤ old.turns + (length props + cost (map kinds props) old.parts old.now)
+    pub paid : now.turns + (on_count awake + cost (map kinds props) old.parts now.now) ≤ old.turns + (first + cost (map kinds props) old.parts old.now)
 
-  pub running_start : (awake : List Bool) → Known old → length awake ≡ length props → ((at : ℕ) → at < length awake → IsOn awake at) → Running old awake
-  running_start awake known e all = record {
+  pub running_start : (awake : List Bool) → Known old → length awake ≡ length props → SleepersStill still props awake old.parts old.now → on_count awake ≤ first → Running old awake
+  running_start awake known e asleep few = record {
     extends = extends_none old;
     known = known;
     lengths = e;
     keeps = λ box k l. l;
-    asleep = λ at d l n. absurd (n (all at (omega (arith, l, e))));
-    paid = (let n = on_within awake in omega (arith, n, e));
+    asleep = asleep;
+    paid = omega (arith, few);
   }
 
   -- the propagator stands for a principle use of the sentence still
@@ -180,13 +181,13 @@ module _ {P : Type 0} (stands : P → Parts → ℕ → Type 0) (still : P → P
 
   -- ---- the turns
 
-  turns_of : (new : List (List Bool)) (turns : ℕ) → LiesIn new old.now → turns + cost (map kinds props) old.parts new ≤ old.turns + (length props + cost (map kinds props) old.parts old.now) → turns ≤ old.turns + (length props + (lost_count old.now new + woken_count old.parts (map kinds props) old.now new))
+  turns_of : (new : List (List Bool)) (turns : ℕ) → LiesIn new old.now → turns + cost (map kinds props) old.parts new ≤ old.turns + (first + cost (map kinds props) old.parts old.now) → turns ≤ old.turns + (first + (lost_count old.now new + woken_count old.parts (map kinds props) old.now new))
   turns_of new turns inside paid = let c = cost_falls (map kinds props) old.parts old.now new inside in omega (arith, c, paid)
 
-  pub done_turns : (s : State) (awake : List Bool) → Running s awake → s.turns ≤ old.turns + (length props + (lost_count old.now s.now + woken_count old.parts (map kinds props) old.now s.now))
+  pub done_turns : (s : State) (awake : List Bool) → Running s awake → s.turns ≤ old.turns + (first + (lost_count old.now s.now + woken_count old.parts (map kinds props) old.now s.now))
   done_turns s awake r = let b = r.paid in turns_of s.now s.turns r.extends.inside (omega (arith, b))
 
-  pub dead_turns : (s new : State) (awake : List Bool) (at : ℕ) → Running s awake → IsOn awake at → Extends s new → new.turns ≤ s.turns + 1 → new.turns ≤ old.turns + (length props + (lost_count old.now new.now + woken_count old.parts (map kinds props) old.now new.now))
+  pub dead_turns : (s new : State) (awake : List Bool) (at : ℕ) → Running s awake → IsOn awake at → Extends s new → new.turns ≤ s.turns + 1 → new.turns ≤ old.turns + (first + (lost_count old.now new.now + woken_count old.parts (map kinds props) old.now new.now))
   dead_turns s new awake at r h e turns =
       let w = one_less awake at h in
       let c = cost_falls (map kinds props) old.parts s.now new.now e.inside in
@@ -207,3 +208,23 @@ module _ {P : Type 0} (stands : P → Parts → ℕ → Type 0) (still : P → P
       let c = change_pays (map kinds props) lost old.parts s.now new.now fits e.inside (subst (λ q. Loses q lost s.now new.now) r.extends.same loses) in
       let w = woken_within (map kinds props) lost awake next (length-map props kinds ∙ sym r.lengths) same_length only in
       omega (arith, c, w)
+
+-- ---- those that sleep at the start
+
+module _ {P : Type 0} (stands : P → Parts → ℕ → Type 0) (still : P → Parts → List (List Bool) → Type 0) (kinds : P → ℕ) (props : List P) where
+  -- none does
+  pub none_sleeps : (awake : List Bool) (parts : Parts) (box : List (List Bool)) → length awake ≡ length props → ((at : ℕ) → at < length awake → IsOn awake at) → SleepersStill still props awake parts box
+  none_sleeps awake parts box e all at d l n = absurd (n (all at (omega (arith, l, e))))
+
+  -- those that the lost kinds don't wake
+  pub others_sleep : (s : State) (mark lost : ℕ) (awake : List Bool) → Known s → All (λ q. StandsIn (stands q) s.parts) props → WereStill still props s mark lost
+      → ((q : P) (parts : Parts) (number : ℕ) (b c : List (List Bool)) → IsProblem parts → StandsFor (stands q) parts number → IsBox (shape parts) b → IsBox (shape parts) c → LiesIn c b → LosesOutside parts (kinds q) b c → still q parts b → still q parts c)
+      → ((i : ℕ) → i < length (map kinds props) → bit_and (get_or (map kinds props) i 0) lost ≢ 0 → IsOn awake i)
+      → SleepersStill still props awake s.parts s.now
+  others_sleep s mark lost awake known stand was law woken at d l n =
+      let long = length-map props kinds in
+      let none : bit_and (get_or (map kinds props) at 0) lost ≡ 0 = (elim (cases_eq (bit_and (get_or (map kinds props) at 0) lost) 0) [ inl q ↦ q | inr f ↦ absurd (n (woken at (omega (arith, l, long)) f)) ]) in
+      let mine : bit_and (kinds (get_or props at d)) lost ≡ 0 = subst (λ z. bit_and z lost ≡ 0) (get_or-map kinds props at d 0 l) none in
+      let held : Held (still (get_or props at d)) s mark = was.held at d l in
+      law (get_or props at d) s.parts (stand at d l).0 (box_at s mark) s.now known.problem (stand at d l).1 held.is known.is_box held.inside
+      (λ k v gone. apart (kinds (get_or props at d)) lost (kind_of s.parts k) mine (was.kinds k v gone)) held.calm

@@ -7,6 +7,8 @@ use Rattle.xdg_problem.specs.declared.analysis.Edge.{Edge}
 use Rattle.xdg_problem.specs.declared.parts.DimPlan.{DimPlan}
 use Rattle.xdg_problem.specs.declared.parts.Group.{Group}
 use Rattle.xdg_problem.specs.declared.parts.Parts.{Parts}
+use Rattle.xdg_problem.specs.declared.parts.Principle.{Principle}
+use Rattle.xdg_problem.specs.declared.parts.Principle.TheVariants as principles
 use Rattle.xdg_problem.specs.Arguments.{first_dim}
 use Rattle.xdg_problem.specs.Places.{below, nodes, places}
 use Rattle.xdg_problem.specs.Tests.{Test, IsTestOf, looks_at, entry_node, test_attrs}
@@ -51,6 +53,12 @@ pub record IsNamed (parts : Parts) (group : Group) (kind : ℕ) : Type 0 where
   pub is : IsTestOf group.principle group.truths size labels test
   pub looks : LooksAt parts group test kind
 
+-- the one test of a rule or a bound looks at all decisions
+abbrev pub LooksAtAll : Principle → Type 0
+LooksAtAll (principles.Rule formula) = Unit {0}
+LooksAtAll (principles.Bound costs bound) = Unit {0}
+LooksAtAll principle = ⊥
+
 -- a wake set has only kinds that the tests of the principle use name
 abbrev pub AreNamed : Parts → Group → ℕ → Type 0
-AreNamed parts group wakes = (kind : ℕ) → bit_at wakes kind ≡ 1 → IsNamed parts group kind
+AreNamed parts group wakes = (kind : ℕ) → bit_at wakes kind ≡ 1 → LooksAtAll group.principle ⊎ IsNamed parts group kind

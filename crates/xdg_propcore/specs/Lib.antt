@@ -5,6 +5,8 @@ pub mod Decides
 pub mod Steps
 pub mod Fixed
 pub mod Flags
+pub mod Standing
+pub mod Touching
 pub mod Passes
 pub mod Sweeps
 pub mod Sample

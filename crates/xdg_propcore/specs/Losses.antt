@@ -26,6 +26,10 @@ pub record Loses (parts : Parts) (wakes : ℕ) (old new : List (List Bool)) : Ty
 abbrev pub LosesOutside : Parts → ℕ → List (List Bool) → List (List Bool) → Type 0
 LosesOutside parts wakes old new = (d v : ℕ) → IsLost old new d v → bit_at wakes (kind_of parts d) ≡ 0
 
+-- each value that is lost has a kind of the set
+abbrev pub LosesWithin : Parts → ℕ → List (List Bool) → List (List Bool) → Type 0
+LosesWithin parts wakes old new = (d v : ℕ) → IsLost old new d v → bit_at wakes (kind_of parts d) ≡ 1
+
 -- a number for each value that a row has and another hasn't, together
 abbrev pub row_lost : ℕ → List Bool → List Bool → ℕ
 row_lost each [] new = 0

@@ -1,6 +1,6 @@
 //! Which propagators are awake.
 
-ghost use Rattle.std.specs.Prelude.{◌≡◌, ℕ, ◌<◌, true, false, length, slice_set, IfOk, IfSome, IfNone};
+ghost use Rattle.std.specs.Prelude.{◌≡◌, ℕ, ◌<◌, true, false, length, slice_index, slice_set, IfOk, IfSome, IfNone};
 ghost use Rattle.xdg_propcore.specs.Flags.{IsOn};
 
 use std::alloc::Global;
@@ -23,6 +23,16 @@ impl Model for Awake {
     ghost view = { λ a. flags_of a.words.items a.count };
 
     ghost invariant = { λ a. HoldsFlags a.words.items a.count };
+}
+
+/// Clears all bits of words.
+fn clear(words: &mut Vec<u64>)
+    ensures length { length words.new.items ≡ length words.old.items }
+    ensures zero { (place : ℕ) → slice_index words.new.items place ≡ 0 }
+{
+    for place in 0..words.len() {
+        words[place] = 0;
+    }
 }
 
 impl Awake {
@@ -61,6 +71,14 @@ impl Awake {
         ensures { self.new ≡ slice_set self.old at false }
     {
         self.words[at / 64] &= !(1 << (at % 64));
+    }
+
+    /// Lets all sleep.
+    pub(crate) fn sleep_all(&mut self)
+        ensures none { (at : ℕ) → IsOn self.new at → ⊥ }
+        ensures length { length self.new ≡ length self.old }
+    {
+        clear(&mut self.words);
     }
 
     /// Wakes all.

@@ -10,13 +10,16 @@ mod fixpoint;
 mod moved;
 mod pass;
 mod propagator;
+mod rests;
 mod running;
+mod touched;
 mod wake;
 
-pub use agenda::{Agenda, settle};
+pub use agenda::{Agenda, settle, settle_since};
 pub use deciding::still_decides;
 pub use fixpoint::Fixpoint;
 pub use moved::Moved;
 pub use pass::Pass;
 pub use propagator::Propagator;
+pub use touched::Touched;
 pub use wake::Wake;

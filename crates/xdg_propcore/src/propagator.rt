@@ -1,20 +1,21 @@
 //! What a propagator is.
 
 ghost use Rattle.std.specs.Prelude.{◌≡◌, ◌<◌, ◌+◌, ◌-◌, ◌^◌, ◌↔◌, ℕ, Bool, List, min};
+ghost use Rattle.xdg_rules.specs.Rules.{IsClosedFor};
 ghost use Rattle.xdg_problem.specs.declared.parts.Parts.{Parts};
 ghost use Rattle.xdg_problem.specs.Boxes.{IsBox, LiesIn};
 ghost use Rattle.xdg_problem.specs.Problems.{IsProblem};
 ghost use Rattle.xdg_problem.specs.Vectors.{shape};
-ghost use Rattle.xdg_rules.specs.Rules.{IsClosedFor};
 ghost use Rattle.xdg_store.specs.States.{Known};
 ghost use Rattle.xdg_propcore.specs.Kinds.{AreNamed};
 ghost use Rattle.xdg_propcore.specs.Losses.{LosesOutside};
+ghost use Rattle.xdg_propcore.specs.Standing.{Held};
 ghost use Rattle.xdg_propcore.specs.Steps.{Extends, Keeps, Moves};
 ghost use Rattle.xdg_propcore.specs.Uses.{IsClosedBy, StandsFor, StandsIn, use_at};
 
 use crate::moved::Moved;
 use crate::wake::Wake;
-use xdg_store::Store;
+use xdg_store::{Mark, Store};
 
 /// Takes values away from a box by the rules of a principle use, and only values that are in no box inside that is closed
 /// for the principle use.
@@ -42,6 +43,21 @@ pub trait Propagator: Drop {
         ensures moves { Moves result store.old store.new }
         ensures turns { store.new.turns ≡ min (store.old.turns + 1) (2 ^ 64 - 1) }
         ensures known { Known store.new };
+
+    /// The same, where it was still at a mark of the store: it may look at what has been lost since then alone.
+    fn step_since(&self, store: &mut Store, since: Mark) -> Moved
+        requires stands { StandsIn (stands self.now) store.old.parts }
+        requires held { Held (still self.now) store.old since }
+        ensures extends { Extends store.old store.new }
+        ensures keeps { Keeps (stands self.now) result store.old store.new }
+        ensures same { (result ≡ Moved.Same) ↔ still self.now store.old.parts store.old.now }
+        ensures moves { Moves result store.old store.new }
+        ensures turns { store.new.turns ≡ min (store.old.turns + 1) (2 ^ 64 - 1) }
+        ensures known { Known store.new }
+    {
+        let _ = since;
+        self.step(store)
+    }
 
     /// Where it is still, no rule of its principle takes a value that remains.
     ghost still_closed: { (p : Self) (parts : Parts) (box : List (List Bool)) → IsProblem parts → IsBox (shape parts) box → still p parts box → IsClosedBy (stands p) parts box };

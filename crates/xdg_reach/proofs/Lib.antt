@@ -1,3 +1,4 @@
 pub mod Labelled
 pub mod Edges
 pub mod Noting
+pub mod Widening

@@ -1,5 +1,6 @@
 -- The edges of a box.
-use Rattle.std.specs.Prelude.{ℕ, Bool, List, cond, length, slice_index_or}
+use Rattle.std.specs.Prelude.{ℕ, ◌≤◌, Bool, List, cond, length, slice_index_or}
+use Rattle.xdg_judge.specs.Links.{In}
 use Rattle.xdg_problem.specs.declared.analysis.Edge.{Edge}
 use Rattle.xdg_problem.specs.declared.parts.DimPlan.{DimPlan}
 use Rattle.xdg_problem.specs.declared.parts.Parts.{Parts}
@@ -18,6 +19,10 @@ edges_of whichs.Must = must_edges
 abbrev pub Stands : Which → Parts → List (List Bool) → Edge → Type 0
 Stands whichs.May = May
 Stands whichs.Must = Must
+
+-- the sets of a table are empty from a place on
+abbrev pub HasNoneFrom : ℕ → List (List ℕ) → Type 0
+HasNoneFrom size table = (a b : ℕ) → size ≤ a → In table a b → ⊥
 
 -- how many labels the edges of a dimension can have: none where it has no edges
 abbrev pub plan_labels : DimPlan → ℕ

@@ -9,7 +9,7 @@ mod upward;
 mod which;
 
 pub use labels::{edge_labels, labels_of, node_count};
-pub use paths::{above, ancestors, closed};
+pub use paths::{above, ancestors};
 pub use tables::{daughters, daughters_by, set_at};
 pub use upward::{mothers, mothers_by};
 pub use which::Which;

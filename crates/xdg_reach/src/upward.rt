@@ -6,7 +6,7 @@ ghost use Rattle.xdg_judge.specs.Links.{In};
 ghost use Rattle.xdg_problem.specs.Paths.{IsDaughter, IsDaughterBy};
 ghost use Rattle.xdg_problem.specs.Places.{nodes};
 ghost use Rattle.xdg_store.specs.States.{Known};
-ghost use Rattle.xdg_reach.specs.Edges.{edge_labels, edges_of};
+ghost use Rattle.xdg_reach.specs.Edges.{HasNoneFrom, edge_labels, edges_of};
 
 use crate::labels::{labels_of, node_count};
 use crate::which::Which;
@@ -51,6 +51,7 @@ fn mothers_of(store: &Store, which: Which, dim: DimId, daughter: NodeId) -> Node
 #[tactic(auto, using(crate::proofs::Noting::noted_start, crate::proofs::Noting::noted_next))]
 pub fn mothers(store: &Store, which: Which, dim: DimId) -> [NodeSet; 128]
     ensures exact { (a b : ℕ) → In result a b ↔ IsDaughter (edges_of which store.now.parts store.now.now dim.0) b a }
+    ensures rest { HasNoneFrom (nodes store.now.parts) result }
     ensures known { Known store.now }
 {
     let mut table = [NodeSet::empty(); 128];

@@ -36,6 +36,12 @@ agrees_fits box [] agrees = tt
 agrees_fits [] (x ∷ p) agrees = absurd agrees
 agrees_fits (row ∷ box) (x ∷ p) agrees = (row_within row x ((agrees.0 x).1 refl), agrees_fits box p agrees.1)
 
+-- and is no longer than the box
+pub agrees_short : (box : List (List Bool)) (p : List ℕ) → Agrees box p → length p ≤ length box
+agrees_short box [] agrees = omega arith
+agrees_short [] (x ∷ p) agrees = absurd agrees
+agrees_short (row ∷ box) (x ∷ p) agrees = (let rest = agrees_short box p agrees.1 in omega (arith, rest))
+
 -- a box agrees with each front of what it agrees with
 pub agrees_front : (box : List (List Bool)) (p t : List ℕ) → Agrees box (p ++ t) → Agrees box p
 agrees_front box [] t agrees = tt

@@ -1,5 +1,5 @@
 -- What a rule takes from a box can be decided of each value.
-use Rattle.std.proofs.Common.{◌≡◌, ◌≢◌, ℕ, ◌<◌, ◌≤◌, ◌⊎◌, inl, inr, Bool, List, [], ◌∷◌, length, refl, sym, subst, arith}
+use Rattle.std.proofs.Common.{◌≡◌, ◌≢◌, ℕ, ◌+◌, ◌<◌, ◌≤◌, ◌⊎◌, inl, inr, Bool, false, List, [], ◌∷◌, length, refl, sym, subst, arith}
 use Rattle.std.specs.Prelude.{All, Contains}
 use Rattle.std.specs.List.{Any}
 use Rattle.std.proofs.lemmas.List.Elements.{All-head}
@@ -10,15 +10,20 @@ use Rattle.xdg_problem.specs.declared.parts.Principle.{Principle}
 use Rattle.xdg_problem.specs.declared.parts.Principle.TheVariants as principles
 use Rattle.xdg_problem.specs.Arguments.{first_dim, second_dim, label_count, order_of, truth_of}
 use Rattle.xdg_problem.specs.Asking.{IsBetween, IsLinked}
+use Rattle.xdg_problem.specs.Claims.{claim}
+use Rattle.xdg_problem.specs.Costs.{CostLists}
 use Rattle.xdg_problem.specs.Features.{in_row, out_row, set_row, map_row}
 use Rattle.xdg_problem.specs.Paths.{edges_into, edges_out_of, mothers, roots, Leads, Above}
 use Rattle.xdg_problem.specs.Places.{nodes, places}
+use Rattle.xdg_problem.specs.Truths.{unbound}
 use Rattle.xdg_problem.proofs.Deciding.{Decided, decided_like, decided_both, decided_equal, decided_less, decided_most, decided_contains}
 use Rattle.xdg_problem.proofs.DecidingAsks.{decided_between, decided_linked}
 use Rattle.xdg_problem.proofs.DecidingPaths.{decided_either, decided_true, decided_not, decided_any, contained, triple_decided, decided_above}
 use Rattle.xdg_problem.proofs.Looking.{any_of}
 use Rattle.xdg_problem.specs.Boxes.{Has, IsOnly, entry_decision, edge_decision}
 use Rattle.xdg_rules.specs.Rules.{may_edges, must_edges, IsPlaceOn, SaysPresent, SaysAbsent, EachEntry, HasNoneWithin, IsGreatest, IsLeast, ValencyEntry, ValencyFull, ValencyNeeded, OneMother, RootFound, OnlyMother, NoCycle, OneLabel, attr_of_node, AgrValues, AsksAgreement, AgreementValues, Governs, GovernmentValues, ComesBefore, DaughterOrder, HeadOffends, AboutHead, OfHead, ProjectivityReach, ClimbingReach, BarriersReach, LinkingReach, LinkingNotDaughter, TakesForRoot, TakesBy}
+use Rattle.xdg_rules.specs.Bounds.{edge_cost, least_cost, BoundPlace}
+use Rattle.xdg_rules.proofs.Apart.{decided_makes}
 use Rattle.xdg_rules.proofs.DecidingBoxes.{decided_some_below, decided_has, decided_remaining, decided_some, decided_only, decided_each_entry, decided_lists, decided_edges, decided_among, decided_none_within, decided_greatest, decided_least, decided_comes}
 
 -- some element of a list
@@ -295,6 +300,12 @@ module _ (parts : Parts) (group : Group) (box : List (List Bool)) (d v : ℕ) wh
       (decided_both _ _ (says_present e) (decided_among (must two) o))
       (decided_both _ _ (says_present o) (decided_among (must one) e))))))))
 
+  bound_place : (costs : CostLists) (bound : ℕ) → Decided (BoundPlace parts costs bound box d v)
+  bound_place costs bound = decided_like ((e : Edge) × Contains (places parts) e × (SaysPresent parts e d v × (Has box (edge_decision parts e) 1 × (bound ≤ least_cost parts costs box + edge_cost costs e)))) (BoundPlace parts costs bound box d v)
+      (λ s. record { place = s.0; is = s.1; says = s.2.0; free = s.2.1.0; reaches = s.2.1.1 })
+      (λ r. (r.place, r.is, (r.says, (r.free, r.reaches))))
+      (decided_in (places parts) _ (λ e. decided_both _ _ (says_present e) (decided_both _ _ (decided_has box (edge_decision parts e) 1) (decided_most bound (least_cost parts costs box + edge_cost costs e)))))
+
   pub decided_by : (principle : Principle) → Decided (TakesBy principle parts group box d v)
   decided_by principles.Tree = decided_either _ _ one_mother (decided_either _ _ for_root no_cycle)
   decided_by principles.Dag = decided_either _ _ no_cycle (decided_either _ _ (decided_both _ _ (decided_true (truth_of group.truths 0)) for_root) (decided_both _ _ (decided_true (truth_of group.truths 1)) one_label))
@@ -313,4 +324,6 @@ module _ (parts : Parts) (group : Group) (box : List (List Bool)) (d v : ℕ) wh
   decided_by principles.LinkingAboveStart = linking_reach
   decided_by principles.LinkingSisters = linking_reach
   decided_by principles.LinkingNotDaughter = linking_not_daughter
+  decided_by (principles.Rule formula) = decided_makes parts box (claim formula) false unbound
+  decided_by (principles.Bound costs bound) = decided_either _ _ (decided_most bound (least_cost parts costs box)) (bound_place costs bound)
   decided_by principle = inr (λ none. none)

@@ -21,3 +21,15 @@ pub mod DecidingRules
 pub mod DecidingClosed
 pub mod Greatest
 pub mod RuleLaws
+pub mod Bound
+pub mod NodeValues
+pub mod Narrowing
+pub mod SoundClaims
+pub mod Settled
+pub mod Apart
+pub mod Named
+pub mod ClaimLaws
+pub mod Summing
+pub mod Least
+pub mod Costing
+pub mod Asked

@@ -1,14 +1,16 @@
 -- The monotone law: what a principle use takes from a box remains in no closed box that lies in it.
-use Rattle.std.proofs.Common.{◌≡◌, ℕ, ◌<◌, inl, inr, Bool, List, length, refl, sym, subst, arith}
+use Rattle.std.proofs.Common.{◌≡◌, ℕ, ◌<◌, inl, inr, Bool, false, List, length, refl, sym, subst, arith}
 use Rattle.xdg_problem.specs.declared.parts.Group.{Group}
 use Rattle.xdg_problem.specs.declared.parts.Parts.{Parts}
 use Rattle.xdg_problem.specs.declared.parts.Principle.{Principle}
 use Rattle.xdg_problem.specs.declared.parts.Principle.TheVariants as principles
 use Rattle.xdg_problem.specs.Arguments.{first_dim, attr_of}
+use Rattle.xdg_problem.specs.Claims.{claim}
 use Rattle.xdg_problem.specs.Places.{nodes}
 use Rattle.xdg_problem.specs.Problems.{IsProblem, IsGroup, attr_arguments}
+use Rattle.xdg_problem.specs.Truths.{unbound}
 use Rattle.xdg_problem.specs.Vectors.{shape}
-use Rattle.xdg_problem.proofs.AttrPlaces.{attr_within, first_dim_within}
+use Rattle.xdg_problem.proofs.AttrPlaces.{attr_within, attr_dim_within}
 use Rattle.xdg_problem.specs.Boxes.{Has, IsBox, LiesIn}
 use Rattle.xdg_rules.specs.Rules.{TakesForRoot, TakesBy, Takes, IsClosedFor, attr_of_node}
 use Rattle.xdg_rules.proofs.Sizes.{attr_place_within}
@@ -16,12 +18,14 @@ use Rattle.xdg_rules.proofs.Antitone.{valency_entry, one_mother, no_root, two_ro
 use Rattle.xdg_rules.proofs.Counting.{valency_full, valency_needed}
 use Rattle.xdg_rules.proofs.Rooted.{root_found, only_mother}
 use Rattle.xdg_rules.proofs.Failing.{fails_test}
+use Rattle.xdg_rules.proofs.Narrowing.{narrower}
+use Rattle.xdg_rules.proofs.Costing.{cost_more, bound_kept}
 
 -- an attribute that a principle takes has a decision for each node
 pub attr_decided : (parts : Parts) (group : Group) → IsGroup parts group → (argument : ℕ) → argument < attr_arguments group.principle → (node : ℕ) → node < nodes parts → attr_of_node parts group argument node < length (shape parts)
 attr_decided parts group is argument known node within =
     let count = is.attrs_count in
-    attr_place_within parts _ (attr_within parts (first_dim group) node (attr_of group argument) (first_dim_within parts group is) within (is.attrs argument (record { 0 = 0 }) (omega (arith, known, count))))
+    attr_place_within parts _ (attr_within parts (first_dim group) node (attr_of group argument) (attr_dim_within parts group is argument known) within (is.attrs argument (record { 0 = 0 }) (omega (arith, known, count))))
 
 module _ (parts : Parts) (group : Group) (small large : List (List Bool)) (problem : IsProblem parts) (group_is : IsGroup parts group) (is : IsBox (shape parts) small) (lies : LiesIn small large) where
   -- the rules of a principle take nothing that remains in the small box
@@ -82,6 +86,11 @@ module _ (parts : Parts) (group : Group) (small large : List (List Bool)) (probl
   taken_by principles.LinkingAboveStart same keeps d v has taken = keeps d v has (linking_reach parts group small large is lies d v taken)
   taken_by principles.LinkingSisters same keeps d v has taken = keeps d v has (linking_reach parts group small large is lies d v taken)
   taken_by principles.LinkingNotDaughter same keeps d v has taken = keeps d v has (linking_not_daughter parts group small large is lies d v taken)
+  taken_by (principles.Rule formula) same keeps d v has taken = keeps d v has (narrower parts small large is lies (claim formula) false unbound taken)
+  taken_by (principles.Bound costs bound) same keeps d v has taken = elim taken [
+    | inl reached ↦ keeps d v has (inl (let more = cost_more parts costs small large problem is lies in omega (arith, reached, more)))
+    | inr place ↦ bound_kept parts costs small large problem is lies bound d v (λ reached. keeps d v has (inl reached)) (λ rule. keeps d v has (inr rule)) has place
+  ]
   taken_by principle same keeps d v has taken = absurd taken
 
   pub monotone : IsClosedFor parts group small → (d v : ℕ) → Takes parts group large d v → Has small d v → ⊥

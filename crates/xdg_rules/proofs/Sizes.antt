@@ -60,6 +60,10 @@ edge_within parts e c = (let long = length_shape parts in let k = place_within (
 pub node_within : (parts : Parts) (node : ℕ) → IsProblem parts → node < nodes parts → entry_decision node < length (shape parts)
 node_within parts node is l = (let long = length_shape parts in let each = is.candidates_each in omega (arith, long, each))
 
+-- something remains in a box of a problem
+pub some_value : (parts : Parts) (box : List (List Bool)) → IsProblem parts → IsBox (shape parts) box → (v : ℕ) × Has box 0 v
+some_value parts box problem is = is.filled 0 (node_within parts 0 problem problem.some)
+
 pub attr_place_within : (parts : Parts) (place : ℕ) → place < length (attr_sizes (nodes parts) parts.dims) → length parts.candidates + place < length (shape parts)
 attr_place_within parts place l = (let long = length_shape parts in omega (arith, long))
 

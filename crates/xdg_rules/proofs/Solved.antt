@@ -1,6 +1,7 @@
 -- A box that agrees with a whole vector is closed for a principle use exactly where the vector's analysis satisfies it.
-use Rattle.std.proofs.Common.{◌≡◌, ℕ, ◌<◌, ◌↔◌, inl, inr, Bool, List, length, refl, sym, subst, arith}
+use Rattle.std.proofs.Common.{◌≡◌, ℕ, ◌<◌, ◌↔◌, inl, inr, Bool, List, [], length, refl, sym, subst, arith}
 use Rattle.std.specs.Prelude.{All}
+use Rattle.xdg_problem.specs.declared.analysis.Edge.{Edge}
 use Rattle.xdg_problem.specs.declared.conditions.Condition.{Condition}
 use Rattle.xdg_problem.specs.declared.conditions.Condition.TheVariants as conditions
 use Rattle.xdg_problem.specs.declared.parts.Group.{Group}
@@ -9,14 +10,16 @@ use Rattle.xdg_problem.specs.declared.parts.Principle.{Principle}
 use Rattle.xdg_problem.specs.declared.parts.Principle.TheVariants as principles
 use Rattle.xdg_problem.specs.Arguments.{truth_of}
 use Rattle.xdg_problem.specs.Conditions.{conditions_for}
-use Rattle.xdg_problem.specs.Problems.{IsProblem, IsGroup, attr_arguments}
+use Rattle.xdg_problem.specs.Asking.{AsksWhole}
+use Rattle.xdg_problem.specs.Problems.{IsProblem, IsGroup, IsSuited, attr_arguments}
 use Rattle.xdg_problem.specs.Relations.{Relation}
-use Rattle.xdg_problem.specs.Vectors.{shape, analysis_of}
+use Rattle.xdg_problem.specs.Vectors.{shape, entry_places, entries_at, edges_in, analysis_of}
 use Rattle.xdg_problem.proofs.Tuples.{one_kept, two_kept, three_kept, chosen_kept}
 use Rattle.xdg_problem.proofs.WholeTests.{use_live, whole_stands}
 use Rattle.xdg_problem.specs.Boxes.{Has, IsBox, Agrees}
 use Rattle.xdg_rules.specs.Rules.{FailsTest, TakesBy, IsClosedFor}
 use Rattle.xdg_rules.proofs.Agreeing.{holds_passes}
+use Rattle.xdg_rules.proofs.Asked.{rule_takes_none, bound_takes_none}
 use Rattle.xdg_rules.proofs.ClosedLive.{closed_live_for}
 use Rattle.xdg_rules.proofs.Whole.{whole_fits}
 use Rattle.xdg_rules.proofs.SoundTree.{Kept, one_mother, for_root, no_cycle, one_label, valency_entry, valency_full, valency_needed}
@@ -26,6 +29,15 @@ use Rattle.xdg_rules.proofs.SoundPaths.{projectivity_reach, climbing_reach, barr
 module _ (parts : Parts) (group : Group) (group_is : IsGroup parts group) (box : List (List Bool)) (x : List ℕ) (problem : IsProblem parts) (is : IsBox (shape parts) box) (whole : length x ≡ length (shape parts)) (agrees : Agrees box x) where
   abbrev Holds : Condition → Type 0
   Holds condition = Kept parts group box x problem is whole agrees condition
+
+  abbrev candidates : List ℕ
+  candidates = entry_places parts.candidates (entries_at parts.candidates x)
+
+  abbrev attrs : List ℕ
+  attrs = (analysis_of parts x).attrs
+
+  abbrev edges : List Edge
+  edges = edges_in parts x
 
   -- a principle use that takes at least so many attributes
   takes_attrs : (principle : Principle) (count : ℕ) → group.principle ≡ principle → count < attr_arguments principle → count < attr_arguments group.principle
@@ -82,6 +94,8 @@ module _ (parts : Parts) (group : Group) (group_is : IsGroup parts group) (box :
   keeps_by principles.LinkingAboveStart same all d v has taken = linking_reach parts group box x problem is whole agrees principles.LinkingAboveStart same (λ e asks. asks) ((one_kept Holds conditions.Link).1 all) d v has taken
   keeps_by principles.LinkingSisters same all d v has taken = linking_reach parts group box x problem is whole agrees principles.LinkingSisters same (λ e asks. asks) ((one_kept Holds conditions.Link).1 all) d v has taken
   keeps_by principles.LinkingNotDaughter same all d v has taken = linking_not_daughter parts group box x problem is whole agrees same ((one_kept Holds conditions.Link).1 all) d v has taken
+  keeps_by (principles.Rule formula) same all d v has taken = rule_takes_none parts group box x problem is whole agrees formula (subst (λ p. IsSuited p parts) same group_is.suits) (subst (λ p. AsksWhole p parts candidates attrs edges) same ((one_kept Holds conditions.Rule).1 all [] refl)) taken
+  keeps_by (principles.Bound costs bound) same all d v has taken = bound_takes_none parts group box x problem is whole agrees costs bound (subst (λ p. AsksWhole p parts candidates attrs edges) same ((one_kept Holds conditions.Bound).1 all [] refl)) d v has taken
   keeps_by principle same all d v has taken = absurd taken
 
   -- no test fails, where the relation holds
@@ -90,7 +104,7 @@ module _ (parts : Parts) (group : Group) (group_is : IsGroup parts group) (box :
       let fits = whole_fits parts box x is agrees in
       let stands = whole_stands parts x problem fits whole group group_is failing.test failing.is in
       let live = (use_live parts x problem fits whole group group_is).1 relation in
-      failing.fails ((holds_passes parts box x agrees group failing.test stands).0 (live failing.test failing.is stands))
+      failing.fails ((holds_passes parts box x agrees group failing.test stands).0 (live.tests failing.test failing.is stands))
 
   pub relation_closed : Relation parts group (analysis_of parts x) → IsClosedFor parts group box
   relation_closed relation d v has taken = elim taken [
@@ -99,7 +113,7 @@ module _ (parts : Parts) (group : Group) (group_is : IsGroup parts group) (box :
   ]
 
   pub closed_relation : IsClosedFor parts group box → Relation parts group (analysis_of parts x)
-  closed_relation closed = (use_live parts x problem (whole_fits parts box x is agrees) whole group group_is).0 (closed_live_for parts box x problem is agrees group closed)
+  closed_relation closed = (use_live parts x problem (whole_fits parts box x is agrees) whole group group_is).0 (closed_live_for parts box x problem is agrees group group_is closed)
 
   pub closed_is_relation : IsClosedFor parts group box ↔ Relation parts group (analysis_of parts x)
   closed_is_relation = (closed_relation, relation_closed)

@@ -13,7 +13,7 @@ use Rattle.xdg_problem.specs.Paths.{edges_on}
 use Rattle.xdg_problem.specs.Places.{nodes, places}
 use Rattle.xdg_problem.specs.Problems.{IsProblem, IsGroup, attr_arguments}
 use Rattle.xdg_problem.specs.Vectors.{attr_sizes, shape, entry_places, entries_at, edges_in}
-use Rattle.xdg_problem.proofs.AttrPlaces.{attr_within, first_dim_within}
+use Rattle.xdg_problem.proofs.AttrPlaces.{attr_within, attr_dim_within}
 use Rattle.xdg_problem.proofs.FilterFacts.{filter_both, filter_alike}
 use Rattle.xdg_problem.proofs.WholeTests.{entry_same}
 use Rattle.xdg_problem.specs.Boxes.{Has, IsBox, Agrees, edge_decision, entry_decision}
@@ -100,7 +100,7 @@ module _ (parts : Parts) (box : List (List Bool)) (x : List ℕ) (problem : IsPr
     place = attr_place parts (first_dim group) node (attr_of group argument)
 
     place_within : place < length (attr_sizes (nodes parts) parts.dims)
-    place_within = (let count = group_is.attrs_count in attr_within parts (first_dim group) node (attr_of group argument) (first_dim_within parts group group_is) within (group_is.attrs argument (record { 0 = 0 }) (omega (arith, known, count))))
+    place_within = (let count = group_is.attrs_count in attr_within parts (first_dim group) node (attr_of group argument) (attr_dim_within parts group group_is argument known) within (group_is.attrs argument (record { 0 = 0 }) (omega (arith, known, count))))
 
     stands : attr_of_node parts group argument node < length x
     stands = within_whole (length parts.candidates + place) (attr_place_within parts place place_within)

@@ -13,38 +13,9 @@ use Rattle.xdg_problem.specs.Features.{in_row, out_row, set_row, map_row}
 use Rattle.xdg_problem.specs.Paths.{edges_into, edges_out_of, mothers, roots, Above}
 use Rattle.xdg_problem.specs.Places.{nodes, places}
 use Rattle.xdg_problem.specs.Tests.{Test, IsTest, looks_at, entry_node, test_attrs, Passes}
-
--- ---- the two graphs of a box
-
--- whether the value v of the decision d remains
-abbrev pub has : List (List Bool) → ℕ → ℕ → Bool
-has box d v = slice_index_or (slice_index_or box d []) v false
-
--- the edges of a dimension that may be present
-abbrev pub may_edges : Parts → List (List Bool) → ℕ → List Edge
-may_edges parts box dim = filter (λ e. (e.dim.0 == dim) && has box (edge_decision parts e) 0) (places parts)
-
--- the edges of a dimension that must be present: they may be, and they can't be absent
-abbrev pub must_edges : Parts → List (List Bool) → ℕ → List Edge
-must_edges parts box dim = filter (λ e. (e.dim.0 == dim) && (has box (edge_decision parts e) 0 && not (has box (edge_decision parts e) 1))) (places parts)
-
--- ---- what a rule takes
-
--- an edge place of a dimension
-abbrev pub IsPlaceOn : Parts → ℕ → Edge → Type 0
-IsPlaceOn parts dim e = Contains (places parts) e × (e.dim.0 ≡ dim)
-
--- the value v of the decision d says that the edge is present
-abbrev pub SaysPresent : Parts → Edge → ℕ → ℕ → Type 0
-SaysPresent parts e d v = (d ≡ edge_decision parts e) × (v ≡ 0)
-
--- the value v of the decision d says that the edge is absent
-abbrev pub SaysAbsent : Parts → Edge → ℕ → ℕ → Type 0
-SaysAbsent parts e d v = (d ≡ edge_decision parts e) × (v ≡ 1)
-
--- each entry of a node that remains, by its place among the candidates
-abbrev pub EachEntry : List (List Bool) → ℕ → (ℕ → Type 0) → Type 0
-EachEntry box node P = (c : ℕ) → Has box (entry_decision node) c → P c
+pub use Rattle.xdg_rules.specs.Remaining.{has, may_edges, must_edges, IsPlaceOn, SaysPresent, SaysAbsent, EachEntry}
+use Rattle.xdg_rules.specs.Worths.{RuleFalse}
+use Rattle.xdg_rules.specs.Bounds.{BoundReached, BoundPlace}
 
 -- ---- tests whose decisions have one value each
 
@@ -356,6 +327,8 @@ TakesBy principles.LinkingBelowStart parts group box d v = LinkingReach parts gr
 TakesBy principles.LinkingAboveStart parts group box d v = LinkingReach parts group box d v
 TakesBy principles.LinkingSisters parts group box d v = LinkingReach parts group box d v
 TakesBy principles.LinkingNotDaughter parts group box d v = LinkingNotDaughter parts group box d v
+TakesBy (principles.Rule formula) parts group box d v = RuleFalse parts formula box
+TakesBy (principles.Bound costs bound) parts group box d v = BoundReached parts costs bound box ⊎ BoundPlace parts costs bound box d v
 TakesBy principle parts group box d v = ⊥
 
 -- what a principle use takes from a box: everything where a test of it fails that is decided, and what its rules take

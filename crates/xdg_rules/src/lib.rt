@@ -3,4 +3,4 @@
 
 mod laws;
 
-pub use laws::{boxed_laws, rule_laws};
+pub use laws::{boxed_laws, name_laws, rule_laws, worth_laws};

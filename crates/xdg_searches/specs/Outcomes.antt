@@ -1,8 +1,9 @@
 -- The status and the text of `parse`, `resume` and `drill`, as the files and the input alone determine them.
-use Rattle.std.specs.Prelude.{◌≡◌, ℕ, false, List, [], ◌∷◌, length, Option, Some, codes, decimal}
+use Rattle.std.specs.Prelude.{◌≡◌, ℕ, Bool, true, false, List, [], ◌∷◌, length, Option, Some, codes, decimal}
 use Rattle.xdg_analyses.specs.Printed.{Prints}
 use Rattle.xdg_analyses.specs.declared.forms.Form.{Form}
 use Rattle.xdg_analyses.specs.declared.forms.Form.TheVariants as forms
+use Rattle.xdg_branches.specs.Branched.{PrintsBranches}
 use Rattle.xdg_command.specs.declared.commands.ParseOptions.{ParseOptions}
 use Rattle.xdg_command.specs.declared.commands.ResumeOptions.{ResumeOptions}
 use Rattle.xdg_command.specs.declared.commands.TextForm.{TextForm}
@@ -42,9 +43,19 @@ pub record Searched (form : Form) (budget : ℕ) (wanted : Option ℕ) (parts : 
   pub prints : Prints ending form budget wanted parts start text
   pub status_is : status ≡ status_of ending
 
--- the search of a problem from its beginning on
+-- what the search of a problem by the branches of its first word prints
+pub record SearchedBranches (form : Form) (budget : ℕ) (wanted : Option ℕ) (parts : Parts) (status : Status) (text : List ℕ) : Type 0 where
+  pub ending : Ending
+  pub prints : PrintsBranches ending form budget wanted parts text
+  pub status_is : status ≡ status_of ending
+
+-- the search of a problem from its beginning on, by branches or not
+abbrev pub ParsedBy : Bool → ParseOptions → Parts → Status → List ℕ → Type 0
+ParsedBy true options parts = SearchedBranches (form_of options.text) options.budget options.first parts
+ParsedBy false options parts = Searched (form_of options.text) options.budget options.first parts []
+
 abbrev pub Parsed : ParseOptions → Parts → Status → List ℕ → Type 0
-Parsed options parts = Searched (form_of options.text) options.budget options.first parts []
+Parsed options parts = ParsedBy options.split options parts
 
 -- the search of the problem of an analysis, from behind the analysis on
 abbrev pub Resumed : ResumeOptions → Analysed → Status → List ℕ → Type 0

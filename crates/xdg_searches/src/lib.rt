@@ -1,6 +1,7 @@
 //! The commands that search: `parse`, `resume` and `drill`.
 #![tactic(auto)]
 
+mod branched;
 mod drilling;
 mod parse;
 mod resume;

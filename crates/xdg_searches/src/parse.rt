@@ -3,17 +3,20 @@
 ghost use Rattle.std.specs.Prelude.{◌≡◌, ◌≢◌, ◌≤◌, ◌⊎◌, ℕ, List, [], Option, Some, length};
 ghost use Rattle.std.specs.Option.{option_copied};
 ghost use Rattle.xdg_analyses.specs.Written.{IsSome};
+ghost use Rattle.xdg_branches.specs.Branched.{CanBranch};
 ghost use Rattle.xdg_entries.specs.Entries.{IsRightLexicon};
 ghost use Rattle.xdg_grammar.specs.Answers.{meaning_of};
 ghost use Rattle.xdg_io.specs.Rose.{Rose};
 ghost use Rattle.xdg_outcomes.specs.Loaded.{read_of};
 ghost use Rattle.xdg_outcomes.specs.Outcomes.{MeaningThen};
 ghost use Rattle.xdg_outcomes.specs.Runs.{Leaves, Wrote};
-ghost use Rattle.xdg_searches.specs.Outcomes.{ParseOf, Searched, SentenceThen, form_of};
+ghost use Rattle.xdg_searches.specs.Outcomes.{ParseOf, Parsed, Searched, SentenceThen, form_of};
 ghost use Rattle.xdg_searches.specs.Runs.{ParseEnds};
 ghost use Rattle.xdg_stream.specs.Streamed.{IsStart, start_vector};
 
+use crate::branched::search_branches;
 use std::alloc::Global;
+use std::thread::Threads;
 use xdg_analyses::{Form, Printed, print_analyses};
 use xdg_base::OutOfMemory;
 use xdg_command::{ParseOptions, TextForm};
@@ -26,7 +29,7 @@ use xdg_outcomes::{Loaded, Status, load_tree, refuse, stopped_in};
 use xdg_problem::{Analysis, Problem};
 
 /// The form in which analyses are printed.
-fn form_of(text: TextForm) -> Form
+pub(crate) fn form_of(text: TextForm) -> Form
     ensures { result ≡ form_of text }
 {
     match text {
@@ -75,8 +78,31 @@ pub fn search<K: Sink>(
     }
 }
 
+/// Prints the analyses of a sentence from the first of all on, searched as is asked.
+fn search_asked<R: Threads + Sync, K: Sink>(
+    rt: &R,
+    alloc: Global,
+    options: &ParseOptions,
+    problem: &Problem,
+    out: &mut K,
+) -> Status
+    requires range { CanBranch options.now.budget options.now.first }
+    ensures leaves { Leaves (Parsed options.now problem.now) result (K.held out.old) (K.held out.new) }
+    ensures write_fault { result ≡ Status.WriteFault → Rose (K.faults out.old) (K.faults out.new) }
+    ensures out_lasting { K.faults out.old ≤ K.faults out.new }
+    ensures out_quiet { result ≢ Status.WriteFault → K.faults out.new ≡ K.faults out.old }
+    ensures ends { (result ≡ Status.Done) ⊎ ((result ≡ Status.Spent) ⊎ ((result ≡ Status.WriteFault) ⊎ (result ≡ Status.OutOfMemory))) }
+{
+    let (budget, first, text) = (options.budget, options.first, options.text);
+    if options.split {
+        return search_branches(rt, alloc, problem, budget, first, text, out);
+    }
+    search(alloc, problem, None, budget, first, text, out)
+}
+
 /// Reads a sentence of a grammar and prints its analyses, or the fault line of what is refused.
-fn parse_expanded<S: Source, K: Sink>(
+fn parse_expanded<R: Threads + Sync, S: Source, K: Sink>(
+    rt: &R,
     alloc: Global,
     options: &ParseOptions,
     expanded: &Expanded,
@@ -84,7 +110,7 @@ fn parse_expanded<S: Source, K: Sink>(
     out: &mut K,
 ) -> Status
     requires lexicon { IsRightLexicon expanded.now.checked.types expanded.now.entries }
-    requires some { IsSome options.now.first }
+    requires range { CanBranch options.now.budget options.now.first }
     ensures leaves { (content : List ℕ) → S.left input.old ≡ Some content → Leaves (SentenceThen options.now content (meaning_of expanded.now)) result (K.held out.old) (K.held out.new) }
     ensures read_fault { result ≡ Status.ReadFault → Rose (S.faults input.old) (S.faults input.new) }
     ensures write_fault { result ≡ Status.WriteFault → Rose (K.faults out.old) (K.faults out.new) }
@@ -100,21 +126,14 @@ fn parse_expanded<S: Source, K: Sink>(
         Err(OutOfMemory) => return Status::OutOfMemory,
     };
     match read_problem(alloc, expanded, &packed, options.segment, input) {
-        Ok(problem) => search(
-            alloc,
-            &problem,
-            None,
-            options.budget,
-            options.first,
-            options.text,
-            out,
-        ),
+        Ok(problem) => search_asked(rt, alloc, options, &problem, out),
         Err(refusal) => refuse(refusal, Status::BadSentence, out),
     }
 }
 
 /// Reads a sentence of the grammar of a text and prints its analyses, or the fault line of what is refused.
-fn parse_loaded<S: Source, K: Sink>(
+fn parse_loaded<R: Threads + Sync, S: Source, K: Sink>(
+    rt: &R,
     alloc: Global,
     options: &ParseOptions,
     loaded: &Loaded,
@@ -122,7 +141,7 @@ fn parse_loaded<S: Source, K: Sink>(
     out: &mut K,
 ) -> Status
     requires short { length loaded.now.text.items ≤ 4194304 }
-    requires some { IsSome options.now.first }
+    requires range { CanBranch options.now.budget options.now.first }
     ensures leaves { (content : List ℕ) → S.left input.old ≡ Some content → Leaves (MeaningThen (read_of loaded.now) (SentenceThen options.now content)) result (K.held out.old) (K.held out.new) }
     ensures read_fault { result ≡ Status.ReadFault → Rose (S.faults input.old) (S.faults input.new) }
     ensures write_fault { result ≡ Status.WriteFault → Rose (K.faults out.old) (K.faults out.new) }
@@ -135,21 +154,22 @@ fn parse_loaded<S: Source, K: Sink>(
     ensures command { result ≡ Status.Usage → ⊥ }
 {
     match expand_tree(alloc, &loaded.tree) {
-        Ok(expanded) => parse_expanded(alloc, options, &expanded, input, out),
+        Ok(expanded) => parse_expanded(rt, alloc, options, &expanded, input, out),
         Err(stop) => refuse(stopped_in(&loaded.text, stop), Status::BadGrammar, out),
     }
 }
 
 /// Loads a grammar, reads a sentence, and prints its analyses, or the fault line of what is refused. A search is charged a budget
-/// of boxed prefixes at most.
-pub fn parse_sentence<H: Shelf, S: Source, K: Sink>(
+/// of boxed prefixes at most; where the sentence is searched by branches, each branch has the whole budget.
+pub fn parse_sentence<R: Threads + Sync, H: Shelf, S: Source, K: Sink>(
+    rt: &R,
     alloc: Global,
     options: &ParseOptions,
     shelf: &mut H,
     input: &mut S,
     out: &mut K,
 ) -> Status
-    requires { IsSome options.now.first }
+    requires { CanBranch options.now.budget options.now.first }
     ensures leaves { (files : List ℕ → Option (List ℕ)) (content : List ℕ) → H.files shelf.old ≡ Some files → S.left input.old ≡ Some content → Leaves (ParseOf options.now files content) result (K.held out.old) (K.held out.new) }
     ensures read_fault { result ≡ Status.ReadFault → Rose (H.faults shelf.old options.now.grammar) (H.faults shelf.new options.now.grammar) ⊎ Rose (S.faults input.old) (S.faults input.new) }
     ensures write_fault { result ≡ Status.WriteFault → Rose (K.faults out.old) (K.faults out.new) }
@@ -165,7 +185,7 @@ pub fn parse_sentence<H: Shelf, S: Source, K: Sink>(
     ensures command { result ≡ Status.Usage → ⊥ }
 {
     match load_tree(alloc, shelf, options.grammar.as_str()) {
-        Ok(loaded) => parse_loaded(alloc, options, &loaded, input, out),
+        Ok(loaded) => parse_loaded(rt, alloc, options, &loaded, input, out),
         Err(refusal) => refuse(refusal, Status::BadText, out),
     }
 }

@@ -1,2 +1,6 @@
-mod Halves
+mod Slotted
 mod Searched
+pub mod Reaching
+pub mod Splitting
+mod Collecting
+mod Turning

@@ -52,9 +52,9 @@ module _ (job : Asked) (counted : List (List ℕ)) (solutions : List Analysis) (
   first_single : (wanted : Option ℕ) → IsAt m wanted → m ≤ reach (shape job.parts) job.budget counted → IsSplit wanted (job ∷ []) endings.First (take m solutions)
   first_single wanted at within = elim (three_cases job.budget (length counted)) [
     | inl beyond ↦ (let front : List Analysis = take (reach (shape job.parts) job.budget counted) solutions in
-      let same : take m solutions ≡ take m front = sym (take-take m (reach (shape job.parts) job.budget counted) solutions within) in
-      let long : m ≤ length front = long_front same in
-      record { whole = false; reached = front; reach = part_single beyond; end = first_at wanted front at long same })
+        let same : take m solutions ≡ take m front = sym (take-take m (reach (shape job.parts) job.budget counted) solutions within) in
+        let long : m ≤ length front = long_front same in
+        record { whole = false; reached = front; reach = part_single beyond; end = first_at wanted front at long same })
     | inr (inl same) ↦ record { whole = true; reached = solutions; reach = whole_single (omega (arith, same)); end = first_at wanted solutions at no_more refl }
     | inr (inr less) ↦ record { whole = true; reached = solutions; reach = whole_single (omega (arith, less)); end = first_at wanted solutions at no_more refl }
   ] where
@@ -92,22 +92,22 @@ module _ (job : Asked) (counted : List (List ℕ)) (solutions : List Analysis) (
 -- what the analyses of a search that ended so are
 pub split_single : (job : Asked) → IsProblem job.parts → (ending : Ending) (found : List Analysis) → AreFound job.parts job.budget job.first ending found → IsSplit job.first (job ∷ []) ending found
 split_single job is ending found f =
-    let some = some_lists job is in
-    let counted : List (List ℕ) = some.0 in
-    let solutions : List Analysis = some.1 in
+    let two = some_lists job is in
+    let counted : List (List ℕ) = two.0 in
+    let solutions : List Analysis = two.1 in
     let m : ℕ = length f.vectors in
-    let ends = ending_of ending (shape job.parts) (Boxed job.parts) [] job.budget job.first f.vectors f.answered counted (map (vector job.parts) solutions) some.2.counted_are (boxed_listing job.parts is [] solutions some.2.solutions_are) in
-    let taken : found ≡ take m solutions = f.found_are ∙ ap (map (analysis_of job.parts)) ends.0 ∙ sym (take-map (analysis_of job.parts) m (map (vector job.parts) solutions)) ∙ ap (take m) (analyses_back job.parts is solutions some.2.solutions_are.each) in
+    let ends = ending_of ending (shape job.parts) (Boxed job.parts) [] job.budget job.first f.vectors f.answered counted (map (vector job.parts) solutions) two.2.counted_are (boxed_listing job.parts is [] solutions two.2.solutions_are) in
+    let taken : found ≡ take m solutions = f.found_are ∙ ap (map (analysis_of job.parts)) ends.0 ∙ sym (take-map (analysis_of job.parts) m (map (vector job.parts) solutions)) ∙ ap (take m) (analyses_back job.parts is solutions two.2.solutions_are.each) in
     let no_more : m ≤ length solutions = few (map (vector job.parts) solutions) f.vectors (length solutions) ends.0 (length-map solutions (vector job.parts)) in
-    subst (IsSplit job.first (job ∷ []) ending) (sym taken) (single job counted solutions some.2 m no_more ending job.first ends.1)
+    subst (IsSplit job.first (job ∷ []) ending) (sym taken) (single job counted solutions two.2 m no_more ending job.first ends.1)
   where
     long_take : (k : ℕ) (xs : List (List ℕ)) → length (take k xs) ≤ length xs
     long_take zero xs = omega arith
     long_take (suc k) [] = omega arith
     long_take (suc k) (x ∷ xs) = let l = long_take k xs in omega (arith, l)
 
-    few : (all vectors : List (List ℕ)) (n : ℕ) → vectors ≡ take (length vectors) all → length all ≡ n → length vectors ≤ n
-    few all vectors n e l = let k = ap length e in let t = long_take (length vectors) all in omega (arith, k, t, l)
+    few : (every vectors : List (List ℕ)) (n : ℕ) → vectors ≡ take (length vectors) every → length every ≡ n → length vectors ≤ n
+    few every vectors n e l = let k = ap length e in let t = long_take (length vectors) every in omega (arith, k, t, l)
 
 -- ---- one list of jobs behind the other
 
@@ -202,12 +202,12 @@ one_split jobs are wanted e h f g x y =
 
 pub have_one_split : (jobs : List Asked) → AreProblems jobs → HaveOneSplit jobs
 have_one_split jobs are =
-    let some = some_reach jobs are in
+    let here = some_reach jobs are in
     record {
-      whole = some.0;
-      reached = some.1;
-      reach = some.2;
-      only = λ other found x. one_reach jobs are other some.0 found some.1 x some.2;
+      whole = here.0;
+      reached = here.1;
+      reach = here.2;
+      only = λ other found x. one_reach jobs are other here.0 found here.1 x here.2;
       one = one_split jobs are;
-      enough = λ each. all_reach jobs some.0 some.1 each some.2;
+      enough = λ each. all_reach jobs here.0 here.1 each here.2;
     }

@@ -2,3 +2,4 @@ pub mod Asked
 pub mod Answers
 pub mod Splits
 pub mod Finds
+pub mod Slots

@@ -1,6 +1,7 @@
 //! Jobs.
 
 ghost use Rattle.std.specs.Prelude.{◌≡◌, [], ◌∷◌, IfOk};
+ghost use Rattle.xdg_analyses.specs.Written.{IsSome};
 ghost use Rattle.xdg_problem.specs.Problems.{IsProblem};
 ghost use Rattle.xdg_split.specs.Answers.{IsAnswer};
 ghost use Rattle.xdg_split.specs.Asked.{IsJob, asked};
@@ -30,8 +31,12 @@ pub struct Job<P: Propagator> {
 
 impl<P: Propagator> Model for Job<P> {
     ghost use Rattle.xdg_split.specs.Asked.{Asked, IsJob, asked};
+    ghost use Rattle.std.specs.Coded.{codes};
+    ghost use Rattle.xdg_problem.specs.contracts.formula.Formula as formula;
 
     ghost Value = { Asked };
+
+    ghost coded = { Prim.hlevel (codes, formula.the_row.coded) };
 
     ghost view = { λ job. asked job.problem job.budget job.first };
 
@@ -51,6 +56,11 @@ impl<P: Propagator> Job<P> {
             budget,
             first,
         }
+    }
+
+    /// How many decisions the sentence has.
+    pub(crate) fn decisions(&self) -> u64 {
+        self.problem.decisions()
     }
 
     /// Searches the sentence and keeps what is printed. The memory of the search is given back when it has ended.
@@ -80,7 +90,8 @@ impl<P: Propagator> Job<P> {
 
     /// How many analyses are wanted, or all.
     pub(crate) fn first(&self) -> Option<u64>
-        ensures { result ≡ self.now.first }
+        ensures is { result ≡ self.now.first }
+        ensures some { IsSome result }
     {
         self.first
     }
@@ -97,8 +108,13 @@ impl<P: Propagator> Job<P> {
         ensures { IfOk result (λ found. IsSplit self.now.first (self.now ∷ []) found.ending found.found.items) }
     {
         let _parts = self.problem.parts();
-        let mut stream =
-            Stream::start(alloc, &self.problem, self.props.as_slice(), self.budget, None)?;
+        let mut stream = Stream::start(
+            alloc,
+            &self.problem,
+            self.props.as_slice(),
+            self.budget,
+            None,
+        )?;
         find(alloc, &mut stream, self.first)
     }
 }

@@ -8,6 +8,7 @@ mod finding;
 mod found;
 mod job;
 mod kept;
+mod slots;
 mod splitting;
 
 pub use answer::Answer;

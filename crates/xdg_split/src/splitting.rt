@@ -2,6 +2,7 @@
 
 ghost use Rattle.std.specs.Prelude.{◌≡◌, ◌<◌, ◌×◌, List, [], ◌∷◌, IfOk, length};
 ghost use Rattle.std.specs.Thread.{IsSync};
+ghost use Rattle.xdg_analyses.specs.Written.{IsSome};
 ghost use Rattle.xdg_split.specs.Asked.{Asked};
 ghost use Rattle.xdg_split.specs.Splits.{AllWant, AreProblems, HaveOneSplit, IsSplit, wanted_of};
 
@@ -58,7 +59,8 @@ pub fn split_laws()
 
 /// How many analyses are wanted, by the first job.
 fn wanted<P: Propagator>(jobs: &[Job<P>]) -> Option<u64>
-    ensures { result ≡ wanted_of jobs.now }
+    ensures is { result ≡ wanted_of jobs.now }
+    ensures some { IsSome result }
 {
     match jobs.first() {
         Some(job) => job.first(),
@@ -73,7 +75,8 @@ fn search_in_turns<R: Threads + Sync, P: Propagator + Sync>(
     jobs: &[Job<P>],
     first: Option<u64>,
 ) -> Result<Found, OutOfMemory>
-    requires { AllWant first jobs.now }
+    requires some { IsSome first }
+    requires wanted { AllWant first jobs.now }
     ensures { IfOk result (λ found. IsSplit first jobs.now found.ending found.found.items) }
 {
     know_problems(jobs);
@@ -96,7 +99,8 @@ fn search_all<R: Threads + Sync, P: Propagator + Sync>(
     jobs: &[Job<P>],
     first: Option<u64>,
 ) -> Result<Found, OutOfMemory>
-    requires { AllWant first jobs.now }
+    requires some { IsSome first }
+    requires wanted { AllWant first jobs.now }
     ensures { IfOk result (λ found. IsSplit first jobs.now found.ending found.found.items) }
 {
     if jobs.len() < 2 {
@@ -106,11 +110,11 @@ fn search_all<R: Threads + Sync, P: Propagator + Sync>(
     let (one, other) = join(
         rt,
         || -> Result<Found, OutOfMemory>
-            requires { (IsSync R.row × IsSync P.row) × AllWant first front.entry.now }
+            requires { (IsSync R.row × IsSync P.row) × (IsSome first × AllWant first front.entry.now) }
             ensures { IfOk result (λ found. IsSplit first front.entry.now found.ending found.found.items) }
         { search_all(rt, alloc, front, first) },
         || -> Result<Found, OutOfMemory>
-            requires { (IsSync R.row × IsSync P.row) × AllWant first back.entry.now }
+            requires { (IsSync R.row × IsSync P.row) × (IsSome first × AllWant first back.entry.now) }
             ensures { IfOk result (λ found. IsSplit first back.entry.now found.ending found.found.items) }
         { search_all(rt, alloc, back, first) },
     );
@@ -127,6 +131,7 @@ fn search_single<P: Propagator>(
     first: Option<u64>,
 ) -> Result<Found, OutOfMemory>
     requires single { length jobs.now < 2 }
+    requires some { IsSome first }
     requires wanted { AllWant first jobs.now }
     ensures { IfOk result (λ found. IsSplit first jobs.now found.ending found.found.items) }
 {

@@ -16,3 +16,4 @@ pub mod Daughters
 pub mod OneWord
 pub mod Leaving
 pub mod Small
+pub mod Noting

@@ -5,12 +5,15 @@
 #![tactic(auto)]
 
 mod change;
+mod decision;
 mod layout;
 mod masks;
+mod naming;
 mod rows;
 mod start;
 mod store;
 
 pub use change::Change;
+pub use decision::Decision;
 pub use store::Store;
 pub use xdg_trail::Mark;

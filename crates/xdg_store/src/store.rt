@@ -8,11 +8,14 @@ ghost use Rattle.xdg_problem.specs.Places.{edge, nodes};
 ghost use Rattle.xdg_problem.specs.Vectors.{shape};
 ghost use Rattle.xdg_store.specs.Change.{Removes};
 ghost use Rattle.xdg_store.specs.InRange.{HasCandidate, HasEdges, HasValue};
+ghost use Rattle.xdg_store.specs.Naming.{Names};
 ghost use Rattle.xdg_store.specs.States.{Known};
 
 use crate::change::Change;
+use crate::decision::Decision;
 use crate::layout::{attr_row, edge_row, entry_row};
 use crate::masks::{nodes_below, row_nodes};
+use crate::naming::{behind, note};
 use crate::rows::{is_set, take_of_pair, take_of_row};
 use crate::start::free_values;
 use std::alloc::Global;
@@ -30,6 +33,8 @@ pub struct Store<'a> {
     problem: &'a Problem,
     // A bit for each value: whether it remains. Each removal is one record.
     trail: Trail,
+    // Of which decision each of them is.
+    removed: Vec<Decision>,
     node_count: usize,
     all: NodeSet,
     // How much room the trail has left when each decision has one value.
@@ -39,13 +44,19 @@ pub struct Store<'a> {
 
 impl<'a> Model for Store<'a> {
     ghost use Rattle.std.specs.Prelude.{◌≡◌, ℕ, nat_lt};
+    ghost use Rattle.std.specs.Vec.{vec_capacity};
     ghost use Rattle.xdg_nodeset.specs.Nodes.{has};
     ghost use Rattle.xdg_problem.specs.Places.{nodes};
     ghost use Rattle.xdg_trail.specs.Trailed.{past};
     ghost use Rattle.xdg_store.specs.Layout.{bits_of, box_in};
+    ghost use Rattle.xdg_store.specs.Naming.{AreSteps};
     ghost use Rattle.xdg_store.specs.States.{State, Keeps, oldest};
+    ghost use Rattle.std.specs.Coded.{codes};
+    ghost use Rattle.xdg_problem.specs.contracts.formula.Formula as formula;
 
     ghost Value = { State };
+
+    ghost coded = { Prim.hlevel (codes, formula.the_row.coded) };
 
     ghost view = { λ s. record {
       parts = s.problem.now;
@@ -56,12 +67,13 @@ impl<'a> Model for Store<'a> {
 
     ghost invariant = { λ s. Keeps s.problem.now s.trail s.single
         × (s.node_count ≡ nodes s.problem.now)
-        × ((node : ℕ) → has s.all node ≡ nat_lt node (nodes s.problem.now)) };
+        × ((node : ℕ) → has s.all node ≡ nat_lt node (nodes s.problem.now))
+        × AreSteps s.problem.now (oldest (bits_of s.problem.now) (past s.trail)) s.removed.items (vec_capacity s.removed) };
 }
 
 impl<'a> Store<'a> {
     /// The box of all values of a problem, or that no memory was to be had. All memory for later removals is taken here: 2
-    /// kilobytes for each node on each dimension, and 16 bytes for each value that can be removed.
+    /// kilobytes for each node on each dimension, and 21 bytes for each value that can be removed.
     pub fn start(alloc: Global, problem: &'a Problem) -> Result<Store<'a>, OutOfMemory>
         ensures parts { IfOk result (λ store. store.parts ≡ problem.entry.now) }
         ensures now { IfOk result (λ store. store.now ≡ full (shape problem.entry.now)) }
@@ -75,10 +87,12 @@ impl<'a> Store<'a> {
         let count = node_count * 16 + parts.dims.len() * node_count * 256;
         let words = vec![in alloc; u64::MAX; count]?;
         let trail = Trail::start(alloc, words, free)?;
+        let removed = Vec::with_capacity(alloc, free)?;
         let single = trail.spare() - free;
         Ok(Store {
             problem,
             trail,
+            removed,
             node_count,
             all: nodes_below(node_count),
             single,
@@ -102,7 +116,9 @@ impl<'a> Store<'a> {
     {
         let candidates = self.problem.parts().candidates.as_slice();
         let size = candidates[node.0 as usize].len();
-        take_of_row(&mut self.trail, entry_row(node), size, place as usize)
+        let change = take_of_row(&mut self.trail, entry_row(node), size, place as usize);
+        note(&mut self.removed, change, Decision::Entry(node));
+        change
     }
 
     /// Takes a value of a node's attribute away, unless it is the attribute's last.
@@ -114,7 +130,9 @@ impl<'a> Store<'a> {
         let plan = &self.problem.parts().dims.as_slice()[dim.0 as usize];
         let size = plan.attrs.as_slice()[attr.0 as usize].values.len();
         let row = attr_row(self.node_count, dim, node, attr);
-        take_of_row(&mut self.trail, row, size, value as usize)
+        let change = take_of_row(&mut self.trail, row, size, value as usize);
+        note(&mut self.removed, change, Decision::Attr(dim, node, attr));
+        change
     }
 
     /// Takes away that an edge is absent, unless it can't be present.
@@ -125,7 +143,9 @@ impl<'a> Store<'a> {
     {
         let row = edge_row(self.node_count, edge.dim, edge.mother, edge.label);
         let present = row + edge.daughter.0 as usize;
-        take_of_pair(&mut self.trail, present + 128, present)
+        let change = take_of_pair(&mut self.trail, present + 128, present);
+        note(&mut self.removed, change, Decision::Place(edge));
+        change
     }
 
     /// Takes away that an edge is present, unless it must be.
@@ -136,7 +156,9 @@ impl<'a> Store<'a> {
     {
         let row = edge_row(self.node_count, edge.dim, edge.mother, edge.label);
         let present = row + edge.daughter.0 as usize;
-        take_of_pair(&mut self.trail, present, present + 128)
+        let change = take_of_pair(&mut self.trail, present, present + 128);
+        note(&mut self.removed, change, Decision::Place(edge));
+        change
     }
 
     /// Whether a node's candidate at a place remains.
@@ -277,6 +299,16 @@ impl<'a> Store<'a> {
         ensures known { Known self.new }
     {
         self.trail.undo(mark);
+        self.removed.truncate(mark.records());
+    }
+
+    /// The decisions of which values were removed since a mark, the oldest removal first.
+    pub fn removed_since(&self, mark: Mark) -> &[Decision]
+        requires { mark < length self.now.history }
+        ensures names { Names self.now.parts (slice_index_or self.now.history mark []) self.now.now result.now }
+        ensures known { Known self.now }
+    {
+        behind(self.removed.as_slice(), mark.records())
     }
 
     /// Counts a turn of a propagator, up to the greatest number.

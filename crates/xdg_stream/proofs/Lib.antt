@@ -7,6 +7,8 @@ pub mod Forcing
 pub mod Finding
 pub mod Opening
 pub mod Pushing
+pub mod Calming
+pub mod Since
 pub mod Filling
 pub mod Written
 pub mod Streaming

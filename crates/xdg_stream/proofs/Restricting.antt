@@ -9,6 +9,7 @@ use Rattle.xdg_propcore.proofs.Settling.{extends_none, extends_both}
 use Rattle.xdg_rules.proofs.Removing.{lies_without}
 use Rattle.xdg_rules.proofs.Sizes.{within_sizes}
 use Rattle.xdg_store.specs.Change.{Removes}
+use Rattle.xdg_store.specs.Naming.{LosesOf}
 use Rattle.xdg_store.specs.States.{State, Known}
 use Rattle.xdg_store.specs.declared.change.Change.{Change}
 use Rattle.xdg_store.specs.declared.change.Change.TheVariants as changes
@@ -30,6 +31,7 @@ pub record Restricting (old now : State) (made : Change) (d v i : ℕ) : Type 0 
   pub gone : (x : ℕ) → x < i → x ≢ v → Has now.now d x → ⊥
   pub kept : (small : List (List Bool)) → LiesIn small old.now → IsOnly small d v → LiesIn small now.now
   pub stays : Has old.now d v → Has now.now d v
+  pub others : LosesOf old.now now.now d
 
 abbrev not_emptied : Change → Type 0
 not_emptied changes.Emptied = ⊥
@@ -57,6 +59,7 @@ restrict_start old d v i known z = record {
   gone = λ x l. absurd (omega (arith, l, z));
   kept = λ small lies only. lies;
   stays = λ h. h;
+  others = λ e x h n. h;
 }
 
 next_gone : (P : ℕ → Type 0) (v i x : ℕ) → ((y : ℕ) → y < i → y ≢ v → P y → ⊥) → (i ≢ v → P i → ⊥) → x < i + 1 → x ≢ v → P x → ⊥
@@ -75,6 +78,7 @@ restrict_skip old now made d v i e r = record {
   gone = λ x l n. next_gone (Has now.now d) v i x r.gone (λ other. absurd (other e)) l n;
   kept = r.kept;
   stays = r.stays;
+  others = r.others;
 }
 
 -- a value that didn't remain
@@ -87,6 +91,7 @@ restrict_same old now new made d v i known m r = record {
   gone = λ x l n. next_gone (Has new.now d) v i x (λ y k o h. r.gone y k o (subst (λ s. Has s.now d y) m.1 h)) (λ other h. m.0 (subst (λ s. Has s.now d i) m.1 h)) l n;
   kept = λ small lies only. subst (λ s. LiesIn small s.now) (sym m.1) (r.kept small lies only);
   stays = λ h. subst (λ s. Has s.now d v) (sym m.1) (r.stays h);
+  others = λ e x h n. subst (λ s. Has s.now e x) (sym m.1) (r.others e x h n);
 }
 
 -- a value that is taken
@@ -99,6 +104,7 @@ restrict_changed old now new made d v i other known m r = record {
   gone = λ x l n. next_gone (Has new.now d) v i x (λ y k o h. r.gone y k o (box_shrinks changes.Changed now new d i m d y h)) (λ n h. taken_gone now.now d i (subst (λ s. Has s.now d i) m.2 h)) l n;
   kept = λ small lies only. subst (λ s. LiesIn small s.now) (sym m.2) (lies_without small now.now d i (r.kept small lies only) (λ h. other (only i h)));
   stays = λ h. subst (λ s. Has s.now d v) (sym m.2) (others_stay now.now d i d v (r.stays h) (inr (λ e. other (sym e))));
+  others = λ e x h n. subst (λ s. Has s.now e x) (sym m.2) (others_stay now.now d i e x (r.others e x h n) (inl n));
 }
 
 -- the value to stay doesn't remain
@@ -125,3 +131,7 @@ pub restrict_done : (old now : State) (made : Change) (d v i size : ℕ) → siz
 restrict_done old now changes.Same d v i size is past r = (ap (λ s. s.now) (r.same refl), all_gone old now changes.Same d v i size is past r)
 restrict_done old now changes.Changed d v i size is past r = all_gone old now changes.Changed d v i size is past r
 restrict_done old now changes.Emptied d v i size is past r = absurd (r.proper refl)
+
+-- the value to stay doesn't remain: nothing was lost of other decisions
+pub emptied_others : (old now new : State) (made : Change) (d v i e : ℕ) → Removes changes.Emptied now new e i → Restricting old now made d v i → LosesOf old.now new.now d
+emptied_others old now new made d v i e m r f x h n = subst (λ s. Has s.now f x) (sym m.2) (r.others f x h n)

@@ -1,5 +1,5 @@
 -- The boxes of the prefixes of a search.
-use Rattle.std.specs.Prelude.{◌≡◌, ℕ, ◌+◌, ◌<◌, ◌≤◌, ◌⊎◌, Bool, true, false, List, [], length, take, slice_index, slice_index_or}
+use Rattle.std.specs.Prelude.{◌≡◌, ℕ, ◌+◌, ◌<◌, ◌≤◌, ◌⊎◌, Bool, true, false, List, [], All, length, take, slice_index, slice_index_or}
 use Rattle.xdg_problem.specs.declared.parts.Parts.{Parts}
 use Rattle.xdg_problem.specs.Boxes.{Has, IsBox, IsOnly, LiesIn, Agrees}
 use Rattle.xdg_problem.specs.Vectors.{shape}
@@ -44,3 +44,11 @@ pub record HasLevels (parts : Parts) (history : List (List (List Bool))) (marks 
 -- there is a box for each front, or no prefix is boxed at all
 abbrev pub AreLevels : Parts → List (List (List Bool)) → List ℕ → List ℕ → Type 0
 AreLevels parts history marks numbers = HasLevels parts history marks numbers ⊎ ((marks ≡ []) × (numbers ≡ []) × ((p : List ℕ) → Boxed parts p → ⊥))
+
+-- all propagators are still on a box
+abbrev pub AllStill : {P : Type 0} → (P → Parts → List (List Bool) → Type 0) → List P → Parts → List (List Bool) → Type 0
+AllStill still props parts box = All (λ p. still p parts box) props
+
+-- something holds of the box of each front
+abbrev pub AreAll : (Parts → List (List Bool) → Type 0) → Parts → List (List (List Bool)) → List ℕ → Type 0
+AreAll Calm parts history marks = (k : ℕ) → k < length marks → Calm parts (slice_index_or history (slice_index marks k) [])

@@ -1,4 +1,3 @@
-pub mod Decisions
 pub mod Levels
 pub mod Runs
 pub mod Closing

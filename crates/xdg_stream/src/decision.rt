@@ -7,22 +7,11 @@ ghost use Rattle.xdg_problem.specs.Problems.{IsProblem};
 ghost use Rattle.xdg_problem.specs.Vectors.{attr_sizes, shape};
 ghost use Rattle.xdg_store.specs.Change.{Removes};
 ghost use Rattle.xdg_store.specs.States.{Known};
-ghost use Rattle.xdg_stream.specs.Decisions.{IsDecision, number_of};
+ghost use Rattle.xdg_store.specs.Decisions.{IsDecision, number_of};
 
 use xdg_base::{AttrId, DimId, NodeId};
 use xdg_problem::{Edge, Parts, Problem};
-use xdg_store::{Change, Store};
-
-/// A decision on a sentence.
-#[derive(Clone, Copy, Debug)]
-pub(crate) enum Decision {
-    /// The entry of a node.
-    Entry(NodeId),
-    /// The value of an attribute of a node.
-    Attr(DimId, NodeId, AttrId),
-    /// Whether an edge is present.
-    Place(Edge),
-}
+use xdg_store::{Change, Decision, Store};
 
 /// The decision on the attribute at a place among those of all dimensions.
 fn attr_at(parts: &Parts, at: usize) -> Decision

@@ -5,12 +5,12 @@ ghost use Rattle.std.specs.Vec.{vec_capacity};
 ghost use Rattle.xdg_problem.specs.Places.{places};
 ghost use Rattle.xdg_problem.specs.Vectors.{shape};
 ghost use Rattle.xdg_store.specs.States.{Known};
-ghost use Rattle.xdg_stream.specs.Decisions.{IsDecision, number_of};
+ghost use Rattle.xdg_store.specs.Decisions.{IsDecision, number_of};
 ghost use Rattle.xdg_stream.specs.Runs.{IsAlone, Adds};
 
-use crate::decision::{Decision, decision_at, remains};
+use crate::decision::{decision_at, remains};
 use xdg_problem::Edge;
-use xdg_store::{Mark, Store};
+use xdg_store::{Decision, Mark, Store};
 
 /// The value of a decision that remains, if no other one does.
 fn last_value(store: &Store, decision: Decision, size: u16) -> Option<u16>

@@ -39,16 +39,22 @@ impl<'a, P: Propagator> Model for BoxFront<'a, P> {
     ghost use Rattle.std.specs.Vec.{vec_capacity};
     ghost use Rattle.xdg_store.specs.States.{Known};
     ghost use Rattle.xdg_stream.specs.Fronted.{Fronted, HasFront};
+    ghost use Rattle.xdg_stream.specs.Levels.{AllStill, AreAll};
     ghost use Rattle.xdg_propcore.specs.Uses.{AllStandIn};
+    ghost use Rattle.std.specs.Coded.{codes};
+    ghost use Rattle.xdg_problem.specs.contracts.formula.Formula as formula;
 
     ghost Value = { Fronted };
+
+    ghost coded = { Prim.hlevel (codes, formula.the_row.coded) };
 
     ghost view = { λ f. record { parts = f.store.parts; numbers = f.numbers.items } };
 
     ghost invariant = { λ f. Known f.store
         × AllStandIn P.stands f.props.now f.store.parts
         × (f.agenda ≡ map P.kinds f.props.now)
-        × HasFront f.store.parts f.store.history f.edge_places f.marks.items f.numbers.items (vec_capacity f.marks) (vec_capacity f.numbers) };
+        × HasFront f.store.parts f.store.history f.edge_places f.marks.items f.numbers.items (vec_capacity f.marks) (vec_capacity f.numbers)
+        × AreAll (AllStill P.still f.props.now) f.store.parts f.store.history f.marks.items };
 }
 
 impl<'a, P: Propagator> BoxFront<'a, P> {

@@ -27,8 +27,12 @@ impl<'a> Model for Held<'a> {
     ghost use Rattle.std.specs.Vec.{vec_capacity};
     ghost use Rattle.xdg_stream.specs.Fronted.{Fronted};
     ghost use Rattle.xdg_stream.specs.Vectored.{HasAnalysis};
+    ghost use Rattle.std.specs.Coded.{codes};
+    ghost use Rattle.xdg_problem.specs.contracts.formula.Formula as formula;
 
     ghost Value = { Fronted };
+
+    ghost coded = { Prim.hlevel (codes, formula.the_row.coded) };
 
     ghost view = { λ h. record { parts = h.problem.now; numbers = h.numbers.items } };
 

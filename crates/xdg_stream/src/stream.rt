@@ -33,8 +33,12 @@ impl<'a, P: Propagator> Model for Stream<'a, P> {
     ghost use Rattle.std.specs.Option.{is_some};
     ghost use Rattle.std.specs.Vec.{vec_capacity};
     ghost use Rattle.xdg_stream.specs.Streamed.{IsStream, Streamed, seen};
+    ghost use Rattle.std.specs.Coded.{codes};
+    ghost use Rattle.xdg_problem.specs.contracts.formula.Formula as formula;
 
     ghost Value = { Streamed };
+
+    ghost coded = { Prim.hlevel (codes, formula.the_row.coded) };
 
     ghost view = { λ s. seen s.search.front.parts s.start.items s.search.budget s.search.charged s.search.reached.items s.last.numbers s.search.done };
 

@@ -124,7 +124,9 @@ in_range (Some text) budget has = (has.above, has.below)
 
 -- a command that words are asks for no analyses or for some
 pub wants_some : (given : List (List ℕ)) (command : Command) → IsCommand given command → WantsSome command
-wants_some given (commands.Parse options) is = some_first (value_of (codes "first") is.items) options.first is.says.first
+wants_some given (commands.Parse options) is =
+    let range = in_range (value_of (codes "budget") is.items) options.budget is.says.budget in
+    record { some = range.0; most = range.1; first = some_first (value_of (codes "first") is.items) options.first is.says.first }
 wants_some given (commands.Resume options) is = some_first (value_of (codes "first") is.items) options.first is.says.first
 wants_some given (commands.Corpus options) is =
     let range = in_range (value_of (codes "budget") is.items) options.budget is.says.budget in

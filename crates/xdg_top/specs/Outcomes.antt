@@ -1,6 +1,7 @@
 -- The status and the text of a run, as its words, the files and the input alone determine them.
 use Rattle.std.specs.Prelude.{◌≡◌, ℕ, List}
 use Rattle.xdg_analyses.specs.Written.{IsSome}
+use Rattle.xdg_branches.specs.Branched.{CanBranch}
 use Rattle.xdg_command.specs.Commands.{IsCommand}
 use Rattle.xdg_command.specs.declared.commands.Command.{Command}
 use Rattle.xdg_command.specs.declared.commands.Command.TheVariants as commands
@@ -13,9 +14,9 @@ use Rattle.xdg_outcomes.specs.declared.status.Status.{Status}
 use Rattle.xdg_reports.specs.Outcomes.{ExplainOf, CheckOf, LexiconOf, PrintOf}
 use Rattle.xdg_searches.specs.Outcomes.{ParseOf, ResumeOf, DrillOf}
 
--- where a command is asked for a number of analyses, it is at least one, and each line of a corpus can be searched
+-- where a command is asked for a number of analyses, it is at least one, and a sentence can be searched by branches, and each line of a corpus
 abbrev pub WantsSome : Command → Type 0
-WantsSome (commands.Parse options) = IsSome options.first
+WantsSome (commands.Parse options) = CanBranch options.budget options.first
 WantsSome (commands.Resume options) = IsSome options.first
 WantsSome (commands.Corpus options) = CanSearch options
 WantsSome command = Unit {0}

@@ -2,7 +2,9 @@
 #![tactic(auto)]
 
 mod running;
+mod safe;
 
 pub use running::run;
+pub use safe::run_safely;
 pub use xdg_outcomes::Status;
 pub use xdg_words::words_of;

@@ -48,7 +48,7 @@ fn run_command<R: Threads + Sync, H: Shelf, S: Source, K: Sink>(
         S.left input.old ≡ Some content → S.left input.new ≡ Some [] }
 {
     match command {
-        Command::Parse(options) => parse_sentence(alloc, options, shelf, input, out),
+        Command::Parse(options) => parse_sentence(rt, alloc, options, shelf, input, out),
         Command::Resume(options) => resume_analysis(alloc, options, shelf, out),
         Command::Explain { grammar, analysis } => {
             explain_analysis(alloc, grammar.as_str(), analysis.as_str(), shelf, out)

@@ -47,6 +47,15 @@ impl Model for Mark {
 
 impl Copy for Mark {}
 
+impl Mark {
+    /// How many records there were.
+    pub fn records(&self) -> usize
+        ensures { result ≡ self.now }
+    {
+        self.records
+    }
+}
+
 impl Trail {
     /// The words, with room for `cap` records. On want of memory the words are dropped.
     pub fn start(alloc: Global, words: Vec<u64>, cap: usize) -> Result<Trail, OutOfMemory>

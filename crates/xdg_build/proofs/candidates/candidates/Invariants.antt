@@ -1,6 +1,6 @@
-use Rattle.std.proofs.Common.{◌≡◌, take, map}
-use Rattle.xdg_packed.specs.Lexicon.{words_of, numbers_of}
+use Rattle.std.proofs.Common.{◌≡◌, take}
+use Rattle.xdg_groups.specs.Nodes.{candidates_in}
 use Rattle.xdg_build.proofs.candidates.candidates.Given as goal
 
-abbrev pub invariant-loop-word : goal.invariant-loop-word
-invariant-loop-word l = l.made ≡ map (λ word. numbers_of (words_of l.packed) word.text) (take l.word-index l.words)
+abbrev pub invariant-loop-node : goal.invariant-loop-node
+invariant-loop-node l = l.made ≡ candidates_in (take l.node-index l.nodes)

@@ -6,12 +6,13 @@ use Rattle.xdg_corpus.proofs.group.take_group.Goals as goal
 use Rattle.xdg_corpus.proofs.group.take_group.Goals.{then-loop-alloc-test+else-not-is_empty, else-loop-alloc-test}
 
 pub loop-alloc-init : goal.loop-alloc-init
-loop-alloc-init c = (c.utf8.text, takes_none (meaning_of c.args.expanded.now) c.args.options.now c.args.text.now c.new-group.result c.new-group.ensures.sentences)
+loop-alloc-init c = (c.utf8.text, takes_none (meaning_of c.args.expanded.now) c.args.options.now c.args.text.now c.new-group.result c.new-group.ensures.sentences, c.requires.stock)
 
 pub loop-alloc-preserved : goal.loop-alloc-preserved
 loop-alloc-preserved c = (
   search rules,
-  takes_line (meaning_of c.args.expanded.now) c.args.options.now c.args.text.now c.loop-alloc.group c.add_line.new.group c.loop-alloc.rest.now c.first_line.result.0.now c.first_line.result.1.now c.loop-alloc.invariant.1 c.first_line.ensures.lines c.first_line.ensures.rest c.in_ok-add_line.ensures,
+  takes_line (meaning_of c.args.expanded.now) c.args.options.now c.args.text.now c.loop-alloc.group c.add_line.new.group c.loop-alloc.rest.now c.first_line.result.0.now c.first_line.result.1.now c.loop-alloc.invariant.1 c.first_line.ensures.lines c.first_line.ensures.rest c.in_ok-add_line.ensures.lines,
+  c.in_ok-add_line.ensures.stock,
 )
 
 pub returns-clause-some : goal.returns-clause-some

@@ -1,4 +1,4 @@
-use Rattle.std.proofs.Common.{◌∙◌, refl, sym}
+use Rattle.std.proofs.Common.{◌∙◌, sym}
 use Rattle.xdg_costs.proofs.Runs.{turn_goes, turn_says, turn_refused, last_whole, last_begun}
 use Rattle.xdg_costs.proofs.reading.run.Goals.{in-GoesOn, in-Says+in_ok-push-in-Says}
 use Rattle.xdg_costs.proofs.reading.run.Goals as goal

@@ -12,5 +12,5 @@ compile_all-requires-clause-typed c =
 
 pub returns-clause-groups : goal.returns-clause-groups
 returns-clause-groups c =
-    if_made (grammar_of c.args.checked.now c.args.packed.now) c.args.candidates.now c.principles-uses.result.now c.compile_all.result c.principles-uses.ensures.same c.compile_all.ensures
+    if_made (grammar_of c.args.checked.now c.args.packed.now) c.args.candidates.now c.principles-uses.result.now c.compile_all.result c.principles-uses.ensures.same c.compile_all.ensures.groups
     (λ parts suits. groups_right (grammar_of c.args.checked.now c.args.packed.now) c.args.candidates.now parts c.args.checked.now.principles c.principles-uses.ensures.keeps.principles c.requires.lexicon c.requires.candidates suits)

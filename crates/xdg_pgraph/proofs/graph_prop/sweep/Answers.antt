@@ -12,7 +12,10 @@ pub returns-in-Dag : goal.returns-in-Dag
 returns-in-Dag c = dag_swept c.args.group.now c.args.pass.now c.take_dag.new.pass c.args.store.now c.take_dag.new.store c.requires.group c.requires.family c.take_dag.ensures.parts c.take_dag.ensures.known c.of-plane.result.dim.0 c.of-plane.ensures.dim c.truth_of.result c.truth_of-in-Dag.result c.truth_of.ensures c.truth_of-in-Dag.ensures c.in-Dag.is c.take_dag.ensures.runs
 
 pub returns-in-Valency : goal.returns-in-Valency
-returns-in-Valency c = valency_swept c.args.group.now c.args.pass.now c.take_valency.new.pass c.args.store.now c.take_valency.new.store c.requires.group c.requires.family c.take_valency.ensures.goes.extends.same c.take_valency.ensures.known c.of-plane.result.dim.0 c.of-plane.ensures.dim c.label_count.result c.of-plane.result.nodes
-    (c.label_count.ensures ∙ ap (λ (parts : Parts). label_count parts c.of-plane.result.dim.0) c.requires.parts)
+returns-in-Valency c = valency_swept c.args.group.now c.args.pass.now c.take_valency.new.pass c.args.store.now c.take_valency.new.store c.requires.group c.requires.family c.take_valency.ensures.goes.extends.same c.take_valency.ensures.known c.of-plane.result.dim.0 c.of-plane.ensures.dim c.label_count-labels.result c.of-plane.result.nodes
+    (c.label_count-labels.ensures ∙ ap (λ (parts : Parts). label_count parts c.of-plane.result.dim.0) c.requires.parts)
     (c.of-plane.ensures.plane.nodes_is ∙ ap (λ (parts : Parts). nodes parts) c.requires.parts)
     c.in-Valency.is c.take_valency.ensures
+
+pub take_valency-requires-clause-others : goal.take_valency-requires-clause-others
+take_valency-requires-clause-others c quiet = c.touched_since-touched.ensures

@@ -1,10 +1,18 @@
 use Rattle.std.proofs.Common.{◌≡◌, ◌∙◌, All, [], length, get_or, true, false, refl, sym, subst, ap, arith}
 use Rattle.xdg_problem.specs.declared.parts.Parts.{Parts}
-use Rattle.xdg_pgraph.proofs.Clearing.{Outside, barred_start, barred_skip, barred_taken, barred_end}
+use Rattle.xdg_pgraph.proofs.Clearing.{Outside, barred_absent, barred_start, barred_skip, barred_taken, barred_end}
 use Rattle.xdg_pgraph.proofs.valency.take_entries.Goals as goal
 
 pub loop-place-init : goal.loop-place-init
 loop-place-init c = (barred_start c.args.store.now.parts c.args.group.now c.args.bundle c.args.least c.args.most c.args.pass.now c.args.pass.now c.args.pass.now c.args.store.now c.args.store.now c.args.store.now, c.requires.known)
+
+pub loop-place-preserved-then-not-entry_in : goal.loop-place-preserved-then-not-entry_in
+loop-place-preserved-then-not-entry_in c = (
+  barred_absent c.args.store.now.parts c.args.group.now c.args.bundle c.args.least c.args.most c.args.pass.now c.loop-place.pass c.loop-place.pass c.args.store.now c.loop-place.store c.loop-place.store c.loop-place.place
+      (λ has. (let t : false ≡ true = c.if-not-entry_in.ensures.exact.1 has in cc))
+      c.loop-place.invariant.0,
+  c.loop-place.invariant.1,
+)
 
 pub loop-place-preserved-then-not-has_none_within : goal.loop-place-preserved-then-not-has_none_within
 loop-place-preserved-then-not-has_none_within c = (

@@ -1,7 +1,11 @@
 use Rattle.xdg_pgraph.specs.declared.bundle.Way.TheVariants as ways
 use Rattle.xdg_pgraph.specs.Bundles.{IsBundleDone, IsLabelDone}
 use Rattle.xdg_pgraph.proofs.Bundled.{next_both}
+use Rattle.xdg_pgraph.proofs.Others.{others_on}
 use Rattle.xdg_pgraph.proofs.valency.take_label.Goals as goal
 
 pub returns : goal.returns
-returns c = next_both c.args.group.now (IsBundleDone ways.Out c.args.store.now.parts c.args.group.now c.args.node c.args.label) (IsLabelDone c.args.store.now.parts c.args.group.now c.args.node c.args.label) (λ parts. IsBundleDone ways.In parts c.args.group.now c.args.node c.args.label) c.args.pass.now c.args.store.now c.take_bundle.new.pass c.take_bundle.new.store c.take_bundle-2.new.pass c.take_bundle-2.new.store c.take_bundle.ensures c.take_bundle-2.ensures (λ box out into. (out, into))
+returns c = next_both c.args.group.now (IsBundleDone ways.Out c.args.store.now.parts c.args.group.now c.args.node c.args.label) (IsLabelDone c.args.store.now.parts c.args.group.now c.args.node c.args.label) (λ parts. IsBundleDone ways.In parts c.args.group.now c.args.node c.args.label) c.args.pass.now c.args.store.now c.take_touched.new.pass c.take_touched.new.store c.take_touched-2.new.pass c.take_touched-2.new.store c.take_touched.ensures c.take_touched-2.ensures (λ box out into. (out, into))
+
+pub take_touched-requires-2-clause-others : goal.take_touched-requires-2-clause-others
+take_touched-requires-2-clause-others c = others_on c.args.touched.now c.args.group.now (IsBundleDone ways.Out c.args.store.now.parts c.args.group.now c.args.node c.args.label) c.args.pass.now c.args.store.now c.take_touched.new.pass c.take_touched.new.store c.take_touched.ensures c.requires.others

@@ -10,8 +10,8 @@ use Rattle.xdg_searches.proofs.parse.parse_expanded.Goals as goal
 
 pub returns-in-Ok-read_problem-clause-leaves : goal.returns-in-Ok-read_problem-clause-leaves
 returns-in-Ok-read_problem-clause-leaves g c content told =
-    accepted_leaves Parts statuses.BadSentence (IsBadSentence (meaning_of c.args.expanded.now) c.args.options.now.segment content) (HasProblem (meaning_of c.args.expanded.now) c.args.options.now.segment content) (Parsed c.args.options.now) c.in-Ok-read_problem.problem c.search.result _ _
-    (c.in-Ok-read_problem.ensures.found content told) c.search.ensures.leaves
+    accepted_leaves Parts statuses.BadSentence (IsBadSentence (meaning_of c.args.expanded.now) c.args.options.now.segment content) (HasProblem (meaning_of c.args.expanded.now) c.args.options.now.segment content) (Parsed c.args.options.now) c.in-Ok-read_problem.problem c.search_asked.result _ _
+    (c.in-Ok-read_problem.ensures.found content told) c.search_asked.ensures.leaves
 
 pub returns-clause-leaves : goal.returns-clause-leaves
 returns-clause-leaves g c content told =
@@ -19,7 +19,7 @@ returns-clause-leaves g c content told =
     told (λ e. e) (c.in-Err-read_problem.ensures.refused content) c.refuse.ensures.written
 
 pub returns-in-Ok-read_problem-clause-wrote : goal.returns-in-Ok-read_problem-clause-wrote
-returns-in-Ok-read_problem-clause-wrote g c = searched_wrote ParseEnds (Parsed c.args.options.now c.in-Ok-read_problem.problem) c.search.result _ _ _ _ tt tt tt tt c.search.ensures.ends c.search.ensures.leaves c.search.ensures.out_quiet
+returns-in-Ok-read_problem-clause-wrote g c = searched_wrote ParseEnds (Parsed c.args.options.now c.in-Ok-read_problem.problem) c.search_asked.result _ _ _ _ tt tt tt tt c.search_asked.ensures.ends c.search_asked.ensures.leaves c.search_asked.ensures.out_quiet
 
 pub returns-clause-wrote : goal.returns-clause-wrote
 returns-clause-wrote g c =

@@ -1,7 +1,7 @@
 use Rattle.std.proofs.Common.{◌≡◌, ◌↔◌, ◌<◌, IsTrue, arith, not, slice_index, subst, sym}
 use Rattle.xdg_problem.specs.Boxes.{Has, edge_decision}
 use Rattle.xdg_problem.specs.Vectors.{shape}
-use Rattle.xdg_stream.specs.Decisions.{IsDecision, number_of}
+use Rattle.xdg_store.specs.Decisions.{IsDecision, number_of}
 use Rattle.xdg_stream.proofs.Finding.{not_gone}
 use Rattle.xdg_stream.proofs.Named.{has_value, edge_value}
 use Rattle.xdg_stream.proofs.decision.remains.Goals as goal

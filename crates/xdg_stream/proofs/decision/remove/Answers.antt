@@ -2,7 +2,7 @@ use Rattle.xdg_stream.proofs.Named.{has_value, edge_value}
 use Rattle.std.proofs.Common.{◌≡◌, ◌<◌, arith, subst, sym, slice_index}
 use Rattle.xdg_problem.specs.Vectors.{shape}
 use Rattle.xdg_store.specs.Change.{Removes}
-use Rattle.xdg_stream.specs.Decisions.{IsDecision, number_of}
+use Rattle.xdg_store.specs.Decisions.{IsDecision, number_of}
 use Rattle.xdg_stream.proofs.decision.remove.Goals as goal
 
 pub remove_attr-requires : goal.remove_attr-requires

@@ -1,4 +1,4 @@
-use Rattle.xdg_stream.specs.Decisions.{number_of}
+use Rattle.xdg_store.specs.Decisions.{number_of}
 use Rattle.xdg_stream.proofs.Finding.{FoundBelow}
 use Rattle.xdg_stream.proofs.forced.last_value.Given as goal
 

@@ -1,4 +1,4 @@
-use Rattle.xdg_stream.specs.Decisions.{number_of}
+use Rattle.xdg_store.specs.Decisions.{number_of}
 use Rattle.xdg_stream.proofs.Restricting.{Restricting}
 use Rattle.xdg_stream.proofs.narrowing.restrict.Given as goal
 

@@ -9,7 +9,7 @@ use Rattle.xdg_top.proofs.Commanded.{corpus_done, corpus_failed, corpus_wrote, e
 use Rattle.xdg_top.proofs.running.run_command.Goals as goal
 
 pub parse_sentence-requires : goal.parse_sentence-requires
-parse_sentence-requires g c = subst WantsSome c.in-Parse.is c.requires
+parse_sentence-requires g c = (search rules, subst WantsSome c.in-Parse.is c.requires)
 
 pub resume_analysis-requires : goal.resume_analysis-requires
 resume_analysis-requires g c = subst WantsSome c.in-Resume.is c.requires

@@ -1,4 +1,6 @@
-use Rattle.std.proofs.Common.{◌≡◌, ◌≤◌, ◌+◌, ◌-◌, ◌*◌, ℕ, length, ap, ◌∙◌}
+use Rattle.std.proofs.Common.{◌≡◌, ◌≤◌, ◌+◌, ◌-◌, ◌*◌, ℕ, length, ap, arith, ◌∙◌}
+use Rattle.std.specs.Vec.{vec_capacity}
+use Rattle.xdg_store.proofs.Noting.{steps_start}
 use Rattle.xdg_problem.specs.Places.{nodes}
 use Rattle.xdg_problem.specs.declared.parts.Parts.{Parts}
 use Rattle.xdg_store.specs.Layout.{bit_count}
@@ -19,8 +21,12 @@ the_keeps c = keeps_start c.args.problem.now c.in_ok-trail.trail (c.spare.result
 pub invariant_of-result : goal.invariant_of-result
 invariant_of-result c =
     let k = the_keeps c in
-    let n : c.len-node_count.result ≡ nodes c.args.problem.now = c.len-node_count.ensures ∙ ap (λ (q : Parts). length q.words) c.parts-parts.ensures.same in
-    (k, n, rw (← n) c.nodes_below.ensures)
+    let n : c.len-node_count.result ≡ nodes c.args.problem.now = c.len-node_count.ensures ∙ ap (λ (q : Parts). length q.words) c.parts-parts.ensures.same in (
+      k,
+      n,
+      rw (← n) c.nodes_below.ensures,
+      steps_start c.args.problem.now c.in_ok-trail.trail c.in_ok-removed.removed.items (vec_capacity c.in_ok-removed.removed) c.free_values-free.result c.in_ok-trail.ensures.records c.in_ok-removed.ensures.items (let e = c.in_ok-removed.ensures.exact in omega (arith, e)) c.free_values-free.ensures.free,
+    )
 
 pub returns-clause-now : goal.returns-clause-now
 returns-clause-now c = full_words c.args.problem.now (c.len-node_count.result * 16 + c.len.result * c.len-node_count.result * 256) c.in_ok-trail.trail.words c.free_values-free.ensures.problem (the_words c) (c.in_ok-trail.ensures.words ∙ c.in_ok-words.ensures.items_if_clones_equal (λ y h. h))

@@ -1,9 +1,10 @@
-use Rattle.std.proofs.Common.{◌≡◌, ◌+◌, ◌-◌, ◌∙◌, [], length, get_or, take, ap, arith, sym}
+use Rattle.std.proofs.Common.{◌≡◌, ◌≤◌, ◌+◌, ◌-◌, ◌∙◌, [], length, get_or, take, ap, arith, sym}
 use Rattle.std.specs.Prelude.{sum}
+use Rattle.std.specs.Vec.{vec_capacity}
 use Rattle.xdg_problem.specs.Vectors.{shape}
 use Rattle.xdg_store.specs.Layout.{bits_of}
-use Rattle.xdg_store.specs.States.{Keeps}
 use Rattle.xdg_store.proofs.Histories.{cut_last, history_cut, history_length, keeps_undone, known_of}
+use Rattle.xdg_store.proofs.Noting.{steps_cut}
 use Rattle.xdg_store.proofs.store.Store.undo.Goals as goal
 
 pub undo-requires : goal.undo-requires
@@ -13,18 +14,28 @@ undo-requires c =
     let r = c.requires in
     omega (arith, e, r)
 
-the_keeps : (c : goal.After-undo) → Keeps c.self.inside.problem.now c.undo.new.self c.self.inside.single
-the_keeps c = keeps_undone c.self.inside.problem.now c.self.inside.trail c.undo.new.self c.self.inside.single c.args.mark c.self.invariant.0 c.undo.ensures.len c.undo.ensures.room c.undo.ensures.past
-
 pub invariant_of-self : goal.invariant_of-self
-invariant_of-self c = (the_keeps c, c.self.invariant.1, c.self.invariant.2)
+invariant_of-self c =
+    let n = history_length (bits_of c.self.inside.problem.now) c.self.inside.trail in
+    let e : length c.args.self.now.history ≡ length c.self.inside.trail.records + 1 = sym (ap (λ s. length s.history) c.self.view_is) ∙ n in
+    let r = c.requires in
+    let l : c.args.mark ≤ length c.self.inside.trail.records = omega (arith, e, r) in (
+      keeps_undone c.self.inside.problem.now c.self.inside.trail c.undo.new.self c.self.inside.single c.args.mark c.self.invariant.0 c.undo.ensures.len c.undo.ensures.room c.undo.ensures.past,
+      c.self.invariant.1,
+      c.self.invariant.2,
+      steps_cut c.self.inside.problem.now c.self.inside.trail c.undo.new.self c.self.inside.removed.items c.truncate.new.self.items (vec_capacity c.self.inside.removed) (vec_capacity c.truncate.new.self) c.args.mark c.records.result l c.undo.ensures.past c.self.invariant.3 c.truncate.ensures.items c.records.ensures c.truncate.ensures.capacity,
+    )
 
 pub returns-clause-known : goal.returns-clause-known
-returns-clause-known c = known_of c.self.inside.problem.now (sum (shape c.self.inside.problem.now)) c.self.inside.turns c.undo.new.self c.self.invariant.0.problem (the_keeps c).sound
+returns-clause-known c = known_of c.self.inside.problem.now (sum (shape c.self.inside.problem.now)) c.self.inside.turns c.undo.new.self c.self.invariant.0.problem (keeps_undone c.self.inside.problem.now c.self.inside.trail c.undo.new.self c.self.inside.single c.args.mark c.self.invariant.0 c.undo.ensures.len c.undo.ensures.room c.undo.ensures.past).sound
 
 pub returns-clause-history : goal.returns-clause-history
 returns-clause-history c =
-    history_cut (bits_of c.self.inside.problem.now) c.self.inside.trail c.undo.new.self c.args.mark (undo-requires c.before) c.undo.ensures.past
+    let n = history_length (bits_of c.self.inside.problem.now) c.self.inside.trail in
+    let e : length c.args.self.now.history ≡ length c.self.inside.trail.records + 1 = sym (ap (λ s. length s.history) c.self.view_is) ∙ n in
+    let r = c.requires in
+    let l : c.args.mark ≤ length c.self.inside.trail.records = omega (arith, e, r) in
+    history_cut (bits_of c.self.inside.problem.now) c.self.inside.trail c.undo.new.self c.args.mark l c.undo.ensures.past
     ∙ ap (λ s. take (c.args.mark + 1) s.history) c.self.view_is
 
 pub returns-clause-now : goal.returns-clause-now

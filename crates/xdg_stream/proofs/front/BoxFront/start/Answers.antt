@@ -6,6 +6,8 @@ use Rattle.xdg_propcore.specs.Uses.{StandsIn}
 use Rattle.xdg_stream.specs.Fronted.{HasFront}
 use Rattle.xdg_propcore.specs.Uses.{AllStandIn}
 use Rattle.xdg_stream.proofs.Opening.{open_settled, open_dead}
+use Rattle.xdg_stream.specs.Levels.{AllStill, AreAll}
+use Rattle.xdg_stream.proofs.Calming.{calm_none, calm_with}
 use Rattle.xdg_stream.proofs.front.BoxFront.start.Goals as goal
 use Rattle.xdg_stream.proofs.front.BoxFront.start.Goals.{in-Settled, in-Dead}
 
@@ -34,5 +36,13 @@ invariant_of-result g c =
         | in-Dead w ↦ subst (λ m. HasFront new.parts new.history c.in_ok-edge_places.edge_places m.items c.in_ok-numbers.numbers.items (vec_capacity m) (vec_capacity c.in_ok-numbers.numbers)) (sym w.marks-is)
             (open_dead g.P.Propagator.stands c.args.props.now q c.requires c.in_ok-store.store new c.in_ok-store.ensures.parts c.in_ok-store.ensures.now same c.in_ok-edge_places.edge_places c.in_ok-edge_places.ensures.listed c.in_ok-numbers.numbers.items c.in_ok-numbers.ensures.items (vec_capacity c.in_ok-marks.marks) (vec_capacity c.in_ok-numbers.numbers) for_numbers for_marks
             c.in_ok-marks.marks.items w.in-Dead.ensures.settles c.in_ok-marks.ensures.items)
+      ],
+      elim c.match-settle.branch [
+        | in-Settled w ↦ subst (λ m. AreAll (AllStill g.P.Propagator.still c.args.props.now) new.parts new.history m.items) (sym w.marks-is)
+            (calm_with (AllStill g.P.Propagator.still c.args.props.now) new.parts new.history c.in_ok-marks.marks.items w.push_reserved.new.self.items w.mark.result
+            (calm_none (AllStill g.P.Propagator.still c.args.props.now) new.parts new.history c.in_ok-marks.marks.items c.in_ok-marks.ensures.items)
+            (subst (AllStill g.P.Propagator.still c.args.props.now new.parts) (sym w.mark.ensures.last) w.in-Settled.ensures.still) w.push_reserved.ensures.items)
+        | in-Dead w ↦ subst (λ m. AreAll (AllStill g.P.Propagator.still c.args.props.now) new.parts new.history m.items) (sym w.marks-is)
+            (calm_none (AllStill g.P.Propagator.still c.args.props.now) new.parts new.history c.in_ok-marks.marks.items c.in_ok-marks.ensures.items)
       ],
     )

@@ -2,6 +2,8 @@ use Rattle.std.proofs.Common.{◌≡◌, ◌+◌, ◌-◌, ◌∙◌, ◌<◌, �
 use Rattle.std.specs.Prelude.{slice_index, slice_index_or}
 use Rattle.std.specs.Vec.{vec_capacity}
 use Rattle.xdg_stream.proofs.Pushing.{backs_none, backs_some, cut_front, mark_place}
+use Rattle.xdg_stream.specs.Levels.{AllStill}
+use Rattle.xdg_stream.proofs.Calming.{calm_cut}
 use Rattle.xdg_stream.proofs.front.BoxFrontFront.back.Goals as goal
 
 pub returns-then-depth-eq0-clause-backs : goal.returns-then-depth-eq0-clause-backs
@@ -35,6 +37,7 @@ invariant_of-self-2 g c =
       c.self.invariant.2,
       cut_front parts history c.self.inside.edge_places marks numbers c.truncate-2.new.self.items c.truncate-3.new.self.items (vec_capacity c.self.inside.marks) (vec_capacity c.self.inside.numbers) (vec_capacity c.truncate-2.new.self) (vec_capacity c.truncate-3.new.self) (d - 1) c.self.invariant.3
           (omega (arith, short)) (c.truncate-2.ensures.items ∙ ap (λ k. take k marks) next) c.truncate-3.ensures.items (omega (arith, a)) (omega (arith, b)),
+      calm_cut (AllStill g.P.Propagator.still c.self.inside.props.now) parts history marks c.truncate-2.new.self.items d c.self.invariant.4 c.truncate-2.ensures.items,
     )
 
 pub returns-clause-backs : goal.returns-clause-backs

@@ -3,6 +3,8 @@ use Rattle.std.specs.Prelude.{slice_index_or}
 use Rattle.std.specs.Vec.{vec_capacity}
 use Rattle.xdg_propcore.specs.Uses.{AllStandIn}
 use Rattle.xdg_stream.proofs.Pushing.{follows_here, read_at, run_follows, run_front}
+use Rattle.xdg_stream.specs.Levels.{AllStill}
+use Rattle.xdg_stream.proofs.Calming.{calm_at_top, calm_more, calm_undone}
 use Rattle.xdg_stream.proofs.front.BoxFrontFront.follow.Goals as goal
 
 pub invariant_of-self : goal.invariant_of-self
@@ -32,6 +34,9 @@ invariant_of-self g c =
       subst (AllStandIn g.P.Propagator.stands c.self.inside.props.now) (sym same) c.self.invariant.1,
       c.self.invariant.2,
       run_front s0 s1 edges marks numbers mr nr at has is same now_is undone marks'.items numbers'.items mark c.args.most c.add_alone.result mark_is c.add_alone.ensures.adds (vec_capacity marks') (vec_capacity numbers') (omega (arith, a)) (omega (arith, b)),
+      calm_more (AllStill g.P.Propagator.still c.self.inside.props.now) s1.parts s1.history marks marks'.items c.add_alone.ensures.adds.added mark
+          (calm_undone (AllStill g.P.Propagator.still c.self.inside.props.now) s0 s1 edges marks numbers mr nr at has is same now_is undone c.self.invariant.4)
+          (calm_at_top (AllStill g.P.Propagator.still c.self.inside.props.now) s0 s1 edges marks numbers mr nr at has is same now_is undone c.self.invariant.4 mark mark_is) c.add_alone.ensures.adds.marks_are,
     )
 
 pub returns-clause-follows : goal.returns-clause-follows

@@ -8,6 +8,8 @@ use Rattle.xdg_rules.specs.Boxed.{Boxed}
 use Rattle.xdg_stream.specs.Fronted.{Fronted}
 use Rattle.xdg_propcore.specs.Uses.{AllStandIn}
 use Rattle.xdg_stream.proofs.Pushing.{top_in, depth_is, mid_level, kept_front, pushed_front, none_boxed, read_at, next_fits, same_problem, refused_here, taken_here}
+use Rattle.xdg_stream.specs.Levels.{AllStill}
+use Rattle.xdg_stream.proofs.Calming.{calm_grown, calm_top, calm_with}
 use Rattle.xdg_stream.proofs.front.BoxFrontFront.push.Goals as goal
 
 pub returns-then-depth-eq0-clause-same : goal.returns-then-depth-eq0-clause-same
@@ -47,6 +49,26 @@ undo-requires g c =
 pub lengthen-requires-clause-stand : goal.lengthen-requires-clause-stand
 lengthen-requires-clause-stand g c =
     subst (AllStandIn g.P.Propagator.stands c.self.inside.props.now) (sym c.undo.ensures.parts) c.self.invariant.1
+
+pub lengthen-requires-clause-still : goal.lengthen-requires-clause-still
+lengthen-requires-clause-still g c =
+    let s0 = c.self.inside.store in
+    let edges = c.self.inside.edge_places in
+    let marks = c.self.inside.marks.items in
+    let numbers = c.self.inside.numbers.items in
+    let mr = vec_capacity c.self.inside.marks in
+    let nr = vec_capacity c.self.inside.numbers in
+    let at = c.len-depth.result - 1 in
+    let has = c.self.invariant.3 in
+    let len = c.len-depth.ensures in
+    let some = c.if-depth-eq0.false in
+    let is : at + 1 ≡ length marks = omega (arith, len, some) in
+    let mark_is = read_at marks c.as_slice.result.now at c.index-as_slice-depth.result c.as_slice.ensures.value (omega (arith, is)) c.index-as_slice-depth.is in
+    let s1 = c.undo.new.self in
+    let same = c.undo.ensures.parts in
+    let now_is = c.undo.ensures.now ∙ ap (λ m. slice_index_or s0.history m []) mark_is in
+    let undone = c.undo.ensures.history ∙ ap (λ m. take (m + 1) s0.history) mark_is in
+    calm_top (AllStill g.P.Propagator.still c.self.inside.props.now) s0 s1 edges marks numbers mr nr at has is same now_is undone c.self.invariant.4
 
 pub lengthen-requires-clause-listed : goal.lengthen-requires-clause-listed
 lengthen-requires-clause-listed g c =
@@ -108,6 +130,7 @@ invariant_of-self g c =
       subst (AllStandIn g.P.Propagator.stands c.self.inside.props.now) (sym (extends.same ∙ same)) c.self.invariant.1,
       c.lengthen.ensures.agenda ∙ c.self.invariant.2,
       kept_front s0 s1 edges marks numbers mr nr at has is same now_is undone s2 extends,
+      calm_grown (AllStill g.P.Propagator.still c.self.inside.props.now) s0 s1 edges marks numbers mr nr at has is same now_is undone c.self.invariant.4 s2 extends,
     )
 
 pub returns-then-not-lengthen-clause-kept : goal.returns-then-not-lengthen-clause-kept
@@ -205,6 +228,9 @@ invariant_of-self-2 g c =
       subst (AllStandIn g.P.Propagator.stands c.self.inside.props.now) (sym (extends.same ∙ same)) c.self.invariant.1,
       c.lengthen.ensures.agenda ∙ c.self.invariant.2,
       pushed_front s0 s1 edges marks numbers mr nr at has is same now_is undone s2 extends c.push_reserved.new.self.items c.push_reserved-2.new.self.items (vec_capacity c.push_reserved.new.self) (vec_capacity c.push_reserved-2.new.self) c.mark.result c.args.value (c.if-not-lengthen.ensures.narrows numbers depth level) c.mark.ensures.mark c.mark.ensures.last c.push_reserved.ensures.items c.push_reserved-2.ensures.items (omega (arith, a)) (omega (arith, b)),
+      calm_with (AllStill g.P.Propagator.still c.self.inside.props.now) s2.parts s2.history marks c.push_reserved.new.self.items c.mark.result
+          (calm_grown (AllStill g.P.Propagator.still c.self.inside.props.now) s0 s1 edges marks numbers mr nr at has is same now_is undone c.self.invariant.4 s2 extends)
+          (subst ((AllStill g.P.Propagator.still c.self.inside.props.now) s2.parts) (sym c.mark.ensures.last) (c.if-not-lengthen.ensures.still refl)) c.push_reserved.ensures.items,
     )
 
 pub returns-clause-kept : goal.returns-clause-kept

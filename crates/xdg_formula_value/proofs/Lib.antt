@@ -1,0 +1,12 @@
+pub mod Stood
+pub mod Edged
+pub mod Filled
+pub mod Rowed
+pub mod Overs
+pub mod Fronts
+pub mod Formed
+pub mod Paired
+pub mod Ending
+pub mod Kinding
+pub mod Named
+pub mod Stepping

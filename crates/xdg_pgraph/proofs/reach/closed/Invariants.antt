@@ -1,5 +1,0 @@
-use Rattle.xdg_judge.specs.Links.{IsClosure}
-use Rattle.xdg_pgraph.proofs.reach.closed.Given as goal
-
-abbrev pub invariant-loop-middle : goal.invariant-loop-middle
-invariant-loop-middle l = IsClosure l.middle l.table l.closed

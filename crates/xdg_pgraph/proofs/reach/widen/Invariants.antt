@@ -1,5 +1,0 @@
-use Rattle.xdg_judge.proofs.Sets.{Widened}
-use Rattle.xdg_pgraph.proofs.reach.widen.Given as goal
-
-abbrev pub invariant-loop-set : goal.invariant-loop-set
-invariant-loop-set l = Widened l.initial.table l.table l.middle l.set-index

@@ -1,0 +1,9 @@
+use Rattle.std.proofs.Common.{◌≡◌, ℕ, ◌<◌, ◌+◌, ◌∙◌, inl, inr, List, Option, Some, None, ap, arith, get_or, length, length-set, set, subst, sym}
+use Rattle.xdg_propcore.proofs.Holding.{filled_more}
+use Rattle.xdg_propcore.proofs.rests.fill.Goals as goal
+
+pub loop-at-preserved : goal.loop-at-preserved
+loop-at-preserved c = record {
+  length = length-set c.loop-at.marks.items c.loop-at.at (Some c.args.mark) ∙ c.loop-at.invariant.length;
+  each = filled_more c.loop-at.marks.items (Some c.args.mark) c.loop-at.at (let t = c.loop-at-test.true in let s = c.loop-at.invariant.length in omega (arith, t, s)) c.loop-at.invariant.each;
+}

@@ -1,0 +1,164 @@
+-- Of which decisions values were removed.
+use Rattle.std.proofs.Common.{◌≡◌, ℕ, ◌<◌, ◌≤◌, ◌+◌, ◌-◌, inl, inr, Bool, true, false, List, [], ◌∷◌, ◌++◌, length, get_or, take, drop, ap, sym, ◌∙◌, arith, subst, zero, suc, length-append}
+use Rattle.std.specs.Prelude.{sum}
+use Rattle.std.proofs.lemmas.Bool.{cases_Bool, cases_eq, cases_lt}
+use Rattle.std.proofs.lemmas.List.{get_or_append_left, get_or_at, get_or_default, get_or-drop, get_or-take, length-drop, length-take-le}
+use Rattle.xdg_problem.specs.declared.parts.Parts.{Parts}
+use Rattle.xdg_problem.specs.Boxes.{Has, without}
+use Rattle.xdg_problem.specs.Vectors.{shape}
+use Rattle.xdg_trail.specs.Trailed.{Trailed, past}
+use Rattle.xdg_store.specs.Change.{Removes}
+use Rattle.xdg_store.specs.Decisions.{IsDecision, number_of}
+use Rattle.xdg_store.specs.Layout.{bits_of, box_in}
+use Rattle.xdg_store.specs.Naming.{AreSteps, IsStep, LosesOf, Names, noted}
+use Rattle.xdg_store.specs.States.{State, Keeps, Known, oldest}
+use Rattle.xdg_store.specs.declared.change.Change.{Change}
+use Rattle.xdg_store.specs.declared.change.Change.TheVariants as changes
+use Rattle.xdg_store.specs.declared.decision.Decision.{Decision}
+use Rattle.xdg_store.specs.declared.decision.Decision.TheVariants as decisions
+use Rattle.xdg_store.proofs.Boxed.{box_filled, kept_elsewhere, length_box}
+use Rattle.xdg_store.proofs.Counting.{enough_left}
+use Rattle.xdg_store.proofs.Histories.{history_cut, history_length, known_of, present, seen}
+
+module _ (parts : Parts) where
+  -- what is said of a step, by the decision and the two boxes
+  abbrev Says : Decision → List (List Bool) → List (List Bool) → Type 0
+  Says decision old new = IsDecision parts decision × LosesOf old new (number_of parts decision)
+
+  says_alike : (a b : Decision) (old old' new new' : List (List Bool)) → a ≡ b → old ≡ old' → new ≡ new' → Says b old' new' → Says a old new
+  says_alike a b old old' new new' p q r s = subst (λ z. Says z old new) (sym p) (subst (λ z. Says b z new) (sym q) (subst (λ z. Says b old' z) (sym r) s))
+
+  -- ---- one more
+
+  grown : (history more : List (List (List Bool))) (removed others : List Decision) (k : ℕ) → length history ≡ length removed + 1 → k < length removed → IsStep parts history removed k → IsStep parts (history ++ more) (removed ++ others) k
+  grown history more removed others k count l step d = says_alike _ _ _ _ _ _
+      (get_or_append_left removed others d k l)
+      (get_or_append_left history more [] k (omega (arith, count, l)))
+      (get_or_append_left history more [] (k + 1) (omega (arith, count, l)))
+      (step d)
+
+  newest : (s : State) (removed : List Decision) (decision : Decision) (v k : ℕ) → Known s → length s.history ≡ length removed + 1 → k ≡ length removed → IsDecision parts decision → IsStep parts (s.history ++ (without s.now (number_of parts decision) v ∷ [])) (removed ++ (decision ∷ [])) k
+  newest s removed decision v k known count at is d =
+      let taken = without s.now (number_of parts decision) v in
+      let last : k ≡ length s.history - 1 = omega (arith, count, at) in
+      says_alike _ _ _ _ _ _
+      (get_or_at removed decision [] d k (sym at))
+      (get_or_append_left s.history (taken ∷ []) [] k (omega (arith, count, at)) ∙ ap (λ i. get_or s.history i []) last ∙ known.last)
+      (get_or_at s.history taken [] [] (k + 1) (omega (arith, count, at)))
+      (is, λ e x h n. kept_elsewhere s.now (number_of parts decision) v e x h n)
+
+  pub noted_steps : (change : Change) (old new : State) (removed : List Decision) (decision : Decision) (v room : ℕ) → Known old → IsDecision parts decision → AreSteps parts old.history removed room → Removes change old new (number_of parts decision) v → AreSteps parts new.history (noted change removed decision) room
+  noted_steps changes.Same old new removed decision v room known is steps (gone, same) = subst (λ s. AreSteps parts s.history removed room) (sym same) steps
+  noted_steps changes.Emptied old new removed decision v room known is steps (has, only, same) = subst (λ s. AreSteps parts s.history removed room) (sym same) steps
+  noted_steps changes.Changed old new removed decision v room known is steps (has, other, more) =
+      let taken = without old.now (number_of parts decision) v in
+      let c = steps.count in
+      let a = length-append old.history (taken ∷ []) in
+      let b = length-append removed (decision ∷ []) in
+      subst (λ s. AreSteps parts s.history (removed ++ (decision ∷ [])) room) (sym more) (record {
+        count = omega (arith, c, a, b);
+        each = λ k l. elim (cases_lt k (length removed)) [
+          | inl m ↦ grown old.history (taken ∷ []) removed (decision ∷ []) k c m (steps.each k m)
+          | inr m ↦ newest old removed decision v k known c (omega (arith, l, m, b)) is
+        ];
+        most = steps.most;
+      })
+
+  -- ---- room
+
+  pub note_room : (change : Change) (t u : Trailed) (turns single : ℕ) (removed : List Decision) (d v room : ℕ) → Keeps parts u single → AreSteps parts (oldest (bits_of parts) (past t)) removed room → Removes change (seen parts t turns) (seen parts u turns) d v → change ≡ changes.Changed → length removed < room
+  note_room changes.Same t u turns single removed d v room keeps steps removes is = cc
+  note_room changes.Emptied t u turns single removed d v room keeps steps removes is = cc
+  note_room changes.Changed t u turns single removed d v room keeps steps (has, other, more) is =
+      let box = box_in (bits_of parts) u.words in
+      let now = present (shape parts) (sum (shape parts)) (bits_of parts) u keeps.sound in
+      let count = now.0 in
+      let left = enough_left box (box_filled (shape parts) box now.1) in
+      let size = length_box (shape parts) box now.1 in
+      let before = steps.count in
+      let after = history_length (bits_of parts) u in
+      let one = length-append (oldest (bits_of parts) (past t)) (without (box_in (bits_of parts) t.words) d v ∷ []) in
+      let same : length (oldest (bits_of parts) (past u)) ≡ length (oldest (bits_of parts) (past t) ++ (without (box_in (bits_of parts) t.words) d v ∷ [])) = ap (λ s. length s.history) more in
+      let most = steps.most in
+      omega (arith, count, left, size, before, after, one, same, most)
+
+  -- ---- the start, and going back
+
+  pub first_steps : (history : List (List (List Bool))) (room : ℕ) → length history ≡ 1 → sum (shape parts) ≤ room + length (shape parts) → AreSteps parts history [] room
+  first_steps history room one most = record { count = omega (arith, one); each = λ k l. absurd (omega (arith, l)); most = most }
+
+  pub cut_steps : (history : List (List (List Bool))) (removed : List Decision) (room mark : ℕ) → mark < length history → AreSteps parts history removed room → AreSteps parts (take (mark + 1) history) (take mark removed) room
+  cut_steps history removed room mark l steps =
+      let c = steps.count in
+      let a = length-take-le (mark + 1) history (omega (arith, l)) in
+      let b = length-take-le mark removed (omega (arith, l, c)) in
+      record {
+        count = omega (arith, a, b);
+        each = λ k m d. says_alike _ _ _ _ _ _
+            (get_or-take mark removed k d (omega (arith, m, b)))
+            (get_or-take (mark + 1) history k [] (omega (arith, m, b)))
+            (get_or-take (mark + 1) history (k + 1) [] (omega (arith, m, b)))
+            (steps.each k (omega (arith, m, b, l, c)) d);
+        most = steps.most;
+      }
+
+  -- ---- what is lost since a mark
+
+  module _ (history : List (List (List Bool))) (removed : List Decision) (each : (k : ℕ) → k < length removed → IsStep parts history removed k) (mark d v : ℕ) (default : Decision) where
+    lost_at : (n : ℕ) → mark + n ≤ length removed → Has (get_or history mark []) d v → (Has (get_or history (mark + n) []) d v → ⊥) → (k : ℕ) × (k < n) × (number_of parts (get_or removed (mark + k) default) ≡ d)
+    lost_at zero l h gone = absurd (gone (let q : mark ≡ mark + 0 = omega arith in subst (λ i. Has (get_or history i []) d v) q h))
+    lost_at (suc n) l h gone = elim (cases_Bool (get_or (get_or (get_or history (mark + n) []) d []) v false)) [
+      | inl there ↦ (
+        n,
+        omega arith,
+        elim (cases_eq d (number_of parts (get_or removed (mark + n) default))) [
+          | inl q ↦ sym q
+          | inr f ↦ absurd (gone (
+              let q : (mark + n) + 1 ≡ mark + suc n = omega arith in
+              subst (λ i. Has (get_or history i []) d v) q ((each (mark + n) (omega (arith, l)) default).1 d v there f)
+              ))
+        ],
+      )
+      | inr no_more ↦
+          let f = lost_at n (omega (arith, l)) h (λ on. (let q : true ≡ false = sym on ∙ no_more in cc)) in
+          (f.0, (let w = f.1 in omega (arith, w)), f.2)
+    ]
+
+  pub names_since : (s : State) (removed : List Decision) (room mark : ℕ) → Known s → AreSteps parts s.history removed room → mark < length s.history → Names parts (get_or s.history mark []) s.now (drop mark removed)
+  names_since s removed room mark known steps l =
+      let c = steps.count in
+      let len = length-drop mark removed in
+      let default = decisions.Entry (record { 0 = 0 }) in
+      let end : length s.history - 1 ≡ mark + (length removed - mark) = omega (arith, c, l) in
+      let now : get_or s.history (mark + (length removed - mark)) [] ≡ s.now = ap (λ i. get_or s.history i []) (sym end) ∙ known.last in
+      record {
+        each = λ k d m. subst (IsDecision parts) (sym (get_or-drop mark removed k d)) (steps.each (mark + k) (omega (arith, m, len)) d).0;
+        all = λ d v h gone.
+            let f = lost_at s.history removed steps.each mark d v default (length removed - mark) (omega (arith, c, l)) h (λ on. gone (subst (λ b. Has b d v) now on)) in
+            let w = f.1 in
+            let x = get_or removed (mark + f.0) default in
+            (x, (f.0, omega (arith, w, len), get_or-drop mark removed f.0 x ∙ get_or_default removed (mark + f.0) x default (omega (arith, w))), f.2);
+      }
+
+module _ (parts : Parts) where
+  -- ---- as the code goes
+
+  pub steps_after : (change : Change) (t u : Trailed) (turns single : ℕ) (removed removed' : List Decision) (decision : Decision) (v room room' : ℕ) → Keeps parts t single → IsDecision parts decision → AreSteps parts (oldest (bits_of parts) (past t)) removed room → Removes change (seen parts t turns) (seen parts u turns) (number_of parts decision) v → removed' ≡ noted change removed decision → room' ≡ room → AreSteps parts (oldest (bits_of parts) (past u)) removed' room'
+  steps_after change t u turns single removed removed' decision v room room' keeps is steps removes removed_is room_is =
+      subst (λ n. AreSteps parts (oldest (bits_of parts) (past u)) removed' n) (sym room_is)
+      (subst (λ xs. AreSteps parts (oldest (bits_of parts) (past u)) xs room) (sym removed_is)
+      (noted_steps parts change (seen parts t turns) (seen parts u turns) removed decision v room (known_of parts (sum (shape parts)) turns t keeps.problem keeps.sound) is steps removes))
+
+  pub steps_cut : (t u : Trailed) (removed removed' : List Decision) (room room' mark n : ℕ) → mark ≤ length t.records → past u ≡ drop (length t.records - mark) (past t) → AreSteps parts (oldest (bits_of parts) (past t)) removed room → removed' ≡ take n removed → n ≡ mark → room' ≡ room → AreSteps parts (oldest (bits_of parts) (past u)) removed' room'
+  steps_cut t u removed removed' room room' mark n l past_is steps removed_is n_is room_is =
+      let long = history_length (bits_of parts) t in
+      subst (λ h. AreSteps parts h removed' room') (sym (history_cut (bits_of parts) t u mark l past_is))
+      (subst (λ r. AreSteps parts (take (mark + 1) (oldest (bits_of parts) (past t))) removed' r) (sym room_is)
+      (subst (λ xs. AreSteps parts (take (mark + 1) (oldest (bits_of parts) (past t))) xs room) (sym (removed_is ∙ ap (λ i. take i removed) n_is))
+      (cut_steps parts (oldest (bits_of parts) (past t)) removed room mark (omega (arith, long, l)) steps)))
+
+  pub steps_start : (t : Trailed) (removed : List Decision) (room free : ℕ) → t.records ≡ [] → removed ≡ [] → free ≤ room → free + length (shape parts) ≡ sum (shape parts) → AreSteps parts (oldest (bits_of parts) (past t)) removed room
+  steps_start t removed room free none empty enough all =
+      let long = history_length (bits_of parts) t in
+      let records = ap length none in
+      subst (λ xs. AreSteps parts (oldest (bits_of parts) (past t)) xs room) (sym empty) (first_steps parts (oldest (bits_of parts) (past t)) room (omega (arith, long, records)) (omega (arith, enough, all)))

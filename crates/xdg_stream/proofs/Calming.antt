@@ -1,0 +1,73 @@
+-- What holds of the box of each front, as fronts come and go.
+use Rattle.std.proofs.Common.{◌≡◌, ℕ, ◌<◌, ◌≤◌, ◌+◌, ◌-◌, inl, inr, Bool, List, [], ◌∷◌, ◌++◌, length, map, take, ap, sym, ◌∙◌, arith, subst, length-append}
+use Rattle.std.specs.Prelude.{slice_index, slice_index_or}
+use Rattle.std.proofs.lemmas.Bool.{cases_lt}
+use Rattle.std.proofs.lemmas.List.{get_or_append_left, get_or-append-add, get_or-map, get_or-take, length-map, length-take, length-take-le}
+use Rattle.xdg_problem.specs.declared.analysis.Edge.{Edge}
+use Rattle.xdg_problem.specs.declared.parts.Parts.{Parts}
+use Rattle.xdg_propcore.specs.Steps.{Extends}
+use Rattle.xdg_store.specs.States.{State}
+use Rattle.xdg_stream.specs.Fronted.{HasFront}
+use Rattle.xdg_stream.specs.Levels.{AreAll}
+use Rattle.xdg_stream.proofs.Pushing.{has_levels, top_in}
+
+module _ (Calm : Parts → List (List Bool) → Type 0) where
+  -- ---- more fronts, and fewer
+
+  -- further fronts with one box
+  pub calm_more : (parts : Parts) (history : List (List (List Bool))) (marks marks' added : List ℕ) (mark : ℕ) → AreAll Calm parts history marks → Calm parts (slice_index_or history mark []) → marks' ≡ marks ++ map (λ _. mark) added → AreAll Calm parts history marks'
+  calm_more parts history marks marks' added mark all here is = subst (AreAll Calm parts history) (sym is) each
+    where
+      each : AreAll Calm parts history (marks ++ map (λ _. mark) added)
+      each k l = elim (cases_lt k (length marks)) [
+        | inl b ↦ subst (λ i. Calm parts (slice_index_or history i [])) (sym (get_or_append_left marks (map (λ _. mark) added) 0 k b)) (all k b)
+        | inr p ↦
+            let n = length-append marks (map (λ _. mark) added) in
+            let m = length-map added (λ _. mark) in
+            let at : k ≡ length marks + (k - length marks) = omega (arith, p) in
+            let same : slice_index (marks ++ map (λ _. mark) added) k ≡ mark = ap (slice_index (marks ++ map (λ _. mark) added)) at ∙ get_or-append-add marks (map (λ _. mark) added) (k - length marks) 0 ∙ get_or-map (λ _. mark) added (k - length marks) 0 0 (omega (arith, l, n, m, p)) in
+            subst (λ i. Calm parts (slice_index_or history i [])) (sym same) here
+      ]
+
+  -- one more
+  pub calm_with : (parts : Parts) (history : List (List (List Bool))) (marks marks' : List ℕ) (mark : ℕ) → AreAll Calm parts history marks → Calm parts (slice_index_or history mark []) → marks' ≡ marks ++ mark ∷ [] → AreAll Calm parts history marks'
+  calm_with parts history marks marks' mark all here is = calm_more parts history marks marks' (0 ∷ []) mark all here is
+
+  -- the first ones, so many
+  pub calm_cut : (parts : Parts) (history : List (List (List Bool))) (marks marks' : List ℕ) (n : ℕ) → AreAll Calm parts history marks → marks' ≡ take n marks → AreAll Calm parts history marks'
+  calm_cut parts history marks marks' n all is k l =
+      let e = ap length is in
+      let m = length-take n marks in
+      let same : slice_index marks' k ≡ slice_index marks k = ap (λ z. slice_index z k) is ∙ get_or-take n marks k 0 (omega (arith, l, e, m)) in
+      subst (λ i. Calm parts (slice_index_or history i [])) (sym same) (all k (omega (arith, l, e, m)))
+
+  -- there is none
+  pub calm_none : (parts : Parts) (history : List (List (List Bool))) (marks : List ℕ) → marks ≡ [] → AreAll Calm parts history marks
+  calm_none parts history marks none k l = absurd (let e = ap length none in omega (arith, e, l))
+
+  -- ---- back to the last one
+
+  module _ (old mid : State) (edge_places : List Edge) (marks numbers : List ℕ) (mark_room number_room at : ℕ) (has : HasFront old.parts old.history edge_places marks numbers mark_room number_room) (is : at + 1 ≡ length marks) (same : mid.parts ≡ old.parts) (now_is : mid.now ≡ slice_index_or old.history (slice_index marks at) []) (undone : mid.history ≡ take (slice_index marks at + 1) old.history) (all : AreAll Calm old.parts old.history marks) where
+    below : (k : ℕ) → k < length marks → slice_index marks k ≤ slice_index marks at
+    below k l = (has_levels old mid edge_places marks numbers mark_room number_room at has is).rising k at (omega (arith, l, is)) (omega (arith, is))
+
+    pub calm_undone : AreAll Calm mid.parts mid.history marks
+    calm_undone k l =
+        let b = below k l in
+        let box : slice_index_or mid.history (slice_index marks k) [] ≡ slice_index_or old.history (slice_index marks k) [] = ap (λ g. slice_index_or g (slice_index marks k) []) undone ∙ get_or-take (slice_index marks at + 1) old.history (slice_index marks k) [] (omega (arith, b)) in
+        subst (Calm mid.parts) (sym box) (subst (λ q. Calm q (slice_index_or old.history (slice_index marks k) [])) (sym same) (all k l))
+
+    pub calm_top : Calm mid.parts mid.now
+    calm_top = subst (Calm mid.parts) (sym now_is) (subst (λ q. Calm q (slice_index_or old.history (slice_index marks at) [])) (sym same) (all at (omega (arith, is))))
+
+    pub calm_at_top : (mark : ℕ) → mark ≡ slice_index marks at → Calm mid.parts (slice_index_or mid.history mark [])
+    calm_at_top mark m = subst (λ i. Calm mid.parts (slice_index_or mid.history i [])) (sym m) (calm_undone at (omega (arith, is)))
+
+    -- later boxes change nothing
+    pub calm_grown : (new : State) → Extends mid new → AreAll Calm new.parts new.history marks
+    calm_grown new extends k l =
+        let b = below k l in
+        let top = top_in old mid edge_places marks numbers mark_room number_room at has is in
+        let long : length mid.history ≡ slice_index marks at + 1 = ap length undone ∙ length-take-le (slice_index marks at + 1) old.history (omega (arith, top)) in
+        let box : slice_index_or new.history (slice_index marks k) [] ≡ slice_index_or mid.history (slice_index marks k) [] = ap (λ g. slice_index_or g (slice_index marks k) []) extends.grown ∙ get_or_append_left mid.history extends.more [] (slice_index marks k) (omega (arith, b, long)) in
+        subst (Calm new.parts) (sym box) (subst (λ q. Calm q (slice_index_or mid.history (slice_index marks k) [])) (sym extends.same) (calm_undone k l))
