@@ -1,12 +1,15 @@
 -- What the branches of a sentence find is a front of the list of its solutions.
-use Rattle.std.proofs.Common.{◌≡◌, ◌≢◌, ℕ, ◌<◌, ◌≤◌, ◌+◌, Bool, true, false, List, [], ◌∷◌, ◌++◌, length, map, take, zero, suc, refl, ap, ap₂, sym, ◌∙◌, subst, arith, Some, None}
+use Rattle.std.proofs.Common.{◌≡◌, ◌≢◌, ℕ, ◌<◌, ◌≤◌, ◌+◌, Bool, true, false, List, [], ◌∷◌, ◌++◌, length, map, take, drop, get_or, zero, suc, refl, ap, ap₂, sym, ◌∙◌, subst, arith, Some, None}
 use Rattle.std.specs.Prelude.{All, Option}
-use Rattle.std.proofs.Math.Seq.{take-length}
+use Rattle.std.proofs.Math.Seq.{drop-cons, take-length}
 use Rattle.std.proofs.lemmas.List.{length-take-le, take-take}
 use Rattle.std.proofs.lemmas.List.Elements.{All-nil, All-cons, All-take, All-weaker}
-use Rattle.xdg_analyses.specs.Printed.{blocks, last_line}
+use Rattle.xdg_analyses.specs.Printed.{blocks, last_line, shown}
 use Rattle.xdg_analyses.specs.declared.forms.Form.{Form}
 use Rattle.xdg_branches.specs.Branched.{CanBranch, IsBranched, PrintsBranches, branch_job, branch_jobs}
+use Rattle.xdg_branches.specs.Written.{WritesAll}
+use Rattle.xdg_io.specs.Held.{Appends, AppendsFront}
+use Rattle.xdg_propcore.specs.Uses.{AllStandIn}
 use Rattle.xdg_branches.specs.Laws.{BranchedLaws, IsFrontOf, IsOneBranched}
 use Rattle.xdg_listing.specs.Endings.{IsBelow}
 use Rattle.xdg_listing.specs.declared.Ending.{Ending}
@@ -22,11 +25,11 @@ use Rattle.xdg_problem.specs.Solutions.{IsSolution, IsSolutionList}
 use Rattle.xdg_problem.proofs.BranchSolutions.{branch_laws}
 use Rattle.xdg_problem.proofs.BranchesJoined.{branches_join}
 use Rattle.xdg_problem.proofs.OneList.{some_solution_list}
-use Rattle.xdg_split.specs.Asked.{Asked, asked}
+use Rattle.xdg_split.specs.Asked.{Asked, IsJob, asked}
 use Rattle.xdg_split.specs.Splits.{AllWant, AreFirst, AreProblems, Ends, IsSplit, IsWhole, Reach, wanted_of}
 use Rattle.xdg_split.specs.Splits.Reaches.{all, some}
 use Rattle.xdg_split.proofs.Reaching.{not_both}
-use Rattle.xdg_split.proofs.Splitting.{have_one_split}
+use Rattle.xdg_split.proofs.Together.{have_one_split}
 
 -- ---- fronts of lists
 
@@ -178,3 +181,29 @@ module _ (parts : Parts) (is : IsProblem parts) (budget : ℕ) (wanted : Option 
 
   pub branched_laws : (form : Form) → BranchedLaws form budget wanted parts
   branched_laws form = record { one = one_branched form; fronts = front_of; enough = enough }
+
+  -- ---- what is written
+
+  pub written_all : (form : Form) (ending : Ending) (found : List Analysis) (old new : Option (List ℕ)) → IsBranched budget wanted parts ending found → Appends old new (blocks form parts 1 found ++ last_line ending (length found)) → WritesAll ending form budget wanted parts old new
+  written_all form ending found old new b added = record {
+    text = blocks form parts 1 found ++ last_line ending (length found);
+    prints = record { found = found; is = b; text_is = refl };
+    appends = added;
+  }
+
+  pub written_front : (form : Form) (ending : Ending) (found : List Analysis) (old new : Option (List ℕ)) → IsBranched budget wanted parts ending found → AppendsFront old new (blocks form parts 1 found ++ last_line ending (length found))
+      → (other : Ending) (text : List ℕ) → PrintsBranches other form budget wanted parts text → AppendsFront old new text
+  written_front form ending found old new b front other text p =
+      subst (AppendsFront old new) (one_branched form ending other (blocks form parts 1 found ++ last_line ending (length found)) text (record { found = found; is = b; text_is = refl }) p).1 front
+
+-- the blocks from a place on begin with that of the analysis there
+pub blocks_from : (form : Form) (parts : Parts) (found : List Analysis) (i : ℕ) (a : Analysis) → i < length found → a ≡ get_or found i a → blocks form parts (i + 1) (drop i found) ≡ shown form parts (i + 1) a ++ blocks form parts (i + 1 + 1) (drop (i + 1) found)
+blocks_from form parts found i a within is =
+    let next : suc i ≡ i + 1 = omega arith in
+    ap (blocks form parts (i + 1)) (drop-cons found i a within)
+    ∙ ap (λ b. shown form parts (i + 1) b ++ blocks form parts (i + 1 + 1) (drop (suc i) found)) (sym is)
+    ∙ ap (λ n. shown form parts (i + 1) a ++ blocks form parts (i + 1 + 1) (drop n found)) next
+
+-- a search of jobs by these propagators
+pub is_job : {P : Type 0} (stands : P → Parts → ℕ → Type 0) (props : List P) (parts : Parts) (budget : ℕ) (wanted : Option ℕ) → CanBranch budget wanted → AllStandIn stands props parts → IsJob stands props (asked parts budget wanted)
+is_job stands props parts budget wanted can stand = record { stand = stand; some = can.some; most = can.most; first = can.first }

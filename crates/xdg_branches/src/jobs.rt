@@ -1,13 +1,12 @@
 //! The searches of the branches.
 
-ghost use Rattle.std.specs.Prelude.{◌≡◌, ◌<◌, ◌≤◌, ◌×◌, length, IfOk};
+ghost use Rattle.std.specs.Prelude.{◌≡◌, ◌<◌, length, IfOk};
 ghost use Rattle.xdg_branches.specs.Branched.{CanBranch};
 ghost use Rattle.xdg_branches.specs.Branched as spec;
 ghost use Rattle.xdg_problem.specs.Branches.{first_candidates};
-ghost use Rattle.xdg_problem.specs.Problems.{IsProblem};
 
 use std::alloc::Global;
-use xdg_base::OutOfMemory;
+use xdg_base::{List, OutOfMemory};
 use xdg_engine::{AnyProp, props};
 use xdg_problem::Problem;
 use xdg_split::Job;
@@ -47,12 +46,12 @@ pub(crate) fn branch_jobs(
     problem: &Problem,
     budget: u64,
     first: Option<u64>,
-) -> Result<Vec<Job<AnyProp>>, OutOfMemory>
+) -> Result<List<Job<AnyProp>>, OutOfMemory>
     requires { CanBranch budget first }
-    ensures { IfOk result (λ jobs. jobs.items ≡ spec.branch_jobs problem.now budget first) }
+    ensures { IfOk result (λ jobs. jobs ≡ spec.branch_jobs problem.now budget first) }
 {
     let count = first_count(problem);
-    let mut jobs = Vec::new(alloc);
+    let mut jobs = List::new(alloc);
     for place in 0..count {
         jobs.push(branch_job(alloc, problem, place, budget, first)?)?;
     }

@@ -1,14 +1,13 @@
 //! Searching by branches, and printing what is found.
 
-ghost use Rattle.std.specs.Prelude.{◌≡◌, ◌≢◌, ◌≤◌, ◌<◌, ◌+◌, ◌^◌, ◌++◌, All, length, IfOk, OnErr, OnOk};
+ghost use Rattle.std.specs.Prelude.{◌≡◌, ◌≢◌, ◌≤◌, ◌++◌, All, length, IfOk, OnErr, OnOk};
 ghost use Rattle.xdg_analyses.specs.Printed.{blocks, last_line, shown};
-ghost use Rattle.xdg_branches.specs.Branched.{CanBranch, IsBranched, branch_jobs};
+ghost use Rattle.xdg_branches.specs.Branched.{CanBranch, IsBranched};
 ghost use Rattle.xdg_branches.specs.Laws.{BranchedLaws};
 ghost use Rattle.xdg_branches.specs.Written.{WritesBranches};
 ghost use Rattle.xdg_io.specs.Held.{Appends, AppendsFront};
 ghost use Rattle.xdg_io.specs.Rose.{Rose};
 ghost use Rattle.xdg_problem.specs.Analyses.{IsAnalysis};
-ghost use Rattle.xdg_problem.specs.Problems.{IsProblem};
 
 use crate::jobs::branch_jobs;
 use std::alloc::Global;
@@ -45,10 +44,11 @@ pub fn print_branches<R: Threads + Sync, K: Sink>(
     let Ok(answer) = search(rt, alloc, problem, budget, first) else {
         return Printed::OutOfMemory;
     };
-    match print_found(form, problem, answer.found.as_slice(), answer.ending, sink) {
-        Ok(()) => Printed::Ended(answer.ending),
-        Err(Failed) => Printed::Failed,
+    let written = print_found(form, problem, answer.found.as_slice(), answer.ending, sink);
+    if written.is_err() {
+        return Printed::Failed;
     }
+    Printed::Ended(answer.ending)
 }
 
 /// What the branches find.

@@ -1,5 +1,6 @@
 pub mod Ordering
 pub mod Leasts
+pub mod OutCounted
 pub mod Summed
 pub mod Freed
 pub mod Bounded

@@ -23,19 +23,19 @@ module _ (parts : Parts) (formula : Formula) (all : IsOf parts (claim formula)) 
   is_of form c is claims = subst (IsOf parts) claims (subst (λ f. IsOf parts (claim f)) is all)
 
   pub not_of : (f g : Formula) → formula ≡ y.Not f → g ≡ f → IsOf parts (claim g)
-  not_of f g is same = subst (λ h. IsOf parts (claim h)) (sym same) (is_of (y.Not f) (negation (claim f)) is (claim_not f))
+  not_of f g is alike = subst (λ h. IsOf parts (claim h)) (sym alike) (is_of (y.Not f) (negation (claim f)) is (claim_not f))
 
   pub every_of : (name : ℕ) (f g : Formula) → formula ≡ y.Every name f → g ≡ f → IsOf parts (claim g)
-  every_of name f g is same = subst (λ h. IsOf parts (claim h)) (sym same) (is_of (y.Every name f) (every name (claim f)) is (claim_every name f))
+  every_of name f g is alike = subst (λ h. IsOf parts (claim h)) (sym alike) (is_of (y.Every name f) (every name (claim f)) is (claim_every name f))
 
   pub any_of : (name : ℕ) (f g : Formula) → formula ≡ y.Any name f → g ≡ f → IsOf parts (claim g)
-  any_of name f g is same = subst (λ h. IsOf parts (claim h)) (sym same) (is_of (y.Any name f) (some name (claim f)) is (claim_any name f))
+  any_of name f g is alike = subst (λ h. IsOf parts (claim h)) (sym alike) (is_of (y.Any name f) (some name (claim f)) is (claim_any name f))
 
   pub and_of : (fs items : List Formula) → formula ≡ y.And fs → items ≡ fs → EachIsOf parts (claims_of (map claim items))
-  and_of fs items is same = subst (λ hs. EachIsOf parts (claims_of (map claim hs))) (sym same) (is_of (y.And fs) (conjunction (claims_of (map claim fs))) is (claim_and fs))
+  and_of fs items is alike = subst (λ hs. EachIsOf parts (claims_of (map claim hs))) (sym alike) (is_of (y.And fs) (conjunction (claims_of (map claim fs))) is (claim_and fs))
 
   pub or_of : (fs items : List Formula) → formula ≡ y.Or fs → items ≡ fs → EachIsOf parts (claims_of (map claim items))
-  or_of fs items is same = subst (λ hs. EachIsOf parts (claims_of (map claim hs))) (sym same) (is_of (y.Or fs) (disjunction (claims_of (map claim fs))) is (claim_or fs))
+  or_of fs items is alike = subst (λ hs. EachIsOf parts (claims_of (map claim hs))) (sym alike) (is_of (y.Or fs) (disjunction (claims_of (map claim fs))) is (claim_or fs))
 
 -- ---- what the box makes of it
 

@@ -59,10 +59,10 @@ module _ (formula : Formula) (wakes : ℕ) where
   any_kinds name f g is part has = form_kinds (y.Any name f) (some name (claim f)) is (claim_any name f) (subst (λ h. HasKinds (claim h) wakes) part has)
 
   pub and_kinds : (fs items : List Formula) (i : ℕ) → formula ≡ y.And fs → items ≡ fs → length items ≤ i → HasEach (take i items) wakes → HasKinds (claim formula) wakes
-  and_kinds fs items i is same past has = form_kinds (y.And fs) (conjunction (claims_of (map claim fs))) is (claim_and fs) (subst (λ hs. HasEach hs wakes) (take_all i items past ∙ same) has)
+  and_kinds fs items i is alike past has = form_kinds (y.And fs) (conjunction (claims_of (map claim fs))) is (claim_and fs) (subst (λ hs. HasEach hs wakes) (take_all i items past ∙ alike) has)
 
   pub or_kinds : (fs items : List Formula) (i : ℕ) → formula ≡ y.Or fs → items ≡ fs → length items ≤ i → HasEach (take i items) wakes → HasKinds (claim formula) wakes
-  or_kinds fs items i is same past has = form_kinds (y.Or fs) (disjunction (claims_of (map claim fs))) is (claim_or fs) (subst (λ hs. HasEach hs wakes) (take_all i items past ∙ same) has)
+  or_kinds fs items i is alike past has = form_kinds (y.Or fs) (disjunction (claims_of (map claim fs))) is (claim_or fs) (subst (λ hs. HasEach hs wakes) (take_all i items past ∙ alike) has)
 
   one_bit : (k : ℕ) → wakes ≡ 2 ^ k → (kind : ℕ) → kind ≡ k → bit_at wakes kind ≡ 1
   one_bit k is kind at = subst (λ j. bit_at wakes j ≡ 1) (sym at) (subst (λ w. bit_at w k ≡ 1) (sym is) (bit_at-pow_same k))

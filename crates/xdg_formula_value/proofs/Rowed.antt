@@ -18,7 +18,7 @@ joined_like false P Q A B p q = (
 -- two rows, the second of which is right where it still matters
 pub row_more : (both : Bool) (care still : List ℕ) (P Q R : ℕ → Type 0) (old part new : List ℕ) → IsRowOn care P old → ((v : ℕ) → has still v ≡ open_in both care old v) → IsRowOn still Q part → ((v : ℕ) → (has new v ≡ true) ↔ Joined both (has old v ≡ true) (has part v ≡ true)) → ((v : ℕ) → Joined both (P v) (Q v) ↔ R v) → IsRowOn care R new
 row_more true care still P Q R old part new first open_is second is like v within =
-    let here = λ there. second v (open_is v ∙ and_from (has care v) (has old v) within there) in (
+    let here : has old v ≡ true → (has part v ≡ true) ↔ Q v = λ there. second v (open_is v ∙ and_from (has care v) (has old v) within there) in (
       λ h. (let both = (is v).0 h in (like v).0 ((first v within).0 both.0, (here both.0).0 both.1)),
       λ r. (let both = (like v).1 r in let there = (first v within).1 both.0 in (is v).1 (there, (here there).1 both.1)),
     )

@@ -34,7 +34,6 @@ pub(crate) struct Look<'s, 'p> {
 }
 
 impl<'s, 'p> Model for Look<'s, 'p> {
-    ghost use Rattle.std.specs.Prelude.{Unit};
     ghost use Rattle.xdg_problem.specs.Places.{nodes};
     ghost use Rattle.xdg_store.specs.States.{State};
     ghost use Rattle.xdg_formula_value.specs.Filling.{AreFilled};
@@ -152,43 +151,47 @@ impl<'s, 'p> Look<'s, 'p> {
         self.all.meet(&set).len() != 0
     }
 
-    /// The nodes below a node on a dimension, or above it, by the edges that may be or by those that must be.
-    pub(crate) fn far(&mut self, which: Which, way: Way, dim: DimId, node: NodeId) -> NodeSet
+    /// The nodes below a node on a dimension, by the edges that may be or by those that must be.
+    pub(crate) fn below(&mut self, which: Which, dim: DimId, node: NodeId) -> NodeSet
         requires dim { dim.0 < length self.old.parts.dims }
         requires node { node.0 < nodes self.old.parts }
-        ensures exact { (x : ℕ) → (has result x ≡ true) ↔ Along way (Above (edges_of which self.old.parts self.old.now dim.0)) node.0 x }
+        ensures exact { (x : ℕ) → (has result x ≡ true) ↔ Above (edges_of which self.old.parts self.old.now dim.0) node.0 x }
         ensures same { self.new ≡ self.old }
         ensures known { Known self.old }
     {
-        match way {
-            Way::Down => {
-                fill(
-                    self.store,
-                    Way::Down,
-                    &mut self.below_known,
-                    &mut self.below_may,
-                    &mut self.below_must,
-                    dim,
-                );
-                match which {
-                    Which::May => self.below_may[usize::from(dim.0)][usize::from(node.0)],
-                    Which::Must => self.below_must[usize::from(dim.0)][usize::from(node.0)],
-                }
-            }
-            Way::Up => {
-                fill(
-                    self.store,
-                    Way::Up,
-                    &mut self.above_known,
-                    &mut self.above_may,
-                    &mut self.above_must,
-                    dim,
-                );
-                match which {
-                    Which::May => self.above_may[usize::from(dim.0)][usize::from(node.0)],
-                    Which::Must => self.above_must[usize::from(dim.0)][usize::from(node.0)],
-                }
-            }
+        fill(
+            self.store,
+            Way::Down,
+            &mut self.below_known,
+            &mut self.below_may,
+            &mut self.below_must,
+            dim,
+        );
+        match which {
+            Which::May => self.below_may[usize::from(dim.0)][usize::from(node.0)],
+            Which::Must => self.below_must[usize::from(dim.0)][usize::from(node.0)],
+        }
+    }
+
+    /// The nodes above a node on a dimension, by the edges that may be or by those that must be.
+    pub(crate) fn above(&mut self, which: Which, dim: DimId, node: NodeId) -> NodeSet
+        requires dim { dim.0 < length self.old.parts.dims }
+        requires node { node.0 < nodes self.old.parts }
+        ensures exact { (x : ℕ) → (has result x ≡ true) ↔ Above (edges_of which self.old.parts self.old.now dim.0) x node.0 }
+        ensures same { self.new ≡ self.old }
+        ensures known { Known self.old }
+    {
+        fill(
+            self.store,
+            Way::Up,
+            &mut self.above_known,
+            &mut self.above_may,
+            &mut self.above_must,
+            dim,
+        );
+        match which {
+            Which::May => self.above_may[usize::from(dim.0)][usize::from(node.0)],
+            Which::Must => self.above_must[usize::from(dim.0)][usize::from(node.0)],
         }
     }
 }

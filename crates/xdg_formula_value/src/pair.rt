@@ -81,7 +81,10 @@ fn related(look: &mut Look, pair: Pair, which: Which, way: Way, node: NodeId) ->
     let _ = look.store();
     match pair {
         Pair::Edge(dim, label) => joined_by(look, which, way, dim, label, node),
-        Pair::Path(dim) => look.far(which, way, dim, node),
+        Pair::Path(dim) => match way {
+            Way::Down => look.below(which, dim, node),
+            Way::Up => look.above(which, dim, node),
+        },
         Pair::Left => match way {
             Way::Down => opposite(up_to(node)),
             Way::Up => before(node),

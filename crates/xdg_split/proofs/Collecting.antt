@@ -1,10 +1,10 @@
 -- What a stream has found so far, kept.
 use Rattle.std.proofs.Common.{◌≡◌, ℕ, ◌<◌, ◌≤◌, ◌+◌, List, [], ◌∷◌, ◌++◌, length, map, refl, ap, ap₂, sym, ◌∙◌, subst, arith, length-append, Some, None}
 use Rattle.std.specs.Prelude.{Option}
+use Rattle.std.proofs.lemmas.List.{length-map}
 use Rattle.xdg_analyses.specs.Written.{IsSome}
-use Rattle.xdg_analyses.specs.declared.forms.Form.TheVariants as forms
-use Rattle.xdg_analyses.proofs.Found.{Found, complete_answered, first_answered, found_more, found_none, map_more, spent_answered}
-use Rattle.xdg_listing.specs.Endings.{IsBelow}
+use Rattle.xdg_analyses.proofs.Found.{all_answers, below_more, first_answers, map_more, spent_answers}
+use Rattle.xdg_listing.specs.Endings.{IsAt, IsBelow}
 use Rattle.xdg_listing.specs.declared.Ending.{Ending}
 use Rattle.xdg_listing.specs.declared.Ending.TheVariants as endings
 use Rattle.xdg_problem.specs.declared.analysis.Analysis.{Analysis}
@@ -15,59 +15,80 @@ use Rattle.xdg_search.specs.declared.Step.TheVariants as steps
 use Rattle.xdg_split.specs.Asked.{Asked, asked}
 use Rattle.xdg_split.specs.Finds.{AreFound}
 use Rattle.xdg_split.specs.Splits.{IsSplit}
-use Rattle.xdg_split.proofs.Splitting.{split_single}
+use Rattle.xdg_split.proofs.Together.{split_single}
 use Rattle.xdg_stream.specs.Streamed.{Advances, IsCharged, Streamed}
+use Rattle.xdg_stream.proofs.Streaming.{end_found, spent_found}
 
--- The analyses of the vectors that a stream has found are kept, and the stream goes on. Nothing is printed.
+-- The analyses of the vectors that a stream has found are kept, and the stream goes on.
 pub record Collected (wanted : Option ℕ) (parts : Parts) (budget : ℕ) (s : Streamed) (found : List Analysis) : Type 0 where
-  pub count : ℕ
-  pub so_far : Found forms.One wanted parts [] budget s count None None
-  pub count_is : count ≡ length found
-  pub found_are : found ≡ map (analysis_of parts) so_far.found
+  pub problem : s.parts ≡ parts
+  pub begun : s.start ≡ []
+  pub spends : s.budget ≡ budget
+  pub vectors : List (List ℕ)
+  pub so_far : IsCharged s vectors
+  pub below : IsBelow (length vectors) wanted
+  pub found_are : found ≡ map (analysis_of parts) vectors
 
 pub below_some : (wanted : Option ℕ) → IsSome wanted → IsBelow 0 wanted
 below_some None some = tt
 below_some (Some n) some = omega (arith, some)
 
-pub collected_none : (wanted : Option ℕ) (s : Streamed) → IsSome wanted → s.start ≡ [] → s.ended ≡ None → IsCharged s [] → Collected wanted s.parts s.budget s []
-collected_none wanted s some begun fresh charged = record {
-  count = 0;
-  so_far = found_none forms.One wanted s.parts [] s.budget s None (below_some wanted some) refl begun refl fresh charged;
-  count_is = refl;
-  found_are = refl;
+pub collected_none : (wanted : Option ℕ) (s : Streamed) (found : List Analysis) → IsSome wanted → s.start ≡ [] → IsCharged s [] → found ≡ [] → Collected wanted s.parts s.budget s found
+collected_none wanted s found some begun charged none = record {
+  problem = refl;
+  begun = begun;
+  spends = refl;
+  vectors = [];
+  so_far = charged;
+  below = below_some wanted some;
+  found_are = none;
 }
 
 module _ (wanted : Option ℕ) (parts : Parts) (budget : ℕ) (s t : Streamed) (found : List Analysis) (k : Collected wanted parts budget s found) where
   -- nothing more was found
   pub collected_end : Advances s steps.End t → AreFound parts budget wanted endings.Complete found
-  collected_end step = record { vectors = k.so_far.found; answered = complete_answered forms.One wanted parts [] budget s t k.count None None k.so_far step; found_are = k.found_are }
+  collected_end step = record {
+    vectors = k.vectors;
+    answered = all_answers wanted parts [] budget t k.vectors (step.given.0 ∙ k.problem) (step.given.1 ∙ k.begun) (step.given.2 ∙ k.spends) (step.charged k.vectors k.so_far) (step.stops end_found).0 k.below;
+    found_are = k.found_are;
+  }
 
   pub collected_spent : Advances s steps.Spent t → AreFound parts budget wanted endings.Spent found
-  collected_spent step = record { vectors = k.so_far.found; answered = spent_answered forms.One wanted parts [] budget s t k.count None None k.so_far step; found_are = k.found_are }
+  collected_spent step = record {
+    vectors = k.vectors;
+    answered = spent_answers wanted parts [] budget t k.vectors (step.given.0 ∙ k.problem) (step.given.1 ∙ k.begun) (step.given.2 ∙ k.spends) (step.charged k.vectors k.so_far) (step.stops spent_found).0 k.below;
+    found_are = k.found_are;
+  }
 
   -- an analysis more was found
-  module _ (step : Advances s steps.Found t) (a : Analysis) (is : a ≡ analysis_of t.parts t.last) (new : List Analysis) (grown : new ≡ found ++ a ∷ []) where
-    here : a ≡ analysis_of parts t.last
-    here = is ∙ ap (λ p. analysis_of p t.last) (step.given.0 ∙ k.so_far.problem)
+  module _ (step : Advances s steps.Found t) (new : List Analysis) (grown : new ≡ found ++ analysis_of t.parts t.last ∷ []) where
+    abbrev vectors : List (List ℕ)
+    vectors = k.vectors ++ t.last ∷ []
 
-    many : k.count + 1 ≡ length new
-    many = let n = k.count_is in let l = length-append found (a ∷ []) in let g = ap length grown in omega (arith, n, l, g)
+    new_are : new ≡ map (analysis_of parts) vectors
+    new_are = grown ∙ ap₂ (λ xs (p : Parts). xs ++ analysis_of p t.last ∷ []) k.found_are (step.given.0 ∙ k.problem) ∙ sym (map_more parts k.vectors t.last)
 
-    new_are : new ≡ map (analysis_of parts) (k.so_far.found ++ t.last ∷ [])
-    new_are = grown ∙ ap₂ (λ xs (z : Analysis). xs ++ z ∷ []) k.found_are here ∙ sym (map_more parts k.so_far.found t.last)
+    many : length new ≡ length vectors
+    many = ap length new_are ∙ length-map vectors (analysis_of parts)
 
-    pub collected_first : wanted ≡ Some (length new) → AreFound parts budget wanted endings.First new
-    collected_first e = record {
-      vectors = k.so_far.found ++ t.last ∷ [];
-      answered = first_answered forms.One wanted parts [] budget s t k.count None None k.so_far step (e ∙ ap Some (sym many));
+    one_more : length vectors ≡ length k.vectors + 1
+    one_more = let l = length-append k.vectors (t.last ∷ []) in omega (arith, l)
+
+    pub collected_first : (n : ℕ) → n ≡ length new → wanted ≡ Some n → AreFound parts budget wanted endings.First new
+    collected_first n is e = record {
+      vectors = vectors;
+      answered = first_answers wanted parts [] budget t vectors (step.given.0 ∙ k.problem) (step.given.1 ∙ k.begun) (step.given.2 ∙ k.spends) (step.charged k.vectors k.so_far) (subst (IsAt (length vectors)) (sym e) (sym (is ∙ many)));
       found_are = new_are;
     }
 
-    pub collected_more : (wanted ≡ Some (length new) → ⊥) → Collected wanted parts budget t new
-    collected_more other = record {
-      count = k.count + 1;
-      so_far = found_more forms.One wanted parts [] budget s t k.count None None k.so_far step a here None (record { is = refl }) (λ e. other (e ∙ ap Some many));
-      count_is = many;
+    pub collected_more : (n : ℕ) → n ≡ length new → (wanted ≡ Some n → ⊥) → Collected wanted parts budget t new
+    collected_more n is other = record {
+      problem = step.given.0 ∙ k.problem;
+      begun = step.given.1 ∙ k.begun;
+      spends = step.given.2 ∙ k.spends;
+      vectors = vectors;
+      so_far = step.charged k.vectors k.so_far;
+      below = below_more wanted (length k.vectors) (length vectors) k.below one_more (λ e. other (e ∙ ap Some (sym (is ∙ many))));
       found_are = new_are;
     }
 

@@ -1,6 +1,6 @@
 mod Slotted
 mod Searched
 pub mod Reaching
-pub mod Splitting
+pub mod Together
 mod Collecting
 mod Turning

@@ -1,8 +1,9 @@
 -- Jobs that are searched some at a time.
 use Rattle.std.proofs.Common.{◌≡◌, ℕ, ◌<◌, ◌≤◌, inl, inr, ◌⊎◌, List, [], ◌∷◌, ◌++◌, length, take, drop, refl, ap, sym, ◌∙◌, subst, true, arith, append_assoc, append-nil}
-use Rattle.std.specs.Prelude.{All, Option}
+use Rattle.std.specs.Prelude.{All, None, Option, Some, slice_get}
+use Rattle.std.specs.Option.{unwrap_or}
 use Rattle.std.proofs.lemmas.List.{take-append-drop}
-use Rattle.std.proofs.lemmas.List.Elements.{All-drop, All-take}
+use Rattle.std.proofs.lemmas.List.Elements.{All-drop, All-head, All-take}
 use Rattle.xdg_analyses.specs.Written.{IsSome}
 use Rattle.xdg_listing.specs.declared.Ending.{Ending}
 use Rattle.xdg_listing.specs.declared.Ending.TheVariants as endings
@@ -13,11 +14,24 @@ use Rattle.xdg_split.specs.Finds.{Joins}
 use Rattle.xdg_split.specs.Splits.{AllWant, AreProblems, IsSplit}
 use Rattle.xdg_split.proofs.Collecting.{below_some}
 use Rattle.xdg_split.proofs.Reaching.{some_reach}
-use Rattle.xdg_split.proofs.Splitting.{split_stopped}
+use Rattle.xdg_split.proofs.Together.{split_stopped}
 
 -- no jobs come to nothing
 pub split_none : (wanted : Option ℕ) → IsSome wanted → IsSplit wanted [] endings.Complete []
 split_none wanted some = record { whole = true; reached = []; reach = (refl, refl); end = (refl, refl, below_some wanted some) }
+
+-- the only job of a list
+pub split_only : (wanted : Option ℕ) (jobs : List Asked) (job : Asked) (ending : Ending) (found : List Analysis) → length jobs < 2 → slice_get jobs 0 ≡ Some job → AllWant wanted jobs → IsSplit job.first (job ∷ []) ending found → IsSplit wanted jobs ending found
+split_only wanted [] job ending found few is wants split = absurd cc
+split_only wanted (one ∷ []) job ending found few is wants split =
+    let same : one ≡ job = ap (λ o. unwrap_or o one) is in
+    let want : job.first ≡ wanted = ap (λ (j : Asked). j.first) (sym same) ∙ All-head (λ (job : Asked). job.first ≡ wanted) one [] wants in
+    subst (λ j. IsSplit wanted (j ∷ []) ending found) (sym same) (subst (λ w. IsSplit w (job ∷ []) ending found) want split)
+split_only wanted (one ∷ other ∷ jobs) job ending found few is wants split = absurd (omega (arith, few))
+
+pub split_empty : (wanted : Option ℕ) (jobs : List Asked) (ending : Ending) (found : List Analysis) → slice_get jobs 0 ≡ None → ending ≡ endings.Complete → found ≡ [] → IsSome wanted → IsSplit wanted jobs ending found
+split_empty wanted [] ending found is complete none some = subst (λ e. IsSplit wanted [] e found) (sym complete) (subst (IsSplit wanted [] endings.Complete) (sym none) (split_none wanted some))
+split_empty wanted (one ∷ jobs) ending found is complete none some = absurd cc
 
 -- Of the jobs the first are searched, and come to this; the rest is left.
 pub record Turned (wanted : Option ℕ) (jobs rest : List Asked) (ending : Ending) (found : List Analysis) : Type 0 where
@@ -27,19 +41,32 @@ pub record Turned (wanted : Option ℕ) (jobs rest : List Asked) (ending : Endin
   pub wants : AllWant wanted rest
   pub problems : AreProblems rest
 
-pub turned_none : (wanted : Option ℕ) (jobs : List Asked) → IsSome wanted → AllWant wanted jobs → AreProblems jobs → Turned wanted jobs jobs endings.Complete []
-turned_none wanted jobs some wants problems = record { front = []; parts = refl; split = split_none wanted some; wants = wants; problems = problems }
+pub turned_none : (wanted : Option ℕ) (jobs : List Asked) (ending : Ending) (found : List Analysis) → ending ≡ endings.Complete → found ≡ [] → IsSome wanted → AllWant wanted jobs → AreProblems jobs → Turned wanted jobs jobs ending found
+turned_none wanted jobs ending found complete none some wants problems = record {
+  front = [];
+  parts = refl;
+  split = subst (λ e. IsSplit wanted [] e found) (sym complete) (subst (IsSplit wanted [] endings.Complete) (sym none) (split_none wanted some));
+  wants = wants;
+  problems = problems;
+}
 
 -- a turn more
-pub turned_more : (wanted : Option ℕ) (jobs rest : List Asked) (n : ℕ) (ending later new : Ending) (found more all : List Analysis) → Turned wanted jobs rest ending found → IsSplit wanted (take n rest) later more → Joins wanted ending found later more new all
-    → Turned wanted jobs (drop n rest) new all
-turned_more wanted jobs rest n ending later new found more all t turn joins = record {
-  front = t.front ++ take n rest;
-  parts = append_assoc t.front (take n rest) (drop n rest) ∙ ap (λ z. t.front ++ z) (take-append-drop n rest) ∙ t.parts;
-  split = joins t.front (take n rest) t.split turn;
-  wants = All-drop (λ (job : Asked). job.first ≡ wanted) n rest t.wants;
-  problems = All-drop (λ (job : Asked). IsProblem job.parts) n rest t.problems;
-}
+pub turned_more : (wanted : Option ℕ) (jobs rest turn left : List Asked) (n : ℕ) (ending later new : Ending) (found more joined : List Analysis) → turn ≡ take n rest → left ≡ drop n rest → Turned wanted jobs rest ending found → IsSplit wanted turn later more
+    → Joins wanted ending found later more new joined → Turned wanted jobs left new joined
+turned_more wanted jobs rest turn left n ending later new found more joined cut behind t searched joins =
+    subst (λ js. Turned wanted jobs js new joined) (sym behind) (record {
+      front = t.front ++ turn;
+      parts = append_assoc t.front turn (drop n rest) ∙ ap (λ z. t.front ++ (z ++ drop n rest)) cut ∙ ap (λ z. t.front ++ z) (take-append-drop n rest) ∙ t.parts;
+      split = joins t.front turn t.split searched;
+      wants = All-drop (λ (job : Asked). job.first ≡ wanted) n rest t.wants;
+      problems = All-drop (λ (job : Asked). IsProblem job.parts) n rest t.problems;
+    })
+
+pub turn_wants : (wanted : Option ℕ) (rest turn : List Asked) (n : ℕ) → turn ≡ take n rest → AllWant wanted rest → AllWant wanted turn
+turn_wants wanted rest turn n cut wants = subst (AllWant wanted) (sym cut) (All-take (λ (job : Asked). job.first ≡ wanted) n rest wants)
+
+pub left_wants : (wanted : Option ℕ) (rest left : List Asked) (n : ℕ) → left ≡ drop n rest → AllWant wanted rest → AllWant wanted left
+left_wants wanted rest left n cut wants = subst (AllWant wanted) (sym cut) (All-drop (λ (job : Asked). job.first ≡ wanted) n rest wants)
 
 -- all are searched
 pub turned_all : (wanted : Option ℕ) (jobs rest : List Asked) (ending : Ending) (found : List Analysis) → Turned wanted jobs rest ending found → rest ≡ [] → IsSplit wanted jobs ending found

@@ -1,8 +1,7 @@
 //! The analyses that a stream finds.
 
-ghost use Rattle.std.specs.Prelude.{◌≡◌, ◌<◌, ◌^◌, [], None, IfOk};
+ghost use Rattle.std.specs.Prelude.{◌≡◌, ◌<◌, ◌^◌, ◌++◌, [], ◌∷◌, None, IfOk, OnOk};
 ghost use Rattle.xdg_analyses.specs.Written.{IsSome};
-ghost use Rattle.xdg_problem.specs.Problems.{IsProblem};
 ghost use Rattle.xdg_problem.specs.Vectors.{analysis_of};
 ghost use Rattle.xdg_split.specs.Finds.{AreFound};
 ghost use Rattle.xdg_stream.specs.Streamed.{IsCharged};
@@ -33,6 +32,19 @@ fn last_analysis<P: Propagator>(
     })
 }
 
+/// Keeps the analysis that a stream found last, behind others.
+fn keep_last<P: Propagator>(
+    alloc: Global,
+    stream: &Stream<'_, P>,
+    found: &mut Vec<Analysis>,
+) -> Result<(), AllocError>
+    ensures { OnOk result (found.new.items ≡ found.old.items ++ analysis_of stream.now.parts stream.now.last ∷ []) }
+{
+    let analysis = last_analysis(alloc, stream)?;
+    found.push(analysis)?;
+    Ok(())
+}
+
 /// Keeps what a stream finds that has just started, until as many are found as are wanted.
 pub(crate) fn find<P: Propagator>(
     alloc: Global,
@@ -50,8 +62,7 @@ pub(crate) fn find<P: Propagator>(
     'draw: loop {
         match stream.advance() {
             Step::Found => {
-                let analysis = last_analysis(alloc, stream)?;
-                found.push(analysis)?;
+                keep_last(alloc, stream, &mut found)?;
                 if first == Some(found.len() as u64) {
                     return Ok(Found {
                         found,

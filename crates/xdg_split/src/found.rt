@@ -1,7 +1,6 @@
 //! What searches find.
 
-ghost use Rattle.std.specs.Prelude.{◌≡◌, ◌++◌, ◌≤◌, ℕ, [], Some, take, length, IfOk};
-ghost use Rattle.xdg_listing.specs.Endings.{IsBelow};
+ghost use Rattle.std.specs.Prelude.{◌≡◌, ◌++◌, [], IfOk};
 ghost use Rattle.xdg_split.specs.Finds.{IsCut, Joins};
 
 use std::alloc::{AllocError, Global};

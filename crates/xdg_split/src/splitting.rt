@@ -1,6 +1,6 @@
 //! The solutions of several jobs, one job behind the other.
 
-ghost use Rattle.std.specs.Prelude.{◌≡◌, ◌<◌, ◌×◌, List, [], ◌∷◌, IfOk, length};
+ghost use Rattle.std.specs.Prelude.{◌≡◌, ◌<◌, List, IfOk, length};
 ghost use Rattle.std.specs.Thread.{IsSync};
 ghost use Rattle.xdg_analyses.specs.Written.{IsSome};
 ghost use Rattle.xdg_split.specs.Asked.{Asked};
@@ -110,11 +110,11 @@ fn search_all<R: Threads + Sync, P: Propagator + Sync>(
     let (one, other) = join(
         rt,
         || -> Result<Found, OutOfMemory>
-            requires { (IsSync R.row × IsSync P.row) × (IsSome first × AllWant first front.entry.now) }
+            requires { (IsSync R.row × IsSync P.row) × (IsSome first × AllWant first front.now) }
             ensures { IfOk result (λ found. IsSplit first front.entry.now found.ending found.found.items) }
         { search_all(rt, alloc, front, first) },
         || -> Result<Found, OutOfMemory>
-            requires { (IsSync R.row × IsSync P.row) × (IsSome first × AllWant first back.entry.now) }
+            requires { (IsSync R.row × IsSync P.row) × (IsSome first × AllWant first back.now) }
             ensures { IfOk result (λ found. IsSplit first back.entry.now found.ending found.found.items) }
         { search_all(rt, alloc, back, first) },
     );

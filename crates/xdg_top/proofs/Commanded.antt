@@ -7,7 +7,6 @@ use Rattle.xdg_command.specs.Commands.{HasBudget, HasFirst, IsCommand}
 use Rattle.xdg_command.specs.Items.{value_of}
 use Rattle.xdg_command.specs.declared.commands.Command.{Command}
 use Rattle.xdg_command.specs.declared.commands.Command.TheVariants as commands
-use Rattle.xdg_command.specs.declared.commands.CorpusOptions.{CorpusOptions}
 use Rattle.xdg_command.specs.declared.commands.ParseOptions.{ParseOptions}
 use Rattle.xdg_command.specs.declared.commands.ResumeOptions.{ResumeOptions}
 use Rattle.xdg_corpus.specs.Outcomes.{CorpusEnds}
@@ -17,8 +16,8 @@ use Rattle.xdg_io.specs.Rose.{Rose}
 use Rattle.xdg_text.specs.Lines.{usage_line}
 use Rattle.xdg_outcomes.specs.Outcomes.{Files}
 use Rattle.xdg_top.specs.Outcomes.{CommandOf, IsNoCommand, IsUsage, OutcomeOf, WantsSome, usage, commanded}
-use Rattle.xdg_outcomes.specs.Runs.{Ends, Leaves, Unwritten, Wrote}
-use Rattle.xdg_top.specs.Runs.{CommandWrote, EndsWith, FailsToRead, IsCorpus, LeavesBy, LeavesOf, ReadsFile, ReadsInput, UnwrittenBy, of_file, of_input}
+use Rattle.xdg_outcomes.specs.Runs.{Ends, Leaves, LeavesFront, Unwritten, Wrote}
+use Rattle.xdg_top.specs.Runs.{AreEarly, CommandWrote, EndsWith, FailsToRead, LeavesBy, LeavesOf, ReadsFile, ReadsInput, UnwrittenBy, of_file, of_input}
 use Rattle.xdg_outcomes.specs.declared.status.Status.{Status}
 use Rattle.xdg_outcomes.specs.declared.status.Status.TheVariants as statuses
 use Rattle.xdg_outcomes.proofs.Leaving.{IsOnly}
@@ -49,7 +48,7 @@ run_part given files input command statuses.OutOfMemory old new is one e = λ st
 run_part given files input command statuses.WriteFault old new is one e = λ status text o. e status text (of_command given files input command is one status text o)
 run_part given files input command result old new is one e = command_ends given files input command result old new is one e
 
--- a command other than `corpus` takes all its memory before it writes
+-- what a command leaves that takes all its memory before it writes
 at_once : (given : List (List ℕ)) (files : Files) (input : List ℕ) (command : Command) (result : Status) (old new : Option (List ℕ)) → IsCommand given command → ((b : Command) → IsCommand given b → b ≡ command) → Leaves (CommandOf command files input) result old new
     → LeavesBy given (OutcomeOf given files input) result old new
 at_once given files input command result old new is one leaves =
@@ -60,7 +59,9 @@ at_once given files input command result old new is one leaves =
 pub words_leave : (given : List (List ℕ)) (files : Files) (input : List ℕ) (command : Command) (result : Status) (old new : Option (List ℕ)) → IsCommand given command → ((b : Command) → IsCommand given b → b ≡ command) → LeavesOf command (CommandOf command files input) result old new
     → LeavesBy given (OutcomeOf given files input) result old new
 words_leave given files input (commands.Corpus options) result old new is one leaves =
-    record { part = run_part given files input (commands.Corpus options) result old new is one leaves; at_once = λ other. absurd (other (options, is)) }
+    record { part = run_part given files input (commands.Corpus options) result old new is one leaves; at_once = λ other. absurd (other (commands.Corpus options, is, tt)) }
+words_leave given files input (commands.Arrange options) result old new is one leaves =
+    record { part = run_part given files input (commands.Arrange options) result old new is one leaves; at_once = λ other. absurd (other (commands.Arrange options, is, tt)) }
 words_leave given files input (commands.Parse options) result old new is one leaves = at_once given files input (commands.Parse options) result old new is one leaves
 words_leave given files input (commands.Resume options) result old new is one leaves = at_once given files input (commands.Resume options) result old new is one leaves
 words_leave given files input (commands.Explain grammar analysis) result old new is one leaves = at_once given files input (commands.Explain grammar analysis) result old new is one leaves
@@ -75,6 +76,7 @@ memory_leaves given O held = record { part = memory_part O held; at_once = λ ot
 
 pub memory_left : (command : Command) (O : Status → List ℕ → Type 0) (held : Option (List ℕ)) → LeavesOf command O statuses.OutOfMemory held held
 memory_left (commands.Corpus options) O held = memory_part O held
+memory_left (commands.Arrange options) O held = memory_part O held
 memory_left (commands.Parse options) O held = refl
 memory_left (commands.Resume options) O held = refl
 memory_left (commands.Explain grammar analysis) O held = refl
@@ -147,6 +149,7 @@ never_usage (commands.Lexicon grammar) e = e
 never_usage (commands.Print grammar) e = e
 never_usage (commands.Drill number) e = e
 never_usage (commands.Corpus options) e = e
+never_usage (commands.Arrange options) e = e
 
 -- each may end for want of memory
 pub memory_ends : (command : Command) → EndsWith command statuses.OutOfMemory
@@ -158,6 +161,7 @@ memory_ends (commands.Lexicon grammar) = tt
 memory_ends (commands.Print grammar) = tt
 memory_ends (commands.Drill number) = tt
 memory_ends (commands.Corpus options) = tt
+memory_ends (commands.Arrange options) = tt
 
 pub not_usage : (command : Command) (result : Status) → EndsWith command result → result ≡ statuses.Usage → ⊥
 not_usage command result ends e = never_usage command (subst (EndsWith command) e ends)
@@ -166,6 +170,13 @@ not_usage command result ends e = never_usage command (subst (EndsWith command) 
 pub corpus_done : (result : Status) → CorpusEnds result → (result ≡ statuses.Done) ⊎ (result ≡ statuses.Spent) → result ≡ statuses.Done
 corpus_done result ends (inl done) = done
 corpus_done result ends (inr spent) = absurd (subst CorpusEnds spent ends)
+
+-- where a front was added for want of memory, the rest is left
+pub front_part : (O : Status → List ℕ → Type 0) (result : Status) (old new : Option (List ℕ)) → LeavesFront O result old new → LeavesPart O result old new
+front_part O statuses.ReadFault old new e = e
+front_part O statuses.OutOfMemory old new e = λ status text o. let f = e status text o in (f.rest, record { front = f.front; parts = f.parts; appends = f.appends })
+front_part O statuses.WriteFault old new e = e
+front_part O result old new e = e
 
 -- a count that rose though only a failed read raises it
 pub read_won : (status : Status) (old new : ℕ) → (status ≢ statuses.ReadFault → new ≡ old) → old < new → status ≡ statuses.ReadFault
@@ -182,19 +193,22 @@ pub said_wrote : (command said : Command) (result : Status) (count_old count_new
 said_wrote command said result count_old count_new old new e by wrote =
     record { ends = subst (λ z. EndsWith z result) (sym e) wrote.ends; unwritten = subst (λ z. UnwrittenBy z result old new) (sym e) (by wrote.unwritten); quiet = wrote.quiet }
 
-pub corpus_wrote : (command : Command) (options : CorpusOptions) (result : Status) (count_old count_new : ℕ) (old new : Option (List ℕ)) → command ≡ commands.Corpus options → CorpusEnds result → (result ≡ statuses.ReadFault → new ≡ old) → (result ≢ statuses.WriteFault → count_new ≡ count_old)
+-- the same of one that may have written before
+pub early_wrote : (command said : Command) (result : Status) (count_old count_new : ℕ) (old new : Option (List ℕ)) → command ≡ said → EndsWith said result → UnwrittenBy said result old new → (result ≢ statuses.WriteFault → count_new ≡ count_old)
     → CommandWrote command result count_old count_new old new
-corpus_wrote command options result count_old count_new old new e ends unwritten quiet =
+early_wrote command said result count_old count_new old new e ends unwritten quiet =
     record { ends = subst (λ z. EndsWith z result) (sym e) ends; unwritten = subst (λ z. UnwrittenBy z result old new) (sym e) unwritten; quiet = quiet }
 
-without : (given : List (List ℕ)) (result : Status) → (result ≡ statuses.ReadFault) ⊎ ((result ≡ statuses.OutOfMemory) × (IsCorpus given → ⊥)) → (result ≡ statuses.ReadFault) ⊎ (result ≡ statuses.OutOfMemory)
+without : (given : List (List ℕ)) (result : Status) → (result ≡ statuses.ReadFault) ⊎ ((result ≡ statuses.OutOfMemory) × (AreEarly given → ⊥)) → (result ≡ statuses.ReadFault) ⊎ (result ≡ statuses.OutOfMemory)
 without given result (inl read) = inl read
 without given result (inr memory) = inr memory.0
 
 -- nothing was added
-pub nothing_added : (given : List (List ℕ)) (command : Command) (result : Status) (old new : Option (List ℕ)) → IsCommand given command → UnwrittenBy command result old new → (result ≡ statuses.ReadFault) ⊎ ((result ≡ statuses.OutOfMemory) × (IsCorpus given → ⊥)) → new ≡ old
+pub nothing_added : (given : List (List ℕ)) (command : Command) (result : Status) (old new : Option (List ℕ)) → IsCommand given command → UnwrittenBy command result old new → (result ≡ statuses.ReadFault) ⊎ ((result ≡ statuses.OutOfMemory) × (AreEarly given → ⊥)) → new ≡ old
 nothing_added given (commands.Corpus options) result old new is unwritten (inl read) = unwritten read
-nothing_added given (commands.Corpus options) result old new is unwritten (inr memory) = absurd (memory.1 (options, is))
+nothing_added given (commands.Corpus options) result old new is unwritten (inr memory) = absurd (memory.1 (commands.Corpus options, is, tt))
+nothing_added given (commands.Arrange options) result old new is unwritten (inl read) = unwritten read
+nothing_added given (commands.Arrange options) result old new is unwritten (inr memory) = absurd (memory.1 (commands.Arrange options, is, tt))
 nothing_added given (commands.Parse options) result old new is unwritten ended = unwritten (without given result ended)
 nothing_added given (commands.Resume options) result old new is unwritten ended = unwritten (without given result ended)
 nothing_added given (commands.Explain grammar analysis) result old new is unwritten ended = unwritten (without given result ended)
@@ -223,6 +237,8 @@ pub resume_failed : (command : Command) (options : ResumeOptions) (shelf_old she
 resume_failed command options shelf_old shelf_new input_old input_new e (inl rose) = file_failed command (commands.Resume options) options.grammar shelf_old shelf_new input_old input_new e (inl refl) rose
 resume_failed command options shelf_old shelf_new input_old input_new e (inr rose) = file_failed command (commands.Resume options) options.analysis shelf_old shelf_new input_old input_new e (inr refl) rose
 
-pub corpus_failed : (command : Command) (options : CorpusOptions) (shelf_old shelf_new : List ℕ → ℕ) (input_old input_new : ℕ) → command ≡ commands.Corpus options → Rose (shelf_old options.grammar) (shelf_new options.grammar) ⊎ Rose input_old input_new → FailsToRead command shelf_old shelf_new input_old input_new
-corpus_failed command options shelf_old shelf_new input_old input_new e (inl rose) = file_failed command (commands.Corpus options) options.grammar shelf_old shelf_new input_old input_new e refl rose
-corpus_failed command options shelf_old shelf_new input_old input_new e (inr rose) = of_input (said_reads command (commands.Corpus options) e tt) rose
+-- a read of a command that reads a grammar and the input failed
+pub reads_failed : (command said : Command) (grammar : List ℕ) (shelf_old shelf_new : List ℕ → ℕ) (input_old input_new : ℕ) → command ≡ said → ReadsFile said grammar → ReadsInput said → Rose (shelf_old grammar) (shelf_new grammar) ⊎ Rose input_old input_new
+    → FailsToRead command shelf_old shelf_new input_old input_new
+reads_failed command said grammar shelf_old shelf_new input_old input_new e file input (inl rose) = file_failed command said grammar shelf_old shelf_new input_old input_new e file rose
+reads_failed command said grammar shelf_old shelf_new input_old input_new e file input (inr rose) = of_input (said_reads command said e input) rose

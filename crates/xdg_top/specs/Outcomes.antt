@@ -1,6 +1,7 @@
 -- The status and the text of a run, as its words, the files and the input alone determine them.
 use Rattle.std.specs.Prelude.{◌≡◌, ℕ, List}
 use Rattle.xdg_analyses.specs.Written.{IsSome}
+use Rattle.xdg_arrange.specs.Outcomes.{ArrangeOf}
 use Rattle.xdg_branches.specs.Branched.{CanBranch}
 use Rattle.xdg_command.specs.Commands.{IsCommand}
 use Rattle.xdg_command.specs.declared.commands.Command.{Command}
@@ -30,6 +31,7 @@ CommandOf (commands.Lexicon grammar) files input = LexiconOf grammar files
 CommandOf (commands.Print grammar) files input = PrintOf grammar files
 CommandOf (commands.Drill number) files input = DrillOf number
 CommandOf (commands.Corpus options) files input = CorpusOf options files input
+CommandOf (commands.Arrange options) files input = ArrangeOf options files input
 
 abbrev pub IsNoCommand : List (List ℕ) → Type 0
 IsNoCommand given = (command : Command) → IsCommand given command → ⊥

@@ -1,9 +1,9 @@
 -- What a command reads, and how it can end.
 use Rattle.std.specs.Prelude.{◌≡◌, ◌≢◌, ◌⊎◌, ℕ, List, Option}
+use Rattle.xdg_arrange.specs.Outcomes.{ArrangeEnds}
 use Rattle.xdg_command.specs.Commands.{IsCommand}
 use Rattle.xdg_command.specs.declared.commands.Command.{Command}
 use Rattle.xdg_command.specs.declared.commands.Command.TheVariants as commands
-use Rattle.xdg_command.specs.declared.commands.CorpusOptions.{CorpusOptions}
 use Rattle.xdg_corpus.specs.Outcomes.{CorpusEnds}
 use Rattle.xdg_corpus.specs.Runs.{LeavesPart}
 use Rattle.xdg_io.specs.Rose.{Rose}
@@ -25,11 +25,13 @@ ReadsFile (commands.Lexicon grammar) name = name ≡ grammar
 ReadsFile (commands.Print grammar) name = name ≡ grammar
 ReadsFile (commands.Drill number) name = ⊥
 ReadsFile (commands.Corpus options) name = name ≡ options.grammar
+ReadsFile (commands.Arrange options) name = name ≡ options.grammar
 
 -- the command reads the input
 abbrev pub ReadsInput : Command → Type 0
 ReadsInput (commands.Parse options) = Unit {0}
 ReadsInput (commands.Corpus options) = Unit {0}
+ReadsInput (commands.Arrange options) = Unit {0}
 ReadsInput command = ⊥
 
 -- a read of the command failed: the count of the shelf rose for a file that it reads, or that of the input, where it reads that
@@ -55,26 +57,36 @@ EndsWith (commands.Lexicon grammar) = ReportEnds
 EndsWith (commands.Print grammar) = PrintEnds
 EndsWith (commands.Drill number) = DrillEnds
 EndsWith (commands.Corpus options) = CorpusEnds
+EndsWith (commands.Arrange options) = ArrangeEnds
 
 -- ---- what a command leaves
 
--- `corpus` writes the texts of a group before it takes the memory for the next one; each other command takes all of it before it writes
+-- The commands that write some of their text before they have taken all memory: `corpus` the texts of a group, `arrange` what it finds of an
+-- arrangement. Each other command takes all of it before it writes.
+abbrev pub IsEarly : Command → Type 0
+IsEarly (commands.Corpus options) = Unit {0}
+IsEarly (commands.Arrange options) = Unit {0}
+IsEarly command = ⊥
+
+-- what a command leaves
 abbrev pub LeavesOf : Command → (Status → List ℕ → Type 0) → Status → Option (List ℕ) → Option (List ℕ) → Type 0
 LeavesOf (commands.Corpus options) O status old new = LeavesPart O status old new
+LeavesOf (commands.Arrange options) O status old new = LeavesPart O status old new
 LeavesOf command O status old new = Leaves O status old new
 
--- the words are `corpus`
-abbrev pub IsCorpus : List (List ℕ) → Type 0
-IsCorpus given = (options : CorpusOptions) × IsCommand given (commands.Corpus options)
+-- the words are one of those
+abbrev pub AreEarly : List (List ℕ) → Type 0
+AreEarly given = (command : Command) × IsCommand given command × IsEarly command
 
--- What words leave: where they aren't `corpus`, all memory was taken before something was written.
+-- What words leave: where they aren't one of those, all memory was taken before something was written.
 pub record LeavesBy (given : List (List ℕ)) (O : Status → List ℕ → Type 0) (status : Status) (old new : Option (List ℕ)) : Type 0 where
   pub part : LeavesPart O status old new
-  pub at_once : (IsCorpus given → ⊥) → Leaves O status old new
+  pub at_once : (AreEarly given → ⊥) → Leaves O status old new
 
--- after a failed read nothing was added, and for want of memory nothing by another command than `corpus`
+-- after a failed read nothing was added, and for want of memory nothing by another command than those
 abbrev pub UnwrittenBy : Command → Status → Option (List ℕ) → Option (List ℕ) → Type 0
 UnwrittenBy (commands.Corpus options) status old new = status ≡ statuses.ReadFault → new ≡ old
+UnwrittenBy (commands.Arrange options) status old new = status ≡ statuses.ReadFault → new ≡ old
 UnwrittenBy command status old new = Unwritten status old new
 
 -- A command ends with one of its statuses. The count of the sink's failures stays, unless a write failed.

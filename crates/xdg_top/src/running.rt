@@ -7,10 +7,11 @@ ghost use Rattle.xdg_command.specs.declared.commands.Command as declared;
 ghost use Rattle.xdg_io.specs.Rose.{Rose};
 ghost use Rattle.xdg_outcomes.specs.Runs.{Leaves};
 ghost use Rattle.xdg_top.specs.Outcomes.{CommandOf, IsNoCommand, IsUsage, OutcomeOf, WantsSome};
-ghost use Rattle.xdg_top.specs.Runs.{CommandWrote, EndsWith, FailsToRead, IsCorpus, LeavesBy, LeavesOf, ReadFailed, ReadsInput};
+ghost use Rattle.xdg_top.specs.Runs.{AreEarly, CommandWrote, EndsWith, FailsToRead, LeavesBy, LeavesOf, ReadFailed, ReadsInput};
 
 use std::alloc::Global;
 use std::thread::Threads;
+use xdg_arrange::arrange;
 use xdg_base::OutOfMemory;
 use xdg_command::{Command, command};
 use xdg_corpus::corpus;
@@ -58,6 +59,7 @@ fn run_command<R: Threads + Sync, H: Shelf, S: Source, K: Sink>(
         Command::Print { grammar } => print_grammar(alloc, grammar.as_str(), shelf, out),
         Command::Drill { number } => drill(alloc, *number, out),
         Command::Corpus(options) => corpus(rt, alloc, options, shelf, input, out),
+        Command::Arrange(options) => arrange(alloc, options, shelf, input, out),
     }
 }
 
@@ -72,8 +74,8 @@ pub fn run<R: Threads + Sync, H: Shelf, S: Source, K: Sink>(
     input: &mut S,
     out: &mut K,
 ) -> Status
-    // Where the files and the input are told, what was added is the text of the one outcome. Only `corpus` may have written some of it
-    // where memory was wanting.
+    // Where the files and the input are told, what was added is the text of the one outcome. Only `corpus` and `arrange` may have written
+    // some of it where memory was wanting.
     ensures leaves { (files : List ℕ → Option (List ℕ)) (content : List ℕ) → H.files shelf.old ≡ Some files → S.left input.old ≡ Some content →
         LeavesBy (map string_bytes words.now) (OutcomeOf (map string_bytes words.now) files content) result (K.held out.old) (K.held out.new) }
 
@@ -82,7 +84,7 @@ pub fn run<R: Threads + Sync, H: Shelf, S: Source, K: Sink>(
         IsCommand (map string_bytes words.now) given → (ReadsInput given → S.left input.old ≡ Some content) →
         LeavesOf given (CommandOf given files content) result (K.held out.old) (K.held out.new) }
     ensures usage_text { IsNoCommand (map string_bytes words.now) → Leaves IsUsage result (K.held out.old) (K.held out.new) }
-    ensures nothing_written { (result ≡ Status.ReadFault) ⊎ ((result ≡ Status.OutOfMemory) × (IsCorpus (map string_bytes words.now) → ⊥)) →
+    ensures nothing_written { (result ≡ Status.ReadFault) ⊎ ((result ≡ Status.OutOfMemory) × (AreEarly (map string_bytes words.now) → ⊥)) →
         K.held out.new ≡ K.held out.old }
 
     // The words alone decide whether they are a command, and the command decides which statuses it can end with.

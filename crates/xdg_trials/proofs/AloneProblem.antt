@@ -50,6 +50,7 @@ is_use = record {
   feats = refl;
   feats_each = feats_each_at;
   features = feats_at;
+  suits = tt;
 }
 
 is_problem : IsProblem alone

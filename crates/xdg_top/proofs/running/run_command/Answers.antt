@@ -1,11 +1,12 @@
-use Rattle.std.proofs.Common.{subst, rules}
+use Rattle.std.proofs.Common.{refl, subst, rules}
+use Rattle.xdg_arrange.specs.Outcomes.{ArrangeOf}
 use Rattle.xdg_command.specs.declared.commands.Command.TheVariants as commands
 use Rattle.xdg_reports.specs.Outcomes.{CheckOf, ExplainOf, LexiconOf, PrintOf}
 use Rattle.xdg_top.specs.Outcomes.{WantsSome}
 use Rattle.xdg_outcomes.specs.Runs.{Leaves}
 use Rattle.xdg_searches.specs.Runs.{DrillEnds}
 use Rattle.xdg_top.specs.Runs.{ReadsInput}
-use Rattle.xdg_top.proofs.Commanded.{corpus_done, corpus_failed, corpus_wrote, explain_failed, file_failed, parse_failed, resume_failed, said_leaves, said_reads, said_wrote}
+use Rattle.xdg_top.proofs.Commanded.{corpus_done, early_wrote, explain_failed, file_failed, front_part, parse_failed, reads_failed, resume_failed, said_leaves, said_reads, said_wrote}
 use Rattle.xdg_top.proofs.running.run_command.Goals as goal
 
 pub parse_sentence-requires : goal.parse_sentence-requires
@@ -122,13 +123,29 @@ returns-in-Corpus-clause-leaves g c files content told given =
 
 pub returns-in-Corpus-clause-wrote : goal.returns-in-Corpus-clause-wrote
 returns-in-Corpus-clause-wrote g c =
-    corpus_wrote c.args.command.now c.in-Corpus.options c.corpus.result (g.K.Sink.faults c.args.out.now) (g.K.Sink.faults c.corpus.new.out) (g.K.Sink.held c.args.out.now) (g.K.Sink.held c.corpus.new.out) c.in-Corpus.is c.corpus.ensures.ends c.corpus.ensures.unwritten c.corpus.ensures.out_quiet
+    early_wrote c.args.command.now (commands.Corpus c.in-Corpus.options) c.corpus.result (g.K.Sink.faults c.args.out.now) (g.K.Sink.faults c.corpus.new.out) (g.K.Sink.held c.args.out.now) (g.K.Sink.held c.corpus.new.out) c.in-Corpus.is c.corpus.ensures.ends c.corpus.ensures.unwritten c.corpus.ensures.out_quiet
 
 pub returns-in-Corpus-clause-read_fault : goal.returns-in-Corpus-clause-read_fault
-returns-in-Corpus-clause-read_fault g c failed = corpus_failed c.args.command.now c.in-Corpus.options (g.H.Shelf.faults c.args.shelf.now) (g.H.Shelf.faults c.corpus.new.shelf) (g.S.Source.faults c.args.input.now) (g.S.Source.faults c.corpus.new.input) c.in-Corpus.is (c.corpus.ensures.read_fault failed)
+returns-in-Corpus-clause-read_fault g c failed = reads_failed c.args.command.now (commands.Corpus c.in-Corpus.options) c.in-Corpus.options.grammar (g.H.Shelf.faults c.args.shelf.now) (g.H.Shelf.faults c.corpus.new.shelf) (g.S.Source.faults c.args.input.now) (g.S.Source.faults c.corpus.new.input) c.in-Corpus.is refl tt (c.corpus.ensures.read_fault failed)
 
 pub returns-in-Corpus-clause-files_alone : goal.returns-in-Corpus-clause-files_alone
 returns-in-Corpus-clause-files_alone g c none = absurd (none (said_reads c.args.command.now (commands.Corpus c.in-Corpus.options) c.in-Corpus.is tt))
 
 pub returns-in-Corpus-clause-all_read : goal.returns-in-Corpus-clause-all_read
 returns-in-Corpus-clause-all_read g c content reads ended told = c.corpus.ensures.all_read content (corpus_done c.corpus.result c.corpus.ensures.ends ended) told
+
+pub returns-in-Arrange-clause-leaves : goal.returns-in-Arrange-clause-leaves
+returns-in-Arrange-clause-leaves g c files content told given =
+    said_leaves files content c.args.command.now (commands.Arrange c.in-Arrange.options) c.arrange.result (g.K.Sink.held c.args.out.now) (g.K.Sink.held c.arrange.new.out) c.in-Arrange.is
+    (front_part (ArrangeOf c.in-Arrange.options files content) c.arrange.result (g.K.Sink.held c.args.out.now) (g.K.Sink.held c.arrange.new.out)
+    (c.arrange.ensures.leaves files content told (given (said_reads c.args.command.now (commands.Arrange c.in-Arrange.options) c.in-Arrange.is tt))))
+
+pub returns-in-Arrange-clause-wrote : goal.returns-in-Arrange-clause-wrote
+returns-in-Arrange-clause-wrote g c =
+    early_wrote c.args.command.now (commands.Arrange c.in-Arrange.options) c.arrange.result (g.K.Sink.faults c.args.out.now) (g.K.Sink.faults c.arrange.new.out) (g.K.Sink.held c.args.out.now) (g.K.Sink.held c.arrange.new.out) c.in-Arrange.is c.arrange.ensures.ends c.arrange.ensures.unwritten c.arrange.ensures.out_quiet
+
+pub returns-in-Arrange-clause-read_fault : goal.returns-in-Arrange-clause-read_fault
+returns-in-Arrange-clause-read_fault g c failed = reads_failed c.args.command.now (commands.Arrange c.in-Arrange.options) c.in-Arrange.options.grammar (g.H.Shelf.faults c.args.shelf.now) (g.H.Shelf.faults c.arrange.new.shelf) (g.S.Source.faults c.args.input.now) (g.S.Source.faults c.arrange.new.input) c.in-Arrange.is refl tt (c.arrange.ensures.read_fault failed)
+
+pub returns-in-Arrange-clause-files_alone : goal.returns-in-Arrange-clause-files_alone
+returns-in-Arrange-clause-files_alone g c none = absurd (none (said_reads c.args.command.now (commands.Arrange c.in-Arrange.options) c.in-Arrange.is tt))

@@ -1,0 +1,23 @@
+use Rattle.std.proofs.Common.{◌≡◌, Some, subst}
+use Rattle.xdg_arrange.specs.Outcomes.{ListThen}
+use Rattle.xdg_outcomes.specs.Loaded.{read_of}
+use Rattle.xdg_outcomes.specs.Outcomes.{MeaningThen}
+use Rattle.xdg_outcomes.specs.Refusals.{Stops}
+use Rattle.xdg_outcomes.specs.Stages.{Accepts}
+use Rattle.xdg_outcomes.specs.Texts.{HasBadText, HasTree, ReadText}
+use Rattle.xdg_outcomes.specs.declared.status.Status.TheVariants as statuses
+use Rattle.xdg_outcomes.proofs.Leaving.{accepted_front}
+use Rattle.xdg_arrange.proofs.Commanding.{meaning_said}
+use Rattle.xdg_arrange.proofs.Fronting.{stopped_front}
+use Rattle.xdg_arrange.proofs.command.arrange.Goals as goal
+
+pub returns-in-Ok-clause-leaves : goal.returns-in-Ok-clause-leaves
+returns-in-Ok-clause-leaves g c files content told given =
+    accepted_front ReadText statuses.BadText (HasBadText files c.args.options.now.grammar) (HasTree files c.args.options.now.grammar) (λ read. MeaningThen read (ListThen c.args.options.now content)) (read_of c.in-Ok.loaded) c.arrange_loaded.result _ _
+    (subst (λ n. Accepts ReadText (HasBadText files n) (HasTree files n) (read_of c.in-Ok.loaded)) c.as_str.ensures (c.in-Ok.ensures.found files told)) (c.arrange_loaded.ensures.leaves content given)
+
+pub returns-in-Err-clause-leaves : goal.returns-in-Err-clause-leaves
+returns-in-Err-clause-leaves g c files content told given =
+    stopped_front ReadText statuses.BadText (HasBadText files c.args.options.now.grammar) (HasTree files c.args.options.now.grammar) (λ read. MeaningThen read (ListThen c.args.options.now content)) (λ read. meaning_said read c.args.options.now content)
+    (g.H.Shelf.files c.args.shelf.now ≡ Some files) (g.H.Shelf.faults c.args.shelf.now c.as_str.result.now) (g.H.Shelf.faults c.load_tree.new.shelf c.as_str.result.now) c.refuse.result c.in-Err.refusal _ _ told (λ e. e)
+    (subst (λ n. Stops (g.H.Shelf.files c.args.shelf.now ≡ Some files) (g.H.Shelf.faults c.args.shelf.now c.as_str.result.now) (g.H.Shelf.faults c.load_tree.new.shelf c.as_str.result.now) ReadText (HasBadText files n) (HasTree files n) c.in-Err.refusal) c.as_str.ensures (c.in-Err.ensures.refused files)) c.refuse.ensures.written

@@ -1,0 +1,154 @@
+//! The words that the input gives.
+
+ghost use Rattle.std.specs.Prelude.{◌≡◌, ◌≢◌, ◌≤◌, ◌<◌, ◌^◌, ℕ, List, [], None, Some, length, IfErr, IfOk, MatchResult};
+ghost use Rattle.xdg_arrange.specs.Lists.{HasList, IsBadList, IsRefused, Listed};
+ghost use Rattle.xdg_arrange.specs.Lists as spec;
+ghost use Rattle.xdg_build.specs.Refusals as unknown;
+ghost use Rattle.xdg_grammar.specs.Answers.{meaning_of};
+ghost use Rattle.xdg_grammar.specs.Packed.{IsPackedOf};
+ghost use Rattle.xdg_groups.specs.Grammars.{grammar_of};
+ghost use Rattle.xdg_io.specs.Rose.{Rose};
+ghost use Rattle.xdg_outcomes.specs.Places.{fault, place_in};
+ghost use Rattle.xdg_outcomes.specs.Refusals.{Stops};
+ghost use Rattle.xdg_outcomes.specs.Stages.{Accepts};
+ghost use Rattle.xdg_words.specs.Segments.{words_in};
+
+use std::alloc::Global;
+use std::str;
+use xdg_base::{Cause, Fault, List, Stop};
+use xdg_grammar::Expanded;
+use xdg_io::{ReadStop, Source, read_all};
+use xdg_outcomes::{Refusal, refused_in, stopped_in, too_long};
+use xdg_packed::Packed;
+use xdg_problem::SentenceWord;
+use xdg_words::words_of;
+
+/// How many bytes the input may have.
+const LIST_LIMIT: u64 = 65_536;
+
+/// How many words are arranged at most.
+const WORDS: usize = 8;
+
+/// The first word that has no entry.
+fn first_unknown(packed: &Packed, words: &[SentenceWord]) -> Option<Fault>
+    ensures { result ≡ unknown.first_unknown packed.now words.now }
+{
+    for word in words {
+        if packed.of_word(word.text.as_str()).is_empty() {
+            return Some(Fault {
+                cause: Cause::UnknownWord,
+                at: word.at,
+                reached: 0,
+            });
+        }
+    }
+    None
+}
+
+/// Why words are not arranged: there is none, or too many, or one has no entry.
+fn refusal(packed: &Packed, words: &[SentenceWord]) -> Option<Fault>
+    ensures { result ≡ spec.refusal packed.now words.now }
+{
+    if words.is_empty() {
+        return Some(Fault {
+            cause: Cause::EmptySentence,
+            at: 0,
+            reached: 0,
+        });
+    }
+    match words.get(WORDS) {
+        Some(word) => Some(Fault {
+            cause: Cause::ArrangeLimit,
+            at: word.at,
+            reached: WORDS as u64 + 1,
+        }),
+        None => first_unknown(packed, words),
+    }
+}
+
+/// The words of a text, cut by the Unicode rules of word boundaries where that is asked for.
+fn words_within(
+    alloc: Global,
+    packed: &Packed,
+    segment: bool,
+    text: &str,
+) -> Result<List<SentenceWord>, Stop>
+    requires { length text.now < 2 ^ 32 }
+    ensures words { IfOk result (λ words. words ≡ words_in segment text.now) }
+    ensures known { IfOk result (λ words. spec.refusal packed.now words ≡ None) }
+    ensures few { IfOk result (λ words. length words ≤ 8) }
+    ensures refused { IfErr result (IsRefused packed.now (words_in segment text.now)) }
+{
+    let Ok(words) = words_of(alloc, text, segment) else {
+        return Err(Stop::OutOfMemory);
+    };
+    match refusal(packed, words.as_slice()) {
+        Some(fault) => Err(Stop::Fault(fault)),
+        None => Ok(words),
+    }
+}
+
+/// The refusal of an input that is not UTF-8 from a place on.
+fn no_text(input: &[u8], at: usize) -> Refusal
+    requires within { at ≤ length input.now }
+    requires small { length input.now ≤ 65536 }
+    ensures { let refused = fault Cause.BadUtf8 at 0 in result ≡ Refusal.Text refused (place_in input.now refused) }
+{
+    let fault = Fault {
+        cause: Cause::BadUtf8,
+        at: at as u32,
+        reached: 0,
+    };
+    refused_in(input, fault)
+}
+
+/// The words of an input.
+fn list_in(
+    alloc: Global,
+    expanded: &Expanded,
+    packed: &Packed,
+    segment: bool,
+    input: &[u8],
+) -> Result<List<SentenceWord>, Refusal>
+    requires within { length input.now ≤ 65536 }
+    requires packed { IsPackedOf expanded.now packed.now }
+    ensures few { IfOk result (λ words. length words ≤ 8) }
+    ensures found { IfOk result (λ words. Accepts Listed (IsBadList (meaning_of expanded.now) segment input.now) (HasList (meaning_of expanded.now) segment input.now) (record { grammar = grammar_of expanded.now.checked packed.now; words = words })) }
+    ensures refused { IfErr result (Stops (Unit {0}) 0 0 Listed (IsBadList (meaning_of expanded.now) segment input.now) (HasList (meaning_of expanded.now) segment input.now)) }
+{
+    let text = match str::from_utf8(input) {
+        Ok(text) => text,
+        Err(error) => return Err(no_text(input, error.valid_up_to())),
+    };
+    match words_within(alloc, packed, segment, text) {
+        Ok(words) => Ok(words),
+        Err(stop) => Err(stopped_in(input, stop)),
+    }
+}
+
+/// The words that a source gives, 1 to 8 of them, each with an entry.
+pub(crate) fn read_list<S: Source>(
+    alloc: Global,
+    expanded: &Expanded,
+    packed: &Packed,
+    segment: bool,
+    source: &mut S,
+) -> Result<List<SentenceWord>, Refusal>
+    requires packed { IsPackedOf expanded.now packed.now }
+    ensures found { IfOk result (λ words. (input : List ℕ) → S.left source.old ≡ Some input → Accepts Listed (IsBadList (meaning_of expanded.now) segment input) (HasList (meaning_of expanded.now) segment input) (record { grammar = grammar_of expanded.now.checked packed.now; words = words })) }
+    ensures few { IfOk result (λ words. length words ≤ 8) }
+    ensures refused { IfErr result (λ refusal. (input : List ℕ) → Stops (S.left source.old ≡ Some input) (S.faults source.old) (S.faults source.new) Listed (IsBadList (meaning_of expanded.now) segment input) (HasList (meaning_of expanded.now) segment input) refusal) }
+    ensures failed { IfErr result (λ refusal. refusal ≡ Refusal.Read → Rose (S.faults source.old) (S.faults source.new)) }
+    ensures all { IfOk result (λ words. (input : List ℕ) → S.left source.old ≡ Some input → S.left source.new ≡ Some []) }
+    ensures lasting { S.faults source.old ≤ S.faults source.new }
+    ensures quiet { MatchResult result (λ _. S.faults source.new ≡ S.faults source.old) (λ refusal.
+        refusal ≢ Refusal.Read → S.faults source.new ≡ S.faults source.old) }
+{
+    let input = match read_all(alloc, source, LIST_LIMIT) {
+        Ok(input) => input,
+        Err(ReadStop::ReadFault) => return Err(Refusal::Read),
+        Err(ReadStop::OutOfMemory) => return Err(Refusal::Memory),
+        Err(ReadStop::TooLong { reached }) => return Err(too_long(reached)),
+    };
+    list_in(alloc, expanded, packed, segment, &input)
+}

@@ -1,0 +1,148 @@
+//! The search of an arrangement, printed as analyses are found.
+
+ghost use Rattle.std.specs.Prelude.{◌≡◌, ◌≢◌, ◌≤◌, ◌<◌, ◌∷◌, ◌^◌, [], None, codes, decimal, map, IfOk, OnErr, OnOk};
+ghost use Rattle.xdg_arrange.specs.Found.{IsOneFind, Writes, arrangement_line, led_block};
+ghost use Rattle.xdg_io.specs.Held.{Appends, AppendsFront};
+ghost use Rattle.xdg_io.specs.Rose.{Rose};
+ghost use Rattle.xdg_problem.specs.Analyses.{IsAnalysis};
+ghost use Rattle.xdg_problem.specs.Problems.{IsProblem};
+ghost use Rattle.xdg_stream.specs.Streamed.{IsCharged};
+ghost use Rattle.xdg_text.specs.Constants.{quoted};
+ghost use Rattle.xdg_text.specs.Lines.{line};
+ghost use Rattle.xdg_text.specs.Words.{word_text};
+
+use std::alloc::{AllocError, Global};
+use xdg_base::EntryNo;
+use xdg_engine::props;
+use xdg_io::{Failed, Sink};
+use xdg_problem::{Edge, Problem, SentenceWord};
+use xdg_propcore::Propagator;
+use xdg_stream::{Step, Stream};
+use xdg_text::{Word, write_line, write_parts};
+
+/// What the search of an arrangement came to.
+#[derive(Clone, Copy, Debug)]
+pub(crate) enum Searched {
+    /// It found all analyses, so many, and they are written.
+    Whole(u64),
+    /// The budget was spent, and the analyses that were found before, so many, are written.
+    Spent(u64),
+    /// The sink failed.
+    Failed,
+    /// Memory was wanting, and nothing was written.
+    OutOfMemory,
+}
+
+/// The words of the line that leads the blocks of an arrangement.
+fn lead_of<'a>(
+    alloc: Global,
+    number: u64,
+    words: &'a [SentenceWord],
+) -> Result<Vec<Word<'a>>, AllocError>
+    ensures { IfOk result (λ made. map word_text made.items ≡ decimal number ∷ map (λ word. quoted word.text) words.entry.now) }
+{
+    let mut made = Vec::new(alloc);
+    made.push(Word::Number(number))?;
+    for word in words {
+        made.push(Word::Quoted(word.text.as_str()))?;
+    }
+    Ok(made)
+}
+
+/// Writes an analysis with its number, and before the first one the line of its arrangement.
+#[tactic(auto, using(xdg_text::proofs::Pieces::appends_both, xdg_text::proofs::Pieces::rose_later))]
+fn write_found<K: Sink>(
+    problem: &Problem,
+    lead: &[Word],
+    count: u64,
+    entries: &[EntryNo],
+    attrs: &[u16],
+    edges: &[Edge],
+    out: &mut K,
+) -> Result<(), Failed>
+    requires { IsAnalysis problem.now (record { entries = entries.now; attrs = attrs.now; edges = edges.now }) }
+    ensures all { OnOk result (Appends (K.held out.old) (K.held out.new) (led_block (line (codes "arrangement") (map word_text lead.now)) problem.now count (record { entries = entries.now; attrs = attrs.now; edges = edges.now }))) }
+    ensures front { OnErr result (AppendsFront (K.held out.old) (K.held out.new) (led_block (line (codes "arrangement") (map word_text lead.now)) problem.now count (record { entries = entries.now; attrs = attrs.now; edges = edges.now }))) }
+    ensures cause { OnErr result (Rose (K.faults out.old) (K.faults out.new)) }
+    ensures lasting { K.faults out.old ≤ K.faults out.new }
+    ensures quiet { OnOk result (K.faults out.new ≡ K.faults out.old) }
+{
+    if count == 1 {
+        write_line("arrangement", lead, out)?;
+    }
+    write_parts(problem, count, entries, attrs, edges, out)
+}
+
+/// Prints what a stream that has just started finds.
+fn print_found<P: Propagator, K: Sink>(
+    problem: &Problem,
+    lead: &[Word],
+    stream: &mut Stream<'_, P>,
+    out: &mut K,
+) -> Searched
+    requires parts { IsProblem problem.now }
+    requires given { stream.old.parts ≡ problem.now }
+    requires begun { stream.old.start ≡ [] }
+    requires fresh { stream.old.ended ≡ None }
+    requires small { stream.old.budget < 2 ^ 64 }
+    requires charged { IsCharged stream.old [] }
+    ensures written { Writes result stream.old.budget problem.now (line (codes "arrangement") (map word_text lead.now)) (K.held out.old) (K.held out.new) }
+    ensures cause { result ≡ Searched.Failed → Rose (K.faults out.old) (K.faults out.new) }
+    ensures lasting { K.faults out.old ≤ K.faults out.new }
+    ensures quiet { result ≢ Searched.Failed → K.faults out.new ≡ K.faults out.old }
+{
+    let mut count: u64 = 0;
+    'draw: loop {
+        match stream.advance() {
+            Step::Found => {
+                count += 1;
+                let written = write_found(
+                    problem,
+                    lead,
+                    count,
+                    stream.entries(),
+                    stream.attrs(),
+                    stream.edges(),
+                    out,
+                );
+                if written.is_err() {
+                    return Searched::Failed;
+                }
+            }
+            Step::End => {
+                return Searched::Whole(count);
+            }
+            Step::Spent => {
+                return Searched::Spent(count);
+            }
+        }
+    }
+}
+
+/// Searches an arrangement with a budget of its own, and prints each analysis when it is found, the first one behind a line with the
+/// arrangement's number and words. All memory is taken before the first byte is written.
+pub(crate) fn print_arrangement<K: Sink>(
+    alloc: Global,
+    problem: &Problem,
+    budget: u64,
+    number: u64,
+    out: &mut K,
+) -> Searched
+    ensures written { Writes result budget problem.now (arrangement_line number problem.now.words) (K.held out.old) (K.held out.new) }
+    ensures one { IsOneFind budget problem.now }
+    ensures cause { result ≡ Searched.Failed → Rose (K.faults out.old) (K.faults out.new) }
+    ensures lasting { K.faults out.old ≤ K.faults out.new }
+    ensures quiet { result ≢ Searched.Failed → K.faults out.new ≡ K.faults out.old }
+{
+    let parts = problem.parts();
+    let Ok(lead) = lead_of(alloc, number, parts.words.as_slice()) else {
+        return Searched::OutOfMemory;
+    };
+    let Ok(propagators) = props(alloc, problem) else {
+        return Searched::OutOfMemory;
+    };
+    let Ok(mut stream) = Stream::start(alloc, problem, propagators.as_slice(), budget, None) else {
+        return Searched::OutOfMemory;
+    };
+    print_found(problem, lead.as_slice(), &mut stream, out)
+}
