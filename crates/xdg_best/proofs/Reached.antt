@@ -67,7 +67,7 @@ module _ (parts : Parts) (costs : CostLists) where
       let split : f.before ++ v ∷ f.behind ≡ (f.before ++ v ∷ []) ++ f.behind = sym (append_assoc f.before (v ∷ []) f.behind) in
       let rises : RisesFrom start (f.before ++ v ∷ []) = rises_left start (f.before ++ v ∷ []) f.behind (subst (RisesFrom start) split f.counted.rises) in
       let each = round_counted last (f.before ++ v ∷ []) (each_left (λ x. Fits (shape (round_parts parts costs last)) x × Boxed (round_parts parts costs last) x) (f.before ++ v ∷ []) f.behind
-          (subst (AllByRecursion (λ x. Fits (shape (round_parts parts costs last)) x × Boxed (round_parts parts costs last) x)) split f.counted.each)) in
+      (subst (AllByRecursion (λ x. Fits (shape (round_parts parts costs last)) x × Boxed (round_parts parts costs last) x)) split f.counted.each)) in
       let l = length-append f.before (v ∷ []) in
       let place = f.place_is in
       let below : AtMost start v = inr (rises_above start v (f.before ++ v ∷ f.behind) f.counted.rises (middle f.before v f.behind)) in
@@ -84,7 +84,7 @@ module _ (parts : Parts) (costs : CostLists) where
       let split : f.counted ≡ take budget f.counted ++ drop budget f.counted = sym (take-append-drop budget f.counted) in
       let rises = rises_left start (take budget f.counted) (drop budget f.counted) (subst (RisesFrom start) split f.counted_are.rises) in
       let each = round_counted last (take budget f.counted) (each_left (λ x. Fits (shape (round_parts parts costs last)) x × Boxed (round_parts parts costs last) x) (take budget f.counted) (drop budget f.counted)
-          (subst (AllByRecursion (λ x. Fits (shape (round_parts parts costs last)) x × Boxed (round_parts parts costs last) x)) split f.counted_are.each)) in
+      (subst (AllByRecursion (λ x. Fits (shape (round_parts parts costs last)) x × Boxed (round_parts parts costs last) x)) split f.counted_are.each)) in
       let more = ltb-true budget (length f.counted) (sym f.spent_is) in
       let l = length-take budget f.counted in
       let all = rises_on [] start p.passed (take budget f.counted) (least_start start) p.before p.rises rises in

@@ -119,10 +119,10 @@ module _ (s t : Streamed) (is : IsProblem s.parts) (begun : s.last ≡ s.start) 
       let fits = one.fits (analysis_of s.parts t.last) next.solution.fits in
       let to : t.last ≡ vector s.parts (analysis_of s.parts t.last) = sym next.is_vector in
       let u = until (shape s.parts) (Boxed s.parts) s.start counted.0 counted.1 t.last t.charged (drawn_of t.last (t.last ∷ []) step.given.0 step.given.1 found.2 charged)
-          (subst (Fits (shape s.parts)) next.is_vector fits)
-          (subst (Boxed s.parts) next.is_vector ((boxed_laws s.parts is).solutions (analysis_of s.parts t.last) next.solution))
-          (subst (λ z. Less z t.last) begun next.after)
-          (ap length to ∙ one.whole (analysis_of s.parts t.last) next.solution.fits) in
+      (subst (Fits (shape s.parts)) next.is_vector fits)
+      (subst (Boxed s.parts) next.is_vector ((boxed_laws s.parts is).solutions (analysis_of s.parts t.last) next.solution))
+      (subst (λ z. Less z t.last) begun next.after)
+      (ap length to ∙ one.whole (analysis_of s.parts t.last) next.solution.fits) in
       record {
         fits = subst (IsAnalysis s.parts) (sym here) next.solution.fits;
         before = u.before;

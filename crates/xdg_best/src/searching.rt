@@ -46,10 +46,7 @@ fn last_analysis<P: Propagator>(
 }
 
 /// The first solution of a stream that has just started.
-fn first_of<P: Propagator>(
-    alloc: Global,
-    stream: &mut Stream<'_, P>,
-) -> Result<Round, OutOfMemory>
+fn first_of<P: Propagator>(alloc: Global, stream: &mut Stream<'_, P>) -> Result<Round, OutOfMemory>
     requires parts { IsProblem stream.old.parts }
     requires begun { stream.old.last ≡ stream.old.start }
     requires charged { IsCharged stream.old [] }
