@@ -4,23 +4,23 @@ use Rattle.std.specs.Prelude.{codes, slice_get, if◌then◌else◌}
 use Rattle.clap.specs.Matches.{first_value, found_of, one_text}
 use Rattle.clap.specs.declared.parser.matches.ArgMatches.{ArgMatches}
 use Rattle.xdg_command.specs.Answers.{IsExactly}
-use Rattle.xdg_command.specs.Commands.{HasBudget, HasFirst, HasText, IsDrillNumber, SaysParse, SaysResume}
+use Rattle.xdg_command.specs.Commands.{HasBudget, HasFirst, HasText, IsDrillNumber, SaysExplain, SaysParse, SaysResume}
 use Rattle.xdg_command.specs.Found.{Matches}
 use Rattle.xdg_command.specs.Items.{AreItems, Item, has_flag, operands_of}
-use Rattle.xdg_command.specs.Readings.{AreWords, IsDrill, IsOneFile, IsParse, IsResume, IsTwoFiles}
-use Rattle.xdg_command.specs.Syntax.{Table, arranged, corpused, is_right, one_file, parsed, resumed, two_files}
+use Rattle.xdg_command.specs.Readings.{AreWords, IsDrill, IsExplain, IsOneFile, IsParse, IsResume}
+use Rattle.xdg_command.specs.Syntax.{Table, arranged, corpused, costed, explained, is_right, one_file, parsed, resumed}
+use Rattle.xdg_command.specs.declared.commands.ExplainOptions.{ExplainOptions}
 use Rattle.xdg_command.specs.declared.commands.ParseOptions.{ParseOptions}
 use Rattle.xdg_command.specs.declared.commands.ResumeOptions.{ResumeOptions}
 use Rattle.xdg_command.specs.declared.commands.TextForm.{TextForm}
-use Rattle.xdg_command.specs.declared.reading.Files.{Files}
 use Rattle.xdg_command.proofs.Lookups.{right}
 use Rattle.xdg_command.proofs.Spelled.{read_items}
 
 pub one_file_right : is_right one_file ≡ true
 one_file_right = refl
 
-pub two_files_right : is_right two_files ≡ true
-two_files_right = refl
+pub explained_right : is_right explained ≡ true
+explained_right = refl
 
 pub parsed_right : is_right parsed ≡ true
 parsed_right = refl
@@ -33,6 +33,9 @@ corpused_right = refl
 
 pub arranged_right : is_right arranged ≡ true
 arranged_right = refl
+
+pub costed_right : is_right costed ≡ true
+costed_right = refl
 
 -- ---- words and their items
 
@@ -54,7 +57,7 @@ unsaid t words P none few w = none w.items (record { read = w.read; once = w.onc
 pub first_none : (xs : List (List ℕ)) (x : List ℕ) (more : List (List ℕ)) → slice_get xs 0 ≡ None → xs ≡ x ∷ more → ⊥
 first_none xs x more none is = let bad : None ≡ Some x = sym none ∙ ap (λ ys. slice_get ys 0) is in cc
 
-second_none : (xs : List (List ℕ)) (x y : List ℕ) → slice_get xs 1 ≡ None → xs ≡ x ∷ y ∷ [] → ⊥
+pub second_none : (xs : List (List ℕ)) (x y : List ℕ) → slice_get xs 1 ≡ None → xs ≡ x ∷ y ∷ [] → ⊥
 second_none xs x y none is = let bad : None ≡ Some y = sym none ∙ ap (λ ys. slice_get ys 1) is in cc
 
 pub single : (xs : List (List ℕ)) (x : List ℕ) → slice_get xs 0 ≡ Some x → length xs ≤ 1 → xs ≡ x ∷ []
@@ -62,7 +65,7 @@ single [] x e few = absurd cc
 single (y ∷ []) x e few = let is : y ≡ x = cc in ap (λ z. z ∷ []) is
 single (y ∷ z ∷ xs) x e few = absurd (omega (arith, few))
 
-double : (xs : List (List ℕ)) (x y : List ℕ) → slice_get xs 0 ≡ Some x → slice_get xs 1 ≡ Some y → length xs ≤ 2 → xs ≡ x ∷ y ∷ []
+pub double : (xs : List (List ℕ)) (x y : List ℕ) → slice_get xs 0 ≡ Some x → slice_get xs 1 ≡ Some y → length xs ≤ 2 → xs ≡ x ∷ y ∷ []
 double [] x y e f few = absurd cc
 double (a ∷ []) x y e f few = absurd cc
 double (a ∷ b ∷ []) x y e f few = let first : a ≡ x = cc in let second : b ≡ y = cc in ap₂ (λ p q. p ∷ q ∷ []) first second
@@ -114,33 +117,35 @@ module _ (words : List (List ℕ)) where
     λ other w. exact.1 other (subst (λ t. IsDrillNumber t other) (file.1 w.says.text (file_of other w)) w.says.writes),
   )
 
-  -- ---- two files
+  -- ---- `explain`
 
-  pub files_none : Matches two_files words None → (files : Files) → IsTwoFiles words files → ⊥
-  files_none none files w = unsaid two_files words (λ items. operands_of items ≡ files.grammar ∷ files.analysis ∷ []) none (λ items e. few_of 2 _ _ e (omega arith)) w
+  pub explain_none : Matches explained words None → (options : ExplainOptions) → IsExplain words options → ⊥
+  explain_none none options w = unsaid explained words (λ items. SaysExplain items options) none (λ items says. few_of 2 _ _ says.files (omega arith)) w
 
-  two_said : (found : ArgMatches) (m : Matches two_files words (Some found)) (files : Files) → IsTwoFiles words files → operands_of m.0 ≡ files.grammar ∷ files.analysis ∷ []
-  two_said found m files w = said two_files two_files_right words m.0 (λ items. operands_of items ≡ files.grammar ∷ files.analysis ∷ []) m.1.read w
+  module _ (found : ArgMatches) (m : Matches explained words (Some found)) where
+    explain_said : (options : ExplainOptions) → IsExplain words options → SaysExplain m.0 options
+    explain_said options w = said explained explained_right words m.0 (λ items. SaysExplain items options) m.1.read w
 
-  pub files_missing : (found : ArgMatches) → Matches two_files words (Some found) → first_value (found_of found) (codes "grammar") ≡ None → (files : Files) → IsTwoFiles words files → ⊥
-  files_missing found m none files w =
-      first_none (operands_of m.0) files.grammar (files.analysis ∷ []) (sym (m.2.operands 0 (codes "grammar") refl) ∙ none) (two_said found m files w)
+    pub explain_missing : first_value (found_of found) (codes "grammar") ≡ None → (options : ExplainOptions) → IsExplain words options → ⊥
+    explain_missing none options w = first_none (operands_of m.0) options.grammar (options.analysis ∷ []) (sym (m.2.operands 0 (codes "grammar") refl) ∙ none) (explain_said options w).files
 
-  pub second_missing : (found : ArgMatches) → Matches two_files words (Some found) → first_value (found_of found) (codes "analysis") ≡ None → (files : Files) → IsTwoFiles words files → ⊥
-  second_missing found m none files w =
-      second_none (operands_of m.0) files.grammar files.analysis (sym (m.2.operands 1 (codes "analysis") refl) ∙ none) (two_said found m files w)
+    pub second_missing : first_value (found_of found) (codes "analysis") ≡ None → (options : ExplainOptions) → IsExplain words options → ⊥
+    second_missing none options w = second_none (operands_of m.0) options.grammar options.analysis (sym (m.2.operands 1 (codes "analysis") refl) ∙ none) (explain_said options w).files
 
-  pub files_found : (found : ArgMatches) → Matches two_files words (Some found) → (files : Files) → first_value (found_of found) (codes "grammar") ≡ Some files.grammar
-      → first_value (found_of found) (codes "analysis") ≡ Some files.analysis → IsExactly (IsTwoFiles words) (Some files)
-  files_found found m files e f =
-      let is = double (operands_of m.0) files.grammar files.analysis (sym (m.2.operands 0 (codes "grammar") refl) ∙ e) (sym (m.2.operands 1 (codes "analysis") refl) ∙ f) m.1.few in (
-        record { items = m.0; read = m.1.read; once = m.1.once; says = is },
-        λ other w.
-            let same : files.grammar ∷ files.analysis ∷ [] ≡ other.grammar ∷ other.analysis ∷ [] = sym is ∙ two_said found m other w in
-            let grammar : other.grammar ≡ files.grammar = cc in
-            let analysis : other.analysis ≡ files.analysis = cc in
-            ap₂ (λ x y. let made : Files = record { grammar = x; analysis = y } in made) grammar analysis,
-      )
+    pub explain_found : (options : ExplainOptions) → first_value (found_of found) (codes "grammar") ≡ Some options.grammar → first_value (found_of found) (codes "analysis") ≡ Some options.analysis
+        → options.rules ≡ first_value (found_of found) (codes "rules") → IsExactly (IsExplain words) (Some options)
+    explain_found options e f rules =
+        let is = double (operands_of m.0) options.grammar options.analysis (sym (m.2.operands 0 (codes "grammar") refl) ∙ e) (sym (m.2.operands 1 (codes "analysis") refl) ∙ f) m.1.few in
+        let rules_at = rules ∙ m.2.values (codes "rules") refl in (
+          record { items = m.0; read = m.1.read; once = m.1.once; says = record { files = is; rules = rules_at } },
+          λ other w.
+              let says = explain_said other w in
+              let same : options.grammar ∷ options.analysis ∷ [] ≡ other.grammar ∷ other.analysis ∷ [] = sym is ∙ says.files in
+              let grammar_is : other.grammar ≡ options.grammar = cc in
+              let analysis_is : other.analysis ≡ options.analysis = cc in
+              let rules_is : other.rules ≡ options.rules = says.rules ∙ sym rules_at in
+              (λ i. let made : ExplainOptions = record { grammar = grammar_is i; analysis = analysis_is i; rules = rules_is i } in made),
+        )
 
   -- ---- `parse`
 
@@ -174,12 +179,13 @@ module _ (words : List (List ℕ)) where
     pub parse_found : (options : ParseOptions) → first_value (found_of found) (codes "grammar") ≡ Some options.grammar
         → IsExactly (HasBudget (first_value (found_of found) (codes "budget"))) (Some options.budget) → IsExactly (HasFirst (first_value (found_of found) (codes "first"))) (Some options.first)
         → IsExactly (HasText (first_value (found_of found) (codes "text"))) (Some options.text) → options.segment ≡ has_flag (codes "segment") m.0
-        → options.split ≡ has_flag (codes "split") m.0 → IsExactly (IsParse words) (Some options)
-    parse_found options e budget first text segment split =
+        → options.split ≡ has_flag (codes "split") m.0 → options.rules ≡ first_value (found_of found) (codes "rules") → IsExactly (IsParse words) (Some options)
+    parse_found options e budget first text segment split rules =
         let is = single (operands_of m.0) options.grammar (sym (m.2.operands 0 (codes "grammar") refl) ∙ e) m.1.few in
         let budget_at = m.2.values (codes "budget") refl in
         let first_at = m.2.values (codes "first") refl in
-        let text_at = m.2.values (codes "text") refl in (
+        let text_at = m.2.values (codes "text") refl in
+        let rules_at = rules ∙ m.2.values (codes "rules") refl in (
           record {
             items = m.0;
             read = m.1.read;
@@ -191,6 +197,7 @@ module _ (words : List (List ℕ)) where
               segment = segment;
               text = subst (λ o. HasText o options.text) text_at text.0;
               split = split;
+              rules = rules_at;
             };
           },
           λ other w.
@@ -202,7 +209,8 @@ module _ (words : List (List ℕ)) where
               let text_is = text.1 other.text (subst (λ o. HasText o other.text) (sym text_at) says.text) in
               let segment_is : other.segment ≡ options.segment = says.segment ∙ sym segment in
               let split_is : other.split ≡ options.split = says.split ∙ sym split in
-              (λ i. let made : ParseOptions = record { grammar = grammar_is i; budget = budget_is i; first = first_is i; segment = segment_is i; text = text_is i; split = split_is i } in made),
+              let rules_is : other.rules ≡ options.rules = says.rules ∙ sym rules_at in
+              (λ i. let made : ParseOptions = record { grammar = grammar_is i; budget = budget_is i; first = first_is i; segment = segment_is i; text = text_is i; split = split_is i; rules = rules_is i } in made),
         )
 
   -- ---- `resume`
@@ -231,12 +239,14 @@ module _ (words : List (List ℕ)) where
 
     pub resume_found : (options : ResumeOptions) → first_value (found_of found) (codes "grammar") ≡ Some options.grammar → first_value (found_of found) (codes "analysis") ≡ Some options.analysis
         → IsExactly (HasBudget (first_value (found_of found) (codes "budget"))) (Some options.budget) → IsExactly (HasFirst (first_value (found_of found) (codes "first"))) (Some options.first)
-        → IsExactly (HasText (first_value (found_of found) (codes "text"))) (Some options.text) → IsExactly (IsResume words) (Some options)
-    resume_found options e f budget first text =
+        → IsExactly (HasText (first_value (found_of found) (codes "text"))) (Some options.text) → options.rules ≡ first_value (found_of found) (codes "rules")
+        → IsExactly (IsResume words) (Some options)
+    resume_found options e f budget first text rules =
         let is = double (operands_of m.0) options.grammar options.analysis (sym (m.2.operands 0 (codes "grammar") refl) ∙ e) (sym (m.2.operands 1 (codes "analysis") refl) ∙ f) m.1.few in
         let budget_at = m.2.values (codes "budget") refl in
         let first_at = m.2.values (codes "first") refl in
-        let text_at = m.2.values (codes "text") refl in (
+        let text_at = m.2.values (codes "text") refl in
+        let rules_at = rules ∙ m.2.values (codes "rules") refl in (
           record {
             items = m.0;
             read = m.1.read;
@@ -246,6 +256,7 @@ module _ (words : List (List ℕ)) where
               budget = subst (λ o. HasBudget o options.budget) budget_at budget.0;
               first = subst (λ o. HasFirst o options.first) first_at first.0;
               text = subst (λ o. HasText o options.text) text_at text.0;
+              rules = rules_at;
             };
           },
           λ other w.
@@ -256,5 +267,6 @@ module _ (words : List (List ℕ)) where
               let budget_is = budget.1 other.budget (subst (λ o. HasBudget o other.budget) (sym budget_at) says.budget) in
               let first_is = first.1 other.first (subst (λ o. HasFirst o other.first) (sym first_at) says.first) in
               let text_is = text.1 other.text (subst (λ o. HasText o other.text) (sym text_at) says.text) in
-              (λ i. let made : ResumeOptions = record { grammar = grammar_is i; analysis = analysis_is i; budget = budget_is i; first = first_is i; text = text_is i } in made),
+              let rules_is : other.rules ≡ options.rules = says.rules ∙ sym rules_at in
+              (λ i. let made : ResumeOptions = record { grammar = grammar_is i; analysis = analysis_is i; budget = budget_is i; first = first_is i; text = text_is i; rules = rules_is i } in made),
         )

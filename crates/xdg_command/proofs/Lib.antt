@@ -1,4 +1,5 @@
 pub mod Arranged
+pub mod Bested
 pub mod Built
 pub mod Commanded
 pub mod Corpused

@@ -5,9 +5,11 @@ use Rattle.std.specs.Char.{is_ascii_digit}
 use Rattle.std.specs.Str.Parse.{digits_value}
 use Rattle.xdg_command.specs.Items.{Item, AreItems, IsOnce, has_flag, operands_of, value_of}
 use Rattle.xdg_command.specs.declared.commands.ArrangeOptions.{ArrangeOptions}
+use Rattle.xdg_command.specs.declared.commands.BestOptions.{BestOptions}
 use Rattle.xdg_command.specs.declared.commands.Command.{Command}
 use Rattle.xdg_command.specs.declared.commands.Command.TheVariants as commands
 use Rattle.xdg_command.specs.declared.commands.CorpusOptions.{CorpusOptions}
+use Rattle.xdg_command.specs.declared.commands.ExplainOptions.{ExplainOptions}
 use Rattle.xdg_command.specs.declared.commands.ParseOptions.{ParseOptions}
 use Rattle.xdg_command.specs.declared.commands.ResumeOptions.{ResumeOptions}
 use Rattle.xdg_command.specs.declared.commands.TextForm.{TextForm}
@@ -52,20 +54,23 @@ HasText (Some text) forms.Two = text ≡ codes "2"
 abbrev pub spelled : Command → List ℕ
 spelled (commands.Parse options) = codes "parse"
 spelled (commands.Resume options) = codes "resume"
-spelled (commands.Explain grammar analysis) = codes "explain"
+spelled (commands.Explain options) = codes "explain"
 spelled (commands.Check grammar) = codes "check"
 spelled (commands.Lexicon grammar) = codes "lexicon"
 spelled (commands.Print grammar) = codes "print"
 spelled (commands.Drill number) = codes "drill"
 spelled (commands.Corpus options) = codes "corpus"
 spelled (commands.Arrange options) = codes "arrange"
+spelled (commands.Best options) = codes "best"
 
 -- the names of a command's options that take a value
 abbrev pub values_of : Command → List (List ℕ)
-values_of (commands.Parse options) = codes "budget" ∷ codes "first" ∷ codes "text" ∷ []
-values_of (commands.Resume options) = codes "budget" ∷ codes "first" ∷ codes "text" ∷ []
+values_of (commands.Parse options) = codes "budget" ∷ codes "first" ∷ codes "text" ∷ codes "rules" ∷ []
+values_of (commands.Resume options) = codes "budget" ∷ codes "first" ∷ codes "text" ∷ codes "rules" ∷ []
+values_of (commands.Explain options) = codes "rules" ∷ []
 values_of (commands.Corpus options) = codes "budget" ∷ codes "first" ∷ []
 values_of (commands.Arrange options) = codes "budget" ∷ []
+values_of (commands.Best options) = codes "budget" ∷ []
 values_of _ = []
 
 -- the names of a command's options that take none
@@ -73,6 +78,7 @@ abbrev pub flags_of : Command → List (List ℕ)
 flags_of (commands.Parse options) = codes "segment" ∷ codes "split" ∷ []
 flags_of (commands.Corpus options) = codes "segment" ∷ []
 flags_of (commands.Arrange options) = codes "segment" ∷ []
+flags_of (commands.Best options) = codes "segment" ∷ []
 flags_of _ = []
 
 -- the items of `parse`
@@ -83,6 +89,7 @@ pub record SaysParse (items : List Item) (options : ParseOptions) : Type 0 where
   pub segment : options.segment ≡ has_flag (codes "segment") items
   pub text : HasText (value_of (codes "text") items) options.text
   pub split : options.split ≡ has_flag (codes "split") items
+  pub rules : options.rules ≡ value_of (codes "rules") items
 
 -- the items of `resume`
 pub record SaysResume (items : List Item) (options : ResumeOptions) : Type 0 where
@@ -90,6 +97,12 @@ pub record SaysResume (items : List Item) (options : ResumeOptions) : Type 0 whe
   pub budget : HasBudget (value_of (codes "budget") items) options.budget
   pub first : HasFirst (value_of (codes "first") items) options.first
   pub text : HasText (value_of (codes "text") items) options.text
+  pub rules : options.rules ≡ value_of (codes "rules") items
+
+-- the items of `explain`
+pub record SaysExplain (items : List Item) (options : ExplainOptions) : Type 0 where
+  pub files : operands_of items ≡ options.grammar ∷ options.analysis ∷ []
+  pub rules : options.rules ≡ value_of (codes "rules") items
 
 -- the items of `drill`: one operand, which writes the number
 pub record SaysDrill (items : List Item) (number : ℕ) : Type 0 where
@@ -110,17 +123,24 @@ pub record SaysArrange (items : List Item) (options : ArrangeOptions) : Type 0 w
   pub budget : HasBudget (value_of (codes "budget") items) options.budget
   pub segment : options.segment ≡ has_flag (codes "segment") items
 
+-- the items of `best`
+pub record SaysBest (items : List Item) (options : BestOptions) : Type 0 where
+  pub files : operands_of items ≡ options.grammar ∷ options.costs ∷ []
+  pub budget : HasBudget (value_of (codes "budget") items) options.budget
+  pub segment : options.segment ≡ has_flag (codes "segment") items
+
 -- the items are the operands and options of the command
 abbrev pub Says : List Item → Command → Type 0
 Says items (commands.Parse options) = SaysParse items options
 Says items (commands.Resume options) = SaysResume items options
-Says items (commands.Explain grammar analysis) = operands_of items ≡ grammar ∷ analysis ∷ []
+Says items (commands.Explain options) = SaysExplain items options
 Says items (commands.Check grammar) = operands_of items ≡ grammar ∷ []
 Says items (commands.Lexicon grammar) = operands_of items ≡ grammar ∷ []
 Says items (commands.Print grammar) = operands_of items ≡ grammar ∷ []
 Says items (commands.Drill number) = SaysDrill items number
 Says items (commands.Corpus options) = SaysCorpus items options
 Says items (commands.Arrange options) = SaysArrange items options
+Says items (commands.Best options) = SaysBest items options
 
 -- The words are the command: its spelling, and then items, each option at most once, that say what it is to do.
 pub record IsCommand (words : List (List ℕ)) (command : Command) : Type 0 where

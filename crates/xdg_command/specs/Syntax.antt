@@ -17,21 +17,23 @@ pub record Table : Type 0 where
 abbrev pub one_file : Table
 one_file = record { operands = codes "grammar" ∷ []; values = []; flags = [] }
 
--- two operands, and no option
-abbrev pub two_files : Table
-two_files = record { operands = codes "grammar" ∷ codes "analysis" ∷ []; values = []; flags = [] }
+abbrev pub explained : Table
+explained = record { operands = codes "grammar" ∷ codes "analysis" ∷ []; values = codes "rules" ∷ []; flags = [] }
 
 abbrev pub parsed : Table
-parsed = record { operands = codes "grammar" ∷ []; values = codes "budget" ∷ codes "first" ∷ codes "text" ∷ []; flags = codes "segment" ∷ codes "split" ∷ [] }
+parsed = record { operands = codes "grammar" ∷ []; values = codes "budget" ∷ codes "first" ∷ codes "text" ∷ codes "rules" ∷ []; flags = codes "segment" ∷ codes "split" ∷ [] }
 
 abbrev pub resumed : Table
-resumed = record { operands = codes "grammar" ∷ codes "analysis" ∷ []; values = codes "budget" ∷ codes "first" ∷ codes "text" ∷ []; flags = [] }
+resumed = record { operands = codes "grammar" ∷ codes "analysis" ∷ []; values = codes "budget" ∷ codes "first" ∷ codes "text" ∷ codes "rules" ∷ []; flags = [] }
 
 abbrev pub corpused : Table
 corpused = record { operands = codes "grammar" ∷ []; values = codes "budget" ∷ codes "first" ∷ []; flags = codes "segment" ∷ [] }
 
 abbrev pub arranged : Table
 arranged = record { operands = codes "grammar" ∷ []; values = codes "budget" ∷ []; flags = codes "segment" ∷ [] }
+
+abbrev pub costed : Table
+costed = record { operands = codes "grammar" ∷ codes "costs" ∷ []; values = codes "budget" ∷ []; flags = codes "segment" ∷ [] }
 
 -- an operand, an option with a value that isn't empty, and an option without value
 abbrev pub operand_arg : List ℕ → Rule

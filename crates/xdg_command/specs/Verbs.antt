@@ -14,4 +14,5 @@ verb_of word =
     (if bytes_eq word (codes "drill") then Some verbs.Drill else
     (if bytes_eq word (codes "corpus") then Some verbs.Corpus else
     (if bytes_eq word (codes "arrange") then Some verbs.Arrange else
-    None))))))))
+    (if bytes_eq word (codes "best") then Some verbs.Best else
+    None)))))))))

@@ -26,6 +26,8 @@ pub struct ParseOptions {
     pub text: TextForm,
     /// Whether the branches of the first word's entries are searched side by side, each with the whole budget.
     pub split: bool,
+    /// The name of the file of further rules, if one is given.
+    pub rules: Option<Text>,
 }
 
 /// What `resume` is asked to do.
@@ -41,6 +43,19 @@ pub struct ResumeOptions {
     pub first: Option<u64>,
     /// The form in which analyses are printed.
     pub text: TextForm,
+    /// The name of the file of further rules, if one is given.
+    pub rules: Option<Text>,
+}
+
+/// What `explain` is asked to do.
+#[derive(Debug, Drop)]
+pub struct ExplainOptions {
+    /// The name of the grammar file.
+    pub grammar: Text,
+    /// The name of the file of the analysis.
+    pub analysis: Text,
+    /// The name of the file of further rules, if one is given.
+    pub rules: Option<Text>,
 }
 
 /// What `corpus` is asked to do.
@@ -67,6 +82,19 @@ pub struct ArrangeOptions {
     pub segment: bool,
 }
 
+/// What `best` is asked to do.
+#[derive(Debug, Drop)]
+pub struct BestOptions {
+    /// The name of the grammar file.
+    pub grammar: Text,
+    /// The name of the costs file.
+    pub costs: Text,
+    /// How many counted prefixes the search may charge, 1 to 1,000,000,000.
+    pub budget: u64,
+    /// Whether words are cut by the Unicode rules of word boundaries.
+    pub segment: bool,
+}
+
 /// A command with its operands and options.
 #[derive(Debug, Drop)]
 pub enum Command {
@@ -75,12 +103,7 @@ pub enum Command {
     /// `resume`: the analyses of a sentence behind a given one.
     Resume(ResumeOptions),
     /// `explain`: which principles of a grammar an analysis keeps.
-    Explain {
-        /// The name of the grammar file.
-        grammar: Text,
-        /// The name of the file of the analysis.
-        analysis: Text,
-    },
+    Explain(ExplainOptions),
     /// `check`: whether a grammar is right, and how much it holds.
     Check {
         /// The name of the grammar file.
@@ -105,4 +128,6 @@ pub enum Command {
     Corpus(CorpusOptions),
     /// `arrange`: the arrangements of the words that the input gives, those that have an analysis, with their analyses.
     Arrange(ArrangeOptions),
+    /// `best`: an analysis of least cost of the sentence that the input gives, and its cost.
+    Best(BestOptions),
 }

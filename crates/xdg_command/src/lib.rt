@@ -7,5 +7,8 @@ mod reading;
 mod syntax;
 mod values;
 
-pub use commands::{ArrangeOptions, Command, CorpusOptions, ParseOptions, ResumeOptions, TextForm};
+pub use commands::{
+    ArrangeOptions, BestOptions, Command, CorpusOptions, ExplainOptions, ParseOptions,
+    ResumeOptions, TextForm,
+};
 pub use reading::command;

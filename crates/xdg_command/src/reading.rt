@@ -1,15 +1,18 @@
 //! Words as commands.
 
-ghost use Rattle.std.specs.Prelude.{◌≡◌, IfOk, map};
+ghost use Rattle.std.specs.Prelude.{◌≡◌, IfOk, map, option_map};
 ghost use Rattle.std.specs.String.{string_bytes};
 ghost use Rattle.xdg_command.specs.Answers.{IsExactly};
 ghost use Rattle.xdg_command.specs.Commands.{IsCommand};
-ghost use Rattle.xdg_command.specs.Readings.{IsArrange, IsCorpus, IsDrill, IsOfVerb, IsOneFile, IsParse, IsResume, IsTwoFiles};
+ghost use Rattle.xdg_command.specs.Readings.{IsArrange, IsBest, IsCorpus, IsDrill, IsExplain, IsOfVerb, IsOneFile, IsParse, IsResume};
 ghost use Rattle.xdg_command.specs.Verbs.{verb_of};
 ghost use Rattle.xdg_command.specs.declared.commands.Command.{Command};
 
 use crate::matching::matches;
-use crate::{ArrangeOptions, Command, CorpusOptions, ParseOptions, ResumeOptions, syntax, values};
+use crate::{
+    ArrangeOptions, BestOptions, Command, CorpusOptions, ExplainOptions, ParseOptions,
+    ResumeOptions, syntax, values,
+};
 use std::alloc::Global;
 use xdg_base::{OutOfMemory, Text};
 
@@ -25,13 +28,17 @@ enum Verb {
     Drill,
     Corpus,
     Arrange,
+    Best,
 }
 
-/// The operands of `explain`.
-#[derive(Debug, Drop)]
-struct Files {
-    grammar: Text,
-    analysis: Text,
+/// The name of a file, if one is given.
+fn file_name(alloc: Global, given: Option<&str>) -> Result<Option<Text>, OutOfMemory>
+    ensures { IfOk result (λ name. name ≡ option_map (λ text. text.now) given.entry) }
+{
+    match given {
+        Some(name) => Ok(Some(Text::from_str(alloc, name)?)),
+        None => Ok(None),
+    }
 }
 
 /// The one operand of words without options.
@@ -47,11 +54,11 @@ fn one_file(alloc: Global, words: &[String]) -> Result<Option<Text>, OutOfMemory
     Ok(Some(Text::from_str(alloc, grammar)?))
 }
 
-/// The two operands of words without options.
-fn two_files(alloc: Global, words: &[String]) -> Result<Option<Files>, OutOfMemory>
-    ensures { IfOk result (IsExactly (IsTwoFiles (map string_bytes words.now))) }
+/// The operands and the option of `explain`.
+fn explain(alloc: Global, words: &[String]) -> Result<Option<ExplainOptions>, OutOfMemory>
+    ensures { IfOk result (IsExactly (IsExplain (map string_bytes words.now))) }
 {
-    let Some(found) = matches(syntax::two_files(alloc)?, words)? else {
+    let Some(found) = matches(syntax::explain(alloc)?, words)? else {
         return Ok(None);
     };
     let Some(grammar) = found.get_str("grammar") else {
@@ -62,7 +69,12 @@ fn two_files(alloc: Global, words: &[String]) -> Result<Option<Files>, OutOfMemo
     };
     let grammar = Text::from_str(alloc, grammar)?;
     let analysis = Text::from_str(alloc, analysis)?;
-    Ok(Some(Files { grammar, analysis }))
+    let rules = file_name(alloc, found.get_str("rules"))?;
+    Ok(Some(ExplainOptions {
+        grammar,
+        analysis,
+        rules,
+    }))
 }
 
 /// The number that is the one operand of words without options.
@@ -97,6 +109,7 @@ fn parse(alloc: Global, words: &[String]) -> Result<Option<ParseOptions>, OutOfM
     let grammar = Text::from_str(alloc, grammar)?;
     let segment = found.get_flag("segment");
     let split = found.get_flag("split");
+    let rules = file_name(alloc, found.get_str("rules"))?;
     Ok(Some(ParseOptions {
         grammar,
         budget,
@@ -104,6 +117,7 @@ fn parse(alloc: Global, words: &[String]) -> Result<Option<ParseOptions>, OutOfM
         segment,
         text,
         split,
+        rules,
     }))
 }
 
@@ -131,12 +145,14 @@ fn resume(alloc: Global, words: &[String]) -> Result<Option<ResumeOptions>, OutO
     };
     let grammar = Text::from_str(alloc, grammar)?;
     let analysis = Text::from_str(alloc, analysis)?;
+    let rules = file_name(alloc, found.get_str("rules"))?;
     Ok(Some(ResumeOptions {
         grammar,
         analysis,
         budget,
         first,
         text,
+        rules,
     }))
 }
 
@@ -188,6 +204,33 @@ fn arrange(alloc: Global, words: &[String]) -> Result<Option<ArrangeOptions>, Ou
     }))
 }
 
+/// The operands and the options of `best`.
+fn best(alloc: Global, words: &[String]) -> Result<Option<BestOptions>, OutOfMemory>
+    ensures { IfOk result (IsExactly (IsBest (map string_bytes words.now))) }
+{
+    let Some(found) = matches(syntax::best(alloc)?, words)? else {
+        return Ok(None);
+    };
+    let Some(grammar) = found.get_str("grammar") else {
+        return Ok(None);
+    };
+    let Some(costs) = found.get_str("costs") else {
+        return Ok(None);
+    };
+    let Some(budget) = values::budget(found.get_str("budget")) else {
+        return Ok(None);
+    };
+    let grammar = Text::from_str(alloc, grammar)?;
+    let costs = Text::from_str(alloc, costs)?;
+    let segment = found.get_flag("segment");
+    Ok(Some(BestOptions {
+        grammar,
+        costs,
+        budget,
+        segment,
+    }))
+}
+
 /// The command that a word spells.
 #[tactic(auto, unfolding(crate::specs::Verbs::verb_of))]
 fn verb_of(word: &str) -> Option<Verb>
@@ -203,6 +246,7 @@ fn verb_of(word: &str) -> Option<Verb>
         "drill" => Some(Verb::Drill),
         "corpus" => Some(Verb::Corpus),
         "arrange" => Some(Verb::Arrange),
+        "best" => Some(Verb::Best),
         _ => None,
     }
 }
@@ -220,8 +264,8 @@ fn with_name(alloc: Global, verb: Verb, words: &[String]) -> Result<Option<Comma
             Some(options) => Ok(Some(Command::Resume(options))),
             None => Ok(None),
         },
-        Verb::Explain => match two_files(alloc, words)? {
-            Some(Files { grammar, analysis }) => Ok(Some(Command::Explain { grammar, analysis })),
+        Verb::Explain => match explain(alloc, words)? {
+            Some(options) => Ok(Some(Command::Explain(options))),
             None => Ok(None),
         },
         Verb::Check => match one_file(alloc, words)? {
@@ -246,6 +290,10 @@ fn with_name(alloc: Global, verb: Verb, words: &[String]) -> Result<Option<Comma
         },
         Verb::Arrange => match arrange(alloc, words)? {
             Some(options) => Ok(Some(Command::Arrange(options))),
+            None => Ok(None),
+        },
+        Verb::Best => match best(alloc, words)? {
+            Some(options) => Ok(Some(Command::Best(options))),
             None => Ok(None),
         },
     }

@@ -3,7 +3,7 @@
 ghost use Rattle.std.specs.Prelude.{◌≡◌, IfOk, codes, false};
 ghost use Rattle.clap.specs.Walk.{rule_of};
 ghost use Rattle.clap.specs.Simple.{app_of};
-ghost use Rattle.xdg_command.specs.Syntax.{app_in, arranged, bare, corpused, flag_arg, one_file, operand_arg, parsed, resumed, two_files, value_arg};
+ghost use Rattle.xdg_command.specs.Syntax.{app_in, arranged, bare, corpused, costed, explained, flag_arg, one_file, operand_arg, parsed, resumed, value_arg};
 
 use clap::builder::ValueParser;
 use clap::{Arg, ArgAction, Command};
@@ -54,13 +54,14 @@ pub(crate) fn one_file<'a>(alloc: Global) -> Result<Command<'a>, AllocError>
     bare(alloc).arg(operand(alloc, "grammar"))
 }
 
-/// Two operands, the grammar file and the file of an analysis.
-pub(crate) fn two_files<'a>(alloc: Global) -> Result<Command<'a>, AllocError>
-    ensures { IfOk result (λ made. app_of made ≡ app_in two_files) }
+/// The grammar file, the file of an analysis, and the option of `explain`.
+pub(crate) fn explain<'a>(alloc: Global) -> Result<Command<'a>, AllocError>
+    ensures { IfOk result (λ made. app_of made ≡ app_in explained) }
 {
     bare(alloc)
         .arg(operand(alloc, "grammar"))?
-        .arg(operand(alloc, "analysis"))
+        .arg(operand(alloc, "analysis"))?
+        .arg(option_with_value(alloc, "rules"))
 }
 
 /// The grammar file and the options of `parse`.
@@ -72,6 +73,7 @@ pub(crate) fn parse<'a>(alloc: Global) -> Result<Command<'a>, AllocError>
         .arg(option_with_value(alloc, "budget"))?
         .arg(option_with_value(alloc, "first"))?
         .arg(option_with_value(alloc, "text"))?
+        .arg(option_with_value(alloc, "rules"))?
         .arg(flag(alloc, "segment"))?
         .arg(flag(alloc, "split"))
 }
@@ -97,6 +99,17 @@ pub(crate) fn arrange<'a>(alloc: Global) -> Result<Command<'a>, AllocError>
         .arg(flag(alloc, "segment"))
 }
 
+/// The grammar file, the costs file, and the options of `best`.
+pub(crate) fn best<'a>(alloc: Global) -> Result<Command<'a>, AllocError>
+    ensures { IfOk result (λ made. app_of made ≡ app_in costed) }
+{
+    bare(alloc)
+        .arg(operand(alloc, "grammar"))?
+        .arg(operand(alloc, "costs"))?
+        .arg(option_with_value(alloc, "budget"))?
+        .arg(flag(alloc, "segment"))
+}
+
 /// The grammar file, the file of an analysis, and the options of `resume`.
 pub(crate) fn resume<'a>(alloc: Global) -> Result<Command<'a>, AllocError>
     ensures { IfOk result (λ made. app_of made ≡ app_in resumed) }
@@ -106,5 +119,6 @@ pub(crate) fn resume<'a>(alloc: Global) -> Result<Command<'a>, AllocError>
         .arg(operand(alloc, "analysis"))?
         .arg(option_with_value(alloc, "budget"))?
         .arg(option_with_value(alloc, "first"))?
-        .arg(option_with_value(alloc, "text"))
+        .arg(option_with_value(alloc, "text"))?
+        .arg(option_with_value(alloc, "rules"))
 }

@@ -50,6 +50,7 @@ returns c =
       segment = c.get_flag-segment.result;
       text = c.in-Some-text_form.text;
       split = c.get_flag-split.result;
+      rules = c.in_ok-rules.rules;
     } in
     parse_found words c.in-Some.found matched options
     (sym c.in-Some-get_str.ensures ∙ ap (λ x. Some x) (sym c.in_ok-grammar.ensures))
@@ -58,3 +59,4 @@ returns c =
     (subst (λ o. IsExactly (HasText o) (Some options.text)) c.get_str-4.ensures c.in-Some-text_form.ensures)
     (segment_found words c.in-Some.found matched options.segment c.get_flag-segment.ensures.value c.get_flag-segment.ensures.other)
     (split_found words c.in-Some.found matched options.split c.get_flag-split.ensures.value c.get_flag-split.ensures.other)
+    (c.in_ok-rules.ensures ∙ c.get_str-5.ensures)

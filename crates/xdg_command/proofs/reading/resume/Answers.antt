@@ -55,6 +55,7 @@ returns c =
       budget = c.in-Some-budget.budget;
       first = c.in-Some-first.first;
       text = c.in-Some-text_form.text;
+      rules = c.in_ok-rules.rules;
     } in
     resume_found words c.in-Some.found matched options
     (sym c.in-Some-get_str.ensures ∙ ap (λ x. Some x) (sym c.in_ok-grammar.ensures))
@@ -62,3 +63,4 @@ returns c =
     (subst (λ o. IsExactly (HasBudget o) (Some options.budget)) c.get_str-3.ensures c.in-Some-budget.ensures)
     (subst (λ o. IsExactly (HasFirst o) (Some options.first)) c.get_str-4.ensures c.in-Some-first.ensures)
     (subst (λ o. IsExactly (HasText o) (Some options.text)) c.get_str-5.ensures c.in-Some-text_form.ensures)
+    (c.in_ok-rules.ensures ∙ c.get_str-6.ensures)

@@ -9,5 +9,6 @@ returns c =
     let budget = c.in_ok-arg-2.ensures.shape c.option_with_value.ensures.local ∙ ap₂ with_rule grammar c.option_with_value.ensures.rule in
     let first = c.in_ok-arg-3.ensures.shape c.option_with_value-2.ensures.local ∙ ap₂ with_rule budget c.option_with_value-2.ensures.rule in
     let text = c.in_ok-arg-4.ensures.shape c.option_with_value-3.ensures.local ∙ ap₂ with_rule first c.option_with_value-3.ensures.rule in
-    let segment = c.in_ok-arg-5.ensures.shape c.flag.ensures.local ∙ ap₂ with_rule text c.flag.ensures.rule in
-    IfOk-weaker c.arg-6.result _ _ (λ made added. added.shape c.flag-2.ensures.local ∙ ap₂ with_rule segment c.flag-2.ensures.rule) c.arg-6.ensures
+    let rules = c.in_ok-arg-5.ensures.shape c.option_with_value-4.ensures.local ∙ ap₂ with_rule text c.option_with_value-4.ensures.rule in
+    let segment = c.in_ok-arg-6.ensures.shape c.flag.ensures.local ∙ ap₂ with_rule rules c.flag.ensures.rule in
+    IfOk-weaker c.arg-7.result _ _ (λ made added. added.shape c.flag-2.ensures.local ∙ ap₂ with_rule segment c.flag-2.ensures.rule) c.arg-7.ensures

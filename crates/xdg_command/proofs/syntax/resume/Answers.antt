@@ -9,4 +9,5 @@ returns c =
     let analysis = c.in_ok-arg-2.ensures.shape c.operand-2.ensures.local ∙ ap₂ with_rule grammar c.operand-2.ensures.rule in
     let budget = c.in_ok-arg-3.ensures.shape c.option_with_value.ensures.local ∙ ap₂ with_rule analysis c.option_with_value.ensures.rule in
     let first = c.in_ok-arg-4.ensures.shape c.option_with_value-2.ensures.local ∙ ap₂ with_rule budget c.option_with_value-2.ensures.rule in
-    IfOk-weaker c.arg-5.result _ _ (λ made added. added.shape c.option_with_value-3.ensures.local ∙ ap₂ with_rule first c.option_with_value-3.ensures.rule) c.arg-5.ensures
+    let text = c.in_ok-arg-5.ensures.shape c.option_with_value-3.ensures.local ∙ ap₂ with_rule first c.option_with_value-3.ensures.rule in
+    IfOk-weaker c.arg-6.result _ _ (λ made added. added.shape c.option_with_value-4.ensures.local ∙ ap₂ with_rule text c.option_with_value-4.ensures.rule) c.arg-6.ensures
