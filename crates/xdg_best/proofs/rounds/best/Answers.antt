@@ -10,7 +10,7 @@ returns-in_err-analysis-clause-one g c = one_answer c.args.problem.now c.args.co
 pub rounds-preserved : goal.rounds-preserved
 rounds-preserved g c =
     going_on c.args.problem.now c.args.costs.now c.args.budget (bound_laws c.args.problem.now c.args.costs.now c.parts-parts.ensures.kept) c.rounds.found c.rounds.cost c.rounds.left c.rounds.invariant c.in-Found.analysis c.in-Found.charged
-    (round_as c.args.problem.now c.args.costs.now _ c.rounds.found c.rounds.left _ (rounds.Found c.in-Found.analysis c.in-Found.charged) c.as_ref.ensures.value c.in-Found.is c.in_ok-analysis.ensures) _ c.cost_of.ensures
+    (round_as c.args.problem.now c.args.costs.now _ c.rounds.found c.rounds.left _ (rounds.Found c.in-Found.analysis c.in-Found.charged) c.as_ref.ensures.value c.in-Found.is c.in_ok-analysis.ensures) _ c.cost_of-cost.ensures
 
 pub returns-in-End-clause-answers : goal.returns-in-End-clause-answers
 returns-in-End-clause-answers g c =
