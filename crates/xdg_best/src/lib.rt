@@ -1,0 +1,7 @@
+//! The cheapest analysis of a sentence.
+#![tactic(auto)]
+
+mod rounds;
+mod searching;
+
+pub use rounds::{BestAnswer, best};

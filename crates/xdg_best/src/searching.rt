@@ -1,0 +1,86 @@
+//! The first solution of a problem behind a start.
+
+ghost use Rattle.std.specs.Prelude.{◌≡◌, ◌↔◌, List, [], None, Result, IfOk};
+ghost use Rattle.std.specs.Fn.{FnReturnsAt};
+ghost use Rattle.std.specs.Option.{option_copied};
+ghost use Rattle.xdg_base.specs.declared.faults.OutOfMemory.{OutOfMemory};
+ghost use Rattle.xdg_best.specs.Searches.{IsRound};
+ghost use Rattle.xdg_problem.specs.declared.parts.Parts.{Parts};
+ghost use Rattle.xdg_problem.specs.Problems.{IsProblem};
+ghost use Rattle.xdg_problem.specs.Vectors.{analysis_of};
+ghost use Rattle.xdg_propcore.specs.Uses.{AllStandIn};
+ghost use Rattle.xdg_stream.specs.Streamed.{IsCharged, IsStart, start_vector};
+
+use std::alloc::{AllocError, Global};
+use xdg_base::{List, OutOfMemory};
+use xdg_problem::{Analysis, Problem};
+use xdg_propcore::Propagator;
+use xdg_stream::{Step, Stream};
+
+/// What the search of one round came to.
+#[derive(Drop)]
+pub(crate) enum Round {
+    /// A solution, the first, and how many boxed prefixes were charged up to it.
+    Found(Analysis, u64),
+    /// There is none.
+    End,
+    /// The budget was spent before one.
+    Spent,
+}
+
+/// The analysis that a stream found last, in memory of its own.
+fn last_analysis<P: Propagator>(
+    alloc: Global,
+    stream: &Stream<'_, P>,
+) -> Result<Analysis, AllocError>
+    ensures { IfOk result (λ made. made ≡ analysis_of stream.now.parts stream.now.last) }
+{
+    let entries = List::from_slice(alloc, stream.entries())?;
+    let attrs = List::from_slice(alloc, stream.attrs())?;
+    let edges = List::from_slice(alloc, stream.edges())?;
+    Ok(Analysis {
+        entries,
+        attrs,
+        edges,
+    })
+}
+
+/// The first solution of a stream that has just started.
+fn first_of<P: Propagator>(alloc: Global, stream: &mut Stream<'_, P>) -> Result<Round, OutOfMemory>
+    requires parts { IsProblem stream.old.parts }
+    requires begun { stream.old.last ≡ stream.old.start }
+    requires charged { IsCharged stream.old [] }
+    ensures { IfOk result (IsRound stream.old.parts stream.old.start stream.old.budget) }
+{
+    match stream.advance() {
+        Step::Found => {
+            let analysis = last_analysis(alloc, stream)?;
+            Ok(Round::Found(analysis, stream.charged()))
+        }
+        Step::End => Ok(Round::End),
+        Step::Spent => Ok(Round::Spent),
+    }
+}
+
+/// The first solution behind a start, within a budget. What `make` makes are the propagators of the problem.
+///
+/// # Errors
+///
+/// Fails where memory runs out.
+pub(crate) fn search<P: Propagator, F: Fn(&Problem) -> Result<List<P>, OutOfMemory>>(
+    alloc: Global,
+    problem: &Problem,
+    start: Option<&Analysis>,
+    budget: u64,
+    make: &F,
+) -> Result<Round, OutOfMemory>
+    requires calls { F.IsAlwaysCallable make.now }
+    requires stand { (parts : Parts) (made : Result (List P) OutOfMemory) → FnReturnsAt F.Fn make.now parts made → IfOk made (λ props. AllStandIn P.stands props parts) }
+    requires fits { IsStart problem.now (option_copied start) }
+    ensures { IfOk result (IsRound problem.now (start_vector problem.now (option_copied start.entry)) budget) }
+{
+    let _parts = problem.parts();
+    let props = make(problem)?;
+    let mut stream = Stream::start(alloc, problem, props.as_slice(), budget, start)?;
+    first_of(alloc, &mut stream)
+}

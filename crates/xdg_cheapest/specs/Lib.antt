@@ -1,0 +1,4 @@
+pub mod Texts
+pub mod Costed
+pub mod Outcomes
+pub mod Runs
