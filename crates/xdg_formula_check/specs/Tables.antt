@@ -1,0 +1,32 @@
+-- What rules ask of a table of types: its used dimensions, and in them labels, attributes and features.
+use Rattle.std.specs.Prelude.{ℕ, List, [], ◌∷◌, flat_map, Option, Some, None, if◌then◌else◌, bytes_eq, slice_get}
+use Rattle.xdg_domain.specs.declared.types.Ty.{Ty}
+use Rattle.xdg_domain.specs.Shapes.{Shape, domain, tuple, set, iset}
+use Rattle.xdg_types.specs.declared.table.DimType.{DimType}
+use Rattle.xdg_types.specs.Table.{Table}
+
+abbrev pub one_or_none : {A : Type 0} → Option A → List A
+one_or_none None = []
+one_or_none (Some x) = x ∷ []
+
+-- the used dimensions, in the order of their uses
+abbrev pub used_dims : Table → List DimType
+used_dims table = flat_map (λ place. one_or_none (slice_get table.dims place)) table.used
+
+-- the dimension of that name
+abbrev pub dim_named : List DimType → List ℕ → Option DimType
+dim_named [] name = None
+dim_named (dim ∷ dims) name = if bytes_eq dim.name name then Some dim else dim_named dims name
+
+-- the type of that name, of an attribute or a feature
+abbrev pub type_named : List (List ℕ × Ty) → List ℕ → Option Ty
+type_named [] name = None
+type_named (one ∷ more) name = if bytes_eq one.0 name then Some one.1 else type_named more name
+
+-- of what type a value is that a feature of a type may have, or may have as a member; features of other types have none
+abbrev pub member_shape : Shape → Option Shape
+member_shape (domain constants) = Some (domain constants)
+member_shape (tuple domains) = Some (tuple domains)
+member_shape (set member) = Some member
+member_shape (iset member) = Some member
+member_shape _ = None
