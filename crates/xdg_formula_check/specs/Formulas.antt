@@ -1,9 +1,9 @@
 -- What is wrong with rules where a table of types is given: a line for each thing that may be wrong.
-use Rattle.std.specs.Prelude.{ℕ, suc, ◌==◌, List, [], ◌∷◌, ◌++◌, length, map, flat_map, Option, Some, None, if◌then◌else◌}
+use Rattle.std.specs.Prelude.{ℕ, ◌==◌, List, [], ◌∷◌, ◌++◌, length, map, slice_get, Option, Some, None, if◌then◌else◌}
+use Rattle.std.specs.List.{flat_map}
 use Rattle.xdg_base.specs.declared.faults.Cause.TheVariants as causes
 use Rattle.xdg_base.specs.declared.faults.Fault.{Fault}
 use Rattle.xdg_ast.specs.declared.names.Name.{Name}
-use Rattle.xdg_ast.specs.declared.names.Spanned.{Spanned}
 use Rattle.xdg_domain.specs.declared.types.Ty.{Ty}
 use Rattle.xdg_domain.specs.Shapes.{Shape, shape}
 use Rattle.xdg_terms.specs.Faults.{has, missing, all_twice, faults}
@@ -12,9 +12,8 @@ use Rattle.xdg_terms.specs.Offences.{fault_at}
 use Rattle.xdg_types.specs.declared.table.DimType.{DimType}
 use Rattle.xdg_types.specs.Table.{Table}
 use Rattle.xdg_formula_text.specs.declared.tree.Rule.{Rule}
-use Rattle.xdg_formula_text.specs.declared.tree.RuleKind.{RuleKind}
-use Rattle.xdg_formula_text.specs.declared.tree.RuleKind.TheOpen.{RuleKind-F}
-use Rattle.xdg_formula_text.specs.declared.tree.RuleKind.TheFolds.{fold-RuleKind}
+use Rattle.xdg_formula_text.specs.Rules.{RuleTerm}
+use Rattle.xdg_formula_text.specs.Written.{Tree, negation, conjunction, disjunction, every, any, edge, above, left, same, attr, feat, Trees, no_tree, tree_then, tree}
 use Rattle.xdg_formula_check.specs.Tables.{used_dims, dim_named, type_named, member_shape}
 
 -- ---- names
@@ -26,6 +25,10 @@ Bound = List (List ℕ)
 -- a node that isn't bound
 abbrev pub unbound : Bound → Name → List Fault
 unbound bound node = missing causes.UnknownName bound node
+
+-- one of two
+abbrev pub unbound_nodes : Bound → Name → Name → List Fault
+unbound_nodes bound one other = unbound bound one ++ unbound bound other
 
 -- what is looked for under a name: where there is no such thing, the name is unknown
 abbrev pub under_name : {A : Type 0} → Name → Option A → (A → List Fault) → List Fault
@@ -59,13 +62,21 @@ edge_faults dims dim label = in_dim dims dim (λ found. missing causes.NotMember
 abbrev pub dim_faults : List DimType → Name → List Fault
 dim_faults dims dim = in_dim dims dim (λ found. [])
 
+-- an attribute among these, and a value of it
+abbrev pub attribute_faults : List (List ℕ × Ty) → Name → Term → List Fault
+attribute_faults attrs attribute value = under_name attribute (type_named attrs attribute.text) (λ (type : Ty). value_faults (shape type) value)
+
 -- a dimension, an attribute of it, and a value of that
 abbrev pub attr_faults : List DimType → Name → Name → Term → List Fault
-attr_faults dims dim attr value = in_dim dims dim (λ found. under_name attr (type_named found.attrs attr.text) (λ type. value_faults (shape type) value))
+attr_faults dims dim attribute value = in_dim dims dim (λ found. attribute_faults found.attrs attribute value)
+
+-- a feature among these, and a value of it
+abbrev pub field_faults : List (List ℕ × Ty) → Name → Term → List Fault
+field_faults fields feature value = under_name feature (type_named fields feature.text) (λ (type : Ty). feature_faults feature value (shape type))
 
 -- a dimension, a feature of it, and a value of that
 abbrev pub feat_faults : List DimType → Name → Name → Term → List Fault
-feat_faults dims dim feature value = in_dim dims dim (λ found. under_name feature (type_named found.fields feature.text) (λ type. feature_faults feature value (shape type)))
+feat_faults dims dim feature value = in_dim dims dim (λ found. field_faults found.fields feature value)
 
 -- ---- quantifiers
 
@@ -86,35 +97,28 @@ binding_faults bound place name = nested bound place ++ bound_again bound name
 
 -- ---- formulas
 
--- what is wrong with a formula that stands at a place, where these names are bound
-abbrev pub Said : Type 0
-Said = ℕ → Bound → List Fault
+abbrev mutual
+  -- what is wrong with a formula that stands at a place, where these names are bound
+  pub faults_in : List DimType → Bound → ℕ → Tree → List Fault
+  faults_in dims bound place (negation signs at t) = faults_in dims bound at t
+  faults_in dims bound place (conjunction ts) = faults_each dims bound ts
+  faults_in dims bound place (disjunction ts) = faults_each dims bound ts
+  faults_in dims bound place (every name at t) = binding_faults bound place name ++ faults_in dims (bound ++ name.text ∷ []) at t
+  faults_in dims bound place (any name at t) = binding_faults bound place name ++ faults_in dims (bound ++ name.text ∷ []) at t
+  faults_in dims bound place (edge dim mother label daughter) = edge_faults dims dim label ++ unbound_nodes bound mother daughter
+  faults_in dims bound place (above dim upper lower) = dim_faults dims dim ++ unbound_nodes bound upper lower
+  faults_in dims bound place (left first second) = unbound_nodes bound first second
+  faults_in dims bound place (same first second) = unbound_nodes bound first second
+  faults_in dims bound place (attr node dim attribute value) = unbound bound node ++ attr_faults dims dim attribute value
+  faults_in dims bound place (feat node dim feature value) = unbound bound node ++ feat_faults dims dim feature value
 
-abbrev pub said : Bound → Spanned Said → List Fault
-said bound term = term.kind term.span.start bound
-
-abbrev pub quantified : Name → Spanned Said → Said
-quantified name body place bound = binding_faults bound place name ++ said (bound ++ name.text ∷ []) body
-
-abbrev pub step : List DimType → RuleKind-F Said → Said
-step dims (RuleKind-F.Or members) place bound = flat_map (said bound) members
-step dims (RuleKind-F.And members) place bound = flat_map (said bound) members
-step dims (RuleKind-F.Not signs body) place bound = said bound body
-step dims (RuleKind-F.Every name body) place bound = quantified name body place bound
-step dims (RuleKind-F.Any name body) place bound = quantified name body place bound
-step dims (RuleKind-F.Edge dim mother label daughter) place bound = edge_faults dims dim label ++ (unbound bound mother ++ unbound bound daughter)
-step dims (RuleKind-F.Above dim upper lower) place bound = dim_faults dims dim ++ (unbound bound upper ++ unbound bound lower)
-step dims (RuleKind-F.Left first second) place bound = unbound bound first ++ unbound bound second
-step dims (RuleKind-F.Same first second) place bound = unbound bound first ++ unbound bound second
-step dims (RuleKind-F.Attr node dim attr value) place bound = unbound bound node ++ attr_faults dims dim attr value
-step dims (RuleKind-F.Feat node dim feature value) place bound = unbound bound node ++ feat_faults dims dim feature value
-
-abbrev pub kind_faults : List DimType → Bound → ℕ → RuleKind → List Fault
-kind_faults dims bound place kind = fold-RuleKind Said (step dims) kind place bound
+  pub faults_each : List DimType → Bound → Trees → List Fault
+  faults_each dims bound no_tree = []
+  faults_each dims bound (tree_then at t ts) = faults_in dims bound at t ++ faults_each dims bound ts
 
 -- what is wrong with a formula
-abbrev pub formula_faults : List DimType → Bound → Spanned RuleKind → List Fault
-formula_faults dims bound term = kind_faults dims bound term.span.start term.kind
+abbrev pub formula_faults : List DimType → Bound → RuleTerm → List Fault
+formula_faults dims bound term = faults_in dims bound term.span.start (tree term.kind)
 
 -- ---- rules
 
@@ -123,11 +127,14 @@ abbrev pub most_rules : ℕ
 most_rules = 32
 
 -- the rule behind the greatest number of them is one too many
-abbrev pub too_many : ℕ → List Rule → List Fault
-too_many k [] = []
-too_many k (rule ∷ rules) = if k == most_rules then record { cause = causes.TooManyRules; at = rule.at; reached = 33 } ∷ [] else too_many (suc k) rules
+abbrev pub too_many : Option Rule → List Fault
+too_many None = []
+too_many (Some rule) = record { cause = causes.TooManyRules; at = rule.at; reached = 33 } ∷ []
+
+abbrev pub names_of : List Rule → List Name
+names_of rules = map (λ rule. rule.name) rules
 
 -- what is wrong with rules
 abbrev pub rules_faults : Table → List Rule → List Fault
 rules_faults table rules =
-    too_many 0 rules ++ (all_twice [] (map (λ rule. rule.name) rules) ++ flat_map (λ rule. formula_faults (used_dims table) [] rule.body) rules)
+    too_many (slice_get rules most_rules) ++ (all_twice [] (names_of rules) ++ flat_map (λ rule. formula_faults (used_dims table) [] rule.body) rules)

@@ -1,5 +1,6 @@
 -- What rules ask of a table of types: its used dimensions, and in them labels, attributes and features.
-use Rattle.std.specs.Prelude.{ℕ, List, [], ◌∷◌, flat_map, Option, Some, None, if◌then◌else◌, bytes_eq, slice_get}
+use Rattle.std.specs.Prelude.{ℕ, List, [], ◌∷◌, Option, Some, None, if◌then◌else◌, bytes_eq, slice_get}
+use Rattle.std.specs.List.{flat_map}
 use Rattle.xdg_domain.specs.declared.types.Ty.{Ty}
 use Rattle.xdg_domain.specs.Shapes.{Shape, domain, tuple, set, iset}
 use Rattle.xdg_types.specs.declared.table.DimType.{DimType}
@@ -9,9 +10,13 @@ abbrev pub one_or_none : {A : Type 0} → Option A → List A
 one_or_none None = []
 one_or_none (Some x) = x ∷ []
 
+-- the dimensions with these places, in their order
+abbrev pub dims_at : List DimType → List ℕ → List DimType
+dims_at dims used = flat_map (λ place. one_or_none (slice_get dims place)) used
+
 -- the used dimensions, in the order of their uses
 abbrev pub used_dims : Table → List DimType
-used_dims table = flat_map (λ place. one_or_none (slice_get table.dims place)) table.used
+used_dims table = dims_at table.dims table.used
 
 -- the dimension of that name
 abbrev pub dim_named : List DimType → List ℕ → Option DimType

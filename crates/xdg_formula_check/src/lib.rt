@@ -3,6 +3,10 @@
 
 mod atoms;
 mod checking;
+mod faults;
+mod formulas;
+mod scopes;
 mod tables;
 
 pub use checking::check_rules;
+pub use scopes::bind;
