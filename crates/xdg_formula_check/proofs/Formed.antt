@@ -39,9 +39,9 @@ module _ (dims : List DimType) (bound : Bound) (place : ℕ) (kind : RuleKind) w
   told_and members items found is same told =
       by_form (r.And members) _ _ found is (tree_and members) (each_listed dims bound members) (told ∙ ap (λ ms. first (flat_map (formula_faults dims bound) ms)) same)
 
-  pub told_not : (signs : List Span) (body item : RuleTerm) (found : Option Fault) → kind ≡ r.Not signs body → item ≡ body → found ≡ first (formula_faults dims bound item) → found ≡ first (faults_in dims bound place (tree kind))
-  told_not signs body item found is same told =
-      by_form (r.Not signs body) _ _ found is (tree_not signs body) refl (told ∙ ap (λ term. first (formula_faults dims bound term)) same)
+  pub faults_not : (signs : List Span) (body item : RuleTerm) → kind ≡ r.Not signs body → item ≡ body → formula_faults dims bound item ≡ faults_in dims bound place (tree kind)
+  faults_not signs body item is same =
+      ap (formula_faults dims bound) same ∙ ap (faults_in dims bound place) (sym (tree_not signs body)) ∙ ap (λ k. faults_in dims bound place (tree k)) (sym is)
 
   -- the names that are bound inside a quantifier
   inside : (scope : Bound) (name : Name) (body item : RuleTerm) (b : Option Fault) → item ≡ body → scope ≡ bound ++ name.text ∷ [] → b ≡ first (formula_faults dims scope item) → b ≡ first (formula_faults dims (bound ++ name.text ∷ []) body)

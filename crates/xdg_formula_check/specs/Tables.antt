@@ -1,18 +1,16 @@
 -- What rules ask of a table of types: its used dimensions, and in them labels, attributes and features.
-use Rattle.std.specs.Prelude.{ℕ, List, [], ◌∷◌, Option, Some, None, if◌then◌else◌, bytes_eq, slice_get}
-use Rattle.std.specs.List.{flat_map}
+use Rattle.std.specs.Prelude.{ℕ, List, [], ◌∷◌, get_or, map, Option, Some, None, if◌then◌else◌, bytes_eq}
 use Rattle.xdg_domain.specs.declared.types.Ty.{Ty}
 use Rattle.xdg_domain.specs.Shapes.{Shape, domain, tuple, set, iset}
 use Rattle.xdg_types.specs.declared.table.DimType.{DimType}
 use Rattle.xdg_types.specs.Table.{Table}
 
-abbrev pub one_or_none : {A : Type 0} → Option A → List A
-one_or_none None = []
-one_or_none (Some x) = x ∷ []
+abbrev pub no_dim : DimType
+no_dim = record { name = []; labels = []; attrs = []; fields = [] }
 
 -- the dimensions with these places, in their order
 abbrev pub dims_at : List DimType → List ℕ → List DimType
-dims_at dims used = flat_map (λ place. one_or_none (slice_get dims place)) used
+dims_at dims places = map (λ k. get_or dims k no_dim) places
 
 -- the used dimensions, in the order of their uses
 abbrev pub used_dims : Table → List DimType

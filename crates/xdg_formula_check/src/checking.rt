@@ -1,10 +1,11 @@
 //! The first fault of rules.
 
-ghost use Rattle.std.specs.Prelude.{◌≡◌, [], slice_get, IfOk};
+ghost use Rattle.std.specs.Prelude.{◌≡◌, [], Option, slice_get, IfOk};
 ghost use Rattle.std.specs.List.{flat_map};
+ghost use Rattle.xdg_base.specs.declared.faults.Fault as faults;
 ghost use Rattle.xdg_faults.specs.First.{first};
 ghost use Rattle.xdg_terms.specs.Faults.{all_twice, has, texts_of, twice};
-ghost use Rattle.xdg_formula_check.specs.Answers.{Tells};
+ghost use Rattle.xdg_formula_check.specs.Answers.{Gives, IsAnswer, Tells};
 ghost use Rattle.xdg_formula_check.specs.Formulas as spec;
 ghost use Rattle.xdg_formula_check.specs.Tables.{used_dims};
 
@@ -31,6 +32,7 @@ fn has_name(rules: &[Rule], name: &str) -> bool
 }
 
 /// The name of a rule that a rule before has too.
+#[tactic(auto, unfolding(xdg_terms::specs::Faults::twice))]
 fn check_name(before: &[Rule], rule: &Rule) -> Option<Fault>
     ensures { result ≡ first (twice (spec.names_of before.now) rule.now.name) }
 {
@@ -107,11 +109,15 @@ fn check_all(alloc: Global, types: &TypeTable, rules: &[Rule]) -> Result<Option<
 ///
 /// Or want of memory.
 pub fn check_rules(alloc: Global, rules: &Rules, types: &TypeTable) -> Result<(), Stop>
-    ensures { Tells types.now rules.now.rules result }
+    ensures tells { Tells types.now rules.now.rules result }
+    ensures only { (answer : Option faults.Fault) → IsAnswer types.now rules.now.rules answer → Gives answer result }
 {
-    match check_all(alloc, types, rules.rules.as_slice()) {
-        Err(_) => Err(Stop::OutOfMemory),
-        Ok(None) => Ok(()),
-        Ok(Some(fault)) => Err(Stop::Fault(fault)),
+    let found = match check_all(alloc, types, rules.rules.as_slice()) {
+        Err(_) => return Err(Stop::OutOfMemory),
+        Ok(found) => found,
+    };
+    match found {
+        None => Ok(()),
+        Some(fault) => Err(Stop::Fault(fault)),
     }
 }

@@ -1,6 +1,6 @@
 //! Dimensions, labels, attributes and features of a table, by their names. The time of each is linear in their number.
 
-ghost use Rattle.std.specs.Prelude.{◌≡◌, option_map};
+ghost use Rattle.std.specs.Prelude.{◌≡◌, ◌<◌, length, All, option_map};
 ghost use Rattle.std.specs.Option.{option_copied};
 ghost use Rattle.xdg_domain.specs.Shapes.{shape};
 ghost use Rattle.xdg_terms.specs.Faults.{has};
@@ -12,16 +12,13 @@ use xdg_types::{DimType, TypeTable};
 
 /// The dimension of that name, of those with these places.
 fn dim_among<'a>(dims: &'a [DimType], used: &[usize], name: &str) -> Option<&'a DimType>
+    requires { All (λ k. k < length dims.now) used.now }
     ensures { option_copied result ≡ spec.dim_named (spec.dims_at dims.now used.now) name.now }
 {
     for place in used {
-        match dims.get(*place) {
-            None => continue,
-            Some(dim) => {
-                if dim.name.as_str() == name {
-                    return Some(dim);
-                }
-            }
+        let dim = &dims[*place];
+        if dim.name.as_str() == name {
+            return Some(dim);
         }
     }
     None

@@ -22,12 +22,13 @@ use Rattle.xdg_problem.specs.Places.{nodes}
 use Rattle.xdg_terms.specs.Means.{IsAt}
 use Rattle.xdg_types.specs.declared.table.DimType.{DimType}
 use Rattle.xdg_types.specs.Table.{Table, IsTable, KeepsDim, KeepDims, AreAttributes, Typed, HasPlace, typed, firsts}
-use Rattle.xdg_groups.specs.Grammars.{Grammar, no_dim, used_dims}
+use Rattle.xdg_groups.specs.Grammars.{Grammar}
 use Rattle.xdg_build.specs.Readings.{dimension, edges_in, label_text, value_of, value_number, value_texts, type_at}
 use Rattle.xdg_build.proofs.Conditions.{any_same}
 use Rattle.xdg_build.proofs.Different.{one_place}
 use Rattle.xdg_build.proofs.Values.{same_number}
 use Rattle.xdg_formula_text.specs.Written as w
+use Rattle.xdg_formula_check.specs.Tables.{no_dim, used_dims}
 use Rattle.xdg_formula_compile.specs.Places.{IsDimAt, IsTypeAt}
 use Rattle.xdg_formula_compile.specs.Problems.{IsFor}
 use Rattle.xdg_formula_compile.specs.Says.{Says, Agree}

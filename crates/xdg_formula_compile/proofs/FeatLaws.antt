@@ -27,11 +27,11 @@ use Rattle.xdg_terms.specs.Means.{IsAt}
 use Rattle.xdg_types.specs.declared.table.DimType.{DimType}
 use Rattle.xdg_types.specs.Table as tables
 use Rattle.xdg_types.specs.Table.{Table, AreFeatures, Typed, KeepsDim, typed, firsts}
-use Rattle.xdg_groups.specs.Grammars.{Grammar, no_dim, place_in, used_dims}
+use Rattle.xdg_groups.specs.Grammars.{Grammar, place_in}
 use Rattle.xdg_groups.proofs.Said.{entry_at as entry_right_at}
 use Rattle.xdg_build.specs.Readings.{OnFeature, dimension, entry_at, said_for, record_for, type_at, value_texts}
 use Rattle.xdg_build.proofs.Readings.{place_is, record_same}
-use Rattle.xdg_formula_check.specs.Tables.{member_shape}
+use Rattle.xdg_formula_check.specs.Tables.{member_shape, no_dim, used_dims}
 use Rattle.xdg_formula_text.specs.Written as w
 use Rattle.xdg_formula_compile.specs.Places.{IsDimAt, IsTypeAt}
 use Rattle.xdg_formula_compile.specs.Problems.{IsFor}

@@ -1,8 +1,11 @@
 pub mod AtomLaws
+pub mod Atomic
+pub mod Compiled
 pub mod Featured
 pub mod FeatLaws
 pub mod FormulaLaws
 pub mod Numbers
 pub mod Rightly
+pub mod Standing
 pub mod Used
 pub mod Valued

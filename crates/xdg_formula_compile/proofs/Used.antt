@@ -1,11 +1,10 @@
 -- The used dimensions of a grammar, by their places and their names, and the dimensions of a problem.
 use Rattle.std.proofs.Common.{◌≡◌, ◌≢◌, ℕ, zero, suc, ◌<◌, ◌+◌, ◌*◌, Bool, true, false, cond, inl, inr, List, [], ◌∷◌, ◌++◌, length, get_or, map, take, Some, None, refl, sym, ap, ap₂, ◌∙◌, subst, arith}
-use Rattle.std.specs.Prelude.{◌==◌, Contains, bytes_eq, filter, if◌then◌else◌, slice_get, slice_index_or}
-use Rattle.std.specs.List.{AllZip, flat_map}
+use Rattle.std.specs.Prelude.{◌==◌, Contains, bytes_eq, filter, if◌then◌else◌, slice_index_or}
+use Rattle.std.specs.List.{AllZip}
 use Rattle.std.proofs.lemmas.Bool.{cases_eq, eq-eqb, ne_eqb}
 use Rattle.std.proofs.lemmas.List.{get_or-map, length-map, length-append}
 use Rattle.std.proofs.lemmas.List.Elements.{All-contains}
-use Rattle.std.proofs.lemmas.Option.{slice_get-get_or}
 use Rattle.std.proofs.lemmas.Slice.Eq.{bytes_eq-Decides}
 use Rattle.xdg_domain.specs.Shapes.{Shape, shape}
 use Rattle.xdg_domain.specs.declared.types.Ty.{Ty}
@@ -19,13 +18,12 @@ use Rattle.xdg_problem.specs.Arguments.{label_count, attr_count, no_plan}
 use Rattle.xdg_problem.specs.Paths.{edges_on}
 use Rattle.xdg_types.specs.declared.table.DimType.{DimType}
 use Rattle.xdg_types.specs.Table.{Table, IsTable, HasPlace, ArePlaces, typed}
-use Rattle.xdg_groups.specs.Grammars.{Grammar, no_dim, used_dims}
+use Rattle.xdg_groups.specs.Grammars.{Grammar}
 use Rattle.xdg_build.specs.Plans.{attr_plan}
 use Rattle.xdg_build.specs.Readings.{dimension, edges_in}
 use Rattle.xdg_build.proofs.Different.{one_place}
 use Rattle.xdg_build.proofs.Readings.{stands_at}
-use Rattle.xdg_formula_check.specs.Tables as checked
-use Rattle.xdg_formula_check.specs.Tables.{dim_named, dims_at, one_or_none}
+use Rattle.xdg_formula_check.specs.Tables.{dim_named, no_dim, used_dims}
 use Rattle.xdg_packed.specs.Lexicon.{Lexicon}
 use Rattle.xdg_formula_compile.specs.Places.{IsDimAt}
 use Rattle.xdg_formula_compile.specs.Problems.{IsPlanOf, IsFor}
@@ -68,14 +66,6 @@ dim_named_is (dim ∷ dims) name found h = by (bytes_eq dim.name name) refl h
     by : (b : Bool) → bytes_eq dim.name name ≡ b → (if b then Some dim else dim_named dims name) ≡ Some found → found.name ≡ name
     by true e is = (let same : dim ≡ found = cc in ap (λ (one : DimType). one.name) (sym same) ∙ (bytes_eq-Decides dim.name name).0 e)
     by false e is = dim_named_is dims name found is
-
--- the dimensions that the checks of rules look through are these
-used_same : (dims : List DimType) (used : List ℕ) → ArePlaces (length dims) used → dims_at dims used ≡ map (λ k. get_or dims k no_dim) used
-used_same dims [] are = refl
-used_same dims (k ∷ used) are = ap₂ (λ found more. one_or_none found ++ more) (slice_get-get_or dims k no_dim are.0.0) (used_same dims used are.1)
-
-pub dims_same : (table : Table) → IsTable table → checked.used_dims table ≡ used_dims table
-dims_same table is = used_same table.dims table.used is.used
 
 module _ (table : Table) (lexicon : Lexicon) (is : IsTable table) where
   abbrev g : Grammar

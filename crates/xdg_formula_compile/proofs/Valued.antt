@@ -22,10 +22,11 @@ use Rattle.xdg_problem.proofs.AttrPlaces.{attr_within}
 use Rattle.xdg_problem.proofs.Counted.{length_attrs_of}
 use Rattle.xdg_types.specs.declared.table.DimType.{DimType}
 use Rattle.xdg_types.specs.Table.{Table, IsTable, HasPlace, ArePlaces, typed}
-use Rattle.xdg_groups.specs.Grammars.{Grammar, used_dims}
+use Rattle.xdg_groups.specs.Grammars.{Grammar}
 use Rattle.xdg_build.specs.Plans.{attr_plan, attr_plans, shown_as}
 use Rattle.xdg_build.specs.Readings.{dimension, values_before, value_number, type_at}
 use Rattle.xdg_build.proofs.Readings.{stands_at, fits_at, repeated_length, repeated_at}
+use Rattle.xdg_formula_check.specs.Tables.{used_dims}
 use Rattle.xdg_formula_compile.specs.Problems.{IsPlanOf, IsFor}
 use Rattle.xdg_formula_compile.proofs.Used.{among_all, used_within, plan_of, attrs_are, dims_long}
 

@@ -4,8 +4,7 @@ use Rattle.xdg_ast.specs.Grammar.{Term}
 use Rattle.xdg_domain.specs.Shapes.{Shape, count}
 use Rattle.xdg_domain.specs.declared.types.Ty.{Ty}
 use Rattle.xdg_types.specs.declared.table.DimType.{DimType}
-use Rattle.xdg_formula_check.specs.Tables.{dim_named, type_named}
-use Rattle.xdg_groups.specs.Grammars.{no_dim}
+use Rattle.xdg_formula_check.specs.Tables.{dim_named, no_dim, type_named}
 use Rattle.xdg_build.specs.Readings.{value_texts}
 use Rattle.xdg_formula_compile.specs.Truths.{constants_of}
 

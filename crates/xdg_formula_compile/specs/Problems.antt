@@ -8,7 +8,7 @@ use Rattle.xdg_problem.specs.declared.parts.DimPlan.{DimPlan}
 use Rattle.xdg_problem.specs.declared.parts.Parts.{Parts}
 use Rattle.xdg_types.specs.declared.table.DimType.{DimType}
 use Rattle.xdg_types.specs.Table.{Table, typed}
-use Rattle.xdg_groups.specs.Grammars.{used_dims}
+use Rattle.xdg_formula_check.specs.Tables.{used_dims}
 use Rattle.xdg_build.specs.Plans.{attr_plans}
 
 -- the dimension of a problem has the name, the labels, and the attributes with their values, of a dimension of a grammar

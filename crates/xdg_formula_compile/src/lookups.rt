@@ -6,9 +6,7 @@ ghost use Rattle.xdg_domain.specs.declared.types.Ty.{Ty};
 ghost use Rattle.xdg_terms.specs.Faults.{has};
 ghost use Rattle.xdg_terms.specs.Means.{IsAt};
 ghost use Rattle.xdg_types.specs.Table.{IsTable};
-ghost use Rattle.xdg_formula_check.specs.Tables as checked;
-ghost use Rattle.xdg_formula_check.specs.Tables.{dim_named, type_named};
-ghost use Rattle.xdg_groups.specs.Grammars.{no_dim, used_dims};
+ghost use Rattle.xdg_formula_check.specs.Tables.{dim_named, dims_at, no_dim, type_named, used_dims};
 ghost use Rattle.xdg_formula_compile.specs.Places.{IsDimAt, IsTypeAt};
 
 use xdg_ast::Name;
@@ -46,9 +44,9 @@ pub(crate) fn label_number(labels: &[Text], label: &Name) -> u8
 
 /// The place of a dimension among those with these places.
 fn dim_place(dims: &[DimType], used: &[usize], name: &Name) -> usize
-    requires known { IsSome (dim_named (map (λ k. get_or dims.now k no_dim) used.now) name.now.text) }
+    requires known { IsSome (dim_named (dims_at dims.now used.now) name.now.text) }
     requires used { All (λ k. k < length dims.now) used.now }
-    ensures { IsDimAt (map (λ k. get_or dims.now k no_dim) used.now) name.now.text result }
+    ensures { IsDimAt (dims_at dims.now used.now) name.now.text result }
 {
     for (place, k) in used.iter().enumerate() {
         if dims[*k].name.as_str() == name.text.as_str() {
@@ -60,7 +58,7 @@ fn dim_place(dims: &[DimType], used: &[usize], name: &Name) -> usize
 
 /// The number of a dimension: its place among the used ones.
 pub(crate) fn dim_number(types: &TypeTable, name: &Name) -> u8
-    requires { IsSome (dim_named (checked.used_dims types.now) name.now.text) }
+    requires { IsSome (dim_named (used_dims types.now) name.now.text) }
     ensures at { IsDimAt (used_dims types.now) name.now.text result }
     ensures keeps { IsTable types.now }
 {

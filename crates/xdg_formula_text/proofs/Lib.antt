@@ -6,6 +6,7 @@ pub mod Lifted
 pub mod Nesting
 pub mod Nexts
 pub mod Once
+pub mod SeenTokens
 pub mod Shorter
 pub mod Steadied
 pub mod Tokens

@@ -80,6 +80,7 @@ fn kind_in_rules(kind: Kind, text: &str) -> Kind
 }
 
 /// The tokens as they are seen in rules. The error is want of memory.
+#[tactic(auto, using(crate::proofs::SeenTokens::next_seen))]
 pub(crate) fn seen_all<'a>(
     alloc: Global,
     tokens: &[Token<'a>],
