@@ -1,5 +1,5 @@
 -- What the atoms of a rule say, and the atoms of a formula that are made of them.
-use Rattle.std.proofs.Common.{◌≡◌, ◌↔◌, ℕ, zero, suc, ◌<◌, List, [], ◌∷◌, length, get_or, map, refl, sym, ap, ap₂, ◌∙◌, subst, arith}
+use Rattle.std.proofs.Common.{◌≡◌, ◌↔◌, ℕ, zero, suc, ◌<◌, true, List, [], ◌∷◌, length, get_or, map, refl, sym, ap, ap₂, ◌∙◌, subst, arith}
 use Rattle.std.specs.Prelude.{◌==◌, Any, Contains, Some, slice_get, slice_index, slice_index_or}
 use Rattle.std.proofs.lemmas.Bool.{eqb-true}
 use Rattle.std.proofs.lemmas.List.{get_or_default}
@@ -15,7 +15,7 @@ use Rattle.xdg_problem.specs.declared.analysis.Edge.{Edge}
 use Rattle.xdg_problem.specs.declared.parts.DimPlan.{DimPlan}
 use Rattle.xdg_problem.specs.declared.parts.Parts.{Parts}
 use Rattle.xdg_problem.specs.Analyses.{IsAnalysis, IsPlace}
-use Rattle.xdg_problem.specs.Arguments.{attr_place, no_plan}
+use Rattle.xdg_problem.specs.Arguments.{attr_place, no_plan, value_count}
 use Rattle.xdg_problem.specs.Claims.{Claim, joined, above, left, same, valued}
 use Rattle.xdg_problem.specs.Paths.{edges_on, Above}
 use Rattle.xdg_problem.specs.Places.{nodes}
@@ -38,17 +38,17 @@ use Rattle.xdg_formula_compile.proofs.Valued.{value_below, number_same, attr_ins
 
 -- ---- what the table keeps
 
-keeps_at : (dims : List DimType) (k : ℕ) → KeepDims dims → k < length dims → KeepsDim (get_or dims k no_dim)
+pub keeps_at : (dims : List DimType) (k : ℕ) → KeepDims dims → k < length dims → KeepsDim (get_or dims k no_dim)
 keeps_at [] k keeps l = absurd (omega (arith, l))
 keeps_at (dim ∷ dims) zero keeps l = keeps.0
 keeps_at (dim ∷ dims) (suc k) keeps l = keeps_at dims k keeps.1 (omega (arith, l))
 
-attribute_at : (all : Typed) (i : ℕ) (name : List ℕ) (type : Shape) → AreAttributes all → slice_get all i ≡ Some (name, type) → IsSmall type
+pub attribute_at : (all : Typed) (i : ℕ) (name : List ℕ) (type : Shape) → AreAttributes all → slice_get all i ≡ Some (name, type) → IsSmall type
 attribute_at [] i name type are h = absurd (cc)
 attribute_at (one ∷ more) zero name type are h = (let e : one ≡ (name, type) = cc in subst (λ (attr : List ℕ × Shape). IsSmall attr.1) e are.0.0)
 attribute_at (one ∷ more) (suc i) name type are h = attribute_at more i name type are.1 h
 
-typed_at : (all : List (List ℕ × Ty)) (i : ℕ) (name : List ℕ) (type : Ty) → slice_get all i ≡ Some (name, type) → slice_get (typed all) i ≡ Some (name, shape type)
+pub typed_at : (all : List (List ℕ × Ty)) (i : ℕ) (name : List ℕ) (type : Ty) → slice_get all i ≡ Some (name, type) → slice_get (typed all) i ≡ Some (name, shape type)
 typed_at [] i name type h = absurd (cc)
 typed_at (one ∷ more) zero name type h = (let e : one ≡ (name, type) = cc in ap (λ (attr : List ℕ × Ty). Some (attr.0, shape attr.1)) e)
 typed_at (one ∷ more) (suc i) name type h = typed_at more i name type h
@@ -67,10 +67,10 @@ one_named names i j name differ here there =
 -- ---- names of nodes
 
 -- what a number stands for
-stands_for : (count : ℕ) (scope : List (List ℕ)) (b : Binding) (numbered : ℕ → ℕ) (n : ℕ) (name : List ℕ) → Agree count scope b numbered → IsAt scope n name → numbered n ≡ b name
+pub stands_for : (count : ℕ) (scope : List (List ℕ)) (b : Binding) (numbered : ℕ → ℕ) (n : ℕ) (name : List ℕ) → Agree count scope b numbered → IsAt scope n name → numbered n ≡ b name
 stands_for count scope b numbered n name agree at = (agree n at.0).0 ∙ ap b at.1
 
-node_below : (count : ℕ) (scope : List (List ℕ)) (b : Binding) (numbered : ℕ → ℕ) (n : ℕ) (name : List ℕ) → Agree count scope b numbered → IsAt scope n name → numbered n < count
+pub node_below : (count : ℕ) (scope : List (List ℕ)) (b : Binding) (numbered : ℕ → ℕ) (n : ℕ) (name : List ℕ) → Agree count scope b numbered → IsAt scope n name → numbered n < count
 node_below count scope b numbered n name agree at = (agree n at.0).1
 
 module _ (table : Table) (lexicon : Lexicon) (parts : Parts) (is : IsTable table) (for_it : IsFor table lexicon parts) (scope : List (List ℕ)) where
@@ -170,7 +170,7 @@ module _ (table : Table) (lexicon : Lexicon) (parts : Parts) (is : IsTable table
               let e = stands_for (nodes parts) scope b numbered m node.text agree first in
               let number = number_same table lexicon parts is for_it d at.within a (b node.text) i in
               let small : value_number g (nodes parts) a k (b node.text) i < count (shape type) =
-              subst (λ many. value_number g (nodes parts) a k (b node.text) i < many) sizes (subst (λ x. x < _) (sym number)
+              subst (λ many. value_number g (nodes parts) a k (b node.text) i < many) sizes (subst (λ (x : ℕ). x < value_count parts d i) (sym number)
               (value_below parts a fits d (b node.text) i known (subst (λ v. v < nodes parts) e (node_below (nodes parts) scope b numbered m node.text agree first)) inside)) in
               let read : slice_index a.attrs (attr_place parts d (numbered m) i) ≡ value_number g (nodes parts) a k (b node.text) i =
               ap (λ v. get_or a.attrs (attr_place parts d v i) 0) e ∙ sym number in (

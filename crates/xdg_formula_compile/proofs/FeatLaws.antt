@@ -1,7 +1,7 @@
 -- What an atom about a feature says, and the table of candidates that is made of it.
 use Rattle.std.proofs.Common.{◌≡◌, ◌↔◌, ℕ, zero, suc, ◌<◌, true, false, Bool, List, [], ◌∷◌, length, get_or, map, refl, sym, ap, ap₂, ◌∙◌, subst, arith}
 use Rattle.std.specs.Prelude.{All, Contains, MatchOption, Some, slice_get, slice_index, slice_index_or}
-use Rattle.std.proofs.lemmas.List.{get_or-map, length-map}
+use Rattle.std.proofs.lemmas.List.{get_or-map, get_or_default, length-map}
 use Rattle.std.proofs.lemmas.List.Elements.{All-contains}
 use Rattle.std.proofs.lemmas.Option.{slice_get_within, get_or_from_slice_get, slice_get-get_or}
 use Rattle.xdg_ast.specs.declared.names.Name.{Name}
@@ -58,7 +58,7 @@ chosen_at (candidates ∷ all) (entry ∷ entries) zero has l = (entry_back cand
 chosen_at (candidates ∷ all) (entry ∷ entries) (suc v) has l = chosen_at all entries v has.1 (omega (arith, l))
 
 all_at : {A : Type 0} (P : A → Type 0) (xs : List (List A)) (v : ℕ) → All (All P) xs → v < length xs → All P (get_or xs v [])
-all_at P xs v all l = All-contains (All P) xs (get_or xs v []) all (v, l, refl)
+all_at P xs v all l = All-contains (All P) xs (get_or xs v []) all (v, l, get_or_default xs v (get_or xs v []) [] l)
 
 module _ (table : Table) (lexicon : Lexicon) (parts : Parts) (problem : IsProblem parts) (is : tables.IsTable table) (for_it : IsFor table lexicon parts) (scope : List (List ℕ)) where
   abbrev g : Grammar

@@ -23,6 +23,14 @@ use Rattle.xdg_formula_compile.specs.Says.{Says, Agree}
 use Rattle.xdg_formula_compile.specs.Signs.{denies}
 use Rattle.xdg_formula_compile.specs.Truths.{Binding, Denied, bind, IsTrue, EachTrue, SomeTrue}
 
+first_no : (a b : Bool) → (a || b) ≡ false → a ≡ false
+first_no true b h = absurd (cc)
+first_no false b h = refl
+
+second_no : (a b : Bool) → (a || b) ≡ false → b ≡ false
+second_no true b h = absurd (cc)
+second_no false b h = h
+
 -- ---- signs
 
 pub denies_is : (signs : ℕ) → denies signs ≡ ((signs % 2) == 1)
@@ -36,14 +44,14 @@ twice P (inl p) = (λ n. p, λ x n. n x)
 twice P (inr no_p) = (λ n. absurd (n no_p), λ p. absurd (no_p p))
 
 denied_even : (P : Type 0) (signs : ℕ) → P ⊎ (P → ⊥) → denies signs ≡ false → Denied signs P ↔ P
-
-denied_odd : (P : Type 0) (signs : ℕ) → P ⊎ (P → ⊥) → denies signs ≡ true → Denied signs P ↔ (P → ⊥)
 denied_even P zero decided h = (λ p. p, λ p. p)
 denied_even P (suc zero) decided h = absurd (cc)
 denied_even P (suc (suc signs)) decided h =
     let inner = denied_even P signs decided h in
     let back = twice P decided in
     (λ n. back.0 (λ m. n (λ d. m (inner.0 d))), λ p n. n (inner.1 p))
+
+denied_odd : (P : Type 0) (signs : ℕ) → P ⊎ (P → ⊥) → denies signs ≡ true → Denied signs P ↔ (P → ⊥)
 denied_odd P zero decided h = absurd (cc)
 denied_odd P (suc zero) decided h = (λ n. n, λ n. n)
 denied_odd P (suc (suc signs)) decided h =
@@ -118,13 +126,9 @@ module _ (table : Table) (lexicon : Lexicon) (parts : Parts) where
 
     -- another name of the scope stays what it was
     other : (names : List (List ℕ)) (i : ℕ) → has names name.text ≡ false → i < length names → bytes_eq (get_or names i []) name.text ≡ false
-    other [] i none l = absurd (omega (arith, l))
-    other (x ∷ names) i none l = by (bytes_eq x name.text) refl none i l
-      where
-        by : (same : Bool) → bytes_eq x name.text ≡ same → (same || has names name.text) ≡ false → (i : ℕ) → i < length (x ∷ names) → bytes_eq (get_or (x ∷ names) i []) name.text ≡ false
-        by true e none i l = absurd (cc)
-        by false e none zero l = e
-        by false e none (suc i) l = other names i none (omega (arith, l))
+    other [] i missing l = absurd (omega (arith, l))
+    other (x ∷ names) zero missing l = first_no (bytes_eq x name.text) (has names name.text) missing
+    other (x ∷ names) (suc i) missing l = other names i (second_no (bytes_eq x name.text) (has names name.text) missing) (omega (arith, l))
 
     inside : (b : Binding) (numbered : ℕ → ℕ) (v : ℕ) → v < nodes parts → Agree (nodes parts) scope b numbered → Agree (nodes parts) (scope ++ name.text ∷ []) (bind b name.text v) (bound numbered n v)
     inside b numbered v within agree i l = elim (cases_eq i (length scope)) [

@@ -25,7 +25,7 @@ bound_by : (t : Term) (k : TermKind-F ElemKind TermKind) → bound_in [] t k ≡
 bound_by t (TermKind-F.Param name) = refl
 bound_by t (TermKind-F.TermKind::Const name) = refl
 bound_by t (TermKind-F.Number n) = refl
-bound_by t (TermKind-F.Card card) = refl
+bound_by t (TermKind-F.Card written) = refl
 bound_by t (TermKind-F.Braces elems) = refl
 bound_by t (TermKind-F.TermKind::Tuple names) = refl
 bound_by t (TermKind-F.Gen gen) = refl
@@ -38,7 +38,7 @@ open_by : (t : Term) (k : TermKind-F ElemKind TermKind) → unless_open [] t k �
 open_by t (TermKind-F.Param name) = refl
 open_by t (TermKind-F.TermKind::Const name) = refl
 open_by t (TermKind-F.Number n) = refl
-open_by t (TermKind-F.Card card) = refl
+open_by t (TermKind-F.Card written) = refl
 open_by t (TermKind-F.Braces elems) = refl
 open_by t (TermKind-F.TermKind::Tuple names) = refl
 open_by t (TermKind-F.Gen gen) = refl
@@ -53,7 +53,7 @@ constant_by : (k : TermKind-F ElemKind TermKind) (name : Name) → constant_in k
 constant_by (TermKind-F.TermKind::Const own) name h = (let same : own ≡ name = cc in ap (λ (one : Name). one.text ∷ []) same)
 constant_by (TermKind-F.Param own) name h = absurd (cc)
 constant_by (TermKind-F.Number n) name h = absurd (cc)
-constant_by (TermKind-F.Card card) name h = absurd (cc)
+constant_by (TermKind-F.Card written) name h = absurd (cc)
 constant_by (TermKind-F.Braces elems) name h = absurd (cc)
 constant_by (TermKind-F.TermKind::Tuple names) name h = absurd (cc)
 constant_by (TermKind-F.Gen gen) name h = absurd (cc)
@@ -67,7 +67,7 @@ bracket_by wanted (TermKind-F.TermKind::Tuple own) names h = ap (map (λ (name :
 bracket_by wanted (TermKind-F.TermKind::Const own) names h = absurd (cc)
 bracket_by wanted (TermKind-F.Param own) names h = absurd (cc)
 bracket_by wanted (TermKind-F.Number n) names h = absurd (cc)
-bracket_by wanted (TermKind-F.Card card) names h = absurd (cc)
+bracket_by wanted (TermKind-F.Card written) names h = absurd (cc)
 bracket_by wanted (TermKind-F.Braces elems) names h = absurd (cc)
 bracket_by wanted (TermKind-F.Gen gen) names h = absurd (cc)
 
@@ -82,7 +82,7 @@ bracket_is wanted t names h = bracket_by wanted (out-TermKind t.kind) names h
 -- ---- its number
 
 number_by : (s : Shape) (t : Term) (v : Value-F Value) → IsSmall s → MeansIn [] s t v → IsNumberOf s t (number_in v)
-number_by (domain cs) t (Value-F.Const n) small means = (means.2.0, ap (λ c. c ∷ []) means.2.1 ∙ sym (constant_is t means.0 means.1))
+number_by (domain cs) t (Value-F.Const n) small means = (means.1.1.0, ap (λ c. c ∷ []) means.1.1.1 ∙ sym (constant_is t means.0 means.1.0))
 number_by (tuple ss) t (Value-F.Tuple n) small means = (means.0, means.1.1.1 ∙ sym (bracket_is (length (sizes ss)) t means.1.0 means.1.1.0))
 number_by (domain cs) t _ small means = absurd means
 number_by (tuple ss) t _ small means = absurd means

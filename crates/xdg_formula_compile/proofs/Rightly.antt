@@ -45,7 +45,7 @@ found_by name None rule h = absurd (cc)
 found_by name (Some found) rule h = (found, refl, h)
 
 pub some_there : {A : Type 0} (o : Option A) (x : A) → o ≡ Some x → IsSome o
-some_there o x e = subst IsSome (sym e) tt
+some_there o x e = subst IsSome (sym e) refl
 
 -- ---- names of nodes
 

@@ -1,5 +1,5 @@
 -- Turns of loops that look for a name.
-use Rattle.std.proofs.Common.{◌≡◌, ℕ, ◌+◌, ◌<◌, ◌≤◌, Bool, true, false, List, [], ◌∷◌, length, get_or, drop, map, Option, Some, None, refl, sym, ap, ◌∙◌, subst, arith, add-one, drop-cons}
+use Rattle.std.proofs.Common.{◌≡◌, ℕ, suc, ◌+◌, ◌<◌, ◌≤◌, Bool, true, false, List, [], ◌∷◌, length, get_or, drop, map, Option, Some, None, refl, sym, ap, ◌∙◌, subst, arith, add-one, drop-cons}
 use Rattle.std.specs.Prelude.{◌||◌, IsSome, bytes_eq, if◌then◌else◌, slice_get}
 use Rattle.std.proofs.lemmas.Bool.{false≢true}
 use Rattle.std.proofs.lemmas.List.{at_drop_all, get_or-map, get_or_default, length-map}
@@ -13,7 +13,7 @@ use Rattle.xdg_formula_check.proofs.Turns.{dim_next}
 use Rattle.xdg_formula_compile.specs.Places.{IsDimAt, IsTypeAt}
 
 front : {A : Type 0} (xs : List A) (i : ℕ) (x : A) → i < length xs → x ≡ get_or xs i x → drop i xs ≡ x ∷ drop (i + 1) xs
-front xs i x l is = rw (add-one, drop-cons xs i x) (ap (λ y. y ∷ drop (i + 1) xs) (sym is))
+front xs i x l is = rw (add-one, drop-cons xs i x) (ap (λ y. y ∷ drop (suc i) xs) (sym is))
 
 -- ---- names
 
@@ -41,7 +41,7 @@ module _ (dims : List DimType) (used : List ℕ) (i : ℕ) (name : List ℕ) whe
     }
 
   pub dim_nowhere : length used ≤ i → dim_named (dims_at dims (drop i used)) name ≡ dim_named (dims_at dims used) name → IsSome (dim_named (dims_at dims used) name) → ⊥
-  dim_nowhere over so_far some = subst IsSome (sym so_far ∙ at_drop_all (λ ks. dim_named (dims_at dims ks) name) used i over) some
+  dim_nowhere over so_far some = false≢true (subst IsSome (sym so_far ∙ at_drop_all (λ ks. dim_named (dims_at dims ks) name) used i over) some)
 
 -- ---- attributes and features
 
@@ -63,4 +63,4 @@ module _ (all : List (List ℕ × Ty)) (i : ℕ) (name : List ℕ) where
     type_later other = ap (λ b. if b then Some one.1 else type_named (drop (i + 1) all) name) (sym other) ∙ next
 
   pub type_nowhere : length all ≤ i → type_named (drop i all) name ≡ type_named all name → IsSome (type_named all name) → ⊥
-  type_nowhere over so_far some = subst IsSome (sym so_far ∙ at_drop_all (λ ys. type_named ys name) all i over) some
+  type_nowhere over so_far some = false≢true (subst IsSome (sym so_far ∙ at_drop_all (λ ys. type_named ys name) all i over) some)

@@ -61,11 +61,11 @@ differ_at bound (k ∷ used) (suc i) (suc j) are l m same = ap suc (differ_at bo
 
 pub dim_named_is : (dims : List DimType) (name : List ℕ) (found : DimType) → dim_named dims name ≡ Some found → found.name ≡ name
 dim_named_is [] name found h = absurd (cc)
-dim_named_is (dim ∷ dims) name found h = by (bytes_eq dim.name name) refl h
+dim_named_is (dim ∷ dims) name found h = by (bytes_eq dim.name name) refl h (dim_named_is dims name found)
   where
-    by : (b : Bool) → bytes_eq dim.name name ≡ b → (if b then Some dim else dim_named dims name) ≡ Some found → found.name ≡ name
-    by true e is = (let same : dim ≡ found = cc in ap (λ (one : DimType). one.name) (sym same) ∙ (bytes_eq-Decides dim.name name).0 e)
-    by false e is = dim_named_is dims name found is
+    by : (b : Bool) → bytes_eq dim.name name ≡ b → (if b then Some dim else dim_named dims name) ≡ Some found → (dim_named dims name ≡ Some found → found.name ≡ name) → found.name ≡ name
+    by true e is later = (let same : dim ≡ found = cc in ap (λ (one : DimType). one.name) (sym same) ∙ (bytes_eq-Decides dim.name name).0 e)
+    by false e is later = later is
 
 module _ (table : Table) (lexicon : Lexicon) (is : IsTable table) where
   abbrev g : Grammar

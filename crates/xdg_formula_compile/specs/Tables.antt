@@ -21,7 +21,7 @@ says_in (Some v) number = is_or_has (out-Value v) number
 
 -- the entry with that number says so of a feature, by the places of its dimension among the used ones and of the feature
 abbrev pub entry_says : List Entry → ℕ → ℕ → ℕ → EntryNo → Bool
-entry_says entries dim place number no = says_in (said_at (get_or (get_or entries no.0 []) dim []) place) number
+entry_says entries dim place number entry = says_in (said_at (get_or (get_or entries entry.0 []) dim []) place) number
 
 -- for each node, and in it for each candidate
 abbrev pub table_of : List Entry → List (List EntryNo) → ℕ → ℕ → ℕ → List (List Bool)

@@ -45,14 +45,16 @@ pub(crate) fn formula_of<'a>(
         RuleKind::Or(members) => {
             let mut made = List::new(alloc);
             for member in members.as_slice() {
-                made.push(formula_of(alloc, types, packed, problem, bound, &member.kind)?)?;
+                let inside = formula_of(alloc, types, packed, problem, bound, &member.kind)?;
+                made.push(inside)?;
             }
             Ok(Formula::Or(made))
         }
         RuleKind::And(members) => {
             let mut made = List::new(alloc);
             for part in members.as_slice() {
-                made.push(formula_of(alloc, types, packed, problem, bound, &part.kind)?)?;
+                let inside = formula_of(alloc, types, packed, problem, bound, &part.kind)?;
+                made.push(inside)?;
             }
             Ok(Formula::And(made))
         }

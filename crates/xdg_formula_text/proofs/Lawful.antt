@@ -115,7 +115,7 @@ module _ (n : ℕ) (b : Below n) (d : ℕ) where
   simple_kind_rule = either_rule every_rule (either_rule any_rule atom_rule refl (apart_by _ _ refl)) refl (apart_by _ _ refl)
 
   simple_rule : RuleAt d n simple
-  unfolding simple simple_kind every any atom edge above left same attr feat inside formula conjs conj prims prim signs sign next_prim next_conj
+  unfolding simple simple_kind every any atom edge above left same attr feat inside formula conjs conj prims prim signs sign next_prim next_conj node
   simple_rule = either_rule (parentheses_rule (λ j. j.formula) formula_alive (λ w. apart_by _ _ refl) (λ e m c. c.formula_is) n b d)
       (spanned_rule _ simple_kind_rule refl) refl (apart_by _ _ refl)
 
@@ -124,31 +124,31 @@ module _ (n : ℕ) (b : Below n) (d : ℕ) where
   signs_rule = many_rule (made_rule _ (word_rule k.Exclamation (plain_by _ refl refl) d n)) sign_steady sign_steady refl (apart_by _ _ refl)
 
   prim_rule : RuleAt d n prim
-  unfolding prim signs sign simple simple_kind every any atom edge above left same attr feat
+  unfolding prim signs sign simple simple_kind every any atom edge above left same attr feat node
   prim_rule = spanned_rule _ (pair_rule signs_rule simple_rule (apart_by _ _ refl)) refl
 
   next_prim_rule : RuleAt d n next_prim
-  unfolding next_prim prim signs sign simple simple_kind every any atom edge above left same attr feat
+  unfolding next_prim prim signs sign simple simple_kind every any atom edge above left same attr feat node
   next_prim_rule = behind_rule (word_rule k.Ampersand (plain_by _ refl refl) d n) prim_rule (apart_by _ _ refl)
 
   prims_rule : RuleAt d n prims
-  unfolding prims next_prim prim signs sign simple simple_kind every any atom edge above left same attr feat
+  unfolding prims next_prim prim signs sign simple simple_kind every any atom edge above left same attr feat node
   prims_rule = chain_rule prim_rule next_prim_rule (next_prim_steady _ (under_steady d)) (next_prim_steady _ (under_steady n)) refl (apart_by _ _ refl) (apart_by _ _ refl)
 
   conj_rule : RuleAt d n conj
-  unfolding conj prims next_prim prim signs sign simple simple_kind every any atom edge above left same attr feat
+  unfolding conj prims next_prim prim signs sign simple simple_kind every any atom edge above left same attr feat node
   conj_rule = spanned_rule _ prims_rule refl
 
   next_conj_rule : RuleAt d n next_conj
-  unfolding next_conj conj prims next_prim prim signs sign simple simple_kind every any atom edge above left same attr feat
+  unfolding next_conj conj prims next_prim prim signs sign simple simple_kind every any atom edge above left same attr feat node
   next_conj_rule = behind_rule (word_rule k.Bar (plain_by _ refl refl) d n) conj_rule (apart_by _ _ refl)
 
   conjs_rule : RuleAt d n conjs
-  unfolding conjs next_conj conj prims next_prim prim signs sign simple simple_kind every any atom edge above left same attr feat
+  unfolding conjs next_conj conj prims next_prim prim signs sign simple simple_kind every any atom edge above left same attr feat node
   conjs_rule = chain_rule conj_rule next_conj_rule (next_conj_steady _ (under_steady d)) (next_conj_steady _ (under_steady n)) refl (apart_by _ _ refl) (apart_by _ _ refl)
 
   formula_rule : RuleAt d n formula
-  unfolding formula conjs next_conj conj prims next_prim prim signs sign simple simple_kind every any atom edge above left same attr feat
+  unfolding formula conjs next_conj conj prims next_prim prim signs sign simple simple_kind every any atom edge above left same attr feat node
   formula_rule = spanned_rule _ conjs_rule refl
 
   levels_at : Levels d n
@@ -163,13 +163,13 @@ below (suc n) = levels_at n (below n)
 -- ---- rules
 
 named_rule : (d n : ℕ) → Rule d n (named d) (named n)
-unfolding named constant formula conjs next_conj conj prims next_prim prim signs sign simple simple_kind every any atom edge above left same attr feat
+unfolding named constant formula conjs next_conj conj prims next_prim prim signs sign simple simple_kind every any atom edge above left same attr feat node
 named_rule d n = pair_rule (constant_rule d n) (behind_rule (word_rule k.Colon (plain_by _ refl refl) d n) (formula_rule n (below n) d) (apart_by _ _ refl)) (apart_by _ _ refl)
 
 rule_rule : (d n : ℕ) → Rule d n (rule d) (rule n)
-unfolding rule named constant formula conjs next_conj conj prims next_prim prim signs sign simple simple_kind every any atom edge above left same attr feat
+unfolding rule named constant formula conjs next_conj conj prims next_prim prim signs sign simple simple_kind every any atom edge above left same attr feat node
 rule_rule d n = made_rule _ (pair_rule (word_rule rule_word (plain_by _ refl refl) d n) (named_rule d n) (apart_by _ _ refl))
 
 pub rules_rule : (d n : ℕ) → Rule d n (rules d) (rules n)
-unfolding rules rule named constant formula conjs next_conj conj prims next_prim prim signs sign simple simple_kind every any atom edge above left same attr feat
+unfolding rules rule named constant formula conjs next_conj conj prims next_prim prim signs sign simple simple_kind every any atom edge above left same attr feat node
 rules_rule d n = many_rule (rule_rule d n) (rule_steady d) (rule_steady n) refl (apart_by _ _ refl)

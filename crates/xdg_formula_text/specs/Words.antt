@@ -87,9 +87,17 @@ seen_all = map seen
 
 -- ---- names and constants
 
+-- the word of a rule or of a quantifier
+abbrev pub is_outer_word : Kinds
+is_outer_word = is rule_word or is all_word or is some_word
+
+-- the word of an atom
+abbrev pub is_atom_word : Kinds
+is_atom_word = is edge_word or is above_word or is left_word or is same_word or is attr_word or is feat_word
+
 -- a name, which may be a word too
 abbrev pub is_name : Kinds
-is_name = is k.Name or is rule_word or is all_word or is some_word or is edge_word or is above_word or is left_word or is same_word or is attr_word or is feat_word
+is_name = is k.Name or is_outer_word or is_atom_word
 
 -- a constant: a name, or a quoted text
 abbrev pub is_rule_constant : Kinds

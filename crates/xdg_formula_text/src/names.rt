@@ -5,7 +5,7 @@ ghost use Rattle.xdg_ast.specs.Language as spec;
 ghost use Rattle.xdg_ast.specs.Language.{sees};
 ghost use Rattle.xdg_parse_terms.specs.Steps.{Reads, Takes};
 ghost use Rattle.xdg_formula_text.specs.Rules as grammar;
-ghost use Rattle.xdg_formula_text.specs.Words.{is_name, is_rule_constant};
+ghost use Rattle.xdg_formula_text.specs.Words.{is_atom_word, is_name, is_outer_word, is_rule_constant};
 
 use crate::words::{ABOVE, ALL, ATTR, EDGE, FEAT, LEFT, RULE, SAME, SOME};
 use std::alloc::Global;
@@ -14,21 +14,33 @@ use xdg_base::List;
 use xdg_lex::{Kind, Token};
 use xdg_parse_terms::{Cursor, Why, name_from};
 
-/// Whether the next token is a name.
+/// Whether the next token is the word of a rule or of a quantifier.
 #[tactic(auto, using(xdg_parse_terms::proofs::Sees::sees_or))]
-fn sees_name(cursor: &Cursor<'_, '_>) -> bool
-    ensures { result ≡ sees is_name cursor.now.left }
+fn sees_outer_word(cursor: &Cursor<'_, '_>) -> bool
+    ensures { result ≡ sees is_outer_word cursor.now.left }
 {
-    cursor.sees(Kind::Name)
-        || cursor.sees(RULE)
-        || cursor.sees(ALL)
-        || cursor.sees(SOME)
-        || cursor.sees(EDGE)
+    cursor.sees(RULE) || cursor.sees(ALL) || cursor.sees(SOME)
+}
+
+/// Whether the next token is the word of an atom.
+#[tactic(auto, using(xdg_parse_terms::proofs::Sees::sees_or))]
+fn sees_atom_word(cursor: &Cursor<'_, '_>) -> bool
+    ensures { result ≡ sees is_atom_word cursor.now.left }
+{
+    cursor.sees(EDGE)
         || cursor.sees(ABOVE)
         || cursor.sees(LEFT)
         || cursor.sees(SAME)
         || cursor.sees(ATTR)
         || cursor.sees(FEAT)
+}
+
+/// Whether the next token is a name.
+#[tactic(auto, using(xdg_parse_terms::proofs::Sees::sees_or))]
+fn sees_name(cursor: &Cursor<'_, '_>) -> bool
+    ensures { result ≡ sees is_name cursor.now.left }
+{
+    cursor.sees(Kind::Name) || sees_outer_word(cursor) || sees_atom_word(cursor)
 }
 
 /// Whether the next token is a constant.
