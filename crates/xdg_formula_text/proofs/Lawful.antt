@@ -1,7 +1,6 @@
 -- Each rule is read as it is meant.
 use Rattle.std.proofs.Common.{ℕ, zero, suc, refl}
 use Rattle.xdg_lex.specs.declared.token.Kind.TheVariants as k
-use Rattle.xdg_ast.specs.Language.{Language, token}
 use Rattle.xdg_parse.proofs.EachKind.{apart_by, plain_by}
 use Rattle.xdg_parse.proofs.RuleParts.{Rule, behind_rule, both_rule, chain_rule, either_rule, made_rule, many_rule, pair_rule, spanned_rule, word_rule}
 use Rattle.xdg_formula_text.specs.Words.{rule_word, all_word, some_word, edge_word, above_word, left_word, same_word, attr_word, feat_word, is_name, is_rule_constant}

@@ -12,6 +12,6 @@ next_seen made tokens i token new within is same so_far =
     let one : lexemes_of (made ++ new ∷ []) ≡ lexemes_of made ++ lexeme_of new ∷ [] = map-append lexeme_of made (new ∷ []) in
     let two : lexemes_of made ++ lexeme_of new ∷ [] ≡ seen_all before ++ lexeme_of new ∷ [] = ap (λ (ts : List Lexeme). ts ++ lexeme_of new ∷ []) so_far in
     let three : seen_all before ++ lexeme_of new ∷ [] ≡ seen_all before ++ seen (lexeme_of token) ∷ [] = ap (λ (t : Lexeme). seen_all before ++ t ∷ []) same in
-    let four : lexemes_of (take (i + 1) tokens) ≡ before ++ lexeme_of token ∷ [] = map_more lexeme_of tokens i token within is in
+    let four : lexemes_of (take (i + 1) tokens) ≡ before ++ lexeme_of token ∷ [] = map_more lexeme_of tokens i token within ∙ ap (λ (t : Token). before ++ lexeme_of t ∷ []) (sym is) in
     let five : seen_all (lexemes_of (take (i + 1) tokens)) ≡ seen_all before ++ seen (lexeme_of token) ∷ [] = ap seen_all four ∙ map-append seen before (lexeme_of token ∷ []) in
     one ∙ two ∙ three ∙ sym five

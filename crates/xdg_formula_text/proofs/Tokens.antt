@@ -1,5 +1,5 @@
 -- Tokens of which some are seen as tokens of other kinds: each kind that a rule takes is that of a token.
-use Rattle.std.proofs.Common.{◌≡◌, ℕ, Bool, true, false, ◌||◌, if◌then◌else◌, List, [], ◌∷◌, ◌++◌, map, codes, Option, Some, None, refl, ap, ◌∙◌}
+use Rattle.std.proofs.Common.{◌≡◌, ℕ, Bool, true, false, if◌then◌else◌, List, [], ◌∷◌, ◌++◌, codes, Option, Some, None, refl, ap, ◌∙◌}
 use Rattle.xdg_lex.specs.declared.token.Kind.{Kind}
 use Rattle.xdg_lex.specs.declared.token.Kind.TheVariants as k
 use Rattle.xdg_lex.specs.Lexed.{Lexeme}

@@ -1,5 +1,5 @@
 -- The tree of a formula, form by form.
-use Rattle.std.proofs.Common.{◌≡◌, ℕ, List, length, map, sym, ap, ◌∙◌}
+use Rattle.std.proofs.Common.{◌≡◌, List, length, map, sym, ap, ◌∙◌}
 use Rattle.xdg_base.specs.declared.places.Span.{Span}
 use Rattle.xdg_ast.specs.declared.names.Name.{Name}
 use Rattle.xdg_ast.specs.declared.names.Spanned.{Spanned}

@@ -6,7 +6,7 @@ use Rattle.xdg_lex.specs.declared.token.Kind.{Kind}
 use Rattle.xdg_lex.specs.Lexed.{Lexeme}
 use Rattle.xdg_ast.specs.Language.{Language, kind_of, ended_by, State, Unexpected, TooDeep, Outcome}
 use Rattle.xdg_ast.specs.Brackets.{is_opening, is_closing, past, walk}
-use Rattle.xdg_ast.specs.Derives.{most_brackets, IsShallow, place_of}
+use Rattle.xdg_ast.specs.Derives.{IsShallow, place_of}
 use Rattle.xdg_parse_terms.specs.Steadiness.{at, Steady}
 use Rattle.xdg_parse.specs.Laws.{Says, Law}
 use Rattle.xdg_parse.proofs.Laws.{balanced, one, some-same, some-from}

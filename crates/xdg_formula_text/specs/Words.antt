@@ -1,7 +1,7 @@
 -- The tokens of a rules text. They are spelled as those of a grammar text, but the words of rules, such as `rule`, are names there, and the
 -- keywords of grammars mean nothing in rules. So a token is seen with the kind that it has in rules: each word has a kind of its own, for
 -- which the kind of a keyword stands, and a keyword has a kind that no rule takes.
-use Rattle.std.specs.Prelude.{Bool, ◌||◌, if◌then◌else◌, List, codes, bytes_eq, map, ℕ}
+use Rattle.std.specs.Prelude.{if◌then◌else◌, List, codes, bytes_eq, map, ℕ}
 use Rattle.xdg_lex.specs.declared.token.Kind.{Kind}
 use Rattle.xdg_lex.specs.declared.token.Kind.TheVariants as k
 use Rattle.xdg_lex.specs.Lexed.{Lexeme}
