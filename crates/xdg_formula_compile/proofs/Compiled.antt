@@ -13,12 +13,14 @@ use Rattle.xdg_problem.specs.declared.formula.Formula.{Formula}
 use Rattle.xdg_problem.specs.declared.formula.Formula.TheVariants as y
 use Rattle.xdg_problem.specs.declared.parts.Parts.{Parts}
 use Rattle.xdg_problem.specs.Claims.{Claim, claim, claims_of}
+use Rattle.xdg_problem.specs.Truths.{unbound}
 use Rattle.xdg_problem.proofs.Claimed.{claim_not, claim_and, claim_or, claim_every, claim_any, claim_left, claim_same}
 use Rattle.xdg_terms.specs.Faults.{has}
 use Rattle.xdg_terms.specs.Means.{IsAt}
 use Rattle.xdg_types.specs.declared.table.DimType.{DimType}
 use Rattle.xdg_types.specs.Table.{Table}
 use Rattle.xdg_formula_check.specs.Formulas.{faults_each}
+use Rattle.xdg_formula_text.specs.declared.tree.Rule.{Rule}
 use Rattle.xdg_formula_text.specs.declared.tree.RuleKind.{RuleKind}
 use Rattle.xdg_formula_text.specs.declared.tree.RuleKind.TheVariants as r
 use Rattle.xdg_formula_text.specs.Rules.{RuleTerm}
@@ -26,7 +28,7 @@ use Rattle.xdg_formula_text.specs.Written as w
 use Rattle.xdg_formula_text.specs.Written.{Tree, tree, trees_of}
 use Rattle.xdg_formula_text.proofs.Treed.{treed, tree_or, tree_and, tree_not, tree_every, tree_any, tree_edge, tree_above, tree_left, tree_same, tree_attr, tree_feat}
 use Rattle.xdg_formula_compile.specs.Right.{IsRight}
-use Rattle.xdg_formula_compile.specs.Says.{Says}
+use Rattle.xdg_formula_compile.specs.Says.{Keeps, Says}
 use Rattle.xdg_formula_compile.specs.Signs.{denies}
 use Rattle.xdg_formula_compile.proofs.FormulaLaws.{SaysEach, says_none, says_then, says_conjunction, says_disjunction, says_even, says_odd, says_every, says_any}
 use Rattle.xdg_formula_compile.proofs.Rightly.{AreNodes, IsBindingRight, not_right, every_right, any_right, left_right, same_right, part_right}
@@ -78,22 +80,29 @@ pub inside_bound : (dims : List DimType) (scope inner : List (List ℕ)) (name :
 inside_bound dims scope inner name body item right same scoped =
     subst (λ (names : List (List ℕ)). IsRight dims names (tree item.kind)) (sym scoped) (subst (λ (term : RuleTerm). IsRight dims (scope ++ name.text ∷ []) (tree term.kind)) (sym same) right.inside)
 
+-- ---- lists side by side
+
+zip_behind : {A B : Type 0} (R : A → B → Type 0) (xs : List A) (ys : List B) (x : A) (y : B) → AllZip R xs ys → R x y → AllZip R (xs ++ x ∷ []) (ys ++ y ∷ [])
+zip_behind R [] [] x y zip last = (last, tt)
+zip_behind R [] (b ∷ ys) x y zip last = absurd zip
+zip_behind R (a ∷ xs) [] x y zip last = absurd zip
+zip_behind R (a ∷ xs) (b ∷ ys) x y zip last = (zip.0, zip_behind R xs ys x y zip.1 last)
+
+-- a turn of a loop
+pub zip_more : {A B : Type 0} (R : A → B → Type 0) (xs : List A) (i : ℕ) (ys now : List B) (x : A) (y : B) → i < length xs → x ≡ get_or xs i x → now ≡ ys ++ y ∷ [] → AllZip R (take i xs) ys → R x y → AllZip R (take (i + 1) xs) now
+zip_more R xs i ys now x y l is pushed zip last =
+    subst (AllZip R (take (i + 1) xs)) (sym pushed)
+    (subst (λ front. AllZip R front (ys ++ y ∷ [])) (ap (λ one. take i xs ++ one ∷ []) is ∙ sym (take_more xs i x l)) (zip_behind R (take i xs) ys x y zip last))
+
+pub zip_all : {A B : Type 0} (R : A → B → Type 0) (xs : List A) (i : ℕ) (ys : List B) → length xs ≤ i → AllZip R (take i xs) ys → AllZip R xs ys
+zip_all R xs i ys over zip = subst (λ front. AllZip R front ys) (take_all i xs over) zip
+
 -- ---- what is made says what was written
 
 module _ (table : Table) (lexicon : Lexicon) (parts : Parts) where
   -- of members that were made one after another
   abbrev pub AreMade : List (List ℕ) → List RuleTerm → List Formula → Type 0
   AreMade scope = AllZip (λ (term : RuleTerm) (made : Formula). Says table lexicon parts scope (tree term.kind) (claim made))
-
-  made_behind : (scope : List (List ℕ)) (terms : List RuleTerm) (made : List Formula) (term : RuleTerm) (formula : Formula) → AreMade scope terms made → Says table lexicon parts scope (tree term.kind) (claim formula) → AreMade scope (terms ++ term ∷ []) (made ++ formula ∷ [])
-  made_behind scope [] [] term formula are says = (says, tt)
-  made_behind scope [] (f ∷ made) term formula are says = absurd are
-  made_behind scope (one ∷ terms) [] term formula are says = absurd are
-  made_behind scope (one ∷ terms) (f ∷ made) term formula are says = (are.0, made_behind scope terms made term formula are.1 says)
-
-  pub made_more : (scope : List (List ℕ)) (terms : List RuleTerm) (i : ℕ) (made : List Formula) (term : RuleTerm) (formula : Formula) → i < length terms → term ≡ get_or terms i term → AreMade scope (take i terms) made → Says table lexicon parts scope (tree term.kind) (claim formula) → AreMade scope (take (i + 1) terms) (made ++ formula ∷ [])
-  made_more scope terms i made term formula l stands are says =
-      subst (λ ts. AreMade scope ts (made ++ formula ∷ [])) (ap (λ one. take i terms ++ one ∷ []) stands ∙ sym (take_more terms i term l)) (made_behind scope (take i terms) made term formula are says)
 
   says_each : (scope : List (List ℕ)) (terms : List RuleTerm) (made : List Formula) → AreMade scope terms made → SaysEach table lexicon parts scope (trees_of (map treed terms)) (claims_of (map claim made))
   says_each scope [] [] are = says_none table lexicon parts scope
@@ -141,3 +150,11 @@ module _ (table : Table) (lexicon : Lexicon) (parts : Parts) where
     made_any inner name body item made boxed n is same scoped fresh number put says =
         says_by (r.Any name body) _ _ _ is (tree_any name body) (claim_any n boxed)
         (says_any table lexicon parts scope name fresh body.span.start (tree body.kind) (claim boxed) n number (inside body item (scope ++ name.text ∷ []) inner (claim boxed) same scoped (subst (λ f. Says table lexicon parts inner (tree item.kind) (claim f)) (sym put) says)))
+
+  -- ---- rules
+
+  pub kept : (rule : Rule) (made : Formula) → Says table lexicon parts [] (tree rule.body.kind) (claim made) → Keeps table lexicon parts rule made
+  kept rule made says = record {
+    suits = record { is_of = says.is_of; bound = says.bound [] (λ i l. absurd (omega (arith, l))) };
+    same = λ a fits. says.same a fits (λ name. 0) unbound (λ i l. absurd (omega (arith, l)));
+  }

@@ -1,6 +1,7 @@
 -- What is there where nothing is wrong.
-use Rattle.std.proofs.Common.{◌≡◌, ◌≢◌, ℕ, zero, suc, ◌<◌, ◌≤◌, Bool, true, false, List, [], ◌∷◌, ◌++◌, length, get_or, map, Option, None, Some, refl, sym, ap, ◌∙◌, subst, arith}
-use Rattle.std.specs.Prelude.{◌==◌, if◌then◌else◌, IsSome}
+use Rattle.std.proofs.Common.{◌≡◌, ◌≢◌, ℕ, zero, suc, ◌<◌, ◌≤◌, Bool, true, false, List, [], ◌∷◌, ◌++◌, length, get_or, map, Option, None, Some, inl, refl, sym, subst, arith}
+use Rattle.std.specs.Prelude.{◌==◌, if◌then◌else◌, slice_get, IsSome}
+use Rattle.std.specs.List.{flat_map}
 use Rattle.std.proofs.lemmas.Bool.{eqb-false}
 use Rattle.xdg_base.specs.declared.faults.Cause.{Cause}
 use Rattle.xdg_base.specs.declared.faults.Fault.{Fault}
@@ -8,10 +9,14 @@ use Rattle.xdg_ast.specs.declared.names.Name.{Name}
 use Rattle.xdg_ast.specs.Grammar.{Term}
 use Rattle.xdg_domain.specs.Shapes.{Shape, shape}
 use Rattle.xdg_domain.specs.declared.types.Ty.{Ty}
-use Rattle.xdg_terms.specs.Faults.{has, missing}
+use Rattle.xdg_faults.specs.First.{In}
+use Rattle.xdg_terms.specs.Faults.{all_twice, has, missing}
 use Rattle.xdg_types.specs.declared.table.DimType.{DimType}
-use Rattle.xdg_formula_check.specs.Formulas.{under_name, in_dim, unbound_nodes, attribute_faults, attr_faults, field_faults, feat_faults, feature_faults, member_faults, value_faults, edge_faults, dim_faults, faults_in, faults_each, formula_faults, binding_faults, nested}
-use Rattle.xdg_formula_check.specs.Tables.{dim_named, type_named, member_shape}
+use Rattle.xdg_types.specs.Table.{Table}
+use Rattle.xdg_formula_check.specs.Formulas.{under_name, in_dim, unbound_nodes, attribute_faults, attr_faults, field_faults, feat_faults, feature_faults, member_faults, value_faults, edge_faults, dim_faults, faults_in, faults_each, formula_faults, binding_faults, most_rules, names_of, nested, rules_faults, too_many}
+use Rattle.xdg_formula_check.specs.Answers.{Offends}
+use Rattle.xdg_formula_check.specs.Tables.{dim_named, type_named, member_shape, used_dims}
+use Rattle.xdg_formula_text.specs.declared.tree.Rule.{Rule}
 use Rattle.xdg_formula_text.specs.Rules.{RuleTerm}
 use Rattle.xdg_formula_text.specs.Written as w
 use Rattle.xdg_formula_text.specs.Written.{tree, trees_of}
@@ -161,3 +166,22 @@ module _ (dims : List DimType) (scope : List (List ℕ)) where
   part_right [] i term none l is = absurd (omega (arith, l))
   part_right (first ∷ more) zero term none l is = (first.span.start, subst (λ (one : RuleTerm). faults_in dims scope first.span.start (tree one.kind) ≡ []) (sym is) (first_none (formula_faults dims scope first) (faults_each dims scope (trees_of (map treed more))) none))
   part_right (first ∷ more) (suc i) term none l is = part_right more i term (second_none (formula_faults dims scope first) (faults_each dims scope (trees_of (map treed more))) none) (omega (arith, l)) is
+
+-- ---- rules
+
+none_in : (fs : List Fault) → ((f : Fault) → In fs f → ⊥) → fs ≡ []
+none_in [] nothing = refl
+none_in (f ∷ fs) nothing = absurd (nothing f (inl refl))
+
+body_at : (dims : List DimType) (rules : List Rule) (i : ℕ) (rule : Rule) → flat_map (λ (one : Rule). formula_faults dims [] one.body) rules ≡ [] → i < length rules → rule ≡ get_or rules i rule → formula_faults dims [] rule.body ≡ []
+body_at dims [] i rule none l is = absurd (omega (arith, l))
+body_at dims (one ∷ rules) zero rule none l is = subst (λ (first : Rule). formula_faults dims [] first.body ≡ []) (sym is) (first_none (formula_faults dims [] one.body) (flat_map (λ (other : Rule). formula_faults dims [] other.body) rules) none)
+body_at dims (one ∷ rules) (suc i) rule none l is = body_at dims rules i rule (second_none (formula_faults dims [] one.body) (flat_map (λ (other : Rule). formula_faults dims [] other.body) rules) none) (omega (arith, l)) is
+
+pub body_right : (table : Table) (rules : List Rule) (i : ℕ) (rule : Rule) → ((f : Fault) → Offends table rules f → ⊥) → i < length rules → rule ≡ get_or rules i rule → formula_faults (used_dims table) [] rule.body ≡ []
+body_right table rules i rule nothing l is =
+    let many = too_many (slice_get rules most_rules) in
+    let names = all_twice [] (names_of rules) in
+    let bodies = flat_map (λ (one : Rule). formula_faults (used_dims table) [] one.body) rules in
+    let none : many ++ (names ++ bodies) ≡ [] = none_in (rules_faults table rules) nothing in
+    body_at (used_dims table) rules i rule (second_none names bodies (second_none many (names ++ bodies) none)) l is

@@ -1,4 +1,4 @@
-use Rattle.std.proofs.Common.{◌≡◌, List, ap, map, refl, subst, ◌∙◌}
+use Rattle.std.proofs.Common.{◌≡◌, ap, map, refl, subst, ◌∙◌}
 use Rattle.std.specs.List.{flat_map}
 use Rattle.std.specs.Prelude.{IfOk}
 use Rattle.xdg_faults.specs.First.{first}

@@ -1,4 +1,4 @@
-use Rattle.std.proofs.Common.{◌≡◌, true, false, arith}
+use Rattle.std.proofs.Common.{◌≡◌, true, false}
 use Rattle.std.specs.Prelude.{bytes_eq}
 use Rattle.xdg_formula_check.proofs.Turns.{dim_found, dim_passed}
 use Rattle.xdg_formula_check.proofs.tables.dim_among.Goals as goal
