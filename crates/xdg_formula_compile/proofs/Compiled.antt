@@ -1,7 +1,7 @@
 -- What the formulas that are made say, form by form.
-use Rattle.std.proofs.Common.{◌≡◌, ◌≢◌, ℕ, zero, suc, ◌<◌, ◌≤◌, ◌+◌, true, false, List, [], ◌∷◌, ◌++◌, length, get_or, map, take, refl, sym, ap, ◌∙◌, subst, arith}
+use Rattle.std.proofs.Common.{◌≡◌, ◌≢◌, ℕ, zero, suc, ◌<◌, ◌≤◌, ◌+◌, true, false, List, [], ◌∷◌, ◌++◌, length, get_or, map, take, length-append, refl, sym, ap, ◌∙◌, subst, arith}
 use Rattle.std.specs.List.{AllZip}
-use Rattle.std.proofs.lemmas.List.{take_all, take_more}
+use Rattle.std.proofs.lemmas.List.{length-map, take_all, take_more}
 use Rattle.xdg_base.specs.declared.ids.AttrId.{AttrId}
 use Rattle.xdg_base.specs.declared.ids.DimId.{DimId}
 use Rattle.xdg_base.specs.declared.ids.LabelId.{LabelId}
@@ -79,6 +79,13 @@ module _ (dims : List DimType) (scope : List (List ℕ)) (kind : RuleKind) (righ
 pub inside_bound : (dims : List DimType) (scope inner : List (List ℕ)) (name : Name) (body item : RuleTerm) → IsBindingRight dims scope name (tree body.kind) → item ≡ body → inner ≡ scope ++ name.text ∷ [] → IsRight dims inner (tree item.kind)
 inside_bound dims scope inner name body item right same scoped =
     subst (λ (names : List (List ℕ)). IsRight dims names (tree item.kind)) (sym scoped) (subst (λ (term : RuleTerm). IsRight dims (scope ++ name.text ∷ []) (tree term.kind)) (sym same) right.inside)
+
+-- so many names are bound inside
+pub deeper : {A : Type 0} (text : A → List ℕ) (dims : List DimType) (bound inner : List A) (name : Name) (t : Tree) → IsBindingRight dims (map text bound) name t → length bound ≤ 3 → map text inner ≡ map text bound ++ name.text ∷ [] → length inner ≤ 3
+deeper text dims bound inner name t right few scoped =
+    let long : length (map text inner) ≡ length (map text bound ++ name.text ∷ []) = ap length scoped in
+    let room = right.room in
+    omega (arith, long, length-append (map text bound) (name.text ∷ []), length-map inner text, length-map bound text, few, room)
 
 -- ---- lists side by side
 

@@ -42,7 +42,7 @@ use Rattle.xdg_formula_compile.proofs.Used.{among_all, used_within, is_called, o
 use Rattle.xdg_formula_compile.proofs.AtomLaws.{first_at, one_named, stands_for, node_below, keeps_at, typed_at}
 use Rattle.xdg_formula_compile.proofs.Featured.{said_says, said_field}
 
-feature_at : (all : Typed) (i : ℕ) (name : List ℕ) (type : Shape) → AreFeatures all → slice_get all i ≡ Some (name, type) → IsType type
+pub feature_at : (all : Typed) (i : ℕ) (name : List ℕ) (type : Shape) → AreFeatures all → slice_get all i ≡ Some (name, type) → IsType type
 feature_at [] i name type are h = absurd (cc)
 feature_at (one ∷ more) zero name type are h = (let e : one ≡ (name, type) = cc in subst (λ (field : List ℕ × Shape). IsType field.1) e are.0)
 feature_at (one ∷ more) (suc i) name type are h = feature_at more i name type are.1 h

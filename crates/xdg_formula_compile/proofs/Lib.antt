@@ -1,5 +1,6 @@
 pub mod AtomLaws
 pub mod Atomic
+pub mod Chosen
 pub mod Compiled
 pub mod Featured
 pub mod FeatLaws
@@ -7,5 +8,6 @@ pub mod FormulaLaws
 pub mod Numbers
 pub mod Rightly
 pub mod Standing
+pub mod Turned
 pub mod Used
 pub mod Valued

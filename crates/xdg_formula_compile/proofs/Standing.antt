@@ -27,6 +27,22 @@ module _ {A : Type 0} (text : A → List ℕ) (xs : List A) (i : ℕ) (name : Li
   pub name_nowhere : length xs ≤ i → has (map text (drop i xs)) name ≡ true → ⊥
   name_nowhere over there = false≢true (sym (at_drop_all (λ ys. has (map text ys) name) xs i over) ∙ there)
 
+-- the same of texts themselves
+same_map : (xs : List (List ℕ)) → map (λ x. x) xs ≡ xs
+same_map [] = refl
+same_map (x ∷ xs) = ap (λ ys. x ∷ ys) (same_map xs)
+
+module _ (xs : List (List ℕ)) (i : ℕ) (name : List ℕ) where
+  pub text_here : (x : List ℕ) → i < length xs → x ≡ get_or xs i x → x ≡ name → IsAt xs i name
+  text_here x l is same = subst (λ ys. IsAt ys i name) (same_map xs) (name_here (λ y. y) xs i name x l is same)
+
+  pub text_later : (x : List ℕ) → i < length xs → x ≡ get_or xs i x → bytes_eq x name ≡ false → has (drop i xs) name ≡ true → has (drop (i + 1) xs) name ≡ true
+  text_later x l is other there =
+      subst (λ ys. has ys name ≡ true) (same_map (drop (i + 1) xs)) (name_later (λ y. y) xs i name x l is other (subst (λ ys. has ys name ≡ true) (sym (same_map (drop i xs))) there))
+
+  pub text_nowhere : length xs ≤ i → has (drop i xs) name ≡ true → ⊥
+  text_nowhere over there = name_nowhere (λ y. y) xs i name over (subst (λ ys. has ys name ≡ true) (sym (same_map (drop i xs))) there)
+
 -- ---- dimensions
 
 module _ (dims : List DimType) (used : List ℕ) (i : ℕ) (name : List ℕ) where
@@ -39,6 +55,19 @@ module _ (dims : List DimType) (used : List ℕ) (i : ℕ) (name : List ℕ) whe
       within = omega (arith, l, length-map used (λ k. get_or dims k no_dim));
       is = sym (dim_next dims used name i l so_far) ∙ ap (λ b. if b then Some here else dim_named (dims_at dims (drop (i + 1) used)) name) same ∙ ap Some (sym (get_or-map (λ k. get_or dims k no_dim) used i 0 no_dim l));
     }
+
+    pub dim_later : bytes_eq here.name name ≡ false → dim_named (dims_at dims (drop (i + 1) used)) name ≡ dim_named (dims_at dims used) name
+    dim_later other = sym (ap (λ b. if b then Some here else dim_named (dims_at dims (drop (i + 1) used)) name) other) ∙ dim_next dims used name i l so_far
+
+    module _ (k : ℕ) (dim : DimType) (k_is : k ≡ get_or used i k) (within : k < length dims) (there : dim ≡ get_or dims k dim) where
+      same_dim : dim ≡ here
+      same_dim = there ∙ get_or_default dims k dim no_dim within ∙ ap (λ j. get_or dims j no_dim) (k_is ∙ get_or_default used i k 0 l)
+
+      pub dim_found : bytes_eq dim.name name ≡ true → IsDimAt (dims_at dims used) name i
+      dim_found is = dim_here (subst (λ (one : DimType). bytes_eq one.name name ≡ true) same_dim is)
+
+      pub dim_passed : bytes_eq dim.name name ≡ false → dim_named (dims_at dims (drop (i + 1) used)) name ≡ dim_named (dims_at dims used) name
+      dim_passed other = dim_later (subst (λ (one : DimType). bytes_eq one.name name ≡ false) same_dim other)
 
   pub dim_nowhere : length used ≤ i → dim_named (dims_at dims (drop i used)) name ≡ dim_named (dims_at dims used) name → IsSome (dim_named (dims_at dims used) name) → ⊥
   dim_nowhere over so_far some = false≢true (subst IsSome (sym so_far ∙ at_drop_all (λ ks. dim_named (dims_at dims ks) name) used i over) some)

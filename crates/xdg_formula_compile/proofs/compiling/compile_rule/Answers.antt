@@ -1,3 +1,5 @@
+use Rattle.std.proofs.Common.{[]}
+use Rattle.xdg_formula_compile.proofs.Compiled.{kept}
 use Rattle.xdg_formula_compile.proofs.compiling.compile_rule.Goals as goal
 
 pub formula_of-requires-clause-right : goal.formula_of-requires-clause-right
