@@ -36,13 +36,13 @@ use Rattle.xdg_build.proofs.Planned as planned
 
 -- ---- used dimensions
 
-stands_at : (ks : List ℕ) (i : ℕ) → i < length ks → HasPlace ks (get_or ks i 0)
+pub stands_at : (ks : List ℕ) (i : ℕ) → i < length ks → HasPlace ks (get_or ks i 0)
 stands_at [] i within = absurd (omega (arith, within))
 stands_at (k ∷ ks) zero within = inl refl
 stands_at (k ∷ ks) (suc i) within = inr (stands_at ks i (omega (arith, within)))
 
 -- a dimension stands at one place among the used ones
-place_is : (bound : ℕ) (used : List ℕ) (i k : ℕ) → ArePlaces bound used → i < length used → get_or used i 0 ≡ k → place_in used k ≡ i
+pub place_is : (bound : ℕ) (used : List ℕ) (i k : ℕ) → ArePlaces bound used → i < length used → get_or used i 0 ≡ k → place_in used k ≡ i
 place_is bound [] i k h within is = absurd (omega (arith, within))
 place_is bound (j ∷ used) zero k h within is = ap (λ b. cond b 0 (suc (place_in used k))) (eq-eqb j k is)
 place_is bound (j ∷ used) (suc i) k h within is =
@@ -73,19 +73,19 @@ record_same (j ∷ used) (r ∷ entry) k long = record_step (j == k) used r entr
 
 -- ---- values
 
-fits_at : (sizes xs : List ℕ) (p : ℕ) → Fits sizes xs → p < length xs → get_or xs p 0 < get_or sizes p 0
+pub fits_at : (sizes xs : List ℕ) (p : ℕ) → Fits sizes xs → p < length xs → get_or xs p 0 < get_or sizes p 0
 fits_at sizes [] p fits within = absurd (omega (arith, within))
 fits_at [] (x ∷ xs) p fits within = absurd fits
 fits_at (s ∷ sizes) (x ∷ xs) zero fits within = fits.0
 fits_at (s ∷ sizes) (x ∷ xs) (suc p) fits within = fits_at sizes xs p fits.1 (omega (arith, within))
 
-repeated_length : (counts : List ℕ) (first many : ℕ) → length (flat_map (λ (node : ℕ). counts) (numbers_from first many)) ≡ many * length counts
+pub repeated_length : (counts : List ℕ) (first many : ℕ) → length (flat_map (λ (node : ℕ). counts) (numbers_from first many)) ≡ many * length counts
 repeated_length counts first zero = (let none : 0 ≡ 0 * length counts = grind arith in none)
 repeated_length counts first (suc many) =
     let more : length counts + many * length counts ≡ suc many * length counts = grind arith in
     length-append counts (flat_map (λ (node : ℕ). counts) (numbers_from (suc first) many)) ∙ ap (λ k. length counts + k) (repeated_length counts (suc first) many) ∙ more
 
-repeated_at : (counts : List ℕ) (first many v i : ℕ) → v < many → i < length counts → get_or (flat_map (λ (node : ℕ). counts) (numbers_from first many)) (v * length counts + i) 0 ≡ get_or counts i 0
+pub repeated_at : (counts : List ℕ) (first many v i : ℕ) → v < many → i < length counts → get_or (flat_map (λ (node : ℕ). counts) (numbers_from first many)) (v * length counts + i) 0 ≡ get_or counts i 0
 repeated_at counts first zero v i node within = absurd (omega (arith, node))
 repeated_at counts first (suc many) zero i node within =
     let place : 0 * length counts + i ≡ i = grind arith in

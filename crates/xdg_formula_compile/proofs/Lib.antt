@@ -1,0 +1,13 @@
+pub mod AtomLaws
+pub mod Atomic
+pub mod Chosen
+pub mod Compiled
+pub mod Featured
+pub mod FeatLaws
+pub mod FormulaLaws
+pub mod Numbers
+pub mod Rightly
+pub mod Standing
+pub mod Turned
+pub mod Used
+pub mod Valued

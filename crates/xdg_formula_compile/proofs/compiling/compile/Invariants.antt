@@ -1,0 +1,6 @@
+use Rattle.std.proofs.Common.{take}
+use Rattle.xdg_formula_compile.specs.Says.{KeepsEach}
+use Rattle.xdg_formula_compile.proofs.compiling.compile.Given as goal
+
+abbrev pub invariant-loop-rule : goal.invariant-loop-rule
+invariant-loop-rule l = KeepsEach l.types l.packed l.problem (take l.rule-index l.rule-items) l.made

@@ -1,0 +1,9 @@
+use Rattle.std.proofs.Common.{[]}
+use Rattle.xdg_formula_compile.proofs.Compiled.{kept}
+use Rattle.xdg_formula_compile.proofs.compiling.compile_rule.Goals as goal
+
+pub formula_of-requires-clause-right : goal.formula_of-requires-clause-right
+formula_of-requires-clause-right c = (c.args.rule.now.body.span.start, c.requires.right)
+
+pub returns : goal.returns
+returns c = ?

@@ -1,0 +1,7 @@
+pub mod Places
+pub mod Problems
+pub mod Right
+pub mod Says
+pub mod Signs
+pub mod Tables
+pub mod Truths
