@@ -1,6 +1,7 @@
 -- Arrangements, one after another: which are printed, and which are left.
-use Rattle.std.proofs.Common.{◌≡◌, ◌∙◌, ℕ, ◌<◌, ◌≤◌, ◌+◌, ◌==◌, true, false, List, [], ◌∷◌, ◌++◌, length, refl, sym, ap, subst, arith, append_assoc, append-nil, Some, None}
+use Rattle.std.proofs.Common.{◌≡◌, ◌∙◌, ℕ, ◌<◌, ◌≤◌, ◌+◌, ◌==◌, Bool, true, false, List, [], ◌∷◌, ◌++◌, length, refl, sym, ap, subst, arith, append_assoc, append-nil, Some, None}
 use Rattle.std.specs.Prelude.{Option, cond}
+use Rattle.std.proofs.lemmas.Bool.{eqb-true}
 use Rattle.std.proofs.lemmas.List.{append_cancel_left}
 use Rattle.xdg_arrange.specs.Found.{Adds, IsOneFind, arrangement_line}
 use Rattle.xdg_arrange.specs.Lists.{Listed}
@@ -111,7 +112,11 @@ module _ (budget : ℕ) (listed : Listed) (s t : Arranged) (printed turn : ℕ) 
 module _ (budget : ℕ) (listed : Listed) (s : Arranged) (printed turn : ℕ) (ranks : List ℕ) (old now : Option (List ℕ)) (r : Reaches budget listed s printed turn ranks old now) where
   counted : (analyses : List Analysis) (count : ℕ) → count ≡ length analyses → printed + cond (count == 0) 0 1 ≡ with_printed printed analyses
   counted [] count e = subst (λ n. printed + cond (n == 0) 0 1 ≡ printed) (sym e) (omega arith)
-  counted (a ∷ more) count e = subst (λ n. printed + cond (n == 0) 0 1 ≡ printed + 1) (sym e) refl
+  counted (a ∷ more) count e = go (count == 0) refl
+    where
+      go : (b : Bool) → (count == 0) ≡ b → printed + cond b 0 1 ≡ printed + 1
+      go true is = absurd (let none = eqb-true count 0 is in omega (arith, e, none))
+      go false is = refl
 
   at_most : (analyses : List Analysis) → with_printed printed analyses ≤ turn + 1
   at_most [] = let few = r.few in omega (arith, few)

@@ -6,13 +6,14 @@ use Rattle.std.proofs.lemmas.List.{length-map, length-take, take-append-drop, ta
 use Rattle.xdg_analyses.specs.Printed.{blocks, shown}
 use Rattle.xdg_analyses.specs.declared.forms.Form.TheVariants as forms
 use Rattle.xdg_analyses.proofs.Boxing.{boxed_listing}
-use Rattle.xdg_analyses.proofs.Ending.{most_printed}
 use Rattle.xdg_analyses.proofs.Found.{all_answers, blocks_found, first_answers, map_more, spent_answers}
 use Rattle.xdg_arrange.specs.Found.{Adds, Finds, led_block, led_blocks}
 use Rattle.xdg_arrange.proofs.Finding.{finds_of}
 use Rattle.xdg_io.specs.Held.{Appends, AppendsFront}
 use Rattle.xdg_io.proofs.Written.{appends_both, appends_nothing, front_of_first, front_of_second}
 use Rattle.xdg_listing.specs.Answered.{Answered}
+use Rattle.xdg_listing.specs.Endings.{IsEnding}
+use Rattle.xdg_listing.specs.Whole.{reach}
 use Rattle.xdg_listing.specs.declared.Ending.{Ending}
 use Rattle.xdg_listing.specs.declared.Ending.TheVariants as endings
 use Rattle.xdg_listing.proofs.Drawing.{ending_of}
@@ -56,6 +57,13 @@ led_front : (lead : List ℕ) (parts : Parts) (list more : List Analysis) → 0 
 led_front lead parts [] more some = absurd (omega (arith, some))
 led_front lead parts (a ∷ list) more some =
     ap (λ z. lead ++ z) (blocks_front parts 1 (a ∷ list) more) ∙ sym (append_assoc lead (blocks forms.One parts 1 (a ∷ list)) (blocks forms.One parts (1 + length (a ∷ list)) more))
+
+-- no fewer solutions are found than the budget reaches, or all
+most_found : (ending : Ending) (budget : ℕ) (parts : Parts) (counted : List (List ℕ)) (solutions : List Analysis) (m k : ℕ) → IsEnding ending (shape parts) budget None counted (map (vector parts) solutions) m → k ≤ reach (shape parts) budget counted
+    → k ≤ length (map (vector parts) solutions) → k ≤ m
+most_found endings.Complete budget parts counted solutions m k e r l = let h = e.0 in omega (arith, h, l)
+most_found endings.First budget parts counted solutions m k e r l = absurd e.0
+most_found endings.Spent budget parts counted solutions m k e r l = let h = e.0 in omega (arith, h, r)
 
 -- ---- a stream
 
@@ -147,7 +155,7 @@ module _ (lead : List ℕ) (parts : Parts) (budget : ℕ) (s t : Streamed) (coun
           let front_is : map (analysis_of parts) all ≡ take k p.solutions =
           ap (map (analysis_of parts)) ends.0 ∙ sym (take-map (analysis_of parts) k (map (vector parts) p.solutions)) ∙ ap (take k) (analyses_back parts right p.solutions p.solutions_are.each) in
           let long : k ≤ length (map (vector parts) p.solutions) = (let t = ap length ends.0 in let u = length-take k (map (vector parts) p.solutions) in omega (arith, t, u)) in
-          let within : k ≤ p.number = most_printed ending budget None parts p.counted p.solutions p.number k p.end tt ends.1.1 long in
+          let within : k ≤ p.number = most_found ending budget parts p.counted p.solutions p.number k p.end ends.1.1 long in
           let list : List Analysis = take p.number p.solutions in
           let parted : map (analysis_of parts) all ++ drop k list ≡ list = ap (λ z. z ++ drop k list) (front_is ∙ sym (take-take k p.number p.solutions within)) ∙ take-append-drop k list in
           let some : 0 < length (map (analysis_of parts) all) = (let l = length-map all (analysis_of parts) in let n = length-append f.found (t.last ∷ []) in omega (arith, l, n)) in

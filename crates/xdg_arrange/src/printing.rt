@@ -35,12 +35,13 @@ fn words_at(
 {
     let mut made = List::new(alloc);
     for rank in ranks {
-        if let Some(word) = words.get(usize::from(*rank)) {
-            made.push(SentenceWord {
-                text: word.text.copy(alloc)?,
-                at: word.at,
-            })?;
-        }
+        let Some(word) = words.get(usize::from(*rank)) else {
+            continue;
+        };
+        made.push(SentenceWord {
+            text: word.text.copy(alloc)?,
+            at: word.at,
+        })?;
     }
     Ok(made)
 }

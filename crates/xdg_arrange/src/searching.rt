@@ -1,6 +1,6 @@
 //! The search of an arrangement, printed as analyses are found.
 
-ghost use Rattle.std.specs.Prelude.{◌≡◌, ◌≢◌, ◌≤◌, ◌<◌, ◌∷◌, ◌^◌, [], None, codes, decimal, map, IfOk, OnErr, OnOk};
+ghost use Rattle.std.specs.Prelude.{◌≡◌, ◌≢◌, ◌≤◌, ◌<◌, ◌∷◌, ◌==◌, ◌^◌, [], None, codes, cond, decimal, map, IfOk, OnErr, OnOk};
 ghost use Rattle.xdg_arrange.specs.Found.{IsOneFind, Writes, arrangement_line, led_block};
 ghost use Rattle.xdg_io.specs.Held.{Appends, AppendsFront};
 ghost use Rattle.xdg_io.specs.Rose.{Rose};
@@ -49,6 +49,21 @@ fn lead_of<'a>(
     Ok(made)
 }
 
+/// Writes the line of an arrangement before its first analysis, and nothing before another.
+fn write_lead<K: Sink>(lead: &[Word], count: u64, out: &mut K) -> Result<(), Failed>
+    ensures all { OnOk result (Appends (K.held out.old) (K.held out.new) (cond (count == 1) (line (codes "arrangement") (map word_text lead.now)) [])) }
+    ensures front { OnErr result (AppendsFront (K.held out.old) (K.held out.new) (cond (count == 1) (line (codes "arrangement") (map word_text lead.now)) [])) }
+    ensures cause { OnErr result (Rose (K.faults out.old) (K.faults out.new)) }
+    ensures lasting { K.faults out.old ≤ K.faults out.new }
+    ensures quiet { OnOk result (K.faults out.new ≡ K.faults out.old) }
+{
+    if count == 1 {
+        write_line("arrangement", lead, out)
+    } else {
+        Ok(())
+    }
+}
+
 /// Writes an analysis with its number, and before the first one the line of its arrangement.
 #[tactic(auto, using(xdg_text::proofs::Pieces::appends_both, xdg_text::proofs::Pieces::rose_later))]
 fn write_found<K: Sink>(
@@ -67,9 +82,7 @@ fn write_found<K: Sink>(
     ensures lasting { K.faults out.old ≤ K.faults out.new }
     ensures quiet { OnOk result (K.faults out.new ≡ K.faults out.old) }
 {
-    if count == 1 {
-        write_line("arrangement", lead, out)?;
-    }
+    write_lead(lead, count, out)?;
     write_parts(problem, count, entries, attrs, edges, out)
 }
 
@@ -121,6 +134,7 @@ fn print_found<P: Propagator, K: Sink>(
 
 /// Searches an arrangement with a budget of its own, and prints each analysis when it is found, the first one behind a line with the
 /// arrangement's number and words. All memory is taken before the first byte is written.
+#[tactic(auto, using(crate::proofs::Finding::one_find))]
 pub(crate) fn print_arrangement<K: Sink>(
     alloc: Global,
     problem: &Problem,
