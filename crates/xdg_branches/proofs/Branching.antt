@@ -20,7 +20,7 @@ use Rattle.xdg_problem.specs.Analyses.{IsAnalysis}
 use Rattle.xdg_problem.specs.Branches.{branch_of, first_candidates}
 use Rattle.xdg_problem.specs.BranchLaws.{AreBranchLists, joined}
 use Rattle.xdg_problem.specs.Places.{below, numbers_from}
-use Rattle.xdg_problem.specs.Problems.{IsProblem}
+use Rattle.xdg_problem.specs.Problems.{AreCandidates, IsProblem}
 use Rattle.xdg_problem.specs.Solutions.{IsSolution, IsSolutionList}
 use Rattle.xdg_problem.proofs.BranchSolutions.{branch_laws}
 use Rattle.xdg_problem.proofs.BranchesJoined.{branches_join}
@@ -71,6 +71,25 @@ begins_on (x ∷ xs) (y ∷ ys) (z ∷ zs) b c =
 begins_taken : (n : ℕ) (found solutions more : List Analysis) → found ≡ take n solutions → Begins found (solutions ++ more)
 begins_taken n found solutions more is = subst (λ z. Begins z (solutions ++ more)) (sym is) (begins_on (take n solutions) solutions (solutions ++ more) (begins_take n solutions) (begins_more solutions more))
 
+-- ---- the searches of the branches
+
+-- the first node has 1 to 1,024 candidates
+pub first_are : (parts : Parts) → IsProblem parts → AreCandidates (first_candidates parts)
+first_are parts is = is.candidates 0 [] (subst (λ n. 0 < n) (sym is.candidates_each) is.some)
+
+numbers_more : {A : Type 0} (f : ℕ → A) (first n : ℕ) → map f (numbers_from first (suc n)) ≡ map f (numbers_from first n) ++ f (first + n) ∷ []
+numbers_more f first zero = let same : first ≡ first + 0 = omega arith in ap (λ k. f k ∷ []) same
+numbers_more f first (suc n) =
+    let same : suc first + n ≡ first + suc n = omega arith in
+    ap (λ z. f first ∷ z) (numbers_more f (suc first) n ∙ ap (λ k. map f (numbers_from (suc first) n) ++ f k ∷ []) same)
+
+-- a search more
+pub jobs_more : (f : ℕ → Asked) (n : ℕ) (job : Asked) (jobs new : List Asked) → jobs ≡ map f (below n) → job ≡ f n → new ≡ jobs ++ job ∷ [] → new ≡ map f (below (n + 1))
+jobs_more f n job jobs new are is grown =
+    let last : n ≡ 0 + n = omega arith in
+    let next : suc n ≡ n + 1 = omega arith in
+    grown ∙ ap₂ (λ xs x. xs ++ x ∷ []) are is ∙ ap (λ k. map f (below n) ++ f k ∷ []) last ∙ sym (numbers_more f 0 n) ∙ ap (λ k. map f (below k)) next
+
 -- ---- what the branches reach
 
 module _ (parts : Parts) (is : IsProblem parts) (budget : ℕ) (wanted : Option ℕ) where
@@ -98,11 +117,16 @@ module _ (parts : Parts) (is : IsProblem parts) (budget : ℕ) (wanted : Option 
   wanted_from place zero more = absurd (omega (arith, more))
   wanted_from place (suc n) more = refl
 
-  pub wanted_is : 0 < count → wanted_of (branch_jobs parts budget wanted) ≡ wanted
-  wanted_is more = wanted_from 0 count more
+  wanted_is : wanted_of (branch_jobs parts budget wanted) ≡ wanted
+  wanted_is = wanted_from 0 count (first_are parts is).some
 
-  pub all_want : 0 < count → AllWant (wanted_of (branch_jobs parts budget wanted)) (branch_jobs parts budget wanted)
-  all_want more = subst (λ w. AllWant w (branch_jobs parts budget wanted)) (sym (wanted_is more)) (wants_from 0 count)
+  -- so many are wanted of each of the searches
+  pub jobs_want : (jobs : List Asked) → jobs ≡ branch_jobs parts budget wanted → AllWant (wanted_of jobs) jobs
+  jobs_want jobs are = subst (λ js. AllWant (wanted_of js) js) (sym are) (subst (λ w. AllWant w (branch_jobs parts budget wanted)) (sym wanted_is) (wants_from 0 count))
+
+  -- what they come to is what the branches find
+  pub jobs_find : (jobs : List Asked) (ending : Ending) (found : List Analysis) → jobs ≡ branch_jobs parts budget wanted → IsSplit (wanted_of jobs) jobs ending found → IsBranched budget wanted parts ending found
+  jobs_find jobs ending found are split = subst (λ w. IsSplit w (branch_jobs parts budget wanted) ending found) wanted_is (subst (λ js. IsSplit (wanted_of js) js ending found) are split)
 
   -- lists of the branches, of which those that are reached begin the joined ones
   record Listed (place n : ℕ) (whole : Bool) (found : List Analysis) : Type 0 where

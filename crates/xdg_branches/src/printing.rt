@@ -62,6 +62,7 @@ fn search<R: Threads + Sync>(
     requires { CanBranch budget first }
     ensures { IfOk result (λ answer. IsBranched budget first problem.now answer.ending answer.found) }
 {
+    let _parts = problem.parts();
     let jobs = branch_jobs(alloc, problem, budget, first)?;
     split(rt, alloc, jobs.as_slice())
 }
