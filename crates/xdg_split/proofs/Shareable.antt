@@ -49,7 +49,7 @@ principle_sync : IsSync principle.the_row
 principle_sync =
     variants_sync principle.enum
     (tt, (tt, (tt, (tt, (tt, (tt, (tt, (tt, (tt, (tt, (tt, (tt, (tt, (tt, (tt, (tt, (tt, (tt, (tt,
-    ((formula_sync, tt), ((search (costs_shared.the_sync, as_row_sync) depth 10, (search sendable depth 10, tt)), tt)))))))))))))))))))))
+    ((formula_sync, tt), ((costs_shared.the_sync, (search sendable depth 10, tt)), tt)))))))))))))))))))))
 
 group_sync : IsSync group.the_row
 group_sync =
