@@ -185,5 +185,11 @@ pub fn is_false(store: &Store, formula: &Formula) -> bool
     ensures exact { IsTrue result ↔ RuleFalse store.now.parts formula.now store.now.now }
     ensures known { Known store.now }
 {
-    makes(store, &Paths::of(store, formula), &none_bound(), formula, false)
+    makes(
+        store,
+        &Paths::of(store, formula),
+        &none_bound(),
+        formula,
+        false,
+    )
 }

@@ -81,14 +81,7 @@ fn forbid_dear(store: &mut Store, pass: &mut Pass, group: &Group, rows: &[[u32; 
     ensures { Sweeps group.now (OfDims rows.now room (length store.old.parts.dims) store.old.parts) pass.old store.old pass.new store.new }
 {
     for dim in 0..store.problem().parts().dims.len() as u8 {
-        forbid_on(
-            store,
-            pass,
-            group,
-            DimId(dim),
-            &rows[dim as usize],
-            room,
-        );
+        forbid_on(store, pass, group, DimId(dim), &rows[dim as usize], room);
     }
 }
 
