@@ -1,18 +1,17 @@
 -- What a bound takes, and when a box is closed for it.
-use Rattle.std.proofs.Common.{◌≡◌, ℕ, ◌+◌, ◌-◌, ◌<◌, ◌≤◌, inl, inr, Bool, List, [], length, refl, sym, ap, ◌∙◌, arith, subst}
-use Rattle.std.specs.Prelude.{slice_index, slice_index_or}
+use Rattle.std.proofs.Common.{◌≡◌, ℕ, ◌-◌, ◌<◌, ◌≤◌, inr, Bool, List, [], length, refl, sym, arith, subst}
+use Rattle.std.specs.Prelude.{slice_index_or}
 use Rattle.xdg_problem.specs.declared.parts.Group.{Group}
 use Rattle.xdg_problem.specs.declared.parts.Parts.{Parts}
-use Rattle.xdg_problem.specs.declared.parts.Principle.{Principle}
 use Rattle.xdg_problem.specs.declared.parts.Principle.TheVariants as principles
 use Rattle.xdg_problem.specs.Boxes.{Has, edge_decision}
-use Rattle.xdg_problem.specs.Costs.{CostLists, label_cost}
-use Rattle.xdg_problem.specs.Places.{edge, nodes}
+use Rattle.xdg_problem.specs.Costs.{CostLists}
+use Rattle.xdg_problem.specs.Places.{edge}
 use Rattle.xdg_problem.specs.Problems.{IsProblem}
 use Rattle.xdg_problem.proofs.PlaceOrder.{is_place, place_is}
 use Rattle.xdg_reach.specs.Edges.{edge_labels}
 use Rattle.xdg_reach.proofs.Labelled.{label_below}
-use Rattle.xdg_rules.specs.Bounds.{least_cost, BoundReached, BoundPlace}
+use Rattle.xdg_rules.specs.Bounds.{least_cost}
 use Rattle.xdg_rules.specs.Rules.{TakesBy, Takes, IsClosedFor}
 use Rattle.xdg_rules.proofs.Costing.{cost_more}
 use Rattle.xdg_pcost.specs.CostRows.{AreLabelCosts}

@@ -1,5 +1,5 @@
 -- Edges that need not be and cost too much, taken label by label.
-use Rattle.std.proofs.Common.{◌≡◌, ℕ, ◌+◌, ◌<◌, ◌≤◌, ◌↔◌, IsTrue, inl, inr, Bool, true, false, List, [], length, refl, sym, ap, ◌∙◌, arith, subst}
+use Rattle.std.proofs.Common.{◌≡◌, ℕ, ◌+◌, ◌<◌, ◌≤◌, ◌↔◌, IsTrue, inl, inr, Bool, true, List, [], length, refl, sym, ap, ◌∙◌, arith, subst}
 use Rattle.std.specs.Prelude.{slice_index, slice_index_or}
 use Rattle.std.proofs.lemmas.Bool.{cases_Bool, cases_eq, both_ways}
 use Rattle.xdg_nodeset.specs.Nodes as sets
@@ -18,7 +18,7 @@ use Rattle.xdg_reach.specs.Edges.{edges_of, edge_labels}
 use Rattle.xdg_reach.proofs.Edges.{stands_by}
 use Rattle.xdg_rules.specs.Rules.{has, Takes}
 use Rattle.xdg_store.specs.States.{State, Known}
-use Rattle.xdg_propcore.specs.Passes.{Progress, Goes, Clears, IsQuiet}
+use Rattle.xdg_propcore.specs.Passes.{Progress, Clears}
 use Rattle.xdg_propcore.specs.Sweeps.{Sweeps}
 use Rattle.xdg_propcore.proofs.Sweeping.{group_stays, sweeps_start, sweeps_skip, sweeps_next}
 use Rattle.xdg_pmulti.specs.Aims.{Beyond, Forbids}

@@ -1,15 +1,14 @@
 -- The least costs of entries, one after another.
-use Rattle.std.proofs.Common.{◌≡◌, ℕ, ◌+◌, ◌<◌, ◌≤◌, zero, suc, Bool, true, false, cond, List, [], length, map, Option, Some, None, refl, sym, ap, ap₂, ◌∙◌, arith, subst}
+use Rattle.std.proofs.Common.{◌≡◌, ℕ, ◌+◌, ◌<◌, zero, suc, Bool, true, false, cond, List, [], length, Some, refl, ap, ap₂, ◌∙◌, arith, subst}
 use Rattle.std.specs.Prelude.{slice_index, slice_index_or}
 use Rattle.std.proofs.lemmas.List.{get_or-map, length-map}
 use Rattle.xdg_base.specs.declared.ids.EntryNo.{EntryNo}
 use Rattle.xdg_problem.specs.declared.parts.Parts.{Parts}
 use Rattle.xdg_problem.specs.Boxes.{entry_decision}
 use Rattle.xdg_problem.specs.Costs.{CostLists, entry_cost}
-use Rattle.xdg_problem.specs.Places.{nodes}
 use Rattle.xdg_rules.specs.Bounds.{sum_below, with_least, least_below, or_nothing, candidate_cost, node_cost}
 use Rattle.xdg_rules.specs.Rules.{has}
-use Rattle.xdg_pcost.specs.CostRows.{entry_row, entry_rows}
+use Rattle.xdg_pcost.specs.CostRows.{entry_row}
 
 module _ (remains : ℕ → Bool) (cost : ℕ → ℕ) (k : ℕ) where
   least_put : (b : Bool) → remains k ≡ b → least_below remains cost (k + 1) ≡ cond b (Some (with_least (cost k) (least_below remains cost k))) (least_below remains cost k)

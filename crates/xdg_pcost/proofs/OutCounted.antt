@@ -1,5 +1,5 @@
 -- How many edges with a label lead out of a node, as the number of nodes to which they lead.
-use Rattle.std.proofs.Common.{◌≡◌, ℕ, ◌<◌, ◌↔◌, ◌&&◌, IsTrue, inl, inr, Bool, true, List, length, map, refl, sym, ◌∙◌, ap, subst, arith}
+use Rattle.std.proofs.Common.{◌≡◌, ℕ, ◌<◌, ◌↔◌, ◌&&◌, IsTrue, inl, inr, Bool, true, List, length, map, ◌∙◌, subst, arith}
 use Rattle.std.specs.Prelude.{Contains, filter, ◌==◌}
 use Rattle.std.specs.List.{AllByRecursion}
 use Rattle.std.proofs.lemmas.Bool.{and_parts, and_from, eq-eqb, eqb-true}
@@ -15,7 +15,7 @@ use Rattle.xdg_problem.specs.Places.{places}
 use Rattle.xdg_problem.proofs.DecidingPaths.{contained}
 use Rattle.xdg_problem.proofs.FilterFacts.{filter_contained}
 use Rattle.xdg_problem.proofs.Looking.{any_of}
-use Rattle.xdg_problem.proofs.Ordered.{Ordered, each_both, each_filter, each_passed, ordered_filter, contains_filter, contains_map}
+use Rattle.xdg_problem.proofs.Ordered.{each_both, each_filter, each_passed, ordered_filter, contains_filter, contains_map}
 use Rattle.xdg_problem.proofs.PlaceOrder.{places_ordered}
 use Rattle.xdg_rules.specs.Rules.{must_edges}
 use Rattle.xdg_rules.proofs.Shrinking.{must_be, must_is}

@@ -1,5 +1,5 @@
 -- When a box is closed for a bound, and that it stays so while it loses no entries and no edges.
-use Rattle.std.proofs.Common.{◌≡◌, ℕ, ◌+◌, ◌<◌, ◌≤◌, inl, inr, zero, suc, Bool, true, false, ◌&&◌, cond, List, [], length, Some, refl, sym, ap, ap₂, ◌∙◌, arith, subst}
+use Rattle.std.proofs.Common.{◌≡◌, ℕ, ◌+◌, ◌<◌, inl, inr, zero, suc, Bool, ◌&&◌, cond, List, [], length, Some, refl, sym, ap, ap₂, ◌∙◌, arith, subst}
 use Rattle.std.specs.Prelude.{Contains, not, slice_index_or}
 use Rattle.std.specs.Int.{bit_at}
 use Rattle.std.specs.List.{sum_by}
@@ -19,11 +19,11 @@ use Rattle.xdg_problem.specs.Tests.{IsTestOf}
 use Rattle.xdg_problem.specs.Vectors.{shape}
 use Rattle.xdg_problem.proofs.FilterFacts.{filter_alike}
 use Rattle.xdg_problem.proofs.PlaceOrder.{is_place}
-use Rattle.xdg_propcore.specs.Kinds.{kind_of, entry_kind, edge_kind}
+use Rattle.xdg_propcore.specs.Kinds.{kind_of, edge_kind}
 use Rattle.xdg_propcore.specs.Losses.{LosesOutside}
-use Rattle.xdg_propcore.specs.Uses.{IsClosedBy, StandsFor, use_at, no_use}
+use Rattle.xdg_propcore.specs.Uses.{IsClosedBy, StandsFor, use_at}
 use Rattle.xdg_propcore.proofs.DecisionKinds.{kind_of_entry, kind_of_edge}
-use Rattle.xdg_rules.specs.Bounds.{least_below, with_least, or_nothing, candidate_cost, node_cost, edge_cost, must_places, least_cost, BoundReached, BoundPlace}
+use Rattle.xdg_rules.specs.Bounds.{least_below, with_least, or_nothing, candidate_cost, node_cost, edge_cost, least_cost, BoundReached, BoundPlace}
 use Rattle.xdg_rules.specs.Rules.{has, FailsTest, TakesBy, IsClosedFor}
 use Rattle.xdg_rules.proofs.Sizes.{some_value}
 use Rattle.xdg_rules.proofs.Summing.{below_same}

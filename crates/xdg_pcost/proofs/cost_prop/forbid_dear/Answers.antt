@@ -1,8 +1,6 @@
-use Rattle.std.proofs.Common.{ℕ, ◌≡◌, ◌∙◌, [], ap, arith, length, subst, sym}
-use Rattle.std.specs.Prelude.{slice_index_or}
+use Rattle.std.proofs.Common.{◌≡◌, ◌∙◌, ap, arith, length}
 use Rattle.xdg_problem.specs.declared.parts.Parts.{Parts}
 use Rattle.xdg_propcore.proofs.Sweeping.{group_stays}
-use Rattle.xdg_pcost.specs.Freeing.{OfDims}
 use Rattle.xdg_pcost.proofs.Freed.{AtDim, dims_free, upto_end, upto_first, upto_more}
 use Rattle.xdg_pcost.proofs.cost_prop.forbid_dear.Goals as goal
 

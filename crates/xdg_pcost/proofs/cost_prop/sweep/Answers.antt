@@ -1,4 +1,3 @@
-use Rattle.std.proofs.Common.{arith}
 use Rattle.xdg_pcost.proofs.Swept.{row_costs, all_gone, dear_go, dear_gone}
 use Rattle.xdg_pcost.proofs.cost_prop.sweep.Goals as goal
 

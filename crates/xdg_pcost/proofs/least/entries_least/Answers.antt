@@ -1,5 +1,4 @@
-use Rattle.std.proofs.Common.{◌≡◌, ◌∙◌, ◌<◌, ap, arith, get_or, length}
-use Rattle.xdg_problem.specs.Places.{nodes}
+use Rattle.std.proofs.Common.{◌∙◌, ◌<◌, ap, arith, get_or, length}
 use Rattle.xdg_pcost.proofs.Totals.{node_more, row_length, rows_count, rows_summed}
 use Rattle.xdg_pcost.proofs.least.entries_least.Goals as goal
 

@@ -1,4 +1,4 @@
-use Rattle.std.proofs.Common.{◌≡◌, ◌∙◌, ◌+◌, ◌*◌, ap, arith, length, subst}
+use Rattle.std.proofs.Common.{◌≡◌, ◌∙◌, ◌+◌, ◌*◌, ap, arith, subst}
 use Rattle.std.specs.Prelude.{slice_index}
 use Rattle.xdg_reach.specs.Edges.{edge_labels}
 use Rattle.xdg_rules.specs.Bounds.{sum_below}
