@@ -2,6 +2,7 @@
 use Rattle.std.specs.Prelude.{◌≡◌, ℕ, List, [], ◌∷◌, length, codes, decimal}
 use Rattle.xdg_ast.specs.Canon.{canon}
 use Rattle.xdg_classes.specs.Definitions.{classes}
+use Rattle.xdg_command.specs.declared.commands.ExplainOptions.{ExplainOptions}
 use Rattle.xdg_grammar.specs.Meanings.{Meaning}
 use Rattle.xdg_judge.specs.declared.verdict.Verdict.{Verdict}
 use Rattle.xdg_judge.specs.Verdicts.{AreVerdicts}
@@ -24,8 +25,8 @@ pub record Judged (analysed : Analysed) (status : Status) (text : List ℕ) : Ty
   pub are : AreVerdicts analysed.parts analysed.analysis analysed.parts.groups verdicts
   pub text_is : text ≡ verdicts_text analysed.parts verdicts
 
-abbrev pub ExplainOf : List ℕ → List ℕ → Files → Status → List ℕ → Type 0
-ExplainOf grammar analysis files = GrammarThen files grammar (λ read. AnalysisThen files analysis Judged)
+abbrev pub ExplainOf : ExplainOptions → Files → Status → List ℕ → Type 0
+ExplainOf options files = GrammarThen files options.grammar (λ read. AnalysisThen files options.analysis Judged)
 
 -- ---- `check`, `lexicon` and `print`
 

@@ -15,6 +15,7 @@ ghost use Rattle.xdg_reports.specs.Runs.{ExplainEnds};
 
 use std::alloc::Global;
 use xdg_base::OutOfMemory;
+use xdg_command::ExplainOptions;
 use xdg_grammar::{Expanded, expand_tree, pack_entries};
 use xdg_inputs::{Judgeable, load_analysis};
 use xdg_io::{Failed, Shelf, Sink};
@@ -44,14 +45,14 @@ fn judge<K: Sink>(alloc: Global, judgeable: &Judgeable, out: &mut K) -> Status
 /// Loads an analysis of a grammar and prints the verdicts on it, or the fault line of what is refused.
 fn explain_expanded<H: Shelf, K: Sink>(
     alloc: Global,
+    options: &ExplainOptions,
     expanded: &Expanded,
-    name: &str,
     shelf: &mut H,
     out: &mut K,
 ) -> Status
     requires { IsRightLexicon expanded.now.checked.types expanded.now.entries }
-    ensures leaves { (files : List ℕ → Option (List ℕ)) → H.files shelf.old ≡ Some files → Leaves (AnalysisThen files name.now Judged (meaning_of expanded.now)) result (K.held out.old) (K.held out.new) }
-    ensures read_fault { result ≡ Status.ReadFault → Rose (H.faults shelf.old name.now) (H.faults shelf.new name.now) }
+    ensures leaves { (files : List ℕ → Option (List ℕ)) → H.files shelf.old ≡ Some files → Leaves (AnalysisThen files options.now.analysis Judged (meaning_of expanded.now)) result (K.held out.old) (K.held out.new) }
+    ensures read_fault { result ≡ Status.ReadFault → Rose (H.faults shelf.old options.now.analysis) (H.faults shelf.new options.now.analysis) }
     ensures write_fault { result ≡ Status.WriteFault → Rose (K.faults out.old) (K.faults out.new) }
     ensures files { H.files shelf.new ≡ H.files shelf.old }
     ensures shelf_lasting { (other : List ℕ) → H.faults shelf.old other ≤ H.faults shelf.new other }
@@ -64,7 +65,7 @@ fn explain_expanded<H: Shelf, K: Sink>(
         Ok(packed) => packed,
         Err(OutOfMemory) => return Status::OutOfMemory,
     };
-    match load_analysis(alloc, expanded, &packed, shelf, name) {
+    match load_analysis(alloc, expanded, &packed, shelf, options.analysis.as_str()) {
         Ok(judgeable) => judge(alloc, &judgeable, out),
         Err(refusal) => refuse(refusal, Status::BadAnalysis, out),
     }
@@ -73,14 +74,14 @@ fn explain_expanded<H: Shelf, K: Sink>(
 /// The same, for the grammar of a text.
 fn explain_loaded<H: Shelf, K: Sink>(
     alloc: Global,
+    options: &ExplainOptions,
     loaded: &Loaded,
-    name: &str,
     shelf: &mut H,
     out: &mut K,
 ) -> Status
     requires { length loaded.now.text.items ≤ 4194304 }
-    ensures leaves { (files : List ℕ → Option (List ℕ)) → H.files shelf.old ≡ Some files → Leaves (MeaningThen (read_of loaded.now) (AnalysisThen files name.now Judged)) result (K.held out.old) (K.held out.new) }
-    ensures read_fault { result ≡ Status.ReadFault → Rose (H.faults shelf.old name.now) (H.faults shelf.new name.now) }
+    ensures leaves { (files : List ℕ → Option (List ℕ)) → H.files shelf.old ≡ Some files → Leaves (MeaningThen (read_of loaded.now) (AnalysisThen files options.now.analysis Judged)) result (K.held out.old) (K.held out.new) }
+    ensures read_fault { result ≡ Status.ReadFault → Rose (H.faults shelf.old options.now.analysis) (H.faults shelf.new options.now.analysis) }
     ensures write_fault { result ≡ Status.WriteFault → Rose (K.faults out.old) (K.faults out.new) }
     ensures files { H.files shelf.new ≡ H.files shelf.old }
     ensures shelf_lasting { (other : List ℕ) → H.faults shelf.old other ≤ H.faults shelf.new other }
@@ -90,7 +91,7 @@ fn explain_loaded<H: Shelf, K: Sink>(
     ensures command { result ≡ Status.Usage → ⊥ }
 {
     match expand_tree(alloc, &loaded.tree) {
-        Ok(expanded) => explain_expanded(alloc, &expanded, name, shelf, out),
+        Ok(expanded) => explain_expanded(alloc, options, &expanded, shelf, out),
         Err(stop) => refuse(stopped_in(&loaded.text, stop), Status::BadGrammar, out),
     }
 }
@@ -99,13 +100,12 @@ fn explain_loaded<H: Shelf, K: Sink>(
 /// is refused.
 pub fn explain_analysis<H: Shelf, K: Sink>(
     alloc: Global,
-    grammar: &str,
-    analysis: &str,
+    options: &ExplainOptions,
     shelf: &mut H,
     out: &mut K,
 ) -> Status
-    ensures leaves { (files : List ℕ → Option (List ℕ)) → H.files shelf.old ≡ Some files → Leaves (ExplainOf grammar.now analysis.now files) result (K.held out.old) (K.held out.new) }
-    ensures read_fault { result ≡ Status.ReadFault → Rose (H.faults shelf.old grammar.now) (H.faults shelf.new grammar.now) ⊎ Rose (H.faults shelf.old analysis.now) (H.faults shelf.new analysis.now) }
+    ensures leaves { (files : List ℕ → Option (List ℕ)) → H.files shelf.old ≡ Some files → Leaves (ExplainOf options.now files) result (K.held out.old) (K.held out.new) }
+    ensures read_fault { result ≡ Status.ReadFault → Rose (H.faults shelf.old options.now.grammar) (H.faults shelf.new options.now.grammar) ⊎ Rose (H.faults shelf.old options.now.analysis) (H.faults shelf.new options.now.analysis) }
     ensures write_fault { result ≡ Status.WriteFault → Rose (K.faults out.old) (K.faults out.new) }
     ensures files { H.files shelf.new ≡ H.files shelf.old }
     ensures shelf_lasting { (other : List ℕ) → H.faults shelf.old other ≤ H.faults shelf.new other }
@@ -114,8 +114,8 @@ pub fn explain_analysis<H: Shelf, K: Sink>(
     ensures wrote { Wrote ExplainEnds result (K.faults out.old) (K.faults out.new) (K.held out.old) (K.held out.new) }
     ensures command { result ≡ Status.Usage → ⊥ }
 {
-    match load_tree(alloc, shelf, grammar) {
-        Ok(loaded) => explain_loaded(alloc, &loaded, analysis, shelf, out),
+    match load_tree(alloc, shelf, options.grammar.as_str()) {
+        Ok(loaded) => explain_loaded(alloc, options, &loaded, shelf, out),
         Err(refusal) => refuse(refusal, Status::BadText, out),
     }
 }

@@ -13,6 +13,7 @@ use std::alloc::Global;
 use std::thread::Threads;
 use xdg_arrange::arrange;
 use xdg_base::OutOfMemory;
+use xdg_cheapest::best_sentence;
 use xdg_command::{Command, command};
 use xdg_corpus::corpus;
 use xdg_io::{Failed, Shelf, Sink, Source};
@@ -51,15 +52,14 @@ fn run_command<R: Threads + Sync, H: Shelf, S: Source, K: Sink>(
     match command {
         Command::Parse(options) => parse_sentence(rt, alloc, options, shelf, input, out),
         Command::Resume(options) => resume_analysis(alloc, options, shelf, out),
-        Command::Explain { grammar, analysis } => {
-            explain_analysis(alloc, grammar.as_str(), analysis.as_str(), shelf, out)
-        }
+        Command::Explain(options) => explain_analysis(alloc, options, shelf, out),
         Command::Check { grammar } => check_grammar(alloc, grammar.as_str(), shelf, out),
         Command::Lexicon { grammar } => print_lexicon(alloc, grammar.as_str(), shelf, out),
         Command::Print { grammar } => print_grammar(alloc, grammar.as_str(), shelf, out),
         Command::Drill { number } => drill(alloc, *number, out),
         Command::Corpus(options) => corpus(rt, alloc, options, shelf, input, out),
         Command::Arrange(options) => arrange(alloc, options, shelf, input, out),
+        Command::Best(options) => best_sentence(alloc, options, shelf, input, out),
     }
 }
 

@@ -1,22 +1,30 @@
+use Rattle.std.proofs.Common.{◌≡◌, Some, subst}
 use Rattle.xdg_grammar.specs.Answers.{meaning_of}
 use Rattle.xdg_inputs.specs.Analyses.{Analysed, HasAnalysis, HasBadAnalysis}
-use Rattle.xdg_reports.specs.Outcomes.{Judged}
 use Rattle.xdg_inputs.specs.Judging.{analysed_of}
+use Rattle.xdg_reports.specs.Outcomes.{Judged}
+use Rattle.xdg_outcomes.specs.Refusals.{Stops}
+use Rattle.xdg_outcomes.specs.Stages.{Accepts}
 use Rattle.xdg_outcomes.specs.declared.status.Status.TheVariants as statuses
 use Rattle.xdg_outcomes.proofs.Leaving.{accepted_leaves, stopped_leaves}
 use Rattle.xdg_reports.specs.Runs.{ExplainEnds}
-use Rattle.xdg_outcomes.proofs.Writing.{judged_wrote, refused_quiet, refused_wrote}
+use Rattle.xdg_outcomes.proofs.Writing.{refused_quiet, refused_wrote, judged_wrote}
 use Rattle.xdg_reports.proofs.explain.explain_expanded.Goals as goal
 
 pub returns-in-Ok-load_analysis-clause-leaves : goal.returns-in-Ok-load_analysis-clause-leaves
 returns-in-Ok-load_analysis-clause-leaves g c files told =
-    accepted_leaves Analysed statuses.BadAnalysis (HasBadAnalysis files c.args.name.now (meaning_of c.args.expanded.now)) (HasAnalysis files c.args.name.now (meaning_of c.args.expanded.now)) Judged (analysed_of c.in-Ok-load_analysis.judgeable) c.judge.result _ _
-    (c.in-Ok-load_analysis.ensures.found files told) c.judge.ensures.leaves
+    let m = meaning_of c.args.expanded.now in
+    accepted_leaves Analysed statuses.BadAnalysis (HasBadAnalysis files c.args.options.now.analysis m) (HasAnalysis files c.args.options.now.analysis m) Judged (analysed_of c.in-Ok-load_analysis.judgeable) c.judge.result _ _
+    (subst (λ n. Accepts Analysed (HasBadAnalysis files n m) (HasAnalysis files n m) (analysed_of c.in-Ok-load_analysis.judgeable)) c.as_str.ensures (c.in-Ok-load_analysis.ensures.found files told)) c.judge.ensures.leaves
 
 pub returns-clause-leaves : goal.returns-clause-leaves
 returns-clause-leaves g c files told =
-    stopped_leaves Analysed statuses.BadAnalysis (HasBadAnalysis files c.args.name.now (meaning_of c.args.expanded.now)) (HasAnalysis files c.args.name.now (meaning_of c.args.expanded.now)) Judged _ _ _ c.refuse.result c.in-Err-load_analysis.refusal _ _
-    told (λ e. e) (c.in-Err-load_analysis.ensures.refused files) c.refuse.ensures.written
+    let m = meaning_of c.args.expanded.now in
+    let old = g.H.Shelf.faults c.args.shelf.now c.as_str.result.now in
+    let new = g.H.Shelf.faults c.load_analysis.new.shelf c.as_str.result.now in
+    stopped_leaves Analysed statuses.BadAnalysis (HasBadAnalysis files c.args.options.now.analysis m) (HasAnalysis files c.args.options.now.analysis m) Judged (g.H.Shelf.files c.args.shelf.now ≡ Some files) old new c.refuse.result c.in-Err-load_analysis.refusal _ _
+    told (λ e. e)
+    (subst (λ n. Stops (g.H.Shelf.files c.args.shelf.now ≡ Some files) old new Analysed (HasBadAnalysis files n m) (HasAnalysis files n m) c.in-Err-load_analysis.refusal) c.as_str.ensures (c.in-Err-load_analysis.ensures.refused files)) c.refuse.ensures.written
 
 pub returns-in-Ok-load_analysis-clause-wrote : goal.returns-in-Ok-load_analysis-clause-wrote
 returns-in-Ok-load_analysis-clause-wrote g c = judged_wrote ExplainEnds (Judged (analysed_of c.in-Ok-load_analysis.judgeable)) c.judge.result _ _ _ _ tt tt tt c.judge.ensures.ends c.judge.ensures.leaves c.judge.ensures.out_quiet
