@@ -13,9 +13,10 @@ use Rattle.xdg_corpus.proofs.Parting.{leaves_part, memory_part}
 use Rattle.xdg_io.specs.Rose.{Rose}
 use Rattle.xdg_text.specs.Lines.{usage_line}
 use Rattle.xdg_outcomes.specs.Outcomes.{Files}
+use Rattle.xdg_ruled.specs.Files.{RoseFor}
 use Rattle.xdg_top.specs.Outcomes.{CommandOf, IsNoCommand, IsUsage, OutcomeOf, WantsSome, usage, commanded}
 use Rattle.xdg_outcomes.specs.Runs.{Ends, Leaves, LeavesFront, Unwritten, Wrote}
-use Rattle.xdg_top.specs.Runs.{AreEarly, CommandWrote, EndsWith, FailsToRead, LeavesBy, LeavesOf, ReadsFile, ReadsInput, UnwrittenBy, of_file, of_input}
+use Rattle.xdg_top.specs.Runs.{AreEarly, CommandWrote, EndsWith, FailsToRead, IsRefusedFile, LeavesBy, LeavesOf, ReadsFile, ReadsInput, UnwrittenBy, of_file, of_input}
 use Rattle.xdg_outcomes.specs.declared.status.Status.{Status}
 use Rattle.xdg_outcomes.specs.declared.status.Status.TheVariants as statuses
 use Rattle.xdg_outcomes.proofs.Leaving.{IsOnly}
@@ -228,11 +229,17 @@ said_reads command said e reads = subst ReadsInput (sym e) reads
 pub file_failed : (command said : Command) (name : List ℕ) (shelf_old shelf_new : List ℕ → ℕ) (input_old input_new : ℕ) → command ≡ said → ReadsFile said name → Rose (shelf_old name) (shelf_new name) → FailsToRead command shelf_old shelf_new input_old input_new
 file_failed command said name shelf_old shelf_new input_old input_new e reads rose = of_file name (subst (λ z. ReadsFile z name) (sym e) reads) rose
 
--- a read of a command that reads a grammar and another file failed
-pub files_failed : (command said : Command) (grammar other : List ℕ) (shelf_old shelf_new : List ℕ → ℕ) (input_old input_new : ℕ) → command ≡ said → ReadsFile said grammar → ReadsFile said other → Rose (shelf_old grammar) (shelf_new grammar) ⊎ Rose (shelf_old other) (shelf_new other)
-    → FailsToRead command shelf_old shelf_new input_old input_new
-files_failed command said grammar other shelf_old shelf_new input_old input_new e file further (inl rose) = file_failed command said grammar shelf_old shelf_new input_old input_new e file rose
-files_failed command said grammar other shelf_old shelf_new input_old input_new e file further (inr rose) = file_failed command said other shelf_old shelf_new input_old input_new e further rose
+-- the file that is given failed
+given_failed : (command said : Command) (given : Option (List ℕ)) (shelf_old shelf_new : List ℕ → ℕ) (input_old input_new : ℕ) → command ≡ said → ((name : List ℕ) → given ≡ Some name → ReadsFile said name) → RoseFor given shelf_old shelf_new → FailsToRead command shelf_old shelf_new input_old input_new
+given_failed command said None shelf_old shelf_new input_old input_new e reads rose = absurd rose
+given_failed command said (Some name) shelf_old shelf_new input_old input_new e reads rose = file_failed command said name shelf_old shelf_new input_old input_new e (reads name refl) rose
+
+-- a read of a command that reads a grammar, rules where they are given, and something else failed
+pub ruled_failed : (command said : Command) (grammar : List ℕ) (given : Option (List ℕ)) (Other : Type 0) (shelf_old shelf_new : List ℕ → ℕ) (input_old input_new : ℕ) → command ≡ said → ReadsFile said grammar → ((name : List ℕ) → given ≡ Some name → ReadsFile said name)
+    → (Other → FailsToRead command shelf_old shelf_new input_old input_new) → Rose (shelf_old grammar) (shelf_new grammar) ⊎ (RoseFor given shelf_old shelf_new ⊎ Other) → FailsToRead command shelf_old shelf_new input_old input_new
+ruled_failed command said grammar given Other shelf_old shelf_new input_old input_new e file rules other (inl rose) = file_failed command said grammar shelf_old shelf_new input_old input_new e file rose
+ruled_failed command said grammar given Other shelf_old shelf_new input_old input_new e file rules other (inr (inl rose)) = given_failed command said given shelf_old shelf_new input_old input_new e rules rose
+ruled_failed command said grammar given Other shelf_old shelf_new input_old input_new e file rules other (inr (inr failed)) = other failed
 
 -- a read of a command that reads a grammar and the input failed
 pub reads_failed : (command said : Command) (grammar : List ℕ) (shelf_old shelf_new : List ℕ → ℕ) (input_old input_new : ℕ) → command ≡ said → ReadsFile said grammar → ReadsInput said → Rose (shelf_old grammar) (shelf_new grammar) ⊎ Rose input_old input_new
@@ -245,3 +252,12 @@ pub all_failed : (command said : Command) (grammar other : List ℕ) (shelf_old 
     → Rose (shelf_old grammar) (shelf_new grammar) ⊎ (Rose (shelf_old other) (shelf_new other) ⊎ Rose input_old input_new) → FailsToRead command shelf_old shelf_new input_old input_new
 all_failed command said grammar other shelf_old shelf_new input_old input_new e file further input (inl rose) = file_failed command said grammar shelf_old shelf_new input_old input_new e file rose
 all_failed command said grammar other shelf_old shelf_new input_old input_new e file further input (inr rose) = reads_failed command said other shelf_old shelf_new input_old input_new e further input rose
+
+-- ---- the input stays
+
+-- a command that ends without some of these statuses
+pub refused_file : (P : Status → Type 0) (result : Status) (Same : Type 0) → P result → (P statuses.BadRules → result ≡ statuses.BadRules → Same) → (P statuses.BadCosts → result ≡ statuses.BadCosts → Same) → ((result ≡ statuses.BadText) ⊎ (result ≡ statuses.BadGrammar) → Same) → IsRefusedFile result → Same
+refused_file P result Same ends rules costs grammar (inl text) = grammar (inl text)
+refused_file P result Same ends rules costs grammar (inr (inl bad)) = grammar (inr bad)
+refused_file P result Same ends rules costs grammar (inr (inr (inl bad))) = rules (subst P bad ends) bad
+refused_file P result Same ends rules costs grammar (inr (inr (inr bad))) = costs (subst P bad ends) bad

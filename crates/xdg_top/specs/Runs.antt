@@ -1,5 +1,5 @@
 -- What a command reads, and how it can end.
-use Rattle.std.specs.Prelude.{◌≡◌, ◌≢◌, ◌⊎◌, ℕ, List, Option}
+use Rattle.std.specs.Prelude.{◌≡◌, ◌≢◌, ◌⊎◌, ℕ, List, Option, Some}
 use Rattle.xdg_arrange.specs.Outcomes.{ArrangeEnds}
 use Rattle.xdg_cheapest.specs.Runs.{BestEnds}
 use Rattle.xdg_command.specs.Commands.{IsCommand}
@@ -18,9 +18,9 @@ use Rattle.xdg_searches.specs.Runs.{ParseEnds, ResumeEnds, DrillEnds}
 
 -- the names of the files that a command reads
 abbrev pub ReadsFile : Command → List ℕ → Type 0
-ReadsFile (commands.Parse options) name = name ≡ options.grammar
-ReadsFile (commands.Resume options) name = (name ≡ options.grammar) ⊎ (name ≡ options.analysis)
-ReadsFile (commands.Explain options) name = (name ≡ options.grammar) ⊎ (name ≡ options.analysis)
+ReadsFile (commands.Parse options) name = (name ≡ options.grammar) ⊎ (options.rules ≡ Some name)
+ReadsFile (commands.Resume options) name = (name ≡ options.grammar) ⊎ ((options.rules ≡ Some name) ⊎ (name ≡ options.analysis))
+ReadsFile (commands.Explain options) name = (name ≡ options.grammar) ⊎ ((options.rules ≡ Some name) ⊎ (name ≡ options.analysis))
 ReadsFile (commands.Check grammar) name = name ≡ grammar
 ReadsFile (commands.Lexicon grammar) name = name ≡ grammar
 ReadsFile (commands.Print grammar) name = name ≡ grammar
@@ -36,6 +36,10 @@ ReadsInput (commands.Corpus options) = Unit {0}
 ReadsInput (commands.Arrange options) = Unit {0}
 ReadsInput (commands.Best options) = Unit {0}
 ReadsInput command = ⊥
+
+-- a grammar, rules or costs are refused, all of which are read before the input
+abbrev pub IsRefusedFile : Status → Type 0
+IsRefusedFile status = (status ≡ statuses.BadText) ⊎ ((status ≡ statuses.BadGrammar) ⊎ ((status ≡ statuses.BadRules) ⊎ (status ≡ statuses.BadCosts)))
 
 -- a read of the command failed: the count of the shelf rose for a file that it reads, or that of the input, where it reads that
 pub data FailsToRead (command : Command) (shelf_old shelf_new : List ℕ → ℕ) (input_old input_new : ℕ) : Type 0 where

@@ -1,8 +1,8 @@
 use Rattle.std.proofs.Common.{◌≡◌, ◌∙◌, Some, subst}
 use Rattle.xdg_outcomes.specs.Loaded.{read_of}
 use Rattle.xdg_outcomes.specs.Outcomes.{MeaningThen}
-use Rattle.xdg_inputs.specs.Outcomes.{AnalysisThen}
-use Rattle.xdg_searches.specs.Outcomes.{Resumed}
+use Rattle.xdg_ruled.specs.Outcomes.{RulesThen}
+use Rattle.xdg_searches.specs.Outcomes.{ResumeThen}
 use Rattle.xdg_outcomes.specs.Refusals.{Stops}
 use Rattle.xdg_outcomes.specs.Stages.{Accepts}
 use Rattle.xdg_outcomes.specs.Texts.{HasBadText, HasTree, ReadText}
@@ -15,7 +15,7 @@ use Rattle.xdg_searches.proofs.resume.resume_analysis.Goals as goal
 pub returns-in-Ok-clause-leaves : goal.returns-in-Ok-clause-leaves
 returns-in-Ok-clause-leaves g c files told =
     let o = c.args.options.now in
-    accepted_leaves ReadText statuses.BadText (HasBadText files o.grammar) (HasTree files o.grammar) (λ read. MeaningThen read (AnalysisThen files o.analysis (Resumed o))) (read_of c.in-Ok.loaded) c.resume_loaded.result _ _
+    accepted_leaves ReadText statuses.BadText (HasBadText files o.grammar) (HasTree files o.grammar) (λ read. MeaningThen read (RulesThen files o.rules (ResumeThen o files))) (read_of c.in-Ok.loaded) c.resume_loaded.result _ _
     (subst (λ n. Accepts ReadText (HasBadText files n) (HasTree files n) (read_of c.in-Ok.loaded)) c.as_str.ensures (c.in-Ok.ensures.found files told)) (c.resume_loaded.ensures.leaves files (c.load_tree.ensures.kept ∙ told))
 
 pub returns-in-Err-clause-leaves : goal.returns-in-Err-clause-leaves
@@ -23,7 +23,7 @@ returns-in-Err-clause-leaves g c files told =
     let o = c.args.options.now in
     let old = g.H.Shelf.faults c.args.shelf.now c.as_str.result.now in
     let new = g.H.Shelf.faults c.load_tree.new.shelf c.as_str.result.now in
-    stopped_leaves ReadText statuses.BadText (HasBadText files o.grammar) (HasTree files o.grammar) (λ read. MeaningThen read (AnalysisThen files o.analysis (Resumed o))) (g.H.Shelf.files c.args.shelf.now ≡ Some files) old new c.refuse.result c.in-Err.refusal _ _ told (λ e. e)
+    stopped_leaves ReadText statuses.BadText (HasBadText files o.grammar) (HasTree files o.grammar) (λ read. MeaningThen read (RulesThen files o.rules (ResumeThen o files))) (g.H.Shelf.files c.args.shelf.now ≡ Some files) old new c.refuse.result c.in-Err.refusal _ _ told (λ e. e)
     (subst (λ n. Stops (g.H.Shelf.files c.args.shelf.now ≡ Some files) old new ReadText (HasBadText files n) (HasTree files n) c.in-Err.refusal) c.as_str.ensures (c.in-Err.ensures.refused files)) c.refuse.ensures.written
 
 pub returns-in-Ok-clause-shelf_quiet : goal.returns-in-Ok-clause-shelf_quiet

@@ -1,12 +1,15 @@
-use Rattle.std.proofs.Common.{inl, inr, refl, subst, rules}
-use Rattle.xdg_arrange.specs.Outcomes.{ArrangeOf}
+use Rattle.std.proofs.Common.{◌≡◌, inl, inr, refl, subst, rules}
+use Rattle.xdg_arrange.specs.Outcomes.{ArrangeEnds, ArrangeOf}
+use Rattle.xdg_cheapest.specs.Runs.{BestEnds}
 use Rattle.xdg_command.specs.declared.commands.Command.TheVariants as commands
+use Rattle.xdg_corpus.specs.Outcomes.{CorpusEnds}
+use Rattle.xdg_io.specs.Rose.{Rose}
 use Rattle.xdg_reports.specs.Outcomes.{CheckOf, LexiconOf, PrintOf}
 use Rattle.xdg_top.specs.Outcomes.{WantsSome}
 use Rattle.xdg_outcomes.specs.Runs.{Leaves}
-use Rattle.xdg_searches.specs.Runs.{DrillEnds}
-use Rattle.xdg_top.specs.Runs.{ReadsInput}
-use Rattle.xdg_top.proofs.Commanded.{all_failed, corpus_done, early_wrote, file_failed, files_failed, front_part, reads_failed, said_leaves, said_reads, said_wrote}
+use Rattle.xdg_searches.specs.Runs.{DrillEnds, ParseEnds}
+use Rattle.xdg_top.specs.Runs.{ReadsInput, of_input}
+use Rattle.xdg_top.proofs.Commanded.{all_failed, corpus_done, early_wrote, file_failed, front_part, reads_failed, refused_file, ruled_failed, said_leaves, said_reads, said_wrote}
 use Rattle.xdg_top.proofs.running.run_command.Goals as goal
 
 pub parse_sentence-requires : goal.parse_sentence-requires
@@ -31,8 +34,13 @@ returns-in-Parse-clause-wrote g c = said_wrote c.args.command.now (commands.Pars
 
 pub returns-in-Parse-clause-read_fault : goal.returns-in-Parse-clause-read_fault
 returns-in-Parse-clause-read_fault g c failed =
-    reads_failed c.args.command.now (commands.Parse c.in-Parse.options) c.in-Parse.options.grammar (g.H.Shelf.faults c.args.shelf.now) (g.H.Shelf.faults c.parse_sentence.new.shelf) (g.S.Source.faults c.args.input.now) (g.S.Source.faults c.parse_sentence.new.input) c.in-Parse.is
-    refl tt (c.parse_sentence.ensures.read_fault failed)
+    ruled_failed c.args.command.now (commands.Parse c.in-Parse.options) c.in-Parse.options.grammar c.in-Parse.options.rules (Rose (g.S.Source.faults c.args.input.now) (g.S.Source.faults c.parse_sentence.new.input)) (g.H.Shelf.faults c.args.shelf.now) (g.H.Shelf.faults c.parse_sentence.new.shelf)
+    (g.S.Source.faults c.args.input.now) (g.S.Source.faults c.parse_sentence.new.input) c.in-Parse.is (inl refl) (λ name given. inr given) (λ rose. of_input (said_reads c.args.command.now (commands.Parse c.in-Parse.options) c.in-Parse.is tt) rose) (c.parse_sentence.ensures.read_fault failed)
+
+pub returns-in-Parse-clause-unread : goal.returns-in-Parse-clause-unread
+returns-in-Parse-clause-unread g c bad =
+    refused_file ParseEnds c.parse_sentence.result (g.S.Source.left c.parse_sentence.new.input ≡ g.S.Source.left c.args.input.now) c.parse_sentence.ensures.wrote.ends (λ can is. c.parse_sentence.ensures.unread (inr (inr is))) (λ can is. absurd can)
+    (λ text. c.parse_sentence.ensures.unread (elim text [ inl is ↦ inl is | inr is ↦ inr (inl is) ])) bad
 
 pub returns-in-Parse-clause-files_alone : goal.returns-in-Parse-clause-files_alone
 returns-in-Parse-clause-files_alone g c none = absurd (none (said_reads c.args.command.now (commands.Parse c.in-Parse.options) c.in-Parse.is tt))
@@ -47,8 +55,10 @@ returns-in-Resume-clause-wrote g c = said_wrote c.args.command.now (commands.Res
 
 pub returns-in-Resume-clause-read_fault : goal.returns-in-Resume-clause-read_fault
 returns-in-Resume-clause-read_fault g c failed =
-    files_failed c.args.command.now (commands.Resume c.in-Resume.options) c.in-Resume.options.grammar c.in-Resume.options.analysis (g.H.Shelf.faults c.args.shelf.now) (g.H.Shelf.faults c.resume_analysis.new.shelf) (g.S.Source.faults c.args.input.now) (g.S.Source.faults c.args.input.now) c.in-Resume.is
-    (inl refl) (inr refl) (c.resume_analysis.ensures.read_fault failed)
+    let o = c.in-Resume.options in
+    ruled_failed c.args.command.now (commands.Resume o) o.grammar o.rules (Rose (g.H.Shelf.faults c.args.shelf.now o.analysis) (g.H.Shelf.faults c.resume_analysis.new.shelf o.analysis)) (g.H.Shelf.faults c.args.shelf.now) (g.H.Shelf.faults c.resume_analysis.new.shelf)
+    (g.S.Source.faults c.args.input.now) (g.S.Source.faults c.args.input.now) c.in-Resume.is (inl refl) (λ name given. inr (inl given))
+    (λ rose. file_failed c.args.command.now (commands.Resume o) o.analysis (g.H.Shelf.faults c.args.shelf.now) (g.H.Shelf.faults c.resume_analysis.new.shelf) (g.S.Source.faults c.args.input.now) (g.S.Source.faults c.args.input.now) c.in-Resume.is (inr (inr refl)) rose) (c.resume_analysis.ensures.read_fault failed)
 
 pub returns-in-Resume-clause-all_read : goal.returns-in-Resume-clause-all_read
 returns-in-Resume-clause-all_read g c content reads done told = absurd (subst ReadsInput c.in-Resume.is reads)
@@ -63,8 +73,10 @@ returns-in-Explain-clause-wrote g c = said_wrote c.args.command.now (commands.Ex
 
 pub returns-in-Explain-clause-read_fault : goal.returns-in-Explain-clause-read_fault
 returns-in-Explain-clause-read_fault g c failed =
-    files_failed c.args.command.now (commands.Explain c.in-Explain.options) c.in-Explain.options.grammar c.in-Explain.options.analysis (g.H.Shelf.faults c.args.shelf.now) (g.H.Shelf.faults c.explain_analysis.new.shelf) (g.S.Source.faults c.args.input.now) (g.S.Source.faults c.args.input.now) c.in-Explain.is
-    (inl refl) (inr refl) (c.explain_analysis.ensures.read_fault failed)
+    let o = c.in-Explain.options in
+    ruled_failed c.args.command.now (commands.Explain o) o.grammar o.rules (Rose (g.H.Shelf.faults c.args.shelf.now o.analysis) (g.H.Shelf.faults c.explain_analysis.new.shelf o.analysis)) (g.H.Shelf.faults c.args.shelf.now) (g.H.Shelf.faults c.explain_analysis.new.shelf)
+    (g.S.Source.faults c.args.input.now) (g.S.Source.faults c.args.input.now) c.in-Explain.is (inl refl) (λ name given. inr (inl given))
+    (λ rose. file_failed c.args.command.now (commands.Explain o) o.analysis (g.H.Shelf.faults c.args.shelf.now) (g.H.Shelf.faults c.explain_analysis.new.shelf) (g.S.Source.faults c.args.input.now) (g.S.Source.faults c.args.input.now) c.in-Explain.is (inr (inr refl)) rose) (c.explain_analysis.ensures.read_fault failed)
 
 pub returns-in-Explain-clause-all_read : goal.returns-in-Explain-clause-all_read
 returns-in-Explain-clause-all_read g c content reads done told = absurd (subst ReadsInput c.in-Explain.is reads)
@@ -136,6 +148,10 @@ returns-in-Corpus-clause-wrote g c =
 pub returns-in-Corpus-clause-read_fault : goal.returns-in-Corpus-clause-read_fault
 returns-in-Corpus-clause-read_fault g c failed = reads_failed c.args.command.now (commands.Corpus c.in-Corpus.options) c.in-Corpus.options.grammar (g.H.Shelf.faults c.args.shelf.now) (g.H.Shelf.faults c.corpus.new.shelf) (g.S.Source.faults c.args.input.now) (g.S.Source.faults c.corpus.new.input) c.in-Corpus.is refl tt (c.corpus.ensures.read_fault failed)
 
+pub returns-in-Corpus-clause-unread : goal.returns-in-Corpus-clause-unread
+returns-in-Corpus-clause-unread g c bad =
+    refused_file CorpusEnds c.corpus.result (g.S.Source.left c.corpus.new.input ≡ g.S.Source.left c.args.input.now) c.corpus.ensures.ends (λ can is. absurd can) (λ can is. absurd can) c.corpus.ensures.unread bad
+
 pub returns-in-Corpus-clause-files_alone : goal.returns-in-Corpus-clause-files_alone
 returns-in-Corpus-clause-files_alone g c none = absurd (none (said_reads c.args.command.now (commands.Corpus c.in-Corpus.options) c.in-Corpus.is tt))
 
@@ -155,6 +171,10 @@ returns-in-Arrange-clause-wrote g c =
 pub returns-in-Arrange-clause-read_fault : goal.returns-in-Arrange-clause-read_fault
 returns-in-Arrange-clause-read_fault g c failed = reads_failed c.args.command.now (commands.Arrange c.in-Arrange.options) c.in-Arrange.options.grammar (g.H.Shelf.faults c.args.shelf.now) (g.H.Shelf.faults c.arrange.new.shelf) (g.S.Source.faults c.args.input.now) (g.S.Source.faults c.arrange.new.input) c.in-Arrange.is refl tt (c.arrange.ensures.read_fault failed)
 
+pub returns-in-Arrange-clause-unread : goal.returns-in-Arrange-clause-unread
+returns-in-Arrange-clause-unread g c bad =
+    refused_file ArrangeEnds c.arrange.result (g.S.Source.left c.arrange.new.input ≡ g.S.Source.left c.args.input.now) c.arrange.ensures.ends (λ can is. absurd can) (λ can is. absurd can) c.arrange.ensures.unread bad
+
 pub returns-in-Arrange-clause-files_alone : goal.returns-in-Arrange-clause-files_alone
 returns-in-Arrange-clause-files_alone g c none = absurd (none (said_reads c.args.command.now (commands.Arrange c.in-Arrange.options) c.in-Arrange.is tt))
 
@@ -172,7 +192,9 @@ returns-in-Best-clause-read_fault g c failed =
     (inl refl) (inr refl) tt (c.best_sentence.ensures.read_fault failed)
 
 pub returns-in-Best-clause-unread : goal.returns-in-Best-clause-unread
-returns-in-Best-clause-unread g c bad = c.best_sentence.ensures.unread (elim bad [ inl text ↦ inl text | inr grammar ↦ inr (inl grammar) ])
+returns-in-Best-clause-unread g c bad =
+    refused_file BestEnds c.best_sentence.result (g.S.Source.left c.best_sentence.new.input ≡ g.S.Source.left c.args.input.now) c.best_sentence.ensures.wrote.ends (λ can is. absurd can) (λ can is. c.best_sentence.ensures.unread (inr (inr is)))
+    (λ text. c.best_sentence.ensures.unread (elim text [ inl is ↦ inl is | inr is ↦ inr (inl is) ])) bad
 
 pub returns-in-Best-clause-files_alone : goal.returns-in-Best-clause-files_alone
 returns-in-Best-clause-files_alone g c none = absurd (none (said_reads c.args.command.now (commands.Best c.in-Best.options) c.in-Best.is tt))

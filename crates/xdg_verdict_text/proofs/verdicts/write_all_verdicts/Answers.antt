@@ -9,7 +9,7 @@ use Rattle.xdg_verdict_text.proofs.verdicts.write_all_verdicts.Goals as goal
 pub write_verdict_lines-requires : goal.write_verdict_lines-requires
 write_verdict_lines-requires g c =
     ap length (c.as_slice.ensures ∙ ap (λ (parts : Parts). parts.groups) c.parts-parts.ensures.same)
-    ∙ zip_length (IsVerdict c.args.problem.now c.requires.0) c.args.problem.now.groups c.args.verdicts.now c.requires.1
+    ∙ zip_length (IsVerdict c.args.problem.now c.requires.verdicts.0) c.args.problem.now.groups c.args.verdicts.now c.requires.verdicts.1
 
 pub returns-clause-front : goal.returns-clause-front
 returns-clause-front g c =
