@@ -1,6 +1,6 @@
 -- A problem with rules.
-use Rattle.std.proofs.Common.{◌≡◌, ◌↔◌, ◌∙◌, ℕ, suc, ◌<◌, ◌≤◌, ◌+◌, List, [], ◌∷◌, ◌++◌, length, length-append, map, refl, sym, ap, subst, arith}
-use Rattle.std.specs.Prelude.{All}
+use Rattle.std.proofs.Common.{◌≡◌, ◌↔◌, ◌∙◌, ℕ, suc, ◌<◌, ◌≤◌, ◌+◌, List, [], ◌∷◌, ◌++◌, length, length-append, map, Ok, Err, refl, sym, ap, subst, arith}
+use Rattle.std.specs.Prelude.{All, IfOk, Result}
 use Rattle.std.specs.List.{AllZip}
 use Rattle.std.proofs.lemmas.List.{append-nil, length-map}
 use Rattle.std.proofs.lemmas.List.Elements.{All-cons, All-head, All-nil, All-tail}
@@ -127,12 +127,24 @@ pub none_keeps : (g : Grammar) (rules : List Rule) (parts : Parts) → rules ≡
 none_keeps g rules parts e = subst (λ (z : List Rule). KeepsRules g z parts parts) (sym e) (no_rules g parts)
 
 -- with rules, of which there are some
-pub some_ruled : (g : Grammar) (rules : List Rule) (parts made : Parts) (formulas : List Formula) → (rules ≡ [] → ⊥) → made ≡ with_uses parts (rules_of parts formulas) → formulas ≡ formulas_of g.table g.lexicon parts rules → made ≡ ruled g rules parts
+some_ruled : (g : Grammar) (rules : List Rule) (parts made : Parts) (formulas : List Formula) → (rules ≡ [] → ⊥) → made ≡ with_uses parts (rules_of parts formulas) → formulas ≡ formulas_of g.table g.lexicon parts rules → made ≡ ruled g rules parts
 some_ruled g [] parts made formulas some e f = absurd (some refl)
 some_ruled g (rule ∷ rules) parts made formulas some e f = e ∙ ap (λ (z : List Formula). with_uses parts (rules_of parts z)) f
 
-pub some_keeps : (g : Grammar) (rules : List Rule) (parts made : Parts) (formulas : List Formula) → IsProblem parts → made ≡ with_uses parts (rules_of parts formulas) → KeepsEach g.table g.lexicon parts rules formulas → KeepsRules g rules parts made
+some_keeps : (g : Grammar) (rules : List Rule) (parts made : Parts) (formulas : List Formula) → IsProblem parts → made ≡ with_uses parts (rules_of parts formulas) → KeepsEach g.table g.lexicon parts rules formulas → KeepsRules g rules parts made
 some_keeps g rules parts made formulas problem e keeps = subst (KeepsRules g rules parts) (sym e) (some_rules g parts rules formulas problem keeps)
+
+-- a call that may lack memory makes it
+
+pub made_ruled : {E : Type 0} (g : Grammar) (rules : List Rule) (parts : Parts) (formulas : List Formula) (result : Result Parts E) → (rules ≡ [] → ⊥) → formulas ≡ formulas_of g.table g.lexicon parts rules → IfOk result (λ made. made ≡ with_uses parts (rules_of parts formulas))
+    → IfOk result (λ made. made ≡ ruled g rules parts)
+made_ruled g rules parts formulas (Ok made) some f e = some_ruled g rules parts made formulas some e f
+made_ruled g rules parts formulas (Err stop) some f e = tt
+
+pub made_keeps : {E : Type 0} (g : Grammar) (rules : List Rule) (parts : Parts) (formulas : List Formula) (result : Result Parts E) → IsProblem parts → KeepsEach g.table g.lexicon parts rules formulas → IfOk result (λ made. made ≡ with_uses parts (rules_of parts formulas))
+    → IfOk result (KeepsRules g rules parts)
+made_keeps g rules parts formulas (Ok made) problem keeps e = some_keeps g rules parts made formulas problem e keeps
+made_keeps g rules parts formulas (Err stop) problem keeps e = tt
 
 -- ---- what is kept
 
