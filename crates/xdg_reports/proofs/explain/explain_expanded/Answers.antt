@@ -1,4 +1,4 @@
-use Rattle.std.proofs.Common.{◌≡◌, ◌∙◌, Some}
+use Rattle.std.proofs.Common.{◌≡◌, ◌∙◌, Some, inr, subst}
 use Rattle.xdg_formula_text.specs.declared.tree.Rules.{Rules}
 use Rattle.xdg_grammar.specs.Answers.{meaning_of}
 use Rattle.xdg_outcomes.specs.declared.status.Status.TheVariants as statuses
@@ -7,6 +7,7 @@ use Rattle.xdg_outcomes.proofs.Writing.{refused_quiet, refused_wrote}
 use Rattle.xdg_ruled.specs.Files.{HasBadRules, HasRules, count_for}
 use Rattle.xdg_reports.specs.Outcomes.{ExplainThen}
 use Rattle.xdg_reports.specs.Runs.{ExplainEnds}
+use Rattle.xdg_io.specs.Rose.{Rose}
 use Rattle.xdg_reports.proofs.explain.explain_expanded.Goals as goal
 
 pub returns-in-Ok-clause-leaves : goal.returns-in-Ok-clause-leaves
@@ -34,3 +35,8 @@ returns-in-Err-clause-wrote g c =
 pub returns-in-Err-clause-shelf_quiet : goal.returns-in-Err-clause-shelf_quiet
 returns-in-Err-clause-shelf_quiet g c other differs =
     refused_quiet statuses.BadRules c.refuse.result c.in-Err.refusal _ _ (g.H.Shelf.faults c.args.shelf.now other) (g.H.Shelf.faults c.load_rules.new.shelf other) c.refuse.ensures.written (c.in-Err.ensures.quiet other) differs
+
+pub returns-in-Ok-clause-read_fault : goal.returns-in-Ok-clause-read_fault
+returns-in-Ok-clause-read_fault g c failed =
+    let o = c.args.options.now in
+    inr (subst (λ n. Rose n (g.H.Shelf.faults c.explain_ruled.new.shelf o.analysis)) (c.in-Ok.ensures.quiet o.analysis) (c.explain_ruled.ensures.read_fault failed))

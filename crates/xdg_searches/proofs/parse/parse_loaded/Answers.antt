@@ -1,3 +1,4 @@
+use Rattle.std.proofs.Common.{inl, inr}
 use Rattle.xdg_outcomes.specs.Loaded.{read_of}
 use Rattle.xdg_ruled.specs.Outcomes.{RulesThen}
 use Rattle.xdg_searches.specs.Outcomes.{SentenceThen}
@@ -18,3 +19,6 @@ returns-in-Err-clause-leaves g c files content told given =
 pub returns-in-Err-clause-wrote : goal.returns-in-Err-clause-wrote
 returns-in-Err-clause-wrote g c =
     refused_wrote ParseEnds statuses.BadGrammar c.refuse.result c.stopped_in.result _ _ _ _ tt tt tt tt tt c.refuse.ensures.written c.refuse.ensures.quiet
+
+pub returns-in-Ok-clause-unread : goal.returns-in-Ok-clause-unread
+returns-in-Ok-clause-unread g c bad = elim bad [ inl grammar ↦ absurd (c.parse_expanded.ensures.command.1.1 grammar) | inr rules ↦ c.parse_expanded.ensures.unread rules ]

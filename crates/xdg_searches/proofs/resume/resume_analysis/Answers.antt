@@ -1,4 +1,4 @@
-use Rattle.std.proofs.Common.{◌≡◌, ◌∙◌, Some, subst}
+use Rattle.std.proofs.Common.{◌≡◌, ◌∙◌, Some, subst, inl, inr}
 use Rattle.xdg_outcomes.specs.Loaded.{read_of}
 use Rattle.xdg_outcomes.specs.Outcomes.{MeaningThen}
 use Rattle.xdg_ruled.specs.Outcomes.{RulesThen}
@@ -10,6 +10,8 @@ use Rattle.xdg_outcomes.specs.declared.status.Status.TheVariants as statuses
 use Rattle.xdg_outcomes.proofs.Leaving.{accepted_leaves, stopped_leaves}
 use Rattle.xdg_searches.specs.Runs.{ResumeEnds}
 use Rattle.xdg_outcomes.proofs.Writing.{refused_quiet, refused_wrote}
+use Rattle.xdg_ruled.proofs.Given.{rose_later}
+use Rattle.xdg_io.specs.Rose.{Rose}
 use Rattle.xdg_searches.proofs.resume.resume_analysis.Goals as goal
 
 pub returns-in-Ok-clause-leaves : goal.returns-in-Ok-clause-leaves
@@ -36,3 +38,11 @@ returns-in-Err-clause-wrote g c =
 pub returns-in-Err-clause-shelf_quiet : goal.returns-in-Err-clause-shelf_quiet
 returns-in-Err-clause-shelf_quiet g c other differs =
     refused_quiet statuses.BadText c.refuse.result c.in-Err.refusal _ _ (g.H.Shelf.faults c.args.shelf.now other) (g.H.Shelf.faults c.load_tree.new.shelf other) c.refuse.ensures.written (c.in-Err.ensures.quiet other) differs
+
+pub returns-in-Ok-clause-read_fault : goal.returns-in-Ok-clause-read_fault
+returns-in-Ok-clause-read_fault g c failed =
+    let o = c.args.options.now in
+    elim (c.resume_loaded.ensures.read_fault failed) [
+      | inl rose ↦ inr (inl (rose_later o.rules (g.H.Shelf.faults c.args.shelf.now) (g.H.Shelf.faults c.load_tree.new.shelf) (g.H.Shelf.faults c.resume_loaded.new.shelf) c.in-Ok.ensures.quiet rose))
+      | inr rose ↦ inr (inr (subst (λ n. Rose n (g.H.Shelf.faults c.resume_loaded.new.shelf o.analysis)) (c.in-Ok.ensures.quiet o.analysis) rose))
+    ]
