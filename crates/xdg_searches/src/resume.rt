@@ -18,7 +18,7 @@ ghost use Rattle.xdg_ruled.specs.Outcomes.{RulesThen};
 ghost use Rattle.xdg_searches.specs.Outcomes.{ResumeOf, ResumeThen, Resumed};
 ghost use Rattle.xdg_searches.specs.Runs.{ResumeEnds};
 
-use crate::parse::search;
+use crate::printing::search;
 use std::alloc::Global;
 use xdg_base::OutOfMemory;
 use xdg_command::ResumeOptions;
