@@ -44,12 +44,7 @@ fn judge<K: Sink>(alloc: Global, rules: &Rules, ruled: &Judgeable, out: &mut K) 
         Ok(verdicts) => verdicts,
         Err(_) => return Status::OutOfMemory,
     };
-    match write_verdicts(
-        &ruled.problem,
-        rules.rules.as_slice(),
-        verdicts.as_slice(),
-        out,
-    ) {
+    match write_verdicts(&ruled.problem, &rules.rules, verdicts.as_slice(), out) {
         Ok(()) => Status::Done,
         Err(Failed) => Status::WriteFault,
     }

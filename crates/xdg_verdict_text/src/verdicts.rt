@@ -1,6 +1,6 @@
 //! The lines of verdicts.
 
-ghost use Rattle.std.specs.Prelude.{◌≡◌, ◌≤◌, ◌<◌, ◌+◌, ◌^◌, ℕ, List, Option, length, slice_get, OnOk, OnErr};
+ghost use Rattle.std.specs.Prelude.{◌≡◌, ◌≤◌, ◌<◌, ◌+◌, ◌-◌, ◌^◌, ℕ, List, Option, length, slice_get, OnOk, OnErr};
 ghost use Rattle.std.specs.List.{flat_map};
 ghost use Rattle.xdg_io.specs.Held.{Appends, AppendsFront};
 ghost use Rattle.xdg_io.specs.Rose.{Rose};
@@ -11,7 +11,7 @@ ghost use Rattle.xdg_verdict_text.specs.VerdictsText as spec;
 
 use crate::conditions::write_condition;
 use crate::words::{write_constant_behind, write_first, write_word};
-use xdg_base::{DimId, Text};
+use xdg_base::{DimId, List, Text};
 use xdg_formula_text::Rule;
 use xdg_io::{Failed, Sink, write_all};
 use xdg_judge::{Tuple4, Verdict};
@@ -98,7 +98,7 @@ pub(crate) fn write_said<K: Sink>(
 }
 
 /// The name of the rule at a place.
-fn rule_name(rules: &[Rule], place: usize) -> &str
+fn rule_name(rules: &List<Rule>, place: usize) -> &str
     ensures { result.now ≡ spec.name_in (slice_get rules.now place) }
 {
     match rules.get(place) {
@@ -112,7 +112,7 @@ fn rule_name(rules: &[Rule], place: usize) -> &str
 fn write_title<K: Sink>(
     parts: &Parts,
     own: usize,
-    rules: &[Rule],
+    rules: &List<Rule>,
     place: usize,
     group: &Group,
     sink: &mut K,
@@ -133,7 +133,7 @@ fn write_title<K: Sink>(
 fn write_verdict<K: Sink>(
     parts: &Parts,
     own: usize,
-    rules: &[Rule],
+    rules: &List<Rule>,
     place: usize,
     group: &Group,
     verdict: &Verdict,
@@ -158,7 +158,7 @@ fn write_verdict<K: Sink>(
 fn write_verdict_lines<K: Sink>(
     parts: &Parts,
     own: usize,
-    rules: &[Rule],
+    rules: &List<Rule>,
     groups: &[Group],
     verdicts: &[Verdict],
     sink: &mut K,
@@ -214,7 +214,7 @@ pub(crate) fn write_last<K: Sink>(kept: bool, sink: &mut K) -> Result<(), Failed
 #[tactic(auto, using(crate::proofs::One::one_text))]
 pub fn write_verdicts<K: Sink>(
     problem: &Problem,
-    rules: &[Rule],
+    rules: &List<Rule>,
     verdicts: &[Verdict],
     sink: &mut K,
 ) -> Result<(), Failed>
@@ -231,10 +231,18 @@ pub fn write_verdicts<K: Sink>(
     write_all_verdicts(problem, rules, verdicts, sink)
 }
 
+/// How many uses stand before the rules.
+fn own_count(parts: &Parts, rules: &List<Rule>) -> usize
+    requires { length rules.now ≤ length parts.now.groups }
+    ensures { result ≡ length parts.now.groups - length rules.now }
+{
+    parts.groups.len() - rules.len()
+}
+
 /// Writes the lines of the principle uses, and the last line.
 fn write_all_verdicts<K: Sink>(
     problem: &Problem,
-    rules: &[Rule],
+    rules: &List<Rule>,
     verdicts: &[Verdict],
     sink: &mut K,
 ) -> Result<(), Failed>
@@ -247,7 +255,7 @@ fn write_all_verdicts<K: Sink>(
     ensures quiet { OnOk result (K.faults sink.new ≡ K.faults sink.old) }
 {
     let parts = problem.parts();
-    let own = parts.groups.len() - rules.len();
+    let own = own_count(parts, rules);
     write_verdict_lines(parts, own, rules, parts.groups.as_slice(), verdicts, sink)?;
     write_last(are_kept(verdicts), sink)
 }
