@@ -12,7 +12,7 @@ use Rattle.xdg_entries.specs.Entries.{AreEntries, IsRightLexicon}
 use Rattle.xdg_formula_check.specs.Tables.{dims_at}
 use Rattle.xdg_formula_compile.specs.Formulas.{formulas_of}
 use Rattle.xdg_formula_compile.specs.Problems.{IsFor, IsPlanOf}
-use Rattle.xdg_formula_compile.specs.Says.{Keeps, KeepsEach}
+use Rattle.xdg_formula_compile.specs.Says.{KeepsEach}
 use Rattle.xdg_formula_compile.specs.Truths.{RuleHolds}
 use Rattle.xdg_formula_text.specs.declared.tree.Rule.{Rule}
 use Rattle.xdg_grammar.specs.Packed.{IsPackedOf}
@@ -31,7 +31,6 @@ use Rattle.xdg_problem.specs.Claims.{Suits}
 use Rattle.xdg_problem.specs.Further.{rules_of, use_of, with_uses}
 use Rattle.xdg_problem.specs.Places.{nodes}
 use Rattle.xdg_problem.specs.Problems.{IsProblem}
-use Rattle.xdg_problem.specs.Solutions.{IsSolution}
 use Rattle.xdg_problem.specs.Truths.{FormulaHolds}
 use Rattle.xdg_problem.proofs.FurtherLawful.{rule_relation, rules_lawful}
 use Rattle.xdg_problem.proofs.FurtherUses.{relation_still}

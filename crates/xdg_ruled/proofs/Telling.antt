@@ -1,11 +1,10 @@
 -- The rules of a text: said, or refused.
-use Rattle.std.proofs.Common.{◌≡◌, ℕ, List, Some, None, Ok, Err, ap, subst}
+use Rattle.std.proofs.Common.{◌≡◌, ℕ, List, Some, None, Ok, Err, subst}
 use Rattle.std.specs.Prelude.{Option, Result}
 use Rattle.xdg_base.specs.declared.faults.Fault.{Fault}
 use Rattle.xdg_base.specs.declared.faults.Stop.{Stop}
 use Rattle.xdg_base.specs.declared.faults.Stop.TheVariants as stops
 use Rattle.xdg_formula_check.specs.Answers as checked
-use Rattle.xdg_formula_text.specs.declared.tree.Rule.{Rule}
 use Rattle.xdg_formula_text.specs.declared.tree.Rules.{Rules}
 use Rattle.xdg_formula_text.specs.Texts as texts
 use Rattle.xdg_types.specs.Table.{Table}
