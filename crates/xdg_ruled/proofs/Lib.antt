@@ -1,5 +1,5 @@
 pub mod Telling
-pub mod Loading
+pub mod Loaded
 pub mod Given
 pub mod Ruling
 pub mod Following

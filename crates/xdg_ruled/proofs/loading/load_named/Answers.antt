@@ -1,6 +1,6 @@
 use Rattle.std.proofs.Common.{◌∙◌, ap}
 use Rattle.xdg_outcomes.specs.Refusals.{refusal_of}
-use Rattle.xdg_ruled.proofs.Loading.{loaded_accepted, loaded_stops, long_stops}
+use Rattle.xdg_ruled.proofs.Loaded.{loaded_accepted, loaded_stops, long_stops}
 use Rattle.xdg_ruled.proofs.loading.load_named.Goals as goal
 
 pub returns-in-Err-TooLong-clause-refused : goal.returns-in-Err-TooLong-clause-refused
