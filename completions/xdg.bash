@@ -20,14 +20,14 @@ _xdg() {
         before=${COMP_WORDS[COMP_CWORD - 2]}
     fi
     if [ "$COMP_CWORD" -eq 1 ]; then
-        COMPREPLY=($(compgen -W "parse resume explain check lexicon print drill corpus arrange" -- "$word"))
+        COMPREPLY=($(compgen -W "parse resume explain check lexicon print drill corpus arrange best" -- "$word"))
         return
     fi
     case ${COMP_WORDS[1]} in
         parse) options="--budget --first --segment --split --text" ;;
         resume) options="--budget --first --text" ;;
         corpus) options="--budget --first --segment" ;;
-        arrange) options="--budget --segment" ;;
+        arrange | best) options="--budget --segment" ;;
     esac
     case $before in
         --text) COMPREPLY=($(compgen -W "1 2" -- "$word")) && return ;;
