@@ -11,8 +11,8 @@ write_verdict_lines-requires g c =
     ap length (c.as_slice.ensures ∙ ap (λ (parts : Parts). parts.groups) c.parts-parts.ensures.same)
     ∙ zip_length (IsVerdict c.args.problem.now c.requires.verdicts.0) c.args.problem.now.groups c.args.verdicts.now c.requires.verdicts.1
 
-pub own_count-requires : goal.own_count-requires
-own_count-requires g c = subst (λ (parts : Parts). length c.args.rules.now ≤ length parts.groups) (sym c.parts-parts.ensures.same) c.requires.rules
+pub own_count-own-requires : goal.own_count-own-requires
+own_count-own-requires g c = subst (λ (parts : Parts). length c.args.rules.now ≤ length parts.groups) (sym c.parts-parts.ensures.same) c.requires.rules
 
 pub returns-in_err-write_verdict_lines-clause-front : goal.returns-in_err-write_verdict_lines-clause-front
 returns-in_err-write_verdict_lines-clause-front g c =
