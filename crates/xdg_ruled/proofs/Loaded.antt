@@ -8,13 +8,10 @@ use Rattle.xdg_base.specs.declared.faults.Stop.TheVariants as stops
 use Rattle.xdg_formula_text.specs.Texts.{Gives}
 use Rattle.xdg_formula_text.specs.declared.tree.Rules.{Rules}
 use Rattle.xdg_io.specs.Files as told_files
-use Rattle.xdg_io.specs.declared.failures.LoadStop.{LoadStop}
-use Rattle.xdg_io.specs.declared.failures.LoadStop.TheVariants as load_stops
 use Rattle.xdg_outcomes.specs.Places.{fault}
 use Rattle.xdg_outcomes.specs.Refusals.{RejectsAt, Stops, refusal_of}
 use Rattle.xdg_outcomes.specs.Stages.{Accepts, Rejects}
 use Rattle.xdg_outcomes.specs.declared.refusals.Refusal.{Refusal}
-use Rattle.xdg_outcomes.specs.declared.refusals.Refusal.TheVariants as refusals
 use Rattle.xdg_outcomes.proofs.Trees.{first_byte, same_text, told_file}
 use Rattle.xdg_ruled.specs.Files.{HasBadFile, HasFile, IsBadRules, too_long, wrong, rules_limit}
 use Rattle.xdg_ruled.specs.Texts.{IsAnswer, IsRefused, Says, Tells}
@@ -87,13 +84,3 @@ module _ (table : Table) where
   loaded_stops told files name text read old new stop refusal has within e tells only r =
       subst (Stops (told ≡ Some files) old new Rules (HasBadFile files name table) (HasFile files name table)) (sym r)
       (read_stops told files name text old new stop has within (subst (λ z. Tells table z (Err stop)) e tells) (subst (λ z. Only z (Err stop)) e only))
-
-  -- a file that is too long is refused
-  pub long_stops : (told : Option (List ℕ → Option (List ℕ))) (files : List ℕ → Option (List ℕ)) (name : List ℕ) (old new : ℕ) (stop : LoadStop) (reached : ℕ) (refusal : Refusal) → ((n : ℕ) → stop ≡ load_stops.TooLong n → (n ≡ rules_limit + 1) × told_files.HasLongFile told name rules_limit)
-      → stop ≡ load_stops.TooLong reached → refusal ≡ refusals.Text (fault causes.TooLong 0 reached) (record { line = 1; column = 1 }) → Stops (told ≡ Some files) old new Rules (HasBadFile files name table) (HasFile files name table) refusal
-  long_stops told files name old new stop reached refusal says is r =
-      let long = says reached is in
-      let refusal_is : refusal ≡ refusals.Text (fault causes.TooLong 0 (rules_limit + 1)) (record { line = 1; column = 1 }) =
-      r ∙ ap (λ n. refusals.Text (fault causes.TooLong 0 n) (record { line = 1; column = 1 })) long.0 in
-      subst (Stops (told ≡ Some files) old new Rules (HasBadFile files name table) (HasFile files name table)) (sym refusal_is)
-      (λ t. let has : told_files.HasLongFile (Some files) name rules_limit = subst (λ z. told_files.HasLongFile z name rules_limit) t long.1 in long_rejected files name has.0 has.1 has.2)

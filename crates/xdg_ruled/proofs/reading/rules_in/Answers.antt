@@ -13,8 +13,8 @@ returns-in-Ok-check_rules-clause-tells c = right_tells c.args.types.now c.args.t
 pub returns-in-Ok-check_rules-clause-only : goal.returns-in-Ok-check_rules-clause-only
 returns-in-Ok-check_rules-clause-only c = right_only c.args.types.now c.args.text.now c.in-Ok.rules c.in-Ok.ensures.tells c.in-Ok.ensures.only c.in-Ok-check_rules.ensures.tells
 
-pub returns-clause-tells : goal.returns-clause-tells
-returns-clause-tells c = wrong_tells c.args.types.now c.args.text.now c.in-Ok.rules c.in-Ok.ensures.tells c.in-Ok.ensures.only c.in-Err-check_rules.stop c.in-Err-check_rules.ensures.tells
+pub returns-in-Err-check_rules-clause-tells : goal.returns-in-Err-check_rules-clause-tells
+returns-in-Err-check_rules-clause-tells c = wrong_tells c.args.types.now c.args.text.now c.in-Ok.rules c.in-Ok.ensures.tells c.in-Ok.ensures.only c.in-Err-check_rules.stop c.in-Err-check_rules.ensures.tells
 
-pub returns-clause-only : goal.returns-clause-only
-returns-clause-only c = wrong_only c.args.types.now c.args.text.now c.in-Ok.rules c.in-Ok.ensures.tells c.in-Ok.ensures.only c.in-Err-check_rules.stop c.in-Err-check_rules.ensures.only
+pub returns-in-Err-check_rules-clause-only : goal.returns-in-Err-check_rules-clause-only
+returns-in-Err-check_rules-clause-only c = wrong_only c.args.types.now c.args.text.now c.in-Ok.rules c.in-Ok.ensures.tells c.in-Ok.ensures.only c.in-Err-check_rules.stop c.in-Err-check_rules.ensures.only
