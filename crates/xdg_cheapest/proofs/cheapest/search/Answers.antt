@@ -3,8 +3,8 @@ use Rattle.xdg_analyses.proofs.Ending.{done_of, failed_of}
 use Rattle.xdg_cheapest.proofs.Ending.{answer_ends, answer_front, found_fits}
 use Rattle.xdg_cheapest.proofs.cheapest.search.Goals as goal
 
-pub write_answer-requires : goal.write_answer-requires
-write_answer-requires g c = found_fits c.args.problem.now c.in-Ok.answer.found c.in-Ok.ensures.answers.solution
+pub write_answer-written-requires : goal.write_answer-written-requires
+write_answer-written-requires g c = found_fits c.args.problem.now c.in-Ok.answer.found c.in-Ok.ensures.answers.solution
 
 pub returns-then-is_err-clause-leaves : goal.returns-then-is_err-clause-leaves
 returns-then-is_err-clause-leaves g c =

@@ -5,7 +5,7 @@ use Rattle.xdg_listing.specs.declared.Ending.TheVariants as endings
 use Rattle.xdg_stream.specs.Streamed.{start_vector}
 use Rattle.xdg_searches.specs.Outcomes.{form_of}
 use Rattle.xdg_searches.proofs.Searching.{searched_ends, searched_front}
-use Rattle.xdg_searches.proofs.parse.search.Goals as goal
+use Rattle.xdg_searches.proofs.printing.search.Goals as goal
 
 pub returns-in-Ended-Complete-clause-leaves : goal.returns-in-Ended-Complete-clause-leaves
 returns-in-Ended-Complete-clause-leaves g c =

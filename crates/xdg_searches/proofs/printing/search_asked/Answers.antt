@@ -1,7 +1,7 @@
 use Rattle.std.proofs.Common.{subst, sym}
 use Rattle.xdg_outcomes.specs.Runs.{Leaves}
 use Rattle.xdg_searches.specs.Outcomes.{ParsedBy}
-use Rattle.xdg_searches.proofs.parse.search_asked.Goals as goal
+use Rattle.xdg_searches.proofs.printing.search_asked.Goals as goal
 
 pub returns-then-split-clause-leaves : goal.returns-then-split-clause-leaves
 returns-then-split-clause-leaves g c =
