@@ -5,4 +5,5 @@ pub mod Fronting
 pub mod Ordering
 pub mod Passing
 pub mod Going
+pub mod Closing
 pub mod Commanding

@@ -53,7 +53,7 @@ fn problem_at(
     expanded: &Expanded,
     packed: &Packed,
     stock: &mut Stock,
-    words: &[SentenceWord],
+    words: &List<SentenceWord>,
     ranks: &[u8],
 ) -> Result<Problem, OutOfMemory>
     requires lexicon { IsRightLexicon expanded.now.checked.types expanded.now.entries }
@@ -63,7 +63,7 @@ fn problem_at(
     ensures compiled { IfOk result (λ problem. problem ≡ compiled (grammar_of expanded.now.checked packed.now) (words_at words.now ranks.now)) }
     ensures keeps { IfOk result (KeepsSolutions (grammar_of expanded.now.checked packed.now) (words_at words.now ranks.now)) }
 {
-    let words = words_at(alloc, words, ranks)?;
+    let words = words_at(alloc, words.as_slice(), ranks)?;
     match stock.build(alloc, &expanded.checked, packed, words) {
         Ok(problem) => Ok(problem),
         Err(_) => Err(OutOfMemory),
@@ -77,7 +77,7 @@ fn print_ranks<K: Sink>(
     expanded: &Expanded,
     packed: &Packed,
     stock: &mut Stock,
-    words: &[SentenceWord],
+    words: &List<SentenceWord>,
     ranks: &[u8],
     number: u64,
     out: &mut K,
@@ -147,7 +147,7 @@ pub(crate) fn print_arrangements<K: Sink>(
             expanded,
             packed,
             &mut stock,
-            words.as_slice(),
+            words,
             arrangements.view(),
             printed + 1,
             out,
