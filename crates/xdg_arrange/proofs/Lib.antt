@@ -1,6 +1,7 @@
 pub mod Listing
 pub mod Finding
 pub mod Laying
+pub mod Leading
 pub mod Fronting
 pub mod Ordering
 pub mod Passing
