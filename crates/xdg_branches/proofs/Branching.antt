@@ -1,12 +1,13 @@
 -- What the branches of a sentence find is a front of the list of its solutions.
-use Rattle.std.proofs.Common.{◌≡◌, ◌≢◌, ℕ, ◌<◌, ◌≤◌, ◌+◌, Bool, true, false, List, [], ◌∷◌, ◌++◌, length, map, take, drop, get_or, zero, suc, refl, ap, ap₂, sym, ◌∙◌, subst, arith, Some, None}
+use Rattle.std.proofs.Common.{◌≡◌, ◌≢◌, ℕ, ◌<◌, ◌≤◌, ◌+◌, ◌-◌, Bool, true, false, List, [], ◌∷◌, ◌++◌, length, map, take, drop, get_or, zero, suc, refl, ap, ap₂, sym, ◌∙◌, subst, arith, Some, None}
 use Rattle.std.specs.Prelude.{All, Option}
 use Rattle.std.proofs.Math.Seq.{drop-cons, take-length}
 use Rattle.std.proofs.lemmas.List.{length-take-le, take-take}
 use Rattle.std.proofs.lemmas.List.Elements.{All-nil, All-cons, All-take, All-weaker}
 use Rattle.xdg_analyses.specs.Printed.{blocks, last_line, shown}
+use Rattle.xdg_analyses.specs.Written.{IsSome}
 use Rattle.xdg_analyses.specs.declared.forms.Form.{Form}
-use Rattle.xdg_branches.specs.Branched.{CanBranch, IsBranched, PrintsBranches, branch_job, branch_jobs}
+use Rattle.xdg_branches.specs.Branched.{CanBranch, IsBranched, PrintsBranches, branch_job, branch_jobs, jobs_from}
 use Rattle.xdg_branches.specs.Written.{WritesAll}
 use Rattle.xdg_io.specs.Held.{Appends, AppendsFront}
 use Rattle.xdg_propcore.specs.Uses.{AllStandIn}
@@ -19,17 +20,18 @@ use Rattle.xdg_problem.specs.declared.parts.Parts.{Parts}
 use Rattle.xdg_problem.specs.Analyses.{IsAnalysis}
 use Rattle.xdg_problem.specs.Branches.{branch_of, first_candidates}
 use Rattle.xdg_problem.specs.BranchLaws.{AreBranchLists, joined}
-use Rattle.xdg_problem.specs.Places.{below, numbers_from}
+use Rattle.xdg_problem.specs.Places.{numbers_from}
 use Rattle.xdg_problem.specs.Problems.{IsProblem}
 use Rattle.xdg_problem.specs.Solutions.{IsSolution, IsSolutionList}
 use Rattle.xdg_problem.proofs.BranchSolutions.{branch_laws}
 use Rattle.xdg_problem.proofs.BranchesJoined.{branches_join}
 use Rattle.xdg_problem.proofs.OneList.{some_solution_list}
 use Rattle.xdg_split.specs.Asked.{Asked, IsJob, asked}
-use Rattle.xdg_split.specs.Splits.{AllWant, AreFirst, AreProblems, Ends, IsSplit, IsWhole, Reach, wanted_of}
+use Rattle.xdg_split.specs.Splits.{AllWant, AreFirst, AreProblems, Continues, Ends, IsSplit, IsWhole, Reach}
 use Rattle.xdg_split.specs.Splits.Reaches.{all, some}
-use Rattle.xdg_split.proofs.Reaching.{not_both}
-use Rattle.xdg_split.proofs.Together.{have_one_split}
+use Rattle.xdg_split.proofs.Reaching.{not_both, some_reach}
+use Rattle.xdg_split.proofs.Together.{have_one_split, split_stopped}
+use Rattle.xdg_split.proofs.Turning.{split_empty}
 
 -- ---- fronts of lists
 
@@ -71,38 +73,92 @@ begins_on (x ∷ xs) (y ∷ ys) (z ∷ zs) b c =
 begins_taken : (n : ℕ) (found solutions more : List Analysis) → found ≡ take n solutions → Begins found (solutions ++ more)
 begins_taken n found solutions more is = subst (λ z. Begins z (solutions ++ more)) (sym is) (begins_on (take n solutions) solutions (solutions ++ more) (begins_take n solutions) (begins_more solutions more))
 
+-- ---- the searches of the branches
+
+numbers_both : {A : Type 0} (f : ℕ → A) (first n m : ℕ) → map f (numbers_from first n) ++ map f (numbers_from (first + n) m) ≡ map f (numbers_from first (n + m))
+numbers_both f first zero m =
+    let start : first + 0 ≡ first = omega arith in
+    let many : m ≡ 0 + m = omega arith in
+    ap₂ (λ k n. map f (numbers_from k n)) start many
+numbers_both f first (suc n) m =
+    let start : first + suc n ≡ suc first + n = omega arith in
+    let many : suc (n + m) ≡ suc n + m = omega arith in
+    ap (λ z. f first ∷ z) (ap (λ k. map f (numbers_from (suc first) n) ++ map f (numbers_from k m)) start ∙ numbers_both f (suc first) n m) ∙ ap (λ k. map f (numbers_from first k)) many
+
+pub jobs_none : (f : ℕ → Asked) (from : ℕ) (jobs : List Asked) → jobs ≡ [] → jobs ≡ map f (numbers_from from (from - from))
+jobs_none f from jobs none =
+    let same : 0 ≡ from - from = omega arith in
+    none ∙ ap (λ k. map f (numbers_from from k)) same
+
+-- a search more of those from a place on
+pub jobs_more : (f : ℕ → Asked) (from place : ℕ) (job : Asked) (jobs new : List Asked) → from ≤ place → jobs ≡ map f (numbers_from from (place - from)) → job ≡ f place → new ≡ jobs ++ job ∷ [] → new ≡ map f (numbers_from from (place + 1 - from))
+jobs_more f from place job jobs new below are is grown =
+    let last : place ≡ from + (place - from) = omega (arith, below) in
+    let next : place - from + 1 ≡ place + 1 - from = omega (arith, below) in
+    grown ∙ ap₂ (λ xs x. xs ++ x ∷ []) are is ∙ ap (λ k. map f (numbers_from from (place - from)) ++ f k ∷ []) last ∙ numbers_both f from (place - from) 1 ∙ ap (λ k. map f (numbers_from from k)) next
+
+-- so many analyses are wanted of each of them
+pub wants_from : (parts : Parts) (budget : ℕ) (wanted : Option ℕ) (place n : ℕ) → AllWant wanted (jobs_from parts budget wanted place n)
+wants_from parts budget wanted place zero = All-nil (λ (job : Asked). job.first ≡ wanted)
+wants_from parts budget wanted place (suc n) = All-cons (λ (job : Asked). job.first ≡ wanted) (branch_job parts budget wanted place) (jobs_from parts budget wanted (suc place) n) refl (wants_from parts budget wanted (suc place) n)
+
+-- The branches up to a place are searched, and come to this.
+pub record Upto (parts : Parts) (budget : ℕ) (wanted : Option ℕ) (place : ℕ) (ending : Ending) (found : List Analysis) : Type 0 where
+  pub within : place ≤ length (first_candidates parts)
+  pub split : IsSplit wanted (jobs_from parts budget wanted 0 place) ending found
+
 -- ---- what the branches reach
 
 module _ (parts : Parts) (is : IsProblem parts) (budget : ℕ) (wanted : Option ℕ) where
   abbrev count : ℕ
   count = length (first_candidates parts)
 
-  abbrev jobs_from : ℕ → ℕ → List Asked
-  jobs_from place n = map (branch_job parts budget wanted) (numbers_from place n)
+  abbrev jobs : ℕ → ℕ → List Asked
+  jobs place n = jobs_from parts budget wanted place n
 
   branch_is : (place : ℕ) → place < count → IsProblem (branch_of parts place)
   branch_is place within = (branch_laws parts place is within).problem
 
-  problems_from : (place n : ℕ) → place + n ≤ count → AreProblems (jobs_from place n)
+  problems_from : (place n : ℕ) → place + n ≤ count → AreProblems (jobs place n)
   problems_from place zero within = All-nil (λ (job : Asked). IsProblem job.parts)
-  problems_from place (suc n) within = All-cons (λ (job : Asked). IsProblem job.parts) (branch_job parts budget wanted place) (jobs_from (suc place) n) (branch_is place (omega (arith, within))) (problems_from (suc place) n (omega (arith, within)))
+  problems_from place (suc n) within = All-cons (λ (job : Asked). IsProblem job.parts) (branch_job parts budget wanted place) (jobs (suc place) n) (branch_is place (omega (arith, within))) (problems_from (suc place) n (omega (arith, within)))
 
-  wants_from : (place n : ℕ) → AllWant wanted (jobs_from place n)
-  wants_from place zero = All-nil (λ (job : Asked). job.first ≡ wanted)
-  wants_from place (suc n) = All-cons (λ (job : Asked). job.first ≡ wanted) (branch_job parts budget wanted place) (jobs_from (suc place) n) refl (wants_from (suc place) n)
-
-  pub are_problems : AreProblems (branch_jobs parts budget wanted)
+  are_problems : AreProblems (branch_jobs parts budget wanted)
   are_problems = problems_from 0 count (omega arith)
 
-  wanted_from : (place n : ℕ) → 0 < n → wanted_of (jobs_from place n) ≡ wanted
-  wanted_from place zero more = absurd (omega (arith, more))
-  wanted_from place (suc n) more = refl
+  -- the searches up to a place, and behind them some more
+  jobs_both : (place n : ℕ) → jobs 0 place ++ jobs place n ≡ jobs 0 (place + n)
+  jobs_both place n =
+      let start : place ≡ 0 + place = omega arith in
+      ap (λ k. jobs 0 place ++ jobs k n) start ∙ numbers_both (branch_job parts budget wanted) 0 place n
 
-  pub wanted_is : 0 < count → wanted_of (branch_jobs parts budget wanted) ≡ wanted
-  wanted_is more = wanted_from 0 count more
+  -- ---- some branches at a time
 
-  pub all_want : 0 < count → AllWant (wanted_of (branch_jobs parts budget wanted)) (branch_jobs parts budget wanted)
-  all_want more = subst (λ w. AllWant w (branch_jobs parts budget wanted)) (sym (wanted_is more)) (wants_from 0 count)
+  pub upto_none : (ending : Ending) (found : List Analysis) → ending ≡ endings.Complete → found ≡ [] → IsSome wanted → Upto parts budget wanted 0 ending found
+  upto_none ending found complete none wants = record { within = omega arith; split = split_empty wanted [] ending found refl complete none wants }
+
+  -- some more of them
+  pub upto_more : (place to : ℕ) (ending new : Ending) (found more : List Analysis) → place ≤ to → to ≤ count → Upto parts budget wanted place ending found → Continues wanted ending found (jobs place (to - place)) new more
+      → Upto parts budget wanted to new more
+  upto_more place to ending new found more rises within upto goes =
+      let there : place + (to - place) ≡ to = omega (arith, rises) in
+      record { within = within; split = subst (λ js. IsSplit wanted js new more) (jobs_both place (to - place) ∙ ap (jobs 0) there) (goes (jobs 0 place) upto.split) }
+
+  -- all are searched
+  pub upto_all : (place : ℕ) (ending : Ending) (found : List Analysis) → count ≤ place → Upto parts budget wanted place ending found → IsBranched budget wanted parts ending found
+  upto_all place ending found past upto =
+      let here : place ≡ count = let w = upto.within in omega (arith, past, w) in
+      subst (λ n. IsSplit wanted (jobs 0 n) ending found) here upto.split
+
+  -- the others add nothing
+  pub upto_stopped : (place : ℕ) (ending : Ending) (found : List Analysis) → (ending ≡ endings.Complete → ⊥) → Upto parts budget wanted place ending found → IsBranched budget wanted parts ending found
+  upto_stopped place ending found ended upto =
+      let there : place + (count - place) ≡ count = let w = upto.within in omega (arith, w) in
+      let within : place + (count - place) ≤ count = let w = upto.within in omega (arith, w) in
+      let rest = some_reach (jobs place (count - place)) (problems_from place (count - place) within) in
+      subst (λ js. IsSplit wanted js ending found) (jobs_both place (count - place) ∙ ap (jobs 0) there) (split_stopped wanted (jobs 0 place) (jobs place (count - place)) ending found rest.0 rest.1 ended upto.split rest.2)
+
+  -- ---- what all of them reach
 
   -- lists of the branches, of which those that are reached begin the joined ones
   record Listed (place n : ℕ) (whole : Bool) (found : List Analysis) : Type 0 where
@@ -119,7 +175,7 @@ module _ (parts : Parts) (is : IsProblem parts) (budget : ℕ) (wanted : Option 
       let later = some_lists_from (suc place) n (omega (arith, within)) in
       (here.0 ∷ later.0, ap suc later.1, (here.1, later.2))
 
-  listed : (place n : ℕ) (whole : Bool) (found : List Analysis) → place + n ≤ count → Reach (jobs_from place n) whole found → Listed place n whole found
+  listed : (place n : ℕ) (whole : Bool) (found : List Analysis) → place + n ≤ count → Reach (jobs place n) whole found → Listed place n whole found
   listed place zero whole found within here = record { lists = []; many = refl; are = tt; begins = subst (λ z. Begins z []) (sym here.1) refl; all_of = λ e. here.1 }
   listed place (suc n) whole found within (all counted solutions more lists covered later found_is) =
       let rest = listed (suc place) n whole more (omega (arith, within)) later in

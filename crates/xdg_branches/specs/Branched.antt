@@ -7,7 +7,7 @@ use Rattle.xdg_listing.specs.declared.Ending.{Ending}
 use Rattle.xdg_problem.specs.declared.analysis.Analysis.{Analysis}
 use Rattle.xdg_problem.specs.declared.parts.Parts.{Parts}
 use Rattle.xdg_problem.specs.Branches.{branch_of, first_candidates}
-use Rattle.xdg_problem.specs.Places.{below}
+use Rattle.xdg_problem.specs.Places.{numbers_from}
 use Rattle.xdg_split.specs.Asked.{Asked, asked}
 use Rattle.xdg_split.specs.Splits.{IsSplit}
 
@@ -21,9 +21,13 @@ pub record CanBranch (budget : ℕ) (wanted : Option ℕ) : Type 0 where
 abbrev pub branch_job : Parts → ℕ → Option ℕ → ℕ → Asked
 branch_job parts budget wanted place = asked (branch_of parts place) budget wanted
 
+-- the searches of so many branches, from that at a place on
+abbrev pub jobs_from : Parts → ℕ → Option ℕ → ℕ → ℕ → List Asked
+jobs_from parts budget wanted place count = map (branch_job parts budget wanted) (numbers_from place count)
+
 -- a search for each candidate of the first node, in their order
 abbrev pub branch_jobs : Parts → ℕ → Option ℕ → List Asked
-branch_jobs parts budget wanted = map (branch_job parts budget wanted) (below (length (first_candidates parts)))
+branch_jobs parts budget wanted = jobs_from parts budget wanted 0 (length (first_candidates parts))
 
 -- what they find, one branch behind the other, and how that ends
 abbrev pub IsBranched : ℕ → Option ℕ → Parts → Ending → List Analysis → Type 0

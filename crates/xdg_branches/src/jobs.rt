@@ -1,7 +1,7 @@
 //! The searches of the branches.
 
-ghost use Rattle.std.specs.Prelude.{◌≡◌, ◌<◌, length, IfOk};
-ghost use Rattle.xdg_branches.specs.Branched.{CanBranch};
+ghost use Rattle.std.specs.Prelude.{◌≡◌, ◌<◌, ◌≤◌, ◌-◌, length, IfOk};
+ghost use Rattle.xdg_branches.specs.Branched.{CanBranch, jobs_from};
 ghost use Rattle.xdg_branches.specs.Branched as spec;
 ghost use Rattle.xdg_problem.specs.Branches.{first_candidates};
 
@@ -11,10 +11,9 @@ use xdg_engine::{AnyProp, props};
 use xdg_problem::Problem;
 use xdg_split::Job;
 
-/// How many entries the first word has: 1 to 1,024.
-fn first_count(problem: &Problem) -> u16
-    ensures is { result ≡ length (first_candidates problem.now) }
-    ensures some { 0 < result }
+/// How many entries the first word has.
+pub(crate) fn branch_count(problem: &Problem) -> u16
+    ensures { result ≡ length (first_candidates problem.now) }
 {
     let parts = problem.parts();
     match parts.candidates.as_slice().first() {
@@ -40,19 +39,22 @@ fn branch_job(
     Ok(Job::of(branch, propagators, budget, first))
 }
 
-/// The searches of all branches, in the order of the entries.
+/// The searches of the branches from one place to another, in the order of the entries.
 pub(crate) fn branch_jobs(
     alloc: Global,
     problem: &Problem,
+    from: u16,
+    to: u16,
     budget: u64,
     first: Option<u64>,
 ) -> Result<List<Job<AnyProp>>, OutOfMemory>
-    requires { CanBranch budget first }
-    ensures { IfOk result (λ jobs. jobs ≡ spec.branch_jobs problem.now budget first) }
+    requires order { from ≤ to }
+    requires most { to ≤ length (first_candidates problem.now) }
+    requires range { CanBranch budget first }
+    ensures { IfOk result (λ jobs. jobs ≡ jobs_from problem.now budget first from (to - from)) }
 {
-    let count = first_count(problem);
     let mut jobs = List::new(alloc);
-    for place in 0..count {
+    for place in from..to {
         jobs.push(branch_job(alloc, problem, place, budget, first)?)?;
     }
     Ok(jobs)

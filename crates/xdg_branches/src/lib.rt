@@ -4,5 +4,6 @@
 
 mod jobs;
 mod printing;
+mod searching;
 
 pub use printing::print_branches;

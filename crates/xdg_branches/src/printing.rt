@@ -1,29 +1,27 @@
 //! Searching by branches, and printing what is found.
 
-ghost use Rattle.std.specs.Prelude.{◌≡◌, ◌≢◌, ◌≤◌, ◌++◌, All, length, IfOk, OnErr, OnOk};
+ghost use Rattle.std.specs.Prelude.{◌≡◌, ◌≢◌, ◌≤◌, ◌++◌, All, length, OnErr, OnOk};
 ghost use Rattle.xdg_analyses.specs.Printed.{blocks, last_line, shown};
-ghost use Rattle.xdg_branches.specs.Branched.{CanBranch, IsBranched};
+ghost use Rattle.xdg_branches.specs.Branched.{CanBranch};
 ghost use Rattle.xdg_branches.specs.Laws.{BranchedLaws};
 ghost use Rattle.xdg_branches.specs.Written.{WritesBranches};
 ghost use Rattle.xdg_io.specs.Held.{Appends, AppendsFront};
 ghost use Rattle.xdg_io.specs.Rose.{Rose};
 ghost use Rattle.xdg_problem.specs.Analyses.{IsAnalysis};
 
-use crate::jobs::branch_jobs;
+use crate::searching::search;
 use std::alloc::Global;
 use std::thread::Threads;
 use xdg_analyses::{Form, Printed};
-use xdg_base::OutOfMemory;
 use xdg_io::{Failed, Sink};
 use xdg_listing::Ending;
 use xdg_problem::{Analysis, Problem};
-use xdg_split::{SplitAnswer, split};
 use xdg_text::{write, write_complete, write_first, write_spent, write2};
 
 /// Searches a sentence by the branches of its first word's entries, each with the whole budget, and then prints each solution that was
 /// found, in their order, and the last line. Where a number of analyses is asked for, at least one, it prints so many. Four branches are
-/// searched at a time, side by side. Nothing is written before all is found, and what is found is kept so long. The budget is 1 to
-/// 1,000,000,000 boxed prefixes.
+/// made and searched at a time, side by side. Nothing is written before all is found, and what is found is kept so long. The budget is 1
+/// to 1,000,000,000 boxed prefixes.
 pub fn print_branches<R: Threads + Sync, K: Sink>(
     rt: &R,
     alloc: Global,
@@ -49,21 +47,6 @@ pub fn print_branches<R: Threads + Sync, K: Sink>(
         return Printed::Failed;
     }
     Printed::Ended(answer.ending)
-}
-
-/// What the branches find.
-fn search<R: Threads + Sync>(
-    rt: &R,
-    alloc: Global,
-    problem: &Problem,
-    budget: u64,
-    first: Option<u64>,
-) -> Result<SplitAnswer, OutOfMemory>
-    requires { CanBranch budget first }
-    ensures { IfOk result (λ answer. IsBranched budget first problem.now answer.ending answer.found) }
-{
-    let jobs = branch_jobs(alloc, problem, budget, first)?;
-    split(rt, alloc, jobs.as_slice())
 }
 
 /// Prints analyses of a sentence, numbered from 1, and the last line behind them.

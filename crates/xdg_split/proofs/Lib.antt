@@ -3,4 +3,4 @@ mod Searched
 pub mod Reaching
 pub mod Together
 mod Collecting
-mod Turning
+pub mod Turning

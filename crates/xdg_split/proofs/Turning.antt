@@ -3,7 +3,7 @@ use Rattle.std.proofs.Common.{◌≡◌, ℕ, ◌<◌, ◌≤◌, inl, inr, ◌�
 use Rattle.std.specs.Prelude.{All, None, Option, Some, slice_get}
 use Rattle.std.specs.Option.{unwrap_or}
 use Rattle.std.proofs.lemmas.List.{take-append-drop}
-use Rattle.std.proofs.lemmas.List.Elements.{All-drop, All-head, All-take}
+use Rattle.std.proofs.lemmas.List.Elements.{All-drop, All-head}
 use Rattle.xdg_analyses.specs.Written.{IsSome}
 use Rattle.xdg_listing.specs.declared.Ending.{Ending}
 use Rattle.xdg_listing.specs.declared.Ending.TheVariants as endings
@@ -11,7 +11,7 @@ use Rattle.xdg_problem.specs.declared.analysis.Analysis.{Analysis}
 use Rattle.xdg_problem.specs.Problems.{IsProblem}
 use Rattle.xdg_split.specs.Asked.{Asked}
 use Rattle.xdg_split.specs.Finds.{Joins}
-use Rattle.xdg_split.specs.Splits.{AllWant, AreProblems, IsSplit}
+use Rattle.xdg_split.specs.Splits.{AllWant, AreProblems, Continues, IsSplit}
 use Rattle.xdg_split.proofs.Collecting.{below_some}
 use Rattle.xdg_split.proofs.Reaching.{some_reach}
 use Rattle.xdg_split.proofs.Together.{split_stopped}
@@ -51,22 +51,16 @@ turned_none wanted jobs ending found complete none some wants problems = record 
 }
 
 -- a turn more
-pub turned_more : (wanted : Option ℕ) (jobs rest turn left : List Asked) (n : ℕ) (ending later new : Ending) (found more joined : List Analysis) → turn ≡ take n rest → left ≡ drop n rest → Turned wanted jobs rest ending found → IsSplit wanted turn later more
-    → Joins wanted ending found later more new joined → Turned wanted jobs left new joined
-turned_more wanted jobs rest turn left n ending later new found more joined cut behind t searched joins =
+pub turned_more : (wanted : Option ℕ) (jobs rest turn left : List Asked) (n : ℕ) (ending new : Ending) (found joined : List Analysis) → turn ≡ take n rest → left ≡ drop n rest → Turned wanted jobs rest ending found
+    → Continues wanted ending found turn new joined → Turned wanted jobs left new joined
+turned_more wanted jobs rest turn left n ending new found joined cut behind t goes =
     subst (λ js. Turned wanted jobs js new joined) (sym behind) (record {
       front = t.front ++ turn;
       parts = append_assoc t.front turn (drop n rest) ∙ ap (λ z. t.front ++ (z ++ drop n rest)) cut ∙ ap (λ z. t.front ++ z) (take-append-drop n rest) ∙ t.parts;
-      split = joins t.front turn t.split searched;
+      split = goes t.front t.split;
       wants = All-drop (λ (job : Asked). job.first ≡ wanted) n rest t.wants;
       problems = All-drop (λ (job : Asked). IsProblem job.parts) n rest t.problems;
     })
-
-pub turn_wants : (wanted : Option ℕ) (rest turn : List Asked) (n : ℕ) → turn ≡ take n rest → AllWant wanted rest → AllWant wanted turn
-turn_wants wanted rest turn n cut wants = subst (AllWant wanted) (sym cut) (All-take (λ (job : Asked). job.first ≡ wanted) n rest wants)
-
-pub left_wants : (wanted : Option ℕ) (rest left : List Asked) (n : ℕ) → left ≡ drop n rest → AllWant wanted rest → AllWant wanted left
-left_wants wanted rest left n cut wants = subst (AllWant wanted) (sym cut) (All-drop (λ (job : Asked). job.first ≡ wanted) n rest wants)
 
 -- all are searched
 pub turned_all : (wanted : Option ℕ) (jobs rest : List Asked) (ending : Ending) (found : List Analysis) → Turned wanted jobs rest ending found → rest ≡ [] → IsSplit wanted jobs ending found
@@ -82,3 +76,7 @@ turned_stopped wanted jobs rest ending found t ended =
 -- one of two halves behind the other
 pub split_halves : (wanted : Option ℕ) (jobs front back : List Asked) (one other new : Ending) (f g all : List Analysis) → jobs ≡ front ++ back → IsSplit wanted front one f → IsSplit wanted back other g → Joins wanted one f other g new all → IsSplit wanted jobs new all
 split_halves wanted jobs front back one other new f g all cut first later joins = subst (λ js. IsSplit wanted js new all) (sym cut) (joins front back first later)
+
+-- further jobs behind those that were searched
+pub goes_on : (wanted : Option ℕ) (jobs : List Asked) (one other new : Ending) (f g all : List Analysis) → IsSplit wanted jobs other g → Joins wanted one f other g new all → Continues wanted one f jobs new all
+goes_on wanted jobs one other new f g all searched joins before split = joins before jobs split searched

@@ -72,3 +72,7 @@ pub record HaveOneSplit (jobs : List Asked) : Type 0 where
   pub only : (other : Bool) (found : List Analysis) → Reach jobs other found → (other ≡ whole) × (found ≡ reached)
   pub one : (wanted : Option ℕ) (ending other : Ending) (found more : List Analysis) → IsSplit wanted jobs ending found → IsSplit wanted jobs other more → (ending ≡ other) × (found ≡ more)
   pub enough : All IsWhole jobs → whole ≡ true
+
+-- what jobs come to, and others behind them, is what all of them come to
+abbrev pub Continues : Option ℕ → Ending → List Analysis → List Asked → Ending → List Analysis → Type 0
+Continues wanted e f others ending found = (jobs : List Asked) → IsSplit wanted jobs e f → IsSplit wanted (jobs ++ others) ending found

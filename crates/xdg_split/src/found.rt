@@ -7,16 +7,18 @@ use std::alloc::{AllocError, Global};
 use xdg_listing::Ending;
 use xdg_problem::Analysis;
 
-/// Analyses in their order, and how their list ends.
+/// The solutions that the searches of jobs have found so far, one job behind the other, and how that ends.
 #[derive(Drop)]
-pub(crate) struct Found {
-    pub(crate) found: Vec<Analysis>,
-    pub(crate) ending: Ending,
+pub struct Found {
+    /// The solutions, in the order of the jobs and of each search.
+    pub found: Vec<Analysis>,
+    /// Whether these are all, or as many as were asked for, or the budget of a job was spent.
+    pub ending: Ending,
 }
 
 impl Found {
-    /// No analyses, which are all.
-    pub(crate) fn none(alloc: Global) -> Found
+    /// No solutions, which are all of no jobs. They take no memory.
+    pub fn none(alloc: Global) -> Found
         ensures found { result.found.items ≡ [] }
         ensures ending { result.ending ≡ Ending.Complete }
     {
@@ -26,8 +28,8 @@ impl Found {
         }
     }
 
-    /// Whether nothing that is found later belongs to them.
-    pub(crate) fn has_ended(&self) -> bool
+    /// Whether nothing that later jobs find belongs to them.
+    pub fn has_ended(&self) -> bool
         ensures { IsTrue result → self.now.ending ≢ Ending.Complete }
     {
         match self.ending {

@@ -13,5 +13,6 @@ mod splitting;
 
 pub use answer::Answer;
 pub use answering::answers;
+pub use found::Found;
 pub use job::Job;
 pub use splitting::{SplitAnswer, split, split_laws};

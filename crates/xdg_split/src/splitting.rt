@@ -4,7 +4,7 @@ ghost use Rattle.std.specs.Prelude.{◌≡◌, ◌<◌, List, IfOk, length};
 ghost use Rattle.std.specs.Thread.{IsSync};
 ghost use Rattle.xdg_analyses.specs.Written.{IsSome};
 ghost use Rattle.xdg_split.specs.Asked.{Asked};
-ghost use Rattle.xdg_split.specs.Splits.{AllWant, AreProblems, HaveOneSplit, IsSplit, wanted_of};
+ghost use Rattle.xdg_split.specs.Splits.{AllWant, AreProblems, Continues, HaveOneSplit, IsSplit, wanted_of};
 
 use crate::found::Found;
 use crate::job::Job;
@@ -68,6 +68,30 @@ fn wanted<P: Propagator>(jobs: &[Job<P>]) -> Option<u64>
     }
 }
 
+impl Found {
+    /// These, and behind them what further jobs find, which are searched side by side, all of them at once. Where these didn't end
+    /// complete, they are all that there is. Of each job as many are wanted as of those before.
+    ///
+    /// # Errors
+    ///
+    /// Fails where memory runs out.
+    pub fn search_next<R: Threads + Sync, P: Propagator + Sync>(
+        self,
+        rt: &R,
+        alloc: Global,
+        jobs: &[Job<P>],
+        first: Option<u64>,
+    ) -> Result<Found, OutOfMemory>
+        requires some { IsSome first }
+        requires wanted { AllWant first jobs.now }
+        ensures { IfOk result (λ found. Continues first self.ending self.found.items jobs.now found.ending found.found.items) }
+    {
+        let later = search_all(rt, alloc, jobs, first)?;
+        let joined = self.followed_by(later, first)?;
+        Ok(joined)
+    }
+}
+
 /// Searches jobs, some at a time.
 fn search_in_turns<R: Threads + Sync, P: Propagator + Sync>(
     rt: &R,
@@ -87,8 +111,7 @@ fn search_in_turns<R: Threads + Sync, P: Propagator + Sync>(
             return Ok(answer);
         }
         let (turn, later) = rest.split_at(min(rest.len(), SIDE_BY_SIDE));
-        let next = search_all(rt, alloc, turn, first)?;
-        answer = answer.followed_by(next, first)?;
+        answer = answer.search_next(rt, alloc, turn, first)?;
         rest = later;
     }
     Ok(answer)

@@ -1,12 +1,8 @@
-use Rattle.std.proofs.Common.{Some, sym, subst}
-use Rattle.std.specs.List.{AllZip}
-use Rattle.std.proofs.lemmas.List.Elements.{All-pop}
-use Rattle.xdg_split.specs.Slots.{Fits, IsPlaced}
-use Rattle.xdg_split.proofs.Slotted.{zip_set}
+use Rattle.xdg_split.proofs.Slotted.{put_more}
 use Rattle.xdg_split.proofs.slots.put_all.Goals as goal
 
 pub loop-found-preserved : goal.loop-found-preserved
-loop-found-preserved c = λ jobs all fit.
-    let before = c.loop-found.invariant jobs all fit in
-    let popped = All-pop (IsPlaced jobs) c.loop-found.share c.pop.new.self (Some c.in-Some.found) c.in-Some.ensures before.0 in
-    (popped.0, subst (AllZip Fits jobs) (sym c.exchange.ensures.slots) (zip_set Fits jobs c.loop-found.slots.items c.in-Some.found.place (Some c.in-Some.found.answer) (λ job e. popped.1 job e) before.1))
+loop-found-preserved c = λ jobs all fit. put_more jobs c.loop-found.share c.pop.new.self c.in-Some.found c.loop-found.slots.items c.exchange.new.slots.items c.in-Some.ensures c.exchange.ensures.slots (c.loop-found.invariant jobs all fit)
+
+pub loop-found-preserved-in-Some : goal.loop-found-preserved-in-Some
+loop-found-preserved-in-Some c = λ jobs all fit. put_more jobs c.loop-found.share c.pop.new.self c.in-Some.found c.loop-found.slots.items c.exchange.new.slots.items c.in-Some.ensures c.exchange.ensures.slots (c.loop-found.invariant jobs all fit)

@@ -1,4 +1,4 @@
-use Rattle.std.proofs.Common.{◌≡◌, ◌<◌, arith, get_or, length, rules, subst}
+use Rattle.std.proofs.Common.{◌≡◌, get_or, rules, subst}
 use Rattle.std.proofs.lemmas.List.{take_all}
 use Rattle.std.proofs.lemmas.List.Elements.{All-more}
 use Rattle.xdg_problem.specs.Problems.{IsProblem}
@@ -12,6 +12,4 @@ loop-job-preserved g c =
     All-more (λ (job : Asked). IsProblem job.parts) c.args.jobs.now c.loop-job.job-index c.job-item.result c.loop-job-test.true c.loop-job.invariant (subst (λ (job : Asked). IsProblem job.parts) is c.know_problem.ensures)
 
 pub returns : goal.returns
-returns g c =
-    let past : c.loop-job.job-index < length c.args.jobs.now → ⊥ = c.loop-job-test.false in
-    subst AreProblems (take_all c.loop-job.job-index c.args.jobs.now (omega (arith, past))) c.loop-job.invariant
+returns g c = subst AreProblems (take_all c.loop-job.job-index c.args.jobs.now c.loop-job-test.false) c.loop-job.invariant

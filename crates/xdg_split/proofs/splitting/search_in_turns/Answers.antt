@@ -6,8 +6,8 @@ use Rattle.xdg_split.proofs.splitting.search_in_turns.Goals as goal
 
 pub loop-rest-preserved : goal.loop-rest-preserved
 loop-rest-preserved g c =
-    turned_more c.args.first c.args.jobs.now c.loop-rest.rest.now c.split_at.result.0.now c.split_at.result.1.now c.min.result c.loop-rest.answer.ending c.in_ok-next.next.ending c.in_ok-answer.answer.ending c.loop-rest.answer.found.items c.in_ok-next.next.found.items c.in_ok-answer.answer.found.items
-    c.split_at.ensures.front c.split_at.ensures.back c.loop-rest.invariant c.in_ok-next.ensures c.in_ok-answer.ensures
+    turned_more c.args.first c.args.jobs.now c.loop-rest.rest.now c.split_at.result.0.now c.split_at.result.1.now c.min.result c.loop-rest.answer.ending c.in_ok-answer.answer.ending c.loop-rest.answer.found.items c.in_ok-answer.answer.found.items
+    c.split_at.ensures.front c.split_at.ensures.back c.loop-rest.invariant c.in_ok-answer.ensures
 
 pub returns-then-has_ended : goal.returns-then-has_ended
 returns-then-has_ended g c = turned_stopped c.args.first c.args.jobs.now c.loop-rest.rest.now c.loop-rest.answer.ending c.loop-rest.answer.found.items c.loop-rest.invariant (c.has_ended.ensures c.if-has_ended.true)

@@ -3,7 +3,7 @@ use Rattle.xdg_split.specs.Splits.{AllWant, IsSplit, wanted_of}
 use Rattle.xdg_split.proofs.splitting.split.Goals as goal
 
 pub search_in_turns-requires-clause-wanted : goal.search_in_turns-requires-clause-wanted
-search_in_turns-requires-clause-wanted g c = subst (λ w. AllWant w c.args.jobs.now) (sym c.wanted-first.ensures.is) c.requires
+search_in_turns-requires-clause-wanted g c = λ _ _. subst (λ w. AllWant w c.args.jobs.now) (sym c.wanted-first.ensures.is) c.requires
 
 pub returns : goal.returns
 returns g c =
