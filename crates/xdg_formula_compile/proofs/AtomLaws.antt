@@ -73,10 +73,9 @@ stands_for count scope b numbered n name agree at = (agree n at.0).0 ∙ ap b at
 pub node_below : (count : ℕ) (scope : List (List ℕ)) (b : Binding) (numbered : ℕ → ℕ) (n : ℕ) (name : List ℕ) → Agree count scope b numbered → IsAt scope n name → numbered n < count
 node_below count scope b numbered n name agree at = (agree n at.0).1
 
-module _ (table : Table) (lexicon : Lexicon) (parts : Parts) (is : IsTable table) (for_it : IsFor table lexicon parts) (scope : List (List ℕ)) where
-  abbrev g : Grammar
-  g = record { table = table; uses = []; lexicon = lexicon }
+-- ---- atoms that name nothing but nodes
 
+module _ (table : Table) (lexicon : Lexicon) (parts : Parts) (scope : List (List ℕ)) where
   pub says_left : (one other : Name) (m n : ℕ) → IsAt scope m one.text → IsAt scope n other.text → Says table lexicon parts scope (w.left one other) (left m n)
   says_left one other m n first second = record {
     is_of = tt;
@@ -92,6 +91,10 @@ module _ (table : Table) (lexicon : Lexicon) (parts : Parts) (is : IsTable table
     same = λ a fits b numbered agree. (let e = stands_for (nodes parts) scope b numbered m one.text agree first in let f = stands_for (nodes parts) scope b numbered n other.text agree second in
         (λ l. sym e ∙ l ∙ f, λ l. e ∙ l ∙ sym f));
   }
+
+module _ (table : Table) (lexicon : Lexicon) (parts : Parts) (is : IsTable table) (for_it : IsFor table lexicon parts) (scope : List (List ℕ)) where
+  abbrev g : Grammar
+  g = record { table = table; uses = []; lexicon = lexicon }
 
   module _ (dim : Name) (d : ℕ) (at : IsDimAt (used_dims table) dim.text d) where
     abbrev k : ℕ
