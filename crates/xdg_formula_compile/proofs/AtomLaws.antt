@@ -1,6 +1,6 @@
 -- What the atoms of a rule say, and the atoms of a formula that are made of them.
-use Rattle.std.proofs.Common.{◌≡◌, ◌↔◌, ℕ, zero, suc, ◌<◌, true, List, [], ◌∷◌, length, get_or, map, refl, sym, ap, ap₂, ◌∙◌, subst, arith}
-use Rattle.std.specs.Prelude.{◌==◌, Any, Contains, Some, slice_get, slice_index, slice_index_or}
+use Rattle.std.proofs.Common.{◌≡◌, ◌↔◌, ℕ, zero, suc, ◌<◌, true, List, [], ◌∷◌, length, get_or, sym, ap, ◌∙◌, subst, arith}
+use Rattle.std.specs.Prelude.{◌==◌, Any, Contains, Some, slice_get, slice_index}
 use Rattle.std.proofs.lemmas.Bool.{eqb-true}
 use Rattle.std.proofs.lemmas.List.{get_or_default}
 use Rattle.std.proofs.lemmas.List.Elements.{All-contains, All-filter, filter_passes}
@@ -16,14 +16,14 @@ use Rattle.xdg_problem.specs.declared.parts.DimPlan.{DimPlan}
 use Rattle.xdg_problem.specs.declared.parts.Parts.{Parts}
 use Rattle.xdg_problem.specs.Analyses.{IsAnalysis, IsPlace}
 use Rattle.xdg_problem.specs.Arguments.{attr_place, no_plan, value_count}
-use Rattle.xdg_problem.specs.Claims.{Claim, joined, above, left, same, valued}
+use Rattle.xdg_problem.specs.Claims.{joined, above, left, same, valued}
 use Rattle.xdg_problem.specs.Paths.{edges_on, Above}
 use Rattle.xdg_problem.specs.Places.{nodes}
 use Rattle.xdg_terms.specs.Means.{IsAt}
 use Rattle.xdg_types.specs.declared.table.DimType.{DimType}
-use Rattle.xdg_types.specs.Table.{Table, IsTable, KeepsDim, KeepDims, AreAttributes, Typed, HasPlace, typed, firsts}
+use Rattle.xdg_types.specs.Table.{Table, IsTable, KeepsDim, KeepDims, AreAttributes, Typed, typed, firsts}
 use Rattle.xdg_groups.specs.Grammars.{Grammar}
-use Rattle.xdg_build.specs.Readings.{dimension, edges_in, label_text, value_of, value_number, value_texts, type_at}
+use Rattle.xdg_build.specs.Readings.{dimension, edges_in, label_text, value_of, value_number, value_texts}
 use Rattle.xdg_build.proofs.Conditions.{any_same}
 use Rattle.xdg_build.proofs.Different.{one_place}
 use Rattle.xdg_build.proofs.Values.{same_number}
@@ -32,8 +32,8 @@ use Rattle.xdg_formula_check.specs.Tables.{no_dim, used_dims}
 use Rattle.xdg_formula_compile.specs.Places.{IsDimAt, IsTypeAt}
 use Rattle.xdg_formula_compile.specs.Problems.{IsFor}
 use Rattle.xdg_formula_compile.specs.Says.{Says, Agree}
-use Rattle.xdg_formula_compile.specs.Truths.{Binding, IsCalled, Joins, IsAbove, HasAttribute, constants_of}
-use Rattle.xdg_formula_compile.proofs.Used.{among_all, used_within, used_is, is_called, one_called, below_of, plan_of, dims_long, labels_are, attrs_are, edges_same}
+use Rattle.xdg_formula_compile.specs.Truths.{Binding, constants_of}
+use Rattle.xdg_formula_compile.proofs.Used.{among_all, is_called, one_called, below_of, plan_of, dims_long, labels_are, edges_same}
 use Rattle.xdg_formula_compile.proofs.Valued.{value_below, number_same, attr_inside, type_is, value_count_is}
 
 -- ---- what the table keeps

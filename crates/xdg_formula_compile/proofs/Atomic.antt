@@ -1,5 +1,5 @@
 -- The atoms that are made of atoms with which nothing is wrong.
-use Rattle.std.proofs.Common.{◌≡◌, ℕ, ◌<◌, ◌≤◌, Bool, true, List, [], length, get_or, Some, refl, sym, ap, ◌∙◌, subst, arith}
+use Rattle.std.proofs.Common.{◌≡◌, ℕ, Bool, true, List, [], length, get_or, Some, sym, ap, ◌∙◌, subst}
 use Rattle.std.specs.Prelude.{slice_get}
 use Rattle.std.proofs.lemmas.Option.{get_or_from_slice_get}
 use Rattle.xdg_base.specs.declared.ids.AttrId.{AttrId}
@@ -14,7 +14,7 @@ use Rattle.xdg_problem.specs.declared.formula.Formula.TheVariants as y
 use Rattle.xdg_problem.specs.declared.parts.Parts.{Parts}
 use Rattle.xdg_problem.specs.Claims.{claim}
 use Rattle.xdg_problem.specs.Problems.{IsProblem}
-use Rattle.xdg_problem.proofs.Claimed.{claim_edge, claim_above, claim_left, claim_same, claim_attr, claim_feat}
+use Rattle.xdg_problem.proofs.Claimed.{claim_edge, claim_above, claim_attr, claim_feat}
 use Rattle.xdg_terms.specs.Built.{or_zero}
 use Rattle.xdg_terms.specs.Faults.{has}
 use Rattle.xdg_terms.specs.Means.{IsAt}

@@ -1,5 +1,5 @@
 -- The number of a value with which nothing is wrong.
-use Rattle.std.proofs.Common.{◌≡◌, ℕ, ◌<◌, Bool, true, false, List, [], ◌∷◌, length, get_or, map, Option, None, Some, refl, sym, ap, ◌∙◌, subst}
+use Rattle.std.proofs.Common.{◌≡◌, ℕ, Bool, true, false, List, [], ◌∷◌, length, map, None, Some, refl, sym, ap, ◌∙◌, subst}
 use Rattle.std.specs.Prelude.{◌==◌, if◌then◌else◌, Result, Ok}
 use Rattle.std.specs.declared.alloc.AllocError.{AllocError}
 use Rattle.xdg_base.specs.declared.faults.Fault.{Fault}
@@ -7,15 +7,15 @@ use Rattle.xdg_ast.specs.declared.names.Name.{Name}
 use Rattle.xdg_ast.specs.declared.terms.ElemKind.{ElemKind}
 use Rattle.xdg_ast.specs.declared.terms.ElemKind.TheOpen.{TermKind-F}
 use Rattle.xdg_ast.specs.declared.terms.TermKind.{TermKind, out-TermKind}
-use Rattle.xdg_domain.specs.Shapes.{Shape, domain, tuple, set, iset, truth, integer, text, card, valency, mapping, fields, count, sizes, product, IsSmall, IsType}
+use Rattle.xdg_domain.specs.Shapes.{Shape, domain, tuple, sizes, IsSmall, IsType}
 use Rattle.xdg_domain.specs.declared.values.Value.{Value, out-Value}
 use Rattle.xdg_domain.specs.declared.values.Value.TheOpen.{Value-F}
 use Rattle.xdg_faults.specs.First.{Tells, first}
 use Rattle.xdg_terms.specs.Answers.{IsRight}
 use Rattle.xdg_terms.specs.Built.{built}
-use Rattle.xdg_terms.specs.Forms.{Term, Bindings, bound, bound_in, with_open, with_bound, unless_open, constant_of, constant_in, bracket_of, bracket_in, if_so_many}
+use Rattle.xdg_terms.specs.Forms.{Term, Bindings, bound, bound_in, with_open, with_bound, unless_open, constant_of, constant_in, bracket_of, bracket_in}
 use Rattle.xdg_terms.specs.Means.{Means, MeansIn}
-use Rattle.xdg_terms.specs.Offences.{Offends, OffendsBy, OffendsIn, OffendsHere, OfSeen}
+use Rattle.xdg_terms.specs.Offences.{Offends, OffendsBy, OffendsIn, OfSeen}
 use Rattle.xdg_terms.proofs.Law.{law}
 use Rattle.xdg_terms.proofs.Meaning.{means_of}
 use Rattle.xdg_build.proofs.Values.{same_number}

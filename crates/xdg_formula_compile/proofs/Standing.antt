@@ -1,12 +1,11 @@
 -- Turns of loops that look for the place of a name, and what stands there.
-use Rattle.std.proofs.Common.{◌≡◌, ℕ, zero, suc, ◌+◌, ◌<◌, ◌≤◌, Bool, true, false, List, [], ◌∷◌, length, get_or, drop, map, Option, Some, None, refl, sym, ap, ◌∙◌, subst, arith, add-one, drop-cons}
-use Rattle.std.specs.Prelude.{◌||◌, bytes_eq, if◌then◌else◌, slice_get}
+use Rattle.std.proofs.Common.{◌≡◌, ℕ, suc, ◌+◌, ◌<◌, ◌≤◌, Bool, true, false, List, [], ◌∷◌, length, get_or, drop, map, Some, None, refl, sym, ap, ◌∙◌, subst, arith, add-one, drop-cons}
+use Rattle.std.specs.Prelude.{◌||◌, bytes_eq, if◌then◌else◌}
 use Rattle.std.proofs.lemmas.Bool.{false≢true}
 use Rattle.std.proofs.lemmas.List.{at_drop_all, get_or-map, get_or_default, length-map}
 use Rattle.xdg_domain.specs.declared.types.Ty.{Ty}
 use Rattle.xdg_terms.specs.Built.{place_from}
 use Rattle.xdg_terms.specs.Faults.{has}
-use Rattle.xdg_terms.specs.Means.{IsAt}
 use Rattle.xdg_terms.proofs.Has.{same_text}
 use Rattle.xdg_terms.proofs.Meant.{at_place}
 use Rattle.xdg_types.specs.declared.table.DimType.{DimType}

@@ -14,7 +14,8 @@ use Rattle.xdg_types.specs.Table.{Table, firsts, typed}
 use Rattle.xdg_build.specs.Readings.{type_at}
 use Rattle.xdg_formula_check.specs.Tables.{member_shape, no_dim, used_dims}
 use Rattle.xdg_formula_text.specs.declared.tree.Rule.{Rule}
-use Rattle.xdg_formula_text.specs.Written.{Tree, negation, conjunction, disjunction, every, any, edge, above, left, same, attr, feat, Trees, no_tree, tree_then, tree}
+use Rattle.xdg_formula_text.specs.Written.{Tree, negation, conjunction, disjunction, every, any, edge, above, left, same, attr, feat}
+use Rattle.xdg_formula_text.specs.Written.{Trees, no_tree, tree_then, tree}
 use Rattle.xdg_formula_compile.specs.Places.{names_at}
 use Rattle.xdg_formula_compile.specs.Signs.{denies}
 use Rattle.xdg_formula_compile.specs.Tables.{number_in, table_of}
@@ -73,7 +74,8 @@ module _ (table : Table) (lexicon : Lexicon) (parts : Parts) where
         (number_of (type_at (typed (type_in dim).attrs) (attribute_in dim attribute)) value)
     formula_in scope (feat node dim feature value) =
         y.Feat (place_of scope node.text)
-        (table_of lexicon.entries parts.candidates (dim_in dim) (feature_in dim feature) (member_number (member_shape (type_at (typed (type_in dim).fields) (feature_in dim feature))) value))
+        (table_of lexicon.entries parts.candidates (dim_in dim) (feature_in dim feature)
+        (member_number (member_shape (type_at (typed (type_in dim).fields) (feature_in dim feature))) value))
 
     pub formulas_in : List (List ℕ) → Trees → List Formula
     formulas_in scope no_tree = []

@@ -83,7 +83,8 @@ pub(crate) fn attr(
     requires fits { IsFor types.now packed.now problem.now }
     requires right { IsRight (used_dims types.now) (map (λ text. text.now) bound.now) (w.attr node.now dim.now attribute.now value.now) }
     requires few { length bound.now ≤ 3 }
-    ensures { IfOk result (λ made. IsMade types.now packed.now problem.now (map (λ text. text.now) bound.now) (w.attr node.now dim.now attribute.now value.now) made) }
+    ensures { IfOk result (λ made. IsMade types.now packed.now problem.now (map (λ text. text.now) bound.now)
+        (w.attr node.now dim.now attribute.now value.now) made) }
 {
     let place = dim_number(types, dim);
     let attrs = dim_type(types, place).attrs.as_slice();
@@ -123,7 +124,8 @@ pub(crate) fn feat(
     requires fits { IsFor types.now packed.now problem.now }
     requires right { IsRight (used_dims types.now) (map (λ text. text.now) bound.now) (w.feat node.now dim.now feature.now value.now) }
     requires few { length bound.now ≤ 3 }
-    ensures { IfOk result (λ made. IsMade types.now packed.now problem.now (map (λ text. text.now) bound.now) (w.feat node.now dim.now feature.now value.now) made) }
+    ensures { IfOk result (λ made. IsMade types.now packed.now problem.now (map (λ text. text.now) bound.now)
+        (w.feat node.now dim.now feature.now value.now) made) }
 {
     let place = dim_number(types, dim);
     let fields = dim_type(types, place).fields.as_slice();

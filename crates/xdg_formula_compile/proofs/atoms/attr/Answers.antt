@@ -1,7 +1,5 @@
-use Rattle.std.proofs.Common.{get_or, refl, ◌≡◌, List, Some, ℕ, map, true, sym, subst, arith}
-use Rattle.xdg_domain.specs.Shapes.{shape, IsSmall}
+use Rattle.std.proofs.Common.{get_or, refl, ◌≡◌, List, ℕ, map, true, sym, subst, arith}
 use Rattle.xdg_domain.specs.declared.types.Ty.{Ty}
-use Rattle.xdg_formula_check.specs.Formulas.{value_faults}
 use Rattle.xdg_terms.specs.Faults.{has}
 use Rattle.xdg_types.specs.Table.{firsts}
 use Rattle.xdg_formula_check.specs.Tables.{used_dims}

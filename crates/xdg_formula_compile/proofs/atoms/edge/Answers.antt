@@ -1,4 +1,4 @@
-use Rattle.std.proofs.Common.{◌≡◌, ◌≤◌, true, List, ℕ, length, map, refl, sym, subst}
+use Rattle.std.proofs.Common.{◌≡◌, ◌≤◌, true, List, ℕ, length, map, sym, subst}
 use Rattle.xdg_formula_check.specs.Tables.{used_dims}
 use Rattle.xdg_terms.specs.Faults.{has}
 use Rattle.xdg_formula_compile.proofs.Atomic.{edge_made, label_known, type_kept}

@@ -1,4 +1,3 @@
-use Rattle.std.proofs.Common.{[]}
 use Rattle.xdg_formula_compile.proofs.Compiled.{compiled_result}
 use Rattle.xdg_formula_compile.proofs.compiling.compile_rule.Goals as goal
 

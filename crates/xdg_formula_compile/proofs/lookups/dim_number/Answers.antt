@@ -1,5 +1,4 @@
-use Rattle.std.proofs.Common.{◌≡◌, ◌<◌, ◌≤◌, All, List, ℕ, true, ap, ap₂, length, sym, subst, arith}
-use Rattle.xdg_types.specs.declared.table.DimType.{DimType}
+use Rattle.std.proofs.Common.{◌≡◌, ◌<◌, All, List, ℕ, true, ap, ap₂, length, sym, subst, arith}
 use Rattle.xdg_terms.specs.Faults.{has}
 use Rattle.xdg_formula_check.proofs.Turns.{place_within}
 use Rattle.xdg_formula_compile.specs.Places.{IsPlaceOf, names_at}

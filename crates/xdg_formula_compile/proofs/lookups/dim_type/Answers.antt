@@ -1,4 +1,4 @@
-use Rattle.std.proofs.Common.{◌≡◌, ◌<◌, ℕ, get_or, length, arith}
+use Rattle.std.proofs.Common.{◌≡◌, ◌<◌, get_or, length, arith}
 use Rattle.std.proofs.lemmas.List.{length-map}
 use Rattle.xdg_formula_check.specs.Tables.{no_dim}
 use Rattle.xdg_formula_check.proofs.Turns.{place_within}
