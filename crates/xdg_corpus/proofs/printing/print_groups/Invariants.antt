@@ -5,7 +5,7 @@ use Rattle.xdg_build.specs.Stocks.{IsStock}
 use Rattle.xdg_grammar.specs.Answers.{meaning_of}
 use Rattle.xdg_groups.specs.Grammars.{grammar_of}
 use Rattle.xdg_corpus.proofs.Searching.{PrintedSoFar}
-use Rattle.xdg_corpus.proofs.printing.print_lines.Given as goal
+use Rattle.xdg_corpus.proofs.printing.print_groups.Given as goal
 
 abbrev pub invariant-loop-rest : goal.invariant-loop-rest
 invariant-loop-rest g l =
