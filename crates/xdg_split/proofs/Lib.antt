@@ -4,3 +4,4 @@ pub mod Reaching
 pub mod Together
 mod Collecting
 pub mod Turning
+mod Shareable

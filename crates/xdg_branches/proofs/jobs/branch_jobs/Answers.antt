@@ -4,10 +4,14 @@ use Rattle.xdg_branches.proofs.Branching.{jobs_more, jobs_none}
 use Rattle.xdg_branches.proofs.jobs.branch_jobs.Goals as goal
 
 pub loop-place-init : goal.loop-place-init
-loop-place-init c = (omega arith, jobs_none (branch_job c.args.problem.now c.args.budget c.args.first) c.args.from c.new-jobs.result c.new-jobs.ensures)
+loop-place-init c = (omega arith, c.requires.order, jobs_none (branch_job c.args.problem.now c.args.budget c.args.first) c.args.from c.new-jobs.result c.new-jobs.ensures)
 
 pub loop-place-preserved : goal.loop-place-preserved
-loop-place-preserved c = (
-  omega (arith, c.loop-place.invariant.0),
-  jobs_more (branch_job c.args.problem.now c.args.budget c.args.first) c.args.from c.loop-place.place c.in_ok-branch_job.field-0 c.loop-place.jobs c.push.new.self c.loop-place.invariant.0 c.loop-place.invariant.1 c.in_ok-branch_job.ensures c.in_ok-push.ensures.ok,
-)
+loop-place-preserved c =
+    let below = c.loop-place.invariant.0 in
+    let within = c.loop-place-test.true in
+    (
+      omega (arith, below),
+      omega (arith, within),
+      jobs_more (branch_job c.args.problem.now c.args.budget c.args.first) c.args.from c.loop-place.place c.in_ok-branch_job.field-0 c.loop-place.jobs c.push.new.self below c.loop-place.invariant.2 c.in_ok-branch_job.ensures c.in_ok-push.ensures.ok,
+    )

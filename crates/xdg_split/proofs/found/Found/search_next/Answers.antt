@@ -1,5 +1,5 @@
 use Rattle.xdg_split.proofs.Turning.{goes_on}
-use Rattle.xdg_split.proofs.splitting.Found.search_next.Goals as goal
+use Rattle.xdg_split.proofs.found.Found.search_next.Goals as goal
 
 pub returns : goal.returns
 returns g c =
