@@ -17,6 +17,7 @@ use Rattle.xdg_rules.specs.Worths.{Makes, EachValue}
 use Rattle.xdg_problem.proofs.Claimed.{claim_not, claim_and, claim_or, claim_every, claim_any, claim_edge, claim_above, claim_left, claim_same, claim_attr, claim_feat}
 use Rattle.xdg_formula_value.specs.Pairs.{Relates, edges_for}
 use Rattle.xdg_formula_value.specs.Rows.{Over}
+use Rattle.xdg_formula_value.specs.declared.pair.Pair.{Pair}
 use Rattle.xdg_formula_value.specs.declared.pair.Pair.TheVariants as pairs
 use Rattle.xdg_formula_value.proofs.Fronts.{every_over, some_over}
 

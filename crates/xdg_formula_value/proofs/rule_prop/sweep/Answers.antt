@@ -1,3 +1,4 @@
+use Rattle.std.proofs.Common.{refl}
 use Rattle.xdg_formula_value.proofs.Swept.{rule_found, rule_suits, none_go, all_gone}
 use Rattle.xdg_formula_value.proofs.rule_prop.sweep.Goals as goal
 
