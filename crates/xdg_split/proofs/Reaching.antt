@@ -1,5 +1,5 @@
 -- What jobs reach, one list of them behind the other.
-use Rattle.std.proofs.Common.{◌≡◌, ℕ, ◌<◌, ◌≤◌, inl, inr, Bool, true, false, List, [], ◌∷◌, ◌++◌, length, map, take, refl, ap, sym, ◌∙◌, subst, arith, append_assoc, append-nil}
+use Rattle.std.proofs.Common.{◌≡◌, ℕ, inl, inr, Bool, true, false, List, [], ◌∷◌, ◌++◌, length, take, refl, ap, sym, ◌∙◌, subst, arith, append_assoc}
 use Rattle.std.proofs.lemmas.List.Elements.{All-head, All-tail}
 use Rattle.xdg_listing.specs.Whole.{reach}
 use Rattle.xdg_listing.proofs.Ordered.{three_cases}
@@ -13,7 +13,7 @@ use Rattle.xdg_rules.specs.Boxed.{Boxed}
 use Rattle.xdg_rules.proofs.RuleLaws.{boxed_laws}
 use Rattle.xdg_split.specs.Asked.{Asked}
 use Rattle.std.specs.Prelude.{All}
-use Rattle.xdg_split.specs.Splits.{AreLists, AreProblems, IsWhole, Reach, Reaches}
+use Rattle.xdg_split.specs.Splits.{AreLists, AreProblems, IsWhole, Reach}
 use Rattle.xdg_split.specs.Splits.Reaches.{all, some}
 
 pub not_both : {P : Type 0} → true ≡ false → P

@@ -47,9 +47,64 @@ formula_sync = search (crosses, knot.crosses, sendable) depth 60 fits 20000
 
 principle_sync : IsSync principle.the_row
 principle_sync =
-    variants_sync principle.enum
-    (tt, (tt, (tt, (tt, (tt, (tt, (tt, (tt, (tt, (tt, (tt, (tt, (tt, (tt, (tt, (tt, (tt, (tt, (tt,
-    ((formula_sync, tt), ((search (costs_shared.the_sync, as_row_sync) depth 10, (search sendable depth 10, tt)), tt)))))))))))))))))))))
+    variants_sync principle.enum (
+      tt,
+      (
+        tt,
+        (
+          tt,
+          (
+            tt,
+            (
+              tt,
+              (
+                tt,
+                (
+                  tt,
+                  (
+                    tt,
+                    (
+                      tt,
+                      (
+                        tt,
+                        (
+                          tt,
+                          (
+                            tt,
+                            (
+                              tt,
+                              (
+                                tt,
+                                (
+                                  tt,
+                                  (
+                                    tt,
+                                    (
+                                      tt,
+                                      (
+                                        tt,
+                                        (
+                                          tt,
+                                          ((formula_sync, tt), ((costs_shared.the_sync, (search sendable depth 10, tt)), tt)),
+                                        ),
+                                      ),
+                                    ),
+                                  ),
+                                ),
+                              ),
+                            ),
+                          ),
+                        ),
+                      ),
+                    ),
+                  ),
+                ),
+              ),
+            ),
+          ),
+        ),
+      ),
+    )
 
 group_sync : IsSync group.the_row
 group_sync =

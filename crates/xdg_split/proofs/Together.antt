@@ -1,5 +1,5 @@
 -- What the searches of jobs come to.
-use Rattle.std.proofs.Common.{◌≡◌, ◌≢◌, ℕ, ◌<◌, ◌≤◌, ◌+◌, inl, inr, Bool, true, false, List, [], ◌∷◌, ◌++◌, length, map, take, zero, suc, refl, ap, ap₂, sym, ◌∙◌, subst, arith, append-nil, length-append, Some, None}
+use Rattle.std.proofs.Common.{◌≡◌, ℕ, ◌<◌, ◌≤◌, inl, inr, Bool, true, false, List, [], ◌∷◌, ◌++◌, length, map, take, zero, suc, refl, ap, sym, ◌∙◌, subst, arith, append-nil, length-append, Some, None}
 use Rattle.std.specs.Prelude.{Option}
 use Rattle.std.proofs.Math.Seq.{take-length}
 use Rattle.std.proofs.lemmas.List.{length-map, length-take-le, take-map, take-take}
@@ -17,7 +17,7 @@ use Rattle.xdg_problem.proofs.SolutionLists.{analyses_back}
 use Rattle.xdg_rules.specs.Boxed.{Boxed}
 use Rattle.xdg_split.specs.Asked.{Asked}
 use Rattle.xdg_split.specs.Finds.{AreFound, IsCut, Joins}
-use Rattle.xdg_split.specs.Splits.{AreFirst, AreLists, AreProblems, Ends, HaveOneSplit, IsSplit, IsWhole, Reach, Reaches}
+use Rattle.xdg_split.specs.Splits.{AreFirst, AreLists, AreProblems, Ends, HaveOneSplit, IsSplit, Reach}
 use Rattle.xdg_split.specs.Splits.Reaches.{all, some}
 use Rattle.xdg_split.proofs.Reaching.{all_reach, not_both, one_reach, reach_both, reach_stopped, some_lists, some_reach}
 

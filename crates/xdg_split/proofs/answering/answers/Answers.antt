@@ -9,5 +9,5 @@ use Rattle.xdg_split.proofs.answering.answers.Goals as goal
 
 pub map_indices-requires-sync-F : goal.map_indices-requires-sync-F
 map_indices-requires-sync-F g c κs within =
-    let shareable : IsSync g.row.P = search (rules, c.requires-raw) parts 8 in
-    search (job_sync, atomic.the_sync, vec.the_sync, heap.the_sync, heap.the_field_sync, crosses, sendable) depth 60 fits 20000
+    let shareable : IsSync g.row.P = search rules parts 8 in
+    search (job_sync, atomic.the_sync, vec.the_sync, heap.the_sync, crosses, sendable) depth 60 fits 20000

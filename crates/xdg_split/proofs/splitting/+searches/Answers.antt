@@ -24,4 +24,4 @@ pub join-one-requires-send-F : goal.join-one-requires-send-F
 join-one-requires-send-F g t c κs within =
     let shareable : IsSync g.row.P = search (rules, c.requires-raw) parts 8 in
     let lent : IsSync g.row.R = search (rules, c.requires-raw) parts 8 in
-    search (job_sync, option.the_send, option.the_sync, heap.the_send, heap.the_field_send, heap.the_sync, heap.the_field_sync, crosses, sendable) depth 60 fits 20000
+    search (job_sync, option.the_sync, heap.the_sync, crosses, sendable) depth 60 fits 20000
