@@ -180,7 +180,9 @@ pub(crate) fn print_arrangement<K: Sink>(
     ensures quiet { result ≢ Searched.Failed → K.faults out.new ≡ K.faults out.old }
 {
     match props(alloc, problem) {
-        Ok(props) => print_searched(alloc, problem, props.as_slice(), budget, number, out),
+        Ok(propagators) => {
+            print_searched(alloc, problem, propagators.as_slice(), budget, number, out)
+        }
         Err(OutOfMemory) => Searched::OutOfMemory,
     }
 }
