@@ -20,18 +20,20 @@ _xdg() {
         before=${COMP_WORDS[COMP_CWORD - 2]}
     fi
     if [ "$COMP_CWORD" -eq 1 ]; then
-        COMPREPLY=($(compgen -W "parse resume explain check lexicon print drill corpus arrange" -- "$word"))
+        COMPREPLY=($(compgen -W "parse resume explain check lexicon print drill corpus arrange best" -- "$word"))
         return
     fi
     case ${COMP_WORDS[1]} in
-        parse) options="--budget --first --segment --split --text" ;;
-        resume) options="--budget --first --text" ;;
+        parse) options="--budget --first --rules --segment --split --text" ;;
+        resume) options="--budget --first --rules --text" ;;
+        explain) options="--rules" ;;
         corpus) options="--budget --first --segment" ;;
-        arrange) options="--budget --segment" ;;
+        arrange | best) options="--budget --segment" ;;
     esac
     case $before in
         --text) COMPREPLY=($(compgen -W "1 2" -- "$word")) && return ;;
         --budget | --first) return ;;
+        --rules) _xdg_files "$word" && return ;;
     esac
     case $word in
         -*) COMPREPLY=($(compgen -W "$options" -- "$word")) ;;

@@ -11,8 +11,8 @@ use Rattle.xdg_outcomes.specs.declared.status.Status.TheVariants as statuses
 use Rattle.xdg_outcomes.proofs.Leaving.{leaves_front, stopped_leaves}
 
 -- what begins with a word is not empty
-pub front_said : (first rest : List ℕ) → 0 < length first → 0 < length (first ++ rest)
-front_said first rest some = let l = length-append first rest in omega (arith, l, some)
+pub front_said : (text first rest : List ℕ) → text ≡ first ++ rest → 0 < length first → 0 < length text
+front_said text first rest is some = subst (λ z. 0 < length z) (sym is) (let l = length-append first rest in omega (arith, l, some))
 
 -- no outcome has an empty text
 abbrev pub IsSaid : (Status → List ℕ → Type 0) → Type 0
@@ -25,7 +25,7 @@ memory_front O held said = leaves_front O statuses.OutOfMemory held held said re
 module _ (A : Type 0) (bad : Status) (Refused : List ℕ → Fault → Type 0) (Has : A → Type 0) (next : A → Status → List ℕ → Type 0) (said : (a : A) → IsSaid (next a)) where
   -- a step has no empty text where none of what comes next has
   pub behind_said : IsSaid (Behind A bad Refused Has next)
-  behind_said status text (refused t f r s l) = subst (λ z. 0 < length z) (sym l) (front_said (codes "fault") _ (omega arith))
+  behind_said status text (refused t f r s l) = front_said text (codes "fault") _ l (omega arith)
   behind_said status text (accepted a h n) = said a status text n
 
   -- why a step came to nothing

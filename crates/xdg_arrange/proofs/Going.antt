@@ -108,16 +108,17 @@ module _ (budget : ℕ) (listed : Listed) (s t : Arranged) (printed turn : ℕ) 
       let rest : g.rest ≡ [] = append_cancel_left h.passed g.rest [] joined in
       subst (λ xs. Passed (AreArranged budget listed) (Arranges budget listed printed xs) old now) rest h.written
 
+-- the code's number is that by the analyses
+pub printed_is : (printed : ℕ) (analyses : List Analysis) (count : ℕ) → count ≡ length analyses → printed + cond (count == 0) 0 1 ≡ with_printed printed analyses
+printed_is printed [] count e = subst (λ n. printed + cond (n == 0) 0 1 ≡ printed) (sym e) (omega arith)
+printed_is printed (a ∷ more) count e = go (count == 0) refl
+  where
+    go : (b : Bool) → (count == 0) ≡ b → printed + cond b 0 1 ≡ printed + 1
+    go true is = absurd (let none = eqb-true count 0 is in omega (arith, e, none))
+    go false is = refl
+
 -- the arrangement that is present is printed
 module _ (budget : ℕ) (listed : Listed) (s : Arranged) (printed turn : ℕ) (ranks : List ℕ) (old now : Option (List ℕ)) (r : Reaches budget listed s printed turn ranks old now) where
-  counted : (analyses : List Analysis) (count : ℕ) → count ≡ length analyses → printed + cond (count == 0) 0 1 ≡ with_printed printed analyses
-  counted [] count e = subst (λ n. printed + cond (n == 0) 0 1 ≡ printed) (sym e) (omega arith)
-  counted (a ∷ more) count e = go (count == 0) refl
-    where
-      go : (b : Bool) → (count == 0) ≡ b → printed + cond b 0 1 ≡ printed + 1
-      go true is = absurd (let none = eqb-true count 0 is in omega (arith, e, none))
-      go false is = refl
-
   at_most : (analyses : List Analysis) → with_printed printed analyses ≤ turn + 1
   at_most [] = let few = r.few in omega (arith, few)
   at_most (a ∷ more) = let few = r.few in omega (arith, few)
@@ -127,7 +128,7 @@ module _ (budget : ℕ) (listed : Listed) (s : Arranged) (printed turn : ℕ) (r
     -- and the next one comes
     pub goes_whole : Adds endings.Complete budget (compiled listed.grammar (words_at listed.words ranks)) (arrangement_line (printed + 1) (words_at listed.words ranks)) count now new → Goes budget listed s next (turn + 1) old new
     goes_whole added =
-        let number : with_printed printed added.analyses ≡ next = sym (counted added.analyses count added.count_is) ∙ sym is in
+        let number : with_printed printed added.analyses ≡ next = sym (printed_is printed added.analyses count added.count_is) ∙ sym is in
         record {
           rest = r.rest;
           going = record {

@@ -1,8 +1,10 @@
 pub mod Listing
 pub mod Finding
 pub mod Laying
+pub mod Leading
 pub mod Fronting
 pub mod Ordering
 pub mod Passing
 pub mod Going
+pub mod Closing
 pub mod Commanding

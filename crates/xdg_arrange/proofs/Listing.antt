@@ -1,5 +1,5 @@
 -- The words that an input gives: accepted or rejected.
-use Rattle.std.proofs.Common.{◌≡◌, ◌⊎◌, inl, inr, ℕ, zero, suc, ◌<◌, ◌≤◌, ◌+◌, Bool, List, [], ◌∷◌, length, Some, None, Ok, Err, refl, sym, ◌∙◌, ap, ap₂, subst, arith}
+use Rattle.std.proofs.Common.{◌≡◌, ◌⊎◌, inl, inr, ℕ, zero, suc, ◌<◌, ◌≤◌, ◌+◌, Bool, List, [], ◌∷◌, ◌++◌, length, length-append, Some, None, Ok, Err, refl, sym, ◌∙◌, ap, ap₂, subst, arith}
 use Rattle.std.specs.Prelude.{◌≢◌, Option, Result, IsUtf8, IfErr, IfOk, MatchResult, slice_get}
 use Rattle.std.specs.Str.{IsValidUpTo}
 use Rattle.std.proofs.lemmas.Str.{utf8_valid_len-IsValidUpTo}
@@ -17,8 +17,10 @@ use Rattle.xdg_grammar.specs.Meanings.{Meaning}
 use Rattle.xdg_groups.specs.Grammars.{Grammar, grammar_of}
 use Rattle.xdg_inputs.specs.Sentences.{sentence_limit}
 use Rattle.xdg_inputs.proofs.Wording.{grammar_is}
-use Rattle.xdg_io.specs.Left.{TakesAll}
+use Rattle.xdg_io.specs.Left.{TakesAll, TakesCount}
 use Rattle.xdg_io.specs.Rose.{Rose}
+use Rattle.xdg_io.specs.declared.failures.ReadStop.{ReadStop}
+use Rattle.xdg_io.specs.declared.failures.ReadStop.TheVariants as stopped
 use Rattle.xdg_outcomes.specs.Grammars.{with_words}
 use Rattle.xdg_outcomes.specs.Places.{fault, place_in}
 use Rattle.xdg_outcomes.specs.Refusals.{RejectsAt, Stops, refusal_of}
@@ -135,6 +137,27 @@ still (inr full) = omega (arith, full)
 
 pub all_taken : (told new : Option (List ℕ)) (bytes input : List ℕ) → TakesAll told new bytes → told ≡ Some input → (bytes ≡ input) × (new ≡ Some [])
 all_taken told new bytes input takes e = subst (λ z. TakesAll z new bytes) e takes
+
+-- as many bytes as were taken are there
+taken_within : (told new : Option (List ℕ)) (count : ℕ) (input : List ℕ) → TakesCount told new count → told ≡ Some input → count ≤ length input
+taken_within told None count input t e = absurd (let bad : Some input ≡ None = sym e ∙ t.takes.is in cc)
+taken_within told (Some rest) count input t e =
+    let both : Some input ≡ Some (t.taken ++ rest) = sym e ∙ t.takes.is in
+    let is : input ≡ t.taken ++ rest = cc in
+    let size = t.count_is in
+    let sum = length-append t.taken rest in
+    subst (λ z. count ≤ length z) (sym is) (omega (arith, size, sum))
+
+-- more bytes than a sentence may have are refused
+pub long_stops : (made : Expanded) (lexicon : Lexicon) → IsPackedOf made lexicon → (segment : Bool) (told new : Option (List ℕ)) (before after : ℕ) (stop : ReadStop) (reached : ℕ) (refusal : Refusal)
+    → ((r : ℕ) → stop ≡ stopped.TooLong r → (r ≡ sentence_limit + 1) × TakesCount told new (sentence_limit + 1)) → stop ≡ stopped.TooLong reached → refusal ≡ refusals.Text (fault causes.TooLong 0 reached) (record { line = 1; column = 1 })
+    → (input : List ℕ) → Stops (told ≡ Some input) before after Listed (IsBadList (meaning_of made) segment input) (HasList (meaning_of made) segment input) refusal
+long_stops made lexicon packed segment told new before after stop reached refusal takes is says input =
+    let long = takes reached is in
+    let refusal_is : refusal ≡ refusals.Text (fault causes.TooLong 0 (sentence_limit + 1)) (record { line = 1; column = 1 }) =
+    says ∙ ap (λ n. refusals.Text (fault causes.TooLong 0 n) (record { line = 1; column = 1 })) long.0 in
+    subst (Stops (told ≡ Some input) before after Listed (IsBadList (meaning_of made) segment input) (HasList (meaning_of made) segment input)) (sym refusal_is)
+    (λ e. long_rejected made lexicon packed segment input (let some = taken_within told new (sentence_limit + 1) input long.1 e in omega (arith, some)))
 
 module _ (m : Meaning) (segment : Bool) (told new : Option (List ℕ)) (bytes : List ℕ) (before after : ℕ) where
   abbrev Stopped : Refusal → Type 0

@@ -31,10 +31,10 @@ pub record Passed (Whole Left : Status → List ℕ → Type 0) (old now : Optio
 later_said : (listed : Listed) (budget : ℕ) (more : List (List ℕ)) (status : Status) → ((n : ℕ) (text : List ℕ) → Arranges budget listed n more status text → 0 < length text) → (ending : Ending) (n : ℕ) (later : List ℕ) → Follows ending n (Arranges budget listed n more) status later → 0 < length later
 later_said listed budget more status said endings.Complete n later f = said n later f
 later_said listed budget more status said endings.First n later f = absurd f
-later_said listed budget more status said endings.Spent n later f = subst (λ z. 0 < length z) (sym f.1) (front_said (codes "spent") _ (omega arith))
+later_said listed budget more status said endings.Spent n later f = front_said later (codes "spent") _ f.1 (omega arith)
 
 pub arranges_said : (budget : ℕ) (listed : Listed) (all : List (List ℕ)) (number : ℕ) → IsSaid (Arranges budget listed number all)
-arranges_said budget listed [] number status text o = subst (λ z. 0 < length z) (sym o.1) (front_said (codes "complete") _ (omega arith))
+arranges_said budget listed [] number status text o = front_said text (codes "complete") _ o.1 (omega arith)
 arranges_said budget listed (ranks ∷ more) number status text o =
     let some : 0 < length o.later = later_said listed budget more status (λ n later a. arranges_said budget listed more n status later a) o.ending (with_printed number o.analyses) o.later o.follows in
     let own : List ℕ = led_blocks (arrangement_line (number + 1) (words_at listed.words ranks)) (compiled listed.grammar (words_at listed.words ranks)) o.analyses in

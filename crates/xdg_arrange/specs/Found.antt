@@ -34,7 +34,8 @@ pub record Finds (ending : Ending) (budget : ℕ) (parts : Parts) (analyses : Li
 
 -- a search finds one thing
 abbrev pub IsOneFind : ℕ → Parts → Type 0
-IsOneFind budget parts = (one other : Ending) (found more : List Analysis) → Finds one budget parts found → Finds other budget parts more → (one ≡ other) × (found ≡ more)
+IsOneFind budget parts =
+    (one other : Ending) (found more : List Analysis) → Finds one budget parts found → Finds other budget parts more → (one ≡ other) × (found ≡ more)
 
 -- ---- what is printed of it
 
@@ -63,4 +64,5 @@ abbrev pub Writes : Searched → ℕ → Parts → List ℕ → Option (List ℕ
 Writes (searched.Whole count) budget parts lead old new = Adds endings.Complete budget parts lead count old new
 Writes (searched.Spent count) budget parts lead old new = Adds endings.Spent budget parts lead count old new
 Writes searched.OutOfMemory budget parts lead old new = new ≡ old
-Writes searched.Failed budget parts lead old new = (ending : Ending) (analyses : List Analysis) → Finds ending budget parts analyses → AppendsFront old new (led_blocks lead parts analyses)
+Writes searched.Failed budget parts lead old new =
+    (ending : Ending) (analyses : List Analysis) → Finds ending budget parts analyses → AppendsFront old new (led_blocks lead parts analyses)

@@ -43,7 +43,8 @@ pub record Listed : Type 0 where
 -- an input has no words to arrange: it is too long for a sentence, or else it isn't UTF-8, or else its words are refused
 pub data IsNoList (g : Grammar) (segment : Bool) (input : List ℕ) (refused : Fault) : Type 0 where
   too_long : sentence_limit < length input → refused ≡ fault causes.TooLong 0 (sentence_limit + 1) → IsNoList g segment input refused
-  no_text : (at : ℕ) → length input ≤ sentence_limit → (IsUtf8 input → ⊥) → IsValidUpTo input at → refused ≡ fault causes.BadUtf8 at 0 → IsNoList g segment input refused
+  no_text : (at : ℕ) → length input ≤ sentence_limit → (IsUtf8 input → ⊥) → IsValidUpTo input at
+      → refused ≡ fault causes.BadUtf8 at 0 → IsNoList g segment input refused
   no_words : length input ≤ sentence_limit → IsUtf8 input → refusal g.lexicon (words_in segment input) ≡ Some refused → IsNoList g segment input refused
 
 -- the input is refused

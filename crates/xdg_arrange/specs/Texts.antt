@@ -28,7 +28,8 @@ Follows endings.Spent number Next status text = (status ≡ statuses.Spent) × (
 
 -- What is printed of an arrangement, before which so many were printed, and of those behind it. It is searched as a sentence, with the
 -- whole budget, and its analyses are those of the grammar.
-pub record FirstArranged (budget : ℕ) (g : Grammar) (words : List SentenceWord) (number : ℕ) (Next : ℕ → Status → List ℕ → Type 0) (status : Status) (text : List ℕ) : Type 0 where
+pub record FirstArranged (budget : ℕ) (g : Grammar) (words : List SentenceWord) (number : ℕ) (Next : ℕ → Status → List ℕ → Type 0) (status : Status)
+    (text : List ℕ) : Type 0 where
   pub keeps : KeepsSolutions g words (compiled g words)
   pub ending : Ending
   pub analyses : List Analysis
@@ -40,7 +41,8 @@ pub record FirstArranged (budget : ℕ) (g : Grammar) (words : List SentenceWord
 -- what is printed of arrangements, each given by its ranks, before which so many were printed
 abbrev pub Arranges : ℕ → Listed → ℕ → List (List ℕ) → Status → List ℕ → Type 0
 Arranges budget listed number [] status text = (status ≡ statuses.Done) × (text ≡ complete_line number)
-Arranges budget listed number (ranks ∷ more) status text = FirstArranged budget listed.grammar (words_at listed.words ranks) number (λ n. Arranges budget listed n more) status text
+Arranges budget listed number (ranks ∷ more) status text =
+    FirstArranged budget listed.grammar (words_at listed.words ranks) number (λ n. Arranges budget listed n more) status text
 
 -- what is printed of all arrangements of words, in rising order of their ranks and each once
 pub record AreArranged (budget : ℕ) (listed : Listed) (status : Status) (text : List ℕ) : Type 0 where

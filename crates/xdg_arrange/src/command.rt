@@ -27,7 +27,8 @@ fn arrange_expanded<S: Source, K: Sink>(
     out: &mut K,
 ) -> Status
     requires lexicon { IsRightLexicon expanded.now.checked.types expanded.now.entries }
-    ensures leaves { (content : List ℕ) → S.left input.old ≡ Some content → LeavesFront (ListThen options.now content (meaning_of expanded.now)) result (K.held out.old) (K.held out.new) }
+    ensures leaves { (content : List ℕ) → S.left input.old ≡ Some content →
+        LeavesFront (ListThen options.now content (meaning_of expanded.now)) result (K.held out.old) (K.held out.new) }
     ensures unwritten { result ≡ Status.ReadFault → K.held out.new ≡ K.held out.old }
     ensures read_fault { result ≡ Status.ReadFault → Rose (S.faults input.old) (S.faults input.new) }
     ensures write_fault { result ≡ Status.WriteFault → Rose (K.faults out.old) (K.faults out.new) }
@@ -58,7 +59,8 @@ fn arrange_loaded<S: Source, K: Sink>(
     out: &mut K,
 ) -> Status
     requires short { length loaded.now.text.items ≤ 4194304 }
-    ensures leaves { (content : List ℕ) → S.left input.old ≡ Some content → LeavesFront (MeaningThen (read_of loaded.now) (ListThen options.now content)) result (K.held out.old) (K.held out.new) }
+    ensures leaves { (content : List ℕ) → S.left input.old ≡ Some content →
+        LeavesFront (MeaningThen (read_of loaded.now) (ListThen options.now content)) result (K.held out.old) (K.held out.new) }
     ensures unwritten { result ≡ Status.ReadFault → K.held out.new ≡ K.held out.old }
     ensures read_fault { result ≡ Status.ReadFault → Rose (S.faults input.old) (S.faults input.new) }
     ensures write_fault { result ≡ Status.WriteFault → Rose (K.faults out.old) (K.faults out.new) }
@@ -85,9 +87,11 @@ pub fn arrange<H: Shelf, S: Source, K: Sink>(
     input: &mut S,
     out: &mut K,
 ) -> Status
-    ensures leaves { (files : List ℕ → Option (List ℕ)) (content : List ℕ) → H.files shelf.old ≡ Some files → S.left input.old ≡ Some content → LeavesFront (ArrangeOf options.now files content) result (K.held out.old) (K.held out.new) }
+    ensures leaves { (files : List ℕ → Option (List ℕ)) (content : List ℕ) → H.files shelf.old ≡ Some files → S.left input.old ≡ Some content →
+        LeavesFront (ArrangeOf options.now files content) result (K.held out.old) (K.held out.new) }
     ensures unwritten { result ≡ Status.ReadFault → K.held out.new ≡ K.held out.old }
-    ensures read_fault { result ≡ Status.ReadFault → Rose (H.faults shelf.old options.now.grammar) (H.faults shelf.new options.now.grammar) ⊎ Rose (S.faults input.old) (S.faults input.new) }
+    ensures read_fault { result ≡ Status.ReadFault →
+        Rose (H.faults shelf.old options.now.grammar) (H.faults shelf.new options.now.grammar) ⊎ Rose (S.faults input.old) (S.faults input.new) }
     ensures write_fault { result ≡ Status.WriteFault → Rose (K.faults out.old) (K.faults out.new) }
     ensures files { H.files shelf.new ≡ H.files shelf.old }
     ensures shelf_lasting { (other : List ℕ) → H.faults shelf.old other ≤ H.faults shelf.new other }

@@ -113,8 +113,11 @@ fn list_in(
     requires within { length input.now ≤ 65536 }
     requires packed { IsPackedOf expanded.now packed.now }
     ensures few { IfOk result (λ words. length words ≤ 8) }
-    ensures found { IfOk result (λ words. Accepts Listed (IsBadList (meaning_of expanded.now) segment input.now) (HasList (meaning_of expanded.now) segment input.now) (record { grammar = grammar_of expanded.now.checked packed.now; words = words })) }
-    ensures refused { IfErr result (Stops (Unit {0}) 0 0 Listed (IsBadList (meaning_of expanded.now) segment input.now) (HasList (meaning_of expanded.now) segment input.now)) }
+    ensures found { IfOk result (λ words.
+        Accepts Listed (IsBadList (meaning_of expanded.now) segment input.now) (HasList (meaning_of expanded.now) segment input.now)
+        (record { grammar = grammar_of expanded.now.checked packed.now; words = words })) }
+    ensures refused { IfErr result (Stops (Unit {0}) 0 0 Listed
+        (IsBadList (meaning_of expanded.now) segment input.now) (HasList (meaning_of expanded.now) segment input.now)) }
 {
     let text = match str::from_utf8(input) {
         Ok(text) => text,
@@ -135,9 +138,13 @@ pub(crate) fn read_list<S: Source>(
     source: &mut S,
 ) -> Result<List<SentenceWord>, Refusal>
     requires packed { IsPackedOf expanded.now packed.now }
-    ensures found { IfOk result (λ words. (input : List ℕ) → S.left source.old ≡ Some input → Accepts Listed (IsBadList (meaning_of expanded.now) segment input) (HasList (meaning_of expanded.now) segment input) (record { grammar = grammar_of expanded.now.checked packed.now; words = words })) }
+    ensures found { IfOk result (λ words. (input : List ℕ) → S.left source.old ≡ Some input →
+        Accepts Listed (IsBadList (meaning_of expanded.now) segment input) (HasList (meaning_of expanded.now) segment input)
+        (record { grammar = grammar_of expanded.now.checked packed.now; words = words })) }
     ensures few { IfOk result (λ words. length words ≤ 8) }
-    ensures refused { IfErr result (λ refusal. (input : List ℕ) → Stops (S.left source.old ≡ Some input) (S.faults source.old) (S.faults source.new) Listed (IsBadList (meaning_of expanded.now) segment input) (HasList (meaning_of expanded.now) segment input) refusal) }
+    ensures refused { IfErr result (λ refusal. (input : List ℕ) →
+        Stops (S.left source.old ≡ Some input) (S.faults source.old) (S.faults source.new) Listed
+        (IsBadList (meaning_of expanded.now) segment input) (HasList (meaning_of expanded.now) segment input) refusal) }
     ensures failed { IfErr result (λ refusal. refusal ≡ Refusal.Read → Rose (S.faults source.old) (S.faults source.new)) }
     ensures all { IfOk result (λ words. (input : List ℕ) → S.left source.old ≡ Some input → S.left source.new ≡ Some []) }
     ensures lasting { S.faults source.old ≤ S.faults source.new }

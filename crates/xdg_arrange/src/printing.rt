@@ -53,7 +53,7 @@ fn problem_at(
     expanded: &Expanded,
     packed: &Packed,
     stock: &mut Stock,
-    words: &[SentenceWord],
+    words: &List<SentenceWord>,
     ranks: &[u8],
 ) -> Result<Problem, OutOfMemory>
     requires lexicon { IsRightLexicon expanded.now.checked.types expanded.now.entries }
@@ -63,7 +63,7 @@ fn problem_at(
     ensures compiled { IfOk result (λ problem. problem ≡ compiled (grammar_of expanded.now.checked packed.now) (words_at words.now ranks.now)) }
     ensures keeps { IfOk result (KeepsSolutions (grammar_of expanded.now.checked packed.now) (words_at words.now ranks.now)) }
 {
-    let words = words_at(alloc, words, ranks)?;
+    let words = words_at(alloc, words.as_slice(), ranks)?;
     match stock.build(alloc, &expanded.checked, packed, words) {
         Ok(problem) => Ok(problem),
         Err(_) => Err(OutOfMemory),
@@ -77,7 +77,7 @@ fn print_ranks<K: Sink>(
     expanded: &Expanded,
     packed: &Packed,
     stock: &mut Stock,
-    words: &[SentenceWord],
+    words: &List<SentenceWord>,
     ranks: &[u8],
     number: u64,
     out: &mut K,
@@ -86,9 +86,13 @@ fn print_ranks<K: Sink>(
     requires packed { IsPackedOf expanded.now packed.now }
     requires stock { IsStock (grammar_of expanded.now.checked packed.now) stock.old }
     ensures stock { result ≢ Searched.OutOfMemory → IsStock (grammar_of expanded.now.checked packed.now) stock.new }
-    ensures written { Writes result budget (compiled (grammar_of expanded.now.checked packed.now) (words_at words.now ranks.now)) (arrangement_line number (words_at words.now ranks.now)) (K.held out.old) (K.held out.new) }
+    ensures written { Writes result budget
+        (compiled (grammar_of expanded.now.checked packed.now) (words_at words.now ranks.now))
+        (arrangement_line number (words_at words.now ranks.now)) (K.held out.old) (K.held out.new) }
     ensures one { result ≢ Searched.OutOfMemory → IsOneFind budget (compiled (grammar_of expanded.now.checked packed.now) (words_at words.now ranks.now)) }
-    ensures keeps { result ≢ Searched.OutOfMemory → KeepsSolutions (grammar_of expanded.now.checked packed.now) (words_at words.now ranks.now) (compiled (grammar_of expanded.now.checked packed.now) (words_at words.now ranks.now)) }
+    ensures keeps { result ≢ Searched.OutOfMemory →
+        KeepsSolutions (grammar_of expanded.now.checked packed.now) (words_at words.now ranks.now)
+        (compiled (grammar_of expanded.now.checked packed.now) (words_at words.now ranks.now)) }
     ensures cause { result ≡ Searched.Failed → Rose (K.faults out.old) (K.faults out.new) }
     ensures lasting { K.faults out.old ≤ K.faults out.new }
     ensures quiet { result ≢ Searched.Failed → K.faults out.new ≡ K.faults out.old }
@@ -120,7 +124,9 @@ pub(crate) fn print_arrangements<K: Sink>(
     requires few { length words.now ≤ 8 }
     requires lexicon { IsRightLexicon expanded.now.checked.types expanded.now.entries }
     requires packed { IsPackedOf expanded.now packed.now }
-    ensures leaves { LeavesFront (AreArranged budget (record { grammar = grammar_of expanded.now.checked packed.now; words = words.now })) result (K.held out.old) (K.held out.new) }
+    ensures leaves { LeavesFront
+        (AreArranged budget (record { grammar = grammar_of expanded.now.checked packed.now; words = words.now }))
+        result (K.held out.old) (K.held out.new) }
     ensures write_fault { result ≡ Status.WriteFault → Rose (K.faults out.old) (K.faults out.new) }
     ensures out_lasting { K.faults out.old ≤ K.faults out.new }
     ensures out_quiet { result ≢ Status.WriteFault → K.faults out.new ≡ K.faults out.old }
@@ -133,6 +139,7 @@ pub(crate) fn print_arrangements<K: Sink>(
         return Status::OutOfMemory;
     };
     let mut printed: u64 = 0;
+    // There are never so many arrangements: the bound keeps the number in range.
     'next: for _turn in 0..u64::MAX {
         if !arrangements.advance() {
             let written = write_complete(printed, out);
@@ -147,7 +154,7 @@ pub(crate) fn print_arrangements<K: Sink>(
             expanded,
             packed,
             &mut stock,
-            words.as_slice(),
+            words,
             arrangements.view(),
             printed + 1,
             out,

@@ -6,13 +6,14 @@ ghost use Rattle.xdg_io.specs.Held.{Appends, AppendsFront};
 ghost use Rattle.xdg_io.specs.Rose.{Rose};
 ghost use Rattle.xdg_problem.specs.Analyses.{IsAnalysis};
 ghost use Rattle.xdg_problem.specs.Problems.{IsProblem};
+ghost use Rattle.xdg_propcore.specs.Uses.{AllStandIn};
 ghost use Rattle.xdg_stream.specs.Streamed.{IsCharged};
 ghost use Rattle.xdg_text.specs.Constants.{quoted};
 ghost use Rattle.xdg_text.specs.Lines.{line};
 ghost use Rattle.xdg_text.specs.Words.{word_text};
 
 use std::alloc::{AllocError, Global};
-use xdg_base::EntryNo;
+use xdg_base::{EntryNo, OutOfMemory};
 use xdg_engine::props;
 use xdg_io::{Failed, Sink};
 use xdg_problem::{Edge, Problem, SentenceWord};
@@ -76,8 +77,12 @@ fn write_found<K: Sink>(
     out: &mut K,
 ) -> Result<(), Failed>
     requires { IsAnalysis problem.now (record { entries = entries.now; attrs = attrs.now; edges = edges.now }) }
-    ensures all { OnOk result (Appends (K.held out.old) (K.held out.new) (led_block (line (codes "arrangement") (map word_text lead.now)) problem.now count (record { entries = entries.now; attrs = attrs.now; edges = edges.now }))) }
-    ensures front { OnErr result (AppendsFront (K.held out.old) (K.held out.new) (led_block (line (codes "arrangement") (map word_text lead.now)) problem.now count (record { entries = entries.now; attrs = attrs.now; edges = edges.now }))) }
+    ensures all { OnOk result (Appends (K.held out.old) (K.held out.new)
+        (led_block (line (codes "arrangement") (map word_text lead.now)) problem.now count
+        (record { entries = entries.now; attrs = attrs.now; edges = edges.now }))) }
+    ensures front { OnErr result (AppendsFront (K.held out.old) (K.held out.new)
+        (led_block (line (codes "arrangement") (map word_text lead.now)) problem.now count
+        (record { entries = entries.now; attrs = attrs.now; edges = edges.now }))) }
     ensures cause { OnErr result (Rose (K.faults out.old) (K.faults out.new)) }
     ensures lasting { K.faults out.old ≤ K.faults out.new }
     ensures quiet { OnOk result (K.faults out.new ≡ K.faults out.old) }
@@ -132,9 +137,35 @@ fn print_found<P: Propagator, K: Sink>(
     }
 }
 
+/// Searches an arrangement by propagators that stand for its principle uses.
+#[tactic(auto, using(crate::proofs::Finding::one_find))]
+fn print_searched<P: Propagator, K: Sink>(
+    alloc: Global,
+    problem: &Problem,
+    props: &[P],
+    budget: u64,
+    number: u64,
+    out: &mut K,
+) -> Searched
+    requires stand { AllStandIn P.stands props.now problem.now }
+    ensures written { Writes result budget problem.now (arrangement_line number problem.now.words) (K.held out.old) (K.held out.new) }
+    ensures one { result ≢ Searched.OutOfMemory → IsOneFind budget problem.now }
+    ensures cause { result ≡ Searched.Failed → Rose (K.faults out.old) (K.faults out.new) }
+    ensures lasting { K.faults out.old ≤ K.faults out.new }
+    ensures quiet { result ≢ Searched.Failed → K.faults out.new ≡ K.faults out.old }
+{
+    let words = problem.parts().words.as_slice();
+    let Ok(lead) = lead_of(alloc, number, words) else {
+        return Searched::OutOfMemory;
+    };
+    let Ok(mut stream) = Stream::start(alloc, problem, props, budget, None) else {
+        return Searched::OutOfMemory;
+    };
+    print_found(problem, lead.as_slice(), &mut stream, out)
+}
+
 /// Searches an arrangement with a budget of its own, and prints each analysis when it is found, the first one behind a line with the
 /// arrangement's number and words. All memory is taken before the first byte is written.
-#[tactic(auto, using(crate::proofs::Finding::one_find))]
 pub(crate) fn print_arrangement<K: Sink>(
     alloc: Global,
     problem: &Problem,
@@ -143,20 +174,15 @@ pub(crate) fn print_arrangement<K: Sink>(
     out: &mut K,
 ) -> Searched
     ensures written { Writes result budget problem.now (arrangement_line number problem.now.words) (K.held out.old) (K.held out.new) }
-    ensures one { IsOneFind budget problem.now }
+    ensures one { result ≢ Searched.OutOfMemory → IsOneFind budget problem.now }
     ensures cause { result ≡ Searched.Failed → Rose (K.faults out.old) (K.faults out.new) }
     ensures lasting { K.faults out.old ≤ K.faults out.new }
     ensures quiet { result ≢ Searched.Failed → K.faults out.new ≡ K.faults out.old }
 {
-    let parts = problem.parts();
-    let Ok(lead) = lead_of(alloc, number, parts.words.as_slice()) else {
-        return Searched::OutOfMemory;
-    };
-    let Ok(propagators) = props(alloc, problem) else {
-        return Searched::OutOfMemory;
-    };
-    let Ok(mut stream) = Stream::start(alloc, problem, propagators.as_slice(), budget, None) else {
-        return Searched::OutOfMemory;
-    };
-    print_found(problem, lead.as_slice(), &mut stream, out)
+    match props(alloc, problem) {
+        Ok(propagators) => {
+            print_searched(alloc, problem, propagators.as_slice(), budget, number, out)
+        }
+        Err(OutOfMemory) => Searched::OutOfMemory,
+    }
 }

@@ -1,11 +1,12 @@
 -- What a search for the cheapest analysis leaves.
-use Rattle.std.proofs.Common.{◌≡◌, ◌∙◌, ℕ, Bool, List, refl, sym, ap, subst, Some, None}
+use Rattle.std.proofs.Common.{◌≡◌, ◌∙◌, ◌⊎◌, inl, inr, ℕ, Bool, List, refl, sym, ap, subst, Some, None}
 use Rattle.std.specs.Prelude.{Option}
 use Rattle.xdg_best.specs.declared.rounds.BestAnswer.{BestAnswer}
 use Rattle.xdg_best.specs.Best.{IsAnswer, IsOneAnswer, Solves}
 use Rattle.xdg_cheapest.specs.Outcomes.{Searched, status_of}
 use Rattle.xdg_cheapest.specs.Texts.{answer_text}
 use Rattle.xdg_io.specs.Held.{Appends, AppendsFront}
+use Rattle.xdg_io.specs.Rose.{Rose}
 use Rattle.xdg_outcomes.specs.Runs.{Ends}
 use Rattle.xdg_outcomes.specs.declared.status.Status.{Status}
 use Rattle.xdg_problem.specs.Costs.{CostLists}
@@ -38,3 +39,8 @@ module _ (budget : ℕ) (costs : CostLists) (parts : Parts) (answer : BestAnswer
   -- a search whose sink failed
   pub answer_front : (old new : Option (List ℕ)) → AppendsFront old new (answer_text parts answer) → (status : Status) (text : List ℕ) → Searched budget costs parts status text → AppendsFront old new text
   answer_front old new front status text s = subst (AppendsFront old new) (same_text status text s).1 front
+
+-- a read that fails behind one that didn't
+pub behind_first : (First Other : Type 0) (old mid new : ℕ) → mid ≡ old → Rose mid new ⊎ Other → First ⊎ (Rose old new ⊎ Other)
+behind_first First Other old mid new same (inl rose) = inr (inl (subst (λ z. Rose z new) same rose))
+behind_first First Other old mid new same (inr other) = inr (inr other)

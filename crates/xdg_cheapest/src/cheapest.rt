@@ -106,9 +106,9 @@ fn best_expanded<H: Shelf, S: Source, K: Sink>(
     ensures input_quiet { result ≢ Status.ReadFault → S.faults input.new ≡ S.faults input.old }
     ensures out_lasting { K.faults out.old ≤ K.faults out.new }
     ensures wrote { Wrote BestEnds result (K.faults out.old) (K.faults out.new) (K.held out.old) (K.held out.new) }
-    ensures unread { result ≡ Status.BadCosts → S.left input.new ≡ S.left input.old }
+    ensures unread { (result ≡ Status.BadText) ⊎ ((result ≡ Status.BadGrammar) ⊎ (result ≡ Status.BadCosts)) → S.left input.new ≡ S.left input.old }
     ensures all_read { (content : List ℕ) → (result ≡ Status.Done) ⊎ (result ≡ Status.Spent) → S.left input.old ≡ Some content → S.left input.new ≡ Some [] }
-    ensures command { (result ≡ Status.Usage → ⊥) × ((result ≡ Status.BadText → ⊥) × (result ≡ Status.BadGrammar → ⊥)) }
+    ensures command { result ≡ Status.Usage → ⊥ }
 {
     let entries = expanded.entries.len() as u32;
     match load_costs(
@@ -144,9 +144,9 @@ fn best_loaded<H: Shelf, S: Source, K: Sink>(
     ensures input_quiet { result ≢ Status.ReadFault → S.faults input.new ≡ S.faults input.old }
     ensures out_lasting { K.faults out.old ≤ K.faults out.new }
     ensures wrote { Wrote BestEnds result (K.faults out.old) (K.faults out.new) (K.held out.old) (K.held out.new) }
-    ensures unread { (result ≡ Status.BadGrammar) ⊎ (result ≡ Status.BadCosts) → S.left input.new ≡ S.left input.old }
+    ensures unread { (result ≡ Status.BadText) ⊎ ((result ≡ Status.BadGrammar) ⊎ (result ≡ Status.BadCosts)) → S.left input.new ≡ S.left input.old }
     ensures all_read { (content : List ℕ) → (result ≡ Status.Done) ⊎ (result ≡ Status.Spent) → S.left input.old ≡ Some content → S.left input.new ≡ Some [] }
-    ensures command { (result ≡ Status.Usage → ⊥) × (result ≡ Status.BadText → ⊥) }
+    ensures command { result ≡ Status.Usage → ⊥ }
 {
     match expand_tree(alloc, &loaded.tree) {
         Ok(expanded) => best_expanded(alloc, options, &expanded, shelf, input, out),

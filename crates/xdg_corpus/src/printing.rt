@@ -1,17 +1,19 @@
 //! The lines of a text, group by group.
 
 ghost use Rattle.std.specs.Prelude.{◌≡◌, ◌≢◌, ◌≤◌, ◌⊎◌, ℕ, List, length};
+ghost use Rattle.xdg_build.specs.Stocks.{IsStock};
 ghost use Rattle.xdg_corpus.specs.Outcomes.{AreSearched};
 ghost use Rattle.xdg_corpus.specs.Texts.{CanSearch};
 ghost use Rattle.xdg_entries.specs.Entries.{IsRightLexicon};
 ghost use Rattle.xdg_grammar.specs.Answers.{meaning_of};
 ghost use Rattle.xdg_grammar.specs.Packed.{IsPackedOf};
+ghost use Rattle.xdg_groups.specs.Grammars.{grammar_of};
 ghost use Rattle.xdg_io.specs.Rose.{Rose};
 ghost use Rattle.xdg_corpus.specs.Runs.{LeavesPart};
 
 use crate::group::take_group;
 use crate::writing::write_group;
-use std::alloc::Global;
+use std::alloc::{AllocError, Global};
 use std::thread::Threads;
 use xdg_build::Stock;
 use xdg_command::CorpusOptions;
@@ -20,6 +22,47 @@ use xdg_io::Sink;
 use xdg_outcomes::Status;
 use xdg_packed::Packed;
 use xdg_split::answers;
+
+/// Prints the lines of a text in groups, one after the other, of which the first line has number 1.
+fn print_groups<R: Threads + Sync, K: Sink>(
+    rt: &R,
+    alloc: Global,
+    options: &CorpusOptions,
+    expanded: &Expanded,
+    packed: &Packed,
+    stock: &mut Stock,
+    text: &str,
+    out: &mut K,
+) -> Status
+    requires small { length text.now ≤ 4194304 }
+    requires lexicon { IsRightLexicon expanded.now.checked.types expanded.now.entries }
+    requires packed { IsPackedOf expanded.now packed.now }
+    requires range { CanSearch options.now }
+    requires stock { IsStock (grammar_of expanded.now.checked packed.now) stock.old }
+    ensures leaves { LeavesPart (AreSearched options.now (meaning_of expanded.now) text.now) result (K.held out.old) (K.held out.new) }
+    ensures write_fault { result ≡ Status.WriteFault → Rose (K.faults out.old) (K.faults out.new) }
+    ensures out_lasting { K.faults out.old ≤ K.faults out.new }
+    ensures out_quiet { result ≢ Status.WriteFault → K.faults out.new ≡ K.faults out.old }
+    ensures ends { (result ≡ Status.Done) ⊎ ((result ≡ Status.WriteFault) ⊎ (result ≡ Status.OutOfMemory)) }
+{
+    let mut number: u64 = 1;
+    let mut rest = text;
+    while !rest.is_empty() {
+        let Ok((group, later)) = take_group(alloc, options, expanded, packed, stock, rest) else {
+            return Status::OutOfMemory;
+        };
+        let Ok(answered) = answers(rt, alloc, group.jobs.as_slice()) else {
+            return Status::OutOfMemory;
+        };
+        let written = write_group(number, group.sentences.as_slice(), answered.as_slice(), out);
+        if written.is_err() {
+            return Status::WriteFault;
+        }
+        number += group.sentences.len() as u64;
+        rest = later;
+    }
+    Status::Done
+}
 
 /// Prints the lines of a text: groups of lines, one after the other. The lines of a group are searched side by side, and their texts are
 /// written in order before the next group begins, so no more than its searches take memory at once. What their problems share is made
@@ -43,25 +86,8 @@ pub(crate) fn print_lines<R: Threads + Sync, K: Sink>(
     ensures out_quiet { result ≢ Status.WriteFault → K.faults out.new ≡ K.faults out.old }
     ensures ends { (result ≡ Status.Done) ⊎ ((result ≡ Status.WriteFault) ⊎ (result ≡ Status.OutOfMemory)) }
 {
-    let Ok(mut stock) = Stock::new(alloc, &expanded.checked, packed) else {
-        return Status::OutOfMemory;
-    };
-    let mut number: u64 = 1;
-    let mut rest = text;
-    while !rest.is_empty() {
-        let Ok((group, later)) = take_group(alloc, options, expanded, packed, &mut stock, rest)
-        else {
-            return Status::OutOfMemory;
-        };
-        let Ok(answered) = answers(rt, alloc, group.jobs.as_slice()) else {
-            return Status::OutOfMemory;
-        };
-        let written = write_group(number, group.sentences.as_slice(), answered.as_slice(), out);
-        if written.is_err() {
-            return Status::WriteFault;
-        }
-        number += group.sentences.len() as u64;
-        rest = later;
+    match Stock::new(alloc, &expanded.checked, packed) {
+        Ok(mut stock) => print_groups(rt, alloc, options, expanded, packed, &mut stock, text, out),
+        Err(AllocError) => Status::OutOfMemory,
     }
-    Status::Done
 }

@@ -5,6 +5,8 @@ use Rattle.xdg_porder.specs.Family as order
 use Rattle.xdg_pagree.specs.Family as agree
 use Rattle.xdg_pmulti.specs.Family as multi
 use Rattle.xdg_linking.specs.Family as link
+use Rattle.xdg_formula_value.specs.Standing as rule
+use Rattle.xdg_pcost.specs.Bounding.{IsBound}
 use Rattle.xdg_engine.specs.declared.family.Family.{Family}
 use Rattle.xdg_engine.specs.declared.family.Family.TheVariants as families
 
@@ -15,4 +17,5 @@ Holds families.Order principle = order.IsOfFamily principle
 Holds families.Agree principle = agree.IsOfFamily principle
 Holds families.Multi principle = multi.IsOfFamily principle
 Holds families.Link principle = link.IsLinking principle
-Holds families.Later principle = Unit {0}
+Holds families.Rule principle = rule.IsRule principle
+Holds families.Bound principle = IsBound principle

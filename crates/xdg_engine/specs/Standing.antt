@@ -6,6 +6,8 @@ use Rattle.xdg_porder.specs.Standing as order
 use Rattle.xdg_pagree.specs.Standing as agree
 use Rattle.xdg_pmulti.specs.Standing as multi
 use Rattle.xdg_plink.specs.Standing as link
+use Rattle.xdg_formula_value.specs.Standing as rule
+use Rattle.xdg_pcost.specs.Bounding.{bound_stands}
 use Rattle.xdg_engine.specs.declared.any_prop.AnyProp.{AnyProp}
 use Rattle.xdg_engine.specs.declared.any_prop.AnyProp.TheVariants as any
 
@@ -16,6 +18,8 @@ stands_for (any.Order p) = order.stands_for p
 stands_for (any.Agree p) = agree.stands_for p
 stands_for (any.Multi p) = multi.stands_for p
 stands_for (any.Link p) = link.stands_for p
+stands_for (any.Rule p) = rule.stands_for p
+stands_for (any.Cost p) = bound_stands p
 
 -- the propagators stand for the first principle uses of the sentence, so many, one for each and in the order of the uses
 pub record AreInOrder (parts : Parts) (count : ℕ) (props : List AnyProp) : Type 0 where

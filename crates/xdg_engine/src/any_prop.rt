@@ -6,10 +6,14 @@ ghost use Rattle.xdg_porder.specs.contracts.order_prop.OrderPropPropagator.TheIm
 ghost use Rattle.xdg_pagree.specs.contracts.agree_prop.AgreePropPropagator.TheImpl.Laws as agree;
 ghost use Rattle.xdg_pmulti.specs.contracts.multi_prop.MultiPropPropagator.TheImpl.Laws as multi;
 ghost use Rattle.xdg_plink.specs.contracts.link_prop.LinkPropPropagator.TheImpl.Laws as link;
+ghost use Rattle.xdg_formula_value.specs.contracts.rule_prop.RulePropPropagator.TheImpl.Laws as rule;
+ghost use Rattle.xdg_pcost.specs.contracts.cost_prop.CostPropPropagator.TheImpl.Laws as cost;
 ghost use Rattle.xdg_engine.specs.Standing.{stands_for};
 ghost use Rattle.xdg_engine.specs.declared.any_prop.AnyProp.TheVariants as any;
 
+use xdg_formula_value::RuleProp;
 use xdg_pagree::AgreeProp;
+use xdg_pcost::CostProp;
 use xdg_pgraph::GraphProp;
 use xdg_plink::LinkProp;
 use xdg_pmulti::MultiProp;
@@ -30,6 +34,10 @@ pub enum AnyProp {
     Multi(MultiProp),
     /// One of a linking principle.
     Link(LinkProp),
+    /// One of a rule.
+    Rule(RuleProp),
+    /// One of a bound.
+    Cost(CostProp),
 }
 
 impl Propagator for AnyProp {
@@ -41,6 +49,8 @@ impl Propagator for AnyProp {
       | any.Agree p ↦ ⟦<AgreeProp as Propagator>⟧.still p
       | any.Multi p ↦ ⟦<MultiProp as Propagator>⟧.still p
       | any.Link p ↦ ⟦<LinkProp as Propagator>⟧.still p
+      | any.Rule p ↦ ⟦<RuleProp as Propagator>⟧.still p
+      | any.Cost p ↦ ⟦<CostProp as Propagator>⟧.still p
     ] };
 
     ghost kinds = { elim [
@@ -49,6 +59,8 @@ impl Propagator for AnyProp {
       | any.Agree p ↦ ⟦<AgreeProp as Propagator>⟧.kinds p
       | any.Multi p ↦ ⟦<MultiProp as Propagator>⟧.kinds p
       | any.Link p ↦ ⟦<LinkProp as Propagator>⟧.kinds p
+      | any.Rule p ↦ ⟦<RuleProp as Propagator>⟧.kinds p
+      | any.Cost p ↦ ⟦<CostProp as Propagator>⟧.kinds p
     ] };
 
     fn wakes(&self) -> Wake {
@@ -58,6 +70,8 @@ impl Propagator for AnyProp {
             AnyProp::Agree(p) => p.wakes(),
             AnyProp::Multi(p) => p.wakes(),
             AnyProp::Link(p) => p.wakes(),
+            AnyProp::Rule(p) => p.wakes(),
+            AnyProp::Cost(p) => p.wakes(),
         }
     }
 
@@ -68,6 +82,8 @@ impl Propagator for AnyProp {
             AnyProp::Agree(p) => p.step(store),
             AnyProp::Multi(p) => p.step(store),
             AnyProp::Link(p) => p.step(store),
+            AnyProp::Rule(p) => p.step(store),
+            AnyProp::Cost(p) => p.step(store),
         }
     }
 
@@ -78,6 +94,8 @@ impl Propagator for AnyProp {
             AnyProp::Agree(p) => p.step_since(store, since),
             AnyProp::Multi(p) => p.step_since(store, since),
             AnyProp::Link(p) => p.step_since(store, since),
+            AnyProp::Rule(p) => p.step_since(store, since),
+            AnyProp::Cost(p) => p.step_since(store, since),
         }
     }
 
@@ -87,6 +105,8 @@ impl Propagator for AnyProp {
       | any.Agree p ↦ agree.still_closed-law p
       | any.Multi p ↦ multi.still_closed-law p
       | any.Link p ↦ link.still_closed-law p
+      | any.Rule p ↦ rule.still_closed-law p
+      | any.Cost p ↦ cost.still_closed-law p
     ] };
 
     ghost stays_still = { elim [
@@ -95,5 +115,7 @@ impl Propagator for AnyProp {
       | any.Agree p ↦ agree.stays_still-law p
       | any.Multi p ↦ multi.stays_still-law p
       | any.Link p ↦ link.stays_still-law p
+      | any.Rule p ↦ rule.stays_still-law p
+      | any.Cost p ↦ cost.stays_still-law p
     ] };
 }

@@ -17,8 +17,10 @@ pub enum Family {
     Multi,
     /// The linking principles.
     Link,
-    /// Rules and bounds, for which no propagator stands yet.
-    Later,
+    /// Rules.
+    Rule,
+    /// Bounds.
+    Bound,
 }
 
 /// The family of a principle.
@@ -45,7 +47,7 @@ pub(crate) fn family_of(principle: &Principle) -> Family
         Principle::LinkingAboveStart => Family::Link,
         Principle::LinkingSisters => Family::Link,
         Principle::LinkingNotDaughter => Family::Link,
-        Principle::Rule(_) => Family::Later,
-        Principle::Bound(_, _) => Family::Later,
+        Principle::Rule(_) => Family::Rule,
+        Principle::Bound(_, _) => Family::Bound,
     }
 }

@@ -1,6 +1,6 @@
 //! The propagators of a sentence: one for each of its principle uses, of the family to which its principle belongs.
 //!
-//! Five crates have a family each. [`AnyProp`] is a propagator of any of them, so that a search takes one list of all.
+//! Seven crates have a family each. [`AnyProp`] is a propagator of any of them, so that a search takes one list of all.
 #![tactic(auto)]
 
 mod any_prop;
@@ -9,3 +9,4 @@ mod uses;
 
 pub use any_prop::AnyProp;
 pub use uses::props;
+pub use xdg_pcost::CostProp;

@@ -9,7 +9,9 @@ use crate::any_prop::AnyProp;
 use crate::family::{Family, family_of};
 use std::alloc::Global;
 use xdg_base::{List, OutOfMemory};
+use xdg_formula_value::RuleProp;
 use xdg_pagree::AgreeProp;
+use xdg_pcost::CostProp;
 use xdg_pgraph::GraphProp;
 use xdg_plink::LinkProp;
 use xdg_pmulti::MultiProp;
@@ -25,7 +27,7 @@ fn family_at(problem: &Problem, group: usize) -> Family
 }
 
 /// The propagator of a principle use, by its number from 0.
-fn prop_of(problem: &Problem, group: usize) -> Result<AnyProp, OutOfMemory>
+fn prop_of(alloc: Global, problem: &Problem, group: usize) -> Result<AnyProp, OutOfMemory>
     requires { group < length problem.now.groups }
     ensures { IfOk result (λ p. StandsFor (stands_for p) problem.now group) }
 {
@@ -35,7 +37,8 @@ fn prop_of(problem: &Problem, group: usize) -> Result<AnyProp, OutOfMemory>
         Family::Agree => Ok(AnyProp::Agree(AgreeProp::of(problem, group)?)),
         Family::Multi => Ok(AnyProp::Multi(MultiProp::of(problem, group)?)),
         Family::Link => Ok(AnyProp::Link(LinkProp::of(problem, group)?)),
-        Family::Later => Err(OutOfMemory),
+        Family::Rule => Ok(AnyProp::Rule(RuleProp::of(problem, group)?)),
+        Family::Bound => Ok(AnyProp::Cost(CostProp::of(alloc, problem, group)?)),
     }
 }
 
@@ -46,7 +49,7 @@ pub fn props(alloc: Global, problem: &Problem) -> Result<List<AnyProp>, OutOfMem
 {
     let mut props = List::new(alloc);
     for number in 0..problem.parts().groups.len() {
-        props.push(prop_of(problem, number)?)?;
+        props.push(prop_of(alloc, problem, number)?)?;
     }
     Ok(props)
 }

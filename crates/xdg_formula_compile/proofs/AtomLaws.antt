@@ -1,6 +1,6 @@
 -- What the atoms of a rule say, and the atoms of a formula that are made of them.
-use Rattle.std.proofs.Common.{◌≡◌, ◌↔◌, ℕ, zero, suc, ◌<◌, true, List, [], ◌∷◌, length, get_or, map, refl, sym, ap, ap₂, ◌∙◌, subst, arith}
-use Rattle.std.specs.Prelude.{◌==◌, Any, Contains, Some, slice_get, slice_index, slice_index_or}
+use Rattle.std.proofs.Common.{◌≡◌, ◌↔◌, ℕ, zero, suc, ◌<◌, true, List, [], ◌∷◌, length, get_or, sym, ap, ◌∙◌, subst, arith}
+use Rattle.std.specs.Prelude.{◌==◌, Any, Contains, Some, slice_get, slice_index}
 use Rattle.std.proofs.lemmas.Bool.{eqb-true}
 use Rattle.std.proofs.lemmas.List.{get_or_default}
 use Rattle.std.proofs.lemmas.List.Elements.{All-contains, All-filter, filter_passes}
@@ -16,14 +16,14 @@ use Rattle.xdg_problem.specs.declared.parts.DimPlan.{DimPlan}
 use Rattle.xdg_problem.specs.declared.parts.Parts.{Parts}
 use Rattle.xdg_problem.specs.Analyses.{IsAnalysis, IsPlace}
 use Rattle.xdg_problem.specs.Arguments.{attr_place, no_plan, value_count}
-use Rattle.xdg_problem.specs.Claims.{Claim, joined, above, left, same, valued}
+use Rattle.xdg_problem.specs.Claims.{joined, above, left, same, valued}
 use Rattle.xdg_problem.specs.Paths.{edges_on, Above}
 use Rattle.xdg_problem.specs.Places.{nodes}
 use Rattle.xdg_terms.specs.Means.{IsAt}
 use Rattle.xdg_types.specs.declared.table.DimType.{DimType}
-use Rattle.xdg_types.specs.Table.{Table, IsTable, KeepsDim, KeepDims, AreAttributes, Typed, HasPlace, typed, firsts}
+use Rattle.xdg_types.specs.Table.{Table, IsTable, KeepsDim, KeepDims, AreAttributes, Typed, typed, firsts}
 use Rattle.xdg_groups.specs.Grammars.{Grammar}
-use Rattle.xdg_build.specs.Readings.{dimension, edges_in, label_text, value_of, value_number, value_texts, type_at}
+use Rattle.xdg_build.specs.Readings.{dimension, edges_in, label_text, value_of, value_number, value_texts}
 use Rattle.xdg_build.proofs.Conditions.{any_same}
 use Rattle.xdg_build.proofs.Different.{one_place}
 use Rattle.xdg_build.proofs.Values.{same_number}
@@ -32,8 +32,8 @@ use Rattle.xdg_formula_check.specs.Tables.{no_dim, used_dims}
 use Rattle.xdg_formula_compile.specs.Places.{IsDimAt, IsTypeAt}
 use Rattle.xdg_formula_compile.specs.Problems.{IsFor}
 use Rattle.xdg_formula_compile.specs.Says.{Says, Agree}
-use Rattle.xdg_formula_compile.specs.Truths.{Binding, IsCalled, Joins, IsAbove, HasAttribute, constants_of}
-use Rattle.xdg_formula_compile.proofs.Used.{among_all, used_within, used_is, is_called, one_called, below_of, plan_of, dims_long, labels_are, attrs_are, edges_same}
+use Rattle.xdg_formula_compile.specs.Truths.{Binding, constants_of}
+use Rattle.xdg_formula_compile.proofs.Used.{among_all, is_called, one_called, below_of, plan_of, dims_long, labels_are, edges_same}
 use Rattle.xdg_formula_compile.proofs.Valued.{value_below, number_same, attr_inside, type_is, value_count_is}
 
 -- ---- what the table keeps
@@ -73,10 +73,9 @@ stands_for count scope b numbered n name agree at = (agree n at.0).0 ∙ ap b at
 pub node_below : (count : ℕ) (scope : List (List ℕ)) (b : Binding) (numbered : ℕ → ℕ) (n : ℕ) (name : List ℕ) → Agree count scope b numbered → IsAt scope n name → numbered n < count
 node_below count scope b numbered n name agree at = (agree n at.0).1
 
-module _ (table : Table) (lexicon : Lexicon) (parts : Parts) (is : IsTable table) (for_it : IsFor table lexicon parts) (scope : List (List ℕ)) where
-  abbrev g : Grammar
-  g = record { table = table; uses = []; lexicon = lexicon }
+-- ---- atoms that name nothing but nodes
 
+module _ (table : Table) (lexicon : Lexicon) (parts : Parts) (scope : List (List ℕ)) where
   pub says_left : (one other : Name) (m n : ℕ) → IsAt scope m one.text → IsAt scope n other.text → Says table lexicon parts scope (w.left one other) (left m n)
   says_left one other m n first second = record {
     is_of = tt;
@@ -92,6 +91,10 @@ module _ (table : Table) (lexicon : Lexicon) (parts : Parts) (is : IsTable table
     same = λ a fits b numbered agree. (let e = stands_for (nodes parts) scope b numbered m one.text agree first in let f = stands_for (nodes parts) scope b numbered n other.text agree second in
         (λ l. sym e ∙ l ∙ f, λ l. e ∙ l ∙ sym f));
   }
+
+module _ (table : Table) (lexicon : Lexicon) (parts : Parts) (is : IsTable table) (for_it : IsFor table lexicon parts) (scope : List (List ℕ)) where
+  abbrev g : Grammar
+  g = record { table = table; uses = []; lexicon = lexicon }
 
   module _ (dim : Name) (d : ℕ) (at : IsDimAt (used_dims table) dim.text d) where
     abbrev k : ℕ

@@ -1,43 +1,41 @@
 -- What an atom about a feature says, and the table of candidates that is made of it.
-use Rattle.std.proofs.Common.{◌≡◌, ◌↔◌, ℕ, zero, suc, ◌<◌, true, false, Bool, List, [], ◌∷◌, length, get_or, map, refl, sym, ap, ap₂, ◌∙◌, subst, arith}
+use Rattle.std.proofs.Common.{◌≡◌, ◌↔◌, ℕ, zero, suc, ◌<◌, true, false, Bool, List, [], ◌∷◌, length, get_or, map, refl, sym, ap, ◌∙◌, subst, arith}
 use Rattle.std.specs.Prelude.{All, Contains, MatchOption, Some, slice_get, slice_index, slice_index_or}
 use Rattle.std.proofs.lemmas.List.{get_or-map, get_or_default, length-map}
 use Rattle.std.proofs.lemmas.List.Elements.{All-contains}
-use Rattle.std.proofs.lemmas.Option.{slice_get_within, get_or_from_slice_get, slice_get-get_or}
+use Rattle.std.proofs.lemmas.Option.{get_or_from_slice_get, slice_get-get_or}
 use Rattle.xdg_ast.specs.declared.names.Name.{Name}
 use Rattle.xdg_ast.specs.Grammar.{Term}
 use Rattle.xdg_base.specs.declared.ids.EntryNo.{EntryNo}
 use Rattle.xdg_domain.specs.Shapes.{Shape, count, shape, text, IsType}
 use Rattle.xdg_domain.specs.Valencies.{said_at}
-use Rattle.xdg_domain.specs.Values.{IsIn}
 use Rattle.xdg_domain.specs.declared.types.Ty.{Ty}
-use Rattle.xdg_domain.specs.declared.values.Value.{Value, out-Value}
-use Rattle.xdg_entries.specs.Entries.{IsEntry, IsUsed, IsWhole}
+use Rattle.xdg_domain.specs.declared.values.Value.{out-Value}
+use Rattle.xdg_entries.specs.Entries.{IsWhole}
 use Rattle.xdg_packed.specs.Lexicon.{Entry, Lexicon}
 use Rattle.xdg_problem.specs.declared.analysis.Analysis.{Analysis}
 use Rattle.xdg_problem.specs.declared.parts.Parts.{Parts}
 use Rattle.xdg_problem.specs.Analyses.{IsAnalysis, HasCandidates}
-use Rattle.xdg_problem.specs.Claims.{Claim, fitting, IsTable}
+use Rattle.xdg_problem.specs.Claims.{fitting, IsTable}
 use Rattle.xdg_problem.specs.Places.{nodes}
 use Rattle.xdg_problem.specs.Problems.{IsProblem}
 use Rattle.xdg_problem.specs.Truths.{says}
-use Rattle.xdg_problem.specs.Vectors.{entry_places, place_among}
+use Rattle.xdg_problem.specs.Vectors.{entry_places}
 use Rattle.xdg_problem.proofs.EntryPlaces.{entry_back, place_within}
 use Rattle.xdg_terms.specs.Means.{IsAt}
-use Rattle.xdg_types.specs.declared.table.DimType.{DimType}
 use Rattle.xdg_types.specs.Table as tables
 use Rattle.xdg_types.specs.Table.{Table, AreFeatures, Typed, KeepsDim, typed, firsts}
-use Rattle.xdg_groups.specs.Grammars.{Grammar, place_in}
+use Rattle.xdg_groups.specs.Grammars.{Grammar}
 use Rattle.xdg_groups.proofs.Said.{entry_at as entry_right_at}
-use Rattle.xdg_build.specs.Readings.{OnFeature, dimension, entry_at, said_for, record_for, type_at, value_texts}
+use Rattle.xdg_build.specs.Readings.{OnFeature, dimension, said_for, record_for, type_at, value_texts}
 use Rattle.xdg_build.proofs.Readings.{place_is, record_same}
 use Rattle.xdg_formula_check.specs.Tables.{member_shape, no_dim, used_dims}
 use Rattle.xdg_formula_text.specs.Written as w
 use Rattle.xdg_formula_compile.specs.Places.{IsDimAt, IsTypeAt}
 use Rattle.xdg_formula_compile.specs.Problems.{IsFor}
-use Rattle.xdg_formula_compile.specs.Says.{Says, Agree}
-use Rattle.xdg_formula_compile.specs.Tables.{entry_says, says_in, table_of}
-use Rattle.xdg_formula_compile.specs.Truths.{Binding, HasFeature, IsOrHas, constants_of}
+use Rattle.xdg_formula_compile.specs.Says.{Says}
+use Rattle.xdg_formula_compile.specs.Tables.{entry_says, table_of}
+use Rattle.xdg_formula_compile.specs.Truths.{IsOrHas, constants_of}
 use Rattle.xdg_formula_compile.proofs.Used.{among_all, used_within, is_called, one_called, below_of}
 use Rattle.xdg_formula_compile.proofs.AtomLaws.{first_at, one_named, stands_for, node_below, keeps_at, typed_at}
 use Rattle.xdg_formula_compile.proofs.Featured.{said_says, said_field}

@@ -1,6 +1,6 @@
 -- Values of features of entries, by their numbers and by their constants.
-use Rattle.std.proofs.Common.{◌≡◌, ◌↔◌, ℕ, zero, suc, ◌<◌, true, false, List, [], ◌∷◌, length, inl, inr, refl, sym, ap, ◌∙◌, subst, arith}
-use Rattle.std.specs.Prelude.{◌==◌, ◌||◌, Contains, Option, None, Some, MatchOption, slice_get}
+use Rattle.std.proofs.Common.{◌≡◌, ◌↔◌, ℕ, zero, suc, ◌<◌, true, List, [], ◌∷◌, length, inl, inr, refl, sym, ap, ◌∙◌, subst, arith}
+use Rattle.std.specs.Prelude.{◌==◌, Contains, Option, None, Some, MatchOption, slice_get}
 use Rattle.std.proofs.lemmas.Bool.{eqb-true, eq-eqb, false≢true, or_cases, or_left, or_right}
 use Rattle.xdg_domain.specs.Cards.{has}
 use Rattle.xdg_domain.specs.Shapes.{Shape, domain, tuple, set, iset, truth, integer, text, card, valency, mapping, fields, fields_of, count, IsType, IsSmall}
@@ -14,7 +14,7 @@ use Rattle.xdg_packed.specs.Lexicon.{Record}
 use Rattle.xdg_types.specs.declared.table.DimType.{DimType}
 use Rattle.xdg_types.specs.Table.{typed}
 use Rattle.xdg_groups.proofs.Said.{field_in, each_of}
-use Rattle.xdg_build.specs.Readings.{value_texts, IsMember}
+use Rattle.xdg_build.specs.Readings.{value_texts}
 use Rattle.xdg_build.proofs.Values.{Names, names_number, same_number}
 use Rattle.xdg_formula_check.specs.Tables.{member_shape}
 use Rattle.xdg_formula_compile.specs.Tables.{is_or_has, says_in}

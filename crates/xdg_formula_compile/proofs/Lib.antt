@@ -8,6 +8,5 @@ pub mod FormulaLaws
 pub mod Numbers
 pub mod Rightly
 pub mod Standing
-pub mod Turned
 pub mod Used
 pub mod Valued

@@ -1,20 +1,26 @@
 -- The number of a value with which nothing is wrong.
-use Rattle.std.proofs.Common.{◌≡◌, ℕ, ◌<◌, Bool, true, false, List, [], ◌∷◌, length, get_or, map, Option, None, Some, refl, sym, ap, ◌∙◌, subst}
-use Rattle.std.specs.Prelude.{◌==◌, if◌then◌else◌}
+use Rattle.std.proofs.Common.{◌≡◌, ℕ, Bool, true, false, List, [], ◌∷◌, length, map, None, Some, refl, sym, ap, ◌∙◌, subst}
+use Rattle.std.specs.Prelude.{◌==◌, if◌then◌else◌, Result, Ok}
+use Rattle.std.specs.declared.alloc.AllocError.{AllocError}
 use Rattle.xdg_base.specs.declared.faults.Fault.{Fault}
 use Rattle.xdg_ast.specs.declared.names.Name.{Name}
 use Rattle.xdg_ast.specs.declared.terms.ElemKind.{ElemKind}
 use Rattle.xdg_ast.specs.declared.terms.ElemKind.TheOpen.{TermKind-F}
 use Rattle.xdg_ast.specs.declared.terms.TermKind.{TermKind, out-TermKind}
-use Rattle.xdg_domain.specs.Shapes.{Shape, domain, tuple, set, iset, truth, integer, text, card, valency, mapping, fields, count, sizes, product, IsSmall}
+use Rattle.xdg_domain.specs.Shapes.{Shape, domain, tuple, sizes, IsSmall, IsType}
 use Rattle.xdg_domain.specs.declared.values.Value.{Value, out-Value}
 use Rattle.xdg_domain.specs.declared.values.Value.TheOpen.{Value-F}
 use Rattle.xdg_faults.specs.First.{Tells, first}
-use Rattle.xdg_terms.specs.Forms.{Term, Bindings, bound, bound_in, with_open, with_bound, unless_open, constant_of, constant_in, bracket_of, bracket_in, if_so_many}
+use Rattle.xdg_terms.specs.Answers.{IsRight}
+use Rattle.xdg_terms.specs.Built.{built}
+use Rattle.xdg_terms.specs.Forms.{Term, Bindings, bound, bound_in, with_open, with_bound, unless_open, constant_of, constant_in, bracket_of, bracket_in}
 use Rattle.xdg_terms.specs.Means.{Means, MeansIn}
-use Rattle.xdg_terms.specs.Offences.{Offends, OffendsBy, OffendsIn, OffendsHere, OfSeen}
+use Rattle.xdg_terms.specs.Offences.{Offends, OffendsBy, OffendsIn, OfSeen}
 use Rattle.xdg_terms.proofs.Law.{law}
+use Rattle.xdg_terms.proofs.Meaning.{means_of}
+use Rattle.xdg_build.proofs.Values.{same_number}
 use Rattle.xdg_formula_check.specs.Formulas.{value_faults}
+use Rattle.xdg_formula_compile.specs.Formulas.{number_of}
 use Rattle.xdg_formula_compile.specs.Places.{IsNumberOf}
 use Rattle.xdg_formula_compile.specs.Tables.{number_in}
 use Rattle.xdg_formula_compile.specs.Truths.{constants_of, constants_in}
@@ -93,6 +99,11 @@ number_meant s t bs v n none small means is =
     subst (IsNumberOf s t) (sym is) (number_by s t (out-Value v) small
     (subst (λ u. MeansIn [] s u (out-Value v)) (bound_none t) (subst (λ none_bound. Means none_bound s t v) none means)))
 
+pub small_type : (s : Shape) → IsSmall s → IsType s
+small_type (domain cs) small = small
+small_type (tuple ss) small = small
+small_type _ small = absurd small
+
 -- ---- nothing is wrong
 
 here_by : (s : Shape) (t : Term) (f : Fault) → IsSmall s → OffendsIn (with_bound []) s t f → OffendsIn (with_open []) s t f
@@ -105,3 +116,13 @@ never_wrong s t bs f none small right told =
     let offends : OffendsIn (with_bound []) s (bound [] t) f = subst (λ none_bound. Offends none_bound s t f) none told.0 in
     let nothing : Tells (OffendsBy (with_open []) s t) None = law (with_open []) s t None (ap first (sym right)) in
     nothing f (subst (λ seen. OfSeen seen (λ u. OffendsIn (with_open []) s u f)) (sym (open_none t)) (here_by s t f small (subst (λ u. OffendsIn (with_bound []) s u f) (bound_none t) offends)))
+
+-- ---- as a function
+
+pub number_is : (s : Shape) (t : Term) (bs : Bindings) (v : Value) (n : ℕ) → bs ≡ [] → IsSmall s → IsRight bs s t → Means bs s t v → n ≡ number_in (out-Value v) → n ≡ number_of s t
+number_is s t bs v n none small right means is =
+    let own : IsNumberOf s t n = number_meant s t bs v n none small means is in
+    let whole : Result Value AllocError = Ok (built [] s t) in
+    let made : Means [] s t (built [] s t) = means_of [] s t whole (small_type s small) (subst (λ none_bound. IsRight none_bound s t) none right) refl in
+    let other : IsNumberOf s t (number_of s t) = number_meant s t [] (built [] s t) (number_of s t) refl small made refl in
+    same_number s n (number_of s t) small own.0 other.0 (own.1 ∙ sym other.1)

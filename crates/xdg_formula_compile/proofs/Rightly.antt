@@ -1,5 +1,5 @@
 -- What is there where nothing is wrong.
-use Rattle.std.proofs.Common.{◌≡◌, ◌≢◌, ℕ, zero, suc, ◌<◌, ◌≤◌, Bool, true, false, List, [], ◌∷◌, ◌++◌, length, get_or, map, Option, None, Some, inl, refl, sym, subst, arith}
+use Rattle.std.proofs.Common.{◌≡◌, ◌≢◌, ℕ, zero, suc, ◌<◌, Bool, true, false, List, [], ◌∷◌, ◌++◌, length, get_or, map, Option, None, Some, inl, refl, sym, subst, arith}
 use Rattle.std.specs.Prelude.{◌==◌, if◌then◌else◌, slice_get, IsSome}
 use Rattle.std.specs.List.{flat_map}
 use Rattle.std.proofs.lemmas.Bool.{eqb-false}
@@ -13,7 +13,7 @@ use Rattle.xdg_faults.specs.First.{In}
 use Rattle.xdg_terms.specs.Faults.{all_twice, has, missing}
 use Rattle.xdg_types.specs.declared.table.DimType.{DimType}
 use Rattle.xdg_types.specs.Table.{Table}
-use Rattle.xdg_formula_check.specs.Formulas.{under_name, in_dim, unbound_nodes, attribute_faults, attr_faults, field_faults, feat_faults, feature_faults, member_faults, value_faults, edge_faults, dim_faults, faults_in, faults_each, formula_faults, binding_faults, most_rules, names_of, nested, rules_faults, too_many}
+use Rattle.xdg_formula_check.specs.Formulas.{under_name, unbound_nodes, attribute_faults, attr_faults, field_faults, feat_faults, feature_faults, member_faults, value_faults, edge_faults, dim_faults, faults_in, faults_each, formula_faults, binding_faults, most_rules, names_of, nested, rules_faults, too_many}
 use Rattle.xdg_formula_check.specs.Answers.{Offends}
 use Rattle.xdg_formula_check.specs.Tables.{dim_named, type_named, member_shape, used_dims}
 use Rattle.xdg_formula_text.specs.declared.tree.Rule.{Rule}

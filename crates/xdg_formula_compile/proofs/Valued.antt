@@ -1,6 +1,6 @@
 -- Values of attributes in an analysis of a problem, and what the grammar says of them.
 use Rattle.std.proofs.Common.{◌≡◌, ℕ, zero, suc, ◌<◌, ◌≤◌, ◌+◌, ◌*◌, cond, List, [], ◌∷◌, ◌++◌, length, get_or, map, take, refl, sym, ap, ap₂, ◌∙◌, subst, arith}
-use Rattle.std.specs.Prelude.{◌==◌, slice_get, slice_index_or, Some}
+use Rattle.std.specs.Prelude.{slice_get, Some}
 use Rattle.std.specs.List.{AllZip, flat_map, range_with_len}
 use Rattle.std.proofs.lemmas.Bool.{eq-eqb, ne_eqb}
 use Rattle.std.proofs.lemmas.List.{get_or-map, length-map, length-append, get_or_append_left, get_or-append-add}
@@ -23,12 +23,12 @@ use Rattle.xdg_problem.proofs.Counted.{length_attrs_of}
 use Rattle.xdg_types.specs.declared.table.DimType.{DimType}
 use Rattle.xdg_types.specs.Table.{Table, IsTable, HasPlace, ArePlaces, typed}
 use Rattle.xdg_groups.specs.Grammars.{Grammar}
-use Rattle.xdg_build.specs.Plans.{attr_plan, attr_plans, shown_as}
+use Rattle.xdg_build.specs.Plans.{attr_plan, shown_as}
 use Rattle.xdg_build.specs.Readings.{dimension, values_before, value_number, type_at}
 use Rattle.xdg_build.proofs.Readings.{stands_at, fits_at, repeated_length, repeated_at}
 use Rattle.xdg_formula_check.specs.Tables.{used_dims}
 use Rattle.xdg_formula_compile.specs.Problems.{IsPlanOf, IsFor}
-use Rattle.xdg_formula_compile.proofs.Used.{among_all, used_within, plan_of, attrs_are, dims_long}
+use Rattle.xdg_formula_compile.proofs.Used.{among_all, used_within, plan_of, attrs_are}
 
 -- ---- how many values an attribute has
 

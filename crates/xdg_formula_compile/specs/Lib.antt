@@ -1,3 +1,4 @@
+pub mod Formulas
 pub mod Places
 pub mod Problems
 pub mod Right

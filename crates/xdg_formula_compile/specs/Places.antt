@@ -1,12 +1,21 @@
 -- Where what a rule names stands in a table of types.
-use Rattle.std.specs.Prelude.{◌≡◌, ℕ, ◌<◌, List, length, get_or, slice_get, Some}
+use Rattle.std.specs.Prelude.{◌≡◌, ℕ, ◌<◌, List, length, map, get_or, slice_get, Some}
 use Rattle.xdg_ast.specs.Grammar.{Term}
 use Rattle.xdg_domain.specs.Shapes.{Shape, count}
 use Rattle.xdg_domain.specs.declared.types.Ty.{Ty}
+use Rattle.xdg_terms.specs.Built.{place_from}
 use Rattle.xdg_types.specs.declared.table.DimType.{DimType}
 use Rattle.xdg_formula_check.specs.Tables.{dim_named, no_dim, type_named}
 use Rattle.xdg_build.specs.Readings.{value_texts}
 use Rattle.xdg_formula_compile.specs.Truths.{constants_of}
+
+-- of these texts the one with that place is the first that is the name
+abbrev pub IsPlaceOf : List (List ℕ) → List ℕ → ℕ → Type 0
+IsPlaceOf texts name place = place_from 0 texts name ≡ Some place
+
+-- the names of the dimensions with these places
+abbrev pub names_at : List DimType → List ℕ → List (List ℕ)
+names_at dims places = map (λ k. (get_or dims k no_dim).name) places
 
 -- of these dimensions the first of that name is the one with that place
 pub record IsDimAt (dims : List DimType) (name : List ℕ) (place : ℕ) : Type 0 where

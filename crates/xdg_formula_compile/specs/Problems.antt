@@ -1,5 +1,5 @@
 -- Problems whose dimensions and candidates are those of a grammar.
-use Rattle.std.specs.Prelude.{◌≡◌, ◌<◌, List, length, All}
+use Rattle.std.specs.Prelude.{◌≡◌, ◌<◌, length, All}
 use Rattle.std.specs.List.{AllZip}
 use Rattle.xdg_base.specs.declared.ids.EntryNo.{EntryNo}
 use Rattle.xdg_entries.specs.Entries.{AreEntries}

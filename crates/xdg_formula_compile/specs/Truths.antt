@@ -1,7 +1,6 @@
 -- When a rule is true of an analysis, in words of the grammar: dimensions, labels, attributes and features by their names, and values by
 -- their constants.
 use Rattle.std.specs.Prelude.{◌≡◌, ◌⊎◌, ℕ, zero, suc, ◌<◌, cond, bytes_eq, List, [], ◌∷◌, map, slice_get, Some, Any}
-use Rattle.xdg_ast.specs.declared.names.Name.{Name}
 use Rattle.xdg_ast.specs.declared.terms.ElemKind.{ElemKind}
 use Rattle.xdg_ast.specs.declared.terms.ElemKind.TheOpen.{TermKind-F}
 use Rattle.xdg_ast.specs.declared.terms.TermKind.{TermKind, out-TermKind}
@@ -10,14 +9,14 @@ use Rattle.xdg_domain.specs.Shapes.{Shape, domain, tuple}
 use Rattle.xdg_domain.specs.declared.values.Value.{Value}
 use Rattle.xdg_domain.specs.declared.values.Value.TheOpen.{Value-F}
 use Rattle.xdg_problem.specs.declared.analysis.Analysis.{Analysis}
-use Rattle.xdg_problem.specs.declared.analysis.Edge.{Edge}
 use Rattle.xdg_problem.specs.Paths.{Above}
 use Rattle.xdg_packed.specs.Lexicon.{Lexicon}
 use Rattle.xdg_types.specs.Table.{Table, HasPlace, firsts}
 use Rattle.xdg_groups.specs.Grammars.{Grammar}
 use Rattle.xdg_build.specs.Readings.{IsMember, OnFeature, dimension, edges_in, label_text, value_of, value_texts}
 use Rattle.xdg_formula_text.specs.declared.tree.Rule.{Rule}
-use Rattle.xdg_formula_text.specs.Written.{Tree, negation, conjunction, disjunction, every, any, edge, above, left, same, attr, feat, Trees, no_tree, tree_then, tree}
+use Rattle.xdg_formula_text.specs.Written.{Tree, negation, conjunction, disjunction, every, any, edge, above, left, same, attr, feat}
+use Rattle.xdg_formula_text.specs.Written.{Trees, no_tree, tree_then, tree}
 
 -- ---- values
 
@@ -80,7 +79,8 @@ module _ (table : Table) (lexicon : Lexicon) (nodes : ℕ) (a : Analysis) where
   -- the feature of v's entry on the dimension has it, as its value or as a member
   abbrev pub HasFeature : ℕ → List ℕ → List ℕ → List (List ℕ) → Type 0
   HasFeature v dim feature texts =
-      (k : ℕ) × (place : ℕ) × IsCalled dim k × (slice_get (firsts (dimension g k).fields) place ≡ Some feature) × OnFeature g a k v (Some place) (λ s x. IsOrHas s x texts)
+      (k : ℕ) × (place : ℕ) × IsCalled dim k × (slice_get (firsts (dimension g k).fields) place ≡ Some feature)
+      × OnFeature g a k v (Some place) (λ s x. IsOrHas s x texts)
 
   -- ---- formulas
 

@@ -4,10 +4,9 @@ ghost use Rattle.std.specs.Prelude.{◌≡◌, ◌≢◌, ◌≤◌, length, map
 ghost use Rattle.xdg_domain.specs.Shapes.{shape};
 ghost use Rattle.xdg_formula_check.specs.Tables.{member_shape, used_dims};
 ghost use Rattle.xdg_formula_text.specs.Written as w;
-ghost use Rattle.xdg_problem.specs.Claims.{claim};
 ghost use Rattle.xdg_formula_compile.specs.Problems.{IsFor};
 ghost use Rattle.xdg_formula_compile.specs.Right.{IsRight};
-ghost use Rattle.xdg_formula_compile.specs.Says.{Says};
+ghost use Rattle.xdg_formula_compile.specs.Says.{IsMade};
 
 use crate::feats::feat_table;
 use crate::lookups::{dim_number, dim_type, label_number, node_number, type_place};
@@ -34,7 +33,7 @@ pub(crate) fn edge(
     requires fits { IsFor types.now packed.now problem.now }
     requires right { IsRight (used_dims types.now) (map (λ text. text.now) bound.now) (w.edge dim.now mother.now label.now daughter.now) }
     requires few { length bound.now ≤ 3 }
-    ensures { Says types.now packed.now problem.now (map (λ text. text.now) bound.now) (w.edge dim.now mother.now label.now daughter.now) (claim result) }
+    ensures { IsMade types.now packed.now problem.now (map (λ text. text.now) bound.now) (w.edge dim.now mother.now label.now daughter.now) result }
 {
     let place = dim_number(types, dim);
     let labels = dim_type(types, place).labels.as_slice();
@@ -59,7 +58,7 @@ pub(crate) fn above(
     requires fits { IsFor types.now packed.now problem.now }
     requires right { IsRight (used_dims types.now) (map (λ text. text.now) bound.now) (w.above dim.now upper.now lower.now) }
     requires few { length bound.now ≤ 3 }
-    ensures { Says types.now packed.now problem.now (map (λ text. text.now) bound.now) (w.above dim.now upper.now lower.now) (claim result) }
+    ensures { IsMade types.now packed.now problem.now (map (λ text. text.now) bound.now) (w.above dim.now upper.now lower.now) result }
 {
     let place = dim_number(types, dim);
     Formula::Above(
@@ -84,7 +83,8 @@ pub(crate) fn attr(
     requires fits { IsFor types.now packed.now problem.now }
     requires right { IsRight (used_dims types.now) (map (λ text. text.now) bound.now) (w.attr node.now dim.now attribute.now value.now) }
     requires few { length bound.now ≤ 3 }
-    ensures { IfOk result (λ made. Says types.now packed.now problem.now (map (λ text. text.now) bound.now) (w.attr node.now dim.now attribute.now value.now) (claim made)) }
+    ensures { IfOk result (λ made. IsMade types.now packed.now problem.now (map (λ text. text.now) bound.now)
+        (w.attr node.now dim.now attribute.now value.now) made) }
 {
     let place = dim_number(types, dim);
     let attrs = dim_type(types, place).attrs.as_slice();
@@ -124,7 +124,8 @@ pub(crate) fn feat(
     requires fits { IsFor types.now packed.now problem.now }
     requires right { IsRight (used_dims types.now) (map (λ text. text.now) bound.now) (w.feat node.now dim.now feature.now value.now) }
     requires few { length bound.now ≤ 3 }
-    ensures { IfOk result (λ made. Says types.now packed.now problem.now (map (λ text. text.now) bound.now) (w.feat node.now dim.now feature.now value.now) (claim made)) }
+    ensures { IfOk result (λ made. IsMade types.now packed.now problem.now (map (λ text. text.now) bound.now)
+        (w.feat node.now dim.now feature.now value.now) made) }
 {
     let place = dim_number(types, dim);
     let fields = dim_type(types, place).fields.as_slice();

@@ -5,8 +5,9 @@ ghost use Rattle.xdg_base.specs.declared.faults.Fault as faults;
 ghost use Rattle.xdg_formula_check.specs.Answers.{Offends};
 ghost use Rattle.xdg_formula_check.specs.Formulas.{formula_faults};
 ghost use Rattle.xdg_formula_check.specs.Tables.{used_dims};
+ghost use Rattle.xdg_formula_compile.specs.Formulas.{formulas_of};
 ghost use Rattle.xdg_formula_compile.specs.Problems.{IsFor};
-ghost use Rattle.xdg_formula_compile.specs.Says.{Keeps, KeepsEach};
+ghost use Rattle.xdg_formula_compile.specs.Says.{Compiles, KeepsEach};
 
 use crate::formulas::formula_of;
 use std::alloc::Global;
@@ -26,13 +27,14 @@ fn compile_rule(
 ) -> Result<Formula, OutOfMemory>
     requires fits { IsFor types.now packed.now problem.now }
     requires right { formula_faults (used_dims types.now) [] rule.now.body ≡ [] }
-    ensures { IfOk result (Keeps types.now packed.now problem.now rule.now) }
+    ensures { IfOk result (Compiles types.now packed.now problem.now rule.now) }
 {
     formula_of(alloc, types, packed, problem, &[], &rule.body.kind)
 }
 
 /// The formulas of the rules of a text, one for each, in their order. Each suits the problem, and is true in those analyses of it in which
-/// its rule is true. Of a run of signs `!` it has none or one, so that it nests no deeper than the text has brackets.
+/// its rule is true; it is a function of the rule, the types, the lexicon and the problem. Of a run of signs `!` it has none or one, so
+/// that it nests no deeper than the text has brackets.
 ///
 /// The rules are those with which nothing is wrong ([`check_rules`](xdg_formula_check::check_rules) tells), and the problem is one of a
 /// grammar with these types and this lexicon. The time is linear in the length of the text, and for each atom about a feature in the
@@ -46,7 +48,8 @@ pub fn compile(
 ) -> Result<List<Formula>, OutOfMemory>
     requires right { (f : faults.Fault) → Offends types.now rules.now.rules f → ⊥ }
     requires fits { IsFor types.now packed.now problem.now }
-    ensures { IfOk result (KeepsEach types.now packed.now problem.now rules.now.rules) }
+    ensures keeps { IfOk result (KeepsEach types.now packed.now problem.now rules.now.rules) }
+    ensures is { IfOk result (λ made. made ≡ formulas_of types.now packed.now problem.now rules.now.rules) }
 {
     let mut made = List::new(alloc);
     for rule in rules.rules.as_slice() {

@@ -9,8 +9,9 @@ ghost use Rattle.xdg_formula_compile.specs.Tables as spec;
 
 use std::alloc::{AllocError, Global};
 use xdg_base::{EntryNo, List};
-use xdg_domain::{Fields, Value};
+use xdg_domain::Value;
 use xdg_packed::Packed;
+use xdg_problem::SharedList;
 
 /// Whether a value is the one with that number, or a set that has it.
 fn is_or_has(value: &Value, number: u16) -> bool
@@ -25,10 +26,10 @@ fn is_or_has(value: &Value, number: u16) -> bool
 }
 
 /// Whether a record says so of the feature with that place.
-fn says(fields: &Fields, place: usize, number: u16) -> bool
+fn says(fields: &[(u32, Value)], place: usize, number: u16) -> bool
     ensures { result ≡ spec.says_in (said_at fields.now place) number }
 {
-    for said in fields.as_slice() {
+    for said in fields {
         if said.0 as usize == place {
             return is_or_has(&said.1, number);
         }
@@ -51,7 +52,8 @@ fn row(
 {
     let mut made = List::new(alloc);
     for no in candidates {
-        made.push(says(packed.entry(*no).fields(dim), place, number))?;
+        let fields = packed.entry(*no).fields(dim).as_slice();
+        made.push(says(fields, place, number))?;
     }
     Ok(made)
 }
@@ -61,7 +63,7 @@ fn row(
 pub(crate) fn feat_table(
     alloc: Global,
     packed: &Packed,
-    candidates: &[List<EntryNo>],
+    candidates: &[SharedList<EntryNo>],
     dim: usize,
     place: usize,
     number: u16,

@@ -3,10 +3,9 @@
 ghost use Rattle.std.specs.Prelude.{◌≡◌, ◌≤◌, length, map, IfOk};
 ghost use Rattle.xdg_formula_check.specs.Tables.{used_dims};
 ghost use Rattle.xdg_formula_text.specs.Written.{tree};
-ghost use Rattle.xdg_problem.specs.Claims.{claim};
 ghost use Rattle.xdg_formula_compile.specs.Problems.{IsFor};
 ghost use Rattle.xdg_formula_compile.specs.Right.{IsRight};
-ghost use Rattle.xdg_formula_compile.specs.Says.{Says};
+ghost use Rattle.xdg_formula_compile.specs.Says.{IsMade};
 ghost use Rattle.xdg_formula_compile.specs.Signs.{denies};
 
 use crate::atoms;
@@ -39,7 +38,7 @@ pub(crate) fn formula_of<'a>(
     requires fits { IsFor types.now packed.now problem.now }
     requires right { IsRight (used_dims types.now) (map (λ text. text.now) bound.now) (tree kind.now) }
     requires few { length bound.now ≤ 3 }
-    ensures { IfOk result (λ made. Says types.now packed.now problem.now (map (λ text. text.now) bound.now) (tree kind.now) (claim made)) }
+    ensures { IfOk result (λ made. IsMade types.now packed.now problem.now (map (λ text. text.now) bound.now) (tree kind.now) made) }
 {
     match kind {
         RuleKind::Or(members) => {
@@ -63,7 +62,8 @@ pub(crate) fn formula_of<'a>(
             if !denies(signs) {
                 return Ok(inside);
             }
-            Ok(Formula::Not(Boxed::new(alloc, inside)?))
+            let boxed = Boxed::new(alloc, inside)?;
+            Ok(Formula::Not(boxed))
         }
         RuleKind::Every(name, body) => {
             let scope = bind(alloc, bound, name)?;
@@ -75,7 +75,8 @@ pub(crate) fn formula_of<'a>(
                 scope.as_slice(),
                 &body.get().kind,
             )?;
-            Ok(Formula::Every(bound.len() as u8, Boxed::new(alloc, inside)?))
+            let boxed = Boxed::new(alloc, inside)?;
+            Ok(Formula::Every(bound.len() as u8, boxed))
         }
         RuleKind::Any(name, body) => {
             let scope = bind(alloc, bound, name)?;
@@ -87,7 +88,8 @@ pub(crate) fn formula_of<'a>(
                 scope.as_slice(),
                 &body.get().kind,
             )?;
-            Ok(Formula::Any(bound.len() as u8, Boxed::new(alloc, inside)?))
+            let boxed = Boxed::new(alloc, inside)?;
+            Ok(Formula::Any(bound.len() as u8, boxed))
         }
         RuleKind::Edge {
             dim,

@@ -1,13 +1,11 @@
 //! Where what a rule names stands: dimensions, labels, attributes and features in a table of types, and nodes among the names that are
 //! bound. The time of each is linear in their number.
 
-ghost use Rattle.std.specs.Prelude.{◌≡◌, ◌<◌, ◌≤◌, true, length, map, get_or, All, IsSome};
-ghost use Rattle.xdg_domain.specs.declared.types.Ty.{Ty};
+ghost use Rattle.std.specs.Prelude.{◌≡◌, ◌<◌, ◌≤◌, true, length, map, get_or, All};
 ghost use Rattle.xdg_terms.specs.Faults.{has};
-ghost use Rattle.xdg_terms.specs.Means.{IsAt};
-ghost use Rattle.xdg_types.specs.Table.{IsTable};
-ghost use Rattle.xdg_formula_check.specs.Tables.{dim_named, dims_at, no_dim, type_named, used_dims};
-ghost use Rattle.xdg_formula_compile.specs.Places.{IsDimAt, IsTypeAt};
+ghost use Rattle.xdg_types.specs.Table.{IsTable, firsts};
+ghost use Rattle.xdg_formula_check.specs.Tables.{no_dim, used_dims};
+ghost use Rattle.xdg_formula_compile.specs.Places.{IsPlaceOf, names_at};
 
 use xdg_ast::Name;
 use xdg_base::Text;
@@ -18,7 +16,7 @@ use xdg_types::{DimType, TypeTable};
 pub(crate) fn node_number(bound: &[&str], name: &Name) -> u8
     requires known { has (map (λ text. text.now) bound.now) name.now.text ≡ true }
     requires few { length bound.now ≤ 3 }
-    ensures { IsAt (map (λ text. text.now) bound.now) result name.now.text }
+    ensures { IsPlaceOf (map (λ text. text.now) bound.now) name.now.text result }
 {
     for (place, text) in bound.iter().enumerate() {
         if *text == name.text.as_str() {
@@ -32,7 +30,7 @@ pub(crate) fn node_number(bound: &[&str], name: &Name) -> u8
 pub(crate) fn label_number(labels: &[Text], label: &Name) -> u8
     requires known { has labels.now label.now.text ≡ true }
     requires few { length labels.now ≤ 32 }
-    ensures { IsAt labels.now result label.now.text }
+    ensures { IsPlaceOf labels.now label.now.text result }
 {
     for (place, text) in labels.iter().enumerate() {
         if text.as_str() == label.text.as_str() {
@@ -44,12 +42,13 @@ pub(crate) fn label_number(labels: &[Text], label: &Name) -> u8
 
 /// The place of a dimension among those with these places.
 fn dim_place(dims: &[DimType], used: &[usize], name: &Name) -> usize
-    requires known { IsSome (dim_named (dims_at dims.now used.now) name.now.text) }
+    requires known { has (names_at dims.now used.now) name.now.text ≡ true }
     requires used { All (λ k. k < length dims.now) used.now }
-    ensures { IsDimAt (dims_at dims.now used.now) name.now.text result }
+    ensures { IsPlaceOf (names_at dims.now used.now) name.now.text result }
 {
     for (place, k) in used.iter().enumerate() {
-        if dims[*k].name.as_str() == name.text.as_str() {
+        let dim = &dims[*k];
+        if dim.name.as_str() == name.text.as_str() {
             return place;
         }
     }
@@ -58,8 +57,8 @@ fn dim_place(dims: &[DimType], used: &[usize], name: &Name) -> usize
 
 /// The number of a dimension: its place among the used ones.
 pub(crate) fn dim_number(types: &TypeTable, name: &Name) -> u8
-    requires { IsSome (dim_named (used_dims types.now) name.now.text) }
-    ensures at { IsDimAt (used_dims types.now) name.now.text result }
+    requires { has (names_at types.now.dims types.now.used) name.now.text ≡ true }
+    ensures at { IsPlaceOf (names_at types.now.dims types.now.used) name.now.text result }
     ensures keeps { IsTable types.now }
 {
     dim_place(types.dims(), types.used(), name) as u8
@@ -70,13 +69,14 @@ pub(crate) fn dim_type(types: &TypeTable, number: u8) -> &DimType
     requires { number < length (used_dims types.now) }
     ensures { result.now ≡ get_or (used_dims types.now) number no_dim }
 {
-    &types.dims()[types.used()[usize::from(number)]]
+    let place = types.used()[usize::from(number)];
+    &types.dims()[place]
 }
 
 /// The place of an attribute or a feature.
 pub(crate) fn type_place(all: &[(Text, Ty)], name: &Name) -> usize
-    requires { IsSome (type_named all.now name.now.text) }
-    ensures { (type : Ty) × IsTypeAt all.now name.now.text result type }
+    requires { has (firsts all.now) name.now.text ≡ true }
+    ensures { IsPlaceOf (firsts all.now) name.now.text result }
 {
     for (place, one) in all.iter().enumerate() {
         if one.0.as_str() == name.text.as_str() {

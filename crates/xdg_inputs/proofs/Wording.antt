@@ -11,12 +11,13 @@ use Rattle.xdg_entries.specs.Entries.{IsWordPlace}
 use Rattle.xdg_grammar.specs.Answers.{meaning_of}
 use Rattle.xdg_grammar.specs.Packed.{IsPackedOf}
 use Rattle.xdg_grammar.specs.declared.expanding.Expanded.{Expanded}
-use Rattle.xdg_groups.specs.Grammars.{grammar_of}
+use Rattle.xdg_groups.specs.Grammars.{Grammar, grammar_of}
 use Rattle.xdg_packed.specs.Lexicon.{Lexicon}
 use Rattle.xdg_problem.specs.declared.parts.Parts.{Parts}
 use Rattle.xdg_problem.specs.declared.parts.SentenceWord.{SentenceWord}
 use Rattle.xdg_words.specs.Segments.{words_in}
 use Rattle.xdg_outcomes.specs.Grammars.{with_words}
+use Rattle.xdg_inputs.specs.Made.{IsMade}
 use Rattle.xdg_inputs.specs.Sentences.{IsBadWords, HasWords, AcceptsWords, RejectsWords, StopsWords}
 
 -- ---- one grammar
@@ -91,3 +92,8 @@ module _ (made : Expanded) (lexicon : Lexicon) (packed : IsPackedOf made lexicon
   pub built_stops : (words : List SentenceWord) (result : Result Parts Stop) → words ≡ words_in segment text → IfErr result (IsRefused (grammar_of made.checked lexicon) words) → IfErr result (StopsWords (meaning_of made) segment text)
   built_stops words (Ok parts) are stopped = tt
   built_stops words (Err stop) are stopped = words_stop words stop are stopped
+
+-- what is built is made of words
+pub made_of : (g : Grammar) (words : List SentenceWord) (result : Result Parts Stop) → IfOk result (λ parts. parts ≡ compiled g words) → IfOk result (IsMade g)
+made_of g words (Ok parts) is = record { words = words; is = is }
+made_of g words (Err stop) is = tt

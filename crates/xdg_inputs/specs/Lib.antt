@@ -1,4 +1,5 @@
 pub mod Sentences
 pub mod Analyses
 pub mod Judging
+pub mod Made
 pub mod Outcomes

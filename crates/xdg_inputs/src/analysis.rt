@@ -7,6 +7,7 @@ ghost use Rattle.xdg_grammar.specs.Packed.{IsPackedOf};
 ghost use Rattle.xdg_groups.specs.Grammars.{grammar_of};
 ghost use Rattle.xdg_inputs.specs.Analyses.{Analysed, HasAnalysis, HasBadAnalysis};
 ghost use Rattle.xdg_inputs.specs.Judging.{IsJudged, IsNotJudged, analysed_of, of_words};
+ghost use Rattle.xdg_inputs.specs.Made.{IsMade};
 ghost use Rattle.xdg_io.specs.Rose.{Rose};
 ghost use Rattle.xdg_outcomes.specs.Refusals.{Stops};
 ghost use Rattle.xdg_outcomes.specs.Stages.{Accepts};
@@ -97,6 +98,7 @@ pub fn load_analysis<H: Shelf>(
     requires packed { IsPackedOf expanded.now packed.now }
     ensures found { IfOk result (λ judgeable. (files : List ℕ → Option (List ℕ)) → H.files shelf.old ≡ Some files → Accepts Analysed (HasBadAnalysis files name.now (meaning_of expanded.now)) (HasAnalysis files name.now (meaning_of expanded.now)) (analysed_of judgeable)) }
     ensures fits { IfOk result (λ judgeable. IsAnalysis judgeable.problem judgeable.analysis) }
+    ensures made { IfOk result (λ judgeable. IsMade (grammar_of expanded.now.checked packed.now) judgeable.problem) }
     ensures refused { IfErr result (λ refusal. (files : List ℕ → Option (List ℕ)) → Stops (H.files shelf.old ≡ Some files) (H.faults shelf.old name.now) (H.faults shelf.new name.now) Analysed (HasBadAnalysis files name.now (meaning_of expanded.now)) (HasAnalysis files name.now (meaning_of expanded.now)) refusal) }
     ensures failed { IfErr result (λ refusal. refusal ≡ Refusal.Read → Rose (H.faults shelf.old name.now) (H.faults shelf.new name.now)) }
     ensures kept { H.files shelf.new ≡ H.files shelf.old }

@@ -4,6 +4,8 @@ ghost use Rattle.std.specs.Prelude.{◌≡◌, ◌≢◌, ◌≤◌, ℕ, List, 
 ghost use Rattle.xdg_entries.specs.Entries.{IsRightLexicon};
 ghost use Rattle.xdg_grammar.specs.Answers.{meaning_of};
 ghost use Rattle.xdg_grammar.specs.Packed.{IsPackedOf};
+ghost use Rattle.xdg_groups.specs.Grammars.{grammar_of};
+ghost use Rattle.xdg_inputs.specs.Made.{IsMade};
 ghost use Rattle.xdg_inputs.specs.Sentences.{HasProblem, IsBadSentence};
 ghost use Rattle.xdg_io.specs.Rose.{Rose};
 ghost use Rattle.xdg_outcomes.specs.Places.{fault, place_in};
@@ -51,6 +53,7 @@ pub fn problem_in(
     requires packed { IsPackedOf expanded.now packed.now }
     ensures found { IfOk result (Accepts declared.Parts (IsBadSentence (meaning_of expanded.now) segment input.now) (HasProblem (meaning_of expanded.now) segment input.now)) }
     ensures refused { IfErr result (Stops (Unit {0}) 0 0 declared.Parts (IsBadSentence (meaning_of expanded.now) segment input.now) (HasProblem (meaning_of expanded.now) segment input.now)) }
+    ensures made { IfOk result (IsMade (grammar_of expanded.now.checked packed.now)) }
 {
     let text = match str::from_utf8(input) {
         Ok(text) => text,
@@ -74,6 +77,7 @@ pub fn read_problem<S: Source>(
     requires packed { IsPackedOf expanded.now packed.now }
     ensures found { IfOk result (λ problem. (input : List ℕ) → S.left source.old ≡ Some input → Accepts declared.Parts (IsBadSentence (meaning_of expanded.now) segment input) (HasProblem (meaning_of expanded.now) segment input) problem) }
     ensures refused { IfErr result (λ refusal. (input : List ℕ) → Stops (S.left source.old ≡ Some input) (S.faults source.old) (S.faults source.new) declared.Parts (IsBadSentence (meaning_of expanded.now) segment input) (HasProblem (meaning_of expanded.now) segment input) refusal) }
+    ensures made { IfOk result (IsMade (grammar_of expanded.now.checked packed.now)) }
     ensures failed { IfErr result (λ refusal. refusal ≡ Refusal.Read → Rose (S.faults source.old) (S.faults source.new)) }
     ensures all { IfOk result (λ problem. (input : List ℕ) → S.left source.old ≡ Some input → S.left source.new ≡ Some []) }
     ensures lasting { S.faults source.old ≤ S.faults source.new }

@@ -8,6 +8,7 @@ ghost use Rattle.xdg_entries.specs.Entries.{IsRightLexicon};
 ghost use Rattle.xdg_grammar.specs.Answers.{meaning_of};
 ghost use Rattle.xdg_grammar.specs.Packed.{IsPackedOf};
 ghost use Rattle.xdg_groups.specs.Grammars.{grammar_of};
+ghost use Rattle.xdg_inputs.specs.Made.{IsMade};
 ghost use Rattle.xdg_inputs.specs.Sentences.{AcceptsWords, StopsWords};
 
 use std::alloc::Global;
@@ -32,6 +33,7 @@ pub fn problem_of(
     requires packed { IsPackedOf expanded.now packed.now }
     ensures found { IfOk result (AcceptsWords (meaning_of expanded.now) segment text.now) }
     ensures refused { IfErr result (StopsWords (meaning_of expanded.now) segment text.now) }
+    ensures made { IfOk result (IsMade (grammar_of expanded.now.checked packed.now)) }
 {
     let Ok(words) = words_of(alloc, text, segment) else {
         return Err(Stop::OutOfMemory);

@@ -9,6 +9,7 @@ ghost use Rattle.xdg_reach.specs.Edges.{edge_labels};
 ghost use Rattle.xdg_plink.specs.Steps.{AreLabelsDone, AreMothersDone, AreNodesDone, DoneAt, IsAtLabel, IsAtNode, IsAtPlace, IsReady};
 
 use crate::cutting::cut;
+use crate::neighbours::may_daughters;
 use crate::parting::part;
 use xdg_base::{LabelId, NodeId};
 use xdg_nodeset::NodeSet;
@@ -74,7 +75,11 @@ fn take_label(
     requires { IsAtLabel group.now table.now u.0 label.0 store.old }
     ensures { Sweeps group.now (AreNodesDone store.old.parts group.now table.now u.0 label.0 (nodes store.old.parts)) pass.old store.old pass.new store.new }
 {
+    let daughters = may_daughters(store, dim_of(group, 0), u, u16::from(label.0));
     for v in 0..node_count(store) {
+        if !daughters.contains(NodeId(v)) {
+            continue;
+        }
         take_at(store, pass, group, table, u, label, NodeId(v));
     }
 }

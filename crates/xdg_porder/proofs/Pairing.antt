@@ -74,7 +74,7 @@ module _ (group : Group) (u l m : ℕ) (s : State) (at : IsAtNode group u s) whe
   must_of label v is must = (must_exact s.parts s.now (first_dim group) (edge_to group u label v) known_is.is_box).1 ((place_is s.parts (edge_to group u label v) is, refl), must)
 
   -- the node itself goes, as an item
-  own_goes : (w : ℕ) → MustStand s.parts group s.now u m w → IsWrong group l m u w → Has s.now (attr_of_node s.parts group 0 u) l → Takes s.parts group s.now (attr_of_node s.parts group 0 u) l
+  pub own_goes : (w : ℕ) → MustStand s.parts group s.now u m w → IsWrong group l m u w → Has s.now (attr_of_node s.parts group 0 u) l → Takes s.parts group s.now (attr_of_node s.parts group 0 u) l
   own_goes w must wrong own = elim must [
     | inl (here, (has, only)) ↦ absurd (differ u w wrong (only l own))
     | inr (is, must) ↦ takes_by (attr_of_node s.parts group 0 u) l (inr (inr (record {
@@ -89,7 +89,7 @@ module _ (group : Group) (u l m : ℕ) (s : State) (at : IsAtNode group u s) whe
   ]
 
   -- a daughter goes
-  edge_goes : (v w : ℕ) → IsPlace s.parts (edge_to group u l v) → MustStand s.parts group s.now u m w → IsWrong group l m v w → Takes s.parts group s.now (edge_decision s.parts (edge_to group u l v)) 0
+  pub edge_goes : (v w : ℕ) → IsPlace s.parts (edge_to group u l v) → MustStand s.parts group s.now u m w → IsWrong group l m v w → Takes s.parts group s.now (edge_decision s.parts (edge_to group u l v)) 0
   edge_goes v w is must wrong = elim must [
     | inl (here, (has, only)) ↦ takes_by (edge_decision s.parts (edge_to group u l v)) 0 (inr (inl (record {
       place = edge_to group u l v;

@@ -75,6 +75,10 @@ AreEarlierDone parts group u k box = (i : ℕ) → i < k → AreLaterDone parts 
 abbrev pub AreMothersDone : Parts → Group → ℕ → List (List Bool) → Type 0
 AreMothersDone parts group k box = (u : ℕ) → u < k → AreEarlierDone parts group u (length group.order) box
 
+-- nothing at the nodes outside a set
+abbrev pub AreOthersDone : List ℕ → Parts → Group → List (List Bool) → Type 0
+AreOthersDone set parts group box = (u : ℕ) → u < nodes parts → (has set u ≡ true → ⊥) → AreEarlierDone parts group u (length group.order) box
+
 -- of the edges from u with a label those to the nodes of a set may be no more
 abbrev pub NoneFollow : Parts → Group → ℕ → ℕ → List ℕ → List (List Bool) → Type 0
 NoneFollow parts group u label set box = (v : ℕ) → has set v ≡ true → May parts box (edge_to group u label v) → ⊥

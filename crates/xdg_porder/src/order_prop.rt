@@ -2,7 +2,11 @@
 
 ghost use Rattle.std.specs.Prelude.{◌≡◌, ◌<◌, ◌+◌, ◌-◌, ◌^◌, ◌↔◌, ℕ, Bool, List, IfOk, length, min};
 ghost use Rattle.xdg_problem.specs.Arguments.{first_dim};
-ghost use Rattle.xdg_propcore.specs.Uses.{IsClosedBy, StandsFor, use_at};
+ghost use Rattle.xdg_store.specs.States.{Known};
+ghost use Rattle.xdg_propcore.specs.Standing.{Held, HeldIf};
+ghost use Rattle.xdg_propcore.specs.Steps.{Extends, Keeps, Moves};
+ghost use Rattle.xdg_propcore.specs.Uses.{IsClosedBy, StandsFor, StandsIn, use_at};
+ghost use Rattle.xdg_propcore.specs.declared.moved.Moved.TheVariants as moves;
 ghost use Rattle.xdg_porder.specs.Family.{HasKinds, IsOfFamily};
 ghost use Rattle.xdg_porder.specs.Standing.{stands_for};
 ghost use Rattle.xdg_porder.specs.Staying.{stays_still};
@@ -12,7 +16,7 @@ use crate::sweep::take_all;
 use xdg_base::OutOfMemory;
 use xdg_problem::{Group, Problem};
 use xdg_propcore::{Moved, Pass, Propagator, Wake};
-use xdg_store::Store;
+use xdg_store::{Mark, Store};
 use xdg_uses::dim_of;
 
 /// The propagator of a use of order or projectivity.
@@ -49,6 +53,25 @@ impl OrderProp {
             wakes: wakes_of(&parts.groups.as_slice()[group]),
         })
     }
+
+    /// Takes a step, where it was still at a mark, if there is one.
+    fn take_step(&self, store: &mut Store, since: Option<Mark>) -> Moved
+        requires stands { StandsIn (stands_for self.now) store.old.parts }
+        requires held { HeldIf (λ parts box. IsClosedBy (stands_for self.now) parts box) store.old since }
+        ensures extends { Extends store.old store.new }
+        ensures keeps { Keeps (stands_for self.now) result store.old store.new }
+        ensures same { (result ≡ moves.Same) ↔ IsClosedBy (stands_for self.now) store.old.parts store.old.now }
+        ensures moves { Moves result store.old store.new }
+        ensures turns { store.new.turns ≡ min (store.old.turns + 1) (2 ^ 64 - 1) }
+        ensures known { Known store.new }
+    {
+        store.turn();
+        let problem = store.problem();
+        let group = &problem.parts().groups.as_slice()[self.number];
+        let mut pass = Pass::start();
+        take_all(store, &mut pass, group, &since);
+        pass.moved()
+    }
 }
 
 impl Propagator for OrderProp {
@@ -63,12 +86,11 @@ impl Propagator for OrderProp {
     }
 
     fn step(&self, store: &mut Store) -> Moved {
-        store.turn();
-        let problem = store.problem();
-        let group = &problem.parts().groups.as_slice()[self.number];
-        let mut pass = Pass::start();
-        take_all(store, &mut pass, group);
-        pass.moved()
+        self.take_step(store, None)
+    }
+
+    fn step_since(&self, store: &mut Store, since: Mark) -> Moved {
+        self.take_step(store, Some(since))
     }
 
     ghost still_closed = { λ p parts box problem is still. still };

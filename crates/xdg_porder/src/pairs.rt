@@ -1,15 +1,17 @@
 //! What order takes, pair of labels by pair of labels.
 
-ghost use Rattle.std.specs.Prelude.{◌≡◌, ◌<◌, ◌+◌, length};
+ghost use Rattle.std.specs.Prelude.{◌<◌, ◌+◌, length};
 ghost use Rattle.xdg_problem.specs.Places.{nodes};
+ghost use Rattle.xdg_propcore.specs.Passes.{IsQuiet};
 ghost use Rattle.xdg_propcore.specs.Sweeps.{Sweeps};
-ghost use Rattle.xdg_porder.specs.Items.{AreEarlierDone, AreLaterDone, AreMothersDone, IsAtNode, IsAtPair, IsLeftDone, IsOrdering, IsPairDone, IsRightDone};
+ghost use Rattle.xdg_porder.specs.Items.{AreEarlierDone, AreLaterDone, AreMothersDone, AreOthersDone, IsAtNode, IsAtPair, IsLeftDone, IsOrdering, IsPairDone, IsRightDone};
 
 use crate::items::{may_items, must_items};
 use crate::reads::label_at;
-use crate::sets::{at_or_left, at_or_right};
+use crate::sets::{at_or_left, at_or_right, is_empty};
 use crate::taking::take_items;
 use xdg_base::{LabelId, NodeId};
+use xdg_nodeset::NodeSet;
 use xdg_problem::Group;
 use xdg_propcore::Pass;
 use xdg_reach::node_count;
@@ -28,6 +30,9 @@ fn take_left(
     ensures { Sweeps group.now (IsLeftDone store.old.parts group.now u.0 earlier.0 later.0) pass.old store.old pass.new store.new }
 {
     let ends = must_items(store, group, u, earlier);
+    if is_empty(ends) {
+        return;
+    }
     let refused = at_or_left(may_items(store, group, u, later), ends);
     take_items(store, pass, group, u, later, refused);
 }
@@ -45,6 +50,9 @@ fn take_right(
     ensures { Sweeps group.now (IsRightDone store.old.parts group.now u.0 earlier.0 later.0) pass.old store.old pass.new store.new }
 {
     let ends = must_items(store, group, u, later);
+    if is_empty(ends) {
+        return;
+    }
     let refused = at_or_right(may_items(store, group, u, earlier), ends);
     take_items(store, pass, group, u, earlier, refused);
 }
@@ -88,12 +96,16 @@ fn take_node(store: &mut Store, pass: &mut Pass, group: &Group, u: NodeId)
     }
 }
 
-/// Takes what order takes at all nodes.
-pub(crate) fn take_nodes(store: &mut Store, pass: &mut Pass, group: &Group)
-    requires { IsOrdering group.now store.old }
+/// Takes what order takes at the nodes of a set, where nothing is left to take at the others.
+pub(crate) fn take_nodes(store: &mut Store, pass: &mut Pass, group: &Group, touched: NodeSet)
+    requires at { IsOrdering group.now store.old }
+    requires others { IsQuiet pass.old → AreOthersDone touched store.old.parts group.now store.old.now }
     ensures { Sweeps group.now (AreMothersDone store.old.parts group.now (nodes store.old.parts)) pass.old store.old pass.new store.new }
 {
     for u in 0..node_count(store) {
+        if !touched.contains(NodeId(u)) {
+            continue;
+        }
         take_node(store, pass, group, NodeId(u));
     }
 }

@@ -3,19 +3,21 @@
 ghost use Rattle.std.specs.Prelude.{◌≡◌, true};
 ghost use Rattle.xdg_problem.specs.declared.parts.Principle.TheVariants as principles;
 ghost use Rattle.xdg_rules.specs.Rules.{FailsTest, IsClosedFor};
+ghost use Rattle.xdg_propcore.specs.Standing.{HeldIf};
 ghost use Rattle.xdg_propcore.specs.Sweeps.{Sweeps};
 ghost use Rattle.xdg_problem.specs.Arguments.{truth_of};
 ghost use Rattle.xdg_porder.specs.Family.{IsOfFamily};
-ghost use Rattle.xdg_porder.specs.Items.{IsOrdering, IsReady};
+ghost use Rattle.xdg_porder.specs.Items.{AreOthersDone, IsOrdering, IsReady};
 
 use crate::across::take_across;
 use crate::failing::fails_test;
 use crate::pairs::take_nodes;
 use crate::reads::is_order;
+use xdg_nodeset::NodeSet;
 use xdg_problem::Group;
-use xdg_propcore::Pass;
+use xdg_propcore::{Pass, Touched};
 use xdg_reach::{Which, above};
-use xdg_store::Store;
+use xdg_store::{Mark, Store};
 use xdg_uses::{dim_of, truth_of};
 
 /// Takes all, where yields are taken along and a test is decided and fails.
@@ -32,12 +34,29 @@ fn take_failing(store: &mut Store, pass: &mut Pass, group: &Group)
     pass.fail(store);
 }
 
+/// The nodes at which order may have something to take, where it was still at a mark, if there is one.
+fn touched_since(store: &Store, group: &Group, since: &Option<Mark>) -> NodeSet
+    requires at { IsOrdering group.now store.now }
+    requires held { HeldIf (λ parts box. IsClosedFor parts group.now box) store.now since.now }
+    ensures { AreOthersDone result store.now.parts group.now store.now.now }
+{
+    match *since {
+        Some(mark) => {
+            let touched = Touched::since(store, mark, dim_of(group, 0));
+            touched.mothers.union(&touched.attrs)
+        }
+        None => Touched::all().mothers,
+    }
+}
+
 /// Takes what an order takes.
-fn take_order(store: &mut Store, pass: &mut Pass, group: &Group)
-    requires { IsOrdering group.now store.old }
+fn take_order(store: &mut Store, pass: &mut Pass, group: &Group, since: &Option<Mark>)
+    requires at { IsOrdering group.now store.old }
+    requires held { HeldIf (λ parts box. IsClosedFor parts group.now box) store.old since.now }
     ensures { Sweeps group.now (IsClosedFor store.old.parts group.now) pass.old store.old pass.new store.new }
 {
-    take_nodes(store, pass, group);
+    let touched = touched_since(store, group, since);
+    take_nodes(store, pass, group, touched);
     take_failing(store, pass, group);
 }
 
@@ -51,14 +70,15 @@ fn take_projective(store: &mut Store, pass: &mut Pass, group: &Group)
     take_across(store, pass, group, &table);
 }
 
-/// Takes what a principle use of the family takes.
-pub(crate) fn take_all(store: &mut Store, pass: &mut Pass, group: &Group)
+/// Takes what a principle use of the family takes, which was still at a mark, if there is one.
+pub(crate) fn take_all(store: &mut Store, pass: &mut Pass, group: &Group, since: &Option<Mark>)
     requires ready { IsReady group.now store.old }
     requires family { IsOfFamily group.now.principle }
+    requires held { HeldIf (λ parts box. IsClosedFor parts group.now box) store.old since.now }
     ensures { Sweeps group.now (IsClosedFor store.old.parts group.now) pass.old store.old pass.new store.new }
 {
     if is_order(group) {
-        take_order(store, pass, group);
+        take_order(store, pass, group, since);
         return;
     }
     take_projective(store, pass, group);

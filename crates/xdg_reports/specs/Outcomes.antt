@@ -2,10 +2,15 @@
 use Rattle.std.specs.Prelude.{◌≡◌, ℕ, List, [], ◌∷◌, length, codes, decimal}
 use Rattle.xdg_ast.specs.Canon.{canon}
 use Rattle.xdg_classes.specs.Definitions.{classes}
+use Rattle.xdg_command.specs.declared.commands.ExplainOptions.{ExplainOptions}
+use Rattle.xdg_formula_text.specs.declared.tree.Rules.{Rules}
 use Rattle.xdg_grammar.specs.Meanings.{Meaning}
 use Rattle.xdg_judge.specs.declared.verdict.Verdict.{Verdict}
 use Rattle.xdg_judge.specs.Verdicts.{AreVerdicts}
 use Rattle.xdg_lexicon_text.specs.LexiconText.{lexicon_text}
+use Rattle.xdg_problem.specs.declared.analysis.Analysis.{Analysis}
+use Rattle.xdg_problem.specs.declared.parts.Parts.{Parts}
+use Rattle.xdg_ruled.specs.Outcomes.{RulesThen, WithRules}
 use Rattle.xdg_text.specs.Lines.{line}
 use Rattle.xdg_verdict_text.specs.VerdictsText.{verdicts_text}
 use Rattle.xdg_outcomes.specs.Outcomes.{Files, ReadThen, GrammarThen, IsDone}
@@ -17,15 +22,23 @@ use Rattle.xdg_inputs.specs.Outcomes.{AnalysisThen}
 
 -- ---- `explain`
 
--- the verdicts on an analysis of a file
-pub record Judged (analysed : Analysed) (status : Status) (text : List ℕ) : Type 0 where
+-- the verdicts on an analysis of a problem, whose last uses are these rules
+pub record Judged (rules : Rules) (analysis : Analysis) (parts : Parts) (status : Status) (text : List ℕ) : Type 0 where
   pub done : status ≡ statuses.Done
   pub verdicts : List Verdict
-  pub are : AreVerdicts analysed.parts analysed.analysis analysed.parts.groups verdicts
-  pub text_is : text ≡ verdicts_text analysed.parts verdicts
+  pub are : AreVerdicts parts analysis parts.groups verdicts
+  pub text_is : text ≡ verdicts_text parts rules.rules verdicts
 
-abbrev pub ExplainOf : List ℕ → List ℕ → Files → Status → List ℕ → Type 0
-ExplainOf grammar analysis files = GrammarThen files grammar (λ read. AnalysisThen files analysis Judged)
+-- the analysis of a file is judged, and the rules with the uses of its problem
+abbrev pub Explained : Rules → Meaning → Analysed → Status → List ℕ → Type 0
+Explained rules m analysed = WithRules m rules.rules analysed.parts (Judged rules analysed.analysis)
+
+-- a file has an analysis, which is judged
+abbrev pub ExplainThen : ExplainOptions → Files → Rules → Meaning → Status → List ℕ → Type 0
+ExplainThen options files rules m = AnalysisThen files options.analysis (Explained rules m) m
+
+abbrev pub ExplainOf : ExplainOptions → Files → Status → List ℕ → Type 0
+ExplainOf options files = GrammarThen files options.grammar (λ read. RulesThen files options.rules (ExplainThen options files))
 
 -- ---- `check`, `lexicon` and `print`
 

@@ -6,7 +6,6 @@ abbrev pub ExplainEnds : Status → Type 0
 ExplainEnds statuses.Usage = ⊥
 ExplainEnds statuses.BadSentence = ⊥
 ExplainEnds statuses.Spent = ⊥
-ExplainEnds statuses.BadRules = ⊥
 ExplainEnds statuses.BadCosts = ⊥
 ExplainEnds status = Unit {0}
 

@@ -10,11 +10,14 @@ use Rattle.xdg_command.specs.declared.commands.TextForm.{TextForm}
 use Rattle.xdg_command.specs.declared.commands.TextForm.TheVariants as texts
 use Rattle.xdg_counts.specs.Counted.{AreCounts}
 use Rattle.xdg_counts.specs.declared.counting.Counts.{Counts}
+use Rattle.xdg_formula_text.specs.declared.tree.Rules.{Rules}
 use Rattle.xdg_drill.specs.Generated.{grammar_text, sentence_text}
 use Rattle.xdg_grammar.specs.Meanings.{Meaning}
 use Rattle.xdg_listing.specs.declared.Ending.{Ending}
 use Rattle.xdg_listing.specs.declared.Ending.TheVariants as endings
+use Rattle.xdg_problem.specs.declared.analysis.Analysis.{Analysis}
 use Rattle.xdg_problem.specs.declared.parts.Parts.{Parts}
+use Rattle.xdg_ruled.specs.Outcomes.{RulesThen, WithRules}
 use Rattle.xdg_problem.specs.Vectors.{vector}
 use Rattle.xdg_text.specs.Lines.{line}
 use Rattle.xdg_outcomes.specs.Outcomes.{Files, GrammarThen}
@@ -57,19 +60,27 @@ ParsedBy false options parts = Searched (form_of options.text) options.budget op
 abbrev pub Parsed : ParseOptions → Parts → Status → List ℕ → Type 0
 Parsed options parts = ParsedBy options.split options parts
 
--- the search of the problem of an analysis, from behind the analysis on
-abbrev pub Resumed : ResumeOptions → Analysed → Status → List ℕ → Type 0
-Resumed options analysed = Searched (form_of options.text) options.budget options.first analysed.parts (vector analysed.parts analysed.analysis)
+-- the search of a problem from behind an analysis of it on
+abbrev pub SearchedBehind : ResumeOptions → Analysis → Parts → Status → List ℕ → Type 0
+SearchedBehind options analysis parts = Searched (form_of options.text) options.budget options.first parts (vector parts analysis)
 
--- the input is a sentence, and its problem is searched
-abbrev pub SentenceThen : ParseOptions → List ℕ → Meaning → Status → List ℕ → Type 0
-SentenceThen options input m = Behind Parts statuses.BadSentence (IsBadSentence m options.segment input) (HasProblem m options.segment input) (Parsed options)
+-- the search of the problem of an analysis with rules, from behind the analysis on
+abbrev pub Resumed : ResumeOptions → Rules → Meaning → Analysed → Status → List ℕ → Type 0
+Resumed options rules m analysed = WithRules m rules.rules analysed.parts (SearchedBehind options analysed.analysis)
+
+-- the input is a sentence, and its problem with rules is searched
+abbrev pub SentenceThen : ParseOptions → List ℕ → Rules → Meaning → Status → List ℕ → Type 0
+SentenceThen options input rules m = Behind Parts statuses.BadSentence (IsBadSentence m options.segment input) (HasProblem m options.segment input) (λ parts. WithRules m rules.rules parts (Parsed options))
+
+-- a file has an analysis, and its problem with rules is searched
+abbrev pub ResumeThen : ResumeOptions → Files → Rules → Meaning → Status → List ℕ → Type 0
+ResumeThen options files rules m = AnalysisThen files options.analysis (Resumed options rules m) m
 
 abbrev pub ParseOf : ParseOptions → Files → List ℕ → Status → List ℕ → Type 0
-ParseOf options files input = GrammarThen files options.grammar (λ read. SentenceThen options input)
+ParseOf options files input = GrammarThen files options.grammar (λ read. RulesThen files options.rules (SentenceThen options input))
 
 abbrev pub ResumeOf : ResumeOptions → Files → Status → List ℕ → Type 0
-ResumeOf options files = GrammarThen files options.grammar (λ read. AnalysisThen files options.analysis (Resumed options))
+ResumeOf options files = GrammarThen files options.grammar (λ read. RulesThen files options.rules (ResumeThen options files))
 
 -- ---- `drill`
 

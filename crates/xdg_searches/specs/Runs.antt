@@ -5,14 +5,12 @@ use Rattle.xdg_outcomes.specs.declared.status.Status.{Status}
 abbrev pub ParseEnds : Status → Type 0
 ParseEnds statuses.Usage = ⊥
 ParseEnds statuses.BadAnalysis = ⊥
-ParseEnds statuses.BadRules = ⊥
 ParseEnds statuses.BadCosts = ⊥
 ParseEnds status = Unit {0}
 
 abbrev pub ResumeEnds : Status → Type 0
 ResumeEnds statuses.Usage = ⊥
 ResumeEnds statuses.BadSentence = ⊥
-ResumeEnds statuses.BadRules = ⊥
 ResumeEnds statuses.BadCosts = ⊥
 ResumeEnds status = Unit {0}
 

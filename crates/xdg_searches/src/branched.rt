@@ -6,7 +6,7 @@ ghost use Rattle.xdg_io.specs.Rose.{Rose};
 ghost use Rattle.xdg_outcomes.specs.Runs.{Leaves};
 ghost use Rattle.xdg_searches.specs.Outcomes.{SearchedBranches, form_of};
 
-use crate::parse::form_of;
+use crate::printing::form_of;
 use std::alloc::Global;
 use std::thread::Threads;
 use xdg_analyses::Printed;

@@ -4,6 +4,7 @@
 mod branched;
 mod drilling;
 mod parse;
+mod printing;
 mod resume;
 
 pub use drilling::drill;

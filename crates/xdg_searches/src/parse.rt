@@ -1,117 +1,76 @@
 //! The command `parse`.
 
 ghost use Rattle.std.specs.Prelude.{◌≡◌, ◌≢◌, ◌≤◌, ◌⊎◌, ℕ, List, [], Option, Some, length};
-ghost use Rattle.std.specs.Option.{option_copied};
-ghost use Rattle.xdg_analyses.specs.Written.{IsSome};
 ghost use Rattle.xdg_branches.specs.Branched.{CanBranch};
 ghost use Rattle.xdg_entries.specs.Entries.{IsRightLexicon};
 ghost use Rattle.xdg_grammar.specs.Answers.{meaning_of};
+ghost use Rattle.xdg_grammar.specs.Packed.{IsPackedOf};
+ghost use Rattle.xdg_groups.specs.Grammars.{grammar_of};
+ghost use Rattle.xdg_inputs.specs.Made.{IsMade};
 ghost use Rattle.xdg_io.specs.Rose.{Rose};
 ghost use Rattle.xdg_outcomes.specs.Loaded.{read_of};
 ghost use Rattle.xdg_outcomes.specs.Outcomes.{MeaningThen};
 ghost use Rattle.xdg_outcomes.specs.Runs.{Leaves, Wrote};
-ghost use Rattle.xdg_searches.specs.Outcomes.{ParseOf, Parsed, Searched, SentenceThen, form_of};
+ghost use Rattle.xdg_ruled.specs.Files.{AreRight, RoseFor};
+ghost use Rattle.xdg_ruled.specs.Outcomes.{RulesThen, WithRules};
+ghost use Rattle.xdg_searches.specs.Outcomes.{ParseOf, Parsed, SentenceThen};
 ghost use Rattle.xdg_searches.specs.Runs.{ParseEnds};
-ghost use Rattle.xdg_stream.specs.Streamed.{IsStart, start_vector};
 
-use crate::branched::search_branches;
 use std::alloc::Global;
 use std::thread::Threads;
-use xdg_analyses::{Form, Printed, print_analyses};
 use xdg_base::OutOfMemory;
-use xdg_command::{ParseOptions, TextForm};
-use xdg_engine::props;
+use xdg_command::ParseOptions;
+use xdg_formula_text::Rules;
 use xdg_grammar::{Expanded, expand_tree, pack_entries};
 use xdg_inputs::read_problem;
 use xdg_io::{Shelf, Sink, Source};
-use xdg_listing::Ending;
 use xdg_outcomes::{Loaded, Status, load_tree, refuse, stopped_in};
-use xdg_problem::{Analysis, Problem};
+use xdg_packed::Packed;
+use xdg_problem::Problem;
+use xdg_ruled::{add_rules, load_rules};
 
-/// The form in which analyses are printed.
-pub(crate) fn form_of(text: TextForm) -> Form
-    ensures { result ≡ form_of text }
-{
-    match text {
-        TextForm::One => Form::One,
-        TextForm::Two => Form::Two,
-    }
-}
-
-/// Makes the propagators of a sentence, and prints its analyses from behind a given one on, or from the first of all.
-pub fn search<K: Sink>(
-    alloc: Global,
-    problem: &Problem,
-    after: Option<&Analysis>,
-    budget: u64,
-    first: Option<u64>,
-    text: TextForm,
-    out: &mut K,
-) -> Status
-    requires fits { IsStart problem.now (option_copied after) }
-    requires some { IsSome first }
-    ensures leaves { Leaves (Searched (form_of text) budget first problem.now (start_vector problem.now (option_copied after.entry))) result (K.held out.old) (K.held out.new) }
-    ensures write_fault { result ≡ Status.WriteFault → Rose (K.faults out.old) (K.faults out.new) }
-    ensures out_lasting { K.faults out.old ≤ K.faults out.new }
-    ensures out_quiet { result ≢ Status.WriteFault → K.faults out.new ≡ K.faults out.old }
-    ensures ends { (result ≡ Status.Done) ⊎ ((result ≡ Status.Spent) ⊎ ((result ≡ Status.WriteFault) ⊎ (result ≡ Status.OutOfMemory))) }
-{
-    let form = form_of(text);
-    let Ok(propagators) = props(alloc, problem) else {
-        return Status::OutOfMemory;
-    };
-    match print_analyses(
-        alloc,
-        problem,
-        propagators.as_slice(),
-        budget,
-        after,
-        first,
-        form,
-        out,
-    ) {
-        Printed::Ended(Ending::Complete) => Status::Done,
-        Printed::Ended(Ending::First) => Status::Done,
-        Printed::Ended(Ending::Spent) => Status::Spent,
-        Printed::Failed => Status::WriteFault,
-        Printed::OutOfMemory => Status::OutOfMemory,
-    }
-}
-
-/// Prints the analyses of a sentence from the first of all on, searched as is asked.
-fn search_asked<R: Threads + Sync, K: Sink>(
-    rt: &R,
-    alloc: Global,
-    options: &ParseOptions,
-    problem: &Problem,
-    out: &mut K,
-) -> Status
-    requires range { CanBranch options.now.budget options.now.first }
-    ensures leaves { Leaves (Parsed options.now problem.now) result (K.held out.old) (K.held out.new) }
-    ensures write_fault { result ≡ Status.WriteFault → Rose (K.faults out.old) (K.faults out.new) }
-    ensures out_lasting { K.faults out.old ≤ K.faults out.new }
-    ensures out_quiet { result ≢ Status.WriteFault → K.faults out.new ≡ K.faults out.old }
-    ensures ends { (result ≡ Status.Done) ⊎ ((result ≡ Status.Spent) ⊎ ((result ≡ Status.WriteFault) ⊎ (result ≡ Status.OutOfMemory))) }
-{
-    let (budget, first, text) = (options.budget, options.first, options.text);
-    if options.split {
-        return search_branches(rt, alloc, problem, budget, first, text, out);
-    }
-    search(alloc, problem, None, budget, first, text, out)
-}
-
-/// Reads a sentence of a grammar and prints its analyses, or the fault line of what is refused.
-fn parse_expanded<R: Threads + Sync, S: Source, K: Sink>(
+/// Prints the analyses of a sentence in which rules are true.
+fn parse_problem<R: Threads + Sync, K: Sink>(
     rt: &R,
     alloc: Global,
     options: &ParseOptions,
     expanded: &Expanded,
+    packed: &Packed,
+    rules: &Rules,
+    problem: Problem,
+    out: &mut K,
+) -> Status
+    requires lexicon { IsRightLexicon expanded.now.checked.types expanded.now.entries }
+    requires packed { IsPackedOf expanded.now packed.now }
+    requires right { AreRight expanded.now.checked.types rules.now }
+    requires made { IsMade (grammar_of expanded.now.checked packed.now) problem }
+    requires range { CanBranch options.now.budget options.now.first }
+    ensures leaves { Leaves (WithRules (meaning_of expanded.now) rules.now.rules problem (Parsed options.now)) result (K.held out.old) (K.held out.new) }
+    ensures write_fault { result ≡ Status.WriteFault → Rose (K.faults out.old) (K.faults out.new) }
+    ensures out_lasting { K.faults out.old ≤ K.faults out.new }
+    ensures out_quiet { result ≢ Status.WriteFault → K.faults out.new ≡ K.faults out.old }
+    ensures ends { (result ≡ Status.Done) ⊎ ((result ≡ Status.Spent) ⊎ ((result ≡ Status.WriteFault) ⊎ (result ≡ Status.OutOfMemory))) }
+{
+    match add_rules(alloc, expanded, packed, rules, problem) {
+        Ok(ruled) => search_asked(rt, alloc, options, &ruled, out),
+        Err(OutOfMemory) => Status::OutOfMemory,
+    }
+}
+
+/// Reads a sentence of a grammar and prints its analyses in which rules are true, or the fault line of what is refused.
+fn parse_ruled<R: Threads + Sync, S: Source, K: Sink>(
+    rt: &R,
+    alloc: Global,
+    options: &ParseOptions,
+    expanded: &Expanded,
+    rules: &Rules,
     input: &mut S,
     out: &mut K,
 ) -> Status
     requires lexicon { IsRightLexicon expanded.now.checked.types expanded.now.entries }
+    requires right { AreRight expanded.now.checked.types rules.now }
     requires range { CanBranch options.now.budget options.now.first }
-    ensures leaves { (content : List ℕ) → S.left input.old ≡ Some content → Leaves (SentenceThen options.now content (meaning_of expanded.now)) result (K.held out.old) (K.held out.new) }
+    ensures leaves { (content : List ℕ) → S.left input.old ≡ Some content → Leaves (SentenceThen options.now content rules.now (meaning_of expanded.now)) result (K.held out.old) (K.held out.new) }
     ensures read_fault { result ≡ Status.ReadFault → Rose (S.faults input.old) (S.faults input.new) }
     ensures write_fault { result ≡ Status.WriteFault → Rose (K.faults out.old) (K.faults out.new) }
     ensures input_lasting { S.faults input.old ≤ S.faults input.new }
@@ -119,48 +78,85 @@ fn parse_expanded<R: Threads + Sync, S: Source, K: Sink>(
     ensures out_lasting { K.faults out.old ≤ K.faults out.new }
     ensures wrote { Wrote ParseEnds result (K.faults out.old) (K.faults out.new) (K.held out.old) (K.held out.new) }
     ensures all_read { (content : List ℕ) → (result ≡ Status.Done) ⊎ (result ≡ Status.Spent) → S.left input.old ≡ Some content → S.left input.new ≡ Some [] }
-    ensures command { (result ≡ Status.Usage → ⊥) × ((result ≡ Status.BadText → ⊥) × (result ≡ Status.BadGrammar → ⊥)) }
+    ensures command { (result ≡ Status.Usage → ⊥) × ((result ≡ Status.BadText → ⊥) × ((result ≡ Status.BadGrammar → ⊥) × (result ≡ Status.BadRules → ⊥))) }
 {
     let packed = match pack_entries(alloc, expanded) {
         Ok(packed) => packed,
         Err(OutOfMemory) => return Status::OutOfMemory,
     };
     match read_problem(alloc, expanded, &packed, options.segment, input) {
-        Ok(problem) => search_asked(rt, alloc, options, &problem, out),
+        Ok(problem) => parse_problem(rt, alloc, options, expanded, &packed, rules, problem, out),
         Err(refusal) => refuse(refusal, Status::BadSentence, out),
     }
 }
 
-/// Reads a sentence of the grammar of a text and prints its analyses, or the fault line of what is refused.
-fn parse_loaded<R: Threads + Sync, S: Source, K: Sink>(
+/// The same, with the rules of the file that is given.
+fn parse_expanded<R: Threads + Sync, H: Shelf, S: Source, K: Sink>(
+    rt: &R,
+    alloc: Global,
+    options: &ParseOptions,
+    expanded: &Expanded,
+    shelf: &mut H,
+    input: &mut S,
+    out: &mut K,
+) -> Status
+    requires lexicon { IsRightLexicon expanded.now.checked.types expanded.now.entries }
+    requires range { CanBranch options.now.budget options.now.first }
+    ensures leaves { (files : List ℕ → Option (List ℕ)) (content : List ℕ) → H.files shelf.old ≡ Some files → S.left input.old ≡ Some content → Leaves (RulesThen files options.now.rules (SentenceThen options.now content) (meaning_of expanded.now)) result (K.held out.old) (K.held out.new) }
+    ensures read_fault { result ≡ Status.ReadFault → RoseFor options.now.rules (H.faults shelf.old) (H.faults shelf.new) ⊎ Rose (S.faults input.old) (S.faults input.new) }
+    ensures write_fault { result ≡ Status.WriteFault → Rose (K.faults out.old) (K.faults out.new) }
+    ensures files { H.files shelf.new ≡ H.files shelf.old }
+    ensures shelf_lasting { (other : List ℕ) → H.faults shelf.old other ≤ H.faults shelf.new other }
+    ensures shelf_quiet { (other : List ℕ) → result ≢ Status.ReadFault → H.faults shelf.new other ≡ H.faults shelf.old other }
+    ensures input_lasting { S.faults input.old ≤ S.faults input.new }
+    ensures input_quiet { result ≢ Status.ReadFault → S.faults input.new ≡ S.faults input.old }
+    ensures out_lasting { K.faults out.old ≤ K.faults out.new }
+    ensures wrote { Wrote ParseEnds result (K.faults out.old) (K.faults out.new) (K.held out.old) (K.held out.new) }
+    ensures unread { result ≡ Status.BadRules → S.left input.new ≡ S.left input.old }
+    ensures all_read { (content : List ℕ) → (result ≡ Status.Done) ⊎ (result ≡ Status.Spent) → S.left input.old ≡ Some content → S.left input.new ≡ Some [] }
+    ensures command { (result ≡ Status.Usage → ⊥) × ((result ≡ Status.BadText → ⊥) × (result ≡ Status.BadGrammar → ⊥)) }
+{
+    match load_rules(alloc, expanded, &options.rules, shelf) {
+        Ok(rules) => parse_ruled(rt, alloc, options, expanded, &rules, input, out),
+        Err(refusal) => refuse(refusal, Status::BadRules, out),
+    }
+}
+
+/// The same, for the grammar of a text.
+fn parse_loaded<R: Threads + Sync, H: Shelf, S: Source, K: Sink>(
     rt: &R,
     alloc: Global,
     options: &ParseOptions,
     loaded: &Loaded,
+    shelf: &mut H,
     input: &mut S,
     out: &mut K,
 ) -> Status
     requires short { length loaded.now.text.items ≤ 4194304 }
     requires range { CanBranch options.now.budget options.now.first }
-    ensures leaves { (content : List ℕ) → S.left input.old ≡ Some content → Leaves (MeaningThen (read_of loaded.now) (SentenceThen options.now content)) result (K.held out.old) (K.held out.new) }
-    ensures read_fault { result ≡ Status.ReadFault → Rose (S.faults input.old) (S.faults input.new) }
+    ensures leaves { (files : List ℕ → Option (List ℕ)) (content : List ℕ) → H.files shelf.old ≡ Some files → S.left input.old ≡ Some content → Leaves (MeaningThen (read_of loaded.now) (RulesThen files options.now.rules (SentenceThen options.now content))) result (K.held out.old) (K.held out.new) }
+    ensures read_fault { result ≡ Status.ReadFault → RoseFor options.now.rules (H.faults shelf.old) (H.faults shelf.new) ⊎ Rose (S.faults input.old) (S.faults input.new) }
     ensures write_fault { result ≡ Status.WriteFault → Rose (K.faults out.old) (K.faults out.new) }
+    ensures files { H.files shelf.new ≡ H.files shelf.old }
+    ensures shelf_lasting { (other : List ℕ) → H.faults shelf.old other ≤ H.faults shelf.new other }
+    ensures shelf_quiet { (other : List ℕ) → result ≢ Status.ReadFault → H.faults shelf.new other ≡ H.faults shelf.old other }
     ensures input_lasting { S.faults input.old ≤ S.faults input.new }
     ensures input_quiet { result ≢ Status.ReadFault → S.faults input.new ≡ S.faults input.old }
     ensures out_lasting { K.faults out.old ≤ K.faults out.new }
     ensures wrote { Wrote ParseEnds result (K.faults out.old) (K.faults out.new) (K.held out.old) (K.held out.new) }
-    ensures unread { (result ≡ Status.BadText) ⊎ (result ≡ Status.BadGrammar) → S.left input.new ≡ S.left input.old }
+    ensures unread { (result ≡ Status.BadGrammar) ⊎ (result ≡ Status.BadRules) → S.left input.new ≡ S.left input.old }
     ensures all_read { (content : List ℕ) → (result ≡ Status.Done) ⊎ (result ≡ Status.Spent) → S.left input.old ≡ Some content → S.left input.new ≡ Some [] }
-    ensures command { result ≡ Status.Usage → ⊥ }
+    ensures command { (result ≡ Status.Usage → ⊥) × (result ≡ Status.BadText → ⊥) }
 {
     match expand_tree(alloc, &loaded.tree) {
-        Ok(expanded) => parse_expanded(rt, alloc, options, &expanded, input, out),
+        Ok(expanded) => parse_expanded(rt, alloc, options, &expanded, shelf, input, out),
         Err(stop) => refuse(stopped_in(&loaded.text, stop), Status::BadGrammar, out),
     }
 }
 
 /// Loads a grammar, reads a sentence, and prints its analyses, or the fault line of what is refused. A search is charged a budget
-/// of boxed prefixes at most; where the sentence is searched by branches, each branch has the whole budget.
+/// of boxed prefixes at most; where the sentence is searched by branches, each branch has the whole budget. With a file of rules the analyses
+/// are those in which each rule is true.
 pub fn parse_sentence<R: Threads + Sync, H: Shelf, S: Source, K: Sink>(
     rt: &R,
     alloc: Global,
@@ -171,7 +167,7 @@ pub fn parse_sentence<R: Threads + Sync, H: Shelf, S: Source, K: Sink>(
 ) -> Status
     requires { CanBranch options.now.budget options.now.first }
     ensures leaves { (files : List ℕ → Option (List ℕ)) (content : List ℕ) → H.files shelf.old ≡ Some files → S.left input.old ≡ Some content → Leaves (ParseOf options.now files content) result (K.held out.old) (K.held out.new) }
-    ensures read_fault { result ≡ Status.ReadFault → Rose (H.faults shelf.old options.now.grammar) (H.faults shelf.new options.now.grammar) ⊎ Rose (S.faults input.old) (S.faults input.new) }
+    ensures read_fault { result ≡ Status.ReadFault → Rose (H.faults shelf.old options.now.grammar) (H.faults shelf.new options.now.grammar) ⊎ (RoseFor options.now.rules (H.faults shelf.old) (H.faults shelf.new) ⊎ Rose (S.faults input.old) (S.faults input.new)) }
     ensures write_fault { result ≡ Status.WriteFault → Rose (K.faults out.old) (K.faults out.new) }
     ensures files { H.files shelf.new ≡ H.files shelf.old }
     ensures shelf_lasting { (other : List ℕ) → H.faults shelf.old other ≤ H.faults shelf.new other }
@@ -180,12 +176,12 @@ pub fn parse_sentence<R: Threads + Sync, H: Shelf, S: Source, K: Sink>(
     ensures input_quiet { result ≢ Status.ReadFault → S.faults input.new ≡ S.faults input.old }
     ensures out_lasting { K.faults out.old ≤ K.faults out.new }
     ensures wrote { Wrote ParseEnds result (K.faults out.old) (K.faults out.new) (K.held out.old) (K.held out.new) }
-    ensures unread { (result ≡ Status.BadText) ⊎ (result ≡ Status.BadGrammar) → S.left input.new ≡ S.left input.old }
+    ensures unread { (result ≡ Status.BadText) ⊎ ((result ≡ Status.BadGrammar) ⊎ (result ≡ Status.BadRules)) → S.left input.new ≡ S.left input.old }
     ensures all_read { (content : List ℕ) → (result ≡ Status.Done) ⊎ (result ≡ Status.Spent) → S.left input.old ≡ Some content → S.left input.new ≡ Some [] }
     ensures command { result ≡ Status.Usage → ⊥ }
 {
     match load_tree(alloc, shelf, options.grammar.as_str()) {
-        Ok(loaded) => parse_loaded(rt, alloc, options, &loaded, input, out),
+        Ok(loaded) => parse_loaded(rt, alloc, options, &loaded, shelf, input, out),
         Err(refusal) => refuse(refusal, Status::BadText, out),
     }
 }

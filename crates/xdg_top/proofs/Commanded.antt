@@ -7,17 +7,16 @@ use Rattle.xdg_command.specs.Commands.{HasBudget, HasFirst, IsCommand}
 use Rattle.xdg_command.specs.Items.{value_of}
 use Rattle.xdg_command.specs.declared.commands.Command.{Command}
 use Rattle.xdg_command.specs.declared.commands.Command.TheVariants as commands
-use Rattle.xdg_command.specs.declared.commands.ParseOptions.{ParseOptions}
-use Rattle.xdg_command.specs.declared.commands.ResumeOptions.{ResumeOptions}
 use Rattle.xdg_corpus.specs.Outcomes.{CorpusEnds}
 use Rattle.xdg_corpus.specs.Runs.{LeavesPart}
 use Rattle.xdg_corpus.proofs.Parting.{leaves_part, memory_part}
 use Rattle.xdg_io.specs.Rose.{Rose}
 use Rattle.xdg_text.specs.Lines.{usage_line}
 use Rattle.xdg_outcomes.specs.Outcomes.{Files}
+use Rattle.xdg_ruled.specs.Files.{RoseFor}
 use Rattle.xdg_top.specs.Outcomes.{CommandOf, IsNoCommand, IsUsage, OutcomeOf, WantsSome, usage, commanded}
 use Rattle.xdg_outcomes.specs.Runs.{Ends, Leaves, LeavesFront, Unwritten, Wrote}
-use Rattle.xdg_top.specs.Runs.{AreEarly, CommandWrote, EndsWith, FailsToRead, LeavesBy, LeavesOf, ReadsFile, ReadsInput, UnwrittenBy, of_file, of_input}
+use Rattle.xdg_top.specs.Runs.{AreEarly, CommandWrote, EndsWith, FailsToRead, IsRefusedFile, LeavesBy, LeavesOf, ReadsFile, ReadsInput, UnwrittenBy, of_file, of_input}
 use Rattle.xdg_outcomes.specs.declared.status.Status.{Status}
 use Rattle.xdg_outcomes.specs.declared.status.Status.TheVariants as statuses
 use Rattle.xdg_outcomes.proofs.Leaving.{IsOnly}
@@ -64,11 +63,12 @@ words_leave given files input (commands.Arrange options) result old new is one l
     record { part = run_part given files input (commands.Arrange options) result old new is one leaves; at_once = λ other. absurd (other (commands.Arrange options, is, tt)) }
 words_leave given files input (commands.Parse options) result old new is one leaves = at_once given files input (commands.Parse options) result old new is one leaves
 words_leave given files input (commands.Resume options) result old new is one leaves = at_once given files input (commands.Resume options) result old new is one leaves
-words_leave given files input (commands.Explain grammar analysis) result old new is one leaves = at_once given files input (commands.Explain grammar analysis) result old new is one leaves
+words_leave given files input (commands.Explain options) result old new is one leaves = at_once given files input (commands.Explain options) result old new is one leaves
 words_leave given files input (commands.Check grammar) result old new is one leaves = at_once given files input (commands.Check grammar) result old new is one leaves
 words_leave given files input (commands.Lexicon grammar) result old new is one leaves = at_once given files input (commands.Lexicon grammar) result old new is one leaves
 words_leave given files input (commands.Print grammar) result old new is one leaves = at_once given files input (commands.Print grammar) result old new is one leaves
 words_leave given files input (commands.Drill number) result old new is one leaves = at_once given files input (commands.Drill number) result old new is one leaves
+words_leave given files input (commands.Best options) result old new is one leaves = at_once given files input (commands.Best options) result old new is one leaves
 
 -- for want of memory nothing was added
 pub memory_leaves : (given : List (List ℕ)) (O : Status → List ℕ → Type 0) (held : Option (List ℕ)) → LeavesBy given O statuses.OutOfMemory held held
@@ -79,11 +79,12 @@ memory_left (commands.Corpus options) O held = memory_part O held
 memory_left (commands.Arrange options) O held = memory_part O held
 memory_left (commands.Parse options) O held = refl
 memory_left (commands.Resume options) O held = refl
-memory_left (commands.Explain grammar analysis) O held = refl
+memory_left (commands.Explain options) O held = refl
 memory_left (commands.Check grammar) O held = refl
 memory_left (commands.Lexicon grammar) O held = refl
 memory_left (commands.Print grammar) O held = refl
 memory_left (commands.Drill number) O held = refl
+memory_left (commands.Best options) O held = refl
 
 -- words that are no command write the usage line, or nothing
 pub usage_leaves : (given : List (List ℕ)) (O : Status → List ℕ → Type 0) (result : Status) (old new : Option (List ℕ)) → Leaves O result old new → LeavesBy given O result old new
@@ -133,6 +134,7 @@ wants_some given (commands.Resume options) is = some_first (value_of (codes "fir
 wants_some given (commands.Corpus options) is =
     let range = in_range (value_of (codes "budget") is.items) options.budget is.says.budget in
     record { some = range.0; most = range.1; first = some_first (value_of (codes "first") is.items) options.first is.says.first }
+wants_some given (commands.Best options) is = (in_range (value_of (codes "budget") is.items) options.budget is.says.budget).0
 wants_some given command is = tt
 
 -- what is left for the command is left for any that the words are
@@ -143,25 +145,27 @@ asked_leaves given files input command asked result old new exact is leaves = su
 never_usage : (command : Command) → EndsWith command statuses.Usage → ⊥
 never_usage (commands.Parse options) e = e
 never_usage (commands.Resume options) e = e
-never_usage (commands.Explain grammar analysis) e = e
+never_usage (commands.Explain options) e = e
 never_usage (commands.Check grammar) e = e
 never_usage (commands.Lexicon grammar) e = e
 never_usage (commands.Print grammar) e = e
 never_usage (commands.Drill number) e = e
 never_usage (commands.Corpus options) e = e
 never_usage (commands.Arrange options) e = e
+never_usage (commands.Best options) e = e
 
 -- each may end for want of memory
 pub memory_ends : (command : Command) → EndsWith command statuses.OutOfMemory
 memory_ends (commands.Parse options) = tt
 memory_ends (commands.Resume options) = tt
-memory_ends (commands.Explain grammar analysis) = tt
+memory_ends (commands.Explain options) = tt
 memory_ends (commands.Check grammar) = tt
 memory_ends (commands.Lexicon grammar) = tt
 memory_ends (commands.Print grammar) = tt
 memory_ends (commands.Drill number) = tt
 memory_ends (commands.Corpus options) = tt
 memory_ends (commands.Arrange options) = tt
+memory_ends (commands.Best options) = tt
 
 pub not_usage : (command : Command) (result : Status) → EndsWith command result → result ≡ statuses.Usage → ⊥
 not_usage command result ends e = never_usage command (subst (EndsWith command) e ends)
@@ -211,11 +215,12 @@ nothing_added given (commands.Arrange options) result old new is unwritten (inl 
 nothing_added given (commands.Arrange options) result old new is unwritten (inr memory) = absurd (memory.1 (commands.Arrange options, is, tt))
 nothing_added given (commands.Parse options) result old new is unwritten ended = unwritten (without given result ended)
 nothing_added given (commands.Resume options) result old new is unwritten ended = unwritten (without given result ended)
-nothing_added given (commands.Explain grammar analysis) result old new is unwritten ended = unwritten (without given result ended)
+nothing_added given (commands.Explain options) result old new is unwritten ended = unwritten (without given result ended)
 nothing_added given (commands.Check grammar) result old new is unwritten ended = unwritten (without given result ended)
 nothing_added given (commands.Lexicon grammar) result old new is unwritten ended = unwritten (without given result ended)
 nothing_added given (commands.Print grammar) result old new is unwritten ended = unwritten (without given result ended)
 nothing_added given (commands.Drill number) result old new is unwritten ended = unwritten (without given result ended)
+nothing_added given (commands.Best options) result old new is unwritten ended = unwritten (without given result ended)
 
 pub said_reads : (command said : Command) → command ≡ said → ReadsInput said → ReadsInput command
 said_reads command said e reads = subst ReadsInput (sym e) reads
@@ -224,21 +229,35 @@ said_reads command said e reads = subst ReadsInput (sym e) reads
 pub file_failed : (command said : Command) (name : List ℕ) (shelf_old shelf_new : List ℕ → ℕ) (input_old input_new : ℕ) → command ≡ said → ReadsFile said name → Rose (shelf_old name) (shelf_new name) → FailsToRead command shelf_old shelf_new input_old input_new
 file_failed command said name shelf_old shelf_new input_old input_new e reads rose = of_file name (subst (λ z. ReadsFile z name) (sym e) reads) rose
 
-pub parse_failed : (command : Command) (options : ParseOptions) (shelf_old shelf_new : List ℕ → ℕ) (input_old input_new : ℕ) → command ≡ commands.Parse options → Rose (shelf_old options.grammar) (shelf_new options.grammar) ⊎ Rose input_old input_new → FailsToRead command shelf_old shelf_new input_old input_new
-parse_failed command options shelf_old shelf_new input_old input_new e (inl rose) = file_failed command (commands.Parse options) options.grammar shelf_old shelf_new input_old input_new e refl rose
-parse_failed command options shelf_old shelf_new input_old input_new e (inr rose) = of_input (said_reads command (commands.Parse options) e tt) rose
+-- the file that is given failed
+given_failed : (command said : Command) (given : Option (List ℕ)) (shelf_old shelf_new : List ℕ → ℕ) (input_old input_new : ℕ) → command ≡ said → ((name : List ℕ) → given ≡ Some name → ReadsFile said name) → RoseFor given shelf_old shelf_new → FailsToRead command shelf_old shelf_new input_old input_new
+given_failed command said None shelf_old shelf_new input_old input_new e reads rose = absurd rose
+given_failed command said (Some name) shelf_old shelf_new input_old input_new e reads rose = file_failed command said name shelf_old shelf_new input_old input_new e (reads name refl) rose
 
-pub explain_failed : (command : Command) (grammar analysis grammar_name analysis_name : List ℕ) (shelf_old shelf_new : List ℕ → ℕ) (input_old input_new : ℕ) → command ≡ commands.Explain grammar analysis → grammar_name ≡ grammar → analysis_name ≡ analysis
-    → Rose (shelf_old grammar_name) (shelf_new grammar_name) ⊎ Rose (shelf_old analysis_name) (shelf_new analysis_name) → FailsToRead command shelf_old shelf_new input_old input_new
-explain_failed command grammar analysis grammar_name analysis_name shelf_old shelf_new input_old input_new e is_grammar is_analysis (inl rose) = file_failed command (commands.Explain grammar analysis) grammar_name shelf_old shelf_new input_old input_new e (inl is_grammar) rose
-explain_failed command grammar analysis grammar_name analysis_name shelf_old shelf_new input_old input_new e is_grammar is_analysis (inr rose) = file_failed command (commands.Explain grammar analysis) analysis_name shelf_old shelf_new input_old input_new e (inr is_analysis) rose
-
-pub resume_failed : (command : Command) (options : ResumeOptions) (shelf_old shelf_new : List ℕ → ℕ) (input_old input_new : ℕ) → command ≡ commands.Resume options → Rose (shelf_old options.grammar) (shelf_new options.grammar) ⊎ Rose (shelf_old options.analysis) (shelf_new options.analysis) → FailsToRead command shelf_old shelf_new input_old input_new
-resume_failed command options shelf_old shelf_new input_old input_new e (inl rose) = file_failed command (commands.Resume options) options.grammar shelf_old shelf_new input_old input_new e (inl refl) rose
-resume_failed command options shelf_old shelf_new input_old input_new e (inr rose) = file_failed command (commands.Resume options) options.analysis shelf_old shelf_new input_old input_new e (inr refl) rose
+-- a read of a command that reads a grammar, rules where they are given, and something else failed
+pub ruled_failed : (command said : Command) (grammar : List ℕ) (given : Option (List ℕ)) (Other : Type 0) (shelf_old shelf_new : List ℕ → ℕ) (input_old input_new : ℕ) → command ≡ said → ReadsFile said grammar → ((name : List ℕ) → given ≡ Some name → ReadsFile said name)
+    → (Other → FailsToRead command shelf_old shelf_new input_old input_new) → Rose (shelf_old grammar) (shelf_new grammar) ⊎ (RoseFor given shelf_old shelf_new ⊎ Other) → FailsToRead command shelf_old shelf_new input_old input_new
+ruled_failed command said grammar given Other shelf_old shelf_new input_old input_new e file rules other (inl rose) = file_failed command said grammar shelf_old shelf_new input_old input_new e file rose
+ruled_failed command said grammar given Other shelf_old shelf_new input_old input_new e file rules other (inr (inl rose)) = given_failed command said given shelf_old shelf_new input_old input_new e rules rose
+ruled_failed command said grammar given Other shelf_old shelf_new input_old input_new e file rules other (inr (inr failed)) = other failed
 
 -- a read of a command that reads a grammar and the input failed
 pub reads_failed : (command said : Command) (grammar : List ℕ) (shelf_old shelf_new : List ℕ → ℕ) (input_old input_new : ℕ) → command ≡ said → ReadsFile said grammar → ReadsInput said → Rose (shelf_old grammar) (shelf_new grammar) ⊎ Rose input_old input_new
     → FailsToRead command shelf_old shelf_new input_old input_new
 reads_failed command said grammar shelf_old shelf_new input_old input_new e file input (inl rose) = file_failed command said grammar shelf_old shelf_new input_old input_new e file rose
 reads_failed command said grammar shelf_old shelf_new input_old input_new e file input (inr rose) = of_input (said_reads command said e input) rose
+
+-- and of one that reads another file between them
+pub all_failed : (command said : Command) (grammar other : List ℕ) (shelf_old shelf_new : List ℕ → ℕ) (input_old input_new : ℕ) → command ≡ said → ReadsFile said grammar → ReadsFile said other → ReadsInput said
+    → Rose (shelf_old grammar) (shelf_new grammar) ⊎ (Rose (shelf_old other) (shelf_new other) ⊎ Rose input_old input_new) → FailsToRead command shelf_old shelf_new input_old input_new
+all_failed command said grammar other shelf_old shelf_new input_old input_new e file further input (inl rose) = file_failed command said grammar shelf_old shelf_new input_old input_new e file rose
+all_failed command said grammar other shelf_old shelf_new input_old input_new e file further input (inr rose) = reads_failed command said other shelf_old shelf_new input_old input_new e further input rose
+
+-- ---- the input stays
+
+-- a command that ends without some of these statuses
+pub refused_file : (P : Status → Type 0) (result : Status) (Same : Type 0) → P result → (P statuses.BadRules → result ≡ statuses.BadRules → Same) → (P statuses.BadCosts → result ≡ statuses.BadCosts → Same) → ((result ≡ statuses.BadText) ⊎ (result ≡ statuses.BadGrammar) → Same) → IsRefusedFile result → Same
+refused_file P result Same ends rules costs grammar (inl text) = grammar (inl text)
+refused_file P result Same ends rules costs grammar (inr (inl bad)) = grammar (inr bad)
+refused_file P result Same ends rules costs grammar (inr (inr (inl bad))) = rules (subst P bad ends) bad
+refused_file P result Same ends rules costs grammar (inr (inr (inr bad))) = costs (subst P bad ends) bad

@@ -1,6 +1,7 @@
 -- What a command reads, and how it can end.
-use Rattle.std.specs.Prelude.{◌≡◌, ◌≢◌, ◌⊎◌, ℕ, List, Option}
+use Rattle.std.specs.Prelude.{◌≡◌, ◌≢◌, ◌⊎◌, ℕ, List, Option, Some}
 use Rattle.xdg_arrange.specs.Outcomes.{ArrangeEnds}
+use Rattle.xdg_cheapest.specs.Runs.{BestEnds}
 use Rattle.xdg_command.specs.Commands.{IsCommand}
 use Rattle.xdg_command.specs.declared.commands.Command.{Command}
 use Rattle.xdg_command.specs.declared.commands.Command.TheVariants as commands
@@ -17,22 +18,28 @@ use Rattle.xdg_searches.specs.Runs.{ParseEnds, ResumeEnds, DrillEnds}
 
 -- the names of the files that a command reads
 abbrev pub ReadsFile : Command → List ℕ → Type 0
-ReadsFile (commands.Parse options) name = name ≡ options.grammar
-ReadsFile (commands.Resume options) name = (name ≡ options.grammar) ⊎ (name ≡ options.analysis)
-ReadsFile (commands.Explain grammar analysis) name = (name ≡ grammar) ⊎ (name ≡ analysis)
+ReadsFile (commands.Parse options) name = (name ≡ options.grammar) ⊎ (options.rules ≡ Some name)
+ReadsFile (commands.Resume options) name = (name ≡ options.grammar) ⊎ ((options.rules ≡ Some name) ⊎ (name ≡ options.analysis))
+ReadsFile (commands.Explain options) name = (name ≡ options.grammar) ⊎ ((options.rules ≡ Some name) ⊎ (name ≡ options.analysis))
 ReadsFile (commands.Check grammar) name = name ≡ grammar
 ReadsFile (commands.Lexicon grammar) name = name ≡ grammar
 ReadsFile (commands.Print grammar) name = name ≡ grammar
 ReadsFile (commands.Drill number) name = ⊥
 ReadsFile (commands.Corpus options) name = name ≡ options.grammar
 ReadsFile (commands.Arrange options) name = name ≡ options.grammar
+ReadsFile (commands.Best options) name = (name ≡ options.grammar) ⊎ (name ≡ options.costs)
 
 -- the command reads the input
 abbrev pub ReadsInput : Command → Type 0
 ReadsInput (commands.Parse options) = Unit {0}
 ReadsInput (commands.Corpus options) = Unit {0}
 ReadsInput (commands.Arrange options) = Unit {0}
+ReadsInput (commands.Best options) = Unit {0}
 ReadsInput command = ⊥
+
+-- a grammar, rules or costs are refused, all of which are read before the input
+abbrev pub IsRefusedFile : Status → Type 0
+IsRefusedFile status = (status ≡ statuses.BadText) ⊎ ((status ≡ statuses.BadGrammar) ⊎ ((status ≡ statuses.BadRules) ⊎ (status ≡ statuses.BadCosts)))
 
 -- a read of the command failed: the count of the shelf rose for a file that it reads, or that of the input, where it reads that
 pub data FailsToRead (command : Command) (shelf_old shelf_new : List ℕ → ℕ) (input_old input_new : ℕ) : Type 0 where
@@ -51,13 +58,14 @@ pub record ReadFailed (given : List (List ℕ)) (shelf_old shelf_new : List ℕ 
 abbrev pub EndsWith : Command → Status → Type 0
 EndsWith (commands.Parse options) = ParseEnds
 EndsWith (commands.Resume options) = ResumeEnds
-EndsWith (commands.Explain grammar analysis) = ExplainEnds
+EndsWith (commands.Explain options) = ExplainEnds
 EndsWith (commands.Check grammar) = ReportEnds
 EndsWith (commands.Lexicon grammar) = ReportEnds
 EndsWith (commands.Print grammar) = PrintEnds
 EndsWith (commands.Drill number) = DrillEnds
 EndsWith (commands.Corpus options) = CorpusEnds
 EndsWith (commands.Arrange options) = ArrangeEnds
+EndsWith (commands.Best options) = BestEnds
 
 -- ---- what a command leaves
 

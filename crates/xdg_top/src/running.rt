@@ -7,12 +7,13 @@ ghost use Rattle.xdg_command.specs.declared.commands.Command as declared;
 ghost use Rattle.xdg_io.specs.Rose.{Rose};
 ghost use Rattle.xdg_outcomes.specs.Runs.{Leaves};
 ghost use Rattle.xdg_top.specs.Outcomes.{CommandOf, IsNoCommand, IsUsage, OutcomeOf, WantsSome};
-ghost use Rattle.xdg_top.specs.Runs.{AreEarly, CommandWrote, EndsWith, FailsToRead, LeavesBy, LeavesOf, ReadFailed, ReadsInput};
+ghost use Rattle.xdg_top.specs.Runs.{AreEarly, CommandWrote, EndsWith, FailsToRead, IsRefusedFile, LeavesBy, LeavesOf, ReadFailed, ReadsInput};
 
 use std::alloc::Global;
 use std::thread::Threads;
 use xdg_arrange::arrange;
 use xdg_base::OutOfMemory;
+use xdg_cheapest::best_sentence;
 use xdg_command::{Command, command};
 use xdg_corpus::corpus;
 use xdg_io::{Failed, Shelf, Sink, Source};
@@ -43,7 +44,7 @@ fn run_command<R: Threads + Sync, H: Shelf, S: Source, K: Sink>(
     ensures input_lasting { S.faults input.old ≤ S.faults input.new }
     ensures input_quiet { result ≢ Status.ReadFault → S.faults input.new ≡ S.faults input.old }
     ensures out_lasting { K.faults out.old ≤ K.faults out.new }
-    ensures unread { (result ≡ Status.BadText) ⊎ (result ≡ Status.BadGrammar) → S.left input.new ≡ S.left input.old }
+    ensures unread { IsRefusedFile result → S.left input.new ≡ S.left input.old }
     ensures files_alone { (ReadsInput command.now → ⊥) → S.left input.new ≡ S.left input.old }
     ensures all_read { (content : List ℕ) → ReadsInput command.now → (result ≡ Status.Done) ⊎ (result ≡ Status.Spent) →
         S.left input.old ≡ Some content → S.left input.new ≡ Some [] }
@@ -51,15 +52,14 @@ fn run_command<R: Threads + Sync, H: Shelf, S: Source, K: Sink>(
     match command {
         Command::Parse(options) => parse_sentence(rt, alloc, options, shelf, input, out),
         Command::Resume(options) => resume_analysis(alloc, options, shelf, out),
-        Command::Explain { grammar, analysis } => {
-            explain_analysis(alloc, grammar.as_str(), analysis.as_str(), shelf, out)
-        }
+        Command::Explain(options) => explain_analysis(alloc, options, shelf, out),
         Command::Check { grammar } => check_grammar(alloc, grammar.as_str(), shelf, out),
         Command::Lexicon { grammar } => print_lexicon(alloc, grammar.as_str(), shelf, out),
         Command::Print { grammar } => print_grammar(alloc, grammar.as_str(), shelf, out),
         Command::Drill { number } => drill(alloc, *number, out),
         Command::Corpus(options) => corpus(rt, alloc, options, shelf, input, out),
         Command::Arrange(options) => arrange(alloc, options, shelf, input, out),
+        Command::Best(options) => best_sentence(alloc, options, shelf, input, out),
     }
 }
 
@@ -109,7 +109,7 @@ pub fn run<R: Threads + Sync, H: Shelf, S: Source, K: Sink>(
     ensures shelf_lasting { (name : List ℕ) → H.faults shelf.old name ≤ H.faults shelf.new name }
     ensures input_lasting { S.faults input.old ≤ S.faults input.new }
     ensures out_lasting { K.faults out.old ≤ K.faults out.new }
-    ensures unread { (result ≡ Status.Usage) ⊎ ((result ≡ Status.BadText) ⊎ (result ≡ Status.BadGrammar)) → S.left input.new ≡ S.left input.old }
+    ensures unread { (result ≡ Status.Usage) ⊎ IsRefusedFile result → S.left input.new ≡ S.left input.old }
     ensures files_alone { ((given : declared.Command) → IsCommand (map string_bytes words.now) given → ReadsInput given → ⊥) →
         S.left input.new ≡ S.left input.old }
     ensures all_read { (given : declared.Command) (content : List ℕ) → IsCommand (map string_bytes words.now) given → ReadsInput given →

@@ -1,7 +1,8 @@
 -- What is printed of verdicts.
-use Rattle.std.specs.Prelude.{ℕ, ◌+◌, ◌==◌, ◌&&◌, Bool, true, false, cond, List, [], ◌∷◌, ◌++◌, slice_index_or, codes, decimal}
+use Rattle.std.specs.Prelude.{ℕ, ◌+◌, ◌-◌, ◌==◌, ◌&&◌, Bool, true, false, cond, List, [], ◌∷◌, ◌++◌, length, nat_lt, slice_get, slice_index_or, Option, None, Some, codes, decimal}
 use Rattle.std.specs.List.{flat_map}
 use Rattle.xdg_base.specs.declared.ids.DimId.{DimId}
+use Rattle.xdg_formula_text.specs.declared.tree.Rule.{Rule}
 use Rattle.xdg_problem.specs.declared.conditions.Condition.{Condition}
 use Rattle.xdg_problem.specs.declared.conditions.Condition.TheVariants as conditions
 use Rattle.xdg_problem.specs.declared.parts.Group.{Group}
@@ -99,16 +100,26 @@ abbrev pub said_text : List (List ℕ) → Verdict → List ℕ
 said_text labels verdicts.Kept = behind (codes "kept")
 said_text labels (verdicts.Broken condition tuple) = behind (codes "broken") ++ condition_text labels condition (tuple_of tuple)
 
--- the line of a principle use with that number: its principle, its dimensions in their order, and what is said of it
-unfoldable pub verdict_line : Parts → ℕ → Group → Verdict → List ℕ
-verdict_line parts number group verdict =
-    decimal number ++ (behind (name_of group.principle) ++ (flat_map (dim_text parts) group.dims ++ (said_text (labels_of parts group) verdict ++ codes "\n")))
+-- the name of a rule, where there is one
+abbrev pub name_in : Option Rule → List ℕ
+name_in None = []
+name_in (Some rule) = rule.name.text
 
--- the lines of principle uses with their verdicts, numbered from a number on
-abbrev pub verdict_lines : Parts → ℕ → List Group → List Verdict → List ℕ
-verdict_lines parts number [] said = []
-verdict_lines parts number (group ∷ groups) [] = []
-verdict_lines parts number (group ∷ groups) (verdict ∷ said) = verdict_line parts number group verdict ++ verdict_lines parts (number + 1) groups said
+-- What stands behind the principle of the use at a place, which counts from 0: its dimensions in their order, and its name where it is a
+-- rule. The rules stand behind so many uses of the grammar's own.
+abbrev pub title_text : Parts → ℕ → List Rule → ℕ → Group → List ℕ
+title_text parts own rules place group = cond (nat_lt place own) (flat_map (dim_text parts) group.dims) (behind (constant (name_in (slice_get rules (place - own)))))
+
+-- the line of the use at a place: its number from 1, its principle, its dimensions or its name, and what is said of it
+unfoldable pub verdict_line : Parts → ℕ → List Rule → ℕ → Group → Verdict → List ℕ
+verdict_line parts own rules place group verdict =
+    decimal (place + 1) ++ (behind (name_of group.principle) ++ (title_text parts own rules place group ++ (said_text (labels_of parts group) verdict ++ codes "\n")))
+
+-- the lines of uses with their verdicts, from a place on
+abbrev pub verdict_lines : Parts → ℕ → List Rule → ℕ → List Group → List Verdict → List ℕ
+verdict_lines parts own rules place [] said = []
+verdict_lines parts own rules place (group ∷ groups) [] = []
+verdict_lines parts own rules place (group ∷ groups) (verdict ∷ said) = verdict_line parts own rules place group verdict ++ verdict_lines parts own rules (place + 1) groups said
 
 -- no verdict tells of a broken condition
 abbrev pub is_kept : Verdict → Bool
@@ -124,6 +135,6 @@ abbrev pub solution_line : Bool → List ℕ
 solution_line true = line (codes "solution") []
 solution_line false = line (codes "not") (codes "a" ∷ codes "solution" ∷ [])
 
--- what is printed: a line for each principle use, numbered from 1, and the last line
-abbrev pub verdicts_text : Parts → List Verdict → List ℕ
-verdicts_text parts said = verdict_lines parts 1 parts.groups said ++ solution_line (are_kept said)
+-- what is printed where the last uses are these rules: a line for each use, numbered from 1, and the last line
+abbrev pub verdicts_text : Parts → List Rule → List Verdict → List ℕ
+verdicts_text parts rules said = verdict_lines parts (length parts.groups - length rules) rules 0 parts.groups said ++ solution_line (are_kept said)

@@ -2,8 +2,13 @@ use Rattle.std.proofs.Common.{sym, subst}
 use Rattle.xdg_grammar.specs.Answers.{meaning_of}
 use Rattle.xdg_groups.specs.Grammars.{grammar_of}
 use Rattle.xdg_io.specs.Left.{TakesAll}
-use Rattle.xdg_arrange.proofs.Listing.{input_found, input_quiet, input_read, input_stops, input_taken}
+use Rattle.xdg_arrange.proofs.Listing.{input_found, input_quiet, input_read, input_stops, input_taken, long_stops}
 use Rattle.xdg_arrange.proofs.lists.read_list.Goals as goal
+
+pub returns-in-Err-TooLong-clause-refused : goal.returns-in-Err-TooLong-clause-refused
+returns-in-Err-TooLong-clause-refused g c =
+    long_stops c.args.expanded.now c.args.packed.now c.requires.packed c.args.segment (g.S.Source.left c.args.source.now) (g.S.Source.left c.read_all.new.source) (g.S.Source.faults c.args.source.now) (g.S.Source.faults c.read_all.new.source) c.in-Err-TooLong.field-0
+    c.in-Err-TooLong.reached c.too_long.result c.in-Err-TooLong.ensures.reached c.in-Err-TooLong.field-0-is (rw c.in-Err-TooLong.field-0-is at c.too_long.ensures)
 
 pub returns-clause-found : goal.returns-clause-found
 returns-clause-found g c =

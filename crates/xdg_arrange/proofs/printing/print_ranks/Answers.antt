@@ -11,7 +11,7 @@ returns-in-Ok-clause-written g c =
     subst (λ (p : Parts). Writes c.print_arrangement.result c.args.budget p (arrangement_line c.args.number p.words) (g.K.Sink.held c.args.out.now) (g.K.Sink.held c.print_arrangement.new.out)) c.in-Ok.ensures.compiled c.print_arrangement.ensures.written
 
 pub returns-in-Ok-clause-one : goal.returns-in-Ok-clause-one
-returns-in-Ok-clause-one g c differs = subst (IsOneFind c.args.budget) c.in-Ok.ensures.compiled c.print_arrangement.ensures.one
+returns-in-Ok-clause-one g c differs = subst (IsOneFind c.args.budget) c.in-Ok.ensures.compiled (c.print_arrangement.ensures.one differs)
 
 pub returns-in-Ok-clause-keeps : goal.returns-in-Ok-clause-keeps
 returns-in-Ok-clause-keeps g c differs = subst (KeepsSolutions (grammar_of c.args.expanded.now.checked c.args.packed.now) (words_at c.args.words.now c.args.ranks.now)) c.in-Ok.ensures.compiled c.in-Ok.ensures.keeps

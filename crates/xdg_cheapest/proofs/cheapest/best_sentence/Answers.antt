@@ -1,6 +1,7 @@
 use Rattle.std.proofs.Common.{◌≡◌, ◌∙◌, Some, subst}
 use Rattle.xdg_cheapest.specs.Outcomes.{CostsThen}
 use Rattle.xdg_cheapest.specs.Runs.{BestEnds}
+use Rattle.xdg_cheapest.proofs.Ending.{behind_first}
 use Rattle.xdg_outcomes.specs.Loaded.{read_of}
 use Rattle.xdg_outcomes.specs.Outcomes.{MeaningThen}
 use Rattle.xdg_outcomes.specs.Refusals.{Stops}
@@ -24,6 +25,11 @@ returns-in-Err-clause-leaves g c files content told given =
     let new = g.H.Shelf.faults c.load_tree.new.shelf c.as_str.result.now in
     stopped_leaves ReadText statuses.BadText (HasBadText files o.grammar) (HasTree files o.grammar) (λ read. MeaningThen read (CostsThen o files content)) (g.H.Shelf.files c.args.shelf.now ≡ Some files) old new c.refuse.result c.in-Err.refusal _ _ told (λ e. e)
     (subst (λ n. Stops (g.H.Shelf.files c.args.shelf.now ≡ Some files) old new ReadText (HasBadText files n) (HasTree files n) c.in-Err.refusal) c.as_str.ensures (c.in-Err.ensures.refused files)) c.refuse.ensures.written
+
+pub returns-in-Ok-clause-read_fault : goal.returns-in-Ok-clause-read_fault
+returns-in-Ok-clause-read_fault g c e =
+    let costs = c.args.options.now.costs in
+    behind_first _ _ (g.H.Shelf.faults c.args.shelf.now costs) (g.H.Shelf.faults c.load_tree.new.shelf costs) (g.H.Shelf.faults c.best_loaded.new.shelf costs) (c.in-Ok.ensures.quiet costs) (c.best_loaded.ensures.read_fault e)
 
 pub returns-in-Ok-clause-shelf_quiet : goal.returns-in-Ok-clause-shelf_quiet
 returns-in-Ok-clause-shelf_quiet g c other differs = c.best_loaded.ensures.shelf_quiet other differs ∙ c.in-Ok.ensures.quiet other

@@ -11,5 +11,5 @@ returns-in-Ok-costs-clause-found g c files told =
 pub returns-clause-refused : goal.returns-clause-refused
 returns-clause-refused g c files =
     loaded_stops c.args.types.now c.args.entries (g.H.Shelf.files c.args.shelf.now) files c.args.name.now c.in-Ok.bytes.items c.deref.result.now (g.H.Shelf.faults c.args.shelf.now c.args.name.now) (g.H.Shelf.faults c.load.new.self c.args.name.now)
-    c.in-Err-costs.stop c.stopped_in.result c.in-Ok.ensures.file c.in-Ok.ensures.within c.deref.ensures.value c.in-Err-costs.ensures.tells c.in-Err-costs.ensures.only
-    (c.stopped_in.ensures ∙ ap (λ z. refusal_of z c.in-Err-costs.stop) c.deref-in-Err-costs.ensures.value)
+    c.in-Err.stop c.stopped_in.result c.in-Ok.ensures.file c.in-Ok.ensures.within c.deref.ensures.value c.in-Err.ensures.tells c.in-Err.ensures.only
+    (c.stopped_in.ensures ∙ ap (λ z. refusal_of z c.in-Err.stop) c.deref-in-Err.ensures.value)

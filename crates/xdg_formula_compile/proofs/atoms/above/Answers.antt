@@ -1,13 +1,14 @@
 use Rattle.std.proofs.Common.{get_or, map, refl}
 use Rattle.xdg_formula_check.specs.Tables.{no_dim, used_dims}
 use Rattle.xdg_formula_compile.proofs.Atomic.{above_made}
-use Rattle.xdg_formula_compile.proofs.Rightly.{above_right, some_there}
+use Rattle.xdg_formula_compile.proofs.Rightly.{above_right}
+use Rattle.xdg_formula_compile.proofs.Standing.{dim_has}
 use Rattle.xdg_formula_compile.proofs.atoms.above.Goals as goal
 
-pub dim_number-requires : goal.dim_number-requires
-dim_number-requires c =
+pub dim_number-place-requires : goal.dim_number-place-requires
+dim_number-place-requires c =
     let right = above_right (used_dims c.args.types.now) (map (λ text. text.now) c.args.bound.now) c.args.dim.now c.args.upper.now c.args.lower.now c.requires.right in
-    some_there _ right.found right.there
+    dim_has c.args.types.now.dims c.args.types.now.used c.args.dim.now.text right.found right.there
 
 pub node_number-requires-clause-known : goal.node_number-requires-clause-known
 node_number-requires-clause-known c = (above_right (used_dims c.args.types.now) (map (λ text. text.now) c.args.bound.now) c.args.dim.now c.args.upper.now c.args.lower.now c.requires.right).nodes.first

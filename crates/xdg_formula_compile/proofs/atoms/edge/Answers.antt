@@ -1,14 +1,18 @@
-use Rattle.std.proofs.Common.{◌≡◌, ◌≤◌, true, List, ℕ, length, map, refl, sym, subst}
+use Rattle.std.proofs.Common.{◌≡◌, ◌≤◌, true, List, ℕ, length, map, sym, subst}
 use Rattle.xdg_formula_check.specs.Tables.{used_dims}
 use Rattle.xdg_terms.specs.Faults.{has}
 use Rattle.xdg_formula_compile.proofs.Atomic.{edge_made, label_known, type_kept}
-use Rattle.xdg_formula_compile.proofs.Rightly.{edge_right, some_there}
+use Rattle.xdg_formula_compile.proofs.Rightly.{edge_right}
+use Rattle.xdg_formula_compile.proofs.Standing.{dim_at, dim_has}
 use Rattle.xdg_formula_compile.proofs.atoms.edge.Goals as goal
 
-pub dim_number-requires : goal.dim_number-requires
-dim_number-requires c =
+pub dim_number-place-requires : goal.dim_number-place-requires
+dim_number-place-requires c =
     let right = edge_right (used_dims c.args.types.now) (map (λ text. text.now) c.args.bound.now) c.args.dim.now c.args.mother.now c.args.label.now c.args.daughter.now c.requires.right in
-    some_there _ right.found right.there
+    dim_has c.args.types.now.dims c.args.types.now.used c.args.dim.now.text right.found right.there
+
+pub dim_type-requires : goal.dim_type-requires
+dim_type-requires c = (dim_at c.args.types.now.dims c.args.types.now.used c.args.dim.now.text c.dim_number-place.result c.dim_number-place.ensures.at).within
 
 pub label_number-requires-clause-known : goal.label_number-requires-clause-known
 label_number-requires-clause-known c =

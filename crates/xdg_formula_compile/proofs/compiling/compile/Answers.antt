@@ -1,8 +1,9 @@
-use Rattle.std.proofs.Common.{◌≡◌, List, sym, subst, ap}
+use Rattle.std.proofs.Common.{◌∙◌, sym, subst, ap}
 use Rattle.xdg_base.specs.declared.faults.Fault.{Fault}
 use Rattle.xdg_formula_check.specs.Answers.{Offends}
-use Rattle.xdg_formula_compile.specs.Says.{Keeps, KeepsEach}
-use Rattle.xdg_formula_compile.proofs.Compiled.{zip_more, zip_all}
+use Rattle.xdg_formula_compile.specs.Formulas.{formulas_of}
+use Rattle.xdg_formula_compile.specs.Says.{Compiles, KeepsEach}
+use Rattle.xdg_formula_compile.proofs.Compiled.{all_are, keeps_all, zip_more, zip_all}
 use Rattle.xdg_formula_compile.proofs.Rightly.{body_right}
 use Rattle.xdg_formula_compile.proofs.compiling.compile.Goals as goal
 
@@ -13,9 +14,16 @@ compile_rule-requires-clause-right c =
 
 pub loop-rule-preserved : goal.loop-rule-preserved
 loop-rule-preserved c =
-    zip_more (Keeps c.args.types.now c.args.packed.now c.args.problem.now) c.as_slice-rule-items.result.now c.loop-rule.rule-index c.loop-rule.made _ c.rule-item.result _ c.loop-rule-test.true c.rule-item.is c.in_ok-push.ensures.ok c.loop-rule.invariant c.in_ok-compile_rule.ensures
+    zip_more (Compiles c.args.types.now c.args.packed.now c.args.problem.now) c.as_slice-rule-items.result.now c.loop-rule.rule-index c.loop-rule.made _ c.rule-item.result _ c.loop-rule-test.true c.rule-item.is c.in_ok-push.ensures.ok c.loop-rule.invariant c.in_ok-compile_rule.ensures
 
-pub returns-after-loop-rule : goal.returns-after-loop-rule
-returns-after-loop-rule c =
+pub returns-clause-keeps : goal.returns-clause-keeps
+returns-clause-keeps c =
     subst (λ rules. KeepsEach c.args.types.now c.args.packed.now c.args.problem.now rules c.loop-rule.made) c.as_slice-rule-items.ensures
-    (zip_all (Keeps c.args.types.now c.args.packed.now c.args.problem.now) c.as_slice-rule-items.result.now c.loop-rule.rule-index c.loop-rule.made c.loop-rule-test.false c.loop-rule.invariant)
+    (keeps_all c.args.types.now c.args.packed.now c.args.problem.now c.as_slice-rule-items.result.now c.loop-rule.made
+    (zip_all (Compiles c.args.types.now c.args.packed.now c.args.problem.now) c.as_slice-rule-items.result.now c.loop-rule.rule-index c.loop-rule.made c.loop-rule-test.false c.loop-rule.invariant))
+
+pub returns-clause-is : goal.returns-clause-is
+returns-clause-is c =
+    all_are c.args.types.now c.args.packed.now c.args.problem.now c.as_slice-rule-items.result.now c.loop-rule.made
+    (zip_all (Compiles c.args.types.now c.args.packed.now c.args.problem.now) c.as_slice-rule-items.result.now c.loop-rule.rule-index c.loop-rule.made c.loop-rule-test.false c.loop-rule.invariant)
+    ∙ ap (formulas_of c.args.types.now c.args.packed.now c.args.problem.now) c.as_slice-rule-items.ensures

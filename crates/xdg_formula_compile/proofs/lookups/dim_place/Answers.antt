@@ -1,17 +1,18 @@
-use Rattle.std.proofs.Common.{◌≡◌, true, false}
+use Rattle.std.proofs.Common.{◌≡◌, true, false, get_or}
 use Rattle.std.specs.Prelude.{bytes_eq}
-use Rattle.xdg_formula_compile.proofs.Standing.{dim_found, dim_passed, dim_nowhere}
+use Rattle.xdg_formula_check.specs.Tables.{no_dim}
+use Rattle.xdg_formula_compile.proofs.Standing.{dim_turn, dim_found, place_somewhere}
 use Rattle.xdg_formula_compile.proofs.lookups.dim_place.Goals as goal
 
 pub returns-then-eq : goal.returns-then-eq
 returns-then-eq c =
-    let same : bytes_eq c.index-dims.result.name c.args.name.now.text ≡ true = cc in
-    dim_found c.args.dims.now c.args.used.now c.loop-place.place c.args.name.now.text c.loop-place-test.true c.loop-place.invariant c.index-used-place.result c.index-dims.result c.index-used-place.is ? c.index-dims.is same
+    let same : bytes_eq c.index-dims-k.result.name c.args.name.now.text ≡ true = cc in
+    dim_found c.args.dims.now c.args.used.now c.loop-place.place c.args.name.now.text c.loop-place.invariant c.loop-place-test.true c.index-dims-k.result (c.requires.used c.loop-place.place 0 c.loop-place-test.true) c.index-dims-k.is same
 
 pub loop-place-preserved : goal.loop-place-preserved
 loop-place-preserved c =
-    let other : bytes_eq c.index-dims.result.name c.args.name.now.text ≡ false = cc in
-    dim_passed c.args.dims.now c.args.used.now c.loop-place.place c.args.name.now.text c.loop-place-test.true c.loop-place.invariant c.index-used-place.result c.index-dims.result c.index-used-place.is ? c.index-dims.is other
+    let other : bytes_eq c.index-dims-k.result.name c.args.name.now.text ≡ false = cc in
+    dim_turn c.args.dims.now c.args.used.now c.loop-place.place c.args.name.now.text c.loop-place.invariant c.loop-place-test.true c.index-dims-k.result (c.requires.used c.loop-place.place 0 c.loop-place-test.true) c.index-dims-k.is other
 
-pub returns-after-loop-place : goal.returns-after-loop-place
-returns-after-loop-place c = absurd (dim_nowhere c.args.dims.now c.args.used.now c.loop-place.place c.args.name.now.text c.loop-place-test.false c.loop-place.invariant c.requires.known)
+pub returns : goal.returns
+returns c = absurd (place_somewhere (λ k. (get_or c.args.dims.now k no_dim).name) c.args.used.now c.loop-place.place c.args.name.now.text c.loop-place.invariant c.loop-place-test.false c.requires.known)

@@ -1,6 +1,7 @@
 use Rattle.std.proofs.Common.{◌≡◌, drop}
-use Rattle.xdg_formula_check.specs.Tables.{dim_named, dims_at}
+use Rattle.xdg_terms.specs.Built.{place_from}
+use Rattle.xdg_formula_compile.specs.Places.{names_at}
 use Rattle.xdg_formula_compile.proofs.lookups.dim_place.Given as goal
 
 abbrev pub invariant-loop-place : goal.invariant-loop-place
-invariant-loop-place l = dim_named (dims_at l.dims (drop l.place l.used)) l.name.text ≡ dim_named (dims_at l.dims l.used) l.name.text
+invariant-loop-place l = place_from l.place (names_at l.dims (drop l.place l.used)) l.name.text ≡ place_from 0 (names_at l.dims l.used) l.name.text

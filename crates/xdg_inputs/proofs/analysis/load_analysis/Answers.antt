@@ -16,6 +16,9 @@ returns-in-Ok-make_judgeable-clause-found g c files told =
     judged_accepted c.args.expanded.now c.args.packed.now c.requires.packed (g.H.Shelf.files c.args.shelf.now) files c.args.name.now c.in-Ok.bytes.items (g.H.Shelf.faults c.args.shelf.now c.args.name.now) (g.H.Shelf.faults c.load.new.self c.args.name.now)
     c.in-Ok.ensures.file c.in-Ok.ensures.within c.deref.result.now c.in-Ok-read.text c.in-Ok-make_judgeable.judgeable told c.deref.ensures.value c.in-Ok-read.ensures.tells c.in-Ok-read.ensures.only c.in-Ok-make_judgeable.ensures.judged
 
+pub returns-in-Ok-make_judgeable-clause-made : goal.returns-in-Ok-make_judgeable-clause-made
+returns-in-Ok-make_judgeable-clause-made g c = record { words = c.in-Ok-read.text.words; is = c.in-Ok-make_judgeable.ensures.judged.parts_are }
+
 pub returns-clause-refused : goal.returns-clause-refused
 returns-clause-refused g c files =
     unjudged_stops c.args.expanded.now c.args.packed.now c.requires.packed (g.H.Shelf.files c.args.shelf.now) files c.args.name.now c.in-Ok.bytes.items (g.H.Shelf.faults c.args.shelf.now c.args.name.now) (g.H.Shelf.faults c.load.new.self c.args.name.now)

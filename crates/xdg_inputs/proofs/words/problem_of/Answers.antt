@@ -1,4 +1,5 @@
-use Rattle.xdg_inputs.proofs.Wording.{built_accepted, built_stops}
+use Rattle.xdg_groups.specs.Grammars.{grammar_of}
+use Rattle.xdg_inputs.proofs.Wording.{built_accepted, built_stops, made_of}
 use Rattle.xdg_inputs.proofs.words.problem_of.Goals as goal
 
 pub returns-clause-found : goal.returns-clause-found
@@ -7,3 +8,6 @@ returns-clause-found c =
 
 pub returns-clause-refused : goal.returns-clause-refused
 returns-clause-refused c = built_stops c.args.expanded.now c.args.packed.now c.requires.packed c.args.segment c.args.text.now c.in-Ok.words c.build.result c.in-Ok.ensures.words c.build.ensures.refused
+
+pub returns-clause-made : goal.returns-clause-made
+returns-clause-made c = made_of (grammar_of c.args.expanded.now.checked c.args.packed.now) c.in-Ok.words c.build.result c.build.ensures.compiled

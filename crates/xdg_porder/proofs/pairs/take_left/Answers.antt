@@ -1,5 +1,6 @@
 use Rattle.std.proofs.Common.{◌≤◌}
-use Rattle.xdg_porder.specs.Items.{MayStand, MustStand}
+use Rattle.xdg_porder.specs.Items.{IsLeftDone, MayStand, MustStand}
+use Rattle.xdg_propcore.proofs.Sweeping.{sweeps_start}
 use Rattle.xdg_porder.proofs.Pairing.{refused_exact, left_takes, left_done}
 use Rattle.xdg_porder.proofs.pairs.take_left.Goals as goal
 
@@ -8,3 +9,7 @@ take_items-requires-clause-takes c = left_takes c.args.group.now c.args.u.0 c.ar
 
 pub returns : goal.returns
 returns c = left_done c.args.group.now c.args.u.0 c.args.earlier.0 c.args.later.0 c.args.pass.now c.args.store.now c.at_or_left-refused.result c.requires (refused_exact (MayStand c.args.store.now.parts c.args.group.now c.args.store.now.now c.args.u.0 c.args.later.0) (MustStand c.args.store.now.parts c.args.group.now c.args.store.now.now c.args.u.0 c.args.earlier.0) (λ v w. v ≤ w) c.may_items.result c.must_items-ends.result c.at_or_left-refused.result c.at_or_left-refused.ensures c.may_items.ensures c.must_items-ends.ensures) c.take_items.new.pass c.take_items.new.store c.take_items.ensures
+
+pub returns-then-is_empty : goal.returns-then-is_empty
+returns-then-is_empty c = sweeps_start c.args.group.now (IsLeftDone c.args.store.now.parts c.args.group.now c.args.u.0 c.args.earlier.0 c.args.later.0) c.args.pass.now c.args.store.now c.requires.0.0.0.known
+    (λ v w may must o. c.is_empty.ensures.0 c.if-is_empty.true w ((c.must_items-ends.ensures w).1 must))

@@ -1,30 +1,36 @@
+use Rattle.std.proofs.Common.{◌≡◌, Some}
+use Rattle.xdg_formula_text.specs.declared.tree.Rules.{Rules}
 use Rattle.xdg_grammar.specs.Answers.{meaning_of}
-use Rattle.xdg_problem.specs.declared.parts.Parts.{Parts}
-use Rattle.xdg_searches.specs.Outcomes.{Parsed}
-use Rattle.xdg_inputs.specs.Sentences.{HasProblem, IsBadSentence}
 use Rattle.xdg_outcomes.specs.declared.status.Status.TheVariants as statuses
 use Rattle.xdg_outcomes.proofs.Leaving.{accepted_leaves, stopped_leaves}
+use Rattle.xdg_outcomes.proofs.Writing.{refused_quiet, refused_wrote}
+use Rattle.xdg_ruled.specs.Files.{HasBadRules, HasRules, count_for}
+use Rattle.xdg_searches.specs.Outcomes.{SentenceThen}
 use Rattle.xdg_searches.specs.Runs.{ParseEnds}
-use Rattle.xdg_outcomes.proofs.Writing.{refused_quiet, refused_wrote, searched_wrote}
 use Rattle.xdg_searches.proofs.parse.parse_expanded.Goals as goal
 
-pub returns-in-Ok-read_problem-clause-leaves : goal.returns-in-Ok-read_problem-clause-leaves
-returns-in-Ok-read_problem-clause-leaves g c content told =
-    accepted_leaves Parts statuses.BadSentence (IsBadSentence (meaning_of c.args.expanded.now) c.args.options.now.segment content) (HasProblem (meaning_of c.args.expanded.now) c.args.options.now.segment content) (Parsed c.args.options.now) c.in-Ok-read_problem.problem c.search_asked.result _ _
-    (c.in-Ok-read_problem.ensures.found content told) c.search_asked.ensures.leaves
+pub returns-in-Ok-clause-leaves : goal.returns-in-Ok-clause-leaves
+returns-in-Ok-clause-leaves g c files content told given =
+    let o = c.args.options.now in
+    let m = meaning_of c.args.expanded.now in
+    accepted_leaves Rules statuses.BadRules (HasBadRules files o.rules m.table) (HasRules files o.rules m.table) (λ rules. SentenceThen o content rules m) c.in-Ok.rules c.parse_ruled.result _ _ (c.in-Ok.ensures.found files told) (c.parse_ruled.ensures.leaves content given)
 
-pub returns-clause-leaves : goal.returns-clause-leaves
-returns-clause-leaves g c content told =
-    stopped_leaves Parts statuses.BadSentence (IsBadSentence (meaning_of c.args.expanded.now) c.args.options.now.segment content) (HasProblem (meaning_of c.args.expanded.now) c.args.options.now.segment content) (Parsed c.args.options.now) _ _ _ c.refuse.result c.in-Err-read_problem.refusal _ _
-    told (λ e. e) (c.in-Err-read_problem.ensures.refused content) c.refuse.ensures.written
+pub returns-in-Err-clause-leaves : goal.returns-in-Err-clause-leaves
+returns-in-Err-clause-leaves g c files content told given =
+    let o = c.args.options.now in
+    let m = meaning_of c.args.expanded.now in
+    let old = count_for o.rules (g.H.Shelf.faults c.args.shelf.now) in
+    let new = count_for o.rules (g.H.Shelf.faults c.load_rules.new.shelf) in
+    stopped_leaves Rules statuses.BadRules (HasBadRules files o.rules m.table) (HasRules files o.rules m.table) (λ rules. SentenceThen o content rules m) (g.H.Shelf.files c.args.shelf.now ≡ Some files) old new c.refuse.result c.in-Err.refusal _ _ told (λ e. e)
+    (c.in-Err.ensures.refused files) c.refuse.ensures.written
 
-pub returns-in-Ok-read_problem-clause-wrote : goal.returns-in-Ok-read_problem-clause-wrote
-returns-in-Ok-read_problem-clause-wrote g c = searched_wrote ParseEnds (Parsed c.args.options.now c.in-Ok-read_problem.problem) c.search_asked.result _ _ _ _ tt tt tt tt c.search_asked.ensures.ends c.search_asked.ensures.leaves c.search_asked.ensures.out_quiet
+pub returns-in-Ok-clause-shelf_quiet : goal.returns-in-Ok-clause-shelf_quiet
+returns-in-Ok-clause-shelf_quiet g c other differs = c.in-Ok.ensures.quiet other
 
-pub returns-clause-wrote : goal.returns-clause-wrote
-returns-clause-wrote g c =
-    refused_wrote ParseEnds statuses.BadSentence c.refuse.result c.in-Err-read_problem.refusal _ _ _ _ tt tt tt tt tt c.refuse.ensures.written c.refuse.ensures.quiet
+pub returns-in-Err-clause-wrote : goal.returns-in-Err-clause-wrote
+returns-in-Err-clause-wrote g c =
+    refused_wrote ParseEnds statuses.BadRules c.refuse.result c.in-Err.refusal _ _ _ _ tt tt tt tt tt c.refuse.ensures.written c.refuse.ensures.quiet
 
-pub returns-clause-input_quiet : goal.returns-clause-input_quiet
-returns-clause-input_quiet g c differs =
-    refused_quiet statuses.BadSentence c.refuse.result c.in-Err-read_problem.refusal _ _ (g.S.Source.faults c.args.input.now) (g.S.Source.faults c.read_problem.new.source) c.refuse.ensures.written c.in-Err-read_problem.ensures.quiet differs
+pub returns-in-Err-clause-shelf_quiet : goal.returns-in-Err-clause-shelf_quiet
+returns-in-Err-clause-shelf_quiet g c other differs =
+    refused_quiet statuses.BadRules c.refuse.result c.in-Err.refusal _ _ (g.H.Shelf.faults c.args.shelf.now other) (g.H.Shelf.faults c.load_rules.new.shelf other) c.refuse.ensures.written (c.in-Err.ensures.quiet other) differs

@@ -1,4 +1,6 @@
+use Rattle.std.proofs.Common.{inl, inr}
 use Rattle.xdg_outcomes.specs.Loaded.{read_of}
+use Rattle.xdg_ruled.specs.Outcomes.{RulesThen}
 use Rattle.xdg_searches.specs.Outcomes.{SentenceThen}
 use Rattle.xdg_outcomes.proofs.Meaning.{meaning_leaves, meaning_refused}
 use Rattle.xdg_outcomes.specs.declared.status.Status.TheVariants as statuses
@@ -7,13 +9,16 @@ use Rattle.xdg_outcomes.proofs.Writing.{refused_wrote}
 use Rattle.xdg_searches.proofs.parse.parse_loaded.Goals as goal
 
 pub returns-in-Ok-clause-leaves : goal.returns-in-Ok-clause-leaves
-returns-in-Ok-clause-leaves g c content told =
-    meaning_leaves (read_of c.args.loaded.now) (SentenceThen c.args.options.now content) c.parse_expanded.result c.in-Ok.expanded _ _ c.in-Ok.ensures.tells c.in-Ok.ensures.only (c.parse_expanded.ensures.leaves content told)
+returns-in-Ok-clause-leaves g c files content told given =
+    meaning_leaves (read_of c.args.loaded.now) (RulesThen files c.args.options.now.rules (SentenceThen c.args.options.now content)) c.parse_expanded.result c.in-Ok.expanded _ _ c.in-Ok.ensures.tells c.in-Ok.ensures.only (c.parse_expanded.ensures.leaves files content told given)
 
 pub returns-in-Err-clause-leaves : goal.returns-in-Err-clause-leaves
-returns-in-Err-clause-leaves g c content told =
-    meaning_refused (read_of c.args.loaded.now) (SentenceThen c.args.options.now content) c.refuse.result _ c.in-Err.stop _ _ _ c.deref.ensures.value c.in-Err.ensures.tells c.in-Err.ensures.only c.stopped_in.ensures c.refuse.ensures.written
+returns-in-Err-clause-leaves g c files content told given =
+    meaning_refused (read_of c.args.loaded.now) (RulesThen files c.args.options.now.rules (SentenceThen c.args.options.now content)) c.refuse.result _ c.in-Err.stop _ _ _ c.deref.ensures.value c.in-Err.ensures.tells c.in-Err.ensures.only c.stopped_in.ensures c.refuse.ensures.written
 
 pub returns-in-Err-clause-wrote : goal.returns-in-Err-clause-wrote
 returns-in-Err-clause-wrote g c =
     refused_wrote ParseEnds statuses.BadGrammar c.refuse.result c.stopped_in.result _ _ _ _ tt tt tt tt tt c.refuse.ensures.written c.refuse.ensures.quiet
+
+pub returns-in-Ok-clause-unread : goal.returns-in-Ok-clause-unread
+returns-in-Ok-clause-unread g c bad = elim bad [ inl grammar ↦ absurd (c.parse_expanded.ensures.command.1.1 grammar) | inr rules ↦ c.parse_expanded.ensures.unread rules ]

@@ -1,8 +1,8 @@
-use Rattle.std.proofs.Common.{◌≡◌, ◌∙◌, Some, subst}
+use Rattle.std.proofs.Common.{◌≡◌, ◌∙◌, Some, subst, inl, inr}
 use Rattle.xdg_outcomes.specs.Loaded.{read_of}
 use Rattle.xdg_outcomes.specs.Outcomes.{MeaningThen}
-use Rattle.xdg_inputs.specs.Outcomes.{AnalysisThen}
-use Rattle.xdg_searches.specs.Outcomes.{Resumed}
+use Rattle.xdg_ruled.specs.Outcomes.{RulesThen}
+use Rattle.xdg_searches.specs.Outcomes.{ResumeThen}
 use Rattle.xdg_outcomes.specs.Refusals.{Stops}
 use Rattle.xdg_outcomes.specs.Stages.{Accepts}
 use Rattle.xdg_outcomes.specs.Texts.{HasBadText, HasTree, ReadText}
@@ -10,12 +10,14 @@ use Rattle.xdg_outcomes.specs.declared.status.Status.TheVariants as statuses
 use Rattle.xdg_outcomes.proofs.Leaving.{accepted_leaves, stopped_leaves}
 use Rattle.xdg_searches.specs.Runs.{ResumeEnds}
 use Rattle.xdg_outcomes.proofs.Writing.{refused_quiet, refused_wrote}
+use Rattle.xdg_ruled.proofs.Given.{rose_later}
+use Rattle.xdg_io.specs.Rose.{Rose}
 use Rattle.xdg_searches.proofs.resume.resume_analysis.Goals as goal
 
 pub returns-in-Ok-clause-leaves : goal.returns-in-Ok-clause-leaves
 returns-in-Ok-clause-leaves g c files told =
     let o = c.args.options.now in
-    accepted_leaves ReadText statuses.BadText (HasBadText files o.grammar) (HasTree files o.grammar) (λ read. MeaningThen read (AnalysisThen files o.analysis (Resumed o))) (read_of c.in-Ok.loaded) c.resume_loaded.result _ _
+    accepted_leaves ReadText statuses.BadText (HasBadText files o.grammar) (HasTree files o.grammar) (λ read. MeaningThen read (RulesThen files o.rules (ResumeThen o files))) (read_of c.in-Ok.loaded) c.resume_loaded.result _ _
     (subst (λ n. Accepts ReadText (HasBadText files n) (HasTree files n) (read_of c.in-Ok.loaded)) c.as_str.ensures (c.in-Ok.ensures.found files told)) (c.resume_loaded.ensures.leaves files (c.load_tree.ensures.kept ∙ told))
 
 pub returns-in-Err-clause-leaves : goal.returns-in-Err-clause-leaves
@@ -23,7 +25,7 @@ returns-in-Err-clause-leaves g c files told =
     let o = c.args.options.now in
     let old = g.H.Shelf.faults c.args.shelf.now c.as_str.result.now in
     let new = g.H.Shelf.faults c.load_tree.new.shelf c.as_str.result.now in
-    stopped_leaves ReadText statuses.BadText (HasBadText files o.grammar) (HasTree files o.grammar) (λ read. MeaningThen read (AnalysisThen files o.analysis (Resumed o))) (g.H.Shelf.files c.args.shelf.now ≡ Some files) old new c.refuse.result c.in-Err.refusal _ _ told (λ e. e)
+    stopped_leaves ReadText statuses.BadText (HasBadText files o.grammar) (HasTree files o.grammar) (λ read. MeaningThen read (RulesThen files o.rules (ResumeThen o files))) (g.H.Shelf.files c.args.shelf.now ≡ Some files) old new c.refuse.result c.in-Err.refusal _ _ told (λ e. e)
     (subst (λ n. Stops (g.H.Shelf.files c.args.shelf.now ≡ Some files) old new ReadText (HasBadText files n) (HasTree files n) c.in-Err.refusal) c.as_str.ensures (c.in-Err.ensures.refused files)) c.refuse.ensures.written
 
 pub returns-in-Ok-clause-shelf_quiet : goal.returns-in-Ok-clause-shelf_quiet
@@ -36,3 +38,11 @@ returns-in-Err-clause-wrote g c =
 pub returns-in-Err-clause-shelf_quiet : goal.returns-in-Err-clause-shelf_quiet
 returns-in-Err-clause-shelf_quiet g c other differs =
     refused_quiet statuses.BadText c.refuse.result c.in-Err.refusal _ _ (g.H.Shelf.faults c.args.shelf.now other) (g.H.Shelf.faults c.load_tree.new.shelf other) c.refuse.ensures.written (c.in-Err.ensures.quiet other) differs
+
+pub returns-in-Ok-clause-read_fault : goal.returns-in-Ok-clause-read_fault
+returns-in-Ok-clause-read_fault g c failed =
+    let o = c.args.options.now in
+    elim (c.resume_loaded.ensures.read_fault failed) [
+      | inl rose ↦ inr (inl (rose_later o.rules (g.H.Shelf.faults c.args.shelf.now) (g.H.Shelf.faults c.load_tree.new.shelf) (g.H.Shelf.faults c.resume_loaded.new.shelf) c.in-Ok.ensures.quiet rose))
+      | inr rose ↦ inr (inr (subst (λ n. Rose n (g.H.Shelf.faults c.resume_loaded.new.shelf o.analysis)) (c.in-Ok.ensures.quiet o.analysis) rose))
+    ]

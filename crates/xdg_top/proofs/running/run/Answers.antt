@@ -3,7 +3,7 @@ use Rattle.std.specs.String.{string_bytes}
 use Rattle.xdg_command.specs.declared.commands.Command.TheVariants as commands
 use Rattle.xdg_text.specs.Lines.{usage_line}
 use Rattle.xdg_top.specs.Outcomes.{CommandOf, IsUsage, OutcomeOf}
-use Rattle.xdg_top.specs.Runs.{EndsWith, ReadsInput}
+use Rattle.xdg_top.specs.Runs.{EndsWith, IsRefusedFile, ReadsInput}
 use Rattle.xdg_outcomes.specs.declared.status.Status.TheVariants as statuses
 use Rattle.xdg_top.proofs.Commanded.{asked_leaves, memory_ends, memory_leaves, memory_left, not_usage, nothing_added, only_usage, read_won, the_command, the_none, usage_alone, usage_leaves, wants_some, words_leave}
 use Rattle.xdg_outcomes.proofs.Leaving.{ends_of, front_of}
@@ -97,7 +97,7 @@ returns-clause-out_quiet g c differs = c.run_command.ensures.wrote.quiet differs
 pub returns-clause-unread : goal.returns-clause-unread
 returns-clause-unread g c ended = same ended
   where
-    same : (c.run_command.result ≡ statuses.Usage) ⊎ ((c.run_command.result ≡ statuses.BadText) ⊎ (c.run_command.result ≡ statuses.BadGrammar)) → g.S.Source.left c.run_command.new.input ≡ g.S.Source.left c.args.input.now
+    same : (c.run_command.result ≡ statuses.Usage) ⊎ IsRefusedFile c.run_command.result → g.S.Source.left c.run_command.new.input ≡ g.S.Source.left c.args.input.now
     same (inl is) = absurd (not_usage c.in-Ok-Some.command c.run_command.result c.run_command.ensures.wrote.ends is)
     same (inr bad) = c.run_command.ensures.unread bad
 

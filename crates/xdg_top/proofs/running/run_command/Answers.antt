@@ -1,12 +1,15 @@
-use Rattle.std.proofs.Common.{refl, subst, rules}
-use Rattle.xdg_arrange.specs.Outcomes.{ArrangeOf}
+use Rattle.std.proofs.Common.{◌≡◌, inl, inr, refl, subst, rules}
+use Rattle.xdg_arrange.specs.Outcomes.{ArrangeEnds, ArrangeOf}
+use Rattle.xdg_cheapest.specs.Runs.{BestEnds}
 use Rattle.xdg_command.specs.declared.commands.Command.TheVariants as commands
-use Rattle.xdg_reports.specs.Outcomes.{CheckOf, ExplainOf, LexiconOf, PrintOf}
+use Rattle.xdg_corpus.specs.Outcomes.{CorpusEnds}
+use Rattle.xdg_io.specs.Rose.{Rose}
+use Rattle.xdg_reports.specs.Outcomes.{CheckOf, LexiconOf, PrintOf}
 use Rattle.xdg_top.specs.Outcomes.{WantsSome}
 use Rattle.xdg_outcomes.specs.Runs.{Leaves}
-use Rattle.xdg_searches.specs.Runs.{DrillEnds}
-use Rattle.xdg_top.specs.Runs.{ReadsInput}
-use Rattle.xdg_top.proofs.Commanded.{corpus_done, early_wrote, explain_failed, file_failed, front_part, parse_failed, reads_failed, resume_failed, said_leaves, said_reads, said_wrote}
+use Rattle.xdg_searches.specs.Runs.{DrillEnds, ParseEnds}
+use Rattle.xdg_top.specs.Runs.{ReadsInput, of_input}
+use Rattle.xdg_top.proofs.Commanded.{all_failed, corpus_done, early_wrote, file_failed, front_part, reads_failed, refused_file, ruled_failed, said_leaves, said_reads, said_wrote}
 use Rattle.xdg_top.proofs.running.run_command.Goals as goal
 
 pub parse_sentence-requires : goal.parse_sentence-requires
@@ -14,6 +17,9 @@ parse_sentence-requires g c = (search rules, subst WantsSome c.in-Parse.is c.req
 
 pub resume_analysis-requires : goal.resume_analysis-requires
 resume_analysis-requires g c = subst WantsSome c.in-Resume.is c.requires
+
+pub best_sentence-requires : goal.best_sentence-requires
+best_sentence-requires g c = subst WantsSome c.in-Best.is c.requires
 
 pub corpus-requires : goal.corpus-requires
 corpus-requires g c = (search rules, subst WantsSome c.in-Corpus.is c.requires)
@@ -27,7 +33,14 @@ pub returns-in-Parse-clause-wrote : goal.returns-in-Parse-clause-wrote
 returns-in-Parse-clause-wrote g c = said_wrote c.args.command.now (commands.Parse c.in-Parse.options) c.parse_sentence.result (g.K.Sink.faults c.args.out.now) (g.K.Sink.faults c.parse_sentence.new.out) (g.K.Sink.held c.args.out.now) (g.K.Sink.held c.parse_sentence.new.out) c.in-Parse.is (λ u. u) c.parse_sentence.ensures.wrote
 
 pub returns-in-Parse-clause-read_fault : goal.returns-in-Parse-clause-read_fault
-returns-in-Parse-clause-read_fault g c failed = parse_failed c.args.command.now c.in-Parse.options (g.H.Shelf.faults c.args.shelf.now) (g.H.Shelf.faults c.parse_sentence.new.shelf) (g.S.Source.faults c.args.input.now) (g.S.Source.faults c.parse_sentence.new.input) c.in-Parse.is (c.parse_sentence.ensures.read_fault failed)
+returns-in-Parse-clause-read_fault g c failed =
+    ruled_failed c.args.command.now (commands.Parse c.in-Parse.options) c.in-Parse.options.grammar c.in-Parse.options.rules (Rose (g.S.Source.faults c.args.input.now) (g.S.Source.faults c.parse_sentence.new.input)) (g.H.Shelf.faults c.args.shelf.now) (g.H.Shelf.faults c.parse_sentence.new.shelf)
+    (g.S.Source.faults c.args.input.now) (g.S.Source.faults c.parse_sentence.new.input) c.in-Parse.is (inl refl) (λ name given. inr given) (λ rose. of_input (said_reads c.args.command.now (commands.Parse c.in-Parse.options) c.in-Parse.is tt) rose) (c.parse_sentence.ensures.read_fault failed)
+
+pub returns-in-Parse-clause-unread : goal.returns-in-Parse-clause-unread
+returns-in-Parse-clause-unread g c bad =
+    refused_file ParseEnds c.parse_sentence.result (g.S.Source.left c.parse_sentence.new.input ≡ g.S.Source.left c.args.input.now) c.parse_sentence.ensures.wrote.ends (λ can is. c.parse_sentence.ensures.unread (inr (inr is))) (λ can is. absurd can)
+    (λ text. c.parse_sentence.ensures.unread (elim text [ inl is ↦ inl is | inr is ↦ inr (inl is) ])) bad
 
 pub returns-in-Parse-clause-files_alone : goal.returns-in-Parse-clause-files_alone
 returns-in-Parse-clause-files_alone g c none = absurd (none (said_reads c.args.command.now (commands.Parse c.in-Parse.options) c.in-Parse.is tt))
@@ -41,22 +54,29 @@ pub returns-in-Resume-clause-wrote : goal.returns-in-Resume-clause-wrote
 returns-in-Resume-clause-wrote g c = said_wrote c.args.command.now (commands.Resume c.in-Resume.options) c.resume_analysis.result (g.K.Sink.faults c.args.out.now) (g.K.Sink.faults c.resume_analysis.new.out) (g.K.Sink.held c.args.out.now) (g.K.Sink.held c.resume_analysis.new.out) c.in-Resume.is (λ u. u) c.resume_analysis.ensures.wrote
 
 pub returns-in-Resume-clause-read_fault : goal.returns-in-Resume-clause-read_fault
-returns-in-Resume-clause-read_fault g c failed = resume_failed c.args.command.now c.in-Resume.options (g.H.Shelf.faults c.args.shelf.now) (g.H.Shelf.faults c.resume_analysis.new.shelf) (g.S.Source.faults c.args.input.now) (g.S.Source.faults c.args.input.now) c.in-Resume.is (c.resume_analysis.ensures.read_fault failed)
+returns-in-Resume-clause-read_fault g c failed =
+    let o = c.in-Resume.options in
+    ruled_failed c.args.command.now (commands.Resume o) o.grammar o.rules (Rose (g.H.Shelf.faults c.args.shelf.now o.analysis) (g.H.Shelf.faults c.resume_analysis.new.shelf o.analysis)) (g.H.Shelf.faults c.args.shelf.now) (g.H.Shelf.faults c.resume_analysis.new.shelf)
+    (g.S.Source.faults c.args.input.now) (g.S.Source.faults c.args.input.now) c.in-Resume.is (inl refl) (λ name given. inr (inl given))
+    (λ rose. file_failed c.args.command.now (commands.Resume o) o.analysis (g.H.Shelf.faults c.args.shelf.now) (g.H.Shelf.faults c.resume_analysis.new.shelf) (g.S.Source.faults c.args.input.now) (g.S.Source.faults c.args.input.now) c.in-Resume.is (inr (inr refl)) rose) (c.resume_analysis.ensures.read_fault failed)
 
 pub returns-in-Resume-clause-all_read : goal.returns-in-Resume-clause-all_read
 returns-in-Resume-clause-all_read g c content reads done told = absurd (subst ReadsInput c.in-Resume.is reads)
 
 pub returns-in-Explain-clause-leaves : goal.returns-in-Explain-clause-leaves
 returns-in-Explain-clause-leaves g c files content told given =
-    said_leaves files content c.args.command.now (commands.Explain c.in-Explain.grammar c.in-Explain.analysis) c.explain_analysis.result (g.K.Sink.held c.args.out.now) (g.K.Sink.held c.explain_analysis.new.out) c.in-Explain.is
-    (subst (λ n. Leaves (ExplainOf n c.in-Explain.analysis files) c.explain_analysis.result (g.K.Sink.held c.args.out.now) (g.K.Sink.held c.explain_analysis.new.out)) c.as_str.ensures
-    (subst (λ n. Leaves (ExplainOf c.as_str.result.now n files) c.explain_analysis.result (g.K.Sink.held c.args.out.now) (g.K.Sink.held c.explain_analysis.new.out)) c.as_str-in-Explain.ensures (c.explain_analysis.ensures.leaves files told)))
+    said_leaves files content c.args.command.now (commands.Explain c.in-Explain.options) c.explain_analysis.result (g.K.Sink.held c.args.out.now) (g.K.Sink.held c.explain_analysis.new.out) c.in-Explain.is
+    (c.explain_analysis.ensures.leaves files told)
 
 pub returns-in-Explain-clause-wrote : goal.returns-in-Explain-clause-wrote
-returns-in-Explain-clause-wrote g c = said_wrote c.args.command.now (commands.Explain c.in-Explain.grammar c.in-Explain.analysis) c.explain_analysis.result (g.K.Sink.faults c.args.out.now) (g.K.Sink.faults c.explain_analysis.new.out) (g.K.Sink.held c.args.out.now) (g.K.Sink.held c.explain_analysis.new.out) c.in-Explain.is (λ u. u) c.explain_analysis.ensures.wrote
+returns-in-Explain-clause-wrote g c = said_wrote c.args.command.now (commands.Explain c.in-Explain.options) c.explain_analysis.result (g.K.Sink.faults c.args.out.now) (g.K.Sink.faults c.explain_analysis.new.out) (g.K.Sink.held c.args.out.now) (g.K.Sink.held c.explain_analysis.new.out) c.in-Explain.is (λ u. u) c.explain_analysis.ensures.wrote
 
 pub returns-in-Explain-clause-read_fault : goal.returns-in-Explain-clause-read_fault
-returns-in-Explain-clause-read_fault g c failed = explain_failed c.args.command.now c.in-Explain.grammar c.in-Explain.analysis c.as_str.result.now c.as_str-in-Explain.result.now (g.H.Shelf.faults c.args.shelf.now) (g.H.Shelf.faults c.explain_analysis.new.shelf) (g.S.Source.faults c.args.input.now) (g.S.Source.faults c.args.input.now) c.in-Explain.is c.as_str.ensures c.as_str-in-Explain.ensures (c.explain_analysis.ensures.read_fault failed)
+returns-in-Explain-clause-read_fault g c failed =
+    let o = c.in-Explain.options in
+    ruled_failed c.args.command.now (commands.Explain o) o.grammar o.rules (Rose (g.H.Shelf.faults c.args.shelf.now o.analysis) (g.H.Shelf.faults c.explain_analysis.new.shelf o.analysis)) (g.H.Shelf.faults c.args.shelf.now) (g.H.Shelf.faults c.explain_analysis.new.shelf)
+    (g.S.Source.faults c.args.input.now) (g.S.Source.faults c.args.input.now) c.in-Explain.is (inl refl) (λ name given. inr (inl given))
+    (λ rose. file_failed c.args.command.now (commands.Explain o) o.analysis (g.H.Shelf.faults c.args.shelf.now) (g.H.Shelf.faults c.explain_analysis.new.shelf) (g.S.Source.faults c.args.input.now) (g.S.Source.faults c.args.input.now) c.in-Explain.is (inr (inr refl)) rose) (c.explain_analysis.ensures.read_fault failed)
 
 pub returns-in-Explain-clause-all_read : goal.returns-in-Explain-clause-all_read
 returns-in-Explain-clause-all_read g c content reads done told = absurd (subst ReadsInput c.in-Explain.is reads)
@@ -128,6 +148,10 @@ returns-in-Corpus-clause-wrote g c =
 pub returns-in-Corpus-clause-read_fault : goal.returns-in-Corpus-clause-read_fault
 returns-in-Corpus-clause-read_fault g c failed = reads_failed c.args.command.now (commands.Corpus c.in-Corpus.options) c.in-Corpus.options.grammar (g.H.Shelf.faults c.args.shelf.now) (g.H.Shelf.faults c.corpus.new.shelf) (g.S.Source.faults c.args.input.now) (g.S.Source.faults c.corpus.new.input) c.in-Corpus.is refl tt (c.corpus.ensures.read_fault failed)
 
+pub returns-in-Corpus-clause-unread : goal.returns-in-Corpus-clause-unread
+returns-in-Corpus-clause-unread g c bad =
+    refused_file CorpusEnds c.corpus.result (g.S.Source.left c.corpus.new.input ≡ g.S.Source.left c.args.input.now) c.corpus.ensures.ends (λ can is. absurd can) (λ can is. absurd can) c.corpus.ensures.unread bad
+
 pub returns-in-Corpus-clause-files_alone : goal.returns-in-Corpus-clause-files_alone
 returns-in-Corpus-clause-files_alone g c none = absurd (none (said_reads c.args.command.now (commands.Corpus c.in-Corpus.options) c.in-Corpus.is tt))
 
@@ -147,5 +171,30 @@ returns-in-Arrange-clause-wrote g c =
 pub returns-in-Arrange-clause-read_fault : goal.returns-in-Arrange-clause-read_fault
 returns-in-Arrange-clause-read_fault g c failed = reads_failed c.args.command.now (commands.Arrange c.in-Arrange.options) c.in-Arrange.options.grammar (g.H.Shelf.faults c.args.shelf.now) (g.H.Shelf.faults c.arrange.new.shelf) (g.S.Source.faults c.args.input.now) (g.S.Source.faults c.arrange.new.input) c.in-Arrange.is refl tt (c.arrange.ensures.read_fault failed)
 
+pub returns-in-Arrange-clause-unread : goal.returns-in-Arrange-clause-unread
+returns-in-Arrange-clause-unread g c bad =
+    refused_file ArrangeEnds c.arrange.result (g.S.Source.left c.arrange.new.input ≡ g.S.Source.left c.args.input.now) c.arrange.ensures.ends (λ can is. absurd can) (λ can is. absurd can) c.arrange.ensures.unread bad
+
 pub returns-in-Arrange-clause-files_alone : goal.returns-in-Arrange-clause-files_alone
 returns-in-Arrange-clause-files_alone g c none = absurd (none (said_reads c.args.command.now (commands.Arrange c.in-Arrange.options) c.in-Arrange.is tt))
+
+pub returns-in-Best-clause-leaves : goal.returns-in-Best-clause-leaves
+returns-in-Best-clause-leaves g c files content told given =
+    said_leaves files content c.args.command.now (commands.Best c.in-Best.options) c.best_sentence.result (g.K.Sink.held c.args.out.now) (g.K.Sink.held c.best_sentence.new.out) c.in-Best.is
+    (c.best_sentence.ensures.leaves files content told (given (said_reads c.args.command.now (commands.Best c.in-Best.options) c.in-Best.is tt)))
+
+pub returns-in-Best-clause-wrote : goal.returns-in-Best-clause-wrote
+returns-in-Best-clause-wrote g c = said_wrote c.args.command.now (commands.Best c.in-Best.options) c.best_sentence.result (g.K.Sink.faults c.args.out.now) (g.K.Sink.faults c.best_sentence.new.out) (g.K.Sink.held c.args.out.now) (g.K.Sink.held c.best_sentence.new.out) c.in-Best.is (λ u. u) c.best_sentence.ensures.wrote
+
+pub returns-in-Best-clause-read_fault : goal.returns-in-Best-clause-read_fault
+returns-in-Best-clause-read_fault g c failed =
+    all_failed c.args.command.now (commands.Best c.in-Best.options) c.in-Best.options.grammar c.in-Best.options.costs (g.H.Shelf.faults c.args.shelf.now) (g.H.Shelf.faults c.best_sentence.new.shelf) (g.S.Source.faults c.args.input.now) (g.S.Source.faults c.best_sentence.new.input) c.in-Best.is
+    (inl refl) (inr refl) tt (c.best_sentence.ensures.read_fault failed)
+
+pub returns-in-Best-clause-unread : goal.returns-in-Best-clause-unread
+returns-in-Best-clause-unread g c bad =
+    refused_file BestEnds c.best_sentence.result (g.S.Source.left c.best_sentence.new.input ≡ g.S.Source.left c.args.input.now) c.best_sentence.ensures.wrote.ends (λ can is. absurd can) (λ can is. c.best_sentence.ensures.unread (inr (inr is)))
+    (λ text. c.best_sentence.ensures.unread (elim text [ inl is ↦ inl is | inr is ↦ inr (inl is) ])) bad
+
+pub returns-in-Best-clause-files_alone : goal.returns-in-Best-clause-files_alone
+returns-in-Best-clause-files_alone g c none = absurd (none (said_reads c.args.command.now (commands.Best c.in-Best.options) c.in-Best.is tt))

@@ -44,3 +44,21 @@ returns-in-Link-clause-keeps c = rw c.in-Link.is c.step-in-Link.ensures.keeps
 
 pub returns-in-Link-clause-same : goal.returns-in-Link-clause-same
 returns-in-Link-clause-same c = rw c.in-Link.is c.step-in-Link.ensures.same
+
+pub step-requires-in-Rule : goal.step-requires-in-Rule
+step-requires-in-Rule c = record { stands = rw c.in-Rule.is at c.requires.stands }
+
+pub returns-in-Rule-clause-keeps : goal.returns-in-Rule-clause-keeps
+returns-in-Rule-clause-keeps c = rw c.in-Rule.is c.step-in-Rule.ensures.keeps
+
+pub returns-in-Rule-clause-same : goal.returns-in-Rule-clause-same
+returns-in-Rule-clause-same c = rw c.in-Rule.is c.step-in-Rule.ensures.same
+
+pub step-requires-in-Cost : goal.step-requires-in-Cost
+step-requires-in-Cost c = record { stands = rw c.in-Cost.is at c.requires.stands }
+
+pub returns-in-Cost-clause-keeps : goal.returns-in-Cost-clause-keeps
+returns-in-Cost-clause-keeps c = rw c.in-Cost.is c.step-in-Cost.ensures.keeps
+
+pub returns-in-Cost-clause-same : goal.returns-in-Cost-clause-same
+returns-in-Cost-clause-same c = rw c.in-Cost.is c.step-in-Cost.ensures.same

@@ -59,3 +59,27 @@ returns-in-Link-clause-keeps c = rw c.in-Link.is c.step_since-in-Link.ensures.ke
 
 pub returns-in-Link-clause-same : goal.returns-in-Link-clause-same
 returns-in-Link-clause-same c = rw c.in-Link.is c.step_since-in-Link.ensures.same
+
+pub step_since-requires-in-Rule-clause-stands : goal.step_since-requires-in-Rule-clause-stands
+step_since-requires-in-Rule-clause-stands c = rw c.in-Rule.is at c.requires.stands
+
+pub step_since-requires-in-Rule-clause-held : goal.step_since-requires-in-Rule-clause-held
+step_since-requires-in-Rule-clause-held c = rw c.in-Rule.is at c.requires.held
+
+pub returns-in-Rule-clause-keeps : goal.returns-in-Rule-clause-keeps
+returns-in-Rule-clause-keeps c = rw c.in-Rule.is c.step_since-in-Rule.ensures.keeps
+
+pub returns-in-Rule-clause-same : goal.returns-in-Rule-clause-same
+returns-in-Rule-clause-same c = rw c.in-Rule.is c.step_since-in-Rule.ensures.same
+
+pub step_since-requires-in-Cost-clause-stands : goal.step_since-requires-in-Cost-clause-stands
+step_since-requires-in-Cost-clause-stands c = rw c.in-Cost.is at c.requires.stands
+
+pub step_since-requires-in-Cost-clause-held : goal.step_since-requires-in-Cost-clause-held
+step_since-requires-in-Cost-clause-held c = rw c.in-Cost.is at c.requires.held
+
+pub returns-in-Cost-clause-keeps : goal.returns-in-Cost-clause-keeps
+returns-in-Cost-clause-keeps c = rw c.in-Cost.is c.step_since-in-Cost.ensures.keeps
+
+pub returns-in-Cost-clause-same : goal.returns-in-Cost-clause-same
+returns-in-Cost-clause-same c = rw c.in-Cost.is c.step_since-in-Cost.ensures.same

@@ -14,3 +14,9 @@ returns-in-Multi-clause-named c = rw c.in-Multi.is c.wakes-in-Multi.ensures.name
 
 pub returns-in-Link-clause-named : goal.returns-in-Link-clause-named
 returns-in-Link-clause-named c = rw c.in-Link.is c.wakes-in-Link.ensures.named
+
+pub returns-in-Rule-clause-named : goal.returns-in-Rule-clause-named
+returns-in-Rule-clause-named c = rw c.in-Rule.is c.wakes-in-Rule.ensures.named
+
+pub returns-in-Cost-clause-named : goal.returns-in-Cost-clause-named
+returns-in-Cost-clause-named c = rw c.in-Cost.is c.wakes-in-Cost.ensures.named

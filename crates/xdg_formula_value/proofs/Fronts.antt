@@ -1,0 +1,70 @@
+-- Parts of a conjunction or a disjunction, one after another.
+use Rattle.std.proofs.Common.{◌≡◌, ◌↔◌, ◌⊎◌, ℕ, ◌+◌, ◌<◌, inl, inr, zero, suc, Bool, true, false, List, [], ◌∷◌, ◌++◌, length, map, take, get_or, refl, sym, ◌∙◌, ap, subst, arith}
+use Rattle.std.specs.Prelude.{not}
+use Rattle.std.proofs.lemmas.Bool.{false≢true}
+use Rattle.std.proofs.lemmas.List.{take_more, map-append}
+use Rattle.xdg_problem.specs.declared.parts.Parts.{Parts}
+use Rattle.xdg_problem.specs.declared.formula.Formula.{Formula}
+use Rattle.xdg_problem.specs.Claims.{Claim, conjunction, disjunction, every, some, none, claims_of, claim, IsOf, EachIsOf}
+use Rattle.xdg_problem.specs.Places.{nodes}
+use Rattle.xdg_problem.specs.Truths.{bound}
+use Rattle.xdg_rules.specs.Worths.{Makes, MakesEach, MakesSome}
+use Rattle.xdg_formula_value.specs.Rows.{Joined, Over}
+
+-- what the parts of a formula name is there
+pub part_of : (parts : Parts) (fs : List Formula) (i : ℕ) (d : Formula) → i < length fs → EachIsOf parts (claims_of (map claim fs)) → IsOf parts (claim (get_or fs i d))
+part_of parts [] i d l all = absurd (omega (arith, l))
+part_of parts (f ∷ fs) zero d l all = all.0
+part_of parts (f ∷ fs) (suc i) d l all = part_of parts fs i d (omega (arith, l)) all.1
+
+-- one more of the first
+pub front_more : (fs : List Formula) (i : ℕ) (f : Formula) → i < length fs → f ≡ get_or fs i f → map claim (take (i + 1) fs) ≡ map claim (take i fs) ++ claim f ∷ []
+front_more fs i f l is = ap (map claim) (take_more fs i f l) ∙ map-append claim (take i fs) (get_or fs i f ∷ []) ∙ ap (λ g. map claim (take i fs) ++ claim g ∷ []) (sym is)
+
+module _ (parts : Parts) (box : List (List Bool)) (b : ℕ → ℕ) where
+  each_split : (truth : Bool) (cs : List Claim) (c : Claim) → MakesEach parts box (claims_of (cs ++ c ∷ [])) truth b ↔ (MakesEach parts box (claims_of cs) truth b × Makes parts box c truth b)
+  each_split truth [] c = (λ m. (tt, m.0), λ m. (m.1, tt))
+  each_split truth (d ∷ cs) c = (let rest = each_split truth cs c in (λ m. (let r = rest.0 m.1 in ((m.0, r.0), r.1)), λ m. (m.0.0, rest.1 (m.0.1, m.1))))
+
+  some_split : (truth : Bool) (cs : List Claim) (c : Claim) → MakesSome parts box (claims_of (cs ++ c ∷ [])) truth b ↔ (MakesSome parts box (claims_of cs) truth b ⊎ Makes parts box c truth b)
+  some_split truth [] c = (
+    λ m. elim m [ inl here ↦ inr here | inr later ↦ absurd later ],
+    λ m. elim m [ inl later ↦ absurd later | inr here ↦ inl here ],
+  )
+  some_split truth (d ∷ cs) c = (let rest = some_split truth cs c in (
+    λ m. elim m [ inl here ↦ inl (inl here) | inr later ↦ elim (rest.0 later) [ inl l ↦ inl (inr l) | inr r ↦ inr r ] ],
+    λ m. elim m [ inl front ↦ elim front [ inl here ↦ inl here | inr later ↦ inr (rest.1 (inl later)) ] | inr last ↦ inr (rest.1 (inr last)) ],
+  ))
+
+  and_split : (truth : Bool) (cs : List Claim) (c : Claim) → Joined truth (Makes parts box (conjunction (claims_of cs)) truth b) (Makes parts box c truth b) ↔ Makes parts box (conjunction (claims_of (cs ++ c ∷ []))) truth b
+  and_split true cs c = (let split = each_split true cs c in (split.1, split.0))
+  and_split false cs c = (let split = some_split false cs c in (split.1, split.0))
+
+  or_split : (truth : Bool) (cs : List Claim) (c : Claim) → Joined (not truth) (Makes parts box (disjunction (claims_of cs)) truth b) (Makes parts box c truth b) ↔ Makes parts box (disjunction (claims_of (cs ++ c ∷ []))) truth b
+  or_split true cs c = (let split = some_split true cs c in (split.1, split.0))
+  or_split false cs c = (let split = each_split false cs c in (split.1, split.0))
+
+  -- the first parts, and one more
+  pub and_more : (truth : Bool) (fs : List Formula) (i : ℕ) (f : Formula) → i < length fs → f ≡ get_or fs i f → Joined truth (Makes parts box (conjunction (claims_of (map claim (take i fs)))) truth b) (Makes parts box (claim f) truth b) ↔ Makes parts box (conjunction (claims_of (map claim (take (i + 1) fs)))) truth b
+  and_more truth fs i f l is = subst (λ cs. Joined truth (Makes parts box (conjunction (claims_of (map claim (take i fs)))) truth b) (Makes parts box (claim f) truth b) ↔ Makes parts box (conjunction (claims_of cs)) truth b) (sym (front_more fs i f l is)) (and_split truth (map claim (take i fs)) (claim f))
+
+  pub or_more : (truth : Bool) (fs : List Formula) (i : ℕ) (f : Formula) → i < length fs → f ≡ get_or fs i f → Joined (not truth) (Makes parts box (disjunction (claims_of (map claim (take i fs)))) truth b) (Makes parts box (claim f) truth b) ↔ Makes parts box (disjunction (claims_of (map claim (take (i + 1) fs)))) truth b
+  or_more truth fs i f l is = subst (λ cs. Joined (not truth) (Makes parts box (disjunction (claims_of (map claim (take i fs)))) truth b) (Makes parts box (claim f) truth b) ↔ Makes parts box (disjunction (claims_of cs)) truth b) (sym (front_more fs i f l is)) (or_split truth (map claim (take i fs)) (claim f))
+
+  -- no part yet
+  pub and_none : (truth : Bool) → (truth ≡ true) ↔ Makes parts box (conjunction none) truth b
+  and_none true = (λ h. tt, λ h. refl)
+  and_none false = (λ h. false≢true h, λ h. absurd h)
+
+  pub or_none : (truth : Bool) → (not truth ≡ true) ↔ Makes parts box (disjunction none) truth b
+  or_none true = (λ h. false≢true h, λ h. absurd h)
+  or_none false = (λ h. tt, λ h. refl)
+
+  -- a quantifier
+  pub every_over : (truth : Bool) (name : ℕ) (c : Claim) → Over truth (nodes parts) (λ v. Makes parts box c truth (bound b name v)) ↔ Makes parts box (every name c) truth b
+  every_over true name c = (λ h. h, λ h. h)
+  every_over false name c = (λ h. h, λ h. h)
+
+  pub some_over : (truth : Bool) (name : ℕ) (c : Claim) → Over (not truth) (nodes parts) (λ v. Makes parts box c truth (bound b name v)) ↔ Makes parts box (some name c) truth b
+  some_over true name c = (λ h. h, λ h. h)
+  some_over false name c = (λ h. h, λ h. h)

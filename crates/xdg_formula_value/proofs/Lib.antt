@@ -1,0 +1,16 @@
+pub mod Stood
+pub mod Edged
+pub mod Tabled
+pub mod Rowed
+pub mod Overs
+pub mod Fronts
+pub mod Formed
+pub mod Forms
+pub mod Wholes
+pub mod Paired
+pub mod Told
+pub mod Ending
+pub mod Kinding
+pub mod Named
+pub mod Stepping
+pub mod Swept

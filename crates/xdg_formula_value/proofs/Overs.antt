@@ -1,0 +1,74 @@
+-- Whether a set of nodes has members, and what that says of other sets.
+use Rattle.std.proofs.Common.{◌≡◌, ◌↔◌, ◌⊎◌, ℕ, ◌+◌, ◌<◌, IsTrue, inl, inr, zero, suc, Bool, true, false, ◌&&◌, List, [], ◌∷◌, length, refl, sym, ◌∙◌, ap, arith}
+use Rattle.std.specs.Prelude.{not, ◌==◌, ◌||◌}
+use Rattle.std.proofs.lemmas.Bool.{cases_Bool, cases_eq, and_parts, and_from, eq-eqb, eqb-true, false≢true, false_from_ne_true, not_from_false, both_ways, not-true, or_cases}
+use Rattle.xdg_nodeset.specs.Nodes.{has}
+use Rattle.xdg_problem.proofs.Looking.{or_left, or_right}
+use Rattle.xdg_formula_value.specs.Rows.{IsEvery, Over}
+
+has_some : (s : List ℕ) (v : ℕ) → has s v ≡ true → 0 < length s
+has_some [] v there = absurd (false≢true there)
+has_some (m ∷ s) v there = omega arith
+
+some_has : (s : List ℕ) → 0 < length s → (v : ℕ) × (has s v ≡ true)
+some_has [] some = absurd (omega (arith, some))
+some_has (m ∷ s) some = (m, or_left (m == m) (has s m) (eq-eqb m m refl))
+
+-- no member is missing
+pub over_each : (n : ℕ) (all set rest : List ℕ) → IsEvery n all → ((v : ℕ) → has rest v ≡ (has all v && not (has set v))) → (length rest ≡ 0) ↔ Over true n (λ v. has set v ≡ true)
+over_each n all set rest every is = (
+  λ none v l. elim (cases_Bool (has set v)) [
+    | inl there ↦ there
+    | inr gone ↦ absurd (let some = has_some rest v (is v ∙ and_from (has all v) (not (has set v)) ((every v).1 l) (not_from_false (has set v) gone)) in omega (arith, some, none))
+  ],
+  λ each. elim (cases_none (length rest)) [
+    | inl none ↦ none
+    | inr some ↦ (let found = some_has rest some in let both = and_parts (has all found.0) (not (has set found.0)) (sym (is found.0) ∙ found.1) in
+        absurd (both_ways (has set found.0) (not-true (has set found.0) both.1) (each found.0 ((every found.0).0 both.0))))
+  ],
+)
+  where
+    cases_none : (k : ℕ) → (k ≡ 0) ⊎ (0 < k)
+    cases_none zero = inl refl
+    cases_none (suc k) = inr (omega arith)
+
+-- some member is there
+pub over_some : (n : ℕ) (all set rest : List ℕ) → IsEvery n all → ((v : ℕ) → has rest v ≡ (has all v && has set v)) → (0 < length rest) ↔ Over false n (λ v. has set v ≡ true)
+over_some n all set rest every is = (
+  λ some. (let found = some_has rest some in let both = and_parts (has all found.0) (has set found.0) (sym (is found.0) ∙ found.1) in (found.0, (every found.0).0 both.0, both.1)),
+  λ some. has_some rest some.0 (is some.0 ∙ and_from (has all some.0) (has set some.0) ((every some.0).1 some.1) some.2),
+)
+
+-- ---- all nodes
+
+pub every_none : (all : List ℕ) → ((v : ℕ) → has all v ≡ false) → IsEvery 0 all
+every_none all none v = (λ h. absurd (false≢true (sym (none v) ∙ h)), λ l. absurd (omega (arith, l)))
+
+pub every_more : (k : ℕ) (old new : List ℕ) → IsEvery k old → ((v : ℕ) → has new v ≡ ((v == k) || has old v)) → IsEvery (k + 1) new
+every_more k old new so_far is v = (
+  λ h. elim (or_cases (v == k) (has old v) (sym (is v) ∙ h)) [
+    | inl at ↦ (let e = eqb-true v k at in omega (arith, e))
+    | inr before ↦ (let l = (so_far v).0 before in omega (arith, l))
+  ],
+  λ l. is v ∙ elim (cases_eq v k) [
+    | inl here ↦ or_left (v == k) (has old v) (eq-eqb v k here)
+    | inr other ↦ or_right (v == k) (has old v) ((so_far v).1 (omega (arith, l, other)))
+  ],
+)
+
+-- ---- what a number of nodes tells
+
+zero_told : (count k : ℕ) (P : Type 0) → count ≡ k → (k ≡ 0) ↔ P → IsTrue (count == 0) ↔ P
+zero_told count k P counted is = (λ t. is.0 (sym counted ∙ eqb-true count 0 t), λ p. eq-eqb count 0 (counted ∙ is.1 p))
+
+some_counted : (count k : ℕ) (P : Type 0) → count ≡ k → (0 < k) ↔ P → IsTrue (not (count == 0)) ↔ P
+some_counted zero k P counted is = (λ t. absurd (both_ways (zero == 0) (not-true (zero == 0) t) (eq-eqb zero 0 refl)), λ p. (let some = is.1 p in absurd (omega (arith, some, counted))))
+some_counted (suc count) k P counted is = (λ t. is.0 (omega (arith, counted)), λ p. not_from_false (suc count == 0) (false_from_ne_true (suc count == 0) (λ t. (let e = eqb-true (suc count) 0 t in absurd (omega (arith, e))))))
+
+pub each_told : (each : Bool) (n : ℕ) (all set rest : List ℕ) (count : ℕ) → each ≡ true → IsEvery n all → ((v : ℕ) → has rest v ≡ (has all v && not (has set v))) → count ≡ length rest → IsTrue (count == 0) ↔ Over each n (λ v. has set v ≡ true)
+each_told true n all set rest count is every minus counted = zero_told count (length rest) (Over true n (λ v. has set v ≡ true)) counted (over_each n all set rest every minus)
+each_told false n all set rest count is every minus counted = absurd (false≢true is)
+
+pub some_told : (each : Bool) (n : ℕ) (all set rest : List ℕ) (count : ℕ) → each ≡ false → IsEvery n all → ((v : ℕ) → has rest v ≡ (has all v && has set v)) → count ≡ length rest → IsTrue (not (count == 0)) ↔ Over each n (λ v. has set v ≡ true)
+some_told true n all set rest count is every meet counted = absurd (false≢true (sym is))
+some_told false n all set rest count is every meet counted = some_counted count (length rest) (Over false n (λ v. has set v ≡ true)) counted (over_some n all set rest every meet)

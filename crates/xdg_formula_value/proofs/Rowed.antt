@@ -1,0 +1,129 @@
+-- Rows that are joined, gathered and looked over.
+use Rattle.std.proofs.Common.{◌≡◌, ◌⊎◌, ◌↔◌, ℕ, ◌+◌, ◌<◌, ◌≤◌, IsTrue, inl, inr, Bool, true, false, List, refl, sym, ◌∙◌, subst, arith}
+use Rattle.std.specs.Prelude.{not}
+use Rattle.std.proofs.lemmas.Bool.{cases_eq, cases_Bool, and_from, and_parts, both_ways, not_from_false, false≢true}
+use Rattle.xdg_nodeset.specs.Nodes.{has}
+use Rattle.xdg_problem.specs.Truths.{HasTruth}
+use Rattle.xdg_formula_value.specs.Rows.{IsRow, IsRowOn, HasFirst, Gathers, Joined, Over, AreFirst, IsEvery, open_in}
+
+-- ---- two together
+
+pub joined_like : (both : Bool) (P Q A B : Type 0) → P ↔ A → Q ↔ B → Joined both P Q ↔ Joined both A B
+joined_like true P Q A B p q = (λ h. (p.0 h.0, q.0 h.1), λ h. (p.1 h.0, q.1 h.1))
+joined_like false P Q A B p q = (
+  λ h. elim h [ inl x ↦ inl (p.0 x) | inr y ↦ inr (q.0 y) ],
+  λ h. elim h [ inl x ↦ inl (p.1 x) | inr y ↦ inr (q.1 y) ],
+)
+
+-- two rows, the second of which is right where it still matters
+pub row_more : (both : Bool) (care still : List ℕ) (P Q R : ℕ → Type 0) (old part new : List ℕ) → IsRowOn care P old → ((v : ℕ) → has still v ≡ open_in both care old v) → IsRowOn still Q part → ((v : ℕ) → (has new v ≡ true) ↔ Joined both (has old v ≡ true) (has part v ≡ true)) → ((v : ℕ) → Joined both (P v) (Q v) ↔ R v) → IsRowOn care R new
+row_more true care still P Q R old part new first open_is second is like v within =
+    let here : has old v ≡ true → (has part v ≡ true) ↔ Q v = λ there. second v (open_is v ∙ and_from (has care v) (has old v) within there) in (
+      λ h. (let both = (is v).0 h in (like v).0 ((first v within).0 both.0, (here both.0).0 both.1)),
+      λ r. (let both = (like v).1 r in let there = (first v within).1 both.0 in (is v).1 (there, (here there).1 both.1)),
+    )
+row_more false care still P Q R old part new first open_is second is like v within = elim (cases_Bool (has old v)) [
+  | inl there ↦ (λ h. (like v).0 (inl ((first v within).0 there)), λ r. (is v).1 (inl there))
+  | inr off ↦ (let here = second v (open_is v ∙ and_from (has care v) (not (has old v)) within (not_from_false (has old v) off)) in (
+    λ h. elim ((is v).0 h) [ inl old_has ↦ absurd (both_ways (has old v) off old_has) | inr part_has ↦ (like v).0 (inr (here.0 part_has)) ],
+    λ r. elim ((like v).1 r) [ inl p ↦ (is v).1 (inl ((first v within).1 p)) | inr q ↦ (is v).1 (inr (here.1 q)) ],
+  ))
+]
+
+-- what is still open is among the first nodes
+pub open_first : (both : Bool) (n : ℕ) (care old still : List ℕ) → AreFirst n care → ((v : ℕ) → has still v ≡ open_in both care old v) → AreFirst n still
+open_first true n care old still first is v h = first v (and_parts (has care v) (has old v) (sym (is v) ∙ h)).0
+open_first false n care old still first is v h = first v (and_parts (has care v) (not (has old v)) (sym (is v) ∙ h)).0
+
+pub row_like : (care : List ℕ) (P Q : ℕ → Type 0) (set : List ℕ) → ((v : ℕ) → P v ↔ Q v) → IsRowOn care P set → IsRowOn care Q set
+row_like care P Q set like row v within = (λ h. (like v).0 ((row v within).0 h), λ q. (row v within).1 ((like v).1 q))
+
+-- a row of all nodes is one of some
+pub row_on : (n : ℕ) (care : List ℕ) (P : ℕ → Type 0) (set : List ℕ) → AreFirst n care → IsRow n P set → IsRowOn care P set
+row_on n care P set first row v within = row v (first v within)
+
+pub row_told : (n : ℕ) (truth : Bool) (P : ℕ → Type 0) (set new : List ℕ) → n ≤ 128 → IsRow n P set → ((v : ℕ) → v < 128 → HasTruth truth (has set v ≡ true) ↔ (has new v ≡ true)) → IsRow n (λ v. HasTruth truth (P v)) new
+row_told n true P set new few row told v l = (λ h. (row v l).0 ((told v (omega (arith, l, few))).1 h), λ p. (told v (omega (arith, l, few))).0 ((row v l).1 p))
+row_told n false P set new few row told v l = (λ h p. (told v (omega (arith, l, few))).1 h ((row v l).1 p), λ none. (told v (omega (arith, l, few))).0 (λ there. none ((row v l).0 there)))
+
+pub row_constant : (n : ℕ) (care : List ℕ) (all : Bool) (P : ℕ → Type 0) (set : List ℕ) → n ≤ 128 → AreFirst n care → ((v : ℕ) → v < 128 → has set v ≡ all) → ((v : ℕ) → (all ≡ true) ↔ P v) → IsRowOn care P set
+row_constant n care all P set few first same like v within =
+    let l = first v within in
+    let here = same v (omega (arith, l, few)) in
+    (λ h. (like v).0 (sym here ∙ h), λ p. here ∙ (like v).1 p)
+
+-- ---- one node after another
+
+pub gathers_none : (care : List ℕ) (P : ℕ → Type 0) (set : List ℕ) → ((v : ℕ) → has set v ≡ false) → Gathers 0 care P set
+gathers_none care P set none = record { exact = λ v l. absurd (omega (arith, l)); early = λ v h. absurd (false≢true (sym (none v) ∙ h)) }
+
+-- a node that doesn't matter
+pub gathers_skip : (k : ℕ) (care : List ℕ) (P : ℕ → Type 0) (set : List ℕ) → Gathers k care P set → has care k ≡ false → Gathers (k + 1) care P set
+gathers_skip k care P set so_far off = record {
+  exact = λ v l within. elim (cases_eq v k) [
+    | inl same ↦ absurd (false≢true (sym off ∙ subst (λ j. has care j ≡ true) same within))
+    | inr other ↦ so_far.exact v (omega (arith, l, other)) within
+  ];
+  early = λ v h. (let l = so_far.early v h in omega (arith, l));
+}
+
+pub gathers_more : (k : ℕ) (care : List ℕ) (P : ℕ → Type 0) (holds : Bool) (old new : List ℕ) → Gathers k care P old → (holds ≡ true) ↔ P k → ((v : ℕ) → (has new v ≡ true) ↔ ((has old v ≡ true) ⊎ ((v ≡ k) × (holds ≡ true)))) → Gathers (k + 1) care P new
+gathers_more k care P holds old new so_far here is = record {
+  exact = λ v l within. elim (cases_eq v k) [
+    | inl same ↦ (
+      λ h. elim ((is v).0 h) [
+        | inl before ↦ (let early = so_far.early v before in absurd (omega (arith, early, same)))
+        | inr now ↦ subst P (sym same) (here.0 now.1)
+      ],
+      λ p. (is v).1 (inr (same, here.1 (subst P same p))),
+    )
+    | inr other ↦ (let exact = so_far.exact v (omega (arith, l, other)) within in (
+      λ h. elim ((is v).0 h) [ inl before ↦ exact.0 before | inr now ↦ absurd (other now.0) ],
+      λ p. (is v).1 (inl (exact.1 p)),
+    ))
+  ];
+  early = λ v h. elim ((is v).0 h) [
+    | inl before ↦ (let l = so_far.early v before in omega (arith, l))
+    | inr now ↦ (let e = now.0 in omega (arith, e))
+  ];
+}
+
+pub gathers_row : (n k : ℕ) (care : List ℕ) (P : ℕ → Type 0) (set : List ℕ) → n ≤ k → AreFirst n care → Gathers k care P set → IsRowOn care P set
+gathers_row n k care P set past first gathers v within = (let l = first v within in gathers.exact v (omega (arith, l, past)) within)
+
+-- the same of all nodes
+
+pub first_none : (P : ℕ → Type 0) (set : List ℕ) → ((v : ℕ) → has set v ≡ false) → HasFirst 0 P set
+first_none P set none v = (λ h. absurd (false≢true (sym (none v) ∙ h)), λ p. (let l = p.0 in absurd (omega (arith, l))))
+
+pub first_more : (k : ℕ) (P : ℕ → Type 0) (holds : Bool) (old new : List ℕ) → HasFirst k P old → (holds ≡ true) ↔ P k → ((v : ℕ) → (has new v ≡ true) ↔ ((has old v ≡ true) ⊎ ((v ≡ k) × (holds ≡ true)))) → HasFirst (k + 1) P new
+first_more k P holds old new so_far here is v = (
+  λ h. elim ((is v).0 h) [
+    | inl before ↦ (let there = (so_far v).0 before in (let l = there.0 in omega (arith, l), there.1))
+    | inr now ↦ (let e = now.0 in omega (arith, e), subst P (sym now.0) (here.0 now.1))
+  ],
+  λ p. (is v).1 (elim (cases_eq v k) [
+    | inl same ↦ inr (same, here.1 (subst P same p.1))
+    | inr other ↦ inl ((so_far v).1 (let l = p.0 in omega (arith, l, other), p.1))
+  ]),
+)
+
+pub first_row : (n k : ℕ) (P : ℕ → Type 0) (set : List ℕ) → n ≤ k → HasFirst k P set → IsRow n P set
+first_row n k P set past all v l = (λ h. ((all v).0 h).1, λ p. (all v).1 (omega (arith, l, past), p))
+
+-- ---- over all nodes
+
+pub over_like : (each : Bool) (n : ℕ) (P Q : ℕ → Type 0) → ((v : ℕ) → v < n → P v ↔ Q v) → Over each n P ↔ Over each n Q
+over_like true n P Q like = (λ all v l. (like v l).0 (all v l), λ all v l. (like v l).1 (all v l))
+over_like false n P Q like = (λ some. (some.0, some.1, (like some.0 some.1).0 some.2), λ some. (some.0, some.1, (like some.0 some.1).1 some.2))
+
+-- where a row is right at each node
+pub over_row : (each : Bool) (n : ℕ) (all : List ℕ) (P : ℕ → Type 0) (set : List ℕ) → IsEvery n all → IsRowOn all P set → Over each n (λ v. has set v ≡ true) ↔ Over each n P
+over_row each n all P set every row = over_like each n (λ v. has set v ≡ true) P (λ v l. row v ((every v).1 l))
+
+-- what is told of a row over as many nodes as the sentence has
+pub over_told : (each holds : Bool) (size n : ℕ) (all : List ℕ) (P : ℕ → Type 0) (set : List ℕ) → size ≡ n → IsEvery n all → IsRowOn all P set → IsTrue holds ↔ Over each size (λ v. has set v ≡ true) → (holds ≡ true) ↔ Over each n P
+over_told each holds size n all P set same every row told =
+    let over = over_row each n all P set every row in
+    let here : (holds ≡ true) ↔ Over each n (λ v. has set v ≡ true) = subst (λ k. (holds ≡ true) ↔ Over each k (λ v. has set v ≡ true)) same told in
+    (λ h. over.0 (here.0 h), λ p. here.1 (over.1 p))

@@ -1,0 +1,51 @@
+-- Bindings as tables.
+use Rattle.std.proofs.Common.{◌≡◌, ℕ, ◌<◌, inl, inr, zero, suc, Bool, true, false, cond, List, length, replicate, sym, ◌∙◌, ap, subst, refl}
+use Rattle.std.specs.Prelude.{slice_index, slice_set, ◌==◌}
+use Rattle.std.proofs.lemmas.Bool.{cases_eq, eq-eqb, false_from_ne_true, eqb-true}
+use Rattle.std.proofs.lemmas.List.{get_or-set_same, get_or-set_other}
+use Rattle.xdg_problem.specs.declared.parts.Parts.{Parts}
+use Rattle.xdg_problem.specs.Places.{nodes}
+use Rattle.xdg_problem.specs.Truths.{bound, unbound}
+use Rattle.xdg_rules.specs.WorthLaws.{AreNodes}
+use Rattle.xdg_formula_value.specs.Rows.{stands}
+
+bound_at : (table : List ℕ) (name node other : ℕ) → name < length table → stands (slice_set table name node) other ≡ bound (stands table) name node other
+bound_at table name node other within = elim (cases_eq other name) [
+  | inl same ↦ ap (slice_index (slice_set table name node)) same ∙ get_or-set_same table name node 0 within ∙ sym (ap (λ t. cond t node (slice_index table other)) (eq-eqb other name same))
+  | inr differ ↦ get_or-set_other table name other node 0 differ ∙ sym (ap (λ t. cond t node (slice_index table other)) (false_from_ne_true (other == name) (λ t. differ (eqb-true other name t))))
+]
+
+-- a table in which a node is written is the binding in which the name stands for it
+pub bound_table : (table : List ℕ) (name node : ℕ) → name < length table → stands (slice_set table name node) ≡ bound (stands table) name node
+bound_table table name node within = λ i other. bound_at table name node other within i
+
+zeros : (count name : ℕ) → slice_index (replicate count 0) name ≡ 0
+zeros zero name = refl
+zeros (suc count) zero = refl
+zeros (suc count) (suc name) = zeros count name
+
+-- a table of zeros binds no name
+pub unbound_table : (table : List ℕ) (count : ℕ) → table ≡ replicate count 0 → stands table ≡ unbound
+unbound_table table count is = λ i name. (ap (λ t. slice_index t name) is ∙ zeros count name) i
+
+-- ---- a name that is bound
+
+pub bound_here : (b : ℕ → ℕ) (name node other : ℕ) → other ≡ name → bound b name node other ≡ node
+bound_here b name node other same = ap (λ t. cond t node (b other)) (eq-eqb other name same)
+
+pub bound_else : (b : ℕ → ℕ) (name node other : ℕ) → (other ≡ name → ⊥) → bound b name node other ≡ b other
+bound_else b name node other differ = ap (λ t. cond t node (b other)) (false_from_ne_true (other == name) (λ t. differ (eqb-true other name t)))
+
+bound_as_is : (b : ℕ → ℕ) (name other : ℕ) → bound b name (b name) other ≡ b other
+bound_as_is b name other = elim (cases_eq other name) [
+  | inl same ↦ bound_here b name (b name) other same ∙ sym (ap b same)
+  | inr differ ↦ bound_else b name (b name) other differ
+]
+
+-- a name that is bound to what it stands for
+pub bound_back : (b : ℕ → ℕ) (name : ℕ) → bound b name (b name) ≡ b
+bound_back b name = λ i other. bound_as_is b name other i
+
+-- where each name stands for the first node, each stands for a node
+pub nodes_unbound : (parts : Parts) (b : ℕ → ℕ) → b ≡ unbound → 0 < nodes parts → AreNodes parts b
+nodes_unbound parts b is some = subst (AreNodes parts) (sym is) (λ name. some)

@@ -1,0 +1,6 @@
+pub mod Rows
+pub mod Pairs
+pub mod Filling
+pub mod ClaimKinds
+pub mod Standing
+pub mod Staying

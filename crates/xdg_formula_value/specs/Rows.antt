@@ -1,0 +1,47 @@
+-- Sets of nodes as what is so at each node of a sentence, and bindings as tables.
+use Rattle.std.specs.Prelude.{◌≡◌, ◌⊎◌, ◌↔◌, ℕ, ◌<◌, ◌&&◌, Bool, true, false, not, List, slice_index}
+use Rattle.xdg_nodeset.specs.Nodes.{has}
+
+-- the node for which a name stands, in a table with a node for each name
+abbrev pub stands : List ℕ → ℕ → ℕ
+stands table name = slice_index table name
+
+-- of the first nodes, the set has those at which something is so
+abbrev pub IsRow : ℕ → (ℕ → Type 0) → List ℕ → Type 0
+IsRow n P set = (v : ℕ) → v < n → (has set v ≡ true) ↔ P v
+
+-- of some nodes, the set has those at which something is so
+abbrev pub IsRowOn : List ℕ → (ℕ → Type 0) → List ℕ → Type 0
+IsRowOn care P set = (v : ℕ) → has care v ≡ true → (has set v ≡ true) ↔ P v
+
+-- the set has those of the first nodes at which something is so, and no others
+abbrev pub HasFirst : ℕ → (ℕ → Type 0) → List ℕ → Type 0
+HasFirst k P set = (v : ℕ) → (has set v ≡ true) ↔ ((v < k) × P v)
+
+-- of some nodes that are among the first, the set has those at which something is so, and it has none that are later
+pub record Gathers (k : ℕ) (care : List ℕ) (P : ℕ → Type 0) (set : List ℕ) : Type 0 where
+  pub exact : (v : ℕ) → v < k → has care v ≡ true → (has set v ≡ true) ↔ P v
+  pub early : (v : ℕ) → has set v ≡ true → v < k
+
+-- both, or one or the other
+abbrev pub Joined : Bool → Type 0 → Type 0 → Type 0
+Joined true P Q = P × Q
+Joined false P Q = P ⊎ Q
+
+-- at each of the first nodes, or at one or more of them
+abbrev pub Over : Bool → ℕ → (ℕ → Type 0) → Type 0
+Over true n P = (v : ℕ) → v < n → P v
+Over false n P = (v : ℕ) × (v < n) × P v
+
+-- the nodes of a set are among the first
+abbrev pub AreFirst : ℕ → List ℕ → Type 0
+AreFirst n set = (v : ℕ) → has set v ≡ true → v < n
+
+-- those of some nodes at which two together are still open, where the first is a set
+abbrev pub open_in : Bool → List ℕ → List ℕ → ℕ → Bool
+open_in true care set v = has care v && has set v
+open_in false care set v = has care v && not (has set v)
+
+-- the set has the first nodes
+abbrev pub IsEvery : ℕ → List ℕ → Type 0
+IsEvery n set = (v : ℕ) → (has set v ≡ true) ↔ (v < n)

@@ -1,0 +1,18 @@
+//! What a formula is worth in a box, found for all nodes at once where one name is left, and the propagator of a rule.
+#![tactic(auto)]
+
+mod atoms;
+mod binding;
+mod kinds;
+mod pair;
+mod paths;
+mod rows;
+mod rule_prop;
+mod value;
+mod way;
+
+pub use pair::Pair;
+pub use paths::{Filled, Paths};
+pub use rule_prop::RuleProp;
+pub use value::is_false;
+pub use way::Way;

@@ -1,0 +1,165 @@
+//! The nodes of a sentence, and the paths in a box on the dimensions of which they are asked for often.
+
+ghost use Rattle.std.specs.Prelude.{◌≡◌, ◌≤◌, ◌<◌, ◌↔◌, ℕ, true, IsTrue};
+ghost use Rattle.xdg_judge.specs.Links.{In};
+ghost use Rattle.xdg_nodeset.specs.Nodes.{has};
+ghost use Rattle.xdg_problem.specs.Places.{nodes};
+ghost use Rattle.xdg_problem.specs.Paths.{Above};
+ghost use Rattle.xdg_reach.specs.Edges.{edges_of};
+ghost use Rattle.xdg_store.specs.States.{Known};
+ghost use Rattle.xdg_formula_value.specs.Filling.{AreFilled, ArePaths, TellsPaths};
+ghost use Rattle.xdg_formula_value.specs.Pairs.{Along};
+ghost use Rattle.xdg_formula_value.specs.Rows.{IsEvery, Over};
+
+use crate::way::Way;
+use xdg_base::{DimId, NodeId};
+use xdg_nodeset::NodeSet;
+use xdg_problem::Formula;
+use xdg_reach::{Which, above, ancestors, node_count, set_at};
+use xdg_store::Store;
+
+/// For some dimensions tables of the nodes to which paths lead from each node, one way.
+#[derive(Debug, Drop)]
+pub struct Filled {
+    /// For each dimension whether it has tables.
+    pub known: [bool; 8],
+    /// By the edges that may be.
+    pub may: [[NodeSet; 128]; 8],
+    /// By the edges that must be.
+    pub must: [[NodeSet; 128]; 8],
+}
+
+/// The nodes of a sentence, and the tables of the nodes below each node and of those above it.
+#[derive(Debug, Drop)]
+pub struct Paths {
+    /// The nodes.
+    pub all: NodeSet,
+    /// The nodes below.
+    pub below: Filled,
+    /// The nodes above.
+    pub above: Filled,
+}
+
+/// Notes the dimensions on which a formula asks for paths.
+#[cycle(asking)]
+fn note(formula: &Formula, dims: &mut [bool; 8]) {
+    match formula {
+        Formula::Not(inner) => note(inner.get(), dims),
+        Formula::And(parts) => {
+            for part in parts.as_slice() {
+                note(part, dims);
+            }
+        }
+        Formula::Or(parts) => {
+            for part in parts.as_slice() {
+                note(part, dims);
+            }
+        }
+        Formula::Every(_, inner) => note(inner.get(), dims),
+        Formula::Any(_, inner) => note(inner.get(), dims),
+        Formula::Above(dim, _, _) => {
+            if dim.0 < 8 {
+                dims[dim.0 as usize] = true;
+            }
+        }
+        _ => {}
+    }
+}
+
+/// The nodes of a sentence.
+fn every_node(store: &Store) -> NodeSet
+    ensures all { IsEvery (nodes store.now.parts) result }
+    ensures few { nodes store.now.parts ≤ 128 }
+    ensures known { Known store.now }
+{
+    let mut all = NodeSet::empty();
+    for node in 0..node_count(store) {
+        all.insert(NodeId(node));
+    }
+    all
+}
+
+/// For each node those to which paths lead, one way.
+fn table(store: &Store, way: Way, which: Which, dim: DimId) -> [NodeSet; 128]
+    ensures { (a b : ℕ) → In result a b ↔ Along way (Above (edges_of which store.now.parts store.now.now dim.0)) a b }
+{
+    match way {
+        Way::Down => above(store, which, dim),
+        Way::Up => ancestors(store, which, dim),
+    }
+}
+
+/// The tables of some dimensions.
+fn tables(store: &Store, way: Way, which: Which, dims: &[bool; 8]) -> [[NodeSet; 128]; 8]
+    ensures { TellsPaths way which store.now 8 dims.now result }
+{
+    let mut tables = [[NodeSet::empty(); 128]; 8];
+    for dim in 0..8 {
+        if !dims[dim as usize] {
+            continue;
+        }
+        tables[dim as usize] = table(store, way, which, DimId(dim));
+    }
+    tables
+}
+
+/// The tables of some dimensions, one way.
+fn tables_of(store: &Store, way: Way, known: [bool; 8]) -> Filled
+    ensures { AreFilled way store.now result }
+{
+    Filled {
+        may: tables(store, way, Which::May, &known),
+        must: tables(store, way, Which::Must, &known),
+        known,
+    }
+}
+
+/// The nodes to which paths lead from a node, one way.
+pub(crate) fn far(
+    store: &Store,
+    filled: &Filled,
+    way: Way,
+    which: Which,
+    dim: DimId,
+    node: NodeId,
+) -> NodeSet
+    requires filled { AreFilled way store.now filled.now }
+    requires dim { dim.0 < 8 }
+    requires node { node.0 < 128 }
+    ensures { (x : ℕ) → (has result x ≡ true) ↔ Along way (Above (edges_of which store.now.parts store.now.now dim.0)) node.0 x }
+{
+    if !filled.known[dim.0 as usize] {
+        return set_at(&table(store, way, which, dim), node);
+    }
+    match which {
+        Which::May => set_at(&filled.may[dim.0 as usize], node),
+        Which::Must => set_at(&filled.must[dim.0 as usize], node),
+    }
+}
+
+impl Paths {
+    /// The paths in the box of a store of which a formula asks.
+    pub(crate) fn of(store: &Store, formula: &Formula) -> Paths
+        ensures paths { ArePaths store.now result }
+        ensures known { Known store.now }
+    {
+        let mut known = [false; 8];
+        note(formula, &mut known);
+        Paths {
+            all: every_node(store),
+            below: tables_of(store, Way::Down, known),
+            above: tables_of(store, Way::Up, known),
+        }
+    }
+
+    /// Whether a set has each node, or some.
+    pub(crate) fn has_over(&self, size: u8, each: bool, set: NodeSet) -> bool
+        requires { IsEvery size self.now.all }
+        ensures { IsTrue result ↔ Over each size (λ v. has set v ≡ true) }
+    {
+        if each {
+            return self.all.minus(&set).len() == 0;
+        }
+        self.all.meet(&set).len() != 0
+    }
+}

@@ -1,0 +1,195 @@
+//! What a box makes of a formula.
+
+ghost use Rattle.std.specs.Prelude.{◌≡◌, ◌↔◌, false, IsTrue};
+ghost use Rattle.xdg_problem.specs.Claims.{IsOf, Suits, claim};
+ghost use Rattle.xdg_problem.specs.Places.{nodes};
+ghost use Rattle.xdg_problem.specs.Truths.{bound};
+ghost use Rattle.xdg_rules.specs.WorthLaws.{AreNodes};
+ghost use Rattle.xdg_rules.specs.Worths.{Makes, RuleFalse};
+ghost use Rattle.xdg_store.specs.States.{Known};
+ghost use Rattle.xdg_formula_value.specs.Filling.{ArePaths};
+ghost use Rattle.xdg_formula_value.specs.Rows.{AreFirst, IsRowOn, stands};
+
+use crate::atoms::{attr_row, feat_row};
+use crate::binding::{bind, node_of, none_bound};
+use crate::pair::{Pair, pair_row};
+use crate::paths::Paths;
+use crate::rows::{constant, joined, joined_truths, kept, still_open};
+use xdg_base::NodeId;
+use xdg_nodeset::NodeSet;
+use xdg_problem::Formula;
+use xdg_reach::node_count;
+use xdg_store::Store;
+
+/// Of some nodes, those for which a name has to stand so that the box makes a formula true, or false.
+#[cycle(rows)]
+fn row_of(
+    store: &Store,
+    paths: &Paths,
+    binding: &[u8; 256],
+    name: u8,
+    formula: &Formula,
+    truth: bool,
+    care: NodeSet,
+) -> NodeSet
+    requires paths { ArePaths store.now paths.now }
+    requires is_of { IsOf store.now.parts (claim formula.now) }
+    requires nodes { AreNodes store.now.parts (stands binding.now) }
+    requires care { AreFirst (nodes store.now.parts) care }
+    ensures { IsRowOn care (λ v. Makes store.now.parts store.now.now (claim formula.now) truth (bound (stands binding.now) name v)) result }
+{
+    match formula {
+        Formula::Not(inner) => row_of(store, paths, binding, name, inner.get(), !truth, care),
+        Formula::And(parts) => {
+            let mut row = constant(truth);
+            for part in parts.as_slice() {
+                let still = still_open(truth, care, row);
+                row = joined(
+                    truth,
+                    row,
+                    row_of(store, paths, binding, name, part, truth, still),
+                );
+            }
+            row
+        }
+        Formula::Or(parts) => {
+            let mut row = constant(!truth);
+            for part in parts.as_slice() {
+                let still = still_open(!truth, care, row);
+                row = joined(
+                    !truth,
+                    row,
+                    row_of(store, paths, binding, name, part, truth, still),
+                );
+            }
+            row
+        }
+        Formula::Every(other, inner) => {
+            let mut row = NodeSet::empty();
+            for node in 0..node_count(store) {
+                if !care.contains(NodeId(node)) {
+                    continue;
+                }
+                let all = paths.all;
+                let here = bind(binding, name, node);
+                let inside = row_of(store, paths, &here, *other, inner.get(), truth, all);
+                row = kept(row, node, paths.has_over(node_count(store), truth, inside));
+            }
+            row
+        }
+        Formula::Any(other, inner) => {
+            let mut row = NodeSet::empty();
+            for node in 0..node_count(store) {
+                if !care.contains(NodeId(node)) {
+                    continue;
+                }
+                let all = paths.all;
+                let here = bind(binding, name, node);
+                let inside = row_of(store, paths, &here, *other, inner.get(), truth, all);
+                row = kept(row, node, paths.has_over(node_count(store), !truth, inside));
+            }
+            row
+        }
+        Formula::Edge(dim, mother, label, daughter) => {
+            let pair = Pair::Edge(*dim, *label);
+            pair_row(store, paths, binding, name, pair, *mother, *daughter, truth)
+        }
+        Formula::Above(dim, upper, lower) => {
+            pair_row(
+                store,
+                paths,
+                binding,
+                name,
+                Pair::Path(*dim),
+                *upper,
+                *lower,
+                truth,
+            )
+        }
+        Formula::Left(first, second) => {
+            pair_row(
+                store,
+                paths,
+                binding,
+                name,
+                Pair::Left,
+                *first,
+                *second,
+                truth,
+            )
+        }
+        Formula::Same(first, second) => {
+            pair_row(
+                store,
+                paths,
+                binding,
+                name,
+                Pair::Same,
+                *first,
+                *second,
+                truth,
+            )
+        }
+        Formula::Attr(node, dim, attr, value) => {
+            attr_row(
+                store, binding, name, *node, *dim, *attr, *value, truth, care,
+            )
+        }
+        Formula::Feat(node, table) => feat_row(store, binding, name, *node, table, truth, care),
+    }
+}
+
+/// Whether the box makes a formula true, or false, under a binding of names to nodes.
+#[cycle(whole)]
+fn makes(store: &Store, paths: &Paths, binding: &[u8; 256], formula: &Formula, truth: bool) -> bool
+    requires paths { ArePaths store.now paths.now }
+    requires is_of { IsOf store.now.parts (claim formula.now) }
+    requires nodes { AreNodes store.now.parts (stands binding.now) }
+    ensures { IsTrue result ↔ Makes store.now.parts store.now.now (claim formula.now) truth (stands binding.now) }
+{
+    let all = paths.all;
+    match formula {
+        Formula::Not(inner) => makes(store, paths, binding, inner.get(), !truth),
+        Formula::And(parts) => {
+            let mut so_far = truth;
+            for part in parts.as_slice() {
+                so_far = joined_truths(truth, so_far, makes(store, paths, binding, part, truth));
+            }
+            so_far
+        }
+        Formula::Or(parts) => {
+            let mut so_far = !truth;
+            for part in parts.as_slice() {
+                so_far = joined_truths(!truth, so_far, makes(store, paths, binding, part, truth));
+            }
+            so_far
+        }
+        Formula::Every(name, inner) => {
+            let row = row_of(store, paths, binding, *name, inner.get(), truth, all);
+            paths.has_over(node_count(store), truth, row)
+        }
+        Formula::Any(name, inner) => {
+            let row = row_of(store, paths, binding, *name, inner.get(), truth, all);
+            paths.has_over(node_count(store), !truth, row)
+        }
+        _ => {
+            let row = row_of(store, paths, binding, 0, formula, truth, all);
+            row.contains(node_of(binding, 0))
+        }
+    }
+}
+
+/// Whether a formula is false in the box of a store, whatever else is decided.
+pub fn is_false(store: &Store, formula: &Formula) -> bool
+    requires { Suits store.now.parts formula.now }
+    ensures exact { IsTrue result ↔ RuleFalse store.now.parts formula.now store.now.now }
+    ensures known { Known store.now }
+{
+    makes(
+        store,
+        &Paths::of(store, formula),
+        &none_bound(),
+        formula,
+        false,
+    )
+}

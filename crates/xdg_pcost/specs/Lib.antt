@@ -1,0 +1,4 @@
+pub mod CostRows
+pub mod Bounding
+pub mod Freeing
+pub mod BoundStaying

@@ -1,0 +1,105 @@
+-- Nodes of which nothing was lost: there order takes no more than before.
+use Rattle.std.proofs.Common.{◌≡◌, ℕ, ◌<◌, ◌+◌, ◌||◌, inl, inr, Bool, true, false, List, [], ◌∷◌, length, refl, sym, ◌∙◌, ap, subst, arith}
+use Rattle.std.specs.Prelude.{slice_index_or}
+use Rattle.std.proofs.lemmas.Bool.{cases_Bool, cases_eq}
+use Rattle.std.proofs.lemmas.List.{length-map}
+use Rattle.xdg_base.specs.declared.ids.LabelId.{LabelId}
+use Rattle.xdg_nodeset.specs.Nodes.{has}
+use Rattle.xdg_problem.specs.declared.parts.Group.{Group}
+use Rattle.xdg_problem.specs.declared.parts.Parts.{Parts}
+use Rattle.xdg_problem.specs.declared.parts.Principle.TheVariants as principles
+use Rattle.xdg_problem.specs.Arguments.{attr_of, first_dim, order_of}
+use Rattle.xdg_problem.specs.Boxes.{Has, IsBox, LiesIn, edge_decision}
+use Rattle.xdg_problem.specs.Places.{nodes}
+use Rattle.xdg_problem.specs.Problems.{IsGroup, IsProblem, attr_arguments, dim_arguments}
+use Rattle.xdg_problem.specs.Vectors.{shape}
+use Rattle.xdg_rules.specs.Rules.{ComesBefore, IsClosedFor, attr_of_node}
+use Rattle.xdg_store.specs.States.{State}
+use Rattle.xdg_propcore.specs.Losses.{IsLost}
+use Rattle.xdg_propcore.specs.Passes.{Progress, IsQuiet}
+use Rattle.xdg_propcore.specs.Sweeps.{Sweeps}
+use Rattle.xdg_propcore.specs.Touching.{HasTouched}
+use Rattle.xdg_propcore.specs.declared.touched.Touched.{Touched}
+use Rattle.xdg_porder.specs.Items.{AreEarlierDone, AreMothersDone, AreOthersDone, IsAtNode, MayStand, MustStand, edge_to, label_at}
+use Rattle.xdg_porder.proofs.Pairing.{IsWrong, at_comes, edge_goes, own_goes}
+
+-- ---- where the box is closed nothing is left
+
+module _ (parts : Parts) (group : Group) (box : List (List Bool)) (problem : IsProblem parts) (box_is : IsBox (shape parts) box) (group_is : IsGroup parts group) (order : group.principle ≡ principles.Order) (closed : IsClosedFor parts group box) (u : ℕ) (within : u < nodes parts) where
+  abbrev here : State
+  here = record { parts = parts; now = box; history = box ∷ []; turns = 0 }
+
+  at : IsAtNode group u here
+  at = ((record { known = record { problem = problem; is_box = box_is; some = omega arith; last = refl }; group_is = group_is }, order), within)
+
+  none_wrong : (l m v w : ℕ) → MayStand parts group box u l v → MustStand parts group box u m w → IsWrong group l m v w → ⊥
+  none_wrong l m v w may must wrong = elim may [
+    | inl (same, own) ↦ closed (attr_of_node parts group 0 u) l own (own_goes group u l m here at w must (subst (λ z. IsWrong group l m z w) same wrong) own)
+    | inr (is, present) ↦ closed (edge_decision parts (edge_to group u l v)) 0 present (edge_goes group u l m here at v w is must wrong)
+  ]
+
+  pub closed_node : AreEarlierDone parts group u (length group.order) box
+  closed_node i l j m less =
+      let c = length-map group.order (λ (label : LabelId). label.0) in
+      let comes : ComesBefore (order_of group) (label_at group i) (label_at group j) = at_comes (order_of group) i j less (omega (arith, m, c)) in (
+        (λ v w may must o. none_wrong (label_at group j) (label_at group i) v w may must (inl (comes, o))),
+        (λ v w may must o. none_wrong (label_at group i) (label_at group j) v w may must (inr (comes, o))),
+      )
+
+-- ---- what is lost of a node
+
+kept_or_lost : (old new : List (List Bool)) (d v : ℕ) → (IsLost old new d v → ⊥) → Has old d v → Has new d v
+kept_or_lost old new d v kept h = elim (cases_Bool (slice_index_or (slice_index_or new d []) v false)) [
+  | inl there ↦ there
+  | inr gone ↦ absurd (kept (h, λ there. (let z : true ≡ false = sym there ∙ gone in cc)))
+]
+
+module _ (parts : Parts) (group : Group) (group_is : IsGroup parts group) (order : group.principle ≡ principles.Order) (old new : List (List Bool)) (lies : LiesIn new old) (t : Touched) (touched : HasTouched parts (first_dim group) old new t) (u : ℕ) (within : u < nodes parts) (out : has t.mothers u ≡ true → ⊥) (own : has t.attrs u ≡ true → ⊥) where
+  dim_within : first_dim group < length parts.dims
+  dim_within = group_is.dims 0 (record { 0 = 0 }) (let c = group_is.dims_count in let k : 0 < dim_arguments group.principle = subst (λ p. 0 < dim_arguments p) (sym order) (omega arith) in omega (arith, c, k))
+
+  own_stays : (x : ℕ) → Has old (attr_of_node parts group 0 u) x → Has new (attr_of_node parts group 0 u) x
+  own_stays x = kept_or_lost old new (attr_of_node parts group 0 u) x (λ lost.
+      own (touched.attrs u (attr_of group 0) x dim_within within (group_is.attrs 0 (record { 0 = 0 }) (let c = group_is.attrs_count in let k : 0 < attr_arguments group.principle = subst (λ p. 0 < attr_arguments p) (sym order) (omega arith) in omega (arith, c, k))) lost))
+
+  may_before : (label v : ℕ) → MayStand parts group new u label v → MayStand parts group old u label v
+  may_before label v (inl (same, may)) = inl (same, lies (attr_of_node parts group 0 u) label may)
+  may_before label v (inr (is, may)) = inr (is, lies (edge_decision parts (edge_to group u label v)) 0 may)
+
+  must_before : (label v : ℕ) → MustStand parts group new u label v → MustStand parts group old u label v
+  must_before label v (inl (same, (may, only))) = inl (same, (lies (attr_of_node parts group 0 u) label may, λ x h. only x (own_stays x h)))
+  must_before label v (inr (is, must)) = inr (is, λ h. must (kept_or_lost old new (edge_decision parts (edge_to group u label v)) 1 (λ lost. out (touched.edges (edge_to group u label v) 1 is refl lost).mother) h))
+
+  pub node_stays : AreEarlierDone parts group u (length group.order) old → AreEarlierDone parts group u (length group.order) new
+  node_stays before i l j m less = (
+    (λ v w may must o. (before i l j m less).0 v w (may_before (label_at group j) v may) (must_before (label_at group i) w must) o),
+    (λ v w may must o. (before i l j m less).1 v w (may_before (label_at group i) v may) (must_before (label_at group j) w must) o),
+  )
+
+-- ---- all that was left alone
+
+pub others_stay : (set : List ℕ) (t : Touched) (parts : Parts) (group : Group) (old new : List (List Bool)) → IsProblem parts → IsBox (shape parts) old → IsGroup parts group → group.principle ≡ principles.Order → LiesIn new old → HasTouched parts (first_dim group) old new t → ((n : ℕ) → has set n ≡ (has t.mothers n || has t.attrs n)) → IsClosedFor parts group old → AreOthersDone set parts group new
+others_stay set t parts group old new problem old_is is order lies touched members closed u within free =
+    node_stays parts group is order old new lies t touched u within
+    (λ h. free (members u ∙ ap (λ b. b || has t.attrs u) h))
+    (λ h. free (members u ∙ ap (λ b. has t.mothers u || b) h ∙ or_true (has t.mothers u)))
+    (closed_node parts group old problem old_is is order closed u within)
+  where
+    or_true : (b : Bool) → (b || true) ≡ true
+    or_true true = refl
+    or_true false = refl
+
+-- nothing was
+pub others_none : (set : List ℕ) (parts : Parts) (group : Group) (box : List (List Bool)) → IsProblem parts → ((n : ℕ) → n < 128 → has set n ≡ true) → AreOthersDone set parts group box
+others_none set parts group box problem all u within free = absurd (free (all u (let most = problem.most in omega (arith, within, most))))
+
+-- a node where nothing is left to take
+pub node_skipped : (set : List ℕ) (group : Group) (k : ℕ) (p : Progress) (old : State) (q : Progress) (mid : State) → k < nodes old.parts → (has set k ≡ true → ⊥) → (IsQuiet p → AreOthersDone set old.parts group old.now) → Sweeps group (AreMothersDone old.parts group k) p old q mid → Sweeps group (AreMothersDone old.parts group (k + 1)) p old q mid
+node_skipped set group k p old q mid within free others a = record {
+  goes = a.goes;
+  known = a.known;
+  done = λ quiet u l. elim (cases_eq u k) [
+    | inl same ↦ (let before = a.goes.quiet quiet in subst (λ n. AreEarlierDone old.parts group n (length group.order) mid.now) (sym same) (subst (AreEarlierDone old.parts group k (length group.order)) (sym before.1) (others before.0 k within free)))
+    | inr other ↦ a.done quiet u (omega (arith, l, other))
+  ];
+}

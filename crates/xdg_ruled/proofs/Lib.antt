@@ -1,0 +1,5 @@
+pub mod Telling
+pub mod Loaded
+pub mod Given
+pub mod Ruling
+pub mod Following

@@ -1,0 +1,4 @@
+pub mod Texts
+pub mod Files
+pub mod Ruled
+pub mod Outcomes

@@ -1,0 +1,93 @@
+//! Searching a problem, and printing what is found.
+
+ghost use Rattle.std.specs.Prelude.{◌≡◌, ◌≢◌, ◌≤◌, ◌⊎◌};
+ghost use Rattle.std.specs.Option.{option_copied};
+ghost use Rattle.xdg_analyses.specs.Written.{IsSome};
+ghost use Rattle.xdg_branches.specs.Branched.{CanBranch};
+ghost use Rattle.xdg_io.specs.Rose.{Rose};
+ghost use Rattle.xdg_outcomes.specs.Runs.{Leaves};
+ghost use Rattle.xdg_searches.specs.Outcomes.{Parsed, Searched, form_of};
+ghost use Rattle.xdg_stream.specs.Streamed.{IsStart, start_vector};
+
+use crate::branched::search_branches;
+use std::alloc::Global;
+use std::thread::Threads;
+use xdg_analyses::{Form, Printed, print_analyses};
+use xdg_command::{ParseOptions, TextForm};
+use xdg_engine::props;
+use xdg_io::Sink;
+use xdg_listing::Ending;
+use xdg_outcomes::Status;
+use xdg_problem::{Analysis, Problem};
+
+/// The form in which analyses are printed.
+pub(crate) fn form_of(text: TextForm) -> Form
+    ensures { result ≡ form_of text }
+{
+    match text {
+        TextForm::One => Form::One,
+        TextForm::Two => Form::Two,
+    }
+}
+
+/// Makes the propagators of a sentence, and prints its analyses from behind a given one on, or from the first of all.
+pub(crate) fn search<K: Sink>(
+    alloc: Global,
+    problem: &Problem,
+    after: Option<&Analysis>,
+    budget: u64,
+    first: Option<u64>,
+    text: TextForm,
+    out: &mut K,
+) -> Status
+    requires fits { IsStart problem.now (option_copied after) }
+    requires some { IsSome first }
+    ensures leaves { Leaves (Searched (form_of text) budget first problem.now (start_vector problem.now (option_copied after.entry))) result (K.held out.old) (K.held out.new) }
+    ensures write_fault { result ≡ Status.WriteFault → Rose (K.faults out.old) (K.faults out.new) }
+    ensures out_lasting { K.faults out.old ≤ K.faults out.new }
+    ensures out_quiet { result ≢ Status.WriteFault → K.faults out.new ≡ K.faults out.old }
+    ensures ends { (result ≡ Status.Done) ⊎ ((result ≡ Status.Spent) ⊎ ((result ≡ Status.WriteFault) ⊎ (result ≡ Status.OutOfMemory))) }
+{
+    let form = form_of(text);
+    let Ok(propagators) = props(alloc, problem) else {
+        return Status::OutOfMemory;
+    };
+    match print_analyses(
+        alloc,
+        problem,
+        propagators.as_slice(),
+        budget,
+        after,
+        first,
+        form,
+        out,
+    ) {
+        Printed::Ended(Ending::Complete) => Status::Done,
+        Printed::Ended(Ending::First) => Status::Done,
+        Printed::Ended(Ending::Spent) => Status::Spent,
+        Printed::Failed => Status::WriteFault,
+        Printed::OutOfMemory => Status::OutOfMemory,
+    }
+}
+
+/// Prints the analyses of a sentence from the first of all on, searched as is asked.
+pub(crate) fn search_asked<R: Threads + Sync, K: Sink>(
+    rt: &R,
+    alloc: Global,
+    options: &ParseOptions,
+    problem: &Problem,
+    out: &mut K,
+) -> Status
+    requires range { CanBranch options.now.budget options.now.first }
+    ensures leaves { Leaves (Parsed options.now problem.now) result (K.held out.old) (K.held out.new) }
+    ensures write_fault { result ≡ Status.WriteFault → Rose (K.faults out.old) (K.faults out.new) }
+    ensures out_lasting { K.faults out.old ≤ K.faults out.new }
+    ensures out_quiet { result ≢ Status.WriteFault → K.faults out.new ≡ K.faults out.old }
+    ensures ends { (result ≡ Status.Done) ⊎ ((result ≡ Status.Spent) ⊎ ((result ≡ Status.WriteFault) ⊎ (result ≡ Status.OutOfMemory))) }
+{
+    let (budget, first, text) = (options.budget, options.first, options.text);
+    if options.split {
+        return search_branches(rt, alloc, problem, budget, first, text, out);
+    }
+    search(alloc, problem, None, budget, first, text, out)
+}
