@@ -1,8 +1,7 @@
 -- What the branches of a sentence find is a front of the list of its solutions.
-use Rattle.std.proofs.Common.{◌≡◌, ◌≢◌, ℕ, ◌<◌, ◌≤◌, ◌+◌, ◌-◌, Bool, true, false, List, [], ◌∷◌, ◌++◌, length, map, take, drop, get_or, zero, suc, refl, ap, ap₂, sym, ◌∙◌, subst, arith, Some, None}
+use Rattle.std.proofs.Common.{◌≡◌, ◌≢◌, ℕ, ◌<◌, ◌≤◌, ◌+◌, ◌-◌, Bool, true, List, [], ◌∷◌, ◌++◌, length, map, take, drop, get_or, zero, suc, refl, ap, ap₂, sym, ◌∙◌, subst, arith, Some, None}
 use Rattle.std.specs.Prelude.{All, Option}
 use Rattle.std.proofs.Math.Seq.{drop-cons, take-length}
-use Rattle.std.proofs.lemmas.List.{length-take-le, take-take}
 use Rattle.std.proofs.lemmas.List.Elements.{All-nil, All-cons, All-take, All-weaker}
 use Rattle.xdg_analyses.specs.Printed.{blocks, last_line, shown}
 use Rattle.xdg_analyses.specs.Written.{IsSome}
@@ -12,7 +11,6 @@ use Rattle.xdg_branches.specs.Written.{WritesAll}
 use Rattle.xdg_io.specs.Held.{Appends, AppendsFront}
 use Rattle.xdg_propcore.specs.Uses.{AllStandIn}
 use Rattle.xdg_branches.specs.Laws.{BranchedLaws, IsFrontOf, IsOneBranched}
-use Rattle.xdg_listing.specs.Endings.{IsBelow}
 use Rattle.xdg_listing.specs.declared.Ending.{Ending}
 use Rattle.xdg_listing.specs.declared.Ending.TheVariants as endings
 use Rattle.xdg_problem.specs.declared.analysis.Analysis.{Analysis}
@@ -22,12 +20,12 @@ use Rattle.xdg_problem.specs.Branches.{branch_of, first_candidates}
 use Rattle.xdg_problem.specs.BranchLaws.{AreBranchLists, joined}
 use Rattle.xdg_problem.specs.Places.{numbers_from}
 use Rattle.xdg_problem.specs.Problems.{IsProblem}
-use Rattle.xdg_problem.specs.Solutions.{IsSolution, IsSolutionList}
+use Rattle.xdg_problem.specs.Solutions.{IsSolution}
 use Rattle.xdg_problem.proofs.BranchSolutions.{branch_laws}
 use Rattle.xdg_problem.proofs.BranchesJoined.{branches_join}
 use Rattle.xdg_problem.proofs.OneList.{some_solution_list}
 use Rattle.xdg_split.specs.Asked.{Asked, IsJob, asked}
-use Rattle.xdg_split.specs.Splits.{AllWant, AreFirst, AreProblems, Continues, Ends, IsSplit, IsWhole, Reach}
+use Rattle.xdg_split.specs.Splits.{AllWant, AreProblems, Continues, Ends, IsSplit, IsWhole, Reach}
 use Rattle.xdg_split.specs.Splits.Reaches.{all, some}
 use Rattle.xdg_split.proofs.Reaching.{not_both, some_reach}
 use Rattle.xdg_split.proofs.Together.{have_one_split, split_stopped}

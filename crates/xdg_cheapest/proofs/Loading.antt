@@ -48,7 +48,7 @@ module _ (table : Table) (entries : ℕ) where
       is = record { file = file; because = wrong within u };
       one = λ t g q. let e = same_text files name t text q.file file in (e, one_bad f g within only (subst (λ z. IsBadCosts table entries z g) e q.because));
       never = λ costs h.
-      let e : ◌≡◌ {A = Result CostLists Fault} (Ok costs) (Err f) = only (Ok costs) (subst (λ z. Says z table entries costs) (same_text files name h.text text h.file file) h.says) in cc;
+          let e : ◌≡◌ {A = Result CostLists Fault} (Ok costs) (Err f) = only (Ok costs) (subst (λ z. Says z table entries costs) (same_text files name h.text text h.file file) h.says) in cc;
     }
 
     long_one : (g : Fault) → costs_limit < length text → IsBadCosts table entries text g → g ≡ fault causes.TooLong 0 (costs_limit + 1)

@@ -33,11 +33,7 @@ fn write_find<K: Sink>(
 }
 
 /// Writes what was found, if something was.
-fn write_found<K: Sink>(
-    problem: &Problem,
-    answer: &BestAnswer,
-    sink: &mut K,
-) -> Result<(), Failed>
+fn write_found<K: Sink>(problem: &Problem, answer: &BestAnswer, sink: &mut K) -> Result<(), Failed>
     requires { IsStart problem.now answer.now.found }
     ensures all { OnOk result (Appends (K.held sink.old) (K.held sink.new) (found_text problem.now answer.now)) }
     ensures front { OnErr result (AppendsFront (K.held sink.old) (K.held sink.new) (found_text problem.now answer.now)) }
