@@ -20,7 +20,7 @@ use Rattle.xdg_outcomes.specs.Outcomes.{MeaningThen}
 use Rattle.xdg_searches.specs.Outcomes.{DrillOf, DrillSentence, Drilled, drill_line, generated, spent_word, status_of}
 use Rattle.xdg_outcomes.specs.Refusals.{Refuses, Stops, refusal_of}
 use Rattle.xdg_outcomes.specs.Runs.{Ends, Leaves, Wrote}
-use Rattle.xdg_searches.specs.Runs.{DrillEnds, ParseEnds}
+use Rattle.xdg_searches.specs.Runs.{DrillEnds}
 use Rattle.xdg_outcomes.specs.Texts.{HasBadText, HasTree, ReadText, grammar_limit}
 use Rattle.xdg_outcomes.specs.declared.refusals.Refusal.{Refusal}
 use Rattle.xdg_outcomes.specs.declared.refusals.Refusal.TheVariants as refusals
@@ -98,27 +98,28 @@ no_read bad result refusals.Memory old new is r unread e = let wrong : statuses.
 no_read bad result (refusals.Text f p) old new is (inl r) unread e = subst IsBad (sym r.0 ∙ e) is
 no_read bad result (refusals.Text f p) old new is (inr r) unread e = let wrong : statuses.WriteFault ≡ statuses.ReadFault = sym r.0 ∙ e in cc
 
--- a drill ends as `parse` does, but for a failed read
-without_read : (status : Status) → ParseEnds status → (status ≡ statuses.ReadFault → ⊥) → DrillEnds status
-without_read statuses.Usage ends unread = ends
-without_read statuses.BadAnalysis ends unread = ends
-without_read statuses.BadRules ends unread = ends
-without_read statuses.BadCosts ends unread = ends
-without_read statuses.ReadFault ends unread = unread refl
-without_read status ends unread = tt
+-- a drill ends so, or by a failed read
+abbrev pub EndsOrReads : Status → Type 0
+EndsOrReads statuses.ReadFault = Unit {0}
+EndsOrReads status = DrillEnds status
 
-refused_drill : (bad result : Status) (refusal : Refusal) (count_old count_new : ℕ) (old new : Option (List ℕ)) → IsBad bad → ParseEnds bad → (refusal ≡ refusals.Read → ⊥) → Refuses result bad refusal old new
+-- and where no read failed, as a drill
+without_read : (status : Status) → EndsOrReads status → (status ≡ statuses.ReadFault → ⊥) → DrillEnds status
+without_read statuses.ReadFault ends unread = unread refl
+without_read status ends unread = ends
+
+refused_drill : (bad result : Status) (refusal : Refusal) (count_old count_new : ℕ) (old new : Option (List ℕ)) → IsBad bad → EndsOrReads bad → (refusal ≡ refusals.Read → ⊥) → Refuses result bad refusal old new
     → (result ≢ statuses.WriteFault → count_new ≡ count_old) → Wrote DrillEnds result count_old count_new old new
 refused_drill bad result refusal count_old count_new old new is can unread written quiet =
-    let wrote = refused_wrote ParseEnds bad result refusal count_old count_new old new is can tt tt tt written quiet in
+    let wrote = refused_wrote EndsOrReads bad result refusal count_old count_new old new is can tt tt tt written quiet in
     record { ends = without_read result wrote.ends (no_read bad result refusal old new is written unread); unwritten = wrote.unwritten; quiet = wrote.quiet }
 
 -- a text is refused
-pub stopped_wrote : (bad result : Status) (text : List ℕ) (stop : Stop) (refusal : Refusal) (count_old count_new : ℕ) (old new : Option (List ℕ)) → IsBad bad → ParseEnds bad → refusal ≡ refusal_of text stop → Refuses result bad refusal old new
+pub stopped_wrote : (bad result : Status) (text : List ℕ) (stop : Stop) (refusal : Refusal) (count_old count_new : ℕ) (old new : Option (List ℕ)) → IsBad bad → EndsOrReads bad → refusal ≡ refusal_of text stop → Refuses result bad refusal old new
     → (result ≢ statuses.WriteFault → count_new ≡ count_old) → Wrote DrillEnds result count_old count_new old new
 stopped_wrote bad result text stop refusal count_old count_new old new is can r written quiet = refused_drill bad result refusal count_old count_new old new is can (λ e. unread_fault text stop (sym e ∙ r)) written quiet
 
 -- a step refuses without a device
-pub step_wrote : (A : Type 0) (Refused : List ℕ → Fault → Type 0) (Has : A → Type 0) (bad result : Status) (refusal : Refusal) (count_old count_new : ℕ) (old new : Option (List ℕ)) → IsBad bad → ParseEnds bad → Stops (Unit {0}) 0 0 A Refused Has refusal
+pub step_wrote : (A : Type 0) (Refused : List ℕ → Fault → Type 0) (Has : A → Type 0) (bad result : Status) (refusal : Refusal) (count_old count_new : ℕ) (old new : Option (List ℕ)) → IsBad bad → EndsOrReads bad → Stops (Unit {0}) 0 0 A Refused Has refusal
     → Refuses result bad refusal old new → (result ≢ statuses.WriteFault → count_new ≡ count_old) → Wrote DrillEnds result count_old count_new old new
 step_wrote A Refused Has bad result refusal count_old count_new old new is can stopped written quiet = refused_drill bad result refusal count_old count_new old new is can (unread_stop A Refused Has refusal stopped) written quiet

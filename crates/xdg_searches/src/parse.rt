@@ -16,6 +16,7 @@ ghost use Rattle.xdg_ruled.specs.Outcomes.{RulesThen, WithRules};
 ghost use Rattle.xdg_searches.specs.Outcomes.{ParseOf, Parsed, SentenceThen};
 ghost use Rattle.xdg_searches.specs.Runs.{ParseEnds};
 
+use crate::printing::search_asked;
 use std::alloc::Global;
 use std::thread::Threads;
 use xdg_base::OutOfMemory;
