@@ -84,13 +84,13 @@ returns-in-Explain-clause-all_read g c content reads done told = absurd (subst R
 pub returns-in-Check-clause-leaves : goal.returns-in-Check-clause-leaves
 returns-in-Check-clause-leaves g c files content told given =
     said_leaves files content c.args.command.now (commands.Check c.in-Check.grammar) c.check_grammar.result (g.K.Sink.held c.args.out.now) (g.K.Sink.held c.check_grammar.new.out) c.in-Check.is
-    (subst (λ n. Leaves (CheckOf n files) c.check_grammar.result (g.K.Sink.held c.args.out.now) (g.K.Sink.held c.check_grammar.new.out)) c.as_str-in-Check.ensures (c.check_grammar.ensures.leaves files told))
+    (subst (λ n. Leaves (CheckOf n files) c.check_grammar.result (g.K.Sink.held c.args.out.now) (g.K.Sink.held c.check_grammar.new.out)) c.as_str.ensures (c.check_grammar.ensures.leaves files told))
 
 pub returns-in-Check-clause-wrote : goal.returns-in-Check-clause-wrote
 returns-in-Check-clause-wrote g c = said_wrote c.args.command.now (commands.Check c.in-Check.grammar) c.check_grammar.result (g.K.Sink.faults c.args.out.now) (g.K.Sink.faults c.check_grammar.new.out) (g.K.Sink.held c.args.out.now) (g.K.Sink.held c.check_grammar.new.out) c.in-Check.is (λ u. u) c.check_grammar.ensures.wrote
 
 pub returns-in-Check-clause-read_fault : goal.returns-in-Check-clause-read_fault
-returns-in-Check-clause-read_fault g c failed = file_failed c.args.command.now (commands.Check c.in-Check.grammar) c.as_str-in-Check.result.now (g.H.Shelf.faults c.args.shelf.now) (g.H.Shelf.faults c.check_grammar.new.shelf) (g.S.Source.faults c.args.input.now) (g.S.Source.faults c.args.input.now) c.in-Check.is c.as_str-in-Check.ensures (c.check_grammar.ensures.read_fault failed)
+returns-in-Check-clause-read_fault g c failed = file_failed c.args.command.now (commands.Check c.in-Check.grammar) c.as_str.result.now (g.H.Shelf.faults c.args.shelf.now) (g.H.Shelf.faults c.check_grammar.new.shelf) (g.S.Source.faults c.args.input.now) (g.S.Source.faults c.args.input.now) c.in-Check.is c.as_str.ensures (c.check_grammar.ensures.read_fault failed)
 
 pub returns-in-Check-clause-all_read : goal.returns-in-Check-clause-all_read
 returns-in-Check-clause-all_read g c content reads done told = absurd (subst ReadsInput c.in-Check.is reads)
