@@ -89,14 +89,15 @@ impl<R: Input> Source for StdinSource<R> {
     }
 }
 
-/// How many bytes of a line are kept at most.
-const LINE: usize = 4096;
+/// How many bytes are kept at most.
+const LINES: usize = 4096;
 
-/// The output of the program, which is written line by line: bytes are kept until their line ends or is long.
+/// The output of the program. Bytes are kept until a line ends behind which none is written at once, or until they are many: so a block of
+/// lines is one call of the system, and stands there whole before the next one is searched.
 #[derive(Drop)]
 pub struct StdoutSink<'a, R> {
     sink: WriterSink<Printer<'a, R>>,
-    line: [u8; LINE],
+    lines: [u8; LINES],
     kept: usize,
     ghost within: { kept < 4096 },
 }
@@ -108,7 +109,7 @@ impl<'a, R: Print> StdoutSink<'a, R> {
     {
         StdoutSink {
             sink: WriterSink::new(io::writer(runtime)),
-            line: [0; LINE],
+            lines: [0; LINES],
             kept: 0,
         }
     }
@@ -120,17 +121,27 @@ impl<'a, R: Print> Sink for StdoutSink<'a, R> {
     ghost faults = { λ sink. sink.sink.faults };
 
     fn write(&mut self, piece: &[u8]) -> Result<usize, Failed> {
-        let count = piece.len().min(LINE - self.kept);
+        let count = piece.len().min(LINES - self.kept);
         let end = self.kept + count;
-        self.line[self.kept..end].copy_from_slice(&piece[..count]);
-        if end < LINE && self.line[end - 1] != b'\n' {
+        self.lines[self.kept..end].copy_from_slice(&piece[..count]);
+        if end < LINES && self.lines[end - 1] != b'\n' {
             self.kept = end;
             return Ok(count);
         }
         self.kept = 0;
-        let line = self.line;
-        write_all(&mut self.sink, &line[..end])?;
+        let lines = self.lines;
+        write_all(&mut self.sink, &lines[..end])?;
         Ok(count)
+    }
+
+    fn feed(&mut self) -> Result<(), Failed> {
+        if self.kept + 1 < LINES {
+            self.lines[self.kept] = b'\n';
+            self.kept += 1;
+            return Ok(());
+        }
+        self.write(b"\n")?;
+        Ok(())
     }
 }
 

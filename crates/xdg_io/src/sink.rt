@@ -1,6 +1,6 @@
 //! Where bytes are written to.
 
-ghost use Rattle.std.specs.Prelude.{◌≡◌, Option, ◌<◌, ◌≤◌, ◌+◌, ℕ, List, length, take, IfOk, OnOk, OnErr};
+ghost use Rattle.std.specs.Prelude.{◌≡◌, ◌∷◌, [], Option, ◌<◌, ◌≤◌, ◌+◌, ℕ, List, length, take, IfOk, OnOk, OnErr};
 ghost use Rattle.xdg_io.specs.Held.{Appends, AppendsFront};
 ghost use Rattle.xdg_io.specs.Rose.{Rose};
 
@@ -25,6 +25,18 @@ pub trait Sink {
         ensures cause { OnErr result (Rose (faults self.old) (faults self.new)) }
         ensures lasting { faults self.old ≤ faults self.new }
         ensures quiet { OnOk result (faults self.new ≡ faults self.old) };
+
+    /// Takes a line feed behind which another line is written at once, so a sink that hands on whole lines may keep this one till then.
+    fn feed(&mut self) -> Result<(), Failed>
+        ensures all { OnOk result (Appends (held self.old) (held self.new) (10 ∷ [])) }
+        ensures front { OnErr result (AppendsFront (held self.old) (held self.new) (10 ∷ [])) }
+        ensures cause { OnErr result (Rose (faults self.old) (faults self.new)) }
+        ensures lasting { faults self.old ≤ faults self.new }
+        ensures quiet { OnOk result (faults self.new ≡ faults self.old) }
+    {
+        self.write(b"\n")?;
+        Ok(())
+    }
 }
 
 /// Writes a whole piece, by as many calls as the sink wants. An empty piece makes no call. It takes

@@ -7,7 +7,8 @@ use Rattle.std.specs.List.{flat_map}
 use Rattle.xdg_io.specs.Held.{Appends, AppendsFront, WrittenSoFar}
 use Rattle.xdg_io.specs.Rose.{Rose}
 use Rattle.xdg_text.specs.declared.lines.Word.{Word}
-use Rattle.xdg_text.specs.Lines.{led}
+use Rattle.xdg_text.specs.Lines.{led, line}
+use Rattle.std.specs.Prelude.{codes}
 use Rattle.xdg_text.specs.Words.{word_text, led_word}
 use Rattle.xdg_io.proofs.Written as io
 use Rattle.xdg_io.proofs.Counts as counts
@@ -85,3 +86,7 @@ at_exit (Err e) p = p
 pub led_words : (words : List Word) → led (map word_text words) ≡ flat_map led_word words
 led_words [] = refl
 led_words (word ∷ words) = ap (λ z. led_word word ++ z) (led_words words)
+
+-- the words of a line, and its line feed
+pub line_parts : (first : List ℕ) (others : List Word) → (first ++ flat_map led_word others) ++ codes "\n" ≡ line first (map word_text others)
+line_parts first others = append_assoc first (flat_map led_word others) (codes "\n") ∙ ap (λ z. first ++ (z ++ codes "\n")) (sym (led_words others))

@@ -8,7 +8,7 @@ ghost use Rattle.xdg_text.specs.Blocks.{word_lines, value_at, node_lines, dim_li
 ghost use Rattle.xdg_text.specs.Lines.{analysis_line, version_line, counts_line, word_line, attr_line, end_line};
 ghost use Rattle.xdg_text.specs.Ranges.{HasValues, NodesHaveValues, DimsHaveValues, HasNames};
 
-use crate::lines::{Word, write_line};
+use crate::lines::{Word, write_inner_line, write_line};
 use xdg_base::{EntryNo, Text};
 use xdg_io::{Failed, Sink};
 use xdg_problem::{Analysis, AttrPlan, DimPlan, Edge, Problem, SentenceWord};
@@ -32,7 +32,7 @@ fn write_word_line<K: Sink>(
         Word::Quoted(word.text.as_str()),
         Word::Number(entry.0 as u64 + 1),
     ];
-    write_line("word", &words, sink)
+    write_inner_line("word", &words, sink)
 }
 
 /// Writes the lines of all nodes.
@@ -78,7 +78,7 @@ fn write_attr_line<'a, K: Sink>(
         Word::Constant(attr.name.as_str()),
         Word::Value(&attr.values.as_slice()[value as usize]),
     ];
-    write_line("attr", &words, sink)
+    write_inner_line("attr", &words, sink)
 }
 
 /// Writes the lines of a node's attributes, whose values come first in the list.
@@ -173,7 +173,7 @@ fn write_edge_line<K: Sink>(dims: &[DimPlan], edge: &Edge, sink: &mut K) -> Resu
         Word::Constant(label.as_str()),
         Word::Number(edge.daughter.0 as u64 + 1),
     ];
-    write_line("edge", &words, sink)
+    write_inner_line("edge", &words, sink)
 }
 
 /// Writes the lines of edges in their order.
@@ -241,7 +241,7 @@ fn write_block<K: Sink>(
     ensures lasting { K.faults sink.old ≤ K.faults sink.new }
     ensures quiet { OnOk result (K.faults sink.new ≡ K.faults sink.old) }
 {
-    write_line("analysis", &[Word::Number(number)], sink)?;
+    write_inner_line("analysis", &[Word::Number(number)], sink)?;
     write_body(words, dims, entries, attrs, edges, sink)
 }
 
@@ -263,7 +263,7 @@ fn write_counts<K: Sink>(
         Word::Number(attrs as u64),
         Word::Number(edges as u64),
     ];
-    write_line("counts", &counts, sink)
+    write_inner_line("counts", &counts, sink)
 }
 
 /// Writes the lines of text 2.
@@ -288,9 +288,9 @@ fn write_block2<K: Sink>(
     ensures lasting { K.faults sink.old ≤ K.faults sink.new }
     ensures quiet { OnOk result (K.faults sink.new ≡ K.faults sink.old) }
 {
-    write_line("xdg", &[Word::Number(2)], sink)?;
+    write_inner_line("xdg", &[Word::Number(2)], sink)?;
     let numbers = [Word::Number(number)];
-    write_line("analysis", &numbers, sink)?;
+    write_inner_line("analysis", &numbers, sink)?;
     write_counts(words.len(), attrs.len(), edges.len(), sink)?;
     write_body(words, dims, entries, attrs, edges, sink)
 }

@@ -96,6 +96,36 @@ fn write_led_words<K: Sink>(words: &[Word], sink: &mut K) -> Result<(), Failed>
     Ok(())
 }
 
+/// Writes the words of a line with a space between two.
+#[tactic(auto, using(crate::proofs::Pieces::appends_both, crate::proofs::Pieces::start, crate::proofs::Pieces::done, crate::proofs::Pieces::rose_later))]
+fn write_words<K: Sink>(first: &str, others: &[Word], sink: &mut K) -> Result<(), Failed>
+    ensures all { OnOk result (Appends (K.held sink.old) (K.held sink.new) (first.now ++ flat_map led_word others.now)) }
+    ensures front { OnErr result (AppendsFront (K.held sink.old) (K.held sink.new) (first.now ++ flat_map led_word others.now)) }
+    ensures cause { OnErr result (Rose (K.faults sink.old) (K.faults sink.new)) }
+    ensures lasting { K.faults sink.old ≤ K.faults sink.new }
+    ensures quiet { OnOk result (K.faults sink.new ≡ K.faults sink.old) }
+{
+    write_plain(first, sink)?;
+    write_led_words(others, sink)
+}
+
+/// Writes a line behind which another one is written at once.
+#[tactic(auto, using(crate::proofs::Pieces::appends_both, crate::proofs::Pieces::start, crate::proofs::Pieces::done, crate::proofs::Pieces::rose_later))]
+pub(crate) fn write_inner_line<K: Sink>(
+    first: &str,
+    others: &[Word],
+    sink: &mut K,
+) -> Result<(), Failed>
+    ensures all { OnOk result (Appends (K.held sink.old) (K.held sink.new) (line first.now (map word_text others.now))) }
+    ensures front { OnErr result (AppendsFront (K.held sink.old) (K.held sink.new) (line first.now (map word_text others.now))) }
+    ensures cause { OnErr result (Rose (K.faults sink.old) (K.faults sink.new)) }
+    ensures lasting { K.faults sink.old ≤ K.faults sink.new }
+    ensures quiet { OnOk result (K.faults sink.new ≡ K.faults sink.old) }
+{
+    write_words(first, others, sink)?;
+    sink.feed()
+}
+
 /// Writes a line: its words with a space between two, and a line feed.
 #[tactic(auto, using(crate::proofs::Pieces::appends_both, crate::proofs::Pieces::start, crate::proofs::Pieces::done, crate::proofs::Pieces::rose_later))]
 pub fn write_line<K: Sink>(first: &str, others: &[Word], sink: &mut K) -> Result<(), Failed>
@@ -105,7 +135,6 @@ pub fn write_line<K: Sink>(first: &str, others: &[Word], sink: &mut K) -> Result
     ensures lasting { K.faults sink.old ≤ K.faults sink.new }
     ensures quiet { OnOk result (K.faults sink.new ≡ K.faults sink.old) }
 {
-    write_plain(first, sink)?;
-    write_led_words(others, sink)?;
+    write_words(first, others, sink)?;
     write_all(sink, b"\n")
 }

@@ -2,11 +2,11 @@ use Rattle.std.proofs.lemmas.Result.{on_err_weaker, on_ok_weaker}
 use Rattle.xdg_text.proofs.Pieces.{appends_both, front_of_first, front_of_second, at_exit}
 use Rattle.xdg_text.proofs.blocks.write_block.Goals as goal
 
-pub returns-in_err-write_line-clause-front : goal.returns-in_err-write_line-clause-front
-returns-in_err-write_line-clause-front g c = at_exit _ (front_of_first _ c.in_err-write_line.ensures.front)
+pub returns-in_err-write_inner_line-clause-front : goal.returns-in_err-write_inner_line-clause-front
+returns-in_err-write_inner_line-clause-front g c = at_exit _ (front_of_first _ c.in_err-write_inner_line.ensures.front)
 
 pub returns-clause-all : goal.returns-clause-all
-returns-clause-all g c = on_ok_weaker _ (λ last. appends_both c.in_ok-write_line.ensures.all last) c.write_body.ensures.all
+returns-clause-all g c = on_ok_weaker _ (λ last. appends_both c.in_ok-write_inner_line.ensures.all last) c.write_body.ensures.all
 
 pub returns-clause-front : goal.returns-clause-front
-returns-clause-front g c = on_err_weaker _ (λ last. front_of_second c.in_ok-write_line.ensures.all last) c.write_body.ensures.front
+returns-clause-front g c = on_err_weaker _ (λ last. front_of_second c.in_ok-write_inner_line.ensures.all last) c.write_body.ensures.front

@@ -1,15 +1,15 @@
+use Rattle.std.proofs.Common.{subst}
 use Rattle.std.proofs.lemmas.Result.{on_err_weaker, on_ok_weaker}
-use Rattle.xdg_text.proofs.Pieces.{appends_both, front_of_first, front_of_second, at_exit, led_words}
+use Rattle.xdg_io.proofs.Written.{front_in_first, front_in_second}
+use Rattle.xdg_io.specs.Held.{Appends}
+use Rattle.xdg_text.proofs.Pieces.{appends_both, at_exit, line_parts}
 use Rattle.xdg_text.proofs.lines.write_line.Goals as goal
 
-pub returns-in_err-write_plain-clause-front : goal.returns-in_err-write_plain-clause-front
-returns-in_err-write_plain-clause-front g c = at_exit _ (front_of_first _ c.in_err-write_plain.ensures.front)
-
-pub returns-in_err-write_led_words-clause-front : goal.returns-in_err-write_led_words-clause-front
-returns-in_err-write_led_words-clause-front g c = rw (led_words c.args.others.now) (at_exit _ (front_of_second c.in_ok-write_plain.ensures.all (front_of_first _ c.in_err-write_led_words.ensures.front)))
+pub returns-in_err-write_words-clause-front : goal.returns-in_err-write_words-clause-front
+returns-in_err-write_words-clause-front g c = at_exit _ (front_in_first _ c.in_err-write_words.ensures.front (line_parts c.args.first.now c.args.others.now))
 
 pub returns-clause-all : goal.returns-clause-all
-returns-clause-all g c = rw (led_words c.args.others.now) (on_ok_weaker _ (λ last. appends_both c.in_ok-write_plain.ensures.all (appends_both c.in_ok-write_led_words.ensures.all last)) c.write_all.ensures.all)
+returns-clause-all g c = on_ok_weaker _ (λ last. subst (λ z. Appends (g.K.Sink.held c.args.sink.now) (g.K.Sink.held c.write_all.new.sink) z) (line_parts c.args.first.now c.args.others.now) (appends_both c.in_ok-write_words.ensures.all last)) c.write_all.ensures.all
 
 pub returns-clause-front : goal.returns-clause-front
-returns-clause-front g c = rw (led_words c.args.others.now) (on_err_weaker _ (λ last. front_of_second c.in_ok-write_plain.ensures.all (front_of_second c.in_ok-write_led_words.ensures.all last)) c.write_all.ensures.front)
+returns-clause-front g c = on_err_weaker _ (λ last. front_in_second c.in_ok-write_words.ensures.all (line_parts c.args.first.now c.args.others.now) last) c.write_all.ensures.front

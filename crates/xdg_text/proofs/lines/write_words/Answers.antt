@@ -1,0 +1,12 @@
+use Rattle.std.proofs.lemmas.Result.{on_err_weaker, on_ok_weaker}
+use Rattle.xdg_text.proofs.Pieces.{appends_both, front_of_first, front_of_second, at_exit}
+use Rattle.xdg_text.proofs.lines.write_words.Goals as goal
+
+pub returns-in_err-write_plain-clause-front : goal.returns-in_err-write_plain-clause-front
+returns-in_err-write_plain-clause-front g c = at_exit _ (front_of_first _ c.in_err-write_plain.ensures.front)
+
+pub returns-clause-all : goal.returns-clause-all
+returns-clause-all g c = on_ok_weaker _ (λ last. appends_both c.in_ok-write_plain.ensures.all last) c.write_led_words.ensures.all
+
+pub returns-clause-front : goal.returns-clause-front
+returns-clause-front g c = on_err_weaker _ (λ last. front_of_second c.in_ok-write_plain.ensures.all last) c.write_led_words.ensures.front
