@@ -3,9 +3,8 @@
 
     .ci/blocks.py PROGRAM FILE...
 
-A file is a document, or an `.out` file. In a document each fenced block whose first line begins with `$ `, and that has
-the word ./xdg in some command, is run; other blocks are left alone. An `.out` file is one such block; its lines that begin
-with `%` are comments. A command is a line that begins with `$ `; where it ends with a backslash the next line belongs to
+A file is a document, or an `.out` file. In a document each fenced block whose first line begins with `$ ` is run; other blocks are
+left alone. An `.out` file is one such block; its lines that begin with `%` are comments. A command is a line that begins with `$ `; where it ends with a backslash the next line belongs to
 it. What stands below it, up to the next command, is exactly what it prints. A block that is one command and shows
 nothing below it is run, and only has to end with status 0.
 
@@ -89,9 +88,7 @@ def blocks(path, text):
                 inside, start = [], number + 1
             else:
                 if inside and inside[0].startswith("$ "):
-                    block = commands(inside, start)
-                    if any(re.search(r"(^|[\s|;&(])\./xdg(\s|$)", c) for _, c, _ in block):
-                        found.append(block)
+                    found.append(commands(inside, start))
                 inside = None
         elif inside is not None:
             inside.append(line)

@@ -1,5 +1,6 @@
-"""Reads what `xdg parse` prints (docs/texts.md): blocks of analyses in text 1 or text 2, last lines and fault lines,
-of one run or of many. Before what was printed of a sentence a line `sentence k` may stand.
+"""Reads what `parse`, `resume`, `corpus`, `best` and `arrange` print (docs/texts.md): blocks of analyses in text 1 or text 2, last lines
+and fault lines, of one run or of many. Before what was printed of a sentence a line `sentence k` may stand, and before the
+blocks of an arrangement of words a line `arrangement k`.
 
 `events` gives them one after another. `runs` gives what belongs to one sentence together. Whatever has another form
 raises `Bad`, which tells the line. Everything but standard input is left alone.
@@ -23,7 +24,9 @@ WORD = re.compile(rf"word ({NUMBER}) ({QUOTED}) ({NUMBER})")
 ATTR = re.compile(rf"attr ({CONSTANT}) ({NUMBER}) ({CONSTANT}) ({CONSTANT}|\[{CONSTANT}(?: {CONSTANT})*\])")
 EDGE = re.compile(rf"edge ({CONSTANT}) ({NUMBER}) ({CONSTANT}) ({NUMBER})")
 ENDING = re.compile(r"(complete|first|spent) (0|[1-9][0-9]*)")
+COST = re.compile(r"cost (0|[1-9][0-9]*)")
 SENTENCE = re.compile(rf"sentence ({NUMBER})")
+ARRANGEMENT = re.compile(rf"arrangement ({NUMBER})(?: {QUOTED})+")
 FAULT = re.compile(rf"fault ({NUMBER}) ([A-Za-z0-9]+) line {NUMBER} column {NUMBER}(?: reached {NUMBER})?")
 
 
@@ -75,6 +78,15 @@ class Ending:
 
 
 @dataclass
+class Cheapest:
+    """How a run of `best` ends: with the cost of the block before, or None where there is no block; `spent` where the budget was used up."""
+
+    cost: int | None
+    spent: bool
+    line: int
+
+
+@dataclass
 class Fault:
     """A fault line, with the number and the name of the fault."""
 
@@ -93,14 +105,22 @@ class Sentence:
 
 
 @dataclass
-class Run:
-    """What was printed of one sentence. It has a last line or a fault, or neither where blocks were saved without it.
-    Where the sentence is `named`, a line `sentence k` says its number."""
+class Arrangement:
+    """The line before the blocks of an arrangement of words, with its number."""
 
-    sentence: int
-    named: bool
+    number: int
+    line: int
+
+
+@dataclass
+class Run:
+    """What was printed of one sentence, or of one arrangement of words. A sentence has a last line or a fault, or neither where
+    blocks were saved without it. The `name` is the word of the line that says its number, `sentence` or `arrangement`, if one does."""
+
+    number: int
+    name: str
     analyses: list[Analysis]
-    end: Ending | Fault | None
+    end: Ending | Cheapest | Fault | None
 
 
 def merged(first: Iterable[str], second: Iterable[str]) -> list[str]:
@@ -242,8 +262,34 @@ def read_edges(lines: Lines, analysis: Analysis) -> None:
         analysis.edges.append(edge)
 
 
-def events(stream: BinaryIO) -> Iterator[Analysis | Ending | Fault | Sentence]:
-    """Blocks, last lines, faults and lines `sentence k`, as they come."""
+def cheapest(lines: Lines) -> Cheapest | None:
+    """The last lines of `best`, if they begin here: `cost n`, with `spent` behind it or not, or `none`, or `spent` alone."""
+    at, found = lines.at, COST.fullmatch(lines.text)
+    if not found and lines.text not in ("none", "spent"):
+        return None
+    spent = lines.text == "spent"
+    lines.step()
+    if found and lines.text == "spent":
+        spent = True
+        lines.step()
+    return Cheapest(int(found[1]) if found else None, spent, at)
+
+
+def line_event(text: str, at: int) -> Ending | Fault | Sentence | Arrangement | None:
+    """What a line says that stands between blocks."""
+    if found := ENDING.fullmatch(text):
+        return Ending(found[1], int(found[2]), at)
+    if found := FAULT.fullmatch(text):
+        return Fault(text, int(found[1]), found[2], at)
+    if found := SENTENCE.fullmatch(text):
+        return Sentence(int(found[1]), at)
+    if found := ARRANGEMENT.fullmatch(text):
+        return Arrangement(int(found[1]), at)
+    return None
+
+
+def events(stream: BinaryIO) -> Iterator[Analysis | Ending | Cheapest | Fault | Sentence | Arrangement]:
+    """Blocks, last lines, faults, and lines `sentence k` and `arrangement k`, as they come."""
     lines = Lines(stream)
     if lines.text is None:
         raise Bad(1, "the input is empty; `xdg` prints nothing where a file can't be read, or memory was wanting")
@@ -251,33 +297,33 @@ def events(stream: BinaryIO) -> Iterator[Analysis | Ending | Fault | Sentence]:
         at, text = lines.at, lines.text
         if text == "xdg 2" or ANALYSIS.fullmatch(text):
             yield read_block(lines)
-            continue
-        if found := ENDING.fullmatch(text):
-            yield Ending(found[1], int(found[2]), at)
-        elif found := FAULT.fullmatch(text):
-            yield Fault(text, int(found[1]), found[2], at)
-        elif found := SENTENCE.fullmatch(text):
-            yield Sentence(int(found[1]), at)
+        elif found := cheapest(lines):
+            yield found
+        elif found := line_event(text, at):
+            yield found
+            lines.step()
         else:
             raise Bad(at, f"a block, a last line or a fault should stand here, not {told(text)}")
-        lines.step()
 
 
 def runs(stream: BinaryIO) -> Iterator[Run]:
-    """What was printed of each sentence. Where no line `sentence k` says its number, sentences count from 1."""
-    number, opened, analyses = 1, False, []
+    """What was printed of each sentence, and of each arrangement. Where no line `sentence k` says its number, sentences count from 1.
+    The last line of `arrange` speaks of no arrangement, and is passed over."""
+    number, name, analyses = 1, "", []
     for event in events(stream):
-        if isinstance(event, Sentence):
-            if opened or analyses:
+        if isinstance(event, (Sentence, Arrangement)):
+            if name == "arrangement":
+                yield Run(number, name, analyses, None)
+            elif name or analyses:
                 raise Bad(event.line, "the sentence before this line has no last line")
-            number, opened = event.number, True
+            number, name, analyses = event.number, "sentence" if isinstance(event, Sentence) else "arrangement", []
         elif isinstance(event, Analysis):
             analyses.append(event)
         else:
-            yield Run(number, opened, analyses, event)
-            number, opened, analyses = number + 1, False, []
-    if opened or analyses:
-        yield Run(number, opened, analyses, None)
+            yield Run(number, name, analyses, None if name == "arrangement" else event)
+            number, name, analyses = number + 1, "", []
+    if name or analyses:
+        yield Run(number, name, analyses, None)
 
 
 def char_width(char: str) -> int:

@@ -112,7 +112,7 @@ class Layout:
 
     def __init__(self, words: list[float], panels: list[Panel], style: Style):
         """Lays out the panels over words of these widths."""
-        self.panels, self.style = panels, style
+        self.words, self.panels, self.style = words, panels, style
         self.feet = [[feet_of(panel, node) for node in range(1, len(words) + 1)] for panel in panels]
         self.widths = [self.width(node, word) for node, word in enumerate(words, 1)]
         self.gaps = [style.gap] * (len(words) - 1)
@@ -139,12 +139,22 @@ class Layout:
         for width, gap in zip(self.widths, self.gaps):
             self.starts.append(self.starts[-1] + width + gap)
         for panel, by_node in zip(self.panels, self.feet):
-            for index, feet in enumerate(by_node):
-                room = (len(feet) - 1) * self.style.foot + self.style.line
-                at = self.starts[index] + self.half(self.widths[index] - room)
+            for node, feet in enumerate(by_node, 1):
+                at, _ = self.span(node, feet)
                 for foot in feet:
-                    self.put(panel, index + 1, foot, at)
+                    self.put(panel, node, foot, at)
                     at += self.style.foot
+
+    def span(self, node: int, feet: list[Arc | None]) -> tuple[float, float]:
+        """Where the first and the last of the feet over a node stand."""
+        room = (len(feet) - 1) * self.style.foot
+        first = self.starts[node - 1] + self.half(self.widths[node - 1] - room - self.style.line)
+        return first, first + room
+
+    def beams(self, panel: Panel) -> list[tuple[int, float, float]]:
+        """The nodes with feet well beside their words, each with its first and its last foot: nothing else shows whose these are."""
+        spans = [(node, *self.span(node, feet)) for node, feet in enumerate(self.feet[self.panels.index(panel)], 1)]
+        return [it for it in spans if it[2] - it[1] > self.words[it[0] - 1] + self.style.foot]
 
     @staticmethod
     def put(panel: Panel, node: int, foot: Arc | None, at: float) -> None:

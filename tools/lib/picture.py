@@ -69,9 +69,15 @@ def arc(one: Arc, bottom: float) -> list[str]:
     return [f'<path d="{path}" fill="none" stroke="{INK}" stroke-width="1.2"/>', tip(one.x_left if at_left else one.x_right, bottom)]
 
 
-def arcs(panel: Panel, bottom: float) -> list[str]:
+def beam(left: float, right: float, y: float) -> str:
+    """A line under the feet of a word that is much narrower than they are."""
+    return f'<path d="M{cut(left)} {cut(y)}H{cut(right)}" stroke="{PALE}" stroke-width="1.2"/>'
+
+
+def arcs(panel: Panel, layout: Layout, bottom: float) -> list[str]:
     """All arcs of a panel, and then their labels, and the arrows at the roots."""
     out = [it for one in panel.arcs for it in arc(one, bottom)]
+    out += [beam(left, right, bottom + 2) for _, left, right in layout.beams(panel)]
     top = bottom - LEG - panel.levels * LEVEL
     for x in panel.root_at.values():
         out += [f'<path d="M{cut(x)} {cut(top + 6)}V{cut(bottom - 6)}" stroke="{INK}" stroke-width="1.2"/>', tip(x, bottom)]
@@ -116,7 +122,7 @@ class Sheet:
             y += 30
             bottom = y + panel_height(panel) - WORD - 8 - ROW * len(panel.rows)
             self.out.append(f'<g transform="translate({cut(start)} 0)">')
-            self.out += [*arcs(panel, bottom), "</g>"]
+            self.out += [*arcs(panel, layout, bottom), "</g>"]
             self.out += rows(panel, words, layout, start, bottom)
             y += panel_height(panel) + 14
         self.height = y

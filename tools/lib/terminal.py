@@ -63,10 +63,12 @@ def arcs(panel: Panel, start: int, columns: int) -> list[str]:
     return canvas.lines()
 
 
-def row(name: str, texts: dict[int, str], layout: Layout, start: int) -> str:
-    """A line of texts under the words, with its name on the left."""
+def row(name: str, texts: dict[int, str], layout: Layout, start: int, beams: list[tuple[int, float, float]]) -> str:
+    """A line of texts under the arcs, with its name on the left; a beam lies under feet, and the text in it."""
     canvas = Canvas(1, start + int(layout.right))
     canvas.write(0, 0, name)
+    for _, left, right in beams:
+        canvas.write(0, start + int(left), "─" * int(right - left + 1))
     for node, text in texts.items():
         canvas.write(0, start + int(layout.centre(node) - width(text) / 2), text)
     return canvas.lines()[0]
@@ -82,5 +84,6 @@ def drawing(analysis: Analysis, dimensions: list[str]) -> str:
     for panel in panels:
         out += ["", panel.name] if panel.name else [""]
         out += arcs(panel, start, start + int(layout.right)) if panel.arcs or panel.roots else []
-        out += [row(name, texts, layout, start) for name, texts in [("", words), *panel.rows]]
+        out.append(row("", words, layout, start, layout.beams(panel)))
+        out += [row(name, texts, layout, start, []) for name, texts in panel.rows]
     return "\n".join(out)
