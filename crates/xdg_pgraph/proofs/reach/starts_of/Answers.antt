@@ -1,4 +1,4 @@
-use Rattle.std.proofs.Common.{◌<◌, ◌≤◌, arith}
+use Rattle.std.proofs.Common.{arith}
 use Rattle.xdg_pgraph.proofs.Starting.{starts_first, starts_more, starts_none, starts_end}
 use Rattle.xdg_pgraph.proofs.reach.starts_of.Goals as goal
 
