@@ -1,20 +1,17 @@
 -- The rules of valency, bundle by bundle.
-use Rattle.std.proofs.Common.{◌≡◌, ℕ, ◌<◌, ◌≤◌, ◌+◌, ◌⊎◌, inl, inr, Bool, true, List, refl, sym, subst, arith}
-use Rattle.std.specs.Prelude.{◌==◌, ◌&&◌, not, count_by}
-use Rattle.std.proofs.lemmas.Bool.{and_from, and_parts, cases_lt}
+use Rattle.std.proofs.Common.{◌≡◌, ℕ, ◌<◌, ◌≤◌, ◌+◌, ◌⊎◌, inl, inr, Bool, List, refl, sym, ◌∙◌, subst, arith}
+use Rattle.std.proofs.lemmas.Bool.{cases_lt}
 use Rattle.xdg_problem.specs.declared.analysis.Edge.{Edge}
 use Rattle.xdg_problem.specs.declared.parts.Group.{Group}
 use Rattle.xdg_problem.specs.declared.parts.Parts.{Parts}
 use Rattle.xdg_problem.specs.declared.parts.Principle.TheVariants as principles
 use Rattle.xdg_problem.specs.Arguments.{first_dim, label_count}
-use Rattle.xdg_problem.specs.Boxes.{Has, entry_decision, edge_decision}
+use Rattle.xdg_problem.specs.Boxes.{Has, entry_decision}
 use Rattle.xdg_problem.specs.Features.{in_row, out_row}
 use Rattle.xdg_problem.specs.Paths.{edges_into, edges_out_of}
-use Rattle.xdg_problem.specs.Places.{nodes, places}
+use Rattle.xdg_problem.specs.Places.{nodes}
 use Rattle.xdg_problem.specs.Problems.{IsGroup}
-use Rattle.xdg_rules.specs.Rules.{has, Takes, TakesBy, HasNoneWithin, IsGreatest, IsLeast, may_edges, must_edges}
-use Rattle.xdg_rules.proofs.Keeping.{Less, strictly_count}
-use Rattle.xdg_rules.proofs.Shrinking.{IsMay, may_be, must_be, may_is, may_test, must_fails}
+use Rattle.xdg_rules.specs.Rules.{Takes, TakesBy, HasNoneWithin, IsGreatest, IsLeast, may_edges, must_edges}
 use Rattle.xdg_store.specs.States.{State, Known}
 use Rattle.xdg_propcore.specs.Passes.{Progress, Clears}
 use Rattle.xdg_propcore.specs.Sweeps.{Sweeps}
@@ -25,8 +22,7 @@ use Rattle.xdg_pgraph.specs.declared.bundle.Way.{Way}
 use Rattle.xdg_pgraph.specs.declared.bundle.Way.TheVariants as ways
 use Rattle.xdg_pgraph.specs.declared.bundle.Bundle.{Bundle}
 use Rattle.xdg_pgraph.specs.declared.found.Which.TheVariants as whichs
-use Rattle.xdg_pgraph.specs.Bundles.{near_node, numbers_of, count_of, Barred, EdgeAt, IsOpen, IsBundleDone, IsLabelDone, AreLabelsDone, AreNodesDone}
-use Rattle.xdg_pgraph.proofs.Ends.{in_bundle, in_from}
+use Rattle.xdg_pgraph.specs.Bundles.{near_node, numbers_of, count_of, Barred, EdgeAt, IsBundleDone, IsLabelDone, AreLabelsDone, AreNodesDone}
 use Rattle.xdg_pgraph.proofs.PlaneFacts.{which_place}
 
 -- ---- what is taken is taken by the rules
@@ -66,32 +62,6 @@ module _ (group : Group) (principle : group.principle ≡ principles.Valency) (w
   pub entry_takes : (parts : Parts) (box : List (List Bool)) (c : ℕ) → node < nodes parts → label < label_count parts (first_dim group) → HasNoneWithin (numbers_of way group node label c) (count_of way (must_edges parts box (first_dim group)) node label) (count_of way (may_edges parts box (first_dim group)) node label) → Takes parts group box (entry_decision node) c
   entry_takes parts box c within known none = by_valency parts box (entry_decision node) c (inl (record { node = node; within = within; label = label; known = known; is = refl; none = none_by way group node label c (must_edges parts box (first_dim group)) (may_edges parts box (first_dim group)) none }))
 
--- ---- an edge that may be and need not makes one more
-
-must_may : (parts : Parts) (box : List (List Bool)) (dim : ℕ) → Less (must_be parts box dim) (may_be parts box dim) (places parts)
-must_may parts box dim e place must =
-    let both = and_parts (e.dim.0 == dim) (has box (edge_decision parts e) 0 && not (has box (edge_decision parts e) 1)) must in
-    let two = and_parts (has box (edge_decision parts e) 0) (not (has box (edge_decision parts e) 1)) both.1 in
-    and_from (e.dim.0 == dim) (has box (edge_decision parts e) 0) both.0 two.0
-
-open_more : (way : Way) (parts : Parts) (box : List (List Bool)) (dim node label : ℕ) (e : Edge) → IsOpen way parts box dim node label e → count_of way (must_edges parts box dim) node label + 1 ≤ count_of way (may_edges parts box dim) node label
-open_more way parts box dim node label e is =
-    by way (in_from way node label e is.may.near is.may.label_is)
-  where
-    may : IsMay parts box dim e
-    may = may_is parts box dim e is.may.among
-
-    more : (inside : Edge → Bool) → inside e ≡ true → count_by inside (must_edges parts box dim) + 1 ≤ count_by inside (may_edges parts box dim)
-    more inside here = strictly_count (must_be parts box dim) (may_be parts box dim) inside (places parts) (must_may parts box dim) e may.place (must_fails parts box dim e is.free may.place) (may_test parts box dim e may.dim_is may.present) here
-
-    by : (w : Way) → in_bundle w node label e ≡ true → count_of w (must_edges parts box dim) node label + 1 ≤ count_of w (may_edges parts box dim) node label
-    by ways.Out here = more (in_bundle ways.Out node label) here
-    by ways.In here = more (in_bundle ways.In node label) here
-
-no_more : (way : Way) (parts : Parts) (group : Group) (box : List (List Bool)) (node label d v : ℕ) → EdgeAt way parts group box node label d v → count_of way (must_edges parts box (first_dim group)) node label ≡ count_of way (may_edges parts box (first_dim group)) node label → ⊥
-no_more way parts group box node label d v (inl f) same = (let m = open_more way parts box (first_dim group) node label f.place f.is in omega (arith, m, same))
-no_more way parts group box node label d v (inr f) same = (let m = open_more way parts box (first_dim group) node label f.place f.is in omega (arith, m, same))
-
 -- ---- a bundle
 
 module _ (bundle : Bundle) (group : Group) (p q r : Progress) (old mid new : State) (is : IsGroup old.parts group) (principle : group.principle ≡ principles.Valency) (dim : ℕ) (on : dim ≡ first_dim group) (known : Known old) (within : bundle.node < nodes old.parts) (label_known : bundle.label < label_count old.parts dim) (least most : ℕ) (least_is : least ≡ count_of bundle.way (must_edges old.parts old.now dim) bundle.node bundle.label) (most_is : most ≡ count_of bundle.way (may_edges old.parts old.now dim) bundle.node bundle.label) where
@@ -108,36 +78,24 @@ module _ (bundle : Bundle) (group : Group) (p q r : Progress) (old mid new : Sta
   barred_takes d v x = subst (λ k. Takes old.parts group old.now k v) (sym x.0) (entry_takes group principle bundle.way bundle.node bundle.label old.parts old.now v within (subst (λ k. bundle.label < label_count old.parts k) on label_known) (counted_from (HasNoneWithin (numbers_of bundle.way group bundle.node bundle.label v)) x.2))
 
   -- no entry that remains lacks a number between the counts
-  entries_done : (t : State) (z : Progress) → Clears (Barred old.parts group bundle least most) p old z t → ((d v : ℕ) → Barred old.parts group bundle least most d v → Has t.now d v → ⊥) → t.now ≡ old.now → (c : ℕ) → Has t.now (entry_decision bundle.node) c → HasNoneWithin (numbers_of bundle.way group bundle.node bundle.label c) (count_of bundle.way (must_edges old.parts t.now (first_dim group)) bundle.node bundle.label) (count_of bundle.way (may_edges old.parts t.now (first_dim group)) bundle.node bundle.label) → ⊥
-  entries_done t z a gone same c h none = gone (entry_decision bundle.node) c
-      (refl, entry_below old bundle.node c known within (subst (λ box. Has box (entry_decision bundle.node) c) same h), counted_to (HasNoneWithin (numbers_of bundle.way group bundle.node bundle.label c)) (subst (λ box. HasNoneWithin (numbers_of bundle.way group bundle.node bundle.label c) (count_of bundle.way (must_edges old.parts box (first_dim group)) bundle.node bundle.label) (count_of bundle.way (may_edges old.parts box (first_dim group)) bundle.node bundle.label)) same none))
+  entries_done : (box : List (List Bool)) → ((d v : ℕ) → Barred old.parts group bundle least most d v → Has box d v → ⊥) → box ≡ old.now → (c : ℕ) → Has box (entry_decision bundle.node) c → HasNoneWithin (numbers_of bundle.way group bundle.node bundle.label c) (count_of bundle.way (must_edges old.parts box (first_dim group)) bundle.node bundle.label) (count_of bundle.way (may_edges old.parts box (first_dim group)) bundle.node bundle.label) → ⊥
+  entries_done box gone same c h none = gone (entry_decision bundle.node) c
+      (refl, entry_below old bundle.node c known within (subst (λ b. Has b (entry_decision bundle.node) c) same h), counted_to (HasNoneWithin (numbers_of bundle.way group bundle.node bundle.label c)) (subst (λ b. HasNoneWithin (numbers_of bundle.way group bundle.node bundle.label c) (count_of bundle.way (must_edges old.parts b (first_dim group)) bundle.node bundle.label) (count_of bundle.way (may_edges old.parts b (first_dim group)) bundle.node bundle.label)) same none))
       h
 
-  pub bundle_swept : Known new → Clears (Barred old.parts group bundle least most) p old q mid → Clears (EdgeAt bundle.way mid.parts group mid.now bundle.node bundle.label) q mid r new → Sweeps group (IsBundleDone bundle.way old.parts group bundle.node bundle.label) p old r new
+  -- edges are taken first, and then entries by the counts of before
+  pub bundle_swept : Known new → Clears (EdgeAt bundle.way old.parts group old.now bundle.node bundle.label) p old q mid → Clears (Barred mid.parts group bundle least most) q mid r new → Sweeps group (IsBundleDone bundle.way old.parts group bundle.node bundle.label) p old r new
   bundle_swept known_new a b = record {
     goes = goes_both group p q r old mid new
-        (a.goes group old.now is (λ d v h. h) barred_takes)
-        (b.goes group mid.now (subst (λ parts. IsGroup parts group) (sym a.same) is) (λ d v h. h) (edge_takes group principle bundle.way bundle.node bundle.label mid.parts mid.now));
+        (a.goes group old.now is (λ d v h. h) (edge_takes group principle bundle.way bundle.node bundle.label old.parts old.now))
+        (b.goes group old.now (subst (λ parts. IsGroup parts group) (sym a.same) is) a.inside (λ d v x. subst (λ parts. Takes parts group old.now d v) (sym a.same) (barred_takes d v (subst (λ parts. Barred parts group bundle least most d v) a.same x))));
     known = known_new;
     done = λ quiet.
         let y = b.quiet quiet in
         let x = a.quiet y.0 in
         record {
-          entries = subst (λ box. (c : ℕ) → Has box (entry_decision bundle.node) c → HasNoneWithin (numbers_of bundle.way group bundle.node bundle.label c) (count_of bundle.way (must_edges old.parts box (first_dim group)) bundle.node bundle.label) (count_of bundle.way (may_edges old.parts box (first_dim group)) bundle.node bundle.label) → ⊥) (sym y.1) (entries_done mid q a (a.gone y.0) x.1);
-          edges = λ d v h e. b.gone quiet d v (subst (λ box. EdgeAt bundle.way mid.parts group box bundle.node bundle.label d v) y.1 (subst (λ parts. EdgeAt bundle.way parts group new.now bundle.node bundle.label d v) (sym a.same) e)) h;
-        };
-  }
-
-  -- where each edge that may be must be
-  pub bundle_decided : Known mid → least ≡ most → Clears (Barred old.parts group bundle least most) p old q mid → Sweeps group (IsBundleDone bundle.way old.parts group bundle.node bundle.label) p old q mid
-  bundle_decided known_mid decided a = record {
-    goes = a.goes group old.now is (λ d v h. h) barred_takes;
-    known = known_mid;
-    done = λ quiet.
-        let x = a.quiet quiet in
-        record {
-          entries = entries_done mid q a (a.gone quiet) x.1;
-          edges = λ d v h e. no_more bundle.way old.parts group old.now bundle.node bundle.label d v (subst (λ box. EdgeAt bundle.way old.parts group box bundle.node bundle.label d v) x.1 e) (counted_from (λ l m. l ≡ m) decided);
+          entries = entries_done new.now (λ d v z. b.gone quiet d v (subst (λ parts. Barred parts group bundle least most d v) (sym a.same) z)) (y.1 ∙ x.1);
+          edges = λ d v h e. a.gone y.0 d v (subst (λ box. EdgeAt bundle.way old.parts group box bundle.node bundle.label d v) (y.1 ∙ x.1) e) (subst (λ box. Has box d v) y.1 h);
         };
   }
 

@@ -16,6 +16,7 @@ pub mod Ruled
 pub mod RuledRoots
 pub mod Single
 pub mod Reached
+pub mod Starting
 pub mod Labels
 pub mod Told
 pub mod Skipped

@@ -1,7 +1,8 @@
 -- Nodes at which the rules take nothing that remains.
-use Rattle.std.proofs.Common.{◌≡◌, ◌≢◌, ℕ, ◌+◌, ◌&&◌, inl, inr, Bool, true, false, List, refl, sym, ◌∙◌, ap, subst, arith}
+use Rattle.std.proofs.Common.{◌≡◌, ◌≢◌, ℕ, ◌+◌, ◌&&◌, inl, inr, Bool, true, false, List, length, refl, sym, ◌∙◌, ap, subst, arith}
 use Rattle.std.specs.Prelude.{Contains, not}
 use Rattle.std.proofs.lemmas.Bool.{cases_eq, false≢true, false_from_ne_true, not_from_false}
+use Rattle.std.proofs.lemmas.List.{nil_from_length}
 use Rattle.xdg_judge.proofs.Sets.{both}
 use Rattle.xdg_judge.specs.Links.{In}
 use Rattle.xdg_nodeset.specs.Nodes.{has}
@@ -23,7 +24,8 @@ use Rattle.xdg_pgraph.specs.declared.plane.Plane.{Plane}
 use Rattle.xdg_pgraph.specs.Entering.{Tells, Leaving}
 use Rattle.xdg_pgraph.specs.Incomings.{AreOf}
 use Rattle.xdg_pgraph.specs.Ruling.{Runs, RunsFor, OneLabelOf}
-use Rattle.xdg_pgraph.specs.Seeking.{Aims, ToNode}
+use Rattle.xdg_pgraph.specs.Planes.{IsPlane}
+use Rattle.xdg_pgraph.specs.Seeking.{Aims, BacksFrom, StartAll, ToNode}
 use Rattle.xdg_pgraph.proofs.Labels.{LabelInto}
 use Rattle.xdg_pgraph.proofs.Reached.{BacksInto}
 use Rattle.xdg_pgraph.proofs.Ruled.{OneMotherBelow}
@@ -95,6 +97,19 @@ back_skip plane far p q old mid u w may tells none = clears_skip (Aims old.parts
       ))
       | inr other ↦ record { place = a.place; is = a.is; aimed = (a.aimed.0, (let l = a.aimed.1 in omega (arith, l, other))); other = a.other; says = a.says }
     ])
+
+-- no edge out of a node leads to one for which the table has some node
+pub none_back : (plane : Plane) (far : List (List ℕ)) (p : Progress) (s : State) (u : ℕ) (may : Entered) (starts met : List ℕ) → IsPlane s.parts plane → Tells (Leaving (may_edges s.parts s.now plane.dim.0) u) may → StartAll far plane.nodes starts → ((n : ℕ) → has met n ≡ (has may.some n && has starts n)) → length met ≡ 0 → Clears (Aims s.parts plane.dim.0 founds.More (BacksFrom far u)) p s p s
+none_back plane far p s u may starts met plane_is tells all is none = record {
+  same = refl;
+  inside = λ d v h. h;
+  quiet = λ z. (z, refl);
+  gone = λ z d v a h.
+      let here = (tells.once a.place.daughter.0).1 (a.place, (place_may s.parts s.now plane.dim.0 a.place d v a.is a.says h, a.aimed.0), refl) in
+      let there = all a.place.daughter.0 a.place.mother.0 (((plane_is.exact a.place).0 a.is).daughter) a.aimed.1 in
+      false≢true (subst (λ xs. has xs a.place.daughter.0 ≡ true) (nil_from_length met none) (is a.place.daughter.0 ∙ (both (has may.some a.place.daughter.0) (has starts a.place.daughter.0)).1 (here, there)));
+  goes = λ group around is_group lies takes. goes_none group p s;
+}
 
 module _ (plane : Plane) (p q : Progress) (old mid : State) (must may : Entered) (w : ℕ) where
   abbrev dim : ℕ

@@ -1,5 +1,5 @@
 -- The edges with a label out of a node, or into it.
-use Rattle.std.specs.Prelude.{◌≡◌, ◌<◌, ◌⊎◌, ℕ, Bool, true, List, [], length, Contains, slice_index_or}
+use Rattle.std.specs.Prelude.{◌≡◌, ◌<◌, ◌⊎◌, ◌↔◌, ℕ, Bool, true, IsTrue, List, [], length, Contains, slice_index_or}
 use Rattle.xdg_nodeset.specs.Nodes.{has}
 use Rattle.xdg_problem.specs.declared.analysis.Edge.{Edge}
 use Rattle.xdg_problem.specs.declared.parts.Group.{Group}
@@ -54,6 +54,10 @@ pub record IsInBundle (way : Way) (node label : ℕ) (edges : List Edge) (e : Ed
 pub record IsOpen (way : Way) (parts : Parts) (box : List (List Bool)) (dim node label : ℕ) (e : Edge) : Type 0 where
   pub may : IsInBundle way node label (may_edges parts box dim) e
   pub free : Contains (must_edges parts box dim) e → ⊥
+
+-- a set has the other nodes of a bundle's edges, among those of a list
+abbrev pub AreEnds : List Edge → ℕ → Bundle → List ℕ → Type 0
+AreEnds edges dim bundle ends = (other : ℕ) → IsTrue (has ends other) ↔ Contains edges (edge_to bundle.way dim bundle.node bundle.label other)
 
 -- ---- what valency takes at a bundle
 

@@ -1,5 +1,6 @@
 -- Edges that are looked for, and edges that are taken away.
-use Rattle.std.specs.Prelude.{◌≡◌, ◌≢◌, ◌≤◌, ℕ, Bool, List, [], ◌∷◌, length, Contains}
+use Rattle.std.specs.Prelude.{◌≡◌, ◌≢◌, ◌≤◌, ◌<◌, ℕ, Bool, true, List, [], ◌∷◌, length, Contains}
+use Rattle.xdg_nodeset.specs.Nodes.{has}
 use Rattle.xdg_problem.specs.declared.analysis.Edge.{Edge}
 use Rattle.xdg_problem.specs.declared.parts.Parts.{Parts}
 use Rattle.xdg_problem.specs.Paths.{mothers}
@@ -91,6 +92,10 @@ Backs far e = In far e.daughter.0 e.mother.0
 -- and the edge leaves a node
 abbrev pub BacksFrom : List (List ℕ) → ℕ → Edge → Type 0
 BacksFrom far u e = (e.mother.0 ≡ u) × Backs far e
+
+-- each of the first nodes for which the table has some node is in a set
+abbrev pub StartAll : List (List ℕ) → ℕ → List ℕ → Type 0
+StartAll far k starts = (a b : ℕ) → a < k → In far a b → has starts a ≡ true
 
 -- the value that says that an edge from a node to another is present, beside which one of some edges leads there
 pub record Doubled (parts : Parts) (dim : ℕ) (edges : List Edge) (u v d x : ℕ) : Type 0 where

@@ -3,7 +3,7 @@
 ghost use Rattle.std.specs.Prelude.{◌≡◌, ◌<◌, ◌↔◌, ℕ, IsTrue, Contains};
 ghost use Rattle.xdg_nodeset.specs.Nodes.{has};
 ghost use Rattle.xdg_store.specs.States.{Known};
-ghost use Rattle.xdg_pgraph.specs.Bundles.{argument_of, count_of, edge_to, numbers_of};
+ghost use Rattle.xdg_pgraph.specs.Bundles.{argument_of, edge_to, numbers_of};
 ghost use Rattle.xdg_pgraph.specs.Planes.{IsPlane};
 ghost use Rattle.xdg_pgraph.specs.Seeking.{edges_of};
 
@@ -111,14 +111,4 @@ pub(crate) fn ends(store: &Store, plane: &Plane, which: Which, bundle: Bundle) -
         Which::May => may_ends(store, plane, bundle),
         Which::Must => must_ends(store, plane, bundle),
     }
-}
-
-/// How many edges of a bundle may be present, or must be.
-pub(crate) fn count_of(store: &Store, plane: &Plane, which: Which, bundle: Bundle) -> usize
-    requires plane { IsPlane store.now.parts plane.now }
-    requires known { Known store.now }
-    requires node { bundle.node < plane.now.nodes }
-    ensures { result ≡ count_of bundle.way (edges_of which store.now.parts store.now.now plane.now.dim.0) bundle.node bundle.label }
-{
-    ends(store, plane, which, bundle).len()
 }

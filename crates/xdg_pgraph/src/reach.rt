@@ -1,6 +1,6 @@
 //! What paths along edges that must be lead to.
 
-ghost use Rattle.std.specs.Prelude.{◌≡◌, ◌↔◌, ◌<◌, true, IsTrue};
+ghost use Rattle.std.specs.Prelude.{◌≡◌, ◌↔◌, ◌<◌, ◌≤◌, true, IsTrue};
 ghost use Rattle.xdg_judge.specs.Links.{In};
 ghost use Rattle.xdg_nodeset.specs.Nodes.{has};
 ghost use Rattle.xdg_propcore.specs.Passes.{Clears};
@@ -8,7 +8,7 @@ ghost use Rattle.xdg_rules.specs.Rules.{NoCycle};
 ghost use Rattle.xdg_store.specs.States.{Known};
 ghost use Rattle.xdg_pgraph.specs.Planes.{IsPlane};
 ghost use Rattle.xdg_pgraph.specs.Ruling.{RunsFor};
-ghost use Rattle.xdg_pgraph.specs.Seeking.{Aims, BacksFrom};
+ghost use Rattle.xdg_pgraph.specs.Seeking.{Aims, BacksFrom, StartAll};
 
 use crate::entered::entered_from;
 use crate::found::{Found, Which as Edges};
@@ -17,7 +17,7 @@ use crate::taking::forbid_joined;
 use xdg_base::NodeId;
 use xdg_nodeset::NodeSet;
 use xdg_propcore::Pass;
-use xdg_reach::{Which, above};
+use xdg_reach::{Which, above, set_at};
 use xdg_store::Store;
 
 /// Whether an edge from a node to one of some others would close a cycle.
@@ -29,21 +29,41 @@ fn is_back(far: &[NodeSet; 128], mother: u8, daughters: NodeSet, daughter: u8) -
     daughters.contains(NodeId(daughter)) && far[usize::from(daughter)].contains(NodeId(mother))
 }
 
+/// The first nodes for which a table has some node.
+fn starts_of(far: &[NodeSet; 128], nodes: u8) -> NodeSet
+    requires { nodes ≤ 128 }
+    ensures { StartAll far.now nodes result }
+{
+    let mut starts = NodeSet::empty();
+    for node in 0..nodes {
+        if set_at(far, NodeId(node)).len() == 0 {
+            continue;
+        }
+        starts.insert(NodeId(node));
+    }
+    starts
+}
+
 /// Takes away the edges out of a node that would close a cycle.
 fn no_cycle_from(
     store: &mut Store,
     pass: &mut Pass,
     plane: &Plane,
     far: &[NodeSet; 128],
+    starts: NodeSet,
     mother: u8,
 )
     requires plane { IsPlane store.old.parts plane.now }
     requires known { Known store.old }
     requires mother { mother < plane.now.nodes }
+    requires starts { StartAll far.now plane.now.nodes starts }
     ensures clears { Clears (Aims store.old.parts plane.now.dim.0 Found.More (BacksFrom far.now mother)) pass.old store.old pass.new store.new }
     ensures known { Known store.new }
 {
     let daughters = entered_from(store, plane, Edges::May, mother).some;
+    if daughters.meet(&starts).len() == 0 {
+        return;
+    }
     for daughter in 0..plane.nodes {
         if is_back(far, mother, daughters, daughter) {
             forbid_joined(store, pass, plane, mother, daughter, Found::More);
@@ -60,7 +80,8 @@ pub(crate) fn no_cycle(store: &mut Store, pass: &mut Pass, plane: &Plane)
     ensures known { Known store.new }
 {
     let far = above(store, Which::Must, plane.dim);
+    let starts = starts_of(&far, plane.nodes);
     for mother in 0..plane.nodes {
-        no_cycle_from(store, pass, plane, &far, mother);
+        no_cycle_from(store, pass, plane, &far, starts, mother);
     }
 }

@@ -8,15 +8,16 @@ ghost use Rattle.xdg_problem.specs.Arguments.{first_dim, label_count};
 ghost use Rattle.xdg_problem.specs.Boxes.{edge_decision};
 ghost use Rattle.xdg_problem.specs.Places.{nodes};
 ghost use Rattle.xdg_problem.specs.Problems.{IsGroup};
+ghost use Rattle.xdg_rules.specs.Rules.{may_edges, must_edges};
 ghost use Rattle.xdg_store.specs.States.{Known};
 ghost use Rattle.xdg_propcore.specs.Passes.{Clears, IsQuiet};
 ghost use Rattle.xdg_propcore.specs.Sweeps.{Sweeps};
-ghost use Rattle.xdg_pgraph.specs.Bundles.{AreLabelsDone, AreNodesDone, Barred, EdgeAt, IsBundleDone, IsLabelDone, OpenTo, edge_to};
+ghost use Rattle.xdg_pgraph.specs.Bundles.{AreEnds, AreLabelsDone, AreNodesDone, Barred, EdgeAt, IsBundleDone, IsLabelDone, OpenTo, edge_to};
 ghost use Rattle.xdg_pgraph.specs.Planes.{IsPlane};
 ghost use Rattle.xdg_pgraph.specs.Untouched.{AreOthersDone, IsTouched, side};
 
 use crate::bounds::{has_none_within, is_greatest, is_least};
-use crate::bundle::{Bundle, Way, count_of, ends, numbers_of};
+use crate::bundle::{Bundle, Way, ends, numbers_of};
 use crate::found::Which;
 use crate::plane::Plane;
 use xdg_base::NodeId;
@@ -110,17 +111,26 @@ fn take_open_if(
 }
 
 /// Takes away that further edges of a bundle are present, where as many must be as the entries allow at most, and that they
-/// are absent, where only as many may be as the entries want at least.
-fn take_edges(store: &mut Store, pass: &mut Pass, plane: &Plane, group: &Group, bundle: Bundle)
+/// are absent, where only as many may be as the entries want at least. The ends are those of the edges that must be present, and of
+/// those that may be.
+fn take_edges(
+    store: &mut Store,
+    pass: &mut Pass,
+    plane: &Plane,
+    group: &Group,
+    bundle: Bundle,
+    must: NodeSet,
+    may: NodeSet,
+)
     requires plane { IsPlane store.old.parts plane.now }
     requires dim { plane.now.dim.0 ≡ first_dim group.now }
     requires known { Known store.old }
     requires node { bundle.node < plane.now.nodes }
+    requires must { AreEnds (must_edges store.old.parts store.old.now plane.now.dim.0) plane.now.dim.0 bundle must }
+    requires may { AreEnds (may_edges store.old.parts store.old.now plane.now.dim.0) plane.now.dim.0 bundle may }
     ensures clears { Clears (EdgeAt bundle.way store.old.parts group.now store.old.now bundle.node bundle.label) pass.old store.old pass.new store.new }
     ensures known { Known store.new }
 {
-    let must = ends(store, plane, Which::Must, bundle);
-    let may = ends(store, plane, Which::May, bundle);
     let open = may.minus(&must);
     if open.len() == 0 {
         return;
@@ -142,13 +152,10 @@ fn take_bundle(store: &mut Store, pass: &mut Pass, plane: &Plane, group: &Group,
     requires label { bundle.label < label_count store.old.parts plane.now.dim.0 }
     ensures { Sweeps group.now (IsBundleDone bundle.way store.old.parts group.now bundle.node bundle.label) pass.old store.old pass.new store.new }
 {
-    let least = count_of(store, plane, Which::Must, bundle);
-    let most = count_of(store, plane, Which::May, bundle);
-    take_entries(store, pass, group, bundle, least, most);
-    if least == most {
-        return;
-    }
-    take_edges(store, pass, plane, group, bundle);
+    let must = ends(store, plane, Which::Must, bundle);
+    let may = ends(store, plane, Which::May, bundle);
+    take_edges(store, pass, plane, group, bundle, must, may);
+    take_entries(store, pass, group, bundle, must.len(), may.len());
 }
 
 /// The nodes that have lost values of edges out of them, or into them, by their labels.

@@ -6,7 +6,7 @@ use Rattle.xdg_pgraph.specs.declared.found.Found.TheVariants as founds
 use Rattle.xdg_pgraph.specs.declared.found.Which.TheVariants as whichs
 use Rattle.xdg_pgraph.specs.Seeking.{Aims}
 use Rattle.xdg_pgraph.proofs.Reached.{BacksInto, back_taken, back_end}
-use Rattle.xdg_pgraph.proofs.Skipped.{back_skip}
+use Rattle.xdg_pgraph.proofs.Skipped.{back_skip, none_back}
 use Rattle.xdg_pgraph.proofs.Told.{leaves_other}
 use Rattle.xdg_pgraph.proofs.reach.no_cycle_from.Goals as goal
 use Rattle.xdg_pgraph.proofs.reach.no_cycle_from.Goals.{then-is_back, else-is_back}
@@ -32,3 +32,6 @@ forbid_joined-requires-clause-differ c = leaves_other whichs.May c.args.store.no
 
 pub returns-clause-clears : goal.returns-clause-clears
 returns-clause-clears c = back_end c.args.plane.now c.args.far.now c.args.pass.now c.loop-daughter.pass c.loop-daughter.pass c.args.store.now c.loop-daughter.store c.loop-daughter.store c.requires.plane c.args.mother c.loop-daughter.daughter (let t = c.loop-daughter-test.false in omega (arith, t)) c.loop-daughter.invariant.0
+
+pub returns-then-len-eq0-clause-clears : goal.returns-then-len-eq0-clause-clears
+returns-then-len-eq0-clause-clears c = none_back c.args.plane.now c.args.far.now c.args.pass.now c.args.store.now c.args.mother c.entered_from-daughters.result c.args.starts c.meet.result c.requires.plane c.entered_from-daughters.ensures c.requires.starts c.meet.ensures.members (let e = c.len.ensures.value in let t = c.if-len-eq0.true in omega (arith, e, t))
