@@ -14,6 +14,7 @@ use crate::atoms::{attr_row, feat_row};
 use crate::binding::{bind, node_of, none_bound};
 use crate::pair::{Pair, pair_row};
 use crate::paths::Paths;
+use crate::possible::possible_row;
 use crate::rows::{constant, joined, joined_truths, kept, still_open};
 use xdg_base::NodeId;
 use xdg_nodeset::NodeSet;
@@ -44,6 +45,9 @@ fn row_of(
             let mut row = constant(truth);
             for part in parts.as_slice() {
                 let still = still_open(truth, care, row);
+                if still.len() == 0 {
+                    continue;
+                }
                 row = joined(
                     truth,
                     row,
@@ -56,6 +60,9 @@ fn row_of(
             let mut row = constant(!truth);
             for part in parts.as_slice() {
                 let still = still_open(!truth, care, row);
+                if still.len() == 0 {
+                    continue;
+                }
                 row = joined(
                     !truth,
                     row,
@@ -65,9 +72,19 @@ fn row_of(
             row
         }
         Formula::Every(other, inner) => {
+            let possible = care.meet(&possible_row(
+                store,
+                paths,
+                binding,
+                name,
+                *other,
+                inner.get(),
+                truth,
+                care,
+            ));
             let mut row = NodeSet::empty();
             for node in 0..node_count(store) {
-                if !care.contains(NodeId(node)) {
+                if !possible.contains(NodeId(node)) {
                     continue;
                 }
                 let all = paths.all;
@@ -78,9 +95,19 @@ fn row_of(
             row
         }
         Formula::Any(other, inner) => {
+            let possible = care.meet(&possible_row(
+                store,
+                paths,
+                binding,
+                name,
+                *other,
+                inner.get(),
+                truth,
+                care,
+            ));
             let mut row = NodeSet::empty();
             for node in 0..node_count(store) {
-                if !care.contains(NodeId(node)) {
+                if !possible.contains(NodeId(node)) {
                     continue;
                 }
                 let all = paths.all;

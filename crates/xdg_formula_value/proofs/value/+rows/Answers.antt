@@ -7,10 +7,11 @@ use Rattle.xdg_nodeset.specs.Nodes.{has}
 use Rattle.xdg_problem.specs.Places.{nodes}
 use Rattle.xdg_problem.proofs.Claimed.{claim_edge, claim_above, claim_attr}
 use Rattle.xdg_formula_value.specs.Rows.{stands}
+use Rattle.xdg_formula_value.proofs.Bounding.{every_shut, any_shut}
 use Rattle.xdg_formula_value.proofs.Formed.{is_of, not_of, and_of, or_of, every_of, any_of}
-use Rattle.xdg_formula_value.proofs.Forms.{Wanted, nodes_inside, not_row, and_start, and_turn, and_end, or_start, or_turn, or_end, every_turn, any_turn, edge_row, above_row, left_row, same_row, attr_row, feat_row}
+use Rattle.xdg_formula_value.proofs.Forms.{Wanted, nodes_inside, not_row, and_start, and_skip, and_turn, and_end, or_start, or_skip, or_turn, or_end, every_turn, any_turn, edge_row, above_row, left_row, same_row, attr_row, feat_row}
 use Rattle.xdg_formula_value.proofs.Fronts.{part_of}
-use Rattle.xdg_formula_value.proofs.Rowed.{open_first, gathers_none, gathers_skip, gathers_row}
+use Rattle.xdg_formula_value.proofs.Rowed.{open_first, gathers_none, gathers_row}
 use Rattle.xdg_formula_value.proofs.value.+rows.Goals as goal
 
 -- negations
@@ -29,6 +30,9 @@ loop-part-init t c = and_start c.args.store.now.parts c.args.store.now.now c.arg
 pub row_of-requires-in-loop-part : goal.row_of-requires-in-loop-part
 row_of-requires-in-loop-part t c = (search (rules, the_lemmas), (c.requires.paths, (subst (λ f. IsOf c.args.store.now.parts (claim f)) (sym c.part-item.is) (part_of c.args.store.now.parts c.as_slice-part-items.result.now c.loop-part.part-index c.part-item.result c.loop-part-test.true (and_of c.args.store.now.parts c.args.formula.now c.requires.is_of c.in-And.parts c.as_slice-part-items.result.now c.in-And.is c.as_slice-part-items.ensures)), (c.requires.nodes, open_first c.args.truth (nodes c.args.store.now.parts) c.args.care c.loop-part.row c.still_open-still.result c.requires.care c.still_open-still.ensures))))
 
+pub loop-part-preserved-then-len-eq0 : goal.loop-part-preserved-then-len-eq0
+loop-part-preserved-then-len-eq0 t c = and_skip c.args.store.now.parts c.args.store.now.now c.args.truth (stands c.args.binding.now) c.args.name c.args.care c.as_slice-part-items.result.now c.loop-part.part-index c.part-item.result c.loop-part.row c.still_open-still.result c.loop-part-test.true c.part-item.is c.loop-part.invariant c.still_open-still.ensures (let count = c.len.ensures.value in let none = c.if-len-eq0.true in omega (arith, count, none))
+
 pub loop-part-preserved : goal.loop-part-preserved
 loop-part-preserved t c = and_turn c.args.store.now.parts c.args.store.now.now c.args.truth (stands c.args.binding.now) c.args.name c.args.care c.as_slice-part-items.result.now c.loop-part.part-index c.part-item.result c.loop-part.row c.still_open-still.result c.row_of-in-loop-part.result c.joined-row.result c.loop-part-test.true c.part-item.is c.loop-part.invariant c.still_open-still.ensures c.row_of-in-loop-part.ensures c.joined-row.ensures
 
@@ -43,6 +47,9 @@ loop-part-2-init t c = or_start c.args.store.now.parts c.args.store.now.now c.ar
 pub row_of-requires-in-loop-part-2 : goal.row_of-requires-in-loop-part-2
 row_of-requires-in-loop-part-2 t c = (search (rules, the_lemmas), (c.requires.paths, (subst (λ f. IsOf c.args.store.now.parts (claim f)) (sym c.part-item-in-loop-part-2.is) (part_of c.args.store.now.parts c.as_slice-part-items-in-Or.result.now c.loop-part-2.part-index c.part-item-in-loop-part-2.result c.loop-part-2-test.true (or_of c.args.store.now.parts c.args.formula.now c.requires.is_of c.in-Or.parts c.as_slice-part-items-in-Or.result.now c.in-Or.is c.as_slice-part-items-in-Or.ensures)), (c.requires.nodes, open_first (not c.args.truth) (nodes c.args.store.now.parts) c.args.care c.loop-part-2.row c.still_open-still-in-loop-part-2.result c.requires.care c.still_open-still-in-loop-part-2.ensures))))
 
+pub loop-part-2-preserved-then-len-eq0-2 : goal.loop-part-2-preserved-then-len-eq0-2
+loop-part-2-preserved-then-len-eq0-2 t c = or_skip c.args.store.now.parts c.args.store.now.now c.args.truth (stands c.args.binding.now) c.args.name c.args.care c.as_slice-part-items-in-Or.result.now c.loop-part-2.part-index c.part-item-in-loop-part-2.result c.loop-part-2.row c.still_open-still-in-loop-part-2.result c.loop-part-2-test.true c.part-item-in-loop-part-2.is c.loop-part-2.invariant c.still_open-still-in-loop-part-2.ensures (let count = c.len-in-loop-part-2.ensures.value in let none = c.if-len-eq0-2.true in omega (arith, count, none))
+
 pub loop-part-2-preserved : goal.loop-part-2-preserved
 loop-part-2-preserved t c = or_turn c.args.store.now.parts c.args.store.now.now c.args.truth (stands c.args.binding.now) c.args.name c.args.care c.as_slice-part-items-in-Or.result.now c.loop-part-2.part-index c.part-item-in-loop-part-2.result c.loop-part-2.row c.still_open-still-in-loop-part-2.result c.row_of-in-loop-part-2.result c.joined-row-in-loop-part-2.result c.loop-part-2-test.true c.part-item-in-loop-part-2.is c.loop-part-2.invariant c.still_open-still-in-loop-part-2.ensures c.row_of-in-loop-part-2.ensures c.joined-row-in-loop-part-2.ensures
 
@@ -54,8 +61,11 @@ returns-after-loop-part-2 t c = (let past = c.loop-part-2-test.false in or_end c
 pub loop-node-init : goal.loop-node-init
 loop-node-init t c = gathers_none c.args.care (Wanted c.args.store.now.parts c.args.store.now.now c.args.truth (stands c.args.binding.now) c.args.name c.args.care c.args.formula.now) c.empty-row.result (λ v. ap (λ s. has s v) c.empty-row.ensures.value)
 
+pub possible_row-requires-clause-is_of : goal.possible_row-requires-clause-is_of
+possible_row-requires-clause-is_of t c = every_of c.args.store.now.parts c.args.formula.now c.requires.is_of c.in-Every.other c.in-Every.inner c.get-in-Every.result.now c.in-Every.is c.get-in-Every.ensures
+
 pub loop-node-preserved-then-not-contains : goal.loop-node-preserved-then-not-contains
-loop-node-preserved-then-not-contains t c = gathers_skip c.loop-node.node c.args.care (Wanted c.args.store.now.parts c.args.store.now.now c.args.truth (stands c.args.binding.now) c.args.name c.args.care c.args.formula.now) c.loop-node.row c.loop-node.invariant (sym c.if-not-contains.ensures.value)
+loop-node-preserved-then-not-contains t c = every_shut c.args.store.now.parts c.args.store.now.now c.args.truth (stands c.args.binding.now) c.args.name c.in-Every.other c.args.care c.args.formula.now c.in-Every.inner c.get-in-Every.result.now c.get-in-Every.ensures c.requires.nodes c.possible_row.result c.meet-possible.result c.loop-node.row c.loop-node.node c.possible_row.ensures c.meet-possible.ensures.members (sym c.if-not-contains.ensures.value) c.loop-node.invariant c.in-Every.is
 
 pub row_of-inside-requires : goal.row_of-inside-requires
 row_of-inside-requires t c = (search (rules, the_lemmas), (c.requires.paths, (every_of c.args.store.now.parts c.args.formula.now c.requires.is_of c.in-Every.other c.in-Every.inner c.get-in-loop-node.result.now c.in-Every.is c.get-in-loop-node.ensures, (nodes_inside c.args.store.now.parts (stands c.args.binding.now) (stands c.bind-here.result) c.args.name c.loop-node.node c.bind-here.ensures c.requires.nodes (let count = c.node_count-node-end.ensures.size in let less = c.loop-node-test.true in omega (arith, count, less)), λ v h. (c.requires.paths.all v).0 h))))
@@ -71,8 +81,11 @@ returns-after-loop-node t c = gathers_row (nodes c.args.store.now.parts) c.loop-
 pub loop-node-2-init : goal.loop-node-2-init
 loop-node-2-init t c = gathers_none c.args.care (Wanted c.args.store.now.parts c.args.store.now.now c.args.truth (stands c.args.binding.now) c.args.name c.args.care c.args.formula.now) c.empty-row-in-Any.result (λ v. ap (λ s. has s v) c.empty-row-in-Any.ensures.value)
 
+pub possible_row-requires-in-Any-clause-is_of : goal.possible_row-requires-in-Any-clause-is_of
+possible_row-requires-in-Any-clause-is_of t c = any_of c.args.store.now.parts c.args.formula.now c.requires.is_of c.in-Any.other c.in-Any.inner c.get-in-Any.result.now c.in-Any.is c.get-in-Any.ensures
+
 pub loop-node-2-preserved-then-not-contains-2 : goal.loop-node-2-preserved-then-not-contains-2
-loop-node-2-preserved-then-not-contains-2 t c = gathers_skip c.loop-node-2.node c.args.care (Wanted c.args.store.now.parts c.args.store.now.now c.args.truth (stands c.args.binding.now) c.args.name c.args.care c.args.formula.now) c.loop-node-2.row c.loop-node-2.invariant (sym c.if-not-contains-2.ensures.value)
+loop-node-2-preserved-then-not-contains-2 t c = any_shut c.args.store.now.parts c.args.store.now.now c.args.truth (stands c.args.binding.now) c.args.name c.in-Any.other c.args.care c.args.formula.now c.in-Any.inner c.get-in-Any.result.now c.get-in-Any.ensures c.requires.nodes c.possible_row-in-Any.result c.meet-possible-in-Any.result c.loop-node-2.row c.loop-node-2.node c.possible_row-in-Any.ensures c.meet-possible-in-Any.ensures.members (sym c.if-not-contains-2.ensures.value) c.loop-node-2.invariant c.in-Any.is
 
 pub row_of-inside-requires-in-loop-node-2 : goal.row_of-inside-requires-in-loop-node-2
 row_of-inside-requires-in-loop-node-2 t c = (search (rules, the_lemmas), (c.requires.paths, (any_of c.args.store.now.parts c.args.formula.now c.requires.is_of c.in-Any.other c.in-Any.inner c.get-in-loop-node-2.result.now c.in-Any.is c.get-in-loop-node-2.ensures, (nodes_inside c.args.store.now.parts (stands c.args.binding.now) (stands c.bind-here-in-loop-node-2.result) c.args.name c.loop-node-2.node c.bind-here-in-loop-node-2.ensures c.requires.nodes (let count = c.node_count-node-end-in-Any.ensures.size in let less = c.loop-node-2-test.true in omega (arith, count, less)), λ v h. (c.requires.paths.all v).0 h))))
