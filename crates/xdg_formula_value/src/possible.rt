@@ -170,3 +170,26 @@ pub(crate) fn possible_row(
         }
     }
 }
+
+/// The nodes that are possible for a second name, whatever the first one stands for, where the box is to make a formula true, or false.
+pub(crate) fn possible_second(
+    store: &Store,
+    paths: &Paths,
+    binding: &[u8; 256],
+    name: u8,
+    other: u8,
+    formula: &Formula,
+    truth: bool,
+) -> NodeSet
+    requires paths { ArePaths store.now paths.now }
+    requires is_of { IsOf store.now.parts (claim formula.now) }
+    requires nodes { AreNodes store.now.parts (stands binding.now) }
+    ensures first { AreFirst (nodes store.now.parts) result }
+    ensures bounds { (v node : ℕ) → node < nodes store.now.parts → Makes store.now.parts store.now.now (claim formula.now) truth (bound (bound (stands binding.now) name v) other node) → has result node ≡ true }
+{
+    let all = paths.all;
+    if other == name {
+        return all;
+    }
+    all.meet(&possible_row(store, paths, binding, other, name, formula, truth, all))
+}
