@@ -22,7 +22,7 @@ use Rattle.xdg_formula_value.specs.declared.pair.Pair.{Pair}
 use Rattle.xdg_formula_value.specs.declared.pair.Pair.TheVariants as pairs
 use Rattle.xdg_formula_value.proofs.Formed.{not_makes, and_makes, or_makes, every_makes, any_makes, edge_form, above_form, left_form, same_form, attr_form, feat_form}
 use Rattle.xdg_formula_value.proofs.Fronts.{and_more, and_none, or_more, or_none}
-use Rattle.xdg_formula_value.proofs.Rowed.{gathers_more, over_told, row_constant, row_like, row_more, row_on}
+use Rattle.xdg_formula_value.proofs.Rowed.{gathers_more, over_told, row_constant, row_done, row_like, row_more, row_on}
 
 -- a binding in which a further name stands for a node binds to nodes
 pub nodes_inside : (parts : Parts) (old new : ℕ → ℕ) (name node : ℕ) → new ≡ bound old name node → AreNodes parts old → node < nodes parts → AreNodes parts new
@@ -57,6 +57,12 @@ module _ (parts : Parts) (box : List (List Bool)) (truth : Bool) (b : ℕ → �
   pub or_turn : (fs : List Formula) (i : ℕ) (f : Formula) (old still part new : List ℕ) → i < length fs → f ≡ get_or fs i f → IsRowOn care (SomeSo (take i fs)) old → ((v : ℕ) → has still v ≡ open_in (not truth) care old v)
       → IsRowOn still (Wanted f) part → ((v : ℕ) → (has new v ≡ true) ↔ Joined (not truth) (has old v ≡ true) (has part v ≡ true)) → IsRowOn care (SomeSo (take (i + 1) fs)) new
   or_turn fs i f old still part new l is so_far open_is here joined = row_more (not truth) care still (SomeSo (take i fs)) (Wanted f) (SomeSo (take (i + 1) fs)) old part new so_far open_is here joined (λ v. or_more parts box (bound b name v) truth fs i f l is)
+
+  pub and_skip : (fs : List Formula) (i : ℕ) (f : Formula) (old still : List ℕ) → i < length fs → f ≡ get_or fs i f → IsRowOn care (AllSo (take i fs)) old → ((v : ℕ) → has still v ≡ open_in truth care old v) → length still ≡ 0 → IsRowOn care (AllSo (take (i + 1) fs)) old
+  and_skip fs i f old still l is so_far open_is none = row_done truth care still (AllSo (take i fs)) (Wanted f) (AllSo (take (i + 1) fs)) old so_far open_is none (λ v. and_more parts box (bound b name v) truth fs i f l is)
+
+  pub or_skip : (fs : List Formula) (i : ℕ) (f : Formula) (old still : List ℕ) → i < length fs → f ≡ get_or fs i f → IsRowOn care (SomeSo (take i fs)) old → ((v : ℕ) → has still v ≡ open_in (not truth) care old v) → length still ≡ 0 → IsRowOn care (SomeSo (take (i + 1) fs)) old
+  or_skip fs i f old still l is so_far open_is none = row_done (not truth) care still (SomeSo (take i fs)) (Wanted f) (SomeSo (take (i + 1) fs)) old so_far open_is none (λ v. or_more parts box (bound b name v) truth fs i f l is)
 
   pub and_end : (formula : Formula) (fs items : List Formula) (i : ℕ) (set : List ℕ) → formula ≡ y.And fs → items ≡ fs → length items ≤ i → IsRowOn care (AllSo (take i items)) set → IsRowOn care (Wanted formula) set
   and_end formula fs items i set is alike past row = row_like care (AllSo (take i items)) (Wanted formula) set (λ v. and_makes parts box truth (bound b name v) formula fs items i is alike past) row

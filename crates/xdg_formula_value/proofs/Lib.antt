@@ -6,6 +6,7 @@ pub mod Overs
 pub mod Fronts
 pub mod Formed
 pub mod Forms
+pub mod Bounding
 pub mod Wholes
 pub mod Paired
 pub mod Told

@@ -1,10 +1,15 @@
 -- Rows that are joined, gathered and looked over.
-use Rattle.std.proofs.Common.{◌≡◌, ◌⊎◌, ◌↔◌, ℕ, ◌+◌, ◌<◌, ◌≤◌, IsTrue, inl, inr, Bool, true, false, List, refl, sym, ◌∙◌, subst, arith}
+use Rattle.std.proofs.Common.{◌≡◌, ◌⊎◌, ◌↔◌, ℕ, ◌+◌, ◌<◌, ◌≤◌, IsTrue, inl, inr, Bool, true, false, List, [], ◌∷◌, length, refl, sym, ◌∙◌, subst, arith}
 use Rattle.std.specs.Prelude.{not}
 use Rattle.std.proofs.lemmas.Bool.{cases_eq, cases_Bool, and_from, and_parts, both_ways, not_from_false, false≢true}
 use Rattle.xdg_nodeset.specs.Nodes.{has}
 use Rattle.xdg_problem.specs.Truths.{HasTruth}
 use Rattle.xdg_formula_value.specs.Rows.{IsRow, IsRowOn, HasFirst, Gathers, Joined, Over, AreFirst, IsEvery, open_in}
+
+-- no node is in a set that has none
+none_in : (s : List ℕ) (v : ℕ) → length s ≡ 0 → has s v ≡ true → ⊥
+none_in [] v none there = false≢true there
+none_in (m ∷ s) v none there = omega (arith, none)
 
 -- ---- two together
 
@@ -28,6 +33,17 @@ row_more false care still P Q R old part new first open_is second is like v with
     λ h. elim ((is v).0 h) [ inl old_has ↦ absurd (both_ways (has old v) off old_has) | inr part_has ↦ (like v).0 (inr (here.0 part_has)) ],
     λ r. elim ((like v).1 r) [ inl p ↦ (is v).1 (inl ((first v within).1 p)) | inr q ↦ (is v).1 (inr (here.1 q)) ],
   ))
+]
+
+-- where nothing is still open, the second row changes nothing
+pub row_done : (both : Bool) (care still : List ℕ) (P Q R : ℕ → Type 0) (old : List ℕ) → IsRowOn care P old → ((v : ℕ) → has still v ≡ open_in both care old v) → length still ≡ 0 → ((v : ℕ) → Joined both (P v) (Q v) ↔ R v) → IsRowOn care R old
+row_done true care still P Q R old first open_is none like v within = elim (cases_Bool (has old v)) [
+  | inl there ↦ absurd (none_in still v none (open_is v ∙ and_from (has care v) (has old v) within there))
+  | inr off ↦ (λ h. absurd (both_ways (has old v) off h), λ r. absurd (both_ways (has old v) off ((first v within).1 ((like v).1 r).0)))
+]
+row_done false care still P Q R old first open_is none like v within = elim (cases_Bool (has old v)) [
+  | inl there ↦ (λ h. (like v).0 (inl ((first v within).0 h)), λ r. there)
+  | inr off ↦ absurd (none_in still v none (open_is v ∙ and_from (has care v) (not (has old v)) within (not_from_false (has old v) off)))
 ]
 
 -- what is still open is among the first nodes
@@ -62,6 +78,19 @@ pub gathers_skip : (k : ℕ) (care : List ℕ) (P : ℕ → Type 0) (set : List 
 gathers_skip k care P set so_far off = record {
   exact = λ v l within. elim (cases_eq v k) [
     | inl same ↦ absurd (false≢true (sym off ∙ subst (λ j. has care j ≡ true) same within))
+    | inr other ↦ so_far.exact v (omega (arith, l, other)) within
+  ];
+  early = λ v h. (let l = so_far.early v h in omega (arith, l));
+}
+
+-- a node at which it isn't so
+pub gathers_shut : (k : ℕ) (care : List ℕ) (P : ℕ → Type 0) (set : List ℕ) → Gathers k care P set → (has care k ≡ true → P k → ⊥) → Gathers (k + 1) care P set
+gathers_shut k care P set so_far shut = record {
+  exact = λ v l within. elim (cases_eq v k) [
+    | inl same ↦ (
+      λ h. (let early = so_far.early v h in absurd (omega (arith, early, same))),
+      λ p. absurd (shut (subst (λ j. has care j ≡ true) same within) (subst P same p)),
+    )
     | inr other ↦ so_far.exact v (omega (arith, l, other)) within
   ];
   early = λ v h. (let l = so_far.early v h in omega (arith, l));

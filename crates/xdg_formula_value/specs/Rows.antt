@@ -14,6 +14,10 @@ IsRow n P set = (v : ℕ) → v < n → (has set v ≡ true) ↔ P v
 abbrev pub IsRowOn : List ℕ → (ℕ → Type 0) → List ℕ → Type 0
 IsRowOn care P set = (v : ℕ) → has care v ≡ true → (has set v ≡ true) ↔ P v
 
+-- of some nodes, the set has each at which something is so for some further node
+abbrev pub Bounds : List ℕ → (ℕ → ℕ → Type 0) → List ℕ → Type 0
+Bounds care P set = (v node : ℕ) → has care v ≡ true → P v node → has set v ≡ true
+
 -- the set has those of the first nodes at which something is so, and no others
 abbrev pub HasFirst : ℕ → (ℕ → Type 0) → List ℕ → Type 0
 HasFirst k P set = (v : ℕ) → (has set v ≡ true) ↔ ((v < k) × P v)

@@ -6,6 +6,7 @@ mod binding;
 mod kinds;
 mod pair;
 mod paths;
+mod possible;
 mod rows;
 mod rule_prop;
 mod value;

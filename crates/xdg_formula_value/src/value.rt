@@ -14,6 +14,7 @@ use crate::atoms::{attr_row, feat_row};
 use crate::binding::{bind, node_of, none_bound};
 use crate::pair::{Pair, pair_row};
 use crate::paths::Paths;
+use crate::possible::{possible_row, possible_second};
 use crate::rows::{constant, joined, joined_truths, kept, still_open};
 use xdg_base::NodeId;
 use xdg_nodeset::NodeSet;
@@ -44,6 +45,9 @@ fn row_of(
             let mut row = constant(truth);
             for part in parts.as_slice() {
                 let still = still_open(truth, care, row);
+                if still.len() == 0 {
+                    continue;
+                }
                 row = joined(
                     truth,
                     row,
@@ -56,6 +60,9 @@ fn row_of(
             let mut row = constant(!truth);
             for part in parts.as_slice() {
                 let still = still_open(!truth, care, row);
+                if still.len() == 0 {
+                    continue;
+                }
                 row = joined(
                     !truth,
                     row,
@@ -65,28 +72,44 @@ fn row_of(
             row
         }
         Formula::Every(other, inner) => {
+            let body = inner.get();
+            let second = possible_second(store, paths, binding, name, *other, body, truth);
+            if second.len() == 0 {
+                return NodeSet::empty();
+            }
+            let possible = care.meet(&possible_row(
+                store, paths, binding, name, *other, body, truth, care,
+            ));
             let mut row = NodeSet::empty();
             for node in 0..node_count(store) {
-                if !care.contains(NodeId(node)) {
+                if !possible.contains(NodeId(node)) {
                     continue;
                 }
-                let all = paths.all;
                 let here = bind(binding, name, node);
-                let inside = row_of(store, paths, &here, *other, inner.get(), truth, all);
-                row = kept(row, node, paths.has_over(node_count(store), truth, inside));
+                let inside = row_of(store, paths, &here, *other, body, truth, second);
+                let met = inside.meet(&second);
+                row = kept(row, node, paths.has_over(node_count(store), truth, met));
             }
             row
         }
         Formula::Any(other, inner) => {
+            let body = inner.get();
+            let second = possible_second(store, paths, binding, name, *other, body, truth);
+            if second.len() == 0 {
+                return NodeSet::empty();
+            }
+            let possible = care.meet(&possible_row(
+                store, paths, binding, name, *other, body, truth, care,
+            ));
             let mut row = NodeSet::empty();
             for node in 0..node_count(store) {
-                if !care.contains(NodeId(node)) {
+                if !possible.contains(NodeId(node)) {
                     continue;
                 }
-                let all = paths.all;
                 let here = bind(binding, name, node);
-                let inside = row_of(store, paths, &here, *other, inner.get(), truth, all);
-                row = kept(row, node, paths.has_over(node_count(store), !truth, inside));
+                let inside = row_of(store, paths, &here, *other, body, truth, second);
+                let met = inside.meet(&second);
+                row = kept(row, node, paths.has_over(node_count(store), !truth, met));
             }
             row
         }

@@ -15,7 +15,7 @@ abbrev pub invariant-loop-part-2 : goal.invariant-loop-part-2
 invariant-loop-part-2 l = IsRowOn l.care (λ v. Makes l.store.parts l.store.now (disjunction (claims_of (map claim (take l.part-index l.part-items)))) l.truth (bound (stands l.binding) l.name v)) l.row
 
 abbrev pub invariant-loop-node : goal.invariant-loop-node
-invariant-loop-node l = Gathers l.node l.care (λ v. Makes l.store.parts l.store.now (claim l.formula) l.truth (bound (stands l.binding) l.name v)) l.row
+invariant-loop-node l = Gathers l.node l.fn.care (λ v. Makes l.store.parts l.store.now (claim l.formula) l.truth (bound (stands l.binding) l.name v)) l.row
 
 abbrev pub invariant-loop-node-2 : goal.invariant-loop-node-2
-invariant-loop-node-2 l = Gathers l.node l.care (λ v. Makes l.store.parts l.store.now (claim l.formula) l.truth (bound (stands l.binding) l.name v)) l.row
+invariant-loop-node-2 l = Gathers l.node l.fn.care (λ v. Makes l.store.parts l.store.now (claim l.formula) l.truth (bound (stands l.binding) l.name v)) l.row
