@@ -1,4 +1,4 @@
--- The sentence of one word is a problem, and each propagator that stands for uses of graph stands for its only use.
+-- The sentence of one word is a problem, each propagator that stands for uses of graph stands for its only use, and two jobs want all analyses.
 use Rattle.std.proofs.Common.{◌≡◌, ◌≢◌, ◌<◌, ℕ, zero, suc, List, [], ◌∷◌, All, AllPairs, length, refl, subst, sym, arith, lit<, lit≤}
 use Rattle.std.specs.Prelude.{Option, None, slice_index_or}
 use Rattle.xdg_base.specs.declared.ids.AttrId.{AttrId}
@@ -9,8 +9,9 @@ use Rattle.xdg_problem.specs.declared.parts.DimPlan.{DimPlan}
 use Rattle.xdg_problem.specs.declared.parts.Parts.{Parts}
 use Rattle.xdg_problem.specs.Problems.{IsProblem, IsAttr, IsDim, IsGroup, AreCandidates, AreFeatures}
 use Rattle.xdg_propcore.specs.Uses.{AllStandIn, StandsIn}
-use Rattle.xdg_split.specs.Asked.{IsJob, asked}
-use Rattle.xdg_trials.specs.Alone.{IsGraph, alone, graph_use, plan}
+use Rattle.xdg_split.specs.Asked.{Asked, IsJob, asked}
+use Rattle.xdg_split.specs.Splits.{AllWant, wanted_of}
+use Rattle.xdg_trials.specs.Alone.{IsGraph, alone, graph_use, job, pair, plan}
 
 all_none : {X : Type 0} (P : X → Type 0) → All P []
 all_none P k d within = absurd (omega (arith, within))
@@ -18,6 +19,11 @@ all_none P k d within = absurd (omega (arith, within))
 all_one : {X : Type 0} (P : X → Type 0) (x : X) → P x → All P (x ∷ [])
 all_one P x p zero d within = p
 all_one P x p (suc k) d within = absurd (omega (arith, within))
+
+all_two : {X : Type 0} (P : X → Type 0) (x y : X) → P x → P y → All P (x ∷ y ∷ [])
+all_two P x y p q zero d within = p
+all_two P x y p q (suc zero) d within = q
+all_two P x y p q (suc (suc k)) d within = absurd (omega (arith, within))
 
 pairs_none : {X : Type 0} (R : X → X → Type 0) → AllPairs R []
 pairs_none R i j d before within = absurd (omega (arith, before, within))
@@ -86,3 +92,7 @@ alone_job p props parts budget first props_are is small none =
     (subst (λ n. IsJob (λ _. IsGraph) (p ∷ []) (asked alone n first)) (sym small)
     (subst (λ o. IsJob (λ _. IsGraph) (p ∷ []) (asked alone 10 o)) (sym none)
     (record { stand = stand_alone p; some = lit≤ tt; most = lit≤ tt; first = tt }))))
+
+-- of each of the two jobs all analyses are wanted
+pub pair_wants : (jobs : List Asked) → jobs ≡ pair → AllWant (wanted_of jobs) jobs
+pair_wants jobs is = subst (λ js. AllWant (wanted_of js) js) (sym is) (all_two (λ (one : Asked). one.first ≡ None) job job refl refl)

@@ -1,10 +1,11 @@
 -- A sentence of one word on a dimension without labels and attributes, whose only principle use is graph.
-use Rattle.std.specs.Prelude.{◌≡◌, ℕ, true, [], ◌∷◌, codes}
+use Rattle.std.specs.Prelude.{◌≡◌, ℕ, true, List, [], ◌∷◌, None, codes}
 use Rattle.xdg_problem.specs.declared.parts.DimPlan.{DimPlan}
 use Rattle.xdg_problem.specs.declared.parts.Group.{Group}
 use Rattle.xdg_problem.specs.declared.parts.Parts.{Parts}
 use Rattle.xdg_problem.specs.declared.parts.Principle.TheVariants as principles
 use Rattle.xdg_propcore.specs.Uses.{use_at}
+use Rattle.xdg_split.specs.Asked.{Asked, asked}
 
 abbrev pub plan : DimPlan
 plan = record { name = codes "id"; labels = []; attrs = []; graph = true }
@@ -19,6 +20,14 @@ alone = record {
   dims = plan ∷ [];
   groups = graph_use ∷ [];
 }
+
+-- all analyses of it, within ten boxed prefixes
+abbrev pub job : Asked
+job = asked alone 10 None
+
+-- the same asked twice
+abbrev pub pair : List Asked
+pair = job ∷ job ∷ []
 
 -- a principle use is one of graph
 abbrev pub IsGraph : Parts → ℕ → Type 0

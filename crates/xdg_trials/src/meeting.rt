@@ -2,7 +2,7 @@
 
 ghost use Rattle.std.specs.Prelude.{⊤, ◌≡◌, [], ◌∷◌, IfOk};
 ghost use Rattle.xdg_trials.specs.Graphs.{graph_closed};
-ghost use Rattle.xdg_trials.specs.Alone.{IsGraph, alone, graph_use, plan};
+ghost use Rattle.xdg_trials.specs.Alone.{IsGraph, alone, graph_use, job, pair, plan};
 
 use std::alloc::{AllocError, Global};
 use std::sync::atomic::{AtomicBool, Ordering};
@@ -11,7 +11,7 @@ use xdg_base::{DimId, EntryNo, List, OutOfMemory, Text};
 use xdg_listing::Ending;
 use xdg_problem::{DimPlan, Group, Parts, Principle, Problem, SentenceWord, SharedList};
 use xdg_propcore::{Moved, Propagator, Wake};
-use xdg_split::{Job, answers};
+use xdg_split::{Job, answers, split};
 use xdg_store::Store;
 
 /// How often a flag is read before it is given up.
@@ -119,10 +119,26 @@ fn job<'a>(
     own: &'a AtomicBool,
     other: &'a AtomicBool,
     missed: &'a AtomicBool,
-) -> Result<Job<Meets<'a>>, AllocError> {
+) -> Result<Job<Meets<'a>>, AllocError>
+    ensures { IfOk result (λ made. made ≡ job) }
+{
     let problem = problem(alloc)?;
     let props = one(alloc, Meets { own, other, missed })?;
     Ok(Job::of(problem, props, 10, None))
+}
+
+/// Two jobs that wait for one another.
+fn pair<'a>(
+    alloc: Global,
+    first: &'a AtomicBool,
+    second: &'a AtomicBool,
+    missed: &'a AtomicBool,
+) -> Result<List<Job<Meets<'a>>>, AllocError>
+    ensures { IfOk result (λ jobs. jobs ≡ pair) }
+{
+    let mut jobs = one(alloc, job(alloc, first, second, missed)?)?;
+    jobs.push(job(alloc, second, first, missed)?)?;
+    Ok(jobs)
 }
 
 #[test]
@@ -131,11 +147,8 @@ fn two_jobs_meet(rt: HostRuntime) -> Result<(), Fail> {
     let first = AtomicBool::new(false);
     let second = AtomicBool::new(false);
     let missed = AtomicBool::new(false);
-    let jobs = [
-        job(alloc, &first, &second, &missed)?,
-        job(alloc, &second, &first, &missed)?,
-    ];
-    let answers = answers(&rt, alloc, &jobs)?;
+    let jobs = pair(alloc, &first, &second, &missed)?;
+    let answers = answers(&rt, alloc, jobs.as_slice())?;
     assert!(rt; first.load(Ordering::SeqCst));
     assert!(rt; second.load(Ordering::SeqCst));
     assert!(rt; !missed.load(Ordering::SeqCst));
@@ -147,5 +160,22 @@ fn two_jobs_meet(rt: HostRuntime) -> Result<(), Fail> {
             b"analysis 1\nword 1 \"a\" 4\nend\ncomplete 1\n".as_slice()
         );
     }
+    Ok(())
+}
+
+#[test]
+#[tactic(auto, using(crate::proofs::AloneProblem::pair_wants))]
+fn two_jobs_meet_in_split(rt: HostRuntime) -> Result<(), Fail> {
+    let alloc = rt.alloc();
+    let first = AtomicBool::new(false);
+    let second = AtomicBool::new(false);
+    let missed = AtomicBool::new(false);
+    let jobs = pair(alloc, &first, &second, &missed)?;
+    let answer = split(&rt, alloc, jobs.as_slice())?;
+    assert!(rt; first.load(Ordering::SeqCst));
+    assert!(rt; second.load(Ordering::SeqCst));
+    assert!(rt; !missed.load(Ordering::SeqCst));
+    assert_eq!(rt; answer.ending, Ending::Complete);
+    assert_eq!(rt; answer.found.len(), 2);
     Ok(())
 }
