@@ -6,7 +6,8 @@ Usage: python3 bench/corpus.py PROGRAM [--lines N] [--sample N]
 PROGRAM is the built program, not the script ./xdg, which looks at the sources first. A file has 10,000 lines, or N. Of `parse` a sample of 20
 lines, or N, spread over the file, is run, and the seconds of one run are told. What `corpus` prints is looked at: the numbers of the
 sentences, and of each line of the sample that its text is what `parse` prints. A ratio is how many times longer the one takes than the
-other.
+other. What processors do together may be less than their number tells, where two of them are one core: so as many runs at once are timed as
+there are processors, each alone on one of them, which is what no program can do better.
 """
 
 import argparse
@@ -94,6 +95,22 @@ def corpus(program, grammar, lines, alone):
     return seconds, memory, texts(told, len(lines))
 
 
+def at_once(program, grammar, lines):
+    """The seconds of as many runs at once as there are processors, each of all lines on a processor of its own."""
+    with tempfile.NamedTemporaryFile() as given:
+        given.write("".join(line + "\n" for line in lines).encode())
+        given.flush()
+        start = time.monotonic()
+        runs = []
+        for place in range(os.cpu_count()):
+            with open(given.name, "rb") as source:
+                words = ["taskset", "-c", str(place), program, "corpus", grammar]
+                runs.append(subprocess.Popen(words, stdin=source, stdout=subprocess.DEVNULL))
+        for child in runs:
+            child.wait()
+        return time.monotonic() - start
+
+
 def measured(program, title, grammar, lines, sample):
     """Tells of one file of sentences."""
     print(f"\n{title}: {len(lines)} lines, {sum(len(line.encode()) + 1 for line in lines)} bytes")
@@ -101,6 +118,7 @@ def measured(program, title, grammar, lines, sample):
     whole, whole_memory, together = corpus(program, grammar, lines, False)
     if alone != together:
         sys.exit("one processor and all of them print different texts")
+    runs = at_once(program, grammar, lines)
     total, most = 0.0, 0.0
     places = sorted({k * len(lines) // sample for k in range(sample)})
     for place in places:
@@ -111,7 +129,8 @@ def measured(program, title, grammar, lines, sample):
     each = total / len(places)
     print(f"  parse, a line                  {each:9.4f} s  {most:6.0f} MiB   {each * len(lines):9.1f} s for all lines")
     print(f"  corpus on one processor        {one:9.2f} s  {one_memory:6.0f} MiB   parse takes {each * len(lines) / one:.1f} times as long")
-    print(f"  corpus on {os.cpu_count():3} processors       {whole:9.2f} s  {whole_memory:6.0f} MiB   one processor takes {one / whole:.2f} times as long", flush=True)
+    print(f"  corpus on {os.cpu_count():3} processors       {whole:9.2f} s  {whole_memory:6.0f} MiB   one processor takes {one / whole:.2f} times as long")
+    print(f"  as many runs at once           {runs:9.2f} s                so the machine does {one * os.cpu_count() / runs:.2f} times as much as one processor", flush=True)
 
 
 def against_check(program, grammar, lines):

@@ -131,6 +131,6 @@ module _ (m : Meaning) (options : CorpusOptions) where
   taken_count text group rest takes = AllZip-long (StandsFor m options group.jobs.items) takes.taken group.sentences.items takes.has
 
   -- a full group, or one with all lines, leaves less of a text that isn't empty
-  pub takes_some : (text : List ℕ) (group : Group) (rest : List ℕ) → TakesLines m options text group rest → (16 ≤ length group.sentences.items) ⊎ (length rest ≡ 0) → 0 < length text → length rest < length text
-  takes_some text group rest takes (inl full) some = let count = taken_count text group rest takes in let few = takes.fewer in omega (arith, count, few, full)
-  takes_some text group rest takes (inr none) some = omega (arith, none, some)
+  pub takes_some : (size : ℕ) (text : List ℕ) (group : Group) (rest : List ℕ) → 1 ≤ size → TakesLines m options text group rest → (size ≤ length group.sentences.items) ⊎ (length rest ≡ 0) → 0 < length text → length rest < length text
+  takes_some size text group rest one takes (inl full) some = let count = taken_count text group rest takes in let few = takes.fewer in omega (arith, one, count, few, full)
+  takes_some size text group rest one takes (inr none) some = omega (arith, none, some)

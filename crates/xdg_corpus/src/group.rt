@@ -24,9 +24,6 @@ use xdg_outcomes::{Refusal, stopped_in};
 use xdg_packed::Packed;
 use xdg_split::Job;
 
-/// How many lines are searched side by side.
-const GROUP: usize = 16;
-
 /// What stands for a line.
 #[derive(Debug, Drop)]
 pub(crate) enum Sentence {
@@ -131,13 +128,14 @@ fn add_line(
     }
 }
 
-/// The group of the first lines of a text, and the text behind them.
+/// The group of the first lines of a text, as many as a size tells or all of them, and the text behind them.
 pub(crate) fn take_group<'a>(
     alloc: Global,
     options: &CorpusOptions,
     expanded: &Expanded,
     packed: &Packed,
     stock: &mut Stock,
+    size: usize,
     text: &'a str,
 ) -> Result<(Group, &'a str), OutOfMemory>
     requires small { length text.now ≤ 4194304 }
@@ -145,13 +143,14 @@ pub(crate) fn take_group<'a>(
     requires packed { IsPackedOf expanded.now packed.now }
     requires range { CanSearch options.now }
     requires stock { IsStock (grammar_of expanded.now.checked packed.now) stock.old }
+    requires size { 1 ≤ size }
     ensures stock { OnOk result (IsStock (grammar_of expanded.now.checked packed.now) stock.new) }
     ensures takes { IfOk result (λ made. TakesLines (meaning_of expanded.now) options.now text.entry.now made.0 made.1.now) }
     ensures some { IfOk result (λ made. 0 < length text.entry.now → length made.1.now < length text.entry.now) }
 {
     let mut group = Group::new(alloc);
     let mut rest = text;
-    while group.sentences.len() < GROUP && !rest.is_empty() {
+    while group.sentences.len() < size && !rest.is_empty() {
         let (line, later) = first_line(rest);
         add_line(alloc, options, expanded, packed, stock, line, &mut group)?;
         rest = later;

@@ -6,6 +6,7 @@ mod group;
 mod input;
 mod lines;
 mod printing;
+mod sizes;
 mod writing;
 
 pub use command::corpus;

@@ -12,6 +12,7 @@ ghost use Rattle.xdg_io.specs.Rose.{Rose};
 ghost use Rattle.xdg_corpus.specs.Runs.{LeavesPart};
 
 use crate::group::take_group;
+use crate::sizes::{FEWEST, next_size};
 use crate::writing::write_group;
 use std::alloc::{AllocError, Global};
 use std::thread::Threads;
@@ -46,9 +47,11 @@ fn print_groups<R: Threads + Sync, K: Sink>(
     ensures ends { (result ≡ Status.Done) ⊎ ((result ≡ Status.WriteFault) ⊎ (result ≡ Status.OutOfMemory)) }
 {
     let mut number: u64 = 1;
+    let mut size = FEWEST;
     let mut rest = text;
     while !rest.is_empty() {
-        let Ok((group, later)) = take_group(alloc, options, expanded, packed, stock, rest) else {
+        let Ok((group, later)) = take_group(alloc, options, expanded, packed, stock, size, rest)
+        else {
             return Status::OutOfMemory;
         };
         let Ok(answered) = answers(rt, alloc, group.jobs.as_slice()) else {
@@ -58,6 +61,7 @@ fn print_groups<R: Threads + Sync, K: Sink>(
         if written.is_err() {
             return Status::WriteFault;
         }
+        size = next_size(size, answered.as_slice());
         number += group.sentences.len() as u64;
         rest = later;
     }
@@ -65,8 +69,9 @@ fn print_groups<R: Threads + Sync, K: Sink>(
 }
 
 /// Prints the lines of a text: groups of lines, one after the other. The lines of a group are searched side by side, and their texts are
-/// written in order before the next group begins, so no more than its searches take memory at once. What their problems share is made
-/// once.
+/// written in order before the next group begins. A group has 16 lines, and twice as many as the one before, up to 256, where the texts of
+/// that have no more than 1,048,576 bytes together. So the searches that run at once take memory, and the problems and the texts of one
+/// group. What problems share is made once.
 pub(crate) fn print_lines<R: Threads + Sync, K: Sink>(
     rt: &R,
     alloc: Global,

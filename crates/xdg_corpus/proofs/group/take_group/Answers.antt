@@ -17,5 +17,5 @@ loop-alloc-preserved c = (
 
 pub returns-clause-some : goal.returns-clause-some
 returns-clause-some c =
-    takes_some (meaning_of c.args.expanded.now) c.args.options.now c.args.text.now c.loop-alloc.group c.loop-alloc.rest.now c.loop-alloc.invariant.1
-    (elim c.loop-alloc-test.branch [ then-loop-alloc-test+else-not-is_empty w ↦ inr (eqb-true (length c.loop-alloc.rest.now) 0 (sym w.is_empty.ensures ∙ w.if-not-is_empty.false)) | else-loop-alloc-test w ↦ inl (let full : 16 ≤ length c.loop-alloc.group.sentences.items = search rules in full) ])
+    takes_some (meaning_of c.args.expanded.now) c.args.options.now c.args.size c.args.text.now c.loop-alloc.group c.loop-alloc.rest.now c.requires.size c.loop-alloc.invariant.1
+    (elim c.loop-alloc-test.branch [ then-loop-alloc-test+else-not-is_empty w ↦ inr (eqb-true (length c.loop-alloc.rest.now) 0 (sym w.is_empty.ensures ∙ w.if-not-is_empty.false)) | else-loop-alloc-test w ↦ inl (let full : c.args.size ≤ length c.loop-alloc.group.sentences.items = search rules in full) ])

@@ -8,7 +8,7 @@ use Rattle.xdg_corpus.proofs.Searching.{PrintedSoFar, printed_all, printed_front
 use Rattle.xdg_corpus.proofs.printing.print_groups.Goals as goal
 
 pub loop-rest-init : goal.loop-rest-init
-loop-rest-init g c = (c.utf8.text, printed_none (meaning_of c.args.expanded.now) c.args.options.now c.args.text.now (g.K.Sink.held c.args.out.now), refl, c.requires.stock)
+loop-rest-init g c = (c.utf8.text, printed_none (meaning_of c.args.expanded.now) c.args.options.now c.args.text.now (g.K.Sink.held c.args.out.now), refl, c.requires.stock, omega arith)
 
 pub take_group-requires-clause-small : goal.take_group-requires-clause-small
 take_group-requires-clause-small g c = let within = rest_within (meaning_of c.args.expanded.now) c.args.options.now c.args.text.now c.loop-rest.rest.now c.loop-rest.number (g.K.Sink.held c.args.out.now) (g.K.Sink.held c.loop-rest.out) c.loop-rest.invariant.1 in omega (arith, within, c.requires.small)
@@ -26,6 +26,7 @@ loop-rest-preserved g c = (
       (done_of c.write_group-written.result _ (sym c.is_err.ensures.value ∙ c.if-is_err.false) c.write_group-written.ensures.all)),
   done_of c.write_group-written.result _ (sym c.is_err.ensures.value ∙ c.if-is_err.false) c.write_group-written.ensures.quiet ∙ c.loop-rest.invariant.2,
   c.in-Ok.ensures.stock,
+  search rules,
 )
 
 pub returns-clause-leaves : goal.returns-clause-leaves

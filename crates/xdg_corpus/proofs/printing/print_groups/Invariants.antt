@@ -1,6 +1,6 @@
 use denote.Shadow.{shadow}
 use denote.Text.{Utf8}
-use Rattle.std.proofs.Common.{◌≡◌, length}
+use Rattle.std.proofs.Common.{◌≡◌, ◌≤◌, length}
 use Rattle.xdg_build.specs.Stocks.{IsStock}
 use Rattle.xdg_grammar.specs.Answers.{meaning_of}
 use Rattle.xdg_groups.specs.Grammars.{grammar_of}
@@ -13,6 +13,7 @@ invariant-loop-rest g l =
     × PrintedSoFar (meaning_of l.expanded) l.options l.text l.rest l.number (g.K.Sink.held l.initial.out) (g.K.Sink.held l.out)
     × (g.K.Sink.faults l.out ≡ g.K.Sink.faults l.initial.out)
     × IsStock (grammar_of l.expanded.checked l.packed) l.stock
+    × (1 ≤ l.size)
 
 abbrev pub decreases-loop-rest : goal.decreases-loop-rest
 decreases-loop-rest g l = length l.rest

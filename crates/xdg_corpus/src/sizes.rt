@@ -1,0 +1,40 @@
+//! How many lines a group has. To start and to join the threads of a group takes as long as some short searches, and at the end of a group
+//! processors wait for its last search; so groups are large. But the texts of a group wait in memory for one another, so those behind long
+//! texts are small.
+
+ghost use Rattle.std.specs.Prelude.{◌≤◌};
+
+use xdg_split::Answer;
+
+/// How many lines are searched side by side at first, and behind a group whose texts are long.
+pub(crate) const FEWEST: usize = 16;
+
+/// How many lines are searched side by side at most.
+const MOST: usize = 256;
+
+/// Up to how many bytes the texts of a group are short together.
+const SHORT: u64 = 1_048_576;
+
+/// How many lines the group behind one of so many lines has at most: twice as many, up to 256, where the texts of that one are short
+/// together, and else 16.
+pub(crate) fn next_size(size: usize, answers: &[Answer]) -> usize
+    requires { 1 ≤ size }
+    ensures { 1 ≤ result }
+{
+    if text_bytes(answers) > SHORT {
+        return FEWEST;
+    }
+    if size < MOST {
+        return size * 2;
+    }
+    MOST
+}
+
+/// How many bytes the texts of answers have together, or 2^64 - 1 where they have more.
+fn text_bytes(answers: &[Answer]) -> u64 {
+    let mut bytes: u64 = 0;
+    for answer in answers {
+        bytes = bytes.saturating_add(answer.bytes.as_slice().len() as u64);
+    }
+    bytes
+}
