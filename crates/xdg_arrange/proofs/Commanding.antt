@@ -8,19 +8,19 @@ use Rattle.xdg_arrange.proofs.Fronting.{IsSaid, behind_said}
 use Rattle.xdg_arrange.proofs.Passing.{arranged_said}
 use Rattle.xdg_base.specs.declared.faults.Stop.{Stop}
 use Rattle.xdg_command.specs.declared.commands.ArrangeOptions.{ArrangeOptions}
-use Rattle.xdg_grammar.specs.Answers.{Tells, meaning_of}
-use Rattle.xdg_grammar.specs.Meanings.{Meaning, Means}
-use Rattle.xdg_grammar.specs.declared.expanding.Expanded.{Expanded}
-use Rattle.xdg_outcomes.specs.Grammars.{IsBadGrammar}
-use Rattle.xdg_outcomes.specs.Outcomes.{MeaningThen}
-use Rattle.xdg_outcomes.specs.Refusals.{Refuses, refusal_of}
-use Rattle.xdg_outcomes.specs.Runs.{LeavesFront}
-use Rattle.xdg_outcomes.specs.Texts.{ReadText}
-use Rattle.xdg_outcomes.specs.declared.refusals.Refusal.{Refusal}
-use Rattle.xdg_outcomes.specs.declared.status.Status.{Status}
-use Rattle.xdg_outcomes.specs.declared.status.Status.TheVariants as statuses
-use Rattle.xdg_outcomes.proofs.Leaving.{accepted_front, leaves_front}
-use Rattle.xdg_outcomes.proofs.Meaning.{Only, meaning_accepted, meaning_refused}
+use Rattle.xdg_inputs.specs.Answers.{Tells, meaning_of}
+use Rattle.xdg_inputs.specs.Meanings.{Meaning, Means}
+use Rattle.xdg_inputs.specs.declared.expanding.Expanded.{Expanded}
+use Rattle.xdg_inputs.specs.Grammars.{IsBadGrammar}
+use Rattle.xdg_inputs.specs.Outcomes.{MeaningThen}
+use Rattle.xdg_inputs.specs.Refusals.{Refuses, refusal_of}
+use Rattle.xdg_inputs.specs.Runs.{LeavesFront}
+use Rattle.xdg_inputs.specs.GrammarFiles.{ReadText}
+use Rattle.xdg_inputs.specs.declared.refusals.Refusal.{Refusal}
+use Rattle.xdg_inputs.specs.declared.status.Status.{Status}
+use Rattle.xdg_inputs.specs.declared.status.Status.TheVariants as statuses
+use Rattle.xdg_inputs.proofs.Leaving.{accepted_front, leaves_front}
+use Rattle.xdg_inputs.proofs.Meaning.{Only, meaning_accepted, meaning_refused}
 
 -- ---- the statuses of arrangements
 

@@ -1,7 +1,7 @@
 -- What a search finds, from the vectors that a stream answered: one thing, and no other.
 use Rattle.std.proofs.Common.{◌≡◌, ◌∙◌, ℕ, List, [], length, map, take, None, sym, ap, subst}
 use Rattle.std.proofs.lemmas.List.{take-map}
-use Rattle.xdg_analyses.proofs.Boxing.{boxed_listing}
+use Rattle.xdg_split.proofs.Boxing.{boxed_listing}
 use Rattle.xdg_arrange.specs.Found.{Finds, IsOneFind}
 use Rattle.xdg_listing.specs.Answered.{Answered}
 use Rattle.xdg_listing.specs.Endings.{IsEnding}

@@ -2,13 +2,13 @@
 use Rattle.std.proofs.Common.{◌≡◌, ◌<◌, ◌++◌, ℕ, List, length, refl, sym, subst, arith, length-append}
 use Rattle.std.specs.Prelude.{Option, codes}
 use Rattle.xdg_base.specs.declared.faults.Fault.{Fault}
-use Rattle.xdg_outcomes.specs.Refusals.{Refuses, Stops}
-use Rattle.xdg_outcomes.specs.Runs.{Ends, Leaves, LeavesFront}
-use Rattle.xdg_outcomes.specs.Stages.{Behind, accepted, refused}
-use Rattle.xdg_outcomes.specs.declared.refusals.Refusal.{Refusal}
-use Rattle.xdg_outcomes.specs.declared.status.Status.{Status}
-use Rattle.xdg_outcomes.specs.declared.status.Status.TheVariants as statuses
-use Rattle.xdg_outcomes.proofs.Leaving.{leaves_front, stopped_leaves}
+use Rattle.xdg_inputs.specs.Refusals.{Refuses, Stops}
+use Rattle.xdg_inputs.specs.Runs.{Ends, Leaves, LeavesFront}
+use Rattle.xdg_inputs.specs.Stages.{Behind, accepted, refused}
+use Rattle.xdg_inputs.specs.declared.refusals.Refusal.{Refusal}
+use Rattle.xdg_inputs.specs.declared.status.Status.{Status}
+use Rattle.xdg_inputs.specs.declared.status.Status.TheVariants as statuses
+use Rattle.xdg_inputs.proofs.Leaving.{leaves_front, stopped_leaves}
 
 -- what begins with a word is not empty
 pub front_said : (text first rest : List ℕ) → text ≡ first ++ rest → 0 < length first → 0 < length text

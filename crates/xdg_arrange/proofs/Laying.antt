@@ -3,10 +3,10 @@ use Rattle.std.proofs.Common.{◌≡◌, ◌∙◌, ℕ, ◌<◌, ◌≤◌, ◌
 use Rattle.std.specs.Prelude.{Option, cond}
 use Rattle.std.proofs.lemmas.Bool.{eqb-true}
 use Rattle.std.proofs.lemmas.List.{length-map, length-take, take-append-drop, take-map, take-take}
-use Rattle.xdg_analyses.specs.Printed.{blocks, shown}
-use Rattle.xdg_analyses.specs.declared.forms.Form.TheVariants as forms
-use Rattle.xdg_analyses.proofs.Boxing.{boxed_listing}
-use Rattle.xdg_analyses.proofs.Found.{all_answers, blocks_found, first_answers, map_more, spent_answers}
+use Rattle.xdg_split.specs.Printed.{blocks, shown}
+use Rattle.xdg_split.specs.declared.forms.Form.TheVariants as forms
+use Rattle.xdg_split.proofs.Boxing.{boxed_listing}
+use Rattle.xdg_split.proofs.FoundSoFar.{all_answers, blocks_found, first_answers, map_more, spent_answers}
 use Rattle.xdg_arrange.specs.Found.{Adds, Finds, led_block, led_blocks}
 use Rattle.xdg_arrange.proofs.Finding.{finds_of}
 use Rattle.xdg_io.specs.Held.{Appends, AppendsFront}
@@ -24,7 +24,7 @@ use Rattle.xdg_problem.specs.Problems.{IsProblem}
 use Rattle.xdg_problem.specs.Vectors.{analysis_of, shape, vector}
 use Rattle.xdg_problem.proofs.SolutionLists.{analyses_back}
 use Rattle.xdg_rules.specs.Boxed.{Boxed}
-use Rattle.xdg_search.specs.declared.Step.TheVariants as steps
+use Rattle.xdg_stream.specs.declared.search.Step.TheVariants as steps
 use Rattle.xdg_stream.specs.Streamed.{Advances, IsCharged, Streamed}
 use Rattle.xdg_stream.proofs.Streaming.{end_found, spent_found}
 

@@ -9,28 +9,28 @@ use Rattle.xdg_base.specs.declared.faults.Fault.{Fault}
 use Rattle.xdg_base.specs.declared.faults.Stop.{Stop}
 use Rattle.xdg_base.specs.declared.faults.Stop.TheVariants as stops
 use Rattle.xdg_build.specs.Refusals.{first_unknown}
-use Rattle.xdg_entries.specs.Entries.{IsWordPlace}
-use Rattle.xdg_grammar.specs.Answers.{meaning_of}
-use Rattle.xdg_grammar.specs.Packed.{IsPackedOf}
-use Rattle.xdg_grammar.specs.declared.expanding.Expanded.{Expanded}
-use Rattle.xdg_grammar.specs.Meanings.{Meaning}
-use Rattle.xdg_groups.specs.Grammars.{Grammar, grammar_of}
+use Rattle.xdg_packed.specs.Entries.{IsWordPlace}
+use Rattle.xdg_inputs.specs.Answers.{meaning_of}
+use Rattle.xdg_inputs.specs.Packed.{IsPackedOf}
+use Rattle.xdg_inputs.specs.declared.expanding.Expanded.{Expanded}
+use Rattle.xdg_inputs.specs.Meanings.{Meaning}
+use Rattle.xdg_build.specs.Grammars.{Grammar, grammar_of}
 use Rattle.xdg_inputs.specs.Sentences.{sentence_limit}
 use Rattle.xdg_inputs.proofs.Wording.{grammar_is}
 use Rattle.xdg_io.specs.Left.{TakesAll, TakesCount}
 use Rattle.xdg_io.specs.Rose.{Rose}
 use Rattle.xdg_io.specs.declared.failures.ReadStop.{ReadStop}
 use Rattle.xdg_io.specs.declared.failures.ReadStop.TheVariants as stopped
-use Rattle.xdg_outcomes.specs.Grammars.{with_words}
-use Rattle.xdg_outcomes.specs.Places.{fault, place_in}
-use Rattle.xdg_outcomes.specs.Refusals.{RejectsAt, Stops, refusal_of}
-use Rattle.xdg_outcomes.specs.Stages.{Accepts, Rejects}
-use Rattle.xdg_outcomes.specs.declared.refusals.Refusal.{Refusal}
-use Rattle.xdg_outcomes.specs.declared.refusals.Refusal.TheVariants as refusals
-use Rattle.xdg_outcomes.proofs.Trees.{first_byte}
+use Rattle.xdg_inputs.specs.Grammars.{with_words}
+use Rattle.xdg_inputs.specs.Places.{fault, place_in}
+use Rattle.xdg_inputs.specs.Refusals.{RejectsAt, Stops, refusal_of}
+use Rattle.xdg_inputs.specs.Stages.{Accepts, Rejects}
+use Rattle.xdg_inputs.specs.declared.refusals.Refusal.{Refusal}
+use Rattle.xdg_inputs.specs.declared.refusals.Refusal.TheVariants as refusals
+use Rattle.xdg_inputs.proofs.Trees.{first_byte}
 use Rattle.xdg_packed.specs.Lexicon.{Lexicon}
 use Rattle.xdg_problem.specs.declared.parts.SentenceWord.{SentenceWord}
-use Rattle.xdg_words.specs.Segments.{words_in}
+use Rattle.xdg_linear.specs.Segments.{words_in}
 
 -- ---- few words
 

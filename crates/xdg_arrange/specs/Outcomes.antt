@@ -1,11 +1,11 @@
 -- The outcome of `arrange`, and with which statuses it can end.
 use Rattle.std.specs.Prelude.{ℕ, List}
 use Rattle.xdg_command.specs.declared.commands.ArrangeOptions.{ArrangeOptions}
-use Rattle.xdg_grammar.specs.Meanings.{Meaning}
-use Rattle.xdg_outcomes.specs.Outcomes.{Files, GrammarThen}
-use Rattle.xdg_outcomes.specs.Stages.{Behind}
-use Rattle.xdg_outcomes.specs.declared.status.Status.{Status}
-use Rattle.xdg_outcomes.specs.declared.status.Status.TheVariants as statuses
+use Rattle.xdg_inputs.specs.Meanings.{Meaning}
+use Rattle.xdg_inputs.specs.Outcomes.{Files, GrammarThen}
+use Rattle.xdg_inputs.specs.Stages.{Behind}
+use Rattle.xdg_inputs.specs.declared.status.Status.{Status}
+use Rattle.xdg_inputs.specs.declared.status.Status.TheVariants as statuses
 use Rattle.xdg_arrange.specs.Lists.{HasList, IsBadList, Listed}
 use Rattle.xdg_arrange.specs.Texts.{AreArranged}
 

@@ -2,13 +2,13 @@
 use Rattle.std.specs.Prelude.{◌≡◌, ℕ, ◌+◌, List, [], ◌∷◌, ◌++◌}
 use Rattle.xdg_build.specs.Compiled.{compiled}
 use Rattle.xdg_build.specs.Solutions.{KeepsSolutions}
-use Rattle.xdg_groups.specs.Grammars.{Grammar}
+use Rattle.xdg_build.specs.Grammars.{Grammar}
 use Rattle.xdg_linear.specs.Listed.{AreArrangements}
 use Rattle.xdg_linear.specs.Ranks.{ranks_of, words_at}
 use Rattle.xdg_listing.specs.declared.Ending.{Ending}
 use Rattle.xdg_listing.specs.declared.Ending.TheVariants as endings
-use Rattle.xdg_outcomes.specs.declared.status.Status.{Status}
-use Rattle.xdg_outcomes.specs.declared.status.Status.TheVariants as statuses
+use Rattle.xdg_inputs.specs.declared.status.Status.{Status}
+use Rattle.xdg_inputs.specs.declared.status.Status.TheVariants as statuses
 use Rattle.xdg_problem.specs.declared.analysis.Analysis.{Analysis}
 use Rattle.xdg_problem.specs.declared.parts.SentenceWord.{SentenceWord}
 use Rattle.xdg_text.specs.Lines.{complete_line, spent_line}

@@ -2,21 +2,22 @@
 
 ghost use Rattle.std.specs.Prelude.{◌≡◌, ◌≢◌, ◌≤◌, ◌⊎◌, ℕ, List, [], Option, Some, length};
 ghost use Rattle.xdg_arrange.specs.Outcomes.{ArrangeEnds, ArrangeOf, ListThen};
-ghost use Rattle.xdg_entries.specs.Entries.{IsRightLexicon};
-ghost use Rattle.xdg_grammar.specs.Answers.{meaning_of};
+ghost use Rattle.xdg_packed.specs.Entries.{IsRightLexicon};
+ghost use Rattle.xdg_inputs.specs.Answers.{meaning_of};
 ghost use Rattle.xdg_io.specs.Rose.{Rose};
-ghost use Rattle.xdg_outcomes.specs.Loaded.{read_of};
-ghost use Rattle.xdg_outcomes.specs.Outcomes.{MeaningThen};
-ghost use Rattle.xdg_outcomes.specs.Runs.{LeavesFront};
+ghost use Rattle.xdg_inputs.specs.Loaded.{read_of};
+ghost use Rattle.xdg_inputs.specs.Outcomes.{MeaningThen};
+ghost use Rattle.xdg_inputs.specs.Runs.{LeavesFront};
 
 use crate::lists::read_list;
 use crate::printing::print_arrangements;
 use std::alloc::Global;
 use xdg_base::OutOfMemory;
 use xdg_command::ArrangeOptions;
-use xdg_grammar::{Expanded, expand_tree, pack_entries};
+use xdg_inputs::{
+    Expanded, Loaded, Status, expand_tree, load_tree, pack_entries, refuse, stopped_in,
+};
 use xdg_io::{Shelf, Sink, Source};
-use xdg_outcomes::{Loaded, Status, load_tree, refuse, stopped_in};
 
 /// Reads the words of the input and prints their arrangements, or the fault line of what is refused.
 fn arrange_expanded<S: Source, K: Sink>(

@@ -4,24 +4,23 @@ ghost use Rattle.std.specs.Prelude.{◌≡◌, ◌≢◌, ◌≤◌, ◌<◌, �
 ghost use Rattle.xdg_arrange.specs.Lists.{HasList, IsBadList, IsRefused, Listed};
 ghost use Rattle.xdg_arrange.specs.Lists as spec;
 ghost use Rattle.xdg_build.specs.Refusals as unknown;
-ghost use Rattle.xdg_grammar.specs.Answers.{meaning_of};
-ghost use Rattle.xdg_grammar.specs.Packed.{IsPackedOf};
-ghost use Rattle.xdg_groups.specs.Grammars.{grammar_of};
+ghost use Rattle.xdg_inputs.specs.Answers.{meaning_of};
+ghost use Rattle.xdg_inputs.specs.Packed.{IsPackedOf};
+ghost use Rattle.xdg_build.specs.Grammars.{grammar_of};
 ghost use Rattle.xdg_io.specs.Rose.{Rose};
-ghost use Rattle.xdg_outcomes.specs.Places.{fault, place_in};
-ghost use Rattle.xdg_outcomes.specs.Refusals.{Stops};
-ghost use Rattle.xdg_outcomes.specs.Stages.{Accepts};
-ghost use Rattle.xdg_words.specs.Segments.{words_in};
+ghost use Rattle.xdg_inputs.specs.Places.{fault, place_in};
+ghost use Rattle.xdg_inputs.specs.Refusals.{Stops};
+ghost use Rattle.xdg_inputs.specs.Stages.{Accepts};
+ghost use Rattle.xdg_linear.specs.Segments.{words_in};
 
 use std::alloc::Global;
 use std::str;
 use xdg_base::{Cause, Fault, List, Stop};
-use xdg_grammar::Expanded;
+use xdg_inputs::{Expanded, Refusal, refused_in, stopped_in, too_long};
 use xdg_io::{ReadStop, Source, read_all};
-use xdg_outcomes::{Refusal, refused_in, stopped_in, too_long};
+use xdg_linear::words_of;
 use xdg_packed::Packed;
 use xdg_problem::SentenceWord;
-use xdg_words::words_of;
 
 /// How many bytes the input may have.
 const LIST_LIMIT: u64 = 65_536;

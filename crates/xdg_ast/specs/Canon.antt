@@ -1,7 +1,7 @@
 -- The canonical text of a grammar.
 use Rattle.std.specs.Prelude.{ℕ, Bool, ◌||◌, ◌&&◌, ◌==◌, if◌then◌else◌, List, [], ◌∷◌, ◌++◌, map, flat_map, Option, Some, None, codes, decimal}
-use Rattle.xdg_lex.specs.declared.token.Kind.{Kind}
-use Rattle.xdg_lex.specs.declared.token.Kind.TheVariants as k
+use Rattle.xdg_ast.specs.declared.token.Kind.{Kind}
+use Rattle.xdg_ast.specs.declared.token.Kind.TheVariants as k
 use Rattle.xdg_ast.specs.declared.names.Name.{Name}
 use Rattle.xdg_ast.specs.declared.names.Pair.{Pair}
 use Rattle.xdg_ast.specs.declared.names.Spanned.{Spanned}

@@ -2,8 +2,8 @@
 use Rattle.std.specs.Prelude.{◌≡◌, ℕ, true, List, [], ◌∷◌, ◌++◌, Some}
 use Rattle.xdg_base.specs.declared.faults.Fault.{Fault}
 use Rattle.xdg_base.specs.declared.faults.Cause.TheVariants as causes
-use Rattle.xdg_lex.specs.Lexed.{Lexeme}
-use Rattle.xdg_lex.specs.Tokenizes.{Spells}
+use Rattle.xdg_ast.specs.Lexemes.{Lexeme}
+use Rattle.xdg_ast.specs.Tokenizes.{Spells}
 use Rattle.xdg_ast.specs.declared.grammar.Grammar.{Grammar}
 use Rattle.xdg_ast.specs.Language.{span_of}
 use Rattle.xdg_ast.specs.Grammar.{statements}

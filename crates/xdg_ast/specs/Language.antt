@@ -2,9 +2,9 @@
 -- over the tokens from the left and looks at one of them ahead.
 use Rattle.std.specs.Prelude.{◌≡◌, ℕ, zero, suc, Bool, true, false, ◌||◌, ◌&&◌, ◌⊎◌, if◌then◌else◌, ◌==◌, List, [], ◌∷◌, ◌++◌, length, Option, Some, None, Result, Ok, Err}
 use Rattle.xdg_base.specs.declared.places.Span.{Span}
-use Rattle.xdg_lex.specs.declared.token.Kind.{Kind}
-use Rattle.xdg_lex.specs.declared.token.Kind.TheVariants as k
-use Rattle.xdg_lex.specs.Lexed.{Lexeme}
+use Rattle.xdg_ast.specs.declared.token.Kind.{Kind}
+use Rattle.xdg_ast.specs.declared.token.Kind.TheVariants as k
+use Rattle.xdg_ast.specs.Lexemes.{Lexeme}
 
 -- ---- kinds of tokens
 

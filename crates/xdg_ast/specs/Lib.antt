@@ -1,3 +1,7 @@
+pub mod Contents
+pub mod Kinds
+pub mod Tokenizes
+pub mod Lexemes
 pub mod Brackets
 pub mod Canon
 pub mod Derives

@@ -1,11 +1,11 @@
 -- What tokens say, whatever their places and their spelling: their kinds, with the constants and the numbers that they stand for.
 use Rattle.std.specs.Prelude.{◌≡◌, ◌≤◌, ℕ, Bool, true, false, ◌&&◌, if◌then◌else◌, List, [], ◌∷◌, length, Option, Some, None, IsUtf8}
 use Rattle.std.specs.List.{list_all}
-use Rattle.xdg_lex.specs.declared.token.Kind.{Kind}
-use Rattle.xdg_lex.specs.declared.token.Kind.TheVariants as k
-use Rattle.xdg_lex.specs.Lexed.{Lexeme}
-use Rattle.xdg_lex.specs.Contents.{content_of, value_of}
-use Rattle.xdg_lex.specs.Kinds.{begins_name, continues_name, keyword_of}
+use Rattle.xdg_ast.specs.declared.token.Kind.{Kind}
+use Rattle.xdg_ast.specs.declared.token.Kind.TheVariants as k
+use Rattle.xdg_ast.specs.Lexemes.{Lexeme}
+use Rattle.xdg_ast.specs.Contents.{content_of, value_of}
+use Rattle.xdg_ast.specs.Kinds.{begins_name, continues_name, keyword_of}
 use Rattle.xdg_ast.specs.Language.{is}
 use Rattle.xdg_ast.specs.Grammar.{is_constant}
 

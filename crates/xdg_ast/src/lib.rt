@@ -1,4 +1,4 @@
-//! The trees of grammar texts.
+//! The tokens of grammar texts, and the trees that they stand for.
 #![tactic(auto)]
 
 mod comparing;
@@ -7,6 +7,7 @@ mod grammar;
 mod names;
 mod params;
 mod terms;
+mod token;
 mod types;
 
 pub use comparing::same;
@@ -15,4 +16,5 @@ pub use grammar::{ClassParam, DimPart, DimPartKind, Grammar, Statement, Statemen
 pub use names::{Name, Num, Pair, Spanned};
 pub use params::Params;
 pub use terms::{CardKind, CardTerm, Elem, ElemKind, Gen, GenKind, Term, TermKind};
+pub use token::{Kind, Token, refined, sign_of};
 pub use types::{TypeKind, TypeTerm};

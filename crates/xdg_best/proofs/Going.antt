@@ -6,7 +6,7 @@ use Rattle.xdg_best.specs.declared.searching.Round.{Round}
 use Rattle.xdg_best.specs.Best.{IsAnswer}
 use Rattle.xdg_best.specs.Rounds.{Finds, FindsNone, Rounds, used_up, ends, goes_on, found_cost, round_parts, round_start}
 use Rattle.xdg_best.specs.Searches.{IsRound}
-use Rattle.xdg_best.proofs.Cheapest.{rounds_best, rounds_solve}
+use Rattle.xdg_best.proofs.LastFound.{rounds_best, rounds_solve}
 use Rattle.xdg_best.proofs.Reached.{passed_none, rounds_reached}
 use Rattle.xdg_problem.specs.declared.analysis.Analysis.{Analysis}
 use Rattle.xdg_problem.specs.declared.parts.Parts.{Parts}

@@ -24,8 +24,8 @@ use Rattle.xdg_problem.specs.Vectors.{analysis_of, shape, vector}
 use Rattle.xdg_problem.proofs.OneToOne.{one_to_one}
 use Rattle.xdg_rules.specs.Boxed.{Boxed}
 use Rattle.xdg_rules.proofs.RuleLaws.{boxed_laws}
-use Rattle.xdg_search.specs.declared.Step.{Step}
-use Rattle.xdg_search.specs.declared.Step.TheVariants as steps
+use Rattle.xdg_stream.specs.declared.search.Step.{Step}
+use Rattle.xdg_stream.specs.declared.search.Step.TheVariants as steps
 use Rattle.xdg_stream.specs.Streamed.{Advances, IsCharged, Leaves, Streamed}
 use Rattle.xdg_stream.proofs.Streaming.{end_found, spent_found}
 

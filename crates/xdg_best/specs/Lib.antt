@@ -1,3 +1,14 @@
+pub mod Statements
+pub mod Reading
+pub mod Turns
+pub mod Naming
+pub mod Meaning
+pub mod Building
+pub mod Texts
 pub mod Rounds
 pub mod Searches
 pub mod Best
+pub mod CheapestTexts
+pub mod Costed
+pub mod Outcomes
+pub mod Runs

@@ -7,7 +7,7 @@ use Rattle.xdg_base.specs.declared.faults.Fault.{Fault}
 use Rattle.xdg_base.specs.declared.ids.EntryNo.{EntryNo}
 use Rattle.xdg_packed.specs.Lexicon.{words_of, numbers_of}
 use Rattle.xdg_problem.specs.declared.parts.SentenceWord.{SentenceWord}
-use Rattle.xdg_groups.specs.Grammars.{Grammar}
+use Rattle.xdg_build.specs.Grammars.{Grammar}
 use Rattle.xdg_build.specs.Refusals.{unknown_or, first_unknown, too_many_or, refusal}
 
 -- the word has an entry

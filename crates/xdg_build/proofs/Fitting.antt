@@ -19,7 +19,7 @@ use Rattle.xdg_problem.specs.Places.{below}
 use Rattle.xdg_problem.specs.Vectors.{attr_sizes}
 use Rattle.xdg_types.specs.declared.table.DimType.{DimType}
 use Rattle.xdg_types.specs.Table.{Typed, typed}
-use Rattle.xdg_groups.specs.Grammars.{Grammar, no_dim, used_dims}
+use Rattle.xdg_build.specs.Grammars.{Grammar, no_dim, used_dims}
 use Rattle.xdg_build.specs.Plans.{shown_as, attr_plans, plan_at, plans}
 use Rattle.xdg_build.specs.Compiled.{candidates_of, compiled}
 use Rattle.xdg_build.specs.Solutions.{IsEntryOf, all_value_counts, IsEdge, IsAnalysisOf}

@@ -5,7 +5,7 @@ use Rattle.std.specs.List.{AllZip}
 use Rattle.std.proofs.lemmas.Bool.{cases_Bool}
 use Rattle.std.proofs.lemmas.List.{get_or-map, length-map}
 use Rattle.std.proofs.lemmas.List.Elements.{All-map}
-use Rattle.xdg_faults.specs.First.{In}
+use Rattle.xdg_names.specs.First.{In}
 use Rattle.xdg_problem.specs.declared.analysis.Analysis.{Analysis}
 use Rattle.xdg_problem.specs.declared.parts.Group.{Group}
 use Rattle.xdg_problem.specs.declared.parts.Parts.{Parts}
@@ -14,15 +14,15 @@ use Rattle.xdg_problem.specs.Analyses.{IsAnalysis}
 use Rattle.xdg_problem.specs.Relations.{Relation}
 use Rattle.xdg_problem.specs.Solutions as compiled
 use Rattle.xdg_types.specs.Table.{IsTable}
-use Rattle.xdg_entries.specs.Entries.{IsRightLexicon}
+use Rattle.xdg_packed.specs.Entries.{IsRightLexicon}
 use Rattle.xdg_principles.specs.declared.building.PrincipleUse.{PrincipleUse}
 use Rattle.xdg_principles.specs.Typed.{AreTypedUses}
 use Rattle.xdg_check.specs.Checked.{IsChecked}
 use Rattle.xdg_check.specs.Checked as checked
 use Rattle.xdg_packed.specs.Lexicon.{Lexicon}
-use Rattle.xdg_groups.specs.Grammars.{Grammar, grammar_of, is_used}
-use Rattle.xdg_groups.specs.Groups.{group_of, used_uses}
-use Rattle.xdg_groups.proofs.Lists.{in_at}
+use Rattle.xdg_build.specs.Grammars.{Grammar, grammar_of, is_used}
+use Rattle.xdg_build.specs.Groups.{group_of, used_uses}
+use Rattle.xdg_build.proofs.Lists.{in_at}
 use Rattle.xdg_build.specs.Compiled.{candidates_of, compiled}
 use Rattle.xdg_build.specs.Principles.{Satisfies}
 use Rattle.xdg_build.specs.Refusals.{refusal}

@@ -7,7 +7,7 @@ use Rattle.std.proofs.lemmas.List.FromFn.{length-map-range_with_len}
 use Rattle.std.proofs.lemmas.Option.{slice_get_cases, get_or_from_slice_get}
 use Rattle.xdg_base.specs.declared.ids.EntryNo.{EntryNo}
 use Rattle.xdg_domain.specs.Shapes.{Shape, count}
-use Rattle.xdg_entries.specs.Entries.{IsUsed, IsRightLexicon, IsWordPlace}
+use Rattle.xdg_packed.specs.Entries.{IsUsed, IsRightLexicon, IsWordPlace}
 use Rattle.xdg_packed.specs.Lexicon.{word_of, words_of, numbers_of}
 use Rattle.xdg_problem.specs.declared.parts.AttrPlan.{AttrPlan}
 use Rattle.xdg_problem.specs.declared.parts.DimPlan.{DimPlan}
@@ -18,8 +18,8 @@ use Rattle.xdg_problem.specs.Arguments.{no_plan, no_attr, value_count}
 use Rattle.xdg_problem.specs.Problems.{AreCandidates, IsGroup, IsProblem}
 use Rattle.xdg_types.specs.declared.table.DimType.{DimType}
 use Rattle.xdg_types.specs.Table.{typed, IsTable}
-use Rattle.xdg_groups.specs.Grammars.{Grammar, no_dim}
-use Rattle.xdg_groups.specs.Suits.{Suits}
+use Rattle.xdg_build.specs.Grammars.{Grammar, no_dim}
+use Rattle.xdg_build.specs.Suits.{Suits}
 use Rattle.xdg_build.specs.Plans.{shown_as, attr_plan, dim_plan, plan_at, plans}
 use Rattle.xdg_build.specs.Compiled.{candidates_of}
 use Rattle.xdg_build.specs.Refusals.{refusal}

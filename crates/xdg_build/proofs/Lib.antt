@@ -1,8 +1,23 @@
-pub mod Rows
+mod ListTurns
+mod Cardinalities
+pub mod Calling
+pub mod Forms
+pub mod Lists
+mod Kept
+mod Noded
+mod Recorded
+pub mod Dimensions
+pub mod Named
+pub mod TypeRows
+mod Listed
+pub mod Said
+mod Taken
+pub mod Right
+pub mod EntryRows
 pub mod Conditions
-pub mod Values
+pub mod FeatureRows
 pub mod Readings
-pub mod Arguments
+pub mod TypedArguments
 pub mod Told
 pub mod Satisfied
 pub mod Numbered
@@ -14,3 +29,15 @@ pub mod Planned
 pub mod Lawful
 pub mod Turns
 mod Stocked
+pub mod AtomLaws
+pub mod Atomic
+pub mod Chosen
+pub mod Compiled
+pub mod Featured
+pub mod FeatLaws
+pub mod FormulaLaws
+pub mod Numbers
+pub mod Rightly
+pub mod Standing
+pub mod Used
+pub mod Valued

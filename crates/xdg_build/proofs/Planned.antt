@@ -12,7 +12,7 @@ use Rattle.xdg_problem.specs.declared.parts.DimPlan.{DimPlan}
 use Rattle.xdg_problem.specs.Problems.{HasConstant, IsAttr, IsDim}
 use Rattle.xdg_types.specs.declared.table.DimType.{DimType}
 use Rattle.xdg_types.specs.Table.{Typed, typed, firsts, AreAttributes, KeepsDim, KeepDims, HasPlace, ArePlaces, IsTable}
-use Rattle.xdg_groups.specs.Grammars.{Grammar, no_dim}
+use Rattle.xdg_build.specs.Grammars.{Grammar, no_dim}
 use Rattle.xdg_build.specs.Plans.{shown_as, attr_plan, attr_plans, dim_plan, plan_at, plans}
 use Rattle.xdg_build.proofs.Different.{one_place, differ_by, differ_all, same_tuple, some_text}
 

@@ -25,8 +25,8 @@ use Rattle.xdg_problem.specs.Vectors.{attr_sizes}
 use Rattle.xdg_problem.proofs.Counted.{length_attrs_of}
 use Rattle.xdg_types.specs.declared.table.DimType.{DimType}
 use Rattle.xdg_types.specs.Table.{typed, HasPlace, ArePlaces}
-use Rattle.xdg_groups.specs.Grammars.{Grammar, no_dim, place_in, used_place, used_dims}
-use Rattle.xdg_groups.proofs.Dimensions.{used_at, used_below}
+use Rattle.xdg_build.specs.Grammars.{Grammar, no_dim, place_in, used_place, used_dims}
+use Rattle.xdg_build.proofs.Dimensions.{used_at, used_below}
 use Rattle.xdg_build.specs.Compiled.{compiled}
 use Rattle.xdg_build.specs.Plans.{plans, plan_at}
 use Rattle.xdg_build.specs.Readings.{dimension, edges_in, record_for, values_before, value_number}

@@ -28,7 +28,7 @@ use Rattle.xdg_problem.specs.Relations.{Relation}
 use Rattle.xdg_problem.specs.Vectors.{entry_places}
 use Rattle.xdg_problem.proofs.Tuples.{none_kept, one_kept, two_kept, three_kept, chosen_kept}
 use Rattle.xdg_types.specs.Table.{IsTable, HasPlace, ArePlaces, typed}
-use Rattle.xdg_entries.specs.Entries.{IsRightLexicon}
+use Rattle.xdg_packed.specs.Entries.{IsRightLexicon}
 use Rattle.xdg_principles.specs.declared.building.Arg.{Arg}
 use Rattle.xdg_principles.specs.declared.building.Arg.TheVariants as arg
 use Rattle.xdg_principles.specs.declared.building.PrincipleUse.{PrincipleUse}
@@ -45,25 +45,25 @@ use Rattle.xdg_principles.specs.declared.principle.Which.TheVariants as nth
 use Rattle.xdg_principles.specs.Principles.{principle_named, parameters, dims_in, linking, labels_to_labels}
 use Rattle.xdg_principles.specs.Typed.{IsTypedUse, IsTypedMember, IsElementOf, number_of, labels_at}
 use Rattle.xdg_principles.specs.Wanted.{IsSame, IsSetOf, IsMapTo}
-use Rattle.xdg_groups.specs.Features.{feature_dim, members_in, rows_in}
-use Rattle.xdg_groups.specs.Grammars.{Grammar, is_used}
-use Rattle.xdg_groups.specs.Groups.{called, features_in, attrs_in, labels_in, truths_in, group_of}
-use Rattle.xdg_groups.proofs.Calling.{one_called}
-use Rattle.xdg_groups.proofs.Forms.{form_of, form-name_of, one_of_them, of_texts, first_within}
-use Rattle.xdg_groups.proofs.Right.{Use, use_of, dim_count, args_of}
-use Rattle.xdg_groups.proofs.Values.{same_count}
+use Rattle.xdg_build.specs.Features.{feature_dim, members_in, rows_in}
+use Rattle.xdg_build.specs.Grammars.{Grammar, is_used}
+use Rattle.xdg_build.specs.Groups.{called, features_in, attrs_in, labels_in, truths_in, group_of}
+use Rattle.xdg_build.proofs.Calling.{one_called}
+use Rattle.xdg_build.proofs.Forms.{form_of, form-name_of, one_of_them, of_texts, first_within}
+use Rattle.xdg_build.proofs.Right.{Use, use_of, dim_count, args_of}
+use Rattle.xdg_build.proofs.TypeRows.{same_count}
 use Rattle.xdg_build.specs.Compiled.{candidates_of, compiled}
 use Rattle.xdg_build.specs.Readings.{argument, argument_with, dimension, label_text, value_texts, value_number, value_of, attribute_place, label_places, edges_in, IsMember, IsMemberAt, IsAllowedAt}
 use Rattle.xdg_build.specs.Principles.{D1, D2, D3, Is, attribute, InSet, InMap, Allows, order, HasDaughter, NoCycle, OneRoot, OneMother, OneLabel, InItem, Ordered, Projective, Agrees, AgreesAlong, Governs, Climbs, Blocked, IsLink, Linked, HasLink, StartsBy, Asks, Satisfies}
 use Rattle.xdg_build.specs.Solutions.{IsAnalysisOf}
-use Rattle.xdg_build.proofs.Arguments.{AreWanted, wanted_arguments, feature_argument, attribute_argument, labels_argument, truth_argument, one_argument, two_arguments, three_arguments}
+use Rattle.xdg_build.proofs.TypedArguments.{AreWanted, wanted_arguments, feature_argument, attribute_argument, labels_argument, truth_argument, one_argument, two_arguments, three_arguments}
 use Rattle.xdg_build.proofs.Conditions as kept
 use Rattle.xdg_build.proofs.Conditions.{Kept, AreWithin}
 use Rattle.xdg_build.proofs.Readings.{edges_same, edges_within, labels_same, value_same, value_below}
 use Rattle.xdg_build.proofs.Told as told
 use Rattle.xdg_build.proofs.Told.{IsTold, on_feature}
 use Rattle.xdg_build.proofs.Different.{one_place}
-use Rattle.xdg_build.proofs.Values.{same_number, Names, names_number, names_some, same_texts, element, element_right, element_small, member_names, members_below, set_row_is, valency_allows, IsMapRow, map_row_is}
+use Rattle.xdg_build.proofs.FeatureRows.{same_number, Names, names_number, names_some, same_texts, element, element_right, element_small, member_names, members_below, set_row_is, valency_allows, IsMapRow, map_row_is}
 
 then_iff : (A B C : Type 0) → A ↔ B → B ↔ C → A ↔ C
 then_iff A B C f g = (λ a. g.0 (f.0 a), λ c. f.1 (g.1 c))

@@ -4,17 +4,17 @@ use Rattle.std.specs.Prelude.{All, Option, None, Some}
 use Rattle.std.proofs.lemmas.List.{length-map, get_or-map, map-append}
 use Rattle.std.proofs.lemmas.List.Elements.{All-map}
 use Rattle.xdg_base.specs.declared.ids.EntryNo.{EntryNo}
-use Rattle.xdg_index.specs.Texts.{has_text, place_of}
-use Rattle.xdg_index.proofs.Texts.{place_of-None, place_of-Some}
+use Rattle.xdg_names.specs.Texts.{has_text, place_of}
+use Rattle.xdg_names.proofs.Texts.{place_of-None, place_of-Some}
 use Rattle.xdg_packed.specs.Lexicon.{word_of, words_of, numbers_of}
 use Rattle.xdg_problem.specs.declared.parts.DimPlan.{DimPlan}
 use Rattle.xdg_problem.specs.declared.parts.Group.{Group}
 use Rattle.xdg_problem.specs.declared.parts.Parts.{Parts}
 use Rattle.xdg_problem.specs.declared.parts.SentenceWord.{SentenceWord}
-use Rattle.xdg_groups.specs.declared.nodes.NodePlan.{NodePlan}
-use Rattle.xdg_groups.specs.Grammars.{Grammar}
-use Rattle.xdg_groups.specs.Groups.{groups_of}
-use Rattle.xdg_groups.specs.Nodes.{IsNodePlan, candidates_in}
+use Rattle.xdg_build.specs.declared.nodes.NodePlan.{NodePlan}
+use Rattle.xdg_build.specs.Grammars.{Grammar}
+use Rattle.xdg_build.specs.Groups.{groups_of}
+use Rattle.xdg_build.specs.Nodes.{IsNodePlan, candidates_in}
 use Rattle.xdg_build.specs.Compiled.{candidates_of, compiled}
 use Rattle.xdg_build.specs.Plans.{plans}
 use Rattle.xdg_build.specs.Stocks.{word_plan}

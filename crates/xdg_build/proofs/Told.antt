@@ -22,7 +22,7 @@ use Rattle.xdg_problem.specs.Features.{row}
 use Rattle.xdg_problem.specs.Vectors.{entry_places}
 use Rattle.xdg_types.specs.declared.table.DimType.{DimType}
 use Rattle.xdg_types.specs.Table.{Typed, typed, IsTable, KeepsDim, KeepDims, AreFeatures, AreAttributes, HasPlace}
-use Rattle.xdg_entries.specs.Entries.{IsWhole, IsEntry, IsRightLexicon}
+use Rattle.xdg_packed.specs.Entries.{IsWhole, IsEntry, IsRightLexicon}
 use Rattle.xdg_principles.specs.declared.building.Arg.{Arg}
 use Rattle.xdg_principles.specs.declared.building.Arg.TheVariants as arg
 use Rattle.xdg_principles.specs.declared.building.PrincipleUse.{PrincipleUse}
@@ -30,16 +30,16 @@ use Rattle.xdg_principles.specs.declared.principle.Sort.TheVariants as sorts
 use Rattle.xdg_principles.specs.declared.principle.Typing.{Typing}
 use Rattle.xdg_principles.specs.declared.principle.Which.{Which}
 use Rattle.xdg_principles.specs.Typed.{IsTypedUse, IsTypedMember, number_of, labels_at}
-use Rattle.xdg_groups.specs.Features.{rows_in, rows_of, feature, feature_dim}
-use Rattle.xdg_groups.specs.Grammars.{Grammar, is_used, no_dim, used_place}
-use Rattle.xdg_groups.specs.Groups.{called, features_in, features_at, group_of, dims_of}
-use Rattle.xdg_groups.proofs.Dimensions.{Home, home_of, has_place, is_used_home, labels-home, members-home}
-use Rattle.xdg_groups.proofs.Lists.{in_at}
-use Rattle.xdg_groups.proofs.Said as reading
+use Rattle.xdg_build.specs.Features.{rows_in, rows_of, feature, feature_dim}
+use Rattle.xdg_build.specs.Grammars.{Grammar, is_used, no_dim, used_place}
+use Rattle.xdg_build.specs.Groups.{called, features_in, features_at, group_of, dims_of}
+use Rattle.xdg_build.proofs.Dimensions.{Home, home_of, has_place, is_used_home, labels-home, members-home}
+use Rattle.xdg_build.proofs.Lists.{in_at}
+use Rattle.xdg_build.proofs.Said as reading
 use Rattle.xdg_build.specs.Readings.{dimension, type_at, record_for, entry_at, said_for, OnFeature, feature_place}
 use Rattle.xdg_build.specs.Solutions.{IsAnalysisOf}
 use Rattle.xdg_build.proofs.Readings.{record_same, entry_within}
-use Rattle.xdg_build.proofs.Rows.{of_entries}
+use Rattle.xdg_build.proofs.EntryRows.{of_entries}
 
 abbrev dim_id : ℕ → DimId
 dim_id n = record { 0 = n }

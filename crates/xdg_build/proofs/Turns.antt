@@ -13,7 +13,7 @@ use Rattle.xdg_terms.specs.Built.{constants_each}
 use Rattle.xdg_terms.specs.Means.{chosen}
 use Rattle.xdg_types.specs.declared.table.DimType.{DimType}
 use Rattle.xdg_types.specs.Table.{typed, AreAttributes, KeepDims}
-use Rattle.xdg_groups.specs.Grammars.{Grammar, no_dim}
+use Rattle.xdg_build.specs.Grammars.{Grammar, no_dim}
 use Rattle.xdg_build.specs.Plans.{shown_as, dim_plan, plan_at}
 
 -- ---- constants of a tuple

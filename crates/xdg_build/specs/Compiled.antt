@@ -4,8 +4,8 @@ use Rattle.xdg_base.specs.declared.ids.EntryNo.{EntryNo}
 use Rattle.xdg_packed.specs.Lexicon.{words_of, numbers_of}
 use Rattle.xdg_problem.specs.declared.parts.Parts.{Parts}
 use Rattle.xdg_problem.specs.declared.parts.SentenceWord.{SentenceWord}
-use Rattle.xdg_groups.specs.Grammars.{Grammar}
-use Rattle.xdg_groups.specs.Groups.{groups_of}
+use Rattle.xdg_build.specs.Grammars.{Grammar}
+use Rattle.xdg_build.specs.Groups.{groups_of}
 use Rattle.xdg_build.specs.Plans.{plans}
 
 -- the problem of nodes that may have these entries

@@ -1,3 +1,10 @@
+pub mod Grammars
+pub mod Features
+pub mod Rows
+pub mod Groups
+pub mod Suits
+pub mod Known
+pub mod Nodes
 pub mod Plans
 pub mod Compiled
 pub mod Refusals
@@ -5,3 +12,11 @@ pub mod Readings
 pub mod Principles
 pub mod Solutions
 pub mod Stocks
+pub mod Formulas
+pub mod Places
+pub mod Problems
+pub mod Right
+pub mod Says
+pub mod Signs
+pub mod Tables
+pub mod Truths

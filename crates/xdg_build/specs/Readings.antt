@@ -18,7 +18,7 @@ use Rattle.xdg_principles.specs.declared.building.PrincipleUse.{PrincipleUse}
 use Rattle.xdg_principles.specs.declared.principle.Form.{Form}
 use Rattle.xdg_principles.specs.declared.principle.Parameter.{Parameter}
 use Rattle.xdg_principles.specs.Principles.{principle_named, parameters, key_text}
-use Rattle.xdg_groups.specs.Grammars.{Grammar, no_dim}
+use Rattle.xdg_build.specs.Grammars.{Grammar, no_dim}
 
 -- ---- values of types
 

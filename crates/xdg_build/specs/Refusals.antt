@@ -8,7 +8,7 @@ use Rattle.xdg_base.specs.declared.faults.Stop.{Stop}
 use Rattle.xdg_base.specs.declared.faults.Stop.TheVariants as stops
 use Rattle.xdg_packed.specs.Lexicon.{Lexicon, words_of, numbers_of}
 use Rattle.xdg_problem.specs.declared.parts.SentenceWord.{SentenceWord}
-use Rattle.xdg_groups.specs.Grammars.{Grammar}
+use Rattle.xdg_build.specs.Grammars.{Grammar}
 
 abbrev pub fault : Cause → ℕ → ℕ → Fault
 fault cause at reached = record { cause = cause; at = at; reached = reached }

@@ -1,11 +1,11 @@
 -- What the problems of a grammar share.
 use Rattle.std.specs.Prelude.{◌≡◌, ℕ, List, [], map}
 use Rattle.xdg_packed.specs.Lexicon.{words_of, numbers_of}
-use Rattle.xdg_groups.specs.declared.nodes.NodePlan.{NodePlan}
-use Rattle.xdg_groups.specs.Grammars.{Grammar}
-use Rattle.xdg_groups.specs.Groups.{groups_of}
-use Rattle.xdg_groups.specs.Known.{AreRecords}
-use Rattle.xdg_groups.specs.Nodes.{node_plan}
+use Rattle.xdg_build.specs.declared.nodes.NodePlan.{NodePlan}
+use Rattle.xdg_build.specs.Grammars.{Grammar}
+use Rattle.xdg_build.specs.Groups.{groups_of}
+use Rattle.xdg_build.specs.Known.{AreRecords}
+use Rattle.xdg_build.specs.Nodes.{node_plan}
 use Rattle.xdg_build.specs.declared.stock.Stock.{Stock}
 use Rattle.xdg_build.specs.Plans.{plans}
 

@@ -8,16 +8,16 @@ ghost use Rattle.xdg_build.specs.Refusals.{refusal, IsRefused};
 ghost use Rattle.xdg_build.specs.Solutions.{KeepsSolutions};
 ghost use Rattle.xdg_build.specs.Stocks.{IsStock};
 ghost use Rattle.xdg_check.specs.Checked.{IsChecked};
-ghost use Rattle.xdg_entries.specs.Entries.{IsRightLexicon, IsWordPlace};
-ghost use Rattle.xdg_groups.specs.Grammars.{grammar_of};
+ghost use Rattle.xdg_packed.specs.Entries.{IsRightLexicon, IsWordPlace};
+ghost use Rattle.xdg_build.specs.Grammars.{grammar_of};
 
 use crate::candidates::candidates;
+use crate::nodes::over_nodes;
 use crate::refusals::refusal;
 use crate::stock::Stock;
 use std::alloc::{AllocError, Global};
 use xdg_base::{List, Stop};
 use xdg_check::Checked;
-use xdg_groups::over_nodes;
 use xdg_packed::Packed;
 use xdg_problem::{Parts, Problem, SentenceWord};
 

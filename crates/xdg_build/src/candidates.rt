@@ -1,11 +1,11 @@
 //! The entries that nodes may have.
 
 ghost use Rattle.std.specs.Prelude.{◌≡◌, IfOk};
-ghost use Rattle.xdg_groups.specs.Nodes.{candidates_in};
+ghost use Rattle.xdg_build.specs.Nodes.{candidates_in};
 
+use crate::nodes::NodePlan;
 use std::alloc::{AllocError, Global};
 use xdg_base::{EntryNo, List};
-use xdg_groups::NodePlan;
 use xdg_problem::SharedList;
 
 /// The candidate entries of nodes.

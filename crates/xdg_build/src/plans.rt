@@ -5,7 +5,7 @@ ghost use Rattle.std.specs.List.{list_any};
 ghost use Rattle.xdg_build.specs.Plans as spec;
 ghost use Rattle.xdg_check.specs.Checked.{IsChecked};
 ghost use Rattle.xdg_domain.specs.Shapes.{shape, IsSmall};
-ghost use Rattle.xdg_groups.specs.Grammars.{grammar_of};
+ghost use Rattle.xdg_build.specs.Grammars.{grammar_of};
 ghost use Rattle.xdg_packed.specs.Lexicon.{Lexicon};
 ghost use Rattle.xdg_types.specs.Table.{typed, AreAttributes, KeepDims};
 

@@ -2,16 +2,18 @@
 
 ghost use Rattle.std.specs.Prelude.{◌≡◌, None, map, IfOk, OnOk};
 ghost use Rattle.xdg_build.specs.Stocks.{IsStock, word_plan};
-ghost use Rattle.xdg_entries.specs.Entries.{IsRightLexicon};
-ghost use Rattle.xdg_groups.specs.Grammars.{grammar_of};
-ghost use Rattle.xdg_index.specs.Texts.{place_of};
+ghost use Rattle.xdg_packed.specs.Entries.{IsRightLexicon};
+ghost use Rattle.xdg_build.specs.Grammars.{grammar_of};
+ghost use Rattle.xdg_names.specs.Texts.{place_of};
 
+use crate::groups::compile_uses;
+use crate::nodes::{NodePlan, plan_node};
 use crate::plans::plans;
+use crate::records::Records;
 use std::alloc::{AllocError, Global};
 use xdg_base::List;
 use xdg_check::Checked;
-use xdg_groups::{NodePlan, Records, compile_uses, plan_node};
-use xdg_index::Index;
+use xdg_names::Index;
 use xdg_packed::Packed;
 use xdg_problem::{DimPlan, Group, SentenceWord, SharedList};
 

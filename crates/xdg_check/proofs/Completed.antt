@@ -5,7 +5,7 @@ use Rattle.std.proofs.lemmas.List.{take_all}
 use Rattle.xdg_ast.specs.declared.grammar.ClassParam.{ClassParam}
 use Rattle.xdg_ast.specs.declared.expressions.ExprKind.{ExprKind}
 use Rattle.xdg_ast.specs.declared.expressions.ExprKind.TheVariants as v
-use Rattle.xdg_index.specs.Texts.{has_text}
+use Rattle.xdg_names.specs.Texts.{has_text}
 use Rattle.xdg_types.specs.NameFaults.{different}
 use Rattle.xdg_types.proofs.Distinct.{same_known}
 use Rattle.xdg_classes.specs.Bodies.{Pairs, Expr, Body, either, both, Bodies, no_body, body_then, body}

@@ -4,9 +4,9 @@ use Rattle.std.proofs.lemmas.Bool.{cases_eq, cases_lt}
 use Rattle.std.proofs.lemmas.List.{length-map}
 use Rattle.std.proofs.lemmas.Option.{slice_get-get_or, slice_get-map}
 use Rattle.xdg_domain.specs.Shapes.{Among, Differ}
-use Rattle.xdg_faults.specs.First.{In}
-use Rattle.xdg_faults.proofs.In.{in_index}
-use Rattle.xdg_index.specs.Texts.{place_of}
+use Rattle.xdg_names.specs.First.{In}
+use Rattle.xdg_names.proofs.In.{in_index}
+use Rattle.xdg_names.specs.Texts.{place_of}
 use Rattle.xdg_classes.specs.Bodies.{Body, body, Called, calls}
 use Rattle.xdg_check.specs.declared.checked.Class.{Class}
 use Rattle.xdg_check.specs.Counts.{Counting, uses, combos, class_texts, Agrees, capped, AreCounted, bare, kept_by, kept_at, looked_up}

@@ -6,7 +6,7 @@ use Rattle.std.proofs.lemmas.Grind.{flat_map-append}
 use Rattle.std.proofs.lemmas.List.{take_more, take_all, map-append, append-nil}
 use Rattle.xdg_ast.specs.declared.grammar.StatementKind.TheVariants as k
 use Rattle.xdg_domain.specs.Shapes.{Among, Differ}
-use Rattle.xdg_index.specs.Texts.{has_text}
+use Rattle.xdg_names.specs.Texts.{has_text}
 use Rattle.xdg_types.specs.Parts.{Statement}
 use Rattle.xdg_types.proofs.Distinct.{has_among, among_has}
 use Rattle.xdg_classes.specs.Bodies.{Expr, body}

@@ -8,8 +8,8 @@ use Rattle.xdg_ast.specs.declared.grammar.ClassParam.{ClassParam}
 use Rattle.xdg_base.specs.declared.faults.Cause.TheVariants as causes
 use Rattle.xdg_domain.specs.declared.types.Ty.{Ty}
 use Rattle.xdg_domain.specs.Shapes.{Shape, shape, Among, Differ}
-use Rattle.xdg_faults.specs.First.{In}
-use Rattle.xdg_faults.proofs.In.{in_append, flat_map_in}
+use Rattle.xdg_names.specs.First.{In}
+use Rattle.xdg_names.proofs.In.{in_append, flat_map_in}
 use Rattle.xdg_types.specs.declared.table.DimType.{DimType}
 use Rattle.xdg_types.specs.Answers.{None_of}
 use Rattle.xdg_types.specs.Names.{fault_at}
@@ -21,8 +21,8 @@ use Rattle.xdg_classes.specs.Bodies.{Term, Body, Said, Called, records, calls}
 use Rattle.xdg_classes.specs.Definitions.{ClassDef, classes, texts, keys, Scoped, bodies}
 use Rattle.xdg_classes.specs.Names.{NameOffends, all_calls, dim_texts}
 use Rattle.xdg_classes.proofs.NameLaw.{in_map}
-use Rattle.xdg_arguments.specs.Wants as w
-use Rattle.xdg_arguments.specs.Wants.{NamedBody, Wants, at_feature, at_argument, feature_shape, feature_in, dim_named, type_named}
+use Rattle.xdg_classes.specs.Wants as w
+use Rattle.xdg_classes.specs.Wants.{NamedBody, Wants, at_feature, at_argument, feature_shape, feature_in, dim_named, type_named}
 use Rattle.xdg_check.specs.declared.checked.Class.{Class}
 use Rattle.xdg_check.specs.Completed.{completed, bound_by, left_out}
 use Rattle.xdg_check.specs.Answers.{AreClassesOf}

@@ -6,7 +6,7 @@ use Rattle.std.proofs.Math.Seq.{take-suc}
 use Rattle.std.proofs.lemmas.List.{take_all}
 use Rattle.std.proofs.lemmas.List.Sums.{sum_by-cons, sum_by_push, sum_by-take-le}
 use Rattle.xdg_ast.specs.declared.grammar.ClassParam.{ClassParam}
-use Rattle.xdg_index.specs.Texts.{has_text}
+use Rattle.xdg_names.specs.Texts.{has_text}
 use Rattle.xdg_types.specs.NameFaults.{different}
 use Rattle.xdg_types.proofs.Distinct.{same_known}
 use Rattle.xdg_ast.specs.declared.expressions.ExprKind.{ExprKind}

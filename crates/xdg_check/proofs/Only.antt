@@ -4,8 +4,8 @@ use Rattle.std.specs.Prelude.{Result}
 use Rattle.xdg_base.specs.declared.faults.Fault.{Fault}
 use Rattle.xdg_base.specs.declared.faults.Stop.{Stop}
 use Rattle.xdg_base.specs.declared.faults.Stop.TheVariants as stops
-use Rattle.xdg_faults.specs.First.{Tells as TellsFault}
-use Rattle.xdg_faults.proofs.One.{one_first}
+use Rattle.xdg_names.specs.First.{Tells as TellsFault}
+use Rattle.xdg_names.proofs.One.{one_first}
 use Rattle.xdg_types.specs.Answers.{None_of}
 use Rattle.xdg_types.specs.Parts.{Statement}
 use Rattle.xdg_types.specs.Table.{Table}
@@ -13,7 +13,7 @@ use Rattle.xdg_classes.specs.Bodies.{Body, body}
 use Rattle.xdg_classes.specs.Definitions as d
 use Rattle.xdg_classes.specs.Definitions.{ClassDef, texts, param_names}
 use Rattle.xdg_classes.specs.Graph.{CycleOffends}
-use Rattle.xdg_arguments.specs.Wants.{NamedBody}
+use Rattle.xdg_classes.specs.Wants.{NamedBody}
 use Rattle.xdg_principles.proofs.OneUse.{one_list}
 use Rattle.xdg_check.specs.declared.checked.Class.{Class}
 use Rattle.xdg_check.specs.declared.checked.EntryDef.{EntryDef}

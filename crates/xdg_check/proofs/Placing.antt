@@ -2,13 +2,13 @@
 use Rattle.std.proofs.Common.{◌≡◌, inl, ℕ, zero, suc, List, [], ◌∷◌, map, length, slice_get, slice_index_or, Some, refl, sym, ap, ◌∙◌, subst, arith}
 use Rattle.std.proofs.lemmas.List.{get_or-map}
 use Rattle.std.proofs.lemmas.Option.{get_or_from_slice_get, slice_get_within}
-use Rattle.xdg_cycles.specs.Leads.{uses_of}
-use Rattle.xdg_cycles.specs.declared.graph.Use.{Use}
+use Rattle.xdg_names.specs.Leads.{uses_of}
+use Rattle.xdg_names.specs.declared.graph.Use.{Use}
 use Rattle.xdg_domain.specs.Shapes.{Among}
-use Rattle.xdg_faults.specs.First.{In}
-use Rattle.xdg_faults.proofs.In.{flat_map_in}
-use Rattle.xdg_index.specs.Texts.{place_of}
-use Rattle.xdg_index.proofs.Texts.{place_of-has_text}
+use Rattle.xdg_names.specs.First.{In}
+use Rattle.xdg_names.proofs.In.{flat_map_in}
+use Rattle.xdg_names.specs.Texts.{place_of}
+use Rattle.xdg_names.proofs.Texts.{place_of-has_text}
 use Rattle.xdg_types.specs.Answers.{None_of}
 use Rattle.xdg_types.specs.Graph.{use_at, use_of}
 use Rattle.xdg_types.specs.Parts.{Statement}

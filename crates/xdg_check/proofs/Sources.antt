@@ -4,8 +4,8 @@ use Rattle.std.specs.Prelude.{if◌then◌else◌, bytes_eq}
 use Rattle.std.proofs.lemmas.List.{map-append}
 use Rattle.std.proofs.lemmas.Slice.Eq.{bytes_eq-Decides}
 use Rattle.xdg_domain.specs.Shapes.{Among}
-use Rattle.xdg_faults.specs.First.{In}
-use Rattle.xdg_faults.proofs.In.{in_left, in_right, in_flat_map, flat_map_in}
+use Rattle.xdg_names.specs.First.{In}
+use Rattle.xdg_names.proofs.In.{in_left, in_right, in_flat_map, flat_map_in}
 use Rattle.xdg_types.specs.Parts.{Statement}
 use Rattle.xdg_classes.specs.Bodies.{Body, either, both, saying, calling, Bodies, no_body, body_then, body, Called, records, records_in, calls, calls_in}
 use Rattle.xdg_classes.specs.Definitions as d

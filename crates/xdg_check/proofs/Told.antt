@@ -1,6 +1,6 @@
 -- The counts that are told of expressions.
 use Rattle.std.proofs.Common.{◌≡◌, ℕ, List, None, Some, refl, sym, ap, subst, ◌∙◌}
-use Rattle.xdg_index.specs.Texts.{place_of}
+use Rattle.xdg_names.specs.Texts.{place_of}
 use Rattle.xdg_classes.specs.Bodies.{Body}
 use Rattle.xdg_check.specs.declared.checked.Class.{Class}
 use Rattle.xdg_check.specs.Counts.{Counting, uses, combos, class_texts, Agrees, capped, AreCounted, kept_by, kept_at, looked_up}

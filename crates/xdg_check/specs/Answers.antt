@@ -3,7 +3,7 @@ use Rattle.std.specs.Prelude.{◌≡◌, ◌⊎◌, List, [], ◌∷◌, Result,
 use Rattle.xdg_base.specs.declared.faults.Fault.{Fault}
 use Rattle.xdg_base.specs.declared.faults.Stop.{Stop}
 use Rattle.xdg_base.specs.declared.faults.Stop.TheVariants as stops
-use Rattle.xdg_faults.specs.First.{Tells as TellsFault}
+use Rattle.xdg_names.specs.First.{Tells as TellsFault}
 use Rattle.xdg_types.specs.Answers.{None_of}
 use Rattle.xdg_types.specs.Parts.{Statement}
 use Rattle.xdg_types.specs.Table.{Table}
@@ -12,7 +12,7 @@ use Rattle.xdg_classes.specs.Definitions as d
 use Rattle.xdg_classes.specs.Definitions.{ClassDef, texts, param_names}
 use Rattle.xdg_classes.specs.Names as c
 use Rattle.xdg_classes.specs.Graph.{CycleOffends}
-use Rattle.xdg_arguments.specs.Offences as a
+use Rattle.xdg_classes.specs.Offences as a
 use Rattle.xdg_principles.specs.Arguments.{ArgumentOffends}
 use Rattle.xdg_principles.specs.Made.{ArePrincipleUses}
 use Rattle.xdg_principles.specs.Names.{PrincipleNameOffends}

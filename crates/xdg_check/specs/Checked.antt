@@ -4,15 +4,15 @@ use Rattle.xdg_ast.specs.declared.names.Name.{Name}
 use Rattle.xdg_ast.specs.declared.names.Pair.{Pair}
 use Rattle.xdg_base.specs.declared.faults.Fault.{Fault}
 use Rattle.xdg_domain.specs.Shapes.{Shape, Among, Differ}
-use Rattle.xdg_faults.specs.First.{In}
-use Rattle.xdg_index.specs.Texts.{place_of}
+use Rattle.xdg_names.specs.First.{In}
+use Rattle.xdg_names.specs.Texts.{place_of}
 use Rattle.xdg_types.specs.declared.table.DimType.{DimType}
 use Rattle.xdg_types.specs.Table.{Table, Typed, typed, IsTable}
 use Rattle.xdg_terms.specs.Offences.{OpenOffends}
 use Rattle.xdg_terms.specs.Stray.{tokens}
 use Rattle.xdg_classes.specs.Bodies.{Term, Body, body, Said, Called, records, calls}
 use Rattle.xdg_classes.specs.Definitions.{keys, texts}
-use Rattle.xdg_arguments.specs.Wants.{NamedBody, Wants}
+use Rattle.xdg_classes.specs.Wants.{NamedBody, Wants}
 use Rattle.xdg_principles.specs.declared.building.PrincipleUse.{PrincipleUse}
 use Rattle.xdg_principles.specs.Typed.{IsTypedUse}
 use Rattle.xdg_check.specs.declared.checked.Class.{Class}

@@ -2,7 +2,7 @@
 use Rattle.std.specs.Prelude.{ℕ, List, [], ◌∷◌, ◌++◌, Option, None, Some, if◌then◌else◌}
 use Rattle.xdg_ast.specs.declared.names.Name.{Name}
 use Rattle.xdg_ast.specs.declared.grammar.ClassParam.{ClassParam}
-use Rattle.xdg_index.specs.Texts.{has_text}
+use Rattle.xdg_names.specs.Texts.{has_text}
 use Rattle.xdg_classes.specs.Bodies.{Term, Pairs, Body, either, both, saying, calling, Bodies, no_body, body_then}
 use Rattle.xdg_classes.specs.Definitions.{ClassDef, class_named, keys, texts}
 

@@ -1,8 +1,8 @@
 -- How many uses of classes and how many combinations a body has.
 use Rattle.std.specs.Prelude.{◌≡◌, ℕ, ◌+◌, ◌*◌, ◌-◌, ◌^◌, min, List, map, slice_get, Option, None, Some}
 use Rattle.xdg_domain.specs.Shapes.{Among}
-use Rattle.xdg_faults.specs.First.{In}
-use Rattle.xdg_index.specs.Texts.{place_of}
+use Rattle.xdg_names.specs.First.{In}
+use Rattle.xdg_names.specs.Texts.{place_of}
 use Rattle.xdg_classes.specs.Bodies.{Body, either, both, saying, calling, Bodies, no_body, body_then, body}
 use Rattle.xdg_check.specs.declared.checked.Class.{Class}
 

@@ -1,12 +1,12 @@
 //! A grammar that was checked.
 
 ghost use Rattle.std.specs.Prelude.{◌≡◌};
-ghost use Rattle.xdg_index.specs.Texts.{place_of};
+ghost use Rattle.xdg_names.specs.Texts.{place_of};
 
 use std::marker::Model;
 use xdg_ast::Expr;
 use xdg_base::{List, Text};
-use xdg_index::Index;
+use xdg_names::Index;
 use xdg_principles::PrincipleUse;
 use xdg_types::TypeTable;
 

@@ -13,7 +13,7 @@ use std::alloc::{AllocError, Global};
 use xdg_ast::{ClassParam, Expr, ExprKind, Pair, Spanned, Term};
 use xdg_base::List;
 use xdg_classes::Classes;
-use xdg_index::Index;
+use xdg_names::Index;
 use xdg_terms::{copy_name, copy_term};
 
 /// The keys that are given.

@@ -6,7 +6,7 @@ ghost use Rattle.xdg_check.specs.Counts as spec;
 
 use crate::checked::Class;
 use xdg_ast::{Expr, ExprKind};
-use xdg_index::Index;
+use xdg_names::Index;
 
 /// The uses that are kept of the class with that name, or 0 where there is none.
 pub(crate) fn kept_uses(names: &Index, classes: &[Class], name: &str) -> u64

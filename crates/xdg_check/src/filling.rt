@@ -7,7 +7,7 @@ ghost use Rattle.xdg_check.specs.Counts.{class_texts, bare, uses, combos, AreCou
 
 use crate::checked::Class;
 use crate::counting::{combos_in, uses_in};
-use xdg_index::Index;
+use xdg_names::Index;
 
 /// Counts the bodies of the classes, each once, given their names and an order in which each class comes after those that
 /// its body uses.

@@ -2,7 +2,7 @@
 
 ghost use Rattle.std.specs.Prelude.{◌↔◌, ◌≡◌, IsTrue, codes, slice_get};
 ghost use Rattle.xdg_domain.specs.Shapes.{shape, text};
-ghost use Rattle.xdg_faults.specs.First.{In, Tells};
+ghost use Rattle.xdg_names.specs.First.{In, Tells};
 ghost use Rattle.xdg_types.specs.declared.table.DimType.{DimType};
 ghost use Rattle.xdg_types.specs.Table.{typed, IsTable};
 ghost use Rattle.xdg_check.specs.Lex.{IsLex, HasLex, LexOffends};

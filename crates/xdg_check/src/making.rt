@@ -14,7 +14,7 @@ use std::alloc::{AllocError, Global};
 use xdg_ast::{ClassParam, Statement, StatementKind};
 use xdg_base::{List, Text};
 use xdg_classes::{ClassDef, Classes};
-use xdg_index::Index;
+use xdg_names::Index;
 
 /// The names of parameters.
 fn param_texts(alloc: Global, params: &[ClassParam]) -> Result<List<Text>, AllocError>

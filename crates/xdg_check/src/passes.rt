@@ -4,7 +4,7 @@ ghost use Rattle.std.specs.Prelude.{◌≡◌, ◌≤◌, IfOk, Result};
 ghost use Rattle.xdg_base.specs.declared.faults.Fault as faults;
 ghost use Rattle.xdg_classes.specs.Definitions as d;
 ghost use Rattle.xdg_classes.specs.Ordered.{OrdersClasses};
-ghost use Rattle.xdg_faults.specs.First.{Tells as TellsFault};
+ghost use Rattle.xdg_names.specs.First.{Tells as TellsFault};
 ghost use Rattle.xdg_types.specs.Answers.{HasTable, None_of};
 ghost use Rattle.xdg_types.specs.Table.{IsTable};
 ghost use Rattle.xdg_check.specs.Answers.{NameOffends, ValueOffends, IsCheckedOf, Tells};
@@ -22,7 +22,7 @@ use std::alloc::{AllocError, Global};
 use xdg_ast::{Grammar, Statement};
 use xdg_base::{Fault, List, Stop};
 use xdg_classes::{Classes, classes};
-use xdg_faults::earlier;
+use xdg_names::earlier;
 use xdg_types::TypeTable;
 
 /// The first fault of names, in bodies and in uses of principles.
@@ -49,7 +49,7 @@ fn values_wrong<'a>(
     requires ordered { OrdersClasses statements.now classes.now }
     ensures { IfOk result (λ found. TellsFault (ValueOffends statements.now table.now) found) }
 {
-    let in_bodies = xdg_arguments::check_values(alloc, statements, table, classes)?;
+    let in_bodies = xdg_classes::check_values(alloc, statements, table, classes)?;
     let in_uses = xdg_principles::check_arguments(alloc, statements, table)?;
     Ok(earlier(in_bodies, in_uses))
 }

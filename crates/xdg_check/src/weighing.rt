@@ -13,7 +13,7 @@ use crate::completing::known_keys;
 use std::alloc::{AllocError, Global};
 use xdg_ast::{ClassParam, Expr, Pair, Statement, StatementKind, Term};
 use xdg_classes::{Classes, calls};
-use xdg_index::Index;
+use xdg_names::Index;
 
 /// How many bytes of the text the defaults that stand in completed bindings may take together, each as often as it stands there.
 const MOST_BYTES: u64 = 67_108_864;

@@ -6,8 +6,8 @@ use Rattle.std.proofs.lemmas.Bool.{cases_Bool, true≢false, false_from_ne_true}
 use Rattle.std.proofs.lemmas.List.{map-append, length-append, get_or_append_left}
 use Rattle.std.proofs.lemmas.Option.{slice_get-get_or, slice_get_within, get_or_from_slice_get}
 use Rattle.std.proofs.lemmas.Slice.Eq.{bytes_eq-Decides}
-use Rattle.xdg_index.specs.Texts.{has_text, place_of}
-use Rattle.xdg_index.proofs.Texts.{place_of-None, None-place_of, place_of-append_left, place_of-append_right, has_text-append}
+use Rattle.xdg_names.specs.Texts.{has_text, place_of}
+use Rattle.xdg_names.proofs.Texts.{place_of-None, None-place_of, place_of-append_left, place_of-append_right, has_text-append}
 use Rattle.xdg_classes.specs.declared.params.Params.{Params}
 use Rattle.xdg_classes.specs.declared.definitions.ClassDef.{ClassDef as LentClass}
 use Rattle.xdg_classes.specs.Definitions.{ClassDef, class_named, class_names, texts}

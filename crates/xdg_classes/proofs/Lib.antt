@@ -4,3 +4,9 @@ pub mod Known
 pub mod Told
 pub mod NameLaw
 pub mod Ordered
+pub mod Sameness
+pub mod Adding
+pub mod Growing
+pub mod Settling
+pub mod Telling
+pub mod ValueLaw

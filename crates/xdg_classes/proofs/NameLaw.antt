@@ -9,10 +9,10 @@ use Rattle.xdg_ast.specs.declared.grammar.ClassParam.{ClassParam}
 use Rattle.xdg_base.specs.declared.faults.Cause.TheVariants as causes
 use Rattle.xdg_base.specs.declared.faults.Fault.{Fault}
 use Rattle.xdg_domain.specs.Shapes.{Among, Differ}
-use Rattle.xdg_faults.specs.First.{In, Tells, first}
-use Rattle.xdg_faults.proofs.First.{tells_as, first-tells}
-use Rattle.xdg_faults.proofs.In.{in_append, in_left, in_right, in_flat_map, flat_map_in, in_unless, unless_in, in_when, when_in}
-use Rattle.xdg_index.specs.Texts.{has_text}
+use Rattle.xdg_names.specs.First.{In, Tells, first}
+use Rattle.xdg_names.proofs.First.{tells_as, first-tells}
+use Rattle.xdg_names.proofs.In.{in_append, in_left, in_right, in_flat_map, flat_map_in, in_unless, unless_in, in_when, when_in}
+use Rattle.xdg_names.specs.Texts.{has_text}
 use Rattle.xdg_types.specs.Answers.{None_of}
 use Rattle.xdg_types.specs.Names.{fault_at}
 use Rattle.xdg_types.specs.NameFaults.{repeats, different}

@@ -3,15 +3,15 @@ use Rattle.std.proofs.Common.{◌≡◌, inl, inr, ℕ, ◌<◌, List, [], ◌�
 use Rattle.std.proofs.lemmas.List.{get_or-map, length-map}
 use Rattle.xdg_ast.specs.declared.names.Name.{Name}
 use Rattle.xdg_base.specs.declared.faults.Fault.{Fault}
-use Rattle.xdg_cycles.specs.declared.graph.Use.{Use}
-use Rattle.xdg_cycles.specs.Leads.{uses_of, IsGraph, AreComponents}
-use Rattle.xdg_cycles.specs.Closing.{IsClosing}
-use Rattle.xdg_cycles.proofs.Laws.{follows}
-use Rattle.xdg_cycles.proofs.Numbered.{from_within}
-use Rattle.xdg_faults.specs.First.{In, Tells}
-use Rattle.xdg_faults.proofs.In.{in_flat_map}
-use Rattle.xdg_index.specs.Texts.{place_of}
-use Rattle.xdg_index.proofs.Texts.{place_of-Some}
+use Rattle.xdg_names.specs.declared.graph.Use.{Use}
+use Rattle.xdg_names.specs.Leads.{uses_of, IsGraph, AreComponents}
+use Rattle.xdg_names.specs.Closing.{IsClosing}
+use Rattle.xdg_names.proofs.Laws.{follows}
+use Rattle.xdg_names.proofs.Numbered.{from_within}
+use Rattle.xdg_names.specs.First.{In, Tells}
+use Rattle.xdg_names.proofs.In.{in_flat_map}
+use Rattle.xdg_names.specs.Texts.{place_of}
+use Rattle.xdg_names.proofs.Texts.{place_of-Some}
 use Rattle.xdg_types.specs.Answers.{None_of}
 use Rattle.xdg_types.specs.Graph.{use_at, use_of}
 use Rattle.xdg_types.specs.NameFaults.{with_all}

@@ -3,8 +3,8 @@ use Rattle.std.proofs.Common.{◌≡◌, ℕ, List, [], Option, Some, sym, ap, a
 use Rattle.std.specs.List.{flat_map}
 use Rattle.std.specs.Prelude.{option_map}
 use Rattle.xdg_base.specs.declared.faults.Fault.{Fault}
-use Rattle.xdg_faults.specs.First.{first, earlier}
-use Rattle.xdg_faults.proofs.First.{first_append}
+use Rattle.xdg_names.specs.First.{first, earlier}
+use Rattle.xdg_names.proofs.First.{first_append}
 use Rattle.xdg_types.specs.NameFaults.{repeats, with_all, different}
 use Rattle.xdg_classes.specs.Bodies.{Called}
 use Rattle.xdg_classes.specs.Definitions.{ClassDef, class_named, keys}

@@ -3,7 +3,7 @@ use Rattle.std.proofs.Common.{◌≡◌, ℕ, ◌+◌, ◌<◌, List, [], ◌∷
 use Rattle.std.proofs.lemmas.List.{append-nil}
 use Rattle.xdg_ast.specs.declared.names.Name.{Name}
 use Rattle.xdg_base.specs.declared.faults.Fault.{Fault}
-use Rattle.xdg_faults.specs.First.{first, earlier}
+use Rattle.xdg_names.specs.First.{first, earlier}
 use Rattle.xdg_types.specs.NameFaults.{repeated, repeats, with_text, with_all}
 use Rattle.xdg_types.proofs.Again.{again_turn}
 

@@ -1,8 +1,8 @@
 -- The classes as a graph of uses.
 use Rattle.std.specs.Prelude.{ℕ, List, map, flat_map}
 use Rattle.xdg_base.specs.declared.faults.Fault.{Fault}
-use Rattle.xdg_cycles.specs.Closing.{IsClosing}
-use Rattle.xdg_cycles.specs.declared.graph.Use.{Use}
+use Rattle.xdg_names.specs.Closing.{IsClosing}
+use Rattle.xdg_names.specs.declared.graph.Use.{Use}
 use Rattle.xdg_types.specs.Graph.{use_of}
 use Rattle.xdg_types.specs.Parts.{Statement}
 use Rattle.xdg_classes.specs.Bodies.{body, calls}

@@ -1,6 +1,6 @@
 -- What is known of the classes where their uses are judged.
 use Rattle.std.specs.Prelude.{◌≡◌, ℕ, List, length, map, slice_get, None, Some}
-use Rattle.xdg_index.specs.Texts.{place_of}
+use Rattle.xdg_names.specs.Texts.{place_of}
 use Rattle.xdg_classes.specs.declared.params.Params.{Params}
 use Rattle.xdg_classes.specs.Definitions.{ClassDef, class_named}
 use Rattle.xdg_classes.specs.NameFaults.{Asked, asked_by}

@@ -6,3 +6,9 @@ pub mod Lent
 pub mod Ordered
 pub mod NameFaults
 pub mod Known
+pub mod Collected
+pub mod Given
+pub mod Wants
+pub mod KnownWants
+pub mod Wrong
+pub mod Offences

@@ -2,9 +2,9 @@
 use Rattle.std.specs.Prelude.{◌≡◌, ℕ, ◌<◌, List, length, map, slice_get, Option, None, Some, Result, Ok, Err}
 use Rattle.xdg_base.specs.declared.faults.Stop.{Stop}
 use Rattle.xdg_base.specs.declared.faults.Stop.TheVariants as stops
-use Rattle.xdg_cycles.specs.Leads.{uses_of, number}
-use Rattle.xdg_cycles.specs.declared.graph.Use.{Use}
-use Rattle.xdg_faults.specs.First.{In, Tells}
+use Rattle.xdg_names.specs.Leads.{uses_of, number}
+use Rattle.xdg_names.specs.declared.graph.Use.{Use}
+use Rattle.xdg_names.specs.First.{In, Tells}
 use Rattle.xdg_types.specs.Answers.{None_of}
 use Rattle.xdg_types.specs.Parts.{Statement}
 use Rattle.xdg_classes.specs.declared.lookup.Classes.{Classes}

@@ -10,8 +10,7 @@ use crate::definitions::ClassDef;
 use std::alloc::{AllocError, Global};
 use xdg_ast::Name;
 use xdg_base::List;
-use xdg_cycles::Use;
-use xdg_index::Index;
+use xdg_names::{Index, Use};
 
 /// Adds the use of a class, where the class is defined.
 fn add_use(known: &Index, name: &Name, made: &mut List<Use>) -> Result<(), AllocError>

@@ -1,14 +1,14 @@
 //! The classes of a grammar by name, and in an order in which each comes after those that it uses.
 
 ghost use Rattle.std.specs.Prelude.{◌≡◌, map};
-ghost use Rattle.xdg_index.specs.Texts.{place_of};
+ghost use Rattle.xdg_names.specs.Texts.{place_of};
 ghost use Rattle.xdg_classes.specs.Definitions as spec;
 ghost use Rattle.xdg_classes.specs.Ordered.{class_at};
 ghost use Rattle.xdg_classes.specs.Lent.{class_def};
 
 use crate::definitions::ClassDef;
 use xdg_base::List;
-use xdg_index::Index;
+use xdg_names::Index;
 
 /// The classes of a grammar, lent from its statements.
 #[derive(Drop)]

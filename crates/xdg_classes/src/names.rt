@@ -2,7 +2,7 @@
 
 ghost use Rattle.std.specs.Prelude.{◌≡◌, [], ◌++◌, map, flat_map, IfOk};
 ghost use Rattle.xdg_domain.specs.Shapes.{Differ};
-ghost use Rattle.xdg_faults.specs.First.{first, Tells};
+ghost use Rattle.xdg_names.specs.First.{first, Tells};
 ghost use Rattle.xdg_types.specs.NameFaults.{unknown, repeats};
 ghost use Rattle.xdg_classes.specs.Definitions.{class_names};
 ghost use Rattle.xdg_classes.specs.Names as sites;
@@ -18,8 +18,7 @@ use crate::uses::check_calls;
 use std::alloc::{AllocError, Global};
 use xdg_ast::{Name, Statement};
 use xdg_base::{Cause, Fault};
-use xdg_faults::earlier;
-use xdg_index::Index;
+use xdg_names::{Index, earlier};
 use xdg_types::{DimType, TypeTable};
 
 /// The first fault of the names of dimensions, classes and parameters in the bodies of all classes and entries, used or
@@ -44,7 +43,7 @@ pub fn check_names(
 }
 
 /// The first fault of all passes over names.
-#[tactic(auto, using(xdg_faults::proofs::First::first_append))]
+#[tactic(auto, using(xdg_names::proofs::First::first_append))]
 fn names_wrong(
     alloc: Global,
     statements: &[Statement],
@@ -72,7 +71,7 @@ fn dims_wrong(
 }
 
 /// The first fault of the names of classes and parameters, where these are the classes of the statements.
-#[tactic(auto, using(xdg_faults::proofs::First::first_append))]
+#[tactic(auto, using(xdg_names::proofs::First::first_append))]
 fn classes_wrong(
     alloc: Global,
     statements: &[Statement],

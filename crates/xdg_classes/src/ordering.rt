@@ -11,8 +11,7 @@ use crate::repeats::classes_again;
 use std::alloc::Global;
 use xdg_ast::Statement;
 use xdg_base::Stop;
-use xdg_cycles::{closing, components};
-use xdg_index::Index;
+use xdg_names::{Index, closing, components};
 
 /// The classes of a grammar, lent from its statements, in an order in which each comes after those that it uses. In the
 /// grammar no class has the name of another.

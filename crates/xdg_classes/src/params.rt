@@ -13,7 +13,7 @@ use crate::repeats::params_again;
 use std::alloc::{AllocError, Global};
 use xdg_ast::ClassParam;
 use xdg_base::List;
-use xdg_index::Index;
+use xdg_names::Index;
 
 /// What a class asks of its uses.
 #[derive(Drop)]

@@ -1,7 +1,7 @@
 //! Names that stand again where they may stand once.
 
 ghost use Rattle.std.specs.Prelude.{◌≡◌, map, IfOk};
-ghost use Rattle.xdg_faults.specs.First.{first};
+ghost use Rattle.xdg_names.specs.First.{first};
 ghost use Rattle.xdg_types.specs.NameFaults as spec;
 ghost use Rattle.xdg_classes.specs.Definitions.{class_names, param_names, keys};
 ghost use Rattle.xdg_classes.specs.Lent.{class_def};
@@ -10,8 +10,7 @@ use crate::definitions::ClassDef;
 use std::alloc::{AllocError, Global};
 use xdg_ast::{ClassParam, Name, Pair, Term};
 use xdg_base::{Cause, Fault};
-use xdg_faults::earlier;
-use xdg_index::Index;
+use xdg_names::{Index, earlier};
 
 /// The fault of a name that was seen before. From then on it is seen.
 fn repeated(alloc: Global, seen: &mut Index, name: &Name) -> Result<Option<Fault>, AllocError>

@@ -2,7 +2,7 @@
 
 ghost use Rattle.std.specs.Prelude.{◌≡◌, List, map, flat_map, option_map, IfOk};
 ghost use Rattle.std.specs.Option.{option_copied};
-ghost use Rattle.xdg_faults.specs.First.{first};
+ghost use Rattle.xdg_names.specs.First.{first};
 ghost use Rattle.xdg_types.specs.NameFaults.{different};
 ghost use Rattle.xdg_classes.specs.Definitions.{ClassDef, class_named, keys};
 ghost use Rattle.xdg_classes.specs.NameFaults as spec;
@@ -15,8 +15,7 @@ use crate::repeats::keys_again;
 use std::alloc::{AllocError, Global};
 use xdg_ast::{Name, Pair, Term};
 use xdg_base::{Cause, Fault};
-use xdg_faults::earlier;
-use xdg_index::Index;
+use xdg_names::{Index, earlier};
 
 /// The fault of a parameter that isn't among those of the class.
 fn unknown_param(known: &Index, key: &Name) -> Option<Fault>

@@ -4,14 +4,14 @@ use Rattle.std.specs.Prelude.{Option, Some}
 use Rattle.xdg_command.specs.declared.commands.CorpusOptions.{CorpusOptions}
 use Rattle.xdg_corpus.specs.Inputs.{HasText, IsBadCorpus}
 use Rattle.xdg_corpus.specs.Outcomes.{AreSearched, CorpusEnds, LinesThen}
-use Rattle.xdg_grammar.specs.Meanings.{Meaning}
+use Rattle.xdg_inputs.specs.Meanings.{Meaning}
 use Rattle.xdg_io.specs.Left.{TakesAll}
-use Rattle.xdg_outcomes.specs.Refusals.{Refuses, Stops}
+use Rattle.xdg_inputs.specs.Refusals.{Refuses, Stops}
 use Rattle.xdg_corpus.specs.Runs.{LeavesPart}
-use Rattle.xdg_outcomes.specs.Stages.{Accepts}
-use Rattle.xdg_outcomes.specs.declared.refusals.Refusal.{Refusal}
-use Rattle.xdg_outcomes.specs.declared.status.Status.{Status}
-use Rattle.xdg_outcomes.specs.declared.status.Status.TheVariants as statuses
+use Rattle.xdg_inputs.specs.Stages.{Accepts}
+use Rattle.xdg_inputs.specs.declared.refusals.Refusal.{Refusal}
+use Rattle.xdg_inputs.specs.declared.status.Status.{Status}
+use Rattle.xdg_inputs.specs.declared.status.Status.TheVariants as statuses
 use Rattle.xdg_corpus.proofs.Parting.{accepted_part, stopped_part}
 
 -- lines are printed with one of three statuses

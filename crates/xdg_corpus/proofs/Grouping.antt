@@ -15,12 +15,12 @@ use Rattle.xdg_corpus.specs.Texts.{CanSearch}
 use Rattle.xdg_corpus.specs.declared.group.Group.{Group}
 use Rattle.xdg_corpus.specs.declared.group.Sentence.{Sentence}
 use Rattle.xdg_corpus.specs.declared.group.Sentence.TheVariants as sentences
-use Rattle.xdg_grammar.specs.Meanings.{Meaning}
+use Rattle.xdg_inputs.specs.Meanings.{Meaning}
 use Rattle.xdg_inputs.specs.Sentences.{AcceptsWords, RejectsWords, StopsWords}
-use Rattle.xdg_outcomes.specs.Places.{place_in}
-use Rattle.xdg_outcomes.specs.Refusals.{refusal_of}
-use Rattle.xdg_outcomes.specs.declared.refusals.Refusal.{Refusal}
-use Rattle.xdg_outcomes.specs.declared.refusals.Refusal.TheVariants as refusals
+use Rattle.xdg_inputs.specs.Places.{place_in}
+use Rattle.xdg_inputs.specs.Refusals.{refusal_of}
+use Rattle.xdg_inputs.specs.declared.refusals.Refusal.{Refusal}
+use Rattle.xdg_inputs.specs.declared.refusals.Refusal.TheVariants as refusals
 use Rattle.xdg_problem.specs.declared.parts.Parts.{Parts}
 use Rattle.xdg_propcore.specs.Uses.{AllStandIn}
 use Rattle.xdg_split.specs.Asked.{Asked, IsJob, asked}

@@ -3,17 +3,17 @@ use Rattle.std.proofs.Common.{◌≡◌, ℕ, zero, suc, ◌+◌, List, [], ◌�
 use Rattle.std.specs.Prelude.{None, Some, slice_get}
 use Rattle.std.specs.List.{AllZip}
 use Rattle.std.proofs.lemmas.List.{append_assoc}
-use Rattle.xdg_analyses.specs.Printed.{Prints}
-use Rattle.xdg_analyses.specs.declared.forms.Form.TheVariants as forms
+use Rattle.xdg_split.specs.Printed.{Prints}
+use Rattle.xdg_split.specs.declared.forms.Form.TheVariants as forms
 use Rattle.xdg_base.specs.declared.faults.Fault.{Fault}
 use Rattle.xdg_command.specs.declared.commands.CorpusOptions.{CorpusOptions}
 use Rattle.xdg_corpus.specs.Groups.{AsksFor, StandsFor, answer_text, group_text, own_text}
 use Rattle.xdg_corpus.specs.Texts.{Joined, LineText, LinesText, NumberedText, refused, searched, sentence_line}
 use Rattle.xdg_corpus.specs.declared.group.Sentence.{Sentence}
 use Rattle.xdg_corpus.specs.declared.group.Sentence.TheVariants as sentences
-use Rattle.xdg_grammar.specs.Meanings.{Meaning}
+use Rattle.xdg_inputs.specs.Meanings.{Meaning}
 use Rattle.xdg_inputs.specs.Sentences.{RejectsWords}
-use Rattle.xdg_outcomes.specs.Places.{place_in}
+use Rattle.xdg_inputs.specs.Places.{place_in}
 use Rattle.xdg_split.specs.Answers.{IsAnswer}
 use Rattle.xdg_split.specs.Asked.{Asked, asked}
 use Rattle.xdg_split.specs.declared.answer.Answer.{Answer}

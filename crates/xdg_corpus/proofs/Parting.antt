@@ -4,22 +4,22 @@ use Rattle.std.specs.Prelude.{Option}
 use Rattle.xdg_base.specs.declared.faults.Fault.{Fault}
 use Rattle.xdg_base.specs.declared.faults.Stop.{Stop}
 use Rattle.xdg_corpus.specs.Runs.{LeavesPart}
-use Rattle.xdg_grammar.specs.Answers.{Tells, meaning_of}
-use Rattle.xdg_grammar.specs.Meanings.{Meaning, Means}
-use Rattle.xdg_grammar.specs.declared.expanding.Expanded.{Expanded}
+use Rattle.xdg_inputs.specs.Answers.{Tells, meaning_of}
+use Rattle.xdg_inputs.specs.Meanings.{Meaning, Means}
+use Rattle.xdg_inputs.specs.declared.expanding.Expanded.{Expanded}
 use Rattle.xdg_io.specs.Held.{Appends, WrittenSoFar}
 use Rattle.xdg_io.proofs.Written.{appends_nothing}
-use Rattle.xdg_outcomes.specs.Grammars.{IsBadGrammar}
-use Rattle.xdg_outcomes.specs.Outcomes.{MeaningThen}
-use Rattle.xdg_outcomes.specs.Refusals.{Refuses, Stops, refusal_of}
-use Rattle.xdg_outcomes.specs.Runs.{Ends, Leaves}
-use Rattle.xdg_outcomes.specs.Stages.{Accepts, Behind, accepted, refused}
-use Rattle.xdg_outcomes.specs.Texts.{ReadText}
-use Rattle.xdg_outcomes.specs.declared.refusals.Refusal.{Refusal}
-use Rattle.xdg_outcomes.specs.declared.status.Status.{Status}
-use Rattle.xdg_outcomes.specs.declared.status.Status.TheVariants as statuses
-use Rattle.xdg_outcomes.proofs.Leaving.{stopped_leaves}
-use Rattle.xdg_outcomes.proofs.Meaning.{Only, meaning_accepted, meaning_refused}
+use Rattle.xdg_inputs.specs.Grammars.{IsBadGrammar}
+use Rattle.xdg_inputs.specs.Outcomes.{MeaningThen}
+use Rattle.xdg_inputs.specs.Refusals.{Refuses, Stops, refusal_of}
+use Rattle.xdg_inputs.specs.Runs.{Ends, Leaves}
+use Rattle.xdg_inputs.specs.Stages.{Accepts, Behind, accepted, refused}
+use Rattle.xdg_inputs.specs.GrammarFiles.{ReadText}
+use Rattle.xdg_inputs.specs.declared.refusals.Refusal.{Refusal}
+use Rattle.xdg_inputs.specs.declared.status.Status.{Status}
+use Rattle.xdg_inputs.specs.declared.status.Status.TheVariants as statuses
+use Rattle.xdg_inputs.proofs.Leaving.{stopped_leaves}
+use Rattle.xdg_inputs.proofs.Meaning.{Only, meaning_accepted, meaning_refused}
 
 -- where nothing was added, all is left
 nothing_added : (old new : Option (List ℕ)) (text : List ℕ) → new ≡ old → (rest : List ℕ) × WrittenSoFar old new text rest

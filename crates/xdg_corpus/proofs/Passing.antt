@@ -5,7 +5,7 @@ use Rattle.std.proofs.lemmas.List.{append_assoc, append-nil}
 use Rattle.xdg_command.specs.declared.commands.CorpusOptions.{CorpusOptions}
 use Rattle.xdg_corpus.specs.Texts.{LinesText}
 use Rattle.xdg_corpus.proofs.Numbering.{IsOneText, lines_cut, lines_later}
-use Rattle.xdg_grammar.specs.Meanings.{Meaning}
+use Rattle.xdg_inputs.specs.Meanings.{Meaning}
 use Rattle.xdg_io.specs.Held.{Appends, AppendsFront, WrittenSoFar}
 use Rattle.xdg_io.proofs.Written.{appends_both, appends_nothing, front_of_first, front_of_second}
 

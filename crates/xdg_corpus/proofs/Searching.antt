@@ -12,10 +12,10 @@ use Rattle.xdg_corpus.specs.declared.group.Sentence.{Sentence}
 use Rattle.xdg_corpus.proofs.Grouping.{taken_count}
 use Rattle.xdg_corpus.proofs.Numbering.{IsOneText, one_group}
 use Rattle.xdg_corpus.proofs.Passing.{Passed, passed_all, passed_front, passed_lines, passed_none, passed_part}
-use Rattle.xdg_grammar.specs.Meanings.{Meaning}
+use Rattle.xdg_inputs.specs.Meanings.{Meaning}
 use Rattle.xdg_io.specs.Held.{Appends, AppendsFront}
 use Rattle.xdg_corpus.specs.Runs.{LeavesPart}
-use Rattle.xdg_outcomes.specs.declared.status.Status.TheVariants as statuses
+use Rattle.xdg_inputs.specs.declared.status.Status.TheVariants as statuses
 use Rattle.xdg_split.specs.Answers.{IsAnswer}
 use Rattle.xdg_split.specs.Asked.{Asked}
 use Rattle.xdg_split.specs.declared.answer.Answer.{Answer}

@@ -2,9 +2,9 @@
 use Rattle.std.specs.Prelude.{◌≡◌, ℕ, ◌+◌, ◌≤◌, List, [], ◌∷◌, ◌++◌, length, slice_get, Option, None, Some}
 use Rattle.std.specs.List.{AllZip}
 use Rattle.xdg_command.specs.declared.commands.CorpusOptions.{CorpusOptions}
-use Rattle.xdg_grammar.specs.Meanings.{Meaning}
+use Rattle.xdg_inputs.specs.Meanings.{Meaning}
 use Rattle.xdg_inputs.specs.Sentences.{AcceptsWords, RejectsWords}
-use Rattle.xdg_outcomes.specs.Places.{place_in}
+use Rattle.xdg_inputs.specs.Places.{place_in}
 use Rattle.xdg_problem.specs.declared.parts.Parts.{Parts}
 use Rattle.xdg_split.specs.Asked.{Asked, asked}
 use Rattle.xdg_split.specs.declared.answer.Answer.{Answer}

@@ -1,11 +1,11 @@
 -- The outcome of a corpus, and with which statuses it can end.
 use Rattle.std.specs.Prelude.{◌≡◌, ℕ, List}
 use Rattle.xdg_command.specs.declared.commands.CorpusOptions.{CorpusOptions}
-use Rattle.xdg_grammar.specs.Meanings.{Meaning}
-use Rattle.xdg_outcomes.specs.Outcomes.{Files, GrammarThen}
-use Rattle.xdg_outcomes.specs.Stages.{Behind}
-use Rattle.xdg_outcomes.specs.declared.status.Status.{Status}
-use Rattle.xdg_outcomes.specs.declared.status.Status.TheVariants as statuses
+use Rattle.xdg_inputs.specs.Meanings.{Meaning}
+use Rattle.xdg_inputs.specs.Outcomes.{Files, GrammarThen}
+use Rattle.xdg_inputs.specs.Stages.{Behind}
+use Rattle.xdg_inputs.specs.declared.status.Status.{Status}
+use Rattle.xdg_inputs.specs.declared.status.Status.TheVariants as statuses
 use Rattle.xdg_corpus.specs.Inputs.{HasText, IsBadCorpus}
 use Rattle.xdg_corpus.specs.Lines.{lines}
 use Rattle.xdg_corpus.specs.Texts.{LinesText}

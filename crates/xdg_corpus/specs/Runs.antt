@@ -1,9 +1,9 @@
 -- What a run leaves that writes some of its text before it has taken all its memory.
 use Rattle.std.specs.Prelude.{◌≡◌, ℕ, List, Option}
 use Rattle.xdg_io.specs.Held.{AppendsFront, WrittenSoFar}
-use Rattle.xdg_outcomes.specs.Runs.{Ends}
-use Rattle.xdg_outcomes.specs.declared.status.Status.{Status}
-use Rattle.xdg_outcomes.specs.declared.status.Status.TheVariants as statuses
+use Rattle.xdg_inputs.specs.Runs.{Ends}
+use Rattle.xdg_inputs.specs.declared.status.Status.{Status}
+use Rattle.xdg_inputs.specs.declared.status.Status.TheVariants as statuses
 
 -- A run that nothing interrupts ends with the outcome's status and text. Where a read fails nothing was added, where memory is wanting
 -- all of the outcome's text but some rest, and where the sink fails a front of it, not all of it.

@@ -1,14 +1,14 @@
 -- What is printed of the lines of a corpus.
 use Rattle.std.specs.Prelude.{◌≡◌, ℕ, ◌+◌, ◌≤◌, List, [], ◌∷◌, ◌++◌, codes, decimal}
-use Rattle.xdg_analyses.specs.Printed.{Prints}
-use Rattle.xdg_analyses.specs.Written.{IsSome}
-use Rattle.xdg_analyses.specs.declared.forms.Form.TheVariants as forms
+use Rattle.xdg_split.specs.Printed.{Prints}
+use Rattle.xdg_split.specs.Written.{IsSome}
+use Rattle.xdg_split.specs.declared.forms.Form.TheVariants as forms
 use Rattle.xdg_base.specs.declared.faults.Fault.{Fault}
 use Rattle.xdg_command.specs.declared.commands.CorpusOptions.{CorpusOptions}
-use Rattle.xdg_grammar.specs.Meanings.{Meaning}
+use Rattle.xdg_inputs.specs.Meanings.{Meaning}
 use Rattle.xdg_inputs.specs.Sentences.{HasWords, IsBadWords}
 use Rattle.xdg_listing.specs.declared.Ending.{Ending}
-use Rattle.xdg_outcomes.specs.Places.{place_in}
+use Rattle.xdg_inputs.specs.Places.{place_in}
 use Rattle.xdg_problem.specs.declared.parts.Parts.{Parts}
 use Rattle.xdg_text.specs.Lines.{fault_text, line}
 

@@ -3,11 +3,11 @@
 ghost use Rattle.std.specs.Prelude.{◌≡◌, ◌≢◌, ◌≤◌, ◌⊎◌, ℕ, List, [], Option, Some, length};
 ghost use Rattle.xdg_corpus.specs.Outcomes.{CorpusEnds, CorpusOf, LinesThen};
 ghost use Rattle.xdg_corpus.specs.Texts.{CanSearch};
-ghost use Rattle.xdg_entries.specs.Entries.{IsRightLexicon};
-ghost use Rattle.xdg_grammar.specs.Answers.{meaning_of};
+ghost use Rattle.xdg_packed.specs.Entries.{IsRightLexicon};
+ghost use Rattle.xdg_inputs.specs.Answers.{meaning_of};
 ghost use Rattle.xdg_io.specs.Rose.{Rose};
-ghost use Rattle.xdg_outcomes.specs.Loaded.{read_of};
-ghost use Rattle.xdg_outcomes.specs.Outcomes.{MeaningThen};
+ghost use Rattle.xdg_inputs.specs.Loaded.{read_of};
+ghost use Rattle.xdg_inputs.specs.Outcomes.{MeaningThen};
 ghost use Rattle.xdg_corpus.specs.Runs.{LeavesPart};
 
 use crate::input::{read_input, text_of};
@@ -16,9 +16,10 @@ use std::alloc::Global;
 use std::thread::Threads;
 use xdg_base::OutOfMemory;
 use xdg_command::CorpusOptions;
-use xdg_grammar::{Expanded, expand_tree, pack_entries};
+use xdg_inputs::{
+    Expanded, Loaded, Status, expand_tree, load_tree, pack_entries, refuse, stopped_in,
+};
 use xdg_io::{Shelf, Sink, Source};
-use xdg_outcomes::{Loaded, Status, load_tree, refuse, stopped_in};
 
 /// Reads the lines of the input and prints them, or the fault line of what is refused.
 fn corpus_expanded<R: Threads + Sync, S: Source, K: Sink>(

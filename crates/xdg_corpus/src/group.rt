@@ -6,10 +6,10 @@ ghost use Rattle.xdg_base.specs.declared.faults.Stop.TheVariants as stops;
 ghost use Rattle.xdg_build.specs.Stocks.{IsStock};
 ghost use Rattle.xdg_corpus.specs.Groups.{AsksFor, HasLines, TakesLines};
 ghost use Rattle.xdg_corpus.specs.Texts.{CanSearch};
-ghost use Rattle.xdg_entries.specs.Entries.{IsRightLexicon};
-ghost use Rattle.xdg_grammar.specs.Answers.{meaning_of};
-ghost use Rattle.xdg_grammar.specs.Packed.{IsPackedOf};
-ghost use Rattle.xdg_groups.specs.Grammars.{grammar_of};
+ghost use Rattle.xdg_packed.specs.Entries.{IsRightLexicon};
+ghost use Rattle.xdg_inputs.specs.Answers.{meaning_of};
+ghost use Rattle.xdg_inputs.specs.Packed.{IsPackedOf};
+ghost use Rattle.xdg_build.specs.Grammars.{grammar_of};
 ghost use Rattle.xdg_inputs.specs.Sentences.{StopsWords};
 
 use crate::lines::first_line;
@@ -18,9 +18,7 @@ use xdg_base::{Fault, LineColumn, OutOfMemory, Stop};
 use xdg_build::Stock;
 use xdg_command::CorpusOptions;
 use xdg_engine::{AnyProp, props};
-use xdg_grammar::Expanded;
-use xdg_inputs::problem_from;
-use xdg_outcomes::{Refusal, stopped_in};
+use xdg_inputs::{Expanded, Refusal, problem_from, stopped_in};
 use xdg_packed::Packed;
 use xdg_split::Job;
 

@@ -4,15 +4,15 @@ ghost use Rattle.std.specs.Prelude.{◌≡◌, ◌≢◌, ◌≤◌, ℕ, List, 
 ghost use Rattle.xdg_corpus.specs.Inputs.{HasText, IsBadCorpus};
 ghost use Rattle.xdg_io.specs.Left.{TakesAll};
 ghost use Rattle.xdg_io.specs.Rose.{Rose};
-ghost use Rattle.xdg_outcomes.specs.Places.{fault, place_in};
-ghost use Rattle.xdg_outcomes.specs.Refusals.{Stops};
-ghost use Rattle.xdg_outcomes.specs.Stages.{Accepts};
+ghost use Rattle.xdg_inputs.specs.Places.{fault, place_in};
+ghost use Rattle.xdg_inputs.specs.Refusals.{Stops};
+ghost use Rattle.xdg_inputs.specs.Stages.{Accepts};
 
 use std::alloc::Global;
 use std::str;
 use xdg_base::{Cause, Fault};
+use xdg_inputs::{Refusal, refused_in, too_long};
 use xdg_io::{ReadStop, Source, read_all};
-use xdg_outcomes::{Refusal, refused_in, too_long};
 
 /// How many bytes the input of a corpus may have.
 const CORPUS_LIMIT: u64 = 4_194_304;

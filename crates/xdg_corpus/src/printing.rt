@@ -4,10 +4,10 @@ ghost use Rattle.std.specs.Prelude.{◌≡◌, ◌≢◌, ◌≤◌, ◌⊎◌, 
 ghost use Rattle.xdg_build.specs.Stocks.{IsStock};
 ghost use Rattle.xdg_corpus.specs.Outcomes.{AreSearched};
 ghost use Rattle.xdg_corpus.specs.Texts.{CanSearch};
-ghost use Rattle.xdg_entries.specs.Entries.{IsRightLexicon};
-ghost use Rattle.xdg_grammar.specs.Answers.{meaning_of};
-ghost use Rattle.xdg_grammar.specs.Packed.{IsPackedOf};
-ghost use Rattle.xdg_groups.specs.Grammars.{grammar_of};
+ghost use Rattle.xdg_packed.specs.Entries.{IsRightLexicon};
+ghost use Rattle.xdg_inputs.specs.Answers.{meaning_of};
+ghost use Rattle.xdg_inputs.specs.Packed.{IsPackedOf};
+ghost use Rattle.xdg_build.specs.Grammars.{grammar_of};
 ghost use Rattle.xdg_io.specs.Rose.{Rose};
 ghost use Rattle.xdg_corpus.specs.Runs.{LeavesPart};
 
@@ -18,9 +18,8 @@ use std::alloc::{AllocError, Global};
 use std::thread::Threads;
 use xdg_build::Stock;
 use xdg_command::CorpusOptions;
-use xdg_grammar::Expanded;
+use xdg_inputs::{Expanded, Status};
 use xdg_io::Sink;
-use xdg_outcomes::Status;
 use xdg_packed::Packed;
 use xdg_split::answers;
 

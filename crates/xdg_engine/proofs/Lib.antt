@@ -1,1 +1,10 @@
+pub mod Leasts
+pub mod OutCounted
+pub mod Summed
+pub mod Freed
+pub mod Bounded
+pub mod BoundNamed
+pub mod BoundStepping
+pub mod Swept
+pub mod Totals
 pub mod Ordering

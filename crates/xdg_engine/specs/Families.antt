@@ -4,9 +4,9 @@ use Rattle.xdg_pgraph.specs.Family as graph
 use Rattle.xdg_porder.specs.Family as order
 use Rattle.xdg_pagree.specs.Family as agree
 use Rattle.xdg_pmulti.specs.Family as multi
-use Rattle.xdg_linking.specs.Family as link
+use Rattle.xdg_plink.specs.Family as link
 use Rattle.xdg_formula_value.specs.Standing as rule
-use Rattle.xdg_pcost.specs.Bounding.{IsBound}
+use Rattle.xdg_engine.specs.Bounding.{IsBound}
 use Rattle.xdg_engine.specs.declared.family.Family.{Family}
 use Rattle.xdg_engine.specs.declared.family.Family.TheVariants as families
 

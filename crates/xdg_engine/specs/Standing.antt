@@ -7,7 +7,7 @@ use Rattle.xdg_pagree.specs.Standing as agree
 use Rattle.xdg_pmulti.specs.Standing as multi
 use Rattle.xdg_plink.specs.Standing as link
 use Rattle.xdg_formula_value.specs.Standing as rule
-use Rattle.xdg_pcost.specs.Bounding.{bound_stands}
+use Rattle.xdg_engine.specs.Bounding.{bound_stands}
 use Rattle.xdg_engine.specs.declared.any_prop.AnyProp.{AnyProp}
 use Rattle.xdg_engine.specs.declared.any_prop.AnyProp.TheVariants as any
 

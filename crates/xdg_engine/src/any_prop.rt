@@ -7,13 +7,13 @@ ghost use Rattle.xdg_pagree.specs.contracts.agree_prop.AgreePropPropagator.TheIm
 ghost use Rattle.xdg_pmulti.specs.contracts.multi_prop.MultiPropPropagator.TheImpl.Laws as multi;
 ghost use Rattle.xdg_plink.specs.contracts.link_prop.LinkPropPropagator.TheImpl.Laws as link;
 ghost use Rattle.xdg_formula_value.specs.contracts.rule_prop.RulePropPropagator.TheImpl.Laws as rule;
-ghost use Rattle.xdg_pcost.specs.contracts.cost_prop.CostPropPropagator.TheImpl.Laws as cost;
+ghost use Rattle.xdg_engine.specs.contracts.cost_prop.CostPropPropagator.TheImpl.Laws as cost;
 ghost use Rattle.xdg_engine.specs.Standing.{stands_for};
 ghost use Rattle.xdg_engine.specs.declared.any_prop.AnyProp.TheVariants as any;
 
+use crate::cost_prop::CostProp;
 use xdg_formula_value::RuleProp;
 use xdg_pagree::AgreeProp;
-use xdg_pcost::CostProp;
 use xdg_pgraph::GraphProp;
 use xdg_plink::LinkProp;
 use xdg_pmulti::MultiProp;

@@ -6,12 +6,12 @@ ghost use Rattle.xdg_engine.specs.Families.{Holds};
 ghost use Rattle.xdg_engine.specs.Standing.{AreInOrder, stands_for};
 
 use crate::any_prop::AnyProp;
+use crate::cost_prop::CostProp;
 use crate::family::{Family, family_of};
 use std::alloc::Global;
 use xdg_base::{List, OutOfMemory};
 use xdg_formula_value::RuleProp;
 use xdg_pagree::AgreeProp;
-use xdg_pcost::CostProp;
 use xdg_pgraph::GraphProp;
 use xdg_plink::LinkProp;
 use xdg_pmulti::MultiProp;

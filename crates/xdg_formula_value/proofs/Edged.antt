@@ -7,10 +7,10 @@ use Rattle.xdg_problem.specs.Paths.{IsDaughterBy}
 use Rattle.xdg_problem.specs.Places.{edge}
 use Rattle.xdg_problem.specs.Vectors.{shape}
 use Rattle.xdg_problem.proofs.PlaceOrder.{is_place, place_is}
-use Rattle.xdg_reach.specs.declared.which.Which.{Which}
-use Rattle.xdg_reach.specs.Edges.{edges_of, edge_labels}
-use Rattle.xdg_reach.proofs.Edges.{which_exact, stands_by}
-use Rattle.xdg_reach.proofs.Labelled.{label_below}
+use Rattle.xdg_graph.specs.declared.which.Which.{Which}
+use Rattle.xdg_graph.specs.Edges.{edges_of, edge_labels}
+use Rattle.xdg_graph.proofs.Edges.{which_exact, stands_by}
+use Rattle.xdg_graph.proofs.Labelled.{label_below}
 
 module _ (which : Which) (parts : Parts) (box : List (List Bool)) (dim u l v : ℕ) (is : IsBox (shape parts) box) where
   pub by_is_edge : IsDaughterBy (edges_of which parts box dim) u l v ↔ Contains (edges_of which parts box dim) (edge dim u l v)

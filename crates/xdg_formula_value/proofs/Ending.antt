@@ -8,7 +8,7 @@ use Rattle.xdg_store.specs.InRange.{HasValue}
 use Rattle.xdg_store.specs.Layout.{attr_row}
 use Rattle.xdg_store.specs.States.{State, Known}
 use Rattle.xdg_store.proofs.Located.{attr_located}
-use Rattle.xdg_uses.proofs.Remaining.{below_size}
+use Rattle.xdg_graph.proofs.Remaining.{below_size}
 
 -- a value that remains is one of the attribute's
 pub value_end : (s : State) (problem shown : Parts) (node dim attr value v count other : ℕ) → Known s → HasValue s.parts node dim attr value → shown ≡ problem → problem ≡ s.parts → count ≡ value_count shown dim attr → count ≤ other → Has s.now (attr_decision s.parts dim node attr) v → v < other

@@ -11,8 +11,8 @@ use Rattle.xdg_problem.specs.Paths.{Above, IsDaughterBy}
 use Rattle.xdg_problem.specs.Places.{nodes}
 use Rattle.xdg_problem.specs.Truths.{bound}
 use Rattle.xdg_problem.specs.Vectors.{shape}
-use Rattle.xdg_reach.specs.declared.which.Which.{Which}
-use Rattle.xdg_reach.specs.Edges.{edges_of, edge_labels}
+use Rattle.xdg_graph.specs.declared.which.Which.{Which}
+use Rattle.xdg_graph.specs.Edges.{edges_of, edge_labels}
 use Rattle.xdg_formula_value.specs.Pairs.{Along, IsPairOf, Relates}
 use Rattle.xdg_formula_value.specs.Rows.{IsRow}
 use Rattle.xdg_formula_value.specs.declared.pair.Pair.{Pair}

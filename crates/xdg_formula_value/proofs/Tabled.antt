@@ -6,8 +6,8 @@ use Rattle.std.proofs.lemmas.List.{get_or-set_same, get_or-set_other}
 use Rattle.xdg_judge.specs.Links.{In}
 use Rattle.xdg_nodeset.specs.Nodes.{has}
 use Rattle.xdg_problem.specs.Paths.{Above}
-use Rattle.xdg_reach.specs.declared.which.Which.{Which}
-use Rattle.xdg_reach.specs.Edges.{edges_of}
+use Rattle.xdg_graph.specs.declared.which.Which.{Which}
+use Rattle.xdg_graph.specs.Edges.{edges_of}
 use Rattle.xdg_store.specs.States.{State}
 use Rattle.xdg_formula_value.specs.Filling.{TellsPaths}
 use Rattle.xdg_formula_value.specs.Pairs.{Along}

@@ -3,9 +3,9 @@ use Rattle.std.specs.Prelude.{◌≡◌, ◌↔◌, ℕ, ◌<◌, ◌≤◌, Boo
 use Rattle.xdg_judge.specs.Links.{In}
 use Rattle.xdg_problem.specs.Paths.{Above}
 use Rattle.xdg_problem.specs.Places.{nodes}
-use Rattle.xdg_reach.specs.declared.which.Which.{Which}
-use Rattle.xdg_reach.specs.declared.which.Which.TheVariants as whichs
-use Rattle.xdg_reach.specs.Edges.{edges_of}
+use Rattle.xdg_graph.specs.declared.which.Which.{Which}
+use Rattle.xdg_graph.specs.declared.which.Which.TheVariants as whichs
+use Rattle.xdg_graph.specs.Edges.{edges_of}
 use Rattle.xdg_store.specs.States.{State}
 use Rattle.xdg_formula_value.specs.Pairs.{Along}
 use Rattle.xdg_formula_value.specs.Rows.{IsEvery}

@@ -4,9 +4,9 @@ use Rattle.xdg_problem.specs.declared.parts.Parts.{Parts}
 use Rattle.xdg_problem.specs.Arguments.{label_count}
 use Rattle.xdg_problem.specs.Paths.{Above}
 use Rattle.xdg_problem.specs.Places.{edge}
-use Rattle.xdg_reach.specs.declared.which.Which.{Which}
-use Rattle.xdg_reach.specs.declared.which.Which.TheVariants as whichs
-use Rattle.xdg_reach.specs.Edges.{edges_of}
+use Rattle.xdg_graph.specs.declared.which.Which.{Which}
+use Rattle.xdg_graph.specs.declared.which.Which.TheVariants as whichs
+use Rattle.xdg_graph.specs.Edges.{edges_of}
 use Rattle.xdg_formula_value.specs.declared.pair.Pair.{Pair}
 use Rattle.xdg_formula_value.specs.declared.pair.Pair.TheVariants as pairs
 use Rattle.xdg_formula_value.specs.declared.way.Way.{Way}

@@ -17,11 +17,10 @@ ghost use Rattle.xdg_formula_value.specs.Rows.{AreFirst, IsRowOn, stands};
 use crate::binding::node_of;
 use crate::rows::{constant, kept};
 use xdg_base::{AttrId, DimId, List, NodeId};
+use xdg_graph::{entry_count, node_count};
 use xdg_nodeset::NodeSet;
 use xdg_problem::Parts;
-use xdg_reach::node_count;
 use xdg_store::Store;
-use xdg_uses::entry_count;
 
 /// How many values an attribute has.
 fn value_count(parts: &Parts, dim: DimId, attr: AttrId) -> u16

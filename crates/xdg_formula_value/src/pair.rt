@@ -14,8 +14,8 @@ use crate::paths::{Paths, far};
 use crate::rows::{constant, kept, opposite, told, up_to};
 use crate::way::Way;
 use xdg_base::{DimId, LabelId, NodeId};
+use xdg_graph::{Which, daughters_by, labels_of, mothers_by, node_count};
 use xdg_nodeset::NodeSet;
-use xdg_reach::{Which, daughters_by, labels_of, mothers_by, node_count};
 use xdg_store::Store;
 
 /// What may hold of two nodes.

@@ -5,7 +5,7 @@ ghost use Rattle.xdg_judge.specs.Links.{In};
 ghost use Rattle.xdg_nodeset.specs.Nodes.{has};
 ghost use Rattle.xdg_problem.specs.Places.{nodes};
 ghost use Rattle.xdg_problem.specs.Paths.{Above};
-ghost use Rattle.xdg_reach.specs.Edges.{edges_of};
+ghost use Rattle.xdg_graph.specs.Edges.{edges_of};
 ghost use Rattle.xdg_store.specs.States.{Known};
 ghost use Rattle.xdg_formula_value.specs.Filling.{AreFilled, ArePaths, TellsPaths};
 ghost use Rattle.xdg_formula_value.specs.Pairs.{Along};
@@ -13,9 +13,9 @@ ghost use Rattle.xdg_formula_value.specs.Rows.{IsEvery, Over};
 
 use crate::way::Way;
 use xdg_base::{DimId, NodeId};
+use xdg_graph::{Which, above, ancestors, node_count, set_at};
 use xdg_nodeset::NodeSet;
 use xdg_problem::Formula;
-use xdg_reach::{Which, above, ancestors, node_count, set_at};
 use xdg_store::Store;
 
 /// For some dimensions tables of the nodes to which paths lead from each node, one way.

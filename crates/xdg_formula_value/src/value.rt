@@ -17,9 +17,9 @@ use crate::paths::Paths;
 use crate::possible::{possible_row, possible_second};
 use crate::rows::{constant, joined, joined_truths, kept, still_open};
 use xdg_base::NodeId;
+use xdg_graph::node_count;
 use xdg_nodeset::NodeSet;
 use xdg_problem::Formula;
-use xdg_reach::node_count;
 use xdg_store::Store;
 
 /// Of some nodes, those for which a name has to stand so that the box makes a formula true, or false.

@@ -8,11 +8,11 @@ use Rattle.xdg_base.specs.declared.faults.Stop.TheVariants as stops
 use Rattle.xdg_build.specs.Compiled.{compiled}
 use Rattle.xdg_build.specs.Refusals.{refusal, IsRefused}
 use Rattle.xdg_build.specs.Solutions.{KeepsSolutions}
-use Rattle.xdg_fitting.specs.Fits as fitting
-use Rattle.xdg_grammar.specs.Answers.{meaning_of}
-use Rattle.xdg_grammar.specs.Packed.{IsPackedOf}
-use Rattle.xdg_grammar.specs.declared.expanding.Expanded.{Expanded}
-use Rattle.xdg_groups.specs.Grammars.{Grammar, grammar_of}
+use Rattle.xdg_reading.specs.Fits as fitting
+use Rattle.xdg_inputs.specs.Answers.{meaning_of}
+use Rattle.xdg_inputs.specs.Packed.{IsPackedOf}
+use Rattle.xdg_inputs.specs.declared.expanding.Expanded.{Expanded}
+use Rattle.xdg_build.specs.Grammars.{Grammar, grammar_of}
 use Rattle.xdg_io.specs.Files.{HasFile}
 use Rattle.xdg_packed.specs.Lexicon.{Lexicon}
 use Rattle.xdg_problem.specs.declared.analysis.Analysis.{Analysis}
@@ -21,15 +21,15 @@ use Rattle.xdg_problem.specs.declared.parts.SentenceWord.{SentenceWord}
 use Rattle.xdg_reading.specs.Texts as reading
 use Rattle.xdg_reading.specs.declared.texts.AnalysisText.{AnalysisText}
 use Rattle.xdg_inputs.specs.Analyses.{Analysed, HasAnalysis, HasBadAnalysis, IsNoAnalysis, too_long, unreadable, unknown_word, unfit, analysis_limit}
-use Rattle.xdg_outcomes.specs.Grammars.{with_words}
+use Rattle.xdg_inputs.specs.Grammars.{with_words}
 use Rattle.xdg_inputs.specs.Judging.{IsJudged, IsNotJudged, no_memory, word_unknown, not_fit, analysed_of, of_words}
-use Rattle.xdg_outcomes.specs.Places.{fault}
-use Rattle.xdg_outcomes.specs.Refusals.{RejectsAt, Stops, refusal_of}
-use Rattle.xdg_outcomes.specs.Stages.{Accepts, Rejects}
+use Rattle.xdg_inputs.specs.Places.{fault}
+use Rattle.xdg_inputs.specs.Refusals.{RejectsAt, Stops, refusal_of}
+use Rattle.xdg_inputs.specs.Stages.{Accepts, Rejects}
 use Rattle.xdg_inputs.specs.declared.analysis.Judgeable.{Judgeable}
-use Rattle.xdg_outcomes.specs.declared.refusals.Refusal.{Refusal}
+use Rattle.xdg_inputs.specs.declared.refusals.Refusal.{Refusal}
 use Rattle.xdg_inputs.proofs.Wording.{grammar_is}
-use Rattle.xdg_outcomes.proofs.Trees.{first_byte, same_text, told_file}
+use Rattle.xdg_inputs.proofs.Trees.{first_byte, same_text, told_file}
 
 -- what `read` says of its answer, and what `fit` says of its own
 abbrev pub OneReading : List ℕ → Result AnalysisText Fault → Type 0

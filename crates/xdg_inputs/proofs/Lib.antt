@@ -1,3 +1,16 @@
+mod ClassCount
+mod OneMeaning
+mod OneTree
+mod PackedWords
+pub mod Leaving
+pub mod Trees
+pub mod Meaning
+pub mod Writing
 pub mod Wording
 pub mod Sentencing
 pub mod Analysing
+pub mod Telling
+pub mod RulesLoaded
+pub mod Given
+pub mod Ruling
+pub mod Following

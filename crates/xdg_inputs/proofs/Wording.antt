@@ -7,16 +7,16 @@ use Rattle.xdg_base.specs.declared.faults.Stop.TheVariants as stops
 use Rattle.xdg_build.specs.Compiled.{compiled}
 use Rattle.xdg_build.specs.Refusals.{refusal, IsRefused}
 use Rattle.xdg_build.specs.Solutions.{KeepsSolutions}
-use Rattle.xdg_entries.specs.Entries.{IsWordPlace}
-use Rattle.xdg_grammar.specs.Answers.{meaning_of}
-use Rattle.xdg_grammar.specs.Packed.{IsPackedOf}
-use Rattle.xdg_grammar.specs.declared.expanding.Expanded.{Expanded}
-use Rattle.xdg_groups.specs.Grammars.{Grammar, grammar_of}
+use Rattle.xdg_packed.specs.Entries.{IsWordPlace}
+use Rattle.xdg_inputs.specs.Answers.{meaning_of}
+use Rattle.xdg_inputs.specs.Packed.{IsPackedOf}
+use Rattle.xdg_inputs.specs.declared.expanding.Expanded.{Expanded}
+use Rattle.xdg_build.specs.Grammars.{Grammar, grammar_of}
 use Rattle.xdg_packed.specs.Lexicon.{Lexicon}
 use Rattle.xdg_problem.specs.declared.parts.Parts.{Parts}
 use Rattle.xdg_problem.specs.declared.parts.SentenceWord.{SentenceWord}
-use Rattle.xdg_words.specs.Segments.{words_in}
-use Rattle.xdg_outcomes.specs.Grammars.{with_words}
+use Rattle.xdg_linear.specs.Segments.{words_in}
+use Rattle.xdg_inputs.specs.Grammars.{with_words}
 use Rattle.xdg_inputs.specs.Made.{IsMade}
 use Rattle.xdg_inputs.specs.Sentences.{IsBadWords, HasWords, AcceptsWords, RejectsWords, StopsWords}
 

@@ -1,7 +1,7 @@
 -- Problems that a grammar makes of words.
 use Rattle.std.specs.Prelude.{◌≡◌, List}
 use Rattle.xdg_build.specs.Compiled.{compiled}
-use Rattle.xdg_groups.specs.Grammars.{Grammar}
+use Rattle.xdg_build.specs.Grammars.{Grammar}
 use Rattle.xdg_problem.specs.declared.parts.Parts.{Parts}
 use Rattle.xdg_problem.specs.declared.parts.SentenceWord.{SentenceWord}
 

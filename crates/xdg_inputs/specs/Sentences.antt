@@ -6,15 +6,15 @@ use Rattle.xdg_base.specs.declared.faults.Fault.{Fault}
 use Rattle.xdg_base.specs.declared.faults.Stop.{Stop}
 use Rattle.xdg_base.specs.declared.faults.Stop.TheVariants as stops
 use Rattle.xdg_problem.specs.declared.parts.Parts.{Parts}
-use Rattle.xdg_words.specs.Segments.{words_in}
-use Rattle.xdg_entries.specs.Entries.{IsWordPlace}
-use Rattle.xdg_groups.specs.Grammars.{Grammar}
+use Rattle.xdg_linear.specs.Segments.{words_in}
+use Rattle.xdg_packed.specs.Entries.{IsWordPlace}
+use Rattle.xdg_build.specs.Grammars.{Grammar}
 use Rattle.xdg_build.specs.Compiled.{compiled}
 use Rattle.xdg_build.specs.Refusals.{refusal}
 use Rattle.xdg_build.specs.Solutions.{KeepsSolutions}
-use Rattle.xdg_grammar.specs.Meanings.{Meaning}
-use Rattle.xdg_outcomes.specs.Grammars.{with_words}
-use Rattle.xdg_outcomes.specs.Places.{fault}
+use Rattle.xdg_inputs.specs.Meanings.{Meaning}
+use Rattle.xdg_inputs.specs.Grammars.{with_words}
+use Rattle.xdg_inputs.specs.Places.{fault}
 
 -- ---- the words of a text, however long that is
 

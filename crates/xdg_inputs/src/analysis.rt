@@ -1,28 +1,27 @@
 //! Analysis files.
 
 ghost use Rattle.std.specs.Prelude.{◌≡◌, ◌≢◌, ◌≤◌, ℕ, List, Option, Some, length, IfErr, IfOk, MatchResult};
-ghost use Rattle.xdg_entries.specs.Entries.{IsRightLexicon};
-ghost use Rattle.xdg_grammar.specs.Answers.{meaning_of};
-ghost use Rattle.xdg_grammar.specs.Packed.{IsPackedOf};
-ghost use Rattle.xdg_groups.specs.Grammars.{grammar_of};
+ghost use Rattle.xdg_packed.specs.Entries.{IsRightLexicon};
+ghost use Rattle.xdg_inputs.specs.Answers.{meaning_of};
+ghost use Rattle.xdg_inputs.specs.Packed.{IsPackedOf};
+ghost use Rattle.xdg_build.specs.Grammars.{grammar_of};
 ghost use Rattle.xdg_inputs.specs.Analyses.{Analysed, HasAnalysis, HasBadAnalysis};
 ghost use Rattle.xdg_inputs.specs.Judging.{IsJudged, IsNotJudged, analysed_of, of_words};
 ghost use Rattle.xdg_inputs.specs.Made.{IsMade};
 ghost use Rattle.xdg_io.specs.Rose.{Rose};
-ghost use Rattle.xdg_outcomes.specs.Refusals.{Stops};
-ghost use Rattle.xdg_outcomes.specs.Stages.{Accepts};
+ghost use Rattle.xdg_inputs.specs.Refusals.{Stops};
+ghost use Rattle.xdg_inputs.specs.Stages.{Accepts};
 ghost use Rattle.xdg_problem.specs.Analyses.{IsAnalysis};
 
+use crate::expanding::Expanded;
+use crate::refusals::{Refusal, stopped_in, too_long};
 use std::alloc::{AllocError, Global};
 use xdg_base::{Cause, Fault, List, Stop};
 use xdg_build::build;
-use xdg_fitting::fit;
-use xdg_grammar::Expanded;
 use xdg_io::{LoadStop, Shelf};
-use xdg_outcomes::{Refusal, stopped_in, too_long};
 use xdg_packed::Packed;
 use xdg_problem::{Analysis, Problem, SentenceWord};
-use xdg_reading::{AnalysisText, read};
+use xdg_reading::{AnalysisText, fit, read};
 
 /// How many bytes the file of an analysis may have.
 const ANALYSIS_LIMIT: u64 = 4_294_967_295;

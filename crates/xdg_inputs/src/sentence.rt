@@ -1,25 +1,25 @@
 //! The sentence that the input gives.
 
 ghost use Rattle.std.specs.Prelude.{◌≡◌, ◌≢◌, ◌≤◌, ℕ, List, [], Some, length, IfErr, IfOk, MatchResult};
-ghost use Rattle.xdg_entries.specs.Entries.{IsRightLexicon};
-ghost use Rattle.xdg_grammar.specs.Answers.{meaning_of};
-ghost use Rattle.xdg_grammar.specs.Packed.{IsPackedOf};
-ghost use Rattle.xdg_groups.specs.Grammars.{grammar_of};
+ghost use Rattle.xdg_packed.specs.Entries.{IsRightLexicon};
+ghost use Rattle.xdg_inputs.specs.Answers.{meaning_of};
+ghost use Rattle.xdg_inputs.specs.Packed.{IsPackedOf};
+ghost use Rattle.xdg_build.specs.Grammars.{grammar_of};
 ghost use Rattle.xdg_inputs.specs.Made.{IsMade};
 ghost use Rattle.xdg_inputs.specs.Sentences.{HasProblem, IsBadSentence};
 ghost use Rattle.xdg_io.specs.Rose.{Rose};
-ghost use Rattle.xdg_outcomes.specs.Places.{fault, place_in};
-ghost use Rattle.xdg_outcomes.specs.Refusals.{Stops};
-ghost use Rattle.xdg_outcomes.specs.Stages.{Accepts};
+ghost use Rattle.xdg_inputs.specs.Places.{fault, place_in};
+ghost use Rattle.xdg_inputs.specs.Refusals.{Stops};
+ghost use Rattle.xdg_inputs.specs.Stages.{Accepts};
 ghost use Rattle.xdg_problem.specs.declared.parts.Parts as declared;
 
+use crate::expanding::Expanded;
+use crate::refusals::{Refusal, refused_in, stopped_in, too_long};
 use crate::words::problem_of;
 use std::alloc::Global;
 use std::str;
 use xdg_base::{Cause, Fault};
-use xdg_grammar::Expanded;
 use xdg_io::{ReadStop, Source, read_all};
-use xdg_outcomes::{Refusal, refused_in, stopped_in, too_long};
 use xdg_packed::Packed;
 use xdg_problem::Problem;
 

@@ -4,20 +4,20 @@ ghost use Rattle.std.specs.Prelude.{◌≡◌, ◌<◌, ◌^◌, length, IfErr, 
 ghost use Rattle.xdg_base.specs.declared.faults.Fault.{Fault};
 ghost use Rattle.xdg_base.specs.declared.faults.Stop.TheVariants as stops;
 ghost use Rattle.xdg_build.specs.Stocks.{IsStock};
-ghost use Rattle.xdg_entries.specs.Entries.{IsRightLexicon};
-ghost use Rattle.xdg_grammar.specs.Answers.{meaning_of};
-ghost use Rattle.xdg_grammar.specs.Packed.{IsPackedOf};
-ghost use Rattle.xdg_groups.specs.Grammars.{grammar_of};
+ghost use Rattle.xdg_packed.specs.Entries.{IsRightLexicon};
+ghost use Rattle.xdg_inputs.specs.Answers.{meaning_of};
+ghost use Rattle.xdg_inputs.specs.Packed.{IsPackedOf};
+ghost use Rattle.xdg_build.specs.Grammars.{grammar_of};
 ghost use Rattle.xdg_inputs.specs.Made.{IsMade};
 ghost use Rattle.xdg_inputs.specs.Sentences.{AcceptsWords, StopsWords};
 
+use crate::expanding::Expanded;
 use std::alloc::Global;
 use xdg_base::Stop;
 use xdg_build::{Stock, build};
-use xdg_grammar::Expanded;
+use xdg_linear::words_of;
 use xdg_packed::Packed;
 use xdg_problem::Problem;
-use xdg_words::words_of;
 
 /// The problem of the words of a text, which are cut by the Unicode rules of word boundaries where that is asked for. The fault of a
 /// text that is refused, and its place there, are those of its words; want of memory is the other error.

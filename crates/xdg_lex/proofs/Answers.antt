@@ -7,7 +7,7 @@ use Rattle.xdg_base.specs.declared.faults.Fault.{Fault}
 use Rattle.xdg_base.specs.declared.faults.Cause.TheVariants as causes
 use Rattle.xdg_base.specs.declared.faults.Stop.{Stop}
 use Rattle.xdg_base.specs.declared.faults.Stop.TheVariants as stops
-use Rattle.xdg_lex.specs.declared.token.Token.{Token}
+use Rattle.xdg_ast.specs.declared.token.Token.{Token}
 use Rattle.xdg_lex.specs.Pieces.{refusal}
 use Rattle.xdg_lex.specs.Lexed.{Lexed, lexed, lexed_characters, Gives}
 use Rattle.xdg_lex.specs.Offends.{IsRefused, no_text, no_tokens, IsAnswer, Tells}

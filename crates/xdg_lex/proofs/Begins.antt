@@ -3,10 +3,10 @@ use Rattle.std.proofs.Common.{◌≡◌, ℕ, ◌-◌, ◌<◌, ◌≤◌, ◌==
 use Rattle.std.specs.Char.{is_whitespace, is_ascii_digit}
 use Rattle.std.proofs.lemmas.Bool.{cond_both, cond-true, cond-false, eqb-true}
 use Rattle.xdg_base.specs.declared.faults.Cause.TheVariants as causes
-use Rattle.xdg_lex.specs.declared.token.Kind.{Kind}
-use Rattle.xdg_lex.specs.declared.token.Kind.TheVariants as kinds
+use Rattle.xdg_ast.specs.declared.token.Kind.{Kind}
+use Rattle.xdg_ast.specs.declared.token.Kind.TheVariants as kinds
 use Rattle.xdg_lex.specs.declared.pieces.Mode.TheVariants as in_
-use Rattle.xdg_lex.specs.Kinds.{begins_name, sign_of}
+use Rattle.xdg_ast.specs.Kinds.{begins_name, sign_of}
 use Rattle.xdg_lex.specs.Pieces.{begins, sign_begins, refusal, inside}
 use Rattle.xdg_lex.specs.Offends.{BeginsNothing}
 

@@ -7,15 +7,16 @@ use Rattle.std.proofs.lemmas.Bool.{cond-true, cond-false, le-leb, lt-leb, falseâ
 use Rattle.std.proofs.lemmas.Str.{length-encode}
 use Rattle.xdg_base.specs.declared.faults.Fault.{Fault}
 use Rattle.xdg_base.specs.declared.faults.Cause.TheVariants as causes
-use Rattle.xdg_lex.specs.declared.token.Kind.{Kind}
-use Rattle.xdg_lex.specs.declared.token.Kind.TheVariants as kinds
+use Rattle.xdg_ast.specs.declared.token.Kind.{Kind}
+use Rattle.xdg_ast.specs.declared.token.Kind.TheVariants as kinds
 use Rattle.xdg_lex.specs.declared.pieces.Inside.{Inside}
 use Rattle.xdg_lex.specs.declared.pieces.Mode.{Mode}
 use Rattle.xdg_lex.specs.declared.pieces.Mode.TheVariants as in_
-use Rattle.xdg_lex.specs.Kinds.{begins_name, continues_name}
+use Rattle.xdg_ast.specs.Kinds.{begins_name, continues_name}
 use Rattle.xdg_lex.specs.Pieces.{goes_on, begins, ends, ends_quoted, escaped_rightly, refusal, too_long, inside}
-use Rattle.xdg_lex.specs.Lexed.{Lexeme, lexeme, Lexed, run, before, ended, begun, turned}
-use Rattle.xdg_lex.specs.Tokenizes.{size_of, EachPasses, IsGap, white, line, closed, IsInside, IsToken, name, number, quoted, sign, Tokenizes, finished, last_comment, gap, token, value_after, greatest_number, is_no_line_feed}
+use Rattle.xdg_lex.specs.Lexed.{Lexed, run, before, ended, begun, turned}
+use Rattle.xdg_ast.specs.Lexemes.{Lexeme, lexeme}
+use Rattle.xdg_ast.specs.Tokenizes.{size_of, EachPasses, IsGap, white, line, closed, IsInside, IsToken, name, number, quoted, sign, Tokenizes, finished, last_comment, gap, token, value_after, greatest_number, is_no_line_feed}
 use Rattle.xdg_lex.specs.Offends.{IsOffence, no_token, no_comment, great_number, open_text, open_escape, open_comment, long_name, long_text, stray_backslash, Offends, here, past_gap, past_token}
 use Rattle.xdg_lex.proofs.Steps.{run-cons}
 use Rattle.xdg_lex.proofs.Signs.{sign_refined}

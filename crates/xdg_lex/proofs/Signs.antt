@@ -1,8 +1,8 @@
 -- A sign is never a name.
 use Rattle.std.proofs.Common.{◌≡◌, ℕ, ◌==◌, Option, Some, None, List, refl, subst}
 use Rattle.std.proofs.lemmas.Bool.{cond_both}
-use Rattle.xdg_lex.specs.declared.token.Kind.{Kind}
-use Rattle.xdg_lex.specs.Kinds.{sign_of, refined}
+use Rattle.xdg_ast.specs.declared.token.Kind.{Kind}
+use Rattle.xdg_ast.specs.Kinds.{sign_of, refined}
 
 abbrev IsNoName : Option Kind → Type 0
 IsNoName None = Unit {0}

@@ -7,16 +7,17 @@ use Rattle.std.proofs.lemmas.Bool.{cond_both, leb-true, leb-false}
 use Rattle.std.proofs.lemmas.Str.{encodes-append}
 use Rattle.xdg_base.specs.declared.faults.Fault.{Fault}
 use Rattle.xdg_base.specs.declared.faults.Cause.TheVariants as causes
-use Rattle.xdg_lex.specs.declared.token.Kind.{Kind}
-use Rattle.xdg_lex.specs.declared.token.Kind.TheVariants as kinds
+use Rattle.xdg_ast.specs.declared.token.Kind.{Kind}
+use Rattle.xdg_ast.specs.declared.token.Kind.TheVariants as kinds
 use Rattle.xdg_lex.specs.declared.pieces.Mode.{Mode}
 use Rattle.xdg_lex.specs.declared.pieces.Mode.TheVariants as in_
 use Rattle.xdg_lex.specs.declared.pieces.Turn.{Turn}
 use Rattle.xdg_lex.specs.declared.pieces.Turn.TheVariants as turns
-use Rattle.xdg_lex.specs.Kinds.{refined}
+use Rattle.xdg_ast.specs.Kinds.{refined}
 use Rattle.xdg_lex.specs.Pieces.{goes_on, begins, ends, ends_quoted, escaped_rightly, refusal, too_long, inside}
-use Rattle.xdg_lex.specs.Lexed.{lexeme, Lexed, run, lexed_characters, before, ended, begun, turned}
-use Rattle.xdg_lex.specs.Tokenizes.{size_of, HasNoClose, IsGap, IsInside, IsToken, name, number, quoted, sign, Tokenizes, finished, last_comment, gap, token}
+use Rattle.xdg_lex.specs.Lexed.{Lexed, run, lexed_characters, before, ended, begun, turned}
+use Rattle.xdg_ast.specs.Lexemes.{lexeme}
+use Rattle.xdg_ast.specs.Tokenizes.{size_of, HasNoClose, IsGap, IsInside, IsToken, name, number, quoted, sign, Tokenizes, finished, last_comment, gap, token}
 use Rattle.xdg_lex.specs.Offends.{IsOffence, no_comment, open_text, open_escape, open_comment, long_name, long_text, stray_backslash, Offends, here, past_gap, past_token}
 use Rattle.xdg_lex.proofs.Steps.{run-nil, run-cons}
 use Rattle.xdg_lex.proofs.Pending.{Pending, at_start, in_gap, in_name, in_number, in_quoted, in_escape, in_closed, in_sign, in_line, in_slash, in_comment, in_star, EndsBefore, Turns, turns_rightly, Begins, begins_rightly}

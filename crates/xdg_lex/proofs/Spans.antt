@@ -7,11 +7,11 @@ use Rattle.std.specs.Str.{chars, encode_utf8_all}
 use Rattle.std.proofs.lemmas.Str.{encodes-append, encodes-chars, length-encode, len_utf8_bounds}
 use Rattle.std.proofs.Math.Seq.{drop-append_seam, take-append_seam}
 use Rattle.xdg_base.specs.declared.faults.Stop.{Stop}
-use Rattle.xdg_lex.specs.declared.token.Kind.{Kind}
-use Rattle.xdg_lex.specs.declared.token.Token.{Token}
-use Rattle.xdg_lex.specs.Lexed.{Lexeme, lexemes_of}
+use Rattle.xdg_ast.specs.declared.token.Kind.{Kind}
+use Rattle.xdg_ast.specs.declared.token.Token.{Token}
+use Rattle.xdg_ast.specs.Lexemes.{Lexeme, lexemes_of}
 use Rattle.xdg_lex.specs.Spans.{StandFrom}
-use Rattle.xdg_lex.specs.Tokenizes.{size_of, IsToken, name, number, quoted, sign, Tokenizes, finished, last_comment, gap, token}
+use Rattle.xdg_ast.specs.Tokenizes.{size_of, IsToken, name, number, quoted, sign, Tokenizes, finished, last_comment, gap, token}
 use Rattle.xdg_lex.specs.Offends.{Tells}
 
 slice_is : (bytes front piece behind : List ℕ) (at : ℕ) → bytes ≡ front ++ (piece ++ behind) → length front ≡ at → piece ≡ slice_range bytes at (at + length piece)

@@ -5,12 +5,13 @@ use Rattle.std.specs.Str.{chars, IsUtf8, IsCharBoundary}
 use Rattle.std.proofs.lemmas.Str.{chars-nil, chars_past_char, IsUtf8-past_char, length-encode, IsCharBoundary-at_seam}
 use Rattle.std.proofs.Math.Seq.{drop-append_seam, take-append_seam}
 use Rattle.xdg_base.specs.declared.faults.Fault.{Fault}
-use Rattle.xdg_lex.specs.declared.token.Kind.{Kind}
+use Rattle.xdg_ast.specs.declared.token.Kind.{Kind}
 use Rattle.xdg_lex.specs.declared.pieces.Mode.{Mode}
 use Rattle.xdg_lex.specs.declared.pieces.Mode.TheVariants as in_
 use Rattle.xdg_lex.specs.declared.pieces.Turn.TheVariants as turns
 use Rattle.xdg_lex.specs.Pieces.{goes_on, begins, ends, counted, counted_after}
-use Rattle.xdg_lex.specs.Lexed.{Lexeme, Lexed, run, lexed_characters, before, piece_of, ended, begun, turned}
+use Rattle.xdg_lex.specs.Lexed.{Lexed, run, lexed_characters, before, piece_of, ended, begun, turned}
+use Rattle.xdg_ast.specs.Lexemes.{Lexeme}
 use Rattle.xdg_lex.proofs.Counts.{goes_on_within, begins_within}
 
 pub before_twice : (first second : List Lexeme) (rest : Lexed) → before first (before second rest) ≡ before (first ++ second) rest

@@ -7,13 +7,14 @@ use Rattle.std.specs.Str.{chars}
 use Rattle.xdg_base.specs.declared.faults.Fault.{Fault}
 use Rattle.xdg_base.specs.declared.faults.Stop.{Stop}
 use Rattle.xdg_base.specs.declared.faults.Stop.TheVariants as stops
-use Rattle.xdg_lex.specs.declared.token.Kind.{Kind}
-use Rattle.xdg_lex.specs.declared.token.Token.{Token}
+use Rattle.xdg_ast.specs.declared.token.Kind.{Kind}
+use Rattle.xdg_ast.specs.declared.token.Token.{Token}
 use Rattle.xdg_lex.specs.declared.pieces.Mode.{Mode}
 use Rattle.xdg_lex.specs.declared.pieces.Turn.TheVariants as turns
-use Rattle.xdg_lex.specs.Kinds.{refined}
+use Rattle.xdg_ast.specs.Kinds.{refined}
 use Rattle.xdg_lex.specs.Pieces.{goes_on, begins, ends}
-use Rattle.xdg_lex.specs.Lexed.{Lexeme, lexeme, lexeme_of, lexemes_of, lexed_characters, piece_of, Gives, Adds}
+use Rattle.xdg_lex.specs.Lexed.{lexed_characters, piece_of, Gives, Adds}
+use Rattle.xdg_ast.specs.Lexemes.{Lexeme, lexeme, lexeme_of, lexemes_of}
 use Rattle.xdg_lex.proofs.Steps.{IsRead, next_read, refused_end, refused_begin, all_read, refused_last}
 
 token_is : (token : Token) (kind : Kind) (text : List ℕ) → token.kind ≡ refined kind text → token.text.now ≡ text → token.span.start + length text ≡ token.span.end → lexeme_of token ≡ lexeme (refined kind text) token.span.start text

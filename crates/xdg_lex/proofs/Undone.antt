@@ -4,7 +4,7 @@ use Rattle.std.specs.Char.{encode_utf8}
 use Rattle.std.specs.Str.{chars, IsUtf8, encode_utf8_all}
 use Rattle.std.proofs.lemmas.Bool.{cond-true, cond-false, eqb-true}
 use Rattle.std.proofs.lemmas.Str.{chars-nil, chars_past_char, IsUtf8-past_char}
-use Rattle.xdg_lex.specs.Contents.{undone, unquoted}
+use Rattle.xdg_ast.specs.Contents.{undone, unquoted}
 
 -- what was made, and what the rest of the text makes
 pub record IsUndone (text made : List ℕ) (escaped : Bool) (rest : List ℕ) : Type 0 where

@@ -7,7 +7,7 @@ use Rattle.std.proofs.lemmas.Bool.{false_from_ne_true}
 use Rattle.std.proofs.lemmas.Str.{is_utf8-from_IsUtf8, IsUtf8-from_is_utf8}
 use Rattle.xdg_base.specs.declared.faults.Cause.TheVariants as causes
 use Rattle.xdg_base.specs.declared.faults.Stop.{Stop}
-use Rattle.xdg_lex.specs.declared.token.Token.{Token}
+use Rattle.xdg_ast.specs.declared.token.Token.{Token}
 use Rattle.xdg_lex.specs.Pieces.{refusal}
 use Rattle.xdg_lex.specs.Lexed.{lexed, lexed_characters, Gives}
 

@@ -7,8 +7,8 @@ use Rattle.std.proofs.lemmas.Str.{encodes-append, encodes-chars}
 use Rattle.xdg_base.specs.declared.faults.Fault.{Fault}
 use Rattle.xdg_base.specs.declared.faults.Stop.{Stop}
 use Rattle.xdg_base.specs.declared.faults.Stop.TheVariants as stops
-use Rattle.xdg_lex.specs.declared.token.Token.{Token}
-use Rattle.xdg_lex.specs.Tokenizes.{size_of, IsInside, nothing, plain, escaped, stray}
+use Rattle.xdg_ast.specs.declared.token.Token.{Token}
+use Rattle.xdg_ast.specs.Tokenizes.{size_of, IsInside, nothing, plain, escaped, stray}
 use Rattle.xdg_lex.specs.Offends.{IsOffence, no_token, no_comment, great_number, open_text, open_escape, open_comment, long_name, long_text, stray_backslash, Offends, here, past_gap, past_token, IsRefused, no_text, no_tokens, Tells, StandsWithin}
 
 size_append : (a b : List ℕ) → size_of (a ++ b) ≡ size_of a + size_of b

@@ -1,5 +1,5 @@
 -- The tokens of a text, or the first refusal. The characters are gone through once.
-use Rattle.std.specs.Prelude.{◌≡◌, ℕ, ◌+◌, Option, Some, None, Result, Ok, Err, List, [], ◌∷◌, ◌++◌, length, map, if◌then◌else◌}
+use Rattle.std.specs.Prelude.{◌≡◌, ℕ, ◌+◌, Option, Some, None, Result, Ok, Err, List, [], ◌∷◌, ◌++◌, length, if◌then◌else◌}
 use Rattle.std.specs.Char.{encode_utf8}
 use Rattle.std.specs.Str.{chars, is_utf8}
 use Rattle.std.specs.Str.Lossy.{utf8_valid_len}
@@ -7,31 +7,15 @@ use Rattle.xdg_base.specs.declared.faults.Fault.{Fault}
 use Rattle.xdg_base.specs.declared.faults.Cause.TheVariants as causes
 use Rattle.xdg_base.specs.declared.faults.Stop.{Stop}
 use Rattle.xdg_base.specs.declared.faults.Stop.TheVariants as stops
-use Rattle.xdg_base.specs.declared.places.Span.{Span}
-use Rattle.xdg_lex.specs.declared.token.Kind.{Kind}
-use Rattle.xdg_lex.specs.declared.token.Token.{Token}
+use Rattle.xdg_ast.specs.declared.token.Kind.{Kind}
+use Rattle.xdg_ast.specs.declared.token.Token.{Token}
 use Rattle.xdg_lex.specs.declared.pieces.Mode.{Mode}
 use Rattle.xdg_lex.specs.declared.pieces.Mode.TheVariants as in_
 use Rattle.xdg_lex.specs.declared.pieces.Turn.{Turn}
 use Rattle.xdg_lex.specs.declared.pieces.Turn.TheVariants as turns
-use Rattle.xdg_lex.specs.Kinds.{refined}
+use Rattle.xdg_ast.specs.Kinds.{refined}
 use Rattle.xdg_lex.specs.Pieces.{goes_on, begins, ends, refusal}
-
--- a token with its bytes
-pub record Lexeme : Type 0 where
-  pub kind : Kind
-  pub text : List ℕ
-  pub span : Span
-
-abbrev pub lexeme_of : Token → Lexeme
-lexeme_of token = record { kind = token.kind; text = token.text.now; span = token.span }
-
-abbrev pub lexemes_of : List Token → List Lexeme
-lexemes_of = map lexeme_of
-
--- the token that stands at a place
-abbrev pub lexeme : Kind → ℕ → List ℕ → Lexeme
-lexeme kind start text = record { kind = kind; text = text; span = record { start = start; end = start + length text } }
+use Rattle.xdg_ast.specs.Lexemes.{Lexeme, lexemes_of, lexeme}
 
 -- tokens, or a refusal
 abbrev pub Lexed : Type 0

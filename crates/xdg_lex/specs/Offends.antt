@@ -6,12 +6,13 @@ use Rattle.xdg_base.specs.declared.faults.Fault.{Fault}
 use Rattle.xdg_base.specs.declared.faults.Cause.TheVariants as causes
 use Rattle.xdg_base.specs.declared.faults.Stop.{Stop}
 use Rattle.xdg_base.specs.declared.faults.Stop.TheVariants as stops
-use Rattle.xdg_lex.specs.declared.token.Kind.{Kind}
-use Rattle.xdg_lex.specs.declared.token.Token.{Token}
-use Rattle.xdg_lex.specs.Kinds.{begins_name, continues_name, sign_of}
-use Rattle.xdg_lex.specs.Lexed.{Lexed, lexemes_of}
+use Rattle.xdg_ast.specs.declared.token.Kind.{Kind}
+use Rattle.xdg_ast.specs.declared.token.Token.{Token}
+use Rattle.xdg_ast.specs.Kinds.{begins_name, continues_name, sign_of}
+use Rattle.xdg_lex.specs.Lexed.{Lexed}
+use Rattle.xdg_ast.specs.Lexemes.{lexemes_of}
 use Rattle.xdg_lex.specs.Pieces.{refusal, too_long}
-use Rattle.xdg_lex.specs.Tokenizes.{size_of, EachPasses, StopsBefore, HasNoClose, IsGap, IsInside, IsToken, Spells, value_after, greatest_number}
+use Rattle.xdg_ast.specs.Tokenizes.{size_of, EachPasses, StopsBefore, HasNoClose, IsGap, IsInside, IsToken, Spells, value_after, greatest_number}
 
 -- no white space, comment or token but a comment between `/*` and `*/` begins with this character
 pub record BeginsNothing (c : ℕ) : Type 0 where

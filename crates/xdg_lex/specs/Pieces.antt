@@ -4,14 +4,14 @@ use Rattle.std.specs.Char.{is_whitespace, is_ascii_digit, len_utf8}
 use Rattle.xdg_base.specs.declared.faults.Fault.{Fault}
 use Rattle.xdg_base.specs.declared.faults.Cause.{Cause}
 use Rattle.xdg_base.specs.declared.faults.Cause.TheVariants as causes
-use Rattle.xdg_lex.specs.declared.token.Kind.{Kind}
-use Rattle.xdg_lex.specs.declared.token.Kind.TheVariants as kinds
+use Rattle.xdg_ast.specs.declared.token.Kind.{Kind}
+use Rattle.xdg_ast.specs.declared.token.Kind.TheVariants as kinds
 use Rattle.xdg_lex.specs.declared.pieces.Inside.{Inside}
 use Rattle.xdg_lex.specs.declared.pieces.Mode.{Mode}
 use Rattle.xdg_lex.specs.declared.pieces.Mode.TheVariants as in_
 use Rattle.xdg_lex.specs.declared.pieces.Turn.{Turn}
 use Rattle.xdg_lex.specs.declared.pieces.Turn.TheVariants as turns
-use Rattle.xdg_lex.specs.Kinds.{begins_name, continues_name, sign_of}
+use Rattle.xdg_ast.specs.Kinds.{begins_name, continues_name, sign_of}
 
 -- a refusal that no limit is the cause of
 abbrev pub refusal : Cause → ℕ → Fault

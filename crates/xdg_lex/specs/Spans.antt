@@ -1,7 +1,7 @@
 -- Where tokens stand in a text.
 use Rattle.std.specs.Prelude.{◌≡◌, ℕ, ◌<◌, ◌≤◌, List, [], ◌∷◌, length}
 use Rattle.std.specs.List.{slice_range}
-use Rattle.xdg_lex.specs.Lexed.{Lexeme}
+use Rattle.xdg_ast.specs.Lexemes.{Lexeme}
 
 -- each token is the slice of the text at its span, is not empty, and ends before the next begins
 abbrev pub StandFrom : List ℕ → ℕ → List Lexeme → Type 0

@@ -2,10 +2,10 @@
 
 ghost use Rattle.std.specs.Prelude.{◌≡◌, IfOk};
 ghost use Rattle.std.specs.String.{string_bytes};
-ghost use Rattle.xdg_lex.specs.Contents.{unquoted, content_of, value_of};
+ghost use Rattle.xdg_ast.specs.Contents.{unquoted, content_of, value_of};
 
-use crate::token::{Kind, Token};
 use std::alloc::{AllocError, Global};
+use xdg_ast::{Kind, Token};
 use xdg_base::Text;
 
 /// A quoted text without its marks, its escapes undone.
@@ -42,7 +42,7 @@ pub fn content(alloc: Global, token: &Token) -> Result<Text, AllocError>
 }
 
 /// The value of a number, at most 4,294,967,295. It is of use for tokens of the kind [`Kind::Number`] alone.
-#[tactic(auto, unfolding(crate::specs::Contents::value_of))]
+#[tactic(auto, unfolding(xdg_ast::specs::Contents::value_of))]
 pub fn value(token: &Token) -> u32
     ensures { result ≡ value_of token.now.text.now }
 {

@@ -3,9 +3,9 @@
 ghost use Rattle.std.specs.Prelude.{◌≡◌, ◌≤◌, ◌+◌, ◌-◌, unwrap_or};
 ghost use Rattle.std.specs.Char.{len_utf8};
 ghost use Rattle.xdg_lex.specs.Pieces.{digit_goes_on, quoted_goes_on, escape_goes_on, line_goes_on, comment_goes_on, star_goes_on, goes_on, begins, ends, ends_quoted, refusal, counted, counted_after};
-ghost use Rattle.xdg_lex.specs.Kinds.{begins_name, continues_name};
+ghost use Rattle.xdg_ast.specs.Kinds.{begins_name, continues_name};
 
-use crate::token::{Kind, sign_of};
+use xdg_ast::{Kind, sign_of};
 use xdg_base::{Cause, Fault, Span};
 
 /// How many bytes of content a name and a quoted text may have.

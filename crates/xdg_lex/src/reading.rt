@@ -1,15 +1,16 @@
 //! The tokens of a text.
 
 ghost use Rattle.std.specs.Prelude.{◌≡◌, ◌≤◌, ◌<◌, ◌+◌, ◌-◌, ◌^◌, length, chars, IfOk, IfErr};
-ghost use Rattle.xdg_lex.specs.Lexed.{Lexed, lexemes_of, lexed, lexed_characters, Gives, Adds};
+ghost use Rattle.xdg_lex.specs.Lexed.{Lexed, lexed, lexed_characters, Gives, Adds};
+ghost use Rattle.xdg_ast.specs.Lexemes.{lexemes_of};
 ghost use Rattle.xdg_lex.specs.Spans.{StandFrom};
 ghost use Rattle.xdg_lex.specs.Offends.{Tells, IsAnswer, StandsWithin};
 ghost use Rattle.xdg_lex.specs.Pieces.{ends};
 
 use crate::pieces::{Mode, Turn, begins, ends, goes_on, refusal};
-use crate::token::{Token, refined};
 use std::alloc::Global;
 use std::str;
+use xdg_ast::{Token, refined};
 use xdg_base::{Cause, List, Span, Stop};
 
 /// Adds the token that a piece is, if it is one.

@@ -1,10 +1,10 @@
 -- Entries added one by one, without those that stand there already.
 use Rattle.std.proofs.Common.{◌≡◌, inl, inr, ℕ, zero, suc, ◌+◌, ◌<◌, ◌≤◌, length, get_or, drop, add-one, drop-cons, List, [], ◌∷◌, ◌++◌, Option, None, Some, refl, sym, ap, ap₂, ◌∙◌, subst, arith}
 use Rattle.std.proofs.lemmas.List.{drop_all}
-use Rattle.xdg_faults.specs.First.{In}
+use Rattle.xdg_names.specs.First.{In}
 use Rattle.xdg_types.specs.Table.{Table}
 use Rattle.xdg_packed.specs.Lexicon.{Entry}
-use Rattle.xdg_members.specs.Partial.{Partial}
+use Rattle.xdg_lexicon.specs.Partial.{Partial}
 use Rattle.xdg_lexicon.specs.Growing.{Puts}
 use Rattle.xdg_lexicon.specs.Lexicon.{whole, AreWhole, Adds, nothing_more, known_before, new}
 

@@ -8,16 +8,16 @@ use Rattle.xdg_base.specs.declared.faults.Stop.{Stop}
 use Rattle.xdg_base.specs.declared.faults.Stop.TheVariants as stops
 use Rattle.xdg_domain.specs.declared.types.Ty.{Ty}
 use Rattle.xdg_domain.specs.Shapes.{Shape, Among, Differ, shape, text}
-use Rattle.xdg_faults.specs.First.{In}
-use Rattle.xdg_index.specs.Texts.{has_text, place_of}
-use Rattle.xdg_index.proofs.Texts.{place_of-Some, place_of-None}
+use Rattle.xdg_names.specs.First.{In}
+use Rattle.xdg_names.specs.Texts.{has_text, place_of}
+use Rattle.xdg_names.proofs.Texts.{place_of-Some, place_of-None}
 use Rattle.xdg_types.specs.declared.table.DimType.{DimType}
 use Rattle.xdg_types.specs.Table.{Table, IsTable, ArePlaces, HasPlace, Typed, typed, firsts}
 use Rattle.xdg_packed.specs.Lexicon.{Entry, number, numbers_of, places_of, word_of}
 use Rattle.xdg_packed.proofs.WordLists.{numbers_none}
 use Rattle.xdg_check.specs.Counts.{capped}
 use Rattle.xdg_check.specs.Lex.{HasLex}
-use Rattle.xdg_entries.specs.Entries.{IsWordPlace, count_of}
+use Rattle.xdg_packed.specs.Entries.{IsWordPlace, count_of}
 use Rattle.xdg_lexicon.specs.Growing.{IsWordCount, IsFirstCrowded}
 use Rattle.xdg_lexicon.specs.Lexicon.{AreFewEach, reaching}
 use Rattle.xdg_lexicon.specs.Steps.{KeepsLimits}

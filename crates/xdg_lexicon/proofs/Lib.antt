@@ -1,3 +1,16 @@
+mod Bounded
+mod Denoted
+mod Dims
+mod Fields
+mod Followed
+mod Framed
+mod Joining
+mod Made
+mod Once
+mod OneJoin
+mod OneMeaning
+mod Settled
+mod Weighed
 pub mod Adding
 pub mod Bounds
 pub mod Counting

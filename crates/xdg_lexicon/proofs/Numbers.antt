@@ -1,9 +1,9 @@
 -- The numbers of bodies are told by the classes.
 use Rattle.std.proofs.Common.{◌≡◌, ℕ, List, [], ◌∷◌, map, refl, sym, ap, ◌∙◌, subst, inl, inr}
 use Rattle.xdg_domain.specs.Shapes.{Among}
-use Rattle.xdg_faults.specs.First.{In}
+use Rattle.xdg_names.specs.First.{In}
 use Rattle.xdg_classes.specs.Bodies.{Body, body}
-use Rattle.xdg_arguments.specs.Wants.{NamedBody}
+use Rattle.xdg_classes.specs.Wants.{NamedBody}
 use Rattle.xdg_check.specs.declared.checked.Class.{Class}
 use Rattle.xdg_check.specs.Checked.{named_body, named_bodies}
 use Rattle.xdg_check.specs.Counts.{Counting, Agrees, AreCounted, class_texts, uses, combos}

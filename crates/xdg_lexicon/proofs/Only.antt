@@ -5,13 +5,13 @@ use Rattle.xdg_base.specs.declared.faults.Cause.{Cause}
 use Rattle.xdg_base.specs.declared.faults.Cause.TheVariants as causes
 use Rattle.xdg_base.specs.declared.faults.Fault.{Fault}
 use Rattle.xdg_base.specs.declared.faults.Stop.TheVariants as stops
-use Rattle.xdg_faults.specs.First.{In}
+use Rattle.xdg_names.specs.First.{In}
 use Rattle.xdg_packed.specs.Lexicon.{Entry, word_of}
 use Rattle.xdg_classes.specs.Bodies.{Body}
 use Rattle.xdg_check.specs.Counts.{uses, combos}
-use Rattle.xdg_members.specs.Partial.{Partial}
-use Rattle.xdg_members.specs.Denotes.{Denotes}
-use Rattle.xdg_entries.specs.Entries.{IsWordPlace, count_of}
+use Rattle.xdg_lexicon.specs.Partial.{Partial}
+use Rattle.xdg_lexicon.specs.Denotes.{Denotes}
+use Rattle.xdg_packed.specs.Entries.{IsWordPlace, count_of}
 use Rattle.xdg_lexicon.specs.Sources.{Source, HasNumber}
 use Rattle.xdg_lexicon.specs.Lexicon.{whole, AreWhole, Adds, SoFar, nothing_yet, IsWithin, IsCounted, IsExpanded, Expands, ExpandsAll, no_more, one_more, IsTooMany, alone, together, IsCrowded, OffendsAt, many_uses, many_combos, unsaid, many_entries, many_of_word, Refuses, reaching}
 use Rattle.xdg_lexicon.specs.Steps.{Once, AllOnce, OnceCounted}

@@ -4,15 +4,15 @@ use Rattle.std.specs.Prelude.{bytes_eq}
 use Rattle.std.proofs.lemmas.List.{map-append, length-map, get_or-map}
 use Rattle.std.proofs.lemmas.List.Elements.{All-weaker}
 use Rattle.std.proofs.lemmas.Slice.Eq.{bytes_eq-Decides}
-use Rattle.xdg_index.specs.Texts.{has_text, AllDiffer}
-use Rattle.xdg_index.proofs.Texts.{has_text-stands, AllDiffer-append}
+use Rattle.xdg_names.specs.Texts.{has_text, AllDiffer}
+use Rattle.xdg_names.proofs.Texts.{has_text-stands, AllDiffer-append}
 use Rattle.xdg_types.specs.Table.{Table}
 use Rattle.xdg_packed.specs.Lexicon.{Entry, Stands, word_of}
 use Rattle.xdg_packed.specs.Spelling.{spelling_of_entry}
 use Rattle.xdg_packed.proofs.Standing.{stands_at}
-use Rattle.xdg_members.specs.Partial.{Partial, IsPartial, ArePartial}
+use Rattle.xdg_lexicon.specs.Partial.{Partial, IsPartial, ArePartial}
 use Rattle.xdg_types.specs.declared.table.DimType.{DimType}
-use Rattle.xdg_entries.specs.Entries.{IsEntry, AreEntries}
+use Rattle.xdg_packed.specs.Entries.{IsEntry, AreEntries}
 use Rattle.xdg_lexicon.specs.Growing.{IsWordCount, IsGrown, SamePlace, Puts}
 use Rattle.xdg_lexicon.specs.declared.growing.Growing.{Growing}
 use Rattle.xdg_lexicon.proofs.Adding.{AddsSoFar}

@@ -10,15 +10,15 @@ use Rattle.xdg_domain.specs.Shapes.{fields, Fields, field_then, shape, fields_of
 use Rattle.xdg_domain.specs.Valencies.{KeysRise}
 use Rattle.xdg_domain.specs.Values.{IsIn}
 use Rattle.xdg_domain.specs.Joined.{fields_in}
-use Rattle.xdg_filling.specs.Filled as filled
-use Rattle.xdg_filling.specs.Filled.{filled_fields, fields_said, AreSaid}
-use Rattle.xdg_filling.proofs.Laws.{record_said, filled_right}
+use Rattle.xdg_packed.specs.Filled as filled
+use Rattle.xdg_packed.specs.Filled.{filled_fields, fields_said, AreSaid}
+use Rattle.xdg_packed.proofs.Laws.{record_said, filled_right}
 use Rattle.xdg_types.specs.declared.table.DimType.{DimType}
 use Rattle.xdg_types.specs.Table.{Table, IsTable, KeepsDim, KeepDims, ArePlaces, AreFeatures, typed, firsts}
 use Rattle.xdg_packed.specs.Lexicon.{Record, Entry}
 use Rattle.xdg_packed.proofs.Packs.{any_default}
-use Rattle.xdg_members.specs.Partial.{Partial, IsPartial, IsRecord, IsDim, features, said_of}
-use Rattle.xdg_entries.specs.Entries.{IsWhole, IsEntry, record_type}
+use Rattle.xdg_lexicon.specs.Partial.{Partial, IsPartial, IsRecord, IsDim, features, said_of}
+use Rattle.xdg_packed.specs.Entries.{IsWhole, IsEntry, record_type}
 use Rattle.xdg_lexicon.specs.Lexicon.{whole_record, record_then, records_of, whole}
 
 -- ---- types

@@ -13,8 +13,8 @@ use Rattle.xdg_classes.specs.Bodies.{Body, body}
 use Rattle.xdg_check.specs.declared.checked.EntryDef.{EntryDef}
 use Rattle.xdg_check.specs.Checked.{Parts, IsChecked}
 use Rattle.xdg_check.specs.Counts.{Counting, Agrees, uses, combos, capped}
-use Rattle.xdg_members.specs.Partial.{Partial}
-use Rattle.xdg_members.specs.Denotes.{Denotes}
+use Rattle.xdg_lexicon.specs.Partial.{Partial}
+use Rattle.xdg_lexicon.specs.Denotes.{Denotes}
 use Rattle.xdg_lexicon.specs.Sources.{Source, source_of, HasNumber}
 use Rattle.xdg_lexicon.specs.Lexicon.{Adds, SoFar, nothing_yet, IsWithin, IsExpanded, Expands, ExpandsAll, no_more, one_more, AreFewEach, IsTooMany, many_uses, many_combos, unsaid, many_entries, many_of_word, Refuses}
 use Rattle.xdg_lexicon.specs.Steps.{one_of, AddsMembers, KeepsLimits, Once, AllOnce, CountsOne, AddsOne, ExpandsOne}

@@ -1,7 +1,7 @@
 -- What is kept while one `defentry` after the other is expanded.
 use Rattle.std.specs.Prelude.{◌≤◌}
 use Rattle.xdg_types.specs.Table.{Table}
-use Rattle.xdg_entries.specs.Entries.{AreEntries, IsWordPlace}
+use Rattle.xdg_packed.specs.Entries.{AreEntries, IsWordPlace}
 use Rattle.xdg_lexicon.specs.declared.expanding.Expanding.{Expanding}
 use Rattle.xdg_lexicon.specs.declared.growing.Growing.{Growing}
 use Rattle.xdg_lexicon.specs.Lexicon.{SoFar}

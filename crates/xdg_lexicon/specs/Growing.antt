@@ -1,10 +1,10 @@
 -- A lexicon to which entries are added.
 use Rattle.std.specs.Prelude.{◌≡◌, ◌⊎◌, ℕ, ◌<◌, ◌≤◌, List, [], ◌∷◌, ◌++◌, length, get_or, map, vec_len, All}
-use Rattle.xdg_index.specs.Texts.{AllDiffer}
+use Rattle.xdg_names.specs.Texts.{AllDiffer}
 use Rattle.xdg_packed.specs.Lexicon.{Entry, Stands, word_of, numbers_of}
 use Rattle.xdg_packed.specs.Spelling.{spelling_of_entry}
 use Rattle.xdg_packed.specs.Words.{IsWordIndex}
-use Rattle.xdg_entries.specs.Entries.{count_of}
+use Rattle.xdg_packed.specs.Entries.{count_of}
 use Rattle.xdg_lexicon.specs.declared.growing.Growing.{Growing}
 
 -- of the words of entries each different one stands once, and beside it how many entries have it

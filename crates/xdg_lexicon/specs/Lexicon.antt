@@ -4,16 +4,16 @@ use Rattle.xdg_base.specs.declared.faults.Cause.{Cause}
 use Rattle.xdg_base.specs.declared.faults.Cause.TheVariants as causes
 use Rattle.xdg_base.specs.declared.faults.Fault.{Fault}
 use Rattle.xdg_domain.specs.Shapes.{fields_of}
-use Rattle.xdg_faults.specs.First.{In}
-use Rattle.xdg_filling.specs.Filled.{filled_fields}
+use Rattle.xdg_names.specs.First.{In}
+use Rattle.xdg_packed.specs.Filled.{filled_fields}
 use Rattle.xdg_types.specs.declared.table.DimType.{DimType}
 use Rattle.xdg_types.specs.Table.{Table, typed}
 use Rattle.xdg_packed.specs.Lexicon.{Record, Entry, Stands, word_of}
 use Rattle.xdg_classes.specs.Bodies.{Body}
 use Rattle.xdg_check.specs.Counts.{uses, combos, capped}
-use Rattle.xdg_members.specs.Partial.{Partial, said_of}
-use Rattle.xdg_members.specs.Denotes.{Denotes}
-use Rattle.xdg_entries.specs.Entries.{IsWordPlace, count_of}
+use Rattle.xdg_lexicon.specs.Partial.{Partial, said_of}
+use Rattle.xdg_lexicon.specs.Denotes.{Denotes}
+use Rattle.xdg_packed.specs.Entries.{IsWordPlace, count_of}
 use Rattle.xdg_lexicon.specs.Sources.{Source, HasNumber}
 
 -- ---- from partial entries to entries

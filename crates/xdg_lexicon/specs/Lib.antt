@@ -1,3 +1,9 @@
+pub mod Denotes
+pub mod Frames
+pub mod Made
+pub mod Partial
+pub mod Right
+pub mod Weights
 pub mod Sources
 pub mod Lexicon
 pub mod Answers

@@ -1,10 +1,10 @@
 -- What the lexicon of a checked grammar goes by.
 use Rattle.std.specs.Prelude.{◌≡◌, ℕ, List, map}
 use Rattle.xdg_domain.specs.Shapes.{Among}
-use Rattle.xdg_faults.specs.First.{In}
+use Rattle.xdg_names.specs.First.{In}
 use Rattle.xdg_types.specs.Table.{Table}
 use Rattle.xdg_classes.specs.Bodies.{Body, body}
-use Rattle.xdg_arguments.specs.Wants.{NamedBody}
+use Rattle.xdg_classes.specs.Wants.{NamedBody}
 use Rattle.xdg_check.specs.Checked.{Parts, named_bodies}
 use Rattle.xdg_check.specs.Counts.{Counting}
 

@@ -4,13 +4,13 @@ use Rattle.xdg_base.specs.declared.faults.Cause.TheVariants as causes
 use Rattle.xdg_base.specs.declared.faults.Fault.{Fault}
 use Rattle.xdg_base.specs.declared.faults.Stop.{Stop}
 use Rattle.xdg_base.specs.declared.faults.Stop.TheVariants as stops
-use Rattle.xdg_faults.specs.First.{In}
+use Rattle.xdg_names.specs.First.{In}
 use Rattle.xdg_types.specs.Table.{Table}
 use Rattle.xdg_packed.specs.Lexicon.{Entry}
 use Rattle.xdg_classes.specs.Bodies.{Body, body}
 use Rattle.xdg_check.specs.declared.checked.EntryDef.{EntryDef}
-use Rattle.xdg_members.specs.Partial.{Partial}
-use Rattle.xdg_members.specs.Denotes.{Denotes}
+use Rattle.xdg_lexicon.specs.Partial.{Partial}
+use Rattle.xdg_lexicon.specs.Denotes.{Denotes}
 use Rattle.xdg_lexicon.specs.Sources.{Source}
 use Rattle.xdg_lexicon.specs.Lexicon.{whole, AreWhole, Adds, SoFar, AreFewEach, IsCounted, IsExpanded, Expands, IsCrowded, OffendsAt, reaching}
 

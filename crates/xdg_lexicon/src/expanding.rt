@@ -3,8 +3,8 @@
 ghost use Rattle.std.specs.Prelude.{◌≡◌, ℕ, ◌≤◌, List, Result, IfOk, OnOk};
 ghost use Rattle.xdg_base.specs.declared.faults.Fault as faults;
 ghost use Rattle.xdg_check.specs.Checked.{IsChecked};
-ghost use Rattle.xdg_faults.specs.First.{In};
-ghost use Rattle.xdg_entries.specs.Entries.{IsRightLexicon};
+ghost use Rattle.xdg_names.specs.First.{In};
+ghost use Rattle.xdg_packed.specs.Entries.{IsRightLexicon};
 ghost use Rattle.xdg_packed.specs.Lexicon as lexicon;
 ghost use Rattle.xdg_lexicon.specs.Answers.{IsAnswer, Gives, Tells};
 ghost use Rattle.xdg_lexicon.specs.Lexicon.{SoFar};
@@ -12,14 +12,14 @@ ghost use Rattle.xdg_lexicon.specs.Expanding.{IsRight, IsRightGrowing, so_far};
 ghost use Rattle.xdg_lexicon.specs.Sources.{source_of};
 ghost use Rattle.xdg_lexicon.specs.Steps.{one_of, CountsOne, AddsOne, ExpandsOne};
 
+use crate::denoting::members;
 use crate::growing::{Growing, add_members, limited};
 use crate::limits::sum_within;
 use std::alloc::Global;
 use xdg_base::{Cause, List, Stop};
 use xdg_check::{Checked, EntryDef, combos_of, uses_of};
 use xdg_domain::Entry;
-use xdg_entries::word_place;
-use xdg_members::members;
+use xdg_packed::word_place;
 
 /// What the `defentry` statements so far came to.
 #[derive(Debug, Drop)]

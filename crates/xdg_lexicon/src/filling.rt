@@ -4,16 +4,16 @@ ghost use Rattle.std.specs.Prelude.{◌≡◌, ◌+◌, ◌<◌, ℕ, IfOk, IfSo
 ghost use Rattle.std.specs.Option.{option_copied};
 ghost use Rattle.xdg_domain.specs.Shapes.{fields_of, AreTypes};
 ghost use Rattle.xdg_domain.specs.Valencies.{said_at, KeysRise};
-ghost use Rattle.xdg_filling.specs.Filled.{filled_fields, AreSaid};
-ghost use Rattle.xdg_members.specs.Partial.{IsPartial};
+ghost use Rattle.xdg_packed.specs.Filled.{filled_fields, AreSaid};
+ghost use Rattle.xdg_lexicon.specs.Partial.{IsPartial};
 ghost use Rattle.xdg_types.specs.Table.{typed};
-ghost use Rattle.xdg_entries.specs.Entries.{IsEntry};
+ghost use Rattle.xdg_packed.specs.Entries.{IsEntry};
 ghost use Rattle.xdg_lexicon.specs.Lexicon.{whole};
 
 use std::alloc::Global;
 use xdg_base::{List, OutOfMemory, Text};
 use xdg_domain::{Entry, Fields, Ty, Value};
-use xdg_filling::fill;
+use xdg_packed::fill;
 use xdg_types::TypeTable;
 
 /// What a partial entry says of the used dimensions, with all defaults. None where it leaves a plain feature of one unsaid.

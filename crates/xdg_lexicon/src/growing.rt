@@ -1,21 +1,21 @@
 //! A lexicon to which entries are added, and its limits.
 
 ghost use Rattle.std.specs.Prelude.{◌≡◌, ℕ, ◌<◌, ◌≤◌, List, [], length, get_or, vec_len, MatchOption, IfSome, OnOk, ◌^◌};
-ghost use Rattle.xdg_members.specs.Partial.{ArePartial};
+ghost use Rattle.xdg_lexicon.specs.Partial.{ArePartial};
 ghost use Rattle.xdg_types.specs.Table.{Table, IsTable};
-ghost use Rattle.xdg_entries.specs.Entries.{AreEntries, IsWordPlace, count_of};
+ghost use Rattle.xdg_packed.specs.Entries.{AreEntries, IsWordPlace, count_of};
 ghost use Rattle.xdg_packed.specs.Lexicon.{word_of, places_of};
 ghost use Rattle.xdg_lexicon.specs.Growing.{IsGrown, IsWordCount, IsFirstCrowded, SamePlace, Puts};
 ghost use Rattle.xdg_lexicon.specs.Steps.{AddsMembers, KeepsLimits};
 
+use crate::entries::Partial;
 use crate::filling::whole_entry;
 use crate::limits::{MOST_ENTRIES, MOST_OF_WORD, passed};
 use crate::words::{count_word, word_at};
 use std::alloc::Global;
 use xdg_base::{Cause, List, OutOfMemory, Stop};
 use xdg_domain::Entry;
-use xdg_index::Index;
-use xdg_members::Partial;
+use xdg_names::Index;
 use xdg_packed::spell_entry;
 use xdg_types::TypeTable;
 

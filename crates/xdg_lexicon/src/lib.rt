@@ -1,12 +1,22 @@
-//! The expanded lexicon of a checked grammar.
+//! The expanded lexicon of a checked grammar: what its bodies denote, which are partial entries that say records of dimensions, and the
+//! entries that these make.
 #![tactic(auto)]
 
+mod closing;
+mod conjunction;
+mod denoting;
+mod entries;
 mod expanding;
 mod filling;
+mod frames;
 mod growing;
 mod limits;
+mod records;
+mod using;
 mod words;
 
+pub use denoting::members;
+pub use entries::Partial;
 pub use expanding::expand;
 pub use xdg_check::{combos_of as count, uses_of as uses};
-pub use xdg_entries::word_place;
+pub use xdg_packed::word_place;

@@ -7,7 +7,7 @@ ghost use Rattle.xdg_lexicon.specs.Growing.{IsWordCount};
 
 use std::alloc::{AllocError, Global};
 use xdg_domain::{Fields, Value};
-use xdg_index::Index;
+use xdg_names::Index;
 
 /// Counts one entry more of a word, and tells how many it then has.
 pub(crate) fn count_word(

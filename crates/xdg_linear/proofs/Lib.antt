@@ -8,3 +8,4 @@ pub mod Fronts
 pub mod Existing
 pub mod Held
 pub mod Worded
+pub mod Reading

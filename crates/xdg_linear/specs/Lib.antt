@@ -5,3 +5,5 @@ pub mod Arranged
 pub mod Falling
 pub mod Laws
 pub mod Texts
+pub mod Words
+pub mod Segments

@@ -1,3 +1,5 @@
+pub mod Steps
+pub mod Laws
 pub mod Counted
 pub mod Digits
 pub mod Firsts
@@ -8,3 +10,4 @@ pub mod Unpacked
 pub mod Variants
 pub mod WordLists
 pub mod Writing
+pub mod Places

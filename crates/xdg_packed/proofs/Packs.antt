@@ -4,8 +4,8 @@ use Rattle.std.proofs.lemmas.List.{map-append, length-map, length-append, get_or
 use Rattle.std.proofs.lemmas.List.Elements.{All-nil, All-push, All-tail, All-head, All-weaker}
 use Rattle.std.proofs.Math.ListN.{get_or-append}
 use Rattle.std.proofs.Math.Seq.{get_or-append_seam, take-suc}
-use Rattle.xdg_index.specs.Texts.{has_text, place_of, AllDiffer}
-use Rattle.xdg_index.proofs.Texts.{place_of-Some, place_of-None, AllDiffer-append}
+use Rattle.xdg_names.specs.Texts.{has_text, place_of, AllDiffer}
+use Rattle.xdg_names.proofs.Texts.{place_of-Some, place_of-None, AllDiffer-append}
 use Rattle.xdg_packed.specs.Lexicon.{Record, Entry, column, Stands, KeepsEachOnce, CountsDifferent}
 use Rattle.xdg_packed.specs.Rows.{shown, IsTable, AreFirsts, AddsFirst, AreSpelled, IsKnownRow, IsNewRow}
 use Rattle.xdg_packed.specs.Spelling.{spelling_of_fields}

@@ -2,7 +2,7 @@
 use Rattle.std.proofs.Common.{◌≡◌, ℕ, zero, suc, ◌<◌, Bool, true, false, ◌||◌, List, [], ◌∷◌, ◌++◌, ◌⊎◌, length, get_or, map, refl, sym, ap, inl, inr, ◌∙◌, arith, true≢false}
 use Rattle.std.proofs.lemmas.Slice.Eq.{bytes_eq-Decides}
 use Rattle.std.specs.Prelude.{bytes_eq}
-use Rattle.xdg_index.specs.Texts.{has_text, AllDiffer}
+use Rattle.xdg_names.specs.Texts.{has_text, AllDiffer}
 use Rattle.xdg_packed.specs.Lexicon.{Record, Stands, Differ}
 use Rattle.xdg_packed.specs.Spelling.{spelling_of_fields}
 

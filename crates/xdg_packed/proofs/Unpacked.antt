@@ -4,7 +4,7 @@ use Rattle.std.specs.List.{range_with_len}
 use Rattle.std.proofs.lemmas.List.{length-map}
 use Rattle.std.proofs.lemmas.List.FromFn.{length-map-range_with_len, get_or-map-range_with_len, map-range_with_len_more}
 use Rattle.xdg_base.specs.declared.ids.EntryNo.{EntryNo}
-use Rattle.xdg_index.specs.Texts.{place_of}
+use Rattle.xdg_names.specs.Texts.{place_of}
 use Rattle.xdg_packed.specs.Lexicon.{Record, Entry, Lexicon, HasWord, word_of, words_of, numbers_of, AreAsLong, width, column, columns, CountsDifferent, CountsRows, IsFirstAlike}
 use Rattle.xdg_packed.specs.Packing.{unpacked, IsPacked}
 use Rattle.xdg_packed.specs.Rows.{IsFirst}

@@ -9,8 +9,8 @@ use Rattle.std.proofs.lemmas.List.{append-nil, append_assoc, map-append, length-
 use Rattle.std.proofs.lemmas.Result.{on_ok_weaker}
 use Rattle.std.proofs.lemmas.Slice.Eq.{bytes_eq-Decides}
 use Rattle.xdg_base.specs.declared.ids.EntryNo.{EntryNo}
-use Rattle.xdg_index.specs.Texts.{has_text, place_of, AllDiffer}
-use Rattle.xdg_index.proofs.Texts.{has_text-append, place_of-Some, place_of-None, AllDiffer-append, stands-has_text}
+use Rattle.xdg_names.specs.Texts.{has_text, place_of, AllDiffer}
+use Rattle.xdg_names.proofs.Texts.{has_text-append, place_of-Some, place_of-None, AllDiffer-append, stands-has_text}
 use Rattle.xdg_packed.specs.Lexicon.{Record, Entry, number, places_of, numbers_of, said_in, word_of}
 use Rattle.xdg_packed.specs.Words.{IsWordIndex}
 use Rattle.xdg_packed.proofs.Packs.{any_default, added_last}

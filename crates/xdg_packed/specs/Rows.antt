@@ -1,7 +1,7 @@
 -- The different records of a dimension beside their spellings, the first entry with each, and for each entry the place of its record
 -- among them.
 use Rattle.std.specs.Prelude.{◌≡◌, ℕ, ◌<◌, ◌≤◌, false, List, [], ◌∷◌, ◌++◌, length, get_or, map, All}
-use Rattle.xdg_index.specs.Texts.{has_text, AllDiffer}
+use Rattle.xdg_names.specs.Texts.{has_text, AllDiffer}
 use Rattle.xdg_packed.specs.Lexicon.{Record, KeepsEachOnce}
 use Rattle.xdg_packed.specs.Spelling.{spelling_of_fields}
 

@@ -1,7 +1,7 @@
 -- The index of words.
 use Rattle.std.specs.Prelude.{◌≡◌, ℕ, List, map}
 use Rattle.xdg_base.specs.declared.ids.EntryNo.{EntryNo}
-use Rattle.xdg_index.specs.Texts.{has_text, AllDiffer}
+use Rattle.xdg_names.specs.Texts.{has_text, AllDiffer}
 use Rattle.xdg_packed.specs.Lexicon.{numbers_of}
 
 -- Of the words of the entries: each different word stands once, and those only, and beside it stand the numbers of exactly the

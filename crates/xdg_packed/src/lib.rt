@@ -1,11 +1,16 @@
-//! The expanded lexicon, packed: each different record of a dimension is kept once, and the entries of a word are looked up
-//! by an index of the words.
+//! Expanded entries: what they are, where they say their words, and what a feature holds once all defaults are filled in; and the
+//! expanded lexicon, packed, in which each different record of a dimension is kept once, and the entries of a word are looked up by an
+//! index of the words.
 #![tactic(auto)]
 
+mod filling;
 mod packed;
 mod spelling;
 mod table;
+mod word;
 mod words;
 
+pub use filling::fill;
 pub use packed::{EntryView, Packed, pack};
 pub use spelling::spell_entry;
+pub use word::word_place;

@@ -9,7 +9,7 @@ use std::alloc::{AllocError, Global};
 use std::marker::Model;
 use xdg_base::{List, OutOfMemory};
 use xdg_domain::{Entry, Fields};
-use xdg_index::Index;
+use xdg_names::Index;
 
 /// What the entries of a lexicon say in one dimension, seen as the list of their records, one for each entry.
 #[derive(Debug, Drop)]

@@ -8,7 +8,7 @@ ghost use Rattle.xdg_packed.specs.Words.{IsWordIndex};
 use std::alloc::{AllocError, Global};
 use xdg_base::{EntryNo, List, OutOfMemory};
 use xdg_domain::{Entry, Fields, Value};
-use xdg_index::Index;
+use xdg_names::Index;
 
 /// The words of a lexicon, each with the rising list of the numbers of its entries.
 #[derive(Debug, Drop)]

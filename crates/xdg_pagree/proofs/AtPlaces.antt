@@ -19,9 +19,9 @@ use Rattle.xdg_rules.proofs.Shrinking.{must_exact, must_is, must_among}
 use Rattle.xdg_store.specs.States.{State, Known}
 use Rattle.xdg_propcore.specs.Passes.{Progress, Goes}
 use Rattle.xdg_pagree.specs.Places.{PlaceAsks, PlaceLacks, LacksOther, LacksEntry, LacksValue, NoneLacks, IsDoneAt, IsNodeDone}
-use Rattle.xdg_uses.specs.Slots.{decision_of}
+use Rattle.xdg_graph.specs.Slots.{decision_of}
 use Rattle.xdg_propcore.specs.Sweeps.{Sweeps, TakesInside}
-use Rattle.xdg_uses.specs.declared.slot.Slot.{Slot}
+use Rattle.xdg_graph.specs.declared.slot.Slot.{Slot}
 use Rattle.xdg_propcore.proofs.Sweeping.{sweeps_start, sweeps_both, sweeps_taken, takes_later}
 
 -- fewer entries remain, so what each of them asks for is asked for still

@@ -10,10 +10,10 @@ ghost use Rattle.xdg_pagree.specs.Staying.{agree_stays};
 use crate::nodes::sweep_nodes;
 use crate::reads::is_agr;
 use xdg_base::OutOfMemory;
+use xdg_graph::dim_of;
 use xdg_problem::{Group, Problem};
 use xdg_propcore::{Moved, Pass, Propagator, Wake};
 use xdg_store::Store;
-use xdg_uses::dim_of;
 
 /// Takes from a box what a use of agr, of agreement or of government takes.
 #[derive(Debug, Drop)]

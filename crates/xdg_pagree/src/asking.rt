@@ -7,12 +7,12 @@ ghost use Rattle.xdg_problem.specs.Places.{nodes};
 ghost use Rattle.xdg_rules.specs.Rules.{EachEntry};
 ghost use Rattle.xdg_store.specs.States.{Known};
 ghost use Rattle.xdg_pagree.specs.Places.{LacksEntry, LacksOther, LacksValue};
-ghost use Rattle.xdg_uses.specs.Slots.{IsSlot, decision_of};
+ghost use Rattle.xdg_graph.specs.Slots.{IsSlot, decision_of};
 
 use xdg_base::{LabelId, NodeId};
+use xdg_graph::{Slot, entry_count, is_member, row_of};
 use xdg_problem::Group;
 use xdg_store::Store;
-use xdg_uses::{Slot, entry_count, is_member, row_of};
 
 /// Whether the set that each remaining entry of a node has at a label lacks a number.
 pub(crate) fn no_entry_has(

@@ -13,10 +13,10 @@ ghost use Rattle.xdg_propcore.specs.Sweeps.{Sweeps};
 use crate::places::{agr_at, asks, place_at};
 use crate::reads::is_agr;
 use xdg_base::{DimId, LabelId, NodeId};
+use xdg_graph::dim_of;
 use xdg_problem::{Edge, Group};
 use xdg_propcore::Pass;
 use xdg_store::Store;
-use xdg_uses::dim_of;
 
 /// Takes what the principle use takes at the places of a label out of a mother, whose entries ask for it.
 fn sweep_daughters(

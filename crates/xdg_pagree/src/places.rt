@@ -15,10 +15,10 @@ use crate::asking::{are_apart, none_is_allowed};
 use crate::reads::is_agreement;
 use crate::taking::{keep_allowed, keep_common, keep_useful};
 use xdg_base::{LabelId, NodeId};
+use xdg_graph::{each_entry_has, each_entry_has_some, slot_of};
 use xdg_problem::{Edge, Group};
 use xdg_propcore::Pass;
 use xdg_store::Store;
-use xdg_uses::{each_entry_has, each_entry_has_some, slot_of};
 
 /// Takes at a node what agr takes: the values that no remaining entry allows, and the entries that allow no remaining value.
 pub(crate) fn agr_at(store: &mut Store, pass: &mut Pass, group: &Group, node: NodeId)

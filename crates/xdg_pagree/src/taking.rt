@@ -6,15 +6,15 @@ ghost use Rattle.xdg_problem.specs.Places.{nodes};
 ghost use Rattle.xdg_problem.specs.Problems.{IsGroup};
 ghost use Rattle.xdg_store.specs.States.{Known};
 ghost use Rattle.xdg_pagree.specs.Places.{LacksEntry, LacksOther, LacksValue, NoneLacks};
-ghost use Rattle.xdg_uses.specs.Slots.{IsSlot, decision_of};
+ghost use Rattle.xdg_graph.specs.Slots.{IsSlot, decision_of};
 ghost use Rattle.xdg_propcore.specs.Sweeps.{Sweeps, TakesInside};
 
 use crate::asking::{lacks_entry, lacks_other, lacks_value};
 use xdg_base::{LabelId, NodeId};
+use xdg_graph::{Slot, entry_count};
 use xdg_problem::Group;
 use xdg_propcore::Pass;
 use xdg_store::Store;
-use xdg_uses::{Slot, entry_count};
 
 /// Takes for a principle use the values of an attribute that don't remain of another.
 pub(crate) fn keep_common(

@@ -1,6 +1,6 @@
 -- What stands in brackets means something.
 use Rattle.std.proofs.Common.{ℕ, zero, suc, ◌<◌, refl, arith}
-use Rattle.xdg_lex.specs.declared.token.Kind.TheVariants as k
+use Rattle.xdg_ast.specs.declared.token.Kind.TheVariants as k
 use Rattle.xdg_ast.specs.Language.{Within}
 use Rattle.xdg_ast.specs.Grammar.{Params, Inside, braced, conj, conjs, elems, expr, gconj, gconjs, gen, gprim, gprims, inside, interval, keyed_names, more_types, name, names, num, nums, parts, prim, prims, principle, principle_dims, terms, two_types, type_kind, type_term, under, use_of_class}
 use Rattle.xdg_parse.specs.Laws.{Alive}

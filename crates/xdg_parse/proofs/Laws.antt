@@ -1,9 +1,9 @@
 use Rattle.std.proofs.Common.{◌≡◌, ℕ, zero, suc, ◌+◌, Bool, true, false, if◌then◌else◌, List, [], ◌∷◌, ◌++◌, Option, Some, None, Ok, Err, refl, sym, ◌∙◌, ap, append_assoc, arith}
-use Rattle.xdg_lex.specs.Lexed.{Lexeme}
+use Rattle.xdg_ast.specs.Lexemes.{Lexeme}
 use Rattle.xdg_ast.specs.Language.{Language, kind_of, State, Unexpected, TooDeep, Outcome, ◌>>=◌, bind}
 use Rattle.xdg_ast.specs.Brackets.{is_opening, is_closing, less, then_walk, past, walk}
-use Rattle.xdg_parse_terms.specs.Steadiness.{at}
-use Rattle.xdg_parse_terms.proofs.Ended.{ended-append}
+use Rattle.xdg_parse.specs.Steadiness.{at}
+use Rattle.xdg_parse.proofs.Ended.{ended-append}
 use Rattle.xdg_parse.specs.Laws.{WasRead, Says, Alive}
 
 -- ---- lists of tokens

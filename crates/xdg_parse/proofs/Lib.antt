@@ -1,3 +1,13 @@
+pub mod Ended
+pub mod Items
+pub mod Loop
+pub mod Sees
+pub mod Shrinking
+pub mod SteadyParts
+pub mod SteadyTerms
+pub mod SteadyRules
+pub mod Shortens
+pub mod Tags
 pub mod Laws
 pub mod Combinators
 pub mod More

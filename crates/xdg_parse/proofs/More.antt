@@ -1,15 +1,15 @@
 use Rattle.std.proofs.Common.{◌≡◌, ℕ, zero, suc, ◌<◌, ◌≤◌, Bool, true, false, ◌||◌, ◌⊎◌, if◌then◌else◌, List, [], ◌∷◌, ◌++◌, length, Option, Some, Ok, Err, refl, sym, ◌∙◌, ap, inl, inr, append_assoc, arith}
-use Rattle.xdg_lex.specs.declared.token.Kind.{Kind}
+use Rattle.xdg_ast.specs.declared.token.Kind.{Kind}
 use Rattle.xdg_base.specs.declared.places.Span.{Span}
-use Rattle.xdg_lex.specs.Lexed.{Lexeme}
+use Rattle.xdg_ast.specs.Lexemes.{Lexeme}
 use Rattle.xdg_ast.specs.Language.{Language, ◌or◌, kind_of, holds, sees, start_of, ended_by, span_of, State, Unexpected, TooDeep, Outcome, ◌>>=◌, both, either, each, items, many, spanned}
 use Rattle.xdg_ast.specs.Brackets.{walk}
-use Rattle.xdg_parse_terms.specs.Steadiness.{at, Shrinks}
+use Rattle.xdg_parse.specs.Steadiness.{at, Shrinks}
 use Rattle.xdg_parse.specs.Laws.{Says, Alive, Law}
-use Rattle.xdg_parse_terms.proofs.Items.{Shortens, turn, none_at}
-use Rattle.xdg_parse_terms.proofs.Ended.{ended-append}
+use Rattle.xdg_parse.proofs.Items.{Shortens, turn, none_at}
+use Rattle.xdg_parse.proofs.Ended.{ended-append}
 use Rattle.xdg_parse.proofs.Laws.{walk-both, walk-split, balanced, says_as, bind_says}
-use Rattle.xdg_parse_terms.proofs.Shrinking.{shortens_of}
+use Rattle.xdg_parse.proofs.Shrinking.{shortens_of}
 use Rattle.xdg_parse.proofs.Combinators.{or-left, or-right, holds-left, holds-right, holds-same, Apart, not-empty, first-holds, heads}
 
 -- ---- either

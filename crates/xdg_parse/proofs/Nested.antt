@@ -1,11 +1,11 @@
 use Rattle.std.proofs.Common.{◌≡◌, ℕ, suc, ◌<◌, Bool, true, false, List, [], ◌∷◌, ◌++◌, Some, None, Ok, Err, refl, sym, ◌∙◌, ap, append_assoc, arith}
-use Rattle.xdg_lex.specs.declared.token.Kind.{Kind}
-use Rattle.xdg_lex.specs.Lexed.{Lexeme}
+use Rattle.xdg_ast.specs.declared.token.Kind.{Kind}
+use Rattle.xdg_ast.specs.Lexemes.{Lexeme}
 use Rattle.xdg_ast.specs.Language.{Language, Kinds, kind_of, holds, sees, ended_by, State, Unexpected, TooDeep, Outcome, ◌>>=◌, skip, read_token, Within, full, room, nested}
 use Rattle.xdg_ast.specs.Brackets.{is_opening, is_closing, walk}
-use Rattle.xdg_parse_terms.specs.Steadiness.{at}
+use Rattle.xdg_parse.specs.Steadiness.{at}
 use Rattle.xdg_parse.specs.Laws.{WasRead, Says, Alive, Law}
-use Rattle.xdg_parse_terms.proofs.Ended.{ended-append}
+use Rattle.xdg_parse.proofs.Ended.{ended-append}
 use Rattle.xdg_parse.proofs.Laws.{walk-both, walk-split, balanced}
 use Rattle.xdg_parse.proofs.Combinators.{heads, token-reads, token-stops, Apart}
 

@@ -1,13 +1,13 @@
 -- A rule of the grammar is read as it is meant, and means something, if its parts are and do.
 use Rattle.std.proofs.Common.{◌≡◌, ℕ, zero, suc, ◌<◌, true, false, List, [], ◌∷◌, ◌++◌, ◌⊎◌, Some, None, refl, inl, inr, arith}
 use Rattle.xdg_base.specs.declared.places.Span.{Span}
-use Rattle.xdg_lex.specs.declared.token.Kind.{Kind}
-use Rattle.xdg_lex.specs.declared.token.Kind.TheVariants as k
-use Rattle.xdg_lex.specs.Lexed.{Lexeme}
+use Rattle.xdg_ast.specs.declared.token.Kind.{Kind}
+use Rattle.xdg_ast.specs.declared.token.Kind.TheVariants as k
+use Rattle.xdg_ast.specs.Lexemes.{Lexeme}
 use Rattle.xdg_ast.specs.Language.{Language, Kinds, is, none, Within, each, span_of, token, nothing, both, either, many, nested, spanned, made, behind, pair, optional, chain}
 use Rattle.xdg_ast.specs.Grammar.{Params, Inside, is_constant, gen, elems, terms, expr, type_term, two_types, more_types, braced, keyed_names, principle, parts, inside, under}
 use Rattle.xdg_ast.specs.Brackets.{is_opening, is_closing}
-use Rattle.xdg_parse_terms.specs.Steadiness.{Steady}
+use Rattle.xdg_parse.specs.Steadiness.{Steady}
 use Rattle.xdg_parse.specs.Laws.{Alive, Law}
 use Rattle.xdg_parse.proofs.Combinators.{Apart, Plain, nothing_law, token_law, both_law}
 use Rattle.xdg_parse.proofs.More.{either_law, many_law, spanned_law}

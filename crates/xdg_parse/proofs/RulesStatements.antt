@@ -1,10 +1,10 @@
 -- Each rule of statements is read as it is meant.
 use Rattle.std.proofs.Common.{ℕ, [], refl}
-use Rattle.xdg_lex.specs.declared.token.Kind.TheVariants as k
+use Rattle.xdg_ast.specs.declared.token.Kind.TheVariants as k
 use Rattle.xdg_ast.specs.Grammar.{Params, params_of, body, braced_terms, bracketed_names, card, card_kind, class_param, class_params, class_tail, conj, conjs, dim, expr, gconj, gconjs, gen, gprim, gprims, hashed, inside, name, next_conj, next_gconj, next_gprim, next_prim, part, part_kind, parts, preset, prim, prims, statement, statement_kind, statements, term, term_kind, type_kind, type_term, under, use_of_class}
 use Rattle.xdg_parse.proofs.Combinators.{bind_law}
 use Rattle.xdg_parse.proofs.EachKind.{apart_by, plain_by}
-use Rattle.xdg_parse_terms.proofs.SteadyRules.{class_param_steady, statement_steady}
+use Rattle.xdg_parse.proofs.SteadyRules.{class_param_steady, statement_steady}
 use Rattle.xdg_parse.proofs.RuleParts.{Rule, bind_alive, word_rule, both_rule, either_rule, many_rule, spanned_rule, made_rule, behind_rule, pair_rule, optional_rule, braces_rule}
 use Rattle.xdg_parse.proofs.Bodies.{expr_alive, parts_alive}
 use Rattle.xdg_parse.proofs.RulesTerms.{name_rule, term_rule}

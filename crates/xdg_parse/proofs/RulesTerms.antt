@@ -1,11 +1,11 @@
 -- Each rule of terms is read as it is meant.
 use Rattle.std.proofs.Common.{ℕ, refl}
-use Rattle.xdg_lex.specs.declared.token.Kind.TheVariants as k
+use Rattle.xdg_ast.specs.declared.token.Kind.TheVariants as k
 use Rattle.xdg_ast.specs.Language.{Language, Within}
 use Rattle.xdg_ast.specs.Grammar.{Params, Inside, inside, under, braced_terms, bracketed_names, card, card_kind, elem, elem_kind, elem_tail, elems, gconj, gconjs, gen, gprim, gprims, hashed, interval, keyed_term, name, names, next_gconj, next_gprim, num, nums, term, term_kind, terms}
 use Rattle.xdg_parse.proofs.EachKind.{apart_by, plain_by}
-use Rattle.xdg_parse_terms.proofs.SteadyTerms.{elem_steady, keyed_term_steady, name_steady, next_gconj_steady, next_gprim_steady, num_steady}
-use Rattle.xdg_parse_terms.proofs.SteadyRules.{under_steady}
+use Rattle.xdg_parse.proofs.SteadyTerms.{elem_steady, keyed_term_steady, name_steady, next_gconj_steady, next_gprim_steady, num_steady}
+use Rattle.xdg_parse.proofs.SteadyRules.{under_steady}
 use Rattle.xdg_parse.proofs.RuleParts.{Rule, Below, behind_rule, both_rule, braces_rule, chain_rule, constant_rule, either_rule, made_rule, many_rule, nothing_rule, pair_rule, parentheses_rule, spanned_rule, squares_rule, word_rule}
 use Rattle.xdg_parse.proofs.Bodies.{elems_alive, gen_alive, interval_alive, names_alive, nums_alive, terms_alive}
 

@@ -3,17 +3,17 @@ use Rattle.std.proofs.Common.{◌≡◌, ℕ, zero, suc, ◌+◌, Bool, true, fa
 use Rattle.std.proofs.lemmas.List.{append-nil, append_cancel_right}
 use Rattle.xdg_base.specs.declared.faults.Cause.TheVariants as causes
 use Rattle.xdg_base.specs.declared.places.Span.{Span}
-use Rattle.xdg_lex.specs.declared.token.Kind.{Kind}
-use Rattle.xdg_lex.specs.Lexed.{Lexeme}
+use Rattle.xdg_ast.specs.declared.token.Kind.{Kind}
+use Rattle.xdg_ast.specs.Lexemes.{Lexeme}
 use Rattle.xdg_ast.specs.declared.grammar.Grammar.{Grammar}
 use Rattle.xdg_ast.specs.Language.{kind_of, start_of, ended_by, span_of, State, Unexpected, TooDeep, Outcome}
 use Rattle.xdg_ast.specs.Grammar.{Statement, statements}
 use Rattle.xdg_ast.specs.Brackets.{is_opening, is_closing, past, walk}
 use Rattle.xdg_ast.specs.Derives.{DerivesWithin, Derives, most_brackets, IsShallow, place_of, Ends, IsUnexpectedAt, IsTooDeepAt, IsRefused, unexpected, too_deep}
-use Rattle.xdg_parse_terms.specs.Steadiness.{at}
+use Rattle.xdg_parse.specs.Steadiness.{at}
 use Rattle.xdg_parse.specs.Laws.{Says, Law}
 use Rattle.xdg_parse.proofs.Laws.{balanced, one, some-same, some-from}
-use Rattle.xdg_parse_terms.proofs.SteadyRules.{statements_steady}
+use Rattle.xdg_parse.proofs.SteadyRules.{statements_steady}
 use Rattle.xdg_parse.proofs.RulesStatements.{statements_rule}
 
 statements_law : (d n : ℕ) → Law d n (statements d) (statements n)

@@ -1,10 +1,10 @@
 -- What holds of a language as it is read with at most so many open brackets, and as it is meant with at most so many others.
 use Rattle.std.specs.Prelude.{◌≡◌, ℕ, suc, ◌<◌, true, false, List, [], ◌∷◌, ◌++◌, Some, Ok, Err}
-use Rattle.xdg_lex.specs.declared.token.Kind.{Kind}
-use Rattle.xdg_lex.specs.Lexed.{Lexeme}
+use Rattle.xdg_ast.specs.declared.token.Kind.{Kind}
+use Rattle.xdg_ast.specs.Lexemes.{Lexeme}
 use Rattle.xdg_ast.specs.Language.{Language, kind_of, holds, ended_by, State, Unexpected, TooDeep, Outcome}
 use Rattle.xdg_ast.specs.Brackets.{is_opening, walk}
-use Rattle.xdg_parse_terms.specs.Steadiness.{at}
+use Rattle.xdg_parse.specs.Steadiness.{at}
 
 -- ---- what an outcome says
 

@@ -1,2 +1,5 @@
+pub mod Steadiness
+pub mod Steps
+pub mod Parts
 pub mod Laws
 pub mod Outcome

@@ -1,18 +1,19 @@
 //! The parts of the definition of a dimension.
 
 ghost use Rattle.std.specs.Prelude.{◌≡◌, []};
-ghost use Rattle.xdg_lex.specs.declared.token.Kind.TheVariants as kinds;
+ghost use Rattle.xdg_ast.specs.declared.token.Kind.TheVariants as kinds;
 ghost use Rattle.xdg_ast.specs.Language.{behind, full, is, pair, sees, token};
 ghost use Rattle.xdg_ast.specs.Grammar as grammar;
 ghost use Rattle.xdg_ast.specs.Grammar.{under, in_braces};
-ghost use Rattle.xdg_parse_terms.specs.Steps.{Reads};
+ghost use Rattle.xdg_parse.specs.Steps.{Reads};
 
+use crate::cursor::{Cursor, Why};
+use crate::names::name;
+use crate::terms::braced_terms;
+use crate::types::type_term;
 use std::alloc::Global;
-use xdg_ast::{DimPart, DimPartKind, Name, Pair, Params, Term};
+use xdg_ast::{DimPart, DimPartKind, Kind, Name, Pair, Params, Term};
 use xdg_base::List;
-use xdg_lex::Kind;
-use xdg_parse_terms::{Cursor, Why, braced_terms, name};
-use xdg_parse_types::type_term;
 
 /// The dimensions and the arguments of the use of a principle.
 type Principle = (List<Pair<Name>>, Option<List<Pair<Term>>>);
@@ -139,7 +140,7 @@ fn part(alloc: Global, cursor: &mut Cursor<'_, '_>, within: u32) -> Result<DimPa
     })
 }
 
-#[tactic(auto, unfolding(xdg_ast::specs::Grammar::part, xdg_ast::specs::Grammar::part_kind), using(xdg_parse_terms::proofs::Sees::sees_or))]
+#[tactic(auto, unfolding(xdg_ast::specs::Grammar::part, xdg_ast::specs::Grammar::part_kind), using(crate::proofs::Sees::sees_or))]
 fn begins_part(cursor: &Cursor<'_, '_>) -> bool
     ensures { result ≡ sees (grammar.part full).first cursor.now.left }
 {

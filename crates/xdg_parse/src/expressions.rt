@@ -4,13 +4,14 @@ ghost use Rattle.std.specs.Prelude.{◌≡◌};
 ghost use Rattle.xdg_ast.specs.Language.{sees, full};
 ghost use Rattle.xdg_ast.specs.Grammar as grammar;
 ghost use Rattle.xdg_ast.specs.Grammar.{under};
-ghost use Rattle.xdg_parse_terms.specs.Steps.{Reads};
+ghost use Rattle.xdg_parse.specs.Steps.{Reads};
 
+use crate::cursor::{Cursor, Why};
+use crate::names::name;
+use crate::terms::braced_terms;
 use std::alloc::Global;
-use xdg_ast::{Expr, ExprKind, Params};
+use xdg_ast::{Expr, ExprKind, Kind, Params};
 use xdg_base::{List, Span};
-use xdg_lex::Kind;
-use xdg_parse_terms::{Cursor, Why, braced_terms, name};
 
 /// One member is that member, and more are all of them.
 fn all_of(span: Span, members: List<Expr>) -> Expr
@@ -119,7 +120,7 @@ fn next_prim(
     prim(alloc, params, cursor, within)
 }
 
-#[tactic(auto, unfolding(xdg_ast::specs::Grammar::next_prim, xdg_ast::specs::Grammar::prim, xdg_ast::specs::Grammar::dim, xdg_ast::specs::Grammar::use_of_class, xdg_ast::specs::Grammar::name), using(xdg_parse_terms::proofs::Sees::sees_or))]
+#[tactic(auto, unfolding(xdg_ast::specs::Grammar::next_prim, xdg_ast::specs::Grammar::prim, xdg_ast::specs::Grammar::dim, xdg_ast::specs::Grammar::use_of_class, xdg_ast::specs::Grammar::name), using(crate::proofs::Sees::sees_or))]
 fn begins_next_prim(cursor: &Cursor<'_, '_>) -> bool
     ensures { result ≡ sees (grammar.next_prim full).first cursor.now.left }
 {

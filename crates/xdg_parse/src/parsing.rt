@@ -4,16 +4,15 @@ ghost use Rattle.std.specs.Prelude.{◌≡◌, Result};
 ghost use Rattle.xdg_base.specs.declared.faults.Fault as faults;
 ghost use Rattle.xdg_base.specs.declared.faults.Cause.TheVariants as causes;
 ghost use Rattle.xdg_base.specs.declared.faults.Stop.TheVariants as stops;
-ghost use Rattle.xdg_lex.specs.Lexed.{lexemes_of};
+ghost use Rattle.xdg_ast.specs.Lexemes.{lexemes_of};
 ghost use Rattle.xdg_ast.specs.declared.grammar.Grammar as trees;
 ghost use Rattle.xdg_parse.specs.Outcome.{IsAnswer, Tells, Gives};
 
+use crate::cursor::{Cursor, Why};
 use crate::statements::statements;
 use std::alloc::Global;
-use xdg_ast::Grammar;
+use xdg_ast::{Grammar, Token};
 use xdg_base::{Cause, Fault, List, Stop};
-use xdg_lex::Token;
-use xdg_parse_terms::{Cursor, Why};
 
 /// How many brackets may be open at a time.
 const MOST_BRACKETS: u32 = 64;

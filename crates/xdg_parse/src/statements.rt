@@ -1,19 +1,20 @@
 //! Statements.
 
 ghost use Rattle.std.specs.Prelude.{◌≡◌, []};
-ghost use Rattle.xdg_lex.specs.declared.token.Kind.TheVariants as kinds;
+ghost use Rattle.xdg_ast.specs.declared.token.Kind.TheVariants as kinds;
 ghost use Rattle.xdg_ast.specs.Language.{behind, is, pair, sees, token};
 ghost use Rattle.xdg_ast.specs.Grammar as grammar;
 ghost use Rattle.xdg_ast.specs.Grammar.{in_braces, under};
-ghost use Rattle.xdg_parse_terms.specs.Steps.{Reads};
+ghost use Rattle.xdg_parse.specs.Steps.{Reads};
 
+use crate::cursor::{Cursor, Why};
 use crate::dimensions::parts;
 use crate::expressions::expr;
+use crate::names::{name, name_from};
+use crate::terms::term;
 use std::alloc::Global;
-use xdg_ast::{ClassParam, DimPart, Expr, Name, Params, Statement, StatementKind, Term};
+use xdg_ast::{ClassParam, DimPart, Expr, Kind, Name, Params, Statement, StatementKind, Term};
 use xdg_base::List;
-use xdg_lex::Kind;
-use xdg_parse_terms::{Cursor, Why, name, name_from, term};
 
 #[tactic(auto, unfolding(xdg_ast::specs::Grammar::preset))]
 fn preset(alloc: Global, cursor: &mut Cursor<'_, '_>, within: u32) -> Result<Option<Term>, Why>
@@ -137,7 +138,7 @@ fn statement(alloc: Global, cursor: &mut Cursor<'_, '_>, within: u32) -> Result<
     })
 }
 
-#[tactic(auto, unfolding(xdg_ast::specs::Grammar::statement, xdg_ast::specs::Grammar::statement_kind), using(xdg_parse_terms::proofs::Sees::sees_or))]
+#[tactic(auto, unfolding(xdg_ast::specs::Grammar::statement, xdg_ast::specs::Grammar::statement_kind), using(crate::proofs::Sees::sees_or))]
 fn begins_statement(cursor: &Cursor<'_, '_>) -> bool
     ensures { result ≡ sees (grammar.statement 0).first cursor.now.left }
 {

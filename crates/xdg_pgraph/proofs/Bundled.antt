@@ -17,7 +17,7 @@ use Rattle.xdg_propcore.specs.Passes.{Progress, Clears}
 use Rattle.xdg_propcore.specs.Sweeps.{Sweeps}
 use Rattle.xdg_propcore.proofs.Passing.{goes_both}
 use Rattle.xdg_propcore.proofs.Sweeping.{sweeps_skip, sweeps_both}
-use Rattle.xdg_uses.proofs.Remaining.{entry_below}
+use Rattle.xdg_graph.proofs.Remaining.{entry_below}
 use Rattle.xdg_pgraph.specs.declared.bundle.Way.{Way}
 use Rattle.xdg_pgraph.specs.declared.bundle.Way.TheVariants as ways
 use Rattle.xdg_pgraph.specs.declared.bundle.Bundle.{Bundle}

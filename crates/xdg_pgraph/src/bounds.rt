@@ -8,9 +8,9 @@ ghost use Rattle.xdg_pgraph.specs.Bundles.{numbers_of};
 
 use crate::bundle::{Bundle, numbers_of};
 use xdg_base::NodeId;
+use xdg_graph::entry_count;
 use xdg_problem::Group;
 use xdg_store::Store;
-use xdg_uses::entry_count;
 
 /// Whether no number lies between two others, or is one of them.
 pub(crate) fn has_none_within(numbers: &[u16], least: usize, most: usize) -> bool

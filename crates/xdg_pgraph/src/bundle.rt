@@ -10,10 +10,10 @@ ghost use Rattle.xdg_pgraph.specs.Seeking.{edges_of};
 use crate::found::Which;
 use crate::plane::Plane;
 use xdg_base::{LabelId, NodeId};
+use xdg_graph::feature_row;
 use xdg_nodeset::NodeSet;
 use xdg_problem::{Edge, Group};
 use xdg_store::Store;
-use xdg_uses::feature_row;
 
 /// Out of a node, or into it.
 #[derive(Clone, Copy, Debug)]

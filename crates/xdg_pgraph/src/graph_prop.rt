@@ -22,10 +22,10 @@ use crate::label::{take_dag, take_tree};
 use crate::plane::{Plane, label_count};
 use crate::valency::take_valency;
 use xdg_base::OutOfMemory;
+use xdg_graph::{dim_of, truth_of};
 use xdg_problem::{Group, Parts, Principle, Problem};
 use xdg_propcore::{Moved, Pass, Propagator, Touched, Wake};
 use xdg_store::{Mark, Store};
-use xdg_uses::{dim_of, truth_of};
 
 /// The propagator of a use of graph, entries, tree, dag or valency. The first two take nothing.
 #[derive(Debug, Drop)]

@@ -15,9 +15,9 @@ use crate::found::{Found, Which as Edges};
 use crate::plane::Plane;
 use crate::taking::forbid_joined;
 use xdg_base::NodeId;
+use xdg_graph::{Which, above, set_at};
 use xdg_nodeset::NodeSet;
 use xdg_propcore::Pass;
-use xdg_reach::{Which, above, set_at};
 use xdg_store::Store;
 
 /// Whether an edge from a node to one of some others would close a cycle.

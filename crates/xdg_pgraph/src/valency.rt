@@ -21,11 +21,11 @@ use crate::bundle::{Bundle, Way, ends, numbers_of};
 use crate::found::Which;
 use crate::plane::Plane;
 use xdg_base::NodeId;
+use xdg_graph::entry_count;
 use xdg_nodeset::NodeSet;
 use xdg_problem::{Edge, Group};
 use xdg_propcore::{Pass, Touched};
 use xdg_store::Store;
-use xdg_uses::entry_count;
 
 /// Takes the entries of a node away that allow no number between two counts.
 fn take_entries(

@@ -17,7 +17,7 @@ use Rattle.xdg_rules.proofs.Shrinking.{may_of, must_is}
 use Rattle.xdg_store.specs.States.{State}
 use Rattle.xdg_propcore.specs.Passes.{Progress}
 use Rattle.xdg_propcore.specs.Sweeps.{Sweeps}
-use Rattle.xdg_linking.specs.Family.{IsLinking}
+use Rattle.xdg_plink.specs.Family.{IsLinking}
 use Rattle.xdg_plink.specs.Steps.{AreNodesDone, IsDoneAt, TakesAt}
 
 module _ (parts : Parts) (group : Group) (box : List (List Bool)) (place : Edge) (absent : Contains (may_edges parts box (first_dim group)) place → ⊥) where

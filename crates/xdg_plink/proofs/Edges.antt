@@ -7,9 +7,9 @@ use Rattle.xdg_problem.specs.declared.parts.Parts.{Parts}
 use Rattle.xdg_problem.specs.Paths.{IsDaughterBy}
 use Rattle.xdg_problem.specs.Places.{edge}
 use Rattle.xdg_rules.specs.Rules.{may_edges}
-use Rattle.xdg_linking.proofs.Places.{may_by}
-use Rattle.xdg_reach.specs.Edges.{edge_labels}
-use Rattle.xdg_reach.proofs.Labelled.{label_below}
+use Rattle.xdg_plink.specs.Places.{may_by}
+use Rattle.xdg_graph.specs.Edges.{edge_labels}
+use Rattle.xdg_graph.proofs.Labelled.{label_below}
 
 module _ (parts : Parts) (box : List (List Bool)) (dim node label : ℕ) where
   abbrev may : List Edge

@@ -1,3 +1,4 @@
+pub mod Named
 pub mod Edges
 pub mod Leading
 pub mod Linking

@@ -8,7 +8,7 @@ use Rattle.xdg_problem.specs.declared.parts.Principle.{Principle}
 use Rattle.xdg_problem.specs.declared.parts.Principle.TheVariants as principles
 use Rattle.xdg_problem.specs.Asking.{IsLinked}
 use Rattle.xdg_problem.specs.Paths.{Leads, Above, AboveByFirst, IsDaughter, IsDaughterByAny, IsEnteredByAny, AreSistersByAny}
-use Rattle.xdg_linking.specs.Family.{Reaches}
+use Rattle.xdg_plink.specs.Family.{Reaches}
 use Rattle.xdg_plink.specs.Ways.{IsLed, Covers, Keeps, way_of, from_node}
 use Rattle.xdg_plink.specs.declared.way.Way.TheVariants as ways
 

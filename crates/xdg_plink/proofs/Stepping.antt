@@ -18,8 +18,8 @@ use Rattle.xdg_propcore.specs.Uses.{IsClosedBy, StandsFor, StandsIn, no_use, use
 use Rattle.xdg_propcore.specs.declared.moved.Moved.{Moved}
 use Rattle.xdg_propcore.specs.declared.moved.Moved.TheVariants as moves
 use Rattle.xdg_propcore.proofs.Passing.{step_extends, step_keeps, step_moves, step_same, turned}
-use Rattle.xdg_linking.specs.Family.{IsLinking}
-use Rattle.xdg_linking.specs.Standing.{link_kinds}
+use Rattle.xdg_plink.specs.Family.{IsLinking}
+use Rattle.xdg_plink.specs.Kept.{link_kinds}
 use Rattle.xdg_plink.specs.Standing.{AreSmall, stands_for}
 use Rattle.xdg_propcore.specs.Sweeps.{Sweeps}
 use Rattle.xdg_plink.specs.Steps.{AreMothersDone, IsExact, IsReady}

@@ -22,14 +22,14 @@ use Rattle.xdg_rules.proofs.Shrinking.{may_among}
 use Rattle.xdg_store.specs.States.{State, Known}
 use Rattle.xdg_propcore.specs.Passes.{Progress, Goes}
 use Rattle.xdg_propcore.proofs.Sweeping.{sweeps_next, sweeps_skip, sweeps_start}
-use Rattle.xdg_linking.specs.Family.{IsLinking, Reaches}
+use Rattle.xdg_plink.specs.Family.{IsLinking, Reaches}
 use Rattle.xdg_propcore.specs.Sweeps.{Sweeps}
 use Rattle.xdg_plink.specs.Steps.{AreLabelsDone, AreMothersDone, AreNodesDone, DoneAt, IsAtPlace, IsCut, IsDoneAt, IsExact, IsOnPlace, IsReady, TakesAt}
-use Rattle.xdg_reach.specs.Edges.{edge_labels}
+use Rattle.xdg_graph.specs.Edges.{edge_labels}
 use Rattle.xdg_plink.specs.Ways.{Covers, way_of}
 use Rattle.xdg_plink.specs.declared.way.Way.{Way}
 use Rattle.xdg_plink.specs.declared.way.Way.TheVariants as ways
-use Rattle.xdg_reach.proofs.Labelled.{place_between}
+use Rattle.xdg_graph.proofs.Labelled.{place_between}
 use Rattle.xdg_plink.proofs.Linking.{linked_led, led_linked}
 
 -- ---- what the table covers

@@ -1,3 +1,8 @@
+pub mod Family
+pub mod Kept
+pub mod Places
+pub mod Failing
+pub mod Staying
 pub mod Ways
 pub mod Steps
 pub mod Standing

@@ -3,7 +3,7 @@ use Rattle.std.specs.Prelude.{ℕ, ◌<◌}
 use Rattle.xdg_problem.specs.declared.parts.Group.{Group}
 use Rattle.xdg_problem.specs.declared.parts.Parts.{Parts}
 use Rattle.xdg_problem.specs.Arguments.{first_dim, second_dim}
-use Rattle.xdg_linking.specs.Standing.{stands_at}
+use Rattle.xdg_plink.specs.Kept.{stands_at}
 use Rattle.xdg_plink.specs.declared.link_prop.LinkProp.{LinkProp}
 
 -- for its own number, where it is one of a linking principle whose kinds it keeps

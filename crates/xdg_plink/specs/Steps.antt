@@ -13,8 +13,8 @@ use Rattle.xdg_problem.specs.Features.{map_row, set_row}
 use Rattle.xdg_problem.specs.Problems.{IsGroup}
 use Rattle.xdg_rules.specs.Rules.{EachEntry, LinkingNotDaughter, LinkingReach, SaysPresent, may_edges, must_edges}
 use Rattle.xdg_store.specs.States.{State, Known}
-use Rattle.xdg_linking.specs.Family.{IsLinking, Reaches}
-use Rattle.xdg_reach.specs.Edges.{edge_labels}
+use Rattle.xdg_plink.specs.Family.{IsLinking, Reaches}
+use Rattle.xdg_graph.specs.Edges.{edge_labels}
 use Rattle.xdg_plink.specs.Ways.{Covers, IsLed, Keeps, from_node, way_of}
 
 -- what the rule of a principle takes at a place of the first dimension

@@ -7,11 +7,11 @@ ghost use Rattle.xdg_propcore.specs.Sweeps.{Sweeps};
 ghost use Rattle.xdg_plink.specs.Steps.{CanCut, DoneAt, IsCut};
 
 use crate::entries::none_links;
+use xdg_graph::each_entry_has_some;
 use xdg_nodeset::NodeSet;
 use xdg_problem::{Edge, Group};
 use xdg_propcore::Pass;
 use xdg_store::Store;
-use xdg_uses::each_entry_has_some;
 
 /// Whether by a table an edge of the first dimension is to go: it may be present, each remaining entry of its mother asks for a
 /// link, and for none of them there may be one.

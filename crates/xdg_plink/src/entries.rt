@@ -14,11 +14,10 @@ ghost use Rattle.xdg_plink.specs.Ways.{way_of, from_node, Stands, IsEnd, IsLed};
 use crate::neighbours::{may_daughters, may_mothers};
 use crate::way::{Way, is_turned, way_of};
 use xdg_base::{DimId, LabelId, NodeId};
+use xdg_graph::{dim_of, entry_count, row_of, set_at};
 use xdg_nodeset::NodeSet;
 use xdg_problem::{Group, Principle};
-use xdg_reach::set_at;
 use xdg_store::Store;
-use xdg_uses::{dim_of, entry_count, row_of};
 
 /// Whether two sets have a node in common.
 #[tactic(auto, using(xdg_judge::proofs::Meeting::some_met, xdg_judge::proofs::Meeting::none_met))]

@@ -1,5 +1,5 @@
-//! What the linking principles take from a box: edges of one dimension that no edge of another can link, and edges that
-//! would join what has to stay apart.
+//! What the linking principles take from a box: edges of one dimension that no edge of another can link, and edges that would join what
+//! has to stay apart.
 #![tactic(auto)]
 
 mod cutting;

@@ -6,8 +6,8 @@ ghost use Rattle.xdg_store.specs.States.{Known};
 ghost use Rattle.xdg_propcore.specs.Kinds.{AreNamed};
 ghost use Rattle.xdg_propcore.specs.Steps.{Extends, Keeps, Moves};
 ghost use Rattle.xdg_propcore.specs.Uses.{IsClosedBy, StandsFor, StandsIn, use_at};
-ghost use Rattle.xdg_linking.specs.Family.{IsLinking};
-ghost use Rattle.xdg_linking.specs.Standing.{link_kinds};
+ghost use Rattle.xdg_plink.specs.Family.{IsLinking};
+ghost use Rattle.xdg_plink.specs.Kept.{link_kinds};
 ghost use Rattle.xdg_plink.specs.Standing.{AreSmall, stands_for};
 ghost use Rattle.xdg_plink.specs.Laws.{link_stays};
 
@@ -16,10 +16,10 @@ use crate::taking::take_all;
 use crate::way::way_of;
 use bitflags::Flags;
 use xdg_base::OutOfMemory;
+use xdg_graph::dim_of;
 use xdg_problem::{Group, Problem};
 use xdg_propcore::{Moved, Pass, Propagator, Wake};
 use xdg_store::Store;
-use xdg_uses::dim_of;
 
 /// Takes from a box what a linking principle use takes.
 #[derive(Debug, Drop)]

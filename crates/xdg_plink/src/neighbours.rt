@@ -8,8 +8,8 @@ ghost use Rattle.xdg_rules.specs.Rules.{may_edges};
 ghost use Rattle.xdg_store.specs.States.{Known};
 
 use xdg_base::{DimId, LabelId, NodeId};
+use xdg_graph::{Which, daughters_by, labels_of, mothers_by};
 use xdg_nodeset::NodeSet;
-use xdg_reach::{Which, daughters_by, labels_of, mothers_by};
 use xdg_store::Store;
 
 /// The nodes to which an edge with a label may lead from a node.

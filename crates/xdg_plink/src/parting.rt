@@ -3,17 +3,16 @@
 ghost use Rattle.std.specs.Prelude.{◌≢◌, ◌<◌, ◌↔◌, IsTrue};
 ghost use Rattle.xdg_problem.specs.Boxes.{Must};
 ghost use Rattle.xdg_problem.specs.Places.{nodes};
-ghost use Rattle.xdg_reach.specs.Edges.{edge_labels};
+ghost use Rattle.xdg_graph.specs.Edges.{edge_labels};
 ghost use Rattle.xdg_store.specs.States.{Known};
 ghost use Rattle.xdg_propcore.specs.Sweeps.{Sweeps};
 ghost use Rattle.xdg_plink.specs.Steps.{AsksApart, CanPart, IsDoneAt, IsFirstDone, IsSecondDone, MustJoin};
 
 use xdg_base::{DimId, LabelId, NodeId};
+use xdg_graph::{dim_of, each_entry_has, labels_of};
 use xdg_problem::{Edge, Group};
 use xdg_propcore::Pass;
-use xdg_reach::labels_of;
 use xdg_store::Store;
-use xdg_uses::{dim_of, each_entry_has};
 
 /// Whether some edge of a dimension must lead from a node to another.
 #[tactic(auto, using(crate::proofs::Apart::none_joins_first, crate::proofs::Apart::none_joins_next, crate::proofs::Apart::one_joins))]

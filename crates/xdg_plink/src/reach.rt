@@ -6,8 +6,8 @@ ghost use Rattle.xdg_plink.specs.Ways.{Covers, Keeps};
 
 use crate::way::Way;
 use xdg_base::DimId;
+use xdg_graph::{Which, ancestors, mothers};
 use xdg_nodeset::NodeSet;
-use xdg_reach::{Which, ancestors, mothers};
 use xdg_store::Store;
 
 /// For each node those that may be its mothers, those that may be above it, or none, as a way of linking asks for them.

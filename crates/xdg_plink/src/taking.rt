@@ -3,21 +3,20 @@
 ghost use Rattle.std.specs.Prelude.{◌≡◌, ◌↔◌, IsTrue};
 ghost use Rattle.xdg_problem.specs.Arguments.{first_dim};
 ghost use Rattle.xdg_problem.specs.Places.{edge, nodes};
-ghost use Rattle.xdg_linking.specs.Family.{Reaches};
+ghost use Rattle.xdg_plink.specs.Family.{Reaches};
 ghost use Rattle.xdg_propcore.specs.Sweeps.{Sweeps};
-ghost use Rattle.xdg_reach.specs.Edges.{edge_labels};
+ghost use Rattle.xdg_graph.specs.Edges.{edge_labels};
 ghost use Rattle.xdg_plink.specs.Steps.{AreLabelsDone, AreMothersDone, AreNodesDone, DoneAt, IsAtLabel, IsAtNode, IsAtPlace, IsReady};
 
 use crate::cutting::cut;
 use crate::neighbours::may_daughters;
 use crate::parting::part;
 use xdg_base::{LabelId, NodeId};
+use xdg_graph::{dim_of, labels_of, node_count};
 use xdg_nodeset::NodeSet;
 use xdg_problem::{Edge, Group, Principle};
 use xdg_propcore::Pass;
-use xdg_reach::{labels_of, node_count};
 use xdg_store::Store;
-use xdg_uses::dim_of;
 
 /// Whether a principle asks for edges of the second dimension.
 fn asks_edges(principle: &Principle) -> bool

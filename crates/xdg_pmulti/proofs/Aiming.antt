@@ -25,10 +25,10 @@ use Rattle.xdg_rules.proofs.Shrinking.{may_exact, must_exact}
 use Rattle.xdg_store.specs.States.{State, Known}
 use Rattle.xdg_propcore.specs.Passes.{Progress, Clears}
 use Rattle.xdg_propcore.proofs.Passing.{clears_like}
-use Rattle.xdg_reach.specs.Edges.{edges_of, edge_labels}
-use Rattle.xdg_reach.specs.declared.which.Which.TheVariants as whichs
-use Rattle.xdg_reach.proofs.Edges.{stands_by}
-use Rattle.xdg_reach.proofs.Labelled.{label_below}
+use Rattle.xdg_graph.specs.Edges.{edges_of, edge_labels}
+use Rattle.xdg_graph.specs.declared.which.Which.TheVariants as whichs
+use Rattle.xdg_graph.proofs.Edges.{stands_by}
+use Rattle.xdg_graph.proofs.Labelled.{label_below}
 use Rattle.xdg_pmulti.specs.Aims.{AreNodes, Beyond, Blocks, Forbids, From, IsStopped, Leaves, Out, StoppedBy, Stops}
 use Rattle.xdg_pmulti.proofs.Forbidding.{ByOne, Passed, clears_wider, forbids_same, one_edge, passed_all, passed_more, passed_set}
 

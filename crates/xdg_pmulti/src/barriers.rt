@@ -5,7 +5,7 @@ ghost use Rattle.xdg_judge.specs.Links.{In};
 ghost use Rattle.xdg_nodeset.specs.Nodes.{has};
 ghost use Rattle.xdg_problem.specs.Places.{nodes};
 ghost use Rattle.xdg_propcore.specs.Passes.{Clears};
-ghost use Rattle.xdg_reach.specs.Edges.{edge_labels};
+ghost use Rattle.xdg_graph.specs.Edges.{edge_labels};
 ghost use Rattle.xdg_rules.specs.Rules.{BarriersReach};
 ghost use Rattle.xdg_store.specs.States.{Known};
 ghost use Rattle.xdg_pmulti.specs.Aims.{AreNodes, Forbids, IsStopped, StoppedBy};
@@ -13,12 +13,11 @@ ghost use Rattle.xdg_pmulti.specs.Aims.{AreNodes, Forbids, IsStopped, StoppedBy}
 use crate::blocking::blocking;
 use crate::taking::forbid_out;
 use xdg_base::{DimId, LabelId, NodeId};
+use xdg_graph::{Which, above, dim_of, labels_of, set_at};
 use xdg_nodeset::NodeSet;
 use xdg_problem::Group;
 use xdg_propcore::Pass;
-use xdg_reach::{Which, above, labels_of, set_at};
 use xdg_store::Store;
-use xdg_uses::dim_of;
 
 /// The nodes that a table has for a label.
 fn barriers_at(table: &[NodeSet; 32], label: LabelId) -> NodeSet

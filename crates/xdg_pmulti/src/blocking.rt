@@ -4,16 +4,15 @@ ghost use Rattle.std.specs.Prelude.{◌≡◌, ◌<◌, ◌↔◌, ◌⊎◌, �
 ghost use Rattle.xdg_judge.specs.Links.{In};
 ghost use Rattle.xdg_nodeset.specs.Nodes.{has};
 ghost use Rattle.xdg_problem.specs.Places.{nodes};
-ghost use Rattle.xdg_reach.specs.Edges.{edge_labels};
+ghost use Rattle.xdg_graph.specs.Edges.{edge_labels};
 ghost use Rattle.xdg_store.specs.States.{Known};
 ghost use Rattle.xdg_pmulti.specs.Aims.{Blocks};
 
 use xdg_base::{DimId, LabelId, NodeId};
+use xdg_graph::{each_entry_has, labels_of, node_count};
 use xdg_nodeset::NodeSet;
 use xdg_problem::Group;
-use xdg_reach::{labels_of, node_count};
 use xdg_store::Store;
-use xdg_uses::each_entry_has;
 
 /// Whether each remaining entry of a node blocks a label.
 fn blocks(store: &Store, group: &Group, node: NodeId, label: LabelId) -> bool

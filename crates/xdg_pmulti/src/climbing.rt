@@ -9,12 +9,11 @@ ghost use Rattle.xdg_pmulti.specs.Aims.{Forbids, From, Leaves};
 
 use crate::taking::forbid_beyond;
 use xdg_base::{DimId, LabelId, NodeId};
+use xdg_graph::{Which, above, dim_of, labels_of, node_count, set_at};
 use xdg_nodeset::NodeSet;
 use xdg_problem::Group;
 use xdg_propcore::Pass;
-use xdg_reach::{Which, above, labels_of, node_count, set_at};
 use xdg_store::Store;
-use xdg_uses::dim_of;
 
 /// Takes away that an edge out of a node is present, each whose daughter is outside a set.
 fn forbid_from(store: &mut Store, pass: &mut Pass, dim: DimId, mother: NodeId, within: NodeSet)

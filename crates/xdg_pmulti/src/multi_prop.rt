@@ -14,10 +14,10 @@ use crate::barriers::take_barriers;
 use crate::climbing::take_climbing;
 use crate::reads::is_climbing;
 use xdg_base::OutOfMemory;
+use xdg_graph::dim_of;
 use xdg_problem::{Group, Problem};
 use xdg_propcore::{Moved, Pass, Propagator, Wake};
 use xdg_store::Store;
-use xdg_uses::dim_of;
 
 /// Takes from a box what a use of climbing or of barriers takes.
 #[derive(Debug, Drop)]

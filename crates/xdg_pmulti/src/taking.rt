@@ -4,15 +4,15 @@ ghost use Rattle.std.specs.Prelude.{◌≡◌, ◌<◌, ℕ, true};
 ghost use Rattle.xdg_nodeset.specs.Nodes.{has};
 ghost use Rattle.xdg_problem.specs.Places.{nodes};
 ghost use Rattle.xdg_propcore.specs.Passes.{Clears};
-ghost use Rattle.xdg_reach.specs.Edges.{edge_labels};
+ghost use Rattle.xdg_graph.specs.Edges.{edge_labels};
 ghost use Rattle.xdg_store.specs.States.{Known};
 ghost use Rattle.xdg_pmulti.specs.Aims.{Beyond, Forbids, Out};
 
 use xdg_base::{DimId, LabelId, NodeId};
+use xdg_graph::{Which, daughters_by};
 use xdg_nodeset::NodeSet;
 use xdg_problem::Edge;
 use xdg_propcore::Pass;
-use xdg_reach::{Which, daughters_by};
 use xdg_store::Store;
 
 /// Takes away that an edge with a label out of a node is present, each whose daughter is outside a set.

@@ -21,8 +21,8 @@ use Rattle.xdg_problem.specs.Vectors.{shape}
 use Rattle.xdg_problem.proofs.PlaceOrder.{is_place}
 use Rattle.xdg_rules.specs.Rules.{may_edges, must_edges, AboutHead, ComesBefore, DaughterOrder, OfHead, FailsTest, IsClosedFor, IsPlaceOn, ProjectivityReach, SaysPresent, TakesBy, TestDecided, TestPasses, has as flag}
 use Rattle.xdg_rules.proofs.Shrinking.{may_exact, must_exact}
-use Rattle.xdg_reach.specs.Edges.{edge_labels}
-use Rattle.xdg_reach.proofs.Labelled.{label_below}
+use Rattle.xdg_graph.specs.Edges.{edge_labels}
+use Rattle.xdg_graph.proofs.Labelled.{label_below}
 use Rattle.xdg_porder.specs.Across.{AreNodesDone}
 use Rattle.xdg_porder.specs.Items.{AreEarlierDone, AreMothersDone, IsPairDone, MayFollow, MustFollow, label_at}
 use Rattle.xdg_porder.proofs.Pairing.{pairs_before}

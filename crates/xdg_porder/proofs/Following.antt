@@ -7,8 +7,8 @@ use Rattle.xdg_problem.specs.declared.parts.Parts.{Parts}
 use Rattle.xdg_problem.specs.Analyses.{IsPlace}
 use Rattle.xdg_problem.specs.Boxes.{Has}
 use Rattle.xdg_problem.specs.Places.{edge, nodes}
-use Rattle.xdg_reach.specs.Edges.{edge_labels}
-use Rattle.xdg_reach.proofs.Labelled.{label_below, place_between}
+use Rattle.xdg_graph.specs.Edges.{edge_labels}
+use Rattle.xdg_graph.proofs.Labelled.{label_below, place_between}
 
 -- ---- daughters
 

@@ -19,9 +19,9 @@ use Rattle.xdg_propcore.specs.Sweeps.{Sweeps}
 use Rattle.xdg_propcore.proofs.Passing.{goes_both}
 use Rattle.xdg_propcore.proofs.Sweeping.{sweeps_start, sweeps_skip, sweeps_both, sweeps_taken}
 use Rattle.xdg_porder.specs.Items.{IsAtNode, IsReady, MayOwn, NoneFollow, NoneStand, TakesEdges, TakesItems, edge_to}
-use Rattle.xdg_uses.specs.Slots.{IsSlot, decision_of}
-use Rattle.xdg_uses.specs.declared.slot.Slot.{Slot}
-use Rattle.xdg_uses.proofs.SlotValues.{slot_below}
+use Rattle.xdg_graph.specs.Slots.{IsSlot, decision_of}
+use Rattle.xdg_graph.specs.declared.slot.Slot.{Slot}
+use Rattle.xdg_graph.proofs.SlotValues.{slot_below}
 use Rattle.xdg_porder.proofs.Gathering.{head_or_tail}
 
 -- what is ready stays so

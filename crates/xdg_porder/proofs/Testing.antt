@@ -26,10 +26,10 @@ use Rattle.xdg_rules.specs.Rules.{has, may_edges, FailsTest, IsDecided, IsPlaceO
 use Rattle.xdg_rules.proofs.Failing.{value_is}
 use Rattle.xdg_rules.proofs.Shrinking.{may_exact}
 use Rattle.xdg_rules.proofs.Sizes.{edge_some, edge_values}
-use Rattle.xdg_reach.specs.declared.which.Which.TheVariants as whichs
-use Rattle.xdg_reach.specs.Edges.{edge_labels}
-use Rattle.xdg_reach.proofs.Edges.{stands_by}
-use Rattle.xdg_reach.proofs.Labelled.{label_below}
+use Rattle.xdg_graph.specs.declared.which.Which.TheVariants as whichs
+use Rattle.xdg_graph.specs.Edges.{edge_labels}
+use Rattle.xdg_graph.proofs.Edges.{stands_by}
+use Rattle.xdg_graph.proofs.Labelled.{label_below}
 use Rattle.xdg_porder.specs.Items.{AreEarlierDone, IsPairDone, MayFollow, MayStand, MustFollow, MustStand, edge_to, label_at}
 use Rattle.xdg_porder.specs.Yields.{AreSettled, IsBrokenAt, StandsBelow}
 

@@ -11,7 +11,7 @@ use Rattle.xdg_problem.specs.Paths.{Above}
 use Rattle.xdg_problem.specs.Places.{nodes}
 use Rattle.xdg_rules.specs.Rules.{may_edges}
 use Rattle.xdg_store.specs.States.{State}
-use Rattle.xdg_reach.specs.Edges.{edge_labels}
+use Rattle.xdg_graph.specs.Edges.{edge_labels}
 use Rattle.xdg_porder.specs.Items.{IsReady, MayFollow}
 
 -- a node strictly between u and v is not in a set

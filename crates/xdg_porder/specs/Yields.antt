@@ -7,7 +7,7 @@ use Rattle.xdg_problem.specs.Analyses.{IsPlace}
 use Rattle.xdg_problem.specs.Arguments.{first_dim}
 use Rattle.xdg_problem.specs.Boxes.{May, Must}
 use Rattle.xdg_problem.specs.Places.{nodes}
-use Rattle.xdg_reach.specs.Edges.{edge_labels}
+use Rattle.xdg_graph.specs.Edges.{edge_labels}
 use Rattle.xdg_porder.specs.Items.{MayFollow, MayStand, edge_to, label_at}
 
 -- each edge from u with a label that may be must be

@@ -4,7 +4,7 @@ ghost use Rattle.std.specs.Prelude.{◌≡◌, ◌<◌};
 ghost use Rattle.xdg_problem.specs.Arguments.{first_dim};
 ghost use Rattle.xdg_problem.specs.Places.{nodes};
 ghost use Rattle.xdg_propcore.specs.Sweeps.{Sweeps};
-ghost use Rattle.xdg_reach.specs.Edges.{edge_labels};
+ghost use Rattle.xdg_graph.specs.Edges.{edge_labels};
 ghost use Rattle.xdg_porder.specs.Across.{AreLabelsDone, AreNodesDone, IsAcrossLabel, IsAcrossNode, IsLabelDone, IsTabled};
 
 use crate::items::may_follow;
@@ -12,10 +12,10 @@ use crate::reads::label_count;
 use crate::sets::across;
 use crate::taking::take_edges;
 use xdg_base::{LabelId, NodeId};
+use xdg_graph::{node_count, set_at};
 use xdg_nodeset::NodeSet;
 use xdg_problem::Group;
 use xdg_propcore::Pass;
-use xdg_reach::{node_count, set_at};
 use xdg_store::Store;
 
 /// Takes the edges from a node with a label across nodes that by a table can't be below it.

@@ -8,10 +8,9 @@ ghost use Rattle.xdg_porder.specs.Items.{IsOrdering};
 
 use crate::yields::{are_settled, fails_at};
 use xdg_base::NodeId;
+use xdg_graph::{Which, above, dim_of, node_count};
 use xdg_problem::Group;
-use xdg_reach::{Which, above, node_count};
 use xdg_store::Store;
-use xdg_uses::dim_of;
 
 /// Whether the test of some node is decided and fails.
 pub(crate) fn fails_test(store: &Store, group: &Group) -> bool

@@ -7,14 +7,14 @@ ghost use Rattle.xdg_problem.specs.Places.{nodes};
 ghost use Rattle.xdg_rules.specs.Rules.{IsDecided, attr_of_node};
 ghost use Rattle.xdg_store.specs.States.{Known};
 ghost use Rattle.xdg_porder.specs.Items.{IsAtNode, MayFollow, MayOwn, MayStand, MustFollow, MustOwn, MustStand};
-ghost use Rattle.xdg_uses.specs.Slots.{IsSlot, decision_of};
+ghost use Rattle.xdg_graph.specs.Slots.{IsSlot, decision_of};
 
 use crate::reads::label_count;
 use xdg_base::{LabelId, NodeId};
+use xdg_graph::{Slot, dim_of, slot_of};
 use xdg_nodeset::NodeSet;
 use xdg_problem::Group;
 use xdg_store::Store;
-use xdg_uses::{Slot, dim_of, slot_of};
 
 /// The nodes that may be daughters of a node with a label.
 pub(crate) fn may_follow(store: &Store, group: &Group, u: NodeId, label: LabelId) -> NodeSet

@@ -14,10 +14,10 @@ ghost use Rattle.xdg_porder.specs.Staying.{stays_still};
 use crate::reads::is_order;
 use crate::sweep::take_all;
 use xdg_base::OutOfMemory;
+use xdg_graph::dim_of;
 use xdg_problem::{Group, Problem};
 use xdg_propcore::{Moved, Pass, Propagator, Wake};
 use xdg_store::{Mark, Store};
-use xdg_uses::dim_of;
 
 /// The propagator of a use of order or projectivity.
 #[derive(Debug, Drop)]

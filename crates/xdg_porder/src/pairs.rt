@@ -11,10 +11,10 @@ use crate::reads::label_at;
 use crate::sets::{at_or_left, at_or_right, is_empty};
 use crate::taking::take_items;
 use xdg_base::{LabelId, NodeId};
+use xdg_graph::node_count;
 use xdg_nodeset::NodeSet;
 use xdg_problem::Group;
 use xdg_propcore::Pass;
-use xdg_reach::node_count;
 use xdg_store::Store;
 
 /// Takes the items with a later label that stand at or left of one with an earlier label that must be.

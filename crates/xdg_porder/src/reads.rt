@@ -4,14 +4,13 @@ ghost use Rattle.std.specs.Prelude.{◌≡◌, ◌<◌, ◌≤◌, ◌↔◌, Is
 ghost use Rattle.xdg_problem.specs.declared.parts.Principle.TheVariants as principles;
 ghost use Rattle.xdg_problem.specs.Arguments.{first_dim};
 ghost use Rattle.xdg_store.specs.States.{Known};
-ghost use Rattle.xdg_reach.specs.Edges.{edge_labels};
+ghost use Rattle.xdg_graph.specs.Edges.{edge_labels};
 ghost use Rattle.xdg_porder.specs.Items.{label_at};
 
 use xdg_base::LabelId;
+use xdg_graph::{dim_of, labels_of};
 use xdg_problem::{Group, Principle};
-use xdg_reach::labels_of;
 use xdg_store::Store;
-use xdg_uses::dim_of;
 
 /// Whether a principle use is one of order.
 pub(crate) fn is_order(group: &Group) -> bool

@@ -6,8 +6,8 @@ ghost use Rattle.xdg_nodeset.specs.Nodes.{has};
 ghost use Rattle.xdg_porder.specs.Across.{Crosses};
 
 use xdg_base::NodeId;
+use xdg_graph::set_at;
 use xdg_nodeset::NodeSet;
-use xdg_reach::set_at;
 
 /// Whether a set has no node.
 pub(crate) fn is_empty(set: NodeSet) -> bool

@@ -13,12 +13,11 @@ use crate::across::take_across;
 use crate::failing::fails_test;
 use crate::pairs::take_nodes;
 use crate::reads::is_order;
+use xdg_graph::{Which, above, dim_of, truth_of};
 use xdg_nodeset::NodeSet;
 use xdg_problem::Group;
 use xdg_propcore::{Pass, Touched};
-use xdg_reach::{Which, above};
 use xdg_store::{Mark, Store};
-use xdg_uses::{dim_of, truth_of};
 
 /// Takes all, where yields are taken along and a test is decided and fails.
 fn take_failing(store: &mut Store, pass: &mut Pass, group: &Group)

@@ -7,11 +7,11 @@ ghost use Rattle.xdg_propcore.specs.Sweeps.{Sweeps};
 ghost use Rattle.xdg_porder.specs.Items.{IsAtNode, IsReady, MayOwn, NoneFollow, NoneStand, TakesEdges, TakesItems};
 
 use xdg_base::{LabelId, NodeId};
+use xdg_graph::{dim_of, slot_of};
 use xdg_nodeset::NodeSet;
 use xdg_problem::{Edge, Group};
 use xdg_propcore::Pass;
 use xdg_store::Store;
-use xdg_uses::{dim_of, slot_of};
 
 /// Takes the edges from a node with a label to the nodes of a set.
 pub(crate) fn take_edges(

@@ -11,9 +11,9 @@ use crate::items::{is_own_decided, may_follow, may_items, must_follow};
 use crate::reads::{label_at, label_count};
 use crate::sets::{all_below, at_or_left, is_empty};
 use xdg_base::{LabelId, NodeId};
+use xdg_graph::node_count;
 use xdg_nodeset::NodeSet;
 use xdg_problem::Group;
-use xdg_reach::node_count;
 use xdg_store::Store;
 
 /// Whether each edge from a node with a label that may be must be.

@@ -6,10 +6,10 @@ use Rattle.xdg_base.specs.declared.faults.Fault.{Fault}
 use Rattle.xdg_ast.specs.declared.names.Name.{Name}
 use Rattle.xdg_domain.specs.Shapes.{shape}
 use Rattle.xdg_domain.specs.declared.types.Ty.{Ty}
-use Rattle.xdg_faults.specs.First.{In, Tells, first}
-use Rattle.xdg_faults.proofs.First.{tells_as, first-tells}
-use Rattle.xdg_faults.proofs.In.{in_append, in_left, in_right, in_flat_map, flat_map_in, in_unless, unless_in}
-use Rattle.xdg_index.specs.Texts.{has_text}
+use Rattle.xdg_names.specs.First.{In, Tells, first}
+use Rattle.xdg_names.proofs.First.{tells_as, first-tells}
+use Rattle.xdg_names.proofs.In.{in_append, in_left, in_right, in_flat_map, flat_map_in, in_unless, unless_in}
+use Rattle.xdg_names.specs.Texts.{has_text}
 use Rattle.xdg_terms.specs.Forms.{Term}
 use Rattle.xdg_types.specs.Names.{fault_at}
 use Rattle.xdg_types.specs.NameFaults.{repeats}

@@ -5,9 +5,9 @@ use Rattle.std.specs.Str.{bytes_eq}
 use Rattle.std.proofs.lemmas.Grind.{flat_map-append}
 use Rattle.std.proofs.lemmas.List.{map-append, append-nil}
 use Rattle.xdg_base.specs.declared.faults.Fault.{Fault}
-use Rattle.xdg_faults.specs.First.{first, earlier}
-use Rattle.xdg_faults.proofs.First.{first_append, earlier-none}
-use Rattle.xdg_index.specs.Texts.{has_text}
+use Rattle.xdg_names.specs.First.{first, earlier}
+use Rattle.xdg_names.proofs.First.{first_append, earlier-none}
+use Rattle.xdg_names.specs.Texts.{has_text}
 use Rattle.xdg_principles.specs.declared.principle.Parameter.{Parameter}
 use Rattle.xdg_principles.specs.declared.building.Arg.{Arg}
 use Rattle.xdg_principles.specs.Made.{arg, args}

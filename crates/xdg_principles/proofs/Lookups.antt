@@ -8,7 +8,7 @@ use Rattle.std.proofs.lemmas.List.{map-append}
 use Rattle.std.proofs.lemmas.Option.{slice_get-map}
 use Rattle.std.proofs.lemmas.Slice.Eq.{bytes_eq-Decides}
 use Rattle.xdg_domain.specs.Shapes.{Among, Differ}
-use Rattle.xdg_index.specs.Texts.{has_text, place_of}
+use Rattle.xdg_names.specs.Texts.{has_text, place_of}
 use Rattle.xdg_types.specs.declared.table.DimType.{DimType}
 use Rattle.xdg_types.specs.Table.{KeepDims, firsts}
 use Rattle.xdg_principles.specs.declared.lookup.Lookup.{Lookup}

@@ -5,7 +5,7 @@ use Rattle.std.proofs.lemmas.Bool.{true≢false, false_from_ne_true}
 use Rattle.std.proofs.lemmas.Slice.Eq.{bytes_eq-Decides}
 use Rattle.xdg_domain.specs.Shapes.{Among}
 use Rattle.xdg_domain.specs.declared.types.Ty.{Ty}
-use Rattle.xdg_index.specs.Texts.{place_of}
+use Rattle.xdg_names.specs.Texts.{place_of}
 use Rattle.xdg_types.specs.Table.{firsts}
 use Rattle.xdg_principles.specs.declared.principle.Sort.{Sort}
 use Rattle.xdg_principles.specs.declared.principle.Which.{Which}

@@ -2,7 +2,7 @@
 use Rattle.std.proofs.Common.{◌≡◌, ℕ, Bool, true, false, List, [], ◌∷◌, map, Option, None, Some, refl, sym, ap, ap₂, ◌∙◌}
 use Rattle.std.specs.Prelude.{bytes_eq, codes}
 use Rattle.xdg_ast.specs.declared.names.Name.{Name}
-use Rattle.xdg_index.specs.Texts.{place_of}
+use Rattle.xdg_names.specs.Texts.{place_of}
 use Rattle.xdg_terms.specs.Forms.{Term}
 use Rattle.xdg_terms.specs.Means.{truth_text}
 use Rattle.xdg_types.specs.declared.table.DimType.{DimType}

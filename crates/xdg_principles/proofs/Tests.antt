@@ -3,8 +3,8 @@ use Rattle.std.proofs.Common.{◌≡◌, ℕ, Bool, true, false, List, [], sym, 
 use Rattle.std.specs.Prelude.{if◌then◌else◌}
 use Rattle.std.proofs.lemmas.Bool.{true≢false, false≢true, false_from_ne_true}
 use Rattle.xdg_domain.specs.Shapes.{Among}
-use Rattle.xdg_faults.specs.First.{In}
-use Rattle.xdg_index.specs.Texts.{has_text}
+use Rattle.xdg_names.specs.First.{In}
+use Rattle.xdg_names.specs.Texts.{has_text}
 use Rattle.xdg_types.proofs.Distinct.{has_among, among_has}
 
 pub not_among : (all : List (List ℕ)) (t : List ℕ) → has_text all t ≡ false → Among all t → ⊥

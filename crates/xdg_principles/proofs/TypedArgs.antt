@@ -9,7 +9,7 @@ use Rattle.xdg_base.specs.declared.faults.Cause.TheVariants as causes
 use Rattle.xdg_base.specs.declared.faults.Fault.{Fault}
 use Rattle.xdg_domain.specs.Shapes.{Shape, domain, set, iset, valency, mapping, shape, Differ}
 use Rattle.xdg_domain.specs.declared.types.Ty.{Ty}
-use Rattle.xdg_index.proofs.Texts.{place_of-Some}
+use Rattle.xdg_names.proofs.Texts.{place_of-Some}
 use Rattle.xdg_terms.specs.Forms.{Term, constant_of}
 use Rattle.xdg_types.specs.Kinds.{is_small}
 use Rattle.xdg_types.specs.Names.{fault_at}

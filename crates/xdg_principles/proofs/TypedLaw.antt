@@ -5,8 +5,8 @@ use Rattle.xdg_ast.specs.declared.names.Name.{Name}
 use Rattle.xdg_base.specs.declared.faults.Cause.TheVariants as causes
 use Rattle.xdg_base.specs.declared.faults.Fault.{Fault}
 use Rattle.xdg_domain.specs.Shapes.{Shape, Among}
-use Rattle.xdg_faults.specs.First.{In}
-use Rattle.xdg_index.specs.Texts.{place_of}
+use Rattle.xdg_names.specs.First.{In}
+use Rattle.xdg_names.specs.Texts.{place_of}
 use Rattle.xdg_types.specs.declared.table.DimType.{DimType}
 use Rattle.xdg_types.specs.Answers.{HasTable, None_of}
 use Rattle.xdg_types.specs.Names.{fault_at}

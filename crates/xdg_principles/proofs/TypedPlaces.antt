@@ -4,9 +4,9 @@ use Rattle.std.specs.Prelude.{slice_get}
 use Rattle.std.proofs.lemmas.List.{length-map, get_or-map}
 use Rattle.xdg_ast.specs.declared.names.Name.{Name}
 use Rattle.xdg_domain.specs.Shapes.{Among, Differ}
-use Rattle.xdg_faults.specs.First.{In}
-use Rattle.xdg_index.specs.Texts.{place_of}
-use Rattle.xdg_index.proofs.Texts.{place_of-Some, place_of-at}
+use Rattle.xdg_names.specs.First.{In}
+use Rattle.xdg_names.specs.Texts.{place_of}
+use Rattle.xdg_names.proofs.Texts.{place_of-Some, place_of-at}
 use Rattle.xdg_types.specs.declared.table.DimType.{DimType}
 use Rattle.xdg_types.specs.Parts.{texts}
 use Rattle.xdg_types.specs.Table as table

@@ -11,9 +11,9 @@ use Rattle.xdg_ast.specs.declared.grammar.DimPartKind.TheVariants as v
 use Rattle.xdg_base.specs.declared.faults.Cause.TheVariants as causes
 use Rattle.xdg_base.specs.declared.faults.Fault.{Fault}
 use Rattle.xdg_domain.specs.Shapes.{Among}
-use Rattle.xdg_faults.specs.First.{In}
-use Rattle.xdg_faults.proofs.In.{in_flat_map, flat_map_in}
-use Rattle.xdg_index.specs.Texts.{place_of}
+use Rattle.xdg_names.specs.First.{In}
+use Rattle.xdg_names.proofs.In.{in_flat_map, flat_map_in}
+use Rattle.xdg_names.specs.Texts.{place_of}
 use Rattle.xdg_terms.specs.Forms.{Term, constant_of}
 use Rattle.xdg_terms.specs.Offences.{is_some}
 use Rattle.xdg_terms.specs.Means.{truth_text}

@@ -5,7 +5,7 @@ use Rattle.xdg_base.specs.declared.faults.Cause.TheVariants as causes
 use Rattle.xdg_base.specs.declared.faults.Fault.{Fault}
 use Rattle.xdg_domain.specs.Shapes.{Among, shape}
 use Rattle.xdg_domain.specs.declared.types.Ty.{Ty}
-use Rattle.xdg_faults.specs.First.{In}
+use Rattle.xdg_names.specs.First.{In}
 use Rattle.xdg_terms.specs.Forms.{Term, constant_of}
 use Rattle.xdg_terms.specs.Offences.{is_some}
 use Rattle.xdg_types.specs.Names.{fault_at}

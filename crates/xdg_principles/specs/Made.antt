@@ -1,7 +1,7 @@
 -- The uses of principles with what they name, by number.
 use Rattle.std.specs.Prelude.{◌≡◌, ℕ, Bool, false, List, [], ◌∷◌, map, Option, None, Some, codes, bytes_eq}
 use Rattle.xdg_ast.specs.declared.names.Name.{Name}
-use Rattle.xdg_index.specs.Texts.{place_of}
+use Rattle.xdg_names.specs.Texts.{place_of}
 use Rattle.xdg_terms.specs.Forms.{Term, constant_of}
 use Rattle.xdg_terms.specs.Means.{truth_text}
 use Rattle.xdg_types.specs.declared.table.DimType.{DimType}

@@ -1,7 +1,7 @@
 -- That a use of a principle, by number, names what is there and has the wanted types: said of a table of types alone, without the text.
 use Rattle.std.specs.Prelude.{◌≡◌, ℕ, ◌<◌, true, List, [], ◌∷◌, length, Option, Some, slice_get}
 use Rattle.xdg_domain.specs.Shapes.{Shape, domain, valency}
-use Rattle.xdg_faults.specs.First.{In}
+use Rattle.xdg_names.specs.First.{In}
 use Rattle.xdg_types.specs.declared.table.DimType.{DimType}
 use Rattle.xdg_types.specs.Kinds.{is_small}
 use Rattle.xdg_types.specs.Table.{Table, Typed, typed, HasPlace, ArePlaces}

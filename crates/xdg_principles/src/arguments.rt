@@ -2,8 +2,8 @@
 
 ghost use Rattle.std.specs.Prelude.{◌≡◌, [], ◌∷◌, map, flat_map, ◌++◌, IfOk};
 ghost use Rattle.xdg_base.specs.declared.faults.Cause.TheVariants as causes;
-ghost use Rattle.xdg_faults.specs.First.{first, Tells};
-ghost use Rattle.xdg_index.specs.Texts.{has_text};
+ghost use Rattle.xdg_names.specs.First.{first, Tells};
+ghost use Rattle.xdg_names.specs.Texts.{has_text};
 ghost use Rattle.xdg_types.specs.Names.{fault_at};
 ghost use Rattle.xdg_types.specs.NameFaults.{repeats};
 ghost use Rattle.xdg_principles.specs.ArgumentFaults as spec;
@@ -23,8 +23,7 @@ use crate::using::{UseRef, principle_uses};
 use std::alloc::{AllocError, Global};
 use xdg_ast::{Name, Statement, Term};
 use xdg_base::{Cause, Fault, Text};
-use xdg_faults::earlier;
-use xdg_index::Index;
+use xdg_names::{Index, earlier};
 use xdg_types::{DimType, TypeTable};
 
 /// The first fault of the arguments in the uses of principles, in dimensions that are used and in others, if there is
@@ -138,7 +137,7 @@ fn check_parameter<'a>(
 }
 
 /// In one argument.
-#[tactic(auto, using(xdg_faults::proofs::First::first_append))]
+#[tactic(auto, using(xdg_names::proofs::First::first_append))]
 fn check_argument<'a>(
     alloc: Global,
     setting: &SettingRef<'a>,
@@ -255,7 +254,7 @@ fn check_named<'a>(
 }
 
 /// Labels, which have to be different.
-#[tactic(auto, using(xdg_faults::proofs::First::first_append))]
+#[tactic(auto, using(xdg_names::proofs::First::first_append))]
 fn check_labels(alloc: Global, labels: &[Text], names: &[Name]) -> Result<Option<Fault>, AllocError>
     ensures { IfOk result (λ found. found ≡ first (flat_map (spec.outside labels.now) names.now ++ repeats [] names.now)) }
 {

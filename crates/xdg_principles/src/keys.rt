@@ -2,8 +2,8 @@
 
 ghost use Rattle.std.specs.Prelude.{◌≡◌, [], flat_map, IfOk};
 ghost use Rattle.std.specs.Option.{option_copied};
-ghost use Rattle.xdg_faults.specs.First.{first};
-ghost use Rattle.xdg_index.specs.Texts.{has_text};
+ghost use Rattle.xdg_names.specs.First.{first};
+ghost use Rattle.xdg_names.specs.Texts.{has_text};
 ghost use Rattle.xdg_types.specs.NameFaults as names;
 ghost use Rattle.xdg_types.specs.Parts.{texts};
 ghost use Rattle.xdg_principles.specs.Uses as spec;
@@ -11,8 +11,7 @@ ghost use Rattle.xdg_principles.specs.Uses as spec;
 use std::alloc::{AllocError, Global};
 use xdg_ast::{Name, Pair};
 use xdg_base::{Cause, Fault};
-use xdg_faults::earlier;
-use xdg_index::Index;
+use xdg_names::{Index, earlier};
 
 /// The fault of a name that was seen before. From then on it is seen.
 pub(crate) fn repeated(

@@ -10,7 +10,7 @@ use crate::principle::Sort;
 use std::alloc::{AllocError, Global};
 use xdg_base::{List, Text};
 use xdg_domain::Ty;
-use xdg_index::Index;
+use xdg_names::Index;
 use xdg_types::{DimType, TypeTable};
 
 /// Indexes of the names in a table of types, each by its place.

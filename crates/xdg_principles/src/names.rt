@@ -2,8 +2,8 @@
 
 ghost use Rattle.std.specs.Prelude.{◌≡◌, [], ◌∷◌, map, flat_map, IfOk, if◌then◌else◌};
 ghost use Rattle.xdg_base.specs.declared.faults.Cause.TheVariants as causes;
-ghost use Rattle.xdg_faults.specs.First.{first, Tells};
-ghost use Rattle.xdg_index.specs.Texts.{has_text};
+ghost use Rattle.xdg_names.specs.First.{first, Tells};
+ghost use Rattle.xdg_names.specs.Texts.{has_text};
 ghost use Rattle.xdg_types.specs.NameFaults as names;
 ghost use Rattle.xdg_types.specs.Names.{fault_at};
 ghost use Rattle.xdg_types.specs.Parts.{dim_names, used_name, used_names};
@@ -18,8 +18,7 @@ use crate::using::{UseRef, principle_uses};
 use std::alloc::{AllocError, Global};
 use xdg_ast::{Name, Pair, Statement, StatementKind, Term};
 use xdg_base::{Cause, Fault};
-use xdg_faults::earlier;
-use xdg_index::Index;
+use xdg_names::{Index, earlier};
 
 /// The first fault of the names in the uses of principles, in dimensions that are used and in others, if there is one.
 ///
@@ -107,7 +106,7 @@ fn check_uses<'a>(
 }
 
 /// In one use.
-#[tactic(auto, using(xdg_faults::proofs::First::first_append))]
+#[tactic(auto, using(xdg_names::proofs::First::first_append))]
 fn check_use<'a>(
     alloc: Global,
     defined: &Index,
@@ -134,7 +133,7 @@ fn unused_dims<'a>(used: &Index, one: &UseRef<'a>) -> Option<Fault>
 }
 
 /// What the principle that is named hasn't, or lacks.
-#[tactic(auto, using(xdg_faults::proofs::First::first_append))]
+#[tactic(auto, using(xdg_names::proofs::First::first_append))]
 fn check_form<'a>(one: &UseRef<'a>) -> Option<Fault>
     ensures { result ≡ first (spec.form_faults (seen one.now) (principle_named one.now.name.now.text)) }
 {
@@ -149,7 +148,7 @@ fn check_form<'a>(one: &UseRef<'a>) -> Option<Fault>
 }
 
 /// The first key that the principle hasn't.
-#[tactic(auto, using(xdg_faults::proofs::First::first_append))]
+#[tactic(auto, using(xdg_names::proofs::First::first_append))]
 fn foreign_keys<'a>(form: Form, one: &UseRef<'a>) -> Option<Fault>
     ensures { result ≡ first (spec.key_faults form (seen one.now)) }
 {
@@ -234,14 +233,14 @@ fn is_named(parameter: Option<Parameter>, text: &str) -> bool
 }
 
 /// The fault of a principle that isn't given what it has to be given.
-#[tactic(auto, using(xdg_faults::proofs::First::first_append))]
+#[tactic(auto, using(xdg_names::proofs::First::first_append))]
 fn left_out<'a>(form: Form, one: &UseRef<'a>) -> Option<Fault>
     ensures { result ≡ first (spec.left_out form (seen one.now)) }
 {
     earlier(lacking_dims(form.dims, one), lacking_args(form, one))
 }
 
-#[tactic(auto, using(xdg_faults::proofs::First::first_append, crate::proofs::Forms::nothing_more))]
+#[tactic(auto, using(xdg_names::proofs::First::first_append, crate::proofs::Forms::nothing_more))]
 fn lacking_dims<'a>(dims: Dims, one: &UseRef<'a>) -> Option<Fault>
     ensures { result ≡ first (flat_map (spec.lacking one.now.name.now.span.start (keys one.now.dims.now)) (map (dim_key dims) (dims_in dims))) }
 {
@@ -265,7 +264,7 @@ fn lacking_args<'a>(form: Form, one: &UseRef<'a>) -> Option<Fault>
     earlier(first, earlier(second, third))
 }
 
-#[tactic(auto, using(xdg_faults::proofs::First::first_append, crate::proofs::Forms::nothing_more))]
+#[tactic(auto, using(xdg_names::proofs::First::first_append, crate::proofs::Forms::nothing_more))]
 fn lacking_arg<'a>(parameter: Option<Parameter>, one: &UseRef<'a>) -> Option<Fault>
     ensures { result ≡ first (flat_map (spec.lacking one.now.name.now.span.start (keys one.now.args.now)) (flat_map required_key (told parameter))) }
 {

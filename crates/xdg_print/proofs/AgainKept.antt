@@ -1,7 +1,7 @@
 -- What the combinators keep, where their parts are kept.
 use Rattle.std.proofs.Common.{◌≡◌, true, List, [], ◌∷◌, ◌++◌, Option, Some, None, refl, sym, ap, ◌∙◌, inl, inr}
-use Rattle.xdg_lex.specs.declared.token.Kind.{Kind}
-use Rattle.xdg_lex.specs.Lexed.{Lexeme}
+use Rattle.xdg_ast.specs.declared.token.Kind.{Kind}
+use Rattle.xdg_ast.specs.Lexemes.{Lexeme}
 use Rattle.xdg_ast.specs.Language.{Language, is, token, nothing, both, spanned, made, behind, pair, optional}
 use Rattle.xdg_ast.specs.Grammar.{at_span}
 use Rattle.xdg_ast.specs.Words.{Word, mark, IsSpellable}

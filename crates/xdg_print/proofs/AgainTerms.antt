@@ -1,6 +1,6 @@
 -- Cardinalities, generators, terms and elements are read again.
 use Rattle.std.proofs.Common.{◌≤◌, ℕ, List, [], ◌∷◌, map, refl, sym, ap, ◌∙◌, inl, inr, arith}
-use Rattle.xdg_lex.specs.declared.token.Kind.TheVariants as k
+use Rattle.xdg_ast.specs.declared.token.Kind.TheVariants as k
 use Rattle.xdg_ast.specs.declared.names.Num.{Num}
 use Rattle.xdg_ast.specs.declared.terms.CardKind.{CardKind}
 use Rattle.xdg_ast.specs.declared.terms.CardKind.TheVariants as c

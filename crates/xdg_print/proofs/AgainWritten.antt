@@ -2,8 +2,8 @@
 use Rattle.std.proofs.Common.{◌≡◌, true, List, [], ◌∷◌, ◌++◌, map, flat_map, refl, sym, ap, ◌∙◌, subst, inl, inr}
 use Rattle.std.proofs.lemmas.List.{append-nil, map-append}
 use Rattle.xdg_base.specs.declared.places.Span.{Span}
-use Rattle.xdg_lex.specs.declared.token.Kind.{Kind}
-use Rattle.xdg_lex.specs.Lexed.{Lexeme}
+use Rattle.xdg_ast.specs.declared.token.Kind.{Kind}
+use Rattle.xdg_ast.specs.Lexemes.{Lexeme}
 use Rattle.xdg_ast.specs.Language.{Language, Kinds, is, span_of, full, room, token, nothing, bind, both, either, each, many, nested, spanned, made, behind}
 use Rattle.xdg_ast.specs.Words.{Word, word_of, mark, IsSpellable, AreSpellable}
 

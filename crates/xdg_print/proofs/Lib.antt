@@ -26,3 +26,10 @@ pub mod SpelledWords
 pub mod Written
 pub mod WrittenStatements
 pub mod WrittenTerms
+pub mod Defaulting
+pub mod Keyed
+pub mod Layered
+pub mod Listed
+pub mod Signs
+pub mod Stood
+pub mod WordPlaced

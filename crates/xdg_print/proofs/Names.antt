@@ -1,7 +1,7 @@
 -- Names by their first byte and the others.
 use Rattle.std.proofs.Common.{◌≡◌, ℕ, List, [], ◌∷◌, Bool, true, false, ◌&&◌, if◌then◌else◌, not, refl}
 use Rattle.std.specs.List.{list_all}
-use Rattle.xdg_lex.specs.Kinds.{begins_name, continues_name, keyword_of}
+use Rattle.xdg_ast.specs.Kinds.{begins_name, continues_name, keyword_of}
 use Rattle.xdg_ast.specs.Words.{is_name, is_none}
 use Rattle.xdg_print.specs.Printed.{has_name_form, is_keyword}
 

@@ -4,10 +4,10 @@ use Rattle.std.specs.List.{list_all}
 use Rattle.std.specs.Str.{chars, all_scalars, encode_utf8_all}
 use Rattle.std.proofs.lemmas.Bool.{and_from, cond_both}
 use Rattle.std.proofs.lemmas.Str.{scalars-chars}
-use Rattle.xdg_lex.specs.declared.token.Kind.{Kind}
-use Rattle.xdg_lex.specs.Kinds.{begins_name, continues_name, sign_of}
-use Rattle.xdg_lex.specs.Lexed.{Lexeme, lexeme}
-use Rattle.xdg_lex.specs.Tokenizes.{IsToken, name, number, quoted, sign, Tokenizes, finished, last_comment, gap, token, Spells}
+use Rattle.xdg_ast.specs.declared.token.Kind.{Kind}
+use Rattle.xdg_ast.specs.Kinds.{begins_name, continues_name, sign_of}
+use Rattle.xdg_ast.specs.Lexemes.{Lexeme, lexeme}
+use Rattle.xdg_ast.specs.Tokenizes.{IsToken, name, number, quoted, sign, Tokenizes, finished, last_comment, gap, token, Spells}
 use Rattle.xdg_ast.specs.Words.{word_of, IsSpellable, AreSpellable}
 use Rattle.xdg_print.proofs.SpelledTexts.{scalars_front, scalars_rest, all_pass}
 use Rattle.xdg_print.proofs.SpelledNames.{IsMark, named_spelled}

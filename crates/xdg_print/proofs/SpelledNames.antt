@@ -5,11 +5,11 @@ use Rattle.std.specs.Char.{is_ascii, is_ascii_digit}
 use Rattle.std.specs.List.{list_all}
 use Rattle.std.specs.Str.{encode_utf8_all}
 use Rattle.std.proofs.lemmas.Bool.{and_parts, and_from, cond_both, true≢false}
-use Rattle.xdg_lex.specs.declared.token.Kind.{Kind}
-use Rattle.xdg_lex.specs.declared.token.Kind.TheVariants as k
-use Rattle.xdg_lex.specs.Kinds.{begins_name, continues_name, keyword_of, refined}
-use Rattle.xdg_lex.specs.Lexed.{Lexeme, lexeme}
-use Rattle.xdg_lex.specs.Tokenizes.{size_of, StopsBefore, IsToken, name, Tokenizes, token}
+use Rattle.xdg_ast.specs.declared.token.Kind.{Kind}
+use Rattle.xdg_ast.specs.declared.token.Kind.TheVariants as k
+use Rattle.xdg_ast.specs.Kinds.{begins_name, continues_name, keyword_of, refined}
+use Rattle.xdg_ast.specs.Lexemes.{Lexeme, lexeme}
+use Rattle.xdg_ast.specs.Tokenizes.{size_of, StopsBefore, IsToken, name, Tokenizes, token}
 use Rattle.xdg_ast.specs.Words.{Word, word_of, is_none, is_name, IsSpellable}
 use Rattle.xdg_print.proofs.SpelledTexts.{AreBytesOf, ascii_bytes, each_passes, weaker_test, bytes_utf8}
 

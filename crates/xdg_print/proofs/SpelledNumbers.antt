@@ -6,10 +6,10 @@ use Rattle.std.specs.List.{list_all}
 use Rattle.std.proofs.lemmas.Bool.{and_parts, and_from}
 use Rattle.std.proofs.lemmas.Fmt.{decimal_by_steps}
 use Rattle.std.proofs.lemmas.List.Folds.{list_all-append}
-use Rattle.xdg_lex.specs.declared.token.Kind.TheVariants as k
-use Rattle.xdg_lex.specs.Contents.{with_digit, value_from, value_of}
-use Rattle.xdg_lex.specs.Lexed.{lexeme}
-use Rattle.xdg_lex.specs.Tokenizes.{StopsBefore, IsToken, number, value_after, greatest_number}
+use Rattle.xdg_ast.specs.declared.token.Kind.TheVariants as k
+use Rattle.xdg_ast.specs.Contents.{with_digit, value_from, value_of}
+use Rattle.xdg_ast.specs.Lexemes.{lexeme}
+use Rattle.xdg_ast.specs.Tokenizes.{StopsBefore, IsToken, number, value_after, greatest_number}
 use Rattle.xdg_ast.specs.Words.{Word, word_of, IsSpellable}
 use Rattle.xdg_print.proofs.SpelledTexts.{AreBytesOf, ascii_bytes, each_passes, weaker_test}
 use Rattle.xdg_print.proofs.SpelledNames.{Says, says_more}

@@ -5,10 +5,10 @@ use Rattle.std.specs.Str.{all_scalars, encode_utf8_all}
 use Rattle.std.proofs.lemmas.Bool.{and_parts, and_from, or_parts, cond_both, cond-true, cond-false, true≢false, false_from_ne_true, cases_Bool}
 use Rattle.std.proofs.lemmas.Option.{none-some}
 use Rattle.std.proofs.lemmas.Str.{chars-encodes, encode_ascii, encodes-append, inside_one, length-encode, len_utf8_ascii}
-use Rattle.xdg_lex.specs.declared.token.Kind.TheVariants as k
-use Rattle.xdg_lex.specs.Contents.{undone, unquoted}
-use Rattle.xdg_lex.specs.Lexed.{lexeme}
-use Rattle.xdg_lex.specs.Tokenizes.{size_of, is_escapable, IsInside, nothing, plain, escaped, stray, IsToken, quoted}
+use Rattle.xdg_ast.specs.declared.token.Kind.TheVariants as k
+use Rattle.xdg_ast.specs.Contents.{undone, unquoted}
+use Rattle.xdg_ast.specs.Lexemes.{lexeme}
+use Rattle.xdg_ast.specs.Tokenizes.{size_of, is_escapable, IsInside, nothing, plain, escaped, stray, IsToken, quoted}
 use Rattle.xdg_ast.specs.Canon.{escaped as escape}
 use Rattle.std.proofs.Math.Logic.{inl, inr}
 use Rattle.xdg_ast.specs.Words.{Word, word_of, IsShortText, IsSpellable}

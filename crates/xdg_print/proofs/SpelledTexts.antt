@@ -5,7 +5,7 @@ use Rattle.std.specs.List.{list_all}
 use Rattle.std.specs.Str.{chars, all_scalars, IsUtf8, encode_utf8_all}
 use Rattle.std.proofs.lemmas.Bool.{and_parts, and_from}
 use Rattle.std.proofs.lemmas.Str.{chars-encodes, encodes-append, encodes-chars, scalars-chars, encode_ascii}
-use Rattle.xdg_lex.specs.Tokenizes.{EachPasses}
+use Rattle.xdg_ast.specs.Tokenizes.{EachPasses}
 
 -- the bytes are those of the characters
 pub record AreBytesOf (cs bytes : List ℕ) : Type 0 where

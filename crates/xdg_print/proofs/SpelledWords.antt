@@ -5,11 +5,11 @@ use Rattle.std.specs.Char.{is_ascii_digit}
 use Rattle.std.specs.Str.{chars}
 use Rattle.std.proofs.Math.Logic.{inl, inr}
 use Rattle.std.proofs.lemmas.Bool.{and_parts, or_cases, or_left, or_right, true≢false, false_from_ne_true}
-use Rattle.xdg_lex.specs.declared.token.Kind.{Kind}
-use Rattle.xdg_lex.specs.declared.token.Kind.TheVariants as k
-use Rattle.xdg_lex.specs.Kinds.{continues_name, sign_of, keyword_of, refined}
-use Rattle.xdg_lex.specs.Lexed.{lexeme}
-use Rattle.xdg_lex.specs.Tokenizes.{StopsBefore, sign}
+use Rattle.xdg_ast.specs.declared.token.Kind.{Kind}
+use Rattle.xdg_ast.specs.declared.token.Kind.TheVariants as k
+use Rattle.xdg_ast.specs.Kinds.{continues_name, sign_of, keyword_of, refined}
+use Rattle.xdg_ast.specs.Lexemes.{lexeme}
+use Rattle.xdg_ast.specs.Tokenizes.{StopsBefore, sign}
 use Rattle.xdg_ast.specs.Language.{is}
 use Rattle.xdg_ast.specs.Words.{Word, word_of, mark, IsSpellable}
 use Rattle.xdg_ast.specs.Canon.{text_of, spelling, is_tight_behind, is_tight_before, takes_types, is_tight}

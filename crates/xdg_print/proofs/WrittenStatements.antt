@@ -1,6 +1,6 @@
 -- The words and lines of statements, written one after the other.
 use Rattle.std.proofs.Common.{◌≡◌, List, [], ◌∷◌, flat_map, map, ap, sym, refl, ◌∙◌, Some, None}
-use Rattle.xdg_lex.specs.declared.token.Kind.TheVariants as k
+use Rattle.xdg_ast.specs.declared.token.Kind.TheVariants as k
 use Rattle.xdg_ast.specs.declared.names.Name.{Name}
 use Rattle.xdg_ast.specs.declared.names.Pair.{Pair}
 use Rattle.xdg_ast.specs.declared.names.Spanned.{Spanned}

@@ -6,8 +6,7 @@ ghost use Rattle.xdg_print.specs.Printed.{put, is_joined, is_disjoined};
 
 use crate::printer::Printer;
 use std::alloc::AllocError;
-use xdg_ast::{ExprKind, Params};
-use xdg_lex::Kind;
+use xdg_ast::{ExprKind, Kind, Params};
 
 /// Whether an expression stands in brackets in a conjunction.
 #[tactic(auto, using(crate::proofs::WrittenTerms::expr_or_joined, crate::proofs::WrittenTerms::expr_and_joined, crate::proofs::WrittenTerms::expr_dim_joined, crate::proofs::WrittenTerms::expr_use_joined))]

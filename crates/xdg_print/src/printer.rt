@@ -1,7 +1,7 @@
 //! A text that is written word by word.
 
 ghost use Rattle.std.specs.Prelude.{◌≡◌, ◌++◌, ◌∷◌, [], None, Some, if◌then◌else◌, OnOk};
-ghost use Rattle.xdg_lex.specs.declared.token.Kind.TheVariants as k;
+ghost use Rattle.xdg_ast.specs.declared.token.Kind.TheVariants as k;
 ghost use Rattle.xdg_ast.specs.Words.{mark, number, quoted, constant};
 ghost use Rattle.xdg_ast.specs.Trees.{name_word, names_words, nums_words, constant_in};
 ghost use Rattle.xdg_ast.specs.Canon.{gap};
@@ -10,9 +10,8 @@ ghost use Rattle.xdg_print.specs.Printed.{put, begun, ended, opening, closing};
 use crate::words::{is_name, is_tight, mark_text, push_escaped};
 use itoa::Buffer;
 use std::alloc::{AllocError, Global};
-use xdg_ast::{Name, Num, Params};
+use xdg_ast::{Kind, Name, Num, Params};
 use xdg_base::Text;
-use xdg_lex::Kind;
 
 /// The text so far, and the kind of the last word of its last line, if it has one.
 #[derive(Drop)]

@@ -11,11 +11,10 @@ ghost use Rattle.xdg_print.specs.Printed.{put, put_lines, name_pairs_words, dim_
 use crate::printer::Printer;
 use std::alloc::{AllocError, Global};
 use xdg_ast::{
-    ClassParam, DimPart, DimPartKind, Expr, Grammar, Name, Pair, Params, StatementKind, Term,
+    ClassParam, DimPart, DimPartKind, Expr, Grammar, Kind, Name, Pair, Params, StatementKind, Term,
     TypeTerm,
 };
 use xdg_base::{List, OutOfMemory, Text};
-use xdg_lex::Kind;
 
 impl Printer {
     /// Adds what the dimensions of a principle are.

@@ -6,8 +6,7 @@ ghost use Rattle.xdg_print.specs.Printed.{put, is_joined, is_disjoined};
 
 use crate::printer::Printer;
 use std::alloc::AllocError;
-use xdg_ast::{CardKind, ElemKind, GenKind, Pair, Params, Term, TermKind};
-use xdg_lex::Kind;
+use xdg_ast::{CardKind, ElemKind, GenKind, Kind, Pair, Params, Term, TermKind};
 
 /// Whether a generator stands in brackets in a conjunction.
 #[tactic(auto, using(crate::proofs::WrittenTerms::gen_const_joined, crate::proofs::WrittenTerms::gen_and_joined, crate::proofs::WrittenTerms::gen_or_joined))]

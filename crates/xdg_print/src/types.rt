@@ -1,15 +1,14 @@
 //! Types.
 
 ghost use Rattle.std.specs.Prelude.{◌≡◌, [], ◌∷◌, OnOk};
-ghost use Rattle.xdg_lex.specs.declared.token.Kind.TheVariants as k;
+ghost use Rattle.xdg_ast.specs.declared.token.Kind.TheVariants as k;
 ghost use Rattle.xdg_ast.specs.Words.{mark};
 ghost use Rattle.xdg_ast.specs.Trees.{in_braces, in_parentheses, names_words, type_words};
 ghost use Rattle.xdg_print.specs.Printed.{put};
 
 use crate::printer::Printer;
 use std::alloc::AllocError;
-use xdg_ast::{Name, TypeKind};
-use xdg_lex::Kind;
+use xdg_ast::{Kind, Name, TypeKind};
 
 impl Printer {
     /// Adds a type.

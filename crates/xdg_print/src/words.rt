@@ -3,14 +3,14 @@
 ghost use Rattle.std.specs.Prelude.{◌≡◌, ◌++◌, OnOk};
 ghost use Rattle.std.specs.Char.{encode_utf8};
 ghost use Rattle.std.specs.List.{list_all};
-ghost use Rattle.xdg_lex.specs.Kinds.{begins_name, continues_name};
+ghost use Rattle.xdg_ast.specs.Kinds.{begins_name, continues_name};
 ghost use Rattle.xdg_ast.specs.Words.{mark, is_name};
 ghost use Rattle.xdg_ast.specs.Canon.{spelling, escaped, is_tight_behind, is_tight_before, takes_types, is_tight};
 ghost use Rattle.xdg_print.specs.Printed.{keyword_text, has_name_form, is_keyword};
 
 use std::alloc::AllocError;
+use xdg_ast::Kind;
 use xdg_base::Text;
-use xdg_lex::Kind;
 
 /// How a keyword is spelled. Of other words it tells nothing.
 fn keyword(kind: Kind) -> &'static str
@@ -119,7 +119,7 @@ pub(crate) fn is_tight(one: Kind, other: Kind) -> bool
 }
 
 /// Whether a text is a keyword.
-#[tactic(auto, unfolding(crate::specs::Printed::is_keyword, xdg_lex::specs::Kinds::keyword_of))]
+#[tactic(auto, unfolding(crate::specs::Printed::is_keyword, xdg_ast::specs::Kinds::keyword_of))]
 fn is_keyword(text: &str) -> bool
     ensures { result ≡ is_keyword text.now }
 {

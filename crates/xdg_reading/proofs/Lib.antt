@@ -9,3 +9,11 @@ pub mod Tuples
 pub mod Values
 pub mod Walks
 pub mod Shapes
+pub mod Turns
+pub mod Told
+pub mod EdgeLaws
+pub mod Attributes
+pub mod Answered
+pub mod Written
+pub mod Placing
+pub mod Back

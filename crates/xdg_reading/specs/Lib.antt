@@ -3,3 +3,8 @@ pub mod Lines
 pub mod Pieces
 pub mod Stages
 pub mod Texts
+pub mod Blocks
+pub mod Fitted
+pub mod Fits
+pub mod Names
+pub mod Slots

@@ -1,2 +1,4 @@
+pub mod VerdictsText
+pub mod OneText
 pub mod Runs
 pub mod Outcomes

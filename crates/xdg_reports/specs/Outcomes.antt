@@ -3,22 +3,22 @@ use Rattle.std.specs.Prelude.{◌≡◌, ℕ, List, [], ◌∷◌, length, codes
 use Rattle.xdg_ast.specs.Canon.{canon}
 use Rattle.xdg_classes.specs.Definitions.{classes}
 use Rattle.xdg_command.specs.declared.commands.ExplainOptions.{ExplainOptions}
-use Rattle.xdg_formula_text.specs.declared.tree.Rules.{Rules}
-use Rattle.xdg_grammar.specs.Meanings.{Meaning}
+use Rattle.xdg_formula.specs.declared.tree.Rules.{Rules}
+use Rattle.xdg_inputs.specs.Meanings.{Meaning}
 use Rattle.xdg_judge.specs.declared.verdict.Verdict.{Verdict}
 use Rattle.xdg_judge.specs.Verdicts.{AreVerdicts}
-use Rattle.xdg_lexicon_text.specs.LexiconText.{lexicon_text}
+use Rattle.xdg_print.specs.LexiconText.{lexicon_text}
 use Rattle.xdg_problem.specs.declared.analysis.Analysis.{Analysis}
 use Rattle.xdg_problem.specs.declared.parts.Parts.{Parts}
-use Rattle.xdg_ruled.specs.Outcomes.{RulesThen, WithRules}
+use Rattle.xdg_inputs.specs.RuledSteps.{RulesThen, WithRules}
 use Rattle.xdg_text.specs.Lines.{line}
-use Rattle.xdg_verdict_text.specs.VerdictsText.{verdicts_text}
-use Rattle.xdg_outcomes.specs.Outcomes.{Files, ReadThen, GrammarThen, IsDone}
-use Rattle.xdg_outcomes.specs.Texts.{ReadText}
-use Rattle.xdg_outcomes.specs.declared.status.Status.TheVariants as statuses
-use Rattle.xdg_outcomes.specs.declared.status.Status.{Status}
+use Rattle.xdg_reports.specs.VerdictsText.{verdicts_text}
+use Rattle.xdg_inputs.specs.Outcomes.{Files, ReadThen, GrammarThen, IsDone}
+use Rattle.xdg_inputs.specs.GrammarFiles.{ReadText}
+use Rattle.xdg_inputs.specs.declared.status.Status.TheVariants as statuses
+use Rattle.xdg_inputs.specs.declared.status.Status.{Status}
 use Rattle.xdg_inputs.specs.Analyses.{Analysed}
-use Rattle.xdg_inputs.specs.Outcomes.{AnalysisThen}
+use Rattle.xdg_inputs.specs.AnalysisSteps.{AnalysisThen}
 
 -- ---- `explain`
 

@@ -1,6 +1,6 @@
 -- The statuses with which `check`, `lexicon`, `print` and `explain` can end: all but these.
-use Rattle.xdg_outcomes.specs.declared.status.Status.TheVariants as statuses
-use Rattle.xdg_outcomes.specs.declared.status.Status.{Status}
+use Rattle.xdg_inputs.specs.declared.status.Status.TheVariants as statuses
+use Rattle.xdg_inputs.specs.declared.status.Status.{Status}
 
 abbrev pub ExplainEnds : Status → Type 0
 ExplainEnds statuses.Usage = ⊥

@@ -2,20 +2,18 @@
 
 ghost use Rattle.std.specs.Prelude.{◌≡◌, ◌≢◌, ◌≤◌, ◌⊎◌, ℕ, List, Option, Some, length};
 ghost use Rattle.xdg_io.specs.Rose.{Rose};
-ghost use Rattle.xdg_lexicon_text.specs.LexiconText as entries;
-ghost use Rattle.xdg_outcomes.specs.Loaded.{read_of};
-ghost use Rattle.xdg_outcomes.specs.Outcomes.{IsDone, MeaningThen};
-ghost use Rattle.xdg_outcomes.specs.Runs.{Leaves, Wrote};
+ghost use Rattle.xdg_print.specs.LexiconText as entries;
+ghost use Rattle.xdg_inputs.specs.Loaded.{read_of};
+ghost use Rattle.xdg_inputs.specs.Outcomes.{IsDone, MeaningThen};
+ghost use Rattle.xdg_inputs.specs.Runs.{Leaves, Wrote};
 ghost use Rattle.xdg_reports.specs.Outcomes.{CheckOf, LexiconOf, PrintOf, check_line, counts_line};
 ghost use Rattle.xdg_reports.specs.Runs.{PrintEnds, ReportEnds};
 
 use std::alloc::Global;
 use xdg_base::OutOfMemory;
-use xdg_grammar::expand_tree;
+use xdg_inputs::{Loaded, Status, expand_tree, load_tree, refuse, stopped_in};
 use xdg_io::{Failed, Shelf, Sink, write_all};
-use xdg_lexicon_text::lexicon_text;
-use xdg_outcomes::{Loaded, Status, load_tree, refuse, stopped_in};
-use xdg_print::print;
+use xdg_print::{lexicon_text, print};
 use xdg_text::{Word, write_line};
 
 /// Writes the text of a run that is done.

@@ -6,29 +6,29 @@ use Rattle.xdg_ast.specs.Derives.{Reads}
 use Rattle.xdg_base.specs.declared.faults.Fault.{Fault}
 use Rattle.xdg_base.specs.declared.faults.Stop.{Stop}
 use Rattle.xdg_base.specs.declared.faults.Stop.TheVariants as stops
-use Rattle.xdg_counts.specs.Counted.{AreCounts, IsOneCount}
-use Rattle.xdg_counts.specs.declared.counting.Counts.{Counts}
-use Rattle.xdg_drill.specs.Generated.{grammar_text}
-use Rattle.xdg_grammar.specs.Meanings.{Meaning}
-use Rattle.xdg_grammar.specs.Texts.{TellsTree}
+use Rattle.xdg_searches.specs.Counted.{AreCounts, IsOneCount}
+use Rattle.xdg_searches.specs.declared.counting.Counts.{Counts}
+use Rattle.xdg_searches.specs.Generated.{grammar_text}
+use Rattle.xdg_inputs.specs.Meanings.{Meaning}
+use Rattle.xdg_inputs.specs.GrammarTexts.{TellsTree}
 use Rattle.xdg_io.specs.Held.{Appends, AppendsFront}
 use Rattle.xdg_io.specs.Rose.{Rose}
 use Rattle.xdg_listing.specs.declared.Ending.{Ending}
 use Rattle.xdg_problem.specs.declared.parts.Parts.{Parts}
 use Rattle.xdg_text.specs.Lines.{line}
-use Rattle.xdg_outcomes.specs.Outcomes.{MeaningThen}
+use Rattle.xdg_inputs.specs.Outcomes.{MeaningThen}
 use Rattle.xdg_searches.specs.Outcomes.{DrillOf, DrillSentence, Drilled, drill_line, generated, spent_word, status_of}
-use Rattle.xdg_outcomes.specs.Refusals.{Refuses, Stops, refusal_of}
-use Rattle.xdg_outcomes.specs.Runs.{Ends, Leaves, Wrote}
+use Rattle.xdg_inputs.specs.Refusals.{Refuses, Stops, refusal_of}
+use Rattle.xdg_inputs.specs.Runs.{Ends, Leaves, Wrote}
 use Rattle.xdg_searches.specs.Runs.{DrillEnds}
-use Rattle.xdg_outcomes.specs.Texts.{HasBadText, HasTree, ReadText, grammar_limit}
-use Rattle.xdg_outcomes.specs.declared.refusals.Refusal.{Refusal}
-use Rattle.xdg_outcomes.specs.declared.refusals.Refusal.TheVariants as refusals
-use Rattle.xdg_outcomes.specs.declared.status.Status.{Status}
-use Rattle.xdg_outcomes.specs.declared.status.Status.TheVariants as statuses
-use Rattle.xdg_outcomes.proofs.Leaving.{accepted_leaves, stopped_leaves}
-use Rattle.xdg_outcomes.proofs.Trees.{Only, tree_accepted, tree_stops}
-use Rattle.xdg_outcomes.proofs.Writing.{IsBad, refused_wrote}
+use Rattle.xdg_inputs.specs.GrammarFiles.{HasBadText, HasTree, ReadText, grammar_limit}
+use Rattle.xdg_inputs.specs.declared.refusals.Refusal.{Refusal}
+use Rattle.xdg_inputs.specs.declared.refusals.Refusal.TheVariants as refusals
+use Rattle.xdg_inputs.specs.declared.status.Status.{Status}
+use Rattle.xdg_inputs.specs.declared.status.Status.TheVariants as statuses
+use Rattle.xdg_inputs.proofs.Leaving.{accepted_leaves, stopped_leaves}
+use Rattle.xdg_inputs.proofs.Trees.{Only, tree_accepted, tree_stops}
+use Rattle.xdg_inputs.proofs.Writing.{IsBad, refused_wrote}
 
 -- ---- counts that are written
 

@@ -1,31 +1,31 @@
 -- The status and the text of `parse`, `resume` and `drill`, as the files and the input alone determine them.
 use Rattle.std.specs.Prelude.{◌≡◌, ℕ, Bool, true, false, List, [], ◌∷◌, length, Option, Some, codes, decimal}
-use Rattle.xdg_analyses.specs.Printed.{Prints}
-use Rattle.xdg_analyses.specs.declared.forms.Form.{Form}
-use Rattle.xdg_analyses.specs.declared.forms.Form.TheVariants as forms
-use Rattle.xdg_branches.specs.Branched.{PrintsBranches}
+use Rattle.xdg_split.specs.Printed.{Prints}
+use Rattle.xdg_split.specs.declared.forms.Form.{Form}
+use Rattle.xdg_split.specs.declared.forms.Form.TheVariants as forms
+use Rattle.xdg_searches.specs.Branched.{PrintsBranches}
 use Rattle.xdg_command.specs.declared.commands.ParseOptions.{ParseOptions}
 use Rattle.xdg_command.specs.declared.commands.ResumeOptions.{ResumeOptions}
 use Rattle.xdg_command.specs.declared.commands.TextForm.{TextForm}
 use Rattle.xdg_command.specs.declared.commands.TextForm.TheVariants as texts
-use Rattle.xdg_counts.specs.Counted.{AreCounts}
-use Rattle.xdg_counts.specs.declared.counting.Counts.{Counts}
-use Rattle.xdg_formula_text.specs.declared.tree.Rules.{Rules}
-use Rattle.xdg_drill.specs.Generated.{grammar_text, sentence_text}
-use Rattle.xdg_grammar.specs.Meanings.{Meaning}
+use Rattle.xdg_searches.specs.Counted.{AreCounts}
+use Rattle.xdg_searches.specs.declared.counting.Counts.{Counts}
+use Rattle.xdg_formula.specs.declared.tree.Rules.{Rules}
+use Rattle.xdg_searches.specs.Generated.{grammar_text, sentence_text}
+use Rattle.xdg_inputs.specs.Meanings.{Meaning}
 use Rattle.xdg_listing.specs.declared.Ending.{Ending}
 use Rattle.xdg_listing.specs.declared.Ending.TheVariants as endings
 use Rattle.xdg_problem.specs.declared.analysis.Analysis.{Analysis}
 use Rattle.xdg_problem.specs.declared.parts.Parts.{Parts}
-use Rattle.xdg_ruled.specs.Outcomes.{RulesThen, WithRules}
+use Rattle.xdg_inputs.specs.RuledSteps.{RulesThen, WithRules}
 use Rattle.xdg_problem.specs.Vectors.{vector}
 use Rattle.xdg_text.specs.Lines.{line}
-use Rattle.xdg_outcomes.specs.Outcomes.{Files, GrammarThen}
-use Rattle.xdg_outcomes.specs.Stages.{Behind}
-use Rattle.xdg_outcomes.specs.declared.status.Status.TheVariants as statuses
-use Rattle.xdg_outcomes.specs.declared.status.Status.{Status}
+use Rattle.xdg_inputs.specs.Outcomes.{Files, GrammarThen}
+use Rattle.xdg_inputs.specs.Stages.{Behind}
+use Rattle.xdg_inputs.specs.declared.status.Status.TheVariants as statuses
+use Rattle.xdg_inputs.specs.declared.status.Status.{Status}
 use Rattle.xdg_inputs.specs.Analyses.{Analysed}
-use Rattle.xdg_inputs.specs.Outcomes.{AnalysisThen}
+use Rattle.xdg_inputs.specs.AnalysisSteps.{AnalysisThen}
 use Rattle.xdg_inputs.specs.Sentences.{HasProblem, IsBadSentence}
 
 -- ---- `parse` and `resume`

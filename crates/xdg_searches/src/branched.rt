@@ -1,21 +1,21 @@
 //! The search by branches.
 
 ghost use Rattle.std.specs.Prelude.{◌≡◌, ◌≢◌, ◌≤◌, ◌⊎◌};
-ghost use Rattle.xdg_branches.specs.Branched.{CanBranch};
+ghost use Rattle.xdg_searches.specs.Branched.{CanBranch};
 ghost use Rattle.xdg_io.specs.Rose.{Rose};
-ghost use Rattle.xdg_outcomes.specs.Runs.{Leaves};
+ghost use Rattle.xdg_inputs.specs.Runs.{Leaves};
 ghost use Rattle.xdg_searches.specs.Outcomes.{SearchedBranches, form_of};
 
+use crate::branch_printing::print_branches;
 use crate::printing::form_of;
 use std::alloc::Global;
 use std::thread::Threads;
-use xdg_analyses::Printed;
-use xdg_branches::print_branches;
 use xdg_command::TextForm;
+use xdg_inputs::Status;
 use xdg_io::Sink;
 use xdg_listing::Ending;
-use xdg_outcomes::Status;
 use xdg_problem::Problem;
+use xdg_split::Printed;
 
 /// Prints the analyses of a sentence, searched by the branches of its first word's entries.
 pub(crate) fn search_branches<R: Threads + Sync, K: Sink>(

@@ -1,26 +1,26 @@
 //! The command `drill`.
 
 ghost use Rattle.std.specs.Prelude.{◌≡◌, ◌≢◌, ◌≤◌, ◌⊎◌, length, OnErr, OnOk};
-ghost use Rattle.xdg_entries.specs.Entries.{IsRightLexicon};
-ghost use Rattle.xdg_grammar.specs.Answers.{meaning_of};
+ghost use Rattle.xdg_packed.specs.Entries.{IsRightLexicon};
+ghost use Rattle.xdg_inputs.specs.Answers.{meaning_of};
 ghost use Rattle.xdg_io.specs.Held.{Appends, AppendsFront};
 ghost use Rattle.xdg_io.specs.Rose.{Rose};
-ghost use Rattle.xdg_outcomes.specs.Outcomes.{MeaningThen};
-ghost use Rattle.xdg_outcomes.specs.Runs.{Leaves, Wrote};
+ghost use Rattle.xdg_inputs.specs.Outcomes.{MeaningThen};
+ghost use Rattle.xdg_inputs.specs.Runs.{Leaves, Wrote};
 ghost use Rattle.xdg_searches.specs.Outcomes.{DrillOf, DrillSentence, Drilled, drill_line};
 ghost use Rattle.xdg_searches.specs.Runs.{DrillEnds};
 
+use crate::counting::{Counts, count_judged};
+use crate::generator::{grammar_text, sentence_text};
 use std::alloc::Global;
 use xdg_ast::Grammar;
 use xdg_base::OutOfMemory;
-use xdg_counts::{Counts, count_judged};
-use xdg_drill::{grammar_text, sentence_text};
 use xdg_engine::props;
-use xdg_grammar::{Expanded, expand_tree, pack_entries, read_tree};
-use xdg_inputs::problem_in;
+use xdg_inputs::{
+    Expanded, Status, expand_tree, pack_entries, problem_in, read_tree, refuse, stopped_in,
+};
 use xdg_io::{Failed, Sink};
 use xdg_listing::Ending;
-use xdg_outcomes::{Status, refuse, stopped_in};
 use xdg_problem::Problem;
 use xdg_text::{Word, write_line};
 

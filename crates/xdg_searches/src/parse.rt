@@ -1,18 +1,18 @@
 //! The command `parse`.
 
 ghost use Rattle.std.specs.Prelude.{◌≡◌, ◌≢◌, ◌≤◌, ◌⊎◌, ℕ, List, [], Option, Some, length};
-ghost use Rattle.xdg_branches.specs.Branched.{CanBranch};
-ghost use Rattle.xdg_entries.specs.Entries.{IsRightLexicon};
-ghost use Rattle.xdg_grammar.specs.Answers.{meaning_of};
-ghost use Rattle.xdg_grammar.specs.Packed.{IsPackedOf};
-ghost use Rattle.xdg_groups.specs.Grammars.{grammar_of};
+ghost use Rattle.xdg_searches.specs.Branched.{CanBranch};
+ghost use Rattle.xdg_packed.specs.Entries.{IsRightLexicon};
+ghost use Rattle.xdg_inputs.specs.Answers.{meaning_of};
+ghost use Rattle.xdg_inputs.specs.Packed.{IsPackedOf};
+ghost use Rattle.xdg_build.specs.Grammars.{grammar_of};
 ghost use Rattle.xdg_inputs.specs.Made.{IsMade};
 ghost use Rattle.xdg_io.specs.Rose.{Rose};
-ghost use Rattle.xdg_outcomes.specs.Loaded.{read_of};
-ghost use Rattle.xdg_outcomes.specs.Outcomes.{MeaningThen};
-ghost use Rattle.xdg_outcomes.specs.Runs.{Leaves, Wrote};
-ghost use Rattle.xdg_ruled.specs.Files.{AreRight, RoseFor};
-ghost use Rattle.xdg_ruled.specs.Outcomes.{RulesThen, WithRules};
+ghost use Rattle.xdg_inputs.specs.Loaded.{read_of};
+ghost use Rattle.xdg_inputs.specs.Outcomes.{MeaningThen};
+ghost use Rattle.xdg_inputs.specs.Runs.{Leaves, Wrote};
+ghost use Rattle.xdg_inputs.specs.Files.{AreRight, RoseFor};
+ghost use Rattle.xdg_inputs.specs.RuledSteps.{RulesThen, WithRules};
 ghost use Rattle.xdg_searches.specs.Outcomes.{ParseOf, Parsed, SentenceThen};
 ghost use Rattle.xdg_searches.specs.Runs.{ParseEnds};
 
@@ -21,14 +21,14 @@ use std::alloc::Global;
 use std::thread::Threads;
 use xdg_base::OutOfMemory;
 use xdg_command::ParseOptions;
-use xdg_formula_text::Rules;
-use xdg_grammar::{Expanded, expand_tree, pack_entries};
-use xdg_inputs::read_problem;
+use xdg_formula::Rules;
+use xdg_inputs::{
+    Expanded, Loaded, Status, add_rules, expand_tree, load_rules, load_tree, pack_entries,
+    read_problem, refuse, stopped_in,
+};
 use xdg_io::{Shelf, Sink, Source};
-use xdg_outcomes::{Loaded, Status, load_tree, refuse, stopped_in};
 use xdg_packed::Packed;
 use xdg_problem::Problem;
-use xdg_ruled::{add_rules, load_rules};
 
 /// Prints the analyses of a sentence in which rules are true.
 fn parse_problem<R: Threads + Sync, K: Sink>(

@@ -2,23 +2,23 @@
 
 ghost use Rattle.std.specs.Prelude.{◌≡◌, ◌≢◌, ◌≤◌, ◌⊎◌};
 ghost use Rattle.std.specs.Option.{option_copied};
-ghost use Rattle.xdg_analyses.specs.Written.{IsSome};
-ghost use Rattle.xdg_branches.specs.Branched.{CanBranch};
+ghost use Rattle.xdg_split.specs.Written.{IsSome};
+ghost use Rattle.xdg_searches.specs.Branched.{CanBranch};
 ghost use Rattle.xdg_io.specs.Rose.{Rose};
-ghost use Rattle.xdg_outcomes.specs.Runs.{Leaves};
+ghost use Rattle.xdg_inputs.specs.Runs.{Leaves};
 ghost use Rattle.xdg_searches.specs.Outcomes.{Parsed, Searched, form_of};
 ghost use Rattle.xdg_stream.specs.Streamed.{IsStart, start_vector};
 
 use crate::branched::search_branches;
 use std::alloc::Global;
 use std::thread::Threads;
-use xdg_analyses::{Form, Printed, print_analyses};
 use xdg_command::{ParseOptions, TextForm};
 use xdg_engine::props;
+use xdg_inputs::Status;
 use xdg_io::Sink;
 use xdg_listing::Ending;
-use xdg_outcomes::Status;
 use xdg_problem::{Analysis, Problem};
+use xdg_split::{Form, Printed, print_analyses};
 
 /// The form in which analyses are printed.
 pub(crate) fn form_of(text: TextForm) -> Form

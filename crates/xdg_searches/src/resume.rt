@@ -1,20 +1,20 @@
 //! The command `resume`.
 
 ghost use Rattle.std.specs.Prelude.{◌≡◌, ◌≢◌, ◌≤◌, ◌⊎◌, ℕ, List, Option, Some, length};
-ghost use Rattle.xdg_analyses.specs.Written.{IsSome};
-ghost use Rattle.xdg_entries.specs.Entries.{IsRightLexicon};
-ghost use Rattle.xdg_grammar.specs.Answers.{meaning_of};
-ghost use Rattle.xdg_grammar.specs.Packed.{IsPackedOf};
-ghost use Rattle.xdg_groups.specs.Grammars.{grammar_of};
+ghost use Rattle.xdg_split.specs.Written.{IsSome};
+ghost use Rattle.xdg_packed.specs.Entries.{IsRightLexicon};
+ghost use Rattle.xdg_inputs.specs.Answers.{meaning_of};
+ghost use Rattle.xdg_inputs.specs.Packed.{IsPackedOf};
+ghost use Rattle.xdg_build.specs.Grammars.{grammar_of};
 ghost use Rattle.xdg_inputs.specs.Judging.{analysed_of};
 ghost use Rattle.xdg_inputs.specs.Made.{IsMade};
 ghost use Rattle.xdg_io.specs.Rose.{Rose};
-ghost use Rattle.xdg_outcomes.specs.Loaded.{read_of};
-ghost use Rattle.xdg_outcomes.specs.Outcomes.{MeaningThen};
-ghost use Rattle.xdg_outcomes.specs.Runs.{Leaves, Wrote};
+ghost use Rattle.xdg_inputs.specs.Loaded.{read_of};
+ghost use Rattle.xdg_inputs.specs.Outcomes.{MeaningThen};
+ghost use Rattle.xdg_inputs.specs.Runs.{Leaves, Wrote};
 ghost use Rattle.xdg_problem.specs.Analyses.{IsAnalysis};
-ghost use Rattle.xdg_ruled.specs.Files.{AreRight, RoseFor};
-ghost use Rattle.xdg_ruled.specs.Outcomes.{RulesThen};
+ghost use Rattle.xdg_inputs.specs.Files.{AreRight, RoseFor};
+ghost use Rattle.xdg_inputs.specs.RuledSteps.{RulesThen};
 ghost use Rattle.xdg_searches.specs.Outcomes.{ResumeOf, ResumeThen, Resumed};
 ghost use Rattle.xdg_searches.specs.Runs.{ResumeEnds};
 
@@ -22,13 +22,13 @@ use crate::printing::search;
 use std::alloc::Global;
 use xdg_base::OutOfMemory;
 use xdg_command::ResumeOptions;
-use xdg_formula_text::Rules;
-use xdg_grammar::{Expanded, expand_tree, pack_entries};
-use xdg_inputs::{Judgeable, load_analysis};
+use xdg_formula::Rules;
+use xdg_inputs::{
+    Expanded, Judgeable, Loaded, Status, expand_tree, load_analysis, load_rules, load_tree,
+    pack_entries, refuse, rule_analysis, stopped_in,
+};
 use xdg_io::{Shelf, Sink};
-use xdg_outcomes::{Loaded, Status, load_tree, refuse, stopped_in};
 use xdg_packed::Packed;
-use xdg_ruled::{load_rules, rule_analysis};
 
 /// Prints the analyses behind one of a problem, those in which rules are true.
 fn resume_found<K: Sink>(

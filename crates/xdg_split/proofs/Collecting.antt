@@ -2,8 +2,8 @@
 use Rattle.std.proofs.Common.{◌≡◌, ℕ, ◌+◌, inl, inr, List, [], ◌∷◌, ◌++◌, length, map, refl, ap, ap₂, sym, ◌∙◌, subst, arith, length-append, Some, None}
 use Rattle.std.specs.Prelude.{Option}
 use Rattle.std.proofs.lemmas.List.{length-map}
-use Rattle.xdg_analyses.specs.Written.{IsSome}
-use Rattle.xdg_analyses.proofs.Found.{all_answers, first_answers, map_more, spent_answers}
+use Rattle.xdg_split.specs.Written.{IsSome}
+use Rattle.xdg_split.proofs.FoundSoFar.{all_answers, first_answers, map_more, spent_answers}
 use Rattle.xdg_listing.specs.Endings.{IsAt, IsBelow}
 use Rattle.xdg_listing.proofs.Ordered.{three_cases}
 use Rattle.xdg_listing.specs.declared.Ending.{Ending}
@@ -12,7 +12,7 @@ use Rattle.xdg_problem.specs.declared.analysis.Analysis.{Analysis}
 use Rattle.xdg_problem.specs.declared.parts.Parts.{Parts}
 use Rattle.xdg_problem.specs.Problems.{IsProblem}
 use Rattle.xdg_problem.specs.Vectors.{analysis_of}
-use Rattle.xdg_search.specs.declared.Step.TheVariants as steps
+use Rattle.xdg_stream.specs.declared.search.Step.TheVariants as steps
 use Rattle.xdg_split.specs.Asked.{Asked, asked}
 use Rattle.xdg_split.specs.Finds.{AreFound}
 use Rattle.xdg_split.specs.Splits.{IsSplit}

@@ -1,3 +1,8 @@
+pub mod Boxing
+pub mod OnePrint
+pub mod Reported
+pub mod FoundSoFar
+pub mod Ending
 mod Slotted
 mod Searched
 pub mod Reaching

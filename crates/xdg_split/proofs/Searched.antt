@@ -1,9 +1,9 @@
 -- What a search leaves in a sink that was empty answers its job.
 use Rattle.std.proofs.Common.{◌≡◌, ℕ, List, [], ◌++◌, ◌∙◌, ap, subst, sym}
 use Rattle.std.specs.Prelude.{Option, None, Some}
-use Rattle.xdg_analyses.specs.Printed.{IsOnePrint, Prints}
-use Rattle.xdg_analyses.specs.Written.{WritesWhole}
-use Rattle.xdg_analyses.specs.declared.forms.Form.TheVariants as forms
+use Rattle.xdg_split.specs.Printed.{IsOnePrint, Prints}
+use Rattle.xdg_split.specs.Written.{WritesWhole}
+use Rattle.xdg_split.specs.declared.forms.Form.TheVariants as forms
 use Rattle.xdg_listing.specs.declared.Ending.{Ending}
 use Rattle.xdg_problem.specs.declared.parts.Parts.{Parts}
 use Rattle.xdg_split.specs.Answers.{IsAnswer}

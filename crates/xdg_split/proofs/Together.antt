@@ -3,7 +3,7 @@ use Rattle.std.proofs.Common.{◌≡◌, ℕ, ◌<◌, ◌≤◌, inl, inr, Bool
 use Rattle.std.specs.Prelude.{Option}
 use Rattle.std.proofs.Math.Seq.{take-length}
 use Rattle.std.proofs.lemmas.List.{length-map, length-take-le, take-map, take-take}
-use Rattle.xdg_analyses.proofs.Boxing.{boxed_listing}
+use Rattle.xdg_split.proofs.Boxing.{boxed_listing}
 use Rattle.xdg_listing.specs.Endings.{IsAt, IsBelow, IsEnding}
 use Rattle.xdg_listing.specs.Whole.{reach}
 use Rattle.xdg_listing.specs.declared.Ending.{Ending}

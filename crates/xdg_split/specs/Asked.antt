@@ -1,6 +1,6 @@
 -- What a job asks for.
 use Rattle.std.specs.Prelude.{ℕ, ◌≤◌, List, Option}
-use Rattle.xdg_analyses.specs.Written.{IsSome}
+use Rattle.xdg_split.specs.Written.{IsSome}
 use Rattle.xdg_problem.specs.declared.parts.Parts.{Parts}
 use Rattle.xdg_propcore.specs.Uses.{AllStandIn}
 

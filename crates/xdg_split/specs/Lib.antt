@@ -1,3 +1,5 @@
+pub mod Printed
+pub mod Written
 pub mod Asked
 pub mod Answers
 pub mod Splits

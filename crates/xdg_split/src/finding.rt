@@ -1,7 +1,7 @@
 //! The analyses that a stream finds.
 
 ghost use Rattle.std.specs.Prelude.{◌≡◌, ◌<◌, ◌^◌, ◌++◌, [], ◌∷◌, None, IfOk, OnOk};
-ghost use Rattle.xdg_analyses.specs.Written.{IsSome};
+ghost use Rattle.xdg_split.specs.Written.{IsSome};
 ghost use Rattle.xdg_problem.specs.Vectors.{analysis_of};
 ghost use Rattle.xdg_split.specs.Finds.{AreFound};
 ghost use Rattle.xdg_stream.specs.Streamed.{IsCharged};
@@ -15,7 +15,7 @@ use xdg_propcore::Propagator;
 use xdg_stream::{Step, Stream};
 
 /// The analysis that a stream found last, in memory of its own.
-#[tactic(auto, using(xdg_analyses::proofs::Found::analysis_is))]
+#[tactic(auto, using(crate::proofs::FoundSoFar::analysis_is))]
 fn last_analysis<P: Propagator>(
     alloc: Global,
     stream: &Stream<'_, P>,

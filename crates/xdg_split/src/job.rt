@@ -1,7 +1,7 @@
 //! Jobs.
 
 ghost use Rattle.std.specs.Prelude.{◌≡◌, [], ◌∷◌, IfOk};
-ghost use Rattle.xdg_analyses.specs.Written.{IsSome};
+ghost use Rattle.xdg_split.specs.Written.{IsSome};
 ghost use Rattle.xdg_problem.specs.Problems.{IsProblem};
 ghost use Rattle.xdg_split.specs.Answers.{IsAnswer};
 ghost use Rattle.xdg_split.specs.Asked.{IsJob, asked};
@@ -9,11 +9,12 @@ ghost use Rattle.xdg_split.specs.Splits.{IsSplit};
 
 use crate::answer::Answer;
 use crate::finding::find;
+use crate::forms::Form;
 use crate::found::Found;
 use crate::kept::Kept;
+use crate::printing::{Printed, print_analyses};
 use std::alloc::Global;
 use std::marker::Model;
-use xdg_analyses::{Form, Printed, print_analyses};
 use xdg_base::{List, OutOfMemory};
 use xdg_problem::Problem;
 use xdg_propcore::Propagator;

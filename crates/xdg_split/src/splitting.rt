@@ -2,7 +2,7 @@
 
 ghost use Rattle.std.specs.Prelude.{◌≡◌, ◌<◌, List, IfOk, length};
 ghost use Rattle.std.specs.Thread.{IsSync};
-ghost use Rattle.xdg_analyses.specs.Written.{IsSome};
+ghost use Rattle.xdg_split.specs.Written.{IsSome};
 ghost use Rattle.xdg_split.specs.Asked.{Asked};
 ghost use Rattle.xdg_split.specs.Splits.{AllWant, AreProblems, Continues, HaveOneSplit, IsSplit, wanted_of};
 

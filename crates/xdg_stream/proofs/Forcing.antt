@@ -9,7 +9,7 @@ use Rattle.xdg_problem.specs.Vectors.{shape}
 use Rattle.xdg_rules.specs.Boxed.{Boxed}
 use Rattle.xdg_rules.proofs.Agreeing.{agrees_at, agrees_fits, agrees_front}
 use Rattle.xdg_rules.proofs.Sizes.{within_sizes}
-use Rattle.xdg_search.specs.Forced.{AreForced, AreLast, IsForced}
+use Rattle.xdg_stream.specs.Forced.{AreForced, AreLast, IsForced}
 use Rattle.xdg_stream.specs.Levels.{HasLevels, IsLevel}
 use Rattle.xdg_stream.specs.Runs.{AreAlone, IsAlone}
 use Rattle.xdg_stream.proofs.Fronts.{last_at, levels_with}

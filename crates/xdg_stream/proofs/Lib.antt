@@ -1,3 +1,13 @@
+pub mod Same
+pub mod Measure
+pub mod Passing
+pub mod Following
+pub mod Backing
+pub mod Steps
+pub mod StartPushed
+pub mod Progressing
+pub mod Wanted
+pub mod Ended
 pub mod Named
 pub mod Restricting
 pub mod Longer

@@ -10,8 +10,8 @@ use Rattle.xdg_problem.specs.Vectors.{shape}
 use Rattle.xdg_propcore.specs.Steps.{Extends}
 use Rattle.xdg_rules.specs.Boxed.{Boxed}
 use Rattle.xdg_store.specs.States.{State}
-use Rattle.xdg_search.specs.Forced.{AreLast, Backs, Follows}
-use Rattle.xdg_search.specs.Problem.{SameProblem}
+use Rattle.xdg_stream.specs.Forced.{AreLast, Backs, Follows}
+use Rattle.xdg_stream.specs.Problem.{SameProblem}
 use Rattle.xdg_stream.specs.Fronted.{Fronted, HasFront}
 use Rattle.xdg_stream.specs.Levels.{IsLevel, HasLevels, AreLevels}
 use Rattle.xdg_stream.specs.Runs.{Adds, AreAlone}

@@ -20,11 +20,11 @@ use Rattle.xdg_problem.specs.Vectors.{shape, vector}
 use Rattle.xdg_problem.proofs.VectorFacts.{vector_analysis, vector_fits, length_vector}
 use Rattle.xdg_rules.specs.Boxed.{Boxed}
 use Rattle.xdg_rules.proofs.RuleLaws.{boxed_laws}
-use Rattle.xdg_search.specs.Halts.{HaltsAt}
-use Rattle.xdg_search.specs.Lawful.{IsLawful}
-use Rattle.xdg_search.specs.Place.{place, Next}
-use Rattle.xdg_search.specs.declared.Step.{Step}
-use Rattle.xdg_search.specs.declared.Step.TheVariants as steps
+use Rattle.xdg_stream.specs.Halts.{HaltsAt}
+use Rattle.xdg_stream.specs.Lawful.{IsLawful}
+use Rattle.xdg_stream.specs.Place.{place, Next}
+use Rattle.xdg_stream.specs.declared.search.Step.{Step}
+use Rattle.xdg_stream.specs.declared.search.Step.TheVariants as steps
 use Rattle.xdg_stream.specs.Streamed.{Streamed, seen, IsStart, start_vector, Leaves, IsCharged, IsNext, with_found, Advances, IsStream}
 
 -- ---- steps that differ

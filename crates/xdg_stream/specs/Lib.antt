@@ -1,3 +1,12 @@
+pub mod Problem
+pub mod Place
+pub mod Halts
+pub mod Lawful
+pub mod Progress
+pub mod Outcomes
+pub mod Vectors
+pub mod Forced
+pub mod Apart
 pub mod Levels
 pub mod Runs
 pub mod Closing

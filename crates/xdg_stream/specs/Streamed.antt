@@ -11,10 +11,10 @@ use Rattle.xdg_problem.specs.Problems.{IsProblem}
 use Rattle.xdg_problem.specs.Solutions.{IsSolution}
 use Rattle.xdg_problem.specs.Vectors.{shape, vector, analysis_of}
 use Rattle.xdg_rules.specs.Boxed.{Boxed}
-use Rattle.xdg_search.specs.Lawful.{IsLawful}
-use Rattle.xdg_search.specs.Place.{place, Next}
-use Rattle.xdg_search.specs.declared.Step.{Step}
-use Rattle.xdg_search.specs.declared.Step.TheVariants as steps
+use Rattle.xdg_stream.specs.Lawful.{IsLawful}
+use Rattle.xdg_stream.specs.Place.{place, Next}
+use Rattle.xdg_stream.specs.declared.search.Step.{Step}
+use Rattle.xdg_stream.specs.declared.search.Step.TheVariants as steps
 
 -- the parts of the sentence, the start, the budget, how many boxed prefixes were charged, the one that was charged last, the vector
 -- that was found last, and how the stream has ended, if it has; before anything was charged or found the start stands in both places

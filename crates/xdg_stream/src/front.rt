@@ -12,12 +12,12 @@ ghost use Rattle.xdg_stream.specs.Levels.{AreLevels};
 
 use crate::forced::{add_alone, last_turn};
 use crate::narrowing::lengthen;
+use crate::search::Front;
 use std::alloc::Global;
 use std::marker::Model;
 use xdg_base::{List, OutOfMemory};
 use xdg_problem::{Edge, Problem};
 use xdg_propcore::{Agenda, Fixpoint, Propagator, settle};
-use xdg_search::Front;
 use xdg_store::{Mark, Store};
 
 /// A boxed prefix of the decisions on a sentence: some closed box agrees with it. It is the front of a depth-first search.
@@ -104,7 +104,7 @@ impl<P: Propagator> Front for BoxFront<'_, P> {
 
     ghost use Rattle.std.specs.Prelude.{ℕ, List};
     ghost use Rattle.xdg_listing.specs.Closed.{Closed};
-    ghost use Rattle.xdg_search.specs.Problem.{SameProblem};
+    ghost use Rattle.xdg_stream.specs.Problem.{SameProblem};
     ghost use Rattle.xdg_stream.specs.Closing.{front_closed};
 
     ghost problem = { λ front. front.parts };

@@ -8,13 +8,13 @@ ghost use Rattle.xdg_stream.specs.Streamed.{Advances, IsCharged, IsStart, start_
 
 use crate::front::BoxFront;
 use crate::held::{Held, refill_numbers};
+use crate::search::{Front, Search, Step};
 use crate::starting::start_of;
 use std::alloc::Global;
 use std::marker::Model;
 use xdg_base::{EntryNo, OutOfMemory};
 use xdg_problem::{Analysis, Edge, Problem};
 use xdg_propcore::Propagator;
-use xdg_search::{Front, Search, Step};
 
 /// The solutions of a sentence after a start, one after another. It goes through the boxed prefixes and charges each once.
 /// Only [`Stream::start`] takes memory. As an iterator it gives each step up to the first `End` or `Spent`.

@@ -16,8 +16,8 @@ use Rattle.xdg_ast.specs.declared.terms.ElemKind.TheOpen.{TermKind-F, ElemKind-F
 use Rattle.xdg_ast.specs.declared.terms.GenKind.{GenKind}
 use Rattle.xdg_domain.specs.Shapes as d
 use Rattle.xdg_domain.specs.Shapes.{Shape, Shapes, Fields, sizes, in_a_row, names_of}
-use Rattle.xdg_faults.specs.First.{first, earlier}
-use Rattle.xdg_faults.proofs.First.{first_append}
+use Rattle.xdg_names.specs.First.{first, earlier}
+use Rattle.xdg_names.proofs.First.{first_append}
 use Rattle.xdg_terms.specs.Forms.{Term, Card, Look, bracket_of, bracket_in, then_also, all_of, braces_in, plain_in, plain_elem, bracketed_in, bracketed_elem, counted_in, counted_elem, keyed_in, keyed_elem, constants_of, brackets_of, counts_of, pairs_of, generator_of, generator_in}
 use Rattle.xdg_terms.specs.Offences.{is_some, gen_names}
 use Rattle.xdg_terms.specs.Faults as spec

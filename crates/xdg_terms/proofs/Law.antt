@@ -20,9 +20,9 @@ use Rattle.xdg_ast.specs.declared.terms.CardKind.{CardKind}
 use Rattle.xdg_ast.specs.declared.terms.CardKind.TheVariants as c
 use Rattle.xdg_domain.specs.Shapes as d
 use Rattle.xdg_domain.specs.Shapes.{Shape, domain, tuple, truth, integer, text, set, iset, card, valency, mapping, fields, Shapes, Fields, no_field, field_then, sizes, in_a_row, names_of, Among}
-use Rattle.xdg_faults.specs.First.{In, Tells, first}
-use Rattle.xdg_faults.proofs.First.{tells_as, first-tells}
-use Rattle.xdg_faults.proofs.In.{in_append, in_left, in_right, in_flat_map, flat_map_in, in_unless, unless_in, in_when, when_in}
+use Rattle.xdg_names.specs.First.{In, Tells, first}
+use Rattle.xdg_names.proofs.First.{tells_as, first-tells}
+use Rattle.xdg_names.proofs.In.{in_append, in_left, in_right, in_flat_map, flat_map_in, in_unless, unless_in, in_when, when_in}
 use Rattle.xdg_terms.specs.Forms.{Term, Card, Look, all_of, bracketed_elem, braces_in, generator_in, constant_of, number_of, card_of, generator_of, bracket_of, constants_of, brackets_of, counts_of, pairs_of}
 use Rattle.xdg_terms.specs.Offences.{fault_at, has_form, has_set_form, asked_in_set, is_some, one_told, all_told, Asked, asked_in, asked_in_turn, asked, keys, field_keys, known_fields, cards, keys_of, gen_names, IsWrongKind, IsNotMember, IsTwice, IsUnknownField, IsOutOfRange, CardOffends, OffendsHere, OfSeen, OffendsIn, OffendsUnder, OffendsBy}
 use Rattle.xdg_terms.specs.Faults as spec

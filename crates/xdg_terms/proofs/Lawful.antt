@@ -14,8 +14,8 @@ use Rattle.xdg_domain.specs.Cards.{has}
 use Rattle.xdg_domain.specs.Shapes.{Shape, domain, tuple, Shapes, sizes, product, count, constants_of, in_a_row, Among, Differ, IsSmall, IsTuple}
 use Rattle.xdg_domain.specs.Values.{AllBelow}
 use Rattle.xdg_domain.proofs.Rising.{has_of, has_beyond}
-use Rattle.xdg_faults.specs.First.{In}
-use Rattle.xdg_faults.proofs.In.{in_left, flat_map_in}
+use Rattle.xdg_names.specs.First.{In}
+use Rattle.xdg_names.proofs.In.{in_left, flat_map_in}
 use Rattle.xdg_terms.specs.Forms.{Term, Gen, all_of, plain_elem, bracketed_elem, keyed_elem, counted_elem, braces_in, generator_in, brackets_of, generator_of, counts_of, pairs_of}
 use Rattle.xdg_terms.specs.Forms as forms
 use Rattle.xdg_terms.specs.Offences.{is_some, one_told, all_told, gen_names, asked_in, asked_in_turn, asked_in_set, has_set_form}

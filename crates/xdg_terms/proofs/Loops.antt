@@ -19,8 +19,8 @@ use Rattle.xdg_ast.specs.declared.terms.GenKind.TheOpen.{GenKind-F}
 use Rattle.xdg_ast.specs.declared.terms.GenKind.TheFolds.{fold-roll-GenKind}
 use Rattle.xdg_domain.specs.declared.types.Ty.{Ty}
 use Rattle.xdg_domain.specs.Shapes.{shape, shapes_of, constants, constants_of, in_a_row}
-use Rattle.xdg_faults.specs.First.{earlier, first}
-use Rattle.xdg_faults.proofs.First.{first_turn, first_change}
+use Rattle.xdg_names.specs.First.{earlier, first}
+use Rattle.xdg_names.proofs.First.{first_turn, first_change}
 use Rattle.xdg_terms.specs.Faults.{has, missing, missing_in_turn, texts_of, keys, key_in, key_of, key_faults_in, key_faults, twice, all_twice}
 use Rattle.xdg_terms.specs.Offences.{gen_names, gen_step}
 use Rattle.xdg_terms.proofs.Has.{has_append}

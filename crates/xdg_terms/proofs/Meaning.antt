@@ -14,7 +14,7 @@ use Rattle.xdg_domain.specs.Values.{EachSaid, IsIn, IsFieldOf, IsValue}
 use Rattle.xdg_domain.specs.declared.values.Value.{Value, out-Value}
 use Rattle.xdg_domain.specs.declared.values.Value.TheVariants as v
 use Rattle.xdg_domain.specs.declared.values.Value.TheOpen.{Value-F}
-use Rattle.xdg_faults.specs.First.{In}
+use Rattle.xdg_names.specs.First.{In}
 use Rattle.xdg_terms.specs.Forms.{Term, Card, Bindings, bound, constant_of, number_of, card_of, bracket_of, counts_of, pairs_of, counted_elem, keyed_elem}
 use Rattle.xdg_terms.specs.Offences.{one_told, all_told, asked_in, asked_in_turn, Offends, OffendsField}
 use Rattle.xdg_terms.specs.Means.{IsAt, truth_text, AllowedBy, written_for, Said, MeansIn, MeansField, Means}

@@ -8,7 +8,7 @@ use Rattle.xdg_domain.specs.Cards.{has}
 use Rattle.xdg_domain.specs.Shapes.{Shape, domain, tuple, Shapes, no_shape, shape_then, sizes, product, constants, constants_of, Among, Differ, IsDomain, AreDomains, IsTuple}
 use Rattle.xdg_domain.specs.Tuples.{index, places, InRange}
 use Rattle.xdg_domain.proofs.TupleNumbers.{index_below, places_of_index, index_of_places, places_in_range}
-use Rattle.xdg_faults.specs.First.{In}
+use Rattle.xdg_names.specs.First.{In}
 use Rattle.xdg_terms.specs.Forms.{all_of, plain_elem, bracketed_elem}
 use Rattle.xdg_terms.specs.Offences.{asked_in, asked_in_turn}
 use Rattle.xdg_terms.specs.Means.{texts_of, IsAt, chosen, tuple_texts}

@@ -12,7 +12,7 @@ use Rattle.xdg_ast.specs.declared.terms.CardKind.TheVariants as c
 use Rattle.xdg_domain.specs.Cards.{has, cards, IsCards}
 use Rattle.xdg_domain.specs.Shapes.{Shape, Among}
 use Rattle.xdg_domain.proofs.Rising.{numbers_agree, has_of, has_beyond, rises_of}
-use Rattle.xdg_faults.specs.First.{In}
+use Rattle.xdg_names.specs.First.{In}
 use Rattle.xdg_terms.specs.Forms.{Term, Card}
 use Rattle.xdg_terms.specs.Offences.{fault_at, has_form, is_some, asked, CardOffends, OffendsHere}
 use Rattle.xdg_terms.specs.Offences as o

@@ -18,9 +18,9 @@ use Rattle.xdg_ast.specs.declared.terms.ElemKind.TheVariants as e
 use Rattle.xdg_ast.specs.declared.terms.ElemKind.TheOpen.{TermKind-F, ElemKind-F}
 use Rattle.xdg_ast.specs.declared.terms.ElemKind.TheFolds.{fold-roll-ElemKind, fold-roll-TermKind}
 use Rattle.xdg_domain.specs.Shapes.{Among}
-use Rattle.xdg_faults.specs.First.{In, Tells, first, earlier}
-use Rattle.xdg_faults.proofs.First.{tells_as, first-tells, first_turn, earlier-none}
-use Rattle.xdg_faults.proofs.In.{in_flat_map, flat_map_in, in_unless, unless_in}
+use Rattle.xdg_names.specs.First.{In, Tells, first, earlier}
+use Rattle.xdg_names.proofs.First.{tells_as, first-tells, first_turn, earlier-none}
+use Rattle.xdg_names.proofs.In.{in_flat_map, flat_map_in, in_unless, unless_in}
 use Rattle.xdg_terms.specs.Forms.{Term}
 use Rattle.xdg_terms.specs.Offences.{fault_at}
 use Rattle.xdg_terms.specs.Stray.{term_step, elem_step, tokens, elem_tokens, IsStrayParam, stray, all_stray}

@@ -6,7 +6,7 @@ use Rattle.xdg_base.specs.declared.faults.Stop.TheVariants as stops
 use Rattle.xdg_domain.specs.Shapes.{Shape}
 use Rattle.xdg_domain.specs.Values.{IsValue}
 use Rattle.xdg_domain.specs.declared.values.Value.{Value}
-use Rattle.xdg_faults.specs.First.{Tells as TellsFault}
+use Rattle.xdg_names.specs.First.{Tells as TellsFault}
 use Rattle.xdg_terms.specs.Forms.{Term, Bindings}
 use Rattle.xdg_terms.specs.Offences.{Offends}
 use Rattle.xdg_terms.specs.Means.{Means}

@@ -2,13 +2,13 @@
 
 ghost use Rattle.std.specs.Prelude.{◌≡◌};
 ghost use Rattle.std.specs.List.{flat_map};
-ghost use Rattle.xdg_faults.specs.First.{first};
+ghost use Rattle.xdg_names.specs.First.{first};
 ghost use Rattle.xdg_terms.specs.Faults as spec;
 
 use crate::faults::fault_at;
 use xdg_ast::{CardKind, CardTerm, Num};
 use xdg_base::{Cause, Fault};
-use xdg_faults::earlier;
+use xdg_names::earlier;
 
 /// The greatest number that a cardinality may have.
 const GREATEST: u32 = 127;
@@ -49,7 +49,7 @@ fn check_numbers(numbers: &[Num]) -> Option<Fault>
 }
 
 /// The first fault of a cardinality.
-#[tactic(auto, unfolding(crate::specs::Faults::card_faults), using(xdg_faults::proofs::First::first_append))]
+#[tactic(auto, unfolding(crate::specs::Faults::card_faults), using(xdg_names::proofs::First::first_append))]
 pub(crate) fn check_card(card: &CardTerm) -> Option<Fault>
     ensures { result ≡ first (spec.card_faults card.now) }
 {

@@ -4,7 +4,7 @@ ghost use Rattle.std.specs.Prelude.{◌≡◌, List};
 ghost use Rattle.std.specs.List.{flat_map};
 ghost use Rattle.xdg_ast.specs.declared.names.Name.{Name};
 ghost use Rattle.xdg_domain.specs.Shapes.{shape};
-ghost use Rattle.xdg_faults.specs.First.{Tells, first};
+ghost use Rattle.xdg_names.specs.First.{Tells, first};
 ghost use Rattle.xdg_terms.specs.Faults as spec;
 ghost use Rattle.xdg_terms.specs.Offences.{Offends, OpenOffends};
 ghost use Rattle.xdg_terms.specs.Readings.{look_of};
@@ -19,7 +19,7 @@ use crate::sets::check_set;
 use xdg_ast::{Elem, ElemKind, Name, Params, Term, TermKind};
 use xdg_base::{Fault, Text};
 use xdg_domain::Ty;
-use xdg_faults::earlier;
+use xdg_names::earlier;
 
 /// The first fault of a term where a type is wanted, if it has one: the one with the least place, and at one place the
 /// one with the least number. Parameters are taken as what the bindings say; faults in that stand where it stands.

@@ -4,7 +4,7 @@ ghost use Rattle.std.specs.Prelude.{◌≡◌, [], ◌++◌};
 ghost use Rattle.std.specs.List.{flat_map};
 ghost use Rattle.xdg_base.specs.declared.faults.Cause.TheVariants as causes;
 ghost use Rattle.xdg_domain.specs.Shapes.{names_of};
-ghost use Rattle.xdg_faults.specs.First.{first};
+ghost use Rattle.xdg_names.specs.First.{first};
 ghost use Rattle.xdg_terms.specs.Faults as spec;
 
 use crate::cards::check_card;
@@ -14,7 +14,7 @@ use crate::members::{check_constant, wrong_kind};
 use xdg_ast::{Elem, ElemKind, Name, Term, TermKind};
 use xdg_base::{Cause, Fault, Text};
 use xdg_domain::Ty;
-use xdg_faults::earlier;
+use xdg_names::earlier;
 
 /// Whether an element has the key.
 #[tactic(auto, unfolding(crate::specs::Faults::key_of))]
@@ -99,7 +99,7 @@ fn check_each_key(texts: &[Text], elems: &[Elem]) -> Option<Fault>
 }
 
 /// The keys of a valency or a map.
-#[tactic(auto, using(xdg_faults::proofs::First::first_append))]
+#[tactic(auto, using(xdg_names::proofs::First::first_append))]
 pub(crate) fn check_keys(texts: &[Text], elems: &[Elem]) -> Option<Fault>
     ensures { result ≡ first (flat_map (spec.key_faults (spec.missing causes.NotMember texts.now)) elems.now ++ spec.all_twice [] (spec.keys elems.now)) }
 {
@@ -154,7 +154,7 @@ fn check_each_field(fields: &[(Text, Ty)], elems: &[Elem]) -> Option<Fault>
 }
 
 /// The keys of a record.
-#[tactic(auto, using(xdg_faults::proofs::First::first_append))]
+#[tactic(auto, using(xdg_names::proofs::First::first_append))]
 pub(crate) fn check_fields(fields: &[(Text, Ty)], elems: &[Elem]) -> Option<Fault>
     ensures { result ≡ first (flat_map (spec.key_faults (spec.missing causes.UnknownName (names_of (spec.fields_in fields.now)))) elems.now ++ spec.all_twice [] (spec.keys elems.now)) }
 {

@@ -4,7 +4,7 @@ ghost use Rattle.std.specs.Prelude.{◌≡◌, map};
 ghost use Rattle.xdg_base.specs.declared.faults.Cause.TheVariants as causes;
 ghost use Rattle.xdg_domain.specs.Shapes as shapes;
 ghost use Rattle.xdg_domain.specs.Shapes.{shape, shapes_of};
-ghost use Rattle.xdg_faults.specs.First.{first};
+ghost use Rattle.xdg_names.specs.First.{first};
 ghost use Rattle.xdg_terms.specs.Faults as spec;
 
 use crate::cards::check_card;
@@ -12,7 +12,7 @@ use crate::faults::fault_at;
 use xdg_ast::{Name, Term, TermKind};
 use xdg_base::{Cause, Fault, Text};
 use xdg_domain::Ty;
-use xdg_faults::earlier;
+use xdg_names::earlier;
 
 /// The constants of a domain.
 pub(crate) fn constants(ty: &Ty) -> &[Text]

@@ -5,7 +5,7 @@ ghost use Rattle.std.specs.List.{flat_map};
 ghost use Rattle.xdg_base.specs.declared.faults.Cause.TheVariants as causes;
 ghost use Rattle.xdg_domain.specs.Shapes as shapes;
 ghost use Rattle.xdg_domain.specs.Shapes.{shape, shapes_of};
-ghost use Rattle.xdg_faults.specs.First.{first};
+ghost use Rattle.xdg_names.specs.First.{first};
 ghost use Rattle.xdg_terms.specs.Faults as spec;
 ghost use Rattle.xdg_terms.specs.Offences.{gen_names};
 
@@ -15,7 +15,7 @@ use crate::members::{check_constant, check_in_turn, constants, has, wrong_kind};
 use xdg_ast::{Elem, ElemKind, Gen, GenKind, Name, Term, TermKind};
 use xdg_base::{Cause, Fault, Text};
 use xdg_domain::Ty;
-use xdg_faults::earlier;
+use xdg_names::earlier;
 
 /// An element of a set of constants.
 #[tactic(auto, unfolding(crate::specs::Faults::plain_missing))]

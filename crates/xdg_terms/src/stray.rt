@@ -2,13 +2,13 @@
 
 ghost use Rattle.std.specs.Prelude.{◌≡◌};
 ghost use Rattle.std.specs.List.{flat_map};
-ghost use Rattle.xdg_faults.specs.First.{Tells, first};
+ghost use Rattle.xdg_names.specs.First.{Tells, first};
 ghost use Rattle.xdg_terms.specs.Stray as spec;
 
 use crate::faults::fault_at;
 use xdg_ast::{ElemKind, Name, Params, Term, TermKind};
 use xdg_base::{Cause, Fault};
-use xdg_faults::earlier;
+use xdg_names::earlier;
 
 /// The first parameter in a term, anywhere in it, that is none of these: `WrongKind` (33) at it. No text has one, since
 /// a name is a parameter only where its class has it. It takes no memory.

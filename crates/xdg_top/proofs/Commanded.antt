@@ -2,7 +2,7 @@
 use Rattle.std.proofs.Common.{◌≡◌, ◌<◌, ◌≤◌, ◌⊎◌, inl, inr, ℕ, List, Some, None, refl, sym, subst, arith}
 use Rattle.std.specs.Prelude.{◌≢◌, Option, codes}
 use Rattle.xdg_command.specs.Answers.{IsExactly}
-use Rattle.xdg_analyses.specs.Written.{IsSome}
+use Rattle.xdg_split.specs.Written.{IsSome}
 use Rattle.xdg_command.specs.Commands.{HasBudget, HasFirst, IsCommand}
 use Rattle.xdg_command.specs.Items.{value_of}
 use Rattle.xdg_command.specs.declared.commands.Command.{Command}
@@ -12,14 +12,14 @@ use Rattle.xdg_corpus.specs.Runs.{LeavesPart}
 use Rattle.xdg_corpus.proofs.Parting.{leaves_part, memory_part}
 use Rattle.xdg_io.specs.Rose.{Rose}
 use Rattle.xdg_text.specs.Lines.{usage_line}
-use Rattle.xdg_outcomes.specs.Outcomes.{Files}
-use Rattle.xdg_ruled.specs.Files.{RoseFor}
+use Rattle.xdg_inputs.specs.Outcomes.{Files}
+use Rattle.xdg_inputs.specs.Files.{RoseFor}
 use Rattle.xdg_top.specs.Outcomes.{CommandOf, IsNoCommand, IsUsage, OutcomeOf, WantsSome, usage, commanded}
-use Rattle.xdg_outcomes.specs.Runs.{Ends, Leaves, LeavesFront, Unwritten, Wrote}
+use Rattle.xdg_inputs.specs.Runs.{Ends, Leaves, LeavesFront, Unwritten, Wrote}
 use Rattle.xdg_top.specs.Runs.{AreEarly, CommandWrote, EndsWith, FailsToRead, IsRefusedFile, LeavesBy, LeavesOf, ReadsFile, ReadsInput, UnwrittenBy, of_file, of_input}
-use Rattle.xdg_outcomes.specs.declared.status.Status.{Status}
-use Rattle.xdg_outcomes.specs.declared.status.Status.TheVariants as statuses
-use Rattle.xdg_outcomes.proofs.Leaving.{IsOnly}
+use Rattle.xdg_inputs.specs.declared.status.Status.{Status}
+use Rattle.xdg_inputs.specs.declared.status.Status.TheVariants as statuses
+use Rattle.xdg_inputs.proofs.Leaving.{IsOnly}
 
 -- the outcomes of words that are a command are those of the command
 of_command : (given : List (List ℕ)) (files : Files) (input : List ℕ) (command : Command) → IsCommand given command → ((b : Command) → IsCommand given b → b ≡ command) → (status : Status) (text : List ℕ) → OutcomeOf given files input status text → CommandOf command files input status text

@@ -2,8 +2,8 @@
 use Rattle.std.proofs.Common.{◌≡◌, ◌≢◌, ◌<◌, ◌⊎◌, inl, inr, ℕ, List, arith}
 use Rattle.xdg_command.specs.declared.commands.Command.{Command}
 use Rattle.xdg_io.specs.Rose.{Rose}
-use Rattle.xdg_outcomes.specs.declared.status.Status.{Status}
-use Rattle.xdg_outcomes.specs.declared.status.Status.TheVariants as statuses
+use Rattle.xdg_inputs.specs.declared.status.Status.{Status}
+use Rattle.xdg_inputs.specs.declared.status.Status.TheVariants as statuses
 use Rattle.xdg_top.specs.Runs.{FailsToRead, ReadFailed, of_file, of_input}
 
 never : Rose 0 0 → ⊥

@@ -1,18 +1,18 @@
 -- The status and the text of a run, as its words, the files and the input alone determine them.
 use Rattle.std.specs.Prelude.{◌≡◌, ◌≤◌, ℕ, List}
-use Rattle.xdg_analyses.specs.Written.{IsSome}
+use Rattle.xdg_split.specs.Written.{IsSome}
 use Rattle.xdg_arrange.specs.Outcomes.{ArrangeOf}
-use Rattle.xdg_branches.specs.Branched.{CanBranch}
-use Rattle.xdg_cheapest.specs.Outcomes.{BestOf}
+use Rattle.xdg_searches.specs.Branched.{CanBranch}
+use Rattle.xdg_best.specs.Outcomes.{BestOf}
 use Rattle.xdg_command.specs.Commands.{IsCommand}
 use Rattle.xdg_command.specs.declared.commands.Command.{Command}
 use Rattle.xdg_command.specs.declared.commands.Command.TheVariants as commands
 use Rattle.xdg_corpus.specs.Outcomes.{CorpusOf}
 use Rattle.xdg_corpus.specs.Texts.{CanSearch}
 use Rattle.xdg_text.specs.Lines.{usage_line}
-use Rattle.xdg_outcomes.specs.Outcomes.{Files}
-use Rattle.xdg_outcomes.specs.declared.status.Status.TheVariants as statuses
-use Rattle.xdg_outcomes.specs.declared.status.Status.{Status}
+use Rattle.xdg_inputs.specs.Outcomes.{Files}
+use Rattle.xdg_inputs.specs.declared.status.Status.TheVariants as statuses
+use Rattle.xdg_inputs.specs.declared.status.Status.{Status}
 use Rattle.xdg_reports.specs.Outcomes.{ExplainOf, CheckOf, LexiconOf, PrintOf}
 use Rattle.xdg_searches.specs.Outcomes.{ParseOf, ResumeOf, DrillOf}
 

@@ -1,16 +1,16 @@
 -- What a command reads, and how it can end.
 use Rattle.std.specs.Prelude.{◌≡◌, ◌≢◌, ◌⊎◌, ℕ, List, Option, Some}
 use Rattle.xdg_arrange.specs.Outcomes.{ArrangeEnds}
-use Rattle.xdg_cheapest.specs.Runs.{BestEnds}
+use Rattle.xdg_best.specs.Runs.{BestEnds}
 use Rattle.xdg_command.specs.Commands.{IsCommand}
 use Rattle.xdg_command.specs.declared.commands.Command.{Command}
 use Rattle.xdg_command.specs.declared.commands.Command.TheVariants as commands
 use Rattle.xdg_corpus.specs.Outcomes.{CorpusEnds}
 use Rattle.xdg_corpus.specs.Runs.{LeavesPart}
 use Rattle.xdg_io.specs.Rose.{Rose}
-use Rattle.xdg_outcomes.specs.Runs.{Leaves, Unwritten}
-use Rattle.xdg_outcomes.specs.declared.status.Status.{Status}
-use Rattle.xdg_outcomes.specs.declared.status.Status.TheVariants as statuses
+use Rattle.xdg_inputs.specs.Runs.{Leaves, Unwritten}
+use Rattle.xdg_inputs.specs.declared.status.Status.{Status}
+use Rattle.xdg_inputs.specs.declared.status.Status.TheVariants as statuses
 use Rattle.xdg_reports.specs.Runs.{ExplainEnds, ReportEnds, PrintEnds}
 use Rattle.xdg_searches.specs.Runs.{ParseEnds, ResumeEnds, DrillEnds}
 

@@ -6,5 +6,5 @@ mod safe;
 
 pub use running::run;
 pub use safe::run_safely;
-pub use xdg_outcomes::Status;
-pub use xdg_words::words_of;
+pub use xdg_inputs::Status;
+pub use xdg_linear::words_of;

@@ -5,8 +5,8 @@ ghost use Rattle.std.specs.Prelude.{◌≢◌};
 use crate::running::run;
 use std::alloc::Global;
 use std::thread::Threads;
+use xdg_inputs::Status;
 use xdg_io::{NullSink, SafeShelf, SafeSource};
-use xdg_outcomes::Status;
 
 /// Runs the command that the words after the program's name are, over files and an input in memory, and drops what it writes. Whatever
 /// the command, its status says neither that a read failed nor that a write did.

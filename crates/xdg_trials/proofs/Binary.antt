@@ -3,8 +3,8 @@ use Rattle.std.proofs.Common.{◌≡◌, ◌≢◌, ◌⊎◌, inl, inr, ℕ, �
 use Rattle.std.proofs.lemmas.List.{append_assoc}
 use Rattle.xdg_listing.specs.Fits.{Fits}
 use Rattle.xdg_listing.proofs.Fitting.{fits_front, fits_last}
-use Rattle.xdg_search.specs.Apart.{IsApart}
-use Rattle.xdg_search.specs.Forced.{AreLast}
+use Rattle.xdg_stream.specs.Apart.{IsApart}
+use Rattle.xdg_stream.specs.Forced.{AreLast}
 
 abbrev three : List ℕ
 three = 2 ∷ 2 ∷ 2 ∷ []

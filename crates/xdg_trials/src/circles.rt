@@ -1,14 +1,14 @@
 //! The components of small graphs that are worked out by hand, and their order, which no command shows.
 
 ghost use Rattle.std.specs.Prelude.{ℕ, ◌<◌, IsTrue, length};
-ghost use Rattle.xdg_faults.specs.First.{In};
-ghost use Rattle.xdg_cycles.specs.declared.graph.Use.{Use};
-ghost use Rattle.xdg_cycles.specs.Leads.{IsGraph};
+ghost use Rattle.xdg_names.specs.First.{In};
+ghost use Rattle.xdg_names.specs.declared.graph.Use.{Use};
+ghost use Rattle.xdg_names.specs.Leads.{IsGraph};
 
 use std::alloc::{AllocError, Global};
 use std::test::Fail;
 use xdg_base::List;
-use xdg_cycles::{Use, closing, components};
+use xdg_names::{Use, closing, components};
 
 /// Graphs, each with the numbers of its components, the order, and the place of the first use that closes a cycle. `~`
 /// stands between the rows, `,` between definitions, and a use is two digits, the definition and the place. They are a

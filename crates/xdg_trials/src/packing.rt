@@ -2,7 +2,7 @@
 
 use std::alloc::Global;
 use std::test::Fail;
-use xdg_grammar::{expand_tree, pack_entries, read_tree};
+use xdg_inputs::{expand_tree, pack_entries, read_tree};
 
 /// Two dimensions, trees and valency.
 const PLAIN: &str = "usedim id usedim lex

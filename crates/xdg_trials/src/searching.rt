@@ -4,13 +4,13 @@
 
 ghost use Rattle.std.specs.Prelude.{◌≡◌, ◌≤◌, ◌∷◌, [], ℕ, List, take};
 ghost use Rattle.xdg_listing.specs.Fits.{Fits};
-ghost use Rattle.xdg_search.specs.Apart.{IsApart, apart_closed};
+ghost use Rattle.xdg_stream.specs.Apart.{IsApart, apart_closed};
 
 use std::alloc::{AllocError, Global};
 use std::marker::Model;
 use std::test::Fail;
 use xdg_listing::Ending;
-use xdg_search::{Front, Outcome, Search, Step, solve};
+use xdg_stream::{Front, Outcome, Search, Step, solve};
 
 /// A prefix of three numbers, each 0 or 1.
 #[derive(Drop)]

@@ -2,7 +2,7 @@
 
 ghost use Rattle.std.specs.Prelude.{IfOk};
 ghost use Rattle.xdg_engine.specs.Standing.{stands_for};
-ghost use Rattle.xdg_entries.specs.Entries.{IsRightLexicon};
+ghost use Rattle.xdg_packed.specs.Entries.{IsRightLexicon};
 ghost use Rattle.xdg_propcore.specs.Uses.{AllStandIn};
 
 use std::alloc::Global;
@@ -10,10 +10,10 @@ use std::test::Fail;
 use xdg_base::Stop;
 use xdg_build::build;
 use xdg_engine::{AnyProp, props};
-use xdg_grammar::{Expanded, expand_tree, pack_entries, read_tree};
+use xdg_inputs::{Expanded, expand_tree, pack_entries, read_tree};
+use xdg_linear::words_of;
 use xdg_problem::Problem;
 use xdg_stream::{Step, Stream};
-use xdg_words::words_of;
 
 /// One word, and on the second of two dimensions an edge from one of two words to the other.
 const PAIR: &str = "usedim a usedim b usedim lex

@@ -2,8 +2,8 @@
 use Rattle.std.proofs.Common.{◌≡◌, ℕ, suc, ◌+◌, ◌<◌, List, [], ◌∷◌, ◌++◌, length, drop, get_or, add-one, drop-cons, Option, refl, sym, ap, ◌∙◌, append_assoc}
 use Rattle.xdg_base.specs.declared.faults.Fault.{Fault}
 use Rattle.xdg_ast.specs.declared.names.Name.{Name}
-use Rattle.xdg_faults.specs.First.{first, earlier}
-use Rattle.xdg_faults.proofs.First.{first_change}
+use Rattle.xdg_names.specs.First.{first, earlier}
+use Rattle.xdg_names.proofs.First.{first_change}
 use Rattle.xdg_types.specs.NameFaults.{repeated, repeats, with_text, with_all}
 
 pub repeats-append : (seen : List (List ℕ)) (xs ys : List Name) → repeats seen (xs ++ ys) ≡ repeats seen xs ++ repeats (with_all seen xs) ys

@@ -6,7 +6,7 @@ use Rattle.std.proofs.lemmas.List.{append-nil}
 use Rattle.std.proofs.lemmas.Slice.Eq.{bytes_eq-Decides}
 use Rattle.xdg_ast.specs.declared.names.Name.{Name}
 use Rattle.xdg_domain.specs.Shapes.{Among, Differ}
-use Rattle.xdg_index.specs.Texts.{has_text}
+use Rattle.xdg_names.specs.Texts.{has_text}
 use Rattle.xdg_types.specs.Parts.{texts}
 use Rattle.xdg_types.specs.NameFaults.{with_text, with_all, different}
 

@@ -7,7 +7,7 @@ use Rattle.std.proofs.lemmas.Bool.{cases_Bool}
 use Rattle.std.proofs.lemmas.List.{map-append}
 use Rattle.std.proofs.lemmas.Slice.Eq.{bytes_eq-Decides}
 use Rattle.xdg_domain.specs.Shapes.{Shape, Among, Differ}
-use Rattle.xdg_index.specs.Texts.{has_text}
+use Rattle.xdg_names.specs.Texts.{has_text}
 use Rattle.xdg_types.specs.declared.table.DimType.{DimType}
 use Rattle.xdg_types.specs.Parts.{Dimension, texts}
 use Rattle.xdg_types.specs.Table.{AreDims}

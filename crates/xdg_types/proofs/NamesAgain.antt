@@ -4,9 +4,9 @@ use Rattle.xdg_base.specs.declared.faults.Cause.TheVariants as causes
 use Rattle.xdg_base.specs.declared.faults.Fault.{Fault}
 use Rattle.xdg_ast.specs.declared.names.Name.{Name}
 use Rattle.xdg_domain.specs.Shapes.{Among, Differ}
-use Rattle.xdg_faults.specs.First.{In}
-use Rattle.xdg_faults.proofs.In.{in_append, in_left, in_right, in_when, when_in}
-use Rattle.xdg_index.specs.Texts.{has_text}
+use Rattle.xdg_names.specs.First.{In}
+use Rattle.xdg_names.proofs.In.{in_append, in_left, in_right, in_when, when_in}
+use Rattle.xdg_names.specs.Texts.{has_text}
 use Rattle.xdg_types.specs.Parts.{Statement, texts}
 use Rattle.xdg_types.specs.Names.{fault_at, NameOffends, once}
 use Rattle.xdg_types.specs.NameFaults.{repeated, repeats, with_text}

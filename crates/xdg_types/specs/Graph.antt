@@ -1,8 +1,8 @@
 -- The definitions of types as a graph of uses.
 use Rattle.std.specs.Prelude.{ℕ, List, [], ◌∷◌, map, flat_map, Option, None, Some}
 use Rattle.xdg_ast.specs.declared.names.Name.{Name}
-use Rattle.xdg_cycles.specs.declared.graph.Use.{Use}
-use Rattle.xdg_index.specs.Texts.{place_of}
+use Rattle.xdg_names.specs.declared.graph.Use.{Use}
+use Rattle.xdg_names.specs.Texts.{place_of}
 use Rattle.xdg_types.specs.Written.{Tree, tree, uses}
 use Rattle.xdg_types.specs.Parts.{Statement, Definition, definitions, defined_names, texts}
 

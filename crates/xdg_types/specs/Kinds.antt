@@ -7,7 +7,7 @@ use Rattle.xdg_ast.specs.declared.names.Name.{Name}
 use Rattle.xdg_ast.specs.declared.grammar.DimPartKind.{DimPartKind}
 use Rattle.xdg_ast.specs.declared.grammar.DimPartKind.TheVariants as p
 use Rattle.xdg_domain.specs.Shapes.{Shape, domain, tuple, set, iset, card, valency, mapping, fields, Shapes, no_shape, shape_then, Fields, no_field, field_then, constants, constants_of, in_a_row, sizes, product, Among}
-use Rattle.xdg_faults.specs.First.{In}
+use Rattle.xdg_names.specs.First.{In}
 use Rattle.xdg_types.specs.Written.{Tree, listed, recorded, tupled, set_of, iset_of, valency_of, map_of, named, Trees, no_tree, tree_then, Members, no_member, member_then, member_names, tree}
 use Rattle.xdg_types.specs.Parts.{Statement, dimensions, used_places}
 use Rattle.xdg_types.specs.Meaning.{meaning, domains_meaning, as_domain}

@@ -4,7 +4,7 @@ use Rattle.xdg_base.specs.declared.faults.Cause.TheVariants as causes
 use Rattle.xdg_base.specs.declared.faults.Fault.{Fault}
 use Rattle.xdg_ast.specs.declared.names.Name.{Name}
 use Rattle.xdg_ast.specs.declared.grammar.StatementKind.{StatementKind}
-use Rattle.xdg_index.specs.Texts.{has_text}
+use Rattle.xdg_names.specs.Texts.{has_text}
 use Rattle.xdg_types.specs.Parts.{dimension}
 use Rattle.xdg_types.specs.Names.{fault_at}
 

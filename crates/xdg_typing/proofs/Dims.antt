@@ -12,7 +12,7 @@ use Rattle.xdg_types.specs.declared.table.DimType.{DimType}
 use Rattle.xdg_types.specs.Written.{tree}
 use Rattle.xdg_types.specs.Parts.{TypeTerm, DimPart, Statement, Dimension, dimension, dimensions}
 use Rattle.xdg_types.specs.Meaning.{meaning, fields_meaning, as_domain}
-use Rattle.xdg_type_heads.specs.Heads.{IsHeadOf}
+use Rattle.xdg_typing.specs.Heads.{IsHeadOf}
 use Rattle.xdg_types.specs.Table.{typed_fields, fields_in, first_meaning, IsDim, AreDims}
 use Rattle.xdg_typing.specs.Branches.{Naming, field_meaning, attribute_meaning}
 use Rattle.xdg_types.proofs.Treed.{members, tree_rec}

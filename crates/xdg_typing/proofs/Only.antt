@@ -8,10 +8,10 @@ use Rattle.xdg_base.specs.declared.faults.Fault.{Fault}
 use Rattle.xdg_base.specs.declared.faults.Stop.{Stop}
 use Rattle.xdg_base.specs.declared.faults.Stop.TheVariants as stops
 use Rattle.xdg_domain.specs.Shapes.{Shape, Differ}
-use Rattle.xdg_faults.specs.First.{Tells as TellsFault}
-use Rattle.xdg_faults.proofs.One.{one_first}
-use Rattle.xdg_index.specs.Texts.{place_of, AllDiffer}
-use Rattle.xdg_index.proofs.Texts.{place_of-at}
+use Rattle.xdg_names.specs.First.{Tells as TellsFault}
+use Rattle.xdg_names.proofs.One.{one_first}
+use Rattle.xdg_names.specs.Texts.{place_of, AllDiffer}
+use Rattle.xdg_names.proofs.Texts.{place_of-at}
 use Rattle.xdg_types.specs.declared.table.DimType.{DimType}
 use Rattle.xdg_types.specs.Parts.{Statement, Dimension, dimensions, dim_names, used_names, texts}
 use Rattle.xdg_types.specs.Names.{NameOffends}

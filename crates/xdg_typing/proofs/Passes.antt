@@ -4,16 +4,16 @@ use Rattle.xdg_base.specs.declared.faults.Fault.{Fault}
 use Rattle.xdg_domain.specs.Shapes.{Shape}
 use Rattle.xdg_types.specs.Parts.{TypeTerm, Statement}
 use Rattle.xdg_types.specs.Names.{NameOffends}
-use Rattle.xdg_type_heads.specs.Heads.{Knows}
+use Rattle.xdg_typing.specs.Heads.{Knows}
 use Rattle.std.specs.Prelude.{Err}
 use Rattle.xdg_base.specs.declared.faults.Stop.{Stop}
 use Rattle.xdg_base.specs.declared.faults.Stop.TheVariants as stops
-use Rattle.xdg_faults.specs.First.{Tells as TellsFault}
+use Rattle.xdg_names.specs.First.{Tells as TellsFault}
 use Rattle.xdg_types.specs.Kinds.{KindOffends}
 use Rattle.xdg_typing.specs.Right.{AreRight}
 use Rattle.xdg_types.specs.Table.{Table, IsTableOf}
 use Rattle.xdg_types.specs.Answers.{None_of, Tells, Refuses, HasTable}
-use Rattle.xdg_type_heads.specs.Answers.{IsResolved, TellsResolved}
+use Rattle.xdg_typing.specs.Answers.{IsResolved, TellsResolved}
 
 pub stop_tells : (statements : List Statement) (e : Stop) → None_of (NameOffends statements) → TellsResolved statements (Err e) → Tells statements (Err e)
 stop_tells statements (stops.Fault f) named h = inr (inl (named, h))

@@ -8,9 +8,9 @@ use Rattle.xdg_ast.specs.declared.grammar.DimPartKind.{DimPartKind}
 use Rattle.xdg_ast.specs.declared.grammar.DimPartKind.TheVariants as p
 use Rattle.xdg_domain.specs.declared.types.Ty.{Ty}
 use Rattle.xdg_domain.specs.Shapes.{Shape, domain, tuple, truth, integer, text, set, iset, card, valency, mapping, fields, Fields, no_field, field_then, constants, shape, Among, Differ, IsType, AreTypes, names_of}
-use Rattle.xdg_faults.specs.First.{In}
-use Rattle.xdg_faults.proofs.In.{in_flat_map, in_left, in_right}
-use Rattle.xdg_index.proofs.Texts.{place_of-has_text, place_of-Some}
+use Rattle.xdg_names.specs.First.{In}
+use Rattle.xdg_names.proofs.In.{in_flat_map, in_left, in_right}
+use Rattle.xdg_names.proofs.Texts.{place_of-has_text, place_of-Some}
 use Rattle.xdg_types.specs.declared.table.DimType.{DimType}
 use Rattle.xdg_types.specs.Written.{Tree, nothing, listed, recorded, tupled, set_of, iset_of, valency_of, map_of, a_card, a_bool, an_int, a_string, named, Members, no_member, member_then, member_names, tree}
 use Rattle.xdg_types.specs.Parts.{TypeTerm, DimPart, Statement, Dimension, dimensions, dim_names, used_name, used_names, used_places, label_type, attrs_type, entry_type, in_parts, texts}

@@ -6,8 +6,8 @@ use Rattle.xdg_ast.specs.declared.names.Name.{Name}
 use Rattle.xdg_ast.specs.declared.grammar.DimPartKind.{DimPartKind}
 use Rattle.xdg_ast.specs.declared.grammar.DimPartKind.TheVariants as p
 use Rattle.xdg_domain.specs.Shapes.{Among, Differ, IsType}
-use Rattle.xdg_faults.specs.First.{In}
-use Rattle.xdg_faults.proofs.In.{in_flat_map, flat_map_in}
+use Rattle.xdg_names.specs.First.{In}
+use Rattle.xdg_names.proofs.In.{in_flat_map, flat_map_in}
 use Rattle.xdg_types.specs.Written.{tree, uses, lists}
 use Rattle.xdg_types.specs.Parts.{TypeTerm, DimPart, Statement, Dimension, Definition, dimensions, definition, definitions_in, definitions, defined_names, type_in, in_parts, types, texts}
 use Rattle.xdg_types.specs.Kinds.{anything, part_sites}

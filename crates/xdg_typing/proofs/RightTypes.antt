@@ -8,8 +8,8 @@ use Rattle.xdg_base.specs.declared.faults.Cause.TheVariants as causes
 use Rattle.xdg_base.specs.declared.faults.Fault.{Fault}
 use Rattle.xdg_ast.specs.declared.names.Name.{Name}
 use Rattle.xdg_domain.specs.Shapes.{Shape, domain, tuple, truth, integer, text, set, iset, card, valency, mapping, fields, Shapes, no_shape, shape_then, Fields, no_field, field_then, constants, constants_of, in_a_row, sizes, product, count, Among, Differ, IsDomain, AreDomains, IsSmall, IsMapped, names_of, IsType, AreTypes}
-use Rattle.xdg_faults.specs.First.{In}
-use Rattle.xdg_faults.proofs.In.{in_left, in_right}
+use Rattle.xdg_names.specs.First.{In}
+use Rattle.xdg_names.proofs.In.{in_left, in_right}
 use Rattle.xdg_types.specs.Written.{Tree, nothing, listed, recorded, tupled, set_of, iset_of, valency_of, map_of, a_card, a_bool, an_int, a_string, named, Trees, no_tree, tree_then, Members, no_member, member_then, member_names, uses, uses_in_trees, uses_in_members, lists, lists_in_trees, lists_in_members}
 use Rattle.xdg_types.specs.Parts.{texts}
 use Rattle.xdg_types.specs.Meaning.{meaning, domains_meaning, fields_meaning, as_domain}

@@ -13,9 +13,9 @@ use Rattle.xdg_types.specs.Written.{tree}
 use Rattle.xdg_types.specs.Parts.{TypeTerm, DimPart, Statement, in_parts, attrs_type, entry_type}
 use Rattle.xdg_types.specs.Meaning.{meaning, domains_meaning, fields_meaning, as_domain}
 use Rattle.xdg_types.proofs.Treed.{trees, members, tree_set, tree_iset, tree_valency, tree_map, tree_tuple, tree_rec}
-use Rattle.xdg_type_heads.specs.Heads.{Knows, IsHeadOf}
-use Rattle.xdg_type_heads.specs.Weights.{parts, parts_of, parts_in}
-use Rattle.xdg_type_heads.proofs.WeightLaws.{parts_as}
+use Rattle.xdg_typing.specs.Heads.{Knows, IsHeadOf}
+use Rattle.xdg_typing.specs.Weights.{parts, parts_of, parts_in}
+use Rattle.xdg_typing.proofs.WeightLaws.{parts_as}
 use Rattle.xdg_typing.specs.Branches.{Naming}
 use Rattle.xdg_typing.specs.Room.{HasRoom, field_types}
 use Rattle.xdg_typing.specs.Small.{given, given_in, given_by, given_types, all_parts}

@@ -1,3 +1,8 @@
+pub mod Listed
+pub mod Answers
+pub mod Heads
+pub mod Weights
+pub mod KindFaults
 pub mod Branches
 pub mod Right
 pub mod Room

@@ -6,7 +6,7 @@ use Rattle.xdg_types.specs.Meaning.{Resolves}
 use Rattle.xdg_types.specs.Kinds.{KindOffends}
 use Rattle.xdg_types.specs.Names.{NameOffends}
 use Rattle.xdg_typing.specs.Branches.{Naming}
-use Rattle.xdg_type_heads.specs.Answers.{IsRanked}
+use Rattle.xdg_typing.specs.Answers.{IsRanked}
 
 -- The names mean what their definitions say, no definition leads back to itself, and nothing is wrong with names, kinds
 -- and sizes.

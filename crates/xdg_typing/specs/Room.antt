@@ -2,7 +2,7 @@
 use Rattle.std.specs.Prelude.{ℕ, ◌≤◌, List, map}
 use Rattle.xdg_ast.specs.declared.names.Pair.{Pair}
 use Rattle.xdg_types.specs.Parts.{TypeTerm}
-use Rattle.xdg_type_heads.specs.Heads.{Knows}
+use Rattle.xdg_typing.specs.Heads.{Knows}
 use Rattle.xdg_typing.specs.Branches.{Naming}
 
 -- There is room for so many parts, where the names mean what is known of them.

@@ -1,7 +1,7 @@
 -- The places of the dimensions that are used.
 use Rattle.std.specs.Prelude.{ℕ, List, [], ◌∷◌, flat_map, Option, None, Some}
 use Rattle.xdg_ast.specs.declared.names.Name.{Name}
-use Rattle.xdg_index.specs.Texts.{place_of}
+use Rattle.xdg_names.specs.Texts.{place_of}
 
 -- what was found
 abbrev pub found : Option ℕ → List ℕ

@@ -6,21 +6,21 @@ ghost use Rattle.xdg_domain.specs.Shapes.{constants, Differ};
 ghost use Rattle.xdg_types.specs.Parts as spec;
 ghost use Rattle.xdg_typing.specs.Branches.{Naming};
 ghost use Rattle.xdg_types.specs.Meaning.{as_domain};
-ghost use Rattle.xdg_type_heads.specs.Heads.{Knows};
+ghost use Rattle.xdg_typing.specs.Heads.{Knows};
 ghost use Rattle.xdg_types.specs.Table.{typed, fields_in, first_meaning, IsDim, AreDims};
-ghost use Rattle.xdg_type_heads.specs.Weights.{Weighs};
+ghost use Rattle.xdg_typing.specs.Weights.{Weighs};
 ghost use Rattle.xdg_typing.specs.Small as small;
 ghost use Rattle.xdg_typing.specs.Room.{HasRoom};
 ghost use Rattle.xdg_typing.specs.Small.{all_parts, weight_of_all, AreSmall};
 ghost use Rattle.xdg_typing.specs.Used.{found, places};
 
+use crate::definitions::Definitions;
 use crate::resolving::{MOST_PARTS, copies, resolve_attributes, resolve_members};
 use std::alloc::{AllocError, Global};
 use xdg_ast::{DimPart, DimPartKind, Name, Statement, StatementKind, TypeKind, TypeTerm};
 use xdg_base::{List, Text};
 use xdg_domain::Ty;
-use xdg_index::Index;
-use xdg_type_heads::Definitions;
+use xdg_names::Index;
 use xdg_types::DimType;
 
 /// Whether the types of all dimensions together have few enough parts.

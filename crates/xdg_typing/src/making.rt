@@ -2,17 +2,17 @@
 
 ghost use Rattle.std.specs.Prelude.{map, IfOk};
 ghost use Rattle.xdg_types.specs.Table.{IsTableOf};
-ghost use Rattle.xdg_type_heads.specs.Heads.{Knows};
+ghost use Rattle.xdg_typing.specs.Heads.{Knows};
 ghost use Rattle.xdg_typing.specs.Branches.{Naming};
-ghost use Rattle.xdg_type_heads.specs.Weights.{Weighs};
+ghost use Rattle.xdg_typing.specs.Weights.{Weighs};
 ghost use Rattle.xdg_typing.specs.Right.{AreRight};
 ghost use Rattle.xdg_typing.specs.Small.{AreSmall};
 
+use crate::definitions::Definitions;
 use crate::dimensions::{is_small, names_of, resolve_dimensions, used_places};
 use std::alloc::Global;
 use xdg_ast::Statement;
 use xdg_base::OutOfMemory;
-use xdg_type_heads::Definitions;
 use xdg_types::TypeTable;
 
 /// The dimensions of a grammar with their types. Want of memory where the types together have more than

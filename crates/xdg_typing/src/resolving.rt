@@ -2,7 +2,7 @@
 
 ghost use Rattle.std.specs.Prelude.{◌≡◌, ◌↔◌, ◌+◌, map, IfOk, IsTrue};
 ghost use Rattle.xdg_domain.specs.Shapes.{shape, fields, no_field};
-ghost use Rattle.xdg_type_heads.specs.Weights.{parts};
+ghost use Rattle.xdg_typing.specs.Weights.{parts};
 ghost use Rattle.xdg_types.specs.Written.{tree};
 ghost use Rattle.xdg_types.specs.Parts.{texts};
 ghost use Rattle.xdg_typing.specs.Branches.{Naming, domain_meaning, field_meaning, attribute_meaning};
@@ -10,13 +10,13 @@ ghost use Rattle.xdg_typing.specs.Room.{HasRoom, field_types};
 ghost use Rattle.xdg_typing.specs.Small.{all_parts};
 ghost use Rattle.xdg_types.specs.Meaning.{meaning, as_domain, IsHead};
 ghost use Rattle.xdg_types.specs.Table.{typed};
-ghost use Rattle.xdg_type_heads.specs.Heads.{Knows};
+ghost use Rattle.xdg_typing.specs.Heads.{Knows};
 
+use crate::definitions::Definitions;
 use std::alloc::{AllocError, Global};
 use xdg_ast::{Name, Pair, TypeKind, TypeTerm};
 use xdg_base::{Boxed, List, Text};
 use xdg_domain::Ty;
-use xdg_type_heads::Definitions;
 
 /// How many parts the types of a grammar may have together, names followed: above, the answer is want of memory.
 pub(crate) const MOST_PARTS: u64 = 16_777_216;

@@ -10,13 +10,13 @@ ghost use Rattle.xdg_types.specs.Table.{Table};
 ghost use Rattle.xdg_typing.specs.Branches.{Naming};
 ghost use Rattle.xdg_typing.specs.Small.{AreSmall};
 
+use crate::following::resolved;
+use crate::kinds::check_kinds;
 use crate::making::table;
+use crate::names::check_names;
 use std::alloc::Global;
 use xdg_ast::{Grammar, Statement};
 use xdg_base::Stop;
-use xdg_type_heads::resolved;
-use xdg_type_kinds::check_kinds;
-use xdg_type_names::check_names;
 use xdg_types::TypeTable;
 
 /// The table of a grammar whose names are right, or the first fault of the other passes.

@@ -1,12 +1,12 @@
 use Rattle.std.proofs.Common.{◌≡◌, Some, subst}
 use Rattle.xdg_arrange.specs.Outcomes.{ListThen}
-use Rattle.xdg_outcomes.specs.Loaded.{read_of}
-use Rattle.xdg_outcomes.specs.Outcomes.{MeaningThen}
-use Rattle.xdg_outcomes.specs.Refusals.{Stops}
-use Rattle.xdg_outcomes.specs.Stages.{Accepts}
-use Rattle.xdg_outcomes.specs.Texts.{HasBadText, HasTree, ReadText}
-use Rattle.xdg_outcomes.specs.declared.status.Status.TheVariants as statuses
-use Rattle.xdg_outcomes.proofs.Leaving.{accepted_front}
+use Rattle.xdg_inputs.specs.Loaded.{read_of}
+use Rattle.xdg_inputs.specs.Outcomes.{MeaningThen}
+use Rattle.xdg_inputs.specs.Refusals.{Stops}
+use Rattle.xdg_inputs.specs.Stages.{Accepts}
+use Rattle.xdg_inputs.specs.GrammarFiles.{HasBadText, HasTree, ReadText}
+use Rattle.xdg_inputs.specs.declared.status.Status.TheVariants as statuses
+use Rattle.xdg_inputs.proofs.Leaving.{accepted_front}
 use Rattle.xdg_arrange.proofs.Commanding.{meaning_said}
 use Rattle.xdg_arrange.proofs.Fronting.{stopped_front}
 use Rattle.xdg_arrange.proofs.command.arrange.Goals as goal

@@ -2,10 +2,10 @@ use Rattle.std.proofs.Common.{Some, ◌≡◌}
 use Rattle.xdg_arrange.specs.Lists.{HasList, IsBadList, Listed}
 use Rattle.xdg_arrange.specs.Outcomes.{ListThen}
 use Rattle.xdg_arrange.specs.Texts.{AreArranged}
-use Rattle.xdg_grammar.specs.Answers.{meaning_of}
-use Rattle.xdg_groups.specs.Grammars.{grammar_of}
-use Rattle.xdg_outcomes.specs.declared.status.Status.TheVariants as statuses
-use Rattle.xdg_outcomes.proofs.Leaving.{accepted_front}
+use Rattle.xdg_inputs.specs.Answers.{meaning_of}
+use Rattle.xdg_build.specs.Grammars.{grammar_of}
+use Rattle.xdg_inputs.specs.declared.status.Status.TheVariants as statuses
+use Rattle.xdg_inputs.proofs.Leaving.{accepted_front}
 use Rattle.xdg_arrange.proofs.Commanding.{list_said}
 use Rattle.xdg_arrange.proofs.Fronting.{memory_front, stopped_front}
 use Rattle.xdg_arrange.proofs.Passing.{arranged_said}

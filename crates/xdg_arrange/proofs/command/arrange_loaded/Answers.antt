@@ -1,4 +1,4 @@
-use Rattle.xdg_outcomes.specs.Loaded.{read_of}
+use Rattle.xdg_inputs.specs.Loaded.{read_of}
 use Rattle.xdg_arrange.proofs.Commanding.{meaning_front, refused_front}
 use Rattle.xdg_arrange.proofs.command.arrange_loaded.Goals as goal
 

@@ -1,9 +1,9 @@
 use Rattle.std.proofs.Common.{◌∙◌, ap, sym, subst}
 use Rattle.std.specs.Str.{IsValidUpTo}
 use Rattle.xdg_arrange.specs.Lists.{HasList, IsBadList, IsRefused, Listed}
-use Rattle.xdg_grammar.specs.Answers.{meaning_of}
-use Rattle.xdg_outcomes.specs.Refusals.{Stops}
-use Rattle.xdg_words.specs.Segments.{words_in}
+use Rattle.xdg_inputs.specs.Answers.{meaning_of}
+use Rattle.xdg_inputs.specs.Refusals.{Stops}
+use Rattle.xdg_linear.specs.Segments.{words_in}
 use Rattle.xdg_arrange.proofs.Listing.{list_accepted, text_rejected, words_stop}
 use Rattle.xdg_arrange.proofs.lists.list_in.Goals as goal
 

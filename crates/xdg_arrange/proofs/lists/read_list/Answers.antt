@@ -1,6 +1,6 @@
 use Rattle.std.proofs.Common.{sym, subst}
-use Rattle.xdg_grammar.specs.Answers.{meaning_of}
-use Rattle.xdg_groups.specs.Grammars.{grammar_of}
+use Rattle.xdg_inputs.specs.Answers.{meaning_of}
+use Rattle.xdg_build.specs.Grammars.{grammar_of}
 use Rattle.xdg_io.specs.Left.{TakesAll}
 use Rattle.xdg_arrange.proofs.Listing.{input_found, input_quiet, input_read, input_stops, input_taken, long_stops}
 use Rattle.xdg_arrange.proofs.lists.read_list.Goals as goal

@@ -2,7 +2,7 @@ use Rattle.std.proofs.Common.{◌≡◌}
 use Rattle.xdg_arrange.specs.Lists.{Listed}
 use Rattle.xdg_arrange.proofs.Going.{Goes}
 use Rattle.xdg_build.specs.Stocks.{IsStock}
-use Rattle.xdg_groups.specs.Grammars.{grammar_of}
+use Rattle.xdg_build.specs.Grammars.{grammar_of}
 use Rattle.xdg_arrange.proofs.printing.print_arrangements.Given as goal
 
 abbrev pub invariant-next : goal.invariant-next

@@ -1,7 +1,7 @@
 use Rattle.std.proofs.Common.{refl, subst}
 use Rattle.xdg_arrange.specs.Found.{IsOneFind, Writes, arrangement_line}
 use Rattle.xdg_build.specs.Solutions.{KeepsSolutions}
-use Rattle.xdg_groups.specs.Grammars.{grammar_of}
+use Rattle.xdg_build.specs.Grammars.{grammar_of}
 use Rattle.xdg_linear.specs.Ranks.{words_at}
 use Rattle.xdg_problem.specs.declared.parts.Parts.{Parts}
 use Rattle.xdg_arrange.proofs.printing.print_ranks.Goals as goal

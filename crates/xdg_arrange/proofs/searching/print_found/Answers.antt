@@ -1,7 +1,7 @@
 use Rattle.std.proofs.Common.{◌∙◌, ◌++◌, arith, map, refl, subst, sym}
 use Rattle.std.specs.Prelude.{codes}
-use Rattle.xdg_analyses.proofs.Ending.{done_of, failed_of}
-use Rattle.xdg_analyses.proofs.Found.{analysis_is}
+use Rattle.xdg_split.proofs.Ending.{done_of, failed_of}
+use Rattle.xdg_split.proofs.FoundSoFar.{analysis_is}
 use Rattle.xdg_problem.specs.Analyses.{IsAnalysis}
 use Rattle.xdg_text.specs.Lines.{line}
 use Rattle.xdg_text.specs.Words.{word_text}

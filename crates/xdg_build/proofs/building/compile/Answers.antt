@@ -1,8 +1,8 @@
 use Rattle.std.proofs.Common.{sym, ◌∙◌, ap, subst}
-use Rattle.xdg_groups.specs.Grammars.{grammar_of}
-use Rattle.xdg_groups.specs.Groups.{groups_of}
-use Rattle.xdg_groups.specs.Nodes.{candidates_in}
-use Rattle.xdg_groups.specs.Suits.{Suits}
+use Rattle.xdg_build.specs.Grammars.{grammar_of}
+use Rattle.xdg_build.specs.Groups.{groups_of}
+use Rattle.xdg_build.specs.Nodes.{candidates_in}
+use Rattle.xdg_build.specs.Suits.{Suits}
 use Rattle.xdg_build.proofs.Lawful.{known_entries, made_is_problem}
 use Rattle.xdg_build.proofs.Stocked.{candidates_are, each_plan, made_compiled}
 use Rattle.xdg_build.proofs.building.compile.Goals as goal

@@ -1,5 +1,5 @@
 use Rattle.std.proofs.Common.{◌≡◌, take}
-use Rattle.xdg_groups.specs.Nodes.{candidates_in}
+use Rattle.xdg_build.specs.Nodes.{candidates_in}
 use Rattle.xdg_build.proofs.candidates.candidates.Given as goal
 
 abbrev pub invariant-loop-node : goal.invariant-loop-node

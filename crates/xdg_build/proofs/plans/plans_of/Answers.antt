@@ -1,5 +1,5 @@
 use Rattle.std.proofs.Common.{get_or, refl, arith}
-use Rattle.xdg_groups.specs.Grammars.{grammar_of}
+use Rattle.xdg_build.specs.Grammars.{grammar_of}
 use Rattle.xdg_build.proofs.Turns.{attributes_at, plans_more}
 use Rattle.xdg_build.proofs.plans.plans_of.Goals as goal
 

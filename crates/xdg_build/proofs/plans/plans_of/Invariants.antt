@@ -1,5 +1,5 @@
 use Rattle.std.proofs.Common.{◌≡◌, take, map}
-use Rattle.xdg_groups.specs.Grammars.{grammar_of}
+use Rattle.xdg_build.specs.Grammars.{grammar_of}
 use Rattle.xdg_packed.specs.Lexicon.{Lexicon}
 use Rattle.xdg_build.specs.Plans.{plan_at}
 use Rattle.xdg_build.proofs.plans.plans_of.Given as goal

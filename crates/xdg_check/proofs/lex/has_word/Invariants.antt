@@ -1,5 +1,5 @@
 use Rattle.std.proofs.Common.{drop}
-use Rattle.xdg_faults.specs.First.{In}
+use Rattle.xdg_names.specs.First.{In}
 use Rattle.xdg_types.specs.Table.{typed}
 use Rattle.xdg_check.proofs.Words.{word}
 use Rattle.xdg_check.proofs.lex.has_word.Given as goal

@@ -1,5 +1,5 @@
 use Rattle.std.proofs.Common.{inl, subst}
-use Rattle.xdg_faults.specs.First.{Tells as TellsFault}
+use Rattle.xdg_names.specs.First.{Tells as TellsFault}
 use Rattle.xdg_check.specs.Answers.{NameOffends}
 use Rattle.xdg_check.proofs.passes.check_statements.Goals as goal
 

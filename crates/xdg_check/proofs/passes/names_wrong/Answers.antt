@@ -1,6 +1,6 @@
 use Rattle.std.proofs.Common.{subst, sym}
-use Rattle.xdg_faults.specs.First.{Tells}
-use Rattle.xdg_faults.proofs.First.{tells_both}
+use Rattle.xdg_names.specs.First.{Tells}
+use Rattle.xdg_names.proofs.First.{tells_both}
 use Rattle.xdg_classes.specs.Names.{NameOffends}
 use Rattle.xdg_principles.specs.Names.{PrincipleNameOffends}
 use Rattle.xdg_check.specs.Answers as a

@@ -1,5 +1,5 @@
 use Rattle.std.proofs.Common.{subst}
-use Rattle.xdg_faults.specs.First.{Tells as TellsFault}
+use Rattle.xdg_names.specs.First.{Tells as TellsFault}
 use Rattle.xdg_check.specs.Answers.{ValueOffends}
 use Rattle.xdg_check.proofs.Assembled.{value_refuses}
 use Rattle.xdg_check.proofs.passes.ordered.Goals as goal

@@ -1,7 +1,7 @@
 use Rattle.std.proofs.Common.{subst, sym, inl}
-use Rattle.xdg_faults.specs.First.{Tells}
-use Rattle.xdg_faults.proofs.First.{tells_both}
-use Rattle.xdg_arguments.specs.Offences.{ValueOffends}
+use Rattle.xdg_names.specs.First.{Tells}
+use Rattle.xdg_names.proofs.First.{tells_both}
+use Rattle.xdg_classes.specs.Offences.{ValueOffends}
 use Rattle.xdg_principles.specs.Arguments.{ArgumentOffends}
 use Rattle.xdg_check.specs.Answers as a
 use Rattle.xdg_check.proofs.passes.values_wrong.Goals as goal

@@ -1,7 +1,7 @@
 use Rattle.std.proofs.Common.{◌∙◌, ap, map, refl}
 use Rattle.std.specs.List.{flat_map}
-use Rattle.xdg_faults.specs.First.{first}
-use Rattle.xdg_faults.proofs.First.{first_turn}
+use Rattle.xdg_names.specs.First.{first}
+use Rattle.xdg_names.proofs.First.{first_turn}
 use Rattle.xdg_types.specs.NameFaults.{repeats}
 use Rattle.xdg_classes.specs.Definitions.{param_names}
 use Rattle.xdg_classes.specs.NameFaults as spec

@@ -1,6 +1,6 @@
 use Rattle.std.proofs.Common.{sym, subst}
 use Rattle.std.proofs.lemmas.Result.{IfOk-weaker}
-use Rattle.xdg_faults.specs.First.{Tells}
+use Rattle.xdg_names.specs.First.{Tells}
 use Rattle.xdg_classes.specs.Names.{NameOffends}
 use Rattle.xdg_classes.proofs.NameLaw.{names_tell}
 use Rattle.xdg_classes.proofs.names.check_names.Goals as goal

@@ -1,6 +1,6 @@
 use Rattle.std.proofs.Common.{map, refl}
 use Rattle.std.specs.List.{flat_map}
-use Rattle.xdg_faults.proofs.First.{first_turn}
+use Rattle.xdg_names.proofs.First.{first_turn}
 use Rattle.xdg_classes.specs.NameFaults as spec
 use Rattle.xdg_classes.specs.Lent.{said}
 use Rattle.xdg_classes.proofs.names.unknown_dims.Goals as goal

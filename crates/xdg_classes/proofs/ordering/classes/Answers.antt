@@ -1,5 +1,5 @@
 use Rattle.std.proofs.Common.{map, sym, ap, ◌∙◌, subst, Some}
-use Rattle.xdg_cycles.specs.Closing.{IsClosing}
+use Rattle.xdg_names.specs.Closing.{IsClosing}
 use Rattle.xdg_types.specs.Answers.{None_of}
 use Rattle.xdg_types.specs.NameFaults.{with_all}
 use Rattle.xdg_classes.specs.Definitions.{class_names}

@@ -1,5 +1,5 @@
 use Rattle.std.proofs.Common.{◌≡◌, map, drop}
-use Rattle.xdg_faults.specs.First.{first, earlier}
+use Rattle.xdg_names.specs.First.{first, earlier}
 use Rattle.xdg_types.specs.NameFaults as spec
 use Rattle.xdg_classes.specs.Definitions.{class_names}
 use Rattle.xdg_classes.specs.Lent.{class_def}

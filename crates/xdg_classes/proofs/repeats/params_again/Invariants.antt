@@ -1,5 +1,5 @@
 use Rattle.std.proofs.Common.{◌≡◌, drop}
-use Rattle.xdg_faults.specs.First.{first, earlier}
+use Rattle.xdg_names.specs.First.{first, earlier}
 use Rattle.xdg_types.specs.NameFaults as spec
 use Rattle.xdg_classes.specs.Definitions.{param_names}
 use Rattle.xdg_classes.proofs.repeats.params_again.Given as goal

@@ -1,6 +1,6 @@
 use Rattle.std.proofs.Common.{◌≡◌, List, map, drop}
 use Rattle.std.specs.List.{flat_map}
-use Rattle.xdg_faults.specs.First.{first, earlier}
+use Rattle.xdg_names.specs.First.{first, earlier}
 use Rattle.xdg_classes.specs.Definitions.{ClassDef}
 use Rattle.xdg_classes.specs.NameFaults as spec
 use Rattle.xdg_classes.specs.Known.{shown, KnowsClasses}

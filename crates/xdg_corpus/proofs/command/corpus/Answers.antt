@@ -1,11 +1,11 @@
 use Rattle.std.proofs.Common.{◌≡◌, Some, subst}
 use Rattle.xdg_corpus.specs.Outcomes.{LinesThen}
-use Rattle.xdg_outcomes.specs.Loaded.{read_of}
-use Rattle.xdg_outcomes.specs.Outcomes.{MeaningThen}
-use Rattle.xdg_outcomes.specs.Refusals.{Stops}
-use Rattle.xdg_outcomes.specs.Stages.{Accepts}
-use Rattle.xdg_outcomes.specs.Texts.{HasBadText, HasTree, ReadText}
-use Rattle.xdg_outcomes.specs.declared.status.Status.TheVariants as statuses
+use Rattle.xdg_inputs.specs.Loaded.{read_of}
+use Rattle.xdg_inputs.specs.Outcomes.{MeaningThen}
+use Rattle.xdg_inputs.specs.Refusals.{Stops}
+use Rattle.xdg_inputs.specs.Stages.{Accepts}
+use Rattle.xdg_inputs.specs.GrammarFiles.{HasBadText, HasTree, ReadText}
+use Rattle.xdg_inputs.specs.declared.status.Status.TheVariants as statuses
 use Rattle.xdg_corpus.proofs.Parting.{accepted_part, stopped_part}
 use Rattle.xdg_corpus.proofs.command.corpus.Goals as goal
 

@@ -1,10 +1,10 @@
 use Rattle.std.proofs.Common.{List, ℕ, Some, ◌≡◌, subst}
 use Rattle.xdg_corpus.specs.Inputs.{HasText, IsBadCorpus}
 use Rattle.xdg_corpus.specs.Outcomes.{AreSearched, LinesThen}
-use Rattle.xdg_grammar.specs.Answers.{meaning_of}
-use Rattle.xdg_outcomes.specs.Refusals.{Stops}
-use Rattle.xdg_outcomes.specs.Stages.{Accepts}
-use Rattle.xdg_outcomes.specs.declared.status.Status.TheVariants as statuses
+use Rattle.xdg_inputs.specs.Answers.{meaning_of}
+use Rattle.xdg_inputs.specs.Refusals.{Stops}
+use Rattle.xdg_inputs.specs.Stages.{Accepts}
+use Rattle.xdg_inputs.specs.declared.status.Status.TheVariants as statuses
 use Rattle.xdg_corpus.proofs.Commanding.{lines_leave, text_leaves}
 use Rattle.xdg_corpus.proofs.Parting.{memory_part, stopped_part}
 use Rattle.xdg_corpus.proofs.command.corpus_expanded.Goals as goal

@@ -1,5 +1,5 @@
 use Rattle.xdg_corpus.specs.Outcomes.{LinesThen}
-use Rattle.xdg_outcomes.specs.Loaded.{read_of}
+use Rattle.xdg_inputs.specs.Loaded.{read_of}
 use Rattle.xdg_corpus.proofs.Parting.{meaning_part, refused_part}
 use Rattle.xdg_corpus.proofs.command.corpus_loaded.Goals as goal
 

@@ -1,8 +1,8 @@
 use Rattle.std.proofs.Common.{◌≡◌, subst}
-use Rattle.xdg_grammar.specs.Answers.{meaning_of}
-use Rattle.xdg_outcomes.specs.Refusals.{refusal_of}
+use Rattle.xdg_inputs.specs.Answers.{meaning_of}
+use Rattle.xdg_inputs.specs.Refusals.{refusal_of}
 use Rattle.xdg_build.specs.Stocks.{IsStock}
-use Rattle.xdg_groups.specs.Grammars.{grammar_of}
+use Rattle.xdg_build.specs.Grammars.{grammar_of}
 use Rattle.xdg_corpus.proofs.Grouping.{asked_added, refused_added, stays_at_text, words_refused}
 use Rattle.xdg_corpus.proofs.group.add_line.Goals as goal
 

@@ -1,4 +1,4 @@
-use Rattle.xdg_grammar.specs.Answers.{meaning_of}
+use Rattle.xdg_inputs.specs.Answers.{meaning_of}
 use Rattle.xdg_corpus.proofs.Grouping.{asks, is_job}
 use Rattle.xdg_corpus.proofs.group.job_of.Goals as goal
 

@@ -1,6 +1,6 @@
 use Rattle.std.proofs.Common.{◌≤◌, inl, inr, length, sym, ◌∙◌, rules}
 use Rattle.std.proofs.lemmas.Bool.{eqb-true}
-use Rattle.xdg_grammar.specs.Answers.{meaning_of}
+use Rattle.xdg_inputs.specs.Answers.{meaning_of}
 use Rattle.xdg_corpus.proofs.Grouping.{takes_line, takes_none, takes_some}
 use Rattle.xdg_corpus.proofs.group.take_group.Goals as goal
 use Rattle.xdg_corpus.proofs.group.take_group.Goals.{then-loop-alloc-test+else-not-is_empty, else-loop-alloc-test}

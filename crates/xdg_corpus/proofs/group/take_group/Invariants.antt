@@ -3,8 +3,8 @@ use denote.Text.{Utf8}
 use Rattle.std.proofs.Common.{length}
 use Rattle.xdg_build.specs.Stocks.{IsStock}
 use Rattle.xdg_corpus.specs.Groups.{TakesLines}
-use Rattle.xdg_grammar.specs.Answers.{meaning_of}
-use Rattle.xdg_groups.specs.Grammars.{grammar_of}
+use Rattle.xdg_inputs.specs.Answers.{meaning_of}
+use Rattle.xdg_build.specs.Grammars.{grammar_of}
 use Rattle.xdg_corpus.proofs.group.take_group.Given as goal
 
 abbrev pub invariant-loop-alloc : goal.invariant-loop-alloc

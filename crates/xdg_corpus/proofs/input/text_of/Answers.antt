@@ -1,7 +1,7 @@
 use Rattle.std.proofs.Common.{ℕ, List, sym, subst}
 use Rattle.std.specs.Str.{IsValidUpTo}
 use Rattle.xdg_corpus.specs.Inputs.{HasText, IsBadCorpus}
-use Rattle.xdg_outcomes.specs.Refusals.{Stops}
+use Rattle.xdg_inputs.specs.Refusals.{Stops}
 use Rattle.xdg_corpus.proofs.Inputting.{text_accepted, text_rejected}
 use Rattle.xdg_corpus.proofs.input.text_of.Goals as goal
 

@@ -1,8 +1,8 @@
 use Rattle.std.proofs.Common.{◌≡◌, ◌+◌, length, refl, sym, ◌∙◌, subst, arith, rules}
 use Rattle.std.specs.List.{AllZip}
 use Rattle.std.proofs.lemmas.Bool.{eqb-true}
-use Rattle.xdg_analyses.proofs.Ending.{done_of, failed_of}
-use Rattle.xdg_grammar.specs.Answers.{meaning_of}
+use Rattle.xdg_split.proofs.Ending.{done_of, failed_of}
+use Rattle.xdg_inputs.specs.Answers.{meaning_of}
 use Rattle.xdg_split.specs.Answers.{IsAnswer}
 use Rattle.xdg_corpus.proofs.Searching.{PrintedSoFar, printed_all, printed_front, printed_group, printed_none, rest_within}
 use Rattle.xdg_corpus.proofs.printing.print_groups.Goals as goal

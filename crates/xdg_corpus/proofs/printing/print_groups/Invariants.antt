@@ -2,8 +2,8 @@ use denote.Shadow.{shadow}
 use denote.Text.{Utf8}
 use Rattle.std.proofs.Common.{◌≡◌, ◌≤◌, length}
 use Rattle.xdg_build.specs.Stocks.{IsStock}
-use Rattle.xdg_grammar.specs.Answers.{meaning_of}
-use Rattle.xdg_groups.specs.Grammars.{grammar_of}
+use Rattle.xdg_inputs.specs.Answers.{meaning_of}
+use Rattle.xdg_build.specs.Grammars.{grammar_of}
 use Rattle.xdg_corpus.proofs.Searching.{PrintedSoFar}
 use Rattle.xdg_corpus.proofs.printing.print_groups.Given as goal
 

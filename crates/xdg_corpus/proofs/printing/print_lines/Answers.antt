@@ -1,4 +1,4 @@
-use Rattle.xdg_grammar.specs.Answers.{meaning_of}
+use Rattle.xdg_inputs.specs.Answers.{meaning_of}
 use Rattle.xdg_corpus.specs.Outcomes.{AreSearched}
 use Rattle.xdg_corpus.proofs.Parting.{memory_part}
 use Rattle.xdg_corpus.proofs.printing.print_lines.Goals as goal

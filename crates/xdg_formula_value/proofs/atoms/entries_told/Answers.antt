@@ -2,7 +2,7 @@ use Rattle.std.proofs.Common.{◌≡◌, ◌∙◌, true, arith, below_more, ref
 use Rattle.std.proofs.lemmas.Bool.{false≢true}
 use Rattle.xdg_problem.specs.Boxes.{Has, entry_decision}
 use Rattle.xdg_problem.specs.Truths.{says, HasTruth}
-use Rattle.xdg_uses.proofs.Remaining.{entry_end}
+use Rattle.xdg_graph.proofs.Remaining.{entry_end}
 use Rattle.xdg_formula_value.proofs.Told.{alike, differ, has_truth, truth_is}
 use Rattle.xdg_formula_value.proofs.atoms.entries_told.Goals as goal
 

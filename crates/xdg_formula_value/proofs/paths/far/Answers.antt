@@ -1,4 +1,4 @@
-use Rattle.xdg_reach.specs.declared.which.Which.TheVariants as whichs
+use Rattle.xdg_graph.specs.declared.which.Which.TheVariants as whichs
 use Rattle.std.specs.Prelude.{[], slice_index_or}
 use Rattle.xdg_formula_value.proofs.Tabled.{at_node, at_which}
 use Rattle.xdg_formula_value.proofs.paths.far.Goals as goal

@@ -1,5 +1,5 @@
 use Rattle.std.proofs.Common.{◌∙◌, ap}
-use Rattle.xdg_outcomes.specs.Refusals.{refusal_of}
+use Rattle.xdg_inputs.specs.Refusals.{refusal_of}
 use Rattle.xdg_inputs.proofs.Analysing.{entries_of, unread_stops, unjudged_stops, judged_accepted}
 use Rattle.xdg_inputs.proofs.analysis.load_analysis.Goals as goal
 

@@ -1,7 +1,7 @@
 use Rattle.std.proofs.Common.{Err, sym, ◌∙◌, ap, subst}
 use Rattle.std.specs.Prelude.{IfErr}
 use Rattle.std.proofs.lemmas.Result.{err_from_is_err_and}
-use Rattle.xdg_groups.specs.Grammars.{grammar_of}
+use Rattle.xdg_build.specs.Grammars.{grammar_of}
 use Rattle.xdg_inputs.specs.Judging.{IsNotJudged, no_memory}
 use Rattle.xdg_inputs.proofs.Analysing.{same_words, words_unknown, misfits}
 use Rattle.xdg_inputs.proofs.analysis.make_judgeable.Goals as goal

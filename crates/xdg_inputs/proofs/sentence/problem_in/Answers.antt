@@ -1,8 +1,8 @@
 use Rattle.std.proofs.Common.{sym, subst}
 use Rattle.std.specs.Str.{IsValidUpTo}
-use Rattle.xdg_grammar.specs.Answers.{meaning_of}
+use Rattle.xdg_inputs.specs.Answers.{meaning_of}
 use Rattle.xdg_problem.specs.declared.parts.Parts.{Parts}
-use Rattle.xdg_outcomes.specs.Refusals.{Stops}
+use Rattle.xdg_inputs.specs.Refusals.{Stops}
 use Rattle.xdg_inputs.specs.Sentences.{AcceptsWords, HasProblem, IsBadSentence, StopsWords}
 use Rattle.xdg_inputs.proofs.Sentencing.{no_text_rejected, sentence_accepted, sentence_stops}
 use Rattle.xdg_inputs.proofs.sentence.problem_in.Goals as goal

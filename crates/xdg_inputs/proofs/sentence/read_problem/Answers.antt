@@ -1,5 +1,5 @@
 use Rattle.std.proofs.Common.{sym, subst}
-use Rattle.xdg_grammar.specs.Answers.{meaning_of}
+use Rattle.xdg_inputs.specs.Answers.{meaning_of}
 use Rattle.xdg_io.specs.Left.{TakesAll}
 use Rattle.xdg_inputs.proofs.Sentencing.{input_quiet, input_read, input_stops, input_taken}
 use Rattle.xdg_inputs.proofs.sentence.read_problem.Goals as goal

@@ -1,4 +1,4 @@
-use Rattle.xdg_groups.specs.Grammars.{grammar_of}
+use Rattle.xdg_build.specs.Grammars.{grammar_of}
 use Rattle.xdg_inputs.proofs.Wording.{built_accepted, built_stops, made_of}
 use Rattle.xdg_inputs.proofs.words.problem_of.Goals as goal
 

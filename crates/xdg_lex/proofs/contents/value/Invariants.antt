@@ -1,5 +1,5 @@
 use Rattle.std.proofs.Common.{◌≡◌, drop}
-use Rattle.xdg_lex.specs.Contents.{value_of, value_from}
+use Rattle.xdg_ast.specs.Contents.{value_of, value_from}
 use Rattle.xdg_lex.proofs.contents.value.Given as goal
 
 abbrev pub invariant-loop-digit : goal.invariant-loop-digit

@@ -1,6 +1,6 @@
 use Rattle.std.proofs.Common.{sym, ap, ◌+◌}
 use Rattle.std.proofs.lemmas.Result.{err_from_is_err_and}
-use Rattle.xdg_lex.specs.Lexed.{lexemes_of}
+use Rattle.xdg_ast.specs.Lexemes.{lexemes_of}
 use Rattle.xdg_lex.proofs.Steps.{more_read, refused_on, cut}
 use Rattle.xdg_lex.proofs.Turns.{moved, next_turn, begin_refused, end_refused, last_refused, whole_read}
 use Rattle.xdg_lex.proofs.reading.read.Goals.{in-GoesOn, in-Ends+in_ok-add_piece-in-Ends+in-Ok}

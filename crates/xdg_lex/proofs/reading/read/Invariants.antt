@@ -1,5 +1,5 @@
 use Rattle.std.specs.Str.Iter.{chars_rest}
-use Rattle.xdg_lex.specs.Lexed.{lexemes_of}
+use Rattle.xdg_ast.specs.Lexemes.{lexemes_of}
 use Rattle.xdg_lex.proofs.Steps.{IsRead}
 use Rattle.xdg_lex.proofs.reading.read.Given as goal
 

@@ -1,6 +1,6 @@
 use Rattle.std.proofs.Common.{Ok, Err, refl, sym, ap, ◌∙◌, subst}
 use Rattle.std.proofs.lemmas.Result.{err_from_is_err_and}
-use Rattle.xdg_entries.specs.Entries.{IsWordPlace}
+use Rattle.xdg_packed.specs.Entries.{IsWordPlace}
 use Rattle.xdg_lexicon.specs.Sources.{source_of}
 use Rattle.xdg_lexicon.specs.Steps.{one_of, AddsMembers, AddsOne}
 use Rattle.xdg_lexicon.proofs.Stepping.{members_refused, limits_told}

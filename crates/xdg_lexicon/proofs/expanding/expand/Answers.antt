@@ -1,7 +1,7 @@
 use Rattle.std.proofs.Common.{◌≤◌, length, Err, refl, sym, ap, ◌∙◌, subst, arith}
 use Rattle.std.proofs.lemmas.Result.{err_from_is_err_and}
-use Rattle.xdg_faults.specs.First.{In}
-use Rattle.xdg_entries.specs.Entries.{IsWordPlace, AreEntries}
+use Rattle.xdg_names.specs.First.{In}
+use Rattle.xdg_packed.specs.Entries.{IsWordPlace, AreEntries}
 use Rattle.xdg_lexicon.specs.Answers.{Tells, Gives}
 use Rattle.xdg_lexicon.specs.Expanding.{so_far}
 use Rattle.xdg_lexicon.specs.Sources.{source_of}

@@ -1,8 +1,8 @@
 use Rattle.std.proofs.Common.{◌+◌, ◌<◌, [], ◌∷◌, ◌++◌, sym, ap, ◌∙◌, subst}
 use Rattle.xdg_domain.specs.Shapes.{shape}
 use Rattle.xdg_domain.specs.Valencies.{said_at, KeysRise}
-use Rattle.xdg_filling.specs.Filled.{filled}
-use Rattle.xdg_filling.proofs.Steps.{one_more}
+use Rattle.xdg_packed.specs.Filled.{filled}
+use Rattle.xdg_packed.proofs.Steps.{one_more}
 use Rattle.xdg_lexicon.proofs.filling.filled_record.Goals as goal
 
 pub loop-i-preserved : goal.loop-i-preserved

@@ -1,4 +1,4 @@
-use Rattle.xdg_filling.proofs.Steps.{SoFar}
+use Rattle.xdg_packed.proofs.Steps.{SoFar}
 use Rattle.xdg_lexicon.proofs.filling.filled_record.Given as goal
 
 abbrev pub invariant-loop-i : goal.invariant-loop-i

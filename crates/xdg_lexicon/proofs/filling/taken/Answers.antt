@@ -1,4 +1,4 @@
-use Rattle.xdg_filling.proofs.Steps.{none_first}
+use Rattle.xdg_packed.proofs.Steps.{none_first}
 use Rattle.xdg_lexicon.proofs.filling.taken.Goals as goal
 
 pub returns-clause-here : goal.returns-clause-here

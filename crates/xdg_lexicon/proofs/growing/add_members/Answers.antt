@@ -1,7 +1,7 @@
 use Rattle.std.proofs.Common.{Err, refl, sym, ap, ◌∙◌, subst, arith}
 use Rattle.std.specs.Prelude.{IfSome}
-use Rattle.xdg_members.specs.Partial.{IsPartial}
-use Rattle.xdg_entries.specs.Entries.{IsEntry}
+use Rattle.xdg_lexicon.specs.Partial.{IsPartial}
+use Rattle.xdg_packed.specs.Entries.{IsEntry}
 use Rattle.xdg_lexicon.specs.Lexicon.{whole}
 use Rattle.xdg_lexicon.specs.Steps.{AddsMembers}
 use Rattle.xdg_lexicon.proofs.Adding.{adds_begun, adds_further, adds_done, in_at}

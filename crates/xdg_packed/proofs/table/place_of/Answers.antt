@@ -1,5 +1,5 @@
 use Rattle.std.proofs.Common.{◌≡◌, ◌++◌, [], ◌∷◌, sym, ap, ◌∙◌, inl, inr, arith, None}
-use Rattle.xdg_index.specs.Texts.{place_of}
+use Rattle.xdg_names.specs.Texts.{place_of}
 use Rattle.xdg_packed.proofs.Packs.{known_row, new_row, added_last}
 use Rattle.xdg_packed.proofs.table.place_of.Goals as goal
 

@@ -1,5 +1,5 @@
 use Rattle.std.proofs.Common.{refl, arith}
-use Rattle.xdg_uses.proofs.SlotValues.{slot_below}
+use Rattle.xdg_graph.proofs.SlotValues.{slot_below}
 use Rattle.xdg_pagree.proofs.asking.lacks_other.Goals as goal
 
 pub returns-then-value-other-clause-exact : goal.returns-then-value-other-clause-exact

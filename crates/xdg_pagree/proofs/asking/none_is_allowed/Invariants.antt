@@ -1,7 +1,7 @@
 use Rattle.std.proofs.Common.{ℕ, ◌<◌, Contains}
 use Rattle.xdg_problem.specs.Boxes.{Has, entry_decision}
 use Rattle.xdg_problem.specs.Features.{map_row}
-use Rattle.xdg_uses.specs.Slots.{decision_of}
+use Rattle.xdg_graph.specs.Slots.{decision_of}
 use Rattle.xdg_pagree.proofs.asking.none_is_allowed.Given as goal
 
 abbrev pub invariant-loop-place : goal.invariant-loop-place

@@ -1,5 +1,5 @@
 use Rattle.std.proofs.Common.{refl, arith}
-use Rattle.xdg_uses.proofs.SlotValues.{slot_below}
+use Rattle.xdg_graph.proofs.SlotValues.{slot_below}
 use Rattle.xdg_pagree.proofs.asking.none_is_in.Goals as goal
 
 pub returns-clause-exact : goal.returns-clause-exact

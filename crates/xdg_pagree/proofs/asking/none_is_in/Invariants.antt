@@ -1,6 +1,6 @@
 use Rattle.std.proofs.Common.{ℕ, ◌<◌, Contains}
 use Rattle.xdg_problem.specs.Boxes.{Has}
-use Rattle.xdg_uses.specs.Slots.{decision_of}
+use Rattle.xdg_graph.specs.Slots.{decision_of}
 use Rattle.xdg_pagree.proofs.asking.none_is_in.Given as goal
 
 abbrev pub invariant-loop-value : goal.invariant-loop-value

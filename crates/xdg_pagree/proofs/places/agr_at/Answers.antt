@@ -1,7 +1,7 @@
 use Rattle.std.proofs.Common.{◌<◌, sym, subst, arith}
 use Rattle.xdg_problem.specs.Problems.{attr_arguments, dim_arguments}
 use Rattle.xdg_pagree.proofs.AtPlaces.{value_takes, entry_later, agr_done}
-use Rattle.xdg_uses.proofs.SlotValues.{slot_stays}
+use Rattle.xdg_graph.proofs.SlotValues.{slot_stays}
 use Rattle.xdg_problem.specs.Places.{nodes}
 use Rattle.xdg_propcore.proofs.Sweeping.{group_stays}
 use Rattle.xdg_pagree.proofs.places.agr_at.Goals as goal

@@ -1,8 +1,8 @@
 use Rattle.std.proofs.Common.{refl, arith}
 use Rattle.std.proofs.Common.{true, false}
 use Rattle.xdg_pagree.specs.Places.{LacksOther}
-use Rattle.xdg_uses.specs.Slots.{decision_of}
-use Rattle.xdg_uses.proofs.SlotValues.{slot_below, slot_stays}
+use Rattle.xdg_graph.specs.Slots.{decision_of}
+use Rattle.xdg_graph.proofs.SlotValues.{slot_below, slot_stays}
 use Rattle.xdg_pagree.proofs.Sweeping.{loop_end, loop_skip, loop_taken}
 use Rattle.xdg_pagree.proofs.taking.keep_common.Goals as goal
 

@@ -1,5 +1,5 @@
 use Rattle.xdg_pagree.specs.Places.{LacksOther, NoneBelow}
-use Rattle.xdg_uses.specs.Slots.{decision_of}
+use Rattle.xdg_graph.specs.Slots.{decision_of}
 use Rattle.xdg_propcore.specs.Sweeps.{Sweeps}
 use Rattle.xdg_pagree.proofs.taking.keep_common.Given as goal
 

@@ -2,8 +2,8 @@ use Rattle.std.proofs.Common.{refl, arith}
 use Rattle.std.proofs.Common.{true, false}
 use Rattle.xdg_problem.specs.Boxes.{entry_decision}
 use Rattle.xdg_pagree.specs.Places.{LacksValue}
-use Rattle.xdg_uses.specs.Slots.{decision_of}
-use Rattle.xdg_uses.proofs.Remaining.{entry_loop_end}
+use Rattle.xdg_graph.specs.Slots.{decision_of}
+use Rattle.xdg_graph.proofs.Remaining.{entry_loop_end}
 use Rattle.xdg_pagree.proofs.Sweeping.{loop_end, loop_skip, loop_taken}
 use Rattle.xdg_pagree.proofs.taking.keep_useful.Goals as goal
 

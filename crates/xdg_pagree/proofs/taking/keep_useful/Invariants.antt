@@ -1,6 +1,6 @@
 use Rattle.xdg_problem.specs.Boxes.{entry_decision}
 use Rattle.xdg_pagree.specs.Places.{LacksValue, NoneBelow}
-use Rattle.xdg_uses.specs.Slots.{decision_of}
+use Rattle.xdg_graph.specs.Slots.{decision_of}
 use Rattle.xdg_propcore.specs.Sweeps.{Sweeps}
 use Rattle.xdg_pagree.proofs.taking.keep_useful.Given as goal
 

@@ -1,9 +1,9 @@
 use Rattle.std.proofs.Common.{sym, ◌∙◌}
 use Rattle.std.proofs.lemmas.Result.{err_from_is_err_and}
 use Rattle.xdg_ast.specs.Grammar.{conjs, dim, name, next_conj, next_prim, prim, prims, use_of_class}
-use Rattle.xdg_parse_terms.proofs.Items.{goes_on, is_done}
-use Rattle.xdg_parse_terms.proofs.Loop.{ends}
-use Rattle.xdg_parse_terms.proofs.Shortens.{next_prim_shortens, next_conj_shortens}
+use Rattle.xdg_parse.proofs.Items.{goes_on, is_done}
+use Rattle.xdg_parse.proofs.Loop.{ends}
+use Rattle.xdg_parse.proofs.Shortens.{next_prim_shortens, next_conj_shortens}
 use Rattle.xdg_parse.proofs.expressions.+expr.Goals as goal
 
 pub prims-returns-in_err-next_prim : goal.prims-returns-in_err-next_prim

@@ -1,9 +1,9 @@
 -- What the reading of the statements answers tells of the tokens, and one answer alone does.
 use Rattle.std.proofs.Common.{◌≡◌, List, Ok, Err, sym}
-use Rattle.xdg_lex.specs.declared.token.Token.{Token}
-use Rattle.xdg_lex.specs.Lexed.{lexemes_of}
+use Rattle.xdg_ast.specs.declared.token.Token.{Token}
+use Rattle.xdg_ast.specs.Lexemes.{lexemes_of}
 use Rattle.xdg_ast.specs.Language.{State}
-use Rattle.xdg_parse_terms.specs.Steadiness.{at}
+use Rattle.xdg_parse.specs.Steadiness.{at}
 use Rattle.xdg_parse.proofs.Whole.{whole-tells, part-tells, stop-tells, deep-tells}
 use Rattle.xdg_parse.proofs.Once.{once}
 use Rattle.xdg_parse.proofs.parsing.parse.Goals as goal

@@ -1,9 +1,9 @@
 use Rattle.std.proofs.Common.{sym, ◌∙◌}
 use Rattle.std.proofs.lemmas.Result.{err_from_is_err_and}
 use Rattle.xdg_ast.specs.Grammar.{statement, statement_kind, statements}
-use Rattle.xdg_parse_terms.proofs.Items.{goes_on, is_done}
-use Rattle.xdg_parse_terms.proofs.Loop.{ends}
-use Rattle.xdg_parse_terms.proofs.Shortens.{statement_shortens}
+use Rattle.xdg_parse.proofs.Items.{goes_on, is_done}
+use Rattle.xdg_parse.proofs.Loop.{ends}
+use Rattle.xdg_parse.proofs.Shortens.{statement_shortens}
 use Rattle.xdg_parse.proofs.statements.statements.Goals as goal
 
 pub returns-in_err-statement : goal.returns-in_err-statement

@@ -1,7 +1,7 @@
 use Rattle.std.proofs.Common.{◌≡◌, ◌≤◌, ◌↔◌, ◌∙◌, IsTrue, All, Contains, true, false, refl, sym, subst, arith}
 use Rattle.std.proofs.lemmas.Bool.{false≢true}
 use Rattle.xdg_pgraph.specs.Bundles.{numbers_of}
-use Rattle.xdg_uses.proofs.Remaining.{entry_end}
+use Rattle.xdg_graph.proofs.Remaining.{entry_end}
 use Rattle.xdg_pgraph.proofs.Allowed.{seen_start, seen_skip, seen_kept, seen_asked, seen_greatest}
 use Rattle.xdg_pgraph.proofs.bounds.is_greatest.Goals as goal
 use Rattle.xdg_pgraph.proofs.bounds.is_greatest.Goals.{then-found, else-found}

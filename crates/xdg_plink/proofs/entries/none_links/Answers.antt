@@ -1,5 +1,5 @@
 use Rattle.std.proofs.Common.{refl, arith}
-use Rattle.xdg_uses.proofs.Remaining.{entry_end}
+use Rattle.xdg_graph.proofs.Remaining.{entry_end}
 use Rattle.xdg_plink.proofs.entries.none_links.Goals as goal
 
 pub returns-clause-exact : goal.returns-clause-exact

@@ -4,7 +4,7 @@ use Rattle.xdg_problem.specs.Arguments.{first_dim}
 use Rattle.xdg_problem.specs.Paths.{IsDaughterBy}
 use Rattle.xdg_problem.specs.Places.{nodes}
 use Rattle.xdg_rules.specs.Rules.{may_edges}
-use Rattle.xdg_reach.specs.Edges.{edge_labels}
+use Rattle.xdg_graph.specs.Edges.{edge_labels}
 use Rattle.xdg_plink.proofs.Absent.{node_skipped}
 use Rattle.xdg_plink.proofs.Sweeping.{below_later, nodes_end, nodes_first, nodes_turn, ready_later}
 use Rattle.xdg_propcore.proofs.Sweeping.{sweeps_start}

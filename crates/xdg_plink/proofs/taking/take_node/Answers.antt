@@ -1,7 +1,7 @@
 use Rattle.std.proofs.Common.{arith}
 use Rattle.xdg_problem.specs.Arguments.{first_dim}
 use Rattle.xdg_problem.specs.Places.{nodes}
-use Rattle.xdg_reach.specs.Edges.{edge_labels}
+use Rattle.xdg_graph.specs.Edges.{edge_labels}
 use Rattle.xdg_plink.proofs.Sweeping.{below_later, labels_end, labels_first, labels_turn, ready_later}
 use Rattle.xdg_propcore.proofs.Sweeping.{sweeps_start}
 use Rattle.xdg_plink.proofs.taking.take_node.Goals as goal

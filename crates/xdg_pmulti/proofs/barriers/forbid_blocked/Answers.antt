@@ -1,6 +1,6 @@
 use Rattle.std.proofs.Common.{[], get_or, sym, arith, subst}
 use Rattle.xdg_propcore.specs.Passes.{Clears}
-use Rattle.xdg_reach.specs.Edges.{edge_labels}
+use Rattle.xdg_graph.specs.Edges.{edge_labels}
 use Rattle.xdg_pmulti.specs.Aims.{AreNodes, Forbids, StoppedBy}
 use Rattle.xdg_pmulti.proofs.Aiming.{barred_within, blocked_all}
 use Rattle.xdg_pmulti.proofs.Forbidding.{first_more, first_none, stays_below}

@@ -1,5 +1,5 @@
 use Rattle.std.proofs.Common.{◌≡◌, [], ◌∷◌, arith}
-use Rattle.xdg_reach.specs.Edges.{edge_labels}
+use Rattle.xdg_graph.specs.Edges.{edge_labels}
 use Rattle.xdg_pmulti.proofs.Aiming.{ByBarrier, barrier_out, stopped_all, under_within}
 use Rattle.xdg_pmulti.proofs.Forbidding.{passed_more, passed_node, passed_start, stays_below}
 use Rattle.xdg_pmulti.proofs.barriers.forbid_stopped.Goals as goal

@@ -1,6 +1,6 @@
 use Rattle.std.proofs.Common.{arith}
 use Rattle.xdg_problem.specs.Places.{nodes}
-use Rattle.xdg_reach.specs.Edges.{edge_labels}
+use Rattle.xdg_graph.specs.Edges.{edge_labels}
 use Rattle.xdg_pmulti.specs.Aims.{Beyond}
 use Rattle.xdg_pmulti.proofs.Aiming.{from_all}
 use Rattle.xdg_pmulti.proofs.Forbidding.{first_more, first_none, stays_below}

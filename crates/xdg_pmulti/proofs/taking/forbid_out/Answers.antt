@@ -1,5 +1,5 @@
 use Rattle.std.proofs.Common.{◌≡◌, [], ◌∷◌}
-use Rattle.xdg_reach.specs.Edges.{edge_labels}
+use Rattle.xdg_graph.specs.Edges.{edge_labels}
 use Rattle.xdg_pmulti.specs.Aims.{Beyond}
 use Rattle.xdg_pmulti.proofs.Aiming.{out_all}
 use Rattle.xdg_pmulti.proofs.Forbidding.{passed_more, passed_node, passed_start, stays_below}

@@ -1,7 +1,7 @@
 use Rattle.std.proofs.Common.{◌<◌, arith, subst, sym}
 use Rattle.xdg_problem.specs.declared.parts.Parts.{Parts}
 use Rattle.xdg_problem.specs.Arguments.{first_dim}
-use Rattle.xdg_reach.specs.Edges.{edge_labels}
+use Rattle.xdg_graph.specs.Edges.{edge_labels}
 use Rattle.xdg_porder.specs.Across.{IsLabelDone}
 use Rattle.xdg_porder.proofs.Crossing.{across_later}
 use Rattle.xdg_porder.proofs.Looping.{below_first, below_next, below_end}

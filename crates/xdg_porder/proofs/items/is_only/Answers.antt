@@ -1,5 +1,5 @@
 use Rattle.std.proofs.Common.{refl, arith}
-use Rattle.xdg_uses.proofs.SlotValues.{slot_below}
+use Rattle.xdg_graph.proofs.SlotValues.{slot_below}
 use Rattle.xdg_porder.proofs.items.is_only.Goals as goal
 
 pub returns : goal.returns

@@ -1,4 +1,4 @@
-use Rattle.xdg_uses.specs.Slots.{decision_of}
+use Rattle.xdg_graph.specs.Slots.{decision_of}
 use Rattle.xdg_porder.proofs.Following.{NoOther}
 use Rattle.xdg_porder.proofs.items.is_only.Given as goal
 

@@ -1,7 +1,7 @@
 use Rattle.std.proofs.Common.{subst, sym, arith}
 use Rattle.std.proofs.lemmas.Bool.{false≢true}
 use Rattle.xdg_problem.specs.Boxes.{Has}
-use Rattle.xdg_uses.proofs.SlotValues.{slot_below}
+use Rattle.xdg_graph.proofs.SlotValues.{slot_below}
 use Rattle.xdg_porder.proofs.items.is_own_decided.Goals as goal
 
 pub returns : goal.returns

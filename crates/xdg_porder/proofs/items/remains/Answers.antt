@@ -1,6 +1,6 @@
 use Rattle.std.proofs.Common.{arith}
 use Rattle.std.proofs.lemmas.Bool.{false≢true}
-use Rattle.xdg_uses.proofs.SlotValues.{slot_below}
+use Rattle.xdg_graph.proofs.SlotValues.{slot_below}
 use Rattle.xdg_porder.proofs.items.remains.Goals as goal
 
 pub returns-then-value-slot : goal.returns-then-value-slot

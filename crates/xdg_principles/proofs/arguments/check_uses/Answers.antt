@@ -1,6 +1,6 @@
 use Rattle.std.proofs.Common.{refl, map}
 use Rattle.std.specs.List.{flat_map}
-use Rattle.xdg_faults.proofs.First.{first_turn}
+use Rattle.xdg_names.proofs.First.{first_turn}
 use Rattle.xdg_principles.specs.ArgumentFaults.{use_faults}
 use Rattle.xdg_principles.specs.Uses.{seen}
 use Rattle.xdg_principles.proofs.arguments.check_uses.Goals as goal

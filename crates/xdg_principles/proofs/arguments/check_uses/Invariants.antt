@@ -1,6 +1,6 @@
 use Rattle.std.proofs.Common.{◌≡◌, drop, map}
 use Rattle.std.specs.List.{flat_map}
-use Rattle.xdg_faults.specs.First.{first, earlier}
+use Rattle.xdg_names.specs.First.{first, earlier}
 use Rattle.xdg_principles.specs.ArgumentFaults.{use_faults}
 use Rattle.xdg_principles.specs.Uses.{seen}
 use Rattle.xdg_principles.proofs.arguments.check_uses.Given as goal

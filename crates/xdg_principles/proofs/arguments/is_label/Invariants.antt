@@ -1,5 +1,5 @@
 use Rattle.std.proofs.Common.{◌≡◌, drop}
-use Rattle.xdg_index.specs.Texts.{has_text}
+use Rattle.xdg_names.specs.Texts.{has_text}
 use Rattle.xdg_principles.proofs.arguments.is_label.Given as goal
 
 abbrev pub invariant-loop-label : goal.invariant-loop-label

@@ -1,6 +1,6 @@
 use Rattle.std.proofs.Common.{refl}
 use Rattle.std.specs.List.{flat_map}
-use Rattle.xdg_faults.proofs.First.{first_turn}
+use Rattle.xdg_names.proofs.First.{first_turn}
 use Rattle.xdg_principles.specs.ArgumentFaults as spec
 use Rattle.xdg_principles.proofs.arguments.outside.Goals as goal
 

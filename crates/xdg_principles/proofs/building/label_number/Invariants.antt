@@ -1,5 +1,5 @@
 use Rattle.std.proofs.Common.{◌≡◌, drop}
-use Rattle.xdg_index.specs.Texts.{place_of}
+use Rattle.xdg_names.specs.Texts.{place_of}
 use Rattle.xdg_principles.proofs.Lookups.{shifted}
 use Rattle.xdg_principles.proofs.building.label_number.Given as goal
 

@@ -1,5 +1,5 @@
 use Rattle.std.proofs.Common.{◌≡◌, drop}
-use Rattle.xdg_index.specs.Texts.{has_text}
+use Rattle.xdg_names.specs.Texts.{has_text}
 use Rattle.xdg_types.specs.Parts.{texts}
 use Rattle.xdg_principles.specs.Uses as spec
 use Rattle.xdg_principles.proofs.keys.has_key.Given as goal

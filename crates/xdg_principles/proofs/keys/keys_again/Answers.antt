@@ -1,5 +1,5 @@
 use Rattle.std.proofs.Common.{refl}
-use Rattle.xdg_faults.proofs.First.{first_change}
+use Rattle.xdg_names.proofs.First.{first_change}
 use Rattle.xdg_types.specs.NameFaults as names
 use Rattle.xdg_principles.specs.Uses as spec
 use Rattle.xdg_principles.proofs.keys.keys_again.Goals as goal

@@ -1,6 +1,6 @@
 use Rattle.std.proofs.Common.{refl}
 use Rattle.std.specs.List.{flat_map}
-use Rattle.xdg_faults.proofs.First.{first_turn}
+use Rattle.xdg_names.proofs.First.{first_turn}
 use Rattle.xdg_types.specs.NameFaults as names
 use Rattle.xdg_principles.specs.Uses as spec
 use Rattle.xdg_principles.proofs.keys.unknown_among.Goals as goal

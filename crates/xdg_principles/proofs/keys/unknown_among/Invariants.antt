@@ -1,6 +1,6 @@
 use Rattle.std.proofs.Common.{◌≡◌, drop}
 use Rattle.std.specs.List.{flat_map}
-use Rattle.xdg_faults.specs.First.{first, earlier}
+use Rattle.xdg_names.specs.First.{first, earlier}
 use Rattle.xdg_types.specs.NameFaults as names
 use Rattle.xdg_principles.specs.Uses as spec
 use Rattle.xdg_principles.proofs.keys.unknown_among.Given as goal

@@ -1,9 +1,9 @@
 use Rattle.std.proofs.Common.{subst}
-use Rattle.xdg_groups.specs.Grammars.{grammar_of}
-use Rattle.xdg_outcomes.specs.Runs.{Leaves}
+use Rattle.xdg_build.specs.Grammars.{grammar_of}
+use Rattle.xdg_inputs.specs.Runs.{Leaves}
 use Rattle.xdg_problem.specs.declared.analysis.Analysis.{Analysis}
-use Rattle.xdg_ruled.proofs.Following.{ruled_leaves}
-use Rattle.xdg_ruled.proofs.Ruling.{rules_few}
+use Rattle.xdg_inputs.proofs.Following.{ruled_leaves}
+use Rattle.xdg_inputs.proofs.Ruling.{rules_few}
 use Rattle.xdg_reports.specs.Outcomes.{Judged}
 use Rattle.xdg_reports.proofs.explain.explain_found.Goals as goal
 

@@ -1,10 +1,10 @@
-use Rattle.xdg_outcomes.specs.Loaded.{read_of}
-use Rattle.xdg_ruled.specs.Outcomes.{RulesThen}
+use Rattle.xdg_inputs.specs.Loaded.{read_of}
+use Rattle.xdg_inputs.specs.RuledSteps.{RulesThen}
 use Rattle.xdg_reports.specs.Outcomes.{ExplainThen}
-use Rattle.xdg_outcomes.proofs.Meaning.{meaning_leaves, meaning_refused}
-use Rattle.xdg_outcomes.specs.declared.status.Status.TheVariants as statuses
+use Rattle.xdg_inputs.proofs.Meaning.{meaning_leaves, meaning_refused}
+use Rattle.xdg_inputs.specs.declared.status.Status.TheVariants as statuses
 use Rattle.xdg_reports.specs.Runs.{ExplainEnds}
-use Rattle.xdg_outcomes.proofs.Writing.{refused_wrote}
+use Rattle.xdg_inputs.proofs.Writing.{refused_wrote}
 use Rattle.xdg_reports.proofs.explain.explain_loaded.Goals as goal
 
 pub returns-in-Ok-clause-leaves : goal.returns-in-Ok-clause-leaves

@@ -1,14 +1,14 @@
 use Rattle.std.proofs.Common.{◌≡◌, Some, subst}
-use Rattle.xdg_grammar.specs.Answers.{meaning_of}
+use Rattle.xdg_inputs.specs.Answers.{meaning_of}
 use Rattle.xdg_inputs.specs.Analyses.{Analysed, HasAnalysis, HasBadAnalysis}
 use Rattle.xdg_inputs.specs.Judging.{analysed_of}
 use Rattle.xdg_reports.specs.Outcomes.{Explained}
-use Rattle.xdg_outcomes.specs.Refusals.{Stops}
-use Rattle.xdg_outcomes.specs.Stages.{Accepts}
-use Rattle.xdg_outcomes.specs.declared.status.Status.TheVariants as statuses
-use Rattle.xdg_outcomes.proofs.Leaving.{accepted_leaves, stopped_leaves}
+use Rattle.xdg_inputs.specs.Refusals.{Stops}
+use Rattle.xdg_inputs.specs.Stages.{Accepts}
+use Rattle.xdg_inputs.specs.declared.status.Status.TheVariants as statuses
+use Rattle.xdg_inputs.proofs.Leaving.{accepted_leaves, stopped_leaves}
 use Rattle.xdg_reports.specs.Runs.{ExplainEnds}
-use Rattle.xdg_outcomes.proofs.Writing.{refused_quiet, refused_wrote, judged_wrote}
+use Rattle.xdg_inputs.proofs.Writing.{refused_quiet, refused_wrote, judged_wrote}
 use Rattle.xdg_reports.proofs.explain.explain_ruled.Goals as goal
 
 pub returns-in-Ok-load_analysis-clause-leaves : goal.returns-in-Ok-load_analysis-clause-leaves

@@ -1,10 +1,10 @@
-use Rattle.xdg_outcomes.specs.Outcomes.{IsDone, MeaningThen}
+use Rattle.xdg_inputs.specs.Outcomes.{IsDone, MeaningThen}
 use Rattle.xdg_reports.specs.Outcomes.{check_line}
-use Rattle.xdg_outcomes.specs.Texts.{HasBadText, HasTree, ReadText}
-use Rattle.xdg_outcomes.specs.declared.status.Status.TheVariants as statuses
-use Rattle.xdg_outcomes.proofs.Leaving.{accepted_leaves, stopped_leaves}
+use Rattle.xdg_inputs.specs.GrammarFiles.{HasBadText, HasTree, ReadText}
+use Rattle.xdg_inputs.specs.declared.status.Status.TheVariants as statuses
+use Rattle.xdg_inputs.proofs.Leaving.{accepted_leaves, stopped_leaves}
 use Rattle.xdg_reports.specs.Runs.{ReportEnds}
-use Rattle.xdg_outcomes.proofs.Writing.{refused_quiet, refused_wrote}
+use Rattle.xdg_inputs.proofs.Writing.{refused_quiet, refused_wrote}
 use Rattle.xdg_reports.proofs.reports.check_grammar.Goals as goal
 
 pub returns-in-Ok-clause-leaves : goal.returns-in-Ok-clause-leaves

@@ -1,13 +1,13 @@
 use Rattle.std.proofs.Common.{◌∙◌, ap, length, subst}
 use Rattle.xdg_classes.specs.Definitions.{classes}
-use Rattle.xdg_outcomes.specs.Loaded.{read_of}
-use Rattle.xdg_outcomes.specs.Outcomes.{IsDone}
+use Rattle.xdg_inputs.specs.Loaded.{read_of}
+use Rattle.xdg_inputs.specs.Outcomes.{IsDone}
 use Rattle.xdg_reports.specs.Outcomes.{check_line, counts_line}
-use Rattle.xdg_outcomes.specs.Runs.{Leaves}
+use Rattle.xdg_inputs.specs.Runs.{Leaves}
 use Rattle.xdg_reports.specs.Runs.{ReportEnds}
-use Rattle.xdg_outcomes.proofs.Meaning.{meaning_leaves, meaning_refused}
-use Rattle.xdg_outcomes.specs.declared.status.Status.TheVariants as statuses
-use Rattle.xdg_outcomes.proofs.Writing.{refused_wrote, text_wrote}
+use Rattle.xdg_inputs.proofs.Meaning.{meaning_leaves, meaning_refused}
+use Rattle.xdg_inputs.specs.declared.status.Status.TheVariants as statuses
+use Rattle.xdg_inputs.proofs.Writing.{refused_wrote, text_wrote}
 use Rattle.xdg_reports.proofs.reports.check_loaded.Goals as goal
 
 pub returns-in-Err-clause-leaves : goal.returns-in-Err-clause-leaves

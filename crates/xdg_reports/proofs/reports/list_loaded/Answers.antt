@@ -1,12 +1,12 @@
 use Rattle.std.proofs.Common.{◌∙◌, ap, subst}
-use Rattle.xdg_lexicon_text.specs.LexiconText.{lexicon_text}
-use Rattle.xdg_outcomes.specs.Loaded.{read_of}
-use Rattle.xdg_outcomes.specs.Outcomes.{IsDone}
-use Rattle.xdg_outcomes.specs.Runs.{Leaves}
+use Rattle.xdg_print.specs.LexiconText.{lexicon_text}
+use Rattle.xdg_inputs.specs.Loaded.{read_of}
+use Rattle.xdg_inputs.specs.Outcomes.{IsDone}
+use Rattle.xdg_inputs.specs.Runs.{Leaves}
 use Rattle.xdg_reports.specs.Runs.{ReportEnds}
-use Rattle.xdg_outcomes.proofs.Meaning.{meaning_leaves, meaning_refused}
-use Rattle.xdg_outcomes.specs.declared.status.Status.TheVariants as statuses
-use Rattle.xdg_outcomes.proofs.Writing.{refused_wrote, text_wrote}
+use Rattle.xdg_inputs.proofs.Meaning.{meaning_leaves, meaning_refused}
+use Rattle.xdg_inputs.specs.declared.status.Status.TheVariants as statuses
+use Rattle.xdg_inputs.proofs.Writing.{refused_wrote, text_wrote}
 use Rattle.xdg_reports.proofs.reports.list_loaded.Goals as goal
 
 pub returns-in-Err-clause-leaves : goal.returns-in-Err-clause-leaves

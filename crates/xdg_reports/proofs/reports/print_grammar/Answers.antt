@@ -1,12 +1,12 @@
 use Rattle.std.proofs.Common.{◌∙◌, subst}
 use Rattle.xdg_ast.specs.Canon.{canon}
-use Rattle.xdg_outcomes.specs.Outcomes.{IsDone}
-use Rattle.xdg_outcomes.specs.Runs.{Leaves}
+use Rattle.xdg_inputs.specs.Outcomes.{IsDone}
+use Rattle.xdg_inputs.specs.Runs.{Leaves}
 use Rattle.xdg_reports.specs.Runs.{PrintEnds}
-use Rattle.xdg_outcomes.specs.Texts.{HasBadText, HasTree, ReadText}
-use Rattle.xdg_outcomes.specs.declared.status.Status.TheVariants as statuses
-use Rattle.xdg_outcomes.proofs.Leaving.{accepted_leaves, stopped_leaves}
-use Rattle.xdg_outcomes.proofs.Writing.{refused_quiet, refused_wrote, text_wrote}
+use Rattle.xdg_inputs.specs.GrammarFiles.{HasBadText, HasTree, ReadText}
+use Rattle.xdg_inputs.specs.declared.status.Status.TheVariants as statuses
+use Rattle.xdg_inputs.proofs.Leaving.{accepted_leaves, stopped_leaves}
+use Rattle.xdg_inputs.proofs.Writing.{refused_quiet, refused_wrote, text_wrote}
 use Rattle.xdg_reports.proofs.reports.print_grammar.Goals as goal
 
 pub returns-in-Err-clause-leaves : goal.returns-in-Err-clause-leaves

@@ -1,7 +1,7 @@
 use Rattle.std.proofs.Common.{◌≡◌, ◌∙◌, ◌≤◌, length, subst, sym}
-use Rattle.xdg_outcomes.specs.Texts.{grammar_limit}
+use Rattle.xdg_inputs.specs.GrammarFiles.{grammar_limit}
 use Rattle.xdg_searches.proofs.Drilled.{drill_read, drill_unread, stopped_wrote}
-use Rattle.xdg_outcomes.specs.declared.status.Status.TheVariants as statuses
+use Rattle.xdg_inputs.specs.declared.status.Status.TheVariants as statuses
 use Rattle.xdg_searches.proofs.drilling.drill.Goals as goal
 
 pub returns-in-Ok-read_tree-clause-leaves : goal.returns-in-Ok-read_tree-clause-leaves

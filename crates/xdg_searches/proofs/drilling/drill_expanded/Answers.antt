@@ -1,16 +1,16 @@
 use Rattle.std.proofs.Common.{◌≡◌, ◌∙◌, subst, false}
-use Rattle.xdg_drill.specs.Generated.{sentence_text}
-use Rattle.xdg_grammar.specs.Answers.{meaning_of}
+use Rattle.xdg_searches.specs.Generated.{sentence_text}
+use Rattle.xdg_inputs.specs.Answers.{meaning_of}
 use Rattle.xdg_problem.specs.declared.parts.Parts.{Parts}
 use Rattle.xdg_searches.specs.Outcomes.{Drilled}
-use Rattle.xdg_outcomes.specs.Refusals.{Stops}
+use Rattle.xdg_inputs.specs.Refusals.{Stops}
 use Rattle.xdg_inputs.specs.Sentences.{HasProblem, IsBadSentence}
-use Rattle.xdg_outcomes.specs.Stages.{Accepts}
-use Rattle.xdg_outcomes.specs.declared.status.Status.TheVariants as statuses
-use Rattle.xdg_outcomes.proofs.Leaving.{accepted_leaves, stopped_leaves}
+use Rattle.xdg_inputs.specs.Stages.{Accepts}
+use Rattle.xdg_inputs.specs.declared.status.Status.TheVariants as statuses
+use Rattle.xdg_inputs.proofs.Leaving.{accepted_leaves, stopped_leaves}
 use Rattle.xdg_searches.specs.Runs.{DrillEnds}
 use Rattle.xdg_searches.proofs.Drilled.{step_wrote}
-use Rattle.xdg_outcomes.proofs.Writing.{searched_wrote}
+use Rattle.xdg_inputs.proofs.Writing.{searched_wrote}
 use Rattle.xdg_searches.proofs.drilling.drill_expanded.Goals as goal
 
 pub returns-in-Ok-problem_in-clause-leaves : goal.returns-in-Ok-problem_in-clause-leaves

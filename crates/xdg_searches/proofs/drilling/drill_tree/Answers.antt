@@ -1,7 +1,7 @@
 use Rattle.std.proofs.Common.{refl}
 use Rattle.xdg_searches.specs.Outcomes.{DrillSentence}
-use Rattle.xdg_outcomes.proofs.Meaning.{meaning_leaves, meaning_refused}
-use Rattle.xdg_outcomes.specs.declared.status.Status.TheVariants as statuses
+use Rattle.xdg_inputs.proofs.Meaning.{meaning_leaves, meaning_refused}
+use Rattle.xdg_inputs.specs.declared.status.Status.TheVariants as statuses
 use Rattle.xdg_searches.proofs.Drilled.{stopped_wrote}
 use Rattle.xdg_searches.proofs.drilling.drill_tree.Goals as goal
 

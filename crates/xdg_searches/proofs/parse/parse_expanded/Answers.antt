@@ -1,10 +1,10 @@
 use Rattle.std.proofs.Common.{◌≡◌, Some}
-use Rattle.xdg_formula_text.specs.declared.tree.Rules.{Rules}
-use Rattle.xdg_grammar.specs.Answers.{meaning_of}
-use Rattle.xdg_outcomes.specs.declared.status.Status.TheVariants as statuses
-use Rattle.xdg_outcomes.proofs.Leaving.{accepted_leaves, stopped_leaves}
-use Rattle.xdg_outcomes.proofs.Writing.{refused_quiet, refused_wrote}
-use Rattle.xdg_ruled.specs.Files.{HasBadRules, HasRules, count_for}
+use Rattle.xdg_formula.specs.declared.tree.Rules.{Rules}
+use Rattle.xdg_inputs.specs.Answers.{meaning_of}
+use Rattle.xdg_inputs.specs.declared.status.Status.TheVariants as statuses
+use Rattle.xdg_inputs.proofs.Leaving.{accepted_leaves, stopped_leaves}
+use Rattle.xdg_inputs.proofs.Writing.{refused_quiet, refused_wrote}
+use Rattle.xdg_inputs.specs.Files.{HasBadRules, HasRules, count_for}
 use Rattle.xdg_searches.specs.Outcomes.{SentenceThen}
 use Rattle.xdg_searches.specs.Runs.{ParseEnds}
 use Rattle.xdg_searches.proofs.parse.parse_expanded.Goals as goal

@@ -1,4 +1,4 @@
-use Rattle.xdg_ruled.proofs.Following.{ruled_leaves}
+use Rattle.xdg_inputs.proofs.Following.{ruled_leaves}
 use Rattle.xdg_searches.specs.Outcomes.{Parsed}
 use Rattle.xdg_searches.proofs.parse.parse_problem.Goals as goal
 

@@ -1,12 +1,12 @@
-use Rattle.xdg_grammar.specs.Answers.{meaning_of}
+use Rattle.xdg_inputs.specs.Answers.{meaning_of}
 use Rattle.xdg_problem.specs.declared.parts.Parts.{Parts}
-use Rattle.xdg_ruled.specs.Outcomes.{WithRules}
+use Rattle.xdg_inputs.specs.RuledSteps.{WithRules}
 use Rattle.xdg_searches.specs.Outcomes.{Parsed}
 use Rattle.xdg_inputs.specs.Sentences.{HasProblem, IsBadSentence}
-use Rattle.xdg_outcomes.specs.declared.status.Status.TheVariants as statuses
-use Rattle.xdg_outcomes.proofs.Leaving.{accepted_leaves, stopped_leaves}
+use Rattle.xdg_inputs.specs.declared.status.Status.TheVariants as statuses
+use Rattle.xdg_inputs.proofs.Leaving.{accepted_leaves, stopped_leaves}
 use Rattle.xdg_searches.specs.Runs.{ParseEnds}
-use Rattle.xdg_outcomes.proofs.Writing.{refused_quiet, refused_wrote, searched_wrote}
+use Rattle.xdg_inputs.proofs.Writing.{refused_quiet, refused_wrote, searched_wrote}
 use Rattle.xdg_searches.proofs.parse.parse_ruled.Goals as goal
 
 pub returns-in-Ok-read_problem-clause-leaves : goal.returns-in-Ok-read_problem-clause-leaves

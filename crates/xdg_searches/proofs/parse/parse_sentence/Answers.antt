@@ -1,16 +1,16 @@
 use Rattle.std.proofs.Common.{◌≡◌, ◌∙◌, Some, subst, inl, inr}
-use Rattle.xdg_outcomes.specs.Loaded.{read_of}
-use Rattle.xdg_outcomes.specs.Outcomes.{MeaningThen}
-use Rattle.xdg_ruled.specs.Outcomes.{RulesThen}
+use Rattle.xdg_inputs.specs.Loaded.{read_of}
+use Rattle.xdg_inputs.specs.Outcomes.{MeaningThen}
+use Rattle.xdg_inputs.specs.RuledSteps.{RulesThen}
 use Rattle.xdg_searches.specs.Outcomes.{SentenceThen}
-use Rattle.xdg_outcomes.specs.Refusals.{Stops}
-use Rattle.xdg_outcomes.specs.Stages.{Accepts}
-use Rattle.xdg_outcomes.specs.Texts.{HasBadText, HasTree, ReadText}
-use Rattle.xdg_outcomes.specs.declared.status.Status.TheVariants as statuses
-use Rattle.xdg_outcomes.proofs.Leaving.{accepted_leaves, stopped_leaves}
+use Rattle.xdg_inputs.specs.Refusals.{Stops}
+use Rattle.xdg_inputs.specs.Stages.{Accepts}
+use Rattle.xdg_inputs.specs.GrammarFiles.{HasBadText, HasTree, ReadText}
+use Rattle.xdg_inputs.specs.declared.status.Status.TheVariants as statuses
+use Rattle.xdg_inputs.proofs.Leaving.{accepted_leaves, stopped_leaves}
 use Rattle.xdg_searches.specs.Runs.{ParseEnds}
-use Rattle.xdg_outcomes.proofs.Writing.{refused_quiet, refused_wrote}
-use Rattle.xdg_ruled.proofs.Given.{rose_later}
+use Rattle.xdg_inputs.proofs.Writing.{refused_quiet, refused_wrote}
+use Rattle.xdg_inputs.proofs.Given.{rose_later}
 use Rattle.xdg_searches.proofs.parse.parse_sentence.Goals as goal
 
 pub returns-in-Ok-clause-leaves : goal.returns-in-Ok-clause-leaves

@@ -1,5 +1,5 @@
 use Rattle.std.proofs.Common.{subst, sym}
-use Rattle.xdg_outcomes.specs.Runs.{Leaves}
+use Rattle.xdg_inputs.specs.Runs.{Leaves}
 use Rattle.xdg_searches.specs.Outcomes.{ParsedBy}
 use Rattle.xdg_searches.proofs.printing.search_asked.Goals as goal
 

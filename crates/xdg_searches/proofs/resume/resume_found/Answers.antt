@@ -1,7 +1,7 @@
 use Rattle.std.proofs.Common.{subst}
-use Rattle.xdg_outcomes.specs.Runs.{Leaves}
+use Rattle.xdg_inputs.specs.Runs.{Leaves}
 use Rattle.xdg_problem.specs.declared.analysis.Analysis.{Analysis}
-use Rattle.xdg_ruled.proofs.Following.{ruled_leaves}
+use Rattle.xdg_inputs.proofs.Following.{ruled_leaves}
 use Rattle.xdg_searches.specs.Outcomes.{SearchedBehind}
 use Rattle.xdg_searches.proofs.resume.resume_found.Goals as goal
 

@@ -1,5 +1,5 @@
 use Rattle.std.proofs.Common.{◌≡◌, ◌∙◌, length, rules, sym}
-use Rattle.xdg_analyses.proofs.Found.{is_wanted, not_wanted}
+use Rattle.xdg_split.proofs.FoundSoFar.{is_wanted, not_wanted}
 use Rattle.xdg_split.proofs.Collecting.{collected_end, collected_first, collected_more, collected_none, collected_spent}
 use Rattle.xdg_split.proofs.finding.find.Goals as goal
 

@@ -1,6 +1,6 @@
 use Rattle.std.proofs.Common.{◌∙◌, ap}
 use Rattle.xdg_domain.specs.Shapes.{shape}
-use Rattle.xdg_faults.specs.First.{first}
+use Rattle.xdg_names.specs.First.{first}
 use Rattle.xdg_terms.specs.Faults.{faults}
 use Rattle.xdg_terms.specs.Forms.{with_bound}
 use Rattle.xdg_terms.proofs.Law.{law}

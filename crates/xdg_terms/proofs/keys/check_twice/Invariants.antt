@@ -1,5 +1,5 @@
 use Rattle.std.proofs.Common.{◌≡◌, drop, take, []}
-use Rattle.xdg_faults.specs.First.{first, earlier}
+use Rattle.xdg_names.specs.First.{first, earlier}
 use Rattle.xdg_terms.specs.Faults as spec
 use Rattle.xdg_terms.proofs.keys.check_twice.Given as goal
 

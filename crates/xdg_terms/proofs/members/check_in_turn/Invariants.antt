@@ -1,7 +1,7 @@
 use Rattle.std.proofs.Common.{◌≡◌, map, drop}
 use Rattle.xdg_domain.specs.Shapes as shapes
 use Rattle.xdg_domain.specs.Shapes.{shape, shapes_of}
-use Rattle.xdg_faults.specs.First.{first, earlier}
+use Rattle.xdg_names.specs.First.{first, earlier}
 use Rattle.xdg_terms.specs.Faults as spec
 use Rattle.xdg_terms.proofs.members.check_in_turn.Given as goal
 

@@ -1,6 +1,6 @@
 use Rattle.std.proofs.Common.{arith, map, ap, ◌∙◌}
 use Rattle.xdg_domain.specs.Shapes.{shape, shapes_of}
-use Rattle.xdg_faults.specs.First.{first}
+use Rattle.xdg_names.specs.First.{first}
 use Rattle.xdg_terms.proofs.Sizes.{sizes_length}
 use Rattle.xdg_terms.proofs.Formed.{tuple_right, tuple_wrong}
 use Rattle.xdg_terms.proofs.members.check_tuple.Goals as goal

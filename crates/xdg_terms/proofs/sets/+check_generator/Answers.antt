@@ -4,7 +4,7 @@ use Rattle.xdg_ast.specs.declared.names.Name.{Name}
 use Rattle.xdg_ast.specs.declared.terms.GenKind.TheVariants as g
 use Rattle.xdg_domain.specs.Shapes as shapes
 use Rattle.xdg_domain.specs.Shapes.{shape, shapes_of}
-use Rattle.xdg_faults.specs.First.{first}
+use Rattle.xdg_names.specs.First.{first}
 use Rattle.xdg_terms.specs.Faults as spec
 use Rattle.xdg_terms.specs.Offences.{gen_names}
 use Rattle.xdg_terms.proofs.Loops.{names_of_and, names_of_or, members_turn}

@@ -3,7 +3,7 @@ use Rattle.xdg_base.specs.declared.faults.Cause.TheVariants as causes
 use Rattle.xdg_domain.specs.Shapes as shapes
 use Rattle.xdg_domain.specs.Shapes.{shape, shapes_of, names_of}
 use Rattle.std.specs.List.{flat_map}
-use Rattle.xdg_faults.specs.First.{first, earlier}
+use Rattle.xdg_names.specs.First.{first, earlier}
 use Rattle.xdg_terms.specs.Offences.{gen_names}
 use Rattle.xdg_terms.specs.Faults as spec
 use Rattle.xdg_terms.proofs.sets.+check_generator.Given as goal

@@ -1,5 +1,5 @@
 use Rattle.std.proofs.Common.{rules, ap, ◌∙◌}
-use Rattle.xdg_faults.specs.First.{first}
+use Rattle.xdg_names.specs.First.{first}
 use Rattle.xdg_terms.proofs.Formed.{constants_right, constants_wrong}
 use Rattle.xdg_terms.proofs.sets.check_constants.Goals as goal
 

@@ -1,7 +1,7 @@
 use Rattle.std.proofs.Common.{◌≡◌, drop, map}
 use Rattle.xdg_domain.specs.Shapes.{shape, shapes_of}
 use Rattle.std.specs.List.{flat_map}
-use Rattle.xdg_faults.specs.First.{first, earlier}
+use Rattle.xdg_names.specs.First.{first, earlier}
 use Rattle.xdg_terms.specs.Faults as spec
 use Rattle.xdg_terms.proofs.sets.check_each_bracket.Given as goal
 

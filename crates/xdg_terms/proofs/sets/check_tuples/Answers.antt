@@ -1,6 +1,6 @@
 use Rattle.std.proofs.Common.{rules, length, map, ap, sym, ◌∙◌}
 use Rattle.xdg_domain.specs.Shapes.{shape, shapes_of}
-use Rattle.xdg_faults.specs.First.{first}
+use Rattle.xdg_names.specs.First.{first}
 use Rattle.xdg_terms.proofs.Sizes.{sizes_length}
 use Rattle.xdg_terms.proofs.Formed.{tuples_right, tuples_wrong, tuples_generated}
 use Rattle.xdg_terms.proofs.sets.check_tuples.Goals as goal

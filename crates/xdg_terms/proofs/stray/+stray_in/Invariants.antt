@@ -1,6 +1,6 @@
 use Rattle.std.proofs.Common.{◌≡◌, drop}
 use Rattle.std.specs.List.{flat_map}
-use Rattle.xdg_faults.specs.First.{first, earlier}
+use Rattle.xdg_names.specs.First.{first, earlier}
 use Rattle.xdg_terms.specs.Stray.{stray}
 use Rattle.xdg_terms.proofs.Straying.{in_elem}
 use Rattle.xdg_terms.proofs.stray.+stray_in.Given as goal

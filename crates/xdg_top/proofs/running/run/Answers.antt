@@ -4,9 +4,9 @@ use Rattle.xdg_command.specs.declared.commands.Command.TheVariants as commands
 use Rattle.xdg_text.specs.Lines.{usage_line}
 use Rattle.xdg_top.specs.Outcomes.{CommandOf, IsUsage, OutcomeOf}
 use Rattle.xdg_top.specs.Runs.{EndsWith, IsRefusedFile, ReadsInput}
-use Rattle.xdg_outcomes.specs.declared.status.Status.TheVariants as statuses
+use Rattle.xdg_inputs.specs.declared.status.Status.TheVariants as statuses
 use Rattle.xdg_top.proofs.Commanded.{asked_leaves, memory_ends, memory_leaves, memory_left, not_usage, nothing_added, only_usage, read_won, the_command, the_none, usage_alone, usage_leaves, wants_some, words_leave}
-use Rattle.xdg_outcomes.proofs.Leaving.{ends_of, front_of}
+use Rattle.xdg_inputs.proofs.Leaving.{ends_of, front_of}
 use Rattle.xdg_top.proofs.running.run.Goals as goal
 
 -- ---- the usage line

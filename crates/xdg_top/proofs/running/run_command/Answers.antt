@@ -1,12 +1,12 @@
 use Rattle.std.proofs.Common.{◌≡◌, inl, inr, refl, subst, rules}
 use Rattle.xdg_arrange.specs.Outcomes.{ArrangeEnds, ArrangeOf}
-use Rattle.xdg_cheapest.specs.Runs.{BestEnds}
+use Rattle.xdg_best.specs.Runs.{BestEnds}
 use Rattle.xdg_command.specs.declared.commands.Command.TheVariants as commands
 use Rattle.xdg_corpus.specs.Outcomes.{CorpusEnds}
 use Rattle.xdg_io.specs.Rose.{Rose}
 use Rattle.xdg_reports.specs.Outcomes.{CheckOf, LexiconOf, PrintOf}
 use Rattle.xdg_top.specs.Outcomes.{WantsSome}
-use Rattle.xdg_outcomes.specs.Runs.{Leaves}
+use Rattle.xdg_inputs.specs.Runs.{Leaves}
 use Rattle.xdg_searches.specs.Runs.{DrillEnds, ParseEnds}
 use Rattle.xdg_top.specs.Runs.{ReadsInput, of_input}
 use Rattle.xdg_top.proofs.Commanded.{all_failed, corpus_done, early_wrote, file_failed, front_part, reads_failed, refused_file, ruled_failed, said_leaves, said_reads, said_wrote}

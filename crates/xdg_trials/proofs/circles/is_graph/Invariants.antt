@@ -1,7 +1,7 @@
 use Rattle.std.proofs.Common.{ℕ, ◌<◌, length}
-use Rattle.xdg_faults.specs.First.{In}
-use Rattle.xdg_cycles.specs.declared.graph.Use.{Use}
-use Rattle.xdg_cycles.specs.Leads.{uses_of}
+use Rattle.xdg_names.specs.First.{In}
+use Rattle.xdg_names.specs.declared.graph.Use.{Use}
+use Rattle.xdg_names.specs.Leads.{uses_of}
 use Rattle.xdg_trials.proofs.circles.is_graph.Given as goal
 
 abbrev pub invariant-loop-definition : goal.invariant-loop-definition

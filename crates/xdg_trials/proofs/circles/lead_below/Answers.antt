@@ -1,7 +1,7 @@
 use Rattle.std.proofs.Common.{◌<◌, inl, inr, get_or, subst}
 use Rattle.std.proofs.lemmas.List.{get_or_default}
-use Rattle.xdg_faults.proofs.In.{in_drop}
-use Rattle.xdg_cycles.specs.declared.graph.Use.{Use}
+use Rattle.xdg_names.proofs.In.{in_drop}
+use Rattle.xdg_names.specs.declared.graph.Use.{Use}
 use Rattle.xdg_trials.proofs.circles.lead_below.Goals as goal
 
 pub loop-next-preserved : goal.loop-next-preserved

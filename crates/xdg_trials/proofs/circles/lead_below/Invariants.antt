@@ -1,6 +1,6 @@
 use Rattle.std.proofs.Common.{◌<◌, ◌⊎◌, drop}
-use Rattle.xdg_faults.specs.First.{In}
-use Rattle.xdg_cycles.specs.declared.graph.Use.{Use}
+use Rattle.xdg_names.specs.First.{In}
+use Rattle.xdg_names.specs.declared.graph.Use.{Use}
 use Rattle.xdg_trials.proofs.circles.lead_below.Given as goal
 
 abbrev pub invariant-loop-next : goal.invariant-loop-next

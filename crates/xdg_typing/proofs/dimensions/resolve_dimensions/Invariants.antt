@@ -1,7 +1,7 @@
 use Rattle.std.proofs.Common.{map, take}
 use Rattle.xdg_types.specs.Parts.{dimensions}
 use Rattle.xdg_typing.specs.Branches.{Naming}
-use Rattle.xdg_type_heads.specs.Heads.{Knows}
+use Rattle.xdg_typing.specs.Heads.{Knows}
 use Rattle.xdg_types.specs.Table.{AreDims}
 use Rattle.xdg_typing.proofs.dimensions.resolve_dimensions.Given as goal
 

@@ -1,5 +1,5 @@
 use Rattle.std.proofs.Common.{◌≡◌, take}
-use Rattle.xdg_type_heads.specs.Weights.{Weighs}
+use Rattle.xdg_typing.specs.Weights.{Weighs}
 use Rattle.xdg_typing.specs.Branches.{Naming}
 use Rattle.xdg_typing.specs.Small.{given_types, weight_of_all}
 use Rattle.xdg_typing.proofs.dimensions.weigh_all.Given as goal

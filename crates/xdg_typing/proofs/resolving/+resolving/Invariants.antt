@@ -1,6 +1,6 @@
 use Rattle.std.proofs.Common.{◌≡◌, ◌+◌, ◌*◌, ℕ, List, map, take}
 use Rattle.xdg_domain.specs.Shapes.{Shape, shape}
-use Rattle.xdg_type_heads.specs.Heads.{Knows}
+use Rattle.xdg_typing.specs.Heads.{Knows}
 use Rattle.xdg_types.specs.Table.{typed}
 use Rattle.xdg_typing.specs.Branches.{domain_meaning, field_meaning}
 use Rattle.xdg_typing.proofs.resolving.+resolving.Given as goal

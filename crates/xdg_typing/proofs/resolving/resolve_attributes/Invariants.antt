@@ -1,5 +1,5 @@
 use Rattle.std.proofs.Common.{◌≡◌, map, take}
-use Rattle.xdg_type_heads.specs.Heads.{Knows}
+use Rattle.xdg_typing.specs.Heads.{Knows}
 use Rattle.xdg_types.specs.Table.{typed}
 use Rattle.xdg_typing.specs.Branches.{Naming, attribute_meaning}
 use Rattle.xdg_typing.proofs.resolving.resolve_attributes.Given as goal

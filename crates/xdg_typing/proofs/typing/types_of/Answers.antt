@@ -1,5 +1,5 @@
 use Rattle.std.proofs.Common.{inl, subst}
-use Rattle.xdg_faults.specs.First.{Tells as TellsFault}
+use Rattle.xdg_names.specs.First.{Tells as TellsFault}
 use Rattle.xdg_types.specs.Names.{NameOffends}
 use Rattle.xdg_typing.proofs.typing.types_of.Goals as goal
 

@@ -1,6 +1,6 @@
 use Rattle.std.proofs.Common.{ap, ◌∙◌}
-use Rattle.xdg_groups.specs.Grammars.{grammar_of}
-use Rattle.xdg_groups.specs.Nodes.{node_plan}
+use Rattle.xdg_build.specs.Grammars.{grammar_of}
+use Rattle.xdg_build.specs.Nodes.{node_plan}
 use Rattle.xdg_build.proofs.Stocked.{grown, word_entries}
 use Rattle.xdg_build.proofs.stock.Stock.learn.Goals as goal
 

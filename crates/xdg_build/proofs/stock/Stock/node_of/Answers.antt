@@ -1,5 +1,5 @@
 use Rattle.std.proofs.Common.{◌≡◌, ◌<◌, length, get_or, IfOk, sym, ap, ◌∙◌, arith, subst}
-use Rattle.xdg_groups.specs.Grammars.{grammar_of}
+use Rattle.xdg_build.specs.Grammars.{grammar_of}
 use Rattle.xdg_build.proofs.Stocked.{found_plan, found_within}
 use Rattle.xdg_build.proofs.stock.Stock.node_of.Goals as goal
 

@@ -1,5 +1,5 @@
 use Rattle.std.proofs.Common.{◌≡◌, map, take}
-use Rattle.xdg_groups.specs.Grammars.{grammar_of}
+use Rattle.xdg_build.specs.Grammars.{grammar_of}
 use Rattle.xdg_build.specs.Stocks.{IsStock, word_plan}
 use Rattle.xdg_build.proofs.stock.Stock.nodes_of.Given as goal
 

@@ -1,5 +1,5 @@
 use Rattle.std.proofs.Common.{ap, map, ◌∙◌}
-use Rattle.xdg_index.specs.Texts.{place_of}
+use Rattle.xdg_names.specs.Texts.{place_of}
 use Rattle.xdg_classes.specs.Ordered.{class_at}
 use Rattle.xdg_classes.specs.Lent.{class_def}
 use Rattle.xdg_classes.proofs.Known.{class_placed}

@@ -1,5 +1,5 @@
 use Rattle.std.proofs.Common.{ℕ, ◌<◌, ◌≤◌, [], get_or}
-use Rattle.xdg_entries.specs.Entries.{count_of}
+use Rattle.xdg_packed.specs.Entries.{count_of}
 use Rattle.xdg_packed.specs.Lexicon.{word_of}
 use Rattle.xdg_lexicon.proofs.growing.Growing.first_crowded.Given as goal
 

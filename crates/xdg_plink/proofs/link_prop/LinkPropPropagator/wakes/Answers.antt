@@ -1,4 +1,4 @@
-use Rattle.xdg_linking.proofs.Named.{are_named}
+use Rattle.xdg_plink.proofs.Named.{are_named}
 use Rattle.xdg_plink.proofs.link_prop.LinkPropPropagator.wakes.Goals as goal
 
 pub returns-clause-named : goal.returns-clause-named

@@ -1,5 +1,5 @@
 use Rattle.std.proofs.Common.{arith}
-use Rattle.xdg_lex.specs.declared.token.Kind.TheVariants as k
+use Rattle.xdg_ast.specs.declared.token.Kind.TheVariants as k
 use Rattle.xdg_ast.specs.Trees.{expr_phrase}
 use Rattle.xdg_print.proofs.Put.{next_member, all_members, by_joined, by_disjoined}
 use Rattle.xdg_print.proofs.WrittenTerms.{joined_expr, disjoined_expr, expr_and_done, expr_or_done}

@@ -1,5 +1,5 @@
 use Rattle.std.proofs.Common.{arith}
-use Rattle.xdg_lex.specs.declared.token.Kind.TheVariants as k
+use Rattle.xdg_ast.specs.declared.token.Kind.TheVariants as k
 use Rattle.xdg_ast.specs.Trees.{gen_phrase}
 use Rattle.xdg_print.proofs.Put.{next_member, all_members, by_joined, by_disjoined}
 use Rattle.xdg_print.proofs.WrittenTerms.{joined_gen, disjoined_gen, gen_and_done, gen_or_done}

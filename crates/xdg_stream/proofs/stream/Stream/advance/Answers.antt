@@ -4,7 +4,7 @@ use Rattle.std.specs.Vec.{vec_capacity}
 use Rattle.xdg_listing.specs.Closed.{NoneAfter, SomeAfter}
 use Rattle.xdg_problem.specs.Vectors.{shape}
 use Rattle.xdg_rules.specs.Boxed.{Boxed}
-use Rattle.xdg_search.specs.declared.Step.TheVariants as steps
+use Rattle.xdg_stream.specs.declared.search.Step.TheVariants as steps
 use Rattle.xdg_stream.specs.Fronted.{Fronted}
 use Rattle.xdg_stream.specs.Streamed.{Advances, IsStream, seen}
 use Rattle.xdg_stream.proofs.Streaming.{end_found, ended_call, found_advances, spent_found, stream_found}

@@ -6,7 +6,7 @@ use Rattle.xdg_problem.specs.declared.parts.Parts.{Parts}
 use Rattle.xdg_problem.specs.Problems.{IsProblem}
 use Rattle.xdg_problem.specs.Vectors.{shape}
 use Rattle.xdg_rules.specs.Boxed.{Boxed}
-use Rattle.xdg_search.specs.Place.{place, Next}
+use Rattle.xdg_stream.specs.Place.{place, Next}
 use Rattle.xdg_stream.specs.Streamed.{IsCharged, seen, start_vector}
 use Rattle.xdg_stream.proofs.Sized.{fits_short}
 use Rattle.xdg_stream.proofs.Streaming.{start_fits, stream_start}

@@ -1,6 +1,0 @@
-pub mod Sameness
-pub mod Adding
-pub mod Growing
-pub mod Settling
-pub mod Telling
-pub mod ValueLaw

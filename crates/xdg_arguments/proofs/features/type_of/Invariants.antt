@@ -1,6 +1,0 @@
-use Rattle.std.proofs.Common.{◌≡◌, drop}
-use Rattle.xdg_arguments.specs.Wants.{type_named}
-use Rattle.xdg_arguments.proofs.features.type_of.Given as goal
-
-abbrev pub invariant-loop-key : goal.invariant-loop-key
-invariant-loop-key l = type_named (drop l.key-index l.fields) l.name ≡ type_named l.fields l.name

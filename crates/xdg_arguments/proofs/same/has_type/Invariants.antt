@@ -1,4 +1,0 @@
-use Rattle.xdg_arguments.proofs.same.has_type.Given as goal
-
-abbrev pub invariant-loop-one : goal.invariant-loop-one
-invariant-loop-one l = Unit {0}

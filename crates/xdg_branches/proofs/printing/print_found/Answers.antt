@@ -1,9 +1,0 @@
-use Rattle.std.proofs.lemmas.Result.{on_err_weaker}
-use Rattle.xdg_text.proofs.Pieces.{at_exit, front_of_first, front_of_second}
-use Rattle.xdg_branches.proofs.printing.print_found.Goals as goal
-
-pub returns-in_err-write_blocks-clause-front : goal.returns-in_err-write_blocks-clause-front
-returns-in_err-write_blocks-clause-front g c = at_exit _ (front_of_first _ c.in_err-write_blocks.ensures.front)
-
-pub returns-clause-front : goal.returns-clause-front
-returns-clause-front g c = on_err_weaker c.write_last.result (λ last. front_of_second c.in_ok-write_blocks.ensures.all last) c.write_last.ensures.front

@@ -1,3 +1,0 @@
-pub mod Branched
-pub mod Written
-pub mod Laws

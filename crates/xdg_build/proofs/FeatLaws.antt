@@ -1,0 +1,156 @@
+-- What an atom about a feature says, and the table of candidates that is made of it.
+use Rattle.std.proofs.Common.{◌≡◌, ◌↔◌, ℕ, zero, suc, ◌<◌, true, false, Bool, List, [], ◌∷◌, length, get_or, map, refl, sym, ap, ◌∙◌, subst, arith}
+use Rattle.std.specs.Prelude.{All, Contains, MatchOption, Some, slice_get, slice_index, slice_index_or}
+use Rattle.std.proofs.lemmas.List.{get_or-map, get_or_default, length-map}
+use Rattle.std.proofs.lemmas.List.Elements.{All-contains}
+use Rattle.std.proofs.lemmas.Option.{get_or_from_slice_get, slice_get-get_or}
+use Rattle.xdg_ast.specs.declared.names.Name.{Name}
+use Rattle.xdg_ast.specs.Grammar.{Term}
+use Rattle.xdg_base.specs.declared.ids.EntryNo.{EntryNo}
+use Rattle.xdg_domain.specs.Shapes.{Shape, count, shape, text, IsType}
+use Rattle.xdg_domain.specs.Valencies.{said_at}
+use Rattle.xdg_domain.specs.declared.types.Ty.{Ty}
+use Rattle.xdg_domain.specs.declared.values.Value.{out-Value}
+use Rattle.xdg_packed.specs.Entries.{IsWhole}
+use Rattle.xdg_packed.specs.Lexicon.{Entry, Lexicon}
+use Rattle.xdg_problem.specs.declared.analysis.Analysis.{Analysis}
+use Rattle.xdg_problem.specs.declared.parts.Parts.{Parts}
+use Rattle.xdg_problem.specs.Analyses.{IsAnalysis, HasCandidates}
+use Rattle.xdg_problem.specs.Claims.{fitting, IsTable}
+use Rattle.xdg_problem.specs.Places.{nodes}
+use Rattle.xdg_problem.specs.Problems.{IsProblem}
+use Rattle.xdg_problem.specs.Truths.{says}
+use Rattle.xdg_problem.specs.Vectors.{entry_places}
+use Rattle.xdg_problem.proofs.EntryPlaces.{entry_back, place_within}
+use Rattle.xdg_terms.specs.Means.{IsAt}
+use Rattle.xdg_types.specs.Table as tables
+use Rattle.xdg_types.specs.Table.{Table, AreFeatures, Typed, KeepsDim, typed, firsts}
+use Rattle.xdg_build.specs.Grammars.{Grammar}
+use Rattle.xdg_build.proofs.Said.{entry_at as entry_right_at}
+use Rattle.xdg_build.specs.Readings.{OnFeature, dimension, said_for, record_for, type_at, value_texts}
+use Rattle.xdg_build.proofs.Readings.{place_is, record_same}
+use Rattle.xdg_formula.specs.Tables.{member_shape, no_dim, used_dims}
+use Rattle.xdg_formula.specs.Written as w
+use Rattle.xdg_build.specs.Places.{IsDimAt, IsTypeAt}
+use Rattle.xdg_build.specs.Problems.{IsFor}
+use Rattle.xdg_build.specs.Says.{Says}
+use Rattle.xdg_build.specs.Tables.{entry_says, table_of}
+use Rattle.xdg_build.specs.Truths.{IsOrHas, constants_of}
+use Rattle.xdg_build.proofs.Used.{among_all, used_within, is_called, one_called, below_of}
+use Rattle.xdg_build.proofs.AtomLaws.{first_at, one_named, stands_for, node_below, keeps_at, typed_at}
+use Rattle.xdg_build.proofs.Featured.{said_says, said_field}
+
+pub feature_at : (all : Typed) (i : ℕ) (name : List ℕ) (type : Shape) → AreFeatures all → slice_get all i ≡ Some (name, type) → IsType type
+feature_at [] i name type are h = absurd (cc)
+feature_at (one ∷ more) zero name type are h = (let e : one ≡ (name, type) = cc in subst (λ (field : List ℕ × Shape). IsType field.1) e are.0)
+feature_at (one ∷ more) (suc i) name type are h = feature_at more i name type are.1 h
+
+-- ---- the candidate of a node
+
+-- the place of a node's entry among its candidates, and the entry there
+chosen_at : (all : List (List EntryNo)) (entries : List EntryNo) (v : ℕ) → HasCandidates all entries → v < length all
+    → (get_or (get_or all v []) (slice_index (entry_places all entries) v) (record { 0 = 0 }) ≡ get_or entries v (record { 0 = 0 })) × (slice_index (entry_places all entries) v < length (get_or all v [])) × Contains (get_or all v []) (get_or entries v (record { 0 = 0 }))
+chosen_at [] entries v has l = absurd (omega (arith, l))
+chosen_at (candidates ∷ all) [] v has l = absurd has
+chosen_at (candidates ∷ all) (entry ∷ entries) zero has l = (entry_back candidates entry (record { 0 = 0 }) has.0, place_within candidates entry has.0, has.0)
+chosen_at (candidates ∷ all) (entry ∷ entries) (suc v) has l = chosen_at all entries v has.1 (omega (arith, l))
+
+all_at : {A : Type 0} (P : A → Type 0) (xs : List (List A)) (v : ℕ) → All (All P) xs → v < length xs → All P (get_or xs v [])
+all_at P xs v all l = All-contains (All P) xs (get_or xs v []) all (v, l, get_or_default xs v (get_or xs v []) [] l)
+
+module _ (table : Table) (lexicon : Lexicon) (parts : Parts) (problem : IsProblem parts) (is : tables.IsTable table) (for_it : IsFor table lexicon parts) (scope : List (List ℕ)) where
+  abbrev g : Grammar
+  g = record { table = table; uses = []; lexicon = lexicon }
+
+  module _ (dim : Name) (d : ℕ) (at : IsDimAt (used_dims table) dim.text d) where
+    abbrev k : ℕ
+    k = among_all table lexicon is d
+
+    used_k : tables.HasPlace table.used k
+    used_k = (is_called table lexicon is (nodes parts) (record { entries = []; attrs = []; edges = [] }) dim.text d at).0
+
+    kept : KeepsDim (dimension g k)
+    kept = keeps_at table.dims k is.dims (below_of (length table.dims) table.used k is.used used_k)
+
+    -- the records of entries for the dimension
+    record_is : (entry : Entry) → length entry ≡ length table.used → record_for table.used entry k ≡ get_or entry d []
+    record_is entry long = record_same table.used entry k long ∙ ap (λ i. get_or entry i []) (place_is (length table.dims) table.used d k is.used (used_within table lexicon is d at.within) refl)
+
+    whole_at : (e : ℕ) → e < length lexicon.entries → IsWhole (dimension g k) (get_or (get_or lexicon.entries e []) d [])
+    whole_at e l =
+        (entry_right_at table lexicon.entries e for_it.entries l).each d (dimension g k)
+        (k, (slice_get-get_or table.used d 0 (used_within table lexicon is d at.within), slice_get-get_or table.dims k no_dim (below_of (length table.dims) table.used k is.used used_k)))
+
+    module _ (feature : Name) (value : Term) (i n : ℕ) (type : Ty) (of : Shape) (stands : IsTypeAt (dimension g k).fields feature.text i type) (members : member_shape (shape type) ≡ Some of) (within : n < count of) (texts : value_texts of n ≡ constants_of value) where
+      abbrev made : List (List Bool)
+      made = table_of lexicon.entries parts.candidates d i n
+
+      row_of : (v : ℕ) → v < length parts.candidates → get_or made v [] ≡ map (entry_says lexicon.entries d i n) (get_or parts.candidates v [])
+      row_of v l = get_or-map (map (entry_says lexicon.entries d i n)) parts.candidates v [] [] l
+
+      is_table : IsTable parts made
+      is_table = record {
+        count = length-map parts.candidates (map (entry_says lexicon.entries d i n)) ∙ candidates_long;
+        each = λ v l. ap length (row_of v (let m : v < nodes parts = l in omega (arith, m, candidates_long))) ∙ length-map (get_or parts.candidates v []) (entry_says lexicon.entries d i n);
+      }
+        where
+          candidates_long : length parts.candidates ≡ nodes parts
+          candidates_long = problem.candidates_each
+
+      type_right : type_at (typed (dimension g k).fields) i ≡ shape type
+      type_right = ap (λ (one : List ℕ × Shape). one.1) (get_or_from_slice_get (typed (dimension g k).fields) i (feature.text, shape type) ([], text) (typed_at (dimension g k).fields i feature.text type stands.stands))
+
+      -- the entry with that number says so exactly where its value is the one with these constants, or has it
+      entry_right : (a : Analysis) (v : ℕ) → (get_or a.entries v (record { 0 = 0 })).0 < length lexicon.entries
+          → (entry_says lexicon.entries d i n (get_or a.entries v (record { 0 = 0 })) ≡ true) ↔ OnFeature g a k v (Some i) (λ s x. IsOrHas s x (constants_of value))
+      entry_right a v l =
+          let e : ℕ = (get_or a.entries v (record { 0 = 0 })).0 in
+          let entry : Entry = get_or lexicon.entries e [] in
+          let whole : IsWhole (dimension g k) (get_or entry d []) = whole_at e l in
+          let said = said_says (shape type) of (said_at (get_or entry d []) i) n (constants_of value) members
+          (feature_at (typed (dimension g k).fields) i feature.text (shape type) kept.features (typed_at (dimension g k).fields i feature.text type stands.stands))
+          (λ x h. said_field (dimension g k) (get_or entry d []) i feature.text (shape type) x whole (typed_at (dimension g k).fields i feature.text type stands.stands) h) within texts in
+          let read : said_for g a k v i ≡ said_at (get_or entry d []) i = ap (λ m. said_at m i) (record_is entry (entry_right_at table lexicon.entries e for_it.entries l).count) in (
+            λ h. subst (λ s. MatchOption (said_for g a k v i) ⊥ (λ x. IsOrHas s (out-Value x) (constants_of value))) (sym type_right)
+                (subst (λ o. MatchOption o ⊥ (λ x. IsOrHas (shape type) (out-Value x) (constants_of value))) (sym read) (said.0 h)),
+            λ h. said.1 (subst (λ o. MatchOption o ⊥ (λ x. IsOrHas (shape type) (out-Value x) (constants_of value))) read
+                (subst (λ s. MatchOption (said_for g a k v i) ⊥ (λ x. IsOrHas s (out-Value x) (constants_of value))) type_right h)),
+          )
+
+      -- the table says so of a node's candidate exactly where the node has that feature
+      row_says : (a : Analysis) → IsAnalysis parts a → (v : ℕ) → v < nodes parts
+          → (says made v (slice_index (entry_places parts.candidates a.entries) v) ≡ true) ↔ OnFeature g a k v (Some i) (λ s x. IsOrHas s x (constants_of value))
+      row_says a fits v l =
+          let m : v < length parts.candidates = (let many = problem.candidates_each in omega (arith, l, many)) in
+          let c : ℕ = slice_index (entry_places parts.candidates a.entries) v in
+          let chosen = chosen_at parts.candidates a.entries v fits.entries m in
+          let entry : EntryNo = get_or a.entries v (record { 0 = 0 }) in
+          let there : says made v c ≡ entry_says lexicon.entries d i n entry =
+          ap (λ row. slice_index_or row c false) (row_of v m) ∙ get_or-map (entry_says lexicon.entries d i n) (get_or parts.candidates v []) c (record { 0 = 0 }) false chosen.1 ∙ ap (entry_says lexicon.entries d i n) chosen.0 in
+          let within : entry.0 < length lexicon.entries =
+          All-contains (λ (no : EntryNo). no.0 < length lexicon.entries) (get_or parts.candidates v []) entry (all_at (λ (no : EntryNo). no.0 < length lexicon.entries) parts.candidates v for_it.candidates m) chosen.2 in
+          let right = entry_right a v within in
+          (λ h. right.0 (sym there ∙ h), λ h. there ∙ right.1 h)
+
+      pub says_feat : (node : Name) (m : ℕ) → IsAt scope m node.text → Says table lexicon parts scope (w.feat node dim feature value) (fitting m made)
+      says_feat node m first = record {
+        is_of = is_table;
+        bound = λ numbers each. each m first.0;
+        same = λ a fits b numbered agree.
+            let e = stands_for (nodes parts) scope b numbered m node.text agree first in
+            let row = row_says a fits (numbered m) (node_below (nodes parts) scope b numbered m node.text agree first) in (
+              λ h. (
+                k,
+                i,
+                is_called table lexicon is (nodes parts) a dim.text d at,
+                first_at (dimension g k).fields i feature.text type stands.stands,
+                subst (λ v. OnFeature g a k v (Some i) (λ s x. IsOrHas s x (constants_of value))) e (row.0 h),
+              ),
+              λ h.
+                  let one : h.0 ≡ k = one_called table lexicon is (nodes parts) a dim.text d at h.0 h.2 in
+                  let place : h.1 ≡ i = one_named (firsts (dimension g k).fields) h.1 i feature.text kept.fields (subst (λ j. slice_get (firsts (dimension g j).fields) h.1 ≡ Some feature.text) one h.3) (first_at (dimension g k).fields i feature.text type stands.stands) in
+                  row.1 (subst (λ v. OnFeature g a k v (Some i) (λ s x. IsOrHas s x (constants_of value))) (sym e)
+                  (subst (λ p. OnFeature g a k (b node.text) (Some p) (λ s x. IsOrHas s x (constants_of value))) place
+                  (subst (λ j. OnFeature g a j (b node.text) (Some h.1) (λ s x. IsOrHas s x (constants_of value))) one h.4))),
+            );
+      }

@@ -1,0 +1,179 @@
+-- What the rows of a compiled feature say, and what the value of its type says of constants.
+use Rattle.std.proofs.Common.{◌≡◌, ℕ, zero, suc, ◌<◌, ◌≤◌, ◌+◌, ◌↔◌, List, [], ◌∷◌, length, get_or, map, refl, sym, ap, ap₂, ◌∙◌, subst, inl, inr, arith}
+use Rattle.std.specs.Prelude.{Contains, None, Some, slice_get}
+use Rattle.std.proofs.lemmas.Bool.{cases_eq}
+use Rattle.std.proofs.lemmas.Option.{slice_get-get_or, slice_get_within, get_or_from_slice_get}
+use Rattle.xdg_domain.specs.Defaults.{IsFilledIn}
+use Rattle.xdg_domain.specs.Shapes.{Shape, domain, tuple, set, iset, valency, mapping, sizes, count, Differ, IsSmall, IsType}
+use Rattle.xdg_domain.specs.Tuples.{places}
+use Rattle.xdg_domain.specs.Valencies.{said_at, KeysRise}
+use Rattle.xdg_domain.specs.Values.{IsIn, AllBelow}
+use Rattle.xdg_domain.specs.declared.values.Value.{Value, out-Value}
+use Rattle.xdg_domain.specs.declared.values.Value.TheOpen.{Value-F}
+use Rattle.xdg_domain.proofs.Keyed.{at_head, after_head, unsaid, said_right}
+use Rattle.xdg_terms.specs.Means.{chosen}
+use Rattle.xdg_principles.specs.Wanted.{IsSame, IsSetOf}
+use Rattle.xdg_build.specs.Features.{members_in, rows_in}
+use Rattle.xdg_build.proofs.TypeRows.{sizes_again, is_said}
+use Rattle.xdg_build.specs.Readings.{value_texts, IsMember, IsMemberAt, IsAllowedAt}
+use Rattle.xdg_build.proofs.Different.{one_place, same_tuple}
+
+-- ---- values by their constants
+
+some_same : {A : Type 0} (x y : A) → Some x ≡ Some y → x ≡ y
+some_same x y h = cc
+
+first_same : (x y : List ℕ) → x ∷ [] ≡ y ∷ [] → x ≡ y
+first_same x y h = cc
+
+-- values of a type with the same constants have the same number
+pub same_number : (s : Shape) (m n : ℕ) → IsSmall s → m < count s → n < count s → value_texts s m ≡ value_texts s n → m ≡ n
+same_number (domain cs) m n small within inside e = one_place cs m n small.1 within inside (first_same (get_or cs m []) (get_or cs n []) e)
+same_number (tuple ss) m n small within inside e = same_tuple ss m n small within inside e
+same_number s m n small within inside e = absurd small
+
+-- types that are the same have the same values
+pub same_texts : (s u : Shape) (n : ℕ) → IsSame s u → value_texts s n ≡ value_texts u n
+same_texts (domain cs) (domain ds) n h = ap (λ (all : List (List ℕ)). get_or all n [] ∷ []) h
+same_texts (tuple ss) (tuple us) n h =
+    let long : sizes ss ≡ sizes us = sizes_again ss ∙ ap (map length) h ∙ sym (sizes_again us) in
+    ap₂ (λ (all : List (List (List ℕ))) (ns : List ℕ). chosen all (places ns n)) h long
+same_texts _ _ n h = absurd h
+
+-- ---- members
+
+-- a row names the value with these constants
+abbrev pub Names : Shape → List ℕ → List (List ℕ) → Type 0
+Names s row texts = (n : ℕ) × Contains row n × (value_texts s n ≡ texts)
+
+pub below_contained : (bound : ℕ) (ns : List ℕ) (n : ℕ) → AllBelow bound ns → Contains ns n → n < bound
+below_contained bound [] n h is = absurd (let within : is.0 < 0 = is.1 in omega (arith, within))
+below_contained bound (m ∷ ns) n h (zero, within, e) = subst (λ k. k < bound) e h.0
+below_contained bound (m ∷ ns) n h (suc k, within, e) = below_contained bound ns n h.1 (k, omega (arith, within), e)
+
+-- a row of values of a type names a value of the type exactly where it has the value's number
+pub names_number : (s : Shape) (row : List ℕ) (n : ℕ) → IsSmall s → AllBelow (count s) row → n < count s → Names s row (value_texts s n) ↔ Contains row n
+names_number s row n small within inside = (
+  λ h. subst (λ k. Contains row k) (same_number s h.0 n small (below_contained (count s) row h.0 within h.1) inside h.2) h.1,
+  λ c. (n, c, refl),
+)
+
+some_in : (row : List ℕ) → 0 < length row → (n : ℕ) × Contains row n
+some_in [] h = absurd (omega (arith, h))
+some_in (n ∷ row) h = (n, (0, omega arith, refl))
+
+has_some : (row : List ℕ) (n : ℕ) → Contains row n → 0 < length row
+has_some row n h = let within : h.0 < length row = h.1 in omega (arith, within)
+
+-- it names some value exactly where it isn't empty
+pub names_some : (s : Shape) (row : List ℕ) → ((texts : List (List ℕ)) × Names s row texts) ↔ (0 < length row)
+names_some s row = (
+  λ h. has_some row h.1.0 h.1.1,
+  λ l. (let n = some_in row l in (value_texts s n.0, (n.0, n.1, refl))),
+)
+
+-- ---- what is said of each key stands in its row
+
+first_key : {V : Type 0} (low bound : ℕ) (x : ℕ × V) (m : List (ℕ × V)) → KeysRise low (x ∷ m) → ((k : ℕ) → low ≤ k → k < bound → said_at (x ∷ m) k ≡ None → ⊥) → low < bound → x.0 ≡ low
+first_key low bound x m rises said within = elim (cases_eq x.0 low) [
+  | inl same ↦ same
+  | inr other ↦ absurd (said low (omega arith) within (unsaid x.0 low (x ∷ m) (omega (arith, other, rises.0)) (omega arith, rises.1)))
+]
+
+pub keyed_row : {V : Type 0} (f : V → List ℕ) (low bound : ℕ) (m : List (ℕ × V)) (i key : ℕ) → KeysRise low m → ((k : ℕ) → low ≤ k → k < bound → said_at m k ≡ None → ⊥) → key ≡ low + i → key < bound
+    → (v : V) × (said_at m key ≡ Some v) × (get_or (map (λ said. f said.1) m) i [] ≡ f v)
+keyed_row f low bound [] i key rises said is within = absurd (said key (omega (arith, is)) within refl)
+keyed_row f low bound (x ∷ m) zero key rises said is within =
+    let first : x.0 ≡ low = first_key low bound x m rises said (omega (arith, is, within)) in
+    (x.1, at_head x m key (omega (arith, first, is)), refl)
+keyed_row f low bound (x ∷ m) (suc i) key rises said is within =
+    let first : x.0 ≡ low = first_key low bound x m rises said (omega (arith, is, within)) in
+    let more = keyed_row f (x.0 + 1) bound m i key rises.1 (λ k above less none. said k (omega (arith, above, first)) less (after_head x m k (λ e. omega (arith, e, above)) ∙ none)) (omega (arith, is, first)) within in
+    (more.0, after_head x m key (λ e. omega (arith, e, is, first)) ∙ more.1, more.2)
+
+-- ---- sets
+
+-- what a set is of
+abbrev pub element : Shape → Shape
+element (set s) = s
+element (iset s) = s
+element s = s
+
+pub element_right : (P : Shape → Type 0) (type : Shape) → IsSetOf P type → P (element type)
+element_right P (set s) h = h
+element_right P (iset s) h = h
+element_right P _ h = absurd h
+
+pub element_small : (P : Shape → Type 0) (type : Shape) → IsSetOf P type → IsType type → IsSmall (element type)
+element_small P (set s) h is = is
+element_small P (iset s) h is = is
+element_small P _ h is = absurd h
+
+pub member_names : (P : Shape → Type 0) (type : Shape) (v : Value-F Value) (texts : List (List ℕ)) → IsSetOf P type → IsIn type v → IsMember type v texts ↔ Names (element type) (members_in v) texts
+member_names P (set s) (Value-F.Set ns) texts h is = (λ m. m, λ m. m)
+member_names P (iset s) (Value-F.Set ns) texts h is = (λ m. m, λ m. m)
+member_names P (set s) _ texts h is = absurd is
+member_names P (iset s) _ texts h is = absurd is
+member_names P _ v texts h is = absurd h
+
+pub members_below : (P : Shape → Type 0) (type : Shape) (v : Value-F Value) → IsSetOf P type → IsIn type v → AllBelow (count (element type)) (members_in v)
+members_below P (set s) (Value-F.Set ns) h is = is.1
+members_below P (iset s) (Value-F.Set ns) h is = is.1
+members_below P (set s) _ h is = absurd is
+members_below P (iset s) _ h is = absurd is
+members_below P _ v h is = absurd h
+
+pub set_row_is : (P : Shape → Type 0) (type : Shape) (v : Value-F Value) → IsSetOf P type → IsIn type v → get_or (rows_in v) 0 [] ≡ members_in v
+set_row_is P (set s) (Value-F.Set ns) h is = refl
+set_row_is P (iset s) (Value-F.Set ns) h is = refl
+set_row_is P (set s) _ h is = absurd is
+set_row_is P (iset s) _ h is = absurd is
+set_row_is P _ v h is = absurd h
+
+-- ---- valencies
+
+one_key : (keys : List (List ℕ)) (k l : ℕ) → Differ keys → l < length keys → slice_get keys k ≡ Some (get_or keys l []) → k ≡ l
+one_key keys k l differ within e = one_place keys k l differ (slice_get_within keys k (get_or keys l []) e) within (get_or_from_slice_get keys k (get_or keys l []) [] e)
+
+pub valency_allows : (keys : List (List ℕ)) (v : Value-F Value) (l number : ℕ) → Differ keys → l < length keys → IsIn (valency (domain keys)) v → IsFilledIn (valency (domain keys)) v
+    → IsAllowedAt (valency (domain keys)) v (get_or keys l []) number ↔ Contains (get_or (rows_in v) l []) number
+valency_allows keys (Value-F.Valency m) l number differ within is filled =
+    let row = keyed_row (λ (ns : List ℕ). ns) 0 (length keys) m l l is.0 (λ k above less none. is_said (λ ns. Unit {0}) (said_at m k) (filled k less) none) (omega arith) within in (
+      λ h.
+          let same : h.0 ≡ l = one_key keys h.0 l differ within h.2 in
+          let numbers : h.1 ≡ row.0 = some_same h.1 row.0 (sym h.3 ∙ ap (said_at m) same ∙ row.1) in
+          subst (λ (ns : List ℕ). Contains ns number) (numbers ∙ sym row.2) h.4,
+      λ c. (l, row.0, slice_get-get_or keys l [] within, row.1, subst (λ (ns : List ℕ). Contains ns number) row.2 c),
+    )
+valency_allows keys _ l number differ within is filled = absurd is
+
+-- ---- maps
+
+-- what a row of a map says
+pub record IsMapRow (type : Shape) (v : Value-F Value) (keys : List (List ℕ)) (u : Shape) (l : ℕ) : Type 0 where
+  pub names : (texts : List (List ℕ)) → IsMemberAt type v (get_or keys l []) texts ↔ Names (element u) (get_or (rows_in v) l []) texts
+  pub below : AllBelow (count (element u)) (get_or (rows_in v) l [])
+
+pub map_row_is : (P : Shape → Type 0) (keys : List (List ℕ)) (u : Shape) (v : Value-F Value) (l : ℕ) → IsSetOf P u → Differ keys → l < length keys → IsIn (mapping (domain keys) u) v → IsFilledIn (mapping (domain keys) u) v
+    → IsMapRow (mapping (domain keys) u) v keys u l
+map_row_is P keys u (Value-F.Map m) l sets differ within is filled =
+    let row = keyed_row (λ (v : Value). members_in (out-Value v)) 0 (length keys) m l l is.0 (λ k above less none. is_said (λ v. IsFilledIn u (out-Value v)) (said_at m k) (filled k less) none) (omega arith) within in
+    let right : (l < length keys) × IsIn u (out-Value row.0) = said_right (λ key v. (key < length keys) × IsIn u (out-Value v)) m l row.0 is.1 row.1 in
+    record {
+      names = λ texts. (
+        λ h.
+            let same : h.0 ≡ l = one_key keys h.0 l differ within h.2 in
+            let value : h.1 ≡ row.0 = some_same h.1 row.0 (sym h.3 ∙ ap (said_at m) same ∙ row.1) in
+            subst (λ (ns : List ℕ). Names (element u) ns texts) (sym row.2)
+            ((member_names P u (out-Value row.0) texts sets right.1).0 (subst (λ (x : Value). IsMember u (out-Value x) texts) value h.4)),
+        λ n. (
+          l,
+          row.0,
+          slice_get-get_or keys l [] within,
+          row.1,
+          (member_names P u (out-Value row.0) texts sets right.1).1 (subst (λ (ns : List ℕ). Names (element u) ns texts) row.2 n),
+        ),
+      );
+      below = subst (AllBelow (count (element u))) (sym row.2) (members_below P u (out-Value row.0) sets right.1);
+    }
+map_row_is P keys u _ l sets differ within is filled = absurd is

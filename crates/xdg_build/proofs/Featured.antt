@@ -1,0 +1,91 @@
+-- Values of features of entries, by their numbers and by their constants.
+use Rattle.std.proofs.Common.{◌≡◌, ◌↔◌, ℕ, zero, suc, ◌<◌, true, List, [], ◌∷◌, length, inl, inr, refl, sym, ap, ◌∙◌, subst, arith}
+use Rattle.std.specs.Prelude.{◌==◌, Contains, Option, None, Some, MatchOption, slice_get}
+use Rattle.std.proofs.lemmas.Bool.{eqb-true, eq-eqb, false≢true, or_cases, or_left, or_right}
+use Rattle.xdg_domain.specs.Cards.{has}
+use Rattle.xdg_domain.specs.Shapes.{Shape, domain, tuple, set, iset, truth, integer, text, card, valency, mapping, fields, fields_of, count, IsType, IsSmall}
+use Rattle.xdg_domain.specs.Valencies.{said_at}
+use Rattle.xdg_domain.specs.Values.{IsIn, IsFieldOf, AllBelow}
+use Rattle.xdg_domain.specs.declared.values.Value.{Value, out-Value}
+use Rattle.xdg_domain.specs.declared.values.Value.TheOpen.{Value-F}
+use Rattle.xdg_domain.proofs.Keyed.{said_right}
+use Rattle.xdg_packed.specs.Entries.{IsWhole}
+use Rattle.xdg_packed.specs.Lexicon.{Record}
+use Rattle.xdg_types.specs.declared.table.DimType.{DimType}
+use Rattle.xdg_types.specs.Table.{typed}
+use Rattle.xdg_build.proofs.Said.{field_in, each_of}
+use Rattle.xdg_build.specs.Readings.{value_texts}
+use Rattle.xdg_build.proofs.FeatureRows.{Names, names_number, same_number}
+use Rattle.xdg_formula.specs.Tables.{member_shape}
+use Rattle.xdg_build.specs.Tables.{is_or_has, says_in}
+use Rattle.xdg_build.specs.Truths.{IsOrHas}
+
+-- ---- sets
+
+contains_more : (n : ℕ) (ns : List ℕ) (m : ℕ) → Contains ns m → Contains (n ∷ ns) m
+contains_more n ns m is = (let within : is.0 < length ns = is.1 in (suc is.0, omega (arith, within), is.2))
+
+has_contains : (ns : List ℕ) (n : ℕ) → has ns n ≡ true → Contains ns n
+has_contains [] n h = absurd (false≢true h)
+has_contains (m ∷ ns) n h = elim (or_cases (m == n) (has ns n) h) [ inl here ↦ (0, omega arith, eqb-true m n here) | inr later ↦ contains_more m ns n (has_contains ns n later) ]
+
+contains_has : (ns : List ℕ) (n : ℕ) → Contains ns n → has ns n ≡ true
+contains_has [] n is = (let within : is.0 < 0 = is.1 in absurd (omega (arith, within)))
+contains_has (m ∷ ns) n (zero, within, e) = or_left (m == n) (has ns n) (eq-eqb m n e)
+contains_has (m ∷ ns) n (suc i, within, e) = or_right (m == n) (has ns n) (contains_has ns n (i, omega (arith, within), e))
+
+set_says : (s : Shape) (ns : List ℕ) (n : ℕ) (texts : List (List ℕ)) → IsSmall s → AllBelow (count s) ns → n < count s → value_texts s n ≡ texts → (has ns n ≡ true) ↔ Names s ns texts
+set_says s ns n texts small below within said =
+    let names = names_number s ns n small below within in (
+      λ h. subst (Names s ns) said (names.1 (has_contains ns n h)),
+      λ named. contains_has ns n (names.0 (subst (Names s ns) (sym said) named)),
+    )
+
+-- ---- single values
+
+one_says : (s : Shape) (m n : ℕ) (texts : List (List ℕ)) → IsSmall s → m < count s → n < count s → value_texts s n ≡ texts → ((m == n) ≡ true) ↔ (value_texts s m ≡ texts)
+one_says s m n texts small below within said = (
+  λ h. ap (value_texts s) (eqb-true m n h) ∙ said,
+  λ e. eq-eqb m n (same_number s m n small below within (e ∙ sym said)),
+)
+
+some_shape : (a b : Shape) → Some a ≡ Some b → a ≡ b
+some_shape a b h = cc
+
+-- A value has the number of a value of the type of its members, or a member with it, exactly where it has its constants.
+pub value_says : (s of : Shape) (v : Value-F Value) (n : ℕ) (texts : List (List ℕ)) → member_shape s ≡ Some of → IsType s → IsIn s v → n < count of → value_texts of n ≡ texts → (is_or_has v n ≡ true) ↔ IsOrHas s v texts
+value_says (domain cs) of (Value-F.Const m) n texts h type is within said =
+    let same : domain cs ≡ of = some_shape (domain cs) of h in
+    one_says (domain cs) m n texts type is (subst (λ t. n < count t) (sym same) within) (ap (λ t. value_texts t n) same ∙ said)
+value_says (domain cs) of _ n texts h type is within said = absurd is
+value_says (tuple ss) of (Value-F.Tuple m) n texts h type is within said =
+    let same : tuple ss ≡ of = some_shape (tuple ss) of h in
+    one_says (tuple ss) m n texts type is (subst (λ t. n < count t) (sym same) within) (ap (λ t. value_texts t n) same ∙ said)
+value_says (tuple ss) of _ n texts h type is within said = absurd is
+value_says (set s) of (Value-F.Set ns) n texts h type is within said =
+    let same : s ≡ of = some_shape s of h in
+    set_says s ns n texts type is.1 (subst (λ t. n < count t) (sym same) within) (ap (λ t. value_texts t n) same ∙ said)
+value_says (set s) of _ n texts h type is within said = absurd is
+value_says (iset s) of (Value-F.Set ns) n texts h type is within said =
+    let same : s ≡ of = some_shape s of h in
+    set_says s ns n texts type is.1 (subst (λ t. n < count t) (sym same) within) (ap (λ t. value_texts t n) same ∙ said)
+value_says (iset s) of _ n texts h type is within said = absurd is
+value_says truth of v n texts h type is within said = absurd (cc)
+value_says integer of v n texts h type is within said = absurd (cc)
+value_says text of v n texts h type is within said = absurd (cc)
+value_says card of v n texts h type is within said = absurd (cc)
+value_says (valency k) of v n texts h type is within said = absurd (cc)
+value_says (mapping k u) of v n texts h type is within said = absurd (cc)
+value_says (fields fs) of v n texts h type is within said = absurd (cc)
+
+-- the same of what may be said
+pub said_says : (s of : Shape) (said : Option Value) (n : ℕ) (texts : List (List ℕ)) → member_shape s ≡ Some of → IsType s → ((v : Value) → said ≡ Some v → IsIn s (out-Value v)) → n < count of → value_texts of n ≡ texts
+    → (says_in said n ≡ true) ↔ MatchOption said ⊥ (λ v. IsOrHas s (out-Value v) texts)
+said_says s of None n texts h type is within texts_are = ((λ e. absurd (false≢true e)), (λ no_value. absurd no_value))
+said_says s of (Some v) n texts h type is within texts_are = value_says s of (out-Value v) n texts h type (is v refl) within texts_are
+
+-- ---- entries
+
+-- what a whole record says for a feature is of its type
+pub said_field : (dim : DimType) (m : Record) (place : ℕ) (name : List ℕ) (type : Shape) (v : Value) → IsWhole dim m → slice_get (typed dim.fields) place ≡ Some (name, type) → said_at m place ≡ Some v → IsIn type (out-Value v)
+said_field dim m place name type v whole stands is = field_in (typed dim.fields) place name type v stands (said_right (IsFieldOf (fields_of (typed dim.fields))) m place v (each_of dim m whole) is)

@@ -1,0 +1,361 @@
+-- The nineteen principles with what the table of principles says of them. A rule and a bound stand in no table.
+use Rattle.std.proofs.Common.{◌≡◌, inl, inr, ℕ, ◌+◌, ◌<◌, List, [], ◌∷◌, refl, sym, ap, ◌∙◌, arith}
+use Rattle.std.specs.Prelude.{None, Some, bytes_eq, if◌then◌else◌, length, flat_map}
+use Rattle.std.proofs.lemmas.Bool.{cases_Bool}
+use Rattle.std.proofs.lemmas.Slice.Eq.{bytes_eq-Decides}
+use Rattle.xdg_problem.specs.declared.parts.Principle.{Principle}
+use Rattle.xdg_problem.specs.declared.parts.Principle.TheVariants as principles
+use Rattle.xdg_problem.specs.Names.{name_of, IsOfTexts}
+use Rattle.xdg_problem.specs.Problems.{dim_arguments, attr_arguments, truth_arguments}
+use Rattle.xdg_principles.specs.declared.principle.Dims.TheVariants as d
+use Rattle.xdg_principles.specs.declared.principle.Element.TheVariants as e
+use Rattle.xdg_principles.specs.declared.principle.Form.{Form}
+use Rattle.xdg_principles.specs.declared.principle.Key.TheVariants as k
+use Rattle.xdg_principles.specs.declared.principle.Parameter.{Parameter}
+use Rattle.xdg_principles.specs.declared.principle.Preset.TheVariants as preset
+use Rattle.xdg_principles.specs.declared.principle.Sort.{Sort}
+use Rattle.xdg_principles.specs.declared.principle.Sort.TheVariants as s
+use Rattle.xdg_principles.specs.declared.principle.Typing.{Typing}
+use Rattle.xdg_principles.specs.declared.principle.Typing.TheVariants as t
+use Rattle.xdg_principles.specs.declared.principle.Wanted.{Wanted}
+use Rattle.xdg_principles.specs.declared.principle.Wanted.TheVariants as a
+use Rattle.xdg_principles.specs.declared.principle.Which.{Which}
+use Rattle.xdg_principles.specs.declared.principle.Which.TheVariants as w
+use Rattle.xdg_principles.specs.Principles as table
+use Rattle.xdg_principles.specs.Principles.{has, flag, counted, feature, attribute, required, linking, labels_to_labels, Row, row_named, principle_named, dims_in, parameters}
+use Rattle.xdg_principles.specs.Typed.{number_of}
+use Rattle.xdg_build.specs.Features.{feature_dim}
+use Rattle.xdg_build.specs.Groups.{called}
+use Rattle.xdg_build.proofs.Calling.{one_called}
+
+-- ---- what each principle has
+
+abbrev pub form_of : Principle → Form
+form_of principles.Graph = has d.One None None None
+form_of (principles.Rule formula) = has d.One None None None
+form_of (principles.Bound costs bound) = has d.One None None None
+form_of principles.Entries = has d.One None None None
+form_of principles.Tree = has d.One None None None
+form_of principles.Projectivity = has d.One None None None
+form_of principles.Dag = has d.One (flag k.Connected) (flag k.DisjointDaughters) None
+form_of principles.Valency = has d.One (counted k.In preset.In) (counted k.Out preset.Out) None
+form_of principles.Order = has d.One (required k.Order (a.Labels w.First)) (attribute k.On (e.Labels w.First)) (flag k.Yields)
+form_of principles.Agr = has d.One (attribute k.Agr e.Shared) (feature k.Agrs (t.Set e.Shared)) None
+form_of principles.Agreement = has d.One (attribute k.Agr1 e.Shared) (attribute k.Agr2 e.Shared) (feature k.Agree (t.Set (e.Labels w.First)))
+form_of principles.Government = has d.One (attribute k.Agr e.Shared) (feature k.Govern (t.Map w.First e.Shared)) None
+form_of principles.Climbing = has d.Two None None None
+form_of principles.Barriers = has d.Two (required k.Blocks (a.Member s.Feature w.Second (t.Set (e.Labels w.Second)))) None None
+form_of principles.LinkingEnd = linking labels_to_labels
+form_of principles.LinkingDaughter = linking labels_to_labels
+form_of principles.LinkingMother = linking labels_to_labels
+form_of principles.LinkingBelowStart = linking labels_to_labels
+form_of principles.LinkingAboveStart = linking labels_to_labels
+form_of principles.LinkingSisters = linking labels_to_labels
+form_of principles.LinkingNotDaughter = linking (t.Set (e.Labels w.First))
+
+pub form-name_of : (p : Principle) → IsOfTexts p → principle_named (name_of p) ≡ Some (form_of p)
+unfolding principle_named
+form-name_of principles.Graph of = refl
+form-name_of principles.Entries of = refl
+form-name_of principles.Tree of = refl
+form-name_of principles.Projectivity of = refl
+form-name_of principles.Dag of = refl
+form-name_of principles.Valency of = refl
+form-name_of principles.Order of = refl
+form-name_of principles.Agr of = refl
+form-name_of principles.Agreement of = refl
+form-name_of principles.Government of = refl
+form-name_of principles.Climbing of = refl
+form-name_of principles.Barriers of = refl
+form-name_of principles.LinkingEnd of = refl
+form-name_of principles.LinkingDaughter of = refl
+form-name_of principles.LinkingMother of = refl
+form-name_of principles.LinkingBelowStart of = refl
+form-name_of principles.LinkingAboveStart of = refl
+form-name_of principles.LinkingSisters of = refl
+form-name_of principles.LinkingNotDaughter of = refl
+form-name_of (principles.Rule formula) of = absurd of
+form-name_of (principles.Bound costs bound) of = absurd of
+
+none_some : (form : Form) → None ≡ Some form → ⊥
+none_some form h = cc
+
+-- a principle that has a known name is one of grammar texts
+pub of_texts : (p : Principle) (name : List ℕ) (form : Form) → name_of p ≡ name → principle_named name ≡ Some form → IsOfTexts p
+unfolding principle_named
+of_texts (principles.Rule formula) name form is h = none_some form (ap principle_named is ∙ h)
+of_texts (principles.Bound costs bound) name form is h = none_some form (ap principle_named is ∙ h)
+of_texts p name form is h = tt
+
+-- ---- a known principle is one of them
+
+in_table : List Principle
+in_table =
+    principles.Graph ∷ principles.Entries ∷ principles.Tree ∷ principles.Projectivity ∷ principles.Dag ∷ principles.Valency ∷ principles.Order
+    ∷ principles.Agr ∷ principles.Agreement ∷ principles.Government ∷ principles.Climbing ∷ principles.Barriers
+    ∷ principles.LinkingEnd ∷ principles.LinkingDaughter ∷ principles.LinkingMother ∷ principles.LinkingBelowStart ∷ principles.LinkingAboveStart
+    ∷ principles.LinkingSisters ∷ principles.LinkingNotDaughter ∷ []
+
+-- the rows have the names of these principles
+abbrev Matches : List Principle → List Row → Type 0
+Matches [] [] = Unit {0}
+Matches (p ∷ ps) (row ∷ rows) = (name_of p ≡ row.0) × Matches ps rows
+Matches _ _ = ⊥
+
+found : (name : List ℕ) (ps : List Principle) (rows : List Row) (form : Form) → Matches ps rows → row_named name rows ≡ Some form → (p : Principle) × (name ≡ name_of p)
+found name [] [] form m h = absurd cc
+found name [] (row ∷ rows) form m h = absurd m
+found name (p ∷ ps) [] form m h = absurd m
+found name (p ∷ ps) (row ∷ rows) form m h = elim (cases_Bool (bytes_eq name row.0)) [
+  | inl q ↦ (p, (bytes_eq-Decides name row.0).0 q ∙ sym m.0)
+  | inr q ↦ found name ps rows form m.1 (sym (ap (λ b. if b then Some row.1 else row_named name rows) q) ∙ h)
+]
+
+matches : Matches in_table table.principles
+unfolding in_table
+matches = (refl, (refl, (refl, (refl, (refl, (refl, (refl, (refl, (refl, (refl, (refl, (refl, (refl, (refl, (refl, (refl, (refl, (refl, (refl, tt)))))))))))))))))))
+
+pub one_of_them : (name : List ℕ) (form : Form) → principle_named name ≡ Some form → (p : Principle) × (name ≡ name_of p)
+unfolding principle_named
+one_of_them name form h = found name in_table table.principles form matches h
+
+same_form : (x y : Form) → Some x ≡ Some y → x ≡ y
+same_form x y h = cc
+
+form_at : (name : List ℕ) (form : Form) (p : Principle) → principle_named name ≡ Some form → name ≡ name_of p → form ≡ form_of (called name)
+form_at name form p h is =
+    same_form form (form_of p) (sym h ∙ ap principle_named is ∙ form-name_of p (of_texts p name form (sym is) h)) ∙ ap form_of (sym (one_called name p (of_texts p name form (sym is) h) (sym is)))
+
+-- what a known principle has goes by what it is called
+pub form_called : (name : List ℕ) (form : Form) → principle_named name ≡ Some form → form ≡ form_of (called name)
+form_called name form h = let p = one_of_them name form h in form_at name form p.0 h p.1
+
+-- ---- what it takes
+
+-- the features, or the attributes, that an argument has to name: of which dimension, and with which type
+abbrev pub typings : Sort → Wanted → List (Which × Typing)
+typings s.Feature (a.Member s.Feature which typing) = (which, typing) ∷ []
+typings s.Attribute (a.Member s.Attribute which typing) = (which, typing) ∷ []
+typings _ _ = []
+
+abbrev pub all_typings : Sort → List Parameter → List (Which × Typing)
+all_typings sort ps = flat_map (λ parameter. typings sort parameter.wanted) ps
+
+-- the features that a principle takes, and its attributes
+abbrev pub feature_typings : Principle → List (Which × Typing)
+feature_typings p = all_typings s.Feature (parameters (form_of p))
+
+abbrev pub attr_typings : Principle → List (Which × Typing)
+attr_typings p = all_typings s.Attribute (parameters (form_of p))
+
+pub dims_wanted : (p : Principle) → IsOfTexts p → length (dims_in (form_of p).dims) ≡ dim_arguments p
+dims_wanted principles.Graph of = refl
+dims_wanted principles.Entries of = refl
+dims_wanted principles.Tree of = refl
+dims_wanted principles.Projectivity of = refl
+dims_wanted principles.Dag of = refl
+dims_wanted principles.Valency of = refl
+dims_wanted principles.Order of = refl
+dims_wanted principles.Agr of = refl
+dims_wanted principles.Agreement of = refl
+dims_wanted principles.Government of = refl
+dims_wanted principles.Climbing of = refl
+dims_wanted principles.Barriers of = refl
+dims_wanted principles.LinkingEnd of = refl
+dims_wanted principles.LinkingDaughter of = refl
+dims_wanted principles.LinkingMother of = refl
+dims_wanted principles.LinkingBelowStart of = refl
+dims_wanted principles.LinkingAboveStart of = refl
+dims_wanted principles.LinkingSisters of = refl
+dims_wanted principles.LinkingNotDaughter of = refl
+dims_wanted (principles.Rule formula) of = absurd of
+dims_wanted (principles.Bound costs bound) of = absurd of
+
+pub attrs_wanted : (p : Principle) → length (attr_typings p) ≡ attr_arguments p
+attrs_wanted principles.Graph = refl
+attrs_wanted (principles.Rule formula) = refl
+attrs_wanted (principles.Bound costs bound) = refl
+attrs_wanted principles.Entries = refl
+attrs_wanted principles.Tree = refl
+attrs_wanted principles.Projectivity = refl
+attrs_wanted principles.Dag = refl
+attrs_wanted principles.Valency = refl
+attrs_wanted principles.Order = refl
+attrs_wanted principles.Agr = refl
+attrs_wanted principles.Agreement = refl
+attrs_wanted principles.Government = refl
+attrs_wanted principles.Climbing = refl
+attrs_wanted principles.Barriers = refl
+attrs_wanted principles.LinkingEnd = refl
+attrs_wanted principles.LinkingDaughter = refl
+attrs_wanted principles.LinkingMother = refl
+attrs_wanted principles.LinkingBelowStart = refl
+attrs_wanted principles.LinkingAboveStart = refl
+attrs_wanted principles.LinkingSisters = refl
+attrs_wanted principles.LinkingNotDaughter = refl
+
+abbrev pub truths_wanted_by : Wanted → ℕ
+truths_wanted_by a.Truth = 1
+truths_wanted_by _ = 0
+
+-- how many truth values these parameters are
+abbrev pub truths_in_all : List Parameter → ℕ
+truths_in_all [] = 0
+truths_in_all (x ∷ xs) = truths_wanted_by x.wanted + truths_in_all xs
+
+pub truths_wanted : (p : Principle) → truths_in_all (parameters (form_of p)) ≡ truth_arguments p
+truths_wanted principles.Graph = refl
+truths_wanted (principles.Rule formula) = refl
+truths_wanted (principles.Bound costs bound) = refl
+truths_wanted principles.Entries = refl
+truths_wanted principles.Tree = refl
+truths_wanted principles.Projectivity = refl
+truths_wanted principles.Dag = refl
+truths_wanted principles.Valency = refl
+truths_wanted principles.Order = refl
+truths_wanted principles.Agr = refl
+truths_wanted principles.Agreement = refl
+truths_wanted principles.Government = refl
+truths_wanted principles.Climbing = refl
+truths_wanted principles.Barriers = refl
+truths_wanted principles.LinkingEnd = refl
+truths_wanted principles.LinkingDaughter = refl
+truths_wanted principles.LinkingMother = refl
+truths_wanted principles.LinkingBelowStart = refl
+truths_wanted principles.LinkingAboveStart = refl
+truths_wanted principles.LinkingSisters = refl
+truths_wanted principles.LinkingNotDaughter = refl
+
+-- ---- which of its dimensions has its features
+
+abbrev pub feature_which : Principle → Which
+feature_which principles.Barriers = w.Second
+feature_which principles.LinkingEnd = w.Third
+feature_which principles.LinkingDaughter = w.Third
+feature_which principles.LinkingMother = w.Third
+feature_which principles.LinkingBelowStart = w.Third
+feature_which principles.LinkingAboveStart = w.Third
+feature_which principles.LinkingSisters = w.Third
+feature_which principles.LinkingNotDaughter = w.Third
+feature_which p = w.First
+
+pub number-feature_which : (p : Principle) → number_of (feature_which p) ≡ feature_dim p
+number-feature_which principles.Graph = refl
+number-feature_which (principles.Rule formula) = refl
+number-feature_which (principles.Bound costs bound) = refl
+number-feature_which principles.Entries = refl
+number-feature_which principles.Tree = refl
+number-feature_which principles.Projectivity = refl
+number-feature_which principles.Dag = refl
+number-feature_which principles.Valency = refl
+number-feature_which principles.Order = refl
+number-feature_which principles.Agr = refl
+number-feature_which principles.Agreement = refl
+number-feature_which principles.Government = refl
+number-feature_which principles.Climbing = refl
+number-feature_which principles.Barriers = refl
+number-feature_which principles.LinkingEnd = refl
+number-feature_which principles.LinkingDaughter = refl
+number-feature_which principles.LinkingMother = refl
+number-feature_which principles.LinkingBelowStart = refl
+number-feature_which principles.LinkingAboveStart = refl
+number-feature_which principles.LinkingSisters = refl
+number-feature_which principles.LinkingNotDaughter = refl
+
+-- they are all of that dimension
+abbrev pub AreOf : Which → List (Which × Typing) → Type 0
+AreOf which [] = Unit {0}
+AreOf which (one ∷ more) = (one.0 ≡ which) × AreOf which more
+
+pub features_of_which : (p : Principle) → AreOf (feature_which p) (feature_typings p)
+features_of_which principles.Graph = tt
+features_of_which (principles.Rule formula) = tt
+features_of_which (principles.Bound costs bound) = tt
+features_of_which principles.Entries = tt
+features_of_which principles.Tree = tt
+features_of_which principles.Projectivity = tt
+features_of_which principles.Dag = tt
+features_of_which principles.Valency = (refl, (refl, tt))
+features_of_which principles.Order = tt
+features_of_which principles.Agr = (refl, tt)
+features_of_which principles.Agreement = (refl, tt)
+features_of_which principles.Government = (refl, tt)
+features_of_which principles.Climbing = tt
+features_of_which principles.Barriers = (refl, tt)
+features_of_which principles.LinkingEnd = (refl, tt)
+features_of_which principles.LinkingDaughter = (refl, tt)
+features_of_which principles.LinkingMother = (refl, tt)
+features_of_which principles.LinkingBelowStart = (refl, tt)
+features_of_which principles.LinkingAboveStart = (refl, tt)
+features_of_which principles.LinkingSisters = (refl, tt)
+features_of_which principles.LinkingNotDaughter = (refl, tt)
+
+pub attrs_of_first : (p : Principle) → AreOf w.First (attr_typings p)
+attrs_of_first principles.Graph = tt
+attrs_of_first (principles.Rule formula) = tt
+attrs_of_first (principles.Bound costs bound) = tt
+attrs_of_first principles.Entries = tt
+attrs_of_first principles.Tree = tt
+attrs_of_first principles.Projectivity = tt
+attrs_of_first principles.Dag = tt
+attrs_of_first principles.Valency = tt
+attrs_of_first principles.Order = (refl, tt)
+attrs_of_first principles.Agr = (refl, tt)
+attrs_of_first principles.Agreement = (refl, (refl, tt))
+attrs_of_first principles.Government = (refl, tt)
+attrs_of_first principles.Climbing = tt
+attrs_of_first principles.Barriers = tt
+attrs_of_first principles.LinkingEnd = tt
+attrs_of_first principles.LinkingDaughter = tt
+attrs_of_first principles.LinkingMother = tt
+attrs_of_first principles.LinkingBelowStart = tt
+attrs_of_first principles.LinkingAboveStart = tt
+attrs_of_first principles.LinkingSisters = tt
+attrs_of_first principles.LinkingNotDaughter = tt
+
+-- each of its dimensions is one of those that it has
+pub which_within : (p : Principle) → feature_dim p < length (dims_in (form_of p).dims)
+which_within principles.Graph = omega arith
+which_within (principles.Rule formula) = omega arith
+which_within (principles.Bound costs bound) = omega arith
+which_within principles.Entries = omega arith
+which_within principles.Tree = omega arith
+which_within principles.Projectivity = omega arith
+which_within principles.Dag = omega arith
+which_within principles.Valency = omega arith
+which_within principles.Order = omega arith
+which_within principles.Agr = omega arith
+which_within principles.Agreement = omega arith
+which_within principles.Government = omega arith
+which_within principles.Climbing = omega arith
+which_within principles.Barriers = omega arith
+which_within principles.LinkingEnd = omega arith
+which_within principles.LinkingDaughter = omega arith
+which_within principles.LinkingMother = omega arith
+which_within principles.LinkingBelowStart = omega arith
+which_within principles.LinkingAboveStart = omega arith
+which_within principles.LinkingSisters = omega arith
+which_within principles.LinkingNotDaughter = omega arith
+
+pub first_within : (p : Principle) → 0 < length (dims_in (form_of p).dims)
+first_within principles.Graph = omega arith
+first_within (principles.Rule formula) = omega arith
+first_within (principles.Bound costs bound) = omega arith
+first_within principles.Entries = omega arith
+first_within principles.Tree = omega arith
+first_within principles.Projectivity = omega arith
+first_within principles.Dag = omega arith
+first_within principles.Valency = omega arith
+first_within principles.Order = omega arith
+first_within principles.Agr = omega arith
+first_within principles.Agreement = omega arith
+first_within principles.Government = omega arith
+first_within principles.Climbing = omega arith
+first_within principles.Barriers = omega arith
+first_within principles.LinkingEnd = omega arith
+first_within principles.LinkingDaughter = omega arith
+first_within principles.LinkingMother = omega arith
+first_within principles.LinkingBelowStart = omega arith
+first_within principles.LinkingAboveStart = omega arith
+first_within principles.LinkingSisters = omega arith
+first_within principles.LinkingNotDaughter = omega arith

@@ -1,0 +1,36 @@
+-- What holds of each element of a list.
+use Rattle.std.proofs.Common.{◌≡◌, ℕ, zero, suc, ◌<◌, List, [], ◌∷◌, length, get_or, map, refl, inl, inr, arith}
+use Rattle.std.specs.Prelude.{All, None, Some}
+use Rattle.xdg_names.specs.First.{In}
+
+pub all_none : {X : Type 0} (P : X → Type 0) → All P []
+all_none P k d within = absurd (omega (arith, within))
+
+pub all_cons : {X : Type 0} (P : X → Type 0) (x : X) (xs : List X) → P x → All P xs → All P (x ∷ xs)
+all_cons P x xs h t zero d within = h
+all_cons P x xs h t (suc k) d within = t k d (omega (arith, within))
+
+pub all_one : {X : Type 0} (P : X → Type 0) (x : X) → P x → All P (x ∷ [])
+all_one P x h = all_cons P x [] h (all_none P)
+
+pub all_mapped : {X Y : Type 0} (f : X → Y) (P : Y → Type 0) (xs : List X) → All (λ x. P (f x)) xs → All P (map f xs)
+all_mapped f P [] h k d within = absurd (omega (arith, within))
+all_mapped f P (x ∷ xs) h zero d within = h 0 x (omega arith)
+all_mapped f P (x ∷ xs) h (suc k) d within = all_mapped f P xs (λ j y less. h (suc j) y (omega (arith, less))) k d (omega (arith, within))
+
+-- of each of a list, where it holds of all that stand in it
+pub all_in : {X : Type 0} (P : X → Type 0) (xs : List X) → ((x : X) → In xs x → P x) → All P xs
+all_in P [] h k d within = absurd (omega (arith, within))
+all_in P (x ∷ xs) h zero d within = h x (inl refl)
+all_in P (x ∷ xs) h (suc k) d within = all_in P xs (λ y i. h y (inr i)) k d (omega (arith, within))
+
+pub in_at : {X : Type 0} (xs : List X) (k : ℕ) (d : X) → k < length xs → In xs (get_or xs k d)
+in_at [] k d within = absurd (omega (arith, within))
+in_at (x ∷ xs) zero d within = inl refl
+in_at (x ∷ xs) (suc k) d within = inr (in_at xs k d (omega (arith, within)))
+
+pub none_some : {X : Type 0} (x : X) → None ≡ Some x → ⊥
+none_some x h = cc
+
+pub some_same : {X : Type 0} (x y : X) → Some x ≡ Some y → x ≡ y
+some_same x y h = cc

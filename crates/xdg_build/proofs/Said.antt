@@ -1,0 +1,95 @@
+-- The features of an entry, by what their types say.
+use Rattle.std.proofs.Common.{◌≡◌, ℕ, zero, suc, ◌<◌, ◌+◌, List, [], ◌∷◌, length, get_or, map, refl, sym, ap, ◌∙◌, subst, arith}
+use Rattle.std.specs.Prelude.{Option, None, Some, MatchOption, slice_get}
+use Rattle.xdg_domain.specs.Defaults.{IsFilledIn, AreFilled}
+use Rattle.xdg_domain.specs.Shapes.{Shape, fields_of}
+use Rattle.xdg_domain.specs.Valencies.{said_at}
+use Rattle.xdg_domain.specs.Values.{IsIn, IsFieldOf, EachSaid}
+use Rattle.xdg_domain.specs.declared.values.Value.{Value, out-Value}
+use Rattle.xdg_domain.specs.declared.values.Value.TheVariants as v
+use Rattle.xdg_domain.proofs.Keyed.{said_right}
+use Rattle.xdg_types.specs.declared.table.DimType.{DimType}
+use Rattle.xdg_types.specs.Table.{Table, Typed, typed}
+use Rattle.xdg_packed.specs.Lexicon.{Record, Entry}
+use Rattle.xdg_packed.specs.Entries.{IsWhole, IsEntry, AreEntries, record_type}
+use Rattle.xdg_principles.specs.declared.building.PrincipleUse.{PrincipleUse}
+use Rattle.xdg_principles.specs.declared.principle.Sort.TheVariants as s
+use Rattle.xdg_principles.specs.declared.principle.Typing.{Typing}
+use Rattle.xdg_principles.specs.declared.principle.Which.{Which}
+use Rattle.xdg_principles.specs.Typed.{IsTypedAs, IsTypedMember, number_of, labels_at}
+use Rattle.xdg_problem.specs.declared.parts.Feat.{Feat}
+use Rattle.xdg_build.specs.Features.{rows_of, feature}
+use Rattle.xdg_build.specs.Grammars.{used_place}
+use Rattle.xdg_build.proofs.Dimensions.{Home, is_used_home, members-home}
+use Rattle.xdg_build.proofs.Forms.{AreOf}
+use Rattle.xdg_build.proofs.Lists.{none_some, some_same}
+use Rattle.xdg_build.proofs.Named.{AreMembers}
+use Rattle.xdg_build.proofs.TypeRows.{RowsFit, value_rows}
+
+-- ---- a record
+
+told : (o : Option Value) (P : Value → Type 0) → MatchOption o ⊥ P → (x : Value) × (o ≡ Some x) × P x
+told None P h = absurd h
+told (Some x) P h = (x, refl, h)
+
+same_type : (one : List ℕ × Shape) (name : List ℕ) (type : Shape) → Some one ≡ Some (name, type) → one.1 ≡ type
+same_type one name type h = ap (λ (f : List ℕ × Shape). f.1) (some_same one (name, type) h)
+
+pub filled_at : (all : Typed) (place at k : ℕ) (name : List ℕ) (type : Shape) (m : Record) → at ≡ place + k → slice_get all k ≡ Some (name, type) → AreFilled place (fields_of all) m → (x : Value) × (said_at m at ≡ Some x) × IsFilledIn type (out-Value x)
+filled_at [] place at k name type m same h filled = absurd (none_some (name, type) h)
+filled_at (one ∷ all) place at zero name type m same h filled =
+    let here : place ≡ at = omega (arith, same) in
+    told (said_at m at) (λ x. IsFilledIn type (out-Value x))
+    (subst (λ u. MatchOption (said_at m at) ⊥ (λ x. IsFilledIn u (out-Value x))) (same_type one name type h) (subst (λ n. MatchOption (said_at m n) ⊥ (λ x. IsFilledIn one.1 (out-Value x))) here filled.0))
+filled_at (one ∷ all) place at (suc k) name type m same h filled = filled_at all (place + 1) at k name type m (omega (arith, same)) h filled.1
+
+pub field_in : (all : Typed) (k : ℕ) (name : List ℕ) (type : Shape) (x : Value) → slice_get all k ≡ Some (name, type) → IsFieldOf (fields_of all) k x → IsIn type (out-Value x)
+field_in [] k name type x h is = absurd is
+field_in (one ∷ all) zero name type x h is = subst (λ u. IsIn u (out-Value x)) (same_type one name type h) is
+field_in (one ∷ all) (suc k) name type x h is = field_in all k name type x h is
+
+pub each_of : (dim : DimType) (m : Record) → IsWhole dim m → EachSaid (IsFieldOf (fields_of (typed dim.fields))) m
+each_of dim m whole = (subst (λ x. IsIn (record_type dim) x) (v.outs-Rec m) whole.0).1
+
+pub filled_of : (dim : DimType) (m : Record) → IsWhole dim m → AreFilled 0 (fields_of (typed dim.fields)) m
+filled_of dim m whole = subst (λ x. IsFilledIn (record_type dim) x) (v.outs-Rec m) whole.1
+
+pub zero_first : (k : ℕ) → k ≡ 0 + k
+zero_first k = omega arith
+
+said_rows : (labels : Which → List (List ℕ)) (shared : Shape) (typing : Typing) (dim : DimType) (m : Record) (place : ℕ) (name : List ℕ) (type : Shape) → IsWhole dim m → slice_get (typed dim.fields) place ≡ Some (name, type) → IsTypedAs labels shared typing type
+    → RowsFit labels shared typing (rows_of (said_at m place))
+said_rows labels shared typing dim m place name type whole stands is =
+    let said : (x : Value) × (said_at m place ≡ Some x) × IsFilledIn type (out-Value x) = filled_at (typed dim.fields) 0 place place name type m (zero_first place) stands (filled_of dim m whole) in
+    subst (λ o. RowsFit labels shared typing (rows_of o)) (sym said.1)
+    (value_rows labels shared typing type (out-Value said.0) is (field_in (typed dim.fields) place name type said.0 stands (said_right (IsFieldOf (fields_of (typed dim.fields))) m place said.0 (each_of dim m whole) said.1)) said.2)
+
+-- ---- an entry
+
+pub entry_at : (table : Table) (entries : List Entry) (n : ℕ) → AreEntries table entries → n < length entries → IsEntry table (get_or entries n [])
+entry_at table [] n h within = absurd (omega (arith, within))
+entry_at table (entry ∷ entries) zero h within = h.0
+entry_at table (entry ∷ entries) (suc n) h within = entry_at table entries n h.1 (omega (arith, within))
+
+feature_fits : (table : Table) (u : PrincipleUse) (shared : Shape) (which : Which) (typing : Typing) (entry : Entry) (place : ℕ) → number_of which < length u.dims → Home table (get_or u.dims (number_of which) 0) → IsEntry table entry
+    → IsTypedMember table u shared s.Feature which typing place → RowsFit (labels_at table u) shared typing (feature table entry (get_or u.dims (number_of which) 0) place).rows
+feature_fits table u shared which typing entry place within home is member =
+    said_rows (labels_at table u) shared typing home.dim (get_or entry (used_place table (get_or u.dims (number_of which) 0)) []) place member.name member.type
+    (is.each (used_place table (get_or u.dims (number_of which) 0)) home.dim (is_used_home table (get_or u.dims (number_of which) 0) home))
+    (sym (ap (λ all. slice_get all place) (members-home table u s.Feature which within home)) ∙ member.stands) member.wanted
+
+-- features with rows for these types
+abbrev pub FitAll : (Which → List (List ℕ)) → Shape → List (Which × Typing) → List Feat → Type 0
+FitAll labels shared [] [] = Unit {0}
+FitAll labels shared (one ∷ more) (f ∷ fs) = RowsFit labels shared one.1 f.rows × FitAll labels shared more fs
+FitAll labels shared _ _ = ⊥
+
+pub all_fit : (table : Table) (u : PrincipleUse) (shared : Shape) (which : Which) (entry : Entry) (ts : List (Which × Typing)) (ks : List ℕ) → number_of which < length u.dims → Home table (get_or u.dims (number_of which) 0) → IsEntry table entry
+    → AreOf which ts → AreMembers table u shared s.Feature ts ks → FitAll (labels_at table u) shared ts (map (λ place. feature table entry (get_or u.dims (number_of which) 0) place) ks)
+all_fit table u shared which entry [] [] within home is of h = tt
+all_fit table u shared which entry [] (k ∷ ks) within home is of h = absurd h
+all_fit table u shared which entry (t ∷ ts) [] within home is of h = absurd h
+all_fit table u shared which entry (t ∷ ts) (k ∷ ks) within home is of h = (
+  feature_fits table u shared which t.1 entry k within home is (subst (λ (x : Which). IsTypedMember table u shared s.Feature x t.1 k) of.0 h.0),
+  all_fit table u shared which entry ts ks within home is of.1 h.1,
+)

@@ -1,0 +1,155 @@
+-- The rows of the values of a type.
+use Rattle.std.proofs.Common.{◌≡◌, ℕ, ◌<◌, ◌≤◌, ◌+◌, List, [], ◌∷◌, length, map, refl, sym, ap, ◌∙◌, subst, inl, inr, arith}
+use Rattle.std.specs.Prelude.{All, Option, None, Some, MatchOption}
+use Rattle.std.specs.List.Sorted.{IsStrictlyIncreasing}
+use Rattle.std.proofs.lemmas.Bool.{cases_eq}
+use Rattle.std.proofs.lemmas.List.{length-map}
+use Rattle.xdg_domain.specs.Cards.{IsCards, Rises}
+use Rattle.xdg_domain.specs.Defaults.{IsFilledIn}
+use Rattle.xdg_domain.specs.Shapes.{Shape, domain, tuple, set, iset, valency, mapping, Shapes, no_shape, shape_then, constants, constants_of, sizes, product, count}
+use Rattle.xdg_domain.specs.Valencies.{said_at, KeysRise}
+use Rattle.xdg_domain.specs.Values.{IsIn, AllBelow, EachSaid}
+use Rattle.xdg_domain.specs.declared.values.Value.{Value, out-Value}
+use Rattle.xdg_domain.specs.declared.values.Value.TheOpen.{Value-F}
+use Rattle.xdg_domain.proofs.Keyed.{unsaid, after_head}
+use Rattle.xdg_principles.specs.declared.principle.Element.{Element}
+use Rattle.xdg_principles.specs.declared.principle.Element.TheVariants as e
+use Rattle.xdg_principles.specs.declared.principle.Typing.{Typing}
+use Rattle.xdg_principles.specs.declared.principle.Typing.TheVariants as t
+use Rattle.xdg_principles.specs.declared.principle.Which.{Which}
+use Rattle.xdg_principles.specs.Typed.{IsElementOf, IsTypedAs}
+use Rattle.xdg_principles.specs.Wanted.{IsSame, IsSetOf}
+use Rattle.xdg_problem.specs.Problems.{IsCardinality, IsSet}
+use Rattle.xdg_build.specs.Features.{members_in, rows_in}
+use Rattle.xdg_build.proofs.Cardinalities.{increases}
+use Rattle.xdg_build.proofs.Lists.{all_none, all_cons, all_one}
+
+-- ---- how many elements
+
+pub sizes_again : (ss : Shapes) → sizes ss ≡ map length (constants_of ss)
+sizes_again no_shape = refl
+sizes_again (shape_then s ss) = ap (λ ns. length (constants s) ∷ ns) (sizes_again ss)
+
+-- types that are the same have as many values
+pub same_count : (s u : Shape) → IsSame s u → count u ≡ count s
+same_count (domain cs) (domain ds) h = ap length (sym h)
+same_count (tuple ss) (tuple us) h = ap product (sizes_again us ∙ ap (map length) (sym h) ∙ sym (sizes_again ss))
+same_count _ _ h = absurd h
+
+abbrev pub size : (Which → List (List ℕ)) → Shape → Element → ℕ
+size labels shared (e.Labels which) = length (labels which)
+size labels shared e.Shared = count shared
+
+element_size : (labels : Which → List (List ℕ)) (shared : Shape) (element : Element) (s : Shape) → IsElementOf labels shared element s → count s ≡ size labels shared element
+element_size labels shared (e.Labels which) s h = ap count h
+element_size labels shared e.Shared s h = same_count shared s h
+
+-- ---- cardinalities and sets
+
+some_numbers : (ns : List ℕ) → (ns ≡ [] → ⊥) → 0 < length ns
+some_numbers [] h = absurd (h refl)
+some_numbers (n ∷ ns) h = omega arith
+
+rises_small : (low bound most : ℕ) (ns : List ℕ) → bound ≤ most + 1 → Rises low bound ns → All (λ number. number ≤ most) ns
+rises_small low bound most [] same h = all_none (λ number. number ≤ most)
+rises_small low bound most (n ∷ ns) same (a, b, c) = all_cons (λ number. number ≤ most) n ns (omega (arith, b, same)) (rises_small (n + 1) bound most ns same c)
+
+cardinality : (ns : List ℕ) → IsCards ns → IsCardinality ns
+cardinality ns h = record { some = some_numbers ns h.some; rising = increases ns h; small = rises_small 0 128 127 ns (omega arith) h.rises }
+
+all_below : (bound : ℕ) (ns : List ℕ) → AllBelow bound ns → All (λ number. number < bound) ns
+all_below bound [] h = all_none (λ number. number < bound)
+all_below bound (n ∷ ns) h = all_cons (λ number. number < bound) n ns h.0 (all_below bound ns h.1)
+
+below_along : (a b : ℕ) (ns : List ℕ) → a ≡ b → AllBelow a ns → AllBelow b ns
+below_along a b ns same h = subst (λ n. AllBelow n ns) same h
+
+set_right : (bound : ℕ) (ns : List ℕ) → IsStrictlyIncreasing ns → AllBelow bound ns → IsSet bound ns
+set_right bound ns rising h = record { rising = rising; small = all_below bound ns h }
+
+-- ---- what is said of each key
+
+pub is_said : {V : Type 0} (Q : V → Type 0) (o : Option V) → MatchOption o ⊥ Q → o ≡ None → ⊥
+is_said Q None h is = h
+is_said Q (Some x) h is = absurd (cc is)
+
+-- where something is said of each key below the bound and of no other, there is one row for each
+one_each : {V : Type 0} (P : ℕ → V → Type 0) (low bound : ℕ) (m : List (ℕ × V)) → low ≤ bound → ((key : ℕ) (v : V) → P key v → key < bound) → KeysRise low m → EachSaid P m
+    → ((key : ℕ) → low ≤ key → key < bound → said_at m key ≡ None → ⊥) → low + length m ≡ bound
+one_each P low bound [] order below rises each said = elim (cases_eq low bound) [
+  | inl same ↦ omega (arith, same)
+  | inr other ↦ absurd (said low (omega arith) (omega (arith, order, other)) refl)
+]
+one_each P low bound (x ∷ m) order below rises each said = elim (cases_eq x.0 low) [
+  | inl same ↦
+      let within : x.0 < bound = below x.0 x.1 each.0 in
+      let rest : x.0 + 1 + length m ≡ bound = one_each P (x.0 + 1) bound m (omega (arith, within)) below rises.1 each.1
+      (λ key above less none. said key (omega (arith, above, same)) less (after_head x m key (λ i. omega (arith, i, above)) ∙ none)) in
+      omega (arith, rest, same)
+  | inr other ↦
+      let within : x.0 < bound = below x.0 x.1 each.0 in
+      absurd (said low (omega arith) (omega (arith, within, rises.0)) (unsaid x.0 low (x ∷ m) (omega (arith, other, rises.0)) (omega arith, rises.1)))
+]
+
+each_row : {V : Type 0} (P : ℕ → V → Type 0) (Q : List ℕ → Type 0) (row : V → List ℕ) (m : List (ℕ × V)) → ((key : ℕ) (v : V) → P key v → Q (row v)) → EachSaid P m → All Q (map (λ said. row said.1) m)
+each_row P Q row [] right each = all_none Q
+each_row P Q row (x ∷ m) right each = all_cons Q (row x.1) (map (λ said. row said.1) m) (right x.0 x.1 each.0) (each_row P Q row m right each.1)
+
+-- ---- rows
+
+-- the rows of a value of such a type
+abbrev pub RowsFit : (Which → List (List ℕ)) → Shape → Typing → List (List ℕ) → Type 0
+RowsFit labels shared (t.One element) rows = Unit {0}
+RowsFit labels shared (t.Set element) rows = (length rows ≡ 1) × All (IsSet (size labels shared element)) rows
+RowsFit labels shared (t.Valency which) rows = (length rows ≡ length (labels which)) × All IsCardinality rows
+RowsFit labels shared (t.Map which element) rows = (length rows ≡ length (labels which)) × All (IsSet (size labels shared element)) rows
+
+set_rows : (bound : ℕ) (s : Shape) (v : Value-F Value) → count s ≡ bound → IsIn (set s) v → (length (rows_in v) ≡ 1) × All (IsSet bound) (rows_in v)
+set_rows bound s (Value-F.Set ns) same h = (refl, all_one (IsSet bound) ns (set_right bound ns h.0 (below_along (count s) bound ns same h.1)))
+set_rows bound s _ same h = absurd h
+
+iset_rows : (bound : ℕ) (s : Shape) (v : Value-F Value) → count s ≡ bound → IsIn (iset s) v → (length (rows_in v) ≡ 1) × All (IsSet bound) (rows_in v)
+iset_rows bound s (Value-F.Set ns) same h = (refl, all_one (IsSet bound) ns (set_right bound ns h.0 (below_along (count s) bound ns same h.1)))
+iset_rows bound s _ same h = absurd h
+
+none_more : (a b : ℕ) → 0 + a ≡ b → a ≡ b
+none_more a b h = omega (arith, h)
+
+valency_rows : (keys : List (List ℕ)) (v : Value-F Value) → IsIn (valency (domain keys)) v → IsFilledIn (valency (domain keys)) v → (length (rows_in v) ≡ length keys) × All IsCardinality (rows_in v)
+valency_rows keys (Value-F.Valency m) h filled = (
+  length-map m (λ said. said.1) ∙ none_more (length m) (length keys) (one_each (λ key ns. (key < length keys) × IsCards ns) 0 (length keys) m (omega arith) (λ key ns p. p.0) h.0 h.1 (λ key _ less none. is_said (λ ns. Unit {0}) (said_at m key) (filled key less) none)),
+  each_row (λ key ns. (key < length keys) × IsCards ns) IsCardinality (λ ns. ns) m (λ key ns p. cardinality ns p.1) h.1,
+)
+valency_rows keys _ h filled = absurd h
+
+member_rows : (bound : ℕ) (u : Shape) (v : Value-F Value) (P : Shape → Type 0) → ((s : Shape) → P s → count s ≡ bound) → IsSetOf P u → IsIn u v → IsSet bound (members_in v)
+member_rows bound (set s) (Value-F.Set ns) P same is h = set_right bound ns h.0 (below_along (count s) bound ns (same s is) h.1)
+member_rows bound (iset s) (Value-F.Set ns) P same is h = set_right bound ns h.0 (below_along (count s) bound ns (same s is) h.1)
+member_rows bound (set s) _ P same is h = absurd h
+member_rows bound (iset s) _ P same is h = absurd h
+member_rows bound _ v P same is h = absurd is
+
+map_rows : (keys : List (List ℕ)) (bound : ℕ) (u : Shape) (v : Value-F Value) (P : Shape → Type 0) → ((s : Shape) → P s → count s ≡ bound) → IsSetOf P u → IsIn (mapping (domain keys) u) v → IsFilledIn (mapping (domain keys) u) v
+    → (length (rows_in v) ≡ length keys) × All (IsSet bound) (rows_in v)
+map_rows keys bound u (Value-F.Map m) P same is h filled = (
+  length-map m (λ said. members_in (out-Value said.1))
+      ∙ none_more (length m) (length keys) (one_each (λ key v. (key < length keys) × IsIn u (out-Value v)) 0 (length keys) m (omega arith) (λ key v p. p.0) h.0 h.1 (λ key _ less none. is_said (λ v. IsFilledIn u (out-Value v)) (said_at m key) (filled key less) none)),
+  each_row (λ key v. (key < length keys) × IsIn u (out-Value v)) (IsSet bound) (λ v. members_in (out-Value v)) m (λ key v p. member_rows bound u (out-Value v) P same is p.1) h.1,
+)
+map_rows keys bound u _ P same is h filled = absurd h
+
+mapped : (labels : Which → List (List ℕ)) (shared : Shape) (which : Which) (element : Element) (k u : Shape) (v : Value-F Value) → k ≡ domain (labels which) → IsSetOf (IsElementOf labels shared element) u → IsIn (mapping k u) v → IsFilledIn (mapping k u) v
+    → RowsFit labels shared (t.Map which element) (rows_in v)
+mapped labels shared which element k u v same is h filled =
+    map_rows (labels which) (size labels shared element) u v (IsElementOf labels shared element) (element_size labels shared element) is
+    (subst (λ key. IsIn (mapping key u) v) same h) (subst (λ key. IsFilledIn (mapping key u) v) same filled)
+
+pub value_rows : (labels : Which → List (List ℕ)) (shared : Shape) (typing : Typing) (type : Shape) (v : Value-F Value) → IsTypedAs labels shared typing type → IsIn type v → IsFilledIn type v → RowsFit labels shared typing (rows_in v)
+value_rows labels shared (t.One element) type v is h filled = tt
+value_rows labels shared (t.Set element) (set s) v is h filled = set_rows (size labels shared element) s v (element_size labels shared element s is) h
+value_rows labels shared (t.Set element) (iset s) v is h filled = iset_rows (size labels shared element) s v (element_size labels shared element s is) h
+value_rows labels shared (t.Set element) _ v is h filled = absurd is
+value_rows labels shared (t.Valency which) type v is h filled =
+    valency_rows (labels which) v (subst (λ s. IsIn s v) is h) (subst (λ s. IsFilledIn s v) is filled)
+value_rows labels shared (t.Map which element) (mapping k u) v is h filled = mapped labels shared which element k u v is.0 is.1 h filled
+value_rows labels shared (t.Map which element) _ v is h filled = absurd is

@@ -1,0 +1,140 @@
+-- The used dimensions of a grammar, by their places and their names, and the dimensions of a problem.
+use Rattle.std.proofs.Common.{◌≡◌, ℕ, zero, suc, ◌<◌, Bool, true, false, cond, inl, inr, List, [], ◌∷◌, length, get_or, map, Some, refl, sym, ap, ap₂, ◌∙◌, subst, arith}
+use Rattle.std.specs.Prelude.{◌==◌, Contains, bytes_eq, filter, if◌then◌else◌, slice_index_or}
+use Rattle.std.specs.List.{AllZip}
+use Rattle.std.proofs.lemmas.Bool.{cases_eq, eq-eqb, ne_eqb}
+use Rattle.std.proofs.lemmas.List.{get_or-map, length-map}
+use Rattle.std.proofs.lemmas.List.Elements.{All-contains}
+use Rattle.std.proofs.lemmas.Slice.Eq.{bytes_eq-Decides}
+use Rattle.xdg_domain.specs.Shapes.{Shape, shape}
+use Rattle.xdg_domain.specs.declared.types.Ty.{Ty}
+use Rattle.xdg_problem.specs.declared.analysis.Analysis.{Analysis}
+use Rattle.xdg_problem.specs.declared.analysis.Edge.{Edge}
+use Rattle.xdg_problem.specs.declared.parts.Parts.{Parts}
+use Rattle.xdg_problem.specs.Analyses.{IsAnalysis, IsPlace}
+use Rattle.xdg_problem.specs.Arguments.{label_count, attr_count, no_plan}
+use Rattle.xdg_problem.specs.Paths.{edges_on}
+use Rattle.xdg_types.specs.declared.table.DimType.{DimType}
+use Rattle.xdg_types.specs.Table.{Table, IsTable, HasPlace, ArePlaces, typed}
+use Rattle.xdg_build.specs.Grammars.{Grammar}
+use Rattle.xdg_build.specs.Plans.{attr_plan}
+use Rattle.xdg_build.specs.Readings.{dimension, edges_in}
+use Rattle.xdg_build.proofs.Different.{one_place}
+use Rattle.xdg_build.proofs.Readings.{stands_at}
+use Rattle.xdg_formula.specs.Tables.{dim_named, no_dim, used_dims}
+use Rattle.xdg_packed.specs.Lexicon.{Lexicon}
+use Rattle.xdg_build.specs.Places.{IsDimAt}
+use Rattle.xdg_build.specs.Problems.{IsPlanOf, IsFor}
+use Rattle.xdg_build.specs.Truths.{IsCalled}
+
+-- ---- lists side by side
+
+zip_at : {A B : Type 0} (R : A → B → Type 0) (xs : List A) (ys : List B) (i : ℕ) (d : A) (e : B) → AllZip R xs ys → i < length xs → R (get_or xs i d) (get_or ys i e)
+zip_at R [] ys i d e zip l = absurd (omega (arith, l))
+zip_at R (x ∷ xs) [] i d e zip l = absurd zip
+zip_at R (x ∷ xs) (y ∷ ys) zero d e zip l = zip.0
+zip_at R (x ∷ xs) (y ∷ ys) (suc i) d e zip l = zip_at R xs ys i d e zip.1 (omega (arith, l))
+
+zip_long : {A B : Type 0} (R : A → B → Type 0) (xs : List A) (ys : List B) → AllZip R xs ys → length xs ≡ length ys
+zip_long R [] [] zip = refl
+zip_long R [] (y ∷ ys) zip = absurd zip
+zip_long R (x ∷ xs) [] zip = absurd zip
+zip_long R (x ∷ xs) (y ∷ ys) zip = ap suc (zip_long R xs ys zip.1)
+
+-- ---- places of used dimensions
+
+pub below_of : (bound : ℕ) (used : List ℕ) (k : ℕ) → ArePlaces bound used → HasPlace used k → k < bound
+below_of bound [] k are has = absurd has
+below_of bound (j ∷ used) k are has = elim has [ inl same ↦ subst (λ m. m < bound) same are.0.0 | inr later ↦ below_of bound used k are.1 later ]
+
+-- no dimension is used twice
+differ_at : (bound : ℕ) (used : List ℕ) (i j : ℕ) → ArePlaces bound used → i < length used → j < length used → get_or used i 0 ≡ get_or used j 0 → i ≡ j
+differ_at bound [] i j are l m same = absurd (omega (arith, l))
+differ_at bound (k ∷ used) zero zero are l m same = refl
+differ_at bound (k ∷ used) zero (suc j) are l m same = (let n : j < length used = omega (arith, m) in absurd (are.0.1 (subst (HasPlace used) (sym same) (stands_at used j n))))
+differ_at bound (k ∷ used) (suc i) zero are l m same = (let n : i < length used = omega (arith, l) in absurd (are.0.1 (subst (HasPlace used) same (stands_at used i n))))
+differ_at bound (k ∷ used) (suc i) (suc j) are l m same = ap suc (differ_at bound used i j are.1 (omega (arith, l)) (omega (arith, m)) same)
+
+-- ---- dimensions by their names
+
+pub dim_named_is : (dims : List DimType) (name : List ℕ) (found : DimType) → dim_named dims name ≡ Some found → found.name ≡ name
+dim_named_is [] name found h = absurd (cc)
+dim_named_is (dim ∷ dims) name found h = by (bytes_eq dim.name name) refl h (dim_named_is dims name found)
+  where
+    by : (b : Bool) → bytes_eq dim.name name ≡ b → (if b then Some dim else dim_named dims name) ≡ Some found → (dim_named dims name ≡ Some found → found.name ≡ name) → found.name ≡ name
+    by true e is later = (let same : dim ≡ found = cc in ap (λ (one : DimType). one.name) (sym same) ∙ (bytes_eq-Decides dim.name name).0 e)
+    by false e is later = later is
+
+module _ (table : Table) (lexicon : Lexicon) (is : IsTable table) where
+  abbrev g : Grammar
+  g = record { table = table; uses = []; lexicon = lexicon }
+
+  -- the place among all of the used dimension with that place among the used ones
+  abbrev pub among_all : ℕ → ℕ
+  among_all d = get_or table.used d 0
+
+  used_long : length (used_dims table) ≡ length table.used
+  used_long = length-map table.used (dimension g)
+
+  pub used_within : (d : ℕ) → d < length (used_dims table) → d < length table.used
+  used_within d l = omega (arith, l, used_long)
+
+  pub used_is : (d : ℕ) → d < length (used_dims table) → get_or (used_dims table) d no_dim ≡ dimension g (among_all d)
+  used_is d l = get_or-map (dimension g) table.used d 0 no_dim (used_within d l)
+
+  module _ (nodes : ℕ) (a : Analysis) (name : List ℕ) (d : ℕ) (at : IsDimAt (used_dims table) name d) where
+    called : (dimension g (among_all d)).name ≡ name
+    called = ap (λ (dim : DimType). dim.name) (sym (used_is d at.within)) ∙ dim_named_is (used_dims table) name (get_or (used_dims table) d no_dim) at.is
+
+    pub is_called : IsCalled table lexicon nodes a name (among_all d)
+    is_called = (stands_at table.used d (used_within d at.within), called)
+
+    -- no other dimension has the name
+    pub one_called : (k : ℕ) → IsCalled table lexicon nodes a name k → k ≡ among_all d
+    one_called k other =
+        let here : k < length table.dims = below_of (length table.dims) table.used k is.used other.0 in
+        let there : among_all d < length table.dims = below_of (length table.dims) table.used (among_all d) is.used is_called.0 in
+        let long : length (map (λ (dim : DimType). dim.name) table.dims) ≡ length table.dims = length-map table.dims (λ (dim : DimType). dim.name) in
+        one_place (map (λ (dim : DimType). dim.name) table.dims) k (among_all d) is.names (omega (arith, here, long)) (omega (arith, there, long))
+        (get_or-map (λ (dim : DimType). dim.name) table.dims k no_dim [] here ∙ other.1 ∙ sym called ∙ sym (get_or-map (λ (dim : DimType). dim.name) table.dims (among_all d) no_dim [] there))
+
+-- ---- the dimensions of a problem
+
+module _ (table : Table) (lexicon : Lexicon) (parts : Parts) (is : IsTable table) (for_it : IsFor table lexicon parts) where
+  abbrev h : Grammar
+  h = record { table = table; uses = []; lexicon = lexicon }
+
+  pub dims_long : length (used_dims table) ≡ length parts.dims
+  dims_long = zip_long IsPlanOf (used_dims table) parts.dims for_it.dims
+
+  pub plan_of : (d : ℕ) → d < length (used_dims table) → IsPlanOf (dimension h (among_all table lexicon is d)) (slice_index_or parts.dims d no_plan)
+  plan_of d l = subst (λ (dim : DimType). IsPlanOf dim (get_or parts.dims d no_plan)) (used_is table lexicon is d l) (zip_at IsPlanOf (used_dims table) parts.dims d no_dim no_plan for_it.dims l)
+
+  pub labels_are : (d : ℕ) → d < length (used_dims table) → label_count parts d ≡ length (dimension h (among_all table lexicon is d)).labels
+  labels_are d l = ap length (plan_of d l).labels
+
+  pub attrs_are : (d : ℕ) → d < length (used_dims table) → attr_count parts d ≡ length (dimension h (among_all table lexicon is d)).attrs
+  attrs_are d l =
+      ap length (plan_of d l).attrs
+      ∙ length-map (typed (dimension h (among_all table lexicon is d)).attrs) (λ (attr : List ℕ × Shape). attr_plan attr.0 attr.1)
+      ∙ length-map (dimension h (among_all table lexicon is d)).attrs (λ (one : List ℕ × Ty). (one.0, shape one.1))
+
+  -- ---- edges
+
+  module _ (a : Analysis) (fits : IsAnalysis parts a) where
+    filter_same : (p q : Edge → Bool) (es : List Edge) → ((e : Edge) → Contains es e → p e ≡ q e) → filter p es ≡ filter q es
+    filter_same p q [] same = refl
+    filter_same p q (e ∷ es) same = ap₂ (λ (b : Bool) (more : List Edge). cond b (e ∷ more) more) (same e (0, omega arith, refl)) (filter_same p q es (λ f stands. same f (later f stands)))
+      where
+        later : (f : Edge) → Contains es f → Contains (e ∷ es) f
+        later f stands = (let within : stands.0 < length es = stands.1 in (suc stands.0, omega (arith, within), stands.2))
+
+    edge_dim : (e : Edge) → Contains a.edges e → e.dim.0 < length table.used
+    edge_dim e stands = (let l : e.dim.0 < length parts.dims = (All-contains (IsPlace parts) a.edges e fits.places stands).dim in omega (arith, l, dims_long, used_long table lexicon is))
+
+    pub edges_same : (d : ℕ) → d < length (used_dims table) → edges_on d a.edges ≡ edges_in h a (among_all table lexicon is d)
+    edges_same d l = filter_same (λ e. e.dim.0 == d) (λ e. get_or table.used e.dim.0 0 == among_all table lexicon is d) a.edges (λ e stands. elim (cases_eq e.dim.0 d) [
+      | inl same ↦ eq-eqb e.dim.0 d same ∙ sym (eq-eqb (get_or table.used e.dim.0 0) (among_all table lexicon is d) (ap (λ i. get_or table.used i 0) same))
+      | inr other ↦ ne_eqb e.dim.0 d other ∙ sym (ne_eqb (get_or table.used e.dim.0 0) (among_all table lexicon is d)
+          (λ same. other (differ_at (length table.dims) table.used e.dim.0 d is.used (edge_dim e stands) (used_within table lexicon is d l) same)))
+    ])

@@ -1,0 +1,87 @@
+-- Principle uses compiled.
+use Rattle.std.specs.Prelude.{ℕ, Bool, List, [], ◌∷◌, cond, map, filter, flat_map, get_or, bytes_eq}
+use Rattle.xdg_base.specs.declared.ids.AttrId.{AttrId}
+use Rattle.xdg_base.specs.declared.ids.DimId.{DimId}
+use Rattle.xdg_base.specs.declared.ids.EntryNo.{EntryNo}
+use Rattle.xdg_base.specs.declared.ids.LabelId.{LabelId}
+use Rattle.xdg_problem.specs.declared.parts.Feat.{Feat}
+use Rattle.xdg_problem.specs.declared.parts.Group.{Group}
+use Rattle.xdg_problem.specs.declared.parts.Principle.{Principle}
+use Rattle.xdg_problem.specs.declared.parts.Principle.TheVariants as principles
+use Rattle.xdg_problem.specs.Names.{name_of}
+use Rattle.xdg_principles.specs.declared.building.Arg.{Arg}
+use Rattle.xdg_principles.specs.declared.building.Arg.TheVariants as g
+use Rattle.xdg_principles.specs.declared.building.PrincipleUse.{PrincipleUse}
+use Rattle.xdg_packed.specs.Lexicon.{Entry}
+use Rattle.xdg_build.specs.Grammars.{Grammar, is_used, used_place}
+use Rattle.xdg_build.specs.Features.{feature, feature_dim}
+
+-- ---- principles by name
+
+abbrev pub all_principles : List Principle
+all_principles =
+    principles.Graph ∷ principles.Entries ∷ principles.Tree ∷ principles.Dag ∷ principles.Valency ∷ principles.Order ∷ principles.Projectivity
+    ∷ principles.Agr ∷ principles.Agreement ∷ principles.Government ∷ principles.Climbing ∷ principles.Barriers
+    ∷ principles.LinkingEnd ∷ principles.LinkingDaughter ∷ principles.LinkingMother ∷ principles.LinkingBelowStart ∷ principles.LinkingAboveStart
+    ∷ principles.LinkingSisters ∷ principles.LinkingNotDaughter ∷ []
+
+-- the first of these principles with that name, and graph where there is none
+abbrev pub called_in : List Principle → List ℕ → Principle
+called_in [] name = principles.Graph
+called_in (p ∷ more) name = cond (bytes_eq (name_of p) name) p (called_in more name)
+
+-- the principle with that name
+abbrev pub called : List ℕ → Principle
+called name = called_in all_principles name
+
+-- ---- arguments
+
+abbrev pub features_in : Arg → List ℕ
+features_in (g.Feature k) = k ∷ []
+features_in _ = []
+
+abbrev pub attrs_in : Arg → List AttrId
+attrs_in (g.Attr k) = record { 0 = k } ∷ []
+attrs_in _ = []
+
+abbrev pub labels_in : Arg → List LabelId
+labels_in (g.Labels ns) = map (λ n. record { 0 = n }) ns
+labels_in _ = []
+
+abbrev pub truths_in : Arg → List Bool
+truths_in (g.Truth b) = b ∷ []
+truths_in _ = []
+
+-- the dimensions of a use, among the used ones
+abbrev pub dims_of : Grammar → PrincipleUse → List DimId
+dims_of g u = map (λ k. record { 0 = used_place g.table k }) u.dims
+
+-- ---- features
+
+-- the features that a principle use takes of an entry
+abbrev pub features_of : Grammar → PrincipleUse → Entry → List Feat
+features_of g u entry = map (λ place. feature g.table entry (get_or u.dims (feature_dim (called u.principle)) 0) place) (flat_map features_in u.args)
+
+-- of the entry with that number
+abbrev pub features_at : Grammar → PrincipleUse → EntryNo → List Feat
+features_at g u entry = features_of g u (get_or g.lexicon.entries entry.0 [])
+
+-- ---- groups
+
+-- a principle use over nodes that may have these entries
+abbrev pub group_of : Grammar → List (List EntryNo) → PrincipleUse → Group
+group_of g candidates u = record {
+  principle = called u.principle;
+  dims = dims_of g u;
+  attrs = flat_map attrs_in u.args;
+  order = flat_map labels_in u.args;
+  truths = flat_map truths_in u.args;
+  feats = map (λ numbers. map (features_at g u) numbers) candidates;
+}
+
+-- the uses of principles in used dimensions, in the order of the text
+abbrev pub used_uses : Grammar → List PrincipleUse
+used_uses g = filter (λ u. is_used g.table u.home) g.uses
+
+abbrev pub groups_of : Grammar → List (List EntryNo) → List Group
+groups_of g candidates = map (group_of g candidates) (used_uses g)

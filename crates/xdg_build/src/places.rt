@@ -1,0 +1,98 @@
+//! Principles by name, and dimensions by their places among the used ones.
+
+ghost use Rattle.std.specs.Prelude.{◌≡◌, ◌≤◌, ◌==◌, length, map, get_or, IfOk};
+ghost use Rattle.std.specs.List.{list_any};
+ghost use Rattle.xdg_base.specs.declared.ids.DimId.{DimId};
+ghost use Rattle.xdg_build.specs.Features as features;
+ghost use Rattle.xdg_build.specs.Grammars as grammars;
+ghost use Rattle.xdg_build.specs.Groups as groups;
+
+use std::alloc::{AllocError, Global};
+use xdg_base::{DimId, List};
+use xdg_problem::{Principle, principle_named};
+
+/// The principle with that name, and graph where there is none.
+pub(crate) fn principle_called(name: &str) -> Principle
+    ensures { result ≡ groups.called name.now }
+{
+    match principle_named(name) {
+        None => Principle::Graph,
+        Some(principle) => principle,
+    }
+}
+
+/// Which of a principle's dimensions has its features.
+fn feature_dim(principle: &Principle) -> usize
+    ensures { result ≡ features.feature_dim principle.now }
+{
+    match principle {
+        Principle::Barriers => 1,
+        Principle::LinkingEnd
+        | Principle::LinkingDaughter
+        | Principle::LinkingMother
+        | Principle::LinkingBelowStart
+        | Principle::LinkingAboveStart
+        | Principle::LinkingSisters
+        | Principle::LinkingNotDaughter => 2,
+        Principle::Graph
+        | Principle::Entries
+        | Principle::Tree
+        | Principle::Dag
+        | Principle::Valency
+        | Principle::Order
+        | Principle::Projectivity
+        | Principle::Agr
+        | Principle::Agreement
+        | Principle::Government
+        | Principle::Climbing
+        | Principle::Rule(_)
+        | Principle::Bound(_, _) => 0,
+    }
+}
+
+/// Whether the dimension with that place among all is used.
+pub(crate) fn is_used(used: &[usize], place: usize) -> bool
+    ensures { result ≡ list_any (λ one. one == place) used.now }
+{
+    used.iter().any(|one| *one == place)
+}
+
+/// The place of a dimension among the used ones, and how many there are where it isn't used.
+#[tactic(auto, using(crate::proofs::ListTurns::place_here, crate::proofs::ListTurns::place_passed))]
+pub(crate) fn place_in(used: &[usize], place: usize) -> usize
+    ensures place { result ≡ grammars.place_in used.now place }
+    ensures within { result ≤ length used.now }
+{
+    for (at, one) in used.iter().enumerate() {
+        if *one == place {
+            return at;
+        }
+    }
+    used.len()
+}
+
+/// The place among the used ones of the dimension that has the features of a principle with these dimensions.
+pub(crate) fn feature_place(used: &[usize], principle: &Principle, dims: &[usize]) -> usize
+    ensures { result ≡ grammars.place_in used.now (get_or dims.now (features.feature_dim principle.now) 0) }
+{
+    match dims.get(feature_dim(principle)) {
+        None => place_in(used, 0),
+        Some(place) => place_in(used, *place),
+    }
+}
+
+/// The same of each of these dimensions.
+pub(crate) fn dims_in(
+    alloc: Global,
+    used: &[usize],
+    places: &[usize],
+) -> Result<List<DimId>, AllocError>
+    requires { length used.now ≤ 8 }
+    ensures { IfOk result (λ made. made ≡ map (λ k. record { 0 = grammars.place_in used.now k }) places.now) }
+{
+    let mut made = List::new(alloc);
+    for place in places {
+        made.push(DimId(place_in(used, *place) as u8))?;
+    }
+    Ok(made)
+}

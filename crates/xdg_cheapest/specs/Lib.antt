@@ -1,4 +1,0 @@
-pub mod Texts
-pub mod Costed
-pub mod Outcomes
-pub mod Runs

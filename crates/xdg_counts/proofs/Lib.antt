@@ -1,4 +1,0 @@
-pub mod Tallies
-pub mod Tallying
-pub mod OneCount
-pub mod Sound

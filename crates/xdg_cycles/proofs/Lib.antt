@@ -1,8 +1,0 @@
-pub mod Climbs
-pub mod Marks
-pub mod Closed
-pub mod Walking
-pub mod Merging
-pub mod Leaving
-pub mod Numbered
-pub mod Laws

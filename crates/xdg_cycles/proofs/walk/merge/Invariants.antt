@@ -1,9 +1,0 @@
-use Rattle.std.proofs.Common.{length}
-use Rattle.xdg_cycles.proofs.Merging.{IsMerging}
-use Rattle.xdg_cycles.proofs.walk.merge.Given as goal
-
-abbrev pub invariant-merge : goal.invariant-merge
-invariant-merge l = IsMerging l.marks l.top l.fn.starts.items l.starts.items
-
-abbrev pub decreases-merge : goal.decreases-merge
-decreases-merge l = length l.starts.items

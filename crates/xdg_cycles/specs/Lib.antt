@@ -1,3 +1,0 @@
-pub mod Leads
-pub mod Closing
-pub mod Walks

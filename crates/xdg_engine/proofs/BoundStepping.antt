@@ -1,0 +1,65 @@
+-- A whole step of the propagator of a bound.
+use Rattle.std.proofs.Common.{◌≡◌, ◌↔◌, ℕ, ◌<◌, List, length, get_or, sym, ap, ◌∙◌, arith, subst}
+use Rattle.std.proofs.lemmas.List.{get_or_default}
+use Rattle.xdg_problem.specs.declared.parts.Group.{Group}
+use Rattle.xdg_problem.specs.declared.parts.Parts.{Parts}
+use Rattle.xdg_problem.specs.Problems.{IsGroup}
+use Rattle.xdg_rules.specs.Rules.{IsClosedFor}
+use Rattle.xdg_store.specs.States.{State, Known}
+use Rattle.xdg_propcore.specs.Passes.{Progress, Goes, IsQuiet, Answers, untouched}
+use Rattle.xdg_propcore.specs.Steps.{Extends, Keeps, Moves}
+use Rattle.xdg_propcore.specs.Uses.{IsClosedBy, StandsFor, StandsIn, use_at, no_use}
+use Rattle.xdg_propcore.specs.declared.moved.Moved.{Moved}
+use Rattle.xdg_propcore.specs.declared.moved.Moved.TheVariants as moves
+use Rattle.xdg_propcore.proofs.Passing.{turned, step_extends, step_keeps, step_same, step_moves}
+use Rattle.xdg_propcore.specs.Sweeps.{Sweeps}
+use Rattle.xdg_engine.specs.Bounding.{BoundAt, HoldsBound}
+
+-- the principle use at a number
+pub use_found : (parts : Parts) (number : ℕ) (groups : List Group) (group : Group) → number < length parts.groups → groups ≡ parts.groups → group ≡ get_or groups number group → use_at parts number ≡ group
+use_found parts number groups group l groups_is at = get_or_default parts.groups number no_use group l ∙ sym (at ∙ ap (λ gs. get_or gs number group) groups_is)
+
+module _ (number bound : ℕ) (entries labels : List (List ℕ)) (turns : ℕ) (old t : State) (stands : StandsIn (BoundAt number bound entries labels) old.parts) (turn_is : t ≡ turned old turns) (known : Known t) (groups : List Group) (shown problem : Parts) (groups_is : groups ≡ shown.groups) (same : shown ≡ problem) (parts_is : problem ≡ t.parts) where
+  mine : StandsFor (BoundAt number bound entries labels) old.parts number
+  mine = subst (StandsFor (BoundAt number bound entries labels) old.parts) stands.1.1.number_is stands.1
+
+  parts_stay : t.parts ≡ old.parts
+  parts_stay = ap (λ (s : State). s.parts) turn_is
+
+  all_groups : groups ≡ old.parts.groups
+  all_groups = groups_is ∙ ap (λ (p : Parts). p.groups) (same ∙ (parts_is ∙ parts_stay))
+
+  pub number_within : number < length groups
+  number_within = (let l = mine.0 in let e = ap length all_groups in omega (arith, l, e))
+
+  module _ (group : Group) (at : group ≡ get_or groups number group) where
+    use_is : use_at old.parts number ≡ group
+    use_is = use_found old.parts number groups group mine.0 all_groups at
+
+    pub group_known : IsGroup t.parts group
+    group_known = subst (IsGroup t.parts) use_is (subst (λ parts. IsGroup t.parts (use_at parts number)) parts_stay (known.problem.groups number no_use (subst (λ (parts : Parts). number < length parts.groups) (sym parts_stay) mine.0)))
+
+    pub bound_known : HoldsBound group.principle t.parts bound entries labels
+    bound_known = subst (λ parts. HoldsBound group.principle parts bound entries labels) (sym parts_stay) (subst (λ (g : Group). HoldsBound g.principle old.parts bound entries labels) use_is mine.1.holds)
+
+    module _ (start p : Progress) (new : State) (start_is : start ≡ untouched) (sweep : Sweeps group (IsClosedFor t.parts group) start t p new) where
+      goes : Goes group untouched (turned old turns) p new
+      goes = subst (λ z. Goes group z (turned old turns) p new) start_is (subst (λ s. Goes group start s p new) turn_is sweep.goes)
+
+      closes : IsQuiet p → IsClosedFor old.parts group new.now
+      closes quiet = subst (λ parts. IsClosedFor parts group new.now) parts_stay (sweep.done quiet)
+
+      pub extends : Extends old new
+      extends = step_extends (BoundAt number bound entries labels) number turns group old new p (λ k h. h.number_is) use_is (subst Known turn_is known) sweep.known goes
+
+      pub keeps : (moved : Moved) → Answers moved p → Keeps (BoundAt number bound entries labels) moved old new
+      keeps = step_keeps (BoundAt number bound entries labels) number turns group old new p (λ k h. h.number_is) use_is (subst Known turn_is known) sweep.known goes
+
+      pub moved_so : (moved : Moved) → Answers moved p → Moves moved old new
+      moved_so = step_moves (BoundAt number bound entries labels) number turns group old new p (λ k h. h.number_is) use_is (subst Known turn_is known) sweep.known goes
+
+      pub same_so : (moved : Moved) → Answers moved p → (moved ≡ moves.Same) ↔ IsClosedBy (BoundAt number bound entries labels) old.parts old.now
+      same_so = step_same (BoundAt number bound entries labels) number turns group old new p (λ k h. h.number_is) use_is (subst Known turn_is known) sweep.known goes mine closes
+
+      pub turns_so : new.turns ≡ turns
+      turns_so = sweep.goes.turns ∙ ap (λ (s : State). s.turns) turn_is

@@ -1,0 +1,103 @@
+-- When a box is closed for a bound, and that it stays so while it loses no entries and no edges.
+use Rattle.std.proofs.Common.{◌≡◌, ℕ, ◌+◌, ◌<◌, inl, inr, zero, suc, Bool, ◌&&◌, cond, List, [], length, Some, refl, sym, ap, ap₂, ◌∙◌, arith, subst}
+use Rattle.std.specs.Prelude.{Contains, not, slice_index_or}
+use Rattle.std.specs.Int.{bit_at}
+use Rattle.std.specs.List.{sum_by}
+use Rattle.std.proofs.lemmas.Bool.{cases_Bool, false≢true}
+use Rattle.std.proofs.lemmas.List.Elements.{All-weaker, All-contains_itself}
+use Rattle.xdg_problem.specs.declared.analysis.Edge.{Edge}
+use Rattle.xdg_problem.specs.declared.parts.Group.{Group}
+use Rattle.xdg_problem.specs.declared.parts.Parts.{Parts}
+use Rattle.xdg_problem.specs.declared.parts.Principle.{Principle}
+use Rattle.xdg_problem.specs.declared.parts.Principle.TheVariants as principles
+use Rattle.xdg_problem.specs.Arguments.{first_dim, label_count}
+use Rattle.xdg_problem.specs.Boxes.{Has, IsBox, LiesIn, entry_decision, edge_decision}
+use Rattle.xdg_problem.specs.Costs.{CostLists}
+use Rattle.xdg_problem.specs.Places.{nodes, places}
+use Rattle.xdg_problem.specs.Problems.{IsProblem}
+use Rattle.xdg_problem.specs.Tests.{IsTestOf}
+use Rattle.xdg_problem.specs.Vectors.{shape}
+use Rattle.xdg_problem.proofs.FilterFacts.{filter_alike}
+use Rattle.xdg_problem.proofs.PlaceOrder.{is_place}
+use Rattle.xdg_propcore.specs.Kinds.{kind_of, edge_kind}
+use Rattle.xdg_propcore.specs.Losses.{LosesOutside}
+use Rattle.xdg_propcore.specs.Uses.{IsClosedBy, StandsFor, use_at}
+use Rattle.xdg_propcore.proofs.DecisionKinds.{kind_of_entry, kind_of_edge}
+use Rattle.xdg_rules.specs.Bounds.{least_below, with_least, or_nothing, candidate_cost, node_cost, edge_cost, least_cost, BoundReached, BoundPlace}
+use Rattle.xdg_rules.specs.Rules.{has, FailsTest, TakesBy, IsClosedFor}
+use Rattle.xdg_rules.proofs.Sizes.{some_value}
+use Rattle.xdg_rules.proofs.Summing.{below_same}
+use Rattle.xdg_engine.specs.Bounding.{HoldsBound, bound_stands}
+use Rattle.xdg_engine.specs.declared.cost_prop.CostProp.{CostProp}
+
+-- a bound has no tests
+no_test : (parts : Parts) (group : Group) (box : List (List Bool)) (costs : CostLists) (bound : ℕ) → group.principle ≡ principles.Bound costs bound → FailsTest parts group box → ⊥
+no_test parts group box costs bound is failing = subst (λ p. IsTestOf p group.truths (nodes parts) (label_count parts (first_dim group)) failing.test) is failing.is
+
+-- where it takes nothing the box is closed
+pub closed_for_bound : (parts : Parts) (group : Group) (box : List (List Bool)) (costs : CostLists) (bound : ℕ) → group.principle ≡ principles.Bound costs bound → (BoundReached parts costs bound box → ⊥) → ((d v : ℕ) → Has box d v → BoundPlace parts costs bound box d v → ⊥) → IsClosedFor parts group box
+closed_for_bound parts group box costs bound is below none d v remains (inl failing) = no_test parts group box costs bound is failing
+closed_for_bound parts group box costs bound is below none d v remains (inr by) = elim (subst (λ p. TakesBy p parts group box d v) is by) [ inl reached ↦ below reached | inr place ↦ none d v remains place ]
+
+-- each bit of an edge kind is set
+edge_bit : (dim : ℕ) → dim < 8 → bit_at 87381 (edge_kind dim) ≡ 1
+edge_bit zero l = refl
+edge_bit (suc zero) l = refl
+edge_bit (suc (suc zero)) l = refl
+edge_bit (suc (suc (suc zero))) l = refl
+edge_bit (suc (suc (suc (suc zero)))) l = refl
+edge_bit (suc (suc (suc (suc (suc zero))))) l = refl
+edge_bit (suc (suc (suc (suc (suc (suc zero)))))) l = refl
+edge_bit (suc (suc (suc (suc (suc (suc (suc zero))))))) l = refl
+edge_bit (suc (suc (suc (suc (suc (suc (suc (suc dim)))))))) l = absurd (omega (arith, l))
+
+least_like : (few many : ℕ → Bool) (cost : ℕ → ℕ) (k : ℕ) → ((c : ℕ) → few c ≡ many c) → least_below few cost k ≡ least_below many cost k
+least_like few many cost zero same = refl
+least_like few many cost (suc k) same = ap₂ (λ b o. cond b (Some (with_least (cost k) o)) o) (same k) (least_like few many cost k same)
+
+module _ (parts : Parts) (problem : IsProblem parts) (old new : List (List Bool)) (inside : LiesIn new old) (outside : LosesOutside parts 87381 old new) where
+  same_has : (d v : ℕ) → bit_at 87381 (kind_of parts d) ≡ 1 → has new d v ≡ has old d v
+  same_has d v woken = elim (cases_Bool (has new d v)) [
+    | inl there ↦ there ∙ sym (inside d v there)
+    | inr gone ↦ elim (cases_Bool (has old d v)) [
+      | inl before ↦ absurd (let quiet = outside d v (before, λ there. false≢true (sym gone ∙ there)) in omega (arith, woken, quiet))
+      | inr never ↦ gone ∙ sym never
+    ]
+  ]
+
+  same_entry : (node c : ℕ) → node < nodes parts → has new (entry_decision node) c ≡ has old (entry_decision node) c
+  same_entry node c within = same_has (entry_decision node) c (subst (λ k. bit_at 87381 k ≡ 1) (sym (kind_of_entry parts node (let each = problem.candidates_each in omega (arith, each, within)))) refl)
+
+  same_edge_values : (e : Edge) → Contains (places parts) e → (v : ℕ) → has new (edge_decision parts e) v ≡ has old (edge_decision parts e) v
+  same_edge_values e place v =
+      let dim_in = (is_place parts e place).dim in
+      let few = problem.dims_most in
+      same_has (edge_decision parts e) v (subst (λ k. bit_at 87381 k ≡ 1) (sym (kind_of_edge parts e place)) (edge_bit e.dim.0 (omega (arith, dim_in, few))))
+
+  pub same_cost : (costs : CostLists) → least_cost parts costs new ≡ least_cost parts costs old
+  same_cost costs = ap₂ (λ a b. a + b)
+      (below_same (node_cost parts costs new) (node_cost parts costs old) (nodes parts) (λ node within. ap or_nothing (least_like (has new (entry_decision node)) (has old (entry_decision node)) (candidate_cost parts costs node) (length (slice_index_or parts.candidates node [])) (λ c. same_entry node c within))))
+      (ap (sum_by (edge_cost costs)) (filter_alike (λ e. has new (edge_decision parts e) 0 && not (has new (edge_decision parts e) 1)) (λ e. has old (edge_decision parts e) 0 && not (has old (edge_decision parts e) 1)) (places parts)
+      (All-weaker (Contains (places parts)) _ (λ e place. ap₂ (λ a b. a && not b) (same_edge_values e place 0) (same_edge_values e place 1)) (places parts) (All-contains_itself (places parts)))))
+
+  closed_still : (group : Group) (p : Principle) (mine : ℕ) (entries labels : List (List ℕ)) → IsBox (shape parts) old → HoldsBound p parts mine entries labels → group.principle ≡ p → IsClosedFor parts group old → IsClosedFor parts group new
+  closed_still group (principles.Bound costs bound) mine entries labels old_is holds is closed =
+      let same = same_cost costs in
+      let some = some_value parts old problem old_is in
+      let takes : (d v : ℕ) → Has old d v → TakesBy (principles.Bound costs bound) parts group old d v → ⊥ = λ d v remains by. closed d v remains (inr (subst (λ q. TakesBy q parts group old d v) (sym is) by)) in
+      closed_for_bound parts group new costs bound is
+      (λ reached. takes 0 some.0 some.1 (inl (omega (arith, reached, same))))
+      (λ d v remains rule. takes d v (inside d v remains) (inr (record {
+        place = rule.place;
+        is = rule.is;
+        says = rule.says;
+        free = inside (edge_decision parts rule.place) 1 rule.free;
+        reaches = (let reaches = rule.reaches in omega (arith, reaches, same));
+      })))
+  closed_still group p mine entries labels old_is holds is closed = absurd holds
+
+-- where the propagator is still, it stays so while the box loses values of other kinds
+pub bound_stays : (p : CostProp) (parts : Parts) (number : ℕ) (old new : List (List Bool)) → IsProblem parts → StandsFor (bound_stands p) parts number → IsBox (shape parts) old → IsBox (shape parts) new → LiesIn new old
+    → LosesOutside parts 87381 old new → IsClosedBy (bound_stands p) parts old → IsClosedBy (bound_stands p) parts new
+bound_stays p parts number old new problem stands old_is new_is inside outside still k here =
+    closed_still parts problem old new inside outside (use_at parts k) (use_at parts k).principle p.bound p.entries p.labels old_is here.1.holds refl (still k here)

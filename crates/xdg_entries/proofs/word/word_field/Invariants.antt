@@ -1,5 +1,0 @@
-use Rattle.xdg_entries.proofs.Places.{NoWordField}
-use Rattle.xdg_entries.proofs.word.word_field.Given as goal
-
-abbrev pub invariant-loop-place : goal.invariant-loop-place
-invariant-loop-place l = NoWordField l.fields l.place

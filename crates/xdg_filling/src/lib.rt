@@ -1,6 +1,0 @@
-//! What a feature holds once all defaults are filled in.
-#![tactic(auto)]
-
-mod filling;
-
-pub use filling::fill;

@@ -1,8 +1,0 @@
-use Rattle.std.proofs.Common.{◌≡◌, ◌∙◌, ap, ap₂, map, sym}
-use Rattle.xdg_problem.specs.Places.{nodes}
-use Rattle.xdg_fitting.specs.Slots.{asked_by, slots}
-use Rattle.xdg_fitting.proofs.Attributes.{few_values, are_attrs}
-use Rattle.xdg_fitting.proofs.fitting.fitted.Goals as goal
-
-pub said_values-requires : goal.said_values-requires
-said_values-requires c = few_values asked_by _ (slots (nodes c.args.parts.now) c.args.parts.now.dims) (ap (map asked_by) c.as_slice-5.ensures ∙ c.in_ok-slots.ensures ∙ ap₂ slots c.len.ensures c.as_slice-4.ensures) (are_attrs c.args.parts.now c.requires.problem)

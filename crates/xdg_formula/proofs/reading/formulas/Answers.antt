@@ -1,0 +1,12 @@
+use Rattle.std.proofs.Common.{refl}
+use Rattle.xdg_formula.proofs.Once.{refused-only, tree-tells, tree-only}
+use Rattle.xdg_formula.proofs.reading.formulas.Goals as goal
+
+pub returns-in-Err-clause-only : goal.returns-in-Err-clause-only
+returns-in-Err-clause-only c = refused-only c.args.bytes.now c.in-Err.stop c.in-Err.ensures.only
+
+pub returns-clause-tells : goal.returns-clause-tells
+returns-clause-tells c = tree-tells c.args.bytes.now c.in-Ok.tokens _ _ c.read.result refl refl c.read.ensures c.in-Ok.ensures.tells
+
+pub returns-clause-only : goal.returns-clause-only
+returns-clause-only c = tree-only c.args.bytes.now c.in-Ok.tokens _ _ c.read.result refl refl c.read.ensures c.in-Ok.ensures.only

@@ -1,3 +1,0 @@
-pub mod Formed
-pub mod Told
-pub mod Turns

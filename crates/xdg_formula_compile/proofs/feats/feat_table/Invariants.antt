@@ -1,6 +1,0 @@
-use Rattle.std.proofs.Common.{◌≡◌, take}
-use Rattle.xdg_formula_compile.specs.Tables.{table_of}
-use Rattle.xdg_formula_compile.proofs.feats.feat_table.Given as goal
-
-abbrev pub invariant-loop-node : goal.invariant-loop-node
-invariant-loop-node l = l.made ≡ table_of l.packed.entries (take l.node-index l.candidates) l.dim l.place l.number

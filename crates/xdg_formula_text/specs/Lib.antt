@@ -1,5 +1,0 @@
-pub mod Derived
-pub mod Rules
-pub mod Texts
-pub mod Words
-pub mod Written

@@ -1,4 +1,0 @@
-mod ClassCount
-mod Meaning
-mod OneTree
-mod Words

@@ -1,4 +1,0 @@
-pub mod Texts
-pub mod Meanings
-pub mod Answers
-pub mod Packed

@@ -1,0 +1,6 @@
+pub mod Remaining
+pub mod SlotValues
+pub mod Labelled
+pub mod Edges
+pub mod Noting
+pub mod Widening

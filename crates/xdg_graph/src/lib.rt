@@ -1,0 +1,24 @@
+//! What a propagator reads from a box. Of a principle use: the dimensions, attributes and truth values that it names, the attributes of
+//! nodes, the rows of its features, and what the remaining entries of a node say. Of edges: for each node its daughters and its mothers,
+//! and the nodes below it and above it, by the edges that may be present or by those that must be.
+#![tactic(auto)]
+
+mod arguments;
+mod entries;
+mod features;
+mod labels;
+mod paths;
+mod slot;
+mod tables;
+mod upward;
+mod which;
+
+pub use arguments::{attr_of, dim_of, truth_of};
+pub use entries::{each_entry_has, each_entry_has_some, entry_count};
+pub use features::{feature_row, is_member, row_of};
+pub use labels::{edge_labels, labels_of, node_count};
+pub use paths::{above, ancestors};
+pub use slot::{Slot, slot_of};
+pub use tables::{daughters, daughters_by, set_at};
+pub use upward::{mothers, mothers_by};
+pub use which::Which;

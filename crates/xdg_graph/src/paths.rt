@@ -1,0 +1,79 @@
+//! The nodes below each node, and those above it.
+
+ghost use Rattle.std.specs.Prelude.{◌≡◌, ◌≤◌, ◌<◌, ◌↔◌, ◌⊎◌, ℕ, true};
+ghost use Rattle.xdg_nodeset.specs.Nodes.{has};
+ghost use Rattle.xdg_judge.specs.Links.{In, IsClosure};
+ghost use Rattle.xdg_problem.specs.Paths.{Above};
+ghost use Rattle.xdg_store.specs.States.{Known};
+ghost use Rattle.xdg_graph.specs.Edges.{HasNoneFrom, edges_of};
+
+use crate::labels::node_count;
+use crate::tables::daughters;
+use crate::upward::mothers;
+use crate::which::Which;
+use xdg_base::{DimId, NodeId};
+use xdg_nodeset::NodeSet;
+use xdg_store::Store;
+
+/// A set, with what a second one adds to it where it has the node in the middle.
+#[tactic(auto, using(xdg_judge::proofs::Sets::extended_yes, xdg_judge::proofs::Sets::extended_no))]
+fn extended(set: NodeSet, middle: u8, beyond: NodeSet) -> NodeSet
+    requires { middle < 128 }
+    ensures { (b : ℕ) → (has result b ≡ true) ↔ ((has set b ≡ true) ⊎ ((has set middle ≡ true) × (has beyond b ≡ true))) }
+{
+    if set.contains(NodeId(middle)) {
+        return set.union(&beyond);
+    }
+    set
+}
+
+/// Adds to each of the first sets of a table that has the node in the middle what the table has for that node. The others are
+/// empty.
+#[tactic(auto, using(xdg_judge::proofs::Sets::widened_start, xdg_judge::proofs::Sets::widened_more, crate::proofs::Widening::widened_rest, crate::proofs::Widening::widened_none))]
+fn widen(table: &mut [NodeSet; 128], size: u8, middle: u8)
+    requires size { size ≤ 128 }
+    requires middle { middle < 128 }
+    requires rest { HasNoneFrom size table.old }
+    ensures each { (a b : ℕ) → In table.new a b ↔ (In table.old a b ⊎ (In table.old a middle × In table.old middle b)) }
+    ensures rest { HasNoneFrom size table.new }
+{
+    let beyond = table[usize::from(middle)];
+    if beyond.len() == 0 {
+        return;
+    }
+    for at in 0..size {
+        let place = usize::from(at);
+        table[place] = extended(table[place], middle, beyond);
+    }
+}
+
+/// What a table leads to through the first nodes, by the algorithm of Warshall (1962), where the sets of the others are empty.
+#[tactic(auto, using(xdg_judge::proofs::Closing::closure_start, xdg_judge::proofs::Closing::closure_more))]
+fn closed(table: &[NodeSet; 128], size: u8) -> [NodeSet; 128]
+    requires size { size ≤ 128 }
+    requires rest { HasNoneFrom size table.now }
+    ensures { IsClosure size table.now result }
+{
+    let mut closed = *table;
+    for middle in 0..size {
+        widen(&mut closed, size, middle);
+    }
+    closed
+}
+
+/// For each node those below it: a path of one or more of the edges leads to them. It takes an operation on sets for each two
+/// nodes, and one for each node and label.
+pub fn above(store: &Store, which: Which, dim: DimId) -> [NodeSet; 128]
+    ensures exact { (a b : ℕ) → In result a b ↔ Above (edges_of which store.now.parts store.now.now dim.0) a b }
+    ensures known { Known store.now }
+{
+    closed(&daughters(store, which, dim), node_count(store))
+}
+
+/// For each node those above it: a path of one or more of the edges leads from them. It takes as much as `above`.
+pub fn ancestors(store: &Store, which: Which, dim: DimId) -> [NodeSet; 128]
+    ensures exact { (a b : ℕ) → In result a b ↔ Above (edges_of which store.now.parts store.now.now dim.0) b a }
+    ensures known { Known store.now }
+{
+    closed(&mothers(store, which, dim), node_count(store))
+}

@@ -1,0 +1,70 @@
+//! The daughters of each node.
+
+ghost use Rattle.std.specs.Prelude.{◌≡◌, ◌<◌, ◌↔◌, ℕ, [], IsTrue, slice_index_or};
+ghost use Rattle.xdg_nodeset.specs.Nodes.{has};
+ghost use Rattle.xdg_judge.specs.Links.{In};
+ghost use Rattle.xdg_problem.specs.Paths.{IsDaughter, IsDaughterBy};
+ghost use Rattle.xdg_problem.specs.Places.{nodes};
+ghost use Rattle.xdg_store.specs.States.{Known};
+ghost use Rattle.xdg_graph.specs.Edges.{HasNoneFrom, edge_labels, edges_of};
+
+use crate::labels::{labels_of, node_count};
+use crate::which::Which;
+use xdg_base::{DimId, LabelId, NodeId};
+use xdg_nodeset::NodeSet;
+use xdg_store::Store;
+
+/// The set that a table has for a node.
+pub fn set_at(table: &[NodeSet; 128], node: NodeId) -> NodeSet
+    requires { node.0 < 128 }
+    ensures { result ≡ slice_index_or table.now node.0 [] }
+{
+    table[usize::from(node.0)]
+}
+
+/// The nodes to which an edge with a label leads from a node.
+pub fn daughters_by(
+    store: &Store,
+    which: Which,
+    dim: DimId,
+    mother: NodeId,
+    label: LabelId,
+) -> NodeSet
+    requires node { mother.0 < nodes store.now.parts }
+    requires label { label.0 < edge_labels store.now.parts dim.0 }
+    ensures exact { (x : ℕ) → IsTrue (has result x) ↔ IsDaughterBy (edges_of which store.now.parts store.now.now dim.0) mother.0 label.0 x }
+    ensures known { Known store.now }
+{
+    match which {
+        Which::May => store.daughters_may(dim, mother, label),
+        Which::Must => store.daughters_must(dim, mother, label),
+    }
+}
+
+/// The nodes to which an edge leads from a node.
+#[tactic(auto, using(crate::proofs::Edges::below_start, crate::proofs::Edges::below_next))]
+fn daughters_of(store: &Store, which: Which, dim: DimId, mother: NodeId) -> NodeSet
+    requires { mother.0 < nodes store.now.parts }
+    ensures exact { (x : ℕ) → IsTrue (has result x) ↔ IsDaughter (edges_of which store.now.parts store.now.now dim.0) mother.0 x }
+    ensures known { Known store.now }
+{
+    let mut daughters = NodeSet::empty();
+    for label in 0..labels_of(store, dim) {
+        daughters = daughters.union(&daughters_by(store, which, dim, mother, LabelId(label)));
+    }
+    daughters
+}
+
+/// For each node its daughters; a node that the sentence has not has none.
+#[tactic(auto, using(crate::proofs::Noting::noted_start, crate::proofs::Noting::noted_next))]
+pub fn daughters(store: &Store, which: Which, dim: DimId) -> [NodeSet; 128]
+    ensures exact { (a b : ℕ) → In result a b ↔ IsDaughter (edges_of which store.now.parts store.now.now dim.0) a b }
+    ensures rest { HasNoneFrom (nodes store.now.parts) result }
+    ensures known { Known store.now }
+{
+    let mut table = [NodeSet::empty(); 128];
+    for mother in 0..node_count(store) {
+        table[usize::from(mother)] = daughters_of(store, which, dim, NodeId(mother));
+    }
+    table
+}

@@ -1,0 +1,62 @@
+//! The mothers of each node.
+
+ghost use Rattle.std.specs.Prelude.{◌≡◌, ◌<◌, ◌↔◌, ℕ, IsTrue};
+ghost use Rattle.xdg_nodeset.specs.Nodes.{has};
+ghost use Rattle.xdg_judge.specs.Links.{In};
+ghost use Rattle.xdg_problem.specs.Paths.{IsDaughter, IsDaughterBy};
+ghost use Rattle.xdg_problem.specs.Places.{nodes};
+ghost use Rattle.xdg_store.specs.States.{Known};
+ghost use Rattle.xdg_graph.specs.Edges.{HasNoneFrom, edge_labels, edges_of};
+
+use crate::labels::{labels_of, node_count};
+use crate::which::Which;
+use xdg_base::{DimId, LabelId, NodeId};
+use xdg_nodeset::NodeSet;
+use xdg_store::Store;
+
+/// The nodes from which an edge with a label leads into a node.
+pub fn mothers_by(
+    store: &Store,
+    which: Which,
+    dim: DimId,
+    daughter: NodeId,
+    label: LabelId,
+) -> NodeSet
+    requires node { daughter.0 < nodes store.now.parts }
+    requires label { label.0 < edge_labels store.now.parts dim.0 }
+    ensures exact { (x : ℕ) → IsTrue (has result x) ↔ IsDaughterBy (edges_of which store.now.parts store.now.now dim.0) x label.0 daughter.0 }
+    ensures known { Known store.now }
+{
+    match which {
+        Which::May => store.mothers_may(dim, daughter, label),
+        Which::Must => store.mothers_must(dim, daughter, label),
+    }
+}
+
+/// The nodes from which an edge leads into a node.
+#[tactic(auto, using(crate::proofs::Edges::over_start, crate::proofs::Edges::over_next))]
+fn mothers_of(store: &Store, which: Which, dim: DimId, daughter: NodeId) -> NodeSet
+    requires { daughter.0 < nodes store.now.parts }
+    ensures exact { (x : ℕ) → IsTrue (has result x) ↔ IsDaughter (edges_of which store.now.parts store.now.now dim.0) x daughter.0 }
+    ensures known { Known store.now }
+{
+    let mut mothers = NodeSet::empty();
+    for label in 0..labels_of(store, dim) {
+        mothers = mothers.union(&mothers_by(store, which, dim, daughter, LabelId(label)));
+    }
+    mothers
+}
+
+/// For each node its mothers; a node that the sentence has not has none.
+#[tactic(auto, using(crate::proofs::Noting::noted_start, crate::proofs::Noting::noted_next))]
+pub fn mothers(store: &Store, which: Which, dim: DimId) -> [NodeSet; 128]
+    ensures exact { (a b : ℕ) → In result a b ↔ IsDaughter (edges_of which store.now.parts store.now.now dim.0) b a }
+    ensures rest { HasNoneFrom (nodes store.now.parts) result }
+    ensures known { Known store.now }
+{
+    let mut table = [NodeSet::empty(); 128];
+    for daughter in 0..node_count(store) {
+        table[usize::from(daughter)] = mothers_of(store, which, dim, NodeId(daughter));
+    }
+    table
+}

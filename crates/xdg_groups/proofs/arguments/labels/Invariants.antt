@@ -1,7 +1,0 @@
-use Rattle.std.proofs.Common.{◌≡◌, take}
-use Rattle.std.specs.Prelude.{flat_map}
-use Rattle.xdg_groups.specs.Groups.{labels_in}
-use Rattle.xdg_groups.proofs.arguments.labels.Given as goal
-
-abbrev pub invariant-loop-arg : goal.invariant-loop-arg
-invariant-loop-arg l = l.made ≡ flat_map labels_in (take l.arg-index l.args)

@@ -1,6 +1,0 @@
-use Rattle.std.proofs.Common.{◌≡◌, take}
-use Rattle.xdg_groups.specs.Nodes.{only_feats}
-use Rattle.xdg_groups.proofs.nodes.only_feats.Given as goal
-
-abbrev pub invariant-loop-group : goal.invariant-loop-group
-invariant-loop-group l = l.made ≡ only_feats (take l.group-index l.groups)

@@ -1,6 +1,0 @@
-use Rattle.std.proofs.Common.{◌≡◌, map, take}
-use Rattle.xdg_groups.specs.Grammars.{place_in}
-use Rattle.xdg_groups.proofs.places.dims_in.Given as goal
-
-abbrev pub invariant-loop-place : goal.invariant-loop-place
-invariant-loop-place l = l.made ≡ map (λ k. record { 0 = place_in l.used k }) (take l.place-index l.places)

@@ -1,9 +1,0 @@
-use Rattle.std.proofs.Common.{take}
-use Rattle.std.specs.List.{AllZip}
-use Rattle.xdg_packed.specs.Lexicon.{Lexicon}
-use Rattle.xdg_groups.specs.Grammars.{grammar_of}
-use Rattle.xdg_groups.specs.Known.{IsKnownFor}
-use Rattle.xdg_groups.proofs.records.Records.new.Given as goal
-
-abbrev pub invariant-loop : goal.invariant-loop
-invariant-loop l = (lexicon : Lexicon) → AllZip (λ u known. IsKnownFor (grammar_of l.checked lexicon) u known.entries) (take l.counter l.checked.principles) l.kept.items

@@ -1,0 +1,51 @@
+//! What a tree means.
+
+ghost use Rattle.std.specs.Prelude.{◌≡◌, Result, IfOk, length};
+ghost use Rattle.xdg_base.specs.declared.faults.Fault as faults;
+ghost use Rattle.xdg_classes.specs.Definitions.{classes};
+ghost use Rattle.xdg_packed.specs.Entries.{IsRightLexicon};
+ghost use Rattle.xdg_inputs.specs.Answers.{Gives, IsAnswer, Tells};
+ghost use Rattle.xdg_inputs.specs.Meanings.{Meaning};
+
+use std::alloc::Global;
+use xdg_ast::Grammar;
+use xdg_base::{List, Stop};
+use xdg_check::{Checked, check};
+use xdg_domain::Entry;
+use xdg_lexicon::expand;
+use xdg_typing::types;
+
+/// A checked grammar with its expanded lexicon.
+#[derive(Debug, Drop)]
+pub struct Expanded {
+    /// The grammar.
+    pub checked: Checked,
+    /// Its entries, each with a record for each used dimension.
+    pub entries: List<Entry>,
+}
+
+/// What the tree of a grammar text means.
+///
+/// # Errors
+///
+/// The first fault of the types, else of names, class cycles, values and the dimension of words, else of the expansion of
+/// classes. Or want of memory.
+pub fn expand_tree(alloc: Global, tree: &Grammar) -> Result<Expanded, Stop>
+    ensures tells { Tells tree.now result }
+    ensures only { (answer : Result Meaning faults.Fault) → IsAnswer tree.now answer → Gives answer result }
+    ensures right { IfOk result (λ made. IsRightLexicon made.checked.types made.entries) }
+    ensures classes { IfOk result (λ made. length made.checked.classes ≡ length (classes tree.now.statements)) }
+{
+    let table = match types(alloc, tree) {
+        Ok(table) => table,
+        Err(stop) => return Err(stop),
+    };
+    let checked = match check(alloc, tree, table) {
+        Ok(checked) => checked,
+        Err(stop) => return Err(stop),
+    };
+    match expand(alloc, &checked) {
+        Ok(entries) => Ok(Expanded { checked, entries }),
+        Err(stop) => Err(stop),
+    }
+}

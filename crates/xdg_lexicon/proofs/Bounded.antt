@@ -1,0 +1,104 @@
+-- A body denotes at most as many partial entries as it has combinations, and the classes that an entry uses have places.
+use Rattle.std.proofs.Common.{◌≡◌, ℕ, zero, suc, ◌<◌, ◌≤◌, ◌+◌, ◌*◌, List, [], ◌∷◌, ◌++◌, length, map, get_or, refl, ap, sym, ◌∙◌, arith, inl, inr, subst, slice_index_or}
+use Rattle.std.specs.Prelude.{Some}
+use Rattle.std.proofs.Math.Nat.{suc-mul}
+use Rattle.std.proofs.lemmas.List.{length-append, length-map}
+use Rattle.xdg_ast.specs.declared.expressions.ExprKind.{ExprKind}
+use Rattle.xdg_names.specs.First.{In}
+use Rattle.xdg_names.specs.Texts.{place_of}
+use Rattle.xdg_names.proofs.Texts.{place_of-Some, place_of-has_text, stands-has_text}
+use Rattle.xdg_terms.specs.Forms.{Bindings}
+use Rattle.xdg_types.specs.declared.table.DimType.{DimType}
+use Rattle.xdg_classes.specs.Bodies.{Expr, Body, Bodies, body, Called, calls}
+use Rattle.xdg_check.specs.declared.checked.Class.{Class}
+use Rattle.xdg_check.specs.declared.checked.EntryDef.{EntryDef}
+use Rattle.xdg_classes.specs.Wants.{NamedBody}
+use Rattle.xdg_check.specs.Checked.{Parts, IsChecked, named_body, named_bodies}
+use Rattle.xdg_check.specs.Counts.{Counting, Agrees, combos, sum_of_combos, product_of_combos, class_texts}
+use Rattle.xdg_lexicon.specs.Denotes.{JoinsEach, no_other, clashes, joins, JoinsAll, no_first, first_then, Denotes, record_said, class_used, conjunction, disjunction, DenotesBoth, all_joined, join_first, DenotesEither, all_listed, list_first, IsRanked}
+use Rattle.xdg_lexicon.specs.Partial.{Partial}
+
+-- ---- counts
+
+each_few : (dims : List DimType) (m : Partial) (ns js : List Partial) → JoinsEach dims m ns js → length js ≤ length ns
+each_few dims m _ _ no_other = omega arith
+each_few dims m _ _ (clashes n ns js c d) = (let h = each_few dims m ns js d in omega (arith, h))
+each_few dims m _ _ (joins n j ns js c d) = (let h = each_few dims m ns js d in omega (arith, h))
+
+all_few : (dims : List DimType) (ms ns js : List Partial) → JoinsAll dims ms ns js → length js ≤ length ms * length ns
+all_few dims _ _ _ (no_first ns) = omega arith
+all_few dims _ _ _ (first_then m ms ns js ks e rest) =
+    let one = each_few dims m ns js e in
+    let more = all_few dims ms ns ks rest in
+    let both : length (js ++ ks) ≡ length js + length ks = length-append js ks in
+    let product : suc (length ms) * length ns ≡ length ms * length ns + length ns = suc-mul (length ms) (length ns) in
+    omega (arith, one, more, both, product)
+
+products : (a b c d : ℕ) → a ≤ c → b ≤ d → a * b ≤ c * d
+products zero b c d h k = omega arith
+products (suc a) b zero d h k = absurd (omega (arith, h))
+products (suc a) b (suc c) d h k =
+    let less = products a b c d (omega (arith, h)) k in
+    let left = suc-mul a b in
+    let right = suc-mul c d in
+    omega (arith, less, left, right, k)
+
+-- ---- classes
+
+-- the class that a name with parameters and a body comes from
+pub behind : (cs : List Class) (n : NamedBody) → In (named_bodies cs) n → (c : Class) × (In cs c × (named_body c ≡ n))
+behind [] n h = absurd h
+behind (c ∷ cs) n h = elim h [ inl is ↦ (c, (inl refl, is)) | inr k ↦ (let r = behind cs n k in (r.0, (inr r.1.0, r.1.1))) ]
+
+module _ (checked : Parts) (names : Counting) (agrees : Agrees combos checked.classes names) where
+  mutual
+    pub few : (bs : Bindings) (b : Body) (ms : List Partial) → Denotes checked.types.dims (named_bodies checked.classes) bs b ms → length ms ≤ combos names b
+    few bs _ _ (record_said _ dim pairs p says) = omega arith
+    few bs _ ms (class_used _ name args c _ stands is d) =
+        let h = few _ c.body ms d in
+        let found = behind checked.classes c stands in
+        let same : names name.text ≡ combos names c.body =
+        ap names (sym is ∙ ap (λ (n : NamedBody). n.name) (sym found.1.1)) ∙ agrees.defined found.0 found.1.0 ∙ ap (λ (n : NamedBody). combos names n.body) found.1.1 in
+        omega (arith, h, same)
+    few bs _ ms (conjunction _ bodies _ d) = few_both bs bodies ms d
+    few bs _ ms (disjunction _ bodies _ d) = few_either bs bodies ms d
+
+    few_both : (bs : Bindings) (bodies : Bodies) (ms : List Partial) → DenotesBoth checked.types.dims (named_bodies checked.classes) bs bodies ms → length ms ≤ product_of_combos names bodies
+    few_both bs _ _ (all_joined _) = omega arith
+    few_both bs _ js (join_first _ b rest ms ns _ d more all) =
+        let one = few bs b ms d in
+        let others = few_both bs rest ns more in
+        let made = all_few checked.types.dims ms ns js all in
+        let bound = products (length ms) (length ns) (combos names b) (product_of_combos names rest) one others in
+        omega (arith, made, bound)
+
+    few_either : (bs : Bindings) (bodies : Bodies) (ms : List Partial) → DenotesEither checked.types.dims (named_bodies checked.classes) bs bodies ms → length ms ≤ sum_of_combos names bodies
+    few_either bs _ _ (all_listed _) = omega arith
+    few_either bs _ _ (list_first _ b rest ms ns d more) =
+        let one = few bs b ms d in
+        let others = few_either bs rest ns more in
+        let both : length (ms ++ ns) ≡ length ms + length ns = length-append ms ns in
+        omega (arith, one, others, both)
+
+-- ---- places
+
+named : (cs : List Class) (c : Class) → In cs c → (k : ℕ) × ((k < length (class_texts cs)) × (get_or (class_texts cs) k [] ≡ c.name))
+named [] c h = absurd h
+named (x ∷ cs) c (inl is) = (0, (omega arith, ap (λ (y : Class). y.name) is))
+named (x ∷ cs) c (inr h) = (let found = named cs c h in (suc found.0, ((let l = found.1.0 in omega (arith, l)), found.1.1)))
+
+index_of : (xs : List ℕ) (k : ℕ) → In xs k → (j : ℕ) × ((j < length xs) × (slice_index_or xs j 0 ≡ k))
+index_of [] k h = absurd h
+index_of (x ∷ xs) k (inl is) = (0, (omega arith, is))
+index_of (x ∷ xs) k (inr h) = (let found = index_of xs k h in (suc found.0, ((let l = found.1.0 in omega (arith, l)), found.1.1)))
+
+pub entry_ranked : (checked : Parts) (e : EntryDef) (expr : Expr) → IsChecked checked → In checked.entries e → e.body ≡ expr → IsRanked checked (length checked.order) (body expr.kind)
+entry_ranked checked e expr keeps stands is call used =
+    let bound = ((keeps.entries e stands).called call (subst (λ (x : Expr). In (calls (body x.kind)) call) (sym is) used)).bound in
+    let known = class_texts checked.classes in
+    let text = call.name.text in
+    let there = named checked.classes bound.class bound.stands in
+    let place = place_of-has_text known text (stands-has_text known text there.0 there.1.0 (there.1.1 ∙ bound.name)) in
+    let inside : place.0 < length checked.classes = (let l = (place_of-Some known text place.0 place.1).0 in let long : length known ≡ length checked.classes = length-map checked.classes (λ (c : Class). c.name) in omega (arith, l, long)) in
+    let found = index_of checked.order place.0 (keeps.ordered.placed place.0 inside) in
+    (found.0, (found.1.0, place.1 ∙ ap Some (sym found.1.1)))

@@ -1,0 +1,88 @@
+-- What a body denotes, form by form.
+use Rattle.std.proofs.Common.{◌≡◌, ℕ, suc, ◌<◌, ◌≤◌, ◌+◌, ◌-◌, List, [], ◌∷◌, ◌++◌, length, drop, get_or, ap, sym, ◌∙◌, arith, subst, append_assoc, add-one, drop-cons, Option}
+use Rattle.std.specs.Prelude.{Result, Ok, Err, IfOk}
+use Rattle.std.proofs.lemmas.List.{drop_all, get_or_default}
+use Rattle.xdg_ast.specs.declared.names.Name.{Name}
+use Rattle.xdg_ast.specs.declared.expressions.ExprKind.{ExprKind}
+use Rattle.xdg_ast.specs.declared.expressions.ExprKind.TheVariants as v
+use Rattle.xdg_domain.proofs.Merging.{append_nothing}
+use Rattle.xdg_terms.specs.Forms.{Bindings}
+use Rattle.xdg_classes.specs.Bodies.{Pairs, Expr, Body, either, both, saying, calling, no_body, given, body}
+use Rattle.xdg_classes.proofs.Bodied.{trees, body_dim, body_use}
+use Rattle.xdg_check.specs.Checked.{Parts, named_bodies}
+use Rattle.xdg_lexicon.specs.Denotes as den
+use Rattle.xdg_lexicon.specs.Denotes.{JoinsAll, Denotes, DenotesBoth, DenotesEither}
+use Rattle.xdg_lexicon.specs.Frames.{EitherSoFar, BothSoFar}
+use Rattle.xdg_lexicon.specs.Partial.{Partial, ArePartial, SaysRecord, nothing}
+
+pub front : {X : Type 0} (xs : List X) (k : ℕ) (x : X) → k < length xs → x ≡ get_or xs k x → drop k xs ≡ x ∷ drop (k + 1) xs
+front xs k x within is = rw (add-one, drop-cons xs k x) (ap (λ y. y ∷ drop (suc k) xs) (sym is))
+
+-- ---- records and uses
+
+pub record_denotes : (checked : Parts) (bs : Bindings) (kind : ExprKind) (dim : Name) (pairs lent : Pairs) (text : List ℕ) (p : Partial) (made : List Partial) → kind ≡ v.Dim dim pairs → text ≡ dim.text → lent ≡ pairs → made ≡ p ∷ []
+    → SaysRecord checked.types.dims bs text lent p → Denotes checked.types.dims (named_bodies checked.classes) bs (body kind) made
+record_denotes checked bs kind dim pairs lent text p made is same borrowed one says =
+    subst (λ b. Denotes checked.types.dims (named_bodies checked.classes) bs b made) (sym (ap body is ∙ body_dim dim pairs)) (subst (Denotes checked.types.dims (named_bodies checked.classes) bs (saying dim pairs)) (sym one)
+    (den.record_said bs dim pairs p (subst (λ t. SaysRecord checked.types.dims bs t pairs p) same (subst (λ l. SaysRecord checked.types.dims bs text l p) borrowed says))))
+
+-- what holds of a use holds of its body, and back
+module _ (P : Body → Type 0) (kind : ExprKind) (name : Name) (args : Option Pairs) (lent : Pairs) (is : kind ≡ v.Use name args) (same : lent ≡ given args) where
+  pub as_use : P (body kind) → P (calling name lent)
+  as_use h = subst P (ap body is ∙ body_use name args ∙ ap (calling name) (sym same)) h
+
+  pub of_use : P (calling name lent) → P (body kind)
+  of_use h = subst P (sym (ap body is ∙ body_use name args ∙ ap (calling name) (sym same))) h
+
+-- ---- disjunctions, from the first to the last
+
+module _ (checked : Parts) (bs : Bindings) (items : List Expr) (i : ℕ) (made : List Partial) where
+  pub either_begun : made ≡ [] → EitherSoFar checked bs items 0 made
+  either_begun is ns d = subst (λ l. DenotesEither checked.types.dims (named_bodies checked.classes) bs (trees items) (l ++ ns)) (sym is) d
+
+  pub either_further : (e : Expr) (ms new : List Partial) → i < length items → e ≡ get_or items i e → new ≡ made ++ ms → Denotes checked.types.dims (named_bodies checked.classes) bs (body e.kind) ms → EitherSoFar checked bs items i made → EitherSoFar checked bs items (i + 1) new
+  either_further e ms new within is grown d so_far ns more =
+      subst (DenotesEither checked.types.dims (named_bodies checked.classes) bs (trees items)) (sym (ap (λ l. l ++ ns) grown ∙ append_assoc made ms ns))
+      (so_far (ms ++ ns) (subst (λ l. DenotesEither checked.types.dims (named_bodies checked.classes) bs (trees l) (ms ++ ns)) (sym (front items i e within is)) (den.list_first bs (body e.kind) (trees (drop (i + 1) items)) ms ns d more)))
+
+  pub either_denotes : length items ≤ i → EitherSoFar checked bs items i made → Denotes checked.types.dims (named_bodies checked.classes) bs (either (trees items)) made
+  either_denotes past so_far =
+      den.disjunction bs (trees items) made (subst (DenotesEither checked.types.dims (named_bodies checked.classes) bs (trees items)) (append_nothing made)
+      (so_far [] (subst (λ l. DenotesEither checked.types.dims (named_bodies checked.classes) bs (trees l) []) (sym (drop_all i items past)) (den.all_listed bs))))
+
+-- ---- conjunctions, from the last to the first
+
+module _ (checked : Parts) (bs : Bindings) (items : List Expr) where
+  pub both_begun : (p : Partial) (made : List Partial) → p ≡ nothing checked.types.dims → made ≡ p ∷ [] → ArePartial checked.types.dims (p ∷ []) → BothSoFar checked bs items (length items) made
+  both_begun p made is one right = (
+    omega arith,
+    (
+      subst (λ l. DenotesBoth checked.types.dims (named_bodies checked.classes) bs (trees l) made) (sym (drop_all (length items) items (omega arith))) (subst (DenotesBoth checked.types.dims (named_bodies checked.classes) bs no_body) (sym (one ∙ ap (λ q. q ∷ []) is)) (den.all_joined bs)),
+      subst (ArePartial checked.types.dims) (sym one) right,
+    ),
+  )
+
+  pub both_further : (left : ℕ) (x : Expr) (ms made new : List Partial) → 0 < left → Denotes checked.types.dims (named_bodies checked.classes) bs (body (get_or items (left - 1) x).kind) ms → BothSoFar checked bs items left made → JoinsAll checked.types.dims ms made new → ArePartial checked.types.dims new
+      → BothSoFar checked bs items (left - 1) new
+  both_further left x ms made new some d so_far joins right =
+      let e = get_or items (left - 1) x in
+      let inside : left - 1 < length items = (let w = so_far.0 in omega (arith, some, w)) in
+      let is : e ≡ get_or items (left - 1) e = get_or_default items (left - 1) x e inside in
+      let next : (left - 1) + 1 ≡ left = omega (arith, some) in (
+        omega (arith, inside),
+        (
+          subst (λ l. DenotesBoth checked.types.dims (named_bodies checked.classes) bs (trees l) new) (sym (front items (left - 1) e inside is))
+              (den.join_first bs (body e.kind) (trees (drop ((left - 1) + 1) items)) ms made new d (subst (λ n. DenotesBoth checked.types.dims (named_bodies checked.classes) bs (trees (drop n items)) made) (sym next) so_far.1.0) joins),
+          right,
+        ),
+      )
+
+  pub both_denotes : (left : ℕ) (made : List Partial) → left ≡ 0 → BothSoFar checked bs items left made → Denotes checked.types.dims (named_bodies checked.classes) bs (both (trees items)) made
+  both_denotes left made none so_far =
+      den.conjunction bs (trees items) made (subst (λ n. DenotesBoth checked.types.dims (named_bodies checked.classes) bs (trees (drop n items)) made) none so_far.1.0)
+
+-- ---- answers
+
+pub if_ok : {A E : Type 0} (P Q : A → Type 0) (r : Result A E) → ((a : A) → P a → Q a) → IfOk r P → IfOk r Q
+if_ok P Q (Ok a) f h = f a h
+if_ok P Q (Err e) f h = tt

@@ -1,0 +1,85 @@
+-- Lists of joins, made one by one.
+use Rattle.std.proofs.Common.{◌≡◌, ℕ, zero, suc, ◌<◌, ◌≤◌, ◌+◌, List, [], ◌∷◌, ◌++◌, length, take, get_or, refl, ap, ap₂, sym, ◌∙◌, arith, subst, append_assoc}
+use Rattle.std.specs.Prelude.{Option, None, Some, MatchOption}
+use Rattle.std.proofs.lemmas.List.{take_more, take_all}
+use Rattle.xdg_domain.proofs.Merging.{append_nothing}
+use Rattle.xdg_types.specs.declared.table.DimType.{DimType}
+use Rattle.xdg_lexicon.specs.Denotes.{JoinsEach, no_other, clashes, joins, JoinsAll, no_first, first_then}
+use Rattle.xdg_lexicon.specs.Partial.{Partial, IsPartial, ArePartial, PartialsJoin, PartialsClash}
+
+pub are_all : (dims : List DimType) (xs ys : List Partial) → ArePartial dims xs → ArePartial dims ys → ArePartial dims (xs ++ ys)
+are_all dims [] ys a b = b
+are_all dims (x ∷ xs) ys a b = (a.0, are_all dims xs ys a.1 b)
+
+pub one_of : (dims : List DimType) (ps : List Partial) (k : ℕ) (p : Partial) → k < length ps → p ≡ get_or ps k p → ArePartial dims ps → IsPartial dims p
+one_of dims [] k p within is h = absurd (omega (arith, within))
+one_of dims (q ∷ ps) zero p within is h = subst (IsPartial dims) (sym is) h.0
+one_of dims (q ∷ ps) (suc k) p within is h = one_of dims ps k p (omega (arith, within)) is h.1
+
+-- ---- one with each
+
+each_clash : (dims : List DimType) (m n : Partial) (ns js : List Partial) → JoinsEach dims m ns js → PartialsClash dims m n → JoinsEach dims m (ns ++ n ∷ []) js
+each_clash dims m n _ _ no_other h = clashes n [] [] h no_other
+each_clash dims m n _ _ (clashes a rest js c d) h = clashes a (rest ++ n ∷ []) js c (each_clash dims m n rest js d h)
+each_clash dims m n _ _ (joins a j rest js c d) h = joins a j (rest ++ n ∷ []) js c (each_clash dims m n rest js d h)
+
+each_join : (dims : List DimType) (m n k : Partial) (ns js : List Partial) → JoinsEach dims m ns js → PartialsJoin dims m n k → JoinsEach dims m (ns ++ n ∷ []) (js ++ k ∷ [])
+each_join dims m n k _ _ no_other h = joins n k [] [] h no_other
+each_join dims m n k _ _ (clashes a rest js c d) h = clashes a (rest ++ n ∷ []) (js ++ k ∷ []) c (each_join dims m n k rest js d h)
+each_join dims m n k _ _ (joins a j rest js c d) h = joins a j (rest ++ n ∷ []) (js ++ k ∷ []) c (each_join dims m n k rest js d h)
+
+-- what stands in a list, is written for the joins so far and those that were there
+abbrev pub EachSoFar : List DimType → Partial → List Partial → List Partial → ℕ → List Partial → Type 0
+EachSoFar dims m ns old i made = (js : List Partial) × ((made ≡ old ++ js) × (JoinsEach dims m (take i ns) js × ArePartial dims js))
+
+module _ (dims : List DimType) (m : Partial) (ns old : List Partial) (i : ℕ) (made : List Partial) where
+  pub each_begun : made ≡ old → EachSoFar dims m ns old 0 made
+  each_begun is = ([], (is ∙ sym (append_nothing old), (no_other, tt)))
+
+  pub each_clashes : (n : Partial) → i < length ns → n ≡ get_or ns i n → EachSoFar dims m ns old i made → PartialsClash dims m n → EachSoFar dims m ns old (i + 1) made
+  each_clashes n within is (js, (grown, (e, p))) h =
+      let longer : take (i + 1) ns ≡ take i ns ++ n ∷ [] = take_more ns i n within ∙ ap (λ x. take i ns ++ x ∷ []) (sym is) in
+      (js, (grown, (subst (λ xs. JoinsEach dims m xs js) (sym longer) (each_clash dims m n (take i ns) js e h), p)))
+
+  pub each_joins : (n k : Partial) (new : List Partial) → i < length ns → n ≡ get_or ns i n → new ≡ made ++ k ∷ [] → EachSoFar dims m ns old i made → PartialsJoin dims m n k × IsPartial dims k → EachSoFar dims m ns old (i + 1) new
+  each_joins n k new within is pushed (js, (grown, (e, p))) h =
+      let longer : take (i + 1) ns ≡ take i ns ++ n ∷ [] = take_more ns i n within ∙ ap (λ x. take i ns ++ x ∷ []) (sym is) in (
+        js ++ k ∷ [],
+        (
+          pushed ∙ ap (λ xs. xs ++ k ∷ []) grown ∙ append_assoc old js (k ∷ []),
+          (subst (λ xs. JoinsEach dims m xs (js ++ k ∷ [])) (sym longer) (each_join dims m n k (take i ns) js e h.0), are_all dims js (k ∷ []) p (h.1, tt)),
+        ),
+      )
+
+  pub each_ended : length ns ≤ i → EachSoFar dims m ns old i made → (js : List Partial) × ((made ≡ old ++ js) × (JoinsEach dims m ns js × ArePartial dims js))
+  each_ended past (js, (grown, (e, p))) = (js, (grown, (subst (λ xs. JoinsEach dims m xs js) (take_all i ns past) e, p)))
+
+-- ---- each with each
+
+all_more : (dims : List DimType) (m : Partial) (ms ns js ks : List Partial) → JoinsAll dims ms ns ks → JoinsEach dims m ns js → JoinsAll dims (ms ++ m ∷ []) ns (ks ++ js)
+all_more dims m _ ns js _ (no_first _) e = subst (JoinsAll dims (m ∷ []) ns) (append_nothing js) (first_then m [] ns js [] e (no_first ns))
+all_more dims m _ _ js _ (first_then a rest ns ls ks d d2) e = subst (JoinsAll dims (a ∷ rest ++ m ∷ []) ns) (sym (append_assoc ls ks js)) (first_then a (rest ++ m ∷ []) ns ls (ks ++ js) d (all_more dims m rest ns js ks d2 e))
+
+module _ (dims : List DimType) (ms ns : List Partial) (i : ℕ) (made : List Partial) where
+  pub all_begun : made ≡ [] → JoinsAll dims (take 0 ms) ns made × ArePartial dims made
+  all_begun is = (subst (JoinsAll dims [] ns) (sym is) (no_first ns), subst (ArePartial dims) (sym is) tt)
+
+  pub all_further : (m : Partial) (new : List Partial) → i < length ms → m ≡ get_or ms i m → JoinsAll dims (take i ms) ns made × ArePartial dims made → (js : List Partial) × ((new ≡ made ++ js) × (JoinsEach dims m ns js × ArePartial dims js))
+      → JoinsAll dims (take (i + 1) ms) ns new × ArePartial dims new
+  all_further m new within is h (js, (grown, (e, p))) =
+      let longer : take (i + 1) ms ≡ take i ms ++ m ∷ [] = take_more ms i m within ∙ ap (λ x. take i ms ++ x ∷ []) (sym is) in (
+        subst (λ xs. JoinsAll dims xs ns new) (sym longer) (subst (JoinsAll dims (take i ms ++ m ∷ []) ns) (sym grown) (all_more dims m (take i ms) ns js made h.0 e)),
+        subst (ArePartial dims) (sym grown) (are_all dims made js h.1 p),
+      )
+
+  pub all_ended : length ms ≤ i → JoinsAll dims (take i ms) ns made × ArePartial dims made → JoinsAll dims ms ns made
+  all_ended past h = subst (λ xs. JoinsAll dims xs ns made) (take_all i ms past) h.0
+
+-- ---- answers
+
+module _ (dims : List DimType) (m n x : Partial) (told : Option Partial) (same : x ≡ n) (h : MatchOption told (PartialsClash dims m x) (λ k. PartialsJoin dims m x k × IsPartial dims k)) where
+  pub told_clash : told ≡ None → PartialsClash dims m n
+  told_clash none = subst (PartialsClash dims m) same (subst (λ t. MatchOption t (PartialsClash dims m x) (λ k. PartialsJoin dims m x k × IsPartial dims k)) none h)
+
+  pub told_join : (k : Partial) → told ≡ Some k → PartialsJoin dims m n k × IsPartial dims k
+  told_join k some = subst (λ y. PartialsJoin dims m y k × IsPartial dims k) same (subst (λ t. MatchOption t (PartialsClash dims m x) (λ k. PartialsJoin dims m x k × IsPartial dims k)) some h)

@@ -1,0 +1,142 @@
+-- A term means one value at most where a type is wanted, and a record says one thing of each dimension.
+use Rattle.std.proofs.Common.{◌≡◌, ◌⊎◌, inl, inr, ℕ, ◌<◌, zero, suc, List, [], ◌∷◌, length, get_or, Option, Some, None, refl, sym, ap, ap₂, ◌∙◌, subst, arith, codes}
+use Rattle.std.specs.Prelude.{Bool, true, false, bytes_eq, ◌↔◌, ◌&&◌}
+use Rattle.std.proofs.lemmas.Bool.{true≢false}
+use Rattle.xdg_ast.specs.declared.names.Name.{Name}
+use Rattle.xdg_domain.specs.Cards.{has}
+use Rattle.xdg_domain.specs.Shapes as d
+use Rattle.xdg_domain.specs.Shapes.{Shape, domain, tuple, truth, integer, text, set, iset, card, valency, mapping, fields, Shapes, no_shape, shape_then, Fields, no_field, field_then, sizes, constants, constants_of, Among, Differ, IsDomain, AreDomains, IsType, AreTypes}
+use Rattle.xdg_domain.specs.Tuples.{index, places, InRange}
+use Rattle.xdg_domain.specs.Valencies.{said_at, KeysRise}
+use Rattle.xdg_domain.specs.declared.values.Value.{Value, out-Value}
+use Rattle.xdg_domain.specs.declared.values.Value.TheOpen.{Value-F}
+use Rattle.xdg_domain.proofs.Keyed.{said_same}
+use Rattle.xdg_domain.proofs.Numbers.{increasing_same, allows_unique}
+use Rattle.xdg_domain.proofs.TupleNumbers.{index_of_places, places_in_range}
+use Rattle.xdg_terms.specs.Forms.{Term, Card, Bindings, bound, counts_of, pairs_of}
+use Rattle.xdg_terms.specs.Offences.{all_told}
+use Rattle.xdg_terms.specs.Means.{texts_of, chosen, truth_text, AllowedBy, written_for, written_at, Said, MeansIn, MeansField}
+use Rattle.xdg_terms.proofs.Has.{same_text, text_same}
+use Rattle.xdg_types.specs.Table.{KeepDims}
+use Rattle.xdg_types.specs.declared.table.DimType.{DimType}
+use Rattle.xdg_classes.specs.Bodies.{Pairs}
+use Rattle.xdg_lexicon.specs.Partial.{Record, Partial, features, SaysFields, SaysRecord, written}
+use Rattle.xdg_lexicon.proofs.Dims.{types_of, keeps_at}
+use Rattle.xdg_lexicon.proofs.OneJoin.{same_out, same_items, dim_at}
+
+-- ---- places of constants
+
+among_at : (cs : List (List ℕ)) (k : ℕ) (t : List ℕ) → k < length cs → get_or cs k [] ≡ t → Among cs t
+among_at [] k t within is = absurd (omega (arith, within))
+among_at (c ∷ cs) zero t within is = inl is
+among_at (c ∷ cs) (suc k) t within is = inr (among_at cs k t (omega (arith, within)) is)
+
+one_place : (cs : List (List ℕ)) (m n : ℕ) → Differ cs → m < length cs → n < length cs → get_or cs m [] ≡ get_or cs n [] → m ≡ n
+one_place [] m n h within inside e = absurd (omega (arith, within))
+one_place (c ∷ cs) zero zero h within inside e = refl
+one_place (c ∷ cs) zero (suc n) h within inside e = absurd (h.0 (among_at cs n c (omega (arith, inside)) (sym e)))
+one_place (c ∷ cs) (suc m) zero h within inside e = absurd (h.0 (among_at cs m c (omega (arith, within)) e))
+one_place (c ∷ cs) (suc m) (suc n) h within inside e = ap suc (one_place cs m n h.1 (omega (arith, within)) (omega (arith, inside)) e)
+
+domain_differs : (s : Shape) → IsDomain s → Differ (constants s)
+domain_differs (domain cs) h = h.1
+domain_differs s h = absurd h
+
+same_chosen : (ss : Shapes) (ms ns : List ℕ) → AreDomains ss → InRange (sizes ss) ms → InRange (sizes ss) ns → chosen (constants_of ss) ms ≡ chosen (constants_of ss) ns → ms ≡ ns
+same_chosen no_shape [] [] h r q e = refl
+same_chosen no_shape [] (n ∷ ns) h r q e = absurd q
+same_chosen no_shape (m ∷ ms) ns h r q e = absurd r
+same_chosen (shape_then s ss) [] ns h r q e = absurd r
+same_chosen (shape_then s ss) (m ∷ ms) [] h r q e = absurd q
+same_chosen (shape_then s ss) (m ∷ ms) (n ∷ ns) h r q e =
+    let here : get_or (constants s) m [] ≡ get_or (constants s) n [] = cc in
+    let rest : chosen (constants_of ss) ms ≡ chosen (constants_of ss) ns = cc in
+    ap₂ (λ (k : ℕ) (ks : List ℕ). k ∷ ks) (one_place (constants s) m n (domain_differs s h.0) r.0 q.0 here) (same_chosen ss ms ns h.1 r.1 q.1 rest)
+
+-- ---- truths, cardinalities and sets
+
+one_truth : (a b : Bool) → truth_text a ≡ truth_text b → a ≡ b
+one_truth true true e = refl
+one_truth false false e = refl
+one_truth true false e = absurd (true≢false (sym (text_same (codes "true") (codes "false") e)))
+one_truth false true e = absurd (true≢false (sym (text_same (codes "false") (codes "true") e)))
+
+and_self : (b : Bool) → (b && b) ≡ b
+and_self true = refl
+and_self false = refl
+
+one_allowed : (written : Card) (a b : List ℕ) → AllowedBy written a → AllowedBy written b → a ≡ b
+one_allowed written a b h k = allows_unique a a a b (h.0, λ n. sym (and_self (has a n))) (k.0, λ n. k.1 n ∙ sym (h.1 n) ∙ sym (and_self (has a n)))
+
+same_truth : (a b : Bool) → (a ≡ true → b ≡ true) → (b ≡ true → a ≡ true) → a ≡ b
+same_truth true b h k = sym (h refl)
+same_truth false true h k = k refl
+same_truth false false h k = refl
+
+said_once : {A V : Type 0} (P : A → V → Type 0) → ((a : A) (x y : V) → P a x → P a y → x ≡ y) → (o : Option A) (s t : Option V) → Said P o s → Said P o t → s ≡ t
+said_once P once None None None h k = refl
+said_once P once None None (Some y) h k = absurd k
+said_once P once None (Some x) t h k = absurd h
+said_once P once (Some a) None t h k = absurd h
+said_once P once (Some a) (Some x) None h k = absurd k
+said_once P once (Some a) (Some x) (Some y) h k = ap (λ z. Some z) (once a x y h k)
+
+-- ---- values
+
+some_same : {A : Type 0} (o : Option A) (a b : A) → o ≡ Some a → o ≡ Some b → a ≡ b
+some_same o a b h k = (let e : Some a ≡ Some b = sym h ∙ k in cc)
+
+mutual
+  one_value : (bs : Bindings) (s : Shape) (t : Term) (x y : Value-F Value) → IsType s → MeansIn bs s t x → MeansIn bs s t y → x ≡ y
+  one_value bs (domain cs) t (Value-F.Const a) (Value-F.Const b) type h k =
+      ap Value-F.Const (one_place cs a b type.1 h.1.1.0 k.1.1.0 (h.1.1.1 ∙ ap (λ (z : Name). z.text) (some_same _ h.0 k.0 h.1.0 k.1.0) ∙ sym k.1.1.1))
+  one_value bs (tuple ss) t (Value-F.Tuple a) (Value-F.Tuple b) type h k =
+      let texts : chosen (constants_of ss) (places (sizes ss) a) ≡ chosen (constants_of ss) (places (sizes ss) b) = h.1.1.1 ∙ ap texts_of (some_same _ h.1.0 k.1.0 h.1.1.0 k.1.1.0) ∙ sym k.1.1.1 in
+      let alike = same_chosen ss (places (sizes ss) a) (places (sizes ss) b) type.domains (places_in_range (sizes ss) a h.0) (places_in_range (sizes ss) b k.0) texts in
+      ap Value-F.Tuple (sym (index_of_places (sizes ss) a h.0) ∙ ap (index (sizes ss)) alike ∙ index_of_places (sizes ss) b k.0)
+  one_value bs truth t (Value-F.Bool a) (Value-F.Bool b) type h k =
+      ap Value-F.Bool (one_truth a b (sym h.1.1 ∙ ap (λ (z : Name). z.text) (some_same _ h.0 k.0 h.1.0 k.1.0) ∙ k.1.1))
+  one_value bs integer t (Value-F.Int a) (Value-F.Int b) type h k = ap Value-F.Int (some_same _ a b h k)
+  one_value bs text t (Value-F.Str a) (Value-F.Str b) type h k = ap Value-F.Str (sym h.1.1 ∙ ap (λ (z : Name). z.text) (some_same _ h.0 k.0 h.1.0 k.1.0) ∙ k.1.1)
+  one_value bs (set s) t (Value-F.Set a) (Value-F.Set b) type h k =
+      ap Value-F.Set (increasing_same a b h.0 k.0 (λ n. same_truth (has a n) (has b n) (λ e. (k.1 n).1 ((h.1 n).0 e)) (λ e. (h.1 n).1 ((k.1 n).0 e))))
+  one_value bs (iset s) t (Value-F.Set a) (Value-F.Set b) type h k =
+      ap Value-F.Set (increasing_same a b h.0 k.0 (λ n. same_truth (has a n) (has b n) (λ e. (k.1 n).1 ((h.1 n).0 e)) (λ e. (h.1 n).1 ((k.1 n).0 e))))
+  one_value bs card t (Value-F.Card a) (Value-F.Card b) type h k =
+      ap Value-F.Card (one_allowed h.0 a b h.1.1 (subst (λ (w : Card). AllowedBy w b) (some_same _ k.0 h.0 k.1.0 h.1.0) k.1.1))
+  one_value bs (valency key) t (Value-F.Valency a) (Value-F.Valency b) type h k =
+      ap Value-F.Valency (said_same 0 a b h.0 k.0 (λ n. said_once AllowedBy one_allowed (written_at (all_told (counts_of t)) (constants key) n) (said_at a n) (said_at b n) (h.1 n) (k.1 n)))
+  one_value bs (mapping key u) t (Value-F.Map a) (Value-F.Map b) type h k =
+      ap Value-F.Map (said_same 0 a b h.0 k.0 (λ n. said_once (λ r v. MeansIn bs u (bound bs r) (out-Value v)) (λ r x y i j. same_out x y (one_value bs u (bound bs r) (out-Value x) (out-Value y) type.1.1 i j)) (written_at (all_told (pairs_of t)) (constants key) n) (said_at a n) (said_at b n) (h.1 n) (k.1 n)))
+  one_value bs (fields fs) t (Value-F.Rec a) (Value-F.Rec b) type h k =
+      ap Value-F.Rec (said_same 0 a b h.0 k.0 (λ n. one_field bs fs (all_told (pairs_of t)) n (said_at a n) (said_at b n) type.1 (h.1 n) (k.1 n)))
+  one_value bs _ t _ _ type h k = absurd (assumption (h, k))
+
+  one_field : (bs : Bindings) (fs : Fields) (pairs : List (Name × Term)) (key : ℕ) (x y : Option Value) → AreTypes fs → MeansField bs fs pairs key x → MeansField bs fs pairs key y → x ≡ y
+  one_field bs no_field pairs key x y types h k = h ∙ sym k
+  one_field bs (field_then name u fs) pairs zero x y types h k =
+      said_once (λ r v. MeansIn bs u (bound bs r) (out-Value v)) (λ r v w i j. same_out v w (one_value bs u (bound bs r) (out-Value v) (out-Value w) types.0 i j)) (written_for pairs name) x y h k
+  one_field bs (field_then name u fs) pairs (suc key) x y types h k = one_field bs fs pairs key x y types.1 h k
+
+-- ---- records
+
+same_or_not : (a b : List ℕ) → (a ≡ b) ⊎ (a ≡ b → ⊥)
+same_or_not a b = by (bytes_eq a b) refl
+  where
+    by : (t : Bool) → bytes_eq a b ≡ t → (a ≡ b) ⊎ (a ≡ b → ⊥)
+    by true e = inl (same_text a b e)
+    by false e = inr (λ is. true≢false (sym (text_same a b is) ∙ e))
+
+one_said : (bs : Bindings) (fs : Fields) (pairs : Pairs) (m n : Record) → AreTypes fs → SaysFields bs fs pairs m → SaysFields bs fs pairs n → m ≡ n
+one_said bs fs pairs m n types h k = said_same 0 m n h.0 k.0 (λ key. one_field bs fs (written pairs) key (said_at m key) (said_at n key) types (h.1 key) (k.1 key))
+
+-- one partial entry says what is written of a dimension
+pub one_record : (dims : List DimType) (bs : Bindings) (name : List ℕ) (pairs : Pairs) (p q : Partial) → KeepDims dims → SaysRecord dims bs name pairs p → SaysRecord dims bs name pairs q → p ≡ q
+one_record dims bs name pairs p q keeps h k = same_items [] p q (h.count ∙ sym k.count) (λ i within.
+    let inside : i < length dims = (let long = h.count in omega (arith, within, long)) in
+    let at = dim_at dims i inside in
+    let dim : DimType = at.0 in
+    elim (same_or_not dim.name name) [
+      | inl is ↦ one_said bs (features dim) pairs _ _ (types_of dim.fields (keeps_at dims i dim inside (sym at.1.1) keeps).features) (h.said i dim at.1 is) (k.said i dim at.1 is)
+      | inr other ↦ h.unsaid i dim at.1 other ∙ sym (k.unsaid i dim at.1 other)
+    ])

@@ -1,0 +1,77 @@
+use Rattle.std.proofs.Common.{◌≡◌, ◌<◌, ◌+◌, ◌-◌, ◌∙◌, length, get_or, arith, ap, sym, subst}
+use Rattle.std.proofs.lemmas.List.{get_or_default}
+use Rattle.xdg_classes.specs.Bodies.{Expr, body}
+use Rattle.xdg_lexicon.specs.declared.frames.Frame.TheVariants as frame
+use Rattle.xdg_lexicon.specs.Frames.{open_in, IsOpen}
+use Rattle.xdg_lexicon.specs.Partial.{ArePartial}
+use Rattle.xdg_lexicon.specs.Weights.{heavy, sized}
+use Rattle.xdg_lexicon.proofs.Denoted.{if_ok}
+use Rattle.xdg_lexicon.proofs.Framed.{pushed, joins_told, all_joined, next_joined}
+use Rattle.xdg_lexicon.proofs.Weighed.{joining_goes}
+use Rattle.xdg_lexicon.proofs.frames.Walk.join.Goals as goal
+
+pub join_all-requires-clause-first : goal.join_all-requires-clause-first
+join_all-requires-clause-first c =
+    let dims : c.dims-dims.result.now ≡ c.args.checked.now.types.dims = c.dims-dims.ensures.same ∙ ap (λ ty. ty.dims) c.types.ensures.same in
+    subst (λ ds. ArePartial ds c.as_slice.result.now) (sym dims) (subst (ArePartial c.args.checked.now.types.dims) (sym c.as_slice.ensures.value) c.requires.leaves.partial)
+
+pub join_all-requires-clause-second : goal.join_all-requires-clause-second
+join_all-requires-clause-second c =
+    let dims : c.dims-dims.result.now ≡ c.args.checked.now.types.dims = c.dims-dims.ensures.same ∙ ap (λ ty. ty.dims) c.types.ensures.same in
+    subst (λ ds. ArePartial ds c.as_slice-2.result.now) (sym dims) (subst (ArePartial c.args.checked.now.types.dims) (sym c.as_slice-2.ensures.value) c.requires.leaves.around.0.so_far.1.1)
+
+pub returns-then-place-eq0-clause-leaves : goal.returns-then-place-eq0-clause-leaves
+returns-then-place-eq0-clause-leaves c =
+    let l = c.requires.leaves in
+    let dims : c.dims-dims.result.now ≡ c.args.checked.now.types.dims = c.dims-dims.ensures.same ∙ ap (λ ty. ty.dims) c.types.ensures.same in
+    let told = joins_told _ c.args.checked.now.types.dims c.as_slice.result.now c.args.made.items c.as_slice-2.result.now c.args.joined.items c.in_ok-both.both.items dims c.as_slice.ensures.value c.as_slice-2.ensures.value c.in_ok-both.ensures.joins c.in_ok-both.ensures.partial in
+    all_joined c.args.checked.now (body c.args.self.now.whole.now) (open_in c.args.self.now) c.args.self.now.scope c.args.members.now c.args.place c.args.joined.items c.args.made.items c.in_ok-both.both.items l.part l.denotes l.around.0 l.around.1 told.0 told.1
+    (let past = c.if-place-eq0.true in omega (arith, past))
+
+pub returns-then-place-eq0-clause-less : goal.returns-then-place-eq0-clause-less
+returns-then-place-eq0-clause-less c = omega arith
+
+pub overflow_sub-next : goal.overflow_sub-next
+overflow_sub-next c = (let some = c.if-place-eq0.false in omega (arith, some))
+
+pub bounds-members-next : goal.bounds-members-next
+bounds-members-next c = (let within = c.requires.leaves.around.0.open_at.within in omega (arith, within))
+
+pub offset_bounds-members-next : goal.offset_bounds-members-next
+offset_bounds-members-next c = (let within = c.requires.leaves.around.0.open_at.within in let b = c.well_formed in omega (arith, within, b))
+
+pub enter-requires : goal.enter-requires
+enter-requires c =
+    let l = c.requires.leaves in
+    let checked = c.args.checked.now in
+    let whole = body c.args.self.now.whole.now in
+    let walk = c.args.self.now in
+    let items = c.args.members.now in
+    let next = c.args.place - 1 in
+    let before : next + 1 ≡ c.args.place = (let some = c.if-place-eq0.false in omega (arith, some)) in
+    let inside : next < length items = (let within = l.around.0.open_at.within in omega (arith, within)) in
+    let e : Expr = get_or items next c.index-members-next.result in
+    let at : e ≡ get_or items next e = get_or_default items next c.index-members-next.result e inside in
+    let dims : c.dims-dims.result.now ≡ checked.types.dims = c.dims-dims.ensures.same ∙ ap (λ ty. ty.dims) c.types.ensures.same in
+    let told = joins_told _ checked.types.dims c.as_slice.result.now c.args.made.items c.as_slice-2.result.now c.args.joined.items c.in_ok-both.both.items dims c.as_slice.ensures.value c.as_slice-2.ensures.value c.in_ok-both.ensures.joins c.in_ok-both.ensures.partial in
+    let further = next_joined checked whole (open_in walk) walk.scope items c.args.place c.args.joined.items c.args.made.items c.in_ok-both.both.items l.part l.denotes l.around.0 l.around.1 told.0 told.1 e next before at in
+    record {
+      enters = record {
+        stands = further.0;
+        around = subst (λ fs. IsOpen checked whole fs walk.scope (body e.kind)) (sym (pushed c.add.new.frames.items walk.frames.items (frame.Joining c.args.members next c.in_ok-both.both) c.in_ok-add.ensures)) (further.1, l.around.1);
+      };
+    }
+
+pub returns-clause-less : goal.returns-clause-less
+returns-clause-less c =
+    let checked = c.args.checked.now in
+    let walk = c.args.self.now in
+    let items = c.args.members.now in
+    let next = c.args.place - 1 in
+    let before : next + 1 ≡ c.args.place = (let some = c.if-place-eq0.false in omega (arith, some)) in
+    let within = c.requires.leaves.around.0.open_at.within in
+    let e : Expr = get_or items next c.index-members-next.result in
+    let at : e ≡ get_or items next e = get_or_default items next c.index-members-next.result e (omega (arith, within)) in
+    let goes = joining_goes (sized checked walk.scope.depth) items next c.args.place (heavy checked (open_in walk) walk.scope.depth) e before within at in
+    let opened = ap (λ fs. heavy checked fs walk.scope.depth) (pushed c.add.new.frames.items walk.frames.items (frame.Joining c.args.members next c.in_ok-both.both) c.in_ok-add.ensures) in
+    if_ok _ _ c.enter.result (λ made less. omega (arith, less, goes, opened)) c.enter.ensures.less

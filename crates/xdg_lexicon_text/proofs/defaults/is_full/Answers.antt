@@ -1,6 +1,0 @@
-use Rattle.std.proofs.Common.{◌∙◌, sym}
-use Rattle.xdg_lexicon_text.proofs.Defaulting.{other_length}
-use Rattle.xdg_lexicon_text.proofs.defaults.is_full.Goals as goal
-
-pub returns-then-numbers-from : goal.returns-then-numbers-from
-returns-then-numbers-from c = other_length c.args.numbers.now c.args.count (λ e. c.if-numbers-from.true (e ∙ sym c.from.ensures))

@@ -1,9 +1,0 @@
-use Rattle.std.proofs.Common.{◌∙◌}
-use Rattle.xdg_lexicon_text.proofs.Listed.{all_listed}
-use Rattle.xdg_lexicon_text.proofs.listing.lexicon_text.Goals as goal
-
-pub returns : goal.returns
-returns c =
-    c.into_text.ensures
-    ∙ all_listed c.args.types.now c.args.entries.now c.place_of_words.result c.in-Ok.count c.new-printer.result c.put_entries.new.printer c.put_entries_line.new.printer c.place_of_words.ensures c.in-Ok.ensures.1 c.new-printer.ensures
-    c.in_ok-put_entries.ensures c.in_ok-put_entries_line.ensures

@@ -1,4 +1,0 @@
-pub mod Defaulted
-pub mod LexiconText
-pub mod ValueWords
-pub mod WordPlaces

@@ -1,4 +1,0 @@
-pub mod Places
-pub mod Failing
-pub mod Standing
-pub mod Named

@@ -1,5 +1,0 @@
-use Rattle.xdg_members.proofs.Dims.{SoFar, JoinsAt}
-use Rattle.xdg_members.proofs.entries.join_partial.Given as goal
-
-abbrev pub invariant-loop-place : goal.invariant-loop-place
-invariant-loop-place l = SoFar (JoinsAt l.fn.dims l.fn.one l.fn.other) l.place l.made

@@ -1,6 +1,0 @@
-use Rattle.std.proofs.Common.{◌≡◌, take}
-use Rattle.xdg_members.specs.Partial.{nothing}
-use Rattle.xdg_members.proofs.entries.say_nothing.Given as goal
-
-abbrev pub invariant-loop : goal.invariant-loop
-invariant-loop l = l.made ≡ nothing (take l.index l.fn.dims)

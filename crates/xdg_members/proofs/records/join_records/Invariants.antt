@@ -1,6 +1,0 @@
-use Rattle.xdg_members.specs.Made.{IsMade}
-use Rattle.xdg_members.proofs.Fields.{Joining}
-use Rattle.xdg_members.proofs.records.join_records.Given as goal
-
-abbrev pub invariant-loop-place : goal.invariant-loop-place
-invariant-loop-place l = IsMade (Joining l.fn.fields l.fn.one l.fn.other) l.place l.made

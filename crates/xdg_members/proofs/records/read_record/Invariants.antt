@@ -1,6 +1,0 @@
-use Rattle.xdg_members.specs.Made.{IsMade}
-use Rattle.xdg_members.proofs.Fields.{Reading}
-use Rattle.xdg_members.proofs.records.read_record.Given as goal
-
-abbrev pub invariant-loop-place : goal.invariant-loop-place
-invariant-loop-place l = IsMade (Reading l.fn.bindings l.fn.fields l.fn.pairs) l.place l.made

@@ -1,6 +1,0 @@
-pub mod Denotes
-pub mod Frames
-pub mod Made
-pub mod Partial
-pub mod Right
-pub mod Weights

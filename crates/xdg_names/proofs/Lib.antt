@@ -1,0 +1,12 @@
+pub mod First
+pub mod In
+pub mod One
+pub mod Climbs
+pub mod Marks
+pub mod Closed
+pub mod Walking
+pub mod Merging
+pub mod Leaving
+pub mod Numbered
+pub mod Laws
+pub mod Texts

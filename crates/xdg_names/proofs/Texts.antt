@@ -1,0 +1,222 @@
+-- What is told of texts by number: where a text stands, and what one text more changes.
+use Rattle.std.proofs.Common.{◌≡◌, ℕ, zero, suc, ◌<◌, ◌+◌, Bool, true, false, cond, ◌||◌, if◌then◌else◌, List, [], ◌∷◌, ◌++◌, length, get_or, map, position, Option, None, Some, is_some, option_map, refl, sym, ap, subst, ◌∙◌, inl, inr, arith, true≢false}
+use Rattle.std.specs.List.{list_any, position_from}
+use Rattle.std.specs.Str.{bytes_eq}
+use Rattle.std.proofs.Math.Bool.{or-false}
+use Rattle.std.proofs.lemmas.Bool.{cases_Bool}
+use Rattle.std.proofs.lemmas.Bool.Decides.{same_from_decides, Decides-like}
+use Rattle.std.proofs.lemmas.Iterator.Adapters.{position_from-zero}
+use Rattle.std.proofs.lemmas.List.{map-append}
+use Rattle.std.proofs.lemmas.Slice.Eq.{bytes_eq-Decides}
+use Rattle.xdg_names.specs.Texts.{has_text, place_of, AllDiffer}
+
+-- ---- tests and places
+
+same : (text : List ℕ) → bytes_eq text text ≡ true
+same text = (bytes_eq-Decides text text).1 refl
+
+either_way : (a b : List ℕ) → bytes_eq a b ≡ bytes_eq b a
+either_way a b = same_from_decides (bytes_eq a b) (bytes_eq b a) (bytes_eq-Decides a b) (Decides-like (bytes_eq b a) sym sym (bytes_eq-Decides b a))
+
+none_or : (a b : Bool) → (a || b) ≡ false → (a ≡ false) × (b ≡ false)
+none_or true b e = absurd (true≢false e)
+none_or false b e = (refl, e)
+
+or_none : (a b : Bool) → a ≡ false → b ≡ false → (a || b) ≡ false
+or_none a b p q = ap (λ c. c || b) p ∙ q
+
+some_later : (place : Option ℕ) → is_some (option_map suc place) ≡ is_some place
+some_later None = refl
+some_later (Some n) = refl
+
+later : (found : Option ℕ) (place : ℕ) → option_map suc found ≡ Some place → (before : ℕ) × (found ≡ Some before) × (suc before ≡ place)
+later None place e = absurd (true≢false (sym (ap is_some e)))
+later (Some before) place e = (before, refl, cc)
+
+-- ---- one list
+
+-- the same test as one of std's, for the lemmas on that
+pub has_text-list_any : (texts : List (List ℕ)) (text : List ℕ) → has_text texts text ≡ list_any (λ one. bytes_eq one text) texts
+has_text-list_any [] text = refl
+has_text-list_any (first ∷ texts) text = ap (λ b. bytes_eq first text || b) (has_text-list_any texts text)
+
+-- a text has a place just if it stands there
+pub is_some-place_of : (texts : List (List ℕ)) (text : List ℕ) → is_some (place_of texts text) ≡ has_text texts text
+is_some-place_of [] text = refl
+is_some-place_of (first ∷ texts) text = by (bytes_eq first text) (is_some-place_of texts text)
+  where
+    by : (b : Bool) → is_some (place_of texts text) ≡ has_text texts text → is_some (if b then Some 0 else option_map suc (place_of texts text)) ≡ (b || has_text texts text)
+    by true rest = refl
+    by false rest = some_later (place_of texts text) ∙ rest
+
+-- at the place of a text stands that text
+pub place_of-Some : (texts : List (List ℕ)) (text : List ℕ) (place : ℕ) → place_of texts text ≡ Some place → (place < length texts) × (get_or texts place [] ≡ text)
+place_of-Some [] text place e = absurd (true≢false (sym (ap is_some e)))
+place_of-Some (first ∷ texts) text place e = by (bytes_eq first text) refl (place_of-Some texts text) e
+  where
+    by : (b : Bool) → bytes_eq first text ≡ b → ((k : ℕ) → place_of texts text ≡ Some k → (k < length texts) × (get_or texts k [] ≡ text))
+        → (if b then Some 0 else option_map suc (place_of texts text)) ≡ Some place → (place < length (first ∷ texts)) × (get_or (first ∷ texts) place [] ≡ text)
+    by true here rest e =
+        let z : 0 ≡ place = cc in
+        (omega (arith, z), ap (λ k. get_or (first ∷ texts) k []) (sym z) ∙ (bytes_eq-Decides first text).0 here)
+    by false other rest e =
+        let l = later (place_of texts text) place e in
+        let r = rest l.0 l.1 in
+        (omega (arith, r.0, l.2), ap (λ k. get_or (first ∷ texts) k []) (sym l.2) ∙ r.1)
+
+pub place_of-None : (texts : List (List ℕ)) (text : List ℕ) → place_of texts text ≡ None → has_text texts text ≡ false
+place_of-None texts text e = sym (is_some-place_of texts text) ∙ ap is_some e
+
+pub None-place_of : (texts : List (List ℕ)) (text : List ℕ) → has_text texts text ≡ false → place_of texts text ≡ None
+None-place_of texts text e = by (place_of texts text) (is_some-place_of texts text ∙ e)
+  where
+    by : (found : Option ℕ) → is_some found ≡ false → found ≡ None
+    by None e = refl
+    by (Some n) e = absurd (true≢false e)
+
+-- a text that stands there has a place
+pub place_of-has_text : (texts : List (List ℕ)) (text : List ℕ) → has_text texts text ≡ true → (place : ℕ) × (place_of texts text ≡ Some place)
+place_of-has_text texts text e = by (place_of texts text) (is_some-place_of texts text ∙ e)
+  where
+    by : (found : Option ℕ) → is_some found ≡ true → (place : ℕ) × (found ≡ Some place)
+    by None e = absurd (true≢false (sym e))
+    by (Some n) e = (n, refl)
+
+-- and a place at which it stands
+pub has_text-stands : (texts : List (List ℕ)) (text : List ℕ) → has_text texts text ≡ true → (place : ℕ) × (place < length texts) × (get_or texts place [] ≡ text)
+has_text-stands texts text e =
+    let p = place_of-has_text texts text e in
+    let s = place_of-Some texts text p.0 p.1 in
+    (p.0, s.0, s.1)
+
+-- what stands at a place is found
+pub stands-has_text : (texts : List (List ℕ)) (text : List ℕ) (place : ℕ) → place < length texts → get_or texts place [] ≡ text → has_text texts text ≡ true
+stands-has_text [] text place within is = absurd (omega (arith, within))
+stands-has_text (first ∷ texts) text zero within is = ap (λ b. b || has_text texts text) ((bytes_eq-Decides first text).1 is)
+stands-has_text (first ∷ texts) text (suc place) within is =
+    ap (λ b. bytes_eq first text || b) (stands-has_text texts text place (omega (arith, within)) is) ∙ by (bytes_eq first text)
+  where
+    by : (b : Bool) → (b || true) ≡ true
+    by true = refl
+    by false = refl
+
+-- ---- more texts
+
+pub has_text-append : (texts more : List (List ℕ)) (text : List ℕ) → has_text (texts ++ more) text ≡ (has_text texts text || has_text more text)
+has_text-append [] more text = refl
+has_text-append (first ∷ texts) more text = by (bytes_eq first text) (has_text-append texts more text)
+  where
+    by : (b : Bool) → has_text (texts ++ more) text ≡ (has_text texts text || has_text more text)
+        → (b || has_text (texts ++ more) text) ≡ ((b || has_text texts text) || has_text more text)
+    by true rest = refl
+    by false rest = rest
+
+-- the place of a text stays where more are added
+pub place_of-append_left : (texts more : List (List ℕ)) (text : List ℕ) → has_text texts text ≡ true → place_of (texts ++ more) text ≡ place_of texts text
+place_of-append_left [] more text e = absurd (true≢false (sym e))
+place_of-append_left (first ∷ texts) more text e = by (bytes_eq first text) (place_of-append_left texts more text) e
+  where
+    by : (b : Bool) → (has_text texts text ≡ true → place_of (texts ++ more) text ≡ place_of texts text) → (b || has_text texts text) ≡ true
+        → (if b then Some 0 else option_map suc (place_of (texts ++ more) text)) ≡ (if b then Some 0 else option_map suc (place_of texts text))
+    by true rest e = refl
+    by false rest e = ap (option_map suc) (rest e)
+
+from_zero : (found : Option ℕ) → found ≡ option_map (λ place. 0 + place) found
+from_zero None = refl
+from_zero (Some n) = let e : n ≡ 0 + n = omega arith in ap Some e
+
+past_one : (count : ℕ) (found : Option ℕ) → option_map suc (option_map (λ place. count + place) found) ≡ option_map (λ place. suc count + place) found
+past_one count None = refl
+past_one count (Some n) = let e : suc (count + n) ≡ suc count + n = omega arith in ap Some e
+
+-- a text that is not among the first ones is counted from their number on
+pub place_of-append_right : (texts more : List (List ℕ)) (text : List ℕ) → has_text texts text ≡ false → place_of (texts ++ more) text ≡ option_map (λ place. length texts + place) (place_of more text)
+place_of-append_right [] more text e = from_zero (place_of more text)
+place_of-append_right (first ∷ texts) more text e =
+    let n = none_or (bytes_eq first text) (has_text texts text) e in
+    ap (λ b. if b then Some 0 else option_map suc (place_of (texts ++ more) text)) n.0
+    ∙ ap (option_map suc) (place_of-append_right texts more text n.1)
+    ∙ past_one (length texts) (place_of more text)
+
+-- a new text has the number of the texts before it
+pub place_of-new : (texts : List (List ℕ)) (text : List ℕ) → has_text texts text ≡ false → place_of (texts ++ text ∷ []) text ≡ Some (length texts)
+place_of-new texts text e =
+    let n : length texts + 0 ≡ length texts = omega arith in
+    place_of-append_right texts (text ∷ []) text e
+    ∙ ap (λ b. option_map (λ place. length texts + place) (if b then Some 0 else None)) (same text)
+    ∙ ap Some n
+
+-- ---- texts that differ
+
+-- they differ where a new one is added
+pub AllDiffer-append : (texts : List (List ℕ)) (text : List ℕ) → AllDiffer texts → has_text texts text ≡ false → AllDiffer (texts ++ text ∷ [])
+AllDiffer-append [] text differ e = (refl, tt)
+AllDiffer-append (first ∷ texts) text differ e =
+    let n = none_or (bytes_eq first text) (has_text texts text) e in (
+      has_text-append texts (text ∷ []) first
+          ∙ or_none (has_text texts first) (bytes_eq text first || false) differ.0 (or-false (bytes_eq text first) ∙ either_way text first ∙ n.0),
+      AllDiffer-append texts text differ.1 n.1,
+    )
+
+-- the place of what stands at a place is that place
+pub place_of-at : (texts : List (List ℕ)) (place : ℕ) → AllDiffer texts → place < length texts → place_of texts (get_or texts place []) ≡ Some place
+place_of-at [] place differ within = absurd (omega (arith, within))
+place_of-at (first ∷ texts) zero differ within = ap (λ b. if b then Some 0 else option_map suc (place_of texts first)) (same first)
+place_of-at (first ∷ texts) (suc place) differ within =
+    let inside : place < length texts = omega (arith, within) in
+    let text = get_or texts place [] in
+    let other : bytes_eq first text ≡ false = elim (cases_Bool (bytes_eq first text)) [
+      | inl e ↦ absurd (true≢false (sym (stands-has_text texts first place inside (sym ((bytes_eq-Decides first text).0 e))) ∙ differ.0))
+      | inr e ↦ e
+    ] in
+    ap (λ b. if b then Some 0 else option_map suc (place_of texts text)) other ∙ ap (option_map suc) (place_of-at texts place differ.1 inside)
+
+-- they still differ where a new one is added
+pub still_differ : (texts more : List (List ℕ)) (text : List ℕ) → AllDiffer texts → has_text texts text ≡ false → more ≡ texts ++ text ∷ [] → AllDiffer more
+still_differ texts more text differ new e = subst AllDiffer (sym e) (AllDiffer-append texts text differ new)
+
+-- ---- keys that own texts
+
+module _ {K : Type 0} (bytes : K → List ℕ) where
+  found : (keys : List K) (text : List ℕ) → list_any (λ key. bytes_eq text (bytes key)) keys ≡ has_text (map bytes keys) text
+  found [] text = refl
+  found (key ∷ keys) text =
+      ap (λ b. b || list_any (λ k. bytes_eq text (bytes k)) keys) (either_way text (bytes key))
+      ∙ ap (λ b. bytes_eq (bytes key) text || b) (found keys text)
+
+  counted : (keys : List K) (text : List ℕ) (start : ℕ) → position_from (λ key. bytes_eq text (bytes key)) start keys ≡ option_map (λ place. start + place) (place_of (map bytes keys) text)
+  counted [] text start = refl
+  counted (key ∷ keys) text start =
+      ap (λ b. cond b (Some start) (position_from (λ k. bytes_eq text (bytes k)) (start + 1) keys)) (either_way text (bytes key))
+      ∙ by (bytes_eq (bytes key) text) (counted keys text (start + 1))
+    where
+      shifted : (place : Option ℕ) → option_map (λ k. (start + 1) + k) place ≡ option_map (λ k. start + k) (option_map suc place)
+      shifted None = refl
+      shifted (Some n) = let e : (start + 1) + n ≡ start + suc n = omega arith in ap Some e
+
+      by : (b : Bool) → position_from (λ k. bytes_eq text (bytes k)) (start + 1) keys ≡ option_map (λ place. (start + 1) + place) (place_of (map bytes keys) text)
+          → cond b (Some start) (position_from (λ k. bytes_eq text (bytes k)) (start + 1) keys) ≡ option_map (λ place. start + place) (if b then Some 0 else option_map suc (place_of (map bytes keys) text))
+      by true rest = let e : start ≡ start + 0 = omega arith in ap Some e
+      by false rest = rest ∙ shifted (place_of (map bytes keys) text)
+
+  -- where the keys own these texts
+  module _ (keys : List K) (texts : List (List ℕ)) (text : List ℕ) (own : map bytes keys ≡ texts) where
+    -- some key has a text just if it is one of the texts
+    pub text_found : list_any (λ key. bytes_eq text (bytes key)) keys ≡ has_text texts text
+    text_found = found keys text ∙ ap (λ t. has_text t text) own
+
+    -- the place of the key that has a text
+    pub text_placed : position (λ key. bytes_eq text (bytes key)) keys ≡ place_of texts text
+    text_placed =
+        position_from-zero (λ key. bytes_eq text (bytes key)) keys ∙ counted keys text 0
+        ∙ sym (from_zero (place_of (map bytes keys) text)) ∙ ap (λ t. place_of t text) own
+
+    -- a key with a new text goes last
+    pub text_added : (more : List K) (key : K) → bytes key ≡ text → has_text texts text ≡ false
+        → more ≡ (if list_any (λ k. bytes_eq (bytes key) (bytes k)) keys then keys else keys ++ key ∷ []) → map bytes more ≡ texts ++ text ∷ []
+    text_added more key is new e =
+        let none : list_any (λ k. bytes_eq (bytes key) (bytes k)) keys ≡ false = ap (λ t. list_any (λ k. bytes_eq t (bytes k)) keys) is ∙ text_found ∙ new in
+        ap (map bytes) (e ∙ ap (λ b. if b then keys else keys ++ key ∷ []) none)
+        ∙ map-append bytes keys (key ∷ [])
+        ∙ ap (λ t. map bytes keys ++ t ∷ []) is
+        ∙ ap (λ t. t ++ text ∷ []) own

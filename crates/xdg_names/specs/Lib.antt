@@ -1,0 +1,5 @@
+pub mod First
+pub mod Leads
+pub mod Closing
+pub mod Walks
+pub mod Texts

@@ -1,4 +1,0 @@
-pub mod Leaving
-pub mod Trees
-pub mod Meaning
-pub mod Writing

@@ -1,9 +1,0 @@
-pub mod Codes
-pub mod Places
-pub mod Runs
-pub mod Stages
-pub mod Refusals
-pub mod Texts
-pub mod Loaded
-pub mod Grammars
-pub mod Outcomes

@@ -1,6 +1,0 @@
--- What was read of a grammar file.
-use Rattle.xdg_outcomes.specs.Texts.{ReadText}
-use Rattle.xdg_outcomes.specs.declared.loading.Loaded.{Loaded}
-
-abbrev pub read_of : Loaded → ReadText
-read_of loaded = record { text = loaded.text.items; tree = loaded.tree }

@@ -1,0 +1,357 @@
+-- What is filled is a value that says all, and nothing is filled exactly where a plain part lacks.
+use Rattle.std.proofs.Common.{◌≡◌, ◌⊎◌, ℕ, ◌<◌, ◌≤◌, ◌+◌, zero, suc, List, [], ◌∷◌, map, Option, None, Some, inl, inr, refl, ap, ap₂, sym, ◌∙◌, arith, subst}
+use Rattle.std.specs.Prelude.{◌↔◌, ◌==◌, MatchOption, Result, Ok, Err, IfOk, IfSome}
+use Rattle.xdg_base.specs.declared.faults.OutOfMemory.{OutOfMemory}
+use Rattle.std.specs.List.{range_with_len}
+use Rattle.std.proofs.lemmas.Bool.{cond-true, cond-false, cases_eq, eq-eqb, ne_eqb}
+use Rattle.xdg_domain.specs.Cards.{IsCards}
+use Rattle.xdg_domain.specs.Valencies.{said_at, KeysRise}
+use Rattle.xdg_domain.specs.Shapes.{Shape, domain, tuple, truth, integer, text, set, iset, card, valency, mapping, fields, Fields, no_field, field_then, count, IsType, AreTypes, IsMapped}
+use Rattle.xdg_domain.specs.Values.{EachSaid, IsIn, IsFieldOf, IsValue}
+use Rattle.xdg_domain.specs.Defaults.{field_and_defaults, record_of_defaults, IsFilledIn, AreFilled, IsFilled}
+use Rattle.xdg_domain.specs.declared.values.Value.{Value, out-Value}
+use Rattle.xdg_domain.specs.declared.values.Value.TheOpen.{Value-F}
+use Rattle.xdg_domain.specs.declared.values.Value.TheVariants as v
+use Rattle.xdg_domain.proofs.DefaultLaws.{default_is_value, zero_alone}
+use Rattle.xdg_domain.proofs.Each.{same_some}
+use Rattle.xdg_domain.proofs.Made.{none_and}
+use Rattle.xdg_packed.specs.Filled.{cards_in, cards_said, keys_in, keys_said, fields_in, fields_said, or_zero, each_key, as_map, filled_cards, filled, filled_fields, Lacks, SomeLacks, IsSaid, AreValuesOf, AreSaid}
+
+-- ---- what is said
+
+said_each : {V : Type 0} (P : ℕ → V → Type 0) (m : List (ℕ × V)) (key : ℕ) (w : V) → EachSaid P m → said_at m key ≡ Some w → P key w
+said_each P [] key w each e = absurd (cc)
+said_each P (entry ∷ m) key w each e = elim (cases_eq entry.0 key) [
+  | inl same ↦
+      let is : entry.1 ≡ w = same_some entry.1 w (sym (cond-true (entry.0 == key) (Some entry.1) (said_at m key) (eq-eqb entry.0 key same)) ∙ e) in
+      subst (λ k. P k w) same (subst (P entry.0) is each.0)
+  | inr other ↦ said_each P m key w each.1 (sym (cond-false (entry.0 == key) (Some entry.1) (said_at m key) (ne_eqb entry.0 key other)) ∙ e)
+]
+
+is_said : (s : Shape) (o : Option Value) → ((w : Value) → o ≡ Some w → IsValue s w) → IsSaid s o
+is_said s None h = tt
+is_said s (Some w) h = h w refl
+
+are_said : (fs : Fields) (place : ℕ) (m : List (ℕ × Value)) → ((j : ℕ) (w : Value) → said_at m (place + j) ≡ Some w → IsFieldOf fs j w) → AreSaid place fs m
+are_said no_field place m h = tt
+are_said (field_then name u fs) place m h = (
+  is_said u (said_at m place) (λ w e. h 0 w (ap (said_at m) (omega arith) ∙ e)),
+  are_said fs (place + 1) m (λ j w e. h (suc j) w (ap (said_at m) (omega arith) ∙ e)),
+)
+
+record_layer : (fs : Fields) (l : Value-F Value) → IsIn (fields fs) l → KeysRise 0 (fields_in l) × AreSaid 0 fs (fields_in l)
+record_layer fs (Value-F.Rec m) h = (h.0, are_said fs 0 m (λ j w e. said_each (IsFieldOf fs) m j w h.1 (ap (said_at m) (omega arith) ∙ e)))
+record_layer fs (Value-F.Const n) h = absurd h
+record_layer fs (Value-F.Tuple n) h = absurd h
+record_layer fs (Value-F.Set ns) h = absurd h
+record_layer fs (Value-F.Card ns) h = absurd h
+record_layer fs (Value-F.Valency m) h = absurd h
+record_layer fs (Value-F.Map m) h = absurd h
+record_layer fs (Value-F.Bool b) h = absurd h
+record_layer fs (Value-F.Int n) h = absurd h
+record_layer fs (Value-F.Str t) h = absurd h
+
+nothing_said : (fs : Fields) (place : ℕ) → AreSaid place fs []
+nothing_said no_field place = tt
+nothing_said (field_then name u fs) place = (tt, nothing_said fs (place + 1))
+
+-- what is said of the fields of a record is right
+pub record_said : (fs : Fields) (said : Option Value) → IsSaid (fields fs) said → KeysRise 0 (fields_said said) × AreSaid 0 fs (fields_said said)
+record_said fs None h = (tt, nothing_said fs 0)
+record_said fs (Some x) h = record_layer fs (out-Value x) h
+
+map_layer : (k u : Shape) (l : Value-F Value) → IsIn (mapping k u) l → AreValuesOf u (keys_in l)
+map_layer k u (Value-F.Map m) h = λ key. is_said u (said_at m key) (λ w e. (said_each (λ key v. (key < count k) × IsIn u (out-Value v)) m key w h.1 e).1)
+map_layer k u (Value-F.Rec m) h = absurd h
+map_layer k u (Value-F.Const n) h = absurd h
+map_layer k u (Value-F.Tuple n) h = absurd h
+map_layer k u (Value-F.Set ns) h = absurd h
+map_layer k u (Value-F.Card ns) h = absurd h
+map_layer k u (Value-F.Valency m) h = absurd h
+map_layer k u (Value-F.Bool b) h = absurd h
+map_layer k u (Value-F.Int n) h = absurd h
+map_layer k u (Value-F.Str t) h = absurd h
+
+-- what is said of the keys of a map is right
+pub map_said : (k u : Shape) (said : Option Value) → IsSaid (mapping k u) said → AreValuesOf u (keys_said said)
+map_said k u None h = λ key. tt
+map_said k u (Some x) h = map_layer k u (out-Value x) h
+
+-- cardinalities that are said are cardinalities
+abbrev AreCards : List (ℕ × List ℕ) → Type 0
+AreCards m = (key : ℕ) → IsCards (or_zero (said_at m key))
+
+cards_or_zero : (o : Option (List ℕ)) → ((ns : List ℕ) → o ≡ Some ns → IsCards ns) → IsCards (or_zero o)
+cards_or_zero None h = zero_alone
+cards_or_zero (Some ns) h = h ns refl
+
+valency_layer : (k : Shape) (l : Value-F Value) → IsIn (valency k) l → AreCards (cards_in l)
+valency_layer k (Value-F.Valency m) h = λ key. cards_or_zero (said_at m key) (λ ns e. (said_each (λ key ns. (key < count k) × IsCards ns) m key ns h.1 e).1)
+valency_layer k (Value-F.Map m) h = absurd h
+valency_layer k (Value-F.Rec m) h = absurd h
+valency_layer k (Value-F.Const n) h = absurd h
+valency_layer k (Value-F.Tuple n) h = absurd h
+valency_layer k (Value-F.Set ns) h = absurd h
+valency_layer k (Value-F.Card ns) h = absurd h
+valency_layer k (Value-F.Bool b) h = absurd h
+valency_layer k (Value-F.Int n) h = absurd h
+valency_layer k (Value-F.Str t) h = absurd h
+
+valency_said : (k : Shape) (said : Option Value) → IsSaid (valency k) said → AreCards (cards_said said)
+valency_said k None h = λ key. zero_alone
+valency_said k (Some x) h = valency_layer k (out-Value x) h
+
+-- ---- whether something lacks
+
+mapped_full : (s : Shape) (said : Option Value) → IsMapped s → Lacks s said → ⊥
+mapped_full (domain cs) said h p = h
+mapped_full (tuple ss) said h p = h
+mapped_full truth said h p = h
+mapped_full integer said h p = h
+mapped_full text said h p = h
+mapped_full (set s) said h p = p
+mapped_full (iset s) said h p = p
+mapped_full card said h p = p
+mapped_full (valency k) said h p = p
+mapped_full (mapping k u) said h p = p
+mapped_full (fields fs) said h p = h
+
+abbrev Decided : Shape → Option Value → Type 0
+Decided s said = ((filled s said ≡ None) × Lacks s said) ⊎ ((Lacks s said → ⊥) × ((x : Value) × (filled s said ≡ Some x)))
+
+abbrev AllDecided : ℕ → Fields → List (ℕ × Value) → Type 0
+AllDecided place fs m = ((filled_fields place fs m ≡ None) × SomeLacks place fs m) ⊎ ((SomeLacks place fs m → ⊥) × ((all : List (ℕ × Value)) × (filled_fields place fs m ≡ Some all)))
+
+each_some : (f : ℕ → Option Value) → ((key : ℕ) → (x : Value) × (f key ≡ Some x)) → (keys : List ℕ) → (all : List (ℕ × Value)) × (each_key f keys ≡ Some all)
+each_some f has [] = ([], refl)
+each_some f has (key ∷ keys) = let rest = each_some f has keys in ((key, (has key).0) ∷ rest.0, ap₂ (field_and_defaults key) (has key).1 rest.1)
+
+found : (u : Shape) (o : Option Value) → IsMapped u → Decided u o → (x : Value) × (filled u o ≡ Some x)
+found u o mapped d = elim d [
+  | inl none ↦ absurd (mapped_full u o mapped none.1)
+  | inr some ↦ some.1
+]
+
+mutual
+  decided : (s : Shape) → IsType s → (said : Option Value) → Decided s said
+  decided (domain cs) h None = inl (refl, tt)
+  decided (domain cs) h (Some x) = inr (λ p. p, (x, refl))
+  decided (tuple ss) h None = inl (refl, tt)
+  decided (tuple ss) h (Some x) = inr (λ p. p, (x, refl))
+  decided truth h None = inl (refl, tt)
+  decided truth h (Some x) = inr (λ p. p, (x, refl))
+  decided integer h None = inl (refl, tt)
+  decided integer h (Some x) = inr (λ p. p, (x, refl))
+  decided text h None = inl (refl, tt)
+  decided text h (Some x) = inr (λ p. p, (x, refl))
+  decided (set s) h None = inr (λ p. p, (v.Set [], refl))
+  decided (set s) h (Some x) = inr (λ p. p, (x, refl))
+  decided (iset s) h None = inr (λ p. p, (v.Set (range_with_len 0 (count s)), refl))
+  decided (iset s) h (Some x) = inr (λ p. p, (x, refl))
+  decided card h None = inr (λ p. p, (_, refl))
+  decided card h (Some x) = inr (λ p. p, (x, refl))
+  decided (valency k) h said = inr (λ p. p, (v.Valency (filled_cards (count k) (cards_said said)), refl))
+  decided (mapping k u) h said =
+      let f : ℕ → Option Value = λ key. filled u (said_at (keys_said said) key) in
+      let each = each_some f (λ key. found u (said_at (keys_said said) key) h.1.0 (decided u h.1.1 (said_at (keys_said said) key))) (range_with_len 0 (count k)) in
+      inr (λ p. p, (v.Map each.0, ap as_map each.1))
+  decided (fields fs) h said = elim (all_decided fs h.1 0 (fields_said said)) [
+    | inl none ↦ inl (ap record_of_defaults none.0, none.1)
+    | inr some ↦ inr (some.0, (v.Rec some.1.0, ap record_of_defaults some.1.1))
+  ]
+
+  all_decided : (fs : Fields) → AreTypes fs → (place : ℕ) (m : List (ℕ × Value)) → AllDecided place fs m
+  all_decided no_field h place m = inr (λ p. p, ([], refl))
+  all_decided (field_then name u fs) h place m = elim (decided u h.0 (said_at m place)) [
+    | inl none ↦ inl (ap (λ o. field_and_defaults place o (filled_fields (place + 1) fs m)) none.0 ∙ none_and place (filled_fields (place + 1) fs m), inl none.1)
+    | inr some ↦ elim (all_decided fs h.1 (place + 1) m) [
+      | inl none ↦ inl (ap₂ (field_and_defaults place) some.1.1 none.0, inr none.1)
+      | inr rest ↦ inr (λ p. elim p [ inl a ↦ some.0 a | inr b ↦ rest.0 b ], ((place, some.1.0) ∷ rest.1.0, ap₂ (field_and_defaults place) some.1.1 rest.1.1))
+    ]
+  ]
+
+differ : (o : Option Value) (x : Value) → o ≡ None → o ≡ Some x → ⊥
+differ o x e f = cc
+
+-- nothing is filled exactly where a plain part lacks
+pub none_lacks : (s : Shape) → IsType s → (said : Option Value) → (filled s said ≡ None) ↔ Lacks s said
+none_lacks s h said = (
+  λ e. elim (decided s h said) [ inl none ↦ none.1 | inr some ↦ absurd (differ (filled s said) some.1.0 e some.1.1) ],
+  λ p. elim (decided s h said) [ inl none ↦ none.0 | inr some ↦ absurd (some.0 p) ],
+)
+
+-- ---- what a function says of each key
+
+abbrev keyed : {V : Type 0} → (ℕ → V) → ℕ → ℕ → List (ℕ × V)
+keyed g start n = map (λ key. (key, g key)) (range_with_len start n)
+
+keyed_rises : {V : Type 0} (g : ℕ → V) (start n : ℕ) → KeysRise start (keyed g start n)
+keyed_rises g start zero = tt
+keyed_rises g start (suc n) = (omega arith, keyed_rises g (start + 1) n)
+
+keyed_each : {V : Type 0} (P : ℕ → V → Type 0) (g : ℕ → V) (bound start n : ℕ) → start + n ≤ bound → ((key : ℕ) → key < bound → P key (g key)) → EachSaid P (keyed g start n)
+keyed_each P g bound start zero within holds = tt
+keyed_each P g bound start (suc n) within holds = (holds start (omega (arith, within)), keyed_each P g bound (start + 1) n (omega (arith, within)) holds)
+
+keyed_said : {V : Type 0} (g : ℕ → V) (start n key : ℕ) → start ≤ key → key < start + n → said_at (keyed g start n) key ≡ Some (g key)
+keyed_said g start zero key above below = absurd (omega (arith, above, below))
+keyed_said g start (suc n) key above below = elim (cases_eq start key) [
+  | inl e ↦ cond-true (start == key) (Some (g start)) (said_at (keyed g (start + 1) n) key) (eq-eqb start key e) ∙ ap (λ k. Some (g k)) e
+  | inr other ↦
+      cond-false (start == key) (Some (g start)) (said_at (keyed g (start + 1) n) key) (ne_eqb start key other)
+      ∙ keyed_said g (start + 1) n key (omega (arith, above, other)) (omega (arith, below))
+]
+
+-- ---- what it is
+
+record Taken (place : ℕ) (o : Option Value) (r : Option (List (ℕ × Value))) (all : List (ℕ × Value)) : Type 0 where
+  head : Value
+  rest : List (ℕ × Value)
+  one : o ≡ Some head
+  more : r ≡ Some rest
+  whole : (place, head) ∷ rest ≡ all
+
+taken : (place : ℕ) (o : Option Value) (r : Option (List (ℕ × Value))) (all : List (ℕ × Value)) → field_and_defaults place o r ≡ Some all → Taken place o r all
+taken place None None all e = absurd (cc)
+taken place None (Some rest) all e = absurd (cc)
+taken place (Some x) None all e = absurd (cc)
+taken place (Some x) (Some rest) all e = record { head = x; rest = rest; one = refl; more = refl; whole = same_some ((place, x) ∷ rest) all e }
+
+head_said : (place : ℕ) (x : Value) (rest all : List (ℕ × Value)) → (place, x) ∷ rest ≡ all → said_at all place ≡ Some x
+head_said place x rest all whole = ap (λ l. said_at l place) (sym whole) ∙ cond-true (place == place) (Some x) (said_at rest place) (eq-eqb place place refl)
+
+rest_said : (place : ℕ) (x : Value) (rest all : List (ℕ × Value)) (key : ℕ) → (place, x) ∷ rest ≡ all → (place ≡ key → ⊥) → said_at all key ≡ said_at rest key
+rest_said place x rest all key whole other = ap (λ l. said_at l key) (sym whole) ∙ cond-false (place == key) (Some x) (said_at rest key) (ne_eqb place key other)
+
+-- the keys of a map
+module _ (f : ℕ → Option Value) (P : Value → Type 0) (holds : (key : ℕ) (x : Value) → f key ≡ Some x → P x) where
+  each_rises : (start n : ℕ) (all : List (ℕ × Value)) → each_key f (range_with_len start n) ≡ Some all → KeysRise start all
+  each_rises start zero all e = subst (KeysRise start) (same_some [] all e) tt
+  each_rises start (suc n) all e =
+      let t = taken start (f start) (each_key f (range_with_len (start + 1) n)) all e in
+      subst (KeysRise start) t.whole (omega arith, each_rises (start + 1) n t.rest t.more)
+
+  each_holds : (bound start n : ℕ) (all : List (ℕ × Value)) → start + n ≤ bound → each_key f (range_with_len start n) ≡ Some all → EachSaid (λ key x. (key < bound) × P x) all
+  each_holds bound start zero all within e = subst (EachSaid (λ key x. (key < bound) × P x)) (same_some [] all e) tt
+  each_holds bound start (suc n) all within e =
+      let t = taken start (f start) (each_key f (range_with_len (start + 1) n)) all e in
+      subst (EachSaid (λ key x. (key < bound) × P x)) t.whole ((omega (arith, within), holds start t.head t.one), each_holds bound (start + 1) n t.rest (omega (arith, within)) t.more)
+
+  each_has : (start n : ℕ) (all : List (ℕ × Value)) → each_key f (range_with_len start n) ≡ Some all → (key : ℕ) → start ≤ key → key < start + n → (x : Value) × ((said_at all key ≡ Some x) × P x)
+  each_has start zero all e key above below = absurd (omega (arith, above, below))
+  each_has start (suc n) all e key above below =
+      let t = taken start (f start) (each_key f (range_with_len (start + 1) n)) all e in
+      elim (cases_eq start key) [
+        | inl same ↦ (t.head, (ap (said_at all) (sym same) ∙ head_said start t.head t.rest all t.whole, holds start t.head t.one))
+        | inr other ↦
+            let later = each_has (start + 1) n t.rest t.more key (omega (arith, above, other)) (omega (arith, below)) in
+            (later.0, (rest_said start t.head t.rest all key t.whole other ∙ later.1.0, later.1.1))
+      ]
+
+-- a value of the type that says all
+abbrev IsRight : Shape → Value → Type 0
+IsRight s x = IsValue s x × IsFilled s x
+
+by_layer : (s : Shape) (x y : Value) (l : Value-F Value) → Some y ≡ Some x → out-Value y ≡ l → IsIn s l × IsFilledIn s l → IsRight s x
+by_layer s x y l e o given = subst (IsRight s) (same_some y x e) (subst (λ m. IsIn s m × IsFilledIn s m) (sym o) given)
+
+fields_rise : (fs : Fields) (place : ℕ) (m all : List (ℕ × Value)) → filled_fields place fs m ≡ Some all → KeysRise place all
+fields_rise no_field place m all e = subst (KeysRise place) (same_some [] all e) tt
+fields_rise (field_then name u fs) place m all e =
+    let t = taken place (filled u (said_at m place)) (filled_fields (place + 1) fs m) all e in
+    subst (KeysRise place) t.whole (omega arith, fields_rise fs (place + 1) m t.rest t.more)
+
+abbrev IsAt : Fields → ℕ → ℕ → Value → Type 0
+IsAt fs place k w = (j : ℕ) × ((k ≡ place + j) × IsFieldOf fs j w)
+
+each_wider : (P Q : ℕ → Value → Type 0) → ((k : ℕ) (w : Value) → P k w → Q k w) → (s : List (ℕ × Value)) → EachSaid P s → EachSaid Q s
+each_wider P Q wider [] h = tt
+each_wider P Q wider (entry ∷ s) h = (wider entry.0 entry.1 h.0, each_wider P Q wider s h.1)
+
+mutual
+  right : (s : Shape) → IsType s → (said : Option Value) → IsSaid s said → (x : Value) → filled s said ≡ Some x → IsRight s x
+  right (domain cs) h None given x e = absurd (cc)
+  right (domain cs) h (Some y) given x e = (subst (IsValue (domain cs)) (same_some y x e) given, tt)
+  right (tuple ss) h None given x e = absurd (cc)
+  right (tuple ss) h (Some y) given x e = (subst (IsValue (tuple ss)) (same_some y x e) given, tt)
+  right truth h None given x e = absurd (cc)
+  right truth h (Some y) given x e = (subst (IsValue truth) (same_some y x e) given, tt)
+  right integer h None given x e = absurd (cc)
+  right integer h (Some y) given x e = (subst (IsValue integer) (same_some y x e) given, tt)
+  right text h None given x e = absurd (cc)
+  right text h (Some y) given x e = (subst (IsValue text) (same_some y x e) given, tt)
+  right (set s) h None given x e = (default_is_value (set s) h x e, tt)
+  right (set s) h (Some y) given x e = (subst (IsValue (set s)) (same_some y x e) given, tt)
+  right (iset s) h None given x e = (default_is_value (iset s) h x e, tt)
+  right (iset s) h (Some y) given x e = (subst (IsValue (iset s)) (same_some y x e) given, tt)
+  right card h None given x e = (default_is_value card h x e, tt)
+  right card h (Some y) given x e = (subst (IsValue card) (same_some y x e) given, tt)
+  right (valency k) h said given x e =
+      let m = cards_said said in
+      let g : ℕ → List ℕ = λ key. or_zero (said_at m key) in
+      let all = filled_cards (count k) m in
+      by_layer (valency k) x (v.Valency all) (Value-F.Valency all) e (v.outs-Valency all) (
+        (keyed_rises g 0 (count k), keyed_each (λ key ns. (key < count k) × IsCards ns) g (count k) 0 (count k) (omega arith) (λ key below. (below, valency_said k said given key))),
+        λ key below. subst (λ o. MatchOption o ⊥ (λ ns. Unit {0})) (sym (keyed_said g 0 (count k) key (omega arith) (omega (arith, below)))) tt,
+      )
+  right (mapping k u) h said given x e =
+      let m = keys_said said in
+      let f : ℕ → Option Value = λ key. filled u (said_at m key) in
+      let each = each_some f (λ key. found u (said_at m key) h.1.0 (decided u h.1.1 (said_at m key))) (range_with_len 0 (count k)) in
+      let all = each.0 in
+      let holds : (key : ℕ) (y : Value) → f key ≡ Some y → IsRight u y = λ key y is. right u h.1.1 (said_at m key) (map_said k u said given key) y is in
+      by_layer (mapping k u) x (v.Map all) (Value-F.Map all) (sym (ap as_map each.1) ∙ e) (v.outs-Map all) (
+        (
+          each_rises f (IsRight u) holds 0 (count k) all each.1,
+          each_wider (λ key y. (key < count k) × IsRight u y) (λ key y. (key < count k) × IsIn u (out-Value y)) (λ key y r. (r.0, r.1.0)) all (each_holds f (IsRight u) holds (count k) 0 (count k) all (omega arith) each.1),
+        ),
+        λ key below.
+            let has = each_has f (IsRight u) holds 0 (count k) all each.1 key (omega arith) (omega (arith, below)) in
+            subst (λ o. MatchOption o ⊥ (λ w. IsFilledIn u (out-Value w))) (sym has.1.0) has.1.1.1,
+      )
+  right (fields fs) h said given x e = elim (all_decided fs h.1 0 (fields_said said)) [
+    | inl none ↦ absurd (differ (record_of_defaults (filled_fields 0 fs (fields_said said))) x (ap record_of_defaults none.0) e)
+    | inr some ↦
+        let m = fields_said said in
+        let all = some.1.0 in
+        let are = (record_said fs said given).1 in
+        by_layer (fields fs) x (v.Rec all) (Value-F.Rec all) (sym (ap record_of_defaults some.1.1) ∙ e) (v.outs-Rec all) (
+          (fields_rise fs 0 m all some.1.1, each_wider (IsAt fs 0) (IsFieldOf fs) (λ k w g. let same : g.0 ≡ k = omega (arith, g.1.0) in subst (λ j. IsFieldOf fs j w) same g.1.1) all (fields_each fs h.1 0 m are all some.1.1)),
+          fields_filled fs h.1 0 m are all some.1.1 all (λ q above. refl),
+        )
+  ]
+
+  fields_each : (fs : Fields) → AreTypes fs → (place : ℕ) (m : List (ℕ × Value)) → AreSaid place fs m → (all : List (ℕ × Value)) → filled_fields place fs m ≡ Some all → EachSaid (IsAt fs place) all
+  fields_each no_field h place m are all e = subst (EachSaid (IsAt no_field place)) (same_some [] all e) tt
+  fields_each (field_then name u fs) h place m are all e =
+      let t = taken place (filled u (said_at m place)) (filled_fields (place + 1) fs m) all e in
+      subst (EachSaid (IsAt (field_then name u fs) place)) t.whole (
+        (zero, (omega arith, (right u h.0 (said_at m place) are.0 t.head t.one).0)),
+        each_wider (IsAt fs (place + 1)) (IsAt (field_then name u fs) place) (λ k w g. (suc g.0, (omega (arith, g.1.0), g.1.1))) t.rest (fields_each fs h.1 (place + 1) m are.1 t.rest t.more),
+      )
+
+  fields_filled : (fs : Fields) → AreTypes fs → (place : ℕ) (m : List (ℕ × Value)) → AreSaid place fs m → (all : List (ℕ × Value)) → filled_fields place fs m ≡ Some all → (n : List (ℕ × Value)) → ((q : ℕ) → place ≤ q → said_at n q ≡ said_at all q) → AreFilled place fs n
+  fields_filled no_field h place m are all e n same = tt
+  fields_filled (field_then name u fs) h place m are all e n same =
+      let t = taken place (filled u (said_at m place)) (filled_fields (place + 1) fs m) all e in
+      let here : said_at n place ≡ Some t.head = same place (omega arith) ∙ head_said place t.head t.rest all t.whole in (
+        subst (λ o. MatchOption o ⊥ (λ w. IsFilledIn u (out-Value w))) (sym here) ((right u h.0 (said_at m place) are.0 t.head t.one).1),
+        fields_filled fs h.1 (place + 1) m are.1 t.rest t.more n (λ q above. same q (omega (arith, above)) ∙ rest_said place t.head t.rest all q t.whole (λ f. omega (arith, f, above))),
+      )
+
+-- what is filled is a value of the type, and says something of each key and of each field
+pub filled_right : (s : Shape) → IsType s → (said : Option Value) → IsSaid s said → (x : Value) → filled s said ≡ Some x → IsValue s x × IsFilled s x
+filled_right s h said given x e = right s h said given x e
+
+-- the same of what an answer tells
+pub told_lacks : (s : Shape) → IsType s → (said : Option Value) (told : Result (Option Value) OutOfMemory) → IfOk told (λ o. o ≡ filled s said) → IfOk told (λ o. (o ≡ None) ↔ Lacks s said)
+told_lacks s h said (Ok o) is = subst (λ p. (p ≡ None) ↔ Lacks s said) (sym is) (none_lacks s h said)
+told_lacks s h said (Err e) is = tt
+
+if_some : (P : Value → Type 0) (o : Option Value) → ((x : Value) → o ≡ Some x → P x) → IfSome o P
+if_some P None h = tt
+if_some P (Some x) h = h x refl
+
+pub told_right : (s : Shape) → IsType s → (said : Option Value) → IsSaid s said → (told : Result (Option Value) OutOfMemory) → IfOk told (λ o. o ≡ filled s said) → IfOk told (λ o. IfSome o (λ x. IsValue s x × IsFilled s x))
+told_right s h said given (Ok o) is = if_some (λ x. IsValue s x × IsFilled s x) o (λ x e. filled_right s h said given x (sym is ∙ e))
+told_right s h said given (Err e) is = tt

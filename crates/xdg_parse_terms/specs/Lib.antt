@@ -1,2 +1,0 @@
-pub mod Steadiness
-pub mod Steps

@@ -1,4 +1,0 @@
-pub mod CostRows
-pub mod Bounding
-pub mod Freeing
-pub mod BoundStaying

@@ -1,0 +1,145 @@
+-- The lines of the lexicon, put one after the other.
+use Rattle.std.proofs.Common.{◌≡◌, ℕ, zero, suc, ◌<◌, ◌≤◌, ◌+◌, List, [], ◌∷◌, length, get_or, slice_get, drop, Option, Some, None, unwrap_or, refl, sym, ap, ap₂, ◌∙◌, subst, add-one, arith}
+use Rattle.std.proofs.Math.Seq.{drop-cons}
+use Rattle.std.proofs.lemmas.List.{drop_all}
+use Rattle.std.proofs.lemmas.Option.{slice_get_read, slice_get-get_or, unwrap_or-slice_get}
+use Rattle.xdg_ast.specs.declared.token.Kind.TheVariants as k
+use Rattle.xdg_ast.specs.Words.{mark, constant}
+use Rattle.xdg_domain.specs.Shapes.{fields, fields_of, AreTypes}
+use Rattle.xdg_domain.specs.Values.{EachSaid, IsFieldOf, IsIn}
+use Rattle.xdg_domain.specs.declared.types.Ty.{Ty}
+use Rattle.xdg_domain.specs.declared.values.Value.{out-Value}
+use Rattle.xdg_domain.specs.declared.values.Value.TheVariants as v
+use Rattle.xdg_types.specs.declared.table.DimType.{DimType}
+use Rattle.xdg_types.specs.Table.{Table, Typed, typed, AreFeatures, KeepsDim, KeepDims, ArePlaces, IsTable}
+use Rattle.xdg_packed.specs.Lexicon.{Record, Entry, said_in}
+use Rattle.xdg_packed.specs.Entries.{IsEntry, AreEntries}
+use Rattle.xdg_print.specs.declared.printer.Printer.{Printer}
+use Rattle.xdg_print.specs.Printed.{put, put_lines, begun, ended}
+use Rattle.xdg_print.proofs.Put.{put_append, put_lines_append, text_of_lines}
+use Rattle.xdg_print.proofs.Written.{put_mark}
+use Rattle.xdg_print.specs.LexiconText.{dim_line, dim_line_at, dim_lines, end_line, entries_line, entry_line, entry_lines, entries_lines, lexicon_lines, lexicon_text, word_at}
+use Rattle.xdg_print.specs.ValueWords.{features_words}
+use Rattle.xdg_print.specs.WordPlaces.{place_of_word}
+use Rattle.xdg_print.proofs.Stood.{any_default}
+
+abbrev start : Printer
+start = record { text = []; last = None }
+
+-- the elements from a place on begin with the one there
+from_place : {X : Type 0} (xs : List X) (i : ℕ) (x : X) → i < length xs → x ≡ get_or xs i x → drop i xs ≡ x ∷ drop (i + 1) xs
+from_place xs i x within is = rw (add-one) (drop-cons xs i x within ∙ ap (λ z. z ∷ drop (suc i) xs) (sym is))
+
+-- ---- words
+
+-- where there is no record, there is no word
+pub no_record : (entry : Entry) (dim field : ℕ) → None ≡ slice_get entry dim → [] ≡ said_in (get_or entry dim []) field
+no_record entry dim field none = ap (λ m. said_in m field) (ap (λ o. unwrap_or o []) none ∙ unwrap_or-slice_get entry dim [])
+
+pub record_there : (entry : Entry) (dim field : ℕ) (m given : Record) (said : List ℕ) → Some m ≡ slice_get entry dim → given ≡ m → said ≡ said_in given field → said ≡ said_in (get_or entry dim []) field
+record_there entry dim field m given said some same is = is ∙ ap (λ x. said_in x field) (same ∙ ap (λ o. unwrap_or o m) some ∙ unwrap_or-slice_get entry dim m ∙ any_default_at entry dim m [] (sym some))
+  where
+    any_default_at : (xs : Entry) (i : ℕ) (d e : Record) → slice_get xs i ≡ Some d → get_or xs i d ≡ get_or xs i e
+    any_default_at [] i d e h = absurd (cc)
+    any_default_at (x ∷ xs) zero d e h = refl
+    any_default_at (x ∷ xs) (suc i) d e h = any_default_at xs i d e h
+
+-- ---- dimensions
+
+-- a dimension's line was added, piece by piece
+pub dim_done : (dim : DimType) (m : Record) (name : List ℕ) (types : List (List ℕ × Ty)) (said : Record) (p began marked named opened listed closed : Printer) → name ≡ dim.name → types ≡ dim.fields → said ≡ m
+    → began ≡ begun [] p → marked ≡ put_mark k.Dim began → named ≡ put (constant name ∷ []) marked → opened ≡ put_mark k.LeftBrace named → listed ≡ put (features_words (fields_of (typed types)) said) opened → closed ≡ put_mark k.RightBrace listed
+    → ended closed ≡ put_lines (dim_line dim m ∷ []) p
+dim_done dim m name types said p began marked named opened listed closed name_is types_are same one two three four five six =
+    let words = features_words (fields_of (typed dim.fields)) m in
+    let before : opened ≡ put_mark k.LeftBrace (put (constant dim.name ∷ []) (put_mark k.Dim (begun [] p))) =
+    four ∙ ap (put_mark k.LeftBrace) (three ∙ ap₂ (λ n z. put (constant n ∷ []) z) name_is (two ∙ ap (put_mark k.Dim) one)) in
+    ap ended (six ∙ ap (put_mark k.RightBrace) (five ∙ ap₂ (λ ts ms. put (features_words (fields_of (typed ts)) ms) opened) types_are same ∙ ap (put words) before)
+    ∙ sym (put_append words (mark k.RightBrace ∷ []) (put_mark k.LeftBrace (put (constant dim.name ∷ []) (put_mark k.Dim (begun [] p))))))
+
+-- the place of a used dimension is one of a dimension
+pub place_below : (bound : ℕ) (ks : List ℕ) (i : ℕ) → ArePlaces bound ks → i < length ks → get_or ks i 0 < bound
+place_below bound [] i h within = absurd (omega (arith, within))
+place_below bound (j ∷ ks) zero h within = h.0.0
+place_below bound (j ∷ ks) (suc i) h within = place_below bound ks i h.1 (omega (arith, within))
+
+kept_at : (dims : List DimType) (i : ℕ) (dim : DimType) → KeepDims dims → i < length dims → dim ≡ get_or dims i dim → KeepsDim dim
+kept_at [] i dim h within is = absurd (omega (arith, within))
+kept_at (d ∷ dims) zero dim h within is = subst KeepsDim (sym is) h.0
+kept_at (d ∷ dims) (suc i) dim h within is = kept_at dims i dim h.1 (omega (arith, within)) is
+
+types_of_features : (all : Typed) → AreFeatures all → AreTypes (fields_of all)
+types_of_features [] h = tt
+types_of_features (one ∷ more) h = (h.0, types_of_features more h.1)
+
+-- the features of a used dimension have types
+pub dim_types : (table : Table) (dims : List DimType) (k : ℕ) (dim : DimType) → IsTable table → dims ≡ table.dims → k < length dims → dim ≡ get_or dims k dim → AreTypes (fields_of (typed dim.fields))
+dim_types table dims k dim h same within is = types_of_features (typed dim.fields) (kept_at dims k dim (subst KeepDims (sym same) h.dims) within is).features
+
+-- and the record of an entry says values of them
+pub dim_said : (table : Table) (dims : List DimType) (used : List ℕ) (entry records : List Record) (i : ℕ) (dim : DimType) (m : Record) → IsEntry table entry → dims ≡ table.dims → used ≡ table.used → records ≡ entry → i < length used → get_or used i 0 < length dims
+    → dim ≡ get_or dims (get_or used i 0) dim → i < length records → m ≡ get_or records i m → EachSaid (IsFieldOf (fields_of (typed dim.fields))) m
+dim_said table dims used entry records i dim m h same lent given within below is there at =
+    let place : slice_get table.used i ≡ Some (get_or used i 0) = ap (λ us. slice_get us i) (sym lent) ∙ slice_get-get_or used i 0 within in
+    let stands : slice_get table.dims (get_or used i 0) ≡ Some dim = ap (λ ds. slice_get ds (get_or used i 0)) (sym same) ∙ slice_get_read dims (length dims) (get_or used i 0) dim refl below is in
+    let record_is : get_or entry i [] ≡ m = ap (λ ms. get_or ms i []) (sym given) ∙ any_default records i [] m there ∙ sym at in
+    (subst (IsIn (fields (fields_of (typed dim.fields)))) (ap (λ x. out-Value (v.Rec x)) record_is ∙ v.outs-Rec m) (h.each i dim (get_or used i 0, (place, stands))).0).1
+
+pub as_many : (table : Table) (used : List ℕ) (entry records : List Record) (i : ℕ) → IsEntry table entry → used ≡ table.used → records ≡ entry → i < length used → i < length records
+as_many table used entry records i h lent given within =
+    let a = h.count in
+    let b = ap length lent in
+    let c = ap length given in omega (arith, a, b, c, within)
+
+-- the line of the used dimension at a place was added
+pub next_dim : (dims : List DimType) (used : List ℕ) (records : List Record) (i : ℕ) (dim : DimType) (m : Record) (p q end : Printer) → i < length used → get_or used i 0 < length dims → dim ≡ get_or dims (get_or used i 0) dim
+    → i < length records → m ≡ get_or records i m → q ≡ put_lines (dim_line dim m ∷ []) p → put_lines (dim_lines dims (drop i used) (drop i records)) p ≡ end → put_lines (dim_lines dims (drop (i + 1) used) (drop (i + 1) records)) q ≡ end
+unfolding dim_lines
+next_dim dims used records i dim m p q end within below is there at added before =
+    let k = get_or used i 0 in
+    let stands : slice_get dims k ≡ Some dim = slice_get_read dims (length dims) k dim refl below is in
+    let later = dim_lines dims (drop (i + 1) used) (drop (i + 1) records) in
+    ap (put_lines later) (added ∙ ap (λ o. put_lines (dim_line_at o m) p) (sym stands))
+    ∙ sym (put_lines_append (dim_line_at (slice_get dims k) m) later p)
+    ∙ ap₂ (λ us ms. put_lines (dim_lines dims us ms) p) (sym (from_place used i k within (any_default used i 0 k within))) (sym (from_place records i m there at))
+    ∙ before
+
+pub all_dims : (dims : List DimType) (used : List ℕ) (records : List Record) (i : ℕ) (p end : Printer) → length used ≤ i → put_lines (dim_lines dims (drop i used) (drop i records)) p ≡ end → p ≡ end
+unfolding dim_lines
+all_dims dims used records i p end past before = ap (λ us. put_lines (dim_lines dims us (drop i records)) p) (sym (drop_all i used past)) ∙ before
+
+-- ---- entries
+
+pub entry_done : (table : Table) (place : Option (ℕ × ℕ)) (n : ℕ) (entry : Entry) (word : List ℕ) (p q r : Printer) → word ≡ word_at place entry → q ≡ put_lines (entry_line n word ∷ []) p → r ≡ put_lines (dim_lines table.dims table.used entry) q
+    → put_lines (end_line ∷ []) r ≡ put_lines (entry_lines table place n entry) p
+entry_done table place n entry word p q r is one two =
+    ap (put_lines (end_line ∷ [])) (two ∙ ap (put_lines (dim_lines table.dims table.used entry)) (one ∙ ap (λ w. put_lines (entry_line n w ∷ []) p) is))
+    ∙ sym (put_lines_append (dim_lines table.dims table.used entry) (end_line ∷ []) (put_lines (entry_line n (word_at place entry) ∷ []) p))
+
+pub entry_at : (table : Table) (entries : List Entry) (i : ℕ) (entry : Entry) → AreEntries table entries → i < length entries → entry ≡ get_or entries i entry → IsEntry table entry
+entry_at table [] i entry h within is = absurd (omega (arith, within))
+entry_at table (e ∷ entries) zero entry h within is = subst (IsEntry table) (sym is) h.0
+entry_at table (e ∷ entries) (suc i) entry h within is = entry_at table entries i entry h.1 (omega (arith, within)) is
+
+-- the lines of the entry at a place were added
+pub next_entry : {q end : Printer} (p : Printer) (table : Table) (place : Option (ℕ × ℕ)) (entries : List Entry) (i : ℕ) (entry : Entry) → i < length entries → entry ≡ get_or entries i entry
+    → put_lines (entries_lines table place (i + 1) (drop i entries)) p ≡ end → q ≡ put_lines (entry_lines table place (i + 1) entry) p → put_lines (entries_lines table place (i + 1 + 1) (drop (i + 1) entries)) q ≡ end
+unfolding entries_lines
+next_entry {q} {end} p table place entries i entry within is before added =
+    ap (put_lines (entries_lines table place (i + 1 + 1) (drop (i + 1) entries))) added ∙ sym (put_lines_append (entry_lines table place (i + 1) entry) (entries_lines table place (i + 1 + 1) (drop (i + 1) entries)) p)
+    ∙ ap (λ z. put_lines (entries_lines table place (i + 1) z) p) (sym (from_place entries i entry within is)) ∙ before
+
+-- where no entry is left, all were added
+pub all_entries : {end : Printer} (p : Printer) (table : Table) (place : Option (ℕ × ℕ)) (entries : List Entry) (i : ℕ) → length entries ≤ i → put_lines (entries_lines table place (i + 1) (drop i entries)) p ≡ end → p ≡ end
+unfolding entries_lines
+all_entries p table place entries i beyond before = ap (λ z. put_lines (entries_lines table place (i + 1) z) p) (sym (drop_all i entries beyond)) ∙ before
+
+-- the lines of all entries and the last line are the text
+pub all_listed : (table : Table) (entries : List Entry) (place : Option (ℕ × ℕ)) (count : ℕ) (p listed q : Printer) → place ≡ place_of_word table → count ≡ length entries → p ≡ record { text = []; last = None } → listed ≡ put_lines (entries_lines table place 1 entries) p
+    → q ≡ put_lines (entries_line count ∷ []) listed → q.text ≡ lexicon_text table entries
+unfolding lexicon_text
+all_listed table entries place count p listed q same counted none all last =
+    let first = entries_lines table (place_of_word table) 1 entries in
+    ap (λ z. z.text) (last ∙ ap₂ (λ n z. put_lines (entries_line n ∷ []) z) counted (all ∙ ap₂ (λ o z. put_lines (entries_lines table o 1 entries) z) same none)
+    ∙ sym (put_lines_append first (entries_line (length entries) ∷ []) start))
+    ∙ text_of_lines (lexicon_lines table entries) start

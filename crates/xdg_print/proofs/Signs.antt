@@ -1,0 +1,102 @@
+-- Cardinalities that a sign stands for, and the numbers of the others.
+use Rattle.std.proofs.Common.{◌≡◌, ℕ, suc, ◌<◌, ◌≤◌, ◌+◌, ◌-◌, List, [], ◌∷◌, Bool, true, false, cond, nat_lt, map, filter, refl, sym, ap, ◌∙◌, true≢false, inl, inr, arith}
+use Rattle.std.specs.Prelude.{◌↔◌, ◌||◌, ◌==◌, Option, None}
+use Rattle.std.specs.List.{range_with_len}
+use Rattle.std.specs.Str.{bytes_eq}
+use Rattle.std.proofs.lemmas.Bool.Decides.{same_from_decides, Decides-ltb}
+use Rattle.std.proofs.lemmas.Bool.{cases_eq, eq-eqb, ne_eqb}
+use Rattle.std.proofs.lemmas.Slice.Eq.{bytes_eq-Decides}
+use Rattle.xdg_ast.specs.declared.token.Kind.{Kind}
+use Rattle.xdg_ast.specs.declared.token.Kind.TheVariants as k
+use Rattle.xdg_ast.specs.Words.{number}
+use Rattle.xdg_domain.specs.Cards.{has, cards, numbers_below, with_card, IsCards}
+use Rattle.xdg_domain.proofs.Rising.{numbers_agree, has_of}
+use Rattle.xdg_print.specs.declared.printer.Printer.{Printer}
+use Rattle.xdg_print.specs.Printed.{put}
+use Rattle.xdg_print.proofs.Written.{put_mark, put_braces}
+use Rattle.xdg_print.specs.ValueWords.{sign_for, sign_or_numbers, card_words}
+
+-- a test that is exact is the test of the two lists
+pub same_test : (b : Bool) (ns ms : List ℕ) → (b ≡ true) ↔ (ns ≡ ms) → b ≡ bytes_eq ns ms
+same_test b ns ms exact = same_from_decides b (bytes_eq ns ms) (exact.0, exact.1) (bytes_eq-Decides ns ms)
+
+pub zero_and_one : with_card (0 ∷ []) 1 ≡ 0 ∷ 1 ∷ []
+unfolding numbers_below
+zero_and_one = refl
+
+-- ---- the numbers from 1 on
+
+or_true : (b : Bool) → (b || true) ≡ true
+or_true true = refl
+or_true false = refl
+
+all_with_zero : (n : ℕ) → ((n == 0) || nat_lt 0 n) ≡ true
+all_with_zero n = elim (cases_eq n 0) [
+  | inl e ↦ ap (λ b. b || nat_lt 0 n) (eq-eqb n 0 e)
+  | inr other ↦ ap (λ b. (n == 0) || b) ((Decides-ltb 0 n).1 (omega (arith, other))) ∙ or_true (n == 0)
+]
+
+-- with 0 all numbers, and without it those from 1 on
+with_zero : (bound : ℕ) (s : List ℕ) → s ≡ numbers_below bound (λ n. nat_lt 0 n) → numbers_below bound (λ n. (n == 0) || has s n) ≡ numbers_below bound (λ _. true)
+with_zero bound s is = numbers_agree bound (λ n. (n == 0) || has s n) (λ _. true) (λ n below. ap (λ b. (n == 0) || b) (ap (λ l. has l n) is ∙ has_of bound (λ m. nat_lt 0 m) n below) ∙ all_with_zero n)
+
+without_zero : (n : ℕ) (b : Bool) → (n ≡ 0 → b ≡ false) → ((n == 0) || b) ≡ true → b ≡ nat_lt 0 n
+without_zero n b none all = elim (cases_eq n 0) [
+  | inl e ↦ none e ∙ sym (ap (nat_lt 0) e)
+  | inr other ↦ ap (λ x. x || b) (sym (ne_eqb n 0 other)) ∙ all ∙ sym ((Decides-ltb 0 n).1 (omega (arith, other)))
+]
+
+from_one : (bound : ℕ) (s : List ℕ) → s ≡ numbers_below bound (has s) → has s 0 ≡ false → numbers_below bound (λ n. (n == 0) || has s n) ≡ numbers_below bound (λ _. true) → s ≡ numbers_below bound (λ n. nat_lt 0 n)
+from_one bound s whole none all =
+    whole ∙ numbers_agree bound (has s) (λ n. nat_lt 0 n) (λ n below. without_zero n (has s n) (λ is. ap (has s) is ∙ none)
+    (sym (has_of bound (λ m. (m == 0) || has s m) n below) ∙ ap (λ l. has l n) all ∙ has_of bound (λ _. true) n below))
+
+pub zero_allowed : (s : List ℕ) → has s 0 ≡ true → (false ≡ true) ↔ (s ≡ cards (λ n. nat_lt 0 n))
+zero_allowed s has_it = ((λ e. absurd (true≢false (sym e))), (λ e. absurd (true≢false (sym has_it ∙ ap (λ l. has l 0) e ∙ has_of 128 (λ n. nat_lt 0 n) 0 (omega arith)))))
+
+pub zero_refused : (s with_it : List ℕ) (b : Bool) → IsCards s → has s 0 ≡ false → with_it ≡ with_card s 0 → (b ≡ true) ↔ (with_it ≡ cards (λ _. true)) → (b ≡ true) ↔ (s ≡ cards (λ n. nat_lt 0 n))
+zero_refused s with_it b is none with exact = (
+  λ e. from_one 128 s is.whole none (sym with ∙ exact.0 e),
+  λ e. exact.1 (with ∙ with_zero 128 s e),
+)
+
+-- ---- numbers
+
+-- the numbers that are allowed, from one on and below a bound
+pub cards_from : ℕ → List ℕ → ℕ → List ℕ
+cards_from bound s n = filter (has s) (range_with_len n (bound - n))
+
+from_next : (bound : ℕ) (s : List ℕ) (n : ℕ) → n < bound → cards_from bound s n ≡ cond (has s n) (n ∷ cards_from bound s (n + 1)) (cards_from bound s (n + 1))
+unfolding cards_from
+from_next bound s n within =
+    let size : bound - n ≡ suc (bound - (n + 1)) = omega (arith, within) in
+    ap (λ k. filter (has s) (range_with_len n k)) size
+
+pub card_passed : (bound : ℕ) (s : List ℕ) (n : ℕ) (p end : Printer) → n < bound → has s n ≡ false → put (map number (cards_from bound s n)) p ≡ end → put (map number (cards_from bound s (n + 1))) p ≡ end
+card_passed bound s n p end within none before =
+    ap (λ l. put (map number l) p) (sym (from_next bound s n within ∙ ap (λ b. cond b (n ∷ cards_from bound s (n + 1)) (cards_from bound s (n + 1))) none)) ∙ before
+
+pub card_put : (bound : ℕ) (s : List ℕ) (n m : ℕ) (p q end : Printer) → n < bound → has s n ≡ true → m ≡ n → q ≡ put (number m ∷ []) p → put (map number (cards_from bound s n)) p ≡ end → put (map number (cards_from bound s (n + 1))) q ≡ end
+card_put bound s n m p q end within some same added before =
+    ap (put (map number (cards_from bound s (n + 1)))) (added ∙ ap (λ k. put (number k ∷ []) p) same)
+    ∙ ap (λ l. put (map number l) p) (sym (from_next bound s n within ∙ ap (λ b. cond b (n ∷ cards_from bound s (n + 1)) (cards_from bound s (n + 1))) some)) ∙ before
+
+none_from : (bound n : ℕ) (s : List ℕ) → bound ≤ n → cards_from bound s n ≡ []
+unfolding cards_from
+none_from bound n s over =
+    let size : bound - n ≡ 0 = omega (arith, over) in
+    ap (λ k. filter (has s) (range_with_len n k)) size
+
+all_from : (s : List ℕ) → IsCards s → s ≡ cards_from 128 s 0
+unfolding cards_from numbers_below
+all_from s is = is.whole
+
+pub cards_end : (s : List ℕ) (n : ℕ) (p start : Printer) → 128 ≤ n → IsCards s → put (map number (cards_from 128 s n)) p ≡ put (map number (cards_from 128 s 0)) start → p ≡ put (map number s) start
+cards_end s n p start over is before =
+    ap (λ l. put (map number l) p) (sym (none_from 128 n s over)) ∙ before ∙ ap (λ l. put (map number l) start) (sym (all_from s is))
+
+-- where no sign stands for them, the numbers in braces
+pub numbers_done : (ns : List ℕ) (told : Option Kind) (p hashed opened listed : Printer) → told ≡ None → told ≡ sign_for ns → hashed ≡ put_mark k.Hash p → opened ≡ put_mark k.LeftBrace hashed → listed ≡ put (map number ns) opened → put_mark k.RightBrace listed ≡ put (card_words ns) p
+numbers_done ns told p hashed opened listed none tells one two three =
+    ap (put_mark k.RightBrace) (three ∙ ap (put (map number ns)) (two ∙ ap (put_mark k.LeftBrace) one))
+    ∙ sym (ap (λ s. put (sign_or_numbers s ns) p) (sym tells ∙ none) ∙ put_braces (map number ns) (put_mark k.Hash p))

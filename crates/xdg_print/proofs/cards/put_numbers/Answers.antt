@@ -1,0 +1,25 @@
+use Rattle.std.proofs.Common.{refl, sym, map, arith}
+use Rattle.xdg_ast.specs.Words.{number}
+use Rattle.xdg_print.specs.Printed.{put}
+use Rattle.xdg_print.proofs.Signs.{cards_from, card_passed, card_put, cards_end}
+use Rattle.xdg_print.proofs.cards.put_numbers.Goals as goal
+
+pub loop-number-init : goal.loop-number-init
+loop-number-init c = (refl, λ h. absurd (omega (arith, h)))
+
+pub loop-number-preserved-then-not-contains : goal.loop-number-preserved-then-not-contains
+loop-number-preserved-then-not-contains c = (
+  card_passed 128 c.args.cards.now c.loop-number.number c.loop-number.printer (put (map number (cards_from 128 c.args.cards.now 0)) c.args.printer.now)
+      c.loop-number-test.true (sym c.if-not-contains.ensures.value) c.loop-number.invariant.0,
+  λ h. c.contains.ensures.cards,
+)
+
+pub loop-number-preserved : goal.loop-number-preserved
+loop-number-preserved c = (
+  card_put 128 c.args.cards.now c.loop-number.number c.from.result c.loop-number.printer c.number.new.self (put (map number (cards_from 128 c.args.cards.now 0)) c.args.printer.now)
+      c.loop-number-test.true (sym c.if-not-contains.ensures.value) c.from.ensures c.in_ok-number.ensures c.loop-number.invariant.0,
+  λ h. c.contains.ensures.cards,
+)
+
+pub returns : goal.returns
+returns c = cards_end c.args.cards.now c.loop-number.number c.loop-number.printer c.args.printer.now c.loop-number-test.false (c.loop-number.invariant.1 (omega (arith, c.loop-number-test.false))) c.loop-number.invariant.0

@@ -1,0 +1,203 @@
+//! The lines of the lexicon.
+
+ghost use Rattle.std.specs.Prelude.{◌≡◌, ◌<◌, ◌^◌, [], ◌∷◌, length, IfOk, OnOk};
+ghost use Rattle.xdg_domain.specs.Shapes.{fields_of, AreTypes};
+ghost use Rattle.xdg_domain.specs.Values.{EachSaid, IsFieldOf};
+ghost use Rattle.xdg_packed.specs.Entries.{AreEntries, IsEntry};
+ghost use Rattle.xdg_domain.specs.declared.values.Value.{out-Value};
+ghost use Rattle.xdg_packed.specs.Lexicon.{said_in, text_in};
+ghost use Rattle.xdg_print.specs.Printed.{put, put_lines};
+ghost use Rattle.xdg_types.specs.Table.{typed};
+ghost use Rattle.xdg_print.specs.LexiconText.{dim_line, dim_lines, end_line, entries_line, entries_lines, entry_line, entry_lines, lexicon_text, word_at};
+ghost use Rattle.xdg_print.specs.ValueWords.{features_words};
+ghost use Rattle.xdg_print.specs.WordPlaces.{place_of_word};
+
+use crate::printer::Printer;
+use crate::values::put_value;
+use std::alloc::{AllocError, Global};
+use xdg_ast::Kind;
+use xdg_base::{OutOfMemory, Text};
+use xdg_domain::{Entry, Fields, Ty, Value};
+use xdg_packed::word_place;
+use xdg_types::{DimType, TypeTable};
+
+/// The text of a value, if it is one.
+fn text_of(value: &Value) -> &str
+    ensures { result.now ≡ text_in (out-Value value.now) }
+{
+    match value {
+        Value::Str(text) => text.as_str(),
+        _ => "",
+    }
+}
+
+/// The text that a record says for a field.
+fn said_text(said: &[(u32, Value)], field: usize) -> &str
+    ensures { result.now ≡ said_in said.now field }
+{
+    for feature in said {
+        if feature.0 as usize == field {
+            return text_of(&feature.1);
+        }
+    }
+    ""
+}
+
+/// The word that an entry says at the place.
+fn word_of(entry: &Entry, place: Option<(usize, usize)>) -> &str
+    ensures { result.now ≡ word_at place entry.now }
+{
+    match place {
+        None => "",
+        Some((dim, field)) => match entry.get(dim) {
+            None => "",
+            Some(said) => said_text(said.as_slice(), field),
+        },
+    }
+}
+
+/// Where entries say their words, if they have one.
+fn place_of_words(types: &TypeTable) -> Option<(usize, usize)>
+    ensures { result ≡ place_of_word types.now }
+{
+    // This call tells that names differ.
+    let _ = types.dims();
+    word_place(types)
+}
+
+/// Adds the line `entry E "W"`.
+fn put_entry_line(printer: &mut Printer, place: u32, word: &str) -> Result<(), AllocError>
+    ensures { OnOk result (printer.new ≡ put_lines (entry_line place word.now ∷ []) printer.old) }
+{
+    printer.begin("")?;
+    printer.constant("entry")?;
+    printer.number(place)?;
+    printer.quoted(word)?;
+    printer.end()
+}
+
+/// Adds the features of a record with their values.
+fn put_features(
+    printer: &mut Printer,
+    types: &[(Text, Ty)],
+    said: &[(u32, Value)],
+) -> Result<(), AllocError>
+    requires right { AreTypes (fields_of (typed types.now)) }
+    requires said { EachSaid (IsFieldOf (fields_of (typed types.now))) said.now }
+    ensures { OnOk result (printer.new ≡ put (features_words (fields_of (typed types.now)) said.now) printer.old) }
+{
+    for feature in said {
+        let field = &types[feature.0 as usize];
+        printer.constant(field.0.as_str())?;
+        printer.mark(Kind::Colon)?;
+        put_value(printer, &field.1, &feature.1)?;
+    }
+    Ok(())
+}
+
+/// Adds the line `dim D {..}`.
+fn put_dim_line(printer: &mut Printer, dim: &DimType, said: &Fields) -> Result<(), AllocError>
+    requires right { AreTypes (fields_of (typed dim.now.fields)) }
+    requires said { EachSaid (IsFieldOf (fields_of (typed dim.now.fields))) said.now }
+    ensures { OnOk result (printer.new ≡ put_lines (dim_line dim.now said.now ∷ []) printer.old) }
+{
+    printer.begin("")?;
+    printer.mark(Kind::Dim)?;
+    printer.constant(dim.name.as_str())?;
+    printer.mark(Kind::LeftBrace)?;
+    put_features(printer, dim.fields.as_slice(), said.as_slice())?;
+    printer.mark(Kind::RightBrace)?;
+    printer.end()
+}
+
+/// Adds a line for each used dimension.
+fn put_dim_lines(printer: &mut Printer, types: &TypeTable, entry: &Entry) -> Result<(), AllocError>
+    requires { IsEntry types.now entry.now }
+    ensures { OnOk result (printer.new ≡ put_lines (dim_lines types.now.dims types.now.used entry.now) printer.old) }
+{
+    let dims = types.dims();
+    let used = types.used();
+    let records = entry.as_slice();
+    for (place, at) in used.iter().enumerate() {
+        put_dim_line(printer, &dims[*at], &records[place])?;
+    }
+    Ok(())
+}
+
+/// Adds the line `end`.
+fn put_end_line(printer: &mut Printer) -> Result<(), AllocError>
+    ensures { OnOk result (printer.new ≡ put_lines (end_line ∷ []) printer.old) }
+{
+    printer.begin("")?;
+    printer.constant("end")?;
+    printer.end()
+}
+
+/// Adds the line `entries E`.
+fn put_entries_line(printer: &mut Printer, count: u32) -> Result<(), AllocError>
+    ensures { OnOk result (printer.new ≡ put_lines (entries_line count ∷ []) printer.old) }
+{
+    printer.begin("")?;
+    printer.constant("entries")?;
+    printer.number(count)?;
+    printer.end()
+}
+
+/// Adds the lines of an entry with this number.
+fn put_entry(
+    printer: &mut Printer,
+    types: &TypeTable,
+    place: Option<(usize, usize)>,
+    number: u32,
+    entry: &Entry,
+) -> Result<(), AllocError>
+    requires { IsEntry types.now entry.now }
+    ensures { OnOk result (printer.new ≡ put_lines (entry_lines types.now place number entry.now) printer.old) }
+{
+    put_entry_line(printer, number, word_of(entry, place))?;
+    put_dim_lines(printer, types, entry)?;
+    put_end_line(printer)
+}
+
+/// Adds the lines of entries, numbered from 1.
+fn put_entries(
+    printer: &mut Printer,
+    types: &TypeTable,
+    place: Option<(usize, usize)>,
+    entries: &[Entry],
+) -> Result<(), AllocError>
+    requires few { length entries.now < 2 ^ 32 }
+    requires entries { AreEntries types.now entries.now }
+    ensures { OnOk result (printer.new ≡ put_lines (entries_lines types.now place 1 entries.now) printer.old) }
+{
+    for (at, entry) in entries.iter().enumerate() {
+        put_entry(printer, types, place, at as u32 + 1, entry)?;
+    }
+    Ok(())
+}
+
+/// The expanded lexicon as it is printed: for each entry, numbered from 1, the line `entry E "W"` with its word, a line
+/// `dim D {..}` for each used dimension in the order of their uses, and `end`; at last the line `entries E` with their
+/// number. All features of a dimension are written, in the order of their type: constants as names where they can be, else
+/// quoted, tuples in square brackets, sets in full, a cardinality as `!`, `?`, `*`, `+` or `#{..}`; a valency lists the keys
+/// whose cardinality isn't {0}, a map those whose value isn't the default. The time is linear in what the entries say.
+///
+/// # Errors
+///
+/// Want of memory, also where there are 2^32 entries or more.
+pub fn lexicon_text(
+    alloc: Global,
+    types: &TypeTable,
+    entries: &[Entry],
+) -> Result<Text, OutOfMemory>
+    requires { AreEntries types.now entries.now }
+    ensures { IfOk result (λ text. text ≡ lexicon_text types.now entries.now) }
+{
+    let Ok(count) = u32::try_from(entries.len()) else {
+        return Err(OutOfMemory);
+    };
+    let mut printer = Printer::new(alloc);
+    put_entries(&mut printer, types, place_of_words(types), entries)?;
+    put_entries_line(&mut printer, count)?;
+    Ok(printer.into_text())
+}

@@ -1,4 +1,0 @@
-pub mod Labelled
-pub mod Edges
-pub mod Noting
-pub mod Widening

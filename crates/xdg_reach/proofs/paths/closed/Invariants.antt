@@ -1,6 +1,0 @@
-use Rattle.xdg_judge.specs.Links.{IsClosure}
-use Rattle.xdg_reach.specs.Edges.{HasNoneFrom}
-use Rattle.xdg_reach.proofs.paths.closed.Given as goal
-
-abbrev pub invariant-loop-middle : goal.invariant-loop-middle
-invariant-loop-middle l = IsClosure l.middle l.table l.closed × HasNoneFrom l.size l.closed

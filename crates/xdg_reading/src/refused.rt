@@ -1,0 +1,24 @@
+//! Why a text shows no analysis.
+
+ghost use Rattle.std.specs.Prelude.{◌≡◌};
+
+use std::alloc::AllocError;
+
+/// Why a text shows no analysis.
+#[derive(Clone, Copy, Debug)]
+pub(crate) enum Refused {
+    /// No memory was to be had.
+    Memory,
+    /// The line at this place offends first.
+    At(u32),
+}
+
+impl From<AllocError> for Refused {
+    ghost use Rattle.xdg_reading.specs.declared.refused.Refused.TheVariants.{Memory};
+
+    ghost from_gives = { λ _ refused. refused ≡ Memory };
+
+    fn from(_: AllocError) -> Refused {
+        Refused::Memory
+    }
+}

@@ -1,0 +1,60 @@
+-- The texts of verdicts, piece by piece.
+use Rattle.std.proofs.Common.{◌≡◌, ℕ, suc, ◌<◌, ◌+◌, List, [], ◌∷◌, ◌++◌, length, get_or, slice_get, drop, Option, None, unwrap_or, refl, sym, ap, ap₂, ◌∙◌, add-one}
+use Rattle.std.specs.Prelude.{codes, decimal}
+use Rattle.std.specs.List.{AllZip}
+use Rattle.std.proofs.Math.Seq.{drop-cons}
+use Rattle.std.proofs.lemmas.Option.{unwrap_or-slice_get}
+use Rattle.xdg_base.specs.declared.ids.DimId.{DimId}
+use Rattle.xdg_formula.specs.declared.tree.Rule.{Rule}
+use Rattle.xdg_problem.specs.declared.conditions.Condition.{Condition}
+use Rattle.xdg_problem.specs.declared.parts.DimPlan.{DimPlan}
+use Rattle.xdg_problem.specs.declared.parts.Group.{Group}
+use Rattle.xdg_problem.specs.declared.parts.Parts.{Parts}
+use Rattle.xdg_problem.specs.Arguments.{no_plan}
+use Rattle.xdg_problem.specs.Names.{name_of}
+use Rattle.xdg_io.specs.Held.{Appends, AppendsFront}
+use Rattle.xdg_text.proofs.Pieces.{appends_both, front_of_second}
+use Rattle.xdg_judge.specs.declared.verdict.Verdict.{Verdict}
+use Rattle.xdg_reports.specs.VerdictsText.{behind, item_text, items_text, labels_of, said_text, title_text, verdict_line, verdict_lines}
+
+abbrev pub zero_dim : DimId
+zero_dim = record { 0 = 0 }
+
+-- where there is no dimension, the one without names stands
+pub beyond : (plans : List DimPlan) (i j : ℕ) → None ≡ slice_get plans i → i ≡ j → no_plan ≡ get_or plans j no_plan
+beyond plans i j none same = ap (λ o. unwrap_or o no_plan) none ∙ unwrap_or-slice_get plans i no_plan ∙ ap (λ k. get_or plans k no_plan) same
+
+-- the items from a place on begin with the one there
+pub items_from : (labels : List (List ℕ)) (condition : Condition) (numbers : List ℕ) (i : ℕ) → i < length numbers
+    → items_text labels condition i (drop i numbers) ≡ behind (item_text labels condition i (get_or numbers i 0)) ++ items_text labels condition (i + 1) (drop (i + 1) numbers)
+items_from labels condition numbers i within =
+    ap (items_text labels condition i) (drop-cons numbers i 0 within) ∙ ap (λ k. behind (item_text labels condition i (get_or numbers i 0)) ++ items_text labels condition (i + 1) (drop k numbers)) (sym (add-one i))
+
+-- the lines from a place on begin with the one there
+pub lines_from : (parts : Parts) (own : ℕ) (rules : List Rule) (groups : List Group) (verdicts : List Verdict) (i : ℕ) (group : Group) (verdict : Verdict) → i < length groups → group ≡ get_or groups i group → i < length verdicts → verdict ≡ get_or verdicts i verdict
+    → verdict_lines parts own rules i (drop i groups) (drop i verdicts) ≡ verdict_line parts own rules i group verdict ++ verdict_lines parts own rules (i + 1) (drop (i + 1) groups) (drop (i + 1) verdicts)
+lines_from parts own rules groups verdicts i group verdict within is there at =
+    ap₂ (verdict_lines parts own rules i) (from_place groups i group within is) (from_place verdicts i verdict there at)
+  where
+    from_place : {X : Type 0} (xs : List X) (k : ℕ) (x : X) → k < length xs → x ≡ get_or xs k x → drop k xs ≡ x ∷ drop (k + 1) xs
+    from_place xs k x h e = rw (add-one) (drop-cons xs k x h ∙ ap (λ z. z ∷ drop (suc k) xs) (sym e))
+
+-- lists whose elements go together are as long
+pub zip_length : {A B : Type 0} (R : A → B → Type 0) (xs : List A) (ys : List B) → AllZip R xs ys → length xs ≡ length ys
+zip_length R [] [] h = refl
+zip_length R [] (y ∷ ys) h = absurd h
+zip_length R (x ∷ xs) [] h = absurd h
+zip_length R (x ∷ xs) (y ∷ ys) h = ap suc (zip_length R xs ys h.1)
+
+module _ (parts : Parts) (own : ℕ) (rules : List Rule) (place : ℕ) (group : Group) (verdict : Verdict) {a b c d e f : Option (List ℕ)} where
+  -- all pieces of a line were added
+  pub line_all : Appends a b (decimal (place + 1)) → Appends b c (behind (name_of group.principle)) → Appends c d (title_text parts own rules place group) → Appends d e (said_text (labels_of parts group) verdict) → Appends e f (codes "\n")
+      → Appends a f (verdict_line parts own rules place group verdict)
+  unfolding verdict_line
+  line_all one two three four five = appends_both one (appends_both two (appends_both three (appends_both four five)))
+
+  -- and of the last piece a proper front
+  pub line_front : Appends a b (decimal (place + 1)) → Appends b c (behind (name_of group.principle)) → Appends c d (title_text parts own rules place group) → Appends d e (said_text (labels_of parts group) verdict) → AppendsFront e f (codes "\n")
+      → AppendsFront a f (verdict_line parts own rules place group verdict)
+  unfolding verdict_line
+  line_front one two three four five = front_of_second one (front_of_second two (front_of_second three (front_of_second four five)))

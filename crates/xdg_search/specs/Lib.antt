@@ -1,9 +1,0 @@
-pub mod Problem
-pub mod Place
-pub mod Halts
-pub mod Lawful
-pub mod Progress
-pub mod Outcomes
-pub mod Vectors
-pub mod Forced
-pub mod Apart

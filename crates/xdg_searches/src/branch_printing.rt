@@ -1,0 +1,127 @@
+//! Searching by branches, and printing what is found.
+
+ghost use Rattle.std.specs.Prelude.{◌≡◌, ◌≢◌, ◌≤◌, ◌++◌, All, length, OnErr, OnOk};
+ghost use Rattle.xdg_split.specs.Printed.{blocks, last_line, shown};
+ghost use Rattle.xdg_searches.specs.Branched.{CanBranch};
+ghost use Rattle.xdg_searches.specs.Laws.{BranchedLaws};
+ghost use Rattle.xdg_searches.specs.Written.{WritesBranches};
+ghost use Rattle.xdg_io.specs.Held.{Appends, AppendsFront};
+ghost use Rattle.xdg_io.specs.Rose.{Rose};
+ghost use Rattle.xdg_problem.specs.Analyses.{IsAnalysis};
+
+use crate::searching::search;
+use std::alloc::Global;
+use std::thread::Threads;
+use xdg_io::{Failed, Sink};
+use xdg_listing::Ending;
+use xdg_problem::{Analysis, Problem};
+use xdg_split::{Form, Printed};
+use xdg_text::{write, write_complete, write_first, write_spent, write2};
+
+/// Searches a sentence by the branches of its first word's entries, each with the whole budget, and then prints each solution that was
+/// found, in their order, and the last line. Where a number of analyses is asked for, at least one, it prints so many. Four branches are
+/// made and searched at a time, side by side. Nothing is written before all is found, and what is found is kept so long. The budget is 1
+/// to 1,000,000,000 boxed prefixes.
+pub fn print_branches<R: Threads + Sync, K: Sink>(
+    rt: &R,
+    alloc: Global,
+    problem: &Problem,
+    budget: u64,
+    first: Option<u64>,
+    form: Form,
+    sink: &mut K,
+) -> Printed
+    requires { CanBranch budget first }
+    ensures written { WritesBranches result form budget first problem.now (K.held sink.old) (K.held sink.new) }
+    ensures laws { BranchedLaws form budget first problem.now }
+    ensures cause { result ≡ Printed.Failed → Rose (K.faults sink.old) (K.faults sink.new) }
+    ensures lasting { K.faults sink.old ≤ K.faults sink.new }
+    ensures quiet { result ≢ Printed.Failed → K.faults sink.new ≡ K.faults sink.old }
+{
+    let _parts = problem.parts();
+    let Ok(answer) = search(rt, alloc, problem, budget, first) else {
+        return Printed::OutOfMemory;
+    };
+    let written = print_found(form, problem, answer.found.as_slice(), answer.ending, sink);
+    if written.is_err() {
+        return Printed::Failed;
+    }
+    Printed::Ended(answer.ending)
+}
+
+/// Prints analyses of a sentence, numbered from 1, and the last line behind them.
+#[tactic(auto, using(xdg_text::proofs::Pieces::appends_both, xdg_text::proofs::Pieces::rose_later))]
+fn print_found<K: Sink>(
+    form: Form,
+    problem: &Problem,
+    found: &[Analysis],
+    ending: Ending,
+    sink: &mut K,
+) -> Result<(), Failed>
+    requires { All (IsAnalysis problem.now) found.now }
+    ensures all { OnOk result (Appends (K.held sink.old) (K.held sink.new) (blocks form problem.now 1 found.now ++ last_line ending (length found.now))) }
+    ensures front { OnErr result (AppendsFront (K.held sink.old) (K.held sink.new) (blocks form problem.now 1 found.now ++ last_line ending (length found.now))) }
+    ensures cause { OnErr result (Rose (K.faults sink.old) (K.faults sink.new)) }
+    ensures lasting { K.faults sink.old ≤ K.faults sink.new }
+    ensures quiet { OnOk result (K.faults sink.new ≡ K.faults sink.old) }
+{
+    write_blocks(form, problem, found, sink)?;
+    write_last(ending, found.len() as u64, sink)
+}
+
+/// Writes analyses of a sentence, numbered from 1.
+#[tactic(auto, using(xdg_text::proofs::Pieces::start, xdg_text::proofs::Pieces::done, xdg_text::proofs::Pieces::rose_later))]
+fn write_blocks<K: Sink>(
+    form: Form,
+    problem: &Problem,
+    found: &[Analysis],
+    sink: &mut K,
+) -> Result<(), Failed>
+    requires { All (IsAnalysis problem.now) found.now }
+    ensures all { OnOk result (Appends (K.held sink.old) (K.held sink.new) (blocks form problem.now 1 found.now)) }
+    ensures front { OnErr result (AppendsFront (K.held sink.old) (K.held sink.new) (blocks form problem.now 1 found.now)) }
+    ensures cause { OnErr result (Rose (K.faults sink.old) (K.faults sink.new)) }
+    ensures lasting { K.faults sink.old ≤ K.faults sink.new }
+    ensures quiet { OnOk result (K.faults sink.new ≡ K.faults sink.old) }
+{
+    for (place, analysis) in found.iter().enumerate() {
+        write_block(form, problem, place as u64 + 1, analysis, sink)?;
+    }
+    Ok(())
+}
+
+/// Writes an analysis with its number.
+fn write_block<K: Sink>(
+    form: Form,
+    problem: &Problem,
+    number: u64,
+    analysis: &Analysis,
+    sink: &mut K,
+) -> Result<(), Failed>
+    requires { IsAnalysis problem.now analysis.now }
+    ensures all { OnOk result (Appends (K.held sink.old) (K.held sink.new) (shown form problem.now number analysis.now)) }
+    ensures front { OnErr result (AppendsFront (K.held sink.old) (K.held sink.new) (shown form problem.now number analysis.now)) }
+    ensures cause { OnErr result (Rose (K.faults sink.old) (K.faults sink.new)) }
+    ensures lasting { K.faults sink.old ≤ K.faults sink.new }
+    ensures quiet { OnOk result (K.faults sink.new ≡ K.faults sink.old) }
+{
+    match form {
+        Form::One => write(problem, number, analysis, sink),
+        Form::Two => write2(problem, number, analysis, sink),
+    }
+}
+
+/// Writes the last line behind so many analyses.
+fn write_last<K: Sink>(ending: Ending, count: u64, sink: &mut K) -> Result<(), Failed>
+    ensures all { OnOk result (Appends (K.held sink.old) (K.held sink.new) (last_line ending count)) }
+    ensures front { OnErr result (AppendsFront (K.held sink.old) (K.held sink.new) (last_line ending count)) }
+    ensures cause { OnErr result (Rose (K.faults sink.old) (K.faults sink.new)) }
+    ensures lasting { K.faults sink.old ≤ K.faults sink.new }
+    ensures quiet { OnOk result (K.faults sink.new ≡ K.faults sink.old) }
+{
+    match ending {
+        Ending::Complete => write_complete(count, sink),
+        Ending::First => write_first(count, sink),
+        Ending::Spent => write_spent(count, sink),
+    }
+}

@@ -1,0 +1,163 @@
+-- The steps of the search, in the words of what a front ensures: shape and P are the problem as the call began, later and Q
+-- the same problem as the front has it now.
+use Rattle.std.proofs.Common.{◌≡◌, ◌≢◌, ℕ, zero, suc, ◌<◌, ◌≤◌, ◌+◌, ◌⊎◌, inl, inr, List, [], ◌∷◌, ◌++◌, length, take, drop, get_or, refl, ap, sym, ◌∙◌, arith, subst, length-append, append_assoc}
+use Rattle.std.proofs.lemmas.List.{append-nil, take_all, take-take, take-append-drop}
+use Rattle.std.proofs.Math.Seq.{take-append_seam}
+use Rattle.xdg_listing.specs.Order.{Less}
+use Rattle.xdg_listing.specs.Fits.{Fits}
+use Rattle.xdg_listing.specs.Closed.{Closed, NoneAfter, SomeAfter}
+use Rattle.xdg_listing.specs.Passed.{Finds}
+use Rattle.xdg_listing.specs.Whole.{Whole}
+use Rattle.xdg_listing.proofs.Fitting.{fits_push, fits_front, fits_last, fits_length}
+use Rattle.xdg_stream.specs.Problem.{SameProblem}
+use Rattle.xdg_stream.specs.Place.{place, Stands}
+use Rattle.xdg_stream.specs.Halts.{HaltsAt}
+use Rattle.xdg_stream.specs.Forced.{AreForced, AreLast}
+use Rattle.xdg_stream.proofs.Measure.{ahead, ahead_refused, ahead_taken, ahead_back}
+use Rattle.xdg_stream.proofs.Following.{forced_same, forced_fits, forced_counts, passes_follow, finds_follow, ahead_follow, joined}
+use Rattle.xdg_stream.proofs.Backing.{last_same, passes_back, none_back}
+use Rattle.xdg_stream.proofs.Passing.{Passes, passes_refused, passes_taken, finds_taken, spent_at, ended_at}
+
+pub stands_room : (shape : List ℕ) (P : List ℕ → Type 0) (later : List ℕ) (Q : List ℕ → Type 0) (numbers : List ℕ) → SameProblem shape P later Q → Stands shape P numbers → length numbers ≤ length later
+stands_room shape P later Q numbers s t = let h = fits_length shape numbers t.fits in let k = ap length s.sizes in omega (arith, h, k)
+
+in_range : (shape : List ℕ) (P : List ℕ → Type 0) (later : List ℕ) (Q : List ℕ → Type 0) (n v : ℕ) → SameProblem shape P later Q → v < get_or later n 0 → v < get_or shape n 0
+in_range shape P later Q n v s h = subst (λ z. v < get_or z n 0) s.sizes h
+
+out_of_range : (shape : List ℕ) (P : List ℕ → Type 0) (later : List ℕ) (Q : List ℕ → Type 0) (n v : ℕ) → SameProblem shape P later Q → get_or later n 0 ≤ v → get_or shape n 0 ≤ v
+out_of_range shape P later Q n v s h = subst (λ z. get_or z n 0 ≤ v) s.sizes h
+
+pub push_range : (shape : List ℕ) (P : List ℕ → Type 0) (later : List ℕ) (Q : List ℕ → Type 0) (numbers : List ℕ) (v value : ℕ) → SameProblem shape P later Q → v ≡ value → v < get_or later (length numbers) 0 → value < get_or shape (length numbers) 0
+push_range shape P later Q numbers v value s e h = subst (λ i. i < get_or shape (length numbers) 0) e (in_range shape P later Q (length numbers) v s h)
+
+pub push_fits : (shape : List ℕ) (P : List ℕ → Type 0) (later : List ℕ) (Q : List ℕ → Type 0) (numbers : List ℕ) (v : ℕ) → SameProblem shape P later Q → Stands shape P numbers → v < get_or later (length numbers) 0 → Fits later (numbers ++ v ∷ [])
+push_fits shape P later Q numbers v s t h = subst (λ z. Fits z (numbers ++ v ∷ [])) (sym s.sizes) (fits_push shape numbers v t.fits (in_range shape P later Q (length numbers) v s h))
+
+pub push_counts : (shape : List ℕ) (P : List ℕ → Type 0) (later : List ℕ) (Q : List ℕ → Type 0) (numbers : List ℕ) → SameProblem shape P later Q → Stands shape P numbers → (length numbers ≡ 0) ⊎ Q numbers
+push_counts shape P later Q numbers s t = elim t.counts [ inl e ↦ inl e | inr p ↦ inr ((s.counts numbers).1 p) ]
+
+-- a candidate that was taken
+pub taken_stands : (shape : List ℕ) (P : List ℕ → Type 0) (later : List ℕ) (Q : List ℕ → Type 0) (numbers grown : List ℕ) (v : ℕ) → SameProblem shape P later Q → Stands shape P numbers → v < get_or later (length numbers) 0 → Q (numbers ++ v ∷ []) → grown ≡ numbers ++ v ∷ [] → Stands shape P grown
+taken_stands shape P later Q numbers grown v s t h q e = subst (Stands shape P) (sym e) (record { fits = fits_push shape numbers v t.fits (in_range shape P later Q (length numbers) v s h); counts = inr ((s.counts (numbers ++ v ∷ [])).0 q) })
+
+pub taken_spent : (shape : List ℕ) (P : List ℕ → Type 0) (later : List ℕ) (Q : List ℕ → Type 0) (from numbers : List ℕ) (value v n : ℕ) (kept now : List ℕ) → SameProblem shape P later Q → Stands shape P numbers → v ≡ value → v < get_or later (length numbers) 0 → Q (numbers ++ v ∷ []) → Passes shape P from (place numbers value) n kept now → HaltsAt shape P from n (SomeAfter shape P) kept now
+taken_spent shape P later Q from numbers value v n kept now s t w h q p =
+    let k = taken_stands shape P later Q numbers (numbers ++ v ∷ []) v s t h q refl in
+    spent_at shape P from (numbers ++ v ∷ []) n kept now k.fits ((s.counts (numbers ++ v ∷ [])).0 q) (subst (λ i. Passes shape P from (place numbers i) n kept now) (sym w) p)
+
+-- ---- a candidate that was taken, and forced numbers behind it: ran is the prefix with all of them
+
+pub grown_counts : (shape : List ℕ) (P : List ℕ → Type 0) (later : List ℕ) (Q : List ℕ → Type 0) (numbers grown : List ℕ) (v : ℕ) → SameProblem shape P later Q → Q (numbers ++ v ∷ []) → grown ≡ numbers ++ v ∷ [] → P grown
+grown_counts shape P later Q numbers grown v s q e = subst P (sym e) ((s.counts (numbers ++ v ∷ [])).0 q)
+
+pub ran_counts : (shape : List ℕ) (P : List ℕ → Type 0) (later : List ℕ) (Q : List ℕ → Type 0) (grown ran t : List ℕ) → SameProblem shape P later Q → P grown → AreForced later Q grown t → ran ≡ grown ++ t → P ran
+ran_counts shape P later Q grown ran t s c h e = subst P (sym e) (forced_counts shape P grown t c (forced_same shape P later Q grown t s h))
+
+pub ran_joined : (numbers grown ran t : List ℕ) (v : ℕ) → grown ≡ numbers ++ v ∷ [] → ran ≡ grown ++ t → ran ≡ numbers ++ v ∷ t
+ran_joined numbers grown ran t v e j = j ∙ ap (λ z. z ++ t) e ∙ joined numbers t v
+
+pub ran_stands : (shape : List ℕ) (P : List ℕ → Type 0) (later : List ℕ) (Q : List ℕ → Type 0) (grown ran t : List ℕ) → SameProblem shape P later Q → Stands shape P grown → P grown → AreForced later Q grown t → ran ≡ grown ++ t → Stands shape P ran
+ran_stands shape P later Q grown ran t s k c h e =
+    let f = forced_same shape P later Q grown t s h in
+    subst (Stands shape P) (sym e) (record { fits = forced_fits shape P grown t k.fits f; counts = inr (forced_counts shape P grown t c f) })
+
+shorter : (shape p t : List ℕ) → Fits shape (p ++ t) → length (p ++ t) ≢ length shape → length p ≢ length shape
+shorter shape p t f n e =
+    let k = fits_length shape (p ++ t) f in
+    let a = length-append p t in
+    n (omega (arith, k, a, e))
+
+pub ran_passes : (shape : List ℕ) (P : List ℕ → Type 0) (later : List ℕ) (Q : List ℕ → Type 0) (from numbers grown ran t : List ℕ) (value n m : ℕ) (kept now reached : List ℕ) → Closed P → SameProblem shape P later Q → Fits shape grown → P grown → grown ≡ place numbers value → AreForced later Q grown t → ran ≡ grown ++ t → length ran ≢ length shape → (n + 1) + length t ≡ m → reached ≡ ran → Passes shape P from (place numbers value) n kept now → Passes shape P from (place ran 0) m kept reached
+ran_passes shape P later Q from numbers grown ran t value n m kept now reached closed s fits counted c h e n_whole more is p =
+    let f = forced_same shape P later Q grown t s h in
+    let undone : length (grown ++ t) ≢ length shape = λ w. n_whole (ap length e ∙ w) in
+    let one = passes_taken shape P from grown n kept now fits counted (shorter shape grown t (forced_fits shape P grown t fits f) undone) (subst (λ z. Passes shape P from z n kept now) (sym c) p) in
+    let all = passes_follow shape P from grown t (n + 1) kept closed fits f undone one in
+    subst (λ z. Passes shape P from (place ran 0) m kept z) (sym is)
+    (subst (λ i. Passes shape P from (place ran 0) i kept ran) more (subst (λ z. Passes shape P from (place z 0) ((n + 1) + length t) kept z) (sym e) all))
+
+not_whole : (shape p t : List ℕ) (v : ℕ) → length (p ++ v ∷ t) ≡ length shape → length p ≢ length shape
+not_whole shape p t v e d = let a = length-append p (v ∷ t) in omega (arith, a, e, d)
+
+pub ran_finds : (shape : List ℕ) (P : List ℕ → Type 0) (later : List ℕ) (Q : List ℕ → Type 0) (from numbers grown ran t : List ℕ) (value n m : ℕ) (kept now : List ℕ) → Closed P → SameProblem shape P later Q → Fits shape grown → P grown → grown ≡ place numbers value → AreForced later Q grown t → ran ≡ grown ++ t → length ran ≡ length shape → (n + 1) + length t ≡ m → Passes shape P from (place numbers value) n kept now → Less from ran × Finds shape P from ran m
+ran_finds shape P later Q from numbers grown ran [] value n m kept now closed s fits counted c h e whole more p =
+    let i : ran ≡ grown = e ∙ append-nil grown in
+    let r : Passes shape P from grown n kept now = subst (λ z. Passes shape P from z n kept now) (sym c) p in
+    let k : n + 1 ≡ m = omega (arith, more) in
+    subst (λ z. Less from z × Finds shape P from z m) (sym i) (r.above, subst (Finds shape P from grown) k (finds_taken shape P from grown n kept now fits counted (ap length (sym i) ∙ whole) r))
+ran_finds shape P later Q from numbers grown ran (v ∷ t) value n m kept now closed s fits counted c h e whole more p =
+    let f = forced_same shape P later Q grown (v ∷ t) s h in
+    let w = ap length (sym e) ∙ whole in
+    let one = passes_taken shape P from grown n kept now fits counted (not_whole shape grown t v w) (subst (λ z. Passes shape P from z n kept now) (sym c) p) in
+    let all = finds_follow shape P from grown t v (n + 1) kept grown closed f w one in
+    subst (λ z. Less from z × Finds shape P from z m) (sym e) (subst (λ i. Less from (grown ++ v ∷ t) × Finds shape P from (grown ++ v ∷ t) i) more all)
+
+pub ran_smaller : (shape : List ℕ) (P : List ℕ → Type 0) (later : List ℕ) (Q : List ℕ → Type 0) (numbers grown ran t : List ℕ) (value : ℕ) → SameProblem shape P later Q → value < get_or shape (length numbers) 0 → grown ≡ place numbers value → AreForced later Q grown t → ran ≡ grown ++ t → ahead shape (place ran 0) < ahead shape (place numbers value)
+ran_smaller shape P later Q numbers grown ran t value s h c f e =
+    let a = ahead_follow shape P grown t (forced_same shape P later Q grown t s f) in
+    let b = ahead_taken shape numbers value h in
+    let d : ahead shape (place grown 0) < ahead shape (place numbers value) = subst (λ z. ahead shape (place z 0) < ahead shape (place numbers value)) (sym c) b in
+    subst (λ z. ahead shape (place z 0) < ahead shape (place numbers value)) (sym e) (omega (arith, a, d))
+
+-- a candidate that was refused
+pub refused_passes : (shape : List ℕ) (P : List ℕ → Type 0) (later : List ℕ) (Q : List ℕ → Type 0) (from numbers same : List ℕ) (value v n : ℕ) (kept now : List ℕ) → Closed P → SameProblem shape P later Q → v ≡ value → (Q (numbers ++ v ∷ []) → ⊥) → same ≡ numbers → Passes shape P from (place numbers value) n kept now → Passes shape P from (place same (value + 1)) n kept now
+refused_passes shape P later Q from numbers same value v n kept now closed s w denied e p =
+    subst (λ z. Passes shape P from (place z (value + 1)) n kept now) (sym e) (passes_refused shape P from numbers value n kept now closed (λ h. denied ((s.counts (numbers ++ v ∷ [])).1 (subst (λ i. P (place numbers i)) (sym w) h))) p)
+
+pub refused_smaller : (shape : List ℕ) (P : List ℕ → Type 0) (later : List ℕ) (Q : List ℕ → Type 0) (numbers kept : List ℕ) (value v : ℕ) → SameProblem shape P later Q → v ≡ value → v < get_or later (length numbers) 0 → kept ≡ numbers → ahead shape (place kept (value + 1)) < ahead shape (place numbers value)
+refused_smaller shape P later Q numbers kept value v s w h e =
+    subst (λ z. ahead shape (place z (value + 1)) < ahead shape (place numbers value)) (sym e) (ahead_refused shape numbers value (subst (λ i. i < get_or shape (length numbers) 0) w (in_range shape P later Q (length numbers) v s h)))
+
+-- ---- numbers that were taken off: r is what is left of them, and w the number behind it, in whose place a greater one is tried
+
+closed_front : (P : List ℕ → Type 0) (numbers r t : List ℕ) → Closed P → (length numbers ≡ 0) ⊎ P numbers → numbers ≡ r ++ t → (length r ≡ 0) ⊎ P r
+closed_front P numbers [] t closed h e = inl refl
+closed_front P numbers (a ∷ r) t closed (inl z) e = (let l = ap length e in absurd (omega (arith, l)))
+closed_front P numbers (a ∷ r) t closed (inr p) e = inr (closed (a ∷ r) t (omega arith) (subst P e p))
+
+pub back_stands : (shape : List ℕ) (P : List ℕ → Type 0) (numbers r t : List ℕ) → Closed P → Stands shape P numbers → numbers ≡ r ++ t → Stands shape P r
+back_stands shape P numbers r t closed k e = record { fits = fits_front shape r t (subst (Fits shape) e k.fits); counts = closed_front P numbers r t closed k.counts e }
+
+pub back_passes : (shape : List ℕ) (P : List ℕ → Type 0) (later : List ℕ) (Q : List ℕ → Type 0) (from numbers r t : List ℕ) (value w k n : ℕ) (kept now : List ℕ) → Closed P → SameProblem shape P later Q → get_or later (length numbers) 0 ≤ value → k ≡ w → numbers ≡ r ++ w ∷ t → AreLast later Q (r ++ w ∷ []) t → Passes shape P from (place numbers value) n kept now → Passes shape P from (place r (k + 1)) n kept now
+back_passes shape P later Q from numbers r t value w k n kept now closed s out j e h p =
+    let o : get_or shape (length (r ++ w ∷ t)) 0 ≤ value = subst (λ z. get_or shape (length z) 0 ≤ value) e (out_of_range shape P later Q (length numbers) value s out) in
+    subst (λ m. Passes shape P from (place r (m + 1)) n kept now) (sym j) (passes_back shape P from r t w value n kept now closed (last_same shape P later Q (r ++ w ∷ []) t s h) o (subst (λ z. Passes shape P from (place z value) n kept now) e p))
+
+number_fits : (shape r t : List ℕ) (w : ℕ) → Fits shape (r ++ w ∷ t) → w < get_or shape (length r) 0
+number_fits shape r t w f = fits_last shape r w (fits_front shape (r ++ w ∷ []) t (subst (Fits shape) (sym (joined r t w)) f))
+
+pub back_smaller : (shape : List ℕ) (P : List ℕ → Type 0) (numbers r t : List ℕ) (value w n : ℕ) → Stands shape P numbers → n ≡ w → numbers ≡ r ++ w ∷ t → ahead shape (place r (n + 1)) < ahead shape (place numbers value)
+back_smaller shape P numbers r t value w n k j e =
+    let h = number_fits shape r t w (subst (Fits shape) e k.fits) in
+    let i : r ++ w ∷ (t ++ value ∷ []) ≡ place numbers value = sym (append_assoc r (w ∷ t) (value ∷ [])) ∙ ap (λ z. place z value) (sym e) in
+    subst (λ m. ahead shape (place r (m + 1)) < ahead shape (place numbers value)) (sym j) (subst (λ z. ahead shape (place r (w + 1)) < ahead shape z) i (ahead_back shape r (t ++ value ∷ []) w h))
+
+-- nothing is left to try
+pub finished : (shape : List ℕ) (P : List ℕ → Type 0) (later : List ℕ) (Q : List ℕ → Type 0) (from numbers : List ℕ) (value n : ℕ) (kept now : List ℕ) → Closed P → SameProblem shape P later Q → get_or later (length numbers) 0 ≤ value → AreLast later Q [] numbers → Passes shape P from (place numbers value) n kept now → HaltsAt shape P from n (NoneAfter shape P) kept now
+finished shape P later Q from numbers value n kept now closed s out h p =
+    ended_at shape P from (place numbers value) n kept now (λ x f c k. none_back shape P numbers x value closed (last_same shape P later Q [] numbers s h) (out_of_range shape P later Q (length numbers) value s out) f c k) p
+
+-- ---- the numbers that are kept
+
+-- as many numbers as the front of a list has are the front
+pub front_again : (k : ℕ) (xs : List ℕ) → take (length (take k xs)) xs ≡ take k xs
+front_again zero xs = refl
+front_again (suc k) [] = refl
+front_again (suc k) (x ∷ xs) = ap (λ z. x ∷ z) (front_again k xs)
+
+-- the front of what is kept, where its last numbers go
+pub begins_back : (numbers r t kept : List ℕ) → take (length numbers) kept ≡ numbers → numbers ≡ r ++ t → take (length r) kept ≡ r
+begins_back numbers r t kept h e =
+    let n = ap length e in
+    let m = length-append r t in
+    sym (take-take (length r) (length numbers) kept (omega (arith, n, m))) ∙ ap (take (length r)) (h ∙ e) ∙ take-append_seam r t
+
+-- what is kept of more numbers
+pub kept_ran : (numbers ran t kept now : List ℕ) (first : ℕ) → take (length numbers) kept ≡ numbers → ran ≡ numbers ++ t → first ≡ length numbers → now ≡ take first kept ++ drop first ran → now ≡ ran
+kept_ran numbers ran t kept now first h e k is =
+    let a : take first kept ≡ take first ran = ap (λ i. take i kept) k ∙ h ∙ sym (ap (λ z. take first z) e ∙ ap (λ i. take i (numbers ++ t)) k ∙ take-append_seam numbers t) in
+    is ∙ ap (λ z. z ++ drop first ran) a ∙ take-append-drop first ran
+
+-- which is its own front
+pub begins_taken : (grown now : List ℕ) → now ≡ grown → take (length grown) now ≡ grown
+begins_taken grown now e = ap (take (length grown)) e ∙ take_all (length grown) grown (omega arith)

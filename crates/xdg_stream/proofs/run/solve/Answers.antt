@@ -1,0 +1,17 @@
+use Rattle.std.proofs.Common.{Ok, Err, IfOk}
+use Rattle.std.specs.Prelude.{Result}
+use Rattle.xdg_listing.specs.Answered.{Answered}
+use Rattle.xdg_stream.specs.Vectors.{vectors}
+use Rattle.xdg_stream.specs.declared.run.Outcome.{Outcome}
+use Rattle.xdg_stream.proofs.Ended.{outcome_of}
+use Rattle.xdg_stream.proofs.run.solve.Goals as goal
+
+if_ok : {A E : Type 0} (P Q : A → Type 0) (r : Result A E) → ((x : A) → P x → Q x) → IfOk r P → IfOk r Q
+if_ok P Q (Ok x) f h = f x h
+if_ok P Q (Err e) f h = h
+
+pub returns : goal.returns
+returns g c =
+    let shape = g.F.Front.shape c.args.front in
+    let counted = g.F.Front.counted c.args.front in
+    if_ok (λ (o : Outcome). Answered o.ending shape counted c.args.after.now c.args.budget c.args.wanted (vectors o.answers.items)) _ c.collect.result (λ o a. outcome_of o.ending shape counted c.args.after.now c.args.budget c.args.wanted (vectors o.answers.items) a) c.collect.ensures

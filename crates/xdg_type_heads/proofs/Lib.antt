@@ -1,9 +1,0 @@
-pub mod Heads
-pub mod GraphUses
-pub mod OneMeaning
-pub mod Ordered
-pub mod Heading
-pub mod Joined
-pub mod Weighed
-pub mod WeightLaws
-pub mod Weighing

@@ -1,9 +1,0 @@
-pub mod KindAmong
-pub mod KindLaw
-pub mod KindRows
-pub mod Layers
-pub mod Members
-pub mod Products
-pub mod RecordRows
-pub mod SharedRows
-pub mod Walked

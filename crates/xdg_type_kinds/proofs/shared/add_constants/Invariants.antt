@@ -1,7 +1,0 @@
-use Rattle.std.proofs.Common.{◌≡◌, drop}
-use Rattle.xdg_types.specs.Parts.{texts}
-use Rattle.xdg_type_kinds.specs.KindFaults.{add_texts}
-use Rattle.xdg_type_kinds.proofs.shared.add_constants.Given as goal
-
-abbrev pub invariant-loop-constant : goal.invariant-loop-constant
-invariant-loop-constant l = add_texts l.seen (texts (drop l.constant-index l.constants)) ≡ add_texts l.initial.seen (texts l.constants)

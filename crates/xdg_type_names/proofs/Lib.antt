@@ -1,4 +1,0 @@
-pub mod Each
-pub mod Inside
-pub mod NameLaw
-pub mod PartsAgain

@@ -1,7 +1,0 @@
-use Rattle.std.proofs.Common.{◌≡◌, drop}
-use Rattle.xdg_faults.specs.First.{first, earlier}
-use Rattle.xdg_type_names.specs.Listed as listing
-use Rattle.xdg_type_names.proofs.singles.parts_again.Given as goal
-
-abbrev pub invariant-loop-part : goal.invariant-loop-part
-invariant-loop-part l = earlier l.found (first (listing.parts_again l.stood (drop l.part-index l.parts))) ≡ first (listing.parts_again listing.none_stood l.parts)

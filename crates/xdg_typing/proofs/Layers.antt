@@ -1,0 +1,180 @@
+-- The tree of a type, and what the form of a head tells, layer by layer.
+use Rattle.std.proofs.Common.{◌≡◌, ℕ, ◌<◌, ◌+◌, Bool, true, false, ◌||◌, List, [], ◌∷◌, length, drop, get_or, map, refl, sym, ap, ◌∙◌, subst, arith}
+use Rattle.std.specs.Prelude.{not, ltb, ◌&&◌}
+use Rattle.std.proofs.lemmas.Bool.{lt-ltb}
+use Rattle.std.proofs.lemmas.List.{at_drop_more}
+use Rattle.xdg_ast.specs.declared.names.Pair.{Pair}
+use Rattle.xdg_ast.specs.declared.types.TypeKind.{TypeKind, out-TypeKind, map-TypeKind, fold_out-TypeKind}
+use Rattle.xdg_ast.specs.declared.types.TypeKind.TheVariants as y
+use Rattle.xdg_ast.specs.declared.types.TypeKind.TheOpen.{TypeKind-F}
+use Rattle.xdg_domain.specs.Shapes.{Shape}
+use Rattle.xdg_types.specs.Written.{Tree, recorded, tupled, map_of, member_then, tree_then, trees_of, members_of, layer, tree}
+use Rattle.xdg_types.specs.Parts.{TypeTerm}
+use Rattle.xdg_types.specs.Meaning.{meaning, domains_meaning, as_domain, IsHead}
+use Rattle.xdg_typing.specs.Heads.{IsHeadOf}
+use Rattle.xdg_types.specs.Kinds.{is_domain, is_small, is_empty_domain, are_domains, has_empty_domain, has_no_tuple, is_attribute, has_no_field}
+use Rattle.xdg_typing.specs.KindFaults.{trees_in, members_in, form_tree, domain_form, small_form, empty_form, fieldless_form}
+
+trees_are : (types : List TypeTerm) → trees_of (map (λ type. record { kind = tree type.kind; span = type.span }) types) ≡ trees_in types
+trees_are [] = refl
+trees_are (type ∷ types) = ap (tree_then type.span.start (tree type.kind)) (trees_are types)
+
+members_are : (fields : List (Pair TypeTerm))
+    → members_of (map (λ field. record { key = field.key; value = record { kind = tree field.value.kind; span = field.value.span } }) fields) ≡ members_in fields
+members_are [] = refl
+members_are (field ∷ more) = ap (member_then field.key field.value.span.start (tree field.value.kind)) (members_are more)
+
+form_layer : (l : TypeKind-F TypeKind) → layer (map-TypeKind TypeKind Tree tree l) ≡ form_tree l
+form_layer TypeKind-F.Empty = refl
+form_layer (TypeKind-F.Domain names) = refl
+form_layer (TypeKind-F.Rec pairs) = ap recorded (members_are pairs)
+form_layer (TypeKind-F.Tuple types) = ap tupled (trees_are types)
+form_layer (TypeKind-F.Set type) = refl
+form_layer (TypeKind-F.ISet type) = refl
+form_layer (TypeKind-F.Valency type) = refl
+form_layer (TypeKind-F.Map key value) = refl
+form_layer TypeKind-F.Card = refl
+form_layer TypeKind-F.Bool = refl
+form_layer TypeKind-F.Int = refl
+form_layer TypeKind-F.Str = refl
+form_layer (TypeKind-F.Named name) = refl
+
+-- a type's tree, by its first layer
+pub tree_form : (kind : TypeKind) → tree kind ≡ form_tree (out-TypeKind kind)
+tree_form kind = fold_out-TypeKind Tree layer kind ∙ form_layer (out-TypeKind kind)
+
+-- the trees of the forms of types
+pub tree_rec : (kind : TypeKind) (fields : List (Pair TypeTerm)) → kind ≡ y.Rec fields → tree kind ≡ recorded (members_in fields)
+tree_rec kind fields is = ap (λ k. tree k) is ∙ tree_form (y.Rec fields) ∙ ap form_tree (y.outs-Rec _)
+
+pub tree_tuple : (kind : TypeKind) (types : List TypeTerm) → kind ≡ y.Tuple types → tree kind ≡ tupled (trees_in types)
+tree_tuple kind types is = ap (λ k. tree k) is ∙ tree_form (y.Tuple types) ∙ ap form_tree (y.outs-Tuple _)
+
+pub tree_map : (kind : TypeKind) (key value : TypeTerm) → kind ≡ y.Map key value → tree kind ≡ map_of key.span.start (tree key.kind) value.span.start (tree value.kind)
+tree_map kind key value is = ap (λ k. tree k) is ∙ tree_form (y.Map key value) ∙ ap form_tree (y.outs-Map _ _)
+
+-- a list with something in it
+some : {A : Type 0} (x : A) (xs : List A) → not (ltb 0 (length (x ∷ xs))) ≡ false
+some x xs = let h : 0 < length (x ∷ xs) = omega arith in ap not (lt-ltb 0 (length (x ∷ xs)) h)
+
+pub fieldless_is : (l : TypeKind-F TypeKind) → fieldless_form l ≡ has_no_field (form_tree l)
+fieldless_is TypeKind-F.Empty = refl
+fieldless_is (TypeKind-F.Domain cs) = refl
+fieldless_is (TypeKind-F.Rec ps) = refl
+fieldless_is (TypeKind-F.Tuple []) = refl
+fieldless_is (TypeKind-F.Tuple (t ∷ ts)) = some t ts
+fieldless_is (TypeKind-F.Set type) = refl
+fieldless_is (TypeKind-F.ISet type) = refl
+fieldless_is (TypeKind-F.Valency type) = refl
+fieldless_is (TypeKind-F.Map key value) = refl
+fieldless_is TypeKind-F.Card = refl
+fieldless_is TypeKind-F.Bool = refl
+fieldless_is TypeKind-F.Int = refl
+fieldless_is TypeKind-F.Str = refl
+fieldless_is (TypeKind-F.Named name) = refl
+
+-- What a test of forms finds, a test of meanings finds.
+abbrev Agrees : (List ℕ → Shape) → (TypeKind-F TypeKind → Bool) → (Shape → Bool) → Type 0
+Agrees names form test = (l : TypeKind-F TypeKind) → IsHead names (form_tree l) → form l ≡ test (meaning names (form_tree l))
+
+module _ (names : List ℕ → Shape) where
+  domain_by : Agrees names domain_form (λ s. is_domain (as_domain s))
+  domain_by TypeKind-F.Empty h = refl
+  domain_by (TypeKind-F.Domain cs) h = refl
+  domain_by (TypeKind-F.Rec []) h = refl
+  domain_by (TypeKind-F.Rec (p ∷ ps)) h = some p ps
+  domain_by (TypeKind-F.Tuple types) h = refl
+  domain_by (TypeKind-F.Set type) h = refl
+  domain_by (TypeKind-F.ISet type) h = refl
+  domain_by (TypeKind-F.Valency type) h = refl
+  domain_by (TypeKind-F.Map key value) h = refl
+  domain_by TypeKind-F.Card h = refl
+  domain_by TypeKind-F.Bool h = refl
+  domain_by TypeKind-F.Int h = refl
+  domain_by TypeKind-F.Str h = refl
+  domain_by (TypeKind-F.Named name) h = ap (λ s. is_domain (as_domain s)) (sym h)
+
+  small_by : Agrees names small_form (λ s. is_small (as_domain s))
+  small_by TypeKind-F.Empty h = refl
+  small_by (TypeKind-F.Domain cs) h = refl
+  small_by (TypeKind-F.Rec []) h = refl
+  small_by (TypeKind-F.Rec (p ∷ ps)) h = some p ps
+  small_by (TypeKind-F.Tuple types) h = refl
+  small_by (TypeKind-F.Set type) h = refl
+  small_by (TypeKind-F.ISet type) h = refl
+  small_by (TypeKind-F.Valency type) h = refl
+  small_by (TypeKind-F.Map key value) h = refl
+  small_by TypeKind-F.Card h = refl
+  small_by TypeKind-F.Bool h = refl
+  small_by TypeKind-F.Int h = refl
+  small_by TypeKind-F.Str h = refl
+  small_by (TypeKind-F.Named name) h = ap (λ s. is_small (as_domain s)) (sym h)
+
+  empty_by : Agrees names empty_form (λ s. is_empty_domain (as_domain s))
+  empty_by TypeKind-F.Empty h = refl
+  empty_by (TypeKind-F.Domain []) h = refl
+  empty_by (TypeKind-F.Domain (c ∷ cs)) h = some c cs
+  empty_by (TypeKind-F.Rec []) h = refl
+  empty_by (TypeKind-F.Rec (p ∷ ps)) h = some p ps
+  empty_by (TypeKind-F.Tuple types) h = refl
+  empty_by (TypeKind-F.Set type) h = refl
+  empty_by (TypeKind-F.ISet type) h = refl
+  empty_by (TypeKind-F.Valency type) h = refl
+  empty_by (TypeKind-F.Map key value) h = refl
+  empty_by TypeKind-F.Card h = refl
+  empty_by TypeKind-F.Bool h = refl
+  empty_by TypeKind-F.Int h = refl
+  empty_by TypeKind-F.Str h = refl
+  empty_by (TypeKind-F.Named name) h = ap (λ s. is_empty_domain (as_domain s)) (sym h)
+
+  -- what is told of a type's head holds of the type
+  told : (form : TypeKind-F TypeKind → Bool) (test : Shape → Bool) → Agrees names form test → (kind head : TypeKind) (found : Bool)
+      → IsHeadOf names kind head → found ≡ form (out-TypeKind head) → found ≡ test (meaning names (tree kind))
+  told form test agrees kind head found is_head is =
+      is ∙ agrees (out-TypeKind head) (subst (IsHead names) (tree_form head) is_head.1)
+      ∙ ap (λ t. test (meaning names t)) (sym (tree_form head)) ∙ ap test is_head.0
+
+  pub domain_told : (kind head : TypeKind) (found : Bool) → IsHeadOf names kind head → found ≡ domain_form (out-TypeKind head) → found ≡ is_domain (as_domain (meaning names (tree kind)))
+  domain_told = told domain_form (λ s. is_domain (as_domain s)) domain_by
+
+  pub small_told : (kind head : TypeKind) (found : Bool) → IsHeadOf names kind head → found ≡ small_form (out-TypeKind head) → found ≡ is_small (as_domain (meaning names (tree kind)))
+  small_told = told small_form (λ s. is_small (as_domain s)) small_by
+
+  pub empty_told : (kind head : TypeKind) (found : Bool) → IsHeadOf names kind head → found ≡ empty_form (out-TypeKind head) → found ≡ is_empty_domain (as_domain (meaning names (tree kind)))
+  empty_told = told empty_form (λ s. is_empty_domain (as_domain s)) empty_by
+
+  -- a tuple type
+  pub tuple_told : (head : TypeKind) (types given : List TypeTerm) (found : Bool) → head ≡ y.Tuple types → given ≡ types
+      → found ≡ has_no_tuple (domains_meaning names (trees_in given)) → not found ≡ is_attribute (as_domain (meaning names (tree head)))
+  tuple_told head types given found is same has =
+      ap not (has ∙ ap (λ ts. has_no_tuple (domains_meaning names (trees_in ts))) same)
+      ∙ ap (λ t. is_attribute (as_domain (meaning names t))) (sym (tree_tuple head types is))
+
+  -- the next of some types is no domain without constants
+  pub not_empty_here : (types : List TypeTerm) (i : ℕ) (type : TypeTerm) → i < length types → type ≡ get_or types i type → is_empty_domain (as_domain (meaning names (tree type.kind))) ≡ false
+      → has_empty_domain (domains_meaning names (trees_in (drop (i + 1) types))) ≡ has_empty_domain (domains_meaning names (trees_in (drop i types)))
+  not_empty_here types i type within is none =
+      let all = λ (ts : List TypeTerm). has_empty_domain (domains_meaning names (trees_in ts)) in
+      sym (at_drop_more all types i type within ∙ ap (λ t. all (t ∷ drop (i + 1) types)) (sym is) ∙ ap (λ b. b || all (drop (i + 1) types)) none)
+
+  -- the next of some types is a domain
+  pub domain_here : (types : List TypeTerm) (i : ℕ) (type : TypeTerm) → i < length types → type ≡ get_or types i type → is_domain (as_domain (meaning names (tree type.kind))) ≡ true
+      → are_domains (domains_meaning names (trees_in (drop (i + 1) types))) ≡ are_domains (domains_meaning names (trees_in (drop i types)))
+  domain_here types i type within is one =
+      let all = λ (ts : List TypeTerm). are_domains (domains_meaning names (trees_in ts)) in
+      sym (at_drop_more all types i type within ∙ ap (λ t. all (t ∷ drop (i + 1) types)) (sym is) ∙ ap (λ b. b && all (drop (i + 1) types)) one)
+
+  -- or it is none
+  pub no_domain_here : (types : List TypeTerm) (i : ℕ) (type : TypeTerm) → i < length types → type ≡ get_or types i type → is_domain (as_domain (meaning names (tree type.kind))) ≡ false
+      → false ≡ are_domains (domains_meaning names (trees_in (drop i types)))
+  no_domain_here types i type within is none =
+      let all = λ (ts : List TypeTerm). are_domains (domains_meaning names (trees_in ts)) in
+      sym (at_drop_more all types i type within ∙ ap (λ t. all (t ∷ drop (i + 1) types)) (sym is) ∙ ap (λ b. b && all (drop (i + 1) types)) none)
+
+  -- a tuple type all of whose fields are domains, or one with a field that is none
+  pub tuples_told : (types : List TypeTerm) (empty : Bool) → true ≡ are_domains (domains_meaning names (trees_in types)) → empty ≡ has_empty_domain (domains_meaning names (trees_in types))
+      → empty ≡ has_no_tuple (domains_meaning names (trees_in types))
+  tuples_told types empty all has = has ∙ ap (λ b. b && has_empty_domain (domains_meaning names (trees_in types))) all
+
+  pub other_told : (types : List TypeTerm) → false ≡ are_domains (domains_meaning names (trees_in types)) → false ≡ has_no_tuple (domains_meaning names (trees_in types))
+  other_told types none = ap (λ b. b && has_empty_domain (domains_meaning names (trees_in types))) none

@@ -1,0 +1,82 @@
+-- What is wrong with a record of attributes is found as the rule says.
+use Rattle.std.proofs.Common.{◌≡◌, inl, inr, ℕ, zero, suc, ltb, Bool, true, false, List, [], ◌∷◌, ◌++◌, length, Option, None, Some, refl, sym, ap, subst, ◌∙◌}
+use Rattle.std.specs.Prelude.{slice_get, not}
+use Rattle.std.proofs.lemmas.Bool.{or_cases, or_left, or_right, lt-ltb, ltb-true, true≢false, false≢true}
+use Rattle.xdg_base.specs.declared.faults.Cause.TheVariants as causes
+use Rattle.xdg_base.specs.declared.faults.Fault.{Fault}
+use Rattle.xdg_ast.specs.declared.names.Name.{Name}
+use Rattle.xdg_domain.specs.Shapes.{Shape, fields, Fields, no_field, field_then}
+use Rattle.xdg_names.specs.First.{In}
+use Rattle.xdg_names.proofs.In.{in_append, in_left, in_right, in_when, when_in}
+use Rattle.xdg_types.specs.Written.{Tree, recorded, named, member_names}
+use Rattle.xdg_types.specs.Meaning.{as_domain}
+use Rattle.xdg_types.specs.Names.{fault_at}
+use Rattle.xdg_types.specs.Kinds.{Wanted, the_attributes, Site, is_attribute, reaching, field_count, HasOther, NamedOffends, AttributesOffend, HasWrongAttributes}
+use Rattle.xdg_typing.specs.KindFaults.{ninth_name_faults, has_other, wide_record_faults, other_faults, named_faults, record_faults, attributes_faults}
+
+-- what stands at a place stands between others
+pub between : {A : Type 0} (xs : List A) (k : ℕ) (x : A) → slice_get xs k ≡ Some x → (before : List A) × ((after : List A) × ((xs ≡ before ++ x ∷ after) × (length before ≡ k)))
+between [] k x h = absurd cc
+between (y ∷ xs) zero x h = let e : y ≡ x = cc in ([], (xs, (ap (λ z. z ∷ xs) e, refl)))
+between (y ∷ xs) (suc k) x h = let r = between xs k x h in (y ∷ r.0, (r.1.0, (ap (λ ys. y ∷ ys) r.1.1.0, ap suc r.1.1.1)))
+
+pub at_place : {A : Type 0} (before : List A) (x : A) (after : List A) → slice_get (before ++ x ∷ after) (length before) ≡ Some x
+at_place [] x after = refl
+at_place (y ∷ before) x after = at_place before x after
+
+is_false : (b : Bool) → not b ≡ true → b ≡ false
+is_false true h = absurd (false≢true h)
+is_false false h = refl
+
+module _ (names : List ℕ → Shape) where
+  other_sound : (fs : Fields) → has_other fs ≡ true → HasOther fs
+  other_sound no_field h = absurd (true≢false (sym h))
+  other_sound (field_then name u fs) h = elim (or_cases (not (is_attribute (as_domain u))) (has_other fs) h) [ inl e ↦ inl (is_false (is_attribute (as_domain u)) e) | inr k ↦ inr (other_sound fs k) ]
+
+  other_complete : (fs : Fields) → HasOther fs → has_other fs ≡ true
+  other_complete no_field h = absurd h
+  other_complete (field_then name u fs) h = elim h [
+    | inl e ↦ or_left (not (is_attribute (as_domain u))) (has_other fs) (ap not e)
+    | inr k ↦ or_right (not (is_attribute (as_domain u))) (has_other fs) (other_complete fs k)
+  ]
+
+  named_sound : (at : ℕ) (s : Shape) (f : Fault) → In (named_faults at s) f → NamedOffends at s f
+  named_sound at (fields fs) f h = elim (in_append (wide_record_faults at (field_count fs)) (other_faults at (has_other fs)) f h) [
+    | inl l ↦ (let r = in_when (ltb 8 (field_count fs)) (reaching causes.TooWide at 9) f l in inl (ltb-true 8 (field_count fs) r.0, sym r.1))
+    | inr k ↦ (let r = in_when (has_other fs) (fault_at causes.WrongKind at) f k in inr (other_sound fs r.0, sym r.1))
+  ]
+  named_sound at s f h = absurd h
+
+  named_complete : (at : ℕ) (s : Shape) (f : Fault) → NamedOffends at s f → In (named_faults at s) f
+  named_complete at (fields fs) f h = elim h [
+    | inl l ↦ in_left (wide_record_faults at (field_count fs)) (other_faults at (has_other fs)) f (when_in (ltb 8 (field_count fs)) (reaching causes.TooWide at 9) f (lt-ltb 8 (field_count fs) l.0) (sym l.1))
+    | inr k ↦ in_right (wide_record_faults at (field_count fs)) (other_faults at (has_other fs)) f (when_in (has_other fs) (fault_at causes.WrongKind at) f (other_complete fs k.0) (sym k.1))
+  ]
+  named_complete at s f h = absurd h
+
+  ninth_name : (found : Option Name) (f : Fault) → In (ninth_name_faults found) f → (name : Name) × ((found ≡ Some name) × (f ≡ reaching causes.TooWide name.span.start 9))
+  ninth_name None f h = absurd h
+  ninth_name (Some name) f h = elim h [ inl e ↦ (name, (refl, sym e)) | inr k ↦ absurd k ]
+
+  record_sound : (at : ℕ) (t : Tree) (f : Fault) → In (record_faults names at t) f → AttributesOffend names at t f
+  record_sound at (recorded ms) f h =
+      let r = ninth_name (slice_get (member_names ms) 8) f h in
+      let p = between (member_names ms) 8 r.0 r.1.0 in
+      (p.0, (r.0, (p.1.0, (p.1.1.0, (p.1.1.1, r.1.1)))))
+  record_sound at (named name) f h = named_sound at (names name.text) f h
+  record_sound at t f h = absurd h
+
+  record_complete : (at : ℕ) (t : Tree) (f : Fault) → AttributesOffend names at t f → In (record_faults names at t) f
+  record_complete at (recorded ms) f h =
+      let is : slice_get (member_names ms) 8 ≡ Some h.1.0 =
+      ap (λ ns. slice_get ns 8) h.1.1.1.0 ∙ ap (λ k. slice_get (h.0 ++ h.1.0 ∷ h.1.1.0) k) (sym h.1.1.1.1.0) ∙ at_place h.0 h.1.0 h.1.1.0 in
+      subst (λ o. In (ninth_name_faults o) f) (sym is) (inl (sym h.1.1.1.1.1))
+  record_complete at (named name) f h = named_complete at (names name.text) f h
+  record_complete at t f h = absurd h
+
+  pub attributes_sound : (wanted : Wanted) (at : ℕ) (t : Tree) (f : Fault) → In (attributes_faults names wanted at t) f → (wanted ≡ the_attributes) × AttributesOffend names at t f
+  attributes_sound the_attributes at t f h = (refl, record_sound at t f h)
+  attributes_sound wanted at t f h = absurd h
+
+  pub attributes_complete : (site : Site) (f : Fault) → HasWrongAttributes names site f → In (attributes_faults names site.wanted site.at site.written) f
+  attributes_complete site f h = subst (λ w. In (attributes_faults names w site.at site.written) f) (sym h.wanted) (record_complete site.at site.written f h.offends)

@@ -1,0 +1,74 @@
+//! Constants and fields that stand again in one list.
+
+ghost use Rattle.std.specs.Prelude.{◌≡◌, [], flat_map, IfOk};
+ghost use Rattle.xdg_names.specs.First.{first};
+ghost use Rattle.xdg_types.specs.Written.{tree, lists};
+ghost use Rattle.xdg_types.specs.NameFaults as spec;
+ghost use Rattle.xdg_typing.specs.Listed as listing;
+
+use crate::repeats::repeated;
+use std::alloc::{AllocError, Global};
+use xdg_ast::{Name, Pair, TypeKind, TypeTerm};
+use xdg_base::Fault;
+use xdg_names::{Index, earlier};
+
+/// The first constant of a domain in a type, or field of a record in it, that stands there before.
+pub(crate) fn lists_again(alloc: Global, ty: &TypeTerm) -> Result<Option<Fault>, AllocError>
+    ensures { IfOk result (λ found. found ≡ first (flat_map (spec.repeats []) (lists (tree ty.now.kind)))) }
+{
+    match &ty.kind {
+        TypeKind::Domain(names) => constants_again(alloc, names.as_slice()),
+        TypeKind::Rec(fields) => {
+            let mut found = keys_again(alloc, fields.as_slice())?;
+            for field in fields.as_slice() {
+                found = earlier(found, lists_again(alloc, &field.value)?);
+            }
+            Ok(found)
+        }
+        TypeKind::Tuple(types) => {
+            let mut found = None;
+            for part in types.as_slice() {
+                found = earlier(found, lists_again(alloc, part)?);
+            }
+            Ok(found)
+        }
+        TypeKind::Set(part) => lists_again(alloc, part.get()),
+        TypeKind::ISet(part) => lists_again(alloc, part.get()),
+        TypeKind::Valency(part) => lists_again(alloc, part.get()),
+        TypeKind::Map(key, value) => {
+            let left = lists_again(alloc, key.get())?;
+            let right = lists_again(alloc, value.get())?;
+            Ok(earlier(left, right))
+        }
+        TypeKind::Empty
+        | TypeKind::Card
+        | TypeKind::Bool
+        | TypeKind::Int
+        | TypeKind::Str
+        | TypeKind::Named(_) => Ok(None),
+    }
+}
+
+/// The first of the constants of a domain that stands there before.
+fn constants_again(alloc: Global, names: &[Name]) -> Result<Option<Fault>, AllocError>
+    ensures { IfOk result (λ found. found ≡ first (spec.repeats [] names.now)) }
+{
+    let mut seen = Index::new(alloc);
+    let mut found = None;
+    for name in names {
+        found = earlier(found, repeated(alloc, &mut seen, name)?);
+    }
+    Ok(found)
+}
+
+/// The first of the fields of a record that stands there before.
+fn keys_again(alloc: Global, fields: &[Pair<TypeTerm>]) -> Result<Option<Fault>, AllocError>
+    ensures { IfOk result (λ found. found ≡ first (spec.repeats [] (listing.keys fields.now))) }
+{
+    let mut seen = Index::new(alloc);
+    let mut found = None;
+    for field in fields {
+        found = earlier(found, repeated(alloc, &mut seen, &field.key)?);
+    }
+    Ok(found)
+}

@@ -1,2 +1,0 @@
-pub mod Remaining
-pub mod SlotValues

@@ -1,9 +1,0 @@
-use Rattle.std.proofs.Common.{refl, arith}
-use Rattle.xdg_uses.proofs.Remaining.{entry_end}
-use Rattle.xdg_uses.proofs.entries.each_entry_has_some.Goals as goal
-
-pub returns-clause-exact : goal.returns-clause-exact
-returns-clause-exact c = (
-  λ t k has. c.loop-place.invariant k (entry_end c.args.store.now c.problem.result.now c.parts.result.now c.args.node.0 k c.entry_count-place-end.result c.loop-place.place c.problem.ensures.known c.requires c.parts.ensures.same c.problem.ensures.parts c.entry_count-place-end.ensures.count (let n = c.loop-place-test.false in omega (arith, n)) has) has,
-  λ each. refl,
-)

@@ -1,7 +1,0 @@
-use Rattle.std.proofs.Common.{ap}
-use Rattle.xdg_problem.specs.declared.parts.DimPlan.{DimPlan}
-use Rattle.xdg_verdict_text.proofs.Verdicted.{beyond}
-use Rattle.xdg_verdict_text.proofs.verdicts.labels_at.Goals as goal
-
-pub returns-in-None : goal.returns-in-None
-returns-in-None c = ap (λ (plan : DimPlan). plan.labels) (beyond c.args.parts.now.dims c.from.result c.args.dim c.in-None.ensures c.from.ensures)

@@ -1,6 +1,0 @@
-use Rattle.std.proofs.Common.{ap}
-use Rattle.xdg_verdict_text.specs.VerdictsText.{name_in}
-use Rattle.xdg_verdict_text.proofs.verdicts.rule_name.Goals as goal
-
-pub returns-in-None : goal.returns-in-None
-returns-in-None c = ap name_in c.in-None.ensures

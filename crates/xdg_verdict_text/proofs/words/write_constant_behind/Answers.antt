@@ -1,9 +1,0 @@
-use Rattle.std.proofs.lemmas.Result.{on_err_weaker}
-use Rattle.xdg_text.proofs.Pieces.{front_of_first, front_of_second, at_exit}
-use Rattle.xdg_verdict_text.proofs.words.write_constant_behind.Goals as goal
-
-pub returns-in_err-write_all-clause-front : goal.returns-in_err-write_all-clause-front
-returns-in_err-write_all-clause-front g c = at_exit _ (front_of_first _ c.in_err-write_all.ensures.front)
-
-pub returns-clause-front : goal.returns-clause-front
-returns-clause-front g c = on_err_weaker _ (λ last. front_of_second c.in_ok-write_all.ensures.all last) c.write_constant.ensures.front

@@ -1,2 +1,0 @@
-pub mod VerdictsText
-pub mod OneText
