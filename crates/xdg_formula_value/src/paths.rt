@@ -1,7 +1,7 @@
 //! The nodes of a sentence, and the paths in a box on the dimensions of which they are asked for often.
 
 ghost use Rattle.std.specs.Prelude.{◌≡◌, ◌≤◌, ◌<◌, ◌↔◌, ℕ, true, IsTrue};
-ghost use Rattle.xdg_judge.specs.Links.{In};
+ghost use Rattle.xdg_nodeset.specs.Tables.{In};
 ghost use Rattle.xdg_nodeset.specs.Nodes.{has};
 ghost use Rattle.xdg_problem.specs.Places.{nodes};
 ghost use Rattle.xdg_problem.specs.Paths.{Above};

@@ -3,9 +3,9 @@ use Rattle.std.proofs.Common.{◌≡◌, ◌≢◌, ℕ, ◌<◌, ◌≤◌, ◌
 use Rattle.std.specs.Prelude.{slice_set}
 use Rattle.std.proofs.lemmas.Bool.{cases_lt, cases_eq}
 use Rattle.std.proofs.lemmas.List.{get_or-set_same, get_or-set_other, length-set, length-replicate}
-use Rattle.xdg_judge.specs.Links.{In, Along, IsClosure}
-use Rattle.xdg_judge.proofs.Sets.{no_in}
-use Rattle.xdg_judge.proofs.Walks.{above_edge, above_trans, closed_above}
+use Rattle.xdg_nodeset.specs.Tables.{In, Along, IsClosure}
+use Rattle.xdg_nodeset.proofs.TableSets.{no_in}
+use Rattle.xdg_problem.proofs.Walks.{above_edge, above_trans, closed_above}
 use Rattle.xdg_nodeset.specs.Nodes.{has}
 use Rattle.xdg_problem.specs.declared.analysis.Edge.{Edge}
 use Rattle.xdg_problem.specs.declared.parts.Parts.{Parts}

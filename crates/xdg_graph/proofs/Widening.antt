@@ -1,8 +1,8 @@
 -- The first sets of a table are widened, where the others are empty.
 use Rattle.std.proofs.Common.{◌≡◌, ℕ, ◌≤◌, ◌⊎◌, ◌↔◌, inl, inr, true, List, [], ◌∷◌, length, get_or, sym, subst, arith}
 use Rattle.std.proofs.lemmas.Bool.{cases_lt}
-use Rattle.xdg_judge.specs.Links.{In}
-use Rattle.xdg_judge.proofs.Sets.{Widened}
+use Rattle.xdg_nodeset.specs.Tables.{In}
+use Rattle.xdg_nodeset.proofs.TableSets.{Widened}
 use Rattle.xdg_nodeset.specs.Nodes.{has}
 use Rattle.xdg_graph.specs.Edges.{HasNoneFrom}
 

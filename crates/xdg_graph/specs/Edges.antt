@@ -1,6 +1,6 @@
 -- The edges of a box.
 use Rattle.std.specs.Prelude.{ℕ, ◌≤◌, Bool, List, cond, length, slice_index_or}
-use Rattle.xdg_judge.specs.Links.{In}
+use Rattle.xdg_nodeset.specs.Tables.{In}
 use Rattle.xdg_problem.specs.declared.analysis.Edge.{Edge}
 use Rattle.xdg_problem.specs.declared.parts.DimPlan.{DimPlan}
 use Rattle.xdg_problem.specs.declared.parts.Parts.{Parts}

@@ -2,7 +2,7 @@
 
 ghost use Rattle.std.specs.Prelude.{◌≡◌, ◌≤◌, ◌<◌, ◌↔◌, ◌⊎◌, ℕ, true};
 ghost use Rattle.xdg_nodeset.specs.Nodes.{has};
-ghost use Rattle.xdg_judge.specs.Links.{In, IsClosure};
+ghost use Rattle.xdg_nodeset.specs.Tables.{In, IsClosure};
 ghost use Rattle.xdg_problem.specs.Paths.{Above};
 ghost use Rattle.xdg_store.specs.States.{Known};
 ghost use Rattle.xdg_graph.specs.Edges.{HasNoneFrom, edges_of};
@@ -16,7 +16,7 @@ use xdg_nodeset::NodeSet;
 use xdg_store::Store;
 
 /// A set, with what a second one adds to it where it has the node in the middle.
-#[tactic(auto, using(xdg_judge::proofs::Sets::extended_yes, xdg_judge::proofs::Sets::extended_no))]
+#[tactic(auto, using(xdg_nodeset::proofs::TableSets::extended_yes, xdg_nodeset::proofs::TableSets::extended_no))]
 fn extended(set: NodeSet, middle: u8, beyond: NodeSet) -> NodeSet
     requires { middle < 128 }
     ensures { (b : ℕ) → (has result b ≡ true) ↔ ((has set b ≡ true) ⊎ ((has set middle ≡ true) × (has beyond b ≡ true))) }
@@ -29,7 +29,7 @@ fn extended(set: NodeSet, middle: u8, beyond: NodeSet) -> NodeSet
 
 /// Adds to each of the first sets of a table that has the node in the middle what the table has for that node. The others are
 /// empty.
-#[tactic(auto, using(xdg_judge::proofs::Sets::widened_start, xdg_judge::proofs::Sets::widened_more, crate::proofs::Widening::widened_rest, crate::proofs::Widening::widened_none))]
+#[tactic(auto, using(xdg_nodeset::proofs::TableSets::widened_start, xdg_nodeset::proofs::TableSets::widened_more, crate::proofs::Widening::widened_rest, crate::proofs::Widening::widened_none))]
 fn widen(table: &mut [NodeSet; 128], size: u8, middle: u8)
     requires size { size ≤ 128 }
     requires middle { middle < 128 }
@@ -48,7 +48,7 @@ fn widen(table: &mut [NodeSet; 128], size: u8, middle: u8)
 }
 
 /// What a table leads to through the first nodes, by the algorithm of Warshall (1962), where the sets of the others are empty.
-#[tactic(auto, using(xdg_judge::proofs::Closing::closure_start, xdg_judge::proofs::Closing::closure_more))]
+#[tactic(auto, using(xdg_nodeset::proofs::Closures::closure_start, xdg_nodeset::proofs::Closures::closure_more))]
 fn closed(table: &[NodeSet; 128], size: u8) -> [NodeSet; 128]
     requires size { size ≤ 128 }
     requires rest { HasNoneFrom size table.now }

@@ -17,8 +17,9 @@ use Rattle.xdg_problem.proofs.FitSteps.{entries_lengths}
 use Rattle.xdg_judge.specs.declared.links.Direction.TheVariants as directions
 use Rattle.xdg_judge.specs.declared.links.Neighbours.{Neighbours}
 use Rattle.xdg_judge.specs.Graphs.{AreGraphs, IsReady}
-use Rattle.xdg_judge.specs.Links.{AreNeighbours, In, InBy}
-use Rattle.xdg_judge.proofs.ReadLists.{read_none, read_some}
+use Rattle.xdg_judge.specs.Links.{AreNeighbours}
+use Rattle.xdg_nodeset.specs.Tables.{In, InBy}
+use Rattle.xdg_listing.proofs.Lookups.{read_none, read_some}
 
 -- no edge is of a dimension that the problem lacks
 

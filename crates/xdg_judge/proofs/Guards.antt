@@ -5,7 +5,7 @@ use Rattle.std.specs.Prelude.{IsTrue, AllPairs}
 use Rattle.xdg_problem.specs.declared.analysis.Edge.{Edge}
 use Rattle.xdg_problem.specs.Asking.{IsInItem}
 use Rattle.xdg_problem.specs.Paths.{Above, IsDaughter, IsDaughterBy}
-use Rattle.xdg_judge.proofs.Walks.{above_edge, above_trans}
+use Rattle.xdg_problem.proofs.Walks.{above_edge, above_trans}
 
 daughter_above : (edges : List Edge) (u v : ℕ) → IsDaughter edges u v → Above edges u v
 daughter_above edges u v (k, e, l, at, (m, d)) = subst (λ x. Above edges x v) m (subst (λ x. Above edges e.mother.0 x) d (above_edge edges e (k, l, at)))

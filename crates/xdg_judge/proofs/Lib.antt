@@ -1,8 +1,5 @@
-pub mod Sets
 pub mod Gathering
 pub mod Counted
-pub mod Walks
-pub mod ReadLists
 pub mod Tallies
 pub mod Reading
 pub mod Closing

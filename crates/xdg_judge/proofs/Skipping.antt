@@ -10,7 +10,8 @@ use Rattle.xdg_problem.specs.declared.analysis.Edge.{Edge}
 use Rattle.xdg_problem.specs.Asking.{IsBetween, IsInItem}
 use Rattle.xdg_problem.specs.Paths.{Above, IsDaughterBy}
 use Rattle.xdg_judge.specs.declared.links.Links.{Links}
-use Rattle.xdg_judge.specs.Links.{In, AreLinks}
+use Rattle.xdg_judge.specs.Links.{AreLinks}
+use Rattle.xdg_nodeset.specs.Tables.{In}
 use Rattle.xdg_judge.proofs.Asked.{zero_label}
 
 is_between : (u v w : ℕ) → IsBetween u v w → (nat_lt (min u v) w && nat_lt w (max u v)) ≡ true

@@ -12,6 +12,7 @@ use Rattle.xdg_problem.specs.Paths.{edges_on, roots}
 use Rattle.xdg_problem.specs.declared.conditions.Condition.{Condition}
 use Rattle.xdg_judge.specs.Counting.{first_key, second_key, counted, IsTally}
 use Rattle.xdg_judge.proofs.Gathering.{on_more}
+use Rattle.xdg_problem.proofs.Numbered.{numbers_more}
 
 -- one more element to count
 count_behind : {X : Type 0} (p : X → Bool) (xs : List X) (y : X) → count_by p (xs ++ y ∷ []) ≡ count_by p xs + cond (p y) 1 0
@@ -118,11 +119,6 @@ any_in q false x ys = refl
 pub any_on : {X : Type 0} (r q : X → Bool) (xs : List X) → list_any (λ x. r x && q x) xs ≡ list_any q (filter r xs)
 any_on r q [] = refl
 any_on r q (x ∷ xs) = ap (λ (b : Bool). (r x && q x) || b) (any_on r q xs) ∙ sym (any_in q (r x) x (filter r xs))
-
-pub numbers_more : (first count : ℕ) → numbers_from first (suc count) ≡ numbers_from first count ++ (first + count) ∷ []
-numbers_more first zero = let e : first ≡ first + 0 = omega arith in ap (λ (n : ℕ). n ∷ []) e
-numbers_more first (suc count) = let e : suc first + count ≡ first + suc count = omega arith in
-    ap (λ xs. first ∷ xs) (numbers_more (suc first) count) ∙ ap (λ (n : ℕ). (first ∷ numbers_from (suc first) count) ++ n ∷ []) e
 
 one_kept : (b : Bool) (n : ℕ) → length (cond b (n ∷ []) []) ≡ cond b 1 0
 one_kept true n = refl

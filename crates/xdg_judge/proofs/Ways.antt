@@ -1,5 +1,5 @@
 -- Edges that join two nodes, and the words of the principles.
-use Rattle.std.proofs.Common.{◌≡◌, ℕ, ◌⊎◌, ◌↔◌, inl, inr, Bool, true, List, [], ◌∷◌, ◌++◌, refl, sym, subst, arith, zero, suc}
+use Rattle.std.proofs.Common.{◌≡◌, ℕ, ◌⊎◌, ◌↔◌, inl, inr, Bool, true, List, [], ◌∷◌, refl, sym, subst, arith, zero, suc}
 use Rattle.std.specs.Prelude.{IsTrue, All, Contains}
 use Rattle.std.proofs.lemmas.List.Elements.{All-nil, All-cons, All-head, All-tail, All-append}
 use Rattle.xdg_problem.specs.declared.analysis.Edge.{Edge}
@@ -9,7 +9,8 @@ use Rattle.xdg_problem.specs.Asking.{IsInItem, IsLinked}
 use Rattle.xdg_problem.specs.Paths.{Leads, Above, AboveByFirst, AboveByLast, IsDaughterBy, IsDaughterByAny, AreSistersByAny}
 use Rattle.xdg_judge.specs.declared.paths.Way.TheVariants as ways
 use Rattle.xdg_judge.specs.Joining.{IsJoined}
-use Rattle.xdg_judge.proofs.Walks.{leads_append}
+use Rattle.xdg_problem.proofs.Walks.{leads_append}
+use Rattle.xdg_problem.proofs.Walks.{by_last}
 
 first_joined : (edges : List Edge) (labels : List ℕ) (u v : ℕ) → IsJoined ways.First edges labels u v → AboveByFirst edges u labels v
 first_joined edges labels u v (k, e, l, at, (label, (m, inl d))) = record { first = e; rest = []; label = label; along = All-cons (Contains edges) e [] (k, l, at) (All-nil (Contains edges)); leads = (m, d) }
@@ -34,26 +35,8 @@ last_joined edges labels u v (k, e, l, at, (label, (inr a, d))) = record {
   leads = leads_append a.path (e ∷ []) u e.mother.0 v a.leads (refl, d);
 }
 
-split_leads : (front : List Edge) (e : Edge) (u v : ℕ) → Leads u (front ++ e ∷ []) v → Leads u front e.mother.0 × (e.daughter.0 ≡ v)
-split_leads [] e u v (m, d) = (sym m, d)
-split_leads (f ∷ front) e u v (m, leads) = let r = split_leads front e f.daughter.0 v leads in ((m, r.0), r.1)
-
-split_along : (P : Edge → Type 0) (front : List Edge) (e : Edge) → All P (front ++ e ∷ []) → All P front × P e
-split_along P [] e all = (All-nil P, All-head P e [] all)
-split_along P (f ∷ front) e all = let r = split_along P front e (All-tail P f (front ++ e ∷ []) all) in (All-cons P f front (All-head P f (front ++ e ∷ []) all) r.0, r.1)
-
-joined_last_on : (edges : List Edge) (front : List Edge) (u m : ℕ) → All (Contains edges) front → Leads u front m → (m ≡ u) ⊎ Above edges u m
-joined_last_on edges [] u m along leads = inl (sym leads)
-joined_last_on edges (f ∷ front) u m along leads = inr (record { path = f ∷ front; some = omega arith; along = along; leads = leads })
-
-joined_last : (edges : List Edge) (labels : List ℕ) (u v : ℕ) → AboveByLast edges u labels v → IsJoined ways.Last edges labels u v
-joined_last edges labels u v a =
-    let along = split_along (Contains edges) a.front a.last a.along in
-    let leads = split_leads a.front a.last u v a.leads in
-    (along.1.0, a.last, along.1.1, along.1.2, (a.label, (joined_last_on edges a.front u a.last.mother.0 along.0 leads.0, leads.1)))
-
 pub last_exact : (edges : List Edge) (labels : List ℕ) (u v : ℕ) → IsJoined ways.Last edges labels u v ↔ AboveByLast edges u labels v
-last_exact edges labels u v = (last_joined edges labels u v, joined_last edges labels u v)
+last_exact edges labels u v = (last_joined edges labels u v, by_last edges labels u v)
 
 first_exact : (edges : List Edge) (labels : List ℕ) (u v : ℕ) → IsJoined ways.First edges labels u v ↔ AboveByFirst edges u labels v
 first_exact edges labels u v = (first_joined edges labels u v, joined_first edges labels u v)

@@ -5,7 +5,7 @@ use Rattle.xdg_problem.specs.declared.analysis.Edge.{Edge}
 use Rattle.xdg_problem.specs.Paths.{Above, IsDaughter}
 use Rattle.xdg_nodeset.specs.Nodes.{has}
 use Rattle.xdg_judge.specs.declared.links.Links.{Links}
-use Rattle.xdg_judge.specs.Links.{In}
+use Rattle.xdg_nodeset.specs.Tables.{In}
 use Rattle.xdg_judge.specs.declared.paths.Way.{Way}
 use Rattle.xdg_judge.specs.declared.paths.Way.TheVariants as ways
 
@@ -25,10 +25,6 @@ Joins ways.Sister edges u v e = IsDaughter edges e.mother.0 u × (e.daughter.0 �
 -- some edge with one of the labels joins u to v in a way
 abbrev pub IsJoined : Way → List Edge → List ℕ → ℕ → ℕ → Type 0
 IsJoined way edges labels u v = Any (λ e. Contains labels e.label.0 × Joins way edges u v e) edges
-
--- two sets have a node in common
-abbrev pub Meet : List ℕ → List ℕ → Type 0
-Meet a b = (x : ℕ) × (has a x ≡ true) × (has b x ≡ true)
 
 -- a node at which an edge that joins u to v in a way may have its end that is neither v, where it leads into v, nor u
 abbrev pub IsEnd : Way → Links → ℕ → ℕ → ℕ → Type 0

@@ -1,21 +1,13 @@
 -- The edges of a dimension as sets of nodes.
-use Rattle.std.specs.Prelude.{◌≡◌, ℕ, ◌<◌, ◌↔◌, true, List, [], ◌∷◌, slice_index_or}
+use Rattle.std.specs.Prelude.{◌≡◌, ℕ, ◌↔◌, List}
 use Rattle.std.specs.List.{Any}
-use Rattle.xdg_nodeset.specs.Nodes.{has}
 use Rattle.xdg_problem.specs.declared.analysis.Edge.{Edge}
 use Rattle.xdg_problem.specs.Paths.{Above}
 use Rattle.xdg_judge.specs.declared.links.Direction.{Direction}
 use Rattle.xdg_judge.specs.declared.links.Direction.TheVariants as directions
 use Rattle.xdg_judge.specs.declared.links.Links.{Links}
 use Rattle.xdg_judge.specs.declared.links.Neighbours.{Neighbours}
-
--- a node stands in the set that a table has for a node
-abbrev pub In : List (List ℕ) → ℕ → ℕ → Type 0
-In table from to = has (slice_index_or table from []) to ≡ true
-
--- a node stands in the set that a table has for a node and a label
-abbrev pub InBy : List (List (List ℕ)) → ℕ → ℕ → ℕ → Type 0
-InBy table from label to = has (slice_index_or (slice_index_or table from []) label []) to ≡ true
+use Rattle.xdg_nodeset.specs.Tables.{In, InBy}
 
 -- an edge leads from a node to another in a direction
 abbrev pub Leads : Direction → ℕ → ℕ → Edge → Type 0
@@ -42,14 +34,3 @@ pub record AreNeighbours (direction : Direction) (edges : List Edge) (sets : Nei
 pub record AreLinks (edges : List Edge) (links : Links) : Type 0 where
   pub down : AreNeighbours directions.Down edges links.down
   pub up : AreNeighbours directions.Up edges links.up
-
--- a table leads from a node to another through some nodes
-abbrev pub Along : List (List ℕ) → ℕ → List ℕ → ℕ → Type 0
-Along table from [] to = In table from to
-Along table from (node ∷ nodes) to = In table from node × Along table node nodes to
-
--- a table has what another one leads to, through the first nodes
-pub record IsClosure (size : ℕ) (old new : List (List ℕ)) : Type 0 where
-  pub contains : (from to : ℕ) → In old from to → In new from to
-  pub along : (from to : ℕ) → In new from to → (nodes : List ℕ) × Along old from nodes to
-  pub through : (from middle to : ℕ) → middle < size → In new from middle → In new middle to → In new from to

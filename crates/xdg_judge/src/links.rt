@@ -4,7 +4,8 @@ ghost use Rattle.std.specs.Prelude.{◌≡◌, ◌↔◌, ◌⊎◌, ℕ, ◌<�
 ghost use Rattle.std.specs.List.{Any};
 ghost use Rattle.xdg_nodeset.specs.Nodes.{has};
 ghost use Rattle.xdg_problem.specs.Paths.{edges_on};
-ghost use Rattle.xdg_judge.specs.Links.{In, InBy, Leads, LeadsBy, AreNeighbours, AreLinks, IsClosure};
+ghost use Rattle.xdg_judge.specs.Links.{Leads, LeadsBy, AreNeighbours, AreLinks};
+ghost use Rattle.xdg_nodeset.specs.Tables.{In, InBy, IsClosure};
 ghost use Rattle.xdg_judge.specs.Reached.{AreWithin};
 
 use xdg_base::NodeId;
@@ -60,7 +61,7 @@ pub fn leads_by(table: &[[NodeSet; 32]; 128], from: u8, label: u8, to: u8) -> bo
 }
 
 /// Whether the set that a table has for a node and a label has no node.
-#[tactic(auto, using(crate::proofs::Sets::no_label, crate::proofs::Sets::no_node))]
+#[tactic(auto, using(xdg_nodeset::proofs::TableSets::no_label, xdg_nodeset::proofs::TableSets::no_node))]
 pub fn leads_nowhere(table: &[[NodeSet; 32]; 128], from: u8, label: u8) -> bool
     requires { from < 128 }
     ensures { IsTrue result → (to : ℕ) → InBy table.now from label to → ⊥ }
@@ -72,7 +73,7 @@ pub fn leads_nowhere(table: &[[NodeSet; 32]; 128], from: u8, label: u8) -> bool
 }
 
 /// Whether the set that a table has for a node has all of some nodes.
-#[tactic(auto, using(crate::proofs::Sets::none_outside))]
+#[tactic(auto, using(xdg_nodeset::proofs::TableSets::none_outside))]
 pub fn leads_to_all(table: &[NodeSet; 128], from: u8, nodes: NodeSet) -> bool
     requires { from < 128 }
     ensures { IsTrue result → (to : ℕ) → has nodes to ≡ true → In table.now from to }
@@ -81,7 +82,7 @@ pub fn leads_to_all(table: &[NodeSet; 128], from: u8, nodes: NodeSet) -> bool
 }
 
 /// Adds to a table what an edge with a label leads to.
-#[tactic(auto, using(crate::proofs::Sets::added_by))]
+#[tactic(auto, using(xdg_nodeset::proofs::TableSets::added_by))]
 fn add_by(table: &mut [[NodeSet; 32]; 128], from: u8, label: u8, to: u8)
     requires from { from < 128 }
     requires label { label < 32 }
@@ -92,7 +93,7 @@ fn add_by(table: &mut [[NodeSet; 32]; 128], from: u8, label: u8, to: u8)
 }
 
 /// Adds to a table what an edge leads to.
-#[tactic(auto, using(crate::proofs::Sets::added))]
+#[tactic(auto, using(xdg_nodeset::proofs::TableSets::added))]
 fn add(table: &mut [NodeSet; 128], from: u8, to: u8)
     requires from { from < 128 }
     requires to { to < 128 }
@@ -102,7 +103,7 @@ fn add(table: &mut [NodeSet; 128], from: u8, to: u8)
 }
 
 /// A set, with what a second one adds to it where it has the node in the middle.
-#[tactic(auto, using(crate::proofs::Sets::extended_yes, crate::proofs::Sets::extended_no))]
+#[tactic(auto, using(xdg_nodeset::proofs::TableSets::extended_yes, xdg_nodeset::proofs::TableSets::extended_no))]
 fn extended(set: NodeSet, middle: u8, beyond: NodeSet) -> NodeSet
     requires { middle < 128 }
     ensures { (b : ℕ) → (has result b ≡ true) ↔ ((has set b ≡ true) ⊎ ((has set middle ≡ true) × (has beyond b ≡ true))) }
@@ -114,7 +115,7 @@ fn extended(set: NodeSet, middle: u8, beyond: NodeSet) -> NodeSet
 }
 
 /// Adds to each set of a table that has the node in the middle what the table has for that node.
-#[tactic(auto, using(crate::proofs::Sets::widened_start, crate::proofs::Sets::widened_more, crate::proofs::Sets::widened_end))]
+#[tactic(auto, using(xdg_nodeset::proofs::TableSets::widened_start, xdg_nodeset::proofs::TableSets::widened_more, xdg_nodeset::proofs::TableSets::widened_end))]
 fn widen(table: &mut [NodeSet; 128], middle: u8)
     requires { middle < 128 }
     ensures { (a b : ℕ) → In table.new a b ↔ (In table.old a b ⊎ (In table.old a middle × In table.old middle b)) }
@@ -126,7 +127,7 @@ fn widen(table: &mut [NodeSet; 128], middle: u8)
 }
 
 /// What a table leads to through the first nodes, by the algorithm of Warshall (1962).
-#[tactic(auto, using(crate::proofs::Closing::closure_start, crate::proofs::Closing::closure_more))]
+#[tactic(auto, using(xdg_nodeset::proofs::Closures::closure_start, xdg_nodeset::proofs::Closures::closure_more))]
 fn closed(table: &[NodeSet; 128], size: u8) -> [NodeSet; 128]
     requires { size ≤ 128 }
     ensures { IsClosure size table.now result }
@@ -140,7 +141,7 @@ fn closed(table: &[NodeSet; 128], size: u8) -> [NodeSet; 128]
 
 impl Neighbours {
     /// No edge leads anywhere.
-    #[tactic(auto, using(crate::proofs::Sets::no_in, crate::proofs::Sets::no_by))]
+    #[tactic(auto, using(xdg_nodeset::proofs::TableSets::no_in, xdg_nodeset::proofs::TableSets::no_by))]
     pub(crate) fn none() -> Neighbours
         ensures by_label { (from label to : ℕ) → InBy result.by_label from label to → ⊥ }
         ensures next { (from to : ℕ) → In result.next from to → ⊥ }

@@ -3,7 +3,8 @@
 ghost use Rattle.std.specs.Prelude.{◌≡◌, ℕ, ◌<◌, ◌⊎◌, ◌↔◌, true, [], IsTrue, Contains, slice_index_or};
 ghost use Rattle.std.specs.List.{Any};
 ghost use Rattle.xdg_nodeset.specs.Nodes.{has};
-ghost use Rattle.xdg_judge.specs.Joining.{Meet, IsEnd, IsLed};
+ghost use Rattle.xdg_judge.specs.Joining.{IsEnd, IsLed};
+ghost use Rattle.xdg_nodeset.specs.Tables.{Meet};
 
 use crate::links::Links;
 use xdg_base::NodeId;
@@ -32,7 +33,7 @@ pub fn is_member(numbers: &[u16], number: usize) -> bool
 }
 
 /// A set with one node more.
-#[tactic(auto, using(crate::proofs::Sets::one_more))]
+#[tactic(auto, using(xdg_nodeset::proofs::TableSets::one_more))]
 fn including(set: NodeSet, node: u8) -> NodeSet
     requires { node < 128 }
     ensures { (x : ℕ) → (has result x ≡ true) ↔ ((has set x ≡ true) ⊎ (node ≡ x)) }
@@ -43,7 +44,7 @@ fn including(set: NodeSet, node: u8) -> NodeSet
 }
 
 /// Whether two sets have a node in common.
-#[tactic(auto, using(crate::proofs::Meeting::some_met, crate::proofs::Meeting::none_met))]
+#[tactic(auto, using(xdg_nodeset::proofs::Meetings::some_met, xdg_nodeset::proofs::Meetings::none_met))]
 fn overlap(a: NodeSet, b: NodeSet) -> bool
     ensures { IsTrue result ↔ Meet a b }
 {
@@ -54,7 +55,7 @@ fn overlap(a: NodeSet, b: NodeSet) -> bool
 }
 
 /// Whether the set at a label has a node in common with another set.
-#[tactic(auto, using(crate::proofs::Meeting::no_set, crate::proofs::Meeting::some_set))]
+#[tactic(auto, using(xdg_nodeset::proofs::Meetings::no_set, xdg_nodeset::proofs::Meetings::some_set))]
 fn meets_at(sets: &[NodeSet; 32], label: u16, nodes: NodeSet) -> bool
     ensures { IsTrue result ↔ Meet (slice_index_or sets.now label []) nodes }
 {
@@ -65,7 +66,7 @@ fn meets_at(sets: &[NodeSet; 32], label: u16, nodes: NodeSet) -> bool
 }
 
 /// Whether the set at one of some labels has a node in common with another set.
-#[tactic(auto, using(crate::proofs::Meeting::none_start, crate::proofs::Meeting::none_more, crate::proofs::Meeting::none_end, crate::proofs::Meeting::found_here))]
+#[tactic(auto, using(xdg_nodeset::proofs::Meetings::none_start, xdg_nodeset::proofs::Meetings::none_more, xdg_nodeset::proofs::Meetings::none_end, xdg_nodeset::proofs::Meetings::found_here))]
 fn meets(sets: &[NodeSet; 32], labels: &[u16], nodes: NodeSet) -> bool
     ensures { IsTrue result ↔ Any (λ label. Meet (slice_index_or sets.now label []) nodes) labels.now }
 {

@@ -8,3 +8,4 @@ pub mod Joined
 pub mod Drawing
 pub mod OneEnding
 pub mod Compared
+pub mod Lookups

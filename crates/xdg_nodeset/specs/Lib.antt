@@ -1,3 +1,4 @@
 pub mod Nodes
 pub mod Bits
 pub mod Words
+pub mod Tables

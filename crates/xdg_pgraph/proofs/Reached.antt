@@ -1,7 +1,7 @@
 -- What paths lead to, step by step.
 use Rattle.std.proofs.Common.{ℕ, ◌+◌, ◌<◌, ◌≤◌, ◌⊎◌, ◌↔◌, inl, inr, List, refl, sym, subst, arith}
 use Rattle.std.proofs.lemmas.Bool.{cases_eq}
-use Rattle.xdg_judge.specs.Links.{In}
+use Rattle.xdg_nodeset.specs.Tables.{In}
 use Rattle.xdg_problem.specs.declared.analysis.Edge.{Edge}
 use Rattle.xdg_problem.specs.Paths.{Above}
 use Rattle.xdg_rules.specs.Rules.{IsPlaceOn, NoCycle, must_edges}

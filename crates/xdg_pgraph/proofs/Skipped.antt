@@ -3,8 +3,8 @@ use Rattle.std.proofs.Common.{◌≡◌, ◌≢◌, ℕ, ◌+◌, ◌&&◌, inl,
 use Rattle.std.specs.Prelude.{Contains, not}
 use Rattle.std.proofs.lemmas.Bool.{cases_eq, false≢true, false_from_ne_true, not_from_false}
 use Rattle.std.proofs.lemmas.List.{nil_from_length}
-use Rattle.xdg_judge.proofs.Sets.{both}
-use Rattle.xdg_judge.specs.Links.{In}
+use Rattle.xdg_nodeset.proofs.TableSets.{both}
+use Rattle.xdg_nodeset.specs.Tables.{In}
 use Rattle.xdg_nodeset.specs.Nodes.{has}
 use Rattle.xdg_problem.specs.declared.analysis.Edge.{Edge}
 use Rattle.xdg_problem.specs.declared.parts.Group.{Group}

@@ -3,8 +3,8 @@ use Rattle.std.proofs.Common.{◌≡◌, ℕ, ◌≤◌, ◌+◌, ◌||◌, inl,
 use Rattle.std.specs.Prelude.{◌==◌, slice_index_or}
 use Rattle.std.proofs.lemmas.Bool.{cases_eq, eq-eqb, false≢true}
 use Rattle.std.proofs.lemmas.List.{nil_from_length}
-use Rattle.xdg_judge.specs.Links.{In}
-use Rattle.xdg_judge.proofs.Sets.{either}
+use Rattle.xdg_nodeset.specs.Tables.{In}
+use Rattle.xdg_nodeset.proofs.TableSets.{either}
 use Rattle.xdg_nodeset.specs.Nodes.{has}
 use Rattle.xdg_pgraph.specs.Seeking.{StartAll}
 

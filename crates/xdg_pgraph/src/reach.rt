@@ -1,7 +1,7 @@
 //! What paths along edges that must be lead to.
 
 ghost use Rattle.std.specs.Prelude.{◌≡◌, ◌↔◌, ◌<◌, ◌≤◌, true, IsTrue};
-ghost use Rattle.xdg_judge.specs.Links.{In};
+ghost use Rattle.xdg_nodeset.specs.Tables.{In};
 ghost use Rattle.xdg_nodeset.specs.Nodes.{has};
 ghost use Rattle.xdg_propcore.specs.Passes.{Clears};
 ghost use Rattle.xdg_rules.specs.Rules.{NoCycle};

@@ -3,7 +3,7 @@
 ghost use Rattle.std.specs.Prelude.{◌≡◌, ◌<◌, ◌≤◌, ◌↔◌, ◌⊎◌, ℕ, true, IsTrue};
 ghost use Rattle.std.specs.List.{Any};
 ghost use Rattle.xdg_nodeset.specs.Nodes.{has};
-ghost use Rattle.xdg_judge.specs.Joining.{Meet};
+ghost use Rattle.xdg_nodeset.specs.Tables.{Meet};
 ghost use Rattle.xdg_problem.specs.Arguments.{second_dim};
 ghost use Rattle.xdg_problem.specs.Features.{map_row};
 ghost use Rattle.xdg_problem.specs.Places.{nodes};
@@ -20,7 +20,7 @@ use xdg_problem::{Group, Principle};
 use xdg_store::Store;
 
 /// Whether two sets have a node in common.
-#[tactic(auto, using(xdg_judge::proofs::Meeting::some_met, xdg_judge::proofs::Meeting::none_met))]
+#[tactic(auto, using(xdg_nodeset::proofs::Meetings::some_met, xdg_nodeset::proofs::Meetings::none_met))]
 fn overlap(a: NodeSet, b: NodeSet) -> bool
     ensures { IsTrue result ↔ Meet a b }
 {
@@ -72,7 +72,7 @@ fn others(store: &Store, dim: DimId, way: Way, a: NodeId, b: NodeId, label: u16)
 }
 
 /// Whether an edge with one of some labels may link a to b, by a table.
-#[tactic(auto, using(xdg_judge::proofs::Meeting::none_start))]
+#[tactic(auto, using(xdg_nodeset::proofs::Meetings::none_start))]
 fn is_led(
     store: &Store,
     dim: DimId,

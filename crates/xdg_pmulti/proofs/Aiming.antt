@@ -3,9 +3,9 @@ use Rattle.std.proofs.Common.{◌≡◌, ℕ, ◌<◌, ◌≤◌, ◌⊎◌, ◌
 use Rattle.std.specs.Prelude.{not, Contains, All}
 use Rattle.std.proofs.lemmas.Bool.{cases_Bool, and_parts, and_from, not-true, not_from_false, both_ways, false_from_ne_true, eqb-true, eq-eqb}
 use Rattle.std.proofs.lemmas.List.Elements.{All-weaker, All-contains_itself}
-use Rattle.xdg_judge.specs.Links.{In}
-use Rattle.xdg_judge.proofs.Sets.{either}
-use Rattle.xdg_judge.proofs.Walks.{closed_above}
+use Rattle.xdg_nodeset.specs.Tables.{In}
+use Rattle.xdg_nodeset.proofs.TableSets.{either}
+use Rattle.xdg_problem.proofs.Walks.{closed_above}
 use Rattle.xdg_nodeset.specs.Nodes.{has}
 use Rattle.xdg_problem.specs.declared.analysis.Edge.{Edge}
 use Rattle.xdg_problem.specs.declared.parts.Group.{Group}

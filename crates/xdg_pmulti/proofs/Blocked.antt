@@ -3,8 +3,8 @@ use Rattle.std.proofs.Common.{◌≡◌, ◌≢◌, ℕ, ◌+◌, ◌<◌, ◌�
 use Rattle.std.specs.Prelude.{slice_set}
 use Rattle.std.proofs.lemmas.Bool.{cases_eq, cases_lt, eq-eqb, eqb-true, false≢true}
 use Rattle.std.proofs.lemmas.List.{get_or-set_same, get_or-set_other, length-set, length-replicate}
-use Rattle.xdg_judge.specs.Links.{In}
-use Rattle.xdg_judge.proofs.Sets.{either, no_in}
+use Rattle.xdg_nodeset.specs.Tables.{In}
+use Rattle.xdg_nodeset.proofs.TableSets.{either, no_in}
 use Rattle.xdg_nodeset.specs.Nodes.{has}
 
 -- a set with a node more

@@ -3,10 +3,9 @@ use Rattle.std.proofs.Common.{◌≡◌, ℕ, ◌⊎◌, ◌&&◌, ◌==◌, inl
 use Rattle.std.specs.Prelude.{Contains, filter}
 use Rattle.std.proofs.lemmas.Bool.{eq-eqb}
 use Rattle.std.proofs.lemmas.List.Elements.{All-contains}
-use Rattle.xdg_judge.specs.Joining.{IsJoined}
-use Rattle.xdg_judge.specs.declared.paths.Way.TheVariants as ways
-use Rattle.xdg_judge.proofs.Walks.{above_trans, closed_above}
-use Rattle.xdg_judge.proofs.Ways.{last_exact}
+use Rattle.std.specs.List.{Any}
+use Rattle.xdg_problem.proofs.Walks.{above_trans, closed_above}
+use Rattle.xdg_problem.proofs.Walks.{by_last}
 use Rattle.xdg_problem.specs.declared.analysis.Edge.{Edge}
 use Rattle.xdg_problem.specs.declared.parts.Group.{Group}
 use Rattle.xdg_problem.specs.declared.parts.Parts.{Parts}
@@ -132,9 +131,9 @@ module _ (parts : Parts) (group : Group) (box : List (List Bool)) (is : IsBox (s
     ]
 
     path_passes : NoRule principles.Barriers → AboveByLast (may two) w (set_row group w entry) v → Above (may one) w v
-    path_passes none path = along ((last_exact (may two) (set_row group w entry) w v).1 path)
+    path_passes none path = along (by_last (may two) (set_row group w entry) w v path)
       where
-        along : IsJoined ways.Last (may two) (set_row group w entry) w v → Above (may one) w v
+        along : Any (λ e. Contains (set_row group w entry) e.label.0 × (((e.mother.0 ≡ w) ⊎ Above (may two) w e.mother.0) × (e.daughter.0 ≡ v))) (may two) → Above (may one) w v
         along (k, e, l, at, (label, (from, to))) = subst (λ x. Above (may one) w x) to (last_edge none e (k, l, at) label from)
 
     blocked_passes : NoRule principles.Barriers → TestPasses parts group box (not_blocked w v)

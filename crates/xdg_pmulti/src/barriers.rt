@@ -1,7 +1,7 @@
 //! What barriers take.
 
 ghost use Rattle.std.specs.Prelude.{◌≡◌, ◌<◌, ◌⊎◌, ◌↔◌, ℕ, true, [], slice_index_or};
-ghost use Rattle.xdg_judge.specs.Links.{In};
+ghost use Rattle.xdg_nodeset.specs.Tables.{In};
 ghost use Rattle.xdg_nodeset.specs.Nodes.{has};
 ghost use Rattle.xdg_problem.specs.Places.{nodes};
 ghost use Rattle.xdg_propcore.specs.Passes.{Clears};

@@ -1,7 +1,7 @@
 //! Which nodes block which labels.
 
 ghost use Rattle.std.specs.Prelude.{◌≡◌, ◌<◌, ◌↔◌, ◌⊎◌, ℕ, true, IsTrue};
-ghost use Rattle.xdg_judge.specs.Links.{In};
+ghost use Rattle.xdg_nodeset.specs.Tables.{In};
 ghost use Rattle.xdg_nodeset.specs.Nodes.{has};
 ghost use Rattle.xdg_problem.specs.Places.{nodes};
 ghost use Rattle.xdg_graph.specs.Edges.{edge_labels};

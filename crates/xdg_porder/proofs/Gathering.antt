@@ -3,7 +3,7 @@ use Rattle.std.proofs.Common.{◌≡◌, ℕ, ◌<◌, ◌≤◌, ◌⊎◌, ◌
 use Rattle.std.specs.Prelude.{not, nat_lt}
 use Prim.Native.Nat.{min, max}
 use Rattle.std.proofs.lemmas.Bool.{cases_lt, eq-eqb, eqb-true, lt-ltb, ltb-true, false≢true}
-use Rattle.xdg_judge.proofs.Sets.{either, both}
+use Rattle.xdg_nodeset.proofs.TableSets.{either, both}
 use Rattle.xdg_nodeset.specs.Nodes.{has, IsNodes}
 use Rattle.xdg_nodeset.proofs.Rising.{has_beyond}
 use Rattle.xdg_problem.specs.Asking.{IsBetween}

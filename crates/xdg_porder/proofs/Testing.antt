@@ -5,8 +5,8 @@ use Rattle.std.proofs.lemmas.Bool.{cases_Bool, cases_lt, eq-eqb, eqb-true, false
 use Rattle.std.proofs.lemmas.List.{get_or_default, length-map}
 use Rattle.std.proofs.lemmas.List.Elements.{All-nil, All-cons, All-contains, All-contains_itself, All-weaker}
 use Rattle.xdg_base.specs.declared.ids.LabelId.{LabelId}
-use Rattle.xdg_judge.specs.Links.{In}
-use Rattle.xdg_judge.proofs.Walks.{closed_above}
+use Rattle.xdg_nodeset.specs.Tables.{In}
+use Rattle.xdg_problem.proofs.Walks.{closed_above}
 use Rattle.xdg_problem.specs.declared.analysis.Edge.{Edge}
 use Rattle.xdg_problem.specs.declared.parts.Group.{Group}
 use Rattle.xdg_problem.specs.declared.parts.Parts.{Parts}

@@ -1,6 +1,6 @@
 -- Edges across nodes that can't be below their mothers, by a table of nodes below others.
 use Rattle.std.specs.Prelude.{◌≡◌, ℕ, ◌<◌, true, Bool, List}
-use Rattle.xdg_judge.specs.Links.{In}
+use Rattle.xdg_nodeset.specs.Tables.{In}
 use Rattle.xdg_nodeset.specs.Nodes.{has}
 use Rattle.xdg_problem.specs.declared.parts.Group.{Group}
 use Rattle.xdg_problem.specs.declared.parts.Parts.{Parts}

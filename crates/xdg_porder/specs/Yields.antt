@@ -1,6 +1,6 @@
 -- Yields: the nodes below daughters, in a box whose edges are decided.
 use Rattle.std.specs.Prelude.{ℕ, ◌<◌, ◌≤◌, ◌⊎◌, Bool, List, length}
-use Rattle.xdg_judge.specs.Links.{In}
+use Rattle.xdg_nodeset.specs.Tables.{In}
 use Rattle.xdg_problem.specs.declared.parts.Group.{Group}
 use Rattle.xdg_problem.specs.declared.parts.Parts.{Parts}
 use Rattle.xdg_problem.specs.Analyses.{IsPlace}

@@ -1,7 +1,7 @@
 //! Sets of nodes by where they stand.
 
 ghost use Rattle.std.specs.Prelude.{◌≡◌, ◌<◌, ◌≤◌, ◌↔◌, ◌⊎◌, ℕ, true, IsTrue};
-ghost use Rattle.xdg_judge.specs.Links.{In};
+ghost use Rattle.xdg_nodeset.specs.Tables.{In};
 ghost use Rattle.xdg_nodeset.specs.Nodes.{has};
 ghost use Rattle.xdg_porder.specs.Across.{Crosses};
 

@@ -53,3 +53,6 @@ pub mod FurtherTruths
 pub mod FurtherUses
 pub mod FurtherLawful
 pub mod Turning
+pub mod RowReads
+pub mod Walks
+pub mod Numbered

@@ -1,4 +1,4 @@
-use Rattle.xdg_judge.specs.Links.{IsClosure}
+use Rattle.xdg_nodeset.specs.Tables.{IsClosure}
 use Rattle.xdg_graph.specs.Edges.{HasNoneFrom}
 use Rattle.xdg_graph.proofs.paths.closed.Given as goal
 

@@ -1,4 +1,4 @@
-use Rattle.xdg_judge.proofs.Sets.{Widened}
+use Rattle.xdg_nodeset.proofs.TableSets.{Widened}
 use Rattle.xdg_graph.proofs.paths.widen.Given as goal
 
 abbrev pub invariant-loop-at : goal.invariant-loop-at

@@ -1,4 +1,4 @@
-use Rattle.xdg_judge.specs.Links.{IsClosure}
+use Rattle.xdg_nodeset.specs.Tables.{IsClosure}
 use Rattle.xdg_judge.proofs.links.closed.Given as goal
 
 abbrev pub invariant-loop-middle : goal.invariant-loop-middle

@@ -1,4 +1,4 @@
-use Rattle.xdg_judge.proofs.Sets.{Widened}
+use Rattle.xdg_nodeset.proofs.TableSets.{Widened}
 use Rattle.xdg_judge.proofs.links.widen.Given as goal
 
 abbrev pub invariant-loop-set : goal.invariant-loop-set

@@ -1,6 +1,6 @@
-use Rattle.xdg_judge.specs.Joining.{Meet}
+use Rattle.xdg_nodeset.specs.Tables.{Meet}
 use Rattle.std.proofs.Common.{[], get_or}
-use Rattle.xdg_judge.proofs.Meeting.{NoneMeet}
+use Rattle.xdg_nodeset.proofs.Meetings.{NoneMeet}
 use Rattle.xdg_judge.proofs.paths.meets.Given as goal
 
 abbrev pub invariant-loop-label : goal.invariant-loop-label

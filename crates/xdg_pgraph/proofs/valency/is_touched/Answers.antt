@@ -1,5 +1,5 @@
 use Rattle.std.proofs.Common.{◌≡◌, ◌∙◌, [], ap, get_or, inl, inr, subst, sym, true}
-use Rattle.xdg_judge.proofs.Sets.{either}
+use Rattle.xdg_nodeset.proofs.TableSets.{either}
 use Rattle.xdg_nodeset.specs.Nodes.{has}
 use Rattle.xdg_pgraph.specs.Untouched.{side}
 use Rattle.xdg_pgraph.proofs.valency.is_touched.Goals as goal

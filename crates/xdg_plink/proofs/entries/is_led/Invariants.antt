@@ -1,4 +1,4 @@
-use Rattle.xdg_judge.proofs.Meeting.{NoneMeet}
+use Rattle.xdg_nodeset.proofs.Meetings.{NoneMeet}
 use Rattle.xdg_rules.specs.Rules.{may_edges}
 use Rattle.xdg_plink.proofs.Leading.{LedBy}
 use Rattle.xdg_plink.proofs.entries.is_led.Given as goal

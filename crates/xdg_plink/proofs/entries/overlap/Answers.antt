@@ -1,4 +1,4 @@
-use Rattle.xdg_judge.proofs.Meeting.{some_met}
+use Rattle.xdg_nodeset.proofs.Meetings.{some_met}
 use Rattle.xdg_plink.proofs.entries.overlap.Goals as goal
 
 pub returns-in-Some : goal.returns-in-Some

@@ -1,6 +1,6 @@
 use Rattle.std.proofs.Common.{ℕ, ◌↔◌, arith, refl, sym, ◌∙◌, subst}
 use Rattle.std.proofs.lemmas.Bool.{false≢true}
-use Rattle.xdg_judge.specs.Links.{In}
+use Rattle.xdg_nodeset.specs.Tables.{In}
 use Rattle.xdg_problem.specs.Paths.{Above}
 use Rattle.xdg_rules.specs.Rules.{IsDecided, attr_of_node, may_edges}
 use Rattle.xdg_porder.specs.Yields.{IsBrokenAt}

@@ -1,5 +1,5 @@
 use Rattle.std.proofs.Common.{◌≡◌, ◌∙◌, ◌↔◌, ℕ, true, sym, subst}
-use Rattle.xdg_judge.specs.Links.{In}
+use Rattle.xdg_nodeset.specs.Tables.{In}
 use Rattle.xdg_nodeset.specs.Nodes.{has, IsNodes}
 use Rattle.xdg_porder.proofs.Gathering.{gathers_start, gathers_next, gathers_end, head_in, nodes_small, same_set, small_later, unions}
 use Rattle.xdg_porder.proofs.sets.all_below.Goals as goal

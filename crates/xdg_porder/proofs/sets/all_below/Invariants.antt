@@ -1,4 +1,4 @@
-use Rattle.xdg_judge.specs.Links.{In}
+use Rattle.xdg_nodeset.specs.Tables.{In}
 use Rattle.xdg_porder.proofs.Gathering.{AreSmall, Gathers}
 use Rattle.xdg_porder.proofs.sets.all_below.Given as goal
 

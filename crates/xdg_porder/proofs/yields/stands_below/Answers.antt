@@ -1,5 +1,5 @@
 use Rattle.std.proofs.Common.{ℕ}
-use Rattle.xdg_judge.specs.Links.{In}
+use Rattle.xdg_nodeset.specs.Tables.{In}
 use Rattle.xdg_porder.specs.Items.{MayFollow, MayStand}
 use Rattle.xdg_porder.proofs.Settling.{below_exact, below_of}
 use Rattle.xdg_porder.proofs.yields.stands_below.Goals as goal

@@ -1,7 +1,8 @@
 use Rattle.std.proofs.Common.{arith, get_or, ◌≤◌, length}
 use Rattle.std.proofs.lemmas.List.{get_or_default}
 use Rattle.xdg_problem.specs.Places.{edge}
-use Rattle.xdg_judge.specs.Links.{In, InBy, Leads, LeadsBy}
+use Rattle.xdg_judge.specs.Links.{Leads, LeadsBy}
+use Rattle.xdg_nodeset.specs.Tables.{In, InBy}
 use Rattle.xdg_judge.proofs.Gathering.{gather_none, gather_here, gather_over, gather_all}
 use Rattle.xdg_judge.proofs.links.Neighbours.gathered.Goals as goal
 use Rattle.xdg_judge.proofs.links.Neighbours.gathered.Goals.{then-edge-dim, else-edge-dim}

@@ -1,7 +1,8 @@
 use Rattle.std.proofs.Common.{ℕ, ◌↔◌, take}
 use Rattle.std.specs.List.{Any}
 use Rattle.xdg_problem.specs.Paths.{edges_on}
-use Rattle.xdg_judge.specs.Links.{In, InBy, Leads, LeadsBy}
+use Rattle.xdg_judge.specs.Links.{Leads, LeadsBy}
+use Rattle.xdg_nodeset.specs.Tables.{In, InBy}
 use Rattle.xdg_judge.proofs.links.Neighbours.gathered.Given as goal
 
 abbrev pub invariant-loop-edge : goal.invariant-loop-edge

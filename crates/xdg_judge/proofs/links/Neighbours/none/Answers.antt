@@ -1,5 +1,5 @@
 use Rattle.std.proofs.Common.{refl}
-use Rattle.xdg_judge.proofs.Sets.{no_in, no_by}
+use Rattle.xdg_nodeset.proofs.TableSets.{no_in, no_by}
 use Rattle.xdg_judge.proofs.links.Neighbours.none.Goals as goal
 
 pub returns-clause-by_label : goal.returns-clause-by_label

@@ -4,8 +4,8 @@ use Rattle.std.specs.Prelude.{slice_get, slice_set, not}
 use Rattle.std.proofs.lemmas.Bool.{cases_eq, cases_lt, eq-eqb, eqb-true, false≢true}
 use Rattle.std.proofs.lemmas.List.{get_or-set_same, get_or-set_other, get_or_past, length-set, nil_from_length}
 use Rattle.xdg_nodeset.specs.Nodes.{has}
-use Rattle.xdg_judge.specs.Links.{In, InBy}
-use Rattle.xdg_judge.proofs.ReadLists.{read_none, read_some}
+use Rattle.xdg_nodeset.specs.Tables.{In, InBy}
+use Rattle.xdg_listing.proofs.Lookups.{read_none, read_some}
 
 pub either : (p q : Bool) → ((p || q) ≡ true) ↔ ((p ≡ true) ⊎ (q ≡ true))
 either true q = (λ h. inl refl, λ h. refl)
@@ -103,12 +103,12 @@ widened_end old now middle i l w a b = elim (cases_lt a i) [
 
 -- sets without nodes
 
-empty_at : (count : ℕ) (set : List ℕ) (a b : ℕ) → set ≡ [] → In (replicate count set) a b → ⊥
+pub empty_at : (count : ℕ) (set : List ℕ) (a b : ℕ) → set ≡ [] → In (replicate count set) a b → ⊥
 empty_at zero set a b e h = false≢true h
 empty_at (suc count) set zero b e h = false≢true (subst (λ z. has z b ≡ true) e h)
 empty_at (suc count) set (suc a) b e h = empty_at count set a b e h
 
-empty_by : (count labels : ℕ) (set : List ℕ) (a l b : ℕ) → set ≡ [] → InBy (replicate count (replicate labels set)) a l b → ⊥
+pub empty_by : (count labels : ℕ) (set : List ℕ) (a l b : ℕ) → set ≡ [] → InBy (replicate count (replicate labels set)) a l b → ⊥
 empty_by zero labels set a l b e h = false≢true h
 empty_by (suc count) labels set zero l b e h = empty_at labels set l b e h
 empty_by (suc count) labels set (suc a) l b e h = empty_by count labels set a l b e h
@@ -121,7 +121,7 @@ no_by table count labels set s e a l b h = empty_by count labels set a l b e (su
 
 -- sets that have no node, or all of some
 
-none_in : (set : List ℕ) (n : ℕ) → length set ≡ 0 → has set n ≡ true → ⊥
+pub none_in : (set : List ℕ) (n : ℕ) → length set ≡ 0 → has set n ≡ true → ⊥
 none_in set n e h = false≢true (subst (λ z. has z n ≡ true) (nil_from_length set e) h)
 
 pub no_label : (sets : List (List ℕ)) (label l to : ℕ) → None ≡ slice_get sets l → l ≡ label → In sets label to → ⊥
@@ -130,7 +130,7 @@ no_label sets label l to h e i = false≢true (subst (λ z. has z to ≡ true) (
 pub no_node : (sets : List (List ℕ)) (label l to : ℕ) (set : List ℕ) → Some set ≡ slice_get sets l → l ≡ label → length set ≡ 0 → In sets label to → ⊥
 no_node sets label l to set h e none i = none_in set to none (subst (λ z. has z to ≡ true) (read_some sets label set [] (subst (λ z. Some set ≡ slice_get sets z) e h)) i)
 
-kept_in : (a b : Bool) → a ≡ true → (a && not b) ≡ false → b ≡ true
+pub kept_in : (a b : Bool) → a ≡ true → (a && not b) ≡ false → b ≡ true
 kept_in true true e h = refl
 kept_in true false e h = absurd (false≢true (sym h))
 kept_in false b e h = absurd (false≢true e)

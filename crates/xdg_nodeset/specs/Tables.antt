@@ -1,0 +1,26 @@
+-- Tables of sets of nodes.
+use Rattle.std.specs.Prelude.{◌≡◌, ℕ, ◌<◌, true, List, [], ◌∷◌, slice_index_or}
+use Rattle.xdg_nodeset.specs.Nodes.{has}
+
+-- a node stands in the set that a table has for a node
+abbrev pub In : List (List ℕ) → ℕ → ℕ → Type 0
+In table from to = has (slice_index_or table from []) to ≡ true
+
+-- a node stands in the set that a table has for a node and a label
+abbrev pub InBy : List (List (List ℕ)) → ℕ → ℕ → ℕ → Type 0
+InBy table from label to = has (slice_index_or (slice_index_or table from []) label []) to ≡ true
+
+-- a table leads from a node to another through some nodes
+abbrev pub Along : List (List ℕ) → ℕ → List ℕ → ℕ → Type 0
+Along table from [] to = In table from to
+Along table from (node ∷ nodes) to = In table from node × Along table node nodes to
+
+-- a table has what another one leads to, through the first nodes
+pub record IsClosure (size : ℕ) (old new : List (List ℕ)) : Type 0 where
+  pub contains : (from to : ℕ) → In old from to → In new from to
+  pub along : (from to : ℕ) → In new from to → (nodes : List ℕ) × Along old from nodes to
+  pub through : (from middle to : ℕ) → middle < size → In new from middle → In new middle to → In new from to
+
+-- two sets have a node in common
+abbrev pub Meet : List ℕ → List ℕ → Type 0
+Meet a b = (x : ℕ) × (has a x ≡ true) × (has b x ≡ true)
