@@ -1,8 +1,7 @@
 -- The words that an input gives: accepted or rejected.
-use Rattle.std.proofs.Common.{◌≡◌, ◌⊎◌, inl, inr, ℕ, zero, suc, ◌<◌, ◌≤◌, ◌+◌, Bool, List, [], ◌∷◌, ◌++◌, length, length-append, Some, None, Ok, Err, refl, sym, ◌∙◌, ap, ap₂, subst, arith}
+use Rattle.std.proofs.Common.{◌≡◌, inl, inr, ℕ, zero, suc, ◌<◌, ◌≤◌, ◌+◌, Bool, List, [], ◌∷◌, ◌++◌, length, length-append, Some, None, Ok, Err, refl, sym, ◌∙◌, ap, ap₂, subst, arith}
 use Rattle.std.specs.Prelude.{◌≢◌, Option, Result, IsUtf8, IfErr, IfOk, MatchResult, slice_get}
 use Rattle.std.specs.Str.{IsValidUpTo}
-use Rattle.std.proofs.lemmas.Str.{utf8_valid_len-IsValidUpTo}
 use Rattle.xdg_arrange.specs.Lists.{HasList, IsBadList, IsNoList, IsRefused, Listed, ninth_or, no_text, no_words, refusal, too_long}
 use Rattle.xdg_base.specs.declared.faults.Cause.TheVariants as causes
 use Rattle.xdg_base.specs.declared.faults.Fault.{Fault}
@@ -31,6 +30,7 @@ use Rattle.xdg_inputs.proofs.Trees.{first_byte}
 use Rattle.xdg_packed.specs.Lexicon.{Lexicon}
 use Rattle.xdg_problem.specs.declared.parts.SentenceWord.{SentenceWord}
 use Rattle.xdg_linear.specs.Segments.{words_in}
+use Rattle.xdg_listing.proofs.Texts.{one_place}
 
 -- ---- few words
 
@@ -48,9 +48,6 @@ few_words lexicon (word ∷ words) e = go (slice_get (word ∷ words) 8) refl e
     go (Some w) is e = absurd (let bad : Some (fault causes.ArrangeLimit w.at 9) ≡ None = e in cc)
 
 -- ---- one answer
-
-one_place : (text : List ℕ) (m n : ℕ) → IsValidUpTo text m → IsValidUpTo text n → m ≡ n
-one_place text m n v w = sym (utf8_valid_len-IsValidUpTo text m v) ∙ utf8_valid_len-IsValidUpTo text n w
 
 one_fault : (g : Grammar) (segment : Bool) (input : List ℕ) (f h : Fault) → IsNoList g segment input f → IsNoList g segment input h → f ≡ h
 one_fault g segment input f h (too_long a e) (too_long b d) = e ∙ sym d
@@ -131,6 +128,7 @@ module _ (made : Expanded) (lexicon : Lexicon) (packed : IsPackedOf made lexicon
 -- ---- what a source gives
 
 -- no count rises from zero to zero
+
 still : Rose 0 0 → ⊥
 still (inl less) = omega (arith, less)
 still (inr full) = omega (arith, full)
@@ -194,6 +192,7 @@ module _ (m : Meaning) (segment : Bool) (told new : Option (List ℕ)) (bytes : 
   input_taken (Err refusal) takes = tt
 
 -- a reading that left the count of failures as it was
+
 pub input_quiet : (result : Result (List SentenceWord) Refusal) (before after : ℕ) → after ≡ before → MatchResult result (λ words. after ≡ before) (λ refusal. refusal ≢ refusals.Read → after ≡ before)
 input_quiet (Ok words) before after same = same
 input_quiet (Err refusal) before after same = λ differs. same

@@ -1,5 +1,5 @@
 -- Trees that are built alike are the same if what they are built of is.
-use Rattle.std.proofs.Common.{◌≡◌, true, false, List, [], ◌∷◌, map, sym, ◌∙◌, ap, refl}
+use Rattle.std.proofs.Common.{◌≡◌, true, false, sym, ◌∙◌, ap}
 use Rattle.std.specs.Prelude.{◌↔◌, IsTrue, Bool}
 
 pub built : {K L : Type 0} (f : K → K) (build : L → K) (part : L → L) → ((x : L) → f (build x) ≡ build (part x)) → ((x y : L) → build x ≡ build y → x ≡ y)
@@ -17,8 +17,3 @@ both_then a b c d first same is told_first told =
 -- two parts, of which the first ones are not
 pub both_else : {A B : Type 0} (a b : A) (c d : B) (first : Bool) → first ≡ false → (IsTrue first ↔ (a ≡ b)) → IsTrue first ↔ ◌≡◌ {A = A × B} (a, c) (b, d)
 both_else a b c d first is told_first = (λ h. absurd cc, λ h. told_first.1 (ap (λ p. p.0) h))
-
--- two maps are one
-pub fused : {A B C : Type 0} (f : B → C) (g : A → B) (xs : List A) → map f (map g xs) ≡ map (λ x. f (g x)) xs
-fused f g [] = refl
-fused f g (x ∷ xs) = ap (λ ys. f (g x) ∷ ys) (fused f g xs)

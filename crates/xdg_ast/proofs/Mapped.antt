@@ -4,20 +4,14 @@ use Rattle.std.specs.Prelude.{◌↔◌, IsTrue, Bool, slice_index_or}
 use Rattle.xdg_ast.specs.declared.names.Pair.{Pair}
 use Rattle.xdg_ast.specs.declared.names.Spanned.{Spanned}
 use Rattle.xdg_ast.specs.Same.{bare_part, bare_name, bare_pair, nowhere}
-
--- the first elements and the others
-heads : {B : Type 0} (x y : B) (xs ys : List B) → x ∷ xs ≡ y ∷ ys → x ≡ y
-heads x y xs ys h = cc
-
-tails : {B : Type 0} (x y : B) (xs ys : List B) → x ∷ xs ≡ y ∷ ys → xs ≡ ys
-tails x y xs ys h = cc
+use Rattle.xdg_listing.proofs.Lists.{head_of, tail_of}
 
 -- lists with the same images, read at one place
 same_at : {A B : Type 0} (f : A → B) (xs ys : List A) (at : ℕ) (d e : A) → at < length xs → map f xs ≡ map f ys → f (slice_index_or xs at d) ≡ f (slice_index_or ys at e)
 same_at f [] ys at d e less h = absurd (omega arith)
 same_at f (a ∷ xs) [] at d e less h = absurd cc
-same_at f (a ∷ xs) (b ∷ ys) zero d e less h = heads (f a) (f b) (map f xs) (map f ys) h
-same_at f (a ∷ xs) (b ∷ ys) (suc at) d e less h = same_at f xs ys at d e (omega arith) (tails (f a) (f b) (map f xs) (map f ys) h)
+same_at f (a ∷ xs) (b ∷ ys) zero d e less h = head_of (f a) (f b) (map f xs) (map f ys) h
+same_at f (a ∷ xs) (b ∷ ys) (suc at) d e less h = same_at f xs ys at d e (omega arith) (tail_of (f a) (f b) (map f xs) (map f ys) h)
 
 -- lists that differ at a place, seen in a part of the images, have other images
 differ_by : {A B C : Type 0} (f : A → B) (part : B → C) (xs ys : List A) (at : ℕ) (d e : A) (same : Bool) → at < length xs

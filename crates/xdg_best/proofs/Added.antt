@@ -22,6 +22,7 @@ use Rattle.xdg_best.specs.declared.statements.Statement.TheVariants as statement
 use Rattle.xdg_best.specs.Building.{has_entry, has_place, IsFreshPlace, Built, Adds}
 use Rattle.xdg_best.specs.Meaning.{entry_costs, label_costs, placed, is_of_entry, is_at, is_of_place, entry_fault, edge_fault}
 use Rattle.xdg_best.specs.Naming.{Place, place_of}
+use Rattle.xdg_listing.proofs.Truths.{or_false, or_true}
 
 -- ---- lists
 
@@ -35,14 +36,6 @@ labels_more table [] s = refl
 labels_more table (statements.Entry number cost ∷ earlier) s = labels_more table earlier s
 labels_more table (statements.Edge dim label cost ∷ earlier) s =
     ap (λ z. placed (place_of table dim label) cost ++ z) (labels_more table earlier s) ∙ sym (append_assoc (placed (place_of table dim label) cost) (label_costs table earlier) (label_costs table (s ∷ [])))
-
-or_right_false : (b : Bool) → (b || false) ≡ b
-or_right_false true = refl
-or_right_false false = refl
-
-or_right_true : (b : Bool) → (b || true) ≡ true
-or_right_true true = refl
-or_right_true false = refl
 
 -- none of them passes a test
 none_passes : {X : Type 0} (p : X → Bool) (xs : List X) → list_any p xs ≡ false → (k : ℕ) (d : X) → k < length xs → p (get_or xs k d) ≡ true → ⊥
@@ -136,25 +129,25 @@ module _ (table : Table) (entries : ℕ) (earlier : List Statement) (old new : B
   flag_other k ne = ap (λ z. get_or z k false) flags ∙ get_or-set_other old.seen.items place k true false ne
 
   said_of : (k : ℕ) → list_any (is_of_entry (k + 1)) (earlier ++ statements.Entry number cost ∷ []) ≡ (list_any (is_of_entry (k + 1)) earlier || (number.value == (k + 1)))
-  said_of k = list_any-append (is_of_entry (k + 1)) earlier (statements.Entry number cost ∷ []) ∙ ap (λ z. list_any (is_of_entry (k + 1)) earlier || z) (or_right_false (number.value == (k + 1)))
+  said_of k = list_any-append (is_of_entry (k + 1)) earlier (statements.Entry number cost ∷ []) ∙ ap (λ z. list_any (is_of_entry (k + 1)) earlier || z) (or_false (number.value == (k + 1)))
 
   kept_of : (k : ℕ) → has_entry new.entries k ≡ (has_entry old.entries k || (place == k))
-  kept_of k = ap (λ z. has_entry z k) more ∙ list_any-append (λ one. one.0.0 == k) old.entries ((record { 0 = place }, cost) ∷ []) ∙ ap (λ z. has_entry old.entries k || z) (or_right_false (place == k))
+  kept_of k = ap (λ z. has_entry z k) more ∙ list_any-append (λ one. one.0.0 == k) old.entries ((record { 0 = place }, cost) ∷ []) ∙ ap (λ z. has_entry old.entries k || z) (or_false (place == k))
 
   said_at : (k : ℕ) → k < entries → (k ≡ place) ⊎ (k ≡ place → ⊥) → get_or new.seen.items k false ≡ list_any (is_of_entry (k + 1)) (earlier ++ statements.Entry number cost ∷ [])
   said_at k within (inl e) =
       let some = fine.some in
       let is : number.value ≡ k + 1 = omega (arith, some, e) in
-      flag_same k e ∙ sym (said_of k ∙ ap (λ z. list_any (is_of_entry (k + 1)) earlier || z) (eq-eqb number.value (k + 1) is) ∙ or_right_true (list_any (is_of_entry (k + 1)) earlier))
+      flag_same k e ∙ sym (said_of k ∙ ap (λ z. list_any (is_of_entry (k + 1)) earlier || z) (eq-eqb number.value (k + 1) is) ∙ or_true (list_any (is_of_entry (k + 1)) earlier))
   said_at k within (inr ne) =
       let other : (number.value == (k + 1)) ≡ false = false_from_ne_true (number.value == (k + 1)) (λ h. let is = eqb-true number.value (k + 1) h in ne (omega (arith, is))) in
-      flag_other k ne ∙ b.seen_said k within ∙ sym (said_of k ∙ ap (λ z. list_any (is_of_entry (k + 1)) earlier || z) other ∙ or_right_false (list_any (is_of_entry (k + 1)) earlier))
+      flag_other k ne ∙ b.seen_said k within ∙ sym (said_of k ∙ ap (λ z. list_any (is_of_entry (k + 1)) earlier || z) other ∙ or_false (list_any (is_of_entry (k + 1)) earlier))
 
   kept_at : (k : ℕ) → k < entries → (k ≡ place) ⊎ (k ≡ place → ⊥) → get_or new.seen.items k false ≡ has_entry new.entries k
-  kept_at k within (inl e) = flag_same k e ∙ sym (kept_of k ∙ ap (λ z. has_entry old.entries k || z) (eq-eqb place k (sym e)) ∙ or_right_true (has_entry old.entries k))
+  kept_at k within (inl e) = flag_same k e ∙ sym (kept_of k ∙ ap (λ z. has_entry old.entries k || z) (eq-eqb place k (sym e)) ∙ or_true (has_entry old.entries k))
   kept_at k within (inr ne) =
       let other : (place == k) ≡ false = false_from_ne_true (place == k) (λ h. ne (sym (eqb-true place k h))) in
-      flag_other k ne ∙ b.seen_kept k within ∙ sym (kept_of k ∙ ap (λ z. has_entry old.entries k || z) other ∙ or_right_false (has_entry old.entries k))
+      flag_other k ne ∙ b.seen_kept k within ∙ sym (kept_of k ∙ ap (λ z. has_entry old.entries k || z) other ∙ or_false (has_entry old.entries k))
 
   differ : AllPairs (λ a c. a.0.0 ≢ c.0.0) (old.entries ++ (record { 0 = place }, cost) ∷ [])
   differ =
@@ -179,6 +172,7 @@ module _ (table : Table) (entries : ℕ) (earlier : List Statement) (old new : B
 -- ---- an edge more
 
 -- what is wrong with constants that name no label, or a label of which a cost was said
+
 pub place_fault : (table : Table) (entries : ℕ) (earlier : List Statement) (made : Building) (label : Name) (found : Result Place Fault) (place : Place) (again : Bool) → Built table entries earlier made → found ≡ Ok place
     → again ≡ has_place made.labels place → edge_fault table earlier label found ≡ (if again then Some (refusal causes.Twice label.span.start) else None)
 place_fault table entries earlier made label found place again b is told =
@@ -188,7 +182,7 @@ place_fault table entries earlier made label found place again b is told =
 module _ (table : Table) (entries : ℕ) (earlier : List Statement) (old new : Building) (dim label : Name) (cost : ℕ) (place : Place) (b : Built table entries earlier old) (is : place_of table dim label ≡ Ok place) (fresh_place : has_place old.labels place ≡ false)
     (more : new.labels ≡ old.labels ++ (place.0, place.1, cost) ∷ []) (same : new.entries ≡ old.entries) (flags : new.seen.items ≡ old.seen.items) where
   said_before : (k : ℕ) → list_any (is_of_entry (k + 1)) (earlier ++ statements.Edge dim label cost ∷ []) ≡ list_any (is_of_entry (k + 1)) earlier
-  said_before k = list_any-append (is_of_entry (k + 1)) earlier (statements.Edge dim label cost ∷ []) ∙ or_right_false (list_any (is_of_entry (k + 1)) earlier)
+  said_before k = list_any-append (is_of_entry (k + 1)) earlier (statements.Edge dim label cost ∷ []) ∙ or_false (list_any (is_of_entry (k + 1)) earlier)
 
   labels_differ : AllPairs (λ a c. a.0.0 ≡ c.0.0 → a.1.0 ≢ c.1.0) (old.labels ++ (place.0, place.1, cost) ∷ [])
   labels_differ = all_pairs_push (λ a c. a.0.0 ≡ c.0.0 → a.1.0 ≢ c.1.0) old.labels (place.0, place.1, cost) b.kept.labels_differ
@@ -215,6 +209,7 @@ module _ (table : Table) (entries : ℕ) (earlier : List Statement) (old new : B
 -- ---- what a call does
 
 -- a fresh number has no fault
+
 no_fault : (entries : ℕ) (number : Num) (again : Bool) → IsFresh entries number again → entry_fault entries number again ≡ None
 no_fault entries number again f =
     let some = f.some in

@@ -1,12 +1,12 @@
 -- Rising lists of which one is the last, or one is whole.
-use Rattle.std.proofs.Common.{◌≡◌, ◌∙◌, ℕ, zero, suc, ◌+◌, ◌-◌, ◌<◌, ◌≤◌, ◌⊎◌, inl, inr, Bool, true, false, cond, List, [], ◌∷◌, ◌++◌, length, take, drop, arith, refl, sym, ap, subst, append_assoc, length-append}
+use Rattle.std.proofs.Common.{◌≡◌, ◌∙◌, ℕ, suc, ◌+◌, ◌-◌, ◌≤◌, ◌⊎◌, inl, inr, Bool, true, cond, List, [], ◌∷◌, ◌++◌, length, arith, refl, sym, ap, subst, length-append}
 use Rattle.std.specs.Prelude.{filter}
 use Rattle.std.specs.List.{AllByRecursion}
 use Rattle.std.proofs.lemmas.List.Elements.{filter-append}
 use Rattle.xdg_listing.specs.Fits.{Fits}
 use Rattle.xdg_listing.specs.Listing.{IsListing, Member, RisesFrom}
 use Rattle.xdg_listing.specs.Order.{Less, AtMost}
-use Rattle.xdg_listing.proofs.Ordered.{less_irreflexive, less_transitive, at_most_less}
+use Rattle.xdg_listing.proofs.Ordered.{at_most_less}
 use Rattle.xdg_listing.proofs.Wholes.{filter_member}
 use Rattle.xdg_listing.proofs.Unique.{rises_above, listing_tail}
 
@@ -15,10 +15,6 @@ pub each_member : (Q : List ℕ → Type 0) (xs : List (List ℕ)) (x : List ℕ
 each_member Q [] x each m = absurd m
 each_member Q (y ∷ xs) x each (inl e) = subst Q (sym e) each.0
 each_member Q (y ∷ xs) x each (inr m) = each_member Q xs x each.1 m
-
-pub each_left : (Q : List ℕ → Type 0) (xs ys : List (List ℕ)) → AllByRecursion Q (xs ++ ys) → AllByRecursion Q xs
-each_left Q [] ys each = tt
-each_left Q (x ∷ xs) ys each = (each.0, each_left Q xs ys each.1)
 
 pub rises_left : (a : List ℕ) (xs ys : List (List ℕ)) → RisesFrom a (xs ++ ys) → RisesFrom a xs
 rises_left a [] ys rises = tt
@@ -93,10 +89,6 @@ pub rises_on : (a start : List ℕ) (xs ys : List (List ℕ)) → AtMost a start
 rises_on a start [] [] before each rises more = tt
 rises_on a start [] (y ∷ ys) before each rises more = (at_most_less a start y before more.0, more.1)
 rises_on a start (x ∷ xs) ys before each rises more = (rises.0, rises_on x start xs ys each.0 each.1 rises.1 more)
-
-pub each_on : (Q : List ℕ → Type 0) (xs ys : List (List ℕ)) → AllByRecursion Q xs → AllByRecursion Q ys → AllByRecursion Q (xs ++ ys)
-each_on Q [] ys each more = more
-each_on Q (x ∷ xs) ys each more = (each.0, each_on Q xs ys each.1 more)
 
 -- a rising list of some of those that a listing has is no longer
 pub no_longer : (shape : List ℕ) (P : List ℕ → Type 0) (zs : List (List ℕ)) (a b : List ℕ) (xs : List (List ℕ)) → IsListing shape P a zs → AtMost a b → RisesFrom b xs → AllByRecursion (λ x. Fits shape x × P x) xs → length xs ≤ length zs

@@ -4,7 +4,7 @@ use Rattle.std.specs.Prelude.{Option}
 use Rattle.std.specs.List.{AllByRecursion}
 use Rattle.std.proofs.lemmas.Bool.{ltb-true}
 use Rattle.xdg_best.specs.Rounds.{Finds, FindsNone, Rounds, used_up, ends, goes_on, round_parts, round_start}
-use Rattle.xdg_best.proofs.Lists.{before_item, each_left, each_on, middle, no_longer, rises_left, rises_on}
+use Rattle.xdg_best.proofs.Lists.{before_item, middle, no_longer, rises_left, rises_on}
 use Rattle.xdg_best.proofs.Unbounded.{unbounded}
 use Rattle.xdg_listing.specs.Fits.{Fits}
 use Rattle.xdg_listing.specs.Listing.{IsListing, RisesFrom}
@@ -18,6 +18,7 @@ use Rattle.xdg_problem.specs.Costs.{CostLists, cost_of}
 use Rattle.xdg_problem.specs.Further.{bound_of, with_uses}
 use Rattle.xdg_problem.specs.Vectors.{shape, vector}
 use Rattle.xdg_rules.specs.Boxed.{Boxed}
+use Rattle.xdg_listing.proofs.Lists.{each_left, each_append}
 
 least_start : (x : List ℕ) → AtMost [] x
 least_start [] = inl refl
@@ -54,8 +55,8 @@ module _ (parts : Parts) (costs : CostLists) where
       record {
         passed = p.passed ++ ys;
         rises = rises_on [] start p.passed ys (least_start start) p.before p.rises rises;
-        each = each_on (λ x. Fits (shape parts) x × Boxed parts x) p.passed ys p.each each;
-        before = each_on (λ y. AtMost y to) p.passed ys (each_weaker (λ x. AtMost x start) (λ x. AtMost x to) p.passed (λ x h. at_most_transitive x start to h below) p.before) all;
+        each = each_append (λ x. Fits (shape parts) x × Boxed parts x) p.passed ys p.each each;
+        before = each_append (λ y. AtMost y to) p.passed ys (each_weaker (λ x. AtMost x start) (λ x. AtMost x to) p.passed (λ x h. at_most_transitive x start to h below) p.before) all;
         count = omega (arith, l, c);
       }
 
@@ -71,7 +72,7 @@ module _ (parts : Parts) (costs : CostLists) where
       let l = length-append f.before (v ∷ []) in
       let place = f.place_is in
       let below : AtMost start v = inr (rises_above start v (f.before ++ v ∷ f.behind) f.counted.rises (middle f.before v f.behind)) in
-      let all : AllByRecursion (λ y. AtMost y v) (f.before ++ v ∷ []) = each_on (λ y. AtMost y v) f.before (v ∷ []) (before_item start f.before v f.behind f.counted.rises) (inl refl, tt) in
+      let all : AllByRecursion (λ y. AtMost y v) (f.before ++ v ∷ []) = each_append (λ y. AtMost y v) f.before (v ∷ []) (before_item start f.before v f.behind f.counted.rises) (inl refl, tt) in
       let done = passed_on start v n p (f.before ++ v ∷ []) rises each below all in
       subst (λ m. Passed (vector parts a) m) (let same : n + length (f.before ++ v ∷ []) ≡ n + k = omega (arith, l, place) in same)
       (subst (λ z. Passed z (n + length (f.before ++ v ∷ []))) (round_vector last a) done)
@@ -88,7 +89,7 @@ module _ (parts : Parts) (costs : CostLists) where
       let more = ltb-true budget (length f.counted) (sym f.spent_is) in
       let l = length-take budget f.counted in
       let all = rises_on [] start p.passed (take budget f.counted) (least_start start) p.before p.rises rises in
-      let shorter = no_longer (shape parts) (Boxed parts) counted [] [] (p.passed ++ take budget f.counted) listing (inl refl) all (each_on (λ x. Fits (shape parts) x × Boxed parts x) p.passed (take budget f.counted) p.each each) in
+      let shorter = no_longer (shape parts) (Boxed parts) counted [] [] (p.passed ++ take budget f.counted) listing (inl refl) all (each_append (λ x. Fits (shape parts) x × Boxed parts x) p.passed (take budget f.counted) p.each each) in
       let m = length-append p.passed (take budget f.counted) in
       let c = p.count in
       omega (arith, shorter, m, l, more, c)

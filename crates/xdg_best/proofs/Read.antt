@@ -21,6 +21,7 @@ use Rattle.xdg_best.specs.declared.statements.Turn.TheVariants as turns
 use Rattle.xdg_best.specs.Statements.{is_number, is_constant, is_name, is_word, entry_word, edge_word, Says, entry, edge, Derives}
 use Rattle.xdg_best.specs.Reading.{Starts, Ends, IsUnexpectedAt, IsRefused, unexpected, IsAnswer, Tells, Gives}
 use Rattle.xdg_best.specs.Turns.{turn_of, Outcome, after_turn, after_last, run, Runs}
+use Rattle.xdg_listing.proofs.Truths.{choose}
 
 -- ---- one step
 
@@ -41,9 +42,6 @@ says end made o s t ts e = run_cons end made o t ts ∙ ap (λ turn. after_turn 
 
 pub stops_at : (end : ℕ) (made : List Statement) (o : Open) (t : Lexeme) (ts : List Lexeme) → turn_of o t ≡ turns.Refused → run end made o (t ∷ ts) ≡ Err t.span.start
 stops_at end made o t ts e = run_cons end made o t ts ∙ ap (λ turn. after_turn turn t.span.start (λ n. run end made n ts) (λ s. run end (made ++ s ∷ []) open_.Nothing ts)) e
-
-choose : {A : Type 0} (b : Bool) (x y : A) → b ≡ true → (if b then x else y) ≡ x
-choose b x y e = ap (λ v. if v then x else y) e
 
 -- ---- the tokens of a statement that has begun
 

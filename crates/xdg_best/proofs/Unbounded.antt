@@ -1,12 +1,11 @@
 -- A bound takes nothing back: what is boxed with further principle uses is boxed without them.
-use Rattle.std.proofs.Common.{◌≡◌, ℕ, ◌<◌, ◌⊎◌, inl, inr, Bool, true, false, List, [], ◌∷◌, ◌++◌}
-use Rattle.std.specs.Prelude.{All, not}
-use Rattle.std.proofs.lemmas.List.Elements.{All-cons, All-head, All-nil, All-tail, All-weaker}
+use Rattle.std.proofs.Common.{ℕ, inl, inr, Bool, true, false, List, ◌++◌}
+use Rattle.std.specs.Prelude.{not}
+use Rattle.std.proofs.lemmas.List.Elements.{All-weaker}
 use Rattle.xdg_problem.specs.declared.parts.Group.{Group}
 use Rattle.xdg_problem.specs.declared.parts.Parts.{Parts}
 use Rattle.xdg_problem.specs.declared.parts.Principle.{Principle}
 use Rattle.xdg_problem.specs.declared.parts.Principle.TheVariants as principles
-use Rattle.xdg_problem.specs.declared.formula.Formula.{Formula}
 use Rattle.xdg_problem.specs.Claims.{Claim, negation, conjunction, disjunction, every, some, joined, above, left, same, valued, fitting, Claims, none, claim_then, claim}
 use Rattle.xdg_problem.specs.Costs.{CostLists}
 use Rattle.xdg_problem.specs.Further.{with_uses}
@@ -15,11 +14,8 @@ use Rattle.xdg_rules.specs.Boxed.{Boxed}
 use Rattle.xdg_rules.specs.Bounds.{BoundPlace}
 use Rattle.xdg_rules.specs.Worths.{Makes, MakesEach, MakesSome}
 use Rattle.xdg_problem.specs.Truths.{unbound}
-use Rattle.xdg_rules.specs.Rules.{TestDecided, FailsTest, ValencyEntry, ValencyFull, ValencyNeeded, OneMother, RootFound, OnlyMother, NoCycle, OneLabel, AgrValues, AgreementValues, GovernmentValues, DaughterOrder, AboutHead, OfHead, ProjectivityReach, ClimbingReach, BarriersReach, LinkingReach, LinkingNotDaughter, HasNoRoot, HasTwoRoots, TakesForRoot, TakesBy, Takes, IsClosedFor, IsClosed}
-
-all_before : {X : Type 0} (P : X → Type 0) (xs ys : List X) → All P (xs ++ ys) → All P xs
-all_before P [] ys all = All-nil P
-all_before P (x ∷ xs) ys all = All-cons P x xs (All-head P x (xs ++ ys) all) (all_before P xs ys (All-tail P x (xs ++ ys) all))
+use Rattle.xdg_rules.specs.Rules.{TestDecided, FailsTest, ValencyEntry, ValencyFull, ValencyNeeded, OneMother, RootFound, OnlyMother, NoCycle, OneLabel, AgrValues, AgreementValues, GovernmentValues, DaughterOrder, AboutHead, OfHead, ProjectivityReach, ClimbingReach, BarriersReach, LinkingReach, LinkingNotDaughter, TakesForRoot, TakesBy, Takes, IsClosedFor, IsClosed}
+use Rattle.xdg_listing.proofs.Lists.{all_before}
 
 module _ (parts : Parts) (uses : List Group) where
   -- ---- the rules take as much

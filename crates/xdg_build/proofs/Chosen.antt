@@ -20,9 +20,7 @@ use Rattle.xdg_build.proofs.AtomLaws.{typed_at}
 use Rattle.xdg_build.proofs.FeatLaws.{feature_at}
 use Rattle.xdg_build.proofs.Rightly.{IsAttrRight, IsFeatRight}
 use Rattle.xdg_build.proofs.Standing.{dim_below, type_found}
-
-some_same : {A : Type 0} (x y : A) → Some x ≡ Some y → x ≡ y
-some_same x y h = cc
+use Rattle.xdg_listing.proofs.Options.{some_same}
 
 pub type_within : (all : List (List ℕ × Ty)) (name : List ℕ) (i : ℕ) → IsPlaceOf (firsts all) name i → i < length all
 type_within all name i place = (let at = type_found all name i place in slice_get_within all i (name, at.0) at.1.stands)
@@ -104,6 +102,7 @@ module _ (table : Table) (lexicon : Lexicon) (is : IsTable table) (dim : Name) (
         }
 
 -- each entry has a record of each used dimension
+
 pub records_there : (table : Table) (lexicon : Lexicon) (parts : Parts) (name : List ℕ) (d : ℕ) → IsFor table lexicon parts → IsPlaceOf (names_at table.dims table.used) name d → (e : ℕ) → e < length lexicon.entries → d < length (get_or lexicon.entries e [])
 records_there table lexicon parts name d for_it place e l =
     let long = (entry_right_at table lexicon.entries e for_it.entries l).count in

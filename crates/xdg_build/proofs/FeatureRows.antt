@@ -17,11 +17,9 @@ use Rattle.xdg_build.specs.Features.{members_in, rows_in}
 use Rattle.xdg_build.proofs.TypeRows.{sizes_again, is_said}
 use Rattle.xdg_build.specs.Readings.{value_texts, IsMember, IsMemberAt, IsAllowedAt}
 use Rattle.xdg_build.proofs.Different.{one_place, same_tuple}
+use Rattle.xdg_listing.proofs.Options.{some_same}
 
 -- ---- values by their constants
-
-some_same : {A : Type 0} (x y : A) → Some x ≡ Some y → x ≡ y
-some_same x y h = cc
 
 first_same : (x y : List ℕ) → x ∷ [] ≡ y ∷ [] → x ≡ y
 first_same x y h = cc

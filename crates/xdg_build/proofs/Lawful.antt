@@ -1,10 +1,10 @@
 -- What is compiled is a problem.
-use Rattle.std.proofs.Common.{◌≡◌, ℕ, ◌<◌, ◌≤◌, inl, inr, None, Some, List, length, get_or, refl, sym, ap, ◌∙◌, subst, All}
+use Rattle.std.proofs.Common.{◌≡◌, ℕ, ◌<◌, ◌≤◌, None, Some, List, length, get_or, refl, sym, ap, ◌∙◌, subst, All}
 use Rattle.std.specs.Prelude.{slice_get, slice_index_or}
 use Rattle.std.proofs.lemmas.List.{get_or-map, length-map}
 use Rattle.std.proofs.lemmas.List.Elements.{All-map, All-weaker}
 use Rattle.std.proofs.lemmas.List.FromFn.{length-map-range_with_len}
-use Rattle.std.proofs.lemmas.Option.{slice_get_cases, get_or_from_slice_get}
+use Rattle.std.proofs.lemmas.Option.{get_or_from_slice_get}
 use Rattle.xdg_base.specs.declared.ids.EntryNo.{EntryNo}
 use Rattle.xdg_domain.specs.Shapes.{Shape, count}
 use Rattle.xdg_packed.specs.Entries.{IsUsed, IsRightLexicon, IsWordPlace}
@@ -26,9 +26,7 @@ use Rattle.xdg_build.specs.Refusals.{refusal}
 use Rattle.xdg_build.proofs.Admitted.{IsKnown, IsAdmitted, is_admitted}
 use Rattle.xdg_build.proofs.Numbered.{each_below, are_candidates}
 use Rattle.xdg_build.proofs.Planned as planned
-
-get_within : {X : Type 0} (xs : List X) (i : ℕ) (x : X) → slice_get xs i ≡ Some x → i < length xs
-get_within xs i x e = elim ((slice_get_cases xs i).1) [ inl found ↦ found.1 | inr past ↦ (let none : slice_get xs i ≡ None = past.1 in cc) ]
+use Rattle.xdg_listing.proofs.Lists.{get_within}
 
 module _ (g : Grammar) (words : List SentenceWord) (groups : List Group) where
   abbrev made : Parts
@@ -85,6 +83,7 @@ module _ (g : Grammar) (words : List SentenceWord) (groups : List Group) where
         }
 
 -- the entries of words are entries of the lexicon
+
 pub known_entries : (g : Grammar) (words : List SentenceWord) (candidates : List (List EntryNo)) → candidates ≡ candidates_of g words → All (All (λ (entry : EntryNo). entry.0 < length g.lexicon.entries)) candidates
 known_entries g words candidates same =
     let P : List EntryNo → Type 0 = All (λ (entry : EntryNo). entry.0 < length g.lexicon.entries) in

@@ -7,6 +7,7 @@ use Rattle.std.proofs.lemmas.List.{append_assoc, flat_map_more, take_more}
 use Rattle.std.proofs.Math.Seq.{drop-cons}
 use Rattle.xdg_types.specs.Table.{Table}
 use Rattle.xdg_build.specs.Grammars.{place_in, is_used}
+use Rattle.xdg_listing.proofs.Lists.{from_place}
 
 -- ---- lists of lists
 
@@ -33,21 +34,16 @@ place_passed used k i whole within other so_far =
 
 -- ---- elements that pass a test
 
-opened : {X : Type 0} (xs : List X) (i : ℕ) (x : X) → i < length xs → x ≡ get_or xs i x → drop i xs ≡ x ∷ drop (i + 1) xs
-opened xs i x within is =
-    let next : i + 1 ≡ suc i = omega arith in
-    drop-cons xs i x within ∙ ap (λ y. y ∷ drop (suc i) xs) (sym is) ∙ ap (λ k. x ∷ drop k xs) (sym next)
-
 pub skipped : {X Y : Type 0} (f : X → Y) (p : X → Bool) (xs : List X) (i : ℕ) (x : X) (now whole : List Y) → i < length xs → x ≡ get_or xs i x → p x ≡ false
     → now ++ map f (filter p (drop i xs)) ≡ whole → now ++ map f (filter p (drop (i + 1) xs)) ≡ whole
 skipped f p xs i x now whole within is fails so_far =
-    ap (λ l. now ++ map f l) (sym (ap (filter p) (opened xs i x within is) ∙ cond-false (p x) (x ∷ filter p (drop (i + 1) xs)) (filter p (drop (i + 1) xs)) fails)) ∙ so_far
+    ap (λ l. now ++ map f l) (sym (ap (filter p) (from_place xs i x within is) ∙ cond-false (p x) (x ∷ filter p (drop (i + 1) xs)) (filter p (drop (i + 1) xs)) fails)) ∙ so_far
 
 pub kept : {X Y : Type 0} (f : X → Y) (p : X → Bool) (xs : List X) (i : ℕ) (x : X) (now after whole : List Y) → i < length xs → x ≡ get_or xs i x → p x ≡ true → after ≡ now ++ f x ∷ []
     → now ++ map f (filter p (drop i xs)) ≡ whole → after ++ map f (filter p (drop (i + 1) xs)) ≡ whole
 kept f p xs i x now after whole within is passes grown so_far =
     ap (λ l. l ++ map f (filter p (drop (i + 1) xs))) grown ∙ append_assoc now (f x ∷ []) (map f (filter p (drop (i + 1) xs)))
-    ∙ ap (λ l. now ++ map f l) (sym (ap (filter p) (opened xs i x within is) ∙ cond-true (p x) (x ∷ filter p (drop (i + 1) xs)) (filter p (drop (i + 1) xs)) passes)) ∙ so_far
+    ∙ ap (λ l. now ++ map f l) (sym (ap (filter p) (from_place xs i x within is) ∙ cond-true (p x) (x ∷ filter p (drop (i + 1) xs)) (filter p (drop (i + 1) xs)) passes)) ∙ so_far
 
 -- whether a dimension is used, as the code asks
 pub used_told : (used : List ℕ) (lent types : Table) (home : ℕ) (b : Bool) → used ≡ lent.used → lent ≡ types → b ≡ list_any (λ one. one == home) used → b ≡ is_used types home

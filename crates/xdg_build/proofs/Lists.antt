@@ -1,17 +1,7 @@
 -- What holds of each element of a list.
-use Rattle.std.proofs.Common.{◌≡◌, ℕ, zero, suc, ◌<◌, List, [], ◌∷◌, length, get_or, map, refl, inl, inr, arith}
-use Rattle.std.specs.Prelude.{All, None, Some}
+use Rattle.std.proofs.Common.{ℕ, zero, suc, ◌<◌, List, [], ◌∷◌, length, get_or, map, refl, inl, inr, arith}
+use Rattle.std.specs.Prelude.{All}
 use Rattle.xdg_names.specs.First.{In}
-
-pub all_none : {X : Type 0} (P : X → Type 0) → All P []
-all_none P k d within = absurd (omega (arith, within))
-
-pub all_cons : {X : Type 0} (P : X → Type 0) (x : X) (xs : List X) → P x → All P xs → All P (x ∷ xs)
-all_cons P x xs h t zero d within = h
-all_cons P x xs h t (suc k) d within = t k d (omega (arith, within))
-
-pub all_one : {X : Type 0} (P : X → Type 0) (x : X) → P x → All P (x ∷ [])
-all_one P x h = all_cons P x [] h (all_none P)
 
 pub all_mapped : {X Y : Type 0} (f : X → Y) (P : Y → Type 0) (xs : List X) → All (λ x. P (f x)) xs → All P (map f xs)
 all_mapped f P [] h k d within = absurd (omega (arith, within))
@@ -28,9 +18,3 @@ pub in_at : {X : Type 0} (xs : List X) (k : ℕ) (d : X) → k < length xs → I
 in_at [] k d within = absurd (omega (arith, within))
 in_at (x ∷ xs) zero d within = inl refl
 in_at (x ∷ xs) (suc k) d within = inr (in_at xs k d (omega (arith, within)))
-
-pub none_some : {X : Type 0} (x : X) → None ≡ Some x → ⊥
-none_some x h = cc
-
-pub some_same : {X : Type 0} (x y : X) → Some x ≡ Some y → x ≡ y
-some_same x y h = cc

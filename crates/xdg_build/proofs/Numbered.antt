@@ -1,5 +1,5 @@
 -- The numbers of a word's entries.
-use Rattle.std.proofs.Common.{◌≡◌, ℕ, ◌+◌, ◌<◌, ◌≤◌, zero, suc, Bool, true, false, List, [], ◌∷◌, length, get_or, map, cond, sym, ap, ◌∙◌, subst, arith, All}
+use Rattle.std.proofs.Common.{◌≡◌, ℕ, ◌+◌, ◌<◌, ◌≤◌, zero, suc, Bool, true, List, [], ◌∷◌, length, get_or, map, cond, sym, ap, ◌∙◌, subst, arith, All}
 use Rattle.std.specs.Prelude.{Contains, filter, bytes_eq, slice_index_or}
 use Rattle.std.specs.List.{AllPairs, range_with_len}
 use Rattle.std.proofs.lemmas.List.{get_or-map, length-map}
@@ -10,17 +10,14 @@ use Rattle.std.proofs.lemmas.Slice.Eq.{bytes_eq-Decides}
 use Rattle.xdg_base.specs.declared.ids.EntryNo.{EntryNo}
 use Rattle.xdg_packed.specs.Lexicon.{number, places_of, numbers_of}
 use Rattle.xdg_problem.specs.Problems.{AreCandidates}
-
-put : {X : Type 0} (b : Bool) (y : X) (ys : List X) (x : X) → Contains ys x → Contains (cond b (y ∷ ys) ys) x
-put true y ys x h = (let within : h.0 < length ys = h.1 in (suc h.0, omega arith, h.2))
-put false y ys x h = h
+use Rattle.xdg_listing.proofs.Lists.{kept}
 
 contains_filter : {X : Type 0} (p : X → Bool) (xs : List X) (k : ℕ) (x : X) → k < length xs → slice_index_or xs k x ≡ x → p x ≡ true → Contains (filter p xs) x
 contains_filter p [] k x within is passes = absurd (omega (arith, within))
 contains_filter p (y ∷ ys) zero x within is passes =
     let here : p y ≡ true = ap p is ∙ passes in
     subst (λ b. Contains (cond b (y ∷ filter p ys) (filter p ys)) x) (sym here) (0, omega arith, is)
-contains_filter p (y ∷ ys) (suc k) x within is passes = put (p y) y (filter p ys) x (contains_filter p ys k x (omega (arith, within)) is passes)
+contains_filter p (y ∷ ys) (suc k) x within is passes = kept (p y) y (filter p ys) x (contains_filter p ys k x (omega (arith, within)) is passes)
 
 -- a number stands among numbers of entries
 contains_numbers : (xs : List ℕ) (entry : EntryNo) → Contains (map number xs) entry → Contains xs entry.0

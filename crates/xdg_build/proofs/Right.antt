@@ -40,11 +40,12 @@ use Rattle.xdg_build.proofs.Calling.{called_of_texts}
 use Rattle.xdg_build.proofs.Dimensions.{Home, home_of, below_at, is_used_home, labels-home, members-home}
 use Rattle.xdg_build.proofs.Forms.{form_of, form_called, feature_typings, attr_typings, feature_which, number-feature_which, features_of_which, attrs_of_first, dims_wanted, attrs_wanted, truths_wanted, which_within, first_within, AreOf}
 use Rattle.xdg_build.proofs.Listed.{order_right}
-use Rattle.xdg_build.proofs.Lists.{all_none, all_cons, all_in, all_mapped, in_at}
+use Rattle.xdg_build.proofs.Lists.{all_in, all_mapped, in_at}
 use Rattle.xdg_build.proofs.Named.{AreMembers, attr_id, numbers, all_members, as_many_members, all_features, all_attrs, all_truths}
 use Rattle.xdg_build.proofs.Said.{FitAll, all_fit, entry_at}
 use Rattle.xdg_build.proofs.Taken.{Sizes, SharesFirst, taken}
 use Rattle.xdg_build.proofs.TypeRows.{same_count}
+use Rattle.xdg_listing.proofs.Lists.{all_none, all_cons}
 
 -- the features that a use of that principle takes of an entry
 abbrev pub taken_at : Grammar → PrincipleUse → Principle → EntryNo → List Feat

@@ -22,9 +22,9 @@ use Rattle.xdg_build.specs.Features.{rows_of, feature}
 use Rattle.xdg_build.specs.Grammars.{used_place}
 use Rattle.xdg_build.proofs.Dimensions.{Home, is_used_home, members-home}
 use Rattle.xdg_build.proofs.Forms.{AreOf}
-use Rattle.xdg_build.proofs.Lists.{none_some, some_same}
 use Rattle.xdg_build.proofs.Named.{AreMembers}
 use Rattle.xdg_build.proofs.TypeRows.{RowsFit, value_rows}
+use Rattle.xdg_listing.proofs.Options.{none_some, some_same}
 
 -- ---- a record
 

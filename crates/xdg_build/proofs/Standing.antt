@@ -6,12 +6,12 @@ use Rattle.std.proofs.lemmas.List.{at_drop_all, get_or-map, get_or_default, leng
 use Rattle.xdg_domain.specs.declared.types.Ty.{Ty}
 use Rattle.xdg_terms.specs.Built.{place_from}
 use Rattle.xdg_terms.specs.Faults.{has}
-use Rattle.xdg_terms.proofs.Has.{same_text}
 use Rattle.xdg_terms.proofs.Meant.{at_place}
 use Rattle.xdg_types.specs.declared.table.DimType.{DimType}
 use Rattle.xdg_types.specs.Table.{firsts}
 use Rattle.xdg_formula.specs.Tables.{dim_named, dims_at, no_dim, type_named}
 use Rattle.xdg_build.specs.Places.{IsDimAt, IsPlaceOf, IsTypeAt, names_at}
+use Rattle.xdg_listing.proofs.Texts.{same_text}
 
 front : {A : Type 0} (xs : List A) (i : ℕ) (x d : A) → i < length xs → x ≡ get_or xs i d → drop i xs ≡ x ∷ drop (i + 1) xs
 front xs i x d l is = rw (add-one, drop-cons xs i d) (ap (λ y. y ∷ drop (suc i) xs) (sym is))
@@ -82,6 +82,7 @@ module _ (dims : List DimType) (used : List ℕ) (i : ℕ) (name : List ℕ) (so
     dim_turn other = place_later (λ k. (get_or dims k no_dim).name) used i name so_far (get_or used i 0) 0 l refl (named false other)
 
 -- the dimension with a number, read by way of what is lent
+
 pub dim_type_is : (dims dims_lent : List DimType) (used used_lent : List ℕ) (d at : ℕ) (dim : DimType) → dims_lent ≡ dims → used_lent ≡ used → at ≡ d → d < length used → get_or used d 0 < length dims → dim ≡ get_or dims_lent (get_or used_lent at 0) dim → dim ≡ get_or (dims_at dims used) d no_dim
 dim_type_is dims dims_lent used used_lent d at dim same_dims same_used same l within there =
     there

@@ -17,9 +17,9 @@ use Rattle.xdg_problem.specs.declared.parts.Principle.TheVariants as principles
 use Rattle.xdg_problem.specs.Arguments.{first_dim, second_dim, label_count, value_count, attr_of}
 use Rattle.xdg_problem.specs.Problems.{AreFeatures, AreSets, IsSet, IsValency, IsCardinality}
 use Rattle.xdg_build.proofs.Forms.{form_of, feature_typings, attr_typings}
-use Rattle.xdg_build.proofs.Lists.{all_cons, all_one}
 use Rattle.xdg_build.proofs.Said.{FitAll}
 use Rattle.xdg_build.proofs.TypeRows.{size}
+use Rattle.xdg_listing.proofs.Lists.{all_cons, all_one}
 
 -- the first attribute is one of the shared type
 abbrev pub SharesFirst : List (Which × Typing) → Type 0

@@ -26,6 +26,7 @@ use Rattle.xdg_packed.specs.Lexicon.{Lexicon}
 use Rattle.xdg_build.specs.Places.{IsDimAt}
 use Rattle.xdg_build.specs.Problems.{IsPlanOf, IsFor}
 use Rattle.xdg_build.specs.Truths.{IsCalled}
+use Rattle.xdg_listing.proofs.Lists.{zip_length}
 
 -- ---- lists side by side
 
@@ -34,12 +35,6 @@ zip_at R [] ys i d e zip l = absurd (omega (arith, l))
 zip_at R (x ∷ xs) [] i d e zip l = absurd zip
 zip_at R (x ∷ xs) (y ∷ ys) zero d e zip l = zip.0
 zip_at R (x ∷ xs) (y ∷ ys) (suc i) d e zip l = zip_at R xs ys i d e zip.1 (omega (arith, l))
-
-zip_long : {A B : Type 0} (R : A → B → Type 0) (xs : List A) (ys : List B) → AllZip R xs ys → length xs ≡ length ys
-zip_long R [] [] zip = refl
-zip_long R [] (y ∷ ys) zip = absurd zip
-zip_long R (x ∷ xs) [] zip = absurd zip
-zip_long R (x ∷ xs) (y ∷ ys) zip = ap suc (zip_long R xs ys zip.1)
 
 -- ---- places of used dimensions
 
@@ -105,7 +100,7 @@ module _ (table : Table) (lexicon : Lexicon) (parts : Parts) (is : IsTable table
   h = record { table = table; uses = []; lexicon = lexicon }
 
   pub dims_long : length (used_dims table) ≡ length parts.dims
-  dims_long = zip_long IsPlanOf (used_dims table) parts.dims for_it.dims
+  dims_long = zip_length IsPlanOf (used_dims table) parts.dims for_it.dims
 
   pub plan_of : (d : ℕ) → d < length (used_dims table) → IsPlanOf (dimension h (among_all table lexicon is d)) (slice_index_or parts.dims d no_plan)
   plan_of d l = subst (λ (dim : DimType). IsPlanOf dim (get_or parts.dims d no_plan)) (used_is table lexicon is d l) (zip_at IsPlanOf (used_dims table) parts.dims d no_dim no_plan for_it.dims l)

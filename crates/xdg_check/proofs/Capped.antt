@@ -2,9 +2,7 @@
 use Rattle.std.proofs.Common.{◌≡◌, ℕ, ◌≤◌, ◌*◌, zero, suc, min, inl, inr, ap, sym, ◌∙◌, arith}
 use Rattle.std.proofs.Math.Nat.{min-eq_left, min-eq_right, mul_assoc, mul_comm}
 use Rattle.std.proofs.lemmas.Bool.{cases_lt}
-
-grown : (a b most : ℕ) → most ≤ a → most ≤ a * suc b
-grown a b most beyond = omega (arith, beyond)
+use Rattle.xdg_listing.proofs.Numbers.{grown}
 
 beyond_both : (a b most : ℕ) → most ≤ a → min (most * b) most ≡ min (a * b) most
 beyond_both a zero most beyond = omega arith

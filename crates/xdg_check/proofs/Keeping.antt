@@ -30,6 +30,7 @@ use Rattle.xdg_check.specs.Checked.{named_body, named_bodies, IsRight, IsScoped,
 use Rattle.xdg_check.proofs.Binding.{class_of, is_bound, left_pair}
 use Rattle.xdg_check.proofs.Opened.{less_open, wants_stand}
 use Rattle.xdg_check.proofs.Sources.{same_records, completed_calls, completed_call, map_in, named_in, source_of, class_scoped, class_body}
+use Rattle.xdg_listing.proofs.Texts.{same_text}
 
 -- ---- what is right in the text
 
@@ -49,9 +50,6 @@ pub record RightBodies (statements : List Statement) (table : Table) : Type 0 wh
   pub closed : (c : ClassDef) → In (classes statements) c → (p : ClassParam) → In c.params p → (t : Term) → p.preset ≡ Some t → IsScoped [] t
 
 -- ---- features
-
-same_text : (a b : List ℕ) → bytes_eq a b ≡ true → a ≡ b
-same_text a b = (bytes_eq-Decides a b).0
 
 dim_in : (dims : List DimType) (name : List ℕ) (d : DimType) → dim_named dims name ≡ Some d → In dims d × (d.name ≡ name)
 dim_in [] name d h = absurd (cc)

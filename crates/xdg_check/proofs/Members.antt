@@ -7,6 +7,7 @@ use Rattle.xdg_classes.specs.Bodies.{Expr, body}
 use Rattle.xdg_classes.proofs.Bodied.{trees, body_or, body_and}
 use Rattle.xdg_check.specs.Counts.{Counting, uses, sum_of_uses, combos, sum_of_combos, product_of_combos, capped}
 use Rattle.xdg_check.proofs.Capped.{factor_more}
+use Rattle.xdg_listing.proofs.Numbers.{alone as alone_too}
 
 -- what is left at a member, and behind it
 cut : (items : List Expr) (k : ℕ) (e : Expr) → k < length items → e ≡ get_or items k e → drop k items ≡ e ∷ drop (k + 1) items
@@ -14,9 +15,6 @@ cut items k e within is = drop_more items k e within ∙ ap (λ x. x ∷ drop (k
 
 alone : (so_far most : ℕ) → so_far ≤ most → so_far ≡ min (so_far + 0) most
 alone so_far most within = omega (arith, within)
-
-alone_too : (so_far most : ℕ) → so_far ≤ most → so_far ≡ min (so_far * 1) most
-alone_too so_far most within = omega (arith, within)
 
 module _ (names : Counting) (items : List Expr) (k : ℕ) (so_far whole : ℕ) where
   module _ (e : Expr) (grown next : ℕ) (within : k < length items) (is : e ≡ get_or items k e) where

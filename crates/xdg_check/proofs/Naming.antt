@@ -14,6 +14,7 @@ use Rattle.xdg_classes.specs.Bodies.{Body, body, Called, calls}
 use Rattle.xdg_check.specs.declared.checked.Class.{Class}
 use Rattle.xdg_check.specs.Counts.{Counting, class_texts, Agrees}
 use Rattle.xdg_check.specs.Checked.{IsOrder}
+use Rattle.xdg_listing.proofs.Lists.{some_at}
 
 -- ---- classes by place
 
@@ -21,11 +22,6 @@ pub record IsPlaced (cs : List Class) (c : Class) (k : ℕ) : Type 0 where
   pub stands : slice_get cs k ≡ Some c
   pub within : k < length cs
   pub place : place_of (class_texts cs) c.name ≡ Some k
-
-pub some_at : {A : Type 0} (xs : List A) (k : ℕ) → k < length xs → (x : A) × (slice_get xs k ≡ Some x)
-some_at [] k h = absurd (omega (arith, h))
-some_at (x ∷ xs) zero h = (x, refl)
-some_at (x ∷ xs) (suc k) h = some_at xs k (omega (arith, h))
 
 pub in_at_place : {A : Type 0} (xs : List A) (k : ℕ) (x : A) → slice_get xs k ≡ Some x → In xs x
 in_at_place [] k x h = absurd (cc)

@@ -16,6 +16,7 @@ use Rattle.xdg_check.specs.declared.checked.EntryDef.{EntryDef}
 use Rattle.xdg_check.specs.Completed.{completed, all_completed, bound_by}
 use Rattle.xdg_check.specs.Answers.{IsClassOf, AreClassesOf, IsEntryOf, AreEntriesOf}
 use Rattle.xdg_check.specs.Counts.{class_texts}
+use Rattle.xdg_listing.proofs.Texts.{same_text}
 
 -- ---- what stands in a completed body
 
@@ -50,9 +51,6 @@ map_in f [] y h = absurd h
 map_in f (x ∷ xs) y h = elim h [ inl e ↦ (x, (inl refl, e)) | inr k ↦ (let r = map_in f xs y k in (r.0, (inr r.1.0, r.1.1))) ]
 
 -- ---- classes by name
-
-same_text : (a b : List ℕ) → bytes_eq a b ≡ true → a ≡ b
-same_text a b = (bytes_eq-Decides a b).0
 
 named_by : (x : ClassDef) (cs : List ClassDef) (name : List ℕ) (b : Bool) (c : ClassDef) → bytes_eq x.name.text name ≡ b → (class_named cs name ≡ Some c → In cs c × (c.name.text ≡ name))
     → (if b then Some x else class_named cs name) ≡ Some c → In (x ∷ cs) c × (c.name.text ≡ name)

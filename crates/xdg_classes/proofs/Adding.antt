@@ -14,6 +14,7 @@ use Rattle.xdg_names.specs.First.{In}
 use Rattle.xdg_names.proofs.In.{in_append, in_left, in_right}
 use Rattle.xdg_terms.specs.Wanted.{Want}
 use Rattle.xdg_classes.specs.Given.{shapes, shapes_at, Adds}
+use Rattle.xdg_listing.proofs.Options.{same_mark}
 
 -- the types of each parameter, where these are the parameters
 abbrev pub on : List (List ℕ) → List (List (Bor Ty)) → List ℕ → List Shape
@@ -21,9 +22,6 @@ on ps ts q = shapes_at ts (place_of ps q)
 
 some_apart : {A : Type 0} (x : A) → Some x ≡ None → ⊥
 some_apart {A = A} x e = true≢false (ap (λ (o : Option A). elim o [ None ↦ false | Some y ↦ true ]) e)
-
-some_same : (j k : ℕ) → Some j ≡ Some k → j ≡ k
-some_same j k e = ap (λ (o : Option ℕ). elim o [ None ↦ 0 | Some y ↦ y ]) e
 
 -- a type that is known already
 pub adds_known : (f : List ℕ → List Shape) (p : List ℕ) (u : Shape) → In (f p) u → Adds f f ((p, u) ∷ [])
@@ -109,13 +107,14 @@ module _ (ps : List (List ℕ)) (ts : List (List (Bor Ty))) (p : List ℕ) (ty :
     pushed_by q s None at = away q s (ap (shapes_at pushed) at ∙ sym (ap (shapes_at ts) at)) (λ e. some_apart k (sym is ∙ ap (place_of ps) e ∙ at))
     pushed_by q s (Some j) at = elim (cases_eq j k) [
       | inl e ↦ here q s j at e
-      | inr ne ↦ away q s (ap (shapes_at pushed) at ∙ ap shapes (get_or-set_other ts k j (types ++ ty ∷ []) [] ne) ∙ sym (ap (shapes_at ts) at)) (λ e. ne (some_same j k (sym at ∙ sym (ap (place_of ps) e) ∙ is)))
+      | inr ne ↦ away q s (ap (shapes_at pushed) at ∙ ap shapes (get_or-set_other ts k j (types ++ ty ∷ []) [] ne) ∙ sym (ap (shapes_at ts) at)) (λ e. ne (same_mark j k (sym at ∙ sym (ap (place_of ps) e) ∙ is)))
     ]
 
     pub adds_pushed : Adds (on ps ts) (on ps (slice_set ts k (types ++ ty ∷ []))) ((p, shape ty.now) ∷ [])
     adds_pushed q s = pushed_by q s (place_of ps q) refl
 
 -- the same of what stands there
+
 pub new_added : (ps qs : List (List ℕ)) (ts us : List (List (Bor Ty))) (p : List ℕ) (ty : Bor Ty) (types : List (Bor Ty)) → has_text ps p ≡ false → length ts ≡ length ps → qs ≡ ps ++ p ∷ [] → types ≡ ty ∷ [] → us ≡ ts ++ types ∷ []
     → Adds (on ps ts) (on qs us) ((p, shape ty.now) ∷ [])
 new_added ps qs ts us p ty types fresh even a b c =

@@ -15,6 +15,7 @@ use Rattle.xdg_classes.specs.NameFaults.{Asked, asked_by}
 use Rattle.xdg_classes.specs.Known.{shown, KnowsClasses}
 use Rattle.xdg_classes.specs.Lent.{class_def}
 use Rattle.xdg_classes.specs.Ordered.{class_at}
+use Rattle.xdg_listing.proofs.Truths.{none_or}
 
 -- ---- the class with a name
 
@@ -39,6 +40,7 @@ module _ (c : ClassDef) (name : List ℕ) where
       by false rest e = rest e
 
 -- the place of a name among the names of the classes is that of the first class with that name
+
 pub class_placed : (cs : List ClassDef) (name : List ℕ) → class_at cs (place_of (texts (class_names cs)) name) ≡ class_named cs name
 class_placed [] name = refl
 class_placed (c ∷ cs) name = by (bytes_eq c.name.text name) (class_placed cs name)
@@ -53,10 +55,6 @@ class_placed (c ∷ cs) name = by (bytes_eq c.name.text name) (class_placed cs n
     by false rest = later (place_of (texts (class_names cs)) name) ∙ rest
 
 -- ---- one class more
-
-or_false : (a b : Bool) → (a || b) ≡ false → (a ≡ false) × (b ≡ false)
-or_false true b e = absurd (true≢false e)
-or_false false b e = (refl, e)
 
 module _ (cs : List ClassDef) (names : List (List ℕ)) (all : List Asked) (knows : KnowsClasses cs names all) (c : ClassDef) where
   abbrev own : List ℕ
@@ -97,8 +95,8 @@ module _ (cs : List ClassDef) (names : List (List ℕ)) (all : List Asked) (know
           let k : length all ≡ length names = knows.len in
           omega (arith, l, m, k));
       missing = λ name e.
-          let none = or_false (has_text names name) (bytes_eq own name || false) (sym (has_text-append names (own ∷ []) name) ∙ place_of-None (names ++ own ∷ []) name e) in
-          named_new c name cs (knows.missing name (None-place_of names name none.0)) ∙ ap (λ b. if b then Some c else None) (or_false (bytes_eq own name) false none.1).0;
+          let none = none_or (has_text names name) (bytes_eq own name || false) (sym (has_text-append names (own ∷ []) name) ∙ place_of-None (names ++ own ∷ []) name e) in
+          named_new c name cs (knows.missing name (None-place_of names name none.0)) ∙ ap (λ b. if b then Some c else None) (none_or (bytes_eq own name) false none.1).0;
       found = λ name k e. elim (cases_Bool (has_text names name)) [
         | inl old ↦ (let r = knows.found name k (sym (place_of-append_left names (own ∷ []) name old) ∙ e) in (r.0, (named_kept c name cs r.0 r.1.0, before k (asked_by r.0) r.1.1)))
         | inr no_name ↦ last name k no_name (bytes_eq own name) refl (sym (place_of-append_right names (own ∷ []) name no_name) ∙ e)

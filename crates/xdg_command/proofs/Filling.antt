@@ -8,11 +8,13 @@ use Rattle.clap.specs.Walk.{Row, Rule, has_row}
 use Rattle.xdg_command.specs.Items.{AreItems, ended, operands, by_operand, by_flag, by_next, by_equals, Item, operand, valued, flagged, is_among, one_if, operands_of, uses_of}
 use Rattle.xdg_command.specs.Syntax.{Table, all_differ}
 use Rattle.xdg_command.proofs.Fitting.{has_more, most, no_more}
-use Rattle.xdg_command.proofs.Lookups.{Right, among_at, differ, equal, not_operand}
+use Rattle.xdg_command.proofs.Lookups.{Right, among_at, differ, not_operand}
 use Rattle.xdg_command.proofs.Placed.{put}
 use Rattle.xdg_command.proofs.Reader.{onward}
 use Rattle.xdg_command.proofs.Rules.{added, flag_rule, form, operand_rule, row, value_rule}
 use Rattle.xdg_command.proofs.Spelled.{flag_form, value_form}
+use Rattle.xdg_listing.proofs.Lists.{some_at}
+use Rattle.xdg_listing.proofs.Texts.{equal}
 
 -- the options of the items are options of the table
 abbrev pub Formed : Table → List Item → Type 0
@@ -20,11 +22,6 @@ Formed t [] = Unit {0}
 Formed t (operand word ∷ items) = Formed t items
 Formed t (valued name value ∷ items) = (form t name ≡ Some true) × Formed t items
 Formed t (flagged name ∷ items) = (form t name ≡ Some false) × Formed t items
-
-pub get_some : {A : Type 0} (xs : List A) (k : ℕ) → k < length xs → (x : A) × (slice_get xs k ≡ Some x)
-get_some [] k e = absurd (omega (arith, e))
-get_some (x ∷ xs) zero e = (x, refl)
-get_some (x ∷ xs) (suc k) e = get_some xs k (omega (arith, e))
 
 -- names at two places differ
 pub distinct_at : (names : List (List ℕ)) (k j : ℕ) (a b : List ℕ) → all_differ names ≡ true → slice_get names k ≡ Some a → slice_get names j ≡ Some b → k < j → bytes_eq a b ≡ false
@@ -85,7 +82,7 @@ module _ (t : Table) (r : Right t) where
   pub filled : (k : ℕ) (rows : List Row) (items : List Item) → Formed t items → Left rows items → Free k rows → k + length (operands_of items) ≤ length t.operands → Puts k rows items
   filled k rows [] form left free few = (rows, refl)
   filled k rows (operand word ∷ items) form left free few =
-      let place = get_some t.operands k (omega (arith, few)) in
+      let place = some_at t.operands k (omega (arith, few)) in
       let a : Rule = operand_rule (suc k) place.0 in
       let none : has_row place.0 rows ≡ false = free k place.0 (omega arith) place.1 in
       let more : List Row = rows ++ row a (word ∷ []) ∷ [] in

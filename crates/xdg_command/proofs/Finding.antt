@@ -11,9 +11,10 @@ use Rattle.xdg_command.specs.Syntax.{Table}
 use Rattle.xdg_command.proofs.Built.{numbered, rules_in}
 use Rattle.xdg_command.proofs.Filling.{Formed, distinct_at, other_name, other_operand}
 use Rattle.xdg_command.proofs.Fitting.{operand_row, rows_of_items}
-use Rattle.xdg_command.proofs.Lookups.{Right, differ, equal, same}
+use Rattle.xdg_command.proofs.Lookups.{Right, differ}
 use Rattle.xdg_command.proofs.Rules.{flag_rule, form, row, value_rule}
 use Rattle.xdg_command.proofs.Uses.{at_none}
+use Rattle.xdg_listing.proofs.Texts.{equal, same_text}
 
 abbrev pub found_in : List ℕ → List Row → Option Row
 found_in name rows = find (λ r. bytes_eq r.id name) rows
@@ -59,7 +60,7 @@ module _ (t : Table) (r : Right t) where
     where
       go : (b : Bool) → bytes_eq other name ≡ b → found_in name (rows_of_items t k items) ≡ given name (has_flag name items)
           → cond b (Some (row (flag_rule other) (codes "true" ∷ []))) (found_in name (rows_of_items t k items)) ≡ given name (if b then true else has_flag name items)
-      go true e more = ap (λ n. Some (row (flag_rule n) (codes "true" ∷ []))) (same other name e)
+      go true e more = ap (λ n. Some (row (flag_rule n) (codes "true" ∷ []))) (same_text other name e)
       go false e more = more
 
   pub finds_operand : (k m : ℕ) (name : List ℕ) (items : List Item) → slice_get t.operands (k + m) ≡ Some name → Formed t items → first_of name (rows_of_items t k items) ≡ slice_get (operands_of items) m
@@ -170,7 +171,7 @@ flag_unset name (f ∷ flags) rows e none = go (bytes_eq f name) refl (flag_unse
         → (is_among flags name ≡ true → found_in name (with_default rows (flag_rule f)) ≡ None → found_in name (fold with_default (with_default rows (flag_rule f)) (map flag_rule flags)) ≡ Some (unset name))
         → (b || is_among flags name) ≡ true → found_in name (fold with_default (with_default rows (flag_rule f)) (map flag_rule flags)) ≡ Some (unset name)
     go true is next e =
-        let name_is : f ≡ name = same f name is in
+        let name_is : f ≡ name = same_text f name is in
         let no : has_row f rows ≡ false = ap (λ n. has_row n rows) name_is ∙ none_found name rows none in
         let here : with_default rows (flag_rule f) ≡ rows ++ unset f ∷ [] = default_is f rows ∙ ap (λ b. if b then rows else rows ++ unset f ∷ []) no in
         all_stays name flags (with_default rows (flag_rule f)) (unset name)

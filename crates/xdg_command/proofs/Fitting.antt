@@ -6,11 +6,11 @@ use Rattle.std.proofs.lemmas.Bool.{true≢false}
 use Rattle.clap.specs.Walk.{Row, Rule, has_row}
 use Rattle.xdg_command.specs.Items.{Item, operand, valued, flagged, one_if, operands_of, uses_of}
 use Rattle.xdg_command.specs.Syntax.{Table}
-use Rattle.xdg_command.proofs.Lookups.{same}
 use Rattle.xdg_command.proofs.Placed.{put, put_operand}
 use Rattle.xdg_command.proofs.Reader.{onward}
 use Rattle.xdg_command.proofs.Rules.{added, flag_rule, operand_rule, row, value_rule}
-use Rattle.xdg_command.proofs.Walked.{within}
+use Rattle.xdg_listing.proofs.Texts.{same_text}
+use Rattle.xdg_listing.proofs.Lists.{get_within}
 
 -- ---- rows
 
@@ -96,7 +96,7 @@ module _ (t : Table) where
       go (has_row name rows) (bytes_eq a.id name) refl refl (subst (λ b. one_if b + uses_of name items ≤ 1) after (once name)) is.0
     where
       go : (x y : Bool) → has_row name rows ≡ x → bytes_eq a.id name ≡ y → one_if (x || y) + uses_of name items ≤ 1 → has_row a.id rows ≡ false → one_if x + (one_if y + uses_of name items) ≤ 1
-      go true true before is most none = absurd (true≢false (sym before ∙ ap (λ n. has_row n rows) (sym (same a.id name is)) ∙ none))
+      go true true before is most none = absurd (true≢false (sym before ∙ ap (λ n. has_row n rows) (sym (same_text a.id name is)) ∙ none))
       go true false before is most none = omega (arith, most)
       go false y before is most none = omega (arith, most)
 
@@ -130,7 +130,7 @@ module _ (t : Table) where
     where
       by_place : (o : Option (List ℕ)) → slice_get t.operands k ≡ o → (more : List Row) → put_operand o (suc k) word rows ≡ Some more → suc k ≤ length t.operands
       by_place None is more e = absurd cc
-      by_place (Some name) is more e = omega (arith, within t.operands k name is)
+      by_place (Some name) is more e = omega (arith, get_within t.operands k name is)
   put_few k rows (valued other value ∷ items) end e few =
       let next = onward_is (added (value_rule other) (value ∷ []) rows) (λ more. put t k more items) end e in put_few k next.0 items end next.2 few
   put_few k rows (flagged other ∷ items) end e few =

@@ -5,27 +5,22 @@ use Rattle.std.specs.List.{find, list_all}
 use Rattle.std.specs.Option.{option_map_or}
 use Rattle.std.specs.Str.{bytes_eq}
 use Rattle.std.proofs.lemmas.Bool.{eq-eqb, leb-true, ne_eqb, not-true, or_right, true≢false}
-use Rattle.std.proofs.lemmas.Slice.Eq.{bytes_eq-Decides}
 use Rattle.clap.proofs.WalkLemmas.{both}
 use Rattle.clap.specs.Walk.{Rule, arg_by_id, arg_by_index, arg_by_long, arg_by_short, has_long, has_short}
 use Rattle.xdg_command.specs.Items.{is_among}
 use Rattle.xdg_command.specs.Syntax.{Table, all_differ, are_apart, is_name, is_right}
 use Rattle.xdg_command.proofs.Built.{numbered, options_in, rules_in}
 use Rattle.xdg_command.proofs.Rules.{Finds, flag_rule, form, operand_rule, option_rule, value_rule}
+use Rattle.xdg_listing.proofs.Truths.{or_false}
+use Rattle.xdg_listing.proofs.Texts.{equal, same_text}
 
 -- ---- names
-
-pub same : (a b : List ℕ) → bytes_eq a b ≡ true → a ≡ b
-same a b = (bytes_eq-Decides a b).0
-
-pub equal : (a : List ℕ) → bytes_eq a a ≡ true
-equal a = (bytes_eq-Decides a a).1 refl
 
 pub differ : (a b : List ℕ) → (a ≡ b → ⊥) → bytes_eq a b ≡ false
 differ a b apart = go (bytes_eq a b) refl
   where
     go : (x : Bool) → bytes_eq a b ≡ x → bytes_eq a b ≡ false
-    go true e = absurd (apart (same a b e))
+    go true e = absurd (apart (same_text a b e))
     go false e = e
 
 -- a text that stands in a list is among its texts
@@ -42,7 +37,7 @@ apart_at (n ∷ names) others name apart e =
     go (apart_at names others name parts.1) (not-true (is_among others n) parts.0) (bytes_eq n name) refl e
   where
     go : (is_among names name ≡ true → is_among others name ≡ false) → is_among others n ≡ false → (b : Bool) → bytes_eq n name ≡ b → (b || is_among names name) ≡ true → is_among others name ≡ false
-    go more here true is e = subst (λ x. is_among others x ≡ false) (same n name is) here
+    go more here true is e = subst (λ x. is_among others x ≡ false) (same_text n name is) here
     go more here false is e = more e
 
 -- what `is_right` says
@@ -82,7 +77,7 @@ looked name test f e (n ∷ names) rest = rw (e n) (go (looked name test f e nam
   where
     go : find test (map f names ++ rest) ≡ (if is_among names name then Some (f name) else find test rest) → (b : Bool) → bytes_eq n name ≡ b
         → cond b (Some (f n)) (find test (map f names ++ rest)) ≡ (if b || is_among names name then Some (f name) else find test rest)
-    go more true is = ap (λ x. Some (f x)) (same n name is)
+    go more true is = ap (λ x. Some (f x)) (same_text n name is)
     go more false is = more
 
 -- options that don't pass
@@ -91,10 +86,6 @@ unlooked test f e [] rest = refl
 unlooked test f e (n ∷ names) rest = rw (e n) (unlooked test f e names rest)
 
 -- ---- the lookups
-
-or_false : (b : Bool) → (b || false) ≡ b
-or_false true = refl
-or_false false = refl
 
 -- the tests of a name, by whether the name is a value's, a flag's or neither
 chosen : (x y : Bool) (name : List ℕ) → (if x then Some (value_rule name) else (if y then Some (flag_rule name) else None))
@@ -148,6 +139,7 @@ module _ (t : Table) where
       ∙ among_options name test (λ n. refl) (λ n. refl) ∙ ap (option_map (option_rule name)) e
 
 -- operands by their place
+
 at_place : (place : ℕ) (k : ℕ) (names : List (List ℕ)) (rest : List Rule) → find (λ a. option_map_or (λ j. j == (place + k)) a.index false) rest ≡ None
     → find (λ a. option_map_or (λ j. j == (place + k)) a.index false) (numbered place names ++ rest) ≡ option_map (operand_rule (place + k)) (slice_get names k)
 at_place place k [] rest none = none

@@ -8,9 +8,10 @@ use Rattle.clap.proofs.WalkLemmas.{both}
 use Rattle.clap.specs.Lexer.{has_byte, long_of, long_of_rest, short_of}
 use Rattle.xdg_command.specs.Items.{AreItems, ended, operands, by_operand, by_flag, by_next, by_equals, Item, operand, valued, flagged, dashed, is_among, is_dashed}
 use Rattle.xdg_command.specs.Syntax.{Table, is_name}
-use Rattle.xdg_command.proofs.Lookups.{Right, apart_at, same}
+use Rattle.xdg_command.proofs.Lookups.{Right, apart_at}
 use Rattle.xdg_command.proofs.Reader.{behind, by_form, by_letters, by_long, by_value, read, unless_long}
 use Rattle.xdg_command.proofs.Rules.{form}
+use Rattle.xdg_listing.proofs.Texts.{same_text}
 
 -- ---- words
 
@@ -127,7 +128,7 @@ named p [] name all e = absurd (true≢false (sym e))
 named p (n ∷ names) name all e = let parts = both (p n) (list_all p names) all in go (named p names name parts.1) parts.0 (bytes_eq n name) refl e
   where
     go : (is_among names name ≡ true → p name ≡ true) → p n ≡ true → (b : Bool) → bytes_eq n name ≡ b → (b || is_among names name) ≡ true → p name ≡ true
-    go more here true is e = subst (λ x. p x ≡ true) (same n name is) here
+    go more here true is e = subst (λ x. p x ≡ true) (same_text n name is) here
     go more here false is e = more e
 
 -- what a word is that spells an option
@@ -264,7 +265,7 @@ module _ (t : Table) (r : Right t) where
         → (if b then Some (map operand words) else by_long t (long_of word) word (read t None words) (λ other. read t (Some other) words)) ≡ Some items → Goal
     by_the_word true follows is e =
         let items_are : map operand words ≡ items = cc in
-        subst (λ w. Items (w ∷ words) items) (sym (same word (dashed []) is)) (subst (Items (dashed [] ∷ words)) items_are (operands words))
+        subst (λ w. Items (w ∷ words) items) (sym (same_text word (dashed []) is)) (subst (Items (dashed [] ∷ words)) items_are (operands words))
     by_the_word false follows is e = by_the_name (long_of word) follows refl is e
 
     module _ (name : List ℕ) (mine : is_among t.values name ≡ true) where

@@ -1,5 +1,5 @@
 -- What one word does to a walk over the words.
-use Rattle.std.proofs.Common.{◌≡◌, ◌≤◌, ◌+◌, ◌&&◌, ℕ, Bool, suc, true, false, List, [], ◌∷◌, min, Option, Some, None, refl, arith}
+use Rattle.std.proofs.Common.{◌≡◌, ◌≤◌, ◌+◌, ℕ, Bool, suc, true, false, List, [], ◌∷◌, min, Option, Some, None, refl, arith}
 use Rattle.std.specs.Prelude.{is_some, slice_get, if◌then◌else◌}
 use Rattle.std.specs.Str.{bytes_eq, chars}
 use Rattle.clap.specs.Lexer.{long_of, short_of, usize_max}
@@ -11,6 +11,7 @@ use Rattle.std.proofs.lemmas.Slice.Eq.{bytes_eq-Decides}
 use Rattle.clap.specs.declared.error.kind.ErrorKind.TheVariants as kind
 use Rattle.xdg_command.specs.Items.{dashed}
 use Rattle.xdg_command.proofs.Rules.{flag_rule, nothing, operand_rule, value_rule}
+use Rattle.xdg_listing.proofs.Truths.{and_false}
 
 abbrev pub held : List Row → Option (List ℕ × List (List ℕ)) → Held
 held rows pending = record { rows = rows; pending = pending; skip = 0 }
@@ -33,10 +34,6 @@ next_place k few = omega (arith, few)
 or_none : (a : Kinds) → or_else a [] ≡ a
 or_none [] = refl
 or_none (k ∷ ks) = refl
-
-and_false : (b : Bool) → (b && false) ≡ false
-and_false true = refl
-and_false false = refl
 
 module _ (s : Shape) (again : s.args_override_self ≡ false) where
   module _ (h : Held) (k : ℕ) (word name : List ℕ) (not_end : bytes_eq word (dashed []) ≡ false) where

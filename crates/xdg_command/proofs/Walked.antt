@@ -1,5 +1,5 @@
 -- A walk over words finds what the items are found as.
-use Rattle.std.proofs.Common.{◌≡◌, ◌∙◌, ◌≤◌, ◌<◌, ℕ, Bool, zero, suc, true, false, List, [], ◌∷◌, map, length, Option, Some, None, refl, sym, ap, ap₂, subst, arith, ◌==◌}
+use Rattle.std.proofs.Common.{◌≡◌, ◌∙◌, ◌≤◌, ◌<◌, ℕ, Bool, suc, true, false, List, [], ◌∷◌, map, Option, Some, None, refl, sym, ap, ap₂, subst, arith, ◌==◌}
 use Rattle.std.specs.Prelude.{codes, slice_get, option_map, if◌then◌else◌}
 use Rattle.std.specs.List.{fold}
 use Rattle.std.specs.Str.{IsUtf8, bytes_eq, chars, encode_utf8_all}
@@ -18,6 +18,7 @@ use Rattle.xdg_command.proofs.Reader.{behind, by_form, by_letters, by_long, by_v
 use Rattle.xdg_command.proofs.Rules.{Finds, added, flag_rule, form, nothing, operand_rule, option_rule, value_rule}
 use Rattle.xdg_command.proofs.Turns.{awaited_end, awaited_letter, awaited_long, awaited_value, awaiting, between, end_turn, flag_refused, flag_turn, held, later_refused, later_turn, letter_refused, name_refused, name_turn, trailing_at, value_turn, word_refused, word_turn}
 use Rattle.xdg_command.proofs.Uses.{empty_refused, flag_used, operand_used, using_as, value_used}
+use Rattle.xdg_listing.proofs.Lists.{get_within}
 
 -- ---- options of values
 
@@ -122,11 +123,6 @@ letter (a ∷ y ∷ ys) letters text e = go (a == 45) (y == 45) refl refl
         subst Letter letters_are (first_char y ys (chars (y ∷ ys)) (encodes-chars (y ∷ ys) rest) refl)
     go false c is other = let bad : None ≡ Some letters = rw is at e in absurd cc
 
-pub within : {A : Type 0} (xs : List A) (k : ℕ) (x : A) → slice_get xs k ≡ Some x → k < length xs
-within [] k x e = absurd cc
-within (y ∷ xs) zero x e = omega arith
-within (y ∷ xs) (suc k) x e = omega (arith, within xs k x e)
-
 -- each word is a text
 abbrev pub AreTexts : List (List ℕ) → Type 0
 AreTexts [] = Unit {0}
@@ -138,7 +134,7 @@ module _ (s : Shape) (t : Table) (finds : Finds t s.rules) (again : s.args_overr
   settle_one rows a values mine = rw mine refl
 
   few_left : (k : ℕ) (name : List ℕ) → slice_get t.operands k ≡ Some name → k ≤ 2
-  few_left k name e = omega (arith, within t.operands k name e, finds.few)
+  few_left k name e = omega (arith, get_within t.operands k name e, finds.few)
 
   place_is : (k : ℕ) (o : Option (List ℕ)) → slice_get t.operands k ≡ o → arg_by_index s.rules (suc k) ≡ option_map (operand_rule (suc k)) o
   place_is k o e = finds.index k ∙ ap (option_map (operand_rule (suc k))) e

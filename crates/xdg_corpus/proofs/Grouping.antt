@@ -24,15 +24,9 @@ use Rattle.xdg_inputs.specs.declared.refusals.Refusal.TheVariants as refusals
 use Rattle.xdg_problem.specs.declared.parts.Parts.{Parts}
 use Rattle.xdg_propcore.specs.Uses.{AllStandIn}
 use Rattle.xdg_split.specs.Asked.{Asked, IsJob, asked}
+use Rattle.xdg_listing.proofs.Lists.{zip_more}
 
 -- ---- lists
-
--- one more place of both
-zip_more : {A B : Type 0} (R : A → B → Type 0) (xs : List A) (ys : List B) (x : A) (y : B) → AllZip R xs ys → R x y → AllZip R (xs ++ x ∷ []) (ys ++ y ∷ [])
-zip_more R [] [] x y all r = (r, tt)
-zip_more R [] (b ∷ ys) x y all r = absurd all
-zip_more R (a ∷ xs) [] x y all r = absurd all
-zip_more R (a ∷ xs) (b ∷ ys) x y all r = (all.0, zip_more R xs ys x y all.1 r)
 
 -- what follows from each place
 zip_each : {A B : Type 0} (R S : A → B → Type 0) (xs : List A) (ys : List B) → ((x : A) (y : B) → R x y → S x y) → AllZip R xs ys → AllZip S xs ys

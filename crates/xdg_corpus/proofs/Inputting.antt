@@ -2,7 +2,6 @@
 use Rattle.std.proofs.Common.{◌≡◌, ℕ, ◌+◌, ◌<◌, ◌≤◌, List, length, refl, sym, ◌∙◌, ap, arith}
 use Rattle.std.specs.Prelude.{IsUtf8}
 use Rattle.std.specs.Str.{IsValidUpTo}
-use Rattle.std.proofs.lemmas.Str.{utf8_valid_len-IsValidUpTo}
 use Rattle.xdg_base.specs.declared.faults.Cause.TheVariants as causes
 use Rattle.xdg_base.specs.declared.faults.Fault.{Fault}
 use Rattle.xdg_corpus.specs.Inputs.{HasText, IsBadCorpus, IsNoCorpus, corpus_limit, no_text, too_long}
@@ -10,13 +9,11 @@ use Rattle.xdg_inputs.specs.Places.{fault, place_in}
 use Rattle.xdg_inputs.specs.Refusals.{RejectsAt}
 use Rattle.xdg_inputs.specs.Stages.{Accepts, Rejects}
 use Rattle.xdg_inputs.proofs.Trees.{first_byte}
+use Rattle.xdg_listing.proofs.Texts.{one_place}
 
 text_or_not : (input text : List ℕ) (f : Fault) → HasText input text → IsNoCorpus input f → ⊥
 text_or_not input text f has (too_long long e) = let w = has.within in omega (arith, w, long)
 text_or_not input text f has (no_text at within ill valid e) = ill has.utf8
-
-one_place : (text : List ℕ) (m n : ℕ) → IsValidUpTo text m → IsValidUpTo text n → m ≡ n
-one_place text m n v w = sym (utf8_valid_len-IsValidUpTo text m v) ∙ utf8_valid_len-IsValidUpTo text n w
 
 one_fault : (input : List ℕ) (f h : Fault) → IsNoCorpus input f → IsNoCorpus input h → h ≡ f
 one_fault input f h (too_long a e) (too_long b d) = d ∙ sym e

@@ -2,9 +2,7 @@
 use Rattle.std.proofs.Common.{◌≡◌, ℕ, ◌≤◌, ◌+◌, ◌*◌, zero, suc, min, inl, inr, ap, ap₂, sym, ◌∙◌, arith}
 use Rattle.std.proofs.Math.Nat.{min-eq_left, min-eq_right, mul_comm}
 use Rattle.std.proofs.lemmas.Bool.{cases_lt}
-
-grown : (a b most : ℕ) → most ≤ a → most ≤ a * suc b
-grown a b most beyond = omega (arith, beyond)
+use Rattle.xdg_listing.proofs.Numbers.{below_one, grown}
 
 beyond_both : (a b most : ℕ) → most ≤ a → min (most * b) most ≡ min (a * b) most
 beyond_both a zero most beyond = omega arith
@@ -18,9 +16,6 @@ capped_mul a b most = elim (cases_lt a most) [
 
 pub capped_add : (a b most : ℕ) → min (min a most + b) most ≡ min (a + b) most
 capped_add a b most = omega arith
-
-below_one : (a most : ℕ) → min (min a most + 1) most ≡ min (1 + a) most
-below_one a most = omega arith
 
 -- a product and one more, each step capped
 pub capped_parts : (keys one members each product whole most : ℕ) → members ≡ min keys most → each ≡ min one most → product ≡ min (members * each) most → whole ≡ min (product + 1) most → whole ≡ min (1 + keys * one) most

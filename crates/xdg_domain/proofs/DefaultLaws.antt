@@ -13,8 +13,9 @@ use Rattle.xdg_domain.specs.declared.values.Value.TheOpen.{Value-F}
 use Rattle.xdg_domain.specs.declared.values.Value.TheVariants as v
 use Rattle.xdg_domain.proofs.Masks.{members_are_cards, all_bits, one_bits, one_within}
 use Rattle.xdg_domain.proofs.Sorting.{range_rises}
-use Rattle.xdg_domain.proofs.Each.{each_rises, each_holds, each_said, all_below, same_some}
+use Rattle.xdg_domain.proofs.Each.{each_rises, each_holds, each_said, all_below}
 use Rattle.xdg_domain.proofs.Made.{none_and}
+use Rattle.xdg_listing.proofs.Options.{some_same}
 
 -- ---- whether there is one
 
@@ -72,6 +73,7 @@ mutual
   ]
 
 -- a type has no default exactly where it has a plain part
+
 pub none_is_plain : (s : Shape) → IsType s → (default s ≡ None) ↔ HasPlain s
 none_is_plain s h = (
   λ e. elim (decided s h) [ inl none ↦ none.1 | inr some ↦ absurd (differ (default s) some.1.0 e some.1.1) ],
@@ -92,7 +94,7 @@ abbrev pub IsRight : Shape → Value → Type 0
 IsRight s x = IsValue s x × IsFilled s x
 
 by_layer : (s : Shape) (x y : Value) (l : Value-F Value) → Some y ≡ Some x → out-Value y ≡ l → IsIn s l × IsFilledIn s l → IsRight s x
-by_layer s x y l e o given = subst (IsRight s) (same_some y x e) (subst (λ m. IsIn s m × IsFilledIn s m) (sym o) given)
+by_layer s x y l e o given = subst (IsRight s) (some_same y x e) (subst (λ m. IsIn s m × IsFilledIn s m) (sym o) given)
 
 all_cards : IsCards (cards (λ _. true))
 all_cards = subst IsCards all_bits (members_are_cards (2 ^ 128 - 1) (omega arith) (omega arith))
@@ -112,10 +114,10 @@ taken : (place : ℕ) (o : Option Value) (r : Option (List (ℕ × Value))) (all
 taken place None None all e = absurd (cc)
 taken place None (Some rest) all e = absurd (cc)
 taken place (Some x) None all e = absurd (cc)
-taken place (Some x) (Some rest) all e = record { first = x; rest = rest; one = refl; more = refl; whole = same_some ((place, x) ∷ rest) all e }
+taken place (Some x) (Some rest) all e = record { first = x; rest = rest; one = refl; more = refl; whole = some_same ((place, x) ∷ rest) all e }
 
 fields_rise : (fs : Fields) (place : ℕ) (all : List (ℕ × Value)) → defaults place fs ≡ Some all → KeysRise place all
-fields_rise no_field place all e = subst (KeysRise place) (same_some [] all e) tt
+fields_rise no_field place all e = subst (KeysRise place) (some_same [] all e) tt
 fields_rise (field_then name u fs) place all e =
     let t = taken place (default u) (defaults (place + 1) fs) all e in
     subst (KeysRise place) t.whole (omega arith, fields_rise fs (place + 1) t.rest t.more)
@@ -170,7 +172,7 @@ mutual
   ]
 
   fields_each : (fs : Fields) → AreTypes fs → (place : ℕ) (all : List (ℕ × Value)) → defaults place fs ≡ Some all → EachSaid (IsAt fs place) all
-  fields_each no_field h place all e = subst (EachSaid (IsAt no_field place)) (same_some [] all e) tt
+  fields_each no_field h place all e = subst (EachSaid (IsAt no_field place)) (some_same [] all e) tt
   fields_each (field_then name u fs) h place all e =
       let t = taken place (default u) (defaults (place + 1) fs) all e in
       subst (EachSaid (IsAt (field_then name u fs) place)) t.whole (
@@ -190,6 +192,7 @@ mutual
       )
 
 -- the default is a value of the type
+
 pub default_is_value : (s : Shape) → IsType s → (x : Value) → default s ≡ Some x → IsValue s x
 default_is_value s h x e = (right s h x e).0
 

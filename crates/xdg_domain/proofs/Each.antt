@@ -8,6 +8,7 @@ use Rattle.xdg_domain.specs.Valencies.{said_at, KeysRise}
 use Rattle.xdg_domain.specs.Values.{AllBelow, EachSaid}
 use Rattle.xdg_domain.specs.Defaults.{for_each_key}
 use Rattle.xdg_domain.proofs.Sorting.{range_more}
+use Rattle.xdg_listing.proofs.Options.{some_same}
 
 -- one key more
 pub each_more : {V : Type 0} (n : ℕ) (x : V) → for_each_key n x ++ (n, x) ∷ [] ≡ for_each_key (n + 1) x
@@ -49,9 +50,6 @@ all_below count = below_from count 0 count (omega arith)
 
 -- ---- a map made key by key
 
-pub same_some : {A : Type 0} (x y : A) → Some x ≡ Some y → x ≡ y
-same_some x y e = cc
-
 pub map_more : {V : Type 0} (o : Option V) (all next : List (ℕ × V)) (key : ℕ) (value : V) → ((x : V) → o ≡ Some x → all ≡ for_each_key key x) → Some value ≡ o → next ≡ all ++ (key, value) ∷ [] → (x : V) → o ≡ Some x → next ≡ for_each_key (key + 1) x
 map_more o all next key value before has grown x is =
-    grown ∙ ap₂ (λ s y. s ++ (key, y) ∷ []) (before x is) (same_some value x (has ∙ is)) ∙ each_more key x
+    grown ∙ ap₂ (λ s y. s ++ (key, y) ∷ []) (before x is) (some_same value x (has ∙ is)) ∙ each_more key x

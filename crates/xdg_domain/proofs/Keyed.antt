@@ -5,6 +5,7 @@ use Rattle.std.proofs.lemmas.Bool.{cases_eq, cases_lt, eq-eqb, ne_eqb}
 use Rattle.xdg_domain.specs.Valencies.{said_at, KeysRise}
 use Rattle.xdg_domain.specs.Values.{EachSaid}
 use Rattle.xdg_domain.specs.Joins.{Both, SaysBoth, OnBoth, OnSome}
+use Rattle.xdg_listing.proofs.Options.{none_some, some_same}
 
 -- ---- one list
 
@@ -22,17 +23,11 @@ pub unsaid : {V : Type 0} (low key : ℕ) (s : List (ℕ × V)) → key < low �
 unsaid low key [] below r = refl
 unsaid low key (e ∷ s) below (a, b) = after_head e s key (λ i. omega (arith, i, a, below)) ∙ unsaid (e.0 + 1) key s (omega (arith, a, below)) b
 
-some_is : {A : Type 0} (a b : A) → Some a ≡ Some b → a ≡ b
-some_is a b e = cc
-
-none_some : {A : Type 0} (a : A) → None ≡ Some a → ⊥
-none_some a e = cc
-
 -- what is right for each entry is right for what is said of a key
 pub said_right : {V : Type 0} (G : ℕ → V → Type 0) (s : List (ℕ × V)) (key : ℕ) (x : V) → EachSaid G s → said_at s key ≡ Some x → G key x
 said_right G [] key x right is = absurd (none_some x is)
 said_right G (e ∷ s) key x right is = elim (cases_eq e.0 key) [
-  | inl i ↦ subst (λ k. G k x) i (subst (λ z. G e.0 z) (some_is e.1 x (sym (at_head e s key i) ∙ is)) right.0)
+  | inl i ↦ subst (λ k. G k x) i (subst (λ z. G e.0 z) (some_same e.1 x (sym (at_head e s key i) ∙ is)) right.0)
   | inr other ↦ said_right G s key x right.1 (sym (after_head e s key other) ∙ is)
 ]
 
@@ -53,7 +48,7 @@ said_same low [] (y ∷ b) h k same = absurd (none_some y.1 (same y.0 ∙ at_hea
 said_same low (x ∷ a) [] h k same = absurd (none_some x.1 (sym (same x.0) ∙ at_head x a x.0 refl))
 said_same low (x ∷ a) (y ∷ b) h k same = elim (cases_eq x.0 y.0) [
   | inl i ↦
-      let here = some_is x.1 y.1 (sym (at_head x a x.0 refl) ∙ same x.0 ∙ at_head y b x.0 (sym i)) in
+      let here = some_same x.1 y.1 (sym (at_head x a x.0 refl) ∙ same x.0 ∙ at_head y b x.0 (sym i)) in
       ap₂ (λ e s. e ∷ s) (ap₂ (λ m z. (m, z)) i here) (said_same (x.0 + 1) a b h.1 (subst (λ m. KeysRise (m + 1) b) (sym i) k.1) (λ key. elim (cases_eq x.0 key) [
         | inl j ↦ unsaid (x.0 + 1) key a (omega (arith, j)) h.1 ∙ sym (unsaid (y.0 + 1) key b (omega (arith, j, i)) k.1)
         | inr other ↦ sym (after_head x a key other) ∙ same key ∙ after_head y b key (λ j. other (i ∙ j))

@@ -1,24 +1,21 @@
 -- What an operation on bits does to the numbers that they stand for.
-use Rattle.std.proofs.Common.{◌≡◌, ◌⊎◌, ◌↔◌, ℕ, ◌<◌, ◌≤◌, ◌-◌, ◌*◌, ◌/◌, ◌%◌, ◌^◌, suc, List, [], ◌∷◌, refl, ap, ap₂, sym, ◌∙◌, arith, inl, inr, bit_and, bit_or}
+use Rattle.std.proofs.Common.{◌≡◌, ◌↔◌, ℕ, ◌<◌, ◌≤◌, ◌-◌, ◌*◌, ◌/◌, ◌%◌, ◌^◌, suc, List, [], ◌∷◌, refl, ap, ap₂, sym, ◌∙◌, arith, inl, inr, bit_and, bit_or}
 use Rattle.std.specs.Prelude.{Bool, true, false, not, ◌&&◌, ◌||◌, ◌==◌, filter, cond, nat_lt}
 use Rattle.std.specs.Int.{bit_at, w128, trailing_zeros, leading_zeros}
-use Rattle.std.proofs.Math.Nat.{pow-suc}
 use Prim.Native.Nat.{min, max}
-use Rattle.std.proofs.lemmas.Nat.{leading_top, pow_pos, div_below, le-div, one_shl, or_lt, le_or_l, and_le_l}
+use Rattle.std.proofs.lemmas.Nat.{leading_top, pow_pos, one_shl, or_lt, le_or_l, and_le_l}
 use Rattle.std.proofs.lemmas.Nat.Bits.{bit_at_and, bit_at_or, bit_at-lt, bit_at-zero, bit_at_set_same, bit_at_set_other, bit_at_mask_inside, bit_at-trailing_zeros, bit_at_above, shr_and_one}
 use Rattle.std.proofs.lemmas.Bool.{cases_eq, cases_lt, cond_both, eq-eqb, ne_eqb, lt-ltb, le-ltb, eqb-true}
 use Rattle.xdg_domain.specs.Cards.{has, numbers_below, cards, IsCards, with_card, common}
 use Rattle.xdg_domain.specs.Bits.{is_set, members, number, same_number}
 use Rattle.xdg_domain.proofs.Rising.{numbers_agree, has_of, has_beyond, none_of, but, first_of, rises_of}
+use Rattle.xdg_listing.proofs.Numbers.{below_two}
+use Rattle.xdg_listing.proofs.Bits.{top_bit}
 
 -- no test both passes and fails
 pub apart : {A : Type 0} (t : Bool) → t ≡ true → t ≡ false → A
 apart true e f = absurd (omega (arith, ap {B = ℕ} (λ b. cond b 1 0) f))
 apart false e f = absurd (omega (arith, ap {B = ℕ} (λ b. cond b 1 0) e))
-
--- a bit is 0 or 1, so tests on two bits agree where they agree at these
-below_two : (x : ℕ) → x < 2 → (x ≡ 0) ⊎ (x ≡ 1)
-below_two x within = elim (cases_eq x 0) [ inl e ↦ inl e | inr other ↦ inr (omega (arith, within, other)) ]
 
 at_bits : (f g : ℕ → ℕ → Bool) → f 0 0 ≡ g 0 0 → f 0 1 ≡ g 0 1 → f 1 0 ≡ g 1 0 → f 1 1 ≡ g 1 1 → (x y : ℕ) → x < 2 → y < 2 → f x y ≡ g x y
 at_bits f g a b c d x y h k = elim (below_two x h) [
@@ -48,12 +45,6 @@ least_bit b some within =
       ],
       is.0,
     )
-
-top_bit : (b j : ℕ) → 2 ^ j ≤ b → b < 2 ^ suc j → b / 2 ^ j ≡ 1
-top_bit b j least most =
-    let low = le-div 1 b (2 ^ j) (pow_pos j) (omega (arith, least)) in
-    let high = div_below b (2 ^ j) 2 (pow_pos j) (omega (arith, most, pow-suc 2 j)) in
-    omega (arith, low, high)
 
 pub greatest_bit : (b : ℕ) → 0 < b → b < 2 ^ 128 → (has (members b) (127 - leading_zeros w128 b) ≡ true) × ((n : ℕ) → has (members b) n ≡ true → n ≤ 127 - leading_zeros w128 b) × (127 - leading_zeros w128 b < 128)
 greatest_bit b some within =

@@ -5,6 +5,7 @@ use Rattle.std.specs.List.Sorted.{IsStrictlyIncreasing}
 use Rattle.std.proofs.lemmas.List.{drop_more}
 use Rattle.std.proofs.lemmas.Bool.{cases_eq, ne_eqb}
 use Rattle.xdg_domain.specs.Cards.{has, Rises}
+use Rattle.xdg_listing.proofs.Truths.{and_false, or_false, or_assoc}
 
 -- the list rises strictly, from low on
 abbrev pub RisesFrom : ℕ → List ℕ → Type 0
@@ -48,14 +49,6 @@ rises_pushed low bound x (n ∷ s) (a, b, c) first above = (a, omega (arith, b, 
 rises_joined : (low bound : ℕ) (s t : List ℕ) → low ≤ bound → Rises low bound s → RisesFrom bound t → RisesFrom low (s ++ t)
 rises_joined low bound [] t order r more = rises_weaker low bound t order more
 rises_joined low bound (n ∷ s) t order (a, b, c) more = (a, rises_joined (n + 1) bound s t (omega (arith, b)) c more)
-
-or_false : (a : Bool) → (a || false) ≡ a
-or_false true = refl
-or_false false = refl
-
-or_assoc : (a b c : Bool) → ((a || b) || c) ≡ (a || (b || c))
-or_assoc true b c = refl
-or_assoc false b c = refl
 
 pub has_joined : (s t : List ℕ) (n : ℕ) → has (s ++ t) n ≡ (has s n || has t n)
 has_joined [] t n = refl
@@ -177,10 +170,6 @@ meeting_start xs ys h k = record {
   second = rises_of_increasing ys k;
   same = λ n. refl;
 }
-
-and_false : (t : Bool) → (t && false) ≡ false
-and_false true = refl
-and_false false = refl
 
 pass_first : (x n : ℕ) (a b : Bool) → (x ≡ n → b ≡ false) → (a && b) ≡ (((x == n) || a) && b)
 pass_first x n a b none = elim (cases_eq x n) [

@@ -13,6 +13,7 @@ use Rattle.xdg_domain.proofs.Rising.{has_of, has_beyond, rises_of, numbers_agree
 use Rattle.xdg_domain.proofs.Merging.{RisesFrom, rises_of_increasing, increasing_of_rises, absent}
 use Rattle.xdg_domain.proofs.Keyed.{says_exclusive, says_unique}
 use Rattle.xdg_domain.proofs.Merged.{merged_tells}
+use Rattle.xdg_listing.proofs.Truths.{and_false, or_true, and_swap, and_first, or_assoc}
 
 -- ---- rising lists
 
@@ -60,10 +61,6 @@ has_below bound (x ∷ s) n below h = elim (cases_eq x n) [
   | inr other ↦ has_below bound s n below.1 (sym (has_after x s n other) ∙ h)
 ]
 
-or_true : (a : Bool) → (a || true) ≡ true
-or_true true = refl
-or_true false = refl
-
 pub below_has : (bound : ℕ) (s : List ℕ) → ((n : ℕ) → has s n ≡ true → n < bound) → AllBelow bound s
 below_has bound [] below = tt
 below_has bound (x ∷ s) below = (below x (has_head x s x refl), below_has bound s (λ n h. below n (ap (λ t. (x == n) || t) h ∙ or_true (x == n))))
@@ -71,14 +68,6 @@ below_has bound (x ∷ s) below = (below x (has_head x s x refl), below_has boun
 or_cases : (a b : Bool) → (a || b) ≡ true → (a ≡ true) ⊎ (b ≡ true)
 or_cases true b h = inl refl
 or_cases false b h = inr h
-
-and_first : (a b : Bool) → (a && b) ≡ true → a ≡ true
-and_first true b h = refl
-and_first false b h = h
-
-and_false : (a : Bool) → (a && false) ≡ false
-and_false true = refl
-and_false false = refl
 
 pub union_below : (bound : ℕ) (a b c : List ℕ) → AllBelow bound a → AllBelow bound b → IsUnion a b c → AllBelow bound c
 union_below bound a b c h k u = below_has bound c (λ n t. elim (or_cases (has a n) (has b n) (sym (u.1 n) ∙ t)) [ inl i ↦ has_below bound a n h i | inr i ↦ has_below bound b n k i ])
@@ -119,16 +108,6 @@ or_swaps true false = refl
 or_swaps false true = refl
 or_swaps false false = refl
 
-and_swaps : (a b : Bool) → (a && b) ≡ (b && a)
-and_swaps true true = refl
-and_swaps true false = refl
-and_swaps false true = refl
-and_swaps false false = refl
-
-or_regroups : (a b c : Bool) → ((a || b) || c) ≡ (a || (b || c))
-or_regroups true b c = refl
-or_regroups false b c = refl
-
 and_regroups : (a b c : Bool) → ((a && b) && c) ≡ (a && (b && c))
 and_regroups true b c = refl
 and_regroups false b c = refl
@@ -137,10 +116,10 @@ pub union_commutes : (a b c : List ℕ) → IsUnion a b c → IsUnion b a c
 union_commutes a b c h = (h.0, λ n. h.1 n ∙ or_swaps (has a n) (has b n))
 
 pub meet_commutes : (a b c : List ℕ) → IsMeet a b c → IsMeet b a c
-meet_commutes a b c h = (h.0, λ n. h.1 n ∙ and_swaps (has a n) (has b n))
+meet_commutes a b c h = (h.0, λ n. h.1 n ∙ and_swap (has a n) (has b n))
 
 pub union_regroups : (a b c u v w : List ℕ) → IsUnion a b u → IsUnion u c w → IsUnion b c v → IsUnion a v w
-union_regroups a b c u v w h k l = (k.0, λ n. k.1 n ∙ ap (λ t. t || has c n) (h.1 n) ∙ or_regroups (has a n) (has b n) (has c n) ∙ ap (λ t. has a n || t) (sym (l.1 n)))
+union_regroups a b c u v w h k l = (k.0, λ n. k.1 n ∙ ap (λ t. t || has c n) (h.1 n) ∙ or_assoc (has a n) (has b n) (has c n) ∙ ap (λ t. has a n || t) (sym (l.1 n)))
 
 meets : (a b c u v w : List ℕ) → ((n : ℕ) → has u n ≡ (has a n && has b n)) → ((n : ℕ) → has w n ≡ (has u n && has c n)) → ((n : ℕ) → has v n ≡ (has b n && has c n)) → (n : ℕ) → has w n ≡ (has a n && has v n)
 meets a b c u v w h k l n = k n ∙ ap (λ t. t && has c n) (h n) ∙ and_regroups (has a n) (has b n) (has c n) ∙ ap (λ t. has a n && t) (sym (l n))
@@ -154,10 +133,10 @@ pub allows_unique : (a b c d : List ℕ) → AllowsBoth a b c → AllowsBoth a b
 allows_unique a b c d h k = (h.0).whole ∙ numbers_agree 128 (has c) (has d) (λ n below. h.1 n ∙ sym (k.1 n)) ∙ sym (k.0).whole
 
 pub allows_commutes : (a b c : List ℕ) → AllowsBoth a b c → AllowsBoth b a c
-allows_commutes a b c h = (h.0, λ n. h.1 n ∙ and_swaps (has a n) (has b n))
+allows_commutes a b c h = (h.0, λ n. h.1 n ∙ and_swap (has a n) (has b n))
 
 pub apart_commutes : (a b : List ℕ) → IsApart a b → IsApart b a
-apart_commutes a b h n = and_swaps (has b n) (has a n) ∙ h n
+apart_commutes a b h n = and_swap (has b n) (has a n) ∙ h n
 
 pub allows_regroups : (a b c u v w : List ℕ) → AllowsBoth a b u → AllowsBoth u c w → AllowsBoth b c v → AllowsBoth a v w
 allows_regroups a b c u v w h k l = (k.0, meets a b c u v w h.1 k.1 l.1)

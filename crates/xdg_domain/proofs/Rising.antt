@@ -1,18 +1,13 @@
 -- Rising lists of the numbers below a bound that pass a test.
 use Rattle.std.proofs.Common.{◌≡◌, ℕ, ◌<◌, ◌≤◌, ◌+◌, zero, suc, List, [], ◌∷◌, refl, ap, sym, ◌∙◌, arith, inl, inr, subst}
-use Rattle.std.specs.Prelude.{Bool, true, false, cond, not, ◌&&◌, ◌||◌, ◌==◌, filter}
+use Rattle.std.specs.Prelude.{Bool, true, false, not, ◌&&◌, ◌||◌, ◌==◌, filter}
 use Rattle.std.specs.List.{range_with_len}
 use Rattle.std.proofs.Math.Nat.{zero-add}
 use Rattle.std.proofs.lemmas.Bool.{cond_both, cond-true, cond-false, cases_eq, eq-eqb, ne_eqb}
 use Rattle.xdg_domain.specs.Cards.{has, numbers_below, Rises}
+use Rattle.xdg_listing.proofs.Truths.{none_in, agree_in}
 
 -- ---- two tests that agree
-
-agree_in : (p q : ℕ → Bool) (a n : ℕ) → ((k : ℕ) → a ≤ k → k < a + n → p k ≡ q k) → filter p (range_with_len a n) ≡ filter q (range_with_len a n)
-agree_in p q a zero same = refl
-agree_in p q a (suc n) same =
-    ap (λ t. cond t (a ∷ filter p (range_with_len (a + 1) n)) (filter p (range_with_len (a + 1) n))) (same a (omega arith) (omega arith))
-    ∙ ap (λ s. cond (q a) (a ∷ s) s) (agree_in p q (a + 1) n (λ k above below. same k (omega (arith, above)) (omega (arith, below))))
 
 pub numbers_agree : (bound : ℕ) (p q : ℕ → Bool) → ((k : ℕ) → k < bound → p k ≡ q k) → numbers_below bound p ≡ numbers_below bound q
 unfolding numbers_below
@@ -58,10 +53,6 @@ unfolding numbers_below
 has_beyond bound p k above = has_not_after p 0 bound k (omega (arith, above))
 
 -- ---- the first
-
-none_in : (p : ℕ → Bool) (a n : ℕ) → ((k : ℕ) → p k ≡ false) → filter p (range_with_len a n) ≡ []
-none_in p a zero none = refl
-none_in p a (suc n) none = cond-false (p a) (a ∷ filter p (range_with_len (a + 1) n)) (filter p (range_with_len (a + 1) n)) (none a) ∙ none_in p (a + 1) n none
 
 pub none_of : (bound : ℕ) (p : ℕ → Bool) → ((k : ℕ) → p k ≡ false) → numbers_below bound p ≡ []
 unfolding numbers_below

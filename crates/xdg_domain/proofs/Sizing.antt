@@ -9,6 +9,7 @@ use Rattle.xdg_domain.specs.declared.types.Ty.{Ty}
 use Rattle.xdg_domain.specs.Shapes.{domain, tuple, truth, integer, text, set, iset, card, valency, mapping, fields, Shapes, no_shape, shape_then, AreDomains, shape, sizes, constants, product}
 use Rattle.xdg_domain.specs.Values.{AllBelow}
 use Rattle.xdg_domain.specs.Sized.{sizes_of}
+use Rattle.xdg_listing.proofs.Numbers.{alone}
 
 pub length_sizes : (types : List Ty) → length (sizes_of types) ≡ length types
 length_sizes [] = refl
@@ -44,9 +45,6 @@ tuples_more types k t so_far size next most whole within is sized grown before =
     ∙ ap (λ m. min m most) (mul_assoc so_far s p)
     ∙ ap (λ ss. min (so_far * product ss) most) (sym (sizes_next types k t within is))
     ∙ before
-
-alone : (so_far most : ℕ) → so_far ≤ most → so_far ≡ min (so_far * 1) most
-alone so_far most within = omega (arith, within)
 
 pub tuples_done : (types : List Ty) (k so_far most whole : ℕ) → length types ≤ k → so_far ≤ most → min (so_far * product (sizes_of (drop k types))) most ≡ whole → so_far ≡ whole
 unfolding product

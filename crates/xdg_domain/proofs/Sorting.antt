@@ -1,6 +1,6 @@
 -- What stands in a list stays there when it is sorted and loses its repetitions.
 use Rattle.std.proofs.Common.{◌≡◌, ℕ, ◌<◌, ◌+◌, zero, suc, List, [], ◌∷◌, ◌++◌, length, get_or, refl, ap, sym, ◌∙◌, arith, inl, inr}
-use Rattle.std.specs.Prelude.{Bool, true, false, eqb, ◌||◌, ◌==◌}
+use Rattle.std.specs.Prelude.{true, false, eqb, ◌||◌, ◌==◌}
 use Rattle.std.specs.List.{range_with_len, Contains, dedup, list_any}
 use Rattle.std.specs.List.Sorted.{IsStrictlyIncreasing, IsPermutation}
 use Rattle.std.proofs.lemmas.List.Sorted.{IsPermutation-sym, Contains-permutation}
@@ -9,6 +9,7 @@ use Rattle.std.proofs.lemmas.Bool.{cases_eq, eq-eqb, ne_eqb}
 use Rattle.xdg_domain.specs.Cards.{has}
 use Rattle.xdg_domain.proofs.Masks.{apart}
 use Rattle.std.proofs.lemmas.List.FromFn.{length-range_with_len, get_or-range_with_len}
+use Rattle.xdg_listing.proofs.Truths.{or_true, same_flag}
 
 pub range_rises : (first count : ℕ) → IsStrictlyIncreasing (range_with_len first count)
 range_rises first count k h =
@@ -30,10 +31,6 @@ range_more count =
     let g : suc count ≡ count + 1 = omega arith in
     ap (λ n. range_with_len 0 count ++ n ∷ []) (sym e) ∙ grown 0 count ∙ ap (λ n. range_with_len 0 n) g
 
-or_true : (a : Bool) → (a || true) ≡ true
-or_true true = refl
-or_true false = refl
-
 contains_of_has : (s : List ℕ) (n : ℕ) → has s n ≡ true → Contains s n
 contains_of_has [] n stands = apart false stands refl
 contains_of_has (m ∷ s) n stands = elim (cases_eq m n) [
@@ -48,14 +45,8 @@ has_at [] n k h e = absurd (omega (arith, h))
 has_at (m ∷ s) n zero h e = ap (λ t. t || has s n) (eq-eqb m n e)
 has_at (m ∷ s) n (suc k) h e = ap (λ z. (m == n) || z) (has_at s n k (omega (arith, h)) e) ∙ or_true (m == n)
 
--- two tests that pass together are equal
-same_true : (a b : Bool) → (a ≡ true → b ≡ true) → (b ≡ true → a ≡ true) → a ≡ b
-same_true true b f g = sym (f refl)
-same_true false true f g = g refl
-same_true false false f g = refl
-
 same_members : (s t : List ℕ) (n : ℕ) → (Contains s n → Contains t n) → (Contains t n → Contains s n) → has s n ≡ has t n
-same_members s t n f g = same_true (has s n) (has t n)
+same_members s t n f g = same_flag (has s n) (has t n)
     (λ e. let c = f (contains_of_has s n e) in has_at t n c.0 c.1 c.2)
     (λ e. let c = g (contains_of_has t n e) in has_at s n c.0 c.1 c.2)
 

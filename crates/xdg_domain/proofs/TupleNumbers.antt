@@ -4,6 +4,7 @@ use Rattle.std.proofs.Math.Nat.{mul_comm, mul_assoc, mod-lt, div-lt_iff_lt-mul, 
 use Rattle.std.proofs.lemmas.Nat.{mul-add-lt, div-mul-add, mod-mul-add, div-add-mod'}
 use Rattle.xdg_domain.specs.Shapes.{product}
 use Rattle.xdg_domain.specs.Tuples.{index, places, InRange, TupleLaws}
+use Rattle.xdg_listing.proofs.Numbers.{some_after}
 
 -- ---- both ways
 
@@ -26,10 +27,6 @@ places_of_index (s ∷ ss) (n ∷ ns) within =
     ap₂ (λ (m : ℕ) (ms : List ℕ). m ∷ ms)
     (div-mul-add n (product ss) (index ss ns) below)
     (ap (places ss) (mod-mul-add n (product ss) (index ss ns) below) ∙ places_of_index ss ns within.1)
-
-some_after : (s m n : ℕ) → n < s * m → 0 < m
-some_after s zero n below = absurd (omega (arith, below))
-some_after s (suc m) n below = omega arith
 
 pub some_later : (s : ℕ) (ss : List ℕ) (n : ℕ) → n < product (s ∷ ss) → 0 < product ss
 unfolding product

@@ -9,18 +9,15 @@ use Rattle.xdg_ast.specs.Derives.{place_of}
 use Rattle.xdg_parse.proofs.Laws.{one}
 use Rattle.xdg_parse.proofs.EachKind.{kinds, each_of, each_kind, within}
 use Rattle.xdg_formula.specs.Words.{rule_word, all_word, some_word, edge_word, above_word, left_word, same_word, attr_word, feat_word, is_rule_constant, word_of, kind_in_rules, seen, seen_all}
+use Rattle.xdg_listing.proofs.Truths.{if_says}
 
 -- ---- the kinds that rules take
 
 abbrev pub is_taken : Kinds
 is_taken = is_rule_constant or is k.LeftParenthesis or is k.RightParenthesis or is k.LeftBracket or is k.RightBracket or is k.Colon or is k.Ampersand or is k.Bar or is k.Exclamation
 
-if-says : (a b : Bool) → (if a then b else true) ≡ true → a ≡ true → b ≡ true
-if-says true b h g = h
-if-says false b h g = absurd (cc)
-
 pub taken_by : (p : Kinds) → each_of (within p is_taken) kinds ≡ true → (kind : Kind) → p kind ≡ true → is_taken kind ≡ true
-taken_by p h kind g = if-says (p kind) (is_taken kind) (each_kind (within p is_taken) h kind) g
+taken_by p h kind g = if_says (p kind) (is_taken kind) (each_kind (within p is_taken) h kind) g
 
 -- ---- a token for each of them
 

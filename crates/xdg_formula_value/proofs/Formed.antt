@@ -17,12 +17,9 @@ use Rattle.xdg_rules.specs.Worths.{Makes, EachValue}
 use Rattle.xdg_problem.proofs.Claimed.{claim_not, claim_and, claim_or, claim_every, claim_any, claim_edge, claim_above, claim_left, claim_same, claim_attr, claim_feat}
 use Rattle.xdg_formula_value.specs.Pairs.{Relates, edges_for}
 use Rattle.xdg_formula_value.specs.Rows.{Over}
-use Rattle.xdg_formula_value.specs.declared.pair.Pair.{Pair}
 use Rattle.xdg_formula_value.specs.declared.pair.Pair.TheVariants as pairs
 use Rattle.xdg_formula_value.proofs.Fronts.{every_over, some_over}
-
-pub both_steps : {P Q R : Type 0} → P ↔ Q → Q ↔ R → P ↔ R
-both_steps first second = (λ p. second.0 (first.0 p), λ r. first.1 (second.1 r))
+use Rattle.xdg_listing.proofs.Facts.{both_steps}
 
 -- ---- what the parts of a formula name is there
 

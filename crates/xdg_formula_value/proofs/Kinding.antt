@@ -3,7 +3,7 @@ use Rattle.std.proofs.Common.{◌≡◌, ◌⊎◌, ℕ, ◌+◌, ◌<◌, ◌�
 use Rattle.std.specs.Int.{bit_at}
 use lib.Bits.{bit_or}
 use Rattle.std.proofs.lemmas.List.{take_all}
-use Rattle.std.proofs.lemmas.Nat.Bits.{bit_at_or, bit_at-lt, bit_at-pow_same}
+use Rattle.std.proofs.lemmas.Nat.Bits.{bit_at-pow_same}
 use Rattle.xdg_base.specs.declared.ids.AttrId.{AttrId}
 use Rattle.xdg_base.specs.declared.ids.DimId.{DimId}
 use Rattle.xdg_base.specs.declared.ids.LabelId.{LabelId}
@@ -16,16 +16,11 @@ use Rattle.xdg_problem.proofs.Claimed.{claim_not, claim_and, claim_or, claim_eve
 use Rattle.xdg_propcore.specs.Kinds.{entry_kind, attr_kind, edge_kind}
 use Rattle.xdg_formula_value.specs.ClaimKinds.{IsKindOf, SomeKindOf, HasKinds}
 use Rattle.xdg_formula_value.proofs.Fronts.{front_more}
+use Rattle.xdg_listing.proofs.Bits.{or_left_bit, has_right}
 
 -- a set has the kinds of some claims
 abbrev pub HasEach : List Formula → ℕ → Type 0
 HasEach fs wakes = (kind : ℕ) → SomeKindOf (claims_of (map claim fs)) kind → bit_at wakes kind ≡ 1
-
-or_left : (a b kind : ℕ) → bit_at a kind ≡ 1 → bit_at (bit_or a b) kind ≡ 1
-or_left a b kind h = (let e = bit_at_or a b kind in let l = bit_at-lt b kind in omega (arith, e, l, h))
-
-or_right : (a b kind : ℕ) → bit_at b kind ≡ 1 → bit_at (bit_or a b) kind ≡ 1
-or_right a b kind h = (let e = bit_at_or a b kind in let l = bit_at-lt a kind in omega (arith, e, l, h))
 
 split_kinds : (cs : List Claim) (c : Claim) (kind : ℕ) → SomeKindOf (claims_of (cs ++ c ∷ [])) kind → SomeKindOf (claims_of cs) kind ⊎ IsKindOf c kind
 split_kinds [] c kind k = elim k [ inl here ↦ inr here | inr later ↦ absurd later ]
@@ -41,8 +36,8 @@ each_none fs wakes kind k = absurd k
 -- one more
 pub each_more : (fs : List Formula) (i : ℕ) (f : Formula) (old here : ℕ) → i < length fs → f ≡ get_or fs i f → HasEach (take i fs) old → HasKinds (claim f) here → HasEach (take (i + 1) fs) (bit_or old here)
 each_more fs i f old here l is before one kind k = elim (split_kinds (map claim (take i fs)) (claim f) kind (subst (λ cs. SomeKindOf (claims_of cs) kind) (front_more fs i f l is) k)) [
-  | inl front ↦ or_left old here kind (before kind front)
-  | inr last ↦ or_right old here kind (one kind last)
+  | inl front ↦ or_left_bit old here kind (before kind front)
+  | inr last ↦ has_right old here kind (one kind last)
 ]
 
 module _ (formula : Formula) (wakes : ℕ) where
@@ -86,5 +81,6 @@ module _ (formula : Formula) (wakes : ℕ) where
   feat_kinds name table is bits = form_kinds (y.Feat name table) (fitting name table) is (claim_feat name table) (one_bit entry_kind bits)
 
 -- a dimension of the sentence is one of eight
+
 pub dim_few : (parts : Parts) (dim : ℕ) → IsProblem parts → dim < length parts.dims → dim < 8
 dim_few parts dim problem l = (let m = problem.dims_most in omega (arith, l, m))

@@ -3,8 +3,8 @@ use Rattle.std.proofs.Common.{◌≡◌, ◌↔◌, ◌⊎◌, ℕ, ◌+◌, ◌
 use Rattle.std.specs.Prelude.{not, ◌==◌, ◌||◌}
 use Rattle.std.proofs.lemmas.Bool.{cases_Bool, cases_eq, and_parts, and_from, eq-eqb, eqb-true, false≢true, false_from_ne_true, not_from_false, both_ways, not-true, or_cases}
 use Rattle.xdg_nodeset.specs.Nodes.{has}
-use Rattle.xdg_problem.proofs.Looking.{or_left, or_right}
 use Rattle.xdg_formula_value.specs.Rows.{IsEvery, Over}
+use Rattle.xdg_listing.proofs.Truths.{or_here, either_true}
 
 has_some : (s : List ℕ) (v : ℕ) → has s v ≡ true → 0 < length s
 has_some [] v there = absurd (false≢true there)
@@ -12,7 +12,7 @@ has_some (m ∷ s) v there = omega arith
 
 some_has : (s : List ℕ) → 0 < length s → (v : ℕ) × (has s v ≡ true)
 some_has [] some = absurd (omega (arith, some))
-some_has (m ∷ s) some = (m, or_left (m == m) (has s m) (eq-eqb m m refl))
+some_has (m ∷ s) some = (m, or_here (m == m) (has s m) (eq-eqb m m refl))
 
 -- no member is missing
 pub over_each : (n : ℕ) (all set rest : List ℕ) → IsEvery n all → ((v : ℕ) → has rest v ≡ (has all v && not (has set v))) → (length rest ≡ 0) ↔ Over true n (λ v. has set v ≡ true)
@@ -51,8 +51,8 @@ every_more k old new so_far is v = (
     | inr before ↦ (let l = (so_far v).0 before in omega (arith, l))
   ],
   λ l. is v ∙ elim (cases_eq v k) [
-    | inl here ↦ or_left (v == k) (has old v) (eq-eqb v k here)
-    | inr other ↦ or_right (v == k) (has old v) ((so_far v).1 (omega (arith, l, other)))
+    | inl here ↦ or_here (v == k) (has old v) (eq-eqb v k here)
+    | inr other ↦ either_true (v == k) (has old v) ((so_far v).1 (omega (arith, l, other)))
   ],
 )
 

@@ -1,5 +1,5 @@
 -- Bindings as tables.
-use Rattle.std.proofs.Common.{◌≡◌, ℕ, ◌<◌, inl, inr, zero, suc, Bool, true, false, cond, List, length, replicate, sym, ◌∙◌, ap, subst, refl}
+use Rattle.std.proofs.Common.{◌≡◌, ℕ, ◌<◌, inl, inr, cond, List, length, replicate, sym, ◌∙◌, ap, subst}
 use Rattle.std.specs.Prelude.{slice_index, slice_set, ◌==◌}
 use Rattle.std.proofs.lemmas.Bool.{cases_eq, eq-eqb, false_from_ne_true, eqb-true}
 use Rattle.std.proofs.lemmas.List.{get_or-set_same, get_or-set_other}
@@ -8,6 +8,7 @@ use Rattle.xdg_problem.specs.Places.{nodes}
 use Rattle.xdg_problem.specs.Truths.{bound, unbound}
 use Rattle.xdg_rules.specs.WorthLaws.{AreNodes}
 use Rattle.xdg_formula_value.specs.Rows.{stands}
+use Rattle.xdg_listing.proofs.Numbers.{zeros}
 
 bound_at : (table : List ℕ) (name node other : ℕ) → name < length table → stands (slice_set table name node) other ≡ bound (stands table) name node other
 bound_at table name node other within = elim (cases_eq other name) [
@@ -18,11 +19,6 @@ bound_at table name node other within = elim (cases_eq other name) [
 -- a table in which a node is written is the binding in which the name stands for it
 pub bound_table : (table : List ℕ) (name node : ℕ) → name < length table → stands (slice_set table name node) ≡ bound (stands table) name node
 bound_table table name node within = λ i other. bound_at table name node other within i
-
-zeros : (count name : ℕ) → slice_index (replicate count 0) name ≡ 0
-zeros zero name = refl
-zeros (suc count) zero = refl
-zeros (suc count) (suc name) = zeros count name
 
 -- a table of zeros binds no name
 pub unbound_table : (table : List ℕ) (count : ℕ) → table ≡ replicate count 0 → stands table ≡ unbound

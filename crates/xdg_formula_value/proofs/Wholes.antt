@@ -11,10 +11,11 @@ use Rattle.xdg_problem.specs.Truths.{bound}
 use Rattle.xdg_rules.specs.WorthLaws.{AreNodes}
 use Rattle.xdg_rules.specs.Worths.{Makes}
 use Rattle.xdg_formula_value.specs.Rows.{IsEvery, IsRowOn, Joined, Over}
-use Rattle.xdg_formula_value.proofs.Formed.{both_steps, not_makes, and_makes, or_makes, every_makes, any_makes}
+use Rattle.xdg_formula_value.proofs.Formed.{not_makes, and_makes, or_makes, every_makes, any_makes}
 use Rattle.xdg_formula_value.proofs.Fronts.{and_more, and_none, or_more, or_none}
 use Rattle.xdg_formula_value.proofs.Rowed.{joined_like, over_told}
 use Rattle.xdg_formula_value.proofs.Stood.{bound_back}
+use Rattle.xdg_listing.proofs.Facts.{both_steps}
 
 module _ (parts : Parts) (box : List (List Bool)) (truth : Bool) (b : ℕ → ℕ) where
   pub not_told : (formula f g : Formula) (result : Bool) → formula ≡ y.Not f → g ≡ f → IsTrue result ↔ Makes parts box (claim g) (not truth) b → IsTrue result ↔ Makes parts box (claim formula) truth b

@@ -1,5 +1,5 @@
 -- While a box loses values of other kinds than those at which a formula looks, it makes the formula no more than before.
-use Rattle.std.proofs.Common.{◌≡◌, ℕ, ◌<◌, inl, inr, Bool, true, false, ◌&&◌, List, length, refl, sym, ap, ap₂, ◌∙◌, arith, subst}
+use Rattle.std.proofs.Common.{◌≡◌, ℕ, inl, inr, Bool, true, false, ◌&&◌, List, refl, sym, ap, ap₂, ◌∙◌, arith, subst}
 use Rattle.std.specs.Prelude.{Contains, not, ◌==◌}
 use Rattle.std.specs.Int.{bit_at}
 use Rattle.std.proofs.lemmas.Bool.{cases_Bool, eqb-true, false≢true}
@@ -29,13 +29,10 @@ use Rattle.xdg_propcore.specs.Kinds.{kind_of, edge_kind}
 use Rattle.xdg_propcore.specs.Losses.{LosesOutside}
 use Rattle.xdg_propcore.specs.Uses.{IsClosedBy, StandsFor, use_at, no_use}
 use Rattle.xdg_propcore.proofs.DecisionKinds.{kind_of_entry, kind_of_attr, kind_of_edge}
-use Rattle.xdg_formula_value.specs.ClaimKinds.{IsKindOf, SomeKindOf, HasKinds}
+use Rattle.xdg_formula_value.specs.ClaimKinds.{SomeKindOf, HasKinds}
 use Rattle.xdg_formula_value.specs.Standing.{IsRule, HasKindsOf, stands_for}
 use Rattle.xdg_formula_value.specs.declared.rule_prop.RuleProp.{RuleProp}
-
-same_and : (on a c : Bool) → (on ≡ true → a ≡ c) → (on && a) ≡ (on && c)
-same_and true a c like = like refl
-same_and false a c like = refl
+use Rattle.xdg_listing.proofs.Truths.{same_and}
 
 same_test : (on a b c d : Bool) → (on ≡ true → a ≡ c) → (on ≡ true → b ≡ d) → (on && (a && not b)) ≡ (on && (c && not d))
 same_test true a b c d first second = ap₂ (λ x z. x && not z) (first refl) (second refl)

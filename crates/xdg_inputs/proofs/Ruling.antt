@@ -1,5 +1,5 @@
 -- A problem with rules.
-use Rattle.std.proofs.Common.{◌≡◌, ◌↔◌, ◌∙◌, ℕ, suc, ◌<◌, ◌≤◌, ◌+◌, List, [], ◌∷◌, ◌++◌, length, length-append, map, Ok, Err, refl, sym, ap, subst, arith}
+use Rattle.std.proofs.Common.{◌≡◌, ◌↔◌, ◌∙◌, ℕ, ◌<◌, ◌≤◌, List, [], ◌∷◌, length, length-append, map, Ok, Err, refl, sym, ap, subst, arith}
 use Rattle.std.specs.Prelude.{All, IfOk, Result}
 use Rattle.std.specs.List.{AllZip}
 use Rattle.std.proofs.lemmas.List.{append-nil, length-map}
@@ -35,6 +35,7 @@ use Rattle.xdg_problem.specs.Truths.{FormulaHolds}
 use Rattle.xdg_problem.proofs.FurtherLawful.{rule_relation, rules_lawful}
 use Rattle.xdg_problem.proofs.FurtherUses.{relation_still}
 use Rattle.xdg_inputs.specs.Ruled.{IsUseOf, KeepsRules, ruled}
+use Rattle.xdg_listing.proofs.Lists.{zip_length}
 
 -- ---- a problem is one of its grammar
 
@@ -150,12 +151,6 @@ made_keeps g rules parts formulas (Err stop) problem keeps e = tt
 -- an analysis stays one
 pub ruled_fits : (g : Grammar) (rules : List Rule) (parts made : Parts) (a b : Analysis) → KeepsRules g rules parts made → b ≡ a → IsAnalysis parts a → IsAnalysis made b
 ruled_fits g rules parts made a b keeps same fits = subst (IsAnalysis made) (sym same) ((keeps.fits a).1 fits)
-
-zip_length : {A B : Type 0} (R : A → B → Type 0) (xs : List A) (ys : List B) → AllZip R xs ys → length xs ≡ length ys
-zip_length R [] [] h = refl
-zip_length R [] (y ∷ ys) h = absurd h
-zip_length R (x ∷ xs) [] h = absurd h
-zip_length R (x ∷ xs) (y ∷ ys) h = ap suc (zip_length R xs ys h.1)
 
 -- there are no more rules than uses
 pub rules_few : (g : Grammar) (rules : List Rule) (parts made : Parts) → KeepsRules g rules parts made → length rules ≤ length made.groups

@@ -2,7 +2,6 @@
 use Rattle.std.proofs.Common.{◌≡◌, inl, inr, ℕ, ◌+◌, ◌<◌, ◌≤◌, Bool, List, [], length, Some, Ok, Err, refl, sym, ◌∙◌, ap, subst, arith}
 use Rattle.std.specs.Prelude.{◌≢◌, Option, Result, IsUtf8, IfOk, IfErr, MatchResult}
 use Rattle.std.specs.Str.{IsValidUpTo}
-use Rattle.std.proofs.lemmas.Str.{utf8_valid_len-IsValidUpTo}
 use Rattle.xdg_base.specs.declared.faults.Cause.TheVariants as causes
 use Rattle.xdg_base.specs.declared.faults.Fault.{Fault}
 use Rattle.xdg_base.specs.declared.faults.Stop.{Stop}
@@ -28,11 +27,9 @@ use Rattle.xdg_inputs.specs.declared.refusals.Refusal.{Refusal}
 use Rattle.xdg_inputs.specs.declared.refusals.Refusal.TheVariants as refusals
 use Rattle.xdg_inputs.proofs.Trees.{first_byte}
 use Rattle.xdg_inputs.proofs.Wording.{grammar_is}
+use Rattle.xdg_listing.proofs.Texts.{one_place}
 
 -- ---- one answer
-
-one_place : (text : List ℕ) (m n : ℕ) → IsValidUpTo text m → IsValidUpTo text n → m ≡ n
-one_place text m n v w = sym (utf8_valid_len-IsValidUpTo text m v) ∙ utf8_valid_len-IsValidUpTo text n w
 
 sentence_or_not : (g : Grammar) (segment : Bool) (input : List ℕ) (f : Fault) → IsSentence g segment input → IsNoSentence g segment input f → ⊥
 sentence_or_not g segment input f s (too_long long e) = let w = s.within in omega (arith, w, long)
@@ -113,6 +110,7 @@ module _ (made : Expanded) (lexicon : Lexicon) (packed : IsPackedOf made lexicon
 -- ---- what a source gives
 
 -- no count rises from zero to zero
+
 still : Rose 0 0 → ⊥
 still (inl less) = omega (arith, less)
 still (inr full) = omega (arith, full)

@@ -1,8 +1,9 @@
 -- How the pieces that are read one after the other join.
-use Rattle.std.proofs.Common.{◌≡◌, ◌<◌, ◌≤◌, ◌+◌, ◌-◌, ◌++◌, ℕ, List, Option, None, Some, [], ◌∷◌, length, take, drop, refl, sym, ap, ap₂, min, ◌↔◌, ◌∙◌, subst, arith}
+use Rattle.std.proofs.Common.{◌≡◌, ◌<◌, ◌≤◌, ◌+◌, ◌-◌, ◌++◌, ℕ, List, Option, None, Some, [], length, take, drop, refl, sym, ap, ap₂, min, ◌↔◌, ◌∙◌, subst, arith}
 use Rattle.std.proofs.lemmas.List.{append_assoc, append-nil, length-append, take-append-drop, drop-drop}
 use Rattle.std.specs.Io.KnownBytes.{prepend_known}
 use Rattle.xdg_io.specs.Left.{Takes, TakesAll, TakesCount, TakesUpTo, EndsAt, GivesPiece, ReadSoFar}
+use Rattle.xdg_listing.proofs.Lists.{empty_list}
 
 known_both : (c : Option (List ℕ)) (x y : List ℕ) → prepend_known x (prepend_known y c) ≡ prepend_known (x ++ y) c
 known_both None x y = refl
@@ -37,11 +38,6 @@ ended a (Some left) bytes takes end =
     let empty : left ≡ [] = end.0 refl in
     let all : a ≡ Some bytes = takes.is ∙ ap (λ z. Some (bytes ++ z)) empty ∙ ap Some (append-nil bytes) in
     subst (λ z. TakesAll z (Some left) bytes) (sym all) (refl, ap Some empty)
-
--- a list of no length is the empty list
-empty_list : (xs : List ℕ) → length xs ≡ 0 → xs ≡ []
-empty_list [] none = refl
-empty_list (x ∷ xs) none = absurd (omega (arith, none))
 
 pub read_all_of : {a b c : Option (List ℕ)} {before after : List ℕ} {limit count : ℕ} → ReadSoFar a b before limit → GivesPiece b c before after count → count ≡ 0 → TakesAll a c after
 read_all_of {a} {b} {c} {before} {after} {limit} {count} so_far given none =

@@ -1,5 +1,5 @@
 -- What tables of edges and paths say of atoms.
-use Rattle.std.proofs.Common.{◌≡◌, ◌↔◌, ℕ, ◌+◌, ◌<◌, ◌≤◌, inl, inr, Bool, true, false, List, [], ◌∷◌, length, get_or, sym, ap, ◌∙◌, subst, arith, refl}
+use Rattle.std.proofs.Common.{◌≡◌, ◌↔◌, ℕ, ◌+◌, ◌<◌, ◌≤◌, inl, inr, Bool, false, List, [], ◌∷◌, length, sym, ap, ◌∙◌, subst, arith}
 use Rattle.std.specs.Prelude.{IsTrue, All, Contains, Some, None, slice_get, slice_index_or, slice_set, ◌==◌}
 use Rattle.std.proofs.lemmas.Bool.{cases_eq, eqb-true, false≢true}
 use Rattle.std.proofs.lemmas.List.{get_or-set_same, get_or-set_other}
@@ -20,6 +20,7 @@ use Rattle.xdg_judge.specs.Graphs.{AreGraphs, IsReady}
 use Rattle.xdg_judge.specs.Links.{AreNeighbours}
 use Rattle.xdg_nodeset.specs.Tables.{In, InBy}
 use Rattle.xdg_listing.proofs.Lookups.{read_none, read_some}
+use Rattle.xdg_listing.proofs.Facts.{then_iff}
 
 -- no edge is of a dimension that the problem lacks
 
@@ -45,9 +46,6 @@ pub no_path : (parts : Parts) (analysis : Analysis) (tables : List Neighbours) (
 no_path parts analysis tables dim u v ready past = not_told _ (λ above. (let first = first_along (edges_on dim analysis.edges) above.path above.some above.along in on_dim parts analysis dim first.0 ready.fits past first.1))
 
 -- the tables of the others
-
-then_iff : (A B C : Type 0) → A ↔ B → B ↔ C → A ↔ C
-then_iff A B C f g = (λ a. g.0 (f.0 a), λ c. f.1 (g.1 c))
 
 table_is : (parts : Parts) (analysis : Analysis) (tables : List Neighbours) (table : Neighbours) (dim : ℕ) → IsReady parts analysis tables → dim < length parts.dims → table ≡ slice_index_or tables dim table → AreNeighbours directions.Down (edges_on dim analysis.edges) table
 table_is parts analysis tables table dim ready within is = subst (AreNeighbours directions.Down (edges_on dim analysis.edges)) (sym is) (ready.graphs dim table within)

@@ -1,7 +1,7 @@
 -- When formulas are true, form by form.
-use Rattle.std.proofs.Common.{◌≡◌, ◌↔◌, ◌⊎◌, ℕ, ◌+◌, ◌<◌, ◌≤◌, inl, inr, zero, suc, Bool, true, false, List, [], ◌∷◌, ◌++◌, length, map, take, get_or, refl, sym, ◌∙◌, ap, subst, arith}
+use Rattle.std.proofs.Common.{◌≡◌, ◌↔◌, ℕ, ◌+◌, ◌<◌, ◌≤◌, inl, inr, zero, suc, Bool, true, false, List, [], ◌∷◌, ◌++◌, length, map, take, get_or, refl, sym, ◌∙◌, ap, subst, arith}
 use Rattle.std.specs.Prelude.{IsTrue, not}
-use Rattle.std.proofs.lemmas.Bool.{cases_eq, false≢true}
+use Rattle.std.proofs.lemmas.Bool.{false≢true}
 use Rattle.std.proofs.lemmas.List.{take_all, take_more, map-append}
 use Rattle.xdg_problem.specs.declared.analysis.Analysis.{Analysis}
 use Rattle.xdg_problem.specs.declared.formula.Formula.{Formula}
@@ -11,6 +11,7 @@ use Rattle.xdg_problem.specs.Claims.{Claim, negation, conjunction, disjunction, 
 use Rattle.xdg_problem.specs.Places.{nodes}
 use Rattle.xdg_problem.specs.Truths.{bound, unbound, IsTrueIn, FormulaHolds}
 use Rattle.xdg_problem.proofs.Claimed.{claim_not, claim_and, claim_or, claim_every, claim_any}
+use Rattle.xdg_listing.proofs.Numbers.{all_next}
 
 turned : (result : Bool) (P : Type 0) → IsTrue result ↔ P → IsTrue (not result) ↔ (P → ⊥)
 turned true P told = (λ t. absurd (false≢true t), λ none. absurd (none (told.0 refl)))
@@ -21,9 +22,6 @@ refused result P Q fails told to = (λ t. absurd (false≢true t), λ q. absurd 
 
 found : (result : Bool) (P Q : Type 0) → result ≡ true → IsTrue result ↔ P → (P → Q) → IsTrue true ↔ Q
 found result P Q holds told to = (λ t. to (told.0 holds), λ q. refl)
-
-one_more : (P : ℕ → Type 0) (k : ℕ) → ((node : ℕ) → node < k → P node) → P k → (node : ℕ) → node < k + 1 → P node
-one_more P k all last node l = elim (cases_eq node k) [ inl same ↦ subst P (sym same) last | inr other ↦ all node (omega (arith, l, other)) ]
 
 -- one more of the first formulas
 front_more : (fs : List Formula) (i : ℕ) (f : Formula) → i < length fs → f ≡ get_or fs i f → map claim (take (i + 1) fs) ≡ map claim (take i fs) ++ claim f ∷ []
@@ -116,10 +114,10 @@ module _ (parts : Parts) (analysis : Analysis) (b : ℕ → ℕ) where
     at_of name node f g c result same bind told = subst (λ h. IsTrue result ↔ At name h node) same (inside name node g c result bind told)
 
     pub every_turn : (name : ℕ) (f g : Formula) (k : ℕ) (c : ℕ → ℕ) (result : Bool) → EachBelow name f k → g ≡ f → c ≡ bound b name k → IsTrue result ↔ IsTrueIn parts analysis (claim g) c → result ≡ true → EachBelow name f (k + 1)
-    every_turn name f g k c result all same bind told holds = one_more (At name f) k all ((at_of name k f g c result same bind told).0 holds)
+    every_turn name f g k c result all same bind told holds = all_next (At name f) k all ((at_of name k f g c result same bind told).0 holds)
 
     pub any_turn : (name : ℕ) (f g : Formula) (k : ℕ) (c : ℕ → ℕ) (result : Bool) → NoneBelow name f k → g ≡ f → c ≡ bound b name k → IsTrue result ↔ IsTrueIn parts analysis (claim g) c → result ≡ false → NoneBelow name f (k + 1)
-    any_turn name f g k c result none same bind told fails = one_more (λ node. At name f node → ⊥) k none (λ t. false≢true (sym fails ∙ (at_of name k f g c result same bind told).1 t))
+    any_turn name f g k c result none same bind told fails = all_next (λ node. At name f node → ⊥) k none (λ t. false≢true (sym fails ∙ (at_of name k f g c result same bind told).1 t))
 
     pub every_refused : (name : ℕ) (f g : Formula) (k : ℕ) (c : ℕ → ℕ) (result : Bool) → formula ≡ y.Every name f → g ≡ f → k < nodes parts → c ≡ bound b name k → IsTrue result ↔ IsTrueIn parts analysis (claim g) c → result ≡ false → IsTrue false ↔ T (claim formula)
     every_refused name f g k c result is same l bind told fails =
@@ -139,5 +137,6 @@ module _ (parts : Parts) (analysis : Analysis) (b : ℕ → ℕ) where
         (λ t. absurd (false≢true t), λ one. absurd (none one.0 (let l = one.1 in omega (arith, l, past)) one.2))
 
 -- no name is bound at first
+
 pub holds_unbound : (parts : Parts) (analysis : Analysis) (formula : Formula) (b : ℕ → ℕ) (result : Bool) → b ≡ unbound → IsTrue result ↔ IsTrueIn parts analysis (claim formula) b → IsTrue result ↔ FormulaHolds parts analysis formula
 holds_unbound parts analysis formula b result is told = subst (λ c. IsTrue result ↔ IsTrueIn parts analysis (claim formula) c) is told

@@ -1,8 +1,8 @@
 -- From what a search finds to verdicts.
-use Rattle.std.proofs.Common.{◌≡◌, ◌≢◌, ℕ, ◌+◌, ◌<◌, ◌≤◌, ◌↔◌, inl, inr, false, List, [], ◌∷◌, ◌++◌, length, take, get_or, refl, ap, sym, ◌∙◌, subst, arith}
+use Rattle.std.proofs.Common.{◌≡◌, ◌≢◌, ℕ, ◌+◌, ◌<◌, ◌≤◌, ◌↔◌, inl, false, List, [], ◌∷◌, ◌++◌, length, take, get_or, refl, ap, sym, ◌∙◌, subst, arith}
 use Rattle.std.specs.Prelude.{IsTrue, All, slice_index}
 use Rattle.std.specs.List.{AllZip}
-use Rattle.std.proofs.lemmas.Bool.{cases_eq, false≢true}
+use Rattle.std.proofs.lemmas.Bool.{false≢true}
 use Rattle.std.proofs.lemmas.List.{take_all, take_more, get_or-take, get_or_default, length-take}
 use Rattle.xdg_problem.specs.declared.analysis.Analysis.{Analysis}
 use Rattle.xdg_problem.specs.declared.analysis.Edge.{Edge}
@@ -20,11 +20,9 @@ use Rattle.xdg_judge.specs.Searching.{IsSearched, tuple_for, second_size, third_
 use Rattle.xdg_judge.specs.Verdicts.{AsksHere, IsOfWhole, IsKeptHere, IsLeastBroken, IsVerdict}
 use Rattle.xdg_judge.specs.declared.verdict.Verdict.{Verdict}
 use Rattle.xdg_judge.proofs.Least.{kept_of, least_of}
+use Rattle.xdg_listing.proofs.Lists.{zip_more as zip_push}
 
 -- what holds of each number below one, and of the one
-
-pub less_more : (Q : ℕ → Type 0) (i : ℕ) → ((k : ℕ) → k < i → Q k) → Q i → (k : ℕ) → k < i + 1 → Q k
-less_more Q i h q k l = elim (cases_eq k i) [ inl e ↦ subst Q (sym e) q | inr ne ↦ h k (omega (arith, l, ne)) ]
 
 pub less_all : (Q : ℕ → Type 0) (i n : ℕ) → ((k : ℕ) → k < i → Q k) → n ≤ i → (k : ℕ) → k < n → Q k
 less_all Q i n h le k l = h k (omega (arith, l, le))
@@ -113,12 +111,6 @@ all_kept parts group analysis list i e kept l = subst (All (IsKeptHere parts gro
 
 pub not_related : (parts : Parts) (group : Group) (analysis : Analysis) (condition : Condition) (tuple : List ℕ) → IsFirstBroken parts group analysis condition tuple → Relation parts group analysis → ⊥
 not_related parts group analysis condition tuple b r = b.breaks.fails (subst (IsKeptHere parts group analysis) b.is (r b.place condition b.within) tuple b.breaks.within)
-
-pub zip_push : {A B : Type 0} (R : A → B → Type 0) (xs : List A) (ys : List B) (x : A) (y : B) → AllZip R xs ys → R x y → AllZip R (xs ++ x ∷ []) (ys ++ y ∷ [])
-zip_push R [] [] x y z r = (r, tt)
-zip_push R [] (b ∷ ys) x y z r = absurd z
-zip_push R (a ∷ xs) [] x y z r = absurd z
-zip_push R (a ∷ xs) (b ∷ ys) x y z r = (z.0, zip_push R xs ys x y z.1 r)
 
 pub zip_more : (parts : Parts) (analysis : Analysis) (groups : List Group) (i : ℕ) (g : Group) (vs : List Verdict) (v : Verdict) → i < length groups → g ≡ get_or groups i g → AllZip (IsVerdict parts analysis) (take i groups) vs → IsVerdict parts analysis g v → AllZip (IsVerdict parts analysis) (take (i + 1) groups) (vs ++ v ∷ [])
 zip_more parts analysis groups i g vs v l at z r =

@@ -1,5 +1,5 @@
 -- The reading of one piece, whatever is behind it.
-use Rattle.std.proofs.Common.{◌≡◌, ℕ, ◌+◌, ◌-◌, ◌*◌, ◌<◌, ◌≤◌, ◌==◌, Bool, true, false, not, Option, Some, None, Ok, Err, List, [], ◌∷◌, ◌++◌, length, refl, sym, ◌∙◌, ap, arith, append_assoc, append-nil, length-append}
+use Rattle.std.proofs.Common.{◌≡◌, ℕ, ◌+◌, ◌-◌, ◌*◌, ◌<◌, ◌≤◌, ◌==◌, Bool, true, false, Option, Some, None, Ok, Err, List, [], ◌∷◌, ◌++◌, length, refl, sym, ◌∙◌, ap, arith, append_assoc, append-nil, length-append}
 use Rattle.std.specs.Prelude.{if◌then◌else◌, nat_le, unwrap_or}
 use Rattle.std.specs.Char.{is_ascii_digit, len_utf8, encode_utf8}
 use Rattle.std.specs.Str.{encode_utf8_all}
@@ -15,6 +15,7 @@ use Rattle.xdg_lex.specs.Pieces.{goes_on, digit_goes_on, quoted_goes_on, escape_
 use Rattle.xdg_lex.specs.Lexed.{Lexed, run, ended, begun, turned}
 use Rattle.xdg_ast.specs.Tokenizes.{size_of, EachPasses, StopsBefore, HasNoClose, IsInside, nothing, plain, escaped, stray, value_after, greatest_number, is_slash, is_no_line_feed, is_escapable}
 use Rattle.xdg_lex.proofs.Steps.{run-nil, run-cons, before_none}
+use Rattle.xdg_listing.proofs.Truths.{from_not}
 
 -- what characters that begin at a place give
 abbrev pub Reads : ℕ → List ℕ → Lexed → Type 0
@@ -98,9 +99,6 @@ slash_stops at (c ∷ cs) stops = cond-false (c == 42) _ _ stops
 pub slash_goes : (at : ℕ) → goes_on in_.Slash at 42 ≡ turns.GoesOn in_.Comment
 unfolding goes_on
 slash_goes at = refl
-
-from_not : (b : Bool) → not b ≡ true → b ≡ false
-from_not b e = grind (arith, e)
 
 pub line_goes : (at c : ℕ) → is_no_line_feed c ≡ true → goes_on in_.LineComment at c ≡ turns.GoesOn in_.LineComment
 unfolding goes_on

@@ -1,5 +1,5 @@
 -- Entries added one by one, without those that stand there already.
-use Rattle.std.proofs.Common.{◌≡◌, inl, inr, ℕ, zero, suc, ◌+◌, ◌<◌, ◌≤◌, length, get_or, drop, add-one, drop-cons, List, [], ◌∷◌, ◌++◌, Option, None, Some, refl, sym, ap, ap₂, ◌∙◌, subst, arith}
+use Rattle.std.proofs.Common.{◌≡◌, inl, inr, ℕ, zero, suc, ◌+◌, ◌<◌, ◌≤◌, length, get_or, drop, List, [], ◌∷◌, ◌++◌, Option, None, Some, refl, sym, ap, ap₂, ◌∙◌, subst, arith}
 use Rattle.std.proofs.lemmas.List.{drop_all}
 use Rattle.xdg_names.specs.First.{In}
 use Rattle.xdg_types.specs.Table.{Table}
@@ -7,6 +7,7 @@ use Rattle.xdg_packed.specs.Lexicon.{Entry}
 use Rattle.xdg_lexicon.specs.Partial.{Partial}
 use Rattle.xdg_lexicon.specs.Growing.{Puts}
 use Rattle.xdg_lexicon.specs.Lexicon.{whole, AreWhole, Adds, nothing_more, known_before, new}
+use Rattle.xdg_listing.proofs.Lists.{from_place}
 
 -- ---- what is added is told
 
@@ -44,9 +45,6 @@ none_lacks table (q ∷ ps) (e ∷ es) p a stands none = elim stands [
 
 -- ---- one after the other
 
-front : {X : Type 0} (xs : List X) (k : ℕ) (x : X) → k < length xs → x ≡ get_or xs k x → drop k xs ≡ x ∷ drop (k + 1) xs
-front xs k x within is = rw (add-one, drop-cons xs k x) (ap (λ y. y ∷ drop (suc k) xs) (sym is))
-
 pub in_at : {X : Type 0} (xs : List X) (k : ℕ) (x : X) → k < length xs → x ≡ get_or xs k x → In xs x
 in_at [] k x within is = absurd (omega (arith, within))
 in_at (y ∷ xs) zero x within is = inl (sym is)
@@ -67,7 +65,7 @@ module _ (table : Table) (known : List Entry) (ps : List Partial) where
 
   pub adds_further : (i : ℕ) (now next : List Entry) (p : Partial) (e : Entry) → i < length ps → p ≡ get_or ps i p → whole table p ≡ Some e → Puts now e next → AddsSoFar table known ps i now → AddsSoFar table known ps (i + 1) next
   adds_further i now next p e within is made puts so_far rest all w a =
-      so_far (e ∷ rest) all (subst (λ l. AreWhole table l (e ∷ rest)) (sym (front ps i p within is)) (made, w)) (put_first now next rest all e puts a)
+      so_far (e ∷ rest) all (subst (λ l. AreWhole table l (e ∷ rest)) (sym (from_place ps i p within is)) (made, w)) (put_first now next rest all e puts a)
 
   pub adds_done : (i : ℕ) (now : List Entry) → length ps ≤ i → AddsSoFar table known ps i now → (made : List Entry) × (AreWhole table ps made × Adds known made now)
   adds_done i now past so_far = so_far [] now (subst (λ l. AreWhole table l []) (sym (drop_all i ps past)) tt) (nothing_more now)

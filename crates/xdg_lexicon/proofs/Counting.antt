@@ -6,9 +6,9 @@ use Rattle.xdg_names.specs.Texts.{place_of}
 use Rattle.xdg_names.proofs.Texts.{place_of-Some}
 use Rattle.xdg_packed.specs.Lexicon.{number, numbers_of, places_of}
 use Rattle.xdg_packed.specs.Words.{IsWordIndex}
-use Rattle.xdg_packed.proofs.Packs.{any_default}
 use Rattle.xdg_packed.proofs.WordLists.{known_word, new_word, index_none, word_unknown}
 use Rattle.xdg_lexicon.specs.Growing.{IsWordCount}
+use Rattle.xdg_listing.proofs.Lists.{any_default}
 
 -- ---- lengths
 

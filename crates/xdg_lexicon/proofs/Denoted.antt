@@ -1,6 +1,5 @@
 -- What a body denotes, form by form.
-use Rattle.std.proofs.Common.{◌≡◌, ℕ, suc, ◌<◌, ◌≤◌, ◌+◌, ◌-◌, List, [], ◌∷◌, ◌++◌, length, drop, get_or, ap, sym, ◌∙◌, arith, subst, append_assoc, add-one, drop-cons, Option}
-use Rattle.std.specs.Prelude.{Result, Ok, Err, IfOk}
+use Rattle.std.proofs.Common.{◌≡◌, ℕ, ◌<◌, ◌≤◌, ◌+◌, ◌-◌, List, [], ◌∷◌, ◌++◌, length, drop, get_or, ap, sym, ◌∙◌, arith, subst, append_assoc, Option}
 use Rattle.std.proofs.lemmas.List.{drop_all, get_or_default}
 use Rattle.xdg_ast.specs.declared.names.Name.{Name}
 use Rattle.xdg_ast.specs.declared.expressions.ExprKind.{ExprKind}
@@ -14,9 +13,7 @@ use Rattle.xdg_lexicon.specs.Denotes as den
 use Rattle.xdg_lexicon.specs.Denotes.{JoinsAll, Denotes, DenotesBoth, DenotesEither}
 use Rattle.xdg_lexicon.specs.Frames.{EitherSoFar, BothSoFar}
 use Rattle.xdg_lexicon.specs.Partial.{Partial, ArePartial, SaysRecord, nothing}
-
-pub front : {X : Type 0} (xs : List X) (k : ℕ) (x : X) → k < length xs → x ≡ get_or xs k x → drop k xs ≡ x ∷ drop (k + 1) xs
-front xs k x within is = rw (add-one, drop-cons xs k x) (ap (λ y. y ∷ drop (suc k) xs) (sym is))
+use Rattle.xdg_listing.proofs.Lists.{from_place}
 
 -- ---- records and uses
 
@@ -43,7 +40,7 @@ module _ (checked : Parts) (bs : Bindings) (items : List Expr) (i : ℕ) (made :
   pub either_further : (e : Expr) (ms new : List Partial) → i < length items → e ≡ get_or items i e → new ≡ made ++ ms → Denotes checked.types.dims (named_bodies checked.classes) bs (body e.kind) ms → EitherSoFar checked bs items i made → EitherSoFar checked bs items (i + 1) new
   either_further e ms new within is grown d so_far ns more =
       subst (DenotesEither checked.types.dims (named_bodies checked.classes) bs (trees items)) (sym (ap (λ l. l ++ ns) grown ∙ append_assoc made ms ns))
-      (so_far (ms ++ ns) (subst (λ l. DenotesEither checked.types.dims (named_bodies checked.classes) bs (trees l) (ms ++ ns)) (sym (front items i e within is)) (den.list_first bs (body e.kind) (trees (drop (i + 1) items)) ms ns d more)))
+      (so_far (ms ++ ns) (subst (λ l. DenotesEither checked.types.dims (named_bodies checked.classes) bs (trees l) (ms ++ ns)) (sym (from_place items i e within is)) (den.list_first bs (body e.kind) (trees (drop (i + 1) items)) ms ns d more)))
 
   pub either_denotes : length items ≤ i → EitherSoFar checked bs items i made → Denotes checked.types.dims (named_bodies checked.classes) bs (either (trees items)) made
   either_denotes past so_far =
@@ -71,7 +68,7 @@ module _ (checked : Parts) (bs : Bindings) (items : List Expr) where
       let next : (left - 1) + 1 ≡ left = omega (arith, some) in (
         omega (arith, inside),
         (
-          subst (λ l. DenotesBoth checked.types.dims (named_bodies checked.classes) bs (trees l) new) (sym (front items (left - 1) e inside is))
+          subst (λ l. DenotesBoth checked.types.dims (named_bodies checked.classes) bs (trees l) new) (sym (from_place items (left - 1) e inside is))
               (den.join_first bs (body e.kind) (trees (drop ((left - 1) + 1) items)) ms made new d (subst (λ n. DenotesBoth checked.types.dims (named_bodies checked.classes) bs (trees (drop n items)) made) (sym next) so_far.1.0) joins),
           right,
         ),
@@ -82,7 +79,3 @@ module _ (checked : Parts) (bs : Bindings) (items : List Expr) where
       den.conjunction bs (trees items) made (subst (λ n. DenotesBoth checked.types.dims (named_bodies checked.classes) bs (trees (drop n items)) made) none so_far.1.0)
 
 -- ---- answers
-
-pub if_ok : {A E : Type 0} (P Q : A → Type 0) (r : Result A E) → ((a : A) → P a → Q a) → IfOk r P → IfOk r Q
-if_ok P Q (Ok a) f h = f a h
-if_ok P Q (Err e) f h = tt

@@ -1,13 +1,12 @@
 -- A term means one value at most where a type is wanted, and a record says one thing of each dimension.
 use Rattle.std.proofs.Common.{◌≡◌, ◌⊎◌, inl, inr, ℕ, ◌<◌, zero, suc, List, [], ◌∷◌, length, get_or, Option, Some, None, refl, sym, ap, ap₂, ◌∙◌, subst, arith, codes}
-use Rattle.std.specs.Prelude.{Bool, true, false, bytes_eq, ◌↔◌, ◌&&◌}
+use Rattle.std.specs.Prelude.{Bool, true, false, bytes_eq, ◌&&◌}
 use Rattle.std.proofs.lemmas.Bool.{true≢false}
 use Rattle.xdg_ast.specs.declared.names.Name.{Name}
 use Rattle.xdg_domain.specs.Cards.{has}
-use Rattle.xdg_domain.specs.Shapes as d
 use Rattle.xdg_domain.specs.Shapes.{Shape, domain, tuple, truth, integer, text, set, iset, card, valency, mapping, fields, Shapes, no_shape, shape_then, Fields, no_field, field_then, sizes, constants, constants_of, Among, Differ, IsDomain, AreDomains, IsType, AreTypes}
 use Rattle.xdg_domain.specs.Tuples.{index, places, InRange}
-use Rattle.xdg_domain.specs.Valencies.{said_at, KeysRise}
+use Rattle.xdg_domain.specs.Valencies.{said_at}
 use Rattle.xdg_domain.specs.declared.values.Value.{Value, out-Value}
 use Rattle.xdg_domain.specs.declared.values.Value.TheOpen.{Value-F}
 use Rattle.xdg_domain.proofs.Keyed.{said_same}
@@ -16,13 +15,14 @@ use Rattle.xdg_domain.proofs.TupleNumbers.{index_of_places, places_in_range}
 use Rattle.xdg_terms.specs.Forms.{Term, Card, Bindings, bound, counts_of, pairs_of}
 use Rattle.xdg_terms.specs.Offences.{all_told}
 use Rattle.xdg_terms.specs.Means.{texts_of, chosen, truth_text, AllowedBy, written_for, written_at, Said, MeansIn, MeansField}
-use Rattle.xdg_terms.proofs.Has.{same_text, text_same}
 use Rattle.xdg_types.specs.Table.{KeepDims}
 use Rattle.xdg_types.specs.declared.table.DimType.{DimType}
 use Rattle.xdg_classes.specs.Bodies.{Pairs}
 use Rattle.xdg_lexicon.specs.Partial.{Record, Partial, features, SaysFields, SaysRecord, written}
 use Rattle.xdg_lexicon.proofs.Dims.{types_of, keeps_at}
 use Rattle.xdg_lexicon.proofs.OneJoin.{same_out, same_items, dim_at}
+use Rattle.xdg_listing.proofs.Truths.{same_flag}
+use Rattle.xdg_listing.proofs.Texts.{same_text, is_same}
 
 -- ---- places of constants
 
@@ -58,8 +58,8 @@ same_chosen (shape_then s ss) (m ∷ ms) (n ∷ ns) h r q e =
 one_truth : (a b : Bool) → truth_text a ≡ truth_text b → a ≡ b
 one_truth true true e = refl
 one_truth false false e = refl
-one_truth true false e = absurd (true≢false (sym (text_same (codes "true") (codes "false") e)))
-one_truth false true e = absurd (true≢false (sym (text_same (codes "false") (codes "true") e)))
+one_truth true false e = absurd (true≢false (sym (is_same (codes "true") (codes "false") e)))
+one_truth false true e = absurd (true≢false (sym (is_same (codes "false") (codes "true") e)))
 
 and_self : (b : Bool) → (b && b) ≡ b
 and_self true = refl
@@ -67,11 +67,6 @@ and_self false = refl
 
 one_allowed : (written : Card) (a b : List ℕ) → AllowedBy written a → AllowedBy written b → a ≡ b
 one_allowed written a b h k = allows_unique a a a b (h.0, λ n. sym (and_self (has a n))) (k.0, λ n. k.1 n ∙ sym (h.1 n) ∙ sym (and_self (has a n)))
-
-same_truth : (a b : Bool) → (a ≡ true → b ≡ true) → (b ≡ true → a ≡ true) → a ≡ b
-same_truth true b h k = sym (h refl)
-same_truth false true h k = k refl
-same_truth false false h k = refl
 
 said_once : {A V : Type 0} (P : A → V → Type 0) → ((a : A) (x y : V) → P a x → P a y → x ≡ y) → (o : Option A) (s t : Option V) → Said P o s → Said P o t → s ≡ t
 said_once P once None None None h k = refl
@@ -99,9 +94,9 @@ mutual
   one_value bs integer t (Value-F.Int a) (Value-F.Int b) type h k = ap Value-F.Int (some_same _ a b h k)
   one_value bs text t (Value-F.Str a) (Value-F.Str b) type h k = ap Value-F.Str (sym h.1.1 ∙ ap (λ (z : Name). z.text) (some_same _ h.0 k.0 h.1.0 k.1.0) ∙ k.1.1)
   one_value bs (set s) t (Value-F.Set a) (Value-F.Set b) type h k =
-      ap Value-F.Set (increasing_same a b h.0 k.0 (λ n. same_truth (has a n) (has b n) (λ e. (k.1 n).1 ((h.1 n).0 e)) (λ e. (h.1 n).1 ((k.1 n).0 e))))
+      ap Value-F.Set (increasing_same a b h.0 k.0 (λ n. same_flag (has a n) (has b n) (λ e. (k.1 n).1 ((h.1 n).0 e)) (λ e. (h.1 n).1 ((k.1 n).0 e))))
   one_value bs (iset s) t (Value-F.Set a) (Value-F.Set b) type h k =
-      ap Value-F.Set (increasing_same a b h.0 k.0 (λ n. same_truth (has a n) (has b n) (λ e. (k.1 n).1 ((h.1 n).0 e)) (λ e. (h.1 n).1 ((k.1 n).0 e))))
+      ap Value-F.Set (increasing_same a b h.0 k.0 (λ n. same_flag (has a n) (has b n) (λ e. (k.1 n).1 ((h.1 n).0 e)) (λ e. (h.1 n).1 ((k.1 n).0 e))))
   one_value bs card t (Value-F.Card a) (Value-F.Card b) type h k =
       ap Value-F.Card (one_allowed h.0 a b h.1.1 (subst (λ (w : Card). AllowedBy w b) (some_same _ k.0 h.0 k.1.0 h.1.0) k.1.1))
   one_value bs (valency key) t (Value-F.Valency a) (Value-F.Valency b) type h k =
@@ -125,7 +120,7 @@ same_or_not a b = by (bytes_eq a b) refl
   where
     by : (t : Bool) → bytes_eq a b ≡ t → (a ≡ b) ⊎ (a ≡ b → ⊥)
     by true e = inl (same_text a b e)
-    by false e = inr (λ is. true≢false (sym (text_same a b is) ∙ e))
+    by false e = inr (λ is. true≢false (sym (is_same a b is) ∙ e))
 
 one_said : (bs : Bindings) (fs : Fields) (pairs : Pairs) (m n : Record) → AreTypes fs → SaysFields bs fs pairs m → SaysFields bs fs pairs n → m ≡ n
 one_said bs fs pairs m n types h k = said_same 0 m n h.0 k.0 (λ key. one_field bs fs (written pairs) key (said_at m key) (said_at n key) types (h.1 key) (k.1 key))

@@ -16,12 +16,9 @@ use Rattle.xdg_packed.specs.Entries.{IsEntry, AreEntries}
 use Rattle.xdg_lexicon.specs.Growing.{IsWordCount, IsGrown, SamePlace, Puts}
 use Rattle.xdg_lexicon.specs.declared.growing.Growing.{Growing}
 use Rattle.xdg_lexicon.proofs.Adding.{AddsSoFar}
+use Rattle.xdg_listing.proofs.Truths.{either_true}
 
 -- ---- entries by their spellings
-
-either_true : (a b : Bool) → b ≡ true → (a || b) ≡ true
-either_true true b e = refl
-either_true false b e = e
 
 stands_spelled : (entries : List Entry) (e : Entry) → Stands entries e → has_text (map spelling_of_entry entries) (spelling_of_entry e) ≡ true
 stands_spelled [] e h = absurd h

@@ -16,10 +16,10 @@ use Rattle.xdg_packed.proofs.Laws.{record_said, filled_right}
 use Rattle.xdg_types.specs.declared.table.DimType.{DimType}
 use Rattle.xdg_types.specs.Table.{Table, IsTable, KeepsDim, KeepDims, ArePlaces, AreFeatures, typed, firsts}
 use Rattle.xdg_packed.specs.Lexicon.{Record, Entry}
-use Rattle.xdg_packed.proofs.Packs.{any_default}
 use Rattle.xdg_lexicon.specs.Partial.{Partial, IsPartial, IsRecord, IsDim, features, said_of}
 use Rattle.xdg_packed.specs.Entries.{IsWhole, IsEntry, record_type}
 use Rattle.xdg_lexicon.specs.Lexicon.{whole_record, record_then, records_of, whole}
+use Rattle.xdg_listing.proofs.Lists.{any_default}
 
 -- ---- types
 

@@ -20,7 +20,6 @@ use Rattle.xdg_terms.specs.Replaced.{IsOpenRight}
 use Rattle.xdg_terms.specs.Wanted.{params_in}
 use Rattle.xdg_terms.proofs.Binding.{bound_law}
 use Rattle.xdg_terms.proofs.ClosedLaw.{closed_law}
-use Rattle.xdg_terms.proofs.Has.{same_text, text_same}
 use Rattle.xdg_classes.specs.Bodies.{Pairs, Expr, Body, either, body, Said, Called, records, records_in, calls, calls_in}
 use Rattle.xdg_classes.specs.Definitions.{keys, texts}
 use Rattle.xdg_classes.proofs.Bodied.{trees, body_dim}
@@ -33,11 +32,12 @@ use Rattle.xdg_lexicon.specs.Denotes.{closed_args}
 use Rattle.xdg_lexicon.specs.Partial.{written}
 use Rattle.xdg_lexicon.specs.Right.{AreRight, IsRightUnder}
 use Rattle.xdg_lexicon.proofs.Once.{name_among, one_named}
+use Rattle.xdg_listing.proofs.Texts.{same_text, is_same}
 
 -- ---- features by name
 
 at_name : {A : Type 0} (a b : List ℕ) (here : A) (other : A) → a ≡ b → (if bytes_eq a b then here else other) ≡ here
-at_name a b here other e = ap (λ (t : Bool). if t then here else other) (text_same a b e)
+at_name a b here other e = ap (λ (t : Bool). if t then here else other) (is_same a b e)
 
 past_name : {A : Type 0} (a b : List ℕ) (here : A) (other : A) → (a ≡ b → ⊥) → (if bytes_eq a b then here else other) ≡ other
 past_name a b here other e = by (bytes_eq a b) refl
@@ -154,7 +154,7 @@ bound_first bs [] param h = absurd h
 bound_first bs (p ∷ args) param h = by (bytes_eq p.key.text param) refl (bound_first bs args param)
   where
     rest : (bytes_eq p.key.text param ≡ false) → Among (texts (keys args)) param
-    rest e = elim h [ inl is ↦ absurd (true≢false (sym (text_same p.key.text param is) ∙ e)) | inr k ↦ k ]
+    rest e = elim h [ inl is ↦ absurd (true≢false (sym (is_same p.key.text param is) ∙ e)) | inr k ↦ k ]
 
     by : (b : Bool) → bytes_eq p.key.text param ≡ b → (Among (texts (keys args)) param → FirstFor bs args param)
         → (pair : Pair Term) × (In (p ∷ args) pair × ((pair.key.text ≡ param) × ((if b then Some (closed bs p.value) else bound_to (closed_args bs args) param) ≡ Some (closed bs pair.value))))

@@ -12,7 +12,8 @@ use Rattle.xdg_check.specs.Counts.{Counting}
 use Rattle.xdg_lexicon.specs.declared.frames.Frame.{Frame}
 use Rattle.xdg_lexicon.specs.declared.frames.Frame.TheVariants as frame
 use Rattle.xdg_lexicon.specs.Weights.{heavy, weigh, weigh_in}
-use Rattle.xdg_lexicon.proofs.Denoted.{front, of_use}
+use Rattle.xdg_lexicon.proofs.Denoted.{of_use}
+use Rattle.xdg_listing.proofs.Lists.{from_place}
 
 pub weighs_some : (names : Counting) (b : Body) → 0 < weigh names b
 weighs_some names (either bs) = omega arith
@@ -26,7 +27,7 @@ weigh_both names (x ∷ xs) ys = (let h = weigh_both names xs ys in omega (arith
 
 module _ (names : Counting) (items : List Expr) (k : ℕ) (e : Expr) (within : k < length items) (at : e ≡ get_or items k e) where
   pub from_first : weigh_in names (trees (drop k items)) ≡ weigh names (body e.kind) + weigh_in names (trees (drop (k + 1) items))
-  from_first = ap (λ l. weigh_in names (trees l)) (front items k e within at)
+  from_first = ap (λ l. weigh_in names (trees l)) (from_place items k e within at)
 
   pub to_last : weigh_in names (trees (take (k + 1) items)) ≡ weigh_in names (trees (take k items)) + weigh names (body e.kind)
   to_last =
@@ -36,6 +37,7 @@ module _ (names : Counting) (items : List Expr) (k : ℕ) (e : Expr) (within : k
       omega (arith, split, whole)
 
 -- what weighs less, whatever is open around it, and its part
+
 abbrev pub IsLighter : ℕ → ℕ → ℕ → ℕ → Type 0
 IsLighter part whole opened before = (part < whole) × (opened + part < before + whole)
 

@@ -10,6 +10,7 @@ use Rattle.xdg_linear.specs.Arrangements.{IsArrangement, IsAfter}
 use Rattle.xdg_linear.specs.Laws.{PassedFirst, PassedAll}
 use Rattle.xdg_linear.specs.Listed.{Rises, AreAll, AreArrangements, ArePassed, AreLeft}
 use Rattle.xdg_linear.proofs.Reaching.{after_or}
+use Rattle.xdg_listing.proofs.Lists.{each_left}
 
 pub rises_tail : (a : List ℕ) (xs : List (List ℕ)) → RisesFrom a xs → Rises xs
 rises_tail a [] r = tt
@@ -18,10 +19,6 @@ rises_tail a (x ∷ xs) r = r.1
 each_both : (P Q : List ℕ → Type 0) (xs : List (List ℕ)) → AllByRecursion P xs → AllByRecursion Q xs → AllByRecursion (λ x. P x × Q x) xs
 each_both P Q [] p q = tt
 each_both P Q (x ∷ xs) p q = ((p.0, q.0), each_both P Q xs p.1 q.1)
-
-each_left : (P : List ℕ → Type 0) (xs ys : List (List ℕ)) → AllByRecursion P (xs ++ ys) → AllByRecursion P xs
-each_left P [] ys p = tt
-each_left P (x ∷ xs) ys p = (p.0, each_left P xs ys p.1)
 
 each_right : (P : List ℕ → Type 0) (xs ys : List (List ℕ)) → AllByRecursion P (xs ++ ys) → AllByRecursion P ys
 each_right P [] ys p = p

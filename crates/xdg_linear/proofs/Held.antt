@@ -11,6 +11,7 @@ use Rattle.xdg_linear.proofs.Ends.{climbing_least, climbs_from}
 use Rattle.xdg_linear.proofs.Existing.{arrangement_each, ranks_below}
 use Rattle.xdg_linear.proofs.Reaching.{advances_more, advances_last}
 use Rattle.xdg_linear.proofs.Times.{arrangement_permuted, arrangement_joined, arrangement_back}
+use Rattle.xdg_listing.proofs.Lists.{all_at}
 
 abbrev pub seen : List SentenceWord → Bool → List ℕ → Arranged
 seen words begun numbers = record { words = words; present = shown begun numbers }
@@ -56,6 +57,7 @@ module _ (words : List SentenceWord) (old new : List ℕ) (h : IsArrangement (ra
   last_of last = λ other k a. last other (arrangement_joined old (ranks_of words) other (arrangement_back (ranks_of words) old h) k) a
 
 -- a later call puts the next one in the place of the present one, or there is none
+
 pub later_held : (words : List SentenceWord) (begun : Bool) (old new : List ℕ) (more : Bool) → IsHeld words begun old → (more ≡ true → IsNext old (Some old) new) → (more ≡ false → (new ≡ old) × IsLast old (Some old)) → IsHeld words true new
 later_held words begun old new true held next last = record {
   arrangement = arrangement_joined (ranks_of words) old new held.arrangement (next refl).arrangement;
@@ -90,11 +92,6 @@ shown_some false numbers some = let h : false ≡ true = some in cc
 
 pub held_size : (words : List SentenceWord) (begun : Bool) (numbers : List ℕ) → IsHeld words begun numbers → length numbers ≡ length words
 held_size words begun numbers held = held.arrangement.size ∙ length-map words (λ word. rank_of words word.text)
-
-all_at : (P : ℕ → Type 0) (xs : List ℕ) (k : ℕ) → AllByRecursion P xs → k < length xs → P (get_or xs k 0)
-all_at P [] k each lt = absurd (omega arith)
-all_at P (x ∷ xs) zero each lt = each.0
-all_at P (x ∷ xs) (suc k) each lt = all_at P xs k each.1 (omega arith)
 
 held_below : (words : List SentenceWord) (begun : Bool) (numbers : List ℕ) → IsHeld words begun numbers → AllByRecursion (λ x. x < length words) numbers
 held_below words begun numbers held = arrangement_each (λ x. x < length words) (ranks_of words) numbers held.arrangement (ranks_below words)

@@ -9,15 +9,11 @@ use Rattle.xdg_linear.specs.Arrangements.{times, IsArrangement, IsNext}
 use Rattle.xdg_linear.specs.Falling.{Falls}
 use Rattle.xdg_linear.proofs.Times.{at_times, times_permuted, arrangement_joined, arrangement_back, arrangement_cons, arrangement_tail, first_stands}
 use Rattle.xdg_linear.proofs.Ends.{falling_greatest, at_most_cons, climbing_least, climbs_reverse}
+use Rattle.xdg_listing.proofs.Lists.{all_at}
 
 -- behind the place q no number is greater than a
 abbrev pub NoneBehind : List ℕ → ℕ → ℕ → Type 0
 NoneBehind xs q a = (k : ℕ) → q < k → k < length xs → get_or xs k 0 ≤ a
-
-all_at : (P : ℕ → Type 0) (xs : List ℕ) (q : ℕ) → AllByRecursion P xs → q < length xs → P (get_or xs q 0)
-all_at P [] q each w = absurd (omega arith)
-all_at P (x ∷ xs) zero each w = each.0
-all_at P (x ∷ xs) (suc q) each w = all_at P xs q each.1 (omega arith)
 
 all_set : (P : ℕ → Type 0) (xs : List ℕ) (q a : ℕ) → AllByRecursion P xs → P a → AllByRecursion P (set xs q a)
 all_set P [] q a each p = tt
@@ -84,6 +80,7 @@ module _ (a : ℕ) (xs : List ℕ) (q : ℕ) (f : Falls xs) (w : q < length xs) 
   }
 
 -- the next arrangement of more numbers
+
 pub next_cons : (x : ℕ) (xs ys : List ℕ) → IsNext xs (Some xs) ys → IsNext (x ∷ xs) (Some (x ∷ xs)) (x ∷ ys)
 next_cons x xs ys next = record {
   arrangement = arrangement_cons x xs ys next.arrangement;

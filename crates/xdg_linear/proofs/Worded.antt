@@ -2,7 +2,6 @@
 use Rattle.std.proofs.Common.{◌≡◌, ◌<◌, ◌≤◌, ◌+◌, ◌⊎◌, inl, inr, ℕ, suc, List, [], ◌∷◌, ◌==◌, Bool, true, false, Some, cond, length, map, refl, sym, ap, ◌∙◌, subst, arith, slice_get, bytes_eq, eq-eqb, ne_eqb, one-add}
 use Rattle.std.proofs.lemmas.Bool.{cases_lt}
 use Rattle.std.proofs.lemmas.List.{length-map}
-use Rattle.std.specs.Cmp.Lexicographic.{bytes_decides}
 use Rattle.std.specs.List.{AllByRecursion, cons_option}
 use Rattle.xdg_problem.specs.declared.parts.SentenceWord.{SentenceWord}
 use Rattle.xdg_linear.specs.Arrangements.{times, IsArrangement}
@@ -10,14 +9,9 @@ use Rattle.xdg_linear.specs.Ranks.{rank_of, ranks_of, words_at}
 use Rattle.xdg_linear.specs.Texts.{texts_of, texts_at, text_times, HasEachText, TextsArranged}
 use Rattle.xdg_linear.proofs.Existing.{arrangement_each}
 use Rattle.xdg_linear.proofs.Times.{at_times}
+use Rattle.xdg_listing.proofs.Texts.{same_text, is_same}
 
 -- ---- texts as tests
-
-same_text : (one other : List ℕ) → bytes_eq one other ≡ true → one ≡ other
-same_text one other e = (bytes_decides one other).0 e
-
-is_same : (one other : List ℕ) → one ≡ other → bytes_eq one other ≡ true
-is_same one other e = (bytes_decides one other).1 e
 
 text_or : (one other : List ℕ) → ((bytes_eq one other ≡ true) × (one ≡ other)) ⊎ ((bytes_eq one other ≡ false) × (one ≡ other → ⊥))
 text_or one other = by (bytes_eq one other) refl where

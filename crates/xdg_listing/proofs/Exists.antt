@@ -10,14 +10,12 @@ use Rattle.xdg_listing.specs.Prefixes.{from_value, prefixes}
 use Rattle.xdg_listing.proofs.Ordered.{less_or, not_less, some_above}
 use Rattle.xdg_listing.proofs.Unique.{listing_unique}
 use Rattle.xdg_listing.proofs.Wholes.{filter_rises, filter_each, filter_member}
+use Rattle.xdg_listing.proofs.Truths.{either}
+use Rattle.xdg_listing.proofs.Lists.{each_append}
 
 pub rises_append : (a c : List ℕ) (xs ys : List (List ℕ)) → Less a c → AllByRecursion (λ b. Less b c) xs → ((b : List ℕ) → Less b c → RisesFrom b ys) → RisesFrom a xs → RisesFrom a (xs ++ ys)
 rises_append a c [] ys l h k r = k a l
 rises_append a c (x ∷ xs) ys l h k r = (r.0, rises_append x c xs ys h.0 h.1 k r.1)
-
-pub each_append : (Q : List ℕ → Type 0) (xs ys : List (List ℕ)) → AllByRecursion Q xs → AllByRecursion Q ys → AllByRecursion Q (xs ++ ys)
-each_append Q [] ys h k = k
-each_append Q (x ∷ xs) ys h k = (h.0, each_append Q xs ys h.1 k)
 
 pub each_weaker : (Q R : List ℕ → Type 0) (xs : List (List ℕ)) → ((x : List ℕ) → Q x → R x) → AllByRecursion Q xs → AllByRecursion R xs
 each_weaker Q R [] w h = tt
@@ -123,14 +121,10 @@ decided_listing shape P a d =
       },
     )
 
-tested : (b : Bool) → (b ≡ true) ⊎ (b ≡ true → ⊥)
-tested true = inl refl
-tested false = inr (λ e. cc)
-
 pub one_listing : (shape : List ℕ) (test : List ℕ → Bool) (start : List ℕ) → HasOneListing shape (λ x. test x ≡ true) start
 one_listing shape test start =
     let P : List ℕ → Type 0 = λ x. test x ≡ true in
-    let i = decided_listing shape P start (λ x. tested (test x)) in
+    let i = decided_listing shape P start (λ x. either (test x)) in
     record { members = i.0; listing = i.1; only = λ xs j. listing_unique shape P start i.0 xs i.1 j }
 
 fits_or : (shape x : List ℕ) → Fits shape x ⊎ (Fits shape x → ⊥)

@@ -7,7 +7,8 @@ use Rattle.xdg_listing.specs.Listing.{RisesFrom, IsListing, SoFar}
 use Rattle.xdg_listing.specs.Closed.{NoneAfter}
 use Rattle.xdg_listing.proofs.Ordered.{less_irreflexive, less_transitive, at_most_less, at_most_of, not_less, less_or}
 use Rattle.xdg_listing.proofs.Unique.{rises_above, listing_tail}
-use Rattle.xdg_listing.proofs.Exists.{each_append, each_weaker, member_left, member_right}
+use Rattle.xdg_listing.proofs.Exists.{each_weaker, member_left, member_right}
+use Rattle.xdg_listing.proofs.Lists.{each_append}
 
 not_after : (x p q : List ℕ) → AtMost p q → (Less p x → ⊥) → Less q x → ⊥
 not_after x p q k n l = n (at_most_less p q x k l)

@@ -1,3 +1,10 @@
+pub mod Facts
+pub mod Options
+pub mod Bits
+pub mod Numbers
+pub mod Texts
+pub mod Lists
+pub mod Truths
 pub mod Ordered
 pub mod Fitting
 pub mod Unique

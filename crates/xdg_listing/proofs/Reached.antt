@@ -7,7 +7,8 @@ use Rattle.xdg_listing.specs.Listing.{Member, RisesFrom, IsListing, SoFar, Befor
 use Rattle.xdg_listing.specs.Closed.{Closed}
 use Rattle.xdg_listing.proofs.Ordered.{less_transitive, at_most_less, less_at_most, not_less, less_or, at_most_of, zero_next, less_push, past_step, extends_or_past}
 use Rattle.xdg_listing.proofs.Fitting.{past_range}
-use Rattle.xdg_listing.proofs.Exists.{rises_append, each_append, each_weaker, member_left, member_right}
+use Rattle.xdg_listing.proofs.Exists.{rises_append, each_weaker, member_left, member_right}
+use Rattle.xdg_listing.proofs.Lists.{each_append}
 
 -- where c does not come after the start, nothing is listed yet
 pub before_start : (shape : List ℕ) (P : List ℕ → Type 0) (start c : List ℕ) → AtMost c start → IsListing shape (Before P c) start []

@@ -50,7 +50,3 @@ module _ (marks : List ℕ) where
   climbs_same marks' [] same h = tt
   climbs_same marks' (a ∷ rest) same h =
       ((λ b k. (let l : number marks a < number marks b = h.0 b k in let x : number marks' a ≡ number marks a = same a (inl refl) in let y : number marks' b ≡ number marks b = same b (inr k) in omega arith)), climbs_same marks' rest (λ b k. same b (inr k)) h.1)
-
-pub nothing : (xs : List ℕ) → length xs ≡ 0 → xs ≡ []
-nothing [] h = refl
-nothing (x ∷ xs) h = absurd (omega arith)

@@ -1,5 +1,5 @@
 -- Marks of definitions that come onto the stack and leave it.
-use Rattle.std.proofs.Common.{◌≡◌, ℕ, zero, suc, ◌+◌, ◌<◌, ◌≤◌, inl, inr, List, [], ◌∷◌, ◌++◌, length, get_or, refl, sym, ap, ◌∙◌, arith, length-append}
+use Rattle.std.proofs.Common.{◌≡◌, ℕ, zero, suc, ◌+◌, ◌<◌, ◌≤◌, inl, inr, List, [], ◌∷◌, ◌++◌, length, get_or, refl, sym, ap, ◌∙◌, arith}
 use Rattle.std.proofs.Math.ListN.{set, length-set}
 use Rattle.std.specs.List.{sum_by}
 use Rattle.std.proofs.lemmas.List.Sums.{sum_by-set}
@@ -8,6 +8,7 @@ use Rattle.xdg_names.proofs.In.{in_index}
 use Rattle.xdg_names.specs.Leads.{number}
 use Rattle.xdg_names.specs.Walks.{AreMarks, fresh_at, unmet}
 use Rattle.xdg_names.proofs.Climbs.{at_last, at_front, set_at}
+use Rattle.xdg_listing.proofs.Lists.{length_more}
 
 pub not_fresh : (m : ℕ) → 1 ≤ m → fresh_at m ≡ 0
 not_fresh zero h = absurd (omega arith)
@@ -16,9 +17,6 @@ not_fresh (suc m) h = refl
 pub is_fresh : (m : ℕ) → m ≡ 0 → fresh_at m ≡ 1
 is_fresh zero h = refl
 is_fresh (suc m) h = absurd (omega arith)
-
-pub length_more : (xs : List ℕ) (y : ℕ) → length (xs ++ y ∷ []) ≡ length xs + 1
-length_more xs y = length-append xs (y ∷ [])
 
 module _ (n : ℕ) (marks stack order : List ℕ) (next : ℕ) (v : AreMarks n marks stack order next) where
   -- numbers that were given are below the next

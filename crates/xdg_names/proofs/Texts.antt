@@ -9,18 +9,13 @@ use Rattle.std.proofs.lemmas.Iterator.Adapters.{position_from-zero}
 use Rattle.std.proofs.lemmas.List.{map-append}
 use Rattle.std.proofs.lemmas.Slice.Eq.{bytes_eq-Decides}
 use Rattle.xdg_names.specs.Texts.{has_text, place_of, AllDiffer}
+use Rattle.xdg_listing.proofs.Texts.{equal}
+use Rattle.xdg_listing.proofs.Truths.{none_or}
 
 -- ---- tests and places
 
-same : (text : List ℕ) → bytes_eq text text ≡ true
-same text = (bytes_eq-Decides text text).1 refl
-
 either_way : (a b : List ℕ) → bytes_eq a b ≡ bytes_eq b a
 either_way a b = same_from_decides (bytes_eq a b) (bytes_eq b a) (bytes_eq-Decides a b) (Decides-like (bytes_eq b a) sym sym (bytes_eq-Decides b a))
-
-none_or : (a b : Bool) → (a || b) ≡ false → (a ≡ false) × (b ≡ false)
-none_or true b e = absurd (true≢false e)
-none_or false b e = (refl, e)
 
 or_none : (a b : Bool) → a ≡ false → b ≡ false → (a || b) ≡ false
 or_none a b p q = ap (λ c. c || b) p ∙ q
@@ -143,7 +138,7 @@ pub place_of-new : (texts : List (List ℕ)) (text : List ℕ) → has_text text
 place_of-new texts text e =
     let n : length texts + 0 ≡ length texts = omega arith in
     place_of-append_right texts (text ∷ []) text e
-    ∙ ap (λ b. option_map (λ place. length texts + place) (if b then Some 0 else None)) (same text)
+    ∙ ap (λ b. option_map (λ place. length texts + place) (if b then Some 0 else None)) (equal text)
     ∙ ap Some n
 
 -- ---- texts that differ
@@ -161,7 +156,7 @@ AllDiffer-append (first ∷ texts) text differ e =
 -- the place of what stands at a place is that place
 pub place_of-at : (texts : List (List ℕ)) (place : ℕ) → AllDiffer texts → place < length texts → place_of texts (get_or texts place []) ≡ Some place
 place_of-at [] place differ within = absurd (omega (arith, within))
-place_of-at (first ∷ texts) zero differ within = ap (λ b. if b then Some 0 else option_map suc (place_of texts first)) (same first)
+place_of-at (first ∷ texts) zero differ within = ap (λ b. if b then Some 0 else option_map suc (place_of texts first)) (equal first)
 place_of-at (first ∷ texts) (suc place) differ within =
     let inside : place < length texts = omega (arith, within) in
     let text = get_or texts place [] in

@@ -1,5 +1,5 @@
 -- What an operation on bits does to the members.
-use Rattle.std.proofs.Common.{◌≡◌, ◌⊎◌, ℕ, ◌<◌, ◌≤◌, ◌+◌, ◌-◌, ◌*◌, ◌/◌, ◌%◌, ◌^◌, zero, suc, [], ◌∷◌, ◌++◌, length, refl, ap, ap₂, sym, ◌∙◌, arith, inl, inr, bit_and, bit_or}
+use Rattle.std.proofs.Common.{◌≡◌, ℕ, ◌<◌, ◌≤◌, ◌+◌, ◌-◌, ◌*◌, ◌/◌, ◌%◌, ◌^◌, zero, suc, [], ◌∷◌, ◌++◌, length, refl, ap, ap₂, sym, ◌∙◌, arith, inl, inr, bit_and, bit_or}
 use Rattle.std.specs.Prelude.{Bool, true, not, ◌&&◌, ◌||◌, ◌==◌, filter, nat_lt, nat_eq}
 use Rattle.std.specs.List.{range_with_len}
 use Rattle.std.specs.Int.{bit_at, bit_not, w128, trailing_zeros, leading_zeros}
@@ -10,16 +10,16 @@ use Rattle.std.specs.Cmp.Lexicographic.{pointwise}
 use Rattle.std.proofs.lemmas.Bool.Decides.{same_from_decides}
 use Rattle.std.proofs.lemmas.Slice.Eq.{bytes_eq-Decides}
 use Prim.Native.Nat.{min, max}
-use Rattle.std.proofs.lemmas.Nat.{leading_top, pow_pos, div_below, le-div, one_shl, ones_cat, ones_le_self, zero_from_ones}
+use Rattle.std.proofs.lemmas.Nat.{leading_top, one_shl, ones_cat, ones_le_self, zero_from_ones}
 use Rattle.std.proofs.lemmas.Nat.Bits.{bit_at_and, bit_at_or, bit_at_not, bit_at-lt, bit_at-zero, bit_at_set_same, bit_at_set_other, bit_at_clear_same, bit_at_clear_other, bit_at_mask_inside, bit_at_mask_below, bit_at_mask_above, bit_at-trailing_zeros, bit_at_above, shr_and_one}
 use Rattle.std.proofs.lemmas.Bool.{cases_eq, cases_lt, eq-eqb, ne_eqb, lt-ltb, le-ltb, cond_both, eqb-true}
 use Rattle.xdg_nodeset.specs.Nodes.{has, numbers_below, nodes, IsNodes, with_node, without, union, meet, minus, between}
-use Rattle.xdg_nodeset.specs.Bits.{is_set, members, number, same_number, halves, zero_below_one, unset}
+use Rattle.xdg_nodeset.specs.Bits.{is_set, members, number, same_number}
 use Rattle.xdg_nodeset.proofs.Rising.{numbers_agree, has_of, none_of, but, first_of, last_of, rises_of, few_of}
-
--- a bit is 0 or 1, so tests on two bits agree where they agree at these
-below_two : (x : ℕ) → x < 2 → (x ≡ 0) ⊎ (x ≡ 1)
-below_two x within = elim (cases_eq x 0) [ inl e ↦ inl e | inr other ↦ inr (omega (arith, within, other)) ]
+use Rattle.xdg_listing.proofs.Numbers.{below_two}
+use Rattle.xdg_listing.proofs.Bits.{top_bit}
+use Rattle.xdg_listing.proofs.Bits.{halves}
+use Rattle.xdg_listing.proofs.Numbers.{zero_below_one, unset}
 
 at_bits : (f g : ℕ → ℕ → Bool) → f 0 0 ≡ g 0 0 → f 0 1 ≡ g 0 1 → f 1 0 ≡ g 1 0 → f 1 1 ≡ g 1 1 → (x y : ℕ) → x < 2 → y < 2 → f x y ≡ g x y
 at_bits f g a b c d x y h k = elim (below_two x h) [
@@ -107,12 +107,6 @@ first_bit b some within =
     let k = trailing_zeros w128 b in
     let is = bit_at-trailing_zeros w128 b some within in
     (first_of 128 (is_set b) k is.0 (ap (λ z. z == 1) is.1) (λ m less. ap (λ z. z == 1) (is.2 m less)) ∙ ap (λ s. k ∷ s) (others b k), is.0)
-
-top_bit : (b j : ℕ) → 2 ^ j ≤ b → b < 2 ^ suc j → b / 2 ^ j ≡ 1
-top_bit b j least most =
-    let low = le-div 1 b (2 ^ j) (pow_pos j) (omega (arith, least)) in
-    let high = div_below b (2 ^ j) 2 (pow_pos j) (omega (arith, most, pow-suc 2 j)) in
-    omega (arith, low, high)
 
 pub last_bit : (b : ℕ) → 0 < b → b < 2 ^ 128 → (members b ≡ without (members b) (127 - leading_zeros w128 b) ++ (127 - leading_zeros w128 b) ∷ []) × (127 - leading_zeros w128 b < 128)
 last_bit b some within =

@@ -5,6 +5,7 @@ use Prim.Native.Nat.{min, max}
 use Rattle.std.proofs.lemmas.Bool.{cases_eq, cases_lt, eq-eqb, ne_eqb, le-ltb}
 use Rattle.xdg_nodeset.specs.Nodes.{has, nodes, IsNodes, with_node, without, union, meet, minus, between}
 use Rattle.xdg_nodeset.proofs.Rising.{numbers_agree, has_of, has_beyond}
+use Rattle.xdg_listing.proofs.Truths.{and_false}
 
 -- ---- the call leaves the set as it was exactly where the node stood there, or did not stand there
 
@@ -37,10 +38,6 @@ has_nodes p none n = elim (cases_lt n 128) [ inl below ↦ has_of 128 p n below 
 
 no_more : (s : List ℕ) → IsNodes s → (n : ℕ) → 128 ≤ n → has s n ≡ false
 no_more s are n above = ap (λ z. has z n) are.whole ∙ has_beyond 128 (has s) n above
-
-and_false : (t : Bool) → (t && false) ≡ false
-and_false true = refl
-and_false false = refl
 
 pub with_has : (s : List ℕ) (n : ℕ) → IsNodes s → n < 128 → (m : ℕ) → has (with_node s n) m ≡ ((m == n) || has s m)
 with_has s n are within = has_nodes (λ m. (m == n) || has s m) (λ m above. ap₂ (λ x y. x || y) (ne_eqb m n (λ e. omega (arith, e, above, within))) (no_more s are m above))

@@ -1,14 +1,16 @@
 -- The rising list that a number's bits stand for, and the number that a list stands for.
-use Rattle.std.specs.Prelude.{◌≡◌, ℕ, ◌<◌, ◌+◌, ◌*◌, ◌^◌, Bool, false, ◌==◌, List, [], ◌∷◌, filter}
+use Rattle.std.specs.Prelude.{◌≡◌, ℕ, ◌<◌, ◌+◌, ◌*◌, ◌^◌, Bool, ◌==◌, List, [], ◌∷◌, filter}
 use Rattle.std.specs.List.{range_with_len}
 use Rattle.std.specs.Int.{bit_at}
 use Rattle.std.proofs.Common.{◌/◌, zero, suc, ap, sym, ◌∙◌, arith}
 use Rattle.std.proofs.Math.Nat.{pow-suc, zero-mul, mul-one}
-use Rattle.std.proofs.lemmas.Nat.{div-add-mod', shr-shr, pow-add}
+use Rattle.std.proofs.lemmas.Nat.{pow-add}
 use Rattle.std.proofs.lemmas.Nat.Bits.{bit_at-lt}
-use Rattle.std.proofs.lemmas.Bool.{cond_both, eqb-true, eqb-false}
+use Rattle.std.proofs.lemmas.Bool.{cond_both, eqb-true}
 use Rattle.xdg_nodeset.specs.Nodes.{nodes, numbers_below}
 use Rattle.xdg_nodeset.specs.declared.set.NodeSet.TheInside.{Inside}
+use Rattle.xdg_listing.proofs.Numbers.{zero_below_one, unset, doubled_only, doubled}
+use Rattle.xdg_listing.proofs.Bits.{halves}
 
 -- whether the bit of that weight is set
 abbrev pub is_set : ℕ → ℕ → Bool
@@ -22,22 +24,6 @@ members bits = nodes (is_set bits)
 unfoldable pub number : List ℕ → ℕ
 number [] = 0
 number (n ∷ s) = 2 ^ n + number s
-
--- the bits from place a on are twice those above it, and the one at a
-pub halves : (b a : ℕ) → b / 2 ^ a ≡ b / 2 ^ (a + 1) * 2 + bit_at b a
-halves b a = sym (div-add-mod' (b / 2 ^ a) 2) ∙ ap (λ q. q * 2 + bit_at b a) (shr-shr b a 1)
-
-doubled : (q p : ℕ) → p + q * (p * 2) ≡ (q * 2 + 1) * p
-doubled q p = grind arith
-
-doubled_only : (q p : ℕ) → q * (p * 2) ≡ (q * 2 + 0) * p
-doubled_only q p = grind arith
-
-pub zero_below_one : (q : ℕ) → q < 1 → q ≡ 0
-zero_below_one q within = omega (arith, within)
-
-pub unset : (q : ℕ) → q < 2 → (q == 1) ≡ false → q ≡ 0
-unset q within clear = let other = eqb-false q 1 clear in omega (arith, within, other)
 
 -- from place a on, the weights of the bits that are set make up the number
 weights : (b m a : ℕ) → b / 2 ^ a < 2 ^ m → number (filter (is_set b) (range_with_len a m)) ≡ b / 2 ^ a * 2 ^ a

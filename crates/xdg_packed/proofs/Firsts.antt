@@ -1,20 +1,18 @@
 -- The first entry with each record of a dimension.
 use Rattle.std.proofs.Common.{◌≡◌, ℕ, zero, suc, ◌+◌, ◌<◌, ◌≤◌, List, [], ◌∷◌, ◌++◌, ◌⊎◌, length, get_or, refl, sym, ap, subst, inl, inr, ◌∙◌, arith, All}
 use Rattle.std.proofs.lemmas.Bool.{cases_lt}
-use Rattle.std.proofs.lemmas.List.{length-append, length-map, get_or-map}
+use Rattle.std.proofs.lemmas.List.{length-map, get_or-map}
 use Rattle.std.proofs.Math.ListN.{get_or-append}
 use Rattle.std.proofs.Math.Seq.{get_or-append_seam}
 use Rattle.xdg_packed.specs.Lexicon.{Record, Entry, Lexicon, column, Stands, Differ, IsFirstAlike}
 use Rattle.xdg_packed.specs.Rows.{shown, AreFirsts, IsTable, IsFirst}
 use Rattle.xdg_packed.proofs.Standing.{stands_at}
+use Rattle.xdg_listing.proofs.Lists.{length_more}
 
 -- ---- one entry more
 
 pub firsts_none : AreFirsts [] []
 firsts_none = record { have = λ row within. absurd (omega (arith, within)); least = λ entry within. absurd (omega (arith, within)) }
-
-longer : (xs : List ℕ) (x : ℕ) → length (xs ++ x ∷ []) ≡ length xs + 1
-longer xs x = length-append xs (x ∷ [])
 
 -- what holds of each place of a list and of the next one
 each_more : (P : ℕ → Type 0) (xs : List ℕ) (x : ℕ) → ((k : ℕ) → k < length xs → P k) → P (length xs) → (k : ℕ) → k < length (xs ++ x ∷ []) → P k
@@ -22,11 +20,11 @@ each_more P xs x below here k within = by (cases_lt k (length xs))
   where
     by : (k < length xs) ⊎ (length xs ≤ k) → P k
     by (inl h) = below k h
-    by (inr h) = subst P (let size = longer xs x in let e : length xs ≡ k = omega (arith, size, h, within) in e) here
+    by (inr h) = subst P (let size = length_more xs x in let e : length xs ≡ k = omega (arith, size, h, within) in e) here
 
 -- an entry with the place of a row keeps it
 still : (places : List ℕ) (place row first : ℕ) → (first < length places) × (get_or places first 0 ≡ row) → (first < length (places ++ place ∷ [])) × (get_or (places ++ place ∷ []) first 0 ≡ row)
-still places place row first (within, is) = (let size = longer places place in omega (arith, size, within), get_or-append places (place ∷ []) 0 first within ∙ is)
+still places place row first (within, is) = (let size = length_more places place in omega (arith, size, within), get_or-append places (place ∷ []) 0 first within ∙ is)
 
 pub firsts_known : (firsts places : List ℕ) (place : ℕ) → place < length firsts → AreFirsts firsts places → AreFirsts firsts (places ++ place ∷ [])
 firsts_known firsts places place known are = record {
@@ -46,7 +44,7 @@ firsts_new firsts places place number last next within are =
           subst (λ f. (f < length grown) × (get_or grown f 0 ≡ row)) (sym (get_or-append firsts (number ∷ []) 0 row inside))
           (still places place row (get_or firsts row 0) (are.have row inside)))
           (subst (λ f. (f < length grown) × (get_or grown f 0 ≡ length firsts)) (sym (get_or-append_seam firsts number [] 0 ∙ next))
-          (let size = longer places place in omega (arith, size), get_or-append_seam places place [] 0 ∙ last));
+          (let size = length_more places place in omega (arith, size), get_or-append_seam places place [] 0 ∙ last));
       least = each_more (λ entry. get_or more (get_or grown entry 0) 0 ≤ entry) places place
           (λ entry inside.
           subst (λ f. f ≤ entry)

@@ -13,9 +13,9 @@ use Rattle.xdg_domain.specs.declared.values.Value.{Value, out-Value}
 use Rattle.xdg_domain.specs.declared.values.Value.TheOpen.{Value-F}
 use Rattle.xdg_domain.specs.declared.values.Value.TheVariants as v
 use Rattle.xdg_domain.proofs.DefaultLaws.{default_is_value, zero_alone}
-use Rattle.xdg_domain.proofs.Each.{same_some}
 use Rattle.xdg_domain.proofs.Made.{none_and}
 use Rattle.xdg_packed.specs.Filled.{cards_in, cards_said, keys_in, keys_said, fields_in, fields_said, or_zero, each_key, as_map, filled_cards, filled, filled_fields, Lacks, SomeLacks, IsSaid, AreValuesOf, AreSaid}
+use Rattle.xdg_listing.proofs.Options.{some_same}
 
 -- ---- what is said
 
@@ -23,7 +23,7 @@ said_each : {V : Type 0} (P : ℕ → V → Type 0) (m : List (ℕ × V)) (key :
 said_each P [] key w each e = absurd (cc)
 said_each P (entry ∷ m) key w each e = elim (cases_eq entry.0 key) [
   | inl same ↦
-      let is : entry.1 ≡ w = same_some entry.1 w (sym (cond-true (entry.0 == key) (Some entry.1) (said_at m key) (eq-eqb entry.0 key same)) ∙ e) in
+      let is : entry.1 ≡ w = some_same entry.1 w (sym (cond-true (entry.0 == key) (Some entry.1) (said_at m key) (eq-eqb entry.0 key same)) ∙ e) in
       subst (λ k. P k w) same (subst (P entry.0) is each.0)
   | inr other ↦ said_each P m key w each.1 (sym (cond-false (entry.0 == key) (Some entry.1) (said_at m key) (ne_eqb entry.0 key other)) ∙ e)
 ]
@@ -215,7 +215,7 @@ taken : (place : ℕ) (o : Option Value) (r : Option (List (ℕ × Value))) (all
 taken place None None all e = absurd (cc)
 taken place None (Some rest) all e = absurd (cc)
 taken place (Some x) None all e = absurd (cc)
-taken place (Some x) (Some rest) all e = record { head = x; rest = rest; one = refl; more = refl; whole = same_some ((place, x) ∷ rest) all e }
+taken place (Some x) (Some rest) all e = record { head = x; rest = rest; one = refl; more = refl; whole = some_same ((place, x) ∷ rest) all e }
 
 head_said : (place : ℕ) (x : Value) (rest all : List (ℕ × Value)) → (place, x) ∷ rest ≡ all → said_at all place ≡ Some x
 head_said place x rest all whole = ap (λ l. said_at l place) (sym whole) ∙ cond-true (place == place) (Some x) (said_at rest place) (eq-eqb place place refl)
@@ -226,13 +226,13 @@ rest_said place x rest all key whole other = ap (λ l. said_at l key) (sym whole
 -- the keys of a map
 module _ (f : ℕ → Option Value) (P : Value → Type 0) (holds : (key : ℕ) (x : Value) → f key ≡ Some x → P x) where
   each_rises : (start n : ℕ) (all : List (ℕ × Value)) → each_key f (range_with_len start n) ≡ Some all → KeysRise start all
-  each_rises start zero all e = subst (KeysRise start) (same_some [] all e) tt
+  each_rises start zero all e = subst (KeysRise start) (some_same [] all e) tt
   each_rises start (suc n) all e =
       let t = taken start (f start) (each_key f (range_with_len (start + 1) n)) all e in
       subst (KeysRise start) t.whole (omega arith, each_rises (start + 1) n t.rest t.more)
 
   each_holds : (bound start n : ℕ) (all : List (ℕ × Value)) → start + n ≤ bound → each_key f (range_with_len start n) ≡ Some all → EachSaid (λ key x. (key < bound) × P x) all
-  each_holds bound start zero all within e = subst (EachSaid (λ key x. (key < bound) × P x)) (same_some [] all e) tt
+  each_holds bound start zero all within e = subst (EachSaid (λ key x. (key < bound) × P x)) (some_same [] all e) tt
   each_holds bound start (suc n) all within e =
       let t = taken start (f start) (each_key f (range_with_len (start + 1) n)) all e in
       subst (EachSaid (λ key x. (key < bound) × P x)) t.whole ((omega (arith, within), holds start t.head t.one), each_holds bound (start + 1) n t.rest (omega (arith, within)) t.more)
@@ -249,14 +249,15 @@ module _ (f : ℕ → Option Value) (P : Value → Type 0) (holds : (key : ℕ) 
       ]
 
 -- a value of the type that says all
+
 abbrev IsRight : Shape → Value → Type 0
 IsRight s x = IsValue s x × IsFilled s x
 
 by_layer : (s : Shape) (x y : Value) (l : Value-F Value) → Some y ≡ Some x → out-Value y ≡ l → IsIn s l × IsFilledIn s l → IsRight s x
-by_layer s x y l e o given = subst (IsRight s) (same_some y x e) (subst (λ m. IsIn s m × IsFilledIn s m) (sym o) given)
+by_layer s x y l e o given = subst (IsRight s) (some_same y x e) (subst (λ m. IsIn s m × IsFilledIn s m) (sym o) given)
 
 fields_rise : (fs : Fields) (place : ℕ) (m all : List (ℕ × Value)) → filled_fields place fs m ≡ Some all → KeysRise place all
-fields_rise no_field place m all e = subst (KeysRise place) (same_some [] all e) tt
+fields_rise no_field place m all e = subst (KeysRise place) (some_same [] all e) tt
 fields_rise (field_then name u fs) place m all e =
     let t = taken place (filled u (said_at m place)) (filled_fields (place + 1) fs m) all e in
     subst (KeysRise place) t.whole (omega arith, fields_rise fs (place + 1) m t.rest t.more)
@@ -271,21 +272,21 @@ each_wider P Q wider (entry ∷ s) h = (wider entry.0 entry.1 h.0, each_wider P 
 mutual
   right : (s : Shape) → IsType s → (said : Option Value) → IsSaid s said → (x : Value) → filled s said ≡ Some x → IsRight s x
   right (domain cs) h None given x e = absurd (cc)
-  right (domain cs) h (Some y) given x e = (subst (IsValue (domain cs)) (same_some y x e) given, tt)
+  right (domain cs) h (Some y) given x e = (subst (IsValue (domain cs)) (some_same y x e) given, tt)
   right (tuple ss) h None given x e = absurd (cc)
-  right (tuple ss) h (Some y) given x e = (subst (IsValue (tuple ss)) (same_some y x e) given, tt)
+  right (tuple ss) h (Some y) given x e = (subst (IsValue (tuple ss)) (some_same y x e) given, tt)
   right truth h None given x e = absurd (cc)
-  right truth h (Some y) given x e = (subst (IsValue truth) (same_some y x e) given, tt)
+  right truth h (Some y) given x e = (subst (IsValue truth) (some_same y x e) given, tt)
   right integer h None given x e = absurd (cc)
-  right integer h (Some y) given x e = (subst (IsValue integer) (same_some y x e) given, tt)
+  right integer h (Some y) given x e = (subst (IsValue integer) (some_same y x e) given, tt)
   right text h None given x e = absurd (cc)
-  right text h (Some y) given x e = (subst (IsValue text) (same_some y x e) given, tt)
+  right text h (Some y) given x e = (subst (IsValue text) (some_same y x e) given, tt)
   right (set s) h None given x e = (default_is_value (set s) h x e, tt)
-  right (set s) h (Some y) given x e = (subst (IsValue (set s)) (same_some y x e) given, tt)
+  right (set s) h (Some y) given x e = (subst (IsValue (set s)) (some_same y x e) given, tt)
   right (iset s) h None given x e = (default_is_value (iset s) h x e, tt)
-  right (iset s) h (Some y) given x e = (subst (IsValue (iset s)) (same_some y x e) given, tt)
+  right (iset s) h (Some y) given x e = (subst (IsValue (iset s)) (some_same y x e) given, tt)
   right card h None given x e = (default_is_value card h x e, tt)
-  right card h (Some y) given x e = (subst (IsValue card) (same_some y x e) given, tt)
+  right card h (Some y) given x e = (subst (IsValue card) (some_same y x e) given, tt)
   right (valency k) h said given x e =
       let m = cards_said said in
       let g : ℕ → List ℕ = λ key. or_zero (said_at m key) in
@@ -322,7 +323,7 @@ mutual
   ]
 
   fields_each : (fs : Fields) → AreTypes fs → (place : ℕ) (m : List (ℕ × Value)) → AreSaid place fs m → (all : List (ℕ × Value)) → filled_fields place fs m ≡ Some all → EachSaid (IsAt fs place) all
-  fields_each no_field h place m are all e = subst (EachSaid (IsAt no_field place)) (same_some [] all e) tt
+  fields_each no_field h place m are all e = subst (EachSaid (IsAt no_field place)) (some_same [] all e) tt
   fields_each (field_then name u fs) h place m are all e =
       let t = taken place (filled u (said_at m place)) (filled_fields (place + 1) fs m) all e in
       subst (EachSaid (IsAt (field_then name u fs) place)) t.whole (
@@ -340,6 +341,7 @@ mutual
       )
 
 -- what is filled is a value of the type, and says something of each key and of each field
+
 pub filled_right : (s : Shape) → IsType s → (said : Option Value) → IsSaid s said → (x : Value) → filled s said ≡ Some x → IsValue s x × IsFilled s x
 filled_right s h said given x e = right s h said given x e
 

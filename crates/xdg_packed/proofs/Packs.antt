@@ -1,5 +1,5 @@
 -- The different records of the first entries, while further ones are added.
-use Rattle.std.proofs.Common.{◌≡◌, ℕ, zero, suc, ◌+◌, ◌<◌, ◌≤◌, List, [], ◌∷◌, ◌++◌, ◌⊎◌, length, get_or, take, Bool, false, not, if◌then◌else◌, refl, sym, ap, ap₂, inl, inr, subst, ◌∙◌, arith, Some, None, All}
+use Rattle.std.proofs.Common.{◌≡◌, ℕ, suc, ◌+◌, ◌<◌, ◌≤◌, List, [], ◌∷◌, ◌++◌, ◌⊎◌, length, get_or, take, Bool, false, not, if◌then◌else◌, refl, sym, ap, ap₂, inl, inr, subst, ◌∙◌, arith, Some, None, All}
 use Rattle.std.proofs.lemmas.List.{map-append, length-map, length-append, get_or-map}
 use Rattle.std.proofs.lemmas.List.Elements.{All-nil, All-push, All-tail, All-head, All-weaker}
 use Rattle.std.proofs.Math.ListN.{get_or-append}
@@ -12,6 +12,7 @@ use Rattle.xdg_packed.specs.Spelling.{spelling_of_fields}
 use Rattle.xdg_packed.proofs.Firsts.{firsts_none, firsts_known, firsts_new}
 use Rattle.xdg_packed.proofs.Prefixes.{fields_told}
 use Rattle.xdg_packed.proofs.Standing.{stands_left, stands_right, stands_last, stands_at, rows_differ}
+use Rattle.xdg_listing.proofs.Lists.{any_default}
 
 -- ---- one record
 
@@ -119,11 +120,6 @@ column_more dim entries i entry within is =
     ap (λ k. column dim (take k entries)) next
     ∙ ap (column dim) (take-suc entries i entry within ∙ ap (λ e. take i entries ++ e ∷ []) is)
     ∙ map-append (λ e. get_or e dim []) (take i entries) (entry ∷ [])
-
-pub any_default : {A : Type 0} (xs : List A) (i : ℕ) (d e : A) → i < length xs → get_or xs i d ≡ get_or xs i e
-any_default [] i d e within = absurd (omega (arith, within))
-any_default (x ∷ xs) zero d e within = refl
-any_default (x ∷ xs) (suc i) d e within = any_default xs i d e (omega (arith, within))
 
 pub packs_next : (dim : ℕ) (entries : List Entry) (i : ℕ) (entry held : Entry) (rows more : List Record) (spellings more_spellings : List (List ℕ)) (firsts more_firsts places : List ℕ) (fields : Record) (place number : ℕ)
     → i < length entries → All (λ e. dim < length e) entries → entry ≡ get_or entries i entry → held ≡ entry → fields ≡ get_or held dim fields → Packs (column dim (take i entries)) rows spellings firsts places

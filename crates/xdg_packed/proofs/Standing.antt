@@ -1,10 +1,11 @@
 -- Elements that stand in lists, and different records.
-use Rattle.std.proofs.Common.{◌≡◌, ℕ, zero, suc, ◌<◌, Bool, true, false, ◌||◌, List, [], ◌∷◌, ◌++◌, ◌⊎◌, length, get_or, map, refl, sym, ap, inl, inr, ◌∙◌, arith, true≢false}
+use Rattle.std.proofs.Common.{◌≡◌, ℕ, zero, suc, ◌<◌, true, ◌||◌, List, [], ◌∷◌, ◌++◌, ◌⊎◌, length, get_or, map, refl, sym, ap, inl, inr, ◌∙◌, arith, true≢false}
 use Rattle.std.proofs.lemmas.Slice.Eq.{bytes_eq-Decides}
 use Rattle.std.specs.Prelude.{bytes_eq}
 use Rattle.xdg_names.specs.Texts.{has_text, AllDiffer}
 use Rattle.xdg_packed.specs.Lexicon.{Record, Stands, Differ}
 use Rattle.xdg_packed.specs.Spelling.{spelling_of_fields}
+use Rattle.xdg_listing.proofs.Truths.{either_true}
 
 module _ {A : Type 0} where
   pub stands_left : (xs ys : List A) (x : A) → Stands xs x → Stands (xs ++ ys) x
@@ -30,10 +31,6 @@ module _ {A : Type 0} where
   stands_at [] i d within = absurd (omega (arith, within))
   stands_at (first ∷ xs) zero d within = inl refl
   stands_at (first ∷ xs) (suc i) d within = inr (stands_at xs i d (omega (arith, within)))
-
-either_true : (a b : Bool) → b ≡ true → (a || b) ≡ true
-either_true true b e = refl
-either_true false b e = e
 
 -- a record that stands among others is found by its spelling
 stands_spelled : (rows : List Record) (fields : Record) → Stands rows fields → has_text (map spelling_of_fields rows) (spelling_of_fields fields) ≡ true

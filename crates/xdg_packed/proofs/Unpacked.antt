@@ -10,16 +10,15 @@ use Rattle.xdg_packed.specs.Packing.{unpacked, IsPacked}
 use Rattle.xdg_packed.specs.Rows.{IsFirst}
 use Rattle.xdg_packed.specs.Words.{IsWordIndex}
 use Rattle.xdg_packed.proofs.Firsts.{in_column, column_first}
-use Rattle.xdg_packed.proofs.Packs.{any_default}
 use Rattle.xdg_packed.proofs.WordLists.{word_found, word_unknown, place_within}
+use Rattle.xdg_listing.proofs.Numbers.{plus_one}
+use Rattle.xdg_listing.proofs.Lists.{fused}
+use Rattle.xdg_listing.proofs.Lists.{any_default}
 
 -- ---- lists by their places
 
 start_of : (start : ℕ) → start ≡ start + 0
 start_of start = omega arith
-
-step_of : (start i : ℕ) → start + 1 + i ≡ start + suc i
-step_of start i = omega arith
 
 from_zero : (i : ℕ) → 0 + i ≡ i
 from_zero i = omega arith
@@ -29,20 +28,16 @@ module _ {X : Type 0} (f : ℕ → X) (d : X) where
   by_places start [] each = refl
   by_places start (x ∷ xs) each =
       ap₂ (λ y ys. y ∷ ys) (ap f (start_of start) ∙ each 0 (omega arith))
-      (by_places (start + 1) xs (λ i within. ap f (step_of start i) ∙ each (suc i) (omega (arith, within))))
+      (by_places (start + 1) xs (λ i within. ap f (plus_one start i) ∙ each (suc i) (omega (arith, within))))
 
   pub all_places : (xs : List X) (count : ℕ) → count ≡ length xs → ((i : ℕ) → i < length xs → f i ≡ get_or xs i d) → map f (range_with_len 0 count) ≡ xs
   all_places xs count size each = ap (λ n. map f (range_with_len 0 n)) size ∙ by_places 0 xs (λ i within. ap f (from_zero i) ∙ each i within)
-
-map_map : {A B C : Type 0} (g : B → C) (f : A → B) (xs : List A) → map g (map f xs) ≡ map (λ x. g (f x)) xs
-map_map g f [] = refl
-map_map g f (x ∷ xs) = ap (λ ys. g (f x) ∷ ys) (map_map g f xs)
 
 -- ---- entries
 
 entry_back : (entries : List Entry) → AreAsLong entries → (n : ℕ) → n < length entries → map (λ table. get_or table n []) (columns entries) ≡ get_or entries n []
 entry_back entries equal n within =
-    map_map (λ table. get_or table n []) (λ dim. column dim entries) (range_with_len 0 (width entries))
+    fused (λ table. get_or table n []) (λ dim. column dim entries) (range_with_len 0 (width entries))
     ∙ all_places (λ dim. get_or (column dim entries) n []) [] (get_or entries n []) (width entries) (sym (equal n [] within)) (λ dim inside. in_column entries n dim within)
 
 -- what is unpacked from the columns of entries are the entries
@@ -136,6 +131,7 @@ module _ (lexicon : Lexicon) (tables : List (List Record)) (rows : ℕ) (words :
       is ∙ any_default numbers place list [] (numbers_within word place found) ∙ word_found (words_of lexicon) words numbers word place packed.indexed found
 
 -- the same of what is seen
+
 pub seen : (view now : Lexicon) (tables : List (List Record)) (rows : ℕ) (words : List (List ℕ)) (numbers : List (List EntryNo)) → view ≡ now → IsPacked view tables rows words numbers → IsPacked now tables rows words numbers
 seen view now tables rows words numbers is packed = subst (λ l. IsPacked l tables rows words numbers) is packed
 

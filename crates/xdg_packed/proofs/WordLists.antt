@@ -13,7 +13,9 @@ use Rattle.xdg_names.specs.Texts.{has_text, place_of, AllDiffer}
 use Rattle.xdg_names.proofs.Texts.{has_text-append, place_of-Some, place_of-None, AllDiffer-append, stands-has_text}
 use Rattle.xdg_packed.specs.Lexicon.{Record, Entry, number, places_of, numbers_of, said_in, word_of}
 use Rattle.xdg_packed.specs.Words.{IsWordIndex}
-use Rattle.xdg_packed.proofs.Packs.{any_default, added_last}
+use Rattle.xdg_packed.proofs.Packs.{added_last}
+use Rattle.xdg_listing.proofs.Numbers.{plus_one}
+use Rattle.xdg_listing.proofs.Lists.{any_default}
 
 -- ---- places one by one
 
@@ -41,9 +43,6 @@ plus_zero n = omega arith
 
 zero_plus : (n : ℕ) → 0 + n ≡ n
 zero_plus n = omega arith
-
-plus_one : (n m : ℕ) → n + 1 + m ≡ n + suc m
-plus_one n m = omega arith
 
 listed_more : (start : ℕ) (words : List (List ℕ)) (last word : List ℕ) → listed start (words ++ last ∷ []) word ≡ listed start words word ++ cond (bytes_eq last word) ((start + length words) ∷ []) []
 unfolding listed

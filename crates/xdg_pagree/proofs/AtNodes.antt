@@ -15,7 +15,6 @@ use Rattle.xdg_problem.specs.Arguments.{first_dim, label_count, no_plan}
 use Rattle.xdg_problem.specs.Boxes.{Has, LiesIn, May, edge_decision}
 use Rattle.xdg_problem.specs.Places.{edge, nodes}
 use Rattle.xdg_problem.specs.Problems.{IsGroup, dim_arguments}
-use Rattle.xdg_problem.proofs.Looking.{or_left, or_right}
 use Rattle.xdg_problem.proofs.PlaceOrder.{is_place}
 use Rattle.xdg_rules.proofs.Counting.{label_on}
 use Rattle.xdg_rules.proofs.Shrinking.{must_is}
@@ -25,6 +24,7 @@ use Rattle.xdg_propcore.specs.Passes.{Progress}
 use Rattle.xdg_pagree.specs.Family.{IsOfPlaces}
 use Rattle.xdg_pagree.specs.Places.{PlaceAsks, PlaceLacks, IsDoneAt, IsLabelDone, AreLabelsDone, IsNodeDone, AreNodesDone}
 use Rattle.xdg_propcore.specs.Sweeps.{Sweeps}
+use Rattle.xdg_listing.proofs.Truths.{or_here, either_true}
 
 -- ---- daughters
 
@@ -176,7 +176,7 @@ module _ (s : State) (known : Known s) (group : Group) (is : IsGroup s.parts gro
 -- ---- the nodes of a set still to come
 
 pub head_in : (left rest : List ℕ) (v : ℕ) → left ≡ v ∷ rest → has left v ≡ true
-head_in left rest v is = subst (λ s. has s v ≡ true) (sym is) (or_left (v == v) (has rest v) (eq-eqb v v refl))
+head_in left rest v is = subst (λ s. has s v ≡ true) (sym is) (or_here (v == v) (has rest v) (eq-eqb v v refl))
 
 pub tail_in : (left rest : List ℕ) (v w : ℕ) → left ≡ v ∷ rest → has rest w ≡ true → has left w ≡ true
-tail_in left rest v w is h = subst (λ s. has s w ≡ true) (sym is) (or_right (v == w) (has rest w) h)
+tail_in left rest v w is h = subst (λ s. has s w ≡ true) (sym is) (either_true (v == w) (has rest w) h)

@@ -1,10 +1,10 @@
 -- The kinds of values that a principle use looks at.
-use Rattle.std.proofs.Common.{◌≡◌, ◌⊎◌, ℕ, ◌^◌, inl, inr, true, refl, sym, ap, ◌∙◌, arith, subst}
+use Rattle.std.proofs.Common.{◌≡◌, ℕ, ◌^◌, inl, inr, true, refl, sym, ap, ◌∙◌, arith, subst}
 use Rattle.std.specs.Prelude.{◌==◌, ◌&&◌}
 use Rattle.std.specs.Int.{bit_at}
 use lib.Bits.{bit_or}
-use Rattle.std.proofs.lemmas.Bool.{cases_eq, eq-eqb}
-use Rattle.std.proofs.lemmas.Nat.Bits.{bit_at_or, bit_at-lt, bit_at-pow_same, bit_at-pow_other}
+use Rattle.std.proofs.lemmas.Bool.{eq-eqb}
+use Rattle.std.proofs.lemmas.Nat.Bits.{bit_at-pow_same}
 use Rattle.xdg_problem.specs.declared.parts.Group.{Group}
 use Rattle.xdg_problem.specs.declared.parts.Parts.{Parts}
 use Rattle.xdg_problem.specs.declared.parts.Principle.{Principle}
@@ -15,26 +15,9 @@ use Rattle.xdg_problem.specs.Tests.{IsTestOf, allowed_value, agreeing, governed}
 use Rattle.xdg_propcore.specs.Kinds.{entry_kind, attr_kind, edge_kind, IsNamed}
 use Rattle.xdg_pagree.specs.Standing.{HasKinds, IsKindFor}
 use Rattle.xdg_pagree.specs.Family.{IsOfFamily, IsOfPlaces}
+use Rattle.xdg_listing.proofs.Bits.{pow_bit, or_new_bit, or_bit, or_left_bit}
 
 -- ---- bits
-
-pow_bit : (k kind : ℕ) → bit_at (2 ^ k) kind ≡ 1 → kind ≡ k
-pow_bit k kind h = elim (cases_eq kind k) [
-  | inl same ↦ same
-  | inr other ↦ absurd (let s = bit_at-pow_other k kind other in omega (arith, s, h))
-]
-
-or_bit : (a k kind : ℕ) → bit_at (bit_or a (2 ^ k)) kind ≡ 1 → (bit_at a kind ≡ 1) ⊎ (kind ≡ k)
-or_bit a k kind h = elim (cases_eq kind k) [
-  | inl same ↦ inr same
-  | inr other ↦ inl (let e = bit_at_or a (2 ^ k) kind in let s = bit_at-pow_other k kind other in omega (arith, e, s, h))
-]
-
-or_left_bit : (a b kind : ℕ) → bit_at a kind ≡ 1 → bit_at (bit_or a b) kind ≡ 1
-or_left_bit a b kind h = let e = bit_at_or a b kind in let l = bit_at-lt b kind in omega (arith, e, l, h)
-
-or_new_bit : (a k : ℕ) → bit_at (bit_or a (2 ^ k)) k ≡ 1
-or_new_bit a k = let e = bit_at_or a (2 ^ k) k in let l = bit_at-lt a k in let s = bit_at-pow_same k in omega (arith, e, l, s)
 
 -- ---- the wake sets
 

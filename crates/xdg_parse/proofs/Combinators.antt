@@ -1,4 +1,4 @@
-use Rattle.std.proofs.Common.{◌≡◌, ℕ, suc, ◌<◌, Bool, true, false, ◌||◌, ◌&&◌, if◌then◌else◌, List, [], ◌∷◌, ◌++◌, Option, Some, None, Ok, Err, refl, sym, ◌∙◌, ap, append_assoc}
+use Rattle.std.proofs.Common.{◌≡◌, ℕ, suc, ◌<◌, Bool, true, false, ◌&&◌, if◌then◌else◌, List, [], ◌∷◌, ◌++◌, Option, Some, None, Ok, Err, refl, sym, ◌∙◌, ap, append_assoc}
 use Rattle.xdg_ast.specs.declared.token.Kind.{Kind}
 use Rattle.xdg_ast.specs.Lexemes.{Lexeme}
 use Rattle.xdg_ast.specs.Language.{Language, Kinds, ◌or◌, kind_of, holds, sees, ended_by, Unexpected, skip, next, read_token, token, nothing, bind, both}
@@ -7,27 +7,17 @@ use Rattle.xdg_parse.specs.Steadiness.{at}
 use Rattle.xdg_parse.specs.Laws.{Says, Alive, Law}
 use Rattle.xdg_parse.proofs.Ended.{ended-append}
 use Rattle.xdg_parse.proofs.Laws.{walk-both, walk-split, balanced, bind_says}
+use Rattle.xdg_listing.proofs.Truths.{none_or, or_here, either_true}
 
 -- ---- tests
 
-pub or-left : (a b : Bool) → a ≡ true → (a || b) ≡ true
-or-left a b h = rw h refl
-
-pub or-right : (a b : Bool) → b ≡ true → (a || b) ≡ true
-or-right true b h = refl
-or-right false b h = h
-
-pub or-false : (a b : Bool) → (a || b) ≡ false → (a ≡ false) × (b ≡ false)
-or-false true b h = absurd (cc)
-or-false false b h = (refl, h)
-
 pub holds-left : (p q : Kinds) (o : Option Kind) → holds (p or q) o ≡ false → holds p o ≡ false
 holds-left p q None h = refl
-holds-left p q (Some k) h = (or-false (p k) (q k) h).0
+holds-left p q (Some k) h = (none_or (p k) (q k) h).0
 
 pub holds-right : (p q : Kinds) (o : Option Kind) → holds (p or q) o ≡ false → holds q o ≡ false
 holds-right p q None h = refl
-holds-right p q (Some k) h = (or-false (p k) (q k) h).1
+holds-right p q (Some k) h = (none_or (p k) (q k) h).1
 
 pub holds-same : (p q : Kinds) → ((k : Kind) → p k ≡ q k) → (o : Option Kind) → holds p o ≡ holds q o
 holds-same p q e None = refl
@@ -127,7 +117,7 @@ module _ {A B C : Type 0} (f : A → B → C) (l m : Language A) (l' m' : A → 
   bind-same false v' e k = rw (e, a.same k) refl
 
   first-in : (v : Bool) (k : Kind) → l.first k ≡ true → ((if v then (l.first or ex.first) else l.first) k) ≡ true
-  first-in true k h = or-left (l.first k) (ex.first k) h
+  first-in true k h = or_here (l.first k) (ex.first k) h
   first-in false k h = h
 
   second-first : (t : Lexeme) (vs : List Lexeme) (x : A) (y : B) → (m' x).means (t ∷ vs) y → ex.first t.kind ≡ true
@@ -138,7 +128,7 @@ module _ {A B C : Type 0} (f : A → B → C) (l m : Language A) (l' m' : A → 
 
   bind-first : (t : Lexeme) (u us vs : List Lexeme) (x : A) (y : B) → t ∷ u ≡ us ++ vs → m.means us x → (m' x).means vs y → (bind f l l' ex).first t.kind ≡ true
   bind-first t u [] [] x y e g h = absurd (cc)
-  bind-first t u [] (t' ∷ vs) x y e g h = rw (a.empty x g, heads t t' u vs e) (or-right (l.first t'.kind) (ex.first t'.kind) (second-first t' vs x y h))
+  bind-first t u [] (t' ∷ vs) x y e g h = rw (a.empty x g, heads t t' u vs e) (either_true (l.first t'.kind) (ex.first t'.kind) (second-first t' vs x y h))
   bind-first t u (t' ∷ us) vs x y e g h = rw (heads t t' u (us ++ vs) e) (first-in l.empty t'.kind (a.first t' us x g))
 
   bind-empty : (us vs : List Lexeme) (x : A) (y : B) → [] ≡ us ++ vs → m.means us x → (m' x).means vs y → (l.empty && ex.empty) ≡ true

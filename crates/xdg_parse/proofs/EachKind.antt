@@ -7,6 +7,7 @@ use Rattle.xdg_ast.specs.Language.{Kinds, number, is, token}
 use Rattle.xdg_ast.specs.Brackets.{is_opening, is_closing}
 use Rattle.xdg_parse.specs.Laws.{Alive}
 use Rattle.xdg_parse.proofs.Combinators.{Apart, Plain}
+use Rattle.xdg_listing.proofs.Truths.{if_says}
 
 abbrev pub kinds : List Kind
 kinds =
@@ -95,18 +96,14 @@ apart_by p q h = λ k g. not_both-says (p k) (q k) (each_kind (not_both p q) h k
 pub plain_by : (p : Kinds) → each_of (not_both is_opening p) kinds ≡ true → each_of (not_both is_closing p) kinds ≡ true → Plain p
 plain_by p a b = λ k g. (apart_by is_opening p a k g, apart_by is_closing p b k g)
 
-within-says : (a b : Bool) → (if a then b else true) ≡ true → a ≡ true → b ≡ true
-within-says true b h g = h
-within-says false b h g = absurd (cc)
-
 abbrev pub within : Kinds → Kinds → Kinds
 within p q = λ k. if p k then q k else true
 
 pub opens_by : (p : Kinds) → each_of (within p is_opening) kinds ≡ true → (k : Kind) → p k ≡ true → is_opening k ≡ true
-opens_by p h = λ k g. within-says (p k) (is_opening k) (each_kind (within p is_opening) h k) g
+opens_by p h = λ k g. if_says (p k) (is_opening k) (each_kind (within p is_opening) h k) g
 
 pub closes_by : (p : Kinds) → each_of (not_both is_opening p) kinds ≡ true → each_of (within p is_closing) kinds ≡ true → (k : Kind) → p k ≡ true → (is_opening k ≡ false) × (is_closing k ≡ true)
-closes_by p a b = λ k g. (apart_by is_opening p a k g, within-says (p k) (is_closing k) (each_kind (within p is_closing) b k) g)
+closes_by p a b = λ k g. (apart_by is_opening p a k g, if_says (p k) (is_closing k) (each_kind (within p is_closing) b k) g)
 
 -- some token of a kind
 abbrev pub some : Kind → Lexeme

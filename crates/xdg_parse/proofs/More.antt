@@ -10,18 +10,19 @@ use Rattle.xdg_parse.proofs.Items.{Shortens, turn, none_at}
 use Rattle.xdg_parse.proofs.Ended.{ended-append}
 use Rattle.xdg_parse.proofs.Laws.{walk-both, walk-split, balanced, says_as, bind_says}
 use Rattle.xdg_parse.proofs.Shrinking.{shortens_of}
-use Rattle.xdg_parse.proofs.Combinators.{or-left, or-right, holds-left, holds-right, holds-same, Apart, not-empty, first-holds, heads}
+use Rattle.xdg_parse.proofs.Combinators.{holds-left, holds-right, holds-same, Apart, not-empty, first-holds, heads}
+use Rattle.xdg_listing.proofs.Truths.{or_here, either_true}
 
 -- ---- either
 
 module _ {A : Type 0} (l m l' m' : Language A) (d n : ℕ) (a : Law d n l m) (b : Law d n l' m') (full-first : l.empty ≡ false) (apart : Apart l.first l'.first) where
   either-empty : (x : A) → (m.means [] x ⊎ m'.means [] x) → (l.empty || l'.empty) ≡ true
-  either-empty x (inl h) = or-left l.empty l'.empty (a.empty x h)
-  either-empty x (inr h) = or-right l.empty l'.empty (b.empty x h)
+  either-empty x (inl h) = or_here l.empty l'.empty (a.empty x h)
+  either-empty x (inr h) = either_true l.empty l'.empty (b.empty x h)
 
   either-first : (t : Lexeme) (u : List Lexeme) (x : A) → (m.means (t ∷ u) x ⊎ m'.means (t ∷ u) x) → (l.first t.kind || l'.first t.kind) ≡ true
-  either-first t u x (inl h) = or-left (l.first t.kind) (l'.first t.kind) (a.first t u x h)
-  either-first t u x (inr h) = or-right (l.first t.kind) (l'.first t.kind) (b.first t u x h)
+  either-first t u x (inl h) = or_here (l.first t.kind) (l'.first t.kind) (a.first t u x h)
+  either-first t u x (inr h) = either_true (l.first t.kind) (l'.first t.kind) (b.first t u x h)
 
   either-fits : (u : List Lexeme) (x : A) → (m.means u x ⊎ m'.means u x) → walk n u ≡ Some n
   either-fits u x (inl h) = a.fits u x h

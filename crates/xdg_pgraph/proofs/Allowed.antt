@@ -5,11 +5,11 @@ use Rattle.std.proofs.lemmas.Bool.{cases_Bool, cases_lt, or_cases}
 use Rattle.xdg_problem.specs.declared.parts.Group.{Group}
 use Rattle.xdg_problem.specs.Boxes.{Has, entry_decision}
 use Rattle.xdg_problem.specs.Features.{row}
-use Rattle.xdg_problem.proofs.Looking.{or_left, or_right}
 use Rattle.xdg_rules.specs.Rules.{IsGreatest, IsLeast}
 use Rattle.xdg_pgraph.specs.declared.bundle.Way.{Way}
 use Rattle.xdg_pgraph.specs.declared.bundle.Way.TheVariants as ways
 use Rattle.xdg_pgraph.specs.Bundles.{argument_of, numbers_of}
+use Rattle.xdg_listing.proofs.Truths.{or_here, either_true}
 
 pub numbers_row : (way : Way) (group : Group) (node label candidate : ℕ) → row group node candidate (argument_of way) label ≡ numbers_of way group node label candidate
 numbers_row ways.Out group node label candidate = refl
@@ -47,10 +47,10 @@ module _ (R : ℕ → ℕ → Type 0) (box : List (List Bool)) (node : ℕ) (row
     ];
     none = λ e c l has has_number. elim (last_or k c l) [
       | inl less ↦ elim (cases_Bool found) [
-        | inl t ↦ (let z : true ≡ false = sym (now_is ∙ or_left found here t) ∙ e in cc)
+        | inl t ↦ (let z : true ≡ false = sym (now_is ∙ or_here found here t) ∙ e in cc)
         | inr f ↦ s.none f c less has has_number
       ]
-      | inr same ↦ (let t : here ≡ true = exact.1 (subst (λ x. Contains (row x) number) same has_number) in let z : true ≡ false = sym (now_is ∙ or_right found here t) ∙ e in cc)
+      | inr same ↦ (let t : here ≡ true = exact.1 (subst (λ x. Contains (row x) number) same has_number) in let z : true ≡ false = sym (now_is ∙ either_true found here t) ∙ e in cc)
     ];
     each = λ c l has. elim (last_or k c l) [
       | inl less ↦ s.each c less has

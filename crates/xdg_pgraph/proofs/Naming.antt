@@ -1,10 +1,9 @@
 -- The tests name the kinds of values that wake the propagator.
-use Rattle.std.proofs.Common.{◌≡◌, ◌⊎◌, ℕ, ◌^◌, inl, inr, true, refl, sym, subst, arith}
+use Rattle.std.proofs.Common.{◌≡◌, ℕ, ◌^◌, inl, inr, true, refl, sym, subst, arith}
 use Rattle.std.specs.Prelude.{◌==◌, ◌&&◌, nat_le}
 use Rattle.std.specs.Int.{bit_at}
-use lib.Bits.{bit_or}
-use Rattle.std.proofs.lemmas.Bool.{cases_eq, and_from, eq-eqb}
-use Rattle.std.proofs.lemmas.Nat.Bits.{bit_at_or, bit_at-pow_other, bit_at-zero}
+use Rattle.std.proofs.lemmas.Bool.{and_from, eq-eqb}
+use Rattle.std.proofs.lemmas.Nat.Bits.{bit_at-zero}
 use Rattle.xdg_problem.specs.declared.parts.Group.{Group}
 use Rattle.xdg_problem.specs.declared.parts.Parts.{Parts}
 use Rattle.xdg_problem.specs.declared.parts.Principle.{Principle}
@@ -14,18 +13,7 @@ use Rattle.xdg_problem.specs.Places.{edge}
 use Rattle.xdg_problem.specs.Tests.{IsTestOf, looks_first, no_cycle, out_count}
 use Rattle.xdg_propcore.specs.Kinds.{entry_kind, edge_kind, IsNamed}
 use Rattle.xdg_pgraph.specs.Family.{IsOfFamily, kinds_of}
-
-pow_bit : (k kind : ℕ) → bit_at (2 ^ k) kind ≡ 1 → kind ≡ k
-pow_bit k kind h = elim (cases_eq kind k) [
-  | inl same ↦ same
-  | inr other ↦ absurd (let s = bit_at-pow_other k kind other in omega (arith, s, h))
-]
-
-or_bit : (a k kind : ℕ) → bit_at (bit_or a (2 ^ k)) kind ≡ 1 → (bit_at a kind ≡ 1) ⊎ (kind ≡ k)
-or_bit a k kind h = elim (cases_eq kind k) [
-  | inl same ↦ inr same
-  | inr other ↦ inl (let e = bit_at_or a (2 ^ k) kind in let s = bit_at-pow_other k kind other in omega (arith, e, s, h))
-]
+use Rattle.xdg_listing.proofs.Bits.{pow_bit, or_bit}
 
 no_bit : (kind : ℕ) → bit_at 0 kind ≡ 1 → ⊥
 no_bit kind h = (let z = bit_at-zero kind in omega (arith, z, h))

@@ -17,7 +17,6 @@ use Rattle.xdg_problem.proofs.FilterFacts.{filter_alike, filter_both}
 use Rattle.xdg_problem.proofs.PlaceOrder.{is_place}
 use Rattle.std.proofs.lemmas.Bool.{eqb-true}
 use Rattle.xdg_rules.specs.Rules.{has, HasNoneWithin, IsClosedFor, IsGreatest, IsLeast, may_edges, must_edges}
-use Rattle.xdg_rules.proofs.Failing.{same_flag}
 use Rattle.xdg_rules.proofs.Shrinking.{may_be, must_be, may_is, may_of, must_is, must_of}
 use Rattle.xdg_store.specs.States.{State}
 use Rattle.xdg_propcore.specs.Losses.{IsLost}
@@ -32,6 +31,8 @@ use Rattle.xdg_pgraph.specs.declared.bundle.Way.{Way}
 use Rattle.xdg_pgraph.specs.declared.bundle.Way.TheVariants as ways
 use Rattle.xdg_pgraph.proofs.Bundled.{edge_takes, entry_takes}
 use Rattle.xdg_pgraph.proofs.Ends.{counted, in_bundle, in_parts}
+use Rattle.xdg_listing.proofs.Truths.{same_and}
+use Rattle.xdg_listing.proofs.Truths.{same_flag}
 
 -- ---- where the box is closed all bundles are done
 
@@ -49,10 +50,6 @@ and_same true true false same = refl
 and_same true false false same = refl
 and_same false true false same = refl
 and_same false false false same = refl
-
-and_after : (a b c : Bool) → (a ≡ true → b ≡ c) → (a && b) ≡ (a && c)
-and_after true b c same = same refl
-and_after false b c same = refl
 
 same_length : (test p q : Edge → Bool) (edges : List Edge) → ((e : Edge) → Contains edges e → test e ≡ true → p e ≡ q e) → length (filter test (filter p edges)) ≡ length (filter test (filter q edges))
 same_length test p q edges same =
@@ -92,7 +89,7 @@ module _ (parts : Parts) (group : Group) (old new : List (List Bool)) (lies : Li
   may_counts : count_of way (may_edges parts new dim) node label ≡ count_of way (may_edges parts old dim) node label
   may_counts =
       sym (counted way (may_edges parts new dim) node label)
-      ∙ same_length (in_bundle way node label) (may_be parts new dim) (may_be parts old dim) (places parts) (λ e c inside. and_after (e.dim.0 == dim) (has new (edge_decision parts e) 0) (has old (edge_decision parts e) 0) (λ on. flag_same e c inside on 0))
+      ∙ same_length (in_bundle way node label) (may_be parts new dim) (may_be parts old dim) (places parts) (λ e c inside. same_and (e.dim.0 == dim) (has new (edge_decision parts e) 0) (has old (edge_decision parts e) 0) (λ on. flag_same e c inside on 0))
       ∙ counted way (may_edges parts old dim) node label
 
   both_same : (a b c d : Bool) → a ≡ b → c ≡ d → (a && not c) ≡ (b && not d)
@@ -102,7 +99,7 @@ module _ (parts : Parts) (group : Group) (old new : List (List Bool)) (lies : Li
   must_counts =
       sym (counted way (must_edges parts new dim) node label)
       ∙ same_length (in_bundle way node label) (must_be parts new dim) (must_be parts old dim) (places parts) (λ e c inside.
-      and_after (e.dim.0 == dim) (has new (edge_decision parts e) 0 && not (has new (edge_decision parts e) 1)) (has old (edge_decision parts e) 0 && not (has old (edge_decision parts e) 1)) (λ on.
+      same_and (e.dim.0 == dim) (has new (edge_decision parts e) 0 && not (has new (edge_decision parts e) 1)) (has old (edge_decision parts e) 0 && not (has old (edge_decision parts e) 1)) (λ on.
       both_same (has new (edge_decision parts e) 0) (has old (edge_decision parts e) 0) (has new (edge_decision parts e) 1) (has old (edge_decision parts e) 1) (flag_same e c inside on 0) (flag_same e c inside on 1)))
       ∙ counted way (must_edges parts old dim) node label
 

@@ -4,8 +4,9 @@ use Rattle.std.specs.Prelude.{Contains, ◌==◌}
 use Rattle.std.specs.List.{AllByRecursion}
 use Rattle.std.proofs.lemmas.Bool.{cases_eq, or_cases, eq-eqb, eqb-true, false≢true}
 use Rattle.xdg_nodeset.specs.Nodes.{has, Rises, IsNodes}
-use Rattle.xdg_problem.proofs.Looking.{or_left, or_right}
-use Rattle.xdg_problem.proofs.Ordered.{Ordered, each_contained, each_weaker, each_both, each_map, contains_head, contains_more, contains_cases, contains_none}
+use Rattle.xdg_problem.proofs.Ordered.{Ordered, each_contained, each_weaker, each_both, each_map, contains_head, contains_cases, contains_none}
+use Rattle.xdg_listing.proofs.Truths.{or_here, either_true}
+use Rattle.xdg_listing.proofs.Lists.{contains_more}
 
 abbrev pub AreRising : List ℕ → Type 0
 AreRising xs = Ordered (λ a b. a < b) xs
@@ -65,8 +66,8 @@ has_contained (m ∷ s) n h = elim (or_cases (m == n) (has s n) h) [
 pub contained_has : (s : List ℕ) (n : ℕ) → Contains s n → has s n ≡ true
 contained_has [] n c = absurd (contains_none n c)
 contained_has (m ∷ s) n c = elim (contains_cases m s n c) [
-  | inl here ↦ or_left (m == n) (has s n) (eq-eqb m n here)
-  | inr there ↦ or_right (m == n) (has s n) (contained_has s n there)
+  | inl here ↦ or_here (m == n) (has s n) (eq-eqb m n here)
+  | inr there ↦ either_true (m == n) (has s n) (contained_has s n there)
 ]
 
 -- ---- lists told by a number of each element

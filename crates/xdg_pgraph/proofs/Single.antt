@@ -15,7 +15,7 @@ use Rattle.xdg_problem.specs.Problems.{IsGroup}
 use Rattle.xdg_problem.specs.Vectors.{shape}
 use Rattle.xdg_problem.proofs.Edges.{before_differ}
 use Rattle.xdg_problem.proofs.FilterFacts.{filter_contained}
-use Rattle.xdg_problem.proofs.Ordered.{Ordered, ordered_filter, contains_head, contains_more, contains_none}
+use Rattle.xdg_problem.proofs.Ordered.{Ordered, ordered_filter, contains_head, contains_none}
 use Rattle.xdg_problem.proofs.PlaceOrder.{places_ordered, is_place}
 use Rattle.xdg_rules.specs.Rules.{Takes, OnlyMother, may_edges}
 use Rattle.xdg_rules.proofs.Among.{roots_among}
@@ -35,6 +35,7 @@ use Rattle.xdg_pgraph.specs.Seeking.{Finds, Into, Only, RootsAre}
 use Rattle.xdg_pgraph.specs.Ruling.{Runs, RunsFor, ForOthers}
 use Rattle.xdg_pgraph.proofs.PlaneFacts.{which_place}
 use Rattle.xdg_pgraph.proofs.Ruled.{runs_none, runs_turn, runs_like}
+use Rattle.xdg_listing.proofs.Lists.{contains_more}
 
 -- ---- how many edges lead into a node
 
@@ -78,6 +79,7 @@ module _ (parts : Parts) (box : List (List Bool)) (dim w : ℕ) where
   only_place found e is f = is_place parts e (which_place whichs.May parts box dim e (subst (Finds (Into may w)) is f).0.0).0
 
 -- ---- the rule, for daughters below a bound
+
 pub record OnlyMotherBelow (bound : ℕ) (parts : Parts) (group : Group) (box : List (List Bool)) (d v : ℕ) : Type 0 where
   pub rule : OnlyMother parts group box d v
   pub below : rule.place.daughter.0 < bound

@@ -13,12 +13,13 @@ use Rattle.xdg_problem.specs.Features.{in_row, out_row}
 use Rattle.xdg_problem.specs.Places.{nodes, places}
 use Rattle.xdg_problem.specs.Tests.{Test, Counts, looks_at, out_count, in_count}
 use Rattle.xdg_problem.proofs.FilterFacts.{count_of_filter}
-use Rattle.xdg_problem.proofs.Ordered.{contains_head, contains_more, contains_cases, contains_none}
+use Rattle.xdg_problem.proofs.Ordered.{contains_head, contains_cases, contains_none}
 use Rattle.xdg_problem.proofs.PlaceOrder.{is_place}
 use Rattle.xdg_rules.specs.Rules.{has, IsDecided, HasNoneWithin, TestDecided, TestPasses, ValencyEntry, may_edges, must_edges, value_in}
 use Rattle.xdg_rules.proofs.Failing.{value_is}
 use Rattle.xdg_rules.proofs.Keeping.{less_length}
 use Rattle.xdg_rules.proofs.Shrinking.{may_be, must_be, must_test}
+use Rattle.xdg_listing.proofs.Lists.{contains_more}
 
 -- a number of a list lies between two others, or none does
 some_within : (xs : List ℕ) (least most : ℕ) → ((k : ℕ) × Contains xs k × (least ≤ k) × (k ≤ most)) ⊎ HasNoneWithin xs least most

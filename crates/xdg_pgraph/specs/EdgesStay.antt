@@ -1,5 +1,5 @@
 -- Where a box loses no value of the edges of a dimension, the rules of trees and dags take from it what they took before.
-use Rattle.std.proofs.Common.{◌≡◌, ℕ, inl, inr, Bool, true, false, List, length, refl, sym, ◌∙◌, ap, subst, arith}
+use Rattle.std.proofs.Common.{◌≡◌, ℕ, inl, inr, Bool, true, false, List, length, sym, ◌∙◌, ap, subst, arith}
 use Rattle.std.specs.Prelude.{Contains, ◌==◌, ◌&&◌, not}
 use Rattle.std.specs.Int.{bit_at}
 use Rattle.std.proofs.lemmas.Bool.{cases_Bool, eqb-true}
@@ -13,15 +13,12 @@ use Rattle.xdg_problem.specs.Paths.{Above, mothers, roots}
 use Rattle.xdg_problem.specs.Places.{nodes, places}
 use Rattle.xdg_problem.proofs.FilterFacts.{filter_alike}
 use Rattle.xdg_rules.specs.Rules.{has, OneMother, NoCycle, OneLabel, TakesForRoot, may_edges, must_edges}
-use Rattle.xdg_rules.proofs.Failing.{same_flag}
 use Rattle.xdg_rules.proofs.Shrinking.{may_be, must_be}
 use Rattle.xdg_propcore.specs.Kinds.{edge_kind, kind_of}
 use Rattle.xdg_propcore.specs.Losses.{LosesOutside}
 use Rattle.xdg_propcore.proofs.DecisionKinds.{kind_of_edge}
-
-same_and : (a b c : Bool) → (a ≡ true → b ≡ c) → (a && b) ≡ (a && c)
-same_and true b c same = same refl
-same_and false b c same = refl
+use Rattle.xdg_listing.proofs.Truths.{same_and}
+use Rattle.xdg_listing.proofs.Truths.{same_flag}
 
 module _ (parts : Parts) (old new : List (List Bool)) (dim wakes : ℕ) (lies : LiesIn new old) (wakes_has : bit_at wakes (edge_kind dim) ≡ 1) (outside : LosesOutside parts wakes old new) where
   -- no value of an edge of the dimension is lost

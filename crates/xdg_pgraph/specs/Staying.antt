@@ -3,7 +3,7 @@ use Rattle.std.proofs.Common.{◌≡◌, ℕ, ◌<◌, ◌^◌, inl, inr, Bool, 
 use Rattle.std.specs.Int.{bit_at}
 use lib.Bits.{bit_or}
 use Rattle.std.proofs.lemmas.Bool.{cases_Bool}
-use Rattle.std.proofs.lemmas.Nat.Bits.{bit_at_or, bit_at-lt, bit_at-pow_same}
+use Rattle.std.proofs.lemmas.Nat.Bits.{bit_at-pow_same}
 use Rattle.xdg_problem.specs.declared.parts.Group.{Group}
 use Rattle.xdg_problem.specs.declared.parts.Parts.{Parts}
 use Rattle.xdg_problem.specs.declared.parts.Principle.{Principle}
@@ -24,12 +24,7 @@ use Rattle.xdg_pgraph.specs.EdgesStay.{may_same, must_same, one_mother_stays, no
 use Rattle.xdg_pgraph.specs.Family.{IsOfFamily, kinds_of}
 use Rattle.xdg_pgraph.specs.Standing.{stands_for}
 use Rattle.xdg_pgraph.specs.declared.graph_prop.GraphProp.{GraphProp}
-
-or_left_bit : (a b kind : ℕ) → bit_at a kind ≡ 1 → bit_at (bit_or a b) kind ≡ 1
-or_left_bit a b kind h = let e = bit_at_or a b kind in let l = bit_at-lt b kind in omega (arith, e, l, h)
-
-or_right_bit : (a b kind : ℕ) → bit_at b kind ≡ 1 → bit_at (bit_or a b) kind ≡ 1
-or_right_bit a b kind h = let e = bit_at_or a b kind in let l = bit_at-lt a kind in omega (arith, e, l, h)
+use Rattle.xdg_listing.proofs.Bits.{or_left_bit, has_right}
 
 module _ (parts : Parts) (problem : IsProblem parts) (group : Group) (family : IsOfFamily group.principle) (old new : List (List Bool)) (new_is : IsBox (shape parts) new) (inside : LiesIn new old) (outside : LosesOutside parts (kinds_of group.principle (first_dim group)) old new) where
   abbrev dim : ℕ
@@ -84,7 +79,7 @@ module _ (parts : Parts) (problem : IsProblem parts) (group : Group) (family : I
       ]
   rule_before principles.Valency f lost d v rule =
       let wakes = bit_or (2 ^ entry_kind) (2 ^ edge_kind dim) in
-      let woken = or_right_bit (2 ^ entry_kind) (2 ^ edge_kind dim) (edge_kind dim) (bit_at-pow_same (edge_kind dim)) in
+      let woken = has_right (2 ^ entry_kind) (2 ^ edge_kind dim) (edge_kind dim) (bit_at-pow_same (edge_kind dim)) in
       let may = may_stays wakes woken lost in
       let must = must_stays wakes woken lost in
       let entries = entries_stay wakes (or_left_bit (2 ^ entry_kind) (2 ^ edge_kind dim) entry_kind (bit_at-pow_same entry_kind)) lost in
@@ -101,6 +96,7 @@ module _ (parts : Parts) (problem : IsProblem parts) (group : Group) (family : I
   closed_still closed = closed_by_rules parts group new problem new_is family (λ d v remains rule. closed d v (inside d v remains) (inr (rule_before group.principle family outside d v rule)))
 
 -- where the propagator is still, it stays so while the box loses values of other kinds
+
 pub stays_still : (p : GraphProp) (parts : Parts) (number : ℕ) (old new : List (List Bool)) → IsProblem parts → StandsFor (stands_for p) parts number → IsBox (shape parts) old → IsBox (shape parts) new → LiesIn new old → LosesOutside parts p.wakes.0 old new → IsClosedBy (stands_for p) parts old → IsClosedBy (stands_for p) parts new
 stays_still p parts number old new problem stands old_is new_is inside outside still k here =
     closed_still parts problem (use_at parts k) here.1.family old new new_is inside (subst (λ w. LosesOutside parts w old new) here.1.kinds outside) (still k here)

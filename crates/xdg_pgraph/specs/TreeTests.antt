@@ -18,11 +18,12 @@ use Rattle.xdg_problem.specs.Tests.{Test, looks_at, one_label, one_mother, no_cy
 use Rattle.xdg_problem.specs.Vectors.{shape}
 use Rattle.xdg_problem.proofs.Edges.{before_differ}
 use Rattle.xdg_problem.proofs.FilterFacts.{filter_contained}
-use Rattle.xdg_problem.proofs.Ordered.{Ordered, contains_head, contains_more, ordered_filter}
+use Rattle.xdg_problem.proofs.Ordered.{Ordered, contains_head, ordered_filter}
 use Rattle.xdg_problem.proofs.PlaceOrder.{is_place, places_ordered}
 use Rattle.xdg_rules.specs.Rules.{has, IsDecided, OneLabel, OneMother, NoCycle, HasNoRoot, HasTwoRoots, may_edges, must_edges}
 use Rattle.xdg_rules.proofs.Among.{roots_length}
 use Rattle.xdg_rules.proofs.Shrinking.{must_of, must_is, may_of}
+use Rattle.xdg_listing.proofs.Lists.{contains_more}
 
 -- two different edges, or at most one
 two_of : (xs : List Edge) → Ordered Before xs → (length xs ≤ 1) ⊎ ((a : Edge) × (b : Edge) × Contains xs a × Contains xs b × (a ≢ b))

@@ -1,5 +1,5 @@
 -- Where no rule of a linking principle takes a value that remains, no test of it that is decided fails.
-use Rattle.std.proofs.Common.{◌≡◌, ℕ, ◌<◌, ◌↔◌, ◌&&◌, ◌||◌, ◌==◌, inl, Bool, true, false, List, length, refl, sym, ◌∙◌, ap, subst, arith}
+use Rattle.std.proofs.Common.{◌≡◌, ℕ, ◌<◌, ◌↔◌, ◌&&◌, ◌||◌, ◌==◌, inl, Bool, true, List, length, refl, sym, ◌∙◌, ap, subst, arith}
 use Rattle.std.specs.Prelude.{Contains, filter}
 use Rattle.std.specs.List.{Any}
 use Rattle.std.proofs.lemmas.Bool.{eq-eqb}
@@ -19,19 +19,15 @@ use Rattle.xdg_problem.specs.Tests.{Test, looks_at, looks_first, looks_second, l
 use Rattle.xdg_problem.specs.Vectors.{shape}
 use Rattle.xdg_problem.proofs.EachTest.{Each, each_tested}
 use Rattle.xdg_problem.proofs.FilterFacts.{filter_both, filter_alike}
-use Rattle.xdg_problem.proofs.Looking.{and_2, and_3, any_same, any_weaker, on_same, or_left, or_right, sees_place}
+use Rattle.xdg_problem.proofs.Looking.{and_3, any_same, any_weaker, on_same, sees_place}
 use Rattle.xdg_problem.proofs.PlaceOrder.{place_is}
 use Rattle.xdg_rules.specs.Rules.{has, may_edges, FailsTest, IsDecided, LinkingNotDaughter, LinkingReach, TakesBy, TestDecided, TestPasses, value_in}
 use Rattle.xdg_rules.proofs.Failing.{value_is}
 use Rattle.xdg_rules.proofs.Shrinking.{may_exact, must_exact}
 use Rattle.xdg_plink.specs.Family.{IsLinking}
 use Rattle.xdg_plink.specs.Places.{may_by}
-
-and_swap : (a b : Bool) → (a && b) ≡ (b && a)
-and_swap true true = refl
-and_swap true false = refl
-and_swap false true = refl
-and_swap false false = refl
+use Rattle.xdg_listing.proofs.Truths.{and_swap}
+use Rattle.xdg_listing.proofs.Truths.{and_2, or_here, either_true}
 
 module _ (parts : Parts) (group : Group) (box : List (List Bool)) (is : IsBox (shape parts) box) where
   abbrev one : ℕ
@@ -71,27 +67,27 @@ module _ (parts : Parts) (group : Group) (box : List (List Bool)) (is : IsBox (s
 
   -- the edge that a test of a place looks at
   place_seen : (test : Test) (u l v : ℕ) → ((e : Edge) → looks_first one test e ≡ ((e.dim.0 == one) && (e.mother.0 == u) && (e.label.0 == l) && (e.daughter.0 == v))) → IsDaughterBy (edges_on one (seen test)) u l v → IsDaughterBy (may one) u l v
-  place_seen test u l v looks = (any_seen test one (λ e. (e.mother.0 ≡ u) × (e.label.0 ≡ l) × (e.daughter.0 ≡ v)) (λ e here on. or_right (looks_second two test e) (looks_first one test e) (looks e ∙ sees_place one u l v e here on))).0
+  place_seen test u l v looks = (any_seen test one (λ e. (e.mother.0 ≡ u) × (e.label.0 ≡ l) × (e.daughter.0 ≡ v)) (λ e here on. either_true (looks_second two test e) (looks_first one test e) (looks e ∙ sees_place one u l v e here on))).0
 
   end_seen : (u l v : ℕ) (labels : List ℕ) → IsEnteredByAny (may two) labels v → IsEnteredByAny (edges_on two (seen (linked_end u l v))) labels v
-  end_seen u l v labels = (any_seen (linked_end u l v) two (λ e. Contains labels e.label.0 × (e.daughter.0 ≡ v)) (λ e at on. or_left (looks_second two (linked_end u l v) e) (looks_first one (linked_end u l v) e) (and_2 (e.dim.0 == two) (e.daughter.0 == v) on (eq-eqb e.daughter.0 v at.1)))).1
+  end_seen u l v labels = (any_seen (linked_end u l v) two (λ e. Contains labels e.label.0 × (e.daughter.0 ≡ v)) (λ e at on. or_here (looks_second two (linked_end u l v) e) (looks_first one (linked_end u l v) e) (and_2 (e.dim.0 == two) (e.daughter.0 == v) on (eq-eqb e.daughter.0 v at.1)))).1
 
   daughter_seen : (u l v : ℕ) (labels : List ℕ) → IsDaughterByAny (may two) u labels v → IsDaughterByAny (edges_on two (seen (linked_daughter u l v))) u labels v
-  daughter_seen u l v labels = (any_seen (linked_daughter u l v) two (λ e. (e.mother.0 ≡ u) × Contains labels e.label.0 × (e.daughter.0 ≡ v)) (λ e at on. or_left (looks_second two (linked_daughter u l v) e) (looks_first one (linked_daughter u l v) e) (and_3 (e.dim.0 == two) (e.mother.0 == u) (e.daughter.0 == v) on (eq-eqb e.mother.0 u at.0) (eq-eqb e.daughter.0 v at.2)))).1
+  daughter_seen u l v labels = (any_seen (linked_daughter u l v) two (λ e. (e.mother.0 ≡ u) × Contains labels e.label.0 × (e.daughter.0 ≡ v)) (λ e at on. or_here (looks_second two (linked_daughter u l v) e) (looks_first one (linked_daughter u l v) e) (and_3 (e.dim.0 == two) (e.mother.0 == u) (e.daughter.0 == v) on (eq-eqb e.mother.0 u at.0) (eq-eqb e.daughter.0 v at.2)))).1
 
   mother_seen : (u l v : ℕ) (labels : List ℕ) → IsDaughterByAny (may two) v labels u → IsDaughterByAny (edges_on two (seen (linked_mother u l v))) v labels u
-  mother_seen u l v labels = (any_seen (linked_mother u l v) two (λ e. (e.mother.0 ≡ v) × Contains labels e.label.0 × (e.daughter.0 ≡ u)) (λ e at on. or_left (looks_second two (linked_mother u l v) e) (looks_first one (linked_mother u l v) e) (and_3 (e.dim.0 == two) (e.mother.0 == v) (e.daughter.0 == u) on (eq-eqb e.mother.0 v at.0) (eq-eqb e.daughter.0 u at.2)))).1
+  mother_seen u l v labels = (any_seen (linked_mother u l v) two (λ e. (e.mother.0 ≡ v) × Contains labels e.label.0 × (e.daughter.0 ≡ u)) (λ e at on. or_here (looks_second two (linked_mother u l v) e) (looks_first one (linked_mother u l v) e) (and_3 (e.dim.0 == two) (e.mother.0 == v) (e.daughter.0 == u) on (eq-eqb e.mother.0 v at.0) (eq-eqb e.daughter.0 u at.2)))).1
 
   sister_seen : (u l v : ℕ) (labels : List ℕ) → AreSistersByAny (may two) u labels v → AreSistersByAny (edges_on two (seen (linked_sister u l v))) u labels v
   sister_seen u l v labels s =
       let test = linked_sister u l v in
       let few : List Edge = edges_on two (seen test) in
-      let under : (mother : ℕ) → IsDaughterByAny (may two) mother labels v → IsDaughterByAny few mother labels v = λ mother. (any_seen test two (λ e. (e.mother.0 ≡ mother) × Contains labels e.label.0 × (e.daughter.0 ≡ v)) (λ e at on. or_left (looks_second two test e) (looks_first one test e) (and_2 (e.dim.0 == two) ((e.daughter.0 == u) || (e.daughter.0 == v)) on (or_right (e.daughter.0 == u) (e.daughter.0 == v) (eq-eqb e.daughter.0 v at.2))))).1 in
-      (any_seen test two (λ e. (e.daughter.0 ≡ u) × IsDaughterByAny few e.mother.0 labels v) (λ e at on. or_left (looks_second two test e) (looks_first one test e) (and_2 (e.dim.0 == two) ((e.daughter.0 == u) || (e.daughter.0 == v)) on (or_left (e.daughter.0 == u) (e.daughter.0 == v) (eq-eqb e.daughter.0 u at.0))))).1
+      let under : (mother : ℕ) → IsDaughterByAny (may two) mother labels v → IsDaughterByAny few mother labels v = λ mother. (any_seen test two (λ e. (e.mother.0 ≡ mother) × Contains labels e.label.0 × (e.daughter.0 ≡ v)) (λ e at on. or_here (looks_second two test e) (looks_first one test e) (and_2 (e.dim.0 == two) ((e.daughter.0 == u) || (e.daughter.0 == v)) on (either_true (e.daughter.0 == u) (e.daughter.0 == v) (eq-eqb e.daughter.0 v at.2))))).1 in
+      (any_seen test two (λ e. (e.daughter.0 ≡ u) × IsDaughterByAny few e.mother.0 labels v) (λ e at on. or_here (looks_second two test e) (looks_first one test e) (and_2 (e.dim.0 == two) ((e.daughter.0 == u) || (e.daughter.0 == v)) on (or_here (e.daughter.0 == u) (e.daughter.0 == v) (eq-eqb e.daughter.0 u at.0))))).1
       (any_weaker (λ e. (e.daughter.0 ≡ u) × IsDaughterByAny (may two) e.mother.0 labels v) (λ e. (e.daughter.0 ≡ u) × IsDaughterByAny few e.mother.0 labels v) (may two) (λ e both. (both.0, under e.mother.0 both.1)) s)
 
   path_seen : (u l v from to : ℕ) (labels : List ℕ) → AboveByFirst (may two) from labels to → AboveByFirst (edges_on two (seen (linked_path u l v))) from labels to
-  path_seen u l v from to labels = subst (λ es. AboveByFirst es from labels to) (sym (all_seen (linked_path u l v) two (λ e on. or_left (looks_second two (linked_path u l v) e) (looks_first one (linked_path u l v) e) on)))
+  path_seen u l v from to labels = subst (λ es. AboveByFirst es from labels to) (sym (all_seen (linked_path u l v) two (λ e on. or_here (looks_second two (linked_path u l v) e) (looks_first one (linked_path u l v) e) on)))
 
   -- what a test asks of an edge
   abbrev Asks : Principle → Test → ℕ → ℕ → ℕ → ℕ → Type 0
@@ -148,7 +144,7 @@ module _ (parts : Parts) (group : Group) (box : List (List Bool)) (is : IsBox (s
       only x remains = decided.entry.2 x remains ∙ sym (value_is box (entry_decision u) decided.entry)
 
       looks : (e : Edge) → (e.mother.0 ≡ u) × (e.daughter.0 ≡ v) → (e.dim.0 == two) ≡ true → looks_at group test e ≡ true
-      looks e at on = or_left (looks_second two test e) (looks_first one test e) (and_3 (e.dim.0 == two) (e.mother.0 == u) (e.daughter.0 == v) on (eq-eqb e.mother.0 u at.0) (eq-eqb e.daughter.0 v at.1))
+      looks e at on = or_here (looks_second two test e) (looks_first one test e) (and_3 (e.dim.0 == two) (e.mother.0 == u) (e.daughter.0 == v) on (eq-eqb e.mother.0 u at.0) (eq-eqb e.daughter.0 v at.1))
 
       apart : IsDaughterBy (edges_on one (seen test)) u l v → Contains (set_row group u c) l → IsDaughter (edges_on two (seen test)) u v → ⊥
       apart d keeps joined =

@@ -1,8 +1,8 @@
 -- Where a linking principle takes nothing, it takes nothing while the box loses values of other kinds.
-use Rattle.std.proofs.Common.{◌≡◌, ℕ, ◌<◌, ◌^◌, ◌⊎◌, inl, inr, Bool, true, false, List, [], get_or, refl, ◌∙◌, ap, subst, arith}
+use Rattle.std.proofs.Common.{◌≡◌, ℕ, ◌<◌, ◌^◌, inl, inr, Bool, false, List, [], get_or, ◌∙◌, ap, subst, arith}
 use Rattle.std.specs.Prelude.{Contains}
 use Rattle.std.specs.Int.{bit_at}
-use Rattle.std.proofs.lemmas.Nat.Bits.{bit_at_or, bit_at-lt, bit_at-pow_same}
+use Rattle.std.proofs.lemmas.Nat.Bits.{bit_at-pow_same}
 use lib.Bits.{bit_or}
 use Rattle.xdg_problem.specs.declared.analysis.Edge.{Edge}
 use Rattle.xdg_problem.specs.declared.parts.Group.{Group}
@@ -12,7 +12,7 @@ use Rattle.xdg_problem.specs.declared.parts.Principle.TheVariants as principles
 use Rattle.xdg_problem.specs.Arguments.{first_dim, second_dim}
 use Rattle.xdg_problem.specs.Boxes.{Has, IsBox, LiesIn, entry_decision, edge_decision}
 use Rattle.xdg_problem.specs.Features.{map_row}
-use Rattle.xdg_problem.specs.Places.{edge, nodes}
+use Rattle.xdg_problem.specs.Places.{nodes}
 use Rattle.xdg_problem.specs.Problems.{IsProblem}
 use Rattle.xdg_problem.specs.Vectors.{shape}
 use Rattle.xdg_problem.proofs.PlaceOrder.{is_place}
@@ -26,29 +26,21 @@ use Rattle.xdg_propcore.proofs.DecisionKinds.{kind_of_edge, kind_of_entry}
 use Rattle.xdg_plink.specs.Family.{IsLinking}
 use Rattle.xdg_plink.specs.Kept.{link_kinds, stands_at}
 use Rattle.xdg_plink.specs.Failing.{none_fails}
+use Rattle.xdg_listing.proofs.Truths.{either}
+use Rattle.xdg_listing.proofs.Bits.{or_left_bit, has_right}
 
 -- ---- the kinds
 
-has_left : (a b kind : ℕ) → bit_at a kind ≡ 1 → bit_at (bit_or a b) kind ≡ 1
-has_left a b kind h = (let e = bit_at_or a b kind in let l = bit_at-lt b kind in omega (arith, e, l, h))
-
-has_right : (a b kind : ℕ) → bit_at b kind ≡ 1 → bit_at (bit_or a b) kind ≡ 1
-has_right a b kind h = (let e = bit_at_or a b kind in let l = bit_at-lt a kind in omega (arith, e, l, h))
-
 pub has_entries : (group : Group) → bit_at (link_kinds group) entry_kind ≡ 1
-has_entries group = has_left (bit_or (2 ^ entry_kind) (2 ^ edge_kind (first_dim group))) (2 ^ edge_kind (second_dim group)) entry_kind (has_left (2 ^ entry_kind) (2 ^ edge_kind (first_dim group)) entry_kind (bit_at-pow_same entry_kind))
+has_entries group = or_left_bit (bit_or (2 ^ entry_kind) (2 ^ edge_kind (first_dim group))) (2 ^ edge_kind (second_dim group)) entry_kind (or_left_bit (2 ^ entry_kind) (2 ^ edge_kind (first_dim group)) entry_kind (bit_at-pow_same entry_kind))
 
 pub has_first : (group : Group) → bit_at (link_kinds group) (edge_kind (first_dim group)) ≡ 1
-has_first group = has_left (bit_or (2 ^ entry_kind) (2 ^ edge_kind (first_dim group))) (2 ^ edge_kind (second_dim group)) (edge_kind (first_dim group)) (has_right (2 ^ entry_kind) (2 ^ edge_kind (first_dim group)) (edge_kind (first_dim group)) (bit_at-pow_same (edge_kind (first_dim group))))
+has_first group = or_left_bit (bit_or (2 ^ entry_kind) (2 ^ edge_kind (first_dim group))) (2 ^ edge_kind (second_dim group)) (edge_kind (first_dim group)) (has_right (2 ^ entry_kind) (2 ^ edge_kind (first_dim group)) (edge_kind (first_dim group)) (bit_at-pow_same (edge_kind (first_dim group))))
 
 pub has_second : (group : Group) → bit_at (link_kinds group) (edge_kind (second_dim group)) ≡ 1
 has_second group = has_right (bit_or (2 ^ entry_kind) (2 ^ edge_kind (first_dim group))) (2 ^ edge_kind (second_dim group)) (edge_kind (second_dim group)) (bit_at-pow_same (edge_kind (second_dim group)))
 
 -- ---- what is kept
-
-either : (b : Bool) → (b ≡ true) ⊎ (b ≡ true → ⊥)
-either true = inl refl
-either false = inr (λ e. cc)
 
 module _ (parts : Parts) (group : Group) (old new : List (List Bool)) (problem : IsProblem parts) (old_is : IsBox (shape parts) old) (new_is : IsBox (shape parts) new) (lies : LiesIn new old) (loses : LosesOutside parts (link_kinds group) old new) where
   kept : (d v kind : ℕ) → kind_of parts d ≡ kind → bit_at (link_kinds group) kind ≡ 1 → Has old d v → Has new d v
@@ -133,6 +125,7 @@ module _ (parts : Parts) (group : Group) (old new : List (List Bool)) (problem :
     none d x h rule = closed d x (lies d x h) (inr (takes_kept group.principle linking d x rule))
 
 -- a propagator that is still stays so
+
 pub still_stays : (own wakes : ℕ) (parts : Parts) (number : ℕ) (old new : List (List Bool)) → IsProblem parts → StandsFor (stands_at own wakes) parts number → IsBox (shape parts) old → IsBox (shape parts) new → LiesIn new old
     → LosesOutside parts wakes old new → IsClosedBy (stands_at own wakes) parts old → IsClosedBy (stands_at own wakes) parts new
 still_stays own wakes parts number old new problem mine old_is new_is lies loses still k here =

@@ -6,12 +6,12 @@ use Rattle.xdg_problem.specs.declared.analysis.Edge.{Edge}
 use Rattle.xdg_problem.specs.declared.parts.Parts.{Parts}
 use Rattle.xdg_problem.specs.Boxes.{Has, edge_decision}
 use Rattle.xdg_problem.specs.Places.{nodes}
-use Rattle.xdg_problem.proofs.Looking.{or_left, or_right}
 use Rattle.xdg_rules.specs.Rules.{IsPlaceOn, SaysPresent}
 use Rattle.xdg_store.specs.States.{State}
 use Rattle.xdg_propcore.specs.Passes.{Progress, Clears}
 use Rattle.xdg_propcore.proofs.Passing.{clears_none, clears_like, clears_both}
 use Rattle.xdg_pmulti.specs.Aims.{Forbids}
+use Rattle.xdg_listing.proofs.Truths.{or_here, either_true}
 
 -- the same edges, told in another way
 pub forbids_like : (parts : Parts) (dim : ℕ) (P Q : Edge → Type 0) → ((e : Edge) → IsPlaceOn parts dim e → P e → Q e) → (d v : ℕ) → Forbids parts dim P d v → Forbids parts dim Q d v
@@ -71,19 +71,19 @@ first_more dim P k p q r old mid new = one_more dim (λ x. x < k) (λ x. x < k +
 has_front : (front : List ℕ) (v x : ℕ) → has front x ≡ true → has (front ++ v ∷ []) x ≡ true
 has_front [] v x h = absurd (false≢true h)
 has_front (m ∷ front) v x h = elim (or_cases (m == x) (has front x) h) [
-  | inl here ↦ or_left (m == x) (has (front ++ v ∷ []) x) here
-  | inr there ↦ or_right (m == x) (has (front ++ v ∷ []) x) (has_front front v x there)
+  | inl here ↦ or_here (m == x) (has (front ++ v ∷ []) x) here
+  | inr there ↦ either_true (m == x) (has (front ++ v ∷ []) x) (has_front front v x there)
 ]
 
 has_in : (front rest : List ℕ) (v : ℕ) → has (front ++ v ∷ rest) v ≡ true
-has_in [] rest v = or_left (v == v) (has rest v) (eq-eqb v v refl)
-has_in (m ∷ front) rest v = or_right (m == v) (has (front ++ v ∷ rest) v) (has_in front rest v)
+has_in [] rest v = or_here (v == v) (has rest v) (eq-eqb v v refl)
+has_in (m ∷ front) rest v = either_true (m == v) (has (front ++ v ∷ rest) v) (has_in front rest v)
 
 has_cases : (front : List ℕ) (v x : ℕ) → has (front ++ v ∷ []) x ≡ true → (has front x ≡ true) ⊎ (x ≡ v)
 has_cases [] v x h = elim (or_cases (v == x) false h) [ inl here ↦ inr (sym (eqb-true v x here)) | inr none ↦ absurd (false≢true none) ]
 has_cases (m ∷ front) v x h = elim (or_cases (m == x) (has (front ++ v ∷ []) x) h) [
-  | inl here ↦ inl (or_left (m == x) (has front x) here)
-  | inr there ↦ elim (has_cases front v x there) [ inl before ↦ inl (or_right (m == x) (has front x) before) | inr same ↦ inr same ]
+  | inl here ↦ inl (or_here (m == x) (has front x) here)
+  | inr there ↦ elim (has_cases front v x there) [ inl before ↦ inl (either_true (m == x) (has front x) before) | inr same ↦ inr same ]
 ]
 
 -- the edges that go by the members of a list up to those that are left

@@ -2,8 +2,8 @@
 use Rattle.std.proofs.Common.{◌≡◌, ◌⊎◌, ℕ, ◌^◌, inl, inr, refl, sym, ap, ◌∙◌, arith, subst}
 use Rattle.std.specs.Int.{bit_at}
 use lib.Bits.{bit_or}
-use Rattle.std.proofs.lemmas.Bool.{cases_eq, eq-eqb}
-use Rattle.std.proofs.lemmas.Nat.Bits.{bit_at_or, bit_at-lt, bit_at-pow_same, bit_at-pow_other}
+use Rattle.std.proofs.lemmas.Bool.{eq-eqb}
+use Rattle.std.proofs.lemmas.Nat.Bits.{bit_at_or, bit_at-lt, bit_at-pow_same}
 use Rattle.xdg_problem.specs.declared.parts.Group.{Group}
 use Rattle.xdg_problem.specs.declared.parts.Parts.{Parts}
 use Rattle.xdg_problem.specs.declared.parts.Principle.{Principle}
@@ -11,27 +11,13 @@ use Rattle.xdg_problem.specs.declared.parts.Principle.TheVariants as principles
 use Rattle.xdg_problem.specs.Arguments.{first_dim, second_dim}
 use Rattle.xdg_problem.specs.Places.{edge}
 use Rattle.xdg_problem.specs.Tests.{IsTestOf, climbing, not_blocked}
-use Rattle.xdg_problem.proofs.Looking.{or_left, or_right}
 use Rattle.std.specs.Prelude.{◌==◌}
 use Rattle.xdg_propcore.specs.Kinds.{entry_kind, edge_kind, IsNamed}
 use Rattle.xdg_pmulti.specs.Family.{HasKinds, IsKindFor, IsOfFamily}
+use Rattle.xdg_listing.proofs.Bits.{pow_bit, or_bit, or_left_bit}
+use Rattle.xdg_listing.proofs.Truths.{or_here, either_true}
 
 -- ---- bits
-
-pow_bit : (k kind : ℕ) → bit_at (2 ^ k) kind ≡ 1 → kind ≡ k
-pow_bit k kind h = elim (cases_eq kind k) [
-  | inl same ↦ same
-  | inr other ↦ absurd (let s = bit_at-pow_other k kind other in omega (arith, s, h))
-]
-
-or_bit : (a k kind : ℕ) → bit_at (bit_or a (2 ^ k)) kind ≡ 1 → (bit_at a kind ≡ 1) ⊎ (kind ≡ k)
-or_bit a k kind h = elim (cases_eq kind k) [
-  | inl same ↦ inr same
-  | inr other ↦ inl (let e = bit_at_or a (2 ^ k) kind in let s = bit_at-pow_other k kind other in omega (arith, e, s, h))
-]
-
-left_bit : (a b kind : ℕ) → bit_at a kind ≡ 1 → bit_at (bit_or a b) kind ≡ 1
-left_bit a b kind h = let e = bit_at_or a b kind in let l = bit_at-lt b kind in omega (arith, e, l, h)
 
 new_bit : (a k kind : ℕ) → kind ≡ k → bit_at (bit_or a (2 ^ k)) kind ≡ 1
 new_bit a k kind same = subst (λ i. bit_at (bit_or a (2 ^ k)) i ≡ 1) (sym same) (let e = bit_at_or a (2 ^ k) k in let l = bit_at-lt a k in let s = bit_at-pow_same k in omega (arith, e, l, s))
@@ -56,7 +42,7 @@ module _ (group : Group) (one two a b : ℕ) (one_is : one ≡ first_dim group) 
   edges_are = ap (λ x. bit_or x b) (first ∙ ap (λ d. 2 ^ edge_kind d) one_is) ∙ ap (λ x. bit_or (2 ^ edge_kind (first_dim group)) x) (second ∙ ap (λ d. 2 ^ edge_kind d) two_is)
 
   edge_bit : (kind : ℕ) → (kind ≡ edge_kind (first_dim group)) ⊎ (kind ≡ edge_kind (second_dim group)) → bit_at edges kind ≡ 1
-  edge_bit kind (inl e) = left_bit (2 ^ edge_kind (first_dim group)) (2 ^ edge_kind (second_dim group)) kind (subst (λ k. bit_at (2 ^ edge_kind (first_dim group)) k ≡ 1) (sym e) (bit_at-pow_same (edge_kind (first_dim group))))
+  edge_bit kind (inl e) = or_left_bit (2 ^ edge_kind (first_dim group)) (2 ^ edge_kind (second_dim group)) kind (subst (λ k. bit_at (2 ^ edge_kind (first_dim group)) k ≡ 1) (sym e) (bit_at-pow_same (edge_kind (first_dim group))))
   edge_bit kind (inr e) = new_bit (2 ^ edge_kind (first_dim group)) (edge_kind (second_dim group)) kind e
 
   edge_only : (kind : ℕ) → bit_at edges kind ≡ 1 → (kind ≡ edge_kind (first_dim group)) ⊎ (kind ≡ edge_kind (second_dim group))
@@ -70,7 +56,7 @@ module _ (group : Group) (one two a b : ℕ) (one_is : one ≡ first_dim group) 
 
   pub barriers_kinds : (c : ℕ) → c ≡ 2 ^ entry_kind → group.principle ≡ principles.Barriers → HasKinds group (bit_or (bit_or a b) c)
   barriers_kinds c entries is = subst (λ n. HasKinds group (bit_or n c)) (sym edges_are) (subst (λ n. HasKinds group (bit_or edges n)) (sym entries) (record {
-    each = λ kind k. elim k [ inl e ↦ left_bit edges (2 ^ entry_kind) kind (edge_bit kind e) | inr entry ↦ new_bit edges entry_kind kind entry.1 ];
+    each = λ kind k. elim k [ inl e ↦ or_left_bit edges (2 ^ entry_kind) kind (edge_bit kind e) | inr entry ↦ new_bit edges entry_kind kind entry.1 ];
     only = λ kind h. elim (or_bit edges entry_kind kind h) [ inl e ↦ inl (edge_only kind e) | inr entry ↦ inr (is, entry) ];
   }))
 
@@ -84,8 +70,8 @@ named principles.Climbing parts group is family kind k = record {
   is = subst (λ p. IsTestOf p group.truths 1 0 (climbing 0 0)) (sym is) (omega arith, omega arith);
   looks = elim k [
     | inl edges ↦ inr (inr (elim edges [
-      | inl first ↦ (edge (first_dim group) 0 0 0, or_right (first_dim group == second_dim group) (first_dim group == first_dim group) (eq-eqb (first_dim group) (first_dim group) refl), first)
-      | inr second ↦ (edge (second_dim group) 0 0 0, or_left (second_dim group == second_dim group) (second_dim group == first_dim group) (eq-eqb (second_dim group) (second_dim group) refl), second)
+      | inl first ↦ (edge (first_dim group) 0 0 0, either_true (first_dim group == second_dim group) (first_dim group == first_dim group) (eq-eqb (first_dim group) (first_dim group) refl), first)
+      | inr second ↦ (edge (second_dim group) 0 0 0, or_here (second_dim group == second_dim group) (second_dim group == first_dim group) (eq-eqb (second_dim group) (second_dim group) refl), second)
     ]))
     | inr entries ↦ absurd (no_entries group.principle is entries.0)
   ];
@@ -97,8 +83,8 @@ named principles.Barriers parts group is family kind k = record {
   is = subst (λ p. IsTestOf p group.truths 1 0 (not_blocked 0 0)) (sym is) (omega arith, omega arith);
   looks = elim k [
     | inl edges ↦ inr (inr (elim edges [
-      | inl first ↦ (edge (first_dim group) 0 0 0, or_right (first_dim group == second_dim group) (first_dim group == first_dim group) (eq-eqb (first_dim group) (first_dim group) refl), first)
-      | inr second ↦ (edge (second_dim group) 0 0 0, or_left (second_dim group == second_dim group) (second_dim group == first_dim group) (eq-eqb (second_dim group) (second_dim group) refl), second)
+      | inl first ↦ (edge (first_dim group) 0 0 0, either_true (first_dim group == second_dim group) (first_dim group == first_dim group) (eq-eqb (first_dim group) (first_dim group) refl), first)
+      | inr second ↦ (edge (second_dim group) 0 0 0, or_here (second_dim group == second_dim group) (second_dim group == first_dim group) (eq-eqb (second_dim group) (second_dim group) refl), second)
     ]))
     | inr entries ↦ inl (0, refl, entries.1)
   ];

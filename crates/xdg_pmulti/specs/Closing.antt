@@ -1,5 +1,5 @@
 -- Where the rules take nothing that remains, no test is decided and fails: the box is closed.
-use Rattle.std.proofs.Common.{◌≡◌, ℕ, ◌⊎◌, ◌&&◌, ◌==◌, inl, inr, Bool, true, false, List, refl, sym, ◌∙◌, ap, subst, arith}
+use Rattle.std.proofs.Common.{◌≡◌, ℕ, ◌⊎◌, ◌&&◌, ◌==◌, inl, inr, Bool, true, List, refl, sym, ◌∙◌, ap, subst, arith}
 use Rattle.std.specs.Prelude.{Contains, filter}
 use Rattle.std.proofs.lemmas.Bool.{eq-eqb}
 use Rattle.std.proofs.lemmas.List.Elements.{All-contains}
@@ -20,18 +20,14 @@ use Rattle.xdg_problem.specs.Tests.{Test, IsTestOf, looks_at, climbing, not_bloc
 use Rattle.xdg_problem.specs.Vectors.{shape}
 use Rattle.xdg_problem.proofs.DecidingPaths.{decided_above}
 use Rattle.xdg_problem.proofs.FilterFacts.{filter_both, filter_alike}
-use Rattle.xdg_problem.proofs.Looking.{on_same, or_left, or_right}
+use Rattle.xdg_problem.proofs.Looking.{on_same}
 use Rattle.xdg_rules.specs.Rules.{has, may_edges, must_edges, IsClosedFor, IsDecided, TakesBy, TestDecided, TestPasses, value_in}
 use Rattle.xdg_rules.proofs.Among.{Among, above_among}
 use Rattle.xdg_rules.proofs.Failing.{value_is}
 use Rattle.xdg_rules.proofs.Shrinking.{may_exact, must_exact}
 use Rattle.xdg_pmulti.specs.Family.{IsOfFamily}
-
-and_swap : (a b : Bool) → (a && b) ≡ (b && a)
-and_swap true true = refl
-and_swap true false = refl
-and_swap false true = refl
-and_swap false false = refl
+use Rattle.xdg_listing.proofs.Truths.{and_swap}
+use Rattle.xdg_listing.proofs.Truths.{or_here, either_true}
 
 module _ (parts : Parts) (group : Group) (box : List (List Bool)) (is : IsBox (shape parts) box) where
   abbrev one : ℕ
@@ -90,8 +86,8 @@ module _ (parts : Parts) (group : Group) (box : List (List Bool)) (is : IsBox (s
 
   climbing_test : (test : Test) → IsTestOf principles.Climbing group.truths (nodes parts) (label_count parts one) test → NoRule principles.Climbing → TestPasses parts group box test
   climbing_test (climbing u v) of none = λ above.
-      let first = all_seen (climbing u v) one (λ e on. or_right (e.dim.0 == two) (e.dim.0 == one) on) in
-      let second = all_seen (climbing u v) two (λ e on. or_left (e.dim.0 == two) (e.dim.0 == one) on) in
+      let first = all_seen (climbing u v) one (λ e on. either_true (e.dim.0 == two) (e.dim.0 == one) on) in
+      let second = all_seen (climbing u v) two (λ e on. or_here (e.dim.0 == two) (e.dim.0 == one) on) in
       subst (λ es. Above es u v) (sym second) (path_climbs none u v (subst (λ es. Above es u v) first above))
   climbing_test test of none = absurd of
 
@@ -105,7 +101,7 @@ module _ (parts : Parts) (group : Group) (box : List (List Bool)) (is : IsBox (s
     must_be : Among (may two) (must_edges parts box two)
     must_be e stands =
         let m = (may_exact parts box two e).0 stands in
-        let one_value : IsDecided box (edge_decision parts e) = All-contains (λ e. looks_at group (not_blocked w v) e ≡ true → IsDecided box (edge_decision parts e)) (places parts) e decided.edges m.0.0 (or_left (e.dim.0 == two) (e.dim.0 == one) (on_two e m.0.1)) in
+        let one_value : IsDecided box (edge_decision parts e) = All-contains (λ e. looks_at group (not_blocked w v) e ≡ true → IsDecided box (edge_decision parts e)) (places parts) e decided.edges m.0.0 (or_here (e.dim.0 == two) (e.dim.0 == one) (on_two e m.0.1)) in
         (must_exact parts box two e is).1 (m.0, λ absent. (let x = one_value.2 0 m.1 in let y = one_value.2 1 absent in omega (arith, x, y)))
       where
         on_two : (e : Edge) → e.dim.0 ≡ two → (e.dim.0 == two) ≡ true
@@ -138,8 +134,8 @@ module _ (parts : Parts) (group : Group) (box : List (List Bool)) (is : IsBox (s
 
     blocked_passes : NoRule principles.Barriers → TestPasses parts group box (not_blocked w v)
     blocked_passes none = λ path.
-        let first = all_seen (not_blocked w v) one (λ e on. or_right (e.dim.0 == two) (e.dim.0 == one) on) in
-        let second = all_seen (not_blocked w v) two (λ e on. or_left (e.dim.0 == two) (e.dim.0 == one) on) in
+        let first = all_seen (not_blocked w v) one (λ e on. either_true (e.dim.0 == two) (e.dim.0 == one) on) in
+        let second = all_seen (not_blocked w v) two (λ e on. or_here (e.dim.0 == two) (e.dim.0 == one) on) in
         subst (λ es. Above es w v) (sym first) (path_passes none (subst (λ es. AboveByLast es w (set_row group w entry) v) second path))
 
   barriers_test : (test : Test) → IsTestOf principles.Barriers group.truths (nodes parts) (label_count parts one) test → TestDecided parts group box test → NoRule principles.Barriers → TestPasses parts group box test

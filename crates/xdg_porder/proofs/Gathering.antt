@@ -8,6 +8,7 @@ use Rattle.xdg_nodeset.specs.Nodes.{has, IsNodes}
 use Rattle.xdg_nodeset.proofs.Rising.{has_beyond}
 use Rattle.xdg_problem.specs.Asking.{IsBetween}
 use Rattle.xdg_porder.specs.Across.{Crosses}
+use Rattle.xdg_listing.proofs.Truths.{left_out}
 
 -- what was gathered, and what the nodes still to come bring, is what all bring
 abbrev pub Gathers : (ℕ → ℕ → Type 0) → List ℕ → List ℕ → List ℕ → Type 0
@@ -122,11 +123,6 @@ meets_right nodes ends reach met small exact is v = (
 )
 
 -- ---- crossing
-
-left_out : (a b : Bool) → ((a && not b) ≡ true) ↔ ((a ≡ true) × (b ≡ true → ⊥))
-left_out true true = (λ h. absurd (false≢true h), λ h. absurd (h.1 refl))
-left_out true false = (λ h. (refl, λ e. false≢true e), λ h. refl)
-left_out false b = (λ h. absurd (false≢true h), λ h. absurd (false≢true h.0))
 
 pub crosses_exact : (u v : ℕ) (reached inner gaps : List ℕ) (b : Bool) → ((w : ℕ) → has inner w ≡ (nat_lt (min u v) w && nat_lt w (max u v))) → ((w : ℕ) → has gaps w ≡ (has inner w && not (has reached w))) → IsTrue b ↔ ((w : ℕ) → has gaps w ≡ true → ⊥) → IsTrue (not b) ↔ Crosses u reached v
 crosses_exact u v reached inner gaps true is is_gaps exact = (

@@ -10,11 +10,7 @@ use Rattle.xdg_problem.specs.declared.parts.Parts.{Parts}
 use Rattle.xdg_porder.specs.Items.{MayFollow, MustFollow, label_at}
 use Rattle.xdg_porder.specs.Yields.{IsBroken, IsLabelSettled}
 use Rattle.xdg_porder.proofs.Gathering.{some_or_none}
-
-left_out : (a b : Bool) → ((a && not b) ≡ true) ↔ ((a ≡ true) × (b ≡ true → ⊥))
-left_out true true = (λ h. absurd (false≢true h), λ h. absurd (h.1 refl))
-left_out true false = (λ h. (refl, λ e. false≢true e), λ h. refl)
-left_out false b = (λ h. absurd (false≢true h), λ h. absurd (false≢true h.0))
+use Rattle.xdg_listing.proofs.Truths.{left_out}
 
 -- where no node is left that may follow and needn't
 pub settled_exact : (parts : Parts) (group : Group) (box : List (List Bool)) (u label : ℕ) (may must free : List ℕ) (b : Bool) → ((v : ℕ) → (has may v ≡ true) ↔ MayFollow parts group box u label v) → ((v : ℕ) → (has must v ≡ true) ↔ MustFollow parts group box u label v) → ((v : ℕ) → has free v ≡ (has may v && not (has must v))) → IsTrue b ↔ ((v : ℕ) → has free v ≡ true → ⊥) → IsTrue b ↔ IsLabelSettled parts group u label box
@@ -50,13 +46,6 @@ broken_exact L R left right wrong false l r exact none = (
   ]),
   λ h. refl,
 )
-
--- what holds at the first places holds at one more
-pub all_next : (P : ℕ → Type 0) (k : ℕ) → ((i : ℕ) → i < k → P i) → P k → (i : ℕ) → i < k + 1 → P i
-all_next P k before here i l = elim (cases_lt i k) [
-  | inl less ↦ before i less
-  | inr past ↦ (let e : i ≡ k = omega (arith, l, past) in subst P (sym e) here)
-]
 
 -- none of the later places up to a number is broken
 abbrev pub NoneBroken : Parts → Group → List (List ℕ) → List (List Bool) → ℕ → ℕ → ℕ → Type 0

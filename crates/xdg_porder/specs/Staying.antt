@@ -20,30 +20,24 @@ use Rattle.xdg_problem.proofs.PlaceOrder.{is_place}
 use Rattle.xdg_problem.proofs.Shortening.{passes_like}
 use Rattle.xdg_rules.specs.Rules.{has, IsPlaceOn, IsDecided, EntryDecided, FailsTest, TakesBy, IsClosedFor, may_edges, must_edges, attr_of_node, value_in, entry_value}
 use Rattle.xdg_rules.proofs.Among.{Among, above_among}
-use Rattle.xdg_rules.proofs.Failing.{value_is, same_flag}
+use Rattle.xdg_rules.proofs.Failing.{value_is}
 use Rattle.xdg_rules.proofs.Shrinking.{may_exact, must_exact}
 use Rattle.xdg_propcore.specs.Kinds.{kind_of, edge_kind}
 use Rattle.xdg_propcore.specs.Losses.{LosesOutside}
 use Rattle.xdg_propcore.specs.Uses.{IsClosedBy, StandsFor, use_at, no_use}
 use Rattle.xdg_propcore.proofs.DecisionKinds.{kind_of_attr, kind_of_edge}
 use Rattle.xdg_porder.specs.Family.{HasKinds, IsOfFamily, StandsAt}
+use Rattle.xdg_listing.proofs.Truths.{and_first, same_and}
+use Rattle.xdg_listing.proofs.Truths.{same_flag}
 
 pub dim_needed : (p : Principle) → IsOfFamily p → 0 < dim_arguments p
 dim_needed principles.Order family = omega arith
 dim_needed principles.Projectivity family = omega arith
 dim_needed p family = absurd family
 
-same_and : (a b c : Bool) → (a ≡ true → b ≡ c) → (a && b) ≡ (a && c)
-same_and true b c same = same refl
-same_and false b c same = refl
-
 -- a test of one dimension looks at its edges alone
 on_dim : (a b : ℕ) → (a == b) ≡ true → a ≡ b
 on_dim a b h = eqb-true a b h
-
-first_of_two : (a b : Bool) → (a && b) ≡ true → a ≡ true
-first_of_two true b h = refl
-first_of_two false b h = h
 
 module _ (parts : Parts) (problem : IsProblem parts) (group : Group) (group_is : IsGroup parts group) (wakes : ℕ) (kinds : HasKinds group wakes) (family : IsOfFamily group.principle) (old new : List (List Bool)) (old_is : IsBox (shape parts) old) (new_is : IsBox (shape parts) new) (inside : LiesIn new old) (outside : LosesOutside parts wakes old new) where
   -- values of the kinds that wake stay
@@ -169,7 +163,7 @@ module _ (parts : Parts) (problem : IsProblem parts) (group : Group) (group_is :
     pub on : (e : Edge) → looks_at group test e ≡ true → e.dim.0 ≡ first_dim group
 
   looks_here : (p : Principle) → group.principle ≡ p → IsOfFamily p → (test : Test) → IsTestOf p group.truths (nodes parts) (label_count parts (first_dim group)) test → LooksHere test
-  looks_here principles.Order e f (ordered_daughters u) is = record { none = refl; keeps = All-cons Keeps _ [] (λ x. own_stays e u x is.1) (All-nil Keeps); on = λ edge looks. on_dim edge.dim.0 (first_dim group) (first_of_two _ _ looks) }
+  looks_here principles.Order e f (ordered_daughters u) is = record { none = refl; keeps = All-cons Keeps _ [] (λ x. own_stays e u x is.1) (All-nil Keeps); on = λ edge looks. on_dim edge.dim.0 (first_dim group) (and_first _ _ looks) }
   looks_here principles.Order e f (ordered_yields u) is = record { none = refl; keeps = All-cons Keeps _ [] (λ x. own_stays e u x is.1) (All-nil Keeps); on = λ edge looks. on_dim edge.dim.0 (first_dim group) looks }
   looks_here principles.Projectivity e f (projective u v) is = record { none = refl; keeps = All-nil Keeps; on = λ edge looks. on_dim edge.dim.0 (first_dim group) looks }
   looks_here principles.Order e f test is = absurd is
@@ -183,6 +177,7 @@ module _ (parts : Parts) (problem : IsProblem parts) (group : Group) (group_is :
   ])
 
 -- where the propagator is still, it stays so while the box loses values of other kinds
+
 pub stays_still : (mine wakes : ℕ) (parts : Parts) (number : ℕ) (old new : List (List Bool)) → IsProblem parts → StandsFor (StandsAt mine wakes) parts number → IsBox (shape parts) old → IsBox (shape parts) new → LiesIn new old → LosesOutside parts wakes old new → IsClosedBy (StandsAt mine wakes) parts old → IsClosedBy (StandsAt mine wakes) parts new
 stays_still mine wakes parts number old new problem stands old_is new_is inside outside still k here =
     closed_still parts problem (use_at parts k) (problem.groups k no_use here.0) wakes here.1.kinds here.1.family old new old_is new_is inside outside (still k here)

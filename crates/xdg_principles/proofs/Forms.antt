@@ -1,5 +1,5 @@
 -- The arguments of a principle, one by one.
-use Rattle.std.proofs.Common.{◌≡◌, ℕ, Bool, true, false, ◌||◌, List, [], ◌∷◌, ◌++◌, map, Option, None, Some, refl, sym, ap, ◌∙◌}
+use Rattle.std.proofs.Common.{◌≡◌, ℕ, ◌||◌, List, [], ◌∷◌, ◌++◌, map, Option, None, Some, refl, sym, ap, ◌∙◌}
 use Rattle.std.specs.List.{flat_map}
 use Rattle.std.specs.Str.{bytes_eq}
 use Rattle.std.proofs.lemmas.Grind.{flat_map-append}
@@ -14,13 +14,10 @@ use Rattle.xdg_principles.specs.Made.{arg, args}
 use Rattle.xdg_principles.specs.Settings.{Setting}
 use Rattle.xdg_principles.specs.Principles.{key_text, told}
 use Rattle.xdg_principles.specs.Names.{required_key}
+use Rattle.xdg_listing.proofs.Truths.{or_assoc}
 
 pub nothing_more : (found : Option Fault) → earlier found None ≡ found
 nothing_more found = earlier-none found
-
-or_assoc : (a b c : Bool) → ((a || b) || c) ≡ (a || (b || c))
-or_assoc true b c = refl
-or_assoc false b c = refl
 
 has_append : (xs ys : List (List ℕ)) (t : List ℕ) → has_text (xs ++ ys) t ≡ (has_text xs t || has_text ys t)
 has_append [] ys t = refl

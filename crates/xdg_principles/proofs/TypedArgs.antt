@@ -1,5 +1,5 @@
 -- Arguments have the wanted types where nothing is wrong with them.
-use Rattle.std.proofs.Common.{◌≡◌, inl, inr, ℕ, zero, suc, ◌<◌, Bool, true, false, List, [], ◌∷◌, length, Option, None, Some, refl, sym, ap, ◌∙◌, subst, arith}
+use Rattle.std.proofs.Common.{◌≡◌, inl, inr, ℕ, ◌<◌, Bool, true, false, List, [], length, Option, None, Some, refl, sym, ap, ◌∙◌, subst, arith}
 use Rattle.std.specs.Prelude.{slice_get, option_map, if◌then◌else◌}
 use Rattle.std.proofs.lemmas.Bool.{true≢false, cases_Bool}
 use Rattle.std.proofs.lemmas.List.{length-map}
@@ -41,17 +41,8 @@ use Rattle.xdg_principles.specs.Typed.{labels_at, dim_at, IsElementOf, IsTypedAs
 use Rattle.xdg_principles.proofs.TypedPlaces.{label_places}
 use Rattle.xdg_principles.proofs.TypedRows.{HasWhich, FixesShared, IsSoundElement, IsSoundTyping, IsSoundWanted}
 use Rattle.xdg_principles.proofs.WantedLaw.{wanted_true, wanted_false}
-
-some_same : {A : Type 0} (x y : A) → Some x ≡ Some y → x ≡ y
-some_same x y h = cc
-
-none_some : {A : Type 0} (x : A) → None ≡ Some x → ⊥
-none_some x h = cc
-
-some_at : {A : Type 0} (xs : List A) (k : ℕ) → k < length xs → (x : A) × (slice_get xs k ≡ Some x)
-some_at [] k h = absurd (omega (arith, h))
-some_at (x ∷ xs) zero h = (x, refl)
-some_at (x ∷ xs) (suc k) h = some_at xs k (omega (arith, h))
+use Rattle.xdg_listing.proofs.Lists.{some_at}
+use Rattle.xdg_listing.proofs.Options.{none_some, some_same}
 
 -- ---- the type that arguments share
 
@@ -102,6 +93,7 @@ module _ (P Q : Shape → Type 0) (each : (type : Shape) → P type → Q type) 
 -- ---- one argument
 
 -- a constant is given where an argument without default names something
+
 constant_given : (at : ℕ) (preset : Preset) → preset ≡ p.Required → (given : Option Term) (called : Called) → called_or (called_at at (preset_feature preset)) given ≡ Some called
     → (name : Name) × ((constant_at given ≡ Some name) × (name.text ≡ called.text))
 constant_given at preset required None called h = absurd (none_some called (sym (ap (λ q. called_at at (preset_feature q)) required) ∙ h))

@@ -15,6 +15,7 @@ use Rattle.xdg_types.proofs.Elements.{all_differ}
 use Rattle.xdg_principles.specs.declared.principle.Which.{Which}
 use Rattle.xdg_principles.specs.Settings.{Setting, dim_texts, dim_place, place_named}
 use Rattle.xdg_principles.specs.Made.{AreLabels, ArePlaces}
+use Rattle.xdg_listing.proofs.Options.{none_some, some_same}
 
 -- ---- labels
 
@@ -38,12 +39,6 @@ label_places known (name ∷ names) (n ∷ ns) h apart = (
 )
 
 -- ---- the dimensions of a use
-
-some_same : {A : Type 0} (x y : A) → Some x ≡ Some y → x ≡ y
-some_same x y h = cc
-
-none_some : {A : Type 0} (x : A) → None ≡ Some x → ⊥
-none_some x h = cc
 
 -- the place of a dimension stands where the dimension does
 pub place_in : (setting : Setting) (ws : List Which) (ks : List ℕ) → ArePlaces setting ws ks → (n : ℕ) (which : Which) → slice_get ws n ≡ Some which → slice_get ks n ≡ dim_place setting which

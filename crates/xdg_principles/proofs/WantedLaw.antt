@@ -10,6 +10,7 @@ use Rattle.xdg_principles.specs.declared.principle.Typing.{Typing}
 use Rattle.xdg_principles.specs.declared.principle.Typing.TheVariants as t
 use Rattle.xdg_principles.specs.Settings.{Setting, labels, shared}
 use Rattle.xdg_principles.specs.Wanted.{IsSame, IsShared, IsElement, IsSetOf, IsMapTo, IsWanted, same_texts, same_domains, same_type, is_shared, is_domain_of, is_element, is_set_of, is_map_to, is_valency_of, is_wanted}
+use Rattle.xdg_listing.proofs.Lists.{head_of, tail_of}
 
 -- a test that holds just where a condition does
 abbrev Tells : Bool → Type 0 → Type 0
@@ -25,12 +26,6 @@ of_both a b h k = ap₂ (λ x y. x && y) h k
 
 never : {P : Type 0} → (P → ⊥) → Tells false P
 never h = (λ z. absurd (false≢true z), λ p. absurd (h p))
-
-head_of : {A : Type 0} (x y : A) (xs ys : List A) → x ∷ xs ≡ y ∷ ys → x ≡ y
-head_of x y xs ys h = cc
-
-tail_of : {A : Type 0} (x y : A) (xs ys : List A) → x ∷ xs ≡ y ∷ ys → xs ≡ ys
-tail_of x y xs ys h = cc
 
 -- ---- lists
 

@@ -1,5 +1,5 @@
 -- Terms, elements and pairs of a constant and a term are read again.
-use Rattle.std.proofs.Common.{◌≡◌, ◌≤◌, ℕ, Bool, true, false, ◌&&◌, if◌then◌else◌, List, [], ◌∷◌, map, drop, refl, sym, ap, ◌∙◌, subst, inl, inr}
+use Rattle.std.proofs.Common.{◌≡◌, ◌≤◌, ℕ, Bool, true, false, if◌then◌else◌, List, [], ◌∷◌, map, drop, refl, sym, ap, ◌∙◌, subst, inl, inr}
 use Rattle.xdg_ast.specs.declared.token.Kind.TheVariants as k
 use Rattle.xdg_ast.specs.Lexemes.{Lexeme}
 use Rattle.xdg_ast.specs.Contents.{content_of, value_of}
@@ -16,16 +16,14 @@ use Rattle.xdg_ast.specs.Trees.{name_word, names_words, card_words, gen_phrase, 
 use Rattle.xdg_ast.specs.Same.{nowhere, bare_part, bare_name, bare_names, bare_card, bare_gen, bare_elem, bare_term, bare_terms}
 use Rattle.xdg_print.proofs.AgainTrees.{term_words-Const, term_words-Param, term_words-Number, term_words-Card, term_words-Braces, term_words-Tuple, term_words-Gen, elem_words-Count, elem_words-Keyed, elem_words-Const, elem_words-Tuple, bare_term-Const, bare_term-Param, bare_term-Card, bare_term-Braces, bare_term-Tuple, bare_term-Gen, bare_elem-Count, bare_elem-Keyed, bare_elem-Const, bare_elem-Tuple}
 use Rattle.xdg_print.proofs.AgainWritten.{Written, written_in, token_written, nothing_written, both_written, made_written, Gives, token_gives, nothing_gives, made_gives, both_gives, either_gives}
-use Rattle.xdg_print.proofs.AgainNames.{Like, Kept, if_true, constant_kind, constant_says, short_text, name_text, name_words, constant_spellable, name_gives, name_written, same_text, small_value, number_written, many_keeps, keyed_keeps}
+use Rattle.xdg_print.proofs.AgainNames.{Like, Kept, constant_kind, constant_says, short_text, name_text, name_words, constant_spellable, name_gives, name_written, same_text, small_value, number_written, many_keeps, keyed_keeps}
 use Rattle.xdg_print.proofs.AgainKept.{kept_by, behind_keeps, made_keeps, spanned_keeps}
 use Rattle.xdg_print.proofs.AgainLevels.{elems_words, pairs_words, Below, nested_keeps}
 use Rattle.xdg_print.proofs.AgainTerms.{bracketed_keeps, card_keeps, gen_keeps}
+use Rattle.xdg_listing.proofs.Truths.{and_false}
+use Rattle.xdg_listing.proofs.Truths.{choose}
 
 -- ---- constants and parameters
-
-and_false : (a : Bool) → (a && false) ≡ false
-and_false true = refl
-and_false false = refl
 
 -- a text that is no parameter is a constant
 as_constant : (params : Params) (u : Lexeme) → is_among params (content_of u.kind u.text) ≡ false → named params u ≡ t.Const (name_of u)
@@ -42,7 +40,7 @@ as_param params u h i = rw (h, i) refl
 quoted_says : (text : List ℕ) (u : Lexeme) → word_of u ≡ quoted text → (is k.Name u.kind ≡ false) × (content_of u.kind u.text ≡ text)
 quoted_says text u h =
     let e : is_constant u.kind ≡ true = ap (λ (v : Word). is_constant v.kind) h in
-    (ap (λ (v : Word). is k.Name v.kind) h, sym (if_true (is_constant u.kind) (content_of u.kind u.text) [] e) ∙ ap (λ (v : Word). v.content) h)
+    (ap (λ (v : Word). is k.Name v.kind) h, sym (choose (is_constant u.kind) (content_of u.kind u.text) [] e) ∙ ap (λ (v : Word). v.content) h)
 
 module _ (params : Params) where
   const_like : (a b : Name) → a.text ≡ b.text → Like bare_term (term_words params) (t.Const a) (t.Const b)

@@ -15,6 +15,7 @@ use Rattle.xdg_ast.specs.Words.{Word, word_of, mark, number as number_word, cons
 use Rattle.xdg_ast.specs.Trees.{name_word, names_words, nums_words, pair_words}
 use Rattle.xdg_ast.specs.Same.{bare_name, bare_names, bare_num, bare_pair}
 use Rattle.xdg_print.proofs.AgainWritten.{Written, weaker, at_words, token_written, made_written, both_written, behind_written, Each, InTurn, many_written, Gives, stronger, token_gives, made_gives, both_gives, behind_gives, many_gives}
+use Rattle.xdg_listing.proofs.Truths.{choose}
 
 -- ---- kinds by their numbers
 
@@ -73,9 +74,6 @@ at_number k.Plus = refl
 pub one_kind : (a b : Kind) → is a b ≡ true → a ≡ b
 one_kind a b h = sym (at_number a) ∙ (ap (kind_at kinds) (eqb-true (number a) (number b) h) ∙ at_number b)
 
-pub if_true : {A : Type 0} (b : Bool) (x y : A) → b ≡ true → (if b then x else y) ≡ x
-if_true b x y h = rw h refl
-
 -- ---- two values that differ at most in places
 
 pub record Like {A B W : Type 0} (b : A → B) (w : A → W) (y x : A) : Type 0 where
@@ -124,7 +122,7 @@ constant_kind false = refl
 pub constant_says : (text : List ℕ) (u : Lexeme) → word_of u ≡ constant text → (is_constant u.kind ≡ true) × (content_of u.kind u.text ≡ text)
 constant_says text u h =
     let e : is_constant u.kind ≡ true = ap (λ (v : Word). is_constant v.kind) h ∙ constant_kind (is_name text) in
-    (e, sym (if_true (is_constant u.kind) (content_of u.kind u.text) [] e) ∙ ap (λ (v : Word). v.content) h)
+    (e, sym (choose (is_constant u.kind) (content_of u.kind u.text) [] e) ∙ ap (λ (v : Word). v.content) h)
 
 short_at : (kind : Kind) (text : List ℕ) → is_constant kind ≡ true
     → IsSpellable (record { kind = kind; content = if is_constant kind then content_of kind text else []; value = if is k.Number kind then value_of text else 0 }) → IsShortText (content_of kind text)
@@ -187,7 +185,7 @@ small_value t h s = number_at t.kind t.text h s
 pub number_says : (n : ℕ) (u : Lexeme) → word_of u ≡ number_word n → value_of u.text ≡ n
 number_says n u h =
     let e : is k.Number u.kind ≡ true = ap (λ (v : Word). is k.Number v.kind) h in
-    sym (if_true (is k.Number u.kind) (value_of u.text) 0 e) ∙ ap (λ (v : Word). v.value) h
+    sym (choose (is k.Number u.kind) (value_of u.text) 0 e) ∙ ap (λ (v : Word). v.value) h
 
 pub number_written : (n : ℕ) → n ≤ 4294967295 → Written (token (is k.Number)) (number_word n ∷ []) (λ u. value_of u.text ≡ n)
 number_written n s = weaker (token (is k.Number)) (number_word n ∷ []) (λ u. word_of u ≡ number_word n) (λ u. value_of u.text ≡ n) (λ u h. number_says n u h) (token_written (is k.Number) (number_word n) (refl, s) refl)

@@ -1,6 +1,5 @@
 -- The lines of the lexicon, put one after the other.
-use Rattle.std.proofs.Common.{◌≡◌, ℕ, zero, suc, ◌<◌, ◌≤◌, ◌+◌, List, [], ◌∷◌, length, get_or, slice_get, drop, Option, Some, None, unwrap_or, refl, sym, ap, ap₂, ◌∙◌, subst, add-one, arith}
-use Rattle.std.proofs.Math.Seq.{drop-cons}
+use Rattle.std.proofs.Common.{◌≡◌, ℕ, zero, suc, ◌<◌, ◌≤◌, ◌+◌, List, [], ◌∷◌, length, get_or, slice_get, drop, Option, Some, None, unwrap_or, refl, sym, ap, ap₂, ◌∙◌, subst, arith}
 use Rattle.std.proofs.lemmas.List.{drop_all}
 use Rattle.std.proofs.lemmas.Option.{slice_get_read, slice_get-get_or, unwrap_or-slice_get}
 use Rattle.xdg_ast.specs.declared.token.Kind.TheVariants as k
@@ -21,14 +20,11 @@ use Rattle.xdg_print.proofs.Written.{put_mark}
 use Rattle.xdg_print.specs.LexiconText.{dim_line, dim_line_at, dim_lines, end_line, entries_line, entry_line, entry_lines, entries_lines, lexicon_lines, lexicon_text, word_at}
 use Rattle.xdg_print.specs.ValueWords.{features_words}
 use Rattle.xdg_print.specs.WordPlaces.{place_of_word}
-use Rattle.xdg_print.proofs.Stood.{any_default}
+use Rattle.xdg_listing.proofs.Lists.{from_place}
+use Rattle.xdg_listing.proofs.Lists.{any_default}
 
 abbrev start : Printer
 start = record { text = []; last = None }
-
--- the elements from a place on begin with the one there
-from_place : {X : Type 0} (xs : List X) (i : ℕ) (x : X) → i < length xs → x ≡ get_or xs i x → drop i xs ≡ x ∷ drop (i + 1) xs
-from_place xs i x within is = rw (add-one) (drop-cons xs i x within ∙ ap (λ z. z ∷ drop (suc i) xs) (sym is))
 
 -- ---- words
 

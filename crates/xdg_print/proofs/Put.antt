@@ -1,6 +1,5 @@
 -- Words that are written one after the other.
-use Rattle.std.proofs.Common.{◌≡◌, ◌<◌, ◌++◌, ℕ, List, Bool, true, false, [], ◌∷◌, length, drop, get_or, refl, sym, ap, ◌∙◌, add-one, ◌+◌, suc, ◌≤◌, map, Some, None, Result, Ok, Err, OnOk, append_assoc, append-nil}
-use Rattle.std.proofs.Math.Seq.{drop-cons}
+use Rattle.std.proofs.Common.{◌≡◌, ◌<◌, ◌++◌, ℕ, List, Bool, true, false, [], ◌∷◌, length, drop, get_or, refl, sym, ap, ◌∙◌, ◌+◌, ◌≤◌, map, Some, None, Result, Ok, Err, OnOk, append_assoc, append-nil}
 use Rattle.std.proofs.lemmas.List.{drop_all}
 use Rattle.std.specs.List.{flat_map}
 use Rattle.std.specs.declared.alloc.AllocError.{AllocError}
@@ -11,6 +10,7 @@ use Rattle.xdg_ast.specs.Trees.{Form, single, conjunction, disjunction, Phrase, 
 use Rattle.xdg_ast.specs.Canon.{Line, line_text, gap, spelling, joined}
 use Rattle.xdg_print.specs.declared.printer.Printer.{Printer}
 use Rattle.xdg_print.specs.Printed.{put, put_one, put_lines, begun, ended, opening, closing, is_joined, is_disjoined}
+use Rattle.xdg_listing.proofs.Lists.{from_place}
 
 pub put_append : (a b : List Word) (p : Printer) → put (a ++ b) p ≡ put b (put a p)
 put_append [] b p = refl
@@ -19,10 +19,6 @@ put_append (word ∷ a) b p = put_append a b (put_one word p)
 pub put_lines_append : (a b : List Line) (p : Printer) → put_lines (a ++ b) p ≡ put_lines b (put_lines a p)
 put_lines_append [] b p = refl
 put_lines_append (line ∷ a) b p = put_lines_append a b _
-
--- the elements from a place on begin with the one there
-from_place : {X : Type 0} (xs : List X) (i : ℕ) (x : X) → i < length xs → x ≡ get_or xs i x → drop i xs ≡ x ∷ drop (i + 1) xs
-from_place xs i x within is = rw (add-one) (drop-cons xs i x within ∙ ap (λ z. z ∷ drop (suc i) xs) (sym is))
 
 -- the words of the element at a place were added
 pub next_of : {X : Type 0} {q end : Printer} (p : Printer) (f : X → List Word) (xs : List X) (i : ℕ) (x : X) → i < length xs → x ≡ get_or xs i x → put (flat_map f (drop i xs)) p ≡ end → q ≡ put (f x) p → put (flat_map f (drop (i + 1) xs)) q ≡ end

@@ -15,6 +15,7 @@ use Rattle.xdg_print.specs.declared.printer.Printer.{Printer}
 use Rattle.xdg_print.specs.Printed.{put}
 use Rattle.xdg_print.proofs.Written.{put_mark, put_braces}
 use Rattle.xdg_print.specs.ValueWords.{sign_for, sign_or_numbers, card_words}
+use Rattle.xdg_listing.proofs.Truths.{or_true}
 
 -- a test that is exact is the test of the two lists
 pub same_test : (b : Bool) (ns ms : List ℕ) → (b ≡ true) ↔ (ns ≡ ms) → b ≡ bytes_eq ns ms
@@ -25,10 +26,6 @@ unfolding numbers_below
 zero_and_one = refl
 
 -- ---- the numbers from 1 on
-
-or_true : (b : Bool) → (b || true) ≡ true
-or_true true = refl
-or_true false = refl
 
 all_with_zero : (n : ℕ) → ((n == 0) || nat_lt 0 n) ≡ true
 all_with_zero n = elim (cases_eq n 0) [

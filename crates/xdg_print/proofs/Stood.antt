@@ -1,5 +1,5 @@
 -- The words of constants, tuples and sets, put one after the other.
-use Rattle.std.proofs.Common.{◌≡◌, ℕ, zero, suc, ◌<◌, ◌≤◌, ◌+◌, List, [], ◌∷◌, ◌++◌, length, get_or, drop, map, refl, sym, ap, ap₂, ◌∙◌, add-one, arith}
+use Rattle.std.proofs.Common.{◌≡◌, ℕ, zero, suc, ◌<◌, ◌≤◌, ◌+◌, List, [], ◌∷◌, ◌++◌, length, get_or, drop, map, sym, ap, ap₂, ◌∙◌, add-one, arith}
 use Rattle.std.specs.List.{flat_map}
 use Rattle.std.proofs.Math.Seq.{drop-cons}
 use Rattle.std.proofs.lemmas.List.{drop_all}
@@ -61,9 +61,3 @@ pub braces_done : {X : Type 0} (f : X → List Word) (xs : List X) (i : ℕ) (p 
     → put_mark k.RightBrace listed ≡ put (mark k.LeftBrace ∷ (flat_map f xs ++ mark k.RightBrace ∷ [])) p
 braces_done f xs i p opened listed past one before =
     ap (put_mark k.RightBrace) (all_of listed f xs i past before ∙ ap (put (flat_map f xs)) one) ∙ sym (put_braces (flat_map f xs) p)
-
--- the element at a place of a list, whatever stands for places beyond it
-pub any_default : {X : Type 0} (xs : List X) (i : ℕ) (d e : X) → i < length xs → get_or xs i d ≡ get_or xs i e
-any_default [] i d e within = absurd (omega (arith, within))
-any_default (x ∷ xs) zero d e within = refl
-any_default (x ∷ xs) (suc i) d e within = any_default xs i d e (omega (arith, within))

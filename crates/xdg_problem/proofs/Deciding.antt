@@ -4,7 +4,8 @@ use Rattle.std.specs.Prelude.{All, Contains}
 use Rattle.std.proofs.lemmas.Bool.{cases_lt, cases_eq, false≢true}
 use Rattle.std.proofs.lemmas.List.Elements.{All-nil, All-cons, All-head, All-tail}
 use Rattle.xdg_problem.specs.Features.{IsWithin}
-use Rattle.xdg_problem.proofs.Ordered.{contains_head, contains_more, contains_cases, contains_none}
+use Rattle.xdg_problem.proofs.Ordered.{contains_head, contains_cases, contains_none}
+use Rattle.xdg_listing.proofs.Lists.{contains_more}
 
 -- P holds, or it does not
 abbrev pub Decided : Type 0 → Type 0

@@ -6,10 +6,11 @@ use Rattle.std.proofs.lemmas.Bool.{false≢true}
 use Rattle.std.proofs.lemmas.List.Elements.{All-from_recursion, recursion_from_All}
 use Rattle.xdg_problem.specs.declared.analysis.Edge.{Edge}
 use Rattle.xdg_problem.specs.Paths.{IsDaughter, IsDaughterBy, IsDaughterByAny, IsEnteredByAny, AreSistersByAny, Leads, Above, AboveByFirst, AboveByLast}
-use Rattle.xdg_problem.proofs.Ordered.{Ordered, ordered_pairs, ordered_from_pairs, contains_head, contains_more, contains_cases, contains_none}
+use Rattle.xdg_problem.proofs.Ordered.{Ordered, ordered_pairs, ordered_from_pairs, contains_head, contains_cases, contains_none}
 use Rattle.xdg_problem.proofs.Looking.{any_of}
 use Rattle.xdg_problem.proofs.Deciding.{Decided, decided_like, decided_both, decided_equal, decided_contains}
 use Rattle.xdg_problem.proofs.CycleTests.{Reaches, decided_reaches}
+use Rattle.xdg_listing.proofs.Lists.{contains_more}
 
 pub decided_either : (P Q : Type 0) → Decided P → Decided Q → Decided (P ⊎ Q)
 decided_either P Q (inl p) other = inl (inl p)

@@ -14,9 +14,10 @@ use Rattle.xdg_problem.specs.Vectors.{attr_sizes}
 use Rattle.xdg_problem.specs.Analyses.{HasCandidates, Before, EdgesRise}
 use Rattle.xdg_problem.specs.EdgeOrder.{RisesAt}
 use Rattle.xdg_problem.specs.Values.{AreValues, value_counts}
-use Rattle.xdg_problem.proofs.Ordered.{contains_more, contains_cases, contains_none}
+use Rattle.xdg_problem.proofs.Ordered.{contains_cases, contains_none}
 use Rattle.xdg_problem.proofs.Counted.{length_attrs_of}
 use Rattle.xdg_problem.proofs.EntryPlaces.{entry_equal}
+use Rattle.xdg_listing.proofs.Lists.{contains_more}
 
 -- candidates
 
@@ -58,9 +59,6 @@ entries_refused candidates entries k d x l m n r = n ((entries_at candidates ent
 pub entries_end : (candidates : List (List EntryNo)) (entries : List EntryNo) (k : ℕ) → length entries ≡ length candidates → length entries ≤ k → HasCandidates (drop k candidates) (drop k entries)
 entries_end candidates entries k e l =
     subst (λ z. HasCandidates z (drop k entries)) (sym (drop_all k candidates (omega arith))) (subst (λ z. HasCandidates [] z) (sym (drop_all k entries l)) tt)
-
-pub iff_through : {A B C : Type 0} → A ↔ B → B ↔ C → A ↔ C
-iff_through f g = (λ a. g.0 (f.0 a), λ c. f.1 (g.1 c))
 
 pub refuses : {A : Type 0} (r : Bool) → r ≡ false → (r ≡ true ↔ A) → A → ⊥
 refuses r n h a = false≢true (sym n ∙ h.1 a)

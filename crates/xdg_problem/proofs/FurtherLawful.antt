@@ -1,7 +1,7 @@
 -- What a problem keeps with rules, or with a bound.
-use Rattle.std.proofs.Common.{◌≡◌, ◌↔◌, ℕ, ◌<◌, ◌+◌, List, [], ◌∷◌, ◌++◌, length, map, refl, sym, ap, ◌∙◌, subst, arith, length-append}
+use Rattle.std.proofs.Common.{◌≡◌, ◌↔◌, ℕ, ◌<◌, ◌+◌, List, [], ◌∷◌, ◌++◌, refl, sym, ap, ◌∙◌, subst}
 use Rattle.std.specs.Prelude.{All}
-use Rattle.std.proofs.lemmas.List.{append-nil, length-map}
+use Rattle.std.proofs.lemmas.List.{append-nil}
 use Rattle.std.proofs.lemmas.List.Elements.{All-nil, All-cons, All-head, All-tail, All-append, All-map, All-weaker}
 use Rattle.xdg_problem.specs.declared.analysis.Analysis.{Analysis}
 use Rattle.xdg_problem.specs.declared.conditions.Condition.TheVariants as conditions
@@ -10,7 +10,6 @@ use Rattle.xdg_problem.specs.declared.parts.Group.{Group}
 use Rattle.xdg_problem.specs.declared.parts.Parts.{Parts}
 use Rattle.xdg_problem.specs.declared.parts.Principle.TheVariants as principles
 use Rattle.xdg_problem.specs.Analyses.{IsAnalysis}
-use Rattle.xdg_problem.specs.Asking.{AsksWhole}
 use Rattle.xdg_problem.specs.Claims.{Suits}
 use Rattle.xdg_problem.specs.Costs.{CostLists, cost_of, total_cost}
 use Rattle.xdg_problem.specs.Further.{use_of, rules_of, bound_of, with_uses, FurtherLaws}
@@ -22,12 +21,9 @@ use Rattle.xdg_problem.specs.Vectors.{entry_places, entries_at}
 use Rattle.xdg_problem.proofs.EntryPlaces.{entry_places_back}
 use Rattle.xdg_problem.proofs.FurtherUses.{rule_is, bound_is, problem_still, fits_still, relation_still}
 use Rattle.xdg_problem.proofs.Tuples.{one_kept}
+use Rattle.xdg_listing.proofs.Lists.{all_before}
 
 -- what holds of each of two lists, one behind the other
-
-all_left : {X : Type 0} (P : X → Type 0) (xs ys : List X) → All P (xs ++ ys) → All P xs
-all_left P [] ys all = All-nil P
-all_left P (x ∷ xs) ys all = All-cons P x xs (All-head P x (xs ++ ys) all) (all_left P xs ys (All-tail P x (xs ++ ys) all))
 
 all_right : {X : Type 0} (P : X → Type 0) (xs ys : List X) → All P (xs ++ ys) → All P ys
 all_right P [] ys all = all
@@ -61,7 +57,7 @@ module _ (parts : Parts) (uses : List Group) (More : Analysis → Type 0) (probl
   solution_before analysis solution =
       let fits = (fits_still parts uses analysis).0 solution.fits in
       let all = All-weaker (λ group. Relation (with_uses parts uses) group analysis) (λ group. Relation parts group analysis) (λ group relation. (relation_still parts uses group analysis).0 relation) (parts.groups ++ uses) solution.each in
-      (record { fits = fits; each = all_left (λ group. Relation parts group analysis) parts.groups uses all }, (more analysis fits).0 (all_right (λ group. Relation parts group analysis) parts.groups uses all))
+      (record { fits = fits; each = all_before (λ group. Relation parts group analysis) parts.groups uses all }, (more analysis fits).0 (all_right (λ group. Relation parts group analysis) parts.groups uses all))
 
   solution_still : (analysis : Analysis) → IsSolution parts analysis × More analysis → IsSolution (with_uses parts uses) analysis
   solution_still analysis both = record {

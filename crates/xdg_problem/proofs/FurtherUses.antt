@@ -1,5 +1,5 @@
 -- A problem stays one with further principle uses, and what its own uses ask stays the same.
-use Rattle.std.proofs.Common.{◌≡◌, ◌↔◌, ℕ, ◌<◌, zero, suc, List, [], ◌∷◌, ◌++◌, length, map, refl, sym, ◌∙◌, subst, arith}
+use Rattle.std.proofs.Common.{◌≡◌, ◌↔◌, ℕ, ◌<◌, zero, suc, List, [], ◌∷◌, ◌++◌, length, map, refl, ◌∙◌}
 use Rattle.std.specs.Prelude.{All, slice_index_or}
 use Rattle.std.proofs.lemmas.List.{length-map}
 use Rattle.std.proofs.lemmas.List.Elements.{All-nil, All-cons, All-append, All-weaker}
@@ -15,16 +15,14 @@ use Rattle.xdg_problem.specs.declared.parts.Parts.{Parts}
 use Rattle.xdg_problem.specs.declared.parts.Principle.{Principle}
 use Rattle.xdg_problem.specs.declared.parts.Principle.TheVariants as principles
 use Rattle.xdg_problem.specs.Analyses.{IsPlace, IsAnalysis}
-use Rattle.xdg_problem.specs.Asking.{AsksWhole}
 use Rattle.xdg_problem.specs.Claims.{Suits}
 use Rattle.xdg_problem.specs.Conditions.{conditions_of}
 use Rattle.xdg_problem.specs.Costs.{CostLists}
 use Rattle.xdg_problem.specs.Further.{no_features, use_of, with_uses}
-use Rattle.xdg_problem.specs.Places.{nodes}
 use Rattle.xdg_problem.specs.Problems.{AreFeatures, IsGroup, IsProblem}
 use Rattle.xdg_problem.specs.Relations.{IsKept, Relation}
 use Rattle.xdg_problem.specs.Vectors.{entry_places}
-use Rattle.xdg_problem.proofs.FurtherTruths.{suited_still, suits_still, whole_still}
+use Rattle.xdg_problem.proofs.FurtherTruths.{suited_still, whole_still}
 
 -- no features
 
@@ -49,9 +47,6 @@ none_at (entries ∷ candidates) zero = all_none entries
 none_at (entries ∷ candidates) (suc v) = none_at candidates v
 
 -- the uses of rules and bounds are uses
-
-none_arguments : {X : Type 0} (P : X → Type 0) → All P []
-none_arguments P = All-nil P
 
 pub rule_is : (parts : Parts) → IsProblem parts → (formula : Formula) → Suits parts formula → IsGroup parts (use_of parts (principles.Rule formula))
 rule_is parts is formula suits = record {

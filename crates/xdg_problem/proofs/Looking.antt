@@ -1,6 +1,6 @@
 -- What is left of the edges of a dimension, if only the edges that a test looks at are kept.
 use Rattle.std.proofs.Common.{◌≡◌, ℕ, ◌↔◌, Bool, true, false, ◌&&◌, List, length, refl, sym, ap, ◌∙◌}
-use Rattle.std.specs.Prelude.{filter, Contains, count_by, ◌==◌, ◌||◌}
+use Rattle.std.specs.Prelude.{filter, Contains, count_by, ◌==◌}
 use Rattle.std.specs.List.{Any}
 use Rattle.std.proofs.lemmas.Bool.{eq-eqb}
 use Rattle.xdg_problem.specs.declared.analysis.Edge.{Edge}
@@ -14,16 +14,6 @@ pub and_given : (a b : Bool) → (b ≡ true → a ≡ true) → (a && b) ≡ b
 and_given true b h = refl
 and_given false true h = h refl
 and_given false false h = refl
-
-pub or_left : (a b : Bool) → a ≡ true → (a || b) ≡ true
-or_left a b e = rw e refl
-
-pub or_right : (a b : Bool) → b ≡ true → (a || b) ≡ true
-or_right true b e = refl
-or_right false b e = e
-
-pub and_2 : (a b : Bool) → a ≡ true → b ≡ true → (a && b) ≡ true
-and_2 a b x y = rw (x, y) refl
 
 pub and_3 : (a b c : Bool) → a ≡ true → b ≡ true → c ≡ true → (a && b && c) ≡ true
 and_3 a b c x y z = rw (x, y, z) refl
@@ -65,5 +55,6 @@ module _ (looks : Edge → Bool) (dim : ℕ) (edges : List Edge) where
       ∙ count_of_filter p (λ e. e.dim.0 == dim) edges
 
 -- an edge that is as a place says, is looked at by the test of that place
+
 pub sees_place : (dim u l v : ℕ) (e : Edge) → (e.mother.0 ≡ u) × (e.label.0 ≡ l) × (e.daughter.0 ≡ v) → (e.dim.0 == dim) ≡ true → ((e.dim.0 == dim) && (e.mother.0 == u) && (e.label.0 == l) && (e.daughter.0 == v)) ≡ true
 sees_place dim u l v e (m, b, d) on = and_4 (e.dim.0 == dim) (e.mother.0 == u) (e.label.0 == l) (e.daughter.0 == v) on (eq-eqb e.mother.0 u m) (eq-eqb e.label.0 l b) (eq-eqb e.daughter.0 v d)

@@ -5,6 +5,7 @@ use Rattle.std.specs.List.{AllByRecursion, flat_map}
 use Rattle.std.proofs.lemmas.Bool.{cases_eq}
 use Rattle.std.proofs.lemmas.List.Elements.{recursion_from_All}
 use Rattle.xdg_problem.specs.Places.{numbers_from}
+use Rattle.xdg_listing.proofs.Lists.{kept, contains_more}
 
 abbrev pub Ordered : {X : Type 0} → (X → X → Type 0) → List X → Type 0
 Ordered R [] = Unit {0}
@@ -119,9 +120,6 @@ ordered_flat_map R P f first (suc count) o a h =
 pub contains_head : {X : Type 0} (x : X) (xs : List X) → Contains (x ∷ xs) x
 contains_head x xs = (0, (omega arith), refl)
 
-pub contains_more : {X : Type 0} (y : X) (xs : List X) (x : X) → Contains xs x → Contains (y ∷ xs) x
-contains_more y xs x c = (suc c.0, (let l : c.0 < length xs = c.1 in omega arith), c.2)
-
 pub contains_cases : {X : Type 0} (y : X) (xs : List X) (x : X) → Contains (y ∷ xs) x → (y ≡ x) ⊎ Contains xs x
 contains_cases y xs x (zero, l, e) = inl e
 contains_cases y xs x (suc k, l, e) = inr (k, (let m : suc k < suc (length xs) = l in omega arith), e)
@@ -146,10 +144,6 @@ contains_map f (y ∷ xs) x c = elim (contains_cases y xs x c) [
   | inl e ↦ subst (λ z. Contains (f y ∷ map f xs) (f z)) e (contains_head (f y) (map f xs))
   | inr d ↦ contains_more (f y) (map f xs) (f x) (contains_map f xs x d)
 ]
-
-kept : {X : Type 0} (b : Bool) (y : X) (xs : List X) (x : X) → Contains xs x → Contains (cond b (y ∷ xs) xs) x
-kept true y xs x c = contains_more y xs x c
-kept false y xs x c = c
 
 pub contains_filter : {X : Type 0} (test : X → Bool) (xs : List X) (x : X) → test x ≡ true → Contains xs x → Contains (filter test xs) x
 contains_filter test [] x t c = c

@@ -12,10 +12,11 @@ use Rattle.xdg_problem.specs.Arguments.{first_dim, second_dim, label_count}
 use Rattle.xdg_problem.specs.Asking.{Asks}
 use Rattle.xdg_problem.specs.Relations.{IsKept}
 use Rattle.xdg_problem.specs.Tests.{climbing, not_blocked, looks_at}
-use Rattle.xdg_problem.proofs.Looking.{or_left, or_right, on_same}
+use Rattle.xdg_problem.proofs.Looking.{on_same}
 use Rattle.xdg_problem.proofs.Tuples.{pairs}
 use Rattle.xdg_problem.proofs.Passing.{PassesAt}
 use Rattle.xdg_problem.proofs.EachTest.{EachPair}
+use Rattle.xdg_listing.proofs.Truths.{or_here, either_true}
 
 module _ (parts : Parts) (group : Group) (candidates attrs : List ℕ) (edges : List Edge) where
   abbrev n : ℕ
@@ -29,16 +30,16 @@ module _ (parts : Parts) (group : Group) (candidates attrs : List ℕ) (edges : 
 
   pub below_tests : EachPair group.truths n (label_count parts one) (PassesAt parts group candidates attrs edges) climbing ↔ IsKept parts group candidates attrs edges conditions.Below
   below_tests = pairs (Asks conditions.Below parts group candidates attrs edges) (λ u v. PassesAt parts group candidates attrs edges (climbing u v)) n n (λ u v.
-      let first = on_same (looks_at group (climbing u v)) one edges (λ e on. or_right (e.dim.0 == two) (e.dim.0 == one) on) in
-      let second = on_same (looks_at group (climbing u v)) two edges (λ e on. or_left (e.dim.0 == two) (e.dim.0 == one) on) in (
+      let first = on_same (looks_at group (climbing u v)) one edges (λ e on. either_true (e.dim.0 == two) (e.dim.0 == one) on) in
+      let second = on_same (looks_at group (climbing u v)) two edges (λ e on. or_here (e.dim.0 == two) (e.dim.0 == one) on) in (
         λ p. subst (λ es. Above es u v → Above (edges_on two edges) u v) first (subst (λ es. Above (edges_on one (filter (looks_at group (climbing u v)) edges)) u v → Above es u v) second p),
         λ p. subst (λ es. Above (edges_on one (filter (looks_at group (climbing u v)) edges)) u v → Above es u v) (sym second) (subst (λ es. Above es u v → Above (edges_on two edges) u v) (sym first) p),
       ))
 
   pub blocked_tests : EachPair group.truths n (label_count parts one) (PassesAt parts group candidates attrs edges) not_blocked ↔ IsKept parts group candidates attrs edges conditions.Blocked
   blocked_tests = pairs (Asks conditions.Blocked parts group candidates attrs edges) (λ w v. PassesAt parts group candidates attrs edges (not_blocked w v)) n n (λ w v.
-      let first = on_same (looks_at group (not_blocked w v)) one edges (λ e on. or_right (e.dim.0 == two) (e.dim.0 == one) on) in
-      let second = on_same (looks_at group (not_blocked w v)) two edges (λ e on. or_left (e.dim.0 == two) (e.dim.0 == one) on) in
+      let first = on_same (looks_at group (not_blocked w v)) one edges (λ e on. either_true (e.dim.0 == two) (e.dim.0 == one) on) in
+      let second = on_same (looks_at group (not_blocked w v)) two edges (λ e on. or_here (e.dim.0 == two) (e.dim.0 == one) on) in
       let blocks : List ℕ = set_row group w (slice_index candidates w) in (
         λ p. subst (λ es. AboveByLast es w blocks v → Above (edges_on one edges) w v) second (subst (λ es. AboveByLast (edges_on two (filter (looks_at group (not_blocked w v)) edges)) w blocks v → Above es w v) first p),
         λ p. subst (λ es. AboveByLast (edges_on two (filter (looks_at group (not_blocked w v)) edges)) w blocks v → Above es w v) (sym first) (subst (λ es. AboveByLast es w blocks v → Above (edges_on one edges) w v) (sym second) p),

@@ -12,9 +12,11 @@ use Rattle.xdg_problem.specs.declared.parts.Principle.TheVariants as principles
 use Rattle.xdg_problem.specs.Places.{edge}
 use Rattle.xdg_problem.specs.Paths.{Leads, Above}
 use Rattle.xdg_problem.specs.Asking.{AsksOf}
-use Rattle.xdg_problem.proofs.Ordered.{contains_head, contains_more, contains_cases, contains_none}
+use Rattle.xdg_problem.proofs.Ordered.{contains_head, contains_cases, contains_none}
 use Rattle.xdg_problem.proofs.Looking.{any_of}
 use Rattle.xdg_problem.proofs.DecidingPaths.{contained}
+use Rattle.xdg_listing.proofs.Numbers.{has_first}
+use Rattle.xdg_listing.proofs.Lists.{contains_more}
 
 -- helpers
 
@@ -61,9 +63,6 @@ first_in e edges = contains_head e edges
 second_in : (e f : Edge) (edges : List Edge) → Contains (e ∷ f ∷ edges) f
 second_in e f edges = contains_more e (f ∷ edges) f (contains_head f edges)
 
-zero_in : Contains {X = ℕ} (0 ∷ []) 0
-zero_in = contains_head 0 []
-
 -- a path of two edges that are the only two
 both_along : (e f : Edge) → All (Contains (e ∷ f ∷ [])) (e ∷ f ∷ [])
 both_along e f = All-from_recursion (Contains (e ∷ f ∷ [])) (e ∷ f ∷ []) (first_in e (f ∷ []), (second_in e f [], tt))
@@ -89,10 +88,10 @@ abbrev parallel : Edge
 parallel = edge 1 0 0 1
 
 daughter_kept : Kept principles.LinkingDaughter (parallel ∷ [])
-daughter_kept is some = any_of (λ e. (e.mother.0 ≡ 0) × Contains (0 ∷ []) e.label.0 × (e.daughter.0 ≡ 1)) (parallel ∷ []) parallel (first_in parallel []) (refl, zero_in, refl)
+daughter_kept is some = any_of (λ e. (e.mother.0 ≡ 0) × Contains (0 ∷ []) e.label.0 × (e.daughter.0 ≡ 1)) (parallel ∷ []) parallel (first_in parallel []) (refl, has_first, refl)
 
 end_kept : Kept principles.LinkingEnd (parallel ∷ [])
-end_kept is some = any_of (λ e. Contains (0 ∷ []) e.label.0 × (e.daughter.0 ≡ 1)) (parallel ∷ []) parallel (first_in parallel []) (zero_in, refl)
+end_kept is some = any_of (λ e. Contains (0 ∷ []) e.label.0 × (e.daughter.0 ≡ 1)) (parallel ∷ []) parallel (first_in parallel []) (has_first, refl)
 
 mother_broken : Kept principles.LinkingMother (parallel ∷ []) → ⊥
 mother_broken kept = none_of_one (λ e. (e.mother.0 ≡ 1) × Contains (0 ∷ []) e.label.0 × (e.daughter.0 ≡ 0)) parallel (λ p. let h : 0 ≡ 1 = p.0 in omega (arith, h)) (kept upper (omega arith))
@@ -104,7 +103,7 @@ sisters_broken kept = let linked = kept upper (omega arith) in let c = contained
 ]
 
 not_daughter_broken : Kept principles.LinkingNotDaughter (parallel ∷ []) → ⊥
-not_daughter_broken kept = kept upper zero_in (any_of (λ e. (e.mother.0 ≡ 0) × (e.daughter.0 ≡ 1)) (parallel ∷ []) parallel (first_in parallel []) (refl, refl))
+not_daughter_broken kept = kept upper has_first (any_of (λ e. (e.mother.0 ≡ 0) × (e.daughter.0 ≡ 1)) (parallel ∷ []) parallel (first_in parallel []) (refl, refl))
 
 -- 1 -> 2 -> 0
 
@@ -115,7 +114,7 @@ above_start_kept : Kept principles.LinkingAboveStart up
 above_start_kept is some = record {
   first = edge 1 1 0 2;
   rest = edge 1 2 0 0 ∷ [];
-  label = zero_in;
+  label = has_first;
   along = both_along (edge 1 1 0 2) (edge 1 2 0 0);
   leads = (refl, (refl, refl));
 }
@@ -134,7 +133,7 @@ barriers_broken : AsksOf conditions.Blocked (linked principles.Barriers) 0 [] (e
 barriers_broken kept = none_of_one (λ e. e.mother.0 ≡ 1) (edge 0 0 0 1) (λ p. let h : 0 ≡ 1 = p in omega (arith, h)) (above_leaves (edge 0 0 0 1 ∷ []) 1 0 (kept (record {
   front = edge 1 1 0 2 ∷ [];
   last = edge 1 2 0 0;
-  label = zero_in;
+  label = has_first;
   along = both_along (edge 1 1 0 2) (edge 1 2 0 0);
   leads = (refl, (refl, refl));
 })))
@@ -146,7 +145,7 @@ sisters_kept is some =
     let down : List Edge = edge 1 2 0 0 ∷ edge 1 2 0 1 ∷ [] in
     let daughter : Edge → Type 0 = λ e. (e.mother.0 ≡ 2) × Contains (0 ∷ []) e.label.0 × (e.daughter.0 ≡ 1) in
     any_of (λ e. (e.daughter.0 ≡ 0) × Any (λ f. (f.mother.0 ≡ e.mother.0) × Contains (0 ∷ []) f.label.0 × (f.daughter.0 ≡ 1)) down) down (edge 1 2 0 0) (first_in (edge 1 2 0 0) (edge 1 2 0 1 ∷ []))
-    (refl, any_of daughter down (edge 1 2 0 1) (second_in (edge 1 2 0 0) (edge 1 2 0 1) []) (refl, zero_in, refl))
+    (refl, any_of daughter down (edge 1 2 0 1) (second_in (edge 1 2 0 0) (edge 1 2 0 1) []) (refl, has_first, refl))
 
 -- 0 -> 2 -> 1
 
@@ -154,7 +153,7 @@ below_start_kept : Kept principles.LinkingBelowStart (edge 1 0 0 2 ∷ edge 1 2 
 below_start_kept is some = record {
   first = edge 1 0 0 2;
   rest = edge 1 2 0 1 ∷ [];
-  label = zero_in;
+  label = has_first;
   along = both_along (edge 1 0 0 2) (edge 1 2 0 1);
   leads = (refl, (refl, refl));
 }
@@ -219,10 +218,10 @@ agree_kept : AsksOf conditions.Agree (use_of principles.Agreement) 0 (1 ∷ 1 �
 agree_kept is named = refl
 
 agree_broken : AsksOf conditions.Agree (use_of principles.Agreement) 0 (1 ∷ 0 ∷ []) (edge 0 1 0 0 ∷ []) (1 ∷ 0 ∷ 0 ∷ []) → ⊥
-agree_broken kept = let h : 1 ≡ 0 = kept governed zero_in in omega (arith, h)
+agree_broken kept = let h : 1 ≡ 0 = kept governed has_first in omega (arith, h)
 
 govern_kept : AsksOf conditions.Govern (use_of principles.Government) 0 (0 ∷ []) (edge 0 1 0 0 ∷ []) (1 ∷ 0 ∷ 0 ∷ [])
-govern_kept is some = zero_in
+govern_kept is some = has_first
 
 pair_broken : AsksOf conditions.Pair (use_of principles.Dag) 0 [] (edge 0 1 0 0 ∷ edge 0 1 1 0 ∷ []) (1 ∷ 0 ∷ []) → ⊥
 pair_broken kept = omega (arith, kept)

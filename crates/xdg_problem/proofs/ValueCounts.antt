@@ -13,6 +13,7 @@ use Rattle.xdg_problem.specs.Places.{numbers_from, below, nodes, places}
 use Rattle.xdg_problem.specs.Vectors.{attr_sizes, shape}
 use Rattle.xdg_problem.specs.Values.{value_counts}
 use Rattle.xdg_problem.proofs.Counted.{length_attrs_of}
+use Rattle.xdg_listing.proofs.Numbers.{some_after}
 
 -- an attribute of one node among those of all nodes of a dimension
 of_node : (counts : List ℕ) (first count i : ℕ) → i < count * length counts → get_or (flat_map (λ (node : ℕ). counts) (numbers_from first count)) i 2 ≡ get_or counts (i % length counts) 2
@@ -30,10 +31,6 @@ in_piece n i plan l =
     let e : length (value_counts plan) ≡ length plan.attrs = length-map plan.attrs (λ (attr : AttrPlan). length attr.values) in
     of_node (value_counts plan) 0 n i (subst (λ w. i < n * w) (sym e) l) ∙ ap (λ w. get_or (value_counts plan) (i % w) 2) e
 
-pub some_width : (n w i : ℕ) → i < n * w → 0 < w
-some_width n zero i l = absurd (let z : n * 0 ≡ 0 = grind arith in omega (arith, z))
-some_width n (suc w) i l = omega arith
-
 dims_head : (n k : ℕ) (dims : List DimPlan) (plan : DimPlan) → k < length dims → plan ≡ get_or dims k plan → attr_sizes n (drop k dims) ≡ flat_map (λ (node : ℕ). value_counts plan) (below n) ++ attr_sizes n (drop (k + 1) dims)
 dims_head n k dims plan l e = ap (attr_sizes n) (drop_more dims k plan l ∙ ap (λ z. z ∷ drop (k + 1) dims) (sym e))
 
@@ -41,7 +38,7 @@ dims_head n k dims plan l e = ap (attr_sizes n) (drop_more dims k plan l ∙ ap 
 pub found_here : (n k i : ℕ) (dims : List DimPlan) (plan : DimPlan) (attr : AttrPlan) → k < length dims → plan ≡ get_or dims k plan → i < n * length plan.attrs → attr ≡ get_or plan.attrs (i % length plan.attrs) attr → length attr.values ≡ get_or (attr_sizes n (drop k dims)) i 2
 found_here n k i dims plan attr l e m a =
     let w = length_attrs_of n plan in
-    let r : i % length plan.attrs < length plan.attrs = mod-lt i (some_width n (length plan.attrs) i m) in
+    let r : i % length plan.attrs < length plan.attrs = mod-lt i (some_after n (length plan.attrs) i m) in
     ap (λ (z : AttrPlan). length z.values) a
     ∙ sym (ap (λ z. get_or z i 2) (dims_head n k dims plan l e)
     ∙ get_or_append_left (flat_map (λ (node : ℕ). value_counts plan) (below n)) (attr_sizes n (drop (k + 1) dims)) 2 i (omega (arith, w, m))

@@ -3,7 +3,7 @@ use Rattle.std.proofs.Common.{◌≡◌, ◌≢◌, ◌⊎◌, ◌↔◌, ℕ, �
 use Rattle.std.specs.Int.{bit_at, w64, trailing_zeros}
 use lib.Bits.{bit_or}
 use Rattle.std.proofs.lemmas.Bool.{cases_eq}
-use Rattle.std.proofs.lemmas.Nat.Bits.{bit_at_or, bit_at-lt, bit_at-zero, bit_at-pow_same, bit_at-pow_other, bit_at-trailing_zeros, same_from_bits}
+use Rattle.std.proofs.lemmas.Nat.Bits.{bit_at_or, bit_at-lt, bit_at-zero, bit_at-pow_other, bit_at-trailing_zeros, same_from_bits}
 use Rattle.xdg_problem.specs.declared.parts.Group.{Group}
 use Rattle.xdg_problem.specs.declared.parts.Parts.{Parts}
 use Rattle.xdg_problem.specs.declared.analysis.Edge.{Edge}
@@ -32,10 +32,8 @@ use Rattle.xdg_propcore.specs.declared.moved.Moved.TheVariants as moves
 use Rattle.xdg_propcore.proofs.Analyses.{keeps_boxes}
 use Rattle.xdg_propcore.proofs.DecisionKinds.{kind_of_entry, kind_of_attr, kind_of_edge}
 use Rattle.xdg_propcore.proofs.Settling.{extends_both}
-
-either : (b : Bool) → (b ≡ true) ⊎ (b ≡ true → ⊥)
-either true = inl refl
-either false = inr (λ e. cc)
+use Rattle.xdg_listing.proofs.Truths.{either}
+use Rattle.xdg_listing.proofs.Bits.{or_new_bit, or_left_bit}
 
 -- ---- nothing is done
 
@@ -92,17 +90,11 @@ module _ (group : Group) (p q r : Progress) (old mid new : State) (a : Goes grou
 
 -- ---- a value is taken
 
-bit_before : (a b kind : ℕ) → bit_at a kind ≡ 1 → bit_at (bit_or a b) kind ≡ 1
-bit_before a b kind h = let e = bit_at_or a b kind in let l = bit_at-lt b kind in omega (arith, e, l, h)
-
-bit_new : (a k : ℕ) → bit_at (bit_or a (2 ^ k)) k ≡ 1
-bit_new a k = let e = bit_at_or a (2 ^ k) k in let l = bit_at-lt a k in let s = bit_at-pow_same k in omega (arith, e, l, s)
-
 bit_old : (a k kind : ℕ) → kind ≢ k → bit_at (bit_or a (2 ^ k)) kind ≡ 1 → bit_at a kind ≡ 1
 bit_old a k kind n h = let e = bit_at_or a (2 ^ k) kind in let s = bit_at-pow_other k kind n in omega (arith, e, s, h)
 
 never_quiet : (p : Progress) (kind : ℕ) → bit_or p.lost (2 ^ kind) ≡ 0 → ⊥
-never_quiet p kind e = (let n = bit_new p.lost kind in let z = ap (λ m. bit_at m kind) e in let y = bit_at-zero kind in omega (arith, n, z, y))
+never_quiet p kind e = (let n = or_new_bit p.lost kind in let z = ap (λ m. bit_at m kind) e in let y = bit_at-zero kind in omega (arith, n, z, y))
 
 module _ (group : Group) (p : Progress) (old : State) (around : List (List Bool)) (d v kind : ℕ) (known : IsProblem old.parts) (is : IsGroup old.parts group) (kind_is : kind_of old.parts d ≡ kind) (lies : LiesIn old.now around) (takes : Takes old.parts group around d v) where
   only_one : (e x : ℕ) → IsLost old.now (without old.now d v) e x → e ≡ d
@@ -120,8 +112,8 @@ module _ (group : Group) (p : Progress) (old : State) (around : List (List Bool)
     extends = record { same = refl; more = without old.now d v ∷ []; grown = refl; inside = without_inside old.now d v };
     turns = refl;
     keeps = λ box box_is closed inside. lies_without box old.now d v inside (in_none box box_is closed inside);
-    before = λ k h. bit_before p.lost (2 ^ kind) k h;
-    each = λ e x l. subst (λ i. bit_at (bit_or p.lost (2 ^ kind)) (kind_of old.parts i) ≡ 1) (sym (only_one e x l)) (subst (λ k. bit_at (bit_or p.lost (2 ^ kind)) k ≡ 1) (sym kind_is) (bit_new p.lost kind));
+    before = λ k h. or_left_bit p.lost (2 ^ kind) k h;
+    each = λ e x l. subst (λ i. bit_at (bit_or p.lost (2 ^ kind)) (kind_of old.parts i) ≡ 1) (sym (only_one e x l)) (subst (λ k. bit_at (bit_or p.lost (2 ^ kind)) k ≡ 1) (sym kind_is) (or_new_bit p.lost kind));
     only = λ k h. elim (cases_eq k kind) [
       | inl same ↦ inr (record { decision = d; value = v; lost = (has, taken_gone old.now d v); is = kind_is ∙ sym same })
       | inr other ↦ inl (bit_old p.lost kind k other h)

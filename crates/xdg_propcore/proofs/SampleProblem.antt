@@ -1,5 +1,5 @@
 -- The sample is a problem, and what the test asks of it is in range.
-use Rattle.std.proofs.Common.{◌≡◌, ◌≢◌, ◌<◌, ℕ, zero, suc, List, [], ◌∷◌, All, AllPairs, length, rules, refl, subst, sym, ap, arith, lit<, lit≤, codes}
+use Rattle.std.proofs.Common.{◌≡◌, ◌≢◌, ◌<◌, ℕ, zero, suc, List, [], ◌∷◌, All, length, rules, refl, subst, sym, ap, arith, lit<, lit≤, codes}
 use Rattle.std.specs.Prelude.{true, false, nat_eq, slice_index_or}
 use Rattle.xdg_base.specs.declared.ids.AttrId.{AttrId}
 use Rattle.xdg_base.specs.declared.ids.DimId.{DimId}
@@ -13,31 +13,7 @@ use Rattle.xdg_problem.specs.Problems.{IsProblem, IsDim, IsAttr, IsGroup, IsSet,
 use Rattle.xdg_store.specs.InRange.{HasValue}
 use Rattle.xdg_propcore.specs.Sample.{agr_use, colour, first_alone, plan, sample, IsUse}
 use Rattle.xdg_propcore.specs.Uses.{StandsIn}
-
-all_none : {X : Type 0} (P : X → Type 0) → All P []
-all_none P k d within = absurd (omega (arith, within))
-
-all_one : {X : Type 0} (P : X → Type 0) (x : X) → P x → All P (x ∷ [])
-all_one P x p zero d within = p
-all_one P x p (suc k) d within = absurd (omega (arith, within))
-
-all_two : {X : Type 0} (P : X → Type 0) (x y : X) → P x → P y → All P (x ∷ y ∷ [])
-all_two P x y p q zero d within = p
-all_two P x y p q (suc zero) d within = q
-all_two P x y p q (suc (suc k)) d within = absurd (omega (arith, within))
-
-pairs_one : {X : Type 0} (R : X → X → Type 0) (x : X) → AllPairs R (x ∷ [])
-pairs_one R x i j d before within = absurd (omega (arith, before, within))
-
-pairs_none : {X : Type 0} (R : X → X → Type 0) → AllPairs R []
-pairs_none R i j d before within = absurd (omega (arith, within))
-
-pairs_two : {X : Type 0} (R : X → X → Type 0) (x y : X) → R x y → AllPairs R (x ∷ y ∷ [])
-pairs_two R x y r zero zero d before within = absurd (omega (arith, before))
-pairs_two R x y r zero (suc zero) d before within = r
-pairs_two R x y r i (suc (suc k)) d before within = absurd (omega (arith, within))
-pairs_two R x y r (suc i) zero d before within = absurd (omega (arith, before))
-pairs_two R x y r (suc i) (suc zero) d before within = absurd (omega (arith, before))
+use Rattle.xdg_listing.proofs.Lists.{all_one, all_two, pairs_one, pairs_two, pairs_none}
 
 one_candidate : AreCandidates (record { 0 = 3 } ∷ [])
 one_candidate = record { some = lit< tt; most = lit≤ tt; rising = pairs_one (λ (a b : EntryNo). a.0 < b.0) (record { 0 = 3 }); small = all_one (λ (e : EntryNo). e.0 < 4294967295) (record { 0 = 3 }) (lit< tt) }

@@ -1,5 +1,5 @@
 -- The nodes of the decisions that have lost values.
-use Rattle.std.proofs.Common.{◌≡◌, ℕ, ◌<◌, ◌≤◌, ◌+◌, ◌-◌, ◌*◌, inl, inr, Bool, true, false, List, [], Contains, length, get_or, set, replicate, cond, refl, ap, sym, ◌∙◌, arith, subst}
+use Rattle.std.proofs.Common.{◌≡◌, ℕ, ◌<◌, ◌≤◌, ◌+◌, ◌-◌, ◌*◌, inl, inr, Bool, true, List, [], Contains, length, get_or, set, replicate, cond, refl, ap, sym, ◌∙◌, arith, subst}
 use Rattle.std.specs.Prelude.{◌==◌, ◌||◌}
 use Rattle.std.specs.Int.{bit_at}
 use Rattle.std.proofs.lemmas.Bool.{cases_eq, cases_lt, eq-eqb, le-ltb, lt-ltb}
@@ -25,22 +25,15 @@ use Rattle.xdg_propcore.specs.Kinds.{kind_of}
 use Rattle.xdg_propcore.specs.Touching.{Grows, HasTouched, InTable, IsSmall, Marks, MarksEdge}
 use Rattle.xdg_propcore.specs.declared.touched.Touched.{Touched}
 use Rattle.xdg_propcore.proofs.DecisionKinds.{kind_of_attr, kind_of_edge, kind_of_entry}
+use Rattle.xdg_listing.proofs.Truths.{or_here, either_true}
 
 -- ---- a table of sets
-
-or_here : (a b : Bool) → a ≡ true → (a || b) ≡ true
-or_here true b h = refl
-or_here false b h = cc
-
-or_there : (a b : Bool) → b ≡ true → (a || b) ≡ true
-or_there true b h = refl
-or_there false b h = h
 
 pub with_here : (nodes more : List ℕ) (node : ℕ) → ((n : ℕ) → has more n ≡ ((n == node) || has nodes n)) → has more node ≡ true
 with_here nodes more node members = members node ∙ or_here (node == node) (has nodes node) (eq-eqb node node refl)
 
 pub with_stays : (nodes more : List ℕ) (node : ℕ) → ((n : ℕ) → has more n ≡ ((n == node) || has nodes n)) → (n : ℕ) → has nodes n ≡ true → has more n ≡ true
-with_stays nodes more node members n h = members n ∙ or_there (n == node) (has nodes n) h
+with_stays nodes more node members n h = members n ∙ either_true (n == node) (has nodes n) h
 
 pub entry_here : (table : List (List ℕ)) (at node : ℕ) (more : List ℕ) → at < length table → has more node ≡ true → InTable (set table at more) at node
 entry_here table at node more within h = subst (λ s. has s node ≡ true) (sym (get_or-set_same table at more [] within)) h

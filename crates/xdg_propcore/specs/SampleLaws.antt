@@ -8,6 +8,7 @@ use Rattle.xdg_problem.specs.Vectors.{shape}
 use Rattle.xdg_rules.specs.Rules.{IsClosedFor, AgrValues, TestPasses, attr_of_node}
 use Rattle.xdg_propcore.specs.Sample.{sample, agr_use, LacksSecond, IsUse}
 use Rattle.xdg_propcore.specs.Uses.{IsClosedBy, use_at}
+use Rattle.xdg_listing.proofs.Numbers.{has_first}
 
 -- the box of the first values
 abbrev firsts : List (List Bool)
@@ -41,9 +42,6 @@ is_firsts (a ∷ b ∷ []) is l =
     let p = is.filled 0 (lit< tt) in
     let q = is.filled 1 (lit< tt) in
     ap₂ (λ x y. x ∷ y ∷ []) (row_one a e p.0 p.1) (row_two b f l q.0 q.1)
-
-has_first : Contains {X = ℕ} (0 ∷ []) 0
-has_first = (0, lit< tt, refl)
 
 passes : (test : Test) → IsTest sample agr_use test → TestPasses sample agr_use firsts test
 passes (allowed_value zero) is = has_first

@@ -1,5 +1,5 @@
 -- A text shows one analysis, or one line offends first.
-use Rattle.std.proofs.Common.{◌≡◌, ◌<◌, ◌+◌, ◌++◌, ℕ, zero, suc, List, [], ◌∷◌, length, map, get_or, refl, sym, ap, ap₂, ◌∙◌, subst, arith, Some, None, Option, Ok, Err, All}
+use Rattle.std.proofs.Common.{◌≡◌, ℕ, List, [], ◌∷◌, length, map, refl, sym, ap, ◌∙◌, subst, Some, None, Option, Ok, Err, All}
 use Rattle.std.proofs.lemmas.List.{length-map}
 use Rattle.std.specs.Prelude.{Result}
 use Rattle.xdg_base.specs.declared.faults.Fault.{Fault}
@@ -10,30 +10,22 @@ use Rattle.xdg_problem.specs.declared.analysis.Analysis.{Analysis}
 use Rattle.xdg_problem.specs.declared.analysis.Edge.{Edge}
 use Rattle.xdg_problem.specs.declared.parts.Parts.{Parts}
 use Rattle.xdg_problem.specs.declared.parts.SentenceWord.{SentenceWord}
-use Rattle.xdg_problem.specs.Analyses.{HasCandidates, IsPlace, Before, EdgesRise, IsAnalysis}
+use Rattle.xdg_problem.specs.Analyses.{HasCandidates, IsPlace, EdgesRise, IsAnalysis}
 use Rattle.xdg_problem.specs.Places.{nodes}
 use Rattle.xdg_problem.specs.Problems.{IsProblem}
 use Rattle.xdg_reading.specs.declared.texts.AnalysisText.{AnalysisText}
 use Rattle.xdg_reading.specs.declared.texts.EdgeLine.{EdgeLine}
 use Rattle.xdg_reading.specs.Texts.{refusal}
-use Rattle.xdg_reading.specs.declared.refused.Refused.{Refused}
-use Rattle.xdg_reading.specs.declared.refused.Refused.TheVariants as refused
 use Rattle.xdg_reading.specs.Fitted.{words_fault, said_values, said_edges, unless, then, fitted}
-use Rattle.xdg_reading.specs.Fits.{NextEdge, SayValues, SayEdges, Shows, behind_attrs, Offends, word, attr, edge, IsAnswer, Tells, Gives}
+use Rattle.xdg_reading.specs.Fits.{SayValues, SayEdges, Shows, behind_attrs, Offends, word, attr, edge, IsAnswer, Tells, Gives}
 use Rattle.xdg_reading.specs.Slots.{slots}
 use Rattle.xdg_reading.proofs.Attributes.{are_attrs, all_differ, fit_sizes, count_sizes}
 use Rattle.xdg_reading.proofs.EdgeLaws.{EdgesTold, edges_told, edges_said, edge_refused}
-use Rattle.xdg_reading.proofs.Told.{ValuesTold, values_told, values_said, attr_told, words_fit, word_offends, words_told, word_told, AllDiffer}
-
-all_cons : {X : Type 0} (P : X → Type 0) (x : X) (xs : List X) → P x → All P xs → All P (x ∷ xs)
-all_cons P x xs here more zero d within = here
-all_cons P x xs here more (suc k) d within = more k d (omega (arith, within))
-
-all_nil : {X : Type 0} (P : X → Type 0) → All P []
-all_nil P k d within = absurd (omega (arith, within))
+use Rattle.xdg_reading.proofs.Told.{ValuesTold, values_told, values_said, attr_told, words_fit, word_offends, words_told, word_told}
+use Rattle.xdg_listing.proofs.Lists.{all_cons, all_none}
 
 edges_stand : (parts : Parts) (before : Option Edge) (lines : List EdgeLine) (edges : List Edge) → SayEdges parts before lines edges → All (IsPlace parts) edges
-edges_stand parts before [] [] say = all_nil (IsPlace parts)
+edges_stand parts before [] [] say = all_none (IsPlace parts)
 edges_stand parts before [] (e ∷ edges) say = absurd say
 edges_stand parts before (line ∷ lines) [] say = absurd say
 edges_stand parts before (line ∷ lines) (e ∷ edges) say = all_cons (IsPlace parts) e edges say.0.stands (edges_stand parts (Some e) lines edges say.1)

@@ -6,7 +6,8 @@ use Rattle.xdg_text.specs.Constants.{is_name, is_keyword, begins_name, continues
 use Rattle.xdg_reading.specs.Pieces.{after, past, lead, behind, until, inside, quoted_at, name_at, quoted_constant_at, constant_at, begins_quoted, is_plain}
 use Rattle.xdg_reading.proofs.Fronts.{until_it, until_stands, it_stands, same_byte, other_byte}
 use Rattle.xdg_reading.proofs.Insides.{plain_byte}
-use Rattle.xdg_reading.proofs.Steps.{pair, nothing, some_is, lead_found, Led, cond_either, cond_found, cond_left, after_found, past_found}
+use Rattle.xdg_reading.proofs.Steps.{pair, lead_found, Led, cond_either, cond_found, cond_left, after_found, past_found}
+use Rattle.xdg_listing.proofs.Options.{none_some, some_same}
 
 -- what ends a word: neither a mark nor a part of a name
 pub record IsEnd (end : ℕ) : Type 0 where
@@ -82,7 +83,7 @@ after_plain byte bytes text rest e led known =
 
 -- what is read of an inside is written so
 pub inside_spelled : (t : Bool) (bytes text rest : List ℕ) → inside t bytes ≡ Some (text, rest) → marked t bytes ≡ flat_map escaped text ++ 34 ∷ rest
-inside_spelled t [] text rest read = absurd (nothing (pair text rest) (sym (inside_nothing t) ∙ read))
+inside_spelled t [] text rest read = absurd (none_some (pair text rest) (sym (inside_nothing t) ∙ read))
 inside_spelled true (byte ∷ bytes) text rest read =
     by (cond_either (is_escaped byte) (lead byte (inside false bytes)) None (text, rest) (sym (inside_true byte bytes) ∙ read)) (inside_spelled false bytes) where
       by : ((is_escaped byte ≡ true) × (lead byte (inside false bytes) ≡ Some (pair text rest))) ⊎ ((is_escaped byte ≡ false) × (None ≡ Some (pair text rest))) → ((x r : List ℕ) → inside false bytes ≡ Some (x, r) → bytes ≡ flat_map escaped x ++ 34 ∷ r) → 92 ∷ byte ∷ bytes ≡ flat_map escaped text ++ 34 ∷ rest
@@ -95,7 +96,7 @@ inside_spelled false (byte ∷ bytes) text rest read =
       other mark (inr (e, found)) known again = after_plain byte bytes text rest (or_from (byte == 34) (byte == 92) mark e) (lead_found byte (inside false bytes) (text, rest) found) known
 
       by : ((byte == 34) ≡ true) × (Some (pair [] bytes) ≡ Some (pair text rest)) ⊎ ((byte == 34) ≡ false) × (cond (byte == 92) (inside true bytes) (lead byte (inside false bytes)) ≡ Some (pair text rest)) → ((x r : List ℕ) → inside false bytes ≡ Some (x, r) → bytes ≡ flat_map escaped x ++ 34 ∷ r) → (inside true bytes ≡ Some (text, rest) → 92 ∷ bytes ≡ flat_map escaped text ++ 34 ∷ rest) → byte ∷ bytes ≡ flat_map escaped text ++ 34 ∷ rest
-      by (inl (e, found)) known again = let b : byte ≡ 34 = eqb-true byte 34 e in ap (λ z. z ∷ bytes) b ∙ ap (λ (p : List ℕ × List ℕ). flat_map escaped p.0 ++ 34 ∷ p.1) (some_is (pair [] bytes) (pair text rest) found)
+      by (inl (e, found)) known again = let b : byte ≡ 34 = eqb-true byte 34 e in ap (λ z. z ∷ bytes) b ∙ ap (λ (p : List ℕ × List ℕ). flat_map escaped p.0 ++ 34 ∷ p.1) (some_same (pair [] bytes) (pair text rest) found)
       by (inr (e, found)) known again = other e (cond_either (byte == 92) (inside true bytes) (lead byte (inside false bytes)) (text, rest) found) known again
 
 -- a quoted text with what stands behind it
@@ -121,7 +122,7 @@ quoted_spelled end text bytes rest read =
     let mark = past_found (behind (34 ∷ []) bytes) (λ rest. after (inside false rest) (λ text rest. past (behind (end ∷ []) rest) (λ rest. Some (text, rest)))) (text, rest) read in
     let found = after_found (inside false mark.rest) (λ text rest. past (behind (end ∷ []) rest) (λ rest. Some (text, rest))) (text, rest) mark.goes in
     let last = past_found (behind (end ∷ []) found.rest) (λ rest. Some (found.value, rest)) (text, rest) found.goes in
-    let both = some_is (pair found.value last.rest) (pair text rest) last.goes in
+    let both = some_same (pair found.value last.rest) (pair text rest) last.goes in
     it_stands (34 ∷ []) bytes mark.rest mark.is
     ∙ ap (λ z. 34 ∷ z) (inside_spelled false mark.rest found.value found.rest found.is)
     ∙ ap (λ z. 34 ∷ (flat_map escaped found.value ++ 34 ∷ z)) (it_stands (end ∷ []) found.rest last.rest last.is)

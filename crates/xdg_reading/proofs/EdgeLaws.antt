@@ -1,24 +1,25 @@
 -- The edges that lines say.
-use Rattle.std.proofs.Common.{◌≡◌, ◌≢◌, ◌<◌, ◌≤◌, ◌+◌, ◌++◌, ◌==◌, ◌&&◌, ◌⊎◌, inl, inr, ℕ, zero, suc, List, [], ◌∷◌, length, map, get_or, refl, sym, ap, ap₂, ◌∙◌, subst, arith, true, false, cond, not, Bool, Some, None, Option, Ok, Err, nat_lt, bytes_eq, All, AllPairs}
+use Rattle.std.proofs.Common.{◌≡◌, ◌<◌, ◌==◌, ◌&&◌, ℕ, List, [], ◌∷◌, length, get_or, refl, sym, ap, ap₂, ◌∙◌, subst, true, false, cond, not, Bool, Some, None, Option, Ok, Err, nat_lt, bytes_eq}
 use Rattle.std.specs.Prelude.{Result}
 use Rattle.std.proofs.lemmas.List.{get_or_default}
 use Rattle.std.proofs.lemmas.List.Quantifiers.{position-Some}
 use Rattle.std.proofs.lemmas.Slice.Eq.{bytes_eq-Decides}
-use Rattle.std.proofs.lemmas.Bool.{eqb-true, eq-eqb, ltb-true, lt-ltb, and_parts, and_from, false_from_ne_true, both_ways, not-true, not_from_false, ne_eqb, eqb-false}
-use Rattle.std.specs.List.{position}
+use Rattle.std.proofs.lemmas.Bool.{ltb-true, lt-ltb, and_parts, and_from, false_from_ne_true, both_ways, not-true, not_from_false, ne_eqb, eqb-false}
 use Rattle.xdg_problem.specs.declared.analysis.Edge.{Edge}
 use Rattle.xdg_problem.specs.declared.parts.DimPlan.{DimPlan}
 use Rattle.xdg_problem.specs.declared.parts.Parts.{Parts}
-use Rattle.xdg_problem.specs.Analyses.{Before, IsPlace}
+use Rattle.xdg_problem.specs.Analyses.{IsPlace}
 use Rattle.xdg_problem.specs.Places.{nodes, edge}
 use Rattle.xdg_problem.specs.Problems.{IsProblem, IsDim}
 use Rattle.xdg_reading.specs.declared.texts.EdgeLine.{EdgeLine}
 use Rattle.xdg_text.specs.Blocks.{no_plan}
-use Rattle.xdg_reading.specs.Fitted.{lead, or_at, some_and, may_join, precedes, follows, said_edge, said_edges}
+use Rattle.xdg_reading.specs.Fitted.{lead, or_at, some_and, may_join, follows, said_edge, said_edges}
 use Rattle.xdg_reading.specs.Fits.{SaysEdge, Follows, NextEdge, SayEdges, EdgeOffends, this_edge, later_edge}
 use Rattle.xdg_reading.specs.Names.{dim_number, label_number}
-use Rattle.xdg_reading.proofs.Told.{some_is, position_of}
+use Rattle.xdg_reading.proofs.Told.{position_of}
 use Rattle.xdg_reading.proofs.Turns.{precedes_is, precedes_from}
+use Rattle.xdg_listing.proofs.Options.{none_some}
+use Rattle.xdg_listing.proofs.Options.{some_same}
 
 record Known {X Y : Type 0} (o : Option X) (f : X → Option Y) (y : Y) : Type 0 where
   pub value : X
@@ -30,7 +31,7 @@ known None f y e = cc
 known (Some x) f y e = record { value = x; is = refl; goes = e }
 
 cond_known : {X : Type 0} (t : Bool) (x y : X) → cond t (Some x) None ≡ Some y → (t ≡ true) × (x ≡ y)
-cond_known true x y e = (refl, some_is x y e)
+cond_known true x y e = (refl, some_same x y e)
 cond_known false x y e = cc
 
 -- what a line says of an edge that may stand
@@ -111,9 +112,6 @@ next_of parts before line e said test = let says = edge_said parts line e said i
 next_said : (parts : Parts) (before : Option Edge) (line : EdgeLine) (e : Edge) → IsProblem parts → NextEdge parts before line e → said_edge parts line ≡ Some e
 next_said parts before line e problem next = edge_told parts line e problem (record { says = next.says; stands = next.stands })
 
-never : {X : Type 0} (x : X) → None ≡ Some x → ⊥
-never x e = cc
-
 abbrev pub EdgesTold : Parts → Option Edge → List EdgeLine → Result (List Edge) ℕ → Type 0
 EdgesTold parts before lines (Ok edges) = SayEdges parts before lines edges
 EdgesTold parts before lines (Err at) = EdgeOffends parts before lines at
@@ -125,11 +123,11 @@ edges_next parts before line lines e (Err at) next more = later_edge before line
 edges_test : (parts : Parts) (before : Option Edge) (line : EdgeLine) (lines : List EdgeLine) (e : Edge) (t : Bool) → IsProblem parts → said_edge parts line ≡ Some e → follows before e ≡ t → EdgesTold parts (Some e) lines (said_edges parts (Some e) lines) → EdgesTold parts before (line ∷ lines) (cond t (lead e (said_edges parts (Some e) lines)) (Err line.at))
 edges_test parts before line lines e true problem said test more = edges_next parts before line lines e (said_edges parts (Some e) lines) (next_of parts before line e said test) more
 edges_test parts before line lines e false problem said test more = this_edge before line lines (λ other next.
-    let same = some_is other e (sym (next_said parts before line other problem next) ∙ said) in
+    let same = some_same other e (sym (next_said parts before line other problem next) ∙ said) in
     both_ways (follows before other) (ap (follows before) same ∙ test) (follows_from before other next.follows))
 
 edges_option : (parts : Parts) (before : Option Edge) (line : EdgeLine) (lines : List EdgeLine) (o : Option Edge) → IsProblem parts → said_edge parts line ≡ o → ((e : Edge) → EdgesTold parts (Some e) lines (said_edges parts (Some e) lines)) → EdgesTold parts before (line ∷ lines) (or_at o line.at (λ e. cond (follows before e) (lead e (said_edges parts (Some e) lines)) (Err line.at)))
-edges_option parts before line lines None problem said more = this_edge before line lines (λ e next. never e (sym said ∙ next_said parts before line e problem next))
+edges_option parts before line lines None problem said more = this_edge before line lines (λ e next. none_some e (sym said ∙ next_said parts before line e problem next))
 edges_option parts before line lines (Some e) problem said more = edges_test parts before line lines e (follows before e) problem said refl (more e)
 
 pub edges_told : (parts : Parts) (before : Option Edge) (lines : List EdgeLine) → IsProblem parts → EdgesTold parts before lines (said_edges parts before lines)

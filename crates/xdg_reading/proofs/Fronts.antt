@@ -4,8 +4,9 @@ use Rattle.std.proofs.Common.{◌≡◌, ◌≢◌, ◌<◌, ◌≤◌, ◌++◌
 use Rattle.std.proofs.lemmas.Bool.{eq-eqb, ne_eqb, eqb-true, eqb-false, cases_eq, cases_Bool}
 use Rattle.std.proofs.lemmas.Str.Pattern.{split_parts, strip_prefix_char, IsSplitOnceResult}
 use Rattle.std.specs.Str.Pattern.{FindsTextPrefix, FindsCharPrefix, StripsPrefix}
-use Rattle.xdg_reading.proofs.Steps.{pair, some_is, lead_found, cond_either}
+use Rattle.xdg_reading.proofs.Steps.{pair, lead_found, cond_either}
 use Rattle.xdg_reading.specs.Pieces.{behind, until, lead, Skips, Takes}
+use Rattle.xdg_listing.proofs.Options.{some_same}
 
 -- a test on two equal numbers
 pub same_byte : {X : Type 0} (c : ℕ) (x y : X) → cond (c == c) x y ≡ x
@@ -75,7 +76,7 @@ char_not_stripped end bytes lacks small = lacks_it (end ∷ []) bytes (λ rest e
 
 until_step : (end byte : ℕ) (bytes piece rest : List ℕ) → ((p r : List ℕ) → until end bytes ≡ Some (p, r) → bytes ≡ p ++ end ∷ r) → ((byte == end) ≡ true) × (Some (pair [] bytes) ≡ Some (pair piece rest)) ⊎ ((byte == end) ≡ false) × (lead byte (until end bytes) ≡ Some (pair piece rest)) → byte ∷ bytes ≡ piece ++ end ∷ rest
 until_step end byte bytes piece rest more (inl (same, found)) =
-    let both = some_is ([], bytes) (piece, rest) found in
+    let both = some_same ([], bytes) (piece, rest) found in
     let e : byte ≡ end = eqb-true byte end same in
     ap (λ z. z ∷ bytes) e ∙ ap (λ (p : List ℕ × List ℕ). p.0 ++ end ∷ p.1) both
 until_step end byte bytes piece rest more (inr (other, found)) =

@@ -18,8 +18,9 @@ use Rattle.xdg_reading.specs.Lines.{line_text, IsLine, node_at, analysis_at, cou
 use Rattle.xdg_reading.proofs.Constants.{space, line_feed, quoted_read, quoted_spelled, constant_read, constant_spelled}
 use Rattle.xdg_reading.proofs.Fronts.{it_stands}
 use Rattle.xdg_reading.proofs.Numbers.{number_read, number_spelled, ordinal_read, ordinal_spelled}
-use Rattle.xdg_reading.proofs.Steps.{pair, nothing, some_is, after_found, past_or_found, Passed}
+use Rattle.xdg_reading.proofs.Steps.{pair, after_found, past_or_found, Passed}
 use Rattle.xdg_reading.proofs.Values.{value_read, value_spelled}
+use Rattle.xdg_listing.proofs.Options.{none_some, some_same}
 
 -- words with a space before each, a line feed, and what stands behind
 abbrev pub tail_of : List (List ℕ) → List ℕ → List ℕ
@@ -51,7 +52,7 @@ node_spelled end bytes node rest read =
     let found = after_found (ordinal_at end 128 bytes) (λ n rest. Some (record { 0 = n }, rest)) (node, rest) read in
     let number = ordinal_spelled end 128 found.value bytes found.rest found.is in
     let is : NodeId = record { 0 = found.value } in
-    subst (λ (p : NodeId × List ℕ). IsNode end bytes p.0 p.1) (some_is (pair is found.rest) (pair node rest) found.goes) (record { parts = number.parts; within = number.within })
+    subst (λ (p : NodeId × List ℕ). IsNode end bytes p.0 p.1) (some_same (pair is found.rest) (pair node rest) found.goes) (record { parts = number.parts; within = number.within })
 
 word_read : (at : ℕ) (node : NodeId) (word : SentenceWord) (entry : EntryNo) (rest : List ℕ) → IsLine at (lines.Word node word entry) → word_at at (decimal (node.0 + 1) ++ 32 ∷ (quoted word.text ++ 32 ∷ (decimal (entry.0 + 1) ++ 10 ∷ rest))) ≡ Some (lines.Word node word entry, rest)
 unfolding word_at
@@ -123,7 +124,7 @@ word_spelled at bytes l rest read =
     let node = node_spelled 32 bytes first.value first.rest first.is in
     let entry = ordinal_spelled 10 4294967295 third.value second.rest third.rest third.is in
     let made : Line = lines.Word first.value (record { text = second.value; at = at }) (record { 0 = third.value }) in
-    subst (λ (p : Line × List ℕ). Spelled at (codes "word " ++ bytes) p.0 p.1) (some_is (pair made third.rest) (pair l rest) third.goes)
+    subst (λ (p : Line × List ℕ). Spelled at (codes "word " ++ bytes) p.0 p.1) (some_same (pair made third.rest) (pair l rest) third.goes)
     (record {
       parts =
           ap (λ z. codes "word " ++ z) (node.parts ∙ ap (λ z. decimal (first.value.0 + 1) ++ 32 ∷ z) (quoted_spelled 32 second.value first.rest second.rest second.is) ∙ ap (λ z. decimal (first.value.0 + 1) ++ 32 ∷ (quoted second.value ++ 32 ∷ z)) entry.parts)
@@ -141,7 +142,7 @@ attr_spelled at bytes l rest read =
     let node = node_spelled 32 first.rest second.value second.rest second.is in
     let value = value_spelled third.rest fourth.value fourth.rest fourth.is in
     let made : Line = lines.Attr (record { dim = first.value; node = second.value; attr = third.value; value = fourth.value; at = at }) in
-    subst (λ (p : Line × List ℕ). Spelled at (codes "attr " ++ bytes) p.0 p.1) (some_is (pair made fourth.rest) (pair l rest) fourth.goes)
+    subst (λ (p : Line × List ℕ). Spelled at (codes "attr " ++ bytes) p.0 p.1) (some_same (pair made fourth.rest) (pair l rest) fourth.goes)
     (record {
       parts =
           ap (λ z. codes "attr " ++ z) (constant_spelled 32 first.value bytes first.rest first.is
@@ -162,7 +163,7 @@ edge_spelled at bytes l rest read =
     let mother = node_spelled 32 first.rest second.value second.rest second.is in
     let daughter = node_spelled 10 third.rest fourth.value fourth.rest fourth.is in
     let made : Line = lines.Edge (record { dim = first.value; mother = second.value; label = third.value; daughter = fourth.value; at = at }) in
-    subst (λ (p : Line × List ℕ). Spelled at (codes "edge " ++ bytes) p.0 p.1) (some_is (pair made fourth.rest) (pair l rest) fourth.goes)
+    subst (λ (p : Line × List ℕ). Spelled at (codes "edge " ++ bytes) p.0 p.1) (some_same (pair made fourth.rest) (pair l rest) fourth.goes)
     (record {
       parts =
           ap (λ z. codes "edge " ++ z) (constant_spelled 32 first.value bytes first.rest first.is
@@ -179,7 +180,7 @@ analysis_spelled at bytes l rest read =
     let found = after_found (number_at 10 1 2000000000000 bytes) (λ number rest. Some (lines.Analysis number, rest)) (pair l rest) read in
     let number = number_spelled 10 1 2000000000000 found.value bytes found.rest found.is in
     let made : Line = lines.Analysis found.value in
-    subst (λ (p : Line × List ℕ). Spelled at (codes "analysis " ++ bytes) p.0 p.1) (some_is (pair made found.rest) (pair l rest) found.goes)
+    subst (λ (p : Line × List ℕ). Spelled at (codes "analysis " ++ bytes) p.0 p.1) (some_same (pair made found.rest) (pair l rest) found.goes)
     (record { parts = ap (λ z. codes "analysis " ++ z) number.parts ∙ sym (line_tail (codes "analysis") (decimal found.value ∷ []) found.rest); is = (number.low, number.high) })
 
 counts_spelled : (at : ℕ) (bytes : List ℕ) (l : Line) (rest : List ℕ) → counts_at bytes ≡ Some (l, rest) → Spelled at (codes "counts " ++ bytes) l rest
@@ -192,7 +193,7 @@ counts_spelled at bytes l rest read =
     let attrs = number_spelled 32 0 4294967295 second.value first.rest second.rest second.is in
     let edges = number_spelled 10 0 4294967295 third.value second.rest third.rest third.is in
     let made : Line = lines.Counts first.value second.value third.value in
-    subst (λ (p : Line × List ℕ). Spelled at (codes "counts " ++ bytes) p.0 p.1) (some_is (pair made third.rest) (pair l rest) third.goes)
+    subst (λ (p : Line × List ℕ). Spelled at (codes "counts " ++ bytes) p.0 p.1) (some_same (pair made third.rest) (pair l rest) third.goes)
     (record {
       parts =
           ap (λ z. codes "counts " ++ z) (words.parts ∙ ap (λ z. decimal first.value ++ 32 ∷ z) (attrs.parts ∙ ap (λ z. decimal second.value ++ 32 ∷ z) edges.parts))
@@ -209,7 +210,7 @@ choice at bytes l rest word f other this later read = by (past_or_found (behind 
 
 simple : (at : ℕ) (made l : Line) (left rest : List ℕ) (word : List ℕ) → word ≡ line_text made → IsLine at made → Some (pair made left) ≡ Some (pair l rest) → Spelled at (word ++ left) l rest
 simple at made l left rest word written is found =
-    subst (λ (p : Line × List ℕ). Spelled at (word ++ left) p.0 p.1) (some_is (pair made left) (pair l rest) found) (record { parts = ap (λ z. z ++ left) written; is = is })
+    subst (λ (p : Line × List ℕ). Spelled at (word ++ left) p.0 p.1) (some_same (pair made left) (pair l rest) found) (record { parts = ap (λ z. z ++ left) written; is = is })
 
 -- what is read as a line is written so
 pub line_spelled : (at : ℕ) (bytes : List ℕ) (l : Line) (rest : List ℕ) → line_at at bytes ≡ Some (l, rest) → Spelled at bytes l rest
@@ -222,4 +223,4 @@ line_spelled at bytes l rest =
     (choice at bytes l rest (codes "analysis ") analysis_at _ (λ left found. analysis_spelled at left l rest found)
     (choice at bytes l rest (codes "counts ") counts_at _ (λ left found. counts_spelled at left l rest found)
     (choice at bytes l rest (codes "xdg 2\n") (λ rest. Some (lines.Version, rest)) None (λ left found. simple at lines.Version l left rest (codes "xdg 2\n") (sym version_is) tt found)
-    (λ found. absurd (nothing (pair l rest) found))))))))
+    (λ found. absurd (none_some (pair l rest) found))))))))

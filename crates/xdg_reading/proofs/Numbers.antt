@@ -1,13 +1,15 @@
 -- Numbers are read as they are written.
-use Rattle.std.proofs.Common.{◌≡◌, ◌≢◌, ◌<◌, ◌≤◌, ◌++◌, ◌+◌, ◌*◌, ◌-◌, ◌/◌, ◌%◌, ◌^◌, ◌==◌, ◌&&◌, min, ℕ, zero, suc, List, [], ◌∷◌, length, get_or, refl, sym, ap, ◌∙◌, subst, arith, lit<, lit≤, true, false, cond, not, Bool, Some, None, Option, decimal, nat_le, bytes_eq}
-use Rattle.std.proofs.lemmas.Bool.{eq-eqb, ne_eqb, eqb-true, and_parts, and_from, le-leb, leb-true}
+use Rattle.std.proofs.Common.{◌≡◌, ◌<◌, ◌≤◌, ◌++◌, ◌+◌, ◌*◌, ◌-◌, ◌/◌, ◌%◌, ◌^◌, ◌&&◌, min, ℕ, List, [], ◌∷◌, refl, sym, ap, ◌∙◌, arith, cond, Some, None, decimal, nat_le, bytes_eq}
+use Rattle.std.proofs.lemmas.Bool.{and_parts, and_from, le-leb, leb-true}
 use Rattle.std.proofs.lemmas.Fmt.{decimal_by_steps, decimal_is_IsNumeral}
 use Rattle.std.proofs.lemmas.Slice.Eq.{bytes_eq-Decides}
 use Rattle.std.proofs.lemmas.Str.Parse.{digit_at}
 use Rattle.std.specs.Str.Parse.{AllDigits}
 use Rattle.xdg_reading.specs.Pieces.{after, and, until, value_from, value_of, number_of, number_at, ordinal_at}
 use Rattle.xdg_reading.proofs.Fronts.{until_it, until_stands}
-use Rattle.xdg_reading.proofs.Steps.{pair, some_is, after_found, and_found, cond_found}
+use Rattle.xdg_reading.proofs.Steps.{pair, after_found, and_found, cond_found}
+use Rattle.xdg_listing.proofs.Texts.{equal}
+use Rattle.xdg_listing.proofs.Options.{some_same}
 
 abbrev greatest : ℕ
 greatest = 18446744073709551615
@@ -37,15 +39,12 @@ IsEnd end = end < 48
 digits_end : (n end : ℕ) (rest : List ℕ) → n < 2 ^ 64 → end < 48 → until end (decimal n ++ end ∷ rest) ≡ Some (decimal n, rest)
 digits_end n end rest small low = until_it end (decimal n) rest (λ i within e. let range = digit_at (decimal n) i (digits_decimal n small) within in omega (arith, range.0, e, low))
 
-same_bytes : (xs : List ℕ) → bytes_eq xs xs ≡ true
-same_bytes xs = (bytes_eq-Decides xs xs).1 refl
-
 number_is : (least most n : ℕ) → least ≤ n → n ≤ most → n ≤ greatest → number_of least most (decimal n) ≡ Some n
 unfolding number_of value_of
 number_is least most n low high small =
     let v : value_of (decimal n) ≡ n = value_decimal n small in
     ap (λ v. cond (bytes_eq (decimal v) (decimal n) && nat_le least v && nat_le v most) (Some v) None) v
-    ∙ ap (λ t. cond t (Some n) None) (and_from (bytes_eq (decimal n) (decimal n) && nat_le least n) (nat_le n most) (and_from (bytes_eq (decimal n) (decimal n)) (nat_le least n) (same_bytes (decimal n)) (le-leb least n low)) (le-leb n most high))
+    ∙ ap (λ t. cond t (Some n) None) (and_from (bytes_eq (decimal n) (decimal n) && nat_le least n) (nat_le n most) (and_from (bytes_eq (decimal n) (decimal n)) (nat_le least n) (equal (decimal n)) (le-leb least n low)) (le-leb n most high))
 
 -- a number is read from its digits
 pub number_read : (end least most n : ℕ) (rest : List ℕ) → end < 48 → least ≤ n → n ≤ most → most < 2 ^ 64 → number_at end least most (decimal n ++ end ∷ rest) ≡ Some (n, rest)
@@ -104,7 +103,7 @@ ordinal_spelled end most n bytes rest read =
     let number = number_spelled end 1 most found.value bytes found.rest found.is in
     let low = number.low in
     let high = number.high in
-    let both = some_is (found.value - 1, found.rest) (n, rest) found.goes in
+    let both = some_same (found.value - 1, found.rest) (n, rest) found.goes in
     let first : found.value - 1 ≡ n = ap (λ (p : ℕ × List ℕ). p.0) both in
     let last : found.rest ≡ rest = ap (λ (p : ℕ × List ℕ). p.1) both in
     let value : found.value ≡ n + 1 = omega (arith, low, first) in

@@ -1,10 +1,8 @@
 -- A text has one answer.
-use Rattle.std.proofs.Common.{◌≡◌, ◌≢◌, ◌<◌, ◌≤◌, ◌++◌, ◌+◌, ◌-◌, ◌==◌, ◌&&◌, ◌⊎◌, inl, inr, ℕ, zero, suc, List, [], ◌∷◌, length, map, refl, sym, ap, ap₂, ◌∙◌, subst, arith, lit<, true, false, cond, Bool, Some, None, Option, Ok, Err, append_assoc, append-nil, length-append, codes, nat_lt, add-one}
+use Rattle.std.proofs.Common.{◌≡◌, ◌<◌, ◌++◌, ◌+◌, ◌-◌, ◌==◌, inl, inr, ℕ, suc, List, [], ◌∷◌, length, refl, sym, ap, ap₂, ◌∙◌, subst, arith, cond, Some, None, Ok, Err, append_assoc, append-nil, length-append, nat_lt, add-one}
 use Rattle.std.specs.Prelude.{Result, IsUtf8}
 use Rattle.std.specs.Str.{IsValidUpTo}
-use Rattle.std.proofs.lemmas.Bool.{both_ways, eqb-true, eqb-false, eq-eqb, ne_eqb, and_parts, and_from, ltb-true, lt-ltb}
-use Rattle.std.proofs.lemmas.Str.{utf8_valid_len-IsValidUpTo}
-use Rattle.std.specs.List.{flat_map}
+use Rattle.std.proofs.lemmas.Bool.{eq-eqb, ne_eqb, and_from, lt-ltb}
 use Rattle.xdg_base.specs.declared.faults.Fault.{Fault}
 use Rattle.xdg_base.specs.declared.faults.Cause.TheVariants as causes
 use Rattle.xdg_base.specs.declared.faults.Stop.{Stop}
@@ -18,13 +16,15 @@ use Rattle.xdg_reading.specs.declared.stage.Stage.TheVariants as stages
 use Rattle.xdg_reading.specs.declared.texts.AnalysisText.{AnalysisText}
 use Rattle.xdg_reading.specs.declared.texts.AttrLine.{AttrLine}
 use Rattle.xdg_reading.specs.declared.texts.EdgeLine.{EdgeLine}
-use Rattle.xdg_reading.specs.Gathered.{word_in, entry_in, attr_in, edge_in, Holds, Whole}
+use Rattle.xdg_reading.specs.Gathered.{Whole}
 use Rattle.xdg_reading.specs.Lines.{line_text, text_of, IsLine, line_at}
 use Rattle.xdg_reading.specs.Stages.{next, Goes, OffendsAt}
-use Rattle.xdg_reading.specs.Texts.{word_lines, body, lines_of, lines2_of, Placed, HasLines, IsText, IsRefused, no_text, no_analysis, IsAnswer, Tells, Gives, refusal}
+use Rattle.xdg_reading.specs.Texts.{word_lines, lines_of, lines2_of, Placed, HasLines, IsText, IsRefused, no_text, no_analysis, IsAnswer, Tells, Gives, refusal}
 use Rattle.xdg_reading.proofs.LineLaws.{line_read}
 use Rattle.xdg_reading.proofs.Shapes.{whole_text, words_in, entries_in, attrs_in, edges_in, edge_lines, attr_lines}
-use Rattle.xdg_reading.proofs.Steps.{pair, nothing, some_is}
+use Rattle.xdg_reading.proofs.Steps.{pair}
+use Rattle.xdg_listing.proofs.Texts.{one_place}
+use Rattle.xdg_listing.proofs.Options.{none_some, some_same}
 
 -- edges and the last line come one after the other
 edges_go : (at : ℕ) (s : Stage) (es : List EdgeLine) → ((e : EdgeLine) → next s (lines.Edge e) ≡ Some stages.Edges) → next s lines.End ≡ Some stages.Ended → Placed at (edge_lines es) → Goes at s (edge_lines es) stages.Ended
@@ -152,10 +152,10 @@ one_way at s (l ∷ ls) [] u v x y (is, (t, step, more)) b e c d =
     let here : at + 0 ≡ at = omega arith in
     absurd (d l (text_of ls ++ x) t (subst (λ k. IsLine k l) (sym here) is) (sym e ∙ text_cons l ls x) (ap (λ z. next z l) (sym b) ∙ step))
 one_way at s (l ∷ ls) (m ∷ ms) u v x y (is, (t, step, more)) (is2, (t2, step2, more2)) e c d =
-    let both = some_is (pair l (text_of ls ++ x)) (pair m (text_of ms ++ y)) (sym (line_read at l (text_of ls ++ x) is) ∙ ap (line_at at) (sym (text_cons l ls x) ∙ e ∙ text_cons m ms y) ∙ line_read at m (text_of ms ++ y) is2) in
+    let both = some_same (pair l (text_of ls ++ x)) (pair m (text_of ms ++ y)) (sym (line_read at l (text_of ls ++ x) is) ∙ ap (line_at at) (sym (text_cons l ls x) ∙ e ∙ text_cons m ms y) ∙ line_read at m (text_of ms ++ y) is2) in
     let same : l ≡ m = ap (λ (p : Line × List ℕ). p.0) both in
     let rest : text_of ls ++ x ≡ text_of ms ++ y = ap (λ (p : Line × List ℕ). p.1) both in
-    let stage : t ≡ t2 = some_is t t2 (sym step ∙ ap (next s) same ∙ step2) in
+    let stage : t ≡ t2 = some_same t t2 (sym step ∙ ap (next s) same ∙ step2) in
     let here : ℕ = at + length (line_text l) in
     let there : at + length (line_text m) ≡ here = ap (λ z. at + length (line_text z)) (sym same) in
     let first : at + (length (line_text l ++ text_of ls)) ≡ here + length (text_of ls) = omega (arith, length-append (line_text l) (text_of ls)) in
@@ -164,7 +164,7 @@ one_way at s (l ∷ ls) (m ∷ ms) u v x y (is, (t, step, more)) (is2, (t2, step
     record { lines_are = ap₂ (λ a b. a ∷ b) same tail.lines_are; stages_are = tail.stages_are; left = tail.left }
 
 whole_dead : (at : ℕ) → Dead at stages.Ended []
-whole_dead at l more later is parts step = nothing later step
+whole_dead at l more later is parts step = none_some later step
 
 same_text : (t o : AnalysisText) → t.words ≡ o.words → t.entries ≡ o.entries → t.attrs ≡ o.attrs → t.edges ≡ o.edges → t.end ≡ o.end → t ≡ o
 same_text t o words entries attrs edges end =
@@ -193,11 +193,8 @@ offends_once bytes at other a o =
     let same = one_way 0 stages.Start a.lines o.lines a.stage o.stage a.left o.left a.goes o.goes (sym a.parts ∙ o.parts) (dead_of bytes at a) (dead_of bytes other o) in
     a.place ∙ ap (λ z. length (text_of z)) same.lines_are ∙ sym o.place
 
-valid_once : (bytes : List ℕ) (n m : ℕ) → IsValidUpTo bytes n → IsValidUpTo bytes m → n ≡ m
-valid_once bytes n m a b = sym (utf8_valid_len-IsValidUpTo bytes n a) ∙ utf8_valid_len-IsValidUpTo bytes m b
-
 refused_once : (bytes : List ℕ) (one other : Fault) → IsRefused bytes one → IsRefused bytes other → one ≡ other
-refused_once bytes one other (no_text n none valid) (no_text m nor valid2) = ap (refusal causes.BadUtf8) (valid_once bytes n m valid valid2)
+refused_once bytes one other (no_text n none valid) (no_text m nor valid2) = ap (refusal causes.BadUtf8) (one_place bytes n m valid valid2)
 refused_once bytes one other (no_text n none valid) (no_analysis m u o) = absurd (none u)
 refused_once bytes one other (no_analysis n u o) (no_text m none valid) = absurd (none u)
 refused_once bytes one other (no_analysis n u a) (no_analysis m v o) = ap (refusal causes.NotAnalysis) (offends_once bytes n m a o)

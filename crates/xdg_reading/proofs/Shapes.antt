@@ -16,7 +16,8 @@ use Rattle.xdg_reading.specs.Gathered.{word_in, entry_in, attr_in, edge_in, Hold
 use Rattle.xdg_reading.specs.Lines.{line_text, text_of, IsLine}
 use Rattle.xdg_reading.specs.Stages.{next, Goes}
 use Rattle.xdg_reading.specs.Texts.{word_lines, body, lines_of, lines2_of, Placed, HasLines, IsText}
-use Rattle.xdg_reading.proofs.Steps.{nothing, some_is, cond_found, cond_left}
+use Rattle.xdg_reading.proofs.Steps.{cond_found, cond_left}
+use Rattle.xdg_listing.proofs.Options.{none_some, some_same}
 
 pub placed_of : (at : ℕ) (s : Stage) (ls : List Line) (t : Stage) → Goes at s ls t → Placed at ls
 placed_of at s [] t goes = tt
@@ -60,7 +61,7 @@ record Words (node : ℕ) (ls : List Line) : Type 0 where
 
 no_lines : (at : ℕ) (ls : List Line) → Goes at stages.Ended ls stages.Ended → ls ≡ []
 no_lines at [] goes = refl
-no_lines at (l ∷ ls) (is, (m, step, more)) = absurd (nothing m step)
+no_lines at (l ∷ ls) (is, (m, step, more)) = absurd (none_some m step)
 
 only_end : Edges (lines.End ∷ [])
 only_end = record { words = refl; entries = refl; attrs = refl; is = refl }
@@ -92,16 +93,16 @@ ended at m ls same goes = no_lines at ls (subst (λ z. Goes at z ls stages.Ended
 -- in text 1
 edges_shape : (at : ℕ) (ls : List Line) → Goes at stages.Edges ls stages.Ended → Edges ls
 edges_shape at [] goes = cc
-edges_shape at (lines.Edge e ∷ ls) (is, (m, step, more)) = one_edge e ls (edges_shape (at + length (line_text (lines.Edge e))) ls (subst (λ z. Goes (at + length (line_text (lines.Edge e))) z ls stages.Ended) (sym (some_is stages.Edges m step)) more))
-edges_shape at (lines.End ∷ ls) (is, (m, step, more)) = subst (λ z. Edges (lines.End ∷ z)) (sym (ended (at + length (line_text lines.End)) m ls (sym (some_is stages.Ended m step)) more)) only_end
-edges_shape at (l ∷ ls) (is, (m, step, more)) = absurd (nothing m step)
+edges_shape at (lines.Edge e ∷ ls) (is, (m, step, more)) = one_edge e ls (edges_shape (at + length (line_text (lines.Edge e))) ls (subst (λ z. Goes (at + length (line_text (lines.Edge e))) z ls stages.Ended) (sym (some_same stages.Edges m step)) more))
+edges_shape at (lines.End ∷ ls) (is, (m, step, more)) = subst (λ z. Edges (lines.End ∷ z)) (sym (ended (at + length (line_text lines.End)) m ls (sym (some_same stages.Ended m step)) more)) only_end
+edges_shape at (l ∷ ls) (is, (m, step, more)) = absurd (none_some m step)
 
 attrs_shape : (at : ℕ) (ls : List Line) → Goes at stages.Attrs ls stages.Ended → Attrs ls
 attrs_shape at [] goes = cc
-attrs_shape at (lines.Attr a ∷ ls) (is, (m, step, more)) = one_attr a ls (attrs_shape (at + length (line_text (lines.Attr a))) ls (subst (λ z. Goes (at + length (line_text (lines.Attr a))) z ls stages.Ended) (sym (some_is stages.Attrs m step)) more))
-attrs_shape at (lines.Edge e ∷ ls) (is, (m, step, more)) = as_attrs (lines.Edge e ∷ ls) (one_edge e ls (edges_shape (at + length (line_text (lines.Edge e))) ls (subst (λ z. Goes (at + length (line_text (lines.Edge e))) z ls stages.Ended) (sym (some_is stages.Edges m step)) more)))
-attrs_shape at (lines.End ∷ ls) (is, (m, step, more)) = subst (λ z. Attrs (lines.End ∷ z)) (sym (ended (at + length (line_text lines.End)) m ls (sym (some_is stages.Ended m step)) more)) (as_attrs (lines.End ∷ []) only_end)
-attrs_shape at (l ∷ ls) (is, (m, step, more)) = absurd (nothing m step)
+attrs_shape at (lines.Attr a ∷ ls) (is, (m, step, more)) = one_attr a ls (attrs_shape (at + length (line_text (lines.Attr a))) ls (subst (λ z. Goes (at + length (line_text (lines.Attr a))) z ls stages.Ended) (sym (some_same stages.Attrs m step)) more))
+attrs_shape at (lines.Edge e ∷ ls) (is, (m, step, more)) = as_attrs (lines.Edge e ∷ ls) (one_edge e ls (edges_shape (at + length (line_text (lines.Edge e))) ls (subst (λ z. Goes (at + length (line_text (lines.Edge e))) z ls stages.Ended) (sym (some_same stages.Edges m step)) more)))
+attrs_shape at (lines.End ∷ ls) (is, (m, step, more)) = subst (λ z. Attrs (lines.End ∷ z)) (sym (ended (at + length (line_text lines.End)) m ls (sym (some_same stages.Ended m step)) more)) (as_attrs (lines.End ∷ []) only_end)
+attrs_shape at (l ∷ ls) (is, (m, step, more)) = absurd (none_some m step)
 
 not_zero : (k : ℕ) → (k == 0) ≡ false → k ≡ 0 → ⊥
 not_zero k e = eqb-false k 0 e
@@ -130,7 +131,7 @@ words_shape at k (lines.End ∷ ls) (is, (m, step, more)) =
     let both = cond_left (k == 0) stages.Ended m step in
     let place : ℕ = at + length (line_text lines.End) in
     record { shape = subst (λ z. Words k (lines.End ∷ z)) (sym (ended place m ls (sym both.1) more)) (as_words k (lines.End ∷ []) (as_attrs (lines.End ∷ []) only_end)); some = λ first. absurd (not_zero k both.0 first) }
-words_shape at k (l ∷ ls) (is, (m, step, more)) = absurd (nothing m step)
+words_shape at k (l ∷ ls) (is, (m, step, more)) = absurd (none_some m step)
 
 -- in text 2
 record Counted (k words attrs edges : ℕ) (ls : List Line) : Type 0 where
@@ -192,7 +193,7 @@ left_shape at k words attrs edges (lines.End ∷ ls) (is, (m, step, more)) =
     let place : ℕ = at + length (line_text lines.End) in
     subst (λ z. Counted k words attrs edges (lines.End ∷ z)) (sym (ended place m ls (sym both.1) more))
     (record { shape = as_words k (lines.End ∷ []) (as_attrs (lines.End ∷ []) only_end); words_are = sym none; attrs_are = sym bare; edges_are = sym lone })
-left_shape at k words attrs edges (l ∷ ls) (is, (m, step, more)) = absurd (nothing m step)
+left_shape at k words attrs edges (l ∷ ls) (is, (m, step, more)) = absurd (none_some m step)
 
 -- the lines are those of a text
 pub record Lines (t : AnalysisText) (ls all : List Line) : Type 0 where
@@ -238,25 +239,25 @@ third : (t : AnalysisText) (number at : ℕ) (ls : List Line) → Holds t (lines
 third t number at [] holds goes = cc
 third t number at (lines.Counts words attrs edges ∷ ls) holds (is, (m, step, more)) =
     let place : ℕ = at + length (line_text (lines.Counts words attrs edges)) in
-    (number, inr (text2_lines t number words attrs edges place ls is.0 holds (subst (λ z. Goes place z ls stages.Ended) (sym (some_is (stages.Left 0 words attrs edges) m step)) more)))
-third t number at (l ∷ ls) holds (is, (m, step, more)) = absurd (nothing m step)
+    (number, inr (text2_lines t number words attrs edges place ls is.0 holds (subst (λ z. Goes place z ls stages.Ended) (sym (some_same (stages.Left 0 words attrs edges) m step)) more)))
+third t number at (l ∷ ls) holds (is, (m, step, more)) = absurd (none_some m step)
 
 second : (t : AnalysisText) (at : ℕ) (ls : List Line) → Holds t (lines.Version ∷ ls) → Goes at stages.Second ls stages.Ended → Either t (lines.Version ∷ ls)
 second t at [] holds goes = cc
 second t at (lines.Analysis number ∷ ls) holds (is, (m, step, more)) =
     let place : ℕ = at + length (line_text (lines.Analysis number)) in
-    third t number place ls holds (subst (λ z. Goes place z ls stages.Ended) (sym (some_is stages.Numbered m step)) more)
-second t at (l ∷ ls) holds (is, (m, step, more)) = absurd (nothing m step)
+    third t number place ls holds (subst (λ z. Goes place z ls stages.Ended) (sym (some_same stages.Numbered m step)) more)
+second t at (l ∷ ls) holds (is, (m, step, more)) = absurd (none_some m step)
 
 pub all_lines : (t : AnalysisText) (at : ℕ) (ls : List Line) → Holds t ls → Goes at stages.Start ls stages.Ended → Either t ls
 all_lines t at [] holds goes = cc
 all_lines t at (lines.Version ∷ ls) holds (is, (m, step, more)) =
     let place : ℕ = at + length (line_text lines.Version) in
-    second t place ls holds (subst (λ z. Goes place z ls stages.Ended) (sym (some_is stages.Second m step)) more)
+    second t place ls holds (subst (λ z. Goes place z ls stages.Ended) (sym (some_same stages.Second m step)) more)
 all_lines t at (lines.Analysis number ∷ ls) holds (is, (m, step, more)) =
     let place : ℕ = at + length (line_text (lines.Analysis number)) in
-    (number, inl (text1_lines t number place ls holds (subst (λ z. Goes place z ls stages.Ended) (sym (some_is (stages.Words 0) m step)) more)))
-all_lines t at (l ∷ ls) holds (is, (m, step, more)) = absurd (nothing m step)
+    (number, inl (text1_lines t number place ls holds (subst (λ z. Goes place z ls stages.Ended) (sym (some_same (stages.Words 0) m step)) more)))
+all_lines t at (l ∷ ls) holds (is, (m, step, more)) = absurd (none_some m step)
 
 has_lines : (bytes : List ℕ) (t : AnalysisText) (all : List Line) → (whole : Whole bytes t) → Lines t whole.lines all → HasLines bytes t all
 has_lines bytes t all whole shape = record {

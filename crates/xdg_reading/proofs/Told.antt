@@ -1,32 +1,23 @@
 -- What is said is what the lines show, and the place that is told is that of the first line that offends.
-use Rattle.std.proofs.Common.{◌≡◌, ◌≢◌, ◌<◌, ◌≤◌, ◌+◌, ◌-◌, ◌++◌, ◌==◌, ◌&&◌, ◌||◌, ◌⊎◌, inl, inr, ℕ, zero, suc, List, [], ◌∷◌, length, map, drop, get_or, refl, sym, ap, ap₂, ◌∙◌, subst, arith, lit<, true, false, cond, not, Bool, Some, None, Option, Ok, Err, append_assoc, append-nil, add-one, nat_lt, bytes_eq, All, AllPairs}
-use Rattle.std.specs.Prelude.{Result, ◌↔◌, IsTrue, Contains}
-use Rattle.std.proofs.lemmas.List.{drop_more, drop_all, get_or_default, length-map, length-drop}
+use Rattle.std.proofs.Common.{◌≡◌, ◌≢◌, ◌<◌, ◌-◌, ◌==◌, ◌&&◌, inl, inr, ℕ, zero, suc, List, [], ◌∷◌, length, get_or, refl, sym, ap, ap₂, ◌∙◌, subst, arith, true, false, cond, Bool, Some, None, Option, Ok, Err, nat_lt, bytes_eq, AllPairs}
+use Rattle.std.specs.Prelude.{Result, Contains}
 use Rattle.std.proofs.lemmas.List.Quantifiers.{position-Some}
 use Rattle.std.proofs.lemmas.List.Sums.{position_or_len_is}
 use Rattle.std.proofs.lemmas.Slice.Eq.{bytes_eq-Decides}
-use Rattle.std.proofs.lemmas.Bool.{eqb-true, eq-eqb, ltb-true, lt-ltb, or_cases, or_left, or_right, and_parts, and_from, cases_Bool, true_from_ne_false, false_from_ne_true, both_ways, not-true, not_from_false, ne_eqb, eqb-false}
-use Rattle.std.specs.List.{flat_map, list_any, position}
+use Rattle.std.proofs.lemmas.Bool.{eqb-true, eq-eqb, lt-ltb, or_cases, or_left, or_right, and_parts, and_from, false_from_ne_true, both_ways}
+use Rattle.std.specs.List.{position}
 use Rattle.xdg_base.specs.declared.ids.EntryNo.{EntryNo}
-use Rattle.xdg_problem.specs.declared.analysis.Edge.{Edge}
-use Rattle.xdg_problem.specs.declared.parts.AttrPlan.{AttrPlan}
-use Rattle.xdg_problem.specs.declared.parts.DimPlan.{DimPlan}
-use Rattle.xdg_problem.specs.declared.parts.Parts.{Parts}
 use Rattle.xdg_problem.specs.declared.parts.SentenceWord.{SentenceWord}
 use Rattle.xdg_problem.specs.declared.parts.Shown.{Shown}
 use Rattle.xdg_problem.specs.declared.parts.Shown.TheVariants as shown
-use Rattle.xdg_problem.specs.Analyses.{HasCandidates, Before, IsPlace}
-use Rattle.xdg_problem.specs.Problems.{IsProblem, IsDim, IsAttr}
+use Rattle.xdg_problem.specs.Analyses.{HasCandidates}
 use Rattle.xdg_reading.specs.declared.texts.AttrLine.{AttrLine}
-use Rattle.xdg_reading.specs.declared.texts.EdgeLine.{EdgeLine}
-use Rattle.xdg_text.specs.Blocks.{no_plan, no_value}
+use Rattle.xdg_text.specs.Blocks.{no_value}
 use Rattle.xdg_reading.specs.Fitted.{has_entry, words_fault, lead, or_at, said_value, said_values}
 use Rattle.xdg_reading.specs.Fits.{SaysValue, SayValues, WordOffends, this_word, later_word, AttrOffends, one_more, missing, this_attr, later_attr}
 use Rattle.xdg_reading.specs.Names.{same_texts, same_shown, value_number}
 use Rattle.xdg_reading.specs.Slots.{Asked}
-
-pub some_is : {X : Type 0} (x y : X) → Some x ≡ Some y → x ≡ y
-some_is x y e = ap (λ o. elim o [ Some z ↦ z | None ↦ x ]) e
+use Rattle.xdg_listing.proofs.Options.{some_same}
 
 -- entries
 contains_more : (c : EntryNo) (cs : List EntryNo) (e : EntryNo) → Contains cs e → Contains (c ∷ cs) e
@@ -65,7 +56,7 @@ word_offends (c ∷ cs) (w ∷ ws) [] at e = cc
 word_offends (c ∷ cs) (w ∷ ws) (x ∷ es) at e = by (word_offends cs ws es at) (has_entry c x) refl e where
   by : (words_fault cs ws es ≡ Some at → WordOffends cs ws es at) → (t : Bool) → has_entry c x ≡ t → cond t (words_fault cs ws es) (Some w.at) ≡ Some at → WordOffends (c ∷ cs) (w ∷ ws) (x ∷ es) at
   by more true has e = later_word c cs w ws x es at (entry_found c x has) (more e)
-  by more false has e = subst (WordOffends (c ∷ cs) (w ∷ ws) (x ∷ es)) (some_is w.at at e) (this_word c cs w ws x es (entry_lacks c x has))
+  by more false has e = subst (WordOffends (c ∷ cs) (w ∷ ws) (x ∷ es)) (some_same w.at at e) (this_word c cs w ws x es (entry_lacks c x has))
 
 pub words_told : (cs : List (List EntryNo)) (ws : List SentenceWord) (es : List EntryNo) → HasCandidates cs es → words_fault cs ws es ≡ None
 words_told [] ws es has = refl

@@ -1,13 +1,11 @@
 -- How the loops over the lines of a text go on.
-use Rattle.std.proofs.Common.{◌≡◌, ◌<◌, ◌≤◌, ◌+◌, ◌-◌, ◌++◌, ◌==◌, ◌&&◌, ◌||◌, ◌⊎◌, inl, inr, ℕ, zero, suc, List, [], ◌∷◌, length, map, drop, get_or, refl, sym, ap, ap₂, ◌∙◌, subst, arith, true, false, cond, not, Bool, Some, None, Option, Ok, Err, append_assoc, append-nil, add-one, nat_lt, bytes_eq}
+use Rattle.std.proofs.Common.{◌≡◌, ◌<◌, ◌≤◌, ◌+◌, ◌-◌, ◌++◌, ◌==◌, ◌&&◌, ◌||◌, inl, inr, ℕ, suc, List, [], ◌∷◌, length, map, drop, get_or, refl, sym, ap, ap₂, ◌∙◌, arith, true, false, cond, Bool, Some, None, Option, Ok, Err, append_assoc, append-nil, add-one, nat_lt, bytes_eq}
 use Rattle.std.specs.Prelude.{Result, ◌↔◌, IsTrue}
-use Rattle.std.proofs.lemmas.List.{drop_more, drop_all, get_or_default, length-map, length-drop}
-use Rattle.std.proofs.lemmas.Bool.{eqb-true, eq-eqb, ltb-true, lt-ltb, or_cases, or_left, or_right, and_parts, and_from, cases_Bool, true_from_ne_false, false_from_ne_true, both_ways}
+use Rattle.std.proofs.lemmas.List.{drop_all, length-map, length-drop}
+use Rattle.std.proofs.lemmas.Bool.{eqb-true, eq-eqb, ltb-true, lt-ltb, or_cases, or_left, or_right, and_parts, and_from, false_from_ne_true}
 use Rattle.std.specs.List.{flat_map}
 use Rattle.xdg_base.specs.declared.ids.EntryNo.{EntryNo}
 use Rattle.xdg_problem.specs.declared.analysis.Edge.{Edge}
-use Rattle.xdg_problem.specs.declared.parts.AttrPlan.{AttrPlan}
-use Rattle.xdg_problem.specs.declared.parts.DimPlan.{DimPlan}
 use Rattle.xdg_problem.specs.declared.parts.Parts.{Parts}
 use Rattle.xdg_problem.specs.declared.parts.SentenceWord.{SentenceWord}
 use Rattle.xdg_problem.specs.Analyses.{Before}
@@ -18,11 +16,8 @@ use Rattle.xdg_reading.specs.Fitted.{has_entry, words_fault, lead, leads, or_at,
 use Rattle.std.proofs.lemmas.List.Quantifiers.{position-Some}
 use Rattle.xdg_problem.specs.declared.parts.Shown.TheVariants as shown
 use Rattle.xdg_reading.specs.Names.{same_texts, same_shown, value_number}
-use Rattle.xdg_reading.specs.Slots.{Asked, node_slots}
-
--- a list from a place on begins with the item there
-pub from_place : {X : Type 0} (xs : List X) (k : ℕ) (x : X) → k < length xs → x ≡ get_or xs k x → drop k xs ≡ x ∷ drop (k + 1) xs
-from_place xs k x within is = drop_more xs k x within ∙ ap (λ z. z ∷ drop (k + 1) xs) (sym is)
+use Rattle.xdg_reading.specs.Slots.{Asked}
+use Rattle.xdg_listing.proofs.Lists.{from_place}
 
 -- texts of different numbers differ
 long_texts : (xs ys : List (List ℕ)) → same_texts xs ys ≡ true → length xs ≡ length ys

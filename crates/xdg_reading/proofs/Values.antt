@@ -10,7 +10,8 @@ use Rattle.xdg_text.specs.Values.{value_text}
 use Rattle.xdg_reading.specs.Pieces.{after, past, past_or, or_else, lead, behind, constant_at, element_at, constants_at, tuple_at, value_at}
 use Rattle.xdg_reading.proofs.Constants.{space, bracket, line_feed, constant_read, constant_other, constant_spelled, quoted_parts}
 use Rattle.xdg_reading.proofs.Fronts.{it_stands, other_byte}
-use Rattle.xdg_reading.proofs.Steps.{pair, nothing, some_is, after_found, past_found, past_or_found, lead_found, cond_either, or_else_found, Passed}
+use Rattle.xdg_reading.proofs.Steps.{pair, after_found, past_found, past_or_found, lead_found, cond_either, or_else_found, Passed}
+use Rattle.xdg_listing.proofs.Options.{none_some, some_same}
 
 -- a constant with another behind it
 pub element_goes : (text rest : List ℕ) → element_at (constant text ++ 32 ∷ rest) ≡ Some ((text, true), rest)
@@ -32,7 +33,7 @@ element_parts bytes text rest end more y is found =
     let cut = after_found (constant_at end bytes) (λ text rest. Some ((text, more), rest)) y found in
     constant_spelled end cut.value bytes cut.rest cut.is
     ∙ ap (λ z. constant cut.value ++ z ∷ cut.rest) (sym is)
-    ∙ ap (λ (z : (List ℕ × Bool) × List ℕ). constant z.0.0 ++ end_of z.0.1 ∷ z.1) (some_is (pair (pair cut.value more) cut.rest) y cut.goes)
+    ∙ ap (λ (z : (List ℕ × Bool) × List ℕ). constant z.0.0 ++ end_of z.0.1 ∷ z.1) (some_same (pair (pair cut.value more) cut.rest) y cut.goes)
 
 -- what is read as a constant of a tuple is one
 pub element_spelled : (bytes : List ℕ) (y : (List ℕ × Bool) × List ℕ) → element_at bytes ≡ Some y → bytes ≡ constant y.0.0 ++ end_of y.0.1 ∷ y.1
@@ -74,7 +75,7 @@ only_one bytes text rest parts = record { some = lit< tt; parts = parts ∙ sym 
 
 -- what is read as constants of a tuple is written so
 pub constants_spelled : (most : ℕ) (bytes : List ℕ) (texts : List (List ℕ)) (rest : List ℕ) → constants_at most bytes ≡ Some (texts, rest) → Tuple bytes texts rest
-constants_spelled zero bytes texts rest read = absurd (nothing (pair texts rest) read)
+constants_spelled zero bytes texts rest read = absurd (none_some (pair texts rest) read)
 constants_spelled (suc most) bytes texts rest read =
     let found = after_found (element_at bytes) (λ element rest. turn element most rest) (texts, rest) read in
     by found.value found.rest (element_spelled bytes (pair found.value found.rest) found.is) (cond_either found.value.1 (lead found.value.0 (constants_at most found.rest)) (Some (found.value.0 ∷ [], found.rest)) (texts, rest) found.goes) (constants_spelled most found.rest) where
@@ -84,7 +85,7 @@ constants_spelled (suc most) bytes texts rest read =
           subst (λ (p : List (List ℕ) × List ℕ). Tuple bytes p.0 p.1) led.all
           (one_more bytes element.0 left led.more led.rest (parts ∙ ap (λ t. constant element.0 ++ end_of t ∷ left) more) (known led.more led.rest led.is))
       by element left parts (inr (more, found)) known =
-          subst (λ (p : List (List ℕ) × List ℕ). Tuple bytes p.0 p.1) (some_is (pair (element.0 ∷ []) left) (pair texts rest) found)
+          subst (λ (p : List (List ℕ) × List ℕ). Tuple bytes p.0 p.1) (some_same (pair (element.0 ∷ []) left) (pair texts rest) found)
           (only_one bytes element.0 left (parts ∙ ap (λ t. constant element.0 ++ end_of t ∷ left) more))
 
 few : (texts : List (List ℕ)) → length texts ≤ length (more_text texts)
@@ -131,7 +132,7 @@ tuple_spelled bytes value rest read =
     let found = after_found (constants_at (length bytes) bytes) (λ texts rest. past (behind (10 ∷ []) rest) (λ rest. Some (shown.Many texts, rest))) (value, rest) read in
     let last = past_found (behind (10 ∷ []) found.rest) (λ rest. Some (shown.Many found.value, rest)) (value, rest) found.goes in
     let tuple = constants_spelled (length bytes) bytes found.value found.rest found.is in
-    subst (λ (p : Shown × List ℕ). Value (91 ∷ bytes) p.0 p.1) (some_is (pair (shown.Many found.value) last.rest) (pair value rest) last.goes)
+    subst (λ (p : Shown × List ℕ). Value (91 ∷ bytes) p.0 p.1) (some_same (pair (shown.Many found.value) last.rest) (pair value rest) last.goes)
     (record {
       parts = ap (λ z. 91 ∷ z) (tuple.parts ∙ ap (λ z. join_by constant (codes " ") found.value ++ 93 ∷ z) (it_stands (10 ∷ []) found.rest last.rest last.is) ∙ sym (append_assoc (join_by constant (codes " ") found.value) (93 ∷ []) (10 ∷ last.rest)));
       has = tuple.some;
@@ -140,7 +141,7 @@ tuple_spelled bytes value rest read =
 one_spelled : (bytes : List ℕ) (value : Shown) (rest : List ℕ) → after {Y = Shown × List ℕ} (constant_at 10 bytes) (λ text rest. Some (shown.One text, rest)) ≡ Some (value, rest) → Value bytes value rest
 one_spelled bytes value rest read =
     let found = after_found (constant_at 10 bytes) (λ text rest. Some (shown.One text, rest)) (value, rest) read in
-    subst (λ (p : Shown × List ℕ). Value bytes p.0 p.1) (some_is (pair (shown.One found.value) found.rest) (pair value rest) found.goes)
+    subst (λ (p : Shown × List ℕ). Value bytes p.0 p.1) (some_same (pair (shown.One found.value) found.rest) (pair value rest) found.goes)
     (record { parts = constant_spelled 10 found.value bytes found.rest found.is; has = tt })
 
 -- what is read as a value is written so

@@ -1,5 +1,5 @@
 -- How lines are read one after the other.
-use Rattle.std.proofs.Common.{◌≡◌, ◌≢◌, ◌<◌, ◌≤◌, ◌++◌, ◌+◌, ◌-◌, ◌==◌, ◌&&◌, ◌⊎◌, inl, inr, ℕ, zero, suc, List, [], ◌∷◌, length, refl, sym, ap, ◌∙◌, subst, arith, lit<, true, false, cond, Bool, Some, None, Option, append_assoc, append-nil, length-append, codes, nat_lt}
+use Rattle.std.proofs.Common.{◌≡◌, ◌<◌, ◌≤◌, ◌++◌, ◌+◌, ◌-◌, ◌==◌, ◌&&◌, ℕ, List, [], ◌∷◌, length, refl, sym, ap, ◌∙◌, subst, arith, true, false, Some, None, append_assoc, append-nil, length-append, nat_lt}
 use Rattle.std.proofs.lemmas.List.Concat.{flat_map-append}
 use Rattle.std.proofs.lemmas.Bool.{both_ways}
 use Rattle.std.specs.List.{flat_map}
@@ -10,9 +10,11 @@ use Rattle.xdg_reading.specs.declared.stage.Stage.TheVariants as stages
 use Rattle.xdg_reading.specs.declared.texts.AnalysisText.{AnalysisText}
 use Rattle.xdg_reading.specs.Gathered.{word_in, entry_in, attr_in, edge_in, Holds, Adds, SoFar, Whole}
 use Rattle.xdg_reading.specs.Lines.{line_text, text_of, IsLine, line_at}
-use Rattle.xdg_reading.specs.Stages.{next, has_ended, Goes, Stuck, OffendsAt}
-use Rattle.xdg_reading.proofs.LineLaws.{line_read, line_spelled, Spelled}
-use Rattle.xdg_reading.proofs.Steps.{pair, nothing, some_is, cond_found, cond_left}
+use Rattle.xdg_reading.specs.Stages.{next, has_ended, Goes, OffendsAt}
+use Rattle.xdg_reading.proofs.LineLaws.{line_read, line_spelled}
+use Rattle.xdg_reading.proofs.Steps.{pair, cond_found, cond_left}
+use Rattle.xdg_listing.proofs.Lists.{empty_list}
+use Rattle.xdg_listing.proofs.Options.{none_some, some_same}
 
 pub text_snoc : (ls : List Line) (l : Line) → text_of (ls ++ l ∷ []) ≡ text_of ls ++ line_text l
 text_snoc ls l = flat_map-append line_text ls (l ∷ []) ∙ ap (λ z. text_of ls ++ z) (append-nil (line_text l))
@@ -55,7 +57,7 @@ unread_offends bytes stage left t at so_far is read = record {
   parts = so_far.parts;
   place = is ∙ place_of bytes (text_of so_far.lines) left so_far.parts;
   stuck = record {
-    none = λ l more later line parts goes. nothing (pair l more) (sym read ∙ ap (line_at at) parts ∙ line_read at l more line);
+    none = λ l more later line parts goes. none_some (pair l more) (sym read ∙ ap (line_at at) parts ∙ line_read at l more line);
     unread = λ ended. absurd (both_ways (has_ended stage) so_far.goes_on (ap has_ended ended));
   };
 }
@@ -71,8 +73,8 @@ other_offends bytes stage left t at l new so_far is read stays = record {
   place = is ∙ place_of bytes (text_of so_far.lines) left so_far.parts;
   stuck = record {
     none = λ other more later line parts goes.
-        let same = some_is (pair other more) (pair l new) (sym (line_read at other more line) ∙ ap (line_at at) (sym parts) ∙ read) in
-        nothing later (sym stays ∙ ap (λ (p : Line × List ℕ). next stage p.0) (sym same) ∙ goes);
+        let same = some_same (pair other more) (pair l new) (sym (line_read at other more line) ∙ ap (line_at at) (sym parts) ∙ read) in
+        none_some later (sym stays ∙ ap (λ (p : Line × List ℕ). next stage p.0) (sym same) ∙ goes);
     unread = λ ended. absurd (both_ways (has_ended stage) so_far.goes_on (ap has_ended ended));
   };
 }
@@ -149,12 +151,8 @@ left_offends bytes stage left t at l new so_far is read step some =
       goes = next_turn.goes;
       parts = next_turn.parts;
       place = place_of bytes (text_of (so_far.lines ++ l ∷ [])) new next_turn.parts;
-      stuck = record { none = λ other more later line parts goes. nothing later goes; unread = λ ended none. some (ap length none) };
+      stuck = record { none = λ other more later line parts goes. none_some later goes; unread = λ ended none. some (ap length none) };
     }
-
-no_bytes : (new : List ℕ) → length new ≡ 0 → new ≡ []
-no_bytes [] e = refl
-no_bytes (byte ∷ new) e = absurd (omega (arith, e))
 
 adds_nothing : (t made : AnalysisText) → made.words ≡ t.words → made.entries ≡ t.entries → made.attrs ≡ t.attrs → made.edges ≡ t.edges → Adds t made lines.End
 adds_nothing t made words entries attrs edges = record {
@@ -169,7 +167,7 @@ pub all_read : (bytes : List ℕ) (stage : Stage) (left : List ℕ) (t : Analysi
 all_read bytes stage left t at l new so_far is read step none =
     let next_turn = turn bytes stage left t at l new stages.Ended so_far is read step in
     let last : l ≡ lines.End = ends_by stage l step in
-    let empty : new ≡ [] = no_bytes new none in
+    let empty : new ≡ [] = empty_list new none in
     let spelled = line_spelled at left l new read in
     let size : length left ≡ 4 = ap length spelled.parts ∙ ap (λ z. length (line_text z ++ new)) last ∙ ap (λ z. length (line_text lines.End ++ z)) empty in
     let place : length bytes ≡ length (text_of so_far.lines) + length left = ap length so_far.parts ∙ length-append (text_of so_far.lines) left in

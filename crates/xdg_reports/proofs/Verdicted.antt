@@ -1,7 +1,6 @@
 -- The texts of verdicts, piece by piece.
-use Rattle.std.proofs.Common.{◌≡◌, ℕ, suc, ◌<◌, ◌+◌, List, [], ◌∷◌, ◌++◌, length, get_or, slice_get, drop, Option, None, unwrap_or, refl, sym, ap, ap₂, ◌∙◌, add-one}
+use Rattle.std.proofs.Common.{◌≡◌, ℕ, suc, ◌<◌, ◌+◌, List, ◌∷◌, ◌++◌, length, get_or, slice_get, drop, Option, None, unwrap_or, sym, ap, ap₂, ◌∙◌, add-one}
 use Rattle.std.specs.Prelude.{codes, decimal}
-use Rattle.std.specs.List.{AllZip}
 use Rattle.std.proofs.Math.Seq.{drop-cons}
 use Rattle.std.proofs.lemmas.Option.{unwrap_or-slice_get}
 use Rattle.xdg_base.specs.declared.ids.DimId.{DimId}
@@ -38,13 +37,6 @@ lines_from parts own rules groups verdicts i group verdict within is there at =
   where
     from_place : {X : Type 0} (xs : List X) (k : ℕ) (x : X) → k < length xs → x ≡ get_or xs k x → drop k xs ≡ x ∷ drop (k + 1) xs
     from_place xs k x h e = rw (add-one) (drop-cons xs k x h ∙ ap (λ z. z ∷ drop (suc k) xs) (sym e))
-
--- lists whose elements go together are as long
-pub zip_length : {A B : Type 0} (R : A → B → Type 0) (xs : List A) (ys : List B) → AllZip R xs ys → length xs ≡ length ys
-zip_length R [] [] h = refl
-zip_length R [] (y ∷ ys) h = absurd h
-zip_length R (x ∷ xs) [] h = absurd h
-zip_length R (x ∷ xs) (y ∷ ys) h = ap suc (zip_length R xs ys h.1)
 
 module _ (parts : Parts) (own : ℕ) (rules : List Rule) (place : ℕ) (group : Group) (verdict : Verdict) {a b c d e f : Option (List ℕ)} where
   -- all pieces of a line were added

@@ -21,7 +21,8 @@ use Rattle.xdg_problem.proofs.Shortening.{passes_like}
 use Rattle.xdg_problem.specs.Boxes.{Has, Agrees, place_in, edge_decision, entry_decision}
 use Rattle.xdg_rules.specs.Rules.{has, IsDecided, value_in, EntryDecided, entry_value, TestDecided, TestPasses}
 use Rattle.xdg_rules.proofs.Sizes.{row_within}
-use Rattle.xdg_rules.proofs.Failing.{same_flag, value_is}
+use Rattle.xdg_rules.proofs.Failing.{value_is}
+use Rattle.xdg_listing.proofs.Truths.{same_flag}
 
 -- what remains of a decision of the prefix is its number
 pub agrees_at : (box : List (List Bool)) (p : List ℕ) → Agrees box p → (d : ℕ) → d < length p → (v : ℕ) → Has box d v ↔ (v ≡ slice_index p d)

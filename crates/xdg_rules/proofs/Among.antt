@@ -10,16 +10,18 @@ use Rattle.xdg_problem.specs.declared.parts.Principle.TheVariants as principles
 use Rattle.xdg_problem.specs.Asking.{IsLinked}
 use Rattle.xdg_problem.specs.Paths.{IsDaughterByAny, Above, AboveByFirst, roots}
 use Rattle.xdg_problem.specs.Places.{below}
-use Rattle.xdg_problem.proofs.Looking.{any_of, any_weaker, or_left, or_right}
+use Rattle.xdg_problem.proofs.Looking.{any_of, any_weaker}
 use Rattle.xdg_problem.proofs.FilterFacts.{filter_contained}
-use Rattle.xdg_problem.proofs.Ordered.{contains_head, contains_more, contains_cases, contains_none, contains_filter}
+use Rattle.xdg_problem.proofs.Ordered.{contains_head, contains_cases, contains_none, contains_filter}
 use Rattle.xdg_rules.proofs.Keeping.{Less, less_length}
+use Rattle.xdg_listing.proofs.Truths.{or_here, either_true}
+use Rattle.xdg_listing.proofs.Lists.{contains_more}
 
 pub list_any_of : {X : Type 0} (test : X → Bool) (xs : List X) (x : X) → Contains xs x → test x ≡ true → list_any test xs ≡ true
 list_any_of test [] x c passes = absurd (contains_none x c)
 list_any_of test (y ∷ xs) x c passes = elim (contains_cases y xs x c) [
-  | inl e ↦ or_left (test y) (list_any test xs) (ap test e ∙ passes)
-  | inr d ↦ or_right (test y) (list_any test xs) (list_any_of test xs x d passes)
+  | inl e ↦ or_here (test y) (list_any test xs) (ap test e ∙ passes)
+  | inr d ↦ either_true (test y) (list_any test xs) (list_any_of test xs x d passes)
 ]
 
 pub any_passes : {X : Type 0} (test : X → Bool) (xs : List X) → list_any test xs ≡ true → (x : X) × Contains xs x × (test x ≡ true)

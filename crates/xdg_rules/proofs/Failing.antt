@@ -19,6 +19,7 @@ use Rattle.xdg_problem.proofs.WholeTests.{IsNode, each_node}
 use Rattle.xdg_problem.specs.Boxes.{Has, IsBox, LiesIn, edge_decision, entry_decision}
 use Rattle.xdg_rules.specs.Rules.{has, IsDecided, first_true, value_in, EntryDecided, entry_value, FailsTest}
 use Rattle.xdg_rules.proofs.Sizes.{edge_within, node_within, attr_place_within}
+use Rattle.xdg_listing.proofs.Truths.{same_flag, same_and}
 
 -- the first value that remains is the only one
 pub first_only : (row : List Bool) (v : ℕ) → slice_index_or row v false ≡ true → ((x : ℕ) → slice_index_or row x false ≡ true → x ≡ v) → first_true row ≡ v
@@ -29,15 +30,6 @@ first_only (false ∷ row) (suc v) has only = ap suc (first_only row v has (λ x
 
 pub value_is : (box : List (List Bool)) (d : ℕ) (decided : IsDecided box d) → value_in box d ≡ decided.0
 value_is box d decided = first_only (slice_index_or box d []) decided.0 decided.1 decided.2
-
-pub same_flag : (a b : Bool) → (a ≡ true → b ≡ true) → (b ≡ true → a ≡ true) → a ≡ b
-same_flag true b to from = sym (to refl)
-same_flag false true to from = absurd (false≢true (from refl))
-same_flag false false to from = refl
-
-same_and : (a b c : Bool) → (a ≡ true → b ≡ c) → (a && b) ≡ (a && c)
-same_and true b c same = same refl
-same_and false b c same = refl
 
 -- the node and the values that a test looks at are those of the problem
 pub test_node : (parts : Parts) (group : Group) (test : Test) → IsTest parts group test → IsNode (nodes parts) (entry_node test)

@@ -5,8 +5,9 @@ use Rattle.std.proofs.lemmas.Bool.{and_parts, and_from, cases_lt, false≢true}
 use Rattle.std.proofs.lemmas.List.{get_or_default}
 use Rattle.std.proofs.lemmas.List.Sums.{length-filter}
 use Rattle.std.proofs.lemmas.List.Elements.{All-weaker, All-contains_itself}
-use Rattle.xdg_problem.proofs.Ordered.{contains_head, contains_more, contains_cases, contains_none, contains_filter}
+use Rattle.xdg_problem.proofs.Ordered.{contains_head, contains_cases, contains_none, contains_filter}
 use Rattle.xdg_problem.proofs.FilterFacts.{filter_both, count_of_filter, filter_alike, filter_contained}
+use Rattle.xdg_listing.proofs.Lists.{contains_more}
 
 less_put : {X : Type 0} (b c : Bool) (x : X) (ys zs : List X) → (b ≡ true → c ≡ true) → length ys ≤ length zs → length (cond b (x ∷ ys) ys) ≤ length (cond c (x ∷ zs) zs)
 less_put true true x ys zs more fewer = omega arith

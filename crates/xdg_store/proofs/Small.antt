@@ -1,5 +1,5 @@
 -- The sample problem is a problem, and what a test asks of it is in range.
-use Rattle.std.proofs.Common.{◌≡◌, ◌≢◌, ◌<◌, ◌-◌, ℕ, zero, suc, List, [], ◌∷◌, All, AllPairs, refl, subst, sym, ap, arith, lit<, lit≤, codes, true, false, nat_eq, get_or}
+use Rattle.std.proofs.Common.{◌≡◌, ◌≢◌, ◌<◌, ◌-◌, ℕ, zero, suc, List, [], ◌∷◌, refl, subst, sym, ap, arith, lit<, lit≤, codes, true, false, nat_eq, get_or}
 use Rattle.xdg_base.specs.declared.ids.EntryNo.{EntryNo}
 use Rattle.xdg_problem.specs.declared.parts.AttrPlan.{AttrPlan}
 use Rattle.xdg_problem.specs.declared.parts.DimPlan.{DimPlan}
@@ -11,28 +11,7 @@ use Rattle.xdg_problem.specs.Places.{edge}
 use Rattle.xdg_problem.specs.Problems.{IsProblem, IsDim, IsAttr, IsGroup, AreCandidates, HasConstant}
 use Rattle.xdg_store.specs.Example.{colour, plan, small}
 use Rattle.xdg_store.specs.InRange.{HasCandidate, HasEdges, HasValue}
-
-all_none : {X : Type 0} (P : X → Type 0) → All P []
-all_none P k d within = absurd (omega (arith, within))
-
-all_one : {X : Type 0} (P : X → Type 0) (x : X) → P x → All P (x ∷ [])
-all_one P x p zero d within = p
-all_one P x p (suc k) d within = absurd (omega (arith, within))
-
-all_two : {X : Type 0} (P : X → Type 0) (x y : X) → P x → P y → All P (x ∷ y ∷ [])
-all_two P x y p q zero d within = p
-all_two P x y p q (suc zero) d within = q
-all_two P x y p q (suc (suc k)) d within = absurd (omega (arith, within))
-
-pairs_one : {X : Type 0} (R : X → X → Type 0) (x : X) → AllPairs R (x ∷ [])
-pairs_one R x i j d before within = absurd (omega (arith, before, within))
-
-pairs_two : {X : Type 0} (R : X → X → Type 0) (x y : X) → R x y → AllPairs R (x ∷ y ∷ [])
-pairs_two R x y r zero zero d before within = absurd (omega (arith, before))
-pairs_two R x y r zero (suc zero) d before within = r
-pairs_two R x y r i (suc (suc k)) d before within = absurd (omega (arith, within))
-pairs_two R x y r (suc i) zero d before within = absurd (omega (arith, before))
-pairs_two R x y r (suc i) (suc zero) d before within = absurd (omega (arith, before))
+use Rattle.xdg_listing.proofs.Lists.{all_one, all_two, all_none, pairs_one, pairs_two}
 
 two_candidates : AreCandidates (record { 0 = 3 } ∷ record { 0 = 5 } ∷ [])
 two_candidates = record { some = lit< tt; most = lit≤ tt; rising = pairs_two (λ (a b : EntryNo). a.0 < b.0) (record { 0 = 3 }) (record { 0 = 5 }) (lit< tt); small = all_two (λ (e : EntryNo). e.0 < 4294967295) (record { 0 = 3 }) (record { 0 = 5 }) (lit< tt) (lit< tt) }

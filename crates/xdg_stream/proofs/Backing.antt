@@ -1,5 +1,5 @@
 -- What a search leaves behind where it goes back.
-use Rattle.std.proofs.Common.{◌≡◌, ℕ, ◌<◌, ◌≤◌, ◌+◌, ◌⊎◌, inl, inr, List, [], ◌∷◌, ◌++◌, length, take, get_or, refl, ap, sym, ◌∙◌, arith, subst, length-append}
+use Rattle.std.proofs.Common.{◌≡◌, ℕ, ◌<◌, ◌≤◌, ◌+◌, inl, inr, List, [], ◌∷◌, ◌++◌, length, get_or, refl, sym, arith, subst}
 use Rattle.std.proofs.lemmas.List.{append_assoc, append-nil}
 use Rattle.xdg_listing.specs.Order.{AtMost, Less, Past}
 use Rattle.xdg_listing.specs.Fits.{Fits}
@@ -8,9 +8,9 @@ use Rattle.xdg_listing.proofs.Fitting.{fits_front, past_range}
 use Rattle.xdg_listing.proofs.Ordered.{past_step}
 use Rattle.xdg_stream.specs.Forced.{AreLast}
 use Rattle.xdg_stream.specs.Problem.{SameProblem}
-use Rattle.xdg_stream.specs.Place.{place}
 use Rattle.xdg_stream.proofs.Following.{joined}
 use Rattle.xdg_stream.proofs.Passing.{Passes, later}
+use Rattle.xdg_listing.proofs.Lists.{some_behind}
 
 pub last_same : (shape : List ℕ) (P : List ℕ → Type 0) (now : List ℕ) (Q : List ℕ → Type 0) (p t : List ℕ) → SameProblem shape P now Q → AreLast now Q p t → AreLast shape P p t
 last_same shape P now Q p [] s h = tt
@@ -34,9 +34,6 @@ split (a ∷ p) v (b ∷ x) (inr h) = elim (split p v x h.1) [
   | past k ↦ past (inr (h.0, k))
   | greater u t l e ↦ greater u t l (let q : a ≡ b = h.0 in cc)
 ]
-
-some_behind : (q : List ℕ) (v : ℕ) → 0 < length (q ++ v ∷ [])
-some_behind q v = let a = length-append q (v ∷ []) in omega (arith, a)
 
 -- what is counted and doesn't come before a candidate that is out of range is past the front, down to where a greater number may be counted
 past_all : (shape : List ℕ) (P : List ℕ → Type 0) (p t x : List ℕ) (v : ℕ) → Closed P → AreLast shape P p t → get_or shape (length (p ++ t)) 0 ≤ v → Fits shape x → P x → AtMost ((p ++ t) ++ v ∷ []) x → Past p x

@@ -12,8 +12,9 @@ use Rattle.xdg_rules.proofs.Sizes.{within_sizes}
 use Rattle.xdg_stream.specs.Forced.{AreForced, AreLast, IsForced}
 use Rattle.xdg_stream.specs.Levels.{HasLevels, IsLevel}
 use Rattle.xdg_stream.specs.Runs.{AreAlone, IsAlone}
-use Rattle.xdg_stream.proofs.Fronts.{last_at, levels_with}
-use Rattle.xdg_stream.proofs.Longer.{last_of, last_only, narrow_same, within_of}
+use Rattle.xdg_stream.proofs.Fronts.{levels_with}
+use Rattle.xdg_stream.proofs.Longer.{last_only, narrow_same, within_of}
+use Rattle.xdg_listing.proofs.Lists.{last_at, last_at as last_of}
 
 -- a level makes its prefix boxed
 pub level_boxed : (parts : Parts) (p : List ℕ) (box : List (List Bool)) → IsLevel parts p box → Boxed parts p

@@ -6,10 +6,7 @@ use Rattle.std.proofs.lemmas.List.{get_or_append_left, get_or-take, length-take-
 use Rattle.xdg_problem.specs.declared.parts.Parts.{Parts}
 use Rattle.xdg_rules.specs.Boxed.{Boxed}
 use Rattle.xdg_stream.specs.Levels.{IsLevel, HasLevels, AreLevels}
-
-pub last_at : (xs : List ℕ) (v : ℕ) → slice_index (xs ++ v ∷ []) (length xs) ≡ v
-last_at [] v = refl
-last_at (x ∷ xs) v = last_at xs v
+use Rattle.xdg_listing.proofs.Lists.{last_at}
 
 module _ (parts : Parts) (history : List (List (List Bool))) (marks numbers : List ℕ) where
   -- there is a box
@@ -146,6 +143,7 @@ module _ (parts : Parts) (history : List (List (List Bool))) (marks numbers : Li
           (subst (λ i. IsLevel parts (take k numbers) (slice_index_or history i [])) (sym (before k l)) (has.each k (there k l)))
 
 -- the first box
+
 pub levels_first : (parts : Parts) (history : List (List (List Bool))) (mark : ℕ) → mark < length history → IsLevel parts [] (slice_index_or history mark []) → HasLevels parts history (mark ∷ []) []
 levels_first parts history mark l level = record {
   count = refl;

@@ -15,6 +15,7 @@ use Rattle.xdg_rules.proofs.Sizes.{within_sizes}
 use Rattle.xdg_store.proofs.Boxed.{length_box}
 use Rattle.xdg_propcore.specs.Uses.{AllStandIn}
 use Rattle.xdg_stream.specs.Levels.{IsLevel, IsRestricted}
+use Rattle.xdg_listing.proofs.Lists.{last_at}
 
 -- ---- closed for all propagators is closed
 
@@ -40,11 +41,6 @@ agrees_of box [] l at = tt
 agrees_of [] (x ∷ p) l at = absurd (omega (arith, l))
 agrees_of (row ∷ box) (x ∷ p) l at = (at 0 (omega arith), agrees_of box p (omega (arith, l)) (λ d m. at (suc d) (omega (arith, m))))
 
--- the last number of a longer prefix
-pub last_of : (p : List ℕ) (v : ℕ) → slice_index (p ++ v ∷ []) (length p) ≡ v
-last_of [] v = refl
-last_of (x ∷ p) v = last_of p v
-
 front_of : (p : List ℕ) (v d : ℕ) → d < length p → slice_index (p ++ v ∷ []) d ≡ slice_index p d
 front_of p v d l = get_or_append_left p (v ∷ []) 0 d l
 
@@ -57,7 +53,7 @@ module _ (parts : Parts) (p : List ℕ) (v : ℕ) where
 
   -- a box that agrees with the longer prefix has its last number alone
   pub last_only : (box : List (List Bool)) → Agrees box longer → IsOnly box (length p) v
-  last_only box agrees x h = (let e = long in (agrees_at box longer agrees (length p) (omega (arith, e)) x).0 h ∙ last_of p v)
+  last_only box agrees x h = (let e = long in (agrees_at box longer agrees (length p) (omega (arith, e)) x).0 h ∙ last_at p v)
 
   -- a box inside one that agrees with the prefix, with the number alone, agrees with the longer prefix
   grown_agrees : (old box : List (List Bool)) → IsBox (shape parts) old → IsBox (shape parts) box → length p < length (shape parts) → Agrees old p → LiesIn box old → IsOnly box (length p) v → Agrees box longer
@@ -72,7 +68,7 @@ module _ (parts : Parts) (p : List ℕ) (v : ℕ) where
         | inr past ↦ (
             let e = long in
             let same : d ≡ length p = omega (arith, e, l, past) in
-            only x (subst (λ k. Has box k x) same h) ∙ sym (last_of p v) ∙ ap (slice_index longer) (sym same)
+            only x (subst (λ k. Has box k x) same h) ∙ sym (last_at p v) ∙ ap (slice_index longer) (sym same)
             )
       ]
 
@@ -97,7 +93,7 @@ module _ (parts : Parts) (p : List ℕ) (v : ℕ) where
     pub narrow_emptied : (Has old (length p) v → ⊥) → Boxed parts longer → ⊥
     narrow_emptied none boxed =
         let e = long in
-        let has : Has boxed.box (length p) v = (agrees_at boxed.box longer boxed.agrees (length p) (omega (arith, e)) v).1 (sym (last_of p v)) in
+        let has : Has boxed.box (length p) v = (agrees_at boxed.box longer boxed.agrees (length p) (omega (arith, e)) v).1 (sym (last_at p v)) in
         none (inside_old boxed.box boxed.is boxed.closed boxed.agrees (length p) v has)
 
     module _ {P : Type 0} (stands : P → Parts → ℕ → Type 0) (props : List P) (all : AllStandIn stands props parts) (now : List (List Bool)) (r : IsRestricted old now (length p) v) where

@@ -4,7 +4,6 @@ use Rattle.std.specs.Prelude.{◌/◌, ◌%◌, slice_index}
 use Rattle.std.proofs.lemmas.List.{get_or-map, get_or_default, take_all}
 use Rattle.std.proofs.lemmas.Nat.{div-add-mod'}
 use Rattle.std.proofs.Math.Nat.{mod-lt, div-lt_iff_lt-mul}
-use Rattle.xdg_problem.proofs.ValueCounts.{some_width}
 use Rattle.xdg_problem.proofs.Counted.{length_attrs_of}
 use Rattle.std.specs.List.{flat_map}
 use Rattle.xdg_problem.specs.declared.analysis.Edge.{Edge}
@@ -26,6 +25,7 @@ use Rattle.xdg_store.specs.Layout.{bits_of}
 use Rattle.xdg_store.proofs.Located.{Located, entry_located, attr_located}
 use Rattle.xdg_store.proofs.Sizes.{bits_sizes}
 use Rattle.xdg_rules.proofs.Sizes.{edge_size}
+use Rattle.xdg_listing.proofs.Numbers.{some_after}
 
 -- ---- how many values
 
@@ -110,7 +110,7 @@ attr_number parts dims plan dim width n rest at same count l found w sum =
 pub attr_in_range : (parts : Parts) (dims : List DimPlan) (plan : DimPlan) (dim width n rest : ℕ) → dims ≡ parts.dims → n ≡ nodes parts → dim < length dims → plan ≡ get_or dims dim plan → width ≡ length plan.attrs → rest < n * width → (dim < length parts.dims) × (rest / width < nodes parts) × (rest % width < attr_count parts dim)
 attr_in_range parts dims plan dim width n rest same count l found w m =
     let each = same_count parts dims plan dim width same l found w in
-    let some : 0 < width = some_width n width rest m in (
+    let some : 0 < width = some_after n width rest m in (
       subst (λ z. dim < length z) same l,
       subst (λ k. rest / width < k) count ((div-lt_iff_lt-mul some).1 m),
       subst (λ k. rest % width < k) (sym each) (mod-lt rest some),

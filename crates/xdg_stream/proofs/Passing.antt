@@ -1,5 +1,5 @@
 -- What each step of a search does to what it has passed since some prefix.
-use Rattle.std.proofs.Common.{◌≡◌, ◌≢◌, ℕ, ◌<◌, ◌≤◌, ◌+◌, inl, inr, List, [], ◌∷◌, ◌++◌, length, get_or, refl, ap, sym, ◌∙◌, arith, subst, length-append, filter}
+use Rattle.std.proofs.Common.{◌≡◌, ◌≢◌, ℕ, ◌+◌, inl, inr, List, [], ◌∷◌, ◌++◌, length, refl, ap, sym, ◌∙◌, subst, length-append, filter}
 use Rattle.xdg_listing.specs.Order.{Less, AtMost}
 use Rattle.xdg_listing.specs.Fits.{Fits}
 use Rattle.xdg_listing.specs.Listing.{IsListing, SoFar, Before}
@@ -11,6 +11,7 @@ use Rattle.xdg_listing.proofs.Wholes.{filter_more}
 use Rattle.xdg_listing.proofs.Reached.{before_later, before_taken, refused_none, last_from, so_far_last, last_before, last_append, last_at_most, none_after_last}
 use Rattle.xdg_stream.specs.Place.{Next}
 use Rattle.xdg_stream.specs.Halts.{HaltsAt}
+use Rattle.xdg_listing.proofs.Lists.{some_behind}
 
 -- n counted prefixes come after `from` and before c, and none of them is whole; the last of them is kept
 pub record Passes (shape : List ℕ) (P : List ℕ → Type 0) (from c : List ℕ) (n : ℕ) (kept now : List ℕ) : Type 0 where
@@ -40,9 +41,6 @@ later shape P from c d n kept now l none p = record {
   listing = before_later shape P from c d p.passed l none p.listing;
   told = p.told;
 }
-
-some_behind : (q : List ℕ) (v : ℕ) → 0 < length (q ++ v ∷ [])
-some_behind q v = let a = length-append q (v ∷ []) in omega (arith, a)
 
 -- the candidate is not counted, and so nothing that begins with it
 pub passes_refused : (shape : List ℕ) (P : List ℕ → Type 0) (from q : List ℕ) (v n : ℕ) (kept now : List ℕ) → Closed P → (P (q ++ v ∷ []) → ⊥) → Passes shape P from (q ++ v ∷ []) n kept now → Passes shape P from (q ++ (v + 1) ∷ []) n kept now

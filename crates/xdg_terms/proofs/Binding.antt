@@ -15,8 +15,8 @@ use Rattle.xdg_terms.specs.Forms.{Term, Bindings, Look, with_bound, with_open, u
 use Rattle.xdg_terms.specs.Offences.{is_some, has_form, has_set_form, all_told, OfSeen, OffendsIn, OffendsUnder, OffendsBy, Offends}
 use Rattle.xdg_terms.specs.Wanted.{Want, free_in, free_of, or_inside, params_in, params_under, params_inside}
 use Rattle.xdg_terms.specs.Replaced.{IsOpenRight, AreBoundRight}
-use Rattle.xdg_terms.proofs.Has.{text_same, same_text}
 use Rattle.xdg_terms.proofs.Right.{RightHere, formed}
+use Rattle.xdg_listing.proofs.Texts.{is_same, same_text}
 
 -- ---- a term of a wanted form is no parameter
 
@@ -75,6 +75,7 @@ module _ (t : Term) (name : Name) (is : out-TermKind t.kind ≡ TermKind-F.Param
   no_form (fields fs) = no_pairs
 
 -- so it stands for itself
+
 itself_by : (bs : Bindings) (s : Shape) (t : Term) → has_form s t ≡ true → (l : TermKind-F ElemKind TermKind) → out-TermKind t.kind ≡ l → bound_in bs t l ≡ t
 itself_by bs s t form (TermKind-F.TermKind::Const name) is = refl
 itself_by bs s t form (TermKind-F.Param name) is = absurd (true≢false (sym form ∙ no_form t name is s))
@@ -203,7 +204,7 @@ module _ (free : List (List ℕ)) (bs : Bindings) (P : List ℕ → Shape → Ty
     right_under : (fs : Fields) (pair : Name × Term) → Known (params_under free fs pair) → ((f : Fault) → OffendsUnder (with_open free) fs pair f → ⊥) → (f : Fault) → OffendsUnder (with_bound bs) fs pair f → ⊥
     right_under no_field pair known h f w = w
     right_under (field_then name u fs) pair known h f w = elim w [
-      | inl a ↦ right u pair.1 (λ p v i. known p v (subst (λ (b : Bool). In (if b then params_in free u pair.1 else params_under free fs pair) (p, v)) (sym (text_same name pair.0.text a.0)) i)) (λ g x. h g (inl (a.0, x))) f a.1
+      | inl a ↦ right u pair.1 (λ p v i. known p v (subst (λ (b : Bool). In (if b then params_in free u pair.1 else params_under free fs pair) (p, v)) (sym (is_same name pair.0.text a.0)) i)) (λ g x. h g (inl (a.0, x))) f a.1
       | inr b ↦ right_under fs pair
           (λ p v i. known p v (subst (λ (c : Bool). In (if c then params_in free u pair.1 else params_under free fs pair) (p, v)) (sym (false_from_ne_true (bytes_eq name pair.0.text) (λ e. b.0 (same_text name pair.0.text e)))) i))
           (λ g x. h g (inr (b.0, x))) f b.1
@@ -261,6 +262,7 @@ mutual
       elim (bytes_eq name pair.0.text) as (λ b. In (if b then params_in [] u pair.1 else params_under [] fs pair) w → ⊥) [ true ↦ no_params u pair.1 w | false ↦ none_under fs pair w ] h
 
 -- a right term without parameters is of its form, and right under any bindings
+
 form_of : (s : Shape) (b : Term) → IsOpenRight [] s b → has_form s b ≡ true
 form_of s b h = formed s b (here_of (with_open []) s b (right_in (with_open []) s b (all_looked_at b) h))
 

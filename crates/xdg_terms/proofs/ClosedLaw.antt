@@ -19,10 +19,10 @@ use Rattle.xdg_terms.specs.Offences.{is_some, has_form, has_set_form, all_told, 
 use Rattle.xdg_terms.specs.Closed.{closed, closed_by, closing, kind_by, closing_kind, closing_elem}
 use Rattle.xdg_terms.specs.Wanted.{Want, free_in, free_of, or_inside, params_in, params_under, params_inside}
 use Rattle.xdg_terms.specs.Replaced.{IsOpenRight, AreBoundRight}
-use Rattle.xdg_terms.proofs.Has.{text_same, same_text}
 use Rattle.xdg_terms.proofs.Right.{formed, told}
 use Rattle.xdg_terms.proofs.Replacing.{closed_is}
 use Rattle.xdg_terms.proofs.Binding.{open_param, looked_at, seen, no_form, RightIn, RightBy, here_of, right_in, all_looked_at}
+use Rattle.xdg_listing.proofs.Texts.{is_same, same_text}
 
 module _ (bs : Bindings) where
   -- ---- elements without terms stay
@@ -316,7 +316,7 @@ module _ (bs : Bindings) where
       replaced_under : (fs : Fields) (pair : Name × Term) → Known (params_under free fs pair) → ((f : Fault) → OffendsUnder (with_open free) fs pair f → ⊥) → (f : Fault) → OffendsUnder (with_open []) fs (pair_closed pair) f → ⊥
       replaced_under no_field pair known h f w = w
       replaced_under (field_then name u fs) pair known h f w = elim w [
-        | inl a ↦ replaced u pair.1 (λ p v i. known p v (subst (λ (b : Bool). In (if b then params_in free u pair.1 else params_under free fs pair) (p, v)) (sym (text_same name pair.0.text a.0)) i)) (λ g x. h g (inl (a.0, x))) f
+        | inl a ↦ replaced u pair.1 (λ p v i. known p v (subst (λ (b : Bool). In (if b then params_in free u pair.1 else params_under free fs pair) (p, v)) (sym (is_same name pair.0.text a.0)) i)) (λ g x. h g (inl (a.0, x))) f
             (subst (λ o. OfSeen o (λ z. OffendsIn (with_open []) u z f)) (all_looked_at (closed bs pair.1)) a.1)
         | inr b ↦ replaced_under fs pair
             (λ p v i. known p v (subst (λ (c : Bool). In (if c then params_in free u pair.1 else params_under free fs pair) (p, v)) (sym (false_from_ne_true (bytes_eq name pair.0.text) (λ q. b.0 (same_text name pair.0.text q)))) i))

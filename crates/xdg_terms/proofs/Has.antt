@@ -2,19 +2,13 @@
 use Rattle.std.proofs.Common.{◌≡◌, inl, inr, ℕ, true, false, List, [], ◌∷◌, ◌++◌, refl, sym}
 use Rattle.std.specs.Prelude.{◌||◌, bytes_eq}
 use Rattle.std.proofs.lemmas.Bool.{or_cases, or_left, or_right, true≢false}
-use Rattle.std.proofs.lemmas.Slice.Eq.{bytes_eq-Decides}
 use Rattle.xdg_domain.specs.Shapes.{Among}
 use Rattle.xdg_terms.specs.Faults.{has}
+use Rattle.xdg_listing.proofs.Texts.{same_text, is_same}
 
 pub has_append : (xs ys : List (List ℕ)) (t : List ℕ) → has (xs ++ ys) t ≡ (has xs t || has ys t)
 has_append [] ys t = refl
 has_append (x ∷ xs) ys t = elim (bytes_eq x t) as (λ b. (b || has (xs ++ ys) t) ≡ ((b || has xs t) || has ys t)) [ true ↦ refl | false ↦ has_append xs ys t ]
-
-pub same_text : (x y : List ℕ) → bytes_eq x y ≡ true → x ≡ y
-same_text x y = (bytes_eq-Decides x y).0
-
-pub text_same : (x y : List ℕ) → x ≡ y → bytes_eq x y ≡ true
-text_same x y = (bytes_eq-Decides x y).1
 
 pub has_among : (xs : List (List ℕ)) (t : List ℕ) → has xs t ≡ true → Among xs t
 has_among [] t h = absurd (true≢false (sym h))
@@ -22,4 +16,4 @@ has_among (x ∷ xs) t h = elim (or_cases (bytes_eq x t) (has xs t) h) [ inl e �
 
 pub among_has : (xs : List (List ℕ)) (t : List ℕ) → Among xs t → has xs t ≡ true
 among_has [] t h = absurd h
-among_has (x ∷ xs) t h = elim h [ inl e ↦ or_left (bytes_eq x t) (has xs t) (text_same x t e) | inr k ↦ or_right (bytes_eq x t) (has xs t) (among_has xs t k) ]
+among_has (x ∷ xs) t h = elim h [ inl e ↦ or_left (bytes_eq x t) (has xs t) (is_same x t e) | inr k ↦ or_right (bytes_eq x t) (has xs t) (among_has xs t k) ]

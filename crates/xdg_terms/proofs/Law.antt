@@ -26,7 +26,8 @@ use Rattle.xdg_names.proofs.In.{in_append, in_left, in_right, in_flat_map, flat_
 use Rattle.xdg_terms.specs.Forms.{Term, Card, Look, all_of, bracketed_elem, braces_in, generator_in, constant_of, number_of, card_of, generator_of, bracket_of, constants_of, brackets_of, counts_of, pairs_of}
 use Rattle.xdg_terms.specs.Offences.{fault_at, has_form, has_set_form, asked_in_set, is_some, one_told, all_told, Asked, asked_in, asked_in_turn, asked, keys, field_keys, known_fields, cards, keys_of, gen_names, IsWrongKind, IsNotMember, IsTwice, IsUnknownField, IsOutOfRange, CardOffends, OffendsHere, OfSeen, OffendsIn, OffendsUnder, OffendsBy}
 use Rattle.xdg_terms.specs.Faults as spec
-use Rattle.xdg_terms.proofs.Has.{has_among, among_has, same_text, text_same}
+use Rattle.xdg_terms.proofs.Has.{has_among, among_has}
+use Rattle.xdg_listing.proofs.Texts.{same_text, is_same}
 
 -- ---- the rules as lists
 
@@ -408,7 +409,7 @@ mutual
   field_sound look (field_then name u fs) pair f h =
       elim (bytes_eq name pair.0.text) as (λ b. bytes_eq name pair.0.text ≡ b → In (of_field look name u fs pair b) f → OffendsUnder look (field_then name u fs) pair f) [
         | true ↦ λ is k. inl (same_text name pair.0.text is, seen_in (spec.faults_in look u) (λ w. OffendsIn look u w f) f (λ w. sound look u w f) (look pair.1) k)
-        | false ↦ λ is k. inr ((λ e. true≢false (sym (text_same name pair.0.text e) ∙ is)), field_sound look fs pair f k)
+        | false ↦ λ is k. inr ((λ e. true≢false (sym (is_same name pair.0.text e) ∙ is)), field_sound look fs pair f k)
       ] refl h
 
 mutual
@@ -440,7 +441,7 @@ mutual
   field_complete : (look : Look) (fs : Fields) (pair : Name × Term) (f : Fault) → OffendsUnder look fs pair f → In (spec.field_faults look fs pair) f
   field_complete look no_field pair f h = h
   field_complete look (field_then name u fs) pair f h = elim h [
-    | inl a ↦ subst (λ b. In (of_field look name u fs pair b) f) (sym (text_same name pair.0.text a.0)) (in_seen (spec.faults_in look u) (λ w. OffendsIn look u w f) f (λ w. complete look u w f) (look pair.1) a.1)
+    | inl a ↦ subst (λ b. In (of_field look name u fs pair b) f) (sym (is_same name pair.0.text a.0)) (in_seen (spec.faults_in look u) (λ w. OffendsIn look u w f) f (λ w. complete look u w f) (look pair.1) a.1)
     | inr b ↦ subst (λ c. In (of_field look name u fs pair c) f) (sym (false_from_ne_true (bytes_eq name pair.0.text) (λ e. b.0 (same_text name pair.0.text e)))) (field_complete look fs pair f b.1)
   ]
 

@@ -21,12 +21,12 @@ use Rattle.xdg_terms.specs.Means.{IsAt, truth_text, AllowedBy, written_for, Said
 use Rattle.xdg_terms.specs.Answers.{IsRight}
 use Rattle.xdg_terms.specs.Fitting.{FitsIn, FitsField, Fits}
 use Rattle.xdg_terms.specs.Built.{Elem, or_zero, number_named, text_named, number_of_places, tuple_number, names_of, elems_of, first_for, set_of, card_numbers, numbers_of_card, put, said_from, built, fields_from}
-use Rattle.xdg_terms.proofs.Has.{same_text, text_same}
 use Rattle.xdg_terms.proofs.Right.{RightHere, formed, told, stands, card_right, allowed}
 use Rattle.xdg_terms.proofs.Read.{bracket_read, same_first, written}
 use Rattle.xdg_terms.proofs.Meant.{at_place, among_at, all_places, TupleOf, tuple_of_places}
 use Rattle.xdg_terms.proofs.Lawful.{set_law, set_below, counts_read, pairs_read}
 use Rattle.xdg_terms.proofs.SaidKeys.{made_of, put_rises, put_here, put_later, said_made, from_rises, keys_said, keys_each}
+use Rattle.xdg_listing.proofs.Texts.{same_text, is_same}
 
 -- the term means the value, which is one of the type where its numbers are in range
 abbrev pub GoodIn : Bindings → Shape → Term → Value-F Value → Type 0
@@ -56,7 +56,7 @@ tuple_good bs ss t h =
 
 truth_told : (t : List ℕ) (b : Bool) → bytes_eq t (codes "true") ≡ b → Among (codes "true" ∷ codes "false" ∷ []) t → t ≡ truth_text b
 truth_told t true e h = same_text t (codes "true") e
-truth_told t false e h = elim h [ inl is ↦ absurd (true≢false (sym (text_same t (codes "true") (sym is)) ∙ e)) | inr k ↦ elim k [ inl is ↦ sym is | inr none ↦ absurd none ] ]
+truth_told t false e h = elim h [ inl is ↦ absurd (true≢false (sym (is_same t (codes "true") (sym is)) ∙ e)) | inr k ↦ elim k [ inl is ↦ sym is | inr none ↦ absurd none ] ]
 
 truth_good : (bs : Bindings) (t : Term) → RightHere truth t → GoodIn bs truth t (Value-F.Bool (bytes_eq (text_named (constant_of t)) (codes "true")))
 truth_good bs t h =

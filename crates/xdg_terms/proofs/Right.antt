@@ -18,7 +18,8 @@ use Rattle.xdg_terms.specs.Offences.{fault_at, has_form, is_some, asked, CardOff
 use Rattle.xdg_terms.specs.Offences as o
 use Rattle.xdg_terms.specs.Means.{allows, AllowedBy}
 use Rattle.xdg_terms.specs.Built.{place_from, card_numbers, some_or_all}
-use Rattle.xdg_terms.proofs.Has.{text_same}
+use Rattle.xdg_listing.proofs.Truths.{and_2}
+use Rattle.xdg_listing.proofs.Texts.{is_same}
 
 -- nothing is wrong with the term itself
 abbrev pub RightHere : Shape → Term → Type 0
@@ -41,7 +42,7 @@ told (Some x) h = (x, refl)
 
 none_placed : (at : ℕ) (c : List ℕ) (cs : List (List ℕ)) (name : List ℕ) (b : Bool) → bytes_eq c name ≡ b → ((place_from (at + 1) cs name ≡ None) → Among cs name → ⊥) → (if b then Some at else place_from (at + 1) cs name) ≡ None → Among (c ∷ cs) name → ⊥
 none_placed at c cs name true is later e h = cc
-none_placed at c cs name false is later e h = elim h [ inl same ↦ true≢false (sym (text_same c name same) ∙ is) | inr rest ↦ later e rest ]
+none_placed at c cs name false is later e h = elim h [ inl same ↦ true≢false (sym (is_same c name same) ∙ is) | inr rest ↦ later e rest ]
 
 unplaced : (at : ℕ) (cs : List (List ℕ)) (name : List ℕ) → place_from at cs name ≡ None → Among cs name → ⊥
 unplaced at [] name e h = h
@@ -70,10 +71,6 @@ card_right s t card h among f bad = h f (inr (inr (inr (inr (record { card = car
 le_true : (a b : ℕ) → a ≤ b → nat_le a b ≡ true
 le_true a b h = grind (arith, nat_tests)
 
-and_true : (a b : Bool) → a ≡ true → b ≡ true → (a && b) ≡ true
-and_true true b h k = k
-and_true false b h k = h
-
 -- a number that is allowed
 abbrev Witness : CardKind → Type 0
 Witness kind = (n : ℕ) × ((n < 128) × (allows kind n ≡ true))
@@ -101,7 +98,7 @@ witness written (c.Interval low high) h = (
       | inl below ↦ below
       | inr beyond ↦ absurd (h (fault_at causes.CardRange low.span.start) (inl (omega (arith, beyond), refl)))
     ],
-    and_true (nat_le low.value low.value) (nat_le low.value high.value) (le_true low.value low.value (omega arith)) (elim (cases_lt high.value low.value) [
+    and_2 (nat_le low.value low.value) (nat_le low.value high.value) (le_true low.value low.value (omega arith)) (elim (cases_lt high.value low.value) [
       | inl below ↦ absurd (h (fault_at causes.CardRange high.span.start) (inr (inr below, refl)))
       | inr beyond ↦ le_true low.value high.value beyond
     ]),

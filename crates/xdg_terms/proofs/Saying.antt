@@ -1,5 +1,5 @@
 -- What is said of keys, key after key.
-use Rattle.std.proofs.Common.{◌≡◌, ℕ, ◌<◌, ◌≤◌, ◌+◌, zero, suc, List, [], ◌∷◌, ◌++◌, length, get_or, drop, map, Option, None, Some, refl, ap, ap₂, sym, ◌∙◌, arith, subst, append_assoc, add-one, drop-cons}
+use Rattle.std.proofs.Common.{◌≡◌, ℕ, ◌<◌, ◌≤◌, ◌+◌, zero, suc, List, [], ◌∷◌, ◌++◌, length, get_or, drop, map, Option, None, Some, refl, ap, ap₂, sym, ◌∙◌, arith, subst, append_assoc}
 use Rattle.std.proofs.lemmas.List.{drop_all}
 use Rattle.xdg_domain.specs.declared.types.Ty.{Ty}
 use Rattle.xdg_domain.specs.declared.types.Ty.TheVariants as ty
@@ -15,6 +15,7 @@ use Rattle.xdg_domain.specs.Values.{EachSaid}
 use Rattle.xdg_terms.specs.Fitting.{FitsIn, FitsField, Fits}
 use Rattle.xdg_terms.specs.Forms.{Term, Bindings, bound, keyed_elem}
 use Rattle.xdg_terms.specs.Built.{Elem, put, said_from, first_for, built, fields_from, fields_in, elems_of}
+use Rattle.xdg_listing.proofs.Lists.{from_place}
 
 pub below_skip : {V : Type 0} (s : List (ℕ × V)) (key : ℕ) → KeysBelow key s → KeysBelow (key + 1) s
 below_skip [] key h = tt
@@ -23,14 +24,11 @@ below_skip (entry ∷ s) key h = (omega (arith, h.0), below_skip s key h.1)
 pub below_pushed : {V : Type 0} (s new : List (ℕ × V)) (key : ℕ) (x : V) → new ≡ s ++ (key, x) ∷ [] → KeysBelow key s → KeysBelow (key + 1) new
 below_pushed s new key x is h = subst (KeysBelow (key + 1)) (sym is) (below_more s key x h)
 
-front : {X : Type 0} (xs : List X) (k : ℕ) (x : X) → k < length xs → x ≡ get_or xs k x → drop k xs ≡ x ∷ drop (k + 1) xs
-front xs k x within is = rw (add-one, drop-cons xs k x) (ap (λ y. y ∷ drop (suc k) xs) (sym is))
-
 -- ---- keys
 
 module _ {A V : Type 0} (make : A → V) (find : List ℕ → Option A) (cs : List (List ℕ)) (k : ℕ) (x : List ℕ) (made whole : List (ℕ × V)) where
   said_turn : k < length cs → x ≡ get_or cs k x → made ++ said_from make find k (drop k cs) ≡ whole → made ++ put make k (find x) (said_from make find (k + 1) (drop (k + 1) cs)) ≡ whole
-  said_turn within is before = sym (ap (λ l. made ++ said_from make find k l) (front cs k x within is)) ∙ before
+  said_turn within is before = sym (ap (λ l. made ++ said_from make find k l) (from_place cs k x within is)) ∙ before
 
   pub said_none : k < length cs → x ≡ get_or cs k x → find x ≡ None → made ++ said_from make find k (drop k cs) ≡ whole → made ++ said_from make find (k + 1) (drop (k + 1) cs) ≡ whole
   said_none within is none before = sym (ap (λ o. made ++ put make k o (said_from make find (k + 1) (drop (k + 1) cs))) none) ∙ said_turn within is before
@@ -50,7 +48,7 @@ said_all make find cs k made whole ended before = sym (append_nothing made) ∙ 
 -- ---- fields
 
 next_fields : (fs : List (List ℕ × Ty)) (k : ℕ) (f : List ℕ × Ty) → k < length fs → f ≡ get_or fs k f → fields_in (drop k fs) ≡ field_then f.0 (shape f.1) (fields_in (drop (k + 1) fs))
-next_fields fs k f within is = ap fields_in (front fs k f within is)
+next_fields fs k f within is = ap fields_in (from_place fs k f within is)
 
 pub type_at : (fs : List (List ℕ × Ty)) (k : ℕ) (f : List ℕ × Ty) → k < length fs → f ≡ get_or fs k f → AreTypes (fields_in fs) → IsType (shape f.1)
 type_at [] k f within is h = absurd (omega (arith, within))

@@ -24,7 +24,7 @@ use Rattle.xdg_names.proofs.In.{in_flat_map, flat_map_in, in_unless, unless_in}
 use Rattle.xdg_terms.specs.Forms.{Term}
 use Rattle.xdg_terms.specs.Offences.{fault_at}
 use Rattle.xdg_terms.specs.Stray.{term_step, elem_step, tokens, elem_tokens, IsStrayParam, stray, all_stray}
-use Rattle.xdg_terms.proofs.Has.{same_text, text_same}
+use Rattle.xdg_listing.proofs.Texts.{same_text, is_same}
 
 -- ---- among the parameters
 
@@ -34,7 +34,7 @@ any_among (x ∷ xs) t h = elim (or_cases (bytes_eq x t) (is_among xs t) h) [ in
 
 pub among_any : (free : List (List ℕ)) (t : List ℕ) → Among free t → is_among free t ≡ true
 among_any [] t h = absurd h
-among_any (x ∷ xs) t h = elim h [ inl a ↦ or_left (bytes_eq x t) (is_among xs t) (text_same x t a) | inr b ↦ or_right (bytes_eq x t) (is_among xs t) (among_any xs t b) ]
+among_any (x ∷ xs) t h = elim h [ inl a ↦ or_left (bytes_eq x t) (is_among xs t) (is_same x t a) | inr b ↦ or_right (bytes_eq x t) (is_among xs t) (among_any xs t b) ]
 
 -- ---- the law
 

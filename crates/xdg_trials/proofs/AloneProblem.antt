@@ -1,5 +1,5 @@
 -- The sentence of one word is a problem, each propagator that stands for uses of graph stands for its only use, and two jobs want all analyses.
-use Rattle.std.proofs.Common.{◌≡◌, ◌≢◌, ◌<◌, ℕ, zero, suc, List, [], ◌∷◌, All, AllPairs, length, refl, subst, sym, arith, lit<, lit≤}
+use Rattle.std.proofs.Common.{◌≡◌, ◌≢◌, ◌<◌, ℕ, zero, suc, List, [], ◌∷◌, All, length, refl, subst, sym, arith, lit<, lit≤}
 use Rattle.std.specs.Prelude.{Option, None, slice_index_or}
 use Rattle.xdg_base.specs.declared.ids.AttrId.{AttrId}
 use Rattle.xdg_base.specs.declared.ids.DimId.{DimId}
@@ -12,24 +12,7 @@ use Rattle.xdg_propcore.specs.Uses.{AllStandIn, StandsIn}
 use Rattle.xdg_split.specs.Asked.{Asked, IsJob, asked}
 use Rattle.xdg_split.specs.Splits.{AllWant, wanted_of}
 use Rattle.xdg_trials.specs.Alone.{IsGraph, alone, graph_use, job, pair, plan}
-
-all_none : {X : Type 0} (P : X → Type 0) → All P []
-all_none P k d within = absurd (omega (arith, within))
-
-all_one : {X : Type 0} (P : X → Type 0) (x : X) → P x → All P (x ∷ [])
-all_one P x p zero d within = p
-all_one P x p (suc k) d within = absurd (omega (arith, within))
-
-all_two : {X : Type 0} (P : X → Type 0) (x y : X) → P x → P y → All P (x ∷ y ∷ [])
-all_two P x y p q zero d within = p
-all_two P x y p q (suc zero) d within = q
-all_two P x y p q (suc (suc k)) d within = absurd (omega (arith, within))
-
-pairs_none : {X : Type 0} (R : X → X → Type 0) → AllPairs R []
-pairs_none R i j d before within = absurd (omega (arith, before, within))
-
-pairs_one : {X : Type 0} (R : X → X → Type 0) (x : X) → AllPairs R (x ∷ [])
-pairs_one R x i j d before within = absurd (omega (arith, before, within))
+use Rattle.xdg_listing.proofs.Lists.{all_one, all_two, all_none, pairs_one, pairs_none}
 
 one_candidate : AreCandidates (record { 0 = 3 } ∷ [])
 one_candidate = record { some = lit< tt; most = lit≤ tt; rising = pairs_one (λ (a b : EntryNo). a.0 < b.0) (record { 0 = 3 }); small = all_one (λ (e : EntryNo). e.0 < 4294967295) (record { 0 = 3 }) (lit< tt) }

@@ -1,7 +1,6 @@
 -- Where the types have ranks and no name is defined twice, the names have one meaning.
 use Rattle.std.proofs.Common.{◌≡◌, ◌⊎◌, inl, inr, ℕ, zero, suc, ◌<◌, List, [], ◌∷◌, map, refl, sym, ap, ap₂, ◌∙◌, subst, arith, Bool, true, false, Option, None, Some}
 use Rattle.std.specs.Prelude.{bytes_eq, if◌then◌else◌}
-use Rattle.std.proofs.lemmas.Slice.Eq.{bytes_eq-Decides}
 use Rattle.std.proofs.lemmas.Bool.{false_from_ne_true, true≢false}
 use Rattle.xdg_ast.specs.declared.names.Name.{Name}
 use Rattle.xdg_domain.specs.Shapes.{Shape, truth, fields, tuple, set, iset, valency, mapping, shape_then, field_then, Among, Differ}
@@ -11,6 +10,7 @@ use Rattle.xdg_types.specs.Written.{Tree, nothing, listed, recorded, tupled, set
 use Rattle.xdg_types.specs.Parts.{Statement, Definition, definitions, texts}
 use Rattle.xdg_types.specs.Meaning.{meaning, domains_meaning, fields_meaning, as_domain, Resolves}
 use Rattle.xdg_typing.specs.Answers.{IsRanked}
+use Rattle.xdg_listing.proofs.Texts.{same_text, is_same}
 
 -- a type's meaning turns on the names that it uses alone
 module _ (p q : List ℕ → Shape) where
@@ -51,12 +51,6 @@ pub found : List Definition → List ℕ → Option Definition
 found [] name = None
 found (d ∷ ds) name = if bytes_eq d.name.text name then Some d else found ds name
 
-same_text : (a b : List ℕ) → bytes_eq a b ≡ true → a ≡ b
-same_text a b = (bytes_eq-Decides a b).0
-
-same_test : (a b : List ℕ) → a ≡ b → bytes_eq a b ≡ true
-same_test a b = (bytes_eq-Decides a b).1
-
 other_test : (a b : List ℕ) → (a ≡ b → ⊥) → bytes_eq a b ≡ false
 other_test a b ne = false_from_ne_true (bytes_eq a b) (λ h. ne (same_text a b h))
 
@@ -76,7 +70,7 @@ some_by d o false h e = elim h [ inl t ↦ true≢false (sym t) | inr k ↦ k e 
 pub among_found : (ds : List Definition) (name : List ℕ) → Among (names_in ds) name → found ds name ≡ None → ⊥
 unfolding found
 among_found [] name a h = a
-among_found (d ∷ ds) name a h = some_by d (found ds name) (bytes_eq d.name.text name) (elim a [ inl e ↦ inl (same_test d.name.text name e) | inr k ↦ inr (among_found ds name k) ]) h
+among_found (d ∷ ds) name a h = some_by d (found ds name) (bytes_eq d.name.text name) (elim a [ inl e ↦ inl (is_same d.name.text name e) | inr k ↦ inr (among_found ds name k) ]) h
 
 found_by : (d : Definition) (ds : List Definition) (name : List ℕ) (b : Bool) (e : Definition) → bytes_eq d.name.text name ≡ b → (found ds name ≡ Some e → In ds e × (e.name.text ≡ name))
     → (if b then Some d else found ds name) ≡ Some e → In (d ∷ ds) e × (e.name.text ≡ name)
@@ -92,7 +86,7 @@ pub found_is : (ds : List Definition) → Differ (names_in ds) → (d : Definiti
 unfolding found
 found_is [] apart d h = absurd h
 found_is (x ∷ ds) apart d h = elim h [
-  | inl e ↦ subst (λ y. (if bytes_eq x.name.text y.name.text then Some x else found ds y.name.text) ≡ Some y) e (rw (same_test x.name.text x.name.text refl) refl)
+  | inl e ↦ subst (λ y. (if bytes_eq x.name.text y.name.text then Some x else found ds y.name.text) ≡ Some y) e (rw (is_same x.name.text x.name.text refl) refl)
   | inr k ↦ rw (other_test x.name.text d.name.text (λ e. apart.0 (subst (Among (names_in ds)) (sym e) (among_in ds d k)))) (found_is ds apart.1 d k)
 ]
 

@@ -1,7 +1,7 @@
 -- What is wrong with a record of attributes is found as the rule says.
-use Rattle.std.proofs.Common.{◌≡◌, inl, inr, ℕ, zero, suc, ltb, Bool, true, false, List, [], ◌∷◌, ◌++◌, length, Option, None, Some, refl, sym, ap, subst, ◌∙◌}
+use Rattle.std.proofs.Common.{◌≡◌, inl, inr, ℕ, zero, suc, ltb, true, List, [], ◌∷◌, ◌++◌, length, Option, None, Some, refl, sym, ap, subst, ◌∙◌}
 use Rattle.std.specs.Prelude.{slice_get, not}
-use Rattle.std.proofs.lemmas.Bool.{or_cases, or_left, or_right, lt-ltb, ltb-true, true≢false, false≢true}
+use Rattle.std.proofs.lemmas.Bool.{or_cases, or_left, or_right, lt-ltb, ltb-true, true≢false}
 use Rattle.xdg_base.specs.declared.faults.Cause.TheVariants as causes
 use Rattle.xdg_base.specs.declared.faults.Fault.{Fault}
 use Rattle.xdg_ast.specs.declared.names.Name.{Name}
@@ -13,6 +13,7 @@ use Rattle.xdg_types.specs.Meaning.{as_domain}
 use Rattle.xdg_types.specs.Names.{fault_at}
 use Rattle.xdg_types.specs.Kinds.{Wanted, the_attributes, Site, is_attribute, reaching, field_count, HasOther, NamedOffends, AttributesOffend, HasWrongAttributes}
 use Rattle.xdg_typing.specs.KindFaults.{ninth_name_faults, has_other, wide_record_faults, other_faults, named_faults, record_faults, attributes_faults}
+use Rattle.xdg_listing.proofs.Truths.{from_not}
 
 -- what stands at a place stands between others
 pub between : {A : Type 0} (xs : List A) (k : ℕ) (x : A) → slice_get xs k ≡ Some x → (before : List A) × ((after : List A) × ((xs ≡ before ++ x ∷ after) × (length before ≡ k)))
@@ -24,14 +25,10 @@ pub at_place : {A : Type 0} (before : List A) (x : A) (after : List A) → slice
 at_place [] x after = refl
 at_place (y ∷ before) x after = at_place before x after
 
-is_false : (b : Bool) → not b ≡ true → b ≡ false
-is_false true h = absurd (false≢true h)
-is_false false h = refl
-
 module _ (names : List ℕ → Shape) where
   other_sound : (fs : Fields) → has_other fs ≡ true → HasOther fs
   other_sound no_field h = absurd (true≢false (sym h))
-  other_sound (field_then name u fs) h = elim (or_cases (not (is_attribute (as_domain u))) (has_other fs) h) [ inl e ↦ inl (is_false (is_attribute (as_domain u)) e) | inr k ↦ inr (other_sound fs k) ]
+  other_sound (field_then name u fs) h = elim (or_cases (not (is_attribute (as_domain u))) (has_other fs) h) [ inl e ↦ inl (from_not (is_attribute (as_domain u)) e) | inr k ↦ inr (other_sound fs k) ]
 
   other_complete : (fs : Fields) → HasOther fs → has_other fs ≡ true
   other_complete no_field h = absurd h

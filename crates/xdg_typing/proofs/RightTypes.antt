@@ -1,6 +1,6 @@
 -- What a written type means is a type as grammars may have it where nothing is wrong with it.
-use Rattle.std.proofs.Common.{◌≡◌, inl, inr, ℕ, ◌*◌, ◌<◌, ◌≤◌, Bool, true, false, ◌||◌, List, [], ◌∷◌, length, ap, sym, ◌∙◌, refl, subst, arith}
-use Rattle.std.specs.Prelude.{not, ◌&&◌}
+use Rattle.std.proofs.Common.{◌≡◌, inl, inr, ℕ, ◌*◌, ◌<◌, ◌≤◌, true, false, List, [], ◌∷◌, length, ap, sym, ◌∙◌, refl, subst, arith}
+use Rattle.std.specs.Prelude.{◌&&◌}
 use Rattle.std.proofs.Math.Nat.{mul-lt-mul_of_pos_left}
 use Rattle.std.proofs.lemmas.Bool.{cases_Bool, true≢false, false≢true}
 use Rattle.std.proofs.lemmas.List.{length-map}
@@ -17,6 +17,7 @@ use Rattle.xdg_types.specs.Names.{fault_at}
 use Rattle.xdg_types.specs.Kinds.{Wanted, anything, a_domain, a_small, a_mapped, an_attribute, Site, inside, inside_trees, inside_members, inside_attributes, is_domain, is_small, is_mapped, is_empty_domain, are_domains, has_empty_domain, has_no_tuple, is_attribute, is_of_kind, SiteOffends, Split, SharesAt}
 use Rattle.xdg_typing.specs.Branches.{Naming}
 use Rattle.xdg_types.proofs.Elements.{not_more, among_in, among_left, among_right, among_append, among_name, differ_append}
+use Rattle.xdg_listing.proofs.Truths.{from_not, none_or}
 
 -- ---- shapes of the wanted kind
 
@@ -91,14 +92,6 @@ none_in_fields : (fs : Fields) (t : List ℕ) → Among (constants (as_domain (f
 none_in_fields no_field t h = h
 none_in_fields (field_then name u fs) t h = h
 
-not_neither : (a b : Bool) → (a || b) ≡ false → (a ≡ false) × (b ≡ false)
-not_neither true b h = absurd (true≢false h)
-not_neither false b h = (refl, h)
-
-not_true : (b : Bool) → not b ≡ true → b ≡ false
-not_true true h = absurd (false≢true h)
-not_true false h = refl
-
 -- ---- attributes
 
 some_constant : (s : Shape) → IsDomain s → is_empty_domain s ≡ false → 0 < length (constants s)
@@ -121,7 +114,7 @@ both_positive m n h k = omega (arith, mul-lt-mul_of_pos_left {m = 0} {n = n} {k 
 some_tuple : (ss : Shapes) → AreDomains ss → has_empty_domain ss ≡ false → 0 < product (sizes ss)
 unfolding product
 some_tuple no_shape h k = omega arith
-some_tuple (shape_then s ss) h k = let e = not_neither (is_empty_domain s) (has_empty_domain ss) k in both_positive (length (constants s)) (product (sizes ss)) (some_constant s h.0 e.0) (some_tuple ss h.1 e.1)
+some_tuple (shape_then s ss) h k = let e = none_or (is_empty_domain s) (has_empty_domain ss) k in both_positive (length (constants s)) (product (sizes ss)) (some_constant s h.0 e.0) (some_tuple ss h.1 e.1)
 
 one_domain : (s : Shape) → IsDomain s → is_domain s ≡ true
 one_domain (domain cs) h = refl
@@ -141,9 +134,9 @@ all_domains no_shape h = refl
 all_domains (shape_then s ss) h = ap (λ b. b && are_domains ss) (one_domain s h.0) ∙ all_domains ss h.1
 
 pub attribute_of : (s : Shape) → IsType s → is_attribute s ≡ true → IsSmall s × (0 < count s)
-attribute_of (domain cs) h k = (h, some_constant (domain cs) h (not_true (is_empty_domain (domain cs)) k))
+attribute_of (domain cs) h k = (h, some_constant (domain cs) h (from_not (is_empty_domain (domain cs)) k))
 attribute_of (tuple ss) h k =
-    let none : has_no_tuple ss ≡ false = not_true (has_no_tuple ss) k in
+    let none : has_no_tuple ss ≡ false = from_not (has_no_tuple ss) k in
     (h, some_tuple ss h.domains (ap (λ b. b && has_empty_domain ss) (sym (all_domains ss h.domains)) ∙ none))
 attribute_of (fields fs) h k = absurd (false≢true k)
 attribute_of truth h k = absurd (false≢true k)

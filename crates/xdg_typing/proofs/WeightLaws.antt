@@ -9,20 +9,18 @@ use Rattle.xdg_types.specs.Written.{Tree, nothing, listed, recorded, tupled, set
 use Rattle.xdg_types.specs.Parts.{texts}
 use Rattle.xdg_types.specs.Meaning.{meaning, domains_meaning, fields_meaning, as_domain}
 use Rattle.xdg_typing.specs.Weights.{parts, parts_of, parts_in, capped, weight_of, beside, held, weighed, beside_trees, beside_members, named_weight, Weighs}
+use Rattle.xdg_listing.proofs.Numbers.{below_one}
 
 -- ---- counts that stop
 
 sum_stops : (a b most : ℕ) → min (min a most + min b most) most ≡ min (a + b) most
 sum_stops a b most = omega arith
 
-more_stops : (a most : ℕ) → min (min a most + 1) most ≡ min (1 + a) most
-more_stops a most = omega arith
-
 pub beside_capped : (p q : ℕ) → beside (capped p) (capped q) ≡ capped (p + q)
 beside_capped p q = sum_stops p q (2 ^ 64 - 1)
 
 held_capped : (p : ℕ) → held (capped p) ≡ capped (1 + p)
-held_capped p = more_stops p (2 ^ 64 - 1)
+held_capped p = below_one p (2 ^ 64 - 1)
 
 -- ---- where a domain is wanted
 
@@ -101,5 +99,6 @@ module _ (names : List ℕ → Shape) (at : Name → ℕ) where
         ∙ goes_on p (parts s) (parts_in (fields_meaning names ms))
 
 -- where all names have their weights
+
 pub weigh_known : (names : List ℕ → Shape) (known : List (List ℕ)) (weights : List ℕ) (t : Tree) → Weighs names known weights → weighed (named_weight known weights) t ≡ weight_of (meaning names t)
 weigh_known names known weights t h = weigh_right names (named_weight known weights) t (λ n used. h n.text)

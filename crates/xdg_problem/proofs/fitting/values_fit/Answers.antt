@@ -1,7 +1,8 @@
 use Rattle.std.proofs.Common.{◌*◌, ap}
 use Rattle.std.proofs.lemmas.Bool.{false≢true}
-use Rattle.xdg_problem.proofs.FitSteps.{values_step, values_refused, refuses, accepts, iff_through}
+use Rattle.xdg_problem.proofs.FitSteps.{values_step, values_refused, refuses, accepts}
 use Rattle.xdg_problem.proofs.fitting.values_fit.Goals as goal
+use Rattle.xdg_listing.proofs.Facts.{both_steps}
 
 pub returns-then-not-dim_fits : goal.returns-then-not-dim_fits
 returns-then-not-dim_fits c = (
@@ -12,7 +13,7 @@ returns-then-not-dim_fits c = (
 )
 
 pub loop-plan-preserved : goal.loop-plan-preserved
-loop-plan-preserved c = iff_through
+loop-plan-preserved c = both_steps
     (values_step c.args.dims.now c.args.nodes (c.args.nodes * c.len.result) c.loop-plan.plan-index c.plan-item.result c.loop-plan.rest.now c.split_at.result.0.now c.split_at.result.1.now c.loop-plan-test.true c.plan-item.is (ap (λ i. c.args.nodes * i) c.len.ensures) c.if-rest-width.false c.split_at.ensures.front c.split_at.ensures.back
     (accepts c.dim_fits.result c.if-not-dim_fits.false c.dim_fits.ensures))
     c.loop-plan.invariant

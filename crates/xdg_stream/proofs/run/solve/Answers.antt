@@ -1,14 +1,9 @@
-use Rattle.std.proofs.Common.{Ok, Err, IfOk}
-use Rattle.std.specs.Prelude.{Result}
 use Rattle.xdg_listing.specs.Answered.{Answered}
 use Rattle.xdg_stream.specs.Vectors.{vectors}
 use Rattle.xdg_stream.specs.declared.run.Outcome.{Outcome}
 use Rattle.xdg_stream.proofs.Ended.{outcome_of}
 use Rattle.xdg_stream.proofs.run.solve.Goals as goal
-
-if_ok : {A E : Type 0} (P Q : A → Type 0) (r : Result A E) → ((x : A) → P x → Q x) → IfOk r P → IfOk r Q
-if_ok P Q (Ok x) f h = f x h
-if_ok P Q (Err e) f h = h
+use Rattle.xdg_listing.proofs.Options.{if_ok}
 
 pub returns : goal.returns
 returns g c =

@@ -5,10 +5,10 @@ use Rattle.xdg_lexicon.specs.declared.frames.Frame.TheVariants as frame
 use Rattle.xdg_lexicon.specs.Frames.{open_in, IsOpen}
 use Rattle.xdg_lexicon.specs.Partial.{ArePartial}
 use Rattle.xdg_lexicon.specs.Weights.{heavy, sized}
-use Rattle.xdg_lexicon.proofs.Denoted.{if_ok}
 use Rattle.xdg_lexicon.proofs.Framed.{pushed, joins_told, all_joined, next_joined}
 use Rattle.xdg_lexicon.proofs.Weighed.{joining_goes}
 use Rattle.xdg_lexicon.proofs.frames.Walk.join.Goals as goal
+use Rattle.xdg_listing.proofs.Options.{if_ok}
 
 pub join_all-requires-clause-first : goal.join_all-requires-clause-first
 join_all-requires-clause-first c =

@@ -2,9 +2,9 @@ use Rattle.std.proofs.Common.{arith, ap, subst}
 use Rattle.xdg_classes.specs.Bodies.{body}
 use Rattle.xdg_lexicon.specs.Frames.{Leaves}
 use Rattle.xdg_lexicon.specs.Weights.{heavy}
-use Rattle.xdg_lexicon.proofs.Denoted.{if_ok}
 use Rattle.xdg_lexicon.proofs.Framed.{popped}
 use Rattle.xdg_lexicon.proofs.frames.Walk.leave.Goals as goal
+use Rattle.xdg_listing.proofs.Options.{if_ok}
 
 pub list-requires : goal.list-requires
 list-requires c =

@@ -4,10 +4,10 @@ use Rattle.xdg_classes.specs.Bodies.{Expr, body}
 use Rattle.xdg_lexicon.specs.declared.frames.Frame.TheVariants as frame
 use Rattle.xdg_lexicon.specs.Frames.{open_in, IsOpen}
 use Rattle.xdg_lexicon.specs.Weights.{heavy, sized}
-use Rattle.xdg_lexicon.proofs.Denoted.{if_ok}
 use Rattle.xdg_lexicon.proofs.Framed.{pushed, all_listed, next_listed}
 use Rattle.xdg_lexicon.proofs.Weighed.{listing_goes}
 use Rattle.xdg_lexicon.proofs.frames.Walk.list.Goals as goal
+use Rattle.xdg_listing.proofs.Options.{if_ok}
 
 pub overflow_add-next : goal.overflow_add-next
 overflow_add-next c =

@@ -1,9 +1,9 @@
 use Rattle.std.proofs.Common.{◌≡◌, ◌∷◌, [], ◌++◌, ◌<◌, ◌≤◌, length, subst, arith}
 use Rattle.xdg_names.specs.Leads.{number}
 use Rattle.xdg_names.specs.Walks.{IsWalking, Closes}
-use Rattle.xdg_names.proofs.Climbs.{nothing}
 use Rattle.xdg_names.proofs.Leaving.{last_on, next_fits, has_start, passed, closed, closed_stays}
 use Rattle.xdg_names.proofs.walk.Walk.leave.Goals as goal
+use Rattle.xdg_listing.proofs.Lists.{empty_list}
 
 pub close-requires-clause-most : goal.close-requires-clause-most
 close-requires-clause-most c =
@@ -20,7 +20,7 @@ close-requires-clause-on c =
     omega arith
 
 pub returns-in-None-clause-goes : goal.returns-in-None-clause-goes
-returns-in-None-clause-goes c = absurd (has_start _ _ _ _ _ _ _ _ _ c.requires.walks (nothing c.args.self.now.starts.items (omega (arith, c.in-None.ensures.cases))))
+returns-in-None-clause-goes c = absurd (has_start _ _ _ _ _ _ _ _ _ c.requires.walks (empty_list c.args.self.now.starts.items (omega (arith, c.in-None.ensures.cases))))
 
 pub returns-in_ok-push-in-Some-clause-goes : goal.returns-in_ok-push-in-Some-clause-goes
 returns-in_ok-push-in-Some-clause-goes c =

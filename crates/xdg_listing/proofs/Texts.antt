@@ -1,0 +1,17 @@
+-- Texts as lists of bytes.
+use Rattle.std.proofs.Common.{◌≡◌, ℕ, List, sym, ◌∙◌, true, refl}
+use Rattle.std.specs.Str.{IsValidUpTo, bytes_eq}
+use Rattle.std.proofs.lemmas.Str.{utf8_valid_len-IsValidUpTo}
+use Rattle.std.proofs.lemmas.Slice.Eq.{bytes_eq-Decides}
+
+pub one_place : (text : List ℕ) (m n : ℕ) → IsValidUpTo text m → IsValidUpTo text n → m ≡ n
+one_place text m n v w = sym (utf8_valid_len-IsValidUpTo text m v) ∙ utf8_valid_len-IsValidUpTo text n w
+
+pub equal : (a : List ℕ) → bytes_eq a a ≡ true
+equal a = (bytes_eq-Decides a a).1 refl
+
+pub same_text : (a b : List ℕ) → bytes_eq a b ≡ true → a ≡ b
+same_text a b = (bytes_eq-Decides a b).0
+
+pub is_same : (a b : List ℕ) → a ≡ b → bytes_eq a b ≡ true
+is_same a b = (bytes_eq-Decides a b).1
