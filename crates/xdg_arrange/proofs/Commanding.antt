@@ -1,8 +1,8 @@
 -- What `arrange` leaves, from what its steps left.
-use Rattle.std.proofs.Common.{◌≡◌, ◌⊎◌, inl, inr, ℕ, List, Ok, Err, sym, ◌∙◌, subst}
+use Rattle.std.proofs.Common.{◌≡◌, ℕ, List, Ok, Err}
 use Rattle.std.specs.Prelude.{Option}
 use Rattle.xdg_arrange.specs.Lists.{HasList, IsBadList, Listed}
-use Rattle.xdg_arrange.specs.Outcomes.{ArrangeEnds, ListThen}
+use Rattle.xdg_arrange.specs.Outcomes.{ListThen}
 use Rattle.xdg_arrange.specs.Texts.{AreArranged}
 use Rattle.xdg_arrange.proofs.Fronting.{IsSaid, behind_said}
 use Rattle.xdg_arrange.proofs.Passing.{arranged_said}
@@ -23,29 +23,6 @@ use Rattle.xdg_inputs.proofs.Leaving.{accepted_front, leaves_front}
 use Rattle.xdg_inputs.proofs.Meaning.{Only, meaning_accepted, meaning_refused}
 
 -- ---- the statuses of arrangements
-
-abbrev pub FourEnds : Status → Type 0
-FourEnds result = (result ≡ statuses.Done) ⊎ ((result ≡ statuses.Spent) ⊎ ((result ≡ statuses.WriteFault) ⊎ (result ≡ statuses.OutOfMemory)))
-
-abbrev pub IsPrinted : Status → Type 0
-IsPrinted statuses.Done = Unit {0}
-IsPrinted statuses.Spent = Unit {0}
-IsPrinted statuses.WriteFault = Unit {0}
-IsPrinted statuses.OutOfMemory = Unit {0}
-IsPrinted status = ⊥
-
-printed_by : (P : Status → Type 0) (result : Status) → P statuses.Done → P statuses.Spent → P statuses.WriteFault → P statuses.OutOfMemory → FourEnds result → P result
-printed_by P result d s w m (inl e) = subst P (sym e) d
-printed_by P result d s w m (inr (inl e)) = subst P (sym e) s
-printed_by P result d s w m (inr (inr (inl e))) = subst P (sym e) w
-printed_by P result d s w m (inr (inr (inr e))) = subst P (sym e) m
-
-pub printed_ends : (result : Status) → FourEnds result → ArrangeEnds result
-printed_ends result ends = printed_by ArrangeEnds result tt tt tt tt ends
-
--- and no other
-pub printed_never : (P : Type 0) (result status : Status) → FourEnds result → (IsPrinted status → ⊥) → result ≡ status → P
-printed_never P result status ends other is = absurd (other (subst IsPrinted is (printed_by IsPrinted result tt tt tt tt ends)))
 
 -- ---- no text is empty
 

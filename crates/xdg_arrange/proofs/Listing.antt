@@ -1,13 +1,12 @@
 -- The words that an input gives: accepted or rejected.
-use Rattle.std.proofs.Common.{◌≡◌, inl, inr, ℕ, zero, suc, ◌<◌, ◌≤◌, ◌+◌, Bool, List, [], ◌∷◌, ◌++◌, length, length-append, Some, None, Ok, Err, refl, sym, ◌∙◌, ap, ap₂, subst, arith}
-use Rattle.std.specs.Prelude.{◌≢◌, Option, Result, IsUtf8, IfErr, IfOk, MatchResult, slice_get}
+use Rattle.std.proofs.Common.{◌≡◌, inl, inr, ℕ, ◌<◌, ◌≤◌, ◌+◌, Bool, List, [], ◌++◌, length, length-append, Some, None, Ok, Err, refl, sym, ◌∙◌, ap, ap₂, subst, arith}
+use Rattle.std.specs.Prelude.{◌≢◌, Option, Result, IsUtf8, IfErr, IfOk, MatchResult}
 use Rattle.std.specs.Str.{IsValidUpTo}
-use Rattle.xdg_arrange.specs.Lists.{HasList, IsBadList, IsNoList, IsRefused, Listed, ninth_or, no_text, no_words, refusal, too_long}
+use Rattle.xdg_arrange.specs.Lists.{HasList, IsBadList, IsNoList, IsRefused, Listed, no_text, no_words, refusal, too_long}
 use Rattle.xdg_base.specs.declared.faults.Cause.TheVariants as causes
 use Rattle.xdg_base.specs.declared.faults.Fault.{Fault}
 use Rattle.xdg_base.specs.declared.faults.Stop.{Stop}
 use Rattle.xdg_base.specs.declared.faults.Stop.TheVariants as stops
-use Rattle.xdg_build.specs.Refusals.{first_unknown}
 use Rattle.xdg_packed.specs.Entries.{IsWordPlace}
 use Rattle.xdg_inputs.specs.Answers.{meaning_of}
 use Rattle.xdg_inputs.specs.Packed.{IsPackedOf}
@@ -33,19 +32,6 @@ use Rattle.xdg_linear.specs.Segments.{words_in}
 use Rattle.xdg_listing.proofs.Texts.{one_place}
 
 -- ---- few words
-
-none_there : (words : List SentenceWord) (n : ℕ) → slice_get words n ≡ None → length words ≤ n
-none_there [] n e = omega arith
-none_there (word ∷ words) zero e = absurd (let bad : Some word ≡ None = e in cc)
-none_there (word ∷ words) (suc n) e = let more = none_there words n e in omega (arith, more)
-
-pub few_words : (lexicon : Lexicon) (words : List SentenceWord) → refusal lexicon words ≡ None → length words ≤ 8
-few_words lexicon [] e = omega arith
-few_words lexicon (word ∷ words) e = go (slice_get (word ∷ words) 8) refl e
-  where
-    go : (ninth : Option SentenceWord) → slice_get (word ∷ words) 8 ≡ ninth → ninth_or ninth (first_unknown lexicon (word ∷ words)) ≡ None → length (word ∷ words) ≤ 8
-    go None is e = none_there (word ∷ words) 8 is
-    go (Some w) is e = absurd (let bad : Some (fault causes.ArrangeLimit w.at 9) ≡ None = e in cc)
 
 -- ---- one answer
 

@@ -1,8 +1,8 @@
 -- What has been said so far, and one statement more.
-use Rattle.std.proofs.Common.{◌≡◌, ◌≢◌, ◌∙◌, ℕ, zero, suc, ◌+◌, ◌-◌, ◌<◌, ◌≤◌, ◌==◌, ◌&&◌, ◌||◌, ◌⊎◌, inl, inr, Bool, true, false, List, [], ◌∷◌, ◌++◌, length, get_or, set, arith, refl, sym, ap, ap₂, subst, append_assoc, append-nil, get_or-set_same, get_or-set_other, Some, None, Ok, Err, nat_lt, AllPairs, replicate}
+use Rattle.std.proofs.Common.{◌≡◌, ◌≢◌, ◌∙◌, ℕ, zero, suc, ◌+◌, ◌-◌, ◌<◌, ◌≤◌, ◌==◌, ◌&&◌, ◌||◌, ◌⊎◌, inl, inr, Bool, true, false, List, [], ◌∷◌, ◌++◌, length, get_or, set, arith, refl, sym, ap, ap₂, subst, append_assoc, append-nil, get_or-set_same, get_or-set_other, Some, None, Ok, Err, nat_lt, AllPairs}
 use Rattle.std.specs.Prelude.{Option, Result, if◌then◌else◌}
 use Rattle.std.specs.List.{list_any}
-use Rattle.std.proofs.lemmas.List.{length-replicate, get_or-replicate, length-set}
+use Rattle.std.proofs.lemmas.List.{length-set}
 use Rattle.std.proofs.lemmas.List.Folds.{list_any-append}
 use Rattle.std.proofs.lemmas.List.Quantifiers.{all_pairs_push}
 use Rattle.std.proofs.lemmas.Bool.{eqb-true, eqb-false, eq-eqb, ltb-false, cases_eq, false_from_ne_true, ne_eqb, le-ltb, true≢false, false≢true}
@@ -14,7 +14,6 @@ use Rattle.xdg_base.specs.declared.faults.Cause.TheVariants as causes
 use Rattle.xdg_lex.specs.Pieces.{refusal}
 use Rattle.xdg_ast.specs.declared.names.Name.{Name}
 use Rattle.xdg_ast.specs.declared.names.Num.{Num}
-use Rattle.xdg_problem.specs.Costs.{AreCosts}
 use Rattle.xdg_types.specs.Table.{Table}
 use Rattle.xdg_best.specs.declared.building.Building.{Building}
 use Rattle.xdg_best.specs.declared.statements.Statement.{Statement}
@@ -63,19 +62,6 @@ same_places table place (statements.Edge dim label cost ∷ earlier) = placed_or
 
 -- ---- the start
 
-no_costs : AreCosts [] []
-no_costs = record { entries_differ = λ i j d below within. absurd (omega (arith, within)); labels_differ = λ i j d below within. absurd (omega (arith, within)) }
-
-pub built_none : (table : Table) (entries : ℕ) (made : Building) → made.entries ≡ [] → made.labels ≡ [] → made.seen.items ≡ replicate entries false → Built table entries [] made
-built_none table entries made no_entries no_labels flags = record {
-  entries_are = no_entries;
-  labels_are = no_labels;
-  count = ap length flags ∙ length-replicate entries false;
-  seen_said = λ k within. ap (λ z. get_or z k false) flags ∙ get_or-replicate entries k false false within;
-  seen_kept = λ k within. ap (λ z. get_or z k false) flags ∙ get_or-replicate entries k false false within ∙ sym (ap (λ z. has_entry z k) no_entries);
-  kept = subst (λ z. AreCosts z made.labels) (sym no_entries) (subst (λ z. AreCosts [] z) (sym no_labels) no_costs);
-}
-
 -- ---- an entry more
 
 -- a number that has no fault
@@ -87,15 +73,6 @@ pub record IsFresh (entries : ℕ) (number : Num) (again : Bool) : Type 0 where
 abbrev fault_by : Num → Bool → Bool → Bool → Option Fault
 fault_by number none over again =
     if none || over then Some (refusal causes.NoEntry number.span.start) else (if again then Some (refusal causes.Twice number.span.start) else None)
-
-fresh_by : (entries : ℕ) (number : Num) (again a b : Bool) → (number.value == 0) ≡ a → nat_lt entries number.value ≡ b → fault_by number a b again ≡ None → IsFresh entries number again
-fresh_by entries number again true b is_a is_b e = absurd cc
-fresh_by entries number again false true is_a is_b e = absurd cc
-fresh_by entries number true false false is_a is_b e = absurd cc
-fresh_by entries number false false false is_a is_b e = record { some = (let ne = eqb-false number.value 0 is_a in omega (arith, ne)); most = ltb-false entries number.value is_b; new = refl }
-
-pub fresh : (entries : ℕ) (number : Num) (again : Bool) → entry_fault entries number again ≡ None → IsFresh entries number again
-fresh entries number again e = fresh_by entries number again (number.value == 0) (nat_lt entries number.value) refl refl e
 
 same_by : (entries : ℕ) (number : Num) (one other a b : Bool) → (number.value == 0) ≡ a → nat_lt entries number.value ≡ b → (0 < number.value → number.value ≤ entries → one ≡ other)
     → entry_fault entries number one ≡ entry_fault entries number other

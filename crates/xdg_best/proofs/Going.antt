@@ -1,7 +1,6 @@
 -- The rounds that are still to come, and what they answer.
-use Rattle.std.proofs.Common.{◌≡◌, ◌∙◌, ℕ, ◌+◌, ◌-◌, ◌<◌, ◌≤◌, Bool, true, false, List, [], arith, refl, sym, ap, subst, Some, None}
+use Rattle.std.proofs.Common.{◌≡◌, ℕ, ◌-◌, ◌<◌, ◌≤◌, Bool, true, arith, refl, subst, Some, None}
 use Rattle.std.specs.Prelude.{Option}
-use Rattle.xdg_best.specs.declared.rounds.BestAnswer.{BestAnswer}
 use Rattle.xdg_best.specs.declared.searching.Round.{Round}
 use Rattle.xdg_best.specs.Best.{IsAnswer}
 use Rattle.xdg_best.specs.Rounds.{Finds, FindsNone, Rounds, used_up, ends, goes_on, found_cost, round_parts, round_start}
@@ -36,17 +35,10 @@ pub record Going (parts : Parts) (costs : CostLists) (budget : ℕ) (found : Opt
   pub within : left ≤ budget
   pub rest : (end : Option Analysis) (spent : Bool) → Rounds parts costs end spent found left → Rounds parts costs end spent None budget
 
-pub going_none : (parts : Parts) (costs : CostLists) (budget : ℕ) → Going parts costs budget None 0 budget
-going_none parts costs budget = record { fits = tt; cost_is = refl; within = omega arith; rest = λ end spent rounds. rounds }
-
 -- the find of a round fits the problem without the bound
 pub find_fits : (parts : Parts) (costs : CostLists) (laws : BoundLaws parts costs) (last : Option Analysis) (left : ℕ) (a : Analysis) (k : ℕ) → Finds (round_parts parts costs last) (round_start parts last) left a k → IsAnalysis parts a
 find_fits parts costs laws None left a k f = f.fits
 find_fits parts costs laws (Some last) left a k f = ((laws (cost_of costs last)).fits a).0 f.fits
-
--- the place of a find is at least 1, and the budget reaches it
-pub find_place : (parts : Parts) (start : List ℕ) (left : ℕ) (a : Analysis) (k : ℕ) → Finds parts start left a k → (0 < k) × (k ≤ left)
-find_place parts start left a k f = let at = f.place_is in (omega (arith, at), f.within)
 
 pub going_on : (parts : Parts) (costs : CostLists) (budget : ℕ) (laws : BoundLaws parts costs) (found : Option Analysis) (cost left : ℕ) → Going parts costs budget found cost left → (a : Analysis) (k : ℕ)
     → Finds (round_parts parts costs found) (round_start parts found) left a k → (new : ℕ) → new ≡ cost_of costs a → Going parts costs budget (Some a) new (left - k)

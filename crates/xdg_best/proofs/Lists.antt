@@ -53,13 +53,6 @@ none_before test xs x y passes all = only_end (filter test xs) x y (ap (λ z. fi
 pub no_member : (test : List ℕ → Bool) (xs : List (List ℕ)) (x : List ℕ) → filter test xs ≡ [] → Member xs x → test x ≡ true → ⊥
 no_member test xs x none m passes = subst (λ z. Member z x) none (filter_member test x xs passes m)
 
-empty_left : (us vs : List (List ℕ)) → us ++ vs ≡ [] → us ≡ []
-empty_left [] vs e = refl
-empty_left (u ∷ us) vs e = absurd cc
-
-pub none_left_of : (test : List ℕ → Bool) (xs ys : List (List ℕ)) → filter test (xs ++ ys) ≡ [] → filter test xs ≡ []
-none_left_of test xs ys e = empty_left (filter test xs) (filter test ys) (sym (filter-append test xs ys) ∙ e)
-
 -- ---- places
 
 -- a member of a list is the item at a place, comes before it, or stands behind it

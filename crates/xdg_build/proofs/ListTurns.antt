@@ -1,6 +1,6 @@
 -- Turns of loops over lists.
 use Rattle.std.proofs.Common.{◌≡◌, ℕ, suc, ◌<◌, ◌+◌, Bool, true, false, cond, List, [], ◌∷◌, ◌++◌, length, get_or, map, take, drop, ap, sym, ◌∙◌, arith, eq-eqb}
-use Rattle.std.specs.Prelude.{◌==◌, filter, flat_map, Result, Ok, Err, IsErr, IfOk}
+use Rattle.std.specs.Prelude.{◌==◌, filter, flat_map}
 use Rattle.std.specs.List.{list_any}
 use Rattle.std.proofs.lemmas.Bool.{ne_eqb, cond-true, cond-false}
 use Rattle.std.proofs.lemmas.List.{append_assoc, flat_map_more, take_more}
@@ -48,8 +48,3 @@ kept f p xs i x now after whole within is passes grown so_far =
 -- whether a dimension is used, as the code asks
 pub used_told : (used : List ℕ) (lent types : Table) (home : ℕ) (b : Bool) → used ≡ lent.used → lent ≡ types → b ≡ list_any (λ one. one == home) used → b ≡ is_used types home
 used_told used lent types home b same types_same is = is ∙ ap (λ us. list_any (λ one. one == home) us) (same ∙ ap (λ (t : Table). t.used) types_same)
-
--- what failed gives nothing
-pub failed : {A E : Type 0} (r : Result A E) (P : A → Type 0) → IsErr r → IfOk r P
-failed (Ok x) P h = absurd (cc h)
-failed (Err x) P h = tt

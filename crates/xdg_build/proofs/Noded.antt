@@ -4,7 +4,6 @@ use Rattle.std.specs.Prelude.{All}
 use Rattle.std.proofs.lemmas.List.{length-map, get_or-map, get_or_default, map-append, take_all, take_more}
 use Rattle.std.proofs.lemmas.List.Elements.{All-head, All-map, All-tail}
 use Rattle.xdg_base.specs.declared.ids.EntryNo.{EntryNo}
-use Rattle.xdg_problem.specs.declared.parts.Feat.{Feat}
 use Rattle.xdg_problem.specs.declared.parts.Group.{Group}
 use Rattle.xdg_principles.specs.declared.building.PrincipleUse.{PrincipleUse}
 use Rattle.xdg_build.specs.declared.nodes.NodePlan.{NodePlan}
@@ -60,12 +59,6 @@ pub over_turn : (g : Grammar) (nodes : List NodePlan) (groups : List Group) (k :
     → made ≡ map (group_of g (candidates_in nodes)) (take k (used_uses g)) → after ≡ made ++ over k nodes group ∷ [] → after ≡ map (group_of g (candidates_in nodes)) (take (k + 1) (used_uses g))
 over_turn g nodes groups k group made after are each within is so_far grown =
     turn g (used_uses g) nodes k group made after each (subst (λ n. k < n) (ap length are ∙ length-map (used_uses g) (group_of g [])) within) (subst (λ gs. group ≡ get_or gs k group) are is) so_far grown
-
--- each node has features for the place of a group
-pub place_known : (g : Grammar) (nodes : List NodePlan) (groups : List Group) (k : ℕ) → groups ≡ groups_of g [] → All (IsNodePlan g) nodes → k < length groups → All (λ node. k < length node.feats) nodes
-place_known g nodes groups k are each within i d less =
-    let one : (get_or nodes i d).feats ≡ node_feats g (get_or nodes i d).candidates = each i d less in
-    subst (λ n. k < n) (ap length are ∙ length-map (used_uses g) (group_of g []) ∙ sym (ap length one ∙ length-map (used_uses g) (λ u. map (features_at g u) (get_or nodes i d).candidates))) within
 
 -- all groups, over nodes
 pub over_all : (g : Grammar) (nodes : List NodePlan) (groups : List Group) (k : ℕ) (made : List Group) → groups ≡ groups_of g [] → length groups ≤ k → made ≡ map (group_of g (candidates_in nodes)) (take k (used_uses g)) → made ≡ groups_of g (candidates_in nodes)

@@ -1,6 +1,6 @@
 -- What is there where nothing is wrong.
 use Rattle.std.proofs.Common.{◌≡◌, ◌≢◌, ℕ, zero, suc, ◌<◌, Bool, true, false, List, [], ◌∷◌, ◌++◌, length, get_or, map, Option, None, Some, inl, refl, sym, subst, arith}
-use Rattle.std.specs.Prelude.{◌==◌, if◌then◌else◌, slice_get, IsSome}
+use Rattle.std.specs.Prelude.{◌==◌, if◌then◌else◌, slice_get}
 use Rattle.std.specs.List.{flat_map}
 use Rattle.std.proofs.lemmas.Bool.{eqb-false}
 use Rattle.xdg_base.specs.declared.faults.Cause.{Cause}
@@ -48,9 +48,6 @@ is_there cause texts name h = if_none (has texts name.text) _ h
 found_by : {A : Type 0} (name : Name) (o : Option A) (rule : A → List Fault) → under_name name o rule ≡ [] → (found : A) × (o ≡ Some found) × (rule found ≡ [])
 found_by name None rule h = absurd (cc)
 found_by name (Some found) rule h = (found, refl, h)
-
-pub some_there : {A : Type 0} (o : Option A) (x : A) → o ≡ Some x → IsSome o
-some_there o x e = subst IsSome (sym e) refl
 
 -- ---- names of nodes
 

@@ -93,9 +93,6 @@ same_truth b e = cc
 
 -- ---- types
 
-abbrev SetOf : (Which → List (List ℕ)) → Shape → Element → Shape → Type 0
-SetOf labels shared el = IsSetOf (IsElementOf labels shared el)
-
 label_texts : (labels : Which → List (List ℕ)) (shared : Shape) (which : Which) (s : Shape) (all : List (List ℕ)) (l : ℕ) → IsElementOf labels shared (elements.Labels which) s → labels which ≡ all → get_or all l [] ∷ [] ≡ value_texts s l
 label_texts labels shared which s all l is same = ap (λ (cs : List (List ℕ)). get_or cs l [] ∷ []) (sym same) ∙ ap (λ (t : Shape). value_texts t l) (sym is)
 

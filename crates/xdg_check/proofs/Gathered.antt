@@ -1,9 +1,8 @@
 -- Classes and entries that are made one after the other.
-use Rattle.std.proofs.Common.{◌≡◌, inl, inr, ℕ, zero, suc, ◌<◌, ◌≤◌, ◌+◌, Bool, false, List, [], ◌∷◌, ◌++◌, length, get_or, take, map, refl, sym, ap, ap₂, ◌∙◌, subst, arith}
+use Rattle.std.proofs.Common.{◌≡◌, inl, inr, ℕ, zero, suc, ◌<◌, ◌+◌, Bool, false, List, [], ◌∷◌, ◌++◌, length, get_or, take, map, refl, sym, ap, ap₂, ◌∙◌, subst, arith}
 use Rattle.std.specs.Prelude.{if◌then◌else◌, not}
 use Rattle.std.proofs.lemmas.Bool.{false_from_ne_true, true≢false}
-use Rattle.std.proofs.lemmas.Grind.{flat_map-append}
-use Rattle.std.proofs.lemmas.List.{take_more, take_all, map-append, append-nil}
+use Rattle.std.proofs.lemmas.List.{take_more, map-append}
 use Rattle.xdg_ast.specs.declared.grammar.StatementKind.TheVariants as k
 use Rattle.xdg_domain.specs.Shapes.{Among, Differ}
 use Rattle.xdg_names.specs.Texts.{has_text}
@@ -11,7 +10,7 @@ use Rattle.xdg_types.specs.Parts.{Statement}
 use Rattle.xdg_types.proofs.Distinct.{has_among, among_has}
 use Rattle.xdg_classes.specs.Bodies.{Expr, body}
 use Rattle.xdg_classes.specs.Definitions as d
-use Rattle.xdg_classes.specs.Definitions.{ClassDef, entry, entry_at, entries}
+use Rattle.xdg_classes.specs.Definitions.{ClassDef, entry, entry_at}
 use Rattle.xdg_classes.specs.declared.definitions.ClassDef.{ClassDef as LentClass}
 use Rattle.xdg_classes.specs.Lent.{class_def}
 use Rattle.xdg_check.specs.declared.checked.Class.{Class}
@@ -35,9 +34,6 @@ class_turn cs ds i x old new m within is so_far one grown =
     let front : take (i + 1) ds ≡ take i ds ++ x ∷ [] = take_more ds i x within ∙ ap (λ y. take i ds ++ y ∷ []) (sym is) in
     subst (AreClassesOf cs (map class_def (take (i + 1) ds))) (sym grown)
     (subst (λ xs. AreClassesOf cs xs (old ++ m ∷ [])) (sym (ap (map class_def) front ∙ map-append class_def (take i ds) (x ∷ []))) (classes_grow cs (map class_def (take i ds)) old (class_def x) m so_far one))
-
-pub classes_all : (cs : List ClassDef) (ds all : List LentClass) (i : ℕ) (made : List Class) → length ds ≤ i → ds ≡ all → AreClassesOf cs (map class_def (take i ds)) made → AreClassesOf cs (map class_def all) made
-classes_all cs ds all i made past same h = subst (λ xs. AreClassesOf cs (map class_def xs) made) (take_all i ds past ∙ same) h
 
 -- ---- names
 
@@ -77,14 +73,3 @@ entry_more cs statement source y old new is at tree span grown sources are =
     subst (AreEntriesOf cs (sources ++ entry statement)) (sym grown)
     (subst (λ xs. AreEntriesOf cs (sources ++ xs) (old ++ y ∷ [])) (sym (ap (entry_at statement.span.start) is))
     (entries_grow cs sources old (record { at = statement.span.start; body = source }) y are (record { at = at; body = tree; span = span })))
-
-pub entry_none : (cs : List ClassDef) (statement : Statement) (old new : List EntryDef) → entry statement ≡ [] → new ≡ old → AddsEntries cs (entry statement) old new
-entry_none cs statement old new none same sources are =
-    subst (AreEntriesOf cs (sources ++ entry statement)) (sym same) (subst (λ xs. AreEntriesOf cs xs old) (sym (ap (λ xs. sources ++ xs) none ∙ append-nil sources)) are)
-
-pub entry_turn : (cs : List ClassDef) (ss : List Statement) (i : ℕ) (s : Statement) (old new : List EntryDef) → i < length ss → s ≡ get_or ss i s → AreEntriesOf cs (entries (take i ss)) old → AddsEntries cs (entry s) old new
-    → AreEntriesOf cs (entries (take (i + 1) ss)) new
-entry_turn cs ss i s old new within is so_far more =
-    let front : take (i + 1) ss ≡ take i ss ++ s ∷ [] = take_more ss i s within ∙ ap (λ y. take i ss ++ y ∷ []) (sym is) in
-    let all : entries (take (i + 1) ss) ≡ entries (take i ss) ++ entry s = ap entries front ∙ flat_map-append entry (take i ss) (s ∷ []) ∙ ap (λ xs. entries (take i ss) ++ xs) (append-nil (entry s)) in
-    subst (λ xs. AreEntriesOf cs xs new) (sym all) (more (entries (take i ss)) so_far)

@@ -22,16 +22,6 @@ word_stands fields i field within is name type = in_typed fields (in_at fields i
     in_typed [] h = h
     in_typed (x ∷ xs) h = elim h [ inl e ↦ inl (let f : x.0 ≡ codes "word" = ap (λ y. y.0) e ∙ name in let g : shape x.1 ≡ text = ap (λ y. shape y.1) e ∙ type in cc) | inr k ↦ inr (in_typed xs k) ]
 
--- what is left has it, where this one hasn't
-pub word_later : (fields : List Field) (i : ℕ) (field : Field) → i < length fields → field ≡ get_or fields i field → (field.0 ≡ codes "word" → shape field.1 ≡ text → ⊥) → (In (typed fields) word → In (typed (drop i fields)) word)
-    → In (typed fields) word → In (typed (drop (i + 1) fields)) word
-word_later fields i field within is not before h =
-    let front : drop i fields ≡ field ∷ drop (i + 1) fields = drop_more fields i field within ∙ ap (λ x. x ∷ drop (i + 1) fields) (sym is) in
-    elim (subst (λ fs. In (typed fs) word) front (before h)) [ inl e ↦ absurd (not (ap (λ y. y.0) e) (ap (λ y. y.1) e)) | inr k ↦ k ]
-
-pub no_word : (fields : List Field) (i : ℕ) → length fields ≤ i → (In (typed fields) word → In (typed (drop i fields)) word) → In (typed fields) word → ⊥
-no_word fields i past before h = subst (λ fs. In (typed fs) word) (drop_all i fields past) (before h)
-
 -- ---- the dimension
 
 -- a place of a dimension of words, among those that are used

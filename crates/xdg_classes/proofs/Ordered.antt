@@ -34,9 +34,6 @@ in_use : (name : Name) (o : Option ℕ) (u : Use) → In (use_at name o) u → (
 in_use name None u h = absurd h
 in_use name (Some k) u h = elim h [ inl e ↦ ap (λ x. Some x.to) e | inr n ↦ absurd n ]
 
-text_of : ClassDef → List ℕ
-text_of c = c.name.text
-
 module _ (statements : List Statement) where
   abbrev cs : List ClassDef
   cs = classes statements

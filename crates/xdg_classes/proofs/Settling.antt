@@ -157,9 +157,6 @@ module _ (statements : List Statement) (table : Table) (none : None_of (IsTwice 
 
 -- ---- all classes in order
 
-in_none : (o : Option WantedTypes) (param : List ℕ) (s : Shape) → o ≡ None → In (given_in o param) s → ⊥
-in_none o param s e h = subst (λ p. In (given_in p param) s) e h
-
 module _ (statements : List Statement) (table : Table) (features : Features) (made : Classes) (fits : Fits statements table features made) where
   abbrev names : List (List ℕ)
   names = made.names

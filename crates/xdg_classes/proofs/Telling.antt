@@ -1,5 +1,5 @@
 -- What is told of items one after the other.
-use Rattle.std.proofs.Common.{◌≡◌, ◌⊎◌, inl, inr, ℕ, ◌+◌, ◌<◌, ◌≤◌, List, [], ◌∷◌, ◌++◌, length, take, get_or, map, Option, None, refl, sym, subst}
+use Rattle.std.proofs.Common.{◌≡◌, ◌⊎◌, inl, inr, ℕ, ◌+◌, ◌<◌, ◌≤◌, List, [], ◌∷◌, ◌++◌, length, take, get_or, map, Option, refl, sym, subst}
 use Rattle.std.specs.Prelude.{Result, Ok, Err, IfOk}
 use Rattle.std.proofs.lemmas.List.{take_all}
 use Rattle.xdg_base.specs.declared.faults.Fault.{Fault}
@@ -12,9 +12,6 @@ use Rattle.xdg_classes.proofs.Sameness.{taken, map_in, in_map}
 pub if_ok : {A E : Type 0} (P Q : A → Type 0) → ((x : A) → P x → Q x) → (r : Result A E) → IfOk r P → IfOk r Q
 if_ok P Q to (Ok x) h = to x h
 if_ok P Q to (Err e) h = h
-
-pub tells_none : (P : Fault → Type 0) → ((f : Fault) → P f → ⊥) → Tells P None
-tells_none P h = h
 
 pub tells_sum : (P Q : Fault → Type 0) (a b whole : Option Fault) → Tells P a → Tells Q b → whole ≡ earlier a b → Tells (λ f. P f ⊎ Q f) whole
 tells_sum P Q a b whole h k is = subst (Tells (λ f. P f ⊎ Q f)) (sym is) (tells_both P Q a b h k)
@@ -32,6 +29,7 @@ module _ {A : Type 0} (P : A → Fault → Type 0) where
   some_end xs i found over = subst (λ ys. Tells (SomeOf ys P) found) (take_all i xs over)
 
 -- of what is seen of each item
+
 pub some_seen : {A B : Type 0} (f : A → B) (P : B → Fault → Type 0) (xs : List A) (i : ℕ) (found : Option Fault) → length xs ≤ i → Tells (SomeOf (take i xs) (λ x. P (f x))) found → Tells (SomeOf (map f xs) P) found
 some_seen f P xs i found over so_far =
     tells_as (SomeOf xs (λ x. P (f x))) (SomeOf (map f xs) P)

@@ -1,9 +1,9 @@
 -- What a corpus leaves, from what its steps left.
-use Rattle.std.proofs.Common.{◌≡◌, ◌⊎◌, inl, inr, ℕ, List, sym, ◌∙◌, subst}
+use Rattle.std.proofs.Common.{◌≡◌, ℕ, List, subst}
 use Rattle.std.specs.Prelude.{Option, Some}
 use Rattle.xdg_command.specs.declared.commands.CorpusOptions.{CorpusOptions}
 use Rattle.xdg_corpus.specs.Inputs.{HasText, IsBadCorpus}
-use Rattle.xdg_corpus.specs.Outcomes.{AreSearched, CorpusEnds, LinesThen}
+use Rattle.xdg_corpus.specs.Outcomes.{AreSearched, LinesThen}
 use Rattle.xdg_inputs.specs.Meanings.{Meaning}
 use Rattle.xdg_io.specs.Left.{TakesAll}
 use Rattle.xdg_inputs.specs.Refusals.{Refuses, Stops}
@@ -13,24 +13,6 @@ use Rattle.xdg_inputs.specs.declared.refusals.Refusal.{Refusal}
 use Rattle.xdg_inputs.specs.declared.status.Status.{Status}
 use Rattle.xdg_inputs.specs.declared.status.Status.TheVariants as statuses
 use Rattle.xdg_corpus.proofs.Parting.{accepted_part, stopped_part}
-
--- lines are printed with one of three statuses
-pub printed_ends : (result : Status) → (result ≡ statuses.Done) ⊎ ((result ≡ statuses.WriteFault) ⊎ (result ≡ statuses.OutOfMemory)) → CorpusEnds result
-printed_ends result (inl e) = subst CorpusEnds (sym e) tt
-printed_ends result (inr (inl e)) = subst CorpusEnds (sym e) tt
-printed_ends result (inr (inr e)) = subst CorpusEnds (sym e) tt
-
-abbrev pub IsPrinted : Status → Type 0
-IsPrinted statuses.Done = Unit {0}
-IsPrinted statuses.WriteFault = Unit {0}
-IsPrinted statuses.OutOfMemory = Unit {0}
-IsPrinted status = ⊥
-
--- and with no other
-pub printed_never : (P : Type 0) (result status : Status) → (result ≡ statuses.Done) ⊎ ((result ≡ statuses.WriteFault) ⊎ (result ≡ statuses.OutOfMemory)) → (IsPrinted status → ⊥) → result ≡ status → P
-printed_never P result status (inl e) other is = absurd (other (subst IsPrinted (sym e ∙ is) tt))
-printed_never P result status (inr (inl e)) other is = absurd (other (subst IsPrinted (sym e ∙ is) tt))
-printed_never P result status (inr (inr e)) other is = absurd (other (subst IsPrinted (sym e ∙ is) tt))
 
 module _ (m : Meaning) (options : CorpusOptions) (told new : Option (List ℕ)) (bytes content : List ℕ) (takes : TakesAll told new bytes) (given : told ≡ Some content) where
   same : bytes ≡ content

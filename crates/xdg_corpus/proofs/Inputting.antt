@@ -1,5 +1,5 @@
 -- The input of a corpus: accepted or rejected.
-use Rattle.std.proofs.Common.{◌≡◌, ℕ, ◌+◌, ◌<◌, ◌≤◌, List, length, refl, sym, ◌∙◌, ap, arith}
+use Rattle.std.proofs.Common.{◌≡◌, ℕ, ◌≤◌, List, length, refl, sym, ◌∙◌, ap, arith}
 use Rattle.std.specs.Prelude.{IsUtf8}
 use Rattle.std.specs.Str.{IsValidUpTo}
 use Rattle.xdg_base.specs.declared.faults.Cause.TheVariants as causes
@@ -8,7 +8,6 @@ use Rattle.xdg_corpus.specs.Inputs.{HasText, IsBadCorpus, IsNoCorpus, corpus_lim
 use Rattle.xdg_inputs.specs.Places.{fault, place_in}
 use Rattle.xdg_inputs.specs.Refusals.{RejectsAt}
 use Rattle.xdg_inputs.specs.Stages.{Accepts, Rejects}
-use Rattle.xdg_inputs.proofs.Trees.{first_byte}
 use Rattle.xdg_listing.proofs.Texts.{one_place}
 
 text_or_not : (input text : List ℕ) (f : Fault) → HasText input text → IsNoCorpus input f → ⊥
@@ -32,11 +31,3 @@ rejected input f bad = record { is = (refl, bad); one = λ t h q. (q.0, one_faul
 pub text_rejected : (input : List ℕ) (at : ℕ) → length input ≤ corpus_limit → (IsUtf8 input → ⊥) → IsValidUpTo input at
     → RejectsAt (List ℕ) (IsBadCorpus input) (HasText input) (fault causes.BadUtf8 at 0) (place_in input (fault causes.BadUtf8 at 0))
 text_rejected input at within ill valid = record { text = input; rejects = rejected input (fault causes.BadUtf8 at 0) (no_text at within ill valid refl); place_is = refl }
-
-pub long_rejected : (input : List ℕ) → corpus_limit < length input
-    → RejectsAt (List ℕ) (IsBadCorpus input) (HasText input) (fault causes.TooLong 0 (corpus_limit + 1)) (record { line = 1; column = 1 })
-long_rejected input long = record {
-  text = input;
-  rejects = rejected input (fault causes.TooLong 0 (corpus_limit + 1)) (too_long long refl);
-  place_is = first_byte input (fault causes.TooLong 0 (corpus_limit + 1)) refl;
-}

@@ -1,6 +1,6 @@
 -- What is written of a group, line by line.
 use Rattle.std.proofs.Common.{◌≡◌, ◌<◌, ◌≤◌, ◌+◌, ◌++◌, ℕ, List, suc, length, drop, get_or, sym, ap, ◌∙◌, subst, arith}
-use Rattle.std.specs.Prelude.{Option, Some, slice_get}
+use Rattle.std.specs.Prelude.{Option}
 use Rattle.std.proofs.Math.Seq.{drop-cons}
 use Rattle.std.proofs.lemmas.Option.{slice_get_past}
 use Rattle.xdg_corpus.specs.Groups.{answer_text, group_text, own_text}
@@ -26,7 +26,3 @@ group_from answers first said i sentence within is =
 pub no_answer : (answers : List Answer) (sentence : Sentence) (place : ℕ) (held : Option (List ℕ)) → sentence ≡ sentences.Job place → length answers ≤ place → Appends held held (own_text answers sentence)
 no_answer answers sentence place held is past =
     subst (λ z. Appends held held (own_text answers z)) (sym is) (subst (λ z. Appends held held (answer_text z)) (sym (slice_get_past answers place past)) (appends_nothing held))
-
--- the text of an answer that is there
-pub answer_there : (answers : List Answer) (sentence : Sentence) (place : ℕ) (answer : Answer) → sentence ≡ sentences.Job place → slice_get answers place ≡ Some answer → own_text answers sentence ≡ answer.bytes
-answer_there answers sentence place answer is found = ap (own_text answers) is ∙ ap answer_text found

@@ -14,9 +14,6 @@ capped_mul a b most = elim (cases_lt a most) [
   | inr beyond ↦ ap (λ m. min (m * b) most) (min-eq_right beyond) ∙ beyond_both a b most beyond
 ]
 
-pub capped_add : (a b most : ℕ) → min (min a most + b) most ≡ min (a + b) most
-capped_add a b most = omega arith
-
 -- a product and one more, each step capped
 pub capped_parts : (keys one members each product whole most : ℕ) → members ≡ min keys most → each ≡ min one most → product ≡ min (members * each) most → whole ≡ min (product + 1) most → whole ≡ min (1 + keys * one) most
 capped_parts keys one members each product whole most m e p w =

@@ -1,6 +1,6 @@
 -- A type has a default exactly where it has no plain part, and its default is a value that says all.
 use Rattle.std.proofs.Common.{◌≡◌, ◌⊎◌, ℕ, ◌<◌, ◌≤◌, ◌+◌, ◌-◌, ◌*◌, ◌^◌, ◌%◌, zero, suc, List, [], ◌∷◌, Option, None, Some, inl, inr, refl, ap, ap₂, sym, ◌∙◌, arith, subst}
-use Rattle.std.specs.Prelude.{◌↔◌, ◌==◌, true, MatchOption}
+use Rattle.std.specs.Prelude.{◌==◌, true, MatchOption}
 use Rattle.std.specs.List.{range_with_len}
 use Rattle.std.proofs.lemmas.Bool.{cond-true, cond-false, eq-eqb, ne_eqb}
 use Rattle.xdg_domain.specs.Cards.{cards, IsCards}
@@ -73,12 +73,6 @@ mutual
   ]
 
 -- a type has no default exactly where it has a plain part
-
-pub none_is_plain : (s : Shape) → IsType s → (default s ≡ None) ↔ HasPlain s
-none_is_plain s h = (
-  λ e. elim (decided s h) [ inl none ↦ none.1 | inr some ↦ absurd (differ (default s) some.1.0 e some.1.1) ],
-  λ p. elim (decided s h) [ inl none ↦ none.0 | inr some ↦ absurd (some.0 p) ],
-)
 
 -- the map of the keys made so far is the default, once all are made
 pub map_made : (u : Shape) (keys : ℕ) (all : List (ℕ × Value)) → IsMapped u → IsType u → ((x : Value) → default u ≡ Some x → all ≡ for_each_key keys x) → Some (v.Map all) ≡ map_of_default keys (default u)
@@ -195,7 +189,3 @@ mutual
 
 pub default_is_value : (s : Shape) → IsType s → (x : Value) → default s ≡ Some x → IsValue s x
 default_is_value s h x e = (right s h x e).0
-
--- and says something of each key and of each field
-pub default_is_filled : (s : Shape) → IsType s → (x : Value) → default s ≡ Some x → IsFilled s x
-default_is_filled s h x e = (right s h x e).1

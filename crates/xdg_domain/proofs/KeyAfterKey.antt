@@ -10,10 +10,6 @@ rises_on (entry ∷ s) low key x rises below order = (rises.0, rises_on s (entry
 pub rises_more : {V : Type 0} (s : List (ℕ × V)) (key : ℕ) (x : V) → KeysRise 0 s → KeysBelow key s → KeysRise 0 (s ++ (key, x) ∷ [])
 rises_more s key x rises below = rises_on s 0 key x rises below (omega arith)
 
-below_later : {V : Type 0} (s : List (ℕ × V)) (key next : ℕ) → key ≤ next → KeysBelow key s → KeysBelow next s
-below_later [] key next order below = tt
-below_later (entry ∷ s) key next order below = (omega (arith, below.0, order), below_later s key next order below.1)
-
 -- all keys are below the next, after one more
 pub below_more : {V : Type 0} (s : List (ℕ × V)) (key : ℕ) (x : V) → KeysBelow key s → KeysBelow (key + 1) (s ++ (key, x) ∷ [])
 below_more [] key x below = (omega arith, tt)

@@ -1,5 +1,5 @@
 -- What lists with rising keys say of a key, and what two of them say together.
-use Rattle.std.proofs.Common.{◌≡◌, ℕ, ◌<◌, ◌≤◌, ◌+◌, List, [], ◌∷◌, refl, ap, ap₂, sym, ◌∙◌, arith, inl, inr, subst}
+use Rattle.std.proofs.Common.{◌≡◌, ℕ, ◌<◌, ◌+◌, List, [], ◌∷◌, refl, ap, ap₂, sym, ◌∙◌, arith, inl, inr, subst}
 use Rattle.std.specs.Prelude.{cond, Option, None, Some}
 use Rattle.std.proofs.lemmas.Bool.{cases_eq, cases_lt, eq-eqb, ne_eqb}
 use Rattle.xdg_domain.specs.Valencies.{said_at, KeysRise}
@@ -14,10 +14,6 @@ at_head e s key is = ap (λ t. cond t (Some e.1) (said_at s key)) (eq-eqb e.0 ke
 
 pub after_head : {V : Type 0} (e : ℕ × V) (s : List (ℕ × V)) (key : ℕ) → (e.0 ≡ key → ⊥) → said_at (e ∷ s) key ≡ said_at s key
 after_head e s key other = ap (λ t. cond t (Some e.1) (said_at s key)) (ne_eqb e.0 key other)
-
-pub keys_weaker : {V : Type 0} (sooner low : ℕ) (s : List (ℕ × V)) → sooner ≤ low → KeysRise low s → KeysRise sooner s
-keys_weaker sooner low [] order r = tt
-keys_weaker sooner low (e ∷ s) order (a, b) = (omega (arith, order, a), b)
 
 pub unsaid : {V : Type 0} (low key : ℕ) (s : List (ℕ × V)) → key < low → KeysRise low s → said_at s key ≡ None
 unsaid low key [] below r = refl

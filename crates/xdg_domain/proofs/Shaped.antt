@@ -1,9 +1,9 @@
 -- The tree of a type, variant by variant.
-use Rattle.std.proofs.Common.{◌≡◌, ℕ, List, ap, ◌∙◌, map}
+use Rattle.std.proofs.Common.{◌≡◌, ℕ, List, ap, ◌∙◌}
 use Rattle.xdg_domain.specs.declared.types.Ty.{Ty, out-Ty, map-Ty, fold_out-Ty}
 use Rattle.xdg_domain.specs.declared.types.Ty.TheOpen.{Ty-F}
 use Rattle.xdg_domain.specs.declared.types.Ty.TheVariants as t
-use Rattle.xdg_domain.specs.Shapes.{Shape, domain, tuple, mapping, fields, layer, shape, shapes_of}
+use Rattle.xdg_domain.specs.Shapes.{Shape, mapping, fields, layer, shape}
 use Rattle.xdg_domain.proofs.Made.{seen}
 
 by_layer : (ty : Ty) (l : Ty-F Ty) → out-Ty ty ≡ l → shape ty ≡ layer (map-Ty Ty Shape shape l)
@@ -14,9 +14,3 @@ shape_map key of = by_layer (t.Map key of) (Ty-F.Map key of) (t.outs-Map key of)
 
 pub shape_rec : (all : List (List ℕ × Ty)) → shape (t.Rec all) ≡ fields (seen all)
 shape_rec all = by_layer (t.Rec all) (Ty-F.Rec all) (t.outs-Rec all)
-
-pub shape_domain : (all : List (List ℕ)) → shape (t.Domain all) ≡ domain all
-shape_domain all = by_layer (t.Domain all) (Ty-F.Domain all) (t.outs-Domain all)
-
-pub shape_tuple : (all : List Ty) → shape (t.Tuple all) ≡ tuple (shapes_of (map shape all))
-shape_tuple all = by_layer (t.Tuple all) (Ty-F.Tuple all) (t.outs-Tuple all)

@@ -72,16 +72,6 @@ pub record Together (xs ys made rest more : List (ℕ × List ℕ)) : Type 0 whe
   pub done : (key : ℕ) → key < low → (said_at made key ≡ both_say (said_at xs key) (said_at ys key)) × (Clash (said_at xs key) (said_at ys key) → ⊥)
   pub left : (key : ℕ) → low ≤ key → (said_at rest key ≡ said_at xs key) × (said_at more key ≡ said_at ys key)
 
-pub together_start : (xs ys : List (ℕ × List ℕ)) → KeysRise 0 xs → KeysRise 0 ys → Together xs ys [] xs ys
-together_start xs ys h k = record {
-  low = 0;
-  rises = tt;
-  first = h;
-  second = k;
-  done = λ key below. absurd (omega (arith, below));
-  left = λ key above. (refl, refl);
-}
-
 step : (xs ys made rest more later after : List (ℕ × List ℕ)) (e : ℕ × List ℕ) (t : Together xs ys made rest more) → t.low ≤ e.0 → KeysRise (e.0 + 1) later → KeysRise (e.0 + 1) after
     → ((key : ℕ) → key < e.0 + 1 → (said_at (e ∷ []) key ≡ both_say (said_at rest key) (said_at more key)) × (Clash (said_at rest key) (said_at more key) → ⊥))
     → ((key : ℕ) → e.0 + 1 ≤ key → (said_at later key ≡ said_at rest key) × (said_at after key ≡ said_at more key))

@@ -28,10 +28,6 @@ places_of_index (s ∷ ss) (n ∷ ns) within =
     (div-mul-add n (product ss) (index ss ns) below)
     (ap (places ss) (mod-mul-add n (product ss) (index ss ns) below) ∙ places_of_index ss ns within.1)
 
-pub some_later : (s : ℕ) (ss : List ℕ) (n : ℕ) → n < product (s ∷ ss) → 0 < product ss
-unfolding product
-some_later s ss n below = some_after s (product ss) n below
-
 -- the number of the tuple with the places of this one is this one
 pub index_of_places : (sizes : List ℕ) (n : ℕ) → n < product sizes → index sizes (places sizes n) ≡ n
 unfolding index places product

@@ -71,10 +71,6 @@ refused-only bytes (stops.Fault g) only (Ok tree) (ts, spells, derives) = absurd
 refused-only bytes (stops.Fault g) only (Err f) (no_tokens refused) = let e : ◌≡◌ {A = Lexed} (Err f) (Err g) = only (Err f) refused in cc
 refused-only bytes (stops.Fault g) only (Err f) (no_rules ts spells refused) = absurd (let e : ◌≡◌ {A = Lexed} (Ok ts) (Err g) = only (Ok ts) spells in cc)
 
-pub refused-tells : (bytes : List ℕ) (stop : Stop) → tokens.Tells bytes (Err stop) → Tells bytes (Err stop)
-refused-tells bytes (stops.Fault f) told = no_tokens told
-refused-tells bytes stops.OutOfMemory told = tt
-
 -- ---- bytes that spell tokens
 
 parsed-tells : (bytes : List ℕ) (ts : List Lexeme) (result : Result Rules Stop) → Spells bytes ts → TellsParsed ts (length bytes) result → Tells bytes result

@@ -1,5 +1,5 @@
 -- Tables of paths that are filled one dimension after another.
-use Rattle.std.proofs.Common.{◌≡◌, ◌↔◌, ℕ, ◌+◌, ◌<◌, ◌≤◌, inl, inr, Bool, true, false, List, [], length, sym, ◌∙◌, subst, ap, arith}
+use Rattle.std.proofs.Common.{◌≡◌, ◌↔◌, ℕ, ◌+◌, ◌<◌, ◌≤◌, inl, inr, Bool, true, false, List, [], length, sym, ◌∙◌, subst, arith}
 use Rattle.std.specs.Prelude.{slice_index_or, slice_set}
 use Rattle.std.proofs.lemmas.Bool.{cases_eq, false≢true}
 use Rattle.std.proofs.lemmas.List.{get_or-set_same, get_or-set_other}
@@ -31,15 +31,12 @@ module _ (way : Way) (which : Which) (s : State) (k : ℕ) (known : List Bool) (
   ]
 
 -- a table of one way
+
 pub table_down : (way : Way) (which : Which) (s : State) (dim : ℕ) (table : List (List ℕ)) → way ≡ ways.Down → ((a b : ℕ) → In table a b ↔ Above (edges_of which s.parts s.now dim) a b) → (a b : ℕ) → In table a b ↔ Along way (Above (edges_of which s.parts s.now dim)) a b
 table_down way which s dim table is exact = subst (λ w. (a b : ℕ) → In table a b ↔ Along w (Above (edges_of which s.parts s.now dim)) a b) (sym is) exact
 
 pub table_up : (way : Way) (which : Which) (s : State) (dim : ℕ) (table : List (List ℕ)) → way ≡ ways.Up → ((a b : ℕ) → In table a b ↔ Above (edges_of which s.parts s.now dim) b a) → (a b : ℕ) → In table a b ↔ Along way (Above (edges_of which s.parts s.now dim)) a b
 table_up way which s dim table is exact = subst (λ w. (a b : ℕ) → In table a b ↔ Along w (Above (edges_of which s.parts s.now dim)) a b) (sym is) exact
-
--- none yet
-pub tells_none : (way : Way) (which : Which) (s : State) (known : List Bool) (tables : List (List (List ℕ))) → TellsPaths way which s 0 known tables
-tells_none way which s known tables dim l = absurd (omega (arith, l))
 
 -- all eight
 pub tells_all : (way : Way) (which : Which) (s : State) (k : ℕ) (known : List Bool) (tables : List (List (List ℕ))) → 8 ≤ k → TellsPaths way which s k known tables → TellsPaths way which s 8 known tables

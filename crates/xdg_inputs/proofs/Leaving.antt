@@ -9,7 +9,6 @@ use Rattle.xdg_inputs.specs.Places.{place_in}
 use Rattle.xdg_inputs.specs.Refusals.{Stops, Refuses}
 use Rattle.xdg_inputs.specs.Runs.{Ends, Leaves, LeavesFront}
 use Rattle.xdg_inputs.specs.Stages.{Behind, refused, accepted, Accepts, Rejects}
-use Rattle.xdg_inputs.specs.Outcomes.{IsDone}
 use Rattle.xdg_inputs.specs.declared.refusals.Refusal.{Refusal}
 use Rattle.xdg_inputs.specs.declared.refusals.Refusal.TheVariants as refusals
 use Rattle.xdg_inputs.specs.declared.status.Status.{Status}
@@ -29,10 +28,6 @@ ends_of O status text old new one a = record { text = text; outcome = one.is; on
 -- a front of its text was added
 pub front_of : (O : Status → List ℕ → Type 0) (status : Status) (text : List ℕ) (old new : Option (List ℕ)) → IsOnly O status text → AppendsFront old new text → (other : Status) (more : List ℕ) → O other more → AppendsFront old new more
 front_of O status text old new one a other more b = subst (AppendsFront old new) (one.only other more b).1 a
-
--- a run that is done
-pub only_done : (text : List ℕ) → IsOnly (IsDone text) statuses.Done text
-only_done text = record { is = (refl, refl); only = λ other more o. (sym o.0, sym o.1) }
 
 -- ---- a front for want of memory
 

@@ -24,10 +24,6 @@ use Rattle.xdg_inputs.specs.Answers.{IsAnswer, Gives, Tells}
 
 -- ---- what is told
 
-pub types_tell : (tree : Grammar) (stop : Stop) → types.Tells tree.statements (Err stop) → Tells tree (Err stop)
-types_tell tree (stops.Fault f) told = of_types told
-types_tell tree stops.OutOfMemory told = tt
-
 pub check_tells : (tree : Grammar) (table : Table) (stop : Stop) → types.Tells tree.statements (Ok table) → check.Tells tree.statements table (Err stop) → Tells tree (Err stop)
 check_tells tree table (stops.Fault f) has told = of_check table has told
 check_tells tree table stops.OutOfMemory has told = tt

@@ -1,7 +1,6 @@
 -- The grammar text of a file: accepted or rejected.
-use Rattle.std.proofs.Common.{◌≡◌, ℕ, ◌+◌, ◌<◌, ◌≤◌, List, length, Some, Ok, Err, refl, sym, ◌∙◌, ap, subst, arith}
+use Rattle.std.proofs.Common.{◌≡◌, ℕ, ◌≤◌, List, length, Some, Ok, Err, refl, sym, ◌∙◌, ap, subst, arith}
 use Rattle.std.specs.Prelude.{Option, Result}
-use Rattle.xdg_base.specs.declared.faults.Cause.TheVariants as causes
 use Rattle.xdg_base.specs.declared.faults.Fault.{Fault}
 use Rattle.xdg_base.specs.declared.faults.Stop.{Stop}
 use Rattle.xdg_base.specs.declared.faults.Stop.TheVariants as stops
@@ -10,8 +9,8 @@ use Rattle.xdg_ast.specs.declared.grammar.Grammar.{Grammar}
 use Rattle.xdg_ast.specs.Derives.{Reads}
 use Rattle.xdg_inputs.specs.GrammarTexts.{IsUnreadable, IsReadAs, ReadsAs, TellsTree}
 use Rattle.xdg_io.specs.Files.{HasFile}
-use Rattle.xdg_inputs.specs.Places.{place_in, fault}
-use Rattle.xdg_inputs.specs.Refusals.{RejectsAt, Stops, refusal_of}
+use Rattle.xdg_inputs.specs.Places.{place_in}
+use Rattle.xdg_inputs.specs.Refusals.{Stops, refusal_of}
 use Rattle.xdg_inputs.specs.Stages.{Accepts, Rejects}
 use Rattle.xdg_inputs.specs.GrammarFiles.{ReadText, HasTree, HasBadText, IsBadText, too_long, unreadable, grammar_limit}
 use Rattle.xdg_inputs.specs.declared.refusals.Refusal.{Refusal}
@@ -67,22 +66,6 @@ tree_stops Told before after files name text (stops.Fault f) file within tells o
 tree_stops Told before after files name text stops.OutOfMemory file within tells only = tt
 
 -- ---- a text that is too long
-
-long_one : (text : List ℕ) (g : Fault) → grammar_limit < length text → IsBadText text g → g ≡ fault causes.TooLong 0 (grammar_limit + 1)
-long_one text g long (too_long more e) = e
-long_one text g long (unreadable small u) = absurd (omega (arith, long, small))
-
-pub long_rejected : (files : List ℕ → Option (List ℕ)) (name text : List ℕ) → files name ≡ Some text → grammar_limit < length text
-    → RejectsAt ReadText (HasBadText files name) (HasTree files name) (fault causes.TooLong 0 (grammar_limit + 1)) (record { line = 1; column = 1 })
-long_rejected files name text file long = record {
-  text = text;
-  rejects = record {
-    is = record { file = file; because = too_long long refl };
-    one = λ t g q. let e = same_text files name t text q.file file in (e, long_one text g long (subst (λ z. IsBadText z g) e q.because));
-    never = λ b h. let e = ap length (same_text files name b.text text h.file file) in let w = h.within in omega (arith, e, w, long);
-  };
-  place_is = first_byte text (fault causes.TooLong 0 (grammar_limit + 1)) refl;
-}
 
 -- ---- what a shelf gives
 

@@ -1,5 +1,5 @@
 -- What is left in the sink whatever the other devices tell, from what the last call left there.
-use Rattle.std.proofs.Common.{◌≡◌, ◌⊎◌, inl, inr, ℕ, List, refl, sym, ◌∙◌, subst}
+use Rattle.std.proofs.Common.{◌≡◌, ◌⊎◌, inl, inr, ℕ, List, sym, ◌∙◌, subst}
 use Rattle.std.specs.Prelude.{◌≢◌, Option}
 use Rattle.xdg_inputs.specs.Refusals.{Refuses}
 use Rattle.xdg_inputs.specs.Runs.{Leaves, Unwritten, Wrote}
@@ -7,10 +7,6 @@ use Rattle.xdg_inputs.specs.declared.refusals.Refusal.{Refusal}
 use Rattle.xdg_inputs.specs.declared.refusals.Refusal.TheVariants as refusals
 use Rattle.xdg_inputs.specs.declared.status.Status.{Status}
 use Rattle.xdg_inputs.specs.declared.status.Status.TheVariants as statuses
-
--- for want of memory
-pub memory_wrote : (P : Status → Type 0) (count : ℕ) (held : Option (List ℕ)) → P statuses.OutOfMemory → Wrote P statuses.OutOfMemory count count held held
-memory_wrote P count held can = record { ends = can; unwritten = λ e. refl; quiet = λ e. refl }
 
 -- ---- a refusal
 

@@ -5,10 +5,6 @@ use Rattle.xdg_text.specs.Lines.{fault_text}
 use Rattle.xdg_inputs.specs.Places.{place_in}
 use Rattle.xdg_inputs.specs.declared.status.Status.{Status}
 
--- which status and text are the outcome
-abbrev pub Outcome : Type 1
-Outcome = Status → List ℕ → Type 0
-
 -- A step of a command, and what comes next. What is read is refused, and the outcome is the status of such a refusal and the fault
 -- line, with the place in the text that is refused; or something is accepted, and the outcome is that of what comes next.
 pub data Behind (A : Type 0) (bad : Status) (Refused : List ℕ → Fault → Type 0) (Has : A → Type 0) (next : A → Status → List ℕ → Type 0) (status : Status) (line : List ℕ) : Type 0 where

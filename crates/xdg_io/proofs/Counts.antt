@@ -5,7 +5,3 @@ use Rattle.xdg_io.specs.Rose.{Rose}
 -- a count that rose in a later part rose in the whole
 pub rose_later : (a b c : ℕ) → a ≤ b → Rose b c → Rose a c
 rose_later a b c same rose = grind (arith, same, rose)
-
--- a count that rose in an earlier part rose in the whole
-pub rose_before : (a b c : ℕ) → a ≤ b → Rose a b → b ≤ c → Rose a c
-rose_before a b c same rose later = grind (arith, same, rose, later)

@@ -1,5 +1,5 @@
 -- What a condition asks of a tuple, from what is read and tested.
-use Rattle.std.proofs.Common.{◌≡◌, ℕ, ◌+◌, ◌<◌, ◌≤◌, ◌↔◌, ◌==◌, inl, inr, Bool, true, false, List, length, get_or, map, refl, ap, sym, ◌∙◌, subst, arith}
+use Rattle.std.proofs.Common.{◌≡◌, ℕ, ◌+◌, ◌<◌, ◌↔◌, ◌==◌, inl, inr, Bool, true, false, List, length, get_or, map, refl, ap, sym, ◌∙◌, subst, arith}
 use Rattle.std.specs.Prelude.{IsTrue, not, Contains, AllPairs, slice_index}
 use Rattle.std.proofs.lemmas.Bool.{cases_eq, eq-eqb, eqb-true, false≢true}
 use Rattle.std.proofs.lemmas.List.{get_or_default, get_or-map, length-map}
@@ -11,16 +11,13 @@ use Rattle.xdg_problem.specs.declared.parts.Parts.{Parts}
 use Rattle.xdg_problem.specs.Arguments.{attr_place}
 use Rattle.xdg_problem.specs.Asking.{IsInItem}
 use Rattle.xdg_problem.specs.Features.{row}
-use Rattle.xdg_problem.specs.Paths.{edges_on, AboveByLast}
+use Rattle.xdg_problem.specs.Paths.{AboveByLast}
 use Rattle.xdg_judge.specs.declared.paths.Way.TheVariants as ways
 use Rattle.xdg_judge.specs.declared.links.Links.{Links}
 use Rattle.xdg_judge.specs.Joining.{IsLed}
 use Rattle.xdg_judge.specs.Links.{AreLinks}
 use Rattle.xdg_judge.proofs.Meeting.{led_exact}
 use Rattle.xdg_judge.proofs.Ways.{last_exact, through}
-
-pub on_same : (dim d : ℕ) (es edges : List Edge) → dim ≡ d → es ≡ edges → edges_on dim es ≡ edges_on d edges
-on_same dim d es edges e f = ap (λ z. edges_on z es) e ∙ ap (λ z. edges_on d z) f
 
 pub row_same : (group : Group) (v w c d a l m : ℕ) (xs : List ℕ) → xs ≡ row group v c a l → v ≡ w → c ≡ d → l ≡ m → xs ≡ row group w d a m
 row_same group v w c d a l m xs h e f g = h ∙ (ap (λ z. row group z c a l) e ∙ (ap (λ z. row group w z a l) f ∙ ap (λ z. row group w d a z) g))
@@ -63,9 +60,6 @@ pub record Ordering (InX InY : ℕ → Type 0) (labels : List LabelId) (i : ℕ)
   pub none : seen ≡ false → (j : ℕ) (d : LabelId) → j < i → InX (get_or labels j d).0 → ⊥
   pub kept : (j k : ℕ) (d : LabelId) → j < k → k < i → InX (get_or labels j d).0 → InY (get_or labels k d).0 → ⊥
 
-pub ordering_start : (InX InY : ℕ → Type 0) (labels : List LabelId) → Ordering InX InY labels 0 false
-ordering_start InX InY labels = record { some = λ e. absurd (false≢true e); none = λ e j d l. absurd (omega (arith, l)); kept = λ j k d l m. absurd (omega (arith, m)) }
-
 more_kept : (InX InY : ℕ → Type 0) (labels : List LabelId) (i : ℕ) (seen : Bool) (label : LabelId) → i < length labels → label ≡ get_or labels i label → Ordering InX InY labels i seen → (seen ≡ true → InY label.0 → ⊥) → (j k : ℕ) (d : LabelId) → j < k → k < i + 1 → InX (get_or labels j d).0 → InY (get_or labels k d).0 → ⊥
 more_kept InX InY labels i true label l at o n j k d m p x y = elim (cases_eq k i) [
   | inl e ↦ n refl (subst (λ (z : LabelId). InY z.0) (sym (at ∙ get_or_default labels i label d l)) (subst (λ z. InY (get_or labels z d).0) e y))
@@ -92,9 +86,6 @@ ordering_same InX InY labels i seen label l at o n x = record {
   ];
   kept = more_kept InX InY labels i seen label l at o n;
 }
-
-pub ordering_end : (InX InY : ℕ → Type 0) (labels : List LabelId) (i : ℕ) (seen : Bool) → Ordering InX InY labels i seen → length labels ≤ i → IsTrue true ↔ AllPairs (λ a b. InX a.0 → InY b.0 → ⊥) labels
-ordering_end InX InY labels i seen o l = (λ t j k d m p. o.kept j k d m (omega (arith, p, l)), λ a. refl)
 
 pub ordering_broken : (InX InY : ℕ → Type 0) (labels : List LabelId) (i : ℕ) (seen : Bool) (label : LabelId) → i < length labels → label ≡ get_or labels i label → Ordering InX InY labels i seen → seen ≡ true → InY label.0 → IsTrue false ↔ AllPairs (λ a b. InX a.0 → InY b.0 → ⊥) labels
 ordering_broken InX InY labels i seen label l at o s y = (

@@ -1,8 +1,7 @@
 -- What tables of edges and paths say of atoms.
-use Rattle.std.proofs.Common.{◌≡◌, ◌↔◌, ℕ, ◌+◌, ◌<◌, ◌≤◌, inl, inr, Bool, false, List, [], ◌∷◌, length, sym, ap, ◌∙◌, subst, arith}
-use Rattle.std.specs.Prelude.{IsTrue, All, Contains, Some, None, slice_get, slice_index_or, slice_set, ◌==◌}
-use Rattle.std.proofs.lemmas.Bool.{cases_eq, eqb-true, false≢true}
-use Rattle.std.proofs.lemmas.List.{get_or-set_same, get_or-set_other}
+use Rattle.std.proofs.Common.{◌≡◌, ◌↔◌, ℕ, ◌<◌, ◌≤◌, Bool, false, List, [], ◌∷◌, length, sym, ap, ◌∙◌, subst, arith}
+use Rattle.std.specs.Prelude.{IsTrue, All, Contains, Some, None, slice_get, slice_index_or, ◌==◌}
+use Rattle.std.proofs.lemmas.Bool.{eqb-true, false≢true}
 use Rattle.std.proofs.lemmas.List.Elements.{All-head}
 use Rattle.xdg_problem.specs.declared.analysis.Analysis.{Analysis}
 use Rattle.xdg_problem.specs.declared.analysis.Edge.{Edge}
@@ -16,7 +15,7 @@ use Rattle.xdg_problem.proofs.FilterFacts.{filter_contained}
 use Rattle.xdg_problem.proofs.FitSteps.{entries_lengths}
 use Rattle.xdg_judge.specs.declared.links.Direction.TheVariants as directions
 use Rattle.xdg_judge.specs.declared.links.Neighbours.{Neighbours}
-use Rattle.xdg_judge.specs.Graphs.{AreGraphs, IsReady}
+use Rattle.xdg_judge.specs.Graphs.{IsReady}
 use Rattle.xdg_judge.specs.Links.{AreNeighbours}
 use Rattle.xdg_nodeset.specs.Tables.{In, InBy}
 use Rattle.xdg_listing.proofs.Lookups.{read_none, read_some}
@@ -57,19 +56,6 @@ pub path_told : (parts : Parts) (analysis : Analysis) (tables : List Neighbours)
 path_told parts analysis tables table dim u v result ready within is told = then_iff _ _ _ told ((table_is parts analysis tables table dim ready within is).far u v)
 
 -- one more table
-
-pub graphs_more : (analysis : Analysis) (tables : List Neighbours) (dim : ℕ) (table : Neighbours) → dim < length tables → AreGraphs dim analysis tables → AreNeighbours directions.Down (edges_on dim analysis.edges) table → AreGraphs (dim + 1) analysis (slice_set tables dim table)
-graphs_more analysis tables dim table short so_far here other given l = elim (cases_eq other dim) [
-  | inl same ↦ subst (λ k. AreNeighbours directions.Down (edges_on k analysis.edges) (slice_index_or (slice_set tables dim table) k given)) (sym same) (subst (AreNeighbours directions.Down (edges_on dim analysis.edges)) (sym (get_or-set_same tables dim table given short)) here)
-  | inr differ ↦ subst (AreNeighbours directions.Down (edges_on other analysis.edges)) (sym (get_or-set_other tables dim other table given differ)) (so_far other given (omega (arith, l, differ)))
-]
-
-pub ready_of : (parts : Parts) (analysis : Analysis) (tables : List Neighbours) (count : ℕ) → IsProblem parts → IsAnalysis parts analysis → AreGraphs count analysis tables → length parts.dims ≤ count → IsReady parts analysis tables
-ready_of parts analysis tables count problem fits graphs all = record {
-  problem = problem;
-  fits = fits;
-  graphs = λ dim given l. graphs dim given (omega (arith, l, all));
-}
 
 -- the entry of a node
 

@@ -1,5 +1,5 @@
 -- From what a search finds to verdicts.
-use Rattle.std.proofs.Common.{◌≡◌, ◌≢◌, ℕ, ◌+◌, ◌<◌, ◌≤◌, ◌↔◌, inl, false, List, [], ◌∷◌, ◌++◌, length, take, get_or, refl, ap, sym, ◌∙◌, subst, arith}
+use Rattle.std.proofs.Common.{◌≡◌, ◌≢◌, ℕ, ◌+◌, ◌<◌, ◌≤◌, ◌↔◌, inl, false, List, [], ◌∷◌, ◌++◌, length, take, get_or, ap, sym, ◌∙◌, subst, arith}
 use Rattle.std.specs.Prelude.{IsTrue, All, slice_index}
 use Rattle.std.specs.List.{AllZip}
 use Rattle.std.proofs.lemmas.Bool.{false≢true}
@@ -77,13 +77,6 @@ whole_broken parts group analysis conditions.Bound tuple of fails is = record {
   least = λ other breaks. inl (is ∙ sym breaks.within);
 }
 whole_broken parts group analysis condition tuple of fails is = absurd of
-
--- the other conditions go by tuples
-pub searched_else : (condition : Condition) → (condition ≡ conditions.Roots → ⊥) → (condition ≡ conditions.Rule → ⊥) → (condition ≡ conditions.Bound → ⊥) → IsSearched condition
-searched_else conditions.Roots no_roots no_rule no_bound = no_roots refl
-searched_else conditions.Rule no_roots no_rule no_bound = no_rule refl
-searched_else conditions.Bound no_roots no_rule no_bound = no_bound refl
-searched_else condition no_roots no_rule no_bound = tt
 
 -- the conditions of a principle
 

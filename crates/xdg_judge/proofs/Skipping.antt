@@ -30,9 +30,6 @@ pub record Passed (InItem : ℕ → Type 0) (bound next i : ℕ) : Type 0 where
   pub low : bound ≤ next
   pub each : (x : ℕ) → x < i → InItem x → (bound ≤ x) × (x < next)
 
-pub passed_start : (InItem : ℕ → Type 0) (bound : ℕ) → Passed InItem bound bound 0
-passed_start InItem bound = record { low = omega arith; each = λ x l. absurd (omega (arith, l)) }
-
 pub passed_here : (InItem : ℕ → Type 0) (bound next i : ℕ) → bound ≤ i → Passed InItem bound next i → Passed InItem bound (i + 1) (i + 1)
 passed_here InItem bound next i l p = record {
   low = omega (arith, l);

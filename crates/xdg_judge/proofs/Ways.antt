@@ -1,5 +1,5 @@
 -- Edges that join two nodes, and the words of the principles.
-use Rattle.std.proofs.Common.{◌≡◌, ℕ, ◌⊎◌, ◌↔◌, inl, inr, Bool, true, List, [], ◌∷◌, refl, sym, subst, arith, zero, suc}
+use Rattle.std.proofs.Common.{◌≡◌, ℕ, ◌⊎◌, ◌↔◌, inl, inr, Bool, List, [], ◌∷◌, refl, sym, subst, arith, zero, suc}
 use Rattle.std.specs.Prelude.{IsTrue, All, Contains}
 use Rattle.std.proofs.lemmas.List.Elements.{All-nil, All-cons, All-head, All-tail, All-append}
 use Rattle.xdg_problem.specs.declared.analysis.Edge.{Edge}
@@ -73,15 +73,6 @@ pub linked_sisters : (p : Principle) (b : Bool) (edges : List Edge) (labels : Li
 linked_sisters p b edges labels u v is h = subst (λ q. IsTrue b ↔ IsLinked q edges u labels v) (sym is) (through h (sister_exact edges labels u v))
 
 -- x stands in an item as the node itself, as a daughter, or below one
-
-pub item_own : (edges : List Edge) (yields : Type 0) (own u label x : ℕ) → own ≡ label → x ≡ u → IsTrue true ↔ IsInItem edges yields own u label x
-item_own edges yields own u label x e s = (λ t. inl (sym e, s), λ i. refl)
-
-pub item_daughter : (edges : List Edge) (yields : Type 0) (own u label x : ℕ) → IsDaughterBy edges u label x → IsTrue true ↔ IsInItem edges yields own u label x
-item_daughter edges yields own u label x d = (λ t. inr (inl d), λ i. refl)
-
-pub no_item : (edges : List Edge) (yields : Type 0) (own u label x : ℕ) (b : Bool) → ((own ≡ label) × (x ≡ u) → ⊥) → (IsDaughterBy edges u label x → ⊥) → (yields → ⊥) → (IsTrue b → ⊥) → IsTrue b ↔ IsInItem edges yields own u label x
-no_item edges yields own u label x b n d y f = (λ t. absurd (f t), λ i. elim i [ inl s ↦ absurd (n (sym s.0, s.1)) | inr (inl e) ↦ absurd (d e) | inr (inr z) ↦ absurd (y z.0) ])
 
 one_label : (label l : ℕ) → Contains (label ∷ []) l → l ≡ label
 one_label label l (zero, m, e) = sym e

@@ -7,7 +7,6 @@ use Rattle.std.proofs.Math.Seq.{drop-append_seam, take-append_seam}
 use Rattle.xdg_base.specs.declared.faults.Fault.{Fault}
 use Rattle.xdg_ast.specs.declared.token.Kind.{Kind}
 use Rattle.xdg_lex.specs.declared.pieces.Mode.{Mode}
-use Rattle.xdg_lex.specs.declared.pieces.Mode.TheVariants as in_
 use Rattle.xdg_lex.specs.declared.pieces.Turn.TheVariants as turns
 use Rattle.xdg_lex.specs.Pieces.{goes_on, begins, ends, counted, counted_after}
 use Rattle.xdg_lex.specs.Lexed.{Lexed, run, lexed_characters, before, piece_of, ended, begun, turned}
@@ -43,25 +42,10 @@ pub before_none : (all : Lexed) → before [] all ≡ all
 before_none (Ok all) = refl
 before_none (Err fault) = refl
 
-pub nothing_read : (text : List ℕ) → IsUtf8 text → IsRead text [] 0 0 text in_.Between text
-nothing_read text u = record {
-  piece = [];
-  utf8 = u;
-  left_utf8 = u;
-  size = omega arith;
-  place = refl;
-  parts = refl;
-  count = omega arith;
-  reads = before_none (lexed_characters (chars text));
-}
-
 -- where a piece is to be cut off
 pub cut : (text : List ℕ) (done : List Lexeme) (start at : ℕ) (left : List ℕ) (mode : Mode) (rest : List ℕ) → IsRead text done start at left mode rest → IsCharBoundary left (at - start)
 cut text done start at left mode rest read =
     subst (λ n. IsCharBoundary left n) (omega (arith, read.place)) (IsCharBoundary-at_seam left read.piece rest read.parts read.utf8)
-
-pub cut_within : (text : List ℕ) (done : List Lexeme) (start at : ℕ) (left : List ℕ) (mode : Mode) (rest : List ℕ) → IsRead text done start at left mode rest → at - start ≤ length left
-cut_within text done start at left mode rest read = omega (arith, read.place, ap length read.parts, length-append read.piece rest)
 
 pub piece_is : (text : List ℕ) (done : List Lexeme) (start at : ℕ) (left : List ℕ) (mode : Mode) (rest : List ℕ) (read : IsRead text done start at left mode rest) → take (at - start) left ≡ read.piece
 piece_is text done start at left mode rest read =
@@ -178,7 +162,3 @@ pub refused_last : (text : List ℕ) (done : List Lexeme) (start at : ℕ) (left
     → lexed_characters (chars text) ≡ Err fault
 refused_last text done start at left mode rest fault read e ended_so =
     at_end text done start at left mode rest read e ∙ ap (λ o. before done (ended o start left (Ok []))) ended_so
-
--- nothing of the text is left behind the last piece
-pub last_size : (text : List ℕ) (done : List Lexeme) (start at : ℕ) (left : List ℕ) (mode : Mode) (rest : List ℕ) → IsRead text done start at left mode rest → length rest ≡ 0 → start + length left ≡ at
-last_size text done start at left mode rest read e = omega (arith, read.place, ap length read.parts, length-append read.piece rest)

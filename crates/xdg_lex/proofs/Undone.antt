@@ -11,9 +11,6 @@ pub record IsUndone (text made : List ℕ) (escaped : Bool) (rest : List ℕ) : 
   pub utf8 : IsUtf8 rest
   pub makes : made ++ encode_utf8_all (undone escaped (chars rest)) ≡ unquoted text
 
-pub nothing_undone : (text made : List ℕ) → IsUtf8 text → made ≡ [] → IsUndone text made false text
-nothing_undone text made u e = record { utf8 = u; makes = ap (λ m. m ++ unquoted text) e }
-
 more : (text made : List ℕ) (escaped next : Bool) (rest after more_made : List ℕ) (c : ℕ) → IsUndone text made escaped rest → rest ≡ encode_utf8 c ++ after
     → encode_utf8_all (undone escaped (c ∷ chars after)) ≡ more_made ++ encode_utf8_all (undone next (chars after)) → IsUndone text (made ++ more_made) next after
 more text made escaped next rest after more_made c so_far e same = record {

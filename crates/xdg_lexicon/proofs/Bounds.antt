@@ -1,5 +1,5 @@
 -- The place of words, and the limits of entries.
-use Rattle.std.proofs.Common.{◌≡◌, ℕ, zero, suc, ◌-◌, ◌^◌, ◌<◌, ◌≤◌, List, [], ◌∷◌, length, get_or, map, Option, None, Some, Ok, Err, All, false, refl, sym, ap, ◌∙◌, subst, inl, inr, arith, codes}
+use Rattle.std.proofs.Common.{◌≡◌, ℕ, zero, suc, ◌-◌, ◌^◌, ◌<◌, ◌≤◌, List, [], ◌∷◌, length, get_or, map, Option, None, Some, Err, All, false, refl, sym, ap, ◌∙◌, subst, inl, inr, arith, codes}
 use Rattle.std.specs.Prelude.{slice_get}
 use Rattle.std.proofs.lemmas.List.{length-map, get_or-map}
 use Rattle.xdg_base.specs.declared.faults.Cause.TheVariants as causes
@@ -132,9 +132,6 @@ pub few_each : (table : Table) (dim field : ℕ) (entries : List Entry) → IsTa
 few_each table dim field entries is place few d f other word =
     let same = words_once table is dim field d f place other in
     subst (λ e. count_of e f entries word ≤ 1024) same.0 (subst (λ g. count_of dim g entries word ≤ 1024) same.1 (few word))
-
-pub limits_kept : (table : Table) (entries : List Entry) (at count most : ℕ) → count ≡ length entries → count ≤ most → most ≤ 65536 → AreFewEach table entries → KeepsLimits table entries at (Ok tt)
-limits_kept table entries at count most is few bound each = (omega (arith, is, few, bound), each)
 
 abbrev fault : ℕ → ℕ → Fault
 fault at n = record { cause = causes.TooManyEntries; at = at; reached = n }

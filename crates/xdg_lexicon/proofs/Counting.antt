@@ -6,7 +6,7 @@ use Rattle.xdg_names.specs.Texts.{place_of}
 use Rattle.xdg_names.proofs.Texts.{place_of-Some}
 use Rattle.xdg_packed.specs.Lexicon.{number, numbers_of, places_of}
 use Rattle.xdg_packed.specs.Words.{IsWordIndex}
-use Rattle.xdg_packed.proofs.WordLists.{known_word, new_word, index_none, word_unknown}
+use Rattle.xdg_packed.proofs.WordLists.{known_word, new_word, word_unknown}
 use Rattle.xdg_lexicon.specs.Growing.{IsWordCount}
 use Rattle.xdg_listing.proofs.Lists.{any_default}
 
@@ -75,9 +75,6 @@ module _ (said words : List (List ℕ)) (counts : List ℕ) (word : List ℕ) (c
 
 pub as_many : (said words : List (List ℕ)) (counts : List ℕ) → IsWordCount said words counts → length counts ≡ length words
 as_many said words counts count = ap length count.counted ∙ length-map words (λ word. length (numbers_of said word))
-
-pub no_words : IsWordCount [] [] []
-no_words = record { index = index_none; counted = refl }
 
 pub inside : (words : List (List ℕ)) (word : List ℕ) (place count : ℕ) → place_of words word ≡ Some place → count ≡ length words → place < count
 inside words word place count found same = let at = place_of-Some words word place found in omega (arith, at.0, same)

@@ -1,18 +1,17 @@
 -- Partial entries made dimension after dimension.
-use Rattle.std.proofs.Common.{◌≡◌, ℕ, zero, suc, ◌<◌, ◌≤◌, ◌+◌, List, [], ◌∷◌, ◌++◌, length, take, map, get_or, refl, ap, sym, ◌∙◌, arith, inl, inr, subst}
+use Rattle.std.proofs.Common.{◌≡◌, ℕ, zero, suc, ◌<◌, ◌≤◌, ◌+◌, List, [], ◌∷◌, ◌++◌, length, get_or, ap, sym, ◌∙◌, arith, inl, inr, subst}
 use Rattle.std.proofs.Math.Seq.{get_or-append_seam}
 use Rattle.std.proofs.lemmas.Bool.{cases_eq}
-use Rattle.std.proofs.lemmas.List.{length-append, length-map, get_or_append_left, get_or_default, get_or-map, take_more, take_all}
-use Rattle.std.specs.Prelude.{Option, None, Some}
+use Rattle.std.proofs.lemmas.List.{length-append, length-map, get_or_append_left, get_or_default, get_or-map}
 use Rattle.xdg_domain.specs.Joined.{fields_in}
 use Rattle.xdg_domain.specs.Joins.{SaysBoth, JoinsField, OnSome, ClashesField}
-use Rattle.xdg_domain.specs.Shapes.{shape, IsType, AreTypes}
+use Rattle.xdg_domain.specs.Shapes.{AreTypes}
 use Rattle.xdg_domain.specs.declared.types.Ty.{Ty}
 use Rattle.xdg_types.specs.Table.{typed, AreFeatures, KeepsDim, KeepDims}
 use Rattle.xdg_types.specs.declared.table.DimType.{DimType}
 use Rattle.xdg_terms.specs.Forms.{Bindings}
 use Rattle.xdg_classes.specs.Bodies.{Pairs}
-use Rattle.xdg_lexicon.specs.Partial.{Record, Partial, features, IsDim, said_of, IsRecord, IsPartial, nothing, PartialsJoin, PartialsClash, SaysRecord, ReadsDim}
+use Rattle.xdg_lexicon.specs.Partial.{Record, Partial, features, IsDim, said_of, IsRecord, IsPartial, nothing, PartialsClash, SaysRecord, ReadsDim}
 
 -- ---- lists made one by one
 
@@ -37,6 +36,7 @@ module _ (Q : ℕ → Record → Type 0) where
 -- ---- dimensions
 
 -- at a place there is one dimension
+
 pub one_dim : (dims : List DimType) (k : ℕ) (d dim : DimType) → d ≡ get_or dims k d → IsDim dims k dim → dim ≡ d
 one_dim dims k d dim is at = sym at.1 ∙ get_or_default dims k dim d at.0 ∙ sym is
 
@@ -62,11 +62,6 @@ nothing_partial dims = record {
 abbrev pub JoinsAt : List DimType → Partial → Partial → ℕ → Record → Type 0
 JoinsAt dims a b k m = (dim : DimType) → IsDim dims k dim → SaysBoth (JoinsField (features dim)) (said_of a k) (said_of b k) m × IsRecord (features dim) m
 
-pub record_at : (dims : List DimType) (p : Partial) (k : ℕ) (d : DimType) (x m : Record) (fs : List (List ℕ × Ty)) → k < length dims → d ≡ get_or dims k d → x ≡ get_or p k x → m ≡ x → fs ≡ d.fields → IsPartial dims p → IsRecord (fields_in fs) m
-record_at dims p k d x m fs within is at same types right =
-    let long = right.count in
-    subst (λ l. IsRecord (fields_in l) m) (sym types) (subst (IsRecord (features d)) (sym (same ∙ at ∙ get_or_default p k x [] (omega (arith, within, long)))) (right.each k d (within, sym is)))
-
 pub within_partial : (dims : List DimType) (p : Partial) (k : ℕ) → k < length dims → IsPartial dims p → k < length p
 within_partial dims p k within right = (let long = right.count in omega (arith, within, long))
 
@@ -91,13 +86,6 @@ module _ (dims : List DimType) (a b : Partial) (k : ℕ) (d : DimType) (x y mine
     is = (within, sym is);
     clash = subst (λ l. OnSome (ClashesField (fields_in l)) (said_of a k) (said_of b k)) types (subst (λ z. OnSome (ClashesField (fields_in fs)) z (said_of b k)) mine_is (subst (λ z. OnSome (ClashesField (fields_in fs)) mine z) theirs_is h));
   }
-
-pub joined_whole : (dims : List DimType) (a b : Partial) (bound : ℕ) (made : Partial) → length dims ≤ bound → bound ≤ length dims → SoFar (JoinsAt dims a b) bound made → PartialsJoin dims a b made × IsPartial dims made
-joined_whole dims a b bound made low high s =
-    let long : length made ≡ length dims = (let n = s.count in omega (arith, low, high, n)) in (
-      record { count = long; each = λ k dim at. (s.each k (let w = at.0 in omega (arith, w, low)) dim at).0 },
-      record { count = long; each = λ k dim at. (s.each k (let w = at.0 in omega (arith, w, low)) dim at).1 },
-    )
 
 -- ---- entries that are read
 

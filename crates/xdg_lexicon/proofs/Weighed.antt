@@ -1,5 +1,5 @@
 -- Weights fall from step to step.
-use Rattle.std.proofs.Common.{◌≡◌, ℕ, ◌<◌, ◌+◌, List, [], ◌∷◌, ◌++◌, length, take, drop, get_or, reverse, refl, ap, sym, ◌∙◌, arith}
+use Rattle.std.proofs.Common.{◌≡◌, ℕ, ◌<◌, ◌+◌, List, [], ◌∷◌, ◌++◌, length, take, drop, get_or, reverse, ap, sym, ◌∙◌, arith}
 use Rattle.std.proofs.lemmas.List.{take_more, take_all, length-reverse}
 use Rattle.xdg_ast.specs.declared.names.Name.{Name}
 use Rattle.xdg_ast.specs.declared.expressions.ExprKind.{ExprKind}
@@ -76,10 +76,6 @@ joining_goes names items next place before e is within at =
     omega (arith, parts, same)
 
 -- ---- what is open
-
-pub none_weighs : (checked : Parts) (frames : List Frame) (depth : ℕ) → length frames ≡ 0 → heavy checked (reverse frames) depth ≡ 0
-none_weighs checked [] depth none = refl
-none_weighs checked (f ∷ fs) depth none = absurd (omega (arith, none))
 
 open_weighs : (checked : Parts) (frames : List Frame) (depth : ℕ) → 0 < length frames → 0 < heavy checked frames depth
 open_weighs checked [] depth some = absurd (omega (arith, some))

@@ -16,10 +16,6 @@ use Rattle.xdg_listing.proofs.Lists.{all_at}
 abbrev pub seen : List SentenceWord → Bool → List ℕ → Arranged
 seen words begun numbers = record { words = words; present = shown begun numbers }
 
-never : (b : Bool) → b ≡ true → b ≡ false → ⊥
-never true e k = let h : true ≡ false = k in cc
-never false e k = let h : false ≡ true = e in cc
-
 -- ---- the start
 
 -- the sorted ranks are the least arrangement
@@ -42,9 +38,6 @@ first_shown words numbers held = advances_more (record { words = words; present 
   least = λ other h a. held.least refl other h;
 })
 
-pub held_begun : (words : List SentenceWord) (begun : Bool) (numbers : List ℕ) → IsHeld words begun numbers → IsHeld words true numbers
-held_begun words begun numbers held = record { arrangement = held.arrangement; least = λ e. absurd (never true refl e) }
-
 module _ (words : List SentenceWord) (old new : List ℕ) (h : IsArrangement (ranks_of words) old) where
   next_of : IsNext old (Some old) new → IsNext (ranks_of words) (Some old) new
   next_of next = record {
@@ -57,13 +50,6 @@ module _ (words : List SentenceWord) (old new : List ℕ) (h : IsArrangement (ra
   last_of last = λ other k a. last other (arrangement_joined old (ranks_of words) other (arrangement_back (ranks_of words) old h) k) a
 
 -- a later call puts the next one in the place of the present one, or there is none
-
-pub later_held : (words : List SentenceWord) (begun : Bool) (old new : List ℕ) (more : Bool) → IsHeld words begun old → (more ≡ true → IsNext old (Some old) new) → (more ≡ false → (new ≡ old) × IsLast old (Some old)) → IsHeld words true new
-later_held words begun old new true held next last = record {
-  arrangement = arrangement_joined (ranks_of words) old new held.arrangement (next refl).arrangement;
-  least = λ e. absurd (never true refl e);
-}
-later_held words begun old new false held next last = subst (IsHeld words true) (sym (last refl).0) (held_begun words begun old held)
 
 pub later_shown : (words : List SentenceWord) (begun : Bool) (old new : List ℕ) (more : Bool) → IsHeld words begun old → (more ≡ true → IsNext old (Some old) new) → (more ≡ false → (new ≡ old) × IsLast old (Some old)) →
     Advances (record { words = words; present = Some old }) more (record { words = words; present = Some new })

@@ -27,14 +27,6 @@ falls_more xs j n e w le f =
     let small : get_or (drop n xs) 0 0 ≤ get_or xs j 0 = subst (λ k. k ≤ get_or xs j 0) (sym (first ∙ ap (λ k. get_or xs k 0) zero_more)) le in
     subst Falls (sym same) (falls_cons (get_or xs j 0) (drop n xs) small f)
 
--- one number more, which is smaller
-pub pivot_at : (xs : List ℕ) (j n : ℕ) → n ≡ j + 1 → n < length xs → get_or xs j 0 < get_or xs n 0 → Falls (drop n xs) → IsPivot xs j
-pivot_at xs j n e w less f = record {
-  within = subst (λ k. k < length xs) e w;
-  rises = subst (λ k. get_or xs j 0 < get_or xs k 0) e less;
-  falls = subst (λ k. Falls (drop k xs)) e f;
-}
-
 falls_short : (xs : List ℕ) → length xs ≤ 1 → Falls xs
 falls_short [] le = tt
 falls_short (x ∷ []) le = (tt, tt)

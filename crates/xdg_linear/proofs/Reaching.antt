@@ -27,9 +27,6 @@ same_least : (x y : List ℕ) → AtMost x y → (Less x y → ⊥) → y ≡ x
 same_least x y (inl e) n = sym e
 same_least x y (inr less) n = absurd (n less)
 
-pub passed_none : (ranks : List ℕ) → ArePassed ranks None []
-passed_none ranks = record { rises = tt; each = tt; all = λ x k. absurd (k.1 tt) }
-
 passed_more : (ranks : List ℕ) (present : Option (List ℕ)) (x : List ℕ) (xs : List (List ℕ)) → ArePassed ranks present xs → IsNext ranks present x → ArePassed ranks (Some x) (xs ++ x ∷ [])
 passed_more ranks present x xs passed next =
     let Old : List ℕ → Type 0 = λ z. IsArrangement ranks z × (IsAfter present z → ⊥) in

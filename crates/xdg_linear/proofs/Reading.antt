@@ -82,10 +82,6 @@ pub alone_within : (text : List ℕ) (done : List SentenceWord) (at : ℕ) (piec
 alone_within text done at [] h all = let P : List SentenceWord → Type 0 = All (StandsIn text) in subst P (sym (append-nil done)) all
 alone_within text done at (byte ∷ bytes) h all = All-append (StandsIn text) done (word at (byte ∷ bytes) ∷ []) all (All-cons (StandsIn text) (word at (byte ∷ bytes)) [] h (All-nil (StandsIn text)))
 
-pub nothing_read : (text : List ℕ) (piece : List ℕ) → IsUtf8 text → length piece ≡ 0 → IsRead text [] 0 piece text
-nothing_read text [] u e = record { utf8 = u; size = omega arith; reads = refl; within = All-nil (StandsIn text) }
-nothing_read text (byte ∷ bytes) u e = absurd (omega arith)
-
 -- white space ends a piece
 pub white_read : (text : List ℕ) (done : List SentenceWord) (at : ℕ) (piece rest : List ℕ) (c : ℕ) (after : List ℕ) → IsRead text done at piece rest → rest ≡ encode_utf8 c ++ after → is_whitespace c ≡ true → IsRead text (done ++ alone at piece) (at + (length piece + len_utf8 c)) [] after
 white_read text done at piece rest c after read e white =

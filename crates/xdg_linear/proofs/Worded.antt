@@ -70,17 +70,6 @@ all_stand P (text ∷ texts) each = (
   more : (j k : ℕ) → 0 < k → 0 < j + k
   more j k lt = omega arith
 
--- a text that stands among texts is one of those of which something holds
-at_text : (P : List ℕ → Type 0) (text : List ℕ) (texts : List (List ℕ)) → 0 < text_times text texts → AllByRecursion P texts → P text
-at_text P text [] some each = absurd (omega arith)
-at_text P text (other ∷ others) some each = elim (text_or other text) [
-  | inl same ↦ subst P same.1 each.0
-  | inr differs ↦ (
-      let none : text_times text (other ∷ others) ≡ 0 + text_times text others = ap (λ b. cond b 1 0 + text_times text others) differs.0 in
-      at_text P text others (omega (arith, none)) each.1
-      )
-]
-
 -- the words' texts stand among the words: those of the last words, where others stand before them
 text_within : (words : List SentenceWord) (text : List ℕ) → 0 < text_times text (texts_of words) → Stands words text
 text_within [] text some = absurd (omega arith)

@@ -1,22 +1,13 @@
 -- What has been listed when a search is about to look at c: all that it counts before c. No listing of all is assumed.
-use Rattle.std.proofs.Common.{◌≡◌, ℕ, ◌<◌, ◌≤◌, ◌+◌, inl, inr, List, [], ◌∷◌, ◌++◌, length, get_or, refl, sym, subst}
+use Rattle.std.proofs.Common.{◌≡◌, ℕ, ◌<◌, ◌+◌, inl, inr, List, [], ◌∷◌, ◌++◌, length, refl, sym, subst}
 use Rattle.std.specs.List.{AllByRecursion}
 use Rattle.xdg_listing.specs.Order.{Less, AtMost}
 use Rattle.xdg_listing.specs.Fits.{Fits}
 use Rattle.xdg_listing.specs.Listing.{Member, RisesFrom, IsListing, SoFar, Before}
 use Rattle.xdg_listing.specs.Closed.{Closed}
 use Rattle.xdg_listing.proofs.Ordered.{less_transitive, at_most_less, less_at_most, not_less, less_or, at_most_of, zero_next, less_push, past_step, extends_or_past}
-use Rattle.xdg_listing.proofs.Fitting.{past_range}
 use Rattle.xdg_listing.proofs.Exists.{rises_append, each_weaker, member_left, member_right}
 use Rattle.xdg_listing.proofs.Lists.{each_append}
-
--- where c does not come after the start, nothing is listed yet
-pub before_start : (shape : List ℕ) (P : List ℕ → Type 0) (start c : List ℕ) → AtMost c start → IsListing shape (Before P c) start []
-before_start shape P start c k = record { rises = tt; each = tt; all = λ x f b l. absurd (not_less c x (inr (at_most_less c start x k l)) b.1) }
-
--- and the same right behind the start
-pub before_first : (shape : List ℕ) (P : List ℕ → Type 0) (start : List ℕ) → IsListing shape (Before P (start ++ 0 ∷ [])) start []
-before_first shape P start = record { rises = tt; each = tt; all = λ x f b l. absurd (not_less (start ++ 0 ∷ []) x (zero_next start x l) b.1) }
 
 -- a later candidate, where nothing that is counted lies between
 pub before_later : (shape : List ℕ) (P : List ℕ → Type 0) (start c d : List ℕ) (xs : List (List ℕ)) → Less c d → ((x : List ℕ) → Fits shape x → P x → AtMost c x → AtMost d x) → IsListing shape (Before P c) start xs → IsListing shape (Before P d) start xs
@@ -33,14 +24,6 @@ refused_none P q x v closed n some px k = elim (extends_or_past (q ++ v ∷ []) 
   | inr p ↦ past_step q x v p
 ]
 
--- nothing that begins with a number out of range fits
-pub exhausted_none : (shape r x : List ℕ) (w v : ℕ) → get_or shape (length (r ++ w ∷ [])) 0 ≤ v → Fits shape x → AtMost ((r ++ w ∷ []) ++ v ∷ []) x → AtMost (r ++ (w + 1) ∷ []) x
-exhausted_none shape r x w v h f k = past_step r x w (past_range shape (r ++ w ∷ []) x v h f k)
-
--- nothing is left where the first number is out of range
-pub finished_none : (shape x : List ℕ) (v : ℕ) → get_or shape 0 0 ≤ v → Fits shape x → AtMost (v ∷ []) x → ⊥
-finished_none shape x v h f k = past_range shape [] x v h f k
-
 -- the candidate is counted: it is listed, and the next candidate is right behind it
 pub before_taken : (shape : List ℕ) (P : List ℕ → Type 0) (start c : List ℕ) (xs : List (List ℕ)) → Less start c → Fits shape c → P c → IsListing shape (Before P c) start xs → IsListing shape (Before P (c ++ 0 ∷ [])) start (xs ++ c ∷ [])
 before_taken shape P start c xs above fits pc i = record {
@@ -53,14 +36,6 @@ before_taken shape P start c xs above fits pc i = record {
       | inr k ↦ absurd (not_less (c ++ 0 ∷ []) x (zero_next c x k) b.1)
     ]
   ];
-}
-
--- at the end what has been listed is all
-pub before_end : (shape : List ℕ) (P : List ℕ → Type 0) (start c : List ℕ) (xs : List (List ℕ)) → ((x : List ℕ) → Fits shape x → P x → AtMost c x → ⊥) → IsListing shape (Before P c) start xs → IsListing shape P start xs
-before_end shape P start c xs none i = record {
-  rises = i.rises;
-  each = each_weaker (λ x. Fits shape x × Before P c x) (λ x. Fits shape x × P x) xs (λ x h. (h.0, h.1.0)) i.each;
-  all = λ x f p l. i.all x f (p, elim (less_or x c) [ inl m ↦ m | inr m ↦ absurd (none x f p m) ]) l;
 }
 
 -- the last of a list, or the start where it is empty
@@ -76,15 +51,6 @@ member_last : (start x : List ℕ) (xs : List (List ℕ)) → RisesFrom start xs
 member_last start x [] r m = absurd m
 member_last start x (y ∷ ys) r (inl e) = subst (λ z. AtMost z (last_from y ys)) (sym e) (last_rises y ys r.1)
 member_last start x (y ∷ ys) r (inr m) = member_last y x ys r.1 m
-
-last_member : (start x : List ℕ) (xs : List (List ℕ)) → Member (x ∷ xs) (last_from x xs)
-last_member start x [] = inl refl
-last_member start x (y ∷ ys) = inr (last_member start y ys)
-
-each_member : (Q : List ℕ → Type 0) (x : List ℕ) (xs : List (List ℕ)) → AllByRecursion Q xs → Member xs x → Q x
-each_member Q x [] h m = absurd m
-each_member Q x (y ∷ ys) h (inl e) = subst Q (sym e) h.0
-each_member Q x (y ∷ ys) h (inr m) = each_member Q x ys h.1 m
 
 last_below : (Q : List ℕ → Type 0) (start : List ℕ) (xs : List (List ℕ)) → Q start → AllByRecursion Q xs → Q (last_from start xs)
 last_below Q start [] q h = q

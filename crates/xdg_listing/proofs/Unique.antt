@@ -2,7 +2,6 @@
 use Rattle.std.proofs.Common.{◌≡◌, ℕ, inl, inr, List, [], ◌∷◌, refl, sym, subst}
 use Rattle.xdg_listing.specs.Order.{Less}
 use Rattle.xdg_listing.specs.Listing.{Member, RisesFrom, IsListing}
-use Rattle.xdg_listing.specs.Closed.{NoneAfter}
 use Rattle.xdg_listing.proofs.Ordered.{less_irreflexive, less_transitive}
 
 -- a member of a rising list comes after its start
@@ -35,8 +34,3 @@ listing_unique shape P a (x ∷ xs) (y ∷ ys) i j =
     ] in
     let rest : xs ≡ ys = listing_unique shape P x xs ys (listing_tail shape P a x xs i) (subst (λ z. IsListing shape P z ys) (sym same) (listing_tail shape P a y ys j)) in
     cc
-
--- where nothing is left the listing is empty
-pub listing_end : (shape : List ℕ) (P : List ℕ → Type 0) (a : List ℕ) (xs : List (List ℕ)) → IsListing shape P a xs → NoneAfter shape P a → xs ≡ []
-listing_end shape P a [] i e = refl
-listing_end shape P a (x ∷ xs) i e = absurd (e x i.each.0.0 i.each.0.1 i.rises.0)

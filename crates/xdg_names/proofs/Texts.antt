@@ -30,11 +30,6 @@ later (Some before) place e = (before, refl, cc)
 
 -- ---- one list
 
--- the same test as one of std's, for the lemmas on that
-pub has_text-list_any : (texts : List (List ℕ)) (text : List ℕ) → has_text texts text ≡ list_any (λ one. bytes_eq one text) texts
-has_text-list_any [] text = refl
-has_text-list_any (first ∷ texts) text = ap (λ b. bytes_eq first text || b) (has_text-list_any texts text)
-
 -- a text has a place just if it stands there
 pub is_some-place_of : (texts : List (List ℕ)) (text : List ℕ) → is_some (place_of texts text) ≡ has_text texts text
 is_some-place_of [] text = refl
@@ -132,14 +127,6 @@ place_of-append_right (first ∷ texts) more text e =
     ap (λ b. if b then Some 0 else option_map suc (place_of (texts ++ more) text)) n.0
     ∙ ap (option_map suc) (place_of-append_right texts more text n.1)
     ∙ past_one (length texts) (place_of more text)
-
--- a new text has the number of the texts before it
-pub place_of-new : (texts : List (List ℕ)) (text : List ℕ) → has_text texts text ≡ false → place_of (texts ++ text ∷ []) text ≡ Some (length texts)
-place_of-new texts text e =
-    let n : length texts + 0 ≡ length texts = omega arith in
-    place_of-append_right texts (text ∷ []) text e
-    ∙ ap (λ b. option_map (λ place. length texts + place) (if b then Some 0 else None)) (equal text)
-    ∙ ap Some n
 
 -- ---- texts that differ
 

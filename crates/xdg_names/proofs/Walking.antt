@@ -1,16 +1,15 @@
 -- The start of a walk, a definition that is met, and a use that is looked at.
-use Rattle.std.proofs.Common.{◌≡◌, ◌≢◌, ℕ, zero, suc, ◌+◌, ◌*◌, ◌<◌, ◌≤◌, ◌⊎◌, inl, inr, List, [], ◌∷◌, ◌++◌, length, map, get_or, refl, sym, ap, ◌∙◌, subst, arith}
-use Rattle.std.proofs.Math.ListN.{set, length-set, replicate, length-replicate, get_or-map, length-map}
+use Rattle.std.proofs.Common.{◌≡◌, ◌≢◌, ℕ, ◌+◌, ◌<◌, ◌≤◌, ◌⊎◌, inl, inr, List, [], ◌∷◌, ◌++◌, length, get_or, refl, sym, ap, ◌∙◌, subst, arith}
+use Rattle.std.proofs.Math.ListN.{set, length-set}
 use Rattle.std.specs.List.{sum_by}
 use Rattle.std.proofs.lemmas.List.Sums.{sum_by-set}
-use Rattle.std.proofs.lemmas.List.Folds.{sum_by-replicate}
 use Rattle.std.proofs.lemmas.Bool.{cases_eq}
 use Rattle.xdg_names.specs.First.{In}
 use Rattle.xdg_names.proofs.In.{in_left, in_get}
 use Rattle.xdg_names.specs.declared.graph.Use.{Use}
 use Rattle.xdg_names.specs.Leads.{uses_of, IsPath, Leads, number}
 use Rattle.xdg_names.specs.Closing.{the_use}
-use Rattle.xdg_names.specs.Walks.{IsWalking, NotBelow, IsLooked, fresh_at, unmet, itself}
+use Rattle.xdg_names.specs.Walks.{IsWalking, NotBelow, IsLooked, itself}
 use Rattle.xdg_names.proofs.Climbs.{is_last, in_parts, marked_within, set_at, climbs_push, climbs_same}
 use Rattle.xdg_names.proofs.Marks.{push_kept, marks_push}
 
@@ -23,44 +22,6 @@ leads_on g a b c h k = (h.0 ++ k.0, path_join g a h.0 b k.0 c h.1 k.1)
 
 pub leads_by : (g : List (List Use)) (a : ℕ) (u : Use) → In (uses_of g a) u → Leads g a u.to
 leads_by g a u h = (u ∷ [], (h, refl))
-
-zeros : (n a : ℕ) → number (replicate n 0) a ≡ 0
-zeros zero a = refl
-zeros (suc n) zero = refl
-zeros (suc n) (suc a) = zeros n a
-
-pub started : (g : List (List Use)) → IsWalking g (replicate (length g) 0) (map length g) [] [] [] [] 1
-started g =
-    let n : ℕ = length g in
-    let none : (a : ℕ) → 1 ≤ number (replicate n 0) a → ⊥ = λ a h. (let z : number (replicate n 0) a ≡ 0 = zeros n a in omega arith) in
-    let lefts : (a : ℕ) → number (map length g) a ≡ length (uses_of g a) = λ a. get_or-map length g a [] in
-    record {
-      marks_are = record {
-        len = length-replicate n 0;
-        on = λ p h. absurd (omega arith);
-        off = λ a h. absurd (none a (omega arith));
-        one = λ a b h e. absurd (none a (omega arith));
-        given = λ i h. absurd (omega arith);
-        rises = λ i j l h. absurd (omega arith);
-        placed = λ a h k. absurd (none a h);
-        room = (let s : unmet (replicate n 0) ≡ n * 1 = sum_by-replicate fresh_at n 0 in omega arith);
-      };
-      leads = λ a b h k nb. absurd (none a (omega arith));
-      looked = λ a k h l m. absurd (none a (omega arith));
-      down = λ a u h k i. absurd (none a h);
-      same = λ a b h k e. absurd (none a h);
-      begun = λ a h. absurd (none a (omega arith));
-      starts_on = λ s h. h;
-      starts_climb = tt;
-      path_on = λ a h. absurd h;
-      path_climbs = tt;
-      through = λ a h. absurd (none a (omega arith));
-      lefts = length-map g length;
-      fits = λ a. (let e : number (map length g) a ≡ length (uses_of g a) = lefts a in omega arith);
-      fresh = λ a h. lefts a;
-      few = omega arith;
-      least = omega arith;
-    }
 
 module _ (g : List (List Use)) (marks left stack starts path order : List ℕ) (next : ℕ) (v : IsWalking g marks left stack starts path order next) where
   -- a definition that was not met is met

@@ -4,7 +4,6 @@ use Rattle.std.specs.Prelude.{false, ◌==◌, cond}
 use Rattle.std.specs.Int.{bit_at}
 use Prim.Native.Nat.{max}
 use Rattle.std.proofs.lemmas.Bool.{cases_lt, lt-ltb, le-ltb}
-use Rattle.std.proofs.lemmas.Nat.{or_lt}
 use Rattle.std.proofs.lemmas.Nat.Bits.{bit_at_or, bit_at_cat_low, bit_at_cat_high, bit_at_above, bit_at-zero}
 use Rattle.xdg_nodeset.specs.Nodes.{has}
 use Rattle.xdg_nodeset.specs.Bits.{is_set, members}
@@ -13,9 +12,6 @@ use Rattle.xdg_nodeset.proofs.Rising.{has_of, has_beyond}
 
 no_wrap : (high : ℕ) → high < 2 ^ 64 → high * 2 ^ 64 % 2 ^ 128 ≡ high * 2 ^ 64 + 0
 no_wrap high small = omega arith
-
-pub joined_small : (low high : ℕ) → low < 2 ^ 64 → high < 2 ^ 64 → bit_or low (high * 2 ^ 64 % 2 ^ 128) < 2 ^ 128
-joined_small low high l h = or_lt 128 low (high * 2 ^ 64 % 2 ^ 128) (omega arith) (omega arith)
 
 max_zero : (x : ℕ) → max x 0 ≡ x
 max_zero x = omega arith

@@ -22,10 +22,6 @@ one_more set old to b e = (
   λ h. e ∙ (either (b == to) (has old b)).1 (elim h [ inl o ↦ inr o | inr s ↦ inl (eq-eqb b to (sym s)) ]),
 )
 
--- a table whose set at a place changes
-pub set_here : (table : List (List ℕ)) (from : ℕ) (set : List ℕ) (b : ℕ) → from < length table → In (slice_set table from set) from b ≡ (has set b ≡ true)
-set_here table from set b l = ap (λ z. has z b ≡ true) (get_or-set_same table from set [] l)
-
 pub added : (table : List (List ℕ)) (from to : ℕ) (set : List ℕ) → from < length table → ((n : ℕ) → has set n ≡ ((n == to) || has (get_or table from []) n)) → (a b : ℕ) → In (slice_set table from set) a b ↔ (In table a b ⊎ ((from ≡ a) × (to ≡ b)))
 added table from to set l more a b = elim (cases_eq a from) [
   | inl s ↦ subst (λ z. In (slice_set table from set) z b ↔ (In table z b ⊎ ((from ≡ z) × (to ≡ b)))) (sym s) (

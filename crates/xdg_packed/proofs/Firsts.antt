@@ -11,9 +11,6 @@ use Rattle.xdg_listing.proofs.Lists.{length_more}
 
 -- ---- one entry more
 
-pub firsts_none : AreFirsts [] []
-firsts_none = record { have = λ row within. absurd (omega (arith, within)); least = λ entry within. absurd (omega (arith, within)) }
-
 -- what holds of each place of a list and of the next one
 each_more : (P : ℕ → Type 0) (xs : List ℕ) (x : ℕ) → ((k : ℕ) → k < length xs → P k) → P (length xs) → (k : ℕ) → k < length (xs ++ x ∷ []) → P k
 each_more P xs x below here k within = by (cases_lt k (length xs))

@@ -1,15 +1,15 @@
 -- The different records of the first entries, while further ones are added.
 use Rattle.std.proofs.Common.{◌≡◌, ℕ, suc, ◌+◌, ◌<◌, ◌≤◌, List, [], ◌∷◌, ◌++◌, ◌⊎◌, length, get_or, take, Bool, false, not, if◌then◌else◌, refl, sym, ap, ap₂, inl, inr, subst, ◌∙◌, arith, Some, None, All}
 use Rattle.std.proofs.lemmas.List.{map-append, length-map, length-append, get_or-map}
-use Rattle.std.proofs.lemmas.List.Elements.{All-nil, All-push, All-tail, All-head, All-weaker}
+use Rattle.std.proofs.lemmas.List.Elements.{All-push, All-tail, All-head, All-weaker}
 use Rattle.std.proofs.Math.ListN.{get_or-append}
 use Rattle.std.proofs.Math.Seq.{get_or-append_seam, take-suc}
 use Rattle.xdg_names.specs.Texts.{has_text, place_of, AllDiffer}
 use Rattle.xdg_names.proofs.Texts.{place_of-Some, place_of-None, AllDiffer-append}
-use Rattle.xdg_packed.specs.Lexicon.{Record, Entry, column, Stands, KeepsEachOnce, CountsDifferent}
+use Rattle.xdg_packed.specs.Lexicon.{Record, Entry, column, Stands}
 use Rattle.xdg_packed.specs.Rows.{shown, IsTable, AreFirsts, AddsFirst, AreSpelled, IsKnownRow, IsNewRow}
 use Rattle.xdg_packed.specs.Spelling.{spelling_of_fields}
-use Rattle.xdg_packed.proofs.Firsts.{firsts_none, firsts_known, firsts_new}
+use Rattle.xdg_packed.proofs.Firsts.{firsts_known, firsts_new}
 use Rattle.xdg_packed.proofs.Prefixes.{fields_told}
 use Rattle.xdg_packed.proofs.Standing.{stands_left, stands_right, stands_last, stands_at, rows_differ}
 use Rattle.xdg_listing.proofs.Lists.{any_default}
@@ -50,9 +50,6 @@ pub record Packs (done rows : List Record) (spellings : List (List ℕ)) (firsts
   pub few : length rows ≤ length done
   pub as_many : length firsts ≡ length rows
   pub firsts_are : AreFirsts firsts places
-
-pub packs_none : Packs [] [] [] [] []
-packs_none = record { spelled = record { spelled = refl; differ = tt }; within = All-nil (λ place. place < 0); shows = refl; used = λ x h. h; few = omega arith; as_many = refl; firsts_are = firsts_none }
 
 longer : (A : Type 0) (xs : List A) (x : A) → length (xs ++ x ∷ []) ≡ length xs + 1
 longer A xs x = length-append xs (x ∷ [])
@@ -149,9 +146,6 @@ packs_table done rows spellings firsts places packs = record {
   as_many = packs.as_many;
   firsts_are = packs.firsts_are;
 }
-
-pub table_counts : (rows : List Record) (firsts places : List ℕ) (all : List Record) → IsTable rows firsts places → shown rows places ≡ all → (count : ℕ) → count ≡ length rows → CountsDifferent all count
-table_counts rows firsts places all is shows count size = (rows, subst (λ xs. KeepsEachOnce xs rows) shows is.kept, sym size)
 
 -- a spelling that has no place is added
 pub added_last : (spellings more : List (List ℕ)) (t : List ℕ) (added : Bool) → place_of spellings t ≡ None → added ≡ not (has_text spellings t) → more ≡ (if added then spellings ++ t ∷ [] else spellings) → more ≡ spellings ++ t ∷ []

@@ -22,12 +22,6 @@ NoWordField fields bound = (field : ℕ) → field < bound → IsWordField (type
 field_at : (fields : List Field) (i : ℕ) (field : Field) → i < length fields → field ≡ get_or fields i field → slice_get (typed fields) i ≡ Some (field.0, shape field.1)
 field_at fields i field within is = slice_get-map (λ (one : Field). (one.0, shape one.1)) fields i ∙ ap (option_map (λ (one : Field). (one.0, shape one.1))) (slice_get_read fields (length fields) i field refl within is)
 
-pub field_found : (fields : List Field) (i : ℕ) (field : Field) → i < length fields → field ≡ get_or fields i field → (field.0 ≡ codes "word") × (shape field.1 ≡ text) → IsWordField (typed fields) i
-field_found fields i field within is said =
-    let name : field.0 ≡ codes "word" = said.0 in
-    let type : shape field.1 ≡ text = said.1 in
-    let at = field_at fields i field within is in cc
-
 same_pair : (name : List ℕ) (s : Shape) → ◌≡◌ {A = Option (List ℕ × Shape)} (Some (name, s)) (Some (codes "word", text)) → (name ≡ codes "word") × (s ≡ text)
 same_pair name s is =
     let pair : Option (List ℕ × Shape) → List ℕ × Shape = λ o. unwrap_or o (name, s) in
@@ -53,14 +47,6 @@ pub dim_passed : (dims : List DimType) (used : List ℕ) (i : ℕ) → i < lengt
 dim_passed dims used i within none before =
     below_more (λ place. (at field : ℕ) → slice_get used place ≡ Some at → IsWordIn dims at field → ⊥) i before
     (λ at field is word. let here = slice_get-get_or used i 0 within in let same : at ≡ get_or used i 0 = cc in none field (subst (λ k. IsWordIn dims k field) same word))
-
-pub dim_found : (table : Table) (dims : List DimType) (used : List ℕ) (i field : ℕ) → dims ≡ table.dims → used ≡ table.used → i < length used → IsWordIn dims (get_or used i 0) field → IsWordPlace table i field
-dim_found table dims used i field same lent within word = record {
-  lex = word.lex;
-  used = (get_or used i 0, (ap (λ us. slice_get us i) (sym lent) ∙ slice_get-get_or used i 0 within, ap (λ ds. slice_get ds (get_or used i 0)) (sym same) ∙ word.stands));
-  name = word.name;
-  word = word.word;
-}
 
 pub no_dim_left : (table : Table) (dims : List DimType) (used : List ℕ) (i : ℕ) → dims ≡ table.dims → used ≡ table.used → length used ≤ i → NoWordBefore dims used i → (dim field : ℕ) → IsWordPlace table dim field → ⊥
 no_dim_left table dims used i same lent past before dim field place =

@@ -91,11 +91,6 @@ module _ (f : ℕ → Option Value) (keys key : ℕ) (all : List (ℕ × Value))
       sym (ap (after all) (none_and key rest)) ∙ ap (λ o. after all (field_and_defaults key o rest)) has ∙ split
 
 -- all keys are filled
-pub keys_done : (f : ℕ → Option Value) (keys key : ℕ) (all : List (ℕ × Value)) → key ≡ keys → after all (each_key f (range_with_len key (keys - key))) ≡ each_key f (range_with_len 0 keys) → Some all ≡ each_key f (range_with_len 0 keys)
-keys_done f keys key all end so_far =
-    let e : keys - key ≡ 0 = omega (arith, end) in
-    let nothing : each_key f (range_with_len key (keys - key)) ≡ Some [] = ap (λ n. each_key f (range_with_len key n)) e in
-    ap Some (sym (append-nil all)) ∙ sym (ap (after all) nothing) ∙ so_far
 
 -- one key of a valency more
 pub cards_more : (m : List (ℕ × List ℕ)) (key : ℕ) → filled_cards key m ++ (key, or_zero (said_at m key)) ∷ [] ≡ filled_cards (key + 1) m

@@ -1,5 +1,5 @@
 -- Packed entries are the entries.
-use Rattle.std.proofs.Common.{◌≡◌, ℕ, zero, suc, ◌+◌, ◌-◌, ◌^◌, ◌<◌, ◌≤◌, List, [], ◌∷◌, ◌++◌, length, get_or, map, refl, sym, ap, ap₂, subst, ◌∙◌, arith, All, Some, None}
+use Rattle.std.proofs.Common.{◌≡◌, ℕ, suc, ◌+◌, ◌-◌, ◌^◌, ◌<◌, ◌≤◌, List, [], ◌∷◌, ◌++◌, length, get_or, map, refl, sym, ap, ap₂, subst, ◌∙◌, arith, All, Some, None}
 use Rattle.std.specs.List.{range_with_len}
 use Rattle.std.proofs.lemmas.List.{length-map}
 use Rattle.std.proofs.lemmas.List.FromFn.{length-map-range_with_len, get_or-map-range_with_len, map-range_with_len_more}
@@ -47,17 +47,6 @@ unpacked_columns entries tables count equal are size =
     ∙ all_places (λ n. map (λ table. get_or table n []) (columns entries)) [] entries count size (entry_back entries equal)
 
 -- ---- tables
-
-has_dim : (entry : Entry) (dim field : ℕ) → HasWord dim field entry → dim < length entry
-has_dim [] dim field said = absurd said
-has_dim (fields ∷ entry) zero field said = omega arith
-has_dim (fields ∷ entry) (suc dim) field said = let w = has_dim entry dim field said in omega (arith, w)
-
-pub have_dim : (entries : List Entry) (dim field : ℕ) → All (HasWord dim field) entries → All (λ entry. dim < length entry) entries
-have_dim entries dim field words = λ k d within. has_dim (get_or entries k d) dim field (words k d within)
-
-pub wide : (entries : List Entry) (dim most : ℕ) → AreAsLong entries → most ≡ width entries → dim < most → All (λ entry. dim < length entry) entries
-wide entries dim most equal is inside = λ k d within. let same = equal k d within in omega (arith, same, is, inside)
 
 pub counts_more : (tables : List (List Record)) (rows : ℕ) (table : List Record) (here : ℕ) → CountsRows tables rows → CountsDifferent table here → CountsRows (tables ++ table ∷ []) (rows + here)
 counts_more [] rows table here none counts = (here, 0, counts, refl, omega (arith, none))

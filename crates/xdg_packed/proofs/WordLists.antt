@@ -183,12 +183,6 @@ place_within said words numbers word place index found =
 
 -- ---- the loop over entries
 
-pub index_none : IsWordIndex [] [] []
-index_none = record { differ = tt; all = λ word. refl; numbered = refl }
-
-pub as_many : (said words : List (List ℕ)) (numbers : List (List EntryNo)) → IsWordIndex said words numbers → length numbers ≡ length words
-as_many said words numbers index = ap length index.numbered ∙ length-map words (numbers_of said)
-
 pub words_more : (dim field : ℕ) (entries : List Entry) (i : ℕ) (entry : Entry) → i < length entries → get_or entries i entry ≡ entry → map (word_of dim field) (take (i + 1) entries) ≡ map (word_of dim field) (take i entries) ++ word_of dim field entry ∷ []
 words_more dim field entries i entry within is =
     let next : i + 1 ≡ suc i = omega arith in

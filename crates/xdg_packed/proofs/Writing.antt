@@ -1,11 +1,10 @@
 -- What is written of a spelling, piece by piece.
-use Rattle.std.proofs.Common.{◌≡◌, ℕ, suc, ◌+◌, ◌-◌, ◌/◌, ◌%◌, ◌<◌, ◌≤◌, true, false, cond, List, [], ◌∷◌, ◌++◌, drop, get_or, length, filter, refl, sym, ap, ◌∙◌, arith}
+use Rattle.std.proofs.Common.{◌≡◌, ℕ, suc, ◌+◌, ◌-◌, ◌/◌, ◌%◌, ◌<◌, ◌≤◌, true, false, cond, List, [], ◌∷◌, ◌++◌, filter, refl, sym, ap, ◌∙◌, arith}
 use Rattle.std.proofs.lemmas.List.{append_assoc}
-use Rattle.std.proofs.Math.Seq.{drop-cons}
 use Rattle.std.specs.Prelude.{codes}
 use Rattle.std.specs.List.{range_with_len}
 use Rattle.xdg_domain.specs.Cards.{has, IsCards, numbers_below}
-use Rattle.xdg_packed.specs.Spelling.{digits, number, numbers, each, keyed}
+use Rattle.xdg_packed.specs.Spelling.{digits, number, numbers, each}
 use Rattle.xdg_packed.proofs.Digits.{digits_next}
 
 -- ---- numbers
@@ -40,20 +39,6 @@ element_written code now marked after whole x rest m e h =
     ap (λ l. l ++ each code rest) (e ∙ ap (λ l. l ++ code x) m ∙ append_assoc now (codes ",") (code x))
     ∙ append_assoc now (codes "," ++ code x) (each code rest)
     ∙ h
-
--- the same at a place of a list
-pub element_at : {A : Type 0} (code : A → List ℕ) (now marked after whole : List ℕ) (xs : List A) (i : ℕ) (x : A) → i < length xs → get_or xs i x ≡ x → marked ≡ now ++ codes "," → after ≡ marked ++ code x → now ++ each code (drop i xs) ≡ whole → after ++ each code (drop (i + 1) xs) ≡ whole
-element_at code now marked after whole xs i x within is m e h =
-    let next : i + 1 ≡ suc i = omega arith in
-    let opened : drop i xs ≡ x ∷ drop (i + 1) xs = drop-cons xs i x within ∙ ap (λ y. y ∷ drop (suc i) xs) is ∙ ap (λ k. x ∷ drop k xs) (sym next) in
-    element_written code now marked after whole x (drop (i + 1) xs) m e (sym (ap (λ l. now ++ each code l) opened) ∙ h)
-
--- the same of a key and what is said of it
-pub entry_at : {A : Type 0} (code : A → List ℕ) (now marked keys after whole : List ℕ) (xs : List (ℕ × A)) (i : ℕ) (x : ℕ × A) → i < length xs → get_or xs i x ≡ x
-    → marked ≡ now ++ codes "," → keys ≡ marked ++ number x.0 → after ≡ keys ++ code x.1 → now ++ keyed code (drop i xs) ≡ whole → after ++ keyed code (drop (i + 1) xs) ≡ whole
-entry_at code now marked keys after whole xs i x within is m k e h =
-    element_at (λ entry. number entry.0 ++ code entry.1) now marked after whole xs i x within is m
-    (e ∙ ap (λ l. l ++ code x.1) k ∙ append_assoc marked (number x.0) (code x.1)) h
 
 -- the semicolon
 pub end_written : {A : Type 0} (code : A → List ℕ) (now after whole : List ℕ) (rest : List A) → rest ≡ [] → after ≡ now ++ codes ";" → now ++ each code rest ≡ whole → after ≡ whole

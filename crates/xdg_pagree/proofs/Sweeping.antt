@@ -12,9 +12,6 @@ use Rattle.xdg_propcore.specs.Sweeps.{Sweeps, TakesInside}
 use Rattle.xdg_propcore.proofs.Sweeping.{group_stays, sweeps_skip, sweeps_taken, takes_now}
 use Rattle.xdg_pagree.specs.Places.{NoneLacks, NoneBelow}
 
-pub none_first : (d : ℕ) (Lacks : List (List Bool) → ℕ → Type 0) (box : List (List Bool)) → NoneBelow 0 d Lacks box
-none_first d Lacks box v l = absurd (omega (arith, l))
-
 pub none_next : (k d : ℕ) (Lacks : List (List Bool) → ℕ → Type 0) (box : List (List Bool)) → NoneBelow k d Lacks box → (Has box d k → Lacks box k → ⊥) → NoneBelow (k + 1) d Lacks box
 none_next k d Lacks box before here v l has lacks = elim (cases_lt v k) [
   | inl less ↦ before v less has lacks
@@ -47,6 +44,7 @@ module _ (group : Group) (D : Parts → ℕ) (L : Parts → List (List Bool) →
       (λ before not. none_next k (D old.parts) (L old.parts) new.now before (λ has lacks. not has))
 
 -- all values were seen
+
 pub loop_end : (group : Group) (D : Parts → ℕ) (L : Parts → List (List Bool) → ℕ → Type 0) (k : ℕ) (p : Progress) (old : State) (q : Progress) (mid : State) → Sweeps group (NoneBelow k (D old.parts) (L old.parts)) p old q mid → ((v : ℕ) → Has mid.now (D mid.parts) v → v < k) → Sweeps group (NoneLacks (D old.parts) (L old.parts)) p old q mid
 loop_end group D L k p old q mid a within = sweeps_skip group (NoneBelow k (D old.parts) (L old.parts)) (NoneLacks (D old.parts) (L old.parts)) p old q mid a
     (λ none. none_last k (D old.parts) (L old.parts) mid.now (subst (λ parts. (v : ℕ) → Has mid.now (D parts) v → v < k) a.goes.extends.same within) none)

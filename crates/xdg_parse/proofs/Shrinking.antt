@@ -2,7 +2,7 @@
 use Rattle.std.proofs.Common.{◌≡◌, ℕ, zero, suc, ◌+◌, ◌≤◌, Bool, true, false, ◌||◌, ◌&&◌, if◌then◌else◌, List, [], ◌∷◌, length, Ok, Err, refl, ap, arith}
 use Rattle.xdg_base.specs.declared.places.Span.{Span}
 use Rattle.xdg_ast.specs.Lexemes.{Lexeme}
-use Rattle.xdg_ast.specs.Language.{Language, Kinds, kind_of, sees, start_of, State, Outcome, ◌>>=◌, skip, next, read_token, token, nothing, bind, both, either, items, many, full, room, read_nested, nested, spanned}
+use Rattle.xdg_ast.specs.Language.{Language, Kinds, kind_of, sees, start_of, State, Outcome, ◌>>=◌, skip, next, read_token, token, nothing, bind, either, items, many, full, room, read_nested, nested, spanned}
 use Rattle.xdg_parse.specs.Steadiness.{at, least, Shrinks}
 use Rattle.xdg_parse.proofs.Items.{Shortens}
 
@@ -69,9 +69,6 @@ bind_shrinks f l m example a b e = record {
       let i = least-and l.empty example.empty in
       omega arith;
 }
-
-pub both_shrinks : {A B C : Type 0} (f : A → B → C) (l : Language A) (m : Language B) → Shrinks l → Shrinks m → Shrinks (both f l m)
-both_shrinks f l m a b = bind_shrinks f l (λ _. m) m a (λ _. b) (λ _. refl)
 
 either-shrinks-at : {A : Type 0} (l m : Language A) → Shrinks l → Shrinks m → (v : Bool) (s : State) (x : A) (s' : State) → (if v then l.read s else m.read s) ≡ Ok (x, s') → length s'.left + least (l.empty || m.empty) ≤ length s.left
 either-shrinks-at l m a b true s x s' r = let p = a.by s x s' r in let i = least-or l.empty m.empty in omega (arith, i.0)

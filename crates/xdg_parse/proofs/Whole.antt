@@ -12,7 +12,7 @@ use Rattle.xdg_ast.specs.Brackets.{is_opening, is_closing, past, walk}
 use Rattle.xdg_ast.specs.Derives.{DerivesWithin, Derives, most_brackets, IsShallow, place_of, Ends, IsUnexpectedAt, IsTooDeepAt, IsRefused, unexpected, too_deep}
 use Rattle.xdg_parse.specs.Steadiness.{at}
 use Rattle.xdg_parse.specs.Laws.{Says, Law}
-use Rattle.xdg_parse.proofs.Laws.{balanced, one, some-same, some-from}
+use Rattle.xdg_parse.proofs.Laws.{one, some-same, some-from}
 use Rattle.xdg_parse.proofs.SteadyRules.{statements_steady}
 use Rattle.xdg_parse.proofs.RulesStatements.{statements_rule}
 
@@ -44,14 +44,6 @@ read-in m k ts g h =
     let l = statements_law (m + k) m in
     let r = l.complete ts g 0 [] h (raise ts m m k (l.fits ts g h)) refl in
     ap (λ us. (statements (m + k)).read (at 0 us)) (sym (append-nil ts)) ∙ r
-
-pub read-shallow : (ts : List Lexeme) (m : ℕ) (g : List Statement) → (statements m).means ts g → IsShallow ts → (statements 64).read (at 0 ts) ≡ Ok (g, at (ended_by 0 ts) [])
-unfolding kind_of
-read-shallow ts m g h w =
-    let l = statements_law 64 m in
-    let k : w.0 ≡ 64 = balanced ts m 64 w.0 (l.fits ts g h) w.1 in
-    let r = l.complete ts g 0 [] h (w.1 ∙ ap Some k) refl in
-    ap (λ us. (statements 64).read (at 0 us)) (sym (append-nil ts)) ∙ r
 
 -- ---- what the outcome says of the text
 
@@ -181,11 +173,6 @@ module _ (ts : List Lexeme) (end : ℕ) (start : State) (starts_at : start ≡ a
 -- ---- the two ways to say that no bracket is one too many
 
 -- tokens that derive a grammar within 64 brackets open no bracket too many
+
 pub shallow : (ts : List Lexeme) (g : Grammar) → DerivesWithin most_brackets ts g → IsShallow ts
 shallow ts g h = (64, (statements_law 64 64).fits ts g.statements h.0)
-
--- and tokens that open none too many derive it so, if they derive it at all
-pub derives_within : (ts : List Lexeme) (g : Grammar) → Derives ts g → IsShallow ts → DerivesWithin most_brackets ts g
-derives_within ts g d w =
-    let h = was-read ts g.statements (at (ended_by 0 ts) []) (read-shallow ts d.0 g.statements d.1.0 w) refl in
-    (h.0, d.1.1)

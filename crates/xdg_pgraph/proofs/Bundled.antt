@@ -1,5 +1,5 @@
 -- The rules of valency, bundle by bundle.
-use Rattle.std.proofs.Common.{◌≡◌, ℕ, ◌<◌, ◌≤◌, ◌+◌, ◌⊎◌, inl, inr, Bool, List, refl, sym, ◌∙◌, subst, arith}
+use Rattle.std.proofs.Common.{◌≡◌, ℕ, ◌<◌, ◌+◌, ◌⊎◌, inl, inr, Bool, List, refl, sym, ◌∙◌, subst, arith}
 use Rattle.std.proofs.lemmas.Bool.{cases_lt}
 use Rattle.xdg_problem.specs.declared.analysis.Edge.{Edge}
 use Rattle.xdg_problem.specs.declared.parts.Group.{Group}
@@ -106,26 +106,14 @@ next_both group Done Next M p old q mid r new a b next =
     let both = sweeps_both group Done (M old.parts) p old q mid r new a (subst (λ parts. Sweeps group (M parts) q mid r new) a.goes.extends.same b) in
     sweeps_skip group (λ box. Done box × M old.parts box) Next p old r new both (λ done. next new.now done.0 done.1)
 
-pub labels_first : (parts : Parts) (group : Group) (node : ℕ) (box : List (List Bool)) → AreLabelsDone 0 parts group node box
-labels_first parts group node box l less = absurd (omega (arith, less))
-
 pub labels_next : (k : ℕ) (parts : Parts) (group : Group) (node : ℕ) (box : List (List Bool)) → AreLabelsDone k parts group node box → IsLabelDone parts group node k box → AreLabelsDone (k + 1) parts group node box
 labels_next k parts group node box before here l less = elim (cases_lt l k) [
   | inl below ↦ before l below
   | inr past ↦ (let e : l ≡ k = omega (arith, less, past) in subst (λ m. IsLabelDone parts group node m box) (sym e) here)
 ]
 
-pub labels_last : (k labels : ℕ) (parts : Parts) (group : Group) (node : ℕ) (box : List (List Bool)) → labels ≤ k → AreLabelsDone k parts group node box → AreLabelsDone labels parts group node box
-labels_last k labels parts group node box all before l less = before l (omega (arith, less, all))
-
-pub nodes_first : (labels : ℕ) (parts : Parts) (group : Group) (box : List (List Bool)) → AreNodesDone 0 labels parts group box
-nodes_first labels parts group box n less = absurd (omega (arith, less))
-
 pub nodes_next : (k labels : ℕ) (parts : Parts) (group : Group) (box : List (List Bool)) → AreNodesDone k labels parts group box → AreLabelsDone labels parts group k box → AreNodesDone (k + 1) labels parts group box
 nodes_next k labels parts group box before here n less = elim (cases_lt n k) [
   | inl below ↦ before n below
   | inr past ↦ (let e : n ≡ k = omega (arith, less, past) in subst (λ m. AreLabelsDone labels parts group m box) (sym e) here)
 ]
-
-pub nodes_last : (k count labels : ℕ) (parts : Parts) (group : Group) (box : List (List Bool)) → count ≤ k → AreNodesDone k labels parts group box → AreNodesDone count labels parts group box
-nodes_last k count labels parts group box all before n less = before n (omega (arith, less, all))

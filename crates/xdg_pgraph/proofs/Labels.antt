@@ -1,7 +1,7 @@
 -- The rule of labels step by step, and rules together.
-use Rattle.std.proofs.Common.{◌≡◌, ℕ, ◌+◌, ◌<◌, ◌⊎◌, inl, inr, Bool, true, false, List, sym, ◌∙◌, subst, arith}
+use Rattle.std.proofs.Common.{◌≡◌, ℕ, ◌+◌, ◌<◌, ◌⊎◌, inl, inr, Bool, true, List, sym, ◌∙◌, subst, arith}
 use Rattle.std.specs.Prelude.{Contains}
-use Rattle.std.proofs.lemmas.Bool.{cases_eq, false≢true}
+use Rattle.std.proofs.lemmas.Bool.{cases_eq}
 use Rattle.xdg_problem.specs.declared.analysis.Edge.{Edge}
 use Rattle.xdg_problem.specs.declared.parts.Group.{Group}
 use Rattle.xdg_problem.specs.declared.parts.Parts.{Parts}
@@ -158,8 +158,6 @@ module _ (dim : ℕ) (a b c e f : Progress) (s t u v w : State) where
 -- ---- all rules of a dag
 
 -- a rule that isn't asked for
-pub unwanted_runs : (A : Parts → Group → List (List Bool) → ℕ → ℕ → Type 0) (dim : ℕ) (p : Progress) (s : State) (wanted : Bool) → wanted ≡ false → RunsFor (λ parts group box d v. (wanted ≡ true) × A parts group box d v) dim p s p s
-unwanted_runs A on_dim p s wanted no_more group is on takes = runs_none (λ box d v. (wanted ≡ true) × A s.parts group box d v) group p s (λ d v a. false≢true (sym no_more ∙ a.0))
 
 -- a rule that is
 pub wanted_runs : (A : Parts → Group → List (List Bool) → ℕ → ℕ → Type 0) (dim : ℕ) (p q : Progress) (s t : State) (wanted : Bool) → wanted ≡ true → RunsFor A dim p s q t → RunsFor (λ parts group box d v. (wanted ≡ true) × A parts group box d v) dim p s q t

@@ -39,9 +39,6 @@ use Rattle.xdg_listing.proofs.Lists.{contains_more}
 
 -- ---- how many edges lead into a node
 
-into_node : ℕ → Edge → Bool
-into_node w e = e.daughter.0 == w
-
 at_most_one : (ys : List Edge) (f : Edge) → Ordered Before ys → ((e : Edge) → Contains ys e → f ≡ e) → length ys ≤ 1
 at_most_one [] f ordered each = omega arith
 at_most_one (a ∷ []) f ordered each = omega arith

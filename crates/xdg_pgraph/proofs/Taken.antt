@@ -28,10 +28,6 @@ ToNodeBelow v m e = ToNode v e × (e.mother.0 < m)
 pub aims_like : (parts : Parts) (dim : ℕ) (others : Found) (P Q : Edge → Type 0) → ((e : Edge) → IsPlaceOn parts dim e → P e → Q e) → (d v : ℕ) → Aims parts dim others P d v → Aims parts dim others Q d v
 aims_like parts dim others P Q to d v a = record { place = a.place; is = a.is; aimed = to a.place a.is a.aimed; other = a.other; says = a.says }
 
--- aims at fewer edges, or none
-pub aims_none : (parts : Parts) (dim : ℕ) (others : Found) (P : Edge → Type 0) → ((e : Edge) → P e → ⊥) → (d v : ℕ) → Aims parts dim others P d v → ⊥
-aims_none parts dim others P none d v a = none a.place a.aimed
-
 module _ (parts : Parts) (plane : Plane) (others : Found) (p q r : Progress) (old mid new : State) (same : old.parts ≡ parts) (is : IsPlane parts plane) where
   abbrev dim : ℕ
   dim = plane.dim.0

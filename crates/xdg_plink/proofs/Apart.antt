@@ -1,5 +1,5 @@
 -- What keeps two edges apart, at one place.
-use Rattle.std.proofs.Common.{◌≡◌, ℕ, ◌<◌, ◌≤◌, ◌+◌, ◌↔◌, inl, inr, Bool, true, false, IsTrue, List, refl, ap, sym, ◌∙◌, arith, subst}
+use Rattle.std.proofs.Common.{◌≡◌, ℕ, ◌<◌, ◌≤◌, ◌+◌, ◌↔◌, inl, inr, Bool, true, IsTrue, List, refl, ap, sym, ◌∙◌, arith, subst}
 use Rattle.std.specs.Prelude.{Contains}
 use Rattle.std.proofs.lemmas.Bool.{cases_lt, false≢true}
 use Rattle.xdg_problem.specs.declared.analysis.Edge.{Edge}
@@ -8,7 +8,7 @@ use Rattle.xdg_problem.specs.declared.parts.Parts.{Parts}
 use Rattle.xdg_problem.specs.declared.parts.Principle.TheVariants as principles
 use Rattle.xdg_problem.specs.Analyses.{IsPlace}
 use Rattle.xdg_problem.specs.Arguments.{first_dim, second_dim}
-use Rattle.xdg_problem.specs.Boxes.{Has, IsBox, LiesIn, Must, edge_decision, entry_decision}
+use Rattle.xdg_problem.specs.Boxes.{Has, IsBox, Must, edge_decision}
 use Rattle.xdg_problem.specs.Features.{set_row}
 use Rattle.xdg_problem.specs.Places.{edge}
 use Rattle.xdg_problem.specs.Problems.{IsGroup}
@@ -128,9 +128,6 @@ none_joins_next parts box dim u v k before here label l must = elim (cases_lt la
   | inr past ↦ (let e : label ≡ k = omega (arith, l, past) in here (subst (λ i. Must parts box (edge dim u i v)) e must))
 ]
 
-pub none_joins : (parts : Parts) (box : List (List Bool)) (dim u v k n : ℕ) → n ≤ k → NoneJoins parts box dim u v k → IsTrue false ↔ MustJoin parts box dim u v n
-none_joins parts box dim u v k n all none = (λ t. absurd (false≢true t), λ (label, l, must). absurd (none label (omega (arith, l, all)) must))
-
 pub one_joins : (parts : Parts) (box : List (List Bool)) (dim u v label n : ℕ) → label < n → Must parts box (edge dim u label v) → IsTrue true ↔ MustJoin parts box dim u v n
 one_joins parts box dim u v label n l must = (λ t. (label, l, must), λ m. refl)
 
@@ -142,20 +139,6 @@ SecondBelow parts place dim k box = (label : ℕ) → label < k → Has box (edg
 
 new_box : (group : Group) (p q : Progress) (old new : State) → Goes group p old q new → Known new → IsBox (shape old.parts) new.now
 new_box group p q old new goes known = subst (λ parts. IsBox (shape parts) new.now) goes.extends.same known.is_box
-
-pub can_later : (group : Group) (place : Edge) (p q : Progress) (old new : State) → CanPart group place old → Goes group p old q new → Known new → CanPart group place new
-can_later group place p q old new can goes known = (
-  record {
-    known = known;
-    group_is = subst (λ parts. IsGroup parts group) (sym goes.extends.same) can.0.group_is;
-    place_is = subst (λ parts. IsPlace parts place) (sym goes.extends.same) can.0.place_is;
-    on = can.0.on;
-  },
-  can.1,
-)
-
-pub asks_later : (group : Group) (place : Edge) (old new : List (List Bool)) → LiesIn new old → AsksApart group place old → AsksApart group place new
-asks_later group place old new lies asks c remains = asks c (lies (entry_decision place.mother.0) c remains)
 
 module _ (group : Group) (place : Edge) (p : Progress) (old : State) (can : CanPart group place old) where
   -- the entries don't ask

@@ -1,12 +1,9 @@
 -- A whole step.
-use Rattle.std.proofs.Common.{◌≡◌, ◌↔◌, ℕ, ◌<◌, Bool, List, length, get_or, sym, ◌∙◌, ap, subst, arith}
+use Rattle.std.proofs.Common.{◌≡◌, ◌↔◌, ℕ, ◌<◌, Bool, List, length, get_or, sym, ◌∙◌, ap, subst}
 use Rattle.std.proofs.lemmas.List.{get_or_default}
 use Rattle.xdg_problem.specs.declared.parts.Group.{Group}
 use Rattle.xdg_problem.specs.declared.parts.Parts.{Parts}
-use Rattle.xdg_problem.specs.declared.parts.Principle.{Principle}
-use Rattle.xdg_problem.specs.declared.parts.Principle.TheVariants as principles
-use Rattle.xdg_problem.specs.Arguments.{second_dim}
-use Rattle.xdg_problem.specs.Problems.{IsGroup, IsProblem, dim_arguments}
+use Rattle.xdg_problem.specs.Problems.{IsGroup, IsProblem}
 use Rattle.xdg_problem.specs.Places.{nodes}
 use Rattle.xdg_problem.specs.Boxes.{IsBox}
 use Rattle.xdg_problem.specs.Vectors.{shape}
@@ -19,11 +16,10 @@ use Rattle.xdg_propcore.specs.declared.moved.Moved.{Moved}
 use Rattle.xdg_propcore.specs.declared.moved.Moved.TheVariants as moves
 use Rattle.xdg_propcore.proofs.Passing.{step_extends, step_keeps, step_moves, step_same, turned}
 use Rattle.xdg_plink.specs.Family.{IsLinking}
-use Rattle.xdg_plink.specs.Kept.{link_kinds}
-use Rattle.xdg_plink.specs.Standing.{AreSmall, stands_for}
+use Rattle.xdg_plink.specs.Standing.{stands_for}
 use Rattle.xdg_propcore.specs.Sweeps.{Sweeps}
-use Rattle.xdg_plink.specs.Steps.{AreMothersDone, IsExact, IsReady}
-use Rattle.xdg_plink.specs.Ways.{Covers, way_of, Keeps as Only}
+use Rattle.xdg_plink.specs.Steps.{AreMothersDone, IsExact}
+use Rattle.xdg_plink.specs.Ways.{Keeps as Only}
 use Rattle.xdg_plink.specs.declared.way.Way.{Way}
 use Rattle.xdg_plink.specs.declared.link_prop.LinkProp.{LinkProp}
 use Rattle.xdg_plink.proofs.Closing.{all_done}
@@ -41,50 +37,7 @@ use_found parts shown problem mid groups number item within same is was list at 
 pub keeps_as : (parts : Parts) (box : List (List Bool)) (way way2 : Way) (dim dim2 : ℕ) (table : List (List ℕ)) → way ≡ way2 → dim ≡ dim2 → Only way (may_edges parts box dim) table → Only way2 (may_edges parts box dim2) table
 keeps_as parts box way way2 dim dim2 table p q h = subst (λ w. Only w (may_edges parts box dim2) table) p (subst (λ i. Only way (may_edges parts box i) table) q h)
 
-pub covers_as : (parts : Parts) (box : List (List Bool)) (way way2 : Way) (dim dim2 : ℕ) (table : List (List ℕ)) → way ≡ way2 → dim ≡ dim2 → Covers way (may_edges parts box dim) table → Covers way2 (may_edges parts box dim2) table
-covers_as parts box way way2 dim dim2 table p q h = subst (λ w. Covers w (may_edges parts box dim2) table) p (subst (λ i. Covers way (may_edges parts box i) table) q h)
-
 -- ---- dimensions
-
-two_dims : (p : Principle) → IsLinking p → 1 < dim_arguments p
-two_dims principles.LinkingEnd f = omega arith
-two_dims principles.LinkingDaughter f = omega arith
-two_dims principles.LinkingMother f = omega arith
-two_dims principles.LinkingBelowStart f = omega arith
-two_dims principles.LinkingAboveStart f = omega arith
-two_dims principles.LinkingSisters f = omega arith
-two_dims principles.LinkingNotDaughter f = omega arith
-two_dims principles.Graph f = absurd f
-two_dims principles.Entries f = absurd f
-two_dims principles.Tree f = absurd f
-two_dims principles.Dag f = absurd f
-two_dims principles.Valency f = absurd f
-two_dims principles.Order f = absurd f
-two_dims principles.Projectivity f = absurd f
-two_dims principles.Agr f = absurd f
-two_dims principles.Agreement f = absurd f
-two_dims principles.Government f = absurd f
-two_dims principles.Climbing f = absurd f
-two_dims principles.Barriers f = absurd f
-two_dims (principles.Rule formula) f = absurd f
-two_dims (principles.Bound costs bound) f = absurd f
-
-pub are_small : (parts : Parts) (group : Group) → IsProblem parts → IsGroup parts group → IsLinking group.principle → AreSmall group
-are_small parts group problem is linking =
-    let n = is.dims_count in
-    let m = two_dims group.principle linking in
-    let most = problem.dims_most in
-    let a = is.dims 0 (record { 0 = 0 }) (omega (arith, n, m)) in
-    let b = is.dims 1 (record { 0 = 0 }) (omega (arith, n, m)) in
-    (omega (arith, a, most), omega (arith, b, most))
-
--- what the code made stands for its principle use
-pub made_stands : (p : LinkProp) (parts : Parts) (number : ℕ) (item : Group) → number < length parts.groups → IsLinking (use_at parts number).principle → use_at parts number ≡ item → number ≡ p.number → p.wakes.0 ≡ link_kinds item → StandsFor (stands_for p) parts number
-made_stands p parts number item within linking use_is same wakes = (within, (same, linking, wakes ∙ ap link_kinds (sym use_is)))
-
--- the search can begin
-pub ready_first : (group : Group) (table : List (List ℕ)) (s : State) → Known s → IsGroup s.parts group → IsLinking group.principle → Covers (way_of group.principle) (may_edges s.parts s.now (second_dim group)) table → IsReady group table s
-ready_first group table s known is linking covers = record { known = known; group_is = is; linking = linking; covers = covers }
 
 pub group_of : (parts : Parts) (number : ℕ) (item : Group) → IsProblem parts → number < length parts.groups → use_at parts number ≡ item → IsGroup parts item
 group_of parts number item problem within same = subst (IsGroup parts) same (problem.groups number no_use within)

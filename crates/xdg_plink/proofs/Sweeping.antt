@@ -24,12 +24,11 @@ use Rattle.xdg_propcore.specs.Passes.{Progress, Goes}
 use Rattle.xdg_propcore.proofs.Sweeping.{sweeps_next, sweeps_skip, sweeps_start}
 use Rattle.xdg_plink.specs.Family.{IsLinking, Reaches}
 use Rattle.xdg_propcore.specs.Sweeps.{Sweeps}
-use Rattle.xdg_plink.specs.Steps.{AreLabelsDone, AreMothersDone, AreNodesDone, DoneAt, IsAtPlace, IsCut, IsDoneAt, IsExact, IsOnPlace, IsReady, TakesAt}
+use Rattle.xdg_plink.specs.Steps.{AreLabelsDone, AreMothersDone, AreNodesDone, DoneAt, IsCut, IsDoneAt, IsExact, IsReady, TakesAt}
 use Rattle.xdg_graph.specs.Edges.{edge_labels}
 use Rattle.xdg_plink.specs.Ways.{Covers, way_of}
 use Rattle.xdg_plink.specs.declared.way.Way.{Way}
 use Rattle.xdg_plink.specs.declared.way.Way.TheVariants as ways
-use Rattle.xdg_graph.proofs.Labelled.{place_between}
 use Rattle.xdg_plink.proofs.Linking.{linked_led, led_linked}
 
 -- ---- what the table covers
@@ -216,42 +215,3 @@ place_of (principles.Bound costs bound) f parts group b place d v t = absurd f
 
 pub same_node : (group : Group) (table : List (List ℕ)) (p : Progress) (s : State) (u label v : ℕ) → IsReady group table s → u ≡ v → Sweeps group (DoneAt s.parts group table (edge (first_dim group) u label v)) p s p s
 same_node group table p s u label v ready same = sweeps_start group (DoneAt s.parts group table (edge (first_dim group) u label v)) p s ready.known (λ exact d x has takes. (is_place s.parts (edge (first_dim group) u label v) (place_of group.principle ready.linking s.parts group s.now (edge (first_dim group) u label v) d x takes)).differ same)
-
--- of the linking principles the others ask for edges
-pub apart_else : (p : Principle) → IsLinking p → (Reaches p → ⊥) → p ≡ principles.LinkingNotDaughter
-apart_else principles.LinkingNotDaughter f n = refl
-apart_else principles.LinkingEnd f n = absurd (n tt)
-apart_else principles.LinkingDaughter f n = absurd (n tt)
-apart_else principles.LinkingMother f n = absurd (n tt)
-apart_else principles.LinkingBelowStart f n = absurd (n tt)
-apart_else principles.LinkingAboveStart f n = absurd (n tt)
-apart_else principles.LinkingSisters f n = absurd (n tt)
-apart_else principles.Graph f n = absurd f
-apart_else principles.Entries f n = absurd f
-apart_else principles.Tree f n = absurd f
-apart_else principles.Dag f n = absurd f
-apart_else principles.Valency f n = absurd f
-apart_else principles.Order f n = absurd f
-apart_else principles.Projectivity f n = absurd f
-apart_else principles.Agr f n = absurd f
-apart_else principles.Agreement f n = absurd f
-apart_else principles.Government f n = absurd f
-apart_else principles.Climbing f n = absurd f
-apart_else principles.Barriers f n = absurd f
-apart_else (principles.Rule formula) f n = absurd f
-apart_else (principles.Bound costs bound) f n = absurd f
-
--- the place that the code names
-pub on_place : (group : Group) (table : List (List ℕ)) (s : State) (dim u label v : ℕ) → IsAtPlace group table u label v s → dim ≡ first_dim group → u ≢ v → IsOnPlace group (edge dim u label v) s
-on_place group table s dim u label v at same differ = record {
-  known = at.0.0.0.known;
-  group_is = at.0.0.0.group_is;
-  place_is = place_between s.parts dim u label v at.0.0.1 at.1 differ (subst (λ i. label < edge_labels s.parts i) (sym same) at.0.1);
-  on = same;
-}
-
-pub done_on : (group : Group) (table : List (List ℕ)) (dim u label v : ℕ) (p : Progress) (old : State) (q : Progress) (new : State) → dim ≡ first_dim group → Sweeps group (DoneAt old.parts group table (edge dim u label v)) p old q new → Sweeps group (DoneAt old.parts group table (edge (first_dim group) u label v)) p old q new
-done_on group table dim u label v p old q new same = subst (λ i. Sweeps group (DoneAt old.parts group table (edge i u label v)) p old q new) same
-
-pub parted_on : (group : Group) (table : List (List ℕ)) (dim u label v : ℕ) (p : Progress) (old : State) (q : Progress) (new : State) → dim ≡ first_dim group → Sweeps group (IsDoneAt old.parts group (edge dim u label v)) p old q new → Sweeps group (DoneAt old.parts group table (edge (first_dim group) u label v)) p old q new
-parted_on group table dim u label v p old q new same a = sweeps_skip group (IsDoneAt old.parts group (edge (first_dim group) u label v)) (DoneAt old.parts group table (edge (first_dim group) u label v)) p old q new (subst (λ i. Sweeps group (IsDoneAt old.parts group (edge i u label v)) p old q new) same a) (λ done exact. done)

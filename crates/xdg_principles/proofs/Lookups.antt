@@ -62,26 +62,8 @@ abbrev pub shifted : ℕ → Option ℕ → Option ℕ
 shifted i None = None
 shifted i (Some n) = Some (i + n)
 
-shifted_suc : (i : ℕ) (o : Option ℕ) → shifted i (option_map suc o) ≡ shifted (i + 1) o
-shifted_suc i None = refl
-shifted_suc i (Some n) = ap Some (omega arith)
-
 front : (xs : List (List ℕ)) (i : ℕ) (x : List ℕ) → i < length xs → x ≡ get_or xs i x → drop i xs ≡ x ∷ drop (i + 1) xs
 front xs i x within is = rw (add-one, drop-cons xs i x) (ap (λ y. y ∷ drop (suc i) xs) (sym is))
-
-pub place_found : (xs : List (List ℕ)) (i : ℕ) (x t : List ℕ) → i < length xs → x ≡ get_or xs i x → bytes_eq x t ≡ true → shifted i (place_of (drop i xs) t) ≡ Some i
-place_found xs i x t within is same =
-    ap (λ ys. shifted i (place_of ys t)) (front xs i x within is)
-    ∙ ap (λ b. shifted i (if b then Some 0 else option_map suc (place_of (drop (i + 1) xs) t))) same ∙ ap Some (omega arith)
-
-pub place_later : (xs : List (List ℕ)) (i : ℕ) (x t : List ℕ) → i < length xs → x ≡ get_or xs i x → bytes_eq x t ≡ false → shifted (i + 1) (place_of (drop (i + 1) xs) t) ≡ shifted i (place_of (drop i xs) t)
-place_later xs i x t within is other = sym (
-    ap (λ ys. shifted i (place_of ys t)) (front xs i x within is)
-    ∙ ap (λ b. shifted i (if b then Some 0 else option_map suc (place_of (drop (i + 1) xs) t))) other ∙ shifted_suc i (place_of (drop (i + 1) xs) t))
-
-pub place_start : (o : Option ℕ) → shifted 0 o ≡ o
-place_start None = refl
-place_start (Some n) = ap Some (omega arith)
 
 -- ---- labels
 

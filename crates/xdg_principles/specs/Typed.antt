@@ -48,14 +48,6 @@ labels_at table u which = labels_in (dim_at table u which)
 abbrev pub members_at : Table → PrincipleUse → Sort → Which → Typed
 members_at table u sort which = typed (members_in sort (dim_at table u which))
 
--- its features with their types
-abbrev pub features_at : Table → PrincipleUse → Which → Typed
-features_at table u which = members_at table u s.Feature which
-
--- its attributes with their types
-abbrev pub attrs_at : Table → PrincipleUse → Which → Typed
-attrs_at table u which = members_at table u s.Attribute which
-
 -- ---- types
 
 -- The type is the wanted type of single values, where the dimensions have these labels and the arguments share that type.

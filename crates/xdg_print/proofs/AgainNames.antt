@@ -1,6 +1,5 @@
 -- Kinds, constants and numbers are read again, and lists and pairs of what is.
-use Rattle.std.proofs.Common.{◌≡◌, ◌≤◌, ℕ, zero, suc, Bool, true, false, if◌then◌else◌, List, [], ◌∷◌, map, flat_map, refl, sym, ap, ◌∙◌}
-use Rattle.std.proofs.lemmas.Bool.{eqb-true}
+use Rattle.std.proofs.Common.{◌≡◌, ◌≤◌, ℕ, Bool, true, false, if◌then◌else◌, List, [], ◌∷◌, map, flat_map, refl, sym, ap, ◌∙◌}
 use Rattle.std.proofs.lemmas.List.Concat.{flat_map_single}
 use Rattle.xdg_ast.specs.declared.token.Kind.{Kind}
 use Rattle.xdg_ast.specs.declared.token.Kind.TheVariants as k
@@ -9,7 +8,7 @@ use Rattle.xdg_ast.specs.Contents.{content_of, value_of}
 use Rattle.xdg_ast.specs.declared.names.Name.{Name}
 use Rattle.xdg_ast.specs.declared.names.Num.{Num}
 use Rattle.xdg_ast.specs.declared.names.Pair.{Pair}
-use Rattle.xdg_ast.specs.Language.{Language, number, is, token, many, both, behind}
+use Rattle.xdg_ast.specs.Language.{Language, is, token, many, both, behind}
 use Rattle.xdg_ast.specs.Grammar.{is_constant, name_of, num_of, name, names, num, nums}
 use Rattle.xdg_ast.specs.Words.{Word, word_of, mark, number as number_word, constant, is_name, IsShortText, IsSpellable}
 use Rattle.xdg_ast.specs.Trees.{name_word, names_words, nums_words, pair_words}
@@ -18,61 +17,6 @@ use Rattle.xdg_print.proofs.AgainWritten.{Written, weaker, at_words, token_writt
 use Rattle.xdg_listing.proofs.Truths.{choose}
 
 -- ---- kinds by their numbers
-
-abbrev kinds : List Kind
-kinds = k.Name ∷ k.Quoted ∷ k.Number ∷ k.DefDim ∷ k.DefType ∷ k.DefLabelType ∷ k.DefAttrsType ∷ k.DefEntryType ∷ k.UsePrinciple ∷ k.Dims ∷ k.Args ∷ k.Output ∷ k.UseOutput ∷ k.DefClass ∷ k.DefEntry ∷ k.Dim ∷ k.UseDim ∷ k.Tuple ∷ k.Set ∷ k.ISet ∷ k.Valency ∷ k.Map ∷ k.Card ∷ k.Bool ∷ k.Int ∷ k.String ∷ k.LeftBrace ∷ k.RightBrace ∷ k.LeftParenthesis ∷ k.RightParenthesis ∷ k.LeftBracket ∷ k.RightBracket ∷ k.Colon ∷ k.Ampersand ∷ k.Bar ∷ k.Dollar ∷ k.Hash ∷ k.Exclamation ∷ k.Question ∷ k.Star ∷ k.Plus ∷ []
-
-abbrev kind_at : List Kind → ℕ → Kind
-kind_at [] i = k.Name
-kind_at (k ∷ ks) zero = k
-kind_at (k ∷ ks) (suc i) = kind_at ks i
-
-at_number : (k : Kind) → kind_at kinds (number k) ≡ k
-at_number k.Name = refl
-at_number k.Quoted = refl
-at_number k.Number = refl
-at_number k.DefDim = refl
-at_number k.DefType = refl
-at_number k.DefLabelType = refl
-at_number k.DefAttrsType = refl
-at_number k.DefEntryType = refl
-at_number k.UsePrinciple = refl
-at_number k.Dims = refl
-at_number k.Args = refl
-at_number k.Output = refl
-at_number k.UseOutput = refl
-at_number k.DefClass = refl
-at_number k.DefEntry = refl
-at_number k.Dim = refl
-at_number k.UseDim = refl
-at_number k.Tuple = refl
-at_number k.Set = refl
-at_number k.ISet = refl
-at_number k.Valency = refl
-at_number k.Map = refl
-at_number k.Card = refl
-at_number k.Bool = refl
-at_number k.Int = refl
-at_number k.String = refl
-at_number k.LeftBrace = refl
-at_number k.RightBrace = refl
-at_number k.LeftParenthesis = refl
-at_number k.RightParenthesis = refl
-at_number k.LeftBracket = refl
-at_number k.RightBracket = refl
-at_number k.Colon = refl
-at_number k.Ampersand = refl
-at_number k.Bar = refl
-at_number k.Dollar = refl
-at_number k.Hash = refl
-at_number k.Exclamation = refl
-at_number k.Question = refl
-at_number k.Star = refl
-at_number k.Plus = refl
-
--- kinds with one number are one kind
-pub one_kind : (a b : Kind) → is a b ≡ true → a ≡ b
-one_kind a b h = sym (at_number a) ∙ (ap (kind_at kinds) (eqb-true (number a) (number b) h) ∙ at_number b)
 
 -- ---- two values that differ at most in places
 

@@ -5,11 +5,6 @@ use Rattle.xdg_ast.specs.declared.names.Name.{Name}
 use Rattle.xdg_ast.specs.declared.names.Num.{Num}
 use Rattle.xdg_ast.specs.declared.names.Pair.{Pair}
 use Rattle.xdg_ast.specs.declared.names.Spanned.{Spanned}
-use Rattle.xdg_ast.specs.declared.types.TypeKind.{TypeKind}
-use Rattle.xdg_ast.specs.declared.types.TypeKind.TheVariants as y
-use Rattle.xdg_ast.specs.declared.types.TypeKind.TheOpen.{TypeKind-F}
-use Rattle.xdg_ast.specs.declared.types.TypeKind.TheViews.{roll-TypeKind}
-use Rattle.xdg_ast.specs.declared.types.TypeKind.TheFolds.{map-TypeKind, ind-TypeKind}
 use Rattle.xdg_ast.specs.declared.terms.TermKind.{TermKind}
 use Rattle.xdg_ast.specs.declared.terms.TermKind.TheVariants as t
 use Rattle.xdg_ast.specs.declared.terms.ElemKind.{ElemKind}
@@ -31,9 +26,9 @@ use Rattle.xdg_ast.specs.declared.expressions.ExprKind.TheViews.{roll-ExprKind}
 use Rattle.xdg_ast.specs.declared.expressions.ExprKind.TheFolds.{map-ExprKind, ind-ExprKind}
 use Rattle.xdg_ast.specs.Grammar.{Params}
 use Rattle.xdg_ast.specs.Words.{Word, mark, number}
-use Rattle.xdg_ast.specs.Trees.{name_word, names_words, in_braces, in_parentheses, in_square_brackets, Phrase, conjoined, disjoined, plainly, card_words, gen_phrase, elem_words, term_words, pair_words, terms_words, args_words, expr_phrase, type_words}
-use Rattle.xdg_ast.specs.Same.{bare_part, bare_name, bare_names, bare_num, bare_pair, bare_option, bare_card, bare_gen, bare_elem, bare_term, bare_terms, bare_expr, bare_type}
-use Rattle.xdg_print.proofs.AgainTrees.{map-map, term_words-Const, term_words-Param, term_words-Card, term_words-Braces, term_words-Tuple, term_words-Gen, elem_words-Count, elem_words-Keyed, elem_words-Const, elem_words-Tuple, gen_phrase-Const, gen_phrase-And, gen_phrase-Or, expr_phrase-Or, expr_phrase-And, expr_phrase-Dim, expr_phrase-Use, type_words-Domain, type_words-Rec, type_words-Tuple, type_words-Set, type_words-ISet, type_words-Valency, type_words-Map, type_words-Named, bare_term-Const, bare_term-Param, bare_term-Number, bare_term-Card, bare_term-Braces, bare_term-Tuple, bare_term-Gen, bare_elem-Count, bare_elem-Keyed, bare_elem-Const, bare_elem-Tuple, bare_gen-Const, bare_gen-And, bare_gen-Or, bare_expr-Or, bare_expr-And, bare_expr-Dim, bare_expr-Use, bare_type-Empty, bare_type-Domain, bare_type-Rec, bare_type-Tuple, bare_type-Set, bare_type-ISet, bare_type-Valency, bare_type-Map, bare_type-Card, bare_type-Bool, bare_type-Int, bare_type-Str, bare_type-Named}
+use Rattle.xdg_ast.specs.Trees.{name_word, names_words, in_braces, in_square_brackets, Phrase, conjoined, disjoined, plainly, card_words, gen_phrase, elem_words, term_words, pair_words, terms_words, args_words, expr_phrase}
+use Rattle.xdg_ast.specs.Same.{bare_part, bare_name, bare_names, bare_num, bare_option, bare_card, bare_gen, bare_elem, bare_term, bare_terms, bare_expr}
+use Rattle.xdg_print.proofs.AgainTrees.{map-map, term_words-Const, term_words-Param, term_words-Card, term_words-Braces, term_words-Tuple, term_words-Gen, elem_words-Count, elem_words-Keyed, elem_words-Const, elem_words-Tuple, gen_phrase-Const, gen_phrase-And, gen_phrase-Or, expr_phrase-Or, expr_phrase-And, expr_phrase-Dim, expr_phrase-Use, bare_term-Const, bare_term-Param, bare_term-Number, bare_term-Card, bare_term-Braces, bare_term-Tuple, bare_term-Gen, bare_elem-Count, bare_elem-Keyed, bare_elem-Const, bare_elem-Tuple, bare_gen-Const, bare_gen-And, bare_gen-Or, bare_expr-Or, bare_expr-And, bare_expr-Dim, bare_expr-Use}
 
 -- ---- lists whose members have the same words without places
 
@@ -51,12 +46,6 @@ each_map b w (x ∷ xs) = ap (λ v. v ∷ map (λ part. w part.kind) (map (bare_
 each_words : {A : Type 0} (b : A → A) (w : A → List Word) (xs : List (Spanned (Placeless b w))) → flat_map (λ part. w part.kind) (map (bare_part b) (map (first b w) xs)) ≡ flat_map (λ part. w part.kind) (map (first b w) xs)
 each_words b w [] = refl
 each_words b w (x ∷ xs) = ap (λ v. v ++ flat_map (λ part. w part.kind) (map (bare_part b) (map (first b w) xs))) x.kind.1 ∙ ap (λ vs. w x.kind.0 ++ vs) (each_words b w xs)
-
-each_pair : {A : Type 0} (b : A → A) (w : A → List Word) (xs : List (Pair (Spanned (Placeless b w))))
-    → flat_map (pair_words (λ part. w part.kind)) (map (bare_pair (bare_part b)) (map (λ pair. record { key = pair.key; value = first b w pair.value }) xs)) ≡ flat_map (pair_words (λ part. w part.kind)) (map (λ pair. record { key = pair.key; value = first b w pair.value }) xs)
-each_pair b w [] = refl
-each_pair b w (x ∷ xs) = ap (λ v. (name_word x.key ∷ mark k.Colon ∷ v) ++ flat_map (pair_words (λ part. w part.kind)) (map (bare_pair (bare_part b)) (map (λ pair. record { key = pair.key; value = first b w pair.value }) xs))) x.value.kind.1
-    ∙ ap (λ vs. (name_word x.key ∷ mark k.Colon ∷ w x.value.kind.0) ++ vs) (each_pair b w xs)
 
 names_same : (names : List Name) → names_words (bare_names names) ≡ names_words names
 names_same names = map-map name_word bare_name names
@@ -166,41 +155,3 @@ module _ (params : Params) where
   expr_same = ind-ExprKind ExprSame (λ v z is. subst (λ u. ExprSame (roll-ExprKind u)) is (expr_made z))
 
 -- ---- types
-
-abbrev TypeSame : TypeKind → Type 0
-TypeSame kind = type_words (bare_type kind) ≡ type_words kind
-
-abbrev Types : Type 0
-Types = Placeless bare_type type_words
-
-type_made : (z : TypeKind-F Types) → TypeSame (roll-TypeKind (map-TypeKind Types TypeKind (λ v. v.0) z))
-type_made TypeKind-F.Empty = subst TypeSame (sym y.rolls-Empty) (ap type_words bare_type-Empty)
-type_made TypeKind-F.Card = subst TypeSame (sym y.rolls-Card) (ap type_words bare_type-Card)
-type_made TypeKind-F.Bool = subst TypeSame (sym y.rolls-Bool) (ap type_words bare_type-Bool)
-type_made TypeKind-F.Int = subst TypeSame (sym y.rolls-Int) (ap type_words bare_type-Int)
-type_made TypeKind-F.Str = subst TypeSame (sym y.rolls-Str) (ap type_words bare_type-Str)
-type_made (TypeKind-F.Domain names) = subst TypeSame (sym (y.rolls-Domain names)) (ap type_words (bare_type-Domain names) ∙ (type_words-Domain (bare_names names) ∙ (ap in_braces (names_same names) ∙ sym (type_words-Domain names))))
-type_made (TypeKind-F.Rec given) =
-    let pairs : List (Pair (Spanned TypeKind)) = map (λ pair. record { key = pair.key; value = first bare_type type_words pair.value }) given in
-    subst TypeSame (sym (y.rolls-Rec pairs)) (ap type_words (bare_type-Rec pairs) ∙ (type_words-Rec (map (bare_pair (bare_part bare_type)) pairs) ∙ (ap in_braces (each_pair bare_type type_words given) ∙ sym (type_words-Rec pairs))))
-type_made (TypeKind-F.Tuple given) =
-    let types = map (first bare_type type_words) given in
-    subst TypeSame (sym (y.rolls-Tuple types)) (ap type_words (bare_type-Tuple types) ∙ (type_words-Tuple (map (bare_part bare_type) types) ∙ (ap (λ words. mark k.Tuple ∷ in_parentheses words) (each_words bare_type type_words given) ∙ sym (type_words-Tuple types))))
-type_made (TypeKind-F.Set given) =
-    let type : Spanned TypeKind = first bare_type type_words given in
-    subst TypeSame (sym (y.rolls-Set type)) (ap type_words (bare_type-Set type) ∙ (type_words-Set (bare_part bare_type type) ∙ (ap (λ words. mark k.Set ∷ in_parentheses words) given.kind.1 ∙ sym (type_words-Set type))))
-type_made (TypeKind-F.ISet given) =
-    let type : Spanned TypeKind = first bare_type type_words given in
-    subst TypeSame (sym (y.rolls-ISet type)) (ap type_words (bare_type-ISet type) ∙ (type_words-ISet (bare_part bare_type type) ∙ (ap (λ words. mark k.ISet ∷ in_parentheses words) given.kind.1 ∙ sym (type_words-ISet type))))
-type_made (TypeKind-F.Valency given) =
-    let type : Spanned TypeKind = first bare_type type_words given in
-    subst TypeSame (sym (y.rolls-Valency type)) (ap type_words (bare_type-Valency type) ∙ (type_words-Valency (bare_part bare_type type) ∙ (ap (λ words. mark k.Valency ∷ in_parentheses words) given.kind.1 ∙ sym (type_words-Valency type))))
-type_made (TypeKind-F.Map left right) =
-    let key : Spanned TypeKind = first bare_type type_words left in
-    let value : Spanned TypeKind = first bare_type type_words right in
-    subst TypeSame (sym (y.rolls-Map key value)) (ap type_words (bare_type-Map key value) ∙ (type_words-Map (bare_part bare_type key) (bare_part bare_type value)
-    ∙ (ap (λ words. mark k.Map ∷ in_parentheses (words ++ type_words (bare_type value.kind))) left.kind.1 ∙ (ap (λ words. mark k.Map ∷ in_parentheses (type_words key.kind ++ words)) right.kind.1 ∙ sym (type_words-Map key value)))))
-type_made (TypeKind-F.Named name) = subst TypeSame (sym (y.rolls-Named name)) (ap type_words (bare_type-Named name) ∙ (type_words-Named (bare_name name) ∙ sym (type_words-Named name)))
-
-pub type_same : (kind : TypeKind) → TypeSame kind
-type_same = ind-TypeKind TypeSame (λ v z is. subst (λ u. TypeSame (roll-TypeKind u)) is (type_made z))

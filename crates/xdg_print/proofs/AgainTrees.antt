@@ -205,9 +205,6 @@ bare_expr-Use name pairs = ap bare_expr (sym (x.rolls-Use name pairs)) ∙ fold-
 
 -- ---- types without places
 
-pub bare_type-Empty : bare_type y.Empty ≡ y.Empty
-bare_type-Empty = ap bare_type (sym y.rolls-Empty) ∙ fold-roll-TypeKind TypeKind bare_type_step TypeKind-F.Empty
-
 pub bare_type-Domain : (names : List Name) → bare_type (y.Domain names) ≡ y.Domain (bare_names names)
 bare_type-Domain names = ap bare_type (sym (y.rolls-Domain names)) ∙ fold-roll-TypeKind TypeKind bare_type_step (TypeKind-F.Domain names)
 
@@ -228,18 +225,6 @@ bare_type-Valency type = ap bare_type (sym (y.rolls-Valency type)) ∙ fold-roll
 
 pub bare_type-Map : (key : Spanned TypeKind) (value : Spanned TypeKind) → bare_type (y.Map key value) ≡ y.Map (bare_part bare_type key) (bare_part bare_type value)
 bare_type-Map key value = ap bare_type (sym (y.rolls-Map key value)) ∙ fold-roll-TypeKind TypeKind bare_type_step (TypeKind-F.Map key value)
-
-pub bare_type-Card : bare_type y.Card ≡ y.Card
-bare_type-Card = ap bare_type (sym y.rolls-Card) ∙ fold-roll-TypeKind TypeKind bare_type_step TypeKind-F.Card
-
-pub bare_type-Bool : bare_type y.Bool ≡ y.Bool
-bare_type-Bool = ap bare_type (sym y.rolls-Bool) ∙ fold-roll-TypeKind TypeKind bare_type_step TypeKind-F.Bool
-
-pub bare_type-Int : bare_type y.Int ≡ y.Int
-bare_type-Int = ap bare_type (sym y.rolls-Int) ∙ fold-roll-TypeKind TypeKind bare_type_step TypeKind-F.Int
-
-pub bare_type-Str : bare_type y.Str ≡ y.Str
-bare_type-Str = ap bare_type (sym y.rolls-Str) ∙ fold-roll-TypeKind TypeKind bare_type_step TypeKind-F.Str
 
 pub bare_type-Named : (name : Name) → bare_type (y.Named name) ≡ y.Named (bare_name name)
 bare_type-Named name = ap bare_type (sym (y.rolls-Named name)) ∙ fold-roll-TypeKind TypeKind bare_type_step (TypeKind-F.Named name)

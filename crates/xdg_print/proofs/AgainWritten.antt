@@ -95,9 +95,6 @@ behind_written kind l ws P s h a = both_written (λ _ b. b) (token (is kind)) l 
 pub left_written : {A : Type 0} (l m : Language A) (ws : List Word) (P : A → Type 0) → Written l ws P → Written (either l m) ws P
 left_written l m ws P a = record { spellable = a.spellable; again = λ us i. let x = a.again us i in (x.0, inl x.1, x.2) }
 
-pub right_written : {A : Type 0} (l m : Language A) (ws : List Word) (P : A → Type 0) → Written m ws P → Written (either l m) ws P
-right_written l m ws P a = record { spellable = a.spellable; again = λ us i. let x = a.again us i in (x.0, inr x.1, x.2) }
-
 pub spanned_written : {A B : Type 0} (f : Span → A → B) (l : Language A) (ws : List Word) (P : A → Type 0) (Q : B → Type 0) → Written l ws P → ((s : Span) (a : A) → P a → Q (f s a)) → Written (spanned f l) ws Q
 spanned_written f l ws P Q a q = record {
   spellable = a.spellable;

@@ -1,12 +1,11 @@
 -- The test of a default is exact.
-use Rattle.std.proofs.Common.{◌≡◌, ℕ, suc, ◌<◌, ◌≤◌, ◌+◌, List, [], ◌∷◌, Bool, true, false, Some, length, get_or, drop, map, refl, sym, ap, ap₂, ◌∙◌, inl, inr, true≢false, add-one}
+use Rattle.std.proofs.Common.{◌≡◌, ℕ, ◌+◌, List, [], ◌∷◌, Bool, true, false, Some, length, map, refl, sym, ap, ap₂, ◌∙◌, inl, inr, true≢false}
 use Rattle.std.specs.Prelude.{◌==◌, ◌&&◌}
 use Rattle.std.specs.Bool.{Decides}
 use Rattle.std.specs.List.{range_with_len}
 use Rattle.std.specs.Str.{bytes_eq}
-use Rattle.std.proofs.Math.Seq.{drop-cons}
 use Rattle.std.proofs.lemmas.Bool.Decides.{same_from_decides, Decides-and, Decides-eqb, Decides-like}
-use Rattle.std.proofs.lemmas.List.{length-map, drop_all}
+use Rattle.std.proofs.lemmas.List.{length-map}
 use Rattle.std.proofs.lemmas.List.FromFn.{length-range_with_len}
 use Rattle.std.proofs.lemmas.Slice.Eq.{bytes_eq-Decides}
 use Rattle.xdg_domain.specs.Cards.{cards}
@@ -97,14 +96,6 @@ default_law (mapping k u) mapped right x = elim (decided u right.1.1) [
 default_law (fields fs) mapped right x = absurd mapped
 
 -- ---- the test, key after key
-
--- what is left begins with the entry at a place
-pub up_next : {V : Type 0} (test : V → Bool) (m : List (ℕ × V)) (i : ℕ) (entry : ℕ × V) → i < length m → entry ≡ get_or m i entry → counts_up test i (drop i m) ≡ ((entry.0 == i) && test entry.1 && counts_up test (i + 1) (drop (i + 1) m))
-up_next test m i entry within is =
-    ap (counts_up test i) (drop-cons m i entry within ∙ ap (λ x. x ∷ drop (suc i) m) (sym is)) ∙ ap (λ k. (entry.0 == i) && test entry.1 && counts_up test (i + 1) (drop k m)) (sym (add-one i))
-
-pub up_end : {V : Type 0} (test : V → Bool) (m : List (ℕ × V)) (i : ℕ) → length m ≤ i → counts_up test i (drop i m) ≡ true
-up_end test m i past = ap (counts_up test i) (drop_all i m past)
 
 -- ---- full sets
 

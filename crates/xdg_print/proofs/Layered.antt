@@ -1,7 +1,7 @@
 -- The trees of types, variant by variant, and what stands in values of them.
 use Rattle.std.proofs.Common.{◌≡◌, ℕ, zero, suc, ◌<◌, List, [], ◌∷◌, length, get_or, map, sym, ap, ◌∙◌, subst, arith}
 use Rattle.xdg_domain.specs.Cards.{IsCards}
-use Rattle.xdg_domain.specs.Shapes.{Shape, domain, tuple, set, iset, valency, mapping, fields, fields_of, layer, shape, shapes_of, count, constants, constants_of, IsDomain, IsSmall, IsMapped, IsType, AreTypes}
+use Rattle.xdg_domain.specs.Shapes.{Shape, tuple, valency, mapping, fields, fields_of, layer, shape, shapes_of, count, constants, constants_of, IsDomain, IsMapped, IsType, AreTypes}
 use Rattle.xdg_domain.specs.Sized.{sizes_of}
 use Rattle.xdg_domain.specs.Tuples.{InRange}
 use Rattle.xdg_domain.specs.Values.{AllBelow, EachSaid, IsIn, IsValue, IsFieldOf}
@@ -18,17 +18,8 @@ use Rattle.xdg_types.specs.Table.{typed}
 by_layer : (ty : Ty) (l : Ty-F Ty) → out-Ty ty ≡ l → shape ty ≡ layer (map-Ty Ty Shape shape l)
 by_layer ty l is = fold_out-Ty Shape layer ty ∙ ap (λ m. layer (map-Ty Ty Shape shape m)) is
 
-pub of_domain : (ty : Ty) (names : List (List ℕ)) → ty ≡ t.Domain names → shape ty ≡ domain names
-of_domain ty names is = ap shape is ∙ by_layer (t.Domain names) (Ty-F.Domain names) (t.outs-Domain names)
-
 pub of_tuple : (ty : Ty) (types : List Ty) → ty ≡ t.Tuple types → shape ty ≡ tuple (shapes_of (map shape types))
 of_tuple ty types is = ap shape is ∙ by_layer (t.Tuple types) (Ty-F.Tuple types) (t.outs-Tuple types)
-
-pub of_set : (ty of : Ty) → ty ≡ t.Set of → shape ty ≡ set (shape of)
-of_set ty of is = ap shape is ∙ by_layer (t.Set of) (Ty-F.Set of) (t.outs-Set of)
-
-pub of_iset : (ty of : Ty) → ty ≡ t.ISet of → shape ty ≡ iset (shape of)
-of_iset ty of is = ap shape is ∙ by_layer (t.ISet of) (Ty-F.ISet of) (t.outs-ISet of)
 
 pub of_valency : (ty key : Ty) → ty ≡ t.Valency key → shape ty ≡ valency (shape key)
 of_valency ty key is = ap shape is ∙ by_layer (t.Valency key) (Ty-F.Valency key) (t.outs-Valency key)
@@ -38,10 +29,6 @@ of_map ty key of is = ap shape is ∙ by_layer (t.Map key of) (Ty-F.Map key of) 
 
 pub of_record : (ty : Ty) (types : List (List ℕ × Ty)) → ty ≡ t.Rec types → shape ty ≡ fields (fields_of (typed types))
 of_record ty types is = ap shape is ∙ by_layer (t.Rec types) (Ty-F.Rec types) (t.outs-Rec types)
-
-pub domain_small : (s : Shape) → IsDomain s → IsSmall s
-domain_small (domain names) h = h
-domain_small _ h = absurd h
 
 -- ---- values
 

@@ -1,4 +1,3 @@
-pub mod AgainCanon
 pub mod AgainDims
 pub mod AgainElems
 pub mod AgainExprs

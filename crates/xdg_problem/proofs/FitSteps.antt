@@ -1,5 +1,5 @@
 -- Steps of the loops that judge an analysis.
-use Rattle.std.proofs.Common.{◌≡◌, ℕ, ◌<◌, ◌≤◌, ◌+◌, ◌-◌, ◌*◌, inl, inr, List, [], ◌∷◌, ◌++◌, length, get_or, take, drop, refl, ap, sym, ◌∙◌, arith, subst, zero, suc, map, Bool, true, false, length-append, length-drop}
+use Rattle.std.proofs.Common.{◌≡◌, ℕ, ◌<◌, ◌≤◌, ◌+◌, ◌-◌, ◌*◌, List, [], ◌∷◌, ◌++◌, length, get_or, take, drop, refl, ap, sym, ◌∙◌, arith, subst, zero, suc, map, Bool, true, false, length-append, length-drop}
 use Rattle.std.specs.Prelude.{◌↔◌, Contains}
 use Rattle.std.specs.List.{flat_map}
 use Rattle.std.proofs.lemmas.List.{drop_more, drop_all, length-map, get_or_default, get_or-map, get_or-drop}
@@ -14,28 +14,9 @@ use Rattle.xdg_problem.specs.Vectors.{attr_sizes}
 use Rattle.xdg_problem.specs.Analyses.{HasCandidates, Before, EdgesRise}
 use Rattle.xdg_problem.specs.EdgeOrder.{RisesAt}
 use Rattle.xdg_problem.specs.Values.{AreValues, value_counts}
-use Rattle.xdg_problem.proofs.Ordered.{contains_cases, contains_none}
 use Rattle.xdg_problem.proofs.Counted.{length_attrs_of}
-use Rattle.xdg_problem.proofs.EntryPlaces.{entry_equal}
-use Rattle.xdg_listing.proofs.Lists.{contains_more}
 
 -- candidates
-
-pub candidate_found : (candidates : List EntryNo) (e : EntryNo) (k : ℕ) (d : EntryNo) → k < length candidates → (get_or candidates k d).0 ≡ e.0 → Contains candidates e
-candidate_found candidates e k d l s = (k, l, get_or_default candidates k e d l ∙ entry_equal (get_or candidates k d) e s)
-
-pub candidate_step : (candidates : List EntryNo) (e : EntryNo) (k : ℕ) (d : EntryNo) → k < length candidates → ((get_or candidates k d).0 ≡ e.0 → ⊥) → Contains (drop (k + 1) candidates) e ↔ Contains (drop k candidates) e
-candidate_step candidates e k d l n =
-    subst (λ z. Contains (drop (k + 1) candidates) e ↔ Contains z e) (sym (drop_more candidates k d l)) (
-      λ c. contains_more (get_or candidates k d) (drop (k + 1) candidates) e c,
-      λ c. elim (contains_cases (get_or candidates k d) (drop (k + 1) candidates) e c) [
-        | inl s ↦ absurd (n (ap (λ (z : EntryNo). z.0) s))
-        | inr h ↦ h
-      ],
-    )
-
-pub candidate_end : (candidates : List EntryNo) (e : EntryNo) (k : ℕ) → length candidates ≤ k → Contains (drop k candidates) e → ⊥
-candidate_end candidates e k l c = contains_none e (subst (λ z. Contains z e) (drop_all k candidates l) c)
 
 -- entries
 
@@ -100,9 +81,6 @@ pub node_refused : (attrs : List AttrPlan) (x : List ℕ) (k : ℕ) (d : AttrPla
 node_refused attrs x k d l m n = fits_refused (map (λ (attr : AttrPlan). length attr.values) attrs) x k (subst (λ i. k < i) (sym (length-map attrs (λ (attr : AttrPlan). length attr.values))) l) m (subst (λ i. i ≤ get_or x k 0) (sym (get_or-map (λ (attr : AttrPlan). length attr.values) attrs k d 0 l)) n)
 
 -- values of a dimension, node by node
-
-abbrev from_node : DimPlan → ℕ → ℕ → List ℕ
-from_node plan first count = flat_map (λ (node : ℕ). value_counts plan) (numbers_from first count)
 
 pub wide_enough : (n k w r : ℕ) → r ≡ (n - k) * w → k < n → w ≤ r
 wide_enough n k w r e l =

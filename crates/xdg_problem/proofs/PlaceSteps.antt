@@ -41,12 +41,6 @@ out_push dim k mother label n =
 flat_push : (f : ℕ → List Edge) (k : ℕ) → flat_map f (below (k + 1)) ≡ flat_map f (below k) ++ f k
 flat_push f k = ap (flat_map f) (below_push k) ∙ flat_map-append f (below k) (k ∷ []) ∙ ap (λ z. flat_map f (below k) ++ z) (append-nil (f k))
 
-pub labels_push : (dim n mother k : ℕ) → flat_map (λ label. places_out dim n mother label) (below (k + 1)) ≡ flat_map (λ label. places_out dim n mother label) (below k) ++ places_out dim n mother k
-labels_push dim n mother k = flat_push (λ label. places_out dim n mother label) k
-
-pub mothers_push : (dim n labels k : ℕ) → flat_map (λ mother. flat_map (λ label. places_out dim n mother label) (below labels)) (below (k + 1)) ≡ flat_map (λ mother. flat_map (λ label. places_out dim n mother label) (below labels)) (below k) ++ flat_map (λ label. places_out dim n k label) (below labels)
-mothers_push dim n labels k = flat_push (λ mother. flat_map (λ label. places_out dim n mother label) (below labels)) k
-
 dim_head : (n k : ℕ) (dims : List DimPlan) (plan : DimPlan) → k < length dims → plan ≡ get_or dims k plan → places_from k n (drop k dims) ≡ cond plan.graph (places_of k n (length plan.labels)) [] ++ places_from (k + 1) n (drop (k + 1) dims)
 dim_head n k dims plan l i =
     let e : suc k ≡ k + 1 = omega arith in

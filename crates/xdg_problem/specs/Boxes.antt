@@ -6,10 +6,6 @@ use Rattle.xdg_problem.specs.Places.{same_edge, places}
 use Rattle.xdg_problem.specs.Vectors.{first_place}
 use Rattle.xdg_problem.specs.Arguments.{attr_place}
 
--- for each decision, for each of its values, whether it remains
-abbrev pub Box : Type 0
-Box = List (List Bool)
-
 -- the value v of the decision d remains
 abbrev pub Has : List (List Bool) → ℕ → ℕ → Type 0
 Has box d v = slice_index_or (slice_index_or box d []) v false ≡ true

@@ -4,8 +4,8 @@ use Rattle.std.specs.Prelude.{nat_eq}
 use Rattle.std.specs.Int.{bit_at, bit_not, trailing_zeros, w64}
 use Rattle.std.specs.Int.RustNames.{bit_or}
 use lib.Bits.{bit_and}
-use Rattle.std.proofs.lemmas.Bool.{cases_eq, cases_lt, eq-eqb, eqb-true}
-use Rattle.std.proofs.lemmas.List.{length-map, length-set, get_or-map, get_or_past, get_or-set_same, get_or-set_other}
+use Rattle.std.proofs.lemmas.Bool.{cases_eq, eq-eqb, eqb-true}
+use Rattle.std.proofs.lemmas.List.{length-map, length-set, get_or-map, get_or-set_same, get_or-set_other}
 use Rattle.std.proofs.lemmas.Nat.Bits.{bit_at-trailing_zeros, bit_at-zero, bit_at_set_same, bit_at_set_other}
 use Rattle.xdg_problem.specs.Places.{below, numbers_from}
 use Rattle.xdg_problem.proofs.Ordered.{numbers_length}
@@ -170,26 +170,5 @@ none_set words zeros bit e =
     let z = ap (λ w. bit_at w (bit % 64)) (zeros (bit / 64)) ∙ bit_at-zero (bit % 64) in
     omega (arith, one, z)
 
-pub cleared_holds : (words next : List ℕ) (count : ℕ) → HoldsFlags words count → length next ≡ length words → ((place : ℕ) → get_or next place 0 ≡ 0) → HoldsFlags next count
-cleared_holds words next count holds l zeros = record {
-  small = holds.small;
-  room = (let r = holds.room in omega (arith, r, l));
-  tight = (let t = holds.tight in omega (arith, t, l));
-  none = λ bit e. absurd (none_set next zeros bit e);
-}
-
 pub cleared_off : (next : List ℕ) (count : ℕ) → ((place : ℕ) → get_or next place 0 ≡ 0) → (at : ℕ) → IsOn (flags_of next count) at → ⊥
 cleared_off next count zeros at h = none_set next zeros at (on_set next count at h)
-
--- so many words are cleared so far
-pub zeros_more : (words next : List ℕ) (k : ℕ) → k < length words → next ≡ set words k 0 → ((place : ℕ) → place < k → get_or words place 0 ≡ 0) → (place : ℕ) → place < k + 1 → get_or next place 0 ≡ 0
-zeros_more words next k within is zeros place l = elim (cases_eq place k) [
-  | inl q ↦ ap (λ z. get_or z place 0) is ∙ ap (λ p. get_or (set words k 0) p 0) q ∙ get_or-set_same words k 0 0 within
-  | inr n ↦ ap (λ z. get_or z place 0) is ∙ get_or-set_other words k place 0 0 n ∙ zeros place (omega (arith, l, n))
-]
-
-pub zeros_all : (words : List ℕ) (k : ℕ) → length words ≤ k → ((place : ℕ) → place < k → get_or words place 0 ≡ 0) → (place : ℕ) → get_or words place 0 ≡ 0
-zeros_all words k past zeros place = elim (cases_lt place k) [
-  | inl l ↦ zeros place l
-  | inr m ↦ get_or_past words place 0 (omega (arith, past, m))
-]

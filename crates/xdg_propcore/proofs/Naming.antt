@@ -1,9 +1,8 @@
 -- Wake sets whose kinds the tests of a principle use name.
 use Rattle.std.proofs.Common.{◌≡◌, ℕ, ◌^◌, inl, inr, ap, sym, subst, arith}
 use Rattle.std.specs.Int.{bit_at}
-use Rattle.std.specs.Int.RustNames.{bit_or}
 use Rattle.std.proofs.lemmas.Bool.{cases_eq}
-use Rattle.std.proofs.lemmas.Nat.Bits.{bit_at-lt, bit_at-pow_other, bit_at-zero, bit_at_or}
+use Rattle.std.proofs.lemmas.Nat.Bits.{bit_at-pow_other, bit_at-zero}
 use Rattle.xdg_problem.specs.declared.parts.Group.{Group}
 use Rattle.xdg_problem.specs.declared.parts.Parts.{Parts}
 use Rattle.xdg_propcore.specs.Kinds.{IsNamed, AreNamed}
@@ -17,11 +16,4 @@ pub named_one : (parts : Parts) (group : Group) (kind wakes : ℕ) → wakes ≡
 named_one parts group kind wakes is named other one = elim (cases_eq other kind) [
   | inl q ↦ inr (subst (IsNamed parts group) (sym q) named)
   | inr n ↦ absurd (let z = bit_at-pow_other kind other n in let y = ap (λ m. bit_at m other) is in omega (arith, z, y, one))
-]
-
--- two sets together
-pub named_both : (parts : Parts) (group : Group) (a b : ℕ) → AreNamed parts group a → AreNamed parts group b → AreNamed parts group (bit_or a b)
-named_both parts group a b first second kind one = elim (cases_eq (bit_at a kind) 1) [
-  | inl q ↦ first kind q
-  | inr n ↦ second kind (let o = bit_at_or a b kind in let l = bit_at-lt a kind in let m = bit_at-lt b kind in omega (arith, o, l, m, n, one))
 ]

@@ -1,17 +1,14 @@
 -- One value less: what a step that removes it says of the box.
-use Rattle.std.proofs.Common.{◌≡◌, ℕ, ◌^◌, inl, inr, Bool, List, [], ◌∷◌, refl, ap, sym, ◌∙◌, arith, subst, append-nil}
+use Rattle.std.proofs.Common.{◌≡◌, ℕ, ◌^◌, inl, inr, Bool, List, refl, ap, sym, ◌∙◌, arith}
 use Rattle.std.specs.Int.{bit_at}
 use Rattle.std.proofs.lemmas.Bool.{cases_eq}
 use Rattle.std.proofs.lemmas.Nat.Bits.{bit_at-pow_same, bit_at-pow_other}
 use Rattle.xdg_problem.specs.declared.parts.Parts.{Parts}
 use Rattle.xdg_problem.specs.Boxes.{Has, without}
 use Rattle.xdg_rules.proofs.Removing.{keeps_others}
-use Rattle.xdg_store.specs.Change.{with_box}
-use Rattle.xdg_store.specs.States.{State}
-use Rattle.xdg_store.proofs.Leaving.{taken_gone, without_inside}
+use Rattle.xdg_store.proofs.Leaving.{taken_gone}
 use Rattle.xdg_propcore.specs.Kinds.{kind_of}
 use Rattle.xdg_propcore.specs.Losses.{IsLost, Loses}
-use Rattle.xdg_propcore.specs.Steps.{Extends}
 
 -- of a box that loses one value the wake set of its kind has exactly the kinds that are lost
 pub loses_one : (parts : Parts) (wakes : ℕ) (box : List (List Bool)) (d v : ℕ) → wakes ≡ 2 ^ kind_of parts d → Has box d v → Loses parts wakes box (without box d v)
@@ -28,15 +25,3 @@ loses_one parts wakes box d v is has =
         | inr n ↦ absurd (let z = bit_at-pow_other (kind_of parts d) k n in let y = ap (λ m. bit_at m k) is in omega (arith, z, y, one))
       ];
     }
-
--- a turn and a removal only add to what stood
-pub turned_extends : (old new : State) → new.parts ≡ old.parts → new.now ≡ old.now → new.history ≡ old.history → Extends old new
-turned_extends old new parts now history = record { same = parts; more = []; grown = history ∙ sym (append-nil old.history); inside = λ d v h. subst (λ b. Has b d v) now h }
-
-pub removed_extends : (old new : State) (d v : ℕ) → new ≡ with_box old (without old.now d v) → Extends old new
-removed_extends old new d v is = record {
-  same = ap (λ s. s.parts) is;
-  more = without old.now d v ∷ [];
-  grown = ap (λ s. s.history) is;
-  inside = λ e w h. without_inside old.now d v e w (subst (λ s. Has s.now e w) is h);
-}

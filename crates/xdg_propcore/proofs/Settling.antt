@@ -23,12 +23,6 @@ use Rattle.xdg_propcore.proofs.Losses.{weight_from, balance, lost_one, apart, hi
 
 -- ---- flags
 
-none_after : (flags : List Bool) (at x : ℕ) → IsOn flags x → (IsOn (set flags at false) x → ⊥) → at ≡ x
-none_after flags at x h n = elim (cases_eq at x) [
-  | inl q ↦ q
-  | inr f ↦ absurd (n (get_or-set_other flags at x false false (λ s. f (sym s)) ∙ h))
-]
-
 pub one_less : (flags : List Bool) (at : ℕ) → IsOn flags at → on_count (set flags at false) + 1 ≡ on_count flags
 one_less [] at h = cc
 one_less (true ∷ flags) zero h = omega arith

@@ -22,7 +22,7 @@ use Rattle.xdg_store.specs.declared.decision.Decision.{Decision}
 use Rattle.xdg_store.specs.declared.decision.Decision.TheVariants as decisions
 use Rattle.xdg_store.proofs.Located.{place_found}
 use Rattle.xdg_propcore.specs.Kinds.{kind_of}
-use Rattle.xdg_propcore.specs.Touching.{Grows, HasTouched, InTable, IsSmall, Marks, MarksEdge}
+use Rattle.xdg_propcore.specs.Touching.{HasTouched, InTable, IsSmall, Marks, MarksEdge}
 use Rattle.xdg_propcore.specs.declared.touched.Touched.{Touched}
 use Rattle.xdg_propcore.proofs.DecisionKinds.{kind_of_attr, kind_of_edge, kind_of_entry}
 use Rattle.xdg_listing.proofs.Truths.{or_here, either_true}
@@ -57,25 +57,9 @@ table_all set all l n k m = subst (λ s. has s n ≡ true) (sym (get_or-replicat
 
 -- ---- one decision after another
 
-pub marks_grow : (old new : Touched) (dim : ℕ) (decision : Decision) → Grows old new → Marks old dim decision → Marks new dim decision
-marks_grow old new dim (decisions.Entry node) g m = g.entries node.0 m
-marks_grow old new dim (decisions.Attr d node attr) g m = λ on. g.attrs node.0 (m on)
-marks_grow old new dim (decisions.Place edge) g m = λ on. (let e = m on in record {
-  mother = g.mothers edge.mother.0 e.mother;
-  daughter = g.daughters edge.daughter.0 e.daughter;
-  out = g.out edge.label.0 edge.mother.0 e.out;
-  into = g.into edge.label.0 edge.daughter.0 e.into;
-})
-
 -- the nodes of the first decisions, so many, are there
 abbrev pub AreMarked : Touched → ℕ → List Decision → ℕ → Type 0
 AreMarked t dim decisions count = (k : ℕ) (d : Decision) → k < count → Marks t dim (get_or decisions k d)
-
-pub marked_more : (old new : Touched) (dim : ℕ) (decisions : List Decision) (k : ℕ) (decision : Decision) → k < length decisions → decision ≡ get_or decisions k decision → Grows old new → Marks new dim decision → AreMarked old dim decisions k → AreMarked new dim decisions (k + 1)
-marked_more old new dim decisions k decision within is g m before i d l = elim (cases_eq i k) [
-  | inl q ↦ subst (Marks new dim) (is ∙ get_or_default decisions k decision d within ∙ ap (λ j. get_or decisions j d) (sym q)) m
-  | inr f ↦ marks_grow old new dim (get_or decisions i d) g (before i d (omega (arith, l, f)))
-]
 
 pub small_decision : (parts : Parts) (decision : Decision) → IsProblem parts → IsDecision parts decision → IsSmall decision
 small_decision parts (decisions.Entry node) problem is = (let m = problem.most in omega (arith, is, m))

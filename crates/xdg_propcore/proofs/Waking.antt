@@ -1,5 +1,5 @@
 -- What holds while those are woken whose wake set has a kind of values that were lost.
-use Rattle.std.proofs.Common.{◌≡◌, ◌≢◌, ℕ, ◌<◌, ◌+◌, inl, inr, Bool, true, false, List, length, get_or, set, map, not, ap, sym, ◌∙◌, arith, subst, refl}
+use Rattle.std.proofs.Common.{◌≡◌, ◌≢◌, ℕ, ◌<◌, ◌+◌, inl, inr, Bool, true, false, List, length, get_or, set, map, not, ap, sym, ◌∙◌, arith, subst}
 use Rattle.std.specs.Prelude.{◌==◌}
 use lib.Bits.{bit_and}
 use Rattle.std.proofs.lemmas.Bool.{cases_eq, eqb-false, eqb-true, not-true, not-false}
@@ -13,14 +13,6 @@ pub record Woken (sets : List ℕ) (lost : ℕ) (old now : List Bool) (k : ℕ) 
   pub woken : (at : ℕ) → at < k → bit_and (get_or sets at 0) lost ≢ 0 → IsOn now at
   pub only : (at : ℕ) → IsOn now at → (IsOn old at → ⊥) → bit_and (get_or sets at 0) lost ≢ 0
   pub same : length now ≡ length old
-
-pub woken_start : (sets : List ℕ) (lost : ℕ) (old : List Bool) → Woken sets lost old old 0
-woken_start sets lost old = record {
-  kept = λ at h. h;
-  woken = λ at l n. absurd (omega (arith, l));
-  only = λ at h n. absurd (n h);
-  same = refl;
-}
 
 pub woken_hit : (sets : List ℕ) (lost : ℕ) (old now next : List Bool) (k : ℕ) → Woken sets lost old now k → k < length now → bit_and (get_or sets k 0) lost ≢ 0 → next ≡ set now k true → Woken sets lost old next (k + 1)
 woken_hit sets lost old now next k w within hit is =

@@ -32,10 +32,6 @@ value_decimal n small = decimal_by_steps (λ m ds. m ≤ greatest → value_from
 digits_decimal : (n : ℕ) → n < 2 ^ 64 → AllDigits 10 (decimal n)
 digits_decimal n small = (decimal_is_IsNumeral n small).0.1
 
--- an end is no digit
-pub IsEnd : ℕ → Type 0
-IsEnd end = end < 48
-
 digits_end : (n end : ℕ) (rest : List ℕ) → n < 2 ^ 64 → end < 48 → until end (decimal n ++ end ∷ rest) ≡ Some (decimal n, rest)
 digits_end n end rest small low = until_it end (decimal n) rest (λ i within e. let range = digit_at (decimal n) i (digits_decimal n small) within in omega (arith, range.0, e, low))
 

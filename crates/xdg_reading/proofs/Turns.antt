@@ -29,15 +29,6 @@ long_texts (x ∷ xs) (y ∷ ys) e = ap suc (long_texts xs ys (and_parts (bytes_
 pub other_length : (xs ys : List (List ℕ)) → (length xs ≡ length ys → ⊥) → false ≡ same_texts xs ys
 other_length xs ys ne = sym (false_from_ne_true (same_texts xs ys) (λ e. ne (long_texts xs ys e)))
 
-texts_at : (xs ys : List (List ℕ)) (k : ℕ) (x : List ℕ) (y : List ℕ) → k < length xs → k < length ys → x ≡ get_or xs k x → y ≡ get_or ys k y → same_texts (drop k xs) (drop k ys) ≡ (bytes_eq x y && same_texts (drop (k + 1) xs) (drop (k + 1) ys))
-texts_at xs ys k x y in_xs in_ys is_x is_y = ap₂ same_texts (from_place xs k x in_xs is_x) (from_place ys k y in_ys is_y)
-
-pub texts_go : (xs ys : List (List ℕ)) (k : ℕ) (x y : List ℕ) (all : Bool) → same_texts (drop k xs) (drop k ys) ≡ all → k < length xs → k < length ys → x ≡ get_or xs k x → y ≡ get_or ys k y → bytes_eq x y ≡ true → same_texts (drop (k + 1) xs) (drop (k + 1) ys) ≡ all
-texts_go xs ys k x y all so_far in_xs in_ys is_x is_y same = sym (texts_at xs ys k x y in_xs in_ys is_x is_y ∙ ap (λ t. t && same_texts (drop (k + 1) xs) (drop (k + 1) ys)) same) ∙ so_far
-
-pub texts_stop : (xs ys : List (List ℕ)) (k : ℕ) (x y : List ℕ) (all : Bool) → same_texts (drop k xs) (drop k ys) ≡ all → k < length xs → k < length ys → x ≡ get_or xs k x → y ≡ get_or ys k y → bytes_eq x y ≡ false → false ≡ all
-texts_stop xs ys k x y all so_far in_xs in_ys is_x is_y differ = sym (texts_at xs ys k x y in_xs in_ys is_x is_y ∙ ap (λ t. t && same_texts (drop (k + 1) xs) (drop (k + 1) ys)) differ) ∙ so_far
-
 -- one edge is decided before another
 pub precedes_is : (a b : Edge) → precedes a b ≡ true → Before a b
 unfolding precedes
@@ -76,12 +67,6 @@ words_at : (cs : List (List EntryNo)) (ws : List SentenceWord) (es : List EntryN
 words_at cs ws es k c w e in_cs in_ws in_es is_c is_w is_e =
     ap₂ (λ x y. words_fault x y (drop k es)) (from_place cs k c in_cs is_c) (from_place ws k w in_ws is_w)
     ∙ ap (λ z. words_fault (c ∷ drop (k + 1) cs) (w ∷ drop (k + 1) ws) z) (from_place es k e in_es is_e)
-
-pub words_go : (cs : List (List EntryNo)) (ws : List SentenceWord) (es : List EntryNo) (k : ℕ) (c : List EntryNo) (w : SentenceWord) (e : EntryNo) (all : Option ℕ) → words_fault (drop k cs) (drop k ws) (drop k es) ≡ all → k < length cs → k < length ws → k < length es → c ≡ get_or cs k c → w ≡ get_or ws k w → e ≡ get_or es k e → has_entry c e ≡ true → words_fault (drop (k + 1) cs) (drop (k + 1) ws) (drop (k + 1) es) ≡ all
-words_go cs ws es k c w e all so_far in_cs in_ws in_es is_c is_w is_e has = sym (words_at cs ws es k c w e in_cs in_ws in_es is_c is_w is_e ∙ ap (λ t. cond t (words_fault (drop (k + 1) cs) (drop (k + 1) ws) (drop (k + 1) es)) (Some w.at)) has) ∙ so_far
-
-pub words_stop : (cs : List (List EntryNo)) (ws : List SentenceWord) (es : List EntryNo) (k : ℕ) (c : List EntryNo) (w : SentenceWord) (e : EntryNo) (all : Option ℕ) → words_fault (drop k cs) (drop k ws) (drop k es) ≡ all → k < length cs → k < length ws → k < length es → c ≡ get_or cs k c → w ≡ get_or ws k w → e ≡ get_or es k e → has_entry c e ≡ false → Some w.at ≡ all
-words_stop cs ws es k c w e all so_far in_cs in_ws in_es is_c is_w is_e has = sym (words_at cs ws es k c w e in_cs in_ws in_es is_c is_w is_e ∙ ap (λ t. cond t (words_fault (drop (k + 1) cs) (drop (k + 1) ws) (drop (k + 1) es)) (Some w.at)) has) ∙ so_far
 
 -- lists that grow
 pub leads_err : {X : Type 0} (xs : List X) (at : ℕ) → leads xs (Err at) ≡ Err at

@@ -1,6 +1,6 @@
 -- What a drill leaves, from what its steps left.
 use Rattle.std.proofs.Common.{◌≡◌, ◌∙◌, ◌≤◌, inl, inr, ℕ, List, [], length, refl, sym, ap, subst, arith, Ok, Err, Some}
-use Rattle.std.specs.Prelude.{◌≢◌, ◌∷◌, Option, codes, decimal}
+use Rattle.std.specs.Prelude.{◌≢◌, Option}
 use Rattle.xdg_ast.specs.declared.grammar.Grammar.{Grammar}
 use Rattle.xdg_ast.specs.Derives.{Reads}
 use Rattle.xdg_base.specs.declared.faults.Fault.{Fault}
@@ -15,9 +15,8 @@ use Rattle.xdg_io.specs.Held.{Appends, AppendsFront}
 use Rattle.xdg_io.specs.Rose.{Rose}
 use Rattle.xdg_listing.specs.declared.Ending.{Ending}
 use Rattle.xdg_problem.specs.declared.parts.Parts.{Parts}
-use Rattle.xdg_text.specs.Lines.{line}
 use Rattle.xdg_inputs.specs.Outcomes.{MeaningThen}
-use Rattle.xdg_searches.specs.Outcomes.{DrillOf, DrillSentence, Drilled, drill_line, generated, spent_word, status_of}
+use Rattle.xdg_searches.specs.Outcomes.{DrillOf, DrillSentence, Drilled, drill_line, generated, status_of}
 use Rattle.xdg_inputs.specs.Refusals.{Refuses, Stops, refusal_of}
 use Rattle.xdg_inputs.specs.Runs.{Ends, Leaves, Wrote}
 use Rattle.xdg_searches.specs.Runs.{DrillEnds}
@@ -31,12 +30,6 @@ use Rattle.xdg_inputs.proofs.Trees.{Only, tree_accepted, tree_stops}
 use Rattle.xdg_inputs.proofs.Writing.{IsBad, refused_wrote}
 
 -- ---- counts that are written
-
--- the line of a drill, by how its search ended
-pub line_by : (number words entries : ℕ) (counts : Counts) (ending : Ending) → counts.ending ≡ ending
-    → line (codes "drill") (decimal number ∷ codes "words" ∷ decimal words ∷ codes "entries" ∷ decimal entries ∷ codes "analyses" ∷ decimal counts.analyses ∷ codes "broken" ∷ decimal counts.broken ∷ spent_word ending) ≡ drill_line number words entries counts
-line_by number words entries counts ending is =
-    ap (λ e. line (codes "drill") (decimal number ∷ codes "words" ∷ decimal words ∷ codes "entries" ∷ decimal entries ∷ codes "analyses" ∷ decimal counts.analyses ∷ codes "broken" ∷ decimal counts.broken ∷ spent_word e)) (sym is)
 
 module _ (number : ℕ) (m : Meaning) (parts : Parts) (words entries : ℕ) (counts : Counts) (words_are : words ≡ length parts.words) (entries_are : entries ≡ length m.entries) (are : AreCounts 10000000 parts counts) (one : IsOneCount 10000000 parts) where
   line_is : drill_line number words entries counts ≡ drill_line number (length parts.words) (length m.entries) counts
@@ -81,6 +74,7 @@ module _ (number : ℕ) (text : List ℕ) (is : text ≡ grammar_text number) (w
 -- ---- what is refused reads no device
 
 -- no count rises from zero to zero
+
 still : Rose 0 0 → ⊥
 still (inl less) = omega (arith, less)
 still (inr full) = omega (arith, full)

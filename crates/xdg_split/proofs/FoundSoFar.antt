@@ -6,7 +6,7 @@ use Rattle.std.proofs.lemmas.Bool.{eqb-true}
 use Rattle.std.proofs.lemmas.List.{length-map}
 use Rattle.xdg_base.specs.declared.ids.EntryNo.{EntryNo}
 use Rattle.xdg_io.specs.Held.{Appends}
-use Rattle.xdg_io.proofs.Written.{appends_nothing, appends_both}
+use Rattle.xdg_io.proofs.Written.{appends_both}
 use Rattle.xdg_listing.specs.Answered.{Answered, Drawn}
 use Rattle.xdg_listing.specs.Endings.{IsBelow, IsUpTo, IsAt}
 use Rattle.xdg_listing.specs.declared.Ending.{Ending}
@@ -37,20 +37,6 @@ pub record Found (form : Form) (wanted : Option ℕ) (parts : Parts) (start : Li
   pub few : length found ≤ s.charged
   pub below : IsBelow (length found) wanted
   pub written : Appends old new (blocks form parts 1 (map (analysis_of parts) found))
-
-pub found_none : (form : Form) (wanted : Option ℕ) (parts : Parts) (start : List ℕ) (budget : ℕ) (s : Streamed) (old : Option (List ℕ)) → IsBelow 0 wanted → s.parts ≡ parts → s.start ≡ start → s.budget ≡ budget → s.ended ≡ None → IsCharged s [] → Found form wanted parts start budget s 0 old old
-found_none form wanted parts start budget s old below problem begun spends open_still so_far = record {
-  problem = problem;
-  begun = begun;
-  spends = spends;
-  open_still = open_still;
-  found = [];
-  so_far = so_far;
-  count_is = refl;
-  few = omega arith;
-  below = below;
-  written = appends_nothing old;
-}
 
 -- a block more is the blocks before and its own
 pub blocks_more : (form : Form) (parts : Parts) (number : ℕ) (list : List Analysis) (a : Analysis) → blocks form parts number (list ++ a ∷ []) ≡ blocks form parts number list ++ shown form parts (number + length list) a

@@ -41,15 +41,6 @@ pub record Turned (wanted : Option ℕ) (jobs rest : List Asked) (ending : Endin
   pub wants : AllWant wanted rest
   pub problems : AreProblems rest
 
-pub turned_none : (wanted : Option ℕ) (jobs : List Asked) (ending : Ending) (found : List Analysis) → ending ≡ endings.Complete → found ≡ [] → IsSome wanted → AllWant wanted jobs → AreProblems jobs → Turned wanted jobs jobs ending found
-turned_none wanted jobs ending found complete none some wants problems = record {
-  front = [];
-  parts = refl;
-  split = subst (λ e. IsSplit wanted [] e found) (sym complete) (subst (IsSplit wanted [] endings.Complete) (sym none) (split_none wanted some));
-  wants = wants;
-  problems = problems;
-}
-
 -- a turn more
 pub turned_more : (wanted : Option ℕ) (jobs rest turn left : List Asked) (n : ℕ) (ending new : Ending) (found joined : List Analysis) → turn ≡ take n rest → left ≡ drop n rest → Turned wanted jobs rest ending found
     → Continues wanted ending found turn new joined → Turned wanted jobs left new joined

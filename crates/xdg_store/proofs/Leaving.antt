@@ -53,12 +53,6 @@ parts_stay changes.Same old new d v r = ap (λ s. s.parts) r.1
 parts_stay changes.Changed old new d v r = ap (λ s. s.parts) r.2
 parts_stay changes.Emptied old new d v r = ap (λ s. s.parts) r.2
 
--- the turns stay
-pub turns_stay : (change : Change) (old new : State) (d v : ℕ) → Removes change old new d v → new.turns ≡ old.turns
-turns_stay changes.Same old new d v r = ap (λ s. s.turns) r.1
-turns_stay changes.Changed old new d v r = ap (λ s. s.turns) r.2
-turns_stay changes.Emptied old new d v r = ap (λ s. s.turns) r.2
-
 -- the history before is the front of the one after
 pub history_grows : (change : Change) (old new : State) (d v : ℕ) → Removes change old new d v → (more : List (List (List Bool))) × (new.history ≡ old.history ++ more)
 history_grows changes.Same old new d v r = ([], ap (λ s. s.history) r.1 ∙ sym (append-nil old.history))

@@ -9,7 +9,6 @@ pub mod Histories
 pub mod Removals
 pub mod Room
 pub mod Starting
-pub mod NodeRows
 pub mod Rowwise
 pub mod Pairs
 pub mod Daughters

@@ -1,13 +1,12 @@
 -- The bits of one word of a row.
-use Rattle.std.proofs.Common.{◌≡◌, ◌≢◌, ℕ, ◌<◌, ◌≤◌, ◌+◌, ◌-◌, ◌*◌, ◌/◌, ◌%◌, ◌^◌, ◌↔◌, inl, inr, Bool, true, false, cond, not, List, get_or, ap, ap₂, sym, ◌∙◌, arith, subst}
+use Rattle.std.proofs.Common.{◌≡◌, ℕ, ◌<◌, ◌≤◌, ◌+◌, ◌-◌, ◌*◌, ◌/◌, ◌%◌, ◌^◌, ◌↔◌, inl, inr, Bool, true, false, cond, not, List, get_or, ap, ap₂, sym, ◌∙◌, arith, subst}
 use Rattle.std.specs.Prelude.{◌==◌, nat_eq, nat_lt}
 use Rattle.std.specs.Int.{bit_at, bit_not, trailing_zeros, w64}
 use Prim.Native.Nat.{min}
 use lib.Bits.{bit_and}
-use Rattle.std.proofs.lemmas.Bool.{cases_eq, cases_lt, eq-eqb, eqb-false, eqb-true, le-ltb, lt-ltb, ltb-true, ne_eqb, not-true, not_from_false}
+use Rattle.std.proofs.lemmas.Bool.{cases_eq, cases_lt, eq-eqb, eqb-false, le-ltb, lt-ltb, ltb-true, ne_eqb, not-true, not_from_false}
 use Rattle.std.proofs.lemmas.Nat.{and_le_l, one_shl}
 use Rattle.std.proofs.lemmas.Nat.Bits.{bit_at-lt, bit_at-pow_other, bit_at-pow_same, bit_at-trailing_zeros, bit_at-zero, bit_at_and, bit_at_not, bit_at_ones, bit_at_ones_above}
-use Rattle.xdg_store.specs.Layout.{is_set}
 use Rattle.xdg_store.specs.Rows.{HasOther, HasOtherInWord}
 
 -- ---- masks
@@ -28,9 +27,6 @@ bit_mask value first l m i k = ap (λ w. bit_at w i) (one_shl (value - first) 64
       ap (bit_at (2 ^ (value - first))) s ∙ bit_at-pow_same (value - first) ∙ sym (ap (λ b. cond b 1 0) (eq-eqb (first + i) value e))
   | inr n ↦ bit_at-pow_other (value - first) i (λ s. n (omega (arith, s, l))) ∙ sym (ap (λ b. cond b 1 0) (ne_eqb (first + i) value n))
 ]
-
-pub no_mask : (value first i : ℕ) → (first + i ≡ value → ⊥) → bit_at 0 i ≡ cond (first + i == value) 1 0
-no_mask value first i n = bit_at-zero i ∙ sym (ap (λ b. cond b 1 0) (ne_eqb (first + i) value n))
 
 -- ---- a word with a bit
 
@@ -95,12 +91,3 @@ in_row words start place size value word m e (i, k, below, other, is) =
     let at : (start + (place * 64 + i)) / 64 ≡ start / 64 + place = omega (arith, m, k) in
     let bit : (start + (place * 64 + i)) % 64 ≡ i = omega (arith, m, k) in
     (place * 64 + i, below, other, ap₂ (λ p b. nat_eq (bit_at (get_or words p 0) b) 1) at bit ∙ ap (λ z. nat_eq (bit_at z i) 1) (sym e) ∙ eq-eqb (bit_at word i) 1 is)
-
-pub not_in_row : (words : List ℕ) (start place size value word x : ℕ) → start % 64 ≡ 0 → word ≡ get_or words (start / 64 + place) 0 → (HasOtherInWord word (place * 64) size value → ⊥) → place * 64 ≤ x → x < (place + 1) * 64 → x < size → x ≢ value → is_set words (start + x) ≡ true → ⊥
-not_in_row words start place size value word x m e n low high below other set =
-    let i = x - place * 64 in
-    let at : (start + x) / 64 ≡ start / 64 + place = omega (arith, m, low, high) in
-    let bit : (start + x) % 64 ≡ i = omega (arith, m, low, high) in
-    let back : place * 64 + i ≡ x = omega (arith, low) in
-    let is : nat_eq (bit_at word i) 1 ≡ true = ap (λ z. nat_eq (bit_at z i) 1) e ∙ sym (ap₂ (λ p b. nat_eq (bit_at (get_or words p 0) b) 1) at bit) ∙ set in
-    n (i, omega (arith, low, high), subst (λ z. z < size) (sym back) below, (λ s. other (sym back ∙ s)), eqb-true (bit_at word i) 1 is)

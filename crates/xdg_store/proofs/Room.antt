@@ -17,7 +17,6 @@ use Rattle.xdg_problem.proofs.Counted.{length_attrs_of}
 use Rattle.xdg_problem.proofs.Ordered.{each_at}
 use Rattle.xdg_problem.proofs.PlaceCount.{length_places_of}
 use Rattle.xdg_problem.proofs.VectorFacts.{length_shape}
-use Rattle.xdg_store.specs.Layout.{bit_count}
 use Rattle.xdg_store.proofs.Boxed.{IsSize, sizes_fit}
 
 -- ---- attributes
@@ -118,12 +117,6 @@ places_few parts p =
     omega (arith, e, f)
 
 -- ---- bits
-
-pub bits_few : (parts : Parts) → IsProblem parts → bit_count parts ≤ 16908288
-bits_few parts p =
-    let e = mul-le (length parts.dims) (nodes parts) 8 128 p.dims_most p.most in
-    let f = p.most in
-    omega (arith, e, f)
 
 -- the code's count of the decisions before those of edges
 pub first_is : (parts shown : Parts) (n count : ℕ) (dims : List DimPlan) → IsProblem parts → shown ≡ parts → n ≡ length shown.words → dims ≡ shown.dims → count ≡ length (attr_sizes n dims) → n + count ≡ first_place parts

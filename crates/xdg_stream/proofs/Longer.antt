@@ -31,11 +31,6 @@ module _ {P : Type 0} (stands : P → Parts → ℕ → Type 0) (props : List P)
 
 -- ---- boxes that agree with a prefix
 
-agrees_long : (box : List (List Bool)) (p : List ℕ) → Agrees box p → length p ≤ length box
-agrees_long box [] agrees = omega arith
-agrees_long [] (x ∷ p) agrees = absurd agrees
-agrees_long (row ∷ box) (x ∷ p) agrees = (let l = agrees_long box p agrees.1 in omega (arith, l))
-
 agrees_of : (box : List (List Bool)) (p : List ℕ) → length p ≤ length box → ((d : ℕ) → d < length p → (v : ℕ) → Has box d v ↔ (v ≡ slice_index p d)) → Agrees box p
 agrees_of box [] l at = tt
 agrees_of [] (x ∷ p) l at = absurd (omega (arith, l))

@@ -12,7 +12,7 @@ use Rattle.xdg_problem.specs.declared.parts.DimPlan.{DimPlan}
 use Rattle.xdg_problem.specs.declared.parts.Parts.{Parts}
 use Rattle.xdg_problem.specs.Analyses.{Before, IsPlace}
 use Rattle.xdg_problem.specs.Arguments.{no_plan, attr_count}
-use Rattle.xdg_problem.specs.Boxes.{entry_decision, attr_decision, edge_decision, place_in}
+use Rattle.xdg_problem.specs.Boxes.{attr_decision, edge_decision, place_in}
 use Rattle.xdg_problem.specs.Places.{nodes, numbers_from, below, places}
 use Rattle.xdg_problem.specs.Problems.{IsProblem}
 use Rattle.xdg_problem.specs.Vectors.{attr_sizes, shape, first_place}
@@ -20,9 +20,9 @@ use Rattle.xdg_problem.proofs.Edges.{same_edge_itself, before_apart}
 use Rattle.xdg_problem.proofs.Ordered.{Ordered, each_at}
 use Rattle.xdg_problem.proofs.PlaceOrder.{is_place, place_is, places_ordered}
 use Rattle.xdg_problem.proofs.VectorFacts.{length_shape}
-use Rattle.xdg_store.specs.InRange.{HasCandidate, HasValue}
+use Rattle.xdg_store.specs.InRange.{HasValue}
 use Rattle.xdg_store.specs.Layout.{bits_of}
-use Rattle.xdg_store.proofs.Located.{Located, entry_located, attr_located}
+use Rattle.xdg_store.proofs.Located.{Located, attr_located}
 use Rattle.xdg_store.proofs.Sizes.{bits_sizes}
 use Rattle.xdg_rules.proofs.Sizes.{edge_size}
 use Rattle.xdg_listing.proofs.Numbers.{some_after}
@@ -39,9 +39,6 @@ located_size parts d start count at =
     ∙ get_or-map length (bits_of parts) d [] 0 at.within
     ∙ ap length at.is
     ∙ row_length start count
-
-pub has_candidate : (parts : Parts) (node value : ℕ) → IsProblem parts → node < nodes parts → value < slice_index (shape parts) (entry_decision node) → HasCandidate parts node value
-has_candidate parts node value is l v = record { node_in = l; place_in = subst (λ n. value < n) (located_size parts (entry_decision node) _ _ (entry_located parts is.candidates_each node l)) v }
 
 pub has_value : (parts : Parts) (node dim attr value : ℕ) → IsProblem parts → (dim < length parts.dims) × (node < nodes parts) × (attr < attr_count parts dim) → value < slice_index (shape parts) (attr_decision parts dim node attr) → HasValue parts node dim attr value
 has_value parts node dim attr value is l v = record {

@@ -1,5 +1,5 @@
 -- What each step of a search does to what it has passed since some prefix.
-use Rattle.std.proofs.Common.{◌≡◌, ◌≢◌, ℕ, ◌+◌, inl, inr, List, [], ◌∷◌, ◌++◌, length, refl, ap, sym, ◌∙◌, subst, length-append, filter}
+use Rattle.std.proofs.Common.{◌≡◌, ◌≢◌, ℕ, ◌+◌, inl, inr, List, [], ◌∷◌, ◌++◌, length, ap, ◌∙◌, subst, length-append, filter}
 use Rattle.xdg_listing.specs.Order.{Less, AtMost}
 use Rattle.xdg_listing.specs.Fits.{Fits}
 use Rattle.xdg_listing.specs.Listing.{IsListing, SoFar, Before}
@@ -21,16 +21,6 @@ pub record Passes (shape : List ℕ) (P : List ℕ → Type 0) (from c : List �
   pub none : filter (is_whole shape) passed ≡ []
   pub listing : IsListing shape (Before P c) from passed
   pub told : from ≡ kept → last_from from passed ≡ now
-
-pub passes_none : (shape : List ℕ) (P : List ℕ → Type 0) (from c : List ℕ) (n : ℕ) (kept : List ℕ) → n ≡ 0 → Next shape P from c → Passes shape P from c n kept kept
-passes_none shape P from c n kept z e = record {
-  above = e.above;
-  passed = [];
-  count = sym z;
-  none = refl;
-  listing = record { rises = tt; each = tt; all = λ x f b l. absurd (e.none x f b.0 l b.1) };
-  told = λ same. same;
-}
 
 pub later : (shape : List ℕ) (P : List ℕ → Type 0) (from c d : List ℕ) (n : ℕ) (kept now : List ℕ) → Less c d → ((x : List ℕ) → Fits shape x → P x → AtMost c x → AtMost d x) → Passes shape P from c n kept now → Passes shape P from d n kept now
 later shape P from c d n kept now l none p = record {

@@ -7,10 +7,10 @@ use Rattle.xdg_listing.specs.Listing.{IsListing, SoFar}
 use Rattle.xdg_listing.specs.Closed.{NoneAfter, SomeAfter}
 use Rattle.xdg_listing.specs.Passed.{Charges, Finds}
 use Rattle.xdg_listing.specs.Answered.{Drawn, Answered}
-use Rattle.xdg_listing.specs.Endings.{IsBelow, IsAt}
+use Rattle.xdg_listing.specs.Endings.{IsBelow}
 use Rattle.xdg_listing.specs.declared.Ending.TheVariants as endings
 use Rattle.xdg_listing.proofs.Exists.{each_weaker}
-use Rattle.xdg_listing.proofs.Drawing.{drawn_none, drawn_found, drawn_charged}
+use Rattle.xdg_listing.proofs.Drawing.{drawn_found, drawn_charged}
 use Rattle.xdg_stream.specs.Problem.{SameProblem}
 use Rattle.xdg_stream.specs.Place.{place, Next}
 use Rattle.xdg_stream.specs.Halts.{Halts}
@@ -44,9 +44,6 @@ charges_same shape P later Q from to n s f =
     let g : Charges shape Q from to n = subst (λ z. Charges z Q from to n) s.sizes f in
     record { passed = g.passed; count = g.count; none = g.none; listing = listing_same shape P Q from to g.passed (flat shape P later Q s) g.listing }
 
-pub progress_start : (shape : List ℕ) (P : List ℕ → Type 0) (start : List ℕ) (later : List ℕ) (Q : List ℕ → Type 0) (numbers : List ℕ) (value : ℕ) (done : Option Step) (charged : ℕ) → SameProblem shape P later Q → Next shape P start (place numbers value) → charged ≡ 0 → Progress shape P start later Q numbers value done charged []
-progress_start shape P start later Q numbers value done charged s e z = record { same = s; front = start; drawn = drawn_none shape P start charged z; next = λ d. e }
-
 -- a call that found a whole vector: later and Q are the problem as that call began, last and R as it ended
 pub progress_found : (shape : List ℕ) (P : List ℕ → Type 0) (start : List ℕ) (later : List ℕ) (Q : List ℕ → Type 0) (last : List ℕ) (R : List ℕ → Type 0) (numbers : List ℕ) (value : ℕ) (done : Option Step) (charged : ℕ) (grown : List ℕ) (after : ℕ) (halted : Option Step) (more : ℕ) (answers : List (List ℕ)) → Progress shape P start later Q numbers value done charged answers → done ≡ None → charged ≤ more → SameProblem later Q last R → Next later Q grown (place grown after) → ((from : List ℕ) → Next later Q from (place numbers value) → Less from grown × Finds later Q from grown (more - charged)) → Progress shape P start last R grown after halted more (answers ++ grown ∷ [])
 progress_found shape P start later Q last R numbers value done charged grown after halted more answers p d c s e finds =
@@ -71,19 +68,3 @@ pub progress_spent : (shape : List ℕ) (P : List ℕ → Type 0) (start : List 
 progress_spent shape P start later Q numbers value done charged more b wanted answers p d c e w halts =
     let h = halts p.front (next_same_now shape P later Q p.front (place numbers value) p.same (p.next d)) in
     (h.to, subst (λ k. Drawn shape P start h.to k answers) e (halted_drawn shape P start later Q numbers value done charged more answers (SomeAfter later Q) p c h), (h.rest.0, subst (λ z. Fits z h.rest.0) p.same.sizes h.rest.1, (p.same.counts h.rest.0).0 h.rest.2, h.rest.3), w)
-
-pub progress_first : (shape : List ℕ) (P : List ℕ → Type 0) (start : List ℕ) (later : List ℕ) (Q : List ℕ → Type 0) (numbers : List ℕ) (value : ℕ) (done : Option Step) (charged b : ℕ) (wanted : Option ℕ) (answers : List (List ℕ)) → Progress shape P start later Q numbers value done charged answers → charged ≤ b → IsAt (length answers) wanted → Answered endings.First shape P start b wanted answers
-progress_first shape P start later Q numbers value done charged b wanted answers p l w = (p.front, charged, p.drawn, l, w)
-
--- a call that found none: the search is done, what it has charged is told for good, and what is left behind the front
-pub progress_halted : (shape : List ℕ) (P : List ℕ → Type 0) (start : List ℕ) (later : List ℕ) (Q : List ℕ → Type 0) (last : List ℕ) (R : List ℕ → Type 0) (numbers : List ℕ) (value : ℕ) (done : Option Step) (charged : ℕ) (left : List ℕ) (after : ℕ) (halted : Option Step) (more : ℕ) (answers : List (List ℕ)) (Leaves : List ℕ → Type 0) → Progress shape P start later Q numbers value done charged answers → done ≡ None → (halted ≡ None → ⊥) → charged ≤ more → SameProblem later Q last R → ((from : List ℕ) → Next later Q from (place numbers value) → Halts later Q from (more - charged) Leaves) → (p : Progress shape P start last R left after halted more answers) × Leaves p.front
-progress_halted shape P start later Q last R numbers value done charged left after halted more answers Leaves p d stops c s halts =
-    let h = halts p.front (next_same_now shape P later Q p.front (place numbers value) p.same (p.next d)) in (
-      record {
-        same = same_then shape P later Q last R p.same s;
-        front = h.to;
-        drawn = halted_drawn shape P start later Q numbers value done charged more answers Leaves p c h;
-        next = λ e. absurd (stops e);
-      },
-      h.rest,
-    )

@@ -5,7 +5,7 @@ use Rattle.std.proofs.lemmas.Bool.{cases_eq, cases_lt}
 use Rattle.xdg_problem.specs.Boxes.{Has, IsOnly, LiesIn}
 use Rattle.xdg_problem.specs.Vectors.{shape}
 use Rattle.xdg_propcore.specs.Steps.{Extends}
-use Rattle.xdg_propcore.proofs.Settling.{extends_none, extends_both}
+use Rattle.xdg_propcore.proofs.Settling.{extends_both}
 use Rattle.xdg_rules.proofs.Removing.{lies_without}
 use Rattle.xdg_rules.proofs.Sizes.{within_sizes}
 use Rattle.xdg_store.specs.Change.{Removes}
@@ -41,45 +41,17 @@ abbrev not_same : Change → Type 0
 not_same changes.Same = ⊥
 not_same _ = Unit {0}
 
-same_proper : changes.Same ≢ changes.Emptied
-same_proper e = subst not_emptied e tt
-
 changed_proper : changes.Changed ≢ changes.Emptied
 changed_proper e = subst not_emptied e tt
 
 changed_same : changes.Changed ≡ changes.Same → ⊥
 changed_same e = subst not_same e tt
 
-pub restrict_start : (old : State) (d v i : ℕ) → Known old → i ≡ 0 → Restricting old old changes.Same d v i
-restrict_start old d v i known z = record {
-  known = known;
-  extends = extends_none old;
-  proper = same_proper;
-  same = λ e. refl;
-  gone = λ x l. absurd (omega (arith, l, z));
-  kept = λ small lies only. lies;
-  stays = λ h. h;
-  others = λ e x h n. h;
-}
-
 next_gone : (P : ℕ → Type 0) (v i x : ℕ) → ((y : ℕ) → y < i → y ≢ v → P y → ⊥) → (i ≢ v → P i → ⊥) → x < i + 1 → x ≢ v → P x → ⊥
 next_gone P v i x before here l n p = elim (cases_lt x i) [
   | inl less ↦ before x less n p
   | inr more ↦ (let e : x ≡ i = omega (arith, l, more) in here (λ q. n (e ∙ q)) (subst P e p))
 ]
-
--- the value that stays
-pub restrict_skip : (old now : State) (made : Change) (d v i : ℕ) → i ≡ v → Restricting old now made d v i → Restricting old now made d v (i + 1)
-restrict_skip old now made d v i e r = record {
-  known = r.known;
-  extends = r.extends;
-  proper = r.proper;
-  same = r.same;
-  gone = λ x l n. next_gone (Has now.now d) v i x r.gone (λ other. absurd (other e)) l n;
-  kept = r.kept;
-  stays = r.stays;
-  others = r.others;
-}
 
 -- a value that didn't remain
 pub restrict_same : (old now new : State) (made : Change) (d v i : ℕ) → Known new → Removes changes.Same now new d i → Restricting old now made d v i → Restricting old new made d v (i + 1)
@@ -106,13 +78,6 @@ restrict_changed old now new made d v i other known m r = record {
   stays = λ h. subst (λ s. Has s.now d v) (sym m.2) (others_stay now.now d i d v (r.stays h) (inr (λ e. other (sym e))));
   others = λ e x h n. subst (λ s. Has s.now e x) (sym m.2) (others_stay now.now d i e x (r.others e x h n) (inl n));
 }
-
--- the value to stay doesn't remain
-pub restrict_emptied : (old now new : State) (made : Change) (d v i : ℕ) → i ≢ v → Removes changes.Emptied now new d i → Restricting old now made d v i → Restricts changes.Emptied old.now new.now d v
-restrict_emptied old now new made d v i other m r h = other (sym (m.1 v (r.stays h)))
-
-pub emptied_extends : (old now new : State) (made : Change) (d v i e : ℕ) → Removes changes.Emptied now new e i → Restricting old now made d v i → Extends old new
-emptied_extends old now new made d v i e m r = extends_both old now new r.extends (removal_extends changes.Emptied now new e i m)
 
 all_gone : (old now : State) (made : Change) (d v i size : ℕ) → size ≡ slice_index (shape old.parts) d → size ≤ i → Restricting old now made d v i → IsRestricted old.now now.now d v
 all_gone old now made d v i size is past r = record {

@@ -1,13 +1,12 @@
 -- The steps of the search, in the words of what a front ensures: shape and P are the problem as the call began, later and Q
 -- the same problem as the front has it now.
-use Rattle.std.proofs.Common.{◌≡◌, ◌≢◌, ℕ, zero, suc, ◌<◌, ◌≤◌, ◌+◌, ◌⊎◌, inl, inr, List, [], ◌∷◌, ◌++◌, length, take, drop, get_or, refl, ap, sym, ◌∙◌, arith, subst, length-append, append_assoc}
+use Rattle.std.proofs.Common.{◌≡◌, ◌≢◌, ℕ, ◌<◌, ◌≤◌, ◌+◌, ◌⊎◌, inl, inr, List, [], ◌∷◌, ◌++◌, length, take, drop, get_or, refl, ap, sym, ◌∙◌, arith, subst, length-append, append_assoc}
 use Rattle.std.proofs.lemmas.List.{append-nil, take_all, take-take, take-append-drop}
 use Rattle.std.proofs.Math.Seq.{take-append_seam}
 use Rattle.xdg_listing.specs.Order.{Less}
 use Rattle.xdg_listing.specs.Fits.{Fits}
 use Rattle.xdg_listing.specs.Closed.{Closed, NoneAfter, SomeAfter}
 use Rattle.xdg_listing.specs.Passed.{Finds}
-use Rattle.xdg_listing.specs.Whole.{Whole}
 use Rattle.xdg_listing.proofs.Fitting.{fits_push, fits_front, fits_last, fits_length}
 use Rattle.xdg_stream.specs.Problem.{SameProblem}
 use Rattle.xdg_stream.specs.Place.{place, Stands}
@@ -138,12 +137,6 @@ finished shape P later Q from numbers value n kept now closed s out h p =
     ended_at shape P from (place numbers value) n kept now (λ x f c k. none_back shape P numbers x value closed (last_same shape P later Q [] numbers s h) (out_of_range shape P later Q (length numbers) value s out) f c k) p
 
 -- ---- the numbers that are kept
-
--- as many numbers as the front of a list has are the front
-pub front_again : (k : ℕ) (xs : List ℕ) → take (length (take k xs)) xs ≡ take k xs
-front_again zero xs = refl
-front_again (suc k) [] = refl
-front_again (suc k) (x ∷ xs) = ap (λ z. x ∷ z) (front_again k xs)
 
 -- the front of what is kept, where its last numbers go
 pub begins_back : (numbers r t kept : List ℕ) → take (length numbers) kept ≡ numbers → numbers ≡ r ++ t → take (length r) kept ≡ r

@@ -34,19 +34,11 @@ is_found steps.Found = Unit {0}
 is_found steps.End = ⊥
 is_found steps.Spent = ⊥
 
-abbrev is_spent : Step → Type 0
-is_spent steps.Spent = Unit {0}
-is_spent steps.Found = ⊥
-is_spent steps.End = ⊥
-
 pub end_found : steps.End ≢ steps.Found
 end_found e = subst is_found (sym e) tt
 
 pub spent_found : steps.Spent ≢ steps.Found
 spent_found e = subst is_found (sym e) tt
-
-pub spent_end : steps.Spent ≢ steps.End
-spent_end e = subst is_spent e tt
 
 abbrev is_some_step : Option Step → Type 0
 is_some_step None = ⊥
@@ -102,6 +94,7 @@ module _ (parts : Parts) (problem : IsProblem parts) where
 -- ---- the start
 
 -- the vector of the analysis behind which a stream begins fits
+
 pub start_fits : (parts : Parts) (after : Option Analysis) → IsProblem parts → IsStart parts after → Fits (shape parts) (start_vector parts after)
 start_fits parts None problem is = tt
 start_fits parts (Some a) problem is = vector_fits parts a problem is

@@ -1,15 +1,11 @@
 -- How many answers are wanted, and the list of them.
-use Rattle.std.proofs.Common.{◌≡◌, ◌≢◌, ℕ, ◌+◌, List, [], ◌∷◌, ◌++◌, length, refl, ap, sym, ◌∙◌, arith, true, false, Some, None, eqb}
+use Rattle.std.proofs.Common.{◌≡◌, ◌≢◌, ℕ, ◌+◌, List, [], ◌∷◌, ◌++◌, length, refl, ap, arith, false, Some, None, eqb}
 use Rattle.std.specs.Prelude.{Option, Vec}
 use Rattle.std.specs.Global.{Global}
 use Rattle.std.specs.Option.{option_eq}
-use Rattle.std.proofs.lemmas.Bool.{eqb-true, eqb-false}
-use Rattle.xdg_listing.specs.Endings.{IsBelow, IsUpTo, IsAt}
+use Rattle.std.proofs.lemmas.Bool.{eqb-false}
+use Rattle.xdg_listing.specs.Endings.{IsBelow, IsUpTo}
 use Rattle.xdg_stream.specs.Vectors.{vectors}
-
-pub wanted_stop : (k m : ℕ) (o : Option ℕ) → k ≡ m → option_eq eqb o (Some k) ≡ true → IsAt m o
-wanted_stop k m None e h = cc
-wanted_stop k m (Some n) e h = sym (eqb-true n k h ∙ e)
 
 pub wanted_go_on : (k m : ℕ) (o : Option ℕ) → k ≡ m → IsUpTo m o → option_eq eqb o (Some k) ≡ false → IsBelow m o
 wanted_go_on k m None e u h = tt
@@ -18,10 +14,6 @@ wanted_go_on k m (Some n) e u h = let f = eqb-false n k h in let ne : n ≢ k = 
 pub wanted_more : (m k : ℕ) (o : Option ℕ) → IsBelow m o → k ≡ m + 1 → IsUpTo k o
 wanted_more m k None b e = tt
 wanted_more m k (Some n) b e = omega arith
-
-pub wanted_none : (m : ℕ) (o : Option ℕ) → m ≡ 0 → IsUpTo m o
-wanted_none m None e = tt
-wanted_none m (Some n) e = omega arith
 
 pub vectors_length : (vs : List (Vec ℕ Global)) → length (vectors vs) ≡ length vs
 vectors_length [] = refl

@@ -1,6 +1,5 @@
 -- What is said of keys, key after key.
-use Rattle.std.proofs.Common.{◌≡◌, ℕ, ◌<◌, ◌≤◌, ◌+◌, zero, suc, List, [], ◌∷◌, ◌++◌, length, get_or, drop, map, Option, None, Some, refl, ap, ap₂, sym, ◌∙◌, arith, subst, append_assoc}
-use Rattle.std.proofs.lemmas.List.{drop_all}
+use Rattle.std.proofs.Common.{◌≡◌, ℕ, ◌<◌, ◌+◌, zero, suc, List, [], ◌∷◌, ◌++◌, length, get_or, drop, map, Option, None, Some, refl, ap, ap₂, sym, ◌∙◌, arith, subst, append_assoc}
 use Rattle.xdg_domain.specs.declared.types.Ty.{Ty}
 use Rattle.xdg_domain.specs.declared.types.Ty.TheVariants as ty
 use Rattle.xdg_domain.specs.declared.types.Ty.TheOpen.{Ty-F}
@@ -9,7 +8,6 @@ use Rattle.xdg_domain.specs.declared.values.Value.{Value}
 use Rattle.xdg_domain.specs.declared.values.Value.TheVariants as v
 use Rattle.xdg_domain.specs.Keys.{KeysBelow}
 use Rattle.xdg_domain.specs.Shapes.{Shape, shape, layer, fields, field_then, fields_of, IsType, AreTypes}
-use Rattle.xdg_domain.proofs.Merging.{append_nothing}
 use Rattle.xdg_domain.proofs.KeyAfterKey.{below_more}
 use Rattle.xdg_domain.specs.Values.{EachSaid}
 use Rattle.xdg_terms.specs.Fitting.{FitsIn, FitsField, Fits}
@@ -42,9 +40,6 @@ module _ {A V : Type 0} (make : A → V) (find : List ℕ → Option A) (cs : Li
       ∙ sym (ap (λ o. made ++ put make k o rest) some)
       ∙ said_turn within is before
 
-pub said_all : {A V : Type 0} (make : A → V) (find : List ℕ → Option A) (cs : List (List ℕ)) (k : ℕ) (made whole : List (ℕ × V)) → length cs ≤ k → made ++ said_from make find k (drop k cs) ≡ whole → made ≡ whole
-said_all make find cs k made whole ended before = sym (append_nothing made) ∙ ap (λ l. made ++ said_from make find k l) (sym (drop_all k cs ended)) ∙ before
-
 -- ---- fields
 
 next_fields : (fs : List (List ℕ × Ty)) (k : ℕ) (f : List ℕ × Ty) → k < length fs → f ≡ get_or fs k f → fields_in (drop k fs) ≡ field_then f.0 (shape f.1) (fields_in (drop (k + 1) fs))
@@ -72,9 +67,6 @@ module _ (bs : Bindings) (elems : List Elem) (fs : List (List ℕ × Ty)) (k : �
       ∙ append_assoc made ((k, built bs (shape f.1) written) ∷ []) rest
       ∙ sym (ap (λ o. made ++ put (λ (t : Term). built bs (shape f.1) t) k o rest) some)
       ∙ field_turn within is before
-
-pub fields_all : (bs : Bindings) (elems : List Elem) (fs : List (List ℕ × Ty)) (k : ℕ) (made whole : List (ℕ × Value)) → length fs ≤ k → made ++ fields_from bs (fields_in (drop k fs)) elems k ≡ whole → made ≡ whole
-fields_all bs elems fs k made whole ended before = sym (append_nothing made) ∙ ap (λ (l : List (List ℕ × Ty)). made ++ fields_from bs (fields_in l) elems k) (sym (drop_all k fs ended)) ∙ before
 
 -- ---- record types
 

@@ -1,20 +1,18 @@
 -- What an analysis of a problem gives to the writers of its lines.
-use Rattle.std.proofs.Common.{◌≡◌, ◌<◌, ◌≤◌, ◌+◌, ◌*◌, ◌++◌, ℕ, zero, suc, List, [], ◌∷◌, length, drop, map, get_or, refl, sym, ap, ◌∙◌, subst, arith, append_assoc, zero-mul, All}
-use Rattle.std.proofs.lemmas.List.{get_or_default, drop-drop}
+use Rattle.std.proofs.Common.{◌≡◌, ◌≤◌, ◌+◌, ◌*◌, ◌++◌, ℕ, zero, suc, List, [], ◌∷◌, length, drop, map, refl, sym, ap, ◌∙◌, subst, arith, append_assoc, zero-mul}
+use Rattle.std.proofs.lemmas.List.{drop-drop}
 use Rattle.std.specs.List.{flat_map}
 use Rattle.xdg_base.specs.declared.ids.EntryNo.{EntryNo}
 use Rattle.xdg_listing.specs.Fits.{Fits}
-use Rattle.xdg_problem.specs.declared.analysis.Edge.{Edge}
 use Rattle.xdg_problem.specs.declared.analysis.Analysis.{Analysis}
 use Rattle.xdg_problem.specs.declared.parts.AttrPlan.{AttrPlan}
 use Rattle.xdg_problem.specs.declared.parts.DimPlan.{DimPlan}
 use Rattle.xdg_problem.specs.declared.parts.Parts.{Parts}
-use Rattle.xdg_problem.specs.Analyses.{HasCandidates, IsPlace, IsAnalysis}
+use Rattle.xdg_problem.specs.Analyses.{HasCandidates, IsAnalysis}
 use Rattle.xdg_problem.specs.Places.{numbers_from}
 use Rattle.xdg_problem.specs.Problems.{IsProblem}
 use Rattle.xdg_problem.specs.Vectors.{attr_sizes}
-use Rattle.xdg_text.specs.Blocks.{no_plan}
-use Rattle.xdg_text.specs.Ranges.{HasValues, NodesHaveValues, DimsHaveValues, HasNames}
+use Rattle.xdg_text.specs.Ranges.{HasValues, NodesHaveValues, DimsHaveValues}
 
 -- numbers that go with the sizes are there, and the numbers after them go with the other sizes
 record Has (here : Type 0) (more : List ℕ) (left : List ℕ) : Type 0 where
@@ -60,16 +58,3 @@ entries_each parts analysis problem fits = same_count parts.candidates analysis.
 -- each attribute of each node has one of its values
 pub values_there : (parts : Parts) (analysis : Analysis) → IsAnalysis parts analysis → DimsHaveValues (length parts.words) parts.dims analysis.attrs
 values_there parts analysis fits = fits_dims (length parts.words) parts.dims analysis.attrs fits.attrs (omega (arith, fits.attr_count))
-
--- a dimension has few attributes
-pub few_attrs : (parts : Parts) → IsProblem parts → All (λ plan. length plan.attrs ≤ 8) parts.dims
-few_attrs parts problem k d within = (problem.dims k d within).attrs_most
-
-names_of_place : (parts : Parts) (e : Edge) → IsPlace parts e → HasNames parts.dims e
-names_of_place parts e place =
-    let is : get_or parts.dims e.dim.0 no_plan ≡ place.plan = get_or_default parts.dims e.dim.0 no_plan place.plan place.dim ∙ place.is_plan in
-    (place.dim, subst (λ plan. e.label.0 < length plan.labels) (sym is) place.label)
-
--- each edge has a dimension and a label
-pub names_there : (parts : Parts) (analysis : Analysis) → IsAnalysis parts analysis → All (HasNames parts.dims) analysis.edges
-names_there parts analysis fits k d within = names_of_place parts (get_or analysis.edges k d) (fits.places k d within)

@@ -1,5 +1,5 @@
 -- How the lines of a block follow each other, list by list.
-use Rattle.std.proofs.Common.{◌≡◌, ◌<◌, ◌≤◌, ◌+◌, ◌*◌, ◌-◌, ◌++◌, ℕ, zero, suc, List, [], ◌∷◌, length, drop, map, get_or, sym, ap, ap₂, ◌∙◌, subst, add-one, arith, mul-le-mul}
+use Rattle.std.proofs.Common.{◌≡◌, ◌<◌, ◌≤◌, ◌+◌, ◌*◌, ◌-◌, ◌++◌, ℕ, zero, suc, List, [], ◌∷◌, length, drop, map, get_or, sym, ap, ap₂, ◌∙◌, subst, add-one, arith}
 use Rattle.std.proofs.Math.Seq.{drop-cons}
 use Rattle.std.proofs.lemmas.List.{length-drop}
 use Rattle.xdg_base.specs.declared.ids.EntryNo.{EntryNo}
@@ -71,10 +71,6 @@ dims_values n plans i plan values count later within is size rest has =
     let ends : later ≡ drop (n * length plan.attrs) values = rest ∙ ap (λ z. drop (n * z) values) size in
     let both : NodesHaveValues plan.attrs n values × DimsHaveValues n (drop (i + 1) plans) (drop (n * length plan.attrs) values) = subst (λ z. DimsHaveValues n z values) (plans_from plans i plan within is) has in
     (both.0, subst (λ z. DimsHaveValues n (drop (i + 1) plans) z) (sym ends) both.1)
-
--- so few attributes have a product with the nodes that fits
-pub small_product : (n count : ℕ) → n ≤ 128 → count ≤ 8 → n * count ≤ 1024
-small_product n count nodes attrs = let both : n * count ≤ 128 * 8 = mul-le-mul nodes attrs in omega (arith, both)
 
 sizes : List AttrPlan → List ℕ
 sizes attrs = map (λ attr. length attr.values) attrs

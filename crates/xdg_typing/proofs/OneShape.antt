@@ -70,9 +70,6 @@ rolled_told z = ap of_shape (fold-roll-Ty Shape layer (forget z)) ∙ layer_told
 pub type_told : (t : Ty) → of_shape (shape t) ≡ t
 type_told = ind-Ty (λ t. of_shape (shape t) ≡ t) (λ x z is. subst (λ l. of_shape (shape (roll-Ty l)) ≡ roll-Ty l) is (rolled_told z))
 
-pub one_type : (t u : Ty) → shape t ≡ shape u → t ≡ u
-one_type t u same = sym (type_told t) ∙ ap of_shape same ∙ type_told u
-
 -- ---- names with types
 
 of_typed : Typed → List (List ℕ × Ty)

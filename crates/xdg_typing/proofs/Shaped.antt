@@ -1,16 +1,13 @@
 -- The shapes of types, form by form.
-use Rattle.std.proofs.Common.{◌≡◌, ℕ, ◌+◌, ◌<◌, ◌≤◌, List, [], ◌∷◌, ◌++◌, length, take, get_or, map, add-one, ap, ap₂, sym, ◌∙◌, refl, Bool, arith}
+use Rattle.std.proofs.Common.{◌≡◌, ℕ, List, [], ◌∷◌, map, ap, ap₂, sym, ◌∙◌, refl, Bool}
 use Rattle.std.specs.Prelude.{IsTrue, ◌↔◌}
-use Rattle.std.proofs.Math.Seq.{take-suc}
-use Rattle.std.proofs.lemmas.List.{map-append}
-use Rattle.std.proofs.lemmas.Grind.{common_steps}
 use Rattle.xdg_ast.specs.declared.names.Pair.{Pair}
 use Rattle.xdg_ast.specs.declared.types.TypeKind.{TypeKind}
 use Rattle.xdg_ast.specs.declared.types.TypeKind.TheVariants as y
 use Rattle.xdg_domain.specs.declared.types.Ty.{Ty, out-Ty, map-Ty, fold_out-Ty}
 use Rattle.xdg_domain.specs.declared.types.Ty.TheOpen.{Ty-F}
 use Rattle.xdg_domain.specs.declared.types.Ty.TheVariants as t
-use Rattle.xdg_domain.specs.Shapes.{Shape, domain, tuple, truth, integer, text, set, iset, card, valency, mapping, fields, no_field, field_then, shape_then, layer, shape, shapes_of, fields_of}
+use Rattle.xdg_domain.specs.Shapes.{Shape, tuple, text, set, iset, valency, mapping, fields, no_field, field_then, shape_then, layer, shape, shapes_of, fields_of}
 use Rattle.xdg_types.specs.Written.{tree}
 use Rattle.xdg_types.specs.Parts.{TypeTerm}
 use Rattle.xdg_types.specs.Meaning.{meaning, domains_meaning, fields_meaning, as_domain}
@@ -84,31 +81,4 @@ module _ (names : List ℕ → Shape) where
 
 -- ---- where a domain is wanted
 
-pub stays_domain : (s m : Shape) → s ≡ m → (s ≡ fields no_field → ⊥) → s ≡ as_domain m
-stays_domain s m is not_empty = is ∙ kept m (λ e. not_empty (is ∙ e)) where
-  kept : (m : Shape) → (m ≡ fields no_field → ⊥) → m ≡ as_domain m
-  kept (fields no_field) h = absurd (h refl)
-  kept (fields (field_then name u fs)) h = refl
-  kept (domain cs) h = refl
-  kept (tuple ss) h = refl
-  kept truth h = refl
-  kept integer h = refl
-  kept text h = refl
-  kept (set u) h = refl
-  kept (iset u) h = refl
-  kept card h = refl
-  kept (valency u) h = refl
-  kept (mapping k u) h = refl
-
 -- ---- lists, element by element
-
-pub map_more : {A B C : Type 0} (f : B → C) (g : A → C) (xs : List A) (k : ℕ) (x : A) (made next : List B) (y : B) → k < length xs → x ≡ get_or xs k x → f y ≡ g x → next ≡ made ++ y ∷ []
-    → map f made ≡ map g (take k xs) → map f next ≡ map g (take (k + 1) xs)
-map_more f g xs k x made next y within at is grown before =
-    let front : take (k + 1) xs ≡ take k xs ++ x ∷ [] = rw add-one (take-suc xs k x within ∙ ap (λ z. take k xs ++ z ∷ []) (sym at)) in
-    ap (map f) grown ∙ map-append f made (y ∷ []) ∙ ap₂ (λ u z. u ++ z ∷ []) before is ∙ sym (map-append g (take k xs) (x ∷ [])) ∙ sym (ap (map g) front)
-
-pub map_done : {A B C : Type 0} (f : B → C) (g : A → C) (xs : List A) (k : ℕ) (made : List B) → length xs ≤ k → map f made ≡ map g (take k xs) → map f made ≡ map g xs
-map_done f g xs k made ended before = before ∙ ap (map g) (whole k xs ended) where
-  whole : {A : Type 0} (k : ℕ) (xs : List A) → length xs ≤ k → take k xs ≡ xs
-  whole k xs h = grind (arith, common_steps)
