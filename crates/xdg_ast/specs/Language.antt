@@ -1,6 +1,7 @@
 -- Languages of tokens. Each has a relation, which says what a list of tokens stands for, and a reading function, which goes
 -- over the tokens from the left and looks at one of them ahead.
-use Rattle.std.specs.Prelude.{◌≡◌, ℕ, zero, suc, Bool, true, false, ◌||◌, ◌&&◌, ◌⊎◌, if◌then◌else◌, ◌==◌, List, [], ◌∷◌, ◌++◌, length, Option, Some, None, Result, Ok, Err}
+use Rattle.std.specs.Prelude.{◌≡◌, ℕ, zero, suc, Bool, true, false, ◌||◌, ◌&&◌, ◌⊎◌, if◌then◌else◌, ◌==◌, List, [], ◌∷◌, ◌++◌, length, Option, Some, None}
+use Rattle.std.specs.Prelude.{Result, Ok, Err}
 use Rattle.xdg_base.specs.declared.places.Span.{Span}
 use Rattle.xdg_ast.specs.declared.token.Kind.{Kind}
 use Rattle.xdg_ast.specs.declared.token.Kind.TheVariants as k
@@ -209,7 +210,9 @@ read_nested closing read s = read (skip s) >>= λ x. read_token closing x.1 >>= 
 abbrev pub nested : {A : Type 0} {L : Type 1} → Kinds → Kinds → Within L → (L → Language A) → Language A
 nested {A} opening closing w body = record {
   means = λ ts x. elim w as (λ _. Type 0) [ full ↦ ⊥ | room j ↦ in_brackets opening closing ((body j).means) ts x ];
-  read = λ s. if sees opening s.left then (elim w as (λ _. Outcome A) [ full ↦ halt TooDeep s | room j ↦ read_nested closing ((body j).read) s ]) else halt Unexpected s;
+  read =
+      λ s. if sees opening s.left then (elim w as (λ _. Outcome A) [ full ↦ halt TooDeep s | room j ↦ read_nested closing ((body j).read) s ])
+      else halt Unexpected s;
   first = opening;
   empty = false;
   last = none;

@@ -79,7 +79,8 @@ pub data Tokenizes (limit : ℕ) : ℕ → List ℕ → List Lexeme → Type 0 w
   last_comment : (at : ℕ) (body : List ℕ) → EachPasses is_no_line_feed body → Tokenizes limit at (37 ∷ body) []
   gap : (at : ℕ) (piece behind : List ℕ) (tokens : List Lexeme) → IsGap piece → Tokenizes limit (at + size_of piece) behind tokens
       → Tokenizes limit at (piece ++ behind) tokens
-  token : (at : ℕ) (kind : Kind) (piece : List ℕ) (content : ℕ) (behind : List ℕ) (tokens : List Lexeme) → IsToken at kind piece content behind → content ≤ limit
+  token : (at : ℕ) (kind : Kind) (piece : List ℕ) (content : ℕ) (behind : List ℕ) (tokens : List Lexeme) → IsToken at kind piece content behind
+      → content ≤ limit
       → Tokenizes limit (at + size_of piece) behind tokens → Tokenizes limit at (piece ++ behind) (lexeme kind at (encode_utf8_all piece) ∷ tokens)
 
 -- the bytes are UTF-8, and spell these tokens, each with at most 127 bytes of content

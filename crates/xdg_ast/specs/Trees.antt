@@ -58,7 +58,8 @@ pub record Phrase : Type 0 where
 
 -- a conjunction or a disjunction that is a member of a conjunction stands in brackets
 abbrev pub in_conjunction : Phrase → List Word
-in_conjunction phrase = elim phrase.form as (λ _. List Word) [ single ↦ phrase.words | conjunction ↦ in_parentheses phrase.words | disjunction ↦ in_parentheses phrase.words ]
+in_conjunction phrase =
+    elim phrase.form as (λ _. List Word) [ single ↦ phrase.words | conjunction ↦ in_parentheses phrase.words | disjunction ↦ in_parentheses phrase.words ]
 
 -- and a disjunction that is a member of a disjunction
 abbrev pub in_disjunction : Phrase → List Word

@@ -71,7 +71,8 @@ fault_in table entries earlier (statements.Edge dim label cost) = edge_fault tab
 -- a fault of one of the statements behind others
 abbrev pub Offends : Table → ℕ → List Statement → List Statement → Fault → Type 0
 Offends table entries earlier [] fault = ⊥
-Offends table entries earlier (statement ∷ more) fault = (fault_in table entries earlier statement ≡ Some fault) ⊎ Offends table entries (earlier ++ statement ∷ []) more fault
+Offends table entries earlier (statement ∷ more) fault =
+    (fault_in table entries earlier statement ≡ Some fault) ⊎ Offends table entries (earlier ++ statement ∷ []) more fault
 
 abbrev pub or_later : Option Fault → Option Fault → Option Fault
 or_later (Some fault) later = Some fault
@@ -80,4 +81,5 @@ or_later None later = later
 -- the fault of the first statement that has one
 unfoldable pub first_fault : Table → ℕ → List Statement → List Statement → Option Fault
 first_fault table entries earlier [] = None
-first_fault table entries earlier (statement ∷ more) = or_later (fault_in table entries earlier statement) (first_fault table entries (earlier ++ statement ∷ []) more)
+first_fault table entries earlier (statement ∷ more) =
+    or_later (fault_in table entries earlier statement) (first_fault table entries (earlier ++ statement ∷ []) more)

@@ -27,12 +27,14 @@ pub record Searched (budget : ℕ) (costs : CostLists) (parts : Parts) (status :
 
 -- the input is a sentence, and its problem is searched
 abbrev pub CostedThen : BestOptions → List ℕ → Meaning → CostLists → Status → List ℕ → Type 0
-CostedThen options input m costs = Behind Parts statuses.BadSentence (IsBadSentence m options.segment input) (HasProblem m options.segment input) (Searched options.budget costs)
+CostedThen options input m costs =
+    Behind Parts statuses.BadSentence (IsBadSentence m options.segment input) (HasProblem m options.segment input) (Searched options.budget costs)
 
 -- a file has costs for the grammar
 abbrev pub CostsThen : BestOptions → Files → List ℕ → Meaning → Status → List ℕ → Type 0
 CostsThen options files input m =
-    Behind CostLists statuses.BadCosts (HasBadCosts files options.costs m.table (length m.entries)) (HasCosts files options.costs m.table (length m.entries)) (CostedThen options input m)
+    Behind CostLists statuses.BadCosts (HasBadCosts files options.costs m.table (length m.entries)) (HasCosts files options.costs m.table (length m.entries))
+    (CostedThen options input m)
 
 abbrev pub BestOf : BestOptions → Files → List ℕ → Status → List ℕ → Type 0
 BestOf options files input = GrammarThen files options.grammar (λ read. CostsThen options files input)

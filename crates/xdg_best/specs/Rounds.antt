@@ -48,6 +48,7 @@ pub record FindsNone (parts : Parts) (start : List ℕ) (budget : ℕ) (spent : 
 -- taken off the budget.
 pub data Rounds (parts : Parts) (costs : CostLists) (found : Option Analysis) (spent : Bool) : Option Analysis → ℕ → Type 0 where
   used_up : (last : Option Analysis) (left : ℕ) → left ≡ 0 → found ≡ last → spent ≡ true → Rounds parts costs found spent last left
-  ends : (last : Option Analysis) (left : ℕ) → 0 < left → FindsNone (round_parts parts costs last) (round_start parts last) left spent → found ≡ last → Rounds parts costs found spent last left
+  ends : (last : Option Analysis) (left : ℕ) → 0 < left → FindsNone (round_parts parts costs last) (round_start parts last) left spent → found ≡ last
+      → Rounds parts costs found spent last left
   goes_on : (last : Option Analysis) (left : ℕ) (next : Analysis) (place : ℕ) → Finds (round_parts parts costs last) (round_start parts last) left next place
       → Rounds parts costs found spent (Some next) (left - place) → Rounds parts costs found spent last left

@@ -36,7 +36,8 @@ edge_word = codes "edge"
 pub data Says : List Lexeme → Statement → Type 0 where
   entry : (word number cost : Lexeme) → is_word entry_word word ≡ true → is_number number.kind ≡ true → is_number cost.kind ≡ true
       → Says (word ∷ number ∷ cost ∷ []) (statements.Entry (num_of number) (number_of cost))
-  edge : (word dim label cost : Lexeme) → is_word edge_word word ≡ true → is_constant dim.kind ≡ true → is_constant label.kind ≡ true → is_number cost.kind ≡ true
+  edge : (word dim label cost : Lexeme) → is_word edge_word word ≡ true → is_constant dim.kind ≡ true → is_constant label.kind ≡ true
+      → is_number cost.kind ≡ true
       → Says (word ∷ dim ∷ label ∷ cost ∷ []) (statements.Edge (name_of dim) (name_of label) (number_of cost))
 
 -- the tokens are those of the statements, one behind the other

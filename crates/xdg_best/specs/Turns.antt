@@ -47,7 +47,8 @@ after_last end made _ = Err end
 -- what tokens say behind these statements and the beginning of a further one, where the text ends at a place
 unfoldable pub run : ℕ → List Statement → Open → List Lexeme → Outcome
 run end made began [] = after_last end made began
-run end made began (t ∷ ts) = after_turn (turn_of began t) t.span.start (λ next. run end made next ts) (λ statement. run end (made ++ statement ∷ []) open_.Nothing ts)
+run end made began (t ∷ ts) =
+    after_turn (turn_of began t) t.span.start (λ next. run end made next ts) (λ statement. run end (made ++ statement ∷ []) open_.Nothing ts)
 
 -- a call gives this, or memory ran out
 abbrev pub Runs : Outcome → Result (List Statement) Stop → Type 0

@@ -70,7 +70,8 @@ impl Building {
         cost: u32,
     ) -> Result<(), Stop>
         requires { length self.old.seen.items ≡ entries }
-        ensures { (earlier : List statements.Statement) → Built types.now entries earlier self.old → Adds types.now entries earlier (said_.Entry number.now cost) result self.new }
+        ensures { (earlier : List statements.Statement) → Built types.now entries earlier self.old
+            → Adds types.now entries earlier (said_.Entry number.now cost) result self.new }
     {
         match entry_place(entries, number, self.seen.as_slice()) {
             Ok(place) => {
@@ -91,7 +92,8 @@ impl Building {
         label: &Name,
         cost: u32,
     ) -> Result<(), Stop>
-        ensures { (earlier : List statements.Statement) → Built types.now entries earlier self.old → Adds types.now entries earlier (said_.Edge dim.now label.now cost) result self.new }
+        ensures { (earlier : List statements.Statement) → Built types.now entries earlier self.old
+            → Adds types.now entries earlier (said_.Edge dim.now label.now cost) result self.new }
     {
         match place_of(types, dim, label) {
             Ok(place) => {
@@ -108,7 +110,8 @@ impl Building {
     /// Adds what a statement says.
     fn add(&mut self, types: &TypeTable, entries: u32, statement: &Statement) -> Result<(), Stop>
         requires { length self.old.seen.items ≡ entries }
-        ensures { (earlier : List statements.Statement) → Built types.now entries earlier self.old → Adds types.now entries earlier statement.now result self.new }
+        ensures { (earlier : List statements.Statement) → Built types.now entries earlier self.old
+            → Adds types.now entries earlier statement.now result self.new }
     {
         match statement {
             Statement::Entry(number, cost) => self.add_entry(types, entries, number, *cost),

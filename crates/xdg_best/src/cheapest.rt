@@ -66,7 +66,8 @@ fn best_costed<S: Source, K: Sink>(
 ) -> Status
     requires lexicon { IsRightLexicon expanded.now.checked.types expanded.now.entries }
     requires some { 1 ≤ options.now.budget }
-    ensures leaves { (content : List ℕ) → S.left input.old ≡ Some content → Leaves (CostedThen options.now content (meaning_of expanded.now) costs.now) result (K.held out.old) (K.held out.new) }
+    ensures leaves { (content : List ℕ) → S.left input.old ≡ Some content
+        → Leaves (CostedThen options.now content (meaning_of expanded.now) costs.now) result (K.held out.old) (K.held out.new) }
     ensures read_fault { result ≡ Status.ReadFault → Rose (S.faults input.old) (S.faults input.new) }
     ensures write_fault { result ≡ Status.WriteFault → Rose (K.faults out.old) (K.faults out.new) }
     ensures input_lasting { S.faults input.old ≤ S.faults input.new }
@@ -97,8 +98,10 @@ fn best_expanded<H: Shelf, S: Source, K: Sink>(
 ) -> Status
     requires lexicon { IsRightLexicon expanded.now.checked.types expanded.now.entries }
     requires some { 1 ≤ options.now.budget }
-    ensures leaves { (files : List ℕ → Option (List ℕ)) (content : List ℕ) → H.files shelf.old ≡ Some files → S.left input.old ≡ Some content → Leaves (CostsThen options.now files content (meaning_of expanded.now)) result (K.held out.old) (K.held out.new) }
-    ensures read_fault { result ≡ Status.ReadFault → Rose (H.faults shelf.old options.now.costs) (H.faults shelf.new options.now.costs) ⊎ Rose (S.faults input.old) (S.faults input.new) }
+    ensures leaves { (files : List ℕ → Option (List ℕ)) (content : List ℕ) → H.files shelf.old ≡ Some files → S.left input.old ≡ Some content
+        → Leaves (CostsThen options.now files content (meaning_of expanded.now)) result (K.held out.old) (K.held out.new) }
+    ensures read_fault { result ≡ Status.ReadFault
+        → Rose (H.faults shelf.old options.now.costs) (H.faults shelf.new options.now.costs) ⊎ Rose (S.faults input.old) (S.faults input.new) }
     ensures write_fault { result ≡ Status.WriteFault → Rose (K.faults out.old) (K.faults out.new) }
     ensures files { H.files shelf.new ≡ H.files shelf.old }
     ensures shelf_lasting { (other : List ℕ) → H.faults shelf.old other ≤ H.faults shelf.new other }
@@ -135,8 +138,10 @@ fn best_loaded<H: Shelf, S: Source, K: Sink>(
 ) -> Status
     requires short { length loaded.now.text.items ≤ 4194304 }
     requires some { 1 ≤ options.now.budget }
-    ensures leaves { (files : List ℕ → Option (List ℕ)) (content : List ℕ) → H.files shelf.old ≡ Some files → S.left input.old ≡ Some content → Leaves (MeaningThen (read_of loaded.now) (CostsThen options.now files content)) result (K.held out.old) (K.held out.new) }
-    ensures read_fault { result ≡ Status.ReadFault → Rose (H.faults shelf.old options.now.costs) (H.faults shelf.new options.now.costs) ⊎ Rose (S.faults input.old) (S.faults input.new) }
+    ensures leaves { (files : List ℕ → Option (List ℕ)) (content : List ℕ) → H.files shelf.old ≡ Some files → S.left input.old ≡ Some content
+        → Leaves (MeaningThen (read_of loaded.now) (CostsThen options.now files content)) result (K.held out.old) (K.held out.new) }
+    ensures read_fault { result ≡ Status.ReadFault
+        → Rose (H.faults shelf.old options.now.costs) (H.faults shelf.new options.now.costs) ⊎ Rose (S.faults input.old) (S.faults input.new) }
     ensures write_fault { result ≡ Status.WriteFault → Rose (K.faults out.old) (K.faults out.new) }
     ensures files { H.files shelf.new ≡ H.files shelf.old }
     ensures shelf_lasting { (other : List ℕ) → H.faults shelf.old other ≤ H.faults shelf.new other }
@@ -165,8 +170,11 @@ pub fn best_sentence<H: Shelf, S: Source, K: Sink>(
     out: &mut K,
 ) -> Status
     requires { 1 ≤ options.now.budget }
-    ensures leaves { (files : List ℕ → Option (List ℕ)) (content : List ℕ) → H.files shelf.old ≡ Some files → S.left input.old ≡ Some content → Leaves (BestOf options.now files content) result (K.held out.old) (K.held out.new) }
-    ensures read_fault { result ≡ Status.ReadFault → Rose (H.faults shelf.old options.now.grammar) (H.faults shelf.new options.now.grammar) ⊎ (Rose (H.faults shelf.old options.now.costs) (H.faults shelf.new options.now.costs) ⊎ Rose (S.faults input.old) (S.faults input.new)) }
+    ensures leaves { (files : List ℕ → Option (List ℕ)) (content : List ℕ) → H.files shelf.old ≡ Some files → S.left input.old ≡ Some content
+        → Leaves (BestOf options.now files content) result (K.held out.old) (K.held out.new) }
+    ensures read_fault { result ≡ Status.ReadFault
+        → Rose (H.faults shelf.old options.now.grammar) (H.faults shelf.new options.now.grammar)
+        ⊎ (Rose (H.faults shelf.old options.now.costs) (H.faults shelf.new options.now.costs) ⊎ Rose (S.faults input.old) (S.faults input.new)) }
     ensures write_fault { result ≡ Status.WriteFault → Rose (K.faults out.old) (K.faults out.new) }
     ensures files { H.files shelf.new ≡ H.files shelf.old }
     ensures shelf_lasting { (other : List ℕ) → H.faults shelf.old other ≤ H.faults shelf.new other }

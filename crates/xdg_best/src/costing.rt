@@ -25,8 +25,13 @@ pub(crate) fn load_costs<H: Shelf>(
     shelf: &mut H,
     name: &str,
 ) -> Result<Costs, Refusal>
-    ensures found { IfOk result (λ costs. (files : List ℕ → Option (List ℕ)) → H.files shelf.old ≡ Some files → Accepts CostLists (HasBadCosts files name.now types.now entries) (HasCosts files name.now types.now entries) costs) }
-    ensures refused { IfErr result (λ refusal. (files : List ℕ → Option (List ℕ)) → Stops (H.files shelf.old ≡ Some files) (H.faults shelf.old name.now) (H.faults shelf.new name.now) CostLists (HasBadCosts files name.now types.now entries) (HasCosts files name.now types.now entries) refusal) }
+    ensures found { IfOk result
+        (λ costs. (files : List ℕ → Option (List ℕ)) → H.files shelf.old ≡ Some files
+        → Accepts CostLists (HasBadCosts files name.now types.now entries) (HasCosts files name.now types.now entries) costs) }
+    ensures refused { IfErr result
+        (λ refusal. (files : List ℕ → Option (List ℕ))
+        → Stops (H.files shelf.old ≡ Some files) (H.faults shelf.old name.now) (H.faults shelf.new name.now) CostLists
+        (HasBadCosts files name.now types.now entries) (HasCosts files name.now types.now entries) refusal) }
     ensures failed { IfErr result (λ refusal. refusal ≡ Refusal.Read → Rose (H.faults shelf.old name.now) (H.faults shelf.new name.now)) }
     ensures kept { H.files shelf.new ≡ H.files shelf.old }
     ensures lasting { (other : List ℕ) → H.faults shelf.old other ≤ H.faults shelf.new other }

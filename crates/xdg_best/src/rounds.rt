@@ -40,7 +40,8 @@ fn round<P: Propagator, F: Fn(&Problem) -> Result<List<P>, OutOfMemory>>(
     make: &F,
 ) -> Result<Round, OutOfMemory>
     requires calls { F.IsAlwaysCallable make.now }
-    requires stand { (parts : Parts) (made : Result (List P) OutOfMemory) → FnReturnsAt F.Fn make.now parts made → IfOk made (λ props. AllStandIn P.stands props parts) }
+    requires stand { (parts : Parts) (made : Result (List P) OutOfMemory) → FnReturnsAt F.Fn make.now parts made
+        → IfOk made (λ props. AllStandIn P.stands props parts) }
     requires problem { IsProblem problem.now }
     requires fits { IsStart problem.now (option_copied last) }
     requires cost { cost ≡ found_cost costs.now (option_copied last) }
@@ -72,7 +73,8 @@ pub fn best<P: Propagator, F: Fn(&Problem) -> Result<List<P>, OutOfMemory> + Dro
     make: F,
 ) -> Result<BestAnswer, OutOfMemory>
     requires calls { F.IsAlwaysCallable make }
-    requires stand { (parts : Parts) (made : Result (List P) OutOfMemory) → FnReturnsAt F.Fn make parts made → IfOk made (λ props. AllStandIn P.stands props parts) }
+    requires stand { (parts : Parts) (made : Result (List P) OutOfMemory) → FnReturnsAt F.Fn make parts made
+        → IfOk made (λ props. AllStandIn P.stands props parts) }
     requires some { 1 ≤ budget }
     ensures answers { IfOk result (IsAnswer problem.now costs.now budget) }
     ensures one { IsOneAnswer problem.now costs.now budget }

@@ -75,7 +75,8 @@ pub(crate) fn search<P: Propagator, F: Fn(&Problem) -> Result<List<P>, OutOfMemo
     make: &F,
 ) -> Result<Round, OutOfMemory>
     requires calls { F.IsAlwaysCallable make.now }
-    requires stand { (parts : Parts) (made : Result (List P) OutOfMemory) → FnReturnsAt F.Fn make.now parts made → IfOk made (λ props. AllStandIn P.stands props parts) }
+    requires stand { (parts : Parts) (made : Result (List P) OutOfMemory) → FnReturnsAt F.Fn make.now parts made
+        → IfOk made (λ props. AllStandIn P.stands props parts) }
     requires fits { IsStart problem.now (option_copied start) }
     ensures { IfOk result (IsRound problem.now (start_vector problem.now (option_copied start.entry)) budget) }
 {

@@ -18,4 +18,5 @@ pub record Suits (g : Grammar) (numbers : List (List EntryNo)) (parts : Parts) :
   pub dim_count : length parts.dims ≡ length g.table.used
   pub labels : (d : ℕ) (dim : DimType) → IsUsed g.table d dim → label_count parts d ≡ length dim.labels
   pub attrs : (d : ℕ) (dim : DimType) → IsUsed g.table d dim → attr_count parts d ≡ length dim.attrs
-  pub values : (d : ℕ) (dim : DimType) → IsUsed g.table d dim → (a : ℕ) (name : List ℕ) (type : Shape) → slice_get (typed dim.attrs) a ≡ Some (name, type) → value_count parts d a ≡ count type
+  pub values : (d : ℕ) (dim : DimType) → IsUsed g.table d dim → (a : ℕ) (name : List ℕ) (type : Shape) → slice_get (typed dim.attrs) a ≡ Some (name, type)
+      → value_count parts d a ≡ count type

@@ -56,7 +56,8 @@ fn compile_all(
     requires candidates { All (All (λ no. no.0 < length packed.now.entries)) candidates.now }
     requires typed { All (IsTypedUse checked.now.types) uses.now }
     requires kept { AllZip (λ u known. IsKnownFor (grammar_of checked.now packed.now) u known.entries) uses.now kept.old }
-    ensures groups { IfOk result (λ made. made ≡ map (spec.group_of (grammar_of checked.now packed.now) candidates.now) (filter (λ u. is_used checked.now.types u.home) uses.now)) }
+    ensures groups { IfOk result
+        (λ made. made ≡ map (spec.group_of (grammar_of checked.now packed.now) candidates.now) (filter (λ u. is_used checked.now.types u.home) uses.now)) }
     ensures kept { OnOk result (AllZip (λ u known. IsKnownFor (grammar_of checked.now packed.now) u known.entries) uses.now kept.new) }
 {
     let used = checked.types().used();

@@ -121,7 +121,8 @@ pub fn over_nodes(
     requires nodes { All (spec.IsNodePlan (grammar_of checked.now packed.now)) nodes.now }
     requires candidates { All (All (λ no. no.0 < length packed.now.entries)) (spec.candidates_in nodes.now) }
     ensures compiled { IfOk result (λ made. made ≡ groups_of (grammar_of checked.now packed.now) (spec.candidates_in nodes.now)) }
-    ensures groups { IfOk result (λ made. (parts : Parts) → Suits (grammar_of checked.now packed.now) (spec.candidates_in nodes.now) parts → All (IsGroup parts) made) }
+    ensures groups { IfOk result
+        (λ made. (parts : Parts) → Suits (grammar_of checked.now packed.now) (spec.candidates_in nodes.now) parts → All (IsGroup parts) made) }
 {
     let _ = checked.principles();
     let mut made = List::new(alloc);

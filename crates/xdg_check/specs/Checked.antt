@@ -90,7 +90,8 @@ pub record IsOrder (cs : List Class) (order : List ℕ) : Type 0 where
   pub within : (i : ℕ) → i < length order → slice_index_or order i 0 < length cs
   pub placed : (k : ℕ) → k < length cs → In order k
   pub after : (i : ℕ) → i < length order → (c : Class) → slice_get cs (slice_index_or order i 0) ≡ Some c
-      → (call : Called) → In (calls (body c.body.kind)) call → (j : ℕ) × ((j < i) × (place_of (class_texts cs) call.name.text ≡ Some (slice_index_or order j 0)))
+      → (call : Called) → In (calls (body c.body.kind)) call
+      → (j : ℕ) × ((j < i) × (place_of (class_texts cs) call.name.text ≡ Some (slice_index_or order j 0)))
 
 pub record IsChecked (parts : Parts) : Type 0 where
   pub types : IsTable parts.types

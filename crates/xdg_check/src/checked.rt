@@ -64,7 +64,8 @@ impl Model for Checked {
 
     ghost view = { λ c. record { types = c.types; principles = c.principles; classes = c.classes; entries = c.entries; order = c.order } };
 
-    ghost invariant = { λ c. IsChecked (record { types = c.types; principles = c.principles; classes = c.classes; entries = c.entries; order = c.order }) × (c.names ≡ class_texts c.classes) };
+    ghost invariant = { λ c. IsChecked (record { types = c.types; principles = c.principles; classes = c.classes; entries = c.entries; order = c.order })
+        × (c.names ≡ class_texts c.classes) };
 }
 
 impl Checked {

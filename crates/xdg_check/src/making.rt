@@ -49,7 +49,8 @@ fn make_class(
 
 /// The classes with completed bindings, in the order of the text, not yet counted.
 pub(crate) fn make_classes(alloc: Global, classes: &Classes<'_>) -> Result<Vec<Class>, AllocError>
-    ensures { IfOk result (λ made. IsNamed classes.now → AreClassesOf (map class_def classes.now.definitions) (map class_def classes.now.definitions) made.items) }
+    ensures { IfOk result
+        (λ made. IsNamed classes.now → AreClassesOf (map class_def classes.now.definitions) (map class_def classes.now.definitions) made.items) }
 {
     let mut made = Vec::new(alloc);
     for class in classes.definitions() {

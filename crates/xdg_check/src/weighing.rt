@@ -68,7 +68,8 @@ fn with_use(
 
 /// The parameters of the class with that name, and none where there is no such class.
 fn params_of<'a>(classes: &Classes<'a>, name: &str) -> &'a [ClassParam]
-    ensures { IsNamed classes.now → (args : Pairs) → w.use_bytes (class_named (map class_def classes.now.definitions) name.now) args ≡ w.left_out_bytes (texts (keys args)) result.now }
+    ensures { IsNamed classes.now → (args : Pairs)
+        → w.use_bytes (class_named (map class_def classes.now.definitions) name.now) args ≡ w.left_out_bytes (texts (keys args)) result.now }
 {
     match classes.find(name) {
         None => &[],
@@ -153,7 +154,8 @@ pub(crate) fn are_small(
     classes: &Classes<'_>,
     statements: &[Statement],
 ) -> Result<bool, AllocError>
-    ensures { IfOk result (λ small. IsNamed classes.now → IsTrue small ↔ (w.default_bytes (map class_def classes.now.definitions) statements.now ≤ most_bytes)) }
+    ensures { IfOk result
+        (λ small. IsNamed classes.now → IsTrue small ↔ (w.default_bytes (map class_def classes.now.definitions) statements.now ≤ most_bytes)) }
 {
     Ok(bytes_of(alloc, classes, statements)? <= MOST_BYTES)
 }

@@ -23,7 +23,8 @@ pub record Fits (statements : List Statement) (table : Table) (features : Featur
 
 -- of the class at a place exactly the wanted types are known
 abbrev pub IsRightAt : List Statement → Table → List (List ℕ) → List WantedTypes → ℕ → Type 0
-IsRightAt statements table names all k = (param : List ℕ) (s : Shape) → In (given_in (slice_get all k) param) s ↔ Wants table (named_bodies statements) (slice_index_or names k []) param s
+IsRightAt statements table names all k =
+    (param : List ℕ) (s : Shape) → In (given_in (slice_get all k) param) s ↔ Wants table (named_bodies statements) (slice_index_or names k []) param s
 
 -- of the first classes in order
 abbrev pub AreRightUpTo : List Statement → Table → Classes → List WantedTypes → ℕ → Type 0
@@ -31,4 +32,5 @@ AreRightUpTo statements table classes all i = (j : ℕ) → j < i → IsRightAt 
 
 -- of each class with each name
 abbrev pub IsKnown : List Statement → Table → List (List ℕ) → List WantedTypes → Type 0
-IsKnown statements table names all = (class param : List ℕ) (s : Shape) → In (told names all class param) s ↔ Wants table (named_bodies statements) class param s
+IsKnown statements table names all =
+    (class param : List ℕ) (s : Shape) → In (told names all class param) s ↔ Wants table (named_bodies statements) class param s

@@ -51,7 +51,8 @@ feature_shape table dim name = feature_in (dim_named table.dims dim) name
 -- Nothing else is wanted.
 pub data Wants (table : Table) (cs : List NamedBody) : List ℕ → List ℕ → Shape → Type 0 where
   at_feature : (c : NamedBody) (said : Said) (pair : Pair Term) (s : Shape) (param : List ℕ) (u : Shape)
-      → In cs c → In (records c.body) said → In said.pairs pair → feature_shape table said.dim.text pair.key.text ≡ Some s → In (params_in c.params s pair.value) (param, u)
+      → In cs c → In (records c.body) said → In said.pairs pair → feature_shape table said.dim.text pair.key.text ≡ Some s
+      → In (params_in c.params s pair.value) (param, u)
       → Wants table cs c.name param u
   at_argument : (c : NamedBody) (call : Called) (pair : Pair Term) (s : Shape) (param : List ℕ) (u : Shape)
       → In cs c → In (calls c.body) call → In call.args pair → Wants table cs call.name.text pair.key.text s → In (params_in c.params s pair.value) (param, u)

@@ -200,7 +200,8 @@ fn check_body(
     expr: &Expr,
     params: &Params,
 ) -> Result<Option<Fault>, AllocError>
-    ensures { IfOk result (λ found. Tells (wrong.BodyWrong (feature_of features.now) (told classes.now.names known.now) params.now (body expr.now.kind)) found) }
+    ensures { IfOk result
+        (λ found. Tells (wrong.BodyWrong (feature_of features.now) (told classes.now.names known.now) params.now (body expr.now.kind)) found) }
 {
     let records = records(alloc, expr)?;
     let calls = calls(alloc, expr)?;
@@ -289,7 +290,8 @@ fn check_statements(
     known: &[WantedTypes],
     statements: &[Statement],
 ) -> Result<Option<Fault>, AllocError>
-    ensures { IfOk result (λ found. Tells (wrong.SomeOf statements.now (wrong.StatementWrong (feature_of features.now) (told classes.now.names known.now))) found) }
+    ensures { IfOk result
+        (λ found. Tells (wrong.SomeOf statements.now (wrong.StatementWrong (feature_of features.now) (told classes.now.names known.now))) found) }
 {
     let mut found = None;
     for statement in statements {

@@ -181,7 +181,8 @@ fn add_calls<'a>(
     params: &Params,
     wants: &mut WantedTypes<'a>,
 ) -> Result<(), AllocError>
-    ensures { IfOk result (λ _. spec.Grows wants.old wants.new (flat_map (all.call_wants (spec.told classes.now.names known.now) params.now) (map called calls.now))) }
+    ensures { IfOk result
+        (λ _. spec.Grows wants.old wants.new (flat_map (all.call_wants (spec.told classes.now.names known.now) params.now) (map called calls.now))) }
 {
     for call in calls {
         add_call(alloc, classes, known, call, params, wants)?;
@@ -198,7 +199,10 @@ fn wants_of_class<'a>(
     class: &ClassDef<'a>,
 ) -> Result<WantedTypes<'a>, AllocError>
     ensures { IfOk result (λ made. (param : List ℕ) (s : Shape) → In (spec.given made param) s
-        ↔ In (all.body_wants (all.feature_of features.now) (spec.told classes.now.names known.now) (texts (param_names class.now.params.now)) (body class.now.body.now.kind)) (param, s)) }
+        ↔ In
+        (all.body_wants (all.feature_of features.now) (spec.told classes.now.names known.now) (texts (param_names class.now.params.now))
+        (body class.now.body.now.kind))
+        (param, s)) }
 {
     let params = Params::of(alloc, class.params)?;
     let mut wants = WantedTypes::none(alloc);

@@ -92,7 +92,8 @@ impl<'a> Known<'a> {
 
     /// What the first class with that name asks, if there is one.
     pub(crate) fn find(&self, name: &str) -> Option<&Params<'a>>
-        ensures { (cs : List Definition) → KnowsClasses cs self.now.names (map shown self.now.params) → option_map shown (option_copied result) ≡ option_map spec.asked_by (class_named cs name.now) }
+        ensures { (cs : List Definition) → KnowsClasses cs self.now.names (map shown self.now.params)
+            → option_map shown (option_copied result) ≡ option_map spec.asked_by (class_named cs name.now) }
     {
         match self.names.find(name) {
             None => None,

@@ -70,7 +70,8 @@ fn left_out(given: &Index, params: &Params, name: &Name) -> Option<Fault>
 
 /// The first fault of a use by what its class asks. These are the names of the parameters that it gives.
 fn class_wrong(found: Option<&Params>, given: &Index, call: &Call) -> Option<Fault>
-    ensures { given.now ≡ different (keys call.now.args.now) → result ≡ first (spec.class_faults (option_map shown (option_copied found.entry)) (called call.now)) }
+    ensures { given.now ≡ different (keys call.now.args.now)
+        → result ≡ first (spec.class_faults (option_map shown (option_copied found.entry)) (called call.now)) }
 {
     match found {
         None => Some(Fault {
@@ -87,7 +88,8 @@ fn class_wrong(found: Option<&Params>, given: &Index, call: &Call) -> Option<Fau
 
 /// The first fault of a use.
 fn check_call(alloc: Global, known: &Known, call: &Call) -> Result<Option<Fault>, AllocError>
-    ensures { (cs : List ClassDef) → KnowsClasses cs known.now.names (map shown known.now.params) → IfOk result (λ found. found ≡ first (spec.call_faults cs (called call.now))) }
+    ensures { (cs : List ClassDef) → KnowsClasses cs known.now.names (map shown known.now.params)
+        → IfOk result (λ found. found ≡ first (spec.call_faults cs (called call.now))) }
 {
     let mut given = Index::new(alloc);
     let again = keys_again(alloc, &mut given, call.args)?;
@@ -101,7 +103,8 @@ pub(crate) fn check_calls(
     known: &Known,
     calls: &[Call],
 ) -> Result<Option<Fault>, AllocError>
-    ensures { (cs : List ClassDef) → KnowsClasses cs known.now.names (map shown known.now.params) → IfOk result (λ found. found ≡ first (flat_map (spec.call_faults cs) (map called calls.now))) }
+    ensures { (cs : List ClassDef) → KnowsClasses cs known.now.names (map shown known.now.params)
+        → IfOk result (λ found. found ≡ first (flat_map (spec.call_faults cs) (map called calls.now))) }
 {
     let mut found = None;
     for call in calls {

@@ -15,7 +15,8 @@ pub record Fits (t : Table) (words : List (List ℕ)) (items : List Item) : Type
 pub record Holds (t : Table) (items : List Item) (found : ArgMatches) : Type 0 where
   pub operands : (k : ℕ) (name : List ℕ) → slice_get t.operands k ≡ Some name → first_value (found_of found) name ≡ slice_get (operands_of items) k
   pub values : (name : List ℕ) → is_among t.values name ≡ true → first_value (found_of found) name ≡ value_of name items
-  pub flags : (name : List ℕ) → is_among t.flags name ≡ true → one_text (found_of found) name ≡ Some (if has_flag name items then codes "true" else codes "false")
+  pub flags : (name : List ℕ) → is_among t.flags name ≡ true
+      → one_text (found_of found) name ≡ Some (if has_flag name items then codes "true" else codes "false")
 
 -- no items fit, or the items that fit are found
 abbrev pub Matches : Table → List (List ℕ) → Option ArgMatches → Type 0

@@ -34,7 +34,9 @@ IsDrill words number = AreWords [] [] words (λ items. SaysDrill items number)
 
 -- what follows `parse`
 abbrev pub IsParse : List (List ℕ) → ParseOptions → Type 0
-IsParse words options = AreWords (codes "budget" ∷ codes "first" ∷ codes "text" ∷ codes "rules" ∷ []) (codes "segment" ∷ codes "split" ∷ []) words (λ items. SaysParse items options)
+IsParse words options =
+    AreWords (codes "budget" ∷ codes "first" ∷ codes "text" ∷ codes "rules" ∷ []) (codes "segment" ∷ codes "split" ∷ []) words
+    (λ items. SaysParse items options)
 
 -- what follows `resume`
 abbrev pub IsResume : List (List ℕ) → ResumeOptions → Type 0

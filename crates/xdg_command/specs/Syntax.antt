@@ -21,7 +21,12 @@ abbrev pub explained : Table
 explained = record { operands = codes "grammar" ∷ codes "analysis" ∷ []; values = codes "rules" ∷ []; flags = [] }
 
 abbrev pub parsed : Table
-parsed = record { operands = codes "grammar" ∷ []; values = codes "budget" ∷ codes "first" ∷ codes "text" ∷ codes "rules" ∷ []; flags = codes "segment" ∷ codes "split" ∷ [] }
+parsed =
+    record {
+      operands = codes "grammar" ∷ [];
+      values = codes "budget" ∷ codes "first" ∷ codes "text" ∷ codes "rules" ∷ [];
+      flags = codes "segment" ∷ codes "split" ∷ [];
+    }
 
 abbrev pub resumed : Table
 resumed = record { operands = codes "grammar" ∷ codes "analysis" ∷ []; values = codes "budget" ∷ codes "first" ∷ codes "text" ∷ codes "rules" ∷ []; flags = [] }
@@ -47,7 +52,8 @@ flag_arg name = record (new_rule name) { long = Some name; action = Some SetTrue
 
 -- a command without help and version, whose words begin with the first argument
 abbrev pub bare : List ℕ → App
-bare name = on_top (λ s. record s { no_binary_name = true; disable_help_flag = true; disable_help_subcommand = true; disable_version_flag = true }) (new_app name)
+bare name =
+    on_top (λ s. record s { no_binary_name = true; disable_help_flag = true; disable_help_subcommand = true; disable_version_flag = true }) (new_app name)
 
 abbrev pub args_in : Table → List Rule
 args_in t = map operand_arg t.operands ++ (map value_arg t.values ++ map flag_arg t.flags)

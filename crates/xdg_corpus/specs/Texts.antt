@@ -16,7 +16,8 @@ use Rattle.xdg_text.specs.Lines.{fault_text, line}
 -- of its problem prints in text 1, from the beginning and with a budget of its own.
 pub data LineText (m : Meaning) (options : CorpusOptions) (sentence text : List ℕ) : Type 0 where
   refused : (f : Fault) → IsBadWords m options.segment sentence f → text ≡ fault_text f (place_in sentence f) → LineText m options sentence text
-  searched : (parts : Parts) (ending : Ending) → HasWords m options.segment sentence parts → Prints ending forms.One options.budget options.first parts [] text → LineText m options sentence text
+  searched : (parts : Parts) (ending : Ending) → HasWords m options.segment sentence parts → Prints ending forms.One options.budget options.first parts [] text
+      → LineText m options sentence text
 
 -- the line that tells the number of a line, counted from 1
 abbrev pub sentence_line : ℕ → List ℕ

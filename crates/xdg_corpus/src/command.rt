@@ -32,7 +32,8 @@ fn corpus_expanded<R: Threads + Sync, S: Source, K: Sink>(
 ) -> Status
     requires lexicon { IsRightLexicon expanded.now.checked.types expanded.now.entries }
     requires range { CanSearch options.now }
-    ensures leaves { (content : List ℕ) → S.left input.old ≡ Some content → LeavesPart (LinesThen options.now content (meaning_of expanded.now)) result (K.held out.old) (K.held out.new) }
+    ensures leaves { (content : List ℕ) → S.left input.old ≡ Some content
+        → LeavesPart (LinesThen options.now content (meaning_of expanded.now)) result (K.held out.old) (K.held out.new) }
     ensures unwritten { result ≡ Status.ReadFault → K.held out.new ≡ K.held out.old }
     ensures read_fault { result ≡ Status.ReadFault → Rose (S.faults input.old) (S.faults input.new) }
     ensures write_fault { result ≡ Status.WriteFault → Rose (K.faults out.old) (K.faults out.new) }
@@ -69,7 +70,8 @@ fn corpus_loaded<R: Threads + Sync, S: Source, K: Sink>(
 ) -> Status
     requires short { length loaded.now.text.items ≤ 4194304 }
     requires range { CanSearch options.now }
-    ensures leaves { (content : List ℕ) → S.left input.old ≡ Some content → LeavesPart (MeaningThen (read_of loaded.now) (LinesThen options.now content)) result (K.held out.old) (K.held out.new) }
+    ensures leaves { (content : List ℕ) → S.left input.old ≡ Some content
+        → LeavesPart (MeaningThen (read_of loaded.now) (LinesThen options.now content)) result (K.held out.old) (K.held out.new) }
     ensures unwritten { result ≡ Status.ReadFault → K.held out.new ≡ K.held out.old }
     ensures read_fault { result ≡ Status.ReadFault → Rose (S.faults input.old) (S.faults input.new) }
     ensures write_fault { result ≡ Status.WriteFault → Rose (K.faults out.old) (K.faults out.new) }
@@ -99,9 +101,11 @@ pub fn corpus<R: Threads + Sync, H: Shelf, S: Source, K: Sink>(
     out: &mut K,
 ) -> Status
     requires { CanSearch options.now }
-    ensures leaves { (files : List ℕ → Option (List ℕ)) (content : List ℕ) → H.files shelf.old ≡ Some files → S.left input.old ≡ Some content → LeavesPart (CorpusOf options.now files content) result (K.held out.old) (K.held out.new) }
+    ensures leaves { (files : List ℕ → Option (List ℕ)) (content : List ℕ) → H.files shelf.old ≡ Some files → S.left input.old ≡ Some content
+        → LeavesPart (CorpusOf options.now files content) result (K.held out.old) (K.held out.new) }
     ensures unwritten { result ≡ Status.ReadFault → K.held out.new ≡ K.held out.old }
-    ensures read_fault { result ≡ Status.ReadFault → Rose (H.faults shelf.old options.now.grammar) (H.faults shelf.new options.now.grammar) ⊎ Rose (S.faults input.old) (S.faults input.new) }
+    ensures read_fault { result ≡ Status.ReadFault
+        → Rose (H.faults shelf.old options.now.grammar) (H.faults shelf.new options.now.grammar) ⊎ Rose (S.faults input.old) (S.faults input.new) }
     ensures write_fault { result ≡ Status.WriteFault → Rose (K.faults out.old) (K.faults out.new) }
     ensures files { H.files shelf.new ≡ H.files shelf.old }
     ensures shelf_lasting { (other : List ℕ) → H.faults shelf.old other ≤ H.faults shelf.new other }

@@ -115,7 +115,9 @@ fn add_line(
     requires range { CanSearch options.now }
     requires stock { IsStock (grammar_of expanded.now.checked packed.now) stock.old }
     ensures stock { OnOk result (IsStock (grammar_of expanded.now.checked packed.now) stock.new) }
-    ensures lines { OnOk result ((taken : List (List ℕ)) → HasLines (meaning_of expanded.now) options.now taken group.old → HasLines (meaning_of expanded.now) options.now (taken ++ line.now ∷ []) group.new) }
+    ensures lines { OnOk result
+        ((taken : List (List ℕ)) → HasLines (meaning_of expanded.now) options.now taken group.old
+        → HasLines (meaning_of expanded.now) options.now (taken ++ line.now ∷ []) group.new) }
 {
     match job_of(alloc, options, expanded, packed, stock, line) {
         Ok(job) => group.ask(job),

@@ -48,7 +48,9 @@ pub(crate) fn text_of(input: &[u8]) -> Result<&str, Refusal>
 pub(crate) fn read_input<S: Source>(alloc: Global, source: &mut S) -> Result<Vec<u8>, Refusal>
     ensures within { IfOk result (λ input. length input.items ≤ 4194304) }
     ensures all { IfOk result (λ input. TakesAll (S.left source.old) (S.left source.new) input.items) }
-    ensures refused { IfErr result (λ refusal. (input : List ℕ) → Stops (S.left source.old ≡ Some input) (S.faults source.old) (S.faults source.new) (List ℕ) (IsBadCorpus input) (HasText input) refusal) }
+    ensures refused { IfErr result
+        (λ refusal. (input : List ℕ)
+        → Stops (S.left source.old ≡ Some input) (S.faults source.old) (S.faults source.new) (List ℕ) (IsBadCorpus input) (HasText input) refusal) }
     ensures failed { IfErr result (λ refusal. refusal ≡ Refusal.Read → Rose (S.faults source.old) (S.faults source.new)) }
     ensures lasting { S.faults source.old ≤ S.faults source.new }
     ensures quiet { MatchResult result (λ _. S.faults source.new ≡ S.faults source.old) (λ refusal.

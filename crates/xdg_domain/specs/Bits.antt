@@ -32,10 +32,13 @@ weights b zero a within = sym (ap (λ q. q * 2 ^ a) (zero_below_one (b / 2 ^ a) 
 weights b (suc m) a within =
     let e = halves b a in
     let w : b / 2 ^ (a + 1) < 2 ^ m = omega (arith, e, within, pow-suc 2 m) in
-    let rest : number (filter (is_set b) (range_with_len (a + 1) m)) ≡ b / 2 ^ (a + 1) * (2 ^ a * 2) = weights b m (a + 1) w ∙ ap (λ p. b / 2 ^ (a + 1) * p) (pow-add 2 a 1) in
+    let rest : number (filter (is_set b) (range_with_len (a + 1) m))
+    ≡ b / 2 ^ (a + 1) * (2 ^ a * 2) = weights b m (a + 1) w ∙ ap (λ p. b / 2 ^ (a + 1) * p) (pow-add 2 a 1) in
     cond_both (is_set b a) (a ∷ filter (is_set b) (range_with_len (a + 1) m)) (filter (is_set b) (range_with_len (a + 1) m)) (λ s. number s ≡ b / 2 ^ a * 2 ^ a)
-    (λ t. ap (λ z. 2 ^ a + z) rest ∙ doubled (b / 2 ^ (a + 1)) (2 ^ a) ∙ ap (λ z. (b / 2 ^ (a + 1) * 2 + z) * 2 ^ a) (sym (eqb-true (bit_at b a) 1 t)) ∙ ap (λ z. z * 2 ^ a) (sym e))
-    (λ t. rest ∙ doubled_only (b / 2 ^ (a + 1)) (2 ^ a) ∙ ap (λ z. (b / 2 ^ (a + 1) * 2 + z) * 2 ^ a) (sym (unset (bit_at b a) (bit_at-lt b a) t)) ∙ ap (λ z. z * 2 ^ a) (sym e))
+    (λ t. ap (λ z. 2 ^ a + z) rest ∙ doubled (b / 2 ^ (a + 1)) (2 ^ a) ∙ ap (λ z. (b / 2 ^ (a + 1) * 2 + z) * 2 ^ a) (sym (eqb-true (bit_at b a) 1 t))
+    ∙ ap (λ z. z * 2 ^ a) (sym e))
+    (λ t. rest ∙ doubled_only (b / 2 ^ (a + 1)) (2 ^ a) ∙ ap (λ z. (b / 2 ^ (a + 1) * 2 + z) * 2 ^ a) (sym (unset (bit_at b a) (bit_at-lt b a) t))
+    ∙ ap (λ z. z * 2 ^ a) (sym e))
 
 pub same_number : (b bound : ℕ) → b < 2 ^ bound → number (numbers_below bound (is_set b)) ≡ b
 unfolding numbers_below

@@ -45,7 +45,8 @@ behind_joined key (Some z) rest = behind ((key, z) ∷ []) rest
 
 -- The list with the entry x before a, and another list, in the order of their keys; `rest` is what puts a and a list
 -- together.
-abbrev pub merged_from : {V : Type 0} → (ℕ → V → V → Option V) → ℕ × V → List (ℕ × V) → (List (ℕ × V) → Option (List (ℕ × V))) → List (ℕ × V) → Option (List (ℕ × V))
+abbrev pub merged_from : {V : Type 0} → (ℕ → V → V → Option V) → ℕ × V → List (ℕ × V) → (List (ℕ × V) → Option (List (ℕ × V))) → List (ℕ × V)
+    → Option (List (ℕ × V))
 merged_from f x a rest [] = Some (x ∷ a)
 merged_from f x a rest (y ∷ b) = elim (nat_lt x.0 y.0) [
   | true ↦ behind (x ∷ []) (rest (y ∷ b))

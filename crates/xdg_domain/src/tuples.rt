@@ -99,7 +99,8 @@ impl<'a> Model for Tuple<'a> {
 
     ghost view = { λ tuple. places (sizes_of tuple.fields.now) tuple.number };
 
-    ghost invariant = { λ tuple. AllBelow 65 (sizes_of tuple.fields.now) × (product (sizes_of tuple.fields.now) ≤ 1024) × (tuple.number < product (sizes_of tuple.fields.now)) };
+    ghost invariant = { λ tuple. AllBelow 65 (sizes_of tuple.fields.now) × (product (sizes_of tuple.fields.now) ≤ 1024)
+        × (tuple.number < product (sizes_of tuple.fields.now)) };
 }
 
 /// The tuple with that number, which counts the first field slowest. It takes no memory.

@@ -31,13 +31,17 @@ use Rattle.xdg_engine.specs.Bounding.{HoldsBound, bound_stands}
 use Rattle.xdg_engine.specs.declared.cost_prop.CostProp.{CostProp}
 
 -- a bound has no tests
-no_test : (parts : Parts) (group : Group) (box : List (List Bool)) (costs : CostLists) (bound : ℕ) → group.principle ≡ principles.Bound costs bound → FailsTest parts group box → ⊥
-no_test parts group box costs bound is failing = subst (λ p. IsTestOf p group.truths (nodes parts) (label_count parts (first_dim group)) failing.test) is failing.is
+no_test : (parts : Parts) (group : Group) (box : List (List Bool)) (costs : CostLists) (bound : ℕ) → group.principle ≡ principles.Bound costs bound
+    → FailsTest parts group box → ⊥
+no_test parts group box costs bound is failing =
+    subst (λ p. IsTestOf p group.truths (nodes parts) (label_count parts (first_dim group)) failing.test) is failing.is
 
 -- where it takes nothing the box is closed
-pub closed_for_bound : (parts : Parts) (group : Group) (box : List (List Bool)) (costs : CostLists) (bound : ℕ) → group.principle ≡ principles.Bound costs bound → (BoundReached parts costs bound box → ⊥) → ((d v : ℕ) → Has box d v → BoundPlace parts costs bound box d v → ⊥) → IsClosedFor parts group box
+pub closed_for_bound : (parts : Parts) (group : Group) (box : List (List Bool)) (costs : CostLists) (bound : ℕ) → group.principle ≡ principles.Bound costs bound
+    → (BoundReached parts costs bound box → ⊥) → ((d v : ℕ) → Has box d v → BoundPlace parts costs bound box d v → ⊥) → IsClosedFor parts group box
 closed_for_bound parts group box costs bound is below none d v remains (inl failing) = no_test parts group box costs bound is failing
-closed_for_bound parts group box costs bound is below none d v remains (inr by) = elim (subst (λ p. TakesBy p parts group box d v) is by) [ inl reached ↦ below reached | inr place ↦ none d v remains place ]
+closed_for_bound parts group box costs bound is below none d v remains (inr by) =
+    elim (subst (λ p. TakesBy p parts group box d v) is by) [ inl reached ↦ below reached | inr place ↦ none d v remains place ]
 
 -- each bit of an edge kind is set
 edge_bit : (dim : ℕ) → dim < 8 → bit_at 87381 (edge_kind dim) ≡ 1
@@ -66,7 +70,9 @@ module _ (parts : Parts) (problem : IsProblem parts) (old new : List (List Bool)
   ]
 
   same_entry : (node c : ℕ) → node < nodes parts → has new (entry_decision node) c ≡ has old (entry_decision node) c
-  same_entry node c within = same_has (entry_decision node) c (subst (λ k. bit_at 87381 k ≡ 1) (sym (kind_of_entry parts node (let each = problem.candidates_each in omega (arith, each, within)))) refl)
+  same_entry node c within =
+      same_has (entry_decision node) c
+      (subst (λ k. bit_at 87381 k ≡ 1) (sym (kind_of_entry parts node (let each = problem.candidates_each in omega (arith, each, within)))) refl)
 
   same_edge_values : (e : Edge) → Contains (places parts) e → (v : ℕ) → has new (edge_decision parts e) v ≡ has old (edge_decision parts e) v
   same_edge_values e place v =
@@ -76,15 +82,20 @@ module _ (parts : Parts) (problem : IsProblem parts) (old new : List (List Bool)
 
   pub same_cost : (costs : CostLists) → least_cost parts costs new ≡ least_cost parts costs old
   same_cost costs = ap₂ (λ a b. a + b)
-      (below_same (node_cost parts costs new) (node_cost parts costs old) (nodes parts) (λ node within. ap or_nothing (least_like (has new (entry_decision node)) (has old (entry_decision node)) (candidate_cost parts costs node) (length (slice_index_or parts.candidates node [])) (λ c. same_entry node c within))))
+      (below_same (node_cost parts costs new) (node_cost parts costs old) (nodes parts)
+      (λ node within. ap or_nothing
+      (least_like (has new (entry_decision node)) (has old (entry_decision node)) (candidate_cost parts costs node)
+      (length (slice_index_or parts.candidates node [])) (λ c. same_entry node c within))))
       (ap (sum_by (edge_cost costs)) (filter_alike (λ e. has new (edge_decision parts e) 0 && not (has new (edge_decision parts e) 1)) (λ e. has old (edge_decision parts e) 0 && not (has old (edge_decision parts e) 1)) (places parts)
       (All-weaker (Contains (places parts)) _ (λ e place. ap₂ (λ a b. a && not b) (same_edge_values e place 0) (same_edge_values e place 1)) (places parts) (All-contains_itself (places parts)))))
 
-  closed_still : (group : Group) (p : Principle) (mine : ℕ) (entries labels : List (List ℕ)) → IsBox (shape parts) old → HoldsBound p parts mine entries labels → group.principle ≡ p → IsClosedFor parts group old → IsClosedFor parts group new
+  closed_still : (group : Group) (p : Principle) (mine : ℕ) (entries labels : List (List ℕ)) → IsBox (shape parts) old → HoldsBound p parts mine entries labels
+      → group.principle ≡ p → IsClosedFor parts group old → IsClosedFor parts group new
   closed_still group (principles.Bound costs bound) mine entries labels old_is holds is closed =
       let same = same_cost costs in
       let some = some_value parts old problem old_is in
-      let takes : (d v : ℕ) → Has old d v → TakesBy (principles.Bound costs bound) parts group old d v → ⊥ = λ d v remains by. closed d v remains (inr (subst (λ q. TakesBy q parts group old d v) (sym is) by)) in
+      let takes : (d v : ℕ) → Has old d v → TakesBy (principles.Bound costs bound) parts group old d v
+      → ⊥ = λ d v remains by. closed d v remains (inr (subst (λ q. TakesBy q parts group old d v) (sym is) by)) in
       closed_for_bound parts group new costs bound is
       (λ reached. takes 0 some.0 some.1 (inl (omega (arith, reached, same))))
       (λ d v remains rule. takes d v (inside d v remains) (inr (record {
@@ -97,7 +108,9 @@ module _ (parts : Parts) (problem : IsProblem parts) (old new : List (List Bool)
   closed_still group p mine entries labels old_is holds is closed = absurd holds
 
 -- where the propagator is still, it stays so while the box loses values of other kinds
-pub bound_stays : (p : CostProp) (parts : Parts) (number : ℕ) (old new : List (List Bool)) → IsProblem parts → StandsFor (bound_stands p) parts number → IsBox (shape parts) old → IsBox (shape parts) new → LiesIn new old
+pub bound_stays : (p : CostProp) (parts : Parts) (number : ℕ) (old new : List (List Bool)) → IsProblem parts → StandsFor (bound_stands p) parts number
+    → IsBox (shape parts) old → IsBox (shape parts) new → LiesIn new old
     → LosesOutside parts 87381 old new → IsClosedBy (bound_stands p) parts old → IsClosedBy (bound_stands p) parts new
 bound_stays p parts number old new problem stands old_is new_is inside outside still k here =
-    closed_still parts problem old new inside outside (use_at parts k) (use_at parts k).principle p.bound p.entries p.labels old_is here.1.holds refl (still k here)
+    closed_still parts problem old new inside outside (use_at parts k) (use_at parts k).principle p.bound p.entries p.labels old_is here.1.holds refl
+    (still k here)

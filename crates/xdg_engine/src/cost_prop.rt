@@ -61,7 +61,8 @@ fn forbid_on(
 )
     requires known { Known store.old }
     requires group { IsGroup store.old.parts group.now }
-    requires takes { (label : ℕ) → label < edge_labels store.old.parts dim.0 → Dear row.now room label → TakesFree store.old.parts group.now store.old.now dim.0 label }
+    requires takes { (label : ℕ) → label < edge_labels store.old.parts dim.0 → Dear row.now room label
+        → TakesFree store.old.parts group.now store.old.now dim.0 label }
     ensures { Sweeps group.now (OfLabels row.now room dim.0 (edge_labels store.old.parts dim.0) store.old.parts) pass.old store.old pass.new store.new }
 {
     for label in 0..labels_of(store, dim) {
@@ -77,7 +78,8 @@ fn forbid_on(
 fn forbid_dear(store: &mut Store, pass: &mut Pass, group: &Group, rows: &[[u32; 32]; 8], room: u64)
     requires known { Known store.old }
     requires group { IsGroup store.old.parts group.now }
-    requires takes { (dim label : ℕ) → dim < length store.old.parts.dims → label < edge_labels store.old.parts dim → Dear (slice_index_or rows.now dim []) room label → TakesFree store.old.parts group.now store.old.now dim label }
+    requires takes { (dim label : ℕ) → dim < length store.old.parts.dims → label < edge_labels store.old.parts dim
+        → Dear (slice_index_or rows.now dim []) room label → TakesFree store.old.parts group.now store.old.now dim label }
     ensures { Sweeps group.now (OfDims rows.now room (length store.old.parts.dims) store.old.parts) pass.old store.old pass.new store.new }
 {
     for dim in 0..store.problem().parts().dims.len() as u8 {

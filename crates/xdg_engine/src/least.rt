@@ -46,7 +46,8 @@ fn least_entry(store: &Store, row: &List<u32>, node: NodeId) -> u32
 /// The least costs of the entries that remain, of all nodes together.
 fn entries_least(store: &Store, rows: &List<List<u32>>) -> u64
     requires { (costs : CostLists) × (rows.now ≡ entry_rows costs store.now.parts) }
-    ensures exact { (costs : CostLists) → rows.now ≡ entry_rows costs store.now.parts → result ≡ bounds.sum_below (bounds.node_cost store.now.parts costs store.now.now) (nodes store.now.parts) }
+    ensures exact { (costs : CostLists) → rows.now ≡ entry_rows costs store.now.parts
+        → result ≡ bounds.sum_below (bounds.node_cost store.now.parts costs store.now.now) (nodes store.now.parts) }
     ensures small { result ≤ 128 * 2 ^ 32 }
     ensures known { Known store.now }
 {
@@ -70,7 +71,9 @@ fn together(cost: u32, edges: usize) -> u64
 /// What the edges out of a node on a dimension cost that must be.
 fn mother_cost(store: &Store, row: &[u32; 32], dim: DimId, mother: NodeId) -> u64
     requires { mother.0 < nodes store.now.parts }
-    ensures exact { result ≡ bounds.sum_below (λ label. slice_index row.now label * edges_out_of (must_edges store.now.parts store.now.now dim.0) mother.0 label) (edge_labels store.now.parts dim.0) }
+    ensures exact { result
+        ≡ bounds.sum_below (λ label. slice_index row.now label * edges_out_of (must_edges store.now.parts store.now.now dim.0) mother.0 label)
+        (edge_labels store.now.parts dim.0) }
     ensures small { result ≤ 2 ^ 44 }
     ensures known { Known store.now }
 {
@@ -88,7 +91,11 @@ fn mother_cost(store: &Store, row: &[u32; 32], dim: DimId, mother: NodeId) -> u6
 
 /// What the edges of a dimension cost that must be.
 fn dim_cost(store: &Store, row: &[u32; 32], dim: DimId) -> u64
-    ensures exact { result ≡ bounds.sum_below (λ mother. bounds.sum_below (λ label. slice_index row.now label * edges_out_of (must_edges store.now.parts store.now.now dim.0) mother label) (edge_labels store.now.parts dim.0)) (nodes store.now.parts) }
+    ensures exact { result
+        ≡ bounds.sum_below
+        (λ mother. bounds.sum_below (λ label. slice_index row.now label * edges_out_of (must_edges store.now.parts store.now.now dim.0) mother label)
+        (edge_labels store.now.parts dim.0))
+        (nodes store.now.parts) }
     ensures small { result ≤ 2 ^ 51 }
     ensures known { Known store.now }
 {
@@ -101,7 +108,8 @@ fn dim_cost(store: &Store, row: &[u32; 32], dim: DimId) -> u64
 
 /// What the edges cost that must be.
 fn edges_least(store: &Store, rows: &[[u32; 32]; 8]) -> u64
-    ensures exact { (costs : CostLists) → AreLabelCosts costs rows.now → result ≡ sum_by (bounds.edge_cost costs) (bounds.must_places store.now.parts store.now.now) }
+    ensures exact { (costs : CostLists) → AreLabelCosts costs rows.now
+        → result ≡ sum_by (bounds.edge_cost costs) (bounds.must_places store.now.parts store.now.now) }
     ensures small { result ≤ 2 ^ 54 }
     ensures known { Known store.now }
 {
@@ -115,7 +123,8 @@ fn edges_least(store: &Store, rows: &[[u32; 32]; 8]) -> u64
 /// What an analysis of the box costs at the least.
 pub(crate) fn least_cost(store: &Store, entries: &List<List<u32>>, labels: &[[u32; 32]; 8]) -> u64
     requires { (costs : CostLists) × (entries.now ≡ entry_rows costs store.now.parts) }
-    ensures exact { (costs : CostLists) → entries.now ≡ entry_rows costs store.now.parts → AreLabelCosts costs labels.now → result ≡ bounds.least_cost store.now.parts costs store.now.now }
+    ensures exact { (costs : CostLists) → entries.now ≡ entry_rows costs store.now.parts → AreLabelCosts costs labels.now
+        → result ≡ bounds.least_cost store.now.parts costs store.now.now }
     ensures known { Known store.now }
 {
     entries_least(store, entries) + edges_least(store, labels)

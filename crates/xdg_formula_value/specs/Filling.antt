@@ -17,7 +17,8 @@ use Rattle.xdg_formula_value.specs.declared.way.Way.TheVariants as ways
 -- of the first dimensions, the table of each that is known has for each node the nodes to which paths lead
 abbrev pub TellsPaths : Way → Which → State → ℕ → List Bool → List (List (List ℕ)) → Type 0
 TellsPaths way which s k known tables =
-    (dim : ℕ) → dim < k → slice_index_or known dim false ≡ true → (a b : ℕ) → In (slice_index_or tables dim []) a b ↔ Along way (Above (edges_of which s.parts s.now dim)) a b
+    (dim : ℕ) → dim < k → slice_index_or known dim false ≡ true → (a b : ℕ)
+    → In (slice_index_or tables dim []) a b ↔ Along way (Above (edges_of which s.parts s.now dim)) a b
 
 -- the tables of both kinds of edges do
 pub record AreFilled (way : Way) (s : State) (filled : Filled) : Type 0 where

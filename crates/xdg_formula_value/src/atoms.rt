@@ -80,7 +80,9 @@ pub(crate) fn attr_row(
     requires attr { attr.0 < attr_count store.now.parts dim.0 }
     requires value { value < value_count store.now.parts dim.0 attr.0 }
     requires nodes { AreNodes store.now.parts (stands binding.now) }
-    ensures { IsRowOn care (λ v. EachValue store.now.now (attr_decision store.now.parts dim.0 (bound (stands binding.now) name v node) attr.0) (λ x. HasTruth truth (x ≡ value))) result }
+    ensures { IsRowOn care
+        (λ v. EachValue store.now.now (attr_decision store.now.parts dim.0 (bound (stands binding.now) name v node) attr.0) (λ x. HasTruth truth (x ≡ value)))
+        result }
 {
     if node != name {
         return constant(attr_told(store, node_of(binding, node), dim, attr, value, truth));
@@ -141,7 +143,10 @@ pub(crate) fn feat_row(
 ) -> NodeSet
     requires care { AreFirst (nodes store.now.parts) care }
     requires nodes { AreNodes store.now.parts (stands binding.now) }
-    ensures { IsRowOn care (λ v. EachEntry store.now.now (bound (stands binding.now) name v node) (λ c. HasTruth truth (says table.now (bound (stands binding.now) name v node) c ≡ true))) result }
+    ensures { IsRowOn care
+        (λ v. EachEntry store.now.now (bound (stands binding.now) name v node)
+        (λ c. HasTruth truth (says table.now (bound (stands binding.now) name v node) c ≡ true)))
+        result }
 {
     if node != name {
         return constant(entries_told(store, node_of(binding, node), table, truth));

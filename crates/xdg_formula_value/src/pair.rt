@@ -132,7 +132,8 @@ fn related_row(
     requires paths { ArePaths store.now paths.now }
     requires pair { IsPairOf store.now.parts pair }
     requires nodes { AreNodes store.now.parts (stands binding.now) }
-    ensures { IsRow (nodes store.now.parts) (λ v. Relates pair which store.now.parts store.now.now (bound (stands binding.now) name v first) (bound (stands binding.now) name v second)) result }
+    ensures { IsRow (nodes store.now.parts)
+        (λ v. Relates pair which store.now.parts store.now.now (bound (stands binding.now) name v first) (bound (stands binding.now) name v second)) result }
 {
     if first == name {
         if second == name {
@@ -178,7 +179,10 @@ pub(crate) fn pair_row(
     requires paths { ArePaths store.now paths.now }
     requires pair { IsPairOf store.now.parts pair }
     requires nodes { AreNodes store.now.parts (stands binding.now) }
-    ensures { IsRow (nodes store.now.parts) (λ v. HasTruth truth (Relates pair (edges_for truth) store.now.parts store.now.now (bound (stands binding.now) name v first) (bound (stands binding.now) name v second))) result }
+    ensures { IsRow (nodes store.now.parts)
+        (λ v. HasTruth truth
+        (Relates pair (edges_for truth) store.now.parts store.now.now (bound (stands binding.now) name v first) (bound (stands binding.now) name v second)))
+        result }
 {
     let row = related_row(
         store,

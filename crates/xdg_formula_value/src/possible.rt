@@ -35,7 +35,11 @@ fn possible_pair(
     requires paths { ArePaths store.now paths.now }
     requires pair { IsPairOf store.now.parts pair }
     requires nodes { AreNodes store.now.parts (stands binding.now) }
-    ensures { (v node : ℕ) → v < nodes store.now.parts → HasTruth truth (Relates pair (edges_for truth) store.now.parts store.now.now (bound (bound (stands binding.now) name v) other node first) (bound (bound (stands binding.now) name v) other node second)) → has result v ≡ true }
+    ensures { (v node : ℕ) → v < nodes store.now.parts
+        → HasTruth truth
+        (Relates pair (edges_for truth) store.now.parts store.now.now (bound (bound (stands binding.now) name v) other node first)
+        (bound (bound (stands binding.now) name v) other node second))
+        → has result v ≡ true }
 {
     if first == other {
         return constant(true);
@@ -63,7 +67,8 @@ pub(crate) fn possible_row(
     requires is_of { IsOf store.now.parts (claim formula.now) }
     requires nodes { AreNodes store.now.parts (stands binding.now) }
     requires care { AreFirst (nodes store.now.parts) care }
-    ensures { Bounds care (λ v node. Makes store.now.parts store.now.now (claim formula.now) truth (bound (bound (stands binding.now) name v) other node)) result }
+    ensures { Bounds care (λ v node. Makes store.now.parts store.now.now (claim formula.now) truth (bound (bound (stands binding.now) name v) other node))
+        result }
 {
     match formula {
         Formula::Not(inner) => {
@@ -185,7 +190,8 @@ pub(crate) fn possible_second(
     requires is_of { IsOf store.now.parts (claim formula.now) }
     requires nodes { AreNodes store.now.parts (stands binding.now) }
     ensures first { AreFirst (nodes store.now.parts) result }
-    ensures bounds { (v node : ℕ) → node < nodes store.now.parts → Makes store.now.parts store.now.now (claim formula.now) truth (bound (bound (stands binding.now) name v) other node) → has result node ≡ true }
+    ensures bounds { (v node : ℕ) → node < nodes store.now.parts
+        → Makes store.now.parts store.now.now (claim formula.now) truth (bound (bound (stands binding.now) name v) other node) → has result node ≡ true }
 {
     let all = paths.all;
     if other == name {

@@ -35,4 +35,5 @@ pub record IsJudged (g : Grammar) (t : AnalysisText) (made : Judgeable) : Type 0
 pub data IsNotJudged (g : Grammar) (t : AnalysisText) : Stop → Type 0 where
   no_memory : IsNotJudged g t stops.OutOfMemory
   word_unknown : (w : Fault) → refusal g t.words ≡ Some w → IsNotJudged g t (stops.Fault (fault causes.NotAnalysis w.at 0))
-  not_fit : (f : Fault) → refusal g t.words ≡ None → fitting.IsAnswer (compiled g t.words) t (Err f) → ((answer : Result Analysis Fault) → fitting.IsAnswer (compiled g t.words) t answer → answer ≡ Err f) → IsNotJudged g t (stops.Fault f)
+  not_fit : (f : Fault) → refusal g t.words ≡ None → fitting.IsAnswer (compiled g t.words) t (Err f)
+      → ((answer : Result Analysis Fault) → fitting.IsAnswer (compiled g t.words) t answer → answer ≡ Err f) → IsNotJudged g t (stops.Fault f)

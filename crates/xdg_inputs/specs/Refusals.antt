@@ -31,7 +31,8 @@ Stops Told old new A Refused Has (refusals.Text f place) = Told → RejectsAt A 
 abbrev pub Refuses : Status → Status → Refusal → Option (List ℕ) → Option (List ℕ) → Type 0
 Refuses result status refusals.Read old new = (result ≡ statuses.ReadFault) × (new ≡ old)
 Refuses result status refusals.Memory old new = (result ≡ statuses.OutOfMemory) × (new ≡ old)
-Refuses result status (refusals.Text refused place) old new = ((result ≡ status) × Appends old new (fault_text refused place)) ⊎ ((result ≡ statuses.WriteFault) × AppendsFront old new (fault_text refused place))
+Refuses result status (refusals.Text refused place) old new =
+    ((result ≡ status) × Appends old new (fault_text refused place)) ⊎ ((result ≡ statuses.WriteFault) × AppendsFront old new (fault_text refused place))
 
 -- the refusal of a text for what stopped a call
 abbrev pub refusal_of : List ℕ → Stop → Refusal

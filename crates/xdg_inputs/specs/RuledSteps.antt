@@ -18,9 +18,10 @@ abbrev pub RulesThen : Files → Option (List ℕ) → (Rules → Meaning → St
 RulesThen files given next m = Behind Rules statuses.BadRules (HasBadRules files given m.table) (HasRules files given m.table) (λ rules. next rules m)
 
 -- What comes next goes by a problem with rules. Its solutions are those in which each rule is true.
-pub record WithRules (m : Meaning) (rules : List Rule) (parts : Parts) (next : Parts → Status → List ℕ → Type 0) (status : Status) (text : List ℕ) : Type 0 where
-  pub dim : ℕ
-  pub field : ℕ
-  pub place : IsWordPlace m.table dim field
-  pub keeps : KeepsRules (with_words m dim field) rules parts (ruled (with_words m dim field) rules parts)
-  pub follows : next (ruled (with_words m dim field) rules parts) status text
+pub record WithRules (m : Meaning) (rules : List Rule) (parts : Parts) (next : Parts → Status → List ℕ → Type 0) (status : Status) (text : List ℕ) : Type 0
+  where
+    pub dim : ℕ
+    pub field : ℕ
+    pub place : IsWordPlace m.table dim field
+    pub keeps : KeepsRules (with_words m dim field) rules parts (ruled (with_words m dim field) rules parts)
+    pub follows : next (ruled (with_words m dim field) rules parts) status text

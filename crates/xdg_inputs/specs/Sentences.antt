@@ -61,7 +61,8 @@ sentence_limit = 65536
 -- an input is no sentence of a grammar: it is too long, or else it isn't UTF-8, or else its words are refused
 pub data IsNoSentence (g : Grammar) (segment : Bool) (input : List ℕ) (refused : Fault) : Type 0 where
   too_long : sentence_limit < length input → refused ≡ fault causes.TooLong 0 (sentence_limit + 1) → IsNoSentence g segment input refused
-  no_text : (at : ℕ) → length input ≤ sentence_limit → (IsUtf8 input → ⊥) → IsValidUpTo input at → refused ≡ fault causes.BadUtf8 at 0 → IsNoSentence g segment input refused
+  no_text : (at : ℕ) → length input ≤ sentence_limit → (IsUtf8 input → ⊥) → IsValidUpTo input at → refused ≡ fault causes.BadUtf8 at 0
+      → IsNoSentence g segment input refused
   no_words : length input ≤ sentence_limit → IsUtf8 input → refusal g (words_in segment input) ≡ Some refused → IsNoSentence g segment input refused
 
 -- an input is a sentence of a grammar

@@ -95,10 +95,16 @@ pub fn load_analysis<H: Shelf>(
 ) -> Result<Judgeable, Refusal>
     requires lexicon { IsRightLexicon expanded.now.checked.types expanded.now.entries }
     requires packed { IsPackedOf expanded.now packed.now }
-    ensures found { IfOk result (λ judgeable. (files : List ℕ → Option (List ℕ)) → H.files shelf.old ≡ Some files → Accepts Analysed (HasBadAnalysis files name.now (meaning_of expanded.now)) (HasAnalysis files name.now (meaning_of expanded.now)) (analysed_of judgeable)) }
+    ensures found { IfOk result
+        (λ judgeable. (files : List ℕ → Option (List ℕ)) → H.files shelf.old ≡ Some files
+        → Accepts Analysed (HasBadAnalysis files name.now (meaning_of expanded.now)) (HasAnalysis files name.now (meaning_of expanded.now))
+        (analysed_of judgeable)) }
     ensures fits { IfOk result (λ judgeable. IsAnalysis judgeable.problem judgeable.analysis) }
     ensures made { IfOk result (λ judgeable. IsMade (grammar_of expanded.now.checked packed.now) judgeable.problem) }
-    ensures refused { IfErr result (λ refusal. (files : List ℕ → Option (List ℕ)) → Stops (H.files shelf.old ≡ Some files) (H.faults shelf.old name.now) (H.faults shelf.new name.now) Analysed (HasBadAnalysis files name.now (meaning_of expanded.now)) (HasAnalysis files name.now (meaning_of expanded.now)) refusal) }
+    ensures refused { IfErr result
+        (λ refusal. (files : List ℕ → Option (List ℕ))
+        → Stops (H.files shelf.old ≡ Some files) (H.faults shelf.old name.now) (H.faults shelf.new name.now) Analysed
+        (HasBadAnalysis files name.now (meaning_of expanded.now)) (HasAnalysis files name.now (meaning_of expanded.now)) refusal) }
     ensures failed { IfErr result (λ refusal. refusal ≡ Refusal.Read → Rose (H.faults shelf.old name.now) (H.faults shelf.new name.now)) }
     ensures kept { H.files shelf.new ≡ H.files shelf.old }
     ensures lasting { (other : List ℕ) → H.faults shelf.old other ≤ H.faults shelf.new other }

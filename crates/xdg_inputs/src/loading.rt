@@ -25,9 +25,14 @@ pub struct Loaded {
 
 /// The grammar text of a file.
 pub fn load_tree<H: Shelf>(alloc: Global, shelf: &mut H, name: &str) -> Result<Loaded, Refusal>
-    ensures found { IfOk result (λ loaded. (files : List ℕ → Option (List ℕ)) → H.files shelf.old ≡ Some files → Accepts ReadText (HasBadText files name.now) (HasTree files name.now) (read_of loaded)) }
+    ensures found { IfOk result
+        (λ loaded. (files : List ℕ → Option (List ℕ)) → H.files shelf.old ≡ Some files
+        → Accepts ReadText (HasBadText files name.now) (HasTree files name.now) (read_of loaded)) }
     ensures short { IfOk result (λ loaded. length loaded.text.items ≤ 4194304) }
-    ensures refused { IfErr result (λ refusal. (files : List ℕ → Option (List ℕ)) → Stops (H.files shelf.old ≡ Some files) (H.faults shelf.old name.now) (H.faults shelf.new name.now) ReadText (HasBadText files name.now) (HasTree files name.now) refusal) }
+    ensures refused { IfErr result
+        (λ refusal. (files : List ℕ → Option (List ℕ))
+        → Stops (H.files shelf.old ≡ Some files) (H.faults shelf.old name.now) (H.faults shelf.new name.now) ReadText (HasBadText files name.now)
+        (HasTree files name.now) refusal) }
     ensures failed { IfErr result (λ refusal. refusal ≡ Refusal.Read → Rose (H.faults shelf.old name.now) (H.faults shelf.new name.now)) }
     ensures kept { H.files shelf.new ≡ H.files shelf.old }
     ensures lasting { (other : List ℕ) → H.faults shelf.old other ≤ H.faults shelf.new other }

@@ -26,9 +26,14 @@ fn load_named<H: Shelf>(
     name: &str,
     shelf: &mut H,
 ) -> Result<Rules, Refusal>
-    ensures found { IfOk result (λ rules. (files : List ℕ → Option (List ℕ)) → H.files shelf.old ≡ Some files → Accepts trees.Rules (HasBadFile files name.now types.now) (HasFile files name.now types.now) rules) }
+    ensures found { IfOk result
+        (λ rules. (files : List ℕ → Option (List ℕ)) → H.files shelf.old ≡ Some files
+        → Accepts trees.Rules (HasBadFile files name.now types.now) (HasFile files name.now types.now) rules) }
     ensures right { IfOk result (AreRight types.now) }
-    ensures refused { IfErr result (λ refusal. (files : List ℕ → Option (List ℕ)) → Stops (H.files shelf.old ≡ Some files) (H.faults shelf.old name.now) (H.faults shelf.new name.now) trees.Rules (HasBadFile files name.now types.now) (HasFile files name.now types.now) refusal) }
+    ensures refused { IfErr result
+        (λ refusal. (files : List ℕ → Option (List ℕ))
+        → Stops (H.files shelf.old ≡ Some files) (H.faults shelf.old name.now) (H.faults shelf.new name.now) trees.Rules
+        (HasBadFile files name.now types.now) (HasFile files name.now types.now) refusal) }
     ensures failed { IfErr result (λ refusal. refusal ≡ Refusal.Read → Rose (H.faults shelf.old name.now) (H.faults shelf.new name.now)) }
     ensures kept { H.files shelf.new ≡ H.files shelf.old }
     ensures lasting { (other : List ℕ) → H.faults shelf.old other ≤ H.faults shelf.new other }
@@ -54,9 +59,14 @@ pub fn load_rules<H: Shelf>(
     name: &Option<Text>,
     shelf: &mut H,
 ) -> Result<Rules, Refusal>
-    ensures found { IfOk result (λ rules. (files : List ℕ → Option (List ℕ)) → H.files shelf.old ≡ Some files → Accepts trees.Rules (HasBadRules files name.now expanded.now.checked.types) (HasRules files name.now expanded.now.checked.types) rules) }
+    ensures found { IfOk result
+        (λ rules. (files : List ℕ → Option (List ℕ)) → H.files shelf.old ≡ Some files
+        → Accepts trees.Rules (HasBadRules files name.now expanded.now.checked.types) (HasRules files name.now expanded.now.checked.types) rules) }
     ensures right { IfOk result (AreRight expanded.now.checked.types) }
-    ensures refused { IfErr result (λ refusal. (files : List ℕ → Option (List ℕ)) → Stops (H.files shelf.old ≡ Some files) (count_for name.now (H.faults shelf.old)) (count_for name.now (H.faults shelf.new)) trees.Rules (HasBadRules files name.now expanded.now.checked.types) (HasRules files name.now expanded.now.checked.types) refusal) }
+    ensures refused { IfErr result
+        (λ refusal. (files : List ℕ → Option (List ℕ))
+        → Stops (H.files shelf.old ≡ Some files) (count_for name.now (H.faults shelf.old)) (count_for name.now (H.faults shelf.new)) trees.Rules
+        (HasBadRules files name.now expanded.now.checked.types) (HasRules files name.now expanded.now.checked.types) refusal) }
     ensures failed { IfErr result (λ refusal. refusal ≡ Refusal.Read → RoseFor name.now (H.faults shelf.old) (H.faults shelf.new)) }
     ensures kept { H.files shelf.new ≡ H.files shelf.old }
     ensures lasting { (other : List ℕ) → H.faults shelf.old other ≤ H.faults shelf.new other }

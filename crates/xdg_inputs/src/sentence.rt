@@ -51,8 +51,11 @@ pub fn problem_in(
     requires within { length input.now ≤ 65536 }
     requires lexicon { IsRightLexicon expanded.now.checked.types expanded.now.entries }
     requires packed { IsPackedOf expanded.now packed.now }
-    ensures found { IfOk result (Accepts declared.Parts (IsBadSentence (meaning_of expanded.now) segment input.now) (HasProblem (meaning_of expanded.now) segment input.now)) }
-    ensures refused { IfErr result (Stops (Unit {0}) 0 0 declared.Parts (IsBadSentence (meaning_of expanded.now) segment input.now) (HasProblem (meaning_of expanded.now) segment input.now)) }
+    ensures found { IfOk result
+        (Accepts declared.Parts (IsBadSentence (meaning_of expanded.now) segment input.now) (HasProblem (meaning_of expanded.now) segment input.now)) }
+    ensures refused { IfErr result
+        (Stops (Unit {0}) 0 0 declared.Parts (IsBadSentence (meaning_of expanded.now) segment input.now)
+        (HasProblem (meaning_of expanded.now) segment input.now)) }
     ensures made { IfOk result (IsMade (grammar_of expanded.now.checked packed.now)) }
 {
     let text = match str::from_utf8(input) {
@@ -75,8 +78,13 @@ pub fn read_problem<S: Source>(
 ) -> Result<Problem, Refusal>
     requires lexicon { IsRightLexicon expanded.now.checked.types expanded.now.entries }
     requires packed { IsPackedOf expanded.now packed.now }
-    ensures found { IfOk result (λ problem. (input : List ℕ) → S.left source.old ≡ Some input → Accepts declared.Parts (IsBadSentence (meaning_of expanded.now) segment input) (HasProblem (meaning_of expanded.now) segment input) problem) }
-    ensures refused { IfErr result (λ refusal. (input : List ℕ) → Stops (S.left source.old ≡ Some input) (S.faults source.old) (S.faults source.new) declared.Parts (IsBadSentence (meaning_of expanded.now) segment input) (HasProblem (meaning_of expanded.now) segment input) refusal) }
+    ensures found { IfOk result
+        (λ problem. (input : List ℕ) → S.left source.old ≡ Some input
+        → Accepts declared.Parts (IsBadSentence (meaning_of expanded.now) segment input) (HasProblem (meaning_of expanded.now) segment input) problem) }
+    ensures refused { IfErr result
+        (λ refusal. (input : List ℕ)
+        → Stops (S.left source.old ≡ Some input) (S.faults source.old) (S.faults source.new) declared.Parts
+        (IsBadSentence (meaning_of expanded.now) segment input) (HasProblem (meaning_of expanded.now) segment input) refusal) }
     ensures made { IfOk result (IsMade (grammar_of expanded.now.checked packed.now)) }
     ensures failed { IfErr result (λ refusal. refusal ≡ Refusal.Read → Rose (S.faults source.old) (S.faults source.new)) }
     ensures all { IfOk result (λ problem. (input : List ℕ) → S.left source.old ≡ Some input → S.left source.new ≡ Some []) }

@@ -12,7 +12,8 @@ use Rattle.xdg_judge.specs.Links.{AreNeighbours}
 
 -- the tables of the first dimensions lead down along their edges
 abbrev pub AreGraphs : ℕ → Analysis → List Neighbours → Type 0
-AreGraphs count analysis tables = (dim : ℕ) (given : Neighbours) → dim < count → AreNeighbours directions.Down (edges_on dim analysis.edges) (slice_index_or tables dim given)
+AreGraphs count analysis tables =
+    (dim : ℕ) (given : Neighbours) → dim < count → AreNeighbours directions.Down (edges_on dim analysis.edges) (slice_index_or tables dim given)
 
 -- an analysis of a problem, with a table for each of its dimensions
 pub record IsReady (parts : Parts) (analysis : Analysis) (tables : List Neighbours) : Type 0 where

@@ -24,7 +24,8 @@ use xdg_problem::{Condition, Principle};
 fn passes_in(view: &View, v: u8, label: u8, count: usize) -> bool
     requires view { IsView view.now.parts.now view.now.group.now view.now.analysis.now view.now.first_dim view.now.second_dim view.now.first view.now.second }
     requires v_within { v < nodes view.now.parts.now }
-    ensures { IsTrue result ↔ Contains (in_row view.now.group.now v (slice_index (entry_places view.now.parts.now.candidates view.now.analysis.now.entries) v) label) count }
+    ensures { IsTrue result
+        ↔ Contains (in_row view.now.group.now v (slice_index (entry_places view.now.parts.now.candidates view.now.analysis.now.entries) v) label) count }
 {
     let (node, label) = (usize::from(v), usize::from(label));
     is_member(row_of(view.group, node, view.candidate(v), 0, label), count)
@@ -34,7 +35,8 @@ fn passes_in(view: &View, v: u8, label: u8, count: usize) -> bool
 fn passes_out(view: &View, v: u8, label: u8, count: usize) -> bool
     requires view { IsView view.now.parts.now view.now.group.now view.now.analysis.now view.now.first_dim view.now.second_dim view.now.first view.now.second }
     requires v_within { v < nodes view.now.parts.now }
-    ensures { IsTrue result ↔ Contains (out_row view.now.group.now v (slice_index (entry_places view.now.parts.now.candidates view.now.analysis.now.entries) v) label) count }
+    ensures { IsTrue result
+        ↔ Contains (out_row view.now.group.now v (slice_index (entry_places view.now.parts.now.candidates view.now.analysis.now.entries) v) label) count }
 {
     let (node, label) = (usize::from(v), usize::from(label));
     is_member(row_of(view.group, node, view.candidate(v), 1, label), count)
@@ -183,7 +185,11 @@ fn is_ordered(view: &View, labels: &[LabelId], yields: bool, own: u16, u: u8, x:
     requires u_within { u < nodes view.now.parts.now }
     requires x_within { x < nodes view.now.parts.now }
     requires y_within { y < nodes view.now.parts.now }
-    ensures { IsTrue result ↔ AllPairs (λ earlier later. IsInItem (edges_on (first_dim view.now.group.now) view.now.analysis.now.edges) (yields ≡ true) own u earlier.0 x → IsInItem (edges_on (first_dim view.now.group.now) view.now.analysis.now.edges) (yields ≡ true) own u later.0 y → ⊥) labels.now }
+    ensures { IsTrue result
+        ↔ AllPairs
+        (λ earlier later. IsInItem (edges_on (first_dim view.now.group.now) view.now.analysis.now.edges) (yields ≡ true) own u earlier.0 x
+        → IsInItem (edges_on (first_dim view.now.group.now) view.now.analysis.now.edges) (yields ≡ true) own u later.0 y → ⊥)
+        labels.now }
 {
     let mut seen = false;
     for label in labels {
@@ -262,7 +268,9 @@ fn links(view: &View, u: u8, label: u8, v: u8) -> bool
     requires view { IsView view.now.parts.now view.now.group.now view.now.analysis.now view.now.first_dim view.now.second_dim view.now.first view.now.second }
     requires u_within { u < nodes view.now.parts.now }
     requires v_within { v < nodes view.now.parts.now }
-    ensures { IsTrue result ↔ AsksLink view.now.group.now.principle view.now.group.now (slice_index (entry_places view.now.parts.now.candidates view.now.analysis.now.entries) u) (edges_on (second_dim view.now.group.now) view.now.analysis.now.edges) u label v }
+    ensures { IsTrue result
+        ↔ AsksLink view.now.group.now.principle view.now.group.now (slice_index (entry_places view.now.parts.now.candidates view.now.analysis.now.entries) u)
+        (edges_on (second_dim view.now.group.now) view.now.analysis.now.edges) u label v }
 {
     if matches!(&view.group.principle, Principle::LinkingNotDaughter) {
         let labels = row_of(view.group, usize::from(u), view.candidate(u), 0, 0);

@@ -26,7 +26,8 @@ use xdg_problem::{Analysis, Condition, Group, Parts, Principle, Problem};
 #[tactic(auto, using(crate::proofs::Judging::roots_kept, crate::proofs::Judging::roots_broken))]
 fn broken_roots(view: &View) -> Option<Tuple4>
     requires view { IsView view.now.parts.now view.now.group.now view.now.analysis.now view.now.first_dim view.now.second_dim view.now.first view.now.second }
-    ensures { MatchOption result (IsKeptHere view.now.parts.now view.now.group.now view.now.analysis.now conditions.Roots) (λ tuple. IsLeastBroken view.now.parts.now view.now.group.now view.now.analysis.now conditions.Roots (tuple_of tuple)) }
+    ensures { MatchOption result (IsKeptHere view.now.parts.now view.now.group.now view.now.analysis.now conditions.Roots)
+        (λ tuple. IsLeastBroken view.now.parts.now view.now.group.now view.now.analysis.now conditions.Roots (tuple_of tuple)) }
 {
     let count = count_roots(view.edges(), view.first_dim, view.parts.words.len());
     if count == 1 {
@@ -90,7 +91,8 @@ fn tuple_for(condition: Condition, u: u8, x: u8, y: u8) -> Tuple4
 fn broken_tuple(view: &View, condition: Condition) -> Option<Tuple4>
     requires view { IsView view.now.parts.now view.now.group.now view.now.analysis.now view.now.first_dim view.now.second_dim view.now.first view.now.second }
     requires searched { IsSearched condition }
-    ensures { MatchOption result (IsKeptHere view.now.parts.now view.now.group.now view.now.analysis.now condition) (λ tuple. IsLeastBroken view.now.parts.now view.now.group.now view.now.analysis.now condition (tuple_of tuple)) }
+    ensures { MatchOption result (IsKeptHere view.now.parts.now view.now.group.now view.now.analysis.now condition)
+        (λ tuple. IsLeastBroken view.now.parts.now view.now.group.now view.now.analysis.now condition (tuple_of tuple)) }
 {
     let size = view.parts.words.len() as u8;
     let middle = second_size(view, condition);
@@ -107,7 +109,8 @@ fn broken_tuple(view: &View, condition: Condition) -> Option<Tuple4>
 fn broken_whole(view: &View, condition: Condition) -> Option<Tuple4>
     requires view { IsView view.now.parts.now view.now.group.now view.now.analysis.now view.now.first_dim view.now.second_dim view.now.first view.now.second }
     requires whole { IsOfWhole condition }
-    ensures { MatchOption result (IsKeptHere view.now.parts.now view.now.group.now view.now.analysis.now condition) (λ tuple. IsLeastBroken view.now.parts.now view.now.group.now view.now.analysis.now condition (tuple_of tuple)) }
+    ensures { MatchOption result (IsKeptHere view.now.parts.now view.now.group.now view.now.analysis.now condition)
+        (λ tuple. IsLeastBroken view.now.parts.now view.now.group.now view.now.analysis.now condition (tuple_of tuple)) }
 {
     if keeps_whole(view) {
         return None;
@@ -118,7 +121,8 @@ fn broken_whole(view: &View, condition: Condition) -> Option<Tuple4>
 /// The least tuple that breaks a condition.
 fn broken(view: &View, condition: Condition) -> Option<Tuple4>
     requires view { IsView view.now.parts.now view.now.group.now view.now.analysis.now view.now.first_dim view.now.second_dim view.now.first view.now.second }
-    ensures { MatchOption result (IsKeptHere view.now.parts.now view.now.group.now view.now.analysis.now condition) (λ tuple. IsLeastBroken view.now.parts.now view.now.group.now view.now.analysis.now condition (tuple_of tuple)) }
+    ensures { MatchOption result (IsKeptHere view.now.parts.now view.now.group.now view.now.analysis.now condition)
+        (λ tuple. IsLeastBroken view.now.parts.now view.now.group.now view.now.analysis.now condition (tuple_of tuple)) }
 {
     match condition {
         Condition::Roots => broken_roots(view),

@@ -30,7 +30,9 @@ fn first_third(
     requires u_within { u < nodes view.now.parts.now }
     requires x_within { x < second_size condition view.now.parts.now view.now.group.now }
     requires size { last ≡ third_size condition view.now.parts.now view.now.group.now }
-    ensures { MatchOption result ((c : ℕ) → c < last → AsksHere view.now.parts.now view.now.group.now view.now.analysis.now condition (tuple_for condition u x c)) (λ y. FirstOne last (λ c. AsksHere view.now.parts.now view.now.group.now view.now.analysis.now condition (tuple_for condition u x c)) y) }
+    ensures { MatchOption result
+        ((c : ℕ) → c < last → AsksHere view.now.parts.now view.now.group.now view.now.analysis.now condition (tuple_for condition u x c))
+        (λ y. FirstOne last (λ c. AsksHere view.now.parts.now view.now.group.now view.now.analysis.now condition (tuple_for condition u x c)) y) }
 {
     if skips_one(view, condition, u, x) {
         return None;
@@ -59,7 +61,10 @@ fn first_second(
     requires u_within { u < nodes view.now.parts.now }
     requires middle_size { middle ≡ second_size condition view.now.parts.now view.now.group.now }
     requires size { last ≡ third_size condition view.now.parts.now view.now.group.now }
-    ensures { MatchOption result ((b : ℕ) → b < middle → (c : ℕ) → c < last → AsksHere view.now.parts.now view.now.group.now view.now.analysis.now condition (tuple_for condition u b c)) (λ found. FirstTwo middle last (λ b c. AsksHere view.now.parts.now view.now.group.now view.now.analysis.now condition (tuple_for condition u b c)) found.0 found.1) }
+    ensures { MatchOption result
+        ((b : ℕ) → b < middle → (c : ℕ) → c < last → AsksHere view.now.parts.now view.now.group.now view.now.analysis.now condition (tuple_for condition u b c))
+        (λ found. FirstTwo middle last (λ b c. AsksHere view.now.parts.now view.now.group.now view.now.analysis.now condition (tuple_for condition u b c))
+        found.0 found.1) }
 {
     if skips_two(view, condition, u) {
         return None;
@@ -88,7 +93,11 @@ pub fn first_refused(
     requires size_is { size ≡ nodes view.now.parts.now }
     requires middle_size { middle ≡ second_size condition view.now.parts.now view.now.group.now }
     requires last_size { last ≡ third_size condition view.now.parts.now view.now.group.now }
-    ensures { MatchOption result ((a : ℕ) → a < size → (b : ℕ) → b < middle → (c : ℕ) → c < last → AsksHere view.now.parts.now view.now.group.now view.now.analysis.now condition (tuple_for condition a b c)) (λ found. FirstThree size middle last (λ a b c. AsksHere view.now.parts.now view.now.group.now view.now.analysis.now condition (tuple_for condition a b c)) found.0 found.1 found.2) }
+    ensures { MatchOption result
+        ((a : ℕ) → a < size → (b : ℕ) → b < middle → (c : ℕ) → c < last
+        → AsksHere view.now.parts.now view.now.group.now view.now.analysis.now condition (tuple_for condition a b c))
+        (λ found. FirstThree size middle last
+        (λ a b c. AsksHere view.now.parts.now view.now.group.now view.now.analysis.now condition (tuple_for condition a b c)) found.0 found.1 found.2) }
 {
     for u in 0..size {
         if let Some((x, y)) = first_second(view, counts, condition, u, middle, last) {

@@ -56,7 +56,10 @@ fn skips_between(view: &View, u: u8, v: u8) -> bool
 fn passed(view: &View, yields: bool, own: u16, u: u8, label: u8, bound: u8) -> Option<u8>
     requires view { IsView view.now.parts.now view.now.group.now view.now.analysis.now view.now.first_dim view.now.second_dim view.now.first view.now.second }
     requires u_within { u < nodes view.now.parts.now }
-    ensures { IfSome result (λ next. (bound ≤ next) × ((x : ℕ) → x < nodes view.now.parts.now → IsInItem (edges_on (first_dim view.now.group.now) view.now.analysis.now.edges) (yields ≡ true) own u label x → (bound ≤ x) × (x < next))) }
+    ensures { IfSome result
+        (λ next. (bound ≤ next)
+        × ((x : ℕ) → x < nodes view.now.parts.now
+        → IsInItem (edges_on (first_dim view.now.group.now) view.now.analysis.now.edges) (yields ≡ true) own u label x → (bound ≤ x) × (x < next))) }
 {
     if own != u16::from(label) && has_no_daughter(view, u, label) {
         return Some(bound);
@@ -78,7 +81,11 @@ fn passed(view: &View, yields: bool, own: u16, u: u8, label: u8, bound: u8) -> O
 fn settles(view: &View, labels: &[LabelId], yields: bool, own: u16, u: u8) -> bool
     requires view { IsView view.now.parts.now view.now.group.now view.now.analysis.now view.now.first_dim view.now.second_dim view.now.first view.now.second }
     requires u_within { u < nodes view.now.parts.now }
-    ensures { IsTrue result → (x y : ℕ) → x < nodes view.now.parts.now → y < nodes view.now.parts.now → AllPairs (λ earlier later. IsInItem (edges_on (first_dim view.now.group.now) view.now.analysis.now.edges) (yields ≡ true) own u earlier.0 x → IsInItem (edges_on (first_dim view.now.group.now) view.now.analysis.now.edges) (yields ≡ true) own u later.0 y → x < y) labels.now }
+    ensures { IsTrue result → (x y : ℕ) → x < nodes view.now.parts.now → y < nodes view.now.parts.now
+        → AllPairs
+        (λ earlier later. IsInItem (edges_on (first_dim view.now.group.now) view.now.analysis.now.edges) (yields ≡ true) own u earlier.0 x
+        → IsInItem (edges_on (first_dim view.now.group.now) view.now.analysis.now.edges) (yields ≡ true) own u later.0 y → x < y)
+        labels.now }
 {
     let mut bound = 0;
     for label in labels {
@@ -94,7 +101,8 @@ fn settles(view: &View, labels: &[LabelId], yields: bool, own: u16, u: u8) -> bo
 fn skips_order(view: &View, u: u8) -> bool
     requires view { IsView view.now.parts.now view.now.group.now view.now.analysis.now view.now.first_dim view.now.second_dim view.now.first view.now.second }
     requires u_within { u < nodes view.now.parts.now }
-    ensures { IsTrue result → (x y : ℕ) → x < nodes view.now.parts.now → y < nodes view.now.parts.now → AsksHere view.now.parts.now view.now.group.now view.now.analysis.now conditions.Order (u ∷ x ∷ y ∷ []) }
+    ensures { IsTrue result → (x y : ℕ) → x < nodes view.now.parts.now → y < nodes view.now.parts.now
+        → AsksHere view.now.parts.now view.now.group.now view.now.analysis.now conditions.Order (u ∷ x ∷ y ∷ []) }
 {
     let own = value_of(
         view.parts,
@@ -111,7 +119,9 @@ fn skips_order(view: &View, u: u8) -> bool
 pub fn skips_two(view: &View, condition: Condition, u: u8) -> bool
     requires view { IsView view.now.parts.now view.now.group.now view.now.analysis.now view.now.first_dim view.now.second_dim view.now.first view.now.second }
     requires u_within { u < nodes view.now.parts.now }
-    ensures { IsTrue result → (x y : ℕ) → x < second_size condition view.now.parts.now view.now.group.now → y < third_size condition view.now.parts.now view.now.group.now → AsksHere view.now.parts.now view.now.group.now view.now.analysis.now condition (tuple_for condition u x y) }
+    ensures { IsTrue result → (x y : ℕ) → x < second_size condition view.now.parts.now view.now.group.now
+        → y < third_size condition view.now.parts.now view.now.group.now
+        → AsksHere view.now.parts.now view.now.group.now view.now.analysis.now condition (tuple_for condition u x y) }
 {
     match condition {
         Condition::Order => skips_order(view, u),

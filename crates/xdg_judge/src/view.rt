@@ -54,7 +54,8 @@ impl<'a> View<'a> {
 
     /// The edges of all dimensions.
     pub fn edges(&self) -> &[Edge]
-        requires view { IsView self.now.parts.now self.now.group.now self.now.analysis.now self.now.first_dim self.now.second_dim self.now.first self.now.second }
+        requires view { IsView self.now.parts.now self.now.group.now self.now.analysis.now self.now.first_dim self.now.second_dim self.now.first
+            self.now.second }
         ensures value { result.now ≡ self.now.analysis.now.edges }
         ensures within { AreWithin 128 result.now }
     {
@@ -63,7 +64,8 @@ impl<'a> View<'a> {
 
     /// The place of a node's entry among its candidates.
     pub fn candidate(&self, node: u8) -> usize
-        requires view { IsView self.now.parts.now self.now.group.now self.now.analysis.now self.now.first_dim self.now.second_dim self.now.first self.now.second }
+        requires view { IsView self.now.parts.now self.now.group.now self.now.analysis.now self.now.first_dim self.now.second_dim self.now.first
+            self.now.second }
         requires within { node < nodes self.now.parts.now }
         ensures { result ≡ slice_index (entry_places self.now.parts.now.candidates self.now.analysis.now.entries) node }
     {
@@ -72,7 +74,8 @@ impl<'a> View<'a> {
 
     /// Whether v is a daughter of u with a label on the first dimension.
     pub fn is_daughter_by(&self, u: u8, label: u8, v: u8) -> bool
-        requires view { IsView self.now.parts.now self.now.group.now self.now.analysis.now self.now.first_dim self.now.second_dim self.now.first self.now.second }
+        requires view { IsView self.now.parts.now self.now.group.now self.now.analysis.now self.now.first_dim self.now.second_dim self.now.first
+            self.now.second }
         requires u_within { u < nodes self.now.parts.now }
         requires v_within { v < nodes self.now.parts.now }
         ensures { IsTrue result ↔ IsDaughterBy (edges_on (first_dim self.now.group.now) self.now.analysis.now.edges) u label v }
@@ -82,7 +85,8 @@ impl<'a> View<'a> {
 
     /// Whether v is a daughter of u on the first dimension.
     pub fn is_daughter(&self, u: u8, v: u8) -> bool
-        requires view { IsView self.now.parts.now self.now.group.now self.now.analysis.now self.now.first_dim self.now.second_dim self.now.first self.now.second }
+        requires view { IsView self.now.parts.now self.now.group.now self.now.analysis.now self.now.first_dim self.now.second_dim self.now.first
+            self.now.second }
         requires u_within { u < nodes self.now.parts.now }
         requires v_within { v < nodes self.now.parts.now }
         ensures { IsTrue result ↔ IsDaughter (edges_on (first_dim self.now.group.now) self.now.analysis.now.edges) u v }
@@ -92,7 +96,8 @@ impl<'a> View<'a> {
 
     /// Whether u is above v on the first dimension.
     pub fn is_above(&self, u: u8, v: u8) -> bool
-        requires view { IsView self.now.parts.now self.now.group.now self.now.analysis.now self.now.first_dim self.now.second_dim self.now.first self.now.second }
+        requires view { IsView self.now.parts.now self.now.group.now self.now.analysis.now self.now.first_dim self.now.second_dim self.now.first
+            self.now.second }
         requires u_within { u < nodes self.now.parts.now }
         requires v_within { v < nodes self.now.parts.now }
         ensures { IsTrue result ↔ Above (edges_on (first_dim self.now.group.now) self.now.analysis.now.edges) u v }
@@ -102,7 +107,8 @@ impl<'a> View<'a> {
 
     /// Whether v is a daughter of u on the second dimension.
     pub fn is_second_daughter(&self, u: u8, v: u8) -> bool
-        requires view { IsView self.now.parts.now self.now.group.now self.now.analysis.now self.now.first_dim self.now.second_dim self.now.first self.now.second }
+        requires view { IsView self.now.parts.now self.now.group.now self.now.analysis.now self.now.first_dim self.now.second_dim self.now.first
+            self.now.second }
         requires u_within { u < nodes self.now.parts.now }
         requires v_within { v < nodes self.now.parts.now }
         ensures { IsTrue result ↔ IsDaughter (edges_on (second_dim self.now.group.now) self.now.analysis.now.edges) u v }
@@ -112,7 +118,8 @@ impl<'a> View<'a> {
 
     /// Whether u is above v on the second dimension.
     pub fn is_second_above(&self, u: u8, v: u8) -> bool
-        requires view { IsView self.now.parts.now self.now.group.now self.now.analysis.now self.now.first_dim self.now.second_dim self.now.first self.now.second }
+        requires view { IsView self.now.parts.now self.now.group.now self.now.analysis.now self.now.first_dim self.now.second_dim self.now.first
+            self.now.second }
         requires u_within { u < nodes self.now.parts.now }
         requires v_within { v < nodes self.now.parts.now }
         ensures { IsTrue result ↔ Above (edges_on (second_dim self.now.group.now) self.now.analysis.now.edges) u v }

@@ -30,10 +30,13 @@ pub data IsOffence (at : ℕ) : List ℕ → Fault → Type 0 where
   great_number : (c : ℕ) (body : List ℕ) (digit : ℕ) (behind : List ℕ) → is_ascii_digit c ≡ true → EachPasses is_ascii_digit body → is_ascii_digit digit ≡ true
       → value_after (c - 48) body ≤ greatest_number → greatest_number < value_after (c - 48) body * 10 + (digit - 48)
       → IsOffence at ((c ∷ body) ++ digit ∷ behind) (refusal causes.BadChar (at + size_of (c ∷ body)))
-  open_text : (inside : List ℕ) (content : ℕ) (wrong : Option ℕ) → IsInside (at + 1) inside content wrong → IsOffence at (34 ∷ inside) (refusal causes.OpenText at)
-  open_escape : (inside : List ℕ) (content : ℕ) (wrong : Option ℕ) → IsInside (at + 1) inside content wrong → IsOffence at (34 ∷ inside ++ 92 ∷ []) (refusal causes.OpenText at)
+  open_text : (inside : List ℕ) (content : ℕ) (wrong : Option ℕ) → IsInside (at + 1) inside content wrong
+      → IsOffence at (34 ∷ inside) (refusal causes.OpenText at)
+  open_escape : (inside : List ℕ) (content : ℕ) (wrong : Option ℕ) → IsInside (at + 1) inside content wrong
+      → IsOffence at (34 ∷ inside ++ 92 ∷ []) (refusal causes.OpenText at)
   open_comment : (body : List ℕ) → HasNoClose body → IsOffence at (47 ∷ 42 ∷ body) (refusal causes.OpenText at)
-  long_name : (c : ℕ) (body behind : List ℕ) → begins_name c ≡ true → EachPasses continues_name body → StopsBefore continues_name behind → 127 < size_of (c ∷ body)
+  long_name : (c : ℕ) (body behind : List ℕ) → begins_name c ≡ true → EachPasses continues_name body → StopsBefore continues_name behind
+      → 127 < size_of (c ∷ body)
       → IsOffence at ((c ∷ body) ++ behind) (too_long at (size_of (c ∷ body)))
   long_text : (inside : List ℕ) (content : ℕ) (wrong : Option ℕ) (behind : List ℕ) → IsInside (at + 1) inside content wrong → 127 < content
       → IsOffence at ((34 ∷ inside ++ 34 ∷ []) ++ behind) (too_long at content)

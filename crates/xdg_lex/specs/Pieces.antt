@@ -27,7 +27,8 @@ inside content wrong = record { content = content; wrong = wrong }
 -- a number goes on with digits, while it is at most the greatest number
 unfoldable pub digit_goes_on : ℕ → ℕ → ℕ → Turn
 digit_goes_on value at c =
-    if is_ascii_digit c then (if nat_le (value * 10 + (c - 48)) 4294967295 then turns.GoesOn (in_.Number (value * 10 + (c - 48))) else turns.Refused (refusal causes.BadChar at))
+    if is_ascii_digit c
+    then (if nat_le (value * 10 + (c - 48)) 4294967295 then turns.GoesOn (in_.Number (value * 10 + (c - 48))) else turns.Refused (refusal causes.BadChar at))
     else turns.Ends
 
 -- a quoted text goes on with each character

@@ -7,4 +7,5 @@ use Rattle.xdg_ast.specs.Lexemes.{Lexeme}
 abbrev pub StandFrom : List ℕ → ℕ → List Lexeme → Type 0
 StandFrom bytes at [] = at ≤ length bytes
 StandFrom bytes at (token ∷ tokens) =
-    (at ≤ token.span.start) × (token.span.start < token.span.end) × (token.text ≡ slice_range bytes token.span.start token.span.end) × StandFrom bytes token.span.end tokens
+    (at ≤ token.span.start) × (token.span.start < token.span.end) × (token.text ≡ slice_range bytes token.span.start token.span.end)
+    × StandFrom bytes token.span.end tokens

@@ -36,7 +36,8 @@ closed_args bs args = map (λ pair. record { key = pair.key; value = closed bs p
 mutual
   pub data Denotes (dims : List DimType) (classes : List NamedBody) : Bindings → Body → List Partial → Type 0 where
     -- a record: the one that says it
-    record_said : (bs : Bindings) (dim : Name) (pairs : Pairs) (p : Partial) → SaysRecord dims bs dim.text pairs p → Denotes dims classes bs (saying dim pairs) (p ∷ [])
+    record_said : (bs : Bindings) (dim : Name) (pairs : Pairs) (p : Partial) → SaysRecord dims bs dim.text pairs p
+        → Denotes dims classes bs (saying dim pairs) (p ∷ [])
     -- a use of a class: those of the class's body under what the use binds
     class_used : (bs : Bindings) (name : Name) (args : Pairs) (c : NamedBody) (ms : List Partial) → In classes c → c.name ≡ name.text
         → Denotes dims classes (closed_args bs args) c.body ms → Denotes dims classes bs (calling name args) ms
@@ -46,17 +47,20 @@ mutual
   -- the joins of those of the first with those of the rest; of no bodies the one that says nothing
   pub data DenotesBoth (dims : List DimType) (classes : List NamedBody) : Bindings → Bodies → List Partial → Type 0 where
     all_joined : (bs : Bindings) → DenotesBoth dims classes bs no_body (nothing dims ∷ [])
-    join_first : (bs : Bindings) (b : Body) (rest : Bodies) (ms ns js : List Partial) → Denotes dims classes bs b ms → DenotesBoth dims classes bs rest ns → JoinsAll dims ms ns js
+    join_first : (bs : Bindings) (b : Body) (rest : Bodies) (ms ns js : List Partial) → Denotes dims classes bs b ms → DenotesBoth dims classes bs rest ns
+        → JoinsAll dims ms ns js
         → DenotesBoth dims classes bs (body_then b rest) js
 
   -- those of the first, then those of the rest
   pub data DenotesEither (dims : List DimType) (classes : List NamedBody) : Bindings → Bodies → List Partial → Type 0 where
     all_listed : (bs : Bindings) → DenotesEither dims classes bs no_body []
-    list_first : (bs : Bindings) (b : Body) (rest : Bodies) (ms ns : List Partial) → Denotes dims classes bs b ms → DenotesEither dims classes bs rest ns → DenotesEither dims classes bs (body_then b rest) (ms ++ ns)
+    list_first : (bs : Bindings) (b : Body) (rest : Bodies) (ms ns : List Partial) → Denotes dims classes bs b ms → DenotesEither dims classes bs rest ns
+        → DenotesEither dims classes bs (body_then b rest) (ms ++ ns)
 
 -- ---- how deep uses of classes go
 
 -- each class that the body uses has one of so many first places in the order of the classes
 abbrev pub IsRanked : Parts → ℕ → Body → Type 0
 IsRanked checked depth b =
-    (call : Called) → In (calls b) call → (j : ℕ) × ((j < depth) × (place_of (class_texts checked.classes) call.name.text ≡ Some (slice_index_or checked.order j 0)))
+    (call : Called) → In (calls b) call
+    → (j : ℕ) × ((j < depth) × (place_of (class_texts checked.classes) call.name.text ≡ Some (slice_index_or checked.order j 0)))

@@ -48,7 +48,8 @@ pub record IsListing (checked : Parts) (scope : Scope) (members : List Expr) (pl
 -- these are the joins of what the members from that place on denote
 abbrev pub BothSoFar : Parts → Bindings → List Expr → ℕ → List Partial → Type 0
 BothSoFar checked bs items left made =
-    (left ≤ length items) × (DenotesBoth checked.types.dims (named_bodies checked.classes) bs (trees (drop left items)) made × ArePartial checked.types.dims made)
+    (left ≤ length items)
+    × (DenotesBoth checked.types.dims (named_bodies checked.classes) bs (trees (drop left items)) made × ArePartial checked.types.dims made)
 
 pub record IsJoining (checked : Parts) (scope : Scope) (members : List Expr) (place : ℕ) (joined : List Partial) (b : Body) : Type 0 where
   pub open_at : IsMember members place b

@@ -132,13 +132,15 @@ pub data OffendsAt (source : Source) (before : SoFar) (one : ℕ × Body) (f : F
   many_combos : (u n : ℕ) → HasNumber uses source.classes one.1 u → IsWithin before.uses u → HasNumber combos source.classes one.1 n
       → IsTooMany causes.TooManyEntries one.0 before.combos n f → OffendsAt source before one f
   -- a member that leaves a plain feature of a used dimension unsaid
-  unsaid : (ms : List Partial) (p : Partial) → IsCounted source before one.1 → Denotes source.table.dims source.classes [] one.1 ms → In ms p → whole source.table p ≡ None
+  unsaid : (ms : List Partial) (p : Partial) → IsCounted source before one.1 → Denotes source.table.dims source.classes [] one.1 ms → In ms p
+      → whole source.table p ≡ None
       → f ≡ record { cause = causes.MissingArg; at = one.0; reached = 0 } → OffendsAt source before one f
   -- too many entries
   many_entries : (all : List Entry) → IsCounted source before one.1 → IsExpanded source before one.1 all → 65536 < length all
       → f ≡ reaching causes.TooManyEntries one.0 (length all) → OffendsAt source before one f
   -- too many entries of one word
-  many_of_word : (all : List Entry) (reached : ℕ) → IsCounted source before one.1 → IsExpanded source before one.1 all → length all ≤ 65536 → IsCrowded source.table all reached
+  many_of_word : (all : List Entry) (reached : ℕ) → IsCounted source before one.1 → IsExpanded source before one.1 all → length all ≤ 65536
+      → IsCrowded source.table all reached
       → f ≡ reaching causes.TooManyEntries one.0 reached → OffendsAt source before one f
 
 -- the first `defentry` with which something is wrong, those before it being expanded

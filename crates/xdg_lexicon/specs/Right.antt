@@ -24,6 +24,8 @@ AreRight bs features pairs = (f : List ℕ × Ty) → In features f → IfSome (
 -- the feature's type is wanted, each use binds the parameters of its class, and no argument, with the bindings in it, has
 -- an offence where a type is wanted that is wanted of its parameter.
 pub record IsRightUnder (table : Table) (cs : List Class) (bs : Bindings) (b : Body) : Type 0 where
-  pub said : (said : Said) → In (records b) said → (pair : Pair Term) → In said.pairs pair → (s : Shape) → feature_shape table said.dim.text pair.key.text ≡ Some s → IsRight bs s pair.value
+  pub said : (said : Said) → In (records b) said → (pair : Pair Term) → In said.pairs pair → (s : Shape)
+      → feature_shape table said.dim.text pair.key.text ≡ Some s → IsRight bs s pair.value
   pub bound : (call : Called) → In (calls b) call → IsBound cs call
-  pub given : (call : Called) → In (calls b) call → (pair : Pair Term) → In call.args pair → (s : Shape) → Wants table (named_bodies cs) call.name.text pair.key.text s → IsOpenRight [] s (closed bs pair.value)
+  pub given : (call : Called) → In (calls b) call → (pair : Pair Term) → In call.args pair → (s : Shape)
+      → Wants table (named_bodies cs) call.name.text pair.key.text s → IsOpenRight [] s (closed bs pair.value)

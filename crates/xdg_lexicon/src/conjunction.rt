@@ -28,7 +28,8 @@ fn join_each(
 ) -> Result<(), OutOfMemory>
     requires one { spec.IsPartial dims.now one.now }
     requires others { ArePartial dims.now others.now }
-    ensures { OnOk result ((js : List spec.Partial) × ((made.new.items ≡ made.old.items ++ js) × (JoinsEach dims.now one.now others.now js × ArePartial dims.now js))) }
+    ensures { OnOk result
+        ((js : List spec.Partial) × ((made.new.items ≡ made.old.items ++ js) × (JoinsEach dims.now one.now others.now js × ArePartial dims.now js))) }
 {
     for other in others {
         match join_partial(alloc, dims, one, other.as_slice())? {

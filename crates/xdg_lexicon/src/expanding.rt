@@ -102,7 +102,8 @@ fn add_one(
     requires entry { In checked.now.entries def.now }
     requires right { IsRightGrowing checked.now.types growing.old }
     ensures right { OnOk result (IsRightGrowing checked.now.types growing.new) }
-    ensures adds { (before : SoFar) → before.entries ≡ growing.old.entries → AddsOne (source_of checked.now) before (one_of def.now) growing.new.entries result }
+    ensures adds { (before : SoFar) → before.entries ≡ growing.old.entries
+        → AddsOne (source_of checked.now) before (one_of def.now) growing.new.entries result }
 {
     let partials = members(alloc, checked, &def.body)?;
     add_members(alloc, checked.types(), partials.as_slice(), def.at, growing)?;

@@ -72,7 +72,8 @@ impl Growing {
         requires { IsGrown self.now }
         ensures fits { IfSome result (λ reached. reached < 2 ^ 64) }
         ensures first { MatchOption result
-            ((n : ℕ) → n < length self.now.entries → count_of self.now.dim self.now.field self.now.entries (word_of self.now.dim self.now.field (get_or self.now.entries n [])) ≤ 1024)
+            ((n : ℕ) → n < length self.now.entries
+            → count_of self.now.dim self.now.field self.now.entries (word_of self.now.dim self.now.field (get_or self.now.entries n [])) ≤ 1024)
             (λ reached. IsFirstCrowded self.now.dim self.now.field self.now.entries reached) }
     {
         for entry in self.entries.as_slice() {

@@ -18,7 +18,8 @@ pub(crate) fn count_word(
 ) -> Result<usize, AllocError>
     requires { vec_len counts.old ≡ length words.old }
     ensures as_many { OnOk result (vec_len counts.new ≡ length words.new) }
-    ensures counted { OnOk result ((said : List (List ℕ)) → IsWordCount said words.old counts.old.items → IsWordCount (said ++ word.now ∷ []) words.new counts.new.items) }
+    ensures counted { OnOk result
+        ((said : List (List ℕ)) → IsWordCount said words.old counts.old.items → IsWordCount (said ++ word.now ∷ []) words.new counts.new.items) }
     ensures most { IfOk result (λ count. (most : ℕ) → count ≤ most → All (λ n. n ≤ most) counts.old.items → All (λ n. n ≤ most) counts.new.items) }
 {
     match words.find(word) {

@@ -45,4 +45,5 @@ pub record Advances (old : Arranged) (more : Bool) (new : Arranged) : Type 0 whe
   pub last : (more ≡ false) ↔ IsLast (ranks_of old.words) old.present
   pub same : more ≡ false → new ≡ old
   -- to the arrangements so far the one that was reached comes, and no other
-  pub passed : (xs : List (List ℕ)) → ArePassed (ranks_of old.words) old.present xs → ArePassed (ranks_of new.words) new.present (with_reached more xs new.present)
+  pub passed : (xs : List (List ℕ)) → ArePassed (ranks_of old.words) old.present xs
+      → ArePassed (ranks_of new.words) new.present (with_reached more xs new.present)

@@ -24,7 +24,8 @@ PassedFirst =
 
 -- where none comes after the present one, all have been passed
 abbrev pub PassedAll : Type 0
-PassedAll = (ranks : List ℕ) (present : Option (List ℕ)) (passed : List (List ℕ)) → ArePassed ranks present passed → IsLast ranks present → AreArrangements ranks passed
+PassedAll =
+    (ranks : List ℕ) (present : Option (List ℕ)) (passed : List (List ℕ)) → ArePassed ranks present passed → IsLast ranks present → AreArrangements ranks passed
 
 -- as many values as there are words, at as many places
 abbrev pub shape_of : List SentenceWord → List ℕ
@@ -32,4 +33,6 @@ shape_of words = map (λ word. length words) words
 
 -- where there are words, the list of all is the listing of the arrangements
 abbrev pub AreListed : Type 0
-AreListed = (words : List SentenceWord) (all : List (List ℕ)) → 0 < length words → AreArrangements (ranks_of words) all → IsListing (shape_of words) (IsArrangement (ranks_of words)) [] all
+AreListed =
+    (words : List SentenceWord) (all : List (List ℕ)) → 0 < length words → AreArrangements (ranks_of words) all
+    → IsListing (shape_of words) (IsArrangement (ranks_of words)) [] all

@@ -28,7 +28,8 @@ texts_at words numbers = texts_of (words_at words numbers)
 pub record ArrangesTexts (words : List SentenceWord) : Type 0 where
   pub right : (numbers : List ℕ) → IsArrangement (ranks_of words) numbers → HasEachText words (texts_at words numbers)
   pub every : (texts : List (List ℕ)) → HasEachText words texts → (numbers : List ℕ) × IsArrangement (ranks_of words) numbers × (texts_at words numbers ≡ texts)
-  pub once : (one other : List ℕ) → IsArrangement (ranks_of words) one → IsArrangement (ranks_of words) other → texts_at words one ≡ texts_at words other → one ≡ other
+  pub once : (one other : List ℕ) → IsArrangement (ranks_of words) one → IsArrangement (ranks_of words) other → texts_at words one ≡ texts_at words other
+      → one ≡ other
 
 -- any words do
 abbrev pub TextsArranged : Type 0

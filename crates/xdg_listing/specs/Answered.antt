@@ -19,6 +19,8 @@ pub record Drawn (shape : List ℕ) (P : List ℕ → Type 0) (start to : List �
 -- The answers are those up to some prefix. Complete: nothing counted comes after it, and the budget was enough. First: as
 -- many as wanted, within the budget. Spent: the budget is used up, and something counted comes after it.
 abbrev pub Answered : Ending → List ℕ → (List ℕ → Type 0) → List ℕ → ℕ → Option ℕ → List (List ℕ) → Type 0
-Answered endings.Complete shape P start b wanted answers = (to : List ℕ) × (n : ℕ) × Drawn shape P start to n answers × NoneAfter shape P to × (n ≤ b) × IsBelow (length answers) wanted
+Answered endings.Complete shape P start b wanted answers =
+    (to : List ℕ) × (n : ℕ) × Drawn shape P start to n answers × NoneAfter shape P to × (n ≤ b) × IsBelow (length answers) wanted
 Answered endings.First shape P start b wanted answers = (to : List ℕ) × (n : ℕ) × Drawn shape P start to n answers × (n ≤ b) × IsAt (length answers) wanted
-Answered endings.Spent shape P start b wanted answers = (to : List ℕ) × Drawn shape P start to b answers × SomeAfter shape P to × IsBelow (length answers) wanted
+Answered endings.Spent shape P start b wanted answers =
+    (to : List ℕ) × Drawn shape P start to b answers × SomeAfter shape P to × IsBelow (length answers) wanted

@@ -93,7 +93,8 @@ columns entries = map (λ dim. column dim entries) (range_with_len 0 (width entr
 -- with a smaller number has that record there.
 pub record IsFirstAlike (lexicon : Lexicon) (dim number first : ℕ) : Type 0 where
   pub alike : get_or (get_or lexicon.entries first []) dim [] ≡ get_or (get_or lexicon.entries number []) dim []
-  pub least : (other : ℕ) → other < length lexicon.entries → get_or (get_or lexicon.entries other []) dim [] ≡ get_or (get_or lexicon.entries number []) dim [] → first ≤ other
+  pub least : (other : ℕ) → other < length lexicon.entries → get_or (get_or lexicon.entries other []) dim [] ≡ get_or (get_or lexicon.entries number []) dim []
+      → first ≤ other
 
 -- the element stands in the list
 abbrev pub Stands : {A : Type 0} → List A → A → Type 0

@@ -39,14 +39,16 @@ pub record AreSpelled (rows : List Record) (spellings : List (List ℕ)) : Type 
   pub differ : AllDiffer spellings
 
 -- the record stood at that place, and nothing changes
-pub record IsKnownRow (rows : List Record) (spellings : List (List ℕ)) (after : List Record) (after_spellings : List (List ℕ)) (fields : Record) (place : ℕ) : Type 0 where
+pub record IsKnownRow (rows : List Record) (spellings : List (List ℕ)) (after : List Record) (after_spellings : List (List ℕ)) (fields : Record) (place : ℕ) :
+    Type 0 where
   pub rows_stay : after ≡ rows
   pub spellings_stay : after_spellings ≡ spellings
   pub within : place < length rows
   pub stands : get_or rows place [] ≡ fields
 
 -- the record is new, and stands last
-pub record IsNewRow (rows : List Record) (spellings : List (List ℕ)) (after : List Record) (after_spellings : List (List ℕ)) (fields : Record) (place : ℕ) : Type 0 where
+pub record IsNewRow (rows : List Record) (spellings : List (List ℕ)) (after : List Record) (after_spellings : List (List ℕ)) (fields : Record) (place : ℕ) :
+    Type 0 where
   pub fresh : has_text spellings (spelling_of_fields fields) ≡ false
   pub rows_grow : after ≡ rows ++ fields ∷ []
   pub spellings_grow : after_spellings ≡ spellings ++ spelling_of_fields fields ∷ []

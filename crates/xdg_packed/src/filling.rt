@@ -124,7 +124,9 @@ fn filled_map(
 ) -> Result<Option<Value>, OutOfMemory>
     requires right { IsType (shape of.now) }
     requires said { AreValuesOf (shape of.now) (spec.keys_said (option_copied said)) }
-    ensures { IfOk result (λ told. told ≡ spec.as_map (spec.each_key (λ key. spec.filled (shape of.now) (said_at (spec.keys_said (option_copied said.entry)) key)) (range_with_len 0 keys))) }
+    ensures { IfOk result
+        (λ told. told
+        ≡ spec.as_map (spec.each_key (λ key. spec.filled (shape of.now) (said_at (spec.keys_said (option_copied said.entry)) key)) (range_with_len 0 keys))) }
 {
     let entries = keys_said(said);
     let mut all = List::new(alloc);

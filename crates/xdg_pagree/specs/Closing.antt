@@ -33,20 +33,32 @@ module _ (parts : Parts) (group : Group) (box : List (List Bool)) where
 
   -- ---- agr
 
-  agr_test : (test : Test) → IsTestOf principles.Agr group.truths (nodes parts) (label_count parts (first_dim group)) test → TestDecided parts group box test → NoRule principles.Agr → TestPasses parts group box test
+  agr_test : (test : Test) → IsTestOf principles.Agr group.truths (nodes parts) (label_count parts (first_dim group)) test → TestDecided parts group box test
+      → NoRule principles.Agr → TestPasses parts group box test
   agr_test (allowed_value v) is decided none =
       let c : ℕ = value_in box (entry_decision v) in
       let a : ℕ = attr_of_node parts group 0 v in
       let value : IsDecided box a = decided.attrs 0 0 (omega arith) in
       elim (decided_contains (set_row group v c) (value_in box a)) [
         | inl there ↦ there
-        | inr gone ↦ absurd (none a (value_in box a) (value_has a value) (record { node = v; within = is; lacks = inl (refl, λ x remains there. gone (subst (λ k. Contains (set_row group v k) (value_in box a)) (only_value (entry_decision v) decided.entry x remains) there)) }))
+        | inr gone ↦
+            absurd
+            (none a (value_in box a) (value_has a value)
+            (record {
+              node = v;
+              within = is;
+              lacks = inl
+                  (refl, λ x remains there. gone (subst (λ k. Contains (set_row group v k) (value_in box a)) (only_value (entry_decision v) decided.entry x remains) there));
+            }))
       ]
   agr_test test is decided none = absurd is
 
   -- ---- agreement
 
-  agreement_edge : (e : Edge) → IsPlaceOn parts (first_dim group) e → Has box (edge_decision parts e) 0 → IsDecided box (entry_decision e.mother.0) → IsDecided box (attr_of_node parts group 0 e.mother.0) → IsDecided box (attr_of_node parts group 1 e.daughter.0) → Contains (set_row group e.mother.0 (value_in box (entry_decision e.mother.0))) e.label.0 → NoRule principles.Agreement → value_in box (attr_of_node parts group 0 e.mother.0) ≡ value_in box (attr_of_node parts group 1 e.daughter.0)
+  agreement_edge : (e : Edge) → IsPlaceOn parts (first_dim group) e → Has box (edge_decision parts e) 0 → IsDecided box (entry_decision e.mother.0)
+      → IsDecided box (attr_of_node parts group 0 e.mother.0) → IsDecided box (attr_of_node parts group 1 e.daughter.0)
+      → Contains (set_row group e.mother.0 (value_in box (entry_decision e.mother.0))) e.label.0 → NoRule principles.Agreement
+      → value_in box (attr_of_node parts group 0 e.mother.0) ≡ value_in box (attr_of_node parts group 1 e.daughter.0)
   agreement_edge e on present entry one two asks none =
       let a : ℕ = attr_of_node parts group 0 e.mother.0 in
       let b : ℕ = attr_of_node parts group 1 e.daughter.0 in
@@ -60,7 +72,8 @@ module _ (parts : Parts) (group : Group) (box : List (List Bool)) where
         }))
       ]
 
-  agreement_test : (test : Test) → IsTestOf principles.Agreement group.truths (nodes parts) (label_count parts (first_dim group)) test → TestDecided parts group box test → NoRule principles.Agreement → TestPasses parts group box test
+  agreement_test : (test : Test) → IsTestOf principles.Agreement group.truths (nodes parts) (label_count parts (first_dim group)) test
+      → TestDecided parts group box test → NoRule principles.Agreement → TestPasses parts group box test
   agreement_test (agreeing u l v) is decided none = λ stands asks.
       let e : Edge = stands.1 in
       let in_dim = filter_contained (λ (f : Edge). f.dim.0 == first_dim group) _ e (stands.0, stands.2, stands.3) in
@@ -76,14 +89,19 @@ module _ (parts : Parts) (group : Group) (box : List (List Bool)) where
       (subst (λ k. IsDecided box (entry_decision k)) (sym m) decided.entry)
       (subst (λ k. IsDecided box (attr_of_node parts group 0 k)) (sym m) one)
       (subst (λ k. IsDecided box (attr_of_node parts group 1 k)) (sym d) two)
-      (subst (λ k. Contains (set_row group k (value_in box (entry_decision k))) e.label.0) (sym m) (subst (λ k. Contains (set_row group u (value_in box (entry_decision u))) k) (sym n) asks))
+      (subst (λ k. Contains (set_row group k (value_in box (entry_decision k))) e.label.0) (sym m)
+      (subst (λ k. Contains (set_row group u (value_in box (entry_decision u))) k) (sym n) asks))
       none in
-      subst (λ k. value_in box (attr_of_node parts group 0 k) ≡ value_in box (attr_of_node parts group 1 v)) m (subst (λ k. value_in box (attr_of_node parts group 0 e.mother.0) ≡ value_in box (attr_of_node parts group 1 k)) d same)
+      subst (λ k. value_in box (attr_of_node parts group 0 k) ≡ value_in box (attr_of_node parts group 1 v)) m
+      (subst (λ k. value_in box (attr_of_node parts group 0 e.mother.0) ≡ value_in box (attr_of_node parts group 1 k)) d same)
   agreement_test test is decided none = absurd is
 
   -- ---- government
 
-  government_edge : (e : Edge) → IsPlaceOn parts (first_dim group) e → Has box (edge_decision parts e) 0 → IsDecided box (entry_decision e.mother.0) → IsDecided box (attr_of_node parts group 0 e.daughter.0) → 0 < length (map_row group e.mother.0 (value_in box (entry_decision e.mother.0)) e.label.0) → NoRule principles.Government → Contains (map_row group e.mother.0 (value_in box (entry_decision e.mother.0)) e.label.0) (value_in box (attr_of_node parts group 0 e.daughter.0))
+  government_edge : (e : Edge) → IsPlaceOn parts (first_dim group) e → Has box (edge_decision parts e) 0 → IsDecided box (entry_decision e.mother.0)
+      → IsDecided box (attr_of_node parts group 0 e.daughter.0) → 0 < length (map_row group e.mother.0 (value_in box (entry_decision e.mother.0)) e.label.0)
+      → NoRule principles.Government
+      → Contains (map_row group e.mother.0 (value_in box (entry_decision e.mother.0)) e.label.0) (value_in box (attr_of_node parts group 0 e.daughter.0))
   government_edge e on present entry value some none =
       let a : ℕ = attr_of_node parts group 0 e.daughter.0 in
       let c : ℕ = value_in box (entry_decision e.mother.0) in
@@ -92,12 +110,20 @@ module _ (parts : Parts) (group : Group) (box : List (List Bool)) where
         | inr gone ↦ absurd (none (edge_decision parts e) 0 present (record {
           place = e;
           is = on;
-          governs = λ k remains. subst (λ k. 0 < length (map_row group e.mother.0 k e.label.0)) (sym (only_value (entry_decision e.mother.0) entry k remains)) some;
-          lacks = inl ((refl, refl), λ k remains x here there. gone (subst (λ y. Contains (map_row group e.mother.0 c e.label.0) y) (only_value a value x here) (subst (λ i. Contains (map_row group e.mother.0 i e.label.0) x) (only_value (entry_decision e.mother.0) entry k remains) there)));
+          governs =
+              λ k remains. subst (λ k. 0 < length (map_row group e.mother.0 k e.label.0)) (sym (only_value (entry_decision e.mother.0) entry k remains)) some;
+          lacks =
+              inl (
+                (refl, refl),
+                λ k remains x here there.
+                    gone
+                    (subst (λ y. Contains (map_row group e.mother.0 c e.label.0) y) (only_value a value x here) (subst (λ i. Contains (map_row group e.mother.0 i e.label.0) x) (only_value (entry_decision e.mother.0) entry k remains) there)),
+              );
         }))
       ]
 
-  government_test : (test : Test) → IsTestOf principles.Government group.truths (nodes parts) (label_count parts (first_dim group)) test → TestDecided parts group box test → NoRule principles.Government → TestPasses parts group box test
+  government_test : (test : Test) → IsTestOf principles.Government group.truths (nodes parts) (label_count parts (first_dim group)) test
+      → TestDecided parts group box test → NoRule principles.Government → TestPasses parts group box test
   government_test (governed u l v) is decided none = λ stands some.
       let e : Edge = stands.1 in
       let in_dim = filter_contained (λ (f : Edge). f.dim.0 == first_dim group) _ e (stands.0, stands.2, stands.3) in
@@ -111,7 +137,8 @@ module _ (parts : Parts) (group : Group) (box : List (List Bool)) where
       let there = government_edge e on present
       (subst (λ k. IsDecided box (entry_decision k)) (sym m) decided.entry)
       (subst (λ k. IsDecided box (attr_of_node parts group 0 k)) (sym d) value)
-      (subst (λ k. 0 < length (map_row group k (value_in box (entry_decision k)) e.label.0)) (sym m) (subst (λ k. 0 < length (map_row group u (value_in box (entry_decision u)) k)) (sym n) some))
+      (subst (λ k. 0 < length (map_row group k (value_in box (entry_decision k)) e.label.0)) (sym m)
+      (subst (λ k. 0 < length (map_row group u (value_in box (entry_decision u)) k)) (sym n) some))
       none in
       subst (λ k. Contains (map_row group k (value_in box (entry_decision k)) l) (value_in box (attr_of_node parts group 0 v))) m
       (subst (λ k. Contains (map_row group e.mother.0 (value_in box (entry_decision e.mother.0)) k) (value_in box (attr_of_node parts group 0 v))) n
@@ -120,7 +147,8 @@ module _ (parts : Parts) (group : Group) (box : List (List Bool)) where
 
   -- ---- all three
 
-  passes_all : (p : Principle) → IsOfFamily p → (test : Test) → IsTestOf p group.truths (nodes parts) (label_count parts (first_dim group)) test → TestDecided parts group box test → NoRule p → TestPasses parts group box test
+  passes_all : (p : Principle) → IsOfFamily p → (test : Test) → IsTestOf p group.truths (nodes parts) (label_count parts (first_dim group)) test
+      → TestDecided parts group box test → NoRule p → TestPasses parts group box test
   passes_all principles.Agr family test is decided none = agr_test test is decided none
   passes_all principles.Agreement family test is decided none = agreement_test test is decided none
   passes_all principles.Government family test is decided none = government_test test is decided none
@@ -140,10 +168,12 @@ module _ (parts : Parts) (group : Group) (box : List (List Bool)) where
       ]
   rules_done principles.Agreement family e all d v remains rule =
       let here = subst (λ p. IsNodeDone p parts group rule.place.mother.0 box) e (all rule.place.mother.0 (is_place parts rule.place rule.is.0).mother) in
-      here rule.place.label.0 (subst (λ p. PlaceAsks p group box rule.place.mother.0 rule.place.label.0) (sym e) rule.asks) rule.place rule.is refl refl d v remains (subst (λ p. PlaceLacks p parts group box rule.place d v) (sym e) rule.lacks)
+      here rule.place.label.0 (subst (λ p. PlaceAsks p group box rule.place.mother.0 rule.place.label.0) (sym e) rule.asks) rule.place rule.is refl refl d v
+      remains (subst (λ p. PlaceLacks p parts group box rule.place d v) (sym e) rule.lacks)
   rules_done principles.Government family e all d v remains rule =
       let here = subst (λ p. IsNodeDone p parts group rule.place.mother.0 box) e (all rule.place.mother.0 (is_place parts rule.place rule.is.0).mother) in
-      here rule.place.label.0 (subst (λ p. PlaceAsks p group box rule.place.mother.0 rule.place.label.0) (sym e) rule.governs) rule.place rule.is refl refl d v remains (subst (λ p. PlaceLacks p parts group box rule.place d v) (sym e) rule.lacks)
+      here rule.place.label.0 (subst (λ p. PlaceAsks p group box rule.place.mother.0 rule.place.label.0) (sym e) rule.governs) rule.place rule.is refl refl d v
+      remains (subst (λ p. PlaceLacks p parts group box rule.place d v) (sym e) rule.lacks)
   rules_done p family e all d v remains rule = absurd family
 
   -- where nothing is left at all nodes the box is closed

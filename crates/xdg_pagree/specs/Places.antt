@@ -19,12 +19,15 @@ PlaceAsks principle group box mother label = ⊥
 -- where it is asked for, the value v of the decision d can't be
 abbrev pub PlaceLacks : Principle → Parts → Group → List (List Bool) → Edge → ℕ → ℕ → Type 0
 PlaceLacks principles.Agreement parts group box place d v =
-    (SaysPresent parts place d v × ((x : ℕ) → Has box (attr_of_node parts group 0 place.mother.0) x → Has box (attr_of_node parts group 1 place.daughter.0) x → ⊥))
+    (SaysPresent parts place d v
+    × ((x : ℕ) → Has box (attr_of_node parts group 0 place.mother.0) x → Has box (attr_of_node parts group 1 place.daughter.0) x → ⊥))
     ⊎ (Contains (must_edges parts box (first_dim group)) place
     × (((d ≡ attr_of_node parts group 0 place.mother.0) × (Has box (attr_of_node parts group 1 place.daughter.0) v → ⊥))
     ⊎ ((d ≡ attr_of_node parts group 1 place.daughter.0) × (Has box (attr_of_node parts group 0 place.mother.0) v → ⊥))))
 PlaceLacks principles.Government parts group box place d v =
-    (SaysPresent parts place d v × EachEntry box place.mother.0 (λ c. (x : ℕ) → Has box (attr_of_node parts group 0 place.daughter.0) x → Contains (map_row group place.mother.0 c place.label.0) x → ⊥))
+    (SaysPresent parts place d v
+    × EachEntry box place.mother.0
+    (λ c. (x : ℕ) → Has box (attr_of_node parts group 0 place.daughter.0) x → Contains (map_row group place.mother.0 c place.label.0) x → ⊥))
     ⊎ (Contains (must_edges parts box (first_dim group)) place
     × (d ≡ attr_of_node parts group 0 place.daughter.0)
     × EachEntry box place.mother.0 (λ c. Contains (map_row group place.mother.0 c place.label.0) v → ⊥))
@@ -60,7 +63,8 @@ IsDoneAt parts group place box = (d v : ℕ) → Has box d v → PlaceLacks grou
 
 -- nothing at the places of a label out of a mother
 abbrev pub IsLabelDone : Parts → Group → ℕ → ℕ → List (List Bool) → Type 0
-IsLabelDone parts group mother label box = (place : Edge) → IsPlaceOn parts (first_dim group) place → place.mother.0 ≡ mother → place.label.0 ≡ label → IsDoneAt parts group place box
+IsLabelDone parts group mother label box =
+    (place : Edge) → IsPlaceOn parts (first_dim group) place → place.mother.0 ≡ mother → place.label.0 ≡ label → IsDoneAt parts group place box
 
 -- nothing at the places of the first labels out of a mother, where it is asked for
 abbrev pub AreLabelsDone : ℕ → Parts → Group → ℕ → List (List Bool) → Type 0

@@ -31,7 +31,9 @@ dim_needed principles.Agreement family = omega arith
 dim_needed principles.Government family = omega arith
 dim_needed p family = absurd family
 
-module _ (parts : Parts) (problem : IsProblem parts) (group : Group) (group_is : IsGroup parts group) (wakes : ℕ) (kinds : HasKinds group wakes) (family : IsOfFamily group.principle) (old new : List (List Bool)) (old_is : IsBox (shape parts) old) (new_is : IsBox (shape parts) new) (inside : LiesIn new old) (outside : LosesOutside parts wakes old new) where
+module _ (parts : Parts) (problem : IsProblem parts) (group : Group) (group_is : IsGroup parts group) (wakes : ℕ) (kinds : HasKinds group wakes)
+    (family : IsOfFamily group.principle) (old new : List (List Bool)) (old_is : IsBox (shape parts) old) (new_is : IsBox (shape parts) new)
+    (inside : LiesIn new old) (outside : LosesOutside parts wakes old new) where
   -- values of the kinds that wake stay
   stays : (d v : ℕ) → bit_at wakes (kind_of parts d) ≡ 1 → Has old d v → Has new d v
   stays d v woken remains = elim (cases_Bool (has new d v)) [
@@ -40,19 +42,33 @@ module _ (parts : Parts) (problem : IsProblem parts) (group : Group) (group_is :
   ]
 
   entry_stays : (node c : ℕ) → node < nodes parts → Has old (entry_decision node) c → Has new (entry_decision node) c
-  entry_stays node c within = stays (entry_decision node) c (kinds.each (kind_of parts (entry_decision node)) (inl (kind_of_entry parts node (let e = problem.candidates_each in omega (arith, e, within)))))
+  entry_stays node c within =
+      stays (entry_decision node) c
+      (kinds.each (kind_of parts (entry_decision node)) (inl (kind_of_entry parts node (let e = problem.candidates_each in omega (arith, e, within)))))
 
   dim_within : first_dim group < length parts.dims
   dim_within = group_is.dims 0 (record { 0 = 0 }) (let c = group_is.dims_count in let s = dim_needed group.principle family in omega (arith, c, s))
 
-  attr_stays : (argument node x : ℕ) → argument < attr_arguments group.principle → node < nodes parts → Has old (attr_of_node parts group argument node) x → Has new (attr_of_node parts group argument node) x
-  attr_stays argument node x known within = stays (attr_of_node parts group argument node) x (kinds.each (kind_of parts (attr_of_node parts group argument node)) (inr (inl (kind_of_attr parts (first_dim group) node (attr_of group argument) dim_within within (group_is.attrs argument (record { 0 = 0 }) (let c = group_is.attrs_count in omega (arith, c, known)))))))
+  attr_stays : (argument node x : ℕ) → argument < attr_arguments group.principle → node < nodes parts → Has old (attr_of_node parts group argument node) x
+      → Has new (attr_of_node parts group argument node) x
+  attr_stays argument node x known within =
+      stays (attr_of_node parts group argument node) x
+      (kinds.each (kind_of parts (attr_of_node parts group argument node))
+      (inr
+      (inl
+      (kind_of_attr parts (first_dim group) node (attr_of group argument) dim_within within
+      (group_is.attrs argument (record { 0 = 0 }) (let c = group_is.attrs_count in omega (arith, c, known)))))))
 
-  edge_stays : IsOfPlaces group.principle → (e : Edge) → IsPlaceOn parts (first_dim group) e → (v : ℕ) → Has old (edge_decision parts e) v → Has new (edge_decision parts e) v
-  edge_stays places e on v = stays (edge_decision parts e) v (kinds.each (kind_of parts (edge_decision parts e)) (inr (inr (places, subst (λ k. kind_of parts (edge_decision parts e) ≡ edge_kind k) on.1 (kind_of_edge parts e on.0)))))
+  edge_stays : IsOfPlaces group.principle → (e : Edge) → IsPlaceOn parts (first_dim group) e → (v : ℕ) → Has old (edge_decision parts e) v
+      → Has new (edge_decision parts e) v
+  edge_stays places e on v =
+      stays (edge_decision parts e) v
+      (kinds.each (kind_of parts (edge_decision parts e))
+      (inr (inr (places, subst (λ k. kind_of parts (edge_decision parts e) ≡ edge_kind k) on.1 (kind_of_edge parts e on.0)))))
 
   -- what must be now had to be before
-  must_before : IsOfPlaces group.principle → (e : Edge) → Contains (must_edges parts new (first_dim group)) e → Contains (must_edges parts old (first_dim group)) e
+  must_before : IsOfPlaces group.principle → (e : Edge) → Contains (must_edges parts new (first_dim group)) e
+      → Contains (must_edges parts old (first_dim group)) e
   must_before places e must =
       let both = (must_exact parts new (first_dim group) e new_is).0 must in
       (must_exact parts old (first_dim group) e old_is).1 (both.0, λ absent. both.1 (edge_stays places e both.0 1 absent))
@@ -79,7 +95,12 @@ module _ (parts : Parts) (problem : IsProblem parts) (group : Group) (group_is :
         is = rule.is;
         asks = λ c remains. rule.asks c (entry_stays rule.place.mother.0 c place.mother remains);
         lacks = elim rule.lacks [
-          | inl edge ↦ inl (edge.0, λ x a b. edge.1 x (attr_stays 0 rule.place.mother.0 x zero_known place.mother a) (attr_stays 1 rule.place.daughter.0 x one_known place.daughter b))
+          | inl edge ↦
+              inl (
+                edge.0,
+                λ x a b. edge.1 x (attr_stays 0 rule.place.mother.0 x zero_known place.mother a)
+                    (attr_stays 1 rule.place.daughter.0 x one_known place.daughter b),
+              )
           | inr value ↦ inr (
             must_before places rule.place value.0,
             elim value.1 [
@@ -98,17 +119,25 @@ module _ (parts : Parts) (problem : IsProblem parts) (group : Group) (group_is :
         is = rule.is;
         governs = λ c remains. rule.governs c (entry_stays rule.place.mother.0 c place.mother remains);
         lacks = elim rule.lacks [
-          | inl edge ↦ inl (edge.0, λ c remains x a. edge.1 c (entry_stays rule.place.mother.0 c place.mother remains) x (attr_stays 0 rule.place.daughter.0 x known place.daughter a))
+          | inl edge ↦
+              inl (
+                edge.0,
+                λ c remains x a. edge.1 c (entry_stays rule.place.mother.0 c place.mother remains) x
+                    (attr_stays 0 rule.place.daughter.0 x known place.daughter a),
+              )
           | inr value ↦ inr (must_before places rule.place value.0, value.1, λ c remains. value.2 c (entry_stays rule.place.mother.0 c place.mother remains))
         ];
       }
   rule_before p e f d v rule = absurd f
 
   pub closed_still : IsClosedFor parts group old → IsClosedFor parts group new
-  closed_still closed = closed_by_rules parts group new family (λ d v remains rule. closed d v (inside d v remains) (inr (rule_before group.principle refl family d v rule)))
+  closed_still closed =
+      closed_by_rules parts group new family (λ d v remains rule. closed d v (inside d v remains) (inr (rule_before group.principle refl family d v rule)))
 
 -- where the propagator is still, it stays so while the box loses values of other kinds
-pub agree_stays : (p : AgreeProp) (parts : Parts) (number : ℕ) (old new : List (List Bool)) → IsProblem parts → StandsFor (stands_for p) parts number → IsBox (shape parts) old → IsBox (shape parts) new → LiesIn new old
+pub agree_stays : (p : AgreeProp) (parts : Parts) (number : ℕ) (old new : List (List Bool)) → IsProblem parts → StandsFor (stands_for p) parts number
+    → IsBox (shape parts) old → IsBox (shape parts) new → LiesIn new old
     → LosesOutside parts p.wakes.0 old new → IsClosedBy (stands_for p) parts old → IsClosedBy (stands_for p) parts new
 agree_stays p parts number old new problem stands old_is new_is inside outside still k here =
-    closed_still parts problem (use_at parts k) (problem.groups k no_use here.0) p.wakes.0 here.1.kinds here.1.family old new old_is new_is inside outside (still k here)
+    closed_still parts problem (use_at parts k) (problem.groups k no_use here.0) p.wakes.0 here.1.kinds here.1.family old new old_is new_is inside outside
+    (still k here)

@@ -48,7 +48,8 @@ pub(crate) fn remains(store: &Store, slot: Slot, value: u16) -> bool
 pub(crate) fn are_apart(store: &Store, one: Slot, other: Slot) -> bool
     requires one { IsSlot store.now.parts one }
     requires other { IsSlot store.now.parts other }
-    ensures exact { IsTrue result ↔ ((x : ℕ) → Has store.now.now (decision_of store.now.parts one) x → Has store.now.now (decision_of store.now.parts other) x → ⊥) }
+    ensures exact { IsTrue result
+        ↔ ((x : ℕ) → Has store.now.now (decision_of store.now.parts one) x → Has store.now.now (decision_of store.now.parts other) x → ⊥) }
     ensures known { Known store.now }
 {
     let _ = store.turns();
@@ -85,7 +86,9 @@ pub(crate) fn none_is_allowed(
 ) -> bool
     requires node { node.0 < nodes store.now.parts }
     requires slot { IsSlot store.now.parts slot }
-    ensures exact { IsTrue result ↔ EachEntry store.now.now node.0 (λ c. (x : ℕ) → Has store.now.now (decision_of store.now.parts slot) x → Contains (map_row group.now node.0 c label.0) x → ⊥) }
+    ensures exact { IsTrue result
+        ↔ EachEntry store.now.now node.0
+        (λ c. (x : ℕ) → Has store.now.now (decision_of store.now.parts slot) x → Contains (map_row group.now node.0 c label.0) x → ⊥) }
     ensures known { Known store.now }
 {
     for place in 0..entry_count(store.problem().parts(), node) {
@@ -103,7 +106,8 @@ pub(crate) fn lacks_other(store: &Store, slot: Slot, other: Slot, value: u16) ->
     requires slot { IsSlot store.now.parts slot }
     requires other { IsSlot store.now.parts other }
     requires value { value < slot.count }
-    ensures exact { IsTrue result ↔ (Has store.now.now (decision_of store.now.parts slot) value × LacksOther (decision_of store.now.parts other) store.now.now value) }
+    ensures exact { IsTrue result
+        ↔ (Has store.now.now (decision_of store.now.parts slot) value × LacksOther (decision_of store.now.parts other) store.now.now value) }
     ensures known { Known store.now }
 {
     if !remains(store, slot, value) {
@@ -147,7 +151,8 @@ pub(crate) fn lacks_value(
     requires slot { IsSlot store.now.parts slot }
     requires node { node.0 < nodes store.now.parts }
     requires place { place < length (slice_index_or store.now.parts.candidates node.0 []) }
-    ensures exact { IsTrue result ↔ (Has store.now.now (entry_decision node.0) place × LacksValue group.now node.0 (decision_of store.now.parts slot) store.now.now place) }
+    ensures exact { IsTrue result
+        ↔ (Has store.now.now (entry_decision node.0) place × LacksValue group.now node.0 (decision_of store.now.parts slot) store.now.now place) }
     ensures known { Known store.now }
 {
     if !store.entry_in(node, place) {

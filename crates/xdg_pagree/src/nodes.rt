@@ -53,7 +53,9 @@ fn sweep_labels(store: &mut Store, pass: &mut Pass, group: &Group, mother: NodeI
     requires group { IsGroup store.old.parts group.now }
     requires principle { IsOfPlaces group.now.principle }
     requires node { mother.0 < nodes store.old.parts }
-    ensures { Sweeps group.now (λ box. (label : ℕ) → PlaceAsks group.now.principle group.now box mother.0 label → IsLabelDone store.old.parts group.now mother.0 label box) pass.old store.old pass.new store.new }
+    ensures { Sweeps group.now
+        (λ box. (label : ℕ) → PlaceAsks group.now.principle group.now box mother.0 label → IsLabelDone store.old.parts group.now mother.0 label box) pass.old
+        store.old pass.new store.new }
 {
     let dim = dim_of(group, 0);
     let plan = &store.problem().parts().dims.as_slice()[dim.0 as usize];

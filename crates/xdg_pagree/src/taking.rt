@@ -29,7 +29,8 @@ pub(crate) fn keep_common(
     requires slot { IsSlot store.old.parts slot }
     requires other { IsSlot store.old.parts other }
     requires takes { TakesInside store.old.parts group.now store.old.now (decision_of store.old.parts slot) (LacksOther (decision_of store.old.parts other)) }
-    ensures { Sweeps group.now (NoneLacks (decision_of store.old.parts slot) (LacksOther (decision_of store.old.parts other))) pass.old store.old pass.new store.new }
+    ensures { Sweeps group.now (NoneLacks (decision_of store.old.parts slot) (LacksOther (decision_of store.old.parts other))) pass.old store.old pass.new
+        store.new }
 {
     for value in 0..slot.count {
         if !lacks_other(store, slot, other, value) {
@@ -75,8 +76,10 @@ pub(crate) fn keep_useful(
     requires group { IsGroup store.old.parts group.now }
     requires slot { IsSlot store.old.parts slot }
     requires node { node.0 < nodes store.old.parts }
-    requires takes { TakesInside store.old.parts group.now store.old.now (entry_decision node.0) (LacksValue group.now node.0 (decision_of store.old.parts slot)) }
-    ensures { Sweeps group.now (NoneLacks (entry_decision node.0) (LacksValue group.now node.0 (decision_of store.old.parts slot))) pass.old store.old pass.new store.new }
+    requires takes { TakesInside store.old.parts group.now store.old.now (entry_decision node.0)
+        (LacksValue group.now node.0 (decision_of store.old.parts slot)) }
+    ensures { Sweeps group.now (NoneLacks (entry_decision node.0) (LacksValue group.now node.0 (decision_of store.old.parts slot))) pass.old store.old pass.new
+        store.new }
 {
     for place in 0..entry_count(store.problem().parts(), node) {
         if !lacks_value(store, group, slot, node, place) {

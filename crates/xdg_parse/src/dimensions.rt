@@ -84,7 +84,8 @@ fn use_of_principle(
     cursor: &mut Cursor<'_, '_>,
     within: u32,
 ) -> Result<(Name, Principle), Why>
-    ensures { Reads ((behind (token (is kinds.UsePrinciple)) (pair grammar.name (in_braces (under [] within) (λ j. j.principle)))).read cursor.old) result cursor.new }
+    ensures { Reads ((behind (token (is kinds.UsePrinciple)) (pair grammar.name (in_braces (under [] within) (λ j. j.principle)))).read cursor.old) result
+        cursor.new }
 {
     cursor.expect(Kind::UsePrinciple)?;
     let name = name(alloc, cursor)?;

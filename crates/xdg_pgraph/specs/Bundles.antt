@@ -63,7 +63,9 @@ AreEnds edges dim bundle ends = (other : ℕ) → IsTrue (has ends other) ↔ Co
 
 -- an entry of the node: none of its numbers lies between two counts
 abbrev pub Barred : Parts → Group → Bundle → ℕ → ℕ → ℕ → ℕ → Type 0
-Barred parts group bundle least most d v = (d ≡ entry_decision bundle.node) × (v < length (slice_index_or parts.candidates bundle.node [])) × HasNoneWithin (numbers_of bundle.way group bundle.node bundle.label v) least most
+Barred parts group bundle least most d v =
+    (d ≡ entry_decision bundle.node) × (v < length (slice_index_or parts.candidates bundle.node []))
+    × HasNoneWithin (numbers_of bundle.way group bundle.node bundle.label v) least most
 
 -- that an edge is present, where as many must be as the entries of the node allow at most
 pub record FullAt (way : Way) (parts : Parts) (group : Group) (box : List (List Bool)) (node label d v : ℕ) : Type 0 where
@@ -94,7 +96,10 @@ pub record OpenTo (parts : Parts) (dim : ℕ) (bundle : Bundle) (others : List �
 
 -- at a bundle
 pub record IsBundleDone (way : Way) (parts : Parts) (group : Group) (node label : ℕ) (box : List (List Bool)) : Type 0 where
-  pub entries : (c : ℕ) → Has box (entry_decision node) c → HasNoneWithin (numbers_of way group node label c) (count_of way (must_edges parts box (first_dim group)) node label) (count_of way (may_edges parts box (first_dim group)) node label) → ⊥
+  pub entries : (c : ℕ) → Has box (entry_decision node) c
+      → HasNoneWithin (numbers_of way group node label c) (count_of way (must_edges parts box (first_dim group)) node label)
+      (count_of way (may_edges parts box (first_dim group)) node label)
+      → ⊥
   pub edges : (d v : ℕ) → Has box d v → EdgeAt way parts group box node label d v → ⊥
 
 -- at both bundles of a node and a label

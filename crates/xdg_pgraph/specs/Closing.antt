@@ -23,9 +23,11 @@ module _ (parts : Parts) (group : Group) (box : List (List Bool)) (problem : IsP
 
   -- what takes each value takes one that remains
   takes_some : (Fails : Type 0) → ((d v : ℕ) → Has box d v → Fails → ⊥) → Fails → ⊥
-  takes_some Fails none fails = (let entry = is.filled (entry_decision 0) (node_within parts 0 problem problem.some) in none (entry_decision 0) entry.0 entry.1 fails)
+  takes_some Fails none fails =
+      (let entry = is.filled (entry_decision 0) (node_within parts 0 problem problem.some) in none (entry_decision 0) entry.0 entry.1 fails)
 
-  tree_test : (test : Test) → IsTestOf principles.Tree group.truths (nodes parts) (label_count parts (first_dim group)) test → TestDecided parts group box test → NoRule principles.Tree → TestPasses parts group box test
+  tree_test : (test : Test) → IsTestOf principles.Tree group.truths (nodes parts) (label_count parts (first_dim group)) test → TestDecided parts group box test
+      → NoRule principles.Tree → TestPasses parts group box test
   tree_test (one_mother v k) named decided none = one_mother_passes parts group box v k decided.edges (λ d x h r. none d x h (inl r))
   tree_test (no_cycle k) named decided none = no_cycle_passes parts group box k decided.edges (λ d x h r. none d x h (inr (inr r)))
   tree_test one_root named decided none = one_root_passes parts group box problem is decided.edges
@@ -33,7 +35,8 @@ module _ (parts : Parts) (group : Group) (box : List (List Bool)) (problem : IsP
       (takes_some _ (λ d x h r. none d x h (inr (inl (inr (inr (inr r)))))))
   tree_test test named decided none = absurd named
 
-  dag_test : (test : Test) → IsTestOf principles.Dag group.truths (nodes parts) (label_count parts (first_dim group)) test → TestDecided parts group box test → NoRule principles.Dag → TestPasses parts group box test
+  dag_test : (test : Test) → IsTestOf principles.Dag group.truths (nodes parts) (label_count parts (first_dim group)) test → TestDecided parts group box test
+      → NoRule principles.Dag → TestPasses parts group box test
   dag_test (no_cycle k) named decided none = no_cycle_passes parts group box k decided.edges (λ d x h r. none d x h (inl r))
   dag_test one_root named decided none = one_root_passes parts group box problem is decided.edges
       (takes_some _ (λ d x h r. none d x h (inr (inl (named, inr (inl r))))))
@@ -41,12 +44,14 @@ module _ (parts : Parts) (group : Group) (box : List (List Bool)) (problem : IsP
   dag_test (one_label u v) named decided none = one_label_passes parts group box u v decided.edges (λ d x h r. none d x h (inr (inr (named.0, r))))
   dag_test test named decided none = absurd named
 
-  count_test : (test : Test) → IsTestOf principles.Valency group.truths (nodes parts) (label_count parts (first_dim group)) test → TestDecided parts group box test → NoRule principles.Valency → TestPasses parts group box test
+  count_test : (test : Test) → IsTestOf principles.Valency group.truths (nodes parts) (label_count parts (first_dim group)) test
+      → TestDecided parts group box test → NoRule principles.Valency → TestPasses parts group box test
   count_test (out_count v l k) named decided none = out_passes parts group box v l k named.0 named.1 decided (λ d x h r. none d x h (inl r))
   count_test (in_count v l k) named decided none = in_passes parts group box v l k named.0 named.1 decided (λ d x h r. none d x h (inl r))
   count_test test named decided none = absurd named
 
-  passes_all : (p : Principle) → IsOfFamily p → (test : Test) → IsTestOf p group.truths (nodes parts) (label_count parts (first_dim group)) test → TestDecided parts group box test → NoRule p → TestPasses parts group box test
+  passes_all : (p : Principle) → IsOfFamily p → (test : Test) → IsTestOf p group.truths (nodes parts) (label_count parts (first_dim group)) test
+      → TestDecided parts group box test → NoRule p → TestPasses parts group box test
   passes_all principles.Graph family test named decided none = absurd named
   passes_all principles.Entries family test named decided none = absurd named
   passes_all principles.Tree family test named decided none = tree_test test named decided none

@@ -39,7 +39,9 @@ module _ (parts : Parts) (group : Group) (box : List (List Bool)) where
   abbrev dim : ℕ
   dim = first_dim group
 
-  module _ (test : Test) (inside : Edge → Bool) (k : ℕ) (to : (e : Edge) → looks_at group test e ≡ true → (e.dim.0 ≡ dim) × (inside e ≡ true)) (from : (e : Edge) → IsPlace parts e → e.dim.0 ≡ dim → inside e ≡ true → k + 1 ≡ nodes parts → looks_at group test e ≡ true) (decided : All (λ e. looks_at group test e ≡ true → IsDecided box (edge_decision parts e)) (places parts)) where
+  module _ (test : Test) (inside : Edge → Bool) (k : ℕ) (to : (e : Edge) → looks_at group test e ≡ true → (e.dim.0 ≡ dim) × (inside e ≡ true))
+      (from : (e : Edge) → IsPlace parts e → e.dim.0 ≡ dim → inside e ≡ true → k + 1 ≡ nodes parts → looks_at group test e ≡ true)
+      (decided : All (λ e. looks_at group test e ≡ true → IsDecided box (edge_decision parts e)) (places parts)) where
     -- the edges that are present at the places of the test
     abbrev seen : Edge → Bool
     seen e = looks_at group test e && has box (edge_decision parts e) 0
@@ -50,7 +52,10 @@ module _ (parts : Parts) (group : Group) (box : List (List Bool)) where
         let both = and_parts (looks_at group test e) (has box (edge_decision parts e) 0) h in
         let is = to e both.0 in
         let one = All-contains (λ f. looks_at group test f ≡ true → IsDecided box (edge_decision parts f)) (places parts) e decided place both.0 in
-        and_from (must_be parts box dim e) (inside e) (must_test parts box dim e is.0 both.1 (false_from_ne_true (has box (edge_decision parts e) 1) (λ there. (let a = one.2 0 both.1 in let b = one.2 1 there in omega (arith, a, b))))) is.1) in
+        and_from (must_be parts box dim e) (inside e)
+        (must_test parts box dim e is.0 both.1
+        (false_from_ne_true (has box (edge_decision parts e) 1) (λ there. (let a = one.2 0 both.1 in let b = one.2 1 there in omega (arith, a, b)))))
+        is.1) in
         subst (λ m. length (filter seen (places parts)) ≤ m) (count_of_filter inside (must_be parts box dim) (places parts)) less
 
     many : k + 1 ≡ nodes parts → count_by inside (may_edges parts box dim) ≤ length (filter seen (places parts))
@@ -58,14 +63,18 @@ module _ (parts : Parts) (group : Group) (box : List (List Bool)) where
         let less = less_length (λ e. may_be parts box dim e && inside e) seen (places parts) (λ e place h.
         let both = and_parts (may_be parts box dim e) (inside e) h in
         let may = and_parts (e.dim.0 == dim) (has box (edge_decision parts e) 0) both.0 in
-        and_from (looks_at group test e) (has box (edge_decision parts e) 0) (from e (is_place parts e place) (eqb-true e.dim.0 dim may.0) both.1 last) may.1) in
+        and_from (looks_at group test e) (has box (edge_decision parts e) 0) (from e (is_place parts e place) (eqb-true e.dim.0 dim may.0) both.1 last)
+        may.1) in
         subst (λ m. m ≤ length (filter seen (places parts))) (count_of_filter inside (may_be parts box dim) (places parts)) less
 
-    counts : (row : List ℕ) → (HasNoneWithin row (count_by inside (must_edges parts box dim)) (count_by inside (may_edges parts box dim)) → ⊥) → Counts (nodes parts) k row (length (filter seen (places parts)))
+    counts : (row : List ℕ) → (HasNoneWithin row (count_by inside (must_edges parts box dim)) (count_by inside (may_edges parts box dim)) → ⊥)
+        → Counts (nodes parts) k row (length (filter seen (places parts)))
     counts row some = elim (some_within row (count_by inside (must_edges parts box dim)) (count_by inside (may_edges parts box dim))) [
       | inl x ↦ (
         (x.0, x.1, (let f = few in let l = x.2 in omega (arith, f, l))),
-        λ last. (let f = few in let m = many last in let l = x.2 in let h = x.3 in let e : x.0 ≡ length (filter seen (places parts)) = omega (arith, f, m, l, h) in subst (Contains row) e x.1),
+        λ last. (let f = few in
+            let m = many last in
+            let l = x.2 in let h = x.3 in let e : x.0 ≡ length (filter seen (places parts)) = omega (arith, f, m, l, h) in subst (Contains row) e x.1),
       )
       | inr none ↦ absurd (some none)
     ]
@@ -76,7 +85,8 @@ module _ (parts : Parts) (group : Group) (box : List (List Bool)) where
   value_has : (d : ℕ) → IsDecided box d → Has box d (value_in box d)
   value_has d decided = subst (Has box d) (sym (value_is box d decided)) decided.1
 
-  pub out_passes : (v l k : ℕ) → v < nodes parts → l < label_count parts dim → TestDecided parts group box (out_count v l k) → KeepsEntries → TestPasses parts group box (out_count v l k)
+  pub out_passes : (v l k : ℕ) → v < nodes parts → l < label_count parts dim → TestDecided parts group box (out_count v l k) → KeepsEntries
+      → TestPasses parts group box (out_count v l k)
   out_passes v l k within known decided keeps =
       let c : ℕ = value_in box (entry_decision v) in
       counts (out_count v l k) (λ e. (e.mother.0 == v) && (e.label.0 == l)) k
@@ -92,9 +102,11 @@ module _ (parts : Parts) (group : Group) (box : List (List Bool)) where
       (and_from ((e.dim.0 == dim) && (e.mother.0 == v)) (e.label.0 == l) (and_from (e.dim.0 == dim) (e.mother.0 == v) (eq-eqb e.dim.0 dim on) both.0) both.1)
       (le-leb e.daughter.0 k (omega (arith, below, last))))
       decided.edges (out_row group v c l)
-      (λ none. keeps (entry_decision v) c (value_has (entry_decision v) decided.entry) (record { node = v; within = within; label = l; known = known; is = refl; none = inl none }))
+      (λ none. keeps (entry_decision v) c (value_has (entry_decision v) decided.entry)
+      (record { node = v; within = within; label = l; known = known; is = refl; none = inl none }))
 
-  pub in_passes : (v l k : ℕ) → v < nodes parts → l < label_count parts dim → TestDecided parts group box (in_count v l k) → KeepsEntries → TestPasses parts group box (in_count v l k)
+  pub in_passes : (v l k : ℕ) → v < nodes parts → l < label_count parts dim → TestDecided parts group box (in_count v l k) → KeepsEntries
+      → TestPasses parts group box (in_count v l k)
   in_passes v l k within known decided keeps =
       let c : ℕ = value_in box (entry_decision v) in
       counts (in_count v l k) (λ e. (e.daughter.0 == v) && (e.label.0 == l)) k
@@ -110,4 +122,5 @@ module _ (parts : Parts) (group : Group) (box : List (List Bool)) where
       (and_from ((e.dim.0 == dim) && (e.daughter.0 == v)) (e.label.0 == l) (and_from (e.dim.0 == dim) (e.daughter.0 == v) (eq-eqb e.dim.0 dim on) both.0) both.1)
       (le-leb e.mother.0 k (omega (arith, below, last))))
       decided.edges (in_row group v c l)
-      (λ none. keeps (entry_decision v) c (value_has (entry_decision v) decided.entry) (record { node = v; within = within; label = l; known = known; is = refl; none = inr none }))
+      (λ none. keeps (entry_decision v) c (value_has (entry_decision v) decided.entry)
+      (record { node = v; within = within; label = l; known = known; is = refl; none = inr none }))

@@ -20,7 +20,8 @@ use Rattle.xdg_propcore.proofs.DecisionKinds.{kind_of_edge}
 use Rattle.xdg_listing.proofs.Truths.{same_and}
 use Rattle.xdg_listing.proofs.Truths.{same_flag}
 
-module _ (parts : Parts) (old new : List (List Bool)) (dim wakes : ℕ) (lies : LiesIn new old) (wakes_has : bit_at wakes (edge_kind dim) ≡ 1) (outside : LosesOutside parts wakes old new) where
+module _ (parts : Parts) (old new : List (List Bool)) (dim wakes : ℕ) (lies : LiesIn new old) (wakes_has : bit_at wakes (edge_kind dim) ≡ 1)
+    (outside : LosesOutside parts wakes old new) where
   -- no value of an edge of the dimension is lost
   value_stays : (e : Edge) → Contains (places parts) e → e.dim.0 ≡ dim → (v : ℕ) → Has old (edge_decision parts e) v → Has new (edge_decision parts e) v
   value_stays e place on v there = elim (cases_Bool (has new (edge_decision parts e) v)) [
@@ -34,28 +35,51 @@ module _ (parts : Parts) (old new : List (List Bool)) (dim wakes : ℕ) (lies : 
   ]
 
   has_same : (e : Edge) → Contains (places parts) e → (e.dim.0 == dim) ≡ true → (v : ℕ) → has new (edge_decision parts e) v ≡ has old (edge_decision parts e) v
-  has_same e place on v = same_flag (has new (edge_decision parts e) v) (has old (edge_decision parts e) v) (lies (edge_decision parts e) v) (value_stays e place (eqb-true e.dim.0 dim on) v)
+  has_same e place on v =
+      same_flag (has new (edge_decision parts e) v) (has old (edge_decision parts e) v) (lies (edge_decision parts e) v)
+      (value_stays e place (eqb-true e.dim.0 dim on) v)
 
   pub may_same : may_edges parts new dim ≡ may_edges parts old dim
   may_same = filter_alike (may_be parts new dim) (may_be parts old dim) (places parts)
-      (All-weaker (Contains (places parts)) (λ e. may_be parts new dim e ≡ may_be parts old dim e) (λ e c. same_and (e.dim.0 == dim) (has new (edge_decision parts e) 0) (has old (edge_decision parts e) 0) (λ on. has_same e c on 0)) (places parts) (All-contains_itself (places parts)))
+      (All-weaker (Contains (places parts)) (λ e. may_be parts new dim e ≡ may_be parts old dim e)
+      (λ e c. same_and (e.dim.0 == dim) (has new (edge_decision parts e) 0) (has old (edge_decision parts e) 0) (λ on. has_same e c on 0)) (places parts)
+      (All-contains_itself (places parts)))
 
   both_same : (a b c d : Bool) → a ≡ b → c ≡ d → (a && not c) ≡ (b && not d)
   both_same a b c d first second = ap (λ z. z && not c) first ∙ ap (λ z. b && not z) second
 
   pub must_same : must_edges parts new dim ≡ must_edges parts old dim
   must_same = filter_alike (must_be parts new dim) (must_be parts old dim) (places parts)
-      (All-weaker (Contains (places parts)) (λ e. must_be parts new dim e ≡ must_be parts old dim e) (λ e c. same_and (e.dim.0 == dim) (has new (edge_decision parts e) 0 && not (has new (edge_decision parts e) 1)) (has old (edge_decision parts e) 0 && not (has old (edge_decision parts e) 1)) (λ on. both_same (has new (edge_decision parts e) 0) (has old (edge_decision parts e) 0) (has new (edge_decision parts e) 1) (has old (edge_decision parts e) 1) (has_same e c on 0) (has_same e c on 1))) (places parts) (All-contains_itself (places parts)))
+      (All-weaker (Contains (places parts)) (λ e. must_be parts new dim e ≡ must_be parts old dim e)
+      (λ e c. same_and (e.dim.0 == dim) (has new (edge_decision parts e) 0 && not (has new (edge_decision parts e) 1))
+      (has old (edge_decision parts e) 0 && not (has old (edge_decision parts e) 1))
+      (λ on. both_same (has new (edge_decision parts e) 0) (has old (edge_decision parts e) 0) (has new (edge_decision parts e) 1)
+      (has old (edge_decision parts e) 1) (has_same e c on 0) (has_same e c on 1)))
+      (places parts) (All-contains_itself (places parts)))
 
-module _ (parts : Parts) (group : Group) (old new : List (List Bool)) (d v : ℕ) (may : may_edges parts new (first_dim group) ≡ may_edges parts old (first_dim group)) (must : must_edges parts new (first_dim group) ≡ must_edges parts old (first_dim group)) where
+module _ (parts : Parts) (group : Group) (old new : List (List Bool)) (d v : ℕ)
+    (may : may_edges parts new (first_dim group) ≡ may_edges parts old (first_dim group))
+    (must : must_edges parts new (first_dim group) ≡ must_edges parts old (first_dim group)) where
   pub one_mother_stays : OneMother parts group new d v → OneMother parts group old d v
-  one_mother_stays r = record { place = r.place; is = r.is; says = r.says; other = r.other; must = subst (λ es. Contains es r.other) must r.must; differs = r.differs; both = r.both }
+  one_mother_stays r =
+      record
+      { place = r.place; is = r.is; says = r.says; other = r.other; must = subst (λ es. Contains es r.other) must r.must; differs = r.differs; both = r.both }
 
   pub no_cycle_stays : NoCycle parts group new d v → NoCycle parts group old d v
   no_cycle_stays r = record { place = r.place; is = r.is; says = r.says; back = subst (λ es. Above es r.place.daughter.0 r.place.mother.0) must r.back }
 
   pub one_label_stays : OneLabel parts group new d v → OneLabel parts group old d v
-  one_label_stays r = record { place = r.place; is = r.is; says = r.says; other = r.other; must = subst (λ es. Contains es r.other) must r.must; differs = r.differs; mother = r.mother; daughter = r.daughter }
+  one_label_stays r =
+      record {
+        place = r.place;
+        is = r.is;
+        says = r.says;
+        other = r.other;
+        must = subst (λ es. Contains es r.other) must r.must;
+        differs = r.differs;
+        mother = r.mother;
+        daughter = r.daughter;
+      }
 
   pub root_stays : TakesForRoot parts group new d v → TakesForRoot parts group old d v
   root_stays taken = elim taken [

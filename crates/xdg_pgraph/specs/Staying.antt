@@ -26,7 +26,8 @@ use Rattle.xdg_pgraph.specs.Standing.{stands_for}
 use Rattle.xdg_pgraph.specs.declared.graph_prop.GraphProp.{GraphProp}
 use Rattle.xdg_listing.proofs.Bits.{or_left_bit, has_right}
 
-module _ (parts : Parts) (problem : IsProblem parts) (group : Group) (family : IsOfFamily group.principle) (old new : List (List Bool)) (new_is : IsBox (shape parts) new) (inside : LiesIn new old) (outside : LosesOutside parts (kinds_of group.principle (first_dim group)) old new) where
+module _ (parts : Parts) (problem : IsProblem parts) (group : Group) (family : IsOfFamily group.principle) (old new : List (List Bool))
+    (new_is : IsBox (shape parts) new) (inside : LiesIn new old) (outside : LosesOutside parts (kinds_of group.principle (first_dim group)) old new) where
   abbrev dim : ℕ
   dim = first_dim group
 
@@ -40,7 +41,8 @@ module _ (parts : Parts) (problem : IsProblem parts) (group : Group) (family : I
   must_stays : (wakes : ℕ) → bit_at wakes (edge_kind dim) ≡ 1 → LosesOutside parts wakes old new → must_edges parts new dim ≡ must_edges parts old dim
   must_stays wakes woken lost = must_same parts old new dim wakes inside woken lost
 
-  entries_stay : (wakes : ℕ) → bit_at wakes entry_kind ≡ 1 → LosesOutside parts wakes old new → (node c : ℕ) → node < nodes parts → Has old (entry_decision node) c → Has new (entry_decision node) c
+  entries_stay : (wakes : ℕ) → bit_at wakes entry_kind ≡ 1 → LosesOutside parts wakes old new → (node c : ℕ) → node < nodes parts
+      → Has old (entry_decision node) c → Has new (entry_decision node) c
   entries_stay wakes woken lost node c within remains = elim (cases_Bool (has new (entry_decision node) c)) [
     | inl there ↦ there
     | inr gone ↦ absurd (
@@ -93,10 +95,15 @@ module _ (parts : Parts) (problem : IsProblem parts) (group : Group) (family : I
   rule_before p f lost d v rule = absurd f
 
   pub closed_still : IsClosedFor parts group old → IsClosedFor parts group new
-  closed_still closed = closed_by_rules parts group new problem new_is family (λ d v remains rule. closed d v (inside d v remains) (inr (rule_before group.principle family outside d v rule)))
+  closed_still closed =
+      closed_by_rules parts group new problem new_is family
+      (λ d v remains rule. closed d v (inside d v remains) (inr (rule_before group.principle family outside d v rule)))
 
 -- where the propagator is still, it stays so while the box loses values of other kinds
 
-pub stays_still : (p : GraphProp) (parts : Parts) (number : ℕ) (old new : List (List Bool)) → IsProblem parts → StandsFor (stands_for p) parts number → IsBox (shape parts) old → IsBox (shape parts) new → LiesIn new old → LosesOutside parts p.wakes.0 old new → IsClosedBy (stands_for p) parts old → IsClosedBy (stands_for p) parts new
+pub stays_still : (p : GraphProp) (parts : Parts) (number : ℕ) (old new : List (List Bool)) → IsProblem parts → StandsFor (stands_for p) parts number
+    → IsBox (shape parts) old → IsBox (shape parts) new → LiesIn new old → LosesOutside parts p.wakes.0 old new → IsClosedBy (stands_for p) parts old
+    → IsClosedBy (stands_for p) parts new
 stays_still p parts number old new problem stands old_is new_is inside outside still k here =
-    closed_still parts problem (use_at parts k) here.1.family old new new_is inside (subst (λ w. LosesOutside parts w old new) here.1.kinds outside) (still k here)
+    closed_still parts problem (use_at parts k) here.1.family old new new_is inside (subst (λ w. LosesOutside parts w old new) here.1.kinds outside)
+    (still k here)

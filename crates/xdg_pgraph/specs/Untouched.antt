@@ -22,4 +22,6 @@ IsTouched way t node label = (has t.entries node ≡ true) ⊎ InTable (side way
 
 -- at each bundle of which nothing was lost nothing is left to take
 abbrev pub AreOthersDone : Touched → Parts → Group → List (List Bool) → Type 0
-AreOthersDone t parts group box = (way : Way) (node label : ℕ) → node < nodes parts → label < label_count parts (first_dim group) → (IsTouched way t node label → ⊥) → IsBundleDone way parts group node label box
+AreOthersDone t parts group box =
+    (way : Way) (node label : ℕ) → node < nodes parts → label < label_count parts (first_dim group) → (IsTouched way t node label → ⊥)
+    → IsBundleDone way parts group node label box

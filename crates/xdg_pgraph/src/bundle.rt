@@ -71,7 +71,9 @@ fn may_ends(store: &Store, plane: &Plane, bundle: Bundle) -> NodeSet
     requires known { Known store.now }
     requires node { bundle.node < plane.now.nodes }
     requires label { bundle.label < plane.now.labels }
-    ensures { (other : ℕ) → IsTrue (has result other) ↔ Contains (edges_of Which.May store.now.parts store.now.now plane.now.dim.0) (edge_to bundle.way plane.now.dim.0 bundle.node bundle.label other) }
+    ensures { (other : ℕ)
+        → IsTrue (has result other)
+        ↔ Contains (edges_of Which.May store.now.parts store.now.now plane.now.dim.0) (edge_to bundle.way plane.now.dim.0 bundle.node bundle.label other) }
 {
     let node = NodeId(bundle.node);
     let label = LabelId(bundle.label);
@@ -87,7 +89,9 @@ fn must_ends(store: &Store, plane: &Plane, bundle: Bundle) -> NodeSet
     requires known { Known store.now }
     requires node { bundle.node < plane.now.nodes }
     requires label { bundle.label < plane.now.labels }
-    ensures { (other : ℕ) → IsTrue (has result other) ↔ Contains (edges_of Which.Must store.now.parts store.now.now plane.now.dim.0) (edge_to bundle.way plane.now.dim.0 bundle.node bundle.label other) }
+    ensures { (other : ℕ)
+        → IsTrue (has result other)
+        ↔ Contains (edges_of Which.Must store.now.parts store.now.now plane.now.dim.0) (edge_to bundle.way plane.now.dim.0 bundle.node bundle.label other) }
 {
     let node = NodeId(bundle.node);
     let label = LabelId(bundle.label);
@@ -102,7 +106,9 @@ pub(crate) fn ends(store: &Store, plane: &Plane, which: Which, bundle: Bundle) -
     requires plane { IsPlane store.now.parts plane.now }
     requires known { Known store.now }
     requires node { bundle.node < plane.now.nodes }
-    ensures { (other : ℕ) → IsTrue (has result other) ↔ Contains (edges_of which store.now.parts store.now.now plane.now.dim.0) (edge_to bundle.way plane.now.dim.0 bundle.node bundle.label other) }
+    ensures { (other : ℕ)
+        → IsTrue (has result other)
+        ↔ Contains (edges_of which store.now.parts store.now.now plane.now.dim.0) (edge_to bundle.way plane.now.dim.0 bundle.node bundle.label other) }
 {
     if bundle.label >= plane.labels {
         return NodeSet::empty();

@@ -76,7 +76,8 @@ fn only_mother(store: &mut Store, pass: &mut Pass, plane: &Plane, incoming: &Inc
     requires plane { IsPlane store.old.parts plane.now }
     requires known { Known store.old }
     requires incoming { AreOf store.old.parts store.old.now plane.now.dim.0 incoming.now }
-    ensures runs { (root : ℕ) → Contains (roots plane.now.nodes (may_edges store.old.parts store.old.now plane.now.dim.0)) root → RunsFor OnlyMother plane.now.dim.0 pass.old store.old pass.new store.new }
+    ensures runs { (root : ℕ) → Contains (roots plane.now.nodes (may_edges store.old.parts store.old.now plane.now.dim.0)) root
+        → RunsFor OnlyMother plane.now.dim.0 pass.old store.old pass.new store.new }
     ensures parts { store.new.parts ≡ store.old.parts }
     ensures known { Known store.new }
 {

@@ -101,7 +101,8 @@ fn take_open_if(
     requires plane { IsPlane store.old.parts plane.now }
     requires known { Known store.old }
     requires places { (other : ℕ) → has others other ≡ true → IsPlace store.old.parts (edge_to bundle.way plane.now.dim.0 bundle.node bundle.label other) }
-    ensures clears { Clears (λ d v. (wanted ≡ true) × OpenTo store.old.parts plane.now.dim.0 bundle others (cond present 0 1) d v) pass.old store.old pass.new store.new }
+    ensures clears { Clears (λ d v. (wanted ≡ true) × OpenTo store.old.parts plane.now.dim.0 bundle others (cond present 0 1) d v) pass.old store.old pass.new
+        store.new }
     ensures known { Known store.new }
 {
     if !wanted {

@@ -19,7 +19,8 @@ edge_at e dim u l x a b c d =
     ∙ ap (λ k. edge dim u l k) d
 
 -- an edge from a node to another may be present
-pub may_by : (parts : Parts) (box : List (List Bool)) (dim u l x : ℕ) → IsDaughterBy (may_edges parts box dim) u l x ↔ (IsPlace parts (edge dim u l x) × May parts box (edge dim u l x))
+pub may_by : (parts : Parts) (box : List (List Bool)) (dim u l x : ℕ)
+    → IsDaughterBy (may_edges parts box dim) u l x ↔ (IsPlace parts (edge dim u l x) × May parts box (edge dim u l x))
 may_by parts box dim u l x = (
   λ (k, e, within, at, (m, b, d)).
       let may = (may_exact parts box dim e).0 (k, within, at) in

@@ -32,17 +32,24 @@ use Rattle.xdg_listing.proofs.Bits.{or_left_bit, has_right}
 -- ---- the kinds
 
 pub has_entries : (group : Group) → bit_at (link_kinds group) entry_kind ≡ 1
-has_entries group = or_left_bit (bit_or (2 ^ entry_kind) (2 ^ edge_kind (first_dim group))) (2 ^ edge_kind (second_dim group)) entry_kind (or_left_bit (2 ^ entry_kind) (2 ^ edge_kind (first_dim group)) entry_kind (bit_at-pow_same entry_kind))
+has_entries group =
+    or_left_bit (bit_or (2 ^ entry_kind) (2 ^ edge_kind (first_dim group))) (2 ^ edge_kind (second_dim group)) entry_kind
+    (or_left_bit (2 ^ entry_kind) (2 ^ edge_kind (first_dim group)) entry_kind (bit_at-pow_same entry_kind))
 
 pub has_first : (group : Group) → bit_at (link_kinds group) (edge_kind (first_dim group)) ≡ 1
-has_first group = or_left_bit (bit_or (2 ^ entry_kind) (2 ^ edge_kind (first_dim group))) (2 ^ edge_kind (second_dim group)) (edge_kind (first_dim group)) (has_right (2 ^ entry_kind) (2 ^ edge_kind (first_dim group)) (edge_kind (first_dim group)) (bit_at-pow_same (edge_kind (first_dim group))))
+has_first group =
+    or_left_bit (bit_or (2 ^ entry_kind) (2 ^ edge_kind (first_dim group))) (2 ^ edge_kind (second_dim group)) (edge_kind (first_dim group))
+    (has_right (2 ^ entry_kind) (2 ^ edge_kind (first_dim group)) (edge_kind (first_dim group)) (bit_at-pow_same (edge_kind (first_dim group))))
 
 pub has_second : (group : Group) → bit_at (link_kinds group) (edge_kind (second_dim group)) ≡ 1
-has_second group = has_right (bit_or (2 ^ entry_kind) (2 ^ edge_kind (first_dim group))) (2 ^ edge_kind (second_dim group)) (edge_kind (second_dim group)) (bit_at-pow_same (edge_kind (second_dim group)))
+has_second group =
+    has_right (bit_or (2 ^ entry_kind) (2 ^ edge_kind (first_dim group))) (2 ^ edge_kind (second_dim group)) (edge_kind (second_dim group))
+    (bit_at-pow_same (edge_kind (second_dim group)))
 
 -- ---- what is kept
 
-module _ (parts : Parts) (group : Group) (old new : List (List Bool)) (problem : IsProblem parts) (old_is : IsBox (shape parts) old) (new_is : IsBox (shape parts) new) (lies : LiesIn new old) (loses : LosesOutside parts (link_kinds group) old new) where
+module _ (parts : Parts) (group : Group) (old new : List (List Bool)) (problem : IsProblem parts) (old_is : IsBox (shape parts) old)
+    (new_is : IsBox (shape parts) new) (lies : LiesIn new old) (loses : LosesOutside parts (link_kinds group) old new) where
   kept : (d v kind : ℕ) → kind_of parts d ≡ kind → bit_at (link_kinds group) kind ≡ 1 → Has old d v → Has new d v
   kept d v kind is named h = elim (either (get_or (get_or new d []) v false)) [
     | inl there ↦ there
@@ -50,12 +57,15 @@ module _ (parts : Parts) (group : Group) (old new : List (List Bool)) (problem :
   ]
 
   entries : (node c : ℕ) → node < nodes parts → Has old (entry_decision node) c → Has new (entry_decision node) c
-  entries node c within = kept (entry_decision node) c entry_kind (kind_of_entry parts node (let each = problem.candidates_each in omega (arith, each, within))) (has_entries group)
+  entries node c within =
+      kept (entry_decision node) c entry_kind (kind_of_entry parts node (let each = problem.candidates_each in omega (arith, each, within))) (has_entries group)
 
-  first_edge : (e : Edge) (v : ℕ) → Contains (Rattle.xdg_problem.specs.Places.places parts) e → e.dim.0 ≡ first_dim group → Has old (edge_decision parts e) v → Has new (edge_decision parts e) v
+  first_edge : (e : Edge) (v : ℕ) → Contains (Rattle.xdg_problem.specs.Places.places parts) e → e.dim.0 ≡ first_dim group → Has old (edge_decision parts e) v
+      → Has new (edge_decision parts e) v
   first_edge e v c on = kept (edge_decision parts e) v (edge_kind (first_dim group)) (kind_of_edge parts e c ∙ ap edge_kind on) (has_first group)
 
-  second_edge : (e : Edge) (v : ℕ) → Contains (Rattle.xdg_problem.specs.Places.places parts) e → e.dim.0 ≡ second_dim group → Has old (edge_decision parts e) v → Has new (edge_decision parts e) v
+  second_edge : (e : Edge) (v : ℕ) → Contains (Rattle.xdg_problem.specs.Places.places parts) e → e.dim.0 ≡ second_dim group → Has old (edge_decision parts e) v
+      → Has new (edge_decision parts e) v
   second_edge e v c on = kept (edge_decision parts e) v (edge_kind (second_dim group)) (kind_of_edge parts e c ∙ ap edge_kind on) (has_second group)
 
   may_kept : Among (may_edges parts old (second_dim group)) (may_edges parts new (second_dim group))
@@ -72,7 +82,10 @@ module _ (parts : Parts) (group : Group) (old new : List (List Bool)) (problem :
         is = rule.is;
         says = rule.says;
         links = λ c remains. rule.links c (entries u c within remains);
-        apart = λ c remains link. rule.apart c (entries u c within remains) (linked_among (may_edges parts old (second_dim group)) (may_edges parts new (second_dim group)) may_kept group.principle u (map_row group u c rule.place.label.0) rule.place.daughter.0 link);
+        apart =
+            λ c remains link. rule.apart c (entries u c within remains)
+            (linked_among (may_edges parts old (second_dim group)) (may_edges parts new (second_dim group)) may_kept group.principle u
+            (map_row group u c rule.place.label.0) rule.place.daughter.0 link);
       }
 
   apart_kept : (d v : ℕ) → LinkingNotDaughter parts group new d v → LinkingNotDaughter parts group old d v
@@ -88,8 +101,20 @@ module _ (parts : Parts) (group : Group) (old new : List (List Bool)) (problem :
         daughter = rule.daughter;
         keeps = λ c remains. rule.keeps c (entries u c within remains);
         one = elim rule.one [
-          | inl first ↦ (let must = (must_exact parts new (second_dim group) rule.other new_is).0 first.1 in inl (first.0, (must_exact parts old (second_dim group) rule.other old_is).1 (must.0, λ absent. must.1 (second_edge rule.other 1 must.0.0 must.0.1 absent))))
-          | inr second ↦ (let must = (must_exact parts new (first_dim group) rule.place new_is).0 second.1 in inr (second.0, (must_exact parts old (first_dim group) rule.place old_is).1 (must.0, λ absent. must.1 (first_edge rule.place 1 must.0.0 must.0.1 absent))))
+          | inl first ↦
+              (let must = (must_exact parts new (second_dim group) rule.other new_is).0 first.1 in
+              inl (
+                first.0,
+                (must_exact parts old (second_dim group) rule.other old_is).1
+                    (must.0, λ absent. must.1 (second_edge rule.other 1 must.0.0 must.0.1 absent)),
+              ))
+          | inr second ↦
+              (let must = (must_exact parts new (first_dim group) rule.place new_is).0 second.1 in
+              inr (
+                second.0,
+                (must_exact parts old (first_dim group) rule.place old_is).1
+                    (must.0, λ absent. must.1 (first_edge rule.place 1 must.0.0 must.0.1 absent)),
+              ))
         ];
       }
 
@@ -126,7 +151,8 @@ module _ (parts : Parts) (group : Group) (old new : List (List Bool)) (problem :
 
 -- a propagator that is still stays so
 
-pub still_stays : (own wakes : ℕ) (parts : Parts) (number : ℕ) (old new : List (List Bool)) → IsProblem parts → StandsFor (stands_at own wakes) parts number → IsBox (shape parts) old → IsBox (shape parts) new → LiesIn new old
+pub still_stays : (own wakes : ℕ) (parts : Parts) (number : ℕ) (old new : List (List Bool)) → IsProblem parts → StandsFor (stands_at own wakes) parts number
+    → IsBox (shape parts) old → IsBox (shape parts) new → LiesIn new old
     → LosesOutside parts wakes old new → IsClosedBy (stands_at own wakes) parts old → IsClosedBy (stands_at own wakes) parts new
 still_stays own wakes parts number old new problem mine old_is new_is lies loses still k here =
     closed_kept parts (use_at parts k) old new problem old_is new_is lies (subst (λ w. LosesOutside parts w old new) here.1.2 loses) here.1.1 (still k here)

@@ -35,7 +35,10 @@ abbrev pub IsCut : Parts → Group → List (List ℕ) → List (List Bool) → 
 IsCut parts group table box place =
     May parts box place
     × EachEntry box place.mother.0 (λ c. 0 < length (map_row group place.mother.0 c place.label.0))
-    × EachEntry box place.mother.0 (λ c. IsLed (way_of group.principle) (may_edges parts box (second_dim group)) table (map_row group place.mother.0 c place.label.0) (from_node group.principle place.mother.0 place.daughter.0) (from_node group.principle place.daughter.0 place.mother.0) → ⊥)
+    × EachEntry box place.mother.0
+    (λ c. IsLed (way_of group.principle) (may_edges parts box (second_dim group)) table (map_row group place.mother.0 c place.label.0)
+    (from_node group.principle place.mother.0 place.daughter.0) (from_node group.principle place.daughter.0 place.mother.0)
+    → ⊥)
 
 -- nothing is done at a place, if the table is exact
 abbrev pub DoneAt : Parts → Group → List (List ℕ) → Edge → List (List Bool) → Type 0
@@ -66,11 +69,14 @@ MustJoin parts box dim u v k = (label : ℕ) × (label < k) × Must parts box (e
 
 -- the rule takes nothing that remains of what keeps two edges apart: neither the one of the first dimension
 abbrev pub IsFirstDone : Parts → Group → Edge → List (List Bool) → Type 0
-IsFirstDone parts group place box = (d v : ℕ) → Has box d v → (rule : LinkingNotDaughter parts group box d v) → rule.place ≡ place → SaysPresent parts rule.place d v → Contains (must_edges parts box (second_dim group)) rule.other → ⊥
+IsFirstDone parts group place box =
+    (d v : ℕ) → Has box d v → (rule : LinkingNotDaughter parts group box d v) → rule.place ≡ place → SaysPresent parts rule.place d v
+    → Contains (must_edges parts box (second_dim group)) rule.other → ⊥
 
 -- nor the one of the second
 abbrev pub IsSecondDone : Parts → Group → Edge → List (List Bool) → Type 0
-IsSecondDone parts group place box = (d v : ℕ) → Has box d v → (rule : LinkingNotDaughter parts group box d v) → rule.place ≡ place → SaysPresent parts rule.other d v → ⊥
+IsSecondDone parts group place box =
+    (d v : ℕ) → Has box d v → (rule : LinkingNotDaughter parts group box d v) → rule.place ≡ place → SaysPresent parts rule.other d v → ⊥
 
 -- ---- where the code stands
 

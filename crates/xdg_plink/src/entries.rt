@@ -120,7 +120,9 @@ fn entry_links(
 ) -> bool
     requires u { u.0 < nodes store.now.parts }
     requires v { v.0 < nodes store.now.parts }
-    ensures exact { IsTrue result ↔ IsLed (way_of group.now.principle) (may_edges store.now.parts store.now.now (second_dim group.now)) table.now (map_row group.now u.0 place label.0) (from_node group.now.principle u.0 v.0) (from_node group.now.principle v.0 u.0) }
+    ensures exact { IsTrue result
+        ↔ IsLed (way_of group.now.principle) (may_edges store.now.parts store.now.now (second_dim group.now)) table.now (map_row group.now u.0 place label.0)
+        (from_node group.now.principle u.0 v.0) (from_node group.now.principle v.0 u.0) }
     ensures known { Known store.now }
 {
     let dim = dim_of(group, 1);
@@ -149,7 +151,11 @@ pub(crate) fn none_links(
 ) -> bool
     requires u { u.0 < nodes store.now.parts }
     requires v { v.0 < nodes store.now.parts }
-    ensures exact { IsTrue result ↔ EachEntry store.now.now u.0 (λ c. IsLed (way_of group.now.principle) (may_edges store.now.parts store.now.now (second_dim group.now)) table.now (map_row group.now u.0 c label.0) (from_node group.now.principle u.0 v.0) (from_node group.now.principle v.0 u.0) → ⊥) }
+    ensures exact { IsTrue result
+        ↔ EachEntry store.now.now u.0
+        (λ c. IsLed (way_of group.now.principle) (may_edges store.now.parts store.now.now (second_dim group.now)) table.now
+        (map_row group.now u.0 c label.0) (from_node group.now.principle u.0 v.0) (from_node group.now.principle v.0 u.0)
+        → ⊥) }
     ensures known { Known store.now }
 {
     for place in 0..entry_count(store.problem().parts(), u) {

@@ -93,7 +93,8 @@ fn first_labels(store: &Store, group: &Group) -> u8
 /// Takes for a principle use what its rule takes at the places out of a node.
 fn take_node(store: &mut Store, pass: &mut Pass, group: &Group, table: &[NodeSet; 128], u: NodeId)
     requires { IsAtNode group.now table.now u.0 store.old }
-    ensures { Sweeps group.now (AreLabelsDone store.old.parts group.now table.now u.0 (edge_labels store.old.parts (first_dim group.now))) pass.old store.old pass.new store.new }
+    ensures { Sweeps group.now (AreLabelsDone store.old.parts group.now table.now u.0 (edge_labels store.old.parts (first_dim group.now))) pass.old store.old
+        pass.new store.new }
 {
     for label in 0..first_labels(store, group) {
         take_label(store, pass, group, table, u, LabelId(label));

@@ -57,10 +57,15 @@ module _ (parts : Parts) (group : Group) (box : List (List Bool)) (is : IsBox (s
   seen test = filter (λ e. looks_at group test e && present e) (places parts)
 
   seen_is : (test : Test) → seen test ≡ filter (looks_at group test) all_may
-  seen_is test = filter_alike (λ e. looks_at group test e && present e) (λ e. present e && looks_at group test e) (places parts) (λ k d l. and_swap (looks_at group test _) (present _)) ∙ sym (filter_both (looks_at group test) present (places parts))
+  seen_is test =
+      filter_alike (λ e. looks_at group test e && present e) (λ e. present e && looks_at group test e) (places parts)
+      (λ k d l. and_swap (looks_at group test _) (present _))
+      ∙ sym (filter_both (looks_at group test) present (places parts))
 
   on_may : (dim : ℕ) → edges_on dim all_may ≡ may dim
-  on_may dim = filter_both (λ e. e.dim.0 == dim) present (places parts) ∙ filter_alike (λ e. present e && (e.dim.0 == dim)) (λ e. (e.dim.0 == dim) && present e) (places parts) (λ k d l. and_swap (present _) (_ == dim))
+  on_may dim =
+      filter_both (λ e. e.dim.0 == dim) present (places parts)
+      ∙ filter_alike (λ e. present e && (e.dim.0 == dim)) (λ e. (e.dim.0 == dim) && present e) (places parts) (λ k d l. and_swap (present _) (_ == dim))
 
   all_seen : (test : Test) (dim : ℕ) → ((e : Edge) → (e.dim.0 == dim) ≡ true → looks_at group test e ≡ true) → edges_on dim (seen test) ≡ may dim
   all_seen test dim looks = ap (edges_on dim) (seen_is test) ∙ on_same (looks_at group test) dim all_may looks ∙ on_may dim
@@ -71,7 +76,10 @@ module _ (parts : Parts) (group : Group) (box : List (List Bool)) (is : IsBox (s
   edge_climbs : NoRule principles.Climbing → (e : Edge) → Contains (may one) e → Above (may two) e.mother.0 e.daughter.0
   edge_climbs none e stands = elim (decided_above (may two) e.mother.0 e.daughter.0) [
     | inl above ↦ above
-    | inr apart ↦ absurd (let m = (may_exact parts box one e).0 stands in none (edge_decision parts e) 0 m.1 (record { place = e; is = m.0; says = (refl, refl); apart = apart }))
+    | inr apart ↦
+        absurd
+        (let m = (may_exact parts box one e).0 stands in
+        none (edge_decision parts e) 0 m.1 (record { place = e; is = m.0; says = (refl, refl); apart = apart }))
   ]
 
   path_climbs : NoRule principles.Climbing → (u v : ℕ) → Above (may one) u v → Above (may two) u v
@@ -84,7 +92,8 @@ module _ (parts : Parts) (group : Group) (box : List (List Bool)) (is : IsBox (s
       ])
       above
 
-  climbing_test : (test : Test) → IsTestOf principles.Climbing group.truths (nodes parts) (label_count parts one) test → NoRule principles.Climbing → TestPasses parts group box test
+  climbing_test : (test : Test) → IsTestOf principles.Climbing group.truths (nodes parts) (label_count parts one) test → NoRule principles.Climbing
+      → TestPasses parts group box test
   climbing_test (climbing u v) of none = λ above.
       let first = all_seen (climbing u v) one (λ e on. either_true (e.dim.0 == two) (e.dim.0 == one) on) in
       let second = all_seen (climbing u v) two (λ e on. or_here (e.dim.0 == two) (e.dim.0 == one) on) in
@@ -101,7 +110,9 @@ module _ (parts : Parts) (group : Group) (box : List (List Bool)) (is : IsBox (s
     must_be : Among (may two) (must_edges parts box two)
     must_be e stands =
         let m = (may_exact parts box two e).0 stands in
-        let one_value : IsDecided box (edge_decision parts e) = All-contains (λ e. looks_at group (not_blocked w v) e ≡ true → IsDecided box (edge_decision parts e)) (places parts) e decided.edges m.0.0 (or_here (e.dim.0 == two) (e.dim.0 == one) (on_two e m.0.1)) in
+        let one_value : IsDecided box (edge_decision parts e) = All-contains
+        (λ e. looks_at group (not_blocked w v) e ≡ true → IsDecided box (edge_decision parts e)) (places parts) e decided.edges m.0.0
+        (or_here (e.dim.0 == two) (e.dim.0 == one) (on_two e m.0.1)) in
         (must_exact parts box two e is).1 (m.0, λ absent. (let x = one_value.2 0 m.1 in let y = one_value.2 1 absent in omega (arith, x, y)))
       where
         on_two : (e : Edge) → e.dim.0 ≡ two → (e.dim.0 == two) ≡ true
@@ -110,7 +121,8 @@ module _ (parts : Parts) (group : Group) (box : List (List Bool)) (is : IsBox (s
     only : (x : ℕ) → Has box (entry_decision w) x → x ≡ entry
     only x remains = decided.entry.2 x remains ∙ sym (value_is box (entry_decision w) decided.entry)
 
-    last_edge : NoRule principles.Barriers → (e : Edge) → Contains (may two) e → Contains (set_row group w entry) e.label.0 → (e.mother.0 ≡ w) ⊎ Above (may two) w e.mother.0 → Above (may one) w e.daughter.0
+    last_edge : NoRule principles.Barriers → (e : Edge) → Contains (may two) e → Contains (set_row group w entry) e.label.0
+        → (e.mother.0 ≡ w) ⊎ Above (may two) w e.mother.0 → Above (may one) w e.daughter.0
     last_edge none e stands label from = elim (decided_above (may one) w e.daughter.0) [
       | inl above ↦ above
       | inr apart ↦ absurd (
@@ -129,7 +141,8 @@ module _ (parts : Parts) (group : Group) (box : List (List Bool)) (is : IsBox (s
     path_passes : NoRule principles.Barriers → AboveByLast (may two) w (set_row group w entry) v → Above (may one) w v
     path_passes none path = along (by_last (may two) (set_row group w entry) w v path)
       where
-        along : Any (λ e. Contains (set_row group w entry) e.label.0 × (((e.mother.0 ≡ w) ⊎ Above (may two) w e.mother.0) × (e.daughter.0 ≡ v))) (may two) → Above (may one) w v
+        along : Any (λ e. Contains (set_row group w entry) e.label.0 × (((e.mother.0 ≡ w) ⊎ Above (may two) w e.mother.0) × (e.daughter.0 ≡ v))) (may two)
+            → Above (may one) w v
         along (k, e, l, at, (label, (from, to))) = subst (λ x. Above (may one) w x) to (last_edge none e (k, l, at) label from)
 
     blocked_passes : NoRule principles.Barriers → TestPasses parts group box (not_blocked w v)
@@ -138,13 +151,15 @@ module _ (parts : Parts) (group : Group) (box : List (List Bool)) (is : IsBox (s
         let second = all_seen (not_blocked w v) two (λ e on. or_here (e.dim.0 == two) (e.dim.0 == one) on) in
         subst (λ es. Above es w v) (sym first) (path_passes none (subst (λ es. AboveByLast es w (set_row group w entry) v) second path))
 
-  barriers_test : (test : Test) → IsTestOf principles.Barriers group.truths (nodes parts) (label_count parts one) test → TestDecided parts group box test → NoRule principles.Barriers → TestPasses parts group box test
+  barriers_test : (test : Test) → IsTestOf principles.Barriers group.truths (nodes parts) (label_count parts one) test → TestDecided parts group box test
+      → NoRule principles.Barriers → TestPasses parts group box test
   barriers_test (not_blocked w v) of decided none = blocked_passes w v decided none
   barriers_test test of decided none = absurd of
 
   -- ---- both
 
-  passes_all : (p : Principle) → IsOfFamily p → (test : Test) → IsTestOf p group.truths (nodes parts) (label_count parts one) test → TestDecided parts group box test → NoRule p → TestPasses parts group box test
+  passes_all : (p : Principle) → IsOfFamily p → (test : Test) → IsTestOf p group.truths (nodes parts) (label_count parts one) test
+      → TestDecided parts group box test → NoRule p → TestPasses parts group box test
   passes_all principles.Climbing family test of decided none = climbing_test test of none
   passes_all principles.Barriers family test of decided none = barriers_test test of decided none
   passes_all p family test of decided none = absurd family

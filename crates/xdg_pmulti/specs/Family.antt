@@ -17,7 +17,8 @@ IsOfFamily principle = ⊥
 
 -- a kind of values at which the principle use looks: the edges of both dimensions, and for barriers the entries
 abbrev pub IsKindFor : Group → ℕ → Type 0
-IsKindFor group kind = ((kind ≡ edge_kind (first_dim group)) ⊎ (kind ≡ edge_kind (second_dim group))) ⊎ ((group.principle ≡ principles.Barriers) × (kind ≡ entry_kind))
+IsKindFor group kind =
+    ((kind ≡ edge_kind (first_dim group)) ⊎ (kind ≡ edge_kind (second_dim group))) ⊎ ((group.principle ≡ principles.Barriers) × (kind ≡ entry_kind))
 
 -- the wake set has exactly these kinds
 pub record HasKinds (group : Group) (wakes : ℕ) : Type 0 where

@@ -27,7 +27,9 @@ use Rattle.xdg_propcore.proofs.DecisionKinds.{kind_of_entry, kind_of_edge}
 use Rattle.xdg_pmulti.specs.Family.{HasKinds, IsOfFamily, StandsAt}
 use Rattle.xdg_pmulti.specs.Closing.{closed_by_rules}
 
-module _ (parts : Parts) (problem : IsProblem parts) (group : Group) (wakes : ℕ) (kinds : HasKinds group wakes) (family : IsOfFamily group.principle) (old new : List (List Bool)) (old_is : IsBox (shape parts) old) (new_is : IsBox (shape parts) new) (inside : LiesIn new old) (outside : LosesOutside parts wakes old new) where
+module _ (parts : Parts) (problem : IsProblem parts) (group : Group) (wakes : ℕ) (kinds : HasKinds group wakes) (family : IsOfFamily group.principle)
+    (old new : List (List Bool)) (old_is : IsBox (shape parts) old) (new_is : IsBox (shape parts) new) (inside : LiesIn new old)
+    (outside : LosesOutside parts wakes old new) where
   abbrev one : ℕ
   one = first_dim group
 
@@ -41,10 +43,13 @@ module _ (parts : Parts) (problem : IsProblem parts) (group : Group) (wakes : �
     | inr gone ↦ absurd (let quiet = outside d v (remains, λ there. (let z : true ≡ false = sym there ∙ gone in cc)) in omega (arith, woken, quiet))
   ]
 
-  edge_stays : (dim : ℕ) → (dim ≡ one) ⊎ (dim ≡ two) → (e : Edge) → IsPlaceOn parts dim e → (v : ℕ) → Has old (edge_decision parts e) v → Has new (edge_decision parts e) v
+  edge_stays : (dim : ℕ) → (dim ≡ one) ⊎ (dim ≡ two) → (e : Edge) → IsPlaceOn parts dim e → (v : ℕ) → Has old (edge_decision parts e) v
+      → Has new (edge_decision parts e) v
   edge_stays dim which e on v =
       let kind : kind_of parts (edge_decision parts e) ≡ edge_kind dim = kind_of_edge parts e on.0 ∙ ap edge_kind on.1 in
-      stays (edge_decision parts e) v (kinds.each (kind_of parts (edge_decision parts e)) (inl (elim which [ inl first ↦ inl (kind ∙ ap edge_kind first) | inr second ↦ inr (kind ∙ ap edge_kind second) ])))
+      stays (edge_decision parts e) v
+      (kinds.each (kind_of parts (edge_decision parts e))
+      (inl (elim which [ inl first ↦ inl (kind ∙ ap edge_kind first) | inr second ↦ inr (kind ∙ ap edge_kind second) ])))
 
   may_stay : (dim : ℕ) → (dim ≡ one) ⊎ (dim ≡ two) → Among (may_edges parts old dim) (may_edges parts new dim)
   may_stay dim which e stands =
@@ -58,18 +63,25 @@ module _ (parts : Parts) (problem : IsProblem parts) (group : Group) (wakes : �
       (must_exact parts old two e old_is).1 (m.0, λ absent. m.1 (edge_stays two (inr refl) e m.0 1 absent))
 
   entry_stays : group.principle ≡ principles.Barriers → (node c : ℕ) → node < nodes parts → Has old (entry_decision node) c → Has new (entry_decision node) c
-  entry_stays is node c within = stays (entry_decision node) c (kinds.each (kind_of parts (entry_decision node)) (inr (is, kind_of_entry parts node (let e = problem.candidates_each in omega (arith, e, within)))))
+  entry_stays is node c within =
+      stays (entry_decision node) c
+      (kinds.each (kind_of parts (entry_decision node)) (inr (is, kind_of_entry parts node (let e = problem.candidates_each in omega (arith, e, within)))))
 
   climbing_before : (d v : ℕ) → ClimbingReach parts group new d v → ClimbingReach parts group old d v
   climbing_before d v rule = record {
     place = rule.place;
     is = rule.is;
     says = rule.says;
-    apart = λ above. rule.apart (above_among (may_edges parts old two) (may_edges parts new two) (may_stay two (inr refl)) rule.place.mother.0 rule.place.daughter.0 above);
+    apart =
+        λ above. rule.apart
+        (above_among (may_edges parts old two) (may_edges parts new two) (may_stay two (inr refl)) rule.place.mother.0 rule.place.daughter.0 above);
   }
 
   mothers_within : All (λ e. e.mother.0 < nodes parts) (must_edges parts new two)
-  mothers_within = All-weaker (Contains (must_edges parts new two)) (λ e. e.mother.0 < nodes parts) (λ e c. (is_place parts e ((must_exact parts new two e new_is).0 c).0.0).mother) (must_edges parts new two) (All-contains_itself (must_edges parts new two))
+  mothers_within =
+      All-weaker (Contains (must_edges parts new two)) (λ e. e.mother.0 < nodes parts)
+      (λ e c. (is_place parts e ((must_exact parts new two e new_is).0 c).0.0).mother) (must_edges parts new two)
+      (All-contains_itself (must_edges parts new two))
 
   barrier_within : (barrier u : ℕ) → u < nodes parts → (barrier ≡ u) ⊎ Above (must_edges parts new two) barrier u → barrier < nodes parts
   barrier_within barrier u within (inl here) = omega (arith, here, within)
@@ -83,9 +95,16 @@ module _ (parts : Parts) (problem : IsProblem parts) (group : Group) (wakes : �
         is = rule.is;
         says = rule.says;
         barrier = rule.barrier;
-        above = elim rule.above [ inl here ↦ inl here | inr over ↦ inr (above_among (must_edges parts new two) (must_edges parts old two) must_before rule.barrier rule.place.mother.0 over) ];
+        above =
+            elim rule.above [
+              | inl here ↦ inl here
+              | inr over
+                  ↦ inr (above_among (must_edges parts new two) (must_edges parts old two) must_before rule.barrier rule.place.mother.0 over)
+            ];
         blocks = λ c remains. rule.blocks c (entry_stays is rule.barrier c within remains);
-        apart = λ above. rule.apart (above_among (may_edges parts old one) (may_edges parts new one) (may_stay one (inl refl)) rule.barrier rule.place.daughter.0 above);
+        apart =
+            λ above. rule.apart
+            (above_among (may_edges parts old one) (may_edges parts new one) (may_stay one (inl refl)) rule.barrier rule.place.daughter.0 above);
       }
 
   -- what a rule takes now it took before
@@ -95,9 +114,13 @@ module _ (parts : Parts) (problem : IsProblem parts) (group : Group) (wakes : �
   rule_before p e f d v rule = absurd f
 
   pub closed_still : IsClosedFor parts group old → IsClosedFor parts group new
-  closed_still closed = closed_by_rules parts group new new_is family (λ d v remains rule. closed d v (inside d v remains) (inr (rule_before group.principle refl family d v rule)))
+  closed_still closed =
+      closed_by_rules parts group new new_is family
+      (λ d v remains rule. closed d v (inside d v remains) (inr (rule_before group.principle refl family d v rule)))
 
 -- where the propagator is still, it stays so while the box loses values of other kinds
-pub stays_still : (mine wakes : ℕ) (parts : Parts) (number : ℕ) (old new : List (List Bool)) → IsProblem parts → StandsFor (StandsAt mine wakes) parts number → IsBox (shape parts) old → IsBox (shape parts) new → LiesIn new old → LosesOutside parts wakes old new → IsClosedBy (StandsAt mine wakes) parts old → IsClosedBy (StandsAt mine wakes) parts new
+pub stays_still : (mine wakes : ℕ) (parts : Parts) (number : ℕ) (old new : List (List Bool)) → IsProblem parts → StandsFor (StandsAt mine wakes) parts number
+    → IsBox (shape parts) old → IsBox (shape parts) new → LiesIn new old → LosesOutside parts wakes old new → IsClosedBy (StandsAt mine wakes) parts old
+    → IsClosedBy (StandsAt mine wakes) parts new
 stays_still mine wakes parts number old new problem stands old_is new_is inside outside still k here =
     closed_still parts problem (use_at parts k) wakes here.1.kinds here.1.family old new old_is new_is inside outside (still k here)

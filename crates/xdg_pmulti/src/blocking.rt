@@ -51,7 +51,8 @@ fn nodes_blocking(store: &Store, group: &Group, label: LabelId) -> NodeSet
 
 /// For each label of a dimension the nodes that block it.
 pub(crate) fn blocking(store: &Store, group: &Group, dim: DimId) -> [NodeSet; 32]
-    ensures exact { (label node : ℕ) → In result label node ↔ ((label < edge_labels store.now.parts dim.0) × (node < nodes store.now.parts) × Blocks group.now store.now.now node label) }
+    ensures exact { (label node : ℕ)
+        → In result label node ↔ ((label < edge_labels store.now.parts dim.0) × (node < nodes store.now.parts) × Blocks group.now store.now.now node label) }
     ensures known { Known store.now }
 {
     let mut table = [NodeSet::empty(); 32];

@@ -99,7 +99,9 @@ TakesEdges group u label set s =
 abbrev pub TakesItems : Group → ℕ → ℕ → List ℕ → State → Type 0
 TakesItems group u label set s =
     (has set u ≡ true → MayOwn s.parts group s.now u label × Takes s.parts group s.now (attr_of_node s.parts group 0 u) label)
-    × ((v : ℕ) → has set v ≡ true → v ≢ u → IsPlace s.parts (edge_to group u label v) × Takes s.parts group s.now (edge_decision s.parts (edge_to group u label v)) 0)
+    ×
+    ((v : ℕ) → has set v ≡ true → v ≢ u
+    → IsPlace s.parts (edge_to group u label v) × Takes s.parts group s.now (edge_decision s.parts (edge_to group u label v)) 0)
 
 -- ---- where the code stands
 

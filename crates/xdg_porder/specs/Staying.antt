@@ -18,7 +18,8 @@ use Rattle.xdg_problem.specs.Vectors.{shape}
 use Rattle.xdg_problem.proofs.FilterFacts.{filter_alike}
 use Rattle.xdg_problem.proofs.PlaceOrder.{is_place}
 use Rattle.xdg_problem.proofs.Shortening.{passes_like}
-use Rattle.xdg_rules.specs.Rules.{has, IsPlaceOn, IsDecided, EntryDecided, FailsTest, TakesBy, IsClosedFor, may_edges, must_edges, attr_of_node, value_in, entry_value}
+use Rattle.xdg_rules.specs.Rules.{has, IsPlaceOn, IsDecided, EntryDecided, FailsTest, TakesBy, IsClosedFor, may_edges, must_edges, attr_of_node, value_in}
+use Rattle.xdg_rules.specs.Rules.{entry_value}
 use Rattle.xdg_rules.proofs.Among.{Among, above_among}
 use Rattle.xdg_rules.proofs.Failing.{value_is}
 use Rattle.xdg_rules.proofs.Shrinking.{may_exact, must_exact}
@@ -39,7 +40,9 @@ dim_needed p family = absurd family
 on_dim : (a b : ℕ) → (a == b) ≡ true → a ≡ b
 on_dim a b h = eqb-true a b h
 
-module _ (parts : Parts) (problem : IsProblem parts) (group : Group) (group_is : IsGroup parts group) (wakes : ℕ) (kinds : HasKinds group wakes) (family : IsOfFamily group.principle) (old new : List (List Bool)) (old_is : IsBox (shape parts) old) (new_is : IsBox (shape parts) new) (inside : LiesIn new old) (outside : LosesOutside parts wakes old new) where
+module _ (parts : Parts) (problem : IsProblem parts) (group : Group) (group_is : IsGroup parts group) (wakes : ℕ) (kinds : HasKinds group wakes)
+    (family : IsOfFamily group.principle) (old new : List (List Bool)) (old_is : IsBox (shape parts) old) (new_is : IsBox (shape parts) new)
+    (inside : LiesIn new old) (outside : LosesOutside parts wakes old new) where
   -- values of the kinds that wake stay
   stays : (d v : ℕ) → bit_at wakes (kind_of parts d) ≡ 1 → Has old d v → Has new d v
   stays d v woken remains = elim (cases_Bool (has new d v)) [
@@ -50,11 +53,22 @@ module _ (parts : Parts) (problem : IsProblem parts) (group : Group) (group_is :
   dim_within : first_dim group < length parts.dims
   dim_within = group_is.dims 0 (record { 0 = 0 }) (let c = group_is.dims_count in let s = dim_needed group.principle family in omega (arith, c, s))
 
-  own_stays : group.principle ≡ principles.Order → (node x : ℕ) → node < nodes parts → Has old (attr_of_node parts group 0 node) x → Has new (attr_of_node parts group 0 node) x
-  own_stays order node x within = stays (attr_of_node parts group 0 node) x (kinds.each (kind_of parts (attr_of_node parts group 0 node)) (inr (order, kind_of_attr parts (first_dim group) node (attr_of group 0) dim_within within (group_is.attrs 0 (record { 0 = 0 }) (let c = group_is.attrs_count in let k : 0 < attr_arguments group.principle = subst (λ p. 0 < attr_arguments p) (sym order) (omega arith) in omega (arith, c, k))))))
+  own_stays : group.principle ≡ principles.Order → (node x : ℕ) → node < nodes parts → Has old (attr_of_node parts group 0 node) x
+      → Has new (attr_of_node parts group 0 node) x
+  own_stays order node x within =
+      stays (attr_of_node parts group 0 node) x
+      (kinds.each (kind_of parts (attr_of_node parts group 0 node))
+      (inr (
+        order,
+        kind_of_attr parts (first_dim group) node (attr_of group 0) dim_within within
+            (group_is.attrs 0 (record { 0 = 0 }) (let c = group_is.attrs_count in let k : 0 < attr_arguments group.principle = subst (λ p. 0 < attr_arguments p) (sym order) (omega arith) in omega (arith, c, k))),
+      )))
 
   edge_stays : (e : Edge) → IsPlaceOn parts (first_dim group) e → (v : ℕ) → Has old (edge_decision parts e) v → Has new (edge_decision parts e) v
-  edge_stays e on v = stays (edge_decision parts e) v (kinds.each (kind_of parts (edge_decision parts e)) (inl (subst (λ k. kind_of parts (edge_decision parts e) ≡ edge_kind k) on.1 (kind_of_edge parts e on.0))))
+  edge_stays e on v =
+      stays (edge_decision parts e) v
+      (kinds.each (kind_of parts (edge_decision parts e))
+      (inl (subst (λ k. kind_of parts (edge_decision parts e) ≡ edge_kind k) on.1 (kind_of_edge parts e on.0))))
 
   -- what must be now had to be before, and what might be then may be now
   must_before : (e : Edge) → Contains (must_edges parts new (first_dim group)) e → Contains (must_edges parts old (first_dim group)) e
@@ -72,7 +86,17 @@ module _ (parts : Parts) (problem : IsProblem parts) (group : Group) (group_is :
   -- what a rule takes now it took before
   rule_before : (p : Principle) → group.principle ≡ p → IsOfFamily p → (d v : ℕ) → TakesBy p parts group new d v → TakesBy p parts group old d v
   rule_before principles.Order e f d v takes = elim takes [
-    | inl rule ↦ inl (record { place = rule.place; is = rule.is; says = rule.says; other = rule.other; must = must_before rule.other rule.must; mother = rule.mother; wrong = rule.wrong })
+    | inl rule ↦
+        inl
+        (record {
+          place = rule.place;
+          is = rule.is;
+          says = rule.says;
+          other = rule.other;
+          must = must_before rule.other rule.must;
+          mother = rule.mother;
+          wrong = rule.wrong;
+        })
     | inr more ↦ elim more [
       | inl rule ↦ inr (inl (record {
         place = rule.place;
@@ -93,7 +117,9 @@ module _ (parts : Parts) (problem : IsProblem parts) (group : Group) (group_is :
     node = rule.node;
     within = rule.within;
     between = rule.between;
-    apart = λ above. rule.apart (above_among (may_edges parts old (first_dim group)) (may_edges parts new (first_dim group)) may_now rule.place.mother.0 rule.node above);
+    apart =
+        λ above. rule.apart
+        (above_among (may_edges parts old (first_dim group)) (may_edges parts new (first_dim group)) may_now rule.place.mother.0 rule.node above);
   }
   rule_before p e f d v rule = absurd f
 
@@ -126,19 +152,28 @@ module _ (parts : Parts) (problem : IsProblem parts) (group : Group) (group_is :
       (same_value (length parts.candidates + place) (All-head Keeps place attrs keeps) (All-head (AttrDecided new) place attrs decided))
       (attrs_same attrs (All-tail Keeps place attrs keeps) (All-tail (AttrDecided new) place attrs decided))
 
-  module _ (failing : FailsTest parts group new) (none : entry_node failing.test ≡ None) (keeps : All Keeps (test_attrs parts group failing.test)) (on : (e : Edge) → looks_at group failing.test e ≡ true → e.dim.0 ≡ first_dim group) where
+  module _ (failing : FailsTest parts group new) (none : entry_node failing.test ≡ None) (keeps : All Keeps (test_attrs parts group failing.test))
+      (on : (e : Edge) → looks_at group failing.test e ≡ true → e.dim.0 ≡ first_dim group) where
     abbrev EdgeDecided : List (List Bool) → Edge → Type 0
     EdgeDecided box e = looks_at group failing.test e ≡ true → IsDecided box (edge_decision parts e)
 
     edges_before : All (EdgeDecided old) (places parts)
-    edges_before = All-weaker (Contains (places parts)) (EdgeDecided old) (λ e c looks. decided_before (edge_decision parts e) (edge_stays e (c, on e looks)) (All-contains (EdgeDecided new) (places parts) e failing.decided.edges c looks)) (places parts) (All-contains_itself (places parts))
+    edges_before =
+        All-weaker (Contains (places parts)) (EdgeDecided old)
+        (λ e c looks. decided_before (edge_decision parts e) (edge_stays e (c, on e looks))
+        (All-contains (EdgeDecided new) (places parts) e failing.decided.edges c looks))
+        (places parts) (All-contains_itself (places parts))
 
     abbrev seen : List (List Bool) → Edge → Bool
     seen box e = looks_at group failing.test e && has box (edge_decision parts e) 0
 
     edges_same : filter (seen old) (places parts) ≡ filter (seen new) (places parts)
     edges_same = filter_alike (seen old) (seen new) (places parts)
-        (All-weaker (Contains (places parts)) (λ e. seen old e ≡ seen new e) (λ e c. same_and (looks_at group failing.test e) (has old (edge_decision parts e) 0) (has new (edge_decision parts e) 0) (λ looks. same_flag (has old (edge_decision parts e) 0) (has new (edge_decision parts e) 0) (edge_stays e (c, on e looks) 0) (inside (edge_decision parts e) 0))) (places parts) (All-contains_itself (places parts)))
+        (All-weaker (Contains (places parts)) (λ e. seen old e ≡ seen new e)
+        (λ e c. same_and (looks_at group failing.test e) (has old (edge_decision parts e) 0) (has new (edge_decision parts e) 0)
+        (λ looks. same_flag (has old (edge_decision parts e) 0) (has new (edge_decision parts e) 0) (edge_stays e (c, on e looks) 0)
+        (inside (edge_decision parts e) 0)))
+        (places parts) (All-contains_itself (places parts)))
 
     failed_before : FailsTest parts group old
     failed_before = record {
@@ -162,10 +197,19 @@ module _ (parts : Parts) (problem : IsProblem parts) (group : Group) (group_is :
     pub keeps : All Keeps (test_attrs parts group test)
     pub on : (e : Edge) → looks_at group test e ≡ true → e.dim.0 ≡ first_dim group
 
-  looks_here : (p : Principle) → group.principle ≡ p → IsOfFamily p → (test : Test) → IsTestOf p group.truths (nodes parts) (label_count parts (first_dim group)) test → LooksHere test
-  looks_here principles.Order e f (ordered_daughters u) is = record { none = refl; keeps = All-cons Keeps _ [] (λ x. own_stays e u x is.1) (All-nil Keeps); on = λ edge looks. on_dim edge.dim.0 (first_dim group) (and_first _ _ looks) }
-  looks_here principles.Order e f (ordered_yields u) is = record { none = refl; keeps = All-cons Keeps _ [] (λ x. own_stays e u x is.1) (All-nil Keeps); on = λ edge looks. on_dim edge.dim.0 (first_dim group) looks }
-  looks_here principles.Projectivity e f (projective u v) is = record { none = refl; keeps = All-nil Keeps; on = λ edge looks. on_dim edge.dim.0 (first_dim group) looks }
+  looks_here : (p : Principle) → group.principle ≡ p → IsOfFamily p → (test : Test)
+      → IsTestOf p group.truths (nodes parts) (label_count parts (first_dim group)) test → LooksHere test
+  looks_here principles.Order e f (ordered_daughters u) is =
+      record {
+        none = refl;
+        keeps = All-cons Keeps _ [] (λ x. own_stays e u x is.1) (All-nil Keeps);
+        on = λ edge looks. on_dim edge.dim.0 (first_dim group) (and_first _ _ looks);
+      }
+  looks_here principles.Order e f (ordered_yields u) is =
+      record
+      { none = refl; keeps = All-cons Keeps _ [] (λ x. own_stays e u x is.1) (All-nil Keeps); on = λ edge looks. on_dim edge.dim.0 (first_dim group) looks }
+  looks_here principles.Projectivity e f (projective u v) is =
+      record { none = refl; keeps = All-nil Keeps; on = λ edge looks. on_dim edge.dim.0 (first_dim group) looks }
   looks_here principles.Order e f test is = absurd is
   looks_here principles.Projectivity e f test is = absurd is
   looks_here p e f test is = absurd f
@@ -178,6 +222,9 @@ module _ (parts : Parts) (problem : IsProblem parts) (group : Group) (group_is :
 
 -- where the propagator is still, it stays so while the box loses values of other kinds
 
-pub stays_still : (mine wakes : ℕ) (parts : Parts) (number : ℕ) (old new : List (List Bool)) → IsProblem parts → StandsFor (StandsAt mine wakes) parts number → IsBox (shape parts) old → IsBox (shape parts) new → LiesIn new old → LosesOutside parts wakes old new → IsClosedBy (StandsAt mine wakes) parts old → IsClosedBy (StandsAt mine wakes) parts new
+pub stays_still : (mine wakes : ℕ) (parts : Parts) (number : ℕ) (old new : List (List Bool)) → IsProblem parts → StandsFor (StandsAt mine wakes) parts number
+    → IsBox (shape parts) old → IsBox (shape parts) new → LiesIn new old → LosesOutside parts wakes old new → IsClosedBy (StandsAt mine wakes) parts old
+    → IsClosedBy (StandsAt mine wakes) parts new
 stays_still mine wakes parts number old new problem stands old_is new_is inside outside still k here =
-    closed_still parts problem (use_at parts k) (problem.groups k no_use here.0) wakes here.1.kinds here.1.family old new old_is new_is inside outside (still k here)
+    closed_still parts problem (use_at parts k) (problem.groups k no_use here.0) wakes here.1.kinds here.1.family old new old_is new_is inside outside
+    (still k here)

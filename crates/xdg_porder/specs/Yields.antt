@@ -12,7 +12,8 @@ use Rattle.xdg_porder.specs.Items.{MayFollow, MayStand, edge_to, label_at}
 
 -- each edge from u with a label that may be must be
 abbrev pub IsLabelSettled : Parts → Group → ℕ → ℕ → List (List Bool) → Type 0
-IsLabelSettled parts group u label box = (v : ℕ) → IsPlace parts (edge_to group u label v) → May parts box (edge_to group u label v) → Must parts box (edge_to group u label v)
+IsLabelSettled parts group u label box =
+    (v : ℕ) → IsPlace parts (edge_to group u label v) → May parts box (edge_to group u label v) → Must parts box (edge_to group u label v)
 
 -- each edge from u
 abbrev pub IsNodeSettled : Parts → Group → ℕ → List (List Bool) → Type 0
@@ -28,7 +29,8 @@ StandsBelow parts group table box u label x = MayStand parts group box u label x
 
 -- of two labels, y with the later one stands at or left of x with the earlier one
 abbrev pub IsBroken : Parts → Group → List (List ℕ) → List (List Bool) → ℕ → ℕ → ℕ → Type 0
-IsBroken parts group table box u earlier later = (x y : ℕ) × StandsBelow parts group table box u earlier x × StandsBelow parts group table box u later y × (y ≤ x)
+IsBroken parts group table box u earlier later =
+    (x y : ℕ) × StandsBelow parts group table box u earlier x × StandsBelow parts group table box u later y × (y ≤ x)
 
 -- so it is with the label at a place of the order and one at a later place
 abbrev pub IsBrokenFrom : Parts → Group → List (List ℕ) → List (List Bool) → ℕ → ℕ → Type 0

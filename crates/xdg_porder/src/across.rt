@@ -43,7 +43,8 @@ fn take_across_node(
     u: NodeId,
 )
     requires { IsAcrossNode group.now table.now u.0 store.old }
-    ensures { Sweeps group.now (AreLabelsDone store.old.parts group.now table.now u.0 (edge_labels store.old.parts (first_dim group.now))) pass.old store.old pass.new store.new }
+    ensures { Sweeps group.now (AreLabelsDone store.old.parts group.now table.now u.0 (edge_labels store.old.parts (first_dim group.now))) pass.old store.old
+        pass.new store.new }
 {
     for label in 0..label_count(store, group) {
         take_across_label(store, pass, group, table, u, LabelId(label));

@@ -95,5 +95,6 @@ impl Propagator for OrderProp {
 
     ghost still_closed = { λ p parts box problem is still. still };
 
-    ghost stays_still = { λ p parts number old new problem mine old_is new_is inside outside still. stays_still p.number p.wakes.0 parts number old new problem mine old_is new_is inside outside still };
+    ghost stays_still = { λ p parts number old new problem mine old_is new_is inside outside still. stays_still p.number p.wakes.0 parts number old new problem
+        mine old_is new_is inside outside still };
 }

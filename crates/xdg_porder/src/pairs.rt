@@ -4,7 +4,8 @@ ghost use Rattle.std.specs.Prelude.{◌<◌, ◌+◌, length};
 ghost use Rattle.xdg_problem.specs.Places.{nodes};
 ghost use Rattle.xdg_propcore.specs.Passes.{IsQuiet};
 ghost use Rattle.xdg_propcore.specs.Sweeps.{Sweeps};
-ghost use Rattle.xdg_porder.specs.Items.{AreEarlierDone, AreLaterDone, AreMothersDone, AreOthersDone, IsAtNode, IsAtPair, IsLeftDone, IsOrdering, IsPairDone, IsRightDone};
+ghost use Rattle.xdg_porder.specs.Items.{AreEarlierDone, AreLaterDone, AreMothersDone, AreOthersDone, IsAtNode, IsAtPair, IsLeftDone, IsOrdering, IsPairDone};
+ghost use Rattle.xdg_porder.specs.Items.{IsRightDone};
 
 use crate::items::{may_items, must_items};
 use crate::reads::label_at;

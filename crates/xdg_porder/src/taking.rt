@@ -48,7 +48,9 @@ fn take_own(
     asked: bool,
 )
     requires at { IsAtNode group.now u.0 store.old }
-    requires takes { asked ≡ true → MayOwn store.old.parts group.now store.old.now u.0 label.0 × Takes store.old.parts group.now store.old.now (attr_of_node store.old.parts group.now 0 u.0) label.0 }
+    requires takes { asked ≡ true
+        → MayOwn store.old.parts group.now store.old.now u.0 label.0
+        × Takes store.old.parts group.now store.old.now (attr_of_node store.old.parts group.now 0 u.0) label.0 }
     ensures { Sweeps group.now (λ box. asked ≡ true → MayOwn store.old.parts group.now box u.0 label.0 → ⊥) pass.old store.old pass.new store.new }
 {
     if !asked {

@@ -120,7 +120,8 @@ fn is_broken_at(store: &Store, group: &Group, table: &[NodeSet; 128], u: NodeId)
 /// Whether the test of a node is decided and fails, in a box whose edges are decided, by a table of the nodes below others.
 pub(crate) fn fails_at(store: &Store, group: &Group, table: &[NodeSet; 128], u: NodeId) -> bool
     requires { IsAtNode group.now u.0 store.now }
-    ensures { IsTrue result ↔ (IsDecided store.now.now (attr_of_node store.now.parts group.now 0 u.0) × IsBrokenAt store.now.parts group.now table.now store.now.now u.0) }
+    ensures { IsTrue result
+        ↔ (IsDecided store.now.now (attr_of_node store.now.parts group.now 0 u.0) × IsBrokenAt store.now.parts group.now table.now store.now.now u.0) }
 {
     is_own_decided(store, group, u) && is_broken_at(store, group, table, u)
 }

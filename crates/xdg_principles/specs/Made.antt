@@ -31,7 +31,8 @@ HasDims statements table = dim_texts table.dims ≡ texts (dim_names statements)
 
 -- the place of the feature or the attribute that the argument names, by default or in the text
 abbrev pub IsMember : Setting → Parameter → Sort → Which → ℕ → Type 0
-IsMember setting parameter sort which k = (called : Called) × ((called_in setting parameter ≡ Some called) × (member_place setting sort which called.text ≡ Some k))
+IsMember setting parameter sort which k =
+    (called : Called) × ((called_in setting parameter ≡ Some called) × (member_place setting sort which called.text ≡ Some k))
 
 -- the places of these constants among labels
 abbrev pub AreLabels : List (List ℕ) → List Name → List ℕ → Type 0
@@ -121,7 +122,8 @@ abbrev pub places : Setting → List ℕ
 places setting = map (λ which. or_zero (dim_place setting which)) (dims_in setting.form.dims)
 
 abbrev pub built_with : List DimType → Use → Option Form → PrincipleUse
-built_with dims one None = record { principle = one.name.text; home = or_zero (place_of (dim_texts dims) one.within.text); dims = []; args = []; at = one.name.span.start }
+built_with dims one None =
+    record { principle = one.name.text; home = or_zero (place_of (dim_texts dims) one.within.text); dims = []; args = []; at = one.name.span.start }
 built_with dims one (Some form) =
     record {
       principle = one.name.text;

@@ -230,7 +230,8 @@ impl<'a> SettingRef<'a> {
     /// The type of the feature or the attribute that is given.
     fn type_given(&self, sort: Sort, which: Which, parameter: Parameter) -> Option<&'a Ty>
         requires { IsReady self.now }
-        ensures { option_map (λ ty. shape ty.now) result ≡ spec.type_called (as_setting self.now) sort which (spec.constant_in (as_setting self.now) parameter) }
+        ensures { option_map (λ ty. shape ty.now) result
+            ≡ spec.type_called (as_setting self.now) sort which (spec.constant_in (as_setting self.now) parameter) }
     {
         match self.constant(parameter) {
             None => None,

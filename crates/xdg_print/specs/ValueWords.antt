@@ -7,7 +7,8 @@ use Rattle.xdg_ast.specs.declared.token.Kind.TheVariants as k
 use Rattle.xdg_ast.specs.Words.{Word, mark, number, constant}
 use Rattle.xdg_ast.specs.Trees.{in_braces, in_square_brackets}
 use Rattle.xdg_domain.specs.Cards.{cards}
-use Rattle.xdg_domain.specs.Shapes.{Shape, domain, tuple, truth, integer, text, set, iset, card, valency, mapping, fields, Fields, no_field, field_then, constants_of, sizes}
+use Rattle.xdg_domain.specs.Shapes.{Shape, domain, tuple, truth, integer, text, set, iset, card, valency, mapping, fields, Fields, no_field, field_then}
+use Rattle.xdg_domain.specs.Shapes.{constants_of, sizes}
 use Rattle.xdg_domain.specs.Tuples.{places}
 use Rattle.xdg_domain.specs.declared.values.Value.{Value, out-Value}
 use Rattle.xdg_domain.specs.declared.values.Value.TheOpen.{Value-F}
@@ -77,7 +78,8 @@ abbrev mutual
   words_in (iset s) (Value-F.Set ns) = members_words s ns
   words_in card (Value-F.Card ns) = card_words ns
   words_in (valency key) (Value-F.Valency m) = in_braces (flat_map (counted_words key) m)
-  words_in (mapping key u) (Value-F.Map m) = in_braces (flat_map (λ entry. keyed_words (is_default u (out-Value entry.1)) key entry.0 (words_in u (out-Value entry.1))) m)
+  words_in (mapping key u) (Value-F.Map m) =
+      in_braces (flat_map (λ entry. keyed_words (is_default u (out-Value entry.1)) key entry.0 (words_in u (out-Value entry.1))) m)
   words_in (fields fs) (Value-F.Rec m) = in_braces (flat_map (λ entry. field_words fs entry.0 entry.1) m)
   words_in _ _ = []
 

@@ -29,7 +29,10 @@ pub record IsPlace (parts : Parts) (e : Edge) : Type 0 where
 
 -- one edge is decided before another: by dimension, mother, label and daughter
 abbrev pub Before : Edge → Edge → Type 0
-Before a b = (a.dim.0 < b.dim.0) ⊎ ((a.dim.0 ≡ b.dim.0) × ((a.mother.0 < b.mother.0) ⊎ ((a.mother.0 ≡ b.mother.0) × ((a.label.0 < b.label.0) ⊎ ((a.label.0 ≡ b.label.0) × (a.daughter.0 < b.daughter.0))))))
+Before a b =
+    (a.dim.0 < b.dim.0)
+    ⊎ ((a.dim.0 ≡ b.dim.0)
+    × ((a.mother.0 < b.mother.0) ⊎ ((a.mother.0 ≡ b.mother.0) × ((a.label.0 < b.label.0) ⊎ ((a.label.0 ≡ b.label.0) × (a.daughter.0 < b.daughter.0))))))
 
 -- each edge is decided before the next, so none stands twice
 abbrev pub EdgesRise : List Edge → Type 0

@@ -7,7 +7,8 @@ use Rattle.xdg_problem.specs.declared.parts.Group.{Group}
 use Rattle.xdg_problem.specs.declared.parts.Parts.{Parts}
 use Rattle.xdg_problem.specs.declared.parts.Principle.{Principle}
 use Rattle.xdg_problem.specs.declared.parts.Principle.TheVariants as principles
-use Rattle.xdg_problem.specs.Paths.{edges_on, edges_into, edges_out_of, edges_joining, mothers, IsDaughter, IsDaughterBy, IsDaughterByAny, IsEnteredByAny, AreSistersByAny, Above, AboveByFirst, AboveByLast}
+use Rattle.xdg_problem.specs.Paths.{edges_on, edges_into, edges_out_of, edges_joining, mothers, IsDaughter, IsDaughterBy, IsDaughterByAny, IsEnteredByAny}
+use Rattle.xdg_problem.specs.Paths.{AreSistersByAny, Above, AboveByFirst, AboveByLast}
 use Rattle.xdg_problem.specs.Features.{in_row, out_row, set_row, map_row}
 use Rattle.xdg_problem.specs.Arguments.{first_dim, second_dim, attr_of, order_of, truth_of, attr_place}
 use Rattle.xdg_problem.specs.Vectors.{entries_at}
@@ -32,7 +33,8 @@ IsBetween u v w = ((u < w) × (w < v)) ⊎ ((v < w) × (w < u))
 -- x stands in an item of u that has a label: u itself has its own label, each daughter that of its edge, and where
 -- daughters take their yields along, each node below a daughter stands in the daughter's item
 abbrev pub IsInItem : List Edge → Type 0 → ℕ → ℕ → ℕ → ℕ → Type 0
-IsInItem edges yields own u label x = ((label ≡ own) × (x ≡ u)) ⊎ (IsDaughterBy edges u label x ⊎ (yields × ((v : ℕ) × IsDaughterBy edges u label v × Above edges v x)))
+IsInItem edges yields own u label x =
+    ((label ≡ own) × (x ≡ u)) ⊎ (IsDaughterBy edges u label x ⊎ (yields × ((v : ℕ) × IsDaughterBy edges u label v × Above edges v x)))
 
 -- what linking asks of a daughter v of u on the first dimension, by edges of the second, with one of some labels
 abbrev pub IsLinked : Principle → List Edge → ℕ → List ℕ → ℕ → Type 0
@@ -68,25 +70,45 @@ AsksOf conditions.Mothers group candidate values edges tuple = mothers (edges_on
 -- at most one edge joins u to v, so at most one label does
 AsksOf conditions.Pair group candidate values edges tuple = edges_joining (edges_on (first_dim group) edges) (first tuple) (second tuple) ≤ 1
 -- the number of edges with label l into v is one that In has for v at l
-AsksOf conditions.InCount group candidate values edges tuple = Contains (in_row group (first tuple) candidate (second tuple)) (edges_into (edges_on (first_dim group) edges) (first tuple) (second tuple))
+AsksOf conditions.InCount group candidate values edges tuple =
+    Contains (in_row group (first tuple) candidate (second tuple)) (edges_into (edges_on (first_dim group) edges) (first tuple) (second tuple))
 -- the number of edges with label l out of v is one that Out has for v at l
-AsksOf conditions.OutCount group candidate values edges tuple = Contains (out_row group (first tuple) candidate (second tuple)) (edges_out_of (edges_on (first_dim group) edges) (first tuple) (second tuple))
+AsksOf conditions.OutCount group candidate values edges tuple =
+    Contains (out_row group (first tuple) candidate (second tuple)) (edges_out_of (edges_on (first_dim group) edges) (first tuple) (second tuple))
 -- for each two labels in the order: where x stands in an item of u with the earlier and y in one with the later, x stands to the left of y
-AsksOf conditions.Order group candidate values edges tuple = AllPairs (λ earlier later. IsInItem (edges_on (first_dim group) edges) (truth_of group.truths 0 ≡ true) (slice_index values 0) (first tuple) earlier (second tuple) → IsInItem (edges_on (first_dim group) edges) (truth_of group.truths 0 ≡ true) (slice_index values 0) (first tuple) later (third tuple) → second tuple < third tuple) (order_of group)
+AsksOf conditions.Order group candidate values edges tuple =
+    AllPairs
+    (λ earlier later. IsInItem (edges_on (first_dim group) edges) (truth_of group.truths 0 ≡ true) (slice_index values 0) (first tuple) earlier
+    (second tuple)
+    → IsInItem (edges_on (first_dim group) edges) (truth_of group.truths 0 ≡ true) (slice_index values 0) (first tuple) later (third tuple)
+    → second tuple < third tuple)
+    (order_of group)
 -- where v is a daughter of u, and w stands between them, u is above w
-AsksOf conditions.Between group candidate values edges tuple = IsDaughter (edges_on (first_dim group) edges) (first tuple) (second tuple) → IsBetween (first tuple) (second tuple) (third tuple) → Above (edges_on (first_dim group) edges) (first tuple) (third tuple)
+AsksOf conditions.Between group candidate values edges tuple =
+    IsDaughter (edges_on (first_dim group) edges) (first tuple) (second tuple) → IsBetween (first tuple) (second tuple) (third tuple)
+    → Above (edges_on (first_dim group) edges) (first tuple) (third tuple)
 -- the value of v's Agr is in v's Agrs
 AsksOf conditions.Agr group candidate values edges tuple = Contains (set_row group (first tuple) candidate) (slice_index values 0)
 -- where u -l-> v and l is in u's Agree, the value of u's Agr1 is that of v's Agr2
-AsksOf conditions.Agree group candidate values edges tuple = IsDaughterBy (edges_on (first_dim group) edges) (first tuple) (second tuple) (third tuple) → Contains (set_row group (first tuple) candidate) (second tuple) → slice_index values 0 ≡ slice_index values 1
+AsksOf conditions.Agree group candidate values edges tuple =
+    IsDaughterBy (edges_on (first_dim group) edges) (first tuple) (second tuple) (third tuple) → Contains (set_row group (first tuple) candidate) (second tuple)
+    → slice_index values 0 ≡ slice_index values 1
 -- where u -l-> v and u's Govern at l isn't empty, the value of v's Agr is in it
-AsksOf conditions.Govern group candidate values edges tuple = IsDaughterBy (edges_on (first_dim group) edges) (first tuple) (second tuple) (third tuple) → 0 < length (map_row group (first tuple) candidate (second tuple)) → Contains (map_row group (first tuple) candidate (second tuple)) (slice_index values 0)
+AsksOf conditions.Govern group candidate values edges tuple =
+    IsDaughterBy (edges_on (first_dim group) edges) (first tuple) (second tuple) (third tuple)
+    → 0 < length (map_row group (first tuple) candidate (second tuple))
+    → Contains (map_row group (first tuple) candidate (second tuple)) (slice_index values 0)
 -- where u is above v on the first dimension, it is on the second
-AsksOf conditions.Below group candidate values edges tuple = Above (edges_on (first_dim group) edges) (first tuple) (second tuple) → Above (edges_on (second_dim group) edges) (first tuple) (second tuple)
+AsksOf conditions.Below group candidate values edges tuple =
+    Above (edges_on (first_dim group) edges) (first tuple) (second tuple) → Above (edges_on (second_dim group) edges) (first tuple) (second tuple)
 -- where a path on the second dimension leads from w to v and its last label is in w's Blocks, w is above v on the first
-AsksOf conditions.Blocked group candidate values edges tuple = AboveByLast (edges_on (second_dim group) edges) (first tuple) (set_row group (first tuple) candidate) (second tuple) → Above (edges_on (first_dim group) edges) (first tuple) (second tuple)
+AsksOf conditions.Blocked group candidate values edges tuple =
+    AboveByLast (edges_on (second_dim group) edges) (first tuple) (set_row group (first tuple) candidate) (second tuple)
+    → Above (edges_on (first_dim group) edges) (first tuple) (second tuple)
 -- where u -l-> v on the first dimension, v is linked to u by edges of the second as the principle says
-AsksOf conditions.Link group candidate values edges tuple = IsDaughterBy (edges_on (first_dim group) edges) (first tuple) (second tuple) (third tuple) → AsksLink group.principle group candidate (edges_on (second_dim group) edges) (first tuple) (second tuple) (third tuple)
+AsksOf conditions.Link group candidate values edges tuple =
+    IsDaughterBy (edges_on (first_dim group) edges) (first tuple) (second tuple) (third tuple)
+    → AsksLink group.principle group candidate (edges_on (second_dim group) edges) (first tuple) (second tuple) (third tuple)
 -- a rule and a bound ask nothing of what is read here, but of all decisions
 AsksOf conditions.Rule group candidate values edges tuple = Unit {0}
 AsksOf conditions.Bound group candidate values edges tuple = Unit {0}
@@ -104,7 +126,8 @@ AsksWhole principle parts candidates attrs edges = Unit {0}
 abbrev pub attr_places : Condition → Parts → Group → List ℕ → List ℕ
 attr_places conditions.Order parts group tuple = attr_place parts (first_dim group) (first tuple) (attr_of group 0) ∷ []
 attr_places conditions.Agr parts group tuple = attr_place parts (first_dim group) (first tuple) (attr_of group 0) ∷ []
-attr_places conditions.Agree parts group tuple = attr_place parts (first_dim group) (first tuple) (attr_of group 0) ∷ attr_place parts (first_dim group) (third tuple) (attr_of group 1) ∷ []
+attr_places conditions.Agree parts group tuple =
+    attr_place parts (first_dim group) (first tuple) (attr_of group 0) ∷ attr_place parts (first_dim group) (third tuple) (attr_of group 1) ∷ []
 attr_places conditions.Govern parts group tuple = attr_place parts (first_dim group) (third tuple) (attr_of group 0) ∷ []
 attr_places condition parts group tuple = []
 
@@ -113,4 +136,5 @@ attr_places condition parts group tuple = []
 abbrev pub Asks : Condition → Parts → Group → List ℕ → List ℕ → List Edge → List ℕ → Type 0
 Asks conditions.Rule parts group candidates attrs edges tuple = AsksWhole group.principle parts candidates attrs edges
 Asks conditions.Bound parts group candidates attrs edges tuple = AsksWhole group.principle parts candidates attrs edges
-Asks condition parts group candidates attrs edges tuple = AsksOf condition group (slice_index candidates (first tuple)) (map (slice_index attrs) (attr_places condition parts group tuple)) edges tuple
+Asks condition parts group candidates attrs edges tuple =
+    AsksOf condition group (slice_index candidates (first tuple)) (map (slice_index attrs) (attr_places condition parts group tuple)) edges tuple

@@ -16,7 +16,8 @@ abbrev pub conditions_for : Principle → List Bool → List Condition
 conditions_for principles.Graph truths = []
 conditions_for principles.Entries truths = []
 conditions_for principles.Tree truths = conditions.Cycle ∷ conditions.Roots ∷ conditions.Mothers ∷ []
-conditions_for principles.Dag truths = conditions.Cycle ∷ (cond (truth_of truths 0) (conditions.Roots ∷ []) [] ++ cond (truth_of truths 1) (conditions.Pair ∷ []) [])
+conditions_for principles.Dag truths =
+    conditions.Cycle ∷ (cond (truth_of truths 0) (conditions.Roots ∷ []) [] ++ cond (truth_of truths 1) (conditions.Pair ∷ []) [])
 conditions_for principles.Valency truths = conditions.InCount ∷ conditions.OutCount ∷ []
 conditions_for principles.Order truths = conditions.Order ∷ []
 conditions_for principles.Projectivity truths = conditions.Between ∷ []

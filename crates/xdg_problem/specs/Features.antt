@@ -8,7 +8,8 @@ no_feature = record { rows = [] }
 
 -- the row of a feature argument at a label, for a candidate of a node; a set has its one row at 0
 abbrev pub row : Group → ℕ → ℕ → ℕ → ℕ → List ℕ
-row group node candidate argument label = slice_index_or (slice_index_or (slice_index_or (slice_index_or group.feats node []) candidate []) argument no_feature).rows label []
+row group node candidate argument label =
+    slice_index_or (slice_index_or (slice_index_or (slice_index_or group.feats node []) candidate []) argument no_feature).rows label []
 
 -- the numbers of edges with a label that may enter a node: the first argument of valency
 abbrev pub in_row : Group → ℕ → ℕ → ℕ → List ℕ

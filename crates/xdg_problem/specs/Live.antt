@@ -36,7 +36,9 @@ pub record Stands (parts : Parts) (group : Group) (test : Test) (prefix : List �
 
 -- the test holds of the decisions in the prefix
 abbrev pub Holds : Parts → Group → Test → List ℕ → Type 0
-Holds parts group test prefix = Passes (nodes parts) group test (entry_in (entry_node test) prefix) (map (attr_in parts prefix) (test_attrs parts group test)) (filter (looks_at group test) (edges_in parts prefix))
+Holds parts group test prefix =
+    Passes (nodes parts) group test (entry_in (entry_node test) prefix) (map (attr_in parts prefix) (test_attrs parts group test))
+    (filter (looks_at group test) (edges_in parts prefix))
 
 -- a prefix is live for a principle use
 pub record IsLiveFor (parts : Parts) (group : Group) (prefix : List ℕ) : Type 0 where

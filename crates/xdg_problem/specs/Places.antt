@@ -15,7 +15,8 @@ abbrev pub below : ℕ → List ℕ
 below n = numbers_from 0 n
 
 abbrev pub edge : ℕ → ℕ → ℕ → ℕ → Edge
-edge dim mother label daughter = record { dim = record { 0 = dim }; mother = record { 0 = mother }; label = record { 0 = label }; daughter = record { 0 = daughter } }
+edge dim mother label daughter =
+    record { dim = record { 0 = dim }; mother = record { 0 = mother }; label = record { 0 = label }; daughter = record { 0 = daughter } }
 
 -- two edges are the same where all their numbers are
 abbrev pub same_edge : Edge → Edge → Bool

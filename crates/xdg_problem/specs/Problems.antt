@@ -107,16 +107,23 @@ AreFeatures principles.Agr parts group features = (length features ≡ 1) × All
 -- Agree, a set of labels
 AreFeatures principles.Agreement parts group features = (length features ≡ 1) × All (AreSets 1 (label_count parts (first_dim group))) features
 -- Govern, for each label a set of values of Agr
-AreFeatures principles.Government parts group features = (length features ≡ 1) × All (AreSets (label_count parts (first_dim group)) (value_count parts (first_dim group) (attr_of group 0))) features
+AreFeatures principles.Government parts group features =
+    (length features ≡ 1) × All (AreSets (label_count parts (first_dim group)) (value_count parts (first_dim group) (attr_of group 0))) features
 -- Blocks, a set of labels of the second dimension
 AreFeatures principles.Barriers parts group features = (length features ≡ 1) × All (AreSets 1 (label_count parts (second_dim group))) features
 -- Link, for each label of the first dimension a set of labels of the second
-AreFeatures principles.LinkingEnd parts group features = (length features ≡ 1) × All (AreSets (label_count parts (first_dim group)) (label_count parts (second_dim group))) features
-AreFeatures principles.LinkingDaughter parts group features = (length features ≡ 1) × All (AreSets (label_count parts (first_dim group)) (label_count parts (second_dim group))) features
-AreFeatures principles.LinkingMother parts group features = (length features ≡ 1) × All (AreSets (label_count parts (first_dim group)) (label_count parts (second_dim group))) features
-AreFeatures principles.LinkingBelowStart parts group features = (length features ≡ 1) × All (AreSets (label_count parts (first_dim group)) (label_count parts (second_dim group))) features
-AreFeatures principles.LinkingAboveStart parts group features = (length features ≡ 1) × All (AreSets (label_count parts (first_dim group)) (label_count parts (second_dim group))) features
-AreFeatures principles.LinkingSisters parts group features = (length features ≡ 1) × All (AreSets (label_count parts (first_dim group)) (label_count parts (second_dim group))) features
+AreFeatures principles.LinkingEnd parts group features =
+    (length features ≡ 1) × All (AreSets (label_count parts (first_dim group)) (label_count parts (second_dim group))) features
+AreFeatures principles.LinkingDaughter parts group features =
+    (length features ≡ 1) × All (AreSets (label_count parts (first_dim group)) (label_count parts (second_dim group))) features
+AreFeatures principles.LinkingMother parts group features =
+    (length features ≡ 1) × All (AreSets (label_count parts (first_dim group)) (label_count parts (second_dim group))) features
+AreFeatures principles.LinkingBelowStart parts group features =
+    (length features ≡ 1) × All (AreSets (label_count parts (first_dim group)) (label_count parts (second_dim group))) features
+AreFeatures principles.LinkingAboveStart parts group features =
+    (length features ≡ 1) × All (AreSets (label_count parts (first_dim group)) (label_count parts (second_dim group))) features
+AreFeatures principles.LinkingSisters parts group features =
+    (length features ≡ 1) × All (AreSets (label_count parts (first_dim group)) (label_count parts (second_dim group))) features
 -- Link, a set of labels of the first dimension
 AreFeatures principles.LinkingNotDaughter parts group features = (length features ≡ 1) × All (AreSets 1 (label_count parts (first_dim group))) features
 -- the other principles take none

@@ -12,7 +12,8 @@ use Rattle.xdg_problem.specs.Asking.{Asks, AsksWhole}
 
 -- a condition holds: what it asks holds of each tuple in its range
 abbrev pub IsKept : Parts → Group → List ℕ → List ℕ → List Edge → Condition → Type 0
-IsKept parts group candidates attrs edges condition = (tuple : List ℕ) → IsTuple condition parts group edges tuple → Asks condition parts group candidates attrs edges tuple
+IsKept parts group candidates attrs edges condition =
+    (tuple : List ℕ) → IsTuple condition parts group edges tuple → Asks condition parts group candidates attrs edges tuple
 
 -- an analysis satisfies one use of a principle: each of its conditions holds
 abbrev pub Relation : Parts → Group → Analysis → Type 0
@@ -33,6 +34,8 @@ pub record IsFirstBroken (parts : Parts) (group : Group) (analysis : Analysis) (
   pub place : ℕ
   pub within : place < length (conditions_of group)
   pub is : slice_index_or (conditions_of group) place condition ≡ condition
-  pub before : (earlier : ℕ) → earlier < place → IsKept parts group (entry_places parts.candidates analysis.entries) analysis.attrs analysis.edges (slice_index_or (conditions_of group) earlier condition)
+  pub before : (earlier : ℕ) → earlier < place
+      → IsKept parts group (entry_places parts.candidates analysis.entries) analysis.attrs analysis.edges
+      (slice_index_or (conditions_of group) earlier condition)
   pub breaks : Breaks parts group analysis condition tuple
   pub least : (other : List ℕ) → Breaks parts group analysis condition other → AtMost tuple other

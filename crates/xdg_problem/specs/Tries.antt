@@ -63,7 +63,9 @@ abbrev valued : List AttrPlan → DimPlan
 valued attrs = record { name = 98 ∷ []; labels = []; attrs = attrs; graph = false }
 
 abbrev with_attrs : Parts
-with_attrs = record { words = word ∷ word ∷ []; candidates = (entry 3 ∷ []) ∷ (entry 5 ∷ []) ∷ []; dims = valued (attr ∷ []) ∷ valued (attr ∷ attr ∷ []) ∷ []; groups = [] }
+with_attrs =
+    record
+    { words = word ∷ word ∷ []; candidates = (entry 3 ∷ []) ∷ (entry 5 ∷ []) ∷ []; dims = valued (attr ∷ []) ∷ valued (attr ∷ attr ∷ []) ∷ []; groups = [] }
 
 -- the values stand by dimension, node and attribute
 the_attr_places : attr_place with_attrs 0 1 0 ∷ attr_place with_attrs 1 0 1 ∷ attr_place with_attrs 1 1 0 ∷ [] ≡ 1 ∷ 3 ∷ 4 ∷ []
@@ -77,5 +79,7 @@ what_agr_reads : attr_places conditions.Agr with_attrs second_attr (1 ∷ []) �
 what_agr_reads = refl
 
 -- the test of an edge that agrees looks at that one place
-one_place : looks_at second_attr (agreeing 0 2 1) (edge 1 0 2 1) ∷ looks_at second_attr (agreeing 0 2 1) (edge 0 0 2 1) ∷ looks_at second_attr (agreeing 0 2 1) (edge 1 1 2 0) ∷ [] ≡ true ∷ false ∷ false ∷ []
+one_place : looks_at second_attr (agreeing 0 2 1) (edge 1 0 2 1) ∷ looks_at second_attr (agreeing 0 2 1) (edge 0 0 2 1)
+    ∷ looks_at second_attr (agreeing 0 2 1) (edge 1 1 2 0) ∷ []
+    ≡ true ∷ false ∷ false ∷ []
 one_place = refl

@@ -44,6 +44,8 @@ pub fn branch_laws()
 /// A law, and nothing to run: with rules, or with a bound, a problem stays one with the same analyses in the same order. Its solutions are
 /// those in which each formula is true, or those that cost less than the bound.
 pub fn further_laws()
-    ensures rules { (parts : Parts) (formulas : List Formula) → IsProblem parts → All (Suits parts) formulas → FurtherLaws parts (rules_of parts formulas) (λ analysis. All (FormulaHolds parts analysis) formulas) }
-    ensures bound { (parts : Parts) (costs : CostLists) (bound : ℕ) → IsProblem parts → FurtherLaws parts (bound_of parts costs bound) (λ analysis. cost_of costs analysis < bound) }
+    ensures rules { (parts : Parts) (formulas : List Formula) → IsProblem parts → All (Suits parts) formulas
+        → FurtherLaws parts (rules_of parts formulas) (λ analysis. All (FormulaHolds parts analysis) formulas) }
+    ensures bound { (parts : Parts) (costs : CostLists) (bound : ℕ) → IsProblem parts
+        → FurtherLaws parts (bound_of parts costs bound) (λ analysis. cost_of costs analysis < bound) }
 {}

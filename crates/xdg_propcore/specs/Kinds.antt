@@ -32,7 +32,8 @@ attr_kinds n dim (plan ∷ plans) = flat_map (λ node. map (λ attr. attr_kind d
 
 -- for each decision the kind of its values
 abbrev pub decision_kinds : Parts → List ℕ
-decision_kinds parts = map (λ candidates. entry_kind) parts.candidates ++ (attr_kinds (nodes parts) 0 parts.dims ++ map (λ place. edge_kind place.dim.0) (places parts))
+decision_kinds parts =
+    map (λ candidates. entry_kind) parts.candidates ++ (attr_kinds (nodes parts) 0 parts.dims ++ map (λ place. edge_kind place.dim.0) (places parts))
 
 -- the kind of the values of a decision
 abbrev pub kind_of : Parts → ℕ → ℕ

@@ -65,7 +65,8 @@ pub record Clears (Aim : ℕ → ℕ → Type 0) (p : Progress) (old : State) (q
   pub inside : LiesIn new.now old.now
   pub quiet : IsQuiet q → IsQuiet p × (new.now ≡ old.now)
   pub gone : IsQuiet q → (d v : ℕ) → Aim d v → Has new.now d v → ⊥
-  pub goes : (group : Group) (around : List (List Bool)) → IsGroup old.parts group → LiesIn old.now around → ((d v : ℕ) → Aim d v → Takes old.parts group around d v) → Goes group p old q new
+  pub goes : (group : Group) (around : List (List Bool)) → IsGroup old.parts group → LiesIn old.now around
+      → ((d v : ℕ) → Aim d v → Takes old.parts group around d v) → Goes group p old q new
 
 -- each value of each decision
 abbrev pub EachValue : ℕ → ℕ → Type 0

@@ -20,7 +20,15 @@ abbrev pub first_alone : Feat
 first_alone = record { rows = (0 ∷ []) ∷ [] }
 
 abbrev pub agr_use : Group
-agr_use = record { principle = principles.Agr; dims = record { 0 = 0 } ∷ []; attrs = record { 0 = 0 } ∷ []; order = []; truths = []; feats = ((first_alone ∷ []) ∷ []) ∷ [] }
+agr_use =
+    record {
+      principle = principles.Agr;
+      dims = record { 0 = 0 } ∷ [];
+      attrs = record { 0 = 0 } ∷ [];
+      order = [];
+      truths = [];
+      feats = ((first_alone ∷ []) ∷ []) ∷ [];
+    }
 
 abbrev pub sample : Parts
 sample = record {

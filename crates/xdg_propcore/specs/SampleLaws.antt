@@ -1,9 +1,12 @@
 -- The sample's principle use takes nothing exactly where the second value doesn't remain.
-use Rattle.std.proofs.Common.{◌≡◌, ℕ, zero, suc, ◌<◌, inl, inr, Bool, true, false, List, [], ◌∷◌, Contains, length, refl, ap, ap₂, get_or, ◌⊎◌, sym, arith, subst, lit<}
+use Rattle.std.proofs.Common.{◌≡◌, ℕ, zero, suc, ◌<◌, inl, inr, Bool, true, false, List, [], ◌∷◌, Contains, length, refl, ap, ap₂, get_or, ◌⊎◌, sym, arith}
+use Rattle.std.proofs.Common.{subst, lit<}
 use Rattle.xdg_problem.specs.declared.parts.Parts.{Parts}
 use Rattle.xdg_problem.specs.Boxes.{Has, IsBox, LiesIn}
 use Rattle.xdg_problem.specs.Features.{set_row}
-use Rattle.xdg_problem.specs.Tests.{Test, IsTest, allowed_value, out_count, in_count, one_mother, no_cycle, one_root, one_label, ordered_daughters, ordered_yields, projective, agreeing, governed, climbing, not_blocked, linked_end, linked_daughter, linked_mother, linked_sister, linked_path}
+use Rattle.xdg_problem.specs.Tests.{Test, IsTest, allowed_value, out_count, in_count, one_mother, no_cycle, one_root, one_label, ordered_daughters}
+use Rattle.xdg_problem.specs.Tests.{ordered_yields, projective, agreeing, governed, climbing, not_blocked, linked_end, linked_daughter, linked_mother}
+use Rattle.xdg_problem.specs.Tests.{linked_sister, linked_path}
 use Rattle.xdg_problem.specs.Vectors.{shape}
 use Rattle.xdg_rules.specs.Rules.{IsClosedFor, AgrValues, TestPasses, attr_of_node}
 use Rattle.xdg_propcore.specs.Sample.{sample, agr_use, LacksSecond, IsUse}
@@ -77,9 +80,13 @@ entry_first (suc v) h = cc
 takes_none : (d v node : ℕ) → Has firsts d v → AgrValues sample agr_use firsts d v → ⊥
 takes_none d v node has takes = by takes.node takes.within takes.lacks
   where
-    by : (node : ℕ) → node < 1 → ((d ≡ attr_of_node sample agr_use 0 node) × ((c : ℕ) → Has firsts node c → Contains (set_row agr_use node c) v → ⊥)) ⊎ ((d ≡ node) × ((x : ℕ) → Has firsts (attr_of_node sample agr_use 0 node) x → Contains (set_row agr_use node v) x → ⊥)) → ⊥
+    by : (node : ℕ) → node < 1
+        → ((d ≡ attr_of_node sample agr_use 0 node) × ((c : ℕ) → Has firsts node c → Contains (set_row agr_use node c) v → ⊥))
+        ⊎ ((d ≡ node) × ((x : ℕ) → Has firsts (attr_of_node sample agr_use 0 node) x → Contains (set_row agr_use node v) x → ⊥))
+        → ⊥
     by zero l (inl (is, none)) = none 0 refl (subst (Contains (0 ∷ [])) (sym (value_first v (subst (λ z. Has firsts z v) is has))) has_first)
-    by zero l (inr (is, none)) = none 0 refl (subst (λ z. Contains (set_row agr_use 0 z) 0) (sym (entry_first v (subst (λ z. Has firsts z v) is has))) has_first)
+    by zero l (inr (is, none)) =
+        none 0 refl (subst (λ z. Contains (set_row agr_use 0 z) 0) (sym (entry_first v (subst (λ z. Has firsts z v) is has))) has_first)
     by (suc node) l other = absurd (omega (arith, l))
 
 firsts_closed : IsClosedFor sample agr_use firsts
@@ -101,7 +108,9 @@ closed_lacks box closed has = closed 1 1 has (inr (record { node = 0; within = l
 pub lacks_closed : (parts : Parts) (box : List (List Bool)) → IsBox (shape parts) box → LacksSecond box → IsClosedBy IsUse parts box
 lacks_closed parts box is lacks number mine =
     subst (λ q. IsBox (shape q) box → IsClosedFor q (use_at q number) box) (sym mine.1.0)
-    (λ small. subst (λ n. IsClosedFor sample (use_at sample n) box) (sym mine.1.1) (subst (IsClosedFor sample agr_use) (sym (is_firsts box small lacks)) firsts_closed)) is
+    (λ small. subst (λ n. IsClosedFor sample (use_at sample n) box) (sym mine.1.1)
+    (subst (IsClosedFor sample agr_use) (sym (is_firsts box small lacks)) firsts_closed))
+    is
 
 pub lacks_still : (old new : List (List Bool)) → LiesIn new old → LacksSecond old → LacksSecond new
 lacks_still old new inside lacks has = lacks (inside 1 1 has)

@@ -16,4 +16,5 @@ pub record Sweeps (group : Group) (Done : List (List Bool) → Type 0) (p : Prog
 
 -- in each box inside, the principle use takes those values of a decision that lack what they need
 abbrev pub TakesInside : Parts → Group → List (List Bool) → ℕ → (List (List Bool) → ℕ → Type 0) → Type 0
-TakesInside parts group start d Lacks = (box : List (List Bool)) → IsBox (shape parts) box → LiesIn box start → (v : ℕ) → Lacks box v → Takes parts group box d v
+TakesInside parts group start d Lacks =
+    (box : List (List Bool)) → IsBox (shape parts) box → LiesIn box start → (v : ℕ) → Lacks box v → Takes parts group box d v

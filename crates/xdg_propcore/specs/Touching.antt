@@ -56,5 +56,6 @@ pub record HasAll (t : Touched) : Type 0 where
 -- each node is there that has lost something
 pub record HasTouched (parts : Parts) (dim : ℕ) (old now : List (List Bool)) (t : Touched) : Type 0 where
   pub entries : (node v : ℕ) → node < nodes parts → IsLost old now (entry_decision node) v → has t.entries node ≡ true
-  pub attrs : (node attr v : ℕ) → dim < length parts.dims → node < nodes parts → attr < attr_count parts dim → IsLost old now (attr_decision parts dim node attr) v → has t.attrs node ≡ true
+  pub attrs : (node attr v : ℕ) → dim < length parts.dims → node < nodes parts → attr < attr_count parts dim
+      → IsLost old now (attr_decision parts dim node attr) v → has t.attrs node ≡ true
   pub edges : (e : Edge) (v : ℕ) → IsPlace parts e → e.dim.0 ≡ dim → IsLost old now (edge_decision parts e) v → MarksEdge t e

@@ -78,7 +78,9 @@ pub fn settle<P: Propagator>(store: &mut Store, props: &[P], agenda: &mut Agenda
     ensures settles { Settles result P.stands props.now store.old store.new }
     ensures analyses { KeepsAll result P.stands props.now store.old store.new }
     ensures still { AreStill result P.still props.now store.new }
-    ensures turns { store.new.turns ≤ store.old.turns + (length props.now + (lost_count store.old.now store.new.now + woken_count store.old.parts (map P.kinds props.now) store.old.now store.new.now)) }
+    ensures turns { store.new.turns
+        ≤ store.old.turns
+        + (length props.now + (lost_count store.old.now store.new.now + woken_count store.old.parts (map P.kinds props.now) store.old.now store.new.now)) }
     ensures known { Known store.new }
     ensures agenda { agenda.new ≡ agenda.old }
 {
@@ -111,7 +113,9 @@ pub fn settle_since<P: Propagator>(
     ensures settles { Settles result P.stands props.now store.old store.new }
     ensures analyses { KeepsAll result P.stands props.now store.old store.new }
     ensures still { AreStill result P.still props.now store.new }
-    ensures turns { store.new.turns ≤ store.old.turns + (length props.now + (lost_count store.old.now store.new.now + woken_count store.old.parts (map P.kinds props.now) store.old.now store.new.now)) }
+    ensures turns { store.new.turns
+        ≤ store.old.turns
+        + (length props.now + (lost_count store.old.now store.new.now + woken_count store.old.parts (map P.kinds props.now) store.old.now store.new.now)) }
     ensures known { Known store.new }
     ensures agenda { agenda.new ≡ agenda.old }
 {

@@ -62,7 +62,8 @@ impl Pass {
     pub fn forbid(&mut self, store: &mut Store, edge: Edge)
         requires { IsPlace store.old.parts edge }
         ensures clears { Clears (λ d v. (d ≡ edge_decision store.old.parts edge) × (v ≡ 0)) self.old store.old self.new store.new }
-        ensures goes { (group : Use) → IsGroup store.old.parts group → Takes store.old.parts group store.old.now (edge_decision store.old.parts edge) 0 → Goes group self.old store.old self.new store.new }
+        ensures goes { (group : Use) → IsGroup store.old.parts group → Takes store.old.parts group store.old.now (edge_decision store.old.parts edge) 0
+            → Goes group self.old store.old self.new store.new }
         ensures gone { Has store.new.now (edge_decision store.old.parts edge) 0 → self.new.dead ≡ true }
         ensures parts { store.new.parts ≡ store.old.parts }
         ensures known { Known store.new }
@@ -75,7 +76,8 @@ impl Pass {
     pub fn force(&mut self, store: &mut Store, edge: Edge)
         requires { IsPlace store.old.parts edge }
         ensures clears { Clears (λ d v. (d ≡ edge_decision store.old.parts edge) × (v ≡ 1)) self.old store.old self.new store.new }
-        ensures goes { (group : Use) → IsGroup store.old.parts group → Takes store.old.parts group store.old.now (edge_decision store.old.parts edge) 1 → Goes group self.old store.old self.new store.new }
+        ensures goes { (group : Use) → IsGroup store.old.parts group → Takes store.old.parts group store.old.now (edge_decision store.old.parts edge) 1
+            → Goes group self.old store.old self.new store.new }
         ensures gone { Has store.new.now (edge_decision store.old.parts edge) 1 → self.new.dead ≡ true }
         ensures parts { store.new.parts ≡ store.old.parts }
         ensures known { Known store.new }
@@ -88,7 +90,8 @@ impl Pass {
     pub fn remove_entry(&mut self, store: &mut Store, node: NodeId, place: u16)
         requires { HasCandidate store.old.parts node.0 place }
         ensures clears { Clears (λ d v. (d ≡ entry_decision node.0) × (v ≡ place)) self.old store.old self.new store.new }
-        ensures goes { (group : Use) → IsGroup store.old.parts group → Takes store.old.parts group store.old.now (entry_decision node.0) place → Goes group self.old store.old self.new store.new }
+        ensures goes { (group : Use) → IsGroup store.old.parts group → Takes store.old.parts group store.old.now (entry_decision node.0) place
+            → Goes group self.old store.old self.new store.new }
         ensures gone { Has store.new.now (entry_decision node.0) place → self.new.dead ≡ true }
         ensures parts { store.new.parts ≡ store.old.parts }
         ensures known { Known store.new }
@@ -108,7 +111,9 @@ impl Pass {
     )
         requires { HasValue store.old.parts node.0 dim.0 attr.0 value }
         ensures clears { Clears (λ d v. (d ≡ attr_decision store.old.parts dim.0 node.0 attr.0) × (v ≡ value)) self.old store.old self.new store.new }
-        ensures goes { (group : Use) → IsGroup store.old.parts group → Takes store.old.parts group store.old.now (attr_decision store.old.parts dim.0 node.0 attr.0) value → Goes group self.old store.old self.new store.new }
+        ensures goes { (group : Use) → IsGroup store.old.parts group
+            → Takes store.old.parts group store.old.now (attr_decision store.old.parts dim.0 node.0 attr.0) value
+            → Goes group self.old store.old self.new store.new }
         ensures gone { Has store.new.now (attr_decision store.old.parts dim.0 node.0 attr.0) value → self.new.dead ≡ true }
         ensures parts { store.new.parts ≡ store.old.parts }
         ensures known { Known store.new }
@@ -119,7 +124,8 @@ impl Pass {
 
     /// Keeps that no box inside the box of the store is closed: each of its values is taken.
     pub fn fail(&mut self, store: &Store)
-        ensures goes { (group : Use) → IsGroup store.now.parts group → ((d v : ℕ) → Has store.now.now d v → Takes store.now.parts group store.now.now d v) → Goes group self.old store.now self.new store.now }
+        ensures goes { (group : Use) → IsGroup store.now.parts group → ((d v : ℕ) → Has store.now.now d v → Takes store.now.parts group store.now.now d v)
+            → Goes group self.old store.now self.new store.now }
         ensures clears { Clears EachValue self.old store.now self.new store.now }
         ensures dead { self.new.dead ≡ true }
         ensures known { Known store.now }

@@ -60,9 +60,11 @@ pub trait Propagator: Drop {
     }
 
     /// Where it is still, no rule of its principle takes a value that remains.
-    ghost still_closed: { (p : Self) (parts : Parts) (box : List (List Bool)) → IsProblem parts → IsBox (shape parts) box → still p parts box → IsClosedBy (stands p) parts box };
+    ghost still_closed: { (p : Self) (parts : Parts) (box : List (List Bool)) → IsProblem parts → IsBox (shape parts) box → still p parts box
+        → IsClosedBy (stands p) parts box };
 
     /// Where it is still, it stays so while the box loses values of other kinds.
-    ghost stays_still: { (p : Self) (parts : Parts) (number : ℕ) (old new : List (List Bool)) → IsProblem parts → StandsFor (stands p) parts number → IsBox (shape parts) old → IsBox (shape parts) new → LiesIn new old
+    ghost stays_still: { (p : Self) (parts : Parts) (number : ℕ) (old new : List (List Bool)) → IsProblem parts → StandsFor (stands p) parts number
+        → IsBox (shape parts) old → IsBox (shape parts) new → LiesIn new old
         → LosesOutside parts (kinds p) old new → still p parts old → still p parts new };
 }

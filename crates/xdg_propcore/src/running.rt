@@ -70,7 +70,9 @@ pub(crate) fn run<P: Propagator>(
     ensures extends { Extends store.old store.new }
     ensures settles { Settles result P.stands props.now store.old store.new }
     ensures still { AreStill result P.still props.now store.new }
-    ensures turns { store.new.turns ≤ store.old.turns + (on_count awake.old + (lost_count store.old.now store.new.now + woken_count store.old.parts (map P.kinds props.now) store.old.now store.new.now)) }
+    ensures turns { store.new.turns
+        ≤ store.old.turns
+        + (on_count awake.old + (lost_count store.old.now store.new.now + woken_count store.old.parts (map P.kinds props.now) store.old.now store.new.now)) }
     ensures known { Known store.new }
     ensures length { length awake.new ≡ length awake.old }
     ensures rest_count { length rests.new ≡ length rests.old }

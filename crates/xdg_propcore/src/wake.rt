@@ -38,7 +38,9 @@ impl Flags for Wake {
 
     ghost exact = { ⊤ };
 
-    ghost table = { (codes "ENTRIES", 1) ∷ (codes "ATTRS_0", 2) ∷ (codes "EDGES_0", 4) ∷ (codes "ATTRS_1", 8) ∷ (codes "EDGES_1", 16) ∷ (codes "ATTRS_2", 32) ∷ (codes "EDGES_2", 64) ∷ (codes "ATTRS_3", 128) ∷ (codes "EDGES_3", 256) ∷ (codes "ATTRS_4", 512) ∷ (codes "EDGES_4", 1024) ∷ (codes "ATTRS_5", 2048) ∷ (codes "EDGES_5", 4096) ∷ (codes "ATTRS_6", 8192) ∷ (codes "EDGES_6", 16384) ∷ (codes "ATTRS_7", 32768) ∷ (codes "EDGES_7", 65536) ∷ [] };
+    ghost table = { (codes "ENTRIES", 1) ∷ (codes "ATTRS_0", 2) ∷ (codes "EDGES_0", 4) ∷ (codes "ATTRS_1", 8) ∷ (codes "EDGES_1", 16) ∷ (codes "ATTRS_2", 32)
+        ∷ (codes "EDGES_2", 64) ∷ (codes "ATTRS_3", 128) ∷ (codes "EDGES_3", 256) ∷ (codes "ATTRS_4", 512) ∷ (codes "EDGES_4", 1024) ∷ (codes "ATTRS_5", 2048)
+        ∷ (codes "EDGES_5", 4096) ∷ (codes "ATTRS_6", 8192) ∷ (codes "EDGES_6", 16384) ∷ (codes "ATTRS_7", 32768) ∷ (codes "EDGES_7", 65536) ∷ [] };
 
     ghost set_of = { λ wake. wake.0 };
 

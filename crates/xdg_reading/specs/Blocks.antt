@@ -24,4 +24,6 @@ IsBlock parts bytes a = (number : ℕ) × (1 ≤ number) × (number ≤ 20000000
 
 -- what is read back are exactly the texts of analyses, so an analysis has one spelling a text and a number
 abbrev pub ReadsBack : Type 0
-ReadsBack = (parts : Parts) (bytes : List ℕ) (a : Analysis) → IsProblem parts → IsUtf8 bytes → length bytes < 2 ^ 32 → IsReadBack parts bytes a ↔ (IsAnalysis parts a × IsBlock parts bytes a)
+ReadsBack =
+    (parts : Parts) (bytes : List ℕ) (a : Analysis) → IsProblem parts → IsUtf8 bytes → length bytes < 2 ^ 32
+    → IsReadBack parts bytes a ↔ (IsAnalysis parts a × IsBlock parts bytes a)

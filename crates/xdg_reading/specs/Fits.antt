@@ -67,20 +67,28 @@ pub record Shows (parts : Parts) (t : AnalysisText) (a : Analysis) : Type 0 wher
 
 -- the first line of a word that has an entry of another word
 pub data WordOffends : List (List EntryNo) → List SentenceWord → List EntryNo → ℕ → Type 0 where
-  this_word : (candidates : List EntryNo) (more : List (List EntryNo)) (word : SentenceWord) (words : List SentenceWord) (entry : EntryNo) (entries : List EntryNo) → (Contains candidates entry → ⊥) → WordOffends (candidates ∷ more) (word ∷ words) (entry ∷ entries) word.at
-  later_word : (candidates : List EntryNo) (more : List (List EntryNo)) (word : SentenceWord) (words : List SentenceWord) (entry : EntryNo) (entries : List EntryNo) (at : ℕ) → Contains candidates entry → WordOffends more words entries at → WordOffends (candidates ∷ more) (word ∷ words) (entry ∷ entries) at
+  this_word : (candidates : List EntryNo) (more : List (List EntryNo)) (word : SentenceWord) (words : List SentenceWord) (entry : EntryNo)
+      (entries : List EntryNo)
+      → (Contains candidates entry → ⊥) → WordOffends (candidates ∷ more) (word ∷ words) (entry ∷ entries) word.at
+  later_word : (candidates : List EntryNo) (more : List (List EntryNo)) (word : SentenceWord) (words : List SentenceWord) (entry : EntryNo)
+      (entries : List EntryNo) (at : ℕ)
+      → Contains candidates entry → WordOffends more words entries at → WordOffends (candidates ∷ more) (word ∷ words) (entry ∷ entries) at
 
 -- the first line of an attribute that isn't the next one or has no value of it, one too many, or the line in place of one that is missing
 pub data AttrOffends (behind : ℕ) : List Asked → List AttrLine → ℕ → Type 0 where
   one_more : (line : AttrLine) (lines : List AttrLine) → AttrOffends behind [] (line ∷ lines) line.at
   missing : (asked : Asked) (more : List Asked) → AttrOffends behind (asked ∷ more) [] behind
-  this_attr : (asked : Asked) (more : List Asked) (line : AttrLine) (lines : List AttrLine) → ((value : ℕ) → SaysValue asked line value → ⊥) → AttrOffends behind (asked ∷ more) (line ∷ lines) line.at
-  later_attr : (asked : Asked) (more : List Asked) (line : AttrLine) (lines : List AttrLine) (value at : ℕ) → SaysValue asked line value → AttrOffends behind more lines at → AttrOffends behind (asked ∷ more) (line ∷ lines) at
+  this_attr : (asked : Asked) (more : List Asked) (line : AttrLine) (lines : List AttrLine) → ((value : ℕ) → SaysValue asked line value → ⊥)
+      → AttrOffends behind (asked ∷ more) (line ∷ lines) line.at
+  later_attr : (asked : Asked) (more : List Asked) (line : AttrLine) (lines : List AttrLine) (value at : ℕ) → SaysValue asked line value
+      → AttrOffends behind more lines at → AttrOffends behind (asked ∷ more) (line ∷ lines) at
 
 -- the first line of an edge that says no edge which may stand behind those before
 pub data EdgeOffends (parts : Parts) : Option Edge → List EdgeLine → ℕ → Type 0 where
-  this_edge : (before : Option Edge) (line : EdgeLine) (lines : List EdgeLine) → ((e : Edge) → NextEdge parts before line e → ⊥) → EdgeOffends parts before (line ∷ lines) line.at
-  later_edge : (before : Option Edge) (line : EdgeLine) (lines : List EdgeLine) (e : Edge) (at : ℕ) → NextEdge parts before line e → EdgeOffends parts (Some e) lines at → EdgeOffends parts before (line ∷ lines) at
+  this_edge : (before : Option Edge) (line : EdgeLine) (lines : List EdgeLine) → ((e : Edge) → NextEdge parts before line e → ⊥)
+      → EdgeOffends parts before (line ∷ lines) line.at
+  later_edge : (before : Option Edge) (line : EdgeLine) (lines : List EdgeLine) (e : Edge) (at : ℕ) → NextEdge parts before line e
+      → EdgeOffends parts (Some e) lines at → EdgeOffends parts before (line ∷ lines) at
 
 -- where the line behind the last attribute begins
 abbrev pub behind_attrs : AnalysisText → List EdgeLine → ℕ
@@ -91,7 +99,8 @@ behind_attrs t (line ∷ lines) = line.at
 pub data Offends (parts : Parts) (t : AnalysisText) (at : ℕ) : Type 0 where
   word : WordOffends parts.candidates t.words t.entries at → Offends parts t at
   attr : HasCandidates parts.candidates t.entries → AttrOffends (behind_attrs t t.edges) (slots (nodes parts) parts.dims) t.attrs at → Offends parts t at
-  edge : (values : List ℕ) → HasCandidates parts.candidates t.entries → SayValues (slots (nodes parts) parts.dims) t.attrs values → EdgeOffends parts None t.edges at → Offends parts t at
+  edge : (values : List ℕ) → HasCandidates parts.candidates t.entries → SayValues (slots (nodes parts) parts.dims) t.attrs values
+      → EdgeOffends parts None t.edges at → Offends parts t at
 
 -- the text shows this analysis, or a line offends
 abbrev pub IsAnswer : Parts → AnalysisText → Result Analysis Fault → Type 0

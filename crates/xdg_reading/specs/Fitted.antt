@@ -1,5 +1,6 @@
 -- How the lines of a text are judged one after the other: what they say, or the place of the first that offends.
-use Rattle.std.specs.Prelude.{◌≡◌, ℕ, ◌==◌, ◌<◌, ◌&&◌, ◌||◌, not, nat_lt, Bool, true, false, cond, Option, Some, None, Result, Ok, Err, List, [], ◌∷◌, length, bytes_eq, slice_index_or}
+use Rattle.std.specs.Prelude.{◌≡◌, ℕ, ◌==◌, ◌<◌, ◌&&◌, ◌||◌, not, nat_lt, Bool, true, false, cond, Option, Some, None, Result, Ok, Err, List, [], ◌∷◌, length}
+use Rattle.std.specs.Prelude.{bytes_eq, slice_index_or}
 use Rattle.std.specs.List.{list_any}
 use Rattle.xdg_base.specs.declared.ids.EntryNo.{EntryNo}
 use Rattle.xdg_problem.specs.declared.analysis.Analysis.{Analysis}
@@ -41,7 +42,8 @@ or_at (Some x) at f = f x
 
 -- the number of the value that a line says an attribute has
 unfoldable pub said_value : Asked → AttrLine → Option ℕ
-said_value asked line = cond (bytes_eq line.dim asked.dim && (line.node.0 == asked.node) && bytes_eq line.attr asked.attr.name) (value_number asked.attr.values line.value) None
+said_value asked line =
+    cond (bytes_eq line.dim asked.dim && (line.node.0 == asked.node) && bytes_eq line.attr asked.attr.name) (value_number asked.attr.values line.value) None
 
 -- the values that lines say
 abbrev pub said_values : ℕ → List Asked → List AttrLine → Result (List ℕ) ℕ
@@ -52,7 +54,11 @@ said_values behind (asked ∷ more) (line ∷ lines) = or_at (said_value asked l
 
 -- one edge is decided before another
 unfoldable pub precedes : Edge → Edge → Bool
-precedes a b = nat_lt a.dim.0 b.dim.0 || ((a.dim.0 == b.dim.0) && (nat_lt a.mother.0 b.mother.0 || ((a.mother.0 == b.mother.0) && (nat_lt a.label.0 b.label.0 || ((a.label.0 == b.label.0) && nat_lt a.daughter.0 b.daughter.0)))))
+precedes a b =
+    nat_lt a.dim.0 b.dim.0
+    || ((a.dim.0 == b.dim.0)
+    && (nat_lt a.mother.0 b.mother.0
+    || ((a.mother.0 == b.mother.0) && (nat_lt a.label.0 b.label.0 || ((a.label.0 == b.label.0) && nat_lt a.daughter.0 b.daughter.0)))))
 
 abbrev pub follows : Option Edge → Edge → Bool
 follows None e = true
@@ -68,13 +74,15 @@ may_join parts plan line = plan.graph && nat_lt line.mother.0 (nodes parts) && n
 
 -- the edge that a line says, if it may stand
 unfoldable pub said_edge : Parts → EdgeLine → Option Edge
-said_edge parts line = some_and (dim_number parts.dims line.dim) (λ dim. some_and (label_number (slice_index_or parts.dims dim no_plan).labels line.label) (λ label.
+said_edge parts line =
+    some_and (dim_number parts.dims line.dim) (λ dim. some_and (label_number (slice_index_or parts.dims dim no_plan).labels line.label) (λ label.
     cond (may_join parts (slice_index_or parts.dims dim no_plan) line) (Some (edge dim line.mother.0 label line.daughter.0)) None))
 
 -- the edges that lines say
 abbrev pub said_edges : Parts → Option Edge → List EdgeLine → Result (List Edge) ℕ
 said_edges parts before [] = Ok []
-said_edges parts before (line ∷ lines) = or_at (said_edge parts line) line.at (λ e. cond (follows before e) (lead e (said_edges parts (Some e) lines)) (Err line.at))
+said_edges parts before (line ∷ lines) =
+    or_at (said_edge parts line) line.at (λ e. cond (follows before e) (lead e (said_edges parts (Some e) lines)) (Err line.at))
 
 abbrev pub then : {X Y : Type 0} → Result X ℕ → (X → Result Y ℕ) → Result Y ℕ
 then (Err at) f = Err at

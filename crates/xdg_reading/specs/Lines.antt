@@ -51,18 +51,25 @@ unfoldable pub analysis_at : List ℕ → Option (Line × List ℕ)
 analysis_at bytes = after (number_at 10 1 2000000000000 bytes) (λ number rest. Some (lines.Analysis number, rest))
 
 unfoldable pub counts_at : List ℕ → Option (Line × List ℕ)
-counts_at bytes = after (number_at 32 1 128 bytes) (λ words rest. after (number_at 32 0 4294967295 rest) (λ attrs rest. after (number_at 10 0 4294967295 rest) (λ edges rest. Some (lines.Counts words attrs edges, rest))))
+counts_at bytes =
+    after (number_at 32 1 128 bytes)
+    (λ words rest. after (number_at 32 0 4294967295 rest)
+    (λ attrs rest. after (number_at 10 0 4294967295 rest) (λ edges rest. Some (lines.Counts words attrs edges, rest))))
 
 unfoldable pub word_at : ℕ → List ℕ → Option (Line × List ℕ)
 word_at at bytes = after (node_at 32 bytes) (λ node rest. after (quoted_at 32 rest) (λ text rest. after (ordinal_at 10 4294967295 rest) (λ entry rest.
     Some (lines.Word node (record { text = text; at = at }) (record { 0 = entry }), rest))))
 
 unfoldable pub attr_at : ℕ → List ℕ → Option (Line × List ℕ)
-attr_at at bytes = after (constant_at 32 bytes) (λ dim rest. after (node_at 32 rest) (λ node rest. after (constant_at 32 rest) (λ attr rest. after (value_at rest) (λ value rest.
+attr_at at bytes =
+    after (constant_at 32 bytes)
+    (λ dim rest. after (node_at 32 rest) (λ node rest. after (constant_at 32 rest) (λ attr rest. after (value_at rest) (λ value rest.
     Some (lines.Attr (record { dim = dim; node = node; attr = attr; value = value; at = at }), rest)))))
 
 unfoldable pub edge_at : ℕ → List ℕ → Option (Line × List ℕ)
-edge_at at bytes = after (constant_at 32 bytes) (λ dim rest. after (node_at 32 rest) (λ mother rest. after (constant_at 32 rest) (λ label rest. after (node_at 10 rest) (λ daughter rest.
+edge_at at bytes =
+    after (constant_at 32 bytes)
+    (λ dim rest. after (node_at 32 rest) (λ mother rest. after (constant_at 32 rest) (λ label rest. after (node_at 10 rest) (λ daughter rest.
     Some (lines.Edge (record { dim = dim; mother = mother; label = label; daughter = daughter; at = at }), rest)))))
 
 -- the line that stands there, which begins at a place

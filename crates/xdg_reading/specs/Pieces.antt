@@ -1,6 +1,7 @@
 -- The pieces of a line, and how they are read: a value and the bytes after it, or nothing.
 use denote.Ref.{Bor}
-use Rattle.std.specs.Prelude.{◌≡◌, ℕ, zero, suc, length, ◌+◌, ◌*◌, ◌-◌, ◌==◌, ◌&&◌, min, nat_le, Bool, true, false, cond, not, Option, Some, None, Result, Ok, Err, List, [], ◌∷◌, ◌++◌, codes, decimal, MatchOption, bytes_eq}
+use Rattle.std.specs.Prelude.{◌≡◌, ℕ, zero, suc, length, ◌+◌, ◌*◌, ◌-◌, ◌==◌, ◌&&◌, min, nat_le, Bool, true, false, cond, not, Option, Some, None, Result, Ok}
+use Rattle.std.specs.Prelude.{Err, List, [], ◌∷◌, ◌++◌, codes, decimal, MatchOption, bytes_eq}
 use Rattle.std.specs.Bool.{MatchBool}
 use Rattle.std.specs.List.{list_all}
 use Rattle.xdg_problem.specs.declared.parts.Shown.{Shown}
@@ -61,7 +62,8 @@ value_of digits = value_from 0 digits
 
 -- the number that is written so, within bounds, if one is
 unfoldable pub number_of : ℕ → ℕ → List ℕ → Option ℕ
-number_of least most digits = cond (bytes_eq (decimal (value_of digits)) digits && nat_le least (value_of digits) && nat_le (value_of digits) most) (Some (value_of digits)) None
+number_of least most digits =
+    cond (bytes_eq (decimal (value_of digits)) digits && nat_le least (value_of digits) && nat_le (value_of digits) most) (Some (value_of digits)) None
 
 -- with what stands behind it
 abbrev pub and : {X : Type 0} → Option X → List ℕ → Option (X × List ℕ)
@@ -103,12 +105,14 @@ or_else (Some x) other = Some x
 
 -- a constant in brackets, and whether another follows
 unfoldable pub element_at : List ℕ → Option ((List ℕ × Bool) × List ℕ)
-element_at bytes = or_else (after (constant_at 32 bytes) (λ text rest. Some ((text, true), rest))) (after (constant_at 93 bytes) (λ text rest. Some ((text, false), rest)))
+element_at bytes =
+    or_else (after (constant_at 32 bytes) (λ text rest. Some ((text, true), rest))) (after (constant_at 93 bytes) (λ text rest. Some ((text, false), rest)))
 
 -- at most so many constants with a space between two, up to a closing bracket
 abbrev pub constants_at : ℕ → List ℕ → Option (List (List ℕ) × List ℕ)
 constants_at zero bytes = None
-constants_at (suc most) bytes = after (element_at bytes) (λ element rest. cond element.1 (lead element.0 (constants_at most rest)) (Some (element.0 ∷ [], rest)))
+constants_at (suc most) bytes =
+    after (element_at bytes) (λ element rest. cond element.1 (lead element.0 (constants_at most rest)) (Some (element.0 ∷ [], rest)))
 
 -- constants behind an opening bracket, up to the end of their line
 unfoldable pub tuple_at : List ℕ → Option (Shown × List ℕ)

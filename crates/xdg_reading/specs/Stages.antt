@@ -43,7 +43,8 @@ after_edges _ = None
 
 -- in text 2, behind so many words, the lines come that the counts still ask for
 abbrev pub after_left : ℕ → ℕ → ℕ → ℕ → Line → Option Stage
-after_left read words attrs edges (lines.Word node word entry) = cond (nat_lt 0 words && (node.0 == read)) (Some (stages.Left (node.0 + 1) (words - 1) attrs edges)) None
+after_left read words attrs edges (lines.Word node word entry) =
+    cond (nat_lt 0 words && (node.0 == read)) (Some (stages.Left (node.0 + 1) (words - 1) attrs edges)) None
 after_left read words attrs edges (lines.Attr a) = cond ((words == 0) && nat_lt 0 attrs) (Some (stages.Left read words (attrs - 1) edges)) None
 after_left read words attrs edges (lines.Edge e) = cond ((words == 0) && (attrs == 0) && nat_lt 0 edges) (Some (stages.Left read words attrs (edges - 1))) None
 after_left read words attrs edges lines.End = cond ((words == 0) && (attrs == 0) && (edges == 0)) (Some stages.Ended) None

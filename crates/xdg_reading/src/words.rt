@@ -1,7 +1,8 @@
 //! The words of a line.
 
 ghost use Rattle.std.specs.Prelude.{◌≡◌, ◌<◌, ◌≤◌, ◌-◌, ◌*◌, ◌^◌, length, chars, min, IfOk, IfSome};
-ghost use Rattle.xdg_reading.specs.Pieces.{Reads, value_from, value_of, number_of, number_at, ordinal_at, quoted_at, name_at, quoted_constant_at, constant_at, element_at, constants_at, tuple_at, value_at};
+ghost use Rattle.xdg_reading.specs.Pieces.{Reads, value_from, value_of, number_of, number_at, ordinal_at, quoted_at, name_at, quoted_constant_at, constant_at};
+ghost use Rattle.xdg_reading.specs.Pieces.{element_at, constants_at, tuple_at, value_at};
 
 use crate::cursor::{Cursor, Why};
 use itoa::Buffer;

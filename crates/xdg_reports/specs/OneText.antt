@@ -9,4 +9,6 @@ use Rattle.xdg_reports.specs.VerdictsText.{verdicts_text}
 
 -- whatever verdicts on an analysis are right, what is printed of them is one text
 abbrev pub IsOneText : Parts → List Rule → Type 0
-IsOneText parts rules = (a : Analysis) (one other : List Verdict) → AreVerdicts parts a parts.groups one → AreVerdicts parts a parts.groups other → verdicts_text parts rules one ≡ verdicts_text parts rules other
+IsOneText parts rules =
+    (a : Analysis) (one other : List Verdict) → AreVerdicts parts a parts.groups one → AreVerdicts parts a parts.groups other
+    → verdicts_text parts rules one ≡ verdicts_text parts rules other

@@ -1,5 +1,6 @@
 -- What is printed of verdicts.
-use Rattle.std.specs.Prelude.{ℕ, ◌+◌, ◌-◌, ◌==◌, ◌&&◌, Bool, true, false, cond, List, [], ◌∷◌, ◌++◌, length, nat_lt, slice_get, slice_index_or, Option, None, Some, codes, decimal}
+use Rattle.std.specs.Prelude.{ℕ, ◌+◌, ◌-◌, ◌==◌, ◌&&◌, Bool, true, false, cond, List, [], ◌∷◌, ◌++◌, length, nat_lt, slice_get, slice_index_or, Option, None}
+use Rattle.std.specs.Prelude.{Some, codes, decimal}
 use Rattle.std.specs.List.{flat_map}
 use Rattle.xdg_base.specs.declared.ids.DimId.{DimId}
 use Rattle.xdg_formula.specs.declared.tree.Rule.{Rule}
@@ -108,18 +109,21 @@ name_in (Some rule) = rule.name.text
 -- What stands behind the principle of the use at a place, which counts from 0: its dimensions in their order, and its name where it is a
 -- rule. The rules stand behind so many uses of the grammar's own.
 abbrev pub title_text : Parts → ℕ → List Rule → ℕ → Group → List ℕ
-title_text parts own rules place group = cond (nat_lt place own) (flat_map (dim_text parts) group.dims) (behind (constant (name_in (slice_get rules (place - own)))))
+title_text parts own rules place group =
+    cond (nat_lt place own) (flat_map (dim_text parts) group.dims) (behind (constant (name_in (slice_get rules (place - own)))))
 
 -- the line of the use at a place: its number from 1, its principle, its dimensions or its name, and what is said of it
 unfoldable pub verdict_line : Parts → ℕ → List Rule → ℕ → Group → Verdict → List ℕ
 verdict_line parts own rules place group verdict =
-    decimal (place + 1) ++ (behind (name_of group.principle) ++ (title_text parts own rules place group ++ (said_text (labels_of parts group) verdict ++ codes "\n")))
+    decimal (place + 1)
+    ++ (behind (name_of group.principle) ++ (title_text parts own rules place group ++ (said_text (labels_of parts group) verdict ++ codes "\n")))
 
 -- the lines of uses with their verdicts, from a place on
 abbrev pub verdict_lines : Parts → ℕ → List Rule → ℕ → List Group → List Verdict → List ℕ
 verdict_lines parts own rules place [] said = []
 verdict_lines parts own rules place (group ∷ groups) [] = []
-verdict_lines parts own rules place (group ∷ groups) (verdict ∷ said) = verdict_line parts own rules place group verdict ++ verdict_lines parts own rules (place + 1) groups said
+verdict_lines parts own rules place (group ∷ groups) (verdict ∷ said) =
+    verdict_line parts own rules place group verdict ++ verdict_lines parts own rules (place + 1) groups said
 
 -- no verdict tells of a broken condition
 abbrev pub is_kept : Verdict → Bool

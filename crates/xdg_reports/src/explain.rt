@@ -87,7 +87,8 @@ fn explain_ruled<H: Shelf, K: Sink>(
 ) -> Status
     requires lexicon { IsRightLexicon expanded.now.checked.types expanded.now.entries }
     requires right { AreRight expanded.now.checked.types rules.now }
-    ensures leaves { (files : List ℕ → Option (List ℕ)) → H.files shelf.old ≡ Some files → Leaves (ExplainThen options.now files rules.now (meaning_of expanded.now)) result (K.held out.old) (K.held out.new) }
+    ensures leaves { (files : List ℕ → Option (List ℕ)) → H.files shelf.old ≡ Some files
+        → Leaves (ExplainThen options.now files rules.now (meaning_of expanded.now)) result (K.held out.old) (K.held out.new) }
     ensures read_fault { result ≡ Status.ReadFault → Rose (H.faults shelf.old options.now.analysis) (H.faults shelf.new options.now.analysis) }
     ensures write_fault { result ≡ Status.WriteFault → Rose (K.faults out.old) (K.faults out.new) }
     ensures files { H.files shelf.new ≡ H.files shelf.old }
@@ -116,8 +117,11 @@ fn explain_expanded<H: Shelf, K: Sink>(
     out: &mut K,
 ) -> Status
     requires { IsRightLexicon expanded.now.checked.types expanded.now.entries }
-    ensures leaves { (files : List ℕ → Option (List ℕ)) → H.files shelf.old ≡ Some files → Leaves (RulesThen files options.now.rules (ExplainThen options.now files) (meaning_of expanded.now)) result (K.held out.old) (K.held out.new) }
-    ensures read_fault { result ≡ Status.ReadFault → RoseFor options.now.rules (H.faults shelf.old) (H.faults shelf.new) ⊎ Rose (H.faults shelf.old options.now.analysis) (H.faults shelf.new options.now.analysis) }
+    ensures leaves { (files : List ℕ → Option (List ℕ)) → H.files shelf.old ≡ Some files
+        → Leaves (RulesThen files options.now.rules (ExplainThen options.now files) (meaning_of expanded.now)) result (K.held out.old) (K.held out.new) }
+    ensures read_fault { result ≡ Status.ReadFault
+        → RoseFor options.now.rules (H.faults shelf.old) (H.faults shelf.new)
+        ⊎ Rose (H.faults shelf.old options.now.analysis) (H.faults shelf.new options.now.analysis) }
     ensures write_fault { result ≡ Status.WriteFault → Rose (K.faults out.old) (K.faults out.new) }
     ensures files { H.files shelf.new ≡ H.files shelf.old }
     ensures shelf_lasting { (other : List ℕ) → H.faults shelf.old other ≤ H.faults shelf.new other }
@@ -141,8 +145,12 @@ fn explain_loaded<H: Shelf, K: Sink>(
     out: &mut K,
 ) -> Status
     requires { length loaded.now.text.items ≤ 4194304 }
-    ensures leaves { (files : List ℕ → Option (List ℕ)) → H.files shelf.old ≡ Some files → Leaves (MeaningThen (read_of loaded.now) (RulesThen files options.now.rules (ExplainThen options.now files))) result (K.held out.old) (K.held out.new) }
-    ensures read_fault { result ≡ Status.ReadFault → RoseFor options.now.rules (H.faults shelf.old) (H.faults shelf.new) ⊎ Rose (H.faults shelf.old options.now.analysis) (H.faults shelf.new options.now.analysis) }
+    ensures leaves { (files : List ℕ → Option (List ℕ)) → H.files shelf.old ≡ Some files
+        → Leaves (MeaningThen (read_of loaded.now) (RulesThen files options.now.rules (ExplainThen options.now files))) result (K.held out.old)
+        (K.held out.new) }
+    ensures read_fault { result ≡ Status.ReadFault
+        → RoseFor options.now.rules (H.faults shelf.old) (H.faults shelf.new)
+        ⊎ Rose (H.faults shelf.old options.now.analysis) (H.faults shelf.new options.now.analysis) }
     ensures write_fault { result ≡ Status.WriteFault → Rose (K.faults out.old) (K.faults out.new) }
     ensures files { H.files shelf.new ≡ H.files shelf.old }
     ensures shelf_lasting { (other : List ℕ) → H.faults shelf.old other ≤ H.faults shelf.new other }
@@ -165,8 +173,12 @@ pub fn explain_analysis<H: Shelf, K: Sink>(
     shelf: &mut H,
     out: &mut K,
 ) -> Status
-    ensures leaves { (files : List ℕ → Option (List ℕ)) → H.files shelf.old ≡ Some files → Leaves (ExplainOf options.now files) result (K.held out.old) (K.held out.new) }
-    ensures read_fault { result ≡ Status.ReadFault → Rose (H.faults shelf.old options.now.grammar) (H.faults shelf.new options.now.grammar) ⊎ (RoseFor options.now.rules (H.faults shelf.old) (H.faults shelf.new) ⊎ Rose (H.faults shelf.old options.now.analysis) (H.faults shelf.new options.now.analysis)) }
+    ensures leaves { (files : List ℕ → Option (List ℕ)) → H.files shelf.old ≡ Some files
+        → Leaves (ExplainOf options.now files) result (K.held out.old) (K.held out.new) }
+    ensures read_fault { result ≡ Status.ReadFault
+        → Rose (H.faults shelf.old options.now.grammar) (H.faults shelf.new options.now.grammar)
+        ⊎ (RoseFor options.now.rules (H.faults shelf.old) (H.faults shelf.new)
+        ⊎ Rose (H.faults shelf.old options.now.analysis) (H.faults shelf.new options.now.analysis)) }
     ensures write_fault { result ≡ Status.WriteFault → Rose (K.faults out.old) (K.faults out.new) }
     ensures files { H.files shelf.new ≡ H.files shelf.old }
     ensures shelf_lasting { (other : List ℕ) → H.faults shelf.old other ≤ H.faults shelf.new other }

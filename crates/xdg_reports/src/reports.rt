@@ -96,7 +96,8 @@ pub fn check_grammar<H: Shelf, K: Sink>(
     shelf: &mut H,
     out: &mut K,
 ) -> Status
-    ensures leaves { (files : List ℕ → Option (List ℕ)) → H.files shelf.old ≡ Some files → Leaves (CheckOf name.now files) result (K.held out.old) (K.held out.new) }
+    ensures leaves { (files : List ℕ → Option (List ℕ)) → H.files shelf.old ≡ Some files
+        → Leaves (CheckOf name.now files) result (K.held out.old) (K.held out.new) }
     ensures read_fault { result ≡ Status.ReadFault → Rose (H.faults shelf.old name.now) (H.faults shelf.new name.now) }
     ensures write_fault { result ≡ Status.WriteFault → Rose (K.faults out.old) (K.faults out.new) }
     ensures files { H.files shelf.new ≡ H.files shelf.old }
@@ -119,7 +120,8 @@ pub fn print_lexicon<H: Shelf, K: Sink>(
     shelf: &mut H,
     out: &mut K,
 ) -> Status
-    ensures leaves { (files : List ℕ → Option (List ℕ)) → H.files shelf.old ≡ Some files → Leaves (LexiconOf name.now files) result (K.held out.old) (K.held out.new) }
+    ensures leaves { (files : List ℕ → Option (List ℕ)) → H.files shelf.old ≡ Some files
+        → Leaves (LexiconOf name.now files) result (K.held out.old) (K.held out.new) }
     ensures read_fault { result ≡ Status.ReadFault → Rose (H.faults shelf.old name.now) (H.faults shelf.new name.now) }
     ensures write_fault { result ≡ Status.WriteFault → Rose (K.faults out.old) (K.faults out.new) }
     ensures files { H.files shelf.new ≡ H.files shelf.old }
@@ -142,7 +144,8 @@ pub fn print_grammar<H: Shelf, K: Sink>(
     shelf: &mut H,
     out: &mut K,
 ) -> Status
-    ensures leaves { (files : List ℕ → Option (List ℕ)) → H.files shelf.old ≡ Some files → Leaves (PrintOf name.now files) result (K.held out.old) (K.held out.new) }
+    ensures leaves { (files : List ℕ → Option (List ℕ)) → H.files shelf.old ≡ Some files
+        → Leaves (PrintOf name.now files) result (K.held out.old) (K.held out.new) }
     ensures read_fault { result ≡ Status.ReadFault → Rose (H.faults shelf.old name.now) (H.faults shelf.new name.now) }
     ensures write_fault { result ≡ Status.WriteFault → Rose (K.faults out.old) (K.faults out.new) }
     ensures files { H.files shelf.new ≡ H.files shelf.old }

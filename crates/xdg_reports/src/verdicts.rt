@@ -205,7 +205,8 @@ pub(crate) fn write_last<K: Sink>(kept: bool, sink: &mut K) -> Result<(), Failed
 
 /// Writes what is printed of the verdicts on an analysis: for each principle use a line with its number from 1, its
 /// principle, its dimensions, and `kept`, or `broken` with the condition and its least tuple; of the rules, which are the last uses, the
-/// name in place of dimensions, and no condition; at last `solution`, or `not a solution`. Nodes count from 1, and labels stand by their names. It takes no memory.
+/// name in place of dimensions, and no condition; at last `solution`, or `not a solution`. Nodes count from 1, and labels stand
+/// by their names. It takes no memory.
 /// Whatever verdicts on the analysis are right, the text is the same.
 ///
 /// # Errors

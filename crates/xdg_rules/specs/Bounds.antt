@@ -36,7 +36,8 @@ candidate_cost parts costs node place = entry_cost costs (slice_index_or (slice_
 
 -- the least cost of the entries of a node that remain
 abbrev pub node_cost : Parts → CostLists → List (List Bool) → ℕ → ℕ
-node_cost parts costs box node = or_nothing (least_below (has box (entry_decision node)) (candidate_cost parts costs node) (length (slice_index_or parts.candidates node [])))
+node_cost parts costs box node =
+    or_nothing (least_below (has box (entry_decision node)) (candidate_cost parts costs node) (length (slice_index_or parts.candidates node [])))
 
 -- what an edge costs
 abbrev pub edge_cost : CostLists → Edge → ℕ

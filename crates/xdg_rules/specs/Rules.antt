@@ -1,6 +1,7 @@
 -- Rules on boxes: which values a principle use takes away from a box. What they take stands in no analysis of the box that
 -- satisfies the principle use.
-use Rattle.std.specs.Prelude.{◌≡◌, ◌≢◌, ℕ, suc, ◌+◌, ◌<◌, ◌≤◌, ◌⊎◌, ◌==◌, ◌&&◌, Bool, true, false, not, List, [], ◌∷◌, length, map, filter, Option, Some, None, Contains, All, slice_index_or}
+use Rattle.std.specs.Prelude.{◌≡◌, ◌≢◌, ℕ, suc, ◌+◌, ◌<◌, ◌≤◌, ◌⊎◌, ◌==◌, ◌&&◌, Bool, true, false, not, List, [], ◌∷◌, length, map, filter, Option, Some, None}
+use Rattle.std.specs.Prelude.{Contains, All, slice_index_or}
 use Rattle.xdg_problem.specs.declared.analysis.Edge.{Edge}
 use Rattle.xdg_problem.specs.declared.parts.Group.{Group}
 use Rattle.xdg_problem.specs.declared.parts.Parts.{Parts}
@@ -51,7 +52,10 @@ pub record TestDecided (parts : Parts) (group : Group) (box : List (List Bool)) 
 
 -- what the test asks, of these values
 abbrev pub TestPasses : Parts → Group → List (List Bool) → Test → Type 0
-TestPasses parts group box test = Passes (nodes parts) group test (entry_value box (entry_node test)) (map (λ place. value_in box (length parts.candidates + place)) (test_attrs parts group test)) (filter (λ e. looks_at group test e && has box (edge_decision parts e) 0) (places parts))
+TestPasses parts group box test =
+    Passes (nodes parts) group test (entry_value box (entry_node test))
+    (map (λ place. value_in box (length parts.candidates + place)) (test_attrs parts group test))
+    (filter (λ e. looks_at group test e && has box (edge_decision parts e) 0) (places parts))
 
 -- a test is decided and fails
 pub record FailsTest (parts : Parts) (group : Group) (box : List (List Bool)) : Type 0 where
@@ -88,8 +92,10 @@ pub record ValencyEntry (parts : Parts) (group : Group) (box : List (List Bool))
   pub known : label < label_count parts (first_dim group)
   pub is : d ≡ entry_decision node
   pub none :
-      HasNoneWithin (out_row group node v label) (edges_out_of (must_edges parts box (first_dim group)) node label) (edges_out_of (may_edges parts box (first_dim group)) node label)
-      ⊎ HasNoneWithin (in_row group node v label) (edges_into (must_edges parts box (first_dim group)) node label) (edges_into (may_edges parts box (first_dim group)) node label)
+      HasNoneWithin (out_row group node v label) (edges_out_of (must_edges parts box (first_dim group)) node label)
+      (edges_out_of (may_edges parts box (first_dim group)) node label)
+      ⊎ HasNoneWithin (in_row group node v label) (edges_into (must_edges parts box (first_dim group)) node label)
+      (edges_into (may_edges parts box (first_dim group)) node label)
 
 -- a further edge: as many as the entries of its node allow at most must be
 pub record ValencyFull (parts : Parts) (group : Group) (box : List (List Bool)) (d v : ℕ) : Type 0 where
@@ -98,8 +104,10 @@ pub record ValencyFull (parts : Parts) (group : Group) (box : List (List Bool)) 
   pub says : SaysPresent parts place d v
   pub free : Contains (must_edges parts box (first_dim group)) place → ⊥
   pub full :
-      IsGreatest box place.mother.0 (λ c. out_row group place.mother.0 c place.label.0) (edges_out_of (must_edges parts box (first_dim group)) place.mother.0 place.label.0)
-      ⊎ IsGreatest box place.daughter.0 (λ c. in_row group place.daughter.0 c place.label.0) (edges_into (must_edges parts box (first_dim group)) place.daughter.0 place.label.0)
+      IsGreatest box place.mother.0 (λ c. out_row group place.mother.0 c place.label.0)
+      (edges_out_of (must_edges parts box (first_dim group)) place.mother.0 place.label.0)
+      ⊎ IsGreatest box place.daughter.0 (λ c. in_row group place.daughter.0 c place.label.0)
+      (edges_into (must_edges parts box (first_dim group)) place.daughter.0 place.label.0)
 
 -- the absence of an edge: only as many as the entries of its node want at least may be
 pub record ValencyNeeded (parts : Parts) (group : Group) (box : List (List Bool)) (d v : ℕ) : Type 0 where
@@ -107,8 +115,10 @@ pub record ValencyNeeded (parts : Parts) (group : Group) (box : List (List Bool)
   pub may : Contains (may_edges parts box (first_dim group)) place
   pub says : SaysAbsent parts place d v
   pub needed :
-      IsLeast box place.mother.0 (λ c. out_row group place.mother.0 c place.label.0) (edges_out_of (may_edges parts box (first_dim group)) place.mother.0 place.label.0)
-      ⊎ IsLeast box place.daughter.0 (λ c. in_row group place.daughter.0 c place.label.0) (edges_into (may_edges parts box (first_dim group)) place.daughter.0 place.label.0)
+      IsLeast box place.mother.0 (λ c. out_row group place.mother.0 c place.label.0)
+      (edges_out_of (may_edges parts box (first_dim group)) place.mother.0 place.label.0)
+      ⊎ IsLeast box place.daughter.0 (λ c. in_row group place.daughter.0 c place.label.0)
+      (edges_into (may_edges parts box (first_dim group)) place.daughter.0 place.label.0)
 
 -- ---- tree and dag
 
@@ -188,7 +198,8 @@ pub record AgreementValues (parts : Parts) (group : Group) (box : List (List Boo
   pub is : IsPlaceOn parts (first_dim group) place
   pub asks : AsksAgreement group box place
   pub lacks :
-      (SaysPresent parts place d v × ((x : ℕ) → Has box (attr_of_node parts group 0 place.mother.0) x → Has box (attr_of_node parts group 1 place.daughter.0) x → ⊥))
+      (SaysPresent parts place d v
+      × ((x : ℕ) → Has box (attr_of_node parts group 0 place.mother.0) x → Has box (attr_of_node parts group 1 place.daughter.0) x → ⊥))
       ⊎ (Contains (must_edges parts box (first_dim group)) place
       × (((d ≡ attr_of_node parts group 0 place.mother.0) × (Has box (attr_of_node parts group 1 place.daughter.0) v → ⊥))
       ⊎ ((d ≡ attr_of_node parts group 1 place.daughter.0) × (Has box (attr_of_node parts group 0 place.mother.0) v → ⊥))))
@@ -203,7 +214,9 @@ pub record GovernmentValues (parts : Parts) (group : Group) (box : List (List Bo
   pub is : IsPlaceOn parts (first_dim group) place
   pub governs : Governs group box place
   pub lacks :
-      (SaysPresent parts place d v × EachEntry box place.mother.0 (λ c. (x : ℕ) → Has box (attr_of_node parts group 0 place.daughter.0) x → Contains (map_row group place.mother.0 c place.label.0) x → ⊥))
+      (SaysPresent parts place d v
+      × EachEntry box place.mother.0
+      (λ c. (x : ℕ) → Has box (attr_of_node parts group 0 place.daughter.0) x → Contains (map_row group place.mother.0 c place.label.0) x → ⊥))
       ⊎ (Contains (must_edges parts box (first_dim group)) place
       × (d ≡ attr_of_node parts group 0 place.daughter.0)
       × EachEntry box place.mother.0 (λ c. Contains (map_row group place.mother.0 c place.label.0) v → ⊥))
@@ -286,7 +299,8 @@ pub record LinkingReach (parts : Parts) (group : Group) (box : List (List Bool))
   pub is : IsPlaceOn parts (first_dim group) place
   pub says : SaysPresent parts place d v
   pub links : EachEntry box place.mother.0 (λ c. 0 < length (map_row group place.mother.0 c place.label.0))
-  pub apart : EachEntry box place.mother.0 (λ c. IsLinked group.principle (may_edges parts box (second_dim group)) place.mother.0 (map_row group place.mother.0 c place.label.0) place.daughter.0 → ⊥)
+  pub apart : EachEntry box place.mother.0
+      (λ c. IsLinked group.principle (may_edges parts box (second_dim group)) place.mother.0 (map_row group place.mother.0 c place.label.0) place.daughter.0 → ⊥)
 
 -- two edges from one node to another, of the first dimension and of the second, that each remaining entry keeps apart: either
 -- one where the other must be
@@ -311,7 +325,9 @@ TakesForRoot parts group box d v = RootFound parts group box d v ⊎ (HasNoRoot 
 -- what the rules of a principle take, beside its tests
 abbrev pub TakesBy : Principle → Parts → Group → List (List Bool) → ℕ → ℕ → Type 0
 TakesBy principles.Tree parts group box d v = OneMother parts group box d v ⊎ (TakesForRoot parts group box d v ⊎ NoCycle parts group box d v)
-TakesBy principles.Dag parts group box d v = NoCycle parts group box d v ⊎ (((truth_of group.truths 0 ≡ true) × TakesForRoot parts group box d v) ⊎ ((truth_of group.truths 1 ≡ true) × OneLabel parts group box d v))
+TakesBy principles.Dag parts group box d v =
+    NoCycle parts group box d v
+    ⊎ (((truth_of group.truths 0 ≡ true) × TakesForRoot parts group box d v) ⊎ ((truth_of group.truths 1 ≡ true) × OneLabel parts group box d v))
 TakesBy principles.Valency parts group box d v = ValencyEntry parts group box d v ⊎ (ValencyFull parts group box d v ⊎ ValencyNeeded parts group box d v)
 TakesBy principles.Order parts group box d v = DaughterOrder parts group box d v ⊎ (AboutHead parts group box d v ⊎ OfHead parts group box d v)
 TakesBy principles.Projectivity parts group box d v = ProjectivityReach parts group box d v

@@ -26,12 +26,14 @@ pub record WorthLaws (parts : Parts) (c : Claim) (b : ℕ → ℕ) : Type 0 wher
       (box : List (List Bool)) (value : Bool) → IsWorth parts box c b (Some value) → (analysis : Analysis) → IsAnalysis parts analysis
       → IsIn box (vector parts analysis) → HasTruth value (IsTrueIn parts analysis c b)
   -- and each box that lies in the box has that value
-  pub smaller : (small large : List (List Bool)) → IsBox (shape parts) small → LiesIn small large → (value : Bool) → IsWorth parts large c b (Some value) → IsWorth parts small c b (Some value)
+  pub smaller : (small large : List (List Bool)) → IsBox (shape parts) small → LiesIn small large → (value : Bool) → IsWorth parts large c b (Some value)
+      → IsWorth parts small c b (Some value)
   -- in a box of single values it isn't open
   pub single : (box : List (List Bool)) → IsBox (shape parts) box → IsSingle box → IsWorth parts box c b None → ⊥
   -- it is the truth that their analysis has
   pub alone :
-      (box : List (List Bool)) → IsBox (shape parts) box → IsSingle box → (value : Bool) → HasTruth value (IsTrueIn parts (analysis_of parts (first_numbers box)) c b)
+      (box : List (List Bool)) → IsBox (shape parts) box → IsSingle box → (value : Bool)
+      → HasTruth value (IsTrueIn parts (analysis_of parts (first_numbers box)) c b)
       → IsWorth parts box c b (Some value)
 
 -- two bindings agree on some names

@@ -18,10 +18,13 @@ pub record IsFrontOf (parts : Parts) (ending : Ending) (found : List Analysis) :
 
 -- the search prints one text, with one ending
 abbrev pub IsOneBranched : Form → ℕ → Option ℕ → Parts → Type 0
-IsOneBranched form budget wanted parts = (one other : Ending) (text more : List ℕ) → PrintsBranches one form budget wanted parts text → PrintsBranches other form budget wanted parts more → (one ≡ other) × (text ≡ more)
+IsOneBranched form budget wanted parts =
+    (one other : Ending) (text more : List ℕ) → PrintsBranches one form budget wanted parts text → PrintsBranches other form budget wanted parts more
+    → (one ≡ other) × (text ≡ more)
 
 pub record BranchedLaws (form : Form) (budget : ℕ) (wanted : Option ℕ) (parts : Parts) : Type 0 where
   pub one : IsOneBranched form budget wanted parts
   pub fronts : (ending : Ending) (found : List Analysis) → IsBranched budget wanted parts ending found → IsFrontOf parts ending found
   -- where the budget covers the boxed prefixes of each branch, it isn't spent
-  pub enough : (ending : Ending) (found : List Analysis) → All IsWhole (branch_jobs parts budget wanted) → IsBranched budget wanted parts ending found → ending ≢ endings.Spent
+  pub enough : (ending : Ending) (found : List Analysis) → All IsWhole (branch_jobs parts budget wanted) → IsBranched budget wanted parts ending found
+      → ending ≢ endings.Spent

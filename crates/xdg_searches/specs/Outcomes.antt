@@ -70,7 +70,9 @@ Resumed options rules m analysed = WithRules m rules.rules analysed.parts (Searc
 
 -- the input is a sentence, and its problem with rules is searched
 abbrev pub SentenceThen : ParseOptions → List ℕ → Rules → Meaning → Status → List ℕ → Type 0
-SentenceThen options input rules m = Behind Parts statuses.BadSentence (IsBadSentence m options.segment input) (HasProblem m options.segment input) (λ parts. WithRules m rules.rules parts (Parsed options))
+SentenceThen options input rules m =
+    Behind Parts statuses.BadSentence (IsBadSentence m options.segment input) (HasProblem m options.segment input)
+    (λ parts. WithRules m rules.rules parts (Parsed options))
 
 -- a file has an analysis, and its problem with rules is searched
 abbrev pub ResumeThen : ResumeOptions → Files → Rules → Meaning → Status → List ℕ → Type 0

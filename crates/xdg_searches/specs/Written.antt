@@ -18,4 +18,5 @@ pub record WritesAll (ending : Ending) (form : Form) (budget : ℕ) (wanted : Op
 abbrev pub WritesBranches : Printed → Form → ℕ → Option ℕ → Parts → Option (List ℕ) → Option (List ℕ) → Type 0
 WritesBranches (printed.Ended ending) form budget wanted parts old new = WritesAll ending form budget wanted parts old new
 WritesBranches printed.OutOfMemory form budget wanted parts old new = new ≡ old
-WritesBranches printed.Failed form budget wanted parts old new = (ending : Ending) (text : List ℕ) → PrintsBranches ending form budget wanted parts text → AppendsFront old new text
+WritesBranches printed.Failed form budget wanted parts old new =
+    (ending : Ending) (text : List ℕ) → PrintsBranches ending form budget wanted parts text → AppendsFront old new text

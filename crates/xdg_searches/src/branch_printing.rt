@@ -60,7 +60,8 @@ fn print_found<K: Sink>(
 ) -> Result<(), Failed>
     requires { All (IsAnalysis problem.now) found.now }
     ensures all { OnOk result (Appends (K.held sink.old) (K.held sink.new) (blocks form problem.now 1 found.now ++ last_line ending (length found.now))) }
-    ensures front { OnErr result (AppendsFront (K.held sink.old) (K.held sink.new) (blocks form problem.now 1 found.now ++ last_line ending (length found.now))) }
+    ensures front { OnErr result
+        (AppendsFront (K.held sink.old) (K.held sink.new) (blocks form problem.now 1 found.now ++ last_line ending (length found.now))) }
     ensures cause { OnErr result (Rose (K.faults sink.old) (K.faults sink.new)) }
     ensures lasting { K.faults sink.old ≤ K.faults sink.new }
     ensures quiet { OnOk result (K.faults sink.new ≡ K.faults sink.old) }

@@ -71,7 +71,8 @@ fn parse_ruled<R: Threads + Sync, S: Source, K: Sink>(
     requires lexicon { IsRightLexicon expanded.now.checked.types expanded.now.entries }
     requires right { AreRight expanded.now.checked.types rules.now }
     requires range { CanBranch options.now.budget options.now.first }
-    ensures leaves { (content : List ℕ) → S.left input.old ≡ Some content → Leaves (SentenceThen options.now content rules.now (meaning_of expanded.now)) result (K.held out.old) (K.held out.new) }
+    ensures leaves { (content : List ℕ) → S.left input.old ≡ Some content
+        → Leaves (SentenceThen options.now content rules.now (meaning_of expanded.now)) result (K.held out.old) (K.held out.new) }
     ensures read_fault { result ≡ Status.ReadFault → Rose (S.faults input.old) (S.faults input.new) }
     ensures write_fault { result ≡ Status.WriteFault → Rose (K.faults out.old) (K.faults out.new) }
     ensures input_lasting { S.faults input.old ≤ S.faults input.new }
@@ -103,8 +104,10 @@ fn parse_expanded<R: Threads + Sync, H: Shelf, S: Source, K: Sink>(
 ) -> Status
     requires lexicon { IsRightLexicon expanded.now.checked.types expanded.now.entries }
     requires range { CanBranch options.now.budget options.now.first }
-    ensures leaves { (files : List ℕ → Option (List ℕ)) (content : List ℕ) → H.files shelf.old ≡ Some files → S.left input.old ≡ Some content → Leaves (RulesThen files options.now.rules (SentenceThen options.now content) (meaning_of expanded.now)) result (K.held out.old) (K.held out.new) }
-    ensures read_fault { result ≡ Status.ReadFault → RoseFor options.now.rules (H.faults shelf.old) (H.faults shelf.new) ⊎ Rose (S.faults input.old) (S.faults input.new) }
+    ensures leaves { (files : List ℕ → Option (List ℕ)) (content : List ℕ) → H.files shelf.old ≡ Some files → S.left input.old ≡ Some content
+        → Leaves (RulesThen files options.now.rules (SentenceThen options.now content) (meaning_of expanded.now)) result (K.held out.old) (K.held out.new) }
+    ensures read_fault { result ≡ Status.ReadFault
+        → RoseFor options.now.rules (H.faults shelf.old) (H.faults shelf.new) ⊎ Rose (S.faults input.old) (S.faults input.new) }
     ensures write_fault { result ≡ Status.WriteFault → Rose (K.faults out.old) (K.faults out.new) }
     ensures files { H.files shelf.new ≡ H.files shelf.old }
     ensures shelf_lasting { (other : List ℕ) → H.faults shelf.old other ≤ H.faults shelf.new other }
@@ -135,8 +138,11 @@ fn parse_loaded<R: Threads + Sync, H: Shelf, S: Source, K: Sink>(
 ) -> Status
     requires short { length loaded.now.text.items ≤ 4194304 }
     requires range { CanBranch options.now.budget options.now.first }
-    ensures leaves { (files : List ℕ → Option (List ℕ)) (content : List ℕ) → H.files shelf.old ≡ Some files → S.left input.old ≡ Some content → Leaves (MeaningThen (read_of loaded.now) (RulesThen files options.now.rules (SentenceThen options.now content))) result (K.held out.old) (K.held out.new) }
-    ensures read_fault { result ≡ Status.ReadFault → RoseFor options.now.rules (H.faults shelf.old) (H.faults shelf.new) ⊎ Rose (S.faults input.old) (S.faults input.new) }
+    ensures leaves { (files : List ℕ → Option (List ℕ)) (content : List ℕ) → H.files shelf.old ≡ Some files → S.left input.old ≡ Some content
+        → Leaves (MeaningThen (read_of loaded.now) (RulesThen files options.now.rules (SentenceThen options.now content))) result (K.held out.old)
+        (K.held out.new) }
+    ensures read_fault { result ≡ Status.ReadFault
+        → RoseFor options.now.rules (H.faults shelf.old) (H.faults shelf.new) ⊎ Rose (S.faults input.old) (S.faults input.new) }
     ensures write_fault { result ≡ Status.WriteFault → Rose (K.faults out.old) (K.faults out.new) }
     ensures files { H.files shelf.new ≡ H.files shelf.old }
     ensures shelf_lasting { (other : List ℕ) → H.faults shelf.old other ≤ H.faults shelf.new other }
@@ -167,8 +173,11 @@ pub fn parse_sentence<R: Threads + Sync, H: Shelf, S: Source, K: Sink>(
     out: &mut K,
 ) -> Status
     requires { CanBranch options.now.budget options.now.first }
-    ensures leaves { (files : List ℕ → Option (List ℕ)) (content : List ℕ) → H.files shelf.old ≡ Some files → S.left input.old ≡ Some content → Leaves (ParseOf options.now files content) result (K.held out.old) (K.held out.new) }
-    ensures read_fault { result ≡ Status.ReadFault → Rose (H.faults shelf.old options.now.grammar) (H.faults shelf.new options.now.grammar) ⊎ (RoseFor options.now.rules (H.faults shelf.old) (H.faults shelf.new) ⊎ Rose (S.faults input.old) (S.faults input.new)) }
+    ensures leaves { (files : List ℕ → Option (List ℕ)) (content : List ℕ) → H.files shelf.old ≡ Some files → S.left input.old ≡ Some content
+        → Leaves (ParseOf options.now files content) result (K.held out.old) (K.held out.new) }
+    ensures read_fault { result ≡ Status.ReadFault
+        → Rose (H.faults shelf.old options.now.grammar) (H.faults shelf.new options.now.grammar)
+        ⊎ (RoseFor options.now.rules (H.faults shelf.old) (H.faults shelf.new) ⊎ Rose (S.faults input.old) (S.faults input.new)) }
     ensures write_fault { result ≡ Status.WriteFault → Rose (K.faults out.old) (K.faults out.new) }
     ensures files { H.files shelf.new ≡ H.files shelf.old }
     ensures shelf_lasting { (other : List ℕ) → H.faults shelf.old other ≤ H.faults shelf.new other }

@@ -42,7 +42,8 @@ pub(crate) fn search<K: Sink>(
 ) -> Status
     requires fits { IsStart problem.now (option_copied after) }
     requires some { IsSome first }
-    ensures leaves { Leaves (Searched (form_of text) budget first problem.now (start_vector problem.now (option_copied after.entry))) result (K.held out.old) (K.held out.new) }
+    ensures leaves { Leaves (Searched (form_of text) budget first problem.now (start_vector problem.now (option_copied after.entry))) result (K.held out.old)
+        (K.held out.new) }
     ensures write_fault { result ≡ Status.WriteFault → Rose (K.faults out.old) (K.faults out.new) }
     ensures out_lasting { K.faults out.old ≤ K.faults out.new }
     ensures out_quiet { result ≢ Status.WriteFault → K.faults out.new ≡ K.faults out.old }

@@ -78,7 +78,8 @@ fn resume_ruled<H: Shelf, K: Sink>(
     requires lexicon { IsRightLexicon expanded.now.checked.types expanded.now.entries }
     requires right { AreRight expanded.now.checked.types rules.now }
     requires some { IsSome options.now.first }
-    ensures leaves { (files : List ℕ → Option (List ℕ)) → H.files shelf.old ≡ Some files → Leaves (ResumeThen options.now files rules.now (meaning_of expanded.now)) result (K.held out.old) (K.held out.new) }
+    ensures leaves { (files : List ℕ → Option (List ℕ)) → H.files shelf.old ≡ Some files
+        → Leaves (ResumeThen options.now files rules.now (meaning_of expanded.now)) result (K.held out.old) (K.held out.new) }
     ensures read_fault { result ≡ Status.ReadFault → Rose (H.faults shelf.old options.now.analysis) (H.faults shelf.new options.now.analysis) }
     ensures write_fault { result ≡ Status.WriteFault → Rose (K.faults out.old) (K.faults out.new) }
     ensures files { H.files shelf.new ≡ H.files shelf.old }
@@ -108,8 +109,11 @@ fn resume_expanded<H: Shelf, K: Sink>(
 ) -> Status
     requires lexicon { IsRightLexicon expanded.now.checked.types expanded.now.entries }
     requires some { IsSome options.now.first }
-    ensures leaves { (files : List ℕ → Option (List ℕ)) → H.files shelf.old ≡ Some files → Leaves (RulesThen files options.now.rules (ResumeThen options.now files) (meaning_of expanded.now)) result (K.held out.old) (K.held out.new) }
-    ensures read_fault { result ≡ Status.ReadFault → RoseFor options.now.rules (H.faults shelf.old) (H.faults shelf.new) ⊎ Rose (H.faults shelf.old options.now.analysis) (H.faults shelf.new options.now.analysis) }
+    ensures leaves { (files : List ℕ → Option (List ℕ)) → H.files shelf.old ≡ Some files
+        → Leaves (RulesThen files options.now.rules (ResumeThen options.now files) (meaning_of expanded.now)) result (K.held out.old) (K.held out.new) }
+    ensures read_fault { result ≡ Status.ReadFault
+        → RoseFor options.now.rules (H.faults shelf.old) (H.faults shelf.new)
+        ⊎ Rose (H.faults shelf.old options.now.analysis) (H.faults shelf.new options.now.analysis) }
     ensures write_fault { result ≡ Status.WriteFault → Rose (K.faults out.old) (K.faults out.new) }
     ensures files { H.files shelf.new ≡ H.files shelf.old }
     ensures shelf_lasting { (other : List ℕ) → H.faults shelf.old other ≤ H.faults shelf.new other }
@@ -134,8 +138,12 @@ fn resume_loaded<H: Shelf, K: Sink>(
 ) -> Status
     requires short { length loaded.now.text.items ≤ 4194304 }
     requires some { IsSome options.now.first }
-    ensures leaves { (files : List ℕ → Option (List ℕ)) → H.files shelf.old ≡ Some files → Leaves (MeaningThen (read_of loaded.now) (RulesThen files options.now.rules (ResumeThen options.now files))) result (K.held out.old) (K.held out.new) }
-    ensures read_fault { result ≡ Status.ReadFault → RoseFor options.now.rules (H.faults shelf.old) (H.faults shelf.new) ⊎ Rose (H.faults shelf.old options.now.analysis) (H.faults shelf.new options.now.analysis) }
+    ensures leaves { (files : List ℕ → Option (List ℕ)) → H.files shelf.old ≡ Some files
+        → Leaves (MeaningThen (read_of loaded.now) (RulesThen files options.now.rules (ResumeThen options.now files))) result (K.held out.old)
+        (K.held out.new) }
+    ensures read_fault { result ≡ Status.ReadFault
+        → RoseFor options.now.rules (H.faults shelf.old) (H.faults shelf.new)
+        ⊎ Rose (H.faults shelf.old options.now.analysis) (H.faults shelf.new options.now.analysis) }
     ensures write_fault { result ≡ Status.WriteFault → Rose (K.faults out.old) (K.faults out.new) }
     ensures files { H.files shelf.new ≡ H.files shelf.old }
     ensures shelf_lasting { (other : List ℕ) → H.faults shelf.old other ≤ H.faults shelf.new other }
@@ -160,8 +168,12 @@ pub fn resume_analysis<H: Shelf, K: Sink>(
     out: &mut K,
 ) -> Status
     requires { IsSome options.now.first }
-    ensures leaves { (files : List ℕ → Option (List ℕ)) → H.files shelf.old ≡ Some files → Leaves (ResumeOf options.now files) result (K.held out.old) (K.held out.new) }
-    ensures read_fault { result ≡ Status.ReadFault → Rose (H.faults shelf.old options.now.grammar) (H.faults shelf.new options.now.grammar) ⊎ (RoseFor options.now.rules (H.faults shelf.old) (H.faults shelf.new) ⊎ Rose (H.faults shelf.old options.now.analysis) (H.faults shelf.new options.now.analysis)) }
+    ensures leaves { (files : List ℕ → Option (List ℕ)) → H.files shelf.old ≡ Some files
+        → Leaves (ResumeOf options.now files) result (K.held out.old) (K.held out.new) }
+    ensures read_fault { result ≡ Status.ReadFault
+        → Rose (H.faults shelf.old options.now.grammar) (H.faults shelf.new options.now.grammar)
+        ⊎ (RoseFor options.now.rules (H.faults shelf.old) (H.faults shelf.new)
+        ⊎ Rose (H.faults shelf.old options.now.analysis) (H.faults shelf.new options.now.analysis)) }
     ensures write_fault { result ≡ Status.WriteFault → Rose (K.faults out.old) (K.faults out.new) }
     ensures files { H.files shelf.new ≡ H.files shelf.old }
     ensures shelf_lasting { (other : List ℕ) → H.faults shelf.old other ≤ H.faults shelf.new other }

@@ -68,7 +68,8 @@ fn search_some<R: Threads + Sync>(
     requires order { from ≤ to }
     requires most { to ≤ length (first_candidates problem.now) }
     requires range { CanBranch budget first }
-    ensures { IfOk result (λ more. Continues first found.ending found.found.items (jobs_from problem.now budget first from (to - from)) more.ending more.found.items) }
+    ensures { IfOk result
+        (λ more. Continues first found.ending found.found.items (jobs_from problem.now budget first from (to - from)) more.ending more.found.items) }
 {
     let jobs = branch_jobs(alloc, problem, from, to, budget, first)?;
     found.search_next(rt, alloc, jobs.as_slice(), first)

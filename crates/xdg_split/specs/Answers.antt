@@ -9,4 +9,5 @@ use Rattle.xdg_split.specs.declared.answer.Answer.{Answer}
 -- The answer is what the search of the sentence alone prints, from the beginning and in text 1, and how it ends. It is the only one.
 pub record IsAnswer (job : Asked) (answer : Answer) : Type 0 where
   pub prints : Prints answer.ending forms.One job.budget job.first job.parts [] answer.bytes
-  pub only : (ending : Ending) (text : List ℕ) → Prints ending forms.One job.budget job.first job.parts [] text → (ending ≡ answer.ending) × (text ≡ answer.bytes)
+  pub only : (ending : Ending) (text : List ℕ) → Prints ending forms.One job.budget job.first job.parts [] text
+      → (ending ≡ answer.ending) × (text ≡ answer.bytes)

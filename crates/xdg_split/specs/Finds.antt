@@ -24,4 +24,5 @@ pub record IsCut (wanted : Option ℕ) (ending : Ending) (found : List Analysis)
 
 -- what jobs come to, and later ones behind them, is what all of them come to
 abbrev pub Joins : Option ℕ → Ending → List Analysis → Ending → List Analysis → Ending → List Analysis → Type 0
-Joins wanted e f later more ending found = (jobs others : List Asked) → IsSplit wanted jobs e f → IsSplit wanted others later more → IsSplit wanted (jobs ++ others) ending found
+Joins wanted e f later more ending found =
+    (jobs others : List Asked) → IsSplit wanted jobs e f → IsSplit wanted others later more → IsSplit wanted (jobs ++ others) ending found

@@ -44,4 +44,6 @@ pub record Prints (ending : Ending) (form : Form) (budget : ℕ) (wanted : Optio
 
 -- a search has one text and one ending
 abbrev pub IsOnePrint : Form → ℕ → Option ℕ → Parts → List ℕ → Type 0
-IsOnePrint form budget wanted parts start = (one other : Ending) (text more : List ℕ) → Prints one form budget wanted parts start text → Prints other form budget wanted parts start more → (one ≡ other) × (text ≡ more)
+IsOnePrint form budget wanted parts start =
+    (one other : Ending) (text more : List ℕ) → Prints one form budget wanted parts start text → Prints other form budget wanted parts start more
+    → (one ≡ other) × (text ≡ more)

@@ -20,8 +20,10 @@ pub record AreLists (job : Asked) (counted : List (List ℕ)) (solutions : List 
 -- What a job and those behind it reach. Where the job is whole, so that its budget covers its boxed prefixes: all its solutions, and
 -- what those behind it reach. Else its solutions among as many boxed prefixes as its budget says, and nothing behind them.
 pub data Reaches (job : Asked) (Later : Bool → List Analysis → Type 0) (whole : Bool) (found : List Analysis) : Type 0 where
-  all : (counted : List (List ℕ)) (solutions more : List Analysis) → AreLists job counted solutions → length counted ≤ job.budget → Later whole more → found ≡ solutions ++ more → Reaches job Later whole found
-  some : (counted : List (List ℕ)) (solutions : List Analysis) → AreLists job counted solutions → job.budget < length counted → whole ≡ false → found ≡ take (reach (shape job.parts) job.budget counted) solutions → Reaches job Later whole found
+  all : (counted : List (List ℕ)) (solutions more : List Analysis) → AreLists job counted solutions → length counted ≤ job.budget → Later whole more
+      → found ≡ solutions ++ more → Reaches job Later whole found
+  some : (counted : List (List ℕ)) (solutions : List Analysis) → AreLists job counted solutions → job.budget < length counted → whole ≡ false
+      → found ≡ take (reach (shape job.parts) job.budget counted) solutions → Reaches job Later whole found
 
 -- what jobs reach in their order, and whether all of them are whole
 abbrev pub Reach : List Asked → Bool → List Analysis → Type 0
@@ -70,7 +72,8 @@ pub record HaveOneSplit (jobs : List Asked) : Type 0 where
   pub reached : List Analysis
   pub reach : Reach jobs whole reached
   pub only : (other : Bool) (found : List Analysis) → Reach jobs other found → (other ≡ whole) × (found ≡ reached)
-  pub one : (wanted : Option ℕ) (ending other : Ending) (found more : List Analysis) → IsSplit wanted jobs ending found → IsSplit wanted jobs other more → (ending ≡ other) × (found ≡ more)
+  pub one : (wanted : Option ℕ) (ending other : Ending) (found more : List Analysis) → IsSplit wanted jobs ending found → IsSplit wanted jobs other more
+      → (ending ≡ other) × (found ≡ more)
   pub enough : All IsWhole jobs → whole ≡ true
 
 -- what jobs come to, and others behind them, is what all of them come to

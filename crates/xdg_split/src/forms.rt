@@ -31,8 +31,11 @@ pub(crate) fn write_shown<K: Sink>(
     sink: &mut K,
 ) -> Result<(), Failed>
     requires { IsAnalysis problem.now (record { entries = entries.now; attrs = attrs.now; edges = edges.now }) }
-    ensures all { OnOk result (Appends (K.held sink.old) (K.held sink.new) (shown form problem.now number (record { entries = entries.now; attrs = attrs.now; edges = edges.now }))) }
-    ensures front { OnErr result (AppendsFront (K.held sink.old) (K.held sink.new) (shown form problem.now number (record { entries = entries.now; attrs = attrs.now; edges = edges.now }))) }
+    ensures all { OnOk result
+        (Appends (K.held sink.old) (K.held sink.new) (shown form problem.now number (record { entries = entries.now; attrs = attrs.now; edges = edges.now }))) }
+    ensures front { OnErr result
+        (AppendsFront (K.held sink.old) (K.held sink.new)
+        (shown form problem.now number (record { entries = entries.now; attrs = attrs.now; edges = edges.now }))) }
     ensures cause { OnErr result (Rose (K.faults sink.old) (K.faults sink.new)) }
     ensures lasting { K.faults sink.old ≤ K.faults sink.new }
     ensures quiet { OnOk result (K.faults sink.new ≡ K.faults sink.old) }

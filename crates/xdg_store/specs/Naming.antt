@@ -20,7 +20,10 @@ LosesOf old new d = (e v : ℕ) → Has old e v → e ≢ d → Has new e v
 
 -- the k-th of some decisions is one on the sentence, and from the k-th box of a history to the next no other loses a value
 abbrev pub IsStep : Parts → List (List (List Bool)) → List Decision → ℕ → Type 0
-IsStep parts history removed k = (d : Decision) → IsDecision parts (slice_index_or removed k d) × LosesOf (slice_index_or history k []) (slice_index_or history (k + 1) []) (number_of parts (slice_index_or removed k d))
+IsStep parts history removed k =
+    (d : Decision)
+    → IsDecision parts (slice_index_or removed k d)
+    × LosesOf (slice_index_or history k []) (slice_index_or history (k + 1) []) (number_of parts (slice_index_or removed k d))
 
 -- decisions for the steps from box to box of a history, with room for as many as there can be
 pub record AreSteps (parts : Parts) (history : List (List (List Bool))) (removed : List Decision) (room : ℕ) : Type 0 where

@@ -40,7 +40,8 @@ oldest bits (words ∷ before) = oldest bits before ++ (box_in bits words ∷ []
 -- each state is a box, and each value was in the first box or was removed, one for each further state
 abbrev pub Sound : List ℕ → ℕ → List (List ℕ) → List (List ℕ) → Type 0
 Sound sizes total bits [] = Unit {0}
-Sound sizes total bits (words ∷ before) = (remaining (box_in bits words) + length before ≡ total) × IsBox sizes (box_in bits words) × Sound sizes total bits before
+Sound sizes total bits (words ∷ before) =
+    (remaining (box_in bits words) + length before ≡ total) × IsBox sizes (box_in bits words) × Sound sizes total bits before
 
 -- what a store keeps of its trail: it has a word for each bit, room for each value that can still be removed, and each
 -- earlier time of it says a box; single is how much room is left when no decision can lose a value

@@ -211,7 +211,9 @@ impl<'a> Store<'a> {
     /// The daughters that an edge with a label out of a mother may have.
     pub fn daughters_may(&self, dim: DimId, mother: NodeId, label: LabelId) -> NodeSet
         requires { HasEdges self.now.parts dim.0 mother.0 label.0 }
-        ensures exact { (node : ℕ) → IsTrue (has result node) ↔ ((node < nodes self.now.parts) × (mother.0 ≢ node) × May self.now.parts self.now.now (edge dim.0 mother.0 label.0 node)) }
+        ensures exact { (node : ℕ)
+            → IsTrue (has result node)
+            ↔ ((node < nodes self.now.parts) × (mother.0 ≢ node) × May self.now.parts self.now.now (edge dim.0 mother.0 label.0 node)) }
         ensures known { Known self.now }
     {
         let row = edge_row(self.node_count, dim, mother, label);
@@ -223,7 +225,9 @@ impl<'a> Store<'a> {
     /// The daughters to which an edge with a label out of a mother must lead.
     pub fn daughters_must(&self, dim: DimId, mother: NodeId, label: LabelId) -> NodeSet
         requires { HasEdges self.now.parts dim.0 mother.0 label.0 }
-        ensures exact { (node : ℕ) → IsTrue (has result node) ↔ ((node < nodes self.now.parts) × (mother.0 ≢ node) × Must self.now.parts self.now.now (edge dim.0 mother.0 label.0 node)) }
+        ensures exact { (node : ℕ)
+            → IsTrue (has result node)
+            ↔ ((node < nodes self.now.parts) × (mother.0 ≢ node) × Must self.now.parts self.now.now (edge dim.0 mother.0 label.0 node)) }
         ensures known { Known self.now }
     {
         let row = edge_row(self.node_count, dim, mother, label);
@@ -235,7 +239,9 @@ impl<'a> Store<'a> {
     /// The mothers that an edge with a label into a daughter may have. It asks of each node.
     pub fn mothers_may(&self, dim: DimId, daughter: NodeId, label: LabelId) -> NodeSet
         requires { HasEdges self.now.parts dim.0 daughter.0 label.0 }
-        ensures exact { (node : ℕ) → IsTrue (has result node) ↔ ((node < nodes self.now.parts) × (node ≢ daughter.0) × May self.now.parts self.now.now (edge dim.0 node label.0 daughter.0)) }
+        ensures exact { (node : ℕ)
+            → IsTrue (has result node)
+            ↔ ((node < nodes self.now.parts) × (node ≢ daughter.0) × May self.now.parts self.now.now (edge dim.0 node label.0 daughter.0)) }
         ensures known { Known self.now }
     {
         let mut mothers = NodeSet::empty();
@@ -259,7 +265,9 @@ impl<'a> Store<'a> {
     /// The mothers from which an edge with a label into a daughter must lead. It asks of each node.
     pub fn mothers_must(&self, dim: DimId, daughter: NodeId, label: LabelId) -> NodeSet
         requires { HasEdges self.now.parts dim.0 daughter.0 label.0 }
-        ensures exact { (node : ℕ) → IsTrue (has result node) ↔ ((node < nodes self.now.parts) × (node ≢ daughter.0) × Must self.now.parts self.now.now (edge dim.0 node label.0 daughter.0)) }
+        ensures exact { (node : ℕ)
+            → IsTrue (has result node)
+            ↔ ((node < nodes self.now.parts) × (node ≢ daughter.0) × Must self.now.parts self.now.now (edge dim.0 node label.0 daughter.0)) }
         ensures known { Known self.now }
     {
         let mut mothers = NodeSet::empty();
@@ -313,7 +321,8 @@ impl<'a> Store<'a> {
 
     /// Counts a turn of a propagator, up to the greatest number.
     pub fn turn(&mut self)
-        ensures turns { self.new ≡ record { parts = self.old.parts; now = self.old.now; history = self.old.history; turns = min (self.old.turns + 1) (2 ^ 64 - 1) } }
+        ensures turns { self.new
+            ≡ record { parts = self.old.parts; now = self.old.now; history = self.old.history; turns = min (self.old.turns + 1) (2 ^ 64 - 1) } }
         ensures known { Known self.new }
     {
         self.turns = self.turns.saturating_add(1);

@@ -12,8 +12,9 @@ pub record Fronted : Type 0 where
   pub numbers : List ℕ
 
 -- the edge places are those of the sentence, there are boxes for the fronts of the prefix, and room for longer ones
-pub record HasFront (parts : Parts) (history : List (List (List Bool))) (edge_places : List Edge) (marks numbers : List ℕ) (mark_room number_room : ℕ) : Type 0 where
-  pub listed : edge_places ≡ places parts
-  pub levels : AreLevels parts history marks numbers
-  pub for_numbers : length (shape parts) ≤ number_room
-  pub for_marks : length (shape parts) < mark_room
+pub record HasFront (parts : Parts) (history : List (List (List Bool))) (edge_places : List Edge) (marks numbers : List ℕ) (mark_room number_room : ℕ) : Type 0
+  where
+    pub listed : edge_places ≡ places parts
+    pub levels : AreLevels parts history marks numbers
+    pub for_numbers : length (shape parts) ≤ number_room
+    pub for_marks : length (shape parts) < mark_room

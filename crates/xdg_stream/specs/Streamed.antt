@@ -29,7 +29,8 @@ pub record Streamed : Type 0 where
 
 -- a stream by these
 abbrev pub seen : Parts → List ℕ → ℕ → ℕ → List ℕ → List ℕ → Option Step → Streamed
-seen parts start budget charged front last ended = record { parts = parts; start = start; budget = budget; charged = charged; front = front; last = last; ended = ended }
+seen parts start budget charged front last ended =
+    record { parts = parts; start = start; budget = budget; charged = charged; front = front; last = last; ended = ended }
 
 -- the analysis behind which a stream begins belongs to the sentence, if there is one
 abbrev pub IsStart : Parts → Option Analysis → Type 0

@@ -7,7 +7,8 @@ use Rattle.xdg_problem.specs.Places.{places, same_edge}
 use Rattle.xdg_problem.specs.Vectors.{shape, first_place, entries_at, edges_in}
 
 -- the entries and edges are those of the vector, and there is room for those of each other one
-pub record HasAnalysis (parts : Parts) (first : ℕ) (numbers : List ℕ) (entries : List EntryNo) (edges : List Edge) (number_room entry_room edge_room : ℕ) : Type 0 where
+pub record HasAnalysis (parts : Parts) (first : ℕ) (numbers : List ℕ) (entries : List EntryNo) (edges : List Edge) (number_room entry_room edge_room : ℕ) : Type
+    0 where
   pub first_is : first ≡ first_place parts
   pub entries_are : entries ≡ entries_at parts.candidates numbers
   pub edges_are : edges ≡ edges_in parts numbers

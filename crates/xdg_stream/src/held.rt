@@ -36,7 +36,8 @@ impl<'a> Model for Held<'a> {
 
     ghost view = { λ h. record { parts = h.problem.now; numbers = h.numbers.items } };
 
-    ghost invariant = { λ h. HasAnalysis h.problem.now h.first h.numbers.items h.entries.items h.edges.items (vec_capacity h.numbers) (vec_capacity h.entries) (vec_capacity h.edges) };
+    ghost invariant = { λ h. HasAnalysis h.problem.now h.first h.numbers.items h.entries.items h.edges.items (vec_capacity h.numbers) (vec_capacity h.entries)
+        (vec_capacity h.edges) };
 }
 
 /// The candidate at a place, or entry 0 where there is none.

@@ -75,7 +75,8 @@ pub(crate) fn narrow<P: Propagator>(
     requires known { Known store.old }
     ensures extends { Extends store.old store.new }
     ensures still { result ≡ true → AllStill P.still props.now store.new.parts store.new.now }
-    ensures narrows { (p : List ℕ) → length p ≡ number_of store.old.parts decision → IsLevel store.old.parts p store.old.now → Narrows result store.old.parts (p ++ value ∷ []) store.new.now }
+    ensures narrows { (p : List ℕ) → length p ≡ number_of store.old.parts decision → IsLevel store.old.parts p store.old.now
+        → Narrows result store.old.parts (p ++ value ∷ []) store.new.now }
     ensures known { Known store.new }
     ensures agenda { agenda.new ≡ agenda.old }
 {

@@ -158,7 +158,8 @@ impl<F: Front> Search<F> {
         requires room { length (F.shape front) ≤ vec_capacity after }
         ensures problem { F.problem result.front ≡ F.problem front }
         ensures same { SameProblem (F.shape front) (F.counted front) (F.shape result.front) (F.counted result.front) }
-        ensures lawful { IsLawful (F.shape result.front) (F.counted result.front) (F.numbers result.front) result.reached.items (vec_capacity result.reached) result.done result.charged result.budget }
+        ensures lawful { IsLawful (F.shape result.front) (F.counted result.front) (F.numbers result.front) result.reached.items (vec_capacity result.reached)
+            result.done result.charged result.budget }
         ensures next { Next (F.shape front) (F.counted front) after.items (place (F.numbers result.front) result.value) }
         ensures fresh { (result.charged ≡ 0) × (result.budget ≡ budget) × (result.done ≡ None) }
         ensures reached { result.reached.items ≡ after.items }
@@ -235,8 +236,10 @@ impl<F: Front> Search<F> {
     /// Goes on to the next whole vector that is counted. After `End` and `Spent` it answers the same again and changes
     /// nothing.
     pub fn advance(&mut self) -> Step
-        requires lawful { IsLawful (F.shape self.old.front) (F.counted self.old.front) (F.numbers self.old.front) self.old.reached.items (vec_capacity self.old.reached) self.old.done self.old.charged self.old.budget }
-        ensures lawful { IsLawful (F.shape self.new.front) (F.counted self.new.front) (F.numbers self.new.front) self.new.reached.items (vec_capacity self.new.reached) self.new.done self.new.charged self.new.budget }
+        requires lawful { IsLawful (F.shape self.old.front) (F.counted self.old.front) (F.numbers self.old.front) self.old.reached.items
+            (vec_capacity self.old.reached) self.old.done self.old.charged self.old.budget }
+        ensures lawful { IsLawful (F.shape self.new.front) (F.counted self.new.front) (F.numbers self.new.front) self.new.reached.items
+            (vec_capacity self.new.reached) self.new.done self.new.charged self.new.budget }
         ensures problem { F.problem self.new.front ≡ F.problem self.old.front }
         ensures same { SameProblem (F.shape self.old.front) (F.counted self.old.front) (F.shape self.new.front) (F.counted self.new.front) }
         ensures found { result ≡ Step.Found → (self.old.done ≡ None) × (self.new.done ≡ None) ×

@@ -42,7 +42,9 @@ impl<'a, P: Propagator> Model for Stream<'a, P> {
 
     ghost view = { λ s. seen s.search.front.parts s.start.items s.search.budget s.search.charged s.search.reached.items s.last.numbers s.search.done };
 
-    ghost invariant = { λ s. IsStream (seen s.search.front.parts s.start.items s.search.budget s.search.charged s.search.reached.items s.last.numbers s.search.done) s.search.front.numbers s.search.value (vec_capacity s.search.reached)
+    ghost invariant = { λ s. IsStream
+        (seen s.search.front.parts s.start.items s.search.budget s.search.charged s.search.reached.items s.last.numbers s.search.done) s.search.front.numbers
+        s.search.value (vec_capacity s.search.reached)
         × (s.last.parts ≡ s.search.front.parts)
         × (s.ended ≡ is_some s.search.done) };
 }
@@ -63,7 +65,9 @@ impl<'a, P: Propagator> Stream<'a, P> {
     ) -> Result<Stream<'a, P>, OutOfMemory>
         requires stand { AllStandIn P.stands props.now problem.now }
         requires fits { IsStart problem.now (option_copied after) }
-        ensures given { IfOk result (λ stream. (stream.parts ≡ problem.entry.now) × (stream.start ≡ start_vector problem.entry.now (option_copied after.entry)) × (stream.budget ≡ budget)) }
+        ensures given { IfOk result
+            (λ stream. (stream.parts ≡ problem.entry.now) × (stream.start ≡ start_vector problem.entry.now (option_copied after.entry))
+            × (stream.budget ≡ budget)) }
         ensures fresh { IfOk result (λ stream. (stream.front ≡ stream.start) × (stream.last ≡ stream.start) × (stream.charged ≡ 0) × (stream.ended ≡ None)) }
         ensures charged { IfOk result (λ stream. IsCharged stream []) }
     {

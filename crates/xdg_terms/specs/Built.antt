@@ -8,7 +8,8 @@ use Rattle.xdg_ast.specs.declared.terms.ElemKind.{ElemKind, out-ElemKind}
 use Rattle.xdg_ast.specs.declared.terms.ElemKind.TheOpen.{TermKind-F, ElemKind-F}
 use Rattle.xdg_domain.specs.Cards.{has, cards, numbers_below}
 use Rattle.xdg_domain.specs.Shapes as d
-use Rattle.xdg_domain.specs.Shapes.{Shape, domain, tuple, truth, integer, text, set, iset, card, valency, mapping, fields, Shapes, Fields, no_field, field_then, sizes, product}
+use Rattle.xdg_domain.specs.Shapes.{Shape, domain, tuple, truth, integer, text, set, iset, card, valency, mapping, fields, Shapes, Fields, no_field, field_then}
+use Rattle.xdg_domain.specs.Shapes.{sizes, product}
 use Rattle.xdg_domain.specs.Tuples.{index, places}
 use Rattle.xdg_domain.specs.declared.types.Ty.{Ty}
 use Rattle.xdg_domain.specs.declared.values.Value.{Value}
@@ -183,7 +184,8 @@ abbrev mutual
   -- what is written for each of these fields, where the first has the place `key`
   pub fields_from : Bindings → Fields → List Elem → ℕ → List (ℕ × Value)
   fields_from bs no_field elems key = []
-  fields_from bs (field_then name u fs) elems key = put (λ written. built_in bs u (bound bs written)) key (first_for keyed_elem elems name) (fields_from bs fs elems (key + 1))
+  fields_from bs (field_then name u fs) elems key =
+      put (λ written. built_in bs u (bound bs written)) key (first_for keyed_elem elems name) (fields_from bs fs elems (key + 1))
 
 -- the value of the term, with its parameters bound
 abbrev pub built : Bindings → Shape → Term → Value

@@ -15,7 +15,8 @@ use Rattle.xdg_ast.specs.declared.terms.TermKind.{TermKind}
 use Rattle.xdg_ast.specs.declared.terms.ElemKind.TheOpen.{ElemKind-F}
 use Rattle.xdg_domain.specs.declared.types.Ty.{Ty}
 use Rattle.xdg_domain.specs.Shapes as d
-use Rattle.xdg_domain.specs.Shapes.{Shape, domain, tuple, truth, integer, text, set, iset, card, valency, mapping, fields, Shapes, Fields, no_field, field_then, sizes, in_a_row, names_of, fields_of, shape}
+use Rattle.xdg_domain.specs.Shapes.{Shape, domain, tuple, truth, integer, text, set, iset, card, valency, mapping, fields, Shapes, Fields, no_field, field_then}
+use Rattle.xdg_domain.specs.Shapes.{sizes, in_a_row, names_of, fields_of, shape}
 use Rattle.xdg_terms.specs.Forms.{Term, Card, Look, constant_of, number_of, card_of, generator_of, bracket_of, constants_of, brackets_of, counts_of, pairs_of}
 use Rattle.xdg_terms.specs.Offences.{fault_at, gen_names}
 
@@ -145,8 +146,10 @@ abbrev mutual
   faults_in look card t = cardinality_faults t
   faults_in look (valency k) t = valency_faults (d.constants k) t
   faults_in look (mapping k u) t =
-      formed (pairs_of t) (λ pairs. keys_faults causes.NotMember (d.constants k) (keys_in pairs) ++ flat_map (λ pair. of_seen (look pair.1) (faults_in look u)) pairs) t
-  faults_in look (fields fs) t = formed (pairs_of t) (λ pairs. keys_faults causes.UnknownName (names_of fs) (keys_in pairs) ++ flat_map (λ pair. field_faults look fs pair) pairs) t
+      formed (pairs_of t)
+      (λ pairs. keys_faults causes.NotMember (d.constants k) (keys_in pairs) ++ flat_map (λ pair. of_seen (look pair.1) (faults_in look u)) pairs) t
+  faults_in look (fields fs) t =
+      formed (pairs_of t) (λ pairs. keys_faults causes.UnknownName (names_of fs) (keys_in pairs) ++ flat_map (λ pair. field_faults look fs pair) pairs) t
 
   -- of the value of a field, where the type has it
   pub field_faults : Look → Fields → Name × Term → List Fault
@@ -164,7 +167,8 @@ mapping_faults look texts s t =
 
 -- and where a record is wanted
 unfoldable pub record_faults : Look → Fields → Term → List Fault
-record_faults look fs t = formed (pairs_of t) (λ pairs. keys_faults causes.UnknownName (names_of fs) (keys_in pairs) ++ flat_map (λ pair. field_faults look fs pair) pairs) t
+record_faults look fs t =
+    formed (pairs_of t) (λ pairs. keys_faults causes.UnknownName (names_of fs) (keys_in pairs) ++ flat_map (λ pair. field_faults look fs pair) pairs) t
 
 -- ---- the same of elements in braces
 

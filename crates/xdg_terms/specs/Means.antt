@@ -1,5 +1,6 @@
 -- Which value a term means where a type is wanted.
-use Rattle.std.specs.Prelude.{◌≡◌, ◌⊎◌, ◌↔◌, ℕ, zero, suc, ◌<◌, ◌==◌, nat_lt, nat_le, Bool, true, false, ◌&&◌, ◌||◌, List, [], ◌∷◌, length, map, get_or, Option, Some, None, if◌then◌else◌, bytes_eq, codes}
+use Rattle.std.specs.Prelude.{◌≡◌, ◌⊎◌, ◌↔◌, ℕ, zero, suc, ◌<◌, ◌==◌, nat_lt, nat_le, Bool, true, false, ◌&&◌, ◌||◌, List, [], ◌∷◌, length, map, get_or, Option}
+use Rattle.std.specs.Prelude.{Some, None, if◌then◌else◌, bytes_eq, codes}
 use Rattle.std.specs.List.{list_any, list_all}
 use Rattle.std.specs.List.Sorted.{IsStrictlyIncreasing}
 use Rattle.xdg_ast.specs.declared.names.Name.{Name}
@@ -12,12 +13,14 @@ use Rattle.xdg_ast.specs.declared.terms.GenKind.TheFolds.{fold-GenKind}
 use Rattle.xdg_domain.specs.Cards.{has, IsCards}
 use Rattle.xdg_domain.specs.Valencies.{said_at, KeysRise}
 use Rattle.xdg_domain.specs.Shapes as d
-use Rattle.xdg_domain.specs.Shapes.{Shape, domain, tuple, truth, integer, text, set, iset, card, valency, mapping, fields, Shapes, Fields, no_field, field_then, sizes, product, count, Among}
+use Rattle.xdg_domain.specs.Shapes.{Shape, domain, tuple, truth, integer, text, set, iset, card, valency, mapping, fields, Shapes, Fields, no_field, field_then}
+use Rattle.xdg_domain.specs.Shapes.{sizes, product, count, Among}
 use Rattle.xdg_domain.specs.Tuples.{places}
 use Rattle.xdg_domain.specs.declared.values.Value.{Value, out-Value}
 use Rattle.xdg_domain.specs.declared.values.Value.TheOpen.{Value-F}
 use Rattle.xdg_names.specs.First.{In}
-use Rattle.xdg_terms.specs.Forms.{Term, Card, Bindings, bound, constant_of, number_of, card_of, generator_of, bracket_of, constants_of, brackets_of, counts_of, pairs_of}
+use Rattle.xdg_terms.specs.Forms.{Term, Card, Bindings, bound, constant_of, number_of, card_of, generator_of, bracket_of, constants_of, brackets_of, counts_of}
+use Rattle.xdg_terms.specs.Forms.{pairs_of}
 use Rattle.xdg_terms.specs.Offences.{all_told}
 
 abbrev pub texts_of : List Name → List (List ℕ)
@@ -112,7 +115,8 @@ abbrev mutual
   MeansIn bs (valency k) t (Value-F.Valency m) =
       KeysRise 0 m × ((key : ℕ) → Said AllowedBy (written_at (all_told (counts_of t)) (d.constants k) key) (said_at m key))
   MeansIn bs (mapping k u) t (Value-F.Map m) =
-      KeysRise 0 m × ((key : ℕ) → Said (λ r v. MeansIn bs u (bound bs r) (out-Value v)) (written_at (all_told (pairs_of t)) (d.constants k) key) (said_at m key))
+      KeysRise 0 m
+      × ((key : ℕ) → Said (λ r v. MeansIn bs u (bound bs r) (out-Value v)) (written_at (all_told (pairs_of t)) (d.constants k) key) (said_at m key))
   MeansIn bs (fields fs) t (Value-F.Rec m) = KeysRise 0 m × ((key : ℕ) → MeansField bs fs (all_told (pairs_of t)) key (said_at m key))
   MeansIn bs _ t _ = ⊥
 

@@ -11,9 +11,11 @@ use Rattle.xdg_ast.specs.declared.terms.GenKind.{GenKind}
 use Rattle.xdg_ast.specs.declared.terms.GenKind.TheOpen.{GenKind-F}
 use Rattle.xdg_ast.specs.declared.terms.GenKind.TheFolds.{fold-GenKind}
 use Rattle.xdg_domain.specs.Shapes as d
-use Rattle.xdg_domain.specs.Shapes.{Shape, domain, tuple, truth, integer, text, set, iset, card, valency, mapping, fields, Fields, no_field, field_then, sizes, in_a_row, names_of, Among}
+use Rattle.xdg_domain.specs.Shapes.{Shape, domain, tuple, truth, integer, text, set, iset, card, valency, mapping, fields, Fields, no_field, field_then, sizes}
+use Rattle.xdg_domain.specs.Shapes.{in_a_row, names_of, Among}
 use Rattle.xdg_names.specs.First.{In}
-use Rattle.xdg_terms.specs.Forms.{Term, Card, Bindings, Look, with_bound, with_open, constant_of, number_of, card_of, generator_of, bracket_of, constants_of, brackets_of, counts_of, pairs_of}
+use Rattle.xdg_terms.specs.Forms.{Term, Card, Bindings, Look, with_bound, with_open, constant_of, number_of, card_of, generator_of, bracket_of, constants_of}
+use Rattle.xdg_terms.specs.Forms.{brackets_of, counts_of, pairs_of}
 
 abbrev pub fault_at : Cause → ℕ → Fault
 fault_at cause place = record { cause = cause; at = place; reached = 0 }

@@ -79,7 +79,8 @@ fn by_key(
 ) -> Result<ValueMap, AllocError>
     requires few { length constants.now ≤ 64 }
     requires is_type { IsType (shape of.now) }
-    ensures { IfOk result (λ made. made ≡ spec.said_from (λ written. spec.built bindings.now (shape of.now) written) (spec.first_for keyed_elem elems.now) 0 constants.now) }
+    ensures { IfOk result
+        (λ made. made ≡ spec.said_from (λ written. spec.built bindings.now (shape of.now) written) (spec.first_for keyed_elem elems.now) 0 constants.now) }
 {
     let mut made = List::new(alloc);
     for (key, constant) in constants.iter().enumerate() {

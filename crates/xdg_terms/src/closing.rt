@@ -22,7 +22,8 @@ use xdg_base::{Boxed, List};
 /// with the one that this gives, in which no parameter is open.
 pub fn close(alloc: Global, term: &Term, bindings: &Bindings) -> Result<Term, AllocError>
     ensures closed { IfOk result (λ made. made ≡ spec.closed bindings.now term.now) }
-    ensures right { (free : List (List ℕ)) (s : Shape) → IsOpenRight free s term.now → AreBoundRight free bindings.now s term.now → IsRight bindings.now s term.now × IsOpenRight [] s (spec.closed bindings.now term.now) }
+    ensures right { (free : List (List ℕ)) (s : Shape) → IsOpenRight free s term.now → AreBoundRight free bindings.now s term.now
+        → IsRight bindings.now s term.now × IsOpenRight [] s (spec.closed bindings.now term.now) }
 {
     close_term(alloc, term, bindings.as_slice())
 }

@@ -156,7 +156,10 @@ fn check_each_field(fields: &[(Text, Ty)], elems: &[Elem]) -> Option<Fault>
 /// The keys of a record.
 #[tactic(auto, using(xdg_names::proofs::First::first_append))]
 pub(crate) fn check_fields(fields: &[(Text, Ty)], elems: &[Elem]) -> Option<Fault>
-    ensures { result ≡ first (flat_map (spec.key_faults (spec.missing causes.UnknownName (names_of (spec.fields_in fields.now)))) elems.now ++ spec.all_twice [] (spec.keys elems.now)) }
+    ensures { result
+        ≡ first
+        (flat_map (spec.key_faults (spec.missing causes.UnknownName (names_of (spec.fields_in fields.now)))) elems.now
+        ++ spec.all_twice [] (spec.keys elems.now)) }
 {
     earlier(check_each_field(fields, elems), check_twice(elems))
 }

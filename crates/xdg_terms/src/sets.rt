@@ -103,7 +103,8 @@ fn check_in_a_row(types: &[Ty], name: &Name) -> Option<Fault>
 /// The constants of a generator.
 #[cycle(check_generator)]
 fn check_generator(gen_kind: &GenKind, types: &[Ty]) -> Option<Fault>
-    ensures { result ≡ first (spec.all_missing causes.NotMember (shapes.in_a_row (shapes.constants_of (shapes_of (map shape types.now)))) (gen_names gen_kind.now)) }
+    ensures { result
+        ≡ first (spec.all_missing causes.NotMember (shapes.in_a_row (shapes.constants_of (shapes_of (map shape types.now)))) (gen_names gen_kind.now)) }
 {
     match gen_kind {
         GenKind::Const(name) => check_in_a_row(types, name),
@@ -115,7 +116,10 @@ fn check_generator(gen_kind: &GenKind, types: &[Ty]) -> Option<Fault>
 /// The constants of generators.
 #[cycle(check_generator)]
 fn check_generators(members: &[Gen], types: &[Ty]) -> Option<Fault>
-    ensures { result ≡ first (spec.all_missing causes.NotMember (shapes.in_a_row (shapes.constants_of (shapes_of (map shape types.now)))) (flat_map (λ member. gen_names member.kind) members.now)) }
+    ensures { result
+        ≡ first
+        (spec.all_missing causes.NotMember (shapes.in_a_row (shapes.constants_of (shapes_of (map shape types.now))))
+        (flat_map (λ member. gen_names member.kind) members.now)) }
 {
     let mut found = None;
     for member in members {

@@ -114,7 +114,8 @@ fn add_values<'a>(
     params: &Params,
     found: &mut Vec<Wanted<'a>>,
 ) -> Result<(), AllocError>
-    ensures { IfOk result (λ _. spec.wants_of found.new.items ≡ spec.wants_of found.old.items ++ flat_map (spec.value_params params.now (shape value.now)) elems.now) }
+    ensures { IfOk result
+        (λ _. spec.wants_of found.new.items ≡ spec.wants_of found.old.items ++ flat_map (spec.value_params params.now (shape value.now)) elems.now) }
 {
     for elem in elems {
         if let ElemKind::Keyed(_, term) = &elem.kind {
@@ -133,7 +134,8 @@ fn add_parts<'a>(
     params: &Params,
     found: &mut Vec<Wanted<'a>>,
 ) -> Result<(), AllocError>
-    ensures { IfOk result (λ _. spec.wants_of found.new.items ≡ spec.wants_of found.old.items ++ flat_map (spec.part_params params.now (fields_in fields.now)) elems.now) }
+    ensures { IfOk result
+        (λ _. spec.wants_of found.new.items ≡ spec.wants_of found.old.items ++ flat_map (spec.part_params params.now (fields_in fields.now)) elems.now) }
 {
     for elem in elems {
         if let ElemKind::Keyed(name, term) = &elem.kind {
@@ -152,7 +154,8 @@ fn add_under<'a>(
     params: &Params,
     found: &mut Vec<Wanted<'a>>,
 ) -> Result<(), AllocError>
-    ensures { IfOk result (λ _. spec.wants_of found.new.items ≡ spec.wants_of found.old.items ++ spec.params_under params.now (fields_in fields.now) (key.now, term.now)) }
+    ensures { IfOk result
+        (λ _. spec.wants_of found.new.items ≡ spec.wants_of found.old.items ++ spec.params_under params.now (fields_in fields.now) (key.now, term.now)) }
 {
     for (name, ty) in fields {
         if name.as_str() == key.text.as_str() {

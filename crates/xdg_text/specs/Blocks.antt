@@ -66,7 +66,8 @@ block parts number analysis = block_lines parts.words parts.dims number analysis
 
 -- the lines of text 2, which tells the numbers of lines before them
 abbrev pub block2_lines : List SentenceWord → List DimPlan → ℕ → List EntryNo → List ℕ → List Edge → List ℕ
-block2_lines words plans number entries attrs edges = version_line ++ (analysis_line number ++ (counts_line (length words) (length attrs) (length edges) ++ body_lines words plans entries attrs edges))
+block2_lines words plans number entries attrs edges =
+    version_line ++ (analysis_line number ++ (counts_line (length words) (length attrs) (length edges) ++ body_lines words plans entries attrs edges))
 
 -- the text 2 of an analysis, with a number
 abbrev pub block2 : Parts → ℕ → Analysis → List ℕ

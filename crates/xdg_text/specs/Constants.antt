@@ -6,7 +6,10 @@ use Rattle.std.specs.Str.{bytes_eq}
 
 -- the words that are no names
 unfoldable pub keywords : List (List ℕ)
-keywords = codes "defdim" ∷ codes "deftype" ∷ codes "deflabeltype" ∷ codes "defattrstype" ∷ codes "defentrytype" ∷ codes "useprinciple" ∷ codes "dims" ∷ codes "args" ∷ codes "output" ∷ codes "useoutput" ∷ codes "defclass" ∷ codes "defentry" ∷ codes "dim" ∷ codes "usedim" ∷ codes "tuple" ∷ codes "set" ∷ codes "iset" ∷ codes "valency" ∷ codes "map" ∷ codes "card" ∷ codes "bool" ∷ codes "int" ∷ codes "string" ∷ []
+keywords =
+    codes "defdim" ∷ codes "deftype" ∷ codes "deflabeltype" ∷ codes "defattrstype" ∷ codes "defentrytype" ∷ codes "useprinciple" ∷ codes "dims" ∷ codes "args"
+    ∷ codes "output" ∷ codes "useoutput" ∷ codes "defclass" ∷ codes "defentry" ∷ codes "dim" ∷ codes "usedim" ∷ codes "tuple" ∷ codes "set" ∷ codes "iset"
+    ∷ codes "valency" ∷ codes "map" ∷ codes "card" ∷ codes "bool" ∷ codes "int" ∷ codes "string" ∷ []
 
 unfoldable pub is_keyword : List ℕ → Bool
 is_keyword text = list_any (λ word. bytes_eq word text) keywords

@@ -42,11 +42,15 @@ abbrev pub plain : Parts
 plain = record {
   words = sentence;
   candidates = [];
-  dims = record { name = codes "id"; labels = codes "det" ∷ codes "subj" ∷ []; attrs = []; graph = true } ∷ record { name = codes "lex"; labels = []; attrs = []; graph = false } ∷ [];
+  dims =
+      record { name = codes "id"; labels = codes "det" ∷ codes "subj" ∷ []; attrs = []; graph = true }
+      ∷ record { name = codes "lex"; labels = []; attrs = []; graph = false } ∷ [];
   groups = [];
 }
 
-the_dog_barks : block plain 1 (record { entries = record { 0 = 0 } ∷ record { 0 = 1 } ∷ record { 0 = 2 } ∷ []; attrs = []; edges = edge 0 1 0 0 ∷ edge 0 2 1 1 ∷ [] }) ≡ codes "analysis 1\nword 1 \"the\" 1\nword 2 \"dog\" 2\nword 3 \"barks\" 3\nedge id 2 det 1\nedge id 3 subj 2\nend\n"
+the_dog_barks : block plain 1
+    (record { entries = record { 0 = 0 } ∷ record { 0 = 1 } ∷ record { 0 = 2 } ∷ []; attrs = []; edges = edge 0 1 0 0 ∷ edge 0 2 1 1 ∷ [] })
+    ≡ codes "analysis 1\nword 1 \"the\" 1\nword 2 \"dog\" 2\nword 3 \"barks\" 3\nedge id 2 det 1\nedge id 3 subj 2\nend\n"
 unfolding is_keyword keywords digits
 the_dog_barks = refl
 
@@ -73,15 +77,19 @@ german = record {
 abbrev pub reading : Analysis
 reading = record { entries = record { 0 = 9 } ∷ record { 0 = 3 } ∷ []; attrs = 0 ∷ 1 ∷ 1 ∷ 0 ∷ 0 ∷ 1 ∷ []; edges = edge 1 1 0 0 ∷ [] }
 
-by_dimension_node_and_attribute : block german 12 reading ≡ codes "analysis 12\nword 1 \"der\" 10\nword 2 \"Frau\" 4\nattr id 1 agr [m nom]\nattr id 2 agr [f gen]\nattr lp 1 on \"v f\"\nattr lp 1 agr [m nom]\nattr lp 2 on n\nattr lp 2 agr [f gen]\nedge lp 2 detf 1\nend\n"
+by_dimension_node_and_attribute : block german 12 reading
+    ≡ codes
+    "analysis 12\nword 1 \"der\" 10\nword 2 \"Frau\" 4\nattr id 1 agr [m nom]\nattr id 2 agr [f gen]\nattr lp 1 on \"v f\"\nattr lp 1 agr [m nom]\nattr lp 2 on n\nattr lp 2 agr [f gen]\nedge lp 2 detf 1\nend\n"
 unfolding is_keyword keywords digits
 by_dimension_node_and_attribute = refl
 
-not_a_member : fault_text (record { cause = causes.NotMember; at = 30; reached = 0 }) (record { line = 3; column = 9 }) ≡ codes "fault 34 NotMember line 3 column 9\n"
+not_a_member : fault_text (record { cause = causes.NotMember; at = 30; reached = 0 }) (record { line = 3; column = 9 })
+    ≡ codes "fault 34 NotMember line 3 column 9\n"
 unfolding digits
 not_a_member = refl
 
-too_many_words : fault_text (record { cause = causes.TooManyWords; at = 256; reached = 129 }) (record { line = 1; column = 257 }) ≡ codes "fault 51 TooManyWords line 1 column 257 reached 129\n"
+too_many_words : fault_text (record { cause = causes.TooManyWords; at = 256; reached = 129 }) (record { line = 1; column = 257 })
+    ≡ codes "fault 51 TooManyWords line 1 column 257 reached 129\n"
 unfolding digits
 too_many_words = refl
 

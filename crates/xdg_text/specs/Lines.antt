@@ -60,4 +60,7 @@ usage_line = codes "usage: xdg COMMAND FILE [FILE] [--budget N] [--first N] [--s
 
 -- the line of a fault at a line and a column; a fault that passes a limit tells the number reached
 abbrev pub fault_text : Fault → LineColumn → List ℕ
-fault_text fault place = line (codes "fault") (decimal (number_of fault.cause) ∷ name_of fault.cause ∷ codes "line" ∷ decimal place.line ∷ codes "column" ∷ decimal place.column ∷ cond (tells_reached fault.cause) (codes "reached" ∷ decimal fault.reached ∷ []) [])
+fault_text fault place =
+    line (codes "fault")
+    (decimal (number_of fault.cause) ∷ name_of fault.cause ∷ codes "line" ∷ decimal place.line ∷ codes "column" ∷ decimal place.column
+    ∷ cond (tells_reached fault.cause) (codes "reached" ∷ decimal fault.reached ∷ []) [])

@@ -4,7 +4,8 @@ ghost use Rattle.std.specs.Prelude.{◌≡◌, ◌<◌, ◌≤◌, ℕ, List, Op
 ghost use Rattle.xdg_io.specs.Held.{Appends, AppendsFront};
 ghost use Rattle.xdg_io.specs.Rose.{Rose};
 ghost use Rattle.xdg_problem.specs.Analyses.{IsAnalysis};
-ghost use Rattle.xdg_text.specs.Blocks.{word_lines, value_at, node_lines, dim_lines, attr_lines, line_of_edge, edge_lines, body_lines, block_lines, block, block2_lines, block2};
+ghost use Rattle.xdg_text.specs.Blocks.{word_lines, value_at, node_lines, dim_lines, attr_lines, line_of_edge, edge_lines, body_lines, block_lines, block};
+ghost use Rattle.xdg_text.specs.Blocks.{block2_lines, block2};
 ghost use Rattle.xdg_text.specs.Lines.{analysis_line, version_line, counts_line, word_line, attr_line, end_line};
 ghost use Rattle.xdg_text.specs.Ranges.{HasValues, NodesHaveValues, DimsHaveValues, HasNames};
 
@@ -305,8 +306,10 @@ pub fn write_parts<K: Sink>(
     sink: &mut K,
 ) -> Result<(), Failed>
     requires { IsAnalysis problem.now (record { entries = entries.now; attrs = attrs.now; edges = edges.now }) }
-    ensures all { OnOk result (Appends (K.held sink.old) (K.held sink.new) (block problem.now number (record { entries = entries.now; attrs = attrs.now; edges = edges.now }))) }
-    ensures front { OnErr result (AppendsFront (K.held sink.old) (K.held sink.new) (block problem.now number (record { entries = entries.now; attrs = attrs.now; edges = edges.now }))) }
+    ensures all { OnOk result
+        (Appends (K.held sink.old) (K.held sink.new) (block problem.now number (record { entries = entries.now; attrs = attrs.now; edges = edges.now }))) }
+    ensures front { OnErr result
+        (AppendsFront (K.held sink.old) (K.held sink.new) (block problem.now number (record { entries = entries.now; attrs = attrs.now; edges = edges.now }))) }
     ensures cause { OnErr result (Rose (K.faults sink.old) (K.faults sink.new)) }
     ensures lasting { K.faults sink.old ≤ K.faults sink.new }
     ensures quiet { OnOk result (K.faults sink.new ≡ K.faults sink.old) }
@@ -357,8 +360,10 @@ pub fn write_parts2<K: Sink>(
     sink: &mut K,
 ) -> Result<(), Failed>
     requires { IsAnalysis problem.now (record { entries = entries.now; attrs = attrs.now; edges = edges.now }) }
-    ensures all { OnOk result (Appends (K.held sink.old) (K.held sink.new) (block2 problem.now number (record { entries = entries.now; attrs = attrs.now; edges = edges.now }))) }
-    ensures front { OnErr result (AppendsFront (K.held sink.old) (K.held sink.new) (block2 problem.now number (record { entries = entries.now; attrs = attrs.now; edges = edges.now }))) }
+    ensures all { OnOk result
+        (Appends (K.held sink.old) (K.held sink.new) (block2 problem.now number (record { entries = entries.now; attrs = attrs.now; edges = edges.now }))) }
+    ensures front { OnErr result
+        (AppendsFront (K.held sink.old) (K.held sink.new) (block2 problem.now number (record { entries = entries.now; attrs = attrs.now; edges = edges.now }))) }
     ensures cause { OnErr result (Rose (K.faults sink.old) (K.faults sink.new)) }
     ensures lasting { K.faults sink.old ≤ K.faults sink.new }
     ensures quiet { OnOk result (K.faults sink.new ≡ K.faults sink.old) }

@@ -33,7 +33,8 @@ fn run_command<R: Threads + Sync, H: Shelf, S: Source, K: Sink>(
 ) -> Status
     requires { WantsSome command.now }
     ensures leaves { (files : List ℕ → Option (List ℕ)) (content : List ℕ) → H.files shelf.old ≡ Some files →
-        (ReadsInput command.now → S.left input.old ≡ Some content) → LeavesOf command.now (CommandOf command.now files content) result (K.held out.old) (K.held out.new) }
+        (ReadsInput command.now → S.left input.old ≡ Some content)
+        → LeavesOf command.now (CommandOf command.now files content) result (K.held out.old) (K.held out.new) }
     ensures wrote { CommandWrote command.now result (K.faults out.old) (K.faults out.new) (K.held out.old) (K.held out.new) }
     ensures read_fault { result ≡ Status.ReadFault →
         FailsToRead command.now (H.faults shelf.old) (H.faults shelf.new) (S.faults input.old) (S.faults input.new) }

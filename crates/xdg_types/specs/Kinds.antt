@@ -6,9 +6,11 @@ use Rattle.xdg_base.specs.declared.faults.Fault.{Fault}
 use Rattle.xdg_ast.specs.declared.names.Name.{Name}
 use Rattle.xdg_ast.specs.declared.grammar.DimPartKind.{DimPartKind}
 use Rattle.xdg_ast.specs.declared.grammar.DimPartKind.TheVariants as p
-use Rattle.xdg_domain.specs.Shapes.{Shape, domain, tuple, set, iset, card, valency, mapping, fields, Shapes, no_shape, shape_then, Fields, no_field, field_then, constants, constants_of, in_a_row, sizes, product, Among}
+use Rattle.xdg_domain.specs.Shapes.{Shape, domain, tuple, set, iset, card, valency, mapping, fields, Shapes, no_shape, shape_then, Fields, no_field, field_then}
+use Rattle.xdg_domain.specs.Shapes.{constants, constants_of, in_a_row, sizes, product, Among}
 use Rattle.xdg_names.specs.First.{In}
-use Rattle.xdg_types.specs.Written.{Tree, listed, recorded, tupled, set_of, iset_of, valency_of, map_of, named, Trees, no_tree, tree_then, Members, no_member, member_then, member_names, tree}
+use Rattle.xdg_types.specs.Written.{Tree, listed, recorded, tupled, set_of, iset_of, valency_of, map_of, named, Trees, no_tree, tree_then, Members, no_member}
+use Rattle.xdg_types.specs.Written.{member_then, member_names, tree}
 use Rattle.xdg_types.specs.Parts.{Statement, dimensions, used_places}
 use Rattle.xdg_types.specs.Meaning.{meaning, domains_meaning, as_domain}
 use Rattle.xdg_types.specs.Names.{fault_at}
@@ -203,7 +205,9 @@ NamedOffends at _ f = ⊥
 -- The place is the ninth field, or the name.
 abbrev pub AttributesOffend : (List ℕ → Shape) → ℕ → Tree → Fault → Type 0
 AttributesOffend names at (recorded ms) f =
-    (before : List Name) × ((ninth : Name) × ((after : List Name) × ((member_names ms ≡ before ++ ninth ∷ after) × ((length before ≡ 8) × (f ≡ reaching causes.TooWide ninth.span.start 9)))))
+    (before : List Name)
+    × ((ninth : Name)
+    × ((after : List Name) × ((member_names ms ≡ before ++ ninth ∷ after) × ((length before ≡ 8) × (f ≡ reaching causes.TooWide ninth.span.start 9)))))
 AttributesOffend names at (named name) f = NamedOffends at (names name.text) f
 AttributesOffend names at _ f = ⊥
 
@@ -222,7 +226,8 @@ pub record IsNinthDimension (statements : List Statement) (f : Fault) : Type 0 w
 
 abbrev pub SiteOffends : (List ℕ → Shape) → Site → Fault → Type 0
 SiteOffends names site f =
-    IsWrongKind names site f ⊎ (IsTooBig site f ⊎ (HasManyLabels names site f ⊎ (HasManyTuples names site f ⊎ (SharesConstant names site f ⊎ HasWrongAttributes names site f))))
+    IsWrongKind names site f
+    ⊎ (IsTooBig site f ⊎ (HasManyLabels names site f ⊎ (HasManyTuples names site f ⊎ (SharesConstant names site f ⊎ HasWrongAttributes names site f))))
 
 -- what is wrong with the kinds and sizes of a grammar's types where the names of types mean this
 abbrev pub KindOffends : (List ℕ → Shape) → List Statement → Fault → Type 0

@@ -1,8 +1,10 @@
 -- What written types mean.
 use Rattle.std.specs.Prelude.{◌≡◌, ℕ, List, []}
-use Rattle.xdg_domain.specs.Shapes.{Shape, domain, tuple, truth, integer, text, set, iset, card, valency, mapping, fields, Shapes, no_shape, shape_then, Fields, no_field, field_then, Among}
+use Rattle.xdg_domain.specs.Shapes.{Shape, domain, tuple, truth, integer, text, set, iset, card, valency, mapping, fields, Shapes, no_shape, shape_then, Fields}
+use Rattle.xdg_domain.specs.Shapes.{no_field, field_then, Among}
 use Rattle.xdg_names.specs.First.{In}
-use Rattle.xdg_types.specs.Written.{Tree, nothing, listed, recorded, tupled, set_of, iset_of, valency_of, map_of, a_card, a_bool, an_int, a_string, named, Trees, no_tree, tree_then, Members, no_member, member_then, tree}
+use Rattle.xdg_types.specs.Written.{Tree, nothing, listed, recorded, tupled, set_of, iset_of, valency_of, map_of, a_card, a_bool, an_int, a_string, named}
+use Rattle.xdg_types.specs.Written.{Trees, no_tree, tree_then, Members, no_member, member_then, tree}
 use Rattle.xdg_types.specs.Parts.{Statement, Definition, definitions, defined_names, texts}
 
 -- empty braces are the domain without constants where a domain is wanted, and else the record without fields

@@ -15,7 +15,8 @@ use Rattle.xdg_types.specs.Answers.{CycleOffends, None_of}
 -- Each name of a type stands above those that its definition uses.
 abbrev pub IsRanked : List Statement → (List ℕ → ℕ) → Type 0
 IsRanked statements rank =
-    (d : Definition) (u : Name) → In (definitions statements) d → In (uses (tree d.body.kind)) u → Among (texts (defined_names statements)) u.text → rank u.text < rank d.name.text
+    (d : Definition) (u : Name) → In (definitions statements) d → In (uses (tree d.body.kind)) u → Among (texts (defined_names statements)) u.text
+    → rank u.text < rank d.name.text
 
 -- What is known once the names are right and no type leads back to itself: what the names mean, which is one thing, and
 -- that the types at the places of the names mean it.

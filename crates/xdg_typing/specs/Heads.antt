@@ -42,4 +42,5 @@ RightBefore names known order i heads =
 pub record IsDefined (names : List ℕ → Shape) (own : List ℕ) (known : List (List ℕ)) (body : TypeTerm) (heads : List TypeTerm) : Type 0 where
   pub means : names own ≡ meaning names (tree body.kind)
   pub undefined : (name : List ℕ) → place_of known name ≡ None → names name ≡ truth
-  pub right : (name : Name) (k : ℕ) → tree body.kind ≡ named name → place_of known name.text ≡ Some k → (k < length heads) × ((t : TypeTerm) → IsRight names name.text (get_or heads k t))
+  pub right : (name : Name) (k : ℕ) → tree body.kind ≡ named name → place_of known name.text ≡ Some k
+      → (k < length heads) × ((t : TypeTerm) → IsRight names name.text (get_or heads k t))

@@ -1,5 +1,6 @@
 -- What is wrong with the kinds and the sizes of types, as lists of faults.
-use Rattle.std.specs.Prelude.{ℕ, ◌-◌, ◌^◌, min, Bool, true, false, ◌&&◌, ◌||◌, not, ltb, if◌then◌else◌, List, [], ◌∷◌, ◌++◌, length, flat_map, slice_get, Option, None, Some}
+use Rattle.std.specs.Prelude.{ℕ, ◌-◌, ◌^◌, min, Bool, true, false, ◌&&◌, ◌||◌, not, ltb, if◌then◌else◌, List, [], ◌∷◌, ◌++◌, length, flat_map, slice_get}
+use Rattle.std.specs.Prelude.{Option, None, Some}
 use Rattle.xdg_base.specs.declared.faults.Cause.TheVariants as causes
 use Rattle.xdg_base.specs.declared.faults.Fault.{Fault}
 use Rattle.xdg_ast.specs.declared.names.Name.{Name}
@@ -10,11 +11,13 @@ use Rattle.xdg_domain.specs.Shapes.{Shape, fields, Fields, no_field, field_then,
 use Rattle.xdg_names.specs.Texts.{has_text}
 use Rattle.xdg_typing.specs.declared.wanted.Wanted.{Wanted as Asked}
 use Rattle.xdg_typing.specs.declared.wanted.Wanted.TheVariants as w
-use Rattle.xdg_types.specs.Written.{Tree, nothing, listed, recorded, tupled, set_of, iset_of, valency_of, map_of, a_card, a_bool, an_int, a_string, named, Trees, no_tree, tree_then, Members, no_member, member_then, member_names, tree}
+use Rattle.xdg_types.specs.Written.{Tree, nothing, listed, recorded, tupled, set_of, iset_of, valency_of, map_of, a_card, a_bool, an_int, a_string, named}
+use Rattle.xdg_types.specs.Written.{Trees, no_tree, tree_then, Members, no_member, member_then, member_names, tree}
 use Rattle.xdg_types.specs.Parts.{TypeTerm, Statement, used_places}
 use Rattle.xdg_types.specs.Meaning.{meaning, domains_meaning, as_domain}
 use Rattle.xdg_types.specs.Names.{fault_at}
-use Rattle.xdg_types.specs.Kinds.{Wanted, anything, a_domain, a_small, a_mapped, an_attribute, the_labels, the_attributes, the_features, Site, sites, is_of_kind, is_attribute, has_no_field, reaching, field_count}
+use Rattle.xdg_types.specs.Kinds.{Wanted, anything, a_domain, a_small, a_mapped, an_attribute, the_labels, the_attributes, the_features, Site, sites}
+use Rattle.xdg_types.specs.Kinds.{is_of_kind, is_attribute, has_no_field, reaching, field_count}
 
 -- what is wanted
 abbrev pub asked : Asked → Wanted

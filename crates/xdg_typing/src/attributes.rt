@@ -7,7 +7,8 @@ ghost use Rattle.xdg_names.specs.First.{first};
 ghost use Rattle.xdg_types.specs.Written.{tree, member_names};
 ghost use Rattle.xdg_types.specs.Meaning.{meaning, fields_meaning, IsHead};
 ghost use Rattle.xdg_typing.specs.Heads.{Knows};
-ghost use Rattle.xdg_typing.specs.KindFaults.{asked, members_in, form_tree, ninth_name_faults, has_other, wide_record_faults, other_faults, named_faults, record_faults, attributes_faults};
+ghost use Rattle.xdg_typing.specs.KindFaults.{asked, members_in, form_tree, ninth_name_faults, has_other, wide_record_faults, other_faults, named_faults};
+ghost use Rattle.xdg_typing.specs.KindFaults.{record_faults, attributes_faults};
 
 use crate::definitions::Definitions;
 use crate::wanted::{Wanted, is_attribute};

@@ -25,7 +25,8 @@ pub struct Definitions<'a> {
 impl<'a> Definitions<'a> {
     /// The type that a type leads to where it is a name, and else the type itself.
     pub fn head(&self, ty: &'a TypeTerm) -> &'a TypeTerm
-        ensures { (names : List ℕ → Shape) → Knows names self.now.names (map (λ head. head.now) self.now.heads.items) → IsHeadOf names ty.now.kind result.now.kind }
+        ensures { (names : List ℕ → Shape) → Knows names self.now.names (map (λ head. head.now) self.now.heads.items)
+            → IsHeadOf names ty.now.kind result.now.kind }
     {
         let TypeKind::Named(name) = &ty.kind else {
             return ty;

@@ -32,7 +32,8 @@ pub(crate) fn is_small<'a>(definitions: &Definitions<'a>, statements: &'a [State
 
 /// The weight of the types of all dimensions.
 fn weigh_all<'a>(definitions: &Definitions<'a>, statements: &'a [Statement]) -> u64
-    ensures { (names : Naming) → Weighs names definitions.now.names definitions.now.weights.items → result ≡ weight_of_all names (small.given_types statements.now) }
+    ensures { (names : Naming) → Weighs names definitions.now.names definitions.now.weights.items
+        → result ≡ weight_of_all names (small.given_types statements.now) }
 {
     let mut all = 0u64;
     for statement in statements {
@@ -43,7 +44,8 @@ fn weigh_all<'a>(definitions: &Definitions<'a>, statements: &'a [Statement]) -> 
 
 /// The weight of the types of a dimension, where the statement defines one.
 fn weigh_statement<'a>(definitions: &Definitions<'a>, statement: &'a Statement) -> u64
-    ensures { (names : Naming) → Weighs names definitions.now.names definitions.now.weights.items → result ≡ weight_of_all names (small.given_by statement.now.kind) }
+    ensures { (names : Naming) → Weighs names definitions.now.names definitions.now.weights.items
+        → result ≡ weight_of_all names (small.given_by statement.now.kind) }
 {
     match &statement.kind {
         StatementKind::DefDim(_, parts) => weigh_parts(definitions, parts.as_slice()),
@@ -81,8 +83,10 @@ pub(crate) fn resolve_dimensions<'a>(
     definitions: &Definitions<'a>,
     statements: &'a [Statement],
 ) -> Result<List<DimType>, AllocError>
-    requires { HasRoom definitions.now.names (map (λ head. head.now) definitions.now.heads.items) (λ names. all_parts names (small.given_types statements.now)) 16777216 }
-    ensures { (names : Naming) → Knows names definitions.now.names (map (λ head. head.now) definitions.now.heads.items) → IfOk result (λ made. AreDims names (spec.dimensions statements.now) made) }
+    requires { HasRoom definitions.now.names (map (λ head. head.now) definitions.now.heads.items) (λ names. all_parts names (small.given_types statements.now))
+        16777216 }
+    ensures { (names : Naming) → Knows names definitions.now.names (map (λ head. head.now) definitions.now.heads.items)
+        → IfOk result (λ made. AreDims names (spec.dimensions statements.now) made) }
 {
     let mut all = List::new(alloc);
     for statement in statements {
@@ -103,8 +107,10 @@ fn resolve_dimension<'a>(
     name: &Name,
     parts: &'a [DimPart],
 ) -> Result<DimType, AllocError>
-    requires { HasRoom definitions.now.names (map (λ head. head.now) definitions.now.heads.items) (λ names. all_parts names (small.given_in parts.now)) 16777216 }
-    ensures { (names : Naming) → Knows names definitions.now.names (map (λ head. head.now) definitions.now.heads.items) → IfOk result (λ made. IsDim names (name.now, parts.now) made) }
+    requires { HasRoom definitions.now.names (map (λ head. head.now) definitions.now.heads.items) (λ names. all_parts names (small.given_in parts.now))
+        16777216 }
+    ensures { (names : Naming) → Knows names definitions.now.names (map (λ head. head.now) definitions.now.heads.items)
+        → IfOk result (λ made. IsDim names (name.now, parts.now) made) }
 {
     Ok(DimType {
         name: name.text.copy(alloc)?,
@@ -120,7 +126,8 @@ fn labels<'a>(
     definitions: &Definitions<'a>,
     parts: &'a [DimPart],
 ) -> Result<List<Text>, AllocError>
-    ensures { (names : Naming) → Knows names definitions.now.names (map (λ head. head.now) definitions.now.heads.items) → IfOk result (λ made. made ≡ constants (as_domain (first_meaning names (spec.in_parts spec.label_type parts.now)))) }
+    ensures { (names : Naming) → Knows names definitions.now.names (map (λ head. head.now) definitions.now.heads.items)
+        → IfOk result (λ made. made ≡ constants (as_domain (first_meaning names (spec.in_parts spec.label_type parts.now)))) }
 {
     let Some(ty) = label_type(parts) else {
         return Ok(List::new(alloc));
@@ -137,8 +144,10 @@ fn attributes<'a>(
     definitions: &Definitions<'a>,
     parts: &'a [DimPart],
 ) -> Result<List<(Text, Ty)>, AllocError>
-    requires { HasRoom definitions.now.names (map (λ head. head.now) definitions.now.heads.items) (λ names. all_parts names (small.given_in parts.now)) 16777216 }
-    ensures { (names : Naming) → Knows names definitions.now.names (map (λ head. head.now) definitions.now.heads.items) → IfOk result (λ made. typed made ≡ map (λ one. (one.0, as_domain one.1)) (fields_in (first_meaning names (spec.in_parts spec.attrs_type parts.now)))) }
+    requires { HasRoom definitions.now.names (map (λ head. head.now) definitions.now.heads.items) (λ names. all_parts names (small.given_in parts.now))
+        16777216 }
+    ensures { (names : Naming) → Knows names definitions.now.names (map (λ head. head.now) definitions.now.heads.items)
+        → IfOk result (λ made. typed made ≡ map (λ one. (one.0, as_domain one.1)) (fields_in (first_meaning names (spec.in_parts spec.attrs_type parts.now)))) }
 {
     let Some(ty) = attrs_type(parts) else {
         return Ok(List::new(alloc));
@@ -157,8 +166,10 @@ fn features<'a>(
     definitions: &Definitions<'a>,
     parts: &'a [DimPart],
 ) -> Result<List<(Text, Ty)>, AllocError>
-    requires { HasRoom definitions.now.names (map (λ head. head.now) definitions.now.heads.items) (λ names. all_parts names (small.given_in parts.now)) 16777216 }
-    ensures { (names : Naming) → Knows names definitions.now.names (map (λ head. head.now) definitions.now.heads.items) → IfOk result (λ made. typed made ≡ fields_in (first_meaning names (spec.in_parts spec.entry_type parts.now))) }
+    requires { HasRoom definitions.now.names (map (λ head. head.now) definitions.now.heads.items) (λ names. all_parts names (small.given_in parts.now))
+        16777216 }
+    ensures { (names : Naming) → Knows names definitions.now.names (map (λ head. head.now) definitions.now.heads.items)
+        → IfOk result (λ made. typed made ≡ fields_in (first_meaning names (spec.in_parts spec.entry_type parts.now))) }
 {
     let Some(ty) = entry_type(parts) else {
         return Ok(List::new(alloc));

@@ -42,7 +42,12 @@ fn check_attributes_type<'a>(
     ty: &'a TypeTerm,
 ) -> Result<Option<Fault>, AllocError>
     ensures { (names : List ℕ → Shape) → Knows names definitions.now.names (map (λ head. head.now) definitions.now.heads.items)
-        → IfOk result (λ found. found ≡ first (faults_in names (record { wanted = the_attributes; at = ty.now.span.start; written = tree ty.now.kind } ∷ inside_attributes (tree ty.now.kind)))) }
+        → IfOk result
+        (λ found.
+        found
+        ≡ first
+        (faults_in names
+        (record { wanted = the_attributes; at = ty.now.span.start; written = tree ty.now.kind } ∷ inside_attributes (tree ty.now.kind)))) }
 {
     let here = check_site(alloc, definitions, Wanted::Attributes, ty)?;
     let inside = check_inside_attributes(alloc, definitions, &ty.kind)?;
@@ -87,7 +92,8 @@ fn check_statement<'a>(
     statement: &'a Statement,
 ) -> Result<Option<Fault>, AllocError>
     ensures { (names : List ℕ → Shape) → Knows names definitions.now.names (map (λ head. head.now) definitions.now.heads.items)
-        → IfOk result (λ found. found ≡ first (faults_in names (flat_map (λ dim. flat_map (λ part. part_sites part.kind) dim.1) (dimension statement.now.kind)))) }
+        → IfOk result
+        (λ found. found ≡ first (faults_in names (flat_map (λ dim. flat_map (λ part. part_sites part.kind) dim.1) (dimension statement.now.kind)))) }
 {
     match &statement.kind {
         StatementKind::DefDim(_, parts) => check_parts(alloc, definitions, parts.as_slice()),

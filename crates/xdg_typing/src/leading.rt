@@ -10,7 +10,8 @@ use xdg_names::Index;
 
 /// What a type leads to in one step: where it is a name, the head of the definition with that name.
 fn next<'a>(known: &Index, body: &'a TypeTerm, heads: &[&'a TypeTerm]) -> &'a TypeTerm
-    ensures { (names : List ℕ → Shape) (own : List ℕ) → IsDefined names own known.now body.now (map (λ head. head.now) heads.now) → IsRight names own result.now }
+    ensures { (names : List ℕ → Shape) (own : List ℕ) → IsDefined names own known.now body.now (map (λ head. head.now) heads.now)
+        → IsRight names own result.now }
 {
     let TypeKind::Named(name) = &body.kind else {
         return body;
@@ -35,7 +36,9 @@ pub(crate) fn heads<'a>(
     requires within { (i : ℕ) → i < length order.now → slice_index_or order.now i 0 < length bodies.now }
     requires first { NamesFirst known.now (map (λ body. body.now) bodies.now) order.now }
     ensures len { IfOk result (λ made. length made.items ≡ length bodies.now) }
-    ensures right { IfOk result (λ made. (names : List ℕ → Shape) → Agrees names known.now (map (λ body. body.now) bodies.now) → RightBefore names known.now order.now (length order.now) (map (λ head. head.now) made.items)) }
+    ensures right { IfOk result
+        (λ made. (names : List ℕ → Shape) → Agrees names known.now (map (λ body. body.now) bodies.now)
+        → RightBefore names known.now order.now (length order.now) (map (λ head. head.now) made.items)) }
 {
     let mut heads = Vec::from_slice(alloc, bodies)?;
     for i in 0..order.len() {

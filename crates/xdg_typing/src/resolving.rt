@@ -30,7 +30,8 @@ pub(crate) fn resolve<'a>(
     room: u64,
 ) -> Result<Ty, AllocError>
     requires { HasRoom definitions.now.names (map (λ head. head.now) definitions.now.heads.items) (λ names. parts (meaning names (tree ty.now.kind))) room }
-    ensures { (names : Naming) → Knows names definitions.now.names (map (λ head. head.now) definitions.now.heads.items) → IfOk result (λ made. shape made ≡ meaning names (tree ty.now.kind)) }
+    ensures { (names : Naming) → Knows names definitions.now.names (map (λ head. head.now) definitions.now.heads.items)
+        → IfOk result (λ made. shape made ≡ meaning names (tree ty.now.kind)) }
 {
     resolve_form(alloc, definitions, &definitions.head(ty).kind, room - 1)
 }
@@ -44,7 +45,8 @@ fn resolve_form<'a>(
     room: u64,
 ) -> Result<Ty, AllocError>
     requires { HasRoom definitions.now.names (map (λ head. head.now) definitions.now.heads.items) (λ names. parts (meaning names (tree form.now))) (room + 1) }
-    ensures { (names : Naming) → Knows names definitions.now.names (map (λ head. head.now) definitions.now.heads.items) → IsHead names (tree form.now) → IfOk result (λ made. shape made ≡ meaning names (tree form.now)) }
+    ensures { (names : Naming) → Knows names definitions.now.names (map (λ head. head.now) definitions.now.heads.items) → IsHead names (tree form.now)
+        → IfOk result (λ made. shape made ≡ meaning names (tree form.now)) }
 {
     match form {
         TypeKind::Empty => Ok(Ty::Rec(List::new(alloc))),
@@ -91,7 +93,8 @@ fn resolve_domain<'a>(
     room: u64,
 ) -> Result<Ty, AllocError>
     requires { HasRoom definitions.now.names (map (λ head. head.now) definitions.now.heads.items) (λ names. parts (meaning names (tree ty.now.kind))) room }
-    ensures { (names : Naming) → Knows names definitions.now.names (map (λ head. head.now) definitions.now.heads.items) → IfOk result (λ made. shape made ≡ as_domain (meaning names (tree ty.now.kind))) }
+    ensures { (names : Naming) → Knows names definitions.now.names (map (λ head. head.now) definitions.now.heads.items)
+        → IfOk result (λ made. shape made ≡ as_domain (meaning names (tree ty.now.kind))) }
 {
     let made = resolve(alloc, definitions, ty, room)?;
     if is_empty_record(&made) {
@@ -109,7 +112,8 @@ fn resolve_domains<'a>(
     room: u64,
 ) -> Result<List<Ty>, AllocError>
     requires { HasRoom definitions.now.names (map (λ head. head.now) definitions.now.heads.items) (λ names. all_parts names types.now) room }
-    ensures { (names : Naming) → Knows names definitions.now.names (map (λ head. head.now) definitions.now.heads.items) → IfOk result (λ made. map shape made ≡ map (domain_meaning names) types.now) }
+    ensures { (names : Naming) → Knows names definitions.now.names (map (λ head. head.now) definitions.now.heads.items)
+        → IfOk result (λ made. map shape made ≡ map (domain_meaning names) types.now) }
 {
     let mut all = List::new(alloc);
     for ty in types {
@@ -128,7 +132,8 @@ pub(crate) fn resolve_members<'a>(
     room: u64,
 ) -> Result<List<(Text, Ty)>, AllocError>
     requires { HasRoom definitions.now.names (map (λ head. head.now) definitions.now.heads.items) (λ names. all_parts names (field_types fields.now)) room }
-    ensures { (names : Naming) → Knows names definitions.now.names (map (λ head. head.now) definitions.now.heads.items) → IfOk result (λ made. typed made ≡ map (field_meaning names) fields.now) }
+    ensures { (names : Naming) → Knows names definitions.now.names (map (λ head. head.now) definitions.now.heads.items)
+        → IfOk result (λ made. typed made ≡ map (field_meaning names) fields.now) }
 {
     let mut all = List::new(alloc);
     for field in fields {
@@ -146,7 +151,8 @@ pub(crate) fn resolve_attributes<'a>(
     room: u64,
 ) -> Result<List<(Text, Ty)>, AllocError>
     requires { HasRoom definitions.now.names (map (λ head. head.now) definitions.now.heads.items) (λ names. all_parts names (field_types fields.now)) room }
-    ensures { (names : Naming) → Knows names definitions.now.names (map (λ head. head.now) definitions.now.heads.items) → IfOk result (λ made. typed made ≡ map (attribute_meaning names) fields.now) }
+    ensures { (names : Naming) → Knows names definitions.now.names (map (λ head. head.now) definitions.now.heads.items)
+        → IfOk result (λ made. typed made ≡ map (attribute_meaning names) fields.now) }
 {
     let mut all = List::new(alloc);
     for field in fields {

@@ -91,7 +91,9 @@ pub(crate) fn check_type<'a>(
     ty: &'a TypeTerm,
 ) -> Result<Option<Fault>, AllocError>
     ensures { (names : List ℕ → Shape) → Knows names definitions.now.names (map (λ head. head.now) definitions.now.heads.items)
-        → IfOk result (λ found. found ≡ first (faults_in names (record { wanted = asked wanted; at = ty.now.span.start; written = tree ty.now.kind } ∷ inside (tree ty.now.kind)))) }
+        → IfOk result
+        (λ found. found
+        ≡ first (faults_in names (record { wanted = asked wanted; at = ty.now.span.start; written = tree ty.now.kind } ∷ inside (tree ty.now.kind)))) }
 {
     let here = check_site(alloc, definitions, wanted, ty)?;
     let inside = check_inside(alloc, definitions, &ty.kind)?;

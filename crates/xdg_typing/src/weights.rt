@@ -74,7 +74,9 @@ pub(crate) fn weights(
 ) -> Result<Vec<u64>, AllocError>
     requires within { (i : ℕ) → i < length order.now → slice_index_or order.now i 0 < length bodies.now }
     requires first { UsesFirst known.now (map (λ body. body.now) bodies.now) order.now }
-    ensures { IfOk result (λ made. (names : List ℕ → Shape) → Agrees names known.now (map (λ body. body.now) bodies.now) → WeighedBefore names known.now order.now (length order.now) made.items) }
+    ensures { IfOk result
+        (λ made. (names : List ℕ → Shape) → Agrees names known.now (map (λ body. body.now) bodies.now)
+        → WeighedBefore names known.now order.now (length order.now) made.items) }
 {
     let mut weights = vec![in alloc; LEAF; bodies.len()]?;
     for i in 0..order.len() {
