@@ -12,8 +12,8 @@ use Rattle.xdg_build.specs.Solutions.{KeepsSolutions}
 use Rattle.xdg_io.specs.Held.{Appends, AppendsFront}
 use Rattle.xdg_linear.specs.Arranged.{Advances, Arranged}
 use Rattle.xdg_linear.specs.Ranks.{words_at}
-use Rattle.xdg_listing.specs.declared.Ending.{Ending}
-use Rattle.xdg_listing.specs.declared.Ending.TheVariants as endings
+use Rattle.xdg_facts.specs.declared.Ending.{Ending}
+use Rattle.xdg_facts.specs.declared.Ending.TheVariants as endings
 use Rattle.xdg_inputs.specs.Runs.{LeavesFront}
 use Rattle.xdg_inputs.specs.declared.status.Status.{Status}
 use Rattle.xdg_inputs.specs.declared.status.Status.TheVariants as statuses

@@ -3,13 +3,13 @@ use Rattle.std.proofs.Common.{◌≡◌, ◌∙◌, ℕ, List, [], length, map, 
 use Rattle.std.proofs.lemmas.List.{take-map}
 use Rattle.xdg_split.proofs.Boxing.{boxed_listing}
 use Rattle.xdg_arrange.specs.Found.{Finds, IsOneFind}
-use Rattle.xdg_listing.specs.Answered.{Answered}
-use Rattle.xdg_listing.specs.Endings.{IsEnding}
-use Rattle.xdg_listing.specs.declared.Ending.{Ending}
-use Rattle.xdg_listing.proofs.Drawing.{ending_of}
-use Rattle.xdg_listing.proofs.OneEnding.{ending_unique}
-use Rattle.xdg_listing.proofs.Unique.{listing_unique}
-use Rattle.xdg_listing.proofs.Wholes.{whole_unique}
+use Rattle.xdg_facts.specs.Answered.{Answered}
+use Rattle.xdg_facts.specs.Endings.{IsEnding}
+use Rattle.xdg_facts.specs.declared.Ending.{Ending}
+use Rattle.xdg_facts.proofs.Drawing.{ending_of}
+use Rattle.xdg_facts.proofs.OneEnding.{ending_unique}
+use Rattle.xdg_facts.proofs.Unique.{listing_unique}
+use Rattle.xdg_facts.proofs.Wholes.{whole_unique}
 use Rattle.xdg_problem.specs.declared.parts.Parts.{Parts}
 use Rattle.xdg_problem.specs.Problems.{IsProblem}
 use Rattle.xdg_problem.specs.Vectors.{analysis_of, shape, vector}

@@ -16,7 +16,7 @@ use Rattle.xdg_linear.specs.Listed.{AreArrangements, ArePassed}
 use Rattle.xdg_linear.specs.Ranks.{ranks_of, words_at}
 use Rattle.xdg_linear.proofs.Existing.{one_list}
 use Rattle.xdg_linear.proofs.Fronts.{passed_all, passed_first}
-use Rattle.xdg_listing.specs.declared.Ending.TheVariants as endings
+use Rattle.xdg_facts.specs.declared.Ending.TheVariants as endings
 use Rattle.xdg_problem.specs.declared.analysis.Analysis.{Analysis}
 
 -- The arrangements up to the present one are passed, and the rest are left, in front of which so many are printed.

@@ -11,12 +11,12 @@ use Rattle.xdg_arrange.specs.Found.{Adds, Finds, led_block, led_blocks}
 use Rattle.xdg_arrange.proofs.Finding.{finds_of}
 use Rattle.xdg_io.specs.Held.{Appends, AppendsFront}
 use Rattle.xdg_io.proofs.Written.{appends_both, appends_nothing, front_of_first, front_of_second}
-use Rattle.xdg_listing.specs.Answered.{Answered}
-use Rattle.xdg_listing.specs.Endings.{IsEnding}
-use Rattle.xdg_listing.specs.Whole.{reach}
-use Rattle.xdg_listing.specs.declared.Ending.{Ending}
-use Rattle.xdg_listing.specs.declared.Ending.TheVariants as endings
-use Rattle.xdg_listing.proofs.Drawing.{ending_of}
+use Rattle.xdg_facts.specs.Answered.{Answered}
+use Rattle.xdg_facts.specs.Endings.{IsEnding}
+use Rattle.xdg_facts.specs.Whole.{reach}
+use Rattle.xdg_facts.specs.declared.Ending.{Ending}
+use Rattle.xdg_facts.specs.declared.Ending.TheVariants as endings
+use Rattle.xdg_facts.proofs.Drawing.{ending_of}
 use Rattle.xdg_problem.specs.declared.analysis.Analysis.{Analysis}
 use Rattle.xdg_problem.specs.declared.parts.Parts.{Parts}
 use Rattle.xdg_problem.specs.Analyses.{IsAnalysis}

@@ -29,7 +29,7 @@ use Rattle.xdg_inputs.proofs.Trees.{first_byte}
 use Rattle.xdg_packed.specs.Lexicon.{Lexicon}
 use Rattle.xdg_problem.specs.declared.parts.SentenceWord.{SentenceWord}
 use Rattle.xdg_linear.specs.Segments.{words_in}
-use Rattle.xdg_listing.proofs.Texts.{one_place}
+use Rattle.xdg_facts.proofs.Texts.{one_place}
 
 -- ---- few words
 

@@ -5,8 +5,8 @@ use Rattle.xdg_build.specs.Solutions.{KeepsSolutions}
 use Rattle.xdg_build.specs.Grammars.{Grammar}
 use Rattle.xdg_linear.specs.Listed.{AreArrangements}
 use Rattle.xdg_linear.specs.Ranks.{ranks_of, words_at}
-use Rattle.xdg_listing.specs.declared.Ending.{Ending}
-use Rattle.xdg_listing.specs.declared.Ending.TheVariants as endings
+use Rattle.xdg_facts.specs.declared.Ending.{Ending}
+use Rattle.xdg_facts.specs.declared.Ending.TheVariants as endings
 use Rattle.xdg_inputs.specs.declared.status.Status.{Status}
 use Rattle.xdg_inputs.specs.declared.status.Status.TheVariants as statuses
 use Rattle.xdg_problem.specs.declared.analysis.Analysis.{Analysis}

@@ -29,7 +29,7 @@ use Rattle.xdg_ast.specs.declared.types.TypeKind.TheVariants as y
 use Rattle.xdg_ast.specs.declared.types.TypeKind.TheViews.{out-TypeKind}
 use Rattle.xdg_ast.specs.declared.types.TypeKind.TheOpen.{TypeKind-F}
 use Rattle.xdg_ast.specs.declared.types.TypeKind.TheFolds.{fold-roll-TypeKind}
-use Rattle.xdg_listing.proofs.Lists.{fused}
+use Rattle.xdg_facts.proofs.Lists.{fused}
 
 bare_gen_and : (xs : List (Spanned GenKind)) → bare_gen (g.And xs) ≡ g.And (map (bare_part bare_gen) xs)
 bare_gen_and xs = ap bare_gen (sym (g.rolls-And xs)) ∙ fold-roll-GenKind GenKind bare_gen_step (GenKind-F.And xs) ∙ ap g.And (fused (bare) _ xs)

@@ -4,7 +4,7 @@ use Rattle.std.specs.Prelude.{◌↔◌, IsTrue, Bool, slice_index_or}
 use Rattle.xdg_ast.specs.declared.names.Pair.{Pair}
 use Rattle.xdg_ast.specs.declared.names.Spanned.{Spanned}
 use Rattle.xdg_ast.specs.Same.{bare_part, bare_name, bare_pair, nowhere}
-use Rattle.xdg_listing.proofs.Lists.{head_of, tail_of}
+use Rattle.xdg_facts.proofs.Lists.{head_of, tail_of}
 
 -- lists with the same images, read at one place
 same_at : {A B : Type 0} (f : A → B) (xs ys : List A) (at : ℕ) (d e : A) → at < length xs → map f xs ≡ map f ys → f (slice_index_or xs at d) ≡ f (slice_index_or ys at e)

@@ -21,7 +21,7 @@ use Rattle.xdg_best.specs.declared.statements.Statement.TheVariants as statement
 use Rattle.xdg_best.specs.Building.{has_entry, has_place, IsFreshPlace, Built, Adds}
 use Rattle.xdg_best.specs.Meaning.{entry_costs, label_costs, placed, is_of_entry, is_at, is_of_place, entry_fault, edge_fault}
 use Rattle.xdg_best.specs.Naming.{Place, place_of}
-use Rattle.xdg_listing.proofs.Truths.{or_false, or_true}
+use Rattle.xdg_facts.proofs.Truths.{or_false, or_true}
 
 -- ---- lists
 

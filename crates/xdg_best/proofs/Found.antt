@@ -6,12 +6,12 @@ use Rattle.std.proofs.lemmas.Bool.{ltb-false}
 use Rattle.std.proofs.lemmas.List.{take_all}
 use Rattle.xdg_best.specs.Rounds.{Finds, FindsNone}
 use Rattle.xdg_best.proofs.Lists.{behind_item, each_member, member_parts, middle, no_member}
-use Rattle.xdg_listing.specs.Fits.{Fits}
-use Rattle.xdg_listing.specs.Listing.{Member}
-use Rattle.xdg_listing.specs.Order.{Less}
-use Rattle.xdg_listing.specs.Whole.{is_whole}
-use Rattle.xdg_listing.proofs.Ordered.{less_irreflexive, less_transitive}
-use Rattle.xdg_listing.proofs.Unique.{rises_above}
+use Rattle.xdg_facts.specs.Fits.{Fits}
+use Rattle.xdg_facts.specs.Listing.{Member}
+use Rattle.xdg_facts.specs.Order.{Less}
+use Rattle.xdg_facts.specs.Whole.{is_whole}
+use Rattle.xdg_facts.proofs.Ordered.{less_irreflexive, less_transitive}
+use Rattle.xdg_facts.proofs.Unique.{rises_above}
 use Rattle.xdg_problem.specs.declared.analysis.Analysis.{Analysis}
 use Rattle.xdg_problem.specs.declared.parts.Parts.{Parts}
 use Rattle.xdg_problem.specs.Problems.{IsProblem}

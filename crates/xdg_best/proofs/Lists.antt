@@ -3,12 +3,12 @@ use Rattle.std.proofs.Common.{◌≡◌, ◌∙◌, ℕ, suc, ◌+◌, ◌-◌, 
 use Rattle.std.specs.Prelude.{filter}
 use Rattle.std.specs.List.{AllByRecursion}
 use Rattle.std.proofs.lemmas.List.Elements.{filter-append}
-use Rattle.xdg_listing.specs.Fits.{Fits}
-use Rattle.xdg_listing.specs.Listing.{IsListing, Member, RisesFrom}
-use Rattle.xdg_listing.specs.Order.{Less, AtMost}
-use Rattle.xdg_listing.proofs.Ordered.{at_most_less}
-use Rattle.xdg_listing.proofs.Wholes.{filter_member}
-use Rattle.xdg_listing.proofs.Unique.{rises_above, listing_tail}
+use Rattle.xdg_facts.specs.Fits.{Fits}
+use Rattle.xdg_facts.specs.Listing.{IsListing, Member, RisesFrom}
+use Rattle.xdg_facts.specs.Order.{Less, AtMost}
+use Rattle.xdg_facts.proofs.Ordered.{at_most_less}
+use Rattle.xdg_facts.proofs.Wholes.{filter_member}
+use Rattle.xdg_facts.proofs.Unique.{rises_above, listing_tail}
 
 -- what holds of each member
 pub each_member : (Q : List ℕ → Type 0) (xs : List (List ℕ)) (x : List ℕ) → AllByRecursion Q xs → Member xs x → Q x

@@ -5,10 +5,10 @@ use Rattle.xdg_best.specs.declared.rounds.BestAnswer.{BestAnswer}
 use Rattle.xdg_best.specs.Best.{IsAnswer, IsOneAnswer}
 use Rattle.xdg_best.specs.Rounds.{Finds, FindsNone, Rounds, used_up, ends, goes_on, round_parts, round_start, found_cost}
 use Rattle.xdg_best.proofs.Lists.{no_member}
-use Rattle.xdg_listing.specs.Listing.{IsListing, Member}
-use Rattle.xdg_listing.specs.Whole.{is_whole}
-use Rattle.xdg_listing.proofs.Ordered.{three_cases}
-use Rattle.xdg_listing.proofs.Unique.{listing_unique}
+use Rattle.xdg_facts.specs.Listing.{IsListing, Member}
+use Rattle.xdg_facts.specs.Whole.{is_whole}
+use Rattle.xdg_facts.proofs.Ordered.{three_cases}
+use Rattle.xdg_facts.proofs.Unique.{listing_unique}
 use Rattle.xdg_problem.specs.declared.analysis.Analysis.{Analysis}
 use Rattle.xdg_problem.specs.declared.parts.Parts.{Parts}
 use Rattle.xdg_problem.specs.Costs.{CostLists, cost_of}

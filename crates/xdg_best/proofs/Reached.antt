@@ -6,19 +6,19 @@ use Rattle.std.proofs.lemmas.Bool.{ltb-true}
 use Rattle.xdg_best.specs.Rounds.{Finds, FindsNone, Rounds, used_up, ends, goes_on, round_parts, round_start}
 use Rattle.xdg_best.proofs.Lists.{before_item, middle, no_longer, rises_left, rises_on}
 use Rattle.xdg_best.proofs.Unbounded.{unbounded}
-use Rattle.xdg_listing.specs.Fits.{Fits}
-use Rattle.xdg_listing.specs.Listing.{IsListing, RisesFrom}
-use Rattle.xdg_listing.specs.Order.{Less, AtMost}
-use Rattle.xdg_listing.proofs.Exists.{each_weaker}
-use Rattle.xdg_listing.proofs.Ordered.{at_most_transitive}
-use Rattle.xdg_listing.proofs.Unique.{rises_above}
+use Rattle.xdg_facts.specs.Fits.{Fits}
+use Rattle.xdg_facts.specs.Listing.{IsListing, RisesFrom}
+use Rattle.xdg_facts.specs.Order.{Less, AtMost}
+use Rattle.xdg_facts.proofs.Exists.{each_weaker}
+use Rattle.xdg_facts.proofs.Ordered.{at_most_transitive}
+use Rattle.xdg_facts.proofs.Unique.{rises_above}
 use Rattle.xdg_problem.specs.declared.analysis.Analysis.{Analysis}
 use Rattle.xdg_problem.specs.declared.parts.Parts.{Parts}
 use Rattle.xdg_problem.specs.Costs.{CostLists, cost_of}
 use Rattle.xdg_problem.specs.Further.{bound_of, with_uses}
 use Rattle.xdg_problem.specs.Vectors.{shape, vector}
 use Rattle.xdg_rules.specs.Boxed.{Boxed}
-use Rattle.xdg_listing.proofs.Lists.{each_left, each_append}
+use Rattle.xdg_facts.proofs.Lists.{each_left, each_append}
 
 least_start : (x : List ℕ) → AtMost [] x
 least_start [] = inl refl

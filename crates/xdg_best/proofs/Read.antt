@@ -21,7 +21,7 @@ use Rattle.xdg_best.specs.declared.statements.Turn.TheVariants as turns
 use Rattle.xdg_best.specs.Statements.{is_number, is_constant, is_name, is_word, entry_word, edge_word, Says, entry, edge, Derives}
 use Rattle.xdg_best.specs.Reading.{Starts, Ends, IsUnexpectedAt, IsRefused, unexpected, IsAnswer, Tells, Gives}
 use Rattle.xdg_best.specs.Turns.{turn_of, Outcome, after_turn, after_last, run, Runs}
-use Rattle.xdg_listing.proofs.Truths.{choose}
+use Rattle.xdg_facts.proofs.Truths.{choose}
 
 -- ---- one step
 

@@ -6,14 +6,14 @@ use Rattle.std.proofs.lemmas.Bool.{lt-ltb, le-ltb}
 use Rattle.std.proofs.lemmas.List.{take_all, take-append-le}
 use Rattle.xdg_best.specs.Rounds.{Finds, FindsNone}
 use Rattle.xdg_best.proofs.Lists.{each_member, EndsWith, ends_with, none_before}
-use Rattle.xdg_listing.specs.Answered.{Drawn}
-use Rattle.xdg_listing.specs.Closed.{NoneAfter, SomeAfter}
-use Rattle.xdg_listing.specs.Fits.{Fits}
-use Rattle.xdg_listing.specs.Listing.{IsListing, Member, SoFar}
-use Rattle.xdg_listing.specs.Order.{Less}
-use Rattle.xdg_listing.specs.Whole.{is_whole}
-use Rattle.xdg_listing.proofs.Joined.{so_far_end, so_far_split}
-use Rattle.xdg_listing.proofs.Ordered.{less_irreflexive}
+use Rattle.xdg_facts.specs.Answered.{Drawn}
+use Rattle.xdg_facts.specs.Closed.{NoneAfter, SomeAfter}
+use Rattle.xdg_facts.specs.Fits.{Fits}
+use Rattle.xdg_facts.specs.Listing.{IsListing, Member, SoFar}
+use Rattle.xdg_facts.specs.Order.{Less}
+use Rattle.xdg_facts.specs.Whole.{is_whole}
+use Rattle.xdg_facts.proofs.Joined.{so_far_end, so_far_split}
+use Rattle.xdg_facts.proofs.Ordered.{less_irreflexive}
 use Rattle.xdg_base.specs.declared.ids.EntryNo.{EntryNo}
 use Rattle.xdg_problem.specs.declared.analysis.Analysis.{Analysis}
 use Rattle.xdg_problem.specs.declared.analysis.Edge.{Edge}

@@ -15,7 +15,7 @@ use Rattle.xdg_rules.specs.Bounds.{BoundPlace}
 use Rattle.xdg_rules.specs.Worths.{Makes, MakesEach, MakesSome}
 use Rattle.xdg_problem.specs.Truths.{unbound}
 use Rattle.xdg_rules.specs.Rules.{TestDecided, FailsTest, ValencyEntry, ValencyFull, ValencyNeeded, OneMother, RootFound, OnlyMother, NoCycle, OneLabel, AgrValues, AgreementValues, GovernmentValues, DaughterOrder, AboutHead, OfHead, ProjectivityReach, ClimbingReach, BarriersReach, LinkingReach, LinkingNotDaughter, TakesForRoot, TakesBy, Takes, IsClosedFor, IsClosed}
-use Rattle.xdg_listing.proofs.Lists.{all_before}
+use Rattle.xdg_facts.proofs.Lists.{all_before}
 
 module _ (parts : Parts) (uses : List Group) where
   -- ---- the rules take as much

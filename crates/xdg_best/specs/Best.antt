@@ -2,8 +2,8 @@
 use Rattle.std.specs.Prelude.{◌≡◌, ℕ, ◌<◌, ◌≤◌, true, false, List, [], length, Option, Some, None}
 use Rattle.xdg_best.specs.declared.rounds.BestAnswer.{BestAnswer}
 use Rattle.xdg_best.specs.Rounds.{Rounds, found_cost}
-use Rattle.xdg_listing.specs.Listing.{IsListing}
-use Rattle.xdg_listing.specs.Order.{Less}
+use Rattle.xdg_facts.specs.Listing.{IsListing}
+use Rattle.xdg_facts.specs.Order.{Less}
 use Rattle.xdg_problem.specs.declared.analysis.Analysis.{Analysis}
 use Rattle.xdg_problem.specs.declared.parts.Parts.{Parts}
 use Rattle.xdg_problem.specs.Costs.{CostLists, cost_of}

@@ -20,7 +20,7 @@ use Rattle.xdg_build.proofs.AtomLaws.{typed_at}
 use Rattle.xdg_build.proofs.FeatLaws.{feature_at}
 use Rattle.xdg_build.proofs.Rightly.{IsAttrRight, IsFeatRight}
 use Rattle.xdg_build.proofs.Standing.{dim_below, type_found}
-use Rattle.xdg_listing.proofs.Options.{some_same}
+use Rattle.xdg_facts.proofs.Options.{some_same}
 
 pub type_within : (all : List (List ℕ × Ty)) (name : List ℕ) (i : ℕ) → IsPlaceOf (firsts all) name i → i < length all
 type_within all name i place = (let at = type_found all name i place in slice_get_within all i (name, at.0) at.1.stands)

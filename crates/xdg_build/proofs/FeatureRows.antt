@@ -17,7 +17,7 @@ use Rattle.xdg_build.specs.Features.{members_in, rows_in}
 use Rattle.xdg_build.proofs.TypeRows.{sizes_again, is_said}
 use Rattle.xdg_build.specs.Readings.{value_texts, IsMember, IsMemberAt, IsAllowedAt}
 use Rattle.xdg_build.proofs.Different.{one_place, same_tuple}
-use Rattle.xdg_listing.proofs.Options.{some_same}
+use Rattle.xdg_facts.proofs.Options.{some_same}
 
 -- ---- values by their constants
 

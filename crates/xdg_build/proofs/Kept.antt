@@ -6,7 +6,7 @@ use Rattle.indexmap.specs.IndexMap.{insert_entry}
 use Rattle.xdg_packed.specs.Lexicon.{Entry}
 use Rattle.xdg_problem.specs.declared.parts.Feat.{Feat}
 use Rattle.xdg_build.specs.Rows.{record_of, features_in_record, AreKept}
-use Rattle.xdg_listing.proofs.Options.{none_some, some_same}
+use Rattle.xdg_facts.proofs.Options.{none_some, some_same}
 
 module _ (entries : List Entry) (dim : ℕ) (places : List ℕ) where
   -- the features of the record of the entry with that number

@@ -26,7 +26,7 @@ use Rattle.xdg_build.specs.Refusals.{refusal}
 use Rattle.xdg_build.proofs.Admitted.{IsKnown, IsAdmitted, is_admitted}
 use Rattle.xdg_build.proofs.Numbered.{each_below, are_candidates}
 use Rattle.xdg_build.proofs.Planned as planned
-use Rattle.xdg_listing.proofs.Lists.{get_within}
+use Rattle.xdg_facts.proofs.Lists.{get_within}
 
 module _ (g : Grammar) (words : List SentenceWord) (groups : List Group) where
   abbrev made : Parts

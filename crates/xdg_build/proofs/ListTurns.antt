@@ -7,7 +7,7 @@ use Rattle.std.proofs.lemmas.List.{append_assoc, flat_map_more, take_more}
 use Rattle.std.proofs.Math.Seq.{drop-cons}
 use Rattle.xdg_types.specs.Table.{Table}
 use Rattle.xdg_build.specs.Grammars.{place_in, is_used}
-use Rattle.xdg_listing.proofs.Lists.{from_place}
+use Rattle.xdg_facts.proofs.Lists.{from_place}
 
 -- ---- lists of lists
 

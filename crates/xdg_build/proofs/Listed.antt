@@ -26,8 +26,8 @@ use Rattle.xdg_build.specs.Groups.{labels_in}
 use Rattle.xdg_build.proofs.Forms.{form_of}
 use Rattle.xdg_build.proofs.Lists.{all_in, all_mapped}
 use Rattle.xdg_build.proofs.Named.{unlisted}
-use Rattle.xdg_listing.proofs.Lists.{pairs_none}
-use Rattle.xdg_listing.proofs.Lists.{all_none, all_cons}
+use Rattle.xdg_facts.proofs.Lists.{pairs_none}
+use Rattle.xdg_facts.proofs.Lists.{all_none, all_cons}
 
 pairs_cons : {X : Type 0} (R : X → X → Type 0) (x : X) (xs : List X) → All (λ y. R x y) xs → AllPairs R xs → AllPairs R (x ∷ xs)
 pairs_cons R x xs h t i zero d order within = absurd (omega (arith, order))

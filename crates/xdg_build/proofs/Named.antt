@@ -23,7 +23,7 @@ use Rattle.xdg_principles.specs.Typed.{IsTypedUse, IsTypedArg, AreTypedArgs, IsT
 use Rattle.xdg_build.specs.Groups.{features_in, attrs_in, labels_in, truths_in}
 use Rattle.xdg_build.specs.Rows.{IsSmallArg}
 use Rattle.xdg_build.proofs.Forms.{typings, all_typings, truths_in_all, truths_wanted_by}
-use Rattle.xdg_listing.proofs.Lists.{all_cons, all_none}
+use Rattle.xdg_facts.proofs.Lists.{all_cons, all_none}
 
 -- ---- features and attributes
 

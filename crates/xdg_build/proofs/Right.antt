@@ -45,7 +45,7 @@ use Rattle.xdg_build.proofs.Named.{AreMembers, attr_id, numbers, all_members, as
 use Rattle.xdg_build.proofs.Said.{FitAll, all_fit, entry_at}
 use Rattle.xdg_build.proofs.Taken.{Sizes, SharesFirst, taken}
 use Rattle.xdg_build.proofs.TypeRows.{same_count}
-use Rattle.xdg_listing.proofs.Lists.{all_none, all_cons}
+use Rattle.xdg_facts.proofs.Lists.{all_none, all_cons}
 
 -- the features that a use of that principle takes of an entry
 abbrev pub taken_at : Grammar → PrincipleUse → Principle → EntryNo → List Feat

@@ -24,7 +24,7 @@ use Rattle.xdg_build.proofs.Dimensions.{Home, is_used_home, members-home}
 use Rattle.xdg_build.proofs.Forms.{AreOf}
 use Rattle.xdg_build.proofs.Named.{AreMembers}
 use Rattle.xdg_build.proofs.TypeRows.{RowsFit, value_rows}
-use Rattle.xdg_listing.proofs.Options.{none_some, some_same}
+use Rattle.xdg_facts.proofs.Options.{none_some, some_same}
 
 -- ---- a record
 

@@ -64,7 +64,7 @@ use Rattle.xdg_build.proofs.Told as told
 use Rattle.xdg_build.proofs.Told.{IsTold, on_feature}
 use Rattle.xdg_build.proofs.Different.{one_place}
 use Rattle.xdg_build.proofs.FeatureRows.{same_number, Names, names_number, names_some, same_texts, element, element_right, element_small, member_names, members_below, set_row_is, valency_allows, IsMapRow, map_row_is}
-use Rattle.xdg_listing.proofs.Facts.{then_iff}
+use Rattle.xdg_facts.proofs.Facts.{then_iff}
 
 -- ---- members
 

@@ -11,7 +11,7 @@ use Rattle.xdg_types.specs.declared.table.DimType.{DimType}
 use Rattle.xdg_types.specs.Table.{firsts}
 use Rattle.xdg_formula.specs.Tables.{dim_named, dims_at, no_dim, type_named}
 use Rattle.xdg_build.specs.Places.{IsDimAt, IsPlaceOf, IsTypeAt, names_at}
-use Rattle.xdg_listing.proofs.Texts.{same_text}
+use Rattle.xdg_facts.proofs.Texts.{same_text}
 
 front : {A : Type 0} (xs : List A) (i : ℕ) (x d : A) → i < length xs → x ≡ get_or xs i d → drop i xs ≡ x ∷ drop (i + 1) xs
 front xs i x d l is = rw (add-one, drop-cons xs i d) (ap (λ y. y ∷ drop (suc i) xs) (sym is))

@@ -19,7 +19,7 @@ use Rattle.xdg_problem.specs.Problems.{AreFeatures, AreSets, IsSet, IsValency, I
 use Rattle.xdg_build.proofs.Forms.{form_of, feature_typings, attr_typings}
 use Rattle.xdg_build.proofs.Said.{FitAll}
 use Rattle.xdg_build.proofs.TypeRows.{size}
-use Rattle.xdg_listing.proofs.Lists.{all_cons, all_one}
+use Rattle.xdg_facts.proofs.Lists.{all_cons, all_one}
 
 -- the first attribute is one of the shared type
 abbrev pub SharesFirst : List (Which × Typing) → Type 0

@@ -22,7 +22,7 @@ use Rattle.xdg_principles.specs.Wanted.{IsSame, IsSetOf}
 use Rattle.xdg_problem.specs.Problems.{IsCardinality, IsSet}
 use Rattle.xdg_build.specs.Features.{members_in, rows_in}
 use Rattle.xdg_build.proofs.Cardinalities.{increases}
-use Rattle.xdg_listing.proofs.Lists.{all_none, all_cons, all_one}
+use Rattle.xdg_facts.proofs.Lists.{all_none, all_cons, all_one}
 
 -- ---- how many elements
 

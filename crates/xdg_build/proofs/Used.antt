@@ -26,7 +26,7 @@ use Rattle.xdg_packed.specs.Lexicon.{Lexicon}
 use Rattle.xdg_build.specs.Places.{IsDimAt}
 use Rattle.xdg_build.specs.Problems.{IsPlanOf, IsFor}
 use Rattle.xdg_build.specs.Truths.{IsCalled}
-use Rattle.xdg_listing.proofs.Lists.{zip_length}
+use Rattle.xdg_facts.proofs.Lists.{zip_length}
 
 -- ---- lists side by side
 

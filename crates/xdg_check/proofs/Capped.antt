@@ -2,7 +2,7 @@
 use Rattle.std.proofs.Common.{◌≡◌, ℕ, ◌≤◌, ◌*◌, zero, suc, min, inl, inr, ap, sym, ◌∙◌, arith}
 use Rattle.std.proofs.Math.Nat.{min-eq_left, min-eq_right, mul_assoc, mul_comm}
 use Rattle.std.proofs.lemmas.Bool.{cases_lt}
-use Rattle.xdg_listing.proofs.Numbers.{grown}
+use Rattle.xdg_facts.proofs.Numbers.{grown}
 
 beyond_both : (a b most : ℕ) → most ≤ a → min (most * b) most ≡ min (a * b) most
 beyond_both a zero most beyond = omega arith

@@ -14,7 +14,7 @@ use Rattle.xdg_check.specs.Checked.{IsOrder}
 use Rattle.xdg_check.specs.Filled.{AreFilled}
 use Rattle.xdg_check.proofs.SameCounts.{same_uses, same_combos, uses_stop, combos_stop}
 use Rattle.xdg_check.proofs.Naming.{in_at_place, name_of_place, names, names_agree, one_naming, in_order}
-use Rattle.xdg_listing.proofs.Lists.{some_at}
+use Rattle.xdg_facts.proofs.Lists.{some_at}
 
 -- ---- a list with one element changed
 

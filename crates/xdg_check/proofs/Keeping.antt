@@ -30,7 +30,7 @@ use Rattle.xdg_check.specs.Checked.{named_body, named_bodies, IsRight, IsScoped,
 use Rattle.xdg_check.proofs.Binding.{class_of, is_bound, left_pair}
 use Rattle.xdg_check.proofs.Opened.{less_open, wants_stand}
 use Rattle.xdg_check.proofs.Sources.{same_records, completed_calls, completed_call, map_in, named_in, source_of, class_scoped, class_body}
-use Rattle.xdg_listing.proofs.Texts.{same_text}
+use Rattle.xdg_facts.proofs.Texts.{same_text}
 
 -- ---- what is right in the text
 

@@ -7,7 +7,7 @@ use Rattle.xdg_classes.specs.Bodies.{Expr, body}
 use Rattle.xdg_classes.proofs.Bodied.{trees, body_or, body_and}
 use Rattle.xdg_check.specs.Counts.{Counting, uses, sum_of_uses, combos, sum_of_combos, product_of_combos, capped}
 use Rattle.xdg_check.proofs.Capped.{factor_more}
-use Rattle.xdg_listing.proofs.Numbers.{alone as alone_too}
+use Rattle.xdg_facts.proofs.Numbers.{alone as alone_too}
 
 -- what is left at a member, and behind it
 cut : (items : List Expr) (k : ℕ) (e : Expr) → k < length items → e ≡ get_or items k e → drop k items ≡ e ∷ drop (k + 1) items

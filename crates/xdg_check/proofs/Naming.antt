@@ -14,7 +14,7 @@ use Rattle.xdg_classes.specs.Bodies.{Body, body, Called, calls}
 use Rattle.xdg_check.specs.declared.checked.Class.{Class}
 use Rattle.xdg_check.specs.Counts.{Counting, class_texts, Agrees}
 use Rattle.xdg_check.specs.Checked.{IsOrder}
-use Rattle.xdg_listing.proofs.Lists.{some_at}
+use Rattle.xdg_facts.proofs.Lists.{some_at}
 
 -- ---- classes by place
 

@@ -16,7 +16,7 @@ use Rattle.xdg_check.specs.declared.checked.EntryDef.{EntryDef}
 use Rattle.xdg_check.specs.Completed.{completed, all_completed, bound_by}
 use Rattle.xdg_check.specs.Answers.{IsClassOf, AreClassesOf, IsEntryOf, AreEntriesOf}
 use Rattle.xdg_check.specs.Counts.{class_texts}
-use Rattle.xdg_listing.proofs.Texts.{same_text}
+use Rattle.xdg_facts.proofs.Texts.{same_text}
 
 -- ---- what stands in a completed body
 

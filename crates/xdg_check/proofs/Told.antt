@@ -6,7 +6,7 @@ use Rattle.xdg_check.specs.declared.checked.Class.{Class}
 use Rattle.xdg_check.specs.Counts.{Counting, uses, combos, class_texts, Agrees, capped, AreCounted, kept_by, kept_at, looked_up}
 use Rattle.xdg_check.proofs.Naming.{in_at_place, name_of_place, place_within, no_among}
 use Rattle.xdg_check.proofs.SameCounts.{uses_stop, combos_stop}
-use Rattle.xdg_listing.proofs.Lists.{some_at}
+use Rattle.xdg_facts.proofs.Lists.{some_at}
 
 -- what the classes keep of a name is its count
 kept_right : (count : Counting → Body → ℕ) (kept : Class → ℕ) (cs : List Class) → AreCounted count kept cs → (names : Counting) → Agrees count cs names → (name : List ℕ) → looked_up kept (class_texts cs) cs name ≡ capped (names name)

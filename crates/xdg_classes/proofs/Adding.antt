@@ -14,7 +14,7 @@ use Rattle.xdg_names.specs.First.{In}
 use Rattle.xdg_names.proofs.In.{in_append, in_left, in_right}
 use Rattle.xdg_terms.specs.Wanted.{Want}
 use Rattle.xdg_classes.specs.Given.{shapes, shapes_at, Adds}
-use Rattle.xdg_listing.proofs.Options.{same_mark}
+use Rattle.xdg_facts.proofs.Options.{same_mark}
 
 -- the types of each parameter, where these are the parameters
 abbrev pub on : List (List ℕ) → List (List (Bor Ty)) → List ℕ → List Shape

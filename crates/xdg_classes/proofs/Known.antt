@@ -15,7 +15,7 @@ use Rattle.xdg_classes.specs.NameFaults.{Asked, asked_by}
 use Rattle.xdg_classes.specs.Known.{shown, KnowsClasses}
 use Rattle.xdg_classes.specs.Lent.{class_def}
 use Rattle.xdg_classes.specs.Ordered.{class_at}
-use Rattle.xdg_listing.proofs.Truths.{none_or}
+use Rattle.xdg_facts.proofs.Truths.{none_or}
 
 -- ---- the class with a name
 

@@ -13,8 +13,8 @@ use Rattle.xdg_command.proofs.Placed.{put}
 use Rattle.xdg_command.proofs.Reader.{onward}
 use Rattle.xdg_command.proofs.Rules.{added, flag_rule, form, operand_rule, row, value_rule}
 use Rattle.xdg_command.proofs.Spelled.{flag_form, value_form}
-use Rattle.xdg_listing.proofs.Lists.{some_at}
-use Rattle.xdg_listing.proofs.Texts.{equal}
+use Rattle.xdg_facts.proofs.Lists.{some_at}
+use Rattle.xdg_facts.proofs.Texts.{equal}
 
 -- the options of the items are options of the table
 abbrev pub Formed : Table → List Item → Type 0

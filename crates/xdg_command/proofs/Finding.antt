@@ -14,7 +14,7 @@ use Rattle.xdg_command.proofs.Fitting.{operand_row, rows_of_items}
 use Rattle.xdg_command.proofs.Lookups.{Right, differ}
 use Rattle.xdg_command.proofs.Rules.{flag_rule, form, row, value_rule}
 use Rattle.xdg_command.proofs.Uses.{at_none}
-use Rattle.xdg_listing.proofs.Texts.{equal, same_text}
+use Rattle.xdg_facts.proofs.Texts.{equal, same_text}
 
 abbrev pub found_in : List ℕ → List Row → Option Row
 found_in name rows = find (λ r. bytes_eq r.id name) rows

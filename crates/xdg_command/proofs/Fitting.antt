@@ -9,8 +9,8 @@ use Rattle.xdg_command.specs.Syntax.{Table}
 use Rattle.xdg_command.proofs.Placed.{put, put_operand}
 use Rattle.xdg_command.proofs.Reader.{onward}
 use Rattle.xdg_command.proofs.Rules.{added, flag_rule, operand_rule, row, value_rule}
-use Rattle.xdg_listing.proofs.Texts.{same_text}
-use Rattle.xdg_listing.proofs.Lists.{get_within}
+use Rattle.xdg_facts.proofs.Texts.{same_text}
+use Rattle.xdg_facts.proofs.Lists.{get_within}
 
 -- ---- rows
 

@@ -11,8 +11,8 @@ use Rattle.xdg_command.specs.Items.{is_among}
 use Rattle.xdg_command.specs.Syntax.{Table, all_differ, are_apart, is_name, is_right}
 use Rattle.xdg_command.proofs.Built.{numbered, options_in, rules_in}
 use Rattle.xdg_command.proofs.Rules.{Finds, flag_rule, form, operand_rule, option_rule, value_rule}
-use Rattle.xdg_listing.proofs.Truths.{or_false}
-use Rattle.xdg_listing.proofs.Texts.{equal, same_text}
+use Rattle.xdg_facts.proofs.Truths.{or_false}
+use Rattle.xdg_facts.proofs.Texts.{equal, same_text}
 
 -- ---- names
 

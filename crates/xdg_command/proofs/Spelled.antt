@@ -11,7 +11,7 @@ use Rattle.xdg_command.specs.Syntax.{Table, is_name}
 use Rattle.xdg_command.proofs.Lookups.{Right, apart_at}
 use Rattle.xdg_command.proofs.Reader.{behind, by_form, by_letters, by_long, by_value, read, unless_long}
 use Rattle.xdg_command.proofs.Rules.{form}
-use Rattle.xdg_listing.proofs.Texts.{same_text}
+use Rattle.xdg_facts.proofs.Texts.{same_text}
 
 -- ---- words
 

@@ -11,7 +11,7 @@ use Rattle.std.proofs.lemmas.Slice.Eq.{bytes_eq-Decides}
 use Rattle.clap.specs.declared.error.kind.ErrorKind.TheVariants as kind
 use Rattle.xdg_command.specs.Items.{dashed}
 use Rattle.xdg_command.proofs.Rules.{flag_rule, nothing, operand_rule, value_rule}
-use Rattle.xdg_listing.proofs.Truths.{and_false}
+use Rattle.xdg_facts.proofs.Truths.{and_false}
 
 abbrev pub held : List Row → Option (List ℕ × List (List ℕ)) → Held
 held rows pending = record { rows = rows; pending = pending; skip = 0 }

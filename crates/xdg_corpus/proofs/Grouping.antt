@@ -24,7 +24,7 @@ use Rattle.xdg_inputs.specs.declared.refusals.Refusal.TheVariants as refusals
 use Rattle.xdg_problem.specs.declared.parts.Parts.{Parts}
 use Rattle.xdg_propcore.specs.Uses.{AllStandIn}
 use Rattle.xdg_split.specs.Asked.{Asked, IsJob, asked}
-use Rattle.xdg_listing.proofs.Lists.{zip_more}
+use Rattle.xdg_facts.proofs.Lists.{zip_more}
 
 -- ---- lists
 

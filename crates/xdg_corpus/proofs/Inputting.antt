@@ -8,7 +8,7 @@ use Rattle.xdg_corpus.specs.Inputs.{HasText, IsBadCorpus, IsNoCorpus, corpus_lim
 use Rattle.xdg_inputs.specs.Places.{fault, place_in}
 use Rattle.xdg_inputs.specs.Refusals.{RejectsAt}
 use Rattle.xdg_inputs.specs.Stages.{Accepts, Rejects}
-use Rattle.xdg_listing.proofs.Texts.{one_place}
+use Rattle.xdg_facts.proofs.Texts.{one_place}
 
 text_or_not : (input text : List ℕ) (f : Fault) → HasText input text → IsNoCorpus input f → ⊥
 text_or_not input text f has (too_long long e) = let w = has.within in omega (arith, w, long)

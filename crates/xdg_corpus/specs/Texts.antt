@@ -7,7 +7,7 @@ use Rattle.xdg_base.specs.declared.faults.Fault.{Fault}
 use Rattle.xdg_command.specs.declared.commands.CorpusOptions.{CorpusOptions}
 use Rattle.xdg_inputs.specs.Meanings.{Meaning}
 use Rattle.xdg_inputs.specs.Sentences.{HasWords, IsBadWords}
-use Rattle.xdg_listing.specs.declared.Ending.{Ending}
+use Rattle.xdg_facts.specs.declared.Ending.{Ending}
 use Rattle.xdg_inputs.specs.Places.{place_in}
 use Rattle.xdg_problem.specs.declared.parts.Parts.{Parts}
 use Rattle.xdg_text.specs.Lines.{fault_text, line}

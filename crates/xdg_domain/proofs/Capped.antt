@@ -2,7 +2,7 @@
 use Rattle.std.proofs.Common.{◌≡◌, ℕ, ◌≤◌, ◌+◌, ◌*◌, zero, suc, min, inl, inr, ap, ap₂, sym, ◌∙◌, arith}
 use Rattle.std.proofs.Math.Nat.{min-eq_left, min-eq_right, mul_comm}
 use Rattle.std.proofs.lemmas.Bool.{cases_lt}
-use Rattle.xdg_listing.proofs.Numbers.{below_one, grown}
+use Rattle.xdg_facts.proofs.Numbers.{below_one, grown}
 
 beyond_both : (a b most : ℕ) → most ≤ a → min (most * b) most ≡ min (a * b) most
 beyond_both a zero most beyond = omega arith

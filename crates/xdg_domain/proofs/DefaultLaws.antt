@@ -15,7 +15,7 @@ use Rattle.xdg_domain.proofs.Masks.{members_are_cards, all_bits, one_bits, one_w
 use Rattle.xdg_domain.proofs.Sorting.{range_rises}
 use Rattle.xdg_domain.proofs.Each.{each_rises, each_holds, each_said, all_below}
 use Rattle.xdg_domain.proofs.Made.{none_and}
-use Rattle.xdg_listing.proofs.Options.{some_same}
+use Rattle.xdg_facts.proofs.Options.{some_same}
 
 -- ---- whether there is one
 

@@ -8,7 +8,7 @@ use Rattle.xdg_domain.specs.Valencies.{said_at, KeysRise}
 use Rattle.xdg_domain.specs.Values.{AllBelow, EachSaid}
 use Rattle.xdg_domain.specs.Defaults.{for_each_key}
 use Rattle.xdg_domain.proofs.Sorting.{range_more}
-use Rattle.xdg_listing.proofs.Options.{some_same}
+use Rattle.xdg_facts.proofs.Options.{some_same}
 
 -- one key more
 pub each_more : {V : Type 0} (n : ℕ) (x : V) → for_each_key n x ++ (n, x) ∷ [] ≡ for_each_key (n + 1) x

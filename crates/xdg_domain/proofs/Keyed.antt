@@ -5,7 +5,7 @@ use Rattle.std.proofs.lemmas.Bool.{cases_eq, cases_lt, eq-eqb, ne_eqb}
 use Rattle.xdg_domain.specs.Valencies.{said_at, KeysRise}
 use Rattle.xdg_domain.specs.Values.{EachSaid}
 use Rattle.xdg_domain.specs.Joins.{Both, SaysBoth, OnBoth, OnSome}
-use Rattle.xdg_listing.proofs.Options.{none_some, some_same}
+use Rattle.xdg_facts.proofs.Options.{none_some, some_same}
 
 -- ---- one list
 

@@ -9,8 +9,8 @@ use Rattle.std.proofs.lemmas.Bool.{cases_eq, cases_lt, cond_both, eq-eqb, ne_eqb
 use Rattle.xdg_domain.specs.Cards.{has, numbers_below, cards, IsCards, with_card, common}
 use Rattle.xdg_domain.specs.Bits.{is_set, members, number, same_number}
 use Rattle.xdg_domain.proofs.Rising.{numbers_agree, has_of, has_beyond, none_of, but, first_of, rises_of}
-use Rattle.xdg_listing.proofs.Numbers.{below_two}
-use Rattle.xdg_listing.proofs.Bits.{top_bit}
+use Rattle.xdg_facts.proofs.Numbers.{below_two}
+use Rattle.xdg_facts.proofs.Bits.{top_bit}
 
 -- no test both passes and fails
 pub apart : {A : Type 0} (t : Bool) → t ≡ true → t ≡ false → A

@@ -13,7 +13,7 @@ use Rattle.xdg_domain.proofs.Rising.{has_of, has_beyond, rises_of, numbers_agree
 use Rattle.xdg_domain.proofs.Merging.{RisesFrom, rises_of_increasing, increasing_of_rises, absent}
 use Rattle.xdg_domain.proofs.Keyed.{says_exclusive, says_unique}
 use Rattle.xdg_domain.proofs.Merged.{merged_tells}
-use Rattle.xdg_listing.proofs.Truths.{and_false, or_true, and_swap, and_first, or_assoc}
+use Rattle.xdg_facts.proofs.Truths.{and_false, or_true, and_swap, and_first, or_assoc}
 
 -- ---- rising lists
 

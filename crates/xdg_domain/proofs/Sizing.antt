@@ -9,7 +9,7 @@ use Rattle.xdg_domain.specs.declared.types.Ty.{Ty}
 use Rattle.xdg_domain.specs.Shapes.{domain, tuple, truth, integer, text, set, iset, card, valency, mapping, fields, Shapes, no_shape, shape_then, AreDomains, shape, sizes, constants, product}
 use Rattle.xdg_domain.specs.Values.{AllBelow}
 use Rattle.xdg_domain.specs.Sized.{sizes_of}
-use Rattle.xdg_listing.proofs.Numbers.{alone}
+use Rattle.xdg_facts.proofs.Numbers.{alone}
 
 pub length_sizes : (types : List Ty) → length (sizes_of types) ≡ length types
 length_sizes [] = refl

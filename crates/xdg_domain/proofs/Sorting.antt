@@ -9,7 +9,7 @@ use Rattle.std.proofs.lemmas.Bool.{cases_eq, eq-eqb, ne_eqb}
 use Rattle.xdg_domain.specs.Cards.{has}
 use Rattle.xdg_domain.proofs.Masks.{apart}
 use Rattle.std.proofs.lemmas.List.FromFn.{length-range_with_len, get_or-range_with_len}
-use Rattle.xdg_listing.proofs.Truths.{or_true, same_flag}
+use Rattle.xdg_facts.proofs.Truths.{or_true, same_flag}
 
 pub range_rises : (first count : ℕ) → IsStrictlyIncreasing (range_with_len first count)
 range_rises first count k h =

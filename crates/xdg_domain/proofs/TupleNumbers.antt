@@ -4,7 +4,7 @@ use Rattle.std.proofs.Math.Nat.{mul_comm, mul_assoc, mod-lt, div-lt_iff_lt-mul, 
 use Rattle.std.proofs.lemmas.Nat.{mul-add-lt, div-mul-add, mod-mul-add, div-add-mod'}
 use Rattle.xdg_domain.specs.Shapes.{product}
 use Rattle.xdg_domain.specs.Tuples.{index, places, InRange, TupleLaws}
-use Rattle.xdg_listing.proofs.Numbers.{some_after}
+use Rattle.xdg_facts.proofs.Numbers.{some_after}
 
 -- ---- both ways
 

@@ -15,7 +15,7 @@ use Rattle.xdg_problem.proofs.Ordered.{contains_head}
 use Rattle.xdg_rules.specs.Bounds.{sum_below, must_places}
 use Rattle.xdg_rules.specs.Rules.{has, must_edges}
 use Rattle.xdg_rules.proofs.Summing.{below_same}
-use Rattle.xdg_listing.proofs.Lists.{contains_more}
+use Rattle.xdg_facts.proofs.Lists.{contains_more}
 
 times_none : (w : ℕ) → w * 0 ≡ 0
 times_none w = grind arith

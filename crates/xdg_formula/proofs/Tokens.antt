@@ -9,7 +9,7 @@ use Rattle.xdg_ast.specs.Derives.{place_of}
 use Rattle.xdg_parse.proofs.Laws.{one}
 use Rattle.xdg_parse.proofs.EachKind.{kinds, each_of, each_kind, within}
 use Rattle.xdg_formula.specs.Words.{rule_word, all_word, some_word, edge_word, above_word, left_word, same_word, attr_word, feat_word, is_rule_constant, word_of, kind_in_rules, seen, seen_all}
-use Rattle.xdg_listing.proofs.Truths.{if_says}
+use Rattle.xdg_facts.proofs.Truths.{if_says}
 
 -- ---- the kinds that rules take
 

@@ -19,7 +19,7 @@ use Rattle.xdg_formula_value.specs.Pairs.{Relates, edges_for}
 use Rattle.xdg_formula_value.specs.Rows.{Over}
 use Rattle.xdg_formula_value.specs.declared.pair.Pair.TheVariants as pairs
 use Rattle.xdg_formula_value.proofs.Fronts.{every_over, some_over}
-use Rattle.xdg_listing.proofs.Facts.{both_steps}
+use Rattle.xdg_facts.proofs.Facts.{both_steps}
 
 -- ---- what the parts of a formula name is there
 

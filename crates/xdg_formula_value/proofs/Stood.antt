@@ -7,7 +7,7 @@ use Rattle.xdg_problem.specs.Places.{nodes}
 use Rattle.xdg_problem.specs.Truths.{bound, unbound}
 use Rattle.xdg_rules.specs.WorthLaws.{AreNodes}
 use Rattle.xdg_formula_value.specs.Rows.{stands}
-use Rattle.xdg_listing.proofs.Numbers.{zeros}
+use Rattle.xdg_facts.proofs.Numbers.{zeros}
 
 -- a table of zeros binds no name
 pub unbound_table : (table : List ℕ) (count : ℕ) → table ≡ replicate count 0 → stands table ≡ unbound

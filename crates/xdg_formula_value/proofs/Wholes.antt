@@ -15,7 +15,7 @@ use Rattle.xdg_formula_value.proofs.Formed.{not_makes, and_makes, or_makes, ever
 use Rattle.xdg_formula_value.proofs.Fronts.{and_more, and_none, or_more, or_none}
 use Rattle.xdg_formula_value.proofs.Rowed.{joined_like, over_told}
 use Rattle.xdg_formula_value.proofs.Stood.{bound_back}
-use Rattle.xdg_listing.proofs.Facts.{both_steps}
+use Rattle.xdg_facts.proofs.Facts.{both_steps}
 
 module _ (parts : Parts) (box : List (List Bool)) (truth : Bool) (b : ℕ → ℕ) where
   pub not_told : (formula f g : Formula) (result : Bool) → formula ≡ y.Not f → g ≡ f → IsTrue result ↔ Makes parts box (claim g) (not truth) b → IsTrue result ↔ Makes parts box (claim formula) truth b

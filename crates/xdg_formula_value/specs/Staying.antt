@@ -33,7 +33,7 @@ use Rattle.xdg_propcore.proofs.DecisionKinds.{kind_of_entry, kind_of_attr, kind_
 use Rattle.xdg_formula_value.specs.ClaimKinds.{SomeKindOf, HasKinds}
 use Rattle.xdg_formula_value.specs.Standing.{IsRule, HasKindsOf, stands_for}
 use Rattle.xdg_formula_value.specs.declared.rule_prop.RuleProp.{RuleProp}
-use Rattle.xdg_listing.proofs.Truths.{same_and}
+use Rattle.xdg_facts.proofs.Truths.{same_and}
 
 same_test : (on a b c d : Bool) → (on ≡ true → a ≡ c) → (on ≡ true → b ≡ d) → (on && (a && not b)) ≡ (on && (c && not d))
 same_test true a b c d first second = ap₂ (λ x z. x && not z) (first refl) (second refl)

@@ -3,7 +3,7 @@ use Rattle.std.proofs.Common.{◌≡◌, ◌≢◌, ℕ, ◌<◌, inl, inr, Bool
 use Rattle.std.specs.Prelude.{slice_get}
 use Rattle.std.proofs.lemmas.Bool.{cases_lt, false≢true}
 use Rattle.std.proofs.lemmas.List.{get_or_default, get_or_past}
-use Rattle.xdg_listing.proofs.Lookups.{read_some, read_none}
+use Rattle.xdg_facts.proofs.Lookups.{read_some, read_none}
 use Rattle.xdg_problem.specs.declared.analysis.Edge.{Edge}
 use Rattle.xdg_problem.specs.declared.parts.DimPlan.{DimPlan}
 use Rattle.xdg_problem.specs.declared.parts.Parts.{Parts}

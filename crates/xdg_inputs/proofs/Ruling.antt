@@ -35,7 +35,7 @@ use Rattle.xdg_problem.specs.Truths.{FormulaHolds}
 use Rattle.xdg_problem.proofs.FurtherLawful.{rule_relation, rules_lawful}
 use Rattle.xdg_problem.proofs.FurtherUses.{relation_still}
 use Rattle.xdg_inputs.specs.Ruled.{IsUseOf, KeepsRules, ruled}
-use Rattle.xdg_listing.proofs.Lists.{zip_length}
+use Rattle.xdg_facts.proofs.Lists.{zip_length}
 
 -- ---- a problem is one of its grammar
 

@@ -27,7 +27,7 @@ use Rattle.xdg_inputs.specs.declared.refusals.Refusal.{Refusal}
 use Rattle.xdg_inputs.specs.declared.refusals.Refusal.TheVariants as refusals
 use Rattle.xdg_inputs.proofs.Trees.{first_byte}
 use Rattle.xdg_inputs.proofs.Wording.{grammar_is}
-use Rattle.xdg_listing.proofs.Texts.{one_place}
+use Rattle.xdg_facts.proofs.Texts.{one_place}
 
 -- ---- one answer
 

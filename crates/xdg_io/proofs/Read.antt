@@ -3,7 +3,7 @@ use Rattle.std.proofs.Common.{◌≡◌, ◌<◌, ◌≤◌, ◌+◌, ◌-◌, �
 use Rattle.std.proofs.lemmas.List.{append_assoc, append-nil, length-append, take-append-drop, drop-drop}
 use Rattle.std.specs.Io.KnownBytes.{prepend_known}
 use Rattle.xdg_io.specs.Left.{Takes, TakesAll, TakesCount, TakesUpTo, EndsAt, GivesPiece, ReadSoFar}
-use Rattle.xdg_listing.proofs.Lists.{empty_list}
+use Rattle.xdg_facts.proofs.Lists.{empty_list}
 
 known_both : (c : Option (List ℕ)) (x y : List ℕ) → prepend_known x (prepend_known y c) ≡ prepend_known (x ++ y) c
 known_both None x y = refl

@@ -18,8 +18,8 @@ use Rattle.xdg_judge.specs.declared.links.Neighbours.{Neighbours}
 use Rattle.xdg_judge.specs.Graphs.{IsReady}
 use Rattle.xdg_judge.specs.Links.{AreNeighbours}
 use Rattle.xdg_nodeset.specs.Tables.{In, InBy}
-use Rattle.xdg_listing.proofs.Lookups.{read_none, read_some}
-use Rattle.xdg_listing.proofs.Facts.{then_iff}
+use Rattle.xdg_facts.proofs.Lookups.{read_none, read_some}
+use Rattle.xdg_facts.proofs.Facts.{then_iff}
 
 -- no edge is of a dimension that the problem lacks
 

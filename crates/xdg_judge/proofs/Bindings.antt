@@ -7,7 +7,7 @@ use Rattle.xdg_problem.specs.declared.parts.Parts.{Parts}
 use Rattle.xdg_problem.specs.Places.{nodes}
 use Rattle.xdg_problem.specs.Truths.{bound, unbound}
 use Rattle.xdg_judge.specs.Graphs.{AreNodes, stands}
-use Rattle.xdg_listing.proofs.Numbers.{zeros}
+use Rattle.xdg_facts.proofs.Numbers.{zeros}
 
 bound_at : (table : List ℕ) (name node other : ℕ) → name < length table → stands (slice_set table name node) other ≡ bound (stands table) name node other
 bound_at table name node other within = elim (cases_eq other name) [

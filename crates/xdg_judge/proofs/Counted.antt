@@ -1,7 +1,7 @@
 -- What a filtered list contains.
 use Rattle.std.proofs.Common.{◌≡◌, Bool, true, false, cond, refl, arith, List, [], ◌∷◌, sym, ◌∙◌, ap, zero, suc}
 use Rattle.std.specs.Prelude.{Contains, filter}
-use Rattle.xdg_listing.proofs.Lists.{contains_more}
+use Rattle.xdg_facts.proofs.Lists.{contains_more}
 
 was_at : {X : Type 0} (test : X → Bool) (b : Bool) (y : X) (xs : List X) (x : X) → test y ≡ b → ((c : Contains (filter test xs) x) → Contains xs x × (test x ≡ true)) → Contains (cond b (y ∷ filter test xs) (filter test xs)) x → Contains (y ∷ xs) x × (test x ≡ true)
 was_at test true y xs x t h (zero, l, e) = ((0, omega arith, e), ap test (sym e) ∙ t)

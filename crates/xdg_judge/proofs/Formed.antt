@@ -11,7 +11,7 @@ use Rattle.xdg_problem.specs.Claims.{Claim, negation, conjunction, disjunction, 
 use Rattle.xdg_problem.specs.Places.{nodes}
 use Rattle.xdg_problem.specs.Truths.{bound, unbound, IsTrueIn, FormulaHolds}
 use Rattle.xdg_problem.proofs.Claimed.{claim_not, claim_and, claim_or, claim_every, claim_any}
-use Rattle.xdg_listing.proofs.Numbers.{all_next}
+use Rattle.xdg_facts.proofs.Numbers.{all_next}
 
 turned : (result : Bool) (P : Type 0) → IsTrue result ↔ P → IsTrue (not result) ↔ (P → ⊥)
 turned true P told = (λ t. absurd (false≢true t), λ none. absurd (none (told.0 refl)))

@@ -20,7 +20,7 @@ use Rattle.xdg_judge.specs.Searching.{IsSearched, tuple_for, second_size, third_
 use Rattle.xdg_judge.specs.Verdicts.{AsksHere, IsOfWhole, IsKeptHere, IsLeastBroken, IsVerdict}
 use Rattle.xdg_judge.specs.declared.verdict.Verdict.{Verdict}
 use Rattle.xdg_judge.proofs.Least.{kept_of, least_of}
-use Rattle.xdg_listing.proofs.Lists.{zip_more as zip_push}
+use Rattle.xdg_facts.proofs.Lists.{zip_more as zip_push}
 
 -- what holds of each number below one, and of the one
 

@@ -1,7 +1,7 @@
 -- What verdicts say.
 use Rattle.std.specs.Prelude.{ℕ, List, take}
 use Rattle.std.specs.List.{AllZip}
-use Rattle.xdg_listing.specs.Order.{AtMost}
+use Rattle.xdg_facts.specs.Order.{AtMost}
 use Rattle.xdg_problem.specs.declared.analysis.Analysis.{Analysis}
 use Rattle.xdg_problem.specs.declared.conditions.Condition.{Condition}
 use Rattle.xdg_problem.specs.declared.conditions.Condition.TheVariants as conditions

@@ -15,7 +15,7 @@ use Rattle.xdg_lex.specs.Pieces.{goes_on, digit_goes_on, quoted_goes_on, escape_
 use Rattle.xdg_lex.specs.Lexed.{Lexed, run, ended, begun, turned}
 use Rattle.xdg_ast.specs.Tokenizes.{size_of, EachPasses, StopsBefore, HasNoClose, IsInside, nothing, plain, escaped, stray, value_after, greatest_number, is_slash, is_no_line_feed, is_escapable}
 use Rattle.xdg_lex.proofs.Steps.{run-nil, run-cons, before_none}
-use Rattle.xdg_listing.proofs.Truths.{from_not}
+use Rattle.xdg_facts.proofs.Truths.{from_not}
 
 -- what characters that begin at a place give
 abbrev pub Reads : ℕ → List ℕ → Lexed → Type 0

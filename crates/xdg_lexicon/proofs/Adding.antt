@@ -7,7 +7,7 @@ use Rattle.xdg_packed.specs.Lexicon.{Entry}
 use Rattle.xdg_lexicon.specs.Partial.{Partial}
 use Rattle.xdg_lexicon.specs.Growing.{Puts}
 use Rattle.xdg_lexicon.specs.Lexicon.{whole, AreWhole, Adds, nothing_more, known_before, new}
-use Rattle.xdg_listing.proofs.Lists.{from_place}
+use Rattle.xdg_facts.proofs.Lists.{from_place}
 
 -- ---- what is added is told
 

@@ -8,7 +8,7 @@ use Rattle.xdg_packed.specs.Lexicon.{number, numbers_of, places_of}
 use Rattle.xdg_packed.specs.Words.{IsWordIndex}
 use Rattle.xdg_packed.proofs.WordLists.{known_word, new_word, word_unknown}
 use Rattle.xdg_lexicon.specs.Growing.{IsWordCount}
-use Rattle.xdg_listing.proofs.Lists.{any_default}
+use Rattle.xdg_facts.proofs.Lists.{any_default}
 
 -- ---- lengths
 

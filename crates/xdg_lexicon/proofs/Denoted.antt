@@ -13,7 +13,7 @@ use Rattle.xdg_lexicon.specs.Denotes as den
 use Rattle.xdg_lexicon.specs.Denotes.{JoinsAll, Denotes, DenotesBoth, DenotesEither}
 use Rattle.xdg_lexicon.specs.Frames.{EitherSoFar, BothSoFar}
 use Rattle.xdg_lexicon.specs.Partial.{Partial, ArePartial, SaysRecord, nothing}
-use Rattle.xdg_listing.proofs.Lists.{from_place}
+use Rattle.xdg_facts.proofs.Lists.{from_place}
 
 -- ---- records and uses
 

@@ -21,8 +21,8 @@ use Rattle.xdg_classes.specs.Bodies.{Pairs}
 use Rattle.xdg_lexicon.specs.Partial.{Record, Partial, features, SaysFields, SaysRecord, written}
 use Rattle.xdg_lexicon.proofs.Dims.{types_of, keeps_at}
 use Rattle.xdg_lexicon.proofs.OneJoin.{same_out, same_items, dim_at}
-use Rattle.xdg_listing.proofs.Truths.{same_flag}
-use Rattle.xdg_listing.proofs.Texts.{same_text, is_same}
+use Rattle.xdg_facts.proofs.Truths.{same_flag}
+use Rattle.xdg_facts.proofs.Texts.{same_text, is_same}
 
 -- ---- places of constants
 

@@ -16,7 +16,7 @@ use Rattle.xdg_packed.specs.Entries.{IsEntry, AreEntries}
 use Rattle.xdg_lexicon.specs.Growing.{IsWordCount, IsGrown, SamePlace, Puts}
 use Rattle.xdg_lexicon.specs.declared.growing.Growing.{Growing}
 use Rattle.xdg_lexicon.proofs.Adding.{AddsSoFar}
-use Rattle.xdg_listing.proofs.Truths.{either_true}
+use Rattle.xdg_facts.proofs.Truths.{either_true}
 
 -- ---- entries by their spellings
 

@@ -19,7 +19,7 @@ use Rattle.xdg_packed.specs.Lexicon.{Record, Entry}
 use Rattle.xdg_lexicon.specs.Partial.{Partial, IsPartial, IsRecord, IsDim, features, said_of}
 use Rattle.xdg_packed.specs.Entries.{IsWhole, IsEntry, record_type}
 use Rattle.xdg_lexicon.specs.Lexicon.{whole_record, record_then, records_of, whole}
-use Rattle.xdg_listing.proofs.Lists.{any_default}
+use Rattle.xdg_facts.proofs.Lists.{any_default}
 
 -- ---- types
 

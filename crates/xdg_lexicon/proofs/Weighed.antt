@@ -13,7 +13,7 @@ use Rattle.xdg_lexicon.specs.declared.frames.Frame.{Frame}
 use Rattle.xdg_lexicon.specs.declared.frames.Frame.TheVariants as frame
 use Rattle.xdg_lexicon.specs.Weights.{heavy, weigh, weigh_in}
 use Rattle.xdg_lexicon.proofs.Denoted.{of_use}
-use Rattle.xdg_listing.proofs.Lists.{from_place}
+use Rattle.xdg_facts.proofs.Lists.{from_place}
 
 pub weighs_some : (names : Counting) (b : Body) → 0 < weigh names b
 weighs_some names (either bs) = omega arith

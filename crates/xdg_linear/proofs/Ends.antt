@@ -3,7 +3,7 @@ use Rattle.std.proofs.Common.{◌≡◌, ◌<◌, ◌≤◌, ◌+◌, inl, inr, 
 use Rattle.std.proofs.lemmas.Bool.{cases_eq}
 use Rattle.std.proofs.lemmas.List.{reverse-append}
 use Rattle.std.specs.List.{AllByRecursion}
-use Rattle.xdg_listing.specs.Order.{Less, AtMost}
+use Rattle.xdg_facts.specs.Order.{Less, AtMost}
 use Rattle.xdg_linear.specs.Arrangements.{IsArrangement}
 use Rattle.xdg_linear.specs.Falling.{Falls}
 use Rattle.xdg_linear.proofs.Times.{at_times, arrangement_tail, first_stands}

@@ -4,10 +4,10 @@ use Rattle.std.proofs.lemmas.Bool.{cases_eq, cases_lt}
 use Rattle.std.proofs.lemmas.List.{length-map}
 use Rattle.std.specs.Cmp.Lexicographic.{bytes_decides}
 use Rattle.std.specs.List.{AllByRecursion}
-use Rattle.xdg_listing.specs.Fits.{Fits}
-use Rattle.xdg_listing.specs.Listing.{Member, RisesFrom, IsListing}
-use Rattle.xdg_listing.specs.Order.{Less}
-use Rattle.xdg_listing.proofs.Exists.{decided_listing_within, each_weaker}
+use Rattle.xdg_facts.specs.Fits.{Fits}
+use Rattle.xdg_facts.specs.Listing.{Member, RisesFrom, IsListing}
+use Rattle.xdg_facts.specs.Order.{Less}
+use Rattle.xdg_facts.proofs.Exists.{decided_listing_within, each_weaker}
 use Rattle.xdg_problem.specs.declared.parts.SentenceWord.{SentenceWord}
 use Rattle.xdg_linear.specs.Arrangements.{times, IsArrangement}
 use Rattle.xdg_linear.specs.Laws.{HasOneList, OneList, AreListed, shape_of}

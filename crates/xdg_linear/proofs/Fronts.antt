@@ -1,16 +1,16 @@
 -- What has been passed is a front of the list of all arrangements.
 use Rattle.std.proofs.Common.{◌≡◌, ◌⊎◌, inl, inr, ℕ, List, [], ◌∷◌, ◌++◌, Option, Some, None, refl, sym, ap, ◌∙◌, subst}
 use Rattle.std.specs.List.{AllByRecursion}
-use Rattle.xdg_listing.specs.Listing.{Member, RisesFrom}
-use Rattle.xdg_listing.specs.Order.{Less}
-use Rattle.xdg_listing.proofs.Exists.{each_weaker}
-use Rattle.xdg_listing.proofs.Ordered.{less_irreflexive, less_transitive}
-use Rattle.xdg_listing.proofs.Unique.{rises_above}
+use Rattle.xdg_facts.specs.Listing.{Member, RisesFrom}
+use Rattle.xdg_facts.specs.Order.{Less}
+use Rattle.xdg_facts.proofs.Exists.{each_weaker}
+use Rattle.xdg_facts.proofs.Ordered.{less_irreflexive, less_transitive}
+use Rattle.xdg_facts.proofs.Unique.{rises_above}
 use Rattle.xdg_linear.specs.Arrangements.{IsArrangement, IsAfter}
 use Rattle.xdg_linear.specs.Laws.{PassedFirst, PassedAll}
 use Rattle.xdg_linear.specs.Listed.{Rises, AreAll, AreArrangements, ArePassed, AreLeft}
 use Rattle.xdg_linear.proofs.Reaching.{after_or}
-use Rattle.xdg_listing.proofs.Lists.{each_left}
+use Rattle.xdg_facts.proofs.Lists.{each_left}
 
 pub rises_tail : (a : List ℕ) (xs : List (List ℕ)) → RisesFrom a xs → Rises xs
 rises_tail a [] r = tt

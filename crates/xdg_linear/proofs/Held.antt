@@ -11,7 +11,7 @@ use Rattle.xdg_linear.proofs.Ends.{climbing_least, climbs_from}
 use Rattle.xdg_linear.proofs.Existing.{arrangement_each, ranks_below}
 use Rattle.xdg_linear.proofs.Reaching.{advances_more, advances_last}
 use Rattle.xdg_linear.proofs.Times.{arrangement_permuted, arrangement_joined, arrangement_back}
-use Rattle.xdg_listing.proofs.Lists.{all_at}
+use Rattle.xdg_facts.proofs.Lists.{all_at}
 
 abbrev pub seen : List SentenceWord → Bool → List ℕ → Arranged
 seen words begun numbers = record { words = words; present = shown begun numbers }

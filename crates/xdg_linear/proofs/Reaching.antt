@@ -1,14 +1,14 @@
 -- What has been passed grows by the arrangement that a call reaches.
 use Rattle.std.proofs.Common.{◌≡◌, ◌⊎◌, inl, inr, ℕ, List, [], ◌∷◌, ◌++◌, Option, Some, None, Bool, true, false, sym, ap, subst}
 use Rattle.std.specs.List.{AllByRecursion}
-use Rattle.xdg_listing.specs.Order.{Less, AtMost}
-use Rattle.xdg_listing.proofs.Exists.{rises_append, each_weaker, member_left, member_right}
-use Rattle.xdg_listing.proofs.Ordered.{less_irreflexive, less_transitive, at_most_less, at_most_of, less_or, not_less}
+use Rattle.xdg_facts.specs.Order.{Less, AtMost}
+use Rattle.xdg_facts.proofs.Exists.{rises_append, each_weaker, member_left, member_right}
+use Rattle.xdg_facts.proofs.Ordered.{less_irreflexive, less_transitive, at_most_less, at_most_of, less_or, not_less}
 use Rattle.xdg_linear.specs.Arranged.{Arranged, Advances, with_reached}
 use Rattle.xdg_linear.specs.Arrangements.{IsArrangement, IsAfter, IsNext, IsLast}
 use Rattle.xdg_linear.specs.Listed.{Rises, ArePassed}
 use Rattle.xdg_linear.specs.Ranks.{ranks_of}
-use Rattle.xdg_listing.proofs.Lists.{each_append}
+use Rattle.xdg_facts.proofs.Lists.{each_append}
 
 rises_push : (xs : List (List ℕ)) (x : List ℕ) → Rises xs → AllByRecursion (λ z. Less z x) xs → Rises (xs ++ x ∷ [])
 rises_push [] x r each = tt

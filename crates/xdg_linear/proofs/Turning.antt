@@ -4,12 +4,12 @@ use Rattle.std.proofs.lemmas.Bool.{cases_eq}
 use Rattle.std.proofs.lemmas.List.{length-reverse}
 use Rattle.std.proofs.lemmas.List.Sorted.{IsPermutation-reverse}
 use Rattle.std.specs.List.{AllByRecursion}
-use Rattle.xdg_listing.specs.Order.{Less, AtMost}
+use Rattle.xdg_facts.specs.Order.{Less, AtMost}
 use Rattle.xdg_linear.specs.Arrangements.{times, IsArrangement, IsNext}
 use Rattle.xdg_linear.specs.Falling.{Falls}
 use Rattle.xdg_linear.proofs.Times.{at_times, times_permuted, arrangement_joined, arrangement_back, arrangement_cons, arrangement_tail, first_stands}
 use Rattle.xdg_linear.proofs.Ends.{falling_greatest, at_most_cons, climbing_least, climbs_reverse}
-use Rattle.xdg_listing.proofs.Lists.{all_at}
+use Rattle.xdg_facts.proofs.Lists.{all_at}
 
 -- behind the place q no number is greater than a
 abbrev pub NoneBehind : List ℕ → ℕ → ℕ → Type 0

@@ -9,7 +9,7 @@ use Rattle.xdg_linear.specs.Ranks.{rank_of, ranks_of, words_at}
 use Rattle.xdg_linear.specs.Texts.{texts_of, texts_at, text_times, HasEachText, TextsArranged}
 use Rattle.xdg_linear.proofs.Existing.{arrangement_each}
 use Rattle.xdg_linear.proofs.Times.{at_times}
-use Rattle.xdg_listing.proofs.Texts.{same_text, is_same}
+use Rattle.xdg_facts.proofs.Texts.{same_text, is_same}
 
 -- ---- texts as tests
 

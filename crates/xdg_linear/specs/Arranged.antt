@@ -1,6 +1,6 @@
 -- What the arrangements of words are seen as, what they keep, and what a call does.
 use Rattle.std.specs.Prelude.{◌≡◌, ◌↔◌, ℕ, Bool, true, false, List, [], ◌∷◌, ◌++◌, Option, Some, None}
-use Rattle.xdg_listing.specs.Order.{AtMost}
+use Rattle.xdg_facts.specs.Order.{AtMost}
 use Rattle.xdg_problem.specs.declared.parts.SentenceWord.{SentenceWord}
 use Rattle.xdg_linear.specs.Arrangements.{IsArrangement, IsNext, IsLast}
 use Rattle.xdg_linear.specs.Listed.{ArePassed}

@@ -1,6 +1,6 @@
 -- What an arrangement is, and which comes next.
 use Rattle.std.specs.Prelude.{◌≡◌, ℕ, ◌+◌, ◌==◌, cond, List, [], ◌∷◌, length, Option, Some, None}
-use Rattle.xdg_listing.specs.Order.{Less, AtMost}
+use Rattle.xdg_facts.specs.Order.{Less, AtMost}
 
 -- how often a number stands in a list
 abbrev pub times : ℕ → List ℕ → ℕ

@@ -1,6 +1,6 @@
 -- The list of all arrangements: words have one, and what has been passed is a front of it.
 use Rattle.std.specs.Prelude.{◌≡◌, ℕ, ◌<◌, List, [], ◌++◌, Option, length, map}
-use Rattle.xdg_listing.specs.Listing.{IsListing}
+use Rattle.xdg_facts.specs.Listing.{IsListing}
 use Rattle.xdg_problem.specs.declared.parts.SentenceWord.{SentenceWord}
 use Rattle.xdg_linear.specs.Arrangements.{IsArrangement, IsLast}
 use Rattle.xdg_linear.specs.Listed.{AreArrangements, ArePassed, AreLeft}

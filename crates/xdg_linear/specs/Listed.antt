@@ -1,7 +1,7 @@
 -- The list of all arrangements, and how far it has been passed.
 use Rattle.std.specs.Prelude.{ℕ, List, [], ◌∷◌, Option}
 use Rattle.std.specs.List.{AllByRecursion}
-use Rattle.xdg_listing.specs.Listing.{Member, RisesFrom}
+use Rattle.xdg_facts.specs.Listing.{Member, RisesFrom}
 use Rattle.xdg_linear.specs.Arrangements.{IsArrangement, IsAfter}
 
 -- the lists rise strictly, so that none stands twice

@@ -8,7 +8,7 @@ use Rattle.xdg_names.proofs.In.{in_index}
 use Rattle.xdg_names.specs.Leads.{number}
 use Rattle.xdg_names.specs.Walks.{AreMarks, fresh_at, unmet}
 use Rattle.xdg_names.proofs.Climbs.{at_last, at_front, set_at}
-use Rattle.xdg_listing.proofs.Lists.{length_more}
+use Rattle.xdg_facts.proofs.Lists.{length_more}
 
 pub not_fresh : (m : ℕ) → 1 ≤ m → fresh_at m ≡ 0
 not_fresh zero h = absurd (omega arith)

@@ -9,8 +9,8 @@ use Rattle.std.proofs.lemmas.Iterator.Adapters.{position_from-zero}
 use Rattle.std.proofs.lemmas.List.{map-append}
 use Rattle.std.proofs.lemmas.Slice.Eq.{bytes_eq-Decides}
 use Rattle.xdg_names.specs.Texts.{has_text, place_of, AllDiffer}
-use Rattle.xdg_listing.proofs.Texts.{equal}
-use Rattle.xdg_listing.proofs.Truths.{none_or}
+use Rattle.xdg_facts.proofs.Texts.{equal}
+use Rattle.xdg_facts.proofs.Truths.{none_or}
 
 -- ---- tests and places
 

@@ -16,10 +16,10 @@ use Rattle.std.proofs.lemmas.Bool.{cases_eq, cases_lt, eq-eqb, ne_eqb, lt-ltb, l
 use Rattle.xdg_nodeset.specs.Nodes.{has, numbers_below, nodes, IsNodes, with_node, without, union, meet, minus, between}
 use Rattle.xdg_nodeset.specs.Bits.{is_set, members, number, same_number}
 use Rattle.xdg_nodeset.proofs.Rising.{numbers_agree, has_of, none_of, but, first_of, last_of, rises_of, few_of}
-use Rattle.xdg_listing.proofs.Numbers.{below_two}
-use Rattle.xdg_listing.proofs.Bits.{top_bit}
-use Rattle.xdg_listing.proofs.Bits.{halves}
-use Rattle.xdg_listing.proofs.Numbers.{zero_below_one, unset}
+use Rattle.xdg_facts.proofs.Numbers.{below_two}
+use Rattle.xdg_facts.proofs.Bits.{top_bit}
+use Rattle.xdg_facts.proofs.Bits.{halves}
+use Rattle.xdg_facts.proofs.Numbers.{zero_below_one, unset}
 
 at_bits : (f g : ℕ → ℕ → Bool) → f 0 0 ≡ g 0 0 → f 0 1 ≡ g 0 1 → f 1 0 ≡ g 1 0 → f 1 1 ≡ g 1 1 → (x y : ℕ) → x < 2 → y < 2 → f x y ≡ g x y
 at_bits f g a b c d x y h k = elim (below_two x h) [

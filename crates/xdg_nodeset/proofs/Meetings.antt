@@ -7,7 +7,7 @@ use Rattle.std.proofs.lemmas.List.{take_all}
 use Rattle.std.proofs.lemmas.List.Elements.{All-more}
 use Rattle.xdg_nodeset.specs.Nodes.{has}
 use Rattle.xdg_nodeset.specs.Tables.{Meet}
-use Rattle.xdg_listing.proofs.Lookups.{read_some, read_none}
+use Rattle.xdg_facts.proofs.Lookups.{read_some, read_none}
 use Rattle.xdg_nodeset.proofs.TableSets.{both}
 
 pub some_met : (a b both_of rest : List ℕ) (node : ℕ) → both_of ≡ node ∷ rest → ((n : ℕ) → has both_of n ≡ (has a n && has b n)) → IsTrue true ↔ Meet a b

@@ -5,7 +5,7 @@ use Rattle.std.specs.List.{range_with_len}
 use Rattle.std.proofs.Math.Nat.{zero-add}
 use Rattle.std.proofs.lemmas.Bool.{cond_both, cond-true, cond-false, cases_eq, eq-eqb, ne_eqb}
 use Rattle.xdg_nodeset.specs.Nodes.{has, numbers_below, Rises}
-use Rattle.xdg_listing.proofs.Truths.{none_in, agree_in}
+use Rattle.xdg_facts.proofs.Truths.{none_in, agree_in}
 
 -- ---- two tests that agree
 

@@ -5,7 +5,7 @@ use Prim.Native.Nat.{min, max}
 use Rattle.std.proofs.lemmas.Bool.{cases_eq, cases_lt, eq-eqb, ne_eqb, le-ltb}
 use Rattle.xdg_nodeset.specs.Nodes.{has, nodes, IsNodes, with_node, without, union, meet, minus, between}
 use Rattle.xdg_nodeset.proofs.Rising.{numbers_agree, has_of, has_beyond}
-use Rattle.xdg_listing.proofs.Truths.{and_false}
+use Rattle.xdg_facts.proofs.Truths.{and_false}
 
 -- ---- the call leaves the set as it was exactly where the node stood there, or did not stand there
 

@@ -5,7 +5,7 @@ use Rattle.std.proofs.lemmas.Bool.{cases_eq, cases_lt, eq-eqb, eqb-true, false�
 use Rattle.std.proofs.lemmas.List.{get_or-set_same, get_or-set_other, get_or_past, length-set, nil_from_length}
 use Rattle.xdg_nodeset.specs.Nodes.{has}
 use Rattle.xdg_nodeset.specs.Tables.{In, InBy}
-use Rattle.xdg_listing.proofs.Lookups.{read_none, read_some}
+use Rattle.xdg_facts.proofs.Lookups.{read_none, read_some}
 
 pub either : (p q : Bool) → ((p || q) ≡ true) ↔ ((p ≡ true) ⊎ (q ≡ true))
 either true q = (λ h. inl refl, λ h. refl)

@@ -9,8 +9,8 @@ use Rattle.std.proofs.lemmas.Nat.Bits.{bit_at-lt}
 use Rattle.std.proofs.lemmas.Bool.{cond_both, eqb-true}
 use Rattle.xdg_nodeset.specs.Nodes.{nodes, numbers_below}
 use Rattle.xdg_nodeset.specs.declared.set.NodeSet.TheInside.{Inside}
-use Rattle.xdg_listing.proofs.Numbers.{zero_below_one, unset, doubled_only, doubled}
-use Rattle.xdg_listing.proofs.Bits.{halves}
+use Rattle.xdg_facts.proofs.Numbers.{zero_below_one, unset, doubled_only, doubled}
+use Rattle.xdg_facts.proofs.Bits.{halves}
 
 -- whether the bit of that weight is set
 abbrev pub is_set : ℕ → ℕ → Bool

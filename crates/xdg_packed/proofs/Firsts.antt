@@ -7,7 +7,7 @@ use Rattle.std.proofs.Math.Seq.{get_or-append_seam}
 use Rattle.xdg_packed.specs.Lexicon.{Record, Entry, Lexicon, column, Stands, Differ, IsFirstAlike}
 use Rattle.xdg_packed.specs.Rows.{shown, AreFirsts, IsTable, IsFirst}
 use Rattle.xdg_packed.proofs.Standing.{stands_at}
-use Rattle.xdg_listing.proofs.Lists.{length_more}
+use Rattle.xdg_facts.proofs.Lists.{length_more}
 
 -- ---- one entry more
 

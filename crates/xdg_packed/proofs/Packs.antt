@@ -12,7 +12,7 @@ use Rattle.xdg_packed.specs.Spelling.{spelling_of_fields}
 use Rattle.xdg_packed.proofs.Firsts.{firsts_known, firsts_new}
 use Rattle.xdg_packed.proofs.Prefixes.{fields_told}
 use Rattle.xdg_packed.proofs.Standing.{stands_left, stands_right, stands_last, stands_at, rows_differ}
-use Rattle.xdg_listing.proofs.Lists.{any_default}
+use Rattle.xdg_facts.proofs.Lists.{any_default}
 
 -- ---- one record
 

@@ -5,7 +5,7 @@ use Rattle.std.specs.Prelude.{bytes_eq}
 use Rattle.xdg_names.specs.Texts.{has_text, AllDiffer}
 use Rattle.xdg_packed.specs.Lexicon.{Record, Stands, Differ}
 use Rattle.xdg_packed.specs.Spelling.{spelling_of_fields}
-use Rattle.xdg_listing.proofs.Truths.{either_true}
+use Rattle.xdg_facts.proofs.Truths.{either_true}
 
 module _ {A : Type 0} where
   pub stands_left : (xs ys : List A) (x : A) → Stands xs x → Stands (xs ++ ys) x

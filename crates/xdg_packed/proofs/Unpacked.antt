@@ -11,9 +11,9 @@ use Rattle.xdg_packed.specs.Rows.{IsFirst}
 use Rattle.xdg_packed.specs.Words.{IsWordIndex}
 use Rattle.xdg_packed.proofs.Firsts.{in_column, column_first}
 use Rattle.xdg_packed.proofs.WordLists.{word_found, word_unknown, place_within}
-use Rattle.xdg_listing.proofs.Numbers.{plus_one}
-use Rattle.xdg_listing.proofs.Lists.{fused}
-use Rattle.xdg_listing.proofs.Lists.{any_default}
+use Rattle.xdg_facts.proofs.Numbers.{plus_one}
+use Rattle.xdg_facts.proofs.Lists.{fused}
+use Rattle.xdg_facts.proofs.Lists.{any_default}
 
 -- ---- lists by their places
 

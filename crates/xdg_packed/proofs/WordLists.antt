@@ -14,8 +14,8 @@ use Rattle.xdg_names.proofs.Texts.{has_text-append, place_of-Some, place_of-None
 use Rattle.xdg_packed.specs.Lexicon.{Record, Entry, number, places_of, numbers_of, said_in, word_of}
 use Rattle.xdg_packed.specs.Words.{IsWordIndex}
 use Rattle.xdg_packed.proofs.Packs.{added_last}
-use Rattle.xdg_listing.proofs.Numbers.{plus_one}
-use Rattle.xdg_listing.proofs.Lists.{any_default}
+use Rattle.xdg_facts.proofs.Numbers.{plus_one}
+use Rattle.xdg_facts.proofs.Lists.{any_default}
 
 -- ---- places one by one
 

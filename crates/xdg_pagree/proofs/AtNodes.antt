@@ -24,7 +24,7 @@ use Rattle.xdg_propcore.specs.Passes.{Progress}
 use Rattle.xdg_pagree.specs.Family.{IsOfPlaces}
 use Rattle.xdg_pagree.specs.Places.{PlaceAsks, PlaceLacks, IsDoneAt, IsLabelDone, AreLabelsDone, IsNodeDone, AreNodesDone}
 use Rattle.xdg_propcore.specs.Sweeps.{Sweeps}
-use Rattle.xdg_listing.proofs.Truths.{or_here, either_true}
+use Rattle.xdg_facts.proofs.Truths.{or_here, either_true}
 
 -- ---- daughters
 

@@ -15,7 +15,7 @@ use Rattle.xdg_problem.specs.Tests.{IsTestOf, allowed_value, agreeing, governed}
 use Rattle.xdg_propcore.specs.Kinds.{entry_kind, attr_kind, edge_kind, IsNamed}
 use Rattle.xdg_pagree.specs.Standing.{HasKinds, IsKindFor}
 use Rattle.xdg_pagree.specs.Family.{IsOfFamily, IsOfPlaces}
-use Rattle.xdg_listing.proofs.Bits.{pow_bit, or_new_bit, or_bit, or_left_bit}
+use Rattle.xdg_facts.proofs.Bits.{pow_bit, or_new_bit, or_bit, or_left_bit}
 
 -- ---- bits
 

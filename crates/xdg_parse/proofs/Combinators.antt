@@ -7,7 +7,7 @@ use Rattle.xdg_parse.specs.Steadiness.{at}
 use Rattle.xdg_parse.specs.Laws.{Says, Alive, Law}
 use Rattle.xdg_parse.proofs.Ended.{ended-append}
 use Rattle.xdg_parse.proofs.Laws.{walk-both, walk-split, balanced, bind_says}
-use Rattle.xdg_listing.proofs.Truths.{none_or, or_here, either_true}
+use Rattle.xdg_facts.proofs.Truths.{none_or, or_here, either_true}
 
 -- ---- tests
 

@@ -7,7 +7,7 @@ use Rattle.xdg_ast.specs.Language.{Kinds, number, is, token}
 use Rattle.xdg_ast.specs.Brackets.{is_opening, is_closing}
 use Rattle.xdg_parse.specs.Laws.{Alive}
 use Rattle.xdg_parse.proofs.Combinators.{Apart, Plain}
-use Rattle.xdg_listing.proofs.Truths.{if_says}
+use Rattle.xdg_facts.proofs.Truths.{if_says}
 
 abbrev pub kinds : List Kind
 kinds =

@@ -9,7 +9,7 @@ use Rattle.xdg_rules.specs.Rules.{IsGreatest, IsLeast}
 use Rattle.xdg_pgraph.specs.declared.bundle.Way.{Way}
 use Rattle.xdg_pgraph.specs.declared.bundle.Way.TheVariants as ways
 use Rattle.xdg_pgraph.specs.Bundles.{argument_of, numbers_of}
-use Rattle.xdg_listing.proofs.Truths.{or_here, either_true}
+use Rattle.xdg_facts.proofs.Truths.{or_here, either_true}
 
 pub numbers_row : (way : Way) (group : Group) (node label candidate : ℕ) → row group node candidate (argument_of way) label ≡ numbers_of way group node label candidate
 numbers_row ways.Out group node label candidate = refl

@@ -13,7 +13,7 @@ use Rattle.xdg_problem.specs.Places.{edge}
 use Rattle.xdg_problem.specs.Tests.{IsTestOf, looks_first, no_cycle, out_count}
 use Rattle.xdg_propcore.specs.Kinds.{entry_kind, edge_kind, IsNamed}
 use Rattle.xdg_pgraph.specs.Family.{IsOfFamily, kinds_of}
-use Rattle.xdg_listing.proofs.Bits.{pow_bit, or_bit}
+use Rattle.xdg_facts.proofs.Bits.{pow_bit, or_bit}
 
 no_bit : (kind : ℕ) → bit_at 0 kind ≡ 1 → ⊥
 no_bit kind h = (let z = bit_at-zero kind in omega (arith, z, h))

@@ -31,8 +31,8 @@ use Rattle.xdg_pgraph.specs.declared.bundle.Way.{Way}
 use Rattle.xdg_pgraph.specs.declared.bundle.Way.TheVariants as ways
 use Rattle.xdg_pgraph.proofs.Bundled.{edge_takes, entry_takes}
 use Rattle.xdg_pgraph.proofs.Ends.{counted, in_bundle, in_parts}
-use Rattle.xdg_listing.proofs.Truths.{same_and}
-use Rattle.xdg_listing.proofs.Truths.{same_flag}
+use Rattle.xdg_facts.proofs.Truths.{same_and}
+use Rattle.xdg_facts.proofs.Truths.{same_flag}
 
 -- ---- where the box is closed all bundles are done
 

@@ -5,8 +5,8 @@ use Rattle.std.specs.List.{AllByRecursion}
 use Rattle.std.proofs.lemmas.Bool.{cases_eq, or_cases, eq-eqb, eqb-true, false≢true}
 use Rattle.xdg_nodeset.specs.Nodes.{has, Rises, IsNodes}
 use Rattle.xdg_problem.proofs.Ordered.{Ordered, each_contained, each_weaker, each_both, each_map, contains_head, contains_cases, contains_none}
-use Rattle.xdg_listing.proofs.Truths.{or_here, either_true}
-use Rattle.xdg_listing.proofs.Lists.{contains_more}
+use Rattle.xdg_facts.proofs.Truths.{or_here, either_true}
+use Rattle.xdg_facts.proofs.Lists.{contains_more}
 
 abbrev pub AreRising : List ℕ → Type 0
 AreRising xs = Ordered (λ a b. a < b) xs

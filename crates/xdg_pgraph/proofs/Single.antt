@@ -35,7 +35,7 @@ use Rattle.xdg_pgraph.specs.Seeking.{Finds, Into, Only, RootsAre}
 use Rattle.xdg_pgraph.specs.Ruling.{Runs, RunsFor, ForOthers}
 use Rattle.xdg_pgraph.proofs.PlaneFacts.{which_place}
 use Rattle.xdg_pgraph.proofs.Ruled.{runs_none, runs_turn, runs_like}
-use Rattle.xdg_listing.proofs.Lists.{contains_more}
+use Rattle.xdg_facts.proofs.Lists.{contains_more}
 
 -- ---- how many edges lead into a node
 

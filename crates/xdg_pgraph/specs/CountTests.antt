@@ -19,7 +19,7 @@ use Rattle.xdg_rules.specs.Rules.{has, IsDecided, HasNoneWithin, TestDecided, Te
 use Rattle.xdg_rules.proofs.Failing.{value_is}
 use Rattle.xdg_rules.proofs.Keeping.{less_length}
 use Rattle.xdg_rules.proofs.Shrinking.{may_be, must_be, must_test}
-use Rattle.xdg_listing.proofs.Lists.{contains_more}
+use Rattle.xdg_facts.proofs.Lists.{contains_more}
 
 -- a number of a list lies between two others, or none does
 some_within : (xs : List ℕ) (least most : ℕ) → ((k : ℕ) × Contains xs k × (least ≤ k) × (k ≤ most)) ⊎ HasNoneWithin xs least most

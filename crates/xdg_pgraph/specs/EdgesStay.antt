@@ -17,8 +17,8 @@ use Rattle.xdg_rules.proofs.Shrinking.{may_be, must_be}
 use Rattle.xdg_propcore.specs.Kinds.{edge_kind, kind_of}
 use Rattle.xdg_propcore.specs.Losses.{LosesOutside}
 use Rattle.xdg_propcore.proofs.DecisionKinds.{kind_of_edge}
-use Rattle.xdg_listing.proofs.Truths.{same_and}
-use Rattle.xdg_listing.proofs.Truths.{same_flag}
+use Rattle.xdg_facts.proofs.Truths.{same_and}
+use Rattle.xdg_facts.proofs.Truths.{same_flag}
 
 module _ (parts : Parts) (old new : List (List Bool)) (dim wakes : ℕ) (lies : LiesIn new old) (wakes_has : bit_at wakes (edge_kind dim) ≡ 1)
     (outside : LosesOutside parts wakes old new) where

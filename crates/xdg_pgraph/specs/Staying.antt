@@ -24,7 +24,7 @@ use Rattle.xdg_pgraph.specs.EdgesStay.{may_same, must_same, one_mother_stays, no
 use Rattle.xdg_pgraph.specs.Family.{IsOfFamily, kinds_of}
 use Rattle.xdg_pgraph.specs.Standing.{stands_for}
 use Rattle.xdg_pgraph.specs.declared.graph_prop.GraphProp.{GraphProp}
-use Rattle.xdg_listing.proofs.Bits.{or_left_bit, has_right}
+use Rattle.xdg_facts.proofs.Bits.{or_left_bit, has_right}
 
 module _ (parts : Parts) (problem : IsProblem parts) (group : Group) (family : IsOfFamily group.principle) (old new : List (List Bool))
     (new_is : IsBox (shape parts) new) (inside : LiesIn new old) (outside : LosesOutside parts (kinds_of group.principle (first_dim group)) old new) where

@@ -23,7 +23,7 @@ use Rattle.xdg_problem.proofs.PlaceOrder.{is_place, places_ordered}
 use Rattle.xdg_rules.specs.Rules.{has, IsDecided, OneLabel, OneMother, NoCycle, HasNoRoot, HasTwoRoots, may_edges, must_edges}
 use Rattle.xdg_rules.proofs.Among.{roots_length}
 use Rattle.xdg_rules.proofs.Shrinking.{must_of, must_is, may_of}
-use Rattle.xdg_listing.proofs.Lists.{contains_more}
+use Rattle.xdg_facts.proofs.Lists.{contains_more}
 
 -- two different edges, or at most one
 two_of : (xs : List Edge) → Ordered Before xs → (length xs ≤ 1) ⊎ ((a : Edge) × (b : Edge) × Contains xs a × Contains xs b × (a ≢ b))

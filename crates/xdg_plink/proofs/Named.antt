@@ -16,7 +16,7 @@ use Rattle.xdg_propcore.specs.Kinds.{AreNamed, IsNamed, LooksAt, edge_kind, entr
 use Rattle.xdg_propcore.specs.Uses.{StandsFor, use_at}
 use Rattle.xdg_plink.specs.Family.{IsLinking}
 use Rattle.xdg_plink.specs.Kept.{link_kinds, stands_at}
-use Rattle.xdg_listing.proofs.Truths.{and_2, or_here, either_true}
+use Rattle.xdg_facts.proofs.Truths.{and_2, or_here, either_true}
 
 -- a test of the principle in a sentence of one node and one label, and the edges of both dimensions at which it looks
 record NamingTest (p : Principle) (truths : List Bool) (one two : ℕ) : Type 0 where

@@ -26,8 +26,8 @@ use Rattle.xdg_propcore.proofs.DecisionKinds.{kind_of_edge, kind_of_entry}
 use Rattle.xdg_plink.specs.Family.{IsLinking}
 use Rattle.xdg_plink.specs.Kept.{link_kinds, stands_at}
 use Rattle.xdg_plink.specs.Failing.{none_fails}
-use Rattle.xdg_listing.proofs.Truths.{either}
-use Rattle.xdg_listing.proofs.Bits.{or_left_bit, has_right}
+use Rattle.xdg_facts.proofs.Truths.{either}
+use Rattle.xdg_facts.proofs.Bits.{or_left_bit, has_right}
 
 -- ---- the kinds
 

@@ -11,7 +11,7 @@ use Rattle.xdg_store.specs.States.{State}
 use Rattle.xdg_propcore.specs.Passes.{Progress, Clears}
 use Rattle.xdg_propcore.proofs.Passing.{clears_none, clears_like, clears_both}
 use Rattle.xdg_pmulti.specs.Aims.{Forbids}
-use Rattle.xdg_listing.proofs.Truths.{or_here, either_true}
+use Rattle.xdg_facts.proofs.Truths.{or_here, either_true}
 
 -- the same edges, told in another way
 pub forbids_like : (parts : Parts) (dim : ℕ) (P Q : Edge → Type 0) → ((e : Edge) → IsPlaceOn parts dim e → P e → Q e) → (d v : ℕ) → Forbids parts dim P d v → Forbids parts dim Q d v

@@ -14,8 +14,8 @@ use Rattle.xdg_problem.specs.Tests.{IsTestOf, climbing, not_blocked}
 use Rattle.std.specs.Prelude.{◌==◌}
 use Rattle.xdg_propcore.specs.Kinds.{entry_kind, edge_kind, IsNamed}
 use Rattle.xdg_pmulti.specs.Family.{HasKinds, IsKindFor, IsOfFamily}
-use Rattle.xdg_listing.proofs.Bits.{pow_bit, or_bit, or_left_bit}
-use Rattle.xdg_listing.proofs.Truths.{or_here, either_true}
+use Rattle.xdg_facts.proofs.Bits.{pow_bit, or_bit, or_left_bit}
+use Rattle.xdg_facts.proofs.Truths.{or_here, either_true}
 
 -- ---- bits
 

@@ -26,8 +26,8 @@ use Rattle.xdg_rules.proofs.Among.{Among, above_among}
 use Rattle.xdg_rules.proofs.Failing.{value_is}
 use Rattle.xdg_rules.proofs.Shrinking.{may_exact, must_exact}
 use Rattle.xdg_pmulti.specs.Family.{IsOfFamily}
-use Rattle.xdg_listing.proofs.Truths.{and_swap}
-use Rattle.xdg_listing.proofs.Truths.{or_here, either_true}
+use Rattle.xdg_facts.proofs.Truths.{and_swap}
+use Rattle.xdg_facts.proofs.Truths.{or_here, either_true}
 
 module _ (parts : Parts) (group : Group) (box : List (List Bool)) (is : IsBox (shape parts) box) where
   abbrev one : ℕ

@@ -8,7 +8,7 @@ use Rattle.xdg_nodeset.specs.Nodes.{has, IsNodes}
 use Rattle.xdg_nodeset.proofs.Rising.{has_beyond}
 use Rattle.xdg_problem.specs.Asking.{IsBetween}
 use Rattle.xdg_porder.specs.Across.{Crosses}
-use Rattle.xdg_listing.proofs.Truths.{left_out}
+use Rattle.xdg_facts.proofs.Truths.{left_out}
 
 -- what was gathered, and what the nodes still to come bring, is what all bring
 abbrev pub Gathers : (ℕ → ℕ → Type 0) → List ℕ → List ℕ → List ℕ → Type 0

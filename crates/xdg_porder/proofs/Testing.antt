@@ -32,7 +32,7 @@ use Rattle.xdg_graph.proofs.Edges.{stands_by}
 use Rattle.xdg_graph.proofs.Labelled.{label_below}
 use Rattle.xdg_porder.specs.Items.{AreEarlierDone, IsPairDone, MayFollow, MayStand, MustFollow, MustStand, edge_to, label_at}
 use Rattle.xdg_porder.specs.Yields.{AreSettled, IsBrokenAt, StandsBelow}
-use Rattle.xdg_listing.proofs.Truths.{and_swap}
+use Rattle.xdg_facts.proofs.Truths.{and_swap}
 
 module _ (parts : Parts) (group : Group) (box : List (List Bool)) (is : IsBox (shape parts) box) where
   abbrev one : ℕ

@@ -14,8 +14,8 @@ use Rattle.xdg_problem.specs.Places.{edge}
 use Rattle.xdg_problem.specs.Tests.{IsTestOf, ordered_daughters, ordered_yields, projective}
 use Rattle.xdg_propcore.specs.Kinds.{attr_kind, edge_kind, IsNamed}
 use Rattle.xdg_porder.specs.Family.{HasKinds, IsKindFor, IsOfFamily}
-use Rattle.xdg_listing.proofs.Bits.{pow_bit, or_new_bit, or_bit, or_left_bit}
-use Rattle.xdg_listing.proofs.Truths.{and_2}
+use Rattle.xdg_facts.proofs.Bits.{pow_bit, or_new_bit, or_bit, or_left_bit}
+use Rattle.xdg_facts.proofs.Truths.{and_2}
 
 -- ---- bits
 

@@ -28,8 +28,8 @@ use Rattle.xdg_propcore.specs.Losses.{LosesOutside}
 use Rattle.xdg_propcore.specs.Uses.{IsClosedBy, StandsFor, use_at, no_use}
 use Rattle.xdg_propcore.proofs.DecisionKinds.{kind_of_attr, kind_of_edge}
 use Rattle.xdg_porder.specs.Family.{HasKinds, IsOfFamily, StandsAt}
-use Rattle.xdg_listing.proofs.Truths.{and_first, same_and}
-use Rattle.xdg_listing.proofs.Truths.{same_flag}
+use Rattle.xdg_facts.proofs.Truths.{and_first, same_and}
+use Rattle.xdg_facts.proofs.Truths.{same_flag}
 
 pub dim_needed : (p : Principle) → IsOfFamily p → 0 < dim_arguments p
 dim_needed principles.Order family = omega arith

@@ -14,7 +14,7 @@ use Rattle.xdg_principles.specs.Made.{arg, args}
 use Rattle.xdg_principles.specs.Settings.{Setting}
 use Rattle.xdg_principles.specs.Principles.{key_text, told}
 use Rattle.xdg_principles.specs.Names.{required_key}
-use Rattle.xdg_listing.proofs.Truths.{or_assoc}
+use Rattle.xdg_facts.proofs.Truths.{or_assoc}
 
 pub nothing_more : (found : Option Fault) → earlier found None ≡ found
 nothing_more found = earlier-none found

@@ -41,8 +41,8 @@ use Rattle.xdg_principles.specs.Typed.{labels_at, dim_at, IsElementOf, IsTypedAs
 use Rattle.xdg_principles.proofs.TypedPlaces.{label_places}
 use Rattle.xdg_principles.proofs.TypedRows.{HasWhich, FixesShared, IsSoundElement, IsSoundTyping, IsSoundWanted}
 use Rattle.xdg_principles.proofs.WantedLaw.{wanted_true, wanted_false}
-use Rattle.xdg_listing.proofs.Lists.{some_at}
-use Rattle.xdg_listing.proofs.Options.{none_some, some_same}
+use Rattle.xdg_facts.proofs.Lists.{some_at}
+use Rattle.xdg_facts.proofs.Options.{none_some, some_same}
 
 -- ---- the type that arguments share
 

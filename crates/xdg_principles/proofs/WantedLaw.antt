@@ -10,7 +10,7 @@ use Rattle.xdg_principles.specs.declared.principle.Typing.{Typing}
 use Rattle.xdg_principles.specs.declared.principle.Typing.TheVariants as t
 use Rattle.xdg_principles.specs.Settings.{Setting, labels, shared}
 use Rattle.xdg_principles.specs.Wanted.{IsSame, IsShared, IsElement, IsSetOf, IsMapTo, IsWanted, same_texts, same_domains, same_type, is_shared, is_domain_of, is_element, is_set_of, is_map_to, is_valency_of, is_wanted}
-use Rattle.xdg_listing.proofs.Lists.{head_of, tail_of}
+use Rattle.xdg_facts.proofs.Lists.{head_of, tail_of}
 
 -- a test that holds just where a condition does
 abbrev Tells : Bool → Type 0 → Type 0

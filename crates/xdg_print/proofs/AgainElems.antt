@@ -20,8 +20,8 @@ use Rattle.xdg_print.proofs.AgainNames.{Like, Kept, constant_kind, constant_says
 use Rattle.xdg_print.proofs.AgainKept.{kept_by, behind_keeps, made_keeps, spanned_keeps}
 use Rattle.xdg_print.proofs.AgainLevels.{elems_words, pairs_words, Below, nested_keeps}
 use Rattle.xdg_print.proofs.AgainTerms.{bracketed_keeps, card_keeps, gen_keeps}
-use Rattle.xdg_listing.proofs.Truths.{and_false}
-use Rattle.xdg_listing.proofs.Truths.{choose}
+use Rattle.xdg_facts.proofs.Truths.{and_false}
+use Rattle.xdg_facts.proofs.Truths.{choose}
 
 -- ---- constants and parameters
 

@@ -14,7 +14,7 @@ use Rattle.xdg_ast.specs.Words.{Word, word_of, mark, number as number_word, cons
 use Rattle.xdg_ast.specs.Trees.{name_word, names_words, nums_words, pair_words}
 use Rattle.xdg_ast.specs.Same.{bare_name, bare_names, bare_num, bare_pair}
 use Rattle.xdg_print.proofs.AgainWritten.{Written, weaker, at_words, token_written, made_written, both_written, behind_written, Each, InTurn, many_written, Gives, stronger, token_gives, made_gives, both_gives, behind_gives, many_gives}
-use Rattle.xdg_listing.proofs.Truths.{choose}
+use Rattle.xdg_facts.proofs.Truths.{choose}
 
 -- ---- kinds by their numbers
 

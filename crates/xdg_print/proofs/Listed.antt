@@ -20,8 +20,8 @@ use Rattle.xdg_print.proofs.Written.{put_mark}
 use Rattle.xdg_print.specs.LexiconText.{dim_line, dim_line_at, dim_lines, end_line, entries_line, entry_line, entry_lines, entries_lines, lexicon_lines, lexicon_text, word_at}
 use Rattle.xdg_print.specs.ValueWords.{features_words}
 use Rattle.xdg_print.specs.WordPlaces.{place_of_word}
-use Rattle.xdg_listing.proofs.Lists.{from_place}
-use Rattle.xdg_listing.proofs.Lists.{any_default}
+use Rattle.xdg_facts.proofs.Lists.{from_place}
+use Rattle.xdg_facts.proofs.Lists.{any_default}
 
 abbrev start : Printer
 start = record { text = []; last = None }

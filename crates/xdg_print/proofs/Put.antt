@@ -10,7 +10,7 @@ use Rattle.xdg_ast.specs.Trees.{Form, single, conjunction, disjunction, Phrase, 
 use Rattle.xdg_ast.specs.Canon.{Line, line_text, gap, spelling, joined}
 use Rattle.xdg_print.specs.declared.printer.Printer.{Printer}
 use Rattle.xdg_print.specs.Printed.{put, put_one, put_lines, begun, ended, opening, closing, is_joined, is_disjoined}
-use Rattle.xdg_listing.proofs.Lists.{from_place}
+use Rattle.xdg_facts.proofs.Lists.{from_place}
 
 pub put_append : (a b : List Word) (p : Printer) → put (a ++ b) p ≡ put b (put a p)
 put_append [] b p = refl

@@ -15,7 +15,7 @@ use Rattle.xdg_print.specs.declared.printer.Printer.{Printer}
 use Rattle.xdg_print.specs.Printed.{put}
 use Rattle.xdg_print.proofs.Written.{put_mark, put_braces}
 use Rattle.xdg_print.specs.ValueWords.{sign_for, sign_or_numbers, card_words}
-use Rattle.xdg_listing.proofs.Truths.{or_true}
+use Rattle.xdg_facts.proofs.Truths.{or_true}
 
 -- a test that is exact is the test of the two lists
 pub same_test : (b : Bool) (ns ms : List ℕ) → (b ≡ true) ↔ (ns ≡ ms) → b ≡ bytes_eq ns ms

@@ -3,7 +3,7 @@ use Rattle.std.proofs.Common.{◌≡◌, ◌↔◌, ℕ, ◌<◌, ◌+◌, inl, 
 use Rattle.std.specs.Prelude.{All, AllPairs, Contains}
 use Rattle.std.proofs.lemmas.List.Elements.{All-weaker, Contains-get_or}
 use Rattle.xdg_base.specs.declared.ids.EntryNo.{EntryNo}
-use Rattle.xdg_listing.specs.Order.{Less}
+use Rattle.xdg_facts.specs.Order.{Less}
 use Rattle.xdg_problem.specs.declared.analysis.Analysis.{Analysis}
 use Rattle.xdg_problem.specs.declared.analysis.Edge.{Edge}
 use Rattle.xdg_problem.specs.declared.parts.Parts.{Parts}

@@ -8,7 +8,7 @@ use Rattle.xdg_problem.specs.declared.analysis.Edge.{Edge}
 use Rattle.xdg_problem.specs.Paths.{Leads, NoCycle}
 use Rattle.xdg_problem.proofs.Ordered.{contains_head, contains_cases, contains_none}
 use Rattle.xdg_problem.proofs.Deciding.{Decided, decided_like, decided_both, decided_all, decided_from}
-use Rattle.xdg_listing.proofs.Lists.{contains_more}
+use Rattle.xdg_facts.proofs.Lists.{contains_more}
 
 -- v is u, or u is above v
 pub record Reaches (edges : List Edge) (u v : ℕ) : Type 0 where

@@ -5,7 +5,7 @@ use Rattle.std.proofs.lemmas.Bool.{cases_lt, cases_eq, false≢true}
 use Rattle.std.proofs.lemmas.List.Elements.{All-nil, All-cons, All-head, All-tail}
 use Rattle.xdg_problem.specs.Features.{IsWithin}
 use Rattle.xdg_problem.proofs.Ordered.{contains_head, contains_cases, contains_none}
-use Rattle.xdg_listing.proofs.Lists.{contains_more}
+use Rattle.xdg_facts.proofs.Lists.{contains_more}
 
 -- P holds, or it does not
 abbrev pub Decided : Type 0 → Type 0

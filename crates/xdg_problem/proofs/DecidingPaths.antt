@@ -10,7 +10,7 @@ use Rattle.xdg_problem.proofs.Ordered.{Ordered, ordered_pairs, ordered_from_pair
 use Rattle.xdg_problem.proofs.Looking.{any_of}
 use Rattle.xdg_problem.proofs.Deciding.{Decided, decided_like, decided_both, decided_equal, decided_contains}
 use Rattle.xdg_problem.proofs.CycleTests.{Reaches, decided_reaches}
-use Rattle.xdg_listing.proofs.Lists.{contains_more}
+use Rattle.xdg_facts.proofs.Lists.{contains_more}
 
 pub decided_either : (P Q : Type 0) → Decided P → Decided Q → Decided (P ⊎ Q)
 decided_either P Q (inl p) other = inl (inl p)

@@ -5,7 +5,7 @@ use Rattle.std.specs.List.{AllByRecursion}
 use Rattle.std.proofs.lemmas.Bool.{cases_eq, ne_eqb, eq-eqb}
 use Rattle.std.proofs.lemmas.List.Elements.{Contains-get_or}
 use Rattle.xdg_base.specs.declared.ids.EntryNo.{EntryNo}
-use Rattle.xdg_listing.specs.Fits.{Fits}
+use Rattle.xdg_facts.specs.Fits.{Fits}
 use Rattle.xdg_problem.specs.Vectors.{place_among, entry_places, entries_at}
 use Rattle.xdg_problem.specs.Analyses.{HasCandidates}
 use Rattle.xdg_problem.specs.Problems.{AreCandidates}

@@ -5,7 +5,7 @@ use Rattle.std.specs.List.{flat_map}
 use Rattle.std.proofs.lemmas.List.{drop_more, drop_all, length-map, get_or_default, get_or-map, get_or-drop}
 use Rattle.std.proofs.lemmas.Bool.{false≢true}
 use Rattle.xdg_base.specs.declared.ids.EntryNo.{EntryNo}
-use Rattle.xdg_listing.specs.Fits.{Fits}
+use Rattle.xdg_facts.specs.Fits.{Fits}
 use Rattle.xdg_problem.specs.declared.analysis.Edge.{Edge}
 use Rattle.xdg_problem.specs.declared.parts.AttrPlan.{AttrPlan}
 use Rattle.xdg_problem.specs.declared.parts.DimPlan.{DimPlan}

@@ -1,9 +1,9 @@
 -- What tests, live prefixes and solutions keep, all of it.
 use Rattle.std.proofs.Common.{◌≡◌, ◌↔◌, ℕ, ◌<◌, List, ◌++◌, length, sym, subst, arith}
 use Rattle.std.specs.Prelude.{filter}
-use Rattle.xdg_listing.specs.Fits.{Fits}
-use Rattle.xdg_listing.specs.Whole.{is_whole}
-use Rattle.xdg_listing.proofs.Wholes.{whole_listing}
+use Rattle.xdg_facts.specs.Fits.{Fits}
+use Rattle.xdg_facts.specs.Whole.{is_whole}
+use Rattle.xdg_facts.proofs.Wholes.{whole_listing}
 use Rattle.xdg_problem.specs.declared.analysis.Analysis.{Analysis}
 use Rattle.xdg_problem.specs.declared.parts.Group.{Group}
 use Rattle.xdg_problem.specs.declared.parts.Parts.{Parts}

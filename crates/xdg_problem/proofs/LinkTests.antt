@@ -20,7 +20,7 @@ use Rattle.xdg_problem.proofs.Looking.{and_3, any_weaker, on_same, any_same, see
 use Rattle.xdg_problem.proofs.Tuples.{triples}
 use Rattle.xdg_problem.proofs.Passing.{PassesAt}
 use Rattle.xdg_problem.proofs.EachTest.{EachTriple}
-use Rattle.xdg_listing.proofs.Truths.{or_here, either_true, and_2}
+use Rattle.xdg_facts.proofs.Truths.{or_here, either_true, and_2}
 
 -- what is linked by one list of edges is linked by another
 labels_like : (A B : Type 0) (labels : List ℕ) → A ↔ B → (0 < length labels → A) ↔ (0 < length labels → B)

@@ -1,11 +1,11 @@
 -- There is exactly one list of the live prefixes after a start, and exactly one of the solutions.
 use Rattle.std.proofs.Common.{ℕ, List}
 use Rattle.std.specs.Prelude.{filter, map}
-use Rattle.xdg_listing.specs.Listing.{HasOneListing}
-use Rattle.xdg_listing.specs.Whole.{is_whole}
-use Rattle.xdg_listing.proofs.Exists.{decided_listing}
-use Rattle.xdg_listing.proofs.Unique.{listing_unique}
-use Rattle.xdg_listing.proofs.Wholes.{whole_listing}
+use Rattle.xdg_facts.specs.Listing.{HasOneListing}
+use Rattle.xdg_facts.specs.Whole.{is_whole}
+use Rattle.xdg_facts.proofs.Exists.{decided_listing}
+use Rattle.xdg_facts.proofs.Unique.{listing_unique}
+use Rattle.xdg_facts.proofs.Wholes.{whole_listing}
 use Rattle.xdg_problem.specs.declared.analysis.Analysis.{Analysis}
 use Rattle.xdg_problem.specs.declared.parts.Parts.{Parts}
 use Rattle.xdg_problem.specs.Vectors.{shape, analysis_of}

@@ -16,7 +16,7 @@ use Rattle.xdg_problem.proofs.Looking.{on_same, any_same}
 use Rattle.xdg_problem.proofs.Tuples.{tuples_3}
 use Rattle.xdg_problem.proofs.Passing.{PassesAt}
 use Rattle.xdg_problem.proofs.EachTest.{EachNode, EachPair}
-use Rattle.xdg_listing.proofs.Truths.{and_2}
+use Rattle.xdg_facts.proofs.Truths.{and_2}
 
 -- an order of items, where x and y stand in the same items
 order_like : (few many : List Edge) (yields : Type 0) (own u x y : ℕ) (order : List ℕ) → ((label z : ℕ) → IsInItem few yields own u label z ↔ IsInItem many yields own u label z) → AllPairs (λ a b. IsInItem few yields own u a x → IsInItem few yields own u b y → x < y) order → AllPairs (λ a b. IsInItem many yields own u a x → IsInItem many yields own u b y → x < y) order

@@ -5,7 +5,7 @@ use Rattle.std.specs.List.{AllByRecursion, flat_map}
 use Rattle.std.proofs.lemmas.Bool.{cases_eq}
 use Rattle.std.proofs.lemmas.List.Elements.{recursion_from_All}
 use Rattle.xdg_problem.specs.Places.{numbers_from}
-use Rattle.xdg_listing.proofs.Lists.{kept, contains_more}
+use Rattle.xdg_facts.proofs.Lists.{kept, contains_more}
 
 abbrev pub Ordered : {X : Type 0} → (X → X → Type 0) → List X → Type 0
 Ordered R [] = Unit {0}

@@ -16,7 +16,7 @@ use Rattle.xdg_problem.proofs.Looking.{on_same}
 use Rattle.xdg_problem.proofs.Tuples.{pairs}
 use Rattle.xdg_problem.proofs.Passing.{PassesAt}
 use Rattle.xdg_problem.proofs.EachTest.{EachPair}
-use Rattle.xdg_listing.proofs.Truths.{or_here, either_true}
+use Rattle.xdg_facts.proofs.Truths.{or_here, either_true}
 
 module _ (parts : Parts) (group : Group) (candidates attrs : List ℕ) (edges : List Edge) where
   abbrev n : ℕ

@@ -4,7 +4,7 @@ use Rattle.std.specs.Prelude.{slice_get, slice_index_or}
 use Rattle.xdg_problem.specs.declared.parts.Feat.{Feat}
 use Rattle.xdg_problem.specs.declared.parts.Group.{Group}
 use Rattle.xdg_problem.specs.Features.{row}
-use Rattle.xdg_listing.proofs.Lookups.{read_some, read_none}
+use Rattle.xdg_facts.proofs.Lookups.{read_some, read_none}
 
 abbrev pub in_feature : Feat → ℕ → List ℕ
 in_feature feature label = slice_index_or feature.rows label []

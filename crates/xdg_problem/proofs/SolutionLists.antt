@@ -3,11 +3,11 @@ use Rattle.std.proofs.Common.{◌≡◌, ℕ, inl, inr, List, [], ◌∷◌, map
 use Rattle.std.specs.Prelude.{All, Contains}
 use Rattle.std.specs.List.{AllByRecursion}
 use Rattle.std.proofs.lemmas.List.Elements.{All-nil, All-cons, All-head, All-tail}
-use Rattle.xdg_listing.specs.Order.{Less}
-use Rattle.xdg_listing.specs.Fits.{Fits}
-use Rattle.xdg_listing.specs.Listing.{Member, RisesFrom, IsListing}
-use Rattle.xdg_listing.specs.Whole.{Whole}
-use Rattle.xdg_listing.proofs.Unique.{listing_unique}
+use Rattle.xdg_facts.specs.Order.{Less}
+use Rattle.xdg_facts.specs.Fits.{Fits}
+use Rattle.xdg_facts.specs.Listing.{Member, RisesFrom, IsListing}
+use Rattle.xdg_facts.specs.Whole.{Whole}
+use Rattle.xdg_facts.proofs.Unique.{listing_unique}
 use Rattle.xdg_problem.specs.declared.analysis.Analysis.{Analysis}
 use Rattle.xdg_problem.specs.declared.parts.Parts.{Parts}
 use Rattle.xdg_problem.specs.Vectors.{shape, vector, analysis_of}
@@ -18,7 +18,7 @@ use Rattle.xdg_problem.specs.Solutions.{IsSolution, SolutionsRise, IsSolutionLis
 use Rattle.xdg_problem.proofs.Ordered.{contains_head, contains_cases, contains_none}
 use Rattle.xdg_problem.proofs.VectorFacts.{analysis_fits, vector_analysis, vector_fits, length_vector, analysis_vector}
 use Rattle.xdg_problem.proofs.WholeTests.{whole_live, relations_live}
-use Rattle.xdg_listing.proofs.Lists.{contains_more}
+use Rattle.xdg_facts.proofs.Lists.{contains_more}
 
 contains_mapped : (parts : Parts) (xs : List (List ℕ)) (x : List ℕ) → Member xs x → Contains (map (analysis_of parts) xs) (analysis_of parts x)
 contains_mapped parts [] x m = absurd m

@@ -15,8 +15,8 @@ use Rattle.xdg_problem.specs.Asking.{AsksOf}
 use Rattle.xdg_problem.proofs.Ordered.{contains_head, contains_cases, contains_none}
 use Rattle.xdg_problem.proofs.Looking.{any_of}
 use Rattle.xdg_problem.proofs.DecidingPaths.{contained}
-use Rattle.xdg_listing.proofs.Numbers.{has_first}
-use Rattle.xdg_listing.proofs.Lists.{contains_more}
+use Rattle.xdg_facts.proofs.Numbers.{has_first}
+use Rattle.xdg_facts.proofs.Lists.{contains_more}
 
 -- helpers
 

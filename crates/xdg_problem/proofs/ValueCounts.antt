@@ -13,7 +13,7 @@ use Rattle.xdg_problem.specs.Places.{numbers_from, below, nodes, places}
 use Rattle.xdg_problem.specs.Vectors.{attr_sizes, shape}
 use Rattle.xdg_problem.specs.Values.{value_counts}
 use Rattle.xdg_problem.proofs.Counted.{length_attrs_of}
-use Rattle.xdg_listing.proofs.Numbers.{some_after}
+use Rattle.xdg_facts.proofs.Numbers.{some_after}
 
 -- an attribute of one node among those of all nodes of a dimension
 of_node : (counts : List ℕ) (first count i : ℕ) → i < count * length counts → get_or (flat_map (λ (node : ℕ). counts) (numbers_from first count)) i 2 ≡ get_or counts (i % length counts) 2

@@ -3,8 +3,8 @@ use Rattle.std.proofs.Common.{◌≡◌, ℕ, ◌<◌, ◌⊎◌, inl, inr, List
 use Rattle.std.specs.Prelude.{slice_index_or}
 use Rattle.std.proofs.lemmas.Bool.{cases_eq, cases_order}
 use Rattle.std.proofs.lemmas.List.{get_or_default}
-use Rattle.xdg_listing.specs.Order.{AtMost}
-use Rattle.xdg_listing.proofs.Ordered.{at_most_of, not_less}
+use Rattle.xdg_facts.specs.Order.{AtMost}
+use Rattle.xdg_facts.proofs.Ordered.{at_most_of, not_less}
 use Rattle.xdg_problem.specs.declared.analysis.Analysis.{Analysis}
 use Rattle.xdg_problem.specs.declared.analysis.Edge.{Edge}
 use Rattle.xdg_problem.specs.declared.conditions.Condition.{Condition}

@@ -1,7 +1,7 @@
 -- Which analyses belong to a problem.
 use Rattle.std.specs.Prelude.{◌≡◌, ◌≢◌, ◌<◌, ◌⊎◌, List, [], ◌∷◌, length, Contains, All, true, slice_index_or}
 use Rattle.xdg_base.specs.declared.ids.EntryNo.{EntryNo}
-use Rattle.xdg_listing.specs.Fits.{Fits}
+use Rattle.xdg_facts.specs.Fits.{Fits}
 use Rattle.xdg_problem.specs.declared.analysis.Edge.{Edge}
 use Rattle.xdg_problem.specs.declared.analysis.Analysis.{Analysis}
 use Rattle.xdg_problem.specs.declared.parts.DimPlan.{DimPlan}

@@ -1,9 +1,9 @@
 -- What tests, live prefixes and solutions keep.
 use Rattle.std.specs.Prelude.{◌≡◌, ◌⊎◌, ◌↔◌, ℕ, ◌<◌, List, ◌++◌, length, map, filter, All}
-use Rattle.xdg_listing.specs.Closed.{Closed}
-use Rattle.xdg_listing.specs.Fits.{Fits}
-use Rattle.xdg_listing.specs.Listing.{HasOneListing, IsListing}
-use Rattle.xdg_listing.specs.Whole.{Whole, is_whole}
+use Rattle.xdg_facts.specs.Closed.{Closed}
+use Rattle.xdg_facts.specs.Fits.{Fits}
+use Rattle.xdg_facts.specs.Listing.{HasOneListing, IsListing}
+use Rattle.xdg_facts.specs.Whole.{Whole, is_whole}
 use Rattle.xdg_problem.specs.declared.analysis.Analysis.{Analysis}
 use Rattle.xdg_problem.specs.declared.conditions.Condition.{Condition}
 use Rattle.xdg_problem.specs.declared.parts.Group.{Group}

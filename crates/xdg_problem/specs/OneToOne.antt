@@ -1,6 +1,6 @@
 -- Analyses and whole vectors are one to one.
 use Rattle.std.specs.Prelude.{◌≡◌, ℕ, List, length}
-use Rattle.xdg_listing.specs.Fits.{Fits}
+use Rattle.xdg_facts.specs.Fits.{Fits}
 use Rattle.xdg_problem.specs.declared.analysis.Analysis.{Analysis}
 use Rattle.xdg_problem.specs.declared.parts.Parts.{Parts}
 use Rattle.xdg_problem.specs.Vectors.{shape, vector, analysis_of}

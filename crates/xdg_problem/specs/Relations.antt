@@ -1,6 +1,6 @@
 -- What each principle use asks of an analysis.
 use Rattle.std.specs.Prelude.{◌≡◌, ℕ, ◌<◌, List, length, slice_index_or, All}
-use Rattle.xdg_listing.specs.Order.{AtMost}
+use Rattle.xdg_facts.specs.Order.{AtMost}
 use Rattle.xdg_problem.specs.declared.analysis.Analysis.{Analysis}
 use Rattle.xdg_problem.specs.declared.analysis.Edge.{Edge}
 use Rattle.xdg_problem.specs.declared.conditions.Condition.{Condition}

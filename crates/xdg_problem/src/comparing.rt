@@ -2,7 +2,7 @@
 
 ghost use Rattle.std.specs.Prelude.{◌≡◌, ◌↔◌, IsTrue, length, map};
 ghost use Rattle.xdg_base.specs.declared.ids.EntryNo.{EntryNo};
-ghost use Rattle.xdg_listing.specs.Order.{Less};
+ghost use Rattle.xdg_facts.specs.Order.{Less};
 ghost use Rattle.xdg_problem.specs.Analyses.{IsAnalysis, Before};
 ghost use Rattle.xdg_problem.specs.EdgeOrder.{EdgesLess};
 ghost use Rattle.xdg_problem.specs.EntryNumbers.{entry_numbers};
@@ -13,7 +13,7 @@ use crate::analysis::{Analysis, Edge, is_before};
 use crate::parts::Parts;
 use std::cmp::Ordering;
 use xdg_base::EntryNo;
-use xdg_listing::compare;
+use xdg_facts::compare;
 
 /// Compares two lists of entries by their numbers.
 fn compare_entries(a: &[EntryNo], b: &[EntryNo]) -> Ordering

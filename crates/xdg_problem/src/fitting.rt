@@ -2,7 +2,7 @@
 
 ghost use Rattle.std.specs.Prelude.{◌≡◌, ◌≤◌, ◌<◌, ◌+◌, ◌*◌, ◌↔◌, IsTrue, length, map, Contains, All};
 ghost use Rattle.std.specs.List.{flat_map};
-ghost use Rattle.xdg_listing.specs.Fits.{Fits};
+ghost use Rattle.xdg_facts.specs.Fits.{Fits};
 ghost use Rattle.xdg_problem.specs.Analyses.{HasCandidates, Before, IsPlace, EdgesRise, IsAnalysis};
 ghost use Rattle.xdg_problem.specs.EdgeOrder.{RisesAt};
 ghost use Rattle.xdg_problem.specs.OneToOne.{IsOneToOne};

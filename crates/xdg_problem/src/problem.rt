@@ -1,7 +1,7 @@
 //! A problem.
 
 ghost use Rattle.std.specs.Prelude.{◌≡◌, ◌<◌, ◌↔◌, IsTrue, length, slice_index, IfOk};
-ghost use Rattle.xdg_listing.specs.Order.{Less};
+ghost use Rattle.xdg_facts.specs.Order.{Less};
 ghost use Rattle.xdg_problem.specs.Analyses.{IsAnalysis};
 ghost use Rattle.xdg_problem.specs.HasPlaces.{HasPlaces};
 ghost use Rattle.xdg_problem.specs.OneToOne.{IsOneToOne};

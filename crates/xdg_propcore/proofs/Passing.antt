@@ -32,8 +32,8 @@ use Rattle.xdg_propcore.specs.declared.moved.Moved.TheVariants as moves
 use Rattle.xdg_propcore.proofs.Analyses.{keeps_boxes}
 use Rattle.xdg_propcore.proofs.DecisionKinds.{kind_of_entry, kind_of_attr, kind_of_edge}
 use Rattle.xdg_propcore.proofs.Settling.{extends_both}
-use Rattle.xdg_listing.proofs.Truths.{either}
-use Rattle.xdg_listing.proofs.Bits.{or_new_bit, or_left_bit}
+use Rattle.xdg_facts.proofs.Truths.{either}
+use Rattle.xdg_facts.proofs.Bits.{or_new_bit, or_left_bit}
 
 -- ---- nothing is done
 

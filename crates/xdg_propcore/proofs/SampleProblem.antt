@@ -13,7 +13,7 @@ use Rattle.xdg_problem.specs.Problems.{IsProblem, IsDim, IsAttr, IsGroup, IsSet,
 use Rattle.xdg_store.specs.InRange.{HasValue}
 use Rattle.xdg_propcore.specs.Sample.{agr_use, colour, first_alone, plan, sample, IsUse}
 use Rattle.xdg_propcore.specs.Uses.{StandsIn}
-use Rattle.xdg_listing.proofs.Lists.{all_one, all_two, pairs_one, pairs_two, pairs_none}
+use Rattle.xdg_facts.proofs.Lists.{all_one, all_two, pairs_one, pairs_two, pairs_none}
 
 one_candidate : AreCandidates (record { 0 = 3 } ∷ [])
 one_candidate = record { some = lit< tt; most = lit≤ tt; rising = pairs_one (λ (a b : EntryNo). a.0 < b.0) (record { 0 = 3 }); small = all_one (λ (e : EntryNo). e.0 < 4294967295) (record { 0 = 3 }) (lit< tt) }

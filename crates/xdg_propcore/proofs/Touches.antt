@@ -25,7 +25,7 @@ use Rattle.xdg_propcore.specs.Kinds.{kind_of}
 use Rattle.xdg_propcore.specs.Touching.{HasTouched, InTable, IsSmall, Marks, MarksEdge}
 use Rattle.xdg_propcore.specs.declared.touched.Touched.{Touched}
 use Rattle.xdg_propcore.proofs.DecisionKinds.{kind_of_attr, kind_of_edge, kind_of_entry}
-use Rattle.xdg_listing.proofs.Truths.{or_here, either_true}
+use Rattle.xdg_facts.proofs.Truths.{or_here, either_true}
 
 -- ---- a table of sets
 

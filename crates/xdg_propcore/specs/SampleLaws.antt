@@ -11,7 +11,7 @@ use Rattle.xdg_problem.specs.Vectors.{shape}
 use Rattle.xdg_rules.specs.Rules.{IsClosedFor, AgrValues, TestPasses, attr_of_node}
 use Rattle.xdg_propcore.specs.Sample.{sample, agr_use, LacksSecond, IsUse}
 use Rattle.xdg_propcore.specs.Uses.{IsClosedBy, use_at}
-use Rattle.xdg_listing.proofs.Numbers.{has_first}
+use Rattle.xdg_facts.proofs.Numbers.{has_first}
 
 -- the box of the first values
 abbrev firsts : List (List Bool)

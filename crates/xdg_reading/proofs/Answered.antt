@@ -22,7 +22,7 @@ use Rattle.xdg_reading.specs.Slots.{slots}
 use Rattle.xdg_reading.proofs.Attributes.{are_attrs, all_differ, fit_sizes, count_sizes}
 use Rattle.xdg_reading.proofs.EdgeLaws.{EdgesTold, edges_told, edges_said, edge_refused}
 use Rattle.xdg_reading.proofs.Told.{ValuesTold, values_told, values_said, attr_told, words_fit, word_offends, words_told, word_told}
-use Rattle.xdg_listing.proofs.Lists.{all_cons, all_none}
+use Rattle.xdg_facts.proofs.Lists.{all_cons, all_none}
 
 edges_stand : (parts : Parts) (before : Option Edge) (lines : List EdgeLine) (edges : List Edge) → SayEdges parts before lines edges → All (IsPlace parts) edges
 edges_stand parts before [] [] say = all_none (IsPlace parts)

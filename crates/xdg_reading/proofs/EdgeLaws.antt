@@ -18,8 +18,8 @@ use Rattle.xdg_reading.specs.Fits.{SaysEdge, Follows, NextEdge, SayEdges, EdgeOf
 use Rattle.xdg_reading.specs.Names.{dim_number, label_number}
 use Rattle.xdg_reading.proofs.Told.{position_of}
 use Rattle.xdg_reading.proofs.Turns.{precedes_is, precedes_from}
-use Rattle.xdg_listing.proofs.Options.{none_some}
-use Rattle.xdg_listing.proofs.Options.{some_same}
+use Rattle.xdg_facts.proofs.Options.{none_some}
+use Rattle.xdg_facts.proofs.Options.{some_same}
 
 record Known {X Y : Type 0} (o : Option X) (f : X → Option Y) (y : Y) : Type 0 where
   pub value : X

@@ -6,7 +6,7 @@ use Rattle.std.proofs.lemmas.Str.Pattern.{split_parts, strip_prefix_char, IsSpli
 use Rattle.std.specs.Str.Pattern.{FindsTextPrefix, FindsCharPrefix, StripsPrefix}
 use Rattle.xdg_reading.proofs.Steps.{pair, lead_found, cond_either}
 use Rattle.xdg_reading.specs.Pieces.{behind, until, lead, Skips, Takes}
-use Rattle.xdg_listing.proofs.Options.{some_same}
+use Rattle.xdg_facts.proofs.Options.{some_same}
 
 -- a test on two equal numbers
 pub same_byte : {X : Type 0} (c : ℕ) (x y : X) → cond (c == c) x y ≡ x

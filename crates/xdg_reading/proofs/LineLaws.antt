@@ -20,7 +20,7 @@ use Rattle.xdg_reading.proofs.Fronts.{it_stands}
 use Rattle.xdg_reading.proofs.Numbers.{number_read, number_spelled, ordinal_read, ordinal_spelled}
 use Rattle.xdg_reading.proofs.Steps.{pair, after_found, past_or_found, Passed}
 use Rattle.xdg_reading.proofs.Values.{value_read, value_spelled}
-use Rattle.xdg_listing.proofs.Options.{none_some, some_same}
+use Rattle.xdg_facts.proofs.Options.{none_some, some_same}
 
 -- words with a space before each, a line feed, and what stands behind
 abbrev pub tail_of : List (List ℕ) → List ℕ → List ℕ

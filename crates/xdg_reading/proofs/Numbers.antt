@@ -8,8 +8,8 @@ use Rattle.std.specs.Str.Parse.{AllDigits}
 use Rattle.xdg_reading.specs.Pieces.{after, and, until, value_from, value_of, number_of, number_at, ordinal_at}
 use Rattle.xdg_reading.proofs.Fronts.{until_it, until_stands}
 use Rattle.xdg_reading.proofs.Steps.{pair, after_found, and_found, cond_found}
-use Rattle.xdg_listing.proofs.Texts.{equal}
-use Rattle.xdg_listing.proofs.Options.{some_same}
+use Rattle.xdg_facts.proofs.Texts.{equal}
+use Rattle.xdg_facts.proofs.Options.{some_same}
 
 abbrev greatest : ℕ
 greatest = 18446744073709551615

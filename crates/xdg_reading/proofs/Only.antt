@@ -23,8 +23,8 @@ use Rattle.xdg_reading.specs.Texts.{word_lines, lines_of, lines2_of, Placed, Has
 use Rattle.xdg_reading.proofs.LineLaws.{line_read}
 use Rattle.xdg_reading.proofs.Shapes.{whole_text, words_in, entries_in, attrs_in, edges_in, edge_lines, attr_lines}
 use Rattle.xdg_reading.proofs.Steps.{pair}
-use Rattle.xdg_listing.proofs.Texts.{one_place}
-use Rattle.xdg_listing.proofs.Options.{none_some, some_same}
+use Rattle.xdg_facts.proofs.Texts.{one_place}
+use Rattle.xdg_facts.proofs.Options.{none_some, some_same}
 
 -- edges and the last line come one after the other
 edges_go : (at : ℕ) (s : Stage) (es : List EdgeLine) → ((e : EdgeLine) → next s (lines.Edge e) ≡ Some stages.Edges) → next s lines.End ≡ Some stages.Ended → Placed at (edge_lines es) → Goes at s (edge_lines es) stages.Ended

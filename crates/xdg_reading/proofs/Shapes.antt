@@ -17,7 +17,7 @@ use Rattle.xdg_reading.specs.Lines.{line_text, text_of, IsLine}
 use Rattle.xdg_reading.specs.Stages.{next, Goes}
 use Rattle.xdg_reading.specs.Texts.{word_lines, body, lines_of, lines2_of, Placed, HasLines, IsText}
 use Rattle.xdg_reading.proofs.Steps.{cond_found, cond_left}
-use Rattle.xdg_listing.proofs.Options.{none_some, some_same}
+use Rattle.xdg_facts.proofs.Options.{none_some, some_same}
 
 pub placed_of : (at : ℕ) (s : Stage) (ls : List Line) (t : Stage) → Goes at s ls t → Placed at ls
 placed_of at s [] t goes = tt

@@ -1,7 +1,7 @@
 -- What a step of reading tells of its parts.
 use Rattle.std.proofs.Common.{◌≡◌, ◌⊎◌, inl, inr, ℕ, List, ◌∷◌, refl, true, false, cond, Bool, Some, None, Option}
 use Rattle.xdg_reading.specs.Pieces.{after, past, past_or, or_else, and, lead}
-use Rattle.xdg_listing.proofs.Options.{some_same}
+use Rattle.xdg_facts.proofs.Options.{some_same}
 
 abbrev pub pair : {X Y : Type 0} → X → Y → X × Y
 pair x y = (x, y)

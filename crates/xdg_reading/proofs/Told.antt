@@ -17,7 +17,7 @@ use Rattle.xdg_reading.specs.Fitted.{has_entry, words_fault, lead, or_at, said_v
 use Rattle.xdg_reading.specs.Fits.{SaysValue, SayValues, WordOffends, this_word, later_word, AttrOffends, one_more, missing, this_attr, later_attr}
 use Rattle.xdg_reading.specs.Names.{same_texts, same_shown, value_number}
 use Rattle.xdg_reading.specs.Slots.{Asked}
-use Rattle.xdg_listing.proofs.Options.{some_same}
+use Rattle.xdg_facts.proofs.Options.{some_same}
 
 -- entries
 contains_more : (c : EntryNo) (cs : List EntryNo) (e : EntryNo) → Contains cs e → Contains (c ∷ cs) e

@@ -17,7 +17,7 @@ use Rattle.std.proofs.lemmas.List.Quantifiers.{position-Some}
 use Rattle.xdg_problem.specs.declared.parts.Shown.TheVariants as shown
 use Rattle.xdg_reading.specs.Names.{same_texts, same_shown, value_number}
 use Rattle.xdg_reading.specs.Slots.{Asked}
-use Rattle.xdg_listing.proofs.Lists.{from_place}
+use Rattle.xdg_facts.proofs.Lists.{from_place}
 
 -- texts of different numbers differ
 long_texts : (xs ys : List (List ℕ)) → same_texts xs ys ≡ true → length xs ≡ length ys

@@ -11,7 +11,7 @@ use Rattle.xdg_reading.specs.Pieces.{after, past, past_or, or_else, lead, behind
 use Rattle.xdg_reading.proofs.Constants.{space, bracket, line_feed, constant_read, constant_other, constant_spelled, quoted_parts}
 use Rattle.xdg_reading.proofs.Fronts.{it_stands, other_byte}
 use Rattle.xdg_reading.proofs.Steps.{pair, after_found, past_found, past_or_found, lead_found, cond_either, or_else_found, Passed}
-use Rattle.xdg_listing.proofs.Options.{none_some, some_same}
+use Rattle.xdg_facts.proofs.Options.{none_some, some_same}
 
 -- a constant with another behind it
 pub element_goes : (text rest : List ℕ) → element_at (constant text ++ 32 ∷ rest) ≡ Some ((text, true), rest)

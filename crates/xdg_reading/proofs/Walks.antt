@@ -13,8 +13,8 @@ use Rattle.xdg_reading.specs.Lines.{line_text, text_of, IsLine, line_at}
 use Rattle.xdg_reading.specs.Stages.{next, has_ended, Goes, OffendsAt}
 use Rattle.xdg_reading.proofs.LineLaws.{line_read, line_spelled}
 use Rattle.xdg_reading.proofs.Steps.{pair, cond_found, cond_left}
-use Rattle.xdg_listing.proofs.Lists.{empty_list}
-use Rattle.xdg_listing.proofs.Options.{none_some, some_same}
+use Rattle.xdg_facts.proofs.Lists.{empty_list}
+use Rattle.xdg_facts.proofs.Options.{none_some, some_same}
 
 pub text_snoc : (ls : List Line) (l : Line) → text_of (ls ++ l ∷ []) ≡ text_of ls ++ line_text l
 text_snoc ls l = flat_map-append line_text ls (l ∷ []) ∙ ap (λ z. text_of ls ++ z) (append-nil (line_text l))

@@ -4,7 +4,7 @@ use Rattle.std.specs.Prelude.{filter, Contains, All, slice_index, slice_index_or
 use Rattle.std.proofs.lemmas.Bool.{cases_lt, eq-eqb, eqb-true, false≢true}
 use Rattle.std.proofs.lemmas.List.{get_or_default, get_or-drop}
 use Rattle.std.proofs.lemmas.List.Elements.{All-head, All-tail, All-weaker, All-contains, All-contains_itself, All-from_recursion}
-use Rattle.xdg_listing.specs.Fits.{Fits}
+use Rattle.xdg_facts.specs.Fits.{Fits}
 use Rattle.xdg_problem.specs.declared.analysis.Edge.{Edge}
 use Rattle.xdg_problem.specs.declared.parts.Group.{Group}
 use Rattle.xdg_problem.specs.declared.parts.Parts.{Parts}
@@ -22,7 +22,7 @@ use Rattle.xdg_problem.specs.Boxes.{Has, Agrees, place_in, edge_decision, entry_
 use Rattle.xdg_rules.specs.Rules.{has, IsDecided, value_in, EntryDecided, entry_value, TestDecided, TestPasses}
 use Rattle.xdg_rules.proofs.Sizes.{row_within}
 use Rattle.xdg_rules.proofs.Failing.{value_is}
-use Rattle.xdg_listing.proofs.Truths.{same_flag}
+use Rattle.xdg_facts.proofs.Truths.{same_flag}
 
 -- what remains of a decision of the prefix is its number
 pub agrees_at : (box : List (List Bool)) (p : List ℕ) → Agrees box p → (d : ℕ) → d < length p → (v : ℕ) → Has box d v ↔ (v ≡ slice_index p d)

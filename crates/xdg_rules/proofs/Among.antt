@@ -14,8 +14,8 @@ use Rattle.xdg_problem.proofs.Looking.{any_of, any_weaker}
 use Rattle.xdg_problem.proofs.FilterFacts.{filter_contained}
 use Rattle.xdg_problem.proofs.Ordered.{contains_head, contains_cases, contains_none, contains_filter}
 use Rattle.xdg_rules.proofs.Keeping.{Less, less_length}
-use Rattle.xdg_listing.proofs.Truths.{or_here, either_true}
-use Rattle.xdg_listing.proofs.Lists.{contains_more}
+use Rattle.xdg_facts.proofs.Truths.{or_here, either_true}
+use Rattle.xdg_facts.proofs.Lists.{contains_more}
 
 pub list_any_of : {X : Type 0} (test : X → Bool) (xs : List X) (x : X) → Contains xs x → test x ≡ true → list_any test xs ≡ true
 list_any_of test [] x c passes = absurd (contains_none x c)

@@ -2,7 +2,7 @@
 use Rattle.std.proofs.Common.{◌≡◌, ℕ, inl, inr, Bool, List, length, map, sym, ap, ◌∙◌, arith}
 use Rattle.std.specs.Prelude.{filter}
 use Rattle.std.proofs.lemmas.List.{length-map}
-use Rattle.xdg_listing.specs.Closed.{Closed}
+use Rattle.xdg_facts.specs.Closed.{Closed}
 use Rattle.xdg_problem.specs.declared.parts.Group.{Group}
 use Rattle.xdg_problem.specs.declared.parts.Parts.{Parts}
 use Rattle.xdg_problem.specs.Live.{entry_in, attr_in, Stands, Holds, IsLiveFor, Live}

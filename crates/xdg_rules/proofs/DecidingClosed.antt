@@ -3,9 +3,9 @@ use Rattle.std.proofs.Common.{◌≡◌, ℕ, ◌+◌, ◌<◌, ◌↔◌, inl, 
 use Rattle.std.specs.Prelude.{filter, All, Contains, slice_index_or, ◌&&◌}
 use Rattle.std.specs.List.{Any, flat_map}
 use Rattle.std.proofs.lemmas.Bool.{false≢true}
-use Rattle.xdg_listing.specs.Listing.{HasOneListing}
-use Rattle.xdg_listing.proofs.Exists.{decided_listing}
-use Rattle.xdg_listing.proofs.Unique.{listing_unique}
+use Rattle.xdg_facts.specs.Listing.{HasOneListing}
+use Rattle.xdg_facts.proofs.Exists.{decided_listing}
+use Rattle.xdg_facts.proofs.Unique.{listing_unique}
 use Rattle.xdg_problem.specs.declared.parts.Group.{Group}
 use Rattle.xdg_problem.specs.declared.parts.Parts.{Parts}
 use Rattle.xdg_problem.specs.Arguments.{first_dim, label_count}

@@ -19,7 +19,7 @@ use Rattle.xdg_problem.proofs.WholeTests.{IsNode, each_node}
 use Rattle.xdg_problem.specs.Boxes.{Has, IsBox, LiesIn, edge_decision, entry_decision}
 use Rattle.xdg_rules.specs.Rules.{has, IsDecided, first_true, value_in, EntryDecided, entry_value, FailsTest}
 use Rattle.xdg_rules.proofs.Sizes.{edge_within, node_within, attr_place_within}
-use Rattle.xdg_listing.proofs.Truths.{same_flag, same_and}
+use Rattle.xdg_facts.proofs.Truths.{same_flag, same_and}
 
 -- the first value that remains is the only one
 pub first_only : (row : List Bool) (v : ℕ) → slice_index_or row v false ≡ true → ((x : ℕ) → slice_index_or row x false ≡ true → x ≡ v) → first_true row ≡ v

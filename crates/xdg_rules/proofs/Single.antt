@@ -3,7 +3,7 @@ use Rattle.std.proofs.Common.{◌≡◌, ℕ, ◌+◌, ◌<◌, ◌↔◌, zero,
 use Rattle.std.specs.Prelude.{slice_index, slice_index_or, ◌==◌}
 use Rattle.std.proofs.lemmas.Bool.{eq-eqb, eqb-true, false≢true}
 use Rattle.std.proofs.lemmas.List.{length-map, get_or-replicate}
-use Rattle.xdg_listing.specs.Fits.{Fits}
+use Rattle.xdg_facts.specs.Fits.{Fits}
 use Rattle.xdg_problem.specs.Places.{numbers_from, below}
 use Rattle.xdg_problem.proofs.Ordered.{numbers_length}
 use Rattle.xdg_problem.specs.Boxes.{full, Has, IsBox, IsSingle, LiesIn, IsIn, Agrees}

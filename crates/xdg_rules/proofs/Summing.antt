@@ -7,7 +7,7 @@ use Rattle.std.proofs.lemmas.List.Sums.{sum_by-cons}
 use Rattle.xdg_problem.proofs.Ordered.{contains_head, contains_cases, contains_none}
 use Rattle.xdg_rules.specs.Bounds.{sum_below}
 use Rattle.xdg_rules.proofs.Keeping.{Less}
-use Rattle.xdg_listing.proofs.Lists.{contains_more}
+use Rattle.xdg_facts.proofs.Lists.{contains_more}
 
 module _ {X : Type 0} (f : X → ℕ) where
   sum_put : (b c : Bool) (x : X) (ys zs : List X) → (b ≡ true → c ≡ true) → sum_by f ys ≤ sum_by f zs → sum_by f (cond b (x ∷ ys) ys) ≤ sum_by f (cond c (x ∷ zs) zs)

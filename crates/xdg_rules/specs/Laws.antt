@@ -1,8 +1,8 @@
 -- What the rules of all principles keep.
 use Rattle.std.specs.Prelude.{◌≡◌, ◌⊎◌, ◌↔◌, ℕ, Bool, List, length, All}
-use Rattle.xdg_listing.specs.Closed.{Closed}
-use Rattle.xdg_listing.specs.Fits.{Fits}
-use Rattle.xdg_listing.specs.Listing.{HasOneListing}
+use Rattle.xdg_facts.specs.Closed.{Closed}
+use Rattle.xdg_facts.specs.Fits.{Fits}
+use Rattle.xdg_facts.specs.Listing.{HasOneListing}
 use Rattle.xdg_problem.specs.declared.analysis.Analysis.{Analysis}
 use Rattle.xdg_problem.specs.declared.parts.Group.{Group}
 use Rattle.xdg_problem.specs.declared.parts.Parts.{Parts}

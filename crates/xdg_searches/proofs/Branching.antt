@@ -11,8 +11,8 @@ use Rattle.xdg_searches.specs.Written.{WritesAll}
 use Rattle.xdg_io.specs.Held.{Appends, AppendsFront}
 use Rattle.xdg_propcore.specs.Uses.{AllStandIn}
 use Rattle.xdg_searches.specs.Laws.{BranchedLaws, IsFrontOf, IsOneBranched}
-use Rattle.xdg_listing.specs.declared.Ending.{Ending}
-use Rattle.xdg_listing.specs.declared.Ending.TheVariants as endings
+use Rattle.xdg_facts.specs.declared.Ending.{Ending}
+use Rattle.xdg_facts.specs.declared.Ending.TheVariants as endings
 use Rattle.xdg_problem.specs.declared.analysis.Analysis.{Analysis}
 use Rattle.xdg_problem.specs.declared.parts.Parts.{Parts}
 use Rattle.xdg_problem.specs.Analyses.{IsAnalysis}

@@ -13,7 +13,7 @@ use Rattle.xdg_inputs.specs.Meanings.{Meaning}
 use Rattle.xdg_inputs.specs.GrammarTexts.{TellsTree}
 use Rattle.xdg_io.specs.Held.{Appends, AppendsFront}
 use Rattle.xdg_io.specs.Rose.{Rose}
-use Rattle.xdg_listing.specs.declared.Ending.{Ending}
+use Rattle.xdg_facts.specs.declared.Ending.{Ending}
 use Rattle.xdg_problem.specs.declared.parts.Parts.{Parts}
 use Rattle.xdg_inputs.specs.Outcomes.{MeaningThen}
 use Rattle.xdg_searches.specs.Outcomes.{DrillOf, DrillSentence, Drilled, drill_line, generated, status_of}

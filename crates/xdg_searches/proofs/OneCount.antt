@@ -4,10 +4,10 @@ use Rattle.xdg_split.proofs.Boxing.{boxed_listing}
 use Rattle.xdg_searches.specs.Counted.{AreJudged, IsOneCount}
 use Rattle.xdg_searches.specs.declared.counting.Counts.{Counts}
 use Rattle.xdg_searches.proofs.Tallies.{same_count}
-use Rattle.xdg_listing.specs.Endings.{IsEnding}
-use Rattle.xdg_listing.proofs.Unique.{listing_unique}
-use Rattle.xdg_listing.proofs.Wholes.{whole_unique}
-use Rattle.xdg_listing.proofs.OneEnding.{ending_unique}
+use Rattle.xdg_facts.specs.Endings.{IsEnding}
+use Rattle.xdg_facts.proofs.Unique.{listing_unique}
+use Rattle.xdg_facts.proofs.Wholes.{whole_unique}
+use Rattle.xdg_facts.proofs.OneEnding.{ending_unique}
 use Rattle.xdg_problem.specs.declared.parts.Parts.{Parts}
 use Rattle.xdg_problem.specs.Problems.{IsProblem}
 use Rattle.xdg_problem.specs.Vectors.{shape, vector}

@@ -5,7 +5,7 @@ use Rattle.xdg_split.specs.Printed.{Prints, IsOnePrint}
 use Rattle.xdg_split.specs.Written.{WritesWhole}
 use Rattle.xdg_split.specs.declared.forms.Form.{Form}
 use Rattle.xdg_io.specs.Held.{AppendsFront}
-use Rattle.xdg_listing.specs.declared.Ending.{Ending}
+use Rattle.xdg_facts.specs.declared.Ending.{Ending}
 use Rattle.xdg_problem.specs.declared.parts.Parts.{Parts}
 use Rattle.xdg_searches.specs.Branched.{PrintsBranches}
 use Rattle.xdg_searches.specs.Laws.{IsOneBranched}

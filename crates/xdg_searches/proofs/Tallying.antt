@@ -8,10 +8,10 @@ use Rattle.xdg_searches.specs.Broken.{IsJudged, count_broken, has_broken}
 use Rattle.xdg_searches.specs.Counted.{AreCounts, AreJudged}
 use Rattle.xdg_searches.proofs.Tallies.{count_more, judged_more}
 use Rattle.xdg_judge.specs.declared.verdict.Verdict.{Verdict}
-use Rattle.xdg_listing.specs.Answered.{Answered}
-use Rattle.xdg_listing.specs.declared.Ending.{Ending}
-use Rattle.xdg_listing.specs.declared.Ending.TheVariants as endings
-use Rattle.xdg_listing.proofs.Drawing.{ending_of}
+use Rattle.xdg_facts.specs.Answered.{Answered}
+use Rattle.xdg_facts.specs.declared.Ending.{Ending}
+use Rattle.xdg_facts.specs.declared.Ending.TheVariants as endings
+use Rattle.xdg_facts.proofs.Drawing.{ending_of}
 use Rattle.xdg_problem.specs.declared.parts.Parts.{Parts}
 use Rattle.xdg_problem.specs.Analyses.{IsAnalysis}
 use Rattle.xdg_problem.specs.Problems.{IsProblem}

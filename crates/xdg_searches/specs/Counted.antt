@@ -5,8 +5,8 @@ use Rattle.xdg_searches.specs.Broken.{count_broken}
 use Rattle.xdg_searches.specs.declared.counting.Counts.{Counts}
 use Rattle.xdg_judge.specs.declared.verdict.Verdict.{Verdict}
 use Rattle.xdg_judge.specs.Verdicts.{AreVerdicts}
-use Rattle.xdg_listing.specs.Endings.{IsEnding}
-use Rattle.xdg_listing.specs.Listing.{IsListing}
+use Rattle.xdg_facts.specs.Endings.{IsEnding}
+use Rattle.xdg_facts.specs.Listing.{IsListing}
 use Rattle.xdg_problem.specs.declared.analysis.Analysis.{Analysis}
 use Rattle.xdg_problem.specs.declared.parts.Parts.{Parts}
 use Rattle.xdg_problem.specs.Solutions.{IsSolutionList}

@@ -2,8 +2,8 @@
 use Rattle.std.specs.Prelude.{◌≡◌, ◌≢◌, ℕ, List, [], length, take, All, Option}
 use Rattle.xdg_split.specs.declared.forms.Form.{Form}
 use Rattle.xdg_searches.specs.Branched.{IsBranched, PrintsBranches, branch_jobs}
-use Rattle.xdg_listing.specs.declared.Ending.{Ending}
-use Rattle.xdg_listing.specs.declared.Ending.TheVariants as endings
+use Rattle.xdg_facts.specs.declared.Ending.{Ending}
+use Rattle.xdg_facts.specs.declared.Ending.TheVariants as endings
 use Rattle.xdg_problem.specs.declared.analysis.Analysis.{Analysis}
 use Rattle.xdg_problem.specs.declared.parts.Parts.{Parts}
 use Rattle.xdg_problem.specs.Solutions.{IsSolutionList}

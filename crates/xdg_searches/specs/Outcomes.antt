@@ -13,8 +13,8 @@ use Rattle.xdg_searches.specs.declared.counting.Counts.{Counts}
 use Rattle.xdg_formula.specs.declared.tree.Rules.{Rules}
 use Rattle.xdg_searches.specs.Generated.{grammar_text, sentence_text}
 use Rattle.xdg_inputs.specs.Meanings.{Meaning}
-use Rattle.xdg_listing.specs.declared.Ending.{Ending}
-use Rattle.xdg_listing.specs.declared.Ending.TheVariants as endings
+use Rattle.xdg_facts.specs.declared.Ending.{Ending}
+use Rattle.xdg_facts.specs.declared.Ending.TheVariants as endings
 use Rattle.xdg_problem.specs.declared.analysis.Analysis.{Analysis}
 use Rattle.xdg_problem.specs.declared.parts.Parts.{Parts}
 use Rattle.xdg_inputs.specs.RuledSteps.{RulesThen, WithRules}

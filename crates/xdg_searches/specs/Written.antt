@@ -5,7 +5,7 @@ use Rattle.xdg_split.specs.declared.printing.Printed.{Printed}
 use Rattle.xdg_split.specs.declared.printing.Printed.TheVariants as printed
 use Rattle.xdg_searches.specs.Branched.{PrintsBranches}
 use Rattle.xdg_io.specs.Held.{Appends, AppendsFront}
-use Rattle.xdg_listing.specs.declared.Ending.{Ending}
+use Rattle.xdg_facts.specs.declared.Ending.{Ending}
 use Rattle.xdg_problem.specs.declared.parts.Parts.{Parts}
 
 -- the text of a search that ended so was added

@@ -11,9 +11,9 @@ use crate::printing::form_of;
 use std::alloc::Global;
 use std::thread::Threads;
 use xdg_command::TextForm;
+use xdg_facts::Ending;
 use xdg_inputs::Status;
 use xdg_io::Sink;
-use xdg_listing::Ending;
 use xdg_problem::Problem;
 use xdg_split::Printed;
 

@@ -9,7 +9,7 @@ ghost use Rattle.xdg_stream.specs.Streamed.{IsCharged};
 use crate::judging::is_last_broken;
 use std::alloc::Global;
 use xdg_base::OutOfMemory;
-use xdg_listing::Ending;
+use xdg_facts::Ending;
 use xdg_problem::Problem;
 use xdg_propcore::Propagator;
 use xdg_stream::{Step, Stream};

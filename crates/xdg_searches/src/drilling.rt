@@ -16,11 +16,11 @@ use std::alloc::Global;
 use xdg_ast::Grammar;
 use xdg_base::OutOfMemory;
 use xdg_engine::props;
+use xdg_facts::Ending;
 use xdg_inputs::{
     Expanded, Status, expand_tree, pack_entries, problem_in, read_tree, refuse, stopped_in,
 };
 use xdg_io::{Failed, Sink};
-use xdg_listing::Ending;
 use xdg_problem::Problem;
 use xdg_text::{Word, write_line};
 

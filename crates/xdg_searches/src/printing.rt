@@ -14,9 +14,9 @@ use std::alloc::Global;
 use std::thread::Threads;
 use xdg_command::{ParseOptions, TextForm};
 use xdg_engine::props;
+use xdg_facts::Ending;
 use xdg_inputs::Status;
 use xdg_io::Sink;
-use xdg_listing::Ending;
 use xdg_problem::{Analysis, Problem};
 use xdg_split::{Form, Printed, print_analyses};
 

@@ -1,9 +1,9 @@
 -- The solutions in order are the analyses of the whole boxed vectors in order.
 use Rattle.std.proofs.Common.{ℕ, List, map}
-use Rattle.xdg_listing.specs.Fits.{Fits}
-use Rattle.xdg_listing.specs.Listing.{IsListing}
-use Rattle.xdg_listing.specs.Whole.{Whole}
-use Rattle.xdg_listing.proofs.Exists.{each_weaker}
+use Rattle.xdg_facts.specs.Fits.{Fits}
+use Rattle.xdg_facts.specs.Listing.{IsListing}
+use Rattle.xdg_facts.specs.Whole.{Whole}
+use Rattle.xdg_facts.proofs.Exists.{each_weaker}
 use Rattle.xdg_problem.specs.declared.analysis.Analysis.{Analysis}
 use Rattle.xdg_problem.specs.declared.parts.Parts.{Parts}
 use Rattle.xdg_problem.specs.Live.{Live}

@@ -4,10 +4,10 @@ use Rattle.std.specs.Prelude.{Option}
 use Rattle.std.proofs.lemmas.List.{length-map}
 use Rattle.xdg_split.specs.Written.{IsSome}
 use Rattle.xdg_split.proofs.FoundSoFar.{all_answers, first_answers, map_more, spent_answers}
-use Rattle.xdg_listing.specs.Endings.{IsAt, IsBelow}
-use Rattle.xdg_listing.proofs.Ordered.{three_cases}
-use Rattle.xdg_listing.specs.declared.Ending.{Ending}
-use Rattle.xdg_listing.specs.declared.Ending.TheVariants as endings
+use Rattle.xdg_facts.specs.Endings.{IsAt, IsBelow}
+use Rattle.xdg_facts.proofs.Ordered.{three_cases}
+use Rattle.xdg_facts.specs.declared.Ending.{Ending}
+use Rattle.xdg_facts.specs.declared.Ending.TheVariants as endings
 use Rattle.xdg_problem.specs.declared.analysis.Analysis.{Analysis}
 use Rattle.xdg_problem.specs.declared.parts.Parts.{Parts}
 use Rattle.xdg_problem.specs.Problems.{IsProblem}

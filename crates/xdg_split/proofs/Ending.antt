@@ -5,11 +5,11 @@ use Rattle.std.specs.Result.{is_err}
 use Rattle.std.proofs.lemmas.List.{take-map, take-take, take-append-drop, length-take}
 use Rattle.xdg_io.specs.Held.{Appends, AppendsFront}
 use Rattle.xdg_io.proofs.Written.{appends_both, front_in_first, front_in_second}
-use Rattle.xdg_listing.specs.Whole.{reach}
-use Rattle.xdg_listing.specs.Answered.{Answered}
-use Rattle.xdg_listing.specs.declared.Ending.{Ending}
-use Rattle.xdg_listing.specs.declared.Ending.TheVariants as endings
-use Rattle.xdg_listing.proofs.Drawing.{ending_of}
+use Rattle.xdg_facts.specs.Whole.{reach}
+use Rattle.xdg_facts.specs.Answered.{Answered}
+use Rattle.xdg_facts.specs.declared.Ending.{Ending}
+use Rattle.xdg_facts.specs.declared.Ending.TheVariants as endings
+use Rattle.xdg_facts.proofs.Drawing.{ending_of}
 use Rattle.xdg_problem.specs.declared.analysis.Analysis.{Analysis}
 use Rattle.xdg_problem.specs.declared.parts.Parts.{Parts}
 use Rattle.xdg_problem.specs.Vectors.{shape, vector, analysis_of}
@@ -17,7 +17,7 @@ use Rattle.xdg_problem.specs.Problems.{IsProblem}
 use Rattle.xdg_problem.proofs.SolutionLists.{analyses_back}
 use Rattle.xdg_rules.specs.Boxed.{Boxed}
 use Rattle.xdg_split.specs.declared.forms.Form.{Form}
-use Rattle.xdg_listing.specs.Endings.{IsUpTo, IsAt, IsEnding}
+use Rattle.xdg_facts.specs.Endings.{IsUpTo, IsAt, IsEnding}
 use Rattle.xdg_split.specs.Printed.{shown, blocks, last_line, Prints}
 use Rattle.xdg_split.specs.Written.{WritesWhole}
 use Rattle.xdg_split.proofs.Boxing.{boxed_listing}

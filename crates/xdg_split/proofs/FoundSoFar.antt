@@ -7,11 +7,11 @@ use Rattle.std.proofs.lemmas.List.{length-map}
 use Rattle.xdg_base.specs.declared.ids.EntryNo.{EntryNo}
 use Rattle.xdg_io.specs.Held.{Appends}
 use Rattle.xdg_io.proofs.Written.{appends_both}
-use Rattle.xdg_listing.specs.Answered.{Answered, Drawn}
-use Rattle.xdg_listing.specs.Endings.{IsBelow, IsUpTo, IsAt}
-use Rattle.xdg_listing.specs.declared.Ending.{Ending}
-use Rattle.xdg_listing.specs.declared.Ending.TheVariants as endings
-use Rattle.xdg_listing.proofs.Ordered.{three_cases}
+use Rattle.xdg_facts.specs.Answered.{Answered, Drawn}
+use Rattle.xdg_facts.specs.Endings.{IsBelow, IsUpTo, IsAt}
+use Rattle.xdg_facts.specs.declared.Ending.{Ending}
+use Rattle.xdg_facts.specs.declared.Ending.TheVariants as endings
+use Rattle.xdg_facts.proofs.Ordered.{three_cases}
 use Rattle.xdg_problem.specs.declared.analysis.Analysis.{Analysis}
 use Rattle.xdg_problem.specs.declared.analysis.Edge.{Edge}
 use Rattle.xdg_problem.specs.declared.parts.Parts.{Parts}

@@ -1,10 +1,10 @@
 -- A search prints one text.
 use Rattle.std.proofs.Common.{◌≡◌, ℕ, List, ◌++◌, map, take, ap, sym, ◌∙◌, subst}
 use Rattle.std.specs.Prelude.{Option}
-use Rattle.xdg_listing.specs.Endings.{IsEnding}
-use Rattle.xdg_listing.proofs.Unique.{listing_unique}
-use Rattle.xdg_listing.proofs.Wholes.{whole_unique}
-use Rattle.xdg_listing.proofs.OneEnding.{ending_unique}
+use Rattle.xdg_facts.specs.Endings.{IsEnding}
+use Rattle.xdg_facts.proofs.Unique.{listing_unique}
+use Rattle.xdg_facts.proofs.Wholes.{whole_unique}
+use Rattle.xdg_facts.proofs.OneEnding.{ending_unique}
 use Rattle.xdg_problem.specs.declared.parts.Parts.{Parts}
 use Rattle.xdg_problem.specs.Vectors.{shape, vector}
 use Rattle.xdg_problem.specs.Problems.{IsProblem}

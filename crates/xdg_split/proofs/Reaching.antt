@@ -1,9 +1,9 @@
 -- What jobs reach, one list of them behind the other.
 use Rattle.std.proofs.Common.{◌≡◌, ℕ, inl, inr, Bool, true, false, List, [], ◌∷◌, ◌++◌, length, take, refl, ap, sym, ◌∙◌, subst, arith, append_assoc}
 use Rattle.std.proofs.lemmas.List.Elements.{All-head, All-tail}
-use Rattle.xdg_listing.specs.Whole.{reach}
-use Rattle.xdg_listing.proofs.Ordered.{three_cases}
-use Rattle.xdg_listing.proofs.Unique.{listing_unique}
+use Rattle.xdg_facts.specs.Whole.{reach}
+use Rattle.xdg_facts.proofs.Ordered.{three_cases}
+use Rattle.xdg_facts.proofs.Unique.{listing_unique}
 use Rattle.xdg_problem.specs.declared.analysis.Analysis.{Analysis}
 use Rattle.xdg_problem.specs.Problems.{IsProblem}
 use Rattle.xdg_problem.specs.Vectors.{shape}

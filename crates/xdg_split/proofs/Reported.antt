@@ -2,9 +2,9 @@
 use Rattle.std.proofs.Common.{◌≡◌, ℕ, List, ◌++◌, length, map, take, ap, sym, ◌∙◌}
 use Rattle.std.specs.Prelude.{Option}
 use Rattle.std.proofs.lemmas.List.{take-map}
-use Rattle.xdg_listing.specs.Answered.{Answered}
-use Rattle.xdg_listing.specs.declared.Ending.{Ending}
-use Rattle.xdg_listing.proofs.Drawing.{ending_of}
+use Rattle.xdg_facts.specs.Answered.{Answered}
+use Rattle.xdg_facts.specs.declared.Ending.{Ending}
+use Rattle.xdg_facts.proofs.Drawing.{ending_of}
 use Rattle.xdg_problem.specs.declared.parts.Parts.{Parts}
 use Rattle.xdg_problem.specs.Vectors.{shape, vector, analysis_of}
 use Rattle.xdg_problem.specs.Problems.{IsProblem}

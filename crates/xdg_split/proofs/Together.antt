@@ -4,12 +4,12 @@ use Rattle.std.specs.Prelude.{Option}
 use Rattle.std.proofs.Math.Seq.{take-length}
 use Rattle.std.proofs.lemmas.List.{length-map, length-take-le, take-map, take-take}
 use Rattle.xdg_split.proofs.Boxing.{boxed_listing}
-use Rattle.xdg_listing.specs.Endings.{IsAt, IsBelow, IsEnding}
-use Rattle.xdg_listing.specs.Whole.{reach}
-use Rattle.xdg_listing.specs.declared.Ending.{Ending}
-use Rattle.xdg_listing.specs.declared.Ending.TheVariants as endings
-use Rattle.xdg_listing.proofs.Drawing.{ending_of}
-use Rattle.xdg_listing.proofs.Ordered.{three_cases}
+use Rattle.xdg_facts.specs.Endings.{IsAt, IsBelow, IsEnding}
+use Rattle.xdg_facts.specs.Whole.{reach}
+use Rattle.xdg_facts.specs.declared.Ending.{Ending}
+use Rattle.xdg_facts.specs.declared.Ending.TheVariants as endings
+use Rattle.xdg_facts.proofs.Drawing.{ending_of}
+use Rattle.xdg_facts.proofs.Ordered.{three_cases}
 use Rattle.xdg_problem.specs.declared.analysis.Analysis.{Analysis}
 use Rattle.xdg_problem.specs.Problems.{IsProblem}
 use Rattle.xdg_problem.specs.Vectors.{analysis_of, shape, vector}

@@ -1,9 +1,9 @@
 -- What a single search finds, and what is cut off.
 use Rattle.std.specs.Prelude.{◌≡◌, ℕ, ◌≤◌, List, [], ◌++◌, length, map, take, Option, Some}
-use Rattle.xdg_listing.specs.Answered.{Answered}
-use Rattle.xdg_listing.specs.Endings.{IsBelow}
-use Rattle.xdg_listing.specs.declared.Ending.{Ending}
-use Rattle.xdg_listing.specs.declared.Ending.TheVariants as endings
+use Rattle.xdg_facts.specs.Answered.{Answered}
+use Rattle.xdg_facts.specs.Endings.{IsBelow}
+use Rattle.xdg_facts.specs.declared.Ending.{Ending}
+use Rattle.xdg_facts.specs.declared.Ending.TheVariants as endings
 use Rattle.xdg_problem.specs.declared.analysis.Analysis.{Analysis}
 use Rattle.xdg_problem.specs.declared.parts.Parts.{Parts}
 use Rattle.xdg_problem.specs.Vectors.{analysis_of, shape}

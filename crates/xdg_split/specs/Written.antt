@@ -1,7 +1,7 @@
 -- What a search leaves in the sink.
 use Rattle.std.specs.Prelude.{◌≡◌, ℕ, ◌≤◌, List, Option, None, Some}
 use Rattle.xdg_io.specs.Held.{Appends, AppendsFront}
-use Rattle.xdg_listing.specs.declared.Ending.{Ending}
+use Rattle.xdg_facts.specs.declared.Ending.{Ending}
 use Rattle.xdg_problem.specs.declared.parts.Parts.{Parts}
 use Rattle.xdg_split.specs.Printed.{Prints}
 use Rattle.xdg_split.specs.declared.forms.Form.{Form}

@@ -1,7 +1,7 @@
 //! What a job gives.
 
 use xdg_base::Bytes;
-use xdg_listing::Ending;
+use xdg_facts::Ending;
 
 /// What the search of a job printed, in text 1 and with its last line, and how it ended.
 #[derive(Debug, Drop)]

@@ -9,7 +9,7 @@ ghost use Rattle.xdg_stream.specs.Streamed.{IsCharged};
 use crate::found::Found;
 use std::alloc::{AllocError, Global};
 use xdg_base::{List, OutOfMemory};
-use xdg_listing::Ending;
+use xdg_facts::Ending;
 use xdg_problem::Analysis;
 use xdg_propcore::Propagator;
 use xdg_stream::{Step, Stream};

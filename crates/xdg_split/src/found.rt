@@ -4,7 +4,7 @@ ghost use Rattle.std.specs.Prelude.{◌≡◌, ◌≢◌, ◌++◌, [], IfOk, Is
 ghost use Rattle.xdg_split.specs.Finds.{IsCut, Joins};
 
 use std::alloc::{AllocError, Global};
-use xdg_listing::Ending;
+use xdg_facts::Ending;
 use xdg_problem::Analysis;
 
 /// The solutions that the searches of jobs have found so far, one job behind the other, and how that ends.

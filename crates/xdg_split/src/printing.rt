@@ -11,8 +11,8 @@ ghost use Rattle.xdg_stream.specs.Streamed.{IsCharged, IsStart, start_vector};
 
 use crate::forms::{Form, write_shown};
 use std::alloc::Global;
+use xdg_facts::Ending;
 use xdg_io::Sink;
-use xdg_listing::Ending;
 use xdg_problem::{Analysis, Problem};
 use xdg_propcore::Propagator;
 use xdg_stream::{Step, Stream};

@@ -12,7 +12,7 @@ use std::alloc::Global;
 use std::cmp::min;
 use std::thread::{Threads, join};
 use xdg_base::{List, OutOfMemory};
-use xdg_listing::Ending;
+use xdg_facts::Ending;
 use xdg_problem::Analysis;
 use xdg_propcore::Propagator;
 

@@ -11,7 +11,7 @@ use Rattle.xdg_problem.specs.Places.{edge}
 use Rattle.xdg_problem.specs.Problems.{IsProblem, IsDim, IsAttr, IsGroup, AreCandidates, HasConstant}
 use Rattle.xdg_store.specs.Example.{colour, plan, small}
 use Rattle.xdg_store.specs.InRange.{HasCandidate, HasEdges, HasValue}
-use Rattle.xdg_listing.proofs.Lists.{all_one, all_two, all_none, pairs_one, pairs_two}
+use Rattle.xdg_facts.proofs.Lists.{all_one, all_two, all_none, pairs_one, pairs_two}
 
 two_candidates : AreCandidates (record { 0 = 3 } ∷ record { 0 = 5 } ∷ [])
 two_candidates = record { some = lit< tt; most = lit≤ tt; rising = pairs_two (λ (a b : EntryNo). a.0 < b.0) (record { 0 = 3 }) (record { 0 = 5 }) (lit< tt); small = all_two (λ (e : EntryNo). e.0 < 4294967295) (record { 0 = 3 }) (record { 0 = 5 }) (lit< tt) (lit< tt) }

@@ -1,16 +1,16 @@
 -- What a search leaves behind where it goes back.
 use Rattle.std.proofs.Common.{◌≡◌, ℕ, ◌<◌, ◌≤◌, ◌+◌, inl, inr, List, [], ◌∷◌, ◌++◌, length, get_or, refl, sym, arith, subst}
 use Rattle.std.proofs.lemmas.List.{append_assoc, append-nil}
-use Rattle.xdg_listing.specs.Order.{AtMost, Less, Past}
-use Rattle.xdg_listing.specs.Fits.{Fits}
-use Rattle.xdg_listing.specs.Closed.{Closed}
-use Rattle.xdg_listing.proofs.Fitting.{fits_front, past_range}
-use Rattle.xdg_listing.proofs.Ordered.{past_step}
+use Rattle.xdg_facts.specs.Order.{AtMost, Less, Past}
+use Rattle.xdg_facts.specs.Fits.{Fits}
+use Rattle.xdg_facts.specs.Closed.{Closed}
+use Rattle.xdg_facts.proofs.Fitting.{fits_front, past_range}
+use Rattle.xdg_facts.proofs.Ordered.{past_step}
 use Rattle.xdg_stream.specs.Forced.{AreLast}
 use Rattle.xdg_stream.specs.Problem.{SameProblem}
 use Rattle.xdg_stream.proofs.Following.{joined}
 use Rattle.xdg_stream.proofs.Passing.{Passes, later}
-use Rattle.xdg_listing.proofs.Lists.{some_behind}
+use Rattle.xdg_facts.proofs.Lists.{some_behind}
 
 pub last_same : (shape : List ℕ) (P : List ℕ → Type 0) (now : List ℕ) (Q : List ℕ → Type 0) (p t : List ℕ) → SameProblem shape P now Q → AreLast now Q p t → AreLast shape P p t
 last_same shape P now Q p [] s h = tt

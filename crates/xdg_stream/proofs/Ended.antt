@@ -1,11 +1,11 @@
 -- What a run answered is told of any listing of the counted prefixes and any of the solutions.
 use Rattle.std.proofs.Common.{ℕ, List, length}
 use Rattle.std.specs.Prelude.{Option}
-use Rattle.xdg_listing.specs.Answered.{Answered}
-use Rattle.xdg_listing.specs.declared.Ending.{Ending}
-use Rattle.xdg_listing.proofs.Wholes.{whole_unique}
-use Rattle.xdg_listing.proofs.Drawing.{ending_of}
-use Rattle.xdg_listing.proofs.OneEnding.{ending_unique}
+use Rattle.xdg_facts.specs.Answered.{Answered}
+use Rattle.xdg_facts.specs.declared.Ending.{Ending}
+use Rattle.xdg_facts.proofs.Wholes.{whole_unique}
+use Rattle.xdg_facts.proofs.Drawing.{ending_of}
+use Rattle.xdg_facts.proofs.OneEnding.{ending_unique}
 use Rattle.xdg_stream.specs.Outcomes.{IsOutcome}
 
 pub outcome_of : (ending : Ending) (shape : List ℕ) (P : List ℕ → Type 0) (start : List ℕ) (b : ℕ) (wanted : Option ℕ) (answers : List (List ℕ)) → Answered ending shape P start b wanted answers → IsOutcome shape P start b wanted ending answers

@@ -2,7 +2,7 @@
 use Rattle.std.proofs.Common.{◌≡◌, ℕ, ◌<◌, ◌≤◌, ◌+◌, suc, Bool, List, [], ◌∷◌, ◌++◌, length, map, take, drop, ap₂, sym, ◌∙◌, arith, subst, length-append}
 use Rattle.std.specs.Prelude.{slice_index, slice_index_or}
 use Rattle.std.proofs.lemmas.List.{append-nil, append_assoc, drop-take, length-drop, take-append-drop, take-take}
-use Rattle.xdg_listing.specs.Fits.{Fits}
+use Rattle.xdg_facts.specs.Fits.{Fits}
 use Rattle.xdg_problem.specs.declared.parts.Parts.{Parts}
 use Rattle.xdg_problem.specs.Boxes.{Has}
 use Rattle.xdg_problem.specs.Vectors.{shape}
@@ -14,7 +14,7 @@ use Rattle.xdg_stream.specs.Levels.{HasLevels, IsLevel}
 use Rattle.xdg_stream.specs.Runs.{AreAlone, IsAlone}
 use Rattle.xdg_stream.proofs.Fronts.{levels_with}
 use Rattle.xdg_stream.proofs.Longer.{last_only, narrow_same, within_of}
-use Rattle.xdg_listing.proofs.Lists.{last_at, last_at as last_of}
+use Rattle.xdg_facts.proofs.Lists.{last_at, last_at as last_of}
 
 -- a level makes its prefix boxed
 pub level_boxed : (parts : Parts) (p : List ℕ) (box : List (List Bool)) → IsLevel parts p box → Boxed parts p

@@ -6,7 +6,7 @@ use Rattle.std.proofs.lemmas.List.{get_or_append_left, get_or-take, length-take-
 use Rattle.xdg_problem.specs.declared.parts.Parts.{Parts}
 use Rattle.xdg_rules.specs.Boxed.{Boxed}
 use Rattle.xdg_stream.specs.Levels.{IsLevel, HasLevels, AreLevels}
-use Rattle.xdg_listing.proofs.Lists.{last_at}
+use Rattle.xdg_facts.proofs.Lists.{last_at}
 
 module _ (parts : Parts) (history : List (List (List Bool))) (marks numbers : List ℕ) where
   -- there is a box

@@ -15,7 +15,7 @@ use Rattle.xdg_rules.proofs.Sizes.{within_sizes}
 use Rattle.xdg_store.proofs.Boxed.{length_box}
 use Rattle.xdg_propcore.specs.Uses.{AllStandIn}
 use Rattle.xdg_stream.specs.Levels.{IsLevel, IsRestricted}
-use Rattle.xdg_listing.proofs.Lists.{last_at}
+use Rattle.xdg_facts.proofs.Lists.{last_at}
 
 -- ---- closed for all propagators is closed
 

@@ -25,7 +25,7 @@ use Rattle.xdg_store.specs.Layout.{bits_of}
 use Rattle.xdg_store.proofs.Located.{Located, attr_located}
 use Rattle.xdg_store.proofs.Sizes.{bits_sizes}
 use Rattle.xdg_rules.proofs.Sizes.{edge_size}
-use Rattle.xdg_listing.proofs.Numbers.{some_after}
+use Rattle.xdg_facts.proofs.Numbers.{some_after}
 
 -- ---- how many values
 

@@ -1,17 +1,17 @@
 -- What each step of a search does to what it has passed since some prefix.
 use Rattle.std.proofs.Common.{◌≡◌, ◌≢◌, ℕ, ◌+◌, inl, inr, List, [], ◌∷◌, ◌++◌, length, ap, ◌∙◌, subst, length-append, filter}
-use Rattle.xdg_listing.specs.Order.{Less, AtMost}
-use Rattle.xdg_listing.specs.Fits.{Fits}
-use Rattle.xdg_listing.specs.Listing.{IsListing, SoFar, Before}
-use Rattle.xdg_listing.specs.Whole.{is_whole}
-use Rattle.xdg_listing.specs.Closed.{Closed, NoneAfter, SomeAfter}
-use Rattle.xdg_listing.specs.Passed.{Charges, Finds}
-use Rattle.xdg_listing.proofs.Ordered.{less_transitive, less_push, less_step, zero_next, not_less, less_or}
-use Rattle.xdg_listing.proofs.Wholes.{filter_more}
-use Rattle.xdg_listing.proofs.Reached.{before_later, before_taken, refused_none, last_from, so_far_last, last_before, last_append, last_at_most, none_after_last}
+use Rattle.xdg_facts.specs.Order.{Less, AtMost}
+use Rattle.xdg_facts.specs.Fits.{Fits}
+use Rattle.xdg_facts.specs.Listing.{IsListing, SoFar, Before}
+use Rattle.xdg_facts.specs.Whole.{is_whole}
+use Rattle.xdg_facts.specs.Closed.{Closed, NoneAfter, SomeAfter}
+use Rattle.xdg_facts.specs.Passed.{Charges, Finds}
+use Rattle.xdg_facts.proofs.Ordered.{less_transitive, less_push, less_step, zero_next, not_less, less_or}
+use Rattle.xdg_facts.proofs.Wholes.{filter_more}
+use Rattle.xdg_facts.proofs.Reached.{before_later, before_taken, refused_none, last_from, so_far_last, last_before, last_append, last_at_most, none_after_last}
 use Rattle.xdg_stream.specs.Place.{Next}
 use Rattle.xdg_stream.specs.Halts.{HaltsAt}
-use Rattle.xdg_listing.proofs.Lists.{some_behind}
+use Rattle.xdg_facts.proofs.Lists.{some_behind}
 
 -- n counted prefixes come after `from` and before c, and none of them is whole; the last of them is kept
 pub record Passes (shape : List ℕ) (P : List ℕ → Type 0) (from c : List ℕ) (n : ℕ) (kept now : List ℕ) : Type 0 where

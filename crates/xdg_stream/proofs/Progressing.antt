@@ -1,16 +1,16 @@
 -- How the answers of a run grow by one call after another.
 use Rattle.std.proofs.Common.{◌≡◌, ℕ, ◌≤◌, ◌-◌, inr, List, [], ◌∷◌, ◌++◌, length, refl, sym, arith, subst, None}
 use Rattle.std.specs.Prelude.{Option}
-use Rattle.xdg_listing.specs.Order.{Less}
-use Rattle.xdg_listing.specs.Fits.{Fits}
-use Rattle.xdg_listing.specs.Listing.{IsListing, SoFar}
-use Rattle.xdg_listing.specs.Closed.{NoneAfter, SomeAfter}
-use Rattle.xdg_listing.specs.Passed.{Charges, Finds}
-use Rattle.xdg_listing.specs.Answered.{Drawn, Answered}
-use Rattle.xdg_listing.specs.Endings.{IsBelow}
-use Rattle.xdg_listing.specs.declared.Ending.TheVariants as endings
-use Rattle.xdg_listing.proofs.Exists.{each_weaker}
-use Rattle.xdg_listing.proofs.Drawing.{drawn_found, drawn_charged}
+use Rattle.xdg_facts.specs.Order.{Less}
+use Rattle.xdg_facts.specs.Fits.{Fits}
+use Rattle.xdg_facts.specs.Listing.{IsListing, SoFar}
+use Rattle.xdg_facts.specs.Closed.{NoneAfter, SomeAfter}
+use Rattle.xdg_facts.specs.Passed.{Charges, Finds}
+use Rattle.xdg_facts.specs.Answered.{Drawn, Answered}
+use Rattle.xdg_facts.specs.Endings.{IsBelow}
+use Rattle.xdg_facts.specs.declared.Ending.TheVariants as endings
+use Rattle.xdg_facts.proofs.Exists.{each_weaker}
+use Rattle.xdg_facts.proofs.Drawing.{drawn_found, drawn_charged}
 use Rattle.xdg_stream.specs.Problem.{SameProblem}
 use Rattle.xdg_stream.specs.Place.{place, Next}
 use Rattle.xdg_stream.specs.Halts.{Halts}

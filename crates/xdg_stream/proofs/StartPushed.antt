@@ -1,12 +1,12 @@
 -- A start: its numbers are pushed as far as they are counted.
 use Rattle.std.proofs.Common.{◌≡◌, ℕ, ◌<◌, ◌≤◌, ◌+◌, inl, inr, List, [], ◌∷◌, ◌++◌, length, take, drop, get_or, refl, ap, sym, ◌∙◌, arith, subst, length-append}
 use Rattle.std.proofs.lemmas.List.{take_more, take-append-drop, take_all}
-use Rattle.xdg_listing.specs.Order.{Less, AtMost}
-use Rattle.xdg_listing.specs.Fits.{Fits}
-use Rattle.xdg_listing.specs.Closed.{Closed}
-use Rattle.xdg_listing.proofs.Ordered.{at_most_less, not_less}
-use Rattle.xdg_listing.proofs.Fitting.{fits_front, fits_last}
-use Rattle.xdg_listing.proofs.Reached.{refused_none}
+use Rattle.xdg_facts.specs.Order.{Less, AtMost}
+use Rattle.xdg_facts.specs.Fits.{Fits}
+use Rattle.xdg_facts.specs.Closed.{Closed}
+use Rattle.xdg_facts.proofs.Ordered.{at_most_less, not_less}
+use Rattle.xdg_facts.proofs.Fitting.{fits_front, fits_last}
+use Rattle.xdg_facts.proofs.Reached.{refused_none}
 use Rattle.xdg_stream.specs.Place.{place, Next}
 use Rattle.xdg_stream.proofs.Passing.{next_first}
 

@@ -3,11 +3,11 @@
 use Rattle.std.proofs.Common.{◌≡◌, ◌≢◌, ℕ, ◌<◌, ◌≤◌, ◌+◌, ◌⊎◌, inl, inr, List, [], ◌∷◌, ◌++◌, length, take, drop, get_or, refl, ap, sym, ◌∙◌, arith, subst, length-append, append_assoc}
 use Rattle.std.proofs.lemmas.List.{append-nil, take_all, take-take, take-append-drop}
 use Rattle.std.proofs.Math.Seq.{take-append_seam}
-use Rattle.xdg_listing.specs.Order.{Less}
-use Rattle.xdg_listing.specs.Fits.{Fits}
-use Rattle.xdg_listing.specs.Closed.{Closed, NoneAfter, SomeAfter}
-use Rattle.xdg_listing.specs.Passed.{Finds}
-use Rattle.xdg_listing.proofs.Fitting.{fits_push, fits_front, fits_last, fits_length}
+use Rattle.xdg_facts.specs.Order.{Less}
+use Rattle.xdg_facts.specs.Fits.{Fits}
+use Rattle.xdg_facts.specs.Closed.{Closed, NoneAfter, SomeAfter}
+use Rattle.xdg_facts.specs.Passed.{Finds}
+use Rattle.xdg_facts.proofs.Fitting.{fits_push, fits_front, fits_last, fits_length}
 use Rattle.xdg_stream.specs.Problem.{SameProblem}
 use Rattle.xdg_stream.specs.Place.{place, Stands}
 use Rattle.xdg_stream.specs.Halts.{HaltsAt}

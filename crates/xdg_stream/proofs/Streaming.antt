@@ -2,16 +2,16 @@
 use Rattle.std.proofs.Common.{◌≡◌, ◌≢◌, ℕ, ◌<◌, ◌≤◌, ◌-◌, inl, inr, ◌⊎◌, true, List, [], ◌∷◌, ◌++◌, length, take, refl, ap, sym, ◌∙◌, arith, subst, eq-eqb, None, Some}
 use Rattle.std.specs.Prelude.{Option, filter}
 use Rattle.std.proofs.Math.Seq.{take-append_seam}
-use Rattle.xdg_listing.specs.Answered.{Drawn}
-use Rattle.xdg_listing.specs.Fits.{Fits}
-use Rattle.xdg_listing.specs.Listing.{Member}
-use Rattle.xdg_listing.specs.Order.{AtMost, Less}
-use Rattle.xdg_listing.specs.Passed.{Charges, Finds}
-use Rattle.xdg_listing.specs.Whole.{Whole, is_whole}
-use Rattle.xdg_listing.proofs.Drawing.{drawn_none, drawn_found, drawn_charged}
-use Rattle.xdg_listing.proofs.Joined.{so_far_split}
-use Rattle.xdg_listing.proofs.Ordered.{less_irreflexive, less_transitive, at_most_less, at_most_transitive, at_most_of, less_or, not_less}
-use Rattle.xdg_listing.proofs.Wholes.{filter_member}
+use Rattle.xdg_facts.specs.Answered.{Drawn}
+use Rattle.xdg_facts.specs.Fits.{Fits}
+use Rattle.xdg_facts.specs.Listing.{Member}
+use Rattle.xdg_facts.specs.Order.{AtMost, Less}
+use Rattle.xdg_facts.specs.Passed.{Charges, Finds}
+use Rattle.xdg_facts.specs.Whole.{Whole, is_whole}
+use Rattle.xdg_facts.proofs.Drawing.{drawn_none, drawn_found, drawn_charged}
+use Rattle.xdg_facts.proofs.Joined.{so_far_split}
+use Rattle.xdg_facts.proofs.Ordered.{less_irreflexive, less_transitive, at_most_less, at_most_transitive, at_most_of, less_or, not_less}
+use Rattle.xdg_facts.proofs.Wholes.{filter_member}
 use Rattle.xdg_problem.specs.declared.analysis.Analysis.{Analysis}
 use Rattle.xdg_problem.specs.declared.parts.Parts.{Parts}
 use Rattle.xdg_problem.specs.Problems.{IsProblem}

@@ -4,7 +4,7 @@ use Rattle.std.specs.Prelude.{Option, Vec}
 use Rattle.std.specs.Global.{Global}
 use Rattle.std.specs.Option.{option_eq}
 use Rattle.std.proofs.lemmas.Bool.{eqb-false}
-use Rattle.xdg_listing.specs.Endings.{IsBelow, IsUpTo}
+use Rattle.xdg_facts.specs.Endings.{IsBelow, IsUpTo}
 use Rattle.xdg_stream.specs.Vectors.{vectors}
 
 pub wanted_go_on : (k m : ℕ) (o : Option ℕ) → k ≡ m → IsUpTo m o → option_eq eqb o (Some k) ≡ false → IsBelow m o

@@ -1,7 +1,7 @@
 -- A small problem to try the search on: prefixes in which no number stands twice in a row.
 use Rattle.std.specs.Prelude.{◌≡◌, ℕ, ◌<◌, List, [], ◌∷◌, length}
 use Rattle.std.proofs.Common.{arith}
-use Rattle.xdg_listing.specs.Closed.{Closed}
+use Rattle.xdg_facts.specs.Closed.{Closed}
 
 -- no two neighbours are equal
 abbrev pub IsApart : List ℕ → Type 0

@@ -1,5 +1,5 @@
 -- A front of a boxed prefix is boxed.
-use Rattle.xdg_listing.specs.Closed.{Closed}
+use Rattle.xdg_facts.specs.Closed.{Closed}
 use Rattle.xdg_problem.specs.declared.parts.Parts.{Parts}
 use Rattle.xdg_rules.specs.Boxed.{Boxed}
 use Rattle.xdg_rules.proofs.ClosedLive.{boxed_closed}

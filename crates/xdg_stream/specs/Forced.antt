@@ -1,6 +1,6 @@
 -- Numbers that a prefix leaves no choice about.
 use Rattle.std.specs.Prelude.{◌≡◌, ℕ, ◌<◌, ◌≤◌, List, [], ◌∷◌, ◌++◌, Option, Some, None, length}
-use Rattle.xdg_listing.specs.Fits.{Fits}
+use Rattle.xdg_facts.specs.Fits.{Fits}
 
 -- the prefix is counted with this number behind it, and with no other
 pub record IsForced (shape : List ℕ) (P : List ℕ → Type 0) (p : List ℕ) (v : ℕ) : Type 0 where

@@ -1,9 +1,9 @@
 -- What a run answers, against any listing of the counted prefixes and any of the solutions.
 use Rattle.std.specs.Prelude.{◌≡◌, ℕ, List, length, take, Option}
-use Rattle.xdg_listing.specs.Listing.{IsListing}
-use Rattle.xdg_listing.specs.Whole.{Whole}
-use Rattle.xdg_listing.specs.Endings.{IsEnding}
-use Rattle.xdg_listing.specs.declared.Ending.{Ending}
+use Rattle.xdg_facts.specs.Listing.{IsListing}
+use Rattle.xdg_facts.specs.Whole.{Whole}
+use Rattle.xdg_facts.specs.Endings.{IsEnding}
+use Rattle.xdg_facts.specs.declared.Ending.{Ending}
 
 -- the answers are the first of the solutions, the ending is the one that the two lists have, and they have no other
 pub record IsOutcome (shape : List ℕ) (P : List ℕ → Type 0) (start : List ℕ) (b : ℕ) (wanted : Option ℕ) (ending : Ending) (answers : List (List ℕ)) : Type 0

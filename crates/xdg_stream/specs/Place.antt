@@ -1,7 +1,7 @@
 -- Where a search stands: the next prefix that it looks at.
 use Rattle.std.specs.Prelude.{◌≡◌, ◌⊎◌, ℕ, List, [], ◌∷◌, ◌++◌, length}
-use Rattle.xdg_listing.specs.Order.{Less}
-use Rattle.xdg_listing.specs.Fits.{Fits}
+use Rattle.xdg_facts.specs.Order.{Less}
+use Rattle.xdg_facts.specs.Fits.{Fits}
 
 -- the numbers of the front, and behind them the value that is tried next, which may be out of range
 abbrev pub place : List ℕ → ℕ → List ℕ

@@ -1,6 +1,6 @@
 -- What the calls of a search have come to together, since its start.
 use Rattle.std.specs.Prelude.{◌≡◌, ℕ, List, Option, None}
-use Rattle.xdg_listing.specs.Answered.{Drawn}
+use Rattle.xdg_facts.specs.Answered.{Drawn}
 use Rattle.xdg_stream.specs.Problem.{SameProblem}
 use Rattle.xdg_stream.specs.Place.{place, Next}
 use Rattle.xdg_stream.specs.declared.search.Step.{Step}

@@ -1,9 +1,9 @@
 -- What a stream is seen as, how far it has come, and what a call does.
 use Rattle.std.specs.Prelude.{◌≡◌, ◌≢◌, ℕ, ◌+◌, ◌<◌, ◌≤◌, List, [], ◌∷◌, ◌++◌, Option, Some, None}
 use Rattle.std.specs.Iterator.{Count, at_most}
-use Rattle.xdg_listing.specs.Answered.{Drawn}
-use Rattle.xdg_listing.specs.Closed.{NoneAfter, SomeAfter}
-use Rattle.xdg_listing.specs.Order.{Less, AtMost}
+use Rattle.xdg_facts.specs.Answered.{Drawn}
+use Rattle.xdg_facts.specs.Closed.{NoneAfter, SomeAfter}
+use Rattle.xdg_facts.specs.Order.{Less, AtMost}
 use Rattle.xdg_problem.specs.declared.analysis.Analysis.{Analysis}
 use Rattle.xdg_problem.specs.declared.parts.Parts.{Parts}
 use Rattle.xdg_problem.specs.Analyses.{IsAnalysis}

@@ -2,7 +2,7 @@
 
 ghost use Rattle.std.specs.Prelude.{◌≡◌, ◌≤◌, ◌<◌, ◌++◌, ◌∷◌, ◌⊎◌, ◌+◌, [], true, false, length, map, IfOk, slice_index};
 ghost use Rattle.std.specs.Vec.{vec_capacity};
-ghost use Rattle.xdg_listing.specs.Fits.{Fits};
+ghost use Rattle.xdg_facts.specs.Fits.{Fits};
 ghost use Rattle.xdg_problem.specs.Places.{places};
 ghost use Rattle.xdg_problem.specs.Vectors.{shape};
 ghost use Rattle.xdg_rules.specs.Boxed.{Boxed};
@@ -103,7 +103,7 @@ impl<P: Propagator> Front for BoxFront<'_, P> {
     type Given = Problem;
 
     ghost use Rattle.std.specs.Prelude.{ℕ, List};
-    ghost use Rattle.xdg_listing.specs.Closed.{Closed};
+    ghost use Rattle.xdg_facts.specs.Closed.{Closed};
     ghost use Rattle.xdg_stream.specs.Problem.{SameProblem};
     ghost use Rattle.xdg_stream.specs.Closing.{front_closed};
 

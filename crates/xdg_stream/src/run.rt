@@ -2,14 +2,14 @@
 
 ghost use Rattle.std.specs.Prelude.{◌≡◌, ◌≤◌, ◌++◌, ◌∷◌, [], List, IfOk, length, take};
 ghost use Rattle.std.specs.Vec.{vec_capacity};
-ghost use Rattle.xdg_listing.specs.Fits.{Fits};
-ghost use Rattle.xdg_listing.specs.Answered.{Answered};
+ghost use Rattle.xdg_facts.specs.Fits.{Fits};
+ghost use Rattle.xdg_facts.specs.Answered.{Answered};
 ghost use Rattle.xdg_stream.specs.Outcomes.{IsOutcome};
 ghost use Rattle.xdg_stream.specs.Vectors.{vectors};
 
 use crate::{Front, Search, Step};
 use std::alloc::{AllocError, Global};
-use xdg_listing::Ending;
+use xdg_facts::Ending;
 
 /// What a run answered.
 #[derive(Drop)]

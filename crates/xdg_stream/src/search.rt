@@ -2,11 +2,11 @@
 
 ghost use Rattle.std.specs.Prelude.{◌≡◌, ◌≢◌, ◌<◌, ◌≤◌, ◌+◌, ◌-◌, ◌⊎◌, ◌++◌, ◌∷◌, [], ℕ, Bool, true, false, List, Option, Some, None, length, slice_index, take, drop};
 ghost use Rattle.std.specs.Vec.{vec_capacity};
-ghost use Rattle.xdg_listing.specs.Order.{Less, AtMost};
-ghost use Rattle.xdg_listing.specs.Fits.{Fits};
-ghost use Rattle.xdg_listing.specs.Closed.{Closed, NoneAfter, SomeAfter};
-ghost use Rattle.xdg_listing.specs.Passed.{Charges, Finds};
-ghost use Rattle.xdg_listing.specs.Whole.{Whole};
+ghost use Rattle.xdg_facts.specs.Order.{Less, AtMost};
+ghost use Rattle.xdg_facts.specs.Fits.{Fits};
+ghost use Rattle.xdg_facts.specs.Closed.{Closed, NoneAfter, SomeAfter};
+ghost use Rattle.xdg_facts.specs.Passed.{Charges, Finds};
+ghost use Rattle.xdg_facts.specs.Whole.{Whole};
 ghost use Rattle.xdg_stream.specs.Problem.{SameProblem};
 ghost use Rattle.xdg_stream.specs.Place.{place, Next, Stands};
 ghost use Rattle.xdg_stream.specs.Forced.{Backs, Follows};

@@ -16,7 +16,7 @@ use Rattle.xdg_terms.specs.Offences.{is_some, has_form, has_set_form, all_told, 
 use Rattle.xdg_terms.specs.Wanted.{Want, free_in, free_of, or_inside, params_in, params_under, params_inside}
 use Rattle.xdg_terms.specs.Replaced.{IsOpenRight, AreBoundRight}
 use Rattle.xdg_terms.proofs.Right.{RightHere, formed}
-use Rattle.xdg_listing.proofs.Texts.{is_same, same_text}
+use Rattle.xdg_facts.proofs.Texts.{is_same, same_text}
 
 -- ---- a term of a wanted form is no parameter
 

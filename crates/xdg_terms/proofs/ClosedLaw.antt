@@ -22,7 +22,7 @@ use Rattle.xdg_terms.specs.Replaced.{IsOpenRight, AreBoundRight}
 use Rattle.xdg_terms.proofs.Right.{formed, told}
 use Rattle.xdg_terms.proofs.Replacing.{closed_is}
 use Rattle.xdg_terms.proofs.Binding.{open_param, looked_at, seen, no_form, RightIn, RightBy, here_of, right_in, all_looked_at}
-use Rattle.xdg_listing.proofs.Texts.{is_same, same_text}
+use Rattle.xdg_facts.proofs.Texts.{is_same, same_text}
 
 module _ (bs : Bindings) where
   -- ---- elements without terms stay

@@ -4,7 +4,7 @@ use Rattle.std.specs.Prelude.{◌||◌, bytes_eq}
 use Rattle.std.proofs.lemmas.Bool.{or_cases, or_left, or_right, true≢false}
 use Rattle.xdg_domain.specs.Shapes.{Among}
 use Rattle.xdg_terms.specs.Faults.{has}
-use Rattle.xdg_listing.proofs.Texts.{same_text, is_same}
+use Rattle.xdg_facts.proofs.Texts.{same_text, is_same}
 
 pub has_append : (xs ys : List (List ℕ)) (t : List ℕ) → has (xs ++ ys) t ≡ (has xs t || has ys t)
 has_append [] ys t = refl

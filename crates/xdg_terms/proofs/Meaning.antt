@@ -26,7 +26,7 @@ use Rattle.xdg_terms.proofs.Read.{bracket_read, same_first, written}
 use Rattle.xdg_terms.proofs.Meant.{at_place, among_at, all_places, TupleOf, tuple_of_places}
 use Rattle.xdg_terms.proofs.Lawful.{set_law, set_below, counts_read, pairs_read}
 use Rattle.xdg_terms.proofs.SaidKeys.{made_of, put_rises, put_here, put_later, said_made, from_rises, keys_said, keys_each}
-use Rattle.xdg_listing.proofs.Texts.{same_text, is_same}
+use Rattle.xdg_facts.proofs.Texts.{same_text, is_same}
 
 -- the term means the value, which is one of the type where its numbers are in range
 abbrev pub GoodIn : Bindings → Shape → Term → Value-F Value → Type 0

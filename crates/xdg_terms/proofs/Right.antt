@@ -18,8 +18,8 @@ use Rattle.xdg_terms.specs.Offences.{fault_at, has_form, is_some, asked, CardOff
 use Rattle.xdg_terms.specs.Offences as o
 use Rattle.xdg_terms.specs.Means.{allows, AllowedBy}
 use Rattle.xdg_terms.specs.Built.{place_from, card_numbers, some_or_all}
-use Rattle.xdg_listing.proofs.Truths.{and_2}
-use Rattle.xdg_listing.proofs.Texts.{is_same}
+use Rattle.xdg_facts.proofs.Truths.{and_2}
+use Rattle.xdg_facts.proofs.Texts.{is_same}
 
 -- nothing is wrong with the term itself
 abbrev pub RightHere : Shape → Term → Type 0

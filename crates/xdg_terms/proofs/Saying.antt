@@ -13,7 +13,7 @@ use Rattle.xdg_domain.specs.Values.{EachSaid}
 use Rattle.xdg_terms.specs.Fitting.{FitsIn, FitsField, Fits}
 use Rattle.xdg_terms.specs.Forms.{Term, Bindings, bound, keyed_elem}
 use Rattle.xdg_terms.specs.Built.{Elem, put, said_from, first_for, built, fields_from, fields_in, elems_of}
-use Rattle.xdg_listing.proofs.Lists.{from_place}
+use Rattle.xdg_facts.proofs.Lists.{from_place}
 
 pub below_skip : {V : Type 0} (s : List (ℕ × V)) (key : ℕ) → KeysBelow key s → KeysBelow (key + 1) s
 below_skip [] key h = tt

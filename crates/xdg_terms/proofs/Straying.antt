@@ -24,7 +24,7 @@ use Rattle.xdg_names.proofs.In.{in_flat_map, flat_map_in, in_unless, unless_in}
 use Rattle.xdg_terms.specs.Forms.{Term}
 use Rattle.xdg_terms.specs.Offences.{fault_at}
 use Rattle.xdg_terms.specs.Stray.{term_step, elem_step, tokens, elem_tokens, IsStrayParam, stray, all_stray}
-use Rattle.xdg_listing.proofs.Texts.{same_text, is_same}
+use Rattle.xdg_facts.proofs.Texts.{same_text, is_same}
 
 -- ---- among the parameters
 

@@ -3,7 +3,7 @@ use Rattle.std.proofs.Common.{◌≡◌, ◌≤◌, ◌+◌, ◌*◌, ◌++◌, 
 use Rattle.std.proofs.lemmas.List.{drop-drop}
 use Rattle.std.specs.List.{flat_map}
 use Rattle.xdg_base.specs.declared.ids.EntryNo.{EntryNo}
-use Rattle.xdg_listing.specs.Fits.{Fits}
+use Rattle.xdg_facts.specs.Fits.{Fits}
 use Rattle.xdg_problem.specs.declared.analysis.Analysis.{Analysis}
 use Rattle.xdg_problem.specs.declared.parts.AttrPlan.{AttrPlan}
 use Rattle.xdg_problem.specs.declared.parts.DimPlan.{DimPlan}

@@ -2,7 +2,7 @@
 use Rattle.std.proofs.Common.{◌≡◌, ◌∙◌, ℕ, List, [], ◌∷◌, false, ◌++◌, ◌&&◌, cond, not, ap, sym, subst, refl}
 use Rattle.std.specs.List.{list_all, list_any, flat_map}
 use Rattle.xdg_text.specs.Constants.{is_keyword, begins_name, continues_name, is_name, is_escaped, escaped}
-use Rattle.xdg_listing.proofs.Truths.{none_or}
+use Rattle.xdg_facts.proofs.Truths.{none_or}
 
 pub name_of_parts : (text : List ℕ) (first : ℕ) (others : List ℕ) → text ≡ first ∷ others → is_name text ≡ ((begins_name first && list_all continues_name others) && not (is_keyword text))
 name_of_parts text first others parts = subst (λ z. is_name z ≡ ((begins_name first && list_all continues_name others) && not (is_keyword z))) (sym parts) refl

@@ -11,7 +11,7 @@ use Rattle.xdg_problem.specs.Analyses.{IsAnalysis, IsPlace}
 use Rattle.xdg_problem.specs.Problems.{IsProblem, IsDim, IsAttr, IsGroup, AreCandidates, HasConstant}
 use Rattle.xdg_problem.specs.Places.{edge}
 use Rattle.xdg_text.specs.Examples.{agr, on, id, lp, german, reading}
-use Rattle.xdg_listing.proofs.Lists.{all_one, all_two, all_none, pairs_one, pairs_two, pairs_none}
+use Rattle.xdg_facts.proofs.Lists.{all_one, all_two, all_none, pairs_one, pairs_two, pairs_none}
 
 candidate : (entry : EntryNo) → entry.0 < 4294967295 → AreCandidates (entry ∷ [])
 candidate entry small = record { some = lit< tt; most = lit≤ tt; rising = pairs_one (λ (a b : EntryNo). a.0 < b.0) entry; small = all_one (λ (e : EntryNo). e.0 < 4294967295) entry small }

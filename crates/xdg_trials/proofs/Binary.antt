@@ -1,8 +1,8 @@
 -- Prefixes of numbers 0 and 1 in which neighbours differ: behind each number only the other one is counted.
 use Rattle.std.proofs.Common.{◌≡◌, ◌≢◌, ◌⊎◌, inl, inr, ℕ, ◌<◌, ◌≤◌, ◌-◌, zero, suc, List, [], ◌∷◌, ◌++◌, length, get_or, take, drop, ap, sym, ◌∙◌, arith, subst}
 use Rattle.std.proofs.lemmas.List.{append_assoc}
-use Rattle.xdg_listing.specs.Fits.{Fits}
-use Rattle.xdg_listing.proofs.Fitting.{fits_front, fits_last}
+use Rattle.xdg_facts.specs.Fits.{Fits}
+use Rattle.xdg_facts.proofs.Fitting.{fits_front, fits_last}
 use Rattle.xdg_stream.specs.Apart.{IsApart}
 use Rattle.xdg_stream.specs.Forced.{AreLast}
 

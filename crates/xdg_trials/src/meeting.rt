@@ -8,7 +8,7 @@ use std::alloc::{AllocError, Global};
 use std::sync::atomic::{AtomicBool, Ordering};
 use std::test::Fail;
 use xdg_base::{DimId, EntryNo, List, OutOfMemory, Text};
-use xdg_listing::Ending;
+use xdg_facts::Ending;
 use xdg_problem::{DimPlan, Group, Parts, Principle, Problem, SentenceWord, SharedList};
 use xdg_propcore::{Moved, Propagator, Wake};
 use xdg_split::{Job, answers, split};

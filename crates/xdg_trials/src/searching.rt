@@ -3,13 +3,13 @@
 //! Counted are [0], [0, 1], [0, 1, 0], [1], [1, 0] and [1, 0, 1], in this order.
 
 ghost use Rattle.std.specs.Prelude.{◌≡◌, ◌≤◌, ◌∷◌, [], ℕ, List, take};
-ghost use Rattle.xdg_listing.specs.Fits.{Fits};
+ghost use Rattle.xdg_facts.specs.Fits.{Fits};
 ghost use Rattle.xdg_stream.specs.Apart.{IsApart, apart_closed};
 
 use std::alloc::{AllocError, Global};
 use std::marker::Model;
 use std::test::Fail;
-use xdg_listing::Ending;
+use xdg_facts::Ending;
 use xdg_stream::{Front, Outcome, Search, Step, solve};
 
 /// A prefix of three numbers, each 0 or 1.

@@ -10,7 +10,7 @@ use Rattle.xdg_types.specs.Written.{Tree, nothing, listed, recorded, tupled, set
 use Rattle.xdg_types.specs.Parts.{Statement, Definition, definitions, texts}
 use Rattle.xdg_types.specs.Meaning.{meaning, domains_meaning, fields_meaning, as_domain, Resolves}
 use Rattle.xdg_typing.specs.Answers.{IsRanked}
-use Rattle.xdg_listing.proofs.Texts.{same_text, is_same}
+use Rattle.xdg_facts.proofs.Texts.{same_text, is_same}
 
 -- a type's meaning turns on the names that it uses alone
 module _ (p q : List ℕ → Shape) where

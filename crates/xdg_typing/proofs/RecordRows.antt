@@ -13,7 +13,7 @@ use Rattle.xdg_types.specs.Meaning.{as_domain}
 use Rattle.xdg_types.specs.Names.{fault_at}
 use Rattle.xdg_types.specs.Kinds.{Wanted, the_attributes, Site, is_attribute, reaching, field_count, HasOther, NamedOffends, AttributesOffend, HasWrongAttributes}
 use Rattle.xdg_typing.specs.KindFaults.{ninth_name_faults, has_other, wide_record_faults, other_faults, named_faults, record_faults, attributes_faults}
-use Rattle.xdg_listing.proofs.Truths.{from_not}
+use Rattle.xdg_facts.proofs.Truths.{from_not}
 
 -- what stands at a place stands between others
 pub between : {A : Type 0} (xs : List A) (k : ℕ) (x : A) → slice_get xs k ≡ Some x → (before : List A) × ((after : List A) × ((xs ≡ before ++ x ∷ after) × (length before ≡ k)))

@@ -17,7 +17,7 @@ use Rattle.xdg_types.specs.Names.{fault_at}
 use Rattle.xdg_types.specs.Kinds.{Wanted, anything, a_domain, a_small, a_mapped, an_attribute, Site, inside, inside_trees, inside_members, inside_attributes, is_domain, is_small, is_mapped, is_empty_domain, are_domains, has_empty_domain, has_no_tuple, is_attribute, is_of_kind, SiteOffends, Split, SharesAt}
 use Rattle.xdg_typing.specs.Branches.{Naming}
 use Rattle.xdg_types.proofs.Elements.{not_more, among_in, among_left, among_right, among_append, among_name, differ_append}
-use Rattle.xdg_listing.proofs.Truths.{from_not, none_or}
+use Rattle.xdg_facts.proofs.Truths.{from_not, none_or}
 
 -- ---- shapes of the wanted kind
 

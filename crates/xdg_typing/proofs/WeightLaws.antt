@@ -9,7 +9,7 @@ use Rattle.xdg_types.specs.Written.{Tree, nothing, listed, recorded, tupled, set
 use Rattle.xdg_types.specs.Parts.{texts}
 use Rattle.xdg_types.specs.Meaning.{meaning, domains_meaning, fields_meaning, as_domain}
 use Rattle.xdg_typing.specs.Weights.{parts, parts_of, parts_in, capped, weight_of, beside, held, weighed, beside_trees, beside_members, named_weight, Weighs}
-use Rattle.xdg_listing.proofs.Numbers.{below_one}
+use Rattle.xdg_facts.proofs.Numbers.{below_one}
 
 -- ---- counts that stop
 

@@ -1,6 +1,6 @@
 use Rattle.std.proofs.Common.{[], ◌∙◌, ap, false, sym}
 use Rattle.std.specs.Prelude.{slice_index_or}
-use Rattle.xdg_listing.proofs.Lookups.{read_none, read_some}
+use Rattle.xdg_facts.proofs.Lookups.{read_none, read_some}
 use Rattle.xdg_formula_value.proofs.atoms.says.Goals as goal
 
 pub returns-in_default : goal.returns-in_default

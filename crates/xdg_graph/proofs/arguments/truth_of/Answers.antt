@@ -1,5 +1,5 @@
 use Rattle.std.proofs.Common.{sym, false}
-use Rattle.xdg_listing.proofs.Lookups.{read_none}
+use Rattle.xdg_facts.proofs.Lookups.{read_none}
 use Rattle.xdg_graph.proofs.arguments.truth_of.Goals as goal
 
 pub returns-in-None : goal.returns-in-None

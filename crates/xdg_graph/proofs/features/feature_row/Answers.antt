@@ -1,6 +1,6 @@
 use Rattle.std.proofs.Common.{◌∙◌, sym, []}
 use Rattle.xdg_problem.proofs.RowReads.{row_no_node, row_node, row_no_candidate, row_candidate, row_no_feature, row_feature}
-use Rattle.xdg_listing.proofs.Lookups.{read_none, read_some}
+use Rattle.xdg_facts.proofs.Lookups.{read_none, read_some}
 use Rattle.xdg_graph.proofs.features.feature_row.Goals as goal
 
 pub returns-in_default : goal.returns-in_default

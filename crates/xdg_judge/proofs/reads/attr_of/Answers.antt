@@ -1,6 +1,6 @@
 use Rattle.std.proofs.Common.{ap, sym}
 use Rattle.xdg_base.specs.declared.ids.AttrId.{AttrId}
-use Rattle.xdg_listing.proofs.Lookups.{read_none}
+use Rattle.xdg_facts.proofs.Lookups.{read_none}
 use Rattle.xdg_judge.proofs.reads.attr_of.Goals as goal
 
 pub returns-in-None : goal.returns-in-None

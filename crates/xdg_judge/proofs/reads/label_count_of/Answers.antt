@@ -1,7 +1,7 @@
 use Rattle.std.proofs.Common.{ap, sym, subst, ◌≡◌, [], false, length}
 use Rattle.std.specs.Prelude.{slice_get, None}
 use Rattle.xdg_problem.specs.declared.parts.DimPlan.{DimPlan}
-use Rattle.xdg_listing.proofs.Lookups.{read_none}
+use Rattle.xdg_facts.proofs.Lookups.{read_none}
 use Rattle.xdg_judge.proofs.reads.label_count_of.Goals as goal
 
 pub returns-in-None-clause-value : goal.returns-in-None-clause-value

@@ -1,6 +1,6 @@
 use Rattle.std.proofs.Common.{sym, ap, ◌+◌, ◌*◌, ◌∙◌}
 use Rattle.std.specs.Prelude.{slice_index}
-use Rattle.xdg_listing.proofs.Lookups.{read_none}
+use Rattle.xdg_facts.proofs.Lookups.{read_none}
 use Rattle.xdg_judge.proofs.Reading.{place_is}
 use Rattle.xdg_judge.proofs.reads.value_of.Goals as goal
 

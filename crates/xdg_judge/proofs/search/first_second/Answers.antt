@@ -2,7 +2,7 @@ use Rattle.std.proofs.Common.{ℕ, ◌<◌, subst}
 use Rattle.xdg_judge.specs.Searching.{tuple_for}
 use Rattle.xdg_judge.specs.Verdicts.{AsksHere}
 use Rattle.xdg_judge.proofs.search.first_second.Goals as goal
-use Rattle.xdg_listing.proofs.Numbers.{all_next}
+use Rattle.xdg_facts.proofs.Numbers.{all_next}
 
 pub loop-x-preserved : goal.loop-x-preserved
 loop-x-preserved c = all_next (λ x. (k : ℕ) → k < c.args.last → AsksHere c.args.view.now.parts.now c.args.view.now.group.now c.args.view.now.analysis.now c.args.condition (tuple_for c.args.condition c.args.u x k)) c.loop-x.x c.loop-x.invariant c.in_default.ensures

@@ -6,7 +6,7 @@ use Rattle.xdg_rules.specs.Rules.{IsDecided, attr_of_node, may_edges}
 use Rattle.xdg_porder.specs.Yields.{IsBrokenAt}
 use Rattle.xdg_porder.proofs.Testing.{broken_fails, none_fails, failing_settled}
 use Rattle.xdg_porder.proofs.failing.fails_test.Goals as goal
-use Rattle.xdg_listing.proofs.Numbers.{all_next}
+use Rattle.xdg_facts.proofs.Numbers.{all_next}
 
 pub returns-then-not-are_settled : goal.returns-then-not-are_settled
 returns-then-not-are_settled c = (

@@ -2,7 +2,7 @@ use Rattle.std.proofs.Common.{[], ap, ◌∙◌, ◌<◌, length, arith}
 use Rattle.xdg_print.proofs.Layered.{field_within}
 use Rattle.xdg_print.proofs.Stood.{next_field, all_fields}
 use Rattle.xdg_print.proofs.members.put_fields.Goals as goal
-use Rattle.xdg_listing.proofs.Lists.{any_default}
+use Rattle.xdg_facts.proofs.Lists.{any_default}
 
 pub at-requires : goal.at-requires
 at-requires c = (field_within c.args.types.now c.args.tuple.now c.loop-field.field c.index-types-field.result c.requires c.loop-field-test.true c.index-types-field.is).0

@@ -5,7 +5,7 @@ use Rattle.xdg_print.specs.ValueWords.{member_words}
 use Rattle.xdg_print.proofs.Layered.{below_at}
 use Rattle.xdg_print.proofs.Stood.{braces_done}
 use Rattle.xdg_print.proofs.members.put_members.Goals as goal
-use Rattle.xdg_listing.proofs.Lists.{any_default}
+use Rattle.xdg_facts.proofs.Lists.{any_default}
 
 pub put_member-requires-clause-below : goal.put_member-requires-clause-below
 put_member-requires-clause-below c = below_at (count (shape c.args.ty.now)) c.args.numbers.now c.loop-number.number-index c.requires.below c.loop-number-test.true

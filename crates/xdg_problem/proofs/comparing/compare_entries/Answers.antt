@@ -1,7 +1,7 @@
 use Rattle.std.proofs.Common.{refl, sym, subst, ap, ◌∙◌}
 use Rattle.xdg_base.specs.contracts.ids.EntryNoOrd.TheImpl as entry_order
 use Rattle.xdg_problem.specs.EntryNumbers.{entry_numbers}
-use Rattle.xdg_listing.proofs.Compared.{Tells, compared, tells_less, tells_equal, tells_greater}
+use Rattle.xdg_facts.proofs.Compared.{Tells, compared, tells_less, tells_equal, tells_greater}
 use Rattle.xdg_problem.proofs.EntryOrder.{compare_numbers, numbers_equal}
 use Rattle.xdg_problem.proofs.comparing.compare_entries.Goals as goal
 

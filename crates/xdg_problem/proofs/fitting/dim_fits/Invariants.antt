@@ -1,6 +1,6 @@
 use Rattle.std.proofs.Common.{◌≡◌, ℕ, ◌↔◌, ◌-◌, ◌*◌, length}
 use Rattle.std.specs.List.{flat_map}
-use Rattle.xdg_listing.specs.Fits.{Fits}
+use Rattle.xdg_facts.specs.Fits.{Fits}
 use Rattle.xdg_problem.specs.Places.{below, numbers_from}
 use Rattle.xdg_problem.specs.Values.{value_counts}
 use Rattle.xdg_problem.proofs.fitting.dim_fits.Given as goal

@@ -4,7 +4,7 @@ use Rattle.xdg_text.proofs.Pieces.{appends_both, at_exit, front_of_first, front_
 use Rattle.xdg_judge.specs.Verdicts.{IsVerdict}
 use Rattle.xdg_problem.specs.declared.parts.Parts.{Parts}
 use Rattle.xdg_reports.proofs.verdicts.write_all_verdicts.Goals as goal
-use Rattle.xdg_listing.proofs.Lists.{zip_length}
+use Rattle.xdg_facts.proofs.Lists.{zip_length}
 
 pub write_verdict_lines-requires : goal.write_verdict_lines-requires
 write_verdict_lines-requires g c =

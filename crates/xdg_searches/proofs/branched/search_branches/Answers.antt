@@ -1,6 +1,6 @@
 use Rattle.std.proofs.Common.{subst}
 use Rattle.xdg_searches.specs.Written.{WritesAll}
-use Rattle.xdg_listing.specs.declared.Ending.TheVariants as endings
+use Rattle.xdg_facts.specs.declared.Ending.TheVariants as endings
 use Rattle.xdg_searches.specs.Outcomes.{form_of}
 use Rattle.xdg_searches.proofs.SearchLeaves.{branches_end, branches_front}
 use Rattle.xdg_searches.proofs.branched.search_branches.Goals as goal

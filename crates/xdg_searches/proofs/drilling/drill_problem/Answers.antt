@@ -1,7 +1,7 @@
 use Rattle.std.proofs.Common.{◌∙◌, ap, length, sym}
 use Rattle.xdg_split.proofs.Ending.{done_of, failed_of}
 use Rattle.xdg_inputs.specs.Answers.{meaning_of}
-use Rattle.xdg_listing.specs.declared.Ending.TheVariants as endings
+use Rattle.xdg_facts.specs.declared.Ending.TheVariants as endings
 use Rattle.xdg_searches.proofs.Drilled.{drilled_ends, drilled_front}
 use Rattle.xdg_searches.proofs.drilling.drill_problem.Goals as goal
 

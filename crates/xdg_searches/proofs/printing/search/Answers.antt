@@ -1,7 +1,7 @@
 use Rattle.std.proofs.Common.{subst}
 use Rattle.std.specs.Option.{option_copied}
 use Rattle.xdg_split.specs.Written.{WritesWhole}
-use Rattle.xdg_listing.specs.declared.Ending.TheVariants as endings
+use Rattle.xdg_facts.specs.declared.Ending.TheVariants as endings
 use Rattle.xdg_stream.specs.Streamed.{start_vector}
 use Rattle.xdg_searches.specs.Outcomes.{form_of}
 use Rattle.xdg_searches.proofs.SearchLeaves.{searched_ends, searched_front}

@@ -1,6 +1,6 @@
 use Rattle.std.proofs.Common.{◌+◌, ◌++◌, [], ◌∷◌, arith, length, length-append, ◌∙◌, subst, sym}
 use Rattle.xdg_io.specs.Held.{Appends, AppendsFront}
-use Rattle.xdg_listing.specs.declared.Ending.TheVariants as endings
+use Rattle.xdg_facts.specs.declared.Ending.TheVariants as endings
 use Rattle.xdg_text.specs.Lines.{complete_line, spent_line, first_line}
 use Rattle.xdg_split.specs.Printed as printed
 use Rattle.xdg_split.proofs.FoundSoFar.{analysis_is, complete_answered, counted_more, first_answered, found_answered, found_more, is_wanted, not_wanted, spent_answered, up_to, written_more}

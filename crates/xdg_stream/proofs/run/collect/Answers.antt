@@ -1,6 +1,6 @@
 use Rattle.std.proofs.Common.{◌++◌, ◌∷◌, [], arith, length, refl, ap, sym, ◌∙◌, subst, length-append}
-use Rattle.xdg_listing.specs.Endings.{IsBelow}
-use Rattle.xdg_listing.proofs.Fitting.{fits_length}
+use Rattle.xdg_facts.specs.Endings.{IsBelow}
+use Rattle.xdg_facts.proofs.Fitting.{fits_length}
 use Rattle.xdg_stream.specs.Progress.{Progress}
 use Rattle.xdg_stream.specs.Vectors.{vectors}
 use Rattle.xdg_stream.proofs.Progressing.{progress_found, progress_end, progress_spent}

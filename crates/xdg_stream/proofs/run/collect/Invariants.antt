@@ -1,6 +1,6 @@
 use Rattle.std.proofs.Common.{◌≡◌, ◌-◌, length, None}
 use Rattle.std.specs.Vec.{vec_capacity}
-use Rattle.xdg_listing.specs.Endings.{IsUpTo}
+use Rattle.xdg_facts.specs.Endings.{IsUpTo}
 use Rattle.xdg_stream.specs.Lawful.{IsLawful}
 use Rattle.xdg_stream.specs.Progress.{Progress}
 use Rattle.xdg_stream.specs.Vectors.{vectors}

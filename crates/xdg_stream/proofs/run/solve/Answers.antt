@@ -1,9 +1,9 @@
-use Rattle.xdg_listing.specs.Answered.{Answered}
+use Rattle.xdg_facts.specs.Answered.{Answered}
 use Rattle.xdg_stream.specs.Vectors.{vectors}
 use Rattle.xdg_stream.specs.declared.run.Outcome.{Outcome}
 use Rattle.xdg_stream.proofs.Ended.{outcome_of}
 use Rattle.xdg_stream.proofs.run.solve.Goals as goal
-use Rattle.xdg_listing.proofs.Options.{if_ok}
+use Rattle.xdg_facts.proofs.Options.{if_ok}
 
 pub returns : goal.returns
 returns g c =

@@ -1,5 +1,5 @@
 use Rattle.std.proofs.Common.{get_or, arith, refl, sym, subst, ◌∙◌, ◌++◌, ◌∷◌, []}
-use Rattle.xdg_listing.specs.Fits.{Fits}
+use Rattle.xdg_facts.specs.Fits.{Fits}
 use Rattle.xdg_stream.proofs.Same.{same_then}
 use Rattle.xdg_stream.proofs.Steps.{taken_stands}
 use Rattle.xdg_stream.proofs.StartPushed.{start_fits, start_more, start_refused, start_done, start_range}

@@ -8,7 +8,7 @@ use Rattle.xdg_lexicon.specs.Weights.{heavy, sized}
 use Rattle.xdg_lexicon.proofs.Framed.{pushed, joins_told, all_joined, next_joined}
 use Rattle.xdg_lexicon.proofs.Weighed.{joining_goes}
 use Rattle.xdg_lexicon.proofs.frames.Walk.join.Goals as goal
-use Rattle.xdg_listing.proofs.Options.{if_ok}
+use Rattle.xdg_facts.proofs.Options.{if_ok}
 
 pub join_all-requires-clause-first : goal.join_all-requires-clause-first
 join_all-requires-clause-first c =

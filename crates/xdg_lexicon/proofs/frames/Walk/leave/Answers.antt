@@ -4,7 +4,7 @@ use Rattle.xdg_lexicon.specs.Frames.{Leaves}
 use Rattle.xdg_lexicon.specs.Weights.{heavy}
 use Rattle.xdg_lexicon.proofs.Framed.{popped}
 use Rattle.xdg_lexicon.proofs.frames.Walk.leave.Goals as goal
-use Rattle.xdg_listing.proofs.Options.{if_ok}
+use Rattle.xdg_facts.proofs.Options.{if_ok}
 
 pub list-requires : goal.list-requires
 list-requires c =

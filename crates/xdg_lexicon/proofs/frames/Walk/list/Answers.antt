@@ -7,7 +7,7 @@ use Rattle.xdg_lexicon.specs.Weights.{heavy, sized}
 use Rattle.xdg_lexicon.proofs.Framed.{pushed, all_listed, next_listed}
 use Rattle.xdg_lexicon.proofs.Weighed.{listing_goes}
 use Rattle.xdg_lexicon.proofs.frames.Walk.list.Goals as goal
-use Rattle.xdg_listing.proofs.Options.{if_ok}
+use Rattle.xdg_facts.proofs.Options.{if_ok}
 
 pub overflow_add-next : goal.overflow_add-next
 overflow_add-next c =

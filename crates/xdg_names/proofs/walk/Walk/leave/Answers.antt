@@ -3,7 +3,7 @@ use Rattle.xdg_names.specs.Leads.{number}
 use Rattle.xdg_names.specs.Walks.{IsWalking, Closes}
 use Rattle.xdg_names.proofs.Leaving.{last_on, next_fits, has_start, passed, closed, closed_stays}
 use Rattle.xdg_names.proofs.walk.Walk.leave.Goals as goal
-use Rattle.xdg_listing.proofs.Lists.{empty_list}
+use Rattle.xdg_facts.proofs.Lists.{empty_list}
 
 pub close-requires-clause-most : goal.close-requires-clause-most
 close-requires-clause-most c =

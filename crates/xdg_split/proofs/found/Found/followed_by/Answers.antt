@@ -1,4 +1,4 @@
-use Rattle.xdg_listing.specs.declared.Ending.TheVariants as endings
+use Rattle.xdg_facts.specs.declared.Ending.TheVariants as endings
 use Rattle.xdg_split.proofs.Together.{joins_cut, joins_stopped, not_complete}
 use Rattle.xdg_split.proofs.found.Found.followed_by.Goals as goal
 

@@ -1,6 +1,6 @@
 use Rattle.std.proofs.Common.{◌≡◌, ◌-◌, ◌∷◌, ◌++◌, [], arith, length, length-append, take, drop, refl, ap, sym, subst, ◌∙◌}
-use Rattle.xdg_listing.specs.Fits.{Fits}
-use Rattle.xdg_listing.proofs.Fitting.{fits_length}
+use Rattle.xdg_facts.specs.Fits.{Fits}
+use Rattle.xdg_facts.proofs.Fitting.{fits_length}
 use Rattle.xdg_stream.specs.Place.{Stands}
 use Rattle.xdg_stream.proofs.Passing.{next_first}
 use Rattle.xdg_stream.proofs.Same.{same_then}

@@ -1,7 +1,7 @@
 use Rattle.std.proofs.Common.{◌∙◌, ap, refl, subst, sym}
 use Rattle.std.specs.Option.{is_some}
 use Rattle.std.specs.Vec.{vec_capacity}
-use Rattle.xdg_listing.specs.Closed.{NoneAfter, SomeAfter}
+use Rattle.xdg_facts.specs.Closed.{NoneAfter, SomeAfter}
 use Rattle.xdg_problem.specs.Vectors.{shape}
 use Rattle.xdg_rules.specs.Boxed.{Boxed}
 use Rattle.xdg_stream.specs.declared.search.Step.TheVariants as steps

@@ -5,13 +5,13 @@ use Rattle.std.proofs.lemmas.Bool.Decides.{eqb_tells}
 use Rattle.std.specs.Prelude.{filter, nat_eq, cond}
 use Rattle.std.specs.List.{AllByRecursion}
 use Rattle.std.proofs.lemmas.List.Elements.{filter-append}
-use Rattle.xdg_listing.specs.Order.{Less}
-use Rattle.xdg_listing.specs.Fits.{Fits}
-use Rattle.xdg_listing.specs.Listing.{Member, RisesFrom, IsListing}
-use Rattle.xdg_listing.specs.Whole.{Whole, is_whole}
-use Rattle.xdg_listing.specs.Endings.{WholeListed}
-use Rattle.xdg_listing.proofs.Ordered.{less_transitive}
-use Rattle.xdg_listing.proofs.Unique.{listing_unique}
+use Rattle.xdg_facts.specs.Order.{Less}
+use Rattle.xdg_facts.specs.Fits.{Fits}
+use Rattle.xdg_facts.specs.Listing.{Member, RisesFrom, IsListing}
+use Rattle.xdg_facts.specs.Whole.{Whole, is_whole}
+use Rattle.xdg_facts.specs.Endings.{WholeListed}
+use Rattle.xdg_facts.proofs.Ordered.{less_transitive}
+use Rattle.xdg_facts.proofs.Unique.{listing_unique}
 
 above_cond : (a x : List ℕ) (b : Bool) (xs : List (List ℕ)) → Less a x → RisesFrom x xs → RisesFrom a (cond b (x ∷ xs) xs)
 above_cond a x true xs l r = (l, r)

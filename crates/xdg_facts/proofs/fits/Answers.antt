@@ -1,8 +1,8 @@
 use Rattle.std.proofs.Common.{arith, refl}
-use Rattle.xdg_listing.proofs.Exists.{one_listing}
-use Rattle.xdg_listing.proofs.Fitting.{fits_length}
-use Rattle.xdg_listing.proofs.Compared.{fits_of, fits_at}
-use Rattle.xdg_listing.proofs.fits.Goals as goal
+use Rattle.xdg_facts.proofs.Exists.{one_listing}
+use Rattle.xdg_facts.proofs.Fitting.{fits_length}
+use Rattle.xdg_facts.proofs.Compared.{fits_of, fits_at}
+use Rattle.xdg_facts.proofs.fits.Goals as goal
 
 pub returns-then-numbers-shape-clause-exact : goal.returns-then-numbers-shape-clause-exact
 returns-then-numbers-shape-clause-exact c = (λ e. absurd (cc), λ f. (let h = fits_length _ _ f in absurd (omega (arith, h))))

@@ -1,7 +1,7 @@
 -- Predicates that survive shortening, and having nothing left.
 use Rattle.std.specs.Prelude.{ℕ, ◌<◌, List, ◌++◌, length}
-use Rattle.xdg_listing.specs.Order.{Less}
-use Rattle.xdg_listing.specs.Fits.{Fits}
+use Rattle.xdg_facts.specs.Order.{Less}
+use Rattle.xdg_facts.specs.Fits.{Fits}
 
 -- each front, the empty one aside, of a list that satisfies P satisfies it
 abbrev pub Closed : (List ℕ → Type 0) → Type 0

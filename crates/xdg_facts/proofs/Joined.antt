@@ -1,14 +1,14 @@
 -- What has been listed up to a prefix: segments join, and a whole listing begins with what has been listed.
 use Rattle.std.proofs.Common.{◌≡◌, ℕ, inl, inr, List, [], ◌∷◌, ◌++◌, refl, sym, subst}
 use Rattle.std.specs.List.{AllByRecursion}
-use Rattle.xdg_listing.specs.Order.{Less, AtMost}
-use Rattle.xdg_listing.specs.Fits.{Fits}
-use Rattle.xdg_listing.specs.Listing.{RisesFrom, IsListing, SoFar}
-use Rattle.xdg_listing.specs.Closed.{NoneAfter}
-use Rattle.xdg_listing.proofs.Ordered.{less_irreflexive, less_transitive, at_most_less, at_most_of, not_less, less_or}
-use Rattle.xdg_listing.proofs.Unique.{rises_above, listing_tail}
-use Rattle.xdg_listing.proofs.Exists.{each_weaker, member_left, member_right}
-use Rattle.xdg_listing.proofs.Lists.{each_append}
+use Rattle.xdg_facts.specs.Order.{Less, AtMost}
+use Rattle.xdg_facts.specs.Fits.{Fits}
+use Rattle.xdg_facts.specs.Listing.{RisesFrom, IsListing, SoFar}
+use Rattle.xdg_facts.specs.Closed.{NoneAfter}
+use Rattle.xdg_facts.proofs.Ordered.{less_irreflexive, less_transitive, at_most_less, at_most_of, not_less, less_or}
+use Rattle.xdg_facts.proofs.Unique.{rises_above, listing_tail}
+use Rattle.xdg_facts.proofs.Exists.{each_weaker, member_left, member_right}
+use Rattle.xdg_facts.proofs.Lists.{each_append}
 
 not_after : (x p q : List ℕ) → AtMost p q → (Less p x → ⊥) → Less q x → ⊥
 not_after x p q k n l = n (at_most_less p q x k l)

@@ -3,11 +3,11 @@ use Rattle.std.proofs.Common.{◌≡◌, ℕ, ◌<◌, ◌≤◌, ◌⊎◌, inl
 use Rattle.std.specs.Prelude.{filter, Option}
 use Rattle.std.proofs.lemmas.List.{take-append-drop, take_all}
 use Rattle.std.proofs.lemmas.List.Elements.{filter-append}
-use Rattle.xdg_listing.specs.Whole.{is_whole, reach}
-use Rattle.xdg_listing.specs.Endings.{IsBelow, IsAt, IsEnding, OneEnding}
-use Rattle.xdg_listing.specs.declared.Ending.{Ending}
-use Rattle.xdg_listing.specs.declared.Ending.TheVariants as endings
-use Rattle.xdg_listing.proofs.Ordered.{three_cases}
+use Rattle.xdg_facts.specs.Whole.{is_whole, reach}
+use Rattle.xdg_facts.specs.Endings.{IsBelow, IsAt, IsEnding, OneEnding}
+use Rattle.xdg_facts.specs.declared.Ending.{Ending}
+use Rattle.xdg_facts.specs.declared.Ending.TheVariants as endings
+use Rattle.xdg_facts.proofs.Ordered.{three_cases}
 
 -- the budget reaches no more whole vectors than there are
 reach_bound : (shape : List ℕ) (b : ℕ) (counted : List (List ℕ)) → reach shape b counted ≤ length (filter (is_whole shape) counted)

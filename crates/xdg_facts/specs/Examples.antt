@@ -1,9 +1,9 @@
 -- The definitions at a small shape, worked out by hand: two decisions of two values, where [0, 0] alone is not counted.
 use Rattle.std.specs.Prelude.{◌≡◌, ℕ, List, [], ◌∷◌, filter, refl}
 use Rattle.std.proofs.Common.{inl, inr, lit<}
-use Rattle.xdg_listing.specs.Listing.{RisesFrom}
-use Rattle.xdg_listing.specs.Prefixes.{prefixes}
-use Rattle.xdg_listing.specs.Whole.{reach, is_whole}
+use Rattle.xdg_facts.specs.Listing.{RisesFrom}
+use Rattle.xdg_facts.specs.Prefixes.{prefixes}
+use Rattle.xdg_facts.specs.Whole.{reach, is_whole}
 
 -- the shape
 abbrev pub shape : List ℕ

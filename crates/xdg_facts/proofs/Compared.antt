@@ -6,9 +6,9 @@ use Rattle.std.specs.declared.cmp.Ordering.{Ordering}
 use Rattle.std.specs.declared.cmp.Ordering.TheVariants as orderings
 use Rattle.std.specs.Ordering.{nat_cmp}
 use Rattle.std.specs.Cmp.Lexicographic.{slice_cmp}
-use Rattle.xdg_listing.specs.Order.{Less}
-use Rattle.xdg_listing.specs.Fits.{Fits}
-use Rattle.xdg_listing.proofs.Ordered.{less_irreflexive, less_transitive, three_cases}
+use Rattle.xdg_facts.specs.Order.{Less}
+use Rattle.xdg_facts.specs.Fits.{Fits}
+use Rattle.xdg_facts.proofs.Ordered.{less_irreflexive, less_transitive, three_cases}
 
 number_less : (a b : ℕ) → a < b → nat_cmp a b ≡ orderings.Less
 number_less a b h = rw (lt-ltb a b h) refl

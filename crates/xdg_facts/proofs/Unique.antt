@@ -1,8 +1,8 @@
 -- A predicate has at most one listing.
 use Rattle.std.proofs.Common.{◌≡◌, ℕ, inl, inr, List, [], ◌∷◌, refl, sym, subst}
-use Rattle.xdg_listing.specs.Order.{Less}
-use Rattle.xdg_listing.specs.Listing.{Member, RisesFrom, IsListing}
-use Rattle.xdg_listing.proofs.Ordered.{less_irreflexive, less_transitive}
+use Rattle.xdg_facts.specs.Order.{Less}
+use Rattle.xdg_facts.specs.Listing.{Member, RisesFrom, IsListing}
+use Rattle.xdg_facts.proofs.Ordered.{less_irreflexive, less_transitive}
 
 -- a member of a rising list comes after its start
 pub rises_above : (a x : List ℕ) (xs : List (List ℕ)) → RisesFrom a xs → Member xs x → Less a x

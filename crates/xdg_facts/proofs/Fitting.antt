@@ -1,7 +1,7 @@
 -- Which lists go with a shape: fronts, further numbers, and numbers that are out of range.
 use Rattle.std.proofs.Common.{◌≡◌, ℕ, ◌<◌, ◌≤◌, inl, inr, List, [], ◌∷◌, ◌++◌, length, get_or, arith}
-use Rattle.xdg_listing.specs.Order.{AtMost, Past}
-use Rattle.xdg_listing.specs.Fits.{Fits}
+use Rattle.xdg_facts.specs.Order.{AtMost, Past}
+use Rattle.xdg_facts.specs.Fits.{Fits}
 
 pub fits_push : (shape p : List ℕ) (v : ℕ) → Fits shape p → v < get_or shape (length p) 0 → Fits shape (p ++ v ∷ [])
 fits_push [] [] v f h = omega arith

@@ -1,12 +1,12 @@
 -- What a run over a problem has answered, from its start on, by its ending.
 use Rattle.std.specs.Prelude.{◌≡◌, ℕ, ◌≤◌, List, length, filter, Option}
-use Rattle.xdg_listing.specs.Order.{AtMost}
-use Rattle.xdg_listing.specs.Listing.{IsListing, SoFar}
-use Rattle.xdg_listing.specs.Whole.{is_whole}
-use Rattle.xdg_listing.specs.Closed.{NoneAfter, SomeAfter}
-use Rattle.xdg_listing.specs.Endings.{IsBelow, IsAt}
-use Rattle.xdg_listing.specs.declared.Ending.{Ending}
-use Rattle.xdg_listing.specs.declared.Ending.TheVariants as endings
+use Rattle.xdg_facts.specs.Order.{AtMost}
+use Rattle.xdg_facts.specs.Listing.{IsListing, SoFar}
+use Rattle.xdg_facts.specs.Whole.{is_whole}
+use Rattle.xdg_facts.specs.Closed.{NoneAfter, SomeAfter}
+use Rattle.xdg_facts.specs.Endings.{IsBelow, IsAt}
+use Rattle.xdg_facts.specs.declared.Ending.{Ending}
+use Rattle.xdg_facts.specs.declared.Ending.TheVariants as endings
 
 -- n counted prefixes come after the start and not after `to`, and the answers are the whole ones among them
 pub record Drawn (shape : List ℕ) (P : List ℕ → Type 0) (start to : List ℕ) (n : ℕ) (answers : List (List ℕ)) : Type 0 where

@@ -3,18 +3,18 @@ use Rattle.std.proofs.Common.{◌≡◌, ℕ, ◌<◌, ◌≤◌, ◌+◌, ◌-�
 use Rattle.std.specs.Prelude.{filter, Option}
 use Rattle.std.proofs.lemmas.List.Elements.{filter-append}
 use Rattle.std.proofs.Math.Seq.{take-append_seam, take-append-add, take-length}
-use Rattle.xdg_listing.specs.Order.{AtMost}
-use Rattle.xdg_listing.specs.Listing.{Member, IsListing}
-use Rattle.xdg_listing.specs.Whole.{Whole, is_whole, reach}
-use Rattle.xdg_listing.specs.Passed.{Charges, Finds}
-use Rattle.xdg_listing.specs.Answered.{Drawn, Answered}
-use Rattle.xdg_listing.specs.Endings.{IsEnding}
-use Rattle.xdg_listing.specs.declared.Ending.{Ending}
-use Rattle.xdg_listing.specs.declared.Ending.TheVariants as endings
-use Rattle.xdg_listing.proofs.Ordered.{at_most_transitive}
-use Rattle.xdg_listing.proofs.Unique.{listing_unique}
-use Rattle.xdg_listing.proofs.Wholes.{whole_unique, filter_whole}
-use Rattle.xdg_listing.proofs.Joined.{so_far_none, so_far_split, so_far_end, listings_join}
+use Rattle.xdg_facts.specs.Order.{AtMost}
+use Rattle.xdg_facts.specs.Listing.{Member, IsListing}
+use Rattle.xdg_facts.specs.Whole.{Whole, is_whole, reach}
+use Rattle.xdg_facts.specs.Passed.{Charges, Finds}
+use Rattle.xdg_facts.specs.Answered.{Drawn, Answered}
+use Rattle.xdg_facts.specs.Endings.{IsEnding}
+use Rattle.xdg_facts.specs.declared.Ending.{Ending}
+use Rattle.xdg_facts.specs.declared.Ending.TheVariants as endings
+use Rattle.xdg_facts.proofs.Ordered.{at_most_transitive}
+use Rattle.xdg_facts.proofs.Unique.{listing_unique}
+use Rattle.xdg_facts.proofs.Wholes.{whole_unique, filter_whole}
+use Rattle.xdg_facts.proofs.Joined.{so_far_none, so_far_split, so_far_end, listings_join}
 
 pub drawn_none : (shape : List ℕ) (P : List ℕ → Type 0) (start : List ℕ) (n : ℕ) → n ≡ 0 → Drawn shape P start start n []
 drawn_none shape P start n z = record { passed = []; forward = inl refl; listing = so_far_none shape P start; count = sym z; drawn = refl }

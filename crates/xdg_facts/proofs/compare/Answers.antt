@@ -1,7 +1,7 @@
 use Rattle.std.proofs.Common.{subst, sym}
-use Rattle.xdg_listing.proofs.Ordered.{less_order}
-use Rattle.xdg_listing.proofs.Compared.{Tells, compared, tells_less, tells_equal, tells_greater}
-use Rattle.xdg_listing.proofs.compare.Goals as goal
+use Rattle.xdg_facts.proofs.Ordered.{less_order}
+use Rattle.xdg_facts.proofs.Compared.{Tells, compared, tells_less, tells_equal, tells_greater}
+use Rattle.xdg_facts.proofs.compare.Goals as goal
 
 pub returns-clause-less : goal.returns-clause-less
 returns-clause-less c = tells_less _ _ _ (subst (λ o. Tells o c.args.first.now c.args.second.now) (sym c.cmp.ensures) (compared c.args.first.now c.args.second.now))

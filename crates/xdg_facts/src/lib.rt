@@ -1,4 +1,6 @@
-//! Lists of numbers in one strict order, and the list of all that satisfy a predicate.
+//! Facts that name nothing of the product: lists of numbers in one strict order, and the list of all that satisfy a predicate.
+//!
+//! Lemmas on lists, options, texts, bits, numbers and truth values stand in proofs/, by topic, for all crates.
 //!
 //! A search goes through the prefixes of vectors of numbers, one number for each decision. What it has to answer is said
 //! here once, of lists alone: the order, the rising list of all that is counted, the whole vectors among them, and the
@@ -6,10 +8,10 @@
 #![tactic(auto)]
 
 ghost use Rattle.std.specs.Prelude.{◌≡◌, ◌↔◌, ℕ, Bool, true, List, IsTrue};
-ghost use Rattle.xdg_listing.specs.Order.{Less, IsStrictOrder};
-ghost use Rattle.xdg_listing.specs.Fits.{Fits};
-ghost use Rattle.xdg_listing.specs.Listing.{HasOneListing};
-ghost use Rattle.xdg_listing.specs.Endings.{OneEnding, WholeListed};
+ghost use Rattle.xdg_facts.specs.Order.{Less, IsStrictOrder};
+ghost use Rattle.xdg_facts.specs.Fits.{Fits};
+ghost use Rattle.xdg_facts.specs.Listing.{HasOneListing};
+ghost use Rattle.xdg_facts.specs.Endings.{OneEnding, WholeListed};
 
 use std::cmp::Ordering;
 

@@ -1,8 +1,8 @@
 -- The list, in rising order, of all that satisfy a predicate.
 use Rattle.std.specs.Prelude.{◌≡◌, ℕ, ◌⊎◌, List, [], ◌∷◌}
 use Rattle.std.specs.List.{AllByRecursion}
-use Rattle.xdg_listing.specs.Order.{Less}
-use Rattle.xdg_listing.specs.Fits.{Fits}
+use Rattle.xdg_facts.specs.Order.{Less}
+use Rattle.xdg_facts.specs.Fits.{Fits}
 
 -- x stands in the list
 abbrev pub Member : List (List ℕ) → List ℕ → Type 0

@@ -1,6 +1,6 @@
 -- The order is strict and total, and how it goes with extensions.
 use Rattle.std.proofs.Common.{◌≡◌, ℕ, ◌<◌, ◌+◌, ◌⊎◌, inl, inr, List, [], ◌∷◌, ◌++◌, refl, ap, sym, ◌∙◌, arith, subst, zero, suc}
-use Rattle.xdg_listing.specs.Order.{Less, AtMost, Past, IsStrictOrder}
+use Rattle.xdg_facts.specs.Order.{Less, AtMost, Past, IsStrictOrder}
 
 pub less_irreflexive : (x : List ℕ) → Less x x → ⊥
 less_irreflexive [] h = h

@@ -1,7 +1,7 @@
 -- What a search passes on its way from one prefix to another.
 use Rattle.std.specs.Prelude.{◌≡◌, ℕ, ◌+◌, List, [], ◌∷◌, ◌++◌, length, filter}
-use Rattle.xdg_listing.specs.Listing.{IsListing, SoFar}
-use Rattle.xdg_listing.specs.Whole.{is_whole}
+use Rattle.xdg_facts.specs.Listing.{IsListing, SoFar}
+use Rattle.xdg_facts.specs.Whole.{is_whole}
 
 -- n counted prefixes come after `from` and not after `to`, and none of them is whole
 pub record Charges (shape : List ℕ) (P : List ℕ → Type 0) (from to : List ℕ) (n : ℕ) : Type 0 where

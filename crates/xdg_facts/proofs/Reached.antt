@@ -1,13 +1,13 @@
 -- What has been listed when a search is about to look at c: all that it counts before c. No listing of all is assumed.
 use Rattle.std.proofs.Common.{◌≡◌, ℕ, ◌<◌, ◌+◌, inl, inr, List, [], ◌∷◌, ◌++◌, length, refl, sym, subst}
 use Rattle.std.specs.List.{AllByRecursion}
-use Rattle.xdg_listing.specs.Order.{Less, AtMost}
-use Rattle.xdg_listing.specs.Fits.{Fits}
-use Rattle.xdg_listing.specs.Listing.{Member, RisesFrom, IsListing, SoFar, Before}
-use Rattle.xdg_listing.specs.Closed.{Closed}
-use Rattle.xdg_listing.proofs.Ordered.{less_transitive, at_most_less, less_at_most, not_less, less_or, at_most_of, zero_next, less_push, past_step, extends_or_past}
-use Rattle.xdg_listing.proofs.Exists.{rises_append, each_weaker, member_left, member_right}
-use Rattle.xdg_listing.proofs.Lists.{each_append}
+use Rattle.xdg_facts.specs.Order.{Less, AtMost}
+use Rattle.xdg_facts.specs.Fits.{Fits}
+use Rattle.xdg_facts.specs.Listing.{Member, RisesFrom, IsListing, SoFar, Before}
+use Rattle.xdg_facts.specs.Closed.{Closed}
+use Rattle.xdg_facts.proofs.Ordered.{less_transitive, at_most_less, less_at_most, not_less, less_or, at_most_of, zero_next, less_push, past_step, extends_or_past}
+use Rattle.xdg_facts.proofs.Exists.{rises_append, each_weaker, member_left, member_right}
+use Rattle.xdg_facts.proofs.Lists.{each_append}
 
 -- a later candidate, where nothing that is counted lies between
 pub before_later : (shape : List ℕ) (P : List ℕ → Type 0) (start c d : List ℕ) (xs : List (List ℕ)) → Less c d → ((x : List ℕ) → Fits shape x → P x → AtMost c x → AtMost d x) → IsListing shape (Before P c) start xs → IsListing shape (Before P d) start xs

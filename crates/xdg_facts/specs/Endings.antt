@@ -1,9 +1,9 @@
 -- The three ways in which answers can end: m of them, for a budget b and a wanted number n, where there is one.
 use Rattle.std.specs.Prelude.{◌≡◌, ℕ, ◌<◌, ◌≤◌, Bool, true, List, length, filter, Option, Some, None}
-use Rattle.xdg_listing.specs.Listing.{IsListing}
-use Rattle.xdg_listing.specs.Whole.{Whole, is_whole, reach}
-use Rattle.xdg_listing.specs.declared.Ending.{Ending}
-use Rattle.xdg_listing.specs.declared.Ending.TheVariants as endings
+use Rattle.xdg_facts.specs.Listing.{IsListing}
+use Rattle.xdg_facts.specs.Whole.{Whole, is_whole, reach}
+use Rattle.xdg_facts.specs.declared.Ending.{Ending}
+use Rattle.xdg_facts.specs.declared.Ending.TheVariants as endings
 
 -- no number is wanted, or m is below it
 abbrev pub IsBelow : ℕ → Option ℕ → Type 0

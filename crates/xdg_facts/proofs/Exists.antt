@@ -3,15 +3,15 @@ use Rattle.std.proofs.Common.{◌≡◌, ℕ, ◌<◌, ◌≤◌, ◌+◌, ◌�
 use Rattle.std.specs.Prelude.{filter, ◌↔◌}
 use Rattle.std.specs.List.{AllByRecursion}
 use Rattle.std.proofs.lemmas.Bool.{cases_eq, cases_lt}
-use Rattle.xdg_listing.specs.Order.{Less}
-use Rattle.xdg_listing.specs.Fits.{Fits}
-use Rattle.xdg_listing.specs.Listing.{Member, RisesFrom, IsListing, HasOneListing}
-use Rattle.xdg_listing.specs.Prefixes.{from_value, prefixes}
-use Rattle.xdg_listing.proofs.Ordered.{less_or, not_less, some_above}
-use Rattle.xdg_listing.proofs.Unique.{listing_unique}
-use Rattle.xdg_listing.proofs.Wholes.{filter_rises, filter_each, filter_member}
-use Rattle.xdg_listing.proofs.Truths.{either}
-use Rattle.xdg_listing.proofs.Lists.{each_append}
+use Rattle.xdg_facts.specs.Order.{Less}
+use Rattle.xdg_facts.specs.Fits.{Fits}
+use Rattle.xdg_facts.specs.Listing.{Member, RisesFrom, IsListing, HasOneListing}
+use Rattle.xdg_facts.specs.Prefixes.{from_value, prefixes}
+use Rattle.xdg_facts.proofs.Ordered.{less_or, not_less, some_above}
+use Rattle.xdg_facts.proofs.Unique.{listing_unique}
+use Rattle.xdg_facts.proofs.Wholes.{filter_rises, filter_each, filter_member}
+use Rattle.xdg_facts.proofs.Truths.{either}
+use Rattle.xdg_facts.proofs.Lists.{each_append}
 
 pub rises_append : (a c : List ℕ) (xs ys : List (List ℕ)) → Less a c → AllByRecursion (λ b. Less b c) xs → ((b : List ℕ) → Less b c → RisesFrom b ys) → RisesFrom a xs → RisesFrom a (xs ++ ys)
 rises_append a c [] ys l h k r = k a l
