@@ -68,7 +68,7 @@ fn print_groups<R: Threads + Sync, K: Sink>(
 }
 
 /// Prints the lines of a text: groups of lines, one after the other. The lines of a group are searched side by side, and their texts are
-/// written in order before the next group begins. A group has 16 lines, and twice as many as the one before, up to 64, where the texts of
+/// written in order before the next group begins. A group has 16 lines, and twice as many as the one before, up to 256, where the texts of
 /// that have no more than 1,048,576 bytes together. So the searches that run at once take memory, and the problems and the texts of one
 /// group. What problems share is made once.
 pub(crate) fn print_lines<R: Threads + Sync, K: Sink>(

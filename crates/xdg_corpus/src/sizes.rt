@@ -10,12 +10,12 @@ use xdg_split::Answer;
 pub(crate) const FEWEST: usize = 16;
 
 /// How many lines are searched side by side at most.
-const MOST: usize = 64;
+const MOST: usize = 256;
 
 /// Up to how many bytes the texts of a group are short together.
 const SHORT: u64 = 1_048_576;
 
-/// How many lines the group behind one of so many lines has at most: twice as many, up to 64, where the texts of that one are short
+/// How many lines the group behind one of so many lines has at most: twice as many, up to 256, where the texts of that one are short
 /// together, and else 16.
 pub(crate) fn next_size(size: usize, answers: &[Answer]) -> usize
     requires { 1 ≤ size }
