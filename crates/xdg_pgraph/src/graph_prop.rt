@@ -18,7 +18,8 @@ ghost use Rattle.xdg_pgraph.specs.Standing.{stands_for};
 ghost use Rattle.xdg_pgraph.specs.Staying.{stays_still};
 ghost use Rattle.xdg_pgraph.specs.Untouched.{AreOthersDone};
 
-use crate::label::{take_dag, take_tree};
+use crate::label::{take_dag, take_others, take_tree};
+use crate::lasting::are_musts_done;
 use crate::plane::{Plane, label_count};
 use crate::valency::take_valency;
 use xdg_base::OutOfMemory;
@@ -73,8 +74,21 @@ fn sweep(store: &mut Store, pass: &mut Pass, parts: &Parts, group: &Group, since
 {
     let plane = Plane::of(parts, group);
     match &group.principle {
-        Principle::Tree => take_tree(store, pass, &plane),
-        Principle::Dag => take_dag(store, pass, &plane, truth_of(group, 0), truth_of(group, 1)),
+        Principle::Tree => {
+            if are_musts_done(store, group, plane.dim, since) {
+                take_others(store, pass, &plane, true);
+                return;
+            }
+            take_tree(store, pass, &plane);
+        }
+        Principle::Dag => {
+            let rooted = truth_of(group, 0);
+            if are_musts_done(store, group, plane.dim, since) {
+                take_others(store, pass, &plane, rooted);
+                return;
+            }
+            take_dag(store, pass, &plane, rooted, truth_of(group, 1));
+        }
         Principle::Valency => {
             let touched = touched_since(store, group, since);
             let labels = label_count(parts, &plane);
