@@ -1,5 +1,5 @@
 -- A whole step.
-use Rattle.std.proofs.Common.{◌≡◌, ◌↔◌, ℕ, ◌<◌, List, length, get_or, sym, ap, ◌∙◌, arith, subst}
+use Rattle.std.proofs.Common.{◌≡◌, ◌↔◌, ℕ, ◌<◌, List, Option, length, get_or, sym, ap, ◌∙◌, arith, subst}
 use Rattle.std.proofs.lemmas.List.{get_or_default}
 use Rattle.xdg_problem.specs.declared.parts.Group.{Group}
 use Rattle.xdg_problem.specs.declared.parts.Parts.{Parts}
@@ -7,6 +7,7 @@ use Rattle.xdg_problem.specs.Problems.{IsGroup}
 use Rattle.xdg_rules.specs.Rules.{IsClosedFor}
 use Rattle.xdg_store.specs.States.{State, Known}
 use Rattle.xdg_propcore.specs.Passes.{Progress, Goes, IsQuiet, Answers, untouched}
+use Rattle.xdg_propcore.specs.Standing.{Held, HeldIf, box_at}
 use Rattle.xdg_propcore.specs.Steps.{Extends, Keeps, Moves}
 use Rattle.xdg_propcore.specs.Uses.{IsClosedBy, StandsFor, StandsIn, use_at, no_use}
 use Rattle.xdg_propcore.specs.declared.moved.Moved.{Moved}
@@ -41,6 +42,16 @@ module _ (number wakes turns : ℕ) (old t : State) (stands : StandsIn (StandsAt
 
     pub rule_known : IsRule group.principle
     rule_known = subst (λ (g : Group). IsRule g.principle) use_is mine.1.rule
+
+    pub held_so : (since : Option ℕ) → HeldIf (λ parts box. IsClosedBy (StandsAt number wakes) parts box) old since → HeldIf (λ parts box. IsClosedFor parts group box) t since
+    held_so since held mark some =
+        let h = held mark some in
+        subst (λ s. Held (λ parts box. IsClosedFor parts group box) s mark) (sym turn_is) (record {
+          within = h.within;
+          is = h.is;
+          inside = h.inside;
+          calm = subst (λ g. IsClosedFor old.parts g (box_at old mark)) use_is (h.calm number mine);
+        })
 
     module _ (start p : Progress) (new : State) (start_is : start ≡ untouched) (sweep : Sweeps group (IsClosedFor t.parts group) start t p new) where
       goes : Goes group untouched (turned old turns) p new

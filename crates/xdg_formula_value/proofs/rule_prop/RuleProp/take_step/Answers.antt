@@ -1,7 +1,7 @@
 use Rattle.std.proofs.Common.{◌+◌}
 use Rattle.std.specs.Prelude.{min}
-use Rattle.xdg_formula_value.proofs.Stepping.{number_within, group_known, rule_known, extends, keeps, moved_so, same_so, turns_so}
-use Rattle.xdg_formula_value.proofs.rule_prop.RulePropPropagator.step.Goals as goal
+use Rattle.xdg_formula_value.proofs.Stepping.{number_within, group_known, rule_known, extends, keeps, moved_so, same_so, turns_so, held_so}
+use Rattle.xdg_formula_value.proofs.rule_prop.RuleProp.take_step.Goals as goal
 
 pub bounds-as_slice-self : goal.bounds-as_slice-self
 bounds-as_slice-self c = number_within c.args.self.now.number c.args.self.now.wakes.0 (min (c.args.store.now.turns + 1) 18446744073709551615) c.args.store.now c.turn.new.self c.requires.stands c.turn.ensures.turns c.turn.ensures.known c.as_slice.result.now c.parts-parts.result.now c.problem.result.now c.as_slice.ensures c.parts-parts.ensures.same c.problem.ensures.parts
@@ -14,6 +14,9 @@ sweep-requires-clause-group c = group_known c.args.self.now.number c.args.self.n
 
 pub sweep-requires-clause-rule : goal.sweep-requires-clause-rule
 sweep-requires-clause-rule c = rule_known c.args.self.now.number c.args.self.now.wakes.0 (min (c.args.store.now.turns + 1) 18446744073709551615) c.args.store.now c.turn.new.self c.requires.stands c.turn.ensures.turns c.turn.ensures.known c.as_slice.result.now c.parts-parts.result.now c.problem.result.now c.as_slice.ensures c.parts-parts.ensures.same c.problem.ensures.parts c.index-as_slice-self.result c.index-as_slice-self.is
+
+pub sweep-requires-clause-held : goal.sweep-requires-clause-held
+sweep-requires-clause-held c = held_so c.args.self.now.number c.args.self.now.wakes.0 (min (c.args.store.now.turns + 1) 18446744073709551615) c.args.store.now c.turn.new.self c.requires.stands c.turn.ensures.turns c.turn.ensures.known c.as_slice.result.now c.parts-parts.result.now c.problem.result.now c.as_slice.ensures c.parts-parts.ensures.same c.problem.ensures.parts c.index-as_slice-self.result c.index-as_slice-self.is c.args.since c.requires.held
 
 pub returns-clause-extends : goal.returns-clause-extends
 returns-clause-extends c = extends c.args.self.now.number c.args.self.now.wakes.0 (min (c.args.store.now.turns + 1) 18446744073709551615) c.args.store.now c.turn.new.self c.requires.stands c.turn.ensures.turns c.turn.ensures.known c.as_slice.result.now c.parts-parts.result.now c.problem.result.now c.as_slice.ensures c.parts-parts.ensures.same c.problem.ensures.parts c.index-as_slice-self.result c.index-as_slice-self.is c.start-pass.result c.sweep.new.pass c.turn.new.self c.start-pass.ensures c.sweep.ensures
