@@ -13,5 +13,5 @@ pub mod Told
 pub mod Ending
 pub mod Kinding
 pub mod Named
-pub mod Stepping
 pub mod Swept
+pub mod Staying

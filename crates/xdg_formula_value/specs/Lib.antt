@@ -3,4 +3,3 @@ pub mod Pairs
 pub mod Filling
 pub mod ClaimKinds
 pub mod Standing
-pub mod Staying

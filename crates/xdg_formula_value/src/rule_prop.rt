@@ -12,13 +12,12 @@ ghost use Rattle.xdg_propcore.specs.Steps.{Extends, Keeps, Moves};
 ghost use Rattle.xdg_propcore.specs.Sweeps.{Sweeps};
 ghost use Rattle.xdg_propcore.specs.Uses.{IsClosedBy, StandsFor, StandsIn, use_at};
 ghost use Rattle.xdg_formula_value.specs.Standing.{HasKindsOf, IsRule, stands_for};
-ghost use Rattle.xdg_formula_value.specs.Staying.{rule_stays};
 
 use crate::kinds::kinds_of;
 use crate::value::is_false;
 use xdg_base::OutOfMemory;
 use xdg_problem::{Group, Parts, Principle, Problem};
-use xdg_propcore::{Moved, Pass, Propagator, Wake};
+use xdg_propcore::{Moved, Pass, Propagator, Wake, use_of};
 use xdg_store::Store;
 
 /// Fails where the formula of a rule is false in the box, and takes nothing else.
@@ -85,14 +84,11 @@ impl Propagator for RuleProp {
 
     fn step(&self, store: &mut Store) -> Moved {
         store.turn();
-        let parts = store.problem().parts();
-        let group = &parts.groups.as_slice()[self.number];
+        let group = use_of(store.problem(), self.number);
         let mut pass = Pass::start();
         sweep(store, &mut pass, group);
         pass.moved()
     }
 
-    ghost still_closed = { λ p parts box problem is still. still };
-
-    ghost stays_still = { rule_stays };
+    fn laws() {}
 }

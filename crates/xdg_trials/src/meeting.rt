@@ -1,7 +1,6 @@
 //! Jobs that wait for one another in a step of a propagator, so that they come to their end only side by side.
 
 ghost use Rattle.std.specs.Prelude.{⊤, ◌≡◌, [], ◌∷◌, IfOk};
-ghost use Rattle.xdg_trials.specs.Graphs.{graph_closed};
 ghost use Rattle.xdg_trials.specs.Alone.{IsGraph, alone, graph_use, job, pair, plan};
 
 use std::alloc::{AllocError, Global};
@@ -54,9 +53,7 @@ impl Propagator for Meets<'_> {
         Moved::Same
     }
 
-    ghost still_closed = { λ p parts box problem is still. graph_closed parts box };
-
-    ghost stays_still = { λ p parts number old new problem mine is more inside none still. still };
+    fn laws() {}
 }
 
 fn one<T: Drop>(alloc: Global, item: T) -> Result<List<T>, AllocError>
