@@ -3,21 +3,23 @@
 
     python3 bench/rules.py PROGRAM [--only NAME ..] [--runs N] [--seconds S]
 
-PROGRAM, which is not the script ./xdg, runs `parse --first 1` on a sentence of 16 words and on one of 128, without a rule and with each rule of a table, N times each. There are two
-grammars: in `chain` all is decided before a choice is made, so that a rule is looked at once or twice; in `tree` the search makes a choice for each attribute and each edge, and a rule that names
-them is looked at again behind each. A line has a grammar, a rule, the least processor seconds with 16 words and with 128, how many times as much the second is, the same ratio where what the
-run takes without the rule is taken off both, and the last line that was printed. A run that takes more than S seconds is ended. A run of 16 words is little more than a program's start, so the
-second ratio is rough; only ratios of one run on a machine that is left alone count.
+PROGRAM, which is not the script ./xdg, runs `parse --first 1` on a sentence of 16 words and on one of 128, without a rule and with each rule of a table, N times each. There are three
+grammars: in `chain` all is decided before a choice is made, so that a rule is looked at once or twice; in `tree` the search makes a choice for each attribute and for each edge that the tree
+leaves open, and a rule that names them is looked at again behind each; in `graph` no principle leaves out an edge, so that each of them is a choice. A line has a grammar, a rule, the least
+processor seconds with 16 words and with 128, how many times as much the second is, the same ratio where what the run takes without the rule is taken off both, and the last line that was
+printed. A run that takes more than S seconds is ended. A run of 16 words is little more than a program's start, so the second ratio is rough; only ratios of one run on a machine that is left
+alone count.
 
 The status is 1 where a run of 128 words takes more than 100 times what the one of 16 words takes.
 """
 
-import argparse
 import os
 import pathlib
 import subprocess
 import sys
 import tempfile
+
+import command_line
 
 HEAD = """usedim id usedim lex
 defdim lex {defentrytype {word: string}}
@@ -28,19 +30,24 @@ deflabeltype id.label
 defattrstype {on: id.label num: id.num}
 defentrytype {in: valency(id.label) out: valency(id.label) ons: set(id.label) nums: set(id.num) kinds: set(id.num)}
 useprinciple principle.graph {dims {D: id}}
-useprinciple principle.tree {dims {D: id}}
-useprinciple principle.valency {dims {D: id}}
 useprinciple principle.agr {dims {D: id} args {Agr: on Agrs: ons}}
 useprinciple principle.agr {dims {D: id} args {Agr: num Agrs: nums}}
 """
+TREE = """useprinciple principle.tree {dims {D: id}}
+useprinciple principle.valency {dims {D: id}}
+"""
 GRAMMARS = {
     "chain": HEAD
+    + TREE
     + "useprinciple principle.order {dims {D: id} args {Order: [own next] On: on}}\n}\n"
     + "defentry {dim id {in: {next?} out: {next?} ons: {own} nums: {sg} kinds: {sg}} dim lex {word: w}}\n",
-    "tree": HEAD + "}\ndefentry {dim id {in: {own? next?} out: {own* next*} ons: {own} nums: {sg pl} kinds: {sg}} dim lex {word: w}}\n",
+    "tree": HEAD
+    + TREE
+    + "}\ndefentry {dim id {in: {own? next?} out: {own* next*} ons: {own} nums: {sg pl} kinds: {sg}} dim lex {word: w}}\n",
+    "graph": HEAD + "}\ndefentry {dim id {ons: {own} nums: {sg pl} kinds: {sg}} dim lex {word: w}}\n",
 }
 
-# Each is true of the first analysis in both grammars. The atoms have the innermost name as mother, as daughter and as both.
+# Each is true of the first analysis in `chain` and in `tree`. The atoms have the innermost name as mother, as daughter and as both.
 RULES = {
     "daughter": "all x (all y (all z (!(edge(id x next y) & edge(id y own z)) | edge(id y next z) | above(id x z))))",
     "mother": "all x (all y (all z (!(edge(id y next x) & edge(id z own x)) | same(y z))))",
@@ -95,12 +102,7 @@ def line(grammar, rule, alone, found):
 
 def main():
     """Reads the words, and runs the rules."""
-    words = argparse.ArgumentParser(description=__doc__, formatter_class=argparse.RawDescriptionHelpFormatter)
-    words.add_argument("program", metavar="PROGRAM")
-    words.add_argument("--only", nargs="*", default=[], metavar="NAME")
-    words.add_argument("--runs", type=int, default=5, metavar="N")
-    words.add_argument("--seconds", type=float, default=60, metavar="S")
-    given = words.parse_args()
+    given = command_line.given(__doc__, 5)
     kept = True
     with tempfile.TemporaryDirectory() as name:
         folder = pathlib.Path(name)

@@ -11,12 +11,13 @@ seconds is ended. Run it on a machine that is left alone: only ratios of one run
 The status is 1 where the two print different texts.
 """
 
-import argparse
 import pathlib
 import statistics
 import subprocess
 import sys
 import time
+
+import command_line
 
 PROBLEMS = pathlib.Path(__file__).resolve().parent / "search"
 
@@ -46,12 +47,7 @@ def line(name, runs):
 
 def main():
     """Reads the words, and runs the problems."""
-    words = argparse.ArgumentParser(description=__doc__, formatter_class=argparse.RawDescriptionHelpFormatter)
-    words.add_argument("program", metavar="PROGRAM")
-    words.add_argument("--only", nargs="*", default=[], metavar="NAME")
-    words.add_argument("--runs", type=int, default=3, metavar="N")
-    words.add_argument("--seconds", type=float, default=60, metavar="S")
-    given = words.parse_args()
+    given = command_line.given(__doc__, 3)
     all_same = True
     for problem in (PROBLEMS / "split.tsv").read_text(encoding="utf-8").splitlines():
         name, grammar, sentence, _ = problem.split("\t")

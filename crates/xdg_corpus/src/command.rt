@@ -90,7 +90,7 @@ fn corpus_loaded<R: Threads + Sync, S: Source, K: Sink>(
 }
 
 /// Loads a grammar, and prints the analyses of each line of the input with its number, or its fault line; or prints the fault line of a
-/// grammar or an input that is refused. Lines are searched in groups of 16 to 64, those of a group side by side. The search of each
+/// grammar or an input that is refused. Lines are searched in groups of 16 to 1,024, those of a group side by side. The search of each
 /// line is charged a budget of its own.
 pub fn corpus<R: Threads + Sync, H: Shelf, S: Source, K: Sink>(
     rt: &R,

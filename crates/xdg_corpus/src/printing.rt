@@ -12,7 +12,7 @@ ghost use Rattle.xdg_io.specs.Rose.{Rose};
 ghost use Rattle.xdg_corpus.specs.Runs.{LeavesPart};
 
 use crate::group::take_group;
-use crate::sizes::{FEWEST, next_size};
+use crate::sizes::{FEWEST, bytes_before, next_size};
 use crate::writing::write_group;
 use std::alloc::{AllocError, Global};
 use std::thread::Threads;
@@ -60,7 +60,7 @@ fn print_groups<R: Threads + Sync, K: Sink>(
         if written.is_err() {
             return Status::WriteFault;
         }
-        size = next_size(size, answered.as_slice());
+        size = next_size(size, bytes_before(rest, later), answered.as_slice());
         number += group.sentences.len() as u64;
         rest = later;
     }
@@ -68,9 +68,10 @@ fn print_groups<R: Threads + Sync, K: Sink>(
 }
 
 /// Prints the lines of a text: groups of lines, one after the other. The lines of a group are searched side by side, and their texts are
-/// written in order before the next group begins. A group has 16 lines, and twice as many as the one before, up to 64, where the texts of
-/// that have no more than 1,048,576 bytes together. So the searches that run at once take memory, and the problems and the texts of one
-/// group. What problems share is made once.
+/// written in order before the next group begins. The first group has 16 lines, and each further one twice as many as the one before, up to
+/// 64, or up to 1,024 where the lines of that one have at most 64 bytes on average. Where its texts have more than 1,048,576 bytes together,
+/// the next one has 16 again. So the searches that run at once take memory, and the problems and the texts of one group. What problems
+/// share is made once.
 pub(crate) fn print_lines<R: Threads + Sync, K: Sink>(
     rt: &R,
     alloc: Global,

@@ -9,7 +9,7 @@ ghost use Rattle.xdg_formula.specs.Answers.{Gives, IsAnswer, Tells};
 ghost use Rattle.xdg_formula.specs.Formulas as spec;
 ghost use Rattle.xdg_formula.specs.Tables.{used_dims};
 
-use crate::formulas::check_formula;
+use crate::formula_checking::check_formula;
 use crate::tree::{Rule, Rules};
 use std::alloc::{AllocError, Global};
 use xdg_base::{Cause, Fault, Stop};

@@ -9,7 +9,7 @@ mod atom_names;
 mod atoms;
 mod checking;
 mod faults;
-mod formulas;
+mod formula_checking;
 mod names;
 mod reading;
 mod rules;

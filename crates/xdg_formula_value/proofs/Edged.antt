@@ -1,5 +1,5 @@
 -- An edge that may be, or must be, as what leads from a node to another by a label.
-use Rattle.std.proofs.Common.{◌≡◌, ℕ, ◌<◌, ◌≤◌, ◌↔◌, Bool, List, refl, arith}
+use Rattle.std.proofs.Common.{ℕ, ◌≤◌, ◌↔◌, Bool, List, refl, arith}
 use Rattle.std.specs.Prelude.{Contains}
 use Rattle.xdg_problem.specs.declared.parts.Parts.{Parts}
 use Rattle.xdg_problem.specs.Boxes.{IsBox}

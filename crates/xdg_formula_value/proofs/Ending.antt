@@ -1,5 +1,5 @@
 -- Loops over the values of an attribute that came to their end.
-use Rattle.std.proofs.Common.{◌≡◌, ℕ, ◌<◌, ◌≤◌, ◌∙◌, ap, sym, arith, subst}
+use Rattle.std.proofs.Common.{◌≡◌, ℕ, ◌<◌, ◌≤◌, ◌∙◌, ap, arith}
 use Rattle.xdg_problem.specs.declared.parts.Parts.{Parts}
 use Rattle.xdg_problem.specs.Arguments.{value_count}
 use Rattle.xdg_problem.specs.Boxes.{Has, attr_decision}

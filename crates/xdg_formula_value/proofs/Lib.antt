@@ -15,3 +15,7 @@ pub mod Kinding
 pub mod Named
 pub mod Swept
 pub mod Staying
+pub mod Unmet
+pub mod Finding
+pub mod Under
+pub mod Plains

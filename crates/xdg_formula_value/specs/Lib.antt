@@ -2,4 +2,5 @@ pub mod Rows
 pub mod Pairs
 pub mod Filling
 pub mod ClaimKinds
+pub mod Lost
 pub mod Standing

@@ -4,11 +4,14 @@
 mod atoms;
 mod binding;
 mod kinds;
+mod lost;
 mod pair;
 mod paths;
+mod plain;
 mod possible;
 mod rows;
 mod rule_prop;
+mod since;
 mod value;
 mod way;
 

@@ -24,7 +24,7 @@ use xdg_store::Store;
 
 /// Of some nodes, those for which a name has to stand so that the box makes a formula true, or false.
 #[cycle(rows)]
-fn row_of(
+pub(crate) fn row_of(
     store: &Store,
     paths: &Paths,
     binding: &[u8; 256],
@@ -164,7 +164,13 @@ fn row_of(
 
 /// Whether the box makes a formula true, or false, under a binding of names to nodes.
 #[cycle(whole)]
-fn makes(store: &Store, paths: &Paths, binding: &[u8; 256], formula: &Formula, truth: bool) -> bool
+pub(crate) fn makes(
+    store: &Store,
+    paths: &Paths,
+    binding: &[u8; 256],
+    formula: &Formula,
+    truth: bool,
+) -> bool
     requires paths { ArePaths store.now paths.now }
     requires is_of { IsOf store.now.parts (claim formula.now) }
     requires nodes { AreNodes store.now.parts (stands binding.now) }

@@ -119,7 +119,8 @@ module _ (parts : Parts) (group : Group) (box : List (List Bool)) where
       let both = and_parts (e.daughter.0 == v) (e.label.0 == l) h in
       let below = place.mother in
       and_from ((e.dim.0 == dim) && (e.daughter.0 == v) && (e.label.0 == l)) (nat_le e.mother.0 k)
-      (and_from ((e.dim.0 == dim) && (e.daughter.0 == v)) (e.label.0 == l) (and_from (e.dim.0 == dim) (e.daughter.0 == v) (eq-eqb e.dim.0 dim on) both.0) both.1)
+      (and_from ((e.dim.0 == dim) && (e.daughter.0 == v)) (e.label.0 == l)
+      (and_from (e.dim.0 == dim) (e.daughter.0 == v) (eq-eqb e.dim.0 dim on) both.0) both.1)
       (le-leb e.mother.0 k (omega (arith, below, last))))
       decided.edges (in_row group v c l)
       (λ none. keeps (entry_decision v) c (value_has (entry_decision v) decided.entry)

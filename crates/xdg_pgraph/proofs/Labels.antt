@@ -157,9 +157,7 @@ module _ (dim : ℕ) (a b c e f : Progress) (s t u v w : State) where
 
 -- ---- all rules of a dag
 
--- a rule that isn't asked for
-
--- a rule that is
+-- a rule that is asked for
 pub wanted_runs : (A : Parts → Group → List (List Bool) → ℕ → ℕ → Type 0) (dim : ℕ) (p q : Progress) (s t : State) (wanted : Bool) → wanted ≡ true → RunsFor A dim p s q t → RunsFor (λ parts group box d v. (wanted ≡ true) × A parts group box d v) dim p s q t
 wanted_runs A on_dim p q s t wanted is_wanted a group is on takes = runs_like (A s.parts group) (λ box d v. (wanted ≡ true) × A s.parts group box d v) group p q s t (λ d v x. x.1) (a group is on (λ box d v x. takes box d v (is_wanted, x)))
 

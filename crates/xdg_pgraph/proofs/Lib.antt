@@ -22,6 +22,7 @@ pub mod Single
 pub mod Reached
 pub mod Starting
 pub mod Labels
+pub mod MustsStay
 pub mod Told
 pub mod Skipped
 pub mod Needing

@@ -2,6 +2,7 @@
 use Rattle.std.proofs.Common.{◌≡◌, ℕ, ◌<◌, inl, inr, Bool, true, false, List, refl, sym, ◌∙◌, ap, subst, arith}
 use Rattle.std.specs.Prelude.{Contains}
 use Rattle.xdg_problem.specs.declared.parts.Group.{Group}
+use Rattle.xdg_problem.specs.declared.parts.Parts.{Parts}
 use Rattle.xdg_problem.specs.declared.parts.Principle.{Principle}
 use Rattle.xdg_problem.specs.declared.parts.Principle.TheVariants as principles
 use Rattle.xdg_problem.specs.Arguments.{first_dim, label_count, truth_of}
@@ -10,7 +11,7 @@ use Rattle.xdg_problem.specs.Places.{nodes}
 use Rattle.xdg_problem.specs.Problems.{IsGroup, IsProblem}
 use Rattle.xdg_problem.specs.Vectors.{shape}
 use Rattle.xdg_problem.proofs.PlaceOrder.{is_place}
-use Rattle.xdg_rules.specs.Rules.{IsClosedFor, TakesBy, must_edges}
+use Rattle.xdg_rules.specs.Rules.{IsClosedFor, TakesBy, TakesForRoot, must_edges}
 use Rattle.xdg_rules.proofs.Counting.{label_on}
 use Rattle.xdg_rules.proofs.Shrinking.{may_is, may_of, must_is}
 use Rattle.xdg_store.specs.States.{State, Known}
@@ -20,7 +21,28 @@ use Rattle.xdg_propcore.proofs.Sweeping.{sweeps_skip}
 use Rattle.xdg_pgraph.specs.Bundles.{AreNodesDone, IsLabelDone}
 use Rattle.xdg_pgraph.proofs.Closing.{closed_by_rules}
 use Rattle.xdg_pgraph.specs.Family.{IsOfFamily}
-use Rattle.xdg_pgraph.specs.Ruling.{RunsFor, ByTree, ByDag}
+use Rattle.xdg_pgraph.specs.Musts.{AreMustsDone, ByMusts}
+use Rattle.xdg_pgraph.specs.Ruling.{RunsFor, OthersIf, ByTree, ByDag}
+
+-- ---- where nothing is left to take by the edges that must be, nor by those that may be
+
+module _ (parts : Parts) (group : Group) (box : List (List Bool)) where
+  tree_none : ((d v : ℕ) → Has box d v → ByMusts principles.Tree parts group box d v → ⊥) → ((d v : ℕ) → OthersIf true parts group box d v → Has box d v → ⊥) → (d v : ℕ) → Has box d v → TakesBy principles.Tree parts group box d v → ⊥
+  tree_none musts others d v h (inl r) = musts d v h (inl r)
+  tree_none musts others d v h (inr (inl (inl r))) = musts d v h (inr (inl (inl r)))
+  tree_none musts others d v h (inr (inl (inr (inl r)))) = musts d v h (inr (inl (inr r)))
+  tree_none musts others d v h (inr (inl (inr (inr r)))) = others d v (refl, r) h
+  tree_none musts others d v h (inr (inr r)) = musts d v h (inr (inr r))
+
+  root_none : (rooted : Bool) → truth_of group.truths 0 ≡ true → ((d v : ℕ) → Has box d v → ByMusts principles.Dag parts group box d v → ⊥) → ((d v : ℕ) → OthersIf rooted parts group box d v → Has box d v → ⊥) → rooted ≡ truth_of group.truths 0 → (d v : ℕ) → Has box d v → TakesForRoot parts group box d v → ⊥
+  root_none rooted wanted musts others rooted_is d v h (inl r) = musts d v h (inr (inl (wanted, inl r)))
+  root_none rooted wanted musts others rooted_is d v h (inr (inl r)) = musts d v h (inr (inl (wanted, inr r)))
+  root_none rooted wanted musts others rooted_is d v h (inr (inr r)) = others d v (rooted_is ∙ wanted, r) h
+
+  dag_none : (rooted : Bool) → rooted ≡ truth_of group.truths 0 → ((d v : ℕ) → Has box d v → ByMusts principles.Dag parts group box d v → ⊥) → ((d v : ℕ) → OthersIf rooted parts group box d v → Has box d v → ⊥) → (d v : ℕ) → Has box d v → TakesBy principles.Dag parts group box d v → ⊥
+  dag_none rooted rooted_is musts others d v h (inl r) = musts d v h (inl r)
+  dag_none rooted rooted_is musts others d v h (inr (inl r)) = root_none rooted r.0 musts others rooted_is d v h r.1
+  dag_none rooted rooted_is musts others d v h (inr (inr r)) = musts d v h (inr (inr r))
 
 module _ (group : Group) (p q : Progress) (old new : State) (is : IsGroup old.parts group) (family : IsOfFamily group.principle) (same : new.parts ≡ old.parts) (known : Known new) (dim : ℕ) (on : dim ≡ first_dim group) where
   closes : (principle : Principle) → group.principle ≡ principle → ((d v : ℕ) → Has new.now d v → TakesBy principle old.parts group new.now d v → ⊥) → IsClosedFor old.parts group new.now
@@ -66,6 +88,28 @@ module _ (group : Group) (p q : Progress) (old new : State) (is : IsGroup old.pa
         known = known;
         done = λ quiet. closes principles.Dag principle_is (λ d v h rule. runs.done quiet d v (by_dag rooted disjoint rooted_is disjoint_is new.now d v rule) h);
       }
+
+  -- ---- where the edges that must be are those of before
+
+  module _ (principle : Principle) (principle_is : group.principle ≡ principle) (musts : AreMustsDone old.parts group old.now) where
+    musts_still : new.now ≡ old.now → (d v : ℕ) → Has new.now d v → ByMusts principle old.parts group new.now d v → ⊥
+    musts_still unchanged = subst (λ box. (d v : ℕ) → Has box d v → ByMusts principle old.parts group box d v → ⊥) (sym unchanged) (subst (λ z. (d v : ℕ) → Has old.now d v → ByMusts z old.parts group old.now d v → ⊥) principle_is musts)
+
+    -- the rules that go by the edges that may be were run
+    others_ruled : (rooted : Bool) → ((box : List (List Bool)) (d v : ℕ) → OthersIf rooted old.parts group box d v → TakesBy principle old.parts group box d v) → (((d v : ℕ) → Has new.now d v → ByMusts principle old.parts group new.now d v → ⊥) → ((d v : ℕ) → OthersIf rooted old.parts group new.now d v → Has new.now d v → ⊥) → (d v : ℕ) → Has new.now d v → TakesBy principle old.parts group new.now d v → ⊥) → RunsFor (OthersIf rooted) dim p old q new → Sweeps group (IsClosedFor old.parts group) p old q new
+    others_ruled rooted takes none c =
+        let runs = c group is (sym on) (λ box d v rule. inr (subst (λ z. TakesBy z old.parts group box d v) (sym principle_is) (takes box d v rule))) in
+        record {
+          goes = runs.goes;
+          known = known;
+          done = λ quiet. closes principle principle_is (none (musts_still (runs.goes.quiet quiet).1) (runs.done quiet));
+        }
+
+  pub tree_lasts : group.principle ≡ principles.Tree → AreMustsDone old.parts group old.now → RunsFor (OthersIf true) dim p old q new → Sweeps group (IsClosedFor old.parts group) p old q new
+  tree_lasts principle_is musts c = others_ruled principles.Tree principle_is musts true (λ box d v rule. inr (inl (inr (inr rule.1)))) (tree_none old.parts group new.now) c
+
+  pub dag_lasts : (rooted : Bool) → rooted ≡ truth_of group.truths 0 → group.principle ≡ principles.Dag → AreMustsDone old.parts group old.now → RunsFor (OthersIf rooted) dim p old q new → Sweeps group (IsClosedFor old.parts group) p old q new
+  dag_lasts rooted rooted_is principle_is musts c = others_ruled principles.Dag principle_is musts rooted (λ box d v rule. inr (inl (sym rooted_is ∙ rule.0, inr (inr rule.1)))) (dag_none old.parts group new.now rooted rooted_is) c
 
   -- ---- valency
 

@@ -3,6 +3,7 @@ pub mod Seeking
 pub mod Entering
 pub mod Incomings
 pub mod Ruling
+pub mod Musts
 pub mod Bundles
 pub mod Untouched
 pub mod Family

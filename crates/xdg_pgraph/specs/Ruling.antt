@@ -44,6 +44,10 @@ ByTree parts group box d v = TakesBy principles.Tree parts group box d v
 abbrev pub RootIf : Bool → Parts → Group → List (List Bool) → ℕ → ℕ → Type 0
 RootIf wanted parts group box d v = (wanted ≡ true) × TakesForRoot parts group box d v
 
+-- the rules that go by the edges that may be, where they are asked for
+abbrev pub OthersIf : Bool → Parts → Group → List (List Bool) → ℕ → ℕ → Type 0
+OthersIf wanted parts group box d v = (wanted ≡ true) × ForOthers parts group box d v
+
 -- the rule of labels, where it is asked for
 abbrev pub LabelIf : Bool → Parts → Group → List (List Bool) → ℕ → ℕ → Type 0
 LabelIf wanted parts group box d v = (wanted ≡ true) × OneLabel parts group box d v

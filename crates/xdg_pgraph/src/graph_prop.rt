@@ -10,7 +10,8 @@ ghost use Rattle.xdg_propcore.specs.Sweeps.{Sweeps};
 ghost use Rattle.xdg_pgraph.specs.Family.{IsOfFamily};
 ghost use Rattle.xdg_pgraph.specs.Untouched.{AreOthersDone};
 
-use crate::label::{take_dag, take_tree};
+use crate::label::{take_dag, take_others, take_tree};
+use crate::lasting::are_musts_done;
 use crate::plane::{Plane, label_count};
 use crate::valency::take_valency;
 use xdg_graph::{dim_of, truth_of};
@@ -49,8 +50,21 @@ fn take_all(store: &mut Store, pass: &mut Pass, parts: &Parts, group: &Group, si
 {
     let plane = Plane::of(parts, group);
     match &group.principle {
-        Principle::Tree => take_tree(store, pass, &plane),
-        Principle::Dag => take_dag(store, pass, &plane, truth_of(group, 0), truth_of(group, 1)),
+        Principle::Tree => {
+            if are_musts_done(store, group, plane.dim, since) {
+                take_others(store, pass, &plane, true);
+                return;
+            }
+            take_tree(store, pass, &plane);
+        }
+        Principle::Dag => {
+            let rooted = truth_of(group, 0);
+            if are_musts_done(store, group, plane.dim, since) {
+                take_others(store, pass, &plane, rooted);
+                return;
+            }
+            take_dag(store, pass, &plane, rooted, truth_of(group, 1));
+        }
         Principle::Valency => {
             let touched = touched_since(store, group, since);
             let labels = label_count(parts, &plane);

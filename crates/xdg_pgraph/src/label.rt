@@ -5,7 +5,7 @@ ghost use Rattle.xdg_rules.specs.Rules.{OneLabel, must_edges};
 ghost use Rattle.xdg_propcore.specs.Passes.{Clears};
 ghost use Rattle.xdg_store.specs.States.{Known};
 ghost use Rattle.xdg_pgraph.specs.Planes.{IsPlane};
-ghost use Rattle.xdg_pgraph.specs.Ruling.{RunsFor, OneLabelOf, RootIf, LabelIf, ByTree, ByDag};
+ghost use Rattle.xdg_pgraph.specs.Ruling.{RunsFor, OneLabelOf, RootIf, OthersIf, LabelIf, ByTree, ByDag};
 ghost use Rattle.xdg_pgraph.specs.Seeking.{Doubled};
 
 use crate::entered::entered_from;
@@ -100,6 +100,21 @@ fn take_root(store: &mut Store, pass: &mut Pass, plane: &Plane, wanted: bool)
     for_root(store, pass, plane, &first);
     let second = first.renewed(store, pass, plane);
     for_others(store, pass, plane, &second);
+}
+
+/// The rules that go by the edges that may be, where they are asked for.
+pub(crate) fn take_others(store: &mut Store, pass: &mut Pass, plane: &Plane, wanted: bool)
+    requires plane { IsPlane store.old.parts plane.now }
+    requires known { Known store.old }
+    ensures runs { RunsFor (OthersIf wanted) plane.now.dim.0 pass.old store.old pass.new store.new }
+    ensures parts { store.new.parts ≡ store.old.parts }
+    ensures known { Known store.new }
+{
+    if !wanted {
+        return;
+    }
+    let incoming = Incoming::of(store, plane);
+    for_others(store, pass, plane, &incoming);
 }
 
 /// The rule of labels, where it is asked for.

@@ -9,6 +9,7 @@ mod found;
 mod graph_prop;
 mod incoming;
 mod label;
+mod lasting;
 mod plane;
 mod reach;
 mod taking;

@@ -1,9 +1,6 @@
-use Rattle.std.proofs.Common.{◌≡◌, ◌<◌, ◌∙◌, arith, below_more, length, refl, sym, subst}
+use Rattle.std.proofs.Common.{◌≡◌, ◌∙◌, arith, below_more, refl, sym}
 use Rattle.std.proofs.lemmas.Bool.{false≢true}
-use Rattle.xdg_problem.specs.declared.parts.Parts.{Parts}
-use Rattle.xdg_problem.specs.Arguments.{attr_count}
 use Rattle.xdg_problem.specs.Boxes.{Has, attr_decision}
-use Rattle.xdg_problem.specs.Problems.{IsProblem}
 use Rattle.xdg_formula_value.proofs.Ending.{value_end}
 use Rattle.xdg_formula_value.proofs.atoms.is_only.Goals as goal
 

@@ -1,4 +1,4 @@
-use Rattle.std.proofs.Common.{◌∙◌, ◌≡◌, ap, arith, sym}
+use Rattle.std.proofs.Common.{ap, arith}
 use Rattle.xdg_nodeset.specs.Nodes.{has}
 use Rattle.xdg_problem.specs.Places.{nodes}
 use Rattle.xdg_formula_value.specs.Pairs.{Relates}

@@ -1,4 +1,3 @@
-use Rattle.std.proofs.Common.{◌≡◌}
 use Rattle.xdg_formula_value.specs.Pairs.{Relates}
 use Rattle.xdg_formula_value.specs.Rows.{HasFirst}
 use Rattle.xdg_formula_value.proofs.pair.to_itself.Given as goal

@@ -1,4 +1,4 @@
-use Rattle.std.proofs.Common.{◌≡◌, ◌∙◌, ℕ, List, arith, length}
+use Rattle.std.proofs.Common.{ℕ, List, arith}
 use Rattle.std.proofs.Math.ListN.{length-set}
 use Rattle.xdg_formula_value.proofs.Tabled.{tells_skip, tells_more, tells_all}
 use Rattle.xdg_formula_value.proofs.paths.tables.Goals as goal

@@ -1,5 +1,4 @@
-use Rattle.std.proofs.Common.{◌≡◌, ap, arith, rules, sym, subst}
-use Rattle.std.specs.Prelude.{not}
+use Rattle.std.proofs.Common.{arith, rules, sym, subst}
 use Rattle.xdg_problem.specs.declared.formula.Formula.TheVariants as y
 use Rattle.xdg_problem.specs.declared.formula.Formula.TheViews.{the_lemmas}
 use Rattle.xdg_problem.specs.Claims.{joined, above, valued, claim, IsOf}
@@ -8,7 +7,7 @@ use Rattle.xdg_problem.proofs.Claimed.{claim_edge, claim_above, claim_attr}
 use Rattle.xdg_formula_value.specs.Rows.{stands}
 use Rattle.xdg_formula_value.proofs.Formed.{is_of, not_of, and_of, or_of}
 use Rattle.xdg_formula_value.proofs.Fronts.{part_of}
-use Rattle.xdg_formula_value.proofs.Bounding.{Possible, bounds_all, not_bounds, and_bounds_start, and_bounds_turn, and_bounds_end, or_bounds_start, or_bounds_turn, or_bounds_end, edge_bounds, above_bounds, left_bounds, same_bounds, attr_bounds, feat_bounds}
+use Rattle.xdg_formula_value.proofs.Bounding.{Possible, bounds_all, not_bounds, and_bounds_start, and_bounds_turn, and_bounds_end, or_bounds_start, or_bounds_turn, or_bounds_end, edge_bounds, above_bounds, left_bounds, same_bounds}
 use Rattle.xdg_formula_value.proofs.possible.+possible.Goals as goal
 
 -- negations

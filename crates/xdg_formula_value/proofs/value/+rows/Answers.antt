@@ -1,4 +1,4 @@
-use Rattle.std.proofs.Common.{◌≡◌, ap, arith, rules, subst, sym}
+use Rattle.std.proofs.Common.{ap, arith, rules, subst, sym}
 use Rattle.xdg_problem.specs.declared.formula.Formula.TheViews.{the_lemmas}
 use Rattle.xdg_problem.specs.declared.formula.Formula.TheVariants as y
 use Rattle.xdg_problem.specs.Claims.{IsOf, above, claim, joined, valued}

@@ -1,4 +1,4 @@
-use Rattle.std.proofs.Common.{◌≡◌, map, take}
+use Rattle.std.proofs.Common.{map, take}
 use Rattle.xdg_problem.specs.Claims.{conjunction, disjunction, claims_of, claim}
 use Rattle.xdg_problem.specs.Truths.{bound}
 use Rattle.xdg_rules.specs.Worths.{Makes}

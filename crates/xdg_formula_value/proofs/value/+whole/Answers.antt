@@ -1,5 +1,4 @@
-use Rattle.std.proofs.Common.{◌≡◌, ap, arith, rules, subst, sym}
-use Rattle.std.specs.Prelude.{not}
+use Rattle.std.proofs.Common.{arith, rules, subst, sym}
 use Rattle.xdg_problem.specs.declared.formula.Formula.TheViews.{the_lemmas}
 use Rattle.xdg_problem.specs.Claims.{IsOf, claim}
 use Rattle.xdg_formula_value.specs.Rows.{stands}

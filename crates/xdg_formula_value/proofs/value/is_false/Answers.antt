@@ -1,4 +1,4 @@
-use Rattle.std.proofs.Common.{◌≡◌, ◌↔◌, false, subst}
+use Rattle.std.proofs.Common.{◌↔◌, false, subst}
 use Rattle.std.specs.Prelude.{IsTrue}
 use Rattle.xdg_problem.specs.Claims.{claim}
 use Rattle.xdg_rules.specs.Worths.{Makes}

@@ -1,4 +1,4 @@
-use Rattle.std.proofs.Common.{inl, refl}
+use Rattle.std.proofs.Common.{inl}
 use Rattle.xdg_propcore.specs.Uses.{use_at}
 use Rattle.xdg_formula_value.proofs.Named.{looks_at_all}
 use Rattle.xdg_formula_value.proofs.rule_prop.RulePropPropagator.wakes.Goals as goal

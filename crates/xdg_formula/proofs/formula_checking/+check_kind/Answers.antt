@@ -6,7 +6,7 @@ use Rattle.xdg_names.proofs.First.{first_turn}
 use Rattle.xdg_formula.specs.Formulas.{formula_faults}
 use Rattle.xdg_formula.specs.Tables.{used_dims}
 use Rattle.xdg_formula.proofs.Formed.{found_all, told_or, told_and, faults_not, told_every, told_any, told_edge, told_above, told_left, told_same, told_attr, told_feat}
-use Rattle.xdg_formula.proofs.formulas.+check_kind.Goals as goal
+use Rattle.xdg_formula.proofs.formula_checking.+check_kind.Goals as goal
 
 pub loop-member-preserved : goal.loop-member-preserved
 loop-member-preserved t c =

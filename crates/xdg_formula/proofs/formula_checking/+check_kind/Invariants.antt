@@ -3,7 +3,7 @@ use Rattle.std.specs.List.{flat_map}
 use Rattle.xdg_names.specs.First.{first, earlier}
 use Rattle.xdg_formula.specs.Formulas.{formula_faults}
 use Rattle.xdg_formula.specs.Tables.{used_dims}
-use Rattle.xdg_formula.proofs.formulas.+check_kind.Given as goal
+use Rattle.xdg_formula.proofs.formula_checking.+check_kind.Given as goal
 
 abbrev pub invariant-loop-member : goal.invariant-loop-member
 invariant-loop-member l =

@@ -1,0 +1,139 @@
+-- Nodes for names that let a box make a claim true, or false, looked for one after another.
+use Rattle.std.proofs.Common.{◌≡◌, ◌≢◌, ◌↔◌, ℕ, ◌+◌, ◌<◌, ◌≤◌, IsTrue, inl, inr, Bool, true, false, ◌&&◌, List, [], ◌∷◌, length, refl, sym, ◌∙◌, ap, subst, arith}
+use Rattle.std.specs.Prelude.{not, ◌==◌}
+use Rattle.std.proofs.lemmas.Bool.{cases_eq, and_from, and_parts, false≢true, false_from_ne_true, not_from_false, eqb-true}
+use Rattle.xdg_nodeset.specs.Nodes.{has}
+use Rattle.xdg_problem.specs.declared.parts.Parts.{Parts}
+use Rattle.xdg_problem.specs.Claims.{Claim}
+use Rattle.xdg_problem.specs.Places.{nodes}
+use Rattle.xdg_problem.specs.Truths.{bound, unbound}
+use Rattle.xdg_rules.specs.WorthLaws.{AreNodes}
+use Rattle.xdg_rules.specs.Worths.{Makes}
+use Rattle.xdg_rules.proofs.Bound.{bound_nodes}
+use Rattle.xdg_formula_value.specs.Lost.{AreEarly, AgreeBut, Finds, StandFor}
+use Rattle.xdg_formula_value.specs.Rows.{IsEvery, IsRowOn, Over}
+use Rattle.xdg_formula_value.proofs.Stood.{bound_here, bound_else}
+
+-- ---- one name fewer
+
+-- a name that isn't among the rest isn't among all, but for the one that was taken
+pub not_rest : (all rest : List ℕ) (name other : ℕ) → ((n : ℕ) → has rest n ≡ (not (n == name) && has all n)) → (has rest other ≡ true → ⊥) → other ≢ name → has all other ≡ true → ⊥
+not_rest all rest name other members out differ there =
+    out (members other ∙ and_from (not (other == name)) (has all other) (not_from_false (other == name) (false_from_ne_true (other == name) (λ t. differ (eqb-true other name t)))) there)
+
+-- a binding that agrees with another but on some names, and gives one of them a node, agrees but on the rest with the other where that name is bound to the node
+pub agree_rest : (all rest : List ℕ) (a here b : ℕ → ℕ) (name node : ℕ) → ((n : ℕ) → has rest n ≡ (not (n == name) && has all n)) → here ≡ bound a name node → AgreeBut all a b → b name ≡ node → AgreeBut rest here b
+agree_rest all rest a here b name node members here_is agree at other out = elim (cases_eq other name) [
+  | inl same ↦ ap b same ∙ at ∙ sym (bound_here a name node other same) ∙ sym (ap (λ f. f other) here_is)
+  | inr differ ↦ agree other (not_rest all rest name other members out differ) ∙ sym (bound_else a name node other differ) ∙ sym (ap (λ f. f other) here_is)
+]
+
+-- bindings that agree on all names are one
+pub agree_all : (free : List ℕ) (a b : ℕ → ℕ) → ((name : ℕ) → has free name ≡ true → ⊥) → AgreeBut free a b → b ≡ a
+agree_all free a b none agree = λ i name. agree name (none name) i
+
+none_in : (s : List ℕ) (v : ℕ) → length s ≡ 0 → has s v ≡ true → ⊥
+none_in [] v none there = false≢true there
+none_in (m ∷ s) v none there = omega (arith, none)
+
+module _ (parts : Parts) (box : List (List Bool)) (c : Claim) (truth : Bool) where
+  -- no binding of some is one under which the box makes it
+  abbrev pub NoneMade : ((ℕ → ℕ) → Type 0) → Type 0
+  NoneMade Wanted = (b : ℕ → ℕ) → AreNodes parts b → Wanted b → Makes parts box c truth b → ⊥
+
+  -- the answer of a call that looked for others stands too
+  pub finds_on : (Wanted Other : (ℕ → ℕ) → Type 0) (found : Bool) → found ≡ true → Finds parts box c truth Other found → Finds parts box c truth Wanted true
+  finds_on Wanted Other found is finds = record { sound = λ t. finds.sound is; complete = λ b are wanted makes. refl }
+
+  pub finds_no : (Wanted : (ℕ → ℕ) → Type 0) → NoneMade Wanted → Finds parts box c truth Wanted false
+  finds_no Wanted none_made = record { sound = λ t. absurd (false≢true t); complete = λ b are wanted makes. absurd (none_made b are wanted makes) }
+
+  pub finds_weaker : (Wanted Other : (ℕ → ℕ) → Type 0) (found : Bool) → ((b : ℕ → ℕ) → AreNodes parts b → Wanted b → Other b) → Finds parts box c truth Other found → Finds parts box c truth Wanted found
+  finds_weaker Wanted Other found weaker finds = record { sound = finds.sound; complete = λ b are wanted makes. finds.complete b are (weaker b are wanted) makes }
+
+  missed : (Other : (ℕ → ℕ) → Type 0) (found : Bool) → found ≡ false → Finds parts box c truth Other found → NoneMade Other
+  missed Other found off finds b are other makes = false≢true (sym off ∙ finds.complete b are other makes)
+
+  -- ---- no name is free
+
+  pub found_whole : (free : List ℕ) (a : ℕ → ℕ) (found : Bool) → free ≡ [] → AreNodes parts a → IsTrue found ↔ Makes parts box c truth a → Finds parts box c truth (AgreeBut free a) found
+  found_whole free a found empty are told = record {
+    sound = λ t. (a, are, told.0 t);
+    complete = λ b nodes_of agree makes. told.1 (subst (Makes parts box c truth) (agree_all free a b (λ name there. false≢true (subst (λ s. has s name ≡ true) empty there)) agree) makes);
+  }
+
+  -- ---- one name is free
+
+  pub found_row : (free rest all row : List ℕ) (a : ℕ → ℕ) (name size : ℕ) (found : Bool) → ((n : ℕ) → has rest n ≡ (not (n == name) && has free n)) → length rest ≡ 0 → AreNodes parts a
+      → size ≡ nodes parts → IsEvery (nodes parts) all → IsRowOn all (λ v. Makes parts box c truth (bound a name v)) row → IsTrue found ↔ Over false size (λ v. has row v ≡ true)
+      → Finds parts box c truth (AgreeBut free a) found
+  found_row free rest all row a name size found members empty are size_is every row_is told = record {
+    sound = λ t. (
+        let some = told.0 t in
+        let l : some.0 < nodes parts = (let m = some.1 in omega (arith, m, size_is)) in
+        (bound a name some.0, bound_nodes parts a name some.0 are l, (row_is some.0 ((every some.0).1 l)).0 some.2)
+        );
+    complete = λ b nodes_of agree makes. (
+        let l = nodes_of name in
+        let same : b ≡ bound a name (b name) = agree_all rest (bound a name (b name)) b (λ n. none_in rest n empty) (agree_rest free rest a (bound a name (b name)) b name (b name) members refl agree refl) in
+        told.1 (b name, omega (arith, l, size_is), (row_is (b name) ((every (b name)).1 l)).1 (subst (Makes parts box c truth) same makes))
+        );
+  }
+
+  -- ---- one node after another for a free name
+
+  -- none of the first nodes is one
+  abbrev pub NoneUpTo : List ℕ → (ℕ → ℕ) → ℕ → ℕ → Type 0
+  NoneUpTo free a name k = (v : ℕ) → v < k → NoneMade (λ b. AgreeBut free a b × (b name ≡ v))
+
+  pub nodes_start : (free : List ℕ) (a : ℕ → ℕ) (name : ℕ) → NoneUpTo free a name 0
+  nodes_start free a name v l = absurd (omega (arith, l))
+
+  pub nodes_turn : (free rest : List ℕ) (a here : ℕ → ℕ) (name node : ℕ) (found : Bool) → ((n : ℕ) → has rest n ≡ (not (n == name) && has free n)) → here ≡ bound a name node
+      → NoneUpTo free a name node → found ≡ false → Finds parts box c truth (AgreeBut rest here) found → NoneUpTo free a name (node + 1)
+  nodes_turn free rest a here name node found members here_is so_far off finds v l b are wanted makes = elim (cases_eq v node) [
+    | inl same ↦ missed (AgreeBut rest here) found off finds b are (agree_rest free rest a here b name node members here_is wanted.0 (wanted.1 ∙ same)) makes
+    | inr other ↦ so_far v (omega (arith, l, other)) b are wanted makes
+  ]
+
+  pub nodes_end : (free : List ℕ) (a : ℕ → ℕ) (name k : ℕ) → nodes parts ≤ k → NoneUpTo free a name k → Finds parts box c truth (AgreeBut free a) false
+  nodes_end free a name k past so_far = finds_no (AgreeBut free a) (λ b are agree makes. (let l = are name in so_far (b name) (omega (arith, l, past)) b are (agree, refl) makes))
+
+  -- ---- one name after another for a node
+
+  abbrev pub NoneOf : List ℕ → ((ℕ → ℕ) → Type 0) → ℕ → ℕ → Type 0
+  NoneOf free Wanted node k = (name : ℕ) → name < k → NoneMade (λ b. Wanted b × (has free name ≡ true) × (b name ≡ node))
+
+  pub names_start : (free : List ℕ) (Wanted : (ℕ → ℕ) → Type 0) (node : ℕ) → NoneOf free Wanted node 0
+  names_start free Wanted node name l = absurd (omega (arith, l))
+
+  pub names_skip : (free : List ℕ) (Wanted : (ℕ → ℕ) → Type 0) (node name : ℕ) → NoneOf free Wanted node name → has free name ≡ false → NoneOf free Wanted node (name + 1)
+  names_skip free Wanted node name so_far off other l b are wanted makes = elim (cases_eq other name) [
+    | inl same ↦ false≢true (sym off ∙ subst (λ n. has free n ≡ true) same wanted.1)
+    | inr differ ↦ so_far other (omega (arith, l, differ)) b are wanted makes
+  ]
+
+  pub names_turn : (free : List ℕ) (Wanted Other : (ℕ → ℕ) → Type 0) (node name : ℕ) (found : Bool) → NoneOf free Wanted node name → ((b : ℕ → ℕ) → Wanted b → b name ≡ node → Other b)
+      → found ≡ false → Finds parts box c truth Other found → NoneOf free Wanted node (name + 1)
+  names_turn free Wanted Other node name found so_far leads off finds other l b are wanted makes = elim (cases_eq other name) [
+    | inl same ↦ missed Other found off finds b are (leads b wanted.0 (sym (ap b same) ∙ wanted.2)) makes
+    | inr differ ↦ so_far other (omega (arith, l, differ)) b are wanted makes
+  ]
+
+  pub names_end : (free : List ℕ) (Wanted : (ℕ → ℕ) → Type 0) (node k : ℕ) → AreEarly free → 8 ≤ k → NoneOf free Wanted node k → Finds parts box c truth (λ b. Wanted b × StandFor free b node) false
+  names_end free Wanted node k early past so_far = finds_no (λ b. Wanted b × StandFor free b node) (λ b are wanted makes. (let it = wanted.1 in let l = early it.0 it.1 in so_far it.0 (omega (arith, l, past)) b are (wanted.0, it.1, it.2) makes))
+
+-- ---- two names for the nodes of an edge
+
+-- the name of the daughter is another than that of the mother
+pub leads_on : (names rest : List ℕ) (here b : ℕ → ℕ) (name mother daughter : ℕ) → ((n : ℕ) → has rest n ≡ (not (n == name) && has names n)) → here ≡ bound unbound name mother
+    → mother ≢ daughter → AgreeBut names unbound b × StandFor names b daughter → b name ≡ mother → AgreeBut rest here b × StandFor rest b daughter
+leads_on names rest here b name mother daughter members here_is differ wanted at =
+    let it = wanted.1 in
+    let other : it.0 ≢ name = λ same. differ (sym at ∙ sym (ap b same) ∙ it.2) in (
+      agree_rest names rest unbound here b name mother members here_is wanted.0 at,
+      (it.0, members it.0 ∙ and_from (not (it.0 == name)) (has names it.0) (not_from_false (it.0 == name) (false_from_ne_true (it.0 == name) (λ t. other (eqb-true it.0 name t)))) it.1, it.2),
+    )
+
+pub early_rest : (names rest : List ℕ) (name : ℕ) → ((n : ℕ) → has rest n ≡ (not (n == name) && has names n)) → AreEarly names → AreEarly rest
+early_rest names rest name members early n there = early n (and_parts (not (n == name)) (has names n) (sym (members n) ∙ there)).1
