@@ -16,7 +16,7 @@ use Rattle.xdg_rules.specs.Rules.{TakesBy, Takes, IsClosedFor}
 use Rattle.xdg_rules.proofs.Costing.{cost_more}
 use Rattle.xdg_engine.specs.CostRows.{AreLabelCosts}
 use Rattle.xdg_engine.specs.Freeing.{Dear, TakesFree, OfDims}
-use Rattle.xdg_engine.specs.BoundStaying.{closed_for_bound}
+use Rattle.xdg_engine.proofs.BoundStaying.{closed_for_bound}
 
 module _ (parts : Parts) (group : Group) (costs : CostLists) (bound : ℕ) (problem : IsProblem parts) (is : group.principle ≡ principles.Bound costs bound) where
   pub bound_takes : (box : List (List Bool)) (d v : ℕ) → TakesBy (principles.Bound costs bound) parts group box d v → Takes parts group box d v

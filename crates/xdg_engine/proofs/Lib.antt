@@ -4,7 +4,7 @@ pub mod Summed
 pub mod Freed
 pub mod Bounded
 pub mod BoundNamed
-pub mod BoundStepping
+pub mod BoundStaying
 pub mod Swept
 pub mod Totals
 pub mod Ordering

@@ -1,11 +1,12 @@
 -- For which principle uses a propagator of any family stands.
 use Rattle.std.specs.Prelude.{◌≡◌, ℕ, ◌<◌, List, length, slice_index_or}
 use Rattle.xdg_problem.specs.declared.parts.Parts.{Parts}
-use Rattle.xdg_pgraph.specs.Standing as graph
-use Rattle.xdg_porder.specs.Standing as order
-use Rattle.xdg_pagree.specs.Standing as agree
-use Rattle.xdg_pmulti.specs.Standing as multi
-use Rattle.xdg_plink.specs.Standing as link
+use Rattle.xdg_propcore.specs.UseStanding as family
+use Rattle.xdg_pgraph.specs.Family as graph
+use Rattle.xdg_porder.specs.Family as order
+use Rattle.xdg_pagree.specs.Family as agree
+use Rattle.xdg_pmulti.specs.Family as multi
+use Rattle.xdg_plink.specs.Family as link
 use Rattle.xdg_formula_value.specs.Standing as rule
 use Rattle.xdg_engine.specs.Bounding.{bound_stands}
 use Rattle.xdg_engine.specs.declared.any_prop.AnyProp.{AnyProp}
@@ -13,11 +14,11 @@ use Rattle.xdg_engine.specs.declared.any_prop.AnyProp.TheVariants as any
 
 -- for those for which it stands in its family
 abbrev pub stands_for : AnyProp → Parts → ℕ → Type 0
-stands_for (any.Graph p) = graph.stands_for p
-stands_for (any.Order p) = order.stands_for p
-stands_for (any.Agree p) = agree.stands_for p
-stands_for (any.Multi p) = multi.stands_for p
-stands_for (any.Link p) = link.stands_for p
+stands_for (any.Graph p) = family.stands_for graph.IsOfFamily p
+stands_for (any.Order p) = family.stands_for order.IsOfFamily p
+stands_for (any.Agree p) = family.stands_for agree.IsOfFamily p
+stands_for (any.Multi p) = family.stands_for multi.IsOfFamily p
+stands_for (any.Link p) = family.stands_for link.IsLinking p
 stands_for (any.Rule p) = rule.stands_for p
 stands_for (any.Cost p) = bound_stands p
 

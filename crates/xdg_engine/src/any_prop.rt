@@ -1,13 +1,7 @@
 //! A propagator of any family.
 
 ghost use Rattle.std.specs.Prelude.{◌≡◌, ◌<◌, ◌+◌, ◌-◌, ◌^◌, ◌↔◌, ℕ, Bool, List, length, min};
-ghost use Rattle.xdg_pgraph.specs.contracts.graph_prop.GraphPropPropagator.TheImpl.Laws as graph;
-ghost use Rattle.xdg_porder.specs.contracts.order_prop.OrderPropPropagator.TheImpl.Laws as order;
-ghost use Rattle.xdg_pagree.specs.contracts.agree_prop.AgreePropPropagator.TheImpl.Laws as agree;
-ghost use Rattle.xdg_pmulti.specs.contracts.multi_prop.MultiPropPropagator.TheImpl.Laws as multi;
-ghost use Rattle.xdg_plink.specs.contracts.link_prop.LinkPropPropagator.TheImpl.Laws as link;
-ghost use Rattle.xdg_formula_value.specs.contracts.rule_prop.RulePropPropagator.TheImpl.Laws as rule;
-ghost use Rattle.xdg_engine.specs.contracts.cost_prop.CostPropPropagator.TheImpl.Laws as cost;
+ghost use Rattle.xdg_propcore.specs.Uses.{IsClosedBy};
 ghost use Rattle.xdg_engine.specs.Standing.{stands_for};
 ghost use Rattle.xdg_engine.specs.declared.any_prop.AnyProp.TheVariants as any;
 
@@ -43,15 +37,7 @@ pub enum AnyProp {
 impl Propagator for AnyProp {
     ghost stands = { stands_for };
 
-    ghost still = { elim [
-      | any.Graph p ↦ ⟦<GraphProp as Propagator>⟧.still p
-      | any.Order p ↦ ⟦<OrderProp as Propagator>⟧.still p
-      | any.Agree p ↦ ⟦<AgreeProp as Propagator>⟧.still p
-      | any.Multi p ↦ ⟦<MultiProp as Propagator>⟧.still p
-      | any.Link p ↦ ⟦<LinkProp as Propagator>⟧.still p
-      | any.Rule p ↦ ⟦<RuleProp as Propagator>⟧.still p
-      | any.Cost p ↦ ⟦<CostProp as Propagator>⟧.still p
-    ] };
+    ghost still = { λ p parts box. IsClosedBy (stands_for p) parts box };
 
     ghost kinds = { elim [
       | any.Graph p ↦ ⟦<GraphProp as Propagator>⟧.kinds p
@@ -99,23 +85,13 @@ impl Propagator for AnyProp {
         }
     }
 
-    ghost still_closed = { elim [
-      | any.Graph p ↦ graph.still_closed-law p
-      | any.Order p ↦ order.still_closed-law p
-      | any.Agree p ↦ agree.still_closed-law p
-      | any.Multi p ↦ multi.still_closed-law p
-      | any.Link p ↦ link.still_closed-law p
-      | any.Rule p ↦ rule.still_closed-law p
-      | any.Cost p ↦ cost.still_closed-law p
-    ] };
-
-    ghost stays_still = { elim [
-      | any.Graph p ↦ graph.stays_still-law p
-      | any.Order p ↦ order.stays_still-law p
-      | any.Agree p ↦ agree.stays_still-law p
-      | any.Multi p ↦ multi.stays_still-law p
-      | any.Link p ↦ link.stays_still-law p
-      | any.Rule p ↦ rule.stays_still-law p
-      | any.Cost p ↦ cost.stays_still-law p
-    ] };
+    fn laws() {
+        GraphProp::laws();
+        OrderProp::laws();
+        AgreeProp::laws();
+        MultiProp::laws();
+        LinkProp::laws();
+        RuleProp::laws();
+        CostProp::laws();
+    }
 }

@@ -13,7 +13,6 @@ ghost use Rattle.xdg_propcore.specs.Sweeps.{Sweeps};
 ghost use Rattle.xdg_propcore.specs.Uses.{IsClosedBy, StandsFor, StandsIn, use_at};
 ghost use Rattle.xdg_engine.specs.Bounding.{HoldsBound, IsBound, bound_stands};
 ghost use Rattle.xdg_engine.specs.Freeing.{Dear, NoneFree, OfDims, OfLabels, TakesFree};
-ghost use Rattle.xdg_engine.specs.BoundStaying.{bound_stays};
 
 use crate::cost_rows::{entry_rows, label_rows};
 use crate::least::least_cost;
@@ -22,7 +21,7 @@ use xdg_base::{DimId, LabelId, List, NodeId, OutOfMemory};
 use xdg_graph::{Which, daughters_by, labels_of, node_count};
 use xdg_pmulti::forbid_beyond;
 use xdg_problem::{Group, Principle, Problem};
-use xdg_propcore::{Moved, Pass, Propagator, Wake};
+use xdg_propcore::{Moved, Pass, Propagator, Wake, use_of};
 use xdg_store::Store;
 
 /// Takes from a box what a bound on costs takes: all, where what must be costs as much, and each edge with which it would.
@@ -151,8 +150,7 @@ impl Propagator for CostProp {
 
     fn step(&self, store: &mut Store) -> Moved {
         store.turn();
-        let parts = store.problem().parts();
-        let group = &parts.groups.as_slice()[self.number];
+        let group = use_of(store.problem(), self.number);
         let mut pass = Pass::start();
         sweep(
             store,
@@ -165,7 +163,5 @@ impl Propagator for CostProp {
         pass.moved()
     }
 
-    ghost still_closed = { λ p parts box problem is still. still };
-
-    ghost stays_still = { bound_stays };
+    fn laws() {}
 }

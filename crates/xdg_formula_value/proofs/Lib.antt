@@ -13,8 +13,8 @@ pub mod Told
 pub mod Ending
 pub mod Kinding
 pub mod Named
-pub mod Stepping
 pub mod Swept
+pub mod Staying
 pub mod Unmet
 pub mod Finding
 pub mod Under

@@ -19,7 +19,7 @@ use Rattle.xdg_propcore.proofs.Sweeping.{sweeps_start}
 use Rattle.xdg_formula_value.specs.ClaimKinds.{HasKinds}
 use Rattle.xdg_formula_value.specs.Lost.{HasEarlier}
 use Rattle.xdg_formula_value.specs.Standing.{IsRule, HasKindsOf}
-use Rattle.xdg_formula_value.specs.Staying.{closed_for_rule, rule_not_false, rule_takes}
+use Rattle.xdg_formula_value.proofs.Staying.{closed_for_rule, rule_not_false, rule_takes}
 
 -- a rule has a formula
 pub rule_found : (p : Principle) → IsRule p → (formula : Formula) × (p ≡ principles.Rule formula)

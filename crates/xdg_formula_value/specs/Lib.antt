@@ -4,4 +4,3 @@ pub mod Filling
 pub mod ClaimKinds
 pub mod Lost
 pub mod Standing
-pub mod Staying

@@ -15,14 +15,13 @@ ghost use Rattle.xdg_propcore.specs.Sweeps.{Sweeps};
 ghost use Rattle.xdg_propcore.specs.Uses.{IsClosedBy, StandsFor, StandsIn, use_at};
 ghost use Rattle.xdg_propcore.specs.declared.moved.Moved.TheVariants as moves;
 ghost use Rattle.xdg_formula_value.specs.Standing.{HasKindsOf, IsRule, stands_for};
-ghost use Rattle.xdg_formula_value.specs.Staying.{rule_stays};
 
 use crate::kinds::kinds_of;
 use crate::since::is_false_since;
 use crate::value::is_false;
 use xdg_base::OutOfMemory;
 use xdg_problem::{Formula, Group, Parts, Principle, Problem};
-use xdg_propcore::{Moved, Pass, Propagator, Wake};
+use xdg_propcore::{Moved, Pass, Propagator, Wake, use_of};
 use xdg_store::{Mark, Store};
 
 /// Fails where the formula of a rule is false in the box, and takes nothing else.
@@ -101,8 +100,7 @@ impl RuleProp {
         ensures known { Known store.new }
     {
         store.turn();
-        let parts = store.problem().parts();
-        let group = &parts.groups.as_slice()[self.number];
+        let group = use_of(store.problem(), self.number);
         let mut pass = Pass::start();
         sweep(store, &mut pass, group, &since);
         pass.moved()
@@ -128,7 +126,5 @@ impl Propagator for RuleProp {
         self.take_step(store, Some(since))
     }
 
-    ghost still_closed = { λ p parts box problem is still. still };
-
-    ghost stays_still = { rule_stays };
+    fn laws() {}
 }

@@ -2,5 +2,5 @@ pub mod Principles
 pub mod Sweeping
 pub mod AtPlaces
 pub mod AtNodes
-pub mod Waking
-pub mod Stepping
+pub mod Closing
+pub mod Staying

@@ -9,4 +9,4 @@ mod places;
 mod reads;
 mod taking;
 
-pub use agree_prop::AgreeProp;
+pub use agree_prop::{Agree, AgreeProp};

@@ -1,6 +1,10 @@
-pub mod Naming
+pub mod TreeTests
+pub mod CountTests
+pub mod Closing
+pub mod EdgesStay
+pub mod CountsStay
+pub mod Staying
 pub mod Swept
-pub mod Stepping
 pub mod OpenEdges
 pub mod Bundled
 pub mod Others

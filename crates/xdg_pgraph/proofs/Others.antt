@@ -25,7 +25,7 @@ use Rattle.xdg_propcore.specs.Sweeps.{Sweeps}
 use Rattle.xdg_propcore.specs.Touching.{HasAll, HasTouched, InTable, MarksEdge}
 use Rattle.xdg_propcore.specs.declared.touched.Touched.{Touched}
 use Rattle.xdg_pgraph.specs.Bundles.{EdgeAt, IsBundleDone, count_of, near_node, numbers_of}
-use Rattle.xdg_pgraph.specs.CountsStay.{greatest_before, least_before}
+use Rattle.xdg_pgraph.proofs.CountsStay.{greatest_before, least_before}
 use Rattle.xdg_pgraph.specs.Untouched.{AreOthersDone, IsTouched, side}
 use Rattle.xdg_pgraph.specs.declared.bundle.Way.{Way}
 use Rattle.xdg_pgraph.specs.declared.bundle.Way.TheVariants as ways

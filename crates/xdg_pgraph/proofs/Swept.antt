@@ -19,7 +19,7 @@ use Rattle.xdg_propcore.specs.Passes.{Progress}
 use Rattle.xdg_propcore.specs.Sweeps.{Sweeps}
 use Rattle.xdg_propcore.proofs.Sweeping.{sweeps_skip}
 use Rattle.xdg_pgraph.specs.Bundles.{AreNodesDone, IsLabelDone}
-use Rattle.xdg_pgraph.specs.Closing.{closed_by_rules}
+use Rattle.xdg_pgraph.proofs.Closing.{closed_by_rules}
 use Rattle.xdg_pgraph.specs.Family.{IsOfFamily}
 use Rattle.xdg_pgraph.specs.Musts.{AreMustsDone, ByMusts}
 use Rattle.xdg_pgraph.specs.Ruling.{RunsFor, OthersIf, ByTree, ByDag}

@@ -7,10 +7,3 @@ pub mod Musts
 pub mod Bundles
 pub mod Untouched
 pub mod Family
-pub mod Standing
-pub mod TreeTests
-pub mod CountTests
-pub mod Closing
-pub mod EdgesStay
-pub mod CountsStay
-pub mod Staying

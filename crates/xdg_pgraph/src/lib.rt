@@ -16,4 +16,4 @@ mod taking;
 mod tree;
 mod valency;
 
-pub use graph_prop::GraphProp;
+pub use graph_prop::{Graph, GraphProp};

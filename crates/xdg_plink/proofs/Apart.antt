@@ -22,7 +22,7 @@ use Rattle.xdg_propcore.proofs.Passing.{goes_both}
 use Rattle.xdg_propcore.specs.Sweeps.{Sweeps}
 use Rattle.xdg_plink.specs.Steps.{AsksApart, CanPart, IsDoneAt, IsFirstDone, IsSecondDone, MustJoin, TakesAt}
 use Rattle.xdg_graph.specs.Edges.{edge_labels}
-use Rattle.xdg_plink.specs.Places.{edge_at}
+use Rattle.xdg_plink.proofs.Places.{edge_at}
 use Rattle.xdg_graph.proofs.Labelled.{label_below, place_between}
 use Rattle.xdg_propcore.proofs.Sweeping.{sweeps_start}
 

@@ -14,9 +14,9 @@ use Rattle.xdg_rules.specs.Rules.{IsClosedFor, IsPlaceOn, TakesBy}
 use Rattle.xdg_plink.specs.Family.{IsLinking}
 use Rattle.xdg_plink.specs.Steps.{AreMothersDone, IsExact, TakesAt}
 use Rattle.xdg_graph.specs.Edges.{edge_labels}
-use Rattle.xdg_plink.specs.Places.{edge_at}
+use Rattle.xdg_plink.proofs.Places.{edge_at}
 use Rattle.xdg_graph.proofs.Labelled.{label_below}
-use Rattle.xdg_plink.specs.Failing.{none_fails}
+use Rattle.xdg_plink.proofs.Failing.{none_fails}
 
 -- each rule takes at a place
 at_place : (p : Principle) → IsLinking p → (parts : Parts) (group : Group) (box : List (List Bool)) (d v : ℕ) → TakesBy p parts group box d v → (place : Edge) × IsPlaceOn parts (first_dim group) place × TakesAt p parts group box place d v

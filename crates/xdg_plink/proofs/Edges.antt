@@ -7,7 +7,7 @@ use Rattle.xdg_problem.specs.declared.parts.Parts.{Parts}
 use Rattle.xdg_problem.specs.Paths.{IsDaughterBy}
 use Rattle.xdg_problem.specs.Places.{edge}
 use Rattle.xdg_rules.specs.Rules.{may_edges}
-use Rattle.xdg_plink.specs.Places.{may_by}
+use Rattle.xdg_plink.proofs.Places.{may_by}
 use Rattle.xdg_graph.specs.Edges.{edge_labels}
 use Rattle.xdg_graph.proofs.Labelled.{label_below}
 

@@ -1,4 +1,5 @@
-pub mod Named
+pub mod Places
+pub mod Failing
 pub mod Edges
 pub mod Leading
 pub mod Linking
@@ -6,4 +7,5 @@ pub mod Sweeping
 pub mod Absent
 pub mod Apart
 pub mod Closing
-pub mod Stepping
+pub mod Staying
+pub mod Swept

@@ -1,9 +1,3 @@
 pub mod Family
-pub mod Kept
-pub mod Places
-pub mod Failing
-pub mod Staying
 pub mod Ways
 pub mod Steps
-pub mod Standing
-pub mod Laws

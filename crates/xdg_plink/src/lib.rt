@@ -11,4 +11,4 @@ mod reach;
 mod taking;
 mod way;
 
-pub use link_prop::LinkProp;
+pub use link_prop::{Link, LinkProp};

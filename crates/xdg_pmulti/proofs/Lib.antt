@@ -1,5 +1,6 @@
 pub mod Forbidding
 pub mod Aiming
 pub mod Blocked
-pub mod Waking
-pub mod Stepping
+pub mod Closing
+pub mod Staying
+pub mod Swept

@@ -9,5 +9,5 @@ mod multi_prop;
 mod reads;
 mod taking;
 
-pub use multi_prop::MultiProp;
+pub use multi_prop::{Multi, MultiProp};
 pub use taking::forbid_beyond;

@@ -9,5 +9,4 @@ pub mod Settling
 pub mod Testing
 pub mod Closing
 pub mod Ending
-pub mod Stepping
-pub mod Waking
+pub mod Staying

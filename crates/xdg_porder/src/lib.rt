@@ -13,4 +13,4 @@ mod sweep;
 mod taking;
 mod yields;
 
-pub use order_prop::OrderProp;
+pub use order_prop::{Order, OrderProp};

@@ -1,4 +1,4 @@
-//! What order and projectivity take, at once.
+//! What order takes, and what projectivity takes.
 
 ghost use Rattle.std.specs.Prelude.{◌≡◌, true};
 ghost use Rattle.xdg_problem.specs.declared.parts.Principle.TheVariants as principles;
@@ -6,13 +6,11 @@ ghost use Rattle.xdg_rules.specs.Rules.{FailsTest, IsClosedFor};
 ghost use Rattle.xdg_propcore.specs.Standing.{HeldIf};
 ghost use Rattle.xdg_propcore.specs.Sweeps.{Sweeps};
 ghost use Rattle.xdg_problem.specs.Arguments.{truth_of};
-ghost use Rattle.xdg_porder.specs.Family.{IsOfFamily};
 ghost use Rattle.xdg_porder.specs.Items.{AreOthersDone, IsOrdering, IsReady};
 
 use crate::across::take_across;
 use crate::failing::fails_test;
 use crate::pairs::take_nodes;
-use crate::reads::is_order;
 use xdg_graph::{Which, above, dim_of, truth_of};
 use xdg_nodeset::NodeSet;
 use xdg_problem::Group;
@@ -49,7 +47,7 @@ fn touched_since(store: &Store, group: &Group, since: &Option<Mark>) -> NodeSet
 }
 
 /// Takes what an order takes.
-fn take_order(store: &mut Store, pass: &mut Pass, group: &Group, since: &Option<Mark>)
+pub(crate) fn take_order(store: &mut Store, pass: &mut Pass, group: &Group, since: &Option<Mark>)
     requires at { IsOrdering group.now store.old }
     requires held { HeldIf (λ parts box. IsClosedFor parts group.now box) store.old since.now }
     ensures { Sweeps group.now (IsClosedFor store.old.parts group.now) pass.old store.old pass.new store.new }
@@ -60,25 +58,11 @@ fn take_order(store: &mut Store, pass: &mut Pass, group: &Group, since: &Option<
 }
 
 /// Takes what a projectivity takes.
-fn take_projective(store: &mut Store, pass: &mut Pass, group: &Group)
+pub(crate) fn take_projective(store: &mut Store, pass: &mut Pass, group: &Group)
     requires ready { IsReady group.now store.old }
     requires projective { group.now.principle ≡ principles.Projectivity }
     ensures { Sweeps group.now (IsClosedFor store.old.parts group.now) pass.old store.old pass.new store.new }
 {
     let table = above(store, Which::May, dim_of(group, 0));
     take_across(store, pass, group, &table);
-}
-
-/// Takes what a principle use of the family takes, which was still at a mark, if there is one.
-pub(crate) fn take_all(store: &mut Store, pass: &mut Pass, group: &Group, since: &Option<Mark>)
-    requires ready { IsReady group.now store.old }
-    requires family { IsOfFamily group.now.principle }
-    requires held { HeldIf (λ parts box. IsClosedFor parts group.now box) store.old since.now }
-    ensures { Sweeps group.now (IsClosedFor store.old.parts group.now) pass.old store.old pass.new store.new }
-{
-    if is_order(group) {
-        take_order(store, pass, group, since);
-        return;
-    }
-    take_projective(store, pass, group);
 }

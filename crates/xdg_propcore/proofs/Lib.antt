@@ -8,9 +8,14 @@ pub mod Analyses
 pub mod Decided
 pub mod DecisionKinds
 pub mod Removing
+pub mod SampleLaws
 pub mod SampleSteps
 pub mod SampleProblem
 pub mod Losing
 pub mod Naming
 pub mod Passing
 pub mod Sweeping
+pub mod Kinding
+pub mod NamedKinds
+pub mod Unseen
+pub mod Stepping

@@ -10,7 +10,7 @@ use Rattle.xdg_store.specs.States.{State, Known}
 use Rattle.xdg_propcore.specs.Kinds.{IsNamed, AreNamed, kind_of}
 use Rattle.xdg_propcore.specs.Losses.{Loses}
 use Rattle.xdg_propcore.specs.Sample.{sample, agr_use, IsUse, LacksSecond}
-use Rattle.xdg_propcore.specs.SampleLaws.{closed_lacks}
+use Rattle.xdg_propcore.proofs.SampleLaws.{closed_lacks}
 use Rattle.xdg_propcore.specs.Steps.{Keeps}
 use Rattle.xdg_propcore.specs.Uses.{StandsFor, StandsIn, use_at}
 use Rattle.xdg_propcore.specs.declared.moved.Moved.{Moved}

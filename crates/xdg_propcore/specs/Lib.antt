@@ -1,6 +1,9 @@
 pub mod Kinds
 pub mod Losses
 pub mod Uses
+pub mod UseKinds
+pub mod Families
+pub mod UseStanding
 pub mod Decides
 pub mod Steps
 pub mod Fixed
@@ -10,4 +13,3 @@ pub mod Touching
 pub mod Passes
 pub mod Sweeps
 pub mod Sample
-pub mod SampleLaws

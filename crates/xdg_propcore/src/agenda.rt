@@ -119,6 +119,7 @@ pub fn settle_since<P: Propagator>(
     ensures known { Known store.new }
     ensures agenda { agenda.new ≡ agenda.old }
 {
+    P::laws();
     // Each store holds a box.
     let _ = store.turns();
     agenda.awake.sleep_all();

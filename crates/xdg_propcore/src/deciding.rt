@@ -9,4 +9,6 @@ use crate::propagator::Propagator;
 /// nothing is left to test. It rests on the law that a box of single values is closed exactly where the relation holds.
 pub fn still_decides<P: Propagator>()
     ensures { (p : P) → Decides (P.stands p) (P.still p) }
-{}
+{
+    P::laws();
+}

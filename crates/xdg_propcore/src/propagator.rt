@@ -59,12 +59,12 @@ pub trait Propagator: Drop {
         self.step(store)
     }
 
-    /// Where it is still, no rule of its principle takes a value that remains.
-    ghost still_closed: { (p : Self) (parts : Parts) (box : List (List Bool)) → IsProblem parts → IsBox (shape parts) box → still p parts box
-        → IsClosedBy (stands p) parts box };
-
-    /// Where it is still, it stays so while the box loses values of other kinds.
-    ghost stays_still: { (p : Self) (parts : Parts) (number : ℕ) (old new : List (List Bool)) → IsProblem parts → StandsFor (stands p) parts number
-        → IsBox (shape parts) old → IsBox (shape parts) new → LiesIn new old
-        → LosesOutside parts (kinds p) old new → still p parts old → still p parts new };
+    /// Two laws, and nothing to run. Where it is still, no rule of its principle takes a value that remains; and it stays still
+    /// while the box loses values of other kinds.
+    fn laws()
+        ensures still_closed { (p : Self) (parts : Parts) (box : List (List Bool)) → IsProblem parts → IsBox (shape parts) box → still p parts box
+            → IsClosedBy (stands p) parts box }
+        ensures stays_still { (p : Self) (parts : Parts) (number : ℕ) (old new : List (List Bool)) → IsProblem parts → StandsFor (stands p) parts number
+            → IsBox (shape parts) old → IsBox (shape parts) new → LiesIn new old
+            → LosesOutside parts (kinds p) old new → still p parts old → still p parts new };
 }

@@ -77,6 +77,7 @@ pub(crate) fn run<P: Propagator>(
     ensures length { length awake.new ≡ length awake.old }
     ensures rest_count { length rests.new ≡ length rests.old }
 {
+    P::laws();
     while let Some(at) = awake.first() {
         match step(&props[at], store, rests.mark_of(at)) {
             Moved::Same => {

@@ -1,2 +1,3 @@
 pub mod AloneProblem
 pub mod Binary
+pub mod Graphs

@@ -1,7 +1,13 @@
 //! Jobs that wait for one another in a step of a propagator, so that they come to their end only side by side.
 
-ghost use Rattle.std.specs.Prelude.{⊤, ◌≡◌, [], ◌∷◌, IfOk};
-ghost use Rattle.xdg_trials.specs.Graphs.{graph_closed};
+ghost use Rattle.std.specs.Prelude.{⊤, ◌≡◌, ℕ, Bool, List, [], ◌∷◌, IfOk};
+ghost use Rattle.xdg_problem.specs.declared.parts.Parts.{Parts as Sentence};
+ghost use Rattle.xdg_problem.specs.Boxes.{IsBox, LiesIn};
+ghost use Rattle.xdg_problem.specs.Problems.{IsProblem};
+ghost use Rattle.xdg_problem.specs.Vectors.{shape};
+ghost use Rattle.xdg_propcore.specs.Losses.{LosesOutside};
+ghost use Rattle.xdg_propcore.specs.Uses.{IsClosedBy, StandsFor};
+ghost use Rattle.xdg_trials.specs.declared.meeting.Meets.{Meets};
 ghost use Rattle.xdg_trials.specs.Alone.{IsGraph, alone, graph_use, job, pair, plan};
 
 use std::alloc::{AllocError, Global};
@@ -54,9 +60,14 @@ impl Propagator for Meets<'_> {
         Moved::Same
     }
 
-    ghost still_closed = { λ p parts box problem is still. graph_closed parts box };
-
-    ghost stays_still = { λ p parts number old new problem mine is more inside none still. still };
+    // The clauses of the trait: a type with a lifetime can't be given them.
+    fn laws()
+        ensures still_closed { (p : Meets) (parts : Sentence) (box : List (List Bool)) → IsProblem parts → IsBox (shape parts) box → ⊤
+            → IsClosedBy IsGraph parts box }
+        ensures stays_still { (p : Meets) (parts : Sentence) (number : ℕ) (old new : List (List Bool)) → IsProblem parts → StandsFor IsGraph parts number
+            → IsBox (shape parts) old → IsBox (shape parts) new → LiesIn new old → LosesOutside parts 0 old new → ⊤ → ⊤ }
+    {
+    }
 }
 
 fn one<T: Drop>(alloc: Global, item: T) -> Result<List<T>, AllocError>

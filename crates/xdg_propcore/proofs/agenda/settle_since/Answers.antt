@@ -19,7 +19,7 @@ pub run-requires-clause-asleep : goal.run-requires-clause-asleep
 run-requires-clause-asleep g c =
     let long = length-map c.args.props.now g.P.Propagator.kinds in
     others_sleep g.P.Propagator.stands g.P.Propagator.still g.P.Propagator.kinds c.args.props.now c.args.store.now c.args.since c.args.lost.0 c.wake.new.awake c.turns.ensures.known c.requires.stand c.requires.were
-    g.met.P.Propagator.stays_still
+    c.laws.ensures.stays_still
     (λ i m. kinds_in c.as_slice.result.now (map g.P.Propagator.kinds c.args.props.now) c.args.lost.0 (length c.args.props.now) c.wake.new.awake (ap (map (λ (w : Wake). w.0)) c.as_slice.ensures.value ∙ c.agenda.view_is ∙ c.requires.agenda) long c.wake.ensures.woken i (omega (arith, m, long)))
 
 pub run-requires-clause-rests : goal.run-requires-clause-rests

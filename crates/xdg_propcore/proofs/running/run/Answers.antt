@@ -42,7 +42,7 @@ pub loop-at-preserved : goal.loop-at-preserved
 loop-at-preserved g c =
     let l : c.in-Some.at < length c.args.props.now = (let e = c.loop-at.invariant.0.lengths in let q = has_place c.loop-at.awake c.in-Some.at c.in-Some.ensures.some in omega (arith, e, q)) in (
       running_changed g.P.Propagator.stands g.P.Propagator.still g.P.Propagator.kinds c.args.props.now c.args.store.now (on_count c.args.awake.now) c.loop-at.store c.step.new.store c.loop-at.awake c.wake.new.awake c.in-Some.at c.index-props-at.result c.in-Changed.lost.0 _ c.loop-at.invariant.0 l c.index-props-at.is c.requires.stand c.in-Changed.ensures.extends c.in-Changed.ensures.known c.in-Changed.ensures.keeps (let t = c.in-Changed.ensures.turns in omega (arith, t)) c.wake.ensures.small c.in-Changed.ensures.moves
-          g.met.P.Propagator.stays_still
+          c.laws.ensures.stays_still
           c.wake.ensures.length c.wake.ensures.kept
           (kinds_in c.args.wakes.now (map g.P.Propagator.kinds c.args.props.now) c.in-Changed.lost.0 (length c.args.props.now) c.wake.new.awake c.requires.wakes (length-map c.args.props.now g.P.Propagator.kinds) c.wake.ensures.woken)
           (subst (λ z. (i : ℕ) → IsOn c.wake.new.awake i → (IsOn c.loop-at.awake i → ⊥) → bit_and (get_or z i 0) c.in-Changed.lost.0 ≢ 0) c.requires.wakes c.wake.ensures.only),
@@ -72,4 +72,4 @@ set-requires g c = let e = c.loop-at.invariant.0.lengths in let n = c.loop-at.in
 pub returns-clause-settles : goal.returns-clause-settles
 returns-clause-settles g c =
     let none : (at : ℕ) → IsOn c.loop-at.awake at → ⊥ = search rules in
-    running_done g.P.Propagator.stands g.P.Propagator.still g.P.Propagator.kinds c.args.props.now c.args.store.now (on_count c.args.awake.now) c.loop-at.store c.loop-at.awake c.loop-at.invariant.0 none g.met.P.Propagator.still_closed
+    running_done g.P.Propagator.stands g.P.Propagator.still g.P.Propagator.kinds c.args.props.now c.args.store.now (on_count c.args.awake.now) c.loop-at.store c.loop-at.awake c.loop-at.invariant.0 none c.laws.ensures.still_closed

@@ -3,7 +3,7 @@ use Rattle.xdg_problem.specs.declared.parts.Group.{Group}
 use Rattle.xdg_problem.specs.declared.parts.Parts.{Parts}
 use Rattle.xdg_propcore.specs.Uses.{use_at}
 use Rattle.xdg_engine.specs.Bounding.{IsBound}
-use Rattle.xdg_engine.proofs.BoundStepping.{use_found}
+use Rattle.xdg_propcore.proofs.Stepping.{use_found}
 use Rattle.xdg_engine.proofs.Swept.{bound_found, rows_hold}
 use Rattle.xdg_engine.proofs.cost_prop.CostProp.of.Goals as goal
 

@@ -4,7 +4,7 @@ use Rattle.xdg_problem.specs.declared.parts.Parts.{Parts}
 use Rattle.xdg_problem.specs.Problems.{IsGroup, IsProblem}
 use Rattle.xdg_propcore.specs.Uses.{no_use}
 use Rattle.xdg_formula_value.specs.Standing.{HasKindsOf, IsRule}
-use Rattle.xdg_formula_value.proofs.Stepping.{use_found}
+use Rattle.xdg_propcore.proofs.Stepping.{use_found}
 use Rattle.xdg_formula_value.proofs.rule_prop.RuleProp.of.Goals as goal
 
 pub bounds-as_slice-group : goal.bounds-as_slice-group

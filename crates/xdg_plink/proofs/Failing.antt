@@ -1,0 +1,254 @@
+-- Where no rule of a linking principle takes a value that remains, no test of it that is decided fails.
+use Rattle.std.proofs.Common.{◌≡◌, ℕ, ◌<◌, ◌↔◌, ◌&&◌, ◌||◌, ◌==◌, inl, Bool, true, List, length, refl, sym, ◌∙◌, ap, subst, arith}
+use Rattle.std.specs.Prelude.{Contains, filter}
+use Rattle.std.specs.List.{Any}
+use Rattle.std.proofs.lemmas.Bool.{eq-eqb}
+use Rattle.std.proofs.lemmas.List.Elements.{All-contains}
+use Rattle.xdg_problem.specs.declared.analysis.Edge.{Edge}
+use Rattle.xdg_problem.specs.declared.parts.Group.{Group}
+use Rattle.xdg_problem.specs.declared.parts.Parts.{Parts}
+use Rattle.xdg_problem.specs.declared.parts.Principle.{Principle}
+use Rattle.xdg_problem.specs.declared.parts.Principle.TheVariants as principles
+use Rattle.xdg_problem.specs.Arguments.{first_dim, second_dim, label_count}
+use Rattle.xdg_problem.specs.Asking.{AsksLink, IsLinked}
+use Rattle.xdg_problem.specs.Boxes.{Has, IsBox, edge_decision, entry_decision}
+use Rattle.xdg_problem.specs.Features.{map_row, set_row}
+use Rattle.xdg_problem.specs.Paths.{edges_on, AboveByFirst, AreSistersByAny, IsDaughter, IsDaughterBy, IsDaughterByAny, IsEnteredByAny}
+use Rattle.xdg_problem.specs.Places.{edge, nodes, places}
+use Rattle.xdg_problem.specs.Tests.{Test, looks_at, looks_first, looks_second, linked_end, linked_daughter, linked_mother, linked_sister, linked_path}
+use Rattle.xdg_problem.specs.Vectors.{shape}
+use Rattle.xdg_problem.proofs.EachTest.{Each, each_tested}
+use Rattle.xdg_problem.proofs.FilterFacts.{filter_both, filter_alike}
+use Rattle.xdg_problem.proofs.Looking.{and_3, any_same, any_weaker, on_same, sees_place}
+use Rattle.xdg_problem.proofs.PlaceOrder.{place_is}
+use Rattle.xdg_rules.specs.Rules.{has, may_edges, FailsTest, IsDecided, LinkingNotDaughter, LinkingReach, TakesBy, TestDecided, TestPasses, value_in}
+use Rattle.xdg_rules.proofs.Failing.{value_is}
+use Rattle.xdg_rules.proofs.Shrinking.{may_exact, must_exact}
+use Rattle.xdg_plink.specs.Family.{IsLinking}
+use Rattle.xdg_plink.proofs.Places.{may_by}
+use Rattle.xdg_facts.proofs.Truths.{and_swap}
+use Rattle.xdg_facts.proofs.Truths.{and_2, or_here, either_true}
+
+module _ (parts : Parts) (group : Group) (box : List (List Bool)) (is : IsBox (shape parts) box) where
+  abbrev one : ℕ
+  one = first_dim group
+
+  abbrev two : ℕ
+  two = second_dim group
+
+  abbrev may : ℕ → List Edge
+  may dim = may_edges parts box dim
+
+  abbrev present : Edge → Bool
+  present e = has box (edge_decision parts e) 0
+
+  -- the edges that may be
+  abbrev all_may : List Edge
+  all_may = filter present (places parts)
+
+  -- those of them that a test looks at
+  abbrev seen : Test → List Edge
+  seen test = filter (λ e. looks_at group test e && present e) (places parts)
+
+  seen_is : (test : Test) → seen test ≡ filter (looks_at group test) all_may
+  seen_is test =
+      filter_alike (λ e. looks_at group test e && present e) (λ e. present e && looks_at group test e) (places parts)
+      (λ k d l. and_swap (looks_at group test _) (present _))
+      ∙ sym (filter_both (looks_at group test) present (places parts))
+
+  on_may : (dim : ℕ) → edges_on dim all_may ≡ may dim
+  on_may dim =
+      filter_both (λ e. e.dim.0 == dim) present (places parts)
+      ∙ filter_alike (λ e. present e && (e.dim.0 == dim)) (λ e. (e.dim.0 == dim) && present e) (places parts) (λ k d l. and_swap (present _) (_ == dim))
+
+  any_seen : (test : Test) (dim : ℕ) (P : Edge → Type 0) → ((e : Edge) → P e → (e.dim.0 == dim) ≡ true → looks_at group test e ≡ true)
+      → Any P (edges_on dim (seen test)) ↔ Any P (may dim)
+  any_seen test dim P looks =
+      subst (λ es. Any P (edges_on dim es) ↔ Any P (may dim)) (sym (seen_is test))
+      (subst (λ es. Any P (edges_on dim (filter (looks_at group test) all_may)) ↔ Any P es) (on_may dim)
+      (any_same (looks_at group test) dim all_may P looks))
+
+  all_seen : (test : Test) (dim : ℕ) → ((e : Edge) → (e.dim.0 == dim) ≡ true → looks_at group test e ≡ true) → edges_on dim (seen test) ≡ may dim
+  all_seen test dim looks = ap (edges_on dim) (seen_is test) ∙ on_same (looks_at group test) dim all_may looks ∙ on_may dim
+
+  -- the edge that a test of a place looks at
+  place_seen : (test : Test) (u l v : ℕ)
+      → ((e : Edge) → looks_first one test e ≡ ((e.dim.0 == one) && (e.mother.0 == u) && (e.label.0 == l) && (e.daughter.0 == v)))
+      → IsDaughterBy (edges_on one (seen test)) u l v → IsDaughterBy (may one) u l v
+  place_seen test u l v looks =
+      (any_seen test one (λ e. (e.mother.0 ≡ u) × (e.label.0 ≡ l) × (e.daughter.0 ≡ v))
+      (λ e here on. either_true (looks_second two test e) (looks_first one test e) (looks e ∙ sees_place one u l v e here on))).0
+
+  end_seen : (u l v : ℕ) (labels : List ℕ) → IsEnteredByAny (may two) labels v → IsEnteredByAny (edges_on two (seen (linked_end u l v))) labels v
+  end_seen u l v labels =
+      (any_seen (linked_end u l v) two (λ e. Contains labels e.label.0 × (e.daughter.0 ≡ v))
+      (λ e at on. or_here (looks_second two (linked_end u l v) e) (looks_first one (linked_end u l v) e)
+      (and_2 (e.dim.0 == two) (e.daughter.0 == v) on (eq-eqb e.daughter.0 v at.1)))).1
+
+  daughter_seen : (u l v : ℕ) (labels : List ℕ) → IsDaughterByAny (may two) u labels v
+      → IsDaughterByAny (edges_on two (seen (linked_daughter u l v))) u labels v
+  daughter_seen u l v labels =
+      (any_seen (linked_daughter u l v) two (λ e. (e.mother.0 ≡ u) × Contains labels e.label.0 × (e.daughter.0 ≡ v))
+      (λ e at on. or_here (looks_second two (linked_daughter u l v) e) (looks_first one (linked_daughter u l v) e)
+      (and_3 (e.dim.0 == two) (e.mother.0 == u) (e.daughter.0 == v) on (eq-eqb e.mother.0 u at.0) (eq-eqb e.daughter.0 v at.2)))).1
+
+  mother_seen : (u l v : ℕ) (labels : List ℕ) → IsDaughterByAny (may two) v labels u → IsDaughterByAny (edges_on two (seen (linked_mother u l v))) v labels u
+  mother_seen u l v labels =
+      (any_seen (linked_mother u l v) two (λ e. (e.mother.0 ≡ v) × Contains labels e.label.0 × (e.daughter.0 ≡ u))
+      (λ e at on. or_here (looks_second two (linked_mother u l v) e) (looks_first one (linked_mother u l v) e)
+      (and_3 (e.dim.0 == two) (e.mother.0 == v) (e.daughter.0 == u) on (eq-eqb e.mother.0 v at.0) (eq-eqb e.daughter.0 u at.2)))).1
+
+  sister_seen : (u l v : ℕ) (labels : List ℕ) → AreSistersByAny (may two) u labels v → AreSistersByAny (edges_on two (seen (linked_sister u l v))) u labels v
+  sister_seen u l v labels s =
+      let test = linked_sister u l v in
+      let few : List Edge = edges_on two (seen test) in
+      let under : (mother : ℕ) → IsDaughterByAny (may two) mother labels v
+      → IsDaughterByAny few mother labels v =
+      λ mother. (any_seen test two (λ e. (e.mother.0 ≡ mother) × Contains labels e.label.0 × (e.daughter.0 ≡ v))
+      (λ e at on. or_here (looks_second two test e) (looks_first one test e)
+      (and_2 (e.dim.0 == two) ((e.daughter.0 == u) || (e.daughter.0 == v)) on
+      (either_true (e.daughter.0 == u) (e.daughter.0 == v) (eq-eqb e.daughter.0 v at.2))))).1
+      in
+      (any_seen test two (λ e. (e.daughter.0 ≡ u) × IsDaughterByAny few e.mother.0 labels v)
+      (λ e at on. or_here (looks_second two test e) (looks_first one test e)
+      (and_2 (e.dim.0 == two) ((e.daughter.0 == u) || (e.daughter.0 == v)) on
+      (or_here (e.daughter.0 == u) (e.daughter.0 == v) (eq-eqb e.daughter.0 u at.0))))).1
+      (any_weaker (λ e. (e.daughter.0 ≡ u) × IsDaughterByAny (may two) e.mother.0 labels v) (λ e. (e.daughter.0 ≡ u) × IsDaughterByAny few e.mother.0 labels v)
+      (may two) (λ e both. (both.0, under e.mother.0 both.1)) s)
+
+  path_seen : (u l v from to : ℕ) (labels : List ℕ) → AboveByFirst (may two) from labels to
+      → AboveByFirst (edges_on two (seen (linked_path u l v))) from labels to
+  path_seen u l v from to labels =
+      subst (λ es. AboveByFirst es from labels to)
+      (sym (all_seen (linked_path u l v) two (λ e on. or_here (looks_second two (linked_path u l v) e) (looks_first one (linked_path u l v) e) on)))
+
+  -- what a test asks of an edge
+  abbrev Asks : Principle → Test → ℕ → ℕ → ℕ → ℕ → Type 0
+  Asks p test c u l v = IsDaughterBy (edges_on one (seen test)) u l v → AsksLink p group c (edges_on two (seen test)) u l v
+
+  -- a test that asks for an edge
+  reach_fails : (p : Principle) → group.principle ≡ p → (test : Test) (u l v : ℕ) → IsDecided box (entry_decision u)
+      → (IsDaughterBy (edges_on one (seen test)) u l v → IsDaughterBy (may one) u l v)
+      → ((labels : List ℕ) → IsLinked p (may two) u labels v → IsLinked p (edges_on two (seen test)) u labels v)
+      →
+      ((c : ℕ) → (0 < length (map_row group u c l) → IsLinked p (edges_on two (seen test)) u (map_row group u c l) v)
+      → AsksLink p group c (edges_on two (seen test)) u l v)
+      → ((d x : ℕ) → Has box d x → LinkingReach parts group box d x → ⊥)
+      → (Asks group.principle test (value_in box (entry_decision u)) u l v → ⊥) → ⊥
+  reach_fails p same test u l v decided placed linked asks closed fails = failing (λ d. asks c (λ some. absurd (reach d some)))
+    where
+      c : ℕ
+      c = value_in box (entry_decision u)
+
+      failing : Asks p test c u l v → ⊥
+      failing h = fails (subst (λ q. Asks q test c u l v) (sym same) h)
+
+      only : (x : ℕ) → Has box (entry_decision u) x → x ≡ c
+      only x remains = decided.2 x remains ∙ sym (value_is box (entry_decision u) decided)
+
+      apart : (x : ℕ) → Has box (entry_decision u) x → IsLinked group.principle (may two) u (map_row group u x l) v → ⊥
+      apart x remains link =
+          failing
+          (λ d. asks c
+          (λ some. linked (map_row group u c l)
+          (subst (λ z. IsLinked p (may two) u (map_row group u z l) v) (only x remains)
+          (subst (λ q. IsLinked q (may two) u (map_row group u x l) v) same link))))
+
+      reach : IsDaughterBy (edges_on one (seen test)) u l v → 0 < length (map_row group u c l) → ⊥
+      reach d some =
+          let place = (may_by parts box one u l v).0 (placed d) in
+          closed (edge_decision parts (edge one u l v)) 0 place.1 (record {
+            place = edge one u l v;
+            is = (place_is parts (edge one u l v) place.0, refl);
+            says = (refl, refl);
+            links = λ x remains. subst (λ z. 0 < length (map_row group u z l)) (sym (only x remains)) some;
+            apart = apart;
+          })
+
+  -- a test that asks for none
+  apart_fails : group.principle ≡ principles.LinkingNotDaughter → (u l v : ℕ) → TestDecided parts group box (linked_daughter u l v)
+      → ((d x : ℕ) → Has box d x → LinkingNotDaughter parts group box d x → ⊥)
+      → (Asks group.principle (linked_daughter u l v) (value_in box (entry_decision u)) u l v → ⊥) → ⊥
+  apart_fails same u l v decided closed fails = failing (λ d keeps joined. apart d keeps joined)
+    where
+      test : Test
+      test = linked_daughter u l v
+
+      c : ℕ
+      c = value_in box (entry_decision u)
+
+      failing : Asks principles.LinkingNotDaughter test c u l v → ⊥
+      failing h = fails (subst (λ q. Asks q test c u l v) (sym same) h)
+
+      only : (x : ℕ) → Has box (entry_decision u) x → x ≡ c
+      only x remains = decided.entry.2 x remains ∙ sym (value_is box (entry_decision u) decided.entry)
+
+      looks : (e : Edge) → (e.mother.0 ≡ u) × (e.daughter.0 ≡ v) → (e.dim.0 == two) ≡ true → looks_at group test e ≡ true
+      looks e at on =
+          or_here (looks_second two test e) (looks_first one test e)
+          (and_3 (e.dim.0 == two) (e.mother.0 == u) (e.daughter.0 == v) on (eq-eqb e.mother.0 u at.0) (eq-eqb e.daughter.0 v at.1))
+
+      apart : IsDaughterBy (edges_on one (seen test)) u l v → Contains (set_row group u c) l → IsDaughter (edges_on two (seen test)) u v → ⊥
+      apart d keeps joined =
+          let place = (may_by parts box one u l v).0 (place_seen test u l v (λ e. refl) d) in
+          let (k, e, within, at, (m, b)) = (any_seen test two (λ e. (e.mother.0 ≡ u) × (e.daughter.0 ≡ v)) looks).0 joined in
+          let other = (may_exact parts box two e).0 (k, within, at) in
+          let one_value : IsDecided box (edge_decision parts e) = All-contains (λ e. looks_at group test e ≡ true → IsDecided box (edge_decision parts e))
+          (places parts) e decided.edges other.0.0 (looks e (m, b) (eq-eqb e.dim.0 two other.0.1)) in
+          let must = (must_exact parts box two e is).1
+          (other.0, λ absent. (let x = one_value.2 0 other.1 in let y = one_value.2 1 absent in omega (arith, x, y))) in
+          closed (edge_decision parts (edge one u l v)) 0 place.1 (record {
+            place = edge one u l v;
+            is = (place_is parts (edge one u l v) place.0, refl);
+            other = e;
+            other_is = other.0;
+            mother = sym m;
+            daughter = sym b;
+            keeps = λ x remains. subst (λ z. Contains (set_row group u z) l) (sym (only x remains)) keeps;
+            one = inl ((refl, refl), must);
+          })
+
+  -- a test is decided and fails
+  abbrev Fine : Test → Type 0
+  Fine test = TestDecided parts group box test → (TestPasses parts group box test → ⊥) → ⊥
+
+  each_fine : (p : Principle) → IsLinking p → group.principle ≡ p → ((d x : ℕ) → Has box d x → TakesBy p parts group box d x → ⊥)
+      → Each group.truths (nodes parts) (label_count parts one) Fine p
+  each_fine principles.LinkingEnd f e closed =
+      λ u a l b v w decided fails. reach_fails principles.LinkingEnd e (linked_end u l v) u l v decided.entry (place_seen (linked_end u l v) u l v (λ e. refl))
+      (end_seen u l v) (λ c h. h) closed fails
+  each_fine principles.LinkingDaughter f e closed =
+      λ u a l b v w decided fails. reach_fails principles.LinkingDaughter e (linked_daughter u l v) u l v decided.entry
+      (place_seen (linked_daughter u l v) u l v (λ e. refl)) (daughter_seen u l v) (λ c h. h) closed fails
+  each_fine principles.LinkingMother f e closed =
+      λ u a l b v w decided fails. reach_fails principles.LinkingMother e (linked_mother u l v) u l v decided.entry
+      (place_seen (linked_mother u l v) u l v (λ e. refl)) (mother_seen u l v) (λ c h. h) closed fails
+  each_fine principles.LinkingBelowStart f e closed =
+      λ u a l b v w decided fails. reach_fails principles.LinkingBelowStart e (linked_path u l v) u l v decided.entry
+      (place_seen (linked_path u l v) u l v (λ e. refl)) (path_seen u l v u v) (λ c h. h) closed fails
+  each_fine principles.LinkingAboveStart f e closed =
+      λ u a l b v w decided fails. reach_fails principles.LinkingAboveStart e (linked_path u l v) u l v decided.entry
+      (place_seen (linked_path u l v) u l v (λ e. refl)) (path_seen u l v v u) (λ c h. h) closed fails
+  each_fine principles.LinkingSisters f e closed =
+      λ u a l b v w decided fails. reach_fails principles.LinkingSisters e (linked_sister u l v) u l v decided.entry
+      (place_seen (linked_sister u l v) u l v (λ e. refl)) (sister_seen u l v) (λ c h. h) closed fails
+  each_fine principles.LinkingNotDaughter f e closed = λ u a l b v w decided fails. apart_fails e u l v decided closed fails
+  each_fine principles.Graph f e closed = absurd f
+  each_fine principles.Entries f e closed = absurd f
+  each_fine principles.Tree f e closed = absurd f
+  each_fine principles.Dag f e closed = absurd f
+  each_fine principles.Valency f e closed = absurd f
+  each_fine principles.Order f e closed = absurd f
+  each_fine principles.Projectivity f e closed = absurd f
+  each_fine principles.Agr f e closed = absurd f
+  each_fine principles.Agreement f e closed = absurd f
+  each_fine principles.Government f e closed = absurd f
+  each_fine principles.Climbing f e closed = absurd f
+  each_fine principles.Barriers f e closed = absurd f
+  each_fine (principles.Rule formula) f e closed = absurd f
+  each_fine (principles.Bound costs bound) f e closed = absurd f
+
+  pub none_fails : IsLinking group.principle → ((d x : ℕ) → Has box d x → TakesBy group.principle parts group box d x → ⊥) → FailsTest parts group box → ⊥
+  none_fails linking closed failing =
+      each_tested group.truths (nodes parts) (label_count parts one) Fine group.principle (each_fine group.principle linking refl closed) failing.test
+      failing.is failing.decided failing.fails

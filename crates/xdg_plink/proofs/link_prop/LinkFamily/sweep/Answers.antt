@@ -1,0 +1,17 @@
+use Rattle.xdg_problem.specs.Arguments.{second_dim}
+use Rattle.xdg_plink.specs.Ways.{Covers, Keeps, way_of}
+use Rattle.xdg_plink.proofs.Swept.{says_as, swept}
+use Rattle.xdg_plink.proofs.link_prop.LinkFamily.sweep.Goals as goal
+
+pub take_all-requires : goal.take_all-requires
+take_all-requires c = record {
+  known = c.requires.known;
+  group_is = c.requires.group;
+  linking = c.requires.family;
+  covers = says_as (λ w edges t. Covers w edges t) c.args.store.now.parts c.args.store.now.now c.way_of.result (way_of c.args.group.now.principle) c.dim_of.result.0 (second_dim c.args.group.now) c.table_for-table.result c.way_of.ensures c.dim_of.ensures c.table_for-table.ensures.covers;
+}
+
+pub returns : goal.returns
+returns c = swept c.args.group.now c.table_for-table.result c.args.pass.now c.take_all.new.pass c.args.store.now c.take_all.new.store c.requires.family
+    (says_as (λ w edges t. Keeps w edges t) c.args.store.now.parts c.args.store.now.now c.way_of.result (way_of c.args.group.now.principle) c.dim_of.result.0 (second_dim c.args.group.now) c.table_for-table.result c.way_of.ensures c.dim_of.ensures c.table_for-table.ensures.keeps)
+    c.take_all.ensures

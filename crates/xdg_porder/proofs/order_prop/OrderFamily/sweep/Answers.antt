@@ -1,0 +1,13 @@
+use Rattle.std.proofs.Common.{sym, ◌∙◌}
+use Rattle.std.proofs.lemmas.Bool.{false≢true}
+use Rattle.xdg_porder.proofs.Ending.{not_order}
+use Rattle.xdg_porder.proofs.order_prop.OrderFamily.sweep.Goals as goal
+
+pub take_order-requires-clause-at : goal.take_order-requires-clause-at
+take_order-requires-clause-at c = (record { known = c.requires.known; group_is = c.requires.group }, c.is_order.ensures.0 c.if-is_order.true)
+
+pub take_projective-requires-clause-ready : goal.take_projective-requires-clause-ready
+take_projective-requires-clause-ready c = record { known = c.requires.known; group_is = c.requires.group }
+
+pub take_projective-requires-clause-projective : goal.take_projective-requires-clause-projective
+take_projective-requires-clause-projective c = not_order c.args.group.now.principle c.requires.family (λ same. false≢true (sym c.if-is_order.false ∙ c.is_order.ensures.1 same))
