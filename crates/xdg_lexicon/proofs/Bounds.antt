@@ -77,8 +77,6 @@ words_once table is d f e g x y =
     same_some : (o : Option DimType) (a b : DimType) → o ≡ Some a → o ≡ Some b → a ≡ b
     same_some o a b e f = cc
 
--- ---- words of checked grammars
-
 -- ---- entries of words
 
 no_entry : (said : List (List ℕ)) (word : List ℕ) → has_text said word ≡ false → length (places_of said word) ≡ 0
