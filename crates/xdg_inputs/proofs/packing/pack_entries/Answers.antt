@@ -1,4 +1,3 @@
-use Rattle.std.proofs.Common.{refl}
 use Rattle.xdg_inputs.proofs.PackedWords.{have_words, as_long, packed_of}
 use Rattle.xdg_inputs.proofs.packing.pack_entries.Goals as goal
 
