@@ -55,13 +55,13 @@ fn arrange_expanded<S: Source, K: Sink>(
 fn arrange_loaded<S: Source, K: Sink>(
     alloc: Global,
     options: &ArrangeOptions,
-    loaded: &Loaded,
+    loaded: Loaded,
     input: &mut S,
     out: &mut K,
 ) -> Status
-    requires short { length loaded.now.text.items ≤ 4194304 }
+    requires short { length loaded.text.items ≤ 4194304 }
     ensures leaves { (content : List ℕ) → S.left input.old ≡ Some content →
-        LeavesFront (MeaningThen (read_of loaded.now) (ListThen options.now content)) result (K.held out.old) (K.held out.new) }
+        LeavesFront (MeaningThen (read_of loaded) (ListThen options.now content)) result (K.held out.old) (K.held out.new) }
     ensures unwritten { result ≡ Status.ReadFault → K.held out.new ≡ K.held out.old }
     ensures read_fault { result ≡ Status.ReadFault → Rose (S.faults input.old) (S.faults input.new) }
     ensures write_fault { result ≡ Status.WriteFault → Rose (K.faults out.old) (K.faults out.new) }
@@ -73,9 +73,10 @@ fn arrange_loaded<S: Source, K: Sink>(
     ensures unread { (result ≡ Status.BadText) ⊎ (result ≡ Status.BadGrammar) → S.left input.new ≡ S.left input.old }
     ensures all_read { (content : List ℕ) → (result ≡ Status.Done) ⊎ (result ≡ Status.Spent) → S.left input.old ≡ Some content → S.left input.new ≡ Some [] }
 {
-    match expand_tree(alloc, &loaded.tree) {
+    let Loaded { text, tree } = loaded;
+    match expand_tree(alloc, tree) {
         Ok(expanded) => arrange_expanded(alloc, options, &expanded, input, out),
-        Err(stop) => refuse(stopped_in(&loaded.text, stop), Status::BadGrammar, out),
+        Err(stop) => refuse(stopped_in(&text, stop), Status::BadGrammar, out),
     }
 }
 
@@ -106,7 +107,7 @@ pub fn arrange<H: Shelf, S: Source, K: Sink>(
     ensures all_read { (content : List ℕ) → (result ≡ Status.Done) ⊎ (result ≡ Status.Spent) → S.left input.old ≡ Some content → S.left input.new ≡ Some [] }
 {
     match load_tree(alloc, shelf, options.grammar.as_str()) {
-        Ok(loaded) => arrange_loaded(alloc, options, &loaded, input, out),
+        Ok(loaded) => arrange_loaded(alloc, options, loaded, input, out),
         Err(refusal) => refuse(refusal, Status::BadText, out),
     }
 }

@@ -131,15 +131,15 @@ fn best_expanded<H: Shelf, S: Source, K: Sink>(
 fn best_loaded<H: Shelf, S: Source, K: Sink>(
     alloc: Global,
     options: &BestOptions,
-    loaded: &Loaded,
+    loaded: Loaded,
     shelf: &mut H,
     input: &mut S,
     out: &mut K,
 ) -> Status
-    requires short { length loaded.now.text.items ≤ 4194304 }
+    requires short { length loaded.text.items ≤ 4194304 }
     requires some { 1 ≤ options.now.budget }
     ensures leaves { (files : List ℕ → Option (List ℕ)) (content : List ℕ) → H.files shelf.old ≡ Some files → S.left input.old ≡ Some content
-        → Leaves (MeaningThen (read_of loaded.now) (CostsThen options.now files content)) result (K.held out.old) (K.held out.new) }
+        → Leaves (MeaningThen (read_of loaded) (CostsThen options.now files content)) result (K.held out.old) (K.held out.new) }
     ensures read_fault { result ≡ Status.ReadFault
         → Rose (H.faults shelf.old options.now.costs) (H.faults shelf.new options.now.costs) ⊎ Rose (S.faults input.old) (S.faults input.new) }
     ensures write_fault { result ≡ Status.WriteFault → Rose (K.faults out.old) (K.faults out.new) }
@@ -154,9 +154,10 @@ fn best_loaded<H: Shelf, S: Source, K: Sink>(
     ensures all_read { (content : List ℕ) → (result ≡ Status.Done) ⊎ (result ≡ Status.Spent) → S.left input.old ≡ Some content → S.left input.new ≡ Some [] }
     ensures command { result ≡ Status.Usage → ⊥ }
 {
-    match expand_tree(alloc, &loaded.tree) {
+    let Loaded { text, tree } = loaded;
+    match expand_tree(alloc, tree) {
         Ok(expanded) => best_expanded(alloc, options, &expanded, shelf, input, out),
-        Err(stop) => refuse(stopped_in(&loaded.text, stop), Status::BadGrammar, out),
+        Err(stop) => refuse(stopped_in(&text, stop), Status::BadGrammar, out),
     }
 }
 
@@ -188,7 +189,7 @@ pub fn best_sentence<H: Shelf, S: Source, K: Sink>(
     ensures command { result ≡ Status.Usage → ⊥ }
 {
     match load_tree(alloc, shelf, options.grammar.as_str()) {
-        Ok(loaded) => best_loaded(alloc, options, &loaded, shelf, input, out),
+        Ok(loaded) => best_loaded(alloc, options, loaded, shelf, input, out),
         Err(refusal) => refuse(refusal, Status::BadText, out),
     }
 }

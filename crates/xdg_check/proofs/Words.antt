@@ -1,47 +1,60 @@
--- The dimension of words, found among others.
-use Rattle.std.proofs.Common.{arith, zero, suc, ◌≡◌, inl, inr, ℕ, ◌<◌, ◌≤◌, ◌+◌, List, [], ◌∷◌, length, get_or, slice_get, drop, Some, sym, ap, subst, ◌∙◌, codes}
-use Rattle.std.proofs.lemmas.List.{drop_more, drop_all}
-use Rattle.xdg_domain.specs.declared.types.Ty.{Ty}
-use Rattle.xdg_domain.specs.Shapes.{Shape, shape, text}
-use Rattle.xdg_names.specs.First.{In}
-use Rattle.xdg_names.proofs.In.{in_at}
-use Rattle.xdg_types.specs.declared.table.DimType.{DimType}
-use Rattle.xdg_types.specs.Table.{Table, typed, HasPlace}
-use Rattle.xdg_check.specs.Lex.{IsLex, HasLex}
+-- The dimension of words, and where entries say theirs.
+use Rattle.std.proofs.Common.{◌≡◌, ℕ, zero, suc, List, [], ◌∷◌, slice_get, Some, inl, inr, refl, sym, ap, subst, codes, arith}
+use Rattle.xdg_base.specs.declared.faults.Cause.TheVariants as causes
+use Rattle.xdg_base.specs.declared.faults.Fault.{Fault}
+use Rattle.xdg_domain.specs.Shapes.{Shape, text}
+use Rattle.xdg_names.specs.First.{In, IsFirstOf, Tells}
+use Rattle.xdg_types.specs.Names.{fault_at}
+use Rattle.xdg_types.specs.Table.{Table, Typed, typed, HasPlace}
+use Rattle.xdg_packed.specs.Entries.{IsWordPlace}
+use Rattle.xdg_check.specs.Lex.{HasLex, LexOffends}
 
-abbrev pub Field : Type 0
-Field = List ℕ × Ty
+-- ---- from places to what stands there
 
-abbrev pub word : List ℕ × Shape
-word = (codes "word", text)
+has_got : (ks : List ℕ) (i k : ℕ) → slice_get ks i ≡ Some k → HasPlace ks k
+has_got [] i k is = absurd cc
+has_got (j ∷ ks) zero k is = inl cc
+has_got (j ∷ ks) (suc i) k is = inr (has_got ks i k is)
 
-pub word_stands : (fields : List Field) (i : ℕ) (field : Field) → i < length fields → field ≡ get_or fields i field → field.0 ≡ codes "word" → shape field.1 ≡ text → In (typed fields) word
-word_stands fields i field within is name type = in_typed fields (in_at fields i field within is)
-  where
-    in_typed : (all : List Field) → In all field → In (typed all) word
-    in_typed [] h = h
-    in_typed (x ∷ xs) h = elim h [ inl e ↦ inl (let f : x.0 ≡ codes "word" = ap (λ y. y.0) e ∙ name in let g : shape x.1 ≡ text = ap (λ y. shape y.1) e ∙ type in cc) | inr k ↦ inr (in_typed xs k) ]
+in_got : (fs : Typed) (i : ℕ) (f : List ℕ × Shape) → slice_get fs i ≡ Some f → In fs f
+in_got [] i f is = absurd cc
+in_got (x ∷ fs) zero f is = inl cc
+in_got (x ∷ fs) (suc i) f is = inr (in_got fs i f is)
 
--- ---- the dimension
+-- where words are said, there is the dimension of words
+pub word_lex : (table : Table) (dim field : ℕ) → IsWordPlace table dim field → HasLex table
+word_lex table dim field place = record {
+  place = place.used.0;
+  used = has_got table.used dim place.used.0 place.used.1.0;
+  dim = place.lex;
+  stands = place.used.1.1;
+  lex = record { name = place.name; word = in_got (typed place.lex.fields) field (codes "word", text) place.word };
+}
 
--- a place of a dimension of words, among those that are used
-abbrev pub Wordy : List DimType → List ℕ → ℕ → Type 0
-Wordy dims used i = (k : ℕ) (dim : DimType) → HasPlace used k → slice_get dims k ≡ Some dim → IsLex dim → HasPlace (drop i used) k
+-- ---- and back
 
-place_in : (used : List ℕ) (i k : ℕ) → i < length used → k ≡ get_or used i 0 → HasPlace used k
-place_in [] i k h is = absurd (omega (arith, h))
-place_in (j ∷ used) zero k h is = inl (sym is)
-place_in (j ∷ used) (suc i) k h is = inr (place_in used i k (omega (arith, h)) is)
+used_at : (ks : List ℕ) (k : ℕ) → HasPlace ks k → (d : ℕ) × (slice_get ks d ≡ Some k)
+used_at [] k has = absurd has
+used_at (j ∷ ks) k (inl is) = (0, ap Some is)
+used_at (j ∷ ks) k (inr later) = (let r = used_at ks k later in (suc r.0, r.1))
 
-pub lex_found : (table : Table) (dims : List DimType) (used : List ℕ) (i k : ℕ) (dim : DimType) → dims ≡ table.dims → used ≡ table.used → i < length used → k ≡ get_or used i 0 → slice_get dims k ≡ Some dim → IsLex dim → HasLex table
-lex_found table dims used i k dim same lent within is at lex =
-    record { place = k; used = subst (λ us. HasPlace us k) lent (place_in used i k within is); dim = dim; stands = ap (λ ds. slice_get ds k) (sym same) ∙ at; lex = lex }
+field_at : (fs : Typed) (f : List ℕ × Shape) → In fs f → (i : ℕ) × (slice_get fs i ≡ Some f)
+field_at [] f stands = absurd stands
+field_at (x ∷ fs) f (inl is) = (0, ap Some is)
+field_at (x ∷ fs) f (inr later) = (let r = field_at fs f later in (suc r.0, r.1))
 
-pub lex_later : (dims : List DimType) (used : List ℕ) (i : ℕ) → i < length used → ((dim : DimType) → slice_get dims (get_or used i 0) ≡ Some dim → IsLex dim → ⊥) → Wordy dims used i → Wordy dims used (i + 1)
-lex_later dims used i within not before k dim here at lex =
-    let front : drop i used ≡ get_or used i 0 ∷ drop (i + 1) used = drop_more used i 0 within in
-    elim (subst (λ us. HasPlace us k) front (before k dim here at lex)) [ inl e ↦ absurd (not dim (ap (slice_get dims) e ∙ at) lex) | inr l ↦ l ]
+no_words : (table : Table) → ((dim field : ℕ) → IsWordPlace table dim field → ⊥) → HasLex table → ⊥
+no_words table none lex =
+    let used = used_at table.used lex.place lex.used in
+    let field = field_at (typed lex.dim.fields) (codes "word", text) lex.lex.word in
+    none used.0 field.0 (record { lex = lex.dim; used = (lex.place, (used.1, lex.stands)); name = lex.lex.name; word = field.1 })
 
-pub no_lex : (table : Table) (dims : List DimType) (used : List ℕ) (i : ℕ) → dims ≡ table.dims → used ≡ table.used → length used ≤ i → Wordy dims used i → HasLex table → ⊥
-no_lex table dims used i same lent past before has =
-    subst (λ us. HasPlace us has.place) (drop_all i used past) (before has.place has.dim (subst (λ us. HasPlace us has.place) (sym lent) has.used) (ap (λ ds. slice_get ds has.place) same ∙ has.stands) has.lex)
+same_first : (f : Fault) → IsFirstOf f f
+same_first f = inr (refl, inr (refl, omega arith))
+
+-- where no words are said, that is the one fault
+pub lex_missing : (table : Table) → ((dim field : ℕ) → IsWordPlace table dim field → ⊥) → Tells (LexOffends table) (Some (fault_at causes.NoLex 0))
+lex_missing table none = (
+  record { missing = no_words table none; fault = refl },
+  λ f offends. subst (IsFirstOf (fault_at causes.NoLex 0)) (sym offends.fault) (same_first (fault_at causes.NoLex 0)),
+)

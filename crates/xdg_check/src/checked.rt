@@ -45,6 +45,8 @@ pub struct Checked {
     pub(crate) entries: List<EntryDef>,
     // The places of the classes, each after those that its body uses.
     pub(crate) order: List<usize>,
+    // Where entries say their words.
+    pub(crate) words: (usize, usize),
 }
 
 impl Model for Checked {
@@ -55,6 +57,7 @@ impl Model for Checked {
     ghost use Rattle.xdg_ast.specs.contracts.terms.GenKind as generator;
     ghost use Rattle.xdg_ast.specs.contracts.terms.TermKind as term;
     ghost use Rattle.xdg_domain.specs.contracts.types.Ty as ty;
+    ghost use Rattle.xdg_packed.specs.Entries.{IsWordPlace};
     ghost use Rattle.xdg_check.specs.Checked.{Parts, IsChecked};
     ghost use Rattle.xdg_check.specs.Counts.{class_texts};
 
@@ -65,12 +68,13 @@ impl Model for Checked {
     ghost view = { λ c. record { types = c.types; principles = c.principles; classes = c.classes; entries = c.entries; order = c.order } };
 
     ghost invariant = { λ c. IsChecked (record { types = c.types; principles = c.principles; classes = c.classes; entries = c.entries; order = c.order })
-        × (c.names ≡ class_texts c.classes) };
+        × (c.names ≡ class_texts c.classes) × IsWordPlace c.types c.words.0 c.words.1 };
 }
 
 impl Checked {
     ghost use Rattle.xdg_check.specs.Checked.{IsChecked};
     ghost use Rattle.xdg_check.specs.Counts.{class_texts};
+    ghost use Rattle.xdg_packed.specs.Entries.{IsWordPlace};
 
     /// The dimensions with their types, and which of them are used, lent.
     pub fn types(&self) -> &TypeTable
@@ -110,6 +114,15 @@ impl Checked {
         ensures keeps { IsChecked self.now }
     {
         self.order.as_slice()
+    }
+
+    /// Where entries say their words: the place of the dimension `lex` among the used dimensions, and that of its feature `word`
+    /// of type `string`, both from 0.
+    pub fn word_place(&self) -> (usize, usize)
+        ensures place { IsWordPlace self.now.types result.0 result.1 }
+        ensures keeps { IsChecked self.now }
+    {
+        self.words
     }
 
     /// The place of the class with that name, from 0, if there is one.

@@ -125,7 +125,7 @@ fn complete(alloc: Global, classes: &Classes<'_>, expr: &ExprKind) -> Result<Exp
 {
     match expr {
         ExprKind::Or(members) => {
-            let mut made = List::new(alloc);
+            let mut made = List::from_vec(Vec::with_capacity(alloc, members.len())?);
             for member in members.as_slice() {
                 let kind = complete(alloc, classes, &member.kind)?;
                 made.push(Spanned {
@@ -136,7 +136,7 @@ fn complete(alloc: Global, classes: &Classes<'_>, expr: &ExprKind) -> Result<Exp
             Ok(ExprKind::Or(made))
         }
         ExprKind::And(members) => {
-            let mut made = List::new(alloc);
+            let mut made = List::from_vec(Vec::with_capacity(alloc, members.len())?);
             for member in members.as_slice() {
                 let kind = complete(alloc, classes, &member.kind)?;
                 made.push(Spanned {

@@ -1,80 +1,36 @@
 //! The dimension of words.
 
-ghost use Rattle.std.specs.Prelude.{◌↔◌, ◌≡◌, IsTrue, codes, slice_get};
-ghost use Rattle.xdg_domain.specs.Shapes.{shape, text};
-ghost use Rattle.xdg_names.specs.First.{In, Tells};
-ghost use Rattle.xdg_types.specs.declared.table.DimType.{DimType};
-ghost use Rattle.xdg_types.specs.Table.{typed, IsTable};
-ghost use Rattle.xdg_check.specs.Lex.{IsLex, HasLex, LexOffends};
+ghost use Rattle.std.specs.Prelude.{◌≡◌, Some, IfErr, IfOk};
+ghost use Rattle.xdg_base.specs.declared.faults.Cause.TheVariants as causes;
+ghost use Rattle.xdg_names.specs.First.{Tells};
+ghost use Rattle.xdg_types.specs.Names.{fault_at};
+ghost use Rattle.xdg_types.specs.Table.{IsTable};
+ghost use Rattle.xdg_packed.specs.Entries.{IsWordPlace};
+ghost use Rattle.xdg_check.specs.Lex.{LexOffends};
 
-use xdg_base::{Cause, Fault, Text};
-use xdg_domain::Ty;
-use xdg_types::{DimType, TypeTable};
-
-fn is_string(ty: &Ty) -> bool
-    ensures { IsTrue result ↔ (shape ty.now ≡ text) }
-{
-    match ty {
-        Ty::Str => true,
-        _ => false,
-    }
-}
-
-/// Whether there is a feature `word` of type `string`.
-fn has_word(fields: &[(Text, Ty)]) -> bool
-    ensures { IsTrue result ↔ In (typed fields.now) (codes "word", text) }
-{
-    for field in fields {
-        if field.0.as_str() == "word" && is_string(&field.1) {
-            return true;
-        }
-    }
-    false
-}
-
-/// Whether it is the dimension `lex` with such a feature.
-fn is_lex(dim: &DimType) -> bool
-    ensures { IsTrue result ↔ IsLex dim.now }
-{
-    dim.name.as_str() == "lex" && has_word(dim.fields.as_slice())
-}
-
-/// Whether the dimension at the place is such a one.
-fn is_lex_at(dims: &[DimType], place: usize) -> bool
-    ensures { IsTrue result ↔ ((dim : DimType) × ((slice_get dims.now place ≡ Some dim) × IsLex dim)) }
-{
-    match dims.get(place) {
-        None => false,
-        Some(dim) => is_lex(dim),
-    }
-}
-
-/// Whether the dimension `lex` is used and has a feature `word` of type `string`.
-fn has_lex(table: &TypeTable) -> bool
-    ensures { IsTrue result ↔ HasLex table.now }
-{
-    let dims = table.dims();
-    for place in table.used() {
-        if is_lex_at(dims, *place) {
-            return true;
-        }
-    }
-    false
-}
+use xdg_base::{Cause, Fault};
+use xdg_packed::word_place;
+use xdg_types::TypeTable;
 
 /// The fault of a grammar without words.
-pub(crate) fn check_lex(table: &TypeTable) -> Option<Fault>
-    ensures told { Tells (LexOffends table.now) result }
-    ensures has { result ≡ None → HasLex table.now }
-    ensures keeps { IsTable table.now }
+fn no_lex() -> Fault
+    ensures { result ≡ fault_at causes.NoLex 0 }
 {
-    let _ = table.dims();
-    if has_lex(table) {
-        return None;
-    }
-    Some(Fault {
+    Fault {
         cause: Cause::NoLex,
         at: 0,
         reached: 0,
-    })
+    }
+}
+
+/// Where entries say their words: the place of the dimension `lex` among the used dimensions, and that of its feature `word` of type
+/// `string`, both from 0. Or the fault of a grammar without words.
+pub(crate) fn place_of_words(table: &TypeTable) -> Result<(usize, usize), Fault>
+    ensures found { IfOk result (λ place. IsWordPlace table.now place.0 place.1) }
+    ensures refused { IfErr result (λ fault. Tells (LexOffends table.now) (Some fault)) }
+{
+    match word_place(table) {
+        Some(place) => Ok(place),
+        None => Err(no_lex()),
+    }
 }

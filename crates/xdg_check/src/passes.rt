@@ -7,15 +7,15 @@ ghost use Rattle.xdg_classes.specs.Ordered.{OrdersClasses};
 ghost use Rattle.xdg_names.specs.First.{Tells as TellsFault};
 ghost use Rattle.xdg_types.specs.Answers.{HasTable, None_of};
 ghost use Rattle.xdg_types.specs.Table.{IsTable};
+ghost use Rattle.xdg_packed.specs.Entries.{IsWordPlace};
 ghost use Rattle.xdg_check.specs.Answers.{NameOffends, ValueOffends, IsCheckedOf, Tells};
 ghost use Rattle.xdg_check.specs.Checked.{Parts};
-ghost use Rattle.xdg_check.specs.Lex.{HasLex};
 ghost use Rattle.xdg_check.specs.Only.{IsAnswer, Gives};
 ghost use Rattle.xdg_check.specs.Weights.{default_bytes, most_bytes};
 
 use crate::checked::Checked;
 use crate::filling::fill_counts;
-use crate::lex::check_lex;
+use crate::lex::place_of_words;
 use crate::making::{index_names, make_classes, make_entries};
 use crate::weighing::are_small;
 use std::alloc::{AllocError, Global};
@@ -59,6 +59,7 @@ fn assemble(
     alloc: Global,
     statements: &[Statement],
     table: TypeTable,
+    words: (usize, usize),
     classes: &Classes<'_>,
 ) -> Result<Checked, AllocError>
     requires table { HasTable statements.now table }
@@ -66,7 +67,7 @@ fn assemble(
     requires named { None_of (NameOffends statements.now table) }
     requires ordered { OrdersClasses statements.now classes.now }
     requires valued { None_of (ValueOffends statements.now table) }
-    requires lex { HasLex table }
+    requires words { IsWordPlace table words.0 words.1 }
     ensures made { IfOk result (λ made. IsCheckedOf statements.now table made) }
     ensures within { IfOk result (λ _. default_bytes (d.classes statements.now) statements.now ≤ most_bytes) }
 {
@@ -87,6 +88,7 @@ fn assemble(
         classes: List::from_vec(made),
         entries,
         order,
+        words,
     })
 }
 
@@ -105,9 +107,9 @@ fn ordered(
 {
     match values_wrong(alloc, statements, &table, classes)? {
         Some(fault) => Err(Stop::Fault(fault)),
-        None => match check_lex(&table) {
-            Some(fault) => Err(Stop::Fault(fault)),
-            None => Ok(assemble(alloc, statements, table, classes)?),
+        None => match place_of_words(&table) {
+            Err(fault) => Err(Stop::Fault(fault)),
+            Ok(words) => Ok(assemble(alloc, statements, table, words, classes)?),
         },
     }
 }

@@ -64,14 +64,14 @@ fn corpus_loaded<R: Threads + Sync, S: Source, K: Sink>(
     rt: &R,
     alloc: Global,
     options: &CorpusOptions,
-    loaded: &Loaded,
+    loaded: Loaded,
     input: &mut S,
     out: &mut K,
 ) -> Status
-    requires short { length loaded.now.text.items ≤ 4194304 }
+    requires short { length loaded.text.items ≤ 4194304 }
     requires range { CanSearch options.now }
     ensures leaves { (content : List ℕ) → S.left input.old ≡ Some content
-        → LeavesPart (MeaningThen (read_of loaded.now) (LinesThen options.now content)) result (K.held out.old) (K.held out.new) }
+        → LeavesPart (MeaningThen (read_of loaded) (LinesThen options.now content)) result (K.held out.old) (K.held out.new) }
     ensures unwritten { result ≡ Status.ReadFault → K.held out.new ≡ K.held out.old }
     ensures read_fault { result ≡ Status.ReadFault → Rose (S.faults input.old) (S.faults input.new) }
     ensures write_fault { result ≡ Status.WriteFault → Rose (K.faults out.old) (K.faults out.new) }
@@ -83,9 +83,10 @@ fn corpus_loaded<R: Threads + Sync, S: Source, K: Sink>(
     ensures unread { (result ≡ Status.BadText) ⊎ (result ≡ Status.BadGrammar) → S.left input.new ≡ S.left input.old }
     ensures all_read { (content : List ℕ) → result ≡ Status.Done → S.left input.old ≡ Some content → S.left input.new ≡ Some [] }
 {
-    match expand_tree(alloc, &loaded.tree) {
+    let Loaded { text, tree } = loaded;
+    match expand_tree(alloc, tree) {
         Ok(expanded) => corpus_expanded(rt, alloc, options, &expanded, input, out),
-        Err(stop) => refuse(stopped_in(&loaded.text, stop), Status::BadGrammar, out),
+        Err(stop) => refuse(stopped_in(&text, stop), Status::BadGrammar, out),
     }
 }
 
@@ -119,7 +120,7 @@ pub fn corpus<R: Threads + Sync, H: Shelf, S: Source, K: Sink>(
     ensures all_read { (content : List ℕ) → result ≡ Status.Done → S.left input.old ≡ Some content → S.left input.new ≡ Some [] }
 {
     match load_tree(alloc, shelf, options.grammar.as_str()) {
-        Ok(loaded) => corpus_loaded(rt, alloc, options, &loaded, input, out),
+        Ok(loaded) => corpus_loaded(rt, alloc, options, loaded, input, out),
         Err(refusal) => refuse(refusal, Status::BadText, out),
     }
 }

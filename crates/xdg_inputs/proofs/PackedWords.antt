@@ -63,9 +63,8 @@ each_entry : (table : Table) (P : Entry → Type 0) → ((entry : Entry) → IsE
 each_entry table P holds [] are = All-nil P
 each_entry table P holds (entry ∷ entries) are = All-cons P entry entries (holds entry are.0) (each_entry table P holds entries are.1)
 
-pub have_words : (table known : Table) (dim field : ℕ) (entries given : List Entry) → known ≡ table → given ≡ entries → IsWordPlace known dim field → AreEntries table entries → All (HasWord dim field) given
-have_words table known dim field entries given same are place right =
-    subst (All (HasWord dim field)) (sym are) (each_entry table (HasWord dim field) (has_word table dim field (subst (λ t. IsWordPlace t dim field) same place)) entries right)
+pub have_words : (table : Table) (dim field : ℕ) (entries given : List Entry) → given ≡ entries → IsWordPlace table dim field → AreEntries table entries → All (HasWord dim field) given
+have_words table dim field entries given are place right = subst (All (HasWord dim field)) (sym are) (each_entry table (HasWord dim field) (has_word table dim field place) entries right)
 
 long_as : (table : Table) (entries : List Entry) → AreEntries table entries → AreAsLong entries
 long_as table [] are = All-nil (λ (entry : Entry). length entry ≡ 0)
@@ -80,8 +79,7 @@ packed_so : (expanded : Expanded) (dim field : ℕ) (packed : Lexicon) → IsTab
 packed_so expanded dim field packed table place is =
     subst (IsPackedOf expanded) (sym is) (record { entries = refl; place = place; one = λ d f other. words_once expanded.checked.types table d f dim field other place })
 
-pub packed_of : {E : Type 0} (expanded : Expanded) (known : Table) (given : List Entry) (dim field : ℕ) (result : Result Lexicon E) → known ≡ expanded.checked.types → given ≡ expanded.entries → IsTable expanded.checked.types → IsWordPlace known dim field
+pub packed_of : {E : Type 0} (expanded : Expanded) (given : List Entry) (dim field : ℕ) (result : Result Lexicon E) → given ≡ expanded.entries → IsTable expanded.checked.types → IsWordPlace expanded.checked.types dim field
     → IfOk result (λ packed. packed ≡ record { entries = given; dim = dim; field = field }) → IfOk result (IsPackedOf expanded)
-packed_of expanded known given dim field (Err e) same are table place is = tt
-packed_of expanded known given dim field (Ok packed) same are table place is =
-    packed_so expanded dim field packed table (subst (λ t. IsWordPlace t dim field) same place) (is ∙ ap (λ all. record { entries = all; dim = dim; field = field }) are)
+packed_of expanded given dim field (Err e) are table place is = tt
+packed_of expanded given dim field (Ok packed) are table place is = packed_so expanded dim field packed table place (is ∙ ap (λ all. record { entries = all; dim = dim; field = field }) are)

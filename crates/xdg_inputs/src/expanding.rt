@@ -8,6 +8,7 @@ ghost use Rattle.xdg_inputs.specs.Answers.{Gives, IsAnswer, Tells};
 ghost use Rattle.xdg_inputs.specs.Meanings.{Meaning};
 
 use std::alloc::Global;
+use std::mem::drop;
 use xdg_ast::Grammar;
 use xdg_base::{List, Stop};
 use xdg_check::{Checked, check};
@@ -24,26 +25,27 @@ pub struct Expanded {
     pub entries: List<Entry>,
 }
 
-/// What the tree of a grammar text means.
+/// What the tree of a grammar text means. The tree is dropped before its classes are expanded.
 ///
 /// # Errors
 ///
 /// The first fault of the types, else of names, class cycles, values and the dimension of words, else of the expansion of
 /// classes. Or want of memory.
-pub fn expand_tree(alloc: Global, tree: &Grammar) -> Result<Expanded, Stop>
-    ensures tells { Tells tree.now result }
-    ensures only { (answer : Result Meaning faults.Fault) → IsAnswer tree.now answer → Gives answer result }
+pub fn expand_tree(alloc: Global, tree: Grammar) -> Result<Expanded, Stop>
+    ensures tells { Tells tree result }
+    ensures only { (answer : Result Meaning faults.Fault) → IsAnswer tree answer → Gives answer result }
     ensures right { IfOk result (λ made. IsRightLexicon made.checked.types made.entries) }
-    ensures classes { IfOk result (λ made. length made.checked.classes ≡ length (classes tree.now.statements)) }
+    ensures classes { IfOk result (λ made. length made.checked.classes ≡ length (classes tree.statements)) }
 {
-    let table = match types(alloc, tree) {
+    let table = match types(alloc, &tree) {
         Ok(table) => table,
         Err(stop) => return Err(stop),
     };
-    let checked = match check(alloc, tree, table) {
+    let checked = match check(alloc, &tree, table) {
         Ok(checked) => checked,
         Err(stop) => return Err(stop),
     };
+    drop(tree);
     match expand(alloc, &checked) {
         Ok(entries) => Ok(Expanded { checked, entries }),
         Err(stop) => Err(stop),

@@ -8,15 +8,13 @@ use Rattle.xdg_base.specs.declared.faults.Stop.{Stop}
 use Rattle.xdg_base.specs.declared.faults.Stop.TheVariants as stops
 use Rattle.xdg_domain.specs.declared.types.Ty.{Ty}
 use Rattle.xdg_domain.specs.Shapes.{Shape, Among, Differ, shape, text}
-use Rattle.xdg_names.specs.First.{In}
 use Rattle.xdg_names.specs.Texts.{has_text, place_of}
 use Rattle.xdg_names.proofs.Texts.{place_of-Some, place_of-None}
 use Rattle.xdg_types.specs.declared.table.DimType.{DimType}
-use Rattle.xdg_types.specs.Table.{Table, IsTable, ArePlaces, HasPlace, Typed, typed, firsts}
+use Rattle.xdg_types.specs.Table.{Table, IsTable, ArePlaces, HasPlace, typed, firsts}
 use Rattle.xdg_packed.specs.Lexicon.{Entry, number, numbers_of, places_of, word_of}
 use Rattle.xdg_packed.proofs.WordLists.{numbers_none}
 use Rattle.xdg_check.specs.Counts.{capped}
-use Rattle.xdg_check.specs.Lex.{HasLex}
 use Rattle.xdg_packed.specs.Entries.{IsWordPlace, count_of}
 use Rattle.xdg_lexicon.specs.Growing.{IsWordCount, IsFirstCrowded}
 use Rattle.xdg_lexicon.specs.Lexicon.{AreFewEach, reaching}
@@ -78,24 +76,6 @@ words_once table is d f e g x y =
   where
     same_some : (o : Option DimType) (a b : DimType) → o ≡ Some a → o ≡ Some b → a ≡ b
     same_some o a b e f = cc
-
--- ---- words of checked grammars
-
-used_at : (ks : List ℕ) (k : ℕ) → HasPlace ks k → (i : ℕ) × (slice_get ks i ≡ Some k)
-used_at [] k has = absurd has
-used_at (j ∷ ks) k (inl is) = (0, ap Some is)
-used_at (j ∷ ks) k (inr later) = (let r = used_at ks k later in (suc r.0, r.1))
-
-field_at : (fs : Typed) (f : List ℕ × Shape) → In fs f → (i : ℕ) × (slice_get fs i ≡ Some f)
-field_at [] f stands = absurd stands
-field_at (x ∷ fs) f (inl is) = (0, ap Some is)
-field_at (x ∷ fs) f (inr later) = (let r = field_at fs f later in (suc r.0, r.1))
-
-pub has_words : (table : Table) → HasLex table → ((dim field : ℕ) → IsWordPlace table dim field → ⊥) → ⊥
-has_words table lex none =
-    let used = used_at table.used lex.place lex.used in
-    let field = field_at (typed lex.dim.fields) (codes "word", text) lex.lex.word in
-    none used.0 field.0 (record { lex = lex.dim; used = (lex.place, (used.1, lex.stands)); name = lex.lex.name; word = field.1 })
 
 -- ---- entries of words
 

@@ -19,7 +19,6 @@ use std::alloc::Global;
 use xdg_base::{Cause, List, Stop};
 use xdg_check::{Checked, EntryDef, combos_of, uses_of};
 use xdg_domain::Entry;
-use xdg_packed::word_place;
 
 /// What the `defentry` statements so far came to.
 #[derive(Debug, Drop)]
@@ -42,9 +41,7 @@ pub fn expand(alloc: Global, checked: &Checked) -> Result<List<Entry>, Stop>
     ensures only { (answer : Result (List lexicon.Entry) faults.Fault) → IsAnswer (source_of checked.now) answer → Gives answer result }
     ensures right { IfOk result (IsRightLexicon checked.now.types) }
 {
-    let Some((dim, field)) = word_place(checked.types()) else {
-        unreachable!()
-    };
+    let (dim, field) = checked.word_place();
     let mut expanding = Expanding {
         uses: 0,
         combos: 0,

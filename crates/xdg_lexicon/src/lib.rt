@@ -19,4 +19,3 @@ pub use denoting::members;
 pub use entries::Partial;
 pub use expanding::expand;
 pub use xdg_check::{combos_of as count, uses_of as uses};
-pub use xdg_packed::word_place;

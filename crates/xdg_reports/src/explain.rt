@@ -140,13 +140,13 @@ fn explain_expanded<H: Shelf, K: Sink>(
 fn explain_loaded<H: Shelf, K: Sink>(
     alloc: Global,
     options: &ExplainOptions,
-    loaded: &Loaded,
+    loaded: Loaded,
     shelf: &mut H,
     out: &mut K,
 ) -> Status
-    requires { length loaded.now.text.items ≤ 4194304 }
+    requires { length loaded.text.items ≤ 4194304 }
     ensures leaves { (files : List ℕ → Option (List ℕ)) → H.files shelf.old ≡ Some files
-        → Leaves (MeaningThen (read_of loaded.now) (RulesThen files options.now.rules (ExplainThen options.now files))) result (K.held out.old)
+        → Leaves (MeaningThen (read_of loaded) (RulesThen files options.now.rules (ExplainThen options.now files))) result (K.held out.old)
         (K.held out.new) }
     ensures read_fault { result ≡ Status.ReadFault
         → RoseFor options.now.rules (H.faults shelf.old) (H.faults shelf.new)
@@ -159,9 +159,10 @@ fn explain_loaded<H: Shelf, K: Sink>(
     ensures wrote { Wrote ExplainEnds result (K.faults out.old) (K.faults out.new) (K.held out.old) (K.held out.new) }
     ensures command { result ≡ Status.Usage → ⊥ }
 {
-    match expand_tree(alloc, &loaded.tree) {
+    let Loaded { text, tree } = loaded;
+    match expand_tree(alloc, tree) {
         Ok(expanded) => explain_expanded(alloc, options, &expanded, shelf, out),
-        Err(stop) => refuse(stopped_in(&loaded.text, stop), Status::BadGrammar, out),
+        Err(stop) => refuse(stopped_in(&text, stop), Status::BadGrammar, out),
     }
 }
 
@@ -188,7 +189,7 @@ pub fn explain_analysis<H: Shelf, K: Sink>(
     ensures command { result ≡ Status.Usage → ⊥ }
 {
     match load_tree(alloc, shelf, options.grammar.as_str()) {
-        Ok(loaded) => explain_loaded(alloc, options, &loaded, shelf, out),
+        Ok(loaded) => explain_loaded(alloc, options, loaded, shelf, out),
         Err(refusal) => refuse(refusal, Status::BadText, out),
     }
 }

@@ -53,17 +53,18 @@ fn write_counts<K: Sink>(dims: usize, classes: usize, entries: usize, out: &mut 
 }
 
 /// Prints how much the grammar of a text holds, or the fault line of what is refused.
-fn check_loaded<K: Sink>(alloc: Global, loaded: &Loaded, out: &mut K) -> Status
-    requires { length loaded.now.text.items ≤ 4194304 }
-    ensures leaves { Leaves (MeaningThen (read_of loaded.now) (λ m. IsDone (check_line (read_of loaded.now) m))) result (K.held out.old) (K.held out.new) }
+fn check_loaded<K: Sink>(alloc: Global, loaded: Loaded, out: &mut K) -> Status
+    requires { length loaded.text.items ≤ 4194304 }
+    ensures leaves { Leaves (MeaningThen (read_of loaded) (λ m. IsDone (check_line (read_of loaded) m))) result (K.held out.old) (K.held out.new) }
     ensures write_fault { result ≡ Status.WriteFault → Rose (K.faults out.old) (K.faults out.new) }
     ensures out_lasting { K.faults out.old ≤ K.faults out.new }
     ensures wrote { Wrote ReportEnds result (K.faults out.old) (K.faults out.new) (K.held out.old) (K.held out.new) }
     ensures command { (result ≡ Status.Usage → ⊥) × (result ≡ Status.ReadFault → ⊥) }
 {
-    let expanded = match expand_tree(alloc, &loaded.tree) {
+    let Loaded { text, tree } = loaded;
+    let expanded = match expand_tree(alloc, tree) {
         Ok(expanded) => expanded,
-        Err(stop) => return refuse(stopped_in(&loaded.text, stop), Status::BadGrammar, out),
+        Err(stop) => return refuse(stopped_in(&text, stop), Status::BadGrammar, out),
     };
     let dims = expanded.checked.types().used().len();
     let classes = expanded.checked.classes().len();
@@ -71,17 +72,18 @@ fn check_loaded<K: Sink>(alloc: Global, loaded: &Loaded, out: &mut K) -> Status
 }
 
 /// Prints the entries of the grammar of a text, or the fault line of what is refused.
-fn list_loaded<K: Sink>(alloc: Global, loaded: &Loaded, out: &mut K) -> Status
-    requires { length loaded.now.text.items ≤ 4194304 }
-    ensures leaves { Leaves (MeaningThen (read_of loaded.now) (λ m. IsDone (entries.lexicon_text m.table m.entries))) result (K.held out.old) (K.held out.new) }
+fn list_loaded<K: Sink>(alloc: Global, loaded: Loaded, out: &mut K) -> Status
+    requires { length loaded.text.items ≤ 4194304 }
+    ensures leaves { Leaves (MeaningThen (read_of loaded) (λ m. IsDone (entries.lexicon_text m.table m.entries))) result (K.held out.old) (K.held out.new) }
     ensures write_fault { result ≡ Status.WriteFault → Rose (K.faults out.old) (K.faults out.new) }
     ensures out_lasting { K.faults out.old ≤ K.faults out.new }
     ensures wrote { Wrote ReportEnds result (K.faults out.old) (K.faults out.new) (K.held out.old) (K.held out.new) }
     ensures command { (result ≡ Status.Usage → ⊥) × (result ≡ Status.ReadFault → ⊥) }
 {
-    let expanded = match expand_tree(alloc, &loaded.tree) {
+    let Loaded { text, tree } = loaded;
+    let expanded = match expand_tree(alloc, tree) {
         Ok(expanded) => expanded,
-        Err(stop) => return refuse(stopped_in(&loaded.text, stop), Status::BadGrammar, out),
+        Err(stop) => return refuse(stopped_in(&text, stop), Status::BadGrammar, out),
     };
     match lexicon_text(alloc, expanded.checked.types(), expanded.entries.as_slice()) {
         Ok(text) => write_text(text.as_str(), out),
@@ -108,7 +110,7 @@ pub fn check_grammar<H: Shelf, K: Sink>(
     ensures command { result ≡ Status.Usage → ⊥ }
 {
     match load_tree(alloc, shelf, name) {
-        Ok(loaded) => check_loaded(alloc, &loaded, out),
+        Ok(loaded) => check_loaded(alloc, loaded, out),
         Err(refusal) => refuse(refusal, Status::BadText, out),
     }
 }
@@ -132,7 +134,7 @@ pub fn print_lexicon<H: Shelf, K: Sink>(
     ensures command { result ≡ Status.Usage → ⊥ }
 {
     match load_tree(alloc, shelf, name) {
-        Ok(loaded) => list_loaded(alloc, &loaded, out),
+        Ok(loaded) => list_loaded(alloc, loaded, out),
         Err(refusal) => refuse(refusal, Status::BadText, out),
     }
 }

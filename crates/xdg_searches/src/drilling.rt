@@ -124,11 +124,11 @@ fn drill_tree<K: Sink>(
     alloc: Global,
     number: u64,
     text: &[u8],
-    tree: &Grammar,
+    tree: Grammar,
     out: &mut K,
 ) -> Status
     requires { length text.now ≤ 4194304 }
-    ensures leaves { Leaves (MeaningThen (record { text = text.now; tree = tree.now }) (DrillSentence number)) result (K.held out.old) (K.held out.new) }
+    ensures leaves { Leaves (MeaningThen (record { text = text.now; tree = tree }) (DrillSentence number)) result (K.held out.old) (K.held out.new) }
     ensures write_fault { result ≡ Status.WriteFault → Rose (K.faults out.old) (K.faults out.new) }
     ensures out_lasting { K.faults out.old ≤ K.faults out.new }
     ensures wrote { Wrote DrillEnds result (K.faults out.old) (K.faults out.new) (K.held out.old) (K.held out.new) }
@@ -152,7 +152,7 @@ pub fn drill<K: Sink>(alloc: Global, number: u64, out: &mut K) -> Status
     };
     let bytes = text.as_str().as_bytes();
     match read_tree(alloc, bytes) {
-        Ok(tree) => drill_tree(alloc, number, bytes, &tree, out),
+        Ok(tree) => drill_tree(alloc, number, bytes, tree, out),
         Err(stop) => refuse(stopped_in(bytes, stop), Status::BadText, out),
     }
 }

@@ -131,15 +131,15 @@ fn parse_loaded<R: Threads + Sync, H: Shelf, S: Source, K: Sink>(
     rt: &R,
     alloc: Global,
     options: &ParseOptions,
-    loaded: &Loaded,
+    loaded: Loaded,
     shelf: &mut H,
     input: &mut S,
     out: &mut K,
 ) -> Status
-    requires short { length loaded.now.text.items ≤ 4194304 }
+    requires short { length loaded.text.items ≤ 4194304 }
     requires range { CanBranch options.now.budget options.now.first }
     ensures leaves { (files : List ℕ → Option (List ℕ)) (content : List ℕ) → H.files shelf.old ≡ Some files → S.left input.old ≡ Some content
-        → Leaves (MeaningThen (read_of loaded.now) (RulesThen files options.now.rules (SentenceThen options.now content))) result (K.held out.old)
+        → Leaves (MeaningThen (read_of loaded) (RulesThen files options.now.rules (SentenceThen options.now content))) result (K.held out.old)
         (K.held out.new) }
     ensures read_fault { result ≡ Status.ReadFault
         → RoseFor options.now.rules (H.faults shelf.old) (H.faults shelf.new) ⊎ Rose (S.faults input.old) (S.faults input.new) }
@@ -155,9 +155,10 @@ fn parse_loaded<R: Threads + Sync, H: Shelf, S: Source, K: Sink>(
     ensures all_read { (content : List ℕ) → (result ≡ Status.Done) ⊎ (result ≡ Status.Spent) → S.left input.old ≡ Some content → S.left input.new ≡ Some [] }
     ensures command { (result ≡ Status.Usage → ⊥) × (result ≡ Status.BadText → ⊥) }
 {
-    match expand_tree(alloc, &loaded.tree) {
+    let Loaded { text, tree } = loaded;
+    match expand_tree(alloc, tree) {
         Ok(expanded) => parse_expanded(rt, alloc, options, &expanded, shelf, input, out),
-        Err(stop) => refuse(stopped_in(&loaded.text, stop), Status::BadGrammar, out),
+        Err(stop) => refuse(stopped_in(&text, stop), Status::BadGrammar, out),
     }
 }
 
@@ -191,7 +192,7 @@ pub fn parse_sentence<R: Threads + Sync, H: Shelf, S: Source, K: Sink>(
     ensures command { result ≡ Status.Usage → ⊥ }
 {
     match load_tree(alloc, shelf, options.grammar.as_str()) {
-        Ok(loaded) => parse_loaded(rt, alloc, options, &loaded, shelf, input, out),
+        Ok(loaded) => parse_loaded(rt, alloc, options, loaded, shelf, input, out),
         Err(refusal) => refuse(refusal, Status::BadText, out),
     }
 }

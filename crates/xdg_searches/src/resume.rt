@@ -132,14 +132,14 @@ fn resume_expanded<H: Shelf, K: Sink>(
 fn resume_loaded<H: Shelf, K: Sink>(
     alloc: Global,
     options: &ResumeOptions,
-    loaded: &Loaded,
+    loaded: Loaded,
     shelf: &mut H,
     out: &mut K,
 ) -> Status
-    requires short { length loaded.now.text.items ≤ 4194304 }
+    requires short { length loaded.text.items ≤ 4194304 }
     requires some { IsSome options.now.first }
     ensures leaves { (files : List ℕ → Option (List ℕ)) → H.files shelf.old ≡ Some files
-        → Leaves (MeaningThen (read_of loaded.now) (RulesThen files options.now.rules (ResumeThen options.now files))) result (K.held out.old)
+        → Leaves (MeaningThen (read_of loaded) (RulesThen files options.now.rules (ResumeThen options.now files))) result (K.held out.old)
         (K.held out.new) }
     ensures read_fault { result ≡ Status.ReadFault
         → RoseFor options.now.rules (H.faults shelf.old) (H.faults shelf.new)
@@ -152,9 +152,10 @@ fn resume_loaded<H: Shelf, K: Sink>(
     ensures wrote { Wrote ResumeEnds result (K.faults out.old) (K.faults out.new) (K.held out.old) (K.held out.new) }
     ensures command { result ≡ Status.Usage → ⊥ }
 {
-    match expand_tree(alloc, &loaded.tree) {
+    let Loaded { text, tree } = loaded;
+    match expand_tree(alloc, tree) {
         Ok(expanded) => resume_expanded(alloc, options, &expanded, shelf, out),
-        Err(stop) => refuse(stopped_in(&loaded.text, stop), Status::BadGrammar, out),
+        Err(stop) => refuse(stopped_in(&text, stop), Status::BadGrammar, out),
     }
 }
 
@@ -183,7 +184,7 @@ pub fn resume_analysis<H: Shelf, K: Sink>(
     ensures command { result ≡ Status.Usage → ⊥ }
 {
     match load_tree(alloc, shelf, options.grammar.as_str()) {
-        Ok(loaded) => resume_loaded(alloc, options, &loaded, shelf, out),
+        Ok(loaded) => resume_loaded(alloc, options, loaded, shelf, out),
         Err(refusal) => refuse(refusal, Status::BadText, out),
     }
 }

@@ -26,7 +26,7 @@ fn packed_told(alloc: Global, text: &str, word: &str) -> Result<String, Fail> {
         return Ok(String::from_str(alloc, "too long")?);
     }
     let tree = read_tree(alloc, text.as_bytes())?;
-    let expanded = expand_tree(alloc, &tree)?;
+    let expanded = expand_tree(alloc, tree)?;
     let packed = pack_entries(alloc, &expanded)?;
     Ok(format!(in alloc;
         "{} {} {}",

@@ -106,7 +106,7 @@ fn expanded(alloc: Global, grammar: &str) -> Result<Expanded, Stop>
         return Err(Stop::OutOfMemory);
     }
     let tree = read_tree(alloc, grammar.as_bytes())?;
-    expand_tree(alloc, &tree)
+    expand_tree(alloc, tree)
 }
 
 fn compiled(alloc: Global, expanded: &Expanded, sentence: &str) -> Result<Problem, Stop>

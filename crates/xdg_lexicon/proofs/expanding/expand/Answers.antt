@@ -6,20 +6,14 @@ use Rattle.xdg_lexicon.specs.Answers.{Tells, Gives}
 use Rattle.xdg_lexicon.specs.Expanding.{so_far}
 use Rattle.xdg_lexicon.specs.Sources.{source_of}
 use Rattle.xdg_lexicon.proofs.Adding.{in_at}
-use Rattle.xdg_lexicon.proofs.Bounds.{has_words}
 use Rattle.xdg_lexicon.proofs.Stepping.{expanded_none, expanded_more, refused_tells, refused_only, all_expanded, expanded_only}
 use Rattle.xdg_lexicon.proofs.expanding.expand.Goals as goal
 
-pub unreachable-requires : goal.unreachable-requires
-unreachable-requires c =
-    has_words c.args.checked.now.types c.types.ensures.keeps.lex (λ d f place. c.in_default.ensures d f (subst (λ t. IsWordPlace t d f) (sym c.types.ensures.same) place))
-
 pub loop-def-init : goal.loop-def-init
 loop-def-init c =
-    let place = subst (λ t. IsWordPlace t c.in-Some.dim c.in-Some.field) c.types.ensures.same c.in-Some.ensures in
     let words =
     subst (λ d. IsWordPlace c.args.checked.now.types d c.new.result.field) (sym c.new.ensures.place.0)
-    (subst (λ f. IsWordPlace c.args.checked.now.types c.in-Some.dim f) (sym c.new.ensures.place.1) place) in (
+    (subst (λ f. IsWordPlace c.args.checked.now.types c.word_place-dim.result.0 f) (sym c.new.ensures.place.1) c.word_place-dim.ensures.place) in (
       record {
         growing = record { grown = c.new.ensures.grown; right = subst (AreEntries c.args.checked.now.types) (sym c.new.ensures.none) tt; place = words };
         few_uses = omega arith;
@@ -43,7 +37,7 @@ pub returns-in_err-expand_one-clause-only : goal.returns-in_err-expand_one-claus
 returns-in_err-expand_one-clause-only c answer told =
     let p = err_from_is_err_and c.from_residual.result c.from_residual.ensures.1 in
     subst (Gives answer) (sym (p.1 ∙ ap Err p.2))
-    (refused_only c.args.checked.now c.entries-entries.result.now c.loop-def.def-index c.def-item.result c.loop-def-test.true c.def-item.is (so_far c.loop-def.expanding) c.loop-def.invariant.1 c.types.ensures.keeps c.in_err-expand_one.field-0.0 (so_far c.expand_one.new.expanding)
+    (refused_only c.args.checked.now c.entries-entries.result.now c.loop-def.def-index c.def-item.result c.loop-def-test.true c.def-item.is (so_far c.loop-def.expanding) c.loop-def.invariant.1 c.word_place-dim.ensures.keeps c.in_err-expand_one.field-0.0 (so_far c.expand_one.new.expanding)
     (sym c.entries-entries.ensures.same) c.in_err-expand_one.ensures.expands answer told)
 
 pub loop-def-preserved : goal.loop-def-preserved
@@ -60,4 +54,4 @@ returns-clause-tells c =
 pub returns-clause-only : goal.returns-clause-only
 returns-clause-only c answer told =
     let past : length c.entries-entries.result.now ≤ c.loop-def.def-index = omega (arith, c.loop-def-test.false) in
-    expanded_only c.args.checked.now c.entries-entries.result.now c.loop-def.def-index (so_far c.loop-def.expanding) (sym c.entries-entries.ensures.same) past c.loop-def.invariant.1 c.types.ensures.keeps answer told
+    expanded_only c.args.checked.now c.entries-entries.result.now c.loop-def.def-index (so_far c.loop-def.expanding) (sym c.entries-entries.ensures.same) past c.loop-def.invariant.1 c.word_place-dim.ensures.keeps answer told

@@ -12,15 +12,15 @@ use Rattle.xdg_reports.proofs.reports.check_loaded.Goals as goal
 
 pub returns-in-Err-clause-leaves : goal.returns-in-Err-clause-leaves
 returns-in-Err-clause-leaves g c =
-    meaning_refused (read_of c.args.loaded.now) (λ m. IsDone (check_line (read_of c.args.loaded.now) m)) c.refuse.result _ c.in-Err.stop _ _ _ c.deref.ensures.value c.in-Err.ensures.tells c.in-Err.ensures.only c.stopped_in.ensures c.refuse.ensures.written
+    meaning_refused (read_of c.args.loaded) (λ m. IsDone (check_line (read_of c.args.loaded) m)) c.refuse.result _ c.in-Err.stop _ _ _ c.deref.ensures.value c.in-Err.ensures.tells c.in-Err.ensures.only c.stopped_in.ensures c.refuse.ensures.written
 
 pub returns-clause-leaves : goal.returns-clause-leaves
 returns-clause-leaves g c =
-    meaning_leaves (read_of c.args.loaded.now) (λ m. IsDone (check_line (read_of c.args.loaded.now) m)) c.write_counts.result c.in-Ok.expanded _ _ c.in-Ok.ensures.tells c.in-Ok.ensures.only
+    meaning_leaves (read_of c.args.loaded) (λ m. IsDone (check_line (read_of c.args.loaded) m)) c.write_counts.result c.in-Ok.expanded _ _ c.in-Ok.ensures.tells c.in-Ok.ensures.only
     (subst (λ z. Leaves (IsDone z) c.write_counts.result (g.K.Sink.held c.args.out.now) (g.K.Sink.held c.write_counts.new.out))
     (ap (λ z. counts_line (length z) (length c.classes-classes.result.now) c.len.result) (c.used-dims.ensures.same ∙ ap (λ t. t.used) c.types.ensures.same)
     ∙ ap (λ n. counts_line (length c.in-Ok.expanded.checked.types.used) n c.len.result) (ap length c.classes-classes.ensures.same ∙ c.in-Ok.ensures.classes)
-    ∙ ap (counts_line (length c.in-Ok.expanded.checked.types.used) (length (classes c.args.loaded.now.tree.statements))) c.len.ensures) c.write_counts.ensures.leaves)
+    ∙ ap (counts_line (length c.in-Ok.expanded.checked.types.used) (length (classes c.args.loaded.tree.statements))) c.len.ensures) c.write_counts.ensures.leaves)
 
 pub returns-in-Err-clause-wrote : goal.returns-in-Err-clause-wrote
 returns-in-Err-clause-wrote g c =

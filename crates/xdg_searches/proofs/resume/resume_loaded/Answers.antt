@@ -9,11 +9,11 @@ use Rattle.xdg_searches.proofs.resume.resume_loaded.Goals as goal
 
 pub returns-in-Ok-clause-leaves : goal.returns-in-Ok-clause-leaves
 returns-in-Ok-clause-leaves g c files told =
-    meaning_leaves (read_of c.args.loaded.now) (RulesThen files c.args.options.now.rules (ResumeThen c.args.options.now files)) c.resume_expanded.result c.in-Ok.expanded _ _ c.in-Ok.ensures.tells c.in-Ok.ensures.only (c.resume_expanded.ensures.leaves files told)
+    meaning_leaves (read_of c.args.loaded) (RulesThen files c.args.options.now.rules (ResumeThen c.args.options.now files)) c.resume_expanded.result c.in-Ok.expanded _ _ c.in-Ok.ensures.tells c.in-Ok.ensures.only (c.resume_expanded.ensures.leaves files told)
 
 pub returns-in-Err-clause-leaves : goal.returns-in-Err-clause-leaves
 returns-in-Err-clause-leaves g c files told =
-    meaning_refused (read_of c.args.loaded.now) (RulesThen files c.args.options.now.rules (ResumeThen c.args.options.now files)) c.refuse.result _ c.in-Err.stop _ _ _ c.deref.ensures.value c.in-Err.ensures.tells c.in-Err.ensures.only c.stopped_in.ensures c.refuse.ensures.written
+    meaning_refused (read_of c.args.loaded) (RulesThen files c.args.options.now.rules (ResumeThen c.args.options.now files)) c.refuse.result _ c.in-Err.stop _ _ _ c.deref.ensures.value c.in-Err.ensures.tells c.in-Err.ensures.only c.stopped_in.ensures c.refuse.ensures.written
 
 pub returns-in-Err-clause-wrote : goal.returns-in-Err-clause-wrote
 returns-in-Err-clause-wrote g c =
