@@ -7,3 +7,4 @@ pub mod Passing
 pub mod Searching
 pub mod Parting
 pub mod Commanding
+mod Shareable

@@ -42,7 +42,7 @@ pub(crate) struct Group {
 
 impl Group {
     /// A group without lines.
-    fn new(alloc: Global) -> Group
+    pub(crate) fn new(alloc: Global) -> Group
         ensures sentences { result.sentences.items ≡ [] }
         ensures jobs { result.jobs.items ≡ [] }
     {

@@ -11,7 +11,8 @@ ghost use Rattle.xdg_build.specs.Grammars.{grammar_of};
 ghost use Rattle.xdg_io.specs.Rose.{Rose};
 ghost use Rattle.xdg_corpus.specs.Runs.{LeavesPart};
 
-use crate::group::take_group;
+use crate::ahead::answer_and_take;
+use crate::group::{Group, take_group};
 use crate::sizes::{FEWEST, bytes_before, next_size};
 use crate::writing::write_group;
 use std::alloc::{AllocError, Global};
@@ -21,7 +22,6 @@ use xdg_command::CorpusOptions;
 use xdg_inputs::{Expanded, Status};
 use xdg_io::Sink;
 use xdg_packed::Packed;
-use xdg_split::answers;
 
 /// Prints the lines of a text in groups, one after the other, of which the first line has number 1.
 fn print_groups<R: Threads + Sync, K: Sink>(
@@ -30,7 +30,7 @@ fn print_groups<R: Threads + Sync, K: Sink>(
     options: &CorpusOptions,
     expanded: &Expanded,
     packed: &Packed,
-    stock: &mut Stock,
+    mut stock: Stock,
     text: &str,
     out: &mut K,
 ) -> Status
@@ -38,40 +38,53 @@ fn print_groups<R: Threads + Sync, K: Sink>(
     requires lexicon { IsRightLexicon expanded.now.checked.types expanded.now.entries }
     requires packed { IsPackedOf expanded.now packed.now }
     requires range { CanSearch options.now }
-    requires stock { IsStock (grammar_of expanded.now.checked packed.now) stock.old }
+    requires stock { IsStock (grammar_of expanded.now.checked packed.now) stock }
     ensures leaves { LeavesPart (AreSearched options.now (meaning_of expanded.now) text.now) result (K.held out.old) (K.held out.new) }
     ensures write_fault { result ≡ Status.WriteFault → Rose (K.faults out.old) (K.faults out.new) }
     ensures out_lasting { K.faults out.old ≤ K.faults out.new }
     ensures out_quiet { result ≢ Status.WriteFault → K.faults out.new ≡ K.faults out.old }
     ensures ends { (result ≡ Status.Done) ⊎ ((result ≡ Status.WriteFault) ⊎ (result ≡ Status.OutOfMemory)) }
 {
+    let Ok((mut group, mut rest)) = take_group(
+        alloc, options, expanded, packed, &mut stock, FEWEST, text,
+    ) else {
+        return Status::OutOfMemory;
+    };
     let mut number: u64 = 1;
     let mut size = FEWEST;
-    let mut rest = text;
-    while !rest.is_empty() {
-        let Ok((group, later)) = take_group(alloc, options, expanded, packed, stock, size, rest)
-        else {
-            return Status::OutOfMemory;
-        };
-        let Ok(answered) = answers(rt, alloc, group.jobs.as_slice()) else {
+    let mut from = text;
+    let mut before = Group::new(alloc);
+    while !from.is_empty() {
+        let jobs = group.jobs.as_slice();
+        let (answered, taken) = answer_and_take(
+            rt, alloc, options, expanded, packed, jobs, before, stock, size, rest,
+        );
+        let Ok(answered) = answered else {
             return Status::OutOfMemory;
         };
         let written = write_group(number, group.sentences.as_slice(), answered.as_slice(), out);
         if written.is_err() {
             return Status::WriteFault;
         }
+        let Ok((next, later, left)) = taken else {
+            return Status::OutOfMemory;
+        };
         size = next_size(size, bytes_before(rest, later), answered.as_slice());
         number += group.sentences.len() as u64;
+        before = group;
+        group = next;
+        stock = left;
+        from = rest;
         rest = later;
     }
     Status::Done
 }
 
 /// Prints the lines of a text: groups of lines, one after the other. The lines of a group are searched side by side, and their texts are
-/// written in order before the next group begins. The first group has 16 lines, and each further one twice as many as the one before, up to
-/// 64, or up to 1,024 where the lines of that one have at most 64 bytes on average. Where its texts have more than 1,048,576 bytes together,
-/// the next one has 16 again. So the searches that run at once take memory, and the problems and the texts of one group. What problems
-/// share is made once.
+/// written in order before the next group is searched, which is made meanwhile. The first two groups have 16 lines, and each further one
+/// twice as many as the one before, up to 64, or up to 1,024 where the lines of that one have at most 64 bytes on average. Where the texts of
+/// a group have more than 1,048,576 bytes together, the second one behind it has 16 again. So the searches that run at once take memory, and
+/// the problems of two groups and the texts of one. What problems share is made once.
 pub(crate) fn print_lines<R: Threads + Sync, K: Sink>(
     rt: &R,
     alloc: Global,
@@ -92,7 +105,7 @@ pub(crate) fn print_lines<R: Threads + Sync, K: Sink>(
     ensures ends { (result ≡ Status.Done) ⊎ ((result ≡ Status.WriteFault) ⊎ (result ≡ Status.OutOfMemory)) }
 {
     match Stock::new(alloc, &expanded.checked, packed) {
-        Ok(mut stock) => print_groups(rt, alloc, options, expanded, packed, &mut stock, text, out),
+        Ok(stock) => print_groups(rt, alloc, options, expanded, packed, stock, text, out),
         Err(AllocError) => Status::OutOfMemory,
     }
 }

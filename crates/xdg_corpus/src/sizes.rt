@@ -7,7 +7,7 @@ ghost use Rattle.std.specs.Prelude.{◌≤◌};
 
 use xdg_split::Answer;
 
-/// How many lines are searched side by side at first, and behind a group whose texts are long.
+/// How many lines are searched side by side at first, and soon behind a group whose texts are long.
 pub(crate) const FEWEST: usize = 16;
 
 /// How many lines are searched side by side at most behind a group whose lines are long.
@@ -22,8 +22,9 @@ const SHORT_LINE: usize = 64;
 /// Up to how many bytes the texts of a group are short together.
 const SHORT: u64 = 1_048_576;
 
-/// How many lines the group behind one of so many lines and bytes has at most: 16 where the texts of that one are long together, and else
-/// twice as many, up to 64, or up to 1,024 where its lines are short.
+/// How many lines the group behind one of so many lines and bytes has at most: 16 where the texts of the group before that one are long
+/// together, and else twice as many, up to 64, or up to 1,024 where the lines of that one are short. The answers are those of the group before
+/// that one: the texts of that one aren't known yet.
 pub(crate) fn next_size(size: usize, bytes: usize, answers: &[Answer]) -> usize
     requires { 1 ≤ size }
     ensures { 1 ≤ result }
