@@ -7,4 +7,3 @@ pub mod Passing
 pub mod Searching
 pub mod Parting
 pub mod Commanding
-mod Shareable

@@ -9,4 +9,4 @@ pub mod Reaching
 pub mod Together
 mod Collecting
 pub mod Turning
-mod Shareable
+pub mod Shareable

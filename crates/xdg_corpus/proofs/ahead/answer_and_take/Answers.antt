@@ -2,7 +2,7 @@ use denote.Param.Send.{IsSync, sendable}
 use Rattle.std.proofs.Common.{rules}
 use Rattle.std.proofs.Crossing.{crosses}
 use Rattle.std.proofs.alloc.Global.TheSendSync as heap
-use Rattle.xdg_corpus.proofs.Shareable.{job_sync}
+use Rattle.xdg_split.proofs.Shareable.{job_sync}
 use Rattle.xdg_engine.proofs.any_prop.AnyProp.TheSendSync as any
 use Rattle.xdg_corpus.proofs.ahead.answer_and_take.Goals as goal
 
