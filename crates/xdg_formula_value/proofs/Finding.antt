@@ -10,9 +10,11 @@ use Rattle.xdg_problem.specs.Truths.{bound, unbound}
 use Rattle.xdg_rules.specs.WorthLaws.{AreNodes}
 use Rattle.xdg_rules.specs.Worths.{Makes}
 use Rattle.xdg_rules.proofs.Bound.{bound_nodes}
-use Rattle.xdg_formula_value.specs.Lost.{AreEarly, AgreeBut, Finds, StandFor}
-use Rattle.xdg_formula_value.specs.Rows.{IsEvery, IsRowOn, Over}
-use Rattle.xdg_formula_value.proofs.Stood.{bound_here, bound_else}
+use Rattle.xdg_formula_value.specs.Lost.{AreEarly, AgreeBut, Finds, HasNode, HasNodes, StandFor}
+use Rattle.xdg_formula_value.specs.Rows.{Bounds, IsEvery, IsRowOn, Over}
+use Rattle.xdg_formula_value.proofs.Bounding.{within_row}
+use Rattle.xdg_formula_value.proofs.Rowed.{over_told}
+use Rattle.xdg_formula_value.proofs.Stood.{bound_back, bound_here, bound_else}
 
 -- ---- one name fewer
 
@@ -64,21 +66,90 @@ module _ (parts : Parts) (box : List (List Bool)) (c : Claim) (truth : Bool) whe
 
   -- ---- one name is free
 
-  pub found_row : (free rest all row : List ℕ) (a : ℕ → ℕ) (name size : ℕ) (found : Bool) → ((n : ℕ) → has rest n ≡ (not (n == name) && has free n)) → length rest ≡ 0 → AreNodes parts a
-      → size ≡ nodes parts → IsEvery (nodes parts) all → IsRowOn all (λ v. Makes parts box c truth (bound a name v)) row → IsTrue found ↔ Over false size (λ v. has row v ≡ true)
+  pub found_single : (free rest : List ℕ) (a : ℕ → ℕ) (name : ℕ) (found : Bool) → ((n : ℕ) → has rest n ≡ (not (n == name) && has free n)) → rest ≡ [] → AreNodes parts a → IsTrue found ↔ HasNode parts box c truth a name
       → Finds parts box c truth (AgreeBut free a) found
-  found_row free rest all row a name size found members empty are size_is every row_is told = record {
-    sound = λ t. (
-        let some = told.0 t in
-        let l : some.0 < nodes parts = (let m = some.1 in omega (arith, m, size_is)) in
-        (bound a name some.0, bound_nodes parts a name some.0 are l, (row_is some.0 ((every some.0).1 l)).0 some.2)
-        );
+  found_single free rest a name found members empty are told = record {
+    sound = λ t. (let some = told.0 t in (bound a name some.0, bound_nodes parts a name some.0 are some.1, some.2));
     complete = λ b nodes_of agree makes. (
-        let l = nodes_of name in
-        let same : b ≡ bound a name (b name) = agree_all rest (bound a name (b name)) b (λ n. none_in rest n empty) (agree_rest free rest a (bound a name (b name)) b name (b name) members refl agree refl) in
-        told.1 (b name, omega (arith, l, size_is), (row_is (b name) ((every (b name)).1 l)).1 (subst (Makes parts box c truth) same makes))
+        let same : b ≡ bound a name (b name) =
+        agree_all rest (bound a name (b name)) b (λ n there. false≢true (subst (λ s. has s n ≡ true) empty there)) (agree_rest free rest a (bound a name (b name)) b name (b name) members refl agree refl) in
+        told.1 (b name, nodes_of name, subst (Makes parts box c truth) same makes)
         );
   }
+
+  -- what may be found outside a name isn't
+  pub found_nowhere : (a : ℕ → ℕ) (name : ℕ) (may : Bool) → may ≡ false → ((node : ℕ) → Makes parts box c truth (bound a name node) → IsTrue may) → IsTrue false ↔ HasNode parts box c truth a name
+  found_nowhere a name may off bounds = (λ t. absurd (false≢true t), λ some. absurd (false≢true (sym off ∙ bounds some.0 some.2)))
+
+  -- a name outside that stands for what it stood for
+  pub found_outside : (a : ℕ → ℕ) (outside name at : ℕ) (all row : List ℕ) (may : Bool) → AreNodes parts a → IsEvery (nodes parts) all → Bounds all (λ v node. Makes parts box c truth (bound (bound a outside v) name node)) row
+      → at ≡ a outside → may ≡ has row at → (node : ℕ) → Makes parts box c truth (bound a name node) → IsTrue may
+  found_outside a outside name at all row may are every bounds at_is may_is node makes =
+      may_is ∙ ap (has row) at_is ∙ bounds (a outside) node ((every (a outside)).1 (are outside)) (subst (λ b. Makes parts box c truth (bound b name node)) (sym (bound_back a outside)) makes)
+
+  -- ---- two names are free
+
+  pub found_double : (free rest last : List ℕ) (a : ℕ → ℕ) (name other : ℕ) (found : Bool) → ((n : ℕ) → has rest n ≡ (not (n == name) && has free n)) → ((n : ℕ) → has last n ≡ (not (n == other) && has rest n))
+      → length last ≡ 0 → AreNodes parts a → IsTrue found ↔ HasNodes parts box c truth a name other → Finds parts box c truth (AgreeBut free a) found
+  found_double free rest last a name other found members members_last none are told = record {
+    sound = λ t. (
+        let some = told.0 t in
+        let first : AreNodes parts (bound a name some.0) = bound_nodes parts a name some.0 are some.1 in
+        (bound (bound a name some.0) other some.2.0, bound_nodes parts (bound a name some.0) other some.2.0 first some.2.1, some.2.2)
+        );
+    complete = λ b nodes_of agree makes. (
+        let here : AgreeBut rest (bound a name (b name)) b = agree_rest free rest a (bound a name (b name)) b name (b name) members refl agree refl in
+        let same : b ≡ bound (bound a name (b name)) other (b other) =
+        agree_all last (bound (bound a name (b name)) other (b other)) b (λ n. none_in last n none)
+        (agree_rest rest last (bound a name (b name)) (bound (bound a name (b name)) other (b other)) b other (b other) members_last refl here refl) in
+        told.1 (b name, nodes_of name, (b other, nodes_of other, subst (Makes parts box c truth) same makes))
+        );
+  }
+
+  module _ (a : ℕ → ℕ) (name other : ℕ) where
+    -- with none of the first nodes for the first name there is one for the second
+    abbrev pub NoneBefore : ℕ → Type 0
+    NoneBefore k = (v : ℕ) → v < k → HasNode parts box c truth (bound a name v) other → ⊥
+
+    -- a node is possible for the second name, whatever the first one stands for
+    abbrev pub BoundsSecond : List ℕ → Type 0
+    BoundsSecond second = (v node : ℕ) → node < nodes parts → Makes parts box c truth (bound (bound a name v) other node) → has second node ≡ true
+
+    -- where none is possible for the second name
+    pub pairs_none : (second : List ℕ) → length second ≡ 0 → BoundsSecond second → IsTrue false ↔ HasNodes parts box c truth a name other
+    pairs_none second none bounds = (λ t. absurd (false≢true t), λ some. absurd (none_in second some.2.0 none (bounds some.0 some.2.0 some.2.1 some.2.2)))
+
+    pub pairs_start : NoneBefore 0
+    pairs_start v l = absurd (omega (arith, l))
+
+    none_more : (node : ℕ) → NoneBefore node → (HasNode parts box c truth (bound a name node) other → ⊥) → NoneBefore (node + 1)
+    none_more node so_far none v l some = elim (cases_eq v node) [
+      | inl same ↦ none (subst (λ k. HasNode parts box c truth (bound a name k) other) same some)
+      | inr differ ↦ so_far v (omega (arith, l, differ)) some
+    ]
+
+    -- a node that isn't possible for the first name
+    pub pairs_shut : (node : ℕ) (all possible : List ℕ) → IsEvery (nodes parts) all → node < nodes parts → Bounds all (λ v w. Makes parts box c truth (bound (bound a name v) other w)) possible → has possible node ≡ false
+        → NoneBefore node → NoneBefore (node + 1)
+    pairs_shut node all possible every l bounds off so_far = none_more node so_far (λ some. false≢true (sym off ∙ bounds node some.0 ((every node).1 l) some.2))
+
+    -- what the row of a node tells
+    pub pairs_here : (here : ℕ → ℕ) (node size : ℕ) (all second inside met : List ℕ) (holds : Bool) → here ≡ bound a name node → IsEvery (nodes parts) all → size ≡ nodes parts → BoundsSecond second
+        → IsRowOn second (λ v. Makes parts box c truth (bound here other v)) inside → ((v : ℕ) → has met v ≡ (has inside v && has second v)) → IsTrue holds ↔ Over false size (λ v. has met v ≡ true)
+        → (holds ≡ true) ↔ HasNode parts box c truth (bound a name node) other
+    pairs_here here node size all second inside met holds here_is every size_is bounds row meets told =
+        let within : (v : ℕ) → v < nodes parts → Makes parts box c truth (bound here other v) → has second v ≡ true = λ v l so. bounds node v l (subst (λ b. Makes parts box c truth (bound b other v)) here_is so) in
+        let of_all = within_row (nodes parts) all second inside met (λ v. Makes parts box c truth (bound here other v)) every row within meets in
+        subst (λ b. (holds ≡ true) ↔ HasNode parts box c truth b other) here_is (over_told false holds size (nodes parts) all (λ v. Makes parts box c truth (bound here other v)) met size_is every of_all told)
+
+    pub pairs_found : (node : ℕ) (holds : Bool) → node < nodes parts → holds ≡ true → (holds ≡ true) ↔ HasNode parts box c truth (bound a name node) other → IsTrue true ↔ HasNodes parts box c truth a name other
+    pairs_found node holds l on here = (λ t. (node, l, here.0 on), λ some. refl)
+
+    pub pairs_turn : (node : ℕ) (holds : Bool) → holds ≡ false → (holds ≡ true) ↔ HasNode parts box c truth (bound a name node) other → NoneBefore node → NoneBefore (node + 1)
+    pairs_turn node holds off here so_far = none_more node so_far (λ some. false≢true (sym off ∙ here.1 some))
+
+    pub pairs_end : (k : ℕ) → nodes parts ≤ k → NoneBefore k → IsTrue false ↔ HasNodes parts box c truth a name other
+    pairs_end k past so_far = (λ t. absurd (false≢true t), λ some. absurd (let l = some.1 in so_far some.0 (omega (arith, l, past)) some.2))
 
   -- ---- one node after another for a free name
 

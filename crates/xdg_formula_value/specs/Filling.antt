@@ -1,5 +1,5 @@
 -- Tables of paths, dimension by dimension.
-use Rattle.std.specs.Prelude.{◌≡◌, ◌↔◌, ℕ, ◌<◌, ◌≤◌, Bool, true, false, List, [], slice_index_or}
+use Rattle.std.specs.Prelude.{◌≡◌, ◌↔◌, ℕ, ◌<◌, ◌≤◌, Bool, true, false, List, [], IfSome, slice_index_or}
 use Rattle.xdg_nodeset.specs.Tables.{In}
 use Rattle.xdg_problem.specs.Paths.{Above}
 use Rattle.xdg_problem.specs.Places.{nodes}
@@ -25,9 +25,9 @@ pub record AreFilled (way : Way) (s : State) (filled : Filled) : Type 0 where
   pub may : TellsPaths way whichs.May s 8 filled.known filled.may
   pub must : TellsPaths way whichs.Must s 8 filled.known filled.must
 
--- the nodes are those of the sentence, at most 128, and the tables are filled
+-- the nodes are those of the sentence, at most 128, and the tables that there are are filled
 pub record ArePaths (s : State) (paths : Paths) : Type 0 where
   pub few : nodes s.parts ≤ 128
   pub all : IsEvery (nodes s.parts) paths.all
-  pub below : AreFilled ways.Down s paths.below
-  pub above : AreFilled ways.Up s paths.above
+  pub below : IfSome paths.below (λ it. AreFilled ways.Down s it.now)
+  pub above : IfSome paths.above (λ it. AreFilled ways.Up s it.now)

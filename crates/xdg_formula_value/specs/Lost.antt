@@ -5,7 +5,8 @@ use Rattle.xdg_problem.specs.declared.parts.Parts.{Parts}
 use Rattle.xdg_problem.specs.Boxes.{IsBox, LiesIn}
 use Rattle.xdg_problem.specs.Claims.{Claim, negation, conjunction, disjunction, every, some, joined, above, left, same, valued, fitting, Claims, none}
 use Rattle.xdg_problem.specs.Claims.{claim_then}
-use Rattle.xdg_problem.specs.Truths.{unbound}
+use Rattle.xdg_problem.specs.Places.{nodes}
+use Rattle.xdg_problem.specs.Truths.{bound, unbound}
 use Rattle.xdg_problem.specs.Vectors.{shape}
 use Rattle.xdg_rules.specs.WorthLaws.{AreNodes}
 use Rattle.xdg_rules.specs.Worths.{Makes}
@@ -13,6 +14,7 @@ use Rattle.xdg_store.specs.States.{State}
 use Rattle.xdg_store.specs.declared.decision.Decision.{Decision}
 use Rattle.xdg_store.specs.declared.decision.Decision.TheVariants as decisions
 use Rattle.xdg_propcore.specs.Standing.{box_at}
+use Rattle.xdg_formula_value.specs.Rows.{Over}
 
 -- a claim has no quantifiers and no paths, and its names are some
 abbrev mutual
@@ -54,6 +56,14 @@ Meets names (decisions.Place edge) b = StandFor names b edge.mother.0 × StandFo
 -- a box makes a claim true, or false, under some binding
 abbrev pub IsMade : Parts → List (List Bool) → Claim → Bool → Type 0
 IsMade parts box c truth = (b : ℕ → ℕ) × AreNodes parts b × Makes parts box c truth b
+
+-- a box makes a claim true, or false, for some node for which a name stands
+abbrev pub HasNode : Parts → List (List Bool) → Claim → Bool → (ℕ → ℕ) → ℕ → Type 0
+HasNode parts box c truth b name = Over false (nodes parts) (λ v. Makes parts box c truth (bound b name v))
+
+-- the same for nodes for which two names stand
+abbrev pub HasNodes : Parts → List (List Bool) → Claim → Bool → (ℕ → ℕ) → ℕ → ℕ → Type 0
+HasNodes parts box c truth b name other = Over false (nodes parts) (λ v. HasNode parts box c truth (bound b name v) other)
 
 -- an answer that says so only where there is such a binding, and does where it is one of those wanted
 pub record Finds (parts : Parts) (box : List (List Bool)) (c : Claim) (truth : Bool) (Wanted : (ℕ → ℕ) → Type 0) (found : Bool) : Type 0 where

@@ -1,27 +1,31 @@
 //! What the loss of values can have changed.
 
-ghost use Rattle.std.specs.Prelude.{◌≡◌, ◌<◌, ◌==◌, ◌&&◌, ℕ, not};
+ghost use Rattle.std.specs.Prelude.{◌≡◌, ◌<◌, ◌↔◌, ◌==◌, ◌&&◌, ℕ, IsTrue, not};
 ghost use Rattle.xdg_nodeset.specs.Nodes.{has, without};
 ghost use Rattle.xdg_problem.specs.Analyses.{IsPlace};
 ghost use Rattle.xdg_problem.specs.Claims.{IsOf, claim};
 ghost use Rattle.xdg_problem.specs.Places.{nodes};
-ghost use Rattle.xdg_problem.specs.Truths.{unbound};
+ghost use Rattle.xdg_problem.specs.Truths.{bound, unbound};
 ghost use Rattle.xdg_rules.specs.WorthLaws.{AreNodes};
 ghost use Rattle.xdg_rules.specs.Worths.{Makes};
 ghost use Rattle.xdg_store.specs.Decisions.{IsDecision};
 ghost use Rattle.xdg_propcore.specs.Standing.{box_at};
 ghost use Rattle.xdg_formula_value.specs.Filling.{ArePaths};
-ghost use Rattle.xdg_formula_value.specs.Lost.{AreEarly, AgreeBut, Finds, HasEarlier, IsPlain, Meets, StandFor};
+ghost use Rattle.xdg_formula_value.specs.Lost.{AreEarly, AgreeBut, Finds, HasEarlier, HasNode, HasNodes, IsPlain, Meets, StandFor};
 ghost use Rattle.xdg_formula_value.specs.Rows.{stands};
 
-use crate::binding::{bind, none_bound};
+use crate::binding::{bind, node_of, none_bound};
 use crate::paths::Paths;
+use crate::possible::{possible_row, possible_second};
 use crate::value::{makes, row_of};
 use xdg_base::NodeId;
 use xdg_graph::node_count;
 use xdg_nodeset::NodeSet;
 use xdg_problem::{Edge, Formula};
 use xdg_store::{Decision, Mark, Store};
+
+/// A name that no set of names has.
+const OUTSIDE: u8 = 255;
 
 /// A set without one of its members.
 fn fewer(names: NodeSet, name: u8) -> NodeSet
@@ -32,6 +36,83 @@ fn fewer(names: NodeSet, name: u8) -> NodeSet
     let mut rest = names;
     rest.remove(NodeId(name));
     rest
+}
+
+/// Whether a formula may be made true, or false, for some node for which a name stands, by what doesn't name it.
+fn may_be_found(
+    store: &Store,
+    paths: &Paths,
+    binding: &[u8; 256],
+    name: u8,
+    formula: &Formula,
+    truth: bool,
+) -> bool
+    requires paths { ArePaths store.now paths.now }
+    requires is_of { IsOf store.now.parts (claim formula.now) }
+    requires nodes { AreNodes store.now.parts (stands binding.now) }
+    ensures { (node : ℕ) → Makes store.now.parts store.now.now (claim formula.now) truth (bound (stands binding.now) name node) → IsTrue result }
+{
+    let row = possible_row(
+        store, paths, binding, OUTSIDE, name, formula, truth, paths.all,
+    );
+    row.contains(node_of(binding, OUTSIDE))
+}
+
+/// Whether some node for a name lets the box make a formula true, or false.
+fn found_one(
+    store: &Store,
+    paths: &Paths,
+    binding: &[u8; 256],
+    name: u8,
+    formula: &Formula,
+    truth: bool,
+) -> bool
+    requires paths { ArePaths store.now paths.now }
+    requires is_of { IsOf store.now.parts (claim formula.now) }
+    requires nodes { AreNodes store.now.parts (stands binding.now) }
+    ensures { IsTrue result ↔ HasNode store.now.parts store.now.now (claim formula.now) truth (stands binding.now) name }
+{
+    if !may_be_found(store, paths, binding, name, formula, truth) {
+        return false;
+    }
+    let row = row_of(store, paths, binding, name, formula, truth, paths.all);
+    paths.has_over(node_count(store), false, row)
+}
+
+/// Whether some nodes for two names let the box make a formula true, or false. It goes only to nodes that are possible for the first name
+/// whatever the second one stands for, and there looks only at those that are possible for the second one.
+fn found_two(
+    store: &Store,
+    paths: &Paths,
+    binding: &[u8; 256],
+    name: u8,
+    other: u8,
+    formula: &Formula,
+    truth: bool,
+) -> bool
+    requires paths { ArePaths store.now paths.now }
+    requires is_of { IsOf store.now.parts (claim formula.now) }
+    requires nodes { AreNodes store.now.parts (stands binding.now) }
+    ensures { IsTrue result ↔ HasNodes store.now.parts store.now.now (claim formula.now) truth (stands binding.now) name other }
+{
+    let second = possible_second(store, paths, binding, name, other, formula, truth);
+    if second.len() == 0 {
+        return false;
+    }
+    let all = paths.all;
+    let possible = possible_row(store, paths, binding, name, other, formula, truth, all);
+    for node in 0..node_count(store) {
+        if !possible.contains(NodeId(node)) {
+            continue;
+        }
+        let here = bind(binding, name, node);
+        let row = row_of(store, paths, &here, other, formula, truth, second);
+        let met = row.meet(&second);
+        if paths.has_over(node_count(store), false, met) {
+            return true;
+        }
+    }
+    false
 }
 
 /// Whether some nodes for free names, and for others those of a binding, let the box make a formula true, or false.
@@ -53,9 +134,12 @@ fn found(
         None => makes(store, paths, binding, formula, truth),
         Some(name) => {
             let rest = fewer(free, name.0);
-            if rest.len() == 0 {
-                let row = row_of(store, paths, binding, name.0, formula, truth, paths.all);
-                return paths.has_over(node_count(store), false, row);
+            let Some(other) = rest.first() else {
+                return found_one(store, paths, binding, name.0, formula, truth);
+            };
+            let last = fewer(rest, other.0);
+            if last.len() == 0 {
+                return found_two(store, paths, binding, name.0, other.0, formula, truth);
             }
             for node in 0..node_count(store) {
                 let here = bind(binding, name.0, node);
@@ -155,7 +239,7 @@ fn found_by(
 }
 
 /// Whether some nodes for names let the box make a plain formula true, or false, where they didn't let an earlier box. It looks only at
-/// nodes of decisions that have lost values.
+/// nodes of decisions that have lost values, and makes no tables of paths, of which a plain formula doesn't ask.
 pub(crate) fn found_since(
     store: &Store,
     names: NodeSet,
@@ -170,7 +254,7 @@ pub(crate) fn found_since(
     ensures { Finds store.now.parts store.now.now (claim formula.now) truth
         (λ b. AgreeBut names unbound b × (Makes store.now.parts (box_at store.now since) (claim formula.now) truth b → ⊥)) result }
 {
-    let paths = Paths::of(store, formula);
+    let paths = Paths::of(store, None, None);
     for decision in store.removed_since(since) {
         if found_by(store, &paths, names, *decision, formula, truth) {
             return true;

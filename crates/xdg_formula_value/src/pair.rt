@@ -91,8 +91,8 @@ fn related(
     match pair {
         Pair::Edge(dim, label) => joined_by(store, which, way, dim, label, node),
         Pair::Path(dim) => match way {
-            Way::Down => far(store, &paths.below, Way::Down, which, dim, node),
-            Way::Up => far(store, &paths.above, Way::Up, which, dim, node),
+            Way::Down => far(store, paths.below, Way::Down, which, dim, node),
+            Way::Up => far(store, paths.above, Way::Up, which, dim, node),
         },
         Pair::Left => match way {
             Way::Down => opposite(up_to(node)),

@@ -1,6 +1,6 @@
 //! The nodes of a sentence, and the paths in a box on the dimensions of which they are asked for often.
 
-ghost use Rattle.std.specs.Prelude.{◌≡◌, ◌≤◌, ◌<◌, ◌↔◌, ℕ, true, IsTrue};
+ghost use Rattle.std.specs.Prelude.{◌≡◌, ◌≤◌, ◌<◌, ◌↔◌, ℕ, true, IfSome, IsTrue};
 ghost use Rattle.xdg_nodeset.specs.Tables.{In};
 ghost use Rattle.xdg_nodeset.specs.Nodes.{has};
 ghost use Rattle.xdg_problem.specs.Places.{nodes};
@@ -10,6 +10,7 @@ ghost use Rattle.xdg_store.specs.States.{Known};
 ghost use Rattle.xdg_formula_value.specs.Filling.{AreFilled, ArePaths, TellsPaths};
 ghost use Rattle.xdg_formula_value.specs.Pairs.{Along};
 ghost use Rattle.xdg_formula_value.specs.Rows.{IsEvery, Over};
+ghost use Rattle.xdg_formula_value.specs.declared.way.Way.TheVariants as ways;
 
 use crate::way::Way;
 use xdg_base::{DimId, NodeId};
@@ -29,15 +30,15 @@ pub struct Filled {
     pub must: [[NodeSet; 128]; 8],
 }
 
-/// The nodes of a sentence, and the tables of the nodes below each node and of those above it.
+/// The nodes of a sentence, and the tables of the nodes below each node and of those above it, where paths are asked for.
 #[derive(Debug, Drop)]
-pub struct Paths {
+pub struct Paths<'a> {
     /// The nodes.
     pub all: NodeSet,
     /// The nodes below.
-    pub below: Filled,
+    pub below: Option<&'a Filled>,
     /// The nodes above.
-    pub above: Filled,
+    pub above: Option<&'a Filled>,
 }
 
 /// Notes the dimensions on which a formula asks for paths.
@@ -103,8 +104,18 @@ fn tables(store: &Store, way: Way, which: Which, dims: &[bool; 8]) -> [[NodeSet;
     tables
 }
 
+/// The dimensions on which a formula asks for paths, if it asks for any.
+pub(crate) fn dims_asked(formula: &Formula) -> Option<[bool; 8]> {
+    let mut dims = [false; 8];
+    note(formula, &mut dims);
+    if dims.iter().any(|asked| *asked) {
+        return Some(dims);
+    }
+    None
+}
+
 /// The tables of some dimensions, one way.
-fn tables_of(store: &Store, way: Way, known: [bool; 8]) -> Filled
+pub(crate) fn tables_of(store: &Store, way: Way, known: [bool; 8]) -> Filled
     ensures { AreFilled way store.now result }
 {
     Filled {
@@ -114,20 +125,23 @@ fn tables_of(store: &Store, way: Way, known: [bool; 8]) -> Filled
     }
 }
 
-/// The nodes to which paths lead from a node, one way.
+/// The nodes to which paths lead from a node, one way. There may be tables of some dimensions.
 pub(crate) fn far(
     store: &Store,
-    filled: &Filled,
+    filled: Option<&Filled>,
     way: Way,
     which: Which,
     dim: DimId,
     node: NodeId,
 ) -> NodeSet
-    requires filled { AreFilled way store.now filled.now }
+    requires filled { IfSome filled (λ it. AreFilled way store.now it.now) }
     requires dim { dim.0 < 8 }
     requires node { node.0 < 128 }
     ensures { (x : ℕ) → (has result x ≡ true) ↔ Along way (Above (edges_of which store.now.parts store.now.now dim.0)) node.0 x }
 {
+    let Some(filled) = filled else {
+        return set_at(&table(store, way, which, dim), node);
+    };
     if !filled.known[dim.0 as usize] {
         return set_at(&table(store, way, which, dim), node);
     }
@@ -137,18 +151,22 @@ pub(crate) fn far(
     }
 }
 
-impl Paths {
-    /// The paths in the box of a store of which a formula asks.
-    pub(crate) fn of(store: &Store, formula: &Formula) -> Paths
+impl<'a> Paths<'a> {
+    /// The nodes of a sentence, with these tables of the paths in the box of a store.
+    pub(crate) fn of(
+        store: &Store,
+        below: Option<&'a Filled>,
+        above: Option<&'a Filled>,
+    ) -> Paths<'a>
+        requires below { IfSome below (λ it. AreFilled ways.Down store.now it.now) }
+        requires above { IfSome above (λ it. AreFilled ways.Up store.now it.now) }
         ensures paths { ArePaths store.now result }
         ensures known { Known store.now }
     {
-        let mut known = [false; 8];
-        note(formula, &mut known);
         Paths {
             all: every_node(store),
-            below: tables_of(store, Way::Down, known),
-            above: tables_of(store, Way::Up, known),
+            below,
+            above,
         }
     }
 

@@ -13,9 +13,10 @@ ghost use Rattle.xdg_formula_value.specs.Rows.{AreFirst, IsRowOn, stands};
 use crate::atoms::{attr_row, feat_row};
 use crate::binding::{bind, node_of, none_bound};
 use crate::pair::{Pair, pair_row};
-use crate::paths::Paths;
+use crate::paths::{Paths, dims_asked, tables_of};
 use crate::possible::{possible_row, possible_second};
 use crate::rows::{constant, joined, joined_truths, kept, still_open};
+use crate::way::Way;
 use xdg_base::NodeId;
 use xdg_graph::node_count;
 use xdg_nodeset::NodeSet;
@@ -208,17 +209,39 @@ pub(crate) fn makes(
     }
 }
 
+/// Whether a formula is false in the box of a store, whatever else is decided. The paths in it are given.
+fn is_false_by(store: &Store, formula: &Formula, paths: &Paths) -> bool
+    requires suits { Suits store.now.parts formula.now }
+    requires paths { ArePaths store.now paths.now }
+    requires known { Known store.now }
+    ensures { IsTrue result ↔ RuleFalse store.now.parts formula.now store.now.now }
+{
+    makes(store, paths, &none_bound(), formula, false)
+}
+
+/// The same, by tables of the paths on some dimensions.
+fn is_false_by_tables(store: &Store, formula: &Formula, dims: [bool; 8]) -> bool
+    requires { Suits store.now.parts formula.now }
+    ensures exact { IsTrue result ↔ RuleFalse store.now.parts formula.now store.now.now }
+    ensures known { Known store.now }
+{
+    let below = tables_of(store, Way::Down, dims);
+    let above = tables_of(store, Way::Up, dims);
+    is_false_by(
+        store,
+        formula,
+        &Paths::of(store, Some(&below), Some(&above)),
+    )
+}
+
 /// Whether a formula is false in the box of a store, whatever else is decided.
 pub fn is_false(store: &Store, formula: &Formula) -> bool
     requires { Suits store.now.parts formula.now }
     ensures exact { IsTrue result ↔ RuleFalse store.now.parts formula.now store.now.now }
     ensures known { Known store.now }
 {
-    makes(
-        store,
-        &Paths::of(store, formula),
-        &none_bound(),
-        formula,
-        false,
-    )
+    match dims_asked(formula) {
+        Some(dims) => is_false_by_tables(store, formula, dims),
+        None => is_false_by(store, formula, &Paths::of(store, None, None)),
+    }
 }

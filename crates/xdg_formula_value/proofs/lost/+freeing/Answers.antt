@@ -2,7 +2,7 @@ use Rattle.std.proofs.Common.{ap, arith, length}
 use Rattle.xdg_problem.specs.Claims.{claim}
 use Rattle.xdg_formula_value.specs.Lost.{AgreeBut}
 use Rattle.xdg_formula_value.specs.Rows.{stands}
-use Rattle.xdg_formula_value.proofs.Finding.{finds_on, found_whole, found_row, nodes_start, nodes_turn, nodes_end}
+use Rattle.xdg_formula_value.proofs.Finding.{finds_on, found_whole, found_single, found_double, nodes_start, nodes_turn, nodes_end}
 use Rattle.xdg_formula_value.proofs.Forms.{nodes_inside}
 use Rattle.xdg_formula_value.proofs.lost.+freeing.Goals as goal
 
@@ -12,12 +12,15 @@ returns-in-None t c = found_whole c.args.store.now.parts c.args.store.now.now (c
 pub fewer-rest-requires : goal.fewer-rest-requires
 fewer-rest-requires t c = c.in-Some.ensures.value.1
 
-pub row_of-row-requires-clause-care : goal.row_of-row-requires-clause-care
-row_of-row-requires-clause-care t c = λ v h. (c.requires.paths.all v).0 h
+pub fewer-last-requires : goal.fewer-last-requires
+fewer-last-requires t c = c.in-Some-first.ensures.value.1
+
+pub returns-in_default : goal.returns-in_default
+returns-in_default t c = found_single c.args.store.now.parts c.args.store.now.now (claim c.args.formula.now) c.args.truth c.args.free c.fewer-rest.result (stands c.args.binding.now) c.in-Some.name.0 c.found_one.result c.fewer-rest.ensures.members c.in_default.ensures.value c.requires.nodes c.found_one.ensures
 
 pub returns-then-len-eq0 : goal.returns-then-len-eq0
-returns-then-len-eq0 t c = found_row c.args.store.now.parts c.args.store.now.now (claim c.args.formula.now) c.args.truth c.args.free c.fewer-rest.result c.args.paths.now.all c.row_of-row.result (stands c.args.binding.now) c.in-Some.name.0 c.node_count.result c.has_over.result c.fewer-rest.ensures.members
-    (let count = c.len.ensures.value in let none = c.if-len-eq0.true in omega (arith, count, none)) c.requires.nodes c.node_count.ensures.size c.requires.paths.all c.row_of-row.ensures c.has_over.ensures
+returns-then-len-eq0 t c = found_double c.args.store.now.parts c.args.store.now.now (claim c.args.formula.now) c.args.truth c.args.free c.fewer-rest.result c.fewer-last.result (stands c.args.binding.now) c.in-Some.name.0 c.in-Some-first.other.0 c.found_two.result c.fewer-rest.ensures.members c.fewer-last.ensures.members
+    (let count = c.len.ensures.value in let none = c.if-len-eq0.true in omega (arith, count, none)) c.requires.nodes c.found_two.ensures
 
 pub loop-node-init : goal.loop-node-init
 loop-node-init t c = nodes_start c.args.store.now.parts c.args.store.now.now (claim c.args.formula.now) c.args.truth c.args.free (stands c.args.binding.now) c.in-Some.name.0
