@@ -66,8 +66,7 @@ impl Propagator for Meets<'_> {
             → IsClosedBy IsGraph parts box }
         ensures stays_still { (p : Meets) (parts : Sentence) (number : ℕ) (old new : List (List Bool)) → IsProblem parts → StandsFor IsGraph parts number
             → IsBox (shape parts) old → IsBox (shape parts) new → LiesIn new old → LosesOutside parts 0 old new → ⊤ → ⊤ }
-    {
-    }
+    {}
 }
 
 fn one<T: Drop>(alloc: Global, item: T) -> Result<List<T>, AllocError>

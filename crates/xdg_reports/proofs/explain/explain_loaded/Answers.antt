@@ -11,10 +11,10 @@ pub returns-in-Ok-clause-leaves : goal.returns-in-Ok-clause-leaves
 returns-in-Ok-clause-leaves g c files told =
     meaning_leaves (read_of c.args.loaded) (RulesThen files c.args.options.now.rules (ExplainThen c.args.options.now files)) c.explain_expanded.result c.in-Ok.expanded _ _ c.in-Ok.ensures.tells c.in-Ok.ensures.only (c.explain_expanded.ensures.leaves files told)
 
-pub returns-in-Err-clause-leaves : goal.returns-in-Err-clause-leaves
-returns-in-Err-clause-leaves g c files told =
+pub returns-clause-leaves : goal.returns-clause-leaves
+returns-clause-leaves g c files told =
     meaning_refused (read_of c.args.loaded) (RulesThen files c.args.options.now.rules (ExplainThen c.args.options.now files)) c.refuse.result _ c.in-Err.stop _ _ _ c.deref.ensures.value c.in-Err.ensures.tells c.in-Err.ensures.only c.stopped_in.ensures c.refuse.ensures.written
 
-pub returns-in-Err-clause-wrote : goal.returns-in-Err-clause-wrote
-returns-in-Err-clause-wrote g c =
+pub returns-clause-wrote : goal.returns-clause-wrote
+returns-clause-wrote g c =
     refused_wrote ExplainEnds statuses.BadGrammar c.refuse.result c.stopped_in.result _ _ _ _ tt tt tt tt tt c.refuse.ensures.written c.refuse.ensures.quiet
