@@ -28,7 +28,7 @@ out_is_place parts dim mother label daughter h l n = record {
 }
 
 -- a set from which the mother was taken
-without_mother : (met set : List ℕ) (mother node : ℕ) → ((k : ℕ) → has set k ≡ (not (k == mother) && has met k)) → IsTrue (has set node) ↔ ((mother ≢ node) × IsTrue (has met node))
+pub without_mother : (met set : List ℕ) (mother node : ℕ) → ((k : ℕ) → has set k ≡ (not (k == mother) && has met k)) → IsTrue (has set node) ↔ ((mother ≢ node) × IsTrue (has met node))
 without_mother met set mother node e = (
   λ h. (let q = and_parts (not (node == mother)) (has met node) (sym (e node) ∙ h) in ((λ s. eqb-false node mother (not-true (node == mother) q.0) (sym s)), q.1)),
   λ h. e node ∙ and_from (not (node == mother)) (has met node) (ap not (ne_eqb node mother (λ s. h.0 (sym s)))) h.1,

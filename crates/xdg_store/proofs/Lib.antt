@@ -16,3 +16,5 @@ pub mod OneWord
 pub mod Leaving
 pub mod Small
 pub mod Noting
+pub mod Renewed
+pub mod Kept

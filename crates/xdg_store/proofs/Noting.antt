@@ -1,8 +1,8 @@
 -- Of which decisions values were removed.
-use Rattle.std.proofs.Common.{◌≡◌, ℕ, ◌<◌, ◌≤◌, ◌+◌, ◌-◌, inl, inr, Bool, true, false, List, [], ◌∷◌, ◌++◌, length, get_or, take, drop, ap, sym, ◌∙◌, arith, subst, zero, suc, length-append}
+use Rattle.std.proofs.Common.{◌≡◌, ℕ, ◌<◌, ◌≤◌, ◌+◌, ◌-◌, inl, inr, Bool, true, false, List, [], ◌∷◌, ◌++◌, length, get_or, set, take, drop, ap, sym, ◌∙◌, arith, subst, zero, suc, length-append}
 use Rattle.std.specs.Prelude.{sum}
 use Rattle.std.proofs.lemmas.Bool.{cases_Bool, cases_eq, cases_lt}
-use Rattle.std.proofs.lemmas.List.{get_or_append_left, get_or_at, get_or_default, get_or-drop, get_or-take, length-drop, length-take-le}
+use Rattle.std.proofs.lemmas.List.{get_or_append_left, get_or_at, get_or_default, get_or-drop, get_or-set_other, get_or-take, length-drop, length-take-le}
 use Rattle.xdg_problem.specs.declared.parts.Parts.{Parts}
 use Rattle.xdg_problem.specs.Boxes.{Has, without}
 use Rattle.xdg_problem.specs.Vectors.{shape}
@@ -10,20 +10,20 @@ use Rattle.xdg_trail.specs.Trailed.{Trailed, past}
 use Rattle.xdg_store.specs.Change.{Removes}
 use Rattle.xdg_store.specs.Decisions.{IsDecision, number_of}
 use Rattle.xdg_store.specs.Layout.{bits_of, box_in}
-use Rattle.xdg_store.specs.Naming.{AreSteps, IsStep, LosesOf, Names, noted}
+use Rattle.xdg_store.specs.Naming.{AreSteps, IsStep, Names, SameBut, noted}
 use Rattle.xdg_store.specs.States.{State, Keeps, Known, oldest}
 use Rattle.xdg_store.specs.declared.change.Change.{Change}
 use Rattle.xdg_store.specs.declared.change.Change.TheVariants as changes
 use Rattle.xdg_store.specs.declared.decision.Decision.{Decision}
 use Rattle.xdg_store.specs.declared.decision.Decision.TheVariants as decisions
-use Rattle.xdg_store.proofs.Boxed.{box_filled, kept_elsewhere, length_box}
+use Rattle.xdg_store.proofs.Boxed.{box_filled, length_box}
 use Rattle.xdg_store.proofs.Counting.{enough_left}
 use Rattle.xdg_store.proofs.Histories.{history_cut, history_length, known_of, present, seen}
 
 module _ (parts : Parts) where
   -- what is said of a step, by the decision and the two boxes
   abbrev Says : Decision → List (List Bool) → List (List Bool) → Type 0
-  Says decision old new = IsDecision parts decision × LosesOf old new (number_of parts decision)
+  Says decision old new = IsDecision parts decision × SameBut old new (number_of parts decision)
 
   says_alike : (a b : Decision) (old old' new new' : List (List Bool)) → a ≡ b → old ≡ old' → new ≡ new' → Says b old' new' → Says a old new
   says_alike a b old old' new new' p q r s = subst (λ z. Says z old new) (sym p) (subst (λ z. Says b z new) (sym q) (subst (λ z. Says b old' z) (sym r) s))
@@ -45,7 +45,7 @@ module _ (parts : Parts) where
       (get_or_at removed decision [] d k (sym at))
       (get_or_append_left s.history (taken ∷ []) [] k (omega (arith, count, at)) ∙ ap (λ i. get_or s.history i []) last ∙ known.last)
       (get_or_at s.history taken [] [] (k + 1) (omega (arith, count, at)))
-      (is, λ e x h n. kept_elsewhere s.now (number_of parts decision) v e x h n)
+      (is, λ e n. get_or-set_other s.now (number_of parts decision) e (set (get_or s.now (number_of parts decision) []) v false) [] n)
 
   pub noted_steps : (change : Change) (old new : State) (removed : List Decision) (decision : Decision) (v room : ℕ) → Known old → IsDecision parts decision → AreSteps parts old.history removed room → Removes change old new (number_of parts decision) v → AreSteps parts new.history (noted change removed decision) room
   noted_steps changes.Same old new removed decision v room known is steps (gone, same) = subst (λ s. AreSteps parts s.history removed room) (sym same) steps
@@ -115,7 +115,7 @@ module _ (parts : Parts) where
           | inl q ↦ sym q
           | inr f ↦ absurd (gone (
               let q : (mark + n) + 1 ≡ mark + suc n = omega arith in
-              subst (λ i. Has (get_or history i []) d v) q ((each (mark + n) (omega (arith, l)) default).1 d v there f)
+              subst (λ i. Has (get_or history i []) d v) q (ap (λ row. get_or row v false) ((each (mark + n) (omega (arith, l)) default).1 d f) ∙ there)
               ))
         ],
       )

@@ -19,7 +19,7 @@ use Rattle.xdg_store.proofs.Boxed.{full_is_box, remaining_full}
 use Rattle.xdg_store.proofs.Separate.{all_rows_set}
 use Rattle.xdg_store.proofs.Sizes.{bits_sizes}
 
-ones_set : (count b : ℕ) (words : List ℕ) → words ≡ replicate count 18446744073709551615 → b < 64 * count → is_set words b ≡ true
+pub ones_set : (count b : ℕ) (words : List ℕ) → words ≡ replicate count 18446744073709551615 → b < 64 * count → is_set words b ≡ true
 ones_set count b words e l =
     let place : b / 64 < count = omega (arith, l) in
     ap (λ (z : List ℕ). is_set z b) e

@@ -5,4 +5,5 @@ pub mod Change
 pub mod Decisions
 pub mod Naming
 pub mod Rows
+pub mod Across
 pub mod Example

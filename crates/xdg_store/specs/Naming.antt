@@ -18,12 +18,16 @@ noted changes.Emptied removed decision = removed
 abbrev pub LosesOf : List (List Bool) → List (List Bool) → ℕ → Type 0
 LosesOf old new d = (e v : ℕ) → Has old e v → e ≢ d → Has new e v
 
--- the k-th of some decisions is one on the sentence, and from the k-th box of a history to the next no other loses a value
+-- every decision other than d is as it was
+abbrev pub SameBut : List (List Bool) → List (List Bool) → ℕ → Type 0
+SameBut old new d = (e : ℕ) → e ≢ d → slice_index_or new e [] ≡ slice_index_or old e []
+
+-- the k-th of some decisions is one on the sentence, and from the k-th box of a history to the next every other is as it was
 abbrev pub IsStep : Parts → List (List (List Bool)) → List Decision → ℕ → Type 0
 IsStep parts history removed k =
     (d : Decision)
     → IsDecision parts (slice_index_or removed k d)
-    × LosesOf (slice_index_or history k []) (slice_index_or history (k + 1) []) (number_of parts (slice_index_or removed k d))
+    × SameBut (slice_index_or history k []) (slice_index_or history (k + 1) []) (number_of parts (slice_index_or removed k d))
 
 -- decisions for the steps from box to box of a history, with room for as many as there can be
 pub record AreSteps (parts : Parts) (history : List (List (List Bool))) (removed : List Decision) (room : ℕ) : Type 0 where

@@ -4,6 +4,7 @@
 //! Below this crate are words and bits, above it only boxes: for each decision the values that remain.
 #![tactic(auto)]
 
+mod across;
 mod change;
 mod decision;
 mod layout;

@@ -11,6 +11,7 @@ ghost use Rattle.xdg_store.specs.InRange.{HasCandidate, HasEdges, HasValue};
 ghost use Rattle.xdg_store.specs.Naming.{Names};
 ghost use Rattle.xdg_store.specs.States.{Known};
 
+use crate::across::{Mothers, mothers_at, renew, renew_all};
 use crate::change::Change;
 use crate::decision::Decision;
 use crate::layout::{attr_row, edge_row, entry_row};
@@ -35,6 +36,8 @@ pub struct Store<'a> {
     trail: Trail,
     // Of which decision each of them is.
     removed: Vec<Decision>,
+    // What the bits of edges say, by daughters. It is no part of the trail: it follows from the words.
+    across: Vec<Mothers>,
     node_count: usize,
     all: NodeSet,
     // How much room the trail has left when each decision has one value.
@@ -48,6 +51,7 @@ impl<'a> Model for Store<'a> {
     ghost use Rattle.xdg_nodeset.specs.Nodes.{has};
     ghost use Rattle.xdg_problem.specs.Places.{nodes};
     ghost use Rattle.xdg_trail.specs.Trailed.{past};
+    ghost use Rattle.xdg_store.specs.Across.{AreKept};
     ghost use Rattle.xdg_store.specs.Layout.{bits_of, box_in};
     ghost use Rattle.xdg_store.specs.Naming.{AreSteps};
     ghost use Rattle.xdg_store.specs.States.{State, Keeps, oldest};
@@ -68,11 +72,12 @@ impl<'a> Model for Store<'a> {
     ghost invariant = { λ s. Keeps s.problem.now s.trail s.single
         × (s.node_count ≡ nodes s.problem.now)
         × ((node : ℕ) → has s.all node ≡ nat_lt node (nodes s.problem.now))
-        × AreSteps s.problem.now (oldest (bits_of s.problem.now) (past s.trail)) s.removed.items (vec_capacity s.removed) };
+        × AreSteps s.problem.now (oldest (bits_of s.problem.now) (past s.trail)) s.removed.items (vec_capacity s.removed)
+        × AreKept s.problem.now s.trail.words s.across.items };
 }
 
 impl<'a> Store<'a> {
-    /// The box of all values of a problem, or that no memory was to be had. All memory for later removals is taken here: 2
+    /// The box of all values of a problem, or that no memory was to be had. All memory for later removals is taken here: 3
     /// kilobytes for each node on each dimension, and 21 bytes for each value that can be removed.
     pub fn start(alloc: Global, problem: &'a Problem) -> Result<Store<'a>, OutOfMemory>
         ensures parts { IfOk result (λ store. store.parts ≡ problem.entry.now) }
@@ -88,13 +93,20 @@ impl<'a> Store<'a> {
         let words = vec![in alloc; u64::MAX; count]?;
         let trail = Trail::start(alloc, words, free)?;
         let removed = Vec::with_capacity(alloc, free)?;
+        let all = nodes_below(node_count);
+        let full = Mothers {
+            may: all,
+            must: NodeSet::empty(),
+        };
+        let across = vec![in alloc; full; parts.dims.len() * node_count * 32]?;
         let single = trail.spare() - free;
         Ok(Store {
             problem,
             trail,
             removed,
+            across,
             node_count,
-            all: nodes_below(node_count),
+            all,
             single,
             turns: 0,
         })
@@ -144,6 +156,7 @@ impl<'a> Store<'a> {
         let row = edge_row(self.node_count, edge.dim, edge.mother, edge.label);
         let present = row + edge.daughter.0 as usize;
         let change = take_of_pair(&mut self.trail, present + 128, present);
+        renew(&mut self.across, &self.trail, self.node_count, edge);
         note(&mut self.removed, change, Decision::Place(edge));
         change
     }
@@ -157,6 +170,7 @@ impl<'a> Store<'a> {
         let row = edge_row(self.node_count, edge.dim, edge.mother, edge.label);
         let present = row + edge.daughter.0 as usize;
         let change = take_of_pair(&mut self.trail, present, present + 128);
+        renew(&mut self.across, &self.trail, self.node_count, edge);
         note(&mut self.removed, change, Decision::Place(edge));
         change
     }
@@ -236,7 +250,7 @@ impl<'a> Store<'a> {
         daughters
     }
 
-    /// The mothers that an edge with a label into a daughter may have. It asks of each node.
+    /// The mothers that an edge with a label into a daughter may have.
     pub fn mothers_may(&self, dim: DimId, daughter: NodeId, label: LabelId) -> NodeSet
         requires { HasEdges self.now.parts dim.0 daughter.0 label.0 }
         ensures exact { (node : ℕ)
@@ -244,25 +258,13 @@ impl<'a> Store<'a> {
             ↔ ((node < nodes self.now.parts) × (node ≢ daughter.0) × May self.now.parts self.now.now (edge dim.0 node label.0 daughter.0)) }
         ensures known { Known self.now }
     {
-        let mut mothers = NodeSet::empty();
-        for node in 0..self.node_count as u8 {
-            let mother = NodeId(node);
-            if node != daughter.0 {
-                let edge = Edge {
-                    dim,
-                    mother,
-                    label,
-                    daughter,
-                };
-                if self.may(edge) {
-                    mothers.insert(mother);
-                }
-            }
-        }
+        let row = self.across[mothers_at(self.node_count, dim, daughter, label)];
+        let mut mothers = row.may.meet(&self.all);
+        mothers.remove(daughter);
         mothers
     }
 
-    /// The mothers from which an edge with a label into a daughter must lead. It asks of each node.
+    /// The mothers from which an edge with a label into a daughter must lead.
     pub fn mothers_must(&self, dim: DimId, daughter: NodeId, label: LabelId) -> NodeSet
         requires { HasEdges self.now.parts dim.0 daughter.0 label.0 }
         ensures exact { (node : ℕ)
@@ -270,21 +272,9 @@ impl<'a> Store<'a> {
             ↔ ((node < nodes self.now.parts) × (node ≢ daughter.0) × Must self.now.parts self.now.now (edge dim.0 node label.0 daughter.0)) }
         ensures known { Known self.now }
     {
-        let mut mothers = NodeSet::empty();
-        for node in 0..self.node_count as u8 {
-            let mother = NodeId(node);
-            if node != daughter.0 {
-                let edge = Edge {
-                    dim,
-                    mother,
-                    label,
-                    daughter,
-                };
-                if self.must(edge) {
-                    mothers.insert(mother);
-                }
-            }
-        }
+        let row = self.across[mothers_at(self.node_count, dim, daughter, label)];
+        let mut mothers = row.must.meet(&self.all);
+        mothers.remove(daughter);
         mothers
     }
 
@@ -307,6 +297,8 @@ impl<'a> Store<'a> {
         ensures known { Known self.new }
     {
         self.trail.undo(mark);
+        let undone = behind(self.removed.as_slice(), mark.records());
+        renew_all(&mut self.across, &self.trail, self.node_count, undone);
         self.removed.truncate(mark.records());
     }
 

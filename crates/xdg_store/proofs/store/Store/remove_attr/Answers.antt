@@ -9,6 +9,7 @@ use Rattle.xdg_problem.specs.Vectors.{shape}
 use Rattle.xdg_store.specs.Change.{Removes}
 use Rattle.xdg_store.specs.declared.decision.Decision.TheVariants as decisions
 use Rattle.xdg_store.proofs.Histories.{known_of, seen}
+use Rattle.xdg_store.proofs.Kept.{kept_by_other, not_attr}
 use Rattle.xdg_store.proofs.Noting.{note_room, steps_after}
 use Rattle.xdg_store.proofs.store.Store.remove_attr.Goals as goal
 
@@ -42,6 +43,8 @@ invariant_of-self c =
       c.self.invariant.2,
       steps_after p c.take_of_row-change.result c.self.inside.trail c.take_of_row-change.new.trail c.self.inside.turns c.self.inside.single c.self.inside.removed.items c.note.new.removed.items (decisions.Attr c.args.dim c.args.node c.args.attr) c.args.value (vec_capacity c.self.inside.removed) (vec_capacity c.note.new.removed)
           c.self.invariant.0 (h.dim_in, h.node_in, h.attr_in) c.self.invariant.3 (row_removes p c.self.inside.trail c.self.inside.single (attr_decision p c.args.dim.0 c.args.node.0 c.args.attr.0) c.attr_row-row.result c.len-size.result c.args.value c.self.invariant.0 row c.take_of_row-change.new.trail c.take_of_row-change.result c.self.inside.turns c.take_of_row-change.ensures) c.note.ensures.items c.note.ensures.room,
+      kept_by_other p c.self.invariant.0.problem c.take_of_row-change.result c.self.inside.trail c.take_of_row-change.new.trail c.self.inside.turns (attr_decision p c.args.dim.0 c.args.node.0 c.args.attr.0) c.args.value c.self.inside.across.items (row_removes p c.self.inside.trail c.self.inside.single (attr_decision p c.args.dim.0 c.args.node.0 c.args.attr.0) c.attr_row-row.result c.len-size.result c.args.value c.self.invariant.0 row c.take_of_row-change.new.trail c.take_of_row-change.result c.self.inside.turns c.take_of_row-change.ensures)
+          (λ e. not_attr p e c.args.dim.0 c.args.node.0 c.args.attr.0 h.dim_in h.node_in h.attr_in) c.self.invariant.4,
     )
 
 pub returns-clause-removes : goal.returns-clause-removes

@@ -3,18 +3,23 @@ use Rattle.std.specs.Vec.{vec_capacity}
 use Rattle.xdg_store.proofs.Noting.{steps_start}
 use Rattle.xdg_problem.specs.Places.{nodes}
 use Rattle.xdg_problem.specs.declared.parts.Parts.{Parts}
+use Rattle.xdg_store.specs.Across.{row_count}
 use Rattle.xdg_store.specs.Layout.{bit_count}
 use Rattle.xdg_store.proofs.Histories.{known_of}
 use Rattle.xdg_store.specs.States.{Keeps}
+use Rattle.xdg_store.proofs.Kept.{kept_start, rows_are}
 use Rattle.xdg_store.proofs.Starting.{full_words, keeps_start, words_are}
 use Rattle.xdg_problem.specs.Vectors.{shape}
 use Rattle.std.specs.Prelude.{sum}
 use Rattle.xdg_store.proofs.store.Store.start.Goals as goal
 
-the_words : (c : goal.After-nodes_below) → bit_count c.args.problem.now ≤ 64 * (c.len-node_count.result * 16 + c.len.result * c.len-node_count.result * 256)
+the_words : (c : goal.After-spare) → bit_count c.args.problem.now ≤ 64 * (c.len-node_count.result * 16 + c.len.result * c.len-node_count.result * 256)
 the_words c = words_are c.args.problem.now c.parts-parts.result.now c.len-node_count.result c.len.result c.parts-parts.ensures.same c.len-node_count.ensures c.len.ensures
 
-the_keeps : (c : goal.After-nodes_below) → Keeps c.args.problem.now c.in_ok-trail.trail (c.spare.result - c.free_values-free.result)
+the_rows : (c : goal.After-spare) → row_count c.args.problem.now ≤ c.len-2.result * c.len-node_count.result * 32
+the_rows c = rows_are c.args.problem.now c.parts-parts.result.now c.len-node_count.result c.len-2.result c.parts-parts.ensures.same c.len-node_count.ensures c.len-2.ensures
+
+the_keeps : (c : goal.After-spare) → Keeps c.args.problem.now c.in_ok-trail.trail (c.spare.result - c.free_values-free.result)
 the_keeps c = keeps_start c.args.problem.now c.in_ok-trail.trail (c.spare.result - c.free_values-free.result) c.free_values-free.result (c.len-node_count.result * 16 + c.len.result * c.len-node_count.result * 256)
     c.free_values-free.ensures.problem (the_words c) (c.in_ok-trail.ensures.words ∙ c.in_ok-words.ensures.items_if_clones_equal (λ y h. h)) c.in_ok-trail.ensures.records c.free_values-free.ensures.free c.in_ok-trail.ensures.spare (ap (λ (i : ℕ). i - c.free_values-free.result) c.spare.ensures)
 
@@ -24,8 +29,10 @@ invariant_of-result c =
     let n : c.len-node_count.result ≡ nodes c.args.problem.now = c.len-node_count.ensures ∙ ap (λ (q : Parts). length q.words) c.parts-parts.ensures.same in (
       k,
       n,
-      rw (← n) c.nodes_below.ensures,
+      rw (← n) c.nodes_below-all.ensures,
       steps_start c.args.problem.now c.in_ok-trail.trail c.in_ok-removed.removed.items (vec_capacity c.in_ok-removed.removed) c.free_values-free.result c.in_ok-trail.ensures.records c.in_ok-removed.ensures.items (let e = c.in_ok-removed.ensures.exact in omega (arith, e)) c.free_values-free.ensures.free,
+      kept_start c.args.problem.now c.free_values-free.ensures.problem (c.len-node_count.result * 16 + c.len.result * c.len-node_count.result * 256) (c.len-2.result * c.len-node_count.result * 32) c.in_ok-trail.trail.words c.nodes_below-all.result c.empty.result c.in_ok-across.across.items
+          (the_words c) (the_rows c) (c.in_ok-trail.ensures.words ∙ c.in_ok-words.ensures.items_if_clones_equal (λ y h. h)) (c.in_ok-across.ensures.items_if_clones_equal (λ y h. h)) c.empty.ensures.value (rw (← n) c.nodes_below-all.ensures),
     )
 
 pub returns-clause-now : goal.returns-clause-now

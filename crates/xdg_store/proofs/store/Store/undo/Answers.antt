@@ -1,9 +1,12 @@
-use Rattle.std.proofs.Common.{◌≡◌, ◌≤◌, ◌+◌, ◌-◌, ◌∙◌, [], length, get_or, take, ap, arith, sym}
-use Rattle.std.specs.Prelude.{sum}
+use Rattle.std.proofs.Common.{◌≡◌, ◌≤◌, ◌+◌, ◌-◌, ◌∙◌, [], length, get_or, take, drop, ap, ap₂, arith, subst, sym}
+use Rattle.std.specs.Prelude.{All, sum}
 use Rattle.std.specs.Vec.{vec_capacity}
+use Rattle.xdg_problem.specs.Places.{nodes}
 use Rattle.xdg_problem.specs.Vectors.{shape}
+use Rattle.xdg_store.specs.Across.{FitsIn, RenewsAll}
 use Rattle.xdg_store.specs.Layout.{bits_of}
 use Rattle.xdg_store.proofs.Histories.{cut_last, history_cut, history_length, keeps_undone, known_of}
+use Rattle.xdg_store.proofs.Kept.{all_fit, kept_undone}
 use Rattle.xdg_store.proofs.Noting.{steps_cut}
 use Rattle.xdg_store.proofs.store.Store.undo.Goals as goal
 
@@ -14,6 +17,17 @@ undo-requires c =
     let r = c.requires in
     omega (arith, e, r)
 
+pub renew_all-requires-clause-fits : goal.renew_all-requires-clause-fits
+renew_all-requires-clause-fits c =
+    let p = c.self.inside.problem.now in
+    let n = history_length (bits_of p) c.self.inside.trail in
+    let e : length c.args.self.now.history ≡ length c.self.inside.trail.records + 1 = sym (ap (λ s. length s.history) c.self.view_is) ∙ n in
+    let r = c.requires in
+    let keeps = keeps_undone p c.self.inside.trail c.undo.new.self c.self.inside.single c.args.mark c.self.invariant.0 c.undo.ensures.len c.undo.ensures.room c.undo.ensures.past in
+    subst (λ k. All (FitsIn k (length c.self.inside.across.items) (length c.undo.new.self.words)) c.behind-undone.result.now) (sym c.self.invariant.1)
+    (subst (All (FitsIn (nodes p) (length c.self.inside.across.items) (length c.undo.new.self.words))) (sym (c.behind-undone.ensures ∙ ap₂ drop c.records.ensures c.as_slice.ensures.value))
+    (all_fit p c.self.inside.trail c.self.inside.removed.items (vec_capacity c.self.inside.removed) (length c.self.inside.across.items) (length c.undo.new.self.words) c.args.mark c.self.invariant.0.problem c.self.invariant.3 c.self.invariant.4.long keeps.long))
+
 pub invariant_of-self : goal.invariant_of-self
 invariant_of-self c =
     let n = history_length (bits_of c.self.inside.problem.now) c.self.inside.trail in
@@ -23,7 +37,12 @@ invariant_of-self c =
       keeps_undone c.self.inside.problem.now c.self.inside.trail c.undo.new.self c.self.inside.single c.args.mark c.self.invariant.0 c.undo.ensures.len c.undo.ensures.room c.undo.ensures.past,
       c.self.invariant.1,
       c.self.invariant.2,
-      steps_cut c.self.inside.problem.now c.self.inside.trail c.undo.new.self c.self.inside.removed.items c.truncate.new.self.items (vec_capacity c.self.inside.removed) (vec_capacity c.truncate.new.self) c.args.mark c.records.result l c.undo.ensures.past c.self.invariant.3 c.truncate.ensures.items c.records.ensures c.truncate.ensures.capacity,
+      steps_cut c.self.inside.problem.now c.self.inside.trail c.undo.new.self c.self.inside.removed.items c.truncate.new.self.items (vec_capacity c.self.inside.removed) (vec_capacity c.truncate.new.self) c.args.mark c.records-2.result l c.undo.ensures.past c.self.invariant.3 c.truncate.ensures.items c.records-2.ensures c.truncate.ensures.capacity,
+      kept_undone c.self.inside.problem.now c.self.invariant.0.problem c.self.inside.trail c.undo.new.self c.self.inside.single (vec_capacity c.self.inside.removed) c.args.mark c.self.inside.removed.items c.self.inside.across.items c.renew_all.new.rows.items
+          c.self.invariant.0 (keeps_undone c.self.inside.problem.now c.self.inside.trail c.undo.new.self c.self.inside.single c.args.mark c.self.invariant.0 c.undo.ensures.len c.undo.ensures.room c.undo.ensures.past) l c.undo.ensures.past c.self.invariant.3
+          (subst (λ k. RenewsAll k c.undo.new.self.words (drop c.args.mark c.self.inside.removed.items) c.self.inside.across.items c.renew_all.new.rows.items) c.self.invariant.1
+          (subst (λ ds. RenewsAll c.self.inside.node_count c.undo.new.self.words ds c.self.inside.across.items c.renew_all.new.rows.items) (c.behind-undone.ensures ∙ ap₂ drop c.records.ensures c.as_slice.ensures.value) c.renew_all.ensures))
+          c.self.invariant.4,
     )
 
 pub returns-clause-known : goal.returns-clause-known

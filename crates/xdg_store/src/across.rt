@@ -1,0 +1,85 @@
+//! Edges by their daughters.
+
+ghost use Rattle.std.specs.Prelude.{◌≡◌, ◌≢◌, ℕ, ◌<◌, ◌≤◌, All, length};
+ghost use Rattle.xdg_nodeset.specs.Nodes.{has};
+ghost use Rattle.xdg_store.specs.Across.{Fits, FitsIn, Renews, RenewsAll, RenewsOf, mothers_at};
+
+use crate::decision::Decision;
+use crate::layout::edge_row;
+use crate::rows::is_set;
+use xdg_base::{DimId, LabelId, NodeId};
+use xdg_nodeset::NodeSet;
+use xdg_problem::Edge;
+use xdg_trail::Trail;
+
+/// The mothers from which edges with a label may lead into a node, and those from which they must.
+#[derive(Clone, Copy, Debug)]
+pub(crate) struct Mothers {
+    pub may: NodeSet,
+    pub must: NodeSet,
+}
+
+/// Where the mothers of a daughter by a label stand, in a sentence of so many nodes.
+pub(crate) fn mothers_at(nodes: usize, dim: DimId, daughter: NodeId, label: LabelId) -> usize
+    requires { nodes ≤ 128 }
+    ensures { result ≡ mothers_at nodes dim.0 daughter.0 label.0 }
+{
+    (dim.0 as usize * nodes + daughter.0 as usize) * 32 + label.0 as usize
+}
+
+/// A set with a node, or without it.
+fn with_if(nodes: NodeSet, node: NodeId, wanted: bool) -> NodeSet
+    requires { node.0 < 128 }
+    ensures here { has result node.0 ≡ wanted }
+    ensures others { (n : ℕ) → n ≢ node.0 → has result n ≡ has nodes n }
+{
+    let mut changed = nodes;
+    if wanted {
+        changed.insert(node);
+        return changed;
+    }
+    changed.remove(node);
+    changed
+}
+
+/// Makes anew what is kept of an edge.
+pub(crate) fn renew(rows: &mut Vec<Mothers>, trail: &Trail, nodes: usize, edge: Edge)
+    requires nodes { nodes ≤ 128 }
+    requires fits { Fits nodes (length rows.old.items) (length trail.now.words) edge }
+    ensures { Renews nodes trail.now.words edge rows.old.items rows.new.items }
+{
+    let place = mothers_at(nodes, edge.dim, edge.daughter, edge.label);
+    let row = edge_row(nodes, edge.dim, edge.mother, edge.label);
+    let present = row + edge.daughter.0 as usize;
+    let may = is_set(trail, present);
+    let must = !is_set(trail, present + 128);
+    let old = rows[place];
+    rows[place] = Mothers {
+        may: with_if(old.may, edge.mother, may),
+        must: with_if(old.must, edge.mother, must),
+    };
+}
+
+/// Makes anew what is kept of an edge, where a decision is one on an edge.
+fn renew_of(rows: &mut Vec<Mothers>, trail: &Trail, nodes: usize, decision: Decision)
+    requires nodes { nodes ≤ 128 }
+    requires fits { FitsIn nodes (length rows.old.items) (length trail.now.words) decision }
+    ensures { RenewsOf nodes trail.now.words decision rows.old.items rows.new.items }
+{
+    match decision {
+        Decision::Entry(_) => {}
+        Decision::Attr(_, _, _) => {}
+        Decision::Place(edge) => renew(rows, trail, nodes, edge),
+    }
+}
+
+/// Makes anew what is kept of the edges of some decisions.
+pub(crate) fn renew_all(rows: &mut Vec<Mothers>, trail: &Trail, nodes: usize, changed: &[Decision])
+    requires nodes { nodes ≤ 128 }
+    requires fits { All (FitsIn nodes (length rows.old.items) (length trail.now.words)) changed.now }
+    ensures { RenewsAll nodes trail.now.words changed.now rows.old.items rows.new.items }
+{
+    for decision in changed {
+        renew_of(rows, trail, nodes, *decision);
+    }
+}
