@@ -1,5 +1,5 @@
 -- Where nothing is left to take the box is closed: no rule takes a value that remains, and no test is decided and fails.
-use Rattle.std.proofs.Common.{◌≡◌, ℕ, ◌<◌, ◌↔◌, ◌&&◌, inl, inr, Bool, true, List, [], length, get_or, refl, sym, ap, ◌∙◌, arith, subst}
+use Rattle.std.proofs.Common.{◌≡◌, ℕ, ◌<◌, ◌↔◌, ◌&&◌, inl, inr, Bool, true, List, [], get_or, refl, sym, ap, ◌∙◌, arith, subst}
 use Rattle.std.specs.Prelude.{Contains, filter, AllPairs}
 use Rattle.std.proofs.lemmas.Bool.{cases_Bool, false≢true}
 use Rattle.std.proofs.lemmas.List.{get_or_default, length-map}
@@ -24,7 +24,7 @@ use Rattle.xdg_rules.proofs.Shrinking.{may_exact, must_exact}
 use Rattle.xdg_graph.specs.Edges.{edge_labels}
 use Rattle.xdg_graph.proofs.Labelled.{label_below}
 use Rattle.xdg_porder.specs.Across.{AreNodesDone}
-use Rattle.xdg_porder.specs.Items.{AreEarlierDone, AreMothersDone, IsPairDone, MayFollow, MustFollow, label_at}
+use Rattle.xdg_porder.specs.Items.{AreMothersDone, IsNodeDone, IsPairDone, MayFollow, MustFollow, label_at}
 use Rattle.xdg_porder.proofs.Pairing.{pairs_before}
 use Rattle.xdg_porder.proofs.Testing.{all_seen, daughters_pass}
 
@@ -43,14 +43,14 @@ module _ (parts : Parts) (group : Group) (box : List (List Bool)) (is : IsBox (s
 
   -- ---- order
 
-  all_pairs : (u : ℕ) → AreEarlierDone parts group u (length group.order) box → AllPairs (λ l m. IsPairDone parts group u l m box) (order_of group)
+  all_pairs : (u : ℕ) → IsNodeDone parts group u box → AllPairs (λ l m. IsPairDone parts group u l m box) (order_of group)
   all_pairs u done i j d less within =
       let c = length-map group.order (λ (label : LabelId). label.0) in
       subst (λ l. IsPairDone parts group u l (get_or (order_of group) j d) box) (get_or_default (order_of group) i 0 d (omega (arith, less, within)))
       (subst (λ m. IsPairDone parts group u (label_at group i) m box) (get_or_default (order_of group) j 0 d within)
-      (done i (omega (arith, less, within, c)) j (omega (arith, within, c)) less))
+      (done i j less (omega (arith, within, c))))
 
-  pair_done : (u l m : ℕ) → AreEarlierDone parts group u (length group.order) box → ComesBefore (order_of group) l m → IsPairDone parts group u l m box
+  pair_done : (u l m : ℕ) → IsNodeDone parts group u box → ComesBefore (order_of group) l m → IsPairDone parts group u l m box
   pair_done u l m done comes = pairs_before (λ a b. IsPairDone parts group u a b box) (order_of group) l m (all_pairs u done) comes
 
   no_daughter : AreMothersDone parts group (nodes parts) box → (d v : ℕ) → Has box d v → DaughterOrder parts group box d v → ⊥

@@ -1,5 +1,5 @@
 -- Sets that gather what each node of another set brings.
-use Rattle.std.proofs.Common.{◌≡◌, ℕ, ◌<◌, ◌≤◌, ◌⊎◌, ◌↔◌, ◌==◌, ◌||◌, ◌&&◌, inl, inr, Bool, true, false, IsTrue, List, [], ◌∷◌, refl, sym, ap, ◌∙◌, arith, subst}
+use Rattle.std.proofs.Common.{◌≡◌, ℕ, ◌<◌, ◌⊎◌, ◌↔◌, ◌==◌, ◌||◌, ◌&&◌, inl, inr, Bool, true, false, IsTrue, List, [], ◌∷◌, refl, sym, ap, ◌∙◌, arith, subst}
 use Rattle.std.specs.Prelude.{not, nat_lt}
 use Prim.Native.Nat.{min, max}
 use Rattle.std.proofs.lemmas.Bool.{cases_lt, eq-eqb, eqb-true, lt-ltb, ltb-true, false≢true}
@@ -112,14 +112,6 @@ inside_exact a b v = (
     | inl up ↦ (let x = up.0 in let y = up.1 in (lt-ltb (min a b) v (omega (arith, x, y)), lt-ltb v (max a b) (omega (arith, x, y))))
     | inr down ↦ (let x = down.0 in let y = down.1 in (lt-ltb (min a b) v (omega (arith, x, y)), lt-ltb v (max a b) (omega (arith, x, y))))
   ]),
-)
-
--- ---- what two sets have in common
-
-pub meets_right : (nodes ends reach met : List ℕ) → IsNodes nodes → ((v : ℕ) → (has reach v ≡ true) ↔ ((w : ℕ) × (has ends w ≡ true) × ((w ≤ v) × (v < 128)))) → ((v : ℕ) → has met v ≡ (has nodes v && has reach v)) → (v : ℕ) → (has met v ≡ true) ↔ ((has nodes v ≡ true) × ((w : ℕ) × (has ends w ≡ true) × (w ≤ v)))
-meets_right nodes ends reach met small exact is v = (
-  λ h. (let two = (both (has nodes v) (has reach v)).0 (sym (is v) ∙ h) in let (w, there, (l, m)) = (exact v).0 two.1 in (two.0, (w, there, l))),
-  λ (here, (w, there, l)). is v ∙ (both (has nodes v) (has reach v)).1 (here, (exact v).1 (w, there, (l, nodes_small nodes small v here))),
 )
 
 -- ---- crossing

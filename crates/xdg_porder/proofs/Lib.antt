@@ -3,6 +3,7 @@ pub mod Following
 pub mod Removing
 pub mod Pairing
 pub mod Looping
+pub mod Siding
 pub mod Others
 pub mod Crossing
 pub mod Settling

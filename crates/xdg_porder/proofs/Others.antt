@@ -20,8 +20,8 @@ use Rattle.xdg_propcore.specs.Passes.{Progress, IsQuiet}
 use Rattle.xdg_propcore.specs.Sweeps.{Sweeps}
 use Rattle.xdg_propcore.specs.Touching.{HasTouched}
 use Rattle.xdg_propcore.specs.declared.touched.Touched.{Touched}
-use Rattle.xdg_porder.specs.Items.{AreEarlierDone, AreMothersDone, AreOthersDone, IsAtNode, MayStand, MustStand, edge_to, label_at}
-use Rattle.xdg_porder.proofs.Pairing.{IsWrong, at_comes, edge_goes, own_goes}
+use Rattle.xdg_porder.specs.Items.{AreMothersDone, AreOthersDone, IsAtNode, IsNodeDone, IsWrong, MayStand, MustStand, edge_to, label_at}
+use Rattle.xdg_porder.proofs.Pairing.{at_comes, edge_goes, own_goes}
 
 -- ---- where the box is closed nothing is left
 
@@ -38,8 +38,8 @@ module _ (parts : Parts) (group : Group) (box : List (List Bool)) (problem : IsP
     | inr (is, present) ↦ closed (edge_decision parts (edge_to group u l v)) 0 present (edge_goes group u l m here at v w is must wrong)
   ]
 
-  pub closed_node : AreEarlierDone parts group u (length group.order) box
-  closed_node i l j m less =
+  pub closed_node : IsNodeDone parts group u box
+  closed_node i j less m =
       let c = length-map group.order (λ (label : LabelId). label.0) in
       let comes : ComesBefore (order_of group) (label_at group i) (label_at group j) = at_comes (order_of group) i j less (omega (arith, m, c)) in (
         (λ v w may must o. none_wrong (label_at group j) (label_at group i) v w may must (inl (comes, o))),
@@ -70,10 +70,10 @@ module _ (parts : Parts) (group : Group) (group_is : IsGroup parts group) (order
   must_before label v (inl (same, (may, only))) = inl (same, (lies (attr_of_node parts group 0 u) label may, λ x h. only x (own_stays x h)))
   must_before label v (inr (is, must)) = inr (is, λ h. must (kept_or_lost old new (edge_decision parts (edge_to group u label v)) 1 (λ lost. out (touched.edges (edge_to group u label v) 1 is refl lost).mother) h))
 
-  pub node_stays : AreEarlierDone parts group u (length group.order) old → AreEarlierDone parts group u (length group.order) new
-  node_stays before i l j m less = (
-    (λ v w may must o. (before i l j m less).0 v w (may_before (label_at group j) v may) (must_before (label_at group i) w must) o),
-    (λ v w may must o. (before i l j m less).1 v w (may_before (label_at group i) v may) (must_before (label_at group j) w must) o),
+  pub node_stays : IsNodeDone parts group u old → IsNodeDone parts group u new
+  node_stays before i j less m = (
+    (λ v w may must o. (before i j less m).0 v w (may_before (label_at group j) v may) (must_before (label_at group i) w must) o),
+    (λ v w may must o. (before i j less m).1 v w (may_before (label_at group i) v may) (must_before (label_at group j) w must) o),
   )
 
 -- ---- all that was left alone
@@ -99,7 +99,7 @@ node_skipped set group k p old q mid within free others a = record {
   goes = a.goes;
   known = a.known;
   done = λ quiet u l. elim (cases_eq u k) [
-    | inl same ↦ (let before = a.goes.quiet quiet in subst (λ n. AreEarlierDone old.parts group n (length group.order) mid.now) (sym same) (subst (AreEarlierDone old.parts group k (length group.order)) (sym before.1) (others before.0 k within free)))
+    | inl same ↦ (let before = a.goes.quiet quiet in subst (λ n. IsNodeDone old.parts group n mid.now) (sym same) (subst (IsNodeDone old.parts group k) (sym before.1) (others before.0 k within free)))
     | inr other ↦ a.done quiet u (omega (arith, l, other))
   ];
 }

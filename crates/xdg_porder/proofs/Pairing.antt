@@ -1,5 +1,5 @@
 -- Two labels of an order, the items with them, and what order takes of these.
-use Rattle.std.proofs.Common.{◌≡◌, ◌≢◌, ℕ, zero, suc, ◌<◌, ◌≤◌, ◌⊎◌, ◌↔◌, inl, inr, true, List, [], ◌∷◌, length, get_or, refl, sym, ap, ◌∙◌, arith, subst}
+use Rattle.std.proofs.Common.{◌≡◌, ◌≢◌, ℕ, zero, suc, ◌<◌, inl, inr, true, List, [], ◌∷◌, length, get_or, refl, sym, ap, ◌∙◌, arith, subst}
 use Rattle.std.specs.Prelude.{Contains, AllPairs}
 use Rattle.std.proofs.lemmas.List.{get_or_default, get_or-map, length-map}
 use Rattle.xdg_base.specs.declared.ids.LabelId.{LabelId}
@@ -16,9 +16,7 @@ use Rattle.xdg_problem.proofs.PlaceOrder.{place_is}
 use Rattle.xdg_rules.specs.Rules.{ComesBefore, Takes, TakesBy, attr_of_node, must_edges}
 use Rattle.xdg_rules.proofs.Shrinking.{must_exact}
 use Rattle.xdg_store.specs.States.{State, Known}
-use Rattle.xdg_propcore.specs.Passes.{Progress}
-use Rattle.xdg_propcore.specs.Sweeps.{Sweeps}
-use Rattle.xdg_porder.specs.Items.{IsAtNode, IsAtPair, IsLeftDone, IsRightDone, MayStand, MustStand, NoneStand, TakesItems, edge_to}
+use Rattle.xdg_porder.specs.Items.{AreWrong, IsAtNode, IsWrong, MayStand, MustStand, TakesItems, edge_to}
 
 -- ---- labels that come before others
 
@@ -52,10 +50,6 @@ comes_differ parts group is same l m comes =
     differ i j (record { 0 = 0 }) less (omega (arith, within, count)) (ap (λ n. record { 0 = n }) (sym first ∙ equal ∙ second))) comes
 
 -- ---- what is taken
-
--- an item v with a label l stands on the wrong side of an item w with a label m
-abbrev pub IsWrong : Group → ℕ → ℕ → ℕ → ℕ → Type 0
-IsWrong group l m v w = (ComesBefore (order_of group) m l × (v ≤ w)) ⊎ (ComesBefore (order_of group) l m × (w ≤ v))
 
 module _ (group : Group) (u l m : ℕ) (s : State) (at : IsAtNode group u s) where
   known_is : Known s
@@ -114,46 +108,15 @@ module _ (group : Group) (u l m : ℕ) (s : State) (at : IsAtNode group u s) whe
     }))
   ]
 
-  -- items on the wrong side are taken
-  pub items_go : (set : List ℕ) → ((v : ℕ) → has set v ≡ true → MayStand s.parts group s.now u l v × ((w : ℕ) × MustStand s.parts group s.now u m w × IsWrong group l m v w)) → TakesItems group u l set s
-  items_go set refused = (
-    λ here. (let (may, (w, must, wrong)) = refused u here in elim may [
-      | inl (same, own) ↦ (own, own_goes w must wrong own)
-      | inr (is, may) ↦ absurd (is.differ refl)
-    ]),
-    λ v there other. (let (may, (w, must, wrong)) = refused v there in elim may [
-      | inl (same, own) ↦ absurd (other same)
-      | inr (is, may) ↦ (is, edge_goes v w is must wrong)
-    ]),
-  )
-
--- ---- sets
-
-pub refused_exact : (A B : ℕ → Type 0) (Q : ℕ → ℕ → Type 0) (nodes ends refused : List ℕ) → ((v : ℕ) → (has refused v ≡ true) ↔ ((has nodes v ≡ true) × ((w : ℕ) × (has ends w ≡ true) × Q v w))) → ((v : ℕ) → (has nodes v ≡ true) ↔ A v) → ((w : ℕ) → (has ends w ≡ true) ↔ B w) → (v : ℕ) → (has refused v ≡ true) ↔ (A v × ((w : ℕ) × B w × Q v w))
-refused_exact A B Q nodes ends refused exact a b v = (
-  λ h. (let (here, (w, there, q)) = (exact v).0 h in ((a v).0 here, (w, (b w).0 there, q))),
-  λ (here, (w, there, q)). (exact v).1 ((a v).1 here, (w, (b w).1 there, q)),
+-- items on the wrong side are taken
+pub items_go : (group : Group) (u l : ℕ) (s : State) → IsAtNode group u s → (set refused : List ℕ) → AreWrong group u l set s → ((v : ℕ) → has refused v ≡ true → (has set v ≡ true) × MayStand s.parts group s.now u l v) → TakesItems group u l refused s
+items_go group u l s at set refused wrong here = (
+  λ there. (let (within, may) = here u there in let (m, w, must, is) = wrong u within in elim may [
+    | inl (same, own) ↦ (own, own_goes group u l m s at w must is own)
+    | inr (place, may) ↦ absurd (place.differ refl)
+  ]),
+  λ v there other. (let (within, may) = here v there in let (m, w, must, is) = wrong v within in elim may [
+    | inl (same, own) ↦ absurd (other same)
+    | inr (place, may) ↦ (place, edge_goes group u l m s at v w place must is)
+  ]),
 )
-
-module _ (group : Group) (u earlier later : ℕ) (p : Progress) (old : State) (refused : List ℕ) (at : IsAtPair group u earlier later old) where
-  module _ (exact : (v : ℕ) → (has refused v ≡ true) ↔ (MayStand old.parts group old.now u later v × ((w : ℕ) × MustStand old.parts group old.now u earlier w × (v ≤ w)))) where
-    pub left_takes : TakesItems group u later refused old
-    left_takes = items_go group u later earlier old at.0 refused (λ v h. (let (may, (w, must, l)) = (exact v).0 h in (may, (w, must, inl (at.1, l)))))
-
-    pub left_done : (q : Progress) (new : State) → Sweeps group (NoneStand old.parts group u later refused) p old q new → Sweeps group (IsLeftDone old.parts group u earlier later) p old q new
-    left_done q new a = record {
-      goes = a.goes;
-      known = a.known;
-      done = λ quiet v w may must l. (let same = (a.goes.quiet quiet).1 in a.done quiet v ((exact v).1 (subst (λ box. MayStand old.parts group box u later v) same may, (w, subst (λ box. MustStand old.parts group box u earlier w) same must, l))) may);
-    }
-
-  module _ (exact : (v : ℕ) → (has refused v ≡ true) ↔ (MayStand old.parts group old.now u earlier v × ((w : ℕ) × MustStand old.parts group old.now u later w × (w ≤ v)))) where
-    pub right_takes : TakesItems group u earlier refused old
-    right_takes = items_go group u earlier later old at.0 refused (λ v h. (let (may, (w, must, l)) = (exact v).0 h in (may, (w, must, inr (at.1, l)))))
-
-    pub right_done : (q : Progress) (new : State) → Sweeps group (NoneStand old.parts group u earlier refused) p old q new → Sweeps group (IsRightDone old.parts group u earlier later) p old q new
-    right_done q new a = record {
-      goes = a.goes;
-      known = a.known;
-      done = λ quiet v w may must l. (let same = (a.goes.quiet quiet).1 in a.done quiet v ((exact v).1 (subst (λ box. MayStand old.parts group box u earlier v) same may, (w, subst (λ box. MustStand old.parts group box u later w) same must, l))) may);
-    }

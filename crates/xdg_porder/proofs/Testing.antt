@@ -30,7 +30,7 @@ use Rattle.xdg_graph.specs.declared.which.Which.TheVariants as whichs
 use Rattle.xdg_graph.specs.Edges.{edge_labels}
 use Rattle.xdg_graph.proofs.Edges.{stands_by}
 use Rattle.xdg_graph.proofs.Labelled.{label_below}
-use Rattle.xdg_porder.specs.Items.{AreEarlierDone, IsPairDone, MayFollow, MayStand, MustFollow, MustStand, edge_to, label_at}
+use Rattle.xdg_porder.specs.Items.{IsNodeDone, IsPairDone, MayFollow, MayStand, MustFollow, MustStand, edge_to, label_at}
 use Rattle.xdg_porder.specs.Yields.{AreSettled, IsBrokenAt, StandsBelow}
 use Rattle.xdg_facts.proofs.Truths.{and_swap}
 
@@ -105,7 +105,7 @@ module _ (parts : Parts) (group : Group) (box : List (List Bool)) (is : IsBox (s
   abbrev Orders : List Edge → ℕ → Type 0
   Orders edges u = (x y : ℕ) → x < nodes parts → y < nodes parts → AllPairs (λ earlier later. IsInItem edges (truth_of group.truths 0 ≡ true) (value_in box (own_of u)) u earlier x → IsInItem edges (truth_of group.truths 0 ≡ true) (value_in box (own_of u)) u later y → x < y) (order_of group)
 
-  pub daughters_pass : (u : ℕ) → truth_of group.truths 0 ≡ false → TestDecided parts group box (ordered_daughters u) → AreEarlierDone parts group u (length group.order) box → TestPasses parts group box (ordered_daughters u)
+  pub daughters_pass : (u : ℕ) → truth_of group.truths 0 ≡ false → TestDecided parts group box (ordered_daughters u) → IsNodeDone parts group u box → TestPasses parts group box (ordered_daughters u)
   daughters_pass u plain decided done = passes
     where
       test : Test
@@ -137,7 +137,7 @@ module _ (parts : Parts) (group : Group) (box : List (List Bool)) (is : IsBox (s
           let c = length-map group.order (λ (label : LabelId). label.0) in
           subst (λ l. IsPairDone parts group u l (get_or (order_of group) j d) box) (get_or_default (order_of group) i 0 d (omega (arith, less, within)))
           (subst (λ m. IsPairDone parts group u (label_at group i) m box) (get_or_default (order_of group) j 0 d within)
-          (done i (omega (arith, less, within, c)) j (omega (arith, within, c)) less))
+          (done i j less (omega (arith, within, c))))
 
       passes : Orders (few (ordered_daughters u)) u
       passes x y xl yl i j d less within first second = elim (cases_lt x y) [

@@ -59,25 +59,17 @@ IsPairDone parts group u earlier later box = IsLeftDone parts group u earlier la
 abbrev pub label_at : Group → ℕ → ℕ
 label_at group i = slice_index_or (order_of group) i 0
 
--- nothing with the label at a place of the order and the one at a later place
-abbrev pub IsTwoDone : Parts → Group → ℕ → ℕ → ℕ → List (List Bool) → Type 0
-IsTwoDone parts group u i j box = i < j → IsPairDone parts group u (label_at group i) (label_at group j) box
-
--- nothing with that label and those at the first places
-abbrev pub AreLaterDone : Parts → Group → ℕ → ℕ → ℕ → List (List Bool) → Type 0
-AreLaterDone parts group u i k box = (j : ℕ) → j < k → IsTwoDone parts group u i j box
-
--- nothing at a node, with the labels at the first places
-abbrev pub AreEarlierDone : Parts → Group → ℕ → ℕ → List (List Bool) → Type 0
-AreEarlierDone parts group u k box = (i : ℕ) → i < k → AreLaterDone parts group u i (length group.order) box
+-- nothing at a node, with the label at a place of the order and the one at a later place
+abbrev pub IsNodeDone : Parts → Group → ℕ → List (List Bool) → Type 0
+IsNodeDone parts group u box = (i j : ℕ) → i < j → j < length group.order → IsPairDone parts group u (label_at group i) (label_at group j) box
 
 -- nothing at the first nodes
 abbrev pub AreMothersDone : Parts → Group → ℕ → List (List Bool) → Type 0
-AreMothersDone parts group k box = (u : ℕ) → u < k → AreEarlierDone parts group u (length group.order) box
+AreMothersDone parts group k box = (u : ℕ) → u < k → IsNodeDone parts group u box
 
 -- nothing at the nodes outside a set
 abbrev pub AreOthersDone : List ℕ → Parts → Group → List (List Bool) → Type 0
-AreOthersDone set parts group box = (u : ℕ) → u < nodes parts → (has set u ≡ true → ⊥) → AreEarlierDone parts group u (length group.order) box
+AreOthersDone set parts group box = (u : ℕ) → u < nodes parts → (has set u ≡ true → ⊥) → IsNodeDone parts group u box
 
 -- of the edges from u with a label those to the nodes of a set may be no more
 abbrev pub NoneFollow : Parts → Group → ℕ → ℕ → List ℕ → List (List Bool) → Type 0
@@ -88,6 +80,14 @@ abbrev pub NoneStand : Parts → Group → ℕ → ℕ → List ℕ → List (Li
 NoneStand parts group u label set box = (v : ℕ) → has set v ≡ true → MayStand parts group box u label v → ⊥
 
 -- ---- what may be taken
+
+-- an item v with a label l stands on the wrong side of an item w with a label m
+abbrev pub IsWrong : Group → ℕ → ℕ → ℕ → ℕ → Type 0
+IsWrong group l m v w = (ComesBefore (order_of group) m l × (v ≤ w)) ⊎ (ComesBefore (order_of group) l m × (w ≤ v))
+
+-- as an item of u with a label each node of a set would stand on the wrong side of one that must be
+abbrev pub AreWrong : Group → ℕ → ℕ → List ℕ → State → Type 0
+AreWrong group u label set s = (v : ℕ) → has set v ≡ true → (m : ℕ) × (w : ℕ) × MustStand s.parts group s.now u m w × IsWrong group label m v w
 
 -- from a box around, the principle use takes the edges from u with a label to the nodes of a set
 abbrev pub TakesEdges : Group → ℕ → ℕ → List ℕ → State → Type 0
@@ -117,7 +117,3 @@ IsOrdering group s = IsReady group s × (group.principle ≡ principles.Order)
 -- at a node
 abbrev pub IsAtNode : Group → ℕ → State → Type 0
 IsAtNode group u s = IsOrdering group s × (u < nodes s.parts)
-
--- at two labels of a node, of which the first comes before the second
-abbrev pub IsAtPair : Group → ℕ → ℕ → ℕ → State → Type 0
-IsAtPair group u earlier later s = IsAtNode group u s × ComesBefore (order_of group) earlier later

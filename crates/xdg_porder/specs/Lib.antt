@@ -1,4 +1,5 @@
 pub mod Family
 pub mod Items
+pub mod Sides
 pub mod Across
 pub mod Yields

@@ -42,7 +42,7 @@ fn from(node: NodeId) -> NodeSet
 }
 
 /// The nodes at or left of one of some nodes.
-fn left_of(ends: NodeSet) -> NodeSet
+pub(crate) fn left_of(ends: NodeSet) -> NodeSet
     ensures { (v : ℕ) → (has result v ≡ true) ↔ ((w : ℕ) × (has ends w ≡ true) × (v ≤ w)) }
 {
     let mut reached = NodeSet::empty();
@@ -53,7 +53,7 @@ fn left_of(ends: NodeSet) -> NodeSet
 }
 
 /// The nodes at or right of one of some nodes.
-fn right_of(ends: NodeSet) -> NodeSet
+pub(crate) fn right_of(ends: NodeSet) -> NodeSet
     ensures { (v : ℕ) → (has result v ≡ true) ↔ ((w : ℕ) × (has ends w ≡ true) × ((w ≤ v) × (v < 128))) }
 {
     let mut reached = NodeSet::empty();
@@ -68,15 +68,6 @@ pub(crate) fn at_or_left(nodes: NodeSet, ends: NodeSet) -> NodeSet
     ensures { (v : ℕ) → (has result v ≡ true) ↔ ((has nodes v ≡ true) × ((w : ℕ) × (has ends w ≡ true) × (v ≤ w))) }
 {
     nodes.meet(&left_of(ends))
-}
-
-/// Those of some nodes that stand at or right of one of others.
-pub(crate) fn at_or_right(nodes: NodeSet, ends: NodeSet) -> NodeSet
-    ensures { (v : ℕ) → (has result v ≡ true) ↔ ((has nodes v ≡ true) × ((w : ℕ) × (has ends w ≡ true) × (w ≤ v))) }
-{
-    // Each set has nodes below 128 alone.
-    let _ = nodes.len();
-    nodes.meet(&right_of(ends))
 }
 
 /// The nodes that a table has for some nodes.

@@ -10,7 +10,7 @@ ghost use Rattle.xdg_porder.specs.Items.{AreOthersDone, IsOrdering, IsReady};
 
 use crate::across::take_across;
 use crate::failing::fails_test;
-use crate::pairs::take_nodes;
+use crate::sides::take_nodes;
 use xdg_graph::{Which, above, dim_of, truth_of};
 use xdg_nodeset::NodeSet;
 use xdg_problem::Group;
