@@ -1,5 +1,5 @@
 -- Places and nodes, one after another.
-use Rattle.std.proofs.Common.{◌≡◌, ◌≢◌, ℕ, ◌<◌, ◌≤◌, ◌+◌, ◌↔◌, ◌||◌, inl, inr, Bool, true, false, IsTrue, List, [], ◌∷◌, length, get_or, refl, sym, ap, ◌∙◌, arith, subst}
+use Rattle.std.proofs.Common.{◌≡◌, ◌≢◌, ℕ, ◌<◌, ◌≤◌, ◌+◌, ◌||◌, inl, inr, Bool, true, false, List, [], ◌∷◌, length, get_or, refl, sym, ap, ◌∙◌, arith, subst}
 use Rattle.std.specs.Prelude.{◌==◌, slice_index_or}
 use Rattle.std.proofs.lemmas.Bool.{cases_Bool, cases_eq, cases_lt, eq-eqb, ne_eqb}
 use Rattle.std.proofs.lemmas.List.{get_or_default}
@@ -20,9 +20,10 @@ use Rattle.xdg_rules.proofs.Counting.{label_on}
 use Rattle.xdg_rules.proofs.Shrinking.{must_is}
 use Rattle.xdg_store.specs.InRange.{HasEdges}
 use Rattle.xdg_store.specs.States.{State, Known}
-use Rattle.xdg_propcore.specs.Passes.{Progress}
+use Rattle.xdg_propcore.specs.Passes.{Progress, IsQuiet}
 use Rattle.xdg_pagree.specs.Family.{IsOfPlaces}
 use Rattle.xdg_pagree.specs.Places.{PlaceAsks, PlaceLacks, IsDoneAt, IsLabelDone, AreLabelsDone, IsNodeDone, AreNodesDone}
+use Rattle.xdg_pagree.specs.Untouched.{AreOthersDoneAt}
 use Rattle.xdg_propcore.specs.Sweeps.{Sweeps}
 use Rattle.xdg_facts.proofs.Truths.{or_here, either_true}
 
@@ -52,7 +53,7 @@ daughters_next parts group dim u l v first left box before here w is gone = elim
 ]
 
 -- what is taken at a place leaves it, as long as it may be present
-lacks_present : (p : Principle) (parts : Parts) (group : Group) (box : List (List Bool)) (e : Edge) (d v : ℕ) → PlaceLacks p parts group box e d v → Has box d v → May parts box e
+pub lacks_present : (p : Principle) (parts : Parts) (group : Group) (box : List (List Bool)) (e : Edge) (d v : ℕ) → PlaceLacks p parts group box e d v → Has box d v → May parts box e
 lacks_present principles.Agreement parts group box e d v lacks has = elim lacks [
   | inl gone ↦ subst (λ k. Has box (edge_decision parts e) k) gone.0.1 (subst (λ k. Has box k v) gone.0.0 has)
   | inr value ↦ (must_is parts box (first_dim group) e value.0).present
@@ -63,23 +64,20 @@ lacks_present principles.Government parts group box e d v lacks has = elim lacks
 ]
 lacks_present p parts group box e d v lacks has = absurd lacks
 
-pub daughters_last : (group : Group) (dim u l : ℕ) (first : List ℕ) (p : Progress) (old : State) (q : Progress) (new : State) → dim ≡ first_dim group → ((node : ℕ) → IsTrue (has first node) ↔ ((node < nodes old.parts) × (u ≢ node) × May old.parts old.now (edge dim u l node))) → Sweeps group (AreDaughtersDone old.parts group dim u l first []) p old q new → Sweeps group (IsLabelDone old.parts group u l) p old q new
-daughters_last group dim u l first p old q new dim_is exact a = record {
+pub daughters_last : (group : Group) (dim u l : ℕ) (first : List ℕ) (p : Progress) (old : State) (q : Progress) (new : State) → dim ≡ first_dim group → (IsQuiet p → AreOthersDoneAt old.parts group dim u l first old.now) → Sweeps group (AreDaughtersDone old.parts group dim u l first []) p old q new → Sweeps group (IsLabelDone old.parts group u l) p old q new
+daughters_last group dim u l first p old q new dim_is others a = record {
   goes = a.goes;
   known = a.known;
   done = λ quiet place on mother_is label_is.
       let w : ℕ = place.daughter.0 in
       let is = is_place old.parts place on.0 in
       let d_is : place.dim.0 ≡ dim = on.1 ∙ sym dim_is in
-      let same = (a.goes.quiet quiet).1 in
-      elim (cases_Bool (has first w)) [
-        | inl there ↦ subst (λ k. IsDoneAt old.parts group (edge k place.mother.0 place.label.0 w) new.now) (sym d_is) (subst (λ k. IsDoneAt old.parts group (edge dim k place.label.0 w) new.now) (sym mother_is) (subst (λ k. IsDoneAt old.parts group (edge dim u k w) new.now) (sym label_is) (a.done quiet w there (λ h. (let z : false ≡ true = h in cc)))))
-        | inr not ↦ (λ d v remains lacks.
-            let may : May old.parts old.now place = subst (λ box. May old.parts box place) same (lacks_present group.principle old.parts group new.now place d v lacks remains) in
-            let may_edge : May old.parts old.now (edge dim u l w) = subst (λ k. May old.parts old.now (edge k u l w)) d_is (subst (λ k. May old.parts old.now (edge place.dim.0 k l w)) mother_is (subst (λ k. May old.parts old.now (edge place.dim.0 place.mother.0 k w)) label_is may)) in
-            let there : has first w ≡ true = (exact w).1 (is.daughter, (λ e. is.differ (mother_is ∙ e)), may_edge) in
-            absurd (let z : true ≡ false = sym there ∙ not in cc))
-      ];
+      let before = a.goes.quiet quiet in
+      let here : IsDoneAt old.parts group (edge dim u l w) new.now = elim (cases_Bool (has first w)) [
+        | inl there ↦ a.done quiet w there (λ h. (let z : false ≡ true = h in cc))
+        | inr not ↦ subst (IsDoneAt old.parts group (edge dim u l w)) (sym before.1) (others before.0 w is.daughter (λ e. is.differ (mother_is ∙ e)) (λ there. (let z : true ≡ false = sym there ∙ not in cc)))
+      ] in
+      subst (λ k. IsDoneAt old.parts group (edge k place.mother.0 place.label.0 w) new.now) (sym d_is) (subst (λ k. IsDoneAt old.parts group (edge dim k place.label.0 w) new.now) (sym mother_is) (subst (λ k. IsDoneAt old.parts group (edge dim u k w) new.now) (sym label_is) here));
 }
 
 -- ---- labels

@@ -3,4 +3,6 @@ pub mod Sweeping
 pub mod AtPlaces
 pub mod AtNodes
 pub mod Closing
+pub mod Keeping
+pub mod Others
 pub mod Staying

@@ -8,7 +8,7 @@ use Rattle.xdg_problem.specs.declared.parts.Principle.{Principle}
 use Rattle.xdg_problem.specs.declared.parts.Principle.TheVariants as principles
 use Rattle.xdg_problem.specs.Arguments.{first_dim}
 use Rattle.xdg_problem.specs.Boxes.{Has, LiesIn, entry_decision}
-use Rattle.xdg_problem.specs.Places.{nodes}
+use Rattle.xdg_problem.specs.Places.{nodes, places}
 use Rattle.xdg_problem.specs.Problems.{IsProblem, IsGroup, attr_arguments}
 use Rattle.xdg_problem.proofs.PlaceOrder.{is_place}
 use Rattle.xdg_rules.specs.Rules.{TakesBy, IsClosedFor, must_edges, attr_of_node}
@@ -17,6 +17,7 @@ use Rattle.xdg_propcore.specs.UseKinds.{looks_at_attrs, looks_at_entries, looks_
 use Rattle.xdg_propcore.proofs.Unseen.{entry_stays as entry_kept, attr_stays as attr_kept, must_before as must_kept}
 use Rattle.xdg_pagree.specs.Family.{IsOfFamily, IsOfPlaces}
 use Rattle.xdg_pagree.proofs.Closing.{closed_by_rules}
+use Rattle.xdg_pagree.proofs.Keeping.{KeepsPlace, asks_before, attr_some, lacks_before}
 
 looks_entries : (p : Principle) → IsOfFamily p → looks_at_entries p ≡ true
 looks_entries principles.Agr family = refl
@@ -50,7 +51,18 @@ module _ (parts : Parts) (problem : IsProblem parts) (group : Group) (group_is :
   -- what must be now had to be before
   must_before : IsOfPlaces group.principle → (e : Edge) → Contains (must_edges parts new (first_dim group)) e
       → Contains (must_edges parts old (first_dim group)) e
-  must_before places = must_kept parts group old new unseen (first_dim group) (inl (looks_first group.principle places, refl))
+  must_before asks = must_kept parts group old new unseen (first_dim group) (inl (looks_first group.principle asks, refl))
+
+  -- nothing was lost at a place
+  keeps : IsOfPlaces group.principle → (e : Edge) → Contains (places parts) e → KeepsPlace parts group old new e
+  keeps asks e c =
+      let place = is_place parts e c in
+      record {
+        entries = λ x. entry_stays e.mother.0 x place.mother;
+        mother = λ x. attr_stays 0 e.mother.0 x (attr_some group.principle asks) place.mother;
+        daughter = λ argument x known. attr_stays argument e.daughter.0 x known place.daughter;
+        must = must_before asks e;
+      }
 
   -- what a rule takes now it took before
   rule_before : (p : Principle) → group.principle ≡ p → IsOfFamily p → (d v : ℕ) → TakesBy p parts group new d v → TakesBy p parts group old d v
@@ -65,47 +77,20 @@ module _ (parts : Parts) (problem : IsProblem parts) (group : Group) (group_is :
         ];
       }
   rule_before principles.Agreement e f d v rule =
-      let zero_known : 0 < attr_arguments group.principle = subst (λ p. 0 < attr_arguments p) (sym e) (omega arith) in
-      let one_known : 1 < attr_arguments group.principle = subst (λ p. 1 < attr_arguments p) (sym e) (omega arith) in
-      let places : IsOfPlaces group.principle = subst IsOfPlaces (sym e) tt in
-      let place = is_place parts rule.place rule.is.0 in
+      let here = keeps (subst IsOfPlaces (sym e) tt) rule.place rule.is.0 in
       record {
         place = rule.place;
         is = rule.is;
-        asks = λ c remains. rule.asks c (entry_stays rule.place.mother.0 c place.mother remains);
-        lacks = elim rule.lacks [
-          | inl edge ↦
-              inl (
-                edge.0,
-                λ x a b. edge.1 x (attr_stays 0 rule.place.mother.0 x zero_known place.mother a)
-                    (attr_stays 1 rule.place.daughter.0 x one_known place.daughter b),
-              )
-          | inr value ↦ inr (
-            must_before places rule.place value.0,
-            elim value.1 [
-              | inl mother ↦ inl (mother.0, λ remains. mother.1 (attr_stays 1 rule.place.daughter.0 v one_known place.daughter remains))
-              | inr daughter ↦ inr (daughter.0, λ remains. daughter.1 (attr_stays 0 rule.place.mother.0 v zero_known place.mother remains))
-            ],
-          )
-        ];
+        asks = asks_before principles.Agreement parts group old new rule.place here rule.asks;
+        lacks = lacks_before principles.Agreement parts group e old new rule.place here d v rule.lacks;
       }
   rule_before principles.Government e f d v rule =
-      let known : 0 < attr_arguments group.principle = subst (λ p. 0 < attr_arguments p) (sym e) (omega arith) in
-      let places : IsOfPlaces group.principle = subst IsOfPlaces (sym e) tt in
-      let place = is_place parts rule.place rule.is.0 in
+      let here = keeps (subst IsOfPlaces (sym e) tt) rule.place rule.is.0 in
       record {
         place = rule.place;
         is = rule.is;
-        governs = λ c remains. rule.governs c (entry_stays rule.place.mother.0 c place.mother remains);
-        lacks = elim rule.lacks [
-          | inl edge ↦
-              inl (
-                edge.0,
-                λ c remains x a. edge.1 c (entry_stays rule.place.mother.0 c place.mother remains) x
-                    (attr_stays 0 rule.place.daughter.0 x known place.daughter a),
-              )
-          | inr value ↦ inr (must_before places rule.place value.0, value.1, λ c remains. value.2 c (entry_stays rule.place.mother.0 c place.mother remains))
-        ];
+        governs = asks_before principles.Government parts group old new rule.place here rule.governs;
+        lacks = lacks_before principles.Government parts group e old new rule.place here d v rule.lacks;
       }
   rule_before p e f d v rule = absurd f
 

@@ -8,5 +8,6 @@ mod nodes;
 mod places;
 mod reads;
 mod taking;
+mod touched;
 
 pub use agree_prop::{Agree, AgreeProp};

@@ -1,6 +1,7 @@
-//! The places and nodes of a sentence, one after another.
+//! The places and nodes of a sentence, one after another, as far as something was lost there.
 
 ghost use Rattle.std.specs.Prelude.{◌≡◌, ◌<◌, ℕ};
+ghost use Rattle.xdg_problem.specs.declared.parts.Principle.TheVariants as principles;
 ghost use Rattle.xdg_problem.specs.Arguments.{first_dim};
 ghost use Rattle.xdg_problem.specs.Places.{nodes};
 ghost use Rattle.xdg_problem.specs.Problems.{IsGroup};
@@ -8,17 +9,22 @@ ghost use Rattle.xdg_store.specs.InRange.{HasEdges};
 ghost use Rattle.xdg_store.specs.States.{Known};
 ghost use Rattle.xdg_pagree.specs.Family.{IsOfFamily, IsOfPlaces};
 ghost use Rattle.xdg_pagree.specs.Places.{AreNodesDone, IsLabelDone, IsNodeDone, PlaceAsks};
+ghost use Rattle.xdg_pagree.specs.Untouched.{AreNodesBeside, AreOthersDone, AreOthersDoneAt};
+ghost use Rattle.xdg_propcore.specs.Passes.{IsQuiet};
 ghost use Rattle.xdg_propcore.specs.Sweeps.{Sweeps};
 
 use crate::places::{agr_at, asks, place_at};
 use crate::reads::is_agr;
+use crate::touched::{daughters_at, is_node_touched};
 use xdg_base::{DimId, LabelId, NodeId};
 use xdg_graph::dim_of;
+use xdg_nodeset::NodeSet;
 use xdg_problem::{Edge, Group};
-use xdg_propcore::Pass;
+use xdg_propcore::{Pass, Touched};
 use xdg_store::Store;
 
-/// Takes what the principle use takes at the places of a label out of a mother, whose entries ask for it.
+/// Takes what the principle use takes at the places of a label from a mother, whose entries ask for it, to some daughters, where
+/// nothing is left to take at those to the others.
 fn sweep_daughters(
     store: &mut Store,
     pass: &mut Pass,
@@ -26,6 +32,7 @@ fn sweep_daughters(
     dim: DimId,
     mother: NodeId,
     label: LabelId,
+    daughters: NodeSet,
 )
     requires known { Known store.old }
     requires group { IsGroup store.old.parts group.now }
@@ -33,9 +40,10 @@ fn sweep_daughters(
     requires dim { dim.0 ≡ first_dim group.now }
     requires edges { HasEdges store.old.parts dim.0 mother.0 label.0 }
     requires asks { PlaceAsks group.now.principle group.now store.old.now mother.0 label.0 }
+    requires daughters { AreNodesBeside store.old.parts mother.0 daughters }
+    requires others { IsQuiet pass.old → AreOthersDoneAt store.old.parts group.now dim.0 mother.0 label.0 daughters store.old.now }
     ensures { Sweeps group.now (IsLabelDone store.old.parts group.now mother.0 label.0) pass.old store.old pass.new store.new }
 {
-    let daughters = store.daughters_may(dim, mother, label);
     for daughter in daughters.iter() {
         let edge = Edge {
             dim,
@@ -47,12 +55,50 @@ fn sweep_daughters(
     }
 }
 
+/// Takes what the principle use takes at the places of a label out of a mother.
+fn sweep_label(
+    store: &mut Store,
+    pass: &mut Pass,
+    group: &Group,
+    touched: &Touched,
+    dim: DimId,
+    mother: NodeId,
+    label: LabelId,
+)
+    requires known { Known store.old }
+    requires group { IsGroup store.old.parts group.now }
+    requires principle { IsOfPlaces group.now.principle }
+    requires dim { dim.0 ≡ first_dim group.now }
+    requires edges { HasEdges store.old.parts dim.0 mother.0 label.0 }
+    requires label { label.0 < 32 }
+    requires others { IsQuiet pass.old → AreOthersDone touched.now store.old.parts group.now store.old.now }
+    ensures { Sweeps group.now
+        (λ box. PlaceAsks group.now.principle group.now box mother.0 label.0 → IsLabelDone store.old.parts group.now mother.0 label.0 box) pass.old store.old
+        pass.new store.new }
+{
+    let daughters = daughters_at(store, touched, dim, mother, label);
+    if daughters.len() == 0 {
+        return;
+    }
+    if !asks(store, group, mother, label) {
+        return;
+    }
+    sweep_daughters(store, pass, group, dim, mother, label, daughters);
+}
+
 /// Takes what the principle use takes at the places out of a node.
-fn sweep_labels(store: &mut Store, pass: &mut Pass, group: &Group, mother: NodeId)
+fn sweep_labels(
+    store: &mut Store,
+    pass: &mut Pass,
+    group: &Group,
+    touched: &Touched,
+    mother: NodeId,
+)
     requires known { Known store.old }
     requires group { IsGroup store.old.parts group.now }
     requires principle { IsOfPlaces group.now.principle }
     requires node { mother.0 < nodes store.old.parts }
+    requires others { IsQuiet pass.old → AreOthersDone touched.now store.old.parts group.now store.old.now }
     ensures { Sweeps group.now
         (λ box. (label : ℕ) → PlaceAsks group.now.principle group.now box mother.0 label → IsLabelDone store.old.parts group.now mother.0 label box) pass.old
         store.old pass.new store.new }
@@ -63,38 +109,51 @@ fn sweep_labels(store: &mut Store, pass: &mut Pass, group: &Group, mother: NodeI
         return;
     }
     for number in 0..plan.labels.len() as u8 {
-        let label = LabelId(number);
-        if !asks(store, group, mother, label) {
-            continue;
-        }
-        sweep_daughters(store, pass, group, dim, mother, label);
+        sweep_label(store, pass, group, touched, dim, mother, LabelId(number));
     }
 }
 
+/// Takes what agr takes at a node, if something was lost there.
+fn sweep_agr(store: &mut Store, pass: &mut Pass, group: &Group, touched: &Touched, node: NodeId)
+    requires known { Known store.old }
+    requires group { IsGroup store.old.parts group.now }
+    requires principle { group.now.principle ≡ principles.Agr }
+    requires node { node.0 < nodes store.old.parts }
+    requires others { IsQuiet pass.old → AreOthersDone touched.now store.old.parts group.now store.old.now }
+    ensures { Sweeps group.now (IsNodeDone principles.Agr store.old.parts group.now node.0) pass.old store.old pass.new store.new }
+{
+    if !is_node_touched(touched, node) {
+        return;
+    }
+    agr_at(store, pass, group, node);
+}
+
 /// Takes what the principle use takes at a node.
-fn sweep_node(store: &mut Store, pass: &mut Pass, group: &Group, node: NodeId)
+fn sweep_node(store: &mut Store, pass: &mut Pass, group: &Group, touched: &Touched, node: NodeId)
     requires known { Known store.old }
     requires group { IsGroup store.old.parts group.now }
     requires principle { IsOfFamily group.now.principle }
     requires node { node.0 < nodes store.old.parts }
+    requires others { IsQuiet pass.old → AreOthersDone touched.now store.old.parts group.now store.old.now }
     ensures { Sweeps group.now (IsNodeDone group.now.principle store.old.parts group.now node.0) pass.old store.old pass.new store.new }
 {
     if is_agr(group) {
-        agr_at(store, pass, group, node);
+        sweep_agr(store, pass, group, touched, node);
         return;
     }
-    sweep_labels(store, pass, group, node);
+    sweep_labels(store, pass, group, touched, node);
 }
 
-/// Takes what the principle use takes at all nodes.
-pub(crate) fn sweep_nodes(store: &mut Store, pass: &mut Pass, group: &Group)
+/// Takes what the principle use takes at all nodes, where nothing is left to take where nothing was lost.
+pub(crate) fn sweep_nodes(store: &mut Store, pass: &mut Pass, group: &Group, touched: &Touched)
     requires known { Known store.old }
     requires group { IsGroup store.old.parts group.now }
     requires principle { IsOfFamily group.now.principle }
+    requires others { IsQuiet pass.old → AreOthersDone touched.now store.old.parts group.now store.old.now }
     ensures { Sweeps group.now (AreNodesDone (nodes store.old.parts) store.old.parts group.now) pass.old store.old pass.new store.new }
 {
     let count = store.problem().parts().words.len() as u8;
     for number in 0..count {
-        sweep_node(store, pass, group, NodeId(number));
+        sweep_node(store, pass, group, touched, NodeId(number));
     }
 }
