@@ -1,5 +1,5 @@
 -- The labels of an order from one side, what their items reach, and what is taken by it.
-use Rattle.std.proofs.Common.{◌≡◌, ℕ, ◌<◌, ◌≤◌, ◌+◌, ◌-◌, ◌↔◌, ◌&&◌, inl, inr, Bool, true, List, length, sym, ap, ◌∙◌, arith, subst}
+use Rattle.std.proofs.Common.{◌≡◌, ℕ, ◌<◌, ◌≤◌, ◌+◌, ◌-◌, ◌↔◌, ◌&&◌, ◌||◌, inl, inr, Bool, true, List, length, sym, ap, ◌∙◌, arith, subst}
 use Rattle.std.proofs.lemmas.Bool.{cases_lt}
 use Rattle.std.proofs.lemmas.List.{length-map}
 use Rattle.xdg_base.specs.declared.ids.LabelId.{LabelId}
@@ -8,7 +8,7 @@ use Rattle.xdg_nodeset.proofs.TableSets.{both, either}
 use Rattle.xdg_problem.specs.declared.parts.Group.{Group}
 use Rattle.xdg_problem.specs.declared.parts.Parts.{Parts}
 use Rattle.xdg_problem.specs.Arguments.{order_of}
-use Rattle.xdg_problem.specs.Boxes.{Has, IsOnly, LiesIn}
+use Rattle.xdg_problem.specs.Boxes.{Has, IsOnly, LiesIn, edge_decision}
 use Rattle.xdg_problem.specs.Places.{nodes}
 use Rattle.xdg_problem.specs.Vectors.{shape}
 use Rattle.xdg_rules.specs.Rules.{ComesBefore, attr_of_node}
@@ -18,7 +18,7 @@ use Rattle.xdg_propcore.specs.Passes.{Progress, IsQuiet}
 use Rattle.xdg_propcore.specs.Sweeps.{Sweeps}
 use Rattle.xdg_propcore.proofs.Passing.{goes_both}
 use Rattle.xdg_propcore.proofs.Sweeping.{sweeps_start, sweeps_skip, sweeps_next}
-use Rattle.xdg_porder.specs.Items.{AreWrong, IsAtNode, IsNodeDone, IsWrong, MayStand, MustStand, NoneStand, TakesItems, label_at}
+use Rattle.xdg_porder.specs.Items.{AreWrong, IsAtNode, IsNodeDone, IsWrong, MayStand, MustStand, NoneStand, TakesItems, edge_to, label_at}
 use Rattle.xdg_porder.specs.Sides.{IsReached, IsSideDone, label_from}
 use Rattle.xdg_porder.specs.declared.sides.Side.{Side}
 use Rattle.xdg_porder.specs.declared.sides.Side.TheVariants as sides
@@ -93,7 +93,7 @@ must_later group u label w Done p old q new known a must = subst (λ parts. Must
       λ x there. only x (a.goes.extends.inside (attr_of_node old.parts group 0 u) x there),
     ),
   )
-  | inr (place, must) ↦ inr (place, λ absent. must (a.goes.extends.inside _ 1 absent))
+  | inr (place, must) ↦ inr (place, λ absent. must (a.goes.extends.inside (edge_decision old.parts (edge_to group u label w)) 1 absent))
 ])
 
 -- ---- what the items with the first labels reach
@@ -164,16 +164,16 @@ module _ (group : Group) (u : ℕ) (side : Side) (k label : ℕ) (is : label ≡
 
 -- ---- both sides
 
+back : (n k : ℕ) → k < n → n - 1 - (n - 1 - k) ≡ k
+back n k within = omega (arith, within)
+
 -- what is done from both sides is done at each two labels
 sides_done : (parts : Parts) (group : Group) (u : ℕ) (box : List (List Bool)) → IsSideDone parts group u sides.Left (length group.order) box → IsSideDone parts group u sides.Right (length group.order) box → IsNodeDone parts group u box
 sides_done parts group u box left right i j less within = (
   λ v w may must far. left i j v w less within may must far,
-  λ v w may must far.
-      let n : ℕ = length group.order in
-      let back : (k : ℕ) → k < n → n - 1 - (n - 1 - k) ≡ k = λ k l. omega (arith, l) in
-      right (n - 1 - j) (n - 1 - i) v w (omega (arith, less, within)) (omega (arith, less, within))
-      (subst (λ k. MayStand parts group box u (label_at group k) v) (sym (back i (omega (arith, less, within)))) may)
-      (subst (λ k. MustStand parts group box u (label_at group k) w) (sym (back j within)) must)
+  λ v w may must far. right (length group.order - 1 - j) (length group.order - 1 - i) v w (omega (arith, less, within)) (omega (arith, less, within))
+      (subst (λ k. MayStand parts group box u (label_at group k) v) (sym (back (length group.order) i (omega (arith, less, within)))) may)
+      (subst (λ k. MustStand parts group box u (label_at group k) w) (sym (back (length group.order) j within)) must)
       far,
 )
 
