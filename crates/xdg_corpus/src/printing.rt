@@ -62,7 +62,13 @@ fn print_groups<R: Threads + Sync, K: Sink>(
         let Ok(answered) = answered else {
             return Status::OutOfMemory;
         };
-        let written = write_group(number, group.sentences.as_slice(), answered.as_slice(), out);
+        let written = write_group(
+            alloc,
+            number,
+            group.sentences.as_slice(),
+            answered.as_slice(),
+            out,
+        );
         if written.is_err() {
             return Status::WriteFault;
         }

@@ -29,7 +29,7 @@ pub(crate) fn next_size(size: usize, bytes: usize, answers: &[Answer]) -> usize
     requires { 1 ≤ size }
     ensures { 1 ≤ result }
 {
-    if text_bytes(answers) > SHORT {
+    if are_long(answers) {
         return FEWEST;
     }
     if size < MANY {
@@ -47,6 +47,11 @@ pub(crate) fn next_size(size: usize, bytes: usize, answers: &[Answer]) -> usize
 /// How many bytes a text has before the rest of it.
 pub(crate) fn bytes_before(text: &str, rest: &str) -> usize {
     text.len().saturating_sub(rest.len())
+}
+
+/// Whether the texts of answers are long together.
+pub(crate) fn are_long(answers: &[Answer]) -> bool {
+    text_bytes(answers) > SHORT
 }
 
 /// How many bytes the texts of answers have together, or 2^64 - 1 where they have more.

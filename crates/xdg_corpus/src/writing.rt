@@ -1,14 +1,17 @@
 //! What is written of a group.
 
-ghost use Rattle.std.specs.Prelude.{◌≡◌, ◌≤◌, ◌<◌, ◌+◌, ◌++◌, ◌^◌, length, OnErr, OnOk};
+ghost use Rattle.std.specs.Prelude.{◌≡◌, ◌≤◌, ◌<◌, ◌+◌, ◌++◌, ◌^◌, length, IfOk, OnErr, OnOk};
 ghost use Rattle.xdg_corpus.specs.Groups.{group_text, own_text};
 ghost use Rattle.xdg_corpus.specs.Texts.{sentence_line};
 ghost use Rattle.xdg_io.specs.Held.{Appends, AppendsFront};
 ghost use Rattle.xdg_io.specs.Rose.{Rose};
 
 use crate::group::Sentence;
+use crate::sizes::are_long;
+use std::alloc::Global;
+use xdg_base::Bytes;
 use xdg_io::{Failed, Sink, write_all};
-use xdg_split::Answer;
+use xdg_split::{Answer, Kept};
 use xdg_text::{Word, fault_line, write_line};
 
 /// Writes the text of a line alone.
@@ -46,9 +49,9 @@ fn write_sentence<K: Sink>(
     write_own(sentence, answers, out)
 }
 
-/// Writes the texts of lines in their order, of which the first has this number.
+/// Writes the texts of lines in their order, of which the first has this number, piece by piece.
 #[tactic(auto, using(xdg_text::proofs::Pieces::start, xdg_text::proofs::Pieces::done, xdg_text::proofs::Pieces::rose_later))]
-pub(crate) fn write_group<K: Sink>(
+fn write_texts<K: Sink>(
     first: u64,
     sentences: &[Sentence],
     answers: &[Answer],
@@ -65,4 +68,44 @@ pub(crate) fn write_group<K: Sink>(
         write_sentence(first + place as u64, sentence, answers, out)?;
     }
     Ok(())
+}
+
+/// The texts of lines in their order, of which the first has this number.
+fn text_of_group(
+    alloc: Global,
+    first: u64,
+    sentences: &[Sentence],
+    answers: &[Answer],
+) -> Result<Bytes, Failed>
+    requires { first + length sentences.now < 2 ^ 64 }
+    ensures { IfOk result (λ text. text ≡ group_text answers.now first sentences.now) }
+{
+    let mut kept = Kept::new(alloc);
+    write_texts(first, sentences, answers, &mut kept)?;
+    Ok(kept.into_bytes())
+}
+
+/// Writes the texts of lines in their order, of which the first has this number. Short ones are written in one piece, where there is memory for
+/// it: a call of the system takes as long as the text of a short line.
+pub(crate) fn write_group<K: Sink>(
+    alloc: Global,
+    first: u64,
+    sentences: &[Sentence],
+    answers: &[Answer],
+    out: &mut K,
+) -> Result<(), Failed>
+    requires { first + length sentences.now < 2 ^ 64 }
+    ensures all { OnOk result (Appends (K.held out.old) (K.held out.new) (group_text answers.now first sentences.now)) }
+    ensures front { OnErr result (AppendsFront (K.held out.old) (K.held out.new) (group_text answers.now first sentences.now)) }
+    ensures cause { OnErr result (Rose (K.faults out.old) (K.faults out.new)) }
+    ensures lasting { K.faults out.old ≤ K.faults out.new }
+    ensures quiet { OnOk result (K.faults out.new ≡ K.faults out.old) }
+{
+    if are_long(answers) {
+        return write_texts(first, sentences, answers, out);
+    }
+    match text_of_group(alloc, first, sentences, answers) {
+        Ok(text) => write_all(out, text.as_slice()),
+        Err(Failed) => write_texts(first, sentences, answers, out),
+    }
 }

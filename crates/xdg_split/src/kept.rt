@@ -8,7 +8,7 @@ use xdg_io::{Failed, Sink};
 
 /// A sink that keeps all that it takes, and fails where memory runs out.
 #[derive(Drop)]
-pub(crate) struct Kept {
+pub struct Kept {
     bytes: Bytes,
     faults: u64,
 }
@@ -31,7 +31,7 @@ impl Sink for Kept {
 
 impl Kept {
     /// A sink that holds nothing yet. It takes no memory.
-    pub(crate) fn new(alloc: Global) -> Kept
+    pub fn new(alloc: Global) -> Kept
         ensures { result.bytes ≡ [] }
     {
         Kept {
@@ -41,7 +41,7 @@ impl Kept {
     }
 
     /// What it holds.
-    pub(crate) fn into_bytes(self) -> Bytes
+    pub fn into_bytes(self) -> Bytes
         ensures { result ≡ self.bytes }
     {
         let Kept { bytes, faults: _ } = self;

@@ -18,5 +18,6 @@ pub use answering::answers;
 pub use forms::Form;
 pub use found::Found;
 pub use job::Job;
+pub use kept::Kept;
 pub use printing::{Printed, print_analyses};
 pub use splitting::{SplitAnswer, split, split_laws};

@@ -1,7 +1,7 @@
 use Rattle.std.proofs.Common.{◌≡◌, ◌+◌, drop}
 use Rattle.xdg_corpus.specs.Groups.{group_text}
 use Rattle.xdg_io.specs.Held.{WrittenSoFar}
-use Rattle.xdg_corpus.proofs.writing.write_group.Given as goal
+use Rattle.xdg_corpus.proofs.writing.write_texts.Given as goal
 
 abbrev pub invariant-loop-place : goal.invariant-loop-place
 invariant-loop-place g l =

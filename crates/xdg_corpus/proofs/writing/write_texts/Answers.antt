@@ -1,7 +1,7 @@
 use Rattle.std.proofs.lemmas.List.{get_or_default}
 use Rattle.xdg_text.proofs.Pieces.{next_by, stop_by, at_exit, stays}
 use Rattle.xdg_corpus.proofs.Written.{group_from}
-use Rattle.xdg_corpus.proofs.writing.write_group.Goals as goal
+use Rattle.xdg_corpus.proofs.writing.write_texts.Goals as goal
 
 pub returns-in_err-write_sentence-clause-front : goal.returns-in_err-write_sentence-clause-front
 returns-in_err-write_sentence-clause-front g c =
