@@ -1,7 +1,7 @@
 -- Bundles of which nothing was lost: there valency takes no more than before.
-use Rattle.std.proofs.Common.{◌≡◌, ℕ, ◌<◌, inl, inr, Bool, true, false, List, length, refl, sym, ◌∙◌, ap, subst, arith}
-use Rattle.std.specs.Prelude.{Contains, filter, not, ◌==◌, ◌&&◌}
-use Rattle.std.proofs.lemmas.Bool.{cases_Bool, cases_lt}
+use Rattle.std.proofs.Common.{◌≡◌, ℕ, ◌<◌, ◌+◌, inl, inr, Bool, true, false, List, length, refl, sym, ◌∙◌, ap, subst, arith}
+use Rattle.std.specs.Prelude.{Contains, filter, not, ◌==◌, ◌&&◌, ◌||◌}
+use Rattle.std.proofs.lemmas.Bool.{cases_Bool, cases_lt, false≢true}
 use Rattle.std.proofs.lemmas.List.{get_or_past}
 use Rattle.std.proofs.lemmas.List.Elements.{All-weaker, All-contains_itself}
 use Rattle.xdg_problem.specs.declared.analysis.Edge.{Edge}
@@ -16,6 +16,7 @@ use Rattle.xdg_problem.specs.Problems.{IsProblem}
 use Rattle.xdg_problem.proofs.FilterFacts.{filter_alike, filter_both}
 use Rattle.xdg_problem.proofs.PlaceOrder.{is_place}
 use Rattle.std.proofs.lemmas.Bool.{eqb-true}
+use Rattle.xdg_nodeset.specs.Nodes.{has as has_node}
 use Rattle.xdg_rules.specs.Rules.{has, HasNoneWithin, IsClosedFor, IsGreatest, IsLeast, may_edges, must_edges}
 use Rattle.xdg_rules.proofs.Shrinking.{may_be, must_be, may_is, may_of, must_is, must_of}
 use Rattle.xdg_store.specs.States.{State}
@@ -24,15 +25,14 @@ use Rattle.xdg_propcore.specs.Passes.{Progress, IsQuiet}
 use Rattle.xdg_propcore.specs.Sweeps.{Sweeps}
 use Rattle.xdg_propcore.specs.Touching.{HasAll, HasTouched, InTable, MarksEdge}
 use Rattle.xdg_propcore.specs.declared.touched.Touched.{Touched}
-use Rattle.xdg_pgraph.specs.Bundles.{EdgeAt, IsBundleDone, count_of, near_node, numbers_of}
+use Rattle.xdg_pgraph.specs.Bundles.{AreNodesDone, EdgeAt, IsBundleDone, count_of, near_node, numbers_of}
 use Rattle.xdg_pgraph.proofs.CountsStay.{greatest_before, least_before}
-use Rattle.xdg_pgraph.specs.Untouched.{AreOthersDone, IsTouched, side}
+use Rattle.xdg_pgraph.specs.Untouched.{AreOthersDone, IsLeftAlone, IsTouched, near, side}
 use Rattle.xdg_pgraph.specs.declared.bundle.Way.{Way}
 use Rattle.xdg_pgraph.specs.declared.bundle.Way.TheVariants as ways
-use Rattle.xdg_pgraph.proofs.Bundled.{edge_takes, entry_takes}
+use Rattle.xdg_pgraph.proofs.Bundled.{edge_takes, entry_takes, nodes_next}
 use Rattle.xdg_pgraph.proofs.Ends.{counted, in_bundle, in_parts}
-use Rattle.xdg_facts.proofs.Truths.{same_and}
-use Rattle.xdg_facts.proofs.Truths.{same_flag}
+use Rattle.xdg_facts.proofs.Truths.{either_true, or_here, same_and, same_flag}
 
 -- ---- where the box is closed all bundles are done
 
@@ -60,9 +60,9 @@ same_length test p q edges same =
 
 -- ---- what is lost of a bundle
 
-side_of : (way : Way) (t : Touched) (e : Edge) → MarksEdge t e → InTable (side way t) e.label.0 (near_node way e)
-side_of ways.Out t e both = both.out
-side_of ways.In t e both = both.into
+side_of : (way : Way) (t : Touched) (e : Edge) → MarksEdge t e → (has_node (near way t) (near_node way e) ≡ true) × InTable (side way t) e.label.0 (near_node way e)
+side_of ways.Out t e both = (both.mother, both.out)
+side_of ways.In t e both = (both.daughter, both.into)
 
 kept_or_lost : (old new : List (List Bool)) (d v : ℕ) → (IsLost old new d v → ⊥) → Has old d v → Has new d v
 kept_or_lost old new d v kept h = elim (cases_Bool (has new d v)) [
@@ -78,8 +78,11 @@ module _ (parts : Parts) (group : Group) (old new : List (List Bool)) (lies : Li
   entries_same c = kept_or_lost old new (entry_decision node) c (λ lost. free (inl (touched.entries node c within lost)))
 
   value_same : (e : Edge) → Contains (places parts) e → e.dim.0 ≡ dim → near_node way e ≡ node → e.label.0 ≡ label → (v : ℕ) → Has old (edge_decision parts e) v → Has new (edge_decision parts e) v
-  value_same e place on near label_is v = kept_or_lost old new (edge_decision parts e) v (λ lost.
-      free (inr (subst (λ n. InTable (side way t) label n) near (subst (λ l. InTable (side way t) l (near_node way e)) label_is (side_of way t e (touched.edges e v (is_place parts e place) on lost))))))
+  value_same e place on near_is label_is v = kept_or_lost old new (edge_decision parts e) v (λ lost.
+      free (inr (let marked = side_of way t e (touched.edges e v (is_place parts e place) on lost) in (
+        subst (λ n. has_node (near way t) n ≡ true) near_is marked.0,
+        subst (λ n. InTable (side way t) label n) near_is (subst (λ l. InTable (side way t) l (near_node way e)) label_is marked.1),
+      ))))
 
   flag_same : (e : Edge) → Contains (places parts) e → in_bundle way node label e ≡ true → (e.dim.0 == dim) ≡ true → (v : ℕ) → has new (edge_decision parts e) v ≡ has old (edge_decision parts e) v
   flag_same e place inside on v =
@@ -164,6 +167,24 @@ pub others_on : (t : Touched) (group : Group) (Done : List (List Bool) → Type 
 others_on t group Done p old q mid a others quiet =
     let same = a.goes.quiet quiet in
     subst (λ box. AreOthersDone t mid.parts group box) (sym same.1) (subst (λ parts. AreOthersDone t parts group old.now) (sym a.goes.extends.same) (others same.0))
+
+-- ---- nodes at which nothing was lost
+
+pub left_alone : (t : Touched) (some all : List ℕ) (node : ℕ) → ((k : ℕ) → has_node some k ≡ (has_node t.entries k || has_node t.mothers k)) → ((k : ℕ) → has_node all k ≡ (has_node some k || has_node t.daughters k)) → has_node all node ≡ false → IsLeftAlone t node
+left_alone t some all node first second none way label (inl lost) = false≢true (sym none ∙ second node ∙ or_here (has_node some node) (has_node t.daughters node) (first node ∙ or_here (has_node t.entries node) (has_node t.mothers node) lost))
+left_alone t some all node first second none ways.Out label (inr lost) = false≢true (sym none ∙ second node ∙ or_here (has_node some node) (has_node t.daughters node) (first node ∙ either_true (has_node t.entries node) (has_node t.mothers node) lost.0))
+left_alone t some all node first second none ways.In label (inr lost) = false≢true (sym none ∙ second node ∙ either_true (has_node some node) (has_node t.daughters node) lost.0)
+
+-- there nothing is left to take
+pub node_alone : (t : Touched) (group : Group) (k labels : ℕ) (p : Progress) (old : State) (q : Progress) (mid : State) → k < nodes old.parts → labels ≡ label_count old.parts (first_dim group) → IsLeftAlone t k → (IsQuiet p → AreOthersDone t old.parts group old.now) → Sweeps group (AreNodesDone k labels old.parts group) p old q mid → Sweeps group (AreNodesDone (k + 1) labels old.parts group) p old q mid
+node_alone t group k labels p old q mid within labels_are alone others a = record {
+  goes = a.goes;
+  known = a.known;
+  done = λ quiet.
+      let same = a.goes.quiet quiet in
+      let here : AreOthersDone t old.parts group mid.now = subst (λ box. AreOthersDone t old.parts group box) (sym same.1) (others same.0) in
+      nodes_next k labels old.parts group mid.now (a.done quiet) (λ label l. (let known = subst (λ n. label < n) labels_are l in (here ways.Out k label within known (alone ways.Out label), here ways.In k label within known (alone ways.In label))));
+}
 
 -- ---- labels
 

@@ -16,12 +16,21 @@ abbrev pub side : Way → Touched → List (List ℕ)
 side ways.Out t = t.out
 side ways.In t = t.into
 
+-- the same for all labels together
+abbrev pub near : Way → Touched → List ℕ
+near ways.Out t = t.mothers
+near ways.In t = t.daughters
+
 -- an entry of the node or a value of an edge of the bundle was lost
 abbrev pub IsTouched : Way → Touched → ℕ → ℕ → Type 0
-IsTouched way t node label = (has t.entries node ≡ true) ⊎ InTable (side way t) label node
+IsTouched way t node label = (has t.entries node ≡ true) ⊎ ((has (near way t) node ≡ true) × InTable (side way t) label node)
 
 -- at each bundle of which nothing was lost nothing is left to take
 abbrev pub AreOthersDone : Touched → Parts → Group → List (List Bool) → Type 0
 AreOthersDone t parts group box =
     (way : Way) (node label : ℕ) → node < nodes parts → label < label_count parts (first_dim group) → (IsTouched way t node label → ⊥)
     → IsBundleDone way parts group node label box
+
+-- nothing was lost at a node
+abbrev pub IsLeftAlone : Touched → ℕ → Type 0
+IsLeftAlone t node = (way : Way) (label : ℕ) → IsTouched way t node label → ⊥

@@ -1,6 +1,6 @@
 //! The rules of valency: the numbers of edges with a label out of a node and into it are some that its entry allows.
 
-ghost use Rattle.std.specs.Prelude.{◌≡◌, ◌<◌, ◌↔◌, [], ℕ, IsTrue, cond, slice_index_or, true};
+ghost use Rattle.std.specs.Prelude.{◌≡◌, ◌<◌, ◌↔◌, [], ℕ, IsTrue, cond, false, slice_index_or, true};
 ghost use Rattle.xdg_nodeset.specs.Nodes.{has};
 ghost use Rattle.xdg_problem.specs.declared.parts.Principle.TheVariants as principles;
 ghost use Rattle.xdg_problem.specs.Analyses.{IsPlace};
@@ -14,7 +14,7 @@ ghost use Rattle.xdg_propcore.specs.Passes.{Clears, IsQuiet};
 ghost use Rattle.xdg_propcore.specs.Sweeps.{Sweeps};
 ghost use Rattle.xdg_pgraph.specs.Bundles.{AreEnds, AreLabelsDone, AreNodesDone, Barred, EdgeAt, IsBundleDone, IsLabelDone, OpenTo, edge_to};
 ghost use Rattle.xdg_pgraph.specs.Planes.{IsPlane};
-ghost use Rattle.xdg_pgraph.specs.Untouched.{AreOthersDone, IsTouched, side};
+ghost use Rattle.xdg_pgraph.specs.Untouched.{AreOthersDone, IsLeftAlone, IsTouched, near, side};
 
 use crate::bounds::{has_none_within, is_greatest, is_least};
 use crate::bundle::{Bundle, Way, ends, numbers_of};
@@ -169,6 +169,16 @@ fn side(touched: &Touched, way: Way) -> &[NodeSet; 32]
     }
 }
 
+/// The same for all labels together.
+fn near(touched: &Touched, way: Way) -> NodeSet
+    ensures { result ≡ near way touched.now }
+{
+    match way {
+        Way::Out => touched.mothers,
+        Way::In => touched.daughters,
+    }
+}
+
 /// The nodes that a table has for a label.
 fn nodes_at(table: &[NodeSet; 32], label: u8) -> NodeSet
     requires { label < 32 }
@@ -183,8 +193,18 @@ fn is_touched(touched: &Touched, bundle: Bundle) -> bool
     requires label { bundle.label < 32 }
     ensures { IsTrue result ↔ IsTouched bundle.way touched.now bundle.node bundle.label }
 {
-    let nodes = nodes_at(side(touched, bundle.way), bundle.label);
+    let nodes = nodes_at(side(touched, bundle.way), bundle.label).meet(&near(touched, bundle.way));
     touched.entries.union(&nodes).contains(NodeId(bundle.node))
+}
+
+/// The nodes at which something was lost.
+fn touched_nodes(touched: &Touched) -> NodeSet
+    ensures { (node : ℕ) → has result node ≡ false → IsLeftAlone touched.now node }
+{
+    touched
+        .entries
+        .union(&touched.mothers)
+        .union(&touched.daughters)
 }
 
 /// Takes what valency takes at a bundle, if something was lost of it.
@@ -290,7 +310,11 @@ pub(crate) fn take_valency(
     requires others { IsQuiet pass.old → AreOthersDone touched.now store.old.parts group.now store.old.now }
     ensures { Sweeps group.now (AreNodesDone plane.now.nodes labels store.old.parts group.now) pass.old store.old pass.new store.new }
 {
+    let nodes = touched_nodes(touched);
     for node in 0..plane.nodes {
+        if !nodes.contains(NodeId(node)) {
+            continue;
+        }
         take_labels(store, pass, plane, group, touched, node, labels);
     }
 }
