@@ -22,3 +22,4 @@ pub mod Since
 pub mod Filling
 pub mod Written
 pub mod Streaming
+pub mod Reading

@@ -136,3 +136,9 @@ first_is parts edges count first same all is =
     let long = length_shape parts in
     let e = ap length same in
     (omega (arith, long, e, all, is), omega (arith, long, e, all, is))
+
+-- the decision on the edge at a place among the edge places
+pub place_decision : (parts : Parts) (edges : List Edge) (e d : Edge) (first k : ℕ) → edges ≡ places parts → first ≡ first_place parts → k < length edges → e ≡ get_or edges k d → edge_decision parts e ≡ first + k
+place_decision parts edges e d first k same is within found =
+    let place : place_in (places parts) e ≡ k = ap (λ x. place_in (places parts) x) (found ∙ ap (λ z. get_or z k d) same) ∙ at_place (places parts) k d (places_ordered parts) (subst (λ z. k < length z) same within) in
+    omega (arith, place, is)

@@ -13,3 +13,4 @@ pub mod Closing
 pub mod Fronted
 pub mod Vectored
 pub mod Streamed
+pub mod Rows

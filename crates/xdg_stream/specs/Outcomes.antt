@@ -12,5 +12,5 @@ pub record IsOutcome (shape : List ℕ) (P : List ℕ → Type 0) (start : List 
         → answers ≡ take (length answers) solutions
     pub ends : (counted solutions : List (List ℕ)) → IsListing shape P start counted → IsListing shape (Whole shape P) start solutions
         → IsEnding ending shape b wanted counted solutions (length answers)
-    pub only : (counted solutions : List (List ℕ)) → IsListing shape P start counted → IsListing shape (Whole shape P) start solutions → (other : Ending) (m : ℕ)
-        → IsEnding other shape b wanted counted solutions m → (other ≡ ending) × (m ≡ length answers)
+    pub only : (counted solutions : List (List ℕ)) → IsListing shape P start counted → IsListing shape (Whole shape P) start solutions
+        → (other : Ending) (m : ℕ) → IsEnding other shape b wanted counted solutions m → (other ≡ ending) × (m ≡ length answers)

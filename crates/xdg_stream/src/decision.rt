@@ -4,7 +4,7 @@ ghost use Rattle.std.specs.Prelude.{◌≡◌, ◌↔◌, ◌<◌, ◌+◌, IsTr
 ghost use Rattle.xdg_problem.specs.Boxes.{Has};
 ghost use Rattle.xdg_problem.specs.Places.{nodes, places};
 ghost use Rattle.xdg_problem.specs.Problems.{IsProblem};
-ghost use Rattle.xdg_problem.specs.Vectors.{attr_sizes, shape};
+ghost use Rattle.xdg_problem.specs.Vectors.{attr_sizes, first_place, shape};
 ghost use Rattle.xdg_store.specs.Change.{Removes};
 ghost use Rattle.xdg_store.specs.States.{Known};
 ghost use Rattle.xdg_store.specs.Decisions.{IsDecision, number_of};
@@ -32,6 +32,15 @@ fn attr_at(parts: &Parts, at: usize) -> Decision
         rest -= nodes * width;
     }
     Decision::Entry(NodeId(0))
+}
+
+/// How many decisions come before those on edges, whose places are given.
+pub(crate) fn first_edge(store: &Store, edge_places: &[Edge]) -> usize
+    requires listed { edge_places.now ≡ places store.now.parts }
+    ensures first { result ≡ first_place store.now.parts }
+    ensures all { result + length edge_places.now ≡ length (shape store.now.parts) }
+{
+    store.problem().decisions() as usize - edge_places.len()
 }
 
 /// The decision at a place among all decisions on a sentence, whose edge places are given.

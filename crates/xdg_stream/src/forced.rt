@@ -8,7 +8,8 @@ ghost use Rattle.xdg_store.specs.States.{Known};
 ghost use Rattle.xdg_store.specs.Decisions.{IsDecision, number_of};
 ghost use Rattle.xdg_stream.specs.Runs.{IsAlone, Adds};
 
-use crate::decision::{decision_at, remains};
+use crate::decision::{decision_at, first_edge, remains};
+use crate::edge_runs::add_edges;
 use xdg_problem::Edge;
 use xdg_store::{Decision, Mark, Store};
 
@@ -45,6 +46,40 @@ fn alone(store: &Store, edge_places: &[Edge], at: usize) -> Option<u16>
     last_value(store, decision, size)
 }
 
+/// Adds what `add_alone` adds, as far as it comes before the decisions on edges.
+fn add_first(
+    store: &Store,
+    edge_places: &[Edge],
+    mark: Mark,
+    marks: &mut Vec<Mark>,
+    numbers: &mut Vec<u16>,
+    most: u64,
+) -> u64
+    requires listed { edge_places.now ≡ places store.now.parts }
+    requires known { Known store.now }
+    requires count { length marks.old.items ≡ length numbers.old.items + 1 }
+    requires for_numbers { length (shape store.now.parts) ≤ vec_capacity numbers.old }
+    requires for_marks { length (shape store.now.parts) < vec_capacity marks.old }
+    ensures adds { Adds store.now.now mark marks.old.items numbers.old.items marks.new.items numbers.new.items most result }
+    ensures number_room { vec_capacity numbers.new ≡ vec_capacity numbers.old }
+    ensures mark_room { vec_capacity marks.new ≡ vec_capacity marks.old }
+{
+    let first = first_edge(store, edge_places);
+    let mut added = 0;
+    for at in numbers.len()..first {
+        if added == most {
+            return added;
+        }
+        let Some(value) = alone(store, edge_places, at) else {
+            return added;
+        };
+        marks.push_reserved(mark);
+        numbers.push_reserved(value);
+        added += 1;
+    }
+    added
+}
+
 /// Adds to a prefix, whose box the store has, the numbers of the next decisions that have one value left, and so many of them
 /// at most. Each gets the mark of that box. It answers how many.
 pub(crate) fn add_alone(
@@ -64,20 +99,14 @@ pub(crate) fn add_alone(
     ensures number_room { vec_capacity numbers.new ≡ vec_capacity numbers.old }
     ensures mark_room { vec_capacity marks.new ≡ vec_capacity marks.old }
 {
-    let decisions = store.problem().decisions() as usize;
-    let mut added = 0;
-    for at in numbers.len()..decisions {
-        if added == most {
-            return added;
-        }
-        let Some(value) = alone(store, edge_places, at) else {
-            return added;
-        };
-        marks.push_reserved(mark);
-        numbers.push_reserved(value);
-        added += 1;
+    let added = add_first(store, edge_places, mark, marks, numbers, most);
+    let reached = numbers.len();
+    let first = first_edge(store, edge_places);
+    if reached < first {
+        return added;
     }
-    added
+    let more = add_edges(store, edge_places, mark, marks, numbers, most - added);
+    added + more
 }
 
 /// The last place of a mark that differs from the one before it, or 0 where there is none.

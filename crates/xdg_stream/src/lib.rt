@@ -3,10 +3,12 @@
 #![tactic(auto)]
 
 mod decision;
+mod edge_runs;
 mod forced;
 mod front;
 mod held;
 mod narrowing;
+mod row;
 mod run;
 mod search;
 mod starting;

@@ -1,15 +1,12 @@
 use Rattle.std.proofs.Common.{arith}
-use Rattle.xdg_stream.proofs.Finding.{adds_one, one_longer}
+use Rattle.xdg_stream.proofs.Finding.{adds_both, adds_lengths}
 use Rattle.xdg_stream.proofs.forced.add_alone.Goals as goal
 
-pub loop-at-preserved : goal.loop-at-preserved
-loop-at-preserved c =
-    let loop = c.loop-at in
-    let now = loop.invariant in
-    let marks = c.push_reserved.new.self.items in
-    let numbers = c.push_reserved-in-loop-at.new.self.items in
-    record {
-      adds = adds_one c.args.store.now.now c.args.mark c.args.marks.now.items c.args.numbers.now.items loop.marks.items loop.numbers.items marks numbers c.args.most loop.added loop.at c.in-Some.value now.adds c.if-added-most.false now.here c.in-Some.ensures c.push_reserved.ensures.items c.push_reserved-in-loop-at.ensures.items;
-      here = one_longer loop.numbers.items numbers c.in-Some.value loop.at now.here c.push_reserved-in-loop-at.ensures.items;
-      rooms = (let a = c.push_reserved-in-loop-at.ensures.capacity in let b = now.rooms.0 in omega (arith, a, b), let a = c.push_reserved.ensures.capacity in let b = now.rooms.1 in omega (arith, a, b));
-    }
+pub add_edges-more-requires-clause-count : goal.add_edges-more-requires-clause-count
+add_edges-more-requires-clause-count c = (let e = adds_lengths c.args.store.now.now c.args.mark c.args.marks.now.items c.args.numbers.now.items c.add_first-added.new.marks.items c.add_first-added.new.numbers.items c.args.most c.add_first-added.result c.add_first-added.ensures.adds in let n = c.requires.count in omega (arith, e.0, e.1, n))
+
+pub add_edges-more-requires-clause-behind : goal.add_edges-more-requires-clause-behind
+add_edges-more-requires-clause-behind c = (let f = c.first_edge-first.ensures.first in let l = c.if-reached-first.false in let n = c.len-reached.ensures in omega (arith, f, l, n))
+
+pub returns-clause-adds : goal.returns-clause-adds
+returns-clause-adds c = adds_both c.args.store.now.now c.args.mark c.args.marks.now.items c.args.numbers.now.items c.add_first-added.new.marks.items c.add_first-added.new.numbers.items c.add_edges-more.new.marks.items c.add_edges-more.new.numbers.items c.args.most c.add_first-added.result c.add_edges-more.result c.add_first-added.ensures.adds c.add_edges-more.ensures.adds

@@ -1,7 +1,7 @@
 use Rattle.std.proofs.Common.{◌≡◌, length}
 use Rattle.std.specs.Vec.{vec_capacity}
 use Rattle.xdg_stream.specs.Runs.{Adds}
-use Rattle.xdg_stream.proofs.forced.add_alone.Given as goal
+use Rattle.xdg_stream.proofs.forced.add_first.Given as goal
 
 abbrev pub invariant-loop-at : goal.invariant-loop-at
 invariant-loop-at l = record {

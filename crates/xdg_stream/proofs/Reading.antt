@@ -1,0 +1,99 @@
+-- A row that is read says of the edges in it which values remain.
+use Rattle.std.proofs.Common.{◌≡◌, ◌≢◌, ℕ, ◌<◌, ◌↔◌, inl, inr, zero, suc, true, Bool, List, length, get_or, refl, ap, sym, ◌∙◌, arith, subst, Contains}
+use Rattle.std.specs.Prelude.{IsTrue}
+use Rattle.std.proofs.lemmas.List.{get_or_default}
+use Rattle.xdg_nodeset.specs.Nodes.{has}
+use Rattle.xdg_problem.specs.declared.analysis.Edge.{Edge}
+use Rattle.xdg_problem.specs.declared.parts.DimPlan.{DimPlan}
+use Rattle.xdg_problem.specs.declared.parts.Parts.{Parts}
+use Rattle.xdg_problem.specs.Analyses.{IsPlace}
+use Rattle.xdg_problem.specs.Arguments.{no_plan}
+use Rattle.xdg_problem.specs.Boxes.{Has, IsBox, May, Must, edge_decision}
+use Rattle.xdg_problem.specs.Places.{edge, nodes, places}
+use Rattle.xdg_problem.specs.Problems.{IsProblem}
+use Rattle.xdg_problem.specs.Vectors.{shape}
+use Rattle.xdg_problem.proofs.PlaceOrder.{place_is}
+use Rattle.xdg_rules.proofs.Sizes.{edge_some, edge_values}
+use Rattle.xdg_store.specs.InRange.{HasEdges}
+use Rattle.xdg_stream.specs.Rows.{IsOf, Reads, Says}
+use Rattle.xdg_stream.specs.Runs.{IsAlone}
+use Rattle.xdg_stream.specs.declared.row.Row.{Row}
+
+-- ---- a row is read
+
+-- the label of an edge place is one of its dimension
+pub place_edges : (parts : Parts) (e : Edge) → IsPlace parts e → HasEdges parts e.dim.0 e.mother.0 e.label.0
+place_edges parts e is =
+    let same : get_or parts.dims e.dim.0 no_plan ≡ is.plan = get_or_default parts.dims e.dim.0 no_plan is.plan is.dim ∙ is.is_plan in
+    record {
+      dim_in = is.dim;
+      graph = subst (λ (plan : DimPlan). plan.graph ≡ true) (sym same) is.graph;
+      node_in = is.mother;
+      label_in = subst (λ (plan : DimPlan). e.label.0 < length plan.labels) (sym same) is.label;
+    }
+
+-- an edge in a row is that to its daughter
+the_edge : (row : Row) (e : Edge) → IsOf row e → edge row.dim.0 row.mother.0 row.label.0 e.daughter.0 ≡ e
+the_edge row e of =
+    ap (λ i. edge i row.mother.0 row.label.0 e.daughter.0) of.dim
+    ∙ ap (λ i. edge e.dim.0 i row.label.0 e.daughter.0) of.mother
+    ∙ ap (λ i. edge e.dim.0 e.mother.0 i e.daughter.0) of.label
+
+-- what is said of the edges to each node is said of those in the row
+told : (parts : Parts) (row : Row) (set : List ℕ) (P : Edge → Type 0) → ((n : ℕ) → IsTrue (has set n) ↔ ((n < nodes parts) × (row.mother.0 ≢ n) × P (edge row.dim.0 row.mother.0 row.label.0 n))) → (e : Edge) → IsPlace parts e → IsOf row e → IsTrue (has set e.daughter.0) ↔ P e
+told parts row set P exact e is of =
+    let same = the_edge row e of in
+    let apart : row.mother.0 ≢ e.daughter.0 = λ equal. is.differ (sym of.mother ∙ equal) in (
+      λ there. subst P same ((exact e.daughter.0).0 there).2,
+      λ holds. (exact e.daughter.0).1 (is.daughter, apart, subst P (sym same) holds),
+    )
+
+pub row_reads : (parts : Parts) (box : List (List Bool)) (row : Row) → ((n : ℕ) → IsTrue (has row.may n) ↔ ((n < nodes parts) × (row.mother.0 ≢ n) × May parts box (edge row.dim.0 row.mother.0 row.label.0 n))) → ((n : ℕ) → IsTrue (has row.must n) ↔ ((n < nodes parts) × (row.mother.0 ≢ n) × Must parts box (edge row.dim.0 row.mother.0 row.label.0 n))) → Reads parts box row
+row_reads parts box row may must e is of = (told parts row row.may (May parts box) may e is of, told parts row row.must (Must parts box) must e is of)
+
+-- no edge of the sentence is in a row whose mother is none of the nodes
+pub none_read : (parts : Parts) (box : List (List Bool)) (row : Row) → IsProblem parts → row.mother.0 ≡ 255 → Reads parts box row
+none_read parts box row problem out e is of = absurd (
+    let same = of.mother in
+    let within = is.mother in
+    let most = problem.most in
+    omega (arith, out, same, within, most)
+    )
+
+-- ---- what it says
+
+module _ (parts : Parts) (box : List (List Bool)) (is : IsBox (shape parts) box) (e : Edge) (place : Contains (places parts) e) where
+  must_alone : Must parts box e → IsAlone box (edge_decision parts e) 0
+  must_alone must = record {
+    has = elim (edge_some parts box is e place) [
+      | inl present ↦ present
+      | inr absent ↦ absurd (must absent)
+    ];
+    only = λ x remains. by x (edge_values parts box is e place x remains) remains;
+  } where
+    by : (x : ℕ) → x < 2 → Has box (edge_decision parts e) x → x ≡ 0
+    by zero small remains = refl
+    by (suc zero) small remains = absurd (must remains)
+    by (suc (suc x)) small remains = absurd (omega arith)
+
+  never_alone : (May parts box e → ⊥) → IsAlone box (edge_decision parts e) 1
+  never_alone never = record {
+    has = elim (edge_some parts box is e place) [
+      | inl present ↦ absurd (never present)
+      | inr absent ↦ absent
+    ];
+    only = λ x remains. by x (edge_values parts box is e place x remains) remains;
+  } where
+    by : (x : ℕ) → x < 2 → Has box (edge_decision parts e) x → x ≡ 1
+    by zero small remains = absurd (never remains)
+    by (suc zero) small remains = refl
+    by (suc (suc x)) small remains = absurd (omega arith)
+
+pub says_alone : (parts : Parts) (box : List (List Bool)) (row : Row) (e : Edge) (v : ℕ) → IsBox (shape parts) box → IsPlace parts e → Reads parts box row → IsOf row e → Says row e.daughter.0 v → IsAlone box (edge_decision parts e) v
+says_alone parts box row e v is place reads of says =
+    let tells = reads e place of in
+    let here = place_is parts e place in
+    elim says [
+      | inl (present, must) ↦ subst (IsAlone box (edge_decision parts e)) (sym present) (must_alone parts box is e here (tells.1.0 must))
+      | inr (absent, out) ↦ subst (IsAlone box (edge_decision parts e)) (sym absent) (never_alone parts box is e here (λ may. out (tells.0.1 may)))
+    ]

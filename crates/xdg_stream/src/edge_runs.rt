@@ -1,0 +1,52 @@
+//! Runs of decisions on edges that have one value left, row by row.
+
+ghost use Rattle.std.specs.Prelude.{◌≡◌, ◌<◌, ◌≤◌, ◌+◌, length};
+ghost use Rattle.std.specs.Vec.{vec_capacity};
+ghost use Rattle.xdg_problem.specs.Places.{places};
+ghost use Rattle.xdg_problem.specs.Vectors.{first_place, shape};
+ghost use Rattle.xdg_store.specs.States.{Known};
+ghost use Rattle.xdg_stream.specs.Runs.{Adds};
+
+use crate::decision::first_edge;
+use crate::row::{no_row, number_in, read_row};
+use xdg_problem::Edge;
+use xdg_store::{Mark, Store};
+
+/// Adds what `add_alone` adds, to a prefix that has the numbers of all decisions before those on edges.
+#[tactic(auto, using(crate::proofs::Reading::none_read))]
+pub(crate) fn add_edges(
+    store: &Store,
+    edge_places: &[Edge],
+    mark: Mark,
+    marks: &mut Vec<Mark>,
+    numbers: &mut Vec<u16>,
+    most: u64,
+) -> u64
+    requires listed { edge_places.now ≡ places store.now.parts }
+    requires known { Known store.now }
+    requires behind { first_place store.now.parts ≤ length numbers.old.items }
+    requires count { length marks.old.items ≡ length numbers.old.items + 1 }
+    requires for_numbers { length (shape store.now.parts) ≤ vec_capacity numbers.old }
+    requires for_marks { length (shape store.now.parts) < vec_capacity marks.old }
+    ensures adds { Adds store.now.now mark marks.old.items numbers.old.items marks.new.items numbers.new.items most result }
+    ensures number_room { vec_capacity numbers.new ≡ vec_capacity numbers.old }
+    ensures mark_room { vec_capacity marks.new ≡ vec_capacity marks.old }
+{
+    let first = first_edge(store, edge_places);
+    let mut row = no_row();
+    let mut added = 0;
+    for place in numbers.len() - first..edge_places.len() {
+        if added == most {
+            return added;
+        }
+        let edge = edge_places[place];
+        read_row(&mut row, store, edge);
+        let Some(value) = number_in(&row, edge.daughter) else {
+            return added;
+        };
+        marks.push_reserved(mark);
+        numbers.push_reserved(value);
+        added += 1;
+    }
+    added
+}
