@@ -2,6 +2,7 @@
 use Rattle.std.proofs.Common.{◌≡◌, ◌≢◌, ℕ, ◌<◌, ◌↔◌, ◌&&◌, IsTrue, inl, inr, Bool, true, false, List, [], ◌∷◌, length, refl, sym, ◌∙◌, arith, subst}
 use Rattle.std.specs.Prelude.{Contains, slice_index_or}
 use Rattle.std.proofs.lemmas.Bool.{cases_Bool, false≢true}
+use Rattle.std.proofs.lemmas.List.{nil_from_length}
 use Rattle.xdg_nodeset.specs.Nodes.{has}
 use Rattle.xdg_nodeset.proofs.TableSets.{both}
 use Rattle.xdg_problem.specs.declared.analysis.Edge.{Edge}
@@ -138,6 +139,13 @@ pub some_touched : (t : Touched) (parts : Parts) (box : List (List Bool)) (dim m
 some_touched t parts box dim mother label set met exact met_is free = record {
   each = λ v there. (let all = (exact v).0 ((both (has set v) (has t.attrs v)).0 (sym (met_is v) ∙ there)).0 in (all.0, all.1));
   others = λ v within differ may out. (free, λ lost. out (met_is v ∙ (both (has set v) (has t.attrs v)).1 ((exact v).1 (within, differ, may), lost)));
+}
+
+-- none, where none has lost a value of an attribute
+pub none_touched : (t : Touched) (parts : Parts) (box : List (List Bool)) (dim mother label : ℕ) (set : List ℕ) → set ≡ [] → length t.attrs ≡ 0 → IsRowFree t mother label → AreTouched parts box t dim mother label set
+none_touched t parts box dim mother label set empty none free = record {
+  each = λ v there. absurd (false≢true (subst (λ s. has s v ≡ true) empty there));
+  others = λ v within differ may out. (free, λ lost. false≢true (subst (λ s. has s v ≡ true) (nil_from_length t.attrs none) lost));
 }
 
 module _ (t : Touched) (parts : Parts) (group : Group) (box : List (List Bool)) (dim mother label : ℕ) (set : List ℕ) (on : dim ≡ first_dim group) (edges : HasEdges parts dim mother label) (of : IsOfPlaces group.principle) (touched : AreTouched parts box t dim mother label set) where

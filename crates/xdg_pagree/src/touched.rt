@@ -67,13 +67,17 @@ pub(crate) fn daughters_at(
     mother: NodeId,
     label: LabelId,
 ) -> NodeSet
+    requires known { Known store.now }
     requires edges { HasEdges store.now.parts dim.0 mother.0 label.0 }
     requires label { label.0 < 32 }
     ensures { AreTouched store.now.parts store.now.now touched.now dim.0 mother.0 label.0 result }
 {
-    let daughters = store.daughters_may(dim, mother, label);
     if is_row_touched(touched, mother, label) {
-        return daughters;
+        return store.daughters_may(dim, mother, label);
     }
+    if touched.attrs.len() == 0 {
+        return NodeSet::empty();
+    }
+    let daughters = store.daughters_may(dim, mother, label);
     daughters.meet(&touched.attrs)
 }

@@ -5,6 +5,9 @@ use Rattle.xdg_pagree.specs.Places.{IsLabelDone, PlaceAsks}
 use Rattle.xdg_pagree.proofs.Others.{done_at_others, label_skipped}
 use Rattle.xdg_pagree.proofs.nodes.sweep_label.Goals as goal
 
+pub daughters_at-daughters-requires-clause-known : goal.daughters_at-daughters-requires-clause-known
+daughters_at-daughters-requires-clause-known c = c.requires.known
+
 pub daughters_at-daughters-requires-clause-edges : goal.daughters_at-daughters-requires-clause-edges
 daughters_at-daughters-requires-clause-edges c = c.requires.edges
 
