@@ -1,8 +1,11 @@
 -- Searches for edges, step by step.
-use Rattle.std.proofs.Common.{◌≡◌, ◌≢◌, ℕ, suc, ◌+◌, ◌<◌, ◌≤◌, ◌⊎◌, inl, inr, Bool, true, false, List, [], ◌∷◌, ◌++◌, length, cond, refl, sym, ◌∙◌, ap, subst, arith, length-append, append-nil}
+use Rattle.std.proofs.Common.{◌≡◌, ◌≢◌, ℕ, suc, ◌+◌, ◌<◌, ◌≤◌, ◌⊎◌, ◌↔◌, ◌==◌, inl, inr, Bool, true, false, IsTrue, List, [], ◌∷◌, ◌++◌, length, cond, refl, sym, ◌∙◌, ap, subst, arith, length-append, append-nil}
 use Rattle.std.specs.Prelude.{Contains, filter}
-use Rattle.std.proofs.lemmas.Bool.{cases_eq, false_from_ne_true, false≢true}
+use Rattle.std.proofs.lemmas.Bool.{cases_eq, eq-eqb, eqb-true, false_from_ne_true, false≢true}
+use Rattle.std.proofs.lemmas.List.{nil_from_length}
 use Rattle.std.proofs.lemmas.List.Elements.{filter-append}
+use Rattle.xdg_facts.proofs.Truths.{either_true, or_false, or_here}
+use Rattle.xdg_nodeset.specs.Nodes.{has, IsNodes, Rises}
 use Rattle.xdg_problem.proofs.Numbered.{numbers_more}
 use Rattle.xdg_problem.specs.declared.analysis.Edge.{Edge}
 use Rattle.xdg_problem.specs.declared.parts.Parts.{Parts}
@@ -17,7 +20,7 @@ use Rattle.xdg_pgraph.specs.declared.found.Found.TheVariants as founds
 use Rattle.xdg_pgraph.specs.declared.found.Which.{Which}
 use Rattle.xdg_pgraph.specs.declared.plane.Plane.{Plane}
 use Rattle.xdg_pgraph.specs.Planes.{IsPlane, IsOnPlane}
-use Rattle.xdg_pgraph.specs.Seeking.{Finds, Joins, Into, RootsAre, edges_of, found_with, found_merged, roots_with}
+use Rattle.xdg_pgraph.specs.Seeking.{Finds, IsMore, Joins, Into, IntoWith, RootsAre, edges_of, found_with, found_merged, roots_with}
 use Rattle.xdg_pgraph.proofs.Looked.{finds_like, finds_with, finds_merged}
 use Rattle.xdg_pgraph.proofs.PlaneFacts.{which_place}
 
@@ -25,9 +28,9 @@ use Rattle.xdg_pgraph.proofs.PlaneFacts.{which_place}
 abbrev pub JoinsBelow : List Edge → ℕ → ℕ → ℕ → Edge → Type 0
 JoinsBelow edges u v l e = Joins edges u v e × (e.label.0 < l)
 
--- the edges into a node from a mother below a bound
+-- the edges into a node with a label below a bound
 abbrev pub IntoBelow : List Edge → ℕ → ℕ → Edge → Type 0
-IntoBelow edges v m e = Into edges v e × (e.mother.0 < m)
+IntoBelow edges v l e = Into edges v e × (e.label.0 < l)
 
 module _ (edges : List Edge) (dim u v : ℕ) (on : (e : Edge) → Contains edges e → e.dim.0 ≡ dim) where
   pub joined_start : Finds (JoinsBelow edges u v 0) founds.Nothing
@@ -56,20 +59,62 @@ module _ (edges : List Edge) (v : ℕ) where
   pub into_start : Finds (IntoBelow edges v 0) founds.Nothing
   into_start e j = (let l = j.1 in omega (arith, l))
 
-  mother_cases : (m : ℕ) (e : Edge) → IntoBelow edges v (m + 1) e → IntoBelow edges v m e ⊎ Joins edges m v e
-  mother_cases m e j = elim (cases_eq e.mother.0 m) [
-    | inl same ↦ inr (j.0.0, (same, j.0.1))
+  with_cases : (l : ℕ) (e : Edge) → IntoBelow edges v (l + 1) e → IntoBelow edges v l e ⊎ IntoWith edges v l e
+  with_cases l e j = elim (cases_eq e.label.0 l) [
+    | inl same ↦ inr (j.0, same)
     | inr other ↦ inl (j.0, (let b = j.1 in omega (arith, b, other)))
   ]
 
-  pub into_more : (m : ℕ) (found more : Found) → Finds (Joins edges m v) more → Finds (IntoBelow edges v m) found → Finds (IntoBelow edges v (m + 1)) (found_merged found more)
-  into_more m found more j f = finds_merged (IntoBelow edges v m) (Joins edges m v) (IntoBelow edges v (m + 1)) found more (λ e k. (k.0, (let b = k.1 in omega (arith, b)))) (λ e k. ((k.0, k.1.1), (let b = k.1.0 in omega (arith, b)))) (mother_cases m) (λ e k n. (let b = k.1 in let c = n.1.0 in omega (arith, b, c))) f j
+  pub into_more : (l : ℕ) (found more : Found) → Finds (IntoWith edges v l) more → Finds (IntoBelow edges v l) found → Finds (IntoBelow edges v (l + 1)) (found_merged found more)
+  into_more l found more j f = finds_merged (IntoBelow edges v l) (IntoWith edges v l) (IntoBelow edges v (l + 1)) found more (λ e k. (k.0, (let b = k.1 in omega (arith, b)))) (λ e k. (k.0, (let b = k.1 in omega (arith, b)))) (with_cases l) (λ e k n. (let b = k.1 in let c = n.1 in omega (arith, b, c))) f j
 
-  pub into_itself : (m : ℕ) (found : Found) → ((e : Edge) → Contains edges e → e.mother.0 ≢ e.daughter.0) → m ≡ v → Finds (IntoBelow edges v m) found → Finds (IntoBelow edges v (m + 1)) found
-  into_itself m found differ same f = finds_like (IntoBelow edges v m) (IntoBelow edges v (m + 1)) found (λ e k. (k.0, (let b = k.1 in omega (arith, b)))) (λ e k. elim (mother_cases m e k) [ inl j ↦ j | inr j ↦ absurd (differ e j.0 (j.1.0 ∙ same ∙ sym j.1.1)) ]) f
+  -- two are enough
+  pub into_two : (l : ℕ) (found : Found) → IsMore found → Finds (IntoBelow edges v l) found → Finds (Into edges v) found
+  into_two l founds.Nothing more f = absurd more
+  into_two l (founds.One e) more f = absurd more
+  into_two l founds.More more f = (f.0, f.1, f.2.0, f.3.0, f.4)
 
-  pub into_all : (m : ℕ) (found : Found) → ((e : Edge) → Contains edges e → e.mother.0 < m) → Finds (IntoBelow edges v m) found → Finds (Into edges v) found
-  into_all m found all f = finds_like (IntoBelow edges v m) (Into edges v) found (λ e j. j.0) (λ e j. (j, all e j.0)) f
+  pub into_all : (l : ℕ) (found : Found) → ((e : Edge) → Contains edges e → e.label.0 < l) → Finds (IntoBelow edges v l) found → Finds (Into edges v) found
+  into_all l found all f = finds_like (IntoBelow edges v l) (Into edges v) found (λ e j. j.0) (λ e j. (j, all e j.0)) f
+
+-- ---- the edges with one label into a node, by the set of their mothers
+
+rest_rises : (low bound n : ℕ) (s : List ℕ) → Rises low bound (n ∷ s) → Rises (n + 1) bound s
+rest_rises low bound n s r = r.2
+
+two_in : (s : List ℕ) → Rises 0 128 s → 1 < length s → (a : ℕ) × (b : ℕ) × (has s a ≡ true) × (has s b ≡ true) × (a ≢ b)
+two_in [] rises two = absurd (omega (arith, two))
+two_in (a ∷ []) rises two = absurd (omega (arith, two))
+two_in (a ∷ b ∷ s) rises two = (
+  a,
+  b,
+  or_here (a == a) (has (b ∷ s) a) (eq-eqb a a refl),
+  either_true (a == b) (has (b ∷ s) b) (or_here (b == b) (has s b) (eq-eqb b b refl)),
+  λ same. (let up = (rest_rises 0 128 a (b ∷ s) rises).0 in omega (arith, up, same)),
+)
+
+module _ (edges : List Edge) (dim v l : ℕ) (on : (e : Edge) → Contains edges e → e.dim.0 ≡ dim) (mothers : List ℕ) (exact : (m : ℕ) → IsTrue (has mothers m) ↔ Contains edges (edge dim m l v)) where
+  this_mother : (e : Edge) (m : ℕ) → IntoWith edges v l e → e.mother.0 ≡ m → edge dim m l v ≡ e
+  this_mother e m i k = sym (edge_equal e (edge dim m l v) (on e i.0.0) k i.1 i.0.1)
+
+  mother_in : (e : Edge) → IntoWith edges v l e → has mothers e.mother.0 ≡ true
+  mother_in e i = (exact e.mother.0).1 (subst (Contains edges) (sym (this_mother e e.mother.0 i refl)) i.0.0)
+
+  edge_in : (m : ℕ) → has mothers m ≡ true → IntoWith edges v l (edge dim m l v)
+  edge_in m h = (((exact m).0 h, refl), refl)
+
+  pub with_none : mothers ≡ [] → Finds (IntoWith edges v l) founds.Nothing
+  with_none none e i = false≢true (subst (λ s. has s e.mother.0 ≡ true) none (mother_in e i))
+
+  pub with_one : (m : ℕ) (rest : List ℕ) → mothers ≡ m ∷ rest → length mothers ≤ 1 → Finds (IntoWith edges v l) (founds.One (edge dim m l v))
+  with_one m rest is few =
+      let none : rest ≡ [] = nil_from_length rest (let e : length mothers ≡ length (m ∷ rest) = ap length is in omega (arith, e, few)) in (
+        edge_in m (subst (λ s. has s m ≡ true) (sym is) (or_here (m == m) (has rest m) (eq-eqb m m refl))),
+        λ e i. this_mother e m i (sym (eqb-true m e.mother.0 (sym (or_false (m == e.mother.0)) ∙ subst (λ s. has (m ∷ s) e.mother.0 ≡ true) none (subst (λ s. has s e.mother.0 ≡ true) is (mother_in e i))))),
+      )
+
+  pub with_more : IsNodes mothers → 1 < length mothers → Finds (IntoWith edges v l) founds.More
+  with_more nodes two = (let t = two_in mothers nodes.rises two in (edge dim t.0 l v, edge dim t.1 l v, edge_in t.0 t.2, edge_in t.1 t.3, λ same. t.4 (ap (λ (e : Edge). e.mother.0) same)))
 
 -- ---- roots
 
@@ -112,6 +157,19 @@ module _ (which : Which) (parts : Parts) (box : List (List Bool)) (plane : Plane
   pub joined_not : (u v l : ℕ) (e : Edge) (found new : Found) → e ≡ edge plane.dim.0 u l v → (Contains (edges_of which parts box e.dim.0) e → ⊥) → new ≡ found → Finds (JoinsBelow those u v l) found → Finds (JoinsBelow those u v (l + 1)) new
   joined_not u v l e found new is none new_is f = subst (Finds (JoinsBelow those u v (l + 1))) (sym new_is) (joined_miss those plane.dim.0 u v those_on l found (λ c. none (subst (λ z. Contains (edges_of which parts box z.dim.0) z) (sym is) c)) f)
 
+  pub into_turn : (v l : ℕ) (found more new : Found) → Finds (IntoWith those v l) more → new ≡ found_merged found more → Finds (IntoBelow those v l) found → Finds (IntoBelow those v (l + 1)) new
+  into_turn v l found more new j new_is f = subst (Finds (IntoBelow those v (l + 1))) (sym new_is) (into_more those v l found more j f)
+
+  module _ (v l : ℕ) (mothers : List ℕ) (exact : (m : ℕ) → IsTrue (has mothers m) ↔ Contains those (edge plane.dim.0 m l v)) where
+    pub none_found : mothers ≡ [] → Finds (IntoWith those v l) founds.Nothing
+    none_found = with_none those plane.dim.0 v l those_on mothers exact
+
+    pub more_found : IsNodes mothers → 1 < length mothers → Finds (IntoWith those v l) founds.More
+    more_found = with_more those plane.dim.0 v l those_on mothers exact
+
+    pub one_found : (m : ℕ) (rest : List ℕ) (f : Edge) → mothers ≡ m ∷ rest → length mothers ≤ 1 → f ≡ edge plane.dim.0 m l v → Finds (IntoWith those v l) (founds.One f)
+    one_found m rest f is few f_is = subst (λ e. Finds (IntoWith those v l) (founds.One e)) (sym f_is) (with_one those plane.dim.0 v l those_on mothers exact m rest is few)
+
   module _ (plane_is : IsPlane parts plane) where
     those_plane : (e : Edge) → Contains those e → IsOnPlane plane e
     those_plane e c = (plane_is.exact e).0 (which_place which parts box plane.dim.0 e c)
@@ -119,11 +177,5 @@ module _ (which : Which) (parts : Parts) (box : List (List Bool)) (plane : Plane
     pub joined_end : (u v l : ℕ) (found : Found) → plane.labels ≤ l → Finds (JoinsBelow those u v l) found → Finds (Joins those u v) found
     joined_end u v l found all f = joined_all those plane.dim.0 u v those_on l found (λ e c. (let k = (those_plane e c).label in omega (arith, k, all))) f
 
-    pub into_turn : (v m : ℕ) (found more new : Found) → Finds (Joins those m v) more → new ≡ found_merged found more → Finds (IntoBelow those v m) found → Finds (IntoBelow those v (m + 1)) new
-    into_turn v m found more new j new_is f = subst (Finds (IntoBelow those v (m + 1))) (sym new_is) (into_more those v m found more j f)
-
-    pub into_skip : (v m : ℕ) (found new : Found) → m ≡ v → new ≡ found → Finds (IntoBelow those v m) found → Finds (IntoBelow those v (m + 1)) new
-    into_skip v m found new same new_is f = subst (Finds (IntoBelow those v (m + 1))) (sym new_is) (into_itself those v m found (λ e c. (those_plane e c).differ) same f)
-
-    pub into_end : (v m : ℕ) (found : Found) → plane.nodes ≤ m → Finds (IntoBelow those v m) found → Finds (Into those v) found
-    into_end v m found all f = into_all those v m found (λ e c. (let k = (those_plane e c).mother in omega (arith, k, all))) f
+    pub into_end : (v l : ℕ) (found : Found) → plane.labels ≤ l → Finds (IntoBelow those v l) found → Finds (Into those v) found
+    into_end v l found all f = into_all those v l found (λ e c. (let k = (those_plane e c).label in omega (arith, k, all))) f

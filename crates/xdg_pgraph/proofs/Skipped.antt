@@ -12,7 +12,6 @@ use Rattle.xdg_problem.specs.declared.parts.Parts.{Parts}
 use Rattle.xdg_problem.specs.Boxes.{Has, edge_decision}
 use Rattle.xdg_problem.specs.Paths.{mothers}
 use Rattle.xdg_rules.specs.Rules.{IsPlaceOn, SaysPresent, may_edges, must_edges}
-use Rattle.xdg_rules.proofs.DecidingBoxes.{decided_edges}
 use Rattle.xdg_rules.proofs.Shrinking.{may_of, must_is}
 use Rattle.xdg_store.specs.States.{State}
 use Rattle.xdg_propcore.specs.Passes.{Progress, Clears, IsQuiet}
@@ -140,30 +139,19 @@ module _ (plane : Plane) (p q : Progress) (old mid : State) (must may : Entered)
       ])
       (before group is_group on (λ box d v x. takes box d v (record { rule = x.rule; of = (x.of.0, (let l = x.of.1 in omega (arith, l))) })))
 
-  module _ (twice single : List ℕ) (m : Tells (Contains (must_edges old.parts old.now dim)) must) (y : Tells (Contains (may_edges old.parts old.now dim)) may) (once_is : (n : ℕ) → has twice n ≡ (has may.some n && not (has may.more n))) (single_is : (n : ℕ) → has single n ≡ (has twice n && not (has must.some n))) where
-    single_there : (e : Edge) (d v : ℕ) → Contains (may_edges old.parts old.now dim) e → ToNode w e → mothers (may_edges old.parts old.now dim) w ≡ 1 → (d ≡ edge_decision old.parts e) × (v ≡ 1) → Has old.now d v → has single w ≡ true
-    single_there e d v c into one says h =
-        let no_second : (f : Edge) → Contains (may_edges old.parts old.now dim) f → ToNode w f → e ≢ f → ⊥ = (λ f there too differ. not_more old.parts old.now dim w (e, f, (c, into), (there, too), differ) one) in
-        let few : has may.more w ≡ false = false_from_ne_true (has may.more w) (λ t. (let s = (y.twice w).0 t in not_more old.parts old.now dim w (s.first, s.second, s.one, s.two, s.differ) one)) in
-        let open_one : has must.some w ≡ false = false_from_ne_true (has must.some w) (λ t. (
-        let s = (m.once w).0 t in
-        elim (decided_edges e s.0) [
-          | inl same ↦ false≢true (sym (must_is old.parts old.now dim e (subst (Contains (must_edges old.parts old.now dim)) (sym same) s.1)).not_absent ∙ subst (λ k. Has old.now (edge_decision old.parts e) k) says.1 (subst (λ k. Has old.now k v) says.0 h))
-          | inr differ ↦ no_second s.0 (must_may old.parts old.now dim s.0 s.1) s.2 differ
-        ])) in
-        single_is w ∙ (both (has twice w) (not (has must.some w))).1 (
-          once_is w ∙ (both (has may.some w) (not (has may.more w))).1 ((y.once w).1 (e, c, into), not_from_false (has may.more w) few),
-          not_from_false (has must.some w) open_one,
-        )
-
-    pub only_skip : has single w ≡ false → RunsFor (OnlyMotherBelow w) dim p old q mid → RunsFor (OnlyMotherBelow (w + 1)) dim p old q mid
-    only_skip none before group is_group on takes = runs_skip (OnlyMotherBelow w old.parts group) (OnlyMotherBelow (w + 1) old.parts group) group p q old mid
-        (λ d v x h. elim (cases_eq x.rule.place.daughter.0 w) [
-          | inl at ↦ absurd (false≢true (sym none ∙ single_there x.rule.place d v
-              (subst (λ k. Contains (may_edges old.parts old.now k) x.rule.place) on x.rule.may)
-              at
-              (ap (mothers (may_edges old.parts old.now dim)) (sym at) ∙ subst (λ k. mothers (may_edges old.parts old.now k) x.rule.place.daughter.0 ≡ 1) on x.rule.only)
-              x.rule.says h))
-          | inr other ↦ record { rule = x.rule; below = (let b = x.below in omega (arith, b, other)) }
-        ])
-        (before group is_group on (λ box d v x. takes box d v (record { rule = x.rule; below = (let l = x.below in omega (arith, l)) })))
+-- no edge that may be is the only one into a node
+pub only_skip : (plane : Plane) (p q : Progress) (old mid : State) (may : Entered) (w : ℕ) (single : List ℕ) → Tells (Contains (may_edges old.parts old.now plane.dim.0)) may → ((n : ℕ) → has single n ≡ (has may.some n && not (has may.more n))) → has single w ≡ false → RunsFor (OnlyMotherBelow w) plane.dim.0 p old q mid → RunsFor (OnlyMotherBelow (w + 1)) plane.dim.0 p old q mid
+only_skip plane p q old mid may w single y single_is none before group is_group on takes = runs_skip (OnlyMotherBelow w old.parts group) (OnlyMotherBelow (w + 1) old.parts group) group p q old mid
+    (λ d v x h. elim (cases_eq x.rule.place.daughter.0 w) [
+      | inl at ↦ absurd (false≢true (sym none ∙ single_there x.rule.place
+          (subst (λ k. Contains (may_edges old.parts old.now k) x.rule.place) on x.rule.may)
+          at
+          (ap (mothers (may_edges old.parts old.now plane.dim.0)) (sym at) ∙ subst (λ k. mothers (may_edges old.parts old.now k) x.rule.place.daughter.0 ≡ 1) on x.rule.only)))
+      | inr other ↦ record { rule = x.rule; below = (let b = x.below in omega (arith, b, other)) }
+    ])
+    (before group is_group on (λ box d v x. takes box d v (record { rule = x.rule; below = (let l = x.below in omega (arith, l)) })))
+  where
+    single_there : (e : Edge) → Contains (may_edges old.parts old.now plane.dim.0) e → ToNode w e → mothers (may_edges old.parts old.now plane.dim.0) w ≡ 1 → has single w ≡ true
+    single_there e c into one =
+        let few : has may.more w ≡ false = false_from_ne_true (has may.more w) (λ t. (let s = (y.twice w).0 t in not_more old.parts old.now plane.dim.0 w (s.first, s.second, s.one, s.two, s.differ) one)) in
+        single_is w ∙ (both (has may.some w) (not (has may.more w))).1 ((y.once w).1 (e, c, into), not_from_false (has may.more w) few)

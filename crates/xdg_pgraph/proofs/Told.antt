@@ -1,7 +1,7 @@
 -- The nodes into which some edges lead, step by step.
-use Rattle.std.proofs.Common.{◌≡◌, ◌≢◌, ℕ, ◌+◌, ◌<◌, ◌≤◌, ◌⊎◌, ◌↔◌, ◌||◌, ◌&&◌, inl, inr, Bool, true, false, IsTrue, List, [], refl, sym, ◌∙◌, subst, arith}
+use Rattle.std.proofs.Common.{◌≡◌, ◌≢◌, ℕ, ◌+◌, ◌<◌, ◌≤◌, ◌⊎◌, ◌↔◌, ◌||◌, ◌&&◌, ◌==◌, inl, inr, Bool, true, false, IsTrue, List, [], refl, sym, ◌∙◌, subst, arith}
 use Rattle.std.specs.Prelude.{Contains}
-use Rattle.std.proofs.lemmas.Bool.{cases_eq, false≢true}
+use Rattle.std.proofs.lemmas.Bool.{cases_eq, eq-eqb, eqb-true, false≢true}
 use Rattle.xdg_nodeset.proofs.TableSets.{either, both}
 use Rattle.xdg_nodeset.specs.Nodes.{has}
 use Rattle.xdg_problem.specs.declared.analysis.Edge.{Edge}
@@ -11,11 +11,13 @@ use Rattle.xdg_problem.specs.Places.{edge}
 use Rattle.xdg_problem.proofs.Edges.{edge_equal}
 use Rattle.xdg_pgraph.specs.declared.entered.Entered.{Entered}
 use Rattle.xdg_pgraph.specs.declared.entered.Roots.{Roots}
+use Rattle.xdg_pgraph.specs.declared.found.Found.{Found}
+use Rattle.xdg_pgraph.specs.declared.found.Found.TheVariants as founds
 use Rattle.xdg_pgraph.specs.declared.found.Which.{Which}
 use Rattle.xdg_pgraph.specs.declared.plane.Plane.{Plane}
 use Rattle.xdg_pgraph.specs.Entering.{Enters, EnterTwice, Tells, Leaving, Labelled}
 use Rattle.xdg_pgraph.specs.Planes.{IsPlane, IsOnPlane}
-use Rattle.xdg_pgraph.specs.Seeking.{ToNode, RootsAre, edges_of, roots_with}
+use Rattle.xdg_pgraph.specs.Seeking.{Finds, Into, ToNode, RootsAre, edges_of, roots_with}
 use Rattle.xdg_pgraph.proofs.PlaneFacts.{which_place}
 use Rattle.xdg_pgraph.proofs.Searched.{root_taken, root_left}
 
@@ -90,9 +92,42 @@ module _ (P Q R : Edge → Type 0) (a b c : Entered) (first : (e : Edge) → P e
 abbrev pub LeavingBelow : List Edge → ℕ → ℕ → Edge → Type 0
 LeavingBelow edges u l e = Leaving edges u e × (e.label.0 < l)
 
--- the edges out of the nodes below a bound
-abbrev pub FromBelow : List Edge → ℕ → Edge → Type 0
-FromBelow edges u e = Contains edges e × (e.mother.0 < u)
+-- the edges into the nodes below a bound
+abbrev pub ToBelow : List Edge → ℕ → Edge → Type 0
+ToBelow edges w e = Contains edges e × (e.daughter.0 < w)
+
+-- the edges into one node
+module _ (edges : List Edge) (w : ℕ) (found : Found) (there : Finds (Into edges w) found) where
+  pub none_told : (a : Entered) → found ≡ founds.Nothing → Tells (λ e. ⊥) a → Tells (Into edges w) a
+  none_told a is t = tells_like (λ e. ⊥) (Into edges w) a (λ e x. absurd x) (subst (Finds (Into edges w)) is there) t
+
+  once_told : (f : Edge) → Into edges w f → (some : List ℕ) → ((n : ℕ) → has some n ≡ (n == w)) → (v : ℕ) → IsTrue (has some v) ↔ Enters (Into edges w) v
+  once_told f i some some_is v = (
+    λ h. (let at : v ≡ w = eqb-true v w (sym (some_is v) ∙ h) in (f, i, i.1 ∙ sym at)),
+    λ s. some_is v ∙ eq-eqb v w (sym s.2 ∙ s.1.1),
+  )
+
+  pub one_told : (f : Edge) (some more : List ℕ) → found ≡ founds.One f → ((n : ℕ) → has some n ≡ (n == w)) → more ≡ [] → Tells (Into edges w) (record { some = some; more = more })
+  one_told f some more is some_is none =
+      let one = subst (Finds (Into edges w)) is there in
+      record {
+        once = once_told f one.0 some some_is;
+        twice = λ v. (
+          λ h. absurd (false≢true (subst (λ s. has s v ≡ true) none h)),
+          λ s. absurd (s.differ (sym (one.1 s.first s.one.0) ∙ one.1 s.second s.two.0)),
+        );
+      }
+
+  pub more_told : (some more : List ℕ) → found ≡ founds.More → ((n : ℕ) → has some n ≡ (n == w)) → ((n : ℕ) → has more n ≡ (n == w)) → Tells (Into edges w) (record { some = some; more = more })
+  more_told some more is some_is more_is =
+      let two = subst (Finds (Into edges w)) is there in
+      record {
+        once = once_told two.0 two.2 some some_is;
+        twice = λ v. (
+          λ h. (let at : v ≡ w = eqb-true v w (sym (more_is v) ∙ h) in record { first = two.0; one = (two.2, two.2.1 ∙ sym at); second = two.1; two = (two.3, two.3.1 ∙ sym at); differ = two.4 }),
+          λ s. more_is v ∙ eq-eqb v w (sym s.one.1 ∙ s.one.0.1),
+        );
+      }
 
 module _ (which : Which) (parts : Parts) (box : List (List Bool)) (plane : Plane) where
   abbrev those : List Edge
@@ -124,14 +159,14 @@ module _ (which : Which) (parts : Parts) (box : List (List Bool)) (plane : Plane
       (λ e x y. (let k = x.1 in let n = y.1 in omega (arith, k, n)))
       p q some_is more_is
 
-  pub all_start : (a : Entered) → Tells (λ e. ⊥) a → Tells (FromBelow those 0) a
-  all_start a t = tells_like (λ e. ⊥) (FromBelow those 0) a (λ e x. absurd x) (λ e x. (let l = x.1 in omega (arith, l))) t
+  pub all_start : (a : Entered) → Tells (λ e. ⊥) a → Tells (ToBelow those 0) a
+  all_start a t = tells_like (λ e. ⊥) (ToBelow those 0) a (λ e x. absurd x) (λ e x. (let l = x.1 in omega (arith, l))) t
 
-  pub all_turn : (u : ℕ) (a b c : Entered) → ((n : ℕ) → has c.some n ≡ (has a.some n || has b.some n)) → ((n : ℕ) → has c.more n ≡ (has a.more n || (has b.more n || (has a.some n && has b.some n)))) → Tells (FromBelow those u) a → Tells (Leaving those u) b → Tells (FromBelow those (u + 1)) c
-  all_turn u a b c some_is more_is p q = tells_both (FromBelow those u) (Leaving those u) (FromBelow those (u + 1)) a b c
+  pub all_turn : (w : ℕ) (a b c : Entered) → ((n : ℕ) → has c.some n ≡ (has a.some n || has b.some n)) → ((n : ℕ) → has c.more n ≡ (has a.more n || (has b.more n || (has a.some n && has b.some n)))) → Tells (ToBelow those w) a → Tells (Into those w) b → Tells (ToBelow those (w + 1)) c
+  all_turn w a b c some_is more_is p q = tells_both (ToBelow those w) (Into those w) (ToBelow those (w + 1)) a b c
       (λ e x. (x.0, (let k = x.1 in omega (arith, k))))
       (λ e x. (x.0, (let k = x.1 in omega (arith, k))))
-      (λ e x. elim (cases_eq e.mother.0 u) [ inl same ↦ inr (x.0, same) | inr other ↦ inl (x.0, (let k = x.1 in omega (arith, k, other))) ])
+      (λ e x. elim (cases_eq e.daughter.0 w) [ inl same ↦ inr (x.0, same) | inr other ↦ inl (x.0, (let k = x.1 in omega (arith, k, other))) ])
       (λ e x y. (let k = x.1 in let n = y.1 in omega (arith, k, n)))
       p q some_is more_is
 
@@ -142,8 +177,8 @@ module _ (which : Which) (parts : Parts) (box : List (List Bool)) (plane : Plane
     pub from_end : (u l : ℕ) (a : Entered) → plane.labels ≤ l → Tells (LeavingBelow those u l) a → Tells (Leaving those u) a
     from_end u l a all t = tells_like (LeavingBelow those u l) (Leaving those u) a (λ e x. x.0) (λ e x. (x, (let k = (those_plane e x.0).label in omega (arith, k, all)))) t
 
-    pub all_end : (u : ℕ) (a : Entered) → plane.nodes ≤ u → Tells (FromBelow those u) a → Tells (Contains those) a
-    all_end u a all t = tells_like (FromBelow those u) (Contains those) a (λ e x. x.0) (λ e x. (x, (let k = (those_plane e x).mother in omega (arith, k, all)))) t
+    pub all_end : (w : ℕ) (a : Entered) → plane.nodes ≤ w → Tells (ToBelow those w) a → Tells (Contains those) a
+    all_end w a all t = tells_like (ToBelow those w) (Contains those) a (λ e x. x.0) (λ e x. (x, (let k = (those_plane e x).daughter in omega (arith, k, all)))) t
 
     -- no edge leads from a node to itself
     pub leaves_other : (u v : ℕ) (a : Entered) → Tells (Leaving those u) a → has a.some v ≡ true → u ≢ v

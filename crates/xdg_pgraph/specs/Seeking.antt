@@ -34,6 +34,10 @@ Joins edges u v e = Contains edges e × FromTo u v e
 abbrev pub Into : List Edge → ℕ → Edge → Type 0
 Into edges v e = Contains edges e × ToNode v e
 
+-- and with a label
+abbrev pub IntoWith : List Edge → ℕ → ℕ → Edge → Type 0
+IntoWith edges v l e = Into edges v e × (e.label.0 ≡ l)
+
 -- what was found, of the edges that are looked for
 abbrev pub Finds : (Edge → Type 0) → Found → Type 0
 Finds P founds.Nothing = (e : Edge) → P e → ⊥
@@ -49,6 +53,12 @@ abbrev pub found_merged : Found → Found → Found
 found_merged founds.Nothing other = other
 found_merged (founds.One f) other = found_with other f
 found_merged founds.More other = founds.More
+
+-- more than one edge was found
+abbrev pub IsMore : Found → Type 0
+IsMore founds.Nothing = ⊥
+IsMore (founds.One e) = ⊥
+IsMore founds.More = Unit {0}
 
 -- an edge other than this one was found
 abbrev pub IsOther : Found → Edge → Type 0

@@ -1,16 +1,17 @@
 //! The nodes into which edges lead.
 
-ghost use Rattle.std.specs.Prelude.{◌≡◌, ◌<◌, ◌≤◌, ◌||◌, ◌&&◌, ℕ, List, Contains};
+ghost use Rattle.std.specs.Prelude.{◌≡◌, ◌<◌, ◌≤◌, ◌==◌, ◌||◌, ◌&&◌, ℕ, List, Contains};
 ghost use Rattle.xdg_nodeset.specs.Nodes.{has};
 ghost use Rattle.xdg_problem.specs.declared.analysis.Edge.{Edge as Arrow};
 ghost use Rattle.xdg_problem.specs.Paths.{roots};
 ghost use Rattle.xdg_store.specs.States.{Known};
 ghost use Rattle.xdg_pgraph.specs.Entering.{Tells, Leaving, Labelled};
 ghost use Rattle.xdg_pgraph.specs.Planes.{IsPlane};
-ghost use Rattle.xdg_pgraph.specs.Seeking.{RootsAre, edges_of, roots_with};
+ghost use Rattle.xdg_pgraph.specs.Seeking.{Into, RootsAre, edges_of, roots_with};
 
 use crate::bundle::{Bundle, Way, ends};
-use crate::found::Which;
+use crate::finding::entering;
+use crate::found::{Found, Which};
 use crate::plane::Plane;
 use xdg_base::NodeId;
 use xdg_nodeset::NodeSet;
@@ -80,6 +81,36 @@ pub(crate) fn entered_from(store: &Store, plane: &Plane, which: Which, mother: u
     entered
 }
 
+/// The set of one node.
+fn alone(node: u8) -> NodeSet
+    requires { node < 128 }
+    ensures { (n : ℕ) → has result n ≡ (n == node) }
+{
+    let mut nodes = NodeSet::empty();
+    nodes.insert(NodeId(node));
+    nodes
+}
+
+/// What the edges into a node lead to.
+fn entered_into(store: &Store, plane: &Plane, which: Which, daughter: u8) -> Entered
+    requires plane { IsPlane store.now.parts plane.now }
+    requires known { Known store.now }
+    requires daughter { daughter < plane.now.nodes }
+    ensures { Tells (Into (edges_of which store.now.parts store.now.now plane.now.dim.0) daughter) result }
+{
+    match entering(store, plane, which, daughter) {
+        Found::Nothing => Entered::nowhere(),
+        Found::One(_) => Entered {
+            some: alone(daughter),
+            more: NodeSet::empty(),
+        },
+        Found::More => Entered {
+            some: alone(daughter),
+            more: alone(daughter),
+        },
+    }
+}
+
 /// What all edges lead to.
 pub(crate) fn all_entered(store: &Store, plane: &Plane, which: Which) -> Entered
     requires plane { IsPlane store.now.parts plane.now }
@@ -87,8 +118,8 @@ pub(crate) fn all_entered(store: &Store, plane: &Plane, which: Which) -> Entered
     ensures { Tells (Contains (edges_of which store.now.parts store.now.now plane.now.dim.0)) result }
 {
     let mut entered = Entered::nowhere();
-    for mother in 0..plane.nodes {
-        entered = entered.merged(&entered_from(store, plane, which, mother));
+    for daughter in 0..plane.nodes {
+        entered = entered.merged(&entered_into(store, plane, which, daughter));
     }
     entered
 }

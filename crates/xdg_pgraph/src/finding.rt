@@ -3,9 +3,10 @@
 ghost use Rattle.std.specs.Prelude.{◌≡◌, ◌≢◌, ◌<◌, ◌↔◌, IsTrue, Contains};
 ghost use Rattle.xdg_problem.specs.Analyses.{IsPlace};
 ghost use Rattle.xdg_store.specs.States.{Known};
-ghost use Rattle.xdg_pgraph.specs.Seeking.{Finds, Into, Joins, edges_of};
+ghost use Rattle.xdg_pgraph.specs.Seeking.{Finds, Into, IntoWith, Joins, edges_of};
 ghost use Rattle.xdg_pgraph.specs.Planes.{IsPlane};
 
+use crate::bundle::{Bundle, Way, ends};
 use crate::found::{Found, Which};
 use crate::plane::Plane;
 use xdg_problem::Edge;
@@ -42,7 +43,29 @@ pub(crate) fn joined(store: &Store, plane: &Plane, which: Which, mother: u8, dau
     found
 }
 
-/// The edges into a node.
+/// The edges with a label into a node.
+fn entering_with(store: &Store, plane: &Plane, which: Which, daughter: u8, label: u8) -> Found
+    requires plane { IsPlane store.now.parts plane.now }
+    requires known { Known store.now }
+    requires daughter { daughter < plane.now.nodes }
+    ensures { Finds (IntoWith (edges_of which store.now.parts store.now.now plane.now.dim.0) daughter label) result }
+{
+    let bundle = Bundle {
+        way: Way::In,
+        node: daughter,
+        label,
+    };
+    let mothers = ends(store, plane, which, bundle);
+    let Some(mother) = mothers.first() else {
+        return Found::Nothing;
+    };
+    if mothers.len() > 1 {
+        return Found::More;
+    }
+    Found::One(plane.edge(mother.0, label, daughter))
+}
+
+/// The edges into a node. Where two are found no more are looked for.
 pub(crate) fn entering(store: &Store, plane: &Plane, which: Which, daughter: u8) -> Found
     requires plane { IsPlane store.now.parts plane.now }
     requires known { Known store.now }
@@ -50,9 +73,10 @@ pub(crate) fn entering(store: &Store, plane: &Plane, which: Which, daughter: u8)
     ensures { Finds (Into (edges_of which store.now.parts store.now.now plane.now.dim.0) daughter) result }
 {
     let mut found = Found::Nothing;
-    for mother in 0..plane.nodes {
-        if mother != daughter {
-            found = found.merged(joined(store, plane, which, mother, daughter));
+    for label in 0..plane.labels {
+        found = found.merged(entering_with(store, plane, which, daughter, label));
+        if found.is_more() {
+            return found;
         }
     }
     found

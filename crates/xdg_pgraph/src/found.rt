@@ -1,7 +1,7 @@
 //! What a search for edges found.
 
 ghost use Rattle.std.specs.Prelude.{◌≡◌, ◌↔◌, IsTrue};
-ghost use Rattle.xdg_pgraph.specs.Seeking.{IsOther, found_with, found_merged};
+ghost use Rattle.xdg_pgraph.specs.Seeking.{IsMore, IsOther, found_with, found_merged};
 
 use xdg_problem::Edge;
 
@@ -55,6 +55,17 @@ impl Found {
             Found::Nothing => other,
             Found::One(edge) => other.with(edge),
             Found::More => Found::More,
+        }
+    }
+
+    /// Whether more than one edge was found.
+    pub(crate) fn is_more(self) -> bool
+        ensures { IsTrue result ↔ IsMore self }
+    {
+        match self {
+            Found::Nothing => false,
+            Found::One(_) => false,
+            Found::More => true,
         }
     }
 

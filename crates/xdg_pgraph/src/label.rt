@@ -8,7 +8,7 @@ ghost use Rattle.xdg_pgraph.specs.Planes.{IsPlane};
 ghost use Rattle.xdg_pgraph.specs.Ruling.{RunsFor, OneLabelOf, RootIf, OthersIf, LabelIf, ByTree, ByDag};
 ghost use Rattle.xdg_pgraph.specs.Seeking.{Doubled};
 
-use crate::entered::entered_from;
+use crate::entered::{all_entered, entered_from};
 use crate::finding::joined;
 use crate::found::Which;
 use crate::incoming::Incoming;
@@ -81,7 +81,7 @@ pub(crate) fn take_tree(store: &mut Store, pass: &mut Pass, plane: &Plane)
     let second = first.renewed(store, pass, plane);
     for_root(store, pass, plane, &second);
     let third = second.renewed(store, pass, plane);
-    for_others(store, pass, plane, &third);
+    for_others(store, pass, plane, &third.may);
     no_cycle(store, pass, plane);
 }
 
@@ -99,7 +99,7 @@ fn take_root(store: &mut Store, pass: &mut Pass, plane: &Plane, wanted: bool)
     let first = Incoming::of(store, plane);
     for_root(store, pass, plane, &first);
     let second = first.renewed(store, pass, plane);
-    for_others(store, pass, plane, &second);
+    for_others(store, pass, plane, &second.may);
 }
 
 /// The rules that go by the edges that may be, where they are asked for.
@@ -113,8 +113,8 @@ pub(crate) fn take_others(store: &mut Store, pass: &mut Pass, plane: &Plane, wan
     if !wanted {
         return;
     }
-    let incoming = Incoming::of(store, plane);
-    for_others(store, pass, plane, &incoming);
+    let may = all_entered(store, plane, Which::May);
+    for_others(store, pass, plane, &may);
 }
 
 /// The rule of labels, where it is asked for.

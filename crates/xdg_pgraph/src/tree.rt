@@ -5,12 +5,13 @@ ghost use Rattle.xdg_problem.specs.Paths.{roots};
 ghost use Rattle.xdg_rules.specs.Rules.{OneMother, OnlyMother, may_edges};
 ghost use Rattle.xdg_store.specs.States.{Known};
 ghost use Rattle.xdg_propcore.specs.Passes.{Clears, IsQuiet};
+ghost use Rattle.xdg_pgraph.specs.Entering.{Tells};
 ghost use Rattle.xdg_pgraph.specs.Incomings.{AreOf};
 ghost use Rattle.xdg_pgraph.specs.Planes.{IsPlane};
 ghost use Rattle.xdg_pgraph.specs.Ruling.{RunsFor, ForRoot, ForOthers};
 ghost use Rattle.xdg_pgraph.specs.Seeking.{Aims, ToNode};
 
-use crate::entered::{Roots, find_roots};
+use crate::entered::{Entered, Roots, find_roots};
 use crate::finding::entering;
 use crate::found::{Found, Which};
 use crate::incoming::Incoming;
@@ -72,20 +73,16 @@ pub(crate) fn for_root(store: &mut Store, pass: &mut Pass, plane: &Plane, incomi
 }
 
 /// Into each node into which one edge alone may lead that edge leads, where another node has none.
-fn only_mother(store: &mut Store, pass: &mut Pass, plane: &Plane, incoming: &Incoming)
+fn only_mother(store: &mut Store, pass: &mut Pass, plane: &Plane, may: &Entered)
     requires plane { IsPlane store.old.parts plane.now }
     requires known { Known store.old }
-    requires incoming { AreOf store.old.parts store.old.now plane.now.dim.0 incoming.now }
+    requires may { Tells (Contains (may_edges store.old.parts store.old.now plane.now.dim.0)) may.now }
     ensures runs { (root : ℕ) → Contains (roots plane.now.nodes (may_edges store.old.parts store.old.now plane.now.dim.0)) root
         → RunsFor OnlyMother plane.now.dim.0 pass.old store.old pass.new store.new }
     ensures parts { store.new.parts ≡ store.old.parts }
     ensures known { Known store.new }
 {
-    let single = incoming
-        .may
-        .some
-        .minus(&incoming.may.more)
-        .minus(&incoming.must.some);
+    let single = may.some.minus(&may.more);
     for daughter in 0..plane.nodes {
         if single.contains(NodeId(daughter)) {
             force_entering(store, pass, plane, daughter);
@@ -94,17 +91,17 @@ fn only_mother(store: &mut Store, pass: &mut Pass, plane: &Plane, incoming: &Inc
 }
 
 /// Where no edge may lead into one node, edges lead into all others. There is no second such node.
-pub(crate) fn for_others(store: &mut Store, pass: &mut Pass, plane: &Plane, incoming: &Incoming)
+pub(crate) fn for_others(store: &mut Store, pass: &mut Pass, plane: &Plane, may: &Entered)
     requires plane { IsPlane store.old.parts plane.now }
     requires known { Known store.old }
-    requires incoming { AreOf store.old.parts store.old.now plane.now.dim.0 incoming.now }
+    requires may { Tells (Contains (may_edges store.old.parts store.old.now plane.now.dim.0)) may.now }
     ensures runs { RunsFor ForOthers plane.now.dim.0 pass.old store.old pass.new store.new }
     ensures parts { store.new.parts ≡ store.old.parts }
     ensures known { Known store.new }
 {
-    match find_roots(plane, &incoming.may) {
+    match find_roots(plane, may) {
         Roots::Nothing => {}
-        Roots::One(_) => only_mother(store, pass, plane, incoming),
+        Roots::One(_) => only_mother(store, pass, plane, may),
         Roots::More => pass.fail(store),
     }
 }

@@ -36,7 +36,7 @@ loop-daughter-preserved c =
       | else-contains w ↦
           subst (λ p. ((root : ℕ) → Contains (roots plane.nodes (may_edges s0.parts s0.now plane.dim.0)) root → RunsFor (OnlyMotherBelow (c.loop-daughter.daughter + 1)) plane.dim.0 c.args.pass.now s0 p c.if-contains.store) × (c.if-contains.store.parts ≡ s0.parts) × Known c.if-contains.store) (sym w.pass-is)
           (subst (λ s. ((root : ℕ) → Contains (roots plane.nodes (may_edges s0.parts s0.now plane.dim.0)) root → RunsFor (OnlyMotherBelow (c.loop-daughter.daughter + 1)) plane.dim.0 c.args.pass.now s0 c.loop-daughter.pass s) × (s.parts ≡ s0.parts) × Known s) (sym w.store-is) (
-            λ root there. only_skip plane c.args.pass.now c.loop-daughter.pass s0 c.loop-daughter.store c.args.incoming.now.must c.args.incoming.now.may c.loop-daughter.daughter c.minus.result c.minus-single.result c.requires.incoming.must c.requires.incoming.may c.minus.ensures.members c.minus-single.ensures.members (sym c.contains.ensures.value ∙ w.if-contains.false)
+            λ root there. only_skip plane c.args.pass.now c.loop-daughter.pass s0 c.loop-daughter.store c.args.may.now c.loop-daughter.daughter c.minus-single.result c.requires.may c.minus-single.ensures.members (sym c.contains.ensures.value ∙ w.if-contains.false)
                 (c.loop-daughter.invariant.0 root there),
             same,
             c.loop-daughter.invariant.2,
