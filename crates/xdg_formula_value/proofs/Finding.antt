@@ -1,16 +1,16 @@
 -- Nodes for names that let a box make a claim true, or false, looked for one after another.
 use Rattle.std.proofs.Common.{◌≡◌, ◌≢◌, ◌↔◌, ℕ, ◌+◌, ◌<◌, ◌≤◌, IsTrue, inl, inr, Bool, true, false, ◌&&◌, List, [], ◌∷◌, length, refl, sym, ◌∙◌, ap, subst, arith}
 use Rattle.std.specs.Prelude.{not, ◌==◌}
-use Rattle.std.proofs.lemmas.Bool.{cases_eq, and_from, and_parts, false≢true, false_from_ne_true, not_from_false, eqb-true}
+use Rattle.std.proofs.lemmas.Bool.{cases_eq, and_from, false≢true, false_from_ne_true, not_from_false, eqb-true}
 use Rattle.xdg_nodeset.specs.Nodes.{has}
 use Rattle.xdg_problem.specs.declared.parts.Parts.{Parts}
 use Rattle.xdg_problem.specs.Claims.{Claim}
 use Rattle.xdg_problem.specs.Places.{nodes}
-use Rattle.xdg_problem.specs.Truths.{bound, unbound}
+use Rattle.xdg_problem.specs.Truths.{bound}
 use Rattle.xdg_rules.specs.WorthLaws.{AreNodes}
 use Rattle.xdg_rules.specs.Worths.{Makes}
 use Rattle.xdg_rules.proofs.Bound.{bound_nodes}
-use Rattle.xdg_formula_value.specs.Lost.{AreEarly, AgreeBut, Finds, HasNode, HasNodes, StandFor}
+use Rattle.xdg_formula_value.specs.Lost.{AgreeBut, Finds, HasNode, HasNodes}
 use Rattle.xdg_formula_value.specs.Rows.{Bounds, IsEvery, IsRowOn, Over}
 use Rattle.xdg_formula_value.proofs.Bounding.{within_row}
 use Rattle.xdg_formula_value.proofs.Rowed.{over_told}
@@ -53,7 +53,7 @@ module _ (parts : Parts) (box : List (List Bool)) (c : Claim) (truth : Bool) whe
   pub finds_weaker : (Wanted Other : (ℕ → ℕ) → Type 0) (found : Bool) → ((b : ℕ → ℕ) → AreNodes parts b → Wanted b → Other b) → Finds parts box c truth Other found → Finds parts box c truth Wanted found
   finds_weaker Wanted Other found weaker finds = record { sound = finds.sound; complete = λ b are wanted makes. finds.complete b are (weaker b are wanted) makes }
 
-  missed : (Other : (ℕ → ℕ) → Type 0) (found : Bool) → found ≡ false → Finds parts box c truth Other found → NoneMade Other
+  pub missed : (Other : (ℕ → ℕ) → Type 0) (found : Bool) → found ≡ false → Finds parts box c truth Other found → NoneMade Other
   missed Other found off finds b are other makes = false≢true (sym off ∙ finds.complete b are other makes)
 
   -- ---- no name is free
@@ -169,42 +169,3 @@ module _ (parts : Parts) (box : List (List Bool)) (c : Claim) (truth : Bool) whe
 
   pub nodes_end : (free : List ℕ) (a : ℕ → ℕ) (name k : ℕ) → nodes parts ≤ k → NoneUpTo free a name k → Finds parts box c truth (AgreeBut free a) false
   nodes_end free a name k past so_far = finds_no (AgreeBut free a) (λ b are agree makes. (let l = are name in so_far (b name) (omega (arith, l, past)) b are (agree, refl) makes))
-
-  -- ---- one name after another for a node
-
-  abbrev pub NoneOf : List ℕ → ((ℕ → ℕ) → Type 0) → ℕ → ℕ → Type 0
-  NoneOf free Wanted node k = (name : ℕ) → name < k → NoneMade (λ b. Wanted b × (has free name ≡ true) × (b name ≡ node))
-
-  pub names_start : (free : List ℕ) (Wanted : (ℕ → ℕ) → Type 0) (node : ℕ) → NoneOf free Wanted node 0
-  names_start free Wanted node name l = absurd (omega (arith, l))
-
-  pub names_skip : (free : List ℕ) (Wanted : (ℕ → ℕ) → Type 0) (node name : ℕ) → NoneOf free Wanted node name → has free name ≡ false → NoneOf free Wanted node (name + 1)
-  names_skip free Wanted node name so_far off other l b are wanted makes = elim (cases_eq other name) [
-    | inl same ↦ false≢true (sym off ∙ subst (λ n. has free n ≡ true) same wanted.1)
-    | inr differ ↦ so_far other (omega (arith, l, differ)) b are wanted makes
-  ]
-
-  pub names_turn : (free : List ℕ) (Wanted Other : (ℕ → ℕ) → Type 0) (node name : ℕ) (found : Bool) → NoneOf free Wanted node name → ((b : ℕ → ℕ) → Wanted b → b name ≡ node → Other b)
-      → found ≡ false → Finds parts box c truth Other found → NoneOf free Wanted node (name + 1)
-  names_turn free Wanted Other node name found so_far leads off finds other l b are wanted makes = elim (cases_eq other name) [
-    | inl same ↦ missed Other found off finds b are (leads b wanted.0 (sym (ap b same) ∙ wanted.2)) makes
-    | inr differ ↦ so_far other (omega (arith, l, differ)) b are wanted makes
-  ]
-
-  pub names_end : (free : List ℕ) (Wanted : (ℕ → ℕ) → Type 0) (node k : ℕ) → AreEarly free → 8 ≤ k → NoneOf free Wanted node k → Finds parts box c truth (λ b. Wanted b × StandFor free b node) false
-  names_end free Wanted node k early past so_far = finds_no (λ b. Wanted b × StandFor free b node) (λ b are wanted makes. (let it = wanted.1 in let l = early it.0 it.1 in so_far it.0 (omega (arith, l, past)) b are (wanted.0, it.1, it.2) makes))
-
--- ---- two names for the nodes of an edge
-
--- the name of the daughter is another than that of the mother
-pub leads_on : (names rest : List ℕ) (here b : ℕ → ℕ) (name mother daughter : ℕ) → ((n : ℕ) → has rest n ≡ (not (n == name) && has names n)) → here ≡ bound unbound name mother
-    → mother ≢ daughter → AgreeBut names unbound b × StandFor names b daughter → b name ≡ mother → AgreeBut rest here b × StandFor rest b daughter
-leads_on names rest here b name mother daughter members here_is differ wanted at =
-    let it = wanted.1 in
-    let other : it.0 ≢ name = λ same. differ (sym at ∙ sym (ap b same) ∙ it.2) in (
-      agree_rest names rest unbound here b name mother members here_is wanted.0 at,
-      (it.0, members it.0 ∙ and_from (not (it.0 == name)) (has names it.0) (not_from_false (it.0 == name) (false_from_ne_true (it.0 == name) (λ t. other (eqb-true it.0 name t)))) it.1, it.2),
-    )
-
-pub early_rest : (names rest : List ℕ) (name : ℕ) → ((n : ℕ) → has rest n ≡ (not (n == name) && has names n)) → AreEarly names → AreEarly rest
-early_rest names rest name members early n there = early n (and_parts (not (n == name)) (has names n) (sym (members n) ∙ there)).1

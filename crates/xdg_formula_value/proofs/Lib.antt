@@ -18,4 +18,6 @@ pub mod Staying
 pub mod Unmet
 pub mod Finding
 pub mod Under
-pub mod Plains
+pub mod Locals
+pub mod Keeping
+pub mod Concerning

@@ -1,9 +1,10 @@
 -- Rows that are joined, gathered and looked over.
-use Rattle.std.proofs.Common.{◌≡◌, ◌⊎◌, ◌↔◌, ℕ, ◌+◌, ◌<◌, ◌≤◌, IsTrue, inl, inr, Bool, true, false, List, [], ◌∷◌, length, sym, ◌∙◌, subst, arith}
-use Rattle.std.specs.Prelude.{not}
-use Rattle.std.proofs.lemmas.Bool.{cases_eq, cases_Bool, and_from, and_parts, both_ways, not_from_false, false≢true}
+use Rattle.std.proofs.Common.{◌≡◌, ◌⊎◌, ◌↔◌, ℕ, ◌+◌, ◌<◌, ◌≤◌, IsTrue, inl, inr, Bool, true, false, List, [], ◌∷◌, length, refl, sym, ◌∙◌, subst, arith}
+use Rattle.std.specs.Prelude.{not, ◌==◌}
+use Rattle.std.proofs.lemmas.Bool.{cases_eq, cases_Bool, and_from, and_parts, both_ways, eq-eqb, eqb-true, not_from_false, false≢true, or_cases}
 use Rattle.xdg_nodeset.specs.Nodes.{has}
 use Rattle.xdg_problem.specs.Truths.{HasTruth}
+use Rattle.xdg_facts.proofs.Truths.{either_true, or_here}
 use Rattle.xdg_formula_value.specs.Rows.{IsRow, IsRowOn, HasFirst, Gathers, Joined, Over, AreFirst, IsEvery, open_in}
 
 -- no node is in a set that has none
@@ -73,16 +74,6 @@ row_constant n care all P set few first same like v within =
 pub gathers_none : (care : List ℕ) (P : ℕ → Type 0) (set : List ℕ) → ((v : ℕ) → has set v ≡ false) → Gathers 0 care P set
 gathers_none care P set none = record { exact = λ v l. absurd (omega (arith, l)); early = λ v h. absurd (false≢true (sym (none v) ∙ h)) }
 
--- a node that doesn't matter
-pub gathers_skip : (k : ℕ) (care : List ℕ) (P : ℕ → Type 0) (set : List ℕ) → Gathers k care P set → has care k ≡ false → Gathers (k + 1) care P set
-gathers_skip k care P set so_far off = record {
-  exact = λ v l within. elim (cases_eq v k) [
-    | inl same ↦ absurd (false≢true (sym off ∙ subst (λ j. has care j ≡ true) same within))
-    | inr other ↦ so_far.exact v (omega (arith, l, other)) within
-  ];
-  early = λ v h. (let l = so_far.early v h in omega (arith, l));
-}
-
 -- a node at which it isn't so
 pub gathers_shut : (k : ℕ) (care : List ℕ) (P : ℕ → Type 0) (set : List ℕ) → Gathers k care P set → (has care k ≡ true → P k → ⊥) → Gathers (k + 1) care P set
 gathers_shut k care P set so_far shut = record {
@@ -119,6 +110,59 @@ gathers_more k care P holds old new so_far here is = record {
 
 pub gathers_row : (n k : ℕ) (care : List ℕ) (P : ℕ → Type 0) (set : List ℕ) → n ≤ k → AreFirst n care → Gathers k care P set → IsRowOn care P set
 gathers_row n k care P set past first gathers v within = (let l = first v within in gathers.exact v (omega (arith, l, past)) within)
+
+-- the members of some nodes one after another: what was gathered, and what those still to come bring, is what all bring
+abbrev pub Gathered : List ℕ → (ℕ → Type 0) → List ℕ → List ℕ → Type 0
+Gathered care P left set = (x : ℕ) → ((has set x ≡ true) ⊎ ((has left x ≡ true) × P x)) ↔ ((has care x ≡ true) × P x)
+
+no_member : (set : List ℕ) (x : ℕ) → set ≡ [] → has set x ≡ true → ⊥
+no_member set x empty there = false≢true (subst (λ s. has s x ≡ true) empty there)
+
+pub head_in : (left rest : List ℕ) (v : ℕ) → left ≡ v ∷ rest → has left v ≡ true
+head_in left rest v at = subst (λ s. has s v ≡ true) (sym at) (or_here (v == v) (has rest v) (eq-eqb v v refl))
+
+tail_in : (left rest : List ℕ) (v x : ℕ) → left ≡ v ∷ rest → has rest x ≡ true → has left x ≡ true
+tail_in left rest v x at later = subst (λ s. has s x ≡ true) (sym at) (either_true (v == x) (has rest x) later)
+
+head_or_tail : (left rest : List ℕ) (v x : ℕ) → left ≡ v ∷ rest → has left x ≡ true → (v ≡ x) ⊎ (has rest x ≡ true)
+head_or_tail left rest v x at there = elim (or_cases (v == x) (has rest x) (subst (λ s. has s x ≡ true) at there)) [
+  | inl same ↦ inl (eqb-true v x same)
+  | inr later ↦ inr later
+]
+
+pub first_later : (n : ℕ) (left rest : List ℕ) (v : ℕ) → left ≡ v ∷ rest → AreFirst n left → AreFirst n rest
+first_later n left rest v at first x later = first x (tail_in left rest v x at later)
+
+pub gathered_start : (care left : List ℕ) (P : ℕ → Type 0) (set : List ℕ) → left ≡ care → set ≡ [] → Gathered care P left set
+gathered_start care left P set all empty = subst (λ s. Gathered care P s set) (sym all) (λ x. (
+  λ h. elim h [ inl there ↦ absurd (no_member set x empty there) | inr more ↦ more ],
+  λ h. inr h,
+))
+
+pub gathered_more : (care left rest : List ℕ) (P : ℕ → Type 0) (v : ℕ) (holds : Bool) (old new : List ℕ) → left ≡ v ∷ rest → (holds ≡ true) ↔ P v → ((x : ℕ) → (has new x ≡ true) ↔ ((has old x ≡ true) ⊎ ((x ≡ v) × (holds ≡ true)))) → Gathered care P left old
+    → Gathered care P rest new
+gathered_more care left rest P v holds old new at here is so_far x = (
+  λ h. elim h [
+    | inl there ↦ elim ((is x).0 there) [
+      | inl before ↦ (so_far x).0 (inl before)
+      | inr now ↦ (so_far x).0 (inr (subst (λ k. has left k ≡ true) (sym now.0) (head_in left rest v at), subst P (sym now.0) (here.0 now.1)))
+    ]
+    | inr later ↦ (so_far x).0 (inr (tail_in left rest v x at later.0, later.1))
+  ],
+  λ h. elim ((so_far x).1 h) [
+    | inl before ↦ inl ((is x).1 (inl before))
+    | inr more ↦ elim (head_or_tail left rest v x at more.0) [
+      | inl same ↦ inl ((is x).1 (inr (sym same, here.1 (subst P (sym same) more.1))))
+      | inr later ↦ inr (later, more.1)
+    ]
+  ],
+)
+
+pub gathered_row : (care left : List ℕ) (P : ℕ → Type 0) (set : List ℕ) → left ≡ [] → Gathered care P left set → IsRowOn care P set
+gathered_row care left P set empty all v within = (
+  λ h. ((all v).0 (inl h)).1,
+  λ p. elim ((all v).1 (within, p)) [ inl there ↦ there | inr more ↦ absurd (no_member left v empty more.0) ],
+)
 
 -- the same of all nodes
 

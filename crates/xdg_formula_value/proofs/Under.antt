@@ -1,7 +1,7 @@
 -- A rule that is false exactly where some nodes for some names let a box make a part of it true, or false.
 use Rattle.std.proofs.Common.{◌≡◌, ◌↔◌, ℕ, ◌+◌, ◌<◌, ◌≤◌, IsTrue, inl, inr, Bool, true, false, List, [], length, get_or, refl, sym, ◌∙◌, ap, subst, arith}
 use Rattle.std.specs.Prelude.{not, ◌==◌, ◌||◌, Some}
-use Rattle.std.proofs.lemmas.Bool.{cases_eq, eq-eqb, false≢true, or_cases, eqb-true}
+use Rattle.std.proofs.lemmas.Bool.{cases_eq, eq-eqb, false≢true}
 use Rattle.std.proofs.lemmas.List.{get_or_default}
 use Rattle.xdg_nodeset.specs.Nodes.{has}
 use Rattle.xdg_problem.specs.declared.formula.Formula.{Formula}
@@ -18,24 +18,13 @@ use Rattle.xdg_rules.proofs.Bound.{bound_nodes}
 use Rattle.xdg_rules.proofs.ClaimLaws.{name_laws}
 use Rattle.xdg_store.specs.Naming.{Names}
 use Rattle.xdg_store.specs.declared.decision.Decision.{Decision}
-use Rattle.xdg_formula_value.specs.Lost.{AreEarly, AgreeBut, Finds, IsPlain, LeadsTo, Meets}
+use Rattle.xdg_formula_value.specs.Lost.{AgreeBut, AsksOn, Concerns, Finds, LeadsTo, OnNames, PathsStay}
 use Rattle.xdg_formula_value.specs.Rows.{Over}
 use Rattle.xdg_formula_value.proofs.Finding.{NoneMade, finds_no}
 use Rattle.xdg_formula_value.proofs.Formed.{not_makes, every_makes, any_makes}
 use Rattle.xdg_formula_value.proofs.Stood.{bound_back, bound_else}
-use Rattle.xdg_formula_value.proofs.Unmet.{plain_before}
+use Rattle.xdg_formula_value.proofs.Unmet.{made_before}
 use Rattle.xdg_facts.proofs.Truths.{or_here, either_true}
-
--- ---- names
-
-pub early_more : (names more : List ℕ) (name : ℕ) → ((n : ℕ) → has more n ≡ ((n == name) || has names n)) → name < 8 → AreEarly names → AreEarly more
-early_more names more name members l early n there = elim (or_cases (n == name) (has names n) (sym (members n) ∙ there)) [
-  | inl here ↦ (let e = eqb-true n name here in omega (arith, e, l))
-  | inr before ↦ early n before
-]
-
-pub early_none : (names : List ℕ) → names ≡ [] → AreEarly names
-early_none names empty n there = absurd (false≢true (subst (λ s. has s n ≡ true) empty there))
 
 -- ---- what leads to what
 
@@ -98,26 +87,26 @@ found_false parts rule formula names truth found old new suits leads open_then f
 -- ---- one decision after another
 
 module _ (parts : Parts) (old new : List (List Bool)) (c : Claim) (truth : Bool) (names : List ℕ) (removed : List Decision) where
-  -- none of the first decisions has nodes with which the box makes it
+  -- the box makes it under no binding under which one of the first decisions concerns it
   abbrev pub NoneMet : ℕ → Type 0
-  NoneMet k = (i : ℕ) (d : Decision) → i < k → NoneMade parts new c truth (λ b. AgreeBut names unbound b × Meets names (get_or removed i d) b)
+  NoneMet k = (i : ℕ) (d : Decision) → i < k → NoneMade parts new c truth (λ b. AgreeBut names unbound b × OnNames names (Concerns (get_or removed i d) c) b)
 
   pub met_start : NoneMet 0
   met_start i d l = absurd (omega (arith, l))
 
   pub met_turn : (k : ℕ) (none_there : Decision) (found : Bool) → k < length removed → NoneMet k → found ≡ false
-      → Finds parts new c truth (λ b. AgreeBut names unbound b × Meets names (get_or removed k none_there) b) found → NoneMet (k + 1)
+      → Finds parts new c truth (λ b. AgreeBut names unbound b × OnNames names (Concerns (get_or removed k none_there) c) b) found → NoneMet (k + 1)
   met_turn k none_there found within so_far off finds i d l b are wanted makes = elim (cases_eq i k) [
     | inl same ↦ (
         let here : get_or removed i d ≡ get_or removed k none_there = ap (λ j. get_or removed j d) same ∙ get_or_default removed k d none_there within in
-        false≢true (sym off ∙ finds.complete b are (wanted.0, subst (λ e. Meets names e b) here wanted.1) makes)
+        false≢true (sym off ∙ finds.complete b are (wanted.0, subst (λ e. OnNames names (Concerns e c) b) here wanted.1) makes)
         )
     | inr other ↦ so_far i d (omega (arith, l, other)) b are wanted makes
   ]
 
-  pub met_end : (k : ℕ) → length removed ≤ k → NoneMet k → IsProblem parts → IsBox (shape parts) old → IsBox (shape parts) new → Names parts old new removed → IsOf parts c → IsPlain names c
+  pub met_end : (k : ℕ) → length removed ≤ k → NoneMet k → IsProblem parts → IsBox (shape parts) old → IsBox (shape parts) new → Names parts old new removed → IsOf parts c → AsksOn (PathsStay parts old new) c
       → Finds parts new c truth (λ b. AgreeBut names unbound b × (Makes parts old c truth b → ⊥)) false
-  met_end k past so_far problem old_is new_is all suits plain =
+  met_end k past so_far problem old_is new_is all suits asks =
       finds_no parts new c truth (λ b. AgreeBut names unbound b × (Makes parts old c truth b → ⊥)) (λ b are wanted makes.
-      wanted.1 (plain_before parts problem names b are old new old_is new_is removed all
-      (λ d among met. (let l = among.1 in so_far among.0 d (omega (arith, l, past)) b are (wanted.0, subst (λ e. Meets names e b) (sym among.2) met) makes)) c truth suits plain makes))
+      wanted.1 (made_before parts problem old new old_is new_is removed all c truth b are suits asks
+      (λ d among meets. (let l = among.1 in so_far among.0 d (omega (arith, l, past)) b are (wanted.0, (b, λ name there. refl, subst (λ e. Concerns e c b) (sym among.2) meets)) makes)) makes))

@@ -1,57 +1,108 @@
--- What lost values can have changed of a claim without quantifiers and paths.
-use Rattle.std.specs.Prelude.{◌≡◌, ℕ, ◌<◌, Bool, true, false, List, length}
+-- What lost values can have changed of a claim.
+use Rattle.std.specs.Prelude.{◌≡◌, ◌⊎◌, ℕ, ◌<◌, Bool, true, false, List, length}
 use Rattle.xdg_nodeset.specs.Nodes.{has}
 use Rattle.xdg_problem.specs.declared.parts.Parts.{Parts}
-use Rattle.xdg_problem.specs.Boxes.{IsBox, LiesIn}
+use Rattle.xdg_problem.specs.Boxes.{IsBox, LiesIn, May, Must}
 use Rattle.xdg_problem.specs.Claims.{Claim, negation, conjunction, disjunction, every, some, joined, above, left, same, valued, fitting, Claims, none}
 use Rattle.xdg_problem.specs.Claims.{claim_then}
+use Rattle.xdg_problem.specs.Paths.{Above}
 use Rattle.xdg_problem.specs.Places.{nodes}
 use Rattle.xdg_problem.specs.Truths.{bound, unbound}
 use Rattle.xdg_problem.specs.Vectors.{shape}
+use Rattle.xdg_rules.specs.Rules.{may_edges, must_edges}
 use Rattle.xdg_rules.specs.WorthLaws.{AreNodes}
 use Rattle.xdg_rules.specs.Worths.{Makes}
+use Rattle.xdg_graph.specs.declared.which.Which.{Which}
+use Rattle.xdg_graph.specs.Edges.{edges_of}
 use Rattle.xdg_store.specs.States.{State}
 use Rattle.xdg_store.specs.declared.decision.Decision.{Decision}
 use Rattle.xdg_store.specs.declared.decision.Decision.TheVariants as decisions
 use Rattle.xdg_propcore.specs.Standing.{box_at}
 use Rattle.xdg_formula_value.specs.Rows.{Over}
 
--- a claim has no quantifiers and no paths, and its names are some
+-- a decision is that of the entry of a node
+abbrev pub IsEntryOf : Decision → ℕ → Type 0
+IsEntryOf (decisions.Entry it) node = it.0 ≡ node
+IsEntryOf decision node = ⊥
+
+-- a decision is that of an attribute of a node on a dimension
+abbrev pub IsAttrOf : Decision → ℕ → ℕ → ℕ → Type 0
+IsAttrOf (decisions.Attr on it which) dim node attr = (on.0 ≡ dim) × (it.0 ≡ node) × (which.0 ≡ attr)
+IsAttrOf decision dim node attr = ⊥
+
+-- a decision is that of an edge
+abbrev pub IsEdgeOf : Decision → ℕ → ℕ → ℕ → ℕ → Type 0
+IsEdgeOf (decisions.Place e) dim mother label daughter = (e.dim.0 ≡ dim) × (e.mother.0 ≡ mother) × (e.label.0 ≡ label) × (e.daughter.0 ≡ daughter)
+IsEdgeOf decision dim mother label daughter = ⊥
+
+-- A decision is that of an edge, an attribute or an entry at which a claim looks under a binding. Under a quantifier it is so for some
+-- node; paths don't count.
 abbrev mutual
-  pub IsPlain : List ℕ → Claim → Type 0
-  IsPlain names (negation c) = IsPlain names c
-  IsPlain names (conjunction cs) = EachPlain names cs
-  IsPlain names (disjunction cs) = EachPlain names cs
-  IsPlain names (every name c) = ⊥
-  IsPlain names (some name c) = ⊥
-  IsPlain names (joined dim mother label daughter) = (has names mother ≡ true) × (has names daughter ≡ true)
-  IsPlain names (above dim upper lower) = ⊥
-  IsPlain names (left first second) = Unit {0}
-  IsPlain names (same first second) = Unit {0}
-  IsPlain names (valued name dim attr value) = has names name ≡ true
-  IsPlain names (fitting name table) = has names name ≡ true
+  pub Concerns : Decision → Claim → (ℕ → ℕ) → Type 0
+  Concerns d (negation c) b = Concerns d c b
+  Concerns d (conjunction cs) b = ConcernsSome d cs b
+  Concerns d (disjunction cs) b = ConcernsSome d cs b
+  Concerns d (every name c) b = (node : ℕ) × Concerns d c (bound b name node)
+  Concerns d (some name c) b = (node : ℕ) × Concerns d c (bound b name node)
+  Concerns d (joined dim mother label daughter) b = IsEdgeOf d dim (b mother) label (b daughter)
+  Concerns d (above dim upper lower) b = ⊥
+  Concerns d (left first second) b = ⊥
+  Concerns d (same first second) b = ⊥
+  Concerns d (valued name dim attr value) b = IsAttrOf d dim (b name) attr
+  Concerns d (fitting name table) b = IsEntryOf d (b name)
 
-  pub EachPlain : List ℕ → Claims → Type 0
-  EachPlain names none = Unit {0}
-  EachPlain names (claim_then c cs) = IsPlain names c × EachPlain names cs
+  pub ConcernsSome : Decision → Claims → (ℕ → ℕ) → Type 0
+  ConcernsSome d none b = ⊥
+  ConcernsSome d (claim_then c cs) b = Concerns d c b ⊎ ConcernsSome d cs b
 
--- names are below 8
-abbrev pub AreEarly : List ℕ → Type 0
-AreEarly names = (name : ℕ) → has names name ≡ true → name < 8
+-- the dimensions on which a claim asks for paths are some
+abbrev mutual
+  pub AsksOn : (ℕ → Type 0) → Claim → Type 0
+  AsksOn P (negation c) = AsksOn P c
+  AsksOn P (conjunction cs) = EachAsksOn P cs
+  AsksOn P (disjunction cs) = EachAsksOn P cs
+  AsksOn P (every name c) = AsksOn P c
+  AsksOn P (some name c) = AsksOn P c
+  AsksOn P (joined dim mother label daughter) = Unit {0}
+  AsksOn P (above dim upper lower) = P dim
+  AsksOn P (left first second) = Unit {0}
+  AsksOn P (same first second) = Unit {0}
+  AsksOn P (valued name dim attr value) = Unit {0}
+  AsksOn P (fitting name table) = Unit {0}
+
+  pub EachAsksOn : (ℕ → Type 0) → Claims → Type 0
+  EachAsksOn P none = Unit {0}
+  EachAsksOn P (claim_then c cs) = AsksOn P c × EachAsksOn P cs
+
+-- paths of a dimension lead in a new box where they led in an old one: by the edges that must be no further, by those that may be as far
+pub record PathsStay (parts : Parts) (old new : List (List Bool)) (dim : ℕ) : Type 0 where
+  pub must : (u v : ℕ) → Above (must_edges parts new dim) u v → Above (must_edges parts old dim) u v
+  pub may : (u v : ℕ) → Above (may_edges parts old dim) u v → Above (may_edges parts new dim) u v
+
+-- a path leads from a node to another, by the edges of an old box and by those of a new one
+abbrev pub Lasts : Which → Parts → List (List Bool) → List (List Bool) → ℕ → ℕ → ℕ → Type 0
+Lasts which parts old new dim u v = (v < nodes parts) × Above (edges_of which parts old dim) u v × Above (edges_of which parts new dim) u v
+
+-- to each node of a set
+abbrev pub AllLast : Which → Parts → List (List Bool) → List (List Bool) → ℕ → ℕ → List ℕ → Type 0
+AllLast which parts old new dim u set = (v : ℕ) → has set v ≡ true → Lasts which parts old new dim u v
+
+-- Where a decision is that of an edge of a dimension, paths lead where it leads: by edges that had to be in the old box if it must be in
+-- the new one, and by edges that may be in the new box if it may not be there.
+abbrev pub KeepsPath : Parts → List (List Bool) → List (List Bool) → ℕ → Decision → Type 0
+KeepsPath parts old new dim (decisions.Place e) =
+    e.dim.0 ≡ dim
+    → (Must parts new e → Above (must_edges parts old dim) e.mother.0 e.daughter.0)
+    × ((May parts new e → ⊥) → Above (may_edges parts new dim) e.mother.0 e.daughter.0)
+KeepsPath parts old new dim decision = Unit {0}
 
 -- two bindings agree but on some names
 abbrev pub AgreeBut : List ℕ → (ℕ → ℕ) → (ℕ → ℕ) → Type 0
 AgreeBut names a b = (name : ℕ) → (has names name ≡ true → ⊥) → b name ≡ a name
 
--- one of some names stands for a node
-abbrev pub StandFor : List ℕ → (ℕ → ℕ) → ℕ → Type 0
-StandFor names b node = (name : ℕ) × (has names name ≡ true) × (b name ≡ node)
-
--- some names stand for the nodes of a decision
-abbrev pub Meets : List ℕ → Decision → (ℕ → ℕ) → Type 0
-Meets names (decisions.Entry node) b = StandFor names b node.0
-Meets names (decisions.Attr dim node attr) b = StandFor names b node.0
-Meets names (decisions.Place edge) b = StandFor names b edge.mother.0 × StandFor names b edge.daughter.0
+-- something is so of a binding that agrees with another on some names
+abbrev pub OnNames : List ℕ → ((ℕ → ℕ) → Type 0) → (ℕ → ℕ) → Type 0
+OnNames names P b = (a : ℕ → ℕ) × ((name : ℕ) → has names name ≡ true → a name ≡ b name) × P a
 
 -- a box makes a claim true, or false, under some binding
 abbrev pub IsMade : Parts → List (List Bool) → Claim → Bool → Type 0

@@ -17,7 +17,7 @@ ghost use Rattle.xdg_formula_value.specs.Rows.{AreFirst, IsRowOn, stands};
 use crate::binding::node_of;
 use crate::rows::{constant, kept};
 use xdg_base::{AttrId, DimId, List, NodeId};
-use xdg_graph::{entry_count, node_count};
+use xdg_graph::entry_count;
 use xdg_nodeset::NodeSet;
 use xdg_problem::Parts;
 use xdg_store::Store;
@@ -88,15 +88,8 @@ pub(crate) fn attr_row(
         return constant(attr_told(store, node_of(binding, node), dim, attr, value, truth));
     }
     let mut row = NodeSet::empty();
-    for one in 0..node_count(store) {
-        if !care.contains(NodeId(one)) {
-            continue;
-        }
-        row = kept(
-            row,
-            one,
-            attr_told(store, NodeId(one), dim, attr, value, truth),
-        );
+    for one in care.iter() {
+        row = kept(row, one.0, attr_told(store, one, dim, attr, value, truth));
     }
     row
 }
@@ -152,11 +145,8 @@ pub(crate) fn feat_row(
         return constant(entries_told(store, node_of(binding, node), table, truth));
     }
     let mut row = NodeSet::empty();
-    for one in 0..node_count(store) {
-        if !care.contains(NodeId(one)) {
-            continue;
-        }
-        row = kept(row, one, entries_told(store, NodeId(one), table, truth));
+    for one in care.iter() {
+        row = kept(row, one.0, entries_told(store, one, table, truth));
     }
     row
 }

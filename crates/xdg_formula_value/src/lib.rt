@@ -1,13 +1,15 @@
 //! What a formula is worth in a box, found for all nodes at once where one name is left, and the propagator of a rule.
 #![tactic(auto)]
 
+mod about;
 mod atoms;
 mod binding;
+mod kept;
 mod kinds;
+mod local;
 mod lost;
 mod pair;
 mod paths;
-mod plain;
 mod possible;
 mod rows;
 mod rule_prop;

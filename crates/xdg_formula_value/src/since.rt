@@ -6,17 +6,17 @@ ghost use Rattle.xdg_problem.specs.Claims.{IsOf, Suits, claim};
 ghost use Rattle.xdg_rules.specs.Worths.{RuleFalse};
 ghost use Rattle.xdg_store.specs.States.{Known};
 ghost use Rattle.xdg_propcore.specs.Standing.{box_at};
-ghost use Rattle.xdg_formula_value.specs.Lost.{AreEarly, HasEarlier, LeadsTo};
+ghost use Rattle.xdg_formula_value.specs.Lost.{HasEarlier, LeadsTo};
 
-use crate::lost::found_since;
-use crate::plain::is_plain;
+use crate::about::found_since;
+use crate::local::is_local;
 use crate::value::is_false;
 use xdg_base::NodeId;
 use xdg_nodeset::NodeSet;
 use xdg_problem::Formula;
 use xdg_store::{Mark, Store};
 
-/// So many removals at most, and a rule is looked at only where names stand for their nodes; behind more it is looked at whole.
+/// So many removals at most, and a rule is looked at only where they can have changed it; behind more it is looked at whole.
 const FEW: usize = 16;
 
 /// A set with a name more.
@@ -29,7 +29,30 @@ fn with_name(names: NodeSet, name: u8) -> NodeSet
     more
 }
 
-/// Whether a rule is false, where it is so exactly if some nodes for some names let the box make a part of it true, or false.
+/// Whether a rule is false, where it is so exactly if some nodes for some names let the box make a part of it true, or false. It wasn't
+/// false in an earlier box.
+fn false_at(
+    store: &Store,
+    formula: &Formula,
+    truth: bool,
+    names: NodeSet,
+    rule: &Formula,
+    since: Mark,
+) -> bool
+    requires suits { Suits store.now.parts rule.now }
+    requires is_of { IsOf store.now.parts (claim formula.now) }
+    requires leads { LeadsTo store.now.parts (claim rule.now) names (claim formula.now) truth }
+    requires earlier { HasEarlier store.now since }
+    requires open { RuleFalse store.now.parts rule.now (box_at store.now since) → ⊥ }
+    ensures { IsTrue result ↔ RuleFalse store.now.parts rule.now store.now.now }
+{
+    if !is_local(store, names, formula, since) {
+        return is_false(store, rule);
+    }
+    found_since(store, names, formula, truth, since)
+}
+
+/// The same. Names of quantifiers that go with the truth are added to the names.
 #[cycle(under)]
 fn false_under(
     store: &Store,
@@ -41,7 +64,6 @@ fn false_under(
 ) -> bool
     requires suits { Suits store.now.parts rule.now }
     requires is_of { IsOf store.now.parts (claim formula.now) }
-    requires early { AreEarly names }
     requires leads { LeadsTo store.now.parts (claim rule.now) names (claim formula.now) truth }
     requires earlier { HasEarlier store.now since }
     requires open { RuleFalse store.now.parts rule.now (box_at store.now since) → ⊥ }
@@ -51,10 +73,10 @@ fn false_under(
         Formula::Not(inner) => false_under(store, inner.get(), !truth, names, rule, since),
         Formula::Every(name, inner) => {
             if truth {
-                return is_false(store, rule);
+                return false_at(store, formula, truth, names, rule, since);
             }
-            if *name >= 8 {
-                return is_false(store, rule);
+            if *name >= 128 {
+                return false_at(store, formula, truth, names, rule, since);
             }
             false_under(
                 store,
@@ -67,10 +89,10 @@ fn false_under(
         }
         Formula::Any(name, inner) => {
             if !truth {
-                return is_false(store, rule);
+                return false_at(store, formula, truth, names, rule, since);
             }
-            if *name >= 8 {
-                return is_false(store, rule);
+            if *name >= 128 {
+                return false_at(store, formula, truth, names, rule, since);
             }
             false_under(
                 store,
@@ -81,17 +103,12 @@ fn false_under(
                 since,
             )
         }
-        _ => {
-            if !is_plain(names, formula) {
-                return is_false(store, rule);
-            }
-            found_since(store, names, formula, truth, since)
-        }
+        _ => false_at(store, formula, truth, names, rule, since),
     }
 }
 
 /// Whether a formula is false in the box of a store, which an earlier box didn't make false. Where few decisions have lost values since
-/// then, and quantifiers stand before a formula without quantifiers and paths, it looks only where names stand for their nodes.
+/// then, it looks only where the names of the first quantifiers, those of one kind, stand for nodes of these decisions.
 pub(crate) fn is_false_since(store: &Store, formula: &Formula, since: Mark) -> bool
     requires suits { Suits store.now.parts formula.now }
     requires earlier { HasEarlier store.now since }

@@ -1,11 +1,10 @@
-use Rattle.std.proofs.Common.{◌≡◌, ◌<◌, ap, arith, sym, subst}
-use Rattle.xdg_nodeset.specs.Nodes.{has}
+use Rattle.std.proofs.Common.{◌≡◌, ◌<◌, ◌∙◌, arith, sym, subst}
 use Rattle.xdg_problem.specs.Boxes.{attr_decision}
 use Rattle.xdg_problem.specs.Places.{nodes}
 use Rattle.xdg_problem.specs.Truths.{HasTruth}
 use Rattle.xdg_rules.specs.Worths.{EachValue}
-use Rattle.xdg_formula_value.specs.Rows.{stands}
-use Rattle.xdg_formula_value.proofs.Rowed.{gathers_more, gathers_none, gathers_row, gathers_skip}
+use Rattle.xdg_formula_value.specs.Rows.{AreFirst, stands}
+use Rattle.xdg_formula_value.proofs.Rowed.{first_later, gathered_more, gathered_row, gathered_start, head_in}
 use Rattle.xdg_formula_value.proofs.Told.{else_row, name_row}
 use Rattle.xdg_formula_value.proofs.atoms.attr_row.Goals as goal
 
@@ -17,17 +16,27 @@ returns-then-node-name c = else_row c.args.care (stands c.args.binding.now) c.ar
     (nodes c.args.store.now.parts) c.attr_told.result c.node_of.result.0 c.attr_told.ensures.known.problem.most c.requires.care c.if-node-name.true c.node_of.ensures c.attr_told.ensures.exact c.constant.ensures
 
 pub loop-one-init : goal.loop-one-init
-loop-one-init c = gathers_none c.args.care (λ v. EachValue c.args.store.now.now (attr_decision c.args.store.now.parts c.args.dim.0 v c.args.attr.0) (λ x. HasTruth c.args.truth (x ≡ c.args.value))) c.empty-row.result (λ v. ap (λ s. has s v) c.empty-row.ensures.value)
-
-pub loop-one-preserved-then-not-contains : goal.loop-one-preserved-then-not-contains
-loop-one-preserved-then-not-contains c = gathers_skip c.loop-one.one c.args.care (λ v. EachValue c.args.store.now.now (attr_decision c.args.store.now.parts c.args.dim.0 v c.args.attr.0) (λ x. HasTruth c.args.truth (x ≡ c.args.value))) c.loop-one.row c.loop-one.invariant (sym c.if-not-contains.ensures.value)
+loop-one-init c = (
+  tt,
+  tt,
+  subst (AreFirst (nodes c.args.store.now.parts)) (sym (c.into_iter-one-iterator.ensures.into_iter_gives ∙ c.iter-one-items.ensures.value)) c.requires.care,
+  gathered_start c.args.care c.into_iter-one-iterator.result (λ v. EachValue c.args.store.now.now (attr_decision c.args.store.now.parts c.args.dim.0 v c.args.attr.0) (λ x. HasTruth c.args.truth (x ≡ c.args.value))) c.empty-row.result (c.into_iter-one-iterator.ensures.into_iter_gives ∙ c.iter-one-items.ensures.value) c.empty-row.ensures.value,
+)
 
 pub attr_told-requires-in-loop-one : goal.attr_told-requires-in-loop-one
-attr_told-requires-in-loop-one c = record { node_in = (let t = c.loop-one-test.true in let e = c.node_count-one-end.ensures.size in omega (arith, t, e)); dim_in = c.requires.dim; attr_in = c.requires.attr; value_in = c.requires.value }
+attr_told-requires-in-loop-one c = record { node_in = c.loop-one.invariant.2 c.in-Some.one.0 (head_in c.loop-one.one-iterator c.next.new.self c.in-Some.one.0 c.in-Some.ensures.steps); dim_in = c.requires.dim; attr_in = c.requires.attr; value_in = c.requires.value }
+
+pub kept-row-requires : goal.kept-row-requires
+kept-row-requires c = (let l = c.loop-one.invariant.2 c.in-Some.one.0 (head_in c.loop-one.one-iterator c.next.new.self c.in-Some.one.0 c.in-Some.ensures.steps) in let most = c.attr_told-in-loop-one.ensures.known.problem.most in omega (arith, l, most))
 
 pub loop-one-preserved : goal.loop-one-preserved
-loop-one-preserved c = gathers_more c.loop-one.one c.args.care (λ v. EachValue c.args.store.now.now (attr_decision c.args.store.now.parts c.args.dim.0 v c.args.attr.0) (λ x. HasTruth c.args.truth (x ≡ c.args.value))) c.attr_told-in-loop-one.result c.loop-one.row c.kept-row.result c.loop-one.invariant c.attr_told-in-loop-one.ensures.exact c.kept-row.ensures
+loop-one-preserved c = (
+  tt,
+  tt,
+  first_later (nodes c.args.store.now.parts) c.loop-one.one-iterator c.next.new.self c.in-Some.one.0 c.in-Some.ensures.steps c.loop-one.invariant.2,
+  gathered_more c.args.care c.loop-one.one-iterator c.next.new.self (λ v. EachValue c.args.store.now.now (attr_decision c.args.store.now.parts c.args.dim.0 v c.args.attr.0) (λ x. HasTruth c.args.truth (x ≡ c.args.value))) c.in-Some.one.0 c.attr_told-in-loop-one.result c.loop-one.row c.kept-row.result c.in-Some.ensures.steps c.attr_told-in-loop-one.ensures.exact c.kept-row.ensures c.loop-one.invariant.3,
+)
 
 pub returns : goal.returns
 returns c = name_row c.args.care (stands c.args.binding.now) c.args.name c.args.node (λ v. EachValue c.args.store.now.now (attr_decision c.args.store.now.parts c.args.dim.0 v c.args.attr.0) (λ x. HasTruth c.args.truth (x ≡ c.args.value))) c.loop-one.row c.if-node-name.false
-    (gathers_row (nodes c.args.store.now.parts) c.loop-one.one c.args.care (λ v. EachValue c.args.store.now.now (attr_decision c.args.store.now.parts c.args.dim.0 v c.args.attr.0) (λ x. HasTruth c.args.truth (x ≡ c.args.value))) c.loop-one.row (let t = c.loop-one-test.false in let e = c.node_count-one-end.ensures.size in omega (arith, t, e)) c.requires.care c.loop-one.invariant)
+    (gathered_row c.args.care c.loop-one.one-iterator (λ v. EachValue c.args.store.now.now (attr_decision c.args.store.now.parts c.args.dim.0 v c.args.attr.0) (λ x. HasTruth c.args.truth (x ≡ c.args.value))) c.loop-one.row c.in-None.ensures.steps.0 c.loop-one.invariant.3)

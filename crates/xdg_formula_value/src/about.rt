@@ -1,0 +1,367 @@
+//! What the loss of values can have changed: a formula is looked at only under bindings under which it looks at a decision that lost some.
+
+ghost use Rattle.std.specs.Prelude.{◌≡◌, ◌≢◌, ◌<◌, ◌↔◌, ℕ, IsTrue, true};
+ghost use Rattle.xdg_nodeset.specs.Nodes.{has};
+ghost use Rattle.xdg_problem.specs.Analyses.{IsPlace};
+ghost use Rattle.xdg_problem.specs.Claims.{IsOf, claim};
+ghost use Rattle.xdg_problem.specs.Places.{nodes};
+ghost use Rattle.xdg_problem.specs.Truths.{unbound};
+ghost use Rattle.xdg_rules.specs.WorthLaws.{AreNodes};
+ghost use Rattle.xdg_rules.specs.Worths.{Makes};
+ghost use Rattle.xdg_store.specs.Decisions.{IsDecision};
+ghost use Rattle.xdg_propcore.specs.Standing.{box_at};
+ghost use Rattle.xdg_formula_value.specs.Filling.{ArePaths};
+ghost use Rattle.xdg_formula_value.specs.Lost.{AgreeBut, AsksOn, Concerns, Finds, HasEarlier, IsAttrOf, IsEdgeOf, IsEntryOf, OnNames, PathsStay};
+ghost use Rattle.xdg_formula_value.specs.Rows.{stands};
+
+use crate::binding::{bind, none_bound};
+use crate::lost::{fewer, found};
+use crate::paths::Paths;
+use xdg_base::{AttrId, DimId, LabelId, NodeId};
+use xdg_nodeset::NodeSet;
+use xdg_problem::{Edge, Formula};
+use xdg_store::{Decision, Mark, Store};
+
+/// Whether a name is one of some.
+pub(crate) fn is_named(names: NodeSet, name: u8) -> bool
+    ensures { IsTrue result → (name < 128) × (has names name ≡ true) }
+{
+    if name >= 128 {
+        return false;
+    }
+    names.contains(NodeId(name))
+}
+
+/// Those of some names for which nodes stand also under a quantifier that binds a name.
+pub(crate) fn outside(names: NodeSet, name: u8) -> NodeSet
+    ensures { (n : ℕ) → has result n ≡ true → (n ≢ name) × (has names n ≡ true) }
+{
+    if name >= 128 {
+        return NodeSet::empty();
+    }
+    fewer(names, name)
+}
+
+/// Whether some nodes for free names, and for others those of a binding, let the box make a formula true, or false, where a name that is
+/// one of some stands for a node.
+fn found_named(
+    store: &Store,
+    paths: &Paths,
+    binding: &[u8; 256],
+    free: NodeSet,
+    names: NodeSet,
+    name: u8,
+    node: NodeId,
+    formula: &Formula,
+    truth: bool,
+) -> bool
+    requires paths { ArePaths store.now paths.now }
+    requires is_of { IsOf store.now.parts (claim formula.now) }
+    requires nodes { AreNodes store.now.parts (stands binding.now) }
+    requires node { node.0 < nodes store.now.parts }
+    ensures { Finds store.now.parts store.now.now (claim formula.now) truth
+        (λ b. AgreeBut free (stands binding.now) b × (has names name ≡ true → b name ≡ node.0)) result }
+{
+    if !is_named(names, name) {
+        return found(store, paths, binding, free, formula, truth);
+    }
+    let here = bind(binding, name, node.0);
+    found(store, paths, &here, fewer(free, name), formula, truth)
+}
+
+/// The same, where a decision is that of the entry of the node for which a name stands.
+fn found_entry(
+    store: &Store,
+    paths: &Paths,
+    free: NodeSet,
+    names: NodeSet,
+    decision: Decision,
+    name: u8,
+    formula: &Formula,
+    truth: bool,
+) -> bool
+    requires paths { ArePaths store.now paths.now }
+    requires is_of { IsOf store.now.parts (claim formula.now) }
+    requires decision { IsDecision store.now.parts decision }
+    ensures { Finds store.now.parts store.now.now (claim formula.now) truth
+        (λ b. AgreeBut free unbound b × OnNames names (λ a. IsEntryOf decision (a name)) b) result }
+{
+    // Each store holds a box.
+    let _ = store.turns();
+    match decision {
+        Decision::Entry(node) => {
+            found_named(
+                store,
+                paths,
+                &none_bound(),
+                free,
+                names,
+                name,
+                node,
+                formula,
+                truth,
+            )
+        }
+        Decision::Attr(_, _, _) => false,
+        Decision::Place(_) => false,
+    }
+}
+
+/// Whether an attribute of a dimension is another.
+fn is_attr(on: DimId, which: AttrId, dim: DimId, attr: AttrId) -> bool
+    ensures { IsTrue result ↔ ((on.0 ≡ dim.0) × (which.0 ≡ attr.0)) }
+{
+    on.0 == dim.0 && which.0 == attr.0
+}
+
+/// The same, where a decision is that of an attribute of the node for which a name stands.
+fn found_attr(
+    store: &Store,
+    paths: &Paths,
+    free: NodeSet,
+    names: NodeSet,
+    decision: Decision,
+    name: u8,
+    dim: DimId,
+    attr: AttrId,
+    formula: &Formula,
+    truth: bool,
+) -> bool
+    requires paths { ArePaths store.now paths.now }
+    requires is_of { IsOf store.now.parts (claim formula.now) }
+    requires decision { IsDecision store.now.parts decision }
+    ensures { Finds store.now.parts store.now.now (claim formula.now) truth
+        (λ b. AgreeBut free unbound b × OnNames names (λ a. IsAttrOf decision dim.0 (a name) attr.0) b) result }
+{
+    // Each store holds a box.
+    let _ = store.turns();
+    match decision {
+        Decision::Entry(_) => false,
+        Decision::Attr(on, node, which) => {
+            if !is_attr(on, which, dim, attr) {
+                return false;
+            }
+            found_named(
+                store,
+                paths,
+                &none_bound(),
+                free,
+                names,
+                name,
+                node,
+                formula,
+                truth,
+            )
+        }
+        Decision::Place(_) => false,
+    }
+}
+
+/// Whether an edge is on a dimension and has a label.
+fn has_label(edge: Edge, dim: DimId, label: LabelId) -> bool
+    ensures { IsTrue result ↔ ((edge.dim.0 ≡ dim.0) × (edge.label.0 ≡ label.0)) }
+{
+    edge.dim.0 == dim.0 && edge.label.0 == label.0
+}
+
+/// The same, where two names stand for the nodes of an edge.
+fn found_ends(
+    store: &Store,
+    paths: &Paths,
+    free: NodeSet,
+    names: NodeSet,
+    edge: Edge,
+    mother: u8,
+    daughter: u8,
+    formula: &Formula,
+    truth: bool,
+) -> bool
+    requires paths { ArePaths store.now paths.now }
+    requires is_of { IsOf store.now.parts (claim formula.now) }
+    requires place { IsPlace store.now.parts edge }
+    ensures { Finds store.now.parts store.now.now (claim formula.now) truth
+        (λ b. AgreeBut free unbound b × OnNames names (λ a. (edge.mother.0 ≡ a mother) × (edge.daughter.0 ≡ a daughter)) b) result }
+{
+    if mother == daughter {
+        return false;
+    }
+    if !is_named(names, mother) {
+        return found_named(
+            store,
+            paths,
+            &none_bound(),
+            free,
+            names,
+            daughter,
+            edge.daughter,
+            formula,
+            truth,
+        );
+    }
+    let here = bind(&none_bound(), mother, edge.mother.0);
+    found_named(
+        store,
+        paths,
+        &here,
+        fewer(free, mother),
+        names,
+        daughter,
+        edge.daughter,
+        formula,
+        truth,
+    )
+}
+
+/// The same, where a decision is that of an edge with a label of which they are the nodes.
+fn found_edge(
+    store: &Store,
+    paths: &Paths,
+    free: NodeSet,
+    names: NodeSet,
+    decision: Decision,
+    dim: DimId,
+    mother: u8,
+    label: LabelId,
+    daughter: u8,
+    formula: &Formula,
+    truth: bool,
+) -> bool
+    requires paths { ArePaths store.now paths.now }
+    requires is_of { IsOf store.now.parts (claim formula.now) }
+    requires decision { IsDecision store.now.parts decision }
+    ensures { Finds store.now.parts store.now.now (claim formula.now) truth
+        (λ b. AgreeBut free unbound b × OnNames names (λ a. IsEdgeOf decision dim.0 (a mother) label.0 (a daughter)) b) result }
+{
+    match decision {
+        Decision::Entry(_) => false,
+        Decision::Attr(_, _, _) => false,
+        Decision::Place(edge) => {
+            if !has_label(edge, dim, label) {
+                return false;
+            }
+            found_ends(
+                store, paths, free, names, edge, mother, daughter, formula, truth,
+            )
+        }
+    }
+}
+
+/// Whether some nodes for free names let the box make a formula true, or false, where a decision is one at which a part of it looks. For
+/// which nodes some of the names stand follows from the decision.
+#[cycle(about)]
+fn found_about(
+    store: &Store,
+    paths: &Paths,
+    free: NodeSet,
+    names: NodeSet,
+    decision: Decision,
+    part: &Formula,
+    formula: &Formula,
+    truth: bool,
+) -> bool
+    requires paths { ArePaths store.now paths.now }
+    requires is_of { IsOf store.now.parts (claim formula.now) }
+    requires decision { IsDecision store.now.parts decision }
+    ensures { Finds store.now.parts store.now.now (claim formula.now) truth
+        (λ b. AgreeBut free unbound b × OnNames names (Concerns decision (claim part.now)) b) result }
+{
+    match part {
+        Formula::Not(inner) => {
+            found_about(
+                store,
+                paths,
+                free,
+                names,
+                decision,
+                inner.get(),
+                formula,
+                truth,
+            )
+        }
+        Formula::And(parts) => {
+            for one in parts.as_slice() {
+                if found_about(store, paths, free, names, decision, one, formula, truth) {
+                    return true;
+                }
+            }
+            false
+        }
+        Formula::Or(parts) => {
+            for one in parts.as_slice() {
+                if found_about(store, paths, free, names, decision, one, formula, truth) {
+                    return true;
+                }
+            }
+            false
+        }
+        Formula::Every(name, inner) => {
+            let rest = outside(names, *name);
+            found_about(
+                store,
+                paths,
+                free,
+                rest,
+                decision,
+                inner.get(),
+                formula,
+                truth,
+            )
+        }
+        Formula::Any(name, inner) => {
+            let rest = outside(names, *name);
+            found_about(
+                store,
+                paths,
+                free,
+                rest,
+                decision,
+                inner.get(),
+                formula,
+                truth,
+            )
+        }
+        Formula::Edge(dim, mother, label, daughter) => {
+            found_edge(
+                store, paths, free, names, decision, *dim, *mother, *label, *daughter, formula,
+                truth,
+            )
+        }
+        Formula::Above(_, _, _) => false,
+        Formula::Left(_, _) => false,
+        Formula::Same(_, _) => false,
+        Formula::Attr(name, dim, attr, _) => {
+            found_attr(
+                store, paths, free, names, decision, *name, *dim, *attr, formula, truth,
+            )
+        }
+        Formula::Feat(name, _) => {
+            found_entry(store, paths, free, names, decision, *name, formula, truth)
+        }
+    }
+}
+
+/// Whether some nodes for names let the box make a formula true, or false, where they didn't let an earlier box and the paths of which it
+/// asks are as they were. It looks only where a part of the formula looks at a decision that has lost values, and makes no tables of paths.
+pub(crate) fn found_since(
+    store: &Store,
+    names: NodeSet,
+    formula: &Formula,
+    truth: bool,
+    since: Mark,
+) -> bool
+    requires is_of { IsOf store.now.parts (claim formula.now) }
+    requires asks { AsksOn (PathsStay store.now.parts (box_at store.now since) store.now.now) (claim formula.now) }
+    requires earlier { HasEarlier store.now since }
+    ensures { Finds store.now.parts store.now.now (claim formula.now) truth
+        (λ b. AgreeBut names unbound b × (Makes store.now.parts (box_at store.now since) (claim formula.now) truth b → ⊥)) result }
+{
+    let paths = Paths::of(store, None, None);
+    for decision in store.removed_since(since) {
+        if found_about(
+            store, &paths, names, names, *decision, formula, formula, truth,
+        ) {
+            return true;
+        }
+    }
+    false
+}

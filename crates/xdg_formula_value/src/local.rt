@@ -1,0 +1,73 @@
+//! Formulas that are looked at only where values were lost.
+
+ghost use Rattle.std.specs.Prelude.{IsTrue};
+ghost use Rattle.xdg_problem.specs.Claims.{claim};
+ghost use Rattle.xdg_propcore.specs.Standing.{box_at};
+ghost use Rattle.xdg_formula_value.specs.Lost.{AsksOn, HasEarlier, PathsStay};
+
+use crate::about::{is_named, outside};
+use crate::kept::are_paths_kept;
+use xdg_nodeset::NodeSet;
+use xdg_problem::Formula;
+use xdg_store::{Mark, Store};
+
+/// Whether at most one value was removed since a mark.
+fn is_single(store: &Store, since: Mark) -> bool
+    requires earlier { HasEarlier store.now since }
+{
+    store.removed_since(since).len() <= 1
+}
+
+/// Whether a formula can be looked at only where decisions have lost values since a mark: the paths for which it asks are as they were. It
+/// says no also where that could be as dear as to look at the whole: where an edge, an attribute or an entry has none of some names, and
+/// where the formula has quantifiers or asks for paths, of which no tables are made then, and more than one value was removed.
+#[cycle(local)]
+pub(crate) fn is_local(store: &Store, names: NodeSet, formula: &Formula, since: Mark) -> bool
+    requires earlier { HasEarlier store.now since }
+    ensures { IsTrue result → AsksOn (PathsStay store.now.parts (box_at store.now since) store.now.now) (claim formula.now) }
+{
+    match formula {
+        Formula::Not(inner) => is_local(store, names, inner.get(), since),
+        Formula::And(parts) => {
+            for part in parts.as_slice() {
+                if !is_local(store, names, part, since) {
+                    return false;
+                }
+            }
+            true
+        }
+        Formula::Or(parts) => {
+            for part in parts.as_slice() {
+                if !is_local(store, names, part, since) {
+                    return false;
+                }
+            }
+            true
+        }
+        Formula::Every(name, inner) => {
+            if !is_single(store, since) {
+                return false;
+            }
+            is_local(store, outside(names, *name), inner.get(), since)
+        }
+        Formula::Any(name, inner) => {
+            if !is_single(store, since) {
+                return false;
+            }
+            is_local(store, outside(names, *name), inner.get(), since)
+        }
+        Formula::Edge(_, mother, _, daughter) => {
+            is_named(names, *mother) || is_named(names, *daughter)
+        }
+        Formula::Above(dim, _, _) => {
+            if !is_single(store, since) {
+                return false;
+            }
+            are_paths_kept(store, *dim, since)
+        }
+        Formula::Left(_, _) => true,
+        Formula::Same(_, _) => true,
+        Formula::Attr(name, _, _, _) => is_named(names, *name),
+        Formula::Feat(name, _) => is_named(names, *name),
+    }
+}
