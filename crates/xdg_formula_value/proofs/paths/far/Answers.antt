@@ -6,14 +6,14 @@ use Rattle.xdg_formula_value.proofs.Tabled.{at_node, at_which}
 use Rattle.xdg_formula_value.proofs.paths.far.Goals as goal
 
 pub returns-in_default : goal.returns-in_default
-returns-in_default c = at_node c.args.way c.args.which c.args.store.now c.args.dim.0 c.table.result c.args.node.0 c.set_at.result c.table.ensures c.set_at.ensures
+returns-in_default c = c.far_anew.ensures
 
 pub returns-then-not-filled-dim : goal.returns-then-not-filled-dim
-returns-then-not-filled-dim c = at_node c.args.way c.args.which c.args.store.now c.args.dim.0 c.table-then-not-filled-dim.result c.args.node.0 c.set_at-then-not-filled-dim.result c.table-then-not-filled-dim.ensures c.set_at-then-not-filled-dim.ensures
+returns-then-not-filled-dim c = c.far_anew-then-not-filled-dim.ensures
 
 pub returns-in-May : goal.returns-in-May
-returns-in-May c = (let filled = subst (λ o. IfSome o (λ it. AreFilled c.args.way c.args.store.now it.now)) c.in-Some.is c.requires.filled in at_which c.args.way c.args.which whichs.May c.args.store.now c.args.dim.0 c.args.node.0 c.set_at-in-May.result c.in-May.is
-    (at_node c.args.way whichs.May c.args.store.now c.args.dim.0 (slice_index_or c.in-Some.filled.now.may c.args.dim.0 []) c.args.node.0 c.set_at-in-May.result (filled.may c.args.dim.0 c.requires.dim c.if-not-filled-dim.false) c.set_at-in-May.ensures))
+returns-in-May c = (let filled = subst (λ o. IfSome o (λ it. AreFilled c.args.way c.args.store.now it.now)) c.in-Some.is c.requires.filled in at_which c.args.way c.args.which whichs.May c.args.store.now c.args.dim.0 c.args.node.0 c.set_at.result c.in-May.is
+    (at_node c.args.way whichs.May c.args.store.now c.args.dim.0 (slice_index_or c.in-Some.filled.now.may c.args.dim.0 []) c.args.node.0 c.set_at.result (filled.may c.args.dim.0 c.requires.dim c.if-not-filled-dim.false) c.set_at.ensures))
 
 pub returns-in-Must : goal.returns-in-Must
 returns-in-Must c = (let filled = subst (λ o. IfSome o (λ it. AreFilled c.args.way c.args.store.now it.now)) c.in-Some.is c.requires.filled in at_which c.args.way c.args.which whichs.Must c.args.store.now c.args.dim.0 c.args.node.0 c.set_at-in-Must.result c.in-Must.is
