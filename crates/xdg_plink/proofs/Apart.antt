@@ -90,12 +90,6 @@ module _ (parts : Parts) (group : Group) (box : List (List Bool)) (is : IsBox (s
   pub second_gone : ((label : ℕ) → label < edge_labels parts (second_dim group) → Has box (edge_decision parts (edge (second_dim group) place.mother.0 label place.daughter.0)) 0 → ⊥) → IsSecondDone parts group place box
   second_gone gone d v has rule at says = gone rule.other.label.0 (other_label d v rule) (subst (λ e. Has box (edge_decision parts e) 0) (other_of d v rule at) (present_here parts box rule.other d v says has))
 
-  -- where the entries don't ask
-  pub done_unasked : (Asks → ⊥) → IsDoneAt parts group place box
-  done_unasked none d v has takes =
-      let (rule, at) = subst (λ p. TakesAt p parts group box place d v) same takes in
-      none (subst (λ (e : Edge). EachEntry box e.mother.0 (λ c. Contains (set_row group e.mother.0 c) e.label.0)) at rule.keeps)
-
   -- both edges are done
   pub done_both : IsFirstDone parts group place box → IsSecondDone parts group place box → IsDoneAt parts group place box
   done_both first second d v has takes =
@@ -141,10 +135,6 @@ new_box : (group : Group) (p q : Progress) (old new : State) → Goes group p ol
 new_box group p q old new goes known = subst (λ parts. IsBox (shape parts) new.now) goes.extends.same known.is_box
 
 module _ (group : Group) (place : Edge) (p : Progress) (old : State) (can : CanPart group place old) where
-  -- the entries don't ask
-  pub part_unasked : (AsksApart group place old.now → ⊥) → Sweeps group (IsDoneAt old.parts group place) p old p old
-  part_unasked none = sweeps_start group (IsDoneAt old.parts group place) p old can.0.known (done_unasked old.parts group old.now can.0.known.is_box can.1 place can.0.place_is can.0.on none)
-
   module _ (asks : AsksApart group place old.now) where
     pub first_kept : (dim : ℕ) → dim ≡ second_dim group → (MustJoin old.parts old.now dim place.mother.0 place.daughter.0 (edge_labels old.parts dim) → ⊥) → Sweeps group (IsFirstDone old.parts group place) p old p old
     first_kept dim at none = sweeps_start group (IsFirstDone old.parts group place) p old can.0.known

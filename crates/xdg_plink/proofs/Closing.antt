@@ -1,5 +1,5 @@
 -- Where nothing is left to take at each place, the box is closed for the principle use.
-use Rattle.std.proofs.Common.{ℕ, inl, inr, Bool, List, refl, ap, arith, subst}
+use Rattle.std.proofs.Common.{ℕ, inl, inr, Bool, List, refl, ap, arith}
 use Rattle.xdg_problem.specs.declared.analysis.Edge.{Edge}
 use Rattle.xdg_problem.specs.declared.parts.Group.{Group}
 use Rattle.xdg_problem.specs.declared.parts.Parts.{Parts}
@@ -12,9 +12,10 @@ use Rattle.xdg_problem.specs.Vectors.{shape}
 use Rattle.xdg_problem.proofs.PlaceOrder.{is_place}
 use Rattle.xdg_rules.specs.Rules.{IsClosedFor, IsPlaceOn, TakesBy}
 use Rattle.xdg_plink.specs.Family.{IsLinking}
-use Rattle.xdg_plink.specs.Steps.{AreMothersDone, IsExact, TakesAt}
+use Rattle.xdg_plink.specs.Steps.{AreMothersDone, IsDoneAt, IsExact, TakesAt}
+use Rattle.xdg_plink.specs.Untouched.{AreOthersDone, IsFree}
+use Rattle.xdg_plink.specs.declared.near.Near.{Near}
 use Rattle.xdg_graph.specs.Edges.{edge_labels}
-use Rattle.xdg_plink.proofs.Places.{edge_at}
 use Rattle.xdg_graph.proofs.Labelled.{label_below}
 use Rattle.xdg_plink.proofs.Failing.{none_fails}
 
@@ -42,16 +43,21 @@ at_place principles.Barriers f parts group box d v t = absurd f
 at_place (principles.Rule formula) f parts group box d v t = absurd f
 at_place (principles.Bound costs bound) f parts group box d v t = absurd f
 
-pub all_done : (parts : Parts) (group : Group) (table : List (List ℕ)) (box : List (List Bool)) → IsBox (shape parts) box → IsLinking group.principle → IsExact parts group table box → AreMothersDone parts group table (nodes parts) box → IsClosedFor parts group box
-all_done parts group table box is linking exact done d v has takes = elim takes [
+pub closed_by_places : (parts : Parts) (group : Group) (box : List (List Bool)) → IsBox (shape parts) box → IsLinking group.principle → ((e : Edge) → IsPlaceOn parts (first_dim group) e → IsDoneAt parts group e box) → IsClosedFor parts group box
+closed_by_places parts group box is linking done d v has takes = elim takes [
   | inl failing ↦ none_fails parts group box is linking none failing
   | inr rule ↦ none d v has rule
 ] where
   none : (d x : ℕ) → Has box d x → TakesBy group.principle parts group box d x → ⊥
-  none d x h rule =
-      let (e, on, takes) = at_place group.principle linking parts group box d x rule in
-      let place = is_place parts e on.0 in
-      let below = label_below parts e place in
-      let same = ap (edge_labels parts) on.1 in
-      let at = edge_at e (first_dim group) e.mother.0 e.label.0 e.daughter.0 on.1 refl refl refl in
-      done e.mother.0 place.mother e.label.0 (omega (arith, below, same)) exact e.daughter.0 place.daughter d x h (subst (λ f. TakesAt group.principle parts group box f d x) at takes)
+  none d x h rule = (let (e, on, takes) = at_place group.principle linking parts group box d x rule in done e on d x h takes)
+
+pub all_done : (parts : Parts) (group : Group) (table : List (List ℕ)) (box : List (List Bool)) → IsBox (shape parts) box → IsLinking group.principle → IsExact parts group table box → AreMothersDone parts group table (nodes parts) box → IsClosedFor parts group box
+all_done parts group table box is linking exact done = closed_by_places parts group box is linking (λ e on.
+    let place = is_place parts e on.0 in
+    let below = label_below parts e place in
+    let same = ap (edge_labels parts) on.1 in
+    done e.mother.0 place.mother e.label.0 (omega (arith, below, same)) exact e on refl refl)
+
+-- so it is where nothing was lost near any
+pub closed_free : (near : Near) (parts : Parts) (group : Group) (box : List (List Bool)) → IsBox (shape parts) box → IsLinking group.principle → AreOthersDone near parts group box → ((u v : ℕ) → IsFree near u v) → IsClosedFor parts group box
+closed_free near parts group box is linking others free = closed_by_places parts group box is linking (λ e on. others e on (free e.mother.0 e.daughter.0))

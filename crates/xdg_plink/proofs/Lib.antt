@@ -4,8 +4,12 @@ pub mod Edges
 pub mod Leading
 pub mod Linking
 pub mod Sweeping
-pub mod Absent
+pub mod Present
 pub mod Apart
+pub mod Daughters
+pub mod Nearness
+pub mod Keeping
+pub mod Others
 pub mod Closing
 pub mod Staying
 pub mod Swept

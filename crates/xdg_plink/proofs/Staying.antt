@@ -6,7 +6,6 @@ use Rattle.xdg_problem.specs.declared.parts.Principle.{Principle}
 use Rattle.xdg_problem.specs.declared.parts.Principle.TheVariants as principles
 use Rattle.xdg_problem.specs.Arguments.{first_dim, second_dim}
 use Rattle.xdg_problem.specs.Boxes.{Has, LiesIn, entry_decision}
-use Rattle.xdg_problem.specs.Features.{map_row}
 use Rattle.xdg_problem.specs.Places.{nodes}
 use Rattle.xdg_problem.specs.Problems.{IsProblem}
 use Rattle.xdg_problem.proofs.PlaceOrder.{is_place}
@@ -17,6 +16,7 @@ use Rattle.xdg_propcore.specs.UseKinds.{looks_at_entries, looks_at_first, looks_
 use Rattle.xdg_propcore.proofs.Unseen.{LooksOn, entry_stays, may_stay, must_before}
 use Rattle.xdg_plink.specs.Family.{IsLinking}
 use Rattle.xdg_plink.proofs.Failing.{none_fails}
+use Rattle.xdg_plink.proofs.Keeping.{apart_before, reach_before}
 
 looks : (p : Principle) → IsLinking p → (looks_at_entries p ≡ true) × (looks_at_first p ≡ true) × (looks_at_second p ≡ true)
 looks principles.LinkingEnd f = (refl, refl, refl)
@@ -47,36 +47,17 @@ module _ (parts : Parts) (group : Group) (old new : List (List Bool)) (problem :
 
   reach_kept : (d v : ℕ) → LinkingReach parts group new d v → LinkingReach parts group old d v
   reach_kept d v rule =
-      let u = rule.place.mother.0 in
       let within = (is_place parts rule.place rule.is.0).mother in
-      record {
-        place = rule.place;
-        is = rule.is;
-        says = rule.says;
-        links = λ c remains. rule.links c (entries u c within remains);
-        apart =
-            λ c remains link. rule.apart c (entries u c within remains)
-            (linked_among (may_edges parts old (second_dim group)) (may_edges parts new (second_dim group)) may_kept group.principle u
-            (map_row group u c rule.place.label.0) rule.place.daughter.0 link);
-      }
+      reach_before parts group old new d v rule (λ c. entries rule.place.mother.0 c within)
+      (λ labels. linked_among (may_edges parts old (second_dim group)) (may_edges parts new (second_dim group)) may_kept group.principle rule.place.mother.0
+      labels rule.place.daughter.0)
 
   apart_kept : (d v : ℕ) → LinkingNotDaughter parts group new d v → LinkingNotDaughter parts group old d v
   apart_kept d v rule =
-      let u = rule.place.mother.0 in
       let within = (is_place parts rule.place rule.is.0).mother in
-      record {
-        place = rule.place;
-        is = rule.is;
-        other = rule.other;
-        other_is = rule.other_is;
-        mother = rule.mother;
-        daughter = rule.daughter;
-        keeps = λ c remains. rule.keeps c (entries u c within remains);
-        one = elim rule.one [
-          | inl first ↦ inl (first.0, must_before parts group old new unseen (second_dim group) on_second rule.other first.1)
-          | inr second ↦ inr (second.0, must_before parts group old new unseen (first_dim group) on_first rule.place second.1)
-        ];
-      }
+      apart_before parts group old new d v rule (λ c. entries rule.place.mother.0 c within)
+      (must_before parts group old new unseen (first_dim group) on_first rule.place)
+      (must_before parts group old new unseen (second_dim group) on_second rule.other)
 
   takes_kept : (p : Principle) → IsLinking p → (d v : ℕ) → TakesBy p parts group new d v → TakesBy p parts group old d v
   takes_kept principles.LinkingEnd f d v t = reach_kept d v t

@@ -1,6 +1,6 @@
 -- Parts of a step, one after another.
-use Rattle.std.proofs.Common.{◌≡◌, ◌≢◌, ℕ, ◌<◌, ◌≤◌, ◌+◌, ◌↔◌, inl, inr, Bool, true, false, IsTrue, List, refl, sym, ◌∙◌, arith, subst}
-use Rattle.std.specs.Prelude.{Contains}
+use Rattle.std.proofs.Common.{◌≡◌, ℕ, ◌<◌, ◌≤◌, ◌+◌, ◌↔◌, inl, inr, Bool, true, false, IsTrue, List, refl, sym, ◌∙◌, arith, subst}
+use Rattle.std.specs.Prelude.{length}
 use Rattle.std.proofs.lemmas.Bool.{cases_lt, false≢true}
 use Rattle.xdg_problem.specs.declared.analysis.Edge.{Edge}
 use Rattle.xdg_problem.specs.declared.parts.Group.{Group}
@@ -11,12 +11,12 @@ use Rattle.xdg_problem.specs.Analyses.{IsPlace}
 use Rattle.xdg_problem.specs.Arguments.{first_dim, second_dim}
 use Rattle.xdg_problem.specs.Boxes.{Has, IsBox, LiesIn, edge_decision}
 use Rattle.xdg_problem.specs.Features.{map_row}
-use Rattle.xdg_problem.specs.Places.{edge, nodes, places}
+use Rattle.xdg_problem.specs.Places.{nodes}
 use Rattle.xdg_problem.specs.Problems.{IsGroup}
 use Rattle.xdg_problem.specs.Vectors.{shape}
 use Rattle.xdg_problem.proofs.Looking.{any_of}
-use Rattle.xdg_problem.proofs.PlaceOrder.{is_place, place_is}
-use Rattle.xdg_rules.specs.Rules.{LinkingReach, Takes, TakesBy, may_edges}
+use Rattle.xdg_problem.proofs.PlaceOrder.{place_is}
+use Rattle.xdg_rules.specs.Rules.{EachEntry, LinkingReach, Takes, TakesBy, may_edges}
 use Rattle.xdg_rules.proofs.Among.{above_among}
 use Rattle.xdg_rules.proofs.Shrinking.{may_among}
 use Rattle.xdg_store.specs.States.{State, Known}
@@ -24,7 +24,7 @@ use Rattle.xdg_propcore.specs.Passes.{Progress, Goes}
 use Rattle.xdg_propcore.proofs.Sweeping.{sweeps_next, sweeps_skip, sweeps_start}
 use Rattle.xdg_plink.specs.Family.{IsLinking, Reaches}
 use Rattle.xdg_propcore.specs.Sweeps.{Sweeps}
-use Rattle.xdg_plink.specs.Steps.{AreLabelsDone, AreMothersDone, AreNodesDone, DoneAt, IsCut, IsDoneAt, IsExact, IsReady, TakesAt}
+use Rattle.xdg_plink.specs.Steps.{AreLabelsDone, AreMothersDone, Asks, DoneAt, IsCut, IsExact, IsLabelDone, IsReady, TakesAt}
 use Rattle.xdg_graph.specs.Edges.{edge_labels}
 use Rattle.xdg_plink.specs.Ways.{Covers, way_of}
 use Rattle.xdg_plink.specs.declared.way.Way.{Way}
@@ -97,6 +97,27 @@ reach_takes principles.Barriers r parts group box d v t = absurd r
 reach_takes (principles.Rule formula) r parts group box d v t = absurd r
 reach_takes (principles.Bound costs bound) r parts group box d v t = absurd r
 
+-- a linking principle that asks for no edges keeps them apart
+pub not_reaching : (p : Principle) → IsLinking p → (Reaches p → ⊥) → p ≡ principles.LinkingNotDaughter
+not_reaching principles.LinkingEnd l free = absurd (free tt)
+not_reaching principles.LinkingDaughter l free = absurd (free tt)
+not_reaching principles.LinkingMother l free = absurd (free tt)
+not_reaching principles.LinkingBelowStart l free = absurd (free tt)
+not_reaching principles.LinkingAboveStart l free = absurd (free tt)
+not_reaching principles.LinkingSisters l free = absurd (free tt)
+not_reaching principles.LinkingNotDaughter l free = refl
+not_reaching p l free = absurd l
+
+-- of one that asks for edges the entries ask for a link
+pub asks_link : (p : Principle) → Reaches p → (group : Group) (box : List (List Bool)) (u label : ℕ) → Asks p group box u label ↔ EachEntry box u (λ c. 0 < length (map_row group u c label))
+asks_link principles.LinkingEnd r group box u label = (λ asks. asks, λ each. each)
+asks_link principles.LinkingDaughter r group box u label = (λ asks. asks, λ each. each)
+asks_link principles.LinkingMother r group box u label = (λ asks. asks, λ each. each)
+asks_link principles.LinkingBelowStart r group box u label = (λ asks. asks, λ each. each)
+asks_link principles.LinkingAboveStart r group box u label = (λ asks. asks, λ each. each)
+asks_link principles.LinkingSisters r group box u label = (λ asks. asks, λ each. each)
+asks_link p r group box u label = absurd r
+
 -- ---- one place
 
 module _ (group : Group) (table : List (List ℕ)) (p : Progress) (s : State) (place : Edge) (ready : IsReady group table s) (reaches : Reaches group.principle) where
@@ -109,7 +130,6 @@ module _ (group : Group) (table : List (List ℕ)) (p : Progress) (s : State) (p
       let (rule, same) = reach_at group.principle reaches s.parts group box place d v takes in
       subst (λ e. IsCut s.parts group table box e) same (
         subst (λ i. Has box i 0) rule.says.0 (subst (λ x. Has box d x) rule.says.1 has),
-        rule.links,
         λ c remains led. rule.apart c remains (led_linked group.principle reaches (may_edges s.parts box (second_dim group)) table (map_row group rule.place.mother.0 c rule.place.label.0) rule.place.mother.0 rule.place.daughter.0 exact led),
       )
 
@@ -117,13 +137,13 @@ module _ (group : Group) (table : List (List ℕ)) (p : Progress) (s : State) (p
   cut_none b fails exactly = sweeps_start group (DoneAt s.parts group table place) p s ready.known (λ exact d v has takes. false≢true (sym fails ∙ exactly.1 (cut_of exact d v has takes)))
 
   -- where it is, the rule takes it
-  pub cut_takes : IsPlace s.parts place → place.dim.0 ≡ first_dim group → IsCut s.parts group table box place → Takes s.parts group box (edge_decision s.parts place) 0
-  cut_takes is on cut = inr (reach_takes group.principle reaches s.parts group box (edge_decision s.parts place) 0 (record {
+  pub cut_takes : IsPlace s.parts place → place.dim.0 ≡ first_dim group → Asks group.principle group box place.mother.0 place.label.0 → IsCut s.parts group table box place → Takes s.parts group box (edge_decision s.parts place) 0
+  cut_takes is on asks cut = inr (reach_takes group.principle reaches s.parts group box (edge_decision s.parts place) 0 (record {
     place = place;
     is = (place_is s.parts place is, on);
     says = (refl, refl);
-    links = cut.1;
-    apart = λ c remains link. cut.2 c remains (linked_led group.principle reaches (may_edges s.parts box (second_dim group)) table (map_row group place.mother.0 c place.label.0) place.mother.0 place.daughter.0 ready.covers link);
+    links = (asks_link group.principle reaches group box place.mother.0 place.label.0).0 asks;
+    apart = λ c remains link. cut.1 c remains (linked_led group.principle reaches (may_edges s.parts box (second_dim group)) table (map_row group place.mother.0 c place.label.0) place.mother.0 place.daughter.0 ready.covers link);
   }))
 
   pub cut_taken : (q : Progress) (new : State) → Known new → new.parts ≡ s.parts → Goes group p s q new → (Has new.now (edge_decision s.parts place) 0 → q.dead ≡ true) → Sweeps group (DoneAt s.parts group table place) p s q new
@@ -138,22 +158,13 @@ module _ (group : Group) (table : List (List ℕ)) (p : Progress) (s : State) (p
 
 -- ---- loops
 
-pub nodes_first : (parts : Parts) (group : Group) (table : List (List ℕ)) (u label : ℕ) (box : List (List Bool)) → AreNodesDone parts group table u label 0 box
-nodes_first parts group table u label box exact v l = absurd (omega (arith, l))
-
-pub nodes_next : (parts : Parts) (group : Group) (table : List (List ℕ)) (u label k : ℕ) (box : List (List Bool)) → AreNodesDone parts group table u label k box → DoneAt parts group table (edge (first_dim group) u label k) box → AreNodesDone parts group table u label (k + 1) box
-nodes_next parts group table u label k box before here exact v l = elim (cases_lt v k) [
-  | inl less ↦ before exact v less
-  | inr past ↦ (let e : v ≡ k = omega (arith, l, past) in subst (λ i. IsDoneAt parts group (edge (first_dim group) u label i) box) (sym e) (here exact))
-]
-
 pub labels_first : (parts : Parts) (group : Group) (table : List (List ℕ)) (u : ℕ) (box : List (List Bool)) → AreLabelsDone parts group table u 0 box
 labels_first parts group table u box label l = absurd (omega (arith, l))
 
-pub labels_next : (parts : Parts) (group : Group) (table : List (List ℕ)) (u k : ℕ) (box : List (List Bool)) → AreLabelsDone parts group table u k box → AreNodesDone parts group table u k (nodes parts) box → AreLabelsDone parts group table u (k + 1) box
+pub labels_next : (parts : Parts) (group : Group) (table : List (List ℕ)) (u k : ℕ) (box : List (List Bool)) → AreLabelsDone parts group table u k box → IsLabelDone parts group table u k box → AreLabelsDone parts group table u (k + 1) box
 labels_next parts group table u k box before here label l = elim (cases_lt label k) [
   | inl less ↦ before label less
-  | inr past ↦ (let e : label ≡ k = omega (arith, l, past) in subst (λ i. AreNodesDone parts group table u i (nodes parts) box) (sym e) here)
+  | inr past ↦ (let e : label ≡ k = omega (arith, l, past) in subst (λ i. IsLabelDone parts group table u i box) (sym e) here)
 ]
 
 pub mothers_first : (parts : Parts) (group : Group) (table : List (List ℕ)) (box : List (List Bool)) → AreMothersDone parts group table 0 box
@@ -167,17 +178,11 @@ mothers_next parts group table k box before here u l = elim (cases_lt u k) [
 
 -- ---- turns and ends
 
-pub nodes_turn : (group : Group) (table : List (List ℕ)) (u label k : ℕ) (p : Progress) (old : State) (q : Progress) (mid : State) (r : Progress) (new : State) → Sweeps group (AreNodesDone old.parts group table u label k) p old q mid → Sweeps group (DoneAt mid.parts group table (edge (first_dim group) u label k)) q mid r new → Sweeps group (AreNodesDone old.parts group table u label (k + 1)) p old r new
-nodes_turn group table u label k p old q mid r new a b = sweeps_next group (AreNodesDone old.parts group table u label k) (AreNodesDone old.parts group table u label (k + 1)) (λ parts. DoneAt parts group table (edge (first_dim group) u label k)) p old q mid r new a b (nodes_next old.parts group table u label k)
-
-pub labels_turn : (group : Group) (table : List (List ℕ)) (u k : ℕ) (p : Progress) (old : State) (q : Progress) (mid : State) (r : Progress) (new : State) → Sweeps group (AreLabelsDone old.parts group table u k) p old q mid → Sweeps group (AreNodesDone mid.parts group table u k (nodes mid.parts)) q mid r new → Sweeps group (AreLabelsDone old.parts group table u (k + 1)) p old r new
-labels_turn group table u k p old q mid r new a b = sweeps_next group (AreLabelsDone old.parts group table u k) (AreLabelsDone old.parts group table u (k + 1)) (λ parts. AreNodesDone parts group table u k (nodes parts)) p old q mid r new a b (labels_next old.parts group table u k)
+pub labels_turn : (group : Group) (table : List (List ℕ)) (u k : ℕ) (p : Progress) (old : State) (q : Progress) (mid : State) (r : Progress) (new : State) → Sweeps group (AreLabelsDone old.parts group table u k) p old q mid → Sweeps group (IsLabelDone mid.parts group table u k) q mid r new → Sweeps group (AreLabelsDone old.parts group table u (k + 1)) p old r new
+labels_turn group table u k p old q mid r new a b = sweeps_next group (AreLabelsDone old.parts group table u k) (AreLabelsDone old.parts group table u (k + 1)) (λ parts. IsLabelDone parts group table u k) p old q mid r new a b (labels_next old.parts group table u k)
 
 pub mothers_turn : (group : Group) (table : List (List ℕ)) (k : ℕ) (p : Progress) (old : State) (q : Progress) (mid : State) (r : Progress) (new : State) → Sweeps group (AreMothersDone old.parts group table k) p old q mid → Sweeps group (AreLabelsDone mid.parts group table k (edge_labels mid.parts (first_dim group))) q mid r new → Sweeps group (AreMothersDone old.parts group table (k + 1)) p old r new
 mothers_turn group table k p old q mid r new a b = sweeps_next group (AreMothersDone old.parts group table k) (AreMothersDone old.parts group table (k + 1)) (λ parts. AreLabelsDone parts group table k (edge_labels parts (first_dim group))) p old q mid r new a b (mothers_next old.parts group table k)
-
-pub nodes_end : (group : Group) (table : List (List ℕ)) (u label k : ℕ) (p : Progress) (old : State) (q : Progress) (new : State) → nodes old.parts ≤ k → Sweeps group (AreNodesDone old.parts group table u label k) p old q new → Sweeps group (AreNodesDone old.parts group table u label (nodes old.parts)) p old q new
-nodes_end group table u label k p old q new all a = sweeps_skip group (AreNodesDone old.parts group table u label k) (AreNodesDone old.parts group table u label (nodes old.parts)) p old q new a (λ done exact v l. done exact v (omega (arith, l, all)))
 
 pub labels_end : (group : Group) (table : List (List ℕ)) (u k : ℕ) (p : Progress) (old : State) (q : Progress) (new : State) → edge_labels old.parts (first_dim group) ≤ k → Sweeps group (AreLabelsDone old.parts group table u k) p old q new → Sweeps group (AreLabelsDone old.parts group table u (edge_labels old.parts (first_dim group))) p old q new
 labels_end group table u k p old q new all a = sweeps_skip group (AreLabelsDone old.parts group table u k) (AreLabelsDone old.parts group table u (edge_labels old.parts (first_dim group))) p old q new a (λ done label l. done label (omega (arith, l, all)))
@@ -188,30 +193,3 @@ mothers_end group table k p old q new all a = sweeps_skip group (AreMothersDone 
 -- a number below those of the sentence stays so
 pub below_later : (group : Group) (Done : List (List Bool) → Type 0) (count : Parts → ℕ) (k : ℕ) (p : Progress) (old : State) (q : Progress) (new : State) → k < count old.parts → Sweeps group Done p old q new → k < count new.parts
 below_later group Done count k p old q new l a = subst (λ parts. k < count parts) (sym a.goes.extends.same) l
-
--- no place leads from a node to itself
-place_of : (p : Principle) → IsLinking p → (parts : Parts) (group : Group) (box : List (List Bool)) (place : Edge) (d v : ℕ) → TakesAt p parts group box place d v → Contains (places parts) place
-place_of principles.LinkingEnd f parts group b place d v t = subst (Contains (places parts)) t.1 t.0.is.0
-place_of principles.LinkingDaughter f parts group b place d v t = subst (Contains (places parts)) t.1 t.0.is.0
-place_of principles.LinkingMother f parts group b place d v t = subst (Contains (places parts)) t.1 t.0.is.0
-place_of principles.LinkingBelowStart f parts group b place d v t = subst (Contains (places parts)) t.1 t.0.is.0
-place_of principles.LinkingAboveStart f parts group b place d v t = subst (Contains (places parts)) t.1 t.0.is.0
-place_of principles.LinkingSisters f parts group b place d v t = subst (Contains (places parts)) t.1 t.0.is.0
-place_of principles.LinkingNotDaughter f parts group b place d v t = subst (Contains (places parts)) t.1 t.0.is.0
-place_of principles.Graph f parts group b place d v t = absurd f
-place_of principles.Entries f parts group b place d v t = absurd f
-place_of principles.Tree f parts group b place d v t = absurd f
-place_of principles.Dag f parts group b place d v t = absurd f
-place_of principles.Valency f parts group b place d v t = absurd f
-place_of principles.Order f parts group b place d v t = absurd f
-place_of principles.Projectivity f parts group b place d v t = absurd f
-place_of principles.Agr f parts group b place d v t = absurd f
-place_of principles.Agreement f parts group b place d v t = absurd f
-place_of principles.Government f parts group b place d v t = absurd f
-place_of principles.Climbing f parts group b place d v t = absurd f
-place_of principles.Barriers f parts group b place d v t = absurd f
-place_of (principles.Rule formula) f parts group b place d v t = absurd f
-place_of (principles.Bound costs bound) f parts group b place d v t = absurd f
-
-pub same_node : (group : Group) (table : List (List ℕ)) (p : Progress) (s : State) (u label v : ℕ) → IsReady group table s → u ≡ v → Sweeps group (DoneAt s.parts group table (edge (first_dim group) u label v)) p s p s
-same_node group table p s u label v ready same = sweeps_start group (DoneAt s.parts group table (edge (first_dim group) u label v)) p s ready.known (λ exact d x has takes. (is_place s.parts (edge (first_dim group) u label v) (place_of group.principle ready.linking s.parts group s.now (edge (first_dim group) u label v) d x takes)).differ same)

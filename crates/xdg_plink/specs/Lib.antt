@@ -1,3 +1,4 @@
 pub mod Family
 pub mod Ways
 pub mod Steps
+pub mod Untouched

@@ -11,7 +11,7 @@ use Rattle.xdg_problem.specs.Boxes.{Has, May, Must}
 use Rattle.xdg_problem.specs.Places.{edge, nodes}
 use Rattle.xdg_problem.specs.Features.{map_row, set_row}
 use Rattle.xdg_problem.specs.Problems.{IsGroup}
-use Rattle.xdg_rules.specs.Rules.{EachEntry, LinkingNotDaughter, LinkingReach, SaysPresent, may_edges, must_edges}
+use Rattle.xdg_rules.specs.Rules.{EachEntry, IsPlaceOn, LinkingNotDaughter, LinkingReach, SaysPresent, may_edges, must_edges}
 use Rattle.xdg_store.specs.States.{State, Known}
 use Rattle.xdg_plink.specs.Family.{IsLinking, Reaches}
 use Rattle.xdg_graph.specs.Edges.{edge_labels}
@@ -30,11 +30,15 @@ IsDoneAt parts group place box = (d v : ℕ) → Has box d v → TakesAt group.p
 abbrev pub IsExact : Parts → Group → List (List ℕ) → List (List Bool) → Type 0
 IsExact parts group table box = Keeps (way_of group.principle) (may_edges parts box (second_dim group)) table
 
--- by the table, the edge is to go
+-- the entries of a node ask for something at a label: that edges are kept apart, or for a link
+abbrev pub Asks : Principle → Group → List (List Bool) → ℕ → ℕ → Type 0
+Asks principles.LinkingNotDaughter group box u label = EachEntry box u (λ c. Contains (set_row group u c) label)
+Asks principle group box u label = EachEntry box u (λ c. 0 < length (map_row group u c label))
+
+-- by the table, the edge is to go, if the entries of its mother ask for a link
 abbrev pub IsCut : Parts → Group → List (List ℕ) → List (List Bool) → Edge → Type 0
 IsCut parts group table box place =
     May parts box place
-    × EachEntry box place.mother.0 (λ c. 0 < length (map_row group place.mother.0 c place.label.0))
     × EachEntry box place.mother.0
     (λ c. IsLed (way_of group.principle) (may_edges parts box (second_dim group)) table (map_row group place.mother.0 c place.label.0)
     (from_node group.principle place.mother.0 place.daughter.0) (from_node group.principle place.daughter.0 place.mother.0)
@@ -44,13 +48,14 @@ IsCut parts group table box place =
 abbrev pub DoneAt : Parts → Group → List (List ℕ) → Edge → List (List Bool) → Type 0
 DoneAt parts group table place box = IsExact parts group table box → IsDoneAt parts group place box
 
--- nothing at the places of a label from u to the first nodes, if the table is exact
-abbrev pub AreNodesDone : Parts → Group → List (List ℕ) → ℕ → ℕ → ℕ → List (List Bool) → Type 0
-AreNodesDone parts group table u label k box = IsExact parts group table box → (v : ℕ) → v < k → IsDoneAt parts group (edge (first_dim group) u label v) box
+-- nothing at the places of a label from u, if the table is exact
+abbrev pub IsLabelDone : Parts → Group → List (List ℕ) → ℕ → ℕ → List (List Bool) → Type 0
+IsLabelDone parts group table u label box =
+    IsExact parts group table box → (e : Edge) → IsPlaceOn parts (first_dim group) e → e.mother.0 ≡ u → e.label.0 ≡ label → IsDoneAt parts group e box
 
 -- nothing at the places of the first labels from u
 abbrev pub AreLabelsDone : Parts → Group → List (List ℕ) → ℕ → ℕ → List (List Bool) → Type 0
-AreLabelsDone parts group table u k box = (label : ℕ) → label < k → AreNodesDone parts group table u label (nodes parts) box
+AreLabelsDone parts group table u k box = (label : ℕ) → label < k → IsLabelDone parts group table u label box
 
 -- nothing at the places from the first nodes
 abbrev pub AreMothersDone : Parts → Group → List (List ℕ) → ℕ → List (List Bool) → Type 0
@@ -88,10 +93,6 @@ IsAtNode group table u s = IsReady group table s × (u < nodes s.parts)
 abbrev pub IsAtLabel : Group → List (List ℕ) → ℕ → ℕ → State → Type 0
 IsAtLabel group table u label s = IsAtNode group table u s × (label < edge_labels s.parts (first_dim group))
 
--- at two nodes and a label
-abbrev pub IsAtPlace : Group → List (List ℕ) → ℕ → ℕ → ℕ → State → Type 0
-IsAtPlace group table u label v s = IsAtLabel group table u label s × (v < nodes s.parts)
-
 -- at an edge place of the first dimension
 pub record IsOnPlace (group : Group) (place : Edge) (s : State) : Type 0 where
   pub known : Known s
@@ -99,9 +100,10 @@ pub record IsOnPlace (group : Group) (place : Edge) (s : State) : Type 0 where
   pub place_is : IsPlace s.parts place
   pub on : place.dim.0 ≡ first_dim group
 
--- for a principle that asks for edges
+-- for a principle that asks for edges, where the entries ask for a link
 abbrev pub CanCut : Group → List (List ℕ) → Edge → State → Type 0
-CanCut group table place s = IsOnPlace group place s × IsReady group table s × Reaches group.principle
+CanCut group table place s =
+    IsOnPlace group place s × IsReady group table s × Reaches group.principle × Asks group.principle group s.now place.mother.0 place.label.0
 
 -- for one that keeps edges apart
 abbrev pub CanPart : Group → Edge → State → Type 0

@@ -7,23 +7,19 @@ ghost use Rattle.xdg_propcore.specs.Sweeps.{Sweeps};
 ghost use Rattle.xdg_plink.specs.Steps.{CanCut, DoneAt, IsCut};
 
 use crate::entries::none_links;
-use xdg_graph::each_entry_has_some;
 use xdg_nodeset::NodeSet;
 use xdg_problem::{Edge, Group};
 use xdg_propcore::Pass;
 use xdg_store::Store;
 
-/// Whether by a table an edge of the first dimension is to go: it may be present, each remaining entry of its mother asks for a
-/// link, and for none of them there may be one.
+/// Whether by a table an edge of the first dimension is to go whose mother asks for a link: it may be present, and for none of the
+/// remaining entries of its mother there may be a link.
 fn is_cut(store: &Store, group: &Group, table: &[NodeSet; 128], place: Edge) -> bool
     requires { IsPlace store.now.parts place }
     ensures exact { IsTrue result ↔ IsCut store.now.parts group.now table.now store.now.now place }
     ensures known { Known store.now }
 {
     if !store.may(place) {
-        return false;
-    }
-    if !each_entry_has_some(store, group, place.mother, place.label) {
         return false;
     }
     none_links(
@@ -36,7 +32,7 @@ fn is_cut(store: &Store, group: &Group, table: &[NodeSet; 128], place: Edge) -> 
     )
 }
 
-/// Takes an edge for a principle use, if it is to go.
+/// Takes an edge for a principle use whose mother asks for a link, if it is to go.
 pub(crate) fn cut(
     store: &mut Store,
     pass: &mut Pass,

@@ -2,9 +2,11 @@
 //! has to stay apart.
 #![tactic(auto)]
 
+mod asking;
 mod cutting;
 mod entries;
 mod link_prop;
+mod near;
 mod neighbours;
 mod parting;
 mod reach;

@@ -2,6 +2,7 @@
 
 ghost use Rattle.xdg_plink.specs.Family.{IsLinking};
 
+use crate::near::near_since;
 use crate::reach::table_for;
 use crate::taking::take_all;
 use crate::way::way_of;
@@ -20,9 +21,13 @@ pub type LinkProp = UseProp<Link>;
 impl Family for Link {
     ghost holds = { IsLinking };
 
-    fn sweep(store: &mut Store, pass: &mut Pass, group: &Group, _since: &Option<Mark>) {
+    fn sweep(store: &mut Store, pass: &mut Pass, group: &Group, since: &Option<Mark>) {
+        let near = near_since(store, group, since);
+        if near.is_empty() {
+            return;
+        }
         let table = table_for(store, dim_of(group, 1), way_of(&group.principle));
-        take_all(store, pass, group, &table);
+        take_all(store, pass, group, &near, &table);
     }
 
     fn stays() {}

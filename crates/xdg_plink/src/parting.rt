@@ -9,7 +9,7 @@ ghost use Rattle.xdg_propcore.specs.Sweeps.{Sweeps};
 ghost use Rattle.xdg_plink.specs.Steps.{AsksApart, CanPart, IsDoneAt, IsFirstDone, IsSecondDone, MustJoin};
 
 use xdg_base::{DimId, LabelId, NodeId};
-use xdg_graph::{dim_of, each_entry_has, labels_of};
+use xdg_graph::{dim_of, labels_of};
 use xdg_problem::{Edge, Group};
 use xdg_propcore::Pass;
 use xdg_store::Store;
@@ -72,18 +72,10 @@ fn part_second(store: &mut Store, pass: &mut Pass, group: &Group, place: Edge)
 /// Takes for a principle use what must not join the nodes of an edge of the first dimension beside it, and the edge itself beside
 /// what must.
 pub(crate) fn part(store: &mut Store, pass: &mut Pass, group: &Group, place: Edge)
-    requires { CanPart group.now place store.old }
+    requires can { CanPart group.now place store.old }
+    requires asks { AsksApart group.now place store.old.now }
     ensures { Sweeps group.now (IsDoneAt store.old.parts group.now place) pass.old store.old pass.new store.new }
 {
-    if !each_entry_has(
-        store,
-        group,
-        place.mother,
-        LabelId(0),
-        u16::from(place.label.0),
-    ) {
-        return;
-    }
     part_first(store, pass, group, place);
     if !store.must(place) {
         return;

@@ -1,60 +1,32 @@
-//! What a linking principle takes from a box, place by place.
+//! What a linking principle takes from a box, place by place, as far as something was lost near it.
 
-ghost use Rattle.std.specs.Prelude.{◌≡◌, ◌↔◌, IsTrue};
+ghost use Rattle.std.specs.Prelude.{◌≡◌};
 ghost use Rattle.xdg_problem.specs.Arguments.{first_dim};
-ghost use Rattle.xdg_problem.specs.Places.{edge, nodes};
-ghost use Rattle.xdg_plink.specs.Family.{Reaches};
-ghost use Rattle.xdg_propcore.specs.Sweeps.{Sweeps};
+ghost use Rattle.xdg_problem.specs.Places.{nodes};
 ghost use Rattle.xdg_graph.specs.Edges.{edge_labels};
-ghost use Rattle.xdg_plink.specs.Steps.{AreLabelsDone, AreMothersDone, AreNodesDone, DoneAt, IsAtLabel, IsAtNode, IsAtPlace, IsReady};
+ghost use Rattle.xdg_propcore.specs.Passes.{IsQuiet};
+ghost use Rattle.xdg_propcore.specs.Sweeps.{Sweeps};
+ghost use Rattle.xdg_plink.specs.Steps.{AreLabelsDone, AreMothersDone, Asks, DoneAt, IsAtLabel, IsAtNode, IsLabelDone, IsOnPlace, IsReady};
+ghost use Rattle.xdg_plink.specs.Untouched.{AreOthersDone, AreOthersDoneAt, ArePlaces};
 
+use crate::asking::{asks, asks_edges};
 use crate::cutting::cut;
-use crate::neighbours::may_daughters;
+use crate::near::Near;
 use crate::parting::part;
 use xdg_base::{LabelId, NodeId};
 use xdg_graph::{dim_of, labels_of, node_count};
 use xdg_nodeset::NodeSet;
-use xdg_problem::{Edge, Group, Principle};
+use xdg_problem::{Edge, Group};
 use xdg_propcore::Pass;
 use xdg_store::Store;
 
-/// Whether a principle asks for edges of the second dimension.
-fn asks_edges(principle: &Principle) -> bool
-    ensures { IsTrue result ↔ Reaches principle.now }
+/// Takes for a principle use what its rule takes at a place of the first dimension, where the mother asks for something.
+fn take_at(store: &mut Store, pass: &mut Pass, group: &Group, table: &[NodeSet; 128], place: Edge)
+    requires on { IsOnPlace group.now place store.old }
+    requires ready { IsReady group.now table.now store.old }
+    requires asks { Asks group.now.principle group.now store.old.now place.mother.0 place.label.0 }
+    ensures { Sweeps group.now (DoneAt store.old.parts group.now table.now place) pass.old store.old pass.new store.new }
 {
-    match principle {
-        Principle::LinkingEnd => true,
-        Principle::LinkingDaughter => true,
-        Principle::LinkingMother => true,
-        Principle::LinkingBelowStart => true,
-        Principle::LinkingAboveStart => true,
-        Principle::LinkingSisters => true,
-        _ => false,
-    }
-}
-
-/// Takes for a principle use what its rule takes at a place of the first dimension.
-fn take_at(
-    store: &mut Store,
-    pass: &mut Pass,
-    group: &Group,
-    table: &[NodeSet; 128],
-    u: NodeId,
-    label: LabelId,
-    v: NodeId,
-)
-    requires { IsAtPlace group.now table.now u.0 label.0 v.0 store.old }
-    ensures { Sweeps group.now (DoneAt store.old.parts group.now table.now (edge (first_dim group.now) u.0 label.0 v.0)) pass.old store.old pass.new store.new }
-{
-    if u.0 == v.0 {
-        return;
-    }
-    let place = Edge {
-        dim: dim_of(group, 0),
-        mother: u,
-        label,
-        daughter: v,
-    };
     if asks_edges(&group.principle) {
         cut(store, pass, group, table, place);
         return;
@@ -62,25 +34,58 @@ fn take_at(
     part(store, pass, group, place);
 }
 
-/// Takes for a principle use what its rule takes at the places of a label out of a node.
-fn take_label(
+/// Takes for a principle use what its rule takes at the places of a label from a node, which asks for something, to some nodes,
+/// where nothing is left to take at those to the others.
+fn take_daughters(
     store: &mut Store,
     pass: &mut Pass,
     group: &Group,
     table: &[NodeSet; 128],
-    u: NodeId,
+    node: NodeId,
+    label: LabelId,
+    daughters: NodeSet,
+)
+    requires ready { IsReady group.now table.now store.old }
+    requires asks { Asks group.now.principle group.now store.old.now node.0 label.0 }
+    requires daughters { ArePlaces store.old.parts (first_dim group.now) node.0 label.0 daughters }
+    requires others { IsQuiet pass.old → AreOthersDoneAt store.old.parts group.now node.0 label.0 daughters store.old.now }
+    ensures { Sweeps group.now (IsLabelDone store.old.parts group.now table.now node.0 label.0) pass.old store.old pass.new store.new }
+{
+    let dim = dim_of(group, 0);
+    for daughter in daughters.iter() {
+        let place = Edge {
+            dim,
+            mother: node,
+            label,
+            daughter,
+        };
+        take_at(store, pass, group, table, place);
+    }
+}
+
+/// Takes for a principle use what its rule takes at the places of a label out of a node, where nothing is left but near some edges.
+fn take_label(
+    store: &mut Store,
+    pass: &mut Pass,
+    group: &Group,
+    near: &Near,
+    table: &[NodeSet; 128],
+    node: NodeId,
     label: LabelId,
 )
-    requires { IsAtLabel group.now table.now u.0 label.0 store.old }
-    ensures { Sweeps group.now (AreNodesDone store.old.parts group.now table.now u.0 label.0 (nodes store.old.parts)) pass.old store.old pass.new store.new }
+    requires at { IsAtLabel group.now table.now node.0 label.0 store.old }
+    requires others { IsQuiet pass.old → AreOthersDone near.now store.old.parts group.now store.old.now }
+    ensures { Sweeps group.now (IsLabelDone store.old.parts group.now table.now node.0 label.0) pass.old store.old pass.new store.new }
 {
-    let daughters = may_daughters(store, dim_of(group, 0), u, u16::from(label.0));
-    for v in 0..node_count(store) {
-        if !daughters.contains(NodeId(v)) {
-            continue;
-        }
-        take_at(store, pass, group, table, u, label, NodeId(v));
+    let dim = dim_of(group, 0);
+    let daughters = near.daughters(store, dim, node, label);
+    if daughters.len() == 0 {
+        return;
     }
+    if !asks(store, group, node, label) {
+        return;
+    }
+    take_daughters(store, pass, group, table, node, label, daughters);
 }
 
 /// How many labels the edges of the first dimension can have.
@@ -91,22 +96,40 @@ fn first_labels(store: &Store, group: &Group) -> u8
 }
 
 /// Takes for a principle use what its rule takes at the places out of a node.
-fn take_node(store: &mut Store, pass: &mut Pass, group: &Group, table: &[NodeSet; 128], u: NodeId)
-    requires { IsAtNode group.now table.now u.0 store.old }
-    ensures { Sweeps group.now (AreLabelsDone store.old.parts group.now table.now u.0 (edge_labels store.old.parts (first_dim group.now))) pass.old store.old
+fn take_node(
+    store: &mut Store,
+    pass: &mut Pass,
+    group: &Group,
+    near: &Near,
+    table: &[NodeSet; 128],
+    node: NodeId,
+)
+    requires at { IsAtNode group.now table.now node.0 store.old }
+    requires others { IsQuiet pass.old → AreOthersDone near.now store.old.parts group.now store.old.now }
+    ensures { Sweeps group.now (AreLabelsDone store.old.parts group.now table.now node.0 (edge_labels store.old.parts (first_dim group.now))) pass.old store.old
         pass.new store.new }
 {
+    if !near.leads_from(node) {
+        return;
+    }
     for label in 0..first_labels(store, group) {
-        take_label(store, pass, group, table, u, LabelId(label));
+        take_label(store, pass, group, near, table, node, LabelId(label));
     }
 }
 
-/// Takes for a principle use what its rule takes.
-pub(crate) fn take_all(store: &mut Store, pass: &mut Pass, group: &Group, table: &[NodeSet; 128])
-    requires { IsReady group.now table.now store.old }
+/// Takes for a principle use what its rule takes, where nothing is left but near some edges.
+pub(crate) fn take_all(
+    store: &mut Store,
+    pass: &mut Pass,
+    group: &Group,
+    near: &Near,
+    table: &[NodeSet; 128],
+)
+    requires ready { IsReady group.now table.now store.old }
+    requires others { IsQuiet pass.old → AreOthersDone near.now store.old.parts group.now store.old.now }
     ensures { Sweeps group.now (AreMothersDone store.old.parts group.now table.now (nodes store.old.parts)) pass.old store.old pass.new store.new }
 {
-    for u in 0..node_count(store) {
-        take_node(store, pass, group, table, NodeId(u));
+    for node in 0..node_count(store) {
+        take_node(store, pass, group, near, table, NodeId(node));
     }
 }

@@ -1,30 +1,41 @@
-use Rattle.std.proofs.Common.{◌≡◌, ◌∙◌, arith, subst}
+use Rattle.std.proofs.Common.{◌<◌, ◌∙◌, arith, subst, sym}
 use Rattle.std.proofs.lemmas.Bool.{false≢true}
-use Rattle.xdg_problem.specs.Arguments.{first_dim}
-use Rattle.xdg_problem.specs.Paths.{IsDaughterBy}
-use Rattle.xdg_problem.specs.Places.{nodes}
-use Rattle.xdg_rules.specs.Rules.{may_edges}
 use Rattle.xdg_graph.specs.Edges.{edge_labels}
-use Rattle.xdg_plink.proofs.Absent.{node_skipped}
-use Rattle.xdg_plink.proofs.Sweeping.{below_later, nodes_end, nodes_first, nodes_turn, ready_later}
-use Rattle.xdg_propcore.proofs.Sweeping.{sweeps_start}
+use Rattle.xdg_plink.proofs.Daughters.{done_at_others, label_skipped, label_unasked, places_first}
 use Rattle.xdg_plink.proofs.taking.take_label.Goals as goal
 
-pub loop-v-init : goal.loop-v-init
-loop-v-init c = sweeps_start c.args.group.now _ c.args.pass.now c.args.store.now c.requires.0.0.known (nodes_first c.args.store.now.parts c.args.group.now c.args.table.now c.args.u.0 c.args.label.0 c.args.store.now.now)
+pub daughters-daughters-requires-clause-known : goal.daughters-daughters-requires-clause-known
+daughters-daughters-requires-clause-known c = c.requires.at.0.0.known
 
-pub take_at-requires : goal.take_at-requires
-take_at-requires c =
-    let a = c.loop-v.invariant in
-    (((ready_later c.args.group.now c.args.table.now _ c.args.pass.now c.args.store.now c.loop-v.pass c.loop-v.store c.requires.0.0 a, below_later c.args.group.now _ nodes c.args.u.0 c.args.pass.now c.args.store.now c.loop-v.pass c.loop-v.store c.requires.0.1 a), below_later c.args.group.now _ (λ parts. edge_labels parts (first_dim c.args.group.now)) c.args.label.0 c.args.pass.now c.args.store.now c.loop-v.pass c.loop-v.store c.requires.1 a), below_later c.args.group.now _ nodes c.loop-v.v c.args.pass.now c.args.store.now c.loop-v.pass c.loop-v.store (let e = c.node_count-v-end.ensures.size in let t = c.loop-v-test.true in omega (arith, e, t)) a)
+pub daughters-daughters-requires-clause-node : goal.daughters-daughters-requires-clause-node
+daughters-daughters-requires-clause-node c = c.requires.at.0.1
 
-pub loop-v-preserved : goal.loop-v-preserved
-loop-v-preserved c = nodes_turn c.args.group.now c.args.table.now c.args.u.0 c.args.label.0 c.loop-v.v c.args.pass.now c.args.store.now c.loop-v.pass c.loop-v.store c.take_at.new.pass c.take_at.new.store c.loop-v.invariant c.take_at.ensures
+pub daughters-daughters-requires-clause-label : goal.daughters-daughters-requires-clause-label
+daughters-daughters-requires-clause-label c = subst (λ i. c.args.label.0 < edge_labels c.args.store.now.parts i) (sym c.dim_of-dim.ensures) c.requires.at.1
+
+pub returns-then-len-eq0 : goal.returns-then-len-eq0
+returns-then-len-eq0 c = label_skipped c.args.near.now c.args.group.now c.args.table.now c.dim_of-dim.result.0 c.args.node.0 c.args.label.0 c.daughters-daughters.result c.args.pass.now c.args.store.now c.requires.at.0.0.known c.dim_of-dim.ensures c.requires.at.0.0.linking c.daughters-daughters.ensures (let e = c.len.ensures.value in let z = c.if-len-eq0.true in omega (arith, e, z)) c.requires.others
+
+pub asks-requires-clause-family : goal.asks-requires-clause-family
+asks-requires-clause-family c = c.requires.at.0.0.linking
+
+pub asks-requires-clause-node : goal.asks-requires-clause-node
+asks-requires-clause-node c = c.requires.at.0.1
+
+pub returns-then-not-asks : goal.returns-then-not-asks
+returns-then-not-asks c = label_unasked c.args.group.now c.args.table.now c.args.node.0 c.args.label.0 c.args.pass.now c.args.store.now c.requires.at.0.0.known c.requires.at.0.0.linking (λ asks. false≢true (sym c.if-not-asks.true ∙ c.asks.ensures.exact.1 asks))
+
+pub take_daughters-requires-clause-ready : goal.take_daughters-requires-clause-ready
+take_daughters-requires-clause-ready c = c.requires.at.0.0
+
+pub take_daughters-requires-clause-asks : goal.take_daughters-requires-clause-asks
+take_daughters-requires-clause-asks c = c.asks.ensures.exact.0 c.if-not-asks.false
+
+pub take_daughters-requires-clause-daughters : goal.take_daughters-requires-clause-daughters
+take_daughters-requires-clause-daughters c = places_first c.args.near.now c.args.store.now.parts c.args.group.now c.args.store.now.now c.dim_of-dim.result.0 c.args.node.0 c.args.label.0 c.daughters-daughters.result c.dim_of-dim.ensures c.requires.at.0.0.linking c.daughters-daughters.ensures
+
+pub take_daughters-requires-clause-others : goal.take_daughters-requires-clause-others
+take_daughters-requires-clause-others c quiet = done_at_others c.args.near.now c.args.store.now.parts c.args.group.now c.args.store.now.now c.dim_of-dim.result.0 c.args.node.0 c.args.label.0 c.daughters-daughters.result c.dim_of-dim.ensures c.requires.at.0.0.linking c.daughters-daughters.ensures (c.requires.others quiet)
 
 pub returns : goal.returns
-returns c = nodes_end c.args.group.now c.args.table.now c.args.u.0 c.args.label.0 c.loop-v.v c.args.pass.now c.args.store.now c.loop-v.pass c.loop-v.store (let e = c.node_count-v-end.ensures.size in let t = c.loop-v-test.false in omega (arith, e, t)) c.loop-v.invariant
-
-pub loop-v-preserved-then-not-contains : goal.loop-v-preserved-then-not-contains
-loop-v-preserved-then-not-contains c = node_skipped c.args.group.now c.args.table.now c.args.u.0 c.args.label.0 c.loop-v.v c.dim_of.result.0 c.args.pass.now c.args.store.now c.loop-v.pass c.loop-v.store c.requires.0.0.linking c.dim_of.ensures
-    (λ led. false≢true (c.if-not-contains.ensures.value ∙ (c.may_daughters-daughters.ensures.exact c.loop-v.v).1 (let f = c.from.ensures in let e : c.args.label.0 ≡ c.from.result = omega (arith, f) in subst (λ l. IsDaughterBy (may_edges c.args.store.now.parts c.args.store.now.now c.dim_of.result.0) c.args.u.0 l c.loop-v.v) e led)))
-    c.loop-v.invariant
+returns c = c.take_daughters.ensures

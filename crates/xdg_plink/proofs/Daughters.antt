@@ -1,0 +1,139 @@
+-- The daughters of a node by a label, one after another, and those near which nothing was lost.
+use Rattle.std.proofs.Common.{◌≡◌, ◌≢◌, ℕ, ◌<◌, ◌↔◌, ◌||◌, ◌&&◌, IsTrue, inl, inr, Bool, true, List, [], ◌∷◌, length, refl, sym, ◌∙◌, arith, subst}
+use Rattle.std.specs.Prelude.{◌==◌}
+use Rattle.std.proofs.lemmas.Bool.{cases_Bool, cases_eq, eq-eqb, false≢true, ne_eqb}
+use Rattle.xdg_facts.proofs.Truths.{either_true, or_here}
+use Rattle.xdg_nodeset.specs.Nodes.{has}
+use Rattle.xdg_nodeset.proofs.TableSets.{both}
+use Rattle.xdg_problem.specs.declared.analysis.Edge.{Edge}
+use Rattle.xdg_problem.specs.declared.parts.Group.{Group}
+use Rattle.xdg_problem.specs.declared.parts.Parts.{Parts}
+use Rattle.xdg_problem.specs.Analyses.{IsPlace}
+use Rattle.xdg_problem.specs.Arguments.{first_dim}
+use Rattle.xdg_problem.specs.Boxes.{May}
+use Rattle.xdg_problem.specs.Places.{edge, nodes}
+use Rattle.xdg_problem.specs.Problems.{IsGroup}
+use Rattle.xdg_problem.proofs.PlaceOrder.{is_place}
+use Rattle.xdg_rules.specs.Rules.{IsPlaceOn}
+use Rattle.xdg_store.specs.States.{State, Known}
+use Rattle.xdg_propcore.specs.Passes.{IsQuiet, Progress}
+use Rattle.xdg_propcore.specs.Sweeps.{Sweeps}
+use Rattle.xdg_propcore.proofs.Passing.{goes_none}
+use Rattle.xdg_propcore.proofs.Sweeping.{sweeps_next, sweeps_start}
+use Rattle.xdg_graph.specs.Edges.{edge_labels}
+use Rattle.xdg_graph.proofs.Labelled.{place_between}
+use Rattle.xdg_plink.specs.Family.{IsLinking}
+use Rattle.xdg_plink.specs.Steps.{AreLabelsDone, Asks, DoneAt, IsDoneAt, IsExact, IsLabelDone, IsOnPlace}
+use Rattle.xdg_plink.specs.Untouched.{AreNear, AreOthersDone, AreOthersDoneAt, ArePlaces, IsFree}
+use Rattle.xdg_plink.specs.declared.near.Near.{Near}
+use Rattle.xdg_plink.proofs.Places.{edge_at}
+use Rattle.xdg_plink.proofs.Present.{takes_asked, takes_present}
+
+-- ---- a set without nodes
+
+pub none_in : (set : List ℕ) → length set ≡ 0 → (v : ℕ) → has set v ≡ true → ⊥
+none_in [] empty v there = false≢true there
+none_in (w ∷ set) empty v there = absurd (omega (arith, empty))
+
+-- ---- those at whose places something may be left
+
+module _ (near : Near) (parts : Parts) (box : List (List Bool)) (dim u label : ℕ) (set : List ℕ) (within : u < nodes parts) (known : label < edge_labels parts dim) (exact : (v : ℕ) → IsTrue (has set v) ↔ ((v < nodes parts) × (u ≢ v) × May parts box (edge dim u label v))) where
+  each_place : ArePlaces parts dim u label set
+  each_place v there = (let all = (exact v).0 there in place_between parts dim u label v within all.0 all.1 known)
+
+  -- all
+  pub all_near : AreNear near parts box dim u label set
+  all_near = record { each = each_place; others = λ v in_parts differ may out. absurd (out ((exact v).1 (in_parts, differ, may))) }
+
+  -- those to the ends
+  pub some_near : (met : List ℕ) → ((v : ℕ) → has met v ≡ (has set v && has near.ends v)) → (has near.mothers u ≡ true → ⊥) → AreNear near parts box dim u label met
+  some_near met met_is free = record {
+    each = λ v there. each_place v ((both (has set v) (has near.ends v)).0 (sym (met_is v) ∙ there)).0;
+    others = λ v in_parts differ may out. (free, λ start end. out (met_is v ∙ (both (has set v) (has near.ends v)).1 ((exact v).1 (in_parts, differ, may), end)));
+  }
+
+module _ (near : Near) (parts : Parts) (group : Group) (box : List (List Bool)) (dim u label : ℕ) (set : List ℕ) (dim_is : dim ≡ first_dim group) (linking : IsLinking group.principle) where
+  -- nothing is left at the places to the others
+  pub done_at_others : AreNear near parts box dim u label set → AreOthersDone near parts group box → AreOthersDoneAt parts group u label set box
+  done_at_others is others e on mother label_is out d x remains takes =
+      let place = is_place parts e on.0 in
+      let may = takes_present parts group box e group.principle linking d x remains takes in
+      let same = edge_at e dim u label e.daughter.0 (on.1 ∙ sym dim_is) mother label_is refl in
+      others e on (subst (λ i. IsFree near i e.daughter.0) (sym mother) (is.others e.daughter.0 place.daughter (λ q. place.differ (mother ∙ q)) (subst (May parts box) same may) out)) d x remains takes
+
+  pub places_first : AreNear near parts box dim u label set → ArePlaces parts (first_dim group) u label set
+  places_first is = subst (λ i. ArePlaces parts i u label set) dim_is is.each
+
+-- where there is none nothing is left at the label
+pub label_skipped : (near : Near) (group : Group) (table : List (List ℕ)) (dim u label : ℕ) (set : List ℕ) (p : Progress) (s : State) → Known s → dim ≡ first_dim group → IsLinking group.principle → AreNear near s.parts s.now dim u label set → length set ≡ 0 → (IsQuiet p → AreOthersDone near s.parts group s.now) → Sweeps group (IsLabelDone s.parts group table u label) p s p s
+label_skipped near group table dim u label set p s known dim_is linking is empty others = record {
+  goes = goes_none group p s;
+  known = known;
+  done = λ quiet exact e on mother label_is. done_at_others near s.parts group s.now dim u label set dim_is linking is (others quiet) e on mother label_is (none_in set empty e.daughter.0);
+}
+
+-- nor where the entries don't ask for anything
+pub label_unasked : (group : Group) (table : List (List ℕ)) (u label : ℕ) (p : Progress) (s : State) → Known s → IsLinking group.principle → (Asks group.principle group s.now u label → ⊥) → Sweeps group (IsLabelDone s.parts group table u label) p s p s
+label_unasked group table u label p s known linking free = sweeps_start group (IsLabelDone s.parts group table u label) p s known
+    (λ exact e on mother label_is d v has takes. free (subst (Asks group.principle group s.now u) label_is (subst (λ i. Asks group.principle group s.now i e.label.0) mother (takes_asked s.parts group s.now e group.principle linking d v takes))))
+
+-- nor at a node near which nothing was lost
+pub node_skipped : (near : Near) (group : Group) (table : List (List ℕ)) (u k : ℕ) (p : Progress) (s : State) → Known s → ((v : ℕ) → IsFree near u v) → (IsQuiet p → AreOthersDone near s.parts group s.now) → Sweeps group (AreLabelsDone s.parts group table u k) p s p s
+node_skipped near group table u k p s known free others = record {
+  goes = goes_none group p s;
+  known = known;
+  done = λ quiet label l exact e on mother label_is. others quiet e on (subst (λ i. IsFree near i e.daughter.0) (sym mother) (free e.daughter.0));
+}
+
+-- as long as nothing is taken the others stay done
+pub others_later : (near : Near) (group : Group) (Done : List (List Bool) → Type 0) (p : Progress) (old : State) (q : Progress) (mid : State) → (IsQuiet p → AreOthersDone near old.parts group old.now) → Sweeps group Done p old q mid → IsQuiet q → AreOthersDone near mid.parts group mid.now
+others_later near group Done p old q mid others a quiet =
+    let before = a.goes.quiet quiet in
+    subst (λ parts. AreOthersDone near parts group mid.now) (sym a.goes.extends.same) (subst (AreOthersDone near old.parts group) (sym before.1) (others before.0))
+
+-- ---- one daughter after another
+
+-- if the table is exact, nothing is left at the places to those of the first ones that aren't still to come
+abbrev pub AreDaughtersDone : Parts → Group → List (List ℕ) → ℕ → ℕ → List ℕ → List ℕ → List (List Bool) → Type 0
+AreDaughtersDone parts group table u label first left box =
+    IsExact parts group table box → (e : Edge) → IsPlaceOn parts (first_dim group) e → e.mother.0 ≡ u → e.label.0 ≡ label → has first e.daughter.0 ≡ true → (has left e.daughter.0 ≡ true → ⊥) → IsDoneAt parts group e box
+
+daughters_next : (parts : Parts) (group : Group) (table : List (List ℕ)) (dim u label v : ℕ) (first left : List ℕ) (box : List (List Bool)) → dim ≡ first_dim group → AreDaughtersDone parts group table u label first (v ∷ left) box → DoneAt parts group table (edge dim u label v) box → AreDaughtersDone parts group table u label first left box
+daughters_next parts group table dim u label v first left box dim_is before here exact e on mother label_is is gone = elim (cases_eq e.daughter.0 v) [
+  | inl same ↦ subst (λ f. IsDoneAt parts group f box) (sym (edge_at e dim u label v (on.1 ∙ sym dim_is) mother label_is same)) (here exact)
+  | inr other ↦ before exact e on mother label_is is (λ h. gone (subst (λ b. (b || has left e.daughter.0) ≡ true) (ne_eqb v e.daughter.0 (λ q. other (sym q))) h))
+]
+
+pub daughters_turn : (group : Group) (table : List (List ℕ)) (dim u label v : ℕ) (first left rest : List ℕ) (p : Progress) (old : State) (q : Progress) (mid : State) (r : Progress) (new : State) → dim ≡ first_dim group → left ≡ v ∷ rest → Sweeps group (AreDaughtersDone old.parts group table u label first left) p old q mid → Sweeps group (DoneAt mid.parts group table (edge dim u label v)) q mid r new → Sweeps group (AreDaughtersDone old.parts group table u label first rest) p old r new
+daughters_turn group table dim u label v first left rest p old q mid r new dim_is left_is a b =
+    sweeps_next group (AreDaughtersDone old.parts group table u label first left) (AreDaughtersDone old.parts group table u label first rest) (λ parts. DoneAt parts group table (edge dim u label v)) p old q mid r new a b
+    (λ box done here. daughters_next old.parts group table dim u label v first rest box dim_is (subst (λ s. AreDaughtersDone old.parts group table u label first s box) left_is done) here)
+
+pub daughters_last : (group : Group) (table : List (List ℕ)) (u label : ℕ) (first left : List ℕ) (p : Progress) (old : State) (q : Progress) (new : State) → left ≡ [] → (IsQuiet p → AreOthersDoneAt old.parts group u label first old.now) → Sweeps group (AreDaughtersDone old.parts group table u label first left) p old q new → Sweeps group (IsLabelDone old.parts group table u label) p old q new
+daughters_last group table u label first left p old q new left_is others a = record {
+  goes = a.goes;
+  known = a.known;
+  done = λ quiet exact e on mother label_is.
+      let before = a.goes.quiet quiet in
+      elim (cases_Bool (has first e.daughter.0)) [
+        | inl there ↦ a.done quiet exact e on mother label_is there (λ h. false≢true (subst (λ s. has s e.daughter.0 ≡ true) left_is h))
+        | inr gone ↦ subst (IsDoneAt old.parts group e) (sym before.1) (others before.0 e on mother label_is (λ there. false≢true (sym gone ∙ there)))
+      ];
+}
+
+-- a place is one later
+pub on_later : (group : Group) (dim u label v : ℕ) (Done : List (List Bool) → Type 0) (p : Progress) (old : State) (q : Progress) (mid : State) → dim ≡ first_dim group → IsGroup old.parts group → IsPlace old.parts (edge (first_dim group) u label v) → Sweeps group Done p old q mid → IsOnPlace group (edge dim u label v) mid
+on_later group dim u label v Done p old q mid dim_is is place a = record {
+  known = a.known;
+  group_is = subst (λ parts. IsGroup parts group) (sym a.goes.extends.same) is;
+  place_is = subst (λ parts. IsPlace parts (edge dim u label v)) (sym a.goes.extends.same) (subst (λ i. IsPlace old.parts (edge i u label v)) (sym dim_is) place);
+  on = dim_is;
+}
+
+-- ---- the nodes of a set still to come
+
+pub head_in : (left rest : List ℕ) (v : ℕ) → left ≡ v ∷ rest → has left v ≡ true
+head_in left rest v is = subst (λ s. has s v ≡ true) (sym is) (or_here (v == v) (has rest v) (eq-eqb v v refl))
+
+pub tail_in : (left rest : List ℕ) (v w : ℕ) → left ≡ v ∷ rest → has rest w ≡ true → has left w ≡ true
+tail_in left rest v w is h = subst (λ s. has s w ≡ true) (sym is) (either_true (v == w) (has rest w) h)

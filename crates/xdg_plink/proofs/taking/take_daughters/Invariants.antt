@@ -1,0 +1,12 @@
+use Rattle.std.proofs.Common.{◌≡◌, ℕ, true}
+use Rattle.xdg_nodeset.specs.Nodes.{has}
+use Rattle.xdg_propcore.specs.Sweeps.{Sweeps}
+use Rattle.xdg_plink.proofs.Daughters.{AreDaughtersDone}
+use Rattle.xdg_plink.proofs.taking.take_daughters.Given as goal
+
+abbrev pub invariant-loop-daughter : goal.invariant-loop-daughter
+invariant-loop-daughter l =
+    (goal.iterator-loop-daughter).can_next l.daughter-iterator
+    × (goal.iterator-loop-daughter).is_finite l.daughter-iterator
+    × ((v : ℕ) → has l.daughter-iterator v ≡ true → has l.initial.daughter-iterator v ≡ true)
+    × Sweeps l.group (AreDaughtersDone l.initial.store.parts l.group l.table l.node.0 l.label.0 l.initial.daughter-iterator l.daughter-iterator) l.initial.pass l.initial.store l.pass l.store
