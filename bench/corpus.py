@@ -3,6 +3,9 @@
 
 Usage: python3 bench/corpus.py PROGRAM [--lines N] [--sample N]
 
+There are three grammars: one of 50,000 entries in which a sentence of three words costs next to nothing beside the reading of the grammar, which one processor does; the sample
+examples/german.xdg with its sentences; and the sample with 50,000 entries and sentences of 12 and 13 words, of which most of the time is search.
+
 PROGRAM is the built program, not the script ./xdg, which looks at the sources first. A file has 10,000 lines, or N. Of `parse` a sample of 20
 lines, or N, spread over the file, is run, and the seconds of one run are told. What `corpus` prints is looked at: the numbers of the
 sentences, and of each line of the sample that its text is what `parse` prints. A ratio is how many times longer the one takes than the
@@ -54,6 +57,22 @@ def german(count):
         if number.isdigit():
             found.append(sentence.strip())
     return [found[k % len(found)] for k in range(count)]
+
+
+def enlarged():
+    """The grammar examples/german.xdg with as many further nouns as make 50,000 entries."""
+    text = (ROOT / "examples" / "german.xdg").read_text(encoding="utf-8")
+    more = ENTRIES - text.count("\ndefentry ")
+    return text + "".join(f'defentry {{noun {{Word: "Frau{k}" Agrs: $ f}}}}\n' for k in range(more)), more
+
+
+def genitives(count, words):
+    """That many German sentences of 12 and 13 words with genitives one below the other, each with other nouns of that many."""
+    found = []
+    for k in range(count):
+        a, b, c, d, e, f = (f"Frau{(6 * k + place) * 4_999 % words}" for place in range(6))
+        found.append(f"die {a} der {b} der {c} sieht die {d} der {e} der {f}" if k % 2 else f"dass die {a} der {b} der {c} die {d} der {e} sieht")
+    return found
 
 
 def run(words, given=b""):
@@ -157,6 +176,10 @@ def main():
         pathlib.Path(large).write_text(lexicon())
         measured(program, f"{ENTRIES} entries", large, nouns(given.lines), given.sample)
         measured(program, "examples/german.xdg", str(ROOT / "examples" / "german.xdg"), german(given.lines), given.sample)
+        text, more = enlarged()
+        large_german = str(pathlib.Path(folder, "german.xdg"))
+        pathlib.Path(large_german).write_text(text, encoding="utf-8")
+        measured(program, f"examples/german.xdg with {ENTRIES} entries", large_german, genitives(given.lines, more), given.sample)
         against_check(program, large, ["the"] * given.lines)
 
 
