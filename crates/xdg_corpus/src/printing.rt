@@ -89,8 +89,9 @@ fn print_groups<R: Threads + Sync, K: Sink>(
 /// Prints the lines of a text: groups of lines, one after the other. The lines of a group are searched side by side, and their texts are
 /// written in order before the next group is searched, which is made meanwhile. The first two groups have 16 lines, and each further one
 /// twice as many as the one before, up to 64, or up to 1,024 where the lines of that one have at most 64 bytes on average. Where the texts of
-/// a group have more than 1,048,576 bytes together, the second one behind it has 16 again. So the searches that run at once take memory, and
-/// the problems of two groups and the texts of one. What problems share is made once.
+/// a group have more than 1,048,576 bytes together, the second one behind it has 16 again; texts of fewer bytes are put together, and written
+/// at once. So the searches that run at once take memory, and the problems of two groups and the texts of one, those of few bytes twice. What
+/// problems share is made once.
 pub(crate) fn print_lines<R: Threads + Sync, K: Sink>(
     rt: &R,
     alloc: Global,
