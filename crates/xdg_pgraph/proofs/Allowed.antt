@@ -24,8 +24,9 @@ pub record Seen (R : ℕ → ℕ → Type 0) (box : List (List Bool)) (node : �
   pub each : (c : ℕ) → c < k → Has box (entry_decision node) c → All (R number) (row c)
 
 module _ (R : ℕ → ℕ → Type 0) (box : List (List Bool)) (node : ℕ) (row : ℕ → List ℕ) (number : ℕ) where
-  pub seen_start : Seen R box node row number false 0
-  seen_start = record { some = λ e. (let z : false ≡ true = e in cc); none = λ e c l. absurd (omega (arith, l)); each = λ c l. absurd (omega (arith, l)) }
+  -- none of those before remains
+  pub seen_start : (k : ℕ) → ((c : ℕ) → c < k → Has box (entry_decision node) c → ⊥) → Seen R box node row number false k
+  seen_start k gone = record { some = λ e. (let z : false ≡ true = e in cc); none = λ e c l h allowed. gone c l h; each = λ c l h. absurd (gone c l h) }
 
   last_or : (k c : ℕ) → c < k + 1 → (c < k) ⊎ (c ≡ k)
   last_or k c l = elim (cases_lt c k) [ inl less ↦ inl less | inr past ↦ inr (omega (arith, l, past)) ]

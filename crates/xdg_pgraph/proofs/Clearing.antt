@@ -1,5 +1,5 @@
 -- What valency takes, value by value.
-use Rattle.std.proofs.Common.{◌≡◌, ℕ, ◌<◌, ◌≤◌, ◌+◌, inl, inr, Bool, true, false, List, [], length, get_or, sym, ◌∙◌, subst, arith}
+use Rattle.std.proofs.Common.{◌≡◌, ℕ, ◌<◌, ◌≤◌, ◌+◌, inl, inr, Bool, true, false, List, [], length, get_or, refl, sym, ◌∙◌, subst, arith}
 use Rattle.std.specs.Prelude.{Contains, All, not}
 use Rattle.std.proofs.lemmas.Bool.{cases_eq, false≢true}
 use Rattle.std.proofs.lemmas.List.Elements.{All-contains, All-weaker, All-contains_itself}
@@ -13,7 +13,7 @@ use Rattle.xdg_problem.proofs.PlaceOrder.{place_is}
 use Rattle.xdg_rules.specs.Rules.{HasNoneWithin}
 use Rattle.xdg_store.specs.States.{State}
 use Rattle.xdg_propcore.specs.Passes.{Progress, Clears}
-use Rattle.xdg_propcore.proofs.Passing.{clears_none, clears_like, clears_both}
+use Rattle.xdg_propcore.proofs.Passing.{clears_none, clears_like, clears_both, goes_none}
 use Rattle.xdg_pgraph.specs.declared.bundle.Bundle.{Bundle}
 use Rattle.xdg_pgraph.specs.declared.plane.Plane.{Plane}
 use Rattle.xdg_pgraph.specs.Bundles.{edge_to, numbers_of, Barred, OpenTo}
@@ -42,8 +42,15 @@ module _ (parts : Parts) (group : Group) (bundle : Bundle) (least most : ℕ) (p
   abbrev Below : ℕ → ℕ → ℕ → Type 0
   Below = BarredBelow parts group bundle least most
 
-  pub barred_start : Clears (Below 0) p old p old
-  barred_start = clears_none (Below 0) p old (λ d v a. (let l = a.1 in omega (arith, l)))
+  -- none of those before remains
+  pub barred_start : (k : ℕ) → ((c : ℕ) → c < k → Has old.now (entry_decision bundle.node) c → ⊥) → Clears (Below k) p old p old
+  barred_start k none = record {
+    same = refl;
+    inside = λ d v h. h;
+    quiet = λ z. (z, refl);
+    gone = λ z d v a h. none v a.1 (subst (λ e. Has old.now e v) a.0.0 h);
+    goes = λ group around is lies takes. goes_none group p old;
+  }
 
   -- an entry that allows a number between the two
   pub barred_skip : (k : ℕ) → (All (Outside least most) (numbers k) → ⊥) → Clears (Below k) p old q mid → Clears (Below (k + 1)) p old q mid
@@ -80,10 +87,15 @@ module _ (parts : Parts) (group : Group) (bundle : Bundle) (least most : ℕ) (p
       ])
       a b
 
-  pub barred_end : (k : ℕ) → length (get_or parts.candidates bundle.node []) ≤ k → Clears (Below k) p old q mid → Clears (Barred parts group bundle least most) p old q mid
-  barred_end k all = clears_like (Below k) (Barred parts group bundle least most) p q old mid
-      (λ d v a. a.0)
-      (λ d v a. (a, (let l = a.1 in omega (arith, l, all))))
+  -- and none behind
+  pub barred_end : (k : ℕ) → ((c : ℕ) → Has old.now (entry_decision bundle.node) c → c < k) → Clears (Below k) p old q mid → Clears (Barred parts group bundle least most) p old q mid
+  barred_end k all c = record {
+    same = c.same;
+    inside = c.inside;
+    quiet = c.quiet;
+    gone = λ z d v a h. c.gone z d v (a, all v (subst (λ e. Has old.now e v) a.0 (c.inside d v h))) h;
+    goes = λ group around is lies takes. c.goes group around is lies (λ d v a. takes d v a.0);
+  }
 
 -- ---- edges
 

@@ -5,5 +5,6 @@ pub mod Incomings
 pub mod Ruling
 pub mod Musts
 pub mod Bundles
+pub mod Spans
 pub mod Untouched
 pub mod Family

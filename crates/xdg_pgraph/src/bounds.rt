@@ -5,10 +5,11 @@ ghost use Rattle.xdg_problem.specs.Places.{nodes};
 ghost use Rattle.xdg_rules.specs.Rules.{IsGreatest, IsLeast};
 ghost use Rattle.xdg_store.specs.States.{Known};
 ghost use Rattle.xdg_pgraph.specs.Bundles.{numbers_of};
+ghost use Rattle.xdg_pgraph.specs.Spans.{Spans};
 
 use crate::bundle::{Bundle, numbers_of};
+use crate::span::Span;
 use xdg_base::NodeId;
-use xdg_graph::entry_count;
 use xdg_problem::Group;
 use xdg_store::Store;
 
@@ -41,13 +42,20 @@ fn are_least(numbers: &[u16], least: usize) -> bool
 }
 
 /// Whether a number is the greatest that a remaining entry allows.
-pub(crate) fn is_greatest(store: &Store, group: &Group, bundle: Bundle, number: usize) -> bool
+pub(crate) fn is_greatest(
+    store: &Store,
+    group: &Group,
+    bundle: Bundle,
+    span: Span,
+    number: usize,
+) -> bool
     requires known { Known store.now }
     requires node { bundle.node < nodes store.now.parts }
+    requires span { Spans store.now.parts store.now.now bundle.node span }
     ensures { IsTrue result ↔ IsGreatest store.now.now bundle.node (numbers_of bundle.way group.now bundle.node bundle.label) number }
 {
     let mut found = false;
-    for place in 0..entry_count(store.problem().parts(), NodeId(bundle.node)) {
+    for place in span.from..span.to {
         if !store.entry_in(NodeId(bundle.node), place) {
             continue;
         }
@@ -61,13 +69,20 @@ pub(crate) fn is_greatest(store: &Store, group: &Group, bundle: Bundle, number: 
 }
 
 /// Whether a number is the least that a remaining entry allows.
-pub(crate) fn is_least(store: &Store, group: &Group, bundle: Bundle, number: usize) -> bool
+pub(crate) fn is_least(
+    store: &Store,
+    group: &Group,
+    bundle: Bundle,
+    span: Span,
+    number: usize,
+) -> bool
     requires known { Known store.now }
     requires node { bundle.node < nodes store.now.parts }
+    requires span { Spans store.now.parts store.now.now bundle.node span }
     ensures { IsTrue result ↔ IsLeast store.now.now bundle.node (numbers_of bundle.way group.now bundle.node bundle.label) number }
 {
     let mut found = false;
-    for place in 0..entry_count(store.problem().parts(), NodeId(bundle.node)) {
+    for place in span.from..span.to {
         if !store.entry_in(NodeId(bundle.node), place) {
             continue;
         }

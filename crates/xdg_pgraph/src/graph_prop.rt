@@ -2,19 +2,21 @@
 
 ghost use Rattle.std.specs.Prelude.{◌≡◌};
 ghost use Rattle.xdg_problem.specs.declared.parts.Principle.TheVariants as principles;
+ghost use Rattle.xdg_problem.specs.Arguments.{first_dim, label_count};
 ghost use Rattle.xdg_problem.specs.Problems.{IsGroup};
 ghost use Rattle.xdg_rules.specs.Rules.{IsClosedFor};
 ghost use Rattle.xdg_store.specs.States.{Known};
 ghost use Rattle.xdg_propcore.specs.Standing.{HeldIf};
 ghost use Rattle.xdg_propcore.specs.Sweeps.{Sweeps};
+ghost use Rattle.xdg_pgraph.specs.Bundles.{AreNodesDone};
 ghost use Rattle.xdg_pgraph.specs.Family.{IsOfFamily};
-ghost use Rattle.xdg_pgraph.specs.Untouched.{AreOthersDone};
+ghost use Rattle.xdg_pgraph.specs.Planes.{IsPlane};
 
 use crate::label::{take_dag, take_others, take_tree};
 use crate::lasting::are_musts_done;
 use crate::plane::{Plane, label_count};
 use crate::valency::take_valency;
-use xdg_graph::{dim_of, truth_of};
+use xdg_graph::truth_of;
 use xdg_problem::{Group, Parts, Principle};
 use xdg_propcore::{Family, Pass, Touched, UseProp};
 use xdg_store::{Mark, Store};
@@ -26,16 +28,33 @@ pub struct Graph;
 /// The propagator of a use of graph, entries, tree, dag or valency.
 pub type GraphProp = UseProp<Graph>;
 
-/// What was lost since a mark at which valency was still, or all where there is no such mark.
-fn touched_since(store: &Store, group: &Group, since: &Option<Mark>) -> Touched
-    requires known { Known store.now }
+/// Takes what valency takes, which was still at a mark, if there is one, on a dimension with so many labels.
+fn take_counts(
+    store: &mut Store,
+    pass: &mut Pass,
+    plane: &Plane,
+    group: &Group,
+    since: &Option<Mark>,
+    labels: u8,
+)
+    requires plane { IsPlane store.old.parts plane.now }
+    requires dim { plane.now.dim.0 ≡ first_dim group.now }
+    requires known { Known store.old }
+    requires group { IsGroup store.old.parts group.now }
     requires principle { group.now.principle ≡ principles.Valency }
-    requires held { HeldIf (λ parts box. IsClosedFor parts group.now box) store.now since.now }
-    ensures { AreOthersDone result store.now.parts group.now store.now.now }
+    requires labels { labels ≡ label_count store.old.parts plane.now.dim.0 }
+    requires held { HeldIf (λ parts box. IsClosedFor parts group.now box) store.old since.now }
+    ensures { Sweeps group.now (AreNodesDone plane.now.nodes labels store.old.parts group.now) pass.old store.old pass.new store.new }
 {
     match *since {
-        Some(mark) => Touched::since(store, mark, dim_of(group, 0)),
-        None => Touched::all(),
+        Some(mark) => {
+            let touched = Touched::since(store, mark, plane.dim);
+            take_valency(store, pass, plane, group, &touched, labels);
+        }
+        None => {
+            let touched = Touched::all();
+            take_valency(store, pass, plane, group, &touched, labels);
+        }
     }
 }
 
@@ -66,9 +85,8 @@ fn take_all(store: &mut Store, pass: &mut Pass, parts: &Parts, group: &Group, si
             take_dag(store, pass, &plane, rooted, truth_of(group, 1));
         }
         Principle::Valency => {
-            let touched = touched_since(store, group, since);
             let labels = label_count(parts, &plane);
-            take_valency(store, pass, &plane, group, &touched, labels);
+            take_counts(store, pass, &plane, group, since, labels);
         }
         _ => {}
     }

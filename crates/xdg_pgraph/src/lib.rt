@@ -12,6 +12,7 @@ mod label;
 mod lasting;
 mod plane;
 mod reach;
+mod span;
 mod taking;
 mod tree;
 mod valency;

@@ -14,14 +14,15 @@ ghost use Rattle.xdg_propcore.specs.Passes.{Clears, IsQuiet};
 ghost use Rattle.xdg_propcore.specs.Sweeps.{Sweeps};
 ghost use Rattle.xdg_pgraph.specs.Bundles.{AreEnds, AreLabelsDone, AreNodesDone, Barred, EdgeAt, IsBundleDone, IsLabelDone, OpenTo, edge_to};
 ghost use Rattle.xdg_pgraph.specs.Planes.{IsPlane};
+ghost use Rattle.xdg_pgraph.specs.Spans.{Spans};
 ghost use Rattle.xdg_pgraph.specs.Untouched.{AreOthersDone, IsLeftAlone, IsTouched, near, side};
 
 use crate::bounds::{has_none_within, is_greatest, is_least};
 use crate::bundle::{Bundle, Way, ends, numbers_of};
 use crate::found::Which;
 use crate::plane::Plane;
+use crate::span::Span;
 use xdg_base::NodeId;
-use xdg_graph::entry_count;
 use xdg_nodeset::NodeSet;
 use xdg_problem::{Edge, Group};
 use xdg_propcore::{Pass, Touched};
@@ -33,15 +34,17 @@ fn take_entries(
     pass: &mut Pass,
     group: &Group,
     bundle: Bundle,
+    span: Span,
     least: usize,
     most: usize,
 )
     requires known { Known store.old }
     requires node { bundle.node < nodes store.old.parts }
+    requires span { Spans store.old.parts store.old.now bundle.node span }
     ensures clears { Clears (Barred store.old.parts group.now bundle least most) pass.old store.old pass.new store.new }
     ensures known { Known store.new }
 {
-    for place in 0..entry_count(store.problem().parts(), NodeId(bundle.node)) {
+    for place in span.from..span.to {
         if !store.entry_in(NodeId(bundle.node), place) {
             continue;
         }
@@ -120,6 +123,7 @@ fn take_edges(
     plane: &Plane,
     group: &Group,
     bundle: Bundle,
+    span: Span,
     must: NodeSet,
     may: NodeSet,
 )
@@ -127,6 +131,7 @@ fn take_edges(
     requires dim { plane.now.dim.0 ≡ first_dim group.now }
     requires known { Known store.old }
     requires node { bundle.node < plane.now.nodes }
+    requires span { Spans store.old.parts store.old.now bundle.node span }
     requires must { AreEnds (must_edges store.old.parts store.old.now plane.now.dim.0) plane.now.dim.0 bundle must }
     requires may { AreEnds (may_edges store.old.parts store.old.now plane.now.dim.0) plane.now.dim.0 bundle may }
     ensures clears { Clears (EdgeAt bundle.way store.old.parts group.now store.old.now bundle.node bundle.label) pass.old store.old pass.new store.new }
@@ -136,14 +141,21 @@ fn take_edges(
     if open.len() == 0 {
         return;
     }
-    let full = is_greatest(store, group, bundle, must.len());
-    let needed = is_least(store, group, bundle, may.len());
+    let full = is_greatest(store, group, bundle, span, must.len());
+    let needed = is_least(store, group, bundle, span, may.len());
     take_open_if(store, pass, plane, bundle, open, true, full);
     take_open_if(store, pass, plane, bundle, open, false, needed);
 }
 
 /// Takes what valency takes at a bundle.
-fn take_bundle(store: &mut Store, pass: &mut Pass, plane: &Plane, group: &Group, bundle: Bundle)
+fn take_bundle(
+    store: &mut Store,
+    pass: &mut Pass,
+    plane: &Plane,
+    group: &Group,
+    bundle: Bundle,
+    span: Span,
+)
     requires plane { IsPlane store.old.parts plane.now }
     requires dim { plane.now.dim.0 ≡ first_dim group.now }
     requires known { Known store.old }
@@ -151,12 +163,13 @@ fn take_bundle(store: &mut Store, pass: &mut Pass, plane: &Plane, group: &Group,
     requires principle { group.now.principle ≡ principles.Valency }
     requires node { bundle.node < plane.now.nodes }
     requires label { bundle.label < label_count store.old.parts plane.now.dim.0 }
+    requires span { Spans store.old.parts store.old.now bundle.node span }
     ensures { Sweeps group.now (IsBundleDone bundle.way store.old.parts group.now bundle.node bundle.label) pass.old store.old pass.new store.new }
 {
     let must = ends(store, plane, Which::Must, bundle);
     let may = ends(store, plane, Which::May, bundle);
-    take_edges(store, pass, plane, group, bundle, must, may);
-    take_entries(store, pass, group, bundle, must.len(), may.len());
+    take_edges(store, pass, plane, group, bundle, span, must, may);
+    take_entries(store, pass, group, bundle, span, must.len(), may.len());
 }
 
 /// The nodes that have lost values of edges out of them, or into them, by their labels.
@@ -215,6 +228,7 @@ fn take_touched(
     group: &Group,
     touched: &Touched,
     bundle: Bundle,
+    span: Span,
 )
     requires plane { IsPlane store.old.parts plane.now }
     requires dim { plane.now.dim.0 ≡ first_dim group.now }
@@ -223,13 +237,14 @@ fn take_touched(
     requires principle { group.now.principle ≡ principles.Valency }
     requires node { bundle.node < plane.now.nodes }
     requires label { bundle.label < label_count store.old.parts plane.now.dim.0 }
+    requires span { Spans store.old.parts store.old.now bundle.node span }
     requires others { IsQuiet pass.old → AreOthersDone touched.now store.old.parts group.now store.old.now }
     ensures { Sweeps group.now (IsBundleDone bundle.way store.old.parts group.now bundle.node bundle.label) pass.old store.old pass.new store.new }
 {
     if !is_touched(touched, bundle) {
         return;
     }
-    take_bundle(store, pass, plane, group, bundle);
+    take_bundle(store, pass, plane, group, bundle, span);
 }
 
 /// Takes what valency takes at a node and a label.
@@ -241,6 +256,7 @@ fn take_label(
     touched: &Touched,
     node: u8,
     label: u8,
+    span: Span,
 )
     requires plane { IsPlane store.old.parts plane.now }
     requires dim { plane.now.dim.0 ≡ first_dim group.now }
@@ -249,6 +265,7 @@ fn take_label(
     requires principle { group.now.principle ≡ principles.Valency }
     requires node { node < plane.now.nodes }
     requires label { label < label_count store.old.parts plane.now.dim.0 }
+    requires span { Spans store.old.parts store.old.now node span }
     requires others { IsQuiet pass.old → AreOthersDone touched.now store.old.parts group.now store.old.now }
     ensures { Sweeps group.now (IsLabelDone store.old.parts group.now node label) pass.old store.old pass.new store.new }
 {
@@ -257,13 +274,13 @@ fn take_label(
         node,
         label,
     };
-    take_touched(store, pass, plane, group, touched, out);
+    take_touched(store, pass, plane, group, touched, out, span);
     let into = Bundle {
         way: Way::In,
         node,
         label,
     };
-    take_touched(store, pass, plane, group, touched, into);
+    take_touched(store, pass, plane, group, touched, into, span);
 }
 
 /// Takes what valency takes at a node and all labels.
@@ -286,8 +303,9 @@ fn take_labels(
     requires others { IsQuiet pass.old → AreOthersDone touched.now store.old.parts group.now store.old.now }
     ensures { Sweeps group.now (AreLabelsDone labels store.old.parts group.now node) pass.old store.old pass.new store.new }
 {
+    let span = Span::of(store, node);
     for label in 0..labels {
-        take_label(store, pass, plane, group, touched, node, label);
+        take_label(store, pass, plane, group, touched, node, label, span);
     }
 }
 

@@ -1,13 +1,12 @@
 use Rattle.std.proofs.Common.{◌≡◌, ◌≤◌, ◌↔◌, ◌∙◌, IsTrue, All, Contains, true, false, refl, sym, subst, arith}
 use Rattle.std.proofs.lemmas.Bool.{false≢true}
 use Rattle.xdg_pgraph.specs.Bundles.{numbers_of}
-use Rattle.xdg_graph.proofs.Remaining.{entry_end}
 use Rattle.xdg_pgraph.proofs.Allowed.{seen_start, seen_skip, seen_kept, seen_asked, seen_least}
 use Rattle.xdg_pgraph.proofs.bounds.is_least.Goals as goal
 use Rattle.xdg_pgraph.proofs.bounds.is_least.Goals.{then-found, else-found}
 
 pub loop-place-init : goal.loop-place-init
-loop-place-init c = seen_start (λ n k. n ≤ k) c.args.store.now.now c.args.bundle.node (numbers_of c.args.bundle.way c.args.group.now c.args.bundle.node c.args.bundle.label) c.args.number
+loop-place-init c = seen_start (λ n k. n ≤ k) c.args.store.now.now c.args.bundle.node (numbers_of c.args.bundle.way c.args.group.now c.args.bundle.node c.args.bundle.label) c.args.number c.args.span.from (λ k l has. (let from = (c.requires.span.each k has).0 in omega (arith, l, from)))
 
 pub loop-place-preserved-then-not-entry_in : goal.loop-place-preserved-then-not-entry_in
 loop-place-preserved-then-not-entry_in c = seen_skip (λ n k. n ≤ k) c.args.store.now.now c.args.bundle.node (numbers_of c.args.bundle.way c.args.group.now c.args.bundle.node c.args.bundle.label) c.args.number c.loop-place.found c.loop-place.place c.loop-place.invariant (λ has. (let t : false ≡ true = c.if-not-entry_in.ensures.exact.1 has in cc))
@@ -29,5 +28,8 @@ loop-place-preserved c =
 
 pub returns : goal.returns
 returns c = seen_least c.args.store.now.now c.args.bundle.node (numbers_of c.args.bundle.way c.args.group.now c.args.bundle.node c.args.bundle.label) c.args.number c.loop-place.found c.loop-place.place
-    (λ k has. entry_end c.args.store.now c.problem.result.now c.parts.result.now c.args.bundle.node k c.entry_count-place-end.result c.loop-place.place c.requires.known c.requires.node c.parts.ensures.same c.problem.ensures.parts c.entry_count-place-end.ensures.count (let n = c.loop-place-test.false in omega (arith, n)) has)
+    (λ k has. (let to = (c.requires.span.each k has).1 in let n = c.loop-place-test.false in omega (arith, to, n)))
     c.loop-place.invariant
+
+pub entry_in-requires : goal.entry_in-requires
+entry_in-requires c = record { node_in = c.requires.node; place_in = (let t = c.loop-place-test.true in let within = c.requires.span.within in omega (arith, t, within)) }

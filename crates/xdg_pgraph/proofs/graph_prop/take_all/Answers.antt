@@ -18,10 +18,10 @@ pub returns-then-are_musts_done-2 : goal.returns-then-are_musts_done-2
 returns-then-are_musts_done-2 c = dag_lasts c.args.group.now c.args.pass.now c.take_others-then-are_musts_done-2.new.pass c.args.store.now c.take_others-then-are_musts_done-2.new.store c.requires.group c.requires.family c.take_others-then-are_musts_done-2.ensures.parts c.take_others-then-are_musts_done-2.ensures.known c.of-plane.result.dim.0 c.of-plane.ensures.dim c.truth_of-rooted.result c.truth_of-rooted.ensures c.in-Dag.is (c.are_musts_done-in-Dag.ensures c.if-are_musts_done-2.true) c.take_others-then-are_musts_done-2.ensures.runs
 
 pub returns-in-Valency : goal.returns-in-Valency
-returns-in-Valency c = valency_swept c.args.group.now c.args.pass.now c.take_valency.new.pass c.args.store.now c.take_valency.new.store c.requires.group c.requires.family c.take_valency.ensures.goes.extends.same c.take_valency.ensures.known c.of-plane.result.dim.0 c.of-plane.ensures.dim c.label_count-labels.result c.of-plane.result.nodes
+returns-in-Valency c = valency_swept c.args.group.now c.args.pass.now c.take_counts.new.pass c.args.store.now c.take_counts.new.store c.requires.group c.requires.family c.take_counts.ensures.goes.extends.same c.take_counts.ensures.known c.of-plane.result.dim.0 c.of-plane.ensures.dim c.label_count-labels.result c.of-plane.result.nodes
     (c.label_count-labels.ensures ∙ ap (λ (parts : Parts). label_count parts c.of-plane.result.dim.0) c.requires.parts)
     (c.of-plane.ensures.plane.nodes_is ∙ ap (λ (parts : Parts). nodes parts) c.requires.parts)
-    c.in-Valency.is c.take_valency.ensures
+    c.in-Valency.is c.take_counts.ensures
 
-pub take_valency-requires-clause-others : goal.take_valency-requires-clause-others
-take_valency-requires-clause-others c quiet = c.touched_since-touched.ensures
+pub take_counts-requires-clause-labels : goal.take_counts-requires-clause-labels
+take_counts-requires-clause-labels c = c.label_count-labels.ensures ∙ ap (λ (parts : Parts). label_count parts c.of-plane.result.dim.0) c.requires.parts
