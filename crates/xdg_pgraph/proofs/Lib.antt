@@ -27,3 +27,4 @@ pub mod MustsStay
 pub mod Told
 pub mod Skipped
 pub mod Needing
+pub mod Opened

@@ -1,7 +1,7 @@
 -- Nodes at which the rules take nothing that remains.
-use Rattle.std.proofs.Common.{◌≡◌, ◌≢◌, ℕ, ◌+◌, ◌&&◌, inl, inr, Bool, true, false, List, length, refl, sym, ◌∙◌, ap, subst, arith}
-use Rattle.std.specs.Prelude.{Contains, not}
-use Rattle.std.proofs.lemmas.Bool.{cases_eq, false≢true, false_from_ne_true, not_from_false}
+use Rattle.std.proofs.Common.{◌≡◌, ◌≢◌, ℕ, ◌+◌, ◌&&◌, inl, inr, Bool, true, false, List, length, refl, sym, ◌∙◌, subst, arith}
+use Rattle.std.specs.Prelude.{Contains}
+use Rattle.std.proofs.lemmas.Bool.{cases_eq, false≢true}
 use Rattle.std.proofs.lemmas.List.{nil_from_length}
 use Rattle.xdg_nodeset.proofs.TableSets.{both}
 use Rattle.xdg_nodeset.specs.Tables.{In}
@@ -10,7 +10,6 @@ use Rattle.xdg_problem.specs.declared.analysis.Edge.{Edge}
 use Rattle.xdg_problem.specs.declared.parts.Group.{Group}
 use Rattle.xdg_problem.specs.declared.parts.Parts.{Parts}
 use Rattle.xdg_problem.specs.Boxes.{Has, edge_decision}
-use Rattle.xdg_problem.specs.Paths.{mothers}
 use Rattle.xdg_rules.specs.Rules.{IsPlaceOn, SaysPresent, may_edges, must_edges}
 use Rattle.xdg_rules.proofs.Shrinking.{may_of, must_is}
 use Rattle.xdg_store.specs.States.{State}
@@ -28,7 +27,6 @@ use Rattle.xdg_pgraph.specs.Seeking.{Aims, BacksFrom, StartAll, ToNode}
 use Rattle.xdg_pgraph.proofs.Labels.{LabelInto}
 use Rattle.xdg_pgraph.proofs.Reached.{BacksInto}
 use Rattle.xdg_pgraph.proofs.Ruled.{OneMotherBelow}
-use Rattle.xdg_pgraph.proofs.Single.{OnlyMotherBelow, not_more}
 
 -- more is looked at, where the rule takes nothing that remained at first
 pub runs_skip : (A C : List (List Bool) → ℕ → ℕ → Type 0) (group : Group) (p q : Progress) (old mid : State) → ((d v : ℕ) → C old.now d v → Has old.now d v → A old.now d v) → Runs A group p old q mid → Runs C group p old q mid
@@ -59,7 +57,7 @@ crowded P Q must may both_there w m y is none place other p q r into too differ 
     false≢true (sym none ∙ is w ∙ (both (has must.some w) (has may.more w)).1 ((m.once w).1 (other, p, too), (y.twice w).1 (record { first = place; one = (r, into); second = other; two = (q, too); differ = differ })))
 
 module _ (parts : Parts) (box : List (List Bool)) (dim : ℕ) where
-  must_may : (e : Edge) → Contains (must_edges parts box dim) e → Contains (may_edges parts box dim) e
+  pub must_may : (e : Edge) → Contains (must_edges parts box dim) e → Contains (may_edges parts box dim) e
   must_may e c = (let m = must_is parts box dim e c in may_of parts box dim e (record { place = m.place; dim_is = m.dim_is; present = m.present }))
 
   place_may : (e : Edge) (d v : ℕ) → IsPlaceOn parts dim e → SaysPresent parts e d v → Has box d v → Contains (may_edges parts box dim) e
@@ -138,20 +136,3 @@ module _ (plane : Plane) (p q : Progress) (old mid : State) (must may : Entered)
         | inr other ↦ record { rule = x.rule; of = (x.of.0, (let l = x.of.1 in omega (arith, l, other))) }
       ])
       (before group is_group on (λ box d v x. takes box d v (record { rule = x.rule; of = (x.of.0, (let l = x.of.1 in omega (arith, l))) })))
-
--- no edge that may be is the only one into a node
-pub only_skip : (plane : Plane) (p q : Progress) (old mid : State) (may : Entered) (w : ℕ) (single : List ℕ) → Tells (Contains (may_edges old.parts old.now plane.dim.0)) may → ((n : ℕ) → has single n ≡ (has may.some n && not (has may.more n))) → has single w ≡ false → RunsFor (OnlyMotherBelow w) plane.dim.0 p old q mid → RunsFor (OnlyMotherBelow (w + 1)) plane.dim.0 p old q mid
-only_skip plane p q old mid may w single y single_is none before group is_group on takes = runs_skip (OnlyMotherBelow w old.parts group) (OnlyMotherBelow (w + 1) old.parts group) group p q old mid
-    (λ d v x h. elim (cases_eq x.rule.place.daughter.0 w) [
-      | inl at ↦ absurd (false≢true (sym none ∙ single_there x.rule.place
-          (subst (λ k. Contains (may_edges old.parts old.now k) x.rule.place) on x.rule.may)
-          at
-          (ap (mothers (may_edges old.parts old.now plane.dim.0)) (sym at) ∙ subst (λ k. mothers (may_edges old.parts old.now k) x.rule.place.daughter.0 ≡ 1) on x.rule.only)))
-      | inr other ↦ record { rule = x.rule; below = (let b = x.below in omega (arith, b, other)) }
-    ])
-    (before group is_group on (λ box d v x. takes box d v (record { rule = x.rule; below = (let l = x.below in omega (arith, l)) })))
-  where
-    single_there : (e : Edge) → Contains (may_edges old.parts old.now plane.dim.0) e → ToNode w e → mothers (may_edges old.parts old.now plane.dim.0) w ≡ 1 → has single w ≡ true
-    single_there e c into one =
-        let few : has may.more w ≡ false = false_from_ne_true (has may.more w) (λ t. (let s = (y.twice w).0 t in not_more old.parts old.now plane.dim.0 w (s.first, s.second, s.one, s.two, s.differ) one)) in
-        single_is w ∙ (both (has may.some w) (not (has may.more w))).1 ((y.once w).1 (e, c, into), not_from_false (has may.more w) few)

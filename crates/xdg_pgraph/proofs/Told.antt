@@ -186,9 +186,9 @@ module _ (which : Which) (parts : Parts) (box : List (List Bool)) (plane : Plane
 
 -- ---- roots
 
-module _ (edges : List Edge) (v : ℕ) (a : Entered) (r new : Roots) (t : Tells (Contains edges) a) where
-  pub root_out : has a.some v ≡ false → new ≡ roots_with r v → RootsAre (roots v edges) r → RootsAre (roots (v + 1) edges) new
-  root_out none new_is is = subst (RootsAre (roots (v + 1) edges)) (sym new_is) (root_taken edges v r (λ e into. false≢true (sym none ∙ (t.once v).1 (e, into.0, into.1))) is)
+module _ (edges : List Edge) (v : ℕ) (some : List ℕ) (r new : Roots) (t : (n : ℕ) → IsTrue (has some n) ↔ Enters (Contains edges) n) where
+  pub root_out : has some v ≡ false → new ≡ roots_with r v → RootsAre (roots v edges) r → RootsAre (roots (v + 1) edges) new
+  root_out none new_is is = subst (RootsAre (roots (v + 1) edges)) (sym new_is) (root_taken edges v r (λ e into. false≢true (sym none ∙ (t v).1 (e, into.0, into.1))) is)
 
-  pub root_in : has a.some v ≡ true → new ≡ r → RootsAre (roots v edges) r → RootsAre (roots (v + 1) edges) new
-  root_in some new_is is = (let s = (t.once v).0 some in subst (RootsAre (roots (v + 1) edges)) (sym new_is) (root_left edges v r s.0 (s.1, s.2) is))
+  pub root_in : has some v ≡ true → new ≡ r → RootsAre (roots v edges) r → RootsAre (roots (v + 1) edges) new
+  root_in there new_is is = (let s = (t v).0 there in subst (RootsAre (roots (v + 1) edges)) (sym new_is) (root_left edges v r s.0 (s.1, s.2) is))

@@ -1,11 +1,11 @@
 //! The nodes into which edges lead.
 
-ghost use Rattle.std.specs.Prelude.{◌≡◌, ◌<◌, ◌≤◌, ◌==◌, ◌||◌, ◌&&◌, ℕ, List, Contains};
+ghost use Rattle.std.specs.Prelude.{◌≡◌, ◌<◌, ◌≤◌, ◌==◌, ◌↔◌, ◌||◌, ◌&&◌, ℕ, IsTrue, List, Contains};
 ghost use Rattle.xdg_nodeset.specs.Nodes.{has};
 ghost use Rattle.xdg_problem.specs.declared.analysis.Edge.{Edge as Arrow};
 ghost use Rattle.xdg_problem.specs.Paths.{roots};
 ghost use Rattle.xdg_store.specs.States.{Known};
-ghost use Rattle.xdg_pgraph.specs.Entering.{Tells, Leaving, Labelled};
+ghost use Rattle.xdg_pgraph.specs.Entering.{Enters, Tells, Leaving, Labelled};
 ghost use Rattle.xdg_pgraph.specs.Planes.{IsPlane};
 ghost use Rattle.xdg_pgraph.specs.Seeking.{Into, RootsAre, edges_of, roots_with};
 
@@ -82,7 +82,7 @@ pub(crate) fn entered_from(store: &Store, plane: &Plane, which: Which, mother: u
 }
 
 /// The set of one node.
-fn alone(node: u8) -> NodeSet
+pub(crate) fn alone(node: u8) -> NodeSet
     requires { node < 128 }
     ensures { (n : ℕ) → has result n ≡ (n == node) }
 {
@@ -148,14 +148,14 @@ impl Roots {
     }
 }
 
-/// The nodes into which no edge leads.
-pub(crate) fn find_roots(plane: &Plane, entered: &Entered) -> Roots
+/// The nodes into which no edge leads, by those into which some do.
+pub(crate) fn find_roots(plane: &Plane, some: &NodeSet) -> Roots
     requires small { plane.now.nodes ≤ 128 }
-    ensures { (edges : List Arrow) → Tells (Contains edges) entered.now → RootsAre (roots plane.now.nodes edges) result }
+    ensures { (edges : List Arrow) → ((n : ℕ) → IsTrue (has some.now n) ↔ Enters (Contains edges) n) → RootsAre (roots plane.now.nodes edges) result }
 {
     let mut nodes = Roots::Nothing;
     for node in 0..plane.nodes {
-        if !entered.some.contains(NodeId(node)) {
+        if !some.contains(NodeId(node)) {
             nodes = nodes.with(node);
         }
     }

@@ -44,7 +44,13 @@ pub(crate) fn joined(store: &Store, plane: &Plane, which: Which, mother: u8, dau
 }
 
 /// The edges with a label into a node.
-fn entering_with(store: &Store, plane: &Plane, which: Which, daughter: u8, label: u8) -> Found
+pub(crate) fn entering_with(
+    store: &Store,
+    plane: &Plane,
+    which: Which,
+    daughter: u8,
+    label: u8,
+) -> Found
     requires plane { IsPlane store.now.parts plane.now }
     requires known { Known store.now }
     requires daughter { daughter < plane.now.nodes }

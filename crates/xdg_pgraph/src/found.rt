@@ -2,6 +2,7 @@
 
 ghost use Rattle.std.specs.Prelude.{◌≡◌, ◌↔◌, IsTrue};
 ghost use Rattle.xdg_pgraph.specs.Seeking.{IsMore, IsOther, found_with, found_merged};
+ghost use Rattle.xdg_pgraph.specs.declared.found.Found.TheVariants as founds;
 
 use xdg_problem::Edge;
 
@@ -55,6 +56,17 @@ impl Found {
             Found::Nothing => other,
             Found::One(edge) => other.with(edge),
             Found::More => Found::More,
+        }
+    }
+
+    /// Whether no edge was found.
+    pub(crate) fn is_nothing(self) -> bool
+        ensures { IsTrue result ↔ (self ≡ founds.Nothing) }
+    {
+        match self {
+            Found::Nothing => true,
+            Found::One(_) => false,
+            Found::More => false,
         }
     }
 

@@ -8,7 +8,7 @@ ghost use Rattle.xdg_pgraph.specs.Planes.{IsPlane};
 ghost use Rattle.xdg_pgraph.specs.Ruling.{RunsFor, OneLabelOf, RootIf, OthersIf, LabelIf, ByTree, ByDag};
 ghost use Rattle.xdg_pgraph.specs.Seeking.{Doubled};
 
-use crate::entered::{all_entered, entered_from};
+use crate::entered::entered_from;
 use crate::finding::joined;
 use crate::found::Which;
 use crate::incoming::Incoming;
@@ -80,8 +80,7 @@ pub(crate) fn take_tree(store: &mut Store, pass: &mut Pass, plane: &Plane)
     one_mother(store, pass, plane, &first);
     let second = first.renewed(store, pass, plane);
     for_root(store, pass, plane, &second);
-    let third = second.renewed(store, pass, plane);
-    for_others(store, pass, plane, &third.may);
+    for_others(store, pass, plane);
     no_cycle(store, pass, plane);
 }
 
@@ -96,10 +95,9 @@ fn take_root(store: &mut Store, pass: &mut Pass, plane: &Plane, wanted: bool)
     if !wanted {
         return;
     }
-    let first = Incoming::of(store, plane);
-    for_root(store, pass, plane, &first);
-    let second = first.renewed(store, pass, plane);
-    for_others(store, pass, plane, &second.may);
+    let incoming = Incoming::of(store, plane);
+    for_root(store, pass, plane, &incoming);
+    for_others(store, pass, plane);
 }
 
 /// The rules that go by the edges that may be, where they are asked for.
@@ -113,8 +111,7 @@ pub(crate) fn take_others(store: &mut Store, pass: &mut Pass, plane: &Plane, wan
     if !wanted {
         return;
     }
-    let may = all_entered(store, plane, Which::May);
-    for_others(store, pass, plane, &may);
+    for_others(store, pass, plane);
 }
 
 /// The rule of labels, where it is asked for.

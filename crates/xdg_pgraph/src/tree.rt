@@ -1,23 +1,26 @@
 //! The rules of trees, and those of dags.
 
-ghost use Rattle.std.specs.Prelude.{◌≡◌, ◌<◌, ℕ, Contains};
+ghost use Rattle.std.specs.Prelude.{◌≡◌, ◌<◌, ℕ, false, Contains};
+ghost use Rattle.xdg_nodeset.specs.Nodes.{has};
 ghost use Rattle.xdg_problem.specs.Paths.{roots};
 ghost use Rattle.xdg_rules.specs.Rules.{OneMother, OnlyMother, may_edges};
 ghost use Rattle.xdg_store.specs.States.{Known};
 ghost use Rattle.xdg_propcore.specs.Passes.{Clears, IsQuiet};
-ghost use Rattle.xdg_pgraph.specs.Entering.{Tells};
 ghost use Rattle.xdg_pgraph.specs.Incomings.{AreOf};
+ghost use Rattle.xdg_pgraph.specs.Openings.{NoneOnly};
 ghost use Rattle.xdg_pgraph.specs.Planes.{IsPlane};
 ghost use Rattle.xdg_pgraph.specs.Ruling.{RunsFor, ForRoot, ForOthers};
 ghost use Rattle.xdg_pgraph.specs.Seeking.{Aims, ToNode};
 
-use crate::entered::{Entered, Roots, find_roots};
+use crate::entered::{Roots, find_roots};
 use crate::finding::entering;
 use crate::found::{Found, Which};
 use crate::incoming::Incoming;
+use crate::opening::Openings;
 use crate::plane::Plane;
 use crate::taking::{forbid_entering, force_entering};
 use xdg_base::NodeId;
+use xdg_nodeset::NodeSet;
 use xdg_propcore::Pass;
 use xdg_store::Store;
 
@@ -61,28 +64,27 @@ pub(crate) fn for_root(store: &mut Store, pass: &mut Pass, plane: &Plane, incomi
     requires known { Known store.old }
     requires incoming { AreOf store.old.parts store.old.now plane.now.dim.0 incoming.now }
     ensures runs { RunsFor ForRoot plane.now.dim.0 pass.old store.old pass.new store.new }
-    ensures quiet { IsQuiet pass.new → store.new.now ≡ store.old.now }
     ensures parts { store.new.parts ≡ store.old.parts }
     ensures known { Known store.new }
 {
-    match find_roots(plane, &incoming.must) {
+    match find_roots(plane, &incoming.must.some) {
         Roots::Nothing => pass.fail(store),
         Roots::One(root) => forbid_mothers(store, pass, plane, incoming, root),
         Roots::More => {}
     }
 }
 
-/// Into each node into which one edge alone may lead that edge leads, where another node has none.
-fn only_mother(store: &mut Store, pass: &mut Pass, plane: &Plane, may: &Entered)
+/// Into each node into which one edge alone may lead that edge leads, where another node has none. Beside some nodes there is
+/// nothing to take.
+fn only_mother(store: &mut Store, pass: &mut Pass, plane: &Plane, single: &NodeSet)
     requires plane { IsPlane store.old.parts plane.now }
     requires known { Known store.old }
-    requires may { Tells (Contains (may_edges store.old.parts store.old.now plane.now.dim.0)) may.now }
+    requires single { (node : ℕ) → has single.now node ≡ false → NoneOnly store.old.parts store.old.now plane.now.dim.0 node }
     ensures runs { (root : ℕ) → Contains (roots plane.now.nodes (may_edges store.old.parts store.old.now plane.now.dim.0)) root
         → RunsFor OnlyMother plane.now.dim.0 pass.old store.old pass.new store.new }
     ensures parts { store.new.parts ≡ store.old.parts }
     ensures known { Known store.new }
 {
-    let single = may.some.minus(&may.more);
     for daughter in 0..plane.nodes {
         if single.contains(NodeId(daughter)) {
             force_entering(store, pass, plane, daughter);
@@ -91,17 +93,17 @@ fn only_mother(store: &mut Store, pass: &mut Pass, plane: &Plane, may: &Entered)
 }
 
 /// Where no edge may lead into one node, edges lead into all others. There is no second such node.
-pub(crate) fn for_others(store: &mut Store, pass: &mut Pass, plane: &Plane, may: &Entered)
+pub(crate) fn for_others(store: &mut Store, pass: &mut Pass, plane: &Plane)
     requires plane { IsPlane store.old.parts plane.now }
     requires known { Known store.old }
-    requires may { Tells (Contains (may_edges store.old.parts store.old.now plane.now.dim.0)) may.now }
     ensures runs { RunsFor ForOthers plane.now.dim.0 pass.old store.old pass.new store.new }
     ensures parts { store.new.parts ≡ store.old.parts }
     ensures known { Known store.new }
 {
-    match find_roots(plane, may) {
+    let openings = Openings::of(store, plane);
+    match find_roots(plane, &openings.some) {
         Roots::Nothing => {}
-        Roots::One(_) => only_mother(store, pass, plane, may),
+        Roots::One(_) => only_mother(store, pass, plane, &openings.single),
         Roots::More => pass.fail(store),
     }
 }

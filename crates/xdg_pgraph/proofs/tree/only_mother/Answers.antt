@@ -8,7 +8,7 @@ use Rattle.xdg_pgraph.specs.Planes.{IsPlane}
 use Rattle.xdg_pgraph.specs.Ruling.{RunsFor}
 use Rattle.xdg_pgraph.specs.Seeking.{Only}
 use Rattle.xdg_pgraph.proofs.Single.{OnlyMotherBelow, only_start, only_turn, only_end}
-use Rattle.xdg_pgraph.proofs.Skipped.{only_skip}
+use Rattle.xdg_pgraph.proofs.Opened.{only_skip}
 use Rattle.xdg_pgraph.proofs.tree.only_mother.Goals as goal
 use Rattle.xdg_pgraph.proofs.tree.only_mother.Goals.{then-contains, else-contains}
 
@@ -36,7 +36,7 @@ loop-daughter-preserved c =
       | else-contains w ↦
           subst (λ p. ((root : ℕ) → Contains (roots plane.nodes (may_edges s0.parts s0.now plane.dim.0)) root → RunsFor (OnlyMotherBelow (c.loop-daughter.daughter + 1)) plane.dim.0 c.args.pass.now s0 p c.if-contains.store) × (c.if-contains.store.parts ≡ s0.parts) × Known c.if-contains.store) (sym w.pass-is)
           (subst (λ s. ((root : ℕ) → Contains (roots plane.nodes (may_edges s0.parts s0.now plane.dim.0)) root → RunsFor (OnlyMotherBelow (c.loop-daughter.daughter + 1)) plane.dim.0 c.args.pass.now s0 c.loop-daughter.pass s) × (s.parts ≡ s0.parts) × Known s) (sym w.store-is) (
-            λ root there. only_skip plane c.args.pass.now c.loop-daughter.pass s0 c.loop-daughter.store c.args.may.now c.loop-daughter.daughter c.minus-single.result c.requires.may c.minus-single.ensures.members (sym c.contains.ensures.value ∙ w.if-contains.false)
+            λ root there. only_skip plane c.args.pass.now c.loop-daughter.pass s0 c.loop-daughter.store c.loop-daughter.daughter (c.requires.single c.loop-daughter.daughter (sym c.contains.ensures.value ∙ w.if-contains.false))
                 (c.loop-daughter.invariant.0 root there),
             same,
             c.loop-daughter.invariant.2,
