@@ -17,9 +17,10 @@ use Rattle.xdg_problem.specs.Truths.{bound, unbound}
 use Rattle.xdg_problem.proofs.Claimed.{claim_not, claim_and, claim_or, claim_every, claim_any, claim_edge, claim_above, claim_left, claim_same, claim_attr, claim_feat}
 use Rattle.xdg_store.specs.declared.decision.Decision.{Decision}
 use Rattle.xdg_store.specs.declared.decision.Decision.TheVariants as decisions
-use Rattle.xdg_formula_value.specs.Lost.{AgreeBut, Concerns, ConcernsSome, Finds, IsAttrOf, IsEdgeOf, IsEntryOf, OnNames}
+use Rattle.xdg_formula_value.specs.Lost.{AgreeBut, Concerns, ConcernsSome, Finds, IsAttrOf, IsEdgeOf, IsEntryOf, MovesPath, OnNames, Seen}
 use Rattle.xdg_formula_value.proofs.Finding.{NoneMade, agree_rest, finds_no, finds_weaker, missed}
 use Rattle.xdg_formula_value.proofs.Stood.{bound_else}
+use Rattle.xdg_formula_value.proofs.Within.{seen_so}
 
 -- names that a quantifier doesn't bind anew
 pub outside_few : (names rest : List ℕ) (name : ℕ) → ((n : ℕ) → has rest n ≡ (not (n == name) && has names n)) → (n : ℕ) → has rest n ≡ true → (n ≢ name) × (has names n ≡ true)
@@ -31,27 +32,29 @@ pub outside_none : (names rest : List ℕ) (name : ℕ) → rest ≡ [] → (n :
 outside_none names rest name empty n there = absurd (false≢true (subst (λ s. has s n ≡ true) empty there))
 
 -- what concerns one of some claims concerns it at a place
-some_at : (d : Decision) (fs : List Formula) (b : ℕ → ℕ) (none_there : Formula) → ConcernsSome d (claims_of (map claim fs)) b → (i : ℕ) × (i < length fs) × Concerns d (claim (get_or fs i none_there)) b
-some_at d [] b none_there meets = absurd meets
-some_at d (f ∷ fs) b none_there meets = elim meets [
+some_at : (parts : Parts) (old new : List (List Bool)) (d : Decision) (fs : List Formula) (b : ℕ → ℕ) (none_there : Formula) → ConcernsSome parts old new d (claims_of (map claim fs)) b
+    → (i : ℕ) × (i < length fs) × Concerns parts old new d (claim (get_or fs i none_there)) b
+some_at parts old new d [] b none_there meets = absurd meets
+some_at parts old new d (f ∷ fs) b none_there meets = elim meets [
   | inl here ↦ (0, omega arith, here)
-  | inr later ↦ (let it = some_at d fs b none_there later in (suc it.0, (let l = it.1 in omega (arith, l)), it.2))
+  | inr later ↦ (let it = some_at parts old new d fs b none_there later in (suc it.0, (let l = it.1 in omega (arith, l)), it.2))
 ]
 
-module _ (parts : Parts) (box : List (List Bool)) (c : Claim) (truth : Bool) (free names : List ℕ) (d : Decision) where
+module _ (parts : Parts) (old box : List (List Bool)) (c : Claim) (truth : Bool) (free names : List ℕ) (d : Decision) where
   -- names stand for what lets the decision concern a claim
   abbrev pub Touched : List ℕ → Claim → (ℕ → ℕ) → Type 0
-  Touched on part b = AgreeBut free unbound b × OnNames on (Concerns d part) b
+  Touched on part b = AgreeBut free unbound b × OnNames on (Concerns parts old box d part) b
 
   -- a formula of a form that claims this
   pub form_touched : (part form : Formula) (it : Claim) (found : Bool) → part ≡ form → claim form ≡ it → Finds parts box c truth (Touched names it) found → Finds parts box c truth (Touched names (claim part)) found
   form_touched part form it found is claims finds = subst (λ f. Finds parts box c truth (Touched names (claim f)) found) (sym is) (subst (λ k. Finds parts box c truth (Touched names k) found) (sym claims) finds)
 
-  none_touched : (it : Claim) → ((a : ℕ → ℕ) → Concerns d it a → ⊥) → Finds parts box c truth (Touched names it) false
+  none_touched : (it : Claim) → ((a : ℕ → ℕ) → Concerns parts old box d it a → ⊥) → Finds parts box c truth (Touched names it) false
   none_touched it none = finds_no parts box c truth (Touched names it) (λ b are wanted makes. none wanted.1.0 wanted.1.2)
 
-  pub above_touched : (part : Formula) (dim : DimId) (upper lower : ℕ) → part ≡ y.Above dim upper lower → Finds parts box c truth (Touched names (claim part)) false
-  above_touched part dim upper lower is = form_touched part (y.Above dim upper lower) (above dim.0 upper lower) false is (claim_above dim upper lower) (none_touched (above dim.0 upper lower) (λ a meets. meets))
+  pub above_touched : (part : Formula) (dim : DimId) (upper lower : ℕ) (found : Bool) → part ≡ y.Above dim upper lower
+      → Finds parts box c truth (λ b. AgreeBut free unbound b × OnNames names (λ a. MovesPath parts old box d dim.0 (a upper) (a lower)) b) found → Finds parts box c truth (Touched names (claim part)) found
+  above_touched part dim upper lower found is finds = form_touched part (y.Above dim upper lower) (above dim.0 upper lower) found is (claim_above dim upper lower) finds
 
   pub left_touched : (part : Formula) (first second : ℕ) → part ≡ y.Left first second → Finds parts box c truth (Touched names (claim part)) false
   left_touched part first second is = form_touched part (y.Left first second) (left first second) false is (claim_left first second) (none_touched (left first second) (λ a meets. meets))
@@ -103,20 +106,20 @@ module _ (parts : Parts) (box : List (List Bool)) (c : Claim) (truth : Bool) (fr
   pub touched_start : (fs : List Formula) → NoneTouched fs 0
   touched_start fs i f l = absurd (omega (arith, l))
 
-  pub touched_turn : (fs : List Formula) (k : ℕ) (f : Formula) (found : Bool) → k < length fs → f ≡ get_or fs k f → NoneTouched fs k → found ≡ false → Finds parts box c truth (Touched names (claim f)) found
-      → NoneTouched fs (k + 1)
-  touched_turn fs k f found within is so_far off finds i g l = elim (cases_eq i k) [
+  pub touched_turn : (fs : List Formula) (k : ℕ) (f : Formula) (found seen more : Bool) → k < length fs → f ≡ get_or fs k f → (more ≡ true → seen ≡ true) → (seen ≡ true → NoneTouched fs k) → found ≡ false
+      → Finds parts box c truth (Seen more (Touched names (claim f))) found → more ≡ true → NoneTouched fs (k + 1)
+  touched_turn fs k f found seen more within is still so_far off finds on i g l = elim (cases_eq i k) [
     | inl alike ↦ (
         let here : f ≡ get_or fs i g = is ∙ get_or_default fs k f g within ∙ sym (ap (λ j. get_or fs j g) alike) in
-        subst (λ h. NoneMade parts box c truth (Touched names (claim h))) here (missed parts box c truth (Touched names (claim f)) found off finds)
+        subst (λ h. NoneMade parts box c truth (Touched names (claim h))) here (missed parts box c truth (Touched names (claim f)) found off (seen_so parts box c truth (Touched names (claim f)) more found on finds))
         )
-    | inr other ↦ so_far i g (omega (arith, l, other))
+    | inr other ↦ so_far (still on) i g (omega (arith, l, other))
   ]
 
   -- no part of a list is
-  touched_all : (fs items : List Formula) (k : ℕ) (none_there : Formula) → items ≡ fs → length items ≤ k → NoneTouched items k → NoneMade parts box c truth (λ b. AgreeBut free unbound b × OnNames names (ConcernsSome d (claims_of (map claim fs))) b)
+  touched_all : (fs items : List Formula) (k : ℕ) (none_there : Formula) → items ≡ fs → length items ≤ k → NoneTouched items k → NoneMade parts box c truth (λ b. AgreeBut free unbound b × OnNames names (ConcernsSome parts old box d (claims_of (map claim fs))) b)
   touched_all fs items k none_there alike past none b are wanted makes =
-      let it = some_at d items wanted.1.0 none_there (subst (λ hs. ConcernsSome d (claims_of (map claim hs)) wanted.1.0) (sym alike) wanted.1.2) in
+      let it = some_at parts old box d items wanted.1.0 none_there (subst (λ hs. ConcernsSome parts old box d (claims_of (map claim hs)) wanted.1.0) (sym alike) wanted.1.2) in
       let l = it.1 in
       none it.0 none_there (omega (arith, l, past)) b are (wanted.0, (wanted.1.0, wanted.1.1, it.2)) makes
 
@@ -128,8 +131,9 @@ module _ (parts : Parts) (box : List (List Bool)) (c : Claim) (truth : Bool) (fr
   or_touched part fs items k is alike past none = form_touched part (y.Or fs) (disjunction (claims_of (map claim fs))) false is (claim_or fs)
       (finds_no parts box c truth (Touched names (disjunction (claims_of (map claim fs)))) (touched_all fs items k part alike past none))
 
-  -- ---- one decision
+-- ---- one decision
 
+module _ (parts : Parts) (box : List (List Bool)) (c : Claim) (truth : Bool) (free names : List ℕ) (d : Decision) where
   none_for : (P : (ℕ → ℕ) → Type 0) → ((a : ℕ → ℕ) → P a → ⊥) → Finds parts box c truth (λ b. AgreeBut free unbound b × OnNames names P b) false
   none_for P none = finds_no parts box c truth (λ b. AgreeBut free unbound b × OnNames names P b) (λ b are wanted makes. none wanted.1.0 wanted.1.2)
 

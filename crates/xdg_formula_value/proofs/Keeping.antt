@@ -12,7 +12,7 @@ use Rattle.xdg_problem.specs.Paths.{Above, IsDaughterBy}
 use Rattle.xdg_problem.specs.Problems.{IsProblem}
 use Rattle.xdg_problem.specs.Vectors.{shape}
 use Rattle.xdg_problem.proofs.PlaceOrder.{is_place, place_is}
-use Rattle.xdg_problem.proofs.Walks.{above_edge, above_trans, closed_above}
+use Rattle.xdg_problem.proofs.Walks.{above_edge, above_trans}
 use Rattle.xdg_rules.specs.Rules.{has, may_edges, must_edges}
 use Rattle.xdg_rules.proofs.Shrinking.{may_exact, must_exact}
 use Rattle.xdg_rules.proofs.Sizes.{edge_some}
@@ -23,7 +23,8 @@ use Rattle.xdg_store.specs.Naming.{Names}
 use Rattle.xdg_store.specs.declared.decision.Decision.{Decision}
 use Rattle.xdg_store.specs.declared.decision.Decision.TheVariants as decisions
 use Rattle.xdg_formula_value.specs.Lost.{AllLast, IsEdgeOf, KeepsPath, Lasts, PathsStay}
-use Rattle.xdg_formula_value.proofs.Unmet.{lost_edge}
+use Rattle.xdg_formula_value.proofs.Losing.{lost_edge}
+use Rattle.xdg_formula_value.proofs.Passing.{through}
 use Rattle.xdg_facts.proofs.Truths.{or_here}
 
 -- ---- a node less
@@ -123,12 +124,6 @@ module _ (parts : Parts) (problem : IsProblem parts) (old new : List (List Bool)
         )
 
   -- ---- paths of one box among those of another
-
-  through : (few many : List Edge) → ((e : Edge) → Contains few e → Above many e.mother.0 e.daughter.0) → (u v : ℕ) → Above few u v → Above many u v
-  through few many leads u v path = closed_above few u v (Above many u) (λ e is from. elim from [
-    | inl first ↦ subst (λ m. Above many m e.daughter.0) first (leads e is)
-    | inr later ↦ above_trans many u e.mother.0 e.daughter.0 later (leads e is)
-  ]) path
 
   pub paths_stay : (dim k : ℕ) → length removed ≤ k → KeepPaths parts old new removed dim k → PathsStay parts old new dim
   paths_stay dim k past keep =

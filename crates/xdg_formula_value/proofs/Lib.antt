@@ -15,9 +15,14 @@ pub mod Kinding
 pub mod Named
 pub mod Swept
 pub mod Staying
+pub mod Losing
+pub mod Passing
+pub mod Moved
 pub mod Unmet
 pub mod Finding
+pub mod Within
 pub mod Under
 pub mod Locals
 pub mod Keeping
 pub mod Concerning
+pub mod Reached

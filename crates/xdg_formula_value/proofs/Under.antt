@@ -18,7 +18,7 @@ use Rattle.xdg_rules.proofs.Bound.{bound_nodes}
 use Rattle.xdg_rules.proofs.ClaimLaws.{name_laws}
 use Rattle.xdg_store.specs.Naming.{Names}
 use Rattle.xdg_store.specs.declared.decision.Decision.{Decision}
-use Rattle.xdg_formula_value.specs.Lost.{AgreeBut, AsksOn, Concerns, Finds, LeadsTo, OnNames, PathsStay}
+use Rattle.xdg_formula_value.specs.Lost.{AgreeBut, AsksIf, Concerns, Finds, LeadsTo, LosesOne, OnNames, Seen}
 use Rattle.xdg_formula_value.specs.Rows.{Over}
 use Rattle.xdg_formula_value.proofs.Finding.{NoneMade, finds_no}
 use Rattle.xdg_formula_value.proofs.Formed.{not_makes, every_makes, any_makes}
@@ -89,24 +89,24 @@ found_false parts rule formula names truth found old new suits leads open_then f
 module _ (parts : Parts) (old new : List (List Bool)) (c : Claim) (truth : Bool) (names : List ℕ) (removed : List Decision) where
   -- the box makes it under no binding under which one of the first decisions concerns it
   abbrev pub NoneMet : ℕ → Type 0
-  NoneMet k = (i : ℕ) (d : Decision) → i < k → NoneMade parts new c truth (λ b. AgreeBut names unbound b × OnNames names (Concerns (get_or removed i d) c) b)
+  NoneMet k = (i : ℕ) (d : Decision) → i < k → NoneMade parts new c truth (λ b. AgreeBut names unbound b × OnNames names (Concerns parts old new (get_or removed i d) c) b)
 
   pub met_start : NoneMet 0
   met_start i d l = absurd (omega (arith, l))
 
-  pub met_turn : (k : ℕ) (none_there : Decision) (found : Bool) → k < length removed → NoneMet k → found ≡ false
-      → Finds parts new c truth (λ b. AgreeBut names unbound b × OnNames names (Concerns (get_or removed k none_there) c) b) found → NoneMet (k + 1)
-  met_turn k none_there found within so_far off finds i d l b are wanted makes = elim (cases_eq i k) [
+  pub met_turn : (k : ℕ) (none_there : Decision) (found seen more : Bool) → k < length removed → (more ≡ true → seen ≡ true) → (seen ≡ true → NoneMet k) → found ≡ false
+      → Finds parts new c truth (Seen more (λ b. AgreeBut names unbound b × OnNames names (Concerns parts old new (get_or removed k none_there) c) b)) found → more ≡ true → NoneMet (k + 1)
+  met_turn k none_there found seen more within still so_far off finds on i d l b are wanted makes = elim (cases_eq i k) [
     | inl same ↦ (
         let here : get_or removed i d ≡ get_or removed k none_there = ap (λ j. get_or removed j d) same ∙ get_or_default removed k d none_there within in
-        false≢true (sym off ∙ finds.complete b are (wanted.0, subst (λ e. OnNames names (Concerns e c) b) here wanted.1) makes)
+        false≢true (sym off ∙ finds.complete b are (on, (wanted.0, subst (λ e. OnNames names (Concerns parts old new e c) b) here wanted.1)) makes)
         )
-    | inr other ↦ so_far i d (omega (arith, l, other)) b are wanted makes
+    | inr other ↦ so_far (still on) i d (omega (arith, l, other)) b are wanted makes
   ]
 
-  pub met_end : (k : ℕ) → length removed ≤ k → NoneMet k → IsProblem parts → IsBox (shape parts) old → IsBox (shape parts) new → Names parts old new removed → IsOf parts c → AsksOn (PathsStay parts old new) c
+  pub met_end : (k : ℕ) → length removed ≤ k → NoneMet k → IsProblem parts → IsBox (shape parts) old → IsBox (shape parts) new → Names parts old new removed → IsOf parts c → AsksIf (LosesOne parts old new) c
       → Finds parts new c truth (λ b. AgreeBut names unbound b × (Makes parts old c truth b → ⊥)) false
   met_end k past so_far problem old_is new_is all suits asks =
       finds_no parts new c truth (λ b. AgreeBut names unbound b × (Makes parts old c truth b → ⊥)) (λ b are wanted makes.
       wanted.1 (made_before parts problem old new old_is new_is removed all c truth b are suits asks
-      (λ d among meets. (let l = among.1 in so_far among.0 d (omega (arith, l, past)) b are (wanted.0, (b, λ name there. refl, subst (λ e. Concerns e c b) (sym among.2) meets)) makes)) makes))
+      (λ d among meets. (let l = among.1 in so_far among.0 d (omega (arith, l, past)) b are (wanted.0, (b, λ name there. refl, subst (λ e. Concerns parts old new e c b) (sym among.2) meets)) makes)) makes))

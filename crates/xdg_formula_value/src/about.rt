@@ -1,6 +1,6 @@
 //! What the loss of values can have changed: a formula is looked at only under bindings under which it looks at a decision that lost some.
 
-ghost use Rattle.std.specs.Prelude.{◌≡◌, ◌≢◌, ◌<◌, ◌↔◌, ℕ, IsTrue, true};
+ghost use Rattle.std.specs.Prelude.{◌≡◌, ◌<◌, ◌↔◌, IfSome, IsTrue, true};
 ghost use Rattle.xdg_nodeset.specs.Nodes.{has};
 ghost use Rattle.xdg_problem.specs.Analyses.{IsPlace};
 ghost use Rattle.xdg_problem.specs.Claims.{IsOf, claim};
@@ -11,36 +11,18 @@ ghost use Rattle.xdg_rules.specs.Worths.{Makes};
 ghost use Rattle.xdg_store.specs.Decisions.{IsDecision};
 ghost use Rattle.xdg_propcore.specs.Standing.{box_at};
 ghost use Rattle.xdg_formula_value.specs.Filling.{ArePaths};
-ghost use Rattle.xdg_formula_value.specs.Lost.{AgreeBut, AsksOn, Concerns, Finds, HasEarlier, IsAttrOf, IsEdgeOf, IsEntryOf, OnNames, PathsStay};
+ghost use Rattle.xdg_formula_value.specs.Lost.{AgreeBut, AsksIf, Concerns, Finds, HasEarlier, IsAttrOf, IsEdgeOf, IsEntryOf, LosesOne, OnNames, Seen};
 ghost use Rattle.xdg_formula_value.specs.Rows.{stands};
 
+use crate::along::found_path;
 use crate::binding::{bind, none_bound};
 use crate::lost::{fewer, found};
+use crate::names::{is_named, outside};
 use crate::paths::Paths;
 use xdg_base::{AttrId, DimId, LabelId, NodeId};
 use xdg_nodeset::NodeSet;
 use xdg_problem::{Edge, Formula};
 use xdg_store::{Decision, Mark, Store};
-
-/// Whether a name is one of some.
-pub(crate) fn is_named(names: NodeSet, name: u8) -> bool
-    ensures { IsTrue result → (name < 128) × (has names name ≡ true) }
-{
-    if name >= 128 {
-        return false;
-    }
-    names.contains(NodeId(name))
-}
-
-/// Those of some names for which nodes stand also under a quantifier that binds a name.
-pub(crate) fn outside(names: NodeSet, name: u8) -> NodeSet
-    ensures { (n : ℕ) → has result n ≡ true → (n ≢ name) × (has names n ≡ true) }
-{
-    if name >= 128 {
-        return NodeSet::empty();
-    }
-    fewer(names, name)
-}
 
 /// Whether some nodes for free names, and for others those of a binding, let the box make a formula true, or false, where a name that is
 /// one of some stands for a node.
@@ -246,8 +228,9 @@ fn found_edge(
     }
 }
 
-/// Whether some nodes for free names let the box make a formula true, or false, where a decision is one at which a part of it looks. For
-/// which nodes some of the names stand follows from the decision.
+/// Whether some nodes for free names let the box make a formula true, or false, where a decision is one at which a part of it looks, or one
+/// with which paths for which it asks may be new since a mark, or gone. For which nodes some of the names stand follows from the decision. It
+/// notes where not all was seen.
 #[cycle(about)]
 fn found_about(
     store: &Store,
@@ -258,12 +241,17 @@ fn found_about(
     part: &Formula,
     formula: &Formula,
     truth: bool,
+    since: Mark,
+    seen: &mut bool,
 ) -> bool
     requires paths { ArePaths store.now paths.now }
     requires is_of { IsOf store.now.parts (claim formula.now) }
     requires decision { IsDecision store.now.parts decision }
-    ensures { Finds store.now.parts store.now.now (claim formula.now) truth
-        (λ b. AgreeBut free unbound b × OnNames names (Concerns decision (claim part.now)) b) result }
+    requires earlier { HasEarlier store.now since }
+    ensures seen { seen.new ≡ true → seen.old ≡ true }
+    ensures finds { Finds store.now.parts store.now.now (claim formula.now) truth
+        (Seen seen.new (λ b. AgreeBut free unbound b
+        × OnNames names (Concerns store.now.parts (box_at store.now since) store.now.now decision (claim part.now)) b)) result }
 {
     match part {
         Formula::Not(inner) => {
@@ -276,11 +264,15 @@ fn found_about(
                 inner.get(),
                 formula,
                 truth,
+                since,
+                seen,
             )
         }
         Formula::And(parts) => {
             for one in parts.as_slice() {
-                if found_about(store, paths, free, names, decision, one, formula, truth) {
+                if found_about(
+                    store, paths, free, names, decision, one, formula, truth, since, seen,
+                ) {
                     return true;
                 }
             }
@@ -288,7 +280,9 @@ fn found_about(
         }
         Formula::Or(parts) => {
             for one in parts.as_slice() {
-                if found_about(store, paths, free, names, decision, one, formula, truth) {
+                if found_about(
+                    store, paths, free, names, decision, one, formula, truth, since, seen,
+                ) {
                     return true;
                 }
             }
@@ -305,6 +299,8 @@ fn found_about(
                 inner.get(),
                 formula,
                 truth,
+                since,
+                seen,
             )
         }
         Formula::Any(name, inner) => {
@@ -318,6 +314,8 @@ fn found_about(
                 inner.get(),
                 formula,
                 truth,
+                since,
+                seen,
             )
         }
         Formula::Edge(dim, mother, label, daughter) => {
@@ -326,7 +324,12 @@ fn found_about(
                 truth,
             )
         }
-        Formula::Above(_, _, _) => false,
+        Formula::Above(dim, upper, lower) => {
+            found_path(
+                store, paths, free, names, decision, *dim, *upper, *lower, formula, truth, since,
+                seen,
+            )
+        }
         Formula::Left(_, _) => false,
         Formula::Same(_, _) => false,
         Formula::Attr(name, dim, attr, _) => {
@@ -340,28 +343,33 @@ fn found_about(
     }
 }
 
-/// Whether some nodes for names let the box make a formula true, or false, where they didn't let an earlier box and the paths of which it
-/// asks are as they were. It looks only where a part of the formula looks at a decision that has lost values, and makes no tables of paths.
+/// Whether some nodes for names let the box make a formula true, or false, where they didn't let an earlier box, or None where that wasn't
+/// seen. It looks only where a part of the formula looks at a decision that has lost values, or where paths are new or gone with it, and
+/// makes no tables of paths.
 pub(crate) fn found_since(
     store: &Store,
     names: NodeSet,
     formula: &Formula,
     truth: bool,
     since: Mark,
-) -> bool
+) -> Option<bool>
     requires is_of { IsOf store.now.parts (claim formula.now) }
-    requires asks { AsksOn (PathsStay store.now.parts (box_at store.now since) store.now.now) (claim formula.now) }
+    requires asks { AsksIf (LosesOne store.now.parts (box_at store.now since) store.now.now) (claim formula.now) }
     requires earlier { HasEarlier store.now since }
-    ensures { Finds store.now.parts store.now.now (claim formula.now) truth
-        (λ b. AgreeBut names unbound b × (Makes store.now.parts (box_at store.now since) (claim formula.now) truth b → ⊥)) result }
+    ensures { IfSome result (λ found. Finds store.now.parts store.now.now (claim formula.now) truth
+        (λ b. AgreeBut names unbound b × (Makes store.now.parts (box_at store.now since) (claim formula.now) truth b → ⊥)) found) }
 {
     let paths = Paths::of(store, None, None);
+    let mut seen = true;
     for decision in store.removed_since(since) {
         if found_about(
-            store, &paths, names, names, *decision, formula, formula, truth,
+            store, &paths, names, names, *decision, formula, formula, truth, since, &mut seen,
         ) {
-            return true;
+            return Some(true);
         }
     }
-    false
+    if !seen {
+        return None;
+    }
+    Some(false)
 }

@@ -2,15 +2,18 @@
 #![tactic(auto)]
 
 mod about;
+mod along;
 mod atoms;
 mod binding;
 mod kept;
 mod kinds;
 mod local;
 mod lost;
+mod names;
 mod pair;
 mod paths;
 mod possible;
+mod reach;
 mod rows;
 mod rule_prop;
 mod since;

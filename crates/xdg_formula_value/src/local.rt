@@ -3,10 +3,11 @@
 ghost use Rattle.std.specs.Prelude.{IsTrue};
 ghost use Rattle.xdg_problem.specs.Claims.{claim};
 ghost use Rattle.xdg_propcore.specs.Standing.{box_at};
-ghost use Rattle.xdg_formula_value.specs.Lost.{AsksOn, HasEarlier, PathsStay};
+ghost use Rattle.xdg_formula_value.specs.Lost.{AsksIf, HasEarlier, LosesOne};
 
-use crate::about::{is_named, outside};
 use crate::kept::are_paths_kept;
+use crate::names::{is_named, outside};
+use xdg_base::DimId;
 use xdg_nodeset::NodeSet;
 use xdg_problem::Formula;
 use xdg_store::{Mark, Store};
@@ -14,17 +15,40 @@ use xdg_store::{Mark, Store};
 /// Whether at most one value was removed since a mark.
 fn is_single(store: &Store, since: Mark) -> bool
     requires earlier { HasEarlier store.now since }
+    ensures { IsTrue result → LosesOne store.now.parts (box_at store.now since) store.now.now }
 {
     store.removed_since(since).len() <= 1
 }
 
-/// Whether a formula can be looked at only where decisions have lost values since a mark: the paths for which it asks are as they were. It
-/// says no also where that could be as dear as to look at the whole: where an edge, an attribute or an entry has none of some names, and
-/// where the formula has quantifiers or asks for paths, of which no tables are made then, and more than one value was removed.
+/// Whether it can be looked at only where paths from the node for a name to that for another may be new or gone since a mark: at most one
+/// value was removed, and one of the names is one of some, or there are no such paths.
+fn are_paths_local(
+    store: &Store,
+    names: NodeSet,
+    dim: DimId,
+    upper: u8,
+    lower: u8,
+    since: Mark,
+) -> bool
+    requires earlier { HasEarlier store.now since }
+    ensures { IsTrue result → LosesOne store.now.parts (box_at store.now since) store.now.now }
+{
+    if !is_single(store, since) {
+        return false;
+    }
+    if is_named(names, upper) || is_named(names, lower) {
+        return true;
+    }
+    are_paths_kept(store, dim, since)
+}
+
+/// Whether a formula can be looked at only where decisions have lost values since a mark. It says no also where that could be as dear as to
+/// look at the whole: where an edge, an attribute, an entry or a path that may be new or gone has none of some names, and where the formula
+/// has quantifiers or asks for paths, of which no tables are made then, and more than one value was removed.
 #[cycle(local)]
 pub(crate) fn is_local(store: &Store, names: NodeSet, formula: &Formula, since: Mark) -> bool
     requires earlier { HasEarlier store.now since }
-    ensures { IsTrue result → AsksOn (PathsStay store.now.parts (box_at store.now since) store.now.now) (claim formula.now) }
+    ensures { IsTrue result → AsksIf (LosesOne store.now.parts (box_at store.now since) store.now.now) (claim formula.now) }
 {
     match formula {
         Formula::Not(inner) => is_local(store, names, inner.get(), since),
@@ -59,11 +83,8 @@ pub(crate) fn is_local(store: &Store, names: NodeSet, formula: &Formula, since: 
         Formula::Edge(_, mother, _, daughter) => {
             is_named(names, *mother) || is_named(names, *daughter)
         }
-        Formula::Above(dim, _, _) => {
-            if !is_single(store, since) {
-                return false;
-            }
-            are_paths_kept(store, *dim, since)
+        Formula::Above(dim, upper, lower) => {
+            are_paths_local(store, names, *dim, *upper, *lower, since)
         }
         Formula::Left(_, _) => true,
         Formula::Same(_, _) => true,

@@ -42,7 +42,7 @@ fn nodes_before(node: NodeId) -> NodeSet
 }
 
 /// A node alone.
-fn only(node: NodeId) -> NodeSet
+pub(crate) fn only(node: NodeId) -> NodeSet
     requires { node.0 < 128 }
     ensures { (v : ℕ) → (has result v ≡ true) ↔ (v ≡ node.0) }
 {

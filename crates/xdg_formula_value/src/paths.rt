@@ -12,6 +12,7 @@ ghost use Rattle.xdg_formula_value.specs.Pairs.{Along};
 ghost use Rattle.xdg_formula_value.specs.Rows.{IsEvery, Over};
 ghost use Rattle.xdg_formula_value.specs.declared.way.Way.TheVariants as ways;
 
+use crate::reach::reach;
 use crate::way::Way;
 use xdg_base::{DimId, NodeId};
 use xdg_graph::{Which, above, ancestors, node_count, set_at};
@@ -125,15 +126,6 @@ pub(crate) fn tables_of(store: &Store, way: Way, known: [bool; 8]) -> Filled
     }
 }
 
-/// The nodes to which paths lead from a node, one way, by a table that is made for it. The table stands here, and not where it's seldom
-/// wanted: a table that a function holds is emptied in each call.
-fn far_anew(store: &Store, way: Way, which: Which, dim: DimId, node: NodeId) -> NodeSet
-    requires { node.0 < 128 }
-    ensures { (x : ℕ) → (has result x ≡ true) ↔ Along way (Above (edges_of which store.now.parts store.now.now dim.0)) node.0 x }
-{
-    set_at(&table(store, way, which, dim), node)
-}
-
 /// The nodes to which paths lead from a node, one way. There may be tables of some dimensions.
 pub(crate) fn far(
     store: &Store,
@@ -149,10 +141,10 @@ pub(crate) fn far(
     ensures { (x : ℕ) → (has result x ≡ true) ↔ Along way (Above (edges_of which store.now.parts store.now.now dim.0)) node.0 x }
 {
     let Some(filled) = filled else {
-        return far_anew(store, way, which, dim, node);
+        return reach(store, way, which, dim, node);
     };
     if !filled.known[dim.0 as usize] {
-        return far_anew(store, way, which, dim, node);
+        return reach(store, way, which, dim, node);
     }
     match which {
         Which::May => set_at(&filled.may[dim.0 as usize], node),

@@ -49,7 +49,10 @@ fn false_at(
     if !is_local(store, names, formula, since) {
         return is_false(store, rule);
     }
-    found_since(store, names, formula, truth, since)
+    match found_since(store, names, formula, truth, since) {
+        Some(found) => found,
+        None => is_false(store, rule),
+    }
 }
 
 /// The same. Names of quantifiers that go with the truth are added to the names.

@@ -6,10 +6,10 @@ use Rattle.xdg_formula_value.proofs.Tabled.{at_node, at_which}
 use Rattle.xdg_formula_value.proofs.paths.far.Goals as goal
 
 pub returns-in_default : goal.returns-in_default
-returns-in_default c = c.far_anew.ensures
+returns-in_default c = c.reach.ensures
 
 pub returns-then-not-filled-dim : goal.returns-then-not-filled-dim
-returns-then-not-filled-dim c = c.far_anew-then-not-filled-dim.ensures
+returns-then-not-filled-dim c = c.reach-then-not-filled-dim.ensures
 
 pub returns-in-May : goal.returns-in-May
 returns-in-May c = (let filled = subst (λ o. IfSome o (λ it. AreFilled c.args.way c.args.store.now it.now)) c.in-Some.is c.requires.filled in at_which c.args.way c.args.which whichs.May c.args.store.now c.args.dim.0 c.args.node.0 c.set_at.result c.in-May.is

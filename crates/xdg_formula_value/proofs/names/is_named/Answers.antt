@@ -1,6 +1,6 @@
 use Rattle.std.proofs.Common.{arith, sym, ◌∙◌}
 use Rattle.std.proofs.lemmas.Bool.{false≢true}
-use Rattle.xdg_formula_value.proofs.about.is_named.Goals as goal
+use Rattle.xdg_formula_value.proofs.names.is_named.Goals as goal
 
 pub returns-then-name-ge128 : goal.returns-then-name-ge128
 returns-then-name-ge128 c = λ so. absurd (false≢true so)

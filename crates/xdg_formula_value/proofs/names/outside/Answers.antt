@@ -1,5 +1,5 @@
 use Rattle.xdg_formula_value.proofs.Concerning.{outside_few, outside_none}
-use Rattle.xdg_formula_value.proofs.about.outside.Goals as goal
+use Rattle.xdg_formula_value.proofs.names.outside.Goals as goal
 
 pub returns-then-name-ge128 : goal.returns-then-name-ge128
 returns-then-name-ge128 c = outside_none c.args.names c.empty.result c.args.name c.empty.ensures.value

@@ -1,0 +1,135 @@
+-- Decisions by their numbers, and the decisions of edges that have lost values.
+use Rattle.std.proofs.Common.{◌≡◌, ℕ, ◌+◌, ◌*◌, ◌<◌, ◌≤◌, inl, inr, Bool, List, Contains, length, get_or, sym, ap, ◌∙◌, arith, subst}
+use Rattle.std.proofs.lemmas.Bool.{cases_eq, cases_lt}
+use Rattle.std.proofs.lemmas.List.{get_or_default}
+use Rattle.std.proofs.lemmas.Nat.{row_fits}
+use Rattle.xdg_problem.specs.declared.analysis.Edge.{Edge}
+use Rattle.xdg_problem.specs.declared.parts.Parts.{Parts}
+use Rattle.xdg_problem.specs.Analyses.{IsPlace}
+use Rattle.xdg_problem.specs.Arguments.{attr_count, attr_place}
+use Rattle.xdg_problem.specs.Boxes.{Has, IsBox, entry_decision, attr_decision, edge_decision, place_in}
+use Rattle.xdg_problem.specs.Places.{nodes, places}
+use Rattle.xdg_problem.specs.Problems.{IsProblem}
+use Rattle.xdg_problem.specs.Vectors.{shape}
+use Rattle.xdg_problem.proofs.PlaceOrder.{place_is}
+use Rattle.xdg_store.specs.Decisions.{IsDecision, number_of}
+use Rattle.xdg_store.specs.Naming.{Names}
+use Rattle.xdg_store.specs.declared.decision.Decision.{Decision}
+use Rattle.xdg_store.specs.declared.decision.Decision.TheVariants as decisions
+use Rattle.xdg_store.proofs.Located.{place_found}
+use Rattle.xdg_propcore.specs.Kinds.{kind_of}
+use Rattle.xdg_propcore.proofs.DecisionKinds.{kind_of_attr, kind_of_edge, kind_of_entry}
+use Rattle.xdg_formula_value.specs.Lost.{IsAttrOf, IsEntryOf, LosesOne}
+
+-- of two places in a table of rows that are the same the rows are the same
+same_row : (m a n b w : ℕ) → a < w → b < w → m * w + a ≡ n * w + b → m ≡ n
+same_row m a n b w l k e = elim (cases_eq m n) [
+  | inl q ↦ q
+  | inr f ↦ elim (cases_lt m n) [
+    | inl less ↦ absurd (let r = row_fits m w n w less (omega arith) in omega (arith, r, e, l))
+    | inr more ↦ absurd (let less : n < m = omega (arith, more, f) in let r = row_fits n w m w less (omega arith) in omega (arith, r, e, k))
+  ]
+]
+
+-- and the columns
+same_column : (m a n b w : ℕ) → m ≡ n → m * w + a ≡ n * w + b → a ≡ b
+same_column m a n b w rows e = (let q = ap (λ z. z * w) rows in omega (arith, e, q))
+
+module _ (parts : Parts) (problem : IsProblem parts) where
+  -- ---- a decision by its number
+
+  few : (node : ℕ) → node < nodes parts → node < length parts.candidates
+  few node l = (let each = problem.candidates_each in omega (arith, each, l))
+
+  pub entry_of : (d : Decision) (node : ℕ) → node < nodes parts → IsDecision parts d → number_of parts d ≡ entry_decision node → IsEntryOf d node
+  entry_of (decisions.Entry it) node l is e = e
+  entry_of (decisions.Attr on it which) node l is e = absurd (
+      let x = kind_of_attr parts on.0 it.0 which.0 is.0 is.1 is.2 in
+      let y = kind_of_entry parts node (few node l) in
+      let kinds = ap (kind_of parts) e in
+      omega (arith, x, y, kinds)
+      )
+  entry_of (decisions.Place f) node l is e = absurd (
+      let x = kind_of_edge parts f (place_is parts f is) in
+      let y = kind_of_entry parts node (few node l) in
+      let kinds = ap (kind_of parts) e in
+      omega (arith, x, y, kinds)
+      )
+
+  pub attr_of : (d : Decision) (dim node attr : ℕ) → dim < length parts.dims → node < nodes parts → attr < attr_count parts dim → IsDecision parts d
+      → number_of parts d ≡ attr_decision parts dim node attr → IsAttrOf d dim node attr
+  attr_of (decisions.Entry it) dim node attr l m a is e = absurd (
+      let x = kind_of_entry parts it.0 (few it.0 is) in
+      let y = kind_of_attr parts dim node attr l m a in
+      let kinds = ap (kind_of parts) e in
+      omega (arith, x, y, kinds)
+      )
+  attr_of (decisions.Attr on it which) dim node attr l m a is e =
+      let x = kind_of_attr parts on.0 it.0 which.0 is.0 is.1 is.2 in
+      let y = kind_of_attr parts dim node attr l m a in
+      let kinds = ap (kind_of parts) e in
+      let here : on.0 ≡ dim = omega (arith, x, y, kinds) in
+      let alike : attr_place parts dim it.0 which.0 ≡ attr_place parts dim node attr = (let q = ap (λ z. attr_place parts z it.0 which.0) here in omega (arith, e, q)) in
+      let within : which.0 < attr_count parts dim = subst (λ z. which.0 < attr_count parts z) here is.2 in
+      let cells : it.0 * attr_count parts dim + which.0 ≡ node * attr_count parts dim + attr = omega (arith, alike) in
+      let row = same_row it.0 which.0 node attr (attr_count parts dim) within a cells in
+      (here, row, same_column it.0 which.0 node attr (attr_count parts dim) row cells)
+  attr_of (decisions.Place f) dim node attr l m a is e = absurd (
+      let x = kind_of_edge parts f (place_is parts f is) in
+      let y = kind_of_attr parts dim node attr l m a in
+      let kinds = ap (kind_of parts) e in
+      omega (arith, x, y, kinds)
+      )
+
+  same_place : (e f : Edge) → IsPlace parts e → IsPlace parts f → edge_decision parts f ≡ edge_decision parts e → f ≡ e
+  same_place e f is other alike =
+      let x = place_found (places parts) e (place_is parts e is) in
+      let y = place_found (places parts) f (place_is parts f other) in
+      let q : place_in (places parts) f ≡ place_in (places parts) e = omega (arith, alike) in
+      sym y.1 ∙ get_or_default (places parts) (place_in (places parts) f) f e y.0 ∙ ap (λ i. get_or (places parts) i e) q ∙ x.1
+
+  place_of : (d : Decision) (e : Edge) → IsPlace parts e → IsDecision parts d → number_of parts d ≡ edge_decision parts e → d ≡ decisions.Place e
+  place_of (decisions.Entry it) e place is alike = absurd (
+      let x = kind_of_entry parts it.0 (few it.0 is) in
+      let y = kind_of_edge parts e (place_is parts e place) in
+      let kinds = ap (kind_of parts) alike in
+      omega (arith, x, y, kinds)
+      )
+  place_of (decisions.Attr on it which) e place is alike = absurd (
+      let x = kind_of_attr parts on.0 it.0 which.0 is.0 is.1 is.2 in
+      let y = kind_of_edge parts e (place_is parts e place) in
+      let kinds = ap (kind_of parts) alike in
+      omega (arith, x, y, kinds)
+      )
+  place_of (decisions.Place f) e place is alike = ap (λ z. decisions.Place z) (same_place e f place is alike)
+
+  -- ---- what was lost
+
+  module _ (old new : List (List Bool)) (old_is : IsBox (shape parts) old) (new_is : IsBox (shape parts) new) (removed : List Decision) (all : Names parts old new removed) where
+    -- the decision of an edge that has lost a value
+    pub lost_edge : (e : Edge) (v : ℕ) → IsPlace parts e → Has old (edge_decision parts e) v → (Has new (edge_decision parts e) v → ⊥) → Contains removed (decisions.Place e)
+    lost_edge e v place was isnt =
+        let found = all.all (edge_decision parts e) v was isnt in
+        subst (Contains removed) (place_of found.0 e place (subst (IsDecision parts) found.1.2 (all.each found.1.0 found.0 found.1.1)) found.2) found.1
+
+-- ---- where values of one decision were lost
+
+abbrev edge_in : Decision → Edge → Edge
+edge_in (decisions.Place e) other = e
+edge_in decision other = other
+
+-- of at most one decision there are no two
+none_else : (few : List Decision) → length few ≤ 1 → (c d : Decision) → Contains few c → Contains few d → c ≡ d
+none_else few most c d first second =
+    let l = first.1 in
+    let m = second.1 in
+    let at : first.0 ≡ second.0 = omega (arith, most, l, m) in
+    sym first.2 ∙ ap (λ k. get_or few k c) at ∙ get_or_default few second.0 c d second.1 ∙ second.2
+
+-- two edges that have lost values are one
+pub same_lost : (parts : Parts) (problem : IsProblem parts) (old new : List (List Bool)) → IsBox (shape parts) old → IsBox (shape parts) new → LosesOne parts old new → (e f : Edge) (v w : ℕ) → IsPlace parts e → IsPlace parts f
+    → Has old (edge_decision parts e) v → (Has new (edge_decision parts e) v → ⊥) → Has old (edge_decision parts f) w → (Has new (edge_decision parts f) w → ⊥) → f ≡ e
+same_lost parts problem old new old_is new_is one e f v w place other was isnt had hasnt = ap (λ d. edge_in d e)
+    (none_else one.0 one.1 (decisions.Place f) (decisions.Place e)
+    (lost_edge parts problem old new old_is new_is one.0 one.2 f w other had hasnt)
+    (lost_edge parts problem old new old_is new_is one.0 one.2 e v place was isnt))

@@ -1,0 +1,179 @@
+-- The nodes to which paths lead from a node, one way, found by a walk from node to node.
+use Rattle.std.proofs.Common.{◌≡◌, ◌↔◌, ℕ, ◌+◌, ◌-◌, ◌<◌, ◌≤◌, IsTrue, inl, inr, Bool, true, false, ◌||◌, List, [], Contains, length, refl, sym, ◌∙◌, ap, subst, arith}
+use Rattle.std.specs.Prelude.{not, ◌&&◌, ◌==◌, ◌⊎◌}
+use Rattle.std.specs.List.{range_with_len}
+use Rattle.std.proofs.lemmas.Bool.{and_from, and_parts, cases_Bool, eq-eqb, eqb-true, false≢true, not-true, not_from_false, or_cases}
+use Rattle.std.proofs.lemmas.List.FromFn.{length-range_with_len, get_or-range_with_len}
+use Rattle.xdg_facts.proofs.Truths.{or_here, either_true}
+use Rattle.xdg_nodeset.specs.Nodes as nodesets
+use Rattle.xdg_nodeset.specs.Nodes.{has, numbers_below}
+use Rattle.xdg_nodeset.proofs.Rising.{few_of}
+use Rattle.xdg_problem.specs.declared.analysis.Edge.{Edge}
+use Rattle.xdg_problem.specs.declared.parts.Parts.{Parts}
+use Rattle.xdg_problem.specs.Boxes.{IsBox}
+use Rattle.xdg_problem.specs.Paths.{Above, IsDaughter, IsDaughterBy}
+use Rattle.xdg_problem.specs.Places.{nodes}
+use Rattle.xdg_problem.specs.Vectors.{shape}
+use Rattle.xdg_problem.proofs.Looking.{any_of}
+use Rattle.xdg_problem.proofs.PlaceOrder.{is_place}
+use Rattle.xdg_problem.proofs.Walks.{above_edge, above_trans, closed_above}
+use Rattle.xdg_rules.proofs.Keeping.{strictly_length}
+use Rattle.xdg_graph.specs.declared.which.Which.{Which}
+use Rattle.xdg_graph.specs.Edges.{edge_labels, edges_of}
+use Rattle.xdg_graph.proofs.Edges.{IsBelow, below_start, below_next, below_all, over_start, over_next, over_all, which_exact}
+use Rattle.xdg_formula_value.specs.Lost.{Reaches}
+use Rattle.xdg_formula_value.specs.Pairs.{Along}
+use Rattle.xdg_formula_value.specs.declared.way.Way.{Way}
+use Rattle.xdg_formula_value.specs.declared.way.Way.TheVariants as ways
+
+-- ---- the nodes next to a node
+
+-- a set has those that something relates to a node, one way
+abbrev pub IsNext : Way → (ℕ → ℕ → Type 0) → ℕ → List ℕ → Type 0
+IsNext way R node set = (x : ℕ) → IsTrue (has set x) ↔ Along way R node x
+
+pub next_down : (way : Way) (R : ℕ → ℕ → Type 0) (node : ℕ) (set : List ℕ) → way ≡ ways.Down → ((x : ℕ) → IsTrue (has set x) ↔ R node x) → IsNext way R node set
+next_down way R node set is exact = subst (λ w. IsNext w R node set) (sym is) exact
+
+pub next_up : (way : Way) (R : ℕ → ℕ → Type 0) (node : ℕ) (set : List ℕ) → way ≡ ways.Up → ((x : ℕ) → IsTrue (has set x) ↔ R x node) → IsNext way R node set
+next_up way R node set is exact = subst (λ w. IsNext w R node set) (sym is) exact
+
+pub next_start : (way : Way) (edges : List Edge) (node : ℕ) (set : List ℕ) → set ≡ [] → IsNext way (IsBelow edges 0) node set
+next_start ways.Down edges node set empty = below_start edges set node empty
+next_start ways.Up edges node set empty = over_start edges set node empty
+
+pub next_more : (way : Way) (edges : List Edge) (label node : ℕ) (old more set : List ℕ) → IsNext way (IsBelow edges label) node old → IsNext way (λ u v. IsDaughterBy edges u label v) node more → ((x : ℕ) → has set x ≡ (has old x || has more x))
+    → IsNext way (IsBelow edges (label + 1)) node set
+next_more ways.Down edges label node old more set before here both = below_next edges label node old more set before here both
+next_more ways.Up edges label node old more set before here both = over_next edges label node old more set before here both
+
+module _ (which : Which) (parts : Parts) (box : List (List Bool)) (dim : ℕ) (is_box : IsBox (shape parts) box) where
+  abbrev edges : List Edge
+  edges = edges_of which parts box dim
+
+  pub next_all : (way : Way) (label node : ℕ) (set : List ℕ) → edge_labels parts dim ≤ label → IsNext way (IsBelow edges label) node set → IsNext way (IsDaughter edges) node set
+  next_all ways.Down label node set all exact = below_all which parts box dim label node set is_box all exact
+  next_all ways.Up label node set all exact = over_all which parts box dim label node set is_box all exact
+
+  from_within : (u v : ℕ) → IsDaughter edges u v → u < nodes parts
+  from_within u v (j, e, within, at, (m, d)) = (let l = (is_place parts e ((which_exact which parts box dim e is_box).0 (j, within, at)).0.0).mother in omega (arith, l, m))
+
+  to_within : (u v : ℕ) → IsDaughter edges u v → v < nodes parts
+  to_within u v (j, e, within, at, (m, d)) = (let l = (is_place parts e ((which_exact which parts box dim e is_box).0 (j, within, at)).0.0).daughter in omega (arith, l, d))
+
+  none_beyond : (way : Way) (node x : ℕ) → nodes parts ≤ node → Along way (IsDaughter edges) node x → ⊥
+  none_beyond ways.Down node x past joined = (let l = from_within node x joined in omega (arith, l, past))
+  none_beyond ways.Up node x past joined = (let l = to_within x node joined in omega (arith, l, past))
+
+  -- a node that the sentence has not
+  pub next_beyond : (way : Way) (node : ℕ) (set : List ℕ) → nodes parts ≤ node → set ≡ [] → IsNext way (IsDaughter edges) node set
+  next_beyond way node set past empty x = (λ there. absurd (false≢true (subst (λ s. has s x ≡ true) empty there)), λ joined. absurd (none_beyond way node x past joined))
+
+-- ---- a walk
+
+module _ (edges : List Edge) where
+  daughter_above : (u v : ℕ) → IsDaughter edges u v → Above edges u v
+  daughter_above u v (j, e, within, at, (m, d)) = subst (λ k. Above edges k v) m (subst (Above edges e.mother.0) d (above_edge edges e (j, within, at)))
+
+  edge_daughter : (e : Edge) → Contains edges e → IsDaughter edges e.mother.0 e.daughter.0
+  edge_daughter e is = any_of (λ f. (f.mother.0 ≡ e.mother.0) × (f.daughter.0 ≡ e.daughter.0)) edges e is (refl, refl)
+
+  next_leads : (way : Way) (u v : ℕ) → Along way (IsDaughter edges) u v → Along way (Above edges) u v
+  next_leads ways.Down u v joined = daughter_above u v joined
+  next_leads ways.Up u v joined = daughter_above v u joined
+
+  leads_on : (way : Way) (u v w : ℕ) → Along way (Above edges) u v → Along way (Above edges) v w → Along way (Above edges) u w
+  leads_on ways.Down u v w front back = above_trans edges u v w front back
+  leads_on ways.Up u v w front back = above_trans edges w v u back front
+
+-- Paths lead to the nodes that were reached; what is next to the node is reached, and so is what is next to those that were taken.
+pub record Walks (way : Way) (edges : List Edge) (node : ℕ) (reached taken : List ℕ) : Type 0 where
+  pub sound : (x : ℕ) → has reached x ≡ true → Along way (Above edges) node x
+  pub start : (x : ℕ) → Along way (IsDaughter edges) node x → has reached x ≡ true
+  pub closed : (x y : ℕ) → has taken x ≡ true → Along way (IsDaughter edges) x y → has reached y ≡ true
+
+module _ (way : Way) (edges : List Edge) (node : ℕ) where
+  pub walk_start : (reached taken : List ℕ) → IsNext way (IsDaughter edges) node reached → taken ≡ [] → Walks way edges node reached taken
+  walk_start reached taken next empty = record {
+    sound = λ x there. next_leads edges way node x ((next x).0 there);
+    start = λ x joined. (next x).1 joined;
+    closed = λ x y there. absurd (false≢true (subst (λ s. has s x ≡ true) empty there));
+  }
+
+  pub walk_on : (reached taken left more_taken next all : List ℕ) (at : ℕ) → Walks way edges node reached taken → ((x : ℕ) → has left x ≡ (has reached x && not (has taken x))) → has left at ≡ true
+      → ((x : ℕ) → has more_taken x ≡ ((x == at) || has taken x)) → IsNext way (IsDaughter edges) at next → ((x : ℕ) → has all x ≡ (has reached x || has next x)) → Walks way edges node all more_taken
+  walk_on reached taken left more_taken next all at walks members there takes is_next both = record {
+    sound = λ x is. elim (or_cases (has reached x) (has next x) (sym (both x) ∙ is)) [
+      | inl before ↦ walks.sound x before
+      | inr new ↦ leads_on edges way node at x (walks.sound at (and_parts (has reached at) (not (has taken at)) (sym (members at) ∙ there)).0) (next_leads edges way at x ((is_next x).0 new))
+    ];
+    start = λ x joined. both x ∙ or_here (has reached x) (has next x) (walks.start x joined);
+    closed = λ x y is joined. both y ∙ (elim (or_cases (x == at) (has taken x) (sym (takes x) ∙ is)) [
+      | inl here ↦ either_true (has reached y) (has next y) ((is_next y).1 (subst (λ k. Along way (IsDaughter edges) k y) (eqb-true x at here) joined))
+      | inr before ↦ or_here (has reached y) (has next y) (walks.closed x y before joined)
+    ]);
+  }
+
+-- the walk is at its end where each node that was reached was taken
+module _ (edges : List Edge) (node : ℕ) (reached : List ℕ) where
+  all_below : ((x : ℕ) → IsDaughter edges node x → has reached x ≡ true) → ((x y : ℕ) → has reached x ≡ true → IsDaughter edges x y → has reached y ≡ true) → (x : ℕ) → Above edges node x → has reached x ≡ true
+  all_below start closed x path = closed_above edges node x (λ y. has reached y ≡ true) (λ e is from. elim from [
+    | inl first ↦ start e.daughter.0 (subst (λ k. IsDaughter edges k e.daughter.0) first (edge_daughter edges e is))
+    | inr later ↦ closed e.mother.0 e.daughter.0 later (edge_daughter edges e is)
+  ]) path
+
+  all_over : ((x : ℕ) → IsDaughter edges x node → has reached x ≡ true) → ((x y : ℕ) → has reached x ≡ true → IsDaughter edges y x → has reached y ≡ true) → (x : ℕ) → Above edges x node → has reached x ≡ true
+  all_over start closed x path = closed_above edges x node (λ y. (y ≡ node) ⊎ (has reached y ≡ true) → has reached x ≡ true) (λ e is from at.
+      (let here : has reached e.mother.0 ≡ true = elim at [
+        | inl end ↦ start e.mother.0 (subst (IsDaughter edges e.mother.0) end (edge_daughter edges e is))
+        | inr later ↦ closed e.daughter.0 e.mother.0 later (edge_daughter edges e is)
+      ] in elim from [
+        | inl first ↦ subst (λ k. has reached k ≡ true) first here
+        | inr on ↦ on (inr here)
+      ])) path (inl refl)
+
+  all_along : (way : Way) → ((x : ℕ) → Along way (IsDaughter edges) node x → has reached x ≡ true) → ((x y : ℕ) → has reached x ≡ true → Along way (IsDaughter edges) x y → has reached y ≡ true) → (x : ℕ) → Along way (Above edges) node x → has reached x ≡ true
+  all_along ways.Down start closed x path = all_below start closed x path
+  all_along ways.Up start closed x path = all_over start closed x path
+
+pub walk_end : (way : Way) (edges : List Edge) (node : ℕ) (reached taken left : List ℕ) → Walks way edges node reached taken → ((x : ℕ) → has left x ≡ (has reached x && not (has taken x))) → left ≡ []
+    → (x : ℕ) → (has reached x ≡ true) ↔ Along way (Above edges) node x
+walk_end way edges node reached taken left walks members empty x = (
+  walks.sound x,
+  all_along edges node reached way walks.start (λ y z there joined. walks.closed y z (was_taken y there) joined) x,
+) where
+  was_taken : (y : ℕ) → has reached y ≡ true → has taken y ≡ true
+  was_taken y there = elim (cases_Bool (has taken y)) [
+    | inl is ↦ is
+    | inr not_yet ↦ absurd (false≢true (ap (λ s. has s y) (sym empty) ∙ members y ∙ and_from (has reached y) (not (has taken y)) there (not_from_false (has taken y) not_yet)))
+  ]
+
+-- ---- it ends
+
+among : (n : ℕ) → n < 128 → Contains (range_with_len 0 128) n
+among n l = (n, omega (arith, l, length-range_with_len 0 128), (let at = get_or-range_with_len 0 128 n n l in omega (arith, at)))
+
+fewer_left : (taken more : List ℕ) (n : ℕ) → ((m : ℕ) → has more m ≡ ((m == n) || has taken m)) → n < 128 → has taken n ≡ false → length (nodesets.nodes (has taken)) + 1 ≤ length (nodesets.nodes (has more))
+unfolding numbers_below
+fewer_left taken more n members l off = strictly_length (has taken) (has more) (range_with_len 0 128) (λ m is there. members m ∙ either_true (m == n) (has taken m) there) n (among n l) off (members n ∙ or_here (n == n) (has taken n) (eq-eqb n n refl))
+
+pub walk_ends : (reached taken left more : List ℕ) (n : ℕ) → ((x : ℕ) → has left x ≡ (has reached x && not (has taken x))) → has left n ≡ true → ((m : ℕ) → has more m ≡ ((m == n) || has taken m)) → n < 128
+    → 128 - length (nodesets.nodes (has more)) < 128 - length (nodesets.nodes (has taken))
+walk_ends reached taken left more n members there takes l =
+    let off = not-true (has taken n) (and_parts (has reached n) (not (has taken n)) (sym (members n) ∙ there)).1 in
+    let less = fewer_left taken more n takes l off in
+    let most = few_of 128 (has more) in
+    omega (arith, less, most)
+
+-- ---- with the node itself
+
+pub reach_has : (way : Way) (edges : List Edge) (node : ℕ) (reached set : List ℕ) → ((x : ℕ) → (has reached x ≡ true) ↔ Along way (Above edges) node x) → ((x : ℕ) → has set x ≡ ((x == node) || has reached x)) → (x : ℕ)
+    → Along way (Reaches edges) node x → has set x ≡ true
+reach_has ways.Down es node reached set exact members x leads = members x ∙ (elim leads [
+  | inl same ↦ or_here (x == node) (has reached x) (eq-eqb x node (sym same))
+  | inr path ↦ either_true (x == node) (has reached x) ((exact x).1 path)
+])
+reach_has ways.Up es node reached set exact members x leads = members x ∙ (elim leads [
+  | inl same ↦ or_here (x == node) (has reached x) (eq-eqb x node same)
+  | inr path ↦ either_true (x == node) (has reached x) ((exact x).1 path)
+])
