@@ -60,7 +60,7 @@ def german(count):
 
 
 def enlarged():
-    """The grammar examples/german.xdg with as many further nouns as make 50,000 entries."""
+    """The grammar examples/german.xdg with as many further nouns as make some 50,000 entries, and their number."""
     text = (ROOT / "examples" / "german.xdg").read_text(encoding="utf-8")
     more = ENTRIES - text.count("\ndefentry ")
     return text + "".join(f'defentry {{noun {{Word: "Frau{k}" Agrs: $ f}}}}\n' for k in range(more)), more
