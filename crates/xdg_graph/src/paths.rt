@@ -47,18 +47,16 @@ fn widen(table: &mut [NodeSet; 128], size: u8, middle: u8)
     }
 }
 
-/// What a table leads to through the first nodes, by the algorithm of Warshall (1962), where the sets of the others are empty.
+/// Adds to a table what it leads to through the first nodes, by the algorithm of Warshall (1962), where the sets of the others are empty.
 #[tactic(auto, using(xdg_nodeset::proofs::Closures::closure_start, xdg_nodeset::proofs::Closures::closure_more))]
-fn closed(table: &[NodeSet; 128], size: u8) -> [NodeSet; 128]
+fn close(table: &mut [NodeSet; 128], size: u8)
     requires size { size ≤ 128 }
-    requires rest { HasNoneFrom size table.now }
-    ensures { IsClosure size table.now result }
+    requires rest { HasNoneFrom size table.old }
+    ensures { IsClosure size table.old table.new }
 {
-    let mut closed = *table;
     for middle in 0..size {
-        widen(&mut closed, size, middle);
+        widen(table, size, middle);
     }
-    closed
 }
 
 /// For each node those below it: a path of one or more of the edges leads to them. It takes an operation on sets for each two
@@ -67,7 +65,9 @@ pub fn above(store: &Store, which: Which, dim: DimId) -> [NodeSet; 128]
     ensures exact { (a b : ℕ) → In result a b ↔ Above (edges_of which store.now.parts store.now.now dim.0) a b }
     ensures known { Known store.now }
 {
-    closed(&daughters(store, which, dim), node_count(store))
+    let mut table = daughters(store, which, dim);
+    close(&mut table, node_count(store));
+    table
 }
 
 /// For each node those above it: a path of one or more of the edges leads from them. It takes as much as `above`.
@@ -75,5 +75,7 @@ pub fn ancestors(store: &Store, which: Which, dim: DimId) -> [NodeSet; 128]
     ensures exact { (a b : ℕ) → In result a b ↔ Above (edges_of which store.now.parts store.now.now dim.0) b a }
     ensures known { Known store.now }
 {
-    closed(&mothers(store, which, dim), node_count(store))
+    let mut table = mothers(store, which, dim);
+    close(&mut table, node_count(store));
+    table
 }

@@ -4,7 +4,7 @@ use Rattle.xdg_graph.specs.Edges.{HasNoneFrom}
 use Rattle.xdg_graph.proofs.paths.above.Goals as goal
 
 pub returns-clause-exact : goal.returns-clause-exact
-returns-clause-exact c = closure_exact c.args.which c.args.store.now.parts c.args.store.now.now c.args.dim.0 c.node_count.result c.daughters.result c.closed.result c.daughters.ensures.known.is_box (let e = c.node_count.ensures.size in omega (arith, e)) c.daughters.ensures.exact c.closed.ensures
+returns-clause-exact c = closure_exact c.args.which c.args.store.now.parts c.args.store.now.now c.args.dim.0 c.node_count.result c.daughters-table.result c.close.new.table c.daughters-table.ensures.known.is_box (let e = c.node_count.ensures.size in omega (arith, e)) c.daughters-table.ensures.exact c.close.ensures
 
-pub closed-requires-clause-rest : goal.closed-requires-clause-rest
-closed-requires-clause-rest c = subst (λ n. HasNoneFrom n c.daughters.result) (sym c.node_count.ensures.size) c.daughters.ensures.rest
+pub close-requires-clause-rest : goal.close-requires-clause-rest
+close-requires-clause-rest c = subst (λ n. HasNoneFrom n c.daughters-table.result) (sym c.node_count.ensures.size) c.daughters-table.ensures.rest
