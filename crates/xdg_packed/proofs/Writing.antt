@@ -1,9 +1,10 @@
 -- What is written of a spelling, piece by piece.
-use Rattle.std.proofs.Common.{◌≡◌, ℕ, suc, ◌+◌, ◌-◌, ◌/◌, ◌%◌, ◌<◌, ◌≤◌, true, false, cond, List, [], ◌∷◌, ◌++◌, filter, refl, sym, ap, ◌∙◌, arith}
+use Rattle.std.proofs.Common.{◌≡◌, ℕ, zero, suc, ◌+◌, ◌-◌, ◌/◌, ◌%◌, ◌<◌, ◌≤◌, Bool, true, false, cond, List, [], ◌∷◌, ◌++◌, filter, refl, sym, ap, ◌∙◌, arith}
 use Rattle.std.proofs.lemmas.List.{append_assoc}
 use Rattle.std.specs.Prelude.{codes}
 use Rattle.std.specs.List.{range_with_len}
 use Rattle.xdg_domain.specs.Cards.{has, IsCards, numbers_below}
+use Rattle.xdg_facts.proofs.Truths.{agree_in, none_in}
 use Rattle.xdg_packed.specs.Spelling.{digits, number, numbers, each}
 use Rattle.xdg_packed.proofs.Digits.{digits_next}
 
@@ -50,6 +51,10 @@ end_written code now after whole rest none e h = e ∙ ap (λ l. now ++ each cod
 pub cards_from : ℕ → List ℕ → ℕ → List ℕ
 cards_from bound s n = filter (has s) (range_with_len n (bound - n))
 
+never_true : (b : Bool) → (b ≡ true → ⊥) → b ≡ false
+never_true true h = absurd (h refl)
+never_true false h = refl
+
 range_next : (bound n : ℕ) → n < bound → range_with_len n (bound - n) ≡ n ∷ range_with_len (n + 1) (bound - (n + 1))
 range_next bound n within =
     let size : bound - n ≡ suc (bound - (n + 1)) = omega (arith, within) in
@@ -69,17 +74,31 @@ card_written bound s now marked after whole n within is m e h =
     element_written number now marked after whole n (cards_from bound s (n + 1)) m e
     (ap (λ l. now ++ numbers l) (sym (from_next bound s n within ∙ ap (λ b. cond b (n ∷ cards_from bound s (n + 1)) (cards_from bound s (n + 1))) is)) ∙ h)
 
-none_from : (bound n : ℕ) (s : List ℕ) → bound ≤ n → cards_from bound s n ≡ []
+-- no number stands before the least
+before_least : (bound : ℕ) (s : List ℕ) (n : ℕ) → n ≤ bound → ((k : ℕ) → has s k ≡ true → n ≤ k) → cards_from bound s n ≡ cards_from bound s 0
+before_least bound s zero within least = refl
+before_least bound s (suc n) within least =
+    let none : has s n ≡ false = never_true (has s n) (λ is. let late = least n is in omega (arith, late)) in
+    let next : suc n ≡ n + 1 = omega arith in
+    ap (cards_from bound s) next
+    ∙ sym (from_next bound s n (omega (arith, within)) ∙ ap (λ b. cond b (n ∷ cards_from bound s (n + 1)) (cards_from bound s (n + 1))) none)
+    ∙ before_least bound s n (omega (arith, within)) (λ k is. let late = least k is in omega (arith, late))
+
+pub cards_begin : (s out : List ℕ) (n : ℕ) → n < 128 → ((k : ℕ) → has s k ≡ true → n ≤ k) → out ++ numbers (cards_from 128 s n) ≡ out ++ numbers (cards_from 128 s 0)
+cards_begin s out n within least = ap (λ l. out ++ numbers l) (before_least 128 s n (omega (arith, within)) least)
+
+-- no number stands behind the greatest
+none_from : (bound last n : ℕ) (s : List ℕ) → last < n → ((k : ℕ) → has s k ≡ true → k ≤ last) → cards_from bound s n ≡ []
 unfolding cards_from
-none_from bound n s over =
-    let size : bound - n ≡ 0 = omega (arith, over) in
-    ap (λ k. filter (has s) (range_with_len n k)) size
+none_from bound last n s over greatest =
+    agree_in (has s) (λ _. false) n (bound - n) (λ k above _. never_true (has s k) (λ is. let early = greatest k is in omega (arith, above, over, early)))
+    ∙ none_in (λ _. false) n (bound - n) (λ _. refl)
 
 all_from : (s : List ℕ) → IsCards s → s ≡ cards_from 128 s 0
 unfolding cards_from numbers_below
 all_from s is = is.whole
 
-pub cards_end : (s before now after : List ℕ) (n : ℕ) → 128 ≤ n → IsCards s → after ≡ now ++ codes ";" → now ++ numbers (cards_from 128 s n) ≡ before ++ numbers (cards_from 128 s 0) → after ≡ before ++ numbers s
-cards_end s before now after n over is e h =
-    end_written number now after (before ++ numbers (cards_from 128 s 0)) (cards_from 128 s n) (none_from 128 n s over) e h
+pub cards_end : (s before now after : List ℕ) (last n : ℕ) → last < n → ((k : ℕ) → has s k ≡ true → k ≤ last) → IsCards s → after ≡ now ++ codes ";" → now ++ numbers (cards_from 128 s n) ≡ before ++ numbers (cards_from 128 s 0) → after ≡ before ++ numbers s
+cards_end s before now after last n over greatest is e h =
+    end_written number now after (before ++ numbers (cards_from 128 s 0)) (cards_from 128 s n) (none_from 128 last n s over greatest) e h
     ∙ ap (λ l. before ++ numbers l) (sym (all_from s is))

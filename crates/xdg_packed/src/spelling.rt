@@ -150,7 +150,7 @@ fn push_numbers(out: &mut Text, all: &[u16]) -> Result<(), AllocError>
 fn push_cards(out: &mut Text, cards: &CardSet) -> Result<(), AllocError>
     ensures { OnOk result (out.new ≡ out.old ++ spec.numbers cards.now) }
 {
-    for number in 0..128u8 {
+    for number in cards.least()..cards.greatest() + 1 {
         if !cards.contains(number) {
             continue;
         }

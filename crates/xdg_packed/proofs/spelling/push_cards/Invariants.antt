@@ -5,4 +5,5 @@ use Rattle.xdg_packed.proofs.Writing.{cards_from}
 use Rattle.xdg_packed.proofs.spelling.push_cards.Given as goal
 
 abbrev pub invariant-loop-number : goal.invariant-loop-number
-invariant-loop-number l = (l.out ++ spec.numbers (cards_from 128 l.cards l.number) ≡ l.fn.out ++ spec.numbers (cards_from 128 l.cards 0)) × (0 < l.number → IsCards l.cards)
+invariant-loop-number l =
+    (l.out ++ spec.numbers (cards_from 128 l.cards l.number) ≡ l.fn.out ++ spec.numbers (cards_from 128 l.cards 0)) × (l.initial.number < l.number → IsCards l.cards)
