@@ -1,33 +1,151 @@
 -- The numbers that were found to be allowed are those that are.
-use Rattle.std.proofs.Common.{◌≡◌, ℕ, ◌<◌, ◌≤◌, List, [], ◌∷◌, Option, None, Some, refl, ap, sym, ◌∙◌, arith, subst}
-use Rattle.std.specs.Prelude.{Bool, true, false, nat_lt, ◌&&◌}
+use Rattle.std.proofs.Common.{◌≡◌, ℕ, ◌+◌, ◌<◌, ◌≤◌, List, [], ◌∷◌, Option, None, Some, length, drop, get_or, refl, ap, ap₂, sym, ◌∙◌, arith, subst, min, inl, inr, add-one, drop-cons}
+use Rattle.std.specs.Prelude.{Bool, true, false, nat_lt, nat_le, ◌==◌, ◌&&◌, ◌||◌}
+use Rattle.std.specs.List.{list_any}
+use Rattle.std.proofs.lemmas.Bool.{cases_eq, cases_lt, eq-eqb, ne_eqb}
 use Rattle.std.proofs.lemmas.Bool.Decides.{nat_tests}
-use Rattle.xdg_domain.specs.Cards.{has, cards, numbers_below, IsCards}
+use Rattle.std.proofs.lemmas.List.{drop_all}
+use Rattle.xdg_ast.specs.declared.names.Num.{Num}
+use Rattle.xdg_ast.specs.declared.terms.CardKind.{CardKind}
+use Rattle.xdg_ast.specs.declared.terms.CardKind.TheVariants as c
+use Rattle.xdg_facts.proofs.Truths.{and_false, or_false, or_true}
+use Rattle.xdg_domain.specs.Cards.{has, cards, numbers_below, with_card, IsCards}
 use Rattle.xdg_domain.proofs.Rising.{numbers_agree, none_of}
-use Rattle.xdg_terms.specs.Built.{some_or_all}
+use Rattle.xdg_terms.specs.Built.{some_or_all, card_numbers}
 use Rattle.xdg_terms.specs.Counted.{told, AreCards}
 
-below_true : (k bound : ℕ) → k < bound → nat_lt k bound ≡ true
-below_true k bound h = grind (arith, nat_tests)
+-- ---- what was found
+
+and_true : (b : Bool) → (b && true) ≡ b
+and_true true = refl
+and_true false = refl
 
 kept_some : (s : List ℕ) → (s ≡ [] → ⊥) → some_or_all s ≡ s
 kept_some [] h = absurd (h refl)
 kept_some (n ∷ ns) h = refl
 
-agree_below : (bound : ℕ) (p q : ℕ → Bool) → ((n : ℕ) → q n ≡ (nat_lt n bound && p n)) → numbers_below bound q ≡ numbers_below bound p
-agree_below bound p q same = numbers_agree bound q p (λ k below. same k ∙ ap (λ t. t && p k) (below_true k bound below))
-
-pub found_some : (p : ℕ → Bool) (made : Option (List ℕ)) (s : List ℕ) (bound : ℕ) → made ≡ Some s → 128 ≤ bound → bound ≤ 128 → AreCards made → ((n : ℕ) → told made n ≡ (nat_lt n bound && p n)) → s ≡ some_or_all (cards p)
-found_some p made s bound is above below are same =
-    let e : bound ≡ 128 = omega (arith, above, below) in
+pub found_some : (p : ℕ → Bool) (made : Option (List ℕ)) (s : List ℕ) → made ≡ Some s → AreCards made → ((n : ℕ) → n < 128 → told made n ≡ p n) → s ≡ some_or_all (cards p)
+found_some p made s is are same =
     let these : IsCards s = subst AreCards is are in
-    let each : (n : ℕ) → has s n ≡ (nat_lt n 128 && p n) = λ n. ap (λ m. told m n) (sym is) ∙ same n ∙ ap (λ b. nat_lt n b && p n) e in
-    let whole : s ≡ cards p = these.whole ∙ agree_below 128 p (has s) each in
+    let whole : s ≡ cards p = these.whole ∙ numbers_agree 128 (has s) p (λ n below. ap (λ m. told m n) (sym is) ∙ same n below) in
     whole ∙ sym (kept_some (cards p) (λ none. these.some (whole ∙ none)))
 
-pub found_none : (p : ℕ → Bool) (made : Option (List ℕ)) (all : List ℕ) (bound : ℕ) → made ≡ None → 128 ≤ bound → bound ≤ 128 → ((n : ℕ) → told made n ≡ (nat_lt n bound && p n)) → all ≡ cards (λ _. true) → all ≡ some_or_all (cards p)
-found_none p made all bound is above below same whole =
-    let e : bound ≡ 128 = omega (arith, above, below) in
-    let each : (n : ℕ) → false ≡ (nat_lt n 128 && p n) = λ n. ap (λ m. told m n) (sym is) ∙ same n ∙ ap (λ b. nat_lt n b && p n) e in
-    let none : cards p ≡ [] = sym (agree_below 128 p (λ _. false) each) ∙ none_of 128 (λ _. false) (λ _. refl) in
+pub found_none : (p : ℕ → Bool) (made : Option (List ℕ)) (all : List ℕ) → made ≡ None → ((n : ℕ) → n < 128 → told made n ≡ p n) → all ≡ cards (λ _. true) → all ≡ some_or_all (cards p)
+found_none p made all is same whole =
+    let none : cards p ≡ [] = numbers_agree 128 p (λ _. false) (λ n below. sym (ap (λ m. told m n) (sym is) ∙ same n below)) ∙ none_of 128 (λ _. false) (λ _. refl) in
     whole ∙ ap some_or_all (sym none)
+
+-- ---- numbers one by one
+
+abbrev pub stands_in : List Num → ℕ → Bool
+stands_in nums n = list_any (λ num. num.value == n) nums
+
+-- those of a number that was passed, and those that stand behind it
+abbrev pub Upto : List Num → ℕ → Option (List ℕ) → Type 0
+Upto nums i made = AreCards made × ((n : ℕ) → n < 128 → (told made n || stands_in (drop i nums) n) ≡ stands_in nums n)
+
+next_of : (nums : List Num) (i : ℕ) (d : Num) (n : ℕ) → i < length nums → stands_in (drop i nums) n ≡ (((get_or nums i d).value == n) || stands_in (drop (i + 1) nums) n)
+next_of nums i d n below =
+    let front : drop i nums ≡ get_or nums i d ∷ drop (i + 1) nums = rw add-one (drop-cons nums i d below) in
+    ap (λ ns. stands_in ns n) front
+
+moved : (t r : Bool) (v n : ℕ) → (((n == v) || t) || r) ≡ (t || ((v == n) || r))
+moved t r v n = elim (cases_eq v n) [
+  | inl e ↦ ap (λ b. (b || t) || r) (eq-eqb n v (sym e)) ∙ sym (ap (λ b. t || (b || r)) (eq-eqb v n e) ∙ or_true t)
+  | inr other ↦ ap (λ b. (b || t) || r) (ne_eqb n v (λ e. other (sym e))) ∙ sym (ap (λ b. t || (b || r)) (ne_eqb v n other))
+]
+
+pub number_added : (nums : List Num) (i : ℕ) (d : Num) (made : Option (List ℕ)) (s : List ℕ) → i < length nums → IsCards s → ((n : ℕ) → has s n ≡ ((n == (get_or nums i d).value) || told made n)) → Upto nums i made → Upto nums (i + 1) (Some s)
+number_added nums i d made s below are more so_far = (
+  are,
+  λ n small.
+      let rest = stands_in (drop (i + 1) nums) n in
+      ap (λ b. b || rest) (more n) ∙ moved (told made n) rest (get_or nums i d).value n ∙ ap (λ b. told made n || b) (sym (next_of nums i d n below)) ∙ so_far.1 n small,
+)
+
+pub number_passed : (nums : List Num) (i : ℕ) (d : Num) (made : Option (List ℕ)) → i < length nums → 127 < (get_or nums i d).value → Upto nums i made → Upto nums (i + 1) made
+number_passed nums i d made below large so_far = (
+  so_far.0,
+  λ n small.
+      let rest = stands_in (drop (i + 1) nums) n in
+      ap (λ b. told made n || b) (sym (next_of nums i d n below ∙ ap (λ b. b || rest) (ne_eqb (get_or nums i d).value n (λ e. omega (arith, e, large, small))))) ∙ so_far.1 n small,
+)
+
+pub numbers_end : (nums : List Num) (i : ℕ) (made : Option (List ℕ)) → length nums ≤ i → Upto nums i made → (n : ℕ) → n < 128 → told made n ≡ stands_in nums n
+numbers_end nums i made over so_far n small =
+    sym (ap (λ ns. told made n || stands_in ns n) (drop_all i nums over) ∙ or_false (told made n)) ∙ so_far.1 n small
+
+-- ---- from one number to another
+
+abbrev pub within : ℕ → ℕ → ℕ → Bool
+within low high n = nat_le low n && nat_le n high
+
+lt_true : (n k : ℕ) → n < k → nat_lt n k ≡ true
+lt_true n k h = grind (arith, nat_tests)
+
+lt_false : (n k : ℕ) → k ≤ n → nat_lt n k ≡ false
+lt_false n k h = grind (arith, nat_tests)
+
+le_true : (n k : ℕ) → n ≤ k → nat_le n k ≡ true
+le_true n k h = grind (arith, nat_tests)
+
+le_false : (n k : ℕ) → k < n → nat_le n k ≡ false
+le_false n k h = grind (arith, nat_tests)
+
+pub interval_begins : (low high n : ℕ) → false ≡ (nat_lt n low && within low high n)
+interval_begins low high n = elim (cases_lt n low) [
+  | inl less ↦ sym (ap (λ b. nat_lt n low && (b && nat_le n high)) (le_false low n less) ∙ and_false (nat_lt n low))
+  | inr more ↦ sym (ap (λ b. b && within low high n) (lt_false n low more))
+]
+
+same_side : (n k : ℕ) → (n ≡ k → ⊥) → nat_lt n k ≡ nat_lt n (k + 1)
+same_side n k other = elim (cases_lt n k) [
+  | inl less ↦ lt_true n k less ∙ sym (lt_true n (k + 1) (omega (arith, less)))
+  | inr more ↦ lt_false n k more ∙ sym (lt_false n (k + 1) (omega (arith, more, other)))
+]
+
+pub interval_grows : (low high k : ℕ) (made : Option (List ℕ)) (s : List ℕ) → low ≤ k → k ≤ high → ((n : ℕ) → has s n ≡ ((n == k) || told made n))
+    → ((n : ℕ) → told made n ≡ (nat_lt n k && within low high n)) → (n : ℕ) → has s n ≡ (nat_lt n (k + 1) && within low high n)
+interval_grows low high k made s above below more so_far n = more n ∙ elim (cases_eq n k) [
+  | inl e ↦
+      ap (λ b. b || told made n) (eq-eqb n k e)
+      ∙ sym (ap₂ (λ a b. a && (b && nat_le n high)) (lt_true n (k + 1) (omega (arith, e))) (le_true low n (omega (arith, e, above))) ∙ le_true n high (omega (arith, e, below)))
+  | inr other ↦ ap (λ b. b || told made n) (ne_eqb n k other) ∙ so_far n ∙ ap (λ b. b && within low high n) (same_side n k other)
+]
+
+pub interval_ends : (low high k : ℕ) (made : Option (List ℕ)) → min high 127 < k → ((n : ℕ) → told made n ≡ (nat_lt n k && within low high n)) → (n : ℕ) → n < 128 → told made n ≡ within low high n
+interval_ends low high k made over so_far n small = so_far n ∙ elim (cases_lt high n) [
+  | inl beyond ↦
+      let none : within low high n ≡ false = ap (λ b. nat_le low n && b) (le_false n high beyond) ∙ and_false (nat_le low n) in
+      ap (λ b. nat_lt n k && b) none ∙ and_false (nat_lt n k) ∙ sym none
+  | inr inside ↦ ap (λ b. b && within low high n) (lt_true n k (omega (arith, inside, small, over)))
+]
+
+-- ---- each form
+
+pub one_made : (kind : CardKind) (made : List ℕ) → kind ≡ c.One → made ≡ 1 ∷ [] → made ≡ card_numbers kind
+unfolding card_numbers numbers_below
+one_made kind made is e = e ∙ sym (ap card_numbers is)
+
+pub maybe_made : (kind : CardKind) (none made : List ℕ) → kind ≡ c.Maybe → none ≡ 0 ∷ [] → made ≡ with_card none 1 → made ≡ card_numbers kind
+unfolding card_numbers numbers_below
+maybe_made kind none made is start e = e ∙ ap (λ s. with_card s 1) start ∙ sym (ap card_numbers is)
+
+pub any_made : (kind : CardKind) (made : List ℕ) → kind ≡ c.Any → made ≡ cards (λ _. true) → made ≡ card_numbers kind
+unfolding card_numbers numbers_below
+any_made kind made is e = e ∙ sym (ap card_numbers is)
+
+some_within : (n : ℕ) → n < 128 → within 1 127 n ≡ nat_lt 0 n
+some_within n below = ap (λ b. nat_le 1 n && b) (le_true n 127 (omega (arith, below))) ∙ and_true (nat_le 1 n)
+
+pub some_made : (kind : CardKind) (made : List ℕ) → kind ≡ c.Some1 → made ≡ some_or_all (cards (within 1 127)) → made ≡ card_numbers kind
+unfolding card_numbers
+some_made kind made is e = e ∙ ap some_or_all (numbers_agree 128 (within 1 127) (λ n. nat_lt 0 n) some_within) ∙ sym (ap card_numbers is)
+
+pub numbers_made : (kind : CardKind) (nums given : List Num) (made : List ℕ) → kind ≡ c.Numbers nums → given ≡ nums → made ≡ some_or_all (cards (stands_in given)) → made ≡ card_numbers kind
+unfolding card_numbers
+numbers_made kind nums given made is same e = e ∙ ap (λ ns. some_or_all (cards (stands_in ns))) same ∙ sym (ap card_numbers is)
+
+pub interval_made : (kind : CardKind) (low high : Num) (made : List ℕ) → kind ≡ c.Interval low high → made ≡ some_or_all (cards (within low.value high.value)) → made ≡ card_numbers kind
+unfolding card_numbers
+interval_made kind low high made is e = e ∙ sym (ap card_numbers is)

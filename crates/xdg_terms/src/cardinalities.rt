@@ -1,9 +1,8 @@
 //! The numbers that a cardinality allows.
 
-ghost use Rattle.std.specs.Prelude.{◌≡◌, ℕ, ◌<◌, ◌==◌, ◌||◌};
+ghost use Rattle.std.specs.Prelude.{◌≡◌, ℕ, ◌<◌, ◌==◌, ◌||◌, ◌&&◌, Bool, nat_le};
 ghost use Rattle.std.specs.List.{list_any};
-ghost use Rattle.xdg_domain.specs.Cards.{has, IsCards};
-ghost use Rattle.xdg_terms.specs.Means.{allows};
+ghost use Rattle.xdg_domain.specs.Cards.{has, numbers_below, IsCards};
 ghost use Rattle.xdg_terms.specs.Built as spec;
 ghost use Rattle.xdg_terms.specs.Counted.{told, AreCards};
 
@@ -14,16 +13,39 @@ use xdg_domain::CardSet;
 pub(crate) fn cards(card: &CardKind) -> CardSet
     ensures { result ≡ spec.card_numbers card.now }
 {
+    match card {
+        CardKind::One => CardSet::one(1),
+        CardKind::Maybe => CardSet::one(0).with(1),
+        CardKind::Any => CardSet::all(),
+        CardKind::Some1 => between(1, 127),
+        CardKind::Numbers(numbers) => among(numbers.as_slice()),
+        CardKind::Interval(low, high) => between(low.value, high.value),
+    }
+}
+
+/// The numbers up to 127 among these, or all of them where there is none.
+fn among(numbers: &[Num]) -> CardSet
+    ensures { result ≡ spec.some_or_all (numbers_below 128 (λ n. list_any (λ num. num.value == n) numbers.now)) }
+{
     let mut made = None;
-    for number in 0..128u8 {
-        if is_allowed(card, number) {
-            made = Some(with(made, number));
+    for num in numbers {
+        if num.value > 127 {
+            continue;
         }
+        made = Some(with(made, num.value as u8));
     }
-    match made {
-        Some(cards) => cards,
-        None => CardSet::all(),
+    found_or_all(made)
+}
+
+/// The numbers up to 127 from the one to the other, or all of them where there is none.
+fn between(low: u32, high: u32) -> CardSet
+    ensures { result ≡ spec.some_or_all (numbers_below 128 (λ n. nat_le low n && nat_le n high)) }
+{
+    let mut made = None;
+    for number in low..high.min(127) + 1 {
+        made = Some(with(made, number as u8));
     }
+    found_or_all(made)
 }
 
 /// One number more.
@@ -39,30 +61,13 @@ fn with(made: Option<CardSet>, number: u8) -> CardSet
     }
 }
 
-/// Whether the cardinality allows the number.
-fn is_allowed(card: &CardKind, number: u8) -> bool
-    ensures { result ≡ allows card.now number }
+/// The numbers that were found, or all of them where there is none.
+fn found_or_all(made: Option<CardSet>) -> CardSet
+    requires { AreCards made }
+    ensures { (p : ℕ → Bool) → ((n : ℕ) → n < 128 → told made n ≡ p n) → result ≡ spec.some_or_all (numbers_below 128 p) }
 {
-    match card {
-        CardKind::One => number == 1,
-        CardKind::Maybe => number == 0 || number == 1,
-        CardKind::Any => true,
-        CardKind::Some1 => 0 < number,
-        CardKind::Numbers(numbers) => is_among(numbers.as_slice(), number),
-        CardKind::Interval(low, high) => {
-            low.value <= u32::from(number) && u32::from(number) <= high.value
-        }
+    match made {
+        Some(cards) => cards,
+        None => CardSet::all(),
     }
-}
-
-/// Whether the number is one of these.
-fn is_among(numbers: &[Num], number: u8) -> bool
-    ensures { result ≡ list_any (λ num. num.value == number) numbers.now }
-{
-    for num in numbers {
-        if num.value == u32::from(number) {
-            return true;
-        }
-    }
-    false
 }

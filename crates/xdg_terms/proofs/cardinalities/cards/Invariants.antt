@@ -1,8 +1,0 @@
-use Rattle.std.proofs.Common.{◌≡◌, ℕ}
-use Rattle.std.specs.Prelude.{nat_lt, ◌&&◌}
-use Rattle.xdg_terms.specs.Means.{allows}
-use Rattle.xdg_terms.specs.Counted.{told, AreCards}
-use Rattle.xdg_terms.proofs.cardinalities.cards.Given as goal
-
-abbrev pub invariant-loop-number : goal.invariant-loop-number
-invariant-loop-number l = AreCards l.made × ((n : ℕ) → told l.made n ≡ (nat_lt n l.number && allows l.card n))
