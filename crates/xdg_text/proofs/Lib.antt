@@ -1,4 +1,5 @@
 pub mod Fitting
+pub mod Keywords
 pub mod Names
 pub mod Pieces
 pub mod Rests

@@ -1,5 +1,5 @@
 -- How the pieces of a text that are written one after the other join.
-use Rattle.std.proofs.Common.{◌≡◌, ◌<◌, ◌≤◌, ◌++◌, ℕ, List, Option, suc, [], ◌∷◌, length, drop, get_or, refl, sym, ap, ◌∙◌, subst, add-one, arith, ◌+◌, Result, Ok, Err, map}
+use Rattle.std.proofs.Common.{◌≡◌, ◌<◌, ◌≤◌, ◌++◌, ℕ, List, Option, suc, [], ◌∷◌, length, drop, get_or, refl, sym, ap, ◌∙◌, subst, add-one, ◌+◌, Result, Ok, Err, map}
 use Rattle.std.specs.Result.{OnErr}
 use Rattle.std.proofs.Math.Seq.{drop-cons}
 use Rattle.std.proofs.lemmas.List.{append_assoc}

@@ -8,39 +8,25 @@ ghost use Rattle.xdg_text.specs.Constants.{is_keyword, begins_name, continues_na
 
 use xdg_io::{Failed, Sink, write_all};
 
-/// The words that are no names.
-const KEYWORDS: [&str; 23] = [
-    "defdim",
-    "deftype",
-    "deflabeltype",
-    "defattrstype",
-    "defentrytype",
-    "useprinciple",
-    "dims",
-    "args",
-    "output",
-    "useoutput",
-    "defclass",
-    "defentry",
-    "dim",
-    "usedim",
-    "tuple",
-    "set",
-    "iset",
-    "valency",
-    "map",
-    "card",
-    "bool",
-    "int",
-    "string",
-];
-
-/// Whether a text is a keyword.
+/// Whether a text is a keyword. It is compared with those of its length alone.
 #[tactic(auto, unfolding(crate::specs::Constants::is_keyword, crate::specs::Constants::keywords))]
 fn is_keyword(text: &str) -> bool
     ensures { result ≡ is_keyword text.now }
 {
-    KEYWORDS.contains(&text)
+    match text.len() {
+        3 => matches!(text, "dim" | "set" | "map" | "int"),
+        4 => matches!(text, "dims" | "args" | "iset" | "card" | "bool"),
+        5 => text == "tuple",
+        6 => matches!(text, "defdim" | "output" | "usedim" | "string"),
+        7 => matches!(text, "deftype" | "valency"),
+        8 => matches!(text, "defclass" | "defentry"),
+        9 => text == "useoutput",
+        12 => matches!(
+            text,
+            "deflabeltype" | "defattrstype" | "defentrytype" | "useprinciple"
+        ),
+        _ => false,
+    }
 }
 
 fn begins_name(byte: u8) -> bool
