@@ -56,6 +56,10 @@ pub(crate) fn refill_numbers(held: &mut Vec<u16>, numbers: &[u16])
     ensures items { held.new.items ≡ numbers.now }
     ensures room { vec_capacity held.new ≡ vec_capacity held.old }
 {
+    if held.len() == numbers.len() {
+        held.copy_from_slice(numbers);
+        return;
+    }
     held.clear();
     for number in numbers {
         held.push_reserved(*number);
