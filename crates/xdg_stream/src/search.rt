@@ -1,6 +1,7 @@
 //! A search, in rising order, through the counted prefixes of a finite problem.
 
-ghost use Rattle.std.specs.Prelude.{◌≡◌, ◌≢◌, ◌<◌, ◌≤◌, ◌+◌, ◌-◌, ◌⊎◌, ◌++◌, ◌∷◌, [], ℕ, Bool, true, false, List, Option, Some, None, length, slice_index, take, drop};
+ghost use Rattle.std.specs.Prelude.{◌≡◌, ◌≢◌, ◌<◌, ◌≤◌, ◌+◌, ◌-◌, ◌⊎◌, ◌++◌, ◌∷◌, []};
+ghost use Rattle.std.specs.Prelude.{ℕ, Bool, true, false, List, Option, Some, None, length, slice_index, take, drop};
 ghost use Rattle.std.specs.Vec.{vec_capacity};
 ghost use Rattle.xdg_facts.specs.Order.{Less, AtMost};
 ghost use Rattle.xdg_facts.specs.Fits.{Fits};
@@ -129,12 +130,11 @@ fn keep(reached: &mut Vec<u16>, first: usize, numbers: &[u16])
     requires first { first ≤ length numbers.now }
     requires room { length numbers.now ≤ vec_capacity reached.old }
     ensures items { reached.new.items ≡ take first reached.old.items ++ drop first numbers.now }
-    ensures room { vec_capacity reached.new ≡ vec_capacity reached.old }
+    ensures room { vec_capacity reached.old ≤ vec_capacity reached.new }
 {
     reached.truncate(first);
-    for number in &numbers[first..] {
-        reached.push_reserved(*number);
-    }
+    let kept = reached.extend_from_slice(&numbers[first..]);
+    prove!(kept.is_ok());
 }
 
 /// A search: its front, the value that it tries next behind the front, and what it has charged.
@@ -204,7 +204,7 @@ impl<F: Front> Search<F> {
         ensures charged { (self.old.charged ≤ self.new.charged) × (self.new.charged ≤ self.old.budget) }
         ensures forward { result ≡ Step.Found → self.old.charged < self.new.charged }
         ensures kept { (self.new.budget ≡ self.old.budget) × (self.new.done ≡ self.old.done) }
-        ensures room { vec_capacity self.new.reached ≡ vec_capacity self.old.reached }
+        ensures room { vec_capacity self.old.reached ≤ vec_capacity self.new.reached }
     {
         'steps: loop {
             match candidate(&self.front, self.value) {

@@ -150,7 +150,7 @@ steps-preserved-else-prefix-decisions g c =
       charged = (omega (arith, d), omega (arith, d, n, within));
       kept = c.steps.invariant.kept;
       begins = begins_taken _ _ is;
-      room = c.keep.ensures.room ∙ c.steps.invariant.room;
+      room = (let r = c.keep.ensures.room in let kept = c.steps.invariant.room in omega (arith, r, kept));
       passed = λ from next. ran_passes _ _ _ _ _ _ _ _ _ _ _ _ _ _ _ (g.met.F.Front.closed c.args.self.now.front) s stands.fits counts (t.0 ∙ ap (λ i. g.F.Front.numbers c.steps.self.front ++ i ∷ []) v.0) f.forced f.joined (λ w. o (omega (arith, e, a, b, w))) (omega (arith, d, count)) is (c.steps.invariant.passed from next);
     }
 

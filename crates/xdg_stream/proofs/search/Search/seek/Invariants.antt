@@ -17,7 +17,7 @@ invariant-steps g l =
       charged : (l.fn.self.charged ≤ l.self.charged) × (l.self.charged ≤ l.self.budget);
       kept : (l.self.budget ≡ l.fn.self.budget) × (l.self.done ≡ l.fn.self.done);
       begins : take (length (g.F.Front.numbers l.self.front)) l.self.reached.items ≡ g.F.Front.numbers l.self.front;
-      room : vec_capacity l.self.reached ≡ vec_capacity l.fn.self.reached;
+      room : vec_capacity l.fn.self.reached ≤ vec_capacity l.self.reached;
       passed : (from : List ℕ) → Next shape counted from (place (g.F.Front.numbers l.fn.self.front) l.fn.self.value) →
           Passes shape counted from (place (g.F.Front.numbers l.self.front) l.self.value) (l.self.charged - l.fn.self.charged) l.fn.self.reached.items l.self.reached.items;
     }
