@@ -1,5 +1,5 @@
 -- What a search passes by numbers that are forced.
-use Rattle.std.proofs.Common.{◌≡◌, ◌≢◌, ℕ, zero, suc, ◌<◌, ◌≤◌, ◌+◌, List, [], ◌∷◌, ◌++◌, length, get_or, refl, ap, sym, ◌∙◌, arith, subst, length-append}
+use Rattle.std.proofs.Common.{◌≡◌, ◌≢◌, ℕ, zero, suc, ◌<◌, ◌≤◌, ◌+◌, List, [], ◌∷◌, ◌++◌, length, ap, sym, ◌∙◌, arith, subst, length-append}
 use Rattle.std.proofs.lemmas.List.{append_assoc, append-nil}
 use Rattle.xdg_facts.specs.Order.{Less}
 use Rattle.xdg_facts.specs.Fits.{Fits}
@@ -8,7 +8,7 @@ use Rattle.xdg_facts.specs.Passed.{Finds}
 use Rattle.xdg_facts.proofs.Fitting.{fits_push, fits_front, fits_last, fits_length}
 use Rattle.xdg_stream.specs.Forced.{IsForced, AreForced}
 use Rattle.xdg_stream.specs.Problem.{SameProblem}
-use Rattle.xdg_stream.specs.Place.{place, Stands}
+use Rattle.xdg_stream.specs.Place.{place}
 use Rattle.xdg_stream.proofs.Measure.{ahead, ahead_taken, ahead_first}
 use Rattle.xdg_stream.proofs.Passing.{Passes, passes_refused, passes_taken, finds_taken}
 
