@@ -2,7 +2,9 @@ pub mod Principles
 pub mod Sweeping
 pub mod AtPlaces
 pub mod AtNodes
+pub mod Bringing
 pub mod Closing
 pub mod Keeping
+pub mod Looping
 pub mod Others
 pub mod Staying

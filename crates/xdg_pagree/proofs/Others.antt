@@ -28,9 +28,10 @@ use Rattle.xdg_propcore.specs.declared.touched.Touched.{Touched}
 use Rattle.xdg_propcore.proofs.Passing.{goes_none}
 use Rattle.xdg_propcore.proofs.Sweeping.{sweeps_start}
 use Rattle.xdg_pagree.specs.Family.{IsOfFamily, IsOfPlaces}
-use Rattle.xdg_pagree.specs.Places.{IsDoneAt, IsLabelDone, IsNodeDone, PlaceAsks, PlaceLacks}
-use Rattle.xdg_pagree.specs.Untouched.{AreOthersDone, AreOthersDoneAt, AreTouched, IsNodeFree, IsPlaceFree, IsRowFree}
-use Rattle.xdg_pagree.proofs.AtNodes.{AreDaughtersDone, daughters_last, lacks_present, place_edge}
+use Rattle.xdg_pagree.specs.Places.{AreMothersDone, AreNodesDone, IsDoneAt, IsLabelDone, IsNodeDone, PlaceAsks, PlaceLacks}
+use Rattle.xdg_pagree.specs.Untouched.{AreOthersDone, AreOthersDoneAt, AreTouched, HasMothers, HasOwn, IsNodeFree, IsPlaceFree, IsRowFree}
+use Rattle.xdg_pagree.proofs.AtNodes.{daughters_last, lacks_present, place_edge}
+use Rattle.xdg_pagree.proofs.Looping.{AreDone}
 use Rattle.xdg_pagree.proofs.Keeping.{KeepsPlace, asks_before, attr_some, lacks_before}
 
 -- ---- what was closed is done where nothing was lost
@@ -164,9 +165,38 @@ label_skipped t group dim mother label set p s known on edges of touched empty o
   known = known;
   done = λ quiet asks.
       (daughters_last group dim mother label set p s p s on (λ still. done_at_others t s.parts group s.now dim mother label set on edges of touched asks (others still))
-      (sweeps_start group (AreDaughtersDone s.parts group dim mother label set []) p s known (λ v there out. absurd (none_in set empty v there)))).done quiet;
+      (sweeps_start group (AreDone (λ v. IsDoneAt s.parts group (edge dim mother label v)) set []) p s known (λ v there out. absurd (none_in set empty v there)))).done quiet;
 }
 
--- nor at a node
-pub agr_skipped : (t : Touched) (group : Group) (node : ℕ) (p : Progress) (s : State) → Known s → group.principle ≡ principles.Agr → node < nodes s.parts → IsNodeFree t node → (IsQuiet p → AreOthersDone t s.parts group s.now) → Sweeps group (IsNodeDone principles.Agr s.parts group node) p s p s
-agr_skipped t group node p s known agr within free others = record { goes = goes_none group p s; known = known; done = λ quiet. (others quiet).at_nodes agr node within free }
+-- ---- behind the nodes at which something may be left
+
+-- nothing is left at a label
+pub mothers_last : (t : Touched) (group : Group) (dim label : ℕ) (first : List ℕ) (p : Progress) (old : State) (q : Progress) (new : State) → dim ≡ first_dim group → IsOfPlaces group.principle → HasMothers old.parts old.now t dim label first → (IsQuiet p → AreOthersDone t old.parts group old.now) → Sweeps group (AreDone (λ u box. PlaceAsks group.principle group box u label → IsLabelDone old.parts group u label box) first []) p old q new → Sweeps group (AreMothersDone old.parts group label) p old q new
+mothers_last t group dim label first p old q new on of mothers others a = record {
+  goes = a.goes;
+  known = a.known;
+  done = λ quiet u within asks. elim (cases_Bool (has first u)) [
+    | inl there ↦ a.done quiet u there (λ h. false≢true h) asks
+    | inr not ↦
+        (let before = a.goes.quiet quiet in
+        subst (IsLabelDone old.parts group u label) (sym before.1) (λ e is mother_is label_is d v remains lacks.
+        let may = lacks_present group.principle old.parts group old.now e d v lacks remains in
+        let here = subst (λ box. PlaceAsks group.principle group box u label) before.1 asks in
+        let asked = subst (λ m. PlaceAsks group.principle group old.now m e.label.0) (sym mother_is) (subst (PlaceAsks group.principle group old.now u) (sym label_is) here) in
+        let free = mothers.others e (is.0, is.1 ∙ sym on) label_is (λ there. false≢true (sym not ∙ subst (λ m. has first m ≡ true) mother_is there)) may in
+        (others before.0).at_places of e is asked free d v remains lacks))
+  ];
+}
+
+-- nothing is left at the nodes
+pub agr_last : (t : Touched) (group : Group) (first : List ℕ) (p : Progress) (old : State) (q : Progress) (new : State) → group.principle ≡ principles.Agr → HasOwn old.parts t first → (IsQuiet p → AreOthersDone t old.parts group old.now) → Sweeps group (AreDone (IsNodeDone principles.Agr old.parts group) first []) p old q new → Sweeps group (AreNodesDone (nodes old.parts) old.parts group) p old q new
+agr_last t group first p old q new agr own others a = record {
+  goes = a.goes;
+  known = a.known;
+  done = λ quiet node within. subst (λ k. IsNodeDone k old.parts group node new.now) (sym agr) (elim (cases_Bool (has first node)) [
+    | inl there ↦ a.done quiet node there (λ h. false≢true h)
+    | inr not ↦
+        (let before = a.goes.quiet quiet in
+        subst (IsNodeDone principles.Agr old.parts group node) (sym before.1) ((others before.0).at_nodes agr node within (own.others node within (λ there. false≢true (sym not ∙ there)))))
+  ]);
+}

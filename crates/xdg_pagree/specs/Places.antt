@@ -8,6 +8,7 @@ use Rattle.xdg_problem.specs.declared.parts.Principle.TheVariants as principles
 use Rattle.xdg_problem.specs.Arguments.{first_dim}
 use Rattle.xdg_problem.specs.Boxes.{Has, entry_decision}
 use Rattle.xdg_problem.specs.Features.{set_row, map_row}
+use Rattle.xdg_problem.specs.Places.{nodes}
 use Rattle.xdg_rules.specs.Rules.{EachEntry, IsPlaceOn, SaysPresent, must_edges, attr_of_node}
 
 -- the entries of a mother ask for something at a label: for agreement, or for one of some values
@@ -66,9 +67,14 @@ abbrev pub IsLabelDone : Parts → Group → ℕ → ℕ → List (List Bool) �
 IsLabelDone parts group mother label box =
     (place : Edge) → IsPlaceOn parts (first_dim group) place → place.mother.0 ≡ mother → place.label.0 ≡ label → IsDoneAt parts group place box
 
--- nothing at the places of the first labels out of a mother, where it is asked for
-abbrev pub AreLabelsDone : ℕ → Parts → Group → ℕ → List (List Bool) → Type 0
-AreLabelsDone k parts group mother box = (label : ℕ) → label < k → PlaceAsks group.principle group box mother label → IsLabelDone parts group mother label box
+-- nothing at the places of a label out of the nodes of the sentence, where it is asked for
+abbrev pub AreMothersDone : Parts → Group → ℕ → List (List Bool) → Type 0
+AreMothersDone parts group label box =
+    (mother : ℕ) → mother < nodes parts → PlaceAsks group.principle group box mother label → IsLabelDone parts group mother label box
+
+-- nothing at those of the first labels
+abbrev pub AreLabelsDone : ℕ → Parts → Group → List (List Bool) → Type 0
+AreLabelsDone k parts group box = (label : ℕ) → label < k → AreMothersDone parts group label box
 
 -- nothing at a node
 abbrev pub IsNodeDone : Principle → Parts → Group → ℕ → List (List Bool) → Type 0

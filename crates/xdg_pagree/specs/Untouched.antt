@@ -1,5 +1,5 @@
 -- Nodes and places where nothing was lost.
-use Rattle.std.specs.Prelude.{◌≡◌, ◌≢◌, ◌<◌, ℕ, true, Bool, List}
+use Rattle.std.specs.Prelude.{◌≡◌, ◌≢◌, ◌<◌, ◌↔◌, ℕ, true, Bool, List}
 use Rattle.xdg_nodeset.specs.Nodes.{has}
 use Rattle.xdg_problem.specs.declared.analysis.Edge.{Edge}
 use Rattle.xdg_problem.specs.declared.parts.Group.{Group}
@@ -26,6 +26,27 @@ IsRowFree t mother label = IsNodeFree t mother × (InTable t.out label mother �
 abbrev pub IsPlaceFree : Touched → Edge → Type 0
 IsPlaceFree t e = IsRowFree t e.mother.0 e.label.0 × (has t.attrs e.daughter.0 ≡ true → ⊥)
 
+-- ---- where to look
+
+-- a set has the first nodes, so many
+abbrev pub IsEvery : ℕ → List ℕ → Type 0
+IsEvery count set = (v : ℕ) → (has set v ≡ true) ↔ (v < count)
+
+-- a set has nodes of the sentence, and all that have lost an entry or a value of an attribute
+pub record HasOwn (parts : Parts) (t : Touched) (set : List ℕ) : Type 0 where
+  pub each : (v : ℕ) → has set v ≡ true → v < nodes parts
+  pub others : (v : ℕ) → v < nodes parts → (has set v ≡ true → ⊥) → IsNodeFree t v
+
+-- a set has nodes of the sentence, and all mothers of an edge with a label to one of some daughters that may be present
+pub record AreMothersOf (parts : Parts) (box : List (List Bool)) (dim label : ℕ) (daughters set : List ℕ) : Type 0 where
+  pub each : (u : ℕ) → has set u ≡ true → u < nodes parts
+  pub all : (e : Edge) → IsPlaceOn parts dim e → e.label.0 ≡ label → has daughters e.daughter.0 ≡ true → May parts box e → has set e.mother.0 ≡ true
+
+-- a set has nodes of the sentence, and all mothers of an edge with a label that may be present where something was lost
+pub record HasMothers (parts : Parts) (box : List (List Bool)) (t : Touched) (dim label : ℕ) (set : List ℕ) : Type 0 where
+  pub each : (u : ℕ) → has set u ≡ true → u < nodes parts
+  pub others : (e : Edge) → IsPlaceOn parts dim e → e.label.0 ≡ label → (has set e.mother.0 ≡ true → ⊥) → May parts box e → IsPlaceFree t e
+
 -- a set has nodes of the sentence but the mother
 abbrev pub AreNodesBeside : Parts → ℕ → List ℕ → Type 0
 AreNodesBeside parts mother set = (v : ℕ) → has set v ≡ true → (v < nodes parts) × (mother ≢ v)
@@ -35,6 +56,8 @@ pub record AreTouched (parts : Parts) (box : List (List Bool)) (t : Touched) (di
   pub each : AreNodesBeside parts mother set
   pub others : (v : ℕ) → v < nodes parts → mother ≢ v → May parts box (edge dim mother label v) → (has set v ≡ true → ⊥)
       → IsPlaceFree t (edge dim mother label v)
+
+-- ---- what is left
 
 -- where nothing was lost nothing is left to take
 pub record AreOthersDone (t : Touched) (parts : Parts) (group : Group) (box : List (List Bool)) : Type 0 where

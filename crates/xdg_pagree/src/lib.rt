@@ -4,6 +4,7 @@
 
 mod agree_prop;
 mod asking;
+mod mothers;
 mod nodes;
 mod places;
 mod reads;

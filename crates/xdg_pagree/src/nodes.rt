@@ -1,6 +1,6 @@
 //! The places and nodes of a sentence, one after another, as far as something was lost there.
 
-ghost use Rattle.std.specs.Prelude.{◌≡◌, ◌<◌, ℕ};
+ghost use Rattle.std.specs.Prelude.{◌≡◌, ◌<◌};
 ghost use Rattle.xdg_problem.specs.declared.parts.Principle.TheVariants as principles;
 ghost use Rattle.xdg_problem.specs.Arguments.{first_dim};
 ghost use Rattle.xdg_problem.specs.Places.{nodes};
@@ -8,16 +8,18 @@ ghost use Rattle.xdg_problem.specs.Problems.{IsGroup};
 ghost use Rattle.xdg_store.specs.InRange.{HasEdges};
 ghost use Rattle.xdg_store.specs.States.{Known};
 ghost use Rattle.xdg_pagree.specs.Family.{IsOfFamily, IsOfPlaces};
-ghost use Rattle.xdg_pagree.specs.Places.{AreNodesDone, IsLabelDone, IsNodeDone, PlaceAsks};
-ghost use Rattle.xdg_pagree.specs.Untouched.{AreNodesBeside, AreOthersDone, AreOthersDoneAt};
+ghost use Rattle.xdg_graph.specs.Edges.{edge_labels};
+ghost use Rattle.xdg_pagree.specs.Places.{AreMothersDone, AreNodesDone, IsLabelDone, PlaceAsks};
+ghost use Rattle.xdg_pagree.specs.Untouched.{AreNodesBeside, AreOthersDone, AreOthersDoneAt, IsEvery};
 ghost use Rattle.xdg_propcore.specs.Passes.{IsQuiet};
 ghost use Rattle.xdg_propcore.specs.Sweeps.{Sweeps};
 
+use crate::mothers::{mothers_at, own_nodes, sentence_nodes};
 use crate::places::{agr_at, asks, place_at};
 use crate::reads::is_agr;
-use crate::touched::{daughters_at, is_node_touched};
+use crate::touched::daughters_at;
 use xdg_base::{DimId, LabelId, NodeId};
-use xdg_graph::dim_of;
+use xdg_graph::{dim_of, labels_of};
 use xdg_nodeset::NodeSet;
 use xdg_problem::{Edge, Group};
 use xdg_propcore::{Pass, Touched};
@@ -56,7 +58,7 @@ fn sweep_daughters(
 }
 
 /// Takes what the principle use takes at the places of a label out of a mother.
-fn sweep_label(
+fn sweep_mother(
     store: &mut Store,
     pass: &mut Pass,
     group: &Group,
@@ -86,62 +88,59 @@ fn sweep_label(
     sweep_daughters(store, pass, group, dim, mother, label, daughters);
 }
 
-/// Takes what the principle use takes at the places out of a node.
-fn sweep_labels(
+/// Takes what the principle use takes at the places of a label.
+fn sweep_label(
     store: &mut Store,
     pass: &mut Pass,
     group: &Group,
     touched: &Touched,
-    mother: NodeId,
+    sentence: NodeSet,
+    dim: DimId,
+    label: LabelId,
 )
     requires known { Known store.old }
     requires group { IsGroup store.old.parts group.now }
     requires principle { IsOfPlaces group.now.principle }
-    requires node { mother.0 < nodes store.old.parts }
+    requires sentence { IsEvery (nodes store.old.parts) sentence }
+    requires dim { dim.0 ≡ first_dim group.now }
+    requires edges { label.0 < edge_labels store.old.parts dim.0 }
+    requires label { label.0 < 32 }
     requires others { IsQuiet pass.old → AreOthersDone touched.now store.old.parts group.now store.old.now }
-    ensures { Sweeps group.now
-        (λ box. (label : ℕ) → PlaceAsks group.now.principle group.now box mother.0 label → IsLabelDone store.old.parts group.now mother.0 label box) pass.old
-        store.old pass.new store.new }
+    ensures { Sweeps group.now (AreMothersDone store.old.parts group.now label.0) pass.old store.old pass.new store.new }
 {
-    let dim = dim_of(group, 0);
-    let plan = &store.problem().parts().dims.as_slice()[dim.0 as usize];
-    if !plan.graph {
-        return;
-    }
-    for number in 0..plan.labels.len() as u8 {
-        sweep_label(store, pass, group, touched, dim, mother, LabelId(number));
+    let mothers = mothers_at(store, touched, sentence, dim, label);
+    for mother in mothers.iter() {
+        sweep_mother(store, pass, group, touched, dim, mother, label);
     }
 }
 
-/// Takes what agr takes at a node, if something was lost there.
-fn sweep_agr(store: &mut Store, pass: &mut Pass, group: &Group, touched: &Touched, node: NodeId)
+/// Takes what agreement or government takes at all labels.
+fn sweep_labels(store: &mut Store, pass: &mut Pass, group: &Group, touched: &Touched)
+    requires known { Known store.old }
+    requires group { IsGroup store.old.parts group.now }
+    requires principle { IsOfPlaces group.now.principle }
+    requires others { IsQuiet pass.old → AreOthersDone touched.now store.old.parts group.now store.old.now }
+    ensures { Sweeps group.now (AreNodesDone (nodes store.old.parts) store.old.parts group.now) pass.old store.old pass.new store.new }
+{
+    let dim = dim_of(group, 0);
+    let sentence = sentence_nodes(store);
+    for number in 0..labels_of(store, dim) {
+        sweep_label(store, pass, group, touched, sentence, dim, LabelId(number));
+    }
+}
+
+/// Takes what agr takes at all nodes.
+fn sweep_agr(store: &mut Store, pass: &mut Pass, group: &Group, touched: &Touched)
     requires known { Known store.old }
     requires group { IsGroup store.old.parts group.now }
     requires principle { group.now.principle ≡ principles.Agr }
-    requires node { node.0 < nodes store.old.parts }
     requires others { IsQuiet pass.old → AreOthersDone touched.now store.old.parts group.now store.old.now }
-    ensures { Sweeps group.now (IsNodeDone principles.Agr store.old.parts group.now node.0) pass.old store.old pass.new store.new }
+    ensures { Sweeps group.now (AreNodesDone (nodes store.old.parts) store.old.parts group.now) pass.old store.old pass.new store.new }
 {
-    if !is_node_touched(touched, node) {
-        return;
+    let nodes = own_nodes(store, touched);
+    for node in nodes.iter() {
+        agr_at(store, pass, group, node);
     }
-    agr_at(store, pass, group, node);
-}
-
-/// Takes what the principle use takes at a node.
-fn sweep_node(store: &mut Store, pass: &mut Pass, group: &Group, touched: &Touched, node: NodeId)
-    requires known { Known store.old }
-    requires group { IsGroup store.old.parts group.now }
-    requires principle { IsOfFamily group.now.principle }
-    requires node { node.0 < nodes store.old.parts }
-    requires others { IsQuiet pass.old → AreOthersDone touched.now store.old.parts group.now store.old.now }
-    ensures { Sweeps group.now (IsNodeDone group.now.principle store.old.parts group.now node.0) pass.old store.old pass.new store.new }
-{
-    if is_agr(group) {
-        sweep_agr(store, pass, group, touched, node);
-        return;
-    }
-    sweep_labels(store, pass, group, touched, node);
 }
 
 /// Takes what the principle use takes at all nodes, where nothing is left to take where nothing was lost.
@@ -152,8 +151,9 @@ pub(crate) fn sweep_nodes(store: &mut Store, pass: &mut Pass, group: &Group, tou
     requires others { IsQuiet pass.old → AreOthersDone touched.now store.old.parts group.now store.old.now }
     ensures { Sweeps group.now (AreNodesDone (nodes store.old.parts) store.old.parts group.now) pass.old store.old pass.new store.new }
 {
-    let count = store.problem().parts().words.len() as u8;
-    for number in 0..count {
-        sweep_node(store, pass, group, touched, NodeId(number));
+    if is_agr(group) {
+        sweep_agr(store, pass, group, touched);
+        return;
     }
+    sweep_labels(store, pass, group, touched);
 }

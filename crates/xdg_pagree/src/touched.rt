@@ -1,6 +1,7 @@
 //! The nodes and places where something was lost.
 
-ghost use Rattle.std.specs.Prelude.{◌≡◌, ◌<◌, [], false, slice_index_or};
+ghost use Rattle.std.specs.Prelude.{◌≡◌, ◌<◌, ◌||◌, ℕ, [], false, slice_index_or};
+ghost use Rattle.xdg_nodeset.specs.Nodes.{has};
 ghost use Rattle.xdg_problem.specs.Problems.{IsGroup};
 ghost use Rattle.xdg_rules.specs.Rules.{IsClosedFor};
 ghost use Rattle.xdg_store.specs.InRange.{HasEdges};
@@ -30,16 +31,23 @@ pub(crate) fn touched_since(store: &Store, group: &Group, since: &Option<Mark>) 
     }
 }
 
+/// The nodes that have lost an entry or a value of an attribute.
+pub(crate) fn touched_nodes(touched: &Touched) -> NodeSet
+    ensures { (v : ℕ) → has result v ≡ (has touched.now.entries v || has touched.now.attrs v) }
+{
+    touched.entries.union(&touched.attrs)
+}
+
 /// Whether a node has lost an entry or a value of an attribute.
-pub(crate) fn is_node_touched(touched: &Touched, node: NodeId) -> bool
+fn is_node_touched(touched: &Touched, node: NodeId) -> bool
     requires { node.0 < 128 }
     ensures { result ≡ false → IsNodeFree touched.now node.0 }
 {
-    touched.entries.union(&touched.attrs).contains(node)
+    touched_nodes(touched).contains(node)
 }
 
 /// The nodes that a table has for a label.
-fn nodes_at(table: &[NodeSet; 32], label: LabelId) -> NodeSet
+pub(crate) fn nodes_at(table: &[NodeSet; 32], label: LabelId) -> NodeSet
     requires { label.0 < 32 }
     ensures { result ≡ slice_index_or table.now label.0 [] }
 {

@@ -4,12 +4,13 @@ use Rattle.xdg_problem.specs.Places.{edge}
 use Rattle.xdg_pagree.specs.Places.{IsDoneAt}
 use Rattle.xdg_pagree.specs.Untouched.{AreNodesBeside, AreOthersDoneAt}
 use Rattle.xdg_propcore.specs.Sweeps.{Sweeps}
-use Rattle.xdg_propcore.proofs.Sweeping.{sweeps_next, sweeps_start, group_stays}
-use Rattle.xdg_pagree.proofs.AtNodes.{AreDaughtersDone, place_edge, daughters_next, daughters_last, asks_fewer, head_in, tail_in}
+use Rattle.xdg_propcore.proofs.Sweeping.{group_stays}
+use Rattle.xdg_pagree.proofs.AtNodes.{place_edge, daughters_last, asks_fewer}
+use Rattle.xdg_pagree.proofs.Looping.{AreDone, head_in, tail_in, turns_next, turns_start}
 use Rattle.xdg_pagree.proofs.nodes.sweep_daughters.Goals as goal
 
 pub loop-daughter-init : goal.loop-daughter-init
-loop-daughter-init c = (tt, tt, (λ v h. h), sweeps_start c.args.group.now (AreDaughtersDone c.args.store.now.parts c.args.group.now c.args.dim.0 c.args.mother.0 c.args.label.0 c.into_iter-daughter-iterator.result c.into_iter-daughter-iterator.result) c.args.pass.now c.args.store.now c.requires.known (λ v is gone. absurd (gone is)))
+loop-daughter-init c = (tt, tt, (λ v h. h), turns_start c.args.group.now (λ parts v. IsDoneAt parts c.args.group.now (edge c.args.dim.0 c.args.mother.0 c.args.label.0 v)) c.into_iter-daughter-iterator.result c.args.pass.now c.args.store.now c.requires.known)
 
 pub place_at-requires-clause-known : goal.place_at-requires-clause-known
 place_at-requires-clause-known c = c.loop-daughter.invariant.3.known
@@ -39,8 +40,7 @@ loop-daughter-preserved c =
       tt,
       tt,
       (λ w h. c.loop-daughter.invariant.2 w (tail_in c.loop-daughter.daughter-iterator c.next.new.self c.in-Some.daughter.0 w left_is h)),
-      sweeps_next c.args.group.now (AreDaughtersDone c.args.store.now.parts c.args.group.now c.args.dim.0 c.args.mother.0 c.args.label.0 c.into_iter-daughter-iterator.result c.loop-daughter.daughter-iterator) (AreDaughtersDone c.args.store.now.parts c.args.group.now c.args.dim.0 c.args.mother.0 c.args.label.0 c.into_iter-daughter-iterator.result c.next.new.self) (λ parts. IsDoneAt parts c.args.group.now (edge c.args.dim.0 c.args.mother.0 c.args.label.0 c.in-Some.daughter.0)) c.args.pass.now c.args.store.now c.loop-daughter.pass c.loop-daughter.store c.place_at.new.pass c.place_at.new.store c.loop-daughter.invariant.3 c.place_at.ensures
-          (λ box before here. daughters_next c.args.store.now.parts c.args.group.now c.args.dim.0 c.args.mother.0 c.args.label.0 c.in-Some.daughter.0 c.into_iter-daughter-iterator.result c.next.new.self box (subst (λ left. AreDaughtersDone c.args.store.now.parts c.args.group.now c.args.dim.0 c.args.mother.0 c.args.label.0 c.into_iter-daughter-iterator.result left box) left_is before) here),
+      turns_next c.args.group.now (λ parts v. IsDoneAt parts c.args.group.now (edge c.args.dim.0 c.args.mother.0 c.args.label.0 v)) c.into_iter-daughter-iterator.result c.loop-daughter.daughter-iterator c.next.new.self c.in-Some.daughter.0 c.args.pass.now c.args.store.now c.loop-daughter.pass c.loop-daughter.store c.place_at.new.pass c.place_at.new.store left_is c.loop-daughter.invariant.3 c.place_at.ensures,
     )
 
 pub returns : goal.returns
@@ -49,4 +49,4 @@ returns c =
     let all_are = c.into_iter-daughter-iterator.ensures.into_iter_gives ∙ c.iter-daughter-items.ensures.value in
     daughters_last c.args.group.now c.args.dim.0 c.args.mother.0 c.args.label.0 c.into_iter-daughter-iterator.result c.args.pass.now c.args.store.now c.loop-daughter.pass c.loop-daughter.store c.requires.dim
     (λ quiet. subst (λ s. AreOthersDoneAt c.args.store.now.parts c.args.group.now c.args.dim.0 c.args.mother.0 c.args.label.0 s c.args.store.now.now) (sym all_are) (c.requires.others quiet))
-    (subst (λ left. Sweeps c.args.group.now (AreDaughtersDone c.args.store.now.parts c.args.group.now c.args.dim.0 c.args.mother.0 c.args.label.0 c.into_iter-daughter-iterator.result left) c.args.pass.now c.args.store.now c.loop-daughter.pass c.loop-daughter.store) left_is c.loop-daughter.invariant.3)
+    (subst (λ left. Sweeps c.args.group.now (AreDone (λ v. IsDoneAt c.args.store.now.parts c.args.group.now (edge c.args.dim.0 c.args.mother.0 c.args.label.0 v)) c.into_iter-daughter-iterator.result left) c.args.pass.now c.args.store.now c.loop-daughter.pass c.loop-daughter.store) left_is c.loop-daughter.invariant.3)

@@ -1,7 +1,9 @@
 use Rattle.std.proofs.Common.{◌≡◌, ℕ, true}
 use Rattle.xdg_nodeset.specs.Nodes.{has}
 use Rattle.xdg_propcore.specs.Sweeps.{Sweeps}
-use Rattle.xdg_pagree.proofs.AtNodes.{AreDaughtersDone}
+use Rattle.xdg_problem.specs.Places.{edge}
+use Rattle.xdg_pagree.specs.Places.{IsDoneAt}
+use Rattle.xdg_pagree.proofs.Looping.{AreDone}
 use Rattle.xdg_pagree.proofs.nodes.sweep_daughters.Given as goal
 
 abbrev pub invariant-loop-daughter : goal.invariant-loop-daughter
@@ -9,4 +11,4 @@ invariant-loop-daughter l =
     (goal.iterator-loop-daughter).can_next l.daughter-iterator
     × (goal.iterator-loop-daughter).is_finite l.daughter-iterator
     × ((v : ℕ) → has l.daughter-iterator v ≡ true → has l.initial.daughter-iterator v ≡ true)
-    × Sweeps l.group (AreDaughtersDone l.initial.store.parts l.group l.dim.0 l.mother.0 l.label.0 l.initial.daughter-iterator l.daughter-iterator) l.initial.pass l.initial.store l.pass l.store
+    × Sweeps l.group (AreDone (λ v. IsDoneAt l.initial.store.parts l.group (edge l.dim.0 l.mother.0 l.label.0 v)) l.initial.daughter-iterator l.daughter-iterator) l.initial.pass l.initial.store l.pass l.store

@@ -1,54 +1,56 @@
-use Rattle.std.proofs.Common.{◌∙◌, arith, sym}
-use Rattle.std.proofs.lemmas.Bool.{false≢true}
-use Rattle.xdg_propcore.proofs.Sweeping.{sweeps_skip, sweeps_start}
+use Rattle.std.proofs.Common.{◌≡◌, ◌∙◌, [], ◌∷◌, sym, subst}
+use Rattle.xdg_problem.specs.declared.parts.Parts.{Parts}
+use Rattle.xdg_store.specs.InRange.{HasEdges}
+use Rattle.xdg_graph.proofs.Labelled.{has_edges}
+use Rattle.xdg_propcore.specs.Sweeps.{Sweeps}
+use Rattle.xdg_propcore.proofs.Sweeping.{group_stays}
 use Rattle.xdg_pagree.specs.Places.{IsLabelDone, PlaceAsks}
-use Rattle.xdg_pagree.proofs.Others.{done_at_others, label_skipped}
+use Rattle.xdg_pagree.specs.Untouched.{HasMothers}
+use Rattle.xdg_pagree.proofs.Looping.{AreDone, head_in, tail_in, turns_next, turns_start}
+use Rattle.xdg_pagree.proofs.Others.{mothers_last, others_later}
 use Rattle.xdg_pagree.proofs.nodes.sweep_label.Goals as goal
 
-pub daughters_at-daughters-requires-clause-known : goal.daughters_at-daughters-requires-clause-known
-daughters_at-daughters-requires-clause-known c = c.requires.known
+pub loop-mother-init : goal.loop-mother-init
+loop-mother-init c = (tt, tt, (λ v h. h), turns_start c.args.group.now (λ parts u box. PlaceAsks c.args.group.now.principle c.args.group.now box u c.args.label.0 → IsLabelDone parts c.args.group.now u c.args.label.0 box) c.into_iter-mother-iterator.result c.args.pass.now c.args.store.now c.requires.known)
 
-pub daughters_at-daughters-requires-clause-edges : goal.daughters_at-daughters-requires-clause-edges
-daughters_at-daughters-requires-clause-edges c = c.requires.edges
+pub sweep_mother-requires-clause-known : goal.sweep_mother-requires-clause-known
+sweep_mother-requires-clause-known c = c.loop-mother.invariant.3.known
 
-pub daughters_at-daughters-requires-clause-label : goal.daughters_at-daughters-requires-clause-label
-daughters_at-daughters-requires-clause-label c = c.requires.label
+pub sweep_mother-requires-clause-group : goal.sweep_mother-requires-clause-group
+sweep_mother-requires-clause-group c = group_stays c.args.group.now c.args.pass.now c.args.store.now c.loop-mother.pass c.loop-mother.store c.loop-mother.invariant.3.goes c.loop-mother.invariant.3.known c.requires.group
 
-pub returns-then-len-eq0 : goal.returns-then-len-eq0
-returns-then-len-eq0 c = label_skipped c.args.touched.now c.args.group.now c.args.dim.0 c.args.mother.0 c.args.label.0 c.daughters_at-daughters.result c.args.pass.now c.args.store.now c.requires.known c.requires.dim c.requires.edges c.requires.principle c.daughters_at-daughters.ensures (let e = c.len.ensures.value in let z = c.if-len-eq0.true in omega (arith, e, z)) c.requires.others
+pub sweep_mother-requires-clause-principle : goal.sweep_mother-requires-clause-principle
+sweep_mother-requires-clause-principle c = c.requires.principle
 
-pub returns-then-not-asks : goal.returns-then-not-asks
-returns-then-not-asks c = sweeps_start c.args.group.now (λ box. PlaceAsks c.args.group.now.principle c.args.group.now box c.args.mother.0 c.args.label.0 → IsLabelDone c.args.store.now.parts c.args.group.now c.args.mother.0 c.args.label.0 box) c.args.pass.now c.args.store.now c.requires.known (λ asks. absurd (false≢true (sym c.if-not-asks.true ∙ c.asks.ensures.exact.1 asks)))
+pub sweep_mother-requires-clause-dim : goal.sweep_mother-requires-clause-dim
+sweep_mother-requires-clause-dim c = c.requires.dim
 
-pub asks-requires-clause-principle : goal.asks-requires-clause-principle
-asks-requires-clause-principle c = c.requires.principle
+pub sweep_mother-requires-clause-edges : goal.sweep_mother-requires-clause-edges
+sweep_mother-requires-clause-edges c =
+    let left_is : c.loop-mother.mother-iterator ≡ c.in-Some.mother.0 ∷ c.next.new.self = c.in-Some.ensures.steps in
+    let there = c.loop-mother.invariant.2 c.in-Some.mother.0 (head_in c.loop-mother.mother-iterator c.next.new.self c.in-Some.mother.0 left_is) in
+    let mothers = subst (HasMothers c.args.store.now.parts c.args.store.now.now c.args.touched.now c.args.dim.0 c.args.label.0) (sym (c.into_iter-mother-iterator.ensures.into_iter_gives ∙ c.iter-mother-items.ensures.value)) c.mothers_at-mothers.ensures in
+    subst (λ (parts : Parts). HasEdges parts c.args.dim.0 c.in-Some.mother.0 c.args.label.0) (sym c.loop-mother.invariant.3.goes.extends.same) (has_edges c.args.store.now.parts c.args.dim.0 c.in-Some.mother.0 c.args.label.0 (mothers.each c.in-Some.mother.0 there) c.requires.edges)
 
-pub asks-requires-clause-mother : goal.asks-requires-clause-mother
-asks-requires-clause-mother c = c.requires.edges.node_in
+pub sweep_mother-requires-clause-label : goal.sweep_mother-requires-clause-label
+sweep_mother-requires-clause-label c = c.requires.label
 
-pub sweep_daughters-requires-clause-known : goal.sweep_daughters-requires-clause-known
-sweep_daughters-requires-clause-known c = c.requires.known
+pub sweep_mother-requires-clause-others : goal.sweep_mother-requires-clause-others
+sweep_mother-requires-clause-others c = others_later c.args.touched.now c.args.group.now _ c.args.pass.now c.args.store.now c.loop-mother.pass c.loop-mother.store c.requires.others c.loop-mother.invariant.3
 
-pub sweep_daughters-requires-clause-group : goal.sweep_daughters-requires-clause-group
-sweep_daughters-requires-clause-group c = c.requires.group
-
-pub sweep_daughters-requires-clause-principle : goal.sweep_daughters-requires-clause-principle
-sweep_daughters-requires-clause-principle c = c.requires.principle
-
-pub sweep_daughters-requires-clause-dim : goal.sweep_daughters-requires-clause-dim
-sweep_daughters-requires-clause-dim c = c.requires.dim
-
-pub sweep_daughters-requires-clause-edges : goal.sweep_daughters-requires-clause-edges
-sweep_daughters-requires-clause-edges c = c.requires.edges
-
-pub sweep_daughters-requires-clause-asks : goal.sweep_daughters-requires-clause-asks
-sweep_daughters-requires-clause-asks c = c.asks.ensures.exact.0 c.if-not-asks.false
-
-pub sweep_daughters-requires-clause-daughters : goal.sweep_daughters-requires-clause-daughters
-sweep_daughters-requires-clause-daughters c = c.daughters_at-daughters.ensures.each
-
-pub sweep_daughters-requires-clause-others : goal.sweep_daughters-requires-clause-others
-sweep_daughters-requires-clause-others c quiet = done_at_others c.args.touched.now c.args.store.now.parts c.args.group.now c.args.store.now.now c.args.dim.0 c.args.mother.0 c.args.label.0 c.daughters_at-daughters.result c.requires.dim c.requires.edges c.requires.principle c.daughters_at-daughters.ensures (c.asks.ensures.exact.0 c.if-not-asks.false) (c.requires.others quiet)
+pub loop-mother-preserved : goal.loop-mother-preserved
+loop-mother-preserved c =
+    let left_is : c.loop-mother.mother-iterator ≡ c.in-Some.mother.0 ∷ c.next.new.self = c.in-Some.ensures.steps in (
+      tt,
+      tt,
+      (λ w h. c.loop-mother.invariant.2 w (tail_in c.loop-mother.mother-iterator c.next.new.self c.in-Some.mother.0 w left_is h)),
+      turns_next c.args.group.now (λ parts u box. PlaceAsks c.args.group.now.principle c.args.group.now box u c.args.label.0 → IsLabelDone parts c.args.group.now u c.args.label.0 box) c.into_iter-mother-iterator.result c.loop-mother.mother-iterator c.next.new.self c.in-Some.mother.0 c.args.pass.now c.args.store.now c.loop-mother.pass c.loop-mother.store c.sweep_mother.new.pass c.sweep_mother.new.store left_is c.loop-mother.invariant.3 c.sweep_mother.ensures,
+    )
 
 pub returns : goal.returns
-returns c = sweeps_skip c.args.group.now (IsLabelDone c.args.store.now.parts c.args.group.now c.args.mother.0 c.args.label.0) (λ box. PlaceAsks c.args.group.now.principle c.args.group.now box c.args.mother.0 c.args.label.0 → IsLabelDone c.args.store.now.parts c.args.group.now c.args.mother.0 c.args.label.0 box) c.args.pass.now c.args.store.now c.sweep_daughters.new.pass c.sweep_daughters.new.store c.sweep_daughters.ensures (λ done asks. done)
+returns c =
+    let left_is : c.loop-mother.mother-iterator ≡ [] = c.in-None.ensures.steps.0 in
+    mothers_last c.args.touched.now c.args.group.now c.args.dim.0 c.args.label.0 c.into_iter-mother-iterator.result c.args.pass.now c.args.store.now c.loop-mother.pass c.loop-mother.store c.requires.dim c.requires.principle
+    (subst (HasMothers c.args.store.now.parts c.args.store.now.now c.args.touched.now c.args.dim.0 c.args.label.0) (sym (c.into_iter-mother-iterator.ensures.into_iter_gives ∙ c.iter-mother-items.ensures.value)) c.mothers_at-mothers.ensures)
+    c.requires.others
+    (subst (λ left. Sweeps c.args.group.now (AreDone (λ u box. PlaceAsks c.args.group.now.principle c.args.group.now box u c.args.label.0 → IsLabelDone c.args.store.now.parts c.args.group.now u c.args.label.0 box) c.into_iter-mother-iterator.result left) c.args.pass.now c.args.store.now c.loop-mother.pass c.loop-mother.store) left_is c.loop-mother.invariant.3)

@@ -8,7 +8,7 @@ pub returns : goal.returns
 returns c free =
     let n = c.args.node.0 in
     let t = c.args.touched.now in
-    let out : (has t.entries n || has t.attrs n) ≡ false = sym (c.union.ensures.members n) ∙ sym c.contains.ensures.value ∙ free in (
+    let out : (has t.entries n || has t.attrs n) ≡ false = sym (c.touched_nodes.ensures n) ∙ sym c.contains.ensures.value ∙ free in (
       λ lost. false≢true (sym out ∙ (either (has t.entries n) (has t.attrs n)).1 (inl lost)),
       λ lost. false≢true (sym out ∙ (either (has t.entries n) (has t.attrs n)).1 (inr lost)),
     )
