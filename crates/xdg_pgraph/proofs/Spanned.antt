@@ -1,6 +1,6 @@
 -- The places at which the entries of a node lie that remain.
 use Rattle.std.proofs.Common.{◌≡◌, ℕ, ◌<◌, ◌≤◌, ◌+◌, inl, inr, Bool, List, [], length, get_or, sym, subst, arith}
-use Rattle.std.proofs.lemmas.Bool.{cases_lt}
+use Rattle.std.proofs.lemmas.Bool.{cases_eq, cases_lt}
 use Rattle.xdg_problem.specs.declared.parts.Parts.{Parts}
 use Rattle.xdg_problem.specs.Boxes.{Has, LiesIn, entry_decision}
 use Rattle.xdg_pgraph.specs.declared.span.Span.{Span}
@@ -13,9 +13,9 @@ module _ (box : List (List Bool)) (node : ℕ) where
   abbrev pub NoneBelow : ℕ → Type 0
   NoneBelow k = (c : ℕ) → c < k → Has box (entry_decision node) c → ⊥
 
-  -- those of them that remain lie before another place
-  abbrev pub BelowLie : ℕ → ℕ → Type 0
-  BelowLie k past = (c : ℕ) → c < k → Has box (entry_decision node) c → c < past
+  -- all that remain lie before a place
+  abbrev pub AllLie : ℕ → Type 0
+  AllLie past = (c : ℕ) → Has box (entry_decision node) c → c < past
 
   pub none_more : (k : ℕ) → NoneBelow k → (Has box (entry_decision node) k → ⊥) → NoneBelow (k + 1)
   none_more k before gone c l h = elim (cases_lt c k) [
@@ -23,10 +23,10 @@ module _ (box : List (List Bool)) (node : ℕ) where
     | inr past ↦ gone (let e : c ≡ k = omega (arith, l, past) in subst (Has box (entry_decision node)) e h)
   ]
 
-  pub lie_more : (k past : ℕ) → BelowLie k past → (Has box (entry_decision node) k → ⊥) → BelowLie (k + 1) past
-  lie_more k past before gone c l h = elim (cases_lt c k) [
-    | inl less ↦ before c less h
-    | inr other ↦ absurd (gone (let e : c ≡ k = omega (arith, l, other) in subst (Has box (entry_decision node)) e h))
+  pub lie_before : (past place : ℕ) → AllLie past → place + 1 ≡ past → (Has box (entry_decision node) place → ⊥) → AllLie place
+  lie_before past place before last gone c h = elim (cases_eq c place) [
+    | inl same ↦ absurd (gone (subst (Has box (entry_decision node)) same h))
+    | inr other ↦ (let l = before c h in omega (arith, l, last, other))
   ]
 
 -- ---- a box inside

@@ -32,23 +32,21 @@ fn first_place(store: &Store, node: u8, count: u16) -> u16
     0
 }
 
-/// The place behind the last one, where all lie from a place on.
-fn end_place(store: &Store, node: u8, from: u16, count: u16) -> u16
+/// The place behind the last one.
+fn end_place(store: &Store, node: u8, count: u16) -> u16
     requires known { Known store.now }
     requires node { node < nodes store.now.parts }
     requires count { count ≡ length (slice_index_or store.now.parts.candidates node []) }
-    requires from { (c : ℕ) → Has store.now.now (entry_decision node) c → from ≤ c }
     ensures within { result ≤ count }
     ensures each { (c : ℕ) → Has store.now.now (entry_decision node) c → c < result }
 {
-    let mut end = 0;
-    for place in from..count {
-        if !store.entry_in(NodeId(node), place) {
-            continue;
+    for passed in 0..count {
+        let place = count - 1 - passed;
+        if store.entry_in(NodeId(node), place) {
+            return place + 1;
         }
-        end = place + 1;
     }
-    end
+    0
 }
 
 impl Span {
@@ -60,7 +58,7 @@ impl Span {
     {
         let count = entry_count(store.problem().parts(), NodeId(node));
         let from = first_place(store, node, count);
-        let to = end_place(store, node, from, count);
+        let to = end_place(store, node, count);
         Span { from, to }
     }
 }

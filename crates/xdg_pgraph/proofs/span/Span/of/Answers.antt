@@ -8,9 +8,6 @@ first_place-from-requires-clause-count c = c.entry_count-count.ensures.count ∙
 pub end_place-to-requires-clause-count : goal.end_place-to-requires-clause-count
 end_place-to-requires-clause-count c = c.entry_count-count.ensures.count ∙ ap (λ (p : Parts). length (get_or p.candidates c.args.node [])) (c.parts.ensures.same ∙ c.problem.ensures.parts)
 
-pub end_place-to-requires-clause-from : goal.end_place-to-requires-clause-from
-end_place-to-requires-clause-from c = c.first_place-from.ensures
-
 pub returns : goal.returns
 returns c = record {
   within =
