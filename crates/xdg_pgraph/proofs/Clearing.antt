@@ -16,6 +16,7 @@ use Rattle.xdg_propcore.specs.Passes.{Progress, Clears}
 use Rattle.xdg_propcore.proofs.Passing.{clears_none, clears_like, clears_both, goes_none}
 use Rattle.xdg_pgraph.specs.declared.bundle.Bundle.{Bundle}
 use Rattle.xdg_pgraph.specs.declared.plane.Plane.{Plane}
+use Rattle.xdg_pgraph.specs.Bounding.{NoneBarred}
 use Rattle.xdg_pgraph.specs.Bundles.{edge_to, numbers_of, Barred, OpenTo}
 use Rattle.xdg_pgraph.specs.Planes.{IsPlane}
 use Rattle.xdg_pgraph.proofs.Ends.{far_is, far_within}
@@ -32,7 +33,7 @@ Outside least most k = least ≤ k → k ≤ most → ⊥
 outside_none : (cardinality : List ℕ) (least most : ℕ) → All (Outside least most) cardinality → HasNoneWithin cardinality least most
 outside_none cardinality least most all k c = All-contains (Outside least most) cardinality k all c
 
-none_outside : (cardinality : List ℕ) (least most : ℕ) → HasNoneWithin cardinality least most → All (Outside least most) cardinality
+pub none_outside : (cardinality : List ℕ) (least most : ℕ) → HasNoneWithin cardinality least most → All (Outside least most) cardinality
 none_outside cardinality least most none = All-weaker (Contains cardinality) (Outside least most) none cardinality (All-contains_itself cardinality)
 
 module _ (parts : Parts) (group : Group) (bundle : Bundle) (least most : ℕ) (p q r : Progress) (old mid new : State) where
@@ -96,6 +97,16 @@ module _ (parts : Parts) (group : Group) (bundle : Bundle) (least most : ℕ) (p
     gone = λ z d v a h. c.gone z d v (a, all v (subst (λ e. Has old.now e v) a.0 (c.inside d v h))) h;
     goes = λ group around is lies takes. c.goes group around is lies (λ d v a. takes d v a.0);
   }
+
+-- where none is one of them nothing is taken
+pub none_barred : (parts : Parts) (group : Group) (bundle : Bundle) (least most : ℕ) (p : Progress) (s : State) → NoneBarred group bundle least most s.now → Clears (Barred parts group bundle least most) p s p s
+none_barred parts group bundle least most p s none = record {
+  same = refl;
+  inside = λ d v h. h;
+  quiet = λ z. (z, refl);
+  gone = λ z d v a h. none v (subst (λ e. Has s.now e v) a.0 h) a.2;
+  goes = λ group around is lies takes. goes_none group p s;
+}
 
 -- ---- edges
 

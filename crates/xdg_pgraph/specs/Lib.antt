@@ -5,6 +5,7 @@ pub mod Incomings
 pub mod Openings
 pub mod Ruling
 pub mod Musts
+pub mod Bounding
 pub mod Bundles
 pub mod Spans
 pub mod Untouched

@@ -12,12 +12,13 @@ ghost use Rattle.xdg_rules.specs.Rules.{may_edges, must_edges};
 ghost use Rattle.xdg_store.specs.States.{Known};
 ghost use Rattle.xdg_propcore.specs.Passes.{Clears, IsQuiet};
 ghost use Rattle.xdg_propcore.specs.Sweeps.{Sweeps};
-ghost use Rattle.xdg_pgraph.specs.Bundles.{AreEnds, AreLabelsDone, AreNodesDone, Barred, EdgeAt, IsBundleDone, IsLabelDone, OpenTo, edge_to};
+ghost use Rattle.xdg_pgraph.specs.Bounding.{NoneBarred};
+ghost use Rattle.xdg_pgraph.specs.Bundles.{AreEnds, AreLabelsDone, AreNodesDone, Barred, IsBundleDone, IsLabelDone, OpenTo, edge_to};
 ghost use Rattle.xdg_pgraph.specs.Planes.{IsPlane};
 ghost use Rattle.xdg_pgraph.specs.Spans.{Spans};
 ghost use Rattle.xdg_pgraph.specs.Untouched.{AreOthersDone, IsLeftAlone, IsTouched, near, side};
 
-use crate::bounds::{has_none_within, is_greatest, is_least};
+use crate::bounds::{has_none_within, said_of};
 use crate::bundle::{Bundle, Way, ends, numbers_of};
 use crate::found::Which;
 use crate::plane::Plane;
@@ -53,6 +54,30 @@ fn take_entries(
         }
         pass.remove_entry(store, NodeId(bundle.node), place);
     }
+}
+
+/// The same, where some entry may be one of them.
+fn take_entries_if(
+    store: &mut Store,
+    pass: &mut Pass,
+    group: &Group,
+    bundle: Bundle,
+    span: Span,
+    least: usize,
+    most: usize,
+    wanted: bool,
+)
+    requires known { Known store.old }
+    requires node { bundle.node < nodes store.old.parts }
+    requires span { Spans store.old.parts store.old.now bundle.node span }
+    requires others { wanted ≡ false → NoneBarred group.now bundle least most store.old.now }
+    ensures clears { Clears (Barred store.old.parts group.now bundle least most) pass.old store.old pass.new store.new }
+    ensures known { Known store.new }
+{
+    if !wanted {
+        return;
+    }
+    take_entries(store, pass, group, bundle, span, least, most);
 }
 
 /// Takes away that an edge is present, or that it is absent.
@@ -114,10 +139,10 @@ fn take_open_if(
     take_open(store, pass, plane, bundle, others, present);
 }
 
-/// Takes away that further edges of a bundle are present, where as many must be as the entries allow at most, and that they
-/// are absent, where only as many may be as the entries want at least. The ends are those of the edges that must be present, and of
-/// those that may be.
-fn take_edges(
+/// Takes what valency takes at a bundle: that further edges are present, where as many must be as the entries allow at most, that
+/// they are absent, where only as many may be as the entries want at least, and entries. The ends are those of the edges that must be
+/// present, and of those that may be.
+fn take_open_bundle(
     store: &mut Store,
     pass: &mut Pass,
     plane: &Plane,
@@ -130,24 +155,25 @@ fn take_edges(
     requires plane { IsPlane store.old.parts plane.now }
     requires dim { plane.now.dim.0 ≡ first_dim group.now }
     requires known { Known store.old }
+    requires group { IsGroup store.old.parts group.now }
+    requires principle { group.now.principle ≡ principles.Valency }
     requires node { bundle.node < plane.now.nodes }
+    requires label { bundle.label < label_count store.old.parts plane.now.dim.0 }
     requires span { Spans store.old.parts store.old.now bundle.node span }
     requires must { AreEnds (must_edges store.old.parts store.old.now plane.now.dim.0) plane.now.dim.0 bundle must }
     requires may { AreEnds (may_edges store.old.parts store.old.now plane.now.dim.0) plane.now.dim.0 bundle may }
-    ensures clears { Clears (EdgeAt bundle.way store.old.parts group.now store.old.now bundle.node bundle.label) pass.old store.old pass.new store.new }
-    ensures known { Known store.new }
+    ensures { Sweeps group.now (IsBundleDone bundle.way store.old.parts group.now bundle.node bundle.label) pass.old store.old pass.new store.new }
 {
     let open = may.minus(&must);
-    if open.len() == 0 {
-        return;
-    }
-    let full = is_greatest(store, group, bundle, span, must.len());
-    let needed = is_least(store, group, bundle, span, may.len());
-    take_open_if(store, pass, plane, bundle, open, true, full);
-    take_open_if(store, pass, plane, bundle, open, false, needed);
+    let least = must.len();
+    let most = may.len();
+    let said = said_of(store, group, bundle, span, least, most);
+    take_open_if(store, pass, plane, bundle, open, true, said.full);
+    take_open_if(store, pass, plane, bundle, open, false, said.needed);
+    take_entries_if(store, pass, group, bundle, span, least, most, said.barred);
 }
 
-/// Takes what valency takes at a bundle.
+/// Takes what valency takes at a bundle. Where each edge that may be present must be, it only looks for entries.
 fn take_bundle(
     store: &mut Store,
     pass: &mut Pass,
@@ -168,8 +194,12 @@ fn take_bundle(
 {
     let must = ends(store, plane, Which::Must, bundle);
     let may = ends(store, plane, Which::May, bundle);
-    take_edges(store, pass, plane, group, bundle, span, must, may);
-    take_entries(store, pass, group, bundle, span, must.len(), may.len());
+    let open = may.minus(&must);
+    if open.len() == 0 {
+        take_entries(store, pass, group, bundle, span, must.len(), may.len());
+        return;
+    }
+    take_open_bundle(store, pass, plane, group, bundle, span, must, may);
 }
 
 /// The nodes that have lost values of edges out of them, or into them, by their labels.

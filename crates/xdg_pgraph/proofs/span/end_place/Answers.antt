@@ -1,4 +1,4 @@
-use Rattle.std.proofs.Common.{◌≡◌, ◌-◌, ◌+◌, true, false, arith}
+use Rattle.std.proofs.Common.{◌≡◌, ◌-◌, true, false, arith}
 use Rattle.xdg_graph.proofs.Remaining.{entry_below}
 use Rattle.xdg_pgraph.proofs.Spanned.{lie_before}
 use Rattle.xdg_pgraph.proofs.span.end_place.Goals as goal
