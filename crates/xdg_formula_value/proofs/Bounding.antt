@@ -14,15 +14,13 @@ use Rattle.xdg_problem.specs.Claims.{conjunction, disjunction, claims_of, claim}
 use Rattle.xdg_problem.specs.Places.{nodes}
 use Rattle.xdg_problem.specs.Truths.{bound, says, HasTruth}
 use Rattle.xdg_rules.specs.Rules.{EachEntry}
-use Rattle.xdg_rules.specs.WorthLaws.{AreNodes}
 use Rattle.xdg_rules.specs.Worths.{Makes, EachValue}
 use Rattle.xdg_formula_value.specs.Pairs.{Relates, edges_for}
-use Rattle.xdg_formula_value.specs.Rows.{AreFirst, Bounds, Gathers, IsEvery, IsRow, IsRowOn, Joined, Over}
+use Rattle.xdg_formula_value.specs.Rows.{AreFirst, Bounds, IsEvery, IsRow, IsRowOn, Joined}
 use Rattle.xdg_formula_value.specs.declared.pair.Pair.{Pair}
 use Rattle.xdg_formula_value.specs.declared.pair.Pair.TheVariants as pairs
-use Rattle.xdg_formula_value.proofs.Formed.{not_makes, and_makes, or_makes, every_makes, any_makes, edge_form, above_form, left_form, same_form, attr_form, feat_form}
+use Rattle.xdg_formula_value.proofs.Formed.{not_makes, and_makes, or_makes, edge_form, above_form, left_form, same_form, attr_form, feat_form}
 use Rattle.xdg_formula_value.proofs.Fronts.{and_more, and_none, or_more, or_none}
-use Rattle.xdg_formula_value.proofs.Rowed.{gathers_shut}
 use Rattle.xdg_formula_value.proofs.Stood.{bound_else}
 
 joined_weaker : (both : Bool) (P Q A B : Type 0) → (P → A) → (Q → B) → Joined both P Q → Joined both A B
@@ -33,11 +31,6 @@ joined_weaker false P Q A B p q one = elim one [ inl x ↦ inl (p x) | inr y ↦
 pub bounds_all : (n : ℕ) (care : List ℕ) (P : ℕ → ℕ → Type 0) (set : List ℕ) → n ≤ 128 → AreFirst n care → ((v : ℕ) → v < 128 → has set v ≡ true) → Bounds care P set
 bounds_all n care P set few first all v node within so = all v (let l = first v within in omega (arith, l, few))
 
--- what is so at some node, where there is one
-over_some : (each : Bool) (n : ℕ) (P : ℕ → Type 0) → 0 < n → Over each n P → (v : ℕ) × (v < n) × P v
-over_some true n P some each = (0, some, each 0 some)
-over_some false n P some found = found
-
 -- two names are bound in either order
 swapped : (at_other at_name : Bool) (node v rest : ℕ) → (at_other ≡ true → at_name ≡ true → ⊥) → cond at_other node (cond at_name v rest) ≡ cond at_name v (cond at_other node rest)
 swapped true true node v rest differ = absurd (differ refl refl)
@@ -47,18 +40,6 @@ swapped false false node v rest differ = refl
 
 bound_swapped : (b : ℕ → ℕ) (name other v node : ℕ) → (other ≡ name → ⊥) → bound (bound b name v) other node ≡ bound (bound b other node) name v
 bound_swapped b name other v node differ = λ i x. swapped (x == other) (x == name) node v (b x) (λ at_other at_name. differ (sym (eqb-true x other at_other) ∙ eqb-true x name at_name)) i
-
--- a row of those nodes alone at which it may be so
-pub within_row : (n : ℕ) (all some inside met : List ℕ) (P : ℕ → Type 0) → IsEvery n all → IsRowOn some P inside → ((v : ℕ) → v < n → P v → has some v ≡ true) → ((v : ℕ) → has met v ≡ (has inside v && has some v)) → IsRowOn all P met
-within_row n all some inside met P every row bounds meets v within = (
-  λ h. (let both = and_parts (has inside v) (has some v) (sym (meets v) ∙ h) in (row v both.1).0 both.0),
-  λ p. (let there = bounds v ((every v).0 within) p in meets v ∙ and_from (has inside v) (has some v) ((row v there).1 p) there),
-)
-
--- a set without members has none
-none_in : (s : List ℕ) (v : ℕ) → length s ≡ 0 → has s v ≡ true → ⊥
-none_in [] v none there = false≢true there
-none_in (m ∷ s) v none there = omega (arith, none)
 
 module _ (parts : Parts) (box : List (List Bool)) (truth : Bool) (b : ℕ → ℕ) (name other : ℕ) (care : List ℕ) where
   -- a first node for the name and a second one for the other make the formula so
@@ -137,21 +118,6 @@ module _ (parts : Parts) (box : List (List Bool)) (truth : Bool) (b : ℕ → �
     feat_bounds at table is differ row v node within so = (row v within).1 (stays (λ k. EachEntry box k (λ c. HasTruth truth (says table k c ≡ true))) at v node differ
         ((feat_form parts box truth (bound (bound b name v) other node) formula at table is).1 so))
 
-  -- ---- a node that isn't possible, in a row of a quantifier
-
-  module _ (formula f g : Formula) (alike : g ≡ f) (are : AreNodes parts b) (set possible row : List ℕ) (k : ℕ) (bounds : Bounds care (Possible g) set) (meets : (v : ℕ) → has possible v ≡ (has care v && has set v)) (off : has possible k ≡ false)
-      (so_far : Gathers k care (λ v. Makes parts box (claim formula) truth (bound b name v)) row) where
-    shut_by : (each : Bool) → has care k ≡ true → Over each (nodes parts) (λ v. Makes parts box (claim g) truth (bound (bound b name k) other v)) → ⊥
-    shut_by each within over =
-        let found = over_some each (nodes parts) (λ v. Makes parts box (claim g) truth (bound (bound b name k) other v)) (let l = are 0 in omega (arith, l)) over in
-        both_ways (has possible k) off (meets k ∙ and_from (has care k) (has set k) within (bounds k found.0 within found.2))
-
-    pub every_shut : formula ≡ y.Every other f → Gathers (k + 1) care (λ v. Makes parts box (claim formula) truth (bound b name v)) row
-    every_shut is = gathers_shut k care (λ v. Makes parts box (claim formula) truth (bound b name v)) row so_far (λ within so. shut_by truth within ((every_makes parts box truth (bound b name k) formula other f g is alike).1 so))
-
-    pub any_shut : formula ≡ y.Any other f → Gathers (k + 1) care (λ v. Makes parts box (claim formula) truth (bound b name v)) row
-    any_shut is = gathers_shut k care (λ v. Makes parts box (claim formula) truth (bound b name v)) row so_far (λ within so. shut_by (not truth) within ((any_makes parts box truth (bound b name k) formula other f g is alike).1 so))
-
   -- ---- nodes that are possible for the second name
 
   module _ (f : Formula) (all : List ℕ) (every : IsEvery (nodes parts) all) where
@@ -163,16 +129,3 @@ module _ (parts : Parts) (box : List (List Bool)) (truth : Bool) (b : ℕ → �
 
     pub second_first : (set met : List ℕ) → ((v : ℕ) → has met v ≡ (has all v && has set v)) → AreFirst (nodes parts) met
     second_first set met meets v h = (every v).0 (and_parts (has all v) (has set v) (sym (meets v) ∙ h)).0
-
-  module _ (formula f g : Formula) (alike : g ≡ f) (are : AreNodes parts b) (second row : List ℕ) (bounds : (v node : ℕ) → node < nodes parts → Possible g v node → has second node ≡ true) (none : length second ≡ 0) (empty : (v : ℕ) → has row v ≡ false) where
-    none_by : (each : Bool) (v : ℕ) → Over each (nodes parts) (λ node. Possible g v node) → ⊥
-    none_by each v over =
-        let found = over_some each (nodes parts) (λ node. Possible g v node) (let l = are 0 in omega (arith, l)) over in
-        none_in second found.0 none (bounds v found.0 found.1 found.2)
-
-    -- where there are none, a quantifier has no row
-    pub every_none : formula ≡ y.Every other f → IsRowOn care (λ v. Makes parts box (claim formula) truth (bound b name v)) row
-    every_none is v within = (λ h. absurd (both_ways (has row v) (empty v) h), λ so. absurd (none_by truth v ((every_makes parts box truth (bound b name v) formula other f g is alike).1 so)))
-
-    pub any_none : formula ≡ y.Any other f → IsRowOn care (λ v. Makes parts box (claim formula) truth (bound b name v)) row
-    any_none is v within = (λ h. absurd (both_ways (has row v) (empty v) h), λ so. absurd (none_by (not truth) v ((any_makes parts box truth (bound b name v) formula other f g is alike).1 so)))

@@ -12,8 +12,8 @@ use Rattle.xdg_rules.specs.Worths.{Makes}
 use Rattle.xdg_rules.proofs.Bound.{bound_nodes}
 use Rattle.xdg_formula_value.specs.Lost.{AgreeBut, Finds, HasNode, HasNodes}
 use Rattle.xdg_formula_value.specs.Rows.{Bounds, IsEvery, IsRowOn, Over}
-use Rattle.xdg_formula_value.proofs.Bounding.{within_row}
-use Rattle.xdg_formula_value.proofs.Rowed.{over_told}
+use Rattle.xdg_formula_value.proofs.Narrowed.{within_row}
+use Rattle.xdg_formula_value.proofs.Rowed.{none_in, over_told}
 use Rattle.xdg_formula_value.proofs.Stood.{bound_back, bound_here, bound_else}
 
 -- ---- one name fewer
@@ -33,10 +33,6 @@ agree_rest all rest a here b name node members here_is agree at other out = elim
 -- bindings that agree on all names are one
 pub agree_all : (free : List ℕ) (a b : ℕ → ℕ) → ((name : ℕ) → has free name ≡ true → ⊥) → AgreeBut free a b → b ≡ a
 agree_all free a b none agree = λ i name. agree name (none name) i
-
-none_in : (s : List ℕ) (v : ℕ) → length s ≡ 0 → has s v ≡ true → ⊥
-none_in [] v none there = false≢true there
-none_in (m ∷ s) v none there = omega (arith, none)
 
 module _ (parts : Parts) (box : List (List Bool)) (c : Claim) (truth : Bool) where
   -- no binding of some is one under which the box makes it

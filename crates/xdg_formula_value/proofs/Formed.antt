@@ -17,8 +17,9 @@ use Rattle.xdg_rules.specs.Worths.{Makes, EachValue}
 use Rattle.xdg_problem.proofs.Claimed.{claim_not, claim_and, claim_or, claim_every, claim_any, claim_edge, claim_above, claim_left, claim_same, claim_attr, claim_feat}
 use Rattle.xdg_formula_value.specs.Pairs.{Relates, edges_for}
 use Rattle.xdg_formula_value.specs.Rows.{Over}
+use Rattle.xdg_formula_value.specs.Several.{MakesSeveral}
 use Rattle.xdg_formula_value.specs.declared.pair.Pair.TheVariants as pairs
-use Rattle.xdg_formula_value.proofs.Fronts.{every_over, some_over}
+use Rattle.xdg_formula_value.proofs.Fronts.{and_over, or_over, every_over, some_over}
 use Rattle.xdg_facts.proofs.Facts.{both_steps}
 
 -- ---- what the parts of a formula name is there
@@ -74,6 +75,12 @@ module _ (parts : Parts) (box : List (List Bool)) (truth : Bool) (b : ℕ → �
 
     pub or_makes : (fs items : List Formula) (i : ℕ) → formula ≡ y.Or fs → items ≡ fs → length items ≤ i → Makes parts box (disjunction (claims_of (map claim (take i items)))) truth b ↔ Makes parts box (claim formula) truth b
     or_makes fs items i is alike past = form_makes (y.Or fs) (disjunction (claims_of (map claim (take i items)))) is (claim_or fs ∙ ap (λ hs. disjunction (claims_of (map claim hs))) (sym (take_all i items past ∙ alike)))
+
+    pub and_several : (fs items : List Formula) → formula ≡ y.And fs → items ≡ fs → MakesSeveral truth parts box (claims_of (map claim items)) truth b ↔ Makes parts box (claim formula) truth b
+    and_several fs items is alike = both_steps (and_over parts box b truth (claims_of (map claim items))) (form_makes (y.And fs) (conjunction (claims_of (map claim items))) is (claim_and fs ∙ ap (λ hs. conjunction (claims_of (map claim hs))) (sym alike)))
+
+    pub or_several : (fs items : List Formula) → formula ≡ y.Or fs → items ≡ fs → MakesSeveral (not truth) parts box (claims_of (map claim items)) truth b ↔ Makes parts box (claim formula) truth b
+    or_several fs items is alike = both_steps (or_over parts box b truth (claims_of (map claim items))) (form_makes (y.Or fs) (disjunction (claims_of (map claim items))) is (claim_or fs ∙ ap (λ hs. disjunction (claims_of (map claim hs))) (sym alike)))
 
     pub every_makes : (name : ℕ) (f g : Formula) → formula ≡ y.Every name f → g ≡ f → Over truth (nodes parts) (λ v. Makes parts box (claim g) truth (bound b name v)) ↔ Makes parts box (claim formula) truth b
     every_makes name f g is alike = both_steps (every_over parts box b truth name (claim g)) (form_makes (y.Every name f) (every name (claim g)) is (claim_every name f ∙ ap (λ h. every name (claim h)) (sym alike)))

@@ -1,6 +1,7 @@
 -- Rows of nodes at which a box makes a formula true, or false, form by form.
-use Rattle.std.proofs.Common.{◌≡◌, ◌↔◌, ◌⊎◌, ℕ, ◌+◌, ◌<◌, ◌≤◌, IsTrue, Bool, true, List, length, map, take, get_or, sym, subst}
+use Rattle.std.proofs.Common.{◌≡◌, ◌↔◌, ℕ, ◌+◌, ◌<◌, ◌≤◌, Bool, true, List, length, map, take, get_or, sym, subst}
 use Rattle.std.specs.Prelude.{not}
+use Rattle.std.proofs.lemmas.List.{take_all}
 use Rattle.xdg_base.specs.declared.ids.AttrId.{AttrId}
 use Rattle.xdg_base.specs.declared.ids.DimId.{DimId}
 use Rattle.xdg_base.specs.declared.ids.LabelId.{LabelId}
@@ -9,7 +10,7 @@ use Rattle.xdg_problem.specs.declared.formula.Formula.{Formula}
 use Rattle.xdg_problem.specs.declared.formula.Formula.TheVariants as y
 use Rattle.xdg_problem.specs.declared.parts.Parts.{Parts}
 use Rattle.xdg_problem.specs.Boxes.{attr_decision}
-use Rattle.xdg_problem.specs.Claims.{conjunction, disjunction, claims_of, claim}
+use Rattle.xdg_problem.specs.Claims.{claims_of, claim}
 use Rattle.xdg_problem.specs.Places.{nodes}
 use Rattle.xdg_problem.specs.Truths.{bound, says, HasTruth}
 use Rattle.xdg_rules.specs.Rules.{EachEntry}
@@ -17,12 +18,13 @@ use Rattle.xdg_rules.specs.WorthLaws.{AreNodes}
 use Rattle.xdg_rules.specs.Worths.{Makes, EachValue}
 use Rattle.xdg_rules.proofs.Bound.{bound_nodes}
 use Rattle.xdg_formula_value.specs.Pairs.{Relates, edges_for}
-use Rattle.xdg_formula_value.specs.Rows.{AreFirst, Gathers, IsEvery, IsRow, IsRowOn, Joined, Over, open_in}
+use Rattle.xdg_formula_value.specs.Rows.{AreFirst, IsRow, IsRowOn, Joined, Over, open_in}
+use Rattle.xdg_formula_value.specs.Several.{MakesSeveral}
 use Rattle.xdg_formula_value.specs.declared.pair.Pair.{Pair}
 use Rattle.xdg_formula_value.specs.declared.pair.Pair.TheVariants as pairs
-use Rattle.xdg_formula_value.proofs.Formed.{not_makes, and_makes, or_makes, every_makes, any_makes, edge_form, above_form, left_form, same_form, attr_form, feat_form}
-use Rattle.xdg_formula_value.proofs.Fronts.{and_more, and_none, or_more, or_none}
-use Rattle.xdg_formula_value.proofs.Rowed.{gathers_more, over_told, row_constant, row_done, row_like, row_more, row_on}
+use Rattle.xdg_formula_value.proofs.Formed.{not_makes, and_several, or_several, every_makes, any_makes, edge_form, above_form, left_form, same_form, attr_form, feat_form}
+use Rattle.xdg_formula_value.proofs.Fronts.{several_more, several_none}
+use Rattle.xdg_formula_value.proofs.Rowed.{row_constant, row_done, row_like, row_more, row_on}
 
 -- a binding in which a further name stands for a node binds to nodes
 pub nodes_inside : (parts : Parts) (old new : ℕ → ℕ) (name node : ℕ) → new ≡ bound old name node → AreNodes parts old → node < nodes parts → AreNodes parts new
@@ -38,56 +40,42 @@ module _ (parts : Parts) (box : List (List Bool)) (truth : Bool) (b : ℕ → �
 
   -- ---- conjunctions and disjunctions
 
-  abbrev pub AllSo : List Formula → ℕ → Type 0
-  AllSo fs v = Makes parts box (conjunction (claims_of (map claim fs))) truth (bound b name v)
+  -- the nodes for which it stands so that the box makes each of some formulas so, or one or more of them
+  abbrev pub SeveralSo : Bool → List Formula → ℕ → Type 0
+  SeveralSo each fs v = MakesSeveral each parts box (claims_of (map claim fs)) truth (bound b name v)
 
-  abbrev pub SomeSo : List Formula → ℕ → Type 0
-  SomeSo fs v = Makes parts box (disjunction (claims_of (map claim fs))) truth (bound b name v)
+  module _ (each : Bool) (fs : List Formula) where
+    pub several_start : (set : List ℕ) → nodes parts ≤ 128 → AreFirst (nodes parts) care → ((v : ℕ) → v < 128 → has set v ≡ each) → IsRowOn care (SeveralSo each (take 0 fs)) set
+    several_start set few first same = row_constant (nodes parts) care each (SeveralSo each (take 0 fs)) set few first same (λ v. several_none parts box (bound b name v) truth each)
 
-  pub and_start : (fs : List Formula) (set : List ℕ) → nodes parts ≤ 128 → AreFirst (nodes parts) care → ((v : ℕ) → v < 128 → has set v ≡ truth) → IsRowOn care (AllSo (take 0 fs)) set
-  and_start fs set few first same = row_constant (nodes parts) care truth (AllSo (take 0 fs)) set few first same (λ v. and_none parts box (bound b name v) truth)
+    module _ (i : ℕ) (f : Formula) (old still : List ℕ) (l : i < length fs) (is : f ≡ get_or fs i f) (so_far : IsRowOn care (SeveralSo each (take i fs)) old) (open_is : (v : ℕ) → has still v ≡ open_in each care old v) where
+      pub several_turn : (part new : List ℕ) → IsRowOn still (Wanted f) part → ((v : ℕ) → (has new v ≡ true) ↔ Joined each (has old v ≡ true) (has part v ≡ true)) → IsRowOn care (SeveralSo each (take (i + 1) fs)) new
+      several_turn part new here joined = row_more each care still (SeveralSo each (take i fs)) (Wanted f) (SeveralSo each (take (i + 1) fs)) old part new so_far open_is here joined (λ v. several_more parts box (bound b name v) truth each fs i f l is)
 
-  pub or_start : (fs : List Formula) (set : List ℕ) → nodes parts ≤ 128 → AreFirst (nodes parts) care → ((v : ℕ) → v < 128 → has set v ≡ not truth) → IsRowOn care (SomeSo (take 0 fs)) set
-  or_start fs set few first same = row_constant (nodes parts) care (not truth) (SomeSo (take 0 fs)) set few first same (λ v. or_none parts box (bound b name v) truth)
+      pub several_skip : length still ≡ 0 → IsRowOn care (SeveralSo each (take (i + 1) fs)) old
+      several_skip none = row_done each care still (SeveralSo each (take i fs)) (Wanted f) (SeveralSo each (take (i + 1) fs)) old so_far open_is none (λ v. several_more parts box (bound b name v) truth each fs i f l is)
 
-  pub and_turn : (fs : List Formula) (i : ℕ) (f : Formula) (old still part new : List ℕ) → i < length fs → f ≡ get_or fs i f → IsRowOn care (AllSo (take i fs)) old → ((v : ℕ) → has still v ≡ open_in truth care old v)
-      → IsRowOn still (Wanted f) part → ((v : ℕ) → (has new v ≡ true) ↔ Joined truth (has old v ≡ true) (has part v ≡ true)) → IsRowOn care (AllSo (take (i + 1) fs)) new
-  and_turn fs i f old still part new l is so_far open_is here joined = row_more truth care still (AllSo (take i fs)) (Wanted f) (AllSo (take (i + 1) fs)) old part new so_far open_is here joined (λ v. and_more parts box (bound b name v) truth fs i f l is)
+    pub several_end : (i : ℕ) (set : List ℕ) → length fs ≤ i → IsRowOn care (SeveralSo each (take i fs)) set → IsRowOn care (SeveralSo each fs) set
+    several_end i set past row = subst (λ gs. IsRowOn care (SeveralSo each gs) set) (take_all i fs past) row
 
-  pub or_turn : (fs : List Formula) (i : ℕ) (f : Formula) (old still part new : List ℕ) → i < length fs → f ≡ get_or fs i f → IsRowOn care (SomeSo (take i fs)) old → ((v : ℕ) → has still v ≡ open_in (not truth) care old v)
-      → IsRowOn still (Wanted f) part → ((v : ℕ) → (has new v ≡ true) ↔ Joined (not truth) (has old v ≡ true) (has part v ≡ true)) → IsRowOn care (SomeSo (take (i + 1) fs)) new
-  or_turn fs i f old still part new l is so_far open_is here joined = row_more (not truth) care still (SomeSo (take i fs)) (Wanted f) (SomeSo (take (i + 1) fs)) old part new so_far open_is here joined (λ v. or_more parts box (bound b name v) truth fs i f l is)
+  pub and_row : (formula : Formula) (fs items : List Formula) (set : List ℕ) → formula ≡ y.And fs → items ≡ fs → IsRowOn care (SeveralSo truth items) set → IsRowOn care (Wanted formula) set
+  and_row formula fs items set is alike row = row_like care (SeveralSo truth items) (Wanted formula) set (λ v. and_several parts box truth (bound b name v) formula fs items is alike) row
 
-  pub and_skip : (fs : List Formula) (i : ℕ) (f : Formula) (old still : List ℕ) → i < length fs → f ≡ get_or fs i f → IsRowOn care (AllSo (take i fs)) old → ((v : ℕ) → has still v ≡ open_in truth care old v) → length still ≡ 0 → IsRowOn care (AllSo (take (i + 1) fs)) old
-  and_skip fs i f old still l is so_far open_is none = row_done truth care still (AllSo (take i fs)) (Wanted f) (AllSo (take (i + 1) fs)) old so_far open_is none (λ v. and_more parts box (bound b name v) truth fs i f l is)
-
-  pub or_skip : (fs : List Formula) (i : ℕ) (f : Formula) (old still : List ℕ) → i < length fs → f ≡ get_or fs i f → IsRowOn care (SomeSo (take i fs)) old → ((v : ℕ) → has still v ≡ open_in (not truth) care old v) → length still ≡ 0 → IsRowOn care (SomeSo (take (i + 1) fs)) old
-  or_skip fs i f old still l is so_far open_is none = row_done (not truth) care still (SomeSo (take i fs)) (Wanted f) (SomeSo (take (i + 1) fs)) old so_far open_is none (λ v. or_more parts box (bound b name v) truth fs i f l is)
-
-  pub and_end : (formula : Formula) (fs items : List Formula) (i : ℕ) (set : List ℕ) → formula ≡ y.And fs → items ≡ fs → length items ≤ i → IsRowOn care (AllSo (take i items)) set → IsRowOn care (Wanted formula) set
-  and_end formula fs items i set is alike past row = row_like care (AllSo (take i items)) (Wanted formula) set (λ v. and_makes parts box truth (bound b name v) formula fs items i is alike past) row
-
-  pub or_end : (formula : Formula) (fs items : List Formula) (i : ℕ) (set : List ℕ) → formula ≡ y.Or fs → items ≡ fs → length items ≤ i → IsRowOn care (SomeSo (take i items)) set → IsRowOn care (Wanted formula) set
-  or_end formula fs items i set is alike past row = row_like care (SomeSo (take i items)) (Wanted formula) set (λ v. or_makes parts box truth (bound b name v) formula fs items i is alike past) row
+  pub or_row : (formula : Formula) (fs items : List Formula) (set : List ℕ) → formula ≡ y.Or fs → items ≡ fs → IsRowOn care (SeveralSo (not truth) items) set → IsRowOn care (Wanted formula) set
+  or_row formula fs items set is alike row = row_like care (SeveralSo (not truth) items) (Wanted formula) set (λ v. or_several parts box truth (bound b name v) formula fs items is alike) row
 
   -- ---- quantifiers
 
-  module _ (formula f g : Formula) (other : ℕ) (alike : g ≡ f) (node : ℕ) (inside : ℕ → ℕ) (inside_is : inside ≡ bound b name node) (all row old new : List ℕ) (holds : Bool) (size : ℕ) (every : IsEvery (nodes parts) all) (size_is : size ≡ nodes parts)
-      (row_is : IsRowOn all (λ v. Makes parts box (claim g) truth (bound inside other v)) row) (so_far : Gathers node care (Wanted formula) old) (kept : (v : ℕ) → (has new v ≡ true) ↔ ((has old v ≡ true) ⊎ ((v ≡ node) × (holds ≡ true)))) where
-    here_row : IsRowOn all (λ v. Makes parts box (claim g) truth (bound (bound b name node) other v)) row
-    here_row = subst (λ z. IsRowOn all (λ v. Makes parts box (claim g) truth (bound z other v)) row) inside_is row_is
+  module _ (formula f g : Formula) (other : ℕ) (set : List ℕ) where
+    -- the nodes for which it stands so that the box makes the formula so for each node of another name, or for some
+    abbrev pub OverOther : Bool → ℕ → Type 0
+    OverOther each v = Over each (nodes parts) (λ node. Makes parts box (claim g) truth (bound (bound b name v) other node))
 
-    pub every_turn : formula ≡ y.Every other f → IsTrue holds ↔ Over truth size (λ v. has row v ≡ true) → Gathers (node + 1) care (Wanted formula) new
-    every_turn is told =
-        let over = over_told truth holds size (nodes parts) all (λ v. Makes parts box (claim g) truth (bound (bound b name node) other v)) row size_is every here_row told in
-        let makes = every_makes parts box truth (bound b name node) formula other f g is alike in
-        gathers_more node care (Wanted formula) holds old new so_far (λ h. makes.0 (over.0 h), λ m. over.1 (makes.1 m)) kept
+    pub every_row : formula ≡ y.Every other f → g ≡ f → IsRowOn care (OverOther truth) set → IsRowOn care (Wanted formula) set
+    every_row is alike row = row_like care (OverOther truth) (Wanted formula) set (λ v. every_makes parts box truth (bound b name v) formula other f g is alike) row
 
-    pub any_turn : formula ≡ y.Any other f → IsTrue holds ↔ Over (not truth) size (λ v. has row v ≡ true) → Gathers (node + 1) care (Wanted formula) new
-    any_turn is told =
-        let over = over_told (not truth) holds size (nodes parts) all (λ v. Makes parts box (claim g) truth (bound (bound b name node) other v)) row size_is every here_row told in
-        let makes = any_makes parts box truth (bound b name node) formula other f g is alike in
-        gathers_more node care (Wanted formula) holds old new so_far (λ h. makes.0 (over.0 h), λ m. over.1 (makes.1 m)) kept
+    pub any_row : formula ≡ y.Any other f → g ≡ f → IsRowOn care (OverOther (not truth)) set → IsRowOn care (Wanted formula) set
+    any_row is alike row = row_like care (OverOther (not truth)) (Wanted formula) set (λ v. any_makes parts box truth (bound b name v) formula other f g is alike) row
 
   -- ---- atoms
 

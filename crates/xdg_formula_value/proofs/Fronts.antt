@@ -5,11 +5,12 @@ use Rattle.std.proofs.lemmas.Bool.{false≢true}
 use Rattle.std.proofs.lemmas.List.{take_more, map-append}
 use Rattle.xdg_problem.specs.declared.parts.Parts.{Parts}
 use Rattle.xdg_problem.specs.declared.formula.Formula.{Formula}
-use Rattle.xdg_problem.specs.Claims.{Claim, conjunction, disjunction, every, some, none, claims_of, claim, IsOf, EachIsOf}
+use Rattle.xdg_problem.specs.Claims.{Claim, Claims, conjunction, disjunction, every, some, none, claims_of, claim, IsOf, EachIsOf}
 use Rattle.xdg_problem.specs.Places.{nodes}
 use Rattle.xdg_problem.specs.Truths.{bound}
 use Rattle.xdg_rules.specs.Worths.{Makes, MakesEach, MakesSome}
 use Rattle.xdg_formula_value.specs.Rows.{Joined, Over}
+use Rattle.xdg_formula_value.specs.Several.{MakesSeveral}
 
 -- what the parts of a formula name is there
 pub part_of : (parts : Parts) (fs : List Formula) (i : ℕ) (d : Formula) → i < length fs → EachIsOf parts (claims_of (map claim fs)) → IsOf parts (claim (get_or fs i d))
@@ -36,6 +37,10 @@ module _ (parts : Parts) (box : List (List Bool)) (b : ℕ → ℕ) where
     λ m. elim m [ inl front ↦ elim front [ inl here ↦ inl here | inr later ↦ inr (rest.1 (inl later)) ] | inr last ↦ inr (rest.1 (inr last)) ],
   ))
 
+  several_split : (each truth : Bool) (cs : List Claim) (c : Claim) → Joined each (MakesSeveral each parts box (claims_of cs) truth b) (Makes parts box c truth b) ↔ MakesSeveral each parts box (claims_of (cs ++ c ∷ [])) truth b
+  several_split true truth cs c = (let split = each_split truth cs c in (split.1, split.0))
+  several_split false truth cs c = (let split = some_split truth cs c in (split.1, split.0))
+
   and_split : (truth : Bool) (cs : List Claim) (c : Claim) → Joined truth (Makes parts box (conjunction (claims_of cs)) truth b) (Makes parts box c truth b) ↔ Makes parts box (conjunction (claims_of (cs ++ c ∷ []))) truth b
   and_split true cs c = (let split = each_split true cs c in (split.1, split.0))
   and_split false cs c = (let split = some_split false cs c in (split.1, split.0))
@@ -51,7 +56,14 @@ module _ (parts : Parts) (box : List (List Bool)) (b : ℕ → ℕ) where
   pub or_more : (truth : Bool) (fs : List Formula) (i : ℕ) (f : Formula) → i < length fs → f ≡ get_or fs i f → Joined (not truth) (Makes parts box (disjunction (claims_of (map claim (take i fs)))) truth b) (Makes parts box (claim f) truth b) ↔ Makes parts box (disjunction (claims_of (map claim (take (i + 1) fs)))) truth b
   or_more truth fs i f l is = subst (λ cs. Joined (not truth) (Makes parts box (disjunction (claims_of (map claim (take i fs)))) truth b) (Makes parts box (claim f) truth b) ↔ Makes parts box (disjunction (claims_of cs)) truth b) (sym (front_more fs i f l is)) (or_split truth (map claim (take i fs)) (claim f))
 
+  pub several_more : (truth each : Bool) (fs : List Formula) (i : ℕ) (f : Formula) → i < length fs → f ≡ get_or fs i f → Joined each (MakesSeveral each parts box (claims_of (map claim (take i fs))) truth b) (Makes parts box (claim f) truth b) ↔ MakesSeveral each parts box (claims_of (map claim (take (i + 1) fs))) truth b
+  several_more truth each fs i f l is = subst (λ cs. Joined each (MakesSeveral each parts box (claims_of (map claim (take i fs))) truth b) (Makes parts box (claim f) truth b) ↔ MakesSeveral each parts box (claims_of cs) truth b) (sym (front_more fs i f l is)) (several_split each truth (map claim (take i fs)) (claim f))
+
   -- no part yet
+  pub several_none : (truth each : Bool) → (each ≡ true) ↔ MakesSeveral each parts box none truth b
+  several_none truth true = (λ h. tt, λ h. refl)
+  several_none truth false = (λ h. false≢true h, λ h. absurd h)
+
   pub and_none : (truth : Bool) → (truth ≡ true) ↔ Makes parts box (conjunction none) truth b
   and_none true = (λ h. tt, λ h. refl)
   and_none false = (λ h. false≢true h, λ h. absurd h)
@@ -59,6 +71,15 @@ module _ (parts : Parts) (box : List (List Bool)) (b : ℕ → ℕ) where
   pub or_none : (truth : Bool) → (not truth ≡ true) ↔ Makes parts box (disjunction none) truth b
   or_none true = (λ h. false≢true h, λ h. absurd h)
   or_none false = (λ h. tt, λ h. refl)
+
+  -- all parts
+  pub and_over : (truth : Bool) (cs : Claims) → MakesSeveral truth parts box cs truth b ↔ Makes parts box (conjunction cs) truth b
+  and_over true cs = (λ h. h, λ h. h)
+  and_over false cs = (λ h. h, λ h. h)
+
+  pub or_over : (truth : Bool) (cs : Claims) → MakesSeveral (not truth) parts box cs truth b ↔ Makes parts box (disjunction cs) truth b
+  or_over true cs = (λ h. h, λ h. h)
+  or_over false cs = (λ h. h, λ h. h)
 
   -- a quantifier
   pub every_over : (truth : Bool) (name : ℕ) (c : Claim) → Over truth (nodes parts) (λ v. Makes parts box c truth (bound b name v)) ↔ Makes parts box (every name c) truth b

@@ -7,6 +7,7 @@ pub mod Fronts
 pub mod Formed
 pub mod Forms
 pub mod Bounding
+pub mod Narrowed
 pub mod Wholes
 pub mod Paired
 pub mod Told

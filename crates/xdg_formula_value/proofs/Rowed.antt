@@ -5,10 +5,10 @@ use Rattle.std.proofs.lemmas.Bool.{cases_eq, cases_Bool, and_from, and_parts, bo
 use Rattle.xdg_nodeset.specs.Nodes.{has}
 use Rattle.xdg_problem.specs.Truths.{HasTruth}
 use Rattle.xdg_facts.proofs.Truths.{either_true, or_here}
-use Rattle.xdg_formula_value.specs.Rows.{IsRow, IsRowOn, HasFirst, Gathers, Joined, Over, AreFirst, IsEvery, open_in}
+use Rattle.xdg_formula_value.specs.Rows.{IsRow, IsRowOn, HasFirst, Joined, Over, AreFirst, IsEvery, open_in}
 
 -- no node is in a set that has none
-none_in : (s : List ℕ) (v : ℕ) → length s ≡ 0 → has s v ≡ true → ⊥
+pub none_in : (s : List ℕ) (v : ℕ) → length s ≡ 0 → has s v ≡ true → ⊥
 none_in [] v none there = false≢true there
 none_in (m ∷ s) v none there = omega (arith, none)
 
@@ -71,51 +71,11 @@ row_constant n care all P set few first same like v within =
 
 -- ---- one node after another
 
-pub gathers_none : (care : List ℕ) (P : ℕ → Type 0) (set : List ℕ) → ((v : ℕ) → has set v ≡ false) → Gathers 0 care P set
-gathers_none care P set none = record { exact = λ v l. absurd (omega (arith, l)); early = λ v h. absurd (false≢true (sym (none v) ∙ h)) }
-
--- a node at which it isn't so
-pub gathers_shut : (k : ℕ) (care : List ℕ) (P : ℕ → Type 0) (set : List ℕ) → Gathers k care P set → (has care k ≡ true → P k → ⊥) → Gathers (k + 1) care P set
-gathers_shut k care P set so_far shut = record {
-  exact = λ v l within. elim (cases_eq v k) [
-    | inl same ↦ (
-      λ h. (let early = so_far.early v h in absurd (omega (arith, early, same))),
-      λ p. absurd (shut (subst (λ j. has care j ≡ true) same within) (subst P same p)),
-    )
-    | inr other ↦ so_far.exact v (omega (arith, l, other)) within
-  ];
-  early = λ v h. (let l = so_far.early v h in omega (arith, l));
-}
-
-pub gathers_more : (k : ℕ) (care : List ℕ) (P : ℕ → Type 0) (holds : Bool) (old new : List ℕ) → Gathers k care P old → (holds ≡ true) ↔ P k → ((v : ℕ) → (has new v ≡ true) ↔ ((has old v ≡ true) ⊎ ((v ≡ k) × (holds ≡ true)))) → Gathers (k + 1) care P new
-gathers_more k care P holds old new so_far here is = record {
-  exact = λ v l within. elim (cases_eq v k) [
-    | inl same ↦ (
-      λ h. elim ((is v).0 h) [
-        | inl before ↦ (let early = so_far.early v before in absurd (omega (arith, early, same)))
-        | inr now ↦ subst P (sym same) (here.0 now.1)
-      ],
-      λ p. (is v).1 (inr (same, here.1 (subst P same p))),
-    )
-    | inr other ↦ (let exact = so_far.exact v (omega (arith, l, other)) within in (
-      λ h. elim ((is v).0 h) [ inl before ↦ exact.0 before | inr now ↦ absurd (other now.0) ],
-      λ p. (is v).1 (inl (exact.1 p)),
-    ))
-  ];
-  early = λ v h. elim ((is v).0 h) [
-    | inl before ↦ (let l = so_far.early v before in omega (arith, l))
-    | inr now ↦ (let e = now.0 in omega (arith, e))
-  ];
-}
-
-pub gathers_row : (n k : ℕ) (care : List ℕ) (P : ℕ → Type 0) (set : List ℕ) → n ≤ k → AreFirst n care → Gathers k care P set → IsRowOn care P set
-gathers_row n k care P set past first gathers v within = (let l = first v within in gathers.exact v (omega (arith, l, past)) within)
-
--- the members of some nodes one after another: what was gathered, and what those still to come bring, is what all bring
+-- the members of some nodes: what was gathered, and what those still to come bring, is what all bring
 abbrev pub Gathered : List ℕ → (ℕ → Type 0) → List ℕ → List ℕ → Type 0
 Gathered care P left set = (x : ℕ) → ((has set x ≡ true) ⊎ ((has left x ≡ true) × P x)) ↔ ((has care x ≡ true) × P x)
 
-no_member : (set : List ℕ) (x : ℕ) → set ≡ [] → has set x ≡ true → ⊥
+pub no_member : (set : List ℕ) (x : ℕ) → set ≡ [] → has set x ≡ true → ⊥
 no_member set x empty there = false≢true (subst (λ s. has s x ≡ true) empty there)
 
 pub head_in : (left rest : List ℕ) (v : ℕ) → left ≡ v ∷ rest → has left v ≡ true
@@ -158,11 +118,15 @@ gathered_more care left rest P v holds old new at here is so_far x = (
   ],
 )
 
-pub gathered_row : (care left : List ℕ) (P : ℕ → Type 0) (set : List ℕ) → left ≡ [] → Gathered care P left set → IsRowOn care P set
-gathered_row care left P set empty all v within = (
+-- where those are among them at which it can be so
+pub gathered_among : (care some left : List ℕ) (P : ℕ → Type 0) (set : List ℕ) → left ≡ [] → ((v : ℕ) → has care v ≡ true → P v → has some v ≡ true) → Gathered some P left set → IsRowOn care P set
+gathered_among care some left P set empty among all v within = (
   λ h. ((all v).0 (inl h)).1,
-  λ p. elim ((all v).1 (within, p)) [ inl there ↦ there | inr more ↦ absurd (no_member left v empty more.0) ],
+  λ p. elim ((all v).1 (among v within p, p)) [ inl there ↦ there | inr more ↦ absurd (no_member left v empty more.0) ],
 )
+
+pub gathered_row : (care left : List ℕ) (P : ℕ → Type 0) (set : List ℕ) → left ≡ [] → Gathered care P left set → IsRowOn care P set
+gathered_row care left P set empty all = gathered_among care care left P set empty (λ v within p. within) all
 
 -- the same of all nodes
 

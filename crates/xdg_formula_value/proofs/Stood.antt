@@ -1,5 +1,5 @@
 -- Bindings as tables.
-use Rattle.std.proofs.Common.{◌≡◌, ℕ, ◌<◌, inl, inr, cond, List, replicate, sym, ◌∙◌, ap, subst}
+use Rattle.std.proofs.Common.{◌≡◌, ℕ, ◌<◌, inl, inr, Bool, true, false, cond, List, replicate, refl, sym, ◌∙◌, ap, subst}
 use Rattle.std.specs.Prelude.{slice_index, ◌==◌}
 use Rattle.std.proofs.lemmas.Bool.{cases_eq, eq-eqb, false_from_ne_true, eqb-true}
 use Rattle.xdg_problem.specs.declared.parts.Parts.{Parts}
@@ -30,6 +30,24 @@ bound_as_is b name other = elim (cases_eq other name) [
 -- a name that is bound to what it stands for
 pub bound_back : (b : ℕ → ℕ) (name : ℕ) → bound b name (b name) ≡ b
 bound_back b name = λ i other. bound_as_is b name other i
+
+-- a name that is bound again
+again : (same : Bool) (node new rest : ℕ) → cond same new (cond same node rest) ≡ cond same new rest
+again true node new rest = refl
+again false node new rest = refl
+
+bound_again : (b : ℕ → ℕ) (name node new : ℕ) → bound (bound b name node) name new ≡ bound b name new
+bound_again b name node new = λ i other. again (other == name) node new (b other) i
+
+-- two bindings that are one where the name is bound
+abbrev pub AgreeOutside : ℕ → (ℕ → ℕ) → (ℕ → ℕ) → Type 0
+AgreeOutside name a b = (node : ℕ) → bound a name node ≡ bound b name node
+
+pub rebound : (name node : ℕ) (b old new : ℕ → ℕ) → new ≡ bound old name node → AgreeOutside name old b → new ≡ bound b name node
+rebound name node b old new is agree = is ∙ agree node
+
+pub rebound_agrees : (name node : ℕ) (b old new : ℕ → ℕ) → new ≡ bound old name node → AgreeOutside name old b → AgreeOutside name new b
+rebound_agrees name node b old new is agree later = ap (λ a. bound a name later) is ∙ bound_again old name node later ∙ agree later
 
 -- where each name stands for the first node, each stands for a node
 pub nodes_unbound : (parts : Parts) (b : ℕ → ℕ) → b ≡ unbound → 0 < nodes parts → AreNodes parts b

@@ -4,3 +4,4 @@ pub mod Filling
 pub mod ClaimKinds
 pub mod Lost
 pub mod Standing
+pub mod Several

@@ -22,11 +22,6 @@ Bounds care P set = (v node : ℕ) → has care v ≡ true → P v node → has 
 abbrev pub HasFirst : ℕ → (ℕ → Type 0) → List ℕ → Type 0
 HasFirst k P set = (v : ℕ) → (has set v ≡ true) ↔ ((v < k) × P v)
 
--- of some nodes that are among the first, the set has those at which something is so, and it has none that are later
-pub record Gathers (k : ℕ) (care : List ℕ) (P : ℕ → Type 0) (set : List ℕ) : Type 0 where
-  pub exact : (v : ℕ) → v < k → has care v ≡ true → (has set v ≡ true) ↔ P v
-  pub early : (v : ℕ) → has set v ≡ true → v < k
-
 -- both, or one or the other
 abbrev pub Joined : Bool → Type 0 → Type 0 → Type 0
 Joined true P Q = P × Q

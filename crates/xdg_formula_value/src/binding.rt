@@ -22,6 +22,13 @@ pub(crate) fn bind(binding: &[u8; 256], name: u8, node: u8) -> [u8; 256]
     inside
 }
 
+/// Makes a name stand for a node.
+pub(crate) fn rebind(binding: &mut [u8; 256], name: u8, node: u8)
+    ensures { stands binding.new ≡ bound (stands binding.old) name node }
+{
+    binding[usize::from(name)] = node;
+}
+
 /// The binding in which each name stands for the first node.
 pub(crate) fn none_bound() -> [u8; 256]
     ensures { stands result ≡ unbound }

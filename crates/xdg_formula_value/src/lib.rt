@@ -13,6 +13,7 @@ mod names;
 mod pair;
 mod paths;
 mod possible;
+mod quantified;
 mod reach;
 mod rows;
 mod rule_prop;

@@ -1,7 +1,7 @@
 //! What a box makes of a formula.
 
-ghost use Rattle.std.specs.Prelude.{◌≡◌, ◌↔◌, false, IsTrue};
-ghost use Rattle.xdg_problem.specs.Claims.{IsOf, Suits, claim};
+ghost use Rattle.std.specs.Prelude.{◌≡◌, ◌↔◌, false, IsTrue, map};
+ghost use Rattle.xdg_problem.specs.Claims.{EachIsOf, IsOf, Suits, claim, claims_of};
 ghost use Rattle.xdg_problem.specs.Places.{nodes};
 ghost use Rattle.xdg_problem.specs.Truths.{bound};
 ghost use Rattle.xdg_rules.specs.WorthLaws.{AreNodes};
@@ -9,15 +9,15 @@ ghost use Rattle.xdg_rules.specs.Worths.{Makes, RuleFalse};
 ghost use Rattle.xdg_store.specs.States.{Known};
 ghost use Rattle.xdg_formula_value.specs.Filling.{ArePaths};
 ghost use Rattle.xdg_formula_value.specs.Rows.{AreFirst, IsRowOn, stands};
+ghost use Rattle.xdg_formula_value.specs.Several.{MakesSeveral};
 
 use crate::atoms::{attr_row, feat_row};
-use crate::binding::{bind, node_of, none_bound};
+use crate::binding::{node_of, none_bound};
 use crate::pair::{Pair, pair_row};
 use crate::paths::{Paths, dims_asked, tables_of};
-use crate::possible::{possible_row, possible_second};
-use crate::rows::{constant, joined, joined_truths, kept, still_open};
+use crate::quantified::quantified_row;
+use crate::rows::{constant, joined, joined_truths, still_open};
 use crate::way::Way;
-use xdg_base::NodeId;
 use xdg_graph::node_count;
 use xdg_nodeset::NodeSet;
 use xdg_problem::Formula;
@@ -43,116 +43,40 @@ pub(crate) fn row_of(
     match formula {
         Formula::Not(inner) => row_of(store, paths, binding, name, inner.get(), !truth, care),
         Formula::And(parts) => {
-            let mut row = constant(truth);
-            for part in parts.as_slice() {
-                let still = still_open(truth, care, row);
-                if still.len() == 0 {
-                    continue;
-                }
-                row = joined(
-                    truth,
-                    row,
-                    row_of(store, paths, binding, name, part, truth, still),
-                );
-            }
-            row
+            let parts = parts.as_slice();
+            joined_row(store, paths, binding, name, parts, truth, truth, care)
         }
         Formula::Or(parts) => {
-            let mut row = constant(!truth);
-            for part in parts.as_slice() {
-                let still = still_open(!truth, care, row);
-                if still.len() == 0 {
-                    continue;
-                }
-                row = joined(
-                    !truth,
-                    row,
-                    row_of(store, paths, binding, name, part, truth, still),
-                );
-            }
-            row
+            let parts = parts.as_slice();
+            joined_row(store, paths, binding, name, parts, truth, !truth, care)
         }
         Formula::Every(other, inner) => {
             let body = inner.get();
-            let second = possible_second(store, paths, binding, name, *other, body, truth);
-            if second.len() == 0 {
-                return NodeSet::empty();
-            }
-            let possible = care.meet(&possible_row(
-                store, paths, binding, name, *other, body, truth, care,
-            ));
-            let mut row = NodeSet::empty();
-            for node in 0..node_count(store) {
-                if !possible.contains(NodeId(node)) {
-                    continue;
-                }
-                let here = bind(binding, name, node);
-                let inside = row_of(store, paths, &here, *other, body, truth, second);
-                let met = inside.meet(&second);
-                row = kept(row, node, paths.has_over(node_count(store), truth, met));
-            }
-            row
+            quantified_row(
+                store, paths, binding, name, *other, body, truth, truth, care,
+            )
         }
         Formula::Any(other, inner) => {
             let body = inner.get();
-            let second = possible_second(store, paths, binding, name, *other, body, truth);
-            if second.len() == 0 {
-                return NodeSet::empty();
-            }
-            let possible = care.meet(&possible_row(
-                store, paths, binding, name, *other, body, truth, care,
-            ));
-            let mut row = NodeSet::empty();
-            for node in 0..node_count(store) {
-                if !possible.contains(NodeId(node)) {
-                    continue;
-                }
-                let here = bind(binding, name, node);
-                let inside = row_of(store, paths, &here, *other, body, truth, second);
-                let met = inside.meet(&second);
-                row = kept(row, node, paths.has_over(node_count(store), !truth, met));
-            }
-            row
+            quantified_row(
+                store, paths, binding, name, *other, body, truth, !truth, care,
+            )
         }
         Formula::Edge(dim, mother, label, daughter) => {
             let pair = Pair::Edge(*dim, *label);
             pair_row(store, paths, binding, name, pair, *mother, *daughter, truth)
         }
         Formula::Above(dim, upper, lower) => {
-            pair_row(
-                store,
-                paths,
-                binding,
-                name,
-                Pair::Path(*dim),
-                *upper,
-                *lower,
-                truth,
-            )
+            let pair = Pair::Path(*dim);
+            pair_row(store, paths, binding, name, pair, *upper, *lower, truth)
         }
         Formula::Left(first, second) => {
-            pair_row(
-                store,
-                paths,
-                binding,
-                name,
-                Pair::Left,
-                *first,
-                *second,
-                truth,
-            )
+            let pair = Pair::Left;
+            pair_row(store, paths, binding, name, pair, *first, *second, truth)
         }
         Formula::Same(first, second) => {
-            pair_row(
-                store,
-                paths,
-                binding,
-                name,
-                Pair::Same,
-                *first,
-                *second,
-                truth,
-            )
+            let pair = Pair::Same;
+            pair_row(store, paths, binding, name, pair, *first, *second, truth)
         }
         Formula::Attr(node, dim, attr, value) => {
             attr_row(
@@ -161,6 +85,37 @@ pub(crate) fn row_of(
         }
         Formula::Feat(node, table) => feat_row(store, binding, name, *node, table, truth, care),
     }
+}
+
+/// Of some nodes, those for which a name has to stand so that the box makes each of some formulas true, or false, or one or more of them.
+#[cycle(rows)]
+fn joined_row(
+    store: &Store,
+    paths: &Paths,
+    binding: &[u8; 256],
+    name: u8,
+    formulas: &[Formula],
+    truth: bool,
+    each: bool,
+    care: NodeSet,
+) -> NodeSet
+    requires paths { ArePaths store.now paths.now }
+    requires are_of { EachIsOf store.now.parts (claims_of (map claim formulas.now)) }
+    requires nodes { AreNodes store.now.parts (stands binding.now) }
+    requires care { AreFirst (nodes store.now.parts) care }
+    ensures { IsRowOn care
+        (λ v. MakesSeveral each store.now.parts store.now.now (claims_of (map claim formulas.now)) truth (bound (stands binding.now) name v)) result }
+{
+    let mut row = constant(each);
+    for formula in formulas {
+        let still = still_open(each, care, row);
+        if still.len() == 0 {
+            continue;
+        }
+        let here = row_of(store, paths, binding, name, formula, truth, still);
+        row = joined(each, row, here);
+    }
+    row
 }
 
 /// Whether the box makes a formula true, or false, under a binding of names to nodes.
