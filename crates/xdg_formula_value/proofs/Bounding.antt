@@ -1,7 +1,8 @@
 -- Nodes that are possible for a name, whatever a second name stands for, form by form.
-use Rattle.std.proofs.Common.{◌≡◌, ◌↔◌, ℕ, ◌+◌, ◌<◌, ◌≤◌, inl, inr, Bool, true, false, cond, ◌&&◌, List, [], ◌∷◌, length, map, take, get_or, refl, sym, ◌∙◌, subst, arith}
+use Rattle.std.proofs.Common.{◌≡◌, ◌↔◌, ℕ, ◌+◌, ◌<◌, ◌≤◌, inl, inr, Bool, true, false, cond, ◌&&◌, List, length, map, take, get_or, refl, sym, ◌∙◌, subst, arith}
 use Rattle.std.specs.Prelude.{not, ◌==◌}
-use Rattle.std.proofs.lemmas.Bool.{and_from, and_parts, both_ways, eqb-true, false≢true}
+use Rattle.std.proofs.lemmas.Bool.{and_from, and_parts, cases_Bool, eqb-true, not_from_false}
+use Rattle.std.proofs.lemmas.List.{take_all}
 use Rattle.xdg_base.specs.declared.ids.AttrId.{AttrId}
 use Rattle.xdg_base.specs.declared.ids.DimId.{DimId}
 use Rattle.xdg_base.specs.declared.ids.LabelId.{LabelId}
@@ -10,22 +11,35 @@ use Rattle.xdg_problem.specs.declared.formula.Formula.{Formula}
 use Rattle.xdg_problem.specs.declared.formula.Formula.TheVariants as y
 use Rattle.xdg_problem.specs.declared.parts.Parts.{Parts}
 use Rattle.xdg_problem.specs.Boxes.{attr_decision}
-use Rattle.xdg_problem.specs.Claims.{conjunction, disjunction, claims_of, claim}
+use Rattle.xdg_problem.specs.Claims.{claims_of, claim}
 use Rattle.xdg_problem.specs.Places.{nodes}
 use Rattle.xdg_problem.specs.Truths.{bound, says, HasTruth}
 use Rattle.xdg_rules.specs.Rules.{EachEntry}
 use Rattle.xdg_rules.specs.Worths.{Makes, EachValue}
 use Rattle.xdg_formula_value.specs.Pairs.{Relates, edges_for}
-use Rattle.xdg_formula_value.specs.Rows.{AreFirst, Bounds, IsEvery, IsRow, IsRowOn, Joined}
+use Rattle.xdg_formula_value.specs.Rows.{AreFirst, Bounds, IsEvery, IsRow, IsRowOn, Joined, open_in}
+use Rattle.xdg_formula_value.specs.Several.{MakesSeveral}
 use Rattle.xdg_formula_value.specs.declared.pair.Pair.{Pair}
 use Rattle.xdg_formula_value.specs.declared.pair.Pair.TheVariants as pairs
-use Rattle.xdg_formula_value.proofs.Formed.{not_makes, and_makes, or_makes, edge_form, above_form, left_form, same_form, attr_form, feat_form}
-use Rattle.xdg_formula_value.proofs.Fronts.{and_more, and_none, or_more, or_none}
+use Rattle.xdg_formula_value.proofs.Formed.{not_makes, and_several, or_several, edge_form, above_form, left_form, same_form, attr_form, feat_form}
+use Rattle.xdg_formula_value.proofs.Fronts.{several_more, several_none}
+use Rattle.xdg_formula_value.proofs.Rowed.{none_in}
 use Rattle.xdg_formula_value.proofs.Stood.{bound_else}
 
-joined_weaker : (both : Bool) (P Q A B : Type 0) → (P → A) → (Q → B) → Joined both P Q → Joined both A B
-joined_weaker true P Q A B p q both = (p both.0, q both.1)
-joined_weaker false P Q A B p q one = elim one [ inl x ↦ inl (p x) | inr y ↦ inr (q y) ]
+-- where a set bounds one of two that are wanted together, and another does at what is still open
+joined_open : (both : Bool) (care old still : List ℕ) (v : ℕ) (P Q Part : Type 0) → has care v ≡ true → has still v ≡ open_in both care old v → (P → has old v ≡ true) → (has still v ≡ true → Q → Part) → Joined both P Q → Joined both (has old v ≡ true) Part
+joined_open true care old still v P Q Part within is p q both = (p both.0, q (is ∙ and_from (has care v) (has old v) within (p both.0)) both.1)
+joined_open false care old still v P Q Part within is p q one = elim (cases_Bool (has old v)) [
+  | inl on ↦ inl on
+  | inr off ↦ elim one [ inl x ↦ inl (p x) | inr y ↦ inr (q (is ∙ and_from (has care v) (not (has old v)) within (not_from_false (has old v) off)) y) ]
+]
+
+joined_shut : (both : Bool) (care old still : List ℕ) (v : ℕ) (P Q : Type 0) → has care v ≡ true → has still v ≡ open_in both care old v → (P → has old v ≡ true) → (has still v ≡ true → ⊥) → Joined both P Q → has old v ≡ true
+joined_shut true care old still v P Q within is p shut both = p both.0
+joined_shut false care old still v P Q within is p shut one = elim (cases_Bool (has old v)) [
+  | inl on ↦ on
+  | inr off ↦ absurd (shut (is ∙ and_from (has care v) (not (has old v)) within (not_from_false (has old v) off)))
+]
 
 -- all nodes are possible
 pub bounds_all : (n : ℕ) (care : List ℕ) (P : ℕ → ℕ → Type 0) (set : List ℕ) → n ≤ 128 → AreFirst n care → ((v : ℕ) → v < 128 → has set v ≡ true) → Bounds care P set
@@ -51,32 +65,31 @@ module _ (parts : Parts) (box : List (List Bool)) (truth : Bool) (b : ℕ → �
 
   -- ---- conjunctions and disjunctions
 
-  abbrev pub AllPossible : List Formula → ℕ → ℕ → Type 0
-  AllPossible fs v node = Makes parts box (conjunction (claims_of (map claim fs))) truth (bound (bound b name v) other node)
+  abbrev pub SeveralPossible : Bool → List Formula → ℕ → ℕ → Type 0
+  SeveralPossible each fs v node = MakesSeveral each parts box (claims_of (map claim fs)) truth (bound (bound b name v) other node)
 
-  abbrev pub SomePossible : List Formula → ℕ → ℕ → Type 0
-  SomePossible fs v node = Makes parts box (disjunction (claims_of (map claim fs))) truth (bound (bound b name v) other node)
+  module _ (each : Bool) (fs : List Formula) where
+    pub several_bounds_start : (set : List ℕ) → nodes parts ≤ 128 → AreFirst (nodes parts) care → ((v : ℕ) → v < 128 → has set v ≡ each) → Bounds care (SeveralPossible each (take 0 fs)) set
+    several_bounds_start set few first same v node within so = same v (let l = first v within in omega (arith, l, few)) ∙ (several_none parts box (bound (bound b name v) other node) truth each).1 so
 
-  pub and_bounds_start : (fs : List Formula) (set : List ℕ) → nodes parts ≤ 128 → AreFirst (nodes parts) care → ((v : ℕ) → v < 128 → has set v ≡ truth) → Bounds care (AllPossible (take 0 fs)) set
-  and_bounds_start fs set few first same v node within so = same v (let l = first v within in omega (arith, l, few)) ∙ (and_none parts box (bound (bound b name v) other node) truth).1 so
+    module _ (i : ℕ) (f : Formula) (old still : List ℕ) (l : i < length fs) (is : f ≡ get_or fs i f) (so_far : Bounds care (SeveralPossible each (take i fs)) old) (open_is : (v : ℕ) → has still v ≡ open_in each care old v) where
+      parts_of : (v node : ℕ) → SeveralPossible each (take (i + 1) fs) v node → Joined each (SeveralPossible each (take i fs) v node) (Possible f v node)
+      parts_of v node so = (several_more parts box (bound (bound b name v) other node) truth each fs i f l is).1 so
 
-  pub or_bounds_start : (fs : List Formula) (set : List ℕ) → nodes parts ≤ 128 → AreFirst (nodes parts) care → ((v : ℕ) → v < 128 → has set v ≡ not truth) → Bounds care (SomePossible (take 0 fs)) set
-  or_bounds_start fs set few first same v node within so = same v (let l = first v within in omega (arith, l, few)) ∙ (or_none parts box (bound (bound b name v) other node) truth).1 so
+      pub several_bounds_turn : (part new : List ℕ) → Bounds still (Possible f) part → ((v : ℕ) → (has new v ≡ true) ↔ Joined each (has old v ≡ true) (has part v ≡ true)) → Bounds care (SeveralPossible each (take (i + 1) fs)) new
+      several_bounds_turn part new here joined v node within so = (joined v).1 (joined_open each care old still v (SeveralPossible each (take i fs) v node) (Possible f v node) (has part v ≡ true) within (open_is v) (so_far v node within) (λ there. here v node there) (parts_of v node so))
 
-  module _ (fs : List Formula) (i : ℕ) (f : Formula) (old part new : List ℕ) (l : i < length fs) (is : f ≡ get_or fs i f) where
-    pub and_bounds_turn : Bounds care (AllPossible (take i fs)) old → Bounds care (Possible f) part → ((v : ℕ) → (has new v ≡ true) ↔ Joined truth (has old v ≡ true) (has part v ≡ true)) → Bounds care (AllPossible (take (i + 1) fs)) new
-    and_bounds_turn so_far here joined v node within so = (joined v).1 (joined_weaker truth (AllPossible (take i fs) v node) (Possible f v node) (has old v ≡ true) (has part v ≡ true) (so_far v node within) (here v node within)
-        ((and_more parts box (bound (bound b name v) other node) truth fs i f l is).1 so))
+      pub several_bounds_skip : length still ≡ 0 → Bounds care (SeveralPossible each (take (i + 1) fs)) old
+      several_bounds_skip none v node within so = joined_shut each care old still v (SeveralPossible each (take i fs) v node) (Possible f v node) within (open_is v) (so_far v node within) (none_in still v none) (parts_of v node so)
 
-    pub or_bounds_turn : Bounds care (SomePossible (take i fs)) old → Bounds care (Possible f) part → ((v : ℕ) → (has new v ≡ true) ↔ Joined (not truth) (has old v ≡ true) (has part v ≡ true)) → Bounds care (SomePossible (take (i + 1) fs)) new
-    or_bounds_turn so_far here joined v node within so = (joined v).1 (joined_weaker (not truth) (SomePossible (take i fs) v node) (Possible f v node) (has old v ≡ true) (has part v ≡ true) (so_far v node within) (here v node within)
-        ((or_more parts box (bound (bound b name v) other node) truth fs i f l is).1 so))
+    pub several_bounds_end : (i : ℕ) (set : List ℕ) → length fs ≤ i → Bounds care (SeveralPossible each (take i fs)) set → Bounds care (SeveralPossible each fs) set
+    several_bounds_end i set past bounds = subst (λ gs. Bounds care (SeveralPossible each gs) set) (take_all i fs past) bounds
 
-  pub and_bounds_end : (formula : Formula) (fs items : List Formula) (i : ℕ) (set : List ℕ) → formula ≡ y.And fs → items ≡ fs → length items ≤ i → Bounds care (AllPossible (take i items)) set → Bounds care (Possible formula) set
-  and_bounds_end formula fs items i set is alike past bounds v node within so = bounds v node within ((and_makes parts box truth (bound (bound b name v) other node) formula fs items i is alike past).1 so)
+  pub and_bounds : (formula : Formula) (fs items : List Formula) (set : List ℕ) → formula ≡ y.And fs → items ≡ fs → Bounds care (SeveralPossible truth items) set → Bounds care (Possible formula) set
+  and_bounds formula fs items set is alike bounds v node within so = bounds v node within ((and_several parts box truth (bound (bound b name v) other node) formula fs items is alike).1 so)
 
-  pub or_bounds_end : (formula : Formula) (fs items : List Formula) (i : ℕ) (set : List ℕ) → formula ≡ y.Or fs → items ≡ fs → length items ≤ i → Bounds care (SomePossible (take i items)) set → Bounds care (Possible formula) set
-  or_bounds_end formula fs items i set is alike past bounds v node within so = bounds v node within ((or_makes parts box truth (bound (bound b name v) other node) formula fs items i is alike past).1 so)
+  pub or_bounds : (formula : Formula) (fs items : List Formula) (set : List ℕ) → formula ≡ y.Or fs → items ≡ fs → Bounds care (SeveralPossible (not truth) items) set → Bounds care (Possible formula) set
+  or_bounds formula fs items set is alike bounds v node within so = bounds v node within ((or_several parts box truth (bound (bound b name v) other node) formula fs items is alike).1 so)
 
   -- ---- atoms
 

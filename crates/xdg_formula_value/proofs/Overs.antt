@@ -1,5 +1,5 @@
 -- Whether a set of nodes has members, and what that says of other sets.
-use Rattle.std.proofs.Common.{◌≡◌, ◌↔◌, ◌⊎◌, ℕ, ◌+◌, ◌<◌, IsTrue, inl, inr, zero, suc, Bool, true, false, ◌&&◌, List, [], ◌∷◌, length, refl, sym, ◌∙◌, arith}
+use Rattle.std.proofs.Common.{◌≡◌, ◌↔◌, ◌⊎◌, ℕ, ◌+◌, ◌<◌, ◌≤◌, IsTrue, inl, inr, zero, suc, Bool, true, false, ◌&&◌, List, [], ◌∷◌, length, refl, sym, ◌∙◌, arith}
 use Rattle.std.specs.Prelude.{not, ◌==◌, ◌||◌}
 use Rattle.std.proofs.lemmas.Bool.{cases_Bool, cases_eq, and_parts, and_from, eq-eqb, eqb-true, false≢true, false_from_ne_true, not_from_false, both_ways, not-true, or_cases}
 use Rattle.xdg_nodeset.specs.Nodes.{has}
@@ -41,19 +41,10 @@ over_some n all set rest every is = (
 
 -- ---- all nodes
 
-pub every_none : (all : List ℕ) → ((v : ℕ) → has all v ≡ false) → IsEvery 0 all
-every_none all none v = (λ h. absurd (false≢true (sym (none v) ∙ h)), λ l. absurd (omega (arith, l)))
-
-pub every_more : (k : ℕ) (old new : List ℕ) → IsEvery k old → ((v : ℕ) → has new v ≡ ((v == k) || has old v)) → IsEvery (k + 1) new
-every_more k old new so_far is v = (
-  λ h. elim (or_cases (v == k) (has old v) (sym (is v) ∙ h)) [
-    | inl at ↦ (let e = eqb-true v k at in omega (arith, e))
-    | inr before ↦ (let l = (so_far v).0 before in omega (arith, l))
-  ],
-  λ l. is v ∙ elim (cases_eq v k) [
-    | inl here ↦ or_here (v == k) (has old v) (eq-eqb v k here)
-    | inr other ↦ either_true (v == k) (has old v) ((so_far v).1 (omega (arith, l, other)))
-  ],
+pub every_up_to : (n last : ℕ) (set : List ℕ) → last + 1 ≡ n → ((v : ℕ) → (has set v ≡ true) ↔ (v ≤ last)) → IsEvery n set
+every_up_to n last set is up_to v = (
+  λ h. (let l = (up_to v).0 h in omega (arith, l, is)),
+  λ l. (up_to v).1 (omega (arith, l, is)),
 )
 
 -- ---- what a number of nodes tells

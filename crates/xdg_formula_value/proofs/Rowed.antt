@@ -84,7 +84,7 @@ head_in left rest v at = subst (λ s. has s v ≡ true) (sym at) (or_here (v == 
 tail_in : (left rest : List ℕ) (v x : ℕ) → left ≡ v ∷ rest → has rest x ≡ true → has left x ≡ true
 tail_in left rest v x at later = subst (λ s. has s x ≡ true) (sym at) (either_true (v == x) (has rest x) later)
 
-head_or_tail : (left rest : List ℕ) (v x : ℕ) → left ≡ v ∷ rest → has left x ≡ true → (v ≡ x) ⊎ (has rest x ≡ true)
+pub head_or_tail : (left rest : List ℕ) (v x : ℕ) → left ≡ v ∷ rest → has left x ≡ true → (v ≡ x) ⊎ (has rest x ≡ true)
 head_or_tail left rest v x at there = elim (or_cases (v == x) (has rest x) (subst (λ s. has s x ≡ true) at there)) [
   | inl same ↦ inl (eqb-true v x same)
   | inr later ↦ inr later

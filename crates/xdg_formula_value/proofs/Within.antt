@@ -1,7 +1,7 @@
 -- Nodes for names that let a box make a claim true, or false, where a name stands for one of a set, and where not all was seen.
-use Rattle.std.proofs.Common.{◌≡◌, ℕ, ◌+◌, ◌<◌, ◌≤◌, inl, inr, Bool, true, false, ◌&&◌, List, refl, sym, ◌∙◌, ap, subst, arith}
+use Rattle.std.proofs.Common.{◌≡◌, ℕ, ◌<◌, inl, inr, Bool, true, false, ◌&&◌, List, [], ◌∷◌, refl, sym, ◌∙◌, ap, subst}
 use Rattle.std.specs.Prelude.{not, ◌==◌}
-use Rattle.std.proofs.lemmas.Bool.{cases_eq, false≢true}
+use Rattle.std.proofs.lemmas.Bool.{and_from, cases_eq, false≢true}
 use Rattle.xdg_nodeset.specs.Nodes.{has}
 use Rattle.xdg_problem.specs.declared.analysis.Edge.{Edge}
 use Rattle.xdg_problem.specs.declared.parts.Parts.{Parts}
@@ -15,7 +15,9 @@ use Rattle.xdg_graph.specs.Edges.{edges_of}
 use Rattle.xdg_store.specs.declared.decision.Decision.{Decision}
 use Rattle.xdg_store.specs.declared.decision.Decision.TheVariants as decisions
 use Rattle.xdg_formula_value.specs.Lost.{AgreeBut, Finds, IsBy, MovesPath, OnNames, Passes, PathsStay, Reaches, Seen}
+use Rattle.xdg_formula_value.specs.Rows.{IsEvery}
 use Rattle.xdg_formula_value.proofs.Finding.{NoneMade, agree_rest, finds_no, finds_weaker, missed}
+use Rattle.xdg_formula_value.proofs.Rowed.{head_or_tail, no_member}
 
 module _ (parts : Parts) (box : List (List Bool)) (c : Claim) (truth : Bool) where
   -- ---- where not all was seen
@@ -46,32 +48,26 @@ module _ (parts : Parts) (box : List (List Bool)) (c : Claim) (truth : Bool) whe
     abbrev pub In : (ℕ → ℕ) → Type 0
     In b = AgreeBut free unbound b × (has names name ≡ true → has ends (b name) ≡ true)
 
-    -- with none of its first nodes
-    abbrev pub NoneIn : ℕ → Type 0
-    NoneIn k = (v : ℕ) → v < k → has ends v ≡ true → NoneMade parts box c truth (λ b. AgreeBut free unbound b × (b name ≡ v))
+    -- with none of its nodes but those that are left
+    abbrev pub NoneBut : List ℕ → Type 0
+    NoneBut left = (v : ℕ) → v < nodes parts → has ends v ≡ true → (has left v ≡ true → ⊥) → NoneMade parts box c truth (λ b. AgreeBut free unbound b × (b name ≡ v))
 
     pub in_any : (none : ℕ → ℕ) (found : Bool) → none ≡ unbound → Finds parts box c truth (AgreeBut free none) found → Finds parts box c truth In found
     in_any none found is finds = finds_weaker parts box c truth In (AgreeBut free none) found (λ b are w. subst (λ a. AgreeBut free a b) (sym is) w.0) finds
 
-    pub in_start : NoneIn 0
-    in_start v l = absurd (omega (arith, l))
+    pub in_start : (all met left : List ℕ) → IsEvery (nodes parts) all → ((v : ℕ) → has met v ≡ (has all v && has ends v)) → left ≡ met → NoneBut left
+    in_start all met left every meets is v l there out = absurd (out (ap (λ s. has s v) is ∙ meets v ∙ and_from (has all v) (has ends v) ((every v).1 l) there))
 
-    pub in_skip : (node : ℕ) → NoneIn node → has ends node ≡ false → NoneIn (node + 1)
-    in_skip node so_far off v l there = elim (cases_eq v node) [
-      | inl same ↦ absurd (false≢true (sym off ∙ subst (λ k. has ends k ≡ true) same there))
-      | inr other ↦ so_far v (omega (arith, l, other)) there
-    ]
-
-    pub in_turn : (rest : List ℕ) (none here : ℕ → ℕ) (node : ℕ) (found : Bool) → ((n : ℕ) → has rest n ≡ (not (n == name) && has free n)) → none ≡ unbound → here ≡ bound none name node
-        → NoneIn node → found ≡ false → Finds parts box c truth (AgreeBut rest here) found → NoneIn (node + 1)
-    in_turn rest none here node found members is here_is so_far off finds v l there b are wanted makes = elim (cases_eq v node) [
+    pub in_turn : (rest left later : List ℕ) (none here : ℕ → ℕ) (node : ℕ) (found : Bool) → ((n : ℕ) → has rest n ≡ (not (n == name) && has free n)) → none ≡ unbound → here ≡ bound none name node
+        → left ≡ node ∷ later → NoneBut left → found ≡ false → Finds parts box c truth (AgreeBut rest here) found → NoneBut later
+    in_turn rest left later none here node found members is here_is at so_far off finds v l there out b are wanted makes = elim (cases_eq node v) [
       | inl same ↦ missed parts box c truth (AgreeBut rest here) found off finds b are
-          (agree_rest free rest unbound here b name node members (here_is ∙ ap (λ a. bound a name node) is) wanted.0 (wanted.1 ∙ same)) makes
-      | inr other ↦ so_far v (omega (arith, l, other)) there b are wanted makes
+          (agree_rest free rest unbound here b name node members (here_is ∙ ap (λ a. bound a name node) is) wanted.0 (wanted.1 ∙ sym same)) makes
+      | inr other ↦ so_far v l there (λ still. elim (head_or_tail left later node v at still) [ inl same ↦ other same | inr more ↦ out more ]) b are wanted makes
     ]
 
-    pub in_end : (k : ℕ) → nodes parts ≤ k → NoneIn k → has names name ≡ true → Finds parts box c truth In false
-    in_end k past so_far named = finds_no parts box c truth In (λ b are w makes. (let l = are name in so_far (b name) (omega (arith, l, past)) (w.1 named) b are (w.0, refl) makes))
+    pub in_end : (left : List ℕ) → left ≡ [] → NoneBut left → has names name ≡ true → Finds parts box c truth In false
+    in_end left empty so_far named = finds_no parts box c truth In (λ b are w makes. so_far (b name) (are name) (w.1 named) (λ still. no_member left (b name) empty still) b are (w.0, refl) makes)
 
   -- ---- paths that pass an edge
 

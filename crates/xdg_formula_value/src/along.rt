@@ -20,7 +20,7 @@ use crate::pair::only;
 use crate::paths::Paths;
 use crate::reach::reach_with;
 use crate::way::Way;
-use xdg_base::{DimId, NodeId};
+use xdg_base::DimId;
 use xdg_graph::{Which, node_count};
 use xdg_nodeset::NodeSet;
 use xdg_problem::{Edge, Formula};
@@ -46,16 +46,14 @@ fn found_within(
     ensures { Finds store.now.parts store.now.now (claim formula.now) truth
         (λ b. AgreeBut free unbound b × (has names name ≡ true → has ends (b name) ≡ true)) result }
 {
-    let size = node_count(store);
+    // Each store holds a sentence of at least one word.
+    let _ = node_count(store);
     if !is_named(names, name) {
         return found(store, paths, &none_bound(), free, formula, truth);
     }
     let rest = fewer(free, name);
-    for node in 0..size {
-        if !ends.contains(NodeId(node)) {
-            continue;
-        }
-        let here = bind(&none_bound(), name, node);
+    for node in paths.all.meet(&ends).iter() {
+        let here = bind(&none_bound(), name, node.0);
         if found(store, paths, &here, rest, formula, truth) {
             return true;
         }

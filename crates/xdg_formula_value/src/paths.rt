@@ -13,6 +13,7 @@ ghost use Rattle.xdg_formula_value.specs.Rows.{IsEvery, Over};
 ghost use Rattle.xdg_formula_value.specs.declared.way.Way.TheVariants as ways;
 
 use crate::reach::reach;
+use crate::rows::up_to;
 use crate::way::Way;
 use xdg_base::{DimId, NodeId};
 use xdg_graph::{Which, above, ancestors, node_count, set_at};
@@ -74,11 +75,7 @@ fn every_node(store: &Store) -> NodeSet
     ensures few { nodes store.now.parts ≤ 128 }
     ensures known { Known store.now }
 {
-    let mut all = NodeSet::empty();
-    for node in 0..node_count(store) {
-        all.insert(NodeId(node));
-    }
-    all
+    up_to(NodeId(node_count(store) - 1))
 }
 
 /// For each node those to which paths lead, one way.

@@ -1,8 +1,8 @@
 //! Nodes that are possible for a name, whatever a second name stands for.
 
-ghost use Rattle.std.specs.Prelude.{◌≡◌, ◌<◌, ℕ, true};
+ghost use Rattle.std.specs.Prelude.{◌≡◌, ◌<◌, ℕ, map, true};
 ghost use Rattle.xdg_nodeset.specs.Nodes.{has};
-ghost use Rattle.xdg_problem.specs.Claims.{IsOf, claim};
+ghost use Rattle.xdg_problem.specs.Claims.{EachIsOf, IsOf, claim, claims_of};
 ghost use Rattle.xdg_problem.specs.Places.{nodes};
 ghost use Rattle.xdg_problem.specs.Truths.{bound, HasTruth};
 ghost use Rattle.xdg_rules.specs.WorthLaws.{AreNodes};
@@ -10,11 +10,12 @@ ghost use Rattle.xdg_rules.specs.Worths.{Makes};
 ghost use Rattle.xdg_formula_value.specs.Filling.{ArePaths};
 ghost use Rattle.xdg_formula_value.specs.Pairs.{IsPairOf, Relates, edges_for};
 ghost use Rattle.xdg_formula_value.specs.Rows.{AreFirst, Bounds, stands};
+ghost use Rattle.xdg_formula_value.specs.Several.{MakesSeveral};
 
 use crate::atoms::{attr_row, feat_row};
 use crate::pair::{Pair, pair_row};
 use crate::paths::Paths;
-use crate::rows::{constant, joined};
+use crate::rows::{constant, joined, still_open};
 use xdg_nodeset::NodeSet;
 use xdg_problem::Formula;
 use xdg_store::Store;
@@ -72,91 +73,45 @@ pub(crate) fn possible_row(
 {
     match formula {
         Formula::Not(inner) => {
-            possible_row(
-                store,
-                paths,
-                binding,
-                name,
-                other,
-                inner.get(),
-                !truth,
-                care,
-            )
+            let part = inner.get();
+            possible_row(store, paths, binding, name, other, part, !truth, care)
         }
         Formula::And(parts) => {
-            let mut row = constant(truth);
-            for part in parts.as_slice() {
-                row = joined(
-                    truth,
-                    row,
-                    possible_row(store, paths, binding, name, other, part, truth, care),
-                );
-            }
-            row
+            let parts = parts.as_slice();
+            possible_joined(
+                store, paths, binding, name, other, parts, truth, truth, care,
+            )
         }
         Formula::Or(parts) => {
-            let mut row = constant(!truth);
-            for part in parts.as_slice() {
-                row = joined(
-                    !truth,
-                    row,
-                    possible_row(store, paths, binding, name, other, part, truth, care),
-                );
-            }
-            row
+            let parts = parts.as_slice();
+            possible_joined(
+                store, paths, binding, name, other, parts, truth, !truth, care,
+            )
         }
         Formula::Every(_, _) => constant(true),
         Formula::Any(_, _) => constant(true),
-        Formula::Edge(dim, mother, label, daughter) => {
+        Formula::Edge(dim, first, label, second) => {
+            let pair = Pair::Edge(*dim, *label);
             possible_pair(
-                store,
-                paths,
-                binding,
-                name,
-                other,
-                Pair::Edge(*dim, *label),
-                *mother,
-                *daughter,
-                truth,
+                store, paths, binding, name, other, pair, *first, *second, truth,
             )
         }
-        Formula::Above(dim, upper, lower) => {
+        Formula::Above(dim, first, second) => {
+            let pair = Pair::Path(*dim);
             possible_pair(
-                store,
-                paths,
-                binding,
-                name,
-                other,
-                Pair::Path(*dim),
-                *upper,
-                *lower,
-                truth,
+                store, paths, binding, name, other, pair, *first, *second, truth,
             )
         }
         Formula::Left(first, second) => {
+            let pair = Pair::Left;
             possible_pair(
-                store,
-                paths,
-                binding,
-                name,
-                other,
-                Pair::Left,
-                *first,
-                *second,
-                truth,
+                store, paths, binding, name, other, pair, *first, *second, truth,
             )
         }
         Formula::Same(first, second) => {
+            let pair = Pair::Same;
             possible_pair(
-                store,
-                paths,
-                binding,
-                name,
-                other,
-                Pair::Same,
-                *first,
-                *second,
-                truth,
+                store, paths, binding, name, other, pair, *first, *second, truth,
             )
         }
         Formula::Attr(node, dim, attr, value) => {
@@ -174,6 +129,40 @@ pub(crate) fn possible_row(
             feat_row(store, binding, name, *node, table, truth, care)
         }
     }
+}
+
+/// Of some nodes, at least those for which a name has to stand so that the box makes each of some formulas true, or false, or one or more of
+/// them, for some node for which a further name stands. It looks at a formula only where those before it leave something open.
+#[cycle(possible)]
+fn possible_joined(
+    store: &Store,
+    paths: &Paths,
+    binding: &[u8; 256],
+    name: u8,
+    other: u8,
+    formulas: &[Formula],
+    truth: bool,
+    each: bool,
+    care: NodeSet,
+) -> NodeSet
+    requires paths { ArePaths store.now paths.now }
+    requires are_of { EachIsOf store.now.parts (claims_of (map claim formulas.now)) }
+    requires nodes { AreNodes store.now.parts (stands binding.now) }
+    requires care { AreFirst (nodes store.now.parts) care }
+    ensures { Bounds care
+        (λ v node. MakesSeveral each store.now.parts store.now.now (claims_of (map claim formulas.now)) truth (bound (bound (stands binding.now) name v) other node))
+        result }
+{
+    let mut row = constant(each);
+    for formula in formulas {
+        let still = still_open(each, care, row);
+        if still.len() == 0 {
+            continue;
+        }
+        let here = possible_row(store, paths, binding, name, other, formula, truth, still);
+        row = joined(each, row, here);
+    }
+    row
 }
 
 /// The nodes that are possible for a second name, whatever the first one stands for, where the box is to make a formula true, or false.

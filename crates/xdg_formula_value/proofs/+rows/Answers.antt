@@ -31,11 +31,20 @@ quantified::quantified_row-loop-node-init t c = (
 )
 
 pub quantified::quantified_row-row_of-inside-requires : goal.quantified::quantified_row-row_of-inside-requires
-quantified::quantified_row-row_of-inside-requires t c = (search (rules, the_lemmas), (c.requires.paths, (c.requires.is_of, (
-  nodes_inside c.args.store.now.parts (stands c.args.binding.now) (stands c.rebind.new.binding) c.args.name c.in-Some.node.0 (rebound c.args.name c.in-Some.node.0 (stands c.args.binding.now) (stands c.loop-node.here) (stands c.rebind.new.binding) c.rebind.ensures c.loop-node.invariant.3) c.requires.nodes
-      (c.loop-node.invariant.2 c.in-Some.node.0 (head_in c.loop-node.node-iterator c.next.new.self c.in-Some.node.0 c.in-Some.ensures.steps)),
-  c.possible_second-second.ensures.first,
-))))
+quantified::quantified_row-row_of-inside-requires t c = (
+  search (rules, the_lemmas),
+  (
+    c.requires.paths,
+    (
+      c.requires.is_of,
+      (
+        nodes_inside c.args.store.now.parts (stands c.args.binding.now) (stands c.rebind.new.binding) c.args.name c.in-Some.node.0 (rebound c.args.name c.in-Some.node.0 (stands c.args.binding.now) (stands c.loop-node.here) (stands c.rebind.new.binding) c.rebind.ensures c.loop-node.invariant.3) c.requires.nodes
+            (c.loop-node.invariant.2 c.in-Some.node.0 (head_in c.loop-node.node-iterator c.next.new.self c.in-Some.node.0 c.in-Some.ensures.steps)),
+        c.possible_second-second.ensures.first,
+      ),
+    ),
+  ),
+)
 
 pub quantified::quantified_row-has_over-requires : goal.quantified::quantified_row-has_over-requires
 quantified::quantified_row-has_over-requires t c = search rules

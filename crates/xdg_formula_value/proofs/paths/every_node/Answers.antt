@@ -1,15 +1,10 @@
-use Rattle.std.proofs.Common.{◌≡◌, ap, arith, subst}
-use Rattle.xdg_nodeset.specs.Nodes.{has}
+use Rattle.std.proofs.Common.{arith}
 use Rattle.xdg_problem.specs.Places.{nodes}
-use Rattle.xdg_formula_value.specs.Rows.{IsEvery}
-use Rattle.xdg_formula_value.proofs.Overs.{every_none, every_more}
+use Rattle.xdg_formula_value.proofs.Overs.{every_up_to}
 use Rattle.xdg_formula_value.proofs.paths.every_node.Goals as goal
 
-pub loop-node-init : goal.loop-node-init
-loop-node-init c = every_none c.empty-all.result (λ v. ap (λ s. has s v) c.empty-all.ensures.value)
-
-pub loop-node-preserved : goal.loop-node-preserved
-loop-node-preserved c = every_more c.loop-node.node c.loop-node.all c.insert.new.self c.loop-node.invariant c.insert.ensures.members
+pub overflow_sub-node_count : goal.overflow_sub-node_count
+overflow_sub-node_count c = (let some = c.node_count.ensures.known.problem.some in let size = c.node_count.ensures.size in omega (arith, some, size))
 
 pub returns-clause-all : goal.returns-clause-all
-returns-clause-all c = (let count : c.loop-node.node ≡ nodes c.args.store.now.parts = (let past = c.loop-node-test.false in let end = c.loop-node.auto.node-end in let size = c.node_count-node-end.ensures.size in omega (arith, past, end, size)) in subst (λ k. IsEvery k c.loop-node.all) count c.loop-node.invariant)
+returns-clause-all c = every_up_to (nodes c.args.store.now.parts) _ c.up_to.result (let some = c.node_count.ensures.known.problem.some in let size = c.node_count.ensures.size in omega (arith, some, size)) c.up_to.ensures
