@@ -116,20 +116,23 @@ module _ (parts : Parts) (old box : List (List Bool)) (c : Claim) (truth : Bool)
     | inr other ↦ so_far (still on) i g (omega (arith, l, other))
   ]
 
+  -- names stand for what lets the decision concern one of some claims
+  abbrev pub TouchedSome : List Formula → (ℕ → ℕ) → Type 0
+  TouchedSome fs b = AgreeBut free unbound b × OnNames names (ConcernsSome parts old box d (claims_of (map claim fs))) b
+
   -- no part of a list is
-  touched_all : (fs items : List Formula) (k : ℕ) (none_there : Formula) → items ≡ fs → length items ≤ k → NoneTouched items k → NoneMade parts box c truth (λ b. AgreeBut free unbound b × OnNames names (ConcernsSome parts old box d (claims_of (map claim fs))) b)
-  touched_all fs items k none_there alike past none b are wanted makes =
-      let it = some_at parts old box d items wanted.1.0 none_there (subst (λ hs. ConcernsSome parts old box d (claims_of (map claim hs)) wanted.1.0) (sym alike) wanted.1.2) in
+  pub touched_end : (fs : List Formula) (k : ℕ) (none_there : Formula) → length fs ≤ k → NoneTouched fs k → Finds parts box c truth (TouchedSome fs) false
+  touched_end fs k none_there past none = finds_no parts box c truth (TouchedSome fs) (λ b are wanted makes. (
+      let it = some_at parts old box d fs wanted.1.0 none_there wanted.1.2 in
       let l = it.1 in
       none it.0 none_there (omega (arith, l, past)) b are (wanted.0, (wanted.1.0, wanted.1.1, it.2)) makes
+      ))
 
-  pub and_touched : (part : Formula) (fs items : List Formula) (k : ℕ) → part ≡ y.And fs → items ≡ fs → length items ≤ k → NoneTouched items k → Finds parts box c truth (Touched names (claim part)) false
-  and_touched part fs items k is alike past none = form_touched part (y.And fs) (conjunction (claims_of (map claim fs))) false is (claim_and fs)
-      (finds_no parts box c truth (Touched names (conjunction (claims_of (map claim fs)))) (touched_all fs items k part alike past none))
+  pub and_touched : (part : Formula) (fs items : List Formula) (found : Bool) → part ≡ y.And fs → items ≡ fs → Finds parts box c truth (TouchedSome items) found → Finds parts box c truth (Touched names (claim part)) found
+  and_touched part fs items found is alike finds = form_touched part (y.And fs) (conjunction (claims_of (map claim fs))) found is (claim_and fs) (subst (λ gs. Finds parts box c truth (TouchedSome gs) found) alike finds)
 
-  pub or_touched : (part : Formula) (fs items : List Formula) (k : ℕ) → part ≡ y.Or fs → items ≡ fs → length items ≤ k → NoneTouched items k → Finds parts box c truth (Touched names (claim part)) false
-  or_touched part fs items k is alike past none = form_touched part (y.Or fs) (disjunction (claims_of (map claim fs))) false is (claim_or fs)
-      (finds_no parts box c truth (Touched names (disjunction (claims_of (map claim fs)))) (touched_all fs items k part alike past none))
+  pub or_touched : (part : Formula) (fs items : List Formula) (found : Bool) → part ≡ y.Or fs → items ≡ fs → Finds parts box c truth (TouchedSome items) found → Finds parts box c truth (Touched names (claim part)) found
+  or_touched part fs items found is alike finds = form_touched part (y.Or fs) (disjunction (claims_of (map claim fs))) found is (claim_or fs) (subst (λ gs. Finds parts box c truth (TouchedSome gs) found) alike finds)
 
 -- ---- one decision
 

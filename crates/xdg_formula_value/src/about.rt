@@ -1,9 +1,9 @@
 //! What the loss of values can have changed: a formula is looked at only under bindings under which it looks at a decision that lost some.
 
-ghost use Rattle.std.specs.Prelude.{◌≡◌, ◌<◌, ◌↔◌, IfSome, IsTrue, true};
+ghost use Rattle.std.specs.Prelude.{◌≡◌, ◌<◌, ◌↔◌, IfSome, IsTrue, map, true};
 ghost use Rattle.xdg_nodeset.specs.Nodes.{has};
 ghost use Rattle.xdg_problem.specs.Analyses.{IsPlace};
-ghost use Rattle.xdg_problem.specs.Claims.{IsOf, claim};
+ghost use Rattle.xdg_problem.specs.Claims.{IsOf, claim, claims_of};
 ghost use Rattle.xdg_problem.specs.Places.{nodes};
 ghost use Rattle.xdg_problem.specs.Truths.{unbound};
 ghost use Rattle.xdg_rules.specs.WorthLaws.{AreNodes};
@@ -11,7 +11,7 @@ ghost use Rattle.xdg_rules.specs.Worths.{Makes};
 ghost use Rattle.xdg_store.specs.Decisions.{IsDecision};
 ghost use Rattle.xdg_propcore.specs.Standing.{box_at};
 ghost use Rattle.xdg_formula_value.specs.Filling.{ArePaths};
-ghost use Rattle.xdg_formula_value.specs.Lost.{AgreeBut, AsksIf, Concerns, Finds, HasEarlier, IsAttrOf, IsEdgeOf, IsEntryOf, LosesOne, OnNames, Seen};
+ghost use Rattle.xdg_formula_value.specs.Lost.{AgreeBut, AsksIf, Concerns, ConcernsSome, Finds, HasEarlier, IsAttrOf, IsEdgeOf, IsEntryOf, LosesOne, OnNames, Seen};
 ghost use Rattle.xdg_formula_value.specs.Rows.{stands};
 
 use crate::along::found_path;
@@ -255,67 +255,35 @@ fn found_about(
 {
     match part {
         Formula::Not(inner) => {
+            let body = inner.get();
             found_about(
-                store,
-                paths,
-                free,
-                names,
-                decision,
-                inner.get(),
-                formula,
-                truth,
-                since,
-                seen,
+                store, paths, free, names, decision, body, formula, truth, since, seen,
             )
         }
         Formula::And(parts) => {
-            for one in parts.as_slice() {
-                if found_about(
-                    store, paths, free, names, decision, one, formula, truth, since, seen,
-                ) {
-                    return true;
-                }
-            }
-            false
+            let parts = parts.as_slice();
+            found_among(
+                store, paths, free, names, decision, parts, formula, truth, since, seen,
+            )
         }
         Formula::Or(parts) => {
-            for one in parts.as_slice() {
-                if found_about(
-                    store, paths, free, names, decision, one, formula, truth, since, seen,
-                ) {
-                    return true;
-                }
-            }
-            false
+            let parts = parts.as_slice();
+            found_among(
+                store, paths, free, names, decision, parts, formula, truth, since, seen,
+            )
         }
         Formula::Every(name, inner) => {
+            let body = inner.get();
             let rest = outside(names, *name);
             found_about(
-                store,
-                paths,
-                free,
-                rest,
-                decision,
-                inner.get(),
-                formula,
-                truth,
-                since,
-                seen,
+                store, paths, free, rest, decision, body, formula, truth, since, seen,
             )
         }
         Formula::Any(name, inner) => {
+            let body = inner.get();
             let rest = outside(names, *name);
             found_about(
-                store,
-                paths,
-                free,
-                rest,
-                decision,
-                inner.get(),
-                formula,
-                truth,
-                since,
-                seen,
+                store, paths, free, rest, decision, body, formula, truth, since, seen,
             )
         }
         Formula::Edge(dim, mother, label, daughter) => {
@@ -341,6 +309,39 @@ fn found_about(
             found_entry(store, paths, free, names, decision, *name, formula, truth)
         }
     }
+}
+
+/// The same, where it is one of some parts that looks at the decision.
+#[cycle(about)]
+fn found_among(
+    store: &Store,
+    paths: &Paths,
+    free: NodeSet,
+    names: NodeSet,
+    decision: Decision,
+    parts: &[Formula],
+    formula: &Formula,
+    truth: bool,
+    since: Mark,
+    seen: &mut bool,
+) -> bool
+    requires paths { ArePaths store.now paths.now }
+    requires is_of { IsOf store.now.parts (claim formula.now) }
+    requires decision { IsDecision store.now.parts decision }
+    requires earlier { HasEarlier store.now since }
+    ensures seen { seen.new ≡ true → seen.old ≡ true }
+    ensures finds { Finds store.now.parts store.now.now (claim formula.now) truth
+        (Seen seen.new (λ b. AgreeBut free unbound b
+        × OnNames names (ConcernsSome store.now.parts (box_at store.now since) store.now.now decision (claims_of (map claim parts.now))) b)) result }
+{
+    for part in parts {
+        if found_about(
+            store, paths, free, names, decision, part, formula, truth, since, seen,
+        ) {
+            return true;
+        }
+    }
+    false
 }
 
 /// Whether some nodes for names let the box make a formula true, or false, where they didn't let an earlier box, or None where that wasn't
