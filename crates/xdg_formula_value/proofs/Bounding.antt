@@ -3,25 +3,22 @@ use Rattle.std.proofs.Common.{◌≡◌, ◌↔◌, ℕ, ◌+◌, ◌<◌, ◌�
 use Rattle.std.specs.Prelude.{not, ◌==◌}
 use Rattle.std.proofs.lemmas.Bool.{and_from, and_parts, cases_Bool, eqb-true, not_from_false}
 use Rattle.std.proofs.lemmas.List.{take_all}
-use Rattle.xdg_base.specs.declared.ids.AttrId.{AttrId}
 use Rattle.xdg_base.specs.declared.ids.DimId.{DimId}
 use Rattle.xdg_base.specs.declared.ids.LabelId.{LabelId}
 use Rattle.xdg_nodeset.specs.Nodes.{has}
 use Rattle.xdg_problem.specs.declared.formula.Formula.{Formula}
 use Rattle.xdg_problem.specs.declared.formula.Formula.TheVariants as y
 use Rattle.xdg_problem.specs.declared.parts.Parts.{Parts}
-use Rattle.xdg_problem.specs.Boxes.{attr_decision}
 use Rattle.xdg_problem.specs.Claims.{claims_of, claim}
 use Rattle.xdg_problem.specs.Places.{nodes}
-use Rattle.xdg_problem.specs.Truths.{bound, says, HasTruth}
-use Rattle.xdg_rules.specs.Rules.{EachEntry}
-use Rattle.xdg_rules.specs.Worths.{Makes, EachValue}
+use Rattle.xdg_problem.specs.Truths.{bound, HasTruth}
+use Rattle.xdg_rules.specs.Worths.{Makes}
 use Rattle.xdg_formula_value.specs.Pairs.{Relates, edges_for}
-use Rattle.xdg_formula_value.specs.Rows.{AreFirst, Bounds, IsEvery, IsRow, IsRowOn, Joined, open_in}
+use Rattle.xdg_formula_value.specs.Rows.{AreFirst, Bounds, IsEvery, IsRow, Joined, open_in}
 use Rattle.xdg_formula_value.specs.Several.{MakesSeveral}
 use Rattle.xdg_formula_value.specs.declared.pair.Pair.{Pair}
 use Rattle.xdg_formula_value.specs.declared.pair.Pair.TheVariants as pairs
-use Rattle.xdg_formula_value.proofs.Formed.{not_makes, and_several, or_several, edge_form, above_form, left_form, same_form, attr_form, feat_form}
+use Rattle.xdg_formula_value.proofs.Formed.{not_makes, and_several, or_several, edge_form, above_form, left_form, same_form}
 use Rattle.xdg_formula_value.proofs.Fronts.{several_more, several_none}
 use Rattle.xdg_formula_value.proofs.Rowed.{none_in}
 use Rattle.xdg_formula_value.proofs.Stood.{bound_else}
@@ -120,16 +117,6 @@ module _ (parts : Parts) (box : List (List Bool)) (truth : Bool) (b : ℕ → �
 
     pub same_bounds : (one two : ℕ) → formula ≡ y.Same one two → AreFirst (nodes parts) care → BoundsPair pairs.Same one two → Bounds care (Possible formula) set
     same_bounds one two is first pair v node within so = pair v node (first v within) ((same_form parts box truth (bound (bound b name v) other node) formula one two is).1 so)
-
-    pub attr_bounds : (at : ℕ) (dim : DimId) (attr : AttrId) (value : ℕ) → formula ≡ y.Attr at dim attr value → (at ≡ other → ⊥)
-        → IsRowOn care (λ v. EachValue box (attr_decision parts dim.0 (bound b name v at) attr.0) (λ x. HasTruth truth (x ≡ value))) set → Bounds care (Possible formula) set
-    attr_bounds at dim attr value is differ row v node within so = (row v within).1 (stays (λ k. EachValue box (attr_decision parts dim.0 k attr.0) (λ x. HasTruth truth (x ≡ value))) at v node differ
-        ((attr_form parts box truth (bound (bound b name v) other node) formula at dim attr value is).1 so))
-
-    pub feat_bounds : (at : ℕ) (table : List (List Bool)) → formula ≡ y.Feat at table → (at ≡ other → ⊥)
-        → IsRowOn care (λ v. EachEntry box (bound b name v at) (λ c. HasTruth truth (says table (bound b name v at) c ≡ true))) set → Bounds care (Possible formula) set
-    feat_bounds at table is differ row v node within so = (row v within).1 (stays (λ k. EachEntry box k (λ c. HasTruth truth (says table k c ≡ true))) at v node differ
-        ((feat_form parts box truth (bound (bound b name v) other node) formula at table is).1 so))
 
   -- ---- nodes that are possible for the second name
 

@@ -1,7 +1,6 @@
 -- What a box makes of a formula, form by form.
-use Rattle.std.proofs.Common.{◌≡◌, ◌↔◌, ℕ, ◌≤◌, Bool, true, false, List, length, map, take, sym, ap, ◌∙◌, subst}
+use Rattle.std.proofs.Common.{◌≡◌, ◌↔◌, ℕ, Bool, true, false, List, map, sym, ap, ◌∙◌, subst}
 use Rattle.std.specs.Prelude.{not}
-use Rattle.std.proofs.lemmas.List.{take_all}
 use Rattle.xdg_base.specs.declared.ids.AttrId.{AttrId}
 use Rattle.xdg_base.specs.declared.ids.DimId.{DimId}
 use Rattle.xdg_base.specs.declared.ids.LabelId.{LabelId}
@@ -69,12 +68,6 @@ module _ (parts : Parts) (box : List (List Bool)) (truth : Bool) (b : ℕ → �
 
     pub not_makes : (f g : Formula) → formula ≡ y.Not f → g ≡ f → Makes parts box (claim g) (not truth) b ↔ Makes parts box (claim formula) truth b
     not_makes f g is alike = form_makes (y.Not f) (negation (claim g)) is (claim_not f ∙ ap (λ h. negation (claim h)) (sym alike))
-
-    pub and_makes : (fs items : List Formula) (i : ℕ) → formula ≡ y.And fs → items ≡ fs → length items ≤ i → Makes parts box (conjunction (claims_of (map claim (take i items)))) truth b ↔ Makes parts box (claim formula) truth b
-    and_makes fs items i is alike past = form_makes (y.And fs) (conjunction (claims_of (map claim (take i items)))) is (claim_and fs ∙ ap (λ hs. conjunction (claims_of (map claim hs))) (sym (take_all i items past ∙ alike)))
-
-    pub or_makes : (fs items : List Formula) (i : ℕ) → formula ≡ y.Or fs → items ≡ fs → length items ≤ i → Makes parts box (disjunction (claims_of (map claim (take i items)))) truth b ↔ Makes parts box (claim formula) truth b
-    or_makes fs items i is alike past = form_makes (y.Or fs) (disjunction (claims_of (map claim (take i items)))) is (claim_or fs ∙ ap (λ hs. disjunction (claims_of (map claim hs))) (sym (take_all i items past ∙ alike)))
 
     pub and_several : (fs items : List Formula) → formula ≡ y.And fs → items ≡ fs → MakesSeveral truth parts box (claims_of (map claim items)) truth b ↔ Makes parts box (claim formula) truth b
     and_several fs items is alike = both_steps (and_over parts box b truth (claims_of (map claim items))) (form_makes (y.And fs) (conjunction (claims_of (map claim items))) is (claim_and fs ∙ ap (λ hs. conjunction (claims_of (map claim hs))) (sym alike)))

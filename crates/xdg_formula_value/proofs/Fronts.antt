@@ -41,21 +41,7 @@ module _ (parts : Parts) (box : List (List Bool)) (b : ℕ → ℕ) where
   several_split true truth cs c = (let split = each_split truth cs c in (split.1, split.0))
   several_split false truth cs c = (let split = some_split truth cs c in (split.1, split.0))
 
-  and_split : (truth : Bool) (cs : List Claim) (c : Claim) → Joined truth (Makes parts box (conjunction (claims_of cs)) truth b) (Makes parts box c truth b) ↔ Makes parts box (conjunction (claims_of (cs ++ c ∷ []))) truth b
-  and_split true cs c = (let split = each_split true cs c in (split.1, split.0))
-  and_split false cs c = (let split = some_split false cs c in (split.1, split.0))
-
-  or_split : (truth : Bool) (cs : List Claim) (c : Claim) → Joined (not truth) (Makes parts box (disjunction (claims_of cs)) truth b) (Makes parts box c truth b) ↔ Makes parts box (disjunction (claims_of (cs ++ c ∷ []))) truth b
-  or_split true cs c = (let split = some_split true cs c in (split.1, split.0))
-  or_split false cs c = (let split = each_split false cs c in (split.1, split.0))
-
   -- the first parts, and one more
-  pub and_more : (truth : Bool) (fs : List Formula) (i : ℕ) (f : Formula) → i < length fs → f ≡ get_or fs i f → Joined truth (Makes parts box (conjunction (claims_of (map claim (take i fs)))) truth b) (Makes parts box (claim f) truth b) ↔ Makes parts box (conjunction (claims_of (map claim (take (i + 1) fs)))) truth b
-  and_more truth fs i f l is = subst (λ cs. Joined truth (Makes parts box (conjunction (claims_of (map claim (take i fs)))) truth b) (Makes parts box (claim f) truth b) ↔ Makes parts box (conjunction (claims_of cs)) truth b) (sym (front_more fs i f l is)) (and_split truth (map claim (take i fs)) (claim f))
-
-  pub or_more : (truth : Bool) (fs : List Formula) (i : ℕ) (f : Formula) → i < length fs → f ≡ get_or fs i f → Joined (not truth) (Makes parts box (disjunction (claims_of (map claim (take i fs)))) truth b) (Makes parts box (claim f) truth b) ↔ Makes parts box (disjunction (claims_of (map claim (take (i + 1) fs)))) truth b
-  or_more truth fs i f l is = subst (λ cs. Joined (not truth) (Makes parts box (disjunction (claims_of (map claim (take i fs)))) truth b) (Makes parts box (claim f) truth b) ↔ Makes parts box (disjunction (claims_of cs)) truth b) (sym (front_more fs i f l is)) (or_split truth (map claim (take i fs)) (claim f))
-
   pub several_more : (truth each : Bool) (fs : List Formula) (i : ℕ) (f : Formula) → i < length fs → f ≡ get_or fs i f → Joined each (MakesSeveral each parts box (claims_of (map claim (take i fs))) truth b) (Makes parts box (claim f) truth b) ↔ MakesSeveral each parts box (claims_of (map claim (take (i + 1) fs))) truth b
   several_more truth each fs i f l is = subst (λ cs. Joined each (MakesSeveral each parts box (claims_of (map claim (take i fs))) truth b) (Makes parts box (claim f) truth b) ↔ MakesSeveral each parts box (claims_of cs) truth b) (sym (front_more fs i f l is)) (several_split each truth (map claim (take i fs)) (claim f))
 
@@ -63,14 +49,6 @@ module _ (parts : Parts) (box : List (List Bool)) (b : ℕ → ℕ) where
   pub several_none : (truth each : Bool) → (each ≡ true) ↔ MakesSeveral each parts box none truth b
   several_none truth true = (λ h. tt, λ h. refl)
   several_none truth false = (λ h. false≢true h, λ h. absurd h)
-
-  pub and_none : (truth : Bool) → (truth ≡ true) ↔ Makes parts box (conjunction none) truth b
-  and_none true = (λ h. tt, λ h. refl)
-  and_none false = (λ h. false≢true h, λ h. absurd h)
-
-  pub or_none : (truth : Bool) → (not truth ≡ true) ↔ Makes parts box (disjunction none) truth b
-  or_none true = (λ h. false≢true h, λ h. absurd h)
-  or_none false = (λ h. tt, λ h. refl)
 
   -- all parts
   pub and_over : (truth : Bool) (cs : Claims) → MakesSeveral truth parts box cs truth b ↔ Makes parts box (conjunction cs) truth b

@@ -1,5 +1,5 @@
 -- What is so where formulas ask for paths, form by form.
-use Rattle.std.proofs.Common.{◌≡◌, ℕ, ◌+◌, ◌<◌, ◌≤◌, Bool, List, [], ◌∷◌, ◌++◌, length, map, take, get_or, sym, ◌∙◌, subst}
+use Rattle.std.proofs.Common.{◌≡◌, ℕ, ◌+◌, ◌<◌, ◌≤◌, Bool, List, [], ◌∷◌, ◌++◌, length, map, take, get_or, sym, subst}
 use Rattle.std.proofs.lemmas.List.{take_all}
 use Rattle.xdg_base.specs.declared.ids.AttrId.{AttrId}
 use Rattle.xdg_base.specs.declared.ids.DimId.{DimId}
@@ -26,6 +26,9 @@ module _ (P : Type 0) where
   pub asks_more : (fs : List Formula) (i : ℕ) (f : Formula) → i < length fs → f ≡ get_or fs i f → AllAskIf (take i fs) → AsksIf P (claim f) → AllAskIf (take (i + 1) fs)
   asks_more fs i f l is each one = subst (λ cs. EachAsksIf P (claims_of cs)) (sym (front_more fs i f l is)) (each_and (map claim (take i fs)) (claim f) each one)
 
+  pub asks_end : (fs : List Formula) (i : ℕ) → length fs ≤ i → AllAskIf (take i fs) → AllAskIf fs
+  asks_end fs i past each = subst AllAskIf (take_all i fs past) each
+
   module _ (formula : Formula) where
     form_asks : (form : Formula) (c : Claim) → formula ≡ form → claim form ≡ c → AsksIf P c → AsksIf P (claim formula)
     form_asks form c is claims asks = subst (λ f. AsksIf P (claim f)) (sym is) (subst (AsksIf P) (sym claims) asks)
@@ -39,11 +42,11 @@ module _ (P : Type 0) where
     pub any_asks : (name : ℕ) (f g : Formula) → formula ≡ y.Any name f → g ≡ f → AsksIf P (claim g) → AsksIf P (claim formula)
     any_asks name f g is alike asks = form_asks (y.Any name f) (some name (claim f)) is (claim_any name f) (subst (λ h. AsksIf P (claim h)) alike asks)
 
-    pub and_asks : (fs items : List Formula) (i : ℕ) → formula ≡ y.And fs → items ≡ fs → length items ≤ i → AllAskIf (take i items) → AsksIf P (claim formula)
-    and_asks fs items i is alike past each = form_asks (y.And fs) (conjunction (claims_of (map claim fs))) is (claim_and fs) (subst AllAskIf (take_all i items past ∙ alike) each)
+    pub and_asks : (fs items : List Formula) → formula ≡ y.And fs → items ≡ fs → AllAskIf items → AsksIf P (claim formula)
+    and_asks fs items is alike each = form_asks (y.And fs) (conjunction (claims_of (map claim fs))) is (claim_and fs) (subst AllAskIf alike each)
 
-    pub or_asks : (fs items : List Formula) (i : ℕ) → formula ≡ y.Or fs → items ≡ fs → length items ≤ i → AllAskIf (take i items) → AsksIf P (claim formula)
-    or_asks fs items i is alike past each = form_asks (y.Or fs) (disjunction (claims_of (map claim fs))) is (claim_or fs) (subst AllAskIf (take_all i items past ∙ alike) each)
+    pub or_asks : (fs items : List Formula) → formula ≡ y.Or fs → items ≡ fs → AllAskIf items → AsksIf P (claim formula)
+    or_asks fs items is alike each = form_asks (y.Or fs) (disjunction (claims_of (map claim fs))) is (claim_or fs) (subst AllAskIf alike each)
 
     pub above_asks : (dim : DimId) (upper lower : ℕ) → formula ≡ y.Above dim upper lower → P → AsksIf P (claim formula)
     above_asks dim upper lower is asked = form_asks (y.Above dim upper lower) (above dim.0 upper lower) is (claim_above dim upper lower) asked

@@ -14,13 +14,6 @@ none_in (m ∷ s) v none there = omega (arith, none)
 
 -- ---- two together
 
-pub joined_like : (both : Bool) (P Q A B : Type 0) → P ↔ A → Q ↔ B → Joined both P Q ↔ Joined both A B
-joined_like true P Q A B p q = (λ h. (p.0 h.0, q.0 h.1), λ h. (p.1 h.0, q.1 h.1))
-joined_like false P Q A B p q = (
-  λ h. elim h [ inl x ↦ inl (p.0 x) | inr y ↦ inr (q.0 y) ],
-  λ h. elim h [ inl x ↦ inl (p.1 x) | inr y ↦ inr (q.1 y) ],
-)
-
 -- two rows, the second of which is right where it still matters
 pub row_more : (both : Bool) (care still : List ℕ) (P Q R : ℕ → Type 0) (old part new : List ℕ) → IsRowOn care P old → ((v : ℕ) → has still v ≡ open_in both care old v) → IsRowOn still Q part → ((v : ℕ) → (has new v ≡ true) ↔ Joined both (has old v ≡ true) (has part v ≡ true)) → ((v : ℕ) → Joined both (P v) (Q v) ↔ R v) → IsRowOn care R new
 row_more true care still P Q R old part new first open_is second is like v within =

@@ -1,49 +1,66 @@
 -- What a box makes of a formula under one binding, form by form.
-use Rattle.std.proofs.Common.{◌≡◌, ◌↔◌, ℕ, ◌+◌, ◌<◌, ◌≤◌, IsTrue, Bool, true, List, length, map, take, get_or, sym, ◌∙◌, ap, subst}
+use Rattle.std.proofs.Common.{◌≡◌, ◌↔◌, ℕ, ◌+◌, ◌<◌, ◌≤◌, IsTrue, inl, inr, Bool, true, false, List, length, map, take, get_or, refl, sym, ◌∙◌, ap, subst}
 use Rattle.std.specs.Prelude.{not}
+use Rattle.std.proofs.lemmas.Bool.{false≢true}
+use Rattle.std.proofs.lemmas.List.{take_all}
 use Rattle.xdg_nodeset.specs.Nodes.{has}
 use Rattle.xdg_problem.specs.declared.formula.Formula.{Formula}
 use Rattle.xdg_problem.specs.declared.formula.Formula.TheVariants as y
 use Rattle.xdg_problem.specs.declared.parts.Parts.{Parts}
-use Rattle.xdg_problem.specs.Claims.{conjunction, disjunction, claims_of, claim}
+use Rattle.xdg_problem.specs.Claims.{claims_of, claim}
 use Rattle.xdg_problem.specs.Places.{nodes}
 use Rattle.xdg_problem.specs.Truths.{bound}
 use Rattle.xdg_rules.specs.WorthLaws.{AreNodes}
 use Rattle.xdg_rules.specs.Worths.{Makes}
 use Rattle.xdg_formula_value.specs.Rows.{IsEvery, IsRowOn, Joined, Over}
-use Rattle.xdg_formula_value.proofs.Formed.{not_makes, and_makes, or_makes, every_makes, any_makes}
-use Rattle.xdg_formula_value.proofs.Fronts.{and_more, and_none, or_more, or_none}
-use Rattle.xdg_formula_value.proofs.Rowed.{joined_like, over_told}
+use Rattle.xdg_formula_value.specs.Several.{MakesSeveral}
+use Rattle.xdg_formula_value.proofs.Formed.{not_makes, and_several, or_several, every_makes, any_makes}
+use Rattle.xdg_formula_value.proofs.Fronts.{several_more, several_none}
+use Rattle.xdg_formula_value.proofs.Rowed.{over_told}
 use Rattle.xdg_formula_value.proofs.Stood.{bound_back}
 use Rattle.xdg_facts.proofs.Facts.{both_steps}
+
+-- where what is known so far decides of two together
+decided : (each so_far : Bool) (P Q : Type 0) → (so_far ≡ each → ⊥) → (so_far ≡ true) ↔ P → (so_far ≡ true) ↔ Joined each P Q
+decided true so_far P Q other told = (λ on. absurd (other on), λ both. absurd (other (told.1 both.0)))
+decided false true P Q other told = (λ on. inl (told.0 on), λ one. refl)
+decided false false P Q other told = absurd (other refl)
+
+-- and where the second one does
+undecided : (each so_far here : Bool) (P Q : Type 0) → so_far ≡ each → (so_far ≡ true) ↔ P → IsTrue here ↔ Q → (here ≡ true) ↔ Joined each P Q
+undecided true so_far here P Q still told now = (λ on. (told.0 still, now.0 on), λ both. now.1 both.1)
+undecided false so_far here P Q still told now = (
+  λ on. inr (now.0 on),
+  λ one. elim one [ inl before ↦ absurd (false≢true (sym still ∙ told.1 before)) | inr second ↦ now.1 second ],
+)
 
 module _ (parts : Parts) (box : List (List Bool)) (truth : Bool) (b : ℕ → ℕ) where
   pub not_told : (formula f g : Formula) (result : Bool) → formula ≡ y.Not f → g ≡ f → IsTrue result ↔ Makes parts box (claim g) (not truth) b → IsTrue result ↔ Makes parts box (claim formula) truth b
   not_told formula f g result is alike told = both_steps told (not_makes parts box truth b formula f g is alike)
 
-  abbrev pub AllSo : List Formula → Type 0
-  AllSo fs = Makes parts box (conjunction (claims_of (map claim fs))) truth b
+  module _ (each : Bool) where
+    -- the box makes each of some formulas so, or one or more of them
+    abbrev pub SeveralMade : List Formula → Type 0
+    SeveralMade fs = MakesSeveral each parts box (claims_of (map claim fs)) truth b
 
-  abbrev pub SomeSo : List Formula → Type 0
-  SomeSo fs = Makes parts box (disjunction (claims_of (map claim fs))) truth b
+    pub several_start : (fs : List Formula) → (each ≡ true) ↔ SeveralMade (take 0 fs)
+    several_start fs = several_none parts box b truth each
 
-  pub and_start : (fs : List Formula) → (truth ≡ true) ↔ AllSo (take 0 fs)
-  and_start fs = and_none parts box b truth
+    module _ (fs : List Formula) (i : ℕ) (f : Formula) (so_far : Bool) (l : i < length fs) (is : f ≡ get_or fs i f) (told : (so_far ≡ true) ↔ SeveralMade (take i fs)) where
+      pub several_skip : (so_far ≡ each → ⊥) → (so_far ≡ true) ↔ SeveralMade (take (i + 1) fs)
+      several_skip other = both_steps (decided each so_far (SeveralMade (take i fs)) (Makes parts box (claim f) truth b) other told) (several_more parts box b truth each fs i f l is)
 
-  pub or_start : (fs : List Formula) → (not truth ≡ true) ↔ SomeSo (take 0 fs)
-  or_start fs = or_none parts box b truth
+      pub several_turn : (here : Bool) → so_far ≡ each → IsTrue here ↔ Makes parts box (claim f) truth b → (here ≡ true) ↔ SeveralMade (take (i + 1) fs)
+      several_turn here still now = both_steps (undecided each so_far here (SeveralMade (take i fs)) (Makes parts box (claim f) truth b) still told now) (several_more parts box b truth each fs i f l is)
 
-  pub and_turn : (fs : List Formula) (i : ℕ) (f : Formula) (old here new : Bool) → i < length fs → f ≡ get_or fs i f → (old ≡ true) ↔ AllSo (take i fs) → IsTrue here ↔ Makes parts box (claim f) truth b → (new ≡ true) ↔ Joined truth (old ≡ true) (here ≡ true) → (new ≡ true) ↔ AllSo (take (i + 1) fs)
-  and_turn fs i f old here new l is so_far told joined = both_steps joined (both_steps (joined_like truth (old ≡ true) (here ≡ true) (AllSo (take i fs)) (Makes parts box (claim f) truth b) so_far told) (and_more parts box b truth fs i f l is))
+    pub several_end : (fs : List Formula) (i : ℕ) (result : Bool) → length fs ≤ i → (result ≡ true) ↔ SeveralMade (take i fs) → IsTrue result ↔ SeveralMade fs
+    several_end fs i result past told = subst (λ gs. IsTrue result ↔ SeveralMade gs) (take_all i fs past) told
 
-  pub or_turn : (fs : List Formula) (i : ℕ) (f : Formula) (old here new : Bool) → i < length fs → f ≡ get_or fs i f → (old ≡ true) ↔ SomeSo (take i fs) → IsTrue here ↔ Makes parts box (claim f) truth b → (new ≡ true) ↔ Joined (not truth) (old ≡ true) (here ≡ true) → (new ≡ true) ↔ SomeSo (take (i + 1) fs)
-  or_turn fs i f old here new l is so_far told joined = both_steps joined (both_steps (joined_like (not truth) (old ≡ true) (here ≡ true) (SomeSo (take i fs)) (Makes parts box (claim f) truth b) so_far told) (or_more parts box b truth fs i f l is))
+  pub and_told : (formula : Formula) (fs items : List Formula) (result : Bool) → formula ≡ y.And fs → items ≡ fs → IsTrue result ↔ SeveralMade truth items → IsTrue result ↔ Makes parts box (claim formula) truth b
+  and_told formula fs items result is alike told = both_steps told (and_several parts box truth b formula fs items is alike)
 
-  pub and_end : (formula : Formula) (fs items : List Formula) (i : ℕ) (result : Bool) → formula ≡ y.And fs → items ≡ fs → length items ≤ i → (result ≡ true) ↔ AllSo (take i items) → IsTrue result ↔ Makes parts box (claim formula) truth b
-  and_end formula fs items i result is alike past told = both_steps told (and_makes parts box truth b formula fs items i is alike past)
-
-  pub or_end : (formula : Formula) (fs items : List Formula) (i : ℕ) (result : Bool) → formula ≡ y.Or fs → items ≡ fs → length items ≤ i → (result ≡ true) ↔ SomeSo (take i items) → IsTrue result ↔ Makes parts box (claim formula) truth b
-  or_end formula fs items i result is alike past told = both_steps told (or_makes parts box truth b formula fs items i is alike past)
+  pub or_told : (formula : Formula) (fs items : List Formula) (result : Bool) → formula ≡ y.Or fs → items ≡ fs → IsTrue result ↔ SeveralMade (not truth) items → IsTrue result ↔ Makes parts box (claim formula) truth b
+  or_told formula fs items result is alike told = both_steps told (or_several parts box truth b formula fs items is alike)
 
   module _ (formula f g : Formula) (name : ℕ) (alike : g ≡ f) (all row : List ℕ) (holds : Bool) (size : ℕ) (every : IsEvery (nodes parts) all) (size_is : size ≡ nodes parts) (row_is : IsRowOn all (λ v. Makes parts box (claim g) truth (bound b name v)) row) where
     pub every_told : formula ≡ y.Every name f → IsTrue holds ↔ Over truth size (λ v. has row v ≡ true) → IsTrue holds ↔ Makes parts box (claim formula) truth b

@@ -11,7 +11,8 @@ ghost use Rattle.xdg_rules.specs.Worths.{Makes};
 ghost use Rattle.xdg_store.specs.Decisions.{IsDecision};
 ghost use Rattle.xdg_propcore.specs.Standing.{box_at};
 ghost use Rattle.xdg_formula_value.specs.Filling.{ArePaths};
-ghost use Rattle.xdg_formula_value.specs.Lost.{AgreeBut, AsksIf, Concerns, ConcernsSome, Finds, HasEarlier, IsAttrOf, IsEdgeOf, IsEntryOf, LosesOne, OnNames, Seen};
+ghost use Rattle.xdg_formula_value.specs.Lost.{AgreeBut, AsksIf, Concerns, ConcernsSome, Finds, HasEarlier, LosesOne, OnNames, Seen};
+ghost use Rattle.xdg_formula_value.specs.Lost.{IsAttrOf, IsEdgeOf, IsEntryOf};
 ghost use Rattle.xdg_formula_value.specs.Rows.{stands};
 
 use crate::along::found_path;

@@ -1,9 +1,9 @@
 //! Formulas that are looked at only where values were lost.
 
-ghost use Rattle.std.specs.Prelude.{IsTrue};
-ghost use Rattle.xdg_problem.specs.Claims.{claim};
+ghost use Rattle.std.specs.Prelude.{IsTrue, map};
+ghost use Rattle.xdg_problem.specs.Claims.{claim, claims_of};
 ghost use Rattle.xdg_propcore.specs.Standing.{box_at};
-ghost use Rattle.xdg_formula_value.specs.Lost.{AsksIf, HasEarlier, LosesOne};
+ghost use Rattle.xdg_formula_value.specs.Lost.{AsksIf, EachAsksIf, HasEarlier, LosesOne};
 
 use crate::kept::are_paths_kept;
 use crate::names::{is_named, outside};
@@ -52,22 +52,8 @@ pub(crate) fn is_local(store: &Store, names: NodeSet, formula: &Formula, since: 
 {
     match formula {
         Formula::Not(inner) => is_local(store, names, inner.get(), since),
-        Formula::And(parts) => {
-            for part in parts.as_slice() {
-                if !is_local(store, names, part, since) {
-                    return false;
-                }
-            }
-            true
-        }
-        Formula::Or(parts) => {
-            for part in parts.as_slice() {
-                if !is_local(store, names, part, since) {
-                    return false;
-                }
-            }
-            true
-        }
+        Formula::And(parts) => are_local(store, names, parts.as_slice(), since),
+        Formula::Or(parts) => are_local(store, names, parts.as_slice(), since),
         Formula::Every(name, inner) => {
             if !is_single(store, since) {
                 return false;
@@ -91,4 +77,18 @@ pub(crate) fn is_local(store: &Store, names: NodeSet, formula: &Formula, since: 
         Formula::Attr(name, _, _, _) => is_named(names, *name),
         Formula::Feat(name, _) => is_named(names, *name),
     }
+}
+
+/// The same of each of some formulas.
+#[cycle(local)]
+fn are_local(store: &Store, names: NodeSet, formulas: &[Formula], since: Mark) -> bool
+    requires earlier { HasEarlier store.now since }
+    ensures { IsTrue result → EachAsksIf (LosesOne store.now.parts (box_at store.now since) store.now.now) (claims_of (map claim formulas.now)) }
+{
+    for formula in formulas {
+        if !is_local(store, names, formula, since) {
+            return false;
+        }
+    }
+    true
 }

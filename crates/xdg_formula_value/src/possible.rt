@@ -150,7 +150,8 @@ fn possible_joined(
     requires nodes { AreNodes store.now.parts (stands binding.now) }
     requires care { AreFirst (nodes store.now.parts) care }
     ensures { Bounds care
-        (λ v node. MakesSeveral each store.now.parts store.now.now (claims_of (map claim formulas.now)) truth (bound (bound (stands binding.now) name v) other node))
+        (λ v node. MakesSeveral each store.now.parts store.now.now (claims_of (map claim formulas.now)) truth
+        (bound (bound (stands binding.now) name v) other node))
         result }
 {
     let mut row = constant(each);

@@ -77,13 +77,3 @@ pub(crate) fn joined(both: bool, a: NodeSet, b: NodeSet) -> NodeSet
     }
     a.union(&b)
 }
-
-/// Both, or either.
-pub(crate) fn joined_truths(both: bool, a: bool, b: bool) -> bool
-    ensures { (result ≡ true) ↔ Joined both (a ≡ true) (b ≡ true) }
-{
-    if both {
-        return a && b;
-    }
-    a || b
-}

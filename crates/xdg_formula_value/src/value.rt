@@ -16,7 +16,7 @@ use crate::binding::{node_of, none_bound};
 use crate::pair::{Pair, pair_row};
 use crate::paths::{Paths, dims_asked, tables_of};
 use crate::quantified::quantified_row;
-use crate::rows::{constant, joined, joined_truths, still_open};
+use crate::rows::{constant, joined, still_open};
 use crate::way::Way;
 use xdg_graph::node_count;
 use xdg_nodeset::NodeSet;
@@ -136,18 +136,12 @@ pub(crate) fn makes(
     match formula {
         Formula::Not(inner) => makes(store, paths, binding, inner.get(), !truth),
         Formula::And(parts) => {
-            let mut so_far = truth;
-            for part in parts.as_slice() {
-                so_far = joined_truths(truth, so_far, makes(store, paths, binding, part, truth));
-            }
-            so_far
+            let parts = parts.as_slice();
+            makes_joined(store, paths, binding, parts, truth, truth)
         }
         Formula::Or(parts) => {
-            let mut so_far = !truth;
-            for part in parts.as_slice() {
-                so_far = joined_truths(!truth, so_far, makes(store, paths, binding, part, truth));
-            }
-            so_far
+            let parts = parts.as_slice();
+            makes_joined(store, paths, binding, parts, truth, !truth)
         }
         Formula::Every(name, inner) => {
             let row = row_of(store, paths, binding, *name, inner.get(), truth, all);
@@ -162,6 +156,32 @@ pub(crate) fn makes(
             row.contains(node_of(binding, 0))
         }
     }
+}
+
+/// Whether the box makes each of some formulas true, or false, under a binding of names to nodes, or one or more of them. It looks at none
+/// behind the one that decides.
+#[cycle(whole)]
+fn makes_joined(
+    store: &Store,
+    paths: &Paths,
+    binding: &[u8; 256],
+    formulas: &[Formula],
+    truth: bool,
+    each: bool,
+) -> bool
+    requires paths { ArePaths store.now paths.now }
+    requires are_of { EachIsOf store.now.parts (claims_of (map claim formulas.now)) }
+    requires nodes { AreNodes store.now.parts (stands binding.now) }
+    ensures { IsTrue result ↔ MakesSeveral each store.now.parts store.now.now (claims_of (map claim formulas.now)) truth (stands binding.now) }
+{
+    let mut so_far = each;
+    for formula in formulas {
+        if so_far != each {
+            continue;
+        }
+        so_far = makes(store, paths, binding, formula, truth);
+    }
+    so_far
 }
 
 /// Whether a formula is false in the box of a store, whatever else is decided. The paths in it are given.
