@@ -146,12 +146,9 @@ module _ (checked : Parts) (whole : Body) (frames : List Frame) (scope : Scope) 
 
 -- ---- going out of a conjunction
 
--- joins of lists that were lent
-pub joins_told : (lent dims : List DimType) (a made b joined new : List Partial) → lent ≡ dims → a ≡ made → b ≡ joined → JoinsAll lent a b new → ArePartial lent new → JoinsAll dims made joined new × ArePartial dims new
-joins_told lent dims a made b joined new same one other joins right = (
-  subst (λ ds. JoinsAll ds made joined new) same (subst (λ l. JoinsAll lent l joined new) one (subst (λ l. JoinsAll lent a l new) other joins)),
-  subst (λ ds. ArePartial ds new) same right,
-)
+-- joins by dimensions that were lent
+pub joins_told : (lent dims : List DimType) (made joined new : List Partial) → lent ≡ dims → JoinsAll lent made joined new → ArePartial lent new → JoinsAll dims made joined new × ArePartial dims new
+joins_told lent dims made joined new same joins right = (subst (λ ds. JoinsAll ds made joined new) same joins, subst (λ ds. ArePartial ds new) same right)
 
 module _ (checked : Parts) (whole : Body) (frames : List Frame) (scope : Scope) (items : List Expr) (place : ℕ) (joined made new : List Partial) (b : Body) (d : Denotes checked.types.dims (named_bodies checked.classes) scope.bindings b made)
     (l : IsJoining checked scope items place joined b) (around : IsOpen checked whole frames scope (both (trees items))) (joins : JoinsAll checked.types.dims made joined new) (right : ArePartial checked.types.dims new) where

@@ -1,6 +1,6 @@
 -- Lists of joins, made one by one.
-use Rattle.std.proofs.Common.{◌≡◌, ℕ, zero, suc, ◌<◌, ◌≤◌, ◌+◌, List, [], ◌∷◌, ◌++◌, length, take, get_or, refl, ap, ap₂, sym, ◌∙◌, arith, subst, append_assoc}
-use Rattle.std.specs.Prelude.{Option, None, Some, MatchOption}
+use Rattle.std.proofs.Common.{◌≡◌, ℕ, zero, suc, ◌<◌, ◌≤◌, ◌+◌, List, [], ◌∷◌, ◌++◌, length, take, get_or, refl, ap, ap₂, sym, ◌∙◌, arith, subst, append_assoc, length-append}
+use Rattle.std.specs.Prelude.{Option, None, Some, MatchOption, option_to_list}
 use Rattle.std.proofs.lemmas.List.{take_more, take_all}
 use Rattle.xdg_domain.proofs.Merging.{append_nothing}
 use Rattle.xdg_types.specs.declared.table.DimType.{DimType}
@@ -83,3 +83,31 @@ module _ (dims : List DimType) (m n x : Partial) (told : Option Partial) (same :
 
   pub told_join : (k : Partial) → told ≡ Some k → PartialsJoin dims m n k × IsPartial dims k
   told_join k some = subst (λ y. PartialsJoin dims m y k × IsPartial dims k) same (subst (λ t. MatchOption t (PartialsClash dims m x) (λ k. PartialsJoin dims m x k × IsPartial dims k)) some h)
+
+-- ---- one with one
+
+only_rest : (rest : List Partial) (p : Partial) → length (rest ++ p ∷ []) ≡ 1 → rest ≡ []
+only_rest [] p h = refl
+only_rest (q ∷ rest) p h = (let e : length (rest ++ p ∷ []) ≡ length rest + 1 = length-append rest (p ∷ []) in absurd (omega (arith, h, e)))
+
+-- the one partial entry is taken out of a list
+taken_out : (ps rest : List Partial) (o : Option Partial) (p : Partial) → ps ≡ rest ++ option_to_list o → o ≡ Some p → length ps ≡ 1 → (rest ≡ []) × (ps ≡ p ∷ [])
+taken_out ps rest o p popped is single =
+    let e : ps ≡ rest ++ p ∷ [] = popped ∙ ap (λ t. rest ++ option_to_list t) is in
+    let none : rest ≡ [] = only_rest rest p (sym (ap length e) ∙ single) in
+    (none, e ∙ ap (λ l. l ++ p ∷ []) none)
+
+module _ (dims : List DimType) (first second rest others : List Partial) (o p : Option Partial) (one other : Partial) (popped : first ≡ rest ++ option_to_list o) (taken : second ≡ others ++ option_to_list p) (is : o ≡ Some one) (there : p ≡ Some other)
+    (single : (length first ≡ 1) × (length second ≡ 1)) (told : Option Partial) (h : MatchOption told (PartialsClash dims one other) (λ k. PartialsJoin dims one other k × IsPartial dims k)) where
+  lists : (new : List Partial) → JoinsEach dims one (other ∷ []) new → (made : List Partial) → made ≡ rest ++ new → JoinsAll dims first second made
+  lists new each made now =
+      let a = taken_out first rest o one popped is single.0 in
+      let b = taken_out second others p other taken there single.1 in
+      subst (λ l. JoinsAll dims l second made) (sym a.1) (subst (λ l. JoinsAll dims (one ∷ []) l made) (sym b.1) (subst (JoinsAll dims (one ∷ []) (other ∷ [])) (sym (now ∙ ap (λ l. l ++ new) a.0))
+      (subst (JoinsAll dims (one ∷ []) (other ∷ [])) (append_nothing new) (first_then one [] (other ∷ []) new [] each (no_first (other ∷ []))))))
+
+  pub single_clash : told ≡ None → JoinsAll dims first second rest
+  single_clash none = lists [] (clashes other [] [] (told_clash dims one other other told refl h none) no_other) rest (sym (append_nothing rest))
+
+  pub single_join : (both : Partial) (made : List Partial) → told ≡ Some both → made ≡ rest ++ both ∷ [] → JoinsAll dims first second made
+  single_join both made some now = lists (both ∷ []) (joins other both [] [] (told_join dims one other other told refl h both some).0 no_other) made now

@@ -1,3 +1,4 @@
+mod Backwards
 mod Bounded
 mod Denoted
 mod Dims
@@ -10,6 +11,8 @@ mod Once
 mod OneJoin
 mod OneMeaning
 mod Settled
+mod Taken
+mod Turned
 mod Weighed
 pub mod Adding
 pub mod Bounds

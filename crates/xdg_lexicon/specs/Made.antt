@@ -1,5 +1,5 @@
 -- Records made feature after feature.
-use Rattle.std.specs.Prelude.{ℕ, ◌<◌, List, [], ◌∷◌, Option, None, Some}
+use Rattle.std.specs.Prelude.{◌≡◌, ℕ, ◌<◌, List, [], ◌∷◌, ◌++◌, Option, None, Some}
 use Rattle.xdg_domain.specs.Keys.{KeysBelow}
 use Rattle.xdg_domain.specs.Valencies.{said_at, KeysRise}
 
@@ -13,3 +13,7 @@ pub record IsMade {V : Type 0} (P : ℕ → Option V → Type 0) (bound : ℕ) (
   pub rises : KeysRise 0 made
   pub below : KeysBelow bound made
   pub each : (key : ℕ) → key < bound → P key (said_at made key)
+
+-- the last that the list says is said of this key
+abbrev pub EndsAt : {V : Type 0} → List (ℕ × V) → ℕ → Type 0
+EndsAt {V} s key = (rest : List (ℕ × V)) × ((x : V) × (s ≡ rest ++ (key, x) ∷ []))

@@ -1,11 +1,12 @@
 //! The joins of lists of partial entries.
 
-ghost use Rattle.std.specs.Prelude.{◌≡◌, ◌++◌, [], ◌∷◌, List, IfOk, OnOk};
+ghost use Rattle.std.specs.Prelude.{◌≡◌, ◌++◌, [], ◌∷◌, List, length, IfOk, OnOk};
 ghost use Rattle.xdg_lexicon.specs.Denotes.{JoinsEach, JoinsAll};
 ghost use Rattle.xdg_lexicon.specs.Partial as spec;
 ghost use Rattle.xdg_lexicon.specs.Partial.{ArePartial};
 
 use crate::entries::{Partial, join_partial};
+use crate::moving::join_two;
 use std::alloc::{AllocError, Global};
 use xdg_base::OutOfMemory;
 use xdg_domain::Fields;
@@ -42,7 +43,7 @@ fn join_each(
 
 /// The joins of each of the first list with each of the second, the first slowest, without those that clash. It takes no
 /// memory beyond them.
-pub(crate) fn join_all(
+fn join_lists(
     alloc: Global,
     dims: &[DimType],
     first: &[Partial],
@@ -58,4 +59,48 @@ pub(crate) fn join_all(
         join_each(alloc, dims, one.as_slice(), second, &mut made)?;
     }
     Ok(made)
+}
+
+/// The same of two lists of one partial entry each.
+fn join_single(
+    alloc: Global,
+    dims: &[DimType],
+    first: Vec<Partial>,
+    second: Vec<Partial>,
+) -> Result<Vec<Partial>, OutOfMemory>
+    requires single { (length first.items ≡ 1) × (length second.items ≡ 1) }
+    requires first { ArePartial dims.now first.items }
+    requires second { ArePartial dims.now second.items }
+    ensures joins { IfOk result (λ made. JoinsAll dims.now first.items second.items made.items) }
+    ensures partial { IfOk result (λ made. ArePartial dims.now made.items) }
+{
+    let mut first = first;
+    let mut second = second;
+    let one = first.pop().unwrap();
+    let other = second.pop().unwrap();
+    match join_two(alloc, dims, one, other)? {
+        None => Ok(first),
+        Some(both) => {
+            add(&mut first, both)?;
+            Ok(first)
+        }
+    }
+}
+
+/// The joins of each of the first list with each of the second, the first slowest, without those that clash.
+pub(crate) fn join_all(
+    alloc: Global,
+    dims: &[DimType],
+    first: Vec<Partial>,
+    second: Vec<Partial>,
+) -> Result<Vec<Partial>, OutOfMemory>
+    requires first { ArePartial dims.now first.items }
+    requires second { ArePartial dims.now second.items }
+    ensures joins { IfOk result (λ made. JoinsAll dims.now first.items second.items made.items) }
+    ensures partial { IfOk result (λ made. ArePartial dims.now made.items) }
+{
+    if first.len() == 1 && second.len() == 1 {
+        return join_single(alloc, dims, first, second);
+    }
+    join_lists(alloc, dims, first.as_slice(), second.as_slice())
 }

@@ -164,7 +164,7 @@ impl<'a> Walk<'a> {
             < heavy checked.now (Frame.Joining members.entry place joined ∷ open_in self.old) self.old.scope.depth) }
     {
         let dims = checked.types().dims();
-        let both = join_all(alloc, dims, made.as_slice(), joined.as_slice())?;
+        let both = join_all(alloc, dims, made, joined)?;
         if place == 0 {
             return Ok(both);
         }

@@ -11,7 +11,10 @@ mod filling;
 mod frames;
 mod growing;
 mod limits;
+mod lists;
+mod moving;
 mod records;
+mod taking;
 mod using;
 mod words;
 

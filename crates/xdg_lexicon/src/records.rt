@@ -13,6 +13,7 @@ ghost use Rattle.xdg_lexicon.specs.Made.{entry};
 ghost use Rattle.xdg_lexicon.specs.Partial.{IsRecord, SaysFields, written};
 ghost use Rattle.xdg_lexicon.specs.Right.{AreRight};
 
+use crate::lists::with_room;
 use std::alloc::{AllocError, Global};
 use xdg_ast::{Pair, Term};
 use xdg_base::{List, OutOfMemory, Stop, Text};
@@ -32,7 +33,7 @@ fn said(fields: &[(u32, Value)], key: u32) -> Option<&Value>
 }
 
 /// Adds what is said of the feature with that place, if anything is.
-fn add(made: &mut Fields, key: u32, said: Option<Value>) -> Result<(), AllocError>
+pub(crate) fn add(made: &mut Fields, key: u32, said: Option<Value>) -> Result<(), AllocError>
     ensures { OnOk result (made.new ≡ made.old ++ entry key said) }
 {
     match said {
@@ -136,7 +137,7 @@ pub(crate) fn read_record(
     requires right { AreRight bindings.now fields.now pairs.now }
     ensures { IfOk result (λ made. SaysFields bindings.now (fields_in fields.now) pairs.now made × IsRecord (fields_in fields.now) made) }
 {
-    let mut made = List::new(alloc);
+    let mut made = with_room(alloc, pairs.len())?;
     for (place, field) in fields.iter().enumerate() {
         let Ok(key) = u32::try_from(place) else {
             return Err(OutOfMemory);

@@ -13,18 +13,18 @@ use Rattle.xdg_facts.proofs.Options.{if_ok}
 pub join_all-requires-clause-first : goal.join_all-requires-clause-first
 join_all-requires-clause-first c =
     let dims : c.dims-dims.result.now ≡ c.args.checked.now.types.dims = c.dims-dims.ensures.same ∙ ap (λ ty. ty.dims) c.types.ensures.same in
-    subst (λ ds. ArePartial ds c.as_slice.result.now) (sym dims) (subst (ArePartial c.args.checked.now.types.dims) (sym c.as_slice.ensures.value) c.requires.leaves.partial)
+    subst (λ ds. ArePartial ds c.args.made.items) (sym dims) c.requires.leaves.partial
 
 pub join_all-requires-clause-second : goal.join_all-requires-clause-second
 join_all-requires-clause-second c =
     let dims : c.dims-dims.result.now ≡ c.args.checked.now.types.dims = c.dims-dims.ensures.same ∙ ap (λ ty. ty.dims) c.types.ensures.same in
-    subst (λ ds. ArePartial ds c.as_slice-2.result.now) (sym dims) (subst (ArePartial c.args.checked.now.types.dims) (sym c.as_slice-2.ensures.value) c.requires.leaves.around.0.so_far.1.1)
+    subst (λ ds. ArePartial ds c.args.joined.items) (sym dims) c.requires.leaves.around.0.so_far.1.1
 
 pub returns-then-place-eq0-clause-leaves : goal.returns-then-place-eq0-clause-leaves
 returns-then-place-eq0-clause-leaves c =
     let l = c.requires.leaves in
     let dims : c.dims-dims.result.now ≡ c.args.checked.now.types.dims = c.dims-dims.ensures.same ∙ ap (λ ty. ty.dims) c.types.ensures.same in
-    let told = joins_told _ c.args.checked.now.types.dims c.as_slice.result.now c.args.made.items c.as_slice-2.result.now c.args.joined.items c.in_ok-both.both.items dims c.as_slice.ensures.value c.as_slice-2.ensures.value c.in_ok-both.ensures.joins c.in_ok-both.ensures.partial in
+    let told = joins_told _ c.args.checked.now.types.dims c.args.made.items c.args.joined.items c.in_ok-both.both.items dims c.in_ok-both.ensures.joins c.in_ok-both.ensures.partial in
     all_joined c.args.checked.now (body c.args.self.now.whole.now) (open_in c.args.self.now) c.args.self.now.scope c.args.members.now c.args.place c.args.joined.items c.args.made.items c.in_ok-both.both.items l.part l.denotes l.around.0 l.around.1 told.0 told.1
     (let past = c.if-place-eq0.true in omega (arith, past))
 
@@ -53,7 +53,7 @@ enter-requires c =
     let e : Expr = get_or items next c.index-members-next.result in
     let at : e ≡ get_or items next e = get_or_default items next c.index-members-next.result e inside in
     let dims : c.dims-dims.result.now ≡ checked.types.dims = c.dims-dims.ensures.same ∙ ap (λ ty. ty.dims) c.types.ensures.same in
-    let told = joins_told _ checked.types.dims c.as_slice.result.now c.args.made.items c.as_slice-2.result.now c.args.joined.items c.in_ok-both.both.items dims c.as_slice.ensures.value c.as_slice-2.ensures.value c.in_ok-both.ensures.joins c.in_ok-both.ensures.partial in
+    let told = joins_told _ checked.types.dims c.args.made.items c.args.joined.items c.in_ok-both.both.items dims c.in_ok-both.ensures.joins c.in_ok-both.ensures.partial in
     let further = next_joined checked whole (open_in walk) walk.scope items c.args.place c.args.joined.items c.args.made.items c.in_ok-both.both.items l.part l.denotes l.around.0 l.around.1 told.0 told.1 e next before at in
     record {
       enters = record {

@@ -2,7 +2,7 @@ use Rattle.std.proofs.Common.{List, ◌≡◌, ◌++◌, sym, subst}
 use Rattle.xdg_lexicon.specs.Denotes.{JoinsEach}
 use Rattle.xdg_lexicon.specs.Partial.{Partial, IsPartial, ArePartial}
 use Rattle.xdg_lexicon.proofs.Joining.{one_of, all_begun, all_further}
-use Rattle.xdg_lexicon.proofs.conjunction.join_all.Goals as goal
+use Rattle.xdg_lexicon.proofs.conjunction.join_lists.Goals as goal
 
 pub loop-one-init : goal.loop-one-init
 loop-one-init c = all_begun c.args.dims.now c.args.first.now c.args.second.now 0 c.new-made.result.items c.new-made.ensures.items

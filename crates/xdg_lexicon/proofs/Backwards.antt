@@ -1,0 +1,108 @@
+-- Partial entries joined from their last records to their first.
+use Rattle.std.proofs.Common.{◌≡◌, ℕ, zero, suc, ◌<◌, ◌+◌, List, [], ◌∷◌, ◌++◌, length, get_or, reverse, refl, ap, sym, ◌∙◌, arith, subst}
+use Rattle.std.proofs.Math.Seq.{get_or-append_seam}
+use Rattle.std.proofs.lemmas.List.{length-append, length-reverse, get_or_append_left, get_or_default, reverse-append}
+use Rattle.std.specs.Prelude.{Option, Some, MatchOption}
+use Rattle.xdg_domain.specs.Joined.{fields_in}
+use Rattle.xdg_domain.specs.Joins.{SaysBoth, JoinsField, OnSome, ClashesField}
+use Rattle.xdg_domain.specs.Shapes.{Fields}
+use Rattle.xdg_domain.specs.Valencies.{said_at}
+use Rattle.xdg_domain.specs.declared.types.Ty.{Ty}
+use Rattle.xdg_domain.proofs.Keyed.{both_none}
+use Rattle.xdg_types.specs.declared.table.DimType.{DimType}
+use Rattle.xdg_lexicon.specs.Partial.{Record, Partial, features, said_of, IsRecord, IsPartial, PartialsJoin, PartialsClash}
+use Rattle.xdg_lexicon.proofs.Dims.{JoinsAt, within_partial, joined_here, clashes_here}
+
+-- ---- records of which one says nothing
+
+pub nothing_first : (fs : Fields) (one other : Record) → one ≡ [] → IsRecord fs other → SaysBoth (JoinsField fs) one other other × IsRecord fs other
+nothing_first fs one other none right = subst (λ l. SaysBoth (JoinsField fs) l other other × IsRecord fs other) (sym none) ((right.0, λ key. refl), right)
+
+pub nothing_second : (fs : Fields) (one other : Record) → other ≡ [] → IsRecord fs one → SaysBoth (JoinsField fs) one other one × IsRecord fs one
+nothing_second fs one other none right = subst (λ l. SaysBoth (JoinsField fs) one l one × IsRecord fs one) (sym none) ((right.0, λ key. both_none (JoinsField fs key) (said_at one key)), right)
+
+-- ---- joins
+
+-- Of two partial entries these records are left, and Q holds of those that are made of the ones behind them, the last first.
+pub record BackSoFar (Q : ℕ → Record → Type 0) (bound : ℕ) (a b one other made : Partial) : Type 0 where
+  pub same : length other ≡ length one
+  pub count : length one + length made ≡ bound
+  pub mine : (k : ℕ) → k < length one → said_of one k ≡ said_of a k
+  pub theirs : (k : ℕ) → k < length one → said_of other k ≡ said_of b k
+  pub each : (i : ℕ) → i < length made → Q (length one + i) (said_of (reverse made) i)
+
+pub back_begun : (Q : ℕ → Record → Type 0) (bound : ℕ) (a b made : Partial) → made ≡ [] → length a ≡ bound → length b ≡ bound → BackSoFar Q bound a b a b made
+back_begun Q bound a b made is long other_long = subst (BackSoFar Q bound a b a b) (sym is) (record {
+  same = other_long ∙ sym long;
+  count = omega (arith, long);
+  mine = λ k h. refl;
+  theirs = λ k h. refl;
+  each = λ i h. absurd (omega (arith, h));
+})
+
+-- the last of each is taken
+module _ (Q : ℕ → Record → Type 0) (bound : ℕ) (a b one other made rest others : Partial) (x y : Record) (s : BackSoFar Q bound a b one other made) (popped : one ≡ rest ++ x ∷ []) where
+  longer : length one ≡ length rest + 1
+  longer = ap length popped ∙ length-append rest (x ∷ [])
+
+  pub back_within : length rest < bound
+  back_within = (let c = s.count in let l = longer in omega (arith, c, l))
+
+  pub back_both : other ≡ [] → ⊥
+  back_both none = (let e : length other ≡ 0 = ap length none in let c = s.same in let l = longer in omega (arith, e, c, l))
+
+  pub back_mine : x ≡ said_of a (length rest)
+  back_mine = sym (get_or-append_seam rest x [] []) ∙ (ap (λ l. said_of l (length rest)) (sym popped) ∙ s.mine (length rest) (let l = longer in omega (arith, l)))
+
+  module _ (taken : other ≡ others ++ y ∷ []) where
+    as_long : length others ≡ length rest
+    as_long = (let e : length other ≡ length others + 1 = ap length taken ∙ length-append others (y ∷ []) in let c = s.same in let l = longer in omega (arith, e, c, l))
+
+    pub back_theirs : y ≡ said_of b (length rest)
+    back_theirs = sym (get_or-append_seam others y [] []) ∙ (ap (λ l. said_of l (length others)) (sym taken) ∙ (ap (said_of other) as_long ∙ s.theirs (length rest) (let l = longer in omega (arith, l))))
+
+    pub back_further : (new : Partial) (m : Record) → new ≡ made ++ m ∷ [] → Q (length rest) m → BackSoFar Q bound a b rest others new
+    back_further new m now q = subst (BackSoFar Q bound a b rest others) (sym now) (record {
+      same = as_long;
+      count = (let e : length (made ++ m ∷ []) ≡ length made + 1 = length-append made (m ∷ []) in let c = s.count in let l = longer in omega (arith, e, c, l));
+      mine = λ k h. sym (get_or_append_left rest (x ∷ []) [] k h) ∙ (ap (λ l. said_of l k) (sym popped) ∙ s.mine k (let l = longer in omega (arith, h, l)));
+      theirs = λ k h. sym (get_or_append_left others (y ∷ []) [] k (let c = as_long in omega (arith, h, c))) ∙ (ap (λ l. said_of l k) (sym taken) ∙ s.theirs k (let l = longer in omega (arith, h, l)));
+      each = λ i h. subst (λ l. Q (length rest + i) (said_of l i)) (sym (reverse-append made (m ∷ []))) (here i (let e : length (made ++ m ∷ []) ≡ length made + 1 = length-append made (m ∷ []) in omega (arith, h, e)));
+    })
+      where
+        here : (i : ℕ) → i < length made + 1 → Q (length rest + i) (said_of (m ∷ reverse made) i)
+        here zero h = (let e : length rest ≡ length rest + zero = omega arith in subst (λ n. Q n m) e q)
+        here (suc i) h = (let l = longer in let e : length one + i ≡ length rest + suc i = omega (arith, l) in subst (λ n. Q n (said_of (reverse made) i)) e (s.each i (omega (arith, h))))
+
+-- what is said of a dimension by two of which these two records are the last
+module _ (dims : List DimType) (a b : Partial) (k : ℕ) (d : DimType) (mine theirs : Record) (fs : List (List ℕ × Ty)) (within : k < length dims) (is : d ≡ get_or dims k d) (types : fs ≡ d.fields) where
+  pub record_back : (p : Partial) (x : Record) → x ≡ said_of p k → IsPartial dims p → IsRecord (fields_in fs) x
+  record_back p x here right = subst (λ l. IsRecord (fields_in l) x) (sym types) (subst (IsRecord (features d)) (sym here) (right.each k d (within, sym is)))
+
+  stands : (p : Partial) (x : Record) → x ≡ said_of p k → IsPartial dims p → x ≡ get_or p k x
+  stands p x here right = here ∙ sym (get_or_default p k x [] (within_partial dims p k within right))
+
+  pub joined_back : IsPartial dims a → IsPartial dims b → mine ≡ said_of a k → theirs ≡ said_of b k → (told : Option Record) (m : Record) → told ≡ Some m
+      → MatchOption told (OnSome (ClashesField (fields_in fs)) mine theirs) (λ n. SaysBoth (JoinsField (fields_in fs)) mine theirs n × IsRecord (fields_in fs) n) → JoinsAt dims a b k m
+  joined_back ra rb one other told m some h =
+      joined_here dims a b k d mine theirs mine theirs fs within is ra rb (stands a mine one ra) (stands b theirs other rb) refl refl types m
+      (subst (λ t. MatchOption t (OnSome (ClashesField (fields_in fs)) mine theirs) (λ n. SaysBoth (JoinsField (fields_in fs)) mine theirs n × IsRecord (fields_in fs) n)) some h)
+
+  pub clashes_back : IsPartial dims a → IsPartial dims b → mine ≡ said_of a k → theirs ≡ said_of b k → OnSome (ClashesField (fields_in fs)) mine theirs → PartialsClash dims a b
+  clashes_back ra rb one other = clashes_here dims a b k d mine theirs mine theirs fs within is ra rb (stands a mine one ra) (stands b theirs other rb) refl refl types
+
+-- nothing is left
+pub back_done : (dims : List DimType) (a b one other made rest whole : Partial) → one ≡ [] → rest ≡ [] → whole ≡ rest ++ reverse made → BackSoFar (JoinsAt dims a b) (length dims) a b one other made → PartialsJoin dims a b whole × IsPartial dims whole
+back_done dims a b one other made rest whole none nothing is s = subst (λ p. PartialsJoin dims a b p × IsPartial dims p) (sym (is ∙ ap (λ l. l ++ reverse made) nothing)) (
+  record { count = long; each = λ k dim at. (joins k at.0 dim at).0 },
+  record { count = long; each = λ k dim at. (joins k at.0 dim at).1 },
+)
+  where
+    made_long : length made ≡ length dims
+    made_long = (let e : length one ≡ 0 = ap length none in let c = s.count in omega (arith, e, c))
+
+    long : length (reverse made) ≡ length dims
+    long = length-reverse made ∙ made_long
+
+    joins : (k : ℕ) → k < length dims → JoinsAt dims a b k (said_of (reverse made) k)
+    joins k h = (let e : length one ≡ 0 = ap length none in let n : length one + k ≡ k = omega (arith, e) in let l = made_long in subst (λ j. JoinsAt dims a b j (said_of (reverse made) k)) n (s.each k (omega (arith, h, l))))

@@ -1,0 +1,59 @@
+use Rattle.std.proofs.Common.{◌≡◌, ◌+◌, ◌-◌, get_or, rules, refl, sym, arith, subst}
+use Rattle.xdg_lexicon.proofs.Taken.{TakenSoFar, taken_begun, mine_value, theirs_value, taken_clash, taken_further, taken_done}
+use Rattle.xdg_lexicon.proofs.taking.join_taken.Goals as goal
+
+pub loop-left-init : goal.loop-left-init
+loop-left-init c = taken_begun c.args.fields.now c.args.one c.args.other _ c.in_ok-made.made refl c.in_ok-made.ensures c.requires.one c.requires.other
+
+pub join_values-requires-clause-one : goal.join_values-requires-clause-one
+join_values-requires-clause-one c =
+    let fs = c.args.fields.now in
+    let l = c.loop-left in
+    let field = c.index-fields-place.result in
+    let key = c.in-Ok.key in
+    let same : key ≡ l.left - 1 = search (rules, c.in-Ok.ensures) in
+    let next : key + 1 ≡ l.left = (let some = c.loop-left-test.true in omega (arith, same, some)) in
+    let is : field ≡ get_or fs key field = subst (λ n. field ≡ get_or fs n field) (sym same) c.index-fields-place.is in
+    mine_value fs c.args.one c.args.other l.left key l.one l.other l.made next l.invariant c.take_last-mine.result c.take_last-theirs.result c.take_last-mine.ensures.here c.take_last-theirs.ensures.here field is c.requires.one
+
+pub join_values-requires-clause-other : goal.join_values-requires-clause-other
+join_values-requires-clause-other c =
+    let fs = c.args.fields.now in
+    let l = c.loop-left in
+    let field = c.index-fields-place.result in
+    let key = c.in-Ok.key in
+    let same : key ≡ l.left - 1 = search (rules, c.in-Ok.ensures) in
+    let next : key + 1 ≡ l.left = (let some = c.loop-left-test.true in omega (arith, same, some)) in
+    let is : field ≡ get_or fs key field = subst (λ n. field ≡ get_or fs n field) (sym same) c.index-fields-place.is in
+    theirs_value fs c.args.one c.args.other l.left key l.one l.other l.made next l.invariant c.take_last-mine.result c.take_last-theirs.result c.take_last-mine.ensures.here c.take_last-theirs.ensures.here field is c.requires.other
+
+pub returns-in-None : goal.returns-in-None
+returns-in-None c =
+    let fs = c.args.fields.now in
+    let l = c.loop-left in
+    let field = c.index-fields-place.result in
+    let key = c.in-Ok.key in
+    let same : key ≡ l.left - 1 = search (rules, c.in-Ok.ensures) in
+    let next : key + 1 ≡ l.left = (let some = c.loop-left-test.true in omega (arith, same, some)) in
+    let is : field ≡ get_or fs key field = subst (λ n. field ≡ get_or fs n field) (sym same) c.index-fields-place.is in
+    taken_clash fs c.args.one c.args.other l.left key l.one l.other l.made next l.invariant c.take_last-mine.result c.take_last-theirs.result c.take_last-mine.ensures.here c.take_last-theirs.ensures.here field is c.in_ok-join_values.field-0 c.in_ok-join_values.ensures.joins c.in-None.is
+
+pub loop-left-preserved : goal.loop-left-preserved
+loop-left-preserved c =
+    let fs = c.args.fields.now in
+    let l = c.loop-left in
+    let field = c.index-fields-place.result in
+    let key = c.in-Ok.key in
+    let same : key ≡ l.left - 1 = search (rules, c.in-Ok.ensures) in
+    let next : key + 1 ≡ l.left = (let some = c.loop-left-test.true in omega (arith, same, some)) in
+    let is : field ≡ get_or fs key field = subst (λ n. field ≡ get_or fs n field) (sym same) c.index-fields-place.is in
+    let mine = c.take_last-mine in
+    let theirs = c.take_last-theirs in
+    subst (λ n. TakenSoFar fs c.args.one c.args.other n mine.new.said theirs.new.said c.add.new.made) same
+    (taken_further fs c.args.one c.args.other l.left key l.one l.other l.made next l.invariant c.take_last-mine.result c.take_last-theirs.result c.take_last-mine.ensures.here c.take_last-theirs.ensures.here field is c.in_ok-join_values.field-0 c.in_ok-join_values.ensures.joins
+    c.in-Some.both mine.new.said theirs.new.said c.add.new.made c.in-Some.is c.in_ok-add-in-Some.ensures mine.ensures.front mine.ensures.rises mine.ensures.below theirs.ensures.front theirs.ensures.rises theirs.ensures.below)
+
+pub returns : goal.returns
+returns c =
+    let l = c.loop-left in
+    taken_done c.args.fields.now c.args.one c.args.other l.left l.one l.other l.made c.in_ok-whole.whole c.turn.new.turned (let past = c.loop-left-test.false in omega (arith, past)) c.in_ok-whole.ensures c.in_ok-turn.ensures c.requires.one c.requires.other l.invariant
