@@ -23,3 +23,4 @@ pub mod Filling
 pub mod Written
 pub mod Streaming
 pub mod Reading
+pub mod Absent

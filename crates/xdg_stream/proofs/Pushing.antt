@@ -52,7 +52,7 @@ module _ (old mid : State) (edge_places : List Edge) (marks numbers : List ℕ) 
       }
 
       -- and have the box of the prefix
-      pub run_front : (mark_room' number_room' : ℕ) → mark_room ≡ mark_room' → number_room ≡ number_room' → HasFront mid.parts mid.history edge_places marks' numbers' mark_room' number_room'
+      pub run_front : (mark_room' number_room' : ℕ) → mark_room ≤ mark_room' → number_room ≤ number_room' → HasFront mid.parts mid.history edge_places marks' numbers' mark_room' number_room'
       run_front mark_room' number_room' same_marks same_numbers =
           let top = top_in in
           let long = length-take-le (slice_index marks at + 1) old.history (omega (arith, top)) in

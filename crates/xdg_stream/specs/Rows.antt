@@ -21,3 +21,7 @@ Reads parts box row = (e : Edge) → IsPlace parts e → IsOf row e
 -- the row says that the edge to a node must be present, or that it may not be
 abbrev pub Says : Row → ℕ → ℕ → Type 0
 Says row node value = ((value ≡ 0) × IsTrue (has row.must node)) ⊎ ((value ≡ 1) × (IsTrue (has row.may node) → ⊥))
+
+-- the edge is in the row, and may not be present
+abbrev pub IsAbsent : Row → Edge → Type 0
+IsAbsent row e = IsOf row e × (IsTrue (has row.may e.daughter.0) → ⊥)

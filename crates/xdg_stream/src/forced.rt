@@ -96,8 +96,8 @@ pub(crate) fn add_alone(
     requires for_numbers { length (shape store.now.parts) ≤ vec_capacity numbers.old }
     requires for_marks { length (shape store.now.parts) < vec_capacity marks.old }
     ensures adds { Adds store.now.now mark marks.old.items numbers.old.items marks.new.items numbers.new.items most result }
-    ensures number_room { vec_capacity numbers.new ≡ vec_capacity numbers.old }
-    ensures mark_room { vec_capacity marks.new ≡ vec_capacity marks.old }
+    ensures number_room { vec_capacity numbers.old ≤ vec_capacity numbers.new }
+    ensures mark_room { vec_capacity marks.old ≤ vec_capacity marks.new }
 {
     let added = add_first(store, edge_places, mark, marks, numbers, most);
     let reached = numbers.len();

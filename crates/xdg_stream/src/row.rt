@@ -1,8 +1,9 @@
 //! The edges with a label out of a mother, read at once.
 
-ghost use Rattle.std.specs.Prelude.{◌≡◌, ◌<◌, IfSome, IsTrue};
-ghost use Rattle.xdg_problem.specs.Analyses.{IsPlace};
-ghost use Rattle.xdg_stream.specs.Rows.{IsOf, Reads, Says};
+ghost use Rattle.std.specs.Prelude.{◌≡◌, ◌<◌, ◌≤◌, ◌+◌, ℕ, AllPairs, IfSome, IsTrue, length, slice_index_or};
+ghost use Rattle.xdg_problem.specs.Analyses.{Before, IsPlace};
+ghost use Rattle.xdg_problem.specs.declared.analysis.Edge.{Edge};
+ghost use Rattle.xdg_stream.specs.Rows.{IsAbsent, IsOf, Reads, Says};
 
 use xdg_base::{DimId, LabelId, NodeId};
 use xdg_nodeset::NodeSet;
@@ -81,4 +82,33 @@ pub(crate) fn number_in(row: &Row, daughter: NodeId) -> Option<u16>
         return None;
     }
     Some(1)
+}
+
+/// How many places from one on make up a row, if they are a whole one in which no edge may be, and no more than so many; else 0.
+/// The width of a row is given.
+pub(crate) fn absent_from(
+    row: &Row,
+    edge_places: &[Edge],
+    place: usize,
+    width: usize,
+    most: u64,
+) -> usize
+    requires ordered { AllPairs Before edge_places.now }
+    requires there { place < length edge_places.now }
+    requires of { (d : Edge) → IsOf row.now (slice_index_or edge_places.now place d) }
+    ensures within { place + result ≤ length edge_places.now }
+    ensures most { result ≤ most }
+    ensures absent { (k : ℕ) (d : Edge) → place ≤ k → k < place + result → IsAbsent row.now (slice_index_or edge_places.now k d) }
+{
+    if row.may.len() != 0 {
+        return 0;
+    }
+    if width == 0 || width as u64 > most || width > edge_places.len() - place {
+        return 0;
+    }
+    // The places stand in order, so that what stands between two of a row is in it.
+    if !is_in(row, edge_places[place + width - 1]) {
+        return 0;
+    }
+    width
 }
