@@ -3,8 +3,8 @@
 
 Usage: python3 bench/corpus.py PROGRAM [--lines N] [--sample N]
 
-There are three grammars: one of 50,000 entries in which a sentence of three words costs next to nothing beside the reading of the grammar, which one processor does; the sample
-examples/german.xdg with its sentences; and the sample with 50,000 entries and sentences of 12 and 13 words, of which most of the time is search.
+One grammar has 50,000 entries in which a sentence of three words costs next to nothing beside the reading of the grammar, which one processor does. The sample
+examples/german.xdg is read with its own sentences; and the same sentences of 11 words, with six analyses each, are parsed over the sample and over the sample enlarged to 50,000 entries.
 
 PROGRAM is the built program, not the script ./xdg, which looks at the sources first. A file has 10,000 lines, or N. Of `parse` a sample of 20
 lines, or N, spread over the file, is run, and the seconds of one run are told. What `corpus` prints is looked at: the numbers of the
@@ -14,6 +14,7 @@ there are processors, each alone on one of them, which is what no program can do
 """
 
 import argparse
+import itertools
 import os
 import pathlib
 import resource
@@ -60,19 +61,17 @@ def german(count):
 
 
 def enlarged():
-    """The grammar examples/german.xdg with as many further nouns as make some 50,000 entries, and their number."""
+    """The grammar examples/german.xdg with as many further nouns as make some 50,000 entries."""
     text = (ROOT / "examples" / "german.xdg").read_text(encoding="utf-8")
     more = ENTRIES - text.count("\ndefentry ")
-    return text + "".join(f'defentry {{noun {{Word: "Frau{k}" Agrs: $ f}}}}\n' for k in range(more)), more
+    return text + "".join(f'defentry {{noun {{Word: "Frau{k}" Agrs: $ f}}}}\n' for k in range(more))
 
 
-def genitives(count, words):
-    """That many German sentences of 12 and 13 words with genitives one below the other, each with other nouns of that many."""
-    found = []
-    for k in range(count):
-        a, b, c, d, e, f = (f"Frau{(6 * k + place) * 4_999 % words}" for place in range(6))
-        found.append(f"die {a} der {b} der {c} sieht die {d} der {e} der {f}" if k % 2 else f"dass die {a} der {b} der {c} die {d} der {e} sieht")
-    return found
+def ambiguous(count):
+    """That many German sentences of 11 words: the 16 of the sample's words with four noun phrases that may be subjects, objects or genitives, in turns."""
+    nominative, genitive = ("die Frau", "die Katze"), ("der Frau", "der Katze")
+    found = [f"dass {a} {b} {c} {d} schenken will" for a, b, c, d in itertools.product(nominative, genitive, nominative, genitive)]
+    return [found[k % len(found)] for k in range(count)]
 
 
 def run(words, given=b""):
@@ -175,11 +174,13 @@ def main():
         large = str(pathlib.Path(folder, "g.xdg"))
         pathlib.Path(large).write_text(lexicon())
         measured(program, f"{ENTRIES} entries", large, nouns(given.lines), given.sample)
-        measured(program, "examples/german.xdg", str(ROOT / "examples" / "german.xdg"), german(given.lines), given.sample)
-        text, more = enlarged()
-        large_german = str(pathlib.Path(folder, "german.xdg"))
-        pathlib.Path(large_german).write_text(text, encoding="utf-8")
-        measured(program, f"examples/german.xdg with {ENTRIES} entries", large_german, genitives(given.lines, more), given.sample)
+        sample = str(ROOT / "examples" / "german.xdg")
+        measured(program, "examples/german.xdg with its sentences", sample, german(given.lines), given.sample)
+        large_sample = str(pathlib.Path(folder, "german.xdg"))
+        pathlib.Path(large_sample).write_text(enlarged(), encoding="utf-8")
+        lines = ambiguous(given.lines)
+        measured(program, "examples/german.xdg", sample, lines, given.sample)
+        measured(program, f"the same over examples/german.xdg with {ENTRIES} entries", large_sample, lines, given.sample)
         against_check(program, large, ["the"] * given.lines)
 
 
