@@ -1,5 +1,5 @@
 -- Nodes for names that let a box make a claim true, or false, looked for one after another.
-use Rattle.std.proofs.Common.{◌≡◌, ◌≢◌, ◌↔◌, ℕ, ◌+◌, ◌<◌, ◌≤◌, IsTrue, inl, inr, Bool, true, false, ◌&&◌, List, [], length, refl, sym, ◌∙◌, ap, subst, arith}
+use Rattle.std.proofs.Common.{◌≡◌, ◌≢◌, ◌↔◌, ℕ, ◌+◌, ◌<◌, ◌≤◌, IsTrue, inl, inr, Bool, true, false, ◌&&◌, List, [], ◌∷◌, length, refl, sym, ◌∙◌, ap, subst, arith}
 use Rattle.std.specs.Prelude.{not, ◌==◌}
 use Rattle.std.proofs.lemmas.Bool.{cases_eq, and_from, false≢true, false_from_ne_true, not_from_false, eqb-true}
 use Rattle.xdg_nodeset.specs.Nodes.{has}
@@ -11,8 +11,9 @@ use Rattle.xdg_rules.specs.WorthLaws.{AreNodes}
 use Rattle.xdg_rules.specs.Worths.{Makes}
 use Rattle.xdg_rules.proofs.Bound.{bound_nodes}
 use Rattle.xdg_formula_value.specs.Lost.{AgreeBut, Finds, HasNode, HasNodes}
-use Rattle.xdg_formula_value.specs.Rows.{Bounds, IsEvery}
-use Rattle.xdg_formula_value.proofs.Rowed.{none_in}
+use Rattle.xdg_formula_value.specs.Rows.{Bounds, IsEvery, IsRowOn, Over}
+use Rattle.xdg_formula_value.proofs.Narrowed.{within_row}
+use Rattle.xdg_formula_value.proofs.Rowed.{head_or_tail, no_member, none_in, over_told}
 use Rattle.xdg_formula_value.proofs.Stood.{bound_back, bound_here, bound_else}
 
 -- ---- one name fewer
@@ -100,6 +101,50 @@ module _ (parts : Parts) (box : List (List Bool)) (c : Claim) (truth : Bool) whe
         told.1 (b name, nodes_of name, (b other, nodes_of other, subst (Makes parts box c truth) same makes))
         );
   }
+
+  module _ (a : ℕ → ℕ) (name other : ℕ) where
+    -- a node is possible for the second name, whatever the first one stands for
+    abbrev pub BoundsSecond : List ℕ → Type 0
+    BoundsSecond second = (v node : ℕ) → node < nodes parts → Makes parts box c truth (bound (bound a name v) other node) → has second node ≡ true
+
+    -- with none of the possible nodes for the first name, but those that are left, there is one for the second
+    abbrev pub NonePassed : List ℕ → List ℕ → Type 0
+    NonePassed possible left = (v : ℕ) → has possible v ≡ true → (has left v ≡ true → ⊥) → HasNode parts box c truth (bound a name v) other → ⊥
+
+    -- where none is possible for the second name
+    pub pairs_none : (second : List ℕ) → length second ≡ 0 → BoundsSecond second → IsTrue false ↔ HasNodes parts box c truth a name other
+    pairs_none second none bounds = (λ t. absurd (false≢true t), λ some. absurd (none_in second some.2.0 none (bounds some.0 some.2.0 some.2.1 some.2.2)))
+
+    pub pairs_start : (possible left : List ℕ) → left ≡ possible → NonePassed possible left
+    pairs_start possible left is v there out = absurd (out (subst (λ s. has s v ≡ true) (sym is) there))
+
+    -- what the row of a node tells
+    pub pairs_here : (here : ℕ → ℕ) (node size : ℕ) (all second inside met : List ℕ) (holds : Bool) → here ≡ bound a name node → IsEvery (nodes parts) all → size ≡ nodes parts → BoundsSecond second
+        → IsRowOn second (λ v. Makes parts box c truth (bound here other v)) inside → ((v : ℕ) → has met v ≡ (has inside v && has second v)) → IsTrue holds ↔ Over false size (λ v. has met v ≡ true)
+        → (holds ≡ true) ↔ HasNode parts box c truth (bound a name node) other
+    pairs_here here node size all second inside met holds here_is every size_is bounds row meets told =
+        let within : (v : ℕ) → v < nodes parts → Makes parts box c truth (bound here other v) → has second v ≡ true = λ v l so. bounds node v l (subst (λ b. Makes parts box c truth (bound b other v)) here_is so) in
+        let of_all = within_row (nodes parts) all second inside met (λ v. Makes parts box c truth (bound here other v)) every row within meets in
+        subst (λ b. (holds ≡ true) ↔ HasNode parts box c truth b other) here_is (over_told false holds size (nodes parts) all (λ v. Makes parts box c truth (bound here other v)) met size_is every of_all told)
+
+    pub pairs_found : (node : ℕ) (holds : Bool) → node < nodes parts → holds ≡ true → (holds ≡ true) ↔ HasNode parts box c truth (bound a name node) other → IsTrue true ↔ HasNodes parts box c truth a name other
+    pairs_found node holds l on here = (λ t. (node, l, here.0 on), λ some. refl)
+
+    pub pairs_turn : (possible left later : List ℕ) (node : ℕ) (holds : Bool) → holds ≡ false → (holds ≡ true) ↔ HasNode parts box c truth (bound a name node) other → left ≡ node ∷ later
+        → NonePassed possible left → NonePassed possible later
+    pairs_turn possible left later node holds off here at so_far v there out some = elim (cases_eq node v) [
+      | inl same ↦ false≢true (sym off ∙ here.1 (subst (λ k. HasNode parts box c truth (bound a name k) other) (sym same) some))
+      | inr differ ↦ so_far v there (λ still. elim (head_or_tail left later node v at still) [ inl same ↦ differ same | inr more ↦ out more ]) some
+    ]
+
+    pub pairs_end : (all row possible left : List ℕ) → IsEvery (nodes parts) all → Bounds all (λ v w. Makes parts box c truth (bound (bound a name v) other w)) row
+        → ((v : ℕ) → has possible v ≡ (has all v && has row v)) → left ≡ [] → NonePassed possible left → IsTrue false ↔ HasNodes parts box c truth a name other
+    pairs_end all row possible left every bounds meets empty so_far = (
+      λ t. absurd (false≢true t),
+      λ some. absurd (
+          let within = (every some.0).1 some.1 in
+          so_far some.0 (meets some.0 ∙ and_from (has all some.0) (has row some.0) within (bounds some.0 some.2.0 within some.2.2)) (λ still. no_member left some.0 empty still) some.2),
+    )
 
   -- ---- one node after another for a free name
 

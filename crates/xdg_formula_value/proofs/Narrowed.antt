@@ -18,7 +18,7 @@ over_some true n P some each = (0, some, each 0 some)
 over_some false n P some found = found
 
 -- a row of those nodes alone at which it may be so
-within_row : (n : ℕ) (all some inside met : List ℕ) (P : ℕ → Type 0) → IsEvery n all → IsRowOn some P inside → ((v : ℕ) → v < n → P v → has some v ≡ true) → ((v : ℕ) → has met v ≡ (has inside v && has some v)) → IsRowOn all P met
+pub within_row : (n : ℕ) (all some inside met : List ℕ) (P : ℕ → Type 0) → IsEvery n all → IsRowOn some P inside → ((v : ℕ) → v < n → P v → has some v ≡ true) → ((v : ℕ) → has met v ≡ (has inside v && has some v)) → IsRowOn all P met
 within_row n all some inside met P every row bounds meets v within = (
   λ h. (let both = and_parts (has inside v) (has some v) (sym (meets v) ∙ h) in (row v both.1).0 both.0),
   λ p. (let there = bounds v ((every v).0 within) p in meets v ∙ and_from (has inside v) (has some v) ((row v there).1 p) there),

@@ -13,8 +13,7 @@ ghost use Rattle.xdg_formula_value.specs.Rows.{stands};
 
 use crate::binding::{bind, node_of};
 use crate::paths::Paths;
-use crate::possible::possible_row;
-use crate::quantified::quantified_row;
+use crate::possible::{possible_row, possible_second};
 use crate::value::{makes, row_of};
 use xdg_base::NodeId;
 use xdg_graph::node_count;
@@ -77,7 +76,8 @@ fn found_one(
     paths.has_over(node_count(store), false, row)
 }
 
-/// Whether some nodes for two names let the box make a formula true, or false.
+/// Whether some nodes for two names let the box make a formula true, or false. It goes only to nodes that are possible for the first name
+/// whatever the second one stands for, and there looks only at those that are possible for the second one, up to the first node at which one is.
 fn found_two(
     store: &Store,
     paths: &Paths,
@@ -92,11 +92,21 @@ fn found_two(
     requires nodes { AreNodes store.now.parts (stands binding.now) }
     ensures { IsTrue result ↔ HasNodes store.now.parts store.now.now (claim formula.now) truth (stands binding.now) name other }
 {
+    let second = possible_second(store, paths, binding, name, other, formula, truth);
+    if second.len() == 0 {
+        return false;
+    }
     let all = paths.all;
-    let row = quantified_row(
-        store, paths, binding, name, other, formula, truth, false, all,
-    );
-    paths.has_over(node_count(store), false, row)
+    let possible = all.meet(&possible_row(store, paths, binding, name, other, formula, truth, all));
+    for node in possible.iter() {
+        let here = bind(binding, name, node.0);
+        let row = row_of(store, paths, &here, other, formula, truth, second);
+        let met = row.meet(&second);
+        if paths.has_over(node_count(store), false, met) {
+            return true;
+        }
+    }
+    false
 }
 
 /// Whether some nodes for free names, and for others those of a binding, let the box make a formula true, or false.
