@@ -16,3 +16,4 @@ pub mod Each
 pub mod Made
 pub mod Shaped
 pub mod DefaultLaws
+pub mod Compared

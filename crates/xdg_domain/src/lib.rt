@@ -3,6 +3,7 @@
 #![tactic(auto)]
 
 mod cards;
+mod comparing;
 mod copying;
 mod defaults;
 mod joining;
@@ -13,6 +14,7 @@ mod valencies;
 mod values;
 
 pub use cards::CardSet;
+pub use comparing::same_fields;
 pub use defaults::{default_of, has_few_parts};
 pub use joining::{join, join_laws};
 pub use sets::SetOf;
