@@ -1,5 +1,6 @@
 -- The different records of the first entries, while further ones are added.
-use Rattle.std.proofs.Common.{◌≡◌, ℕ, suc, ◌+◌, ◌<◌, ◌≤◌, List, [], ◌∷◌, ◌++◌, ◌⊎◌, length, get_or, take, Bool, false, not, if◌then◌else◌, refl, sym, ap, ap₂, inl, inr, subst, ◌∙◌, arith, Some, None, All}
+use Rattle.std.proofs.Common.{◌≡◌, ℕ, suc, ◌+◌, ◌<◌, ◌≤◌, List, [], ◌∷◌, ◌++◌, ◌⊎◌, length, get_or, take, Bool, true, false, not, if◌then◌else◌, refl, sym, ap, ap₂, inl, inr, subst, ◌∙◌, arith, Some, None, All}
+use Rattle.std.specs.Prelude.{◌↔◌}
 use Rattle.std.proofs.lemmas.List.{map-append, length-map, length-append, get_or-map}
 use Rattle.std.proofs.lemmas.List.Elements.{All-push, All-tail, All-head, All-weaker}
 use Rattle.std.proofs.Math.ListN.{get_or-append}
@@ -38,6 +39,20 @@ new_row rows more spellings more_spellings fields spelled place is none grown sp
   spellings_grow = spelled_grown ∙ ap (λ t. spellings ++ t ∷ []) is;
   last = last;
 }
+
+-- the record is compared with the row at a place
+pub compared : (rows : List Record) (place : ℕ) (own held given fields : Record) (same : Bool) → place < length rows → own ≡ get_or rows place held → given ≡ fields
+    → ((same ≡ true) ↔ (own ≡ given)) → (same ≡ true) ↔ ((place < length rows) × (get_or rows place [] ≡ fields))
+compared rows place own held given fields same within is lent told =
+    let row : get_or rows place [] ≡ own = any_default rows place [] held within ∙ sym is in
+    (λ h. (within, row ∙ told.0 h ∙ lent), λ h. told.1 (sym row ∙ h.1 ∙ sym lent))
+
+-- it is the row at that place
+pub same_row : (rows seen : List Record) (spellings : List (List ℕ)) (fields : Record) (place : ℕ) (same : Bool) → seen ≡ rows
+    → ((same ≡ true) ↔ ((place < length seen) × (get_or seen place [] ≡ fields))) → same ≡ true → IsKnownRow rows spellings rows spellings fields place
+same_row rows seen spellings fields place same is told holds =
+    let stands = subst (λ r. (place < length r) × (get_or r place [] ≡ fields)) is (told.0 holds) in
+    record { rows_stay = refl; spellings_stay = refl; within = stands.0; stands = stands.1 }
 
 -- ---- all records so far
 

@@ -1,6 +1,6 @@
 //! The records of one dimension, each different one kept once.
 
-ghost use Rattle.std.specs.Prelude.{◌≡◌, ◌<◌, ◌≤◌, ◌-◌, ◌^◌, ◌⊎◌, [], ◌∷◌, ◌++◌, length, get_or, map, All, IfOk, OnOk};
+ghost use Rattle.std.specs.Prelude.{◌≡◌, ◌↔◌, ◌<◌, ◌≤◌, ◌-◌, ◌^◌, ◌⊎◌, [], ◌∷◌, ◌++◌, length, get_or, map, true, All, IfOk, OnOk};
 ghost use Rattle.xdg_packed.specs.Lexicon.{column, CountsDifferent};
 ghost use Rattle.xdg_packed.specs.Rows.{AddsFirst, AreSpelled, IsFirst, IsKnownRow, IsNewRow};
 
@@ -8,7 +8,7 @@ use crate::spelling::spell_fields;
 use std::alloc::{AllocError, Global};
 use std::marker::Model;
 use xdg_base::{List, OutOfMemory};
-use xdg_domain::{Entry, Fields};
+use xdg_domain::{Entry, Fields, same_fields};
 use xdg_names::Index;
 
 /// What the entries of a lexicon say in one dimension, seen as the list of their records, one for each entry.
@@ -49,11 +49,13 @@ impl Table {
         let mut firsts = List::new(alloc);
         let mut spellings = Index::new(alloc);
         let mut places = List::new(alloc);
+        let mut before = 0;
         for entry in entries {
             let fields = &entry.as_slice()[dim];
-            let place = place_of(alloc, &mut rows, &mut spellings, fields)?;
+            let place = next_place(alloc, &mut rows, &mut spellings, before, fields)?;
             add_first(&mut firsts, place, places.len() as u32)?;
             places.push(place)?;
+            before = place;
         }
         Ok(Table {
             rows,
@@ -86,7 +88,37 @@ impl Table {
     }
 }
 
-/// The place of a record among different records. One that is new goes last.
+/// The place of a record among different records, given a place at which it is likely to stand: there it is compared, and
+/// looked up only where it differs. One that is new goes last.
+fn next_place(
+    alloc: Global,
+    rows: &mut List<Fields>,
+    spellings: &mut Index,
+    likely: u32,
+    fields: &Fields,
+) -> Result<u32, OutOfMemory>
+    requires spelled { AreSpelled rows.old spellings.old }
+    requires few { length rows.old < 2 ^ 32 - 1 }
+    ensures { IfOk result (λ place. IsKnownRow rows.old spellings.old rows.new spellings.new fields.now place
+        ⊎ IsNewRow rows.old spellings.old rows.new spellings.new fields.now place) }
+{
+    if is_row(rows.as_slice(), likely as usize, fields) {
+        return Ok(likely);
+    }
+    place_of(alloc, rows, spellings, fields)
+}
+
+/// Whether a place is one of these records, and the record there is the given one.
+fn is_row(rows: &[Fields], place: usize, fields: &Fields) -> bool
+    ensures { (result ≡ true) ↔ ((place < length rows.now) × (get_or rows.now place [] ≡ fields.now)) }
+{
+    if place >= rows.len() {
+        return false;
+    }
+    same_fields(rows[place].as_slice(), fields.as_slice())
+}
+
+/// The place of a record among different records, by its spelling. One that is new goes last.
 fn place_of(
     alloc: Global,
     rows: &mut List<Fields>,
