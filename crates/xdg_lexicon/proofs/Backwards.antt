@@ -5,23 +5,10 @@ use Rattle.std.proofs.lemmas.List.{length-append, length-reverse, get_or_append_
 use Rattle.std.specs.Prelude.{Option, Some, MatchOption}
 use Rattle.xdg_domain.specs.Joined.{fields_in}
 use Rattle.xdg_domain.specs.Joins.{SaysBoth, JoinsField, OnSome, ClashesField}
-use Rattle.xdg_domain.specs.Shapes.{Fields}
-use Rattle.xdg_domain.specs.Valencies.{said_at}
 use Rattle.xdg_domain.specs.declared.types.Ty.{Ty}
-use Rattle.xdg_domain.proofs.Keyed.{both_none}
 use Rattle.xdg_types.specs.declared.table.DimType.{DimType}
 use Rattle.xdg_lexicon.specs.Partial.{Record, Partial, features, said_of, IsRecord, IsPartial, PartialsJoin, PartialsClash}
 use Rattle.xdg_lexicon.proofs.Dims.{JoinsAt, within_partial, joined_here, clashes_here}
-
--- ---- records of which one says nothing
-
-pub nothing_first : (fs : Fields) (one other : Record) → one ≡ [] → IsRecord fs other → SaysBoth (JoinsField fs) one other other × IsRecord fs other
-nothing_first fs one other none right = subst (λ l. SaysBoth (JoinsField fs) l other other × IsRecord fs other) (sym none) ((right.0, λ key. refl), right)
-
-pub nothing_second : (fs : Fields) (one other : Record) → other ≡ [] → IsRecord fs one → SaysBoth (JoinsField fs) one other one × IsRecord fs one
-nothing_second fs one other none right = subst (λ l. SaysBoth (JoinsField fs) one l one × IsRecord fs one) (sym none) ((right.0, λ key. both_none (JoinsField fs key) (said_at one key)), right)
-
--- ---- joins
 
 -- Of two partial entries these records are left, and Q holds of those that are made of the ones behind them, the last first.
 pub record BackSoFar (Q : ℕ → Record → Type 0) (bound : ℕ) (a b one other made : Partial) : Type 0 where
@@ -30,15 +17,6 @@ pub record BackSoFar (Q : ℕ → Record → Type 0) (bound : ℕ) (a b one othe
   pub mine : (k : ℕ) → k < length one → said_of one k ≡ said_of a k
   pub theirs : (k : ℕ) → k < length one → said_of other k ≡ said_of b k
   pub each : (i : ℕ) → i < length made → Q (length one + i) (said_of (reverse made) i)
-
-pub back_begun : (Q : ℕ → Record → Type 0) (bound : ℕ) (a b made : Partial) → made ≡ [] → length a ≡ bound → length b ≡ bound → BackSoFar Q bound a b a b made
-back_begun Q bound a b made is long other_long = subst (BackSoFar Q bound a b a b) (sym is) (record {
-  same = other_long ∙ sym long;
-  count = omega (arith, long);
-  mine = λ k h. refl;
-  theirs = λ k h. refl;
-  each = λ i h. absurd (omega (arith, h));
-})
 
 -- the last of each is taken
 module _ (Q : ℕ → Record → Type 0) (bound : ℕ) (a b one other made rest others : Partial) (x y : Record) (s : BackSoFar Q bound a b one other made) (popped : one ≡ rest ++ x ∷ []) where

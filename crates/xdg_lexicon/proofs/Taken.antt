@@ -128,9 +128,6 @@ keys_within fs (e ∷ m) h = (field_within fs e.0 e.1 h.0, keys_within fs m h.1)
 front_whole : (fs : All) (m : Record) → IsRecord (fields_in fs) m → IsFront m (length fs) m
 front_whole fs m right = record { rises = right.0; below = keys_within fs m right.1; says = λ key h. refl }
 
-pub front_below : (whole front : Record) (first key : ℕ) → key + 1 ≡ first → IsFront whole first front → KeysBelow (key + 1) front
-front_below whole front first key next f = subst (λ n. KeysBelow n front) (sym next) f.below
-
 front_less : (whole front rest : Record) (first key : ℕ) → key + 1 ≡ first → IsFront whole first front → ((other : ℕ) → other < key → said_at rest other ≡ said_at front other) → KeysRise 0 rest → KeysBelow key rest → IsFront whole key rest
 front_less whole front rest first key next f same rises below = record { rises = rises; below = below; says = λ other h. same other h ∙ f.says other (omega (arith, next, h)) }
 
