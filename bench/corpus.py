@@ -4,7 +4,7 @@
 Usage: python3 bench/corpus.py PROGRAM [--lines N] [--sample N]
 
 One grammar has 50,000 entries in which a sentence of three words costs next to nothing beside the reading of the grammar, which one processor does. The sample
-examples/german.xdg is read with its own sentences; and the same sentences of 11 words, with six analyses each, are parsed over the sample and over the sample enlarged to 50,000 entries.
+examples/german.xdg is read with its own sentences; and the same sentences of 12 words, with eight analyses each, are parsed over the sample and over the sample enlarged to 50,000 entries.
 
 PROGRAM is the built program, not the script ./xdg, which looks at the sources first. A file has 10,000 lines, or N. Of `parse` a sample of 20
 lines, or N, spread over the file, is run, and the seconds of one run are told. What `corpus` prints is looked at: the numbers of the
@@ -68,9 +68,9 @@ def enlarged():
 
 
 def ambiguous(count):
-    """That many German sentences of 11 words: the 16 of the sample's words with four noun phrases that may be subjects, objects or genitives, in turns."""
-    nominative, genitive = ("die Frau", "die Katze"), ("der Frau", "der Katze")
-    found = [f"dass {a} {b} {c} {d} schenken will" for a, b, c, d in itertools.product(nominative, genitive, nominative, genitive)]
+    """That many German sentences of 12 words: the 32 of the sample's words with five noun phrases that may be subjects, objects or genitives, in turns."""
+    first, other = ("die Frau", "die Katze"), ("der Frau", "der Katze")
+    found = [f"dass {a} {b} {c} {d} {e} schenkt" for a, b, c, d, e in itertools.product(first, other, first, other, other)]
     return [found[k % len(found)] for k in range(count)]
 
 
