@@ -5,8 +5,9 @@ use Rattle.std.proofs.lemmas.Bool.{false_from_ne_true}
 use Rattle.std.proofs.lemmas.Slice.Eq.{bytes_eq-Decides}
 use Rattle.xdg_problem.specs.declared.parts.Principle.{Principle}
 use Rattle.xdg_problem.specs.declared.parts.Principle.TheVariants as principles
-use Rattle.xdg_problem.specs.Names.{name_of, IsOfTexts}
-use Rattle.xdg_build.specs.Groups.{called, called_in, all_principles}
+use Rattle.xdg_problem.specs.Names.{IsOfTexts}
+use Rattle.xdg_build.specs.Groups.{called, called_in}
+use Rattle.xdg_problem.specs.Principles.{name_of, all_principles}
 
 -- grammar texts can use each of the principles
 abbrev AreOfTexts : List Principle → Type 0

@@ -5,8 +5,7 @@ use Rattle.std.proofs.lemmas.Bool.{cases_Bool}
 use Rattle.std.proofs.lemmas.Slice.Eq.{bytes_eq-Decides}
 use Rattle.xdg_problem.specs.declared.parts.Principle.{Principle}
 use Rattle.xdg_problem.specs.declared.parts.Principle.TheVariants as principles
-use Rattle.xdg_problem.specs.Names.{name_of, IsOfTexts}
-use Rattle.xdg_problem.specs.Problems.{dim_arguments, attr_arguments, truth_arguments}
+use Rattle.xdg_problem.specs.Names.{IsOfTexts}
 use Rattle.xdg_principles.specs.declared.principle.Dims.TheVariants as d
 use Rattle.xdg_principles.specs.declared.principle.Element.TheVariants as e
 use Rattle.xdg_principles.specs.declared.principle.Form.{Form}
@@ -24,9 +23,9 @@ use Rattle.xdg_principles.specs.declared.principle.Which.TheVariants as w
 use Rattle.xdg_principles.specs.Principles as table
 use Rattle.xdg_principles.specs.Principles.{has, flag, counted, feature, attribute, required, linking, labels_to_labels, Row, row_named, principle_named, dims_in, parameters}
 use Rattle.xdg_principles.specs.Typed.{number_of}
-use Rattle.xdg_build.specs.Features.{feature_dim}
 use Rattle.xdg_build.specs.Groups.{called}
 use Rattle.xdg_build.proofs.Calling.{one_called}
+use Rattle.xdg_problem.specs.Principles.{name_of, dim_arguments, attr_arguments, truth_arguments, feature_dim}
 
 -- ---- what each principle has
 

@@ -21,13 +21,13 @@ use Rattle.xdg_principles.specs.Principles.{parameters}
 use Rattle.xdg_principles.specs.Typed.{AreTypedArgs, labels_at}
 use Rattle.xdg_problem.specs.declared.parts.Principle.{Principle}
 use Rattle.xdg_problem.specs.declared.parts.Principle.TheVariants as principles
-use Rattle.xdg_problem.specs.Problems.{IsOrderFor}
 use Rattle.xdg_build.specs.Groups.{labels_in}
 use Rattle.xdg_build.proofs.Forms.{form_of}
 use Rattle.xdg_build.proofs.Lists.{all_in, all_mapped}
 use Rattle.xdg_build.proofs.Named.{unlisted}
 use Rattle.xdg_facts.proofs.Lists.{pairs_none}
 use Rattle.xdg_facts.proofs.Lists.{all_none, all_cons}
+use Rattle.xdg_problem.specs.Principles.{IsOrderFor}
 
 pairs_cons : {X : Type 0} (R : X → X → Type 0) (x : X) (xs : List X) → All (λ y. R x y) xs → AllPairs R xs → AllPairs R (x ∷ xs)
 pairs_cons R x xs h t i zero d order within = absurd (omega (arith, order))

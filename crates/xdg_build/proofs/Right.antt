@@ -30,8 +30,8 @@ use Rattle.xdg_problem.specs.declared.parts.Principle.TheVariants as principles
 use Rattle.xdg_problem.specs.Arguments.{label_count, attr_count, value_count}
 use Rattle.xdg_problem.specs.Places.{nodes}
 use Rattle.xdg_problem.specs.Names.{IsOfTexts}
-use Rattle.xdg_problem.specs.Problems.{IsGroup, AreFeatures, IsOrderFor, IsSuited}
-use Rattle.xdg_build.specs.Features.{feature, feature_dim}
+use Rattle.xdg_problem.specs.Problems.{IsGroup, IsSuited}
+use Rattle.xdg_build.specs.Features.{feature}
 use Rattle.xdg_build.specs.Grammars.{Grammar, is_used, used_place, place_in}
 use Rattle.xdg_build.specs.Groups.{attrs_in, labels_in, truths_in, features_in, called, dims_of, group_of, groups_of}
 use Rattle.xdg_build.specs.Rows.{features_by_number}
@@ -46,6 +46,7 @@ use Rattle.xdg_build.proofs.Said.{FitAll, all_fit, entry_at}
 use Rattle.xdg_build.proofs.Taken.{Sizes, SharesFirst, taken}
 use Rattle.xdg_build.proofs.TypeRows.{same_count}
 use Rattle.xdg_facts.proofs.Lists.{all_none, all_cons}
+use Rattle.xdg_problem.specs.Principles.{IsOrderFor, AreFeatures, feature_dim}
 
 -- the features that a use of that principle takes of an entry
 abbrev pub taken_at : Grammar → PrincipleUse → Principle → EntryNo → List Feat

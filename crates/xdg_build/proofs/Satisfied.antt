@@ -20,9 +20,8 @@ use Rattle.xdg_problem.specs.declared.parts.SentenceWord.{SentenceWord}
 use Rattle.xdg_problem.specs.Analyses.{IsAnalysis}
 use Rattle.xdg_problem.specs.Arguments.{label_count, first_dim, second_dim, attr_of, attr_place, order_of, truth_of}
 use Rattle.xdg_problem.specs.Asking.{IsInItem, AsksLink, IsLinked}
-use Rattle.xdg_problem.specs.Conditions.{conditions_for}
 use Rattle.xdg_problem.specs.Features.{row, set_row, map_row}
-use Rattle.xdg_problem.specs.Names.{name_of, IsOfTexts}
+use Rattle.xdg_problem.specs.Names.{IsOfTexts}
 use Rattle.xdg_problem.specs.Paths.{edges_on, IsDaughter, IsDaughterBy}
 use Rattle.xdg_problem.specs.Relations.{Relation}
 use Rattle.xdg_problem.specs.Vectors.{entry_places}
@@ -45,7 +44,7 @@ use Rattle.xdg_principles.specs.declared.principle.Which.TheVariants as nth
 use Rattle.xdg_principles.specs.Principles.{principle_named, parameters, dims_in, linking, labels_to_labels}
 use Rattle.xdg_principles.specs.Typed.{IsTypedUse, IsTypedMember, IsElementOf, number_of, labels_at}
 use Rattle.xdg_principles.specs.Wanted.{IsSame, IsSetOf, IsMapTo}
-use Rattle.xdg_build.specs.Features.{feature_dim, members_in, rows_in}
+use Rattle.xdg_build.specs.Features.{members_in, rows_in}
 use Rattle.xdg_build.specs.Grammars.{Grammar, is_used}
 use Rattle.xdg_build.specs.Groups.{called, features_in, attrs_in, labels_in, truths_in, group_of}
 use Rattle.xdg_build.proofs.Calling.{one_called}
@@ -65,6 +64,7 @@ use Rattle.xdg_build.proofs.Told.{IsTold, on_feature}
 use Rattle.xdg_build.proofs.Different.{one_place}
 use Rattle.xdg_build.proofs.FeatureRows.{same_number, Names, names_number, names_some, same_texts, element, element_right, element_small, member_names, members_below, set_row_is, valency_allows, IsMapRow, map_row_is}
 use Rattle.xdg_facts.proofs.Facts.{then_iff}
+use Rattle.xdg_problem.specs.Principles.{name_of, feature_dim, conditions_for}
 
 -- ---- members
 

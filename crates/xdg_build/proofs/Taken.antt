@@ -15,11 +15,11 @@ use Rattle.xdg_problem.specs.declared.parts.Parts.{Parts}
 use Rattle.xdg_problem.specs.declared.parts.Principle.{Principle}
 use Rattle.xdg_problem.specs.declared.parts.Principle.TheVariants as principles
 use Rattle.xdg_problem.specs.Arguments.{first_dim, second_dim, label_count, value_count, attr_of}
-use Rattle.xdg_problem.specs.Problems.{AreFeatures, AreSets, IsSet, IsValency, IsCardinality}
 use Rattle.xdg_build.proofs.Forms.{form_of, feature_typings, attr_typings}
 use Rattle.xdg_build.proofs.Said.{FitAll}
 use Rattle.xdg_build.proofs.TypeRows.{size}
 use Rattle.xdg_facts.proofs.Lists.{all_cons, all_one}
+use Rattle.xdg_problem.specs.Principles.{IsCardinality, IsValency, IsSet, AreSets, AreFeatures}
 
 -- the first attribute is one of the shared type
 abbrev pub SharesFirst : List (Which × Typing) → Type 0

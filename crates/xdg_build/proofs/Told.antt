@@ -30,7 +30,7 @@ use Rattle.xdg_principles.specs.declared.principle.Sort.TheVariants as sorts
 use Rattle.xdg_principles.specs.declared.principle.Typing.{Typing}
 use Rattle.xdg_principles.specs.declared.principle.Which.{Which}
 use Rattle.xdg_principles.specs.Typed.{IsTypedUse, IsTypedMember, number_of, labels_at}
-use Rattle.xdg_build.specs.Features.{rows_in, rows_of, feature, feature_dim}
+use Rattle.xdg_build.specs.Features.{rows_in, rows_of, feature}
 use Rattle.xdg_build.specs.Grammars.{Grammar, is_used, no_dim, used_place}
 use Rattle.xdg_build.specs.Groups.{called, features_in, features_at, group_of, dims_of}
 use Rattle.xdg_build.proofs.Dimensions.{Home, home_of, has_place, is_used_home, labels-home, members-home}
@@ -40,6 +40,7 @@ use Rattle.xdg_build.specs.Readings.{dimension, type_at, record_for, entry_at, s
 use Rattle.xdg_build.specs.Solutions.{IsAnalysisOf}
 use Rattle.xdg_build.proofs.Readings.{record_same, entry_within}
 use Rattle.xdg_build.proofs.EntryRows.{of_entries}
+use Rattle.xdg_problem.specs.Principles.{feature_dim}
 
 abbrev dim_id : ℕ → DimId
 dim_id n = record { 0 = n }

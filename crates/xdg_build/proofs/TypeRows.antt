@@ -19,10 +19,10 @@ use Rattle.xdg_principles.specs.declared.principle.Typing.TheVariants as t
 use Rattle.xdg_principles.specs.declared.principle.Which.{Which}
 use Rattle.xdg_principles.specs.Typed.{IsElementOf, IsTypedAs}
 use Rattle.xdg_principles.specs.Wanted.{IsSame, IsSetOf}
-use Rattle.xdg_problem.specs.Problems.{IsCardinality, IsSet}
 use Rattle.xdg_build.specs.Features.{members_in, rows_in}
 use Rattle.xdg_build.proofs.Cardinalities.{increases}
 use Rattle.xdg_facts.proofs.Lists.{all_none, all_cons, all_one}
+use Rattle.xdg_problem.specs.Principles.{IsCardinality, IsSet}
 
 -- ---- how many elements
 

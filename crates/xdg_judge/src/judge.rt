@@ -5,7 +5,8 @@ ghost use Rattle.xdg_problem.specs.declared.conditions.Condition.TheVariants as 
 ghost use Rattle.xdg_problem.specs.Analyses.{IsAnalysis};
 ghost use Rattle.xdg_problem.specs.declared.parts.Group.{Group};
 ghost use Rattle.xdg_problem.specs.declared.parts.Principle.TheVariants as principles;
-ghost use Rattle.xdg_problem.specs.Conditions.{conditions_of, conditions_for};
+ghost use Rattle.xdg_problem.specs.Conditions.{conditions_of};
+ghost use Rattle.xdg_problem.specs.Principles.{conditions_for};
 ghost use Rattle.xdg_problem.specs.Problems.{IsProblem};
 ghost use Rattle.xdg_problem.specs.Relations.{Relation};
 ghost use Rattle.xdg_judge.specs.Searching.{IsSearched, tuple_for, second_size, third_size};

@@ -13,7 +13,7 @@ use Rattle.xdg_problem.specs.declared.parts.Principle.TheVariants as principles
 use Rattle.xdg_problem.specs.Arguments.{attr_of, first_dim}
 use Rattle.xdg_problem.specs.Boxes.{Has, IsBox, LiesIn, May, edge_decision, entry_decision}
 use Rattle.xdg_problem.specs.Places.{edge, nodes}
-use Rattle.xdg_problem.specs.Problems.{IsGroup, IsProblem, attr_arguments, dim_arguments}
+use Rattle.xdg_problem.specs.Problems.{IsGroup, IsProblem}
 use Rattle.xdg_problem.specs.Vectors.{shape}
 use Rattle.xdg_problem.proofs.PlaceOrder.{is_place, place_is}
 use Rattle.xdg_rules.specs.Rules.{AgrValues, IsClosedFor, IsPlaceOn, TakesBy, attr_of_node, must_edges}
@@ -33,6 +33,7 @@ use Rattle.xdg_pagree.specs.Untouched.{AreOthersDone, AreOthersDoneAt, AreTouche
 use Rattle.xdg_pagree.proofs.AtNodes.{daughters_last, lacks_present, place_edge}
 use Rattle.xdg_pagree.proofs.Looping.{AreDone}
 use Rattle.xdg_pagree.proofs.Keeping.{KeepsPlace, asks_before, attr_some, lacks_before}
+use Rattle.xdg_problem.specs.Principles.{dim_arguments, attr_arguments}
 
 -- ---- what was closed is done where nothing was lost
 

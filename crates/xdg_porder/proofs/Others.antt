@@ -11,7 +11,7 @@ use Rattle.xdg_problem.specs.declared.parts.Principle.TheVariants as principles
 use Rattle.xdg_problem.specs.Arguments.{attr_of, first_dim, order_of}
 use Rattle.xdg_problem.specs.Boxes.{Has, IsBox, LiesIn, edge_decision}
 use Rattle.xdg_problem.specs.Places.{nodes}
-use Rattle.xdg_problem.specs.Problems.{IsGroup, IsProblem, attr_arguments, dim_arguments}
+use Rattle.xdg_problem.specs.Problems.{IsGroup, IsProblem}
 use Rattle.xdg_problem.specs.Vectors.{shape}
 use Rattle.xdg_rules.specs.Rules.{ComesBefore, IsClosedFor, attr_of_node}
 use Rattle.xdg_store.specs.States.{State}
@@ -22,6 +22,7 @@ use Rattle.xdg_propcore.specs.Touching.{HasTouched}
 use Rattle.xdg_propcore.specs.declared.touched.Touched.{Touched}
 use Rattle.xdg_porder.specs.Items.{AreMothersDone, AreOthersDone, IsAtNode, IsNodeDone, IsWrong, MayStand, MustStand, edge_to, label_at}
 use Rattle.xdg_porder.proofs.Pairing.{at_comes, edge_goes, own_goes}
+use Rattle.xdg_problem.specs.Principles.{dim_arguments, attr_arguments}
 
 -- ---- where the box is closed nothing is left
 

@@ -11,12 +11,13 @@ use Rattle.xdg_problem.specs.declared.parts.Principle.TheVariants as principles
 use Rattle.xdg_problem.specs.Analyses.{IsPlace}
 use Rattle.xdg_problem.specs.Arguments.{first_dim, order_of, label_count}
 use Rattle.xdg_problem.specs.Boxes.{Has, Must, edge_decision}
-use Rattle.xdg_problem.specs.Problems.{IsGroup, IsOrderFor}
+use Rattle.xdg_problem.specs.Problems.{IsGroup}
 use Rattle.xdg_problem.proofs.PlaceOrder.{place_is}
 use Rattle.xdg_rules.specs.Rules.{ComesBefore, Takes, TakesBy, attr_of_node, must_edges}
 use Rattle.xdg_rules.proofs.Shrinking.{must_exact}
 use Rattle.xdg_store.specs.States.{State, Known}
 use Rattle.xdg_porder.specs.Items.{AreWrong, IsAtNode, IsWrong, MayStand, MustStand, TakesItems, edge_to}
+use Rattle.xdg_problem.specs.Principles.{IsOrderFor}
 
 -- ---- labels that come before others
 

@@ -14,7 +14,8 @@ use Rattle.xdg_problem.specs.Tests.{out_count, no_cycle, ordered_daughters, orde
 use Rattle.xdg_problem.specs.Tests.{linked_end, linked_daughter, linked_mother, linked_sister, linked_path}
 use Rattle.xdg_problem.proofs.Looking.{and_3, sees_place}
 use Rattle.xdg_propcore.specs.Kinds.{IsNamed, entry_kind, attr_kind, edge_kind}
-use Rattle.xdg_propcore.specs.UseKinds.{IsKindFor, IsKindOf, looks_at_attrs, looks_at_entries, looks_at_first, looks_at_second}
+use Rattle.xdg_propcore.specs.UseKinds.{IsKindFor, IsKindOf}
+use Rattle.xdg_problem.specs.Principles.{looks_at_entries, looks_at_attrs, looks_at_first, looks_at_second}
 
 never : {A : Type 0} → false ≡ true → A
 never e = absurd (false≢true e)

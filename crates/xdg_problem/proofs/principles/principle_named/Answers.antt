@@ -1,6 +1,6 @@
 use Rattle.std.proofs.Common.{sym}
 use Rattle.xdg_problem.specs.declared.parts.Principle.TheVariants as principles
-use Rattle.xdg_problem.proofs.names.principle_named.Goals as goal
+use Rattle.xdg_problem.proofs.principles.principle_named.Goals as goal
 
 pub returns-in_default : goal.returns-in_default
 returns-in_default c principles.Graph of e = c.in_default.not-text (sym e)
