@@ -16,8 +16,8 @@ use crate::params::Known;
 use crate::repeats::{classes_again, params_again};
 use crate::uses::check_calls;
 use std::alloc::{AllocError, Global};
-use xdg_ast::{Name, Statement};
-use xdg_base::{Cause, Fault};
+use xdg_ast::Statement;
+use xdg_base::Fault;
 use xdg_names::{Index, earlier};
 use xdg_types::{DimType, TypeTable};
 
@@ -134,27 +134,13 @@ fn dim_names(alloc: Global, dims: &[DimType]) -> Result<Index, AllocError>
     Ok(all)
 }
 
-/// The fault of a dimension that isn't among those that are known.
-fn unknown_dim(known: &Index, name: &Name) -> Option<Fault>
-    ensures { result ≡ first (unknown known.now name.now) }
-{
-    if known.contains(name.text.as_str()) {
-        return None;
-    }
-    Some(Fault {
-        cause: Cause::UnknownName,
-        at: name.span.start,
-        reached: 0,
-    })
-}
-
 /// The first record of a dimension that isn't among those that are known.
 fn unknown_dims(known: &Index, records: &[Record]) -> Option<Fault>
     ensures { result ≡ first (flat_map (spec.said_faults known.now) (map said records.now)) }
 {
     let mut found = None;
     for record in records {
-        found = earlier(found, unknown_dim(known, record.dim));
+        found = earlier(found, xdg_types::unknown(known, record.dim));
     }
     found
 }

@@ -10,27 +10,9 @@ ghost use Rattle.xdg_principles.specs.Uses as spec;
 
 use std::alloc::{AllocError, Global};
 use xdg_ast::{Name, Pair};
-use xdg_base::{Cause, Fault};
+use xdg_base::Fault;
 use xdg_names::{Index, earlier};
-
-/// The fault of a name that was seen before. From then on it is seen.
-pub(crate) fn repeated(
-    alloc: Global,
-    seen: &mut Index,
-    name: &Name,
-) -> Result<Option<Fault>, AllocError>
-    ensures found { IfOk result (λ found. found ≡ first (names.repeated seen.old name.now)) }
-    ensures seen { IfOk result (λ _. seen.new ≡ names.with_text seen.old name.now.text) }
-{
-    if seen.add(alloc, name.text.as_str())? {
-        return Ok(None);
-    }
-    Ok(Some(Fault {
-        cause: Cause::Twice,
-        at: name.span.start,
-        reached: 0,
-    }))
-}
+use xdg_types::{repeated, unknown};
 
 /// The first key that stands there before.
 pub(crate) fn keys_again<T>(alloc: Global, pairs: &[Pair<T>]) -> Result<Option<Fault>, AllocError>
@@ -77,19 +59,4 @@ pub(crate) fn unknown_among(known: &Index, pairs: &[Pair<Name>]) -> Option<Fault
         found = earlier(found, unknown(known, &pair.value));
     }
     found
-}
-
-/// The fault of a name that isn't among these.
-fn unknown(known: &Index, name: &Name) -> Option<Fault>
-    ensures { result ≡ first (names.unknown known.now name.now) }
-{
-    if known.contains(name.text.as_str()) {
-        None
-    } else {
-        Some(Fault {
-            cause: Cause::UnknownName,
-            at: name.span.start,
-            reached: 0,
-        })
-    }
 }

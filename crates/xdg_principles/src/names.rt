@@ -12,13 +12,14 @@ ghost use Rattle.xdg_principles.specs.NameFaults as spec;
 ghost use Rattle.xdg_principles.specs.Principles.{dim_key, dims_in, told, key_text, principle_named};
 ghost use Rattle.xdg_principles.specs.Uses.{keys, seen};
 
-use crate::keys::{has_key, keys_again, repeated, unknown_among};
+use crate::keys::{has_key, keys_again, unknown_among};
 use crate::principle::{Dims, Form, Parameter, Preset, Which, principle};
 use crate::using::{UseRef, principle_uses};
 use std::alloc::{AllocError, Global};
 use xdg_ast::{Name, Pair, Statement, StatementKind, Term};
 use xdg_base::{Cause, Fault};
 use xdg_names::{Index, earlier};
+use xdg_types::repeated;
 
 /// The first fault of the names in the uses of principles, in dimensions that are used and in others, if there is one.
 ///

@@ -6,11 +6,11 @@ ghost use Rattle.xdg_types.specs.Written.{tree, lists};
 ghost use Rattle.xdg_types.specs.NameFaults as spec;
 ghost use Rattle.xdg_typing.specs.Listed as listing;
 
-use crate::repeats::repeated;
 use std::alloc::{AllocError, Global};
 use xdg_ast::{Name, Pair, TypeKind, TypeTerm};
 use xdg_base::Fault;
 use xdg_names::{Index, earlier};
+use xdg_types::repeated;
 
 /// The first constant of a domain in a type, or field of a record in it, that stands there before.
 pub(crate) fn lists_again(alloc: Global, ty: &TypeTerm) -> Result<Option<Fault>, AllocError>

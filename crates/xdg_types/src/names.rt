@@ -1,0 +1,43 @@
+//! A name among others: one that stands again where it may stand once, and one that stands for nothing.
+
+ghost use Rattle.std.specs.Prelude.{◌≡◌, IfOk};
+ghost use Rattle.xdg_names.specs.First.{first};
+ghost use Rattle.xdg_types.specs.NameFaults as spec;
+
+use std::alloc::{AllocError, Global};
+use xdg_ast::Name;
+use xdg_base::{Cause, Fault};
+use xdg_names::Index;
+
+/// The fault of a name that was seen before. From then on it is seen.
+///
+/// # Errors
+///
+/// Fails where memory runs out.
+pub fn repeated(alloc: Global, seen: &mut Index, name: &Name) -> Result<Option<Fault>, AllocError>
+    ensures found { IfOk result (λ found. found ≡ first (spec.repeated seen.old name.now)) }
+    ensures seen { IfOk result (λ _. seen.new ≡ spec.with_text seen.old name.now.text) }
+{
+    if seen.add(alloc, name.text.as_str())? {
+        return Ok(None);
+    }
+    Ok(Some(Fault {
+        cause: Cause::Twice,
+        at: name.span.start,
+        reached: 0,
+    }))
+}
+
+/// The fault of a name that isn't among those that are known.
+pub fn unknown(known: &Index, name: &Name) -> Option<Fault>
+    ensures { result ≡ first (spec.unknown known.now name.now) }
+{
+    if known.contains(name.text.as_str()) {
+        return None;
+    }
+    Some(Fault {
+        cause: Cause::UnknownName,
+        at: name.span.start,
+        reached: 0,
+    })
+}
