@@ -1,34 +1,21 @@
 //! Keys of dimensions and arguments.
 
-ghost use Rattle.std.specs.Prelude.{◌≡◌, [], flat_map, IfOk};
+ghost use Rattle.std.specs.Prelude.{◌≡◌, flat_map};
 ghost use Rattle.std.specs.Option.{option_copied};
 ghost use Rattle.xdg_names.specs.First.{first};
 ghost use Rattle.xdg_names.specs.Texts.{has_text};
 ghost use Rattle.xdg_types.specs.NameFaults as names;
-ghost use Rattle.xdg_types.specs.Parts.{texts};
+ghost use Rattle.xdg_types.specs.Parts.{texts, keys};
 ghost use Rattle.xdg_principles.specs.Uses as spec;
 
-use std::alloc::{AllocError, Global};
 use xdg_ast::{Name, Pair};
 use xdg_base::Fault;
 use xdg_names::{Index, earlier};
-use xdg_types::{repeated, unknown};
-
-/// The first key that stands there before.
-pub(crate) fn keys_again<T>(alloc: Global, pairs: &[Pair<T>]) -> Result<Option<Fault>, AllocError>
-    ensures { IfOk result (λ found. found ≡ first (names.repeats [] (spec.keys pairs.now))) }
-{
-    let mut seen = Index::new(alloc);
-    let mut found = None;
-    for pair in pairs {
-        found = earlier(found, repeated(alloc, &mut seen, &pair.key)?);
-    }
-    Ok(found)
-}
+use xdg_types::unknown;
 
 /// Whether a key stands there.
 pub(crate) fn has_key<T>(pairs: &[Pair<T>], key: &str) -> bool
-    ensures { result ≡ has_text (texts (spec.keys pairs.now)) key.now }
+    ensures { result ≡ has_text (texts (keys pairs.now)) key.now }
 {
     for pair in pairs {
         if pair.key.text.as_str() == key {

@@ -1,13 +1,14 @@
 //! A name among others: one that stands again where it may stand once, and one that stands for nothing.
 
-ghost use Rattle.std.specs.Prelude.{◌≡◌, IfOk};
+ghost use Rattle.std.specs.Prelude.{◌≡◌, [], IfOk};
 ghost use Rattle.xdg_names.specs.First.{first};
 ghost use Rattle.xdg_types.specs.NameFaults as spec;
+ghost use Rattle.xdg_types.specs.Parts.{keys};
 
 use std::alloc::{AllocError, Global};
-use xdg_ast::Name;
+use xdg_ast::{Name, Pair};
 use xdg_base::{Cause, Fault};
-use xdg_names::Index;
+use xdg_names::{Index, earlier};
 
 /// The fault of a name that was seen before. From then on it is seen.
 ///
@@ -26,6 +27,38 @@ pub fn repeated(alloc: Global, seen: &mut Index, name: &Name) -> Result<Option<F
         at: name.span.start,
         reached: 0,
     }))
+}
+
+/// The first key that was seen before. From then on all keys are seen.
+///
+/// # Errors
+///
+/// Fails where memory runs out.
+pub fn keys_seen<T>(
+    alloc: Global,
+    seen: &mut Index,
+    pairs: &[Pair<T>],
+) -> Result<Option<Fault>, AllocError>
+    ensures found { IfOk result (λ found. found ≡ first (spec.repeats seen.old (keys pairs.now))) }
+    ensures seen { IfOk result (λ _. seen.new ≡ spec.with_all seen.old (keys pairs.now)) }
+{
+    let mut found = None;
+    for pair in pairs {
+        found = earlier(found, repeated(alloc, seen, &pair.key)?);
+    }
+    Ok(found)
+}
+
+/// The first key that stands there before.
+///
+/// # Errors
+///
+/// Fails where memory runs out.
+pub fn keys_again<T>(alloc: Global, pairs: &[Pair<T>]) -> Result<Option<Fault>, AllocError>
+    ensures { IfOk result (λ found. found ≡ first (spec.repeats [] (keys pairs.now))) }
+{
+    let mut seen = Index::new(alloc);
+    keys_seen(alloc, &mut seen, pairs)
 }
 
 /// The fault of a name that isn't among those that are known.
