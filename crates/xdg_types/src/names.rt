@@ -1,10 +1,12 @@
-//! A name among others: one that stands again where it may stand once, and one that stands for nothing.
+//! Names among others: one that stands again where it may stand once, one that stands for nothing, and names by number.
 
-ghost use Rattle.std.specs.Prelude.{◌≡◌, [], IfOk};
+ghost use Rattle.std.specs.Prelude.{◌≡◌, [], map, IfOk};
+ghost use Rattle.xdg_domain.specs.Shapes.{Differ};
 ghost use Rattle.xdg_names.specs.First.{first};
 ghost use Rattle.xdg_types.specs.NameFaults as spec;
 ghost use Rattle.xdg_types.specs.Parts.{keys};
 
+use crate::table::DimType;
 use std::alloc::{AllocError, Global};
 use xdg_ast::{Name, Pair};
 use xdg_base::{Cause, Fault};
@@ -73,4 +75,20 @@ pub fn unknown(known: &Index, name: &Name) -> Option<Fault>
         at: name.span.start,
         reached: 0,
     })
+}
+
+/// The names of dimensions by number, which differ.
+///
+/// # Errors
+///
+/// Fails where memory runs out.
+pub fn index_dims(alloc: Global, dims: &[DimType]) -> Result<Index, AllocError>
+    requires { Differ (map (λ dim. dim.name) dims.now) }
+    ensures { IfOk result (λ made. made ≡ map (λ dim. dim.name) dims.now) }
+{
+    let mut all = Index::new(alloc);
+    for dim in dims {
+        all.add(alloc, dim.name.as_str())?;
+    }
+    Ok(all)
 }
