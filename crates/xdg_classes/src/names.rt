@@ -78,7 +78,8 @@ fn classes_wrong(
 ) -> Result<Option<Fault>, AllocError>
     ensures { IfOk result (λ found. found ≡ first (repeats [] (class_names (map class_def definitions.now))
         ++
-        (flat_map spec.param_faults (map class_def definitions.now) ++ flat_map (spec.call_faults (map class_def definitions.now)) (sites.all_calls statements.now)))) }
+        (flat_map spec.param_faults (map class_def definitions.now)
+        ++ flat_map (spec.call_faults (map class_def definitions.now)) (sites.all_calls statements.now)))) }
 {
     let twice = class_names_again(alloc, definitions)?;
     let params = all_params_again(alloc, definitions)?;

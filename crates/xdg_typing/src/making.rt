@@ -26,7 +26,8 @@ pub(crate) fn table<'a>(
         × (Knows names definitions.now.names (map (λ head. head.now) definitions.now.heads.items)
         × (Weighs names definitions.now.names definitions.now.weights.items × AreRight statements.now names)) }
     ensures made { IfOk result
-        (λ made. (names : Naming) → Knows names definitions.now.names (map (λ head. head.now) definitions.now.heads.items) → IsTableOf names statements.now made) }
+        (λ made. (names : Naming) → Knows names definitions.now.names (map (λ head. head.now) definitions.now.heads.items)
+        → IsTableOf names statements.now made) }
     ensures within { IfOk result (λ _. (names : Naming) → Weighs names definitions.now.names definitions.now.weights.items → AreSmall names statements.now) }
 {
     if !is_small(definitions, statements) {
