@@ -1,5 +1,5 @@
--- What is wrong with the values in bodies, part by part, where it is known which types features have and which types are
--- wanted of the parameters of classes.
+-- What is wrong with the values in bodies, part by part, as the code goes through them, where it is known which types
+-- features have and which types are wanted of the parameters of classes.
 use Rattle.std.specs.Prelude.{◌≡◌, ◌⊎◌, ℕ, List, [], ◌∷◌, ◌++◌, Option, None, Some}
 use Rattle.xdg_ast.specs.declared.names.Name.{Name}
 use Rattle.xdg_ast.specs.declared.names.Pair.{Pair}
