@@ -13,12 +13,12 @@ use Rattle.xdg_names.proofs.In.{in_append, in_left, in_right}
 use Rattle.xdg_names.specs.Texts.{has_text}
 use Rattle.xdg_types.specs.Answers.{None_of}
 use Rattle.xdg_types.specs.Names.{fault_at}
-use Rattle.xdg_types.specs.Parts.{Statement}
+use Rattle.xdg_types.specs.Parts.{Statement, keys}
 use Rattle.xdg_types.specs.Table.{Table}
 use Rattle.xdg_types.proofs.Elements.{among_or_not, among_append, among_left, among_right, among_name, differ_append}
 use Rattle.xdg_types.proofs.Distinct.{among_has, has_among}
 use Rattle.xdg_classes.specs.Bodies.{Term, Called}
-use Rattle.xdg_classes.specs.Definitions.{ClassDef, classes, class_names, class_named, texts, param_names, keys}
+use Rattle.xdg_classes.specs.Definitions.{ClassDef, classes, class_names, class_named, texts, param_names}
 use Rattle.xdg_classes.specs.Names.{NameOffends, all_calls, once}
 use Rattle.xdg_classes.proofs.NameLaw.{in_map, no_repeat}
 use Rattle.xdg_check.specs.declared.checked.Class.{Class}

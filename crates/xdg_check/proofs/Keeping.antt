@@ -13,12 +13,12 @@ use Rattle.xdg_names.proofs.In.{in_append, flat_map_in}
 use Rattle.xdg_types.specs.declared.table.DimType.{DimType}
 use Rattle.xdg_types.specs.Answers.{None_of}
 use Rattle.xdg_types.specs.Names.{fault_at}
-use Rattle.xdg_types.specs.Parts.{Statement}
+use Rattle.xdg_types.specs.Parts.{Statement, keys}
 use Rattle.xdg_types.specs.Table.{Table, typed}
 use Rattle.xdg_types.proofs.Elements.{among_or_not}
 use Rattle.xdg_terms.specs.Wanted.{params_in}
 use Rattle.xdg_classes.specs.Bodies.{Term, Body, Said, Called, records, calls}
-use Rattle.xdg_classes.specs.Definitions.{ClassDef, classes, texts, keys, Scoped, bodies}
+use Rattle.xdg_classes.specs.Definitions.{ClassDef, classes, texts, Scoped, bodies}
 use Rattle.xdg_classes.specs.Names.{NameOffends, all_calls, dim_texts}
 use Rattle.xdg_classes.proofs.NameLaw.{in_map}
 use Rattle.xdg_classes.specs.Wants as w

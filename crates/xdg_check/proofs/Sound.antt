@@ -7,12 +7,12 @@ use Rattle.xdg_domain.specs.Shapes.{Shape}
 use Rattle.xdg_names.specs.First.{In}
 use Rattle.xdg_types.specs.Answers.{None_of}
 use Rattle.xdg_types.specs.Names.{fault_at}
-use Rattle.xdg_types.specs.Parts.{Statement}
+use Rattle.xdg_types.specs.Parts.{Statement, keys}
 use Rattle.xdg_types.specs.Table.{Table}
 use Rattle.xdg_types.proofs.Elements.{among_or_not, differ_unless}
 use Rattle.xdg_terms.specs.Stray.{IsStrayParam}
 use Rattle.xdg_classes.specs.Bodies.{Term, Said, records}
-use Rattle.xdg_classes.specs.Definitions.{Scoped, bodies, keys}
+use Rattle.xdg_classes.specs.Definitions.{Scoped, bodies}
 use Rattle.xdg_classes.specs.Offences.{ValueOffends}
 use Rattle.xdg_classes.specs.Wants.{feature_shape}
 use Rattle.xdg_check.specs.Checked.{IsRight, IsScoped}

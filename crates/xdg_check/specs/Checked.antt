@@ -11,7 +11,8 @@ use Rattle.xdg_types.specs.Table.{Table, Typed, typed, IsTable}
 use Rattle.xdg_terms.specs.Offences.{OpenOffends}
 use Rattle.xdg_terms.specs.Stray.{tokens}
 use Rattle.xdg_classes.specs.Bodies.{Term, Body, body, Said, Called, records, calls}
-use Rattle.xdg_classes.specs.Definitions.{keys, texts}
+use Rattle.xdg_classes.specs.Definitions.{texts}
+use Rattle.xdg_types.specs.Parts.{keys}
 use Rattle.xdg_classes.specs.Wants.{NamedBody, Wants}
 use Rattle.xdg_principles.specs.declared.building.PrincipleUse.{PrincipleUse}
 use Rattle.xdg_principles.specs.Typed.{IsTypedUse}

@@ -16,12 +16,12 @@ use Rattle.xdg_names.specs.Texts.{has_text}
 use Rattle.xdg_types.specs.Answers.{None_of}
 use Rattle.xdg_types.specs.Names.{fault_at}
 use Rattle.xdg_types.specs.NameFaults.{repeats, different}
-use Rattle.xdg_types.specs.Parts.{Statement}
+use Rattle.xdg_types.specs.Parts.{Statement, keys}
 use Rattle.xdg_types.specs.Table.{Table}
 use Rattle.xdg_types.proofs.Distinct.{has_among, among_has, missing, not_there, same_known}
 use Rattle.xdg_types.proofs.NamesAgain.{again_sound, again_complete, differ_by}
 use Rattle.xdg_classes.specs.Bodies.{Term, Called}
-use Rattle.xdg_classes.specs.Definitions.{ClassDef, classes, class_names, class_named, param_names, keys, texts}
+use Rattle.xdg_classes.specs.Definitions.{ClassDef, classes, class_names, class_named, param_names, texts}
 use Rattle.xdg_classes.specs.Names.{dim_texts, all_records, all_calls, once, IsTwice, IsLeftOut, NameOffends}
 use Rattle.xdg_classes.specs.NameFaults.{bare_of, bare_names, asked_by, unknown_param, lacks, left_out, class_faults, call_faults, said_faults, param_faults, name_faults}
 

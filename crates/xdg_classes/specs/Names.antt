@@ -7,10 +7,10 @@ use Rattle.xdg_base.specs.declared.faults.Fault.{Fault}
 use Rattle.xdg_domain.specs.Shapes.{Among}
 use Rattle.xdg_names.specs.First.{In}
 use Rattle.xdg_types.specs.Names.{fault_at}
-use Rattle.xdg_types.specs.Parts.{Statement}
+use Rattle.xdg_types.specs.Parts.{Statement, keys}
 use Rattle.xdg_types.specs.Table.{Table}
 use Rattle.xdg_classes.specs.Bodies.{Said, Called, records, calls}
-use Rattle.xdg_classes.specs.Definitions.{ClassDef, classes, class_names, class_named, param_names, keys, texts, bodies}
+use Rattle.xdg_classes.specs.Definitions.{ClassDef, classes, class_names, class_named, param_names, texts, bodies}
 
 -- the names of the defined dimensions
 abbrev pub dim_texts : Table → List (List ℕ)

@@ -10,10 +10,10 @@ use Rattle.xdg_names.specs.First.{In}
 use Rattle.xdg_terms.specs.Offences.{OpenOffends}
 use Rattle.xdg_terms.specs.Stray.{IsStrayParam}
 use Rattle.xdg_types.specs.Names.{fault_at}
-use Rattle.xdg_types.specs.Parts.{Statement}
+use Rattle.xdg_types.specs.Parts.{Statement, keys}
 use Rattle.xdg_types.specs.Table.{Table}
 use Rattle.xdg_classes.specs.Bodies.{Term, Said, Called, records, calls}
-use Rattle.xdg_classes.specs.Definitions.{ClassDef, Scoped, bodies, classes, keys, texts}
+use Rattle.xdg_classes.specs.Definitions.{ClassDef, Scoped, bodies, classes, texts}
 use Rattle.xdg_classes.specs.Wants.{feature_shape, named_bodies, Wants}
 
 -- something is said of a feature that the dimension hasn't; its term isn't looked at

@@ -1,5 +1,5 @@
--- What is wrong with the values in bodies, part by part, where it is known which types features have and which types are
--- wanted of the parameters of classes.
+-- What is wrong with the values in bodies, part by part, as the code goes through them, where it is known which types
+-- features have and which types are wanted of the parameters of classes.
 use Rattle.std.specs.Prelude.{◌≡◌, ◌⊎◌, ℕ, List, [], ◌∷◌, ◌++◌, Option, None, Some}
 use Rattle.xdg_ast.specs.declared.names.Name.{Name}
 use Rattle.xdg_ast.specs.declared.names.Pair.{Pair}
@@ -11,9 +11,9 @@ use Rattle.xdg_names.specs.First.{In}
 use Rattle.xdg_terms.specs.Offences.{OpenOffends}
 use Rattle.xdg_terms.specs.Stray.{IsStrayParam}
 use Rattle.xdg_types.specs.Names.{fault_at}
-use Rattle.xdg_types.specs.Parts.{Statement}
+use Rattle.xdg_types.specs.Parts.{Statement, keys}
 use Rattle.xdg_classes.specs.Bodies.{Term, Body, Said, Called, records, calls}
-use Rattle.xdg_classes.specs.Definitions.{ClassDef, Scoped, class, scoped, keys, texts}
+use Rattle.xdg_classes.specs.Definitions.{ClassDef, Scoped, class, scoped, texts}
 
 -- it is wrong with one of these
 abbrev pub SomeOf : {A : Type 0} → List A → (A → Fault → Type 0) → Fault → Type 0

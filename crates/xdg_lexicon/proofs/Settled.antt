@@ -21,7 +21,8 @@ use Rattle.xdg_terms.specs.Wanted.{params_in}
 use Rattle.xdg_terms.proofs.Binding.{bound_law}
 use Rattle.xdg_terms.proofs.ClosedLaw.{closed_law}
 use Rattle.xdg_classes.specs.Bodies.{Pairs, Expr, Body, either, body, Said, Called, records, records_in, calls, calls_in}
-use Rattle.xdg_classes.specs.Definitions.{keys, texts}
+use Rattle.xdg_classes.specs.Definitions.{texts}
+use Rattle.xdg_types.specs.Parts.{keys}
 use Rattle.xdg_classes.proofs.Bodied.{trees, body_dim}
 use Rattle.xdg_classes.specs.Wants.{Wants, at_feature, at_argument, feature_shape, feature_in, dim_named, type_named}
 use Rattle.xdg_check.specs.declared.checked.Class.{Class}

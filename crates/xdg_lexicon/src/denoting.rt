@@ -32,7 +32,8 @@ pub fn members(alloc: Global, checked: &Checked, expr: &Expr) -> Result<List<Par
     requires entry { (e : EntryDef) × (In checked.now.entries e × (e.body ≡ expr.now)) }
     ensures denotes { IfOk result (λ made. Denotes checked.now.types.dims (named_bodies checked.now.classes) [] (body expr.now.kind) made) }
     ensures once { IfOk result
-        (λ made. (others : List spec.Partial) → Denotes checked.now.types.dims (named_bodies checked.now.classes) [] (body expr.now.kind) others → others ≡ made) }
+        (λ made. (others : List spec.Partial)
+        → Denotes checked.now.types.dims (named_bodies checked.now.classes) [] (body expr.now.kind) others → others ≡ made) }
     ensures partial { IfOk result (λ made. ArePartial checked.now.types.dims made) }
     ensures few { IfOk result (λ made. (names : Counting) → Agrees combos checked.now.classes names → length made ≤ combos names (body expr.now.kind)) }
 {

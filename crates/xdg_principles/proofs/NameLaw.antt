@@ -11,14 +11,14 @@ use Rattle.xdg_names.proofs.In.{in_append, in_left, in_right, in_flat_map, flat_
 use Rattle.xdg_names.specs.Texts.{has_text}
 use Rattle.xdg_types.specs.Names.{fault_at}
 use Rattle.xdg_types.specs.NameFaults.{unknown, repeats, different}
-use Rattle.xdg_types.specs.Parts.{Statement, dim_names, used_names, texts}
+use Rattle.xdg_types.specs.Parts.{Statement, dim_names, used_names, texts, keys}
 use Rattle.xdg_types.proofs.Distinct.{missing, not_there, has_among, among_has, same_known}
 use Rattle.xdg_types.proofs.NamesAgain.{again_sound, again_complete}
 use Rattle.xdg_principles.specs.declared.principle.Form.{Form}
 use Rattle.xdg_principles.specs.Names.{IsForeign, IsMissing, PrincipleNameOffends, once, dim_keys, arg_keys, required_keys}
 use Rattle.xdg_principles.specs.NameFaults.{foreign, lacking, key_faults, left_out, form_faults, again, unused, use_faults, name_faults}
 use Rattle.xdg_principles.specs.Principles.{principle_named}
-use Rattle.xdg_principles.specs.Uses.{Use, principle_uses, keys, values}
+use Rattle.xdg_principles.specs.Uses.{Use, principle_uses, values}
 use Rattle.xdg_principles.proofs.Tests.{not_among, no_text, when_some, some_when}
 
 module _ (statements : List Statement) where

@@ -19,7 +19,7 @@ use Rattle.xdg_terms.specs.Offences.{is_some}
 use Rattle.xdg_terms.specs.Means.{truth_text}
 use Rattle.xdg_types.specs.Answers.{None_of}
 use Rattle.xdg_types.specs.Names.{fault_at}
-use Rattle.xdg_types.specs.Parts.{DimPart, Statement, Dimension, dimensions, dim_names, texts}
+use Rattle.xdg_types.specs.Parts.{DimPart, Statement, Dimension, dimensions, dim_names, texts, keys}
 use Rattle.xdg_types.specs.Table.{Table, firsts}
 use Rattle.xdg_types.proofs.Elements.{among_or_not}
 use Rattle.xdg_principles.specs.declared.principle.Form.{Form}
@@ -34,7 +34,7 @@ use Rattle.xdg_principles.specs.declared.principle.Wanted.{Wanted}
 use Rattle.xdg_principles.specs.declared.principle.Wanted.TheVariants as a
 use Rattle.xdg_principles.specs.Principles.{principle_named, dim_key, dims_in, key_text, parameters, preset_feature}
 use Rattle.xdg_principles.specs.Names.{PrincipleNameOffends, key_if_required, required_key}
-use Rattle.xdg_principles.specs.Uses.{Use, use_in, uses_in, principle_uses, keys, values, under}
+use Rattle.xdg_principles.specs.Uses.{Use, use_in, uses_in, principle_uses, values, under}
 use Rattle.xdg_principles.specs.Settings.{Setting, Called, with_form, setting, arguments_in, arguments, dim_texts, dim_place, place_named, labels, members, term_in, constant_at, list_of, list_at, listed_in, called_in, called_or, called_at, called_by, names_at}
 use Rattle.xdg_principles.specs.Arguments.{OneOffends, ArgumentOffends, has_form, truths}
 use Rattle.xdg_principles.specs.Made.{HasDims, IsMember, AreLabels, IsLabelList, IsTruth, IsArg, AreArgs, ArePlaces, IsUse, AreUses, ArePrincipleUses, or_zero, place_called, member_number, label_number, truth_of, arg, args, built_with, built}

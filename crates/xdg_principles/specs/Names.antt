@@ -6,13 +6,13 @@ use Rattle.xdg_base.specs.declared.faults.Fault.{Fault}
 use Rattle.xdg_domain.specs.Shapes.{Among}
 use Rattle.xdg_names.specs.First.{In}
 use Rattle.xdg_types.specs.Names.{fault_at}
-use Rattle.xdg_types.specs.Parts.{Statement, dim_names, used_names, texts}
+use Rattle.xdg_types.specs.Parts.{Statement, dim_names, used_names, texts, keys}
 use Rattle.xdg_principles.specs.declared.principle.Form.{Form}
 use Rattle.xdg_principles.specs.declared.principle.Parameter.{Parameter}
 use Rattle.xdg_principles.specs.declared.principle.Preset.{Preset}
 use Rattle.xdg_principles.specs.declared.principle.Preset.TheVariants as p
 use Rattle.xdg_principles.specs.Principles.{principle_named, dim_key, dims_in, key_text, parameters}
-use Rattle.xdg_principles.specs.Uses.{Use, principle_uses, keys, values}
+use Rattle.xdg_principles.specs.Uses.{Use, principle_uses, values}
 
 -- ---- the keys of a principle
 

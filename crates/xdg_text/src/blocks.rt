@@ -363,7 +363,8 @@ pub fn write_parts2<K: Sink>(
     ensures all { OnOk result
         (Appends (K.held sink.old) (K.held sink.new) (block2 problem.now number (record { entries = entries.now; attrs = attrs.now; edges = edges.now }))) }
     ensures front { OnErr result
-        (AppendsFront (K.held sink.old) (K.held sink.new) (block2 problem.now number (record { entries = entries.now; attrs = attrs.now; edges = edges.now }))) }
+        (AppendsFront (K.held sink.old) (K.held sink.new)
+        (block2 problem.now number (record { entries = entries.now; attrs = attrs.now; edges = edges.now }))) }
     ensures cause { OnErr result (Rose (K.faults sink.old) (K.faults sink.new)) }
     ensures lasting { K.faults sink.old ≤ K.faults sink.new }
     ensures quiet { OnOk result (K.faults sink.new ≡ K.faults sink.old) }

@@ -14,8 +14,8 @@ use Rattle.xdg_ast.specs.declared.types.TypeKind.TheVariants as y
 use Rattle.xdg_ast.specs.declared.types.TypeKind.TheOpen.{TypeKind-F}
 use Rattle.xdg_ast.specs.declared.types.TypeKind.TheFolds.{fold-roll-TypeKind}
 use Rattle.xdg_types.specs.Written.{Tree, tree, layer, trees_of, members_of, uses, uses_in_trees, uses_in_members, lists, lists_in_trees, lists_in_members, member_names}
-use Rattle.xdg_types.specs.Parts.{TypeTerm}
-use Rattle.xdg_typing.specs.Listed.{uses_in, uses_of, lists_in, lists_of, keys}
+use Rattle.xdg_types.specs.Parts.{TypeTerm, keys}
+use Rattle.xdg_typing.specs.Listed.{uses_in, uses_of, lists_in, lists_of}
 
 abbrev treed : TypeTerm → Spanned Tree
 treed t = record { kind = tree t.kind; span = t.span }

@@ -16,8 +16,8 @@ used_by : (statements : List Statement) (names : Naming) (dims lent : List DimTy
 used_by statements names dims lent known used right are same is_known is =
     subst (AreUsed dims (used_names statements)) (sym (is ∙ ap (λ k. places k (used_names statements)) (is_known ∙ ap names_in same))) (used_are statements names right dims are)
 
-pub names_of-requires : goal.names_of-requires
-names_of-requires c =
+pub index_dims-requires : goal.index_dims-requires
+index_dims-requires c =
     let known = c.requires.known in
     subst (λ ds. Differ (names_in ds)) (sym c.as_slice.ensures) (names_differ c.args.statements.now known.0 known.1.1.1 c.in_ok-dims.dims (c.in_ok-dims.ensures known.0 known.1.0))
 
