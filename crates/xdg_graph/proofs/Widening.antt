@@ -2,7 +2,7 @@
 use Rattle.std.proofs.Common.{◌≡◌, ℕ, ◌≤◌, ◌⊎◌, ◌↔◌, inl, inr, true, List, [], ◌∷◌, length, get_or, sym, subst, arith}
 use Rattle.std.proofs.lemmas.Bool.{cases_lt}
 use Rattle.xdg_nodeset.specs.Tables.{In}
-use Rattle.xdg_nodeset.proofs.TableSets.{Widened}
+use Rattle.xdg_nodeset.proofs.TableSets.{Widened, widened_start, widened_more}
 use Rattle.xdg_nodeset.specs.Nodes.{has}
 use Rattle.xdg_graph.specs.Edges.{HasNoneFrom}
 
@@ -28,3 +28,6 @@ widened_none table middle beyond is none a b = (
   λ h. inl h,
   λ h. elim h [ inl o ↦ o | inr o ↦ absurd (no_member beyond none b (subst (λ z. has z b ≡ true) (sym is) o.1)) ],
 )
+
+-- each turn over the nodes of a table
+pub ruleset widened_steps = (widened_start, widened_more, widened_rest, widened_none)

@@ -66,7 +66,7 @@ fn meets_at(sets: &[NodeSet; 32], label: u16, nodes: NodeSet) -> bool
 }
 
 /// Whether the set at one of some labels has a node in common with another set.
-#[tactic(auto, using(xdg_nodeset::proofs::Meetings::none_start, xdg_nodeset::proofs::Meetings::none_more, xdg_nodeset::proofs::Meetings::none_end, xdg_nodeset::proofs::Meetings::found_here))]
+#[tactic(auto, using(xdg_nodeset::proofs::Meetings::none_steps))]
 fn meets(sets: &[NodeSet; 32], labels: &[u16], nodes: NodeSet) -> bool
     ensures { IsTrue result ↔ Any (λ label. Meet (slice_index_or sets.now label []) nodes) labels.now }
 {

@@ -48,3 +48,6 @@ none_end P labels i none l = (
 
 pub found_here : (P : ℕ → Type 0) (labels : List ℕ) (i label : ℕ) → i < length labels → label ≡ get_or labels i label → P label → IsTrue true ↔ Any P labels
 found_here P labels i label l at p = (λ t. (i, label, l, sym at, p), λ a. refl)
+
+-- whether no set of a list meets another
+pub ruleset none_steps = (none_start, none_more, none_end, found_here)

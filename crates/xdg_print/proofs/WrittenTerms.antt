@@ -171,3 +171,18 @@ expr_or_done params given members items p q is same written =
     written ∙ ap (λ z. put (separated k.Bar (map (disjoined_expr params) z)) p) same
     ∙ ap (λ z. put (separated k.Bar z) p) (sym (map_map in_disjunction (λ expr. expr_phrase params expr.kind) members))
     ∙ sym (ap (λ z. put (expr_phrase params z).words p) is ∙ ap (λ z. put z.words p) (form.expr_phrase-Or params members))
+
+-- which expressions stand in brackets in a conjunction
+pub ruleset joined_steps = (expr_or_joined, expr_and_joined, expr_dim_joined, expr_use_joined)
+
+-- and which in a disjunction
+pub ruleset disjoined_steps = (expr_or_disjoined, expr_and_disjoined, expr_dim_disjoined, expr_use_disjoined)
+
+-- which generators stand in brackets in a disjunction
+pub ruleset generator_steps = (gen_const_disjoined, gen_and_disjoined, gen_or_disjoined)
+
+-- the words of each form of a term
+pub ruleset term_steps = (put_term_const, put_term_param, put_term_number, put_term_card, put_term_tuple, put_term_gen)
+
+-- the words of each form of an element
+pub ruleset elem_steps = (put_elem_count, put_elem_keyed, put_elem_const, put_elem_tuple)

@@ -197,3 +197,12 @@ rise_refused edges k l r d m =
 
 pub rise_end : (edges : List Edge) (k : ℕ) → length edges ≤ k → EdgesRise (drop k edges)
 rise_end edges k l = subst (λ z. EdgesRise z) (sym (drop_all k edges l)) tt
+
+-- each turn over entries
+pub ruleset entries_steps = (entries_lengths, entries_step, entries_refused, entries_end)
+
+-- the values of one dimension
+pub ruleset dim_steps = (wide_enough, left_after, dim_step, dim_refused)
+
+-- each turn over the values of dimensions
+pub ruleset values_steps = (values_short, values_step, values_refused, values_end)

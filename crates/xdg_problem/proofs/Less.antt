@@ -198,3 +198,6 @@ not_entries parts a b p h k l m = less_not (vector parts a) (vector parts b) (en
 
 pub not_attrs : (parts : Parts) (a b : Analysis) → IsAnalysis parts a → IsAnalysis parts b → a.entries ≡ b.entries → Less b.attrs a.attrs → Less (vector parts a) (vector parts b) → ⊥
 not_attrs parts a b h k e l m = less_not (vector parts a) (vector parts b) (attrs_first parts b a k h (sym e) l) m
+
+-- by which part one analysis is less than another
+pub ruleset less_steps = (entries_first, attrs_first, edges_exact, not_entries, not_attrs)

@@ -90,3 +90,12 @@ led_words (word ∷ words) = ap (λ z. led_word word ++ z) (led_words words)
 -- the words of a line, and its line feed
 pub line_parts : (first : List ℕ) (others : List Word) → (first ++ flat_map led_word others) ++ codes "\n" ≡ line first (map word_text others)
 line_parts first others = append_assoc first (flat_map led_word others) (codes "\n") ∙ ap (λ z. first ++ (z ++ codes "\n")) (sym (led_words others))
+
+-- what was written at once, in parts and by a last call
+pub ruleset write_steps = (appends_both, start, done, rose_later)
+
+-- what was written by one call or by two
+pub ruleset byte_steps = (appends_both, front_of_second, front_of_first, rose_later)
+
+-- what was written by a loop
+pub ruleset each_steps = (start, next_of, stop_of, done, rose_later)
