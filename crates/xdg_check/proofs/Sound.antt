@@ -4,7 +4,6 @@ use Rattle.xdg_ast.specs.declared.names.Pair.{Pair}
 use Rattle.xdg_base.specs.declared.faults.Cause.TheVariants as causes
 use Rattle.xdg_base.specs.declared.faults.Fault.{Fault}
 use Rattle.xdg_domain.specs.Shapes.{Shape}
-use Rattle.xdg_names.specs.First.{In}
 use Rattle.xdg_types.specs.Answers.{None_of}
 use Rattle.xdg_types.specs.Names.{fault_at}
 use Rattle.xdg_types.specs.Parts.{Statement, keys}
@@ -17,6 +16,7 @@ use Rattle.xdg_classes.specs.Offences.{ValueOffends}
 use Rattle.xdg_classes.specs.Wants.{feature_shape}
 use Rattle.xdg_check.specs.Checked.{IsRight, IsScoped}
 use Rattle.xdg_check.proofs.Keeping.{RightBodies}
+use Rattle.xdg_facts.specs.Membership.{In}
 
 scoped_unless : (free : List (List ℕ)) (t : Term) → ((f : Fault) → IsStrayParam free t f → ⊥) → IsScoped free t
 scoped_unless free t none name stands = elim (among_or_not free name.text) [

@@ -3,7 +3,8 @@
 ghost use Rattle.std.specs.Prelude.{◌≡◌, [], ◌∷◌, ◌++◌, map, IfOk};
 ghost use Rattle.xdg_types.specs.NameFaults.{different};
 ghost use Rattle.xdg_classes.specs.Bodies.{body, given};
-ghost use Rattle.xdg_classes.specs.Definitions.{class_named, texts};
+ghost use Rattle.xdg_classes.specs.Definitions.{class_named};
+ghost use Rattle.xdg_ast.specs.Texts.{texts};
 ghost use Rattle.xdg_types.specs.Parts.{keys};
 ghost use Rattle.xdg_classes.specs.Lent.{class_def};
 ghost use Rattle.xdg_check.specs.Completed.{completed, bound_by, left_out, preset_pair};

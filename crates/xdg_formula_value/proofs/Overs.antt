@@ -2,9 +2,9 @@
 use Rattle.std.proofs.Common.{◌≡◌, ◌↔◌, ◌⊎◌, ℕ, ◌+◌, ◌<◌, ◌≤◌, IsTrue, inl, inr, zero, suc, Bool, true, false, ◌&&◌, List, [], ◌∷◌, length, refl, sym, ◌∙◌, arith}
 use Rattle.std.specs.Prelude.{not, ◌==◌}
 use Rattle.std.proofs.lemmas.Bool.{cases_Bool, and_parts, and_from, eq-eqb, eqb-true, false≢true, false_from_ne_true, not_from_false, both_ways, not-true}
-use Rattle.xdg_nodeset.specs.Nodes.{has}
 use Rattle.xdg_formula_value.specs.Rows.{IsEvery, Over}
 use Rattle.xdg_facts.proofs.Truths.{or_here}
+use Rattle.xdg_facts.specs.Rises.{has}
 
 has_some : (s : List ℕ) (v : ℕ) → has s v ≡ true → 0 < length s
 has_some [] v there = absurd (false≢true there)

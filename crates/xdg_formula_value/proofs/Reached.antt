@@ -6,8 +6,6 @@ use Rattle.std.proofs.lemmas.Bool.{and_from, and_parts, cases_Bool, eq-eqb, eqb-
 use Rattle.std.proofs.lemmas.List.FromFn.{length-range_with_len, get_or-range_with_len}
 use Rattle.xdg_facts.proofs.Truths.{or_here, either_true}
 use Rattle.xdg_nodeset.specs.Nodes as nodesets
-use Rattle.xdg_nodeset.specs.Nodes.{has, numbers_below}
-use Rattle.xdg_nodeset.proofs.Rising.{few_of}
 use Rattle.xdg_problem.specs.declared.analysis.Edge.{Edge}
 use Rattle.xdg_problem.specs.declared.parts.Parts.{Parts}
 use Rattle.xdg_problem.specs.Boxes.{IsBox}
@@ -25,6 +23,8 @@ use Rattle.xdg_formula_value.specs.Lost.{Reaches}
 use Rattle.xdg_formula_value.specs.Pairs.{Along}
 use Rattle.xdg_formula_value.specs.declared.way.Way.{Way}
 use Rattle.xdg_formula_value.specs.declared.way.Way.TheVariants as ways
+use Rattle.xdg_facts.specs.Rises.{has, numbers_below}
+use Rattle.xdg_facts.proofs.Rising.{few_of}
 
 -- ---- the nodes next to a node
 

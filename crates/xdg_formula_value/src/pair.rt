@@ -1,10 +1,9 @@
 //! What holds of two nodes.
 
 ghost use Rattle.std.specs.Prelude.{◌≡◌, ◌≤◌, ◌<◌, ◌↔◌, ℕ, true};
-ghost use Rattle.xdg_nodeset.specs.Nodes.{has};
+ghost use Rattle.xdg_facts.specs.Rises.{has};
 ghost use Rattle.xdg_problem.specs.Places.{nodes};
-ghost use Rattle.xdg_problem.specs.Truths.{bound, HasTruth};
-ghost use Rattle.xdg_rules.specs.WorthLaws.{AreNodes};
+ghost use Rattle.xdg_problem.specs.Truths.{bound, HasTruth, AreNodes};
 ghost use Rattle.xdg_formula_value.specs.Filling.{ArePaths};
 ghost use Rattle.xdg_formula_value.specs.Pairs.{Along, IsPairOf, Relates, edges_for};
 ghost use Rattle.xdg_formula_value.specs.Rows.{IsRow, stands};

@@ -1,7 +1,7 @@
 //! Sets of nodes as what is so at each node.
 
 ghost use Rattle.std.specs.Prelude.{◌≡◌, ◌⊎◌, ◌↔◌, ◌<◌, ◌≤◌, ℕ, true, not};
-ghost use Rattle.xdg_nodeset.specs.Nodes.{has};
+ghost use Rattle.xdg_facts.specs.Rises.{has};
 ghost use Rattle.xdg_problem.specs.Truths.{HasTruth};
 ghost use Rattle.xdg_formula_value.specs.Rows.{Joined, open_in};
 

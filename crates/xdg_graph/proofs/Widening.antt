@@ -3,8 +3,8 @@ use Rattle.std.proofs.Common.{◌≡◌, ℕ, ◌≤◌, ◌⊎◌, ◌↔◌, i
 use Rattle.std.proofs.lemmas.Bool.{cases_lt}
 use Rattle.xdg_nodeset.specs.Tables.{In}
 use Rattle.xdg_nodeset.proofs.TableSets.{Widened, widened_start, widened_more}
-use Rattle.xdg_nodeset.specs.Nodes.{has}
 use Rattle.xdg_graph.specs.Edges.{HasNoneFrom}
+use Rattle.xdg_facts.specs.Rises.{has}
 
 module _ (old now : List (List ℕ)) (size middle : ℕ) (rest : HasNoneFrom size old) where
   pub widened_rest : (i : ℕ) → size ≤ i → Widened old now middle i → (a b : ℕ) → In now a b ↔ (In old a b ⊎ (In old a middle × In old middle b))
@@ -18,7 +18,7 @@ module _ (old now : List (List ℕ)) (size middle : ℕ) (rest : HasNoneFrom siz
         ))
   ]
 
-no_member : (set : List ℕ) → length set ≡ 0 → (b : ℕ) → has set b ≡ true → ⊥
+pub no_member : (set : List ℕ) → length set ≡ 0 → (b : ℕ) → has set b ≡ true → ⊥
 no_member [] e b h = cc
 no_member (n ∷ set) e b h = omega (arith, e)
 

@@ -1,7 +1,7 @@
 //! The nodes below each node, and those above it.
 
 ghost use Rattle.std.specs.Prelude.{◌≡◌, ◌≤◌, ◌<◌, ◌↔◌, ◌⊎◌, ℕ, true};
-ghost use Rattle.xdg_nodeset.specs.Nodes.{has};
+ghost use Rattle.xdg_facts.specs.Rises.{has};
 ghost use Rattle.xdg_nodeset.specs.Tables.{In, IsClosure};
 ghost use Rattle.xdg_problem.specs.Paths.{Above};
 ghost use Rattle.xdg_store.specs.States.{Known};

@@ -2,7 +2,7 @@
 
 ghost use Rattle.std.specs.Prelude.{◌≡◌, ℕ, ◌<◌, ◌⊎◌, ◌↔◌, true, [], IsTrue, Contains, slice_index_or};
 ghost use Rattle.std.specs.List.{Any};
-ghost use Rattle.xdg_nodeset.specs.Nodes.{has};
+ghost use Rattle.xdg_facts.specs.Rises.{has};
 ghost use Rattle.xdg_judge.specs.Joining.{IsEnd, IsLed};
 ghost use Rattle.xdg_nodeset.specs.Tables.{Meet};
 

@@ -1,13 +1,13 @@
 -- Entries added one by one, without those that stand there already.
-use Rattle.std.proofs.Common.{◌≡◌, inl, inr, ℕ, zero, suc, ◌+◌, ◌<◌, ◌≤◌, length, get_or, drop, List, [], ◌∷◌, ◌++◌, Option, None, Some, refl, sym, ap, ap₂, ◌∙◌, subst, arith}
+use Rattle.std.proofs.Common.{◌≡◌, inl, inr, ℕ, ◌+◌, ◌<◌, ◌≤◌, length, get_or, drop, List, [], ◌∷◌, ◌++◌, Option, None, Some, refl, sym, ap, ap₂, ◌∙◌, subst}
 use Rattle.std.proofs.lemmas.List.{drop_all}
-use Rattle.xdg_names.specs.First.{In}
 use Rattle.xdg_types.specs.Table.{Table}
 use Rattle.xdg_packed.specs.Lexicon.{Entry}
 use Rattle.xdg_lexicon.specs.Partial.{Partial}
 use Rattle.xdg_lexicon.specs.Growing.{Puts}
 use Rattle.xdg_lexicon.specs.Lexicon.{whole, AreWhole, Adds, nothing_more, known_before, new}
 use Rattle.xdg_facts.proofs.Lists.{from_place}
+use Rattle.xdg_facts.specs.Membership.{In}
 
 -- ---- what is added is told
 
@@ -44,11 +44,6 @@ none_lacks table (q ∷ ps) (e ∷ es) p a stands none = elim stands [
 ]
 
 -- ---- one after the other
-
-pub in_at : {X : Type 0} (xs : List X) (k : ℕ) (x : X) → k < length xs → x ≡ get_or xs k x → In xs x
-in_at [] k x within is = absurd (omega (arith, within))
-in_at (y ∷ xs) zero x within is = inl (sym is)
-in_at (y ∷ xs) (suc k) x within is = inr (in_at xs k x (omega (arith, within)) is)
 
 -- What adding the rest behind those so far comes to is what adding all comes to.
 abbrev pub AddsSoFar : Table → List Entry → List Partial → ℕ → List Entry → Type 0

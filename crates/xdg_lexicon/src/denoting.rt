@@ -5,7 +5,7 @@ ghost use Rattle.xdg_classes.specs.Bodies.{body};
 ghost use Rattle.xdg_check.specs.declared.checked.EntryDef.{EntryDef};
 ghost use Rattle.xdg_check.specs.Checked.{named_bodies};
 ghost use Rattle.xdg_check.specs.Counts.{Counting, Agrees, combos};
-ghost use Rattle.xdg_names.specs.First.{In};
+ghost use Rattle.xdg_facts.specs.Membership.{In};
 ghost use Rattle.xdg_lexicon.specs.Denotes.{Denotes};
 ghost use Rattle.xdg_lexicon.specs.Partial as spec;
 ghost use Rattle.xdg_lexicon.specs.Partial.{ArePartial};

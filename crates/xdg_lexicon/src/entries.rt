@@ -1,7 +1,7 @@
 //! Partial entries.
 
 ghost use Rattle.std.specs.Prelude.{◌≡◌, IfOk, MatchOption};
-ghost use Rattle.xdg_names.specs.First.{In};
+ghost use Rattle.xdg_facts.specs.Membership.{In};
 ghost use Rattle.xdg_types.specs.Table.{KeepsDim, KeepDims};
 ghost use Rattle.xdg_types.specs.declared.table.DimType as spec;
 ghost use Rattle.xdg_lexicon.specs.Partial.{IsPartial, ReadsDim, PartialsJoin, PartialsClash, SaysRecord, nothing};

@@ -5,10 +5,10 @@ use Rattle.std.specs.List.{Any}
 use Rattle.std.proofs.lemmas.Bool.{eq-eqb, false≢true}
 use Rattle.std.proofs.lemmas.List.{take_all}
 use Rattle.std.proofs.lemmas.List.Elements.{All-more}
-use Rattle.xdg_nodeset.specs.Nodes.{has}
 use Rattle.xdg_nodeset.specs.Tables.{Meet}
 use Rattle.xdg_facts.proofs.Lookups.{read_some, read_none}
 use Rattle.xdg_nodeset.proofs.TableSets.{both}
+use Rattle.xdg_facts.specs.Rises.{has}
 
 pub some_met : (a b both_of rest : List ℕ) (node : ℕ) → both_of ≡ node ∷ rest → ((n : ℕ) → has both_of n ≡ (has a n && has b n)) → IsTrue true ↔ Meet a b
 some_met a b both_of rest node e members =

@@ -12,10 +12,11 @@ use Rattle.xdg_domain.specs.Defaults.{field_and_defaults, record_of_defaults, Is
 use Rattle.xdg_domain.specs.declared.values.Value.{Value, out-Value}
 use Rattle.xdg_domain.specs.declared.values.Value.TheOpen.{Value-F}
 use Rattle.xdg_domain.specs.declared.values.Value.TheVariants as v
-use Rattle.xdg_domain.proofs.DefaultLaws.{default_is_value, zero_alone}
+use Rattle.xdg_domain.proofs.DefaultLaws.{default_is_value, zero_alone, each_wider, IsRight, IsAt, by_layer}
 use Rattle.xdg_domain.proofs.Made.{none_and}
-use Rattle.xdg_packed.specs.Filled.{cards_in, cards_said, keys_in, keys_said, fields_in, fields_said, or_zero, each_key, as_map, filled_cards, filled, filled_fields, Lacks, SomeLacks, IsSaid, AreValuesOf, AreSaid}
+use Rattle.xdg_packed.specs.Filled.{cards_in, cards_said, keys_in, keys_said, fields_in, fields_said, or_zero, each_key, filled_cards, filled, filled_fields, Lacks, SomeLacks, IsSaid, AreValuesOf, AreSaid}
 use Rattle.xdg_facts.proofs.Options.{some_same}
+use Rattle.xdg_domain.specs.Joined.{of_map}
 
 -- ---- what is said
 
@@ -154,7 +155,7 @@ mutual
   decided (mapping k u) h said =
       let f : ℕ → Option Value = λ key. filled u (said_at (keys_said said) key) in
       let each = each_some f (λ key. found u (said_at (keys_said said) key) h.1.0 (decided u h.1.1 (said_at (keys_said said) key))) (range_with_len 0 (count k)) in
-      inr (λ p. p, (v.Map each.0, ap as_map each.1))
+      inr (λ p. p, (v.Map each.0, ap of_map each.1))
   decided (fields fs) h said = elim (all_decided fs h.1 0 (fields_said said)) [
     | inl none ↦ inl (ap record_of_defaults none.0, none.1)
     | inr some ↦ inr (some.0, (v.Rec some.1.0, ap record_of_defaults some.1.1))
@@ -250,24 +251,11 @@ module _ (f : ℕ → Option Value) (P : Value → Type 0) (holds : (key : ℕ) 
 
 -- a value of the type that says all
 
-abbrev IsRight : Shape → Value → Type 0
-IsRight s x = IsValue s x × IsFilled s x
-
-by_layer : (s : Shape) (x y : Value) (l : Value-F Value) → Some y ≡ Some x → out-Value y ≡ l → IsIn s l × IsFilledIn s l → IsRight s x
-by_layer s x y l e o given = subst (IsRight s) (some_same y x e) (subst (λ m. IsIn s m × IsFilledIn s m) (sym o) given)
-
 fields_rise : (fs : Fields) (place : ℕ) (m all : List (ℕ × Value)) → filled_fields place fs m ≡ Some all → KeysRise place all
 fields_rise no_field place m all e = subst (KeysRise place) (some_same [] all e) tt
 fields_rise (field_then name u fs) place m all e =
     let t = taken place (filled u (said_at m place)) (filled_fields (place + 1) fs m) all e in
     subst (KeysRise place) t.whole (omega arith, fields_rise fs (place + 1) m t.rest t.more)
-
-abbrev IsAt : Fields → ℕ → ℕ → Value → Type 0
-IsAt fs place k w = (j : ℕ) × ((k ≡ place + j) × IsFieldOf fs j w)
-
-each_wider : (P Q : ℕ → Value → Type 0) → ((k : ℕ) (w : Value) → P k w → Q k w) → (s : List (ℕ × Value)) → EachSaid P s → EachSaid Q s
-each_wider P Q wider [] h = tt
-each_wider P Q wider (entry ∷ s) h = (wider entry.0 entry.1 h.0, each_wider P Q wider s h.1)
 
 mutual
   right : (s : Shape) → IsType s → (said : Option Value) → IsSaid s said → (x : Value) → filled s said ≡ Some x → IsRight s x
@@ -301,7 +289,7 @@ mutual
       let each = each_some f (λ key. found u (said_at m key) h.1.0 (decided u h.1.1 (said_at m key))) (range_with_len 0 (count k)) in
       let all = each.0 in
       let holds : (key : ℕ) (y : Value) → f key ≡ Some y → IsRight u y = λ key y is. right u h.1.1 (said_at m key) (map_said k u said given key) y is in
-      by_layer (mapping k u) x (v.Map all) (Value-F.Map all) (sym (ap as_map each.1) ∙ e) (v.outs-Map all) (
+      by_layer (mapping k u) x (v.Map all) (Value-F.Map all) (sym (ap of_map each.1) ∙ e) (v.outs-Map all) (
         (
           each_rises f (IsRight u) holds 0 (count k) all each.1,
           each_wider (λ key y. (key < count k) × IsRight u y) (λ key y. (key < count k) × IsIn u (out-Value y)) (λ key y r. (r.0, r.1.0)) all (each_holds f (IsRight u) holds (count k) 0 (count k) all (omega arith) each.1),

@@ -2,7 +2,6 @@
 use Rattle.std.proofs.Common.{◌≡◌, ◌≢◌, ℕ, ◌<◌, ◌+◌, ◌⊎◌, ◌↔◌, ◌&&◌, ◌||◌, IsTrue, inl, inr, Bool, true, List, [], ◌∷◌, sym, ◌∙◌, arith, subst}
 use Rattle.std.specs.Prelude.{◌==◌, slice_index_or}
 use Rattle.std.proofs.lemmas.Bool.{cases_eq, eq-eqb, eqb-true, false≢true}
-use Rattle.xdg_nodeset.specs.Nodes.{has}
 use Rattle.xdg_nodeset.proofs.TableSets.{both, either}
 use Rattle.xdg_problem.specs.declared.analysis.Edge.{Edge}
 use Rattle.xdg_problem.specs.declared.parts.Parts.{Parts}
@@ -13,6 +12,7 @@ use Rattle.xdg_rules.specs.Rules.{IsPlaceOn}
 use Rattle.xdg_propcore.specs.declared.touched.Touched.{Touched}
 use Rattle.xdg_pagree.specs.Untouched.{AreMothersOf, HasMothers, HasOwn, IsEvery}
 use Rattle.xdg_pagree.proofs.Looping.{not_left}
+use Rattle.xdg_facts.specs.Rises.{has}
 
 -- ---- the nodes of the sentence
 

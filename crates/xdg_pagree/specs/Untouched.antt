@@ -1,6 +1,5 @@
 -- Nodes and places where nothing was lost.
 use Rattle.std.specs.Prelude.{◌≡◌, ◌≢◌, ◌<◌, ◌↔◌, ℕ, true, Bool, List}
-use Rattle.xdg_nodeset.specs.Nodes.{has}
 use Rattle.xdg_problem.specs.declared.analysis.Edge.{Edge}
 use Rattle.xdg_problem.specs.declared.parts.Group.{Group}
 use Rattle.xdg_problem.specs.declared.parts.Parts.{Parts}
@@ -13,6 +12,7 @@ use Rattle.xdg_propcore.specs.Touching.{InTable}
 use Rattle.xdg_propcore.specs.declared.touched.Touched.{Touched}
 use Rattle.xdg_pagree.specs.Family.{IsOfPlaces}
 use Rattle.xdg_pagree.specs.Places.{IsDoneAt, IsNodeDone, PlaceAsks}
+use Rattle.xdg_facts.specs.Rises.{has}
 
 -- the node has lost no entry and no value of an attribute
 abbrev pub IsNodeFree : Touched → ℕ → Type 0

@@ -1,7 +1,7 @@
 //! The nodes at which something may be left to take: those that have lost something, and the mothers of those.
 
 ghost use Rattle.std.specs.Prelude.{◌≡◌, ◌<◌, ℕ, true};
-ghost use Rattle.xdg_nodeset.specs.Nodes.{has};
+ghost use Rattle.xdg_facts.specs.Rises.{has};
 ghost use Rattle.xdg_problem.specs.Places.{nodes};
 ghost use Rattle.xdg_store.specs.States.{Known};
 ghost use Rattle.xdg_graph.specs.Edges.{edge_labels};

@@ -2,7 +2,6 @@
 use Rattle.std.proofs.Common.{◌≡◌, ℕ, zero, suc, ◌+◌, ◌<◌, ◌≤◌, List, [], ◌∷◌, length, drop, drop-cons, get_or, Option, None, Some, add-one, ap, sym, ◌∙◌, refl, subst, arith}
 use Rattle.std.specs.Prelude.{slice_get, option_map}
 use Rattle.std.proofs.lemmas.Option.{slice_get-map}
-use Rattle.xdg_domain.specs.Shapes.{Differ}
 use Rattle.xdg_names.specs.Texts.{place_of}
 use Rattle.xdg_types.specs.declared.table.DimType.{DimType}
 use Rattle.xdg_types.specs.Table.{KeepDims, firsts}
@@ -11,6 +10,7 @@ use Rattle.xdg_principles.specs.declared.principle.Sort.{Sort}
 use Rattle.xdg_principles.specs.declared.principle.Sort.TheVariants as s
 use Rattle.xdg_principles.specs.Lent.{Knows, names_by, member_names}
 use Rattle.xdg_principles.specs.Settings.{dim_texts, labels_in, members_in, at_place}
+use Rattle.xdg_facts.specs.Membership.{Differ}
 
 -- ---- names differ
 

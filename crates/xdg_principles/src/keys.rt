@@ -5,7 +5,8 @@ ghost use Rattle.std.specs.Option.{option_copied};
 ghost use Rattle.xdg_names.specs.First.{first};
 ghost use Rattle.xdg_names.specs.Texts.{has_text};
 ghost use Rattle.xdg_types.specs.NameFaults as names;
-ghost use Rattle.xdg_types.specs.Parts.{texts, keys};
+ghost use Rattle.xdg_types.specs.Parts.{keys};
+ghost use Rattle.xdg_ast.specs.Texts.{texts};
 ghost use Rattle.xdg_principles.specs.Uses as spec;
 
 use xdg_ast::{Name, Pair};

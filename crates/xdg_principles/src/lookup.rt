@@ -1,7 +1,7 @@
 //! The names of dimensions, features and attributes by number.
 
 ghost use Rattle.std.specs.Prelude.{◌≡◌, Some, IfOk};
-ghost use Rattle.xdg_domain.specs.Shapes.{Differ};
+ghost use Rattle.xdg_facts.specs.Membership.{Differ};
 ghost use Rattle.xdg_types.specs.Table.{KeepDims, firsts};
 ghost use Rattle.xdg_principles.specs.Lent as spec;
 ghost use Rattle.xdg_principles.specs.Settings.{members_in};

@@ -93,7 +93,7 @@ record IsBehind (p : Edge) (places edges : List Edge) : Type 0 where
   pub behind : AllByRecursion (Before p) edges
   pub within : AllByRecursion (Contains places) edges
 
-narrow : (p : Edge) (places edges : List Edge) → AllByRecursion (Before p) edges → AllByRecursion (Contains (p ∷ places)) edges → AllByRecursion (Contains places) edges
+pub narrow : (p : Edge) (places edges : List Edge) → AllByRecursion (Before p) edges → AllByRecursion (Contains (p ∷ places)) edges → AllByRecursion (Contains places) edges
 narrow p places [] b a = tt
 narrow p places (e ∷ edges) b a = (
   elim (contains_cases p places e a.0) [

@@ -1,7 +1,7 @@
 //! The values that remain.
 
 ghost use Rattle.std.specs.Prelude.{◌≡◌, ◌≢◌, ℕ, ◌<◌, ◌+◌, ◌-◌, ◌^◌, ◌↔◌, [], ◌∷◌, IsTrue, IfOk, length, min, slice_index_or, take};
-ghost use Rattle.xdg_nodeset.specs.Nodes.{has};
+ghost use Rattle.xdg_facts.specs.Rises.{has};
 ghost use Rattle.xdg_problem.specs.Analyses.{IsPlace};
 ghost use Rattle.xdg_problem.specs.Boxes.{Has, IsSingle, May, Must, full, entry_decision, attr_decision, edge_decision};
 ghost use Rattle.xdg_problem.specs.Places.{edge, nodes};
@@ -48,7 +48,7 @@ pub struct Store<'a> {
 impl<'a> Model for Store<'a> {
     ghost use Rattle.std.specs.Prelude.{◌≡◌, ℕ, nat_lt};
     ghost use Rattle.std.specs.Vec.{vec_capacity};
-    ghost use Rattle.xdg_nodeset.specs.Nodes.{has};
+    ghost use Rattle.xdg_facts.specs.Rises.{has};
     ghost use Rattle.xdg_problem.specs.Places.{nodes};
     ghost use Rattle.xdg_trail.specs.Trailed.{past};
     ghost use Rattle.xdg_store.specs.Across.{AreKept};

@@ -194,7 +194,7 @@ fn write_edge_lines<K: Sink>(dims: &[DimPlan], edges: &[Edge], sink: &mut K) -> 
 }
 
 /// Writes the lines of the words, of the attributes and of the edges, and the last line.
-#[tactic(auto, using(crate::proofs::Pieces::appends_both, crate::proofs::Pieces::rose_later))]
+#[tactic(auto, using(xdg_io::proofs::Written::appends_both, crate::proofs::Pieces::rose_later))]
 fn write_body<K: Sink>(
     words: &[SentenceWord],
     dims: &[DimPlan],
@@ -221,7 +221,7 @@ fn write_body<K: Sink>(
 }
 
 /// Writes the lines of text 1.
-#[tactic(auto, using(crate::proofs::Pieces::appends_both, crate::proofs::Pieces::rose_later))]
+#[tactic(auto, using(xdg_io::proofs::Written::appends_both, crate::proofs::Pieces::rose_later))]
 fn write_block<K: Sink>(
     words: &[SentenceWord],
     dims: &[DimPlan],
@@ -268,7 +268,7 @@ fn write_counts<K: Sink>(
 }
 
 /// Writes the lines of text 2.
-#[tactic(auto, using(crate::proofs::Pieces::appends_both, crate::proofs::Pieces::rose_later))]
+#[tactic(auto, using(xdg_io::proofs::Written::appends_both, crate::proofs::Pieces::rose_later))]
 fn write_block2<K: Sink>(
     words: &[SentenceWord],
     dims: &[DimPlan],

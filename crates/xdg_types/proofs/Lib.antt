@@ -5,3 +5,5 @@ pub mod Made
 pub mod NamesAgain
 pub mod NameTurns
 pub mod Treed
+pub mod InUse
+pub mod Places

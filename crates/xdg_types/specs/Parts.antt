@@ -94,9 +94,6 @@ type_in _ = []
 abbrev pub types : List Statement → List TypeTerm
 types statements = flat_map (λ dim. in_parts type_in dim.1) (dimensions statements)
 
-abbrev pub texts : List Name → List (List ℕ)
-texts names = map (λ name. name.text) names
-
 -- the keys of pairs
 abbrev pub keys : {A : Type 0} → List (Pair A) → List Name
 keys pairs = map (λ pair. pair.key) pairs

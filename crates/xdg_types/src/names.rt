@@ -1,7 +1,7 @@
 //! Names among others: one that stands again where it may stand once, one that stands for nothing, and names by number.
 
 ghost use Rattle.std.specs.Prelude.{◌≡◌, [], map, IfOk};
-ghost use Rattle.xdg_domain.specs.Shapes.{Differ};
+ghost use Rattle.xdg_facts.specs.Membership.{Differ};
 ghost use Rattle.xdg_names.specs.First.{first};
 ghost use Rattle.xdg_types.specs.NameFaults as spec;
 ghost use Rattle.xdg_types.specs.Parts.{keys};

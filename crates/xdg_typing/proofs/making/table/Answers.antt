@@ -1,5 +1,4 @@
 use Rattle.std.proofs.Common.{◌≡◌, subst, sym, ap, ◌∙◌, List, ℕ}
-use Rattle.xdg_domain.specs.Shapes.{Differ}
 use Rattle.xdg_types.specs.declared.table.DimType.{DimType}
 use Rattle.xdg_types.specs.Parts.{Statement, used_names, dimensions}
 use Rattle.xdg_types.specs.Table.{AreDims, AreUsed, IsTableOf}
@@ -9,6 +8,7 @@ use Rattle.xdg_typing.specs.Right.{AreRight}
 use Rattle.xdg_types.proofs.Made.{names_in}
 use Rattle.xdg_typing.proofs.RightTable.{names_differ, used_are, is_table}
 use Rattle.xdg_typing.proofs.making.table.Goals as goal
+use Rattle.xdg_facts.specs.Membership.{Differ}
 
 -- the places are those of the dimensions that are used
 used_by : (statements : List Statement) (names : Naming) (dims lent : List DimType) (known : List (List ℕ)) (used : List ℕ) → AreRight statements names → AreDims names (dimensions statements) dims

@@ -1,9 +1,10 @@
 -- What is in a list that is made of others.
 use Rattle.std.proofs.Common.{◌≡◌, ◌⊎◌, inl, inr, ℕ, zero, suc, ◌+◌, ◌<◌, length, get_or, drop, add-one, drop-cons, arith, Bool, true, false, List, [], ◌∷◌, ◌++◌, refl, sym, ap, subst}
-use Rattle.std.specs.Prelude.{if◌then◌else◌}
+use Rattle.std.specs.Prelude.{if◌then◌else◌, slice_get, Some}
 use Rattle.std.specs.List.{flat_map}
 use Rattle.std.proofs.lemmas.Bool.{true≢false, false≢true}
-use Rattle.xdg_names.specs.First.{In}
+use Rattle.xdg_facts.specs.Membership.{In, Differ}
+use Rattle.std.proofs.Common.{map}
 
 pub in_append : {A : Type 0} (xs ys : List A) (x : A) → In (xs ++ ys) x → In xs x ⊎ In ys x
 in_append [] ys x h = inr h
@@ -62,3 +63,25 @@ in_get (y ∷ xs) (suc i) d h = inr (in_get xs i d (omega arith))
 pub in_index : {A : Type 0} (xs : List A) (x d : A) → In xs x → (k : ℕ) × ((k < length xs) × (get_or xs k d ≡ x))
 in_index [] x d h = absurd h
 in_index (y ∷ xs) x d h = elim h [ inl e ↦ (0, (omega arith, e)) | inr l ↦ (let r = in_index xs x d l in (suc r.0, (omega (arith, r.1.0), r.1.1))) ]
+
+-- what a place of the list holds
+pub in_got : {A : Type 0} (xs : List A) (i : ℕ) (x : A) → slice_get xs i ≡ Some x → In xs x
+in_got [] i x is = absurd (cc)
+in_got (y ∷ xs) zero x is = inl (cc)
+in_got (y ∷ xs) (suc i) x is = inr (in_got xs i x is)
+
+-- where nothing stands twice, it stands at one place
+pub differ_once : {A : Type 0} (xs : List A) (i j : ℕ) (x : A) → Differ xs → slice_get xs i ≡ Some x → slice_get xs j ≡ Some x → i ≡ j
+differ_once [] i j x differ one other = absurd (cc)
+differ_once (y ∷ xs) zero zero x differ one other = refl
+differ_once (y ∷ xs) zero (suc j) x differ one other = absurd (differ.0 (let same : x ≡ y = cc in subst (In xs) same (in_got xs j x other)))
+differ_once (y ∷ xs) (suc i) zero x differ one other = absurd (differ.0 (let same : x ≡ y = cc in subst (In xs) same (in_got xs i x one)))
+differ_once (y ∷ xs) (suc i) (suc j) x differ one other = ap suc (differ_once xs i j x differ.1 one other)
+
+pub in_map : {A B : Type 0} (g : A → B) (xs : List A) (y : B) → In (map g xs) y → (z : A) × (In xs z × (g z ≡ y))
+in_map g [] y h = absurd h
+in_map g (x ∷ xs) y h = elim h [ inl e ↦ (x, (inl refl, e)) | inr k ↦ (let r = in_map g xs y k in (r.0, (inr r.1.0, r.1.1))) ]
+
+pub map_in : {A B : Type 0} (g : A → B) (xs : List A) (z : A) → In xs z → In (map g xs) (g z)
+map_in g [] z h = absurd h
+map_in g (x ∷ xs) z h = elim h [ inl e ↦ inl (ap g e) | inr k ↦ inr (map_in g xs z k) ]
