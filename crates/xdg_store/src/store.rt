@@ -215,6 +215,8 @@ impl<'a> Store<'a> {
     }
 
     /// Whether each decision has one value. It compares two numbers.
+    ///
+    /// The search knows it from its numbers: it is for those who keep a store of their own.
     pub fn is_single(&self) -> bool
         ensures exact { IsTrue result ↔ IsSingle self.now.now }
         ensures known { Known self.now }

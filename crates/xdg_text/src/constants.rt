@@ -123,7 +123,7 @@ fn write_escaped<K: Sink>(text: &str, sink: &mut K) -> Result<(), Failed>
 
 /// Writes a text between quotation marks.
 #[tactic(auto, using(crate::proofs::Pieces::byte_steps))]
-pub fn write_quoted<K: Sink>(text: &str, sink: &mut K) -> Result<(), Failed>
+pub(crate) fn write_quoted<K: Sink>(text: &str, sink: &mut K) -> Result<(), Failed>
     ensures all { OnOk result (Appends (K.held sink.old) (K.held sink.new) (quoted text.now)) }
     ensures front { OnErr result (AppendsFront (K.held sink.old) (K.held sink.new) (quoted text.now)) }
     ensures cause { OnErr result (Rose (K.faults sink.old) (K.faults sink.new)) }

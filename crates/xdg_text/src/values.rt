@@ -84,7 +84,7 @@ fn write_tuple<K: Sink>(texts: &[Text], sink: &mut K) -> Result<(), Failed>
 }
 
 /// Writes a value of an attribute: one constant, or those of a tuple in square brackets.
-pub fn write_value<K: Sink>(value: &Shown, sink: &mut K) -> Result<(), Failed>
+pub(crate) fn write_value<K: Sink>(value: &Shown, sink: &mut K) -> Result<(), Failed>
     ensures all { OnOk result (Appends (K.held sink.old) (K.held sink.new) (value_text value.now)) }
     ensures front { OnErr result (AppendsFront (K.held sink.old) (K.held sink.new) (value_text value.now)) }
     ensures cause { OnErr result (Rose (K.faults sink.old) (K.faults sink.new)) }
