@@ -42,15 +42,7 @@ are_said (field_then name u fs) place m h = (
 
 record_layer : (fs : Fields) (l : Value-F Value) → IsIn (fields fs) l → KeysRise 0 (fields_in l) × AreSaid 0 fs (fields_in l)
 record_layer fs (Value-F.Rec m) h = (h.0, are_said fs 0 m (λ j w e. said_each (IsFieldOf fs) m j w h.1 (ap (said_at m) (omega arith) ∙ e)))
-record_layer fs (Value-F.Const n) h = absurd h
-record_layer fs (Value-F.Tuple n) h = absurd h
-record_layer fs (Value-F.Set ns) h = absurd h
-record_layer fs (Value-F.Card ns) h = absurd h
-record_layer fs (Value-F.Valency m) h = absurd h
-record_layer fs (Value-F.Map m) h = absurd h
-record_layer fs (Value-F.Bool b) h = absurd h
-record_layer fs (Value-F.Int n) h = absurd h
-record_layer fs (Value-F.Str t) h = absurd h
+record_layer fs other h = absurd h
 
 nothing_said : (fs : Fields) (place : ℕ) → AreSaid place fs []
 nothing_said no_field place = tt
@@ -63,15 +55,7 @@ record_said fs (Some x) h = record_layer fs (out-Value x) h
 
 map_layer : (k u : Shape) (l : Value-F Value) → IsIn (mapping k u) l → AreValuesOf u (keys_in l)
 map_layer k u (Value-F.Map m) h = λ key. is_said u (said_at m key) (λ w e. (said_each (λ key v. (key < count k) × IsIn u (out-Value v)) m key w h.1 e).1)
-map_layer k u (Value-F.Rec m) h = absurd h
-map_layer k u (Value-F.Const n) h = absurd h
-map_layer k u (Value-F.Tuple n) h = absurd h
-map_layer k u (Value-F.Set ns) h = absurd h
-map_layer k u (Value-F.Card ns) h = absurd h
-map_layer k u (Value-F.Valency m) h = absurd h
-map_layer k u (Value-F.Bool b) h = absurd h
-map_layer k u (Value-F.Int n) h = absurd h
-map_layer k u (Value-F.Str t) h = absurd h
+map_layer k u other h = absurd h
 
 -- what is said of the keys of a map is right
 pub map_said : (k u : Shape) (said : Option Value) → IsSaid (mapping k u) said → AreValuesOf u (keys_said said)
@@ -88,15 +72,7 @@ cards_or_zero (Some ns) h = h ns refl
 
 valency_layer : (k : Shape) (l : Value-F Value) → IsIn (valency k) l → AreCards (cards_in l)
 valency_layer k (Value-F.Valency m) h = λ key. cards_or_zero (said_at m key) (λ ns e. (said_each (λ key ns. (key < count k) × IsCards ns) m key ns h.1 e).1)
-valency_layer k (Value-F.Map m) h = absurd h
-valency_layer k (Value-F.Rec m) h = absurd h
-valency_layer k (Value-F.Const n) h = absurd h
-valency_layer k (Value-F.Tuple n) h = absurd h
-valency_layer k (Value-F.Set ns) h = absurd h
-valency_layer k (Value-F.Card ns) h = absurd h
-valency_layer k (Value-F.Bool b) h = absurd h
-valency_layer k (Value-F.Int n) h = absurd h
-valency_layer k (Value-F.Str t) h = absurd h
+valency_layer k other h = absurd h
 
 valency_said : (k : Shape) (said : Option Value) → IsSaid (valency k) said → AreCards (cards_said said)
 valency_said k None h = λ key. zero_alone

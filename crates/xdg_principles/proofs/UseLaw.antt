@@ -89,12 +89,7 @@ value_under (pair ∷ pairs) key name e = elim (cases_Bool (bytes_eq pair.key.te
 
 within_part : (within : Name) (kind : DimPartKind) (one : Use) → In (use_in within kind) one → one.within ≡ within
 within_part within (v.UsePrinciple name dims args) one h = elim h [ inl e ↦ sym (ap (λ (x : Use). x.within) e) | inr z ↦ absurd z ]
-within_part within (v.DefType name type) one h = absurd h
-within_part within (v.LabelType type) one h = absurd h
-within_part within (v.AttrsType type) one h = absurd h
-within_part within (v.EntryType type) one h = absurd h
-within_part within (v.Output name) one h = absurd h
-within_part within (v.UseOutput name) one h = absurd h
+within_part within other one h = absurd h
 
 within_dim : (statements : List Statement) (one : Use) → In (principle_uses statements) one → In (dim_names statements) one.within
 within_dim statements one h =
@@ -113,9 +108,7 @@ preset_called at sort which typing p.Out h k = (record { text = codes "out"; at 
 
 labels_required : (which : Which) (preset : Preset) → IsDefaulted (a.Labels which) preset → preset ≡ p.Required
 labels_required which p.Required h = refl
-labels_required which p.False h = absurd h
-labels_required which p.In h = absurd h
-labels_required which p.Out h = absurd h
+labels_required which other h = absurd h
 
 truth_said : (t : List ℕ) → In truths t → t ≡ truth_text (bytes_eq t (codes "true"))
 truth_said t h = elim h [

@@ -99,24 +99,18 @@ numbers_in written [] f h = inl (sym h)
 numbers_in written (num ∷ nums) f h = flat_map_in spec.too_big (num ∷ nums) h.0 f h.1.0 (too_big_in h.0 f h.1.1.0 h.1.1.1)
 
 in_card_kind : (written : Card) (kind : CardKind) (f : Fault) → In (spec.card_kind_faults written kind) f → CardOffends written kind f
-in_card_kind written c.One f h = h
-in_card_kind written c.Maybe f h = h
-in_card_kind written c.Any f h = h
-in_card_kind written c.Some1 f h = h
 in_card_kind written (c.Numbers nums) f h = in_numbers written nums f h
 in_card_kind written (c.Interval low high) f h =
     elim (in_append (spec.too_big low) (spec.wrong_end low high) f h) [ inl l ↦ inl (in_too_big low f l) | inr r ↦ inr (in_wrong_end low high f r) ]
+in_card_kind written other f h = h
 
 card_kind_in : (written : Card) (kind : CardKind) (f : Fault) → CardOffends written kind f → In (spec.card_kind_faults written kind) f
-card_kind_in written c.One f h = h
-card_kind_in written c.Maybe f h = h
-card_kind_in written c.Any f h = h
-card_kind_in written c.Some1 f h = h
 card_kind_in written (c.Numbers nums) f h = numbers_in written nums f h
 card_kind_in written (c.Interval low high) f h = elim h [
   | inl l ↦ in_left (spec.too_big low) (spec.wrong_end low high) f (too_big_in low f l.0 l.1)
   | inr r ↦ in_right (spec.too_big low) (spec.wrong_end low high) f (wrong_end_in low high f r.0 r.1)
 ]
+card_kind_in written other f h = h
 
 in_card : (written : Card) (f : Fault) → In (spec.card_faults written) f → CardOffends written written.kind f
 unfolding spec.card_faults

@@ -79,30 +79,15 @@ record IsFirst (kind : TypeTerm → DimPartKind) (names : Naming) (parts : List 
 
 label_part : (kind : DimPartKind) (type : TypeTerm) → In (label_type kind) type → kind ≡ p.LabelType type
 label_part (p.LabelType t) type h = elim h [ inl e ↦ ap (λ (u : TypeTerm). p.LabelType u) e | inr k ↦ absurd k ]
-label_part (p.DefType name t) type h = absurd h
-label_part (p.AttrsType t) type h = absurd h
-label_part (p.EntryType t) type h = absurd h
-label_part (p.Output name) type h = absurd h
-label_part (p.UseOutput name) type h = absurd h
-label_part (p.UsePrinciple name dims args) type h = absurd h
+label_part other type h = absurd h
 
 attrs_part : (kind : DimPartKind) (type : TypeTerm) → In (attrs_type kind) type → kind ≡ p.AttrsType type
 attrs_part (p.AttrsType t) type h = elim h [ inl e ↦ ap (λ (u : TypeTerm). p.AttrsType u) e | inr k ↦ absurd k ]
-attrs_part (p.DefType name t) type h = absurd h
-attrs_part (p.LabelType t) type h = absurd h
-attrs_part (p.EntryType t) type h = absurd h
-attrs_part (p.Output name) type h = absurd h
-attrs_part (p.UseOutput name) type h = absurd h
-attrs_part (p.UsePrinciple name dims args) type h = absurd h
+attrs_part other type h = absurd h
 
 entry_part : (kind : DimPartKind) (type : TypeTerm) → In (entry_type kind) type → kind ≡ p.EntryType type
 entry_part (p.EntryType t) type h = elim h [ inl e ↦ ap (λ (u : TypeTerm). p.EntryType u) e | inr k ↦ absurd k ]
-entry_part (p.DefType name t) type h = absurd h
-entry_part (p.LabelType t) type h = absurd h
-entry_part (p.AttrsType t) type h = absurd h
-entry_part (p.Output name) type h = absurd h
-entry_part (p.UseOutput name) type h = absurd h
-entry_part (p.UsePrinciple name dims args) type h = absurd h
+entry_part other type h = absurd h
 
 first_or_none : (kind : TypeTerm → DimPartKind) (names : Naming) (parts : List DimPart) (types : List TypeTerm) → ((type : TypeTerm) → In types type → (part : DimPart) × (In parts part × (part.kind ≡ kind type)))
     → (first_meaning names types ≡ fields no_field) ⊎ IsFirst kind names parts types

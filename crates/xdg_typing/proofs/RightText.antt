@@ -21,12 +21,7 @@ use Rattle.xdg_ast.specs.Texts.{texts}
 -- a definition's part
 pub definition_in : (kind : DimPartKind) (d : Definition) → In (definition kind) d → kind ≡ p.DefType d.name d.body
 definition_in (p.DefType name type) d h = elim h [ inl e ↦ ap (λ (x : Definition). p.DefType x.name x.body) e | inr k ↦ absurd k ]
-definition_in (p.LabelType type) d h = absurd h
-definition_in (p.AttrsType type) d h = absurd h
-definition_in (p.EntryType type) d h = absurd h
-definition_in (p.Output name) d h = absurd h
-definition_in (p.UseOutput name) d h = absurd h
-definition_in (p.UsePrinciple name dims args) d h = absurd h
+definition_in other d h = absurd h
 
 -- the definition of a name
 defined_by : (ds : List Definition) (t : List ℕ) → In (texts (map (λ d. d.name) ds)) t → (d : Definition) × (In ds d × (d.name.text ≡ t))

@@ -77,16 +77,7 @@ mapped_of text k = absurd (false≢true k)
 -- a domain's constants differ, and what is no domain has none
 pub constants_differ : (s : Shape) → IsDomain s → Differ (constants s)
 constants_differ (domain cs) h = h.1
-constants_differ (tuple ss) h = absurd h
-constants_differ (fields fs) h = absurd h
-constants_differ truth h = absurd h
-constants_differ integer h = absurd h
-constants_differ text h = absurd h
-constants_differ (set u) h = absurd h
-constants_differ (iset u) h = absurd h
-constants_differ card h = absurd h
-constants_differ (valency u) h = absurd h
-constants_differ (mapping l u) h = absurd h
+constants_differ other h = absurd h
 
 none_in_fields : (fs : Fields) (t : List ℕ) → In (constants (as_domain (fields fs))) t → ⊥
 none_in_fields no_field t h = h
@@ -97,16 +88,7 @@ none_in_fields (field_then name u fs) t h = h
 some_constant : (s : Shape) → IsDomain s → is_empty_domain s ≡ false → 0 < length (constants s)
 some_constant (domain []) h k = absurd (true≢false k)
 some_constant (domain (c ∷ cs)) h k = omega arith
-some_constant (tuple ss) h k = absurd h
-some_constant (fields fs) h k = absurd h
-some_constant truth h k = absurd h
-some_constant integer h k = absurd h
-some_constant text h k = absurd h
-some_constant (set u) h k = absurd h
-some_constant (iset u) h k = absurd h
-some_constant card h k = absurd h
-some_constant (valency u) h k = absurd h
-some_constant (mapping l u) h k = absurd h
+some_constant other h k = absurd h
 
 both_positive : (m n : ℕ) → 0 < m → 0 < n → 0 < m * n
 both_positive m n h k = omega (arith, mul-lt-mul_of_pos_left {m = 0} {n = n} {k = m} k h)
@@ -118,16 +100,7 @@ some_tuple (shape_then s ss) h k = let e = none_or (is_empty_domain s) (has_empt
 
 one_domain : (s : Shape) → IsDomain s → is_domain s ≡ true
 one_domain (domain cs) h = refl
-one_domain (tuple ss) h = absurd h
-one_domain (fields fs) h = absurd h
-one_domain truth h = absurd h
-one_domain integer h = absurd h
-one_domain text h = absurd h
-one_domain (set u) h = absurd h
-one_domain (iset u) h = absurd h
-one_domain card h = absurd h
-one_domain (valency u) h = absurd h
-one_domain (mapping l u) h = absurd h
+one_domain other h = absurd h
 
 all_domains : (ss : Shapes) → AreDomains ss → are_domains ss ≡ true
 all_domains no_shape h = refl
@@ -210,16 +183,7 @@ module _ (names : Naming) where
   shares earlier at (listed cs) c has before = let w = among_name cs c has in (fault_at causes.Twice w.0.span.start, (w.0, (w.1.0, (subst (In earlier) (sym w.1.1) before, refl))))
   shares earlier at (named name) c has before = (fault_at causes.Twice at, (c, (among_in (own (named name)) c has, (before, refl))))
   shares earlier at (recorded ms) c has before = absurd (none_in_fields (fields_meaning names ms) c has)
-  shares earlier at nothing c has before = absurd has
-  shares earlier at (tupled ts) c has before = absurd has
-  shares earlier at (set_of there t) c has before = absurd has
-  shares earlier at (iset_of there t) c has before = absurd has
-  shares earlier at (valency_of there t) c has before = absurd has
-  shares earlier at (map_of there t further u) c has before = absurd has
-  shares earlier at a_card c has before = absurd has
-  shares earlier at a_bool c has before = absurd has
-  shares earlier at an_int c has before = absurd has
-  shares earlier at a_string c has before = absurd has
+  shares earlier at other c has before = absurd has
 
   none_shared : (wanted : Wanted) (at : ℕ) (ts : Trees) → IsFine (record { wanted = wanted; at = at; written = tupled ts }) → NoneShared ts
   none_shared wanted at ts fine before there field after c split has earlier =
