@@ -1,6 +1,6 @@
 -- Values of features of entries, by their numbers and by their constants.
-use Rattle.std.proofs.Common.{◌≡◌, ◌↔◌, ℕ, suc, ◌<◌, true, List, ◌∷◌, length, refl, sym, ap, ◌∙◌, subst, arith}
-use Rattle.std.specs.Prelude.{◌==◌, Contains, Option, None, Some, MatchOption, slice_get}
+use Rattle.std.proofs.Common.{◌≡◌, ◌↔◌, ℕ, ◌<◌, true, List, refl, sym, ap, ◌∙◌, subst}
+use Rattle.std.specs.Prelude.{◌==◌, Option, None, Some, MatchOption, slice_get}
 use Rattle.std.proofs.lemmas.Bool.{eqb-true, eq-eqb, false≢true}
 use Rattle.xdg_domain.specs.Shapes.{Shape, domain, tuple, set, iset, truth, integer, text, card, valency, mapping, fields, fields_of, count, IsType, IsSmall}
 use Rattle.xdg_domain.specs.Valencies.{said_at}
@@ -22,9 +22,6 @@ use Rattle.xdg_facts.specs.Rises.{has}
 use Rattle.xdg_facts.proofs.Rising.{contains_has, contains_of_has}
 
 -- ---- sets
-
-contains_more : (n : ℕ) (ns : List ℕ) (m : ℕ) → Contains ns m → Contains (n ∷ ns) m
-contains_more n ns m is = (let within : is.0 < length ns = is.1 in (suc is.0, omega (arith, within), is.2))
 
 set_says : (s : Shape) (ns : List ℕ) (n : ℕ) (texts : List (List ℕ)) → IsSmall s → AllBelow (count s) ns → n < count s → value_texts s n ≡ texts → (has ns n ≡ true) ↔ Names s ns texts
 set_says s ns n texts small below within said =

@@ -13,7 +13,7 @@ use Rattle.xdg_domain.specs.declared.values.Value.TheOpen.{Value-F}
 use Rattle.xdg_names.specs.First.{Tells, first}
 use Rattle.xdg_terms.specs.Answers.{IsRight}
 use Rattle.xdg_terms.specs.Built.{built}
-use Rattle.xdg_terms.specs.Forms.{Term, Bindings, bound, bound_in, with_open, with_bound, unless_open, constant_of, constant_in, bracket_of, bracket_in}
+use Rattle.xdg_terms.specs.Forms.{Term, Bindings, bound, bound_in, with_open, with_bound, constant_of, constant_in, bracket_of, bracket_in}
 use Rattle.xdg_terms.specs.Means.{Means, MeansIn}
 use Rattle.xdg_terms.specs.Offences.{Offends, OffendsBy, OffendsIn, OfSeen}
 use Rattle.xdg_terms.proofs.Law.{law}
@@ -41,15 +41,6 @@ bound_by t (TermKind-F.Gen gen) = refl
 bound_none : (t : Term) → bound [] t ≡ t
 unfolding bound
 bound_none t = bound_by t (out-TermKind t.kind)
-
-open_by : (t : Term) (k : TermKind-F ElemKind TermKind) → unless_open [] t k ≡ Some t
-open_by t (TermKind-F.Param name) = refl
-open_by t (TermKind-F.TermKind::Const name) = refl
-open_by t (TermKind-F.Number n) = refl
-open_by t (TermKind-F.Card written) = refl
-open_by t (TermKind-F.Braces elems) = refl
-open_by t (TermKind-F.TermKind::Tuple names) = refl
-open_by t (TermKind-F.Gen gen) = refl
 
 constant_by : (k : TermKind-F ElemKind TermKind) (name : Name) → constant_in k ≡ Some name → constants_in k ≡ name.text ∷ []
 constant_by (TermKind-F.TermKind::Const own) name h = (let same : own ≡ name = cc in ap (λ (one : Name). one.text ∷ []) same)

@@ -3,22 +3,16 @@ use Rattle.std.proofs.Common.{◌≡◌, ℕ, ◌<◌, ◌≤◌, ◌+◌, List,
 use Rattle.std.specs.Prelude.{Bool, true, false, cond, ◌==◌, filter}
 use Rattle.std.specs.List.{range_with_len}
 use Rattle.std.specs.List.Sorted.{IsStrictlyIncreasing}
-use Rattle.std.proofs.lemmas.Bool.{cases_lt, eq-eqb, eqb-true, true≢false, false≢true, or_left, or_cases}
+use Rattle.std.proofs.lemmas.Bool.{cases_lt, eqb-true, false≢true, or_cases}
 use Rattle.std.proofs.lemmas.List.Elements.{filter-append}
 use Rattle.xdg_domain.proofs.Sorting.{range_more}
-use Rattle.xdg_domain.proofs.Merging.{RisesFrom, absent, append_nothing}
+use Rattle.xdg_domain.proofs.Merging.{append_nothing}
 use Rattle.xdg_terms.specs.Built.{above, as_set}
 use Rattle.xdg_facts.specs.Rises.{has, numbers_below}
 use Rattle.xdg_facts.proofs.Rising.{has_beyond, has_of}
 use Rattle.xdg_domain.proofs.Numbers.{increasing_same, numbers_increase}
 
 -- ---- rising lists
-
-has_head : (x : ℕ) (s : List ℕ) → has (x ∷ s) x ≡ true
-has_head x s = or_left (x == x) (has s x) (eq-eqb x x refl)
-
-no_less_head : (low x y : ℕ) (s t : List ℕ) → RisesFrom low (y ∷ t) → x < y → has (x ∷ s) x ≡ has (y ∷ t) x → ⊥
-no_less_head low x y s t r less same = true≢false (sym (has_head x s) ∙ same ∙ absent (x + 1) x (y ∷ t) (omega arith) (omega (arith, less), r.1))
 
 pub below_start : (p : ℕ → Bool) → [] ≡ numbers_below 0 p
 unfolding numbers_below
