@@ -20,6 +20,7 @@ use Rattle.xdg_build.specs.Tables.{is_or_has, says_in}
 use Rattle.xdg_build.specs.Truths.{IsOrHas}
 use Rattle.xdg_facts.specs.Rises.{has}
 use Rattle.xdg_facts.proofs.Rising.{contains_has, contains_of_has}
+use Rattle.xdg_facts.proofs.Options.{some_same}
 
 -- ---- sets
 
@@ -38,25 +39,22 @@ one_says s m n texts small below within said = (
   λ e. eq-eqb m n (same_number s m n small below within (e ∙ sym said)),
 )
 
-some_shape : (a b : Shape) → Some a ≡ Some b → a ≡ b
-some_shape a b h = cc
-
 -- A value has the number of a value of the type of its members, or a member with it, exactly where it has its constants.
 pub value_says : (s of : Shape) (v : Value-F Value) (n : ℕ) (texts : List (List ℕ)) → member_shape s ≡ Some of → IsType s → IsIn s v → n < count of → value_texts of n ≡ texts → (is_or_has v n ≡ true) ↔ IsOrHas s v texts
 value_says (domain cs) of (Value-F.Const m) n texts h type is within said =
-    let same : domain cs ≡ of = some_shape (domain cs) of h in
+    let same : domain cs ≡ of = some_same (domain cs) of h in
     one_says (domain cs) m n texts type is (subst (λ t. n < count t) (sym same) within) (ap (λ t. value_texts t n) same ∙ said)
 value_says (domain cs) of _ n texts h type is within said = absurd is
 value_says (tuple ss) of (Value-F.Tuple m) n texts h type is within said =
-    let same : tuple ss ≡ of = some_shape (tuple ss) of h in
+    let same : tuple ss ≡ of = some_same (tuple ss) of h in
     one_says (tuple ss) m n texts type is (subst (λ t. n < count t) (sym same) within) (ap (λ t. value_texts t n) same ∙ said)
 value_says (tuple ss) of _ n texts h type is within said = absurd is
 value_says (set s) of (Value-F.Set ns) n texts h type is within said =
-    let same : s ≡ of = some_shape s of h in
+    let same : s ≡ of = some_same s of h in
     set_says s ns n texts type is.1 (subst (λ t. n < count t) (sym same) within) (ap (λ t. value_texts t n) same ∙ said)
 value_says (set s) of _ n texts h type is within said = absurd is
 value_says (iset s) of (Value-F.Set ns) n texts h type is within said =
-    let same : s ≡ of = some_shape s of h in
+    let same : s ≡ of = some_same s of h in
     set_says s ns n texts type is.1 (subst (λ t. n < count t) (sym same) within) (ap (λ t. value_texts t n) same ∙ said)
 value_says (iset s) of _ n texts h type is within said = absurd is
 value_says truth of v n texts h type is within said = absurd (cc)

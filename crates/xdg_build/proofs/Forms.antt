@@ -27,6 +27,7 @@ use Rattle.xdg_principles.specs.Typed.{number_of}
 use Rattle.xdg_build.specs.Features.{feature_dim}
 use Rattle.xdg_build.specs.Groups.{called}
 use Rattle.xdg_build.proofs.Calling.{one_called}
+use Rattle.xdg_facts.proofs.Options.{some_same}
 
 -- ---- what each principle has
 
@@ -119,12 +120,9 @@ pub one_of_them : (name : List ℕ) (form : Form) → principle_named name ≡ S
 unfolding principle_named
 one_of_them name form h = found name in_table table.principles form matches h
 
-same_form : (x y : Form) → Some x ≡ Some y → x ≡ y
-same_form x y h = cc
-
 form_at : (name : List ℕ) (form : Form) (p : Principle) → principle_named name ≡ Some form → name ≡ name_of p → form ≡ form_of (called name)
 form_at name form p h is =
-    same_form form (form_of p) (sym h ∙ ap principle_named is ∙ form-name_of p (of_texts p name form (sym is) h)) ∙ ap form_of (sym (one_called name p (of_texts p name form (sym is) h) (sym is)))
+    some_same form (form_of p) (sym h ∙ ap principle_named is ∙ form-name_of p (of_texts p name form (sym is) h)) ∙ ap form_of (sym (one_called name p (of_texts p name form (sym is) h) (sym is)))
 
 -- what a known principle has goes by what it is called
 pub form_called : (name : List ℕ) (form : Form) → principle_named name ≡ Some form → form ≡ form_of (called name)

@@ -12,7 +12,7 @@ use Rattle.xdg_types.specs.Answers.{None_of}
 use Rattle.xdg_types.specs.Names.{fault_at}
 use Rattle.xdg_types.specs.Parts.{Statement, keys}
 use Rattle.xdg_types.specs.Table.{Table}
-use Rattle.xdg_types.proofs.Elements.{among_or_not, among_append, among_left, among_right, among_name, differ_append}
+use Rattle.xdg_types.proofs.Elements.{among_or_not, among_name, differ_append}
 use Rattle.xdg_types.proofs.Distinct.{among_has, has_among}
 use Rattle.xdg_classes.specs.Bodies.{Term, Called}
 use Rattle.xdg_classes.specs.Definitions.{ClassDef, classes, class_names, class_named, param_names}
@@ -53,7 +53,7 @@ one_text known p t = by (has_text known p.name.text) refl
 left_stands : (known : List (List ℕ)) (params : List ClassParam) (t : List ℕ) → In (left_texts known params) t → In (texts (param_names params)) t × (has_text known t ≡ false)
 left_stands known [] t h = absurd h
 left_stands known (p ∷ params) t h =
-    elim (among_append (texts (keys (if has_text known p.name.text then [] else preset_pair p.name p.preset))) (left_texts known params) t (subst (λ ts. In ts t) (left_next known p params) h)) [
+    elim (in_append (texts (keys (if has_text known p.name.text then [] else preset_pair p.name p.preset))) (left_texts known params) t (subst (λ ts. In ts t) (left_next known p params) h)) [
       | inl a ↦ (let o = one_text known p t a in (inl o.1, subst (λ x. has_text known x ≡ false) o.1 o.0))
       | inr b ↦ (let r = left_stands known params t b in (inr r.0, r.1))
     ]
@@ -81,9 +81,9 @@ left_has : (known : List (List ℕ)) (params : List ClassParam) (p : ClassParam)
 left_has known [] p h absent some = absurd h
 left_has known (x ∷ params) p h absent some =
     subst (λ ts. In ts p.name.text) (sym (left_next known x params)) (elim h [
-      | inl e ↦ among_left (texts (keys (if has_text known x.name.text then [] else preset_pair x.name x.preset))) (left_texts known params) p.name.text
+      | inl e ↦ in_left (texts (keys (if has_text known x.name.text then [] else preset_pair x.name x.preset))) (left_texts known params) p.name.text
           (subst (λ (y : ClassParam). In (texts (keys (if has_text known y.name.text then [] else preset_pair y.name y.preset))) p.name.text) (sym e) (by (has_text known p.name.text) absent p.preset some))
-      | inr k ↦ among_right (texts (keys (if has_text known x.name.text then [] else preset_pair x.name x.preset))) (left_texts known params) p.name.text (left_has known params p k absent some)
+      | inr k ↦ in_right (texts (keys (if has_text known x.name.text then [] else preset_pair x.name x.preset))) (left_texts known params) p.name.text (left_has known params p k absent some)
     ])
   where
     by : (b : Bool) → b ≡ false → (o : Option Term) → (o ≡ None → ⊥) → In (texts (keys (if b then [] else preset_pair p.name o))) p.name.text
@@ -176,14 +176,14 @@ module _ (statements : List Statement) (table : Table) (right : None_of (NameOff
         name = m.1.1.name ∙ at.1;
         once = subst Differ (sym names) (differ_append given (texts (keys left)) (keys_differ call h) (left_differ given c.0.params (params_differ c.0 at.0))
             (λ t a b. true≢false (sym (among_has given t a) ∙ (left_stands given c.0.params t b).1)));
-        known = λ param a. subst (λ ts. In ts param) (sym own) (elim (among_append given (texts (keys left)) param (subst (λ ts. In ts param) names a)) [
+        known = λ param a. subst (λ ts. In ts param) (sym own) (elim (in_append given (texts (keys left)) param (subst (λ ts. In ts param) names a)) [
           | inl g ↦ (let n = among_name (keys call.args) param g in subst (In (texts (param_names c.0.params))) n.1.1 (key_known call c.0 h c.1 n.0 n.1.0))
           | inr l ↦ (left_stands given c.0.params param l).0
         ]);
         given = λ param a. subst (λ ts. In ts param) (sym names) (let p = param_named c.0.params param (subst (λ ts. In ts param) own a) in
             subst (In (given ++ texts (keys left))) p.1.1 (elim (given_or_not call c.0 h c.1 p.0 p.1.0) [
-              | inl g ↦ among_left given (texts (keys left)) p.0.name.text g
-              | inr l ↦ among_right given (texts (keys left)) p.0.name.text (left_has given c.0.params p.0 p.1.0 l.0 l.1)
+              | inl g ↦ in_left given (texts (keys left)) p.0.name.text g
+              | inr l ↦ in_right given (texts (keys left)) p.0.name.text (left_has given c.0.params p.0 p.1.0 l.0 l.1)
             ]));
       }
     where

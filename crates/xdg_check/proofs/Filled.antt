@@ -40,7 +40,7 @@ bare_texts : (cs : List Class) → class_texts (map bare cs) ≡ class_texts cs
 bare_texts [] = refl
 bare_texts (c ∷ cs) = ap (λ ts. c.name ∷ ts) (bare_texts cs)
 
-at_once : {A : Type 0} (xs : List A) (x : A) → In xs x → (k : ℕ) × (slice_get xs k ≡ Some x)
+pub at_once : {A : Type 0} (xs : List A) (x : A) → In xs x → (k : ℕ) × (slice_get xs k ≡ Some x)
 at_once xs x h = let i = in_index xs x x h in (i.0, slice_get-get_or xs i.0 x i.1.0 ∙ ap Some i.1.1)
 
 module _ (now old : List Class) (bares : map bare now ≡ map bare old) where

@@ -43,9 +43,6 @@ as_long cs [] (x ∷ made) are = absurd are
 as_long cs (c ∷ sources) [] are = absurd are
 as_long cs (c ∷ sources) (x ∷ made) are = ap suc (as_long cs sources made are.1)
 
-def_in : (cs : List ClassDef) (k : ℕ) (c : ClassDef) → slice_get cs k ≡ Some c → In cs c
-def_in cs k c h = in_got cs k c h
-
 -- counts change nothing else
 pub bare_classes : (cs sources : List ClassDef) (old new : List Class) → map bare new ≡ map bare old → AreClassesOf cs sources old → AreClassesOf cs sources new
 bare_classes cs [] [] [] same are = are
@@ -85,7 +82,7 @@ module _ (statements : List Statement) (table : Table) (names : None_of (NameOff
             let a = slice_index_or ordering.order i 0 in
             let source = source_at cs cs made are a c at in
             let old = map_in (completed_call cs) (calls (body source.0.body.kind)) call (subst (λ xs. In xs call) (ap calls source.1.1.body ∙ completed_calls cs (body source.0.body.kind)) stands) in
-            let all : In (all_calls statements) old.0 = flat_map_in (λ (one : Scoped). calls one.body) (bodies statements) (class_scoped source.0) old.0 (class_body statements source.0 (def_in cs a source.0 source.1.0)) old.1.0 in
+            let all : In (all_calls statements) old.0 = flat_map_in (λ (one : Scoped). calls one.body) (bodies statements) (class_scoped source.0) old.0 (class_body statements source.0 (in_got cs a source.0 source.1.0)) old.1.0 in
             let found = class_of statements table names old.0 all in
             let named = named_in cs old.0.name.text found.0 found.1 in
             let p = place_of-has_text known old.0.name.text (among_has known old.0.name.text (name_known cs found.0 old.0.name.text named.0 named.1)) in

@@ -10,6 +10,7 @@ use Rattle.xdg_check.specs.Lex.{HasLex, LexOffends}
 use Rattle.xdg_facts.specs.Membership.{In}
 use Rattle.xdg_facts.proofs.In.{in_got as has_got}
 use Rattle.xdg_names.proofs.First.{itself}
+use Rattle.xdg_check.proofs.Filled.{at_once}
 
 -- ---- from places to what stands there
 
@@ -30,11 +31,6 @@ word_lex table dim field place = record {
 
 -- ---- and back
 
-used_at : (ks : List ℕ) (k : ℕ) → In ks k → (d : ℕ) × (slice_get ks d ≡ Some k)
-used_at [] k has = absurd has
-used_at (j ∷ ks) k (inl is) = (0, ap Some is)
-used_at (j ∷ ks) k (inr later) = (let r = used_at ks k later in (suc r.0, r.1))
-
 field_at : (fs : Typed) (f : List ℕ × Shape) → In fs f → (i : ℕ) × (slice_get fs i ≡ Some f)
 field_at [] f stands = absurd stands
 field_at (x ∷ fs) f (inl is) = (0, ap Some is)
@@ -42,7 +38,7 @@ field_at (x ∷ fs) f (inr later) = (let r = field_at fs f later in (suc r.0, r.
 
 no_words : (table : Table) → ((dim field : ℕ) → IsWordPlace table dim field → ⊥) → HasLex table → ⊥
 no_words table none lex =
-    let used = used_at table.used lex.place lex.used in
+    let used = at_once table.used lex.place lex.used in
     let field = field_at (typed lex.dim.fields) (codes "word", text) lex.lex.word in
     none used.0 field.0 (record { lex = lex.dim; used = (lex.place, (used.1, lex.stands)); name = lex.lex.name; word = field.1 })
 

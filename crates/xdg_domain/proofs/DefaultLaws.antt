@@ -19,7 +19,7 @@ use Rattle.xdg_facts.proofs.Options.{some_same}
 
 -- ---- whether there is one
 
-differ : {A : Type 0} (o : Option A) (x : A) → o ≡ None → o ≡ Some x → ⊥
+pub differ : {A : Type 0} (o : Option A) (x : A) → o ≡ None → o ≡ Some x → ⊥
 differ o x e f = cc
 
 pub mapped_plain : (s : Shape) → IsMapped s → HasPlain s → ⊥

@@ -8,6 +8,7 @@ use Rattle.xdg_lexicon.specs.Growing.{Puts}
 use Rattle.xdg_lexicon.specs.Lexicon.{whole, AreWhole, Adds, nothing_more, known_before, new}
 use Rattle.xdg_facts.proofs.Lists.{from_place}
 use Rattle.xdg_facts.specs.Membership.{In}
+use Rattle.xdg_lexicon.proofs.OneMeaning.{some_same}
 
 -- ---- what is added is told
 
@@ -20,16 +21,13 @@ same_added known _ all others (new _ more _ e n a) (new _ _ _ _ m b) = same_adde
 
 -- ---- whole entries
 
-same_entry : (o : Option Entry) (e d : Entry) → o ≡ Some e → o ≡ Some d → e ≡ d
-same_entry o e d a b = cc
-
 pub same_whole : (table : Table) (ps : List Partial) (es ds : List Entry) → AreWhole table ps es → AreWhole table ps ds → es ≡ ds
 same_whole table [] [] [] a b = refl
 same_whole table [] [] (d ∷ ds) a b = absurd b
 same_whole table [] (e ∷ es) ds a b = absurd a
 same_whole table (p ∷ ps) [] ds a b = absurd a
 same_whole table (p ∷ ps) (e ∷ es) [] a b = absurd b
-same_whole table (p ∷ ps) (e ∷ es) (d ∷ ds) a b = ap₂ (λ x xs. x ∷ xs) (same_entry (whole table p) e d a.0 b.0) (same_whole table ps es ds a.1 b.1)
+same_whole table (p ∷ ps) (e ∷ es) (d ∷ ds) a b = ap₂ (λ x xs. x ∷ xs) (some_same (whole table p) e d a.0 b.0) (same_whole table ps es ds a.1 b.1)
 
 apart : (o : Option Entry) (e : Entry) → o ≡ Some e → o ≡ None → ⊥
 apart o e a b = cc

@@ -52,7 +52,7 @@ said_once P once (Some a) (Some x) (Some y) h k = ap (λ z. Some z) (once a x y 
 
 -- ---- values
 
-some_same : {A : Type 0} (o : Option A) (a b : A) → o ≡ Some a → o ≡ Some b → a ≡ b
+pub some_same : {A : Type 0} (o : Option A) (a b : A) → o ≡ Some a → o ≡ Some b → a ≡ b
 some_same o a b h k = (let e : Some a ≡ Some b = sym h ∙ k in cc)
 
 mutual

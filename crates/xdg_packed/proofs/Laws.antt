@@ -12,7 +12,7 @@ use Rattle.xdg_domain.specs.Defaults.{field_and_defaults, record_of_defaults, Is
 use Rattle.xdg_domain.specs.declared.values.Value.{Value, out-Value}
 use Rattle.xdg_domain.specs.declared.values.Value.TheOpen.{Value-F}
 use Rattle.xdg_domain.specs.declared.values.Value.TheVariants as v
-use Rattle.xdg_domain.proofs.DefaultLaws.{default_is_value, zero_alone, each_wider, IsRight, IsAt, by_layer}
+use Rattle.xdg_domain.proofs.DefaultLaws.{default_is_value, zero_alone, each_wider, IsRight, IsAt, by_layer, differ}
 use Rattle.xdg_domain.proofs.Made.{none_and}
 use Rattle.xdg_packed.specs.Filled.{cards_in, cards_said, keys_in, keys_said, fields_in, fields_said, or_zero, each_key, filled_cards, filled, filled_fields, Lacks, SomeLacks, IsSaid, AreValuesOf, AreSaid}
 use Rattle.xdg_facts.proofs.Options.{some_same}
@@ -146,9 +146,6 @@ mutual
       | inr rest ↦ inr (λ p. elim p [ inl a ↦ some.0 a | inr b ↦ rest.0 b ], ((place, some.1.0) ∷ rest.1.0, ap₂ (field_and_defaults place) some.1.1 rest.1.1))
     ]
   ]
-
-differ : (o : Option Value) (x : Value) → o ≡ None → o ≡ Some x → ⊥
-differ o x e f = cc
 
 -- nothing is filled exactly where a plain part lacks
 pub none_lacks : (s : Shape) → IsType s → (said : Option Value) → (filled s said ≡ None) ↔ Lacks s said

@@ -9,6 +9,7 @@ use Rattle.xdg_names.specs.Texts.{has_text}
 use Rattle.xdg_types.specs.NameFaults.{with_text, with_all, different}
 use Rattle.xdg_facts.specs.Membership.{In, Differ}
 use Rattle.xdg_ast.specs.Texts.{texts}
+use Rattle.xdg_facts.proofs.In.{in_append, in_left, in_right}
 
 -- ---- the test and what it says
 
@@ -30,18 +31,6 @@ same_test xs ys t to from = by (has_text xs t) (has_text ys t) refl refl
 
 -- ---- lists in a row
 
-pub among_append : (xs ys : List (List ℕ)) (t : List ℕ) → In (xs ++ ys) t → In xs t ⊎ In ys t
-among_append [] ys t h = inr h
-among_append (x ∷ xs) ys t h = elim h [ inl e ↦ inl (inl e) | inr k ↦ elim (among_append xs ys t k) [ inl l ↦ inl (inr l) | inr r ↦ inr r ] ]
-
-among_left : (xs ys : List (List ℕ)) (t : List ℕ) → In xs t → In (xs ++ ys) t
-among_left [] ys t h = absurd h
-among_left (x ∷ xs) ys t h = elim h [ inl e ↦ inl e | inr k ↦ inr (among_left xs ys t k) ]
-
-among_right : (xs ys : List (List ℕ)) (t : List ℕ) → In ys t → In (xs ++ ys) t
-among_right [] ys t h = h
-among_right (x ∷ xs) ys t h = inr (among_right xs ys t h)
-
 pub texts_left : (front more : List Name) (t : List ℕ) → In (texts front) t → In (texts (front ++ more)) t
 texts_left [] more t h = absurd h
 texts_left (n ∷ front) more t h = elim h [ inl e ↦ inl e | inr k ↦ inr (texts_left front more t k) ]
@@ -58,21 +47,21 @@ module _ (seen : List (List ℕ)) (x : List ℕ) where
     where
       by : (b : Bool) → In (if b then seen else seen ++ x ∷ []) t → In seen t ⊎ (x ≡ t)
       by true h = inl h
-      by false h = elim (among_append seen (x ∷ []) t h) [ inl l ↦ inl l | inr r ↦ elim r [ inl e ↦ inr e | inr k ↦ absurd k ] ]
+      by false h = elim (in_append seen (x ∷ []) t h) [ inl l ↦ inl l | inr r ↦ elim r [ inl e ↦ inr e | inr k ↦ absurd k ] ]
 
   pub with_old : (t : List ℕ) → In seen t → In (with_text seen x) t
   with_old t h = by (has_text seen x)
     where
       by : (b : Bool) → In (if b then seen else seen ++ x ∷ []) t
       by true = h
-      by false = among_left seen (x ∷ []) t h
+      by false = in_left seen (x ∷ []) t h
 
   pub with_new : In (with_text seen x) x
   with_new = by (has_text seen x) refl
     where
       by : (b : Bool) → has_text seen x ≡ b → In (if b then seen else seen ++ x ∷ []) x
       by true e = has_among seen x e
-      by false e = among_right seen (x ∷ []) x (inl refl)
+      by false e = in_right seen (x ∷ []) x (inl refl)
 
 -- ---- the texts of names more
 
@@ -115,7 +104,7 @@ grown seen (n ∷ names) apart differ =
     let new : has_text seen n.text ≡ false = false_from_ne_true (has_text seen n.text) (λ e. apart n.text (has_among seen n.text e) (inl refl)) in
     ap (λ b. with_all (if b then seen else seen ++ n.text ∷ []) names) new
     ∙ grown (seen ++ n.text ∷ []) names
-    (λ t h k. elim (among_append seen (n.text ∷ []) t h) [
+    (λ t h k. elim (in_append seen (n.text ∷ []) t h) [
       | inl s ↦ apart t s (inr k)
       | inr e ↦ elim e [ inl q ↦ differ.0 (subst (In (texts names)) (sym q) k) | inr z ↦ z ]
     ])

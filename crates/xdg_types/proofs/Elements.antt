@@ -8,6 +8,7 @@ use Rattle.xdg_names.specs.Texts.{has_text, AllDiffer}
 use Rattle.xdg_types.proofs.Distinct.{has_among}
 use Rattle.xdg_facts.specs.Membership.{In, Differ}
 use Rattle.xdg_ast.specs.Texts.{texts}
+use Rattle.xdg_facts.proofs.In.{in_append}
 
 pub not_more : (m n : ℕ) → (m < n → ⊥) → n ≤ m
 not_more m n h = omega arith
@@ -17,18 +18,6 @@ not_more m n h = omega arith
 pub among_in : (xs : List (List ℕ)) (t : List ℕ) → In xs t → In xs t
 among_in [] t h = absurd h
 among_in (x ∷ xs) t h = elim h [ inl e ↦ inl e | inr k ↦ inr (among_in xs t k) ]
-
-pub among_left : (xs ys : List (List ℕ)) (t : List ℕ) → In xs t → In (xs ++ ys) t
-among_left [] ys t h = absurd h
-among_left (x ∷ xs) ys t h = elim h [ inl e ↦ inl e | inr k ↦ inr (among_left xs ys t k) ]
-
-pub among_right : (xs ys : List (List ℕ)) (t : List ℕ) → In ys t → In (xs ++ ys) t
-among_right [] ys t h = h
-among_right (x ∷ xs) ys t h = inr (among_right xs ys t h)
-
-pub among_append : (xs ys : List (List ℕ)) (t : List ℕ) → In (xs ++ ys) t → In xs t ⊎ In ys t
-among_append [] ys t h = inr h
-among_append (x ∷ xs) ys t h = elim h [ inl e ↦ inl (inl e) | inr k ↦ elim (among_append xs ys t k) [ inl l ↦ inl (inr l) | inr r ↦ inr r ] ]
 
 pub among_or_not : (xs : List (List ℕ)) (t : List ℕ) → In xs t ⊎ (In xs t → ⊥)
 among_or_not [] t = inr (λ h. h)
@@ -98,7 +87,7 @@ differ_unless (n ∷ ns) h = (
 pub differ_append : (xs ys : List (List ℕ)) → Differ xs → Differ ys → ((t : List ℕ) → In xs t → In ys t → ⊥) → Differ (xs ++ ys)
 differ_append [] ys h k apart = k
 differ_append (x ∷ xs) ys h k apart = (
-  λ a. elim (among_append xs ys x a) [ inl l ↦ h.0 l | inr r ↦ apart x (inl refl) r ],
+  λ a. elim (in_append xs ys x a) [ inl l ↦ h.0 l | inr r ↦ apart x (inl refl) r ],
   differ_append xs ys h.1 k (λ t l r. apart t (inr l) r),
 )
 

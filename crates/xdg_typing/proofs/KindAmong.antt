@@ -8,6 +8,7 @@ use Rattle.xdg_names.specs.Texts.{has_text}
 use Rattle.xdg_typing.specs.KindFaults.{add_texts, has_one}
 use Rattle.xdg_facts.specs.Membership.{In}
 use Rattle.xdg_types.specs.NameFaults.{with_text}
+use Rattle.xdg_facts.proofs.In.{in_append, in_left, in_right}
 
 abbrev Text : Type 0
 Text = List ℕ
@@ -20,31 +21,17 @@ pub among_has : (texts : List Text) (t : Text) → In texts t → has_text texts
 among_has [] t h = absurd h
 among_has (x ∷ xs) t h = elim h [ inl e ↦ or_left (bytes_eq x t) (has_text xs t) ((bytes_eq-Decides x t).1 e) | inr k ↦ or_right (bytes_eq x t) (has_text xs t) (among_has xs t k) ]
 
-among_append : (xs ys : List Text) (t : Text) → In (xs ++ ys) t → In xs t ⊎ In ys t
-among_append [] ys t h = inr h
-among_append (x ∷ xs) ys t h = elim h [ inl e ↦ inl (inl e) | inr k ↦ elim (among_append xs ys t k) [ inl l ↦ inl (inr l) | inr r ↦ inr r ] ]
-
-among_left : (xs ys : List Text) (t : Text) → In xs t → In (xs ++ ys) t
-among_left [] ys t h = absurd h
-among_left (x ∷ xs) ys t h = elim h [ inl e ↦ inl e | inr k ↦ inr (among_left xs ys t k) ]
-
-among_right : (xs ys : List Text) (t : Text) → In ys t → In (xs ++ ys) t
-among_right [] ys t h = h
-among_right (x ∷ xs) ys t h = inr (among_right xs ys t h)
-
--- ---- one text more
-
 of_added : (seen : List Text) (x t : Text) (b : Bool) → In (if b then seen else seen ++ x ∷ []) t → In seen t ⊎ (x ≡ t)
 of_added seen x t true h = inl h
-of_added seen x t false h = elim (among_append seen (x ∷ []) t h) [ inl l ↦ inl l | inr r ↦ elim r [ inl e ↦ inr e | inr k ↦ absurd k ] ]
+of_added seen x t false h = elim (in_append seen (x ∷ []) t h) [ inl l ↦ inl l | inr r ↦ elim r [ inl e ↦ inr e | inr k ↦ absurd k ] ]
 
 still_added : (seen : List Text) (x t : Text) (b : Bool) → In seen t → In (if b then seen else seen ++ x ∷ []) t
 still_added seen x t true h = h
-still_added seen x t false h = among_left seen (x ∷ []) t h
+still_added seen x t false h = in_left seen (x ∷ []) t h
 
 now_added : (seen : List Text) (x t : Text) (b : Bool) → has_text seen x ≡ b → x ≡ t → In (if b then seen else seen ++ x ∷ []) t
 now_added seen x t true h e = subst (In seen) e (has_among seen x h)
-now_added seen x t false h e = among_right seen (x ∷ []) t (inl e)
+now_added seen x t false h e = in_right seen (x ∷ []) t (inl e)
 
 -- ---- texts more
 
@@ -77,8 +64,8 @@ alike_none = record { to = λ t h. h; from = λ t h. h }
 
 pub alike_more : (seen earlier cs : List Text) → Alike seen earlier → Alike (add_texts seen cs) (earlier ++ cs)
 alike_more seen earlier cs a = record {
-  to = λ t h. elim (of_more seen cs t h) [ inl l ↦ among_left earlier cs t (a.to t l) | inr r ↦ among_right earlier cs t r ];
-  from = λ t h. elim (among_append earlier cs t h) [ inl l ↦ still_more seen cs t (a.from t l) | inr r ↦ now_more seen cs t r ];
+  to = λ t h. elim (of_more seen cs t h) [ inl l ↦ in_left earlier cs t (a.to t l) | inr r ↦ in_right earlier cs t r ];
+  from = λ t h. elim (in_append earlier cs t h) [ inl l ↦ still_more seen cs t (a.from t l) | inr r ↦ now_more seen cs t r ];
 }
 
 -- ---- one of some texts

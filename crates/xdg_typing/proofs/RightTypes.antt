@@ -13,10 +13,10 @@ use Rattle.xdg_types.specs.Meaning.{meaning, domains_meaning, fields_meaning, as
 use Rattle.xdg_types.specs.Names.{fault_at}
 use Rattle.xdg_types.specs.Kinds.{Wanted, anything, a_domain, a_small, a_mapped, an_attribute, Site, inside, inside_trees, inside_members, inside_attributes, is_domain, is_small, is_mapped, is_empty_domain, are_domains, has_empty_domain, has_no_tuple, is_attribute, is_of_kind, SiteOffends, Split, SharesAt}
 use Rattle.xdg_typing.specs.Branches.{Naming}
-use Rattle.xdg_types.proofs.Elements.{not_more, among_in, among_left, among_right, among_append, among_name, differ_append}
+use Rattle.xdg_types.proofs.Elements.{not_more, among_in, among_name, differ_append}
 use Rattle.xdg_facts.proofs.Truths.{from_not, none_or}
 use Rattle.xdg_facts.specs.Membership.{In, Differ}
-use Rattle.xdg_facts.proofs.In.{in_left, in_right}
+use Rattle.xdg_facts.proofs.In.{in_left, in_right, in_append}
 use Rattle.xdg_ast.specs.Texts.{texts}
 
 -- ---- shapes of the wanted kind
@@ -167,7 +167,7 @@ module _ (names : Naming) where
 
   field_with : (ts : Trees) (c : List ℕ) → In (row ts) c → HasField ts c
   field_with no_tree c h = absurd h
-  field_with (tree_then at t ts) c h = elim (among_append (own t) (row ts) c h) [
+  field_with (tree_then at t ts) c h = elim (in_append (own t) (row ts) c h) [
     | inl l ↦ record { before = no_tree; at = at; field = t; after = ts; parts = refl; has = l }
     | inr r ↦ (let w = field_with ts c r in record { before = tree_then at t w.before; at = w.at; field = w.field; after = w.after; parts = (ts, (refl, w.parts)); has = w.has })
   ]
@@ -176,8 +176,8 @@ module _ (names : Naming) where
   apart no_tree none domains = tt
   apart (tree_then at t ts) none domains =
       differ_append (own t) (row ts) (constants_differ (as_domain (meaning names t)) domains.0)
-      (apart ts (λ before there field after c split has earlier. none (tree_then at t before) there field after c (ts, (refl, split)) has (among_right (own t) (row before) c earlier)) domains.1)
-      (λ c has later. let w = field_with ts c later in none (tree_then at t w.before) w.at w.field w.after c (ts, (refl, w.parts)) w.has (among_left (own t) (row w.before) c has))
+      (apart ts (λ before there field after c split has earlier. none (tree_then at t before) there field after c (ts, (refl, split)) has (in_right (own t) (row before) c earlier)) domains.1)
+      (λ c has later. let w = field_with ts c later in none (tree_then at t w.before) w.at w.field w.after c (ts, (refl, w.parts)) w.has (in_left (own t) (row w.before) c has))
 
   shares : (earlier : List (List ℕ)) (at : ℕ) (t : Tree) (c : List ℕ) → In (own t) c → In earlier c → (f : Fault) × SharesAt names earlier at t f
   shares earlier at (listed cs) c has before = let w = among_name cs c has in (fault_at causes.Twice w.0.span.start, (w.0, (w.1.0, (subst (In earlier) (sym w.1.1) before, refl))))
