@@ -127,7 +127,7 @@ fn complete(alloc: Global, classes: &Classes<'_>, expr: &ExprKind) -> Result<Exp
 {
     match expr {
         ExprKind::Or(members) => {
-            let mut made = List::from_vec(Vec::with_capacity(alloc, members.len())?);
+            let mut made = List::with_room(alloc, members.len())?;
             for member in members.as_slice() {
                 let kind = complete(alloc, classes, &member.kind)?;
                 made.push(Spanned {
@@ -138,7 +138,7 @@ fn complete(alloc: Global, classes: &Classes<'_>, expr: &ExprKind) -> Result<Exp
             Ok(ExprKind::Or(made))
         }
         ExprKind::And(members) => {
-            let mut made = List::from_vec(Vec::with_capacity(alloc, members.len())?);
+            let mut made = List::with_room(alloc, members.len())?;
             for member in members.as_slice() {
                 let kind = complete(alloc, classes, &member.kind)?;
                 made.push(Spanned {
