@@ -13,7 +13,8 @@ use Rattle.xdg_problem.specs.Places.{nodes}
 use Rattle.xdg_problem.specs.Truths.{bound, HasTruth}
 use Rattle.xdg_rules.specs.Worths.{Makes}
 use Rattle.xdg_formula_value.specs.Pairs.{Relates, edges_for}
-use Rattle.xdg_formula_value.specs.Rows.{AreFirst, Bounds, IsEvery, IsRow, Joined, open_in}
+use Rattle.xdg_graph.specs.Every.{IsEvery}
+use Rattle.xdg_formula_value.specs.Rows.{AreFirst, Bounds, IsRow, Joined, open_in}
 use Rattle.xdg_formula_value.specs.Several.{MakesSeveral}
 use Rattle.xdg_formula_value.specs.declared.pair.Pair.{Pair}
 use Rattle.xdg_formula_value.specs.declared.pair.Pair.TheVariants as pairs

@@ -9,7 +9,8 @@ use Rattle.xdg_problem.specs.Truths.{bound, AreNodes}
 use Rattle.xdg_rules.specs.Worths.{Makes}
 use Rattle.xdg_rules.proofs.Bound.{bound_nodes}
 use Rattle.xdg_formula_value.specs.Lost.{AgreeBut, Finds, HasNode, HasNodes}
-use Rattle.xdg_formula_value.specs.Rows.{Bounds, IsEvery, IsRowOn, Over}
+use Rattle.xdg_graph.specs.Every.{IsEvery}
+use Rattle.xdg_formula_value.specs.Rows.{Bounds, IsRowOn, Over}
 use Rattle.xdg_formula_value.proofs.Narrowed.{within_row}
 use Rattle.xdg_formula_value.proofs.Rowed.{head_or_tail, no_member, over_told}
 use Rattle.xdg_formula_value.proofs.Stood.{bound_back, bound_here, bound_else}

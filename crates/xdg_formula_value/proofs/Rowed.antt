@@ -4,7 +4,8 @@ use Rattle.std.specs.Prelude.{not, ◌==◌}
 use Rattle.std.proofs.lemmas.Bool.{cases_eq, cases_Bool, and_from, and_parts, both_ways, eq-eqb, eqb-true, not_from_false, false≢true, or_cases}
 use Rattle.xdg_problem.specs.Truths.{HasTruth}
 use Rattle.xdg_facts.proofs.Truths.{either_true, or_here}
-use Rattle.xdg_formula_value.specs.Rows.{IsRow, IsRowOn, HasFirst, Joined, Over, AreFirst, IsEvery, open_in}
+use Rattle.xdg_graph.specs.Every.{IsEvery}
+use Rattle.xdg_formula_value.specs.Rows.{IsRow, IsRowOn, HasFirst, Joined, Over, AreFirst, open_in}
 use Rattle.xdg_facts.specs.Rises.{has}
 use Rattle.xdg_nodeset.proofs.TableSets.{none_in}
 

@@ -10,7 +10,8 @@ use Rattle.xdg_problem.specs.Claims.{claims_of, claim}
 use Rattle.xdg_problem.specs.Places.{nodes}
 use Rattle.xdg_problem.specs.Truths.{bound, AreNodes}
 use Rattle.xdg_rules.specs.Worths.{Makes}
-use Rattle.xdg_formula_value.specs.Rows.{IsEvery, IsRowOn, Joined, Over}
+use Rattle.xdg_graph.specs.Every.{IsEvery}
+use Rattle.xdg_formula_value.specs.Rows.{IsRowOn, Joined, Over}
 use Rattle.xdg_formula_value.specs.Several.{MakesSeveral}
 use Rattle.xdg_formula_value.proofs.Formed.{not_makes, and_several, or_several, every_makes, any_makes}
 use Rattle.xdg_formula_value.proofs.Fronts.{several_more, several_none}

@@ -40,7 +40,3 @@ AreFirst n set = (v : ℕ) → has set v ≡ true → v < n
 abbrev pub open_in : Bool → List ℕ → List ℕ → ℕ → Bool
 open_in true care set v = has care v && has set v
 open_in false care set v = has care v && not (has set v)
-
--- the set has the first nodes
-abbrev pub IsEvery : ℕ → List ℕ → Type 0
-IsEvery n set = (v : ℕ) → (has set v ≡ true) ↔ (v < n)

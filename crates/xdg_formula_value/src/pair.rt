@@ -10,10 +10,10 @@ ghost use Rattle.xdg_formula_value.specs.Rows.{IsRow, stands};
 
 use crate::binding::node_of;
 use crate::paths::{Paths, far};
-use crate::rows::{constant, kept, opposite, told, up_to};
+use crate::rows::{constant, kept, opposite, told};
 use crate::way::Way;
 use xdg_base::{DimId, LabelId, NodeId};
-use xdg_graph::{Which, daughters_by, labels_of, mothers_by, node_count};
+use xdg_graph::{Which, daughters_by, labels_of, mothers_by, node_count, up_to};
 use xdg_nodeset::NodeSet;
 use xdg_store::Store;
 

@@ -1,5 +1,5 @@
 -- Nodes and places where nothing was lost.
-use Rattle.std.specs.Prelude.{◌≡◌, ◌≢◌, ◌<◌, ◌↔◌, ℕ, true, Bool, List}
+use Rattle.std.specs.Prelude.{◌≡◌, ◌≢◌, ◌<◌, ℕ, true, Bool, List}
 use Rattle.xdg_problem.specs.declared.analysis.Edge.{Edge}
 use Rattle.xdg_problem.specs.declared.parts.Group.{Group}
 use Rattle.xdg_problem.specs.declared.parts.Parts.{Parts}
@@ -27,10 +27,6 @@ abbrev pub IsPlaceFree : Touched → Edge → Type 0
 IsPlaceFree t e = IsRowFree t e.mother.0 e.label.0 × (has t.attrs e.daughter.0 ≡ true → ⊥)
 
 -- ---- where to look
-
--- a set has the first nodes, so many
-abbrev pub IsEvery : ℕ → List ℕ → Type 0
-IsEvery count set = (v : ℕ) → (has set v ≡ true) ↔ (v < count)
 
 -- a set has nodes of the sentence, and all that have lost an entry or a value of an attribute
 pub record HasOwn (parts : Parts) (t : Touched) (set : List ℕ) : Type 0 where

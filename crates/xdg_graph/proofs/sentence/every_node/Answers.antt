@@ -1,7 +1,7 @@
 use Rattle.std.proofs.Common.{arith}
 use Rattle.xdg_problem.specs.Places.{nodes}
-use Rattle.xdg_formula_value.proofs.Overs.{every_up_to}
-use Rattle.xdg_formula_value.proofs.paths.every_node.Goals as goal
+use Rattle.xdg_graph.proofs.UpTo.{every_up_to}
+use Rattle.xdg_graph.proofs.sentence.every_node.Goals as goal
 
 pub overflow_sub-node_count : goal.overflow_sub-node_count
 overflow_sub-node_count c = (let some = c.node_count.ensures.known.problem.some in let size = c.node_count.ensures.size in omega (arith, some, size))
