@@ -21,6 +21,6 @@ pub use labels::{edge_labels, labels_of, node_count};
 pub use paths::{above, ancestors};
 pub use sentence::{every_node, up_to};
 pub use slot::{Slot, slot_of};
-pub use tables::{daughters, daughters_by, set_at};
-pub use upward::{mothers, mothers_by};
+pub use tables::{daughters, daughters_by, daughters_of, set_at};
+pub use upward::{mothers, mothers_by, mothers_of};
 pub use which::Which;
