@@ -3,7 +3,6 @@ use Rattle.xdg_names.specs.First.{Tells}
 use Rattle.xdg_classes.specs.Bodies.{body}
 use Rattle.xdg_classes.specs.Definitions.{param_names}
 use Rattle.xdg_ast.specs.Grammar.{params_of}
-use Rattle.xdg_ast.specs.Grammar.{params_of}
 use Rattle.xdg_classes.specs.Given.{told}
 use Rattle.xdg_classes.specs.Collected.{feature_of}
 use Rattle.xdg_classes.specs.Wrong as wrong
