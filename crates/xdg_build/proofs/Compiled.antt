@@ -24,7 +24,7 @@ use Rattle.xdg_formula.specs.declared.tree.RuleKind.{RuleKind}
 use Rattle.xdg_formula.specs.declared.tree.RuleKind.TheVariants as r
 use Rattle.xdg_formula.specs.Rules.{RuleTerm}
 use Rattle.xdg_formula.specs.Written as w
-use Rattle.xdg_formula.specs.Written.{Tree, tree}
+use Rattle.xdg_formula.specs.Written.{Tree, tree, trees_of}
 use Rattle.xdg_formula.proofs.Treed.{treed, tree_or, tree_and, tree_not, tree_every, tree_any, tree_edge, tree_above, tree_left, tree_same, tree_attr, tree_feat}
 use Rattle.xdg_build.specs.Formulas.{formula_in, formulas_in, formulas_of, place_of, signed}
 use Rattle.xdg_build.specs.Places.{IsPlaceOf}
@@ -36,7 +36,6 @@ use Rattle.xdg_build.proofs.FormulaLaws.{SaysEach, says_none, says_then, says_co
 use Rattle.xdg_build.proofs.Rightly.{AreNodes, IsBindingRight, not_right, every_right, any_right, left_right, same_right, part_right}
 use Rattle.xdg_facts.proofs.Lists.{zip_more as zip_behind}
 use Rattle.xdg_names.specs.Texts.{has_text}
-use Rattle.xdg_types.specs.Written.{trees_of}
 
 -- ---- nothing is wrong with what stands inside
 

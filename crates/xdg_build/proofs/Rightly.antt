@@ -18,12 +18,11 @@ use Rattle.xdg_formula.specs.Tables.{type_named, member_shape, used_dims}
 use Rattle.xdg_formula.specs.declared.tree.Rule.{Rule}
 use Rattle.xdg_formula.specs.Rules.{RuleTerm}
 use Rattle.xdg_formula.specs.Written as w
-use Rattle.xdg_formula.specs.Written.{tree}
+use Rattle.xdg_formula.specs.Written.{tree, trees_of}
 use Rattle.xdg_formula.proofs.Treed.{treed}
 use Rattle.xdg_build.specs.Right.{IsRight}
 use Rattle.xdg_facts.specs.Membership.{In}
 use Rattle.xdg_names.specs.Texts.{has_text}
-use Rattle.xdg_types.specs.Written.{trees_of}
 
 -- ---- lists without a fault
 

@@ -11,10 +11,9 @@ use Rattle.xdg_types.specs.declared.table.DimType.{DimType}
 use Rattle.xdg_formula.specs.declared.tree.RuleKind.{RuleKind}
 use Rattle.xdg_formula.specs.declared.tree.RuleKind.TheVariants as r
 use Rattle.xdg_formula.specs.Rules.{RuleTerm}
-use Rattle.xdg_formula.specs.Written.{Tree, tree}
+use Rattle.xdg_formula.specs.Written.{Tree, tree, trees_of}
 use Rattle.xdg_formula.proofs.Treed.{treed, tree_or, tree_and, tree_not, tree_every, tree_any, tree_edge, tree_above, tree_left, tree_same, tree_attr, tree_feat}
 use Rattle.xdg_formula.specs.Formulas.{Bound, faults_in, faults_each, formula_faults, binding_faults, edge_faults, dim_faults, attr_faults, feat_faults, unbound, unbound_nodes}
-use Rattle.xdg_types.specs.Written.{trees_of}
 
 -- what is wrong with the parts of a formula, one after another
 each_listed : (dims : List DimType) (bound : Bound) (members : List RuleTerm) → faults_each dims bound (trees_of (map treed members)) ≡ flat_map (formula_faults dims bound) members

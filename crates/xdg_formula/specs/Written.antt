@@ -1,11 +1,11 @@
 -- Formulas as they are written, as trees in which each part has its place.
-use Rattle.std.specs.Prelude.{ℕ, length}
+use Rattle.std.specs.Prelude.{ℕ, List, [], ◌∷◌, length}
 use Rattle.xdg_ast.specs.declared.names.Name.{Name}
+use Rattle.xdg_ast.specs.declared.names.Spanned.{Spanned}
 use Rattle.xdg_ast.specs.Grammar.{Term}
 use Rattle.xdg_formula.specs.declared.tree.RuleKind.{RuleKind}
 use Rattle.xdg_formula.specs.declared.tree.RuleKind.TheOpen.{RuleKind-F}
 use Rattle.xdg_formula.specs.declared.tree.RuleKind.TheFolds.{fold-RuleKind}
-use Rattle.xdg_types.specs.Written.{trees_of}
 
 -- The numbers are the places of the parts, and how many signs a run has.
 mutual
@@ -30,6 +30,10 @@ mutual
   pub data Trees : Type 0 where
     no_tree : Trees
     tree_then : (at : ℕ) → Tree → Trees → Trees
+
+abbrev pub trees_of : List (Spanned Tree) → Trees
+trees_of [] = no_tree
+trees_of (t ∷ ts) = tree_then t.span.start t.kind (trees_of ts)
 
 abbrev pub layer : RuleKind-F Tree → Tree
 layer (RuleKind-F.Or members) = disjunction (trees_of members)
