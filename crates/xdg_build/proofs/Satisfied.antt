@@ -26,7 +26,7 @@ use Rattle.xdg_problem.specs.Paths.{edges_on, IsDaughter, IsDaughterBy}
 use Rattle.xdg_problem.specs.Relations.{Relation}
 use Rattle.xdg_problem.specs.Vectors.{entry_places}
 use Rattle.xdg_problem.proofs.Tuples.{none_kept, one_kept, two_kept, three_kept, chosen_kept}
-use Rattle.xdg_types.specs.Table.{IsTable, HasPlace, ArePlaces, typed}
+use Rattle.xdg_types.specs.Table.{IsTable, ArePlaces, typed}
 use Rattle.xdg_packed.specs.Entries.{IsRightLexicon}
 use Rattle.xdg_principles.specs.declared.building.Arg.{Arg}
 use Rattle.xdg_principles.specs.declared.building.Arg.TheVariants as arg
@@ -61,9 +61,10 @@ use Rattle.xdg_build.proofs.Conditions.{Kept, AreWithin}
 use Rattle.xdg_build.proofs.Readings.{edges_same, edges_within, labels_same, value_same, value_below}
 use Rattle.xdg_build.proofs.Told as told
 use Rattle.xdg_build.proofs.Told.{IsTold, on_feature}
-use Rattle.xdg_build.proofs.Different.{one_place}
 use Rattle.xdg_build.proofs.FeatureRows.{same_number, Names, names_number, names_some, same_texts, element, element_right, element_small, member_names, members_below, set_row_is, valency_allows, IsMapRow, map_row_is}
 use Rattle.xdg_facts.proofs.Facts.{then_iff}
+use Rattle.xdg_facts.specs.Membership.{In}
+use Rattle.xdg_terms.proofs.Meant.{one_place}
 use Rattle.xdg_problem.specs.Principles.{name_of, feature_dim, conditions_for}
 
 -- ---- members
@@ -181,7 +182,7 @@ module _ (g : Grammar) (words : List SentenceWord) (a : Analysis) (u : Principle
   some_dim : 0 < length u.dims
   some_dim = omega (arith, dims_are, first_within q)
 
-  has_first : HasPlace g.table.used d1
+  has_first : In g.table.used d1
   has_first = told.has_dim g words a u h.table h.lexicon h.used h.right h.is 0 some_dim
 
   first_is : edges_on (first_dim group) a.edges ≡ E1

@@ -225,6 +225,8 @@ fn verdict_of(parts: &Parts, group: &Group, analysis: &Analysis) -> Verdict
 
 /// Whether an analysis satisfies a principle use, which is given by its place among those of the problem. It takes no
 /// memory from an allocator.
+///
+/// No command asks it: it is for those who judge an analysis by one principle use.
 pub fn holds(problem: &Problem, group: usize, analysis: &Analysis) -> bool
     requires fits { IsAnalysis problem.now analysis.now }
     requires within { group < length problem.now.groups }

@@ -90,12 +90,6 @@ module _ (parts : Parts) (group : Group) (is : IsGroup parts group) where
   each_within principles.Government same = λ u a l b v c. one _ (takes principles.Government 0 same (omega arith) v c)
   each_within principles.Climbing same = λ u a v b. none
   each_within principles.Barriers same = λ w a v b. none
-  each_within principles.LinkingEnd same = λ u a l b v c. none
-  each_within principles.LinkingDaughter same = λ u a l b v c. none
-  each_within principles.LinkingMother same = λ u a l b v c. none
-  each_within principles.LinkingBelowStart same = λ u a l b v c. none
-  each_within principles.LinkingAboveStart same = λ u a l b v c. none
-  each_within principles.LinkingSisters same = λ u a l b v c. none
-  each_within principles.LinkingNotDaughter same = λ u a l b v c. none
   each_within (principles.Rule formula) same = tt
   each_within (principles.Bound costs bound) same = tt
+  each_within principle same = λ u a l b v c. none

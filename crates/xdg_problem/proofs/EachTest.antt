@@ -44,8 +44,6 @@ module _ (truths : List Bool) (n labels : ℕ) (Q : Test → Type 0) where
   Tested principle = (test : Test) → IsTestOf principle truths n labels test → Q test
 
   pub tested_each : (principle : Principle) → Tested principle → Each principle
-  tested_each principles.Graph t = tt
-  tested_each principles.Entries t = tt
   tested_each principles.Tree t = (λ v a k b. t (one_mother v k) (a, b), λ k a. t (no_cycle k) a, t one_root tt)
   tested_each principles.Dag t = (λ k a. t (no_cycle k) a, λ e. t one_root e, λ e u a v b. t (one_label u v) (e, a, b))
   tested_each principles.Valency t = (λ v a l b k c. t (out_count v l k) (a, b, c), λ v a l b k c. t (in_count v l k) (a, b, c))
@@ -63,8 +61,7 @@ module _ (truths : List Bool) (n labels : ℕ) (Q : Test → Type 0) where
   tested_each principles.LinkingAboveStart t = λ u a l b v c. t (linked_path u l v) (a, b, c)
   tested_each principles.LinkingSisters t = λ u a l b v c. t (linked_sister u l v) (a, b, c)
   tested_each principles.LinkingNotDaughter t = λ u a l b v c. t (linked_daughter u l v) (a, b, c)
-  tested_each (principles.Rule formula) t = tt
-  tested_each (principles.Bound costs bound) t = tt
+  tested_each principle t = tt
 
   pub each_tested : (principle : Principle) → Each principle → Tested principle
   each_tested principles.Tree each (one_mother v k) is = each.0 v is.0 k is.1
