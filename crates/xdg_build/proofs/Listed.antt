@@ -1,5 +1,5 @@
 -- The labels that the argument of order lists.
-use Rattle.std.proofs.Common.{◌≡◌, ℕ, zero, suc, ◌<◌, List, [], ◌∷◌, ◌++◌, length, map, refl, sym, ap, ◌∙◌, subst, inl, inr, arith}
+use Rattle.std.proofs.Common.{◌≡◌, ℕ, zero, suc, ◌<◌, List, [], ◌∷◌, ◌++◌, length, map, refl, sym, ap, ◌∙◌, subst, arith}
 use Rattle.std.specs.Prelude.{All, AllPairs, ◌≢◌, flat_map}
 use Rattle.std.proofs.lemmas.List.{append-nil}
 use Rattle.xdg_base.specs.declared.ids.LabelId.{LabelId}
@@ -41,17 +41,13 @@ same_number : (m n : ℕ) → label m ≡ label n → m ≡ n
 unfolding label
 same_number m n h = ap (λ (l : LabelId). l.0) h
 
-stands : (ks : List ℕ) (k : ℕ) → In ks k → In ks k
-stands [] k h = h
-stands (j ∷ ks) k h = elim h [ inl e ↦ inl e | inr r ↦ inr (stands ks k r) ]
-
 within_all : (n : ℕ) (ks : List ℕ) → ArePlaces n ks → All (λ l. l.0 < n) (map label ks)
 unfolding label
 within_all n [] h = all_none (λ (l : LabelId). l.0 < n)
 within_all n (k ∷ ks) h = all_cons (λ (l : LabelId). l.0 < n) (label k) (map label ks) h.0.0 (within_all n ks h.1)
 
 other_than : (k : ℕ) (ks : List ℕ) → (In ks k → ⊥) → All (λ l. label k ≢ l) (map label ks)
-other_than k ks none = all_mapped label (λ l. label k ≢ l) ks (all_in (λ j. label k ≢ label j) ks (λ j i e. none (stands ks k (subst (λ m. In ks m) (sym (same_number k j e)) i))))
+other_than k ks none = all_mapped label (λ l. label k ≢ l) ks (all_in (λ j. label k ≢ label j) ks (λ j i e. none (subst (λ m. In ks m) (sym (same_number k j e)) i)))
 
 all_differ : (n : ℕ) (ks : List ℕ) → ArePlaces n ks → AllPairs (λ a b. a ≢ b) (map label ks)
 all_differ n [] h = pairs_none (λ a b. a ≢ b)

@@ -9,7 +9,7 @@ use Rattle.xdg_names.proofs.Texts.{has_text-stands, AllDiffer-append}
 use Rattle.xdg_types.specs.Table.{Table}
 use Rattle.xdg_packed.specs.Lexicon.{Entry, word_of}
 use Rattle.xdg_packed.specs.Spelling.{spelling_of_entry}
-use Rattle.xdg_packed.proofs.Standing.{stands_at}
+use Rattle.xdg_facts.proofs.In.{in_get}
 use Rattle.xdg_lexicon.specs.Partial.{Partial, IsPartial, ArePartial}
 use Rattle.xdg_types.specs.declared.table.DimType.{DimType}
 use Rattle.xdg_packed.specs.Entries.{IsEntry, AreEntries}
@@ -35,7 +35,7 @@ module _ (entries : List Entry) (spellings : List (List ℕ)) (e : Entry) (text 
       let found = has_text-stands (map spelling_of_entry entries) text (ap (λ l. has_text l text) spelled ∙ some) in
       let within : found.0 < length entries = subst (λ n. found.0 < n) (length-map entries spelling_of_entry) found.1 in
       let same = told (get_or entries found.0 []) (sym (get_or-map spelling_of_entry entries found.0 [] [] within) ∙ found.2) in
-      subst (In entries) same (stands_at entries found.0 [] within)
+      subst (In entries) same (in_get entries found.0 [] within)
 
   had : (added : Bool) → added ≡ false → added ≡ not (has_text spellings text) → has_text spellings text ≡ true
   had added off told = by (has_text spellings text) (sym told ∙ off)

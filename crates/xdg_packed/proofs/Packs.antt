@@ -12,7 +12,8 @@ use Rattle.xdg_packed.specs.Rows.{shown, IsTable, AreFirsts, AddsFirst, AreSpell
 use Rattle.xdg_packed.specs.Spelling.{spelling_of_fields}
 use Rattle.xdg_packed.proofs.Firsts.{firsts_known, firsts_new}
 use Rattle.xdg_packed.proofs.Prefixes.{fields_told}
-use Rattle.xdg_packed.proofs.Standing.{stands_left, stands_right, stands_last, stands_at, rows_differ}
+use Rattle.xdg_facts.proofs.In.{in_left, in_right, in_get}
+use Rattle.xdg_packed.proofs.Standing.{stands_last, rows_differ}
 use Rattle.xdg_facts.proofs.Lists.{any_default}
 use Rattle.xdg_facts.specs.Membership.{In}
 
@@ -81,7 +82,7 @@ packs_known done rows spellings firsts places fields place packs inside stands =
   spelled = packs.spelled;
   within = All-push (λ k. k < length rows) places place packs.within inside;
   shows = map-append (λ k. get_or rows k []) places (place ∷ []) ∙ ap₂ (λ xs x. xs ++ x ∷ []) packs.shows stands;
-  used = λ x h. stands_left done (fields ∷ []) x (packs.used x h);
+  used = λ x h. in_left done (fields ∷ []) x (packs.used x h);
   few = let size = longer Record done fields in let few = packs.few in omega (arith, size, few);
   as_many = packs.as_many;
   firsts_are = firsts_known firsts places place (subst (λ n. place < n) (sym packs.as_many) inside) packs.firsts_are;
@@ -106,8 +107,8 @@ packs_new done rows spellings firsts places fields place number packs fresh last
 }
   where
     by : (x : Record) → In rows x ⊎ (fields ≡ x) → In (done ++ fields ∷ []) x
-    by x (inl h) = stands_left done (fields ∷ []) x (packs.used x h)
-    by x (inr e) = stands_right done (fields ∷ []) x (inl e)
+    by x (inl h) = in_left done (fields ∷ []) x (packs.used x h)
+    by x (inr e) = in_right done (fields ∷ []) x (inl e)
 
 packs_more : (done rows more : List Record) (spellings more_spellings : List (List ℕ)) (firsts more_firsts places : List ℕ) (fields : Record) (place number : ℕ) → Packs done rows spellings firsts places
     → IsKnownRow rows spellings more more_spellings fields place ⊎ IsNewRow rows spellings more more_spellings fields place → AddsFirst firsts more_firsts place number → number ≡ length places
@@ -148,7 +149,7 @@ packs_next dim entries i entry held rows more spellings more_spellings firsts mo
 
 shown_stands : (rows : List Record) (places : List ℕ) → All (λ place. place < length rows) places → (x : Record) → In (shown rows places) x → In rows x
 shown_stands rows [] within x h = absurd h
-shown_stands rows (place ∷ places) within x (inl e) = subst (In rows) e (stands_at rows place [] (All-head (λ k. k < length rows) place places within))
+shown_stands rows (place ∷ places) within x (inl e) = subst (In rows) e (in_get rows place [] (All-head (λ k. k < length rows) place places within))
 shown_stands rows (place ∷ places) within x (inr h) = shown_stands rows places (All-tail (λ k. k < length rows) place places within) x h
 
 pub packs_table : (done rows : List Record) (spellings : List (List ℕ)) (firsts places : List ℕ) → Packs done rows spellings firsts places → IsTable rows firsts places

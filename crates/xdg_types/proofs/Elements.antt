@@ -15,10 +15,6 @@ not_more m n h = omega arith
 
 -- ---- membership
 
-pub among_in : (xs : List (List ℕ)) (t : List ℕ) → In xs t → In xs t
-among_in [] t h = absurd h
-among_in (x ∷ xs) t h = elim h [ inl e ↦ inl e | inr k ↦ inr (among_in xs t k) ]
-
 pub among_or_not : (xs : List (List ℕ)) (t : List ℕ) → In xs t ⊎ (In xs t → ⊥)
 among_or_not [] t = inr (λ h. h)
 among_or_not (x ∷ xs) t = elim (cases_Bool (bytes_eq x t)) [

@@ -13,7 +13,7 @@ use Rattle.xdg_types.specs.Meaning.{meaning, domains_meaning, fields_meaning, as
 use Rattle.xdg_types.specs.Names.{fault_at}
 use Rattle.xdg_types.specs.Kinds.{Wanted, anything, a_domain, a_small, a_mapped, an_attribute, Site, inside, inside_trees, inside_members, inside_attributes, is_domain, is_small, is_mapped, is_empty_domain, are_domains, has_empty_domain, has_no_tuple, is_attribute, is_of_kind, SiteOffends, Split, SharesAt}
 use Rattle.xdg_typing.specs.Branches.{Naming}
-use Rattle.xdg_types.proofs.Elements.{not_more, among_in, among_name, differ_append}
+use Rattle.xdg_types.proofs.Elements.{not_more, among_name, differ_append}
 use Rattle.xdg_facts.proofs.Truths.{from_not, none_or}
 use Rattle.xdg_facts.specs.Membership.{In, Differ}
 use Rattle.xdg_facts.proofs.In.{in_left, in_right, in_append}
@@ -181,7 +181,7 @@ module _ (names : Naming) where
 
   shares : (earlier : List (List ℕ)) (at : ℕ) (t : Tree) (c : List ℕ) → In (own t) c → In earlier c → (f : Fault) × SharesAt names earlier at t f
   shares earlier at (listed cs) c has before = let w = among_name cs c has in (fault_at causes.Twice w.0.span.start, (w.0, (w.1.0, (subst (In earlier) (sym w.1.1) before, refl))))
-  shares earlier at (named name) c has before = (fault_at causes.Twice at, (c, (among_in (own (named name)) c has, (before, refl))))
+  shares earlier at (named name) c has before = (fault_at causes.Twice at, (c, (has, (before, refl))))
   shares earlier at (recorded ms) c has before = absurd (none_in_fields (fields_meaning names ms) c has)
   shares earlier at other c has before = absurd has
 
