@@ -20,7 +20,7 @@ use Rattle.xdg_io.specs.Rose.{Rose}
 use Rattle.xdg_io.specs.declared.failures.ReadStop.{ReadStop}
 use Rattle.xdg_io.specs.declared.failures.ReadStop.TheVariants as stopped
 use Rattle.xdg_inputs.specs.Grammars.{with_words}
-use Rattle.xdg_inputs.specs.Places.{fault, place_in}
+use Rattle.xdg_inputs.specs.Places.{place_in}
 use Rattle.xdg_inputs.specs.Refusals.{RejectsAt, Stops, refusal_of}
 use Rattle.xdg_inputs.specs.Stages.{Accepts, Rejects}
 use Rattle.xdg_inputs.specs.declared.refusals.Refusal.{Refusal}
@@ -30,6 +30,8 @@ use Rattle.xdg_packed.specs.Lexicon.{Lexicon}
 use Rattle.xdg_problem.specs.declared.parts.SentenceWord.{SentenceWord}
 use Rattle.xdg_linear.specs.Segments.{words_in}
 use Rattle.xdg_facts.proofs.Texts.{one_place}
+use Rattle.xdg_inputs.proofs.Sentencing.{all_taken}
+use Rattle.xdg_build.specs.Refusals.{fault}
 
 -- ---- few words
 
@@ -118,9 +120,6 @@ module _ (made : Expanded) (lexicon : Lexicon) (packed : IsPackedOf made lexicon
 still : Rose 0 0 → ⊥
 still (inl less) = omega (arith, less)
 still (inr full) = omega (arith, full)
-
-pub all_taken : (told new : Option (List ℕ)) (bytes input : List ℕ) → TakesAll told new bytes → told ≡ Some input → (bytes ≡ input) × (new ≡ Some [])
-all_taken told new bytes input takes e = subst (λ z. TakesAll z new bytes) e takes
 
 -- as many bytes as were taken are there
 taken_within : (told new : Option (List ℕ)) (count : ℕ) (input : List ℕ) → TakesCount told new count → told ≡ Some input → count ≤ length input

@@ -5,13 +5,12 @@ use Rattle.xdg_base.specs.declared.faults.Cause.TheVariants as causes
 use Rattle.xdg_base.specs.declared.faults.Fault.{Fault}
 use Rattle.xdg_base.specs.declared.faults.Stop.{Stop}
 use Rattle.xdg_base.specs.declared.faults.Stop.TheVariants as stops
-use Rattle.xdg_build.specs.Refusals.{first_unknown}
+use Rattle.xdg_build.specs.Refusals.{first_unknown, fault}
 use Rattle.xdg_packed.specs.Entries.{IsWordPlace}
 use Rattle.xdg_inputs.specs.Meanings.{Meaning}
 use Rattle.xdg_build.specs.Grammars.{Grammar}
 use Rattle.xdg_inputs.specs.Sentences.{sentence_limit}
 use Rattle.xdg_inputs.specs.Grammars.{with_words}
-use Rattle.xdg_inputs.specs.Places.{fault}
 use Rattle.xdg_packed.specs.Lexicon.{Lexicon}
 use Rattle.xdg_problem.specs.declared.parts.SentenceWord.{SentenceWord}
 use Rattle.xdg_linear.specs.Segments.{words_in}

@@ -66,7 +66,7 @@ fn write_lead<K: Sink>(lead: &[Word], count: u64, out: &mut K) -> Result<(), Fai
 }
 
 /// Writes an analysis with its number, and before the first one the line of its arrangement.
-#[tactic(auto, using(xdg_text::proofs::Pieces::appends_both, xdg_text::proofs::Pieces::rose_later))]
+#[tactic(auto, using(xdg_io::proofs::Written::appends_both, xdg_text::proofs::Pieces::rose_later))]
 fn write_found<K: Sink>(
     problem: &Problem,
     lead: &[Word],

@@ -31,7 +31,7 @@ use Rattle.xdg_ast.specs.declared.types.TypeKind.TheOpen.{TypeKind-F}
 use Rattle.xdg_ast.specs.declared.types.TypeKind.TheFolds.{fold-roll-TypeKind}
 use Rattle.xdg_facts.proofs.Lists.{fused}
 
-bare_gen_and : (xs : List (Spanned GenKind)) → bare_gen (g.And xs) ≡ g.And (map (bare_part bare_gen) xs)
+pub bare_gen_and : (xs : List (Spanned GenKind)) → bare_gen (g.And xs) ≡ g.And (map (bare_part bare_gen) xs)
 bare_gen_and xs = ap bare_gen (sym (g.rolls-And xs)) ∙ fold-roll-GenKind GenKind bare_gen_step (GenKind-F.And xs) ∙ ap g.And (fused (bare) _ xs)
 
 gen_and_apart : (xs ys : List (Spanned GenKind)) → g.And xs ≡ g.And ys → xs ≡ ys
@@ -41,7 +41,7 @@ pub same_gen_and : (same : Bool) (one other : GenKind) (xs ys s t : List (Spanne
     → (IsTrue same ↔ (map (bare_part bare_gen) s ≡ map (bare_part bare_gen) t)) → IsTrue same ↔ (bare_gen one ≡ bare_gen other)
 same_gen_and = built bare_gen g.And (map (bare_part bare_gen)) bare_gen_and gen_and_apart
 
-bare_gen_or : (xs : List (Spanned GenKind)) → bare_gen (g.Or xs) ≡ g.Or (map (bare_part bare_gen) xs)
+pub bare_gen_or : (xs : List (Spanned GenKind)) → bare_gen (g.Or xs) ≡ g.Or (map (bare_part bare_gen) xs)
 bare_gen_or xs = ap bare_gen (sym (g.rolls-Or xs)) ∙ fold-roll-GenKind GenKind bare_gen_step (GenKind-F.Or xs) ∙ ap g.Or (fused (bare) _ xs)
 
 gen_or_apart : (xs ys : List (Spanned GenKind)) → g.Or xs ≡ g.Or ys → xs ≡ ys
@@ -51,7 +51,7 @@ pub same_gen_or : (same : Bool) (one other : GenKind) (xs ys s t : List (Spanned
     → (IsTrue same ↔ (map (bare_part bare_gen) s ≡ map (bare_part bare_gen) t)) → IsTrue same ↔ (bare_gen one ≡ bare_gen other)
 same_gen_or = built bare_gen g.Or (map (bare_part bare_gen)) bare_gen_or gen_or_apart
 
-bare_term_braces : (xs : List (Spanned ElemKind)) → bare_term (t.Braces xs) ≡ t.Braces (map (bare_part bare_elem) xs)
+pub bare_term_braces : (xs : List (Spanned ElemKind)) → bare_term (t.Braces xs) ≡ t.Braces (map (bare_part bare_elem) xs)
 bare_term_braces xs = ap bare_term (sym (t.rolls-Braces xs)) ∙ fold-roll-TermKind ElemKind TermKind bare_elem_step bare_term_step (TermKind-F.Braces xs) ∙ ap t.Braces (fused (bare) _ xs)
 
 term_braces_apart : (xs ys : List (Spanned ElemKind)) → t.Braces xs ≡ t.Braces ys → xs ≡ ys
@@ -61,7 +61,7 @@ pub same_term_braces : (same : Bool) (one other : TermKind) (xs ys zs ws : List 
     → (IsTrue same ↔ (map (bare_part bare_elem) zs ≡ map (bare_part bare_elem) ws)) → IsTrue same ↔ (bare_term one ≡ bare_term other)
 same_term_braces = built bare_term t.Braces (map (bare_part bare_elem)) bare_term_braces term_braces_apart
 
-bare_expr_and : (xs : List (Spanned ExprKind)) → bare_expr (x.And xs) ≡ x.And (map (bare_part bare_expr) xs)
+pub bare_expr_and : (xs : List (Spanned ExprKind)) → bare_expr (x.And xs) ≡ x.And (map (bare_part bare_expr) xs)
 bare_expr_and xs = ap bare_expr (sym (x.rolls-And xs)) ∙ fold-roll-ExprKind ExprKind bare_expr_step (ExprKind-F.And xs) ∙ ap x.And (fused (bare) _ xs)
 
 expr_and_apart : (xs ys : List (Spanned ExprKind)) → x.And xs ≡ x.And ys → xs ≡ ys
@@ -71,7 +71,7 @@ pub same_expr_and : (same : Bool) (one other : ExprKind) (xs ys s t : List (Span
     → (IsTrue same ↔ (map (bare_part bare_expr) s ≡ map (bare_part bare_expr) t)) → IsTrue same ↔ (bare_expr one ≡ bare_expr other)
 same_expr_and = built bare_expr x.And (map (bare_part bare_expr)) bare_expr_and expr_and_apart
 
-bare_expr_or : (xs : List (Spanned ExprKind)) → bare_expr (x.Or xs) ≡ x.Or (map (bare_part bare_expr) xs)
+pub bare_expr_or : (xs : List (Spanned ExprKind)) → bare_expr (x.Or xs) ≡ x.Or (map (bare_part bare_expr) xs)
 bare_expr_or xs = ap bare_expr (sym (x.rolls-Or xs)) ∙ fold-roll-ExprKind ExprKind bare_expr_step (ExprKind-F.Or xs) ∙ ap x.Or (fused (bare) _ xs)
 
 expr_or_apart : (xs ys : List (Spanned ExprKind)) → x.Or xs ≡ x.Or ys → xs ≡ ys
@@ -81,7 +81,7 @@ pub same_expr_or : (same : Bool) (one other : ExprKind) (xs ys s t : List (Spann
     → (IsTrue same ↔ (map (bare_part bare_expr) s ≡ map (bare_part bare_expr) t)) → IsTrue same ↔ (bare_expr one ≡ bare_expr other)
 same_expr_or = built bare_expr x.Or (map (bare_part bare_expr)) bare_expr_or expr_or_apart
 
-bare_type_rec : (xs : List (Pair (Spanned TypeKind))) → bare_type (y.Rec xs) ≡ y.Rec (map (bare_pair (bare_part bare_type)) xs)
+pub bare_type_rec : (xs : List (Pair (Spanned TypeKind))) → bare_type (y.Rec xs) ≡ y.Rec (map (bare_pair (bare_part bare_type)) xs)
 bare_type_rec xs = ap bare_type (sym (y.rolls-Rec xs)) ∙ fold-roll-TypeKind TypeKind bare_type_step (TypeKind-F.Rec xs) ∙ ap y.Rec (fused (bare_pair bare) _ xs)
 
 type_rec_apart : (xs ys : List (Pair (Spanned TypeKind))) → y.Rec xs ≡ y.Rec ys → xs ≡ ys
@@ -91,7 +91,7 @@ pub same_type_rec : (same : Bool) (one other : TypeKind) (xs ys s t : List (Pair
     → (IsTrue same ↔ (map (bare_pair (bare_part bare_type)) s ≡ map (bare_pair (bare_part bare_type)) t)) → IsTrue same ↔ (bare_type one ≡ bare_type other)
 same_type_rec = built bare_type y.Rec (map (bare_pair (bare_part bare_type))) bare_type_rec type_rec_apart
 
-bare_type_tuple : (xs : List (Spanned TypeKind)) → bare_type (y.Tuple xs) ≡ y.Tuple (map (bare_part bare_type) xs)
+pub bare_type_tuple : (xs : List (Spanned TypeKind)) → bare_type (y.Tuple xs) ≡ y.Tuple (map (bare_part bare_type) xs)
 bare_type_tuple xs = ap bare_type (sym (y.rolls-Tuple xs)) ∙ fold-roll-TypeKind TypeKind bare_type_step (TypeKind-F.Tuple xs) ∙ ap y.Tuple (fused (bare) _ xs)
 
 type_tuple_apart : (xs ys : List (Spanned TypeKind)) → y.Tuple xs ≡ y.Tuple ys → xs ≡ ys
@@ -101,7 +101,7 @@ pub same_type_tuple : (same : Bool) (one other : TypeKind) (xs ys s t : List (Sp
     → (IsTrue same ↔ (map (bare_part bare_type) s ≡ map (bare_part bare_type) t)) → IsTrue same ↔ (bare_type one ≡ bare_type other)
 same_type_tuple = built bare_type y.Tuple (map (bare_part bare_type)) bare_type_tuple type_tuple_apart
 
-bare_type_set : (part : Spanned TypeKind) → bare_type (y.Set part) ≡ y.Set (bare_part bare_type part)
+pub bare_type_set : (part : Spanned TypeKind) → bare_type (y.Set part) ≡ y.Set (bare_part bare_type part)
 bare_type_set part = ap bare_type (sym (y.rolls-Set part)) ∙ fold-roll-TypeKind TypeKind bare_type_step (TypeKind-F.Set part)
 
 type_set_apart : (a b : Spanned TypeKind) → y.Set a ≡ y.Set b → a ≡ b
@@ -112,7 +112,7 @@ pub same_type_set : (same : Bool) (one other : TypeKind) (a b s t : Spanned Type
 same_type_set same one other a b s t is_one is_other is_s is_t told =
     built bare_type y.Set (bare_part bare_type) bare_type_set type_set_apart same one other a b s t is_one is_other is_s is_t (parts_of_kinds bare_type s t same told)
 
-bare_type_iset : (part : Spanned TypeKind) → bare_type (y.ISet part) ≡ y.ISet (bare_part bare_type part)
+pub bare_type_iset : (part : Spanned TypeKind) → bare_type (y.ISet part) ≡ y.ISet (bare_part bare_type part)
 bare_type_iset part = ap bare_type (sym (y.rolls-ISet part)) ∙ fold-roll-TypeKind TypeKind bare_type_step (TypeKind-F.ISet part)
 
 type_iset_apart : (a b : Spanned TypeKind) → y.ISet a ≡ y.ISet b → a ≡ b
@@ -123,7 +123,7 @@ pub same_type_iset : (same : Bool) (one other : TypeKind) (a b s t : Spanned Typ
 same_type_iset same one other a b s t is_one is_other is_s is_t told =
     built bare_type y.ISet (bare_part bare_type) bare_type_iset type_iset_apart same one other a b s t is_one is_other is_s is_t (parts_of_kinds bare_type s t same told)
 
-bare_type_valency : (part : Spanned TypeKind) → bare_type (y.Valency part) ≡ y.Valency (bare_part bare_type part)
+pub bare_type_valency : (part : Spanned TypeKind) → bare_type (y.Valency part) ≡ y.Valency (bare_part bare_type part)
 bare_type_valency part = ap bare_type (sym (y.rolls-Valency part)) ∙ fold-roll-TypeKind TypeKind bare_type_step (TypeKind-F.Valency part)
 
 type_valency_apart : (a b : Spanned TypeKind) → y.Valency a ≡ y.Valency b → a ≡ b

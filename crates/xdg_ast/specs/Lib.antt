@@ -10,3 +10,4 @@ pub mod Language
 pub mod Same
 pub mod Trees
 pub mod Words
+pub mod Texts

@@ -16,5 +16,5 @@ pub use grammar::{ClassParam, DimPart, DimPartKind, Grammar, Statement, Statemen
 pub use names::{Name, Num, Pair, Spanned};
 pub use params::Params;
 pub use terms::{CardKind, CardTerm, Elem, ElemKind, Gen, GenKind, Term, TermKind};
-pub use token::{Kind, Token, refined, sign_of};
+pub use token::{Kind, Token, keyword_of, refined, sign_of};
 pub use types::{TypeKind, TypeTerm};

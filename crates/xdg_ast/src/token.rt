@@ -130,7 +130,7 @@ pub fn sign_of(c: char) -> Option<Kind>
 
 /// The keyword that a name is.
 #[tactic(auto, unfolding(crate::specs::Kinds::keyword_of))]
-fn keyword_of(name: &str) -> Option<Kind>
+pub fn keyword_of(name: &str) -> Option<Kind>
     ensures { result ≡ keyword_of name.now }
 {
     match name {

@@ -33,6 +33,14 @@ impl<T> List<T> {
         }
     }
 
+    /// The list without elements, with room for so many.
+    pub fn with_room(alloc: Global, room: usize) -> Result<List<T>, AllocError>
+        ensures { IfOk result (λ made. made ≡ []) }
+    {
+        let items = Vec::with_capacity(alloc, room)?;
+        Ok(List { items })
+    }
+
     /// The elements of a vector.
     pub fn from_vec(items: Vec<T>) -> List<T>
         ensures { result ≡ items.items }

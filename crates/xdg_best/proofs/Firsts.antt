@@ -18,6 +18,7 @@ use Rattle.xdg_best.specs.declared.statements.Statement.TheVariants as statement
 use Rattle.xdg_best.specs.Meaning.{entry_fault, edge_fault, fault_in, Offends, or_later, first_fault, is_of_entry, is_of_place}
 use Rattle.xdg_best.specs.Naming.{Place, place_of, with_dim, with_label, dim_number, label_number, labels_of}
 use Rattle.xdg_best.specs.Statements.{Says, entry, edge, Derives}
+use Rattle.xdg_names.proofs.First.{itself}
 
 -- ---- places
 
@@ -97,9 +98,6 @@ later_at table entries from (s ∷ more) earlier f rise (inr bad) =
     let at = later_at table entries (suc (ends_at s)) more (earlier ++ s ∷ []) f rise.2 bad in omega (arith, begins, order, at)
 
 -- ---- the first
-
-itself : (x : Fault) → IsFirstOf x x
-itself x = grind arith
 
 first_here : (table : Table) (entries from : ℕ) (s : Statement) (more earlier : List Statement) → Rise from (s ∷ more) → (here later : Option Fault) → fault_in table entries earlier s ≡ here
     → first.Tells (Offends table entries (earlier ++ s ∷ []) more) later → first.Tells (Offends table entries earlier (s ∷ more)) (or_later here later)

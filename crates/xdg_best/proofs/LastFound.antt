@@ -4,7 +4,7 @@ use Rattle.std.specs.Prelude.{Option}
 use Rattle.std.proofs.lemmas.List.{length-map}
 use Rattle.std.proofs.lemmas.Bool.{cases_lt}
 use Rattle.xdg_best.specs.Best.{IsCheapest, IsBest, Solves}
-use Rattle.xdg_best.specs.Rounds.{Finds, FindsNone, Rounds, used_up, ends, goes_on, round_parts, round_start}
+use Rattle.xdg_best.specs.Rounds.{Finds, FindsNone, Rounds, used_up, ends, goes_on, round_parts}
 use Rattle.xdg_best.proofs.Found.{find_after, find_first, find_solves, none_solves}
 use Rattle.xdg_facts.specs.Order.{Less}
 use Rattle.xdg_facts.proofs.Ordered.{less_irreflexive, less_total, less_transitive}
@@ -19,6 +19,7 @@ use Rattle.xdg_problem.specs.Solutions.{IsSolution}
 use Rattle.xdg_problem.specs.Places.{nodes, places}
 use Rattle.xdg_problem.specs.Vectors.{analysis_of, attr_sizes, shape, vector}
 use Rattle.xdg_problem.proofs.OneToOne.{one_to_one}
+use Rattle.xdg_stream.specs.Streamed.{start_vector}
 
 -- a list with an item comes after the empty one
 after_none : (x : List ℕ) → 0 < length x → Less [] x
@@ -74,12 +75,12 @@ module _ (parts : Parts) (costs : CostLists) (is : IsProblem parts) (laws : (bou
         ],
       )
 
-  pub find_cheap : (last : Option Analysis) (budget : ℕ) (a : Analysis) (k : ℕ) → Cheap last → Finds (round_parts parts costs last) (round_start parts last) budget a k → Cheap (Some a)
+  pub find_cheap : (last : Option Analysis) (budget : ℕ) (a : Analysis) (k : ℕ) → Cheap last → Finds (round_parts parts costs last) (start_vector parts last) budget a k → Cheap (Some a)
   find_cheap None budget a k cheap f = first_cheap budget a k f
   find_cheap (Some last) budget a k cheap f = next_cheap last budget a k cheap f
 
   -- where a round finds nothing more, what was found last is the cheapest
-  none_cheap : (last : Option Analysis) (budget : ℕ) → Cheap last → FindsNone (round_parts parts costs last) (round_start parts last) budget false → IsBest parts costs last
+  none_cheap : (last : Option Analysis) (budget : ℕ) → Cheap last → FindsNone (round_parts parts costs last) (start_vector parts last) budget false → IsBest parts costs last
   none_cheap None budget cheap f = λ a solution. none_solves parts is [] budget f a solution (vector_some a solution.fits)
   none_cheap (Some last) budget cheap f =
       let bounded = with_uses parts (bound_of parts costs (cost_of costs last)) in
@@ -103,7 +104,7 @@ module _ (parts : Parts) (costs : CostLists) (is : IsProblem parts) (laws : (bou
   pub rounds_best : (found : Option Analysis) (spent : Bool) (last : Option Analysis) (left : ℕ) → Rounds parts costs found spent last left → spent ≡ false → Cheap last → IsBest parts costs found
   rounds_best found spent last left (used_up _ _ none same used) not_spent cheap = absurd (let bad : true ≡ false = sym used ∙ not_spent in cc)
   rounds_best found spent last left (ends _ _ some none same) not_spent cheap =
-      subst (IsBest parts costs) (sym same) (none_cheap last left cheap (subst (FindsNone (round_parts parts costs last) (round_start parts last) left) not_spent none))
+      subst (IsBest parts costs) (sym same) (none_cheap last left cheap (subst (FindsNone (round_parts parts costs last) (start_vector parts last) left) not_spent none))
   rounds_best found spent last left (goes_on _ _ next place f more) not_spent cheap = rounds_best found spent (Some next) (left - place) more not_spent (find_cheap last left next place cheap f)
 
   -- rounds find a solution, or nothing, whether they are spent or not

@@ -16,10 +16,6 @@ each_member Q [] x each m = absurd m
 each_member Q (y ∷ xs) x each (inl e) = subst Q (sym e) each.0
 each_member Q (y ∷ xs) x each (inr m) = each_member Q xs x each.1 m
 
-pub rises_left : (a : List ℕ) (xs ys : List (List ℕ)) → RisesFrom a (xs ++ ys) → RisesFrom a xs
-rises_left a [] ys rises = tt
-rises_left a (x ∷ xs) ys rises = (rises.0, rises_left x xs ys rises.1)
-
 -- a list with an item, of which it is the last
 pub record EndsWith (xs : List (List ℕ)) (x : List ℕ) : Type 0 where
   pub before : List (List ℕ)
@@ -77,11 +73,6 @@ before_item a [] x ys rises = tt
 before_item a (z ∷ xs) x ys rises = (inr (rises_above z x (xs ++ x ∷ ys) rises.1 (middle xs x ys)), before_item z xs x ys rises.1)
 
 -- ---- lists, one behind the other
-
-pub rises_on : (a start : List ℕ) (xs ys : List (List ℕ)) → AtMost a start → AllByRecursion (λ x. AtMost x start) xs → RisesFrom a xs → RisesFrom start ys → RisesFrom a (xs ++ ys)
-rises_on a start [] [] before each rises more = tt
-rises_on a start [] (y ∷ ys) before each rises more = (at_most_less a start y before more.0, more.1)
-rises_on a start (x ∷ xs) ys before each rises more = (rises.0, rises_on x start xs ys each.0 each.1 rises.1 more)
 
 -- a rising list of some of those that a listing has is no longer
 pub no_longer : (shape : List ℕ) (P : List ℕ → Type 0) (zs : List (List ℕ)) (a b : List ℕ) (xs : List (List ℕ)) → IsListing shape P a zs → AtMost a b → RisesFrom b xs → AllByRecursion (λ x. Fits shape x × P x) xs → length xs ≤ length zs

@@ -8,13 +8,13 @@ use Rattle.xdg_base.specs.declared.faults.Stop.TheVariants as stops
 use Rattle.xdg_best.specs.Costed.{HasBadCosts, HasCosts, IsBadCosts, too_long, wrong, costs_limit}
 use Rattle.xdg_best.specs.Texts.{Gives, IsAnswer, IsRefused, Says, Tells}
 use Rattle.xdg_io.specs.Files.{HasFile}
-use Rattle.xdg_inputs.specs.Places.{fault}
 use Rattle.xdg_inputs.specs.Refusals.{RejectsAt, Stops, refusal_of}
 use Rattle.xdg_inputs.specs.Stages.{Accepts, Rejects}
 use Rattle.xdg_inputs.specs.declared.refusals.Refusal.{Refusal}
 use Rattle.xdg_inputs.proofs.Trees.{first_byte, same_text, told_file}
 use Rattle.xdg_problem.specs.Costs.{CostLists}
 use Rattle.xdg_types.specs.Table.{Table}
+use Rattle.xdg_build.specs.Refusals.{fault}
 
 module _ (table : Table) (entries : ℕ) where
   abbrev Only : List ℕ → Result CostLists Stop → Type 0

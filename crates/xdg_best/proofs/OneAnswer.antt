@@ -3,7 +3,7 @@ use Rattle.std.proofs.Common.{◌≡◌, ◌∙◌, ℕ, zero, suc, ◌+◌, ◌
 use Rattle.std.specs.Prelude.{Option, filter}
 use Rattle.xdg_best.specs.declared.rounds.BestAnswer.{BestAnswer}
 use Rattle.xdg_best.specs.Best.{IsAnswer, IsOneAnswer}
-use Rattle.xdg_best.specs.Rounds.{Finds, FindsNone, Rounds, used_up, ends, goes_on, round_parts, round_start, found_cost}
+use Rattle.xdg_best.specs.Rounds.{Finds, FindsNone, Rounds, used_up, ends, goes_on, round_parts, found_cost}
 use Rattle.xdg_best.proofs.Lists.{no_member}
 use Rattle.xdg_facts.specs.Listing.{IsListing, Member}
 use Rattle.xdg_facts.specs.Whole.{is_whole}
@@ -17,6 +17,7 @@ use Rattle.xdg_problem.specs.Problems.{IsProblem}
 use Rattle.xdg_problem.specs.Vectors.{analysis_of, shape, vector}
 use Rattle.xdg_problem.proofs.OneToOne.{one_to_one}
 use Rattle.xdg_rules.specs.Boxed.{Boxed}
+use Rattle.xdg_stream.specs.Streamed.{start_vector}
 
 -- ---- lists: the first that passes a test stands at one place
 
@@ -87,12 +88,12 @@ module _ (parts : Parts) (costs : CostLists) (is : IsProblem parts) (laws : (bou
   one_rounds found other spent also last left (used_up _ _ none same used) (ends _ _ some f same2) = absurd (omega (arith, none, some))
   one_rounds found other spent also last left (used_up _ _ none same used) (goes_on _ _ next place f more) = absurd (let at = f.place_is in let within = f.within in omega (arith, none, at, within))
   one_rounds found other spent also last left (ends _ _ some f same) (used_up _ _ none2 same2 used2) = absurd (omega (arith, none2, some))
-  one_rounds found other spent also last left (ends _ _ some f same) (ends _ _ some2 g same2) = (same ∙ sym same2, one_end (round_parts parts costs last) (round_problem last) (round_start parts last) left spent also f g)
-  one_rounds found other spent also last left (ends _ _ some f same) (goes_on _ _ next place g more) = absurd (not_both (round_parts parts costs last) (round_problem last) (round_start parts last) left spent next place f g)
+  one_rounds found other spent also last left (ends _ _ some f same) (ends _ _ some2 g same2) = (same ∙ sym same2, one_end (round_parts parts costs last) (round_problem last) (start_vector parts last) left spent also f g)
+  one_rounds found other spent also last left (ends _ _ some f same) (goes_on _ _ next place g more) = absurd (not_both (round_parts parts costs last) (round_problem last) (start_vector parts last) left spent next place f g)
   one_rounds found other spent also last left (goes_on _ _ next place f more) (used_up _ _ none2 same2 used2) = absurd (let at = f.place_is in let within = f.within in omega (arith, none2, at, within))
-  one_rounds found other spent also last left (goes_on _ _ next place f more) (ends _ _ some2 g same2) = absurd (not_both (round_parts parts costs last) (round_problem last) (round_start parts last) left also next place g f)
+  one_rounds found other spent also last left (goes_on _ _ next place f more) (ends _ _ some2 g same2) = absurd (not_both (round_parts parts costs last) (round_problem last) (start_vector parts last) left also next place g f)
   one_rounds found other spent also last left (goes_on _ _ next place f more) (goes_on _ _ next2 place2 g more2) =
-      let same = one_find (round_parts parts costs last) (round_problem last) (round_start parts last) left next next2 place place2 f g in
+      let same = one_find (round_parts parts costs last) (round_problem last) (start_vector parts last) left next next2 place place2 f g in
       one_rounds found other spent also (Some next) (left - place) more
       (subst (λ a. Rounds parts costs other also (Some a) (left - place)) (sym same.0) (subst (λ k. Rounds parts costs other also (Some next2) (left - k)) (sym same.1) more2))
 

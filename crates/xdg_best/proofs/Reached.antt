@@ -3,8 +3,8 @@ use Rattle.std.proofs.Common.{◌≡◌, ◌∙◌, ℕ, ◌+◌, ◌-◌, ◌<�
 use Rattle.std.specs.Prelude.{Option}
 use Rattle.std.specs.List.{AllByRecursion}
 use Rattle.std.proofs.lemmas.Bool.{ltb-true}
-use Rattle.xdg_best.specs.Rounds.{Finds, FindsNone, Rounds, used_up, ends, goes_on, round_parts, round_start}
-use Rattle.xdg_best.proofs.Lists.{before_item, middle, no_longer, rises_left, rises_on}
+use Rattle.xdg_best.specs.Rounds.{Finds, FindsNone, Rounds, used_up, ends, goes_on, round_parts}
+use Rattle.xdg_best.proofs.Lists.{before_item, middle, no_longer}
 use Rattle.xdg_best.proofs.Unbounded.{unbounded}
 use Rattle.xdg_facts.specs.Fits.{Fits}
 use Rattle.xdg_facts.specs.Listing.{IsListing, RisesFrom}
@@ -19,6 +19,9 @@ use Rattle.xdg_problem.specs.Further.{bound_of, with_uses}
 use Rattle.xdg_problem.specs.Vectors.{shape, vector}
 use Rattle.xdg_rules.specs.Boxed.{Boxed}
 use Rattle.xdg_facts.proofs.Lists.{each_left, each_append}
+use Rattle.xdg_facts.proofs.Joined.{joined_rises}
+use Rattle.xdg_stream.specs.Streamed.{start_vector}
+use Rattle.xdg_linear.proofs.Fronts.{from_left}
 
 least_start : (x : List ℕ) → AtMost [] x
 least_start [] = inl refl
@@ -54,19 +57,19 @@ module _ (parts : Parts) (costs : CostLists) where
       let c = p.count in
       record {
         passed = p.passed ++ ys;
-        rises = rises_on [] start p.passed ys (least_start start) p.before p.rises rises;
+        rises = joined_rises [] start p.passed ys (least_start start) p.before p.rises rises;
         each = each_append (λ x. Fits (shape parts) x × Boxed parts x) p.passed ys p.each each;
         before = each_append (λ y. AtMost y to) p.passed ys (each_weaker (λ x. AtMost x start) (λ x. AtMost x to) p.passed (λ x h. at_most_transitive x start to h below) p.before) all;
         count = omega (arith, l, c);
       }
 
   -- those up to a find
-  passed_find : (last : Option Analysis) (n budget : ℕ) (a : Analysis) (k : ℕ) → Passed (round_start parts last) n → Finds (round_parts parts costs last) (round_start parts last) budget a k → Passed (vector parts a) (n + k)
+  passed_find : (last : Option Analysis) (n budget : ℕ) (a : Analysis) (k : ℕ) → Passed (start_vector parts last) n → Finds (round_parts parts costs last) (start_vector parts last) budget a k → Passed (vector parts a) (n + k)
   passed_find last n budget a k p f =
       let v = vector (round_parts parts costs last) a in
-      let start = round_start parts last in
+      let start = start_vector parts last in
       let split : f.before ++ v ∷ f.behind ≡ (f.before ++ v ∷ []) ++ f.behind = sym (append_assoc f.before (v ∷ []) f.behind) in
-      let rises : RisesFrom start (f.before ++ v ∷ []) = rises_left start (f.before ++ v ∷ []) f.behind (subst (RisesFrom start) split f.counted.rises) in
+      let rises : RisesFrom start (f.before ++ v ∷ []) = from_left start (f.before ++ v ∷ []) f.behind (subst (RisesFrom start) split f.counted.rises) in
       let each = round_counted last (f.before ++ v ∷ []) (each_left (λ x. Fits (shape (round_parts parts costs last)) x × Boxed (round_parts parts costs last) x) (f.before ++ v ∷ []) f.behind
       (subst (AllByRecursion (λ x. Fits (shape (round_parts parts costs last)) x × Boxed (round_parts parts costs last) x)) split f.counted.each)) in
       let l = length-append f.before (v ∷ []) in
@@ -78,17 +81,17 @@ module _ (parts : Parts) (costs : CostLists) where
       (subst (λ z. Passed z (n + length (f.before ++ v ∷ []))) (round_vector last a) done)
 
   -- those that a spent round charges
-  passed_spent : (last : Option Analysis) (n budget : ℕ) → Passed (round_start parts last) n → FindsNone (round_parts parts costs last) (round_start parts last) budget true
+  passed_spent : (last : Option Analysis) (n budget : ℕ) → Passed (start_vector parts last) n → FindsNone (round_parts parts costs last) (start_vector parts last) budget true
       → (counted : List (List ℕ)) → IsListing (shape parts) (Boxed parts) [] counted → n + budget ≤ length counted
   passed_spent last n budget p f counted listing =
-      let start = round_start parts last in
+      let start = start_vector parts last in
       let split : f.counted ≡ take budget f.counted ++ drop budget f.counted = sym (take-append-drop budget f.counted) in
-      let rises = rises_left start (take budget f.counted) (drop budget f.counted) (subst (RisesFrom start) split f.counted_are.rises) in
+      let rises = from_left start (take budget f.counted) (drop budget f.counted) (subst (RisesFrom start) split f.counted_are.rises) in
       let each = round_counted last (take budget f.counted) (each_left (λ x. Fits (shape (round_parts parts costs last)) x × Boxed (round_parts parts costs last) x) (take budget f.counted) (drop budget f.counted)
       (subst (AllByRecursion (λ x. Fits (shape (round_parts parts costs last)) x × Boxed (round_parts parts costs last) x)) split f.counted_are.each)) in
       let more = ltb-true budget (length f.counted) (sym f.spent_is) in
       let l = length-take budget f.counted in
-      let all = rises_on [] start p.passed (take budget f.counted) (least_start start) p.before p.rises rises in
+      let all = joined_rises [] start p.passed (take budget f.counted) (least_start start) p.before p.rises rises in
       let shorter = no_longer (shape parts) (Boxed parts) counted [] [] (p.passed ++ take budget f.counted) listing (inl refl) all (each_append (λ x. Fits (shape parts) x × Boxed parts x) p.passed (take budget f.counted) p.each each) in
       let m = length-append p.passed (take budget f.counted) in
       let c = p.count in
@@ -100,11 +103,11 @@ module _ (parts : Parts) (costs : CostLists) where
       let c = p.count in
       omega (arith, shorter, c)
 
-  pub rounds_reached : (found : Option Analysis) (spent : Bool) (last : Option Analysis) (left n : ℕ) → Rounds parts costs found spent last left → spent ≡ true → Passed (round_start parts last) n
+  pub rounds_reached : (found : Option Analysis) (spent : Bool) (last : Option Analysis) (left n : ℕ) → Rounds parts costs found spent last left → spent ≡ true → Passed (start_vector parts last) n
       → (counted : List (List ℕ)) → IsListing (shape parts) (Boxed parts) [] counted → n + left ≤ length counted
-  rounds_reached found spent last left n (used_up _ _ none same used) is p counted listing = let shorter = passed_all (round_start parts last) n p counted listing in omega (arith, shorter, none)
+  rounds_reached found spent last left n (used_up _ _ none same used) is p counted listing = let shorter = passed_all (start_vector parts last) n p counted listing in omega (arith, shorter, none)
   rounds_reached found spent last left n (ends _ _ some none same) is p counted listing =
-      passed_spent last n left p (subst (FindsNone (round_parts parts costs last) (round_start parts last) left) is none) counted listing
+      passed_spent last n left p (subst (FindsNone (round_parts parts costs last) (start_vector parts last) left) is none) counted listing
   rounds_reached found spent last left n (goes_on _ _ next place f more) is p counted listing =
       let within = f.within in
       let rest = rounds_reached found spent (Some next) (left - place) (n + place) more is (passed_find last n left next place p f) counted listing in

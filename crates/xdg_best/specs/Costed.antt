@@ -3,9 +3,9 @@ use Rattle.std.specs.Prelude.{◌≡◌, ℕ, ◌+◌, ◌<◌, ◌≤◌, List,
 use Rattle.xdg_base.specs.declared.faults.Cause.TheVariants as causes
 use Rattle.xdg_base.specs.declared.faults.Fault.{Fault}
 use Rattle.xdg_best.specs.Texts.{IsRefused, Says}
-use Rattle.xdg_inputs.specs.Places.{fault}
 use Rattle.xdg_problem.specs.Costs.{CostLists}
 use Rattle.xdg_types.specs.Table.{Table}
+use Rattle.xdg_build.specs.Refusals.{fault}
 
 -- how many bytes a costs file may have
 abbrev pub costs_limit : ℕ

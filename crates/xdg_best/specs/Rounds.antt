@@ -9,16 +9,12 @@ use Rattle.xdg_problem.specs.Costs.{CostLists, cost_of}
 use Rattle.xdg_problem.specs.Further.{bound_of, with_uses}
 use Rattle.xdg_problem.specs.Vectors.{shape, vector}
 use Rattle.xdg_rules.specs.Boxed.{Boxed}
+use Rattle.xdg_stream.specs.Streamed.{start_vector}
 
 -- the problem of a round: where something was found, only what costs less is a solution
 abbrev pub round_parts : Parts → CostLists → Option Analysis → Parts
 round_parts parts costs None = parts
 round_parts parts costs (Some last) = with_uses parts (bound_of parts costs (cost_of costs last))
-
--- and its start: the vector of what was found last, or the empty list, which comes before all
-abbrev pub round_start : Parts → Option Analysis → List ℕ
-round_start parts None = []
-round_start parts (Some last) = vector parts last
 
 -- what was found costs so much
 abbrev pub found_cost : CostLists → Option Analysis → ℕ
@@ -48,7 +44,7 @@ pub record FindsNone (parts : Parts) (start : List ℕ) (budget : ℕ) (spent : 
 -- taken off the budget.
 pub data Rounds (parts : Parts) (costs : CostLists) (found : Option Analysis) (spent : Bool) : Option Analysis → ℕ → Type 0 where
   used_up : (last : Option Analysis) (left : ℕ) → left ≡ 0 → found ≡ last → spent ≡ true → Rounds parts costs found spent last left
-  ends : (last : Option Analysis) (left : ℕ) → 0 < left → FindsNone (round_parts parts costs last) (round_start parts last) left spent → found ≡ last
+  ends : (last : Option Analysis) (left : ℕ) → 0 < left → FindsNone (round_parts parts costs last) (start_vector parts last) left spent → found ≡ last
       → Rounds parts costs found spent last left
-  goes_on : (last : Option Analysis) (left : ℕ) (next : Analysis) (place : ℕ) → Finds (round_parts parts costs last) (round_start parts last) left next place
+  goes_on : (last : Option Analysis) (left : ℕ) (next : Analysis) (place : ℕ) → Finds (round_parts parts costs last) (start_vector parts last) left next place
       → Rounds parts costs found spent (Some next) (left - place) → Rounds parts costs found spent last left

@@ -5,12 +5,12 @@ ghost use Rattle.std.specs.Fn.{FnReturnsAt};
 ghost use Rattle.std.specs.Option.{option_copied};
 ghost use Rattle.xdg_base.specs.declared.faults.OutOfMemory.{OutOfMemory};
 ghost use Rattle.xdg_best.specs.Best.{IsAnswer, IsOneAnswer};
-ghost use Rattle.xdg_best.specs.Rounds.{found_cost, round_parts, round_start};
+ghost use Rattle.xdg_best.specs.Rounds.{found_cost, round_parts};
 ghost use Rattle.xdg_best.specs.Searches.{IsRound};
 ghost use Rattle.xdg_problem.specs.declared.parts.Parts.{Parts};
 ghost use Rattle.xdg_problem.specs.Problems.{IsProblem};
 ghost use Rattle.xdg_propcore.specs.Uses.{AllStandIn};
-ghost use Rattle.xdg_stream.specs.Streamed.{IsStart};
+ghost use Rattle.xdg_stream.specs.Streamed.{IsStart, start_vector};
 
 use crate::searching::{Round, search};
 use std::alloc::Global;
@@ -45,7 +45,7 @@ fn round<P: Propagator, F: Fn(&Problem) -> Result<List<P>, OutOfMemory>>(
     requires problem { IsProblem problem.now }
     requires fits { IsStart problem.now (option_copied last) }
     requires cost { cost ≡ found_cost costs.now (option_copied last) }
-    ensures { IfOk result (IsRound (round_parts problem.now costs.now (option_copied last.entry)) (round_start problem.now (option_copied last.entry)) left) }
+    ensures { IfOk result (IsRound (round_parts problem.now costs.now (option_copied last.entry)) (start_vector problem.now (option_copied last.entry)) left) }
 {
     match last {
         None => search(alloc, problem, None, left, make),

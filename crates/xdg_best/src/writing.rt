@@ -14,7 +14,7 @@ use xdg_problem::{Analysis, Problem};
 use xdg_text::{Word, write, write_line};
 
 /// Writes an analysis as block 1, and its cost.
-#[tactic(auto, using(xdg_text::proofs::Pieces::appends_both, xdg_text::proofs::Pieces::rose_later))]
+#[tactic(auto, using(xdg_io::proofs::Written::appends_both, xdg_text::proofs::Pieces::rose_later))]
 fn write_find<K: Sink>(
     problem: &Problem,
     analysis: &Analysis,
@@ -65,7 +65,7 @@ fn write_last<K: Sink>(answer: &BestAnswer, sink: &mut K) -> Result<(), Failed>
 }
 
 /// Writes what a search for the cheapest analysis came to.
-#[tactic(auto, using(xdg_text::proofs::Pieces::appends_both, xdg_text::proofs::Pieces::rose_later))]
+#[tactic(auto, using(xdg_io::proofs::Written::appends_both, xdg_text::proofs::Pieces::rose_later))]
 pub(crate) fn write_answer<K: Sink>(
     problem: &Problem,
     answer: &BestAnswer,

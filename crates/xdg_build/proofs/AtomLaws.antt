@@ -4,10 +4,9 @@ use Rattle.std.specs.Prelude.{◌==◌, Any, Contains, Some, slice_get, slice_in
 use Rattle.std.proofs.lemmas.Bool.{eqb-true}
 use Rattle.std.proofs.lemmas.List.{get_or_default}
 use Rattle.std.proofs.lemmas.List.Elements.{All-contains, All-filter, filter_passes}
-use Rattle.std.proofs.lemmas.Option.{slice_get_within, get_or_from_slice_get}
 use Rattle.xdg_ast.specs.declared.names.Name.{Name}
 use Rattle.xdg_ast.specs.Grammar.{Term}
-use Rattle.xdg_domain.specs.Shapes.{Shape, count, shape, Differ, IsSmall}
+use Rattle.xdg_domain.specs.Shapes.{Shape, count, shape, IsSmall}
 use Rattle.xdg_domain.specs.declared.types.Ty.{Ty}
 use Rattle.xdg_packed.specs.Lexicon.{Lexicon}
 use Rattle.xdg_problem.specs.declared.analysis.Analysis.{Analysis}
@@ -25,7 +24,6 @@ use Rattle.xdg_types.specs.Table.{Table, IsTable, KeepsDim, KeepDims, AreAttribu
 use Rattle.xdg_build.specs.Grammars.{Grammar}
 use Rattle.xdg_build.specs.Readings.{dimension, edges_in, label_text, value_of, value_number, value_texts}
 use Rattle.xdg_build.proofs.Conditions.{any_same}
-use Rattle.xdg_build.proofs.Different.{one_place}
 use Rattle.xdg_build.proofs.FeatureRows.{same_number}
 use Rattle.xdg_formula.specs.Written as w
 use Rattle.xdg_formula.specs.Tables.{no_dim, used_dims}
@@ -35,6 +33,8 @@ use Rattle.xdg_build.specs.Says.{Says, Agree}
 use Rattle.xdg_build.specs.Truths.{Binding, constants_of}
 use Rattle.xdg_build.proofs.Used.{among_all, is_called, one_called, below_of, plan_of, dims_long, labels_are, edges_same}
 use Rattle.xdg_build.proofs.Valued.{value_below, number_same, attr_inside, type_is, value_count_is}
+use Rattle.xdg_facts.proofs.In.{differ_once}
+use Rattle.xdg_terms.proofs.Meant.{one_place}
 
 -- ---- what the table keeps
 
@@ -57,14 +57,6 @@ pub first_at : (all : List (List ℕ × Ty)) (i : ℕ) (name : List ℕ) (type :
 first_at [] i name type h = absurd (cc)
 first_at (one ∷ more) zero name type h = (let e : one ≡ (name, type) = cc in ap (λ (attr : List ℕ × Ty). Some attr.0) e)
 first_at (one ∷ more) (suc i) name type h = first_at more i name type h
-
--- a name stands in one place
-pub one_named : (names : List (List ℕ)) (i j : ℕ) (name : List ℕ) → Differ names → slice_get names i ≡ Some name → slice_get names j ≡ Some name → i ≡ j
-one_named names i j name differ here there =
-    one_place names i j differ (slice_get_within names i name here) (slice_get_within names j name there)
-    (get_or_from_slice_get names i name [] here ∙ sym (get_or_from_slice_get names j name [] there))
-
--- ---- names of nodes
 
 -- what a number stands for
 pub stands_for : (count : ℕ) (scope : List (List ℕ)) (b : Binding) (numbered : ℕ → ℕ) (n : ℕ) (name : List ℕ) → Agree count scope b numbered → IsAt scope n name → numbered n ≡ b name
@@ -180,7 +172,7 @@ module _ (table : Table) (lexicon : Lexicon) (parts : Parts) (is : IsTable table
                 λ h. (k, i, is_called table lexicon is (nodes parts) a dim.text d at, first_at (dimension g k).attrs i attribute.text type stands.stands, (ap (λ s. value_texts s (value_number g (nodes parts) a k (b node.text) i)) types ∙ ap (value_texts (shape type)) (sym read ∙ h) ∙ texts)),
                 λ h.
                     let one : h.0 ≡ k = one_called table lexicon is (nodes parts) a dim.text d at h.0 h.2 in
-                    let place : h.1 ≡ i = one_named (firsts (dimension g k).attrs) h.1 i attribute.text (kept a).attrs (subst (λ j. slice_get (firsts (dimension g j).attrs) h.1 ≡ Some attribute.text) one h.3) (first_at (dimension g k).attrs i attribute.text type stands.stands) in
+                    let place : h.1 ≡ i = differ_once (firsts (dimension g k).attrs) h.1 i attribute.text (kept a).attrs (subst (λ j. slice_get (firsts (dimension g j).attrs) h.1 ≡ Some attribute.text) one h.3) (first_at (dimension g k).attrs i attribute.text type stands.stands) in
                     let value_is : value_of g (nodes parts) a k (b node.text) (Some i) ≡ constants_of value =
                     subst (λ p. value_of g (nodes parts) a k (b node.text) (Some p) ≡ constants_of value) place (subst (λ j. value_of g (nodes parts) a j (b node.text) (Some h.1) ≡ constants_of value) one h.4) in
                     read ∙ same_number (shape type) (value_number g (nodes parts) a k (b node.text) i) n (attribute_at (typed (dimension g k).attrs) i attribute.text (shape type) (kept a).attributes (typed_at (dimension g k).attrs i attribute.text type stands.stands)) small within

@@ -16,14 +16,13 @@ use Rattle.xdg_problem.specs.Claims.{claim}
 use Rattle.xdg_problem.specs.Problems.{IsProblem}
 use Rattle.xdg_problem.proofs.Claimed.{claim_edge, claim_above, claim_attr, claim_feat}
 use Rattle.xdg_terms.specs.Built.{or_zero}
-use Rattle.xdg_terms.specs.Faults.{has}
 use Rattle.xdg_terms.specs.Means.{IsAt}
 use Rattle.xdg_terms.proofs.Meant.{at_place}
 use Rattle.xdg_types.specs.declared.table.DimType.{DimType}
-use Rattle.xdg_types.specs.Table.{Table, IsTable, KeepsDim, firsts, typed}
+use Rattle.xdg_types.specs.Table.{Table, IsTable, KeepsDim, firsts, typed, dim_named}
 use Rattle.xdg_build.specs.Grammars.{Grammar}
 use Rattle.xdg_build.specs.Readings.{dimension, type_at}
-use Rattle.xdg_formula.specs.Tables.{dim_named, member_shape, no_dim, type_named, used_dims}
+use Rattle.xdg_formula.specs.Tables.{member_shape, no_dim, type_named, used_dims}
 use Rattle.xdg_formula.specs.Written as w
 use Rattle.xdg_build.specs.Formulas.{attribute_in, dim_in, feature_in, member_number, number_of, place_of, type_in}
 use Rattle.xdg_build.specs.Places.{IsDimAt, IsNumberOf, IsPlaceOf, IsTypeAt, names_at}
@@ -35,9 +34,8 @@ use Rattle.xdg_build.proofs.FeatLaws.{says_feat}
 use Rattle.xdg_build.proofs.Standing.{dim_at}
 use Rattle.xdg_build.proofs.Rightly.{IsEdgeRight, IsAttrRight, IsFeatRight}
 use Rattle.xdg_build.proofs.Used.{among_all, used_is, below_of, is_called}
-
-some_same : {A : Type 0} (x y : A) → Some x ≡ Some y → x ≡ y
-some_same x y h = cc
+use Rattle.xdg_names.specs.Texts.{has_text}
+use Rattle.xdg_facts.proofs.Options.{some_same}
 
 module _ (table : Table) (lexicon : Lexicon) (is : IsTable table) (dim : Name) (d : ℕ) (place : IsPlaceOf (names_at table.dims table.used) dim.text d) (type : DimType) (there : type ≡ get_or (used_dims table) d no_dim) where
   abbrev g : Grammar
@@ -60,8 +58,8 @@ module _ (table : Table) (lexicon : Lexicon) (is : IsTable table) (dim : Name) (
 
   -- ---- labels
 
-  pub label_known : (scope : List (List ℕ)) (mother label daughter : Name) → IsEdgeRight (used_dims table) scope dim mother label daughter → has type.labels label.text ≡ true
-  label_known scope mother label daughter right = subst (λ (one : DimType). has one.labels label.text ≡ true) (found_is right.found right.there) right.known
+  pub label_known : (scope : List (List ℕ)) (mother label daughter : Name) → IsEdgeRight (used_dims table) scope dim mother label daughter → has_text type.labels label.text ≡ true
+  label_known scope mother label daughter right = subst (λ (one : DimType). has_text one.labels label.text ≡ true) (found_is right.found right.there) right.known
 
   -- ---- attributes
 

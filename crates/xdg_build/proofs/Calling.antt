@@ -5,8 +5,9 @@ use Rattle.std.proofs.lemmas.Bool.{false_from_ne_true}
 use Rattle.std.proofs.lemmas.Slice.Eq.{bytes_eq-Decides}
 use Rattle.xdg_problem.specs.declared.parts.Principle.{Principle}
 use Rattle.xdg_problem.specs.declared.parts.Principle.TheVariants as principles
-use Rattle.xdg_problem.specs.Names.{name_of, IsOfTexts}
-use Rattle.xdg_build.specs.Groups.{called, called_in, all_principles}
+use Rattle.xdg_problem.specs.Names.{IsOfTexts}
+use Rattle.xdg_build.specs.Groups.{called, called_in}
+use Rattle.xdg_problem.specs.Principles.{name_of, all_principles}
 
 -- grammar texts can use each of the principles
 abbrev AreOfTexts : List Principle → Type 0
@@ -39,27 +40,9 @@ called_of_texts name = in_of_texts all_principles name all_of_texts
 
 -- the name of a principle
 pub called-name_of : (p : Principle) → IsOfTexts p → called (name_of p) ≡ p
-called-name_of principles.Graph of = refl
-called-name_of principles.Entries of = refl
-called-name_of principles.Tree of = refl
-called-name_of principles.Dag of = refl
-called-name_of principles.Valency of = refl
-called-name_of principles.Order of = refl
-called-name_of principles.Projectivity of = refl
-called-name_of principles.Agr of = refl
-called-name_of principles.Agreement of = refl
-called-name_of principles.Government of = refl
-called-name_of principles.Climbing of = refl
-called-name_of principles.Barriers of = refl
-called-name_of principles.LinkingEnd of = refl
-called-name_of principles.LinkingDaughter of = refl
-called-name_of principles.LinkingMother of = refl
-called-name_of principles.LinkingBelowStart of = refl
-called-name_of principles.LinkingAboveStart of = refl
-called-name_of principles.LinkingSisters of = refl
-called-name_of principles.LinkingNotDaughter of = refl
 called-name_of (principles.Rule formula) of = absurd of
 called-name_of (principles.Bound costs bound) of = absurd of
+called-name_of principle of = refl
 
 pub one_called : (name : List ℕ) (p : Principle) → IsOfTexts p → name_of p ≡ name → called name ≡ p
 one_called name p of is = ap called (sym is) ∙ called-name_of p of

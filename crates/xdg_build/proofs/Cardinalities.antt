@@ -4,8 +4,9 @@ use Rattle.std.specs.List.{range_with_len}
 use Rattle.std.specs.List.Sorted.{IsStrictlyIncreasing}
 use Rattle.std.proofs.lemmas.Bool.{cond-false, false_from_ne_true}
 use Rattle.std.proofs.lemmas.List.{append_assoc, append-nil}
-use Rattle.xdg_domain.specs.Cards.{has, IsCards, numbers_below}
+use Rattle.xdg_domain.specs.Cards.{IsCards}
 use Rattle.xdg_domain.proofs.Numbers.{numbers_increase}
+use Rattle.xdg_facts.specs.Rises.{has, numbers_below}
 
 -- the numbers of a cardinality from one on and below the end
 pub between : ℕ → ℕ → List ℕ → List ℕ

@@ -14,7 +14,6 @@ use Rattle.xdg_problem.specs.declared.parts.Parts.{Parts}
 use Rattle.xdg_problem.specs.Claims.{claim, claims_of}
 use Rattle.xdg_problem.specs.Truths.{unbound}
 use Rattle.xdg_problem.proofs.Claimed.{claim_not, claim_and, claim_or, claim_every, claim_any, claim_left, claim_same}
-use Rattle.xdg_terms.specs.Faults.{has}
 use Rattle.xdg_terms.specs.Built.{or_zero}
 use Rattle.xdg_terms.proofs.Meant.{at_place}
 use Rattle.xdg_types.specs.declared.table.DimType.{DimType}
@@ -35,6 +34,8 @@ use Rattle.xdg_build.specs.Signs.{denies}
 use Rattle.xdg_build.proofs.AtomLaws.{says_left, says_same}
 use Rattle.xdg_build.proofs.FormulaLaws.{SaysEach, says_none, says_then, says_conjunction, says_disjunction, says_even, says_odd, says_every, says_any}
 use Rattle.xdg_build.proofs.Rightly.{AreNodes, IsBindingRight, not_right, every_right, any_right, left_right, same_right, part_right}
+use Rattle.xdg_facts.proofs.Lists.{zip_more as zip_behind}
+use Rattle.xdg_names.specs.Texts.{has_text}
 
 -- ---- nothing is wrong with what stands inside
 
@@ -91,12 +92,6 @@ deeper text dims bound inner name t right few scoped =
     omega (arith, long, length-append (map text bound) (name.text ∷ []), length-map inner text, length-map bound text, few, room)
 
 -- ---- lists side by side
-
-zip_behind : {A B : Type 0} (R : A → B → Type 0) (xs : List A) (ys : List B) (x : A) (y : B) → AllZip R xs ys → R x y → AllZip R (xs ++ x ∷ []) (ys ++ y ∷ [])
-zip_behind R [] [] x y zip last = (last, tt)
-zip_behind R [] (b ∷ ys) x y zip last = absurd zip
-zip_behind R (a ∷ xs) [] x y zip last = absurd zip
-zip_behind R (a ∷ xs) (b ∷ ys) x y zip last = (zip.0, zip_behind R xs ys x y zip.1 last)
 
 -- a turn of a loop
 pub zip_more : {A B : Type 0} (R : A → B → Type 0) (xs : List A) (i : ℕ) (ys now : List B) (x : A) (y : B) → i < length xs → x ≡ get_or xs i x → now ≡ ys ++ y ∷ [] → AllZip R (take i xs) ys → R x y → AllZip R (take (i + 1) xs) now
@@ -168,7 +163,7 @@ module _ (table : Table) (lexicon : Lexicon) (parts : Parts) where
           is = ap y.Not own.is ∙ ap (λ b. signed b (formula_in table lexicon parts scope (tree body.kind))) (sym odd);
         })
 
-    pub made_every : (inner : List (List ℕ)) (name : Name) (body item : RuleTerm) (made boxed : Formula) (n : ℕ) → kind ≡ r.Every name body → item ≡ body → inner ≡ scope ++ name.text ∷ [] → has scope name.text ≡ false → n ≡ length scope → boxed ≡ made
+    pub made_every : (inner : List (List ℕ)) (name : Name) (body item : RuleTerm) (made boxed : Formula) (n : ℕ) → kind ≡ r.Every name body → item ≡ body → inner ≡ scope ++ name.text ∷ [] → has_text scope name.text ≡ false → n ≡ length scope → boxed ≡ made
         → IsMade table lexicon parts inner (tree item.kind) made → IsMade table lexicon parts scope (tree kind) (y.Every n boxed)
     made_every inner name body item made boxed n is same scoped fresh number put made_inside =
         let own = inside body item (scope ++ name.text ∷ []) inner made boxed same scoped put made_inside in
@@ -177,7 +172,7 @@ module _ (table : Table) (lexicon : Lexicon) (parts : Parts) where
           is = ap (λ k. y.Every k boxed) number ∙ ap (y.Every (length scope)) own.is;
         })
 
-    pub made_any : (inner : List (List ℕ)) (name : Name) (body item : RuleTerm) (made boxed : Formula) (n : ℕ) → kind ≡ r.Any name body → item ≡ body → inner ≡ scope ++ name.text ∷ [] → has scope name.text ≡ false → n ≡ length scope → boxed ≡ made
+    pub made_any : (inner : List (List ℕ)) (name : Name) (body item : RuleTerm) (made boxed : Formula) (n : ℕ) → kind ≡ r.Any name body → item ≡ body → inner ≡ scope ++ name.text ∷ [] → has_text scope name.text ≡ false → n ≡ length scope → boxed ≡ made
         → IsMade table lexicon parts inner (tree item.kind) made → IsMade table lexicon parts scope (tree kind) (y.Any n boxed)
     made_any inner name body item made boxed n is same scoped fresh number put made_inside =
         let own = inside body item (scope ++ name.text ∷ []) inner made boxed same scoped put made_inside in

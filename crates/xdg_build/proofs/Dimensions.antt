@@ -4,9 +4,8 @@ use Rattle.std.specs.Prelude.{Some, slice_get, ◌==◌, ◌||◌}
 use Rattle.std.specs.List.{list_any}
 use Rattle.std.proofs.lemmas.Bool.{cases_eq, cases_Bool, ne_eqb}
 use Rattle.std.proofs.lemmas.Option.{slice_get-get_or, slice_get_within}
-use Rattle.xdg_names.specs.First.{In}
 use Rattle.xdg_types.specs.declared.table.DimType.{DimType}
-use Rattle.xdg_types.specs.Table.{Table, HasPlace, typed}
+use Rattle.xdg_types.specs.Table.{Table, typed}
 use Rattle.xdg_packed.specs.Entries.{IsUsed}
 use Rattle.xdg_principles.specs.declared.building.PrincipleUse.{PrincipleUse}
 use Rattle.xdg_principles.specs.declared.principle.Sort.{Sort}
@@ -14,24 +13,25 @@ use Rattle.xdg_principles.specs.declared.principle.Which.{Which}
 use Rattle.xdg_principles.specs.Settings.{at_place, labels_in, members_in}
 use Rattle.xdg_principles.specs.Typed.{IsTypedUse, number_of, labels_at, members_at}
 use Rattle.xdg_build.specs.Grammars.{is_used, used_place, place_in, no_dim}
-use Rattle.xdg_build.proofs.Lists.{in_at}
+use Rattle.xdg_facts.specs.Membership.{In}
+use Rattle.xdg_facts.proofs.In.{in_get}
 
 -- ---- places among the used ones
 
-pub used_at : (used : List ℕ) (k : ℕ) → HasPlace used k → slice_get used (place_in used k) ≡ Some k
+pub used_at : (used : List ℕ) (k : ℕ) → In used k → slice_get used (place_in used k) ≡ Some k
 used_at [] k h = absurd h
 used_at (j ∷ used) k h = elim (cases_eq j k) [
   | inl e ↦ ap (λ b. slice_get (j ∷ used) (cond b 0 (suc (place_in used k)))) (eq-eqb j k e) ∙ ap Some e
   | inr other ↦ ap (λ b. slice_get (j ∷ used) (cond b 0 (suc (place_in used k)))) (ne_eqb j k other) ∙ used_at used k (later h other)
 ]
   where
-    later : HasPlace (j ∷ used) k → (j ≡ k → ⊥) → HasPlace used k
+    later : In (j ∷ used) k → (j ≡ k → ⊥) → In used k
     later h other = elim h [ inl e ↦ absurd (other e) | inr r ↦ r ]
 
-pub used_below : (used : List ℕ) (k : ℕ) → HasPlace used k → place_in used k < length used
+pub used_below : (used : List ℕ) (k : ℕ) → In used k → place_in used k < length used
 used_below used k h = slice_get_within used (place_in used k) k (used_at used k h)
 
-pub has_place : (used : List ℕ) (k : ℕ) → list_any (λ one. one == k) used ≡ true → HasPlace used k
+pub has_place : (used : List ℕ) (k : ℕ) → list_any (λ one. one == k) used ≡ true → In used k
 has_place [] k h = absurd cc
 has_place (j ∷ used) k h = elim (cases_Bool (j == k)) [
   | inl t ↦ inl (eqb-true j k t)
@@ -61,7 +61,7 @@ is_used_home table k h = (k, (h.used, h.stands))
 
 -- that of a use with that number
 pub home_of : (table : Table) (u : PrincipleUse) → IsTypedUse table u → is_used table u.home ≡ true → (n : ℕ) → n < length u.dims → Home table (get_or u.dims n 0)
-home_of table u t used n within = home_at table u t used (get_or u.dims n 0) (in_at u.dims n 0 within)
+home_of table u t used n within = home_at table u t used (get_or u.dims n 0) (in_get u.dims n 0 within)
 
 dim_at_home : (table : Table) (u : PrincipleUse) (which : Which) → number_of which < length u.dims → (h : Home table (get_or u.dims (number_of which) 0)) → at_place table.dims (slice_get u.dims (number_of which)) ≡ Some h.dim
 dim_at_home table u which within h = ap (at_place table.dims) (slice_get-get_or u.dims (number_of which) 0 within) ∙ h.stands

@@ -5,9 +5,7 @@ use Rattle.std.proofs.lemmas.Bool.{eqb-true, eq-eqb}
 use Rattle.xdg_base.specs.declared.ids.EntryNo.{EntryNo}
 use Rattle.xdg_problem.specs.Analyses.{HasCandidates}
 use Rattle.xdg_problem.specs.Vectors.{place_among, entry_places}
-
-entry_equal : (a b : EntryNo) → a.0 ≡ b.0 → a ≡ b
-entry_equal a b e = let f : ℕ → EntryNo = λ n. record { 0 = n } in ap f e
+use Rattle.xdg_problem.proofs.EntryPlaces.{entry_equal}
 
 contains_later : (first : EntryNo) (more : List EntryNo) (entry : EntryNo) → (first.0 == entry.0) ≡ false → (k : ℕ) → k < suc (length more) → slice_index_or (first ∷ more) k entry ≡ entry → Contains more entry
 contains_later first more entry other zero within is = let same : true ≡ false = sym (eq-eqb first.0 entry.0 (ap (λ (n : EntryNo). n.0) is)) ∙ other in cc

@@ -24,6 +24,7 @@ use Rattle.xdg_problem.specs.Vectors.{entry_places}
 use Rattle.xdg_problem.proofs.EntryPlaces.{entry_back, place_within}
 use Rattle.xdg_terms.specs.Means.{IsAt}
 use Rattle.xdg_types.specs.Table as tables
+use Rattle.xdg_facts.specs.Membership.{In}
 use Rattle.xdg_types.specs.Table.{Table, AreFeatures, Typed, KeepsDim, typed, firsts}
 use Rattle.xdg_build.specs.Grammars.{Grammar}
 use Rattle.xdg_build.proofs.Said.{entry_at as entry_right_at}
@@ -37,8 +38,9 @@ use Rattle.xdg_build.specs.Says.{Says}
 use Rattle.xdg_build.specs.Tables.{entry_says, table_of}
 use Rattle.xdg_build.specs.Truths.{IsOrHas, constants_of}
 use Rattle.xdg_build.proofs.Used.{among_all, used_within, is_called, one_called, below_of}
-use Rattle.xdg_build.proofs.AtomLaws.{first_at, one_named, stands_for, node_below, keeps_at, typed_at}
+use Rattle.xdg_build.proofs.AtomLaws.{first_at, stands_for, node_below, keeps_at, typed_at}
 use Rattle.xdg_build.proofs.Featured.{said_says, said_field}
+use Rattle.xdg_facts.proofs.In.{differ_once}
 
 pub feature_at : (all : Typed) (i : ℕ) (name : List ℕ) (type : Shape) → AreFeatures all → slice_get all i ≡ Some (name, type) → IsType type
 feature_at [] i name type are h = absurd (cc)
@@ -66,7 +68,7 @@ module _ (table : Table) (lexicon : Lexicon) (parts : Parts) (problem : IsProble
     abbrev k : ℕ
     k = among_all table lexicon is d
 
-    used_k : tables.HasPlace table.used k
+    used_k : In table.used k
     used_k = (is_called table lexicon is (nodes parts) (record { entries = []; attrs = []; edges = [] }) dim.text d at).0
 
     kept : KeepsDim (dimension g k)
@@ -148,7 +150,7 @@ module _ (table : Table) (lexicon : Lexicon) (parts : Parts) (problem : IsProble
               ),
               λ h.
                   let one : h.0 ≡ k = one_called table lexicon is (nodes parts) a dim.text d at h.0 h.2 in
-                  let place : h.1 ≡ i = one_named (firsts (dimension g k).fields) h.1 i feature.text kept.fields (subst (λ j. slice_get (firsts (dimension g j).fields) h.1 ≡ Some feature.text) one h.3) (first_at (dimension g k).fields i feature.text type stands.stands) in
+                  let place : h.1 ≡ i = differ_once (firsts (dimension g k).fields) h.1 i feature.text kept.fields (subst (λ j. slice_get (firsts (dimension g j).fields) h.1 ≡ Some feature.text) one h.3) (first_at (dimension g k).fields i feature.text type stands.stands) in
                   row.1 (subst (λ v. OnFeature g a k v (Some i) (λ s x. IsOrHas s x (constants_of value))) (sym e)
                   (subst (λ p. OnFeature g a k (b node.text) (Some p) (λ s x. IsOrHas s x (constants_of value))) place
                   (subst (λ j. OnFeature g a j (b node.text) (Some h.1) (λ s x. IsOrHas s x (constants_of value))) one h.4))),

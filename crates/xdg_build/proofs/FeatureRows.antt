@@ -4,7 +4,7 @@ use Rattle.std.specs.Prelude.{Contains, None, Some, slice_get}
 use Rattle.std.proofs.lemmas.Bool.{cases_eq}
 use Rattle.std.proofs.lemmas.Option.{slice_get-get_or, slice_get_within, get_or_from_slice_get}
 use Rattle.xdg_domain.specs.Defaults.{IsFilledIn}
-use Rattle.xdg_domain.specs.Shapes.{Shape, domain, tuple, set, iset, valency, mapping, sizes, count, Differ, IsSmall, IsType}
+use Rattle.xdg_domain.specs.Shapes.{Shape, domain, tuple, set, iset, valency, mapping, sizes, count, IsSmall, IsType}
 use Rattle.xdg_domain.specs.Tuples.{places}
 use Rattle.xdg_domain.specs.Valencies.{said_at, KeysRise}
 use Rattle.xdg_domain.specs.Values.{IsIn, AllBelow}
@@ -16,8 +16,10 @@ use Rattle.xdg_principles.specs.Wanted.{IsSame, IsSetOf}
 use Rattle.xdg_build.specs.Features.{members_in, rows_in}
 use Rattle.xdg_build.proofs.TypeRows.{sizes_again, is_said}
 use Rattle.xdg_build.specs.Readings.{value_texts, IsMember, IsMemberAt, IsAllowedAt}
-use Rattle.xdg_build.proofs.Different.{one_place, same_tuple}
+use Rattle.xdg_build.proofs.Different.{same_tuple}
 use Rattle.xdg_facts.proofs.Options.{some_same}
+use Rattle.xdg_facts.specs.Membership.{Differ}
+use Rattle.xdg_terms.proofs.Meant.{one_place}
 
 -- ---- values by their constants
 

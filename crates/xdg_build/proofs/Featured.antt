@@ -1,8 +1,7 @@
 -- Values of features of entries, by their numbers and by their constants.
-use Rattle.std.proofs.Common.{◌≡◌, ◌↔◌, ℕ, zero, suc, ◌<◌, true, List, [], ◌∷◌, length, inl, inr, refl, sym, ap, ◌∙◌, subst, arith}
-use Rattle.std.specs.Prelude.{◌==◌, Contains, Option, None, Some, MatchOption, slice_get}
-use Rattle.std.proofs.lemmas.Bool.{eqb-true, eq-eqb, false≢true, or_cases, or_left, or_right}
-use Rattle.xdg_domain.specs.Cards.{has}
+use Rattle.std.proofs.Common.{◌≡◌, ◌↔◌, ℕ, ◌<◌, true, List, refl, sym, ap, ◌∙◌, subst}
+use Rattle.std.specs.Prelude.{◌==◌, Option, None, Some, MatchOption, slice_get}
+use Rattle.std.proofs.lemmas.Bool.{eqb-true, eq-eqb, false≢true}
 use Rattle.xdg_domain.specs.Shapes.{Shape, domain, tuple, set, iset, truth, integer, text, card, valency, mapping, fields, fields_of, count, IsType, IsSmall}
 use Rattle.xdg_domain.specs.Valencies.{said_at}
 use Rattle.xdg_domain.specs.Values.{IsIn, IsFieldOf, AllBelow}
@@ -19,25 +18,16 @@ use Rattle.xdg_build.proofs.FeatureRows.{Names, names_number, same_number}
 use Rattle.xdg_formula.specs.Tables.{member_shape}
 use Rattle.xdg_build.specs.Tables.{is_or_has, says_in}
 use Rattle.xdg_build.specs.Truths.{IsOrHas}
+use Rattle.xdg_facts.specs.Rises.{has}
+use Rattle.xdg_facts.proofs.Rising.{contains_has, contains_of_has}
+use Rattle.xdg_facts.proofs.Options.{some_same}
 
 -- ---- sets
-
-contains_more : (n : ℕ) (ns : List ℕ) (m : ℕ) → Contains ns m → Contains (n ∷ ns) m
-contains_more n ns m is = (let within : is.0 < length ns = is.1 in (suc is.0, omega (arith, within), is.2))
-
-has_contains : (ns : List ℕ) (n : ℕ) → has ns n ≡ true → Contains ns n
-has_contains [] n h = absurd (false≢true h)
-has_contains (m ∷ ns) n h = elim (or_cases (m == n) (has ns n) h) [ inl here ↦ (0, omega arith, eqb-true m n here) | inr later ↦ contains_more m ns n (has_contains ns n later) ]
-
-contains_has : (ns : List ℕ) (n : ℕ) → Contains ns n → has ns n ≡ true
-contains_has [] n is = (let within : is.0 < 0 = is.1 in absurd (omega (arith, within)))
-contains_has (m ∷ ns) n (zero, within, e) = or_left (m == n) (has ns n) (eq-eqb m n e)
-contains_has (m ∷ ns) n (suc i, within, e) = or_right (m == n) (has ns n) (contains_has ns n (i, omega (arith, within), e))
 
 set_says : (s : Shape) (ns : List ℕ) (n : ℕ) (texts : List (List ℕ)) → IsSmall s → AllBelow (count s) ns → n < count s → value_texts s n ≡ texts → (has ns n ≡ true) ↔ Names s ns texts
 set_says s ns n texts small below within said =
     let names = names_number s ns n small below within in (
-      λ h. subst (Names s ns) said (names.1 (has_contains ns n h)),
+      λ h. subst (Names s ns) said (names.1 (contains_of_has ns n h)),
       λ named. contains_has ns n (names.0 (subst (Names s ns) (sym said) named)),
     )
 
@@ -49,25 +39,22 @@ one_says s m n texts small below within said = (
   λ e. eq-eqb m n (same_number s m n small below within (e ∙ sym said)),
 )
 
-some_shape : (a b : Shape) → Some a ≡ Some b → a ≡ b
-some_shape a b h = cc
-
 -- A value has the number of a value of the type of its members, or a member with it, exactly where it has its constants.
 pub value_says : (s of : Shape) (v : Value-F Value) (n : ℕ) (texts : List (List ℕ)) → member_shape s ≡ Some of → IsType s → IsIn s v → n < count of → value_texts of n ≡ texts → (is_or_has v n ≡ true) ↔ IsOrHas s v texts
 value_says (domain cs) of (Value-F.Const m) n texts h type is within said =
-    let same : domain cs ≡ of = some_shape (domain cs) of h in
+    let same : domain cs ≡ of = some_same (domain cs) of h in
     one_says (domain cs) m n texts type is (subst (λ t. n < count t) (sym same) within) (ap (λ t. value_texts t n) same ∙ said)
 value_says (domain cs) of _ n texts h type is within said = absurd is
 value_says (tuple ss) of (Value-F.Tuple m) n texts h type is within said =
-    let same : tuple ss ≡ of = some_shape (tuple ss) of h in
+    let same : tuple ss ≡ of = some_same (tuple ss) of h in
     one_says (tuple ss) m n texts type is (subst (λ t. n < count t) (sym same) within) (ap (λ t. value_texts t n) same ∙ said)
 value_says (tuple ss) of _ n texts h type is within said = absurd is
 value_says (set s) of (Value-F.Set ns) n texts h type is within said =
-    let same : s ≡ of = some_shape s of h in
+    let same : s ≡ of = some_same s of h in
     set_says s ns n texts type is.1 (subst (λ t. n < count t) (sym same) within) (ap (λ t. value_texts t n) same ∙ said)
 value_says (set s) of _ n texts h type is within said = absurd is
 value_says (iset s) of (Value-F.Set ns) n texts h type is within said =
-    let same : s ≡ of = some_shape s of h in
+    let same : s ≡ of = some_same s of h in
     set_says s ns n texts type is.1 (subst (λ t. n < count t) (sym same) within) (ap (λ t. value_texts t n) same ∙ said)
 value_says (iset s) of _ n texts h type is within said = absurd is
 value_says truth of v n texts h type is within said = absurd (cc)

@@ -5,8 +5,7 @@ use Rattle.std.proofs.lemmas.Bool.{cases_Bool}
 use Rattle.std.proofs.lemmas.Slice.Eq.{bytes_eq-Decides}
 use Rattle.xdg_problem.specs.declared.parts.Principle.{Principle}
 use Rattle.xdg_problem.specs.declared.parts.Principle.TheVariants as principles
-use Rattle.xdg_problem.specs.Names.{name_of, IsOfTexts}
-use Rattle.xdg_problem.specs.Problems.{dim_arguments, attr_arguments, truth_arguments}
+use Rattle.xdg_problem.specs.Names.{IsOfTexts}
 use Rattle.xdg_principles.specs.declared.principle.Dims.TheVariants as d
 use Rattle.xdg_principles.specs.declared.principle.Element.TheVariants as e
 use Rattle.xdg_principles.specs.declared.principle.Form.{Form}
@@ -24,9 +23,10 @@ use Rattle.xdg_principles.specs.declared.principle.Which.TheVariants as w
 use Rattle.xdg_principles.specs.Principles as table
 use Rattle.xdg_principles.specs.Principles.{has, flag, counted, feature, attribute, required, linking, labels_to_labels, Row, row_named, principle_named, dims_in, parameters}
 use Rattle.xdg_principles.specs.Typed.{number_of}
-use Rattle.xdg_build.specs.Features.{feature_dim}
 use Rattle.xdg_build.specs.Groups.{called}
 use Rattle.xdg_build.proofs.Calling.{one_called}
+use Rattle.xdg_facts.proofs.Options.{some_same}
+use Rattle.xdg_problem.specs.Principles.{name_of, dim_arguments, attr_arguments, truth_arguments, feature_dim}
 
 -- ---- what each principle has
 
@@ -119,12 +119,9 @@ pub one_of_them : (name : List ℕ) (form : Form) → principle_named name ≡ S
 unfolding principle_named
 one_of_them name form h = found name in_table table.principles form matches h
 
-same_form : (x y : Form) → Some x ≡ Some y → x ≡ y
-same_form x y h = cc
-
 form_at : (name : List ℕ) (form : Form) (p : Principle) → principle_named name ≡ Some form → name ≡ name_of p → form ≡ form_of (called name)
 form_at name form p h is =
-    same_form form (form_of p) (sym h ∙ ap principle_named is ∙ form-name_of p (of_texts p name form (sym is) h)) ∙ ap form_of (sym (one_called name p (of_texts p name form (sym is) h) (sym is)))
+    some_same form (form_of p) (sym h ∙ ap principle_named is ∙ form-name_of p (of_texts p name form (sym is) h)) ∙ ap form_of (sym (one_called name p (of_texts p name form (sym is) h) (sym is)))
 
 -- what a known principle has goes by what it is called
 pub form_called : (name : List ℕ) (form : Form) → principle_named name ≡ Some form → form ≡ form_of (called name)
@@ -149,50 +146,13 @@ abbrev pub attr_typings : Principle → List (Which × Typing)
 attr_typings p = all_typings s.Attribute (parameters (form_of p))
 
 pub dims_wanted : (p : Principle) → IsOfTexts p → length (dims_in (form_of p).dims) ≡ dim_arguments p
-dims_wanted principles.Graph of = refl
-dims_wanted principles.Entries of = refl
-dims_wanted principles.Tree of = refl
-dims_wanted principles.Projectivity of = refl
-dims_wanted principles.Dag of = refl
-dims_wanted principles.Valency of = refl
-dims_wanted principles.Order of = refl
-dims_wanted principles.Agr of = refl
-dims_wanted principles.Agreement of = refl
-dims_wanted principles.Government of = refl
-dims_wanted principles.Climbing of = refl
-dims_wanted principles.Barriers of = refl
-dims_wanted principles.LinkingEnd of = refl
-dims_wanted principles.LinkingDaughter of = refl
-dims_wanted principles.LinkingMother of = refl
-dims_wanted principles.LinkingBelowStart of = refl
-dims_wanted principles.LinkingAboveStart of = refl
-dims_wanted principles.LinkingSisters of = refl
-dims_wanted principles.LinkingNotDaughter of = refl
 dims_wanted (principles.Rule formula) of = absurd of
 dims_wanted (principles.Bound costs bound) of = absurd of
+dims_wanted principle of = refl
 
 pub attrs_wanted : (p : Principle) → length (attr_typings p) ≡ attr_arguments p
 attrs_wanted principles.Graph = refl
-attrs_wanted (principles.Rule formula) = refl
-attrs_wanted (principles.Bound costs bound) = refl
-attrs_wanted principles.Entries = refl
-attrs_wanted principles.Tree = refl
-attrs_wanted principles.Projectivity = refl
-attrs_wanted principles.Dag = refl
-attrs_wanted principles.Valency = refl
-attrs_wanted principles.Order = refl
-attrs_wanted principles.Agr = refl
-attrs_wanted principles.Agreement = refl
-attrs_wanted principles.Government = refl
-attrs_wanted principles.Climbing = refl
-attrs_wanted principles.Barriers = refl
-attrs_wanted principles.LinkingEnd = refl
-attrs_wanted principles.LinkingDaughter = refl
-attrs_wanted principles.LinkingMother = refl
-attrs_wanted principles.LinkingBelowStart = refl
-attrs_wanted principles.LinkingAboveStart = refl
-attrs_wanted principles.LinkingSisters = refl
-attrs_wanted principles.LinkingNotDaughter = refl
+attrs_wanted principle = refl
 
 abbrev pub truths_wanted_by : Wanted → ℕ
 truths_wanted_by a.Truth = 1
@@ -205,26 +165,7 @@ truths_in_all (x ∷ xs) = truths_wanted_by x.wanted + truths_in_all xs
 
 pub truths_wanted : (p : Principle) → truths_in_all (parameters (form_of p)) ≡ truth_arguments p
 truths_wanted principles.Graph = refl
-truths_wanted (principles.Rule formula) = refl
-truths_wanted (principles.Bound costs bound) = refl
-truths_wanted principles.Entries = refl
-truths_wanted principles.Tree = refl
-truths_wanted principles.Projectivity = refl
-truths_wanted principles.Dag = refl
-truths_wanted principles.Valency = refl
-truths_wanted principles.Order = refl
-truths_wanted principles.Agr = refl
-truths_wanted principles.Agreement = refl
-truths_wanted principles.Government = refl
-truths_wanted principles.Climbing = refl
-truths_wanted principles.Barriers = refl
-truths_wanted principles.LinkingEnd = refl
-truths_wanted principles.LinkingDaughter = refl
-truths_wanted principles.LinkingMother = refl
-truths_wanted principles.LinkingBelowStart = refl
-truths_wanted principles.LinkingAboveStart = refl
-truths_wanted principles.LinkingSisters = refl
-truths_wanted principles.LinkingNotDaughter = refl
+truths_wanted principle = refl
 
 -- ---- which of its dimensions has its features
 
@@ -241,26 +182,7 @@ feature_which p = w.First
 
 pub number-feature_which : (p : Principle) → number_of (feature_which p) ≡ feature_dim p
 number-feature_which principles.Graph = refl
-number-feature_which (principles.Rule formula) = refl
-number-feature_which (principles.Bound costs bound) = refl
-number-feature_which principles.Entries = refl
-number-feature_which principles.Tree = refl
-number-feature_which principles.Projectivity = refl
-number-feature_which principles.Dag = refl
-number-feature_which principles.Valency = refl
-number-feature_which principles.Order = refl
-number-feature_which principles.Agr = refl
-number-feature_which principles.Agreement = refl
-number-feature_which principles.Government = refl
-number-feature_which principles.Climbing = refl
-number-feature_which principles.Barriers = refl
-number-feature_which principles.LinkingEnd = refl
-number-feature_which principles.LinkingDaughter = refl
-number-feature_which principles.LinkingMother = refl
-number-feature_which principles.LinkingBelowStart = refl
-number-feature_which principles.LinkingAboveStart = refl
-number-feature_which principles.LinkingSisters = refl
-number-feature_which principles.LinkingNotDaughter = refl
+number-feature_which principle = refl
 
 -- they are all of that dimension
 abbrev pub AreOf : Which → List (Which × Typing) → Type 0
@@ -277,85 +199,21 @@ features_of_which principles.Projectivity = tt
 features_of_which principles.Dag = tt
 features_of_which principles.Valency = (refl, (refl, tt))
 features_of_which principles.Order = tt
-features_of_which principles.Agr = (refl, tt)
-features_of_which principles.Agreement = (refl, tt)
-features_of_which principles.Government = (refl, tt)
 features_of_which principles.Climbing = tt
-features_of_which principles.Barriers = (refl, tt)
-features_of_which principles.LinkingEnd = (refl, tt)
-features_of_which principles.LinkingDaughter = (refl, tt)
-features_of_which principles.LinkingMother = (refl, tt)
-features_of_which principles.LinkingBelowStart = (refl, tt)
-features_of_which principles.LinkingAboveStart = (refl, tt)
-features_of_which principles.LinkingSisters = (refl, tt)
-features_of_which principles.LinkingNotDaughter = (refl, tt)
+features_of_which principle = (refl, tt)
 
 pub attrs_of_first : (p : Principle) → AreOf w.First (attr_typings p)
-attrs_of_first principles.Graph = tt
-attrs_of_first (principles.Rule formula) = tt
-attrs_of_first (principles.Bound costs bound) = tt
-attrs_of_first principles.Entries = tt
-attrs_of_first principles.Tree = tt
-attrs_of_first principles.Projectivity = tt
-attrs_of_first principles.Dag = tt
-attrs_of_first principles.Valency = tt
 attrs_of_first principles.Order = (refl, tt)
 attrs_of_first principles.Agr = (refl, tt)
 attrs_of_first principles.Agreement = (refl, (refl, tt))
 attrs_of_first principles.Government = (refl, tt)
-attrs_of_first principles.Climbing = tt
-attrs_of_first principles.Barriers = tt
-attrs_of_first principles.LinkingEnd = tt
-attrs_of_first principles.LinkingDaughter = tt
-attrs_of_first principles.LinkingMother = tt
-attrs_of_first principles.LinkingBelowStart = tt
-attrs_of_first principles.LinkingAboveStart = tt
-attrs_of_first principles.LinkingSisters = tt
-attrs_of_first principles.LinkingNotDaughter = tt
+attrs_of_first principle = tt
 
 -- each of its dimensions is one of those that it has
 pub which_within : (p : Principle) → feature_dim p < length (dims_in (form_of p).dims)
 which_within principles.Graph = omega arith
-which_within (principles.Rule formula) = omega arith
-which_within (principles.Bound costs bound) = omega arith
-which_within principles.Entries = omega arith
-which_within principles.Tree = omega arith
-which_within principles.Projectivity = omega arith
-which_within principles.Dag = omega arith
-which_within principles.Valency = omega arith
-which_within principles.Order = omega arith
-which_within principles.Agr = omega arith
-which_within principles.Agreement = omega arith
-which_within principles.Government = omega arith
-which_within principles.Climbing = omega arith
-which_within principles.Barriers = omega arith
-which_within principles.LinkingEnd = omega arith
-which_within principles.LinkingDaughter = omega arith
-which_within principles.LinkingMother = omega arith
-which_within principles.LinkingBelowStart = omega arith
-which_within principles.LinkingAboveStart = omega arith
-which_within principles.LinkingSisters = omega arith
-which_within principles.LinkingNotDaughter = omega arith
+which_within principle = omega arith
 
 pub first_within : (p : Principle) → 0 < length (dims_in (form_of p).dims)
 first_within principles.Graph = omega arith
-first_within (principles.Rule formula) = omega arith
-first_within (principles.Bound costs bound) = omega arith
-first_within principles.Entries = omega arith
-first_within principles.Tree = omega arith
-first_within principles.Projectivity = omega arith
-first_within principles.Dag = omega arith
-first_within principles.Valency = omega arith
-first_within principles.Order = omega arith
-first_within principles.Agr = omega arith
-first_within principles.Agreement = omega arith
-first_within principles.Government = omega arith
-first_within principles.Climbing = omega arith
-first_within principles.Barriers = omega arith
-first_within principles.LinkingEnd = omega arith
-first_within principles.LinkingDaughter = omega arith
-first_within principles.LinkingMother = omega arith
-first_within principles.LinkingBelowStart = omega arith
-first_within principles.LinkingAboveStart = omega arith
-first_within principles.LinkingSisters = omega arith
-first_within principles.LinkingNotDaughter = omega arith
+first_within principle = omega arith

@@ -15,13 +15,13 @@ use Rattle.xdg_problem.specs.Truths.{bound, IsTrueIn}
 use Rattle.xdg_problem.specs.Truths as t
 use Rattle.xdg_problem.specs.Vectors.{entry_places}
 use Rattle.xdg_problem.proofs.DecidingTruths.{decided_claim}
-use Rattle.xdg_terms.specs.Faults.{has}
 use Rattle.xdg_types.specs.Table.{Table}
 use Rattle.xdg_formula.specs.Written.{Tree, Trees, no_tree, tree_then}
 use Rattle.xdg_formula.specs.Written as w
 use Rattle.xdg_build.specs.Says.{Says, Agree}
 use Rattle.xdg_build.specs.Signs.{denies}
 use Rattle.xdg_build.specs.Truths.{Binding, Denied, bind, IsTrue, EachTrue, SomeTrue}
+use Rattle.xdg_names.specs.Texts.{has_text}
 
 first_no : (a b : Bool) → (a || b) ≡ false → a ≡ false
 first_no true b h = absurd (cc)
@@ -120,15 +120,15 @@ module _ (table : Table) (lexicon : Lexicon) (parts : Parts) where
 
   -- ---- quantifiers
 
-  module _ (scope : List (List ℕ)) (name : Name) (fresh : has scope name.text ≡ false) (at : ℕ) (tree : Tree) (c : Claim) (n : ℕ) (number : n ≡ length scope) (says : Says table lexicon parts (scope ++ name.text ∷ []) tree c) where
+  module _ (scope : List (List ℕ)) (name : Name) (fresh : has_text scope name.text ≡ false) (at : ℕ) (tree : Tree) (c : Claim) (n : ℕ) (number : n ≡ length scope) (says : Says table lexicon parts (scope ++ name.text ∷ []) tree c) where
     one_more : length (scope ++ name.text ∷ []) ≡ length scope + 1
     one_more = length-append scope (name.text ∷ [])
 
     -- another name of the scope stays what it was
-    other : (names : List (List ℕ)) (i : ℕ) → has names name.text ≡ false → i < length names → bytes_eq (get_or names i []) name.text ≡ false
+    other : (names : List (List ℕ)) (i : ℕ) → has_text names name.text ≡ false → i < length names → bytes_eq (get_or names i []) name.text ≡ false
     other [] i missing l = absurd (omega (arith, l))
-    other (x ∷ names) zero missing l = first_no (bytes_eq x name.text) (has names name.text) missing
-    other (x ∷ names) (suc i) missing l = other names i (second_no (bytes_eq x name.text) (has names name.text) missing) (omega (arith, l))
+    other (x ∷ names) zero missing l = first_no (bytes_eq x name.text) (has_text names name.text) missing
+    other (x ∷ names) (suc i) missing l = other names i (second_no (bytes_eq x name.text) (has_text names name.text) missing) (omega (arith, l))
 
     inside : (b : Binding) (numbered : ℕ → ℕ) (v : ℕ) → v < nodes parts → Agree (nodes parts) scope b numbered → Agree (nodes parts) (scope ++ name.text ∷ []) (bind b name.text v) (bound numbered n v)
     inside b numbered v within agree i l = elim (cases_eq i (length scope)) [

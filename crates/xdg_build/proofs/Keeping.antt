@@ -5,7 +5,6 @@ use Rattle.std.specs.List.{AllZip}
 use Rattle.std.proofs.lemmas.Bool.{cases_Bool}
 use Rattle.std.proofs.lemmas.List.{get_or-map, length-map}
 use Rattle.std.proofs.lemmas.List.Elements.{All-map}
-use Rattle.xdg_names.specs.First.{In}
 use Rattle.xdg_problem.specs.declared.analysis.Analysis.{Analysis}
 use Rattle.xdg_problem.specs.declared.parts.Group.{Group}
 use Rattle.xdg_problem.specs.declared.parts.Parts.{Parts}
@@ -22,7 +21,6 @@ use Rattle.xdg_check.specs.Checked as checked
 use Rattle.xdg_packed.specs.Lexicon.{Lexicon}
 use Rattle.xdg_build.specs.Grammars.{Grammar, grammar_of, is_used}
 use Rattle.xdg_build.specs.Groups.{group_of, used_uses}
-use Rattle.xdg_build.proofs.Lists.{in_at}
 use Rattle.xdg_build.specs.Compiled.{candidates_of, compiled}
 use Rattle.xdg_build.specs.Principles.{Satisfies}
 use Rattle.xdg_build.specs.Refusals.{refusal}
@@ -30,6 +28,8 @@ use Rattle.xdg_build.specs.Solutions.{IsSolutionOf, KeepsSolutions}
 use Rattle.xdg_build.proofs.Admitted.{IsAdmitted, is_admitted}
 use Rattle.xdg_build.proofs.Fitting.{same_analyses}
 use Rattle.xdg_build.proofs.Satisfied.{Given, satisfied_same}
+use Rattle.xdg_facts.specs.Membership.{In}
+use Rattle.xdg_facts.proofs.In.{in_get}
 
 -- ---- lists
 
@@ -41,7 +41,7 @@ unmapped : {A B : Type 0} (P : B → Type 0) (f : A → B) (xs : List A) → All
 unmapped P f xs all k d within = subst P (get_or-map f xs k d (f d) within) (all k (f d) (subst (λ n. k < n) (sym (length-map xs f)) within))
 
 along : {A : Type 0} (P Q : A → Type 0) (xs : List A) → ((x : A) → In xs x → P x → Q x) → All P xs → All Q xs
-along P Q xs h all k d within = h (get_or xs k d) (in_at xs k d within) (all k d within)
+along P Q xs h all k d within = h (get_or xs k d) (in_get xs k d within) (all k d within)
 
 in_filter : {A : Type 0} (p : A → Bool) (xs : List A) (x : A) → In (filter p xs) x → In xs x × (p x ≡ true)
 in_filter p [] x h = absurd h

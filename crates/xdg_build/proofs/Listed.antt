@@ -1,11 +1,10 @@
 -- The labels that the argument of order lists.
-use Rattle.std.proofs.Common.{◌≡◌, ℕ, zero, suc, ◌<◌, List, [], ◌∷◌, ◌++◌, length, map, refl, sym, ap, ◌∙◌, subst, inl, inr, arith}
+use Rattle.std.proofs.Common.{◌≡◌, ℕ, zero, suc, ◌<◌, List, [], ◌∷◌, ◌++◌, length, map, refl, sym, ap, ◌∙◌, subst, arith}
 use Rattle.std.specs.Prelude.{All, AllPairs, ◌≢◌, flat_map}
 use Rattle.std.proofs.lemmas.List.{append-nil}
 use Rattle.xdg_base.specs.declared.ids.LabelId.{LabelId}
 use Rattle.xdg_domain.specs.Shapes.{Shape}
-use Rattle.xdg_names.specs.First.{In}
-use Rattle.xdg_types.specs.Table.{Table, HasPlace, ArePlaces}
+use Rattle.xdg_types.specs.Table.{Table, ArePlaces}
 use Rattle.xdg_principles.specs.declared.building.Arg.{Arg}
 use Rattle.xdg_principles.specs.declared.building.Arg.TheVariants as g
 use Rattle.xdg_principles.specs.declared.building.PrincipleUse.{PrincipleUse}
@@ -21,13 +20,14 @@ use Rattle.xdg_principles.specs.Principles.{parameters}
 use Rattle.xdg_principles.specs.Typed.{AreTypedArgs, labels_at}
 use Rattle.xdg_problem.specs.declared.parts.Principle.{Principle}
 use Rattle.xdg_problem.specs.declared.parts.Principle.TheVariants as principles
-use Rattle.xdg_problem.specs.Problems.{IsOrderFor}
 use Rattle.xdg_build.specs.Groups.{labels_in}
 use Rattle.xdg_build.proofs.Forms.{form_of}
 use Rattle.xdg_build.proofs.Lists.{all_in, all_mapped}
 use Rattle.xdg_build.proofs.Named.{unlisted}
 use Rattle.xdg_facts.proofs.Lists.{pairs_none}
 use Rattle.xdg_facts.proofs.Lists.{all_none, all_cons}
+use Rattle.xdg_facts.specs.Membership.{In}
+use Rattle.xdg_problem.specs.Principles.{IsOrderFor}
 
 pairs_cons : {X : Type 0} (R : X → X → Type 0) (x : X) (xs : List X) → All (λ y. R x y) xs → AllPairs R xs → AllPairs R (x ∷ xs)
 pairs_cons R x xs h t i zero d order within = absurd (omega (arith, order))
@@ -41,17 +41,13 @@ same_number : (m n : ℕ) → label m ≡ label n → m ≡ n
 unfolding label
 same_number m n h = ap (λ (l : LabelId). l.0) h
 
-stands : (ks : List ℕ) (k : ℕ) → In ks k → HasPlace ks k
-stands [] k h = h
-stands (j ∷ ks) k h = elim h [ inl e ↦ inl e | inr r ↦ inr (stands ks k r) ]
-
 within_all : (n : ℕ) (ks : List ℕ) → ArePlaces n ks → All (λ l. l.0 < n) (map label ks)
 unfolding label
 within_all n [] h = all_none (λ (l : LabelId). l.0 < n)
 within_all n (k ∷ ks) h = all_cons (λ (l : LabelId). l.0 < n) (label k) (map label ks) h.0.0 (within_all n ks h.1)
 
-other_than : (k : ℕ) (ks : List ℕ) → (HasPlace ks k → ⊥) → All (λ l. label k ≢ l) (map label ks)
-other_than k ks none = all_mapped label (λ l. label k ≢ l) ks (all_in (λ j. label k ≢ label j) ks (λ j i e. none (stands ks k (subst (λ m. In ks m) (sym (same_number k j e)) i))))
+other_than : (k : ℕ) (ks : List ℕ) → (In ks k → ⊥) → All (λ l. label k ≢ l) (map label ks)
+other_than k ks none = all_mapped label (λ l. label k ≢ l) ks (all_in (λ j. label k ≢ label j) ks (λ j i e. none (subst (λ m. In ks m) (sym (same_number k j e)) i)))
 
 all_differ : (n : ℕ) (ks : List ℕ) → ArePlaces n ks → AllPairs (λ a b. a ≢ b) (map label ks)
 all_differ n [] h = pairs_none (λ a b. a ≢ b)

@@ -1,7 +1,7 @@
 -- What holds of each element of a list.
-use Rattle.std.proofs.Common.{ℕ, zero, suc, ◌<◌, List, [], ◌∷◌, length, get_or, map, refl, inl, inr, arith}
+use Rattle.std.proofs.Common.{zero, suc, List, [], ◌∷◌, map, refl, inl, inr, arith}
 use Rattle.std.specs.Prelude.{All}
-use Rattle.xdg_names.specs.First.{In}
+use Rattle.xdg_facts.specs.Membership.{In}
 
 pub all_mapped : {X Y : Type 0} (f : X → Y) (P : Y → Type 0) (xs : List X) → All (λ x. P (f x)) xs → All P (map f xs)
 all_mapped f P [] h k d within = absurd (omega (arith, within))
@@ -13,8 +13,3 @@ pub all_in : {X : Type 0} (P : X → Type 0) (xs : List X) → ((x : X) → In x
 all_in P [] h k d within = absurd (omega (arith, within))
 all_in P (x ∷ xs) h zero d within = h x (inl refl)
 all_in P (x ∷ xs) h (suc k) d within = all_in P xs (λ y i. h y (inr i)) k d (omega (arith, within))
-
-pub in_at : {X : Type 0} (xs : List X) (k : ℕ) (d : X) → k < length xs → In xs (get_or xs k d)
-in_at [] k d within = absurd (omega (arith, within))
-in_at (x ∷ xs) zero d within = inl refl
-in_at (x ∷ xs) (suc k) d within = inr (in_at xs k d (omega (arith, within)))

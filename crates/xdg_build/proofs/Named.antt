@@ -74,9 +74,7 @@ as_many_members table u shared sort (t ∷ ts) (k ∷ ks) h = omega (arith, as_m
 
 one_features : (x : Arg) → features_in x ≡ numbers s.Feature x
 one_features (g.Feature k) = refl
-one_features (g.Attr k) = refl
-one_features (g.Labels ks) = refl
-one_features (g.Truth b) = refl
+one_features other = refl
 
 pub all_features : (xs : List Arg) → flat_map features_in xs ≡ flat_map (numbers s.Feature) xs
 all_features [] = refl
@@ -87,9 +85,7 @@ attr_id k = record { 0 = k }
 
 one_attrs : (x : Arg) → attrs_in x ≡ map attr_id (numbers s.Attribute x)
 one_attrs (g.Feature k) = refl
-one_attrs (g.Attr k) = refl
-one_attrs (g.Labels ks) = refl
-one_attrs (g.Truth b) = refl
+one_attrs other = refl
 
 pub all_attrs : (xs : List Arg) → flat_map attrs_in xs ≡ map attr_id (flat_map (numbers s.Attribute) xs)
 all_attrs [] = refl

@@ -1,6 +1,6 @@
 -- The number of a value with which nothing is wrong.
-use Rattle.std.proofs.Common.{◌≡◌, ℕ, Bool, true, false, List, [], ◌∷◌, length, map, None, Some, refl, sym, ap, ◌∙◌, subst}
-use Rattle.std.specs.Prelude.{◌==◌, if◌then◌else◌, Result, Ok}
+use Rattle.std.proofs.Common.{◌≡◌, ℕ, List, [], ◌∷◌, length, map, None, Some, refl, sym, ap, ◌∙◌, subst}
+use Rattle.std.specs.Prelude.{◌==◌, Result, Ok}
 use Rattle.std.specs.declared.alloc.AllocError.{AllocError}
 use Rattle.xdg_base.specs.declared.faults.Fault.{Fault}
 use Rattle.xdg_ast.specs.declared.names.Name.{Name}
@@ -13,7 +13,7 @@ use Rattle.xdg_domain.specs.declared.values.Value.TheOpen.{Value-F}
 use Rattle.xdg_names.specs.First.{Tells, first}
 use Rattle.xdg_terms.specs.Answers.{IsRight}
 use Rattle.xdg_terms.specs.Built.{built}
-use Rattle.xdg_terms.specs.Forms.{Term, Bindings, bound, bound_in, with_open, with_bound, unless_open, constant_of, constant_in, bracket_of, bracket_in}
+use Rattle.xdg_terms.specs.Forms.{Term, Bindings, bound, bound_in, with_open, with_bound, constant_of, constant_in, bracket_of, bracket_in}
 use Rattle.xdg_terms.specs.Means.{Means, MeansIn}
 use Rattle.xdg_terms.specs.Offences.{Offends, OffendsBy, OffendsIn, OfSeen}
 use Rattle.xdg_terms.proofs.Law.{law}
@@ -24,6 +24,8 @@ use Rattle.xdg_build.specs.Formulas.{number_of}
 use Rattle.xdg_build.specs.Places.{IsNumberOf}
 use Rattle.xdg_build.specs.Tables.{number_in}
 use Rattle.xdg_build.specs.Truths.{constants_of, constants_in}
+use Rattle.xdg_terms.proofs.Binding.{all_looked_at}
+use Rattle.xdg_terms.proofs.Formed.{so_many}
 
 -- ---- terms without parameters bound or open
 
@@ -40,21 +42,6 @@ bound_none : (t : Term) → bound [] t ≡ t
 unfolding bound
 bound_none t = bound_by t (out-TermKind t.kind)
 
-open_by : (t : Term) (k : TermKind-F ElemKind TermKind) → unless_open [] t k ≡ Some t
-open_by t (TermKind-F.Param name) = refl
-open_by t (TermKind-F.TermKind::Const name) = refl
-open_by t (TermKind-F.Number n) = refl
-open_by t (TermKind-F.Card written) = refl
-open_by t (TermKind-F.Braces elems) = refl
-open_by t (TermKind-F.TermKind::Tuple names) = refl
-open_by t (TermKind-F.Gen gen) = refl
-
-open_none : (t : Term) → with_open [] t ≡ Some t
-unfolding with_open
-open_none t = open_by t (out-TermKind t.kind)
-
--- ---- its constants
-
 constant_by : (k : TermKind-F ElemKind TermKind) (name : Name) → constant_in k ≡ Some name → constants_in k ≡ name.text ∷ []
 constant_by (TermKind-F.TermKind::Const own) name h = (let same : own ≡ name = cc in ap (λ (one : Name). one.text ∷ []) same)
 constant_by (TermKind-F.Param own) name h = absurd (cc)
@@ -63,10 +50,6 @@ constant_by (TermKind-F.Card written) name h = absurd (cc)
 constant_by (TermKind-F.Braces elems) name h = absurd (cc)
 constant_by (TermKind-F.TermKind::Tuple names) name h = absurd (cc)
 constant_by (TermKind-F.Gen gen) name h = absurd (cc)
-
-so_many : (b : Bool) (own names : List Name) → (if b then Some own else None) ≡ Some names → own ≡ names
-so_many true own names h = cc
-so_many false own names h = absurd (cc)
 
 bracket_by : (wanted : ℕ) (k : TermKind-F ElemKind TermKind) (names : List Name) → bracket_in wanted k ≡ Some names → constants_in k ≡ map (λ name. name.text) names
 bracket_by wanted (TermKind-F.TermKind::Tuple own) names h = ap (map (λ (name : Name). name.text)) (so_many (length own == wanted) own names h)
@@ -115,7 +98,7 @@ pub never_wrong : (s : Shape) (t : Term) (bs : Bindings) (f : Fault) → bs ≡ 
 never_wrong s t bs f none small right told =
     let offends : OffendsIn (with_bound []) s (bound [] t) f = subst (λ none_bound. Offends none_bound s t f) none told.0 in
     let nothing : Tells (OffendsBy (with_open []) s t) None = law (with_open []) s t None (ap first (sym right)) in
-    nothing f (subst (λ seen. OfSeen seen (λ u. OffendsIn (with_open []) s u f)) (sym (open_none t)) (here_by s t f small (subst (λ u. OffendsIn (with_bound []) s u f) (bound_none t) offends)))
+    nothing f (subst (λ seen. OfSeen seen (λ u. OffendsIn (with_open []) s u f)) (sym (all_looked_at t)) (here_by s t f small (subst (λ u. OffendsIn (with_bound []) s u f) (bound_none t) offends)))
 
 -- ---- as a function
 

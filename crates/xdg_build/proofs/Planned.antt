@@ -6,15 +6,18 @@ use Rattle.std.proofs.lemmas.List.{get_or-map, length-map}
 use Rattle.std.proofs.lemmas.List.Elements.{All-nil, All-cons, All-map}
 use Rattle.std.proofs.lemmas.List.FromFn.{length-map-range_with_len, get_or-map-range_with_len}
 use Rattle.xdg_domain.specs.declared.types.Ty.{Ty}
-use Rattle.xdg_domain.specs.Shapes.{Shape, domain, tuple, count, shape, Differ, IsSmall}
+use Rattle.xdg_domain.specs.Shapes.{Shape, domain, tuple, count, shape, IsSmall}
 use Rattle.xdg_problem.specs.declared.parts.AttrPlan.{AttrPlan}
 use Rattle.xdg_problem.specs.declared.parts.DimPlan.{DimPlan}
 use Rattle.xdg_problem.specs.Problems.{HasConstant, IsAttr, IsDim}
 use Rattle.xdg_types.specs.declared.table.DimType.{DimType}
-use Rattle.xdg_types.specs.Table.{Typed, typed, firsts, AreAttributes, KeepsDim, KeepDims, HasPlace, ArePlaces, IsTable}
+use Rattle.xdg_types.specs.Table.{Typed, typed, firsts, AreAttributes, KeepsDim, KeepDims, ArePlaces, IsTable}
 use Rattle.xdg_build.specs.Grammars.{Grammar, no_dim}
 use Rattle.xdg_build.specs.Plans.{shown_as, attr_plan, attr_plans, dim_plan, plan_at, plans}
-use Rattle.xdg_build.proofs.Different.{one_place, differ_by, differ_all, same_tuple, some_text}
+use Rattle.xdg_build.proofs.Different.{differ_by, differ_all, same_tuple, some_text}
+use Rattle.xdg_facts.specs.Membership.{In, Differ}
+use Rattle.xdg_terms.proofs.Meant.{one_place}
+use Rattle.xdg_formula.proofs.Turns.{place_within}
 
 -- ---- attributes
 
@@ -80,12 +83,7 @@ kept_at [] k h within = absurd (omega (arith, within))
 kept_at (dim ∷ dims) zero h within = h.0
 kept_at (dim ∷ dims) (suc k) h within = kept_at dims k h.1 (omega (arith, within))
 
-pub place_within : (bound : ℕ) (ks : List ℕ) (i d : ℕ) → ArePlaces bound ks → i < length ks → get_or ks i d < bound
-place_within bound [] i d h within = absurd (omega (arith, within))
-place_within bound (k ∷ ks) zero d h within = h.0.0
-place_within bound (k ∷ ks) (suc i) d h within = place_within bound ks i d h.1 (omega (arith, within))
-
-has_place : (ks : List ℕ) (i d : ℕ) → i < length ks → HasPlace ks (get_or ks i d)
+has_place : (ks : List ℕ) (i d : ℕ) → i < length ks → In ks (get_or ks i d)
 has_place [] i d within = absurd (omega (arith, within))
 has_place (k ∷ ks) zero d within = inl refl
 has_place (k ∷ ks) (suc i) d within = inr (has_place ks i d (omega (arith, within)))
@@ -93,7 +91,7 @@ has_place (k ∷ ks) (suc i) d within = inr (has_place ks i d (omega (arith, wit
 places_differ : (bound : ℕ) (ks : List ℕ) (i j d : ℕ) → ArePlaces bound ks → i < j → j < length ks → get_or ks i d ≢ get_or ks j d
 places_differ bound [] i j d h before within e = omega (arith, within)
 places_differ bound (k ∷ ks) i zero d h before within e = omega (arith, before)
-places_differ bound (k ∷ ks) zero (suc j) d h before within e = h.0.1 (subst (HasPlace ks) (sym e) (has_place ks j d (omega (arith, within))))
+places_differ bound (k ∷ ks) zero (suc j) d h before within e = h.0.1 (subst (In ks) (sym e) (has_place ks j d (omega (arith, within))))
 places_differ bound (k ∷ ks) (suc i) (suc j) d h before within e = places_differ bound ks i j d h.1 (omega (arith, before)) (omega (arith, within)) e
 
 module _ (g : Grammar) (right : IsTable g.table) where

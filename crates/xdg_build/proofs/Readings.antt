@@ -11,7 +11,6 @@ use Rattle.std.proofs.lemmas.Option.{slice_get_within, get_or_from_slice_get}
 use Rattle.xdg_base.specs.declared.ids.EntryNo.{EntryNo}
 use Rattle.xdg_domain.specs.Shapes.{Shape, count, shape}
 use Rattle.xdg_domain.specs.declared.types.Ty.{Ty}
-use Rattle.xdg_facts.specs.Fits.{Fits}
 use Rattle.xdg_packed.specs.Lexicon.{Record, Entry}
 use Rattle.xdg_problem.specs.declared.analysis.Analysis.{Analysis}
 use Rattle.xdg_problem.specs.declared.analysis.Edge.{Edge}
@@ -24,7 +23,7 @@ use Rattle.xdg_problem.specs.Places.{below, numbers_from}
 use Rattle.xdg_problem.specs.Vectors.{attr_sizes}
 use Rattle.xdg_problem.proofs.Counted.{length_attrs_of}
 use Rattle.xdg_types.specs.declared.table.DimType.{DimType}
-use Rattle.xdg_types.specs.Table.{typed, HasPlace, ArePlaces}
+use Rattle.xdg_types.specs.Table.{typed, ArePlaces}
 use Rattle.xdg_build.specs.Grammars.{Grammar, no_dim, place_in, used_place, used_dims}
 use Rattle.xdg_build.proofs.Dimensions.{used_at, used_below}
 use Rattle.xdg_build.specs.Compiled.{compiled}
@@ -33,10 +32,12 @@ use Rattle.xdg_build.specs.Readings.{dimension, edges_in, record_for, values_bef
 use Rattle.xdg_build.specs.Solutions.{IsEntryOf, IsEdge, IsAnalysisOf, value_counts, all_value_counts}
 use Rattle.xdg_build.proofs.Conditions.{AreWithin}
 use Rattle.xdg_build.proofs.Planned as planned
+use Rattle.xdg_facts.specs.Membership.{In}
+use Rattle.xdg_facts.proofs.Compared.{fits_at}
 
 -- ---- used dimensions
 
-pub stands_at : (ks : List ℕ) (i : ℕ) → i < length ks → HasPlace ks (get_or ks i 0)
+pub stands_at : (ks : List ℕ) (i : ℕ) → i < length ks → In ks (get_or ks i 0)
 stands_at [] i within = absurd (omega (arith, within))
 stands_at (k ∷ ks) zero within = inl refl
 stands_at (k ∷ ks) (suc i) within = inr (stands_at ks i (omega (arith, within)))
@@ -47,9 +48,9 @@ place_is bound [] i k h within is = absurd (omega (arith, within))
 place_is bound (j ∷ used) zero k h within is = ap (λ b. cond b 0 (suc (place_in used k))) (eq-eqb j k is)
 place_is bound (j ∷ used) (suc i) k h within is =
     let inside : i < length used = omega (arith, within) in
-    ap (λ b. cond b 0 (suc (place_in used k))) (ne_eqb j k (λ e. h.0.1 (subst (HasPlace used) (is ∙ sym e) (stands_at used i inside)))) ∙ ap suc (place_is bound used i k h.1 inside is)
+    ap (λ b. cond b 0 (suc (place_in used k))) (ne_eqb j k (λ e. h.0.1 (subst (In used) (is ∙ sym e) (stands_at used i inside)))) ∙ ap suc (place_is bound used i k h.1 inside is)
 
-used_is : (used : List ℕ) (k : ℕ) → HasPlace used k → get_or used (place_in used k) 0 ≡ k
+used_is : (used : List ℕ) (k : ℕ) → In used k → get_or used (place_in used k) 0 ≡ k
 used_is used k has = get_or_from_slice_get used (place_in used k) k 0 (used_at used k has)
 
 filter_same : (p q : Edge → Bool) (es : List Edge) → ((e : Edge) → Contains es e → p e ≡ q e) → filter p es ≡ filter q es
@@ -72,12 +73,6 @@ record_same (j ∷ used) [] k long = absurd (omega (arith, long))
 record_same (j ∷ used) (r ∷ entry) k long = record_step (j == k) used r entry k (record_same used entry k (omega (arith, long)))
 
 -- ---- values
-
-pub fits_at : (sizes xs : List ℕ) (p : ℕ) → Fits sizes xs → p < length xs → get_or xs p 0 < get_or sizes p 0
-fits_at sizes [] p fits within = absurd (omega (arith, within))
-fits_at [] (x ∷ xs) p fits within = absurd fits
-fits_at (s ∷ sizes) (x ∷ xs) zero fits within = fits.0
-fits_at (s ∷ sizes) (x ∷ xs) (suc p) fits within = fits_at sizes xs p fits.1 (omega (arith, within))
 
 pub repeated_length : (counts : List ℕ) (first many : ℕ) → length (flat_map (λ (node : ℕ). counts) (numbers_from first many)) ≡ many * length counts
 repeated_length counts first zero = (let none : 0 ≡ 0 * length counts = grind arith in none)
@@ -102,7 +97,7 @@ module _ (g : Grammar) (n : ℕ) where
   counted dim = length-map (typed dim.attrs) (λ (attr : List ℕ × Shape). count attr.1) ∙ length-map dim.attrs (λ (one : List ℕ × Ty). (one.0, shape one.1))
 
   -- the number of values stands where the value stands
-  count_at : (used : List ℕ) (k v i : ℕ) → HasPlace used k → v < n → i < length (dimension g k).attrs
+  count_at : (used : List ℕ) (k v i : ℕ) → In used k → v < n → i < length (dimension g k).attrs
       → get_or (all_value_counts n (map (dimension g) used)) (values_before g n used k + (v * length (dimension g k).attrs + i)) 0 ≡ get_or (value_counts (dimension g k)) i 0
   count_at [] k v i has node within = absurd has
   count_at (j ∷ used) k v i has node within = elim (cases_eq j k) [
@@ -131,7 +126,7 @@ module _ (g : Grammar) (n : ℕ) where
         ∙ count_at used k v i (passed has other) node within
   ]
     where
-      passed : HasPlace (j ∷ used) k → (j ≡ k → ⊥) → HasPlace used k
+      passed : In (j ∷ used) k → (j ≡ k → ⊥) → In used k
       passed h other = elim h [ inl e ↦ absurd (other e) | inr r ↦ r ]
 
   before_step : (b : Bool) (j : ℕ) (used : List ℕ) (k : ℕ) → length (attr_sizes n (take (place_in used k) (map (plan_at g g.table.dims) used))) ≡ values_before g n used k
@@ -149,13 +144,13 @@ module _ (g : Grammar) (n : ℕ) where
 -- ---- an analysis
 
 module _ (g : Grammar) (words : List SentenceWord) (a : Analysis) (used : ArePlaces (length g.table.dims) g.table.used) (is : IsAnalysisOf g words a) where
-  dim_test : (k : ℕ) (e : Edge) → HasPlace g.table.used k → e.dim.0 < length g.table.used → (e.dim.0 == place_in g.table.used k) ≡ (get_or g.table.used e.dim.0 0 == k)
+  dim_test : (k : ℕ) (e : Edge) → In g.table.used k → e.dim.0 < length g.table.used → (e.dim.0 == place_in g.table.used k) ≡ (get_or g.table.used e.dim.0 0 == k)
   dim_test k e has within = elim (cases_eq e.dim.0 (place_in g.table.used k)) [
     | inl same ↦ eq-eqb e.dim.0 (place_in g.table.used k) same ∙ sym (eq-eqb (get_or g.table.used e.dim.0 0) k (ap (λ d. get_or g.table.used d 0) same ∙ used_is g.table.used k has))
     | inr other ↦ ne_eqb e.dim.0 (place_in g.table.used k) other ∙ sym (ne_eqb (get_or g.table.used e.dim.0 0) k (λ at. other (sym (place_is (length g.table.dims) g.table.used e.dim.0 k used within at))))
   ]
 
-  pub edges_same : (k : ℕ) → HasPlace g.table.used k → edges_on (used_place g.table k) a.edges ≡ edges_in g a k
+  pub edges_same : (k : ℕ) → In g.table.used k → edges_on (used_place g.table k) a.edges ≡ edges_in g a k
   edges_same k has = filter_same (λ e. e.dim.0 == used_place g.table k) (λ e. get_or g.table.used e.dim.0 0 == k) a.edges (λ e c. dim_test k e has (All-contains (IsEdge g (length words)) a.edges e is.edges c).dim)
 
   edge_is : (k : ℕ) (e : Edge) → Contains (edges_in g a k) e → IsEdge g (length words) e
@@ -189,18 +184,18 @@ module _ (g : Grammar) (words : List SentenceWord) (a : Analysis) (used : ArePla
   -- ---- attributes
 
   -- the plan of a used dimension
-  plan_same : (k : ℕ) → HasPlace g.table.used k → slice_index_or (plans g) (used_place g.table k) no_plan ≡ plan_at g g.table.dims k
+  plan_same : (k : ℕ) → In g.table.used k → slice_index_or (plans g) (used_place g.table k) no_plan ≡ plan_at g g.table.dims k
   plan_same k has = get_or-map (plan_at g g.table.dims) g.table.used (place_in g.table.used k) 0 no_plan (used_below g.table.used k has) ∙ ap (plan_at g g.table.dims) (used_is g.table.used k has)
 
-  pub labels_same : (k : ℕ) → HasPlace g.table.used k → label_count (compiled g words) (used_place g.table k) ≡ length (dimension g k).labels
+  pub labels_same : (k : ℕ) → In g.table.used k → label_count (compiled g words) (used_place g.table k) ≡ length (dimension g k).labels
   labels_same k has = ap (λ (plan : DimPlan). length plan.labels) (plan_same k has)
 
-  pub value_same : (k v i : ℕ) → HasPlace g.table.used k → slice_index a.attrs (attr_place (compiled g words) (used_place g.table k) v i) ≡ value_number g (length words) a k v i
+  pub value_same : (k v i : ℕ) → In g.table.used k → slice_index a.attrs (attr_place (compiled g words) (used_place g.table k) v i) ≡ value_number g (length words) a k v i
   value_same k v i has =
       let many : attr_count (compiled g words) (used_place g.table k) ≡ length (dimension g k).attrs = ap (λ (plan : DimPlan). length plan.attrs) (plan_same k has) ∙ planned.attr_count g (dimension g k) in
       ap₂ (λ b m. get_or a.attrs (b + (v * m + i)) 0) (before_same g (length words) g.table.used k) many
 
-  pub value_below : (k v i : ℕ) (name : List ℕ) (type : Shape) → HasPlace g.table.used k → v < length words → slice_get (typed (dimension g k).attrs) i ≡ Some (name, type) → 0 < count type → value_number g (length words) a k v i < count type
+  pub value_below : (k v i : ℕ) (name : List ℕ) (type : Shape) → In g.table.used k → v < length words → slice_get (typed (dimension g k).attrs) i ≡ Some (name, type) → 0 < count type → value_number g (length words) a k v i < count type
   value_below k v i name type has node stands some =
       let n : ℕ = length words in
       let w : length (value_counts (dimension g k)) ≡ length (dimension g k).attrs = counted g n (dimension g k) in

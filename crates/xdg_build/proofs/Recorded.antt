@@ -5,11 +5,11 @@ use Rattle.std.specs.List.{AllZip}
 use Rattle.xdg_problem.specs.declared.parts.Feat.{Feat}
 use Rattle.xdg_problem.specs.declared.parts.Principle.{Principle}
 use Rattle.xdg_principles.specs.declared.building.PrincipleUse.{PrincipleUse}
-use Rattle.xdg_build.specs.Features.{feature_dim}
 use Rattle.xdg_build.specs.Grammars.{Grammar, place_in}
 use Rattle.xdg_build.specs.Groups.{called, features_in}
 use Rattle.xdg_build.specs.Known.{features_dim, IsKnownFor}
 use Rattle.xdg_build.specs.Rows.{AreKept}
+use Rattle.xdg_problem.specs.Principles.{feature_dim}
 
 -- ---- two lists, place by place
 

@@ -8,7 +8,6 @@ use Rattle.xdg_base.specs.declared.ids.AttrId.{AttrId}
 use Rattle.xdg_base.specs.declared.ids.DimId.{DimId}
 use Rattle.xdg_base.specs.declared.ids.EntryNo.{EntryNo}
 use Rattle.xdg_base.specs.declared.ids.LabelId.{LabelId}
-use Rattle.xdg_names.specs.First.{In}
 use Rattle.xdg_domain.specs.Shapes.{Shape, shape, count}
 use Rattle.xdg_types.specs.Table.{Table}
 use Rattle.xdg_packed.specs.Entries.{IsRightLexicon, IsEntry}
@@ -30,8 +29,8 @@ use Rattle.xdg_problem.specs.declared.parts.Principle.TheVariants as principles
 use Rattle.xdg_problem.specs.Arguments.{label_count, attr_count, value_count}
 use Rattle.xdg_problem.specs.Places.{nodes}
 use Rattle.xdg_problem.specs.Names.{IsOfTexts}
-use Rattle.xdg_problem.specs.Problems.{IsGroup, AreFeatures, IsOrderFor, IsSuited}
-use Rattle.xdg_build.specs.Features.{feature, feature_dim}
+use Rattle.xdg_problem.specs.Problems.{IsGroup, IsSuited}
+use Rattle.xdg_build.specs.Features.{feature}
 use Rattle.xdg_build.specs.Grammars.{Grammar, is_used, used_place, place_in}
 use Rattle.xdg_build.specs.Groups.{attrs_in, labels_in, truths_in, features_in, called, dims_of, group_of, groups_of}
 use Rattle.xdg_build.specs.Rows.{features_by_number}
@@ -40,12 +39,15 @@ use Rattle.xdg_build.proofs.Calling.{called_of_texts}
 use Rattle.xdg_build.proofs.Dimensions.{Home, home_of, below_at, is_used_home, labels-home, members-home}
 use Rattle.xdg_build.proofs.Forms.{form_of, form_called, feature_typings, attr_typings, feature_which, number-feature_which, features_of_which, attrs_of_first, dims_wanted, attrs_wanted, truths_wanted, which_within, first_within, AreOf}
 use Rattle.xdg_build.proofs.Listed.{order_right}
-use Rattle.xdg_build.proofs.Lists.{all_in, all_mapped, in_at}
+use Rattle.xdg_build.proofs.Lists.{all_in, all_mapped}
 use Rattle.xdg_build.proofs.Named.{AreMembers, attr_id, numbers, all_members, as_many_members, all_features, all_attrs, all_truths}
 use Rattle.xdg_build.proofs.Said.{FitAll, all_fit, entry_at}
 use Rattle.xdg_build.proofs.Taken.{Sizes, SharesFirst, taken}
 use Rattle.xdg_build.proofs.TypeRows.{same_count}
 use Rattle.xdg_facts.proofs.Lists.{all_none, all_cons}
+use Rattle.xdg_facts.specs.Membership.{In}
+use Rattle.xdg_facts.proofs.In.{in_get}
+use Rattle.xdg_problem.specs.Principles.{IsOrderFor, AreFeatures, feature_dim}
 
 -- the features that a use of that principle takes of an entry
 abbrev pub taken_at : Grammar → PrincipleUse → Principle → EntryNo → List Feat
@@ -230,7 +232,7 @@ wide g u used dims q name dim typed_so is_one lexicon same_used same_dims same_n
     inside = omega (arith, dim_count g u (called u.principle) one, which_within (called u.principle))
 
     below : used_place g.table (get_or u.dims (feature_dim (called u.principle)) 0) < length g.table.used
-    below = below_at g.table u typed_so is_one (get_or u.dims (feature_dim (called u.principle)) 0) (in_at u.dims (feature_dim (called u.principle)) 0 inside)
+    below = below_at g.table u typed_so is_one (get_or u.dims (feature_dim (called u.principle)) 0) (in_get u.dims (feature_dim (called u.principle)) 0 inside)
 
     entry : IsEntry g.table (get_or g.lexicon.entries n [])
     entry = entry_at g.table g.lexicon.entries n lexicon.entries less

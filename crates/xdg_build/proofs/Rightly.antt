@@ -9,19 +9,20 @@ use Rattle.xdg_ast.specs.declared.names.Name.{Name}
 use Rattle.xdg_ast.specs.Grammar.{Term}
 use Rattle.xdg_domain.specs.Shapes.{Shape, shape}
 use Rattle.xdg_domain.specs.declared.types.Ty.{Ty}
-use Rattle.xdg_names.specs.First.{In}
-use Rattle.xdg_terms.specs.Faults.{all_twice, has, missing}
+use Rattle.xdg_terms.specs.Faults.{all_twice, missing}
 use Rattle.xdg_types.specs.declared.table.DimType.{DimType}
-use Rattle.xdg_types.specs.Table.{Table}
+use Rattle.xdg_types.specs.Table.{Table, dim_named}
 use Rattle.xdg_formula.specs.Formulas.{under_name, unbound_nodes, attribute_faults, attr_faults, field_faults, feat_faults, feature_faults, member_faults, value_faults, edge_faults, dim_faults, faults_in, faults_each, formula_faults, binding_faults, most_rules, names_of, nested, rules_faults, too_many}
 use Rattle.xdg_formula.specs.Answers.{Offends}
-use Rattle.xdg_formula.specs.Tables.{dim_named, type_named, member_shape, used_dims}
+use Rattle.xdg_formula.specs.Tables.{type_named, member_shape, used_dims}
 use Rattle.xdg_formula.specs.declared.tree.Rule.{Rule}
 use Rattle.xdg_formula.specs.Rules.{RuleTerm}
 use Rattle.xdg_formula.specs.Written as w
 use Rattle.xdg_formula.specs.Written.{tree, trees_of}
 use Rattle.xdg_formula.proofs.Treed.{treed}
 use Rattle.xdg_build.specs.Right.{IsRight}
+use Rattle.xdg_facts.specs.Membership.{In}
+use Rattle.xdg_names.specs.Texts.{has_text}
 
 -- ---- lists without a fault
 
@@ -41,9 +42,9 @@ unless_none : (b : Bool) (f : Fault) → (if b then f ∷ [] else []) ≡ [] →
 unless_none true f h = absurd (cc)
 unless_none false f h = refl
 
-is_there : (cause : Cause) (texts : List (List ℕ)) (name : Name) → missing cause texts name ≡ [] → has texts name.text ≡ true
+is_there : (cause : Cause) (texts : List (List ℕ)) (name : Name) → missing cause texts name ≡ [] → has_text texts name.text ≡ true
 unfolding missing
-is_there cause texts name h = if_none (has texts name.text) _ h
+is_there cause texts name h = if_none (has_text texts name.text) _ h
 
 found_by : {A : Type 0} (name : Name) (o : Option A) (rule : A → List Fault) → under_name name o rule ≡ [] → (found : A) × (o ≡ Some found) × (rule found ≡ [])
 found_by name None rule h = absurd (cc)
@@ -52,8 +53,8 @@ found_by name (Some found) rule h = (found, refl, h)
 -- ---- names of nodes
 
 pub record AreNodes (scope : List (List ℕ)) (one other : Name) : Type 0 where
-  pub first : has scope one.text ≡ true
-  pub second : has scope other.text ≡ true
+  pub first : has_text scope one.text ≡ true
+  pub second : has_text scope other.text ≡ true
 
 are_nodes : (scope : List (List ℕ)) (one other : Name) → unbound_nodes scope one other ≡ [] → AreNodes scope one other
 are_nodes scope one other h = record { first = is_there _ scope one (first_none _ _ h); second = is_there _ scope other (second_none (missing _ scope one) _ h) }
@@ -64,7 +65,7 @@ module _ (dims : List DimType) (scope : List (List ℕ)) where
   pub record IsEdgeRight (dim mother label daughter : Name) : Type 0 where
     pub found : DimType
     pub there : dim_named dims dim.text ≡ Some found
-    pub known : has found.labels label.text ≡ true
+    pub known : has_text found.labels label.text ≡ true
     pub nodes : AreNodes scope mother daughter
 
   pub edge_right : (dim mother label daughter : Name) → IsRight dims scope (w.edge dim mother label daughter) → IsEdgeRight dim mother label daughter
@@ -89,7 +90,7 @@ module _ (dims : List DimType) (scope : List (List ℕ)) where
   same_right one other right = are_nodes scope one other right.1
 
   pub record IsAttrRight (node dim attribute : Name) (value : Term) : Type 0 where
-    pub node_there : has scope node.text ≡ true
+    pub node_there : has_text scope node.text ≡ true
     pub found : DimType
     pub there : dim_named dims dim.text ≡ Some found
     pub type : Ty
@@ -108,7 +109,7 @@ module _ (dims : List DimType) (scope : List (List ℕ)) where
   members_by feature value (Some of) h = (of, refl, h)
 
   pub record IsFeatRight (node dim feature : Name) (value : Term) : Type 0 where
-    pub node_there : has scope node.text ≡ true
+    pub node_there : has_text scope node.text ≡ true
     pub found : DimType
     pub there : dim_named dims dim.text ≡ Some found
     pub type : Ty
@@ -140,7 +141,7 @@ module _ (dims : List DimType) (scope : List (List ℕ)) where
   not_right signs at t right = (at, right.1)
 
   pub record IsBindingRight (name : Name) (t : w.Tree) : Type 0 where
-    pub fresh : has scope name.text ≡ false
+    pub fresh : has_text scope name.text ≡ false
     pub room : length scope ≢ 3
     pub inside : IsRight dims (scope ++ name.text ∷ []) t
 
@@ -148,7 +149,7 @@ module _ (dims : List DimType) (scope : List (List ℕ)) where
   binding_right place name at t h =
       let own = first_none (binding_faults scope place name) (faults_in dims (scope ++ name.text ∷ []) at t) h in
       record {
-        fresh = unless_none (has scope name.text) _ (second_none (nested scope place) _ own);
+        fresh = unless_none (has_text scope name.text) _ (second_none (nested scope place) _ own);
         room = eqb-false (length scope) 3 (unless_none (length scope == 3) _ (first_none (nested scope place) _ own));
         inside = (at, second_none (binding_faults scope place name) (faults_in dims (scope ++ name.text ∷ []) at t) h);
       }

@@ -20,14 +20,13 @@ use Rattle.xdg_problem.specs.declared.parts.SentenceWord.{SentenceWord}
 use Rattle.xdg_problem.specs.Analyses.{IsAnalysis}
 use Rattle.xdg_problem.specs.Arguments.{label_count, first_dim, second_dim, attr_of, attr_place, order_of, truth_of}
 use Rattle.xdg_problem.specs.Asking.{IsInItem, AsksLink, IsLinked}
-use Rattle.xdg_problem.specs.Conditions.{conditions_for}
 use Rattle.xdg_problem.specs.Features.{row, set_row, map_row}
-use Rattle.xdg_problem.specs.Names.{name_of, IsOfTexts}
+use Rattle.xdg_problem.specs.Names.{IsOfTexts}
 use Rattle.xdg_problem.specs.Paths.{edges_on, IsDaughter, IsDaughterBy}
 use Rattle.xdg_problem.specs.Relations.{Relation}
 use Rattle.xdg_problem.specs.Vectors.{entry_places}
 use Rattle.xdg_problem.proofs.Tuples.{none_kept, one_kept, two_kept, three_kept, chosen_kept}
-use Rattle.xdg_types.specs.Table.{IsTable, HasPlace, ArePlaces, typed}
+use Rattle.xdg_types.specs.Table.{IsTable, ArePlaces, typed}
 use Rattle.xdg_packed.specs.Entries.{IsRightLexicon}
 use Rattle.xdg_principles.specs.declared.building.Arg.{Arg}
 use Rattle.xdg_principles.specs.declared.building.Arg.TheVariants as arg
@@ -45,7 +44,7 @@ use Rattle.xdg_principles.specs.declared.principle.Which.TheVariants as nth
 use Rattle.xdg_principles.specs.Principles.{principle_named, parameters, dims_in, linking, labels_to_labels}
 use Rattle.xdg_principles.specs.Typed.{IsTypedUse, IsTypedMember, IsElementOf, number_of, labels_at}
 use Rattle.xdg_principles.specs.Wanted.{IsSame, IsSetOf, IsMapTo}
-use Rattle.xdg_build.specs.Features.{feature_dim, members_in, rows_in}
+use Rattle.xdg_build.specs.Features.{members_in, rows_in}
 use Rattle.xdg_build.specs.Grammars.{Grammar, is_used}
 use Rattle.xdg_build.specs.Groups.{called, features_in, attrs_in, labels_in, truths_in, group_of}
 use Rattle.xdg_build.proofs.Calling.{one_called}
@@ -62,9 +61,11 @@ use Rattle.xdg_build.proofs.Conditions.{Kept, AreWithin}
 use Rattle.xdg_build.proofs.Readings.{edges_same, edges_within, labels_same, value_same, value_below}
 use Rattle.xdg_build.proofs.Told as told
 use Rattle.xdg_build.proofs.Told.{IsTold, on_feature}
-use Rattle.xdg_build.proofs.Different.{one_place}
 use Rattle.xdg_build.proofs.FeatureRows.{same_number, Names, names_number, names_some, same_texts, element, element_right, element_small, member_names, members_below, set_row_is, valency_allows, IsMapRow, map_row_is}
 use Rattle.xdg_facts.proofs.Facts.{then_iff}
+use Rattle.xdg_facts.specs.Membership.{In}
+use Rattle.xdg_terms.proofs.Meant.{one_place}
+use Rattle.xdg_problem.specs.Principles.{name_of, feature_dim, conditions_for}
 
 -- ---- members
 
@@ -181,7 +182,7 @@ module _ (g : Grammar) (words : List SentenceWord) (a : Analysis) (u : Principle
   some_dim : 0 < length u.dims
   some_dim = omega (arith, dims_are, first_within q)
 
-  has_first : HasPlace g.table.used d1
+  has_first : In g.table.used d1
   has_first = told.has_dim g words a u h.table h.lexicon h.used h.right h.is 0 some_dim
 
   first_is : edges_on (first_dim group) a.edges ≡ E1

@@ -5,13 +5,13 @@ use Rattle.std.proofs.lemmas.Bool.{false≢true}
 use Rattle.std.proofs.lemmas.List.{at_drop_all, get_or-map, get_or_default, length-map}
 use Rattle.xdg_domain.specs.declared.types.Ty.{Ty}
 use Rattle.xdg_terms.specs.Built.{place_from}
-use Rattle.xdg_terms.specs.Faults.{has}
 use Rattle.xdg_terms.proofs.Meant.{at_place}
 use Rattle.xdg_types.specs.declared.table.DimType.{DimType}
-use Rattle.xdg_types.specs.Table.{firsts}
-use Rattle.xdg_formula.specs.Tables.{dim_named, dims_at, no_dim, type_named}
+use Rattle.xdg_types.specs.Table.{firsts, dim_named}
+use Rattle.xdg_formula.specs.Tables.{dims_at, no_dim, type_named}
 use Rattle.xdg_build.specs.Places.{IsDimAt, IsPlaceOf, IsTypeAt, names_at}
 use Rattle.xdg_facts.proofs.Texts.{same_text}
+use Rattle.xdg_names.specs.Texts.{has_text}
 
 front : {A : Type 0} (xs : List A) (i : ℕ) (x d : A) → i < length xs → x ≡ get_or xs i d → drop i xs ≡ x ∷ drop (i + 1) xs
 front xs i x d l is = rw (add-one, drop-cons xs i d) (ap (λ y. y ∷ drop (suc i) xs) (sym is))
@@ -32,16 +32,16 @@ module _ {A : Type 0} (text : A → List ℕ) (xs : List A) (i : ℕ) (name : Li
   none_left : length xs ≤ i → place_from 0 (map text xs) name ≡ None
   none_left over = sym so_far ∙ at_drop_all (λ ys. place_from i (map text ys) name) xs i over
 
-has_place : (at : ℕ) (texts : List (List ℕ)) (name : List ℕ) → has texts name ≡ true → place_from at texts name ≡ None → ⊥
+has_place : (at : ℕ) (texts : List (List ℕ)) (name : List ℕ) → has_text texts name ≡ true → place_from at texts name ≡ None → ⊥
 has_place at [] name there none = false≢true there
 has_place at (text ∷ texts) name there none = by (bytes_eq text name) refl (has_place (at + 1) texts name)
   where
-    by : (b : Bool) → bytes_eq text name ≡ b → (has texts name ≡ true → place_from (at + 1) texts name ≡ None → ⊥) → ⊥
+    by : (b : Bool) → bytes_eq text name ≡ b → (has_text texts name ≡ true → place_from (at + 1) texts name ≡ None → ⊥) → ⊥
     by true e later = (let here : Some at ≡ None = ap (λ c. if c then Some at else place_from (at + 1) texts name) (sym e) ∙ none in cc)
-    by false e later = later (ap (λ c. c || has texts name) (sym e) ∙ there) (ap (λ c. if c then Some at else place_from (at + 1) texts name) (sym e) ∙ none)
+    by false e later = later (ap (λ c. c || has_text texts name) (sym e) ∙ there) (ap (λ c. if c then Some at else place_from (at + 1) texts name) (sym e) ∙ none)
 
 -- it stands somewhere
-pub place_somewhere : {A : Type 0} (text : A → List ℕ) (xs : List A) (i : ℕ) (name : List ℕ) → place_from i (map text (drop i xs)) name ≡ place_from 0 (map text xs) name → length xs ≤ i → has (map text xs) name ≡ true → ⊥
+pub place_somewhere : {A : Type 0} (text : A → List ℕ) (xs : List A) (i : ℕ) (name : List ℕ) → place_from i (map text (drop i xs)) name ≡ place_from 0 (map text xs) name → length xs ≤ i → has_text (map text xs) name ≡ true → ⊥
 place_somewhere text xs i name so_far over there = has_place 0 (map text xs) name there (none_left text xs i name so_far over)
 
 -- ---- texts themselves
@@ -62,8 +62,8 @@ module _ (xs : List (List ℕ)) (i : ℕ) (name : List ℕ) (so_far : place_from
     text_later other =
         ap (λ ys. place_from (i + 1) ys name) (sym (same_map (drop (i + 1) xs))) ∙ place_later (λ y. y) xs i name mapped x x l is other ∙ ap (λ ys. place_from 0 ys name) (same_map xs)
 
-  pub text_somewhere : length xs ≤ i → has xs name ≡ true → ⊥
-  text_somewhere over there = place_somewhere (λ y. y) xs i name mapped over (subst (λ ys. has ys name ≡ true) (sym (same_map xs)) there)
+  pub text_somewhere : length xs ≤ i → has_text xs name ≡ true → ⊥
+  text_somewhere over there = place_somewhere (λ y. y) xs i name mapped over (subst (λ ys. has_text ys name ≡ true) (sym (same_map xs)) there)
 
 -- ---- dimensions
 
@@ -115,14 +115,14 @@ dim_from dims (k ∷ used) name at n h = by (bytes_eq (get_or dims k no_dim).nam
 pub dim_at : (dims : List DimType) (used : List ℕ) (name : List ℕ) (n : ℕ) → IsPlaceOf (names_at dims used) name n → IsDimAt (dims_at dims used) name n
 dim_at dims used name n h = (let found = dim_from dims used name 0 n h in let e : found.0 ≡ n = (let is = found.1 in omega (arith, is)) in subst (IsDimAt (dims_at dims used) name) e found.2)
 
-pub dim_has : (dims : List DimType) (used : List ℕ) (name : List ℕ) (found : DimType) → dim_named (dims_at dims used) name ≡ Some found → has (names_at dims used) name ≡ true
+pub dim_has : (dims : List DimType) (used : List ℕ) (name : List ℕ) (found : DimType) → dim_named (dims_at dims used) name ≡ Some found → has_text (names_at dims used) name ≡ true
 dim_has dims [] name found h = absurd (cc)
 dim_has dims (k ∷ used) name found h = by (bytes_eq (get_or dims k no_dim).name name) refl h (dim_has dims used name found)
   where
     by : (b : Bool) → bytes_eq (get_or dims k no_dim).name name ≡ b → (if b then Some (get_or dims k no_dim) else dim_named (dims_at dims used) name) ≡ Some found
-        → (dim_named (dims_at dims used) name ≡ Some found → has (names_at dims used) name ≡ true) → has (names_at dims (k ∷ used)) name ≡ true
-    by true e is later = ap (λ b. b || has (names_at dims used) name) e
-    by false e is later = ap (λ b. b || has (names_at dims used) name) e ∙ later is
+        → (dim_named (dims_at dims used) name ≡ Some found → has_text (names_at dims used) name ≡ true) → has_text (names_at dims (k ∷ used)) name ≡ true
+    by true e is later = ap (λ b. b || has_text (names_at dims used) name) e
+    by false e is later = ap (λ b. b || has_text (names_at dims used) name) e ∙ later is
 
 pub dim_below : (dims : List DimType) (used : List ℕ) (name : List ℕ) (n : ℕ) → IsPlaceOf (names_at dims used) name n → n < length used
 dim_below dims used name n h = (let within = (at_place (names_at dims used) name n h).0 in omega (arith, within, length-map used (λ k. (get_or dims k no_dim).name)))
@@ -153,10 +153,10 @@ type_from (one ∷ all) name at n h = by (bytes_eq one.0 name) refl h (type_from
 pub type_found : (all : List (List ℕ × Ty)) (name : List ℕ) (n : ℕ) → IsPlaceOf (firsts all) name n → (type : Ty) × IsTypeAt all name n type
 type_found all name n h = (let found = type_from all name 0 n h in let e : found.0 ≡ n = (let is = found.1 in omega (arith, is)) in (found.2, subst (λ i. IsTypeAt all name i found.2) e found.3))
 
-pub type_has : (all : List (List ℕ × Ty)) (name : List ℕ) (type : Ty) → type_named all name ≡ Some type → has (firsts all) name ≡ true
+pub type_has : (all : List (List ℕ × Ty)) (name : List ℕ) (type : Ty) → type_named all name ≡ Some type → has_text (firsts all) name ≡ true
 type_has [] name type h = absurd (cc)
 type_has (one ∷ all) name type h = by (bytes_eq one.0 name) refl h (type_has all name type)
   where
-    by : (b : Bool) → bytes_eq one.0 name ≡ b → (if b then Some one.1 else type_named all name) ≡ Some type → (type_named all name ≡ Some type → has (firsts all) name ≡ true) → has (firsts (one ∷ all)) name ≡ true
-    by true e is later = ap (λ b. b || has (firsts all) name) e
-    by false e is later = ap (λ b. b || has (firsts all) name) e ∙ later is
+    by : (b : Bool) → bytes_eq one.0 name ≡ b → (if b then Some one.1 else type_named all name) ≡ Some type → (type_named all name ≡ Some type → has_text (firsts all) name ≡ true) → has_text (firsts (one ∷ all)) name ≡ true
+    by true e is later = ap (λ b. b || has_text (firsts all) name) e
+    by false e is later = ap (λ b. b || has_text (firsts all) name) e ∙ later is

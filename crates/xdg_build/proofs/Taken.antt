@@ -15,11 +15,11 @@ use Rattle.xdg_problem.specs.declared.parts.Parts.{Parts}
 use Rattle.xdg_problem.specs.declared.parts.Principle.{Principle}
 use Rattle.xdg_problem.specs.declared.parts.Principle.TheVariants as principles
 use Rattle.xdg_problem.specs.Arguments.{first_dim, second_dim, label_count, value_count, attr_of}
-use Rattle.xdg_problem.specs.Problems.{AreFeatures, AreSets, IsSet, IsValency, IsCardinality}
 use Rattle.xdg_build.proofs.Forms.{form_of, feature_typings, attr_typings}
 use Rattle.xdg_build.proofs.Said.{FitAll}
 use Rattle.xdg_build.proofs.TypeRows.{size}
 use Rattle.xdg_facts.proofs.Lists.{all_cons, all_one}
+use Rattle.xdg_problem.specs.Principles.{IsCardinality, IsValency, IsSet, AreSets, AreFeatures}
 
 -- the first attribute is one of the shared type
 abbrev pub SharesFirst : List (Which × Typing) → Type 0
@@ -60,15 +60,6 @@ two_valencies labels shared rows (f ∷ g ∷ []) long h =
 two_valencies labels shared rows (f ∷ g ∷ k ∷ feats) long h = absurd h.1.1
 
 pub taken : (p : Principle) (parts : Parts) (group : Group) (labels : Which → List (List ℕ)) (shared : Shape) (feats : List Feat) → Sizes p parts group labels shared → FitAll labels shared (feature_typings p) feats → AreFeatures p parts group feats
-taken principles.Graph parts group labels shared feats sizes h = none labels shared feats h
-taken (principles.Rule formula) parts group labels shared feats sizes h = none labels shared feats h
-taken (principles.Bound costs bound) parts group labels shared feats sizes h = none labels shared feats h
-taken principles.Entries parts group labels shared feats sizes h = none labels shared feats h
-taken principles.Tree parts group labels shared feats sizes h = none labels shared feats h
-taken principles.Projectivity parts group labels shared feats sizes h = none labels shared feats h
-taken principles.Dag parts group labels shared feats sizes h = none labels shared feats h
-taken principles.Order parts group labels shared feats sizes h = none labels shared feats h
-taken principles.Climbing parts group labels shared feats sizes h = none labels shared feats h
 taken principles.Valency parts group labels shared feats sizes h = two_valencies labels shared (label_count parts (first_dim group)) feats sizes.first h
 taken principles.Agr parts group labels shared feats sizes h = one_set labels shared w.First e.Shared (value_count parts (first_dim group) (attr_of group 0)) feats (sizes.values tt) h
 taken principles.Agreement parts group labels shared feats sizes h = one_set labels shared w.First (e.Labels w.First) (label_count parts (first_dim group)) feats sizes.first h
@@ -81,3 +72,4 @@ taken principles.LinkingBelowStart parts group labels shared feats sizes h = one
 taken principles.LinkingAboveStart parts group labels shared feats sizes h = one_map labels shared w.Third (e.Labels w.Second) (label_count parts (first_dim group)) (label_count parts (second_dim group)) feats sizes.first (sizes.second (omega arith)) h
 taken principles.LinkingSisters parts group labels shared feats sizes h = one_map labels shared w.Third (e.Labels w.Second) (label_count parts (first_dim group)) (label_count parts (second_dim group)) feats sizes.first (sizes.second (omega arith)) h
 taken principles.LinkingNotDaughter parts group labels shared feats sizes h = one_set labels shared w.Third (e.Labels w.First) (label_count parts (first_dim group)) feats sizes.first h
+taken principle parts group labels shared feats sizes h = none labels shared feats h

@@ -21,7 +21,7 @@ use Rattle.xdg_problem.specs.Analyses.{HasCandidates}
 use Rattle.xdg_problem.specs.Features.{row}
 use Rattle.xdg_problem.specs.Vectors.{entry_places}
 use Rattle.xdg_types.specs.declared.table.DimType.{DimType}
-use Rattle.xdg_types.specs.Table.{Typed, typed, IsTable, KeepsDim, KeepDims, AreFeatures, AreAttributes, HasPlace}
+use Rattle.xdg_types.specs.Table.{Typed, typed, IsTable, KeepsDim, KeepDims, AreFeatures, AreAttributes}
 use Rattle.xdg_packed.specs.Entries.{IsWhole, IsEntry, IsRightLexicon}
 use Rattle.xdg_principles.specs.declared.building.Arg.{Arg}
 use Rattle.xdg_principles.specs.declared.building.Arg.TheVariants as arg
@@ -30,16 +30,18 @@ use Rattle.xdg_principles.specs.declared.principle.Sort.TheVariants as sorts
 use Rattle.xdg_principles.specs.declared.principle.Typing.{Typing}
 use Rattle.xdg_principles.specs.declared.principle.Which.{Which}
 use Rattle.xdg_principles.specs.Typed.{IsTypedUse, IsTypedMember, number_of, labels_at}
-use Rattle.xdg_build.specs.Features.{rows_in, rows_of, feature, feature_dim}
+use Rattle.xdg_build.specs.Features.{rows_in, rows_of, feature}
 use Rattle.xdg_build.specs.Grammars.{Grammar, is_used, no_dim, used_place}
 use Rattle.xdg_build.specs.Groups.{called, features_in, features_at, group_of, dims_of}
 use Rattle.xdg_build.proofs.Dimensions.{Home, home_of, has_place, is_used_home, labels-home, members-home}
-use Rattle.xdg_build.proofs.Lists.{in_at}
 use Rattle.xdg_build.proofs.Said as reading
 use Rattle.xdg_build.specs.Readings.{dimension, type_at, record_for, entry_at, said_for, OnFeature, feature_place}
 use Rattle.xdg_build.specs.Solutions.{IsAnalysisOf}
 use Rattle.xdg_build.proofs.Readings.{record_same, entry_within}
 use Rattle.xdg_build.proofs.EntryRows.{of_entries}
+use Rattle.xdg_facts.specs.Membership.{In}
+use Rattle.xdg_facts.proofs.In.{in_get}
+use Rattle.xdg_problem.specs.Principles.{feature_dim}
 
 abbrev dim_id : ℕ → DimId
 dim_id n = record { 0 = n }
@@ -79,8 +81,8 @@ module _ (g : Grammar) (words : List SentenceWord) (a : Analysis) (u : Principle
   abbrev pub dim_number : Which → ℕ
   dim_number which = get_or u.dims (number_of which) 0
 
-  pub has_dim : (m : ℕ) → m < length u.dims → HasPlace g.table.used (get_or u.dims m 0)
-  has_dim m within = right.used (has_place g.table.used u.home used) (get_or u.dims m 0) (in_at u.dims m 0 within)
+  pub has_dim : (m : ℕ) → m < length u.dims → In g.table.used (get_or u.dims m 0)
+  has_dim m within = right.used (has_place g.table.used u.home used) (get_or u.dims m 0) (in_get u.dims m 0 within)
 
   -- the dimension with that number, compiled
   pub dim_same : (m : ℕ) → m < length u.dims → (get_or (dims_of g u) m (record { 0 = 0 })).0 ≡ used_place g.table (get_or u.dims m 0)

@@ -4,7 +4,7 @@ use Rattle.std.specs.Prelude.{All, Option, None, Some, MatchOption}
 use Rattle.std.specs.List.Sorted.{IsStrictlyIncreasing}
 use Rattle.std.proofs.lemmas.Bool.{cases_eq}
 use Rattle.std.proofs.lemmas.List.{length-map}
-use Rattle.xdg_domain.specs.Cards.{IsCards, Rises}
+use Rattle.xdg_domain.specs.Cards.{IsCards}
 use Rattle.xdg_domain.specs.Defaults.{IsFilledIn}
 use Rattle.xdg_domain.specs.Shapes.{Shape, domain, tuple, set, iset, valency, mapping, Shapes, no_shape, shape_then, constants, constants_of, sizes, product, count}
 use Rattle.xdg_domain.specs.Valencies.{said_at, KeysRise}
@@ -19,10 +19,11 @@ use Rattle.xdg_principles.specs.declared.principle.Typing.TheVariants as t
 use Rattle.xdg_principles.specs.declared.principle.Which.{Which}
 use Rattle.xdg_principles.specs.Typed.{IsElementOf, IsTypedAs}
 use Rattle.xdg_principles.specs.Wanted.{IsSame, IsSetOf}
-use Rattle.xdg_problem.specs.Problems.{IsCardinality, IsSet}
 use Rattle.xdg_build.specs.Features.{members_in, rows_in}
 use Rattle.xdg_build.proofs.Cardinalities.{increases}
 use Rattle.xdg_facts.proofs.Lists.{all_none, all_cons, all_one}
+use Rattle.xdg_facts.specs.Rises.{Rises}
+use Rattle.xdg_problem.specs.Principles.{IsCardinality, IsSet}
 
 -- ---- how many elements
 

@@ -15,18 +15,19 @@ use Rattle.xdg_problem.specs.Analyses.{IsAnalysis, IsPlace}
 use Rattle.xdg_problem.specs.Arguments.{label_count, attr_count, no_plan}
 use Rattle.xdg_problem.specs.Paths.{edges_on}
 use Rattle.xdg_types.specs.declared.table.DimType.{DimType}
-use Rattle.xdg_types.specs.Table.{Table, IsTable, HasPlace, ArePlaces, typed}
+use Rattle.xdg_types.specs.Table.{Table, IsTable, ArePlaces, typed, dim_named}
 use Rattle.xdg_build.specs.Grammars.{Grammar}
 use Rattle.xdg_build.specs.Plans.{attr_plan}
 use Rattle.xdg_build.specs.Readings.{dimension, edges_in}
-use Rattle.xdg_build.proofs.Different.{one_place}
 use Rattle.xdg_build.proofs.Readings.{stands_at}
-use Rattle.xdg_formula.specs.Tables.{dim_named, no_dim, used_dims}
+use Rattle.xdg_formula.specs.Tables.{no_dim, used_dims}
 use Rattle.xdg_packed.specs.Lexicon.{Lexicon}
 use Rattle.xdg_build.specs.Places.{IsDimAt}
 use Rattle.xdg_build.specs.Problems.{IsPlanOf, IsFor}
 use Rattle.xdg_build.specs.Truths.{IsCalled}
 use Rattle.xdg_facts.proofs.Lists.{zip_length}
+use Rattle.xdg_facts.specs.Membership.{In}
+use Rattle.xdg_terms.proofs.Meant.{one_place}
 
 -- ---- lists side by side
 
@@ -38,7 +39,7 @@ zip_at R (x ∷ xs) (y ∷ ys) (suc i) d e zip l = zip_at R xs ys i d e zip.1 (o
 
 -- ---- places of used dimensions
 
-pub below_of : (bound : ℕ) (used : List ℕ) (k : ℕ) → ArePlaces bound used → HasPlace used k → k < bound
+pub below_of : (bound : ℕ) (used : List ℕ) (k : ℕ) → ArePlaces bound used → In used k → k < bound
 below_of bound [] k are has = absurd has
 below_of bound (j ∷ used) k are has = elim has [ inl same ↦ subst (λ m. m < bound) same are.0.0 | inr later ↦ below_of bound used k are.1 later ]
 
@@ -46,8 +47,8 @@ below_of bound (j ∷ used) k are has = elim has [ inl same ↦ subst (λ m. m <
 differ_at : (bound : ℕ) (used : List ℕ) (i j : ℕ) → ArePlaces bound used → i < length used → j < length used → get_or used i 0 ≡ get_or used j 0 → i ≡ j
 differ_at bound [] i j are l m same = absurd (omega (arith, l))
 differ_at bound (k ∷ used) zero zero are l m same = refl
-differ_at bound (k ∷ used) zero (suc j) are l m same = (let n : j < length used = omega (arith, m) in absurd (are.0.1 (subst (HasPlace used) (sym same) (stands_at used j n))))
-differ_at bound (k ∷ used) (suc i) zero are l m same = (let n : i < length used = omega (arith, l) in absurd (are.0.1 (subst (HasPlace used) same (stands_at used i n))))
+differ_at bound (k ∷ used) zero (suc j) are l m same = (let n : j < length used = omega (arith, m) in absurd (are.0.1 (subst (In used) (sym same) (stands_at used j n))))
+differ_at bound (k ∷ used) (suc i) zero are l m same = (let n : i < length used = omega (arith, l) in absurd (are.0.1 (subst (In used) same (stands_at used i n))))
 differ_at bound (k ∷ used) (suc i) (suc j) are l m same = ap suc (differ_at bound used i j are.1 (omega (arith, l)) (omega (arith, m)) same)
 
 -- ---- dimensions by their names

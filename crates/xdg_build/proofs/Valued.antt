@@ -21,14 +21,16 @@ use Rattle.xdg_problem.specs.Vectors.{attr_sizes}
 use Rattle.xdg_problem.proofs.AttrPlaces.{attr_within}
 use Rattle.xdg_problem.proofs.Counted.{length_attrs_of}
 use Rattle.xdg_types.specs.declared.table.DimType.{DimType}
-use Rattle.xdg_types.specs.Table.{Table, IsTable, HasPlace, ArePlaces, typed}
+use Rattle.xdg_types.specs.Table.{Table, IsTable, ArePlaces, typed}
 use Rattle.xdg_build.specs.Grammars.{Grammar}
 use Rattle.xdg_build.specs.Plans.{attr_plan, shown_as}
 use Rattle.xdg_build.specs.Readings.{dimension, values_before, value_number, type_at}
-use Rattle.xdg_build.proofs.Readings.{stands_at, fits_at, repeated_length, repeated_at}
+use Rattle.xdg_build.proofs.Readings.{stands_at, repeated_length, repeated_at}
 use Rattle.xdg_formula.specs.Tables.{used_dims}
 use Rattle.xdg_build.specs.Problems.{IsPlanOf, IsFor}
 use Rattle.xdg_build.proofs.Used.{among_all, used_within, plan_of, attrs_are}
+use Rattle.xdg_facts.specs.Membership.{In}
+use Rattle.xdg_facts.proofs.Compared.{fits_at}
 
 -- ---- how many values an attribute has
 
@@ -83,7 +85,7 @@ before_same g bound n (j ∷ used) (plan ∷ plans) zero are zip l = ap (λ b. c
 before_same g bound n (j ∷ used) (plan ∷ plans) (suc d) are zip l =
     let inside : d < length used = omega (arith, l) in
     let k : ℕ = get_or used d 0 in
-    ap (λ b. cond b 0 (n * length (dimension g j).attrs + values_before g n used k)) (ne_eqb j k (λ e. are.0.1 (subst (HasPlace used) (sym e) (stands_at used d inside))))
+    ap (λ b. cond b 0 (n * length (dimension g j).attrs + values_before g n used k)) (ne_eqb j k (λ e. are.0.1 (subst (In used) (sym e) (stands_at used d inside))))
     ∙ ap₂ (λ x y. x + y) (sym (length_attrs_of n plan ∙ ap (λ m. n * m) (plan_attrs (dimension g j) plan zip.0))) (before_same g bound n used plans d are.1 zip.1 inside)
     ∙ sym (length-append (flat_map (λ (node : ℕ). map (λ (attr : AttrPlan). length attr.values) plan.attrs) (below n)) (attr_sizes n (take d plans)))
 

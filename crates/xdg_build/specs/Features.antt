@@ -5,8 +5,6 @@ use Rattle.xdg_domain.specs.declared.values.Value.{Value, out-Value}
 use Rattle.xdg_domain.specs.declared.values.Value.TheOpen.{Value-F}
 use Rattle.xdg_packed.specs.Lexicon.{Entry}
 use Rattle.xdg_problem.specs.declared.parts.Feat.{Feat}
-use Rattle.xdg_problem.specs.declared.parts.Principle.{Principle}
-use Rattle.xdg_problem.specs.declared.parts.Principle.TheVariants as principles
 use Rattle.xdg_types.specs.Table.{Table}
 use Rattle.xdg_build.specs.Grammars.{used_place}
 
@@ -26,18 +24,6 @@ rows_in _ = []
 abbrev pub rows_of : Option Value → List (List ℕ)
 rows_of None = []
 rows_of (Some v) = rows_in (out-Value v)
-
--- which of a principle's dimensions has its features: D2 for barriers, D3 for linking, and else D or D1
-abbrev pub feature_dim : Principle → ℕ
-feature_dim principles.Barriers = 1
-feature_dim principles.LinkingEnd = 2
-feature_dim principles.LinkingDaughter = 2
-feature_dim principles.LinkingMother = 2
-feature_dim principles.LinkingBelowStart = 2
-feature_dim principles.LinkingAboveStart = 2
-feature_dim principles.LinkingSisters = 2
-feature_dim principles.LinkingNotDaughter = 2
-feature_dim principle = 0
 
 -- the feature with that place of the dimension with that place among all, as an entry has it
 abbrev pub feature : Table → Entry → ℕ → ℕ → Feat

@@ -8,22 +8,15 @@ use Rattle.xdg_problem.specs.declared.parts.Feat.{Feat}
 use Rattle.xdg_problem.specs.declared.parts.Group.{Group}
 use Rattle.xdg_problem.specs.declared.parts.Principle.{Principle}
 use Rattle.xdg_problem.specs.declared.parts.Principle.TheVariants as principles
-use Rattle.xdg_problem.specs.Names.{name_of}
 use Rattle.xdg_principles.specs.declared.building.Arg.{Arg}
 use Rattle.xdg_principles.specs.declared.building.Arg.TheVariants as g
 use Rattle.xdg_principles.specs.declared.building.PrincipleUse.{PrincipleUse}
 use Rattle.xdg_packed.specs.Lexicon.{Entry}
 use Rattle.xdg_build.specs.Grammars.{Grammar, is_used, used_place}
-use Rattle.xdg_build.specs.Features.{feature, feature_dim}
+use Rattle.xdg_build.specs.Features.{feature}
+use Rattle.xdg_problem.specs.Principles.{name_of, feature_dim, all_principles}
 
 -- ---- principles by name
-
-abbrev pub all_principles : List Principle
-all_principles =
-    principles.Graph ∷ principles.Entries ∷ principles.Tree ∷ principles.Dag ∷ principles.Valency ∷ principles.Order ∷ principles.Projectivity
-    ∷ principles.Agr ∷ principles.Agreement ∷ principles.Government ∷ principles.Climbing ∷ principles.Barriers
-    ∷ principles.LinkingEnd ∷ principles.LinkingDaughter ∷ principles.LinkingMother ∷ principles.LinkingBelowStart ∷ principles.LinkingAboveStart
-    ∷ principles.LinkingSisters ∷ principles.LinkingNotDaughter ∷ []
 
 -- the first of these principles with that name, and graph where there is none
 abbrev pub called_in : List Principle → List ℕ → Principle

@@ -4,10 +4,10 @@ use Rattle.std.specs.List.{AllZip}
 use Rattle.xdg_problem.specs.declared.parts.Feat.{Feat}
 use Rattle.xdg_principles.specs.declared.building.PrincipleUse.{PrincipleUse}
 use Rattle.xdg_build.specs.declared.records.Records.{Records}
-use Rattle.xdg_build.specs.Features.{feature_dim}
 use Rattle.xdg_build.specs.Grammars.{Grammar, used_place}
 use Rattle.xdg_build.specs.Groups.{called, features_in}
 use Rattle.xdg_build.specs.Rows.{AreKept}
+use Rattle.xdg_problem.specs.Principles.{feature_dim}
 
 -- the place among the used ones of the dimension that has the features of a principle use
 abbrev pub features_dim : Grammar → PrincipleUse → ℕ

@@ -5,9 +5,10 @@ use Rattle.xdg_domain.specs.Shapes.{Shape, count}
 use Rattle.xdg_domain.specs.declared.types.Ty.{Ty}
 use Rattle.xdg_terms.specs.Built.{place_from}
 use Rattle.xdg_types.specs.declared.table.DimType.{DimType}
-use Rattle.xdg_formula.specs.Tables.{dim_named, no_dim, type_named}
+use Rattle.xdg_formula.specs.Tables.{no_dim, type_named}
 use Rattle.xdg_build.specs.Readings.{value_texts}
 use Rattle.xdg_build.specs.Truths.{constants_of}
+use Rattle.xdg_types.specs.Table.{dim_named}
 
 -- of these texts the one with that place is the first that is the name
 abbrev pub IsPlaceOf : List (List ℕ) → List ℕ → ℕ → Type 0

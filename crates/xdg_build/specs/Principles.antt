@@ -7,13 +7,13 @@ use Rattle.xdg_problem.specs.declared.parts.Principle.{Principle}
 use Rattle.xdg_problem.specs.declared.parts.Principle.TheVariants as principles
 use Rattle.xdg_problem.specs.declared.parts.SentenceWord.{SentenceWord}
 use Rattle.xdg_problem.specs.Asking.{IsBetween}
-use Rattle.xdg_problem.specs.Names.{name_of}
 use Rattle.xdg_problem.specs.Paths.{edges_into, edges_out_of, edges_joining, mothers, roots, IsDaughter, Above, Leads}
 use Rattle.xdg_principles.specs.declared.building.Arg.TheVariants as arg
 use Rattle.xdg_principles.specs.declared.building.PrincipleUse.{PrincipleUse}
 use Rattle.xdg_build.specs.Grammars.{Grammar}
 use Rattle.xdg_build.specs.Readings.{IsMember, IsMemberAt, IsAllowedAt, argument, feature_place, attribute_place, label_places}
 use Rattle.xdg_build.specs.Readings.{dimension, label_text, edges_in, OnFeature, value_of}
+use Rattle.xdg_problem.specs.Principles.{name_of}
 
 -- ---- paths
 

@@ -1,11 +1,11 @@
 -- For which candidates an atom about a feature is true.
 use Rattle.std.specs.Prelude.{ℕ, ◌==◌, Bool, false, List, [], map, get_or, Option, None, Some}
 use Rattle.xdg_base.specs.declared.ids.EntryNo.{EntryNo}
-use Rattle.xdg_domain.specs.Cards.{has}
 use Rattle.xdg_domain.specs.Valencies.{said_at}
 use Rattle.xdg_domain.specs.declared.values.Value.{Value, out-Value}
 use Rattle.xdg_domain.specs.declared.values.Value.TheOpen.{Value-F}
 use Rattle.xdg_packed.specs.Lexicon.{Entry}
+use Rattle.xdg_facts.specs.Rises.{has}
 
 -- a value is the one with that number, or a set that has it
 abbrev pub is_or_has : Value-F Value → ℕ → Bool

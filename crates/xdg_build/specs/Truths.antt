@@ -11,12 +11,13 @@ use Rattle.xdg_domain.specs.declared.values.Value.TheOpen.{Value-F}
 use Rattle.xdg_problem.specs.declared.analysis.Analysis.{Analysis}
 use Rattle.xdg_problem.specs.Paths.{Above}
 use Rattle.xdg_packed.specs.Lexicon.{Lexicon}
-use Rattle.xdg_types.specs.Table.{Table, HasPlace, firsts}
+use Rattle.xdg_types.specs.Table.{Table, firsts}
 use Rattle.xdg_build.specs.Grammars.{Grammar}
 use Rattle.xdg_build.specs.Readings.{IsMember, OnFeature, dimension, edges_in, label_text, value_of, value_texts}
 use Rattle.xdg_formula.specs.declared.tree.Rule.{Rule}
 use Rattle.xdg_formula.specs.Written.{Tree, negation, conjunction, disjunction, every, any, edge, above, left, same, attr, feat}
 use Rattle.xdg_formula.specs.Written.{Trees, no_tree, tree_then, tree}
+use Rattle.xdg_facts.specs.Membership.{In}
 
 -- ---- values
 
@@ -61,7 +62,7 @@ module _ (table : Table) (lexicon : Lexicon) (nodes : ℕ) (a : Analysis) where
 
   -- the dimension with that place among all is used, and has that name
   abbrev pub IsCalled : List ℕ → ℕ → Type 0
-  IsCalled name k = HasPlace g.table.used k × ((dimension g k).name ≡ name)
+  IsCalled name k = In g.table.used k × ((dimension g k).name ≡ name)
 
   -- on the dimension an edge with the label leads from u to v
   abbrev pub Joins : List ℕ → ℕ → List ℕ → ℕ → Type 0

@@ -2,7 +2,7 @@
 //! bound. The time of each is linear in their number.
 
 ghost use Rattle.std.specs.Prelude.{◌≡◌, ◌<◌, ◌≤◌, true, length, map, get_or, All};
-ghost use Rattle.xdg_terms.specs.Faults.{has};
+ghost use Rattle.xdg_names.specs.Texts.{has_text};
 ghost use Rattle.xdg_types.specs.Table.{IsTable, firsts};
 ghost use Rattle.xdg_formula.specs.Tables.{no_dim, used_dims};
 ghost use Rattle.xdg_build.specs.Places.{IsPlaceOf, names_at};
@@ -14,7 +14,7 @@ use xdg_types::{DimType, TypeTable};
 
 /// The number of a node's name: its place among the names that are bound.
 pub(crate) fn node_number(bound: &[&str], name: &Name) -> u8
-    requires known { has (map (λ text. text.now) bound.now) name.now.text ≡ true }
+    requires known { has_text (map (λ text. text.now) bound.now) name.now.text ≡ true }
     requires few { length bound.now ≤ 3 }
     ensures { IsPlaceOf (map (λ text. text.now) bound.now) name.now.text result }
 {
@@ -28,7 +28,7 @@ pub(crate) fn node_number(bound: &[&str], name: &Name) -> u8
 
 /// The number of a label.
 pub(crate) fn label_number(labels: &[Text], label: &Name) -> u8
-    requires known { has labels.now label.now.text ≡ true }
+    requires known { has_text labels.now label.now.text ≡ true }
     requires few { length labels.now ≤ 32 }
     ensures { IsPlaceOf labels.now label.now.text result }
 {
@@ -42,7 +42,7 @@ pub(crate) fn label_number(labels: &[Text], label: &Name) -> u8
 
 /// The place of a dimension among those with these places.
 fn dim_place(dims: &[DimType], used: &[usize], name: &Name) -> usize
-    requires known { has (names_at dims.now used.now) name.now.text ≡ true }
+    requires known { has_text (names_at dims.now used.now) name.now.text ≡ true }
     requires used { All (λ k. k < length dims.now) used.now }
     ensures { IsPlaceOf (names_at dims.now used.now) name.now.text result }
 {
@@ -57,7 +57,7 @@ fn dim_place(dims: &[DimType], used: &[usize], name: &Name) -> usize
 
 /// The number of a dimension: its place among the used ones.
 pub(crate) fn dim_number(types: &TypeTable, name: &Name) -> u8
-    requires { has (names_at types.now.dims types.now.used) name.now.text ≡ true }
+    requires { has_text (names_at types.now.dims types.now.used) name.now.text ≡ true }
     ensures at { IsPlaceOf (names_at types.now.dims types.now.used) name.now.text result }
     ensures keeps { IsTable types.now }
 {
@@ -75,7 +75,7 @@ pub(crate) fn dim_type(types: &TypeTable, number: u8) -> &DimType
 
 /// The place of an attribute or a feature.
 pub(crate) fn type_place(all: &[(Text, Ty)], name: &Name) -> usize
-    requires { has (firsts all.now) name.now.text ≡ true }
+    requires { has_text (firsts all.now) name.now.text ≡ true }
     ensures { IsPlaceOf (firsts all.now) name.now.text result }
 {
     for (place, one) in all.iter().enumerate() {

@@ -3,13 +3,13 @@
 ghost use Rattle.std.specs.Prelude.{◌≡◌, ◌≤◌, ◌==◌, length, map, get_or, IfOk};
 ghost use Rattle.std.specs.List.{list_any};
 ghost use Rattle.xdg_base.specs.declared.ids.DimId.{DimId};
-ghost use Rattle.xdg_build.specs.Features as features;
+ghost use Rattle.xdg_problem.specs.Principles as rows;
 ghost use Rattle.xdg_build.specs.Grammars as grammars;
 ghost use Rattle.xdg_build.specs.Groups as groups;
 
 use std::alloc::{AllocError, Global};
 use xdg_base::{DimId, List};
-use xdg_problem::{Principle, principle_named};
+use xdg_problem::{Principle, feature_dim, principle_named};
 
 /// The principle with that name, and graph where there is none.
 pub(crate) fn principle_called(name: &str) -> Principle
@@ -18,35 +18,6 @@ pub(crate) fn principle_called(name: &str) -> Principle
     match principle_named(name) {
         None => Principle::Graph,
         Some(principle) => principle,
-    }
-}
-
-/// Which of a principle's dimensions has its features.
-fn feature_dim(principle: &Principle) -> usize
-    ensures { result ≡ features.feature_dim principle.now }
-{
-    match principle {
-        Principle::Barriers => 1,
-        Principle::LinkingEnd
-        | Principle::LinkingDaughter
-        | Principle::LinkingMother
-        | Principle::LinkingBelowStart
-        | Principle::LinkingAboveStart
-        | Principle::LinkingSisters
-        | Principle::LinkingNotDaughter => 2,
-        Principle::Graph
-        | Principle::Entries
-        | Principle::Tree
-        | Principle::Dag
-        | Principle::Valency
-        | Principle::Order
-        | Principle::Projectivity
-        | Principle::Agr
-        | Principle::Agreement
-        | Principle::Government
-        | Principle::Climbing
-        | Principle::Rule(_)
-        | Principle::Bound(_, _) => 0,
     }
 }
 
@@ -73,7 +44,7 @@ pub(crate) fn place_in(used: &[usize], place: usize) -> usize
 
 /// The place among the used ones of the dimension that has the features of a principle with these dimensions.
 pub(crate) fn feature_place(used: &[usize], principle: &Principle, dims: &[usize]) -> usize
-    ensures { result ≡ grammars.place_in used.now (get_or dims.now (features.feature_dim principle.now) 0) }
+    ensures { result ≡ grammars.place_in used.now (get_or dims.now (rows.feature_dim principle.now) 0) }
 {
     match dims.get(feature_dim(principle)) {
         None => place_in(used, 0),

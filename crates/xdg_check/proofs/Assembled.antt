@@ -2,8 +2,6 @@
 use Rattle.std.proofs.lemmas.List.{append-nil, drop_all, take_all, length-map}
 use Rattle.std.proofs.Common.{◌≡◌, ◌++◌, take, drop, length, arith, Some, Err, inl, inr, ℕ, List, [], map, refl, sym, ap, ◌∙◌, subst}
 use Rattle.xdg_base.specs.declared.faults.Fault.{Fault}
-use Rattle.xdg_domain.specs.Shapes.{Differ}
-use Rattle.xdg_names.specs.First.{In}
 use Rattle.xdg_types.specs.Answers.{None_of}
 use Rattle.xdg_types.specs.Parts.{Statement}
 use Rattle.xdg_base.specs.declared.faults.Stop.{Stop}
@@ -13,7 +11,7 @@ use Rattle.xdg_classes.specs.Graph.{CycleOffends}
 use Rattle.xdg_classes.specs.Names as c
 use Rattle.xdg_types.specs.Table.{Table, IsTable}
 use Rattle.xdg_classes.specs.Bodies.{body}
-use Rattle.xdg_classes.specs.Definitions.{classes, class_names, texts, entries}
+use Rattle.xdg_classes.specs.Definitions.{classes, class_names, entries}
 use Rattle.xdg_classes.specs.Lent.{class_def}
 use Rattle.xdg_classes.specs.Ordered.{OrdersClasses, TellsClasses}
 use Rattle.xdg_classes.specs.declared.lookup.Classes.{Classes}
@@ -33,6 +31,8 @@ use Rattle.xdg_check.proofs.Keeping.{RightBodies, right_body}
 use Rattle.xdg_check.proofs.Placing.{bare_classes, is_order}
 use Rattle.xdg_check.proofs.Sound.{right_bodies}
 use Rattle.xdg_check.proofs.Sources.{source_of, entry_of, same_names, class_scoped, class_body, entry_scoped, entry_body}
+use Rattle.xdg_facts.specs.Membership.{In, Differ}
+use Rattle.xdg_ast.specs.Texts.{texts}
 
 -- ---- the classes
 

@@ -7,25 +7,25 @@ use Rattle.xdg_ast.specs.declared.names.Name.{Name}
 use Rattle.xdg_ast.specs.declared.names.Pair.{Pair}
 use Rattle.xdg_ast.specs.declared.grammar.ClassParam.{ClassParam}
 use Rattle.xdg_base.specs.declared.faults.Cause.TheVariants as causes
-use Rattle.xdg_domain.specs.Shapes.{Among, Differ}
-use Rattle.xdg_names.specs.First.{In}
-use Rattle.xdg_names.proofs.In.{in_append, in_left, in_right}
 use Rattle.xdg_names.specs.Texts.{has_text}
 use Rattle.xdg_types.specs.Answers.{None_of}
 use Rattle.xdg_types.specs.Names.{fault_at}
-use Rattle.xdg_types.specs.Parts.{Statement}
+use Rattle.xdg_types.specs.Parts.{Statement, keys}
 use Rattle.xdg_types.specs.Table.{Table}
-use Rattle.xdg_types.proofs.Elements.{among_or_not, among_append, among_left, among_right, among_name, differ_append}
+use Rattle.xdg_types.proofs.Elements.{among_or_not, among_name, differ_append}
 use Rattle.xdg_types.proofs.Distinct.{among_has, has_among}
 use Rattle.xdg_classes.specs.Bodies.{Term, Called}
-use Rattle.xdg_classes.specs.Definitions.{ClassDef, classes, class_names, class_named, texts, param_names, keys}
+use Rattle.xdg_classes.specs.Definitions.{ClassDef, classes, class_names, class_named, param_names}
 use Rattle.xdg_classes.specs.Names.{NameOffends, all_calls, once}
-use Rattle.xdg_classes.proofs.NameLaw.{in_map, no_repeat}
+use Rattle.xdg_classes.proofs.NameLaw.{no_repeat}
 use Rattle.xdg_check.specs.declared.checked.Class.{Class}
 use Rattle.xdg_check.specs.Completed.{left_out, preset_pair, bound_by}
 use Rattle.xdg_check.specs.Answers.{AreClassesOf}
 use Rattle.xdg_check.specs.Checked.{IsBound}
 use Rattle.xdg_check.proofs.Sources.{named_in, named_some, made_of, completed_call}
+use Rattle.xdg_facts.specs.Membership.{In, Differ}
+use Rattle.xdg_facts.proofs.In.{in_append, in_left, in_right, map_in}
+use Rattle.xdg_ast.specs.Texts.{texts}
 
 -- ---- the parameters that are left out
 
@@ -38,22 +38,22 @@ left_next known p params =
     let one = (if has_text known p.name.text then [] else preset_pair p.name p.preset) in
     ap texts (map-append (λ (x : Pair Term). x.key) one (left_out known params)) ∙ map-append (λ (n : Name). n.text) (keys one) (keys (left_out known params))
 
-preset_text : (name : Name) (o : Option Term) (t : List ℕ) → Among (texts (keys (preset_pair name o))) t → name.text ≡ t
+preset_text : (name : Name) (o : Option Term) (t : List ℕ) → In (texts (keys (preset_pair name o))) t → name.text ≡ t
 preset_text name None t h = absurd h
 preset_text name (Some x) t h = elim h [ inl e ↦ e | inr k ↦ absurd k ]
 
-one_text : (known : List (List ℕ)) (p : ClassParam) (t : List ℕ) → Among (texts (keys (if has_text known p.name.text then [] else preset_pair p.name p.preset))) t → (has_text known p.name.text ≡ false) × (p.name.text ≡ t)
+one_text : (known : List (List ℕ)) (p : ClassParam) (t : List ℕ) → In (texts (keys (if has_text known p.name.text then [] else preset_pair p.name p.preset))) t → (has_text known p.name.text ≡ false) × (p.name.text ≡ t)
 one_text known p t = by (has_text known p.name.text) refl
   where
-    by : (b : Bool) → has_text known p.name.text ≡ b → Among (texts (keys (if b then [] else preset_pair p.name p.preset))) t → (has_text known p.name.text ≡ false) × (p.name.text ≡ t)
+    by : (b : Bool) → has_text known p.name.text ≡ b → In (texts (keys (if b then [] else preset_pair p.name p.preset))) t → (has_text known p.name.text ≡ false) × (p.name.text ≡ t)
     by true e h = absurd h
     by false e h = (e, preset_text p.name p.preset t h)
 
 -- what is left out is a parameter that isn't given
-left_stands : (known : List (List ℕ)) (params : List ClassParam) (t : List ℕ) → Among (left_texts known params) t → Among (texts (param_names params)) t × (has_text known t ≡ false)
+left_stands : (known : List (List ℕ)) (params : List ClassParam) (t : List ℕ) → In (left_texts known params) t → In (texts (param_names params)) t × (has_text known t ≡ false)
 left_stands known [] t h = absurd h
 left_stands known (p ∷ params) t h =
-    elim (among_append (texts (keys (if has_text known p.name.text then [] else preset_pair p.name p.preset))) (left_texts known params) t (subst (λ ts. Among ts t) (left_next known p params) h)) [
+    elim (in_append (texts (keys (if has_text known p.name.text then [] else preset_pair p.name p.preset))) (left_texts known params) t (subst (λ ts. In ts t) (left_next known p params) h)) [
       | inl a ↦ (let o = one_text known p t a in (inl o.1, subst (λ x. has_text known x ≡ false) o.1 o.0))
       | inr b ↦ (let r = left_stands known params t b in (inr r.0, r.1))
     ]
@@ -74,19 +74,19 @@ left_differ known [] apart = tt
 left_differ known (p ∷ params) apart =
     subst Differ (sym (left_next known p params))
     (differ_append (texts (keys (if has_text known p.name.text then [] else preset_pair p.name p.preset))) (left_texts known params) (one_differs known p) (left_differ known params apart.1)
-    (λ t a b. apart.0 (subst (Among (texts (param_names params))) (sym (one_text known p t a).1) (left_stands known params t b).0)))
+    (λ t a b. apart.0 (subst (In (texts (param_names params))) (sym (one_text known p t a).1) (left_stands known params t b).0)))
 
 -- a parameter that isn't given, and has a default, is left out
-left_has : (known : List (List ℕ)) (params : List ClassParam) (p : ClassParam) → In params p → has_text known p.name.text ≡ false → (p.preset ≡ None → ⊥) → Among (left_texts known params) p.name.text
+left_has : (known : List (List ℕ)) (params : List ClassParam) (p : ClassParam) → In params p → has_text known p.name.text ≡ false → (p.preset ≡ None → ⊥) → In (left_texts known params) p.name.text
 left_has known [] p h absent some = absurd h
 left_has known (x ∷ params) p h absent some =
-    subst (λ ts. Among ts p.name.text) (sym (left_next known x params)) (elim h [
-      | inl e ↦ among_left (texts (keys (if has_text known x.name.text then [] else preset_pair x.name x.preset))) (left_texts known params) p.name.text
-          (subst (λ (y : ClassParam). Among (texts (keys (if has_text known y.name.text then [] else preset_pair y.name y.preset))) p.name.text) (sym e) (by (has_text known p.name.text) absent p.preset some))
-      | inr k ↦ among_right (texts (keys (if has_text known x.name.text then [] else preset_pair x.name x.preset))) (left_texts known params) p.name.text (left_has known params p k absent some)
+    subst (λ ts. In ts p.name.text) (sym (left_next known x params)) (elim h [
+      | inl e ↦ in_left (texts (keys (if has_text known x.name.text then [] else preset_pair x.name x.preset))) (left_texts known params) p.name.text
+          (subst (λ (y : ClassParam). In (texts (keys (if has_text known y.name.text then [] else preset_pair y.name y.preset))) p.name.text) (sym e) (by (has_text known p.name.text) absent p.preset some))
+      | inr k ↦ in_right (texts (keys (if has_text known x.name.text then [] else preset_pair x.name x.preset))) (left_texts known params) p.name.text (left_has known params p k absent some)
     ])
   where
-    by : (b : Bool) → b ≡ false → (o : Option Term) → (o ≡ None → ⊥) → Among (texts (keys (if b then [] else preset_pair p.name o))) p.name.text
+    by : (b : Bool) → b ≡ false → (o : Option Term) → (o ≡ None → ⊥) → In (texts (keys (if b then [] else preset_pair p.name o))) p.name.text
     by true e o some = absurd (true≢false e)
     by false e None some = absurd (some refl)
     by false e (Some t) some = inl refl
@@ -122,12 +122,12 @@ module _ (statements : List Statement) (table : Table) (right : None_of (NameOff
   pub params_differ : (c : ClassDef) → In (classes statements) c → Differ (texts (param_names c.params))
   params_differ c h =
       differ (param_names c.params) (inr (in_left (map (λ (x : ClassDef). param_names x.params) (classes statements)) (map (λ (x : Called). keys x.args) (all_calls statements)) (param_names c.params)
-      (in_map (λ (x : ClassDef). param_names x.params) (classes statements) c h)))
+      (map_in (λ (x : ClassDef). param_names x.params) (classes statements) c h)))
 
   keys_differ : (call : Called) → In (all_calls statements) call → Differ (texts (keys call.args))
   keys_differ call h =
       differ (keys call.args) (inr (in_right (map (λ (x : ClassDef). param_names x.params) (classes statements)) (map (λ (x : Called). keys x.args) (all_calls statements)) (keys call.args)
-      (in_map (λ (x : Called). keys x.args) (all_calls statements) call h)))
+      (map_in (λ (x : Called). keys x.args) (all_calls statements) call h)))
 
   -- the class that a use names
   pub class_of : (call : Called) → In (all_calls statements) call → (c : ClassDef) × (class_named (classes statements) call.name.text ≡ Some c)
@@ -137,14 +137,14 @@ module _ (statements : List Statement) (table : Table) (right : None_of (NameOff
         | inr b ↦ absurd (right (fault_at causes.UnknownName call.name.span.start) (inr (inl (record { call = call; stands = h; missing = b; fault = refl }))))
       ])
 
-  key_known : (call : Called) (c : ClassDef) → In (all_calls statements) call → class_named (classes statements) call.name.text ≡ Some c → (key : Name) → In (keys call.args) key → Among (texts (param_names c.params)) key.text
+  key_known : (call : Called) (c : ClassDef) → In (all_calls statements) call → class_named (classes statements) call.name.text ≡ Some c → (key : Name) → In (keys call.args) key → In (texts (param_names c.params)) key.text
   key_known call c h named key i = elim (among_or_not (texts (param_names c.params)) key.text) [
     | inl a ↦ a
     | inr b ↦ absurd (right (fault_at causes.WrongParams key.span.start) (inr (inr (inr (inl (record { call = call; stands = h; class = c; defined = named; key = key; given = i; missing = b; fault = refl }))))))
   ]
 
   given_or_not : (call : Called) (c : ClassDef) → In (all_calls statements) call → class_named (classes statements) call.name.text ≡ Some c → (p : ClassParam) → In c.params p
-      → Among (texts (keys call.args)) p.name.text ⊎ ((has_text (texts (keys call.args)) p.name.text ≡ false) × (p.preset ≡ None → ⊥))
+      → In (texts (keys call.args)) p.name.text ⊎ ((has_text (texts (keys call.args)) p.name.text ≡ false) × (p.preset ≡ None → ⊥))
   given_or_not call c h named p i = elim (among_or_not (texts (keys call.args)) p.name.text) [
     | inl a ↦ inl a
     | inr b ↦ inr (
@@ -153,7 +153,7 @@ module _ (statements : List Statement) (table : Table) (right : None_of (NameOff
     )
   ]
     where
-      absent : (b : Bool) → has_text (texts (keys call.args)) p.name.text ≡ b → (Among (texts (keys call.args)) p.name.text → ⊥) → b ≡ false
+      absent : (b : Bool) → has_text (texts (keys call.args)) p.name.text ≡ b → (In (texts (keys call.args)) p.name.text → ⊥) → b ≡ false
       absent true e none = absurd (none (has_among (texts (keys call.args)) p.name.text e))
       absent false e none = refl
 
@@ -176,17 +176,17 @@ module _ (statements : List Statement) (table : Table) (right : None_of (NameOff
         name = m.1.1.name ∙ at.1;
         once = subst Differ (sym names) (differ_append given (texts (keys left)) (keys_differ call h) (left_differ given c.0.params (params_differ c.0 at.0))
             (λ t a b. true≢false (sym (among_has given t a) ∙ (left_stands given c.0.params t b).1)));
-        known = λ param a. subst (λ ts. Among ts param) (sym own) (elim (among_append given (texts (keys left)) param (subst (λ ts. Among ts param) names a)) [
-          | inl g ↦ (let n = among_name (keys call.args) param g in subst (Among (texts (param_names c.0.params))) n.1.1 (key_known call c.0 h c.1 n.0 n.1.0))
+        known = λ param a. subst (λ ts. In ts param) (sym own) (elim (in_append given (texts (keys left)) param (subst (λ ts. In ts param) names a)) [
+          | inl g ↦ (let n = among_name (keys call.args) param g in subst (In (texts (param_names c.0.params))) n.1.1 (key_known call c.0 h c.1 n.0 n.1.0))
           | inr l ↦ (left_stands given c.0.params param l).0
         ]);
-        given = λ param a. subst (λ ts. Among ts param) (sym names) (let p = param_named c.0.params param (subst (λ ts. Among ts param) own a) in
-            subst (Among (given ++ texts (keys left))) p.1.1 (elim (given_or_not call c.0 h c.1 p.0 p.1.0) [
-              | inl g ↦ among_left given (texts (keys left)) p.0.name.text g
-              | inr l ↦ among_right given (texts (keys left)) p.0.name.text (left_has given c.0.params p.0 p.1.0 l.0 l.1)
+        given = λ param a. subst (λ ts. In ts param) (sym names) (let p = param_named c.0.params param (subst (λ ts. In ts param) own a) in
+            subst (In (given ++ texts (keys left))) p.1.1 (elim (given_or_not call c.0 h c.1 p.0 p.1.0) [
+              | inl g ↦ in_left given (texts (keys left)) p.0.name.text g
+              | inr l ↦ in_right given (texts (keys left)) p.0.name.text (left_has given c.0.params p.0 p.1.0 l.0 l.1)
             ]));
       }
     where
-      param_named : (params : List ClassParam) (t : List ℕ) → Among (texts (param_names params)) t → (p : ClassParam) × (In params p × (p.name.text ≡ t))
+      param_named : (params : List ClassParam) (t : List ℕ) → In (texts (param_names params)) t → (p : ClassParam) × (In params p × (p.name.text ≡ t))
       param_named [] t h = absurd h
       param_named (p ∷ params) t h = elim h [ inl e ↦ (p, (inl refl, e)) | inr k ↦ (let r = param_named params t k in (r.0, (inr r.1.0, r.1.1))) ]

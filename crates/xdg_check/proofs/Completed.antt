@@ -9,9 +9,11 @@ use Rattle.xdg_names.specs.Texts.{has_text}
 use Rattle.xdg_types.specs.NameFaults.{different}
 use Rattle.xdg_types.proofs.Distinct.{same_known}
 use Rattle.xdg_classes.specs.Bodies.{Pairs, Expr, Body, either, both, Bodies, no_body, body_then, body}
-use Rattle.xdg_classes.specs.Definitions.{ClassDef, keys, texts}
+use Rattle.xdg_classes.specs.Definitions.{ClassDef}
+use Rattle.xdg_types.specs.Parts.{keys}
 use Rattle.xdg_classes.proofs.Bodied.{trees, body_or, body_and}
 use Rattle.xdg_check.specs.Completed.{completed, all_completed, left_out, preset_pair}
+use Rattle.xdg_ast.specs.Texts.{texts}
 
 left_same : (a b : List (List ℕ)) → ((t : List ℕ) → has_text a t ≡ has_text b t) → (params : List ClassParam) → left_out a params ≡ left_out b params
 left_same a b h [] = refl

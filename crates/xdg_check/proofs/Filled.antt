@@ -3,9 +3,6 @@ use Rattle.std.proofs.Common.{◌≡◌, ℕ, zero, suc, ◌<◌, ◌≤◌, ◌
 use Rattle.std.proofs.lemmas.Bool.{cases_eq, cases_lt}
 use Rattle.std.proofs.lemmas.List.{length-map}
 use Rattle.std.proofs.lemmas.Option.{slice_get-get_or, slice_get-map}
-use Rattle.xdg_domain.specs.Shapes.{Among, Differ}
-use Rattle.xdg_names.specs.First.{In}
-use Rattle.xdg_names.proofs.In.{in_index}
 use Rattle.xdg_names.specs.Texts.{place_of}
 use Rattle.xdg_classes.specs.Bodies.{Body, body, Called, calls}
 use Rattle.xdg_check.specs.declared.checked.Class.{Class}
@@ -13,8 +10,10 @@ use Rattle.xdg_check.specs.Counts.{Counting, uses, combos, class_texts, Agrees, 
 use Rattle.xdg_check.specs.Checked.{IsOrder}
 use Rattle.xdg_check.specs.Filled.{AreFilled}
 use Rattle.xdg_check.proofs.SameCounts.{same_uses, same_combos, uses_stop, combos_stop}
-use Rattle.xdg_check.proofs.Naming.{in_at_place, name_of_place, names, names_agree, one_naming, in_order}
+use Rattle.xdg_check.proofs.Naming.{name_of_place, names, names_agree, one_naming, in_order}
 use Rattle.xdg_facts.proofs.Lists.{some_at}
+use Rattle.xdg_facts.specs.Membership.{In, Differ}
+use Rattle.xdg_facts.proofs.In.{in_index, in_got}
 
 -- ---- a list with one element changed
 
@@ -41,7 +40,7 @@ bare_texts : (cs : List Class) → class_texts (map bare cs) ≡ class_texts cs
 bare_texts [] = refl
 bare_texts (c ∷ cs) = ap (λ ts. c.name ∷ ts) (bare_texts cs)
 
-at_once : {A : Type 0} (xs : List A) (x : A) → In xs x → (k : ℕ) × (slice_get xs k ≡ Some x)
+pub at_once : {A : Type 0} (xs : List A) (x : A) → In xs x → (k : ℕ) × (slice_get xs k ≡ Some x)
 at_once xs x h = let i = in_index xs x x h in (i.0, slice_get-get_or xs i.0 x i.1.0 ∙ ap Some i.1.1)
 
 module _ (now old : List Class) (bares : map bare now ≡ map bare old) where
@@ -63,8 +62,8 @@ module _ (now old : List Class) (bares : map bare now ≡ map bare old) where
   pub bare_agrees : (count : Counting → Body → ℕ) (names : Counting) → Agrees count old names → Agrees count now names
   bare_agrees count names h = record {
     defined = λ c i. (let k = at_once now c i in let d = bare_at k.0 c k.1 in
-        ap (λ (x : Class). names x.name) d.1.1 ∙ h.defined d.0 (in_at_place old k.0 d.0 d.1.0) ∙ ap (λ (x : Class). count names (body x.body.kind)) (sym d.1.1));
-    undefined = λ name out. h.undefined name (λ a. out (subst (λ ts. Among ts name) (sym same_texts) a));
+        ap (λ (x : Class). names x.name) d.1.1 ∙ h.defined d.0 (in_got old k.0 d.0 d.1.0) ∙ ap (λ (x : Class). count names (body x.body.kind)) (sym d.1.1));
+    undefined = λ name out. h.undefined name (λ a. out (subst (λ ts. In ts name) (sym same_texts) a));
   }
 
   pub bare_order : (order : List ℕ) → IsOrder old order → IsOrder now order
@@ -89,7 +88,7 @@ module _ (count : Counting → Body → ℕ) (same : (p q : Counting) (b : Body)
       let d = some_at cs (slice_index_or order j.0 0) (ordered.within j.0 (omega (arith, inside, j.1.0))) in
       ap (kept_at kept cs) j.1.1 ∙ ap (kept_by kept) d.1 ∙ filled j.0 j.1.0 d.0 d.1
       ∙ ap (λ n. capped (names n)) (name_of_place cs call.name.text (slice_index_or order j.0 0) d.0 j.1.1 d.1)))
-      ∙ ap capped (sym (agrees.defined c (in_at_place cs (slice_index_or order i 0) c at)))
+      ∙ ap capped (sym (agrees.defined c (in_got cs (slice_index_or order i 0) c at)))
 
   pub fill_next : (cs : List Class) (order : List ℕ) (names : Counting) (i : ℕ) (c new : Class) → AreFilled kept names cs order i → slice_get cs (slice_index_or order i 0) ≡ Some c → bare new ≡ bare c
       → kept new ≡ capped (names c.name) → AreFilled kept names (set cs (slice_index_or order i 0) new) order (i + 1)

@@ -4,7 +4,6 @@ use Rattle.std.specs.Prelude.{if◌then◌else◌, not}
 use Rattle.std.proofs.lemmas.Bool.{false_from_ne_true, true≢false}
 use Rattle.std.proofs.lemmas.List.{take_more, map-append}
 use Rattle.xdg_ast.specs.declared.grammar.StatementKind.TheVariants as k
-use Rattle.xdg_domain.specs.Shapes.{Among, Differ}
 use Rattle.xdg_names.specs.Texts.{has_text}
 use Rattle.xdg_types.specs.Parts.{Statement}
 use Rattle.xdg_types.proofs.Distinct.{has_among, among_has}
@@ -19,6 +18,7 @@ use Rattle.xdg_check.specs.Answers.{IsClassOf, AreClassesOf, IsEntryOf, AreEntri
 use Rattle.xdg_check.specs.Completed.{completed}
 use Rattle.xdg_check.specs.Counts.{class_texts}
 use Rattle.xdg_check.specs.Made.{AddsEntries}
+use Rattle.xdg_facts.specs.Membership.{In, Differ}
 
 -- ---- classes
 
@@ -37,7 +37,7 @@ class_turn cs ds i x old new m within is so_far one grown =
 
 -- ---- names
 
-stands : (cs : List Class) (i : ℕ) (c : Class) → i < length cs → c ≡ get_or cs i c → Among (class_texts cs) c.name
+stands : (cs : List Class) (i : ℕ) (c : Class) → i < length cs → c ≡ get_or cs i c → In (class_texts cs) c.name
 stands [] i c within is = absurd (omega (arith, within))
 stands (x ∷ cs) zero c within is = inl (ap (λ (y : Class). y.name) (sym is))
 stands (x ∷ cs) (suc i) c within is = inr (stands cs i c (omega (arith, within)) is)
@@ -47,7 +47,7 @@ new_name [] i c within is apart = absurd (omega (arith, within))
 new_name (x ∷ cs) zero c within is apart = refl
 new_name (x ∷ cs) (suc i) c within is apart =
     false_from_ne_true (has_text (class_texts (take (suc i) (x ∷ cs))) c.name) (λ h. elim (has_among (class_texts (take (suc i) (x ∷ cs))) c.name h) [
-      | inl e ↦ apart.0 (subst (Among (class_texts cs)) (sym e) (stands cs i c (omega (arith, within)) is))
+      | inl e ↦ apart.0 (subst (In (class_texts cs)) (sym e) (stands cs i c (omega (arith, within)) is))
       | inr k ↦ true≢false (sym (among_has (class_texts (take i cs)) c.name k) ∙ new_name cs i c (omega (arith, within)) is apart.1)
     ])
 

@@ -7,30 +7,30 @@ use Rattle.xdg_ast.specs.declared.names.Pair.{Pair}
 use Rattle.xdg_ast.specs.declared.grammar.ClassParam.{ClassParam}
 use Rattle.xdg_base.specs.declared.faults.Cause.TheVariants as causes
 use Rattle.xdg_domain.specs.declared.types.Ty.{Ty}
-use Rattle.xdg_domain.specs.Shapes.{Shape, shape, Among, Differ}
-use Rattle.xdg_names.specs.First.{In}
-use Rattle.xdg_names.proofs.In.{in_append, flat_map_in}
+use Rattle.xdg_domain.specs.Shapes.{Shape, shape}
 use Rattle.xdg_types.specs.declared.table.DimType.{DimType}
 use Rattle.xdg_types.specs.Answers.{None_of}
 use Rattle.xdg_types.specs.Names.{fault_at}
-use Rattle.xdg_types.specs.Parts.{Statement}
-use Rattle.xdg_types.specs.Table.{Table, typed}
+use Rattle.xdg_types.specs.Parts.{Statement, keys}
+use Rattle.xdg_types.specs.Table.{Table, typed, dim_named}
 use Rattle.xdg_types.proofs.Elements.{among_or_not}
 use Rattle.xdg_terms.specs.Wanted.{params_in}
 use Rattle.xdg_classes.specs.Bodies.{Term, Body, Said, Called, records, calls}
-use Rattle.xdg_classes.specs.Definitions.{ClassDef, classes, texts, keys, Scoped, bodies}
+use Rattle.xdg_classes.specs.Definitions.{ClassDef, classes, Scoped, bodies}
 use Rattle.xdg_classes.specs.Names.{NameOffends, all_calls, dim_texts}
-use Rattle.xdg_classes.proofs.NameLaw.{in_map}
 use Rattle.xdg_classes.specs.Wants as w
-use Rattle.xdg_classes.specs.Wants.{NamedBody, Wants, at_feature, at_argument, feature_shape, feature_in, dim_named, type_named}
+use Rattle.xdg_classes.specs.Wants.{NamedBody, Wants, at_feature, at_argument, feature_shape, feature_in, type_named}
 use Rattle.xdg_check.specs.declared.checked.Class.{Class}
 use Rattle.xdg_check.specs.Completed.{completed, bound_by, left_out}
 use Rattle.xdg_check.specs.Answers.{AreClassesOf}
 use Rattle.xdg_check.specs.Checked.{named_body, named_bodies, IsRight, IsScoped, IsRightRecord, IsRightCall, IsRightBody}
 use Rattle.xdg_check.proofs.Binding.{class_of, is_bound, left_pair}
 use Rattle.xdg_check.proofs.Opened.{less_open, wants_stand}
-use Rattle.xdg_check.proofs.Sources.{same_records, completed_calls, completed_call, map_in, named_in, source_of, class_scoped, class_body}
+use Rattle.xdg_check.proofs.Sources.{same_records, completed_calls, completed_call, named_in, source_of, class_scoped, class_body}
 use Rattle.xdg_facts.proofs.Texts.{same_text}
+use Rattle.xdg_facts.specs.Membership.{In, Differ}
+use Rattle.xdg_facts.proofs.In.{in_append, flat_map_in, in_map as map_in, map_in as in_map}
+use Rattle.xdg_ast.specs.Texts.{texts}
 
 -- ---- what is right in the text
 
@@ -59,11 +59,11 @@ dim_in (x ∷ dims) name d h = by (bytes_eq x.name name) refl (dim_in dims name 
     by true e more h = let is : x ≡ d = cc in (inl is, ap (λ (y : DimType). y.name) (sym is) ∙ same_text x.name name e)
     by false e more h = let r = more h in (inr r.0, r.1)
 
-dim_found : (dims : List DimType) (name : List ℕ) → Among (map (λ dim. dim.name) dims) name → (d : DimType) × (dim_named dims name ≡ Some d)
+dim_found : (dims : List DimType) (name : List ℕ) → In (map (λ dim. dim.name) dims) name → (d : DimType) × (dim_named dims name ≡ Some d)
 dim_found [] name h = absurd h
 dim_found (x ∷ dims) name h = by (bytes_eq x.name name) refl (dim_found dims name)
   where
-    by : (b : Bool) → bytes_eq x.name name ≡ b → (Among (map (λ dim. dim.name) dims) name → (d : DimType) × (dim_named dims name ≡ Some d)) → (d : DimType) × ((if b then Some x else dim_named dims name) ≡ Some d)
+    by : (b : Bool) → bytes_eq x.name name ≡ b → (In (map (λ dim. dim.name) dims) name → (d : DimType) × (dim_named dims name ≡ Some d)) → (d : DimType) × ((if b then Some x else dim_named dims name) ≡ Some d)
     by true e more = (x, refl)
     by false e more = elim h [ inl same ↦ (let clash : false ≡ true = sym e ∙ (bytes_eq-Decides x.name name).1 same in absurd (cc)) | inr k ↦ more k ]
 

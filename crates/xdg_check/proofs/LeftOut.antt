@@ -12,13 +12,14 @@ use Rattle.xdg_types.proofs.Distinct.{same_known}
 use Rattle.xdg_ast.specs.declared.expressions.ExprKind.{ExprKind}
 use Rattle.xdg_classes.specs.Bodies.{Pairs, body, calls}
 use Rattle.xdg_classes.specs.declared.bodies.Call.{Call}
-use Rattle.xdg_types.specs.Parts.{Statement}
+use Rattle.xdg_types.specs.Parts.{Statement, keys}
 use Rattle.xdg_classes.specs.declared.lookup.Classes.{Classes}
-use Rattle.xdg_classes.specs.Definitions.{ClassDef, keys, texts, classes, class_names}
+use Rattle.xdg_classes.specs.Definitions.{ClassDef, classes, class_names}
 use Rattle.xdg_classes.specs.Lent.{class_def, called}
 use Rattle.xdg_classes.specs.Ordered.{OrdersClasses}
 use Rattle.xdg_check.specs.Made.{IsNamed}
 use Rattle.xdg_check.specs.Weights.{preset_bytes, param_bytes, left_out_bytes, call_bytes, body_bytes, default_bytes, IsCountOf, most_bytes}
+use Rattle.xdg_ast.specs.Texts.{texts}
 
 -- ---- one element more
 

@@ -1,11 +1,8 @@
 -- Where classes have an order, their bodies have counts that agree, in one way.
-use Rattle.std.proofs.Common.{◌≡◌, ℕ, zero, suc, ◌<◌, List, [], ◌∷◌, length, get_or, slice_get, slice_index_or, Option, None, Some, refl, sym, ap, subst, ◌∙◌, arith, inl, inr}
+use Rattle.std.proofs.Common.{◌≡◌, ℕ, zero, suc, ◌<◌, List, [], length, get_or, slice_get, slice_index_or, Option, None, Some, refl, sym, ap, subst, ◌∙◌, arith}
 use Rattle.std.proofs.lemmas.Bool.{false_from_ne_true, true≢false}
 use Rattle.std.proofs.lemmas.List.{length-map, get_or-map}
 use Rattle.std.proofs.lemmas.Option.{slice_get-get_or, get_or_from_slice_get, slice_get_within}
-use Rattle.xdg_domain.specs.Shapes.{Among, Differ}
-use Rattle.xdg_names.specs.First.{In}
-use Rattle.xdg_names.proofs.In.{in_index}
 use Rattle.xdg_names.specs.Texts.{has_text, place_of}
 use Rattle.xdg_names.proofs.Texts.{place_of-Some, place_of-None, place_of-at, None-place_of}
 use Rattle.xdg_types.proofs.Distinct.{has_among, among_has}
@@ -15,6 +12,8 @@ use Rattle.xdg_check.specs.declared.checked.Class.{Class}
 use Rattle.xdg_check.specs.Counts.{Counting, class_texts, Agrees}
 use Rattle.xdg_check.specs.Checked.{IsOrder}
 use Rattle.xdg_facts.proofs.Lists.{some_at}
+use Rattle.xdg_facts.specs.Membership.{In, Differ}
+use Rattle.xdg_facts.proofs.In.{in_index, in_got}
 
 -- ---- classes by place
 
@@ -22,11 +21,6 @@ pub record IsPlaced (cs : List Class) (c : Class) (k : ℕ) : Type 0 where
   pub stands : slice_get cs k ≡ Some c
   pub within : k < length cs
   pub place : place_of (class_texts cs) c.name ≡ Some k
-
-pub in_at_place : {A : Type 0} (xs : List A) (k : ℕ) (x : A) → slice_get xs k ≡ Some x → In xs x
-in_at_place [] k x h = absurd (cc)
-in_at_place (y ∷ xs) zero x h = inl (cc)
-in_at_place (y ∷ xs) (suc k) x h = inr (in_at_place xs k x h)
 
 pub name_at : (cs : List Class) (k : ℕ) (c : Class) → slice_get cs k ≡ Some c → get_or (class_texts cs) k [] ≡ c.name
 name_at cs k c h = get_or-map (λ x. x.name) cs k c [] (slice_get_within cs k c h) ∙ ap (λ x. x.name) (get_or_from_slice_get cs k c c h)
@@ -51,10 +45,10 @@ name_of_place cs name k c place stands = sym (name_at cs k c stands) ∙ (place_
 pub place_within : (cs : List Class) (name : List ℕ) (k : ℕ) → place_of (class_texts cs) name ≡ Some k → k < length cs
 place_within cs name k place = let len : length (class_texts cs) ≡ length cs = length-map cs (λ x. x.name) in let at = place_of-Some (class_texts cs) name k place in omega (arith, len, at.0)
 
-pub no_place : (cs : List Class) (name : List ℕ) → (Among (class_texts cs) name → ⊥) → place_of (class_texts cs) name ≡ None
+pub no_place : (cs : List Class) (name : List ℕ) → (In (class_texts cs) name → ⊥) → place_of (class_texts cs) name ≡ None
 no_place cs name out = None-place_of (class_texts cs) name (false_from_ne_true (has_text (class_texts cs) name) (λ h. out (has_among (class_texts cs) name h)))
 
-pub no_among : (cs : List Class) (name : List ℕ) → place_of (class_texts cs) name ≡ None → Among (class_texts cs) name → ⊥
+pub no_among : (cs : List Class) (name : List ℕ) → place_of (class_texts cs) name ≡ None → In (class_texts cs) name → ⊥
 no_among cs name none h =
     true≢false (sym (among_has (class_texts cs) name h) ∙ place_of-None (class_texts cs) name none)
 
@@ -117,7 +111,7 @@ module _ (count : Counting → Body → ℕ) (same : (p q : Counting) (b : Body)
     one_by p q h k zero j name less inside is = absurd (omega (arith, less))
     one_by p q h k (suc n) j name less inside is =
         let c = some_at cs (slice_index_or order j 0) (ordered.within j inside) in
-        let stands : In cs c.0 = in_at_place cs (slice_index_or order j 0) c.0 c.1 in
+        let stands : In cs c.0 = in_got cs (slice_index_or order j 0) c.0 c.1 in
         subst (λ t. p t ≡ q t) (name_of_place cs name (slice_index_or order j 0) c.0 is c.1)
         (h.defined c.0 stands ∙ same p q (body c.0.body.kind) (λ call i. (let at = ordered.after j inside c.0 c.1 call i in
         one_by p q h k n at.0 call.name.text (omega (arith, less, at.1.0)) (omega (arith, inside, at.1.0)) at.1.1)) ∙ sym (k.defined c.0 stands))

@@ -11,7 +11,7 @@ use Rattle.xdg_types.specs.Parts.{Statement}
 use Rattle.xdg_types.specs.Table.{Table}
 use Rattle.xdg_classes.specs.Bodies.{Body, body}
 use Rattle.xdg_classes.specs.Definitions as d
-use Rattle.xdg_classes.specs.Definitions.{ClassDef, texts, param_names}
+use Rattle.xdg_classes.specs.Definitions.{ClassDef, param_names}
 use Rattle.xdg_classes.specs.Graph.{CycleOffends}
 use Rattle.xdg_classes.specs.Wants.{NamedBody}
 use Rattle.xdg_principles.proofs.OneUse.{one_list}
@@ -22,6 +22,7 @@ use Rattle.xdg_check.specs.Checked.{Parts, named_body, named_bodies}
 use Rattle.xdg_check.specs.Completed.{completed}
 use Rattle.xdg_check.specs.Lex.{LexOffends}
 use Rattle.xdg_check.specs.Only.{placed_body, SameMeaning, IsAnswer, Gives}
+use Rattle.xdg_ast.specs.Texts.{texts}
 
 -- ---- classes and entries
 

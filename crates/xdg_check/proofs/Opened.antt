@@ -11,12 +11,12 @@ use Rattle.xdg_ast.specs.declared.terms.TermKind.{TermKind, out-TermKind, fold_o
 use Rattle.xdg_ast.specs.declared.terms.ElemKind.{ElemKind, out-ElemKind, fold_out-ElemKind, map-ElemKind}
 use Rattle.xdg_ast.specs.declared.terms.ElemKind.TheOpen.{TermKind-F, ElemKind-F}
 use Rattle.xdg_domain.specs.Shapes.{Shape, domain, tuple, truth, integer, text, set, iset, card, valency, mapping, fields, Fields, no_field, field_then}
-use Rattle.xdg_names.specs.First.{In}
-use Rattle.xdg_names.proofs.In.{in_flat_map, in_left, in_right}
 use Rattle.xdg_terms.specs.Forms.{Term, with_open, unless_open, pairs_of, braces_in, all_of, keyed_elem, keyed_in, then_also}
 use Rattle.xdg_terms.specs.Offences.{OffendsIn, OffendsUnder, OpenOffends, OfSeen, all_told}
 use Rattle.xdg_terms.specs.Stray.{tokens, elem_tokens, term_step, elem_step}
 use Rattle.xdg_terms.specs.Wanted.{Want, params_in, params_under, or_inside, free_of, free_in}
+use Rattle.xdg_facts.specs.Membership.{In}
+use Rattle.xdg_facts.proofs.In.{in_left, in_right, in_flat_map}
 
 -- ---- an open parameter is left out
 

@@ -4,9 +4,6 @@ use Rattle.std.proofs.lemmas.List.{get_or-map}
 use Rattle.std.proofs.lemmas.Option.{get_or_from_slice_get, slice_get_within}
 use Rattle.xdg_names.specs.Leads.{uses_of}
 use Rattle.xdg_names.specs.declared.graph.Use.{Use}
-use Rattle.xdg_domain.specs.Shapes.{Among}
-use Rattle.xdg_names.specs.First.{In}
-use Rattle.xdg_names.proofs.In.{flat_map_in}
 use Rattle.xdg_names.specs.Texts.{place_of}
 use Rattle.xdg_names.proofs.Texts.{place_of-has_text}
 use Rattle.xdg_types.specs.Answers.{None_of}
@@ -16,19 +13,20 @@ use Rattle.xdg_types.specs.Table.{Table}
 use Rattle.xdg_types.proofs.Distinct.{among_has}
 use Rattle.xdg_types.proofs.Elements.{in_texts}
 use Rattle.xdg_classes.specs.Bodies.{body, Called, calls}
-use Rattle.xdg_classes.specs.Definitions.{ClassDef, classes, class_names, texts, Scoped, bodies}
+use Rattle.xdg_classes.specs.Definitions.{ClassDef, classes, class_names, Scoped, bodies}
 use Rattle.xdg_classes.specs.Graph.{class_uses, class_graph}
 use Rattle.xdg_classes.specs.Names.{NameOffends, all_calls}
 use Rattle.xdg_classes.specs.Ordered.{OrdersClasses}
 use Rattle.xdg_classes.specs.declared.lookup.Classes.{Classes}
-use Rattle.xdg_classes.proofs.NameLaw.{in_map}
 use Rattle.xdg_check.specs.declared.checked.Class.{Class}
 use Rattle.xdg_check.specs.Answers.{IsClassOf, AreClassesOf}
 use Rattle.xdg_check.specs.Counts.{bare}
 use Rattle.xdg_check.specs.Checked.{IsOrder}
-use Rattle.xdg_check.proofs.Naming.{in_at_place}
 use Rattle.xdg_check.proofs.Binding.{class_of}
-use Rattle.xdg_check.proofs.Sources.{completed_calls, completed_call, map_in, named_in, same_names, class_scoped, class_body}
+use Rattle.xdg_check.proofs.Sources.{completed_calls, completed_call, named_in, same_names, class_scoped, class_body}
+use Rattle.xdg_facts.specs.Membership.{In}
+use Rattle.xdg_facts.proofs.In.{flat_map_in, in_map as map_in, map_in as in_map, in_got}
+use Rattle.xdg_ast.specs.Texts.{texts}
 
 -- ---- classes by place
 
@@ -39,14 +37,11 @@ source_at cs (c ∷ sources) [] are k m h = absurd are
 source_at cs (c ∷ sources) (x ∷ made) are zero m h = let e : x ≡ m = cc in (c, (refl, subst (IsClassOf cs c) e are.0))
 source_at cs (c ∷ sources) (x ∷ made) are (suc k) m h = source_at cs sources made are.1 k m h
 
-as_long : (cs sources : List ClassDef) (made : List Class) → AreClassesOf cs sources made → length made ≡ length sources
+pub as_long : (cs sources : List ClassDef) (made : List Class) → AreClassesOf cs sources made → length made ≡ length sources
 as_long cs [] [] are = refl
 as_long cs [] (x ∷ made) are = absurd are
 as_long cs (c ∷ sources) [] are = absurd are
 as_long cs (c ∷ sources) (x ∷ made) are = ap suc (as_long cs sources made are.1)
-
-def_in : (cs : List ClassDef) (k : ℕ) (c : ClassDef) → slice_get cs k ≡ Some c → In cs c
-def_in cs k c h = in_at_place cs k c h
 
 -- counts change nothing else
 pub bare_classes : (cs sources : List ClassDef) (old new : List Class) → map bare new ≡ map bare old → AreClassesOf cs sources old → AreClassesOf cs sources new
@@ -69,8 +64,8 @@ bare_classes cs (c ∷ sources) (x ∷ old) (y ∷ new) same are =
 
 -- ---- the order
 
-name_known : (cs : List ClassDef) (c : ClassDef) (name : List ℕ) → In cs c → c.name.text ≡ name → Among (texts (class_names cs)) name
-name_known cs c name h is = subst (Among (texts (class_names cs))) is (in_texts (class_names cs) c.name (in_map (λ (x : ClassDef). x.name) cs c h))
+name_known : (cs : List ClassDef) (c : ClassDef) (name : List ℕ) → In cs c → c.name.text ≡ name → In (texts (class_names cs)) name
+name_known cs c name h is = subst (In (texts (class_names cs))) is (in_texts (class_names cs) c.name (in_map (λ (x : ClassDef). x.name) cs c h))
 
 module _ (statements : List Statement) (table : Table) (names : None_of (NameOffends statements table)) (ordering : Classes) (o : OrdersClasses statements ordering) (made : List Class)
     (are : AreClassesOf (classes statements) (classes statements) made) where
@@ -87,7 +82,7 @@ module _ (statements : List Statement) (table : Table) (names : None_of (NameOff
             let a = slice_index_or ordering.order i 0 in
             let source = source_at cs cs made are a c at in
             let old = map_in (completed_call cs) (calls (body source.0.body.kind)) call (subst (λ xs. In xs call) (ap calls source.1.1.body ∙ completed_calls cs (body source.0.body.kind)) stands) in
-            let all : In (all_calls statements) old.0 = flat_map_in (λ (one : Scoped). calls one.body) (bodies statements) (class_scoped source.0) old.0 (class_body statements source.0 (def_in cs a source.0 source.1.0)) old.1.0 in
+            let all : In (all_calls statements) old.0 = flat_map_in (λ (one : Scoped). calls one.body) (bodies statements) (class_scoped source.0) old.0 (class_body statements source.0 (in_got cs a source.0 source.1.0)) old.1.0 in
             let found = class_of statements table names old.0 all in
             let named = named_in cs old.0.name.text found.0 found.1 in
             let p = place_of-has_text known old.0.name.text (among_has known old.0.name.text (name_known cs found.0 old.0.name.text named.0 named.1)) in

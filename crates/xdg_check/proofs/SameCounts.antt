@@ -1,10 +1,11 @@
 -- The counts of a body turn on the classes that it uses alone.
 use Rattle.std.proofs.Common.{◌≡◌, ℕ, ◌+◌, ◌*◌, ◌-◌, ◌^◌, min, List, refl, sym, ap, ap₂, ◌∙◌, arith, inl}
-use Rattle.xdg_names.specs.First.{In}
-use Rattle.xdg_names.proofs.In.{in_left, in_right}
 use Rattle.xdg_classes.specs.Bodies.{Body, either, both, saying, calling, Bodies, no_body, body_then, Called, calls, calls_in}
 use Rattle.xdg_check.specs.Counts.{Counting, uses, sum_of_uses, combos, sum_of_combos, product_of_combos, capped}
-use Rattle.xdg_check.proofs.Capped.{capped_mul, capped_mul_right}
+use Rattle.xdg_check.proofs.Capped.{capped_mul_right}
+use Rattle.xdg_facts.specs.Membership.{In}
+use Rattle.xdg_facts.proofs.In.{in_left, in_right}
+use Rattle.xdg_domain.proofs.Capped.{capped_mul}
 
 module _ (p q : Counting) where
   -- the two say the same of each class that is used

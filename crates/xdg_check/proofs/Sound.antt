@@ -4,19 +4,19 @@ use Rattle.xdg_ast.specs.declared.names.Pair.{Pair}
 use Rattle.xdg_base.specs.declared.faults.Cause.TheVariants as causes
 use Rattle.xdg_base.specs.declared.faults.Fault.{Fault}
 use Rattle.xdg_domain.specs.Shapes.{Shape}
-use Rattle.xdg_names.specs.First.{In}
 use Rattle.xdg_types.specs.Answers.{None_of}
 use Rattle.xdg_types.specs.Names.{fault_at}
-use Rattle.xdg_types.specs.Parts.{Statement}
+use Rattle.xdg_types.specs.Parts.{Statement, keys}
 use Rattle.xdg_types.specs.Table.{Table}
 use Rattle.xdg_types.proofs.Elements.{among_or_not, differ_unless}
 use Rattle.xdg_terms.specs.Stray.{IsStrayParam}
 use Rattle.xdg_classes.specs.Bodies.{Term, Said, records}
-use Rattle.xdg_classes.specs.Definitions.{Scoped, bodies, keys}
+use Rattle.xdg_classes.specs.Definitions.{Scoped, bodies}
 use Rattle.xdg_classes.specs.Offences.{ValueOffends}
 use Rattle.xdg_classes.specs.Wants.{feature_shape}
 use Rattle.xdg_check.specs.Checked.{IsRight, IsScoped}
 use Rattle.xdg_check.proofs.Keeping.{RightBodies}
+use Rattle.xdg_facts.specs.Membership.{In}
 
 scoped_unless : (free : List (List ℕ)) (t : Term) → ((f : Fault) → IsStrayParam free t f → ⊥) → IsScoped free t
 scoped_unless free t none name stands = elim (among_or_not free name.text) [

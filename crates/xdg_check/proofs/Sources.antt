@@ -3,20 +3,19 @@ use Rattle.std.proofs.Common.{◌≡◌, inl, inr, ℕ, Bool, true, false, List,
 use Rattle.std.specs.Prelude.{if◌then◌else◌, bytes_eq}
 use Rattle.std.proofs.lemmas.List.{map-append}
 use Rattle.std.proofs.lemmas.Slice.Eq.{bytes_eq-Decides}
-use Rattle.xdg_domain.specs.Shapes.{Among}
-use Rattle.xdg_names.specs.First.{In}
-use Rattle.xdg_names.proofs.In.{in_left, in_right, in_flat_map, flat_map_in}
 use Rattle.xdg_types.specs.Parts.{Statement}
 use Rattle.xdg_classes.specs.Bodies.{Body, either, both, saying, calling, Bodies, no_body, body_then, body, Called, records, records_in, calls, calls_in}
 use Rattle.xdg_classes.specs.Definitions as d
-use Rattle.xdg_classes.specs.Definitions.{ClassDef, class, classes, class_names, class_named, texts, param_names, Scoped, scoped, bodies, entry, entries}
-use Rattle.xdg_classes.proofs.NameLaw.{in_map}
+use Rattle.xdg_classes.specs.Definitions.{ClassDef, class, classes, class_names, class_named, param_names, Scoped, scoped, bodies, entry, entries}
 use Rattle.xdg_check.specs.declared.checked.Class.{Class}
 use Rattle.xdg_check.specs.declared.checked.EntryDef.{EntryDef}
 use Rattle.xdg_check.specs.Completed.{completed, all_completed, bound_by}
 use Rattle.xdg_check.specs.Answers.{IsClassOf, AreClassesOf, IsEntryOf, AreEntriesOf}
 use Rattle.xdg_check.specs.Counts.{class_texts}
 use Rattle.xdg_facts.proofs.Texts.{same_text}
+use Rattle.xdg_facts.specs.Membership.{In}
+use Rattle.xdg_facts.proofs.In.{in_left, in_right, in_flat_map, flat_map_in, map_in}
+use Rattle.xdg_ast.specs.Texts.{texts}
 
 -- ---- what stands in a completed body
 
@@ -46,12 +45,6 @@ module _ (cs : List ClassDef) where
     completed_calls_in no_body = refl
     completed_calls_in (body_then b bs) = ap₂ (λ x y. x ++ y) (completed_calls b) (completed_calls_in bs) ∙ sym (map-append (completed_call cs) (calls b) (calls_in bs))
 
-pub map_in : {A B : Type 0} (f : A → B) (xs : List A) (y : B) → In (map f xs) y → (x : A) × (In xs x × (f x ≡ y))
-map_in f [] y h = absurd h
-map_in f (x ∷ xs) y h = elim h [ inl e ↦ (x, (inl refl, e)) | inr k ↦ (let r = map_in f xs y k in (r.0, (inr r.1.0, r.1.1))) ]
-
--- ---- classes by name
-
 named_by : (x : ClassDef) (cs : List ClassDef) (name : List ℕ) (b : Bool) (c : ClassDef) → bytes_eq x.name.text name ≡ b → (class_named cs name ≡ Some c → In cs c × (c.name.text ≡ name))
     → (if b then Some x else class_named cs name) ≡ Some c → In (x ∷ cs) c × (c.name.text ≡ name)
 named_by x cs name true c t rest h = let is : x ≡ c = cc in (inl is, ap (λ (y : ClassDef). y.name.text) (sym is) ∙ same_text x.name.text name t)
@@ -63,11 +56,11 @@ named_in [] name c h = absurd (cc)
 named_in (x ∷ cs) name c h = named_by x cs name (bytes_eq x.name.text name) c refl (named_in cs name c) h
 
 -- a name that some class has is found
-pub named_some : (cs : List ClassDef) (name : List ℕ) → Among (texts (class_names cs)) name → (c : ClassDef) × (class_named cs name ≡ Some c)
+pub named_some : (cs : List ClassDef) (name : List ℕ) → In (texts (class_names cs)) name → (c : ClassDef) × (class_named cs name ≡ Some c)
 named_some [] name h = absurd h
 named_some (x ∷ cs) name h = by (bytes_eq x.name.text name) refl (named_some cs name)
   where
-    by : (b : Bool) → bytes_eq x.name.text name ≡ b → (Among (texts (class_names cs)) name → (c : ClassDef) × (class_named cs name ≡ Some c)) → (c : ClassDef) × ((if b then Some x else class_named cs name) ≡ Some c)
+    by : (b : Bool) → bytes_eq x.name.text name ≡ b → (In (texts (class_names cs)) name → (c : ClassDef) × (class_named cs name ≡ Some c)) → (c : ClassDef) × ((if b then Some x else class_named cs name) ≡ Some c)
     by true e more = (x, refl)
     by false e more = elim h [
       | inl same ↦ (let clash : false ≡ true = sym e ∙ (bytes_eq-Decides x.name.text name).1 same in absurd (cc))
@@ -120,9 +113,9 @@ entry_scoped e = record { params = []; body = body e.body.kind }
 pub class_body : (statements : List Statement) (c : ClassDef) → In (classes statements) c → In (bodies statements) (class_scoped c)
 class_body statements c h =
     let s = in_flat_map (λ (statement : Statement). class statement.kind) statements c h in
-    flat_map_in scoped statements s.0 (class_scoped c) s.1.0 (in_left (map class_scoped (class s.0.kind)) (map entry_scoped (entry s.0)) (class_scoped c) (in_map class_scoped (class s.0.kind) c s.1.1))
+    flat_map_in scoped statements s.0 (class_scoped c) s.1.0 (in_left (map class_scoped (class s.0.kind)) (map entry_scoped (entry s.0)) (class_scoped c) (map_in class_scoped (class s.0.kind) c s.1.1))
 
 pub entry_body : (statements : List Statement) (e : d.EntryDef) → In (entries statements) e → In (bodies statements) (entry_scoped e)
 entry_body statements e h =
     let s = in_flat_map entry statements e h in
-    flat_map_in scoped statements s.0 (entry_scoped e) s.1.0 (in_right (map class_scoped (class s.0.kind)) (map entry_scoped (entry s.0)) (entry_scoped e) (in_map entry_scoped (entry s.0) e s.1.1))
+    flat_map_in scoped statements s.0 (entry_scoped e) s.1.0 (in_right (map class_scoped (class s.0.kind)) (map entry_scoped (entry s.0)) (entry_scoped e) (map_in entry_scoped (entry s.0) e s.1.1))

@@ -4,9 +4,10 @@ use Rattle.xdg_names.specs.Texts.{place_of}
 use Rattle.xdg_classes.specs.Bodies.{Body}
 use Rattle.xdg_check.specs.declared.checked.Class.{Class}
 use Rattle.xdg_check.specs.Counts.{Counting, uses, combos, class_texts, Agrees, capped, AreCounted, kept_by, kept_at, looked_up}
-use Rattle.xdg_check.proofs.Naming.{in_at_place, name_of_place, place_within, no_among}
+use Rattle.xdg_check.proofs.Naming.{name_of_place, place_within, no_among}
 use Rattle.xdg_check.proofs.SameCounts.{uses_stop, combos_stop}
 use Rattle.xdg_facts.proofs.Lists.{some_at}
+use Rattle.xdg_facts.proofs.In.{in_got}
 
 -- what the classes keep of a name is its count
 kept_right : (count : Counting → Body → ℕ) (kept : Class → ℕ) (cs : List Class) → AreCounted count kept cs → (names : Counting) → Agrees count cs names → (name : List ℕ) → looked_up kept (class_texts cs) cs name ≡ capped (names name)
@@ -14,7 +15,7 @@ kept_right count kept cs counted names agrees name =
     elim (place_of (class_texts cs) name) as (λ o. place_of (class_texts cs) name ≡ o → kept_at kept cs (place_of (class_texts cs) name) ≡ capped (names name)) [
       | None ↦ λ none. ap (kept_at kept cs) none ∙ ap capped (sym (agrees.undefined name (no_among cs name none)))
       | Some k ↦ λ some. (let c = some_at cs k (place_within cs name k some) in
-          ap (kept_at kept cs) some ∙ ap (kept_by kept) c.1 ∙ counted.stored c.0 (in_at_place cs k c.0 c.1)
+          ap (kept_at kept cs) some ∙ ap (kept_by kept) c.1 ∙ counted.stored c.0 (in_got cs k c.0 c.1)
           ∙ ap capped (sym (counted.only names agrees c.0.name)) ∙ ap (λ t. capped (names t)) (name_of_place cs name k c.0 some c.1))
     ] refl
 

@@ -1,20 +1,18 @@
 -- The dimension of words, and where entries say theirs.
-use Rattle.std.proofs.Common.{◌≡◌, ℕ, zero, suc, List, [], ◌∷◌, slice_get, Some, inl, inr, refl, sym, ap, subst, codes, arith}
+use Rattle.std.proofs.Common.{◌≡◌, ℕ, zero, suc, List, [], ◌∷◌, slice_get, Some, inl, inr, refl, sym, ap, subst, codes}
 use Rattle.xdg_base.specs.declared.faults.Cause.TheVariants as causes
-use Rattle.xdg_base.specs.declared.faults.Fault.{Fault}
 use Rattle.xdg_domain.specs.Shapes.{Shape, text}
-use Rattle.xdg_names.specs.First.{In, IsFirstOf, Tells}
+use Rattle.xdg_names.specs.First.{IsFirstOf, Tells}
 use Rattle.xdg_types.specs.Names.{fault_at}
-use Rattle.xdg_types.specs.Table.{Table, Typed, typed, HasPlace}
+use Rattle.xdg_types.specs.Table.{Table, Typed, typed}
 use Rattle.xdg_packed.specs.Entries.{IsWordPlace}
 use Rattle.xdg_check.specs.Lex.{HasLex, LexOffends}
+use Rattle.xdg_facts.specs.Membership.{In}
+use Rattle.xdg_facts.proofs.In.{in_got as has_got}
+use Rattle.xdg_names.proofs.First.{itself}
+use Rattle.xdg_check.proofs.Filled.{at_once}
 
 -- ---- from places to what stands there
-
-has_got : (ks : List ℕ) (i k : ℕ) → slice_get ks i ≡ Some k → HasPlace ks k
-has_got [] i k is = absurd cc
-has_got (j ∷ ks) zero k is = inl cc
-has_got (j ∷ ks) (suc i) k is = inr (has_got ks i k is)
 
 in_got : (fs : Typed) (i : ℕ) (f : List ℕ × Shape) → slice_get fs i ≡ Some f → In fs f
 in_got [] i f is = absurd cc
@@ -33,11 +31,6 @@ word_lex table dim field place = record {
 
 -- ---- and back
 
-used_at : (ks : List ℕ) (k : ℕ) → HasPlace ks k → (d : ℕ) × (slice_get ks d ≡ Some k)
-used_at [] k has = absurd has
-used_at (j ∷ ks) k (inl is) = (0, ap Some is)
-used_at (j ∷ ks) k (inr later) = (let r = used_at ks k later in (suc r.0, r.1))
-
 field_at : (fs : Typed) (f : List ℕ × Shape) → In fs f → (i : ℕ) × (slice_get fs i ≡ Some f)
 field_at [] f stands = absurd stands
 field_at (x ∷ fs) f (inl is) = (0, ap Some is)
@@ -45,16 +38,13 @@ field_at (x ∷ fs) f (inr later) = (let r = field_at fs f later in (suc r.0, r.
 
 no_words : (table : Table) → ((dim field : ℕ) → IsWordPlace table dim field → ⊥) → HasLex table → ⊥
 no_words table none lex =
-    let used = used_at table.used lex.place lex.used in
+    let used = at_once table.used lex.place lex.used in
     let field = field_at (typed lex.dim.fields) (codes "word", text) lex.lex.word in
     none used.0 field.0 (record { lex = lex.dim; used = (lex.place, (used.1, lex.stands)); name = lex.lex.name; word = field.1 })
-
-same_first : (f : Fault) → IsFirstOf f f
-same_first f = inr (refl, inr (refl, omega arith))
 
 -- where no words are said, that is the one fault
 pub lex_missing : (table : Table) → ((dim field : ℕ) → IsWordPlace table dim field → ⊥) → Tells (LexOffends table) (Some (fault_at causes.NoLex 0))
 lex_missing table none = (
   record { missing = no_words table none; fault = refl },
-  λ f offends. subst (IsFirstOf (fault_at causes.NoLex 0)) (sym offends.fault) (same_first (fault_at causes.NoLex 0)),
+  λ f offends. subst (IsFirstOf (fault_at causes.NoLex 0)) (sym offends.fault) (itself (fault_at causes.NoLex 0)),
 )

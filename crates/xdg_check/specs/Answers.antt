@@ -9,7 +9,7 @@ use Rattle.xdg_types.specs.Parts.{Statement}
 use Rattle.xdg_types.specs.Table.{Table}
 use Rattle.xdg_classes.specs.Bodies.{body}
 use Rattle.xdg_classes.specs.Definitions as d
-use Rattle.xdg_classes.specs.Definitions.{ClassDef, texts, param_names}
+use Rattle.xdg_classes.specs.Definitions.{ClassDef, param_names}
 use Rattle.xdg_classes.specs.Names as c
 use Rattle.xdg_classes.specs.Graph.{CycleOffends}
 use Rattle.xdg_classes.specs.Offences as a
@@ -22,6 +22,7 @@ use Rattle.xdg_check.specs.Completed.{completed}
 use Rattle.xdg_check.specs.Counts.{uses, combos, AreCounted}
 use Rattle.xdg_check.specs.Lex.{LexOffends}
 use Rattle.xdg_check.specs.Checked.{Parts, IsOrder}
+use Rattle.xdg_ast.specs.Texts.{texts}
 
 -- ---- the passes
 

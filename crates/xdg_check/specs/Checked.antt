@@ -3,15 +3,14 @@ use Rattle.std.specs.Prelude.{◌≡◌, ℕ, ◌<◌, List, [], length, map, sl
 use Rattle.xdg_ast.specs.declared.names.Name.{Name}
 use Rattle.xdg_ast.specs.declared.names.Pair.{Pair}
 use Rattle.xdg_base.specs.declared.faults.Fault.{Fault}
-use Rattle.xdg_domain.specs.Shapes.{Shape, Among, Differ}
-use Rattle.xdg_names.specs.First.{In}
+use Rattle.xdg_domain.specs.Shapes.{Shape}
 use Rattle.xdg_names.specs.Texts.{place_of}
 use Rattle.xdg_types.specs.declared.table.DimType.{DimType}
 use Rattle.xdg_types.specs.Table.{Table, Typed, typed, IsTable}
 use Rattle.xdg_terms.specs.Offences.{OpenOffends}
 use Rattle.xdg_terms.specs.Stray.{tokens}
 use Rattle.xdg_classes.specs.Bodies.{Term, Body, body, Said, Called, records, calls}
-use Rattle.xdg_classes.specs.Definitions.{keys, texts}
+use Rattle.xdg_types.specs.Parts.{keys}
 use Rattle.xdg_classes.specs.Wants.{NamedBody, Wants}
 use Rattle.xdg_principles.specs.declared.building.PrincipleUse.{PrincipleUse}
 use Rattle.xdg_principles.specs.Typed.{IsTypedUse}
@@ -19,6 +18,8 @@ use Rattle.xdg_check.specs.declared.checked.Class.{Class}
 use Rattle.xdg_check.specs.declared.checked.EntryDef.{EntryDef}
 use Rattle.xdg_check.specs.Counts.{class_texts, uses, combos, AreCounted}
 use Rattle.xdg_check.specs.Lex.{HasLex}
+use Rattle.xdg_facts.specs.Membership.{In, Differ}
+use Rattle.xdg_ast.specs.Texts.{texts}
 
 -- ---- what it has
 
@@ -47,12 +48,12 @@ pub record IsBound (cs : List Class) (call : Called) : Type 0 where
   pub stands : In cs class
   pub name : class.name ≡ call.name.text
   pub once : Differ (texts (keys call.args))
-  pub known : (param : List ℕ) → Among (texts (keys call.args)) param → Among class.params param
-  pub given : (param : List ℕ) → Among class.params param → Among (texts (keys call.args)) param
+  pub known : (param : List ℕ) → In (texts (keys call.args)) param → In class.params param
+  pub given : (param : List ℕ) → In class.params param → In (texts (keys call.args)) param
 
 -- each parameter that stands in the term is one of these
 abbrev pub IsScoped : List (List ℕ) → Term → Type 0
-IsScoped params t = (name : Name) → In (tokens t.kind) name → Among params name.text
+IsScoped params t = (name : Name) → In (tokens t.kind) name → In params name.text
 
 -- nothing is wrong with the term where a value of that type is wanted; these parameters may stand in it
 abbrev pub IsRight : List (List ℕ) → Shape → Term → Type 0

@@ -4,7 +4,9 @@ use Rattle.xdg_ast.specs.declared.names.Name.{Name}
 use Rattle.xdg_ast.specs.declared.grammar.ClassParam.{ClassParam}
 use Rattle.xdg_names.specs.Texts.{has_text}
 use Rattle.xdg_classes.specs.Bodies.{Term, Pairs, Body, either, both, saying, calling, Bodies, no_body, body_then}
-use Rattle.xdg_classes.specs.Definitions.{ClassDef, class_named, keys, texts}
+use Rattle.xdg_classes.specs.Definitions.{ClassDef, class_named}
+use Rattle.xdg_types.specs.Parts.{keys}
+use Rattle.xdg_ast.specs.Texts.{texts}
 
 -- the parameter with its default, where it has one
 abbrev pub preset_pair : Name → Option Term → Pairs

@@ -1,10 +1,9 @@
 -- How many uses of classes and how many combinations a body has.
 use Rattle.std.specs.Prelude.{◌≡◌, ℕ, ◌+◌, ◌*◌, ◌-◌, ◌^◌, min, List, map, slice_get, Option, None, Some}
-use Rattle.xdg_domain.specs.Shapes.{Among}
-use Rattle.xdg_names.specs.First.{In}
 use Rattle.xdg_names.specs.Texts.{place_of}
 use Rattle.xdg_classes.specs.Bodies.{Body, either, both, saying, calling, Bodies, no_body, body_then, body}
 use Rattle.xdg_check.specs.declared.checked.Class.{Class}
+use Rattle.xdg_facts.specs.Membership.{In}
 
 -- a number for each name of a class
 abbrev pub Counting : Type 0
@@ -46,7 +45,7 @@ class_texts cs = map (λ c. c.name) cs
 -- each name of a class has the count of its body, and every other name has none
 pub record Agrees (count : Counting → Body → ℕ) (cs : List Class) (names : Counting) : Type 0 where
   pub defined : (c : Class) → In cs c → names c.name ≡ count names (body c.body.kind)
-  pub undefined : (name : List ℕ) → (Among (class_texts cs) name → ⊥) → names name ≡ 0
+  pub undefined : (name : List ℕ) → (In (class_texts cs) name → ⊥) → names name ≡ 0
 
 -- the number, or the greatest that is kept
 abbrev pub capped : ℕ → ℕ

@@ -3,10 +3,10 @@ use Rattle.std.specs.Prelude.{◌≡◌, ℕ, slice_get, Some, codes}
 use Rattle.xdg_base.specs.declared.faults.Cause.TheVariants as causes
 use Rattle.xdg_base.specs.declared.faults.Fault.{Fault}
 use Rattle.xdg_domain.specs.Shapes.{text}
-use Rattle.xdg_names.specs.First.{In}
 use Rattle.xdg_types.specs.Names.{fault_at}
 use Rattle.xdg_types.specs.declared.table.DimType.{DimType}
-use Rattle.xdg_types.specs.Table.{Table, typed, HasPlace}
+use Rattle.xdg_types.specs.Table.{Table, typed}
+use Rattle.xdg_facts.specs.Membership.{In}
 
 -- a dimension `lex` with a feature `word` of type `string`
 pub record IsLex (dim : DimType) : Type 0 where
@@ -16,7 +16,7 @@ pub record IsLex (dim : DimType) : Type 0 where
 -- it is among the dimensions, and used
 pub record HasLex (table : Table) : Type 0 where
   pub place : ℕ
-  pub used : HasPlace table.used place
+  pub used : In table.used place
   pub dim : DimType
   pub stands : slice_get table.dims place ≡ Some dim
   pub lex : IsLex dim

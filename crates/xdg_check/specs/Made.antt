@@ -2,10 +2,11 @@
 use Rattle.std.specs.Prelude.{◌≡◌, List, ◌++◌, map}
 use Rattle.xdg_classes.specs.declared.lookup.Classes.{Classes}
 use Rattle.xdg_classes.specs.Definitions as d
-use Rattle.xdg_classes.specs.Definitions.{ClassDef, class_names, texts}
+use Rattle.xdg_classes.specs.Definitions.{ClassDef, class_names}
 use Rattle.xdg_classes.specs.Lent.{class_def}
 use Rattle.xdg_check.specs.declared.checked.EntryDef.{EntryDef}
 use Rattle.xdg_check.specs.Answers.{AreEntriesOf}
+use Rattle.xdg_ast.specs.Texts.{texts}
 
 -- the classes are found by their names
 abbrev pub IsNamed : Classes → Type 0

@@ -5,9 +5,10 @@ use Rattle.xdg_ast.specs.declared.grammar.ClassParam.{ClassParam}
 use Rattle.xdg_ast.specs.declared.grammar.StatementKind.{StatementKind}
 use Rattle.xdg_ast.specs.declared.grammar.StatementKind.TheVariants as s
 use Rattle.xdg_names.specs.Texts.{has_text}
-use Rattle.xdg_types.specs.Parts.{Statement}
+use Rattle.xdg_types.specs.Parts.{Statement, keys}
 use Rattle.xdg_classes.specs.Bodies.{Term, Pairs, Body, body, Called, calls}
-use Rattle.xdg_classes.specs.Definitions.{ClassDef, class_named, keys, texts}
+use Rattle.xdg_classes.specs.Definitions.{ClassDef, class_named}
+use Rattle.xdg_ast.specs.Texts.{texts}
 
 -- a parameter with its default, which counts one more than it has bytes
 abbrev pub preset_bytes : Option Term → ℕ

@@ -3,7 +3,9 @@
 ghost use Rattle.std.specs.Prelude.{◌≡◌, [], ◌∷◌, ◌++◌, map, IfOk};
 ghost use Rattle.xdg_types.specs.NameFaults.{different};
 ghost use Rattle.xdg_classes.specs.Bodies.{body, given};
-ghost use Rattle.xdg_classes.specs.Definitions.{class_named, keys, texts};
+ghost use Rattle.xdg_classes.specs.Definitions.{class_named};
+ghost use Rattle.xdg_ast.specs.Texts.{texts};
+ghost use Rattle.xdg_types.specs.Parts.{keys};
 ghost use Rattle.xdg_classes.specs.Lent.{class_def};
 ghost use Rattle.xdg_check.specs.Completed.{completed, bound_by, left_out, preset_pair};
 ghost use Rattle.xdg_check.specs.Made.{IsNamed};
@@ -125,7 +127,7 @@ fn complete(alloc: Global, classes: &Classes<'_>, expr: &ExprKind) -> Result<Exp
 {
     match expr {
         ExprKind::Or(members) => {
-            let mut made = List::from_vec(Vec::with_capacity(alloc, members.len())?);
+            let mut made = List::with_room(alloc, members.len())?;
             for member in members.as_slice() {
                 let kind = complete(alloc, classes, &member.kind)?;
                 made.push(Spanned {
@@ -136,7 +138,7 @@ fn complete(alloc: Global, classes: &Classes<'_>, expr: &ExprKind) -> Result<Exp
             Ok(ExprKind::Or(made))
         }
         ExprKind::And(members) => {
-            let mut made = List::from_vec(Vec::with_capacity(alloc, members.len())?);
+            let mut made = List::with_room(alloc, members.len())?;
             for member in members.as_slice() {
                 let kind = complete(alloc, classes, &member.kind)?;
                 made.push(Spanned {

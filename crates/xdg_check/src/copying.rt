@@ -14,7 +14,7 @@ pub(crate) fn copy_pairs(
 ) -> Result<List<Pair<Term>>, AllocError>
     ensures { IfOk result (λ made. made ≡ pairs.now) }
 {
-    let mut made = List::from_vec(Vec::with_capacity(alloc, pairs.len())?);
+    let mut made = List::with_room(alloc, pairs.len())?;
     for pair in pairs {
         made.push(Pair {
             key: copy_name(alloc, &pair.key)?,

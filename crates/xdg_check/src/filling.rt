@@ -1,7 +1,7 @@
 //! The counts of classes, each counted once.
 
 ghost use Rattle.std.specs.Prelude.{◌≡◌, map};
-ghost use Rattle.xdg_domain.specs.Shapes.{Differ};
+ghost use Rattle.xdg_facts.specs.Membership.{Differ};
 ghost use Rattle.xdg_check.specs.Checked.{IsOrder};
 ghost use Rattle.xdg_check.specs.Counts.{class_texts, bare, uses, combos, AreCounted};
 

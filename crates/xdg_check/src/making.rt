@@ -2,7 +2,8 @@
 
 ghost use Rattle.std.specs.Prelude.{◌≡◌, map, IfOk};
 ghost use Rattle.xdg_classes.specs.Definitions as d;
-ghost use Rattle.xdg_domain.specs.Shapes.{Differ};
+ghost use Rattle.xdg_ast.specs.Texts.{texts};
+ghost use Rattle.xdg_facts.specs.Membership.{Differ};
 ghost use Rattle.xdg_classes.specs.Lent.{class_def};
 ghost use Rattle.xdg_check.specs.Answers.{IsClassOf, AreClassesOf, AreEntriesOf};
 ghost use Rattle.xdg_check.specs.Counts.{class_texts};
@@ -18,7 +19,7 @@ use xdg_names::Index;
 
 /// The names of parameters.
 fn param_texts(alloc: Global, params: &[ClassParam]) -> Result<List<Text>, AllocError>
-    ensures { IfOk result (λ made. made ≡ d.texts (d.param_names params.now)) }
+    ensures { IfOk result (λ made. made ≡ texts (d.param_names params.now)) }
 {
     let mut made = List::new(alloc);
     for param in params {

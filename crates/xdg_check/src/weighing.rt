@@ -3,7 +3,9 @@
 ghost use Rattle.std.specs.Prelude.{◌≡◌, ◌↔◌, ◌≤◌, ◌+◌, ◌-◌, ◌^◌, ℕ, min, map, [], ◌∷◌, IfOk, IsTrue};
 ghost use Rattle.xdg_classes.specs.Bodies as spec;
 ghost use Rattle.xdg_classes.specs.Bodies.{Pairs};
-ghost use Rattle.xdg_classes.specs.Definitions.{class_named, keys, texts};
+ghost use Rattle.xdg_classes.specs.Definitions.{class_named};
+ghost use Rattle.xdg_ast.specs.Texts.{texts};
+ghost use Rattle.xdg_types.specs.Parts.{keys};
 ghost use Rattle.xdg_classes.specs.Lent.{class_def};
 ghost use Rattle.xdg_check.specs.Made.{IsNamed};
 ghost use Rattle.xdg_check.specs.Weights as w;

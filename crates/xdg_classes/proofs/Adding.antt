@@ -10,11 +10,11 @@ use Rattle.xdg_names.specs.Texts.{has_text, place_of}
 use Rattle.xdg_names.proofs.Texts.{place_of-Some, place_of-None, place_of-append_left, place_of-append_right, is_some-place_of}
 use Rattle.xdg_domain.specs.declared.types.Ty.{Ty}
 use Rattle.xdg_domain.specs.Shapes.{Shape, shape}
-use Rattle.xdg_names.specs.First.{In}
-use Rattle.xdg_names.proofs.In.{in_append, in_left, in_right}
 use Rattle.xdg_terms.specs.Wanted.{Want}
 use Rattle.xdg_classes.specs.Given.{shapes, shapes_at, Adds}
 use Rattle.xdg_facts.proofs.Options.{same_mark}
+use Rattle.xdg_facts.specs.Membership.{In}
+use Rattle.xdg_facts.proofs.In.{in_append, in_left, in_right}
 
 -- the types of each parameter, where these are the parameters
 abbrev pub on : List (List ℕ) → List (List (Bor Ty)) → List ℕ → List Shape

@@ -10,17 +10,18 @@ use Rattle.xdg_ast.specs.Grammar.{params_of}
 use Rattle.xdg_ast.specs.declared.grammar.ClassParam.{ClassParam}
 use Rattle.xdg_ast.specs.declared.names.Pair.{Pair}
 use Rattle.xdg_classes.specs.Bodies.{Term, Body, Said, Called, records, calls}
-use Rattle.xdg_classes.specs.Definitions.{texts, param_names}
+use Rattle.xdg_classes.specs.Definitions.{param_names}
 use Rattle.xdg_names.specs.Texts.{place_of}
 use Rattle.xdg_domain.specs.Shapes.{Shape, shape}
-use Rattle.xdg_names.specs.First.{In}
-use Rattle.xdg_names.proofs.In.{in_append, in_left, in_right}
 use Rattle.xdg_terms.specs.declared.wants.Wanted.{Wanted}
 use Rattle.xdg_terms.specs.Wanted.{Want}
 use Rattle.xdg_classes.specs.declared.wanted.WantedTypes.{WantedTypes}
 use Rattle.xdg_classes.specs.Given.{given, given_in, shapes_at, IsEven, Grows}
 use Rattle.xdg_classes.specs.Collected.{arg_wants, record_wants, call_wants, body_wants}
 use Rattle.xdg_classes.proofs.Sameness.{taken}
+use Rattle.xdg_facts.specs.Membership.{In}
+use Rattle.xdg_facts.proofs.In.{in_append, in_left, in_right}
+use Rattle.xdg_ast.specs.Texts.{texts}
 
 pub grows_none : (w : WantedTypes) → Grows w w []
 grows_none w even = (even, (λ q s. ((λ h. inl h), (λ h. elim h [ inl a ↦ a | inr b ↦ absurd b ]))))

@@ -10,12 +10,13 @@ use Rattle.xdg_names.specs.Texts.{has_text, place_of}
 use Rattle.xdg_names.proofs.Texts.{place_of-None, None-place_of, place_of-append_left, place_of-append_right, has_text-append}
 use Rattle.xdg_classes.specs.declared.params.Params.{Params}
 use Rattle.xdg_classes.specs.declared.definitions.ClassDef.{ClassDef as LentClass}
-use Rattle.xdg_classes.specs.Definitions.{ClassDef, class_named, class_names, texts}
+use Rattle.xdg_classes.specs.Definitions.{ClassDef, class_named, class_names}
 use Rattle.xdg_classes.specs.NameFaults.{Asked, asked_by}
 use Rattle.xdg_classes.specs.Known.{shown, KnowsClasses}
 use Rattle.xdg_classes.specs.Lent.{class_def}
 use Rattle.xdg_classes.specs.Ordered.{class_at}
 use Rattle.xdg_facts.proofs.Truths.{none_or}
+use Rattle.xdg_ast.specs.Texts.{texts}
 
 -- ---- the class with a name
 

@@ -1,5 +1,4 @@
 pub mod Bodied
-pub mod Turns
 pub mod Known
 pub mod Told
 pub mod NameLaw

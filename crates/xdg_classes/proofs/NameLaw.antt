@@ -8,44 +8,36 @@ use Rattle.xdg_ast.specs.declared.names.Name.{Name}
 use Rattle.xdg_ast.specs.declared.grammar.ClassParam.{ClassParam}
 use Rattle.xdg_base.specs.declared.faults.Cause.TheVariants as causes
 use Rattle.xdg_base.specs.declared.faults.Fault.{Fault}
-use Rattle.xdg_domain.specs.Shapes.{Among, Differ}
-use Rattle.xdg_names.specs.First.{In, Tells, first}
+use Rattle.xdg_names.specs.First.{Tells, first}
 use Rattle.xdg_names.proofs.First.{tells_as, first-tells}
-use Rattle.xdg_names.proofs.In.{in_append, in_left, in_right, in_flat_map, flat_map_in, in_unless, unless_in, in_when, when_in}
 use Rattle.xdg_names.specs.Texts.{has_text}
 use Rattle.xdg_types.specs.Answers.{None_of}
 use Rattle.xdg_types.specs.Names.{fault_at}
 use Rattle.xdg_types.specs.NameFaults.{repeats, different}
-use Rattle.xdg_types.specs.Parts.{Statement}
+use Rattle.xdg_types.specs.Parts.{Statement, keys}
 use Rattle.xdg_types.specs.Table.{Table}
 use Rattle.xdg_types.proofs.Distinct.{has_among, among_has, missing, not_there, same_known}
 use Rattle.xdg_types.proofs.NamesAgain.{again_sound, again_complete, differ_by}
 use Rattle.xdg_classes.specs.Bodies.{Term, Called}
-use Rattle.xdg_classes.specs.Definitions.{ClassDef, classes, class_names, class_named, param_names, keys, texts}
+use Rattle.xdg_classes.specs.Definitions.{ClassDef, classes, class_names, class_named, param_names}
 use Rattle.xdg_classes.specs.Names.{dim_texts, all_records, all_calls, once, IsTwice, IsLeftOut, NameOffends}
 use Rattle.xdg_classes.specs.NameFaults.{bare_of, bare_names, asked_by, unknown_param, lacks, left_out, class_faults, call_faults, said_faults, param_faults, name_faults}
+use Rattle.xdg_facts.specs.Membership.{In, Differ}
+use Rattle.xdg_facts.proofs.In.{in_append, in_left, in_right, in_unless, unless_in, in_when, when_in, in_flat_map, flat_map_in, in_map as map_in}
+use Rattle.xdg_facts.proofs.In.{map_in as in_map}
+use Rattle.xdg_ast.specs.Texts.{texts}
 
 -- ---- lists of names
 
-pub in_map : {A B : Type 0} (f : A → B) (xs : List A) (x : A) → In xs x → In (map f xs) (f x)
-in_map f [] x h = absurd h
-in_map f (y ∷ xs) x h = elim h [ inl e ↦ inl (ap f e) | inr k ↦ inr (in_map f xs x k) ]
-
-map_in : {A B : Type 0} (f : A → B) (xs : List A) (y : B) → In (map f xs) y → (x : A) × (In xs x × (f x ≡ y))
-map_in f [] y h = absurd h
-map_in f (x ∷ xs) y h = elim h [ inl e ↦ (x, (inl refl, e)) | inr k ↦ (let r = map_in f xs y k in (r.0, (inr r.1.0, r.1.1))) ]
-
--- ---- the class with a name
-
-named_among : (cs : List ClassDef) (t : List ℕ) → Among (texts (class_names cs)) t → class_named cs t ≡ None → ⊥
+named_among : (cs : List ClassDef) (t : List ℕ) → In (texts (class_names cs)) t → class_named cs t ≡ None → ⊥
 named_among [] t a e = a
 named_among (c ∷ cs) t a e = by (bytes_eq c.name.text t) refl (named_among cs t) e
   where
-    by : (b : Bool) → bytes_eq c.name.text t ≡ b → (Among (texts (class_names cs)) t → class_named cs t ≡ None → ⊥) → (if b then Some c else class_named cs t) ≡ None → ⊥
+    by : (b : Bool) → bytes_eq c.name.text t ≡ b → (In (texts (class_names cs)) t → class_named cs t ≡ None → ⊥) → (if b then Some c else class_named cs t) ≡ None → ⊥
     by true is rest e = absurd cc
     by false is rest e = elim a [ inl same ↦ true≢false (sym ((bytes_eq-Decides c.name.text t).1 same) ∙ is) | inr later ↦ rest later e ]
 
-named_missing : (cs : List ClassDef) (t : List ℕ) → (Among (texts (class_names cs)) t → ⊥) → class_named cs t ≡ None
+named_missing : (cs : List ClassDef) (t : List ℕ) → (In (texts (class_names cs)) t → ⊥) → class_named cs t ≡ None
 named_missing [] t none = refl
 named_missing (c ∷ cs) t none = by (bytes_eq c.name.text t) refl (named_missing cs t (λ a. none (inr a)))
   where
@@ -61,50 +53,50 @@ record Bare (ps : List ClassParam) (t : List ℕ) : Type 0 where
   none : param.preset ≡ None
   text : param.name.text ≡ t
 
-bare_found : (ps : List ClassParam) (t : List ℕ) → Among (texts (bare_names ps)) t → Bare ps t
+bare_found : (ps : List ClassParam) (t : List ℕ) → In (texts (bare_names ps)) t → Bare ps t
 bare_found [] t a = absurd a
 bare_found (p ∷ ps) t a = by p.preset refl (bare_found ps t) a
   where
     more : Bare ps t → Bare (p ∷ ps) t
     more k = record { param = k.param; has = inr k.has; none = k.none; text = k.text }
 
-    by : (o : Option Term) → p.preset ≡ o → (Among (texts (bare_names ps)) t → Bare ps t) → Among (texts (bare_of p.name o ++ bare_names ps)) t → Bare (p ∷ ps) t
+    by : (o : Option Term) → p.preset ≡ o → (In (texts (bare_names ps)) t → Bare ps t) → In (texts (bare_of p.name o ++ bare_names ps)) t → Bare (p ∷ ps) t
     by None is rest a = elim a [ inl e ↦ record { param = p; has = inl refl; none = is; text = e } | inr later ↦ more (rest later) ]
     by (Some term) is rest a = more (rest a)
 
-bare_among : (ps : List ClassParam) (p : ClassParam) → In ps p → p.preset ≡ None → Among (texts (bare_names ps)) p.name.text
+bare_among : (ps : List ClassParam) (p : ClassParam) → In ps p → p.preset ≡ None → In (texts (bare_names ps)) p.name.text
 bare_among [] p h none = absurd h
 bare_among (q ∷ ps) p h none = elim h [
-  | inl e ↦ subst (λ (o : Option Term). Among (texts (bare_of q.name o ++ bare_names ps)) p.name.text) (sym (ap (λ (x : ClassParam). x.preset) e ∙ none)) (inl (ap (λ (x : ClassParam). x.name.text) e))
+  | inl e ↦ subst (λ (o : Option Term). In (texts (bare_of q.name o ++ bare_names ps)) p.name.text) (sym (ap (λ (x : ClassParam). x.preset) e ∙ none)) (inl (ap (λ (x : ClassParam). x.name.text) e))
   | inr k ↦ later q.preset (bare_among ps p k none)
 ]
   where
-    later : (o : Option Term) → Among (texts (bare_names ps)) p.name.text → Among (texts (bare_of q.name o ++ bare_names ps)) p.name.text
+    later : (o : Option Term) → In (texts (bare_names ps)) p.name.text → In (texts (bare_of q.name o ++ bare_names ps)) p.name.text
     later None a = inr a
     later (Some term) a = a
 
-lacks_sound : (given needed : List (List ℕ)) → lacks given needed ≡ true → (t : List ℕ) × (Among needed t × (has_text given t ≡ false))
+lacks_sound : (given needed : List (List ℕ)) → lacks given needed ≡ true → (t : List ℕ) × (In needed t × (has_text given t ≡ false))
 lacks_sound given [] e = absurd (true≢false (sym e))
 lacks_sound given (t ∷ needed) e = by (has_text given t) refl (lacks_sound given needed) e
   where
-    by : (b : Bool) → has_text given t ≡ b → (lacks given needed ≡ true → (u : List ℕ) × (Among needed u × (has_text given u ≡ false)))
-        → (if b then lacks given needed else true) ≡ true → (u : List ℕ) × (Among (t ∷ needed) u × (has_text given u ≡ false))
+    by : (b : Bool) → has_text given t ≡ b → (lacks given needed ≡ true → (u : List ℕ) × (In needed u × (has_text given u ≡ false)))
+        → (if b then lacks given needed else true) ≡ true → (u : List ℕ) × (In (t ∷ needed) u × (has_text given u ≡ false))
     by true is rest e = (let r = rest e in (r.0, (inr r.1.0, r.1.1)))
     by false is rest e = (t, (inl refl, is))
 
-lacks_complete : (given needed : List (List ℕ)) (t : List ℕ) → Among needed t → has_text given t ≡ false → lacks given needed ≡ true
+lacks_complete : (given needed : List (List ℕ)) (t : List ℕ) → In needed t → has_text given t ≡ false → lacks given needed ≡ true
 lacks_complete given [] t a e = absurd a
 lacks_complete given (u ∷ needed) t a e = by (has_text given u) refl (λ later. lacks_complete given needed t later e)
   where
-    by : (b : Bool) → has_text given u ≡ b → (Among needed t → lacks given needed ≡ true) → (if b then lacks given needed else true) ≡ true
+    by : (b : Bool) → has_text given u ≡ b → (In needed t → lacks given needed ≡ true) → (if b then lacks given needed else true) ≡ true
     by false is rest = refl
     by true is rest = elim a [ inl same ↦ absurd (true≢false (sym is ∙ ap (has_text given) same ∙ e)) | inr later ↦ rest later ]
 
 -- a text is among the different ones just if it is among all
-of_different : (names : List Name) (t : List ℕ) → Among (different names) t → Among (texts names) t
+of_different : (names : List Name) (t : List ℕ) → In (different names) t → In (texts names) t
 of_different names t a = has_among (texts names) t (sym (same_known names t) ∙ among_has (different names) t a)
 
-to_different : (names : List Name) (t : List ℕ) → Among (texts names) t → Among (different names) t
+to_different : (names : List Name) (t : List ℕ) → In (texts names) t → In (different names) t
 to_different names t a = has_among (different names) t (same_known names t ∙ among_has (texts names) t a)
 
 -- ---- the pass
@@ -166,7 +158,7 @@ module _ (statements : List Statement) (table : Table) where
               param = p.param;
               has = p.has;
               bare = p.none;
-              missing = λ a. missing (keys call.args) r.0 r.1.1 (subst (Among (texts (keys call.args))) p.text a);
+              missing = λ a. missing (keys call.args) r.0 r.1.1 (subst (In (texts (keys call.args))) p.text a);
               fault = sym e.1;
             })))))
       ]

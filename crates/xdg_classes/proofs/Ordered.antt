@@ -1,38 +1,36 @@
 -- The graph of the classes, and the order in which each class comes after those that it uses.
-use Rattle.std.proofs.Common.{◌≡◌, inl, inr, ℕ, ◌<◌, List, [], ◌∷◌, length, map, get_or, refl, sym, ap, ◌∙◌, subst, arith, Option, Some, None}
+use Rattle.std.proofs.Common.{◌≡◌, inl, ℕ, ◌<◌, List, [], ◌∷◌, length, map, get_or, refl, sym, ap, ◌∙◌, subst, arith, Option}
 use Rattle.std.proofs.lemmas.List.{get_or-map, length-map}
-use Rattle.xdg_ast.specs.declared.names.Name.{Name}
 use Rattle.xdg_base.specs.declared.faults.Fault.{Fault}
 use Rattle.xdg_names.specs.declared.graph.Use.{Use}
 use Rattle.xdg_names.specs.Leads.{uses_of, IsGraph, AreComponents}
 use Rattle.xdg_names.specs.Closing.{IsClosing}
 use Rattle.xdg_names.proofs.Laws.{follows}
 use Rattle.xdg_names.proofs.Numbered.{from_within}
-use Rattle.xdg_names.specs.First.{In, Tells}
-use Rattle.xdg_names.proofs.In.{in_flat_map}
+use Rattle.xdg_names.specs.First.{Tells}
 use Rattle.xdg_names.specs.Texts.{place_of}
 use Rattle.xdg_names.proofs.Texts.{place_of-Some}
 use Rattle.xdg_types.specs.Answers.{None_of}
-use Rattle.xdg_types.specs.Graph.{use_at, use_of}
+use Rattle.xdg_types.specs.Graph.{use_of}
 use Rattle.xdg_types.specs.NameFaults.{with_all}
 use Rattle.xdg_types.specs.Parts.{Statement}
 use Rattle.xdg_types.proofs.Distinct.{all_differ}
 use Rattle.xdg_classes.specs.declared.definitions.ClassDef.{ClassDef as LentClass}
 use Rattle.xdg_classes.specs.Bodies.{Called, body, calls}
-use Rattle.xdg_classes.specs.Definitions.{ClassDef, classes, class_names, texts}
+use Rattle.xdg_classes.specs.Definitions.{ClassDef, classes, class_names}
 use Rattle.xdg_classes.specs.Names.{IsTwice}
 use Rattle.xdg_classes.specs.Graph.{class_uses, class_graph}
 use Rattle.xdg_classes.specs.Ordered.{OrdersClasses}
 use Rattle.xdg_classes.specs.Lent.{class_def}
 use Rattle.xdg_classes.proofs.NameLaw.{no_repeat}
+use Rattle.xdg_facts.specs.Membership.{In}
+use Rattle.xdg_facts.proofs.In.{in_flat_map}
+use Rattle.xdg_types.proofs.InUse.{in_use}
+use Rattle.xdg_ast.specs.Texts.{texts}
 
 some_of : (cs : List ClassDef) (a : ℕ) → a < length cs → ClassDef
 some_of [] a less = absurd (omega (arith, less))
 some_of (c ∷ cs) a less = c
-
-in_use : (name : Name) (o : Option ℕ) (u : Use) → In (use_at name o) u → (o ≡ Some u.to)
-in_use name None u h = absurd h
-in_use name (Some k) u h = elim h [ inl e ↦ ap (λ x. Some x.to) e | inr n ↦ absurd n ]
 
 module _ (statements : List Statement) where
   abbrev cs : List ClassDef

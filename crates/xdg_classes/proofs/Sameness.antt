@@ -1,18 +1,14 @@
 -- Lists that are the same one by one.
-use Rattle.std.proofs.Common.{◌≡◌, ℕ, ◌+◌, ◌<◌, ◌≤◌, List, [], ◌∷◌, ◌++◌, length, take, get_or, map, refl, sym, ap, ap₂, ◌∙◌, subst, add-one, inl, inr}
+use Rattle.std.proofs.Common.{◌≡◌, ℕ, ◌+◌, ◌<◌, ◌≤◌, List, [], ◌∷◌, ◌++◌, length, take, get_or, map, sym, ap, ap₂, ◌∙◌, subst, add-one}
 use Rattle.std.proofs.Math.Seq.{take-suc}
 use Rattle.std.proofs.lemmas.List.{map-append, take_all}
 use Rattle.xdg_domain.specs.declared.types.Ty.{Ty}
 use Rattle.xdg_domain.specs.declared.types.Ty.TheVariants as y
-use Rattle.xdg_domain.specs.Shapes.{Shape, fields, shape}
-use Rattle.xdg_names.specs.First.{In}
-use Rattle.xdg_names.proofs.In.{in_at}
+use Rattle.xdg_domain.specs.Shapes.{fields, shape}
 use Rattle.xdg_terms.specs.Faults.{fields_in}
 use Rattle.xdg_terms.proofs.Sizes.{record_shape}
-
--- a field with the shape of its type
-abbrev pub named : List ℕ × Ty → List ℕ × Shape
-named field = (field.0, shape field.1)
+use Rattle.xdg_facts.specs.Membership.{In}
+use Rattle.xdg_facts.proofs.In.{in_at, map_in}
 
 pub taken : {A : Type 0} (xs : List A) (i : ℕ) (x : A) → i < length xs → x ≡ get_or xs i x → take (i + 1) xs ≡ take i xs ++ x ∷ []
 taken xs i x within is = rw (add-one, take-suc xs i x) (ap (λ z. take i xs ++ z ∷ []) (sym is))
@@ -20,14 +16,6 @@ taken xs i x within is = rw (add-one, take-suc xs i x) (ap (λ z. take i xs ++ z
 -- texts, one by one
 pub same_text_turn : (xs ys : List (List ℕ)) (i : ℕ) (x y : List ℕ) → i < length xs → i < length ys → x ≡ get_or xs i x → y ≡ get_or ys i y → x ≡ y → take i xs ≡ take i ys → take (i + 1) xs ≡ take (i + 1) ys
 same_text_turn xs ys i x y within below is at same so_far = taken xs i x within is ∙ ap₂ (λ (s : List (List ℕ)) (t : List ℕ). s ++ t ∷ []) so_far same ∙ sym (taken ys i y below at)
-
-pub map_in : {A B : Type 0} (f : A → B) (xs : List A) (x : A) → In xs x → In (map f xs) (f x)
-map_in f [] x h = absurd h
-map_in f (z ∷ xs) x h = elim h [ inl e ↦ inl (ap f e) | inr k ↦ inr (map_in f xs x k) ]
-
-pub in_map : {A B : Type 0} (f : A → B) (xs : List A) (y : B) → In (map f xs) y → (x : A) × (In xs x × (f x ≡ y))
-in_map f [] y h = absurd h
-in_map f (z ∷ xs) y h = elim h [ inl e ↦ (z, (inl refl, e)) | inr k ↦ (let r = in_map f xs y k in (r.0, (inr r.1.0, r.1.1))) ]
 
 -- a list that has what stands at a place
 pub found_at : {A B : Type 0} (f : A → B) (xs : List A) (i : ℕ) (x : A) (y : B) → i < length xs → x ≡ get_or xs i x → f x ≡ y → In (map f xs) y

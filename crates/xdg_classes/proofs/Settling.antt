@@ -11,9 +11,7 @@ use Rattle.xdg_ast.specs.declared.names.Pair.{Pair}
 use Rattle.xdg_base.specs.declared.faults.Cause.TheVariants as causes
 use Rattle.xdg_names.specs.Texts.{has_text, place_of}
 use Rattle.xdg_names.proofs.Texts.{place_of-Some, place_of-None}
-use Rattle.xdg_domain.specs.Shapes.{Shape, Among}
-use Rattle.xdg_names.specs.First.{In}
-use Rattle.xdg_names.proofs.In.{in_append, in_left, in_right, in_flat_map, flat_map_in, in_index, in_at}
+use Rattle.xdg_domain.specs.Shapes.{Shape}
 use Rattle.xdg_names.specs.Leads.{number, uses_of}
 use Rattle.xdg_names.specs.declared.graph.Use.{Use}
 use Rattle.xdg_terms.specs.Wanted.{params_in}
@@ -21,10 +19,10 @@ use Rattle.xdg_types.specs.Answers.{None_of}
 use Rattle.xdg_types.specs.Graph.{use_of, use_at}
 use Rattle.xdg_types.specs.Names.{fault_at}
 use Rattle.xdg_types.specs.Parts.{Statement}
-use Rattle.xdg_types.specs.Table.{Table}
+use Rattle.xdg_types.specs.Table.{Table, dim_named}
 use Rattle.xdg_types.specs.declared.table.DimType.{DimType}
 use Rattle.xdg_classes.specs.Bodies.{Term, Body, body, Said, Called, records, calls}
-use Rattle.xdg_classes.specs.Definitions.{ClassDef, classes, class_names, param_names, texts}
+use Rattle.xdg_classes.specs.Definitions.{ClassDef, classes, class_names, param_names}
 use Rattle.xdg_classes.specs.Graph.{class_graph, class_uses}
 use Rattle.xdg_classes.specs.Lent.{class_def}
 use Rattle.xdg_classes.specs.Names.{IsTwice}
@@ -33,10 +31,12 @@ use Rattle.xdg_classes.specs.declared.lookup.Classes.{Classes}
 use Rattle.xdg_classes.specs.declared.features.Features.{Features}
 use Rattle.xdg_classes.specs.declared.wanted.WantedTypes.{WantedTypes}
 use Rattle.xdg_classes.specs.Given.{given, given_in, at_place, told}
-use Rattle.xdg_classes.specs.Wants.{NamedBody, named, named_bodies, dim_named, feature_in, feature_shape, Wants, at_feature, at_argument}
+use Rattle.xdg_classes.specs.Wants.{NamedBody, named, named_bodies, feature_in, feature_shape, Wants, at_feature, at_argument}
 use Rattle.xdg_classes.specs.Collected.{feature_of, dim_at, wants_at, pair_wants, record_wants, arg_wants, call_wants, body_wants}
 use Rattle.xdg_classes.specs.KnownWants.{Fits, IsRightAt, AreRightUpTo, IsKnown}
-use Rattle.xdg_classes.proofs.Sameness.{map_in, in_map}
+use Rattle.xdg_facts.specs.Membership.{In}
+use Rattle.xdg_facts.proofs.In.{in_append, in_left, in_right, in_at, in_index, in_flat_map, flat_map_in, in_map, map_in}
+use Rattle.xdg_ast.specs.Texts.{texts}
 
 -- ---- features
 
@@ -64,7 +64,7 @@ splits [] x h = absurd h
 splits (y ∷ xs) x h = elim h [ inl e ↦ ([], (xs, ap (λ z. z ∷ xs) e)) | inr k ↦ (let r = splits xs x k in (y ∷ r.0, (r.1.0, ap (λ l. y ∷ l) r.1.1))) ]
 
 abbrev NoneAgain : List Name → Type 0
-NoneAgain names = (before : List Name) (name : Name) (after : List Name) → names ≡ before ++ name ∷ after → Among (texts before) name.text → ⊥
+NoneAgain names = (before : List Name) (name : Name) (after : List Name) → names ≡ before ++ name ∷ after → In (texts before) name.text → ⊥
 
 names_split : (cs ds : List ClassDef) (c : ClassDef) → class_names (cs ++ c ∷ ds) ≡ class_names cs ++ c.name ∷ class_names ds
 names_split [] ds c = refl

@@ -5,9 +5,9 @@ use Rattle.std.proofs.lemmas.List.{take_all}
 use Rattle.xdg_base.specs.declared.faults.Fault.{Fault}
 use Rattle.xdg_names.specs.First.{Tells, earlier}
 use Rattle.xdg_names.proofs.First.{tells_as, tells_both}
-use Rattle.xdg_names.proofs.In.{in_append, in_left, in_right}
 use Rattle.xdg_classes.specs.Wrong.{SomeOf}
-use Rattle.xdg_classes.proofs.Sameness.{taken, map_in, in_map}
+use Rattle.xdg_classes.proofs.Sameness.{taken}
+use Rattle.xdg_facts.proofs.In.{in_append, in_left, in_right, in_map, map_in}
 
 pub if_ok : {A E : Type 0} (P Q : A → Type 0) → ((x : A) → P x → Q x) → (r : Result A E) → IfOk r P → IfOk r Q
 if_ok P Q to (Ok x) h = to x h

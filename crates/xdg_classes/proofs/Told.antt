@@ -7,7 +7,8 @@ use Rattle.xdg_names.specs.First.{first, earlier}
 use Rattle.xdg_names.proofs.First.{first_append}
 use Rattle.xdg_types.specs.NameFaults.{repeats, with_all, different}
 use Rattle.xdg_classes.specs.Bodies.{Called}
-use Rattle.xdg_classes.specs.Definitions.{ClassDef, class_named, keys}
+use Rattle.xdg_classes.specs.Definitions.{ClassDef, class_named}
+use Rattle.xdg_types.specs.Parts.{keys}
 use Rattle.xdg_classes.specs.NameFaults.{Asked, asked_by, unknown_param, left_out, class_faults, call_faults}
 
 -- of a use of a class that asks this

@@ -8,18 +8,20 @@ use Rattle.xdg_ast.specs.declared.grammar.StatementKind.{StatementKind}
 use Rattle.xdg_ast.specs.declared.grammar.StatementKind.TheVariants as s
 use Rattle.xdg_base.specs.declared.faults.Fault.{Fault}
 use Rattle.xdg_domain.specs.Shapes.{Shape}
-use Rattle.xdg_names.specs.First.{In, Tells, first}
+use Rattle.xdg_names.specs.First.{Tells, first}
 use Rattle.xdg_names.proofs.First.{tells_as, first-tells}
-use Rattle.xdg_names.proofs.In.{in_flat_map, flat_map_in}
 use Rattle.xdg_types.specs.NameFaults.{repeats}
 use Rattle.xdg_types.specs.Parts.{Statement}
 use Rattle.xdg_types.specs.Table.{Table}
 use Rattle.xdg_types.proofs.NamesAgain.{again_sound, again_complete}
 use Rattle.xdg_classes.specs.Bodies.{Term, Expr, body, Said, Called, records, calls}
-use Rattle.xdg_classes.specs.Definitions.{ClassDef, EntryDef, Scoped, class, classes, entry_at, scoped, bodies, param_names, texts}
+use Rattle.xdg_classes.specs.Definitions.{ClassDef, EntryDef, Scoped, class, classes, entry_at, scoped, bodies, param_names}
 use Rattle.xdg_classes.specs.Wants.{feature_shape, named_bodies, Wants}
 use Rattle.xdg_classes.specs.Wrong.{SomeOf, IsAgain, FeatureWrong, RecordWrong, CallWrong, BodyWrong, GivenWrong, PresetWrong, ClassWrong, ScopedWrong, StatementWrong}
 use Rattle.xdg_classes.specs.Offences.{ValueOffends}
+use Rattle.xdg_facts.specs.Membership.{In}
+use Rattle.xdg_facts.proofs.In.{in_flat_map, flat_map_in}
+use Rattle.xdg_ast.specs.Texts.{texts}
 
 -- ---- keys
 

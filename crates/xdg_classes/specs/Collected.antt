@@ -1,5 +1,5 @@
--- The parameters that stand in a body, each with a type that is wanted of it, where it is known which types features have
--- and which types are wanted of the parameters of other classes.
+-- The parameters that stand in a body, each with a type that is wanted of it, as a list, in the order in which the code comes
+-- to them, where it is known which types features have and which types are wanted of the parameters of other classes.
 use Rattle.std.specs.Prelude.{ℕ, List, [], ◌++◌, flat_map, slice_get, Option, None, Some}
 use Rattle.std.specs.Borrow.{Bor}
 use Rattle.xdg_ast.specs.declared.names.Pair.{Pair}

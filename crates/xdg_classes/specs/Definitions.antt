@@ -5,7 +5,8 @@ use Rattle.xdg_ast.specs.declared.grammar.ClassParam.{ClassParam}
 use Rattle.xdg_ast.specs.declared.grammar.StatementKind.{StatementKind}
 use Rattle.xdg_ast.specs.declared.grammar.StatementKind.TheVariants as s
 use Rattle.xdg_types.specs.Parts.{Statement}
-use Rattle.xdg_classes.specs.Bodies.{Pairs, Expr, Body, body}
+use Rattle.xdg_classes.specs.Bodies.{Expr, Body, body}
+use Rattle.xdg_ast.specs.Texts.{texts}
 
 -- `defclass c P Q: t {e}`
 pub record ClassDef : Type 0 where
@@ -40,15 +41,8 @@ entries statements = flat_map entry statements
 abbrev pub class_names : List ClassDef → List Name
 class_names cs = map (λ c. c.name) cs
 
--- the texts of these names
-abbrev pub texts : List Name → List (List ℕ)
-texts names = map (λ name. name.text) names
-
 abbrev pub param_names : List ClassParam → List Name
 param_names params = map (λ param. param.name) params
-
-abbrev pub keys : Pairs → List Name
-keys pairs = map (λ pair. pair.key) pairs
 
 -- the first class with that name
 abbrev pub class_named : List ClassDef → List ℕ → Option ClassDef

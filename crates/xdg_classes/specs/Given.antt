@@ -4,9 +4,9 @@ use Rattle.std.specs.Borrow.{Bor}
 use Rattle.xdg_names.specs.Texts.{place_of}
 use Rattle.xdg_domain.specs.declared.types.Ty.{Ty}
 use Rattle.xdg_domain.specs.Shapes.{Shape, shape}
-use Rattle.xdg_names.specs.First.{In}
 use Rattle.xdg_terms.specs.Wanted.{Want}
 use Rattle.xdg_classes.specs.declared.wanted.WantedTypes.{WantedTypes}
+use Rattle.xdg_facts.specs.Membership.{In}
 
 abbrev pub shapes : List (Bor Ty) → List Shape
 shapes types = map (λ (ty : Bor Ty). shape ty.now) types

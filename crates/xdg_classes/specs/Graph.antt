@@ -6,7 +6,8 @@ use Rattle.xdg_names.specs.declared.graph.Use.{Use}
 use Rattle.xdg_types.specs.Graph.{use_of}
 use Rattle.xdg_types.specs.Parts.{Statement}
 use Rattle.xdg_classes.specs.Bodies.{body, calls}
-use Rattle.xdg_classes.specs.Definitions.{ClassDef, classes, class_names, texts}
+use Rattle.xdg_classes.specs.Definitions.{ClassDef, classes, class_names}
+use Rattle.xdg_ast.specs.Texts.{texts}
 
 -- the classes that a class uses, by their places among all, and where
 abbrev pub class_uses : List (List ℕ) → ClassDef → List Use

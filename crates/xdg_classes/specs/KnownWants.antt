@@ -1,7 +1,6 @@
 -- What is known of the wanted types of all classes.
 use Rattle.std.specs.Prelude.{◌≡◌, ℕ, ◌<◌, ◌↔◌, List, [], map, slice_get, slice_index_or}
 use Rattle.xdg_domain.specs.Shapes.{Shape}
-use Rattle.xdg_names.specs.First.{In}
 use Rattle.xdg_names.specs.Leads.{number}
 use Rattle.xdg_types.specs.Answers.{None_of}
 use Rattle.xdg_types.specs.Parts.{Statement}
@@ -13,6 +12,7 @@ use Rattle.xdg_classes.specs.declared.features.Features.{Features}
 use Rattle.xdg_classes.specs.declared.wanted.WantedTypes.{WantedTypes}
 use Rattle.xdg_classes.specs.Given.{given_in, told}
 use Rattle.xdg_classes.specs.Wants.{Wants, named_bodies}
+use Rattle.xdg_facts.specs.Membership.{In}
 
 -- The classes are those of the grammar, and the features those of its table; no name stands twice where it may stand once.
 pub record Fits (statements : List Statement) (table : Table) (features : Features) (classes : Classes) : Type 0 where

@@ -4,13 +4,13 @@ use Rattle.xdg_ast.specs.declared.names.Name.{Name}
 use Rattle.xdg_ast.specs.declared.grammar.ClassParam.{ClassParam}
 use Rattle.xdg_base.specs.declared.faults.Cause.TheVariants as causes
 use Rattle.xdg_base.specs.declared.faults.Fault.{Fault}
-use Rattle.xdg_domain.specs.Shapes.{Among}
-use Rattle.xdg_names.specs.First.{In}
 use Rattle.xdg_types.specs.Names.{fault_at}
-use Rattle.xdg_types.specs.Parts.{Statement}
+use Rattle.xdg_types.specs.Parts.{Statement, keys}
 use Rattle.xdg_types.specs.Table.{Table}
 use Rattle.xdg_classes.specs.Bodies.{Said, Called, records, calls}
-use Rattle.xdg_classes.specs.Definitions.{ClassDef, classes, class_names, class_named, param_names, keys, texts, bodies}
+use Rattle.xdg_classes.specs.Definitions.{ClassDef, classes, class_names, class_named, param_names, bodies}
+use Rattle.xdg_facts.specs.Membership.{In}
+use Rattle.xdg_ast.specs.Texts.{texts}
 
 -- the names of the defined dimensions
 abbrev pub dim_texts : Table → List (List ℕ)
@@ -28,14 +28,14 @@ all_calls statements = flat_map (λ scoped. calls scoped.body) (bodies statement
 pub record IsUnknownDimension (statements : List Statement) (table : Table) (f : Fault) : Type 0 where
   pub said : Said
   pub stands : In (all_records statements) said
-  pub missing : Among (dim_texts table) said.dim.text → ⊥
+  pub missing : In (dim_texts table) said.dim.text → ⊥
   pub fault : f ≡ fault_at causes.UnknownName said.dim.span.start
 
 -- a class is used that isn't defined
 pub record IsUnknownClass (statements : List Statement) (f : Fault) : Type 0 where
   pub call : Called
   pub stands : In (all_calls statements) call
-  pub missing : Among (texts (class_names (classes statements))) call.name.text → ⊥
+  pub missing : In (texts (class_names (classes statements))) call.name.text → ⊥
   pub fault : f ≡ fault_at causes.UnknownName call.name.span.start
 
 -- The lists of names in each of which a name may stand once: the classes, the parameters of each class, and the
@@ -53,7 +53,7 @@ pub record IsTwice (statements : List Statement) (f : Fault) : Type 0 where
   pub name : Name
   pub after : List Name
   pub parts : names ≡ before ++ name ∷ after
-  pub earlier : Among (texts before) name.text
+  pub earlier : In (texts before) name.text
   pub fault : f ≡ fault_at causes.Twice name.span.start
 
 -- a use gives a parameter that the class hasn't; of two classes with one name the first counts
@@ -64,7 +64,7 @@ pub record IsUnknownParam (statements : List Statement) (f : Fault) : Type 0 whe
   pub defined : class_named (classes statements) call.name.text ≡ Some class
   pub key : Name
   pub given : In (keys call.args) key
-  pub missing : Among (texts (param_names class.params)) key.text → ⊥
+  pub missing : In (texts (param_names class.params)) key.text → ⊥
   pub fault : f ≡ fault_at causes.WrongParams key.span.start
 
 -- a use leaves out a parameter that has no default
@@ -76,7 +76,7 @@ pub record IsLeftOut (statements : List Statement) (f : Fault) : Type 0 where
   pub param : ClassParam
   pub has : In class.params param
   pub bare : param.preset ≡ None
-  pub missing : Among (texts (keys call.args)) param.name.text → ⊥
+  pub missing : In (texts (keys call.args)) param.name.text → ⊥
   pub fault : f ≡ fault_at causes.WrongParams call.name.span.start
 
 -- what is wrong with the names in bodies, where these are the dimensions

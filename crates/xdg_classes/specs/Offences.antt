@@ -5,16 +5,17 @@ use Rattle.xdg_ast.specs.declared.names.Pair.{Pair}
 use Rattle.xdg_ast.specs.declared.grammar.ClassParam.{ClassParam}
 use Rattle.xdg_base.specs.declared.faults.Cause.TheVariants as causes
 use Rattle.xdg_base.specs.declared.faults.Fault.{Fault}
-use Rattle.xdg_domain.specs.Shapes.{Shape, Among}
-use Rattle.xdg_names.specs.First.{In}
+use Rattle.xdg_domain.specs.Shapes.{Shape}
 use Rattle.xdg_terms.specs.Offences.{OpenOffends}
 use Rattle.xdg_terms.specs.Stray.{IsStrayParam}
 use Rattle.xdg_types.specs.Names.{fault_at}
-use Rattle.xdg_types.specs.Parts.{Statement}
+use Rattle.xdg_types.specs.Parts.{Statement, keys}
 use Rattle.xdg_types.specs.Table.{Table}
 use Rattle.xdg_classes.specs.Bodies.{Term, Said, Called, records, calls}
-use Rattle.xdg_classes.specs.Definitions.{ClassDef, Scoped, bodies, classes, keys, texts}
+use Rattle.xdg_classes.specs.Definitions.{ClassDef, Scoped, bodies, classes}
 use Rattle.xdg_classes.specs.Wants.{feature_shape, named_bodies, Wants}
+use Rattle.xdg_facts.specs.Membership.{In}
+use Rattle.xdg_ast.specs.Texts.{texts}
 
 -- something is said of a feature that the dimension hasn't; its term isn't looked at
 pub record IsUnknownFeature (statements : List Statement) (table : Table) (f : Fault) : Type 0 where
@@ -37,7 +38,7 @@ pub record IsFeatureTwice (statements : List Statement) (f : Fault) : Type 0 whe
   pub name : Name
   pub after : List Name
   pub parts : keys said.pairs ≡ before ++ name ∷ after
-  pub earlier : Among (texts before) name.text
+  pub earlier : In (texts before) name.text
   pub fault : f ≡ fault_at causes.Twice name.span.start
 
 -- the term of a feature is wrong at the type of the feature, where the parameters of the class are open

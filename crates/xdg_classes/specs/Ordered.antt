@@ -4,13 +4,15 @@ use Rattle.xdg_base.specs.declared.faults.Stop.{Stop}
 use Rattle.xdg_base.specs.declared.faults.Stop.TheVariants as stops
 use Rattle.xdg_names.specs.Leads.{uses_of, number}
 use Rattle.xdg_names.specs.declared.graph.Use.{Use}
-use Rattle.xdg_names.specs.First.{In, Tells}
+use Rattle.xdg_names.specs.First.{Tells}
 use Rattle.xdg_types.specs.Answers.{None_of}
 use Rattle.xdg_types.specs.Parts.{Statement}
 use Rattle.xdg_classes.specs.declared.lookup.Classes.{Classes}
-use Rattle.xdg_classes.specs.Definitions.{ClassDef, classes, class_names, texts}
+use Rattle.xdg_classes.specs.Definitions.{ClassDef, classes, class_names}
 use Rattle.xdg_classes.specs.Graph.{class_graph, CycleOffends}
 use Rattle.xdg_classes.specs.Lent.{class_def}
+use Rattle.xdg_facts.specs.Membership.{In}
+use Rattle.xdg_ast.specs.Texts.{texts}
 
 -- The classes in the order of the text, their names, and an order of their places.
 pub record OrdersClasses (statements : List Statement) (made : Classes) : Type 0 where

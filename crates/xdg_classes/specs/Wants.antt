@@ -3,13 +3,14 @@ use Rattle.std.specs.Prelude.{◌≡◌, ℕ, List, [], ◌∷◌, map, Option, 
 use Rattle.xdg_ast.specs.declared.names.Pair.{Pair}
 use Rattle.xdg_domain.specs.declared.types.Ty.{Ty}
 use Rattle.xdg_domain.specs.Shapes.{Shape, shape}
-use Rattle.xdg_names.specs.First.{In}
 use Rattle.xdg_terms.specs.Wanted.{params_in}
 use Rattle.xdg_types.specs.declared.table.DimType.{DimType}
 use Rattle.xdg_types.specs.Parts.{Statement}
-use Rattle.xdg_types.specs.Table.{Table}
+use Rattle.xdg_types.specs.Table.{Table, dim_named}
 use Rattle.xdg_classes.specs.Bodies.{Term, Body, body, Said, Called, records, calls}
-use Rattle.xdg_classes.specs.Definitions.{ClassDef, classes, param_names, texts}
+use Rattle.xdg_classes.specs.Definitions.{ClassDef, classes, param_names}
+use Rattle.xdg_facts.specs.Membership.{In}
+use Rattle.xdg_ast.specs.Texts.{texts}
 
 -- a body with a name and with the parameters that may stand in it
 pub record NamedBody : Type 0 where
@@ -25,11 +26,6 @@ abbrev pub named_bodies : List Statement → List NamedBody
 named_bodies statements = map named (classes statements)
 
 -- ---- features
-
--- the first dimension with that name
-abbrev pub dim_named : List DimType → List ℕ → Option DimType
-dim_named [] name = None
-dim_named (d ∷ ds) name = if bytes_eq d.name name then Some d else dim_named ds name
 
 -- the type of the first feature with that name
 abbrev pub type_named : List (List ℕ × Ty) → List ℕ → Option Shape

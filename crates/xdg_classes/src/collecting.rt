@@ -4,10 +4,11 @@ ghost use Rattle.std.specs.Prelude.{◌≡◌, ◌<◌, ◌++◌, ◌↔◌, ℕ
 ghost use Rattle.std.specs.List.{flat_map};
 ghost use Rattle.std.specs.Option.{option_copied};
 ghost use Rattle.xdg_domain.specs.Shapes.{Shape};
-ghost use Rattle.xdg_names.specs.First.{In};
+ghost use Rattle.xdg_facts.specs.Membership.{In};
 ghost use Rattle.xdg_terms.specs.Wanted.{wants_of};
 ghost use Rattle.xdg_classes.specs.Bodies.{body};
-ghost use Rattle.xdg_classes.specs.Definitions.{texts, param_names};
+ghost use Rattle.xdg_classes.specs.Definitions.{param_names};
+ghost use Rattle.xdg_ast.specs.Texts.{texts};
 ghost use Rattle.xdg_classes.specs.Lent.{said, called};
 ghost use Rattle.xdg_types.specs.Parts.{Statement};
 ghost use Rattle.xdg_types.specs.Table.{Table};

@@ -3,6 +3,7 @@
 ghost use Rattle.std.specs.Prelude.{◌≡◌, map};
 ghost use Rattle.xdg_names.specs.Texts.{place_of};
 ghost use Rattle.xdg_classes.specs.Definitions as spec;
+ghost use Rattle.xdg_ast.specs.Texts.{texts};
 ghost use Rattle.xdg_classes.specs.Ordered.{class_at};
 ghost use Rattle.xdg_classes.specs.Lent.{class_def};
 
@@ -25,7 +26,7 @@ impl<'a> Classes<'a> {
     /// The place of the class with that name among all, from 0, if there is one.
     pub fn find(&self, name: &str) -> Option<usize>
         ensures place { result ≡ place_of self.now.names name.now }
-        ensures class { self.now.names ≡ spec.texts (spec.class_names (map class_def self.now.definitions))
+        ensures class { self.now.names ≡ texts (spec.class_names (map class_def self.now.definitions))
             → class_at (map class_def self.now.definitions) result ≡ spec.class_named (map class_def self.now.definitions) name.now }
     {
         self.names.find(name)

@@ -1,7 +1,6 @@
 //! The pass over the names in the bodies of classes and entries.
 
 ghost use Rattle.std.specs.Prelude.{◌≡◌, [], ◌++◌, map, flat_map, IfOk};
-ghost use Rattle.xdg_domain.specs.Shapes.{Differ};
 ghost use Rattle.xdg_names.specs.First.{first, Tells};
 ghost use Rattle.xdg_types.specs.NameFaults.{unknown, repeats};
 ghost use Rattle.xdg_classes.specs.Definitions.{class_names};
@@ -16,10 +15,10 @@ use crate::params::Known;
 use crate::repeats::{classes_again, params_again};
 use crate::uses::check_calls;
 use std::alloc::{AllocError, Global};
-use xdg_ast::{Name, Statement};
-use xdg_base::{Cause, Fault};
+use xdg_ast::Statement;
+use xdg_base::Fault;
 use xdg_names::{Index, earlier};
-use xdg_types::{DimType, TypeTable};
+use xdg_types::{TypeTable, index_dims};
 
 /// The first fault of the names of dimensions, classes and parameters in the bodies of all classes and entries, used or
 /// not, if there is one; the table is that of the grammar's types. Its cause is
@@ -65,7 +64,7 @@ fn dims_wrong(
 ) -> Result<Option<Fault>, AllocError>
     ensures { IfOk result (λ found. found ≡ first (flat_map (spec.said_faults (dim_texts table.now)) (sites.all_records statements.now))) }
 {
-    let dims = dim_names(alloc, table.dims())?;
+    let dims = index_dims(alloc, table.dims())?;
     let records = all_records(alloc, statements)?;
     Ok(unknown_dims(&dims, records.as_slice()))
 }
@@ -79,7 +78,8 @@ fn classes_wrong(
 ) -> Result<Option<Fault>, AllocError>
     ensures { IfOk result (λ found. found ≡ first (repeats [] (class_names (map class_def definitions.now))
         ++
-        (flat_map spec.param_faults (map class_def definitions.now) ++ flat_map (spec.call_faults (map class_def definitions.now)) (sites.all_calls statements.now)))) }
+        (flat_map spec.param_faults (map class_def definitions.now)
+        ++ flat_map (spec.call_faults (map class_def definitions.now)) (sites.all_calls statements.now)))) }
 {
     let twice = class_names_again(alloc, definitions)?;
     let params = all_params_again(alloc, definitions)?;
@@ -122,39 +122,13 @@ fn all_params_again(alloc: Global, definitions: &[ClassDef]) -> Result<Option<Fa
     Ok(found)
 }
 
-/// The names of the dimensions, which differ.
-fn dim_names(alloc: Global, dims: &[DimType]) -> Result<Index, AllocError>
-    requires { Differ (map (λ dim. dim.name) dims.now) }
-    ensures { IfOk result (λ made. made ≡ map (λ dim. dim.name) dims.now) }
-{
-    let mut all = Index::new(alloc);
-    for dim in dims {
-        let _ = all.add(alloc, dim.name.as_str())?;
-    }
-    Ok(all)
-}
-
-/// The fault of a dimension that isn't among those that are known.
-fn unknown_dim(known: &Index, name: &Name) -> Option<Fault>
-    ensures { result ≡ first (unknown known.now name.now) }
-{
-    if known.contains(name.text.as_str()) {
-        return None;
-    }
-    Some(Fault {
-        cause: Cause::UnknownName,
-        at: name.span.start,
-        reached: 0,
-    })
-}
-
 /// The first record of a dimension that isn't among those that are known.
 fn unknown_dims(known: &Index, records: &[Record]) -> Option<Fault>
     ensures { result ≡ first (flat_map (spec.said_faults known.now) (map said records.now)) }
 {
     let mut found = None;
     for record in records {
-        found = earlier(found, unknown_dim(known, record.dim));
+        found = earlier(found, xdg_types::unknown(known, record.dim));
     }
     found
 }

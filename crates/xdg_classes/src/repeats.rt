@@ -3,29 +3,15 @@
 ghost use Rattle.std.specs.Prelude.{◌≡◌, map, IfOk};
 ghost use Rattle.xdg_names.specs.First.{first};
 ghost use Rattle.xdg_types.specs.NameFaults as spec;
-ghost use Rattle.xdg_classes.specs.Definitions.{class_names, param_names, keys};
+ghost use Rattle.xdg_classes.specs.Definitions.{class_names, param_names};
 ghost use Rattle.xdg_classes.specs.Lent.{class_def};
 
 use crate::definitions::ClassDef;
 use std::alloc::{AllocError, Global};
-use xdg_ast::{ClassParam, Name, Pair, Term};
-use xdg_base::{Cause, Fault};
+use xdg_ast::ClassParam;
+use xdg_base::Fault;
 use xdg_names::{Index, earlier};
-
-/// The fault of a name that was seen before. From then on it is seen.
-fn repeated(alloc: Global, seen: &mut Index, name: &Name) -> Result<Option<Fault>, AllocError>
-    ensures found { IfOk result (λ found. found ≡ first (spec.repeated seen.old name.now)) }
-    ensures seen { IfOk result (λ _. seen.new ≡ spec.with_text seen.old name.now.text) }
-{
-    if seen.add(alloc, name.text.as_str())? {
-        return Ok(None);
-    }
-    Ok(Some(Fault {
-        cause: Cause::Twice,
-        at: name.span.start,
-        reached: 0,
-    }))
-}
+use xdg_types::repeated;
 
 /// The first class whose name was seen before. From then on all their names are seen.
 pub(crate) fn classes_again(
@@ -55,22 +41,6 @@ pub(crate) fn params_again(
     let mut found = None;
     for param in params {
         found = earlier(found, repeated(alloc, seen, &param.name)?);
-    }
-    Ok(found)
-}
-
-/// The first key that was seen before. From then on all keys are seen.
-pub(crate) fn keys_again(
-    alloc: Global,
-    seen: &mut Index,
-    pairs: &[Pair<Term>],
-) -> Result<Option<Fault>, AllocError>
-    ensures found { IfOk result (λ found. found ≡ first (spec.repeats seen.old (keys pairs.now))) }
-    ensures seen { IfOk result (λ _. seen.new ≡ spec.with_all seen.old (keys pairs.now)) }
-{
-    let mut found = None;
-    for pair in pairs {
-        found = earlier(found, repeated(alloc, seen, &pair.key)?);
     }
     Ok(found)
 }

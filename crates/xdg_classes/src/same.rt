@@ -2,7 +2,7 @@
 
 ghost use Rattle.std.specs.Prelude.{◌≡◌, IsTrue, map};
 ghost use Rattle.xdg_domain.specs.Shapes.{shape};
-ghost use Rattle.xdg_names.specs.First.{In};
+ghost use Rattle.xdg_facts.specs.Membership.{In};
 ghost use Rattle.xdg_terms.specs.Faults.{fields_in};
 
 use xdg_base::Text;

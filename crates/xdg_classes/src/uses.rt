@@ -4,18 +4,19 @@ ghost use Rattle.std.specs.Prelude.{◌≡◌, List, map, flat_map, option_map, 
 ghost use Rattle.std.specs.Option.{option_copied};
 ghost use Rattle.xdg_names.specs.First.{first};
 ghost use Rattle.xdg_types.specs.NameFaults.{different};
-ghost use Rattle.xdg_classes.specs.Definitions.{ClassDef, class_named, keys};
+ghost use Rattle.xdg_classes.specs.Definitions.{ClassDef, class_named};
+ghost use Rattle.xdg_types.specs.Parts.{keys};
 ghost use Rattle.xdg_classes.specs.NameFaults as spec;
 ghost use Rattle.xdg_classes.specs.Known.{shown, KnowsClasses};
 ghost use Rattle.xdg_classes.specs.Lent.{called};
 
 use crate::bodies::Call;
 use crate::params::{Known, Params};
-use crate::repeats::keys_again;
 use std::alloc::{AllocError, Global};
 use xdg_ast::{Name, Pair, Term};
 use xdg_base::{Cause, Fault};
 use xdg_names::{Index, earlier};
+use xdg_types::keys_seen;
 
 /// The fault of a parameter that isn't among those of the class.
 fn unknown_param(known: &Index, key: &Name) -> Option<Fault>
@@ -92,7 +93,7 @@ fn check_call(alloc: Global, known: &Known, call: &Call) -> Result<Option<Fault>
         → IfOk result (λ found. found ≡ first (spec.call_faults cs (called call.now))) }
 {
     let mut given = Index::new(alloc);
-    let again = keys_again(alloc, &mut given, call.args)?;
+    let again = keys_seen(alloc, &mut given, call.args)?;
     let found = known.find(call.name.text.as_str());
     Ok(earlier(again, class_wrong(found, &given, call)))
 }

@@ -8,13 +8,13 @@ use Rattle.clap.specs.Walk.{Row, Rule, has_row}
 use Rattle.xdg_command.specs.Items.{AreItems, ended, operands, by_operand, by_flag, by_next, by_equals, Item, operand, valued, flagged, is_among, one_if, operands_of, uses_of}
 use Rattle.xdg_command.specs.Syntax.{Table, all_differ}
 use Rattle.xdg_command.proofs.Fitting.{has_more, most, no_more}
-use Rattle.xdg_command.proofs.Lookups.{Right, among_at, differ, not_operand}
+use Rattle.xdg_command.proofs.Lookups.{Right, among_at, not_operand}
 use Rattle.xdg_command.proofs.Placed.{put}
 use Rattle.xdg_command.proofs.Reader.{onward}
 use Rattle.xdg_command.proofs.Rules.{added, flag_rule, form, operand_rule, row, value_rule}
 use Rattle.xdg_command.proofs.Spelled.{flag_form, value_form}
 use Rattle.xdg_facts.proofs.Lists.{some_at}
-use Rattle.xdg_facts.proofs.Texts.{equal}
+use Rattle.xdg_facts.proofs.Texts.{equal, other_test}
 
 -- the options of the items are options of the table
 abbrev pub Formed : Table → List Item → Type 0
@@ -30,7 +30,7 @@ distinct_at (n ∷ names) k zero a b different e f lt = absurd (omega (arith, lt
 distinct_at (n ∷ names) zero (suc j) a b different e f lt =
     let is : n ≡ a = cc in
     let first = not-true (is_among names n) (both (not (is_among names n)) (all_differ names) different).0 in
-    differ a b (λ x. true≢false (sym (among_at names j b f) ∙ ap (is_among names) (sym x ∙ sym is) ∙ first))
+    other_test a b (λ x. true≢false (sym (among_at names j b f) ∙ ap (is_among names) (sym x ∙ sym is) ∙ first))
 distinct_at (n ∷ names) (suc k) (suc j) a b different e f lt = distinct_at names k j a b (both (not (is_among names n)) (all_differ names) different).1 e f (omega (arith, lt))
 
 module _ (t : Table) (r : Right t) where
@@ -48,10 +48,10 @@ module _ (t : Table) (r : Right t) where
 
   -- an operand has no name of an option
   pub other_name : (k : ℕ) (a name : List ℕ) (b : Bool) → slice_get t.operands k ≡ Some a → form t name ≡ Some b → bytes_eq a name ≡ false
-  other_name k a name b e f = differ a name (λ x. true≢false (sym (among_at t.operands k a e) ∙ ap (is_among t.operands) x ∙ not_operand t r name b f))
+  other_name k a name b e f = other_test a name (λ x. true≢false (sym (among_at t.operands k a e) ∙ ap (is_among t.operands) x ∙ not_operand t r name b f))
 
   pub other_operand : (k : ℕ) (a name : List ℕ) (b : Bool) → slice_get t.operands k ≡ Some a → form t name ≡ Some b → bytes_eq name a ≡ false
-  other_operand k a name b e f = differ name a (λ x. true≢false (sym (among_at t.operands k a e) ∙ ap (is_among t.operands) (sym x) ∙ not_operand t r name b f))
+  other_operand k a name b e f = other_test name a (λ x. true≢false (sym (among_at t.operands k a e) ∙ ap (is_among t.operands) (sym x) ∙ not_operand t r name b f))
 
   -- each option is used at most once, counting that it is found already, and the places from the kth on are free
   abbrev Left : List Row → List Item → Type 0

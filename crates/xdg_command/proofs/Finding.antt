@@ -11,10 +11,10 @@ use Rattle.xdg_command.specs.Syntax.{Table}
 use Rattle.xdg_command.proofs.Built.{numbered, rules_in}
 use Rattle.xdg_command.proofs.Filling.{Formed, distinct_at, other_name, other_operand}
 use Rattle.xdg_command.proofs.Fitting.{operand_row, rows_of_items}
-use Rattle.xdg_command.proofs.Lookups.{Right, differ}
+use Rattle.xdg_command.proofs.Lookups.{Right}
 use Rattle.xdg_command.proofs.Rules.{flag_rule, form, row, value_rule}
 use Rattle.xdg_command.proofs.Uses.{at_none}
-use Rattle.xdg_facts.proofs.Texts.{equal, same_text}
+use Rattle.xdg_facts.proofs.Texts.{equal, same_text, other_test}
 
 abbrev pub found_in : List ℕ → List Row → Option Row
 found_in name rows = find (λ r. bytes_eq r.id name) rows
@@ -41,7 +41,7 @@ module _ (t : Table) (r : Right t) where
       go true more = refl
       go false more = more
   finds_value name mine k (flagged other ∷ items) formed =
-      let no : bytes_eq other name ≡ false = differ other name (λ x. let bad : Some false ≡ Some true = sym formed.0 ∙ ap (form t) x ∙ mine in true≢false (sym cc)) in
+      let no : bytes_eq other name ≡ false = other_test other name (λ x. let bad : Some false ≡ Some true = sym formed.0 ∙ ap (form t) x ∙ mine in true≢false (sym cc)) in
       rw no (finds_value name mine k items formed.1)
 
   pub finds_flag : (name : List ℕ) → form t name ≡ Some false → (k : ℕ) (items : List Item) → Formed t items
@@ -54,7 +54,7 @@ module _ (t : Table) (r : Right t) where
       go None e more = more
       go (Some other) e more = rw (other_name t r k other name false e mine) more
   finds_flag name mine k (valued other value ∷ items) formed =
-      let no : bytes_eq other name ≡ false = differ other name (λ x. let bad : Some true ≡ Some false = sym formed.0 ∙ ap (form t) x ∙ mine in true≢false cc) in
+      let no : bytes_eq other name ≡ false = other_test other name (λ x. let bad : Some true ≡ Some false = sym formed.0 ∙ ap (form t) x ∙ mine in true≢false cc) in
       rw no (finds_flag name mine k items formed.1)
   finds_flag name mine k (flagged other ∷ items) formed = go (bytes_eq other name) refl (finds_flag name mine k items formed.1)
     where

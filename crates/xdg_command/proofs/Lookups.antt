@@ -12,16 +12,9 @@ use Rattle.xdg_command.specs.Syntax.{Table, all_differ, are_apart, is_name, is_r
 use Rattle.xdg_command.proofs.Built.{numbered, options_in, rules_in}
 use Rattle.xdg_command.proofs.Rules.{Finds, flag_rule, form, operand_rule, option_rule, value_rule}
 use Rattle.xdg_facts.proofs.Truths.{or_false}
-use Rattle.xdg_facts.proofs.Texts.{equal, same_text}
+use Rattle.xdg_facts.proofs.Texts.{equal, same_text, other_test}
 
 -- ---- names
-
-pub differ : (a b : List ℕ) → (a ≡ b → ⊥) → bytes_eq a b ≡ false
-differ a b apart = go (bytes_eq a b) refl
-  where
-    go : (x : Bool) → bytes_eq a b ≡ x → bytes_eq a b ≡ false
-    go true e = absurd (apart (same_text a b e))
-    go false e = e
 
 -- a text that stands in a list is among its texts
 pub among_at : (names : List (List ℕ)) (k : ℕ) (name : List ℕ) → slice_get names k ≡ Some name → is_among names name ≡ true
@@ -135,7 +128,7 @@ module _ (t : Table) where
   by_its_name : Right t → (name : List ℕ) (b : Bool) → form t name ≡ Some b → arg_by_id (rules_in t) name ≡ Some (option_rule name b)
   by_its_name r name b e =
       let test : Rule → Bool = λ a. bytes_eq a.id name in
-      skipped test 1 t.operands (options_in t) (λ p n is. differ n name (λ x. true≢false (sym is ∙ ap (is_among t.operands) x ∙ not_operand r name b e)))
+      skipped test 1 t.operands (options_in t) (λ p n is. other_test n name (λ x. true≢false (sym is ∙ ap (is_among t.operands) x ∙ not_operand r name b e)))
       ∙ among_options name test (λ n. refl) (λ n. refl) ∙ ap (option_map (option_rule name)) e
 
 -- operands by their place
@@ -162,7 +155,7 @@ at_name place zero (n ∷ names) rest name different e =
 at_name place (suc k) (n ∷ names) rest name different e =
     let parts = both (not (is_among names n)) (all_differ names) different in
     let next : suc place + k ≡ place + suc k = omega arith in
-    let other = differ n name (λ x. true≢false (sym (among_at names k name e) ∙ ap (is_among names) (sym x) ∙ not-true _ parts.0)) in
+    let other = other_test n name (λ x. true≢false (sym (among_at names k name e) ∙ ap (is_among names) (sym x) ∙ not-true _ parts.0)) in
     rw other (at_name (suc place) k names rest name parts.1 e ∙ ap (λ p. Some (operand_rule p name)) next)
 
 pub finds_in : (t : Table) → Right t → Finds t (rules_in t)

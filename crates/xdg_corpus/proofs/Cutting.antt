@@ -51,3 +51,6 @@ cut_line text line rest result =
 pub whole_line : (text : List ℕ) → IsSplitOnceResult 10 text None → 0 < length text → lines text ≡ text ∷ lines []
 unfolding IsPlain
 whole_line text result some = cut_last text some (split_parts 10 text None result (omega arith))
+
+-- a text cut behind its first line
+pub ruleset cut_steps = (cut_lines, cut_rest, cut_line, whole_line)

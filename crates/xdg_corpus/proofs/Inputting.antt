@@ -5,10 +5,11 @@ use Rattle.std.specs.Str.{IsValidUpTo}
 use Rattle.xdg_base.specs.declared.faults.Cause.TheVariants as causes
 use Rattle.xdg_base.specs.declared.faults.Fault.{Fault}
 use Rattle.xdg_corpus.specs.Inputs.{HasText, IsBadCorpus, IsNoCorpus, corpus_limit, no_text, too_long}
-use Rattle.xdg_inputs.specs.Places.{fault, place_in}
+use Rattle.xdg_inputs.specs.Places.{place_in}
 use Rattle.xdg_inputs.specs.Refusals.{RejectsAt}
 use Rattle.xdg_inputs.specs.Stages.{Accepts, Rejects}
 use Rattle.xdg_facts.proofs.Texts.{one_place}
+use Rattle.xdg_build.specs.Refusals.{fault}
 
 text_or_not : (input text : List ℕ) (f : Fault) → HasText input text → IsNoCorpus input f → ⊥
 text_or_not input text f has (too_long long e) = let w = has.within in omega (arith, w, long)

@@ -3,7 +3,7 @@ use Rattle.std.specs.Prelude.{◌≡◌, ℕ, ◌<◌, ◌≤◌, ◌+◌, List,
 use Rattle.std.specs.Str.{IsValidUpTo}
 use Rattle.xdg_base.specs.declared.faults.Cause.TheVariants as causes
 use Rattle.xdg_base.specs.declared.faults.Fault.{Fault}
-use Rattle.xdg_inputs.specs.Places.{fault}
+use Rattle.xdg_build.specs.Refusals.{fault}
 
 -- how many bytes the input of a corpus may have
 abbrev pub corpus_limit : ℕ

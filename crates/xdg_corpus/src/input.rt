@@ -4,7 +4,8 @@ ghost use Rattle.std.specs.Prelude.{◌≡◌, ◌≢◌, ◌≤◌, ℕ, List, 
 ghost use Rattle.xdg_corpus.specs.Inputs.{HasText, IsBadCorpus};
 ghost use Rattle.xdg_io.specs.Left.{TakesAll};
 ghost use Rattle.xdg_io.specs.Rose.{Rose};
-ghost use Rattle.xdg_inputs.specs.Places.{fault, place_in};
+ghost use Rattle.xdg_inputs.specs.Places.{place_in};
+ghost use Rattle.xdg_build.specs.Refusals.{fault};
 ghost use Rattle.xdg_inputs.specs.Refusals.{Stops};
 ghost use Rattle.xdg_inputs.specs.Stages.{Accepts};
 

@@ -4,7 +4,7 @@ ghost use Rattle.std.specs.Prelude.{◌≡◌, ◌<◌, ◌≤◌, ◌∷◌, le
 ghost use Rattle.xdg_corpus.specs.Lines.{lines};
 
 /// The first line of a text that is not empty, without its line feed, and what stands behind that.
-#[tactic(auto, using(crate::proofs::Cutting::cut_lines, crate::proofs::Cutting::cut_rest, crate::proofs::Cutting::cut_line, crate::proofs::Cutting::whole_line))]
+#[tactic(auto, using(crate::proofs::Cutting::cut_steps))]
 pub(crate) fn first_line(text: &str) -> (&str, &str)
     requires { 0 < length text.now }
     ensures lines { lines text.now ≡ result.0.now ∷ lines result.1.now }

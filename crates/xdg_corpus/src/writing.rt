@@ -32,7 +32,7 @@ fn write_own<K: Sink>(sentence: &Sentence, answers: &[Answer], out: &mut K) -> R
 }
 
 /// Writes the number of a line, and its text.
-#[tactic(auto, using(xdg_text::proofs::Pieces::appends_both, xdg_text::proofs::Pieces::rose_later))]
+#[tactic(auto, using(xdg_io::proofs::Written::appends_both, xdg_text::proofs::Pieces::rose_later))]
 fn write_sentence<K: Sink>(
     number: u64,
     sentence: &Sentence,
@@ -50,7 +50,7 @@ fn write_sentence<K: Sink>(
 }
 
 /// Writes the texts of lines in their order, of which the first has this number, piece by piece.
-#[tactic(auto, using(xdg_text::proofs::Pieces::start, xdg_text::proofs::Pieces::done, xdg_text::proofs::Pieces::rose_later))]
+#[tactic(auto, using(xdg_text::proofs::Pieces::start, xdg_io::proofs::Written::written_all, xdg_text::proofs::Pieces::rose_later))]
 fn write_texts<K: Sink>(
     first: u64,
     sentences: &[Sentence],

@@ -4,7 +4,7 @@ use Rattle.std.proofs.Math.Nat.{min-eq_left, min-eq_right, mul_comm}
 use Rattle.std.proofs.lemmas.Bool.{cases_lt}
 use Rattle.xdg_facts.proofs.Numbers.{below_one, grown}
 
-beyond_both : (a b most : ℕ) → most ≤ a → min (most * b) most ≡ min (a * b) most
+pub beyond_both : (a b most : ℕ) → most ≤ a → min (most * b) most ≡ min (a * b) most
 beyond_both a zero most beyond = omega arith
 beyond_both a (suc b) most beyond = min-eq_right (grown most b most (omega arith)) ∙ sym (min-eq_right (grown a b most beyond))
 

@@ -19,7 +19,7 @@ use Rattle.xdg_facts.proofs.Options.{some_same}
 
 -- ---- whether there is one
 
-differ : {A : Type 0} (o : Option A) (x : A) → o ≡ None → o ≡ Some x → ⊥
+pub differ : {A : Type 0} (o : Option A) (x : A) → o ≡ None → o ≡ Some x → ⊥
 differ o x e f = cc
 
 pub mapped_plain : (s : Shape) → IsMapped s → HasPlain s → ⊥
@@ -87,7 +87,7 @@ map_made u keys all mapped right made = elim (decided u right) [
 abbrev pub IsRight : Shape → Value → Type 0
 IsRight s x = IsValue s x × IsFilled s x
 
-by_layer : (s : Shape) (x y : Value) (l : Value-F Value) → Some y ≡ Some x → out-Value y ≡ l → IsIn s l × IsFilledIn s l → IsRight s x
+pub by_layer : (s : Shape) (x y : Value) (l : Value-F Value) → Some y ≡ Some x → out-Value y ≡ l → IsIn s l × IsFilledIn s l → IsRight s x
 by_layer s x y l e o given = subst (IsRight s) (some_same y x e) (subst (λ m. IsIn s m × IsFilledIn s m) (sym o) given)
 
 all_cards : IsCards (cards (λ _. true))
@@ -117,10 +117,10 @@ fields_rise (field_then name u fs) place all e =
     subst (KeysRise place) t.whole (omega arith, fields_rise fs (place + 1) t.rest t.more)
 
 -- the value is one of the field that stands so many after that place
-abbrev IsAt : Fields → ℕ → ℕ → Value → Type 0
+abbrev pub IsAt : Fields → ℕ → ℕ → Value → Type 0
 IsAt fs place k w = (j : ℕ) × ((k ≡ place + j) × IsFieldOf fs j w)
 
-each_wider : (P Q : ℕ → Value → Type 0) → ((k : ℕ) (w : Value) → P k w → Q k w) → (s : List (ℕ × Value)) → EachSaid P s → EachSaid Q s
+pub each_wider : (P Q : ℕ → Value → Type 0) → ((k : ℕ) (w : Value) → P k w → Q k w) → (s : List (ℕ × Value)) → EachSaid P s → EachSaid Q s
 each_wider P Q wider [] h = tt
 each_wider P Q wider (entry ∷ s) h = (wider entry.0 entry.1 h.0, each_wider P Q wider s h.1)
 

@@ -14,7 +14,7 @@ use Rattle.xdg_domain.proofs.Numbers.{either_is, both_is, union_unique, meet_uni
 use Rattle.xdg_domain.proofs.Keyed.{says_unique, says_exclusive, says_commutes, some_commutes, says_regroups, some_stays, says_right}
 use Rattle.xdg_domain.proofs.Merged.{merged_tells}
 
-same_out : (x y : Value) → out-Value x ≡ out-Value y → x ≡ y
+pub same_out : (x y : Value) → out-Value x ≡ out-Value y → x ≡ y
 same_out x y e = sym (roll-out-Value x) ∙ ap roll-Value e ∙ roll-out-Value y
 
 -- ---- one value at most

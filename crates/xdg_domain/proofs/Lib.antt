@@ -1,6 +1,5 @@
 pub mod Numbers
 pub mod Opened
-pub mod Rising
 pub mod Masks
 pub mod JoinLaws
 pub mod Keyed
@@ -17,3 +16,4 @@ pub mod Made
 pub mod Shaped
 pub mod DefaultLaws
 pub mod Compared
+pub mod Constants

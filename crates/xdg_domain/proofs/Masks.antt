@@ -1,30 +1,19 @@
 -- What an operation on bits does to the numbers that they stand for.
-use Rattle.std.proofs.Common.{◌≡◌, ◌↔◌, ℕ, ◌<◌, ◌≤◌, ◌-◌, ◌*◌, ◌/◌, ◌%◌, ◌^◌, suc, List, [], ◌∷◌, refl, ap, ap₂, sym, ◌∙◌, arith, inl, inr, bit_and, bit_or}
+use Rattle.std.proofs.Common.{◌≡◌, ◌↔◌, ℕ, ◌<◌, ◌≤◌, ◌-◌, ◌*◌, ◌%◌, ◌^◌, suc, List, [], ◌∷◌, refl, ap, ap₂, sym, ◌∙◌, arith, inl, inr, bit_and, bit_or}
 use Rattle.std.specs.Prelude.{Bool, true, false, not, ◌&&◌, ◌||◌, ◌==◌, filter, cond, nat_lt}
 use Rattle.std.specs.Int.{bit_at, w128, trailing_zeros, leading_zeros}
 use Prim.Native.Nat.{min, max}
 use Rattle.std.proofs.lemmas.Nat.{leading_top, pow_pos, one_shl, or_lt, le_or_l, and_le_l}
-use Rattle.std.proofs.lemmas.Nat.Bits.{bit_at_and, bit_at_or, bit_at-lt, bit_at-zero, bit_at_set_same, bit_at_set_other, bit_at_mask_inside, bit_at-trailing_zeros, bit_at_above, shr_and_one}
+use Rattle.std.proofs.lemmas.Nat.Bits.{bit_at_and, bit_at_or, bit_at-lt, bit_at-zero, bit_at_set_same, bit_at_set_other, bit_at_mask_inside, bit_at-trailing_zeros, bit_at_above}
 use Rattle.std.proofs.lemmas.Bool.{cases_eq, cases_lt, cond_both, eq-eqb, ne_eqb, lt-ltb, le-ltb, eqb-true}
-use Rattle.xdg_domain.specs.Cards.{has, numbers_below, cards, IsCards, with_card, common}
-use Rattle.xdg_domain.specs.Bits.{is_set, members, number, same_number}
-use Rattle.xdg_domain.proofs.Rising.{numbers_agree, has_of, has_beyond, none_of, but, first_of, rises_of}
-use Rattle.xdg_facts.proofs.Numbers.{below_two}
+use Rattle.xdg_domain.specs.Cards.{cards, IsCards, with_card, common}
 use Rattle.xdg_facts.proofs.Bits.{top_bit}
-
--- no test both passes and fails
-pub apart : {A : Type 0} (t : Bool) → t ≡ true → t ≡ false → A
-apart true e f = absurd (omega (arith, ap {B = ℕ} (λ b. cond b 1 0) f))
-apart false e f = absurd (omega (arith, ap {B = ℕ} (λ b. cond b 1 0) e))
-
-at_bits : (f g : ℕ → ℕ → Bool) → f 0 0 ≡ g 0 0 → f 0 1 ≡ g 0 1 → f 1 0 ≡ g 1 0 → f 1 1 ≡ g 1 1 → (x y : ℕ) → x < 2 → y < 2 → f x y ≡ g x y
-at_bits f g a b c d x y h k = elim (below_two x h) [
-  | inl e ↦ elim (below_two y k) [ inl i ↦ ap₂ f e i ∙ a ∙ sym (ap₂ g e i) | inr i ↦ ap₂ f e i ∙ b ∙ sym (ap₂ g e i) ]
-  | inr e ↦ elim (below_two y k) [ inl i ↦ ap₂ f e i ∙ c ∙ sym (ap₂ g e i) | inr i ↦ ap₂ f e i ∙ d ∙ sym (ap₂ g e i) ]
-]
-
-has_members : (b k : ℕ) → k < 128 → has (members b) k ≡ is_set b k
-has_members b k below = has_of 128 (is_set b) k below
+use Rattle.xdg_facts.specs.Rises.{has, numbers_below}
+use Rattle.xdg_facts.specs.BitSets.{is_set, members, number}
+use Rattle.xdg_facts.proofs.Weights.{same_number}
+use Rattle.xdg_facts.proofs.Truths.{apart}
+use Rattle.xdg_facts.proofs.BitMembers.{at_bits, has_members}
+use Rattle.xdg_facts.proofs.Rising.{numbers_agree, has_beyond, has_of, none_of, but, rises_of, first_of}
 
 -- a number that stands there is below the bound, and its bit is set
 standing : (b k : ℕ) → has (members b) k ≡ true → (k < 128) × (is_set b k ≡ true)
@@ -72,9 +61,6 @@ members_are_cards b some within = record {
 
 pub empty_bits : members 0 ≡ []
 empty_bits = none_of 128 (is_set 0) (λ k. ap (λ z. z == 1) (bit_at-zero k))
-
-pub contains_bits : (b n : ℕ) → n < 128 → (bit_and (b / 2 ^ n) 1 == 1) ≡ has (members b) n
-contains_bits b n below = ap (λ z. z == 1) (shr_and_one b n) ∙ sym (has_members b n below)
 
 pub none_beyond : (b n : ℕ) → 128 ≤ n → false ≡ has (members b) n
 none_beyond b n above = sym (has_beyond 128 (is_set b) n above)

@@ -4,8 +4,8 @@ use Rattle.std.specs.Prelude.{Bool, true, false, ◌&&◌, ◌||◌, ◌==◌}
 use Rattle.std.specs.List.Sorted.{IsStrictlyIncreasing}
 use Rattle.std.proofs.lemmas.List.{drop_more}
 use Rattle.std.proofs.lemmas.Bool.{cases_eq, ne_eqb}
-use Rattle.xdg_domain.specs.Cards.{has, Rises}
 use Rattle.xdg_facts.proofs.Truths.{and_false, or_false, or_assoc}
+use Rattle.xdg_facts.specs.Rises.{has, Rises}
 
 -- the list rises strictly, from low on
 abbrev pub RisesFrom : ℕ → List ℕ → Type 0

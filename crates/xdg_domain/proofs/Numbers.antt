@@ -4,16 +4,17 @@ use lib.Pointwise.{pointwise}
 use Rattle.std.specs.Prelude.{eqb, Bool, true, false, ◌&&◌, ◌||◌, ◌==◌, Option, None, Some, MatchOption, Result, Ok, Err, IfOk, filter}
 use Rattle.std.specs.List.Sorted.{IsStrictlyIncreasing}
 use Rattle.std.proofs.lemmas.Bool.{cases_eq, cases_lt, eq-eqb, eqb-true, ne_eqb, true≢false, cond_both}
-use Rattle.xdg_domain.specs.Cards.{has, cards, numbers_below, Rises, IsCards, common}
+use Rattle.xdg_domain.specs.Cards.{cards, IsCards, common}
 use Rattle.xdg_domain.specs.Valencies.{said_at, KeysRise, both_say, Clash}
 use Rattle.xdg_domain.specs.Values.{AllBelow, EachSaid}
 use Rattle.xdg_domain.specs.Joins.{Both, SaysBoth, OnBoth, OnSome, IsUnion, IsMeet, AllowsBoth, IsApart}
 use Rattle.xdg_domain.specs.Joined.{above, either, both, where_some, allowed, merged, same_list}
-use Rattle.xdg_domain.proofs.Rising.{has_of, has_beyond, rises_of, numbers_agree}
 use Rattle.xdg_domain.proofs.Merging.{RisesFrom, rises_of_increasing, increasing_of_rises, absent}
 use Rattle.xdg_domain.proofs.Keyed.{says_exclusive, says_unique}
 use Rattle.xdg_domain.proofs.Merged.{merged_tells}
 use Rattle.xdg_facts.proofs.Truths.{and_false, or_true, and_swap, and_first, or_assoc}
+use Rattle.xdg_facts.specs.Rises.{has, numbers_below, Rises}
+use Rattle.xdg_facts.proofs.Rising.{numbers_agree, has_beyond, has_of, rises_of}
 
 -- ---- rising lists
 
@@ -23,7 +24,7 @@ has_head x s n is = ap (λ t. t || has s n) (eq-eqb x n is)
 has_after : (x : ℕ) (s : List ℕ) (n : ℕ) → (x ≡ n → ⊥) → has (x ∷ s) n ≡ has s n
 has_after x s n other = ap (λ t. t || has s n) (ne_eqb x n other)
 
-members_same : (low : ℕ) (a b : List ℕ) → RisesFrom low a → RisesFrom low b → ((n : ℕ) → has a n ≡ has b n) → a ≡ b
+pub members_same : (low : ℕ) (a b : List ℕ) → RisesFrom low a → RisesFrom low b → ((n : ℕ) → has a n ≡ has b n) → a ≡ b
 members_same low [] [] h k same = refl
 members_same low [] (y ∷ b) h k same = absurd (true≢false (sym (has_head y b y refl) ∙ sym (same y)))
 members_same low (x ∷ a) [] h k same = absurd (true≢false (sym (has_head x a x refl) ∙ same x))
@@ -41,7 +42,7 @@ members_same low (x ∷ a) (y ∷ b) h k same = elim (cases_eq x y) [
 pub increasing_same : (a b : List ℕ) → IsStrictlyIncreasing a → IsStrictlyIncreasing b → ((n : ℕ) → has a n ≡ has b n) → a ≡ b
 increasing_same a b h k same = members_same 0 a b (rises_of_increasing a h) (rises_of_increasing b k) same
 
-from_rises : (low bound : ℕ) (s : List ℕ) → Rises low bound s → RisesFrom low s
+pub from_rises : (low bound : ℕ) (s : List ℕ) → Rises low bound s → RisesFrom low s
 from_rises low bound [] r = tt
 from_rises low bound (n ∷ s) r = (r.0, from_rises (n + 1) bound s r.2)
 

@@ -9,7 +9,7 @@ use Rattle.xdg_domain.specs.declared.values.Value.{Value, out-Value}
 use Rattle.xdg_domain.specs.declared.values.Value.TheVariants as v
 use Rattle.xdg_domain.specs.declared.values.Value.TheOpen.{Value-F}
 
-shape_map : (key of : Ty) → shape (t.Map key of) ≡ mapping (shape key) (shape of)
+pub shape_map : (key of : Ty) → shape (t.Map key of) ≡ mapping (shape key) (shape of)
 shape_map key of = fold_out-Ty Shape layer (t.Map key of) ∙ ap (λ l. layer (map-Ty Ty Shape shape l)) (t.outs-Map key of)
 
 fields_mapped : (fs : List (List ℕ × Ty)) → fields_of (map (λ f. (f.0, shape f.1)) fs) ≡ fields_in fs

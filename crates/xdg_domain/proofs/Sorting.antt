@@ -1,15 +1,15 @@
 -- What stands in a list stays there when it is sorted and loses its repetitions.
-use Rattle.std.proofs.Common.{◌≡◌, ℕ, ◌<◌, ◌+◌, zero, suc, List, [], ◌∷◌, ◌++◌, length, get_or, refl, ap, sym, ◌∙◌, arith, inl, inr}
-use Rattle.std.specs.Prelude.{true, false, eqb, ◌||◌, ◌==◌}
+use Rattle.std.proofs.Common.{◌≡◌, ℕ, ◌<◌, ◌+◌, zero, suc, List, [], ◌∷◌, ◌++◌, length, get_or, refl, ap, sym, ◌∙◌, arith}
+use Rattle.std.specs.Prelude.{true, eqb, ◌||◌, ◌==◌}
 use Rattle.std.specs.List.{range_with_len, Contains, dedup, list_any}
 use Rattle.std.specs.List.Sorted.{IsStrictlyIncreasing, IsPermutation}
 use Rattle.std.proofs.lemmas.List.Sorted.{IsPermutation-sym, Contains-permutation}
 use Rattle.std.proofs.lemmas.List.Kept.{Contains-dedup_nat, Contains-from_dedup}
-use Rattle.std.proofs.lemmas.Bool.{cases_eq, eq-eqb, ne_eqb}
-use Rattle.xdg_domain.specs.Cards.{has}
-use Rattle.xdg_domain.proofs.Masks.{apart}
+use Rattle.std.proofs.lemmas.Bool.{eq-eqb}
 use Rattle.std.proofs.lemmas.List.FromFn.{length-range_with_len, get_or-range_with_len}
 use Rattle.xdg_facts.proofs.Truths.{or_true, same_flag}
+use Rattle.xdg_facts.specs.Rises.{has}
+use Rattle.xdg_facts.proofs.Rising.{contains_of_has}
 
 pub range_rises : (first count : ℕ) → IsStrictlyIncreasing (range_with_len first count)
 range_rises first count k h =
@@ -30,15 +30,6 @@ range_more count =
     let e : 0 + count ≡ count = omega arith in
     let g : suc count ≡ count + 1 = omega arith in
     ap (λ n. range_with_len 0 count ++ n ∷ []) (sym e) ∙ grown 0 count ∙ ap (λ n. range_with_len 0 n) g
-
-contains_of_has : (s : List ℕ) (n : ℕ) → has s n ≡ true → Contains s n
-contains_of_has [] n stands = apart false stands refl
-contains_of_has (m ∷ s) n stands = elim (cases_eq m n) [
-  | inl e ↦ (0, omega arith, e)
-  | inr other ↦
-      let c = contains_of_has s n (sym (ap (λ t. t || has s n) (ne_eqb m n other)) ∙ stands) in
-      (suc c.0, omega (arith, c.1), c.2)
-]
 
 has_at : (s : List ℕ) (n k : ℕ) → k < length s → get_or s k n ≡ n → has s n ≡ true
 has_at [] n k h e = absurd (omega (arith, h))

@@ -1,12 +1,13 @@
 -- What two values of a type say together, as a function of them.
 use Rattle.std.specs.Prelude.{ℕ, zero, suc, ◌+◌, Bool, true, false, ◌||◌, ◌&&◌, nat_lt, nat_eq, List, [], ◌∷◌, ◌++◌, Option, None, Some, MatchOption}
-use Rattle.xdg_domain.specs.Cards.{has, numbers_below, common}
+use Rattle.xdg_domain.specs.Cards.{common}
 use Rattle.xdg_domain.specs.Joins.{Joins, Clashes}
 use Rattle.xdg_domain.specs.declared.types.Ty.{Ty}
 use Rattle.xdg_domain.specs.Shapes.{Shape, shape, domain, tuple, truth, integer, text, set, iset, card, valency, mapping, fields, Fields, no_field, field_then}
 use Rattle.xdg_domain.specs.declared.values.Value.{Value, out-Value}
 use Rattle.xdg_domain.specs.declared.values.Value.TheVariants as v
 use Rattle.xdg_domain.specs.declared.values.Value.TheOpen.{Value-F}
+use Rattle.xdg_facts.specs.Rises.{has, numbers_below}
 
 -- ---- numbers
 

@@ -1,12 +1,13 @@
 -- What two values of a type say together.
 use Rattle.std.specs.Prelude.{◌≡◌, ◌⊎◌, ℕ, zero, suc, ◌&&◌, ◌||◌, false, List, Option, None, Some}
 use Rattle.std.specs.List.Sorted.{IsStrictlyIncreasing}
-use Rattle.xdg_domain.specs.Cards.{has, IsCards}
+use Rattle.xdg_domain.specs.Cards.{IsCards}
 use Rattle.xdg_domain.specs.Valencies.{said_at, KeysRise}
 use Rattle.xdg_domain.specs.Shapes.{Shape, domain, tuple, truth, integer, text, set, iset, card, valency, mapping, fields, Fields, no_field, field_then}
 use Rattle.xdg_domain.specs.Values.{IsValue}
 use Rattle.xdg_domain.specs.declared.values.Value.{Value, out-Value}
 use Rattle.xdg_domain.specs.declared.values.Value.TheOpen.{Value-F}
+use Rattle.xdg_facts.specs.Rises.{has}
 
 -- ---- key by key
 

@@ -1,8 +1,9 @@
 -- The types of a grammar as trees: which of them there are, and how many values they have.
-use Rattle.std.specs.Prelude.{◌≡◌, ℕ, ◌≤◌, ◌*◌, List, [], ◌∷◌, ◌++◌, ◌⊎◌, length}
+use Rattle.std.specs.Prelude.{◌≡◌, ℕ, ◌≤◌, ◌*◌, List, [], ◌∷◌, ◌++◌, length}
 use Rattle.xdg_domain.specs.declared.types.Ty.{Ty}
 use Rattle.xdg_domain.specs.declared.types.Ty.TheOpen.{Ty-F}
 use Rattle.xdg_domain.specs.declared.types.Ty.TheFolds.{fold-Ty}
+use Rattle.xdg_facts.specs.Membership.{Differ}
 
 mutual
   pub data Shape : Type 0 where
@@ -97,16 +98,6 @@ count (tuple ss) = product (sizes ss)
 count _ = 0
 
 -- ---- types
-
--- the text stands in the list
-abbrev pub Among : List (List ℕ) → List ℕ → Type 0
-Among [] t = ⊥
-Among (x ∷ xs) t = (x ≡ t) ⊎ Among xs t
-
--- no text stands twice in the list
-abbrev pub Differ : List (List ℕ) → Type 0
-Differ [] = Unit {0}
-Differ (x ∷ xs) = (Among xs x → ⊥) × Differ xs
 
 -- a domain has at most 64 constants, all different
 abbrev pub IsDomain : Shape → Type 0

@@ -1,7 +1,8 @@
 //! The numbers that a cardinality allows, as the bits of one number.
 
 ghost use Rattle.std.specs.Prelude.{◌≡◌, ℕ, ◌<◌, ◌≤◌, [], ◌∷◌, ◌==◌, ◌||◌, true, ◌↔◌, MatchOption, nat_lt};
-ghost use Rattle.xdg_domain.specs.Cards.{has, cards, IsCards, with_card, common};
+ghost use Rattle.xdg_domain.specs.Cards.{cards, IsCards, with_card, common};
+ghost use Rattle.xdg_facts.specs.Rises.{has};
 
 use std::marker::Model;
 
@@ -16,7 +17,8 @@ pub struct CardSet {
 impl Model for CardSet {
     ghost use Rattle.std.specs.Prelude.{ℕ, List, ◌<◌, ◌^◌};
     ghost use Rattle.std.specs.Coded.{coded_list, coded_ℕ};
-    ghost use Rattle.xdg_domain.specs.Bits.{members, number, same_bits};
+    ghost use Rattle.xdg_domain.specs.Bits.{same_bits};
+    ghost use Rattle.xdg_facts.specs.BitSets.{members, number};
 
     ghost Value = { List ℕ };
 

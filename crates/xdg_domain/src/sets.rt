@@ -3,7 +3,7 @@
 ghost use Rattle.std.specs.Prelude.{◌≡◌, ℕ, [], ◌||◌, ◌&&◌, IfOk};
 ghost use Rattle.std.specs.List.{range_with_len};
 ghost use Rattle.std.specs.List.Sorted.{IsStrictlyIncreasing};
-ghost use Rattle.xdg_domain.specs.Cards.{has};
+ghost use Rattle.xdg_facts.specs.Rises.{has};
 
 use std::alloc::{AllocError, Global};
 use std::marker::Model;

@@ -65,7 +65,8 @@ impl CardMap {
     pub fn join(&self, alloc: Global, other: &CardMap) -> Result<Option<CardMap>, AllocError>
         ensures { IfOk result (λ told. MatchOption told
             ((key : ℕ) × Clash (said_at self.now key) (said_at other.now key))
-            (λ made. (key : ℕ) → (said_at made key ≡ both_say (said_at self.now key) (said_at other.now key)) × (Clash (said_at self.now key) (said_at other.now key) → ⊥))) }
+            (λ made. (key : ℕ) → (said_at made key ≡ both_say (said_at self.now key) (said_at other.now key))
+            × (Clash (said_at self.now key) (said_at other.now key) → ⊥))) }
     {
         let mine = self.entries.as_slice();
         let theirs = other.entries.as_slice();

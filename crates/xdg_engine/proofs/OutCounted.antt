@@ -6,7 +6,7 @@ use Rattle.std.proofs.lemmas.Bool.{and_parts, and_from, eq-eqb, eqb-true}
 use Rattle.std.proofs.lemmas.List.Elements.{All-weaker, All-contains_itself, recursion_from_All}
 use Rattle.std.proofs.lemmas.List.{length-map}
 use Rattle.std.proofs.lemmas.List.Sums.{length-filter}
-use Rattle.xdg_nodeset.specs.Nodes.{has, IsNodes}
+use Rattle.xdg_nodeset.specs.Nodes.{IsNodes}
 use Rattle.xdg_problem.specs.declared.analysis.Edge.{Edge}
 use Rattle.xdg_problem.specs.declared.parts.Parts.{Parts}
 use Rattle.xdg_problem.specs.Analyses.{Before}
@@ -19,7 +19,9 @@ use Rattle.xdg_problem.proofs.Ordered.{each_both, each_filter, each_passed, orde
 use Rattle.xdg_problem.proofs.PlaceOrder.{places_ordered}
 use Rattle.xdg_rules.specs.Rules.{must_edges}
 use Rattle.xdg_rules.proofs.Shrinking.{must_be, must_is}
-use Rattle.xdg_pgraph.proofs.Rising.{AreRising, rising_alike, nodes_rising, has_contained, contained_has, map_contained, map_rising}
+use Rattle.xdg_pgraph.proofs.Rising.{AreRising, rising_alike, nodes_rising, map_contained, map_rising}
+use Rattle.xdg_facts.specs.Rises.{has}
+use Rattle.xdg_facts.proofs.Rising.{contains_of_has, contains_has}
 
 module _ (parts : Parts) (box : List (List Bool)) (dim m l : ℕ) where
   abbrev edges : List Edge
@@ -67,7 +69,7 @@ module _ (parts : Parts) (box : List (List Bool)) (dim m l : ℕ) where
   module _ (set : List ℕ) (is : IsNodes set) (exact : (x : ℕ) → IsTrue (has set x) ↔ IsDaughterBy edges m l x) where
     there : (n : ℕ) → Contains set n → Contains (map (λ e. e.daughter.0) ys) n
     there n c =
-        let found = contained (λ e. (e.mother.0 ≡ m) × (e.label.0 ≡ l) × (e.daughter.0 ≡ n)) edges ((exact n).0 (contained_has set n c)) in
+        let found = contained (λ e. (e.mother.0 ≡ m) × (e.label.0 ≡ l) × (e.daughter.0 ≡ n)) edges ((exact n).0 (contains_has set n c)) in
         let kept = contains_filter leaves edges found.0 (is_leaving found.0 found.2.0 found.2.1) found.1 in
         subst (Contains (map (λ e. e.daughter.0) ys)) found.2.2 (contains_map (λ e. e.daughter.0) ys found.0 kept)
 
@@ -76,7 +78,7 @@ module _ (parts : Parts) (box : List (List Bool)) (dim m l : ℕ) where
         let found = map_contained (λ (e : Edge). e.daughter.0) ys n c in
         let both = filter_contained leaves edges found.0 found.1 in
         let told = leaves_is found.0 both.1 in
-        has_contained set n ((exact n).1 (any_of (λ e. (e.mother.0 ≡ m) × (e.label.0 ≡ l) × (e.daughter.0 ≡ n)) edges found.0 both.0 (told.0, told.1, found.2)))
+        contains_of_has set n ((exact n).1 (any_of (λ e. (e.mother.0 ≡ m) × (e.label.0 ≡ l) × (e.daughter.0 ≡ n)) edges found.0 both.0 (told.0, told.1, found.2)))
 
     pub out_counted : length set ≡ edges_out_of edges m l
     out_counted = rising_alike set (map (λ e. e.daughter.0) ys) (nodes_rising set is) rising there back ∙ length-map ys (λ e. e.daughter.0) ∙ length-filter leaves edges

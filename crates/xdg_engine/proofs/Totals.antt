@@ -5,6 +5,7 @@ use Rattle.std.specs.List.{sum_by}
 use Rattle.std.proofs.lemmas.List.{get_or-map, get_or_default, length-map}
 use Rattle.std.proofs.lemmas.Nat.{mul-le}
 use Rattle.xdg_nodeset.specs.Nodes as sets
+use Rattle.xdg_facts.specs.Rises.{has as sets_has}
 use Rattle.xdg_problem.specs.declared.analysis.Edge.{Edge}
 use Rattle.xdg_problem.specs.declared.parts.Parts.{Parts}
 use Rattle.xdg_problem.specs.Boxes.{entry_decision, edge_decision}
@@ -73,7 +74,7 @@ module _ (parts : Parts) (box : List (List Bool)) where
   abbrev pub dim_sum : List ℕ → ℕ → ℕ
   dim_sum row dim = sum_below (λ m. sum_below (label_sum row dim m) (edge_labels parts dim)) (nodes parts)
 
-  pub label_more : (dim m l : ℕ) (row : List ℕ) (total : ℕ) (set : List ℕ) → sets.IsNodes set → ((x : ℕ) → IsTrue (sets.has set x) ↔ IsDaughterBy (must_edges parts box dim) m l x)
+  pub label_more : (dim m l : ℕ) (row : List ℕ) (total : ℕ) (set : List ℕ) → sets.IsNodes set → ((x : ℕ) → IsTrue (sets_has set x) ↔ IsDaughterBy (must_edges parts box dim) m l x)
       → total ≡ sum_below (label_sum row dim m) l → total + slice_index row l * length set ≡ sum_below (label_sum row dim m) (l + 1)
   label_more dim m l row total set are exact so_far = sum_next (label_sum row dim m) l total (slice_index row l * length set) so_far (ap (λ n. slice_index row l * n) (out_counted parts box dim m l set are exact))
 

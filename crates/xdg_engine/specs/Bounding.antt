@@ -3,14 +3,15 @@ use Rattle.std.specs.Prelude.{◌≡◌, ℕ, List}
 use Rattle.xdg_problem.specs.declared.parts.Parts.{Parts}
 use Rattle.xdg_problem.specs.declared.parts.Principle.{Principle}
 use Rattle.xdg_problem.specs.declared.parts.Principle.TheVariants as principles
+use Rattle.xdg_problem.specs.Principles.{IsOf}
+use Rattle.xdg_problem.specs.declared.principles.PrincipleFamily.TheVariants as families
 use Rattle.xdg_propcore.specs.Uses.{use_at}
 use Rattle.xdg_engine.specs.CostRows.{entry_rows, AreLabelCosts}
 use Rattle.xdg_engine.specs.declared.cost_prop.CostProp.{CostProp}
 
 -- the principle is a bound
 abbrev pub IsBound : Principle → Type 0
-IsBound (principles.Bound costs bound) = Unit {0}
-IsBound principle = ⊥
+IsBound principle = IsOf families.Bound principle
 
 -- the number is that of a bound, and the rows have its costs
 abbrev pub HoldsBound : Principle → Parts → ℕ → List (List ℕ) → List (List ℕ) → Type 0

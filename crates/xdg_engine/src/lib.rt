@@ -8,7 +8,6 @@
 mod any_prop;
 mod cost_prop;
 mod cost_rows;
-mod family;
 mod least;
 mod uses;
 

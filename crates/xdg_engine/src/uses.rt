@@ -1,13 +1,12 @@
 //! One propagator for each principle use.
 
 ghost use Rattle.std.specs.Prelude.{◌≡◌, ◌<◌, IfOk, length};
+ghost use Rattle.xdg_problem.specs.Principles.{IsOf};
 ghost use Rattle.xdg_propcore.specs.Uses.{AllStandIn, StandsFor, use_at};
-ghost use Rattle.xdg_engine.specs.Families.{Holds};
 ghost use Rattle.xdg_engine.specs.Standing.{AreInOrder, stands_for};
 
 use crate::any_prop::AnyProp;
 use crate::cost_prop::CostProp;
-use crate::family::{Family, family_of};
 use std::alloc::Global;
 use xdg_base::{List, OutOfMemory};
 use xdg_formula_value::RuleProp;
@@ -16,12 +15,12 @@ use xdg_pgraph::GraphProp;
 use xdg_plink::LinkProp;
 use xdg_pmulti::MultiProp;
 use xdg_porder::OrderProp;
-use xdg_problem::Problem;
+use xdg_problem::{PrincipleFamily, Problem, family_of};
 
 /// The family of the principle of a principle use, by its number from 0.
-fn family_at(problem: &Problem, group: usize) -> Family
+fn family_at(problem: &Problem, group: usize) -> PrincipleFamily
     requires { group < length problem.now.groups }
-    ensures { Holds result (use_at problem.now group).principle }
+    ensures { IsOf result (use_at problem.now group).principle }
 {
     family_of(&problem.parts().groups.as_slice()[group].principle)
 }
@@ -32,13 +31,13 @@ fn prop_of(alloc: Global, problem: &Problem, group: usize) -> Result<AnyProp, Ou
     ensures { IfOk result (λ p. StandsFor (stands_for p) problem.now group) }
 {
     match family_at(problem, group) {
-        Family::Graph => Ok(AnyProp::Graph(GraphProp::of(problem, group)?)),
-        Family::Order => Ok(AnyProp::Order(OrderProp::of(problem, group)?)),
-        Family::Agree => Ok(AnyProp::Agree(AgreeProp::of(problem, group)?)),
-        Family::Multi => Ok(AnyProp::Multi(MultiProp::of(problem, group)?)),
-        Family::Link => Ok(AnyProp::Link(LinkProp::of(problem, group)?)),
-        Family::Rule => Ok(AnyProp::Rule(RuleProp::of(problem, group)?)),
-        Family::Bound => Ok(AnyProp::Cost(CostProp::of(alloc, problem, group)?)),
+        PrincipleFamily::Graph => Ok(AnyProp::Graph(GraphProp::of(problem, group)?)),
+        PrincipleFamily::Order => Ok(AnyProp::Order(OrderProp::of(problem, group)?)),
+        PrincipleFamily::Agree => Ok(AnyProp::Agree(AgreeProp::of(problem, group)?)),
+        PrincipleFamily::Multi => Ok(AnyProp::Multi(MultiProp::of(problem, group)?)),
+        PrincipleFamily::Link => Ok(AnyProp::Link(LinkProp::of(problem, group)?)),
+        PrincipleFamily::Rule => Ok(AnyProp::Rule(RuleProp::of(problem, group)?)),
+        PrincipleFamily::Bound => Ok(AnyProp::Cost(CostProp::of(alloc, problem, group)?)),
     }
 }
 

@@ -14,12 +14,6 @@ top_bit b j least most =
     let high = div_below b (2 ^ j) 2 (pow_pos j) (omega (arith, most, pow-suc 2 j)) in
     omega (arith, low, high)
 
-pub pow_bit : (k kind : ℕ) → bit_at (2 ^ k) kind ≡ 1 → kind ≡ k
-pow_bit k kind h = elim (cases_eq kind k) [
-  | inl same ↦ same
-  | inr other ↦ absurd (let s = bit_at-pow_other k kind other in omega (arith, s, h))
-]
-
 pub or_new_bit : (a k : ℕ) → bit_at (bit_or a (2 ^ k)) k ≡ 1
 or_new_bit a k = let e = bit_at_or a (2 ^ k) k in let l = bit_at-lt a k in let s = bit_at-pow_same k in omega (arith, e, l, s)
 

@@ -16,7 +16,7 @@ not_after x p q k n l = n (at_most_less p q x k l)
 pub so_far_none : (shape : List ℕ) (P : List ℕ → Type 0) (p : List ℕ) → IsListing shape (SoFar P p) p []
 so_far_none shape P p = record { rises = tt; each = tt; all = λ x f s l. absurd (s.1 l) }
 
-joined_rises : (a p : List ℕ) (xs ys : List (List ℕ)) → AtMost a p → AllByRecursion (λ x. AtMost x p) xs → RisesFrom a xs → RisesFrom p ys → RisesFrom a (xs ++ ys)
+pub joined_rises : (a p : List ℕ) (xs ys : List (List ℕ)) → AtMost a p → AllByRecursion (λ x. AtMost x p) xs → RisesFrom a xs → RisesFrom p ys → RisesFrom a (xs ++ ys)
 joined_rises a p [] [] k h r s = tt
 joined_rises a p [] (y ∷ ys) k h r s = (at_most_less a p y k s.0, s.1)
 joined_rises a p (x ∷ xs) ys k h r s = (r.0, joined_rises x p xs ys h.0 h.1 r.1 s)

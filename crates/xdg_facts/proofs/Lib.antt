@@ -16,3 +16,7 @@ pub mod Drawing
 pub mod OneEnding
 pub mod Compared
 pub mod Lookups
+pub mod In
+pub mod Weights
+pub mod Rising
+pub mod BitMembers

@@ -1,8 +1,9 @@
 -- Texts as lists of bytes.
-use Rattle.std.proofs.Common.{◌≡◌, ℕ, List, sym, ◌∙◌, true, refl}
+use Rattle.std.proofs.Common.{◌≡◌, ℕ, List, sym, ◌∙◌, true, refl, false}
 use Rattle.std.specs.Str.{IsValidUpTo, bytes_eq}
 use Rattle.std.proofs.lemmas.Str.{utf8_valid_len-IsValidUpTo}
 use Rattle.std.proofs.lemmas.Slice.Eq.{bytes_eq-Decides}
+use Rattle.std.proofs.lemmas.Bool.{false_from_ne_true}
 
 pub one_place : (text : List ℕ) (m n : ℕ) → IsValidUpTo text m → IsValidUpTo text n → m ≡ n
 one_place text m n v w = sym (utf8_valid_len-IsValidUpTo text m v) ∙ utf8_valid_len-IsValidUpTo text n w
@@ -15,3 +16,6 @@ same_text a b = (bytes_eq-Decides a b).0
 
 pub is_same : (a b : List ℕ) → a ≡ b → bytes_eq a b ≡ true
 is_same a b = (bytes_eq-Decides a b).1
+
+pub other_test : (a b : List ℕ) → (a ≡ b → ⊥) → bytes_eq a b ≡ false
+other_test a b ne = false_from_ne_true (bytes_eq a b) (λ h. ne (same_text a b h))

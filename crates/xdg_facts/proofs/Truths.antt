@@ -3,6 +3,7 @@ use Rattle.std.proofs.Common.{◌≡◌, refl, ◌⊎◌, inl, inr, Bool, true, 
 use Rattle.std.specs.Prelude.{filter, cond}
 use Rattle.std.specs.List.{range_with_len}
 use Rattle.std.proofs.lemmas.Bool.{cond-false, false≢true}
+use Rattle.std.proofs.Common.{◌-◌}
 
 pub and_false : (a : Bool) → (a && false) ≡ false
 and_false true = refl
@@ -81,3 +82,8 @@ same_and false b c same = refl
 
 pub choose : {A : Type 0} (b : Bool) (x y : A) → b ≡ true → (if b then x else y) ≡ x
 choose b x y h = rw h refl
+
+-- no test both passes and fails
+pub apart : {A : Type 0} (t : Bool) → t ≡ true → t ≡ false → A
+apart true e f = absurd (omega (arith, ap {B = ℕ} (λ b. cond b 1 0) f))
+apart false e f = absurd (omega (arith, ap {B = ℕ} (λ b. cond b 1 0) e))

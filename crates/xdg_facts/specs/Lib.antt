@@ -8,3 +8,6 @@ pub mod Endings
 pub mod Answered
 pub mod Prefixes
 pub mod Examples
+pub mod Membership
+pub mod Rises
+pub mod BitSets

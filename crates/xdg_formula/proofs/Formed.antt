@@ -1,18 +1,17 @@
 -- What is wrong with a formula, form by form, as the first of a list of faults.
-use Rattle.std.proofs.Common.{◌≡◌, ℕ, ◌≤◌, List, [], ◌∷◌, ◌++◌, drop, length, map, Option, refl, sym, ap, ap₂, ◌∙◌}
-use Rattle.std.proofs.lemmas.List.{at_drop_all}
+use Rattle.std.proofs.Common.{◌≡◌, ℕ, List, [], ◌∷◌, ◌++◌, map, Option, refl, sym, ap, ap₂, ◌∙◌}
 use Rattle.std.specs.List.{flat_map}
 use Rattle.xdg_base.specs.declared.faults.Fault.{Fault}
 use Rattle.xdg_base.specs.declared.places.Span.{Span}
 use Rattle.xdg_ast.specs.declared.names.Name.{Name}
 use Rattle.xdg_ast.specs.Grammar.{Term}
 use Rattle.xdg_names.specs.First.{first, earlier}
-use Rattle.xdg_names.proofs.First.{first_append, earlier-none}
+use Rattle.xdg_names.proofs.First.{first_append}
 use Rattle.xdg_types.specs.declared.table.DimType.{DimType}
 use Rattle.xdg_formula.specs.declared.tree.RuleKind.{RuleKind}
 use Rattle.xdg_formula.specs.declared.tree.RuleKind.TheVariants as r
 use Rattle.xdg_formula.specs.Rules.{RuleTerm}
-use Rattle.xdg_formula.specs.Written.{Tree, trees_of, tree}
+use Rattle.xdg_formula.specs.Written.{Tree, tree, trees_of}
 use Rattle.xdg_formula.proofs.Treed.{treed, tree_or, tree_and, tree_not, tree_every, tree_any, tree_edge, tree_above, tree_left, tree_same, tree_attr, tree_feat}
 use Rattle.xdg_formula.specs.Formulas.{Bound, faults_in, faults_each, formula_faults, binding_faults, edge_faults, dim_faults, attr_faults, feat_faults, unbound, unbound_nodes}
 
@@ -82,9 +81,3 @@ module _ (dims : List DimType) (bound : Bound) (place : ℕ) (kind : RuleKind) w
       → a ≡ first (unbound bound node) → b ≡ first (feat_faults dims dim feature value) → found ≡ earlier a b → found ≡ first (faults_in dims bound place (tree kind))
   told_feat node dim feature value a b found is left right sum =
       by_form (r.Feat node dim feature value) _ _ found is (tree_feat node dim feature value) refl (both (unbound bound node) (feat_faults dims dim feature value) a b found left right sum)
-
--- at the end of a loop nothing is left
-pub found_all : {A : Type 0} (all : List A → List Fault) → all [] ≡ [] → (xs : List A) (i : ℕ) (found total : Option Fault) → length xs ≤ i → earlier found (first (all (drop i xs))) ≡ total → found ≡ total
-found_all all none xs i found total over so_far =
-    let e : all (drop i xs) ≡ all [] = at_drop_all all xs i over in
-    sym (earlier-none found) ∙ ap (λ fs. earlier found (first fs)) (sym none ∙ sym e) ∙ so_far

@@ -78,7 +78,7 @@ parsed-tells bytes ts (Ok tree) spells told = (ts, spells, told)
 parsed-tells bytes ts (Err (stops.Fault f)) spells told = no_rules ts spells told
 parsed-tells bytes ts (Err stops.OutOfMemory) spells told = tt
 
-same-tokens : (ts us : List Lexeme) → ◌≡◌ {A = Lexed} (Ok us) (Ok ts) → us ≡ ts
+pub same-tokens : (ts us : List Lexeme) → ◌≡◌ {A = Lexed} (Ok us) (Ok ts) → us ≡ ts
 same-tokens ts us e = cc
 
 parsed-only : (bytes : List ℕ) (ts : List Lexeme) (result : Result Rules Stop) → ((a : Lexed) → tokens.IsAnswer bytes a → a ≡ Ok ts) → TellsParsed ts (length bytes) result

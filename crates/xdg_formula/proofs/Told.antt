@@ -2,13 +2,14 @@
 use Rattle.std.proofs.Common.{◌≡◌, ℕ, List, [], Option, Some, None, refl, sym, ap, subst}
 use Rattle.xdg_base.specs.declared.faults.Fault.{Fault}
 use Rattle.xdg_domain.specs.Shapes.{Shape}
-use Rattle.xdg_names.specs.First.{In, Tells, first}
+use Rattle.xdg_names.specs.First.{Tells, first}
 use Rattle.xdg_names.proofs.First.{first-tells}
 use Rattle.xdg_names.proofs.One.{one_first, first_or_none}
 use Rattle.xdg_terms.specs.Faults.{faults}
 use Rattle.xdg_terms.specs.Forms.{Term, with_open}
 use Rattle.xdg_terms.specs.Offences.{OpenOffends}
 use Rattle.xdg_terms.proofs.Law.{law}
+use Rattle.xdg_facts.specs.Membership.{In}
 
 -- one answer is told of a set of offences
 one_told : (P : Fault → Type 0) (a b : Option Fault) → Tells P a → Tells P b → a ≡ b

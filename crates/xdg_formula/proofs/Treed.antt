@@ -8,7 +8,7 @@ use Rattle.xdg_formula.specs.declared.tree.RuleKind.TheVariants as r
 use Rattle.xdg_formula.specs.declared.tree.RuleKind.TheOpen.{RuleKind-F}
 use Rattle.xdg_formula.specs.declared.tree.RuleKind.TheFolds.{fold-roll-RuleKind}
 use Rattle.xdg_formula.specs.Rules.{RuleTerm}
-use Rattle.xdg_formula.specs.Written.{Tree, negation, conjunction, disjunction, every, any, edge, above, left, same, attr, feat, trees_of, layer, tree}
+use Rattle.xdg_formula.specs.Written.{Tree, negation, conjunction, disjunction, every, any, edge, above, left, same, attr, feat, layer, tree, trees_of}
 
 -- a formula with its tree
 abbrev pub treed : RuleTerm → Spanned Tree

@@ -7,10 +7,10 @@ use Rattle.xdg_names.specs.First.{earlier, first}
 use Rattle.xdg_names.proofs.First.{first_change}
 use Rattle.xdg_terms.specs.Faults.{all_twice, twice}
 use Rattle.xdg_types.specs.declared.table.DimType.{DimType}
-use Rattle.xdg_types.specs.Table.{ArePlaces}
+use Rattle.xdg_types.specs.Table.{ArePlaces, dim_named}
 use Rattle.xdg_formula.specs.declared.tree.Rule.{Rule}
 use Rattle.xdg_formula.specs.Formulas.{names_of}
-use Rattle.xdg_formula.specs.Tables.{dims_at, dim_named, no_dim}
+use Rattle.xdg_formula.specs.Tables.{dims_at, no_dim}
 
 -- ---- dimensions
 

@@ -1,13 +1,13 @@
 -- Tokens that stand for at most one thing have at most one first fault.
-use Rattle.std.proofs.Common.{◌≡◌, ℕ, true, List, [], ◌∷◌, ◌++◌, Some, None, refl, sym, ◌∙◌, ap, append_assoc}
+use Rattle.std.proofs.Common.{◌≡◌, ℕ, true, List, [], ◌∷◌, ◌++◌, Some, refl, sym, ◌∙◌, ap, append_assoc}
 use Rattle.std.proofs.lemmas.List.{append-nil}
 use Rattle.xdg_base.specs.declared.faults.Fault.{Fault}
 use Rattle.xdg_base.specs.declared.faults.Cause.TheVariants as causes
 use Rattle.xdg_ast.specs.Lexemes.{Lexeme}
 use Rattle.xdg_ast.specs.Brackets.{is_opening, walk}
 use Rattle.xdg_ast.specs.Derives.{most_brackets, IsShallow, place_of}
-use Rattle.xdg_parse.proofs.Laws.{walk-append}
 use Rattle.xdg_formula.specs.Derived.{Family, DerivesWithin, Derives, Starts, Ends, IsUnexpectedAt, IsTooDeepAt, IsRefused, unexpected, too_deep}
+use Rattle.xdg_parse.proofs.Unique.{deep-none}
 
 -- ---- two fronts of a text
 
@@ -24,18 +24,6 @@ fronts : (a r b q : List Lexeme) → a ++ r ≡ b ++ q → Fronts a r b q
 fronts [] r b q h = shorter b refl h
 fronts (t ∷ a) r [] q h = longer t a refl (sym h)
 fronts (t ∷ a) r (u ∷ b) q h = let e : t ≡ u = cc in let g : a ++ r ≡ b ++ q = cc in rw e (fronts-more u a r b q (fronts a r b q g))
-
-walk-none : (n : ℕ) (a w : List Lexeme) → walk n a ≡ None → walk n (a ++ w) ≡ None
-walk-none n a w h = walk-append a w n ∙ rw h refl
-
-past-none : (t : Lexeme) → is_opening t.kind ≡ true → walk 0 (t ∷ []) ≡ None
-unfolding walk
-past-none t h = rw h refl
-
-deep-none : (b : List Lexeme) (t : Lexeme) (w : List Lexeme) → walk most_brackets b ≡ Some 0 → is_opening t.kind ≡ true → walk most_brackets (b ++ t ∷ w) ≡ None
-deep-none b t w h g =
-    let i : walk most_brackets (b ++ t ∷ []) ≡ None = walk-append b (t ∷ []) most_brackets ∙ rw h (past-none t g) in
-    rw (sym (append_assoc b (t ∷ []) w)) (walk-none most_brackets (b ++ t ∷ []) w i)
 
 module _ {A : Type 0} (means : Family A) where
   starts-front : (a : List Lexeme) (t : Lexeme) (w : List Lexeme) → Starts means (a ++ t ∷ w) → Starts means (a ++ t ∷ [])

@@ -1,43 +1,18 @@
 -- What the reading of a whole text says of its tokens, for any family of languages.
-use Rattle.std.proofs.Common.{◌≡◌, ℕ, zero, suc, ◌+◌, Bool, true, false, List, [], ◌∷◌, ◌++◌, Some, None, Ok, Err, refl, sym, ◌∙◌, ap, subst, append_assoc, arith}
+use Rattle.std.proofs.Common.{◌≡◌, ℕ, ◌+◌, List, [], ◌∷◌, ◌++◌, Some, None, Ok, Err, refl, sym, ◌∙◌, ap, subst, append_assoc, arith}
 use Rattle.std.proofs.lemmas.List.{append-nil, append_cancel_right}
 use Rattle.xdg_base.specs.declared.faults.Cause.TheVariants as causes
 use Rattle.xdg_ast.specs.declared.token.Kind.{Kind}
 use Rattle.xdg_ast.specs.Lexemes.{Lexeme}
 use Rattle.xdg_ast.specs.Language.{Language, kind_of, ended_by, State, Unexpected, TooDeep, Outcome}
-use Rattle.xdg_ast.specs.Brackets.{is_opening, is_closing, past, walk}
 use Rattle.xdg_ast.specs.Derives.{IsShallow, place_of}
 use Rattle.xdg_parse.specs.Steadiness.{at, Steady}
 use Rattle.xdg_parse.specs.Laws.{Says, Law}
-use Rattle.xdg_parse.proofs.Laws.{balanced, one, some-same, some-from}
+use Rattle.xdg_parse.proofs.Laws.{balanced}
 use Rattle.xdg_formula.specs.Derived.{Family, DerivesWithin, Derives, Ends, IsUnexpectedAt, IsTooDeepAt, IsRefused, unexpected, too_deep}
+use Rattle.xdg_parse.proofs.Whole.{raise, none-left, some-left}
 
 -- ---- more room
-
-one-raise : (a b : Bool) (m m' k : ℕ) → one a b m ≡ Some m' → one a b (m + k) ≡ Some (m' + k)
-unfolding one
-one-raise true b zero m' k h = absurd (cc)
-one-raise true b (suc m) m' k h = let i = some-same m m' h in let j : suc m + k ≡ suc (m' + k) = omega arith in rw j refl
-one-raise false true m m' k h = let i = some-same (suc m) m' h in let j : suc (m + k) ≡ m' + k = omega arith in ap Some j
-one-raise false false m m' k h = let i = some-same m m' h in let j : m + k ≡ m' + k = omega arith in ap Some j
-
-raise : (u : List Lexeme) (m m' k : ℕ) → walk m u ≡ Some m' → walk (m + k) u ≡ Some (m' + k)
-unfolding walk one
-raise [] m m' k h = let i = some-same m m' h in let j : m + k ≡ m' + k = omega arith in ap Some j
-raise (t ∷ u) m m' k h =
-    let a = some-from (past is_opening is_closing m t) (λ n. walk n u) m' h in
-    let b = one-raise (is_opening t.kind) (is_closing t.kind) m a.0 k a.1 in
-    rw b (raise u a.0 m' k a.2)
-
-none-left : (ts : List Lexeme) → kind_of ts ≡ None → ts ≡ []
-unfolding kind_of
-none-left [] h = refl
-none-left (t ∷ ts) h = absurd (cc)
-
-some-left : (ts : List Lexeme) (k : Kind) → kind_of ts ≡ Some k → (t : Lexeme) × (r : List Lexeme) × (ts ≡ t ∷ r)
-unfolding kind_of
-some-left [] k h = absurd (cc)
-some-left (t ∷ ts) k h = (t, ts, refl)
 
 left-of : {A : Type 0} → Outcome A → List Lexeme
 left-of (Ok x) = x.1.left

@@ -3,10 +3,11 @@ use Rattle.std.specs.Prelude.{◌≡◌, List, Option, Result, Ok, Err, Some, No
 use Rattle.xdg_base.specs.declared.faults.Fault.{Fault}
 use Rattle.xdg_base.specs.declared.faults.Stop.{Stop}
 use Rattle.xdg_base.specs.declared.faults.Stop.TheVariants as stops
-use Rattle.xdg_names.specs.First.{In, Tells as TellsFault}
+use Rattle.xdg_names.specs.First.{Tells as TellsFault}
 use Rattle.xdg_types.specs.Table.{Table}
 use Rattle.xdg_formula.specs.declared.tree.Rule.{Rule}
 use Rattle.xdg_formula.specs.Formulas.{rules_faults}
+use Rattle.xdg_facts.specs.Membership.{In}
 
 -- something is wrong with the rules
 abbrev pub Offends : Table → List Rule → Fault → Type 0

@@ -6,16 +6,17 @@ use Rattle.xdg_base.specs.declared.faults.Fault.{Fault}
 use Rattle.xdg_ast.specs.declared.names.Name.{Name}
 use Rattle.xdg_domain.specs.declared.types.Ty.{Ty}
 use Rattle.xdg_domain.specs.Shapes.{Shape, shape}
-use Rattle.xdg_terms.specs.Faults.{has, missing, all_twice, faults}
+use Rattle.xdg_terms.specs.Faults.{missing, all_twice, faults}
 use Rattle.xdg_terms.specs.Forms.{Term, with_open}
 use Rattle.xdg_terms.specs.Offences.{fault_at}
 use Rattle.xdg_types.specs.declared.table.DimType.{DimType}
-use Rattle.xdg_types.specs.Table.{Table}
+use Rattle.xdg_types.specs.Table.{Table, dim_named}
 use Rattle.xdg_formula.specs.declared.tree.Rule.{Rule}
 use Rattle.xdg_formula.specs.Rules.{RuleTerm}
 use Rattle.xdg_formula.specs.Written.{Tree, negation, conjunction, disjunction, every, any, edge, above, left, same, attr, feat, Trees, no_tree, tree_then}
 use Rattle.xdg_formula.specs.Written.{tree}
-use Rattle.xdg_formula.specs.Tables.{used_dims, dim_named, type_named, member_shape}
+use Rattle.xdg_formula.specs.Tables.{used_dims, type_named, member_shape}
+use Rattle.xdg_names.specs.Texts.{has_text}
 
 -- ---- names
 
@@ -91,7 +92,7 @@ nested bound place = if length bound == most_open then record { cause = causes.T
 
 -- the name is bound already
 abbrev pub bound_again : Bound → Name → List Fault
-bound_again bound name = if has bound name.text then fault_at causes.Twice name.span.start ∷ [] else []
+bound_again bound name = if has_text bound name.text then fault_at causes.Twice name.span.start ∷ [] else []
 
 abbrev pub binding_faults : Bound → ℕ → Name → List Fault
 binding_faults bound place name = nested bound place ++ bound_again bound name

@@ -16,11 +16,6 @@ dims_at dims places = map (λ k. get_or dims k no_dim) places
 abbrev pub used_dims : Table → List DimType
 used_dims table = dims_at table.dims table.used
 
--- the dimension of that name
-abbrev pub dim_named : List DimType → List ℕ → Option DimType
-dim_named [] name = None
-dim_named (dim ∷ dims) name = if bytes_eq dim.name name then Some dim else dim_named dims name
-
 -- the type of that name, of an attribute or a feature
 abbrev pub type_named : List (List ℕ × Ty) → List ℕ → Option Ty
 type_named [] name = None

@@ -4,7 +4,8 @@ ghost use Rattle.std.specs.Prelude.{◌≡◌, [], Option, slice_get, IfOk};
 ghost use Rattle.std.specs.List.{flat_map};
 ghost use Rattle.xdg_base.specs.declared.faults.Fault as faults;
 ghost use Rattle.xdg_names.specs.First.{first};
-ghost use Rattle.xdg_terms.specs.Faults.{all_twice, has, texts_of, twice};
+ghost use Rattle.xdg_terms.specs.Faults.{all_twice, texts_of, twice};
+ghost use Rattle.xdg_names.specs.Texts.{has_text};
 ghost use Rattle.xdg_formula.specs.Answers.{Gives, IsAnswer, Tells};
 ghost use Rattle.xdg_formula.specs.Formulas as spec;
 ghost use Rattle.xdg_formula.specs.Tables.{used_dims};
@@ -21,7 +22,7 @@ const MOST_RULES: usize = 32;
 
 /// Whether a rule has this name.
 fn has_name(rules: &[Rule], name: &str) -> bool
-    ensures { result ≡ has (texts_of (spec.names_of rules.now)) name.now }
+    ensures { result ≡ has_text (texts_of (spec.names_of rules.now)) name.now }
 {
     for rule in rules {
         if rule.name.text.as_str() == name {

@@ -2,7 +2,7 @@
 
 ghost use Rattle.std.specs.Prelude.{◌≡◌, [], ◌∷◌, ◌++◌, map, IfOk};
 ghost use Rattle.xdg_names.specs.First.{first};
-ghost use Rattle.xdg_terms.specs.Faults.{has};
+ghost use Rattle.xdg_names.specs.Texts.{has_text};
 ghost use Rattle.xdg_formula.specs.Formulas as spec;
 
 use crate::faults::fault_at;
@@ -16,7 +16,7 @@ const MOST_OPEN: usize = 3;
 
 /// Whether a name is bound.
 fn is_bound(bound: &[&str], name: &str) -> bool
-    ensures { result ≡ has (map (λ text. text.now) bound.now) name.now }
+    ensures { result ≡ has_text (map (λ text. text.now) bound.now) name.now }
 {
     for other in bound {
         if *other == name {

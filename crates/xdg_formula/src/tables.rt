@@ -3,8 +3,9 @@
 ghost use Rattle.std.specs.Prelude.{◌≡◌, ◌<◌, length, All, option_map};
 ghost use Rattle.std.specs.Option.{option_copied};
 ghost use Rattle.xdg_domain.specs.Shapes.{shape};
-ghost use Rattle.xdg_terms.specs.Faults.{has};
+ghost use Rattle.xdg_names.specs.Texts.{has_text};
 ghost use Rattle.xdg_formula.specs.Tables as spec;
+ghost use Rattle.xdg_types.specs.Table.{dim_named};
 
 use xdg_base::Text;
 use xdg_domain::Ty;
@@ -13,7 +14,7 @@ use xdg_types::{DimType, TypeTable};
 /// The dimension of that name, of those with these places.
 fn dim_among<'a>(dims: &'a [DimType], used: &[usize], name: &str) -> Option<&'a DimType>
     requires { All (λ k. k < length dims.now) used.now }
-    ensures { option_copied result ≡ spec.dim_named (spec.dims_at dims.now used.now) name.now }
+    ensures { option_copied result ≡ dim_named (spec.dims_at dims.now used.now) name.now }
 {
     for place in used {
         let dim = &dims[*place];
@@ -26,14 +27,14 @@ fn dim_among<'a>(dims: &'a [DimType], used: &[usize], name: &str) -> Option<&'a 
 
 /// The used dimension of that name.
 pub(crate) fn dim_named<'a>(types: &'a TypeTable, name: &str) -> Option<&'a DimType>
-    ensures { option_copied result ≡ spec.dim_named (spec.used_dims types.now) name.now }
+    ensures { option_copied result ≡ dim_named (spec.used_dims types.now) name.now }
 {
     dim_among(types.dims(), types.used(), name)
 }
 
 /// Whether a label has that name.
 pub(crate) fn has_label(labels: &[Text], name: &str) -> bool
-    ensures { result ≡ has labels.now name.now }
+    ensures { result ≡ has_text labels.now name.now }
 {
     for label in labels {
         if label.as_str() == name {

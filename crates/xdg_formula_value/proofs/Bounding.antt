@@ -5,7 +5,6 @@ use Rattle.std.proofs.lemmas.Bool.{and_from, and_parts, cases_Bool, eqb-true, no
 use Rattle.std.proofs.lemmas.List.{take_all}
 use Rattle.xdg_base.specs.declared.ids.DimId.{DimId}
 use Rattle.xdg_base.specs.declared.ids.LabelId.{LabelId}
-use Rattle.xdg_nodeset.specs.Nodes.{has}
 use Rattle.xdg_problem.specs.declared.formula.Formula.{Formula}
 use Rattle.xdg_problem.specs.declared.formula.Formula.TheVariants as y
 use Rattle.xdg_problem.specs.declared.parts.Parts.{Parts}
@@ -14,14 +13,16 @@ use Rattle.xdg_problem.specs.Places.{nodes}
 use Rattle.xdg_problem.specs.Truths.{bound, HasTruth}
 use Rattle.xdg_rules.specs.Worths.{Makes}
 use Rattle.xdg_formula_value.specs.Pairs.{Relates, edges_for}
-use Rattle.xdg_formula_value.specs.Rows.{AreFirst, Bounds, IsEvery, IsRow, Joined, open_in}
+use Rattle.xdg_graph.specs.Every.{IsEvery}
+use Rattle.xdg_formula_value.specs.Rows.{AreFirst, Bounds, IsRow, Joined, open_in}
 use Rattle.xdg_formula_value.specs.Several.{MakesSeveral}
 use Rattle.xdg_formula_value.specs.declared.pair.Pair.{Pair}
 use Rattle.xdg_formula_value.specs.declared.pair.Pair.TheVariants as pairs
 use Rattle.xdg_formula_value.proofs.Formed.{not_makes, and_several, or_several, edge_form, above_form, left_form, same_form}
 use Rattle.xdg_formula_value.proofs.Fronts.{several_more, several_none}
-use Rattle.xdg_formula_value.proofs.Rowed.{none_in}
 use Rattle.xdg_formula_value.proofs.Stood.{bound_else}
+use Rattle.xdg_facts.specs.Rises.{has}
+use Rattle.xdg_nodeset.proofs.TableSets.{none_in}
 
 -- where a set bounds one of two that are wanted together, and another does at what is still open
 joined_open : (both : Bool) (care old still : List ℕ) (v : ℕ) (P Q Part : Type 0) → has care v ≡ true → has still v ≡ open_in both care old v → (P → has old v ≡ true) → (has still v ≡ true → Q → Part) → Joined both P Q → Joined both (has old v ≡ true) Part

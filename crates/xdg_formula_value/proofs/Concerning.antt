@@ -7,7 +7,6 @@ use Rattle.xdg_base.specs.declared.ids.AttrId.{AttrId}
 use Rattle.xdg_base.specs.declared.ids.DimId.{DimId}
 use Rattle.xdg_base.specs.declared.ids.LabelId.{LabelId}
 use Rattle.xdg_base.specs.declared.ids.NodeId.{NodeId}
-use Rattle.xdg_nodeset.specs.Nodes.{has}
 use Rattle.xdg_problem.specs.declared.analysis.Edge.{Edge}
 use Rattle.xdg_problem.specs.declared.formula.Formula.{Formula}
 use Rattle.xdg_problem.specs.declared.formula.Formula.TheVariants as y
@@ -21,6 +20,7 @@ use Rattle.xdg_formula_value.specs.Lost.{AgreeBut, Concerns, ConcernsSome, Finds
 use Rattle.xdg_formula_value.proofs.Finding.{NoneMade, agree_rest, finds_no, finds_weaker, missed}
 use Rattle.xdg_formula_value.proofs.Stood.{bound_else}
 use Rattle.xdg_formula_value.proofs.Within.{seen_so}
+use Rattle.xdg_facts.specs.Rises.{has}
 
 -- names that a quantifier doesn't bind anew
 pub outside_few : (names rest : List ℕ) (name : ℕ) → ((n : ℕ) → has rest n ≡ (not (n == name) && has names n)) → (n : ℕ) → has rest n ≡ true → (n ≢ name) × (has names n ≡ true)

@@ -2,19 +2,20 @@
 use Rattle.std.proofs.Common.{◌≡◌, ◌≢◌, ◌↔◌, ℕ, ◌+◌, ◌<◌, ◌≤◌, IsTrue, inl, inr, Bool, true, false, ◌&&◌, List, [], ◌∷◌, length, refl, sym, ◌∙◌, ap, subst, arith}
 use Rattle.std.specs.Prelude.{not, ◌==◌}
 use Rattle.std.proofs.lemmas.Bool.{cases_eq, and_from, false≢true, false_from_ne_true, not_from_false, eqb-true}
-use Rattle.xdg_nodeset.specs.Nodes.{has}
 use Rattle.xdg_problem.specs.declared.parts.Parts.{Parts}
 use Rattle.xdg_problem.specs.Claims.{Claim}
 use Rattle.xdg_problem.specs.Places.{nodes}
-use Rattle.xdg_problem.specs.Truths.{bound}
-use Rattle.xdg_rules.specs.WorthLaws.{AreNodes}
+use Rattle.xdg_problem.specs.Truths.{bound, AreNodes}
 use Rattle.xdg_rules.specs.Worths.{Makes}
 use Rattle.xdg_rules.proofs.Bound.{bound_nodes}
 use Rattle.xdg_formula_value.specs.Lost.{AgreeBut, Finds, HasNode, HasNodes}
-use Rattle.xdg_formula_value.specs.Rows.{Bounds, IsEvery, IsRowOn, Over}
+use Rattle.xdg_graph.specs.Every.{IsEvery}
+use Rattle.xdg_formula_value.specs.Rows.{Bounds, IsRowOn, Over}
 use Rattle.xdg_formula_value.proofs.Narrowed.{within_row}
-use Rattle.xdg_formula_value.proofs.Rowed.{head_or_tail, no_member, none_in, over_told}
+use Rattle.xdg_formula_value.proofs.Rowed.{head_or_tail, no_member, over_told}
 use Rattle.xdg_formula_value.proofs.Stood.{bound_back, bound_here, bound_else}
+use Rattle.xdg_facts.specs.Rises.{has}
+use Rattle.xdg_nodeset.proofs.TableSets.{none_in}
 
 -- ---- one name fewer
 

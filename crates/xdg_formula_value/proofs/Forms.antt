@@ -5,16 +5,14 @@ use Rattle.std.proofs.lemmas.List.{take_all}
 use Rattle.xdg_base.specs.declared.ids.AttrId.{AttrId}
 use Rattle.xdg_base.specs.declared.ids.DimId.{DimId}
 use Rattle.xdg_base.specs.declared.ids.LabelId.{LabelId}
-use Rattle.xdg_nodeset.specs.Nodes.{has}
 use Rattle.xdg_problem.specs.declared.formula.Formula.{Formula}
 use Rattle.xdg_problem.specs.declared.formula.Formula.TheVariants as y
 use Rattle.xdg_problem.specs.declared.parts.Parts.{Parts}
 use Rattle.xdg_problem.specs.Boxes.{attr_decision}
 use Rattle.xdg_problem.specs.Claims.{claims_of, claim}
 use Rattle.xdg_problem.specs.Places.{nodes}
-use Rattle.xdg_problem.specs.Truths.{bound, says, HasTruth}
+use Rattle.xdg_problem.specs.Truths.{bound, says, HasTruth, AreNodes}
 use Rattle.xdg_rules.specs.Rules.{EachEntry}
-use Rattle.xdg_rules.specs.WorthLaws.{AreNodes}
 use Rattle.xdg_rules.specs.Worths.{Makes, EachValue}
 use Rattle.xdg_rules.proofs.Bound.{bound_nodes}
 use Rattle.xdg_formula_value.specs.Pairs.{Relates, edges_for}
@@ -25,6 +23,7 @@ use Rattle.xdg_formula_value.specs.declared.pair.Pair.TheVariants as pairs
 use Rattle.xdg_formula_value.proofs.Formed.{not_makes, and_several, or_several, every_makes, any_makes, edge_form, above_form, left_form, same_form, attr_form, feat_form}
 use Rattle.xdg_formula_value.proofs.Fronts.{several_more, several_none}
 use Rattle.xdg_formula_value.proofs.Rowed.{row_constant, row_done, row_like, row_more, row_on}
+use Rattle.xdg_facts.specs.Rises.{has}
 
 -- a binding in which a further name stands for a node binds to nodes
 pub nodes_inside : (parts : Parts) (old new : ℕ → ℕ) (name node : ℕ) → new ≡ bound old name node → AreNodes parts old → node < nodes parts → AreNodes parts new

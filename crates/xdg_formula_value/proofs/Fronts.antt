@@ -1,8 +1,7 @@
 -- Parts of a conjunction or a disjunction, one after another.
-use Rattle.std.proofs.Common.{◌≡◌, ◌↔◌, ◌⊎◌, ℕ, ◌+◌, ◌<◌, inl, inr, zero, suc, Bool, true, false, List, [], ◌∷◌, ◌++◌, length, map, take, get_or, refl, sym, ◌∙◌, ap, subst, arith}
+use Rattle.std.proofs.Common.{◌≡◌, ◌↔◌, ◌⊎◌, ℕ, ◌+◌, ◌<◌, inl, inr, zero, suc, Bool, true, false, List, [], ◌∷◌, ◌++◌, length, map, take, get_or, refl, sym, subst, arith}
 use Rattle.std.specs.Prelude.{not}
 use Rattle.std.proofs.lemmas.Bool.{false≢true}
-use Rattle.std.proofs.lemmas.List.{take_more, map-append}
 use Rattle.xdg_problem.specs.declared.parts.Parts.{Parts}
 use Rattle.xdg_problem.specs.declared.formula.Formula.{Formula}
 use Rattle.xdg_problem.specs.Claims.{Claim, Claims, conjunction, disjunction, every, some, none, claims_of, claim, IsOf, EachIsOf}
@@ -11,16 +10,13 @@ use Rattle.xdg_problem.specs.Truths.{bound}
 use Rattle.xdg_rules.specs.Worths.{Makes, MakesEach, MakesSome}
 use Rattle.xdg_formula_value.specs.Rows.{Joined, Over}
 use Rattle.xdg_formula_value.specs.Several.{MakesSeveral}
+use Rattle.xdg_problem.proofs.FormulaFronts.{front_more}
 
 -- what the parts of a formula name is there
 pub part_of : (parts : Parts) (fs : List Formula) (i : ℕ) (d : Formula) → i < length fs → EachIsOf parts (claims_of (map claim fs)) → IsOf parts (claim (get_or fs i d))
 part_of parts [] i d l all = absurd (omega (arith, l))
 part_of parts (f ∷ fs) zero d l all = all.0
 part_of parts (f ∷ fs) (suc i) d l all = part_of parts fs i d (omega (arith, l)) all.1
-
--- one more of the first
-pub front_more : (fs : List Formula) (i : ℕ) (f : Formula) → i < length fs → f ≡ get_or fs i f → map claim (take (i + 1) fs) ≡ map claim (take i fs) ++ claim f ∷ []
-front_more fs i f l is = ap (map claim) (take_more fs i f l) ∙ map-append claim (take i fs) (get_or fs i f ∷ []) ∙ ap (λ g. map claim (take i fs) ++ claim g ∷ []) (sym is)
 
 module _ (parts : Parts) (box : List (List Bool)) (b : ℕ → ℕ) where
   each_split : (truth : Bool) (cs : List Claim) (c : Claim) → MakesEach parts box (claims_of (cs ++ c ∷ [])) truth b ↔ (MakesEach parts box (claims_of cs) truth b × Makes parts box c truth b)

@@ -15,8 +15,8 @@ use Rattle.xdg_problem.specs.Problems.{IsProblem}
 use Rattle.xdg_problem.proofs.Claimed.{claim_not, claim_and, claim_or, claim_every, claim_any, claim_edge, claim_above, claim_left, claim_same, claim_attr, claim_feat}
 use Rattle.xdg_propcore.specs.Kinds.{entry_kind, attr_kind, edge_kind}
 use Rattle.xdg_formula_value.specs.ClaimKinds.{IsKindOf, SomeKindOf, HasKinds}
-use Rattle.xdg_formula_value.proofs.Fronts.{front_more}
 use Rattle.xdg_facts.proofs.Bits.{or_left_bit, has_right}
+use Rattle.xdg_problem.proofs.FormulaFronts.{front_more}
 
 -- a set has the kinds of some claims
 abbrev pub HasEach : List Formula → ℕ → Type 0

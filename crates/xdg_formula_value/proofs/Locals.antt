@@ -9,7 +9,7 @@ use Rattle.xdg_problem.specs.declared.formula.Formula.TheVariants as y
 use Rattle.xdg_problem.specs.Claims.{Claim, negation, conjunction, disjunction, every, some, joined, above, left, same, valued, fitting, claims_of, claim}
 use Rattle.xdg_problem.proofs.Claimed.{claim_not, claim_and, claim_or, claim_every, claim_any, claim_edge, claim_above, claim_left, claim_same, claim_attr, claim_feat}
 use Rattle.xdg_formula_value.specs.Lost.{AsksIf, EachAsksIf}
-use Rattle.xdg_formula_value.proofs.Fronts.{front_more}
+use Rattle.xdg_problem.proofs.FormulaFronts.{front_more}
 
 module _ (P : Type 0) where
   -- each of some formulas does

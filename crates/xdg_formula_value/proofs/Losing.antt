@@ -1,8 +1,6 @@
 -- Decisions by their numbers, and the decisions of edges that have lost values.
-use Rattle.std.proofs.Common.{◌≡◌, ℕ, ◌+◌, ◌*◌, ◌<◌, ◌≤◌, inl, inr, Bool, List, Contains, length, get_or, sym, ap, ◌∙◌, arith, subst}
-use Rattle.std.proofs.lemmas.Bool.{cases_eq, cases_lt}
+use Rattle.std.proofs.Common.{◌≡◌, ℕ, ◌+◌, ◌*◌, ◌<◌, ◌≤◌, Bool, List, Contains, length, get_or, sym, ap, ◌∙◌, arith, subst}
 use Rattle.std.proofs.lemmas.List.{get_or_default}
-use Rattle.std.proofs.lemmas.Nat.{row_fits}
 use Rattle.xdg_problem.specs.declared.analysis.Edge.{Edge}
 use Rattle.xdg_problem.specs.declared.parts.Parts.{Parts}
 use Rattle.xdg_problem.specs.Analyses.{IsPlace}
@@ -20,16 +18,7 @@ use Rattle.xdg_store.proofs.Located.{place_found}
 use Rattle.xdg_propcore.specs.Kinds.{kind_of}
 use Rattle.xdg_propcore.proofs.DecisionKinds.{kind_of_attr, kind_of_edge, kind_of_entry}
 use Rattle.xdg_formula_value.specs.Lost.{IsAttrOf, IsEntryOf, LosesOne}
-
--- of two places in a table of rows that are the same the rows are the same
-same_row : (m a n b w : ℕ) → a < w → b < w → m * w + a ≡ n * w + b → m ≡ n
-same_row m a n b w l k e = elim (cases_eq m n) [
-  | inl q ↦ q
-  | inr f ↦ elim (cases_lt m n) [
-    | inl less ↦ absurd (let r = row_fits m w n w less (omega arith) in omega (arith, r, e, l))
-    | inr more ↦ absurd (let less : n < m = omega (arith, more, f) in let r = row_fits n w m w less (omega arith) in omega (arith, r, e, k))
-  ]
-]
+use Rattle.xdg_store.proofs.Renewed.{same_row}
 
 -- and the columns
 same_column : (m a n b w : ℕ) → m ≡ n → m * w + a ≡ n * w + b → a ≡ b

@@ -1,16 +1,17 @@
 -- Rows of quantifiers, where only nodes are looked at that are possible for the two names.
 use Rattle.std.proofs.Common.{◌≡◌, ◌↔◌, ℕ, ◌<◌, IsTrue, Bool, true, false, ◌&&◌, List, [], length, sym, ◌∙◌, subst, arith}
 use Rattle.std.proofs.lemmas.Bool.{and_from, and_parts}
-use Rattle.xdg_nodeset.specs.Nodes.{has}
 use Rattle.xdg_problem.specs.declared.formula.Formula.{Formula}
 use Rattle.xdg_problem.specs.declared.parts.Parts.{Parts}
 use Rattle.xdg_problem.specs.Claims.{claim}
 use Rattle.xdg_problem.specs.Places.{nodes}
-use Rattle.xdg_problem.specs.Truths.{bound}
-use Rattle.xdg_rules.specs.WorthLaws.{AreNodes}
+use Rattle.xdg_problem.specs.Truths.{bound, AreNodes}
 use Rattle.xdg_rules.specs.Worths.{Makes}
-use Rattle.xdg_formula_value.specs.Rows.{AreFirst, Bounds, IsEvery, IsRowOn, Over}
-use Rattle.xdg_formula_value.proofs.Rowed.{Gathered, gathered_among, no_member, none_in, over_told}
+use Rattle.xdg_graph.specs.Every.{IsEvery}
+use Rattle.xdg_formula_value.specs.Rows.{AreFirst, Bounds, IsRowOn, Over}
+use Rattle.xdg_formula_value.proofs.Rowed.{Gathered, gathered_among, no_member, over_told}
+use Rattle.xdg_facts.specs.Rises.{has}
+use Rattle.xdg_nodeset.proofs.TableSets.{none_in}
 
 -- what is so at some node, where there is one
 over_some : (each : Bool) (n : ℕ) (P : ℕ → Type 0) → 0 < n → Over each n P → (v : ℕ) × (v < n) × P v

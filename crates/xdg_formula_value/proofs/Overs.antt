@@ -1,10 +1,11 @@
 -- Whether a set of nodes has members, and what that says of other sets.
-use Rattle.std.proofs.Common.{◌≡◌, ◌↔◌, ◌⊎◌, ℕ, ◌+◌, ◌<◌, ◌≤◌, IsTrue, inl, inr, zero, suc, Bool, true, false, ◌&&◌, List, [], ◌∷◌, length, refl, sym, ◌∙◌, arith}
+use Rattle.std.proofs.Common.{◌≡◌, ◌↔◌, ◌⊎◌, ℕ, ◌<◌, IsTrue, inl, inr, zero, suc, Bool, true, false, ◌&&◌, List, [], ◌∷◌, length, refl, sym, ◌∙◌, arith}
 use Rattle.std.specs.Prelude.{not, ◌==◌}
 use Rattle.std.proofs.lemmas.Bool.{cases_Bool, and_parts, and_from, eq-eqb, eqb-true, false≢true, false_from_ne_true, not_from_false, both_ways, not-true}
-use Rattle.xdg_nodeset.specs.Nodes.{has}
-use Rattle.xdg_formula_value.specs.Rows.{IsEvery, Over}
+use Rattle.xdg_graph.specs.Every.{IsEvery}
+use Rattle.xdg_formula_value.specs.Rows.{Over}
 use Rattle.xdg_facts.proofs.Truths.{or_here}
+use Rattle.xdg_facts.specs.Rises.{has}
 
 has_some : (s : List ℕ) (v : ℕ) → has s v ≡ true → 0 < length s
 has_some [] v there = absurd (false≢true there)
@@ -37,14 +38,6 @@ pub over_some : (n : ℕ) (all set rest : List ℕ) → IsEvery n all → ((v : 
 over_some n all set rest every is = (
   λ some. (let found = some_has rest some in let both = and_parts (has all found.0) (has set found.0) (sym (is found.0) ∙ found.1) in (found.0, (every found.0).0 both.0, both.1)),
   λ some. has_some rest some.0 (is some.0 ∙ and_from (has all some.0) (has set some.0) ((every some.0).1 some.1) some.2),
-)
-
--- ---- all nodes
-
-pub every_up_to : (n last : ℕ) (set : List ℕ) → last + 1 ≡ n → ((v : ℕ) → (has set v ≡ true) ↔ (v ≤ last)) → IsEvery n set
-every_up_to n last set is up_to v = (
-  λ h. (let l = (up_to v).0 h in omega (arith, l, is)),
-  λ l. (up_to v).1 (omega (arith, l, is)),
 )
 
 -- ---- what a number of nodes tells

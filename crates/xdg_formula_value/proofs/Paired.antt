@@ -4,7 +4,6 @@ use Rattle.std.specs.Prelude.{not}
 use Rattle.std.proofs.lemmas.Bool.{cases_Bool, cases_lt, false≢true, not_from_false, both_ways, not-true}
 use Rattle.xdg_base.specs.declared.ids.DimId.{DimId}
 use Rattle.xdg_base.specs.declared.ids.LabelId.{LabelId}
-use Rattle.xdg_nodeset.specs.Nodes.{has}
 use Rattle.xdg_problem.specs.declared.parts.Parts.{Parts}
 use Rattle.xdg_problem.specs.Boxes.{IsBox}
 use Rattle.xdg_problem.specs.Paths.{Above, IsDaughterBy}
@@ -21,6 +20,7 @@ use Rattle.xdg_formula_value.specs.declared.way.Way.{Way}
 use Rattle.xdg_formula_value.specs.declared.way.Way.TheVariants as ways
 use Rattle.xdg_formula_value.proofs.Edged.{by_is_edge, no_edge}
 use Rattle.xdg_formula_value.proofs.Stood.{bound_here, bound_else}
+use Rattle.xdg_facts.specs.Rises.{has}
 
 module _ (which : Which) (parts : Parts) (box : List (List Bool)) (dim : DimId) (label : LabelId) (is : IsBox (shape parts) box) (node : ℕ) (set : List ℕ) where
   -- the daughters and the mothers by a label

@@ -6,12 +6,10 @@ use Rattle.std.proofs.lemmas.Bool.{and_from, and_parts, cases_Bool, eq-eqb, eqb-
 use Rattle.std.proofs.lemmas.List.FromFn.{length-range_with_len, get_or-range_with_len}
 use Rattle.xdg_facts.proofs.Truths.{or_here, either_true}
 use Rattle.xdg_nodeset.specs.Nodes as nodesets
-use Rattle.xdg_nodeset.specs.Nodes.{has, numbers_below}
-use Rattle.xdg_nodeset.proofs.Rising.{few_of}
 use Rattle.xdg_problem.specs.declared.analysis.Edge.{Edge}
 use Rattle.xdg_problem.specs.declared.parts.Parts.{Parts}
 use Rattle.xdg_problem.specs.Boxes.{IsBox}
-use Rattle.xdg_problem.specs.Paths.{Above, IsDaughter, IsDaughterBy}
+use Rattle.xdg_problem.specs.Paths.{Above, IsDaughter}
 use Rattle.xdg_problem.specs.Places.{nodes}
 use Rattle.xdg_problem.specs.Vectors.{shape}
 use Rattle.xdg_problem.proofs.Looking.{any_of}
@@ -19,12 +17,14 @@ use Rattle.xdg_problem.proofs.PlaceOrder.{is_place}
 use Rattle.xdg_problem.proofs.Walks.{above_edge, above_trans, closed_above}
 use Rattle.xdg_rules.proofs.Keeping.{strictly_length}
 use Rattle.xdg_graph.specs.declared.which.Which.{Which}
-use Rattle.xdg_graph.specs.Edges.{edge_labels, edges_of}
-use Rattle.xdg_graph.proofs.Edges.{IsBelow, below_start, below_next, below_all, over_start, over_next, over_all, which_exact}
+use Rattle.xdg_graph.specs.Edges.{edges_of}
+use Rattle.xdg_graph.proofs.Edges.{which_exact}
 use Rattle.xdg_formula_value.specs.Lost.{Reaches}
 use Rattle.xdg_formula_value.specs.Pairs.{Along}
 use Rattle.xdg_formula_value.specs.declared.way.Way.{Way}
 use Rattle.xdg_formula_value.specs.declared.way.Way.TheVariants as ways
+use Rattle.xdg_facts.specs.Rises.{has, numbers_below}
+use Rattle.xdg_facts.proofs.Rising.{few_of}
 
 -- ---- the nodes next to a node
 
@@ -38,22 +38,9 @@ next_down way R node set is exact = subst (λ w. IsNext w R node set) (sym is) e
 pub next_up : (way : Way) (R : ℕ → ℕ → Type 0) (node : ℕ) (set : List ℕ) → way ≡ ways.Up → ((x : ℕ) → IsTrue (has set x) ↔ R x node) → IsNext way R node set
 next_up way R node set is exact = subst (λ w. IsNext w R node set) (sym is) exact
 
-pub next_start : (way : Way) (edges : List Edge) (node : ℕ) (set : List ℕ) → set ≡ [] → IsNext way (IsBelow edges 0) node set
-next_start ways.Down edges node set empty = below_start edges set node empty
-next_start ways.Up edges node set empty = over_start edges set node empty
-
-pub next_more : (way : Way) (edges : List Edge) (label node : ℕ) (old more set : List ℕ) → IsNext way (IsBelow edges label) node old → IsNext way (λ u v. IsDaughterBy edges u label v) node more → ((x : ℕ) → has set x ≡ (has old x || has more x))
-    → IsNext way (IsBelow edges (label + 1)) node set
-next_more ways.Down edges label node old more set before here both = below_next edges label node old more set before here both
-next_more ways.Up edges label node old more set before here both = over_next edges label node old more set before here both
-
 module _ (which : Which) (parts : Parts) (box : List (List Bool)) (dim : ℕ) (is_box : IsBox (shape parts) box) where
   abbrev edges : List Edge
   edges = edges_of which parts box dim
-
-  pub next_all : (way : Way) (label node : ℕ) (set : List ℕ) → edge_labels parts dim ≤ label → IsNext way (IsBelow edges label) node set → IsNext way (IsDaughter edges) node set
-  next_all ways.Down label node set all exact = below_all which parts box dim label node set is_box all exact
-  next_all ways.Up label node set all exact = over_all which parts box dim label node set is_box all exact
 
   from_within : (u v : ℕ) → IsDaughter edges u v → u < nodes parts
   from_within u v (j, e, within, at, (m, d)) = (let l = (is_place parts e ((which_exact which parts box dim e is_box).0 (j, within, at)).0.0).mother in omega (arith, l, m))

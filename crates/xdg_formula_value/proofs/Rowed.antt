@@ -2,17 +2,12 @@
 use Rattle.std.proofs.Common.{◌≡◌, ◌⊎◌, ◌↔◌, ℕ, ◌+◌, ◌<◌, ◌≤◌, IsTrue, inl, inr, Bool, true, false, List, [], ◌∷◌, length, refl, sym, ◌∙◌, subst, arith}
 use Rattle.std.specs.Prelude.{not, ◌==◌}
 use Rattle.std.proofs.lemmas.Bool.{cases_eq, cases_Bool, and_from, and_parts, both_ways, eq-eqb, eqb-true, not_from_false, false≢true, or_cases}
-use Rattle.xdg_nodeset.specs.Nodes.{has}
 use Rattle.xdg_problem.specs.Truths.{HasTruth}
 use Rattle.xdg_facts.proofs.Truths.{either_true, or_here}
-use Rattle.xdg_formula_value.specs.Rows.{IsRow, IsRowOn, HasFirst, Joined, Over, AreFirst, IsEvery, open_in}
-
--- no node is in a set that has none
-pub none_in : (s : List ℕ) (v : ℕ) → length s ≡ 0 → has s v ≡ true → ⊥
-none_in [] v none there = false≢true there
-none_in (m ∷ s) v none there = omega (arith, none)
-
--- ---- two together
+use Rattle.xdg_graph.specs.Every.{IsEvery}
+use Rattle.xdg_formula_value.specs.Rows.{IsRow, IsRowOn, HasFirst, Joined, Over, AreFirst, open_in}
+use Rattle.xdg_facts.specs.Rises.{has}
+use Rattle.xdg_nodeset.proofs.TableSets.{none_in}
 
 -- two rows, the second of which is right where it still matters
 pub row_more : (both : Bool) (care still : List ℕ) (P Q R : ℕ → Type 0) (old part new : List ℕ) → IsRowOn care P old → ((v : ℕ) → has still v ≡ open_in both care old v) → IsRowOn still Q part → ((v : ℕ) → (has new v ≡ true) ↔ Joined both (has old v ≡ true) (has part v ≡ true)) → ((v : ℕ) → Joined both (P v) (Q v) ↔ R v) → IsRowOn care R new

@@ -18,11 +18,10 @@ use Rattle.xdg_problem.specs.Paths.{Above}
 use Rattle.xdg_problem.specs.Places.{edge, nodes, places}
 use Rattle.xdg_problem.specs.Problems.{IsProblem, IsGroup, IsSuited}
 use Rattle.xdg_problem.specs.Tests.{IsTestOf}
-use Rattle.xdg_problem.specs.Truths.{bound, unbound}
+use Rattle.xdg_problem.specs.Truths.{bound, unbound, AreNodes}
 use Rattle.xdg_problem.specs.Vectors.{shape}
 use Rattle.xdg_problem.proofs.FilterFacts.{filter_alike}
 use Rattle.xdg_rules.specs.Rules.{has, may_edges, must_edges, FailsTest, TakesBy, Takes, IsClosedFor}
-use Rattle.xdg_rules.specs.WorthLaws.{AreNodes}
 use Rattle.xdg_rules.specs.Worths.{Makes, MakesEach, MakesSome, RuleFalse}
 use Rattle.xdg_rules.proofs.Bound.{bound_nodes}
 use Rattle.xdg_rules.proofs.Sizes.{some_value}

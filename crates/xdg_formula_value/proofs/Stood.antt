@@ -4,8 +4,7 @@ use Rattle.std.specs.Prelude.{slice_index, ◌==◌}
 use Rattle.std.proofs.lemmas.Bool.{cases_eq, eq-eqb, false_from_ne_true, eqb-true}
 use Rattle.xdg_problem.specs.declared.parts.Parts.{Parts}
 use Rattle.xdg_problem.specs.Places.{nodes}
-use Rattle.xdg_problem.specs.Truths.{bound, unbound}
-use Rattle.xdg_rules.specs.WorthLaws.{AreNodes}
+use Rattle.xdg_problem.specs.Truths.{bound, unbound, AreNodes}
 use Rattle.xdg_formula_value.specs.Rows.{stands}
 use Rattle.xdg_facts.proofs.Numbers.{zeros}
 

@@ -4,7 +4,6 @@ use Rattle.std.specs.Prelude.{slice_index_or, slice_set}
 use Rattle.std.proofs.lemmas.Bool.{cases_eq, false≢true}
 use Rattle.std.proofs.lemmas.List.{get_or-set_same, get_or-set_other}
 use Rattle.xdg_nodeset.specs.Tables.{In}
-use Rattle.xdg_nodeset.specs.Nodes.{has}
 use Rattle.xdg_problem.specs.Paths.{Above}
 use Rattle.xdg_graph.specs.declared.which.Which.{Which}
 use Rattle.xdg_graph.specs.Edges.{edges_of}
@@ -13,6 +12,7 @@ use Rattle.xdg_formula_value.specs.Filling.{TellsPaths}
 use Rattle.xdg_formula_value.specs.Pairs.{Along}
 use Rattle.xdg_formula_value.specs.declared.way.Way.{Way}
 use Rattle.xdg_formula_value.specs.declared.way.Way.TheVariants as ways
+use Rattle.xdg_facts.specs.Rises.{has}
 
 module _ (way : Way) (which : Which) (s : State) (k : ℕ) (known : List Bool) (tables : List (List (List ℕ))) (before : TellsPaths way which s k known tables) where
   -- a dimension of which none is wanted

@@ -3,7 +3,7 @@ use Rattle.std.proofs.Common.{◌≡◌, ◌↔◌, ℕ, ◌<◌, ◌≤◌, IsT
 use Rattle.std.specs.Prelude.{not}
 use mathlib.Core.Bool.{beq}
 use Rattle.std.proofs.lemmas.Bool.{both_ways, false≢true}
-use Rattle.xdg_nodeset.specs.Nodes as sets
+use Rattle.xdg_facts.specs.Rises as sets
 use Rattle.xdg_problem.specs.Boxes.{Has, IsOnly}
 use Rattle.xdg_problem.specs.Truths.{bound, HasTruth}
 use Rattle.xdg_rules.specs.Worths.{EachValue}

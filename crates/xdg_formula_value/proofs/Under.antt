@@ -3,7 +3,6 @@ use Rattle.std.proofs.Common.{◌≡◌, ◌↔◌, ℕ, ◌+◌, ◌<◌, ◌�
 use Rattle.std.specs.Prelude.{not, ◌==◌, ◌||◌, Some}
 use Rattle.std.proofs.lemmas.Bool.{cases_eq, eq-eqb, false≢true}
 use Rattle.std.proofs.lemmas.List.{get_or_default}
-use Rattle.xdg_nodeset.specs.Nodes.{has}
 use Rattle.xdg_problem.specs.declared.formula.Formula.{Formula}
 use Rattle.xdg_problem.specs.declared.formula.Formula.TheVariants as y
 use Rattle.xdg_problem.specs.declared.parts.Parts.{Parts}
@@ -25,6 +24,7 @@ use Rattle.xdg_formula_value.proofs.Formed.{not_makes, every_makes, any_makes}
 use Rattle.xdg_formula_value.proofs.Stood.{bound_back, bound_else}
 use Rattle.xdg_formula_value.proofs.Unmet.{made_before}
 use Rattle.xdg_facts.proofs.Truths.{or_here, either_true}
+use Rattle.xdg_facts.specs.Rises.{has}
 
 -- ---- what leads to what
 

@@ -9,11 +9,10 @@ use Rattle.xdg_problem.specs.Claims.{Claim, negation, conjunction, disjunction, 
 use Rattle.xdg_problem.specs.Claims.{claim_then, IsOf, EachIsOf}
 use Rattle.xdg_problem.specs.Places.{edge, places}
 use Rattle.xdg_problem.specs.Problems.{IsProblem}
-use Rattle.xdg_problem.specs.Truths.{bound}
+use Rattle.xdg_problem.specs.Truths.{bound, AreNodes}
 use Rattle.xdg_problem.specs.Vectors.{shape}
 use Rattle.xdg_problem.proofs.PlaceOrder.{is_place}
 use Rattle.xdg_rules.specs.Rules.{has, may_edges, must_edges}
-use Rattle.xdg_rules.specs.WorthLaws.{AreNodes}
 use Rattle.xdg_rules.specs.Worths.{Makes, MakesEach, MakesSome}
 use Rattle.xdg_rules.proofs.Bound.{bound_nodes}
 use Rattle.xdg_rules.proofs.Shrinking.{may_exact, must_exact}

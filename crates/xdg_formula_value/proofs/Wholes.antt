@@ -3,22 +3,22 @@ use Rattle.std.proofs.Common.{◌≡◌, ◌↔◌, ℕ, ◌+◌, ◌<◌, ◌�
 use Rattle.std.specs.Prelude.{not}
 use Rattle.std.proofs.lemmas.Bool.{false≢true}
 use Rattle.std.proofs.lemmas.List.{take_all}
-use Rattle.xdg_nodeset.specs.Nodes.{has}
 use Rattle.xdg_problem.specs.declared.formula.Formula.{Formula}
 use Rattle.xdg_problem.specs.declared.formula.Formula.TheVariants as y
 use Rattle.xdg_problem.specs.declared.parts.Parts.{Parts}
 use Rattle.xdg_problem.specs.Claims.{claims_of, claim}
 use Rattle.xdg_problem.specs.Places.{nodes}
-use Rattle.xdg_problem.specs.Truths.{bound}
-use Rattle.xdg_rules.specs.WorthLaws.{AreNodes}
+use Rattle.xdg_problem.specs.Truths.{bound, AreNodes}
 use Rattle.xdg_rules.specs.Worths.{Makes}
-use Rattle.xdg_formula_value.specs.Rows.{IsEvery, IsRowOn, Joined, Over}
+use Rattle.xdg_graph.specs.Every.{IsEvery}
+use Rattle.xdg_formula_value.specs.Rows.{IsRowOn, Joined, Over}
 use Rattle.xdg_formula_value.specs.Several.{MakesSeveral}
 use Rattle.xdg_formula_value.proofs.Formed.{not_makes, and_several, or_several, every_makes, any_makes}
 use Rattle.xdg_formula_value.proofs.Fronts.{several_more, several_none}
 use Rattle.xdg_formula_value.proofs.Rowed.{over_told}
 use Rattle.xdg_formula_value.proofs.Stood.{bound_back}
 use Rattle.xdg_facts.proofs.Facts.{both_steps}
+use Rattle.xdg_facts.specs.Rises.{has}
 
 -- where what is known so far decides of two together
 decided : (each so_far : Bool) (P Q : Type 0) → (so_far ≡ each → ⊥) → (so_far ≡ true) ↔ P → (so_far ≡ true) ↔ Joined each P Q

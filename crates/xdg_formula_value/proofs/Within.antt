@@ -2,22 +2,21 @@
 use Rattle.std.proofs.Common.{◌≡◌, ℕ, ◌<◌, inl, inr, Bool, true, false, ◌&&◌, List, [], ◌∷◌, refl, sym, ◌∙◌, ap, subst}
 use Rattle.std.specs.Prelude.{not, ◌==◌}
 use Rattle.std.proofs.lemmas.Bool.{and_from, cases_eq, false≢true}
-use Rattle.xdg_nodeset.specs.Nodes.{has}
 use Rattle.xdg_problem.specs.declared.analysis.Edge.{Edge}
 use Rattle.xdg_problem.specs.declared.parts.Parts.{Parts}
 use Rattle.xdg_problem.specs.Claims.{Claim}
 use Rattle.xdg_problem.specs.Places.{nodes}
-use Rattle.xdg_problem.specs.Truths.{bound, unbound}
-use Rattle.xdg_rules.specs.WorthLaws.{AreNodes}
+use Rattle.xdg_problem.specs.Truths.{bound, unbound, AreNodes}
 use Rattle.xdg_rules.specs.Worths.{Makes}
 use Rattle.xdg_graph.specs.declared.which.Which.{Which}
 use Rattle.xdg_graph.specs.Edges.{edges_of}
 use Rattle.xdg_store.specs.declared.decision.Decision.{Decision}
 use Rattle.xdg_store.specs.declared.decision.Decision.TheVariants as decisions
 use Rattle.xdg_formula_value.specs.Lost.{AgreeBut, Finds, IsBy, MovesPath, OnNames, Passes, PathsStay, Reaches, Seen}
-use Rattle.xdg_formula_value.specs.Rows.{IsEvery}
+use Rattle.xdg_graph.specs.Every.{IsEvery}
 use Rattle.xdg_formula_value.proofs.Finding.{NoneMade, agree_rest, finds_no, finds_weaker, missed}
 use Rattle.xdg_formula_value.proofs.Rowed.{head_or_tail, no_member}
+use Rattle.xdg_facts.specs.Rises.{has}
 
 module _ (parts : Parts) (box : List (List Bool)) (c : Claim) (truth : Bool) where
   -- ---- where not all was seen

@@ -8,7 +8,7 @@ use Rattle.xdg_graph.specs.declared.which.Which.TheVariants as whichs
 use Rattle.xdg_graph.specs.Edges.{edges_of}
 use Rattle.xdg_store.specs.States.{State}
 use Rattle.xdg_formula_value.specs.Pairs.{Along}
-use Rattle.xdg_formula_value.specs.Rows.{IsEvery}
+use Rattle.xdg_graph.specs.Every.{IsEvery}
 use Rattle.xdg_formula_value.specs.declared.paths.Filled.{Filled}
 use Rattle.xdg_formula_value.specs.declared.paths.Paths.{Paths}
 use Rattle.xdg_formula_value.specs.declared.way.Way.{Way}

@@ -1,6 +1,5 @@
 -- What lost values can have changed of a claim.
 use Rattle.std.specs.Prelude.{◌≡◌, ◌⊎◌, ℕ, ◌<◌, ◌≤◌, Bool, true, false, List, length}
-use Rattle.xdg_nodeset.specs.Nodes.{has}
 use Rattle.xdg_problem.specs.declared.analysis.Edge.{Edge}
 use Rattle.xdg_problem.specs.declared.parts.Parts.{Parts}
 use Rattle.xdg_problem.specs.Boxes.{IsBox, LiesIn, May, Must}
@@ -8,10 +7,9 @@ use Rattle.xdg_problem.specs.Claims.{Claim, negation, conjunction, disjunction, 
 use Rattle.xdg_problem.specs.Claims.{claim_then}
 use Rattle.xdg_problem.specs.Paths.{Above}
 use Rattle.xdg_problem.specs.Places.{nodes}
-use Rattle.xdg_problem.specs.Truths.{bound, unbound}
+use Rattle.xdg_problem.specs.Truths.{bound, unbound, AreNodes}
 use Rattle.xdg_problem.specs.Vectors.{shape}
 use Rattle.xdg_rules.specs.Rules.{may_edges, must_edges}
-use Rattle.xdg_rules.specs.WorthLaws.{AreNodes}
 use Rattle.xdg_rules.specs.Worths.{Makes}
 use Rattle.xdg_graph.specs.declared.which.Which.{Which}
 use Rattle.xdg_graph.specs.declared.which.Which.TheVariants as whichs
@@ -22,6 +20,7 @@ use Rattle.xdg_store.specs.declared.decision.Decision.{Decision}
 use Rattle.xdg_store.specs.declared.decision.Decision.TheVariants as decisions
 use Rattle.xdg_propcore.specs.Standing.{box_at}
 use Rattle.xdg_formula_value.specs.Rows.{Over}
+use Rattle.xdg_facts.specs.Rises.{has}
 
 -- a decision is that of the entry of a node
 abbrev pub IsEntryOf : Decision → ℕ → Type 0

@@ -1,6 +1,6 @@
 -- Sets of nodes as what is so at each node of a sentence, and bindings as tables.
 use Rattle.std.specs.Prelude.{◌≡◌, ◌⊎◌, ◌↔◌, ℕ, ◌<◌, ◌&&◌, Bool, true, false, not, List, slice_index}
-use Rattle.xdg_nodeset.specs.Nodes.{has}
+use Rattle.xdg_facts.specs.Rises.{has}
 
 -- the node for which a name stands, in a table with a node for each name
 abbrev pub stands : List ℕ → ℕ → ℕ
@@ -40,7 +40,3 @@ AreFirst n set = (v : ℕ) → has set v ≡ true → v < n
 abbrev pub open_in : Bool → List ℕ → List ℕ → ℕ → Bool
 open_in true care set v = has care v && has set v
 open_in false care set v = has care v && not (has set v)
-
--- the set has the first nodes
-abbrev pub IsEvery : ℕ → List ℕ → Type 0
-IsEvery n set = (v : ℕ) → (has set v ≡ true) ↔ (v < n)

@@ -3,6 +3,8 @@ use Rattle.std.specs.Prelude.{◌≡◌, ℕ}
 use Rattle.xdg_problem.specs.declared.parts.Parts.{Parts}
 use Rattle.xdg_problem.specs.declared.parts.Principle.{Principle}
 use Rattle.xdg_problem.specs.declared.parts.Principle.TheVariants as principles
+use Rattle.xdg_problem.specs.Principles.{IsOf}
+use Rattle.xdg_problem.specs.declared.principles.PrincipleFamily.TheVariants as families
 use Rattle.xdg_problem.specs.Claims.{claim}
 use Rattle.xdg_propcore.specs.Uses.{use_at}
 use Rattle.xdg_formula_value.specs.ClaimKinds.{HasKinds}
@@ -10,8 +12,7 @@ use Rattle.xdg_formula_value.specs.declared.rule_prop.RuleProp.{RuleProp}
 
 -- the principle is a rule
 abbrev pub IsRule : Principle → Type 0
-IsRule (principles.Rule formula) = Unit {0}
-IsRule principle = ⊥
+IsRule principle = IsOf families.Rule principle
 
 -- the wake set has the kinds at which the formula of a rule looks
 abbrev pub HasKindsOf : Principle → ℕ → Type 0

@@ -1,12 +1,11 @@
 //! What the loss of values can have changed: a formula is looked at only under bindings under which it looks at a decision that lost some.
 
 ghost use Rattle.std.specs.Prelude.{◌≡◌, ◌<◌, ◌↔◌, IfSome, IsTrue, map, true};
-ghost use Rattle.xdg_nodeset.specs.Nodes.{has};
+ghost use Rattle.xdg_facts.specs.Rises.{has};
 ghost use Rattle.xdg_problem.specs.Analyses.{IsPlace};
 ghost use Rattle.xdg_problem.specs.Claims.{IsOf, claim, claims_of};
 ghost use Rattle.xdg_problem.specs.Places.{nodes};
-ghost use Rattle.xdg_problem.specs.Truths.{unbound};
-ghost use Rattle.xdg_rules.specs.WorthLaws.{AreNodes};
+ghost use Rattle.xdg_problem.specs.Truths.{unbound, AreNodes};
 ghost use Rattle.xdg_rules.specs.Worths.{Makes};
 ghost use Rattle.xdg_store.specs.Decisions.{IsDecision};
 ghost use Rattle.xdg_propcore.specs.Standing.{box_at};

@@ -1,20 +1,19 @@
 //! What holds of two nodes.
 
 ghost use Rattle.std.specs.Prelude.{◌≡◌, ◌≤◌, ◌<◌, ◌↔◌, ℕ, true};
-ghost use Rattle.xdg_nodeset.specs.Nodes.{has};
+ghost use Rattle.xdg_facts.specs.Rises.{has};
 ghost use Rattle.xdg_problem.specs.Places.{nodes};
-ghost use Rattle.xdg_problem.specs.Truths.{bound, HasTruth};
-ghost use Rattle.xdg_rules.specs.WorthLaws.{AreNodes};
+ghost use Rattle.xdg_problem.specs.Truths.{bound, HasTruth, AreNodes};
 ghost use Rattle.xdg_formula_value.specs.Filling.{ArePaths};
 ghost use Rattle.xdg_formula_value.specs.Pairs.{Along, IsPairOf, Relates, edges_for};
 ghost use Rattle.xdg_formula_value.specs.Rows.{IsRow, stands};
 
 use crate::binding::node_of;
 use crate::paths::{Paths, far};
-use crate::rows::{constant, kept, opposite, told, up_to};
+use crate::rows::{constant, kept, opposite, told};
 use crate::way::Way;
 use xdg_base::{DimId, LabelId, NodeId};
-use xdg_graph::{Which, daughters_by, labels_of, mothers_by, node_count};
+use xdg_graph::{Which, daughters_by, labels_of, mothers_by, node_count, up_to};
 use xdg_nodeset::NodeSet;
 use xdg_store::Store;
 

@@ -1,22 +1,22 @@
 //! The nodes of a sentence, and the paths in a box on the dimensions of which they are asked for often.
 
-ghost use Rattle.std.specs.Prelude.{◌≡◌, ◌≤◌, ◌<◌, ◌↔◌, ℕ, true, IfSome, IsTrue};
+ghost use Rattle.std.specs.Prelude.{◌≡◌, ◌<◌, ◌↔◌, ℕ, true, IfSome, IsTrue};
 ghost use Rattle.xdg_nodeset.specs.Tables.{In};
-ghost use Rattle.xdg_nodeset.specs.Nodes.{has};
+ghost use Rattle.xdg_facts.specs.Rises.{has};
 ghost use Rattle.xdg_problem.specs.Places.{nodes};
 ghost use Rattle.xdg_problem.specs.Paths.{Above};
 ghost use Rattle.xdg_graph.specs.Edges.{edges_of};
 ghost use Rattle.xdg_store.specs.States.{Known};
 ghost use Rattle.xdg_formula_value.specs.Filling.{AreFilled, ArePaths, TellsPaths};
 ghost use Rattle.xdg_formula_value.specs.Pairs.{Along};
-ghost use Rattle.xdg_formula_value.specs.Rows.{IsEvery, Over};
+ghost use Rattle.xdg_graph.specs.Every.{IsEvery};
+ghost use Rattle.xdg_formula_value.specs.Rows.{Over};
 ghost use Rattle.xdg_formula_value.specs.declared.way.Way.TheVariants as ways;
 
 use crate::reach::reach;
-use crate::rows::up_to;
 use crate::way::Way;
 use xdg_base::{DimId, NodeId};
-use xdg_graph::{Which, above, ancestors, node_count, set_at};
+use xdg_graph::{Which, above, ancestors, every_node, set_at};
 use xdg_nodeset::NodeSet;
 use xdg_problem::Formula;
 use xdg_store::Store;
@@ -67,15 +67,6 @@ fn note(formula: &Formula, dims: &mut [bool; 8]) {
         }
         _ => {}
     }
-}
-
-/// The nodes of a sentence.
-fn every_node(store: &Store) -> NodeSet
-    ensures all { IsEvery (nodes store.now.parts) result }
-    ensures few { nodes store.now.parts ≤ 128 }
-    ensures known { Known store.now }
-{
-    up_to(NodeId(node_count(store) - 1))
 }
 
 /// For each node those to which paths lead, one way.

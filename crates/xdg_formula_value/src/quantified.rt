@@ -2,8 +2,7 @@
 
 ghost use Rattle.xdg_problem.specs.Claims.{IsOf, claim};
 ghost use Rattle.xdg_problem.specs.Places.{nodes};
-ghost use Rattle.xdg_problem.specs.Truths.{bound};
-ghost use Rattle.xdg_rules.specs.WorthLaws.{AreNodes};
+ghost use Rattle.xdg_problem.specs.Truths.{bound, AreNodes};
 ghost use Rattle.xdg_rules.specs.Worths.{Makes};
 ghost use Rattle.xdg_formula_value.specs.Filling.{ArePaths};
 ghost use Rattle.xdg_formula_value.specs.Rows.{AreFirst, IsRowOn, Over, stands};

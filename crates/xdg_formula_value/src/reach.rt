@@ -1,51 +1,29 @@
 //! The nodes to which paths lead from one node, found by a walk from node to node.
 
 ghost use Rattle.std.specs.Prelude.{◌≡◌, ◌<◌, ◌↔◌, ℕ, IsTrue, true};
-ghost use Rattle.xdg_nodeset.specs.Nodes.{has};
-ghost use Rattle.xdg_problem.specs.Paths.{Above, IsDaughter, IsDaughterBy};
-ghost use Rattle.xdg_problem.specs.Places.{nodes};
-ghost use Rattle.xdg_graph.specs.Edges.{edge_labels, edges_of};
+ghost use Rattle.xdg_facts.specs.Rises.{has};
+ghost use Rattle.xdg_problem.specs.Paths.{Above, IsDaughter};
+ghost use Rattle.xdg_graph.specs.Edges.{edges_of};
 ghost use Rattle.xdg_formula_value.specs.Lost.{Reaches};
 ghost use Rattle.xdg_formula_value.specs.Pairs.{Along};
 
 use crate::way::Way;
-use xdg_base::{DimId, LabelId, NodeId};
-use xdg_graph::{Which, daughters_by, labels_of, mothers_by, node_count};
+use xdg_base::{DimId, NodeId};
+use xdg_graph::{Which, daughters_of, mothers_of, node_count};
 use xdg_nodeset::NodeSet;
 use xdg_store::Store;
-
-/// The nodes that edges with a label join to a node, one way.
-fn next_by(
-    store: &Store,
-    way: Way,
-    which: Which,
-    dim: DimId,
-    node: NodeId,
-    label: LabelId,
-) -> NodeSet
-    requires node { node.0 < nodes store.now.parts }
-    requires label { label.0 < edge_labels store.now.parts dim.0 }
-    ensures { (x : ℕ) → IsTrue (has result x)
-        ↔ Along way (λ u v. IsDaughterBy (edges_of which store.now.parts store.now.now dim.0) u label.0 v) node.0 x }
-{
-    match way {
-        Way::Down => daughters_by(store, which, dim, node, label),
-        Way::Up => mothers_by(store, which, dim, node, label),
-    }
-}
 
 /// The daughters of a node, or its mothers. A node that the sentence has not has none.
 fn next_to(store: &Store, way: Way, which: Which, dim: DimId, node: NodeId) -> NodeSet
     ensures { (x : ℕ) → IsTrue (has result x) ↔ Along way (IsDaughter (edges_of which store.now.parts store.now.now dim.0)) node.0 x }
 {
-    let mut next = NodeSet::empty();
     if node.0 >= node_count(store) {
-        return next;
+        return NodeSet::empty();
     }
-    for label in 0..labels_of(store, dim) {
-        next = next.union(&next_by(store, way, which, dim, node, LabelId(label)));
+    match way {
+        Way::Down => daughters_of(store, which, dim, node),
+        Way::Up => mothers_of(store, which, dim, node),
     }
-    next
 }
 
 /// The nodes to which paths lead from a node, one way. It takes each of them once.

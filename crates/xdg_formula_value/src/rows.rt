@@ -1,23 +1,13 @@
 //! Sets of nodes as what is so at each node.
 
-ghost use Rattle.std.specs.Prelude.{◌≡◌, ◌⊎◌, ◌↔◌, ◌<◌, ◌≤◌, ℕ, true, not};
-ghost use Rattle.xdg_nodeset.specs.Nodes.{has};
+ghost use Rattle.std.specs.Prelude.{◌≡◌, ◌⊎◌, ◌↔◌, ◌<◌, ℕ, true, not};
+ghost use Rattle.xdg_facts.specs.Rises.{has};
 ghost use Rattle.xdg_problem.specs.Truths.{HasTruth};
 ghost use Rattle.xdg_formula_value.specs.Rows.{Joined, open_in};
 
 use xdg_base::NodeId;
+use xdg_graph::up_to;
 use xdg_nodeset::NodeSet;
-
-/// The nodes up to a node.
-pub(crate) fn up_to(node: NodeId) -> NodeSet
-    requires { node.0 < 128 }
-    ensures { (v : ℕ) → (has result v ≡ true) ↔ (v ≤ node.0) }
-{
-    let mut front = NodeSet::between(NodeId(0), node);
-    front.insert(NodeId(0));
-    front.insert(node);
-    front
-}
 
 /// All nodes that a sentence can have, or none.
 pub(crate) fn constant(all: bool) -> NodeSet

@@ -1,7 +1,7 @@
 //! Whether a rule that an earlier box left open or made true is false now.
 
 ghost use Rattle.std.specs.Prelude.{◌≡◌, ◌<◌, ◌↔◌, ◌==◌, ◌||◌, ℕ, IsTrue};
-ghost use Rattle.xdg_nodeset.specs.Nodes.{has};
+ghost use Rattle.xdg_facts.specs.Rises.{has};
 ghost use Rattle.xdg_problem.specs.Claims.{IsOf, Suits, claim};
 ghost use Rattle.xdg_rules.specs.Worths.{RuleFalse};
 ghost use Rattle.xdg_store.specs.States.{Known};

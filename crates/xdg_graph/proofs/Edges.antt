@@ -3,7 +3,6 @@ use Rattle.std.proofs.Common.{◌≡◌, ◌≢◌, ℕ, ◌<◌, ◌≤◌, ◌
 use Rattle.std.specs.Prelude.{Contains}
 use Rattle.std.proofs.lemmas.Bool.{cases_eq, false≢true}
 use Rattle.xdg_nodeset.proofs.TableSets.{either}
-use Rattle.xdg_nodeset.specs.Nodes.{has}
 use Rattle.xdg_problem.specs.declared.analysis.Edge.{Edge}
 use Rattle.xdg_problem.specs.declared.parts.Parts.{Parts}
 use Rattle.xdg_problem.specs.Analyses.{IsPlace}
@@ -19,8 +18,9 @@ use Rattle.xdg_graph.specs.declared.which.Which.{Which}
 use Rattle.xdg_graph.specs.declared.which.Which.TheVariants as whichs
 use Rattle.xdg_graph.specs.Edges.{Stands, edges_of, edge_labels}
 use Rattle.xdg_graph.proofs.Labelled.{label_below, place_between}
+use Rattle.xdg_facts.specs.Rises.{has}
 
-edge_at : (e : Edge) (dim u l x : ℕ) → e.dim.0 ≡ dim → e.mother.0 ≡ u → e.label.0 ≡ l → e.daughter.0 ≡ x → e ≡ edge dim u l x
+pub edge_at : (e : Edge) (dim u l x : ℕ) → e.dim.0 ≡ dim → e.mother.0 ≡ u → e.label.0 ≡ l → e.daughter.0 ≡ x → e ≡ edge dim u l x
 edge_at e dim u l x a b c d =
     ap (λ k. edge k e.mother.0 e.label.0 e.daughter.0) a
     ∙ ap (λ k. edge dim k e.label.0 e.daughter.0) b

@@ -4,3 +4,4 @@ pub mod Labelled
 pub mod Edges
 pub mod Noting
 pub mod Widening
+pub mod UpTo

@@ -6,7 +6,6 @@ use Rattle.std.proofs.lemmas.List.{get_or-set_same, get_or-set_other, length-set
 use Rattle.xdg_nodeset.specs.Tables.{In, Along, IsClosure}
 use Rattle.xdg_nodeset.proofs.TableSets.{no_in}
 use Rattle.xdg_problem.proofs.Walks.{above_edge, above_trans, closed_above}
-use Rattle.xdg_nodeset.specs.Nodes.{has}
 use Rattle.xdg_problem.specs.declared.analysis.Edge.{Edge}
 use Rattle.xdg_problem.specs.declared.parts.Parts.{Parts}
 use Rattle.xdg_problem.specs.Boxes.{IsBox}
@@ -18,6 +17,7 @@ use Rattle.xdg_problem.proofs.PlaceOrder.{is_place}
 use Rattle.xdg_graph.specs.declared.which.Which.{Which}
 use Rattle.xdg_graph.specs.Edges.{edges_of}
 use Rattle.xdg_graph.proofs.Edges.{which_exact}
+use Rattle.xdg_facts.specs.Rises.{has}
 
 -- ---- a table, node by node
 

@@ -2,9 +2,9 @@
 use Rattle.std.proofs.Common.{◌≡◌, ℕ, ◌≤◌, ◌⊎◌, ◌↔◌, inl, inr, true, List, [], ◌∷◌, length, get_or, sym, subst, arith}
 use Rattle.std.proofs.lemmas.Bool.{cases_lt}
 use Rattle.xdg_nodeset.specs.Tables.{In}
-use Rattle.xdg_nodeset.proofs.TableSets.{Widened}
-use Rattle.xdg_nodeset.specs.Nodes.{has}
+use Rattle.xdg_nodeset.proofs.TableSets.{Widened, widened_start, widened_more}
 use Rattle.xdg_graph.specs.Edges.{HasNoneFrom}
+use Rattle.xdg_facts.specs.Rises.{has}
 
 module _ (old now : List (List ℕ)) (size middle : ℕ) (rest : HasNoneFrom size old) where
   pub widened_rest : (i : ℕ) → size ≤ i → Widened old now middle i → (a b : ℕ) → In now a b ↔ (In old a b ⊎ (In old a middle × In old middle b))
@@ -18,7 +18,7 @@ module _ (old now : List (List ℕ)) (size middle : ℕ) (rest : HasNoneFrom siz
         ))
   ]
 
-no_member : (set : List ℕ) → length set ≡ 0 → (b : ℕ) → has set b ≡ true → ⊥
+pub no_member : (set : List ℕ) → length set ≡ 0 → (b : ℕ) → has set b ≡ true → ⊥
 no_member [] e b h = cc
 no_member (n ∷ set) e b h = omega (arith, e)
 
@@ -28,3 +28,6 @@ widened_none table middle beyond is none a b = (
   λ h. inl h,
   λ h. elim h [ inl o ↦ o | inr o ↦ absurd (no_member beyond none b (subst (λ z. has z b ≡ true) (sym is) o.1)) ],
 )
+
+-- each turn over the nodes of a table
+pub ruleset widened_steps = (widened_start, widened_more, widened_rest, widened_none)

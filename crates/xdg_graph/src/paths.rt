@@ -1,7 +1,7 @@
 //! The nodes below each node, and those above it.
 
 ghost use Rattle.std.specs.Prelude.{◌≡◌, ◌≤◌, ◌<◌, ◌↔◌, ◌⊎◌, ℕ, true};
-ghost use Rattle.xdg_nodeset.specs.Nodes.{has};
+ghost use Rattle.xdg_facts.specs.Rises.{has};
 ghost use Rattle.xdg_nodeset.specs.Tables.{In, IsClosure};
 ghost use Rattle.xdg_problem.specs.Paths.{Above};
 ghost use Rattle.xdg_store.specs.States.{Known};
@@ -29,7 +29,7 @@ fn extended(set: NodeSet, middle: u8, beyond: NodeSet) -> NodeSet
 
 /// Adds to each of the first sets of a table that has the node in the middle what the table has for that node. The others are
 /// empty.
-#[tactic(auto, using(xdg_nodeset::proofs::TableSets::widened_start, xdg_nodeset::proofs::TableSets::widened_more, crate::proofs::Widening::widened_rest, crate::proofs::Widening::widened_none))]
+#[tactic(auto, using(crate::proofs::Widening::widened_steps))]
 fn widen(table: &mut [NodeSet; 128], size: u8, middle: u8)
     requires size { size ≤ 128 }
     requires middle { middle < 128 }

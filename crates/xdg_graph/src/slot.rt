@@ -2,7 +2,8 @@
 
 ghost use Rattle.std.specs.Prelude.{◌≡◌, ◌<◌};
 ghost use Rattle.xdg_problem.specs.Places.{nodes};
-ghost use Rattle.xdg_problem.specs.Problems.{IsProblem, IsGroup, attr_arguments, dim_arguments};
+ghost use Rattle.xdg_problem.specs.Problems.{IsProblem, IsGroup};
+ghost use Rattle.xdg_problem.specs.Principles.{dim_arguments, attr_arguments};
 ghost use Rattle.xdg_rules.specs.Rules.{attr_of_node};
 ghost use Rattle.xdg_graph.specs.Slots.{IsSlot, decision_of};
 

@@ -1,7 +1,7 @@
 //! The daughters of each node.
 
 ghost use Rattle.std.specs.Prelude.{◌≡◌, ◌<◌, ◌↔◌, ℕ, [], IsTrue, slice_index_or};
-ghost use Rattle.xdg_nodeset.specs.Nodes.{has};
+ghost use Rattle.xdg_facts.specs.Rises.{has};
 ghost use Rattle.xdg_nodeset.specs.Tables.{In};
 ghost use Rattle.xdg_problem.specs.Paths.{IsDaughter, IsDaughterBy};
 ghost use Rattle.xdg_problem.specs.Places.{nodes};
@@ -43,7 +43,7 @@ pub fn daughters_by(
 
 /// The nodes to which an edge leads from a node.
 #[tactic(auto, using(crate::proofs::Edges::below_start, crate::proofs::Edges::below_next))]
-fn daughters_of(store: &Store, which: Which, dim: DimId, mother: NodeId) -> NodeSet
+pub fn daughters_of(store: &Store, which: Which, dim: DimId, mother: NodeId) -> NodeSet
     requires { mother.0 < nodes store.now.parts }
     ensures exact { (x : ℕ) → IsTrue (has result x) ↔ IsDaughter (edges_of which store.now.parts store.now.now dim.0) mother.0 x }
     ensures known { Known store.now }

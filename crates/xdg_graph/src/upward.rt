@@ -1,7 +1,7 @@
 //! The mothers of each node.
 
 ghost use Rattle.std.specs.Prelude.{◌≡◌, ◌<◌, ◌↔◌, ℕ, IsTrue};
-ghost use Rattle.xdg_nodeset.specs.Nodes.{has};
+ghost use Rattle.xdg_facts.specs.Rises.{has};
 ghost use Rattle.xdg_nodeset.specs.Tables.{In};
 ghost use Rattle.xdg_problem.specs.Paths.{IsDaughter, IsDaughterBy};
 ghost use Rattle.xdg_problem.specs.Places.{nodes};
@@ -35,7 +35,7 @@ pub fn mothers_by(
 
 /// The nodes from which an edge leads into a node.
 #[tactic(auto, using(crate::proofs::Edges::over_start, crate::proofs::Edges::over_next))]
-fn mothers_of(store: &Store, which: Which, dim: DimId, daughter: NodeId) -> NodeSet
+pub fn mothers_of(store: &Store, which: Which, dim: DimId, daughter: NodeId) -> NodeSet
     requires { daughter.0 < nodes store.now.parts }
     ensures exact { (x : ℕ) → IsTrue (has result x) ↔ IsDaughter (edges_of which store.now.parts store.now.now dim.0) x daughter.0 }
     ensures known { Known store.now }

@@ -6,7 +6,7 @@ use Rattle.xdg_base.specs.declared.faults.Fault.{Fault}
 use Rattle.xdg_base.specs.declared.faults.Stop.{Stop}
 use Rattle.xdg_base.specs.declared.faults.Stop.TheVariants as stops
 use Rattle.xdg_build.specs.Compiled.{compiled}
-use Rattle.xdg_build.specs.Refusals.{refusal, IsRefused}
+use Rattle.xdg_build.specs.Refusals.{refusal, IsRefused, fault}
 use Rattle.xdg_build.specs.Solutions.{KeepsSolutions}
 use Rattle.xdg_reading.specs.Fits as fitting
 use Rattle.xdg_inputs.specs.Answers.{meaning_of}
@@ -23,7 +23,6 @@ use Rattle.xdg_reading.specs.declared.texts.AnalysisText.{AnalysisText}
 use Rattle.xdg_inputs.specs.Analyses.{Analysed, HasAnalysis, HasBadAnalysis, IsNoAnalysis, too_long, unreadable, unknown_word, unfit, analysis_limit}
 use Rattle.xdg_inputs.specs.Grammars.{with_words}
 use Rattle.xdg_inputs.specs.Judging.{IsJudged, IsNotJudged, no_memory, word_unknown, not_fit, analysed_of, of_words}
-use Rattle.xdg_inputs.specs.Places.{fault}
 use Rattle.xdg_inputs.specs.Refusals.{RejectsAt, Stops, refusal_of}
 use Rattle.xdg_inputs.specs.Stages.{Accepts, Rejects}
 use Rattle.xdg_inputs.specs.declared.analysis.Judgeable.{Judgeable}

@@ -13,6 +13,7 @@ use Rattle.xdg_ast.specs.declared.token.Token.{Token}
 use Rattle.xdg_ast.specs.declared.grammar.Grammar.{Grammar}
 use Rattle.xdg_parse.specs.Outcome as trees
 use Rattle.xdg_inputs.specs.GrammarTexts.{no_tokens, no_grammar, IsReadAs, ReadsAs, TellsTree}
+use Rattle.xdg_formula.proofs.Once.{same-tokens}
 
 -- ---- no tokens
 
@@ -40,16 +41,13 @@ given (Err f) (Err (stops.Fault g)) gives = cc
 given (Ok tree) (Err (stops.Fault g)) gives = absurd cc
 given (Err f) (Ok made) gives = absurd cc
 
-same_tokens : (ts us : List Lexeme) → ◌≡◌ {A = Lexed} (Ok us) (Ok ts) → us ≡ ts
-same_tokens ts us e = cc
-
 parsed_only : (text : List ℕ) (ts : List Lexeme) (result : Result Grammar Stop) → ((a : Lexed) → tokens_told.IsAnswer text a → a ≡ Ok ts) → ((a : Result Grammar Fault) → trees.IsAnswer ts (length text) a → trees.Gives a result)
     → (answer : Result Grammar Fault) → IsReadAs text answer → ReadsAs answer result
 parsed_only text ts result spelled only (Ok tree) (us, spells, derives) =
-    given (Ok tree) result (only (Ok tree) (subst (λ z. trees.IsAnswer z (length text) (Ok tree)) (same_tokens ts us (spelled (Ok us) spells)) derives))
+    given (Ok tree) result (only (Ok tree) (subst (λ z. trees.IsAnswer z (length text) (Ok tree)) (same-tokens ts us (spelled (Ok us) spells)) derives))
 parsed_only text ts result spelled only (Err f) (no_tokens refused) = absurd (let e : ◌≡◌ {A = Lexed} (Err f) (Ok ts) = spelled (Err f) refused in cc)
 parsed_only text ts result spelled only (Err f) (no_grammar us spells refused) =
-    given (Err f) result (only (Err f) (subst (λ z. trees.IsAnswer z (length text) (Err f)) (same_tokens ts us (spelled (Ok us) spells)) refused))
+    given (Err f) result (only (Err f) (subst (λ z. trees.IsAnswer z (length text) (Err f)) (same-tokens ts us (spelled (Ok us) spells)) refused))
 
 pub tree_only : (text : List ℕ) (read : List Token) (end : ℕ) (result : Result Grammar Stop) → end ≡ length text → ((a : Lexed) → tokens_told.IsAnswer text a → tokens.Gives a (Ok read))
     → ((a : Result Grammar Fault) → trees.IsAnswer (lexemes_of read) end a → trees.Gives a result) → (answer : Result Grammar Fault) → IsReadAs text answer → ReadsAs answer result

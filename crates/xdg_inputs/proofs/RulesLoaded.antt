@@ -8,7 +8,6 @@ use Rattle.xdg_base.specs.declared.faults.Stop.TheVariants as stops
 use Rattle.xdg_formula.specs.Texts.{Gives}
 use Rattle.xdg_formula.specs.declared.tree.Rules.{Rules}
 use Rattle.xdg_io.specs.Files as told_files
-use Rattle.xdg_inputs.specs.Places.{fault}
 use Rattle.xdg_inputs.specs.Refusals.{RejectsAt, Stops, refusal_of}
 use Rattle.xdg_inputs.specs.Stages.{Accepts, Rejects}
 use Rattle.xdg_inputs.specs.declared.refusals.Refusal.{Refusal}
@@ -16,6 +15,7 @@ use Rattle.xdg_inputs.proofs.Trees.{first_byte, same_text, told_file}
 use Rattle.xdg_inputs.specs.Files.{HasBadFile, HasFile, IsBadRules, too_long, wrong, rules_limit}
 use Rattle.xdg_inputs.specs.RulesTexts.{IsAnswer, IsRefused, Says, Tells}
 use Rattle.xdg_types.specs.Table.{Table}
+use Rattle.xdg_build.specs.Refusals.{fault}
 
 module _ (table : Table) where
   abbrev Only : List ℕ → Result Rules Stop → Type 0

@@ -6,7 +6,7 @@ use Rattle.xdg_base.specs.declared.faults.Cause.TheVariants as causes
 use Rattle.xdg_base.specs.declared.faults.Fault.{Fault}
 use Rattle.xdg_base.specs.declared.faults.Stop.{Stop}
 use Rattle.xdg_base.specs.declared.faults.Stop.TheVariants as stops
-use Rattle.xdg_build.specs.Refusals.{refusal}
+use Rattle.xdg_build.specs.Refusals.{refusal, fault}
 use Rattle.xdg_packed.specs.Entries.{IsWordPlace}
 use Rattle.xdg_inputs.specs.Answers.{meaning_of}
 use Rattle.xdg_inputs.specs.Packed.{IsPackedOf}
@@ -19,7 +19,7 @@ use Rattle.xdg_packed.specs.Lexicon.{Lexicon}
 use Rattle.xdg_problem.specs.declared.parts.Parts.{Parts}
 use Rattle.xdg_linear.specs.Segments.{words_in}
 use Rattle.xdg_inputs.specs.Grammars.{with_words}
-use Rattle.xdg_inputs.specs.Places.{place_in, fault}
+use Rattle.xdg_inputs.specs.Places.{place_in}
 use Rattle.xdg_inputs.specs.Refusals.{RejectsAt, Stops, refusal_of}
 use Rattle.xdg_inputs.specs.Sentences.{IsBadWords, HasWords, AcceptsWords, RejectsWords, StopsWords, IsNoSentence, too_long, no_text, no_words, IsSentence, IsBadSentence, HasProblem, sentence_limit}
 use Rattle.xdg_inputs.specs.Stages.{Accepts, Rejects}
@@ -115,7 +115,7 @@ still : Rose 0 0 → ⊥
 still (inl less) = omega (arith, less)
 still (inr full) = omega (arith, full)
 
-all_taken : (told new : Option (List ℕ)) (bytes input : List ℕ) → TakesAll told new bytes → told ≡ Some input → (bytes ≡ input) × (new ≡ Some [])
+pub all_taken : (told new : Option (List ℕ)) (bytes input : List ℕ) → TakesAll told new bytes → told ≡ Some input → (bytes ≡ input) × (new ≡ Some [])
 all_taken told new bytes input takes e = subst (λ z. TakesAll z new bytes) e takes
 
 stops_here : (m : Meaning) (segment : Bool) (told new : Option (List ℕ)) (bytes : List ℕ) (before after : ℕ) (refusal : Refusal) → TakesAll told new bytes → Stops (Unit {0}) 0 0 Parts (IsBadSentence m segment bytes) (HasProblem m segment bytes) refusal

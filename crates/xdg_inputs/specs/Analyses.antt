@@ -7,14 +7,13 @@ use Rattle.xdg_problem.specs.declared.parts.Parts.{Parts}
 use Rattle.xdg_packed.specs.Entries.{IsWordPlace}
 use Rattle.xdg_build.specs.Grammars.{Grammar}
 use Rattle.xdg_build.specs.Compiled.{compiled}
-use Rattle.xdg_build.specs.Refusals.{refusal}
+use Rattle.xdg_build.specs.Refusals.{refusal, fault}
 use Rattle.xdg_build.specs.Solutions.{KeepsSolutions}
 use Rattle.xdg_reading.specs.declared.texts.AnalysisText.{AnalysisText}
 use Rattle.xdg_reading.specs.Texts as reading
 use Rattle.xdg_reading.specs.Fits as fitting
 use Rattle.xdg_inputs.specs.Meanings.{Meaning}
 use Rattle.xdg_inputs.specs.Grammars.{with_words}
-use Rattle.xdg_inputs.specs.Places.{fault}
 
 -- how many bytes the file of an analysis may have
 abbrev pub analysis_limit : ℕ

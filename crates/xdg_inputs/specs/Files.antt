@@ -5,9 +5,9 @@ use Rattle.xdg_base.specs.declared.faults.Fault.{Fault}
 use Rattle.xdg_formula.specs.Answers.{Offends}
 use Rattle.xdg_formula.specs.declared.tree.Rules.{Rules}
 use Rattle.xdg_io.specs.Rose.{Rose}
-use Rattle.xdg_inputs.specs.Places.{fault}
 use Rattle.xdg_types.specs.Table.{Table}
 use Rattle.xdg_inputs.specs.RulesTexts.{IsRefused, Says}
+use Rattle.xdg_build.specs.Refusals.{fault}
 
 -- how many bytes a rules file may have
 abbrev pub rules_limit : ℕ

@@ -5,7 +5,7 @@ use Rattle.xdg_base.specs.declared.faults.Fault.{Fault}
 use Rattle.xdg_ast.specs.declared.grammar.Grammar.{Grammar}
 use Rattle.xdg_ast.specs.Derives.{Reads}
 use Rattle.xdg_inputs.specs.GrammarTexts.{IsUnreadable}
-use Rattle.xdg_inputs.specs.Places.{fault}
+use Rattle.xdg_build.specs.Refusals.{fault}
 
 -- how many bytes a grammar text may have
 abbrev pub grammar_limit : ℕ

@@ -5,14 +5,13 @@ use Rattle.xdg_base.specs.declared.faults.Fault.{Fault}
 use Rattle.xdg_base.specs.declared.faults.Stop.{Stop}
 use Rattle.xdg_base.specs.declared.faults.Stop.TheVariants as stops
 use Rattle.xdg_build.specs.Compiled.{compiled}
-use Rattle.xdg_build.specs.Refusals.{refusal}
+use Rattle.xdg_build.specs.Refusals.{refusal, fault}
 use Rattle.xdg_build.specs.Solutions.{KeepsSolutions}
 use Rattle.xdg_reading.specs.Fits as fitting
 use Rattle.xdg_build.specs.Grammars.{Grammar}
 use Rattle.xdg_problem.specs.declared.analysis.Analysis.{Analysis}
 use Rattle.xdg_reading.specs.declared.texts.AnalysisText.{AnalysisText}
 use Rattle.xdg_inputs.specs.Analyses.{Analysed}
-use Rattle.xdg_inputs.specs.Places.{fault}
 use Rattle.xdg_inputs.specs.declared.analysis.Judgeable.{Judgeable}
 
 abbrev pub analysed_of : Judgeable → Analysed

@@ -1,6 +1,5 @@
 -- Where a fault stands in a text.
 use Rattle.std.specs.Prelude.{ℕ, List}
-use Rattle.xdg_base.specs.declared.faults.Cause.{Cause}
 use Rattle.xdg_base.specs.declared.faults.Fault.{Fault}
 use Rattle.xdg_base.specs.declared.places.LineColumn.{LineColumn}
 use Rattle.xdg_base.specs.Places.{line_of, column_of}
@@ -8,6 +7,3 @@ use Rattle.xdg_base.specs.Places.{line_of, column_of}
 -- the line and the column of a fault
 abbrev pub place_in : List ℕ → Fault → LineColumn
 place_in text refused = record { line = line_of text refused.at; column = column_of text refused.at }
-
-abbrev pub fault : Cause → ℕ → ℕ → Fault
-fault cause at reached = record { cause = cause; at = at; reached = reached }

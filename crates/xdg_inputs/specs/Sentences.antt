@@ -10,11 +10,10 @@ use Rattle.xdg_linear.specs.Segments.{words_in}
 use Rattle.xdg_packed.specs.Entries.{IsWordPlace}
 use Rattle.xdg_build.specs.Grammars.{Grammar}
 use Rattle.xdg_build.specs.Compiled.{compiled}
-use Rattle.xdg_build.specs.Refusals.{refusal}
+use Rattle.xdg_build.specs.Refusals.{refusal, fault}
 use Rattle.xdg_build.specs.Solutions.{KeepsSolutions}
 use Rattle.xdg_inputs.specs.Meanings.{Meaning}
 use Rattle.xdg_inputs.specs.Grammars.{with_words}
-use Rattle.xdg_inputs.specs.Places.{fault}
 
 -- ---- the words of a text, however long that is
 

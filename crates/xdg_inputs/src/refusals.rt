@@ -2,7 +2,8 @@
 
 ghost use Rattle.std.specs.Prelude.{◌≡◌, ◌≢◌, ◌≤◌, ◌<◌, ◌⊎◌, ◌^◌, length};
 ghost use Rattle.xdg_io.specs.Rose.{Rose};
-ghost use Rattle.xdg_inputs.specs.Places.{fault, place_in};
+ghost use Rattle.xdg_inputs.specs.Places.{place_in};
+ghost use Rattle.xdg_build.specs.Refusals.{fault};
 ghost use Rattle.xdg_inputs.specs.Refusals.{Refuses, refusal_of};
 
 use crate::Status;

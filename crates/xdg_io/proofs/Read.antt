@@ -4,6 +4,7 @@ use Rattle.std.proofs.lemmas.List.{append_assoc, append-nil, length-append, take
 use Rattle.std.specs.Io.KnownBytes.{prepend_known}
 use Rattle.xdg_io.specs.Left.{Takes, TakesAll, TakesCount, TakesUpTo, EndsAt, GivesPiece, ReadSoFar}
 use Rattle.xdg_facts.proofs.Lists.{empty_list}
+use Rattle.xdg_io.proofs.Counts.{rose_later}
 
 known_both : (c : Option (List ℕ)) (x y : List ℕ) → prepend_known x (prepend_known y c) ≡ prepend_known (x ++ y) c
 known_both None x y = refl
@@ -85,3 +86,6 @@ ends_exactly cut room count left some_cut some_room is =
 -- as many as there is room for, at most as many as there are
 pub at_most : (room there count : ℕ) → count ≡ min room (min room there) → count ≡ min room there
 at_most room there count is = omega (arith, is)
+
+-- what a loop over a source has read
+pub ruleset read_steps = (read_start, read_more, read_all_of, read_too_many, read_up_to, read_same, rose_later)

@@ -3,6 +3,7 @@ use Rattle.std.proofs.Common.{◌≡◌, ◌<◌, ◌++◌, ℕ, List, Option, N
 use Rattle.std.proofs.lemmas.List.{append_assoc, append-nil, take-append-drop, length-append}
 use Rattle.std.specs.Io.KnownBytes.{append_known}
 use Rattle.xdg_io.specs.Held.{Appends, AppendsFront, WrittenSoFar}
+use Rattle.xdg_io.proofs.Counts.{rose_later}
 
 known_both : (a : Option (List ℕ)) (x y : List ℕ) → append_known (append_known a x) y ≡ append_known a (x ++ y)
 known_both None x y = refl
@@ -84,3 +85,6 @@ front_in_first {a} {b} {x} {whole} y first parts = subst (λ z. AppendsFront a b
 -- a part was added, and then a proper front of the rest
 pub front_in_second : {a b c : Option (List ℕ)} {x y whole : List ℕ} → Appends a b x → x ++ y ≡ whole → AppendsFront b c y → AppendsFront a c whole
 front_in_second {a} {b} {c} {x} {y} {whole} first parts second = subst (λ z. AppendsFront a c z) parts (front_of_second first second)
+
+-- what a loop over a sink has written
+pub ruleset written_steps = (written_start, written_more, written_all, written_front, rose_later)

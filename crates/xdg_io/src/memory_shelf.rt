@@ -1,6 +1,7 @@
 //! A shelf in memory.
 
-ghost use Rattle.std.specs.Prelude.{◌≡◌, ◌≢◌, ◌<◌, ◌≤◌, ◌+◌, ◌⊎◌, ◌↔◌, ℕ, Some, None, List, length, string_bytes, AllPairs, IfOk, IfErr, OnOk, IsErrOf, MatchResult};
+ghost use Rattle.std.specs.Prelude.{◌≡◌, ◌≢◌, ◌<◌, ◌≤◌, ◌+◌, ◌⊎◌, ◌↔◌, ℕ, Some, None, List, length, string_bytes};
+ghost use Rattle.std.specs.Prelude.{AllPairs, IfOk, IfErr, OnOk, IsErrOf, MatchResult};
 ghost use Rattle.std.specs.Option.{option_copied};
 ghost use Rattle.xdg_io.specs.Files.{HasFile, HasLongFile};
 ghost use Rattle.xdg_io.specs.Memory.{IsListed, counted, stopped, file_of, listed_files};

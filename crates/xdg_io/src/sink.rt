@@ -41,7 +41,7 @@ pub trait Sink {
 
 /// Writes a whole piece, by as many calls as the sink wants. An empty piece makes no call. It takes
 /// no memory.
-#[tactic(auto, using(crate::proofs::Written::written_start, crate::proofs::Written::written_more, crate::proofs::Written::written_all, crate::proofs::Written::written_front, crate::proofs::Counts::rose_later))]
+#[tactic(auto, using(crate::proofs::Written::written_steps))]
 pub fn write_all<K: Sink>(sink: &mut K, piece: &[u8]) -> Result<(), Failed>
     ensures all { OnOk result (Appends (K.held sink.old) (K.held sink.new) piece.now) }
     ensures front { OnErr result (AppendsFront (K.held sink.old) (K.held sink.new) piece.now) }

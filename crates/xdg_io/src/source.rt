@@ -33,7 +33,7 @@ const PIECE: usize = 4096;
 
 /// Reads a source to its end, which comes before more than `limit` bytes. Else it stops after one
 /// byte more than that. Memory and time grow with the bytes that are read.
-#[tactic(auto, using(crate::proofs::Read::read_start, crate::proofs::Read::read_more, crate::proofs::Read::read_all_of, crate::proofs::Read::read_too_many, crate::proofs::Read::read_up_to, crate::proofs::Read::read_same, crate::proofs::Counts::rose_later))]
+#[tactic(auto, using(crate::proofs::Read::read_steps))]
 pub fn read_all<S: Source>(alloc: Global, source: &mut S, limit: u64) -> Result<Vec<u8>, ReadStop>
     requires { limit < 18446744073709551615 }
     ensures within { IfOk result (λ bytes. length bytes.items ≤ limit) }

@@ -12,7 +12,6 @@ use Rattle.xdg_problem.specs.Places.{nodes}
 use Rattle.xdg_problem.specs.Problems.{IsProblem}
 use Rattle.xdg_problem.specs.Truths.{says}
 use Rattle.xdg_problem.proofs.FilterFacts.{filter_contained}
-use Rattle.xdg_problem.proofs.FitSteps.{entries_lengths}
 use Rattle.xdg_judge.specs.declared.links.Direction.TheVariants as directions
 use Rattle.xdg_judge.specs.declared.links.Neighbours.{Neighbours}
 use Rattle.xdg_judge.specs.Graphs.{IsReady}
@@ -20,6 +19,7 @@ use Rattle.xdg_judge.specs.Links.{AreNeighbours}
 use Rattle.xdg_nodeset.specs.Tables.{In, InBy}
 use Rattle.xdg_facts.proofs.Lookups.{read_none, read_some}
 use Rattle.xdg_facts.proofs.Facts.{then_iff}
+use Rattle.xdg_problem.proofs.EntryPlaces.{length_entries}
 
 -- no edge is of a dimension that the problem lacks
 
@@ -65,7 +65,7 @@ has_candidates parts node problem within = (let each = problem.candidates_each i
 pub has_an_entry : (parts : Parts) (analysis : Analysis) (node : ℕ) → IsProblem parts → IsAnalysis parts analysis → node < nodes parts → node < length analysis.entries
 has_an_entry parts analysis node problem fits within =
     let each = problem.candidates_each in
-    let same = entries_lengths parts.candidates analysis.entries fits.entries in
+    let same = length_entries parts.candidates analysis.entries fits.entries in
     omega (arith, each, same, within)
 
 -- what a table says of it

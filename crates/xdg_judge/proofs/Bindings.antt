@@ -5,8 +5,8 @@ use Rattle.std.proofs.lemmas.Bool.{cases_eq, eq-eqb, false_from_ne_true, eqb-tru
 use Rattle.std.proofs.lemmas.List.{get_or-set_same, get_or-set_other}
 use Rattle.xdg_problem.specs.declared.parts.Parts.{Parts}
 use Rattle.xdg_problem.specs.Places.{nodes}
-use Rattle.xdg_problem.specs.Truths.{bound, unbound}
-use Rattle.xdg_judge.specs.Graphs.{AreNodes, stands}
+use Rattle.xdg_problem.specs.Truths.{bound, unbound, AreNodes}
+use Rattle.xdg_judge.specs.Graphs.{stands}
 use Rattle.xdg_facts.proofs.Numbers.{zeros}
 
 bound_at : (table : List ℕ) (name node other : ℕ) → name < length table → stands (slice_set table name node) other ≡ bound (stands table) name node other

@@ -1,8 +1,8 @@
 -- When formulas are true, form by form.
-use Rattle.std.proofs.Common.{◌≡◌, ◌↔◌, ℕ, ◌+◌, ◌<◌, ◌≤◌, inl, inr, zero, suc, Bool, true, false, List, [], ◌∷◌, ◌++◌, length, map, take, get_or, refl, sym, ◌∙◌, ap, subst, arith}
+use Rattle.std.proofs.Common.{◌≡◌, ◌↔◌, ℕ, ◌+◌, ◌<◌, ◌≤◌, inl, inr, zero, suc, Bool, true, false, List, [], ◌∷◌, ◌++◌, length, map, take, get_or, refl, sym, ◌∙◌, subst, arith}
 use Rattle.std.specs.Prelude.{IsTrue, not}
 use Rattle.std.proofs.lemmas.Bool.{false≢true}
-use Rattle.std.proofs.lemmas.List.{take_all, take_more, map-append}
+use Rattle.std.proofs.lemmas.List.{take_all}
 use Rattle.xdg_problem.specs.declared.analysis.Analysis.{Analysis}
 use Rattle.xdg_problem.specs.declared.formula.Formula.{Formula}
 use Rattle.xdg_problem.specs.declared.formula.Formula.TheVariants as y
@@ -12,6 +12,7 @@ use Rattle.xdg_problem.specs.Places.{nodes}
 use Rattle.xdg_problem.specs.Truths.{bound, unbound, IsTrueIn, FormulaHolds}
 use Rattle.xdg_problem.proofs.Claimed.{claim_not, claim_and, claim_or, claim_every, claim_any}
 use Rattle.xdg_facts.proofs.Numbers.{all_next}
+use Rattle.xdg_problem.proofs.FormulaFronts.{front_more}
 
 turned : (result : Bool) (P : Type 0) → IsTrue result ↔ P → IsTrue (not result) ↔ (P → ⊥)
 turned true P told = (λ t. absurd (false≢true t), λ none. absurd (none (told.0 refl)))
@@ -22,10 +23,6 @@ refused result P Q fails told to = (λ t. absurd (false≢true t), λ q. absurd 
 
 found : (result : Bool) (P Q : Type 0) → result ≡ true → IsTrue result ↔ P → (P → Q) → IsTrue true ↔ Q
 found result P Q holds told to = (λ t. to (told.0 holds), λ q. refl)
-
--- one more of the first formulas
-front_more : (fs : List Formula) (i : ℕ) (f : Formula) → i < length fs → f ≡ get_or fs i f → map claim (take (i + 1) fs) ≡ map claim (take i fs) ++ claim f ∷ []
-front_more fs i f l is = ap (map claim) (take_more fs i f l) ∙ map-append claim (take i fs) (get_or fs i f ∷ []) ∙ ap (λ g. map claim (take i fs) ++ claim g ∷ []) (sym is)
 
 module _ (parts : Parts) (analysis : Analysis) (b : ℕ → ℕ) where
   abbrev pub T : Claim → Type 0

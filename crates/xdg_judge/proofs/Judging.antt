@@ -11,7 +11,7 @@ use Rattle.xdg_problem.specs.declared.conditions.Condition.TheVariants as condit
 use Rattle.xdg_problem.specs.declared.parts.Group.{Group}
 use Rattle.xdg_problem.specs.declared.parts.Parts.{Parts}
 use Rattle.xdg_problem.specs.declared.parts.Principle.{Principle}
-use Rattle.xdg_problem.specs.Conditions.{conditions_of, conditions_for, root_count}
+use Rattle.xdg_problem.specs.Conditions.{conditions_of, root_count}
 use Rattle.xdg_problem.specs.Arguments.{first_dim}
 use Rattle.xdg_problem.specs.Paths.{edges_on, roots}
 use Rattle.xdg_problem.specs.Places.{nodes}
@@ -21,6 +21,7 @@ use Rattle.xdg_judge.specs.Verdicts.{AsksHere, IsOfWhole, IsKeptHere, IsLeastBro
 use Rattle.xdg_judge.specs.declared.verdict.Verdict.{Verdict}
 use Rattle.xdg_judge.proofs.Least.{kept_of, least_of}
 use Rattle.xdg_facts.proofs.Lists.{zip_more as zip_push}
+use Rattle.xdg_problem.specs.Principles.{conditions_for}
 
 -- what holds of each number below one, and of the one
 

@@ -103,15 +103,12 @@ least_three n m k P u x y f = ((f.within, (f.here.within, (f.here.here.within, t
 
 -- every triple passes, so every tuple in the range does
 pub kept_of : (condition : Condition) (parts : Parts) (group : Group) (edges : List Edge) (P : List ℕ → Type 0) → IsSearched condition → ((a : ℕ) → a < nodes parts → (b : ℕ) → b < second_size condition parts group → (c : ℕ) → c < third_size condition parts group → P (tuple_for condition a b c)) → (t : List ℕ) → IsTuple condition parts group edges t → P t
-kept_of conditions.Cycle parts group edges P searched h = kept_one (nodes parts) P h
 kept_of conditions.Roots parts group edges P searched h = absurd searched
-kept_of conditions.Mothers parts group edges P searched h = kept_one (nodes parts) P h
 kept_of conditions.Pair parts group edges P searched h = kept_two (nodes parts) (nodes parts) P h
 kept_of conditions.InCount parts group edges P searched h = kept_two (nodes parts) (label_count parts (first_dim group)) P h
 kept_of conditions.OutCount parts group edges P searched h = kept_two (nodes parts) (label_count parts (first_dim group)) P h
 kept_of conditions.Order parts group edges P searched h = kept_three (nodes parts) (nodes parts) (nodes parts) P h
 kept_of conditions.Between parts group edges P searched h = kept_three (nodes parts) (nodes parts) (nodes parts) P h
-kept_of conditions.Agr parts group edges P searched h = kept_one (nodes parts) P h
 kept_of conditions.Agree parts group edges P searched h = kept_three (nodes parts) (label_count parts (first_dim group)) (nodes parts) P h
 kept_of conditions.Govern parts group edges P searched h = kept_three (nodes parts) (label_count parts (first_dim group)) (nodes parts) P h
 kept_of conditions.Below parts group edges P searched h = kept_two (nodes parts) (nodes parts) P h
@@ -119,18 +116,16 @@ kept_of conditions.Blocked parts group edges P searched h = kept_two (nodes part
 kept_of conditions.Rule parts group edges P searched h = absurd searched
 kept_of conditions.Bound parts group edges P searched h = absurd searched
 kept_of conditions.Link parts group edges P searched h = kept_three (nodes parts) (label_count parts (first_dim group)) (nodes parts) P h
+kept_of condition parts group edges P searched h = kept_one (nodes parts) P h
 
 -- the first triple that fails gives the least tuple
 pub least_of : (condition : Condition) (parts : Parts) (group : Group) (edges : List Edge) (P : List ℕ → Type 0) (u x y : ℕ) → IsSearched condition → FirstThree (nodes parts) (second_size condition parts group) (third_size condition parts group) (λ a b c. P (tuple_for condition a b c)) u x y → IsTuple condition parts group edges (tuple_for condition u x y) × ((other : List ℕ) → IsTuple condition parts group edges other → (P other → ⊥) → AtMost (tuple_for condition u x y) other)
-least_of conditions.Cycle parts group edges P u x y searched f = least_one (nodes parts) P u x y f
 least_of conditions.Roots parts group edges P u x y searched f = absurd searched
-least_of conditions.Mothers parts group edges P u x y searched f = least_one (nodes parts) P u x y f
 least_of conditions.Pair parts group edges P u x y searched f = least_two (nodes parts) (nodes parts) P u x y f
 least_of conditions.InCount parts group edges P u x y searched f = least_two (nodes parts) (label_count parts (first_dim group)) P u x y f
 least_of conditions.OutCount parts group edges P u x y searched f = least_two (nodes parts) (label_count parts (first_dim group)) P u x y f
 least_of conditions.Order parts group edges P u x y searched f = least_three (nodes parts) (nodes parts) (nodes parts) P u x y f
 least_of conditions.Between parts group edges P u x y searched f = least_three (nodes parts) (nodes parts) (nodes parts) P u x y f
-least_of conditions.Agr parts group edges P u x y searched f = least_one (nodes parts) P u x y f
 least_of conditions.Agree parts group edges P u x y searched f = least_three (nodes parts) (label_count parts (first_dim group)) (nodes parts) P u x y f
 least_of conditions.Govern parts group edges P u x y searched f = least_three (nodes parts) (label_count parts (first_dim group)) (nodes parts) P u x y f
 least_of conditions.Below parts group edges P u x y searched f = least_two (nodes parts) (nodes parts) P u x y f
@@ -138,3 +133,4 @@ least_of conditions.Blocked parts group edges P u x y searched f = least_two (no
 least_of conditions.Rule parts group edges P u x y searched f = absurd searched
 least_of conditions.Bound parts group edges P u x y searched f = absurd searched
 least_of conditions.Link parts group edges P u x y searched f = least_three (nodes parts) (label_count parts (first_dim group)) (nodes parts) P u x y f
+least_of condition parts group edges P u x y searched f = least_one (nodes parts) P u x y f

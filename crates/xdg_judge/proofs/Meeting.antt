@@ -3,7 +3,6 @@ use Rattle.std.proofs.Common.{◌≡◌, ℕ, ◌⊎◌, ◌↔◌, inl, inr, Bo
 use Rattle.std.specs.Prelude.{IsTrue, Contains, slice_index_or}
 use Rattle.std.specs.List.{Any}
 use Rattle.std.proofs.lemmas.Bool.{false≢true}
-use Rattle.xdg_nodeset.specs.Nodes.{has}
 use Rattle.xdg_problem.specs.declared.analysis.Edge.{Edge}
 use Rattle.xdg_problem.specs.Paths.{Above}
 use Rattle.xdg_judge.specs.declared.links.Links.{Links}
@@ -12,6 +11,7 @@ use Rattle.xdg_judge.specs.declared.paths.Way.TheVariants as ways
 use Rattle.xdg_judge.specs.Joining.{IsEnd, IsLed, IsJoined, sets_for}
 use Rattle.xdg_nodeset.specs.Tables.{Meet}
 use Rattle.xdg_judge.specs.Links.{AreLinks}
+use Rattle.xdg_facts.specs.Rises.{has}
 
 -- the first node of what two sets have in common
 

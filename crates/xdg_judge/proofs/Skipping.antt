@@ -5,7 +5,6 @@ use Rattle.std.proofs.lemmas.Bool.{cases_eq, lt-ltb}
 use Rattle.std.proofs.lemmas.List.{get_or_default, get_or-map, length-map}
 use Prim.Native.Nat.{min, max}
 use Rattle.xdg_base.specs.declared.ids.LabelId.{LabelId}
-use Rattle.xdg_nodeset.specs.Nodes.{has}
 use Rattle.xdg_problem.specs.declared.analysis.Edge.{Edge}
 use Rattle.xdg_problem.specs.Asking.{IsBetween, IsInItem}
 use Rattle.xdg_problem.specs.Paths.{Above, IsDaughterBy}
@@ -13,6 +12,7 @@ use Rattle.xdg_judge.specs.declared.links.Links.{Links}
 use Rattle.xdg_judge.specs.Links.{AreLinks}
 use Rattle.xdg_nodeset.specs.Tables.{In}
 use Rattle.xdg_judge.proofs.Asked.{zero_label}
+use Rattle.xdg_facts.specs.Rises.{has}
 
 is_between : (u v w : ℕ) → IsBetween u v w → (nat_lt (min u v) w && nat_lt w (max u v)) ≡ true
 is_between u v w h =

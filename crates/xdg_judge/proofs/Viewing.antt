@@ -9,11 +9,11 @@ use Rattle.xdg_problem.specs.Arguments.{first_dim, second_dim}
 use Rattle.xdg_problem.specs.Paths.{edges_on}
 use Rattle.xdg_problem.specs.Places.{nodes}
 use Rattle.xdg_problem.specs.Problems.{IsDim, IsProblem}
-use Rattle.xdg_problem.proofs.FitSteps.{entries_lengths}
 use Rattle.xdg_judge.specs.declared.links.Links.{Links}
 use Rattle.xdg_judge.specs.Links.{AreLinks}
 use Rattle.xdg_judge.specs.Reached.{AreWithin}
 use Rattle.xdg_judge.specs.Views.{IsView}
+use Rattle.xdg_problem.proofs.EntryPlaces.{length_entries}
 
 -- an edge at a place is between nodes of the sentence, and its label is one of at most 32
 pub place_within : (parts : Parts) (e : Edge) (n : ℕ) → IsProblem parts → nodes parts ≤ n → IsPlace parts e → (e.mother.0 < n) × (e.label.0 < 32) × (e.daughter.0 < n)
@@ -32,7 +32,7 @@ view_of parts group analysis edges dim other first second problem fits e f g t s
   fits = fits;
   few = problem.most;
   candidates = problem.candidates_each;
-  entries = entries_lengths parts.candidates analysis.entries fits.entries ∙ problem.candidates_each;
+  entries = length_entries parts.candidates analysis.entries fits.entries ∙ problem.candidates_each;
   within = within_of parts analysis analysis.edges 128 problem fits refl problem.most;
   first_is = f;
   second_is = g;

@@ -4,7 +4,6 @@ use Rattle.xdg_problem.specs.declared.analysis.Analysis.{Analysis}
 use Rattle.xdg_problem.specs.declared.parts.Parts.{Parts}
 use Rattle.xdg_problem.specs.Analyses.{IsAnalysis}
 use Rattle.xdg_problem.specs.Paths.{edges_on}
-use Rattle.xdg_problem.specs.Places.{nodes}
 use Rattle.xdg_problem.specs.Problems.{IsProblem}
 use Rattle.xdg_judge.specs.declared.links.Direction.TheVariants as directions
 use Rattle.xdg_judge.specs.declared.links.Neighbours.{Neighbours}
@@ -24,7 +23,3 @@ pub record IsReady (parts : Parts) (analysis : Analysis) (tables : List Neighbou
 -- the node for which a name stands, in a table with a node for each name
 abbrev pub stands : List ℕ → ℕ → ℕ
 stands table name = slice_index table name
-
--- each name stands for a node of the sentence
-abbrev pub AreNodes : Parts → (ℕ → ℕ) → Type 0
-AreNodes parts b = (name : ℕ) → b name < nodes parts

@@ -3,11 +3,11 @@ use Rattle.std.specs.Prelude.{◌≡◌, ℕ, ◌⊎◌, true, List, [], slice_i
 use Rattle.std.specs.List.{Any}
 use Rattle.xdg_problem.specs.declared.analysis.Edge.{Edge}
 use Rattle.xdg_problem.specs.Paths.{Above, IsDaughter}
-use Rattle.xdg_nodeset.specs.Nodes.{has}
 use Rattle.xdg_judge.specs.declared.links.Links.{Links}
 use Rattle.xdg_nodeset.specs.Tables.{In}
 use Rattle.xdg_judge.specs.declared.paths.Way.{Way}
 use Rattle.xdg_judge.specs.declared.paths.Way.TheVariants as ways
+use Rattle.xdg_facts.specs.Rises.{has}
 
 -- an edge joins u to v in a way
 abbrev pub Joins : Way → List Edge → ℕ → ℕ → Edge → Type 0

@@ -5,7 +5,8 @@ ghost use Rattle.xdg_problem.specs.declared.conditions.Condition.TheVariants as 
 ghost use Rattle.xdg_problem.specs.Analyses.{IsAnalysis};
 ghost use Rattle.xdg_problem.specs.declared.parts.Group.{Group};
 ghost use Rattle.xdg_problem.specs.declared.parts.Principle.TheVariants as principles;
-ghost use Rattle.xdg_problem.specs.Conditions.{conditions_of, conditions_for};
+ghost use Rattle.xdg_problem.specs.Conditions.{conditions_of};
+ghost use Rattle.xdg_problem.specs.Principles.{conditions_for};
 ghost use Rattle.xdg_problem.specs.Problems.{IsProblem};
 ghost use Rattle.xdg_problem.specs.Relations.{Relation};
 ghost use Rattle.xdg_judge.specs.Searching.{IsSearched, tuple_for, second_size, third_size};
@@ -224,6 +225,8 @@ fn verdict_of(parts: &Parts, group: &Group, analysis: &Analysis) -> Verdict
 
 /// Whether an analysis satisfies a principle use, which is given by its place among those of the problem. It takes no
 /// memory from an allocator.
+///
+/// No command asks it: it is for those who judge an analysis by one principle use.
 pub fn holds(problem: &Problem, group: usize, analysis: &Analysis) -> bool
     requires fits { IsAnalysis problem.now analysis.now }
     requires within { group < length problem.now.groups }

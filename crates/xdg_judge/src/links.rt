@@ -2,7 +2,7 @@
 
 ghost use Rattle.std.specs.Prelude.{◌≡◌, ◌↔◌, ◌⊎◌, ℕ, ◌<◌, ◌≤◌, true, IsTrue};
 ghost use Rattle.std.specs.List.{Any};
-ghost use Rattle.xdg_nodeset.specs.Nodes.{has};
+ghost use Rattle.xdg_facts.specs.Rises.{has};
 ghost use Rattle.xdg_problem.specs.Paths.{edges_on};
 ghost use Rattle.xdg_judge.specs.Links.{Leads, LeadsBy, AreNeighbours, AreLinks};
 ghost use Rattle.xdg_nodeset.specs.Tables.{In, InBy, IsClosure};

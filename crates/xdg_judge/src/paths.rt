@@ -2,7 +2,7 @@
 
 ghost use Rattle.std.specs.Prelude.{◌≡◌, ℕ, ◌<◌, ◌⊎◌, ◌↔◌, true, [], IsTrue, Contains, slice_index_or};
 ghost use Rattle.std.specs.List.{Any};
-ghost use Rattle.xdg_nodeset.specs.Nodes.{has};
+ghost use Rattle.xdg_facts.specs.Rises.{has};
 ghost use Rattle.xdg_judge.specs.Joining.{IsEnd, IsLed};
 ghost use Rattle.xdg_nodeset.specs.Tables.{Meet};
 
@@ -66,7 +66,7 @@ fn meets_at(sets: &[NodeSet; 32], label: u16, nodes: NodeSet) -> bool
 }
 
 /// Whether the set at one of some labels has a node in common with another set.
-#[tactic(auto, using(xdg_nodeset::proofs::Meetings::none_start, xdg_nodeset::proofs::Meetings::none_more, xdg_nodeset::proofs::Meetings::none_end, xdg_nodeset::proofs::Meetings::found_here))]
+#[tactic(auto, using(xdg_nodeset::proofs::Meetings::none_steps))]
 fn meets(sets: &[NodeSet; 32], labels: &[u16], nodes: NodeSet) -> bool
     ensures { IsTrue result ↔ Any (λ label. Meet (slice_index_or sets.now label []) nodes) labels.now }
 {

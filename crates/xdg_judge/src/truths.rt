@@ -4,8 +4,8 @@ ghost use Rattle.std.specs.Prelude.{◌≡◌, ◌≤◌, ◌↔◌, IsTrue, len
 ghost use Rattle.xdg_problem.specs.Analyses.{IsAnalysis};
 ghost use Rattle.xdg_problem.specs.Claims.{claim};
 ghost use Rattle.xdg_problem.specs.Problems.{IsProblem};
-ghost use Rattle.xdg_problem.specs.Truths.{FormulaHolds, IsTrueIn};
-ghost use Rattle.xdg_judge.specs.Graphs.{AreGraphs, AreNodes, IsReady, stands};
+ghost use Rattle.xdg_problem.specs.Truths.{FormulaHolds, IsTrueIn, AreNodes};
+ghost use Rattle.xdg_judge.specs.Graphs.{AreGraphs, IsReady, stands};
 
 use crate::atoms::{has_entry, has_value, is_edge, is_path};
 use crate::binding::{Binding, bind, node_of, none_bound};

@@ -1,4 +1,4 @@
--- The tokens of a text, or the first refusal. The characters are gone through once.
+-- The tokens of a text, or the first refusal, as a list, in the order in which the code comes to them: the characters are gone through once.
 use Rattle.std.specs.Prelude.{◌≡◌, ℕ, ◌+◌, Option, Some, None, Result, Ok, Err, List, [], ◌∷◌, ◌++◌, length, if◌then◌else◌}
 use Rattle.std.specs.Char.{encode_utf8}
 use Rattle.std.specs.Str.{chars, is_utf8}

@@ -1,4 +1,4 @@
--- What each character does to the piece of a text that it stands in.
+-- What each character does to the piece of a text that it stands in, as the code takes one character after the other.
 use Rattle.std.specs.Prelude.{ℕ, ◌+◌, ◌-◌, ◌*◌, Option, Some, None, Result, Ok, Err, if◌then◌else◌, ◌==◌, ◌||◌, nat_le, unwrap_or}
 use Rattle.std.specs.Char.{is_whitespace, is_ascii_digit, len_utf8}
 use Rattle.xdg_base.specs.declared.faults.Fault.{Fault}

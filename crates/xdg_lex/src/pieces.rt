@@ -2,7 +2,8 @@
 
 ghost use Rattle.std.specs.Prelude.{◌≡◌, ◌≤◌, ◌+◌, ◌-◌, unwrap_or};
 ghost use Rattle.std.specs.Char.{len_utf8};
-ghost use Rattle.xdg_lex.specs.Pieces.{digit_goes_on, quoted_goes_on, escape_goes_on, line_goes_on, comment_goes_on, star_goes_on, goes_on, begins, ends, ends_quoted};
+ghost use Rattle.xdg_lex.specs.Pieces.{digit_goes_on, quoted_goes_on, escape_goes_on, line_goes_on, comment_goes_on, star_goes_on};
+ghost use Rattle.xdg_lex.specs.Pieces.{goes_on, begins, ends, ends_quoted};
 ghost use Rattle.xdg_lex.specs.Pieces.{refusal, counted, counted_after};
 ghost use Rattle.xdg_ast.specs.Kinds.{begins_name, continues_name};
 

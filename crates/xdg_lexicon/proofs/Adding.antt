@@ -1,13 +1,14 @@
 -- Entries added one by one, without those that stand there already.
-use Rattle.std.proofs.Common.{◌≡◌, inl, inr, ℕ, zero, suc, ◌+◌, ◌<◌, ◌≤◌, length, get_or, drop, List, [], ◌∷◌, ◌++◌, Option, None, Some, refl, sym, ap, ap₂, ◌∙◌, subst, arith}
+use Rattle.std.proofs.Common.{◌≡◌, inl, inr, ℕ, ◌+◌, ◌<◌, ◌≤◌, length, get_or, drop, List, [], ◌∷◌, ◌++◌, Option, None, Some, refl, sym, ap, ap₂, ◌∙◌, subst}
 use Rattle.std.proofs.lemmas.List.{drop_all}
-use Rattle.xdg_names.specs.First.{In}
 use Rattle.xdg_types.specs.Table.{Table}
 use Rattle.xdg_packed.specs.Lexicon.{Entry}
 use Rattle.xdg_lexicon.specs.Partial.{Partial}
 use Rattle.xdg_lexicon.specs.Growing.{Puts}
 use Rattle.xdg_lexicon.specs.Lexicon.{whole, AreWhole, Adds, nothing_more, known_before, new}
 use Rattle.xdg_facts.proofs.Lists.{from_place}
+use Rattle.xdg_facts.specs.Membership.{In}
+use Rattle.xdg_lexicon.proofs.OneMeaning.{some_same}
 
 -- ---- what is added is told
 
@@ -20,16 +21,13 @@ same_added known _ all others (new _ more _ e n a) (new _ _ _ _ m b) = same_adde
 
 -- ---- whole entries
 
-same_entry : (o : Option Entry) (e d : Entry) → o ≡ Some e → o ≡ Some d → e ≡ d
-same_entry o e d a b = cc
-
 pub same_whole : (table : Table) (ps : List Partial) (es ds : List Entry) → AreWhole table ps es → AreWhole table ps ds → es ≡ ds
 same_whole table [] [] [] a b = refl
 same_whole table [] [] (d ∷ ds) a b = absurd b
 same_whole table [] (e ∷ es) ds a b = absurd a
 same_whole table (p ∷ ps) [] ds a b = absurd a
 same_whole table (p ∷ ps) (e ∷ es) [] a b = absurd b
-same_whole table (p ∷ ps) (e ∷ es) (d ∷ ds) a b = ap₂ (λ x xs. x ∷ xs) (same_entry (whole table p) e d a.0 b.0) (same_whole table ps es ds a.1 b.1)
+same_whole table (p ∷ ps) (e ∷ es) (d ∷ ds) a b = ap₂ (λ x xs. x ∷ xs) (some_same (whole table p) e d a.0 b.0) (same_whole table ps es ds a.1 b.1)
 
 apart : (o : Option Entry) (e : Entry) → o ≡ Some e → o ≡ None → ⊥
 apart o e a b = cc
@@ -44,11 +42,6 @@ none_lacks table (q ∷ ps) (e ∷ es) p a stands none = elim stands [
 ]
 
 -- ---- one after the other
-
-pub in_at : {X : Type 0} (xs : List X) (k : ℕ) (x : X) → k < length xs → x ≡ get_or xs k x → In xs x
-in_at [] k x within is = absurd (omega (arith, within))
-in_at (y ∷ xs) zero x within is = inl (sym is)
-in_at (y ∷ xs) (suc k) x within is = inr (in_at xs k x (omega (arith, within)) is)
 
 -- What adding the rest behind those so far comes to is what adding all comes to.
 abbrev pub AddsSoFar : Table → List Entry → List Partial → ℕ → List Entry → Type 0

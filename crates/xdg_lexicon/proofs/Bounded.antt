@@ -4,7 +4,6 @@ use Rattle.std.specs.Prelude.{Some}
 use Rattle.std.proofs.Math.Nat.{suc-mul}
 use Rattle.std.proofs.lemmas.List.{length-append, length-map}
 use Rattle.xdg_ast.specs.declared.expressions.ExprKind.{ExprKind}
-use Rattle.xdg_names.specs.First.{In}
 use Rattle.xdg_names.specs.Texts.{place_of}
 use Rattle.xdg_names.proofs.Texts.{place_of-Some, place_of-has_text, stands-has_text}
 use Rattle.xdg_terms.specs.Forms.{Bindings}
@@ -17,6 +16,7 @@ use Rattle.xdg_check.specs.Checked.{Parts, IsChecked, named_body, named_bodies}
 use Rattle.xdg_check.specs.Counts.{Counting, Agrees, combos, sum_of_combos, product_of_combos, class_texts}
 use Rattle.xdg_lexicon.specs.Denotes.{JoinsEach, no_other, clashes, joins, JoinsAll, no_first, first_then, Denotes, record_said, class_used, conjunction, disjunction, DenotesBoth, all_joined, join_first, DenotesEither, all_listed, list_first, IsRanked}
 use Rattle.xdg_lexicon.specs.Partial.{Partial}
+use Rattle.xdg_facts.specs.Membership.{In}
 
 -- ---- counts
 

@@ -1,5 +1,5 @@
 -- The place of words, and the limits of entries.
-use Rattle.std.proofs.Common.{◌≡◌, ℕ, zero, suc, ◌-◌, ◌^◌, ◌<◌, ◌≤◌, List, [], ◌∷◌, length, get_or, map, Option, None, Some, Err, All, false, refl, sym, ap, ◌∙◌, subst, inl, inr, arith, codes}
+use Rattle.std.proofs.Common.{◌≡◌, ℕ, zero, suc, ◌-◌, ◌^◌, ◌<◌, ◌≤◌, List, [], ◌∷◌, length, get_or, map, Option, None, Some, Err, All, false, refl, sym, ap, ◌∙◌, subst, inr, arith, codes}
 use Rattle.std.specs.Prelude.{slice_get}
 use Rattle.std.proofs.lemmas.List.{length-map, get_or-map}
 use Rattle.xdg_base.specs.declared.faults.Cause.TheVariants as causes
@@ -7,11 +7,11 @@ use Rattle.xdg_base.specs.declared.faults.Fault.{Fault}
 use Rattle.xdg_base.specs.declared.faults.Stop.{Stop}
 use Rattle.xdg_base.specs.declared.faults.Stop.TheVariants as stops
 use Rattle.xdg_domain.specs.declared.types.Ty.{Ty}
-use Rattle.xdg_domain.specs.Shapes.{Shape, Among, Differ, shape, text}
+use Rattle.xdg_domain.specs.Shapes.{Shape, shape, text}
 use Rattle.xdg_names.specs.Texts.{has_text, place_of}
 use Rattle.xdg_names.proofs.Texts.{place_of-Some, place_of-None}
 use Rattle.xdg_types.specs.declared.table.DimType.{DimType}
-use Rattle.xdg_types.specs.Table.{Table, IsTable, ArePlaces, HasPlace, typed, firsts}
+use Rattle.xdg_types.specs.Table.{Table, IsTable, typed, firsts}
 use Rattle.xdg_packed.specs.Lexicon.{Entry, number, numbers_of, places_of, word_of}
 use Rattle.xdg_packed.proofs.WordLists.{numbers_none}
 use Rattle.xdg_check.specs.Counts.{capped}
@@ -21,32 +21,10 @@ use Rattle.xdg_lexicon.specs.Lexicon.{AreFewEach, reaching}
 use Rattle.xdg_lexicon.specs.Steps.{KeepsLimits}
 use Rattle.xdg_lexicon.proofs.Counting.{found_count}
 use Rattle.xdg_lexicon.proofs.Right.{keeps_at}
+use Rattle.xdg_facts.proofs.In.{differ_once}
+use Rattle.xdg_types.proofs.Places.{places_once}
 
 -- ---- one place
-
-among_at : (xs : List (List ℕ)) (k : ℕ) (t : List ℕ) → slice_get xs k ≡ Some t → Among xs t
-among_at [] k t is = absurd (cc)
-among_at (x ∷ xs) zero t is = inl (cc)
-among_at (x ∷ xs) (suc k) t is = inr (among_at xs k t is)
-
-differ_once : (xs : List (List ℕ)) (j k : ℕ) (t : List ℕ) → Differ xs → slice_get xs j ≡ Some t → slice_get xs k ≡ Some t → j ≡ k
-differ_once [] j k t differ one other = absurd (cc)
-differ_once (x ∷ xs) zero zero t differ one other = refl
-differ_once (x ∷ xs) zero (suc k) t differ one other = absurd (differ.0 (let same : t ≡ x = cc in subst (Among xs) same (among_at xs k t other)))
-differ_once (x ∷ xs) (suc j) zero t differ one other = absurd (differ.0 (let same : t ≡ x = cc in subst (Among xs) same (among_at xs j t one)))
-differ_once (x ∷ xs) (suc j) (suc k) t differ one other = ap suc (differ_once xs j k t differ.1 one other)
-
-place_at : (ks : List ℕ) (i k : ℕ) → slice_get ks i ≡ Some k → HasPlace ks k
-place_at [] i k is = absurd (cc)
-place_at (j ∷ ks) zero k is = inl (cc)
-place_at (j ∷ ks) (suc i) k is = inr (place_at ks i k is)
-
-places_once : (bound : ℕ) (ks : List ℕ) (i j k : ℕ) → ArePlaces bound ks → slice_get ks i ≡ Some k → slice_get ks j ≡ Some k → i ≡ j
-places_once bound [] i j k are one other = absurd (cc)
-places_once bound (x ∷ ks) zero zero k are one other = refl
-places_once bound (x ∷ ks) zero (suc j) k are one other = absurd (are.0.1 (let same : k ≡ x = cc in subst (HasPlace ks) same (place_at ks j k other)))
-places_once bound (x ∷ ks) (suc i) zero k are one other = absurd (are.0.1 (let same : k ≡ x = cc in subst (HasPlace ks) same (place_at ks i k one)))
-places_once bound (x ∷ ks) (suc i) (suc j) k are one other = ap suc (places_once bound ks i j k are.1 one other)
 
 map_at : {A B : Type 0} (f : A → B) (xs : List A) (k : ℕ) (x : A) → slice_get xs k ≡ Some x → slice_get (map f xs) k ≡ Some (f x)
 map_at f [] k x is = absurd (cc)

@@ -1,5 +1,5 @@
 -- How many entries each word has, while further ones are added.
-use Rattle.std.proofs.Common.{◌≡◌, ℕ, zero, suc, ◌+◌, ◌<◌, List, [], ◌∷◌, ◌++◌, length, get_or, map, None, Some, refl, sym, ap, ap₂, ◌∙◌, subst, arith, slice_set}
+use Rattle.std.proofs.Common.{◌≡◌, ℕ, zero, suc, ◌+◌, ◌<◌, List, [], ◌∷◌, ◌++◌, length, get_or, map, None, Some, refl, sym, ap, ap₂, ◌∙◌, subst, slice_set}
 use Rattle.std.proofs.lemmas.List.{map-append, length-map, length-append, get_or-map}
 use Rattle.xdg_base.specs.declared.ids.EntryNo.{EntryNo}
 use Rattle.xdg_names.specs.Texts.{place_of}
@@ -75,9 +75,6 @@ module _ (said words : List (List ℕ)) (counts : List ℕ) (word : List ℕ) (c
 
 pub as_many : (said words : List (List ℕ)) (counts : List ℕ) → IsWordCount said words counts → length counts ≡ length words
 as_many said words counts count = ap length count.counted ∙ length-map words (λ word. length (numbers_of said word))
-
-pub inside : (words : List (List ℕ)) (word : List ℕ) (place count : ℕ) → place_of words word ≡ Some place → count ≡ length words → place < count
-inside words word place count found same = let at = place_of-Some words word place found in omega (arith, at.0, same)
 
 pub any_number : (counts : List ℕ) (place d e : ℕ) → place < length counts → get_or counts place d ≡ get_or counts place e
 any_number counts place d e within = any_default counts place d e within

@@ -1,10 +1,8 @@
 -- What a use of a class stands for, class after class.
-use Rattle.std.proofs.Common.{◌≡◌, ℕ, zero, suc, ◌<◌, ◌≤◌, ◌+◌, ◌-◌, List, [], ◌∷◌, length, get_or, refl, ap, sym, ◌∙◌, arith, inl, inr, subst, slice_get, slice_index_or}
+use Rattle.std.proofs.Common.{◌≡◌, ℕ, zero, suc, ◌<◌, ◌≤◌, ◌+◌, ◌-◌, List, [], ◌∷◌, length, get_or, refl, ap, sym, ◌∙◌, arith, inl, subst, slice_get, slice_index_or}
 use Rattle.std.specs.Prelude.{Some}
-use Rattle.std.proofs.lemmas.List.{get_or-map, length-map}
-use Rattle.std.proofs.lemmas.Option.{get_or_from_slice_get, slice_get_within}
+use Rattle.std.proofs.lemmas.List.{length-map}
 use Rattle.xdg_ast.specs.declared.names.Name.{Name}
-use Rattle.xdg_names.specs.First.{In}
 use Rattle.xdg_names.specs.Texts.{place_of}
 use Rattle.xdg_names.proofs.Texts.{place_of-Some}
 use Rattle.xdg_terms.specs.Forms.{Bindings}
@@ -18,16 +16,10 @@ use Rattle.xdg_lexicon.specs.Partial.{Partial}
 use Rattle.xdg_lexicon.specs.Right.{IsRightUnder}
 use Rattle.xdg_lexicon.specs.Weights.{weigh, sized}
 use Rattle.xdg_lexicon.proofs.Settled.{named_stands, used_right}
+use Rattle.xdg_check.proofs.Naming.{name_at}
+use Rattle.xdg_facts.proofs.In.{in_got}
 
 -- ---- classes by name
-
-in_at : (cs : List Class) (k : ℕ) (c : Class) → slice_get cs k ≡ Some c → In cs c
-in_at [] k c h = absurd (cc)
-in_at (y ∷ cs) zero c h = inl (cc)
-in_at (y ∷ cs) (suc k) c h = inr (in_at cs k c h)
-
-name_at : (cs : List Class) (k : ℕ) (c : Class) → slice_get cs k ≡ Some c → get_or (class_texts cs) k [] ≡ c.name
-name_at cs k c h = get_or-map (λ (x : Class). x.name) cs k c [] (slice_get_within cs k c h) ∙ ap (λ (x : Class). x.name) (get_or_from_slice_get cs k c c h)
 
 pub stands_at : (cs : List Class) (k : ℕ) (c : Class) → k < length cs → c ≡ get_or cs k c → slice_get cs k ≡ Some c
 stands_at [] k c within is = absurd (omega (arith, within))
@@ -95,8 +87,8 @@ module _ (checked : Parts) (depth : ℕ) (name : Name) (args : Pairs) (r : IsRan
     entered bs inside closes right = subst (λ i. Following checked bs (calling name args) (weigh (sized checked depth) (calling name args)) c i (depth - 1)) (sym closes) (record {
       within = omega (arith, within);
       ranked = below;
-      right = used_right checked bs (calling name args) (record { name = name; args = args }) c keeps right (inl refl) (in_at checked.classes found.0 c found.1.1) class_name;
-      means = λ ms d. den.class_used bs name args (named_body c) ms (named_stands checked.classes c (in_at checked.classes found.0 c found.1.1)) class_name d;
+      right = used_right checked bs (calling name args) (record { name = name; args = args }) c keeps right (inl refl) (in_got checked.classes found.0 c found.1.1) class_name;
+      means = λ ms d. den.class_used bs name args (named_body c) ms (named_stands checked.classes c (in_got checked.classes found.0 c found.1.1)) class_name d;
       lighter = light;
     })
 

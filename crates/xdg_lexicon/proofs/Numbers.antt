@@ -1,7 +1,5 @@
 -- The numbers of bodies are told by the classes.
 use Rattle.std.proofs.Common.{◌≡◌, ℕ, List, [], ◌∷◌, map, refl, sym, ap, ◌∙◌, subst, inl, inr}
-use Rattle.xdg_domain.specs.Shapes.{Among}
-use Rattle.xdg_names.specs.First.{In}
 use Rattle.xdg_classes.specs.Bodies.{Body, body}
 use Rattle.xdg_classes.specs.Wants.{NamedBody}
 use Rattle.xdg_check.specs.declared.checked.Class.{Class}
@@ -9,6 +7,7 @@ use Rattle.xdg_check.specs.Checked.{named_body, named_bodies}
 use Rattle.xdg_check.specs.Counts.{Counting, Agrees, AreCounted, class_texts, uses, combos}
 use Rattle.xdg_check.proofs.SameCounts.{same_uses, same_combos}
 use Rattle.xdg_lexicon.specs.Sources.{AreNumbers, HasNumber}
+use Rattle.xdg_facts.specs.Membership.{In}
 
 -- ---- classes and named bodies
 
@@ -30,7 +29,7 @@ module _ (count : Counting → Body → ℕ) (cs : List Class) (names : Counting
   agrees_of : AreNumbers count (named_bodies cs) names → Agrees count cs names
   agrees_of are = record {
     defined = λ c stands. are.defined (named_body c) (in_named cs c stands);
-    undefined = λ name missing. are.undefined name (λ among. missing (subst (λ l. Among l name) (names_are cs) among));
+    undefined = λ name missing. are.undefined name (λ among. missing (subst (λ l. In l name) (names_are cs) among));
   }
 
   numbers_of : Agrees count cs names → AreNumbers count (named_bodies cs) names
@@ -39,7 +38,7 @@ module _ (count : Counting → Body → ℕ) (cs : List Class) (names : Counting
         let found = behind cs n stands in
         let P : NamedBody → Type 0 = λ m. names m.name ≡ count names m.body in
         subst P found.1.1 (agrees.defined found.0 found.1.0);
-    undefined = λ name missing. agrees.undefined name (λ among. missing (subst (λ l. Among l name) (sym (names_are cs)) among));
+    undefined = λ name missing. agrees.undefined name (λ among. missing (subst (λ l. In l name) (sym (names_are cs)) among));
   }
 
 -- ---- one number

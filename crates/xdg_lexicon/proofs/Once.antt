@@ -1,8 +1,6 @@
 -- A body denotes one list, where no two classes have one name.
 use Rattle.std.proofs.Common.{◌≡◌, inl, inr, ℕ, List, [], ◌∷◌, ◌++◌, map, refl, sym, ap, ap₂, ◌∙◌, subst}
 use Rattle.xdg_ast.specs.declared.names.Name.{Name}
-use Rattle.xdg_domain.specs.Shapes.{Among, Differ}
-use Rattle.xdg_names.specs.First.{In}
 use Rattle.xdg_types.specs.Table.{KeepDims}
 use Rattle.xdg_types.specs.declared.table.DimType.{DimType}
 use Rattle.xdg_terms.specs.Forms.{Bindings}
@@ -15,12 +13,13 @@ use Rattle.xdg_lexicon.specs.Denotes.{JoinsAll, closed_args, Denotes, record_sai
 use Rattle.xdg_lexicon.specs.Partial.{Partial, SaysRecord, nothing}
 use Rattle.xdg_lexicon.proofs.OneJoin.{all_once}
 use Rattle.xdg_lexicon.proofs.OneMeaning.{one_record}
+use Rattle.xdg_facts.specs.Membership.{In, Differ}
 
 -- ---- names
 
 -- of things whose names differ one has each name
 module _ {A : Type 0} (name : A → List ℕ) where
-  pub name_among : (xs : List A) (x : A) → In xs x → Among (map name xs) (name x)
+  pub name_among : (xs : List A) (x : A) → In xs x → In (map name xs) (name x)
   name_among [] x h = absurd h
   name_among (y ∷ xs) x h = elim h [ inl e ↦ inl (ap name e) | inr k ↦ inr (name_among xs x k) ]
 
@@ -29,10 +28,10 @@ module _ {A : Type 0} (name : A → List ℕ) where
   one_named (z ∷ xs) x y differ h k e = elim h [
     | inl i ↦ elim k [
       | inl j ↦ sym i ∙ j
-      | inr l ↦ absurd (differ.0 (subst (Among (map name xs)) (sym (ap name i ∙ e)) (name_among xs y l)))
+      | inr l ↦ absurd (differ.0 (subst (In (map name xs)) (sym (ap name i ∙ e)) (name_among xs y l)))
     ]
     | inr i ↦ elim k [
-      | inl j ↦ absurd (differ.0 (subst (Among (map name xs)) (e ∙ sym (ap name j)) (name_among xs x i)))
+      | inl j ↦ absurd (differ.0 (subst (In (map name xs)) (e ∙ sym (ap name j)) (name_among xs x i)))
       | inr l ↦ one_named xs x y differ.1 i l e
     ]
   ]

@@ -1,19 +1,17 @@
 -- Two partial entries have one join at most, and none where they clash.
-use Rattle.std.proofs.Common.{◌≡◌, ℕ, zero, suc, ◌<◌, ◌+◌, List, [], ◌∷◌, ◌++◌, length, get_or, refl, ap, ap₂, sym, ◌∙◌, arith, inl, inr, subst, ◌⊎◌}
+use Rattle.std.proofs.Common.{◌≡◌, ℕ, zero, suc, ◌<◌, ◌+◌, List, [], ◌∷◌, ◌++◌, length, get_or, refl, ap, ap₂, sym, ◌∙◌, arith, inl, inr, ◌⊎◌}
 use Rattle.xdg_domain.specs.Joins.{AllowsBoth, IsApart, JoinsIn, JoinsField, Joins, ClashesIn, ClashesField, Clashes}
 use Rattle.xdg_domain.specs.Shapes.{Shape, domain, tuple, truth, integer, text, set, iset, card, valency, mapping, fields, Fields, no_field, field_then}
-use Rattle.xdg_domain.specs.declared.values.Value.{Value, out-Value, roll-Value, roll-out-Value}
+use Rattle.xdg_domain.specs.declared.values.Value.{Value, out-Value}
 use Rattle.xdg_domain.specs.declared.values.Value.TheOpen.{Value-F}
 use Rattle.xdg_domain.proofs.Keyed.{says_unique, says_exclusive}
 use Rattle.xdg_domain.proofs.Numbers.{union_unique, meet_unique, allows_unique, allows_exclusive}
 use Rattle.xdg_types.specs.declared.table.DimType.{DimType}
 use Rattle.xdg_lexicon.specs.Denotes.{JoinsEach, no_other, clashes, joins, JoinsAll, no_first, first_then}
 use Rattle.xdg_lexicon.specs.Partial.{Partial, features, IsDim, said_of, PartialsJoin, PartialsClash}
+use Rattle.xdg_domain.proofs.JoinLaws.{same_out}
 
 -- ---- values
-
-pub same_out : (x y : Value) → out-Value x ≡ out-Value y → x ≡ y
-same_out x y e = sym (roll-out-Value x) ∙ ap roll-Value e ∙ roll-out-Value y
 
 mutual
   one : (s : Shape) (x y z w : Value-F Value) → JoinsIn s x y z → JoinsIn s x y w → z ≡ w

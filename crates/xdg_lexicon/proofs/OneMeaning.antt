@@ -1,11 +1,10 @@
 -- A term means one value at most where a type is wanted, and a record says one thing of each dimension.
-use Rattle.std.proofs.Common.{◌≡◌, ◌⊎◌, inl, inr, ℕ, ◌<◌, zero, suc, List, [], ◌∷◌, length, get_or, Option, Some, None, refl, sym, ap, ap₂, ◌∙◌, subst, arith, codes}
+use Rattle.std.proofs.Common.{◌≡◌, ◌⊎◌, inl, inr, ℕ, ◌<◌, zero, suc, List, [], length, Option, Some, None, refl, sym, ap, ◌∙◌, subst, arith, codes}
 use Rattle.std.specs.Prelude.{Bool, true, false, bytes_eq, ◌&&◌}
 use Rattle.std.proofs.lemmas.Bool.{true≢false}
 use Rattle.xdg_ast.specs.declared.names.Name.{Name}
-use Rattle.xdg_domain.specs.Cards.{has}
-use Rattle.xdg_domain.specs.Shapes.{Shape, domain, tuple, truth, integer, text, set, iset, card, valency, mapping, fields, Shapes, no_shape, shape_then, Fields, no_field, field_then, sizes, constants, constants_of, Among, Differ, IsDomain, AreDomains, IsType, AreTypes}
-use Rattle.xdg_domain.specs.Tuples.{index, places, InRange}
+use Rattle.xdg_domain.specs.Shapes.{Shape, domain, tuple, truth, integer, text, set, iset, card, valency, mapping, fields, Fields, no_field, field_then, sizes, constants, constants_of, IsType, AreTypes}
+use Rattle.xdg_domain.specs.Tuples.{index, places}
 use Rattle.xdg_domain.specs.Valencies.{said_at}
 use Rattle.xdg_domain.specs.declared.values.Value.{Value, out-Value}
 use Rattle.xdg_domain.specs.declared.values.Value.TheOpen.{Value-F}
@@ -14,46 +13,21 @@ use Rattle.xdg_domain.proofs.Numbers.{increasing_same, allows_unique}
 use Rattle.xdg_domain.proofs.TupleNumbers.{index_of_places, places_in_range}
 use Rattle.xdg_terms.specs.Forms.{Term, Card, Bindings, bound, counts_of, pairs_of}
 use Rattle.xdg_terms.specs.Offences.{all_told}
-use Rattle.xdg_terms.specs.Means.{texts_of, chosen, truth_text, AllowedBy, written_for, written_at, Said, MeansIn, MeansField}
+use Rattle.xdg_terms.specs.Means.{chosen, truth_text, AllowedBy, written_for, written_at, Said, MeansIn, MeansField}
 use Rattle.xdg_types.specs.Table.{KeepDims}
 use Rattle.xdg_types.specs.declared.table.DimType.{DimType}
 use Rattle.xdg_classes.specs.Bodies.{Pairs}
 use Rattle.xdg_lexicon.specs.Partial.{Record, Partial, features, SaysFields, SaysRecord, written}
 use Rattle.xdg_lexicon.proofs.Dims.{types_of, keeps_at}
-use Rattle.xdg_lexicon.proofs.OneJoin.{same_out, same_items, dim_at}
+use Rattle.xdg_lexicon.proofs.OneJoin.{same_items, dim_at}
 use Rattle.xdg_facts.proofs.Truths.{same_flag}
 use Rattle.xdg_facts.proofs.Texts.{same_text, is_same}
+use Rattle.xdg_facts.specs.Rises.{has}
+use Rattle.xdg_terms.proofs.Meant.{same_chosen, one_place}
+use Rattle.xdg_domain.proofs.JoinLaws.{same_out}
+use Rattle.xdg_ast.specs.Texts.{texts as texts_of}
 
 -- ---- places of constants
-
-among_at : (cs : List (List ℕ)) (k : ℕ) (t : List ℕ) → k < length cs → get_or cs k [] ≡ t → Among cs t
-among_at [] k t within is = absurd (omega (arith, within))
-among_at (c ∷ cs) zero t within is = inl is
-among_at (c ∷ cs) (suc k) t within is = inr (among_at cs k t (omega (arith, within)) is)
-
-one_place : (cs : List (List ℕ)) (m n : ℕ) → Differ cs → m < length cs → n < length cs → get_or cs m [] ≡ get_or cs n [] → m ≡ n
-one_place [] m n h within inside e = absurd (omega (arith, within))
-one_place (c ∷ cs) zero zero h within inside e = refl
-one_place (c ∷ cs) zero (suc n) h within inside e = absurd (h.0 (among_at cs n c (omega (arith, inside)) (sym e)))
-one_place (c ∷ cs) (suc m) zero h within inside e = absurd (h.0 (among_at cs m c (omega (arith, within)) e))
-one_place (c ∷ cs) (suc m) (suc n) h within inside e = ap suc (one_place cs m n h.1 (omega (arith, within)) (omega (arith, inside)) e)
-
-domain_differs : (s : Shape) → IsDomain s → Differ (constants s)
-domain_differs (domain cs) h = h.1
-domain_differs s h = absurd h
-
-same_chosen : (ss : Shapes) (ms ns : List ℕ) → AreDomains ss → InRange (sizes ss) ms → InRange (sizes ss) ns → chosen (constants_of ss) ms ≡ chosen (constants_of ss) ns → ms ≡ ns
-same_chosen no_shape [] [] h r q e = refl
-same_chosen no_shape [] (n ∷ ns) h r q e = absurd q
-same_chosen no_shape (m ∷ ms) ns h r q e = absurd r
-same_chosen (shape_then s ss) [] ns h r q e = absurd r
-same_chosen (shape_then s ss) (m ∷ ms) [] h r q e = absurd q
-same_chosen (shape_then s ss) (m ∷ ms) (n ∷ ns) h r q e =
-    let here : get_or (constants s) m [] ≡ get_or (constants s) n [] = cc in
-    let rest : chosen (constants_of ss) ms ≡ chosen (constants_of ss) ns = cc in
-    ap₂ (λ (k : ℕ) (ks : List ℕ). k ∷ ks) (one_place (constants s) m n (domain_differs s h.0) r.0 q.0 here) (same_chosen ss ms ns h.1 r.1 q.1 rest)
-
--- ---- truths, cardinalities and sets
 
 one_truth : (a b : Bool) → truth_text a ≡ truth_text b → a ≡ b
 one_truth true true e = refl
@@ -78,7 +52,7 @@ said_once P once (Some a) (Some x) (Some y) h k = ap (λ z. Some z) (once a x y 
 
 -- ---- values
 
-some_same : {A : Type 0} (o : Option A) (a b : A) → o ≡ Some a → o ≡ Some b → a ≡ b
+pub some_same : {A : Type 0} (o : Option A) (a b : A) → o ≡ Some a → o ≡ Some b → a ≡ b
 some_same o a b h k = (let e : Some a ≡ Some b = sym h ∙ k in cc)
 
 mutual

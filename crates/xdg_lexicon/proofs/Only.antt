@@ -5,7 +5,6 @@ use Rattle.xdg_base.specs.declared.faults.Cause.{Cause}
 use Rattle.xdg_base.specs.declared.faults.Cause.TheVariants as causes
 use Rattle.xdg_base.specs.declared.faults.Fault.{Fault}
 use Rattle.xdg_base.specs.declared.faults.Stop.TheVariants as stops
-use Rattle.xdg_names.specs.First.{In}
 use Rattle.xdg_packed.specs.Lexicon.{Entry, word_of}
 use Rattle.xdg_classes.specs.Bodies.{Body}
 use Rattle.xdg_check.specs.Counts.{uses, combos}
@@ -17,6 +16,7 @@ use Rattle.xdg_lexicon.specs.Lexicon.{whole, AreWhole, Adds, SoFar, nothing_yet,
 use Rattle.xdg_lexicon.specs.Steps.{Once, AllOnce, OnceCounted}
 use Rattle.xdg_lexicon.specs.Answers.{IsAnswer, Gives}
 use Rattle.xdg_lexicon.proofs.Adding.{same_added, same_whole, none_lacks}
+use Rattle.xdg_facts.specs.Membership.{In}
 
 -- ---- what is told by the source
 

@@ -7,9 +7,9 @@ use Rattle.std.proofs.lemmas.Slice.Eq.{bytes_eq-Decides}
 use Rattle.xdg_names.specs.Texts.{has_text, AllDiffer}
 use Rattle.xdg_names.proofs.Texts.{has_text-stands, AllDiffer-append}
 use Rattle.xdg_types.specs.Table.{Table}
-use Rattle.xdg_packed.specs.Lexicon.{Entry, Stands, word_of}
+use Rattle.xdg_packed.specs.Lexicon.{Entry, word_of}
 use Rattle.xdg_packed.specs.Spelling.{spelling_of_entry}
-use Rattle.xdg_packed.proofs.Standing.{stands_at}
+use Rattle.xdg_facts.proofs.In.{in_get}
 use Rattle.xdg_lexicon.specs.Partial.{Partial, IsPartial, ArePartial}
 use Rattle.xdg_types.specs.declared.table.DimType.{DimType}
 use Rattle.xdg_packed.specs.Entries.{IsEntry, AreEntries}
@@ -17,24 +17,25 @@ use Rattle.xdg_lexicon.specs.Growing.{IsWordCount, IsGrown, SamePlace, Puts}
 use Rattle.xdg_lexicon.specs.declared.growing.Growing.{Growing}
 use Rattle.xdg_lexicon.proofs.Adding.{AddsSoFar}
 use Rattle.xdg_facts.proofs.Truths.{either_true}
+use Rattle.xdg_facts.specs.Membership.{In}
 
 -- ---- entries by their spellings
 
-stands_spelled : (entries : List Entry) (e : Entry) → Stands entries e → has_text (map spelling_of_entry entries) (spelling_of_entry e) ≡ true
+stands_spelled : (entries : List Entry) (e : Entry) → In entries e → has_text (map spelling_of_entry entries) (spelling_of_entry e) ≡ true
 stands_spelled [] e h = absurd h
 stands_spelled (first ∷ entries) e (inl same) = ap (λ b. b || has_text (map spelling_of_entry entries) (spelling_of_entry e)) ((bytes_eq-Decides (spelling_of_entry first) (spelling_of_entry e)).1 (ap spelling_of_entry same))
 stands_spelled (first ∷ entries) e (inr later) = either_true (bytes_eq (spelling_of_entry first) (spelling_of_entry e)) (has_text (map spelling_of_entry entries) (spelling_of_entry e)) (stands_spelled entries e later)
 
 module _ (entries : List Entry) (spellings : List (List ℕ)) (e : Entry) (text : List ℕ) (spelled : map spelling_of_entry entries ≡ spellings) (is : text ≡ spelling_of_entry e) where
-  fresh : has_text spellings text ≡ false → Stands entries e → ⊥
+  fresh : has_text spellings text ≡ false → In entries e → ⊥
   fresh none stands = true≢false (sym (stands_spelled entries e stands) ∙ ap (λ l. has_text l (spelling_of_entry e)) spelled ∙ ap (has_text spellings) (sym is) ∙ none)
 
-  known : ((other : Entry) → spelling_of_entry other ≡ text → other ≡ e) → has_text spellings text ≡ true → Stands entries e
+  known : ((other : Entry) → spelling_of_entry other ≡ text → other ≡ e) → has_text spellings text ≡ true → In entries e
   known told some =
       let found = has_text-stands (map spelling_of_entry entries) text (ap (λ l. has_text l text) spelled ∙ some) in
       let within : found.0 < length entries = subst (λ n. found.0 < n) (length-map entries spelling_of_entry) found.1 in
       let same = told (get_or entries found.0 []) (sym (get_or-map spelling_of_entry entries found.0 [] [] within) ∙ found.2) in
-      subst (Stands entries) same (stands_at entries found.0 [] within)
+      subst (In entries) same (in_get entries found.0 [] within)
 
   had : (added : Bool) → added ≡ false → added ≡ not (has_text spellings text) → has_text spellings text ≡ true
   had added off told = by (has_text spellings text) (sym told ∙ off)

@@ -6,7 +6,7 @@ use Rattle.std.proofs.lemmas.List.{at_drop_more, drop_all, append_assoc, append-
 use Rattle.xdg_domain.specs.declared.types.Ty.{Ty}
 use Rattle.xdg_domain.specs.declared.values.Value.TheVariants as v
 use Rattle.xdg_domain.specs.Defaults.{record_of_defaults}
-use Rattle.xdg_domain.specs.Shapes.{fields, Fields, field_then, shape, fields_of, names_of, IsType, AreTypes, Differ}
+use Rattle.xdg_domain.specs.Shapes.{fields, Fields, field_then, shape, fields_of, names_of, IsType, AreTypes}
 use Rattle.xdg_domain.specs.Valencies.{KeysRise}
 use Rattle.xdg_domain.specs.Values.{IsIn}
 use Rattle.xdg_domain.specs.Joined.{fields_in}
@@ -20,6 +20,7 @@ use Rattle.xdg_lexicon.specs.Partial.{Partial, IsPartial, IsRecord, IsDim, featu
 use Rattle.xdg_packed.specs.Entries.{IsWhole, IsEntry, record_type}
 use Rattle.xdg_lexicon.specs.Lexicon.{whole_record, record_then, records_of, whole}
 use Rattle.xdg_facts.proofs.Lists.{any_default}
+use Rattle.xdg_facts.specs.Membership.{Differ}
 
 -- ---- types
 

@@ -6,11 +6,9 @@ use Rattle.xdg_ast.specs.declared.names.Name.{Name}
 use Rattle.xdg_ast.specs.declared.names.Pair.{Pair}
 use Rattle.xdg_ast.specs.declared.expressions.ExprKind.{ExprKind}
 use Rattle.xdg_ast.specs.declared.expressions.ExprKind.TheVariants as v
-use Rattle.xdg_domain.specs.Shapes.{Shape, shape, Among, Differ}
+use Rattle.xdg_domain.specs.Shapes.{Shape, shape}
 use Rattle.xdg_domain.specs.declared.types.Ty.{Ty}
-use Rattle.xdg_names.specs.First.{In}
-use Rattle.xdg_names.proofs.In.{in_left, in_right}
-use Rattle.xdg_types.specs.Table.{Table, typed, firsts, IsTable, KeepDims, KeepsDim}
+use Rattle.xdg_types.specs.Table.{Table, typed, firsts, IsTable, KeepDims, KeepsDim, dim_named}
 use Rattle.xdg_types.specs.declared.table.DimType.{DimType}
 use Rattle.xdg_terms.specs.Answers.{IsRight}
 use Rattle.xdg_terms.specs.Closed.{closed}
@@ -21,9 +19,9 @@ use Rattle.xdg_terms.specs.Wanted.{params_in}
 use Rattle.xdg_terms.proofs.Binding.{bound_law}
 use Rattle.xdg_terms.proofs.ClosedLaw.{closed_law}
 use Rattle.xdg_classes.specs.Bodies.{Pairs, Expr, Body, either, body, Said, Called, records, records_in, calls, calls_in}
-use Rattle.xdg_classes.specs.Definitions.{keys, texts}
+use Rattle.xdg_types.specs.Parts.{keys}
 use Rattle.xdg_classes.proofs.Bodied.{trees, body_dim}
-use Rattle.xdg_classes.specs.Wants.{Wants, at_feature, at_argument, feature_shape, feature_in, dim_named, type_named}
+use Rattle.xdg_classes.specs.Wants.{Wants, at_feature, at_argument, feature_shape, feature_in, type_named}
 use Rattle.xdg_check.specs.declared.checked.Class.{Class}
 use Rattle.xdg_check.specs.declared.checked.EntryDef.{EntryDef}
 use Rattle.xdg_check.specs.Checked.{Parts, IsChecked, IsBound, IsScoped, named_body, named_bodies}
@@ -33,6 +31,9 @@ use Rattle.xdg_lexicon.specs.Partial.{written}
 use Rattle.xdg_lexicon.specs.Right.{AreRight, IsRightUnder}
 use Rattle.xdg_lexicon.proofs.Once.{name_among, one_named}
 use Rattle.xdg_facts.proofs.Texts.{same_text, is_same}
+use Rattle.xdg_facts.specs.Membership.{In, Differ}
+use Rattle.xdg_facts.proofs.In.{in_left, in_right}
+use Rattle.xdg_ast.specs.Texts.{texts}
 
 -- ---- features by name
 
@@ -50,17 +51,17 @@ dim_found : (dims : List DimType) (dim : DimType) → Differ (map (λ d. d.name)
 dim_found [] dim differ h = absurd h
 dim_found (x ∷ dims) dim differ h = elim h [
   | inl e ↦ at_name x.name dim.name (Some x) (dim_named dims dim.name) (ap (λ (d : DimType). d.name) e) ∙ ap (λ z. Some z) e
-  | inr k ↦ past_name x.name dim.name (Some x) (dim_named dims dim.name) (λ i. differ.0 (subst (Among (map (λ (d : DimType). d.name) dims)) (sym i) (name_among (λ (d : DimType). d.name) dims dim k))) ∙ dim_found dims dim differ.1 k
+  | inr k ↦ past_name x.name dim.name (Some x) (dim_named dims dim.name) (λ i. differ.0 (subst (In (map (λ (d : DimType). d.name) dims)) (sym i) (name_among (λ (d : DimType). d.name) dims dim k))) ∙ dim_found dims dim differ.1 k
 ]
 
 type_found : (fs : List (List ℕ × Ty)) (name : List ℕ) (s : Shape) → Differ (firsts fs) → In (typed fs) (name, s) → type_named fs name ≡ Some s
 type_found [] name s differ h = absurd h
 type_found (f ∷ fs) name s differ h = elim h [
   | inl e ↦ at_name f.0 name (Some (shape f.1)) (type_named fs name) (ap (λ (p : List ℕ × Shape). p.0) e) ∙ ap (λ (p : List ℕ × Shape). Some p.1) e
-  | inr k ↦ past_name f.0 name (Some (shape f.1)) (type_named fs name) (λ i. differ.0 (subst (Among (firsts fs)) (sym i) (typed_among fs name s k))) ∙ type_found fs name s differ.1 k
+  | inr k ↦ past_name f.0 name (Some (shape f.1)) (type_named fs name) (λ i. differ.0 (subst (In (firsts fs)) (sym i) (typed_among fs name s k))) ∙ type_found fs name s differ.1 k
 ]
   where
-    typed_among : (gs : List (List ℕ × Ty)) (n : List ℕ) (t : Shape) → In (typed gs) (n, t) → Among (firsts gs) n
+    typed_among : (gs : List (List ℕ × Ty)) (n : List ℕ) (t : Shape) → In (typed gs) (n, t) → In (firsts gs) n
     typed_among [] n t j = absurd j
     typed_among (g ∷ gs) n t j = elim j [ inl e ↦ inl (ap (λ (p : List ℕ × Shape). p.0) e) | inr l ↦ inr (typed_among gs n t l) ]
 
@@ -149,14 +150,14 @@ entry_right parts e expr keeps stands is = subst (λ (x : Expr). IsRightUnder pa
 abbrev FirstFor : Bindings → Pairs → List ℕ → Type 0
 FirstFor bs args param = (pair : Pair Term) × (In args pair × ((pair.key.text ≡ param) × (bound_to (closed_args bs args) param ≡ Some (closed bs pair.value))))
 
-bound_first : (bs : Bindings) (args : Pairs) (param : List ℕ) → Among (texts (keys args)) param → FirstFor bs args param
+bound_first : (bs : Bindings) (args : Pairs) (param : List ℕ) → In (texts (keys args)) param → FirstFor bs args param
 bound_first bs [] param h = absurd h
 bound_first bs (p ∷ args) param h = by (bytes_eq p.key.text param) refl (bound_first bs args param)
   where
-    rest : (bytes_eq p.key.text param ≡ false) → Among (texts (keys args)) param
+    rest : (bytes_eq p.key.text param ≡ false) → In (texts (keys args)) param
     rest e = elim h [ inl is ↦ absurd (true≢false (sym (is_same p.key.text param is) ∙ e)) | inr k ↦ k ]
 
-    by : (b : Bool) → bytes_eq p.key.text param ≡ b → (Among (texts (keys args)) param → FirstFor bs args param)
+    by : (b : Bool) → bytes_eq p.key.text param ≡ b → (In (texts (keys args)) param → FirstFor bs args param)
         → (pair : Pair Term) × (In (p ∷ args) pair × ((pair.key.text ≡ param) × ((if b then Some (closed bs p.value) else bound_to (closed_args bs args) param) ≡ Some (closed bs pair.value))))
     by true e later = (p, (inl refl, (same_text p.key.text param e, refl)))
     by false e later = (let r = later (rest e) in (r.0, (inr r.1.0, r.1.1)))
@@ -167,16 +168,16 @@ named_stands (x ∷ cs) c h = elim h [ inl e ↦ inl (ap named_body e) | inr k �
 
 module _ (parts : Parts) (keeps : IsChecked parts) (bs : Bindings) (call : Called) (c : Class) (stands : In parts.classes c) (is : c.name ≡ call.name.text) (bound : IsBound parts.classes call)
     (given : (pair : Pair Term) → In call.args pair → (s : Shape) → Wants parts.types (named_bodies parts.classes) call.name.text pair.key.text s → IsOpenRight [] s (closed bs pair.value)) where
-  wanted : (param : List ℕ) (u : Shape) → Among c.params param → Wants parts.types (named_bodies parts.classes) c.name param u → (b : Term) × ((bound_to (closed_args bs call.args) param ≡ Some b) × IsOpenRight [] u b)
+  wanted : (param : List ℕ) (u : Shape) → In c.params param → Wants parts.types (named_bodies parts.classes) c.name param u → (b : Term) × ((bound_to (closed_args bs call.args) param ≡ Some b) × IsOpenRight [] u b)
   wanted param u among wants =
       let same : bound.class ≡ c = one_named (λ (x : Class). x.name) parts.classes bound.class c keeps.names bound.stands stands (bound.name ∙ sym is) in
-      let f = bound_first bs call.args param (bound.given param (subst (λ (x : Class). Among x.params param) (sym same) among)) in
+      let f = bound_first bs call.args param (bound.given param (subst (λ (x : Class). In x.params param) (sym same) among)) in
       let here : Wants parts.types (named_bodies parts.classes) call.name.text f.0.key.text u =
       subst (λ t. Wants parts.types (named_bodies parts.classes) call.name.text t u) (sym f.1.1.0) (subst (λ t. Wants parts.types (named_bodies parts.classes) t param u) is wants) in
       (closed bs f.0.value, (f.1.1.1, given f.0 f.1.0 u here))
 
-  scoped_in : (t : Term) → IsScoped c.params t → (s : Shape) (param : List ℕ) (u : Shape) → In (params_in c.params s t) (param, u) → Among c.params param
-  scoped_in t scoped s param u w = (let st = wants_stand c.params s t (param, u) w in subst (Among c.params) st.1.1 (scoped st.0 st.1.0))
+  scoped_in : (t : Term) → IsScoped c.params t → (s : Shape) (param : List ℕ) (u : Shape) → In (params_in c.params s t) (param, u) → In c.params param
+  scoped_in t scoped s param u w = (let st = wants_stand c.params s t (param, u) w in subst (In c.params) st.1.1 (scoped st.0 st.1.0))
 
   class_right : IsRightUnder parts.types parts.classes (closed_args bs call.args) (body c.body.kind)
   class_right = record {

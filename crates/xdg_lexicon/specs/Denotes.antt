@@ -1,7 +1,6 @@
 -- What a body denotes: a list of partial entries.
 use Rattle.std.specs.Prelude.{◌≡◌, ℕ, ◌<◌, List, [], ◌∷◌, ◌++◌, map, Some, slice_index_or}
 use Rattle.xdg_ast.specs.declared.names.Name.{Name}
-use Rattle.xdg_names.specs.First.{In}
 use Rattle.xdg_names.specs.Texts.{place_of}
 use Rattle.xdg_types.specs.declared.table.DimType.{DimType}
 use Rattle.xdg_terms.specs.Forms.{Bindings}
@@ -11,6 +10,7 @@ use Rattle.xdg_classes.specs.Wants.{NamedBody}
 use Rattle.xdg_check.specs.Checked.{Parts}
 use Rattle.xdg_check.specs.Counts.{class_texts}
 use Rattle.xdg_lexicon.specs.Partial.{Partial, PartialsJoin, PartialsClash, SaysRecord, nothing}
+use Rattle.xdg_facts.specs.Membership.{In}
 
 -- ---- conjunction
 

@@ -1,11 +1,12 @@
 -- A lexicon to which entries are added.
 use Rattle.std.specs.Prelude.{◌≡◌, ◌⊎◌, ℕ, ◌<◌, ◌≤◌, List, [], ◌∷◌, ◌++◌, length, get_or, map, vec_len, All}
 use Rattle.xdg_names.specs.Texts.{AllDiffer}
-use Rattle.xdg_packed.specs.Lexicon.{Entry, Stands, word_of, numbers_of}
+use Rattle.xdg_packed.specs.Lexicon.{Entry, word_of, numbers_of}
 use Rattle.xdg_packed.specs.Spelling.{spelling_of_entry}
 use Rattle.xdg_packed.specs.Words.{IsWordIndex}
 use Rattle.xdg_packed.specs.Entries.{count_of}
 use Rattle.xdg_lexicon.specs.declared.growing.Growing.{Growing}
+use Rattle.xdg_facts.specs.Membership.{In}
 
 -- of the words of entries each different one stands once, and beside it how many entries have it
 pub record IsWordCount (said words : List (List ℕ)) (counts : List ℕ) : Type 0 where
@@ -34,4 +35,4 @@ SamePlace old new = (new.dim ≡ old.dim) × (new.field ≡ old.field)
 
 -- how an entry changes a list: it stood there, or it goes last
 abbrev pub Puts : List Entry → Entry → List Entry → Type 0
-Puts before e after = (Stands before e × (after ≡ before)) ⊎ ((Stands before e → ⊥) × (after ≡ before ++ e ∷ []))
+Puts before e after = (In before e × (after ≡ before)) ⊎ ((In before e → ⊥) × (after ≡ before ++ e ∷ []))

@@ -4,17 +4,17 @@ use Rattle.xdg_base.specs.declared.faults.Cause.{Cause}
 use Rattle.xdg_base.specs.declared.faults.Cause.TheVariants as causes
 use Rattle.xdg_base.specs.declared.faults.Fault.{Fault}
 use Rattle.xdg_domain.specs.Shapes.{fields_of}
-use Rattle.xdg_names.specs.First.{In}
 use Rattle.xdg_packed.specs.Filled.{filled_fields}
 use Rattle.xdg_types.specs.declared.table.DimType.{DimType}
 use Rattle.xdg_types.specs.Table.{Table, typed}
-use Rattle.xdg_packed.specs.Lexicon.{Record, Entry, Stands, word_of}
+use Rattle.xdg_packed.specs.Lexicon.{Record, Entry, word_of}
 use Rattle.xdg_classes.specs.Bodies.{Body}
 use Rattle.xdg_check.specs.Counts.{uses, combos, capped}
 use Rattle.xdg_lexicon.specs.Partial.{Partial, said_of}
 use Rattle.xdg_lexicon.specs.Denotes.{Denotes}
 use Rattle.xdg_packed.specs.Entries.{IsWordPlace, count_of}
 use Rattle.xdg_lexicon.specs.Sources.{Source, HasNumber}
+use Rattle.xdg_facts.specs.Membership.{In}
 
 -- ---- from partial entries to entries
 
@@ -45,8 +45,8 @@ AreWhole table _ _ = ⊥
 -- Entries are added behind those that are known, in their order, without those that stand there already.
 pub data Adds : List Entry → List Entry → List Entry → Type 0 where
   nothing_more : (known : List Entry) → Adds known [] known
-  known_before : (known more all : List Entry) (e : Entry) → Stands known e → Adds known more all → Adds known (e ∷ more) all
-  new : (known more all : List Entry) (e : Entry) → (Stands known e → ⊥) → Adds (known ++ e ∷ []) more all → Adds known (e ∷ more) all
+  known_before : (known more all : List Entry) (e : Entry) → In known e → Adds known more all → Adds known (e ∷ more) all
+  new : (known more all : List Entry) (e : Entry) → (In known e → ⊥) → Adds (known ++ e ∷ []) more all → Adds known (e ∷ more) all
 
 -- ---- `defentry` by `defentry`
 

@@ -3,7 +3,6 @@ use Rattle.std.specs.Prelude.{◌≡◌, ℕ, List, [], Some, IfSome}
 use Rattle.xdg_ast.specs.declared.names.Pair.{Pair}
 use Rattle.xdg_domain.specs.Shapes.{Shape, shape}
 use Rattle.xdg_domain.specs.declared.types.Ty.{Ty}
-use Rattle.xdg_names.specs.First.{In}
 use Rattle.xdg_types.specs.Table.{Table}
 use Rattle.xdg_terms.specs.Answers.{IsRight}
 use Rattle.xdg_terms.specs.Closed.{closed}
@@ -15,6 +14,7 @@ use Rattle.xdg_classes.specs.Wants.{Wants, feature_shape}
 use Rattle.xdg_check.specs.declared.checked.Class.{Class}
 use Rattle.xdg_check.specs.Checked.{IsBound, named_bodies}
 use Rattle.xdg_lexicon.specs.Partial.{written}
+use Rattle.xdg_facts.specs.Membership.{In}
 
 -- nothing is wrong with what is written of these features, under the bindings
 abbrev pub AreRight : Bindings → List (List ℕ × Ty) → Pairs → Type 0

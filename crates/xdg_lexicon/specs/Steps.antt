@@ -4,7 +4,6 @@ use Rattle.xdg_base.specs.declared.faults.Cause.TheVariants as causes
 use Rattle.xdg_base.specs.declared.faults.Fault.{Fault}
 use Rattle.xdg_base.specs.declared.faults.Stop.{Stop}
 use Rattle.xdg_base.specs.declared.faults.Stop.TheVariants as stops
-use Rattle.xdg_names.specs.First.{In}
 use Rattle.xdg_types.specs.Table.{Table}
 use Rattle.xdg_packed.specs.Lexicon.{Entry}
 use Rattle.xdg_classes.specs.Bodies.{Body, body}
@@ -13,6 +12,7 @@ use Rattle.xdg_lexicon.specs.Partial.{Partial}
 use Rattle.xdg_lexicon.specs.Denotes.{Denotes}
 use Rattle.xdg_lexicon.specs.Sources.{Source}
 use Rattle.xdg_lexicon.specs.Lexicon.{whole, AreWhole, Adds, SoFar, AreFewEach, IsCounted, IsExpanded, Expands, IsCrowded, OffendsAt, reaching}
+use Rattle.xdg_facts.specs.Membership.{In}
 
 -- a `defentry`: the place of its word, and its body
 abbrev pub one_of : EntryDef → ℕ × Body

@@ -5,7 +5,7 @@ ghost use Rattle.xdg_classes.specs.Bodies.{body};
 ghost use Rattle.xdg_check.specs.declared.checked.EntryDef.{EntryDef};
 ghost use Rattle.xdg_check.specs.Checked.{named_bodies};
 ghost use Rattle.xdg_check.specs.Counts.{Counting, Agrees, combos};
-ghost use Rattle.xdg_names.specs.First.{In};
+ghost use Rattle.xdg_facts.specs.Membership.{In};
 ghost use Rattle.xdg_lexicon.specs.Denotes.{Denotes};
 ghost use Rattle.xdg_lexicon.specs.Partial as spec;
 ghost use Rattle.xdg_lexicon.specs.Partial.{ArePartial};
@@ -32,7 +32,8 @@ pub fn members(alloc: Global, checked: &Checked, expr: &Expr) -> Result<List<Par
     requires entry { (e : EntryDef) × (In checked.now.entries e × (e.body ≡ expr.now)) }
     ensures denotes { IfOk result (λ made. Denotes checked.now.types.dims (named_bodies checked.now.classes) [] (body expr.now.kind) made) }
     ensures once { IfOk result
-        (λ made. (others : List spec.Partial) → Denotes checked.now.types.dims (named_bodies checked.now.classes) [] (body expr.now.kind) others → others ≡ made) }
+        (λ made. (others : List spec.Partial)
+        → Denotes checked.now.types.dims (named_bodies checked.now.classes) [] (body expr.now.kind) others → others ≡ made) }
     ensures partial { IfOk result (λ made. ArePartial checked.now.types.dims made) }
     ensures few { IfOk result (λ made. (names : Counting) → Agrees combos checked.now.classes names → length made ≤ combos names (body expr.now.kind)) }
 {

@@ -1,13 +1,12 @@
 //! Partial entries.
 
 ghost use Rattle.std.specs.Prelude.{◌≡◌, IfOk, MatchOption};
-ghost use Rattle.xdg_names.specs.First.{In};
+ghost use Rattle.xdg_facts.specs.Membership.{In};
 ghost use Rattle.xdg_types.specs.Table.{KeepsDim, KeepDims};
 ghost use Rattle.xdg_types.specs.declared.table.DimType as spec;
 ghost use Rattle.xdg_lexicon.specs.Partial.{IsPartial, ReadsDim, PartialsJoin, PartialsClash, SaysRecord, nothing};
 ghost use Rattle.xdg_lexicon.specs.Right.{AreRight};
 
-use crate::lists::with_room;
 use crate::records::{join_records, read_record};
 use std::alloc::{AllocError, Global};
 use xdg_ast::{Pair, Term};
@@ -25,7 +24,7 @@ pub(crate) fn say_nothing(alloc: Global, dims: &[DimType]) -> Result<Partial, Al
     ensures same { IfOk result (λ made. made ≡ nothing dims.now) }
     ensures partial { IfOk result (λ made. IsPartial dims.now made) }
 {
-    let mut made = with_room(alloc, dims.len())?;
+    let mut made = List::with_room(alloc, dims.len())?;
     for _ in dims {
         made.push(List::new(alloc))?;
     }
@@ -70,7 +69,7 @@ pub(crate) fn read_partial(
     ensures says { IfOk result (λ made. SaysRecord dims.now bindings.now name.now pairs.now made) }
     ensures partial { IfOk result (λ made. IsPartial dims.now made) }
 {
-    let mut made = with_room(alloc, dims.len())?;
+    let mut made = List::with_room(alloc, dims.len())?;
     for dim in dims {
         made.push(read_dim(alloc, dim, name, pairs, bindings)?)?;
     }

@@ -3,7 +3,7 @@
 ghost use Rattle.std.specs.Prelude.{◌≡◌, ℕ, ◌≤◌, List, Result, IfOk, OnOk};
 ghost use Rattle.xdg_base.specs.declared.faults.Fault as faults;
 ghost use Rattle.xdg_check.specs.Checked.{IsChecked};
-ghost use Rattle.xdg_names.specs.First.{In};
+ghost use Rattle.xdg_facts.specs.Membership.{In};
 ghost use Rattle.xdg_packed.specs.Entries.{IsRightLexicon};
 ghost use Rattle.xdg_packed.specs.Lexicon as lexicon;
 ghost use Rattle.xdg_lexicon.specs.Answers.{IsAnswer, Gives, Tells};

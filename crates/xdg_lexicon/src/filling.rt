@@ -10,9 +10,8 @@ ghost use Rattle.xdg_types.specs.Table.{typed};
 ghost use Rattle.xdg_packed.specs.Entries.{IsEntry};
 ghost use Rattle.xdg_lexicon.specs.Lexicon.{whole};
 
-use crate::lists::with_room;
 use std::alloc::Global;
-use xdg_base::{OutOfMemory, Text};
+use xdg_base::{List, OutOfMemory, Text};
 use xdg_domain::{Entry, Fields, Ty, Value};
 use xdg_packed::fill;
 use xdg_types::TypeTable;
@@ -28,7 +27,7 @@ pub(crate) fn whole_entry(
     ensures right { IfOk result (λ told. IfSome told (IsEntry types.now)) }
 {
     let dims = types.dims();
-    let mut entry = with_room(alloc, types.used().len())?;
+    let mut entry = List::with_room(alloc, types.used().len())?;
     for place in types.used() {
         let said = partial[*place].as_slice();
         match filled_record(alloc, dims[*place].fields.as_slice(), said)? {
@@ -51,7 +50,7 @@ fn filled_record(
     ensures { IfOk result (λ told. told ≡ filled_fields 0 (fields_of (typed types.now)) said.now) }
 {
     let mut rest = said;
-    let mut all = with_room(alloc, types.len())?;
+    let mut all = List::with_room(alloc, types.len())?;
     for (i, field) in types.iter().enumerate() {
         let Ok(place) = u32::try_from(i) else {
             return Err(OutOfMemory);

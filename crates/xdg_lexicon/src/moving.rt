@@ -6,10 +6,10 @@ ghost use Rattle.xdg_domain.specs.Joins.{SaysBoth, JoinsField, OnSome, ClashesFi
 ghost use Rattle.xdg_lexicon.specs.Partial.{IsRecord, IsPartial, PartialsJoin, PartialsClash};
 
 use crate::entries::Partial;
-use crate::lists::{turn, with_room};
+use crate::lists::turn;
 use crate::taking::join_taken;
 use std::alloc::Global;
-use xdg_base::{OutOfMemory, Text};
+use xdg_base::{List, OutOfMemory, Text};
 use xdg_domain::{Fields, Ty};
 use xdg_types::DimType;
 
@@ -51,7 +51,7 @@ pub(crate) fn join_two(
 {
     let mut one = one;
     let mut other = other;
-    let mut made = with_room(alloc, dims.len())?;
+    let mut made = List::with_room(alloc, dims.len())?;
     while let Some(mine) = one.pop() {
         let Some(theirs) = other.pop() else {
             unreachable!()

@@ -13,7 +13,6 @@ ghost use Rattle.xdg_lexicon.specs.Made.{entry};
 ghost use Rattle.xdg_lexicon.specs.Partial.{IsRecord, SaysFields, written};
 ghost use Rattle.xdg_lexicon.specs.Right.{AreRight};
 
-use crate::lists::with_room;
 use std::alloc::{AllocError, Global};
 use xdg_ast::{Pair, Term};
 use xdg_base::{List, OutOfMemory, Stop, Text};
@@ -137,7 +136,7 @@ pub(crate) fn read_record(
     requires right { AreRight bindings.now fields.now pairs.now }
     ensures { IfOk result (λ made. SaysFields bindings.now (fields_in fields.now) pairs.now made × IsRecord (fields_in fields.now) made) }
 {
-    let mut made = with_room(alloc, pairs.len())?;
+    let mut made = List::with_room(alloc, pairs.len())?;
     for (place, field) in fields.iter().enumerate() {
         let Ok(key) = u32::try_from(place) else {
             return Err(OutOfMemory);

@@ -10,10 +10,10 @@ ghost use Rattle.xdg_domain.specs.Values.{IsValue};
 ghost use Rattle.xdg_lexicon.specs.Partial.{IsRecord};
 ghost use Rattle.xdg_lexicon.specs.Made.{EndsAt};
 
-use crate::lists::{turn, with_room};
+use crate::lists::turn;
 use crate::records::add;
 use std::alloc::Global;
-use xdg_base::{OutOfMemory, Text};
+use xdg_base::{List, OutOfMemory, Text};
 use xdg_domain::{Fields, Ty, Value, join};
 
 /// Whether the last that is said is said of the feature with that place.
@@ -85,7 +85,7 @@ pub(crate) fn join_taken(
 {
     let mut one = one;
     let mut other = other;
-    let mut made = with_room(alloc, fields.len())?;
+    let mut made = List::with_room(alloc, fields.len())?;
     let mut left = fields.len();
     while left > 0 {
         let place = left - 1;
@@ -101,7 +101,7 @@ pub(crate) fn join_taken(
         }
         left = place;
     }
-    let mut whole = with_room(alloc, made.len())?;
+    let mut whole = List::with_room(alloc, made.len())?;
     turn(&mut made, &mut whole)?;
     Ok(Some(whole))
 }

@@ -34,7 +34,7 @@ member_cases x [] ys m = inr m
 member_cases x (y ∷ xs) ys (inl e) = inl (inl e)
 member_cases x (y ∷ xs) ys (inr m) = elim (member_cases x xs ys m) [ inl k ↦ inl (inr k) | inr k ↦ inr k ]
 
-from_left : (a : List ℕ) (xs ys : List (List ℕ)) → RisesFrom a (xs ++ ys) → RisesFrom a xs
+pub from_left : (a : List ℕ) (xs ys : List (List ℕ)) → RisesFrom a (xs ++ ys) → RisesFrom a xs
 from_left a [] ys r = tt
 from_left a (x ∷ xs) ys r = (r.0, from_left x xs ys r.1)
 

@@ -11,7 +11,7 @@ use Rattle.xdg_linear.proofs.Ends.{climbing_least, climbs_from}
 use Rattle.xdg_linear.proofs.Existing.{arrangement_each, ranks_below}
 use Rattle.xdg_linear.proofs.Reaching.{advances_more, advances_last}
 use Rattle.xdg_linear.proofs.Times.{arrangement_permuted, arrangement_joined, arrangement_back}
-use Rattle.xdg_facts.proofs.Lists.{all_at}
+use Rattle.xdg_facts.proofs.Lists.{all_at, some_at}
 
 abbrev pub seen : List SentenceWord → Bool → List ℕ → Arranged
 seen words begun numbers = record { words = words; present = shown begun numbers }
@@ -93,18 +93,13 @@ get_some [] k d lt = absurd (omega arith)
 get_some (word ∷ words) zero d lt = refl
 get_some (word ∷ words) (suc k) d lt = get_some words k d (omega arith)
 
-some_word : (words : List SentenceWord) (k : ℕ) → k < length words → (word : SentenceWord) × (slice_get words k ≡ Some word)
-some_word [] k lt = absurd (omega arith)
-some_word (word ∷ words) zero lt = (word, refl)
-some_word (word ∷ words) (suc k) lt = some_word words k (omega arith)
-
 get_words : (words : List SentenceWord) (numbers : List ℕ) (place : ℕ) → AllByRecursion (λ x. x < length words) numbers → place < length numbers → slice_get (words_at words numbers) place ≡ slice_get words (get_or numbers place 0)
 get_words words [] place each lt = absurd (omega arith)
 get_words words (x ∷ xs) zero each lt =
-    let word = some_word words x each.0 in
+    let word = some_at words x each.0 in
     ap (λ o. slice_get (cons_option o (words_at words xs)) 0) word.1 ∙ sym word.1
 get_words words (x ∷ xs) (suc k) each lt =
-    let word = some_word words x each.0 in
+    let word = some_at words x each.0 in
     ap (λ o. slice_get (cons_option o (words_at words xs)) (suc k)) word.1 ∙ get_words words xs k each.1 (omega arith)
 
 -- the place that is read of the numbers is that of a word

@@ -4,7 +4,10 @@ use Rattle.std.specs.Prelude.{if◌then◌else◌}
 use Rattle.std.proofs.lemmas.Bool.Decides.{nat_tests}
 use Rattle.std.proofs.lemmas.Bool.{cases_eq}
 use Rattle.xdg_base.specs.declared.faults.Fault.{Fault}
-use Rattle.xdg_names.specs.First.{is_before, earlier, first, In, IsFirstOf, Tells, Below}
+use Rattle.xdg_names.specs.First.{is_before, earlier, first, IsFirstOf, Tells, Below}
+use Rattle.xdg_facts.specs.Membership.{In}
+use Rattle.std.proofs.Common.{◌≤◌}
+use Rattle.std.proofs.lemmas.List.{at_drop_all}
 
 is_first : (a b : Fault) → is_before b a ≡ false → IsFirstOf a b
 is_first a b h = grind (arith, nat_tests)
@@ -68,7 +71,7 @@ pub tells_as : (P Q : Fault → Type 0) → ((f : Fault) → P f → Q f) → ((
 tells_as P Q to from None h = λ f q. h f (from f q)
 tells_as P Q to from (Some x) h = (to x h.0, λ f q. h.1 f (from f q))
 
-itself : (x : Fault) → IsFirstOf x x
+pub itself : (x : Fault) → IsFirstOf x x
 itself x = grind arith
 
 tells_one : (x : Fault) → Tells (λ f. x ≡ f) (Some x)
@@ -99,3 +102,9 @@ tells_next P i found next now h k sum = subst (Tells (Below P (i + 1))) (sym sum
     (λ f e. elim e [ inl b ↦ (b.0, (omega (arith, b.1.0), b.1.1)) | inr p ↦ (i, (omega arith, p)) ])
     (λ f b. elim (cases_eq b.0 i) [ inl e ↦ inr (subst (λ j. P j f) e b.1.1) | inr ne ↦ inl (b.0, (omega (arith, b.1.0, ne), b.1.1)) ])
     (earlier found next) (tells_both (Below P i) (P i) found next h k))
+
+-- at the end of a loop nothing is left
+pub found_all : {A : Type 0} (all : List A → List Fault) → all [] ≡ [] → (xs : List A) (i : ℕ) (found total : Option Fault) → length xs ≤ i → earlier found (first (all (drop i xs))) ≡ total → found ≡ total
+found_all all none xs i found total over so_far =
+    let e : all (drop i xs) ≡ all [] = at_drop_all all xs i over in
+    sym (earlier-none found) ∙ ap (λ fs. earlier found (first fs)) (sym none ∙ sym e) ∙ so_far

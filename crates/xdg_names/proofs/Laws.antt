@@ -4,13 +4,14 @@ use Rattle.std.specs.Prelude.{◌↔◌}
 use Rattle.std.proofs.lemmas.Bool.{cases_lt, cases_eq}
 use Rattle.std.proofs.lemmas.List.{get_or_default}
 use Rattle.xdg_base.specs.declared.faults.Fault.{Fault}
-use Rattle.xdg_names.specs.First.{In, Tells, Below}
+use Rattle.xdg_names.specs.First.{Tells, Below}
 use Rattle.xdg_names.proofs.First.{tells_as}
-use Rattle.xdg_names.proofs.In.{in_get, in_index}
 use Rattle.xdg_names.specs.declared.graph.Use.{Use}
 use Rattle.xdg_names.specs.Leads.{uses_of, IsPath, Leads, number, AreComponents}
 use Rattle.xdg_names.specs.Closing.{IsClosing, HasMeeting, fault_of, the_use}
 use Rattle.xdg_names.proofs.Numbered.{from_within}
+use Rattle.xdg_facts.specs.Membership.{In}
+use Rattle.xdg_facts.proofs.In.{in_get, in_index}
 
 module _ (g : List (List Use)) (numbers order : List ℕ) (made : AreComponents g numbers order) where
   along : (a : ℕ) (us : List Use) (b : ℕ) → IsPath g a us b → number numbers b ≤ number numbers a

@@ -1,14 +1,14 @@
 -- A definition leaves the path, and its group the stack.
 use Rattle.std.proofs.Common.{◌≡◌, ◌≢◌, ℕ, ◌+◌, ◌<◌, ◌≤◌, ◌⊎◌, inl, inr, List, [], ◌∷◌, ◌++◌, length, sym, ap, ◌∙◌, subst, arith}
 use Rattle.std.proofs.lemmas.Bool.{cases_lt}
-use Rattle.xdg_names.specs.First.{In}
-use Rattle.xdg_names.proofs.In.{in_left, in_index}
 use Rattle.xdg_names.specs.declared.graph.Use.{Use}
 use Rattle.xdg_names.specs.Leads.{uses_of, Leads, number}
 use Rattle.xdg_names.specs.Closing.{the_use}
 use Rattle.xdg_names.specs.Walks.{IsWalking, NotBelow, IsLooked, Closes, unmet}
 use Rattle.xdg_names.proofs.Climbs.{is_last, in_parts, climbs_front, climbs_last, climbs_same}
 use Rattle.xdg_names.proofs.Marks.{given_below}
+use Rattle.xdg_facts.specs.Membership.{In}
+use Rattle.xdg_facts.proofs.In.{in_left, in_index}
 
 module _ (g : List (List Use)) (marks left stack starts front : List ℕ) (x : ℕ) (order : List ℕ) (next : ℕ) (v : IsWalking g marks left stack starts (front ++ x ∷ []) order next) where
   pub last_on : length g < number marks x

@@ -1,5 +1,4 @@
 pub mod First
-pub mod In
 pub mod One
 pub mod Climbs
 pub mod Marks

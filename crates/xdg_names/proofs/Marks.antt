@@ -4,11 +4,11 @@ use Rattle.std.proofs.Math.ListN.{set, length-set}
 use Rattle.std.specs.List.{sum_by}
 use Rattle.std.proofs.lemmas.List.Sums.{sum_by-set}
 use Rattle.std.proofs.lemmas.Bool.{cases_eq}
-use Rattle.xdg_names.proofs.In.{in_index}
 use Rattle.xdg_names.specs.Leads.{number}
 use Rattle.xdg_names.specs.Walks.{AreMarks, fresh_at, unmet}
 use Rattle.xdg_names.proofs.Climbs.{at_last, at_front, set_at}
 use Rattle.xdg_facts.proofs.Lists.{length_more}
+use Rattle.xdg_facts.proofs.In.{in_index}
 
 pub not_fresh : (m : ℕ) → 1 ≤ m → fresh_at m ≡ 0
 not_fresh zero h = absurd (omega arith)

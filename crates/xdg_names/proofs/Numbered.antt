@@ -3,12 +3,12 @@ use Rattle.std.proofs.Common.{◌≡◌, ℕ, suc, ◌+◌, ◌<◌, ◌≤◌, 
 use Rattle.std.proofs.lemmas.Bool.{cases_lt}
 use Rattle.std.proofs.lemmas.List.Sums.{sum_by-append}
 use Rattle.std.proofs.lemmas.List.{get_or_past}
-use Rattle.xdg_names.specs.First.{In}
 use Rattle.xdg_names.specs.declared.graph.Use.{Use}
 use Rattle.xdg_names.specs.Leads.{uses_of, IsGraph, number, AreComponents}
 use Rattle.xdg_names.specs.Walks.{IsWalking, fresh_at, unmet}
 use Rattle.xdg_names.proofs.Climbs.{marked_within}
 use Rattle.xdg_names.proofs.Marks.{not_fresh}
+use Rattle.xdg_facts.specs.Membership.{In}
 
 -- a definition with uses is one of the graph
 pub from_within : (g : List (List Use)) (a : ℕ) (u : Use) → In (uses_of g a) u → a < length g

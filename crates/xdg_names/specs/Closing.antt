@@ -2,9 +2,10 @@
 use Rattle.std.specs.Prelude.{◌≡◌, ℕ, List, length, slice_index_or}
 use Rattle.xdg_base.specs.declared.faults.Fault.{Fault}
 use Rattle.xdg_base.specs.declared.faults.Cause.TheVariants as causes
-use Rattle.xdg_names.specs.First.{In, Below}
+use Rattle.xdg_names.specs.First.{Below}
 use Rattle.xdg_names.specs.declared.graph.Use.{Use}
 use Rattle.xdg_names.specs.Leads.{uses_of, Leads, number}
+use Rattle.xdg_facts.specs.Membership.{In}
 
 -- the fault at a use that closes a cycle
 abbrev pub fault_of : Use → Fault

@@ -20,11 +20,6 @@ abbrev pub first : List Fault → Option Fault
 first [] = None
 first (f ∷ fs) = earlier (Some f) (first fs)
 
--- x is in the list
-abbrev pub In : {A : Type 0} → List A → A → Type 0
-In [] x = ⊥
-In (y ∷ ys) x = (y ≡ x) ⊎ In ys x
-
 -- b doesn't come before a
 abbrev pub IsFirstOf : Fault → Fault → Type 0
 IsFirstOf a b =

@@ -1,7 +1,7 @@
 -- Where uses lead, and what numbers of strong components are.
 use Rattle.std.specs.Prelude.{◌≡◌, ℕ, ◌<◌, ◌≤◌, List, [], ◌∷◌, length, slice_index_or}
-use Rattle.xdg_names.specs.First.{In}
 use Rattle.xdg_names.specs.declared.graph.Use.{Use}
+use Rattle.xdg_facts.specs.Membership.{In}
 
 -- the uses that stand in the definition a
 abbrev pub uses_of : List (List Use) → ℕ → List Use

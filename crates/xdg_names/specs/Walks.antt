@@ -2,11 +2,11 @@
 -- finished, with that number. Above: on the stack, and the greater, the higher.
 use Rattle.std.specs.Prelude.{◌≡◌, ◌⊎◌, ℕ, zero, suc, ◌+◌, ◌*◌, ◌<◌, ◌≤◌, List, [], ◌∷◌, ◌++◌, length}
 use Rattle.std.specs.List.{sum_by}
-use Rattle.xdg_names.specs.First.{In}
 use Rattle.xdg_names.specs.declared.graph.Use.{Use}
 use Rattle.xdg_names.specs.declared.walk.Walk.{Walk}
 use Rattle.xdg_names.specs.Leads.{uses_of, Leads, number}
 use Rattle.xdg_names.specs.Closing.{the_use}
+use Rattle.xdg_facts.specs.Membership.{In}
 
 -- each has a greater mark than those before it
 abbrev pub Climbs : List ℕ → List ℕ → Type 0

@@ -2,7 +2,8 @@
 
 ghost use Rattle.std.specs.Prelude.{◌≡◌, ℕ, ◌<◌, length};
 ghost use Rattle.xdg_names.specs.declared.graph.Use.{Use};
-ghost use Rattle.xdg_names.specs.First.{In, Tells};
+ghost use Rattle.xdg_names.specs.First.{Tells};
+ghost use Rattle.xdg_facts.specs.Membership.{In};
 ghost use Rattle.xdg_names.specs.Leads.{AreComponents, number};
 ghost use Rattle.xdg_names.specs.Closing.{IsClosing, Meets, HasMeeting};
 

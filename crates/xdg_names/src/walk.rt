@@ -6,7 +6,7 @@
 //! once.
 
 ghost use Rattle.std.specs.Prelude.{◌≡◌, ℕ, [], ◌∷◌, ◌++◌, ◌+◌, ◌^◌, ◌<◌, ◌≤◌, IfOk, length, map};
-ghost use Rattle.xdg_names.specs.First.{In};
+ghost use Rattle.xdg_facts.specs.Membership.{In};
 ghost use Rattle.xdg_names.specs.Leads.{uses_of, IsGraph, Leads, number};
 ghost use Rattle.xdg_names.specs.Closing.{the_use};
 ghost use Rattle.xdg_names.specs.Walks.{AreMarks, Climbs, Walks, WalksAt, GoesOn, Enters, Looks, Merges, Closes, turns};

@@ -5,10 +5,10 @@ use Rattle.std.specs.Int.{bit_at}
 use Prim.Native.Nat.{max}
 use Rattle.std.proofs.lemmas.Bool.{cases_lt, lt-ltb, le-ltb}
 use Rattle.std.proofs.lemmas.Nat.Bits.{bit_at_or, bit_at_cat_low, bit_at_cat_high, bit_at_above, bit_at-zero}
-use Rattle.xdg_nodeset.specs.Nodes.{has}
-use Rattle.xdg_nodeset.specs.Bits.{is_set, members}
 use Rattle.xdg_nodeset.specs.Words.{in_words}
-use Rattle.xdg_nodeset.proofs.Rising.{has_of, has_beyond}
+use Rattle.xdg_facts.specs.Rises.{has}
+use Rattle.xdg_facts.specs.BitSets.{is_set, members}
+use Rattle.xdg_facts.proofs.Rising.{has_of, has_beyond}
 
 no_wrap : (high : ℕ) → high < 2 ^ 64 → high * 2 ^ 64 % 2 ^ 128 ≡ high * 2 ^ 64 + 0
 no_wrap high small = omega arith

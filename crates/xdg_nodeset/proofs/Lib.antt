@@ -1,4 +1,3 @@
-pub mod Rising
 pub mod Masks
 pub mod Standing
 pub mod Joined

@@ -1,6 +1,6 @@
 -- What an operation on bits does to the members.
 use Rattle.std.proofs.Common.{◌≡◌, ℕ, ◌<◌, ◌≤◌, ◌+◌, ◌-◌, ◌*◌, ◌/◌, ◌%◌, ◌^◌, zero, suc, [], ◌∷◌, ◌++◌, length, refl, ap, ap₂, sym, ◌∙◌, arith, inl, inr, bit_and, bit_or}
-use Rattle.std.specs.Prelude.{Bool, true, not, ◌&&◌, ◌||◌, ◌==◌, filter, nat_lt, nat_eq}
+use Rattle.std.specs.Prelude.{true, not, ◌&&◌, ◌||◌, ◌==◌, filter, nat_lt, nat_eq}
 use Rattle.std.specs.List.{range_with_len}
 use Rattle.std.specs.Int.{bit_at, bit_not, w128, trailing_zeros, leading_zeros}
 use Rattle.std.specs.Int.RustNames.{count_ones}
@@ -11,24 +11,17 @@ use Rattle.std.proofs.lemmas.Bool.Decides.{same_from_decides}
 use Rattle.std.proofs.lemmas.Slice.Eq.{bytes_eq-Decides}
 use Prim.Native.Nat.{min, max}
 use Rattle.std.proofs.lemmas.Nat.{leading_top, one_shl, ones_cat, ones_le_self, zero_from_ones}
-use Rattle.std.proofs.lemmas.Nat.Bits.{bit_at_and, bit_at_or, bit_at_not, bit_at-lt, bit_at-zero, bit_at_set_same, bit_at_set_other, bit_at_clear_same, bit_at_clear_other, bit_at_mask_inside, bit_at_mask_below, bit_at_mask_above, bit_at-trailing_zeros, bit_at_above, shr_and_one}
+use Rattle.std.proofs.lemmas.Nat.Bits.{bit_at_and, bit_at_or, bit_at_not, bit_at-lt, bit_at-zero, bit_at_set_same, bit_at_set_other, bit_at_clear_same, bit_at_clear_other, bit_at_mask_inside, bit_at_mask_below, bit_at_mask_above, bit_at-trailing_zeros, bit_at_above}
 use Rattle.std.proofs.lemmas.Bool.{cases_eq, cases_lt, eq-eqb, ne_eqb, lt-ltb, le-ltb, cond_both, eqb-true}
-use Rattle.xdg_nodeset.specs.Nodes.{has, numbers_below, nodes, IsNodes, with_node, without, union, meet, minus, between}
-use Rattle.xdg_nodeset.specs.Bits.{is_set, members, number, same_number}
-use Rattle.xdg_nodeset.proofs.Rising.{numbers_agree, has_of, none_of, but, first_of, last_of, rises_of, few_of}
-use Rattle.xdg_facts.proofs.Numbers.{below_two}
+use Rattle.xdg_nodeset.specs.Nodes.{nodes, IsNodes, with_node, without, union, meet, minus, between}
 use Rattle.xdg_facts.proofs.Bits.{top_bit}
 use Rattle.xdg_facts.proofs.Bits.{halves}
 use Rattle.xdg_facts.proofs.Numbers.{zero_below_one, unset}
-
-at_bits : (f g : ℕ → ℕ → Bool) → f 0 0 ≡ g 0 0 → f 0 1 ≡ g 0 1 → f 1 0 ≡ g 1 0 → f 1 1 ≡ g 1 1 → (x y : ℕ) → x < 2 → y < 2 → f x y ≡ g x y
-at_bits f g a b c d x y h k = elim (below_two x h) [
-  | inl e ↦ elim (below_two y k) [ inl i ↦ ap₂ f e i ∙ a ∙ sym (ap₂ g e i) | inr i ↦ ap₂ f e i ∙ b ∙ sym (ap₂ g e i) ]
-  | inr e ↦ elim (below_two y k) [ inl i ↦ ap₂ f e i ∙ c ∙ sym (ap₂ g e i) | inr i ↦ ap₂ f e i ∙ d ∙ sym (ap₂ g e i) ]
-]
-
-has_members : (b k : ℕ) → k < 128 → has (members b) k ≡ is_set b k
-has_members b k below = has_of 128 (is_set b) k below
+use Rattle.xdg_facts.specs.Rises.{has, numbers_below}
+use Rattle.xdg_facts.specs.BitSets.{is_set, members, number}
+use Rattle.xdg_facts.proofs.Weights.{same_number}
+use Rattle.xdg_facts.proofs.Rising.{numbers_agree, none_of, but, first_of, last_of, rises_of, few_of}
+use Rattle.xdg_facts.proofs.BitMembers.{at_bits, has_members}
 
 pub members_are_nodes : (b : ℕ) → IsNodes (members b)
 members_are_nodes b = record {
@@ -39,9 +32,6 @@ members_are_nodes b = record {
 
 pub empty_bits : members 0 ≡ []
 empty_bits = none_of 128 (is_set 0) (λ k. ap (λ z. z == 1) (bit_at-zero k))
-
-pub contains_bits : (b n : ℕ) → n < 128 → (bit_and (b / 2 ^ n) 1 == 1) ≡ has (members b) n
-contains_bits b n below = ap (λ z. z == 1) (shr_and_one b n) ∙ sym (has_members b n below)
 
 pub union_bits : (a b : ℕ) → members (bit_or a b) ≡ union (members a) (members b)
 union_bits a b = numbers_agree 128 (is_set (bit_or a b)) (λ n. has (members a) n || has (members b) n) (λ n below.

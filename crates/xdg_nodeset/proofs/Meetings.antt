@@ -5,10 +5,10 @@ use Rattle.std.specs.List.{Any}
 use Rattle.std.proofs.lemmas.Bool.{eq-eqb, false≢true}
 use Rattle.std.proofs.lemmas.List.{take_all}
 use Rattle.std.proofs.lemmas.List.Elements.{All-more}
-use Rattle.xdg_nodeset.specs.Nodes.{has}
 use Rattle.xdg_nodeset.specs.Tables.{Meet}
 use Rattle.xdg_facts.proofs.Lookups.{read_some, read_none}
 use Rattle.xdg_nodeset.proofs.TableSets.{both}
+use Rattle.xdg_facts.specs.Rises.{has}
 
 pub some_met : (a b both_of rest : List ℕ) (node : ℕ) → both_of ≡ node ∷ rest → ((n : ℕ) → has both_of n ≡ (has a n && has b n)) → IsTrue true ↔ Meet a b
 some_met a b both_of rest node e members =
@@ -48,3 +48,6 @@ none_end P labels i none l = (
 
 pub found_here : (P : ℕ → Type 0) (labels : List ℕ) (i label : ℕ) → i < length labels → label ≡ get_or labels i label → P label → IsTrue true ↔ Any P labels
 found_here P labels i label l at p = (λ t. (i, label, l, sym at, p), λ a. refl)
+
+-- whether no set of a list meets another
+pub ruleset none_steps = (none_start, none_more, none_end, found_here)

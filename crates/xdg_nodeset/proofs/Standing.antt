@@ -3,9 +3,10 @@ use Rattle.std.proofs.Common.{◌≡◌, ◌↔◌, ℕ, ◌<◌, ◌≤◌, Lis
 use Rattle.std.specs.Prelude.{Bool, true, false, not, ◌&&◌, ◌||◌, ◌==◌, nat_lt}
 use Prim.Native.Nat.{min, max}
 use Rattle.std.proofs.lemmas.Bool.{cases_eq, cases_lt, eq-eqb, ne_eqb, le-ltb}
-use Rattle.xdg_nodeset.specs.Nodes.{has, nodes, IsNodes, with_node, without, union, meet, minus, between}
-use Rattle.xdg_nodeset.proofs.Rising.{numbers_agree, has_of, has_beyond}
+use Rattle.xdg_nodeset.specs.Nodes.{nodes, IsNodes, with_node, without, union, meet, minus, between}
 use Rattle.xdg_facts.proofs.Truths.{and_false}
+use Rattle.xdg_facts.specs.Rises.{has}
+use Rattle.xdg_facts.proofs.Rising.{numbers_agree, has_of, has_beyond}
 
 -- ---- the call leaves the set as it was exactly where the node stood there, or did not stand there
 

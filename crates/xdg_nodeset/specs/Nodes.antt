@@ -1,25 +1,11 @@
 -- Sets of nodes as what they are: rising lists of numbers below 128.
-use Rattle.std.specs.Prelude.{◌≡◌, ℕ, ◌<◌, ◌≤◌, ◌+◌, Bool, false, not, ◌&&◌, ◌||◌, ◌==◌, List, [], ◌∷◌, length, filter, nat_lt}
-use Rattle.std.specs.List.{range_with_len}
+use Rattle.std.specs.Prelude.{◌≡◌, ℕ, ◌≤◌, Bool, not, ◌&&◌, ◌||◌, ◌==◌, List, length, nat_lt}
 use Prim.Native.Nat.{min, max}
-
--- whether the number stands in the list
-abbrev pub has : List ℕ → ℕ → Bool
-has [] n = false
-has (m ∷ s) n = (m == n) || has s n
-
--- the rising list of the numbers below a bound that pass the test
-unfoldable pub numbers_below : ℕ → (ℕ → Bool) → List ℕ
-numbers_below bound test = filter test (range_with_len 0 bound)
+use Rattle.xdg_facts.specs.Rises.{has, numbers_below, Rises}
 
 -- the rising list of the nodes that pass the test: a node is a number below 128
 abbrev pub nodes : (ℕ → Bool) → List ℕ
 nodes test = numbers_below 128 test
-
--- the list rises strictly, from low on and below the bound
-abbrev pub Rises : ℕ → ℕ → List ℕ → Type 0
-Rises low bound [] = Unit {0}
-Rises low bound (n ∷ s) = (low ≤ n) × (n < bound) × Rises (n + 1) bound s
 
 -- the list is a set of nodes: it rises, it is the list of the nodes that stand in it, and so it has at most 128 items
 pub record IsNodes (s : List ℕ) : Type 0 where

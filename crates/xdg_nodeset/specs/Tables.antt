@@ -1,6 +1,6 @@
 -- Tables of sets of nodes.
 use Rattle.std.specs.Prelude.{◌≡◌, ℕ, ◌<◌, true, List, [], ◌∷◌, slice_index_or}
-use Rattle.xdg_nodeset.specs.Nodes.{has}
+use Rattle.xdg_facts.specs.Rises.{has}
 
 -- a node stands in the set that a table has for a node
 abbrev pub In : List (List ℕ) → ℕ → ℕ → Type 0

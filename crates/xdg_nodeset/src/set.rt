@@ -2,7 +2,8 @@
 
 ghost use Rattle.std.specs.Prelude.{◌≡◌, ℕ, ◌<◌, ◌++◌, [], ◌∷◌, ◌==◌, ◌&&◌, ◌||◌, length, not, false, ◌↔◌, MatchOption, nat_lt};
 ghost use Prim.Native.Nat.{min, max};
-ghost use Rattle.xdg_nodeset.specs.Nodes.{has, IsNodes, with_node, without, union, meet, minus, between};
+ghost use Rattle.xdg_nodeset.specs.Nodes.{IsNodes, with_node, without, union, meet, minus, between};
+ghost use Rattle.xdg_facts.specs.Rises.{has};
 ghost use Rattle.xdg_nodeset.specs.Words.{in_words};
 
 use crate::walk::NodeIter;
@@ -19,7 +20,8 @@ pub struct NodeSet {
 
 impl Model for NodeSet {
     ghost use Rattle.std.specs.Prelude.{ℕ, List, ◌<◌, ◌^◌};
-    ghost use Rattle.xdg_nodeset.specs.Bits.{members, number, same_bits};
+    ghost use Rattle.xdg_nodeset.specs.Bits.{same_bits};
+    ghost use Rattle.xdg_facts.specs.BitSets.{members, number};
 
     ghost Value = { List ℕ };
 

@@ -1,34 +1,35 @@
 -- How many different elements stand in a list is one number, whichever list keeps them.
 use Rattle.std.proofs.Common.{◌≡◌, ℕ, suc, ◌≤◌, List, [], ◌∷◌, ◌⊎◌, length, refl, sym, inl, inr, subst, ◌∙◌, arith}
-use Rattle.xdg_packed.specs.Lexicon.{Record, Stands, Differ, CountsDifferent, CountsRows}
+use Rattle.xdg_packed.specs.Lexicon.{Record, CountsDifferent, CountsRows}
+use Rattle.xdg_facts.specs.Membership.{Differ, In}
 
 module _ {A : Type 0} where
   -- the list without one of its elements, and what still stands there
-  removed : (ys : List A) (x : A) → Stands ys x → (zs : List A) × (length ys ≡ suc (length zs)) × ((z : A) → Stands ys z → (x ≡ z) ⊎ Stands zs z)
+  removed : (ys : List A) (x : A) → In ys x → (zs : List A) × (length ys ≡ suc (length zs)) × ((z : A) → In ys z → (x ≡ z) ⊎ In zs z)
   removed [] x h = absurd h
   removed (y ∷ ys) x (inl e) = (ys, refl, by)
     where
-      by : (z : A) → Stands (y ∷ ys) z → (x ≡ z) ⊎ Stands ys z
+      by : (z : A) → In (y ∷ ys) z → (x ≡ z) ⊎ In ys z
       by z (inl f) = inl (sym e ∙ f)
       by z (inr k) = inr k
   removed (y ∷ ys) x (inr h) = more (removed ys x h)
     where
-      still : (zs : List A) (z : A) → (x ≡ z) ⊎ Stands zs z → (x ≡ z) ⊎ Stands (y ∷ zs) z
+      still : (zs : List A) (z : A) → (x ≡ z) ⊎ In zs z → (x ≡ z) ⊎ In (y ∷ zs) z
       still zs z (inl e) = inl e
       still zs z (inr k) = inr (inr k)
 
-      by : (zs : List A) → ((z : A) → Stands ys z → (x ≡ z) ⊎ Stands zs z) → (z : A) → Stands (y ∷ ys) z → (x ≡ z) ⊎ Stands (y ∷ zs) z
+      by : (zs : List A) → ((z : A) → In ys z → (x ≡ z) ⊎ In zs z) → (z : A) → In (y ∷ ys) z → (x ≡ z) ⊎ In (y ∷ zs) z
       by zs rest z (inl f) = inr (inl f)
       by zs rest z (inr k) = still zs z (rest z k)
 
-      more : ((zs : List A) × (length ys ≡ suc (length zs)) × ((z : A) → Stands ys z → (x ≡ z) ⊎ Stands zs z)) → (zs : List A) × (suc (length ys) ≡ suc (length zs)) × ((z : A) → Stands (y ∷ ys) z → (x ≡ z) ⊎ Stands zs z)
+      more : ((zs : List A) × (length ys ≡ suc (length zs)) × ((z : A) → In ys z → (x ≡ z) ⊎ In zs z)) → (zs : List A) × (suc (length ys) ≡ suc (length zs)) × ((z : A) → In (y ∷ ys) z → (x ≡ z) ⊎ In zs z)
       more (zs, size, rest) = (y ∷ zs, omega (arith, size), by zs rest)
 
-  other : (xs : List A) (x z : A) → (Stands xs x → ⊥) → Stands xs z → x ≡ z → ⊥
-  other xs x z absent h e = absent (subst (Stands xs) (sym e) h)
+  other : (xs : List A) (x z : A) → (In xs x → ⊥) → In xs z → x ≡ z → ⊥
+  other xs x z absent h e = absent (subst (In xs) (sym e) h)
 
   -- different elements that all stand in a list are no more than it is long
-  no_more : (xs ys : List A) → Differ xs → ((x : A) → Stands xs x → Stands ys x) → length xs ≤ length ys
+  no_more : (xs ys : List A) → Differ xs → ((x : A) → In xs x → In ys x) → length xs ≤ length ys
   no_more [] ys differ all = omega arith
   no_more (x ∷ xs) ys differ all =
       let r = removed ys x (all x (inl refl)) in
@@ -36,7 +37,7 @@ module _ {A : Type 0} where
       let size = r.1 in
       omega (arith, rest, size)
     where
-      by : (zs : List A) (z : A) → Stands xs z → (x ≡ z) ⊎ Stands zs z → Stands zs z
+      by : (zs : List A) (z : A) → In xs z → (x ≡ z) ⊎ In zs z → In zs z
       by zs z h (inl e) = absurd (other xs x z differ.0 h e)
       by zs z h (inr k) = k
 

@@ -4,10 +4,11 @@ use Rattle.std.proofs.lemmas.Bool.{cases_lt}
 use Rattle.std.proofs.lemmas.List.{length-map, get_or-map}
 use Rattle.std.proofs.Math.ListN.{get_or-append}
 use Rattle.std.proofs.Math.Seq.{get_or-append_seam}
-use Rattle.xdg_packed.specs.Lexicon.{Record, Entry, Lexicon, column, Stands, Differ, IsFirstAlike}
+use Rattle.xdg_packed.specs.Lexicon.{Record, Entry, Lexicon, column, IsFirstAlike}
 use Rattle.xdg_packed.specs.Rows.{shown, AreFirsts, IsTable, IsFirst}
-use Rattle.xdg_packed.proofs.Standing.{stands_at}
+use Rattle.xdg_facts.proofs.In.{in_get}
 use Rattle.xdg_facts.proofs.Lists.{length_more}
+use Rattle.xdg_facts.specs.Membership.{Differ, In}
 
 -- ---- one entry more
 
@@ -58,8 +59,8 @@ firsts_new firsts places place number last next within are =
 same_row : (rows : List Record) → Differ rows → (i j : ℕ) → i < length rows → j < length rows → get_or rows i [] ≡ get_or rows j [] → i ≡ j
 same_row [] differ i j first second e = absurd (omega (arith, first))
 same_row (row ∷ rows) differ zero zero first second e = refl
-same_row (row ∷ rows) differ zero (suc j) first second e = absurd (differ.0 (subst (Stands rows) (sym e) (stands_at rows j [] (omega (arith, second)))))
-same_row (row ∷ rows) differ (suc i) zero first second e = absurd (differ.0 (subst (Stands rows) e (stands_at rows i [] (omega (arith, first)))))
+same_row (row ∷ rows) differ zero (suc j) first second e = absurd (differ.0 (subst (In rows) (sym e) (in_get rows j [] (omega (arith, second)))))
+same_row (row ∷ rows) differ (suc i) zero first second e = absurd (differ.0 (subst (In rows) e (in_get rows i [] (omega (arith, first)))))
 same_row (row ∷ rows) differ (suc i) (suc j) first second e = ap suc (same_row rows differ.1 i j (omega (arith, first)) (omega (arith, second)) e)
 
 in_shown : (rows : List Record) (places : List ℕ) (k : ℕ) → k < length places → get_or (shown rows places) k [] ≡ get_or rows (get_or places k 0) []

@@ -12,10 +12,11 @@ use Rattle.xdg_domain.specs.Defaults.{field_and_defaults, record_of_defaults, Is
 use Rattle.xdg_domain.specs.declared.values.Value.{Value, out-Value}
 use Rattle.xdg_domain.specs.declared.values.Value.TheOpen.{Value-F}
 use Rattle.xdg_domain.specs.declared.values.Value.TheVariants as v
-use Rattle.xdg_domain.proofs.DefaultLaws.{default_is_value, zero_alone}
+use Rattle.xdg_domain.proofs.DefaultLaws.{default_is_value, zero_alone, each_wider, IsRight, IsAt, by_layer, differ}
 use Rattle.xdg_domain.proofs.Made.{none_and}
-use Rattle.xdg_packed.specs.Filled.{cards_in, cards_said, keys_in, keys_said, fields_in, fields_said, or_zero, each_key, as_map, filled_cards, filled, filled_fields, Lacks, SomeLacks, IsSaid, AreValuesOf, AreSaid}
+use Rattle.xdg_packed.specs.Filled.{cards_in, cards_said, keys_in, keys_said, fields_in, fields_said, or_zero, each_key, filled_cards, filled, filled_fields, Lacks, SomeLacks, IsSaid, AreValuesOf, AreSaid}
 use Rattle.xdg_facts.proofs.Options.{some_same}
+use Rattle.xdg_domain.specs.Joined.{of_map}
 
 -- ---- what is said
 
@@ -41,15 +42,7 @@ are_said (field_then name u fs) place m h = (
 
 record_layer : (fs : Fields) (l : Value-F Value) → IsIn (fields fs) l → KeysRise 0 (fields_in l) × AreSaid 0 fs (fields_in l)
 record_layer fs (Value-F.Rec m) h = (h.0, are_said fs 0 m (λ j w e. said_each (IsFieldOf fs) m j w h.1 (ap (said_at m) (omega arith) ∙ e)))
-record_layer fs (Value-F.Const n) h = absurd h
-record_layer fs (Value-F.Tuple n) h = absurd h
-record_layer fs (Value-F.Set ns) h = absurd h
-record_layer fs (Value-F.Card ns) h = absurd h
-record_layer fs (Value-F.Valency m) h = absurd h
-record_layer fs (Value-F.Map m) h = absurd h
-record_layer fs (Value-F.Bool b) h = absurd h
-record_layer fs (Value-F.Int n) h = absurd h
-record_layer fs (Value-F.Str t) h = absurd h
+record_layer fs other h = absurd h
 
 nothing_said : (fs : Fields) (place : ℕ) → AreSaid place fs []
 nothing_said no_field place = tt
@@ -62,15 +55,7 @@ record_said fs (Some x) h = record_layer fs (out-Value x) h
 
 map_layer : (k u : Shape) (l : Value-F Value) → IsIn (mapping k u) l → AreValuesOf u (keys_in l)
 map_layer k u (Value-F.Map m) h = λ key. is_said u (said_at m key) (λ w e. (said_each (λ key v. (key < count k) × IsIn u (out-Value v)) m key w h.1 e).1)
-map_layer k u (Value-F.Rec m) h = absurd h
-map_layer k u (Value-F.Const n) h = absurd h
-map_layer k u (Value-F.Tuple n) h = absurd h
-map_layer k u (Value-F.Set ns) h = absurd h
-map_layer k u (Value-F.Card ns) h = absurd h
-map_layer k u (Value-F.Valency m) h = absurd h
-map_layer k u (Value-F.Bool b) h = absurd h
-map_layer k u (Value-F.Int n) h = absurd h
-map_layer k u (Value-F.Str t) h = absurd h
+map_layer k u other h = absurd h
 
 -- what is said of the keys of a map is right
 pub map_said : (k u : Shape) (said : Option Value) → IsSaid (mapping k u) said → AreValuesOf u (keys_said said)
@@ -87,15 +72,7 @@ cards_or_zero (Some ns) h = h ns refl
 
 valency_layer : (k : Shape) (l : Value-F Value) → IsIn (valency k) l → AreCards (cards_in l)
 valency_layer k (Value-F.Valency m) h = λ key. cards_or_zero (said_at m key) (λ ns e. (said_each (λ key ns. (key < count k) × IsCards ns) m key ns h.1 e).1)
-valency_layer k (Value-F.Map m) h = absurd h
-valency_layer k (Value-F.Rec m) h = absurd h
-valency_layer k (Value-F.Const n) h = absurd h
-valency_layer k (Value-F.Tuple n) h = absurd h
-valency_layer k (Value-F.Set ns) h = absurd h
-valency_layer k (Value-F.Card ns) h = absurd h
-valency_layer k (Value-F.Bool b) h = absurd h
-valency_layer k (Value-F.Int n) h = absurd h
-valency_layer k (Value-F.Str t) h = absurd h
+valency_layer k other h = absurd h
 
 valency_said : (k : Shape) (said : Option Value) → IsSaid (valency k) said → AreCards (cards_said said)
 valency_said k None h = λ key. zero_alone
@@ -154,7 +131,7 @@ mutual
   decided (mapping k u) h said =
       let f : ℕ → Option Value = λ key. filled u (said_at (keys_said said) key) in
       let each = each_some f (λ key. found u (said_at (keys_said said) key) h.1.0 (decided u h.1.1 (said_at (keys_said said) key))) (range_with_len 0 (count k)) in
-      inr (λ p. p, (v.Map each.0, ap as_map each.1))
+      inr (λ p. p, (v.Map each.0, ap of_map each.1))
   decided (fields fs) h said = elim (all_decided fs h.1 0 (fields_said said)) [
     | inl none ↦ inl (ap record_of_defaults none.0, none.1)
     | inr some ↦ inr (some.0, (v.Rec some.1.0, ap record_of_defaults some.1.1))
@@ -169,9 +146,6 @@ mutual
       | inr rest ↦ inr (λ p. elim p [ inl a ↦ some.0 a | inr b ↦ rest.0 b ], ((place, some.1.0) ∷ rest.1.0, ap₂ (field_and_defaults place) some.1.1 rest.1.1))
     ]
   ]
-
-differ : (o : Option Value) (x : Value) → o ≡ None → o ≡ Some x → ⊥
-differ o x e f = cc
 
 -- nothing is filled exactly where a plain part lacks
 pub none_lacks : (s : Shape) → IsType s → (said : Option Value) → (filled s said ≡ None) ↔ Lacks s said
@@ -250,24 +224,11 @@ module _ (f : ℕ → Option Value) (P : Value → Type 0) (holds : (key : ℕ) 
 
 -- a value of the type that says all
 
-abbrev IsRight : Shape → Value → Type 0
-IsRight s x = IsValue s x × IsFilled s x
-
-by_layer : (s : Shape) (x y : Value) (l : Value-F Value) → Some y ≡ Some x → out-Value y ≡ l → IsIn s l × IsFilledIn s l → IsRight s x
-by_layer s x y l e o given = subst (IsRight s) (some_same y x e) (subst (λ m. IsIn s m × IsFilledIn s m) (sym o) given)
-
 fields_rise : (fs : Fields) (place : ℕ) (m all : List (ℕ × Value)) → filled_fields place fs m ≡ Some all → KeysRise place all
 fields_rise no_field place m all e = subst (KeysRise place) (some_same [] all e) tt
 fields_rise (field_then name u fs) place m all e =
     let t = taken place (filled u (said_at m place)) (filled_fields (place + 1) fs m) all e in
     subst (KeysRise place) t.whole (omega arith, fields_rise fs (place + 1) m t.rest t.more)
-
-abbrev IsAt : Fields → ℕ → ℕ → Value → Type 0
-IsAt fs place k w = (j : ℕ) × ((k ≡ place + j) × IsFieldOf fs j w)
-
-each_wider : (P Q : ℕ → Value → Type 0) → ((k : ℕ) (w : Value) → P k w → Q k w) → (s : List (ℕ × Value)) → EachSaid P s → EachSaid Q s
-each_wider P Q wider [] h = tt
-each_wider P Q wider (entry ∷ s) h = (wider entry.0 entry.1 h.0, each_wider P Q wider s h.1)
 
 mutual
   right : (s : Shape) → IsType s → (said : Option Value) → IsSaid s said → (x : Value) → filled s said ≡ Some x → IsRight s x
@@ -301,7 +262,7 @@ mutual
       let each = each_some f (λ key. found u (said_at m key) h.1.0 (decided u h.1.1 (said_at m key))) (range_with_len 0 (count k)) in
       let all = each.0 in
       let holds : (key : ℕ) (y : Value) → f key ≡ Some y → IsRight u y = λ key y is. right u h.1.1 (said_at m key) (map_said k u said given key) y is in
-      by_layer (mapping k u) x (v.Map all) (Value-F.Map all) (sym (ap as_map each.1) ∙ e) (v.outs-Map all) (
+      by_layer (mapping k u) x (v.Map all) (Value-F.Map all) (sym (ap of_map each.1) ∙ e) (v.outs-Map all) (
         (
           each_rises f (IsRight u) holds 0 (count k) all each.1,
           each_wider (λ key y. (key < count k) × IsRight u y) (λ key y. (key < count k) × IsIn u (out-Value y)) (λ key y r. (r.0, r.1.0)) all (each_holds f (IsRight u) holds (count k) 0 (count k) all (omega arith) each.1),

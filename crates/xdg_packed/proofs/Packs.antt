@@ -7,13 +7,15 @@ use Rattle.std.proofs.Math.ListN.{get_or-append}
 use Rattle.std.proofs.Math.Seq.{get_or-append_seam, take-suc}
 use Rattle.xdg_names.specs.Texts.{has_text, place_of, AllDiffer}
 use Rattle.xdg_names.proofs.Texts.{place_of-Some, place_of-None, AllDiffer-append}
-use Rattle.xdg_packed.specs.Lexicon.{Record, Entry, column, Stands}
+use Rattle.xdg_packed.specs.Lexicon.{Record, Entry, column}
 use Rattle.xdg_packed.specs.Rows.{shown, IsTable, AreFirsts, AddsFirst, AreSpelled, IsKnownRow, IsNewRow}
 use Rattle.xdg_packed.specs.Spelling.{spelling_of_fields}
 use Rattle.xdg_packed.proofs.Firsts.{firsts_known, firsts_new}
 use Rattle.xdg_packed.proofs.Prefixes.{fields_told}
-use Rattle.xdg_packed.proofs.Standing.{stands_left, stands_right, stands_last, stands_at, rows_differ}
+use Rattle.xdg_facts.proofs.In.{in_left, in_right, in_get}
+use Rattle.xdg_packed.proofs.Standing.{stands_last, rows_differ}
 use Rattle.xdg_facts.proofs.Lists.{any_default}
+use Rattle.xdg_facts.specs.Membership.{In}
 
 -- ---- one record
 
@@ -61,7 +63,7 @@ pub record Packs (done rows : List Record) (spellings : List (List ℕ)) (firsts
   pub spelled : AreSpelled rows spellings
   pub within : All (λ place. place < length rows) places
   pub shows : shown rows places ≡ done
-  pub used : (x : Record) → Stands rows x → Stands done x
+  pub used : (x : Record) → In rows x → In done x
   pub few : length rows ≤ length done
   pub as_many : length firsts ≡ length rows
   pub firsts_are : AreFirsts firsts places
@@ -80,7 +82,7 @@ packs_known done rows spellings firsts places fields place packs inside stands =
   spelled = packs.spelled;
   within = All-push (λ k. k < length rows) places place packs.within inside;
   shows = map-append (λ k. get_or rows k []) places (place ∷ []) ∙ ap₂ (λ xs x. xs ++ x ∷ []) packs.shows stands;
-  used = λ x h. stands_left done (fields ∷ []) x (packs.used x h);
+  used = λ x h. in_left done (fields ∷ []) x (packs.used x h);
   few = let size = longer Record done fields in let few = packs.few in omega (arith, size, few);
   as_many = packs.as_many;
   firsts_are = firsts_known firsts places place (subst (λ n. place < n) (sym packs.as_many) inside) packs.firsts_are;
@@ -104,9 +106,9 @@ packs_new done rows spellings firsts places fields place number packs fresh last
   firsts_are = firsts_new firsts places place number (last ∙ sym packs.as_many) next (subst (λ n. All (λ k. k < n) places) (sym packs.as_many) packs.within) packs.firsts_are;
 }
   where
-    by : (x : Record) → Stands rows x ⊎ (fields ≡ x) → Stands (done ++ fields ∷ []) x
-    by x (inl h) = stands_left done (fields ∷ []) x (packs.used x h)
-    by x (inr e) = stands_right done (fields ∷ []) x (inl e)
+    by : (x : Record) → In rows x ⊎ (fields ≡ x) → In (done ++ fields ∷ []) x
+    by x (inl h) = in_left done (fields ∷ []) x (packs.used x h)
+    by x (inr e) = in_right done (fields ∷ []) x (inl e)
 
 packs_more : (done rows more : List Record) (spellings more_spellings : List (List ℕ)) (firsts more_firsts places : List ℕ) (fields : Record) (place number : ℕ) → Packs done rows spellings firsts places
     → IsKnownRow rows spellings more more_spellings fields place ⊎ IsNewRow rows spellings more more_spellings fields place → AddsFirst firsts more_firsts place number → number ≡ length places
@@ -145,9 +147,9 @@ packs_next dim entries i entry held rows more spellings more_spellings firsts mo
 
 -- ---- the whole
 
-shown_stands : (rows : List Record) (places : List ℕ) → All (λ place. place < length rows) places → (x : Record) → Stands (shown rows places) x → Stands rows x
+shown_stands : (rows : List Record) (places : List ℕ) → All (λ place. place < length rows) places → (x : Record) → In (shown rows places) x → In rows x
 shown_stands rows [] within x h = absurd h
-shown_stands rows (place ∷ places) within x (inl e) = subst (Stands rows) e (stands_at rows place [] (All-head (λ k. k < length rows) place places within))
+shown_stands rows (place ∷ places) within x (inl e) = subst (In rows) e (in_get rows place [] (All-head (λ k. k < length rows) place places within))
 shown_stands rows (place ∷ places) within x (inr h) = shown_stands rows places (All-tail (λ k. k < length rows) place places within) x h
 
 pub packs_table : (done rows : List Record) (spellings : List (List ℕ)) (firsts places : List ℕ) → Packs done rows spellings firsts places → IsTable rows firsts places
@@ -156,7 +158,7 @@ packs_table done rows spellings firsts places packs = record {
   kept = record {
     once = rows_differ rows (subst AllDiffer (sym packs.spelled.spelled) packs.spelled.differ);
     each = shown_stands rows places packs.within;
-    only = λ x h. subst (λ xs. Stands xs x) (sym packs.shows) (packs.used x h);
+    only = λ x h. subst (λ xs. In xs x) (sym packs.shows) (packs.used x h);
   };
   as_many = packs.as_many;
   firsts_are = packs.firsts_are;

@@ -2,11 +2,12 @@
 use Rattle.std.proofs.Common.{◌≡◌, ℕ, Bool, true, false, List, [], ◌∷◌, ◌++◌, length, map, refl, sym, ap, ap₂, subst, ◌∙◌, arith}
 use Rattle.std.proofs.lemmas.List.{append_assoc}
 use Rattle.std.specs.Prelude.{codes}
-use Rattle.xdg_domain.specs.declared.values.Value.{Value, out-Value, roll-Value, roll-out-Value, out-roll-Value, map-Value, fold_out-Value}
+use Rattle.xdg_domain.specs.declared.values.Value.{Value, out-Value, roll-Value, out-roll-Value, map-Value, fold_out-Value}
 use Rattle.xdg_domain.specs.declared.values.Value.TheOpen.{Value-F}
 use Rattle.xdg_domain.specs.declared.values.Value.TheFolds.{ind-Value}
 use Rattle.xdg_packed.specs.Spelling.{number, each, numbers, keyed, text, layer, truth, spelling, spelling_of_fields, spelling_of_entry}
 use Rattle.xdg_packed.proofs.Digits.{heads, tails, apart, number_told}
+use Rattle.xdg_domain.proofs.JoinLaws.{same_out}
 
 -- what stands at the front of a text with this spelling is this element, and the rest is told
 abbrev Told : {A : Type 0} → (A → List ℕ) → A → Type 0
@@ -165,14 +166,11 @@ layer_told (Value-F.Rec entries) (Value-F.Rec others) r s e =
     (ap Value-F.Rec rest.0, rest.1)
 layer_told (Value-F.Rec entries) l r s e = absurd (apart _ _ _ _ refl e)
 
-same_value : (x y : Value) → out-Value x ≡ out-Value y → x ≡ y
-same_value x y e = sym (roll-out-Value x) ∙ ap roll-Value e ∙ roll-out-Value y
-
 rolled_told : (z : Value-F Known) → Told spelling (roll-Value (forget z))
 rolled_told z y r s e =
     let own : spelling (roll-Value (forget z)) ≡ inner (forget z) = spelling_is (roll-Value (forget z)) ∙ ap inner (out-roll-Value (forget z)) in
     let parts = layer_told z (out-Value y) r s (sym (ap (λ l. l ++ r) own) ∙ e ∙ ap (λ l. l ++ s) (spelling_is y)) in
-    (same_value (roll-Value (forget z)) y (out-roll-Value (forget z) ∙ parts.0), parts.1)
+    (same_out (roll-Value (forget z)) y (out-roll-Value (forget z) ∙ parts.0), parts.1)
 
 -- each value is told by its spelling
 pub value_told : (v : Value) → Told spelling v

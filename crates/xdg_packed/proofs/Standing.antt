@@ -1,39 +1,26 @@
 -- Elements that stand in lists, and different records.
-use Rattle.std.proofs.Common.{◌≡◌, ℕ, zero, suc, ◌<◌, true, ◌||◌, List, [], ◌∷◌, ◌++◌, ◌⊎◌, length, get_or, map, refl, sym, ap, inl, inr, ◌∙◌, arith, true≢false}
+use Rattle.std.proofs.Common.{◌≡◌, true, ◌||◌, List, [], ◌∷◌, ◌++◌, ◌⊎◌, map, sym, ap, inl, inr, ◌∙◌, true≢false}
 use Rattle.std.proofs.lemmas.Slice.Eq.{bytes_eq-Decides}
 use Rattle.std.specs.Prelude.{bytes_eq}
 use Rattle.xdg_names.specs.Texts.{has_text, AllDiffer}
-use Rattle.xdg_packed.specs.Lexicon.{Record, Stands, Differ}
+use Rattle.xdg_packed.specs.Lexicon.{Record}
 use Rattle.xdg_packed.specs.Spelling.{spelling_of_fields}
 use Rattle.xdg_facts.proofs.Truths.{either_true}
+use Rattle.xdg_facts.specs.Membership.{Differ, In}
 
 module _ {A : Type 0} where
-  pub stands_left : (xs ys : List A) (x : A) → Stands xs x → Stands (xs ++ ys) x
-  stands_left [] ys x h = absurd h
-  stands_left (first ∷ xs) ys x (inl e) = inl e
-  stands_left (first ∷ xs) ys x (inr h) = inr (stands_left xs ys x h)
-
-  pub stands_right : (xs ys : List A) (x : A) → Stands ys x → Stands (xs ++ ys) x
-  stands_right [] ys x h = h
-  stands_right (first ∷ xs) ys x h = inr (stands_right xs ys x h)
-
-  pub stands_last : (xs : List A) (y x : A) → Stands (xs ++ y ∷ []) x → Stands xs x ⊎ (y ≡ x)
+  pub stands_last : (xs : List A) (y x : A) → In (xs ++ y ∷ []) x → In xs x ⊎ (y ≡ x)
   stands_last [] y x (inl e) = inr e
   stands_last [] y x (inr h) = absurd h
   stands_last (first ∷ xs) y x (inl e) = inl (inl e)
   stands_last (first ∷ xs) y x (inr h) = by (stands_last xs y x h)
     where
-      by : Stands xs x ⊎ (y ≡ x) → Stands (first ∷ xs) x ⊎ (y ≡ x)
+      by : In xs x ⊎ (y ≡ x) → In (first ∷ xs) x ⊎ (y ≡ x)
       by (inl k) = inl (inr k)
       by (inr e) = inr e
 
-  pub stands_at : (xs : List A) (i : ℕ) (d : A) → i < length xs → Stands xs (get_or xs i d)
-  stands_at [] i d within = absurd (omega (arith, within))
-  stands_at (first ∷ xs) zero d within = inl refl
-  stands_at (first ∷ xs) (suc i) d within = inr (stands_at xs i d (omega (arith, within)))
-
 -- a record that stands among others is found by its spelling
-stands_spelled : (rows : List Record) (fields : Record) → Stands rows fields → has_text (map spelling_of_fields rows) (spelling_of_fields fields) ≡ true
+stands_spelled : (rows : List Record) (fields : Record) → In rows fields → has_text (map spelling_of_fields rows) (spelling_of_fields fields) ≡ true
 stands_spelled [] fields h = absurd h
 stands_spelled (first ∷ rows) fields (inl e) = ap (λ b. b || has_text (map spelling_of_fields rows) (spelling_of_fields fields)) ((bytes_eq-Decides (spelling_of_fields first) (spelling_of_fields fields)).1 (ap spelling_of_fields e))
 stands_spelled (first ∷ rows) fields (inr h) = either_true (bytes_eq (spelling_of_fields first) (spelling_of_fields fields)) (has_text (map spelling_of_fields rows) (spelling_of_fields fields)) (stands_spelled rows fields h)

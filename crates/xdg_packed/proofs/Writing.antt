@@ -3,10 +3,11 @@ use Rattle.std.proofs.Common.{◌≡◌, ℕ, zero, suc, ◌+◌, ◌-◌, ◌/�
 use Rattle.std.proofs.lemmas.List.{append_assoc}
 use Rattle.std.specs.Prelude.{codes}
 use Rattle.std.specs.List.{range_with_len}
-use Rattle.xdg_domain.specs.Cards.{has, IsCards, numbers_below}
+use Rattle.xdg_domain.specs.Cards.{IsCards}
 use Rattle.xdg_facts.proofs.Truths.{agree_in, none_in}
 use Rattle.xdg_packed.specs.Spelling.{digits, number, numbers, each}
 use Rattle.xdg_packed.proofs.Digits.{digits_next}
+use Rattle.xdg_facts.specs.Rises.{has, numbers_below}
 
 -- ---- numbers
 
@@ -60,7 +61,7 @@ range_next bound n within =
     let size : bound - n ≡ suc (bound - (n + 1)) = omega (arith, within) in
     ap (range_with_len n) size
 
-from_next : (bound : ℕ) (s : List ℕ) (n : ℕ) → n < bound → cards_from bound s n ≡ cond (has s n) (n ∷ cards_from bound s (n + 1)) (cards_from bound s (n + 1))
+pub from_next : (bound : ℕ) (s : List ℕ) (n : ℕ) → n < bound → cards_from bound s n ≡ cond (has s n) (n ∷ cards_from bound s (n + 1)) (cards_from bound s (n + 1))
 unfolding cards_from
 from_next bound s n within = ap (filter (has s)) (range_next bound n within)
 
@@ -94,7 +95,7 @@ none_from bound last n s over greatest =
     agree_in (has s) (λ _. false) n (bound - n) (λ k above _. never_true (has s k) (λ is. let early = greatest k is in omega (arith, above, over, early)))
     ∙ none_in (λ _. false) n (bound - n) (λ _. refl)
 
-all_from : (s : List ℕ) → IsCards s → s ≡ cards_from 128 s 0
+pub all_from : (s : List ℕ) → IsCards s → s ≡ cards_from 128 s 0
 unfolding cards_from numbers_below
 all_from s is = is.whole
 

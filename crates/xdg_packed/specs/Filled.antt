@@ -8,6 +8,7 @@ use Rattle.xdg_domain.specs.Defaults.{default, field_and_defaults, record_of_def
 use Rattle.xdg_domain.specs.declared.values.Value.{Value, out-Value}
 use Rattle.xdg_domain.specs.declared.values.Value.TheOpen.{Value-F}
 use Rattle.xdg_domain.specs.declared.values.Value.TheVariants as v
+use Rattle.xdg_domain.specs.Joined.{of_map}
 
 -- ---- what is said of keys and fields
 
@@ -47,10 +48,6 @@ abbrev pub each_key : (ℕ → Option Value) → List ℕ → Option (List (ℕ 
 each_key f [] = Some []
 each_key f (key ∷ keys) = field_and_defaults key (f key) (each_key f keys)
 
-abbrev pub as_map : Option (List (ℕ × Value)) → Option Value
-as_map None = None
-as_map (Some all) = Some (v.Map all)
-
 -- for each key below the bound what is said of it, or the number 0 alone
 abbrev pub filled_cards : ℕ → List (ℕ × List ℕ) → List (ℕ × List ℕ)
 filled_cards bound m = map (λ key. (key, or_zero (said_at m key))) (range_with_len 0 bound)
@@ -66,7 +63,7 @@ or_default s (Some x) = Some x
 abbrev mutual
   pub filled : Shape → Option Value → Option Value
   filled (valency k) said = Some (v.Valency (filled_cards (count k) (cards_said said)))
-  filled (mapping k u) said = as_map (each_key (λ key. filled u (said_at (keys_said said) key)) (range_with_len 0 (count k)))
+  filled (mapping k u) said = of_map (each_key (λ key. filled u (said_at (keys_said said) key)) (range_with_len 0 (count k)))
   filled (fields fs) said = record_of_defaults (filled_fields 0 fs (fields_said said))
   filled s said = or_default s said
 

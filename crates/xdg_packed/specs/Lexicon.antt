@@ -1,11 +1,12 @@
 -- Lexicons: the entries in order, each with a record for each used dimension, the words of the entries, and how many different
 -- records there are.
-use Rattle.std.specs.Prelude.{◌≡◌, ℕ, ◌+◌, ◌<◌, ◌≤◌, List, [], ◌∷◌, length, get_or, map, filter, Option, None, Some, All, bytes_eq, ◌⊎◌}
+use Rattle.std.specs.Prelude.{◌≡◌, ℕ, ◌+◌, ◌<◌, ◌≤◌, List, [], ◌∷◌, length, get_or, map, filter, Option, None, Some, All, bytes_eq}
 use Rattle.std.specs.List.{range_with_len}
 use Rattle.xdg_base.specs.declared.ids.EntryNo.{EntryNo}
 use Rattle.xdg_domain.specs.Valencies.{said_at}
 use Rattle.xdg_domain.specs.declared.values.Value.{Value, out-Value}
 use Rattle.xdg_domain.specs.declared.values.Value.TheOpen.{Value-F}
+use Rattle.xdg_facts.specs.Membership.{Differ, In}
 
 -- what is said of one dimension: the fields that are said, each with the place of its field
 abbrev pub Record : Type 0
@@ -96,22 +97,12 @@ pub record IsFirstAlike (lexicon : Lexicon) (dim number first : ℕ) : Type 0 wh
   pub least : (other : ℕ) → other < length lexicon.entries → get_or (get_or lexicon.entries other []) dim [] ≡ get_or (get_or lexicon.entries number []) dim []
       → first ≤ other
 
--- the element stands in the list
-abbrev pub Stands : {A : Type 0} → List A → A → Type 0
-Stands [] x = ⊥
-Stands (first ∷ xs) x = (first ≡ x) ⊎ Stands xs x
-
--- no element stands twice
-abbrev pub Differ : {A : Type 0} → List A → Type 0
-Differ [] = Unit {0}
-Differ (first ∷ xs) = (Stands xs first → ⊥) × Differ xs
-
 -- The second list keeps each of the different elements of the first once: none stands twice, and the same elements stand in
 -- both.
 pub record KeepsEachOnce {A : Type 0} (all kept : List A) : Type 0 where
   pub once : Differ kept
-  pub each : (x : A) → Stands all x → Stands kept x
-  pub only : (x : A) → Stands kept x → Stands all x
+  pub each : (x : A) → In all x → In kept x
+  pub only : (x : A) → In kept x → In all x
 
 -- so many different elements stand in the list
 abbrev pub CountsDifferent : {A : Type 0} → List A → ℕ → Type 0

@@ -9,6 +9,7 @@ ghost use Rattle.xdg_domain.specs.Valencies.{said_at, KeysRise};
 ghost use Rattle.xdg_domain.specs.Values.{IsValue};
 ghost use Rattle.xdg_domain.specs.Defaults.{IsFilled, record_of_defaults, weight, most_parts};
 ghost use Rattle.xdg_packed.specs.Filled as spec;
+ghost use Rattle.xdg_domain.specs.Joined.{of_map};
 ghost use Rattle.xdg_packed.specs.Filled.{Lacks, IsSaid, AreValuesOf, AreSaid};
 
 use std::alloc::{AllocError, Global};
@@ -126,7 +127,7 @@ fn filled_map(
     requires said { AreValuesOf (shape of.now) (spec.keys_said (option_copied said)) }
     ensures { IfOk result
         (λ told. told
-        ≡ spec.as_map (spec.each_key (λ key. spec.filled (shape of.now) (said_at (spec.keys_said (option_copied said.entry)) key)) (range_with_len 0 keys))) }
+        ≡ of_map (spec.each_key (λ key. spec.filled (shape of.now) (said_at (spec.keys_said (option_copied said.entry)) key)) (range_with_len 0 keys))) }
 {
     let entries = keys_said(said);
     let mut all = List::new(alloc);

@@ -1,21 +1,16 @@
 -- Places and nodes, one after another.
-use Rattle.std.proofs.Common.{◌≡◌, ◌≢◌, ℕ, ◌<◌, ◌≤◌, ◌+◌, inl, inr, Bool, true, false, List, [], sym, ◌∙◌, arith, subst}
-use Rattle.std.specs.Prelude.{slice_index_or}
+use Rattle.std.proofs.Common.{◌≡◌, ℕ, ◌<◌, ◌≤◌, ◌+◌, inl, inr, Bool, true, false, List, [], sym, ◌∙◌, arith, subst}
 use Rattle.std.proofs.lemmas.Bool.{cases_Bool, cases_lt}
-use Rattle.std.proofs.lemmas.List.{get_or_default}
-use Rattle.xdg_nodeset.specs.Nodes.{has}
 use Rattle.xdg_problem.specs.declared.analysis.Edge.{Edge}
 use Rattle.xdg_problem.specs.declared.parts.Group.{Group}
 use Rattle.xdg_problem.specs.declared.parts.Parts.{Parts}
 use Rattle.xdg_problem.specs.declared.parts.Principle.{Principle}
 use Rattle.xdg_problem.specs.declared.parts.Principle.TheVariants as principles
-use Rattle.xdg_problem.specs.Analyses.{IsPlace}
-use Rattle.xdg_problem.specs.Arguments.{first_dim, no_plan}
+use Rattle.xdg_problem.specs.Arguments.{first_dim}
 use Rattle.xdg_problem.specs.Boxes.{Has, LiesIn, May, edge_decision}
 use Rattle.xdg_problem.specs.Places.{edge, nodes}
 use Rattle.xdg_problem.proofs.PlaceOrder.{is_place}
 use Rattle.xdg_rules.proofs.Shrinking.{must_is}
-use Rattle.xdg_store.specs.InRange.{HasEdges}
 use Rattle.xdg_store.specs.States.{State}
 use Rattle.xdg_graph.specs.Edges.{edge_labels}
 use Rattle.xdg_graph.proofs.Labelled.{label_below}
@@ -25,21 +20,9 @@ use Rattle.xdg_pagree.specs.Family.{IsOfPlaces}
 use Rattle.xdg_pagree.specs.Places.{PlaceAsks, PlaceLacks, IsDoneAt, IsLabelDone, AreLabelsDone, AreMothersDone, IsNodeDone, AreNodesDone}
 use Rattle.xdg_pagree.specs.Untouched.{AreOthersDoneAt}
 use Rattle.xdg_pagree.proofs.Looping.{AreDone}
+use Rattle.xdg_facts.specs.Rises.{has}
 
 -- ---- daughters
-
--- the edge to another node of the sentence is a place
-pub place_edge : (parts : Parts) (dim u l v : ℕ) → HasEdges parts dim u l → v < nodes parts → u ≢ v → IsPlace parts (edge dim u l v)
-place_edge parts dim u l v edges within differ = record {
-  plan = slice_index_or parts.dims dim no_plan;
-  dim = edges.dim_in;
-  is_plan = sym (get_or_default parts.dims dim no_plan (slice_index_or parts.dims dim no_plan) edges.dim_in);
-  graph = edges.graph;
-  label = edges.label_in;
-  mother = edges.node_in;
-  daughter = within;
-  differ = differ;
-}
 
 -- what is taken at a place leaves it, as long as it may be present
 pub lacks_present : (p : Principle) (parts : Parts) (group : Group) (box : List (List Bool)) (e : Edge) (d v : ℕ) → PlaceLacks p parts group box e d v → Has box d v → May parts box e

@@ -1,8 +1,7 @@
 -- The nodes at which something may be left to take, gathered.
-use Rattle.std.proofs.Common.{◌≡◌, ◌≢◌, ℕ, ◌<◌, ◌+◌, ◌⊎◌, ◌↔◌, ◌&&◌, ◌||◌, IsTrue, inl, inr, Bool, true, List, [], ◌∷◌, sym, ◌∙◌, arith, subst}
-use Rattle.std.specs.Prelude.{◌==◌, slice_index_or}
-use Rattle.std.proofs.lemmas.Bool.{cases_eq, eq-eqb, eqb-true, false≢true}
-use Rattle.xdg_nodeset.specs.Nodes.{has}
+use Rattle.std.proofs.Common.{◌≡◌, ◌≢◌, ℕ, ◌<◌, ◌⊎◌, ◌↔◌, ◌&&◌, ◌||◌, IsTrue, inl, inr, Bool, true, List, [], ◌∷◌, sym, ◌∙◌, subst}
+use Rattle.std.specs.Prelude.{slice_index_or}
+use Rattle.std.proofs.lemmas.Bool.{cases_eq, false≢true}
 use Rattle.xdg_nodeset.proofs.TableSets.{both, either}
 use Rattle.xdg_problem.specs.declared.analysis.Edge.{Edge}
 use Rattle.xdg_problem.specs.declared.parts.Parts.{Parts}
@@ -11,25 +10,10 @@ use Rattle.xdg_problem.specs.Places.{edge, nodes}
 use Rattle.xdg_problem.proofs.PlaceOrder.{is_place}
 use Rattle.xdg_rules.specs.Rules.{IsPlaceOn}
 use Rattle.xdg_propcore.specs.declared.touched.Touched.{Touched}
-use Rattle.xdg_pagree.specs.Untouched.{AreMothersOf, HasMothers, HasOwn, IsEvery}
+use Rattle.xdg_graph.specs.Every.{IsEvery}
+use Rattle.xdg_pagree.specs.Untouched.{AreMothersOf, HasMothers, HasOwn}
 use Rattle.xdg_pagree.proofs.Looping.{not_left}
-
--- ---- the nodes of the sentence
-
-pub every_none : (all : List ℕ) → all ≡ [] → IsEvery 0 all
-every_none all none v = (λ h. absurd (false≢true (subst (λ s. has s v ≡ true) none h)), λ l. absurd (omega (arith, l)))
-
-pub every_more : (k : ℕ) (old new : List ℕ) → IsEvery k old → ((v : ℕ) → has new v ≡ ((v == k) || has old v)) → IsEvery (k + 1) new
-every_more k old new before is v = (
-  λ h. elim ((either (v == k) (has old v)).0 (sym (is v) ∙ h)) [
-    | inl here ↦ (let e = eqb-true v k here in omega (arith, e))
-    | inr there ↦ (let l = (before v).0 there in omega (arith, l))
-  ],
-  λ l. is v ∙ (either (v == k) (has old v)).1 (elim (cases_eq v k) [
-    | inl here ↦ inl (eq-eqb v k here)
-    | inr other ↦ inr ((before v).1 (omega (arith, l, other)))
-  ]),
-)
+use Rattle.xdg_facts.specs.Rises.{has}
 
 -- ---- those that have lost something themselves
 

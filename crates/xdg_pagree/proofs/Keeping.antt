@@ -8,10 +8,10 @@ use Rattle.xdg_problem.specs.declared.parts.Principle.{Principle}
 use Rattle.xdg_problem.specs.declared.parts.Principle.TheVariants as principles
 use Rattle.xdg_problem.specs.Arguments.{first_dim}
 use Rattle.xdg_problem.specs.Boxes.{Has, entry_decision}
-use Rattle.xdg_problem.specs.Problems.{attr_arguments}
 use Rattle.xdg_rules.specs.Rules.{attr_of_node, must_edges}
 use Rattle.xdg_pagree.specs.Family.{IsOfPlaces}
 use Rattle.xdg_pagree.specs.Places.{PlaceAsks, PlaceLacks}
+use Rattle.xdg_problem.specs.Principles.{attr_arguments}
 
 -- the entries of the mother and the values of both ends stay, and what must be now had to be before
 pub record KeepsPlace (parts : Parts) (group : Group) (old new : List (List Bool)) (e : Edge) : Type 0 where

@@ -2,7 +2,6 @@
 use Rattle.std.proofs.Common.{◌≡◌, ℕ, ◌||◌, inl, inr, Bool, true, List, ◌∷◌, refl, sym, subst}
 use Rattle.std.specs.Prelude.{◌==◌}
 use Rattle.std.proofs.lemmas.Bool.{cases_eq, eq-eqb, ne_eqb}
-use Rattle.xdg_nodeset.specs.Nodes.{has}
 use Rattle.xdg_problem.specs.declared.parts.Group.{Group}
 use Rattle.xdg_problem.specs.declared.parts.Parts.{Parts}
 use Rattle.xdg_store.specs.States.{State, Known}
@@ -10,6 +9,7 @@ use Rattle.xdg_propcore.specs.Passes.{Progress}
 use Rattle.xdg_propcore.specs.Sweeps.{Sweeps}
 use Rattle.xdg_propcore.proofs.Sweeping.{sweeps_next, sweeps_start}
 use Rattle.xdg_facts.proofs.Truths.{or_here, either_true}
+use Rattle.xdg_facts.specs.Rises.{has}
 
 -- ---- the nodes still to come
 

@@ -1,9 +1,8 @@
 -- Nodes and places where nothing was lost: nothing is left to take there, as before.
-use Rattle.std.proofs.Common.{◌≡◌, ◌≢◌, ℕ, ◌<◌, ◌↔◌, ◌&&◌, IsTrue, inl, inr, Bool, true, false, List, [], ◌∷◌, length, refl, sym, ◌∙◌, arith, subst}
-use Rattle.std.specs.Prelude.{Contains, slice_index_or}
+use Rattle.std.proofs.Common.{◌≡◌, ◌≢◌, ℕ, ◌<◌, ◌↔◌, ◌&&◌, IsTrue, inl, inr, Bool, true, List, [], length, refl, sym, ◌∙◌, arith, subst}
+use Rattle.std.specs.Prelude.{Contains}
 use Rattle.std.proofs.lemmas.Bool.{cases_Bool, false≢true}
 use Rattle.std.proofs.lemmas.List.{nil_from_length}
-use Rattle.xdg_nodeset.specs.Nodes.{has}
 use Rattle.xdg_nodeset.proofs.TableSets.{both}
 use Rattle.xdg_problem.specs.declared.analysis.Edge.{Edge}
 use Rattle.xdg_problem.specs.declared.parts.Group.{Group}
@@ -13,14 +12,13 @@ use Rattle.xdg_problem.specs.declared.parts.Principle.TheVariants as principles
 use Rattle.xdg_problem.specs.Arguments.{attr_of, first_dim}
 use Rattle.xdg_problem.specs.Boxes.{Has, IsBox, LiesIn, May, edge_decision, entry_decision}
 use Rattle.xdg_problem.specs.Places.{edge, nodes}
-use Rattle.xdg_problem.specs.Problems.{IsGroup, IsProblem, attr_arguments, dim_arguments}
+use Rattle.xdg_problem.specs.Problems.{IsGroup, IsProblem}
 use Rattle.xdg_problem.specs.Vectors.{shape}
 use Rattle.xdg_problem.proofs.PlaceOrder.{is_place, place_is}
 use Rattle.xdg_rules.specs.Rules.{AgrValues, IsClosedFor, IsPlaceOn, TakesBy, attr_of_node, must_edges}
 use Rattle.xdg_rules.proofs.Shrinking.{must_exact}
 use Rattle.xdg_store.specs.InRange.{HasEdges}
 use Rattle.xdg_store.specs.States.{State, Known}
-use Rattle.xdg_propcore.specs.Losses.{IsLost}
 use Rattle.xdg_propcore.specs.Passes.{IsQuiet, Progress}
 use Rattle.xdg_propcore.specs.Sweeps.{Sweeps}
 use Rattle.xdg_propcore.specs.Touching.{HasAll, HasTouched, InTable}
@@ -30,17 +28,16 @@ use Rattle.xdg_propcore.proofs.Sweeping.{sweeps_start}
 use Rattle.xdg_pagree.specs.Family.{IsOfFamily, IsOfPlaces}
 use Rattle.xdg_pagree.specs.Places.{AreMothersDone, AreNodesDone, IsDoneAt, IsLabelDone, IsNodeDone, PlaceAsks, PlaceLacks}
 use Rattle.xdg_pagree.specs.Untouched.{AreOthersDone, AreOthersDoneAt, AreTouched, HasMothers, HasOwn, IsNodeFree, IsPlaceFree, IsRowFree}
-use Rattle.xdg_pagree.proofs.AtNodes.{daughters_last, lacks_present, place_edge}
+use Rattle.xdg_pagree.proofs.AtNodes.{daughters_last, lacks_present}
 use Rattle.xdg_pagree.proofs.Looping.{AreDone}
 use Rattle.xdg_pagree.proofs.Keeping.{KeepsPlace, asks_before, attr_some, lacks_before}
+use Rattle.xdg_facts.specs.Rises.{has}
+use Rattle.xdg_propcore.proofs.Losing.{kept_or_lost}
+use Rattle.xdg_store.proofs.Daughters.{out_is_place}
+use Rattle.xdg_graph.proofs.Widening.{no_member}
+use Rattle.xdg_problem.specs.Principles.{dim_arguments, attr_arguments}
 
 -- ---- what was closed is done where nothing was lost
-
-kept_or_lost : (old new : List (List Bool)) (d v : ℕ) → (IsLost old new d v → ⊥) → Has old d v → Has new d v
-kept_or_lost old new d v kept h = elim (cases_Bool (slice_index_or (slice_index_or new d []) v false)) [
-  | inl there ↦ there
-  | inr gone ↦ absurd (kept (h, λ there. false≢true (sym gone ∙ there)))
-]
 
 dim_some : (p : Principle) → IsOfFamily p → 0 < dim_arguments p
 dim_some principles.Agr family = omega arith
@@ -124,10 +121,6 @@ others_later t group Done p old q mid others a quiet =
 
 -- ---- the daughters at whose places something was lost
 
-none_in : (set : List ℕ) → length set ≡ 0 → (v : ℕ) → has set v ≡ true → ⊥
-none_in [] empty v there = false≢true there
-none_in (w ∷ set) empty v there = absurd (omega (arith, empty))
-
 -- all that there may be
 pub all_touched : (t : Touched) (parts : Parts) (box : List (List Bool)) (dim mother label : ℕ) (set : List ℕ) → ((v : ℕ) → IsTrue (has set v) ↔ ((v < nodes parts) × (mother ≢ v) × May parts box (edge dim mother label v))) → AreTouched parts box t dim mother label set
 all_touched t parts box dim mother label set exact = record {
@@ -154,7 +147,7 @@ module _ (t : Touched) (parts : Parts) (group : Group) (box : List (List Bool)) 
   pub done_at_others : PlaceAsks group.principle group box mother label → AreOthersDone t parts group box → AreOthersDoneAt parts group dim mother label set box
   done_at_others asks others v within differ out d x remains lacks =
       let e : Edge = edge dim mother label v in
-      let place = place_edge parts dim mother label v edges within differ in
+      let place = out_is_place parts dim mother label v edges within differ in
       let may = lacks_present group.principle parts group box e d x lacks remains in
       others.at_places of e (place_is parts e place, on) asks (touched.others v within differ may out) d x remains lacks
 
@@ -165,7 +158,7 @@ label_skipped t group dim mother label set p s known on edges of touched empty o
   known = known;
   done = λ quiet asks.
       (daughters_last group dim mother label set p s p s on (λ still. done_at_others t s.parts group s.now dim mother label set on edges of touched asks (others still))
-      (sweeps_start group (AreDone (λ v. IsDoneAt s.parts group (edge dim mother label v)) set []) p s known (λ v there out. absurd (none_in set empty v there)))).done quiet;
+      (sweeps_start group (AreDone (λ v. IsDoneAt s.parts group (edge dim mother label v)) set []) p s known (λ v there out. absurd (no_member set empty v there)))).done quiet;
 }
 
 -- ---- behind the nodes at which something may be left

@@ -9,15 +9,15 @@ use Rattle.xdg_problem.specs.declared.parts.Principle.TheVariants as principles
 use Rattle.xdg_problem.specs.Arguments.{first_dim}
 use Rattle.xdg_problem.specs.Boxes.{Has, LiesIn, entry_decision}
 use Rattle.xdg_problem.specs.Places.{nodes, places}
-use Rattle.xdg_problem.specs.Problems.{IsProblem, IsGroup, attr_arguments}
+use Rattle.xdg_problem.specs.Problems.{IsProblem, IsGroup}
 use Rattle.xdg_problem.proofs.PlaceOrder.{is_place}
 use Rattle.xdg_rules.specs.Rules.{TakesBy, IsClosedFor, must_edges, attr_of_node}
 use Rattle.xdg_propcore.specs.Families.{LosesUnseen, StaysClosed}
-use Rattle.xdg_propcore.specs.UseKinds.{looks_at_attrs, looks_at_entries, looks_at_first}
 use Rattle.xdg_propcore.proofs.Unseen.{entry_stays as entry_kept, attr_stays as attr_kept, must_before as must_kept}
 use Rattle.xdg_pagree.specs.Family.{IsOfFamily, IsOfPlaces}
 use Rattle.xdg_pagree.proofs.Closing.{closed_by_rules}
 use Rattle.xdg_pagree.proofs.Keeping.{KeepsPlace, asks_before, attr_some, lacks_before}
+use Rattle.xdg_problem.specs.Principles.{attr_arguments, looks_at_entries, looks_at_attrs, looks_at_first}
 
 looks_entries : (p : Principle) → IsOfFamily p → looks_at_entries p ≡ true
 looks_entries principles.Agr family = refl

@@ -1,6 +1,5 @@
 -- Nodes and places where nothing was lost.
-use Rattle.std.specs.Prelude.{◌≡◌, ◌≢◌, ◌<◌, ◌↔◌, ℕ, true, Bool, List}
-use Rattle.xdg_nodeset.specs.Nodes.{has}
+use Rattle.std.specs.Prelude.{◌≡◌, ◌≢◌, ◌<◌, ℕ, true, Bool, List}
 use Rattle.xdg_problem.specs.declared.analysis.Edge.{Edge}
 use Rattle.xdg_problem.specs.declared.parts.Group.{Group}
 use Rattle.xdg_problem.specs.declared.parts.Parts.{Parts}
@@ -13,6 +12,7 @@ use Rattle.xdg_propcore.specs.Touching.{InTable}
 use Rattle.xdg_propcore.specs.declared.touched.Touched.{Touched}
 use Rattle.xdg_pagree.specs.Family.{IsOfPlaces}
 use Rattle.xdg_pagree.specs.Places.{IsDoneAt, IsNodeDone, PlaceAsks}
+use Rattle.xdg_facts.specs.Rises.{has}
 
 -- the node has lost no entry and no value of an attribute
 abbrev pub IsNodeFree : Touched → ℕ → Type 0
@@ -27,10 +27,6 @@ abbrev pub IsPlaceFree : Touched → Edge → Type 0
 IsPlaceFree t e = IsRowFree t e.mother.0 e.label.0 × (has t.attrs e.daughter.0 ≡ true → ⊥)
 
 -- ---- where to look
-
--- a set has the first nodes, so many
-abbrev pub IsEvery : ℕ → List ℕ → Type 0
-IsEvery count set = (v : ℕ) → (has set v ≡ true) ↔ (v < count)
 
 -- a set has nodes of the sentence, and all that have lost an entry or a value of an attribute
 pub record HasOwn (parts : Parts) (t : Touched) (set : List ℕ) : Type 0 where

@@ -1,35 +1,25 @@
 //! The nodes at which something may be left to take: those that have lost something, and the mothers of those.
 
 ghost use Rattle.std.specs.Prelude.{◌≡◌, ◌<◌, ℕ, true};
-ghost use Rattle.xdg_nodeset.specs.Nodes.{has};
+ghost use Rattle.xdg_facts.specs.Rises.{has};
 ghost use Rattle.xdg_problem.specs.Places.{nodes};
 ghost use Rattle.xdg_store.specs.States.{Known};
 ghost use Rattle.xdg_graph.specs.Edges.{edge_labels};
-ghost use Rattle.xdg_pagree.specs.Untouched.{AreMothersOf, HasMothers, HasOwn, IsEvery};
+ghost use Rattle.xdg_graph.specs.Every.{IsEvery};
+ghost use Rattle.xdg_pagree.specs.Untouched.{AreMothersOf, HasMothers, HasOwn};
 
 use crate::touched::{nodes_at, touched_nodes};
-use xdg_base::{DimId, LabelId, NodeId};
-use xdg_graph::node_count;
+use xdg_base::{DimId, LabelId};
+use xdg_graph::every_node;
 use xdg_nodeset::NodeSet;
 use xdg_propcore::Touched;
 use xdg_store::Store;
-
-/// The nodes of the sentence.
-pub(crate) fn sentence_nodes(store: &Store) -> NodeSet
-    ensures { IsEvery (nodes store.now.parts) result }
-{
-    let mut all = NodeSet::empty();
-    for node in 0..node_count(store) {
-        all.insert(NodeId(node));
-    }
-    all
-}
 
 /// The nodes of the sentence that have lost an entry or a value of an attribute.
 pub(crate) fn own_nodes(store: &Store, touched: &Touched) -> NodeSet
     ensures { HasOwn store.now.parts touched.now result }
 {
-    touched_nodes(touched).meet(&sentence_nodes(store))
+    touched_nodes(touched).meet(&every_node(store))
 }
 
 /// The mothers that edges with a label to some daughters may have.

@@ -10,16 +10,17 @@ ghost use Rattle.xdg_store.specs.States.{Known};
 ghost use Rattle.xdg_pagree.specs.Family.{IsOfFamily, IsOfPlaces};
 ghost use Rattle.xdg_graph.specs.Edges.{edge_labels};
 ghost use Rattle.xdg_pagree.specs.Places.{AreMothersDone, AreNodesDone, IsLabelDone, PlaceAsks};
-ghost use Rattle.xdg_pagree.specs.Untouched.{AreNodesBeside, AreOthersDone, AreOthersDoneAt, IsEvery};
+ghost use Rattle.xdg_graph.specs.Every.{IsEvery};
+ghost use Rattle.xdg_pagree.specs.Untouched.{AreNodesBeside, AreOthersDone, AreOthersDoneAt};
 ghost use Rattle.xdg_propcore.specs.Passes.{IsQuiet};
 ghost use Rattle.xdg_propcore.specs.Sweeps.{Sweeps};
 
-use crate::mothers::{mothers_at, own_nodes, sentence_nodes};
+use crate::mothers::{mothers_at, own_nodes};
 use crate::places::{agr_at, asks, place_at};
 use crate::reads::is_agr;
 use crate::touched::daughters_at;
 use xdg_base::{DimId, LabelId, NodeId};
-use xdg_graph::{dim_of, labels_of};
+use xdg_graph::{dim_of, every_node, labels_of};
 use xdg_nodeset::NodeSet;
 use xdg_problem::{Edge, Group};
 use xdg_propcore::{Pass, Touched};
@@ -123,7 +124,7 @@ fn sweep_labels(store: &mut Store, pass: &mut Pass, group: &Group, touched: &Tou
     ensures { Sweeps group.now (AreNodesDone (nodes store.old.parts) store.old.parts group.now) pass.old store.old pass.new store.new }
 {
     let dim = dim_of(group, 0);
-    let sentence = sentence_nodes(store);
+    let sentence = every_node(store);
     for number in 0..labels_of(store, dim) {
         sweep_label(store, pass, group, touched, sentence, dim, LabelId(number));
     }

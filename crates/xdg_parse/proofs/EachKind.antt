@@ -29,46 +29,7 @@ kind_at (k ∷ ks) (suc i) = kind_at ks i
 
 at_number : (k : Kind) → kind_at kinds (number k) ≡ k
 at_number k.Name = refl
-at_number k.Quoted = refl
-at_number k.Number = refl
-at_number k.DefDim = refl
-at_number k.DefType = refl
-at_number k.DefLabelType = refl
-at_number k.DefAttrsType = refl
-at_number k.DefEntryType = refl
-at_number k.UsePrinciple = refl
-at_number k.Dims = refl
-at_number k.Args = refl
-at_number k.Output = refl
-at_number k.UseOutput = refl
-at_number k.DefClass = refl
-at_number k.DefEntry = refl
-at_number k.Dim = refl
-at_number k.UseDim = refl
-at_number k.Tuple = refl
-at_number k.Set = refl
-at_number k.ISet = refl
-at_number k.Valency = refl
-at_number k.Map = refl
-at_number k.Card = refl
-at_number k.Bool = refl
-at_number k.Int = refl
-at_number k.String = refl
-at_number k.LeftBrace = refl
-at_number k.RightBrace = refl
-at_number k.LeftParenthesis = refl
-at_number k.RightParenthesis = refl
-at_number k.LeftBracket = refl
-at_number k.RightBracket = refl
-at_number k.Colon = refl
-at_number k.Ampersand = refl
-at_number k.Bar = refl
-at_number k.Dollar = refl
-at_number k.Hash = refl
-at_number k.Exclamation = refl
-at_number k.Question = refl
-at_number k.Star = refl
-at_number k.Plus = refl
+at_number other = refl
 
 if-true : (a b : Bool) → (if a then b else false) ≡ true → (a ≡ true) × (b ≡ true)
 if-true true b h = (refl, h)
@@ -111,46 +72,7 @@ some kind = record { kind = kind; text = []; span = record { start = 0; end = 0 
 
 pub is_self : (k : Kind) → is k k ≡ true
 is_self k.Name = refl
-is_self k.Quoted = refl
-is_self k.Number = refl
-is_self k.DefDim = refl
-is_self k.DefType = refl
-is_self k.DefLabelType = refl
-is_self k.DefAttrsType = refl
-is_self k.DefEntryType = refl
-is_self k.UsePrinciple = refl
-is_self k.Dims = refl
-is_self k.Args = refl
-is_self k.Output = refl
-is_self k.UseOutput = refl
-is_self k.DefClass = refl
-is_self k.DefEntry = refl
-is_self k.Dim = refl
-is_self k.UseDim = refl
-is_self k.Tuple = refl
-is_self k.Set = refl
-is_self k.ISet = refl
-is_self k.Valency = refl
-is_self k.Map = refl
-is_self k.Card = refl
-is_self k.Bool = refl
-is_self k.Int = refl
-is_self k.String = refl
-is_self k.LeftBrace = refl
-is_self k.RightBrace = refl
-is_self k.LeftParenthesis = refl
-is_self k.RightParenthesis = refl
-is_self k.LeftBracket = refl
-is_self k.RightBracket = refl
-is_self k.Colon = refl
-is_self k.Ampersand = refl
-is_self k.Bar = refl
-is_self k.Dollar = refl
-is_self k.Hash = refl
-is_self k.Exclamation = refl
-is_self k.Question = refl
-is_self k.Star = refl
-is_self k.Plus = refl
+is_self other = refl
 
 pub token_alive : (k : Kind) → Alive ((token (is k)).means)
 token_alive k = record { tokens = some k ∷ []; value = some k; means = (refl, is_self k) }

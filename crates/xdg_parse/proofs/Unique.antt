@@ -29,14 +29,14 @@ fronts (t ∷ a) r (u ∷ b) q h = let e : t ≡ u = cc in let g : a ++ r ≡ b 
 starts-front : (a : List Lexeme) (t : Lexeme) (w : List Lexeme) → Starts (a ++ t ∷ w) → Starts (a ++ t ∷ [])
 starts-front a t w s = (w ++ s.0, s.1, rw (append_assoc a (t ∷ []) (w ++ s.0)) (rw (append_assoc a (t ∷ w) s.0) at s.2))
 
-walk-none : (n : ℕ) (a w : List Lexeme) → walk n a ≡ None → walk n (a ++ w) ≡ None
+pub walk-none : (n : ℕ) (a w : List Lexeme) → walk n a ≡ None → walk n (a ++ w) ≡ None
 walk-none n a w h = walk-append a w n ∙ rw h refl
 
-past-none : (t : Lexeme) → is_opening t.kind ≡ true → walk 0 (t ∷ []) ≡ None
+pub past-none : (t : Lexeme) → is_opening t.kind ≡ true → walk 0 (t ∷ []) ≡ None
 unfolding walk
 past-none t h = rw h refl
 
-deep-none : (b : List Lexeme) (t : Lexeme) (w : List Lexeme) → walk most_brackets b ≡ Some 0 → is_opening t.kind ≡ true → walk most_brackets (b ++ t ∷ w) ≡ None
+pub deep-none : (b : List Lexeme) (t : Lexeme) (w : List Lexeme) → walk most_brackets b ≡ Some 0 → is_opening t.kind ≡ true → walk most_brackets (b ++ t ∷ w) ≡ None
 deep-none b t w h g =
     let i : walk most_brackets (b ++ t ∷ []) ≡ None = walk-append b (t ∷ []) most_brackets ∙ rw h (past-none t g) in
     rw (sym (append_assoc b (t ∷ []) w)) (walk-none most_brackets (b ++ t ∷ []) w i)

@@ -21,14 +21,14 @@ statements_law d n = (statements_rule d n).law
 
 -- ---- more room
 
-one-raise : (a b : Bool) (m m' k : ℕ) → one a b m ≡ Some m' → one a b (m + k) ≡ Some (m' + k)
+pub one-raise : (a b : Bool) (m m' k : ℕ) → one a b m ≡ Some m' → one a b (m + k) ≡ Some (m' + k)
 unfolding one
 one-raise true b zero m' k h = absurd (cc)
 one-raise true b (suc m) m' k h = let i = some-same m m' h in let j : suc m + k ≡ suc (m' + k) = omega arith in rw j refl
 one-raise false true m m' k h = let i = some-same (suc m) m' h in let j : suc (m + k) ≡ m' + k = omega arith in ap Some j
 one-raise false false m m' k h = let i = some-same m m' h in let j : m + k ≡ m' + k = omega arith in ap Some j
 
-raise : (u : List Lexeme) (m m' k : ℕ) → walk m u ≡ Some m' → walk (m + k) u ≡ Some (m' + k)
+pub raise : (u : List Lexeme) (m m' k : ℕ) → walk m u ≡ Some m' → walk (m + k) u ≡ Some (m' + k)
 unfolding walk one
 raise [] m m' k h = let i = some-same m m' h in let j : m + k ≡ m' + k = omega arith in ap Some j
 raise (t ∷ u) m m' k h =
@@ -139,12 +139,12 @@ unfinished ts end g s t r h e =
       shallow = (64, said.walked);
     }
 
-none-left : (ts : List Lexeme) → kind_of ts ≡ None → ts ≡ []
+pub none-left : (ts : List Lexeme) → kind_of ts ≡ None → ts ≡ []
 unfolding kind_of
 none-left [] h = refl
 none-left (t ∷ ts) h = absurd (cc)
 
-some-left : (ts : List Lexeme) (k : Kind) → kind_of ts ≡ Some k → (t : Lexeme) × (r : List Lexeme) × (ts ≡ t ∷ r)
+pub some-left : (ts : List Lexeme) (k : Kind) → kind_of ts ≡ Some k → (t : Lexeme) × (r : List Lexeme) × (ts ≡ t ∷ r)
 unfolding kind_of
 some-left [] k h = absurd (cc)
 some-left (t ∷ ts) k h = (t, ts, refl)

@@ -3,7 +3,6 @@ use Rattle.std.proofs.Common.{◌≡◌, ℕ, ◌<◌, ◌≤◌, ◌+◌, inl, 
 use Rattle.std.specs.Prelude.{Contains, All, not}
 use Rattle.std.proofs.lemmas.Bool.{cases_eq, false≢true}
 use Rattle.std.proofs.lemmas.List.Elements.{All-contains, All-weaker, All-contains_itself}
-use Rattle.xdg_nodeset.specs.Nodes.{has}
 use Rattle.xdg_problem.specs.declared.analysis.Edge.{Edge}
 use Rattle.xdg_problem.specs.declared.parts.Group.{Group}
 use Rattle.xdg_problem.specs.declared.parts.Parts.{Parts}
@@ -20,6 +19,7 @@ use Rattle.xdg_pgraph.specs.Bounding.{NoneBarred}
 use Rattle.xdg_pgraph.specs.Bundles.{edge_to, numbers_of, Barred, OpenTo}
 use Rattle.xdg_pgraph.specs.Planes.{IsPlane}
 use Rattle.xdg_pgraph.proofs.Ends.{far_is, far_within}
+use Rattle.xdg_facts.specs.Rises.{has}
 
 -- ---- entries
 

@@ -6,7 +6,7 @@ use Rattle.std.proofs.lemmas.Bool.{and_parts, and_from, eq-eqb, eqb-true}
 use Rattle.std.proofs.lemmas.List.Elements.{All-weaker, All-contains_itself, recursion_from_All}
 use Rattle.std.proofs.lemmas.List.{length-map}
 use Rattle.std.proofs.lemmas.List.Sums.{length-filter}
-use Rattle.xdg_nodeset.specs.Nodes.{has, IsNodes}
+use Rattle.xdg_nodeset.specs.Nodes.{IsNodes}
 use Rattle.xdg_problem.specs.declared.analysis.Edge.{Edge}
 use Rattle.xdg_problem.specs.declared.parts.Parts.{Parts}
 use Rattle.xdg_problem.specs.Analyses.{Before}
@@ -29,7 +29,9 @@ use Rattle.xdg_pgraph.specs.Bundles.{edge_to, near_node, far_node, count_of}
 use Rattle.xdg_pgraph.specs.Planes.{IsPlane, IsOnPlane}
 use Rattle.xdg_pgraph.specs.Seeking.{edges_of}
 use Rattle.xdg_pgraph.proofs.PlaneFacts.{edge_on, which_place}
-use Rattle.xdg_pgraph.proofs.Rising.{AreRising, rising_alike, nodes_rising, has_contained, contained_has, map_contained, map_rising}
+use Rattle.xdg_pgraph.proofs.Rising.{AreRising, rising_alike, nodes_rising, map_contained, map_rising}
+use Rattle.xdg_facts.specs.Rises.{has}
+use Rattle.xdg_facts.proofs.Rising.{contains_of_has, contains_has}
 
 -- ---- an edge is told by its two nodes
 
@@ -107,7 +109,7 @@ module _ (way : Way) (edges : List Edge) (dim node label : ℕ) (ends : List ℕ
   there : (n : ℕ) → Contains ends n → Contains (map (far_node way) ys) n
   there n c =
       let e : Edge = edge_to way dim node label n in
-      let among = (exact n).0 (contained_has ends n c) in
+      let among = (exact n).0 (contains_has ends n c) in
       let kept = contains_filter (in_bundle way node label) edges e (in_from way node label e (near_is way dim node label n) (label_is way dim node label n)) among in
       subst (Contains (map (far_node way) ys)) (far_is way dim node label n) (contains_map (far_node way) ys e kept)
 
@@ -117,7 +119,7 @@ module _ (way : Way) (edges : List Edge) (dim node label : ℕ) (ends : List ℕ
       let both = filter_contained (in_bundle way node label) edges found.0 found.1 in
       let told = in_parts way node label found.0 both.1 in
       let same : found.0 ≡ edge_to way dim node label n = edge_told way dim node label found.0 (on found.0 both.0) told.0 told.1 ∙ ap (edge_to way dim node label) found.2 in
-      has_contained ends n ((exact n).1 (subst (Contains edges) same both.0))
+      contains_of_has ends n ((exact n).1 (subst (Contains edges) same both.0))
 
   -- where the set has the other nodes of those edges of a list, it has as many nodes as there are edges
   pub ends_counted : length ends ≡ count_of way edges node label

@@ -2,8 +2,8 @@
 use Rattle.std.proofs.Common.{◌<◌, arith}
 use Rattle.xdg_problem.specs.declared.parts.Principle.{Principle}
 use Rattle.xdg_problem.specs.declared.parts.Principle.TheVariants as principles
-use Rattle.xdg_problem.specs.Problems.{dim_arguments}
 use Rattle.xdg_pgraph.specs.Family.{IsOfFamily}
+use Rattle.xdg_problem.specs.Principles.{dim_arguments}
 
 pub dim_needed : (p : Principle) → IsOfFamily p → 0 < dim_arguments p
 dim_needed principles.Graph family = omega arith

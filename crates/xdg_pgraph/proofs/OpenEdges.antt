@@ -2,7 +2,7 @@
 use Rattle.std.proofs.Common.{◌≡◌, ℕ, ◌↔◌, ◌&&◌, inl, inr, Bool, true, IsTrue, List, [], length, sym, ◌∙◌, ap, subst}
 use Rattle.std.specs.Prelude.{Contains, not}
 use Rattle.std.proofs.lemmas.Bool.{and_parts, and_from, false≢true, not-true, not_from_false, false_from_ne_true, both_ways}
-use Rattle.xdg_nodeset.specs.Nodes.{has, IsNodes}
+use Rattle.xdg_nodeset.specs.Nodes.{IsNodes}
 use Rattle.xdg_problem.specs.declared.analysis.Edge.{Edge}
 use Rattle.xdg_problem.specs.declared.parts.Group.{Group}
 use Rattle.xdg_problem.specs.Analyses.{IsPlace}
@@ -18,6 +18,7 @@ use Rattle.xdg_pgraph.specs.declared.found.Which.TheVariants as whichs
 use Rattle.xdg_pgraph.specs.Bundles.{edge_to, far_node, numbers_of, count_of, OpenTo, EdgeAt, FullAt, NeededAt, IsOpen}
 use Rattle.xdg_pgraph.proofs.PlaneFacts.{which_place}
 use Rattle.xdg_pgraph.proofs.Ends.{TellsEnds, which_counted, near_is, label_is, edge_told}
+use Rattle.xdg_facts.specs.Rises.{has}
 
 module _ (bundle : Bundle) (s : State) (group : Group) (dim : ℕ) (on : dim ≡ first_dim group) (must may open_ones : List ℕ) (must_is : TellsEnds whichs.Must s dim bundle.node bundle.label must bundle.way) (may_is : TellsEnds whichs.May s dim bundle.node bundle.label may bundle.way) (open_is : (n : ℕ) → has open_ones n ≡ (has may n && not (has must n))) where
   abbrev this : ℕ → Edge

@@ -4,7 +4,6 @@ use Rattle.std.specs.Prelude.{Contains}
 use Rattle.std.proofs.lemmas.Bool.{cases_eq, eq-eqb, eqb-true, false≢true}
 use Rattle.xdg_facts.proofs.Truths.{none_or}
 use Rattle.xdg_nodeset.proofs.TableSets.{both, either}
-use Rattle.xdg_nodeset.specs.Nodes.{has}
 use Rattle.xdg_problem.specs.declared.analysis.Edge.{Edge}
 use Rattle.xdg_problem.specs.declared.parts.Parts.{Parts}
 use Rattle.xdg_problem.specs.Boxes.{Has, edge_decision}
@@ -30,6 +29,7 @@ use Rattle.xdg_pgraph.proofs.PlaneFacts.{which_place}
 use Rattle.xdg_pgraph.proofs.Single.{OnlyMotherBelow, not_more}
 use Rattle.xdg_pgraph.proofs.Skipped.{must_may, runs_skip}
 use Rattle.xdg_pgraph.proofs.Told.{ToBelow}
+use Rattle.xdg_facts.specs.Rises.{has}
 
 -- ---- what was found
 

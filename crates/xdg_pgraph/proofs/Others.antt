@@ -16,11 +16,9 @@ use Rattle.xdg_problem.specs.Problems.{IsProblem}
 use Rattle.xdg_problem.proofs.FilterFacts.{filter_alike, filter_both}
 use Rattle.xdg_problem.proofs.PlaceOrder.{is_place}
 use Rattle.std.proofs.lemmas.Bool.{eqb-true}
-use Rattle.xdg_nodeset.specs.Nodes.{has as has_node}
 use Rattle.xdg_rules.specs.Rules.{has, HasNoneWithin, IsClosedFor, IsGreatest, IsLeast, may_edges, must_edges}
 use Rattle.xdg_rules.proofs.Shrinking.{may_be, must_be, may_is, may_of, must_is, must_of}
 use Rattle.xdg_store.specs.States.{State}
-use Rattle.xdg_propcore.specs.Losses.{IsLost}
 use Rattle.xdg_propcore.specs.Passes.{Progress, IsQuiet}
 use Rattle.xdg_propcore.specs.Sweeps.{Sweeps}
 use Rattle.xdg_propcore.specs.Touching.{HasAll, HasTouched, InTable, MarksEdge}
@@ -33,6 +31,8 @@ use Rattle.xdg_pgraph.specs.declared.bundle.Way.TheVariants as ways
 use Rattle.xdg_pgraph.proofs.Bundled.{edge_takes, entry_takes, nodes_next}
 use Rattle.xdg_pgraph.proofs.Ends.{counted, in_bundle, in_parts}
 use Rattle.xdg_facts.proofs.Truths.{either_true, or_here, same_and, same_flag}
+use Rattle.xdg_facts.specs.Rises.{has as has_node}
+use Rattle.xdg_propcore.proofs.Losing.{kept_or_lost}
 
 -- ---- where the box is closed all bundles are done
 
@@ -63,12 +63,6 @@ same_length test p q edges same =
 side_of : (way : Way) (t : Touched) (e : Edge) → MarksEdge t e → (has_node (near way t) (near_node way e) ≡ true) × InTable (side way t) e.label.0 (near_node way e)
 side_of ways.Out t e both = (both.mother, both.out)
 side_of ways.In t e both = (both.daughter, both.into)
-
-kept_or_lost : (old new : List (List Bool)) (d v : ℕ) → (IsLost old new d v → ⊥) → Has old d v → Has new d v
-kept_or_lost old new d v kept h = elim (cases_Bool (has new d v)) [
-  | inl there ↦ there
-  | inr gone ↦ absurd (kept (h, λ there. (let z : true ≡ false = sym there ∙ gone in cc)))
-]
 
 module _ (parts : Parts) (group : Group) (old new : List (List Bool)) (lies : LiesIn new old) (t : Touched) (touched : HasTouched parts (first_dim group) old new t) (way : Way) (node label : ℕ) (within : node < nodes parts) (free : IsTouched way t node label → ⊥) where
   abbrev dim : ℕ

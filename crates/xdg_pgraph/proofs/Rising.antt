@@ -1,12 +1,12 @@
 -- Rising lists of numbers.
-use Rattle.std.proofs.Common.{◌≡◌, ℕ, ◌<◌, ◌≤◌, inl, inr, true, List, [], ◌∷◌, length, map, ◌+◌, sym, subst, arith}
-use Rattle.std.specs.Prelude.{Contains, ◌==◌}
+use Rattle.std.proofs.Common.{◌≡◌, ℕ, ◌<◌, ◌≤◌, inl, inr, List, [], ◌∷◌, length, map, ◌+◌, sym, arith}
+use Rattle.std.specs.Prelude.{Contains}
 use Rattle.std.specs.List.{AllByRecursion}
-use Rattle.std.proofs.lemmas.Bool.{cases_eq, or_cases, eq-eqb, eqb-true, false≢true}
-use Rattle.xdg_nodeset.specs.Nodes.{has, Rises, IsNodes}
+use Rattle.std.proofs.lemmas.Bool.{cases_eq}
+use Rattle.xdg_nodeset.specs.Nodes.{IsNodes}
 use Rattle.xdg_problem.proofs.Ordered.{Ordered, each_contained, each_weaker, each_both, each_map, contains_head, contains_cases, contains_none}
-use Rattle.xdg_facts.proofs.Truths.{or_here, either_true}
 use Rattle.xdg_facts.proofs.Lists.{contains_more}
+use Rattle.xdg_facts.specs.Rises.{Rises}
 
 abbrev pub AreRising : List ℕ → Type 0
 AreRising xs = Ordered (λ a b. a < b) xs
@@ -55,22 +55,6 @@ rises_ordered low bound (n ∷ s) r = (each_weaker (λ m. n + 1 ≤ m) (λ m. n 
 
 pub nodes_rising : (s : List ℕ) → IsNodes s → AreRising s
 nodes_rising s is = rises_ordered 0 128 s is.rises
-
-pub has_contained : (s : List ℕ) (n : ℕ) → has s n ≡ true → Contains s n
-has_contained [] n h = absurd (false≢true h)
-has_contained (m ∷ s) n h = elim (or_cases (m == n) (has s n) h) [
-  | inl here ↦ subst (Contains (m ∷ s)) (eqb-true m n here) (contains_head m s)
-  | inr there ↦ contains_more m s n (has_contained s n there)
-]
-
-pub contained_has : (s : List ℕ) (n : ℕ) → Contains s n → has s n ≡ true
-contained_has [] n c = absurd (contains_none n c)
-contained_has (m ∷ s) n c = elim (contains_cases m s n c) [
-  | inl here ↦ or_here (m == n) (has s n) (eq-eqb m n here)
-  | inr there ↦ either_true (m == n) (has s n) (contained_has s n there)
-]
-
--- ---- lists told by a number of each element
 
 pub map_contained : {X : Type 0} (f : X → ℕ) (xs : List X) (n : ℕ) → Contains (map f xs) n → (x : X) × Contains xs x × (f x ≡ n)
 map_contained f [] n c = absurd (contains_none n c)

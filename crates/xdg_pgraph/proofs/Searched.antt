@@ -5,7 +5,7 @@ use Rattle.std.proofs.lemmas.Bool.{cases_eq, eq-eqb, eqb-true, false_from_ne_tru
 use Rattle.std.proofs.lemmas.List.{nil_from_length}
 use Rattle.std.proofs.lemmas.List.Elements.{filter-append}
 use Rattle.xdg_facts.proofs.Truths.{either_true, or_false, or_here}
-use Rattle.xdg_nodeset.specs.Nodes.{has, IsNodes, Rises}
+use Rattle.xdg_nodeset.specs.Nodes.{IsNodes}
 use Rattle.xdg_problem.proofs.Numbered.{numbers_more}
 use Rattle.xdg_problem.specs.declared.analysis.Edge.{Edge}
 use Rattle.xdg_problem.specs.declared.parts.Parts.{Parts}
@@ -23,6 +23,7 @@ use Rattle.xdg_pgraph.specs.Planes.{IsPlane, IsOnPlane}
 use Rattle.xdg_pgraph.specs.Seeking.{Finds, IsMore, Joins, Into, IntoWith, RootsAre, edges_of, found_with, found_merged, roots_with}
 use Rattle.xdg_pgraph.proofs.Looked.{finds_like, finds_with, finds_merged}
 use Rattle.xdg_pgraph.proofs.PlaneFacts.{which_place}
+use Rattle.xdg_facts.specs.Rises.{has, Rises}
 
 -- the edges from a node to another with a label below a bound
 abbrev pub JoinsBelow : List Edge → ℕ → ℕ → ℕ → Edge → Type 0

@@ -5,7 +5,6 @@ use Rattle.std.proofs.lemmas.Bool.{cases_eq, false≢true}
 use Rattle.std.proofs.lemmas.List.{nil_from_length}
 use Rattle.xdg_nodeset.proofs.TableSets.{both}
 use Rattle.xdg_nodeset.specs.Tables.{In}
-use Rattle.xdg_nodeset.specs.Nodes.{has}
 use Rattle.xdg_problem.specs.declared.analysis.Edge.{Edge}
 use Rattle.xdg_problem.specs.declared.parts.Group.{Group}
 use Rattle.xdg_problem.specs.declared.parts.Parts.{Parts}
@@ -27,6 +26,7 @@ use Rattle.xdg_pgraph.specs.Seeking.{Aims, BacksFrom, StartAll, ToNode}
 use Rattle.xdg_pgraph.proofs.Labels.{LabelInto}
 use Rattle.xdg_pgraph.proofs.Reached.{BacksInto}
 use Rattle.xdg_pgraph.proofs.Ruled.{OneMotherBelow}
+use Rattle.xdg_facts.specs.Rises.{has}
 
 -- more is looked at, where the rule takes nothing that remained at first
 pub runs_skip : (A C : List (List Bool) → ℕ → ℕ → Type 0) (group : Group) (p q : Progress) (old mid : State) → ((d v : ℕ) → C old.now d v → Has old.now d v → A old.now d v) → Runs A group p old q mid → Runs C group p old q mid

@@ -5,8 +5,8 @@ use Rattle.std.proofs.lemmas.Bool.{cases_eq, eq-eqb, false≢true}
 use Rattle.std.proofs.lemmas.List.{nil_from_length}
 use Rattle.xdg_nodeset.specs.Tables.{In}
 use Rattle.xdg_nodeset.proofs.TableSets.{either}
-use Rattle.xdg_nodeset.specs.Nodes.{has}
 use Rattle.xdg_pgraph.specs.Seeking.{StartAll}
+use Rattle.xdg_facts.specs.Rises.{has}
 
 pub starts_first : (far : List (List ℕ)) (starts : List ℕ) → StartAll far 0 starts
 starts_first far starts a b l = absurd (omega (arith, l))

@@ -9,12 +9,12 @@ use Rattle.xdg_problem.specs.Boxes.{LiesIn}
 use Rattle.xdg_problem.specs.Problems.{IsProblem}
 use Rattle.xdg_rules.specs.Rules.{TakesBy, IsClosedFor}
 use Rattle.xdg_propcore.specs.Families.{LosesUnseen, StaysClosed}
-use Rattle.xdg_propcore.specs.UseKinds.{looks_at_entries, looks_at_first}
 use Rattle.xdg_propcore.proofs.Unseen.{LooksOn, entry_stays as entries_stay}
 use Rattle.xdg_pgraph.specs.Family.{IsOfFamily}
 use Rattle.xdg_pgraph.proofs.Closing.{closed_by_rules}
 use Rattle.xdg_pgraph.proofs.CountsStay.{entry_stays, full_stays, needed_stays}
 use Rattle.xdg_pgraph.proofs.EdgesStay.{may_same, must_same, one_mother_stays, no_cycle_stays, one_label_stays, root_stays}
+use Rattle.xdg_problem.specs.Principles.{looks_at_entries, looks_at_first}
 
 looks_first : (p : Principle) → (p ≡ principles.Tree) ⊎ ((p ≡ principles.Dag) ⊎ (p ≡ principles.Valency)) → looks_at_first p ≡ true
 looks_first p (inl tree) = ap looks_at_first tree

@@ -3,7 +3,6 @@ use Rattle.std.proofs.Common.{◌≡◌, ◌≢◌, ℕ, ◌+◌, ◌<◌, ◌�
 use Rattle.std.specs.Prelude.{Contains}
 use Rattle.std.proofs.lemmas.Bool.{cases_eq, eq-eqb, eqb-true, false≢true}
 use Rattle.xdg_nodeset.proofs.TableSets.{either, both}
-use Rattle.xdg_nodeset.specs.Nodes.{has}
 use Rattle.xdg_problem.specs.declared.analysis.Edge.{Edge}
 use Rattle.xdg_problem.specs.declared.parts.Parts.{Parts}
 use Rattle.xdg_problem.specs.Paths.{roots}
@@ -20,6 +19,7 @@ use Rattle.xdg_pgraph.specs.Planes.{IsPlane, IsOnPlane}
 use Rattle.xdg_pgraph.specs.Seeking.{Finds, Into, ToNode, RootsAre, edges_of, roots_with}
 use Rattle.xdg_pgraph.proofs.PlaneFacts.{which_place}
 use Rattle.xdg_pgraph.proofs.Searched.{root_taken, root_left}
+use Rattle.xdg_facts.specs.Rises.{has}
 
 -- the same edges, told in another way
 pub tells_like : (P Q : Edge → Type 0) (a : Entered) → ((e : Edge) → P e → Q e) → ((e : Edge) → Q e → P e) → Tells P a → Tells Q a

@@ -1,6 +1,5 @@
 -- The edges with a label out of a node, or into it.
 use Rattle.std.specs.Prelude.{◌≡◌, ◌<◌, ◌⊎◌, ◌↔◌, ℕ, Bool, true, IsTrue, List, [], length, Contains, slice_index_or}
-use Rattle.xdg_nodeset.specs.Nodes.{has}
 use Rattle.xdg_problem.specs.declared.analysis.Edge.{Edge}
 use Rattle.xdg_problem.specs.declared.parts.Group.{Group}
 use Rattle.xdg_problem.specs.declared.parts.Parts.{Parts}
@@ -13,6 +12,7 @@ use Rattle.xdg_rules.specs.Rules.{HasNoneWithin, IsGreatest, IsLeast, SaysPresen
 use Rattle.xdg_pgraph.specs.declared.bundle.Way.{Way}
 use Rattle.xdg_pgraph.specs.declared.bundle.Way.TheVariants as ways
 use Rattle.xdg_pgraph.specs.declared.bundle.Bundle.{Bundle}
+use Rattle.xdg_facts.specs.Rises.{has}
 
 -- the edge with a label between a node and another
 abbrev pub edge_to : Way → ℕ → ℕ → ℕ → ℕ → Edge

@@ -1,9 +1,9 @@
 -- The nodes into which some edges lead.
 use Rattle.std.specs.Prelude.{◌≡◌, ◌≢◌, ◌↔◌, ℕ, List, IsTrue, Contains}
-use Rattle.xdg_nodeset.specs.Nodes.{has}
 use Rattle.xdg_problem.specs.declared.analysis.Edge.{Edge}
 use Rattle.xdg_pgraph.specs.Seeking.{ToNode}
 use Rattle.xdg_pgraph.specs.declared.entered.Entered.{Entered}
+use Rattle.xdg_facts.specs.Rises.{has}
 
 -- one of some edges leads into a node
 abbrev pub Enters : (Edge → Type 0) → ℕ → Type 0

@@ -1,6 +1,5 @@
 -- How many edges may lead into nodes.
 use Rattle.std.specs.Prelude.{◌≡◌, ◌↔◌, ℕ, Bool, true, false, List, IsTrue, Contains}
-use Rattle.xdg_nodeset.specs.Nodes.{has}
 use Rattle.xdg_problem.specs.declared.parts.Parts.{Parts}
 use Rattle.xdg_problem.specs.Boxes.{Has}
 use Rattle.xdg_rules.specs.Rules.{may_edges}
@@ -9,6 +8,7 @@ use Rattle.xdg_pgraph.specs.Seeking.{Only}
 use Rattle.xdg_pgraph.specs.declared.opening.Opening.{Opening}
 use Rattle.xdg_pgraph.specs.declared.opening.Opening.TheVariants as counts
 use Rattle.xdg_pgraph.specs.declared.opening.Openings.{Openings}
+use Rattle.xdg_facts.specs.Rises.{has}
 
 -- no edge that may be the only one into a node may still be absent
 abbrev pub NoneOnly : Parts → List (List Bool) → ℕ → ℕ → Type 0

@@ -1,6 +1,5 @@
 -- Bundles of which nothing was lost.
 use Rattle.std.specs.Prelude.{◌≡◌, ◌<◌, ◌⊎◌, ℕ, Bool, true, List}
-use Rattle.xdg_nodeset.specs.Nodes.{has}
 use Rattle.xdg_problem.specs.declared.parts.Group.{Group}
 use Rattle.xdg_problem.specs.declared.parts.Parts.{Parts}
 use Rattle.xdg_problem.specs.Arguments.{first_dim, label_count}
@@ -10,6 +9,7 @@ use Rattle.xdg_propcore.specs.declared.touched.Touched.{Touched}
 use Rattle.xdg_pgraph.specs.Bundles.{IsBundleDone}
 use Rattle.xdg_pgraph.specs.declared.bundle.Way.{Way}
 use Rattle.xdg_pgraph.specs.declared.bundle.Way.TheVariants as ways
+use Rattle.xdg_facts.specs.Rises.{has}
 
 -- the nodes that have lost values of edges out of them, or into them, by their labels
 abbrev pub side : Way → Touched → List (List ℕ)

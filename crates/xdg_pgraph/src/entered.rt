@@ -1,7 +1,7 @@
 //! The nodes into which edges lead.
 
 ghost use Rattle.std.specs.Prelude.{◌≡◌, ◌<◌, ◌≤◌, ◌==◌, ◌↔◌, ◌||◌, ◌&&◌, ℕ, IsTrue, List, Contains};
-ghost use Rattle.xdg_nodeset.specs.Nodes.{has};
+ghost use Rattle.xdg_facts.specs.Rises.{has};
 ghost use Rattle.xdg_problem.specs.declared.analysis.Edge.{Edge as Arrow};
 ghost use Rattle.xdg_problem.specs.Paths.{roots};
 ghost use Rattle.xdg_store.specs.States.{Known};

@@ -2,7 +2,7 @@
 
 ghost use Rattle.std.specs.Prelude.{◌≡◌, ◌↔◌, ◌<◌, ◌≤◌, true, IsTrue};
 ghost use Rattle.xdg_nodeset.specs.Tables.{In};
-ghost use Rattle.xdg_nodeset.specs.Nodes.{has};
+ghost use Rattle.xdg_facts.specs.Rises.{has};
 ghost use Rattle.xdg_propcore.specs.Passes.{Clears};
 ghost use Rattle.xdg_rules.specs.Rules.{NoCycle};
 ghost use Rattle.xdg_store.specs.States.{Known};

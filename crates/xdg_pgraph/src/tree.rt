@@ -1,7 +1,7 @@
 //! The rules of trees, and those of dags.
 
 ghost use Rattle.std.specs.Prelude.{◌≡◌, ◌<◌, ℕ, false, Contains};
-ghost use Rattle.xdg_nodeset.specs.Nodes.{has};
+ghost use Rattle.xdg_facts.specs.Rises.{has};
 ghost use Rattle.xdg_problem.specs.Paths.{roots};
 ghost use Rattle.xdg_rules.specs.Rules.{OneMother, OnlyMother, may_edges};
 ghost use Rattle.xdg_store.specs.States.{Known};

@@ -1,7 +1,7 @@
 //! The rules of valency: the numbers of edges with a label out of a node and into it are some that its entry allows.
 
 ghost use Rattle.std.specs.Prelude.{◌≡◌, ◌<◌, ◌↔◌, [], ℕ, IsTrue, cond, false, slice_index_or, true};
-ghost use Rattle.xdg_nodeset.specs.Nodes.{has};
+ghost use Rattle.xdg_facts.specs.Rises.{has};
 ghost use Rattle.xdg_problem.specs.declared.parts.Principle.TheVariants as principles;
 ghost use Rattle.xdg_problem.specs.Analyses.{IsPlace};
 ghost use Rattle.xdg_problem.specs.Arguments.{first_dim, label_count};

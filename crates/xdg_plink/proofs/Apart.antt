@@ -22,9 +22,9 @@ use Rattle.xdg_propcore.proofs.Passing.{goes_both}
 use Rattle.xdg_propcore.specs.Sweeps.{Sweeps}
 use Rattle.xdg_plink.specs.Steps.{AsksApart, CanPart, IsDoneAt, IsFirstDone, IsSecondDone, MustJoin, TakesAt}
 use Rattle.xdg_graph.specs.Edges.{edge_labels}
-use Rattle.xdg_plink.proofs.Places.{edge_at}
 use Rattle.xdg_graph.proofs.Labelled.{label_below, place_between}
 use Rattle.xdg_propcore.proofs.Sweeping.{sweeps_start}
+use Rattle.xdg_graph.proofs.Edges.{edge_at}
 
 -- a value that says that an edge is present
 present_here : (parts : Parts) (box : List (List Bool)) (e : Edge) (d v : ℕ) → SaysPresent parts e d v → Has box d v → Has box (edge_decision parts e) 0

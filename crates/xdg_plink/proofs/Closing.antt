@@ -28,20 +28,7 @@ at_place principles.LinkingBelowStart f parts group box d v t = (t.place, t.is, 
 at_place principles.LinkingAboveStart f parts group box d v t = (t.place, t.is, (t, refl))
 at_place principles.LinkingSisters f parts group box d v t = (t.place, t.is, (t, refl))
 at_place principles.LinkingNotDaughter f parts group box d v t = (t.place, t.is, (t, refl))
-at_place principles.Graph f parts group box d v t = absurd f
-at_place principles.Entries f parts group box d v t = absurd f
-at_place principles.Tree f parts group box d v t = absurd f
-at_place principles.Dag f parts group box d v t = absurd f
-at_place principles.Valency f parts group box d v t = absurd f
-at_place principles.Order f parts group box d v t = absurd f
-at_place principles.Projectivity f parts group box d v t = absurd f
-at_place principles.Agr f parts group box d v t = absurd f
-at_place principles.Agreement f parts group box d v t = absurd f
-at_place principles.Government f parts group box d v t = absurd f
-at_place principles.Climbing f parts group box d v t = absurd f
-at_place principles.Barriers f parts group box d v t = absurd f
-at_place (principles.Rule formula) f parts group box d v t = absurd f
-at_place (principles.Bound costs bound) f parts group box d v t = absurd f
+at_place principle f parts group box d v t = absurd f
 
 pub closed_by_places : (parts : Parts) (group : Group) (box : List (List Bool)) → IsBox (shape parts) box → IsLinking group.principle → ((e : Edge) → IsPlaceOn parts (first_dim group) e → IsDoneAt parts group e box) → IsClosedFor parts group box
 closed_by_places parts group box is linking done d v has takes = elim takes [

@@ -1,9 +1,8 @@
 -- The daughters of a node by a label, one after another, and those near which nothing was lost.
-use Rattle.std.proofs.Common.{◌≡◌, ◌≢◌, ℕ, ◌<◌, ◌↔◌, ◌||◌, ◌&&◌, IsTrue, inl, inr, Bool, true, List, [], ◌∷◌, length, refl, sym, ◌∙◌, arith, subst}
+use Rattle.std.proofs.Common.{◌≡◌, ◌≢◌, ℕ, ◌<◌, ◌↔◌, ◌||◌, ◌&&◌, IsTrue, inl, inr, Bool, true, List, [], ◌∷◌, length, refl, sym, ◌∙◌, subst}
 use Rattle.std.specs.Prelude.{◌==◌}
 use Rattle.std.proofs.lemmas.Bool.{cases_Bool, cases_eq, eq-eqb, false≢true, ne_eqb}
 use Rattle.xdg_facts.proofs.Truths.{either_true, or_here}
-use Rattle.xdg_nodeset.specs.Nodes.{has}
 use Rattle.xdg_nodeset.proofs.TableSets.{both}
 use Rattle.xdg_problem.specs.declared.analysis.Edge.{Edge}
 use Rattle.xdg_problem.specs.declared.parts.Group.{Group}
@@ -26,16 +25,12 @@ use Rattle.xdg_plink.specs.Family.{IsLinking}
 use Rattle.xdg_plink.specs.Steps.{AreLabelsDone, Asks, DoneAt, IsDoneAt, IsExact, IsLabelDone, IsOnPlace}
 use Rattle.xdg_plink.specs.Untouched.{AreNear, AreOthersDone, AreOthersDoneAt, ArePlaces, IsFree}
 use Rattle.xdg_plink.specs.declared.near.Near.{Near}
-use Rattle.xdg_plink.proofs.Places.{edge_at}
 use Rattle.xdg_plink.proofs.Present.{takes_asked, takes_present}
+use Rattle.xdg_facts.specs.Rises.{has}
+use Rattle.xdg_graph.proofs.Widening.{no_member}
+use Rattle.xdg_graph.proofs.Edges.{edge_at}
 
 -- ---- a set without nodes
-
-pub none_in : (set : List ℕ) → length set ≡ 0 → (v : ℕ) → has set v ≡ true → ⊥
-none_in [] empty v there = false≢true there
-none_in (w ∷ set) empty v there = absurd (omega (arith, empty))
-
--- ---- those at whose places something may be left
 
 module _ (near : Near) (parts : Parts) (box : List (List Bool)) (dim u label : ℕ) (set : List ℕ) (within : u < nodes parts) (known : label < edge_labels parts dim) (exact : (v : ℕ) → IsTrue (has set v) ↔ ((v < nodes parts) × (u ≢ v) × May parts box (edge dim u label v))) where
   each_place : ArePlaces parts dim u label set
@@ -69,7 +64,7 @@ pub label_skipped : (near : Near) (group : Group) (table : List (List ℕ)) (dim
 label_skipped near group table dim u label set p s known dim_is linking is empty others = record {
   goes = goes_none group p s;
   known = known;
-  done = λ quiet exact e on mother label_is. done_at_others near s.parts group s.now dim u label set dim_is linking is (others quiet) e on mother label_is (none_in set empty e.daughter.0);
+  done = λ quiet exact e on mother label_is. done_at_others near s.parts group s.now dim u label set dim_is linking is (others quiet) e on mother label_is (no_member set empty e.daughter.0);
 }
 
 -- nor where the entries don't ask for anything

@@ -1,7 +1,6 @@
 -- Labels behind those of a dimension.
 use Rattle.std.proofs.Common.{◌≡◌, ℕ, ◌≤◌, ◌↔◌, Bool, true, IsTrue, List, [], arith, subst}
 use Rattle.std.proofs.lemmas.Bool.{false≢true}
-use Rattle.xdg_nodeset.specs.Nodes.{has}
 use Rattle.xdg_problem.specs.declared.analysis.Edge.{Edge}
 use Rattle.xdg_problem.specs.declared.parts.Parts.{Parts}
 use Rattle.xdg_problem.specs.Paths.{IsDaughterBy}
@@ -10,6 +9,7 @@ use Rattle.xdg_rules.specs.Rules.{may_edges}
 use Rattle.xdg_plink.proofs.Places.{may_by}
 use Rattle.xdg_graph.specs.Edges.{edge_labels}
 use Rattle.xdg_graph.proofs.Labelled.{label_below}
+use Rattle.xdg_facts.specs.Rises.{has}
 
 module _ (parts : Parts) (box : List (List Bool)) (dim node label : ℕ) where
   abbrev may : List Edge

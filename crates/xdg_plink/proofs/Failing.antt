@@ -233,20 +233,7 @@ module _ (parts : Parts) (group : Group) (box : List (List Bool)) (is : IsBox (s
       λ u a l b v w decided fails. reach_fails principles.LinkingSisters e (linked_sister u l v) u l v decided.entry
       (place_seen (linked_sister u l v) u l v (λ e. refl)) (sister_seen u l v) (λ c h. h) closed fails
   each_fine principles.LinkingNotDaughter f e closed = λ u a l b v w decided fails. apart_fails e u l v decided closed fails
-  each_fine principles.Graph f e closed = absurd f
-  each_fine principles.Entries f e closed = absurd f
-  each_fine principles.Tree f e closed = absurd f
-  each_fine principles.Dag f e closed = absurd f
-  each_fine principles.Valency f e closed = absurd f
-  each_fine principles.Order f e closed = absurd f
-  each_fine principles.Projectivity f e closed = absurd f
-  each_fine principles.Agr f e closed = absurd f
-  each_fine principles.Agreement f e closed = absurd f
-  each_fine principles.Government f e closed = absurd f
-  each_fine principles.Climbing f e closed = absurd f
-  each_fine principles.Barriers f e closed = absurd f
-  each_fine (principles.Rule formula) f e closed = absurd f
-  each_fine (principles.Bound costs bound) f e closed = absurd f
+  each_fine principle f e closed = absurd f
 
   pub none_fails : IsLinking group.principle → ((d x : ℕ) → Has box d x → TakesBy group.principle parts group box d x → ⊥) → FailsTest parts group box → ⊥
   none_fails linking closed failing =

@@ -2,13 +2,13 @@
 use Rattle.std.proofs.Common.{◌≡◌, ℕ, ◌⊎◌, ◌↔◌, inl, inr, Bool, true, false, IsTrue, List, [], get_or, sym, ◌∙◌, subst, refl}
 use Rattle.std.proofs.lemmas.Bool.{false≢true}
 use Rattle.xdg_nodeset.specs.Tables.{Meet}
-use Rattle.xdg_nodeset.specs.Nodes.{has}
 use Rattle.xdg_problem.specs.declared.analysis.Edge.{Edge}
 use Rattle.xdg_problem.specs.declared.parts.Parts.{Parts}
 use Rattle.xdg_rules.specs.Rules.{may_edges}
 use Rattle.xdg_plink.specs.Ways.{Stands, IsEnd, IsLed}
 use Rattle.xdg_plink.specs.declared.way.Way.{Way}
 use Rattle.xdg_plink.specs.declared.way.Way.TheVariants as ways
+use Rattle.xdg_facts.specs.Rises.{has}
 
 -- ---- other ends
 

@@ -1,9 +1,7 @@
 -- Places near which nothing was lost: nothing is left to take there, as before.
-use Rattle.std.proofs.Common.{◌≡◌, ℕ, ◌<◌, inl, inr, Bool, true, false, List, [], sym, ap, ◌∙◌, arith, subst}
-use Rattle.std.specs.Prelude.{Contains, slice_index_or}
+use Rattle.std.proofs.Common.{◌≡◌, ℕ, ◌<◌, inr, Bool, true, List, sym, ap, ◌∙◌, arith, subst}
+use Rattle.std.specs.Prelude.{Contains}
 use Rattle.std.specs.List.{Any}
-use Rattle.std.proofs.lemmas.Bool.{cases_Bool, false≢true}
-use Rattle.xdg_nodeset.specs.Nodes.{has}
 use Rattle.xdg_problem.specs.declared.analysis.Edge.{Edge}
 use Rattle.xdg_problem.specs.declared.parts.Group.{Group}
 use Rattle.xdg_problem.specs.declared.parts.Parts.{Parts}
@@ -21,7 +19,6 @@ use Rattle.xdg_problem.proofs.PlaceOrder.{is_place}
 use Rattle.xdg_rules.specs.Rules.{IsClosedFor, IsPlaceOn, TakesBy, may_edges, must_edges}
 use Rattle.xdg_rules.proofs.Among.{linked_among}
 use Rattle.xdg_rules.proofs.Shrinking.{may_exact, must_exact}
-use Rattle.xdg_propcore.specs.Losses.{IsLost}
 use Rattle.xdg_propcore.specs.Touching.{HasTouched, MarksEdge}
 use Rattle.xdg_propcore.specs.declared.touched.Touched.{Touched}
 use Rattle.xdg_plink.specs.Family.{Reaches}
@@ -31,14 +28,8 @@ use Rattle.xdg_plink.specs.Ways.{from_node, way_of}
 use Rattle.xdg_plink.specs.declared.near.Near.{Near}
 use Rattle.xdg_plink.proofs.Keeping.{KeepsEntries, KeepsLinks, apart_before, reach_before}
 use Rattle.xdg_plink.proofs.Sweeping.{reach_at, reach_takes}
-
-kept_or_lost : (old new : List (List Bool)) (d v : ℕ) → (IsLost old new d v → ⊥) → Has old d v → Has new d v
-kept_or_lost old new d v kept h = elim (cases_Bool (slice_index_or (slice_index_or new d []) v false)) [
-  | inl there ↦ there
-  | inr gone ↦ absurd (kept (h, λ there. false≢true (sym gone ∙ there)))
-]
-
--- ---- edges of a dimension of which nothing was lost
+use Rattle.xdg_facts.specs.Rises.{has}
+use Rattle.xdg_propcore.proofs.Losing.{kept_or_lost}
 
 module _ (parts : Parts) (old new : List (List Bool)) (dim : ℕ) (t : Touched) (touched : HasTouched parts dim old new t) where
   edge_kept : (e : Edge) → IsPlaceOn parts dim e → (MarksEdge t e → ⊥) → (x : ℕ) → Has old (edge_decision parts e) x → Has new (edge_decision parts e) x

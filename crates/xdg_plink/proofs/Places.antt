@@ -1,6 +1,5 @@
 -- Edges by their numbers.
-use Rattle.std.proofs.Common.{◌≡◌, ℕ, ◌↔◌, Bool, List, ap, ◌∙◌, subst, refl}
-use Rattle.xdg_problem.specs.declared.analysis.Edge.{Edge}
+use Rattle.std.proofs.Common.{◌≡◌, ℕ, ◌↔◌, Bool, List, subst, refl}
 use Rattle.xdg_problem.specs.declared.parts.Parts.{Parts}
 use Rattle.xdg_problem.specs.Analyses.{IsPlace}
 use Rattle.xdg_problem.specs.Boxes.{May}
@@ -10,13 +9,7 @@ use Rattle.xdg_problem.proofs.Looking.{any_of}
 use Rattle.xdg_problem.proofs.PlaceOrder.{is_place, place_is}
 use Rattle.xdg_rules.specs.Rules.{may_edges}
 use Rattle.xdg_rules.proofs.Shrinking.{may_exact}
-
-pub edge_at : (e : Edge) (dim u l x : ℕ) → e.dim.0 ≡ dim → e.mother.0 ≡ u → e.label.0 ≡ l → e.daughter.0 ≡ x → e ≡ edge dim u l x
-edge_at e dim u l x a b c d =
-    ap (λ k. edge k e.mother.0 e.label.0 e.daughter.0) a
-    ∙ ap (λ k. edge dim k e.label.0 e.daughter.0) b
-    ∙ ap (λ k. edge dim u k e.daughter.0) c
-    ∙ ap (λ k. edge dim u l k) d
+use Rattle.xdg_graph.proofs.Edges.{edge_at}
 
 -- an edge from a node to another may be present
 pub may_by : (parts : Parts) (box : List (List Bool)) (dim u l x : ℕ)

@@ -12,11 +12,11 @@ use Rattle.xdg_problem.proofs.PlaceOrder.{is_place}
 use Rattle.xdg_rules.specs.Rules.{IsClosedFor, LinkingNotDaughter, LinkingReach, TakesBy, may_edges}
 use Rattle.xdg_rules.proofs.Among.{Among, linked_among}
 use Rattle.xdg_propcore.specs.Families.{LosesUnseen, StaysClosed}
-use Rattle.xdg_propcore.specs.UseKinds.{looks_at_entries, looks_at_first, looks_at_second}
 use Rattle.xdg_propcore.proofs.Unseen.{LooksOn, entry_stays, may_stay, must_before}
 use Rattle.xdg_plink.specs.Family.{IsLinking}
 use Rattle.xdg_plink.proofs.Failing.{none_fails}
 use Rattle.xdg_plink.proofs.Keeping.{apart_before, reach_before}
+use Rattle.xdg_problem.specs.Principles.{looks_at_entries, looks_at_first, looks_at_second}
 
 looks : (p : Principle) → IsLinking p → (looks_at_entries p ≡ true) × (looks_at_first p ≡ true) × (looks_at_second p ≡ true)
 looks principles.LinkingEnd f = (refl, refl, refl)

@@ -58,21 +58,7 @@ reach_at principles.LinkingMother r parts group box place d v t = t
 reach_at principles.LinkingBelowStart r parts group box place d v t = t
 reach_at principles.LinkingAboveStart r parts group box place d v t = t
 reach_at principles.LinkingSisters r parts group box place d v t = t
-reach_at principles.LinkingNotDaughter r parts group box place d v t = absurd r
-reach_at principles.Graph r parts group box place d v t = absurd r
-reach_at principles.Entries r parts group box place d v t = absurd r
-reach_at principles.Tree r parts group box place d v t = absurd r
-reach_at principles.Dag r parts group box place d v t = absurd r
-reach_at principles.Valency r parts group box place d v t = absurd r
-reach_at principles.Order r parts group box place d v t = absurd r
-reach_at principles.Projectivity r parts group box place d v t = absurd r
-reach_at principles.Agr r parts group box place d v t = absurd r
-reach_at principles.Agreement r parts group box place d v t = absurd r
-reach_at principles.Government r parts group box place d v t = absurd r
-reach_at principles.Climbing r parts group box place d v t = absurd r
-reach_at principles.Barriers r parts group box place d v t = absurd r
-reach_at (principles.Rule formula) r parts group box place d v t = absurd r
-reach_at (principles.Bound costs bound) r parts group box place d v t = absurd r
+reach_at principle r parts group box place d v t = absurd r
 
 pub reach_takes : (p : Principle) → Reaches p → (parts : Parts) (group : Group) (box : List (List Bool)) (d v : ℕ) → LinkingReach parts group box d v → TakesBy p parts group box d v
 reach_takes principles.LinkingEnd r parts group box d v t = t
@@ -81,21 +67,7 @@ reach_takes principles.LinkingMother r parts group box d v t = t
 reach_takes principles.LinkingBelowStart r parts group box d v t = t
 reach_takes principles.LinkingAboveStart r parts group box d v t = t
 reach_takes principles.LinkingSisters r parts group box d v t = t
-reach_takes principles.LinkingNotDaughter r parts group box d v t = absurd r
-reach_takes principles.Graph r parts group box d v t = absurd r
-reach_takes principles.Entries r parts group box d v t = absurd r
-reach_takes principles.Tree r parts group box d v t = absurd r
-reach_takes principles.Dag r parts group box d v t = absurd r
-reach_takes principles.Valency r parts group box d v t = absurd r
-reach_takes principles.Order r parts group box d v t = absurd r
-reach_takes principles.Projectivity r parts group box d v t = absurd r
-reach_takes principles.Agr r parts group box d v t = absurd r
-reach_takes principles.Agreement r parts group box d v t = absurd r
-reach_takes principles.Government r parts group box d v t = absurd r
-reach_takes principles.Climbing r parts group box d v t = absurd r
-reach_takes principles.Barriers r parts group box d v t = absurd r
-reach_takes (principles.Rule formula) r parts group box d v t = absurd r
-reach_takes (principles.Bound costs bound) r parts group box d v t = absurd r
+reach_takes principle r parts group box d v t = absurd r
 
 -- a linking principle that asks for no edges keeps them apart
 pub not_reaching : (p : Principle) → IsLinking p → (Reaches p → ⊥) → p ≡ principles.LinkingNotDaughter

@@ -1,6 +1,8 @@
 -- The linking principles.
 use Rattle.xdg_problem.specs.declared.parts.Principle.{Principle}
 use Rattle.xdg_problem.specs.declared.parts.Principle.TheVariants as principles
+use Rattle.xdg_problem.specs.Principles.{IsOf}
+use Rattle.xdg_problem.specs.declared.principles.PrincipleFamily.TheVariants as families
 
 -- those that ask for edges of the second dimension
 abbrev pub Reaches : Principle → Type 0
@@ -14,11 +16,4 @@ Reaches principle = ⊥
 
 -- all of them
 abbrev pub IsLinking : Principle → Type 0
-IsLinking principles.LinkingEnd = Unit {0}
-IsLinking principles.LinkingDaughter = Unit {0}
-IsLinking principles.LinkingMother = Unit {0}
-IsLinking principles.LinkingBelowStart = Unit {0}
-IsLinking principles.LinkingAboveStart = Unit {0}
-IsLinking principles.LinkingSisters = Unit {0}
-IsLinking principles.LinkingNotDaughter = Unit {0}
-IsLinking principle = ⊥
+IsLinking principle = IsOf families.Link principle

@@ -1,6 +1,5 @@
 -- Places of the first dimension near which nothing was lost.
 use Rattle.std.specs.Prelude.{◌≡◌, ◌≢◌, ◌<◌, ℕ, Bool, true, List}
-use Rattle.xdg_nodeset.specs.Nodes.{has}
 use Rattle.xdg_problem.specs.declared.analysis.Edge.{Edge}
 use Rattle.xdg_problem.specs.declared.parts.Group.{Group}
 use Rattle.xdg_problem.specs.declared.parts.Parts.{Parts}
@@ -16,6 +15,7 @@ use Rattle.xdg_plink.specs.Ways.{from_node, way_of}
 use Rattle.xdg_plink.specs.declared.near.Near.{Near}
 use Rattle.xdg_plink.specs.declared.way.Way.{Way}
 use Rattle.xdg_plink.specs.declared.way.Way.TheVariants as ways
+use Rattle.xdg_facts.specs.Rises.{has}
 
 -- ---- what was lost of edges
 

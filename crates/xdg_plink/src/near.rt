@@ -1,7 +1,7 @@
 //! The edges near which something was lost.
 
 ghost use Rattle.std.specs.Prelude.{◌≡◌, ◌<◌, ℕ, true, false};
-ghost use Rattle.xdg_nodeset.specs.Nodes.{has};
+ghost use Rattle.xdg_facts.specs.Rises.{has};
 ghost use Rattle.xdg_problem.specs.Places.{nodes};
 ghost use Rattle.xdg_problem.specs.Problems.{IsGroup};
 ghost use Rattle.xdg_rules.specs.Rules.{IsClosedFor};

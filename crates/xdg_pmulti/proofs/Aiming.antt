@@ -6,7 +6,6 @@ use Rattle.std.proofs.lemmas.List.Elements.{All-weaker, All-contains_itself}
 use Rattle.xdg_nodeset.specs.Tables.{In}
 use Rattle.xdg_nodeset.proofs.TableSets.{either}
 use Rattle.xdg_problem.proofs.Walks.{closed_above}
-use Rattle.xdg_nodeset.specs.Nodes.{has}
 use Rattle.xdg_problem.specs.declared.analysis.Edge.{Edge}
 use Rattle.xdg_problem.specs.declared.parts.Group.{Group}
 use Rattle.xdg_problem.specs.declared.parts.Parts.{Parts}
@@ -31,6 +30,7 @@ use Rattle.xdg_graph.proofs.Edges.{stands_by}
 use Rattle.xdg_graph.proofs.Labelled.{label_below}
 use Rattle.xdg_pmulti.specs.Aims.{AreNodes, Beyond, Blocks, Forbids, From, IsStopped, Leaves, Out, StoppedBy, Stops}
 use Rattle.xdg_pmulti.proofs.Forbidding.{ByOne, Passed, clears_wider, forbids_same, one_edge, passed_all, passed_more, passed_set}
+use Rattle.xdg_facts.specs.Rises.{has}
 
 -- ---- the edges with a label out of a node
 

@@ -4,7 +4,7 @@ use Rattle.std.proofs.lemmas.Bool.{eq-eqb, eqb-true}
 use Rattle.std.proofs.lemmas.List.{length-replicate}
 use Rattle.xdg_nodeset.specs.Tables.{In}
 use Rattle.xdg_nodeset.proofs.TableSets.{either, no_in}
-use Rattle.xdg_nodeset.specs.Nodes.{has}
+use Rattle.xdg_facts.specs.Rises.{has}
 
 -- a set with a node more
 pub with_one : (old set : List ℕ) (node x : ℕ) (B : ℕ → Type 0) → B node → has set x ≡ ((x == node) || has old x) → (has set x ≡ true) ↔ ((has old x ≡ true) ⊎ ((x ≡ node) × B x))

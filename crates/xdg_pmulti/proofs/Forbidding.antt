@@ -1,7 +1,6 @@
 -- Edges that go, one after another.
 use Rattle.std.proofs.Common.{◌≡◌, ℕ, ◌+◌, ◌<◌, ◌⊎◌, ◌==◌, inl, inr, true, false, List, [], ◌∷◌, ◌++◌, refl, sym, ◌∙◌, ap, subst, arith, append-nil, append_assoc}
 use Rattle.std.proofs.lemmas.Bool.{cases_eq, eq-eqb, eqb-true, false≢true, or_cases}
-use Rattle.xdg_nodeset.specs.Nodes.{has}
 use Rattle.xdg_problem.specs.declared.analysis.Edge.{Edge}
 use Rattle.xdg_problem.specs.declared.parts.Parts.{Parts}
 use Rattle.xdg_problem.specs.Boxes.{Has, edge_decision}
@@ -12,6 +11,7 @@ use Rattle.xdg_propcore.specs.Passes.{Progress, Clears}
 use Rattle.xdg_propcore.proofs.Passing.{clears_none, clears_like, clears_both}
 use Rattle.xdg_pmulti.specs.Aims.{Forbids}
 use Rattle.xdg_facts.proofs.Truths.{or_here, either_true}
+use Rattle.xdg_facts.specs.Rises.{has}
 
 -- the same edges, told in another way
 pub forbids_like : (parts : Parts) (dim : ℕ) (P Q : Edge → Type 0) → ((e : Edge) → IsPlaceOn parts dim e → P e → Q e) → (d v : ℕ) → Forbids parts dim P d v → Forbids parts dim Q d v

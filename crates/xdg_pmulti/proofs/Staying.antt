@@ -17,10 +17,10 @@ use Rattle.xdg_rules.specs.Rules.{TakesBy, IsClosedFor, ClimbingReach, BarriersR
 use Rattle.xdg_rules.proofs.Among.{Among, above_among}
 use Rattle.xdg_rules.proofs.Shrinking.{must_exact}
 use Rattle.xdg_propcore.specs.Families.{LosesUnseen, StaysClosed}
-use Rattle.xdg_propcore.specs.UseKinds.{looks_at_entries, looks_at_first, looks_at_second}
 use Rattle.xdg_propcore.proofs.Unseen.{LooksOn, entry_stays, may_stay, must_before as must_kept}
 use Rattle.xdg_pmulti.specs.Family.{IsOfFamily}
 use Rattle.xdg_pmulti.proofs.Closing.{closed_by_rules}
+use Rattle.xdg_problem.specs.Principles.{looks_at_entries, looks_at_first, looks_at_second}
 
 looks_first : (p : Principle) → IsOfFamily p → looks_at_first p ≡ true
 looks_first principles.Climbing family = refl

@@ -1,13 +1,13 @@
 -- Edges that are to go, told by tables of nodes.
 use Rattle.std.specs.Prelude.{◌≡◌, ◌⊎◌, ◌<◌, ℕ, Bool, true, List, Contains}
 use Rattle.xdg_nodeset.specs.Tables.{In}
-use Rattle.xdg_nodeset.specs.Nodes.{has}
 use Rattle.xdg_problem.specs.declared.analysis.Edge.{Edge}
 use Rattle.xdg_problem.specs.declared.parts.Group.{Group}
 use Rattle.xdg_problem.specs.declared.parts.Parts.{Parts}
 use Rattle.xdg_problem.specs.Features.{set_row}
 use Rattle.xdg_problem.specs.Places.{nodes}
 use Rattle.xdg_rules.specs.Rules.{EachEntry, IsPlaceOn, SaysPresent}
+use Rattle.xdg_facts.specs.Rises.{has}
 
 -- the value that says that an edge of the dimension is present, which is to go
 pub record Forbids (parts : Parts) (dim : ℕ) (Goes : Edge → Type 0) (d v : ℕ) : Type 0 where

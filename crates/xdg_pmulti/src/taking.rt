@@ -1,7 +1,7 @@
 //! Edges that lead out of a set of nodes, taken one by one.
 
 ghost use Rattle.std.specs.Prelude.{◌≡◌, ◌<◌, ℕ, true};
-ghost use Rattle.xdg_nodeset.specs.Nodes.{has};
+ghost use Rattle.xdg_facts.specs.Rises.{has};
 ghost use Rattle.xdg_problem.specs.Places.{nodes};
 ghost use Rattle.xdg_propcore.specs.Passes.{Clears};
 ghost use Rattle.xdg_graph.specs.Edges.{edge_labels};

@@ -5,7 +5,6 @@ use Rattle.std.proofs.lemmas.Bool.{cases_Bool, false≢true}
 use Rattle.std.proofs.lemmas.List.{get_or_default, length-map}
 use Rattle.xdg_base.specs.declared.ids.LabelId.{LabelId}
 use Rattle.xdg_nodeset.specs.Tables.{In}
-use Rattle.xdg_nodeset.specs.Nodes.{has}
 use Rattle.xdg_problem.specs.declared.analysis.Edge.{Edge}
 use Rattle.xdg_problem.specs.declared.parts.Group.{Group}
 use Rattle.xdg_problem.specs.declared.parts.Parts.{Parts}
@@ -27,6 +26,7 @@ use Rattle.xdg_porder.specs.Across.{AreNodesDone}
 use Rattle.xdg_porder.specs.Items.{AreMothersDone, IsNodeDone, IsPairDone, MayFollow, MustFollow, label_at}
 use Rattle.xdg_porder.proofs.Pairing.{pairs_before}
 use Rattle.xdg_porder.proofs.Testing.{all_seen, daughters_pass}
+use Rattle.xdg_facts.specs.Rises.{has}
 
 module _ (parts : Parts) (group : Group) (box : List (List Bool)) (is : IsBox (shape parts) box) where
   -- a place of the dimension whose edge may be

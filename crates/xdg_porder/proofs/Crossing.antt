@@ -1,7 +1,6 @@
 -- Edges across nodes, taken by a table.
 use Rattle.std.proofs.Common.{◌≡◌, ℕ, ◌<◌, ◌↔◌, inl, inr, Bool, true, List, [], get_or, refl, sym, arith, subst}
 use Rattle.xdg_nodeset.specs.Tables.{In}
-use Rattle.xdg_nodeset.specs.Nodes.{has}
 use Rattle.xdg_problem.specs.declared.parts.Group.{Group}
 use Rattle.xdg_problem.specs.declared.parts.Parts.{Parts}
 use Rattle.xdg_problem.specs.Arguments.{first_dim}
@@ -20,6 +19,7 @@ use Rattle.xdg_propcore.specs.Sweeps.{Sweeps}
 use Rattle.xdg_porder.specs.Across.{Crosses, IsAcrossLabel, IsAcrossNode, IsLabelDone, IsTabled}
 use Rattle.xdg_porder.specs.Items.{MayFollow, NoneFollow, TakesEdges, edge_to}
 use Rattle.xdg_porder.proofs.Removing.{ready_later}
+use Rattle.xdg_facts.specs.Rises.{has}
 
 -- a node between two nodes of the sentence is one
 pub between_within : (u v w n : ℕ) → IsBetween u v w → u < n → v < n → w < n

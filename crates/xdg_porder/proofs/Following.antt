@@ -1,7 +1,6 @@
 -- The items of a node, as sets and as values that remain.
 use Rattle.std.proofs.Common.{◌≡◌, ◌≢◌, ℕ, ◌<◌, ◌≤◌, ◌⊎◌, ◌↔◌, inl, inr, Bool, true, IsTrue, List, [], sym, arith, subst}
 use Rattle.std.proofs.lemmas.Bool.{false≢true}
-use Rattle.xdg_nodeset.specs.Nodes.{has}
 use Rattle.xdg_problem.specs.declared.analysis.Edge.{Edge}
 use Rattle.xdg_problem.specs.declared.parts.Parts.{Parts}
 use Rattle.xdg_problem.specs.Analyses.{IsPlace}
@@ -9,6 +8,7 @@ use Rattle.xdg_problem.specs.Boxes.{Has}
 use Rattle.xdg_problem.specs.Places.{edge, nodes}
 use Rattle.xdg_graph.specs.Edges.{edge_labels}
 use Rattle.xdg_graph.proofs.Labelled.{label_below, place_between}
+use Rattle.xdg_facts.specs.Rises.{has}
 
 -- ---- daughters
 

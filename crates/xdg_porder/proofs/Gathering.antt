@@ -4,11 +4,12 @@ use Rattle.std.specs.Prelude.{not, nat_lt}
 use Prim.Native.Nat.{min, max}
 use Rattle.std.proofs.lemmas.Bool.{cases_lt, eq-eqb, eqb-true, lt-ltb, ltb-true, false≢true}
 use Rattle.xdg_nodeset.proofs.TableSets.{either, both}
-use Rattle.xdg_nodeset.specs.Nodes.{has, IsNodes}
-use Rattle.xdg_nodeset.proofs.Rising.{has_beyond}
+use Rattle.xdg_nodeset.specs.Nodes.{IsNodes}
 use Rattle.xdg_problem.specs.Asking.{IsBetween}
 use Rattle.xdg_porder.specs.Across.{Crosses}
 use Rattle.xdg_facts.proofs.Truths.{left_out}
+use Rattle.xdg_facts.specs.Rises.{has}
+use Rattle.xdg_facts.proofs.Rising.{has_beyond}
 
 -- what was gathered, and what the nodes still to come bring, is what all bring
 abbrev pub Gathers : (ℕ → ℕ → Type 0) → List ℕ → List ℕ → List ℕ → Type 0

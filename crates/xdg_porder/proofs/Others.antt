@@ -1,27 +1,27 @@
 -- Nodes of which nothing was lost: there order takes no more than before.
 use Rattle.std.proofs.Common.{◌≡◌, ℕ, ◌<◌, ◌+◌, ◌||◌, inl, inr, Bool, true, false, List, [], ◌∷◌, length, refl, sym, ◌∙◌, ap, subst, arith}
-use Rattle.std.specs.Prelude.{slice_index_or}
-use Rattle.std.proofs.lemmas.Bool.{cases_Bool, cases_eq}
+use Rattle.std.proofs.lemmas.Bool.{cases_eq}
 use Rattle.std.proofs.lemmas.List.{length-map}
 use Rattle.xdg_base.specs.declared.ids.LabelId.{LabelId}
-use Rattle.xdg_nodeset.specs.Nodes.{has}
 use Rattle.xdg_problem.specs.declared.parts.Group.{Group}
 use Rattle.xdg_problem.specs.declared.parts.Parts.{Parts}
 use Rattle.xdg_problem.specs.declared.parts.Principle.TheVariants as principles
 use Rattle.xdg_problem.specs.Arguments.{attr_of, first_dim, order_of}
 use Rattle.xdg_problem.specs.Boxes.{Has, IsBox, LiesIn, edge_decision}
 use Rattle.xdg_problem.specs.Places.{nodes}
-use Rattle.xdg_problem.specs.Problems.{IsGroup, IsProblem, attr_arguments, dim_arguments}
+use Rattle.xdg_problem.specs.Problems.{IsGroup, IsProblem}
 use Rattle.xdg_problem.specs.Vectors.{shape}
 use Rattle.xdg_rules.specs.Rules.{ComesBefore, IsClosedFor, attr_of_node}
 use Rattle.xdg_store.specs.States.{State}
-use Rattle.xdg_propcore.specs.Losses.{IsLost}
 use Rattle.xdg_propcore.specs.Passes.{Progress, IsQuiet}
 use Rattle.xdg_propcore.specs.Sweeps.{Sweeps}
 use Rattle.xdg_propcore.specs.Touching.{HasTouched}
 use Rattle.xdg_propcore.specs.declared.touched.Touched.{Touched}
 use Rattle.xdg_porder.specs.Items.{AreMothersDone, AreOthersDone, IsAtNode, IsNodeDone, IsWrong, MayStand, MustStand, edge_to, label_at}
 use Rattle.xdg_porder.proofs.Pairing.{at_comes, edge_goes, own_goes}
+use Rattle.xdg_facts.specs.Rises.{has}
+use Rattle.xdg_propcore.proofs.Losing.{kept_or_lost}
+use Rattle.xdg_problem.specs.Principles.{dim_arguments, attr_arguments}
 
 -- ---- where the box is closed nothing is left
 
@@ -47,12 +47,6 @@ module _ (parts : Parts) (group : Group) (box : List (List Bool)) (problem : IsP
       )
 
 -- ---- what is lost of a node
-
-kept_or_lost : (old new : List (List Bool)) (d v : ℕ) → (IsLost old new d v → ⊥) → Has old d v → Has new d v
-kept_or_lost old new d v kept h = elim (cases_Bool (slice_index_or (slice_index_or new d []) v false)) [
-  | inl there ↦ there
-  | inr gone ↦ absurd (kept (h, λ there. (let z : true ≡ false = sym there ∙ gone in cc)))
-]
 
 module _ (parts : Parts) (group : Group) (group_is : IsGroup parts group) (order : group.principle ≡ principles.Order) (old new : List (List Bool)) (lies : LiesIn new old) (t : Touched) (touched : HasTouched parts (first_dim group) old new t) (u : ℕ) (within : u < nodes parts) (out : has t.mothers u ≡ true → ⊥) (own : has t.attrs u ≡ true → ⊥) where
   dim_within : first_dim group < length parts.dims

@@ -4,13 +4,13 @@ use Rattle.std.specs.Prelude.{not}
 use Rattle.std.proofs.lemmas.Bool.{cases_Bool, cases_lt, false≢true}
 use Rattle.xdg_nodeset.specs.Tables.{In}
 use Rattle.xdg_nodeset.proofs.TableSets.{either}
-use Rattle.xdg_nodeset.specs.Nodes.{has}
 use Rattle.xdg_problem.specs.declared.parts.Group.{Group}
 use Rattle.xdg_problem.specs.declared.parts.Parts.{Parts}
 use Rattle.xdg_porder.specs.Items.{MayFollow, MustFollow, label_at}
 use Rattle.xdg_porder.specs.Yields.{IsBroken, IsLabelSettled}
 use Rattle.xdg_porder.proofs.Gathering.{some_or_none}
 use Rattle.xdg_facts.proofs.Truths.{left_out}
+use Rattle.xdg_facts.specs.Rises.{has}
 
 -- where no node is left that may follow and needn't
 pub settled_exact : (parts : Parts) (group : Group) (box : List (List Bool)) (u label : ℕ) (may must free : List ℕ) (b : Bool) → ((v : ℕ) → (has may v ≡ true) ↔ MayFollow parts group box u label v) → ((v : ℕ) → (has must v ≡ true) ↔ MustFollow parts group box u label v) → ((v : ℕ) → has free v ≡ (has may v && not (has must v))) → IsTrue b ↔ ((v : ℕ) → has free v ≡ true → ⊥) → IsTrue b ↔ IsLabelSettled parts group u label box

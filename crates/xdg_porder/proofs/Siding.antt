@@ -3,7 +3,6 @@ use Rattle.std.proofs.Common.{◌≡◌, ℕ, ◌<◌, ◌≤◌, ◌+◌, ◌-�
 use Rattle.std.proofs.lemmas.Bool.{cases_lt}
 use Rattle.std.proofs.lemmas.List.{length-map}
 use Rattle.xdg_base.specs.declared.ids.LabelId.{LabelId}
-use Rattle.xdg_nodeset.specs.Nodes.{has}
 use Rattle.xdg_nodeset.proofs.TableSets.{both, either}
 use Rattle.xdg_problem.specs.declared.parts.Group.{Group}
 use Rattle.xdg_problem.specs.declared.parts.Parts.{Parts}
@@ -13,7 +12,6 @@ use Rattle.xdg_problem.specs.Places.{nodes}
 use Rattle.xdg_problem.specs.Vectors.{shape}
 use Rattle.xdg_rules.specs.Rules.{ComesBefore, attr_of_node}
 use Rattle.xdg_store.specs.States.{State, Known}
-use Rattle.xdg_store.proofs.Boxed.{has_decision}
 use Rattle.xdg_propcore.specs.Passes.{Progress, IsQuiet}
 use Rattle.xdg_propcore.specs.Sweeps.{Sweeps}
 use Rattle.xdg_propcore.proofs.Passing.{goes_both}
@@ -23,6 +21,8 @@ use Rattle.xdg_porder.specs.Sides.{IsReached, IsSideDone, label_from}
 use Rattle.xdg_porder.specs.declared.sides.Side.{Side}
 use Rattle.xdg_porder.specs.declared.sides.Side.TheVariants as sides
 use Rattle.xdg_porder.proofs.Pairing.{at_comes, items_go}
+use Rattle.xdg_facts.specs.Rises.{has}
+use Rattle.xdg_problem.proofs.BoxPlaces.{has_decision}
 
 -- ---- which labels come before which
 

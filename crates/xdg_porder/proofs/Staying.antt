@@ -11,7 +11,7 @@ use Rattle.xdg_problem.specs.declared.parts.Principle.TheVariants as principles
 use Rattle.xdg_problem.specs.Arguments.{first_dim, label_count}
 use Rattle.xdg_problem.specs.Boxes.{Has, LiesIn, edge_decision}
 use Rattle.xdg_problem.specs.Places.{nodes, places}
-use Rattle.xdg_problem.specs.Problems.{IsGroup, attr_arguments}
+use Rattle.xdg_problem.specs.Problems.{IsGroup}
 use Rattle.xdg_problem.specs.Tests.{Test, IsTestOf, ordered_daughters, ordered_yields, projective, looks_at, entry_node, test_attrs}
 use Rattle.xdg_problem.proofs.FilterFacts.{filter_alike}
 use Rattle.xdg_problem.proofs.PlaceOrder.{is_place}
@@ -21,10 +21,10 @@ use Rattle.xdg_rules.specs.Rules.{entry_value}
 use Rattle.xdg_rules.proofs.Among.{Among, above_among}
 use Rattle.xdg_rules.proofs.Failing.{value_is}
 use Rattle.xdg_propcore.specs.Families.{LosesUnseen, StaysClosed}
-use Rattle.xdg_propcore.specs.UseKinds.{looks_at_attrs, looks_at_first}
 use Rattle.xdg_propcore.proofs.Unseen.{LooksOn, attr_stays, edge_stays as edge_kept, may_stay, must_before as must_kept}
 use Rattle.xdg_porder.specs.Family.{IsOfFamily}
 use Rattle.xdg_facts.proofs.Truths.{and_first, same_and, same_flag}
+use Rattle.xdg_problem.specs.Principles.{attr_arguments, looks_at_attrs, looks_at_first}
 
 looks_first : (p : Principle) → IsOfFamily p → looks_at_first p ≡ true
 looks_first principles.Order family = refl

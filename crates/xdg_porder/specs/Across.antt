@@ -1,7 +1,6 @@
 -- Edges across nodes that can't be below their mothers, by a table of nodes below others.
 use Rattle.std.specs.Prelude.{◌≡◌, ℕ, ◌<◌, true, Bool, List}
 use Rattle.xdg_nodeset.specs.Tables.{In}
-use Rattle.xdg_nodeset.specs.Nodes.{has}
 use Rattle.xdg_problem.specs.declared.parts.Group.{Group}
 use Rattle.xdg_problem.specs.declared.parts.Parts.{Parts}
 use Rattle.xdg_problem.specs.declared.parts.Principle.TheVariants as principles
@@ -13,6 +12,7 @@ use Rattle.xdg_rules.specs.Rules.{may_edges}
 use Rattle.xdg_store.specs.States.{State}
 use Rattle.xdg_graph.specs.Edges.{edge_labels}
 use Rattle.xdg_porder.specs.Items.{IsReady, MayFollow}
+use Rattle.xdg_facts.specs.Rises.{has}
 
 -- a node strictly between u and v is not in a set
 abbrev pub Crosses : ℕ → List ℕ → ℕ → Type 0

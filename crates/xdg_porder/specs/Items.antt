@@ -1,6 +1,5 @@
 -- The items of a node under labels: its daughters, and the node itself under its own label.
 use Rattle.std.specs.Prelude.{◌≡◌, ◌≢◌, ℕ, ◌<◌, ◌≤◌, ◌⊎◌, true, Bool, List, length, slice_index_or}
-use Rattle.xdg_nodeset.specs.Nodes.{has}
 use Rattle.xdg_problem.specs.declared.analysis.Edge.{Edge}
 use Rattle.xdg_problem.specs.declared.parts.Group.{Group}
 use Rattle.xdg_problem.specs.declared.parts.Parts.{Parts}
@@ -12,6 +11,7 @@ use Rattle.xdg_problem.specs.Places.{edge, nodes}
 use Rattle.xdg_problem.specs.Problems.{IsGroup}
 use Rattle.xdg_rules.specs.Rules.{ComesBefore, Takes, attr_of_node}
 use Rattle.xdg_store.specs.States.{State, Known}
+use Rattle.xdg_facts.specs.Rises.{has}
 
 -- the edge of the principle use's dimension from u with a label to v
 abbrev pub edge_to : Group → ℕ → ℕ → ℕ → Edge

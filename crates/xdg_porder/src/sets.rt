@@ -2,11 +2,11 @@
 
 ghost use Rattle.std.specs.Prelude.{◌≡◌, ◌<◌, ◌≤◌, ◌↔◌, ◌⊎◌, ℕ, true, IsTrue};
 ghost use Rattle.xdg_nodeset.specs.Tables.{In};
-ghost use Rattle.xdg_nodeset.specs.Nodes.{has};
+ghost use Rattle.xdg_facts.specs.Rises.{has};
 ghost use Rattle.xdg_porder.specs.Across.{Crosses};
 
 use xdg_base::NodeId;
-use xdg_graph::set_at;
+use xdg_graph::{set_at, up_to};
 use xdg_nodeset::NodeSet;
 
 /// Whether a set has no node.
@@ -17,17 +17,6 @@ pub(crate) fn is_empty(set: NodeSet) -> bool
         Some(_) => false,
         None => true,
     }
-}
-
-/// The nodes up to one.
-fn up_to(node: NodeId) -> NodeSet
-    requires { node.0 < 128 }
-    ensures { (v : ℕ) → (has result v ≡ true) ↔ (v ≤ node.0) }
-{
-    let mut nodes = NodeSet::between(NodeId(0), node);
-    nodes.insert(NodeId(0));
-    nodes.insert(node);
-    nodes
 }
 
 /// The nodes from one on.

@@ -1,7 +1,7 @@
 //! What order takes, from one side and then from the other.
 
 ghost use Rattle.std.specs.Prelude.{◌≡◌, ◌<◌, ℕ, true, length};
-ghost use Rattle.xdg_nodeset.specs.Nodes.{has};
+ghost use Rattle.xdg_facts.specs.Rises.{has};
 ghost use Rattle.xdg_problem.specs.Places.{nodes};
 ghost use Rattle.xdg_propcore.specs.Passes.{IsQuiet};
 ghost use Rattle.xdg_propcore.specs.Sweeps.{Sweeps};

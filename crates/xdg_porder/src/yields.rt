@@ -1,7 +1,7 @@
 //! Whether an order that takes yields along fails in a box whose edges are decided.
 
 ghost use Rattle.std.specs.Prelude.{◌≡◌, ◌<◌, ◌+◌, ◌↔◌, ℕ, true, IsTrue, length};
-ghost use Rattle.xdg_nodeset.specs.Nodes.{has};
+ghost use Rattle.xdg_facts.specs.Rises.{has};
 ghost use Rattle.xdg_problem.specs.Places.{nodes};
 ghost use Rattle.xdg_rules.specs.Rules.{IsDecided, attr_of_node};
 ghost use Rattle.xdg_porder.specs.Items.{IsAtNode};

@@ -1,14 +1,13 @@
 -- The offences of arguments that the pass lists are those of the rows.
-use Rattle.std.proofs.Common.{◌≡◌, inl, inr, false, List, [], ◌∷◌, ◌++◌, map, Option, None, Some, refl, sym, ap, subst}
+use Rattle.std.proofs.Common.{◌≡◌, inl, inr, false, List, [], ◌++◌, Option, None, Some, refl, sym, subst}
 use Rattle.std.specs.List.{flat_map}
 use Rattle.xdg_base.specs.declared.faults.Cause.TheVariants as causes
 use Rattle.xdg_base.specs.declared.faults.Fault.{Fault}
 use Rattle.xdg_ast.specs.declared.names.Name.{Name}
 use Rattle.xdg_domain.specs.Shapes.{shape}
 use Rattle.xdg_domain.specs.declared.types.Ty.{Ty}
-use Rattle.xdg_names.specs.First.{In, Tells, first}
+use Rattle.xdg_names.specs.First.{Tells, first}
 use Rattle.xdg_names.proofs.First.{tells_as, first-tells}
-use Rattle.xdg_names.proofs.In.{in_append, in_left, in_right, in_flat_map, flat_map_in, in_unless, unless_in}
 use Rattle.xdg_names.specs.Texts.{has_text}
 use Rattle.xdg_terms.specs.Forms.{Term}
 use Rattle.xdg_types.specs.Names.{fault_at}
@@ -33,6 +32,8 @@ use Rattle.xdg_principles.specs.ArgumentFaults.{form_faults, type_faults, member
 use Rattle.xdg_principles.proofs.Tests.{not_among, no_text}
 use Rattle.xdg_principles.proofs.WantedLaw.{wanted_false, true_wanted}
 use Rattle.xdg_principles.proofs.MemberPlaces.{no_type, type_there}
+use Rattle.xdg_facts.specs.Membership.{In}
+use Rattle.xdg_facts.proofs.In.{in_append, in_left, in_right, in_unless, unless_in, in_flat_map, flat_map_in, in_map, map_in}
 
 module _ (x : Argument) where
   abbrev s : Setting
@@ -128,14 +129,6 @@ module _ (x : Argument) where
   ]
 
 -- ---- all arguments
-
-in_map : {A B : Type 0} (g : A → B) (xs : List A) (y : B) → In (map g xs) y → (z : A) × (In xs z × (g z ≡ y))
-in_map g [] y h = absurd h
-in_map g (x ∷ xs) y h = elim h [ inl e ↦ (x, (inl refl, e)) | inr k ↦ (let r = in_map g xs y k in (r.0, (inr r.1.0, r.1.1))) ]
-
-map_in : {A B : Type 0} (g : A → B) (xs : List A) (z : A) → In xs z → In (map g xs) (g z)
-map_in g [] z h = absurd h
-map_in g (x ∷ xs) z h = elim h [ inl e ↦ inl (ap g e) | inr k ↦ inr (map_in g xs z k) ]
 
 abbrev argument : Setting → Parameter → Argument
 argument s p = record { setting = s; parameter = p }

@@ -1,7 +1,6 @@
 -- The arguments of a principle, one by one.
-use Rattle.std.proofs.Common.{◌≡◌, ℕ, ◌||◌, List, [], ◌∷◌, ◌++◌, map, Option, None, Some, refl, sym, ap, ◌∙◌}
+use Rattle.std.proofs.Common.{◌≡◌, ℕ, ◌||◌, List, [], ◌++◌, map, Option, None, Some, sym, ap, ◌∙◌}
 use Rattle.std.specs.List.{flat_map}
-use Rattle.std.specs.Str.{bytes_eq}
 use Rattle.std.proofs.lemmas.Grind.{flat_map-append}
 use Rattle.std.proofs.lemmas.List.{map-append, append-nil}
 use Rattle.xdg_base.specs.declared.faults.Fault.{Fault}
@@ -14,14 +13,10 @@ use Rattle.xdg_principles.specs.Made.{arg, args}
 use Rattle.xdg_principles.specs.Settings.{Setting}
 use Rattle.xdg_principles.specs.Principles.{key_text, told}
 use Rattle.xdg_principles.specs.Names.{required_key}
-use Rattle.xdg_facts.proofs.Truths.{or_assoc}
+use Rattle.xdg_names.proofs.Texts.{has_text-append}
 
 pub nothing_more : (found : Option Fault) → earlier found None ≡ found
 nothing_more found = earlier-none found
-
-has_append : (xs ys : List (List ℕ)) (t : List ℕ) → has_text (xs ++ ys) t ≡ (has_text xs t || has_text ys t)
-has_append [] ys t = refl
-has_append (x ∷ xs) ys t = ap (λ b. bytes_eq x t || b) (has_append xs ys t) ∙ sym (or_assoc (bytes_eq x t) (has_text xs t) (has_text ys t))
 
 abbrev names : List Parameter → List (List ℕ)
 names ps = map (λ one. key_text one.key) ps
@@ -31,9 +26,9 @@ pub has_args : (a b c : Option Parameter) (t : List ℕ)
     ≡ (has_text (map (λ one. key_text one.key) (told a)) t || (has_text (map (λ one. key_text one.key) (told b)) t || has_text (map (λ one. key_text one.key) (told c)) t))
 has_args a b c t =
     ap (λ ks. has_text ks t) (map-append (λ (one : Parameter). key_text one.key) (told a) (told b ++ told c))
-    ∙ has_append (names (told a)) (names (told b ++ told c)) t
+    ∙ has_text-append (names (told a)) (names (told b ++ told c)) t
     ∙ ap (λ s. has_text (names (told a)) t || s)
-    (ap (λ ks. has_text ks t) (map-append (λ (one : Parameter). key_text one.key) (told b) (told c)) ∙ has_append (names (told b)) (names (told c)) t)
+    (ap (λ ks. has_text ks t) (map-append (λ (one : Parameter). key_text one.key) (told b) (told c)) ∙ has_text-append (names (told b)) (names (told c)) t)
 
 -- what is found of two lists in a row
 split : {A : Type 0} (g : A → List Fault) (xs ys : List A) → first (flat_map g (xs ++ ys)) ≡ earlier (first (flat_map g xs)) (first (flat_map g ys))

@@ -1,7 +1,6 @@
 pub mod ArgumentLaw
 pub mod Compared
 pub mod Forms
-pub mod Known
 pub mod Lookups
 pub mod MemberPlaces
 pub mod NameLaw

@@ -1,14 +1,8 @@
 -- Names by number.
-use Rattle.std.proofs.Common.{◌≡◌, ℕ, zero, suc, ◌+◌, ◌<◌, ◌≤◌, Bool, true, false, ◌||◌, List, [], ◌∷◌, ◌++◌, length, take, drop, drop-cons, get_or, map, Option, None, Some, add-one, ap, sym, ◌∙◌, refl, subst, arith, inl, inr}
-use Rattle.std.specs.Prelude.{slice_get, option_map, not, if◌then◌else◌}
-use Rattle.std.specs.Str.{bytes_eq}
-use Rattle.std.proofs.Math.Seq.{take-suc}
-use Rattle.std.proofs.lemmas.Bool.{cases_Bool}
-use Rattle.std.proofs.lemmas.List.{map-append}
+use Rattle.std.proofs.Common.{◌≡◌, ℕ, zero, suc, ◌+◌, ◌<◌, ◌≤◌, List, [], ◌∷◌, length, drop, drop-cons, get_or, Option, None, Some, add-one, ap, sym, ◌∙◌, refl, subst, arith}
+use Rattle.std.specs.Prelude.{slice_get, option_map}
 use Rattle.std.proofs.lemmas.Option.{slice_get-map}
-use Rattle.std.proofs.lemmas.Slice.Eq.{bytes_eq-Decides}
-use Rattle.xdg_domain.specs.Shapes.{Among, Differ}
-use Rattle.xdg_names.specs.Texts.{has_text, place_of}
+use Rattle.xdg_names.specs.Texts.{place_of}
 use Rattle.xdg_types.specs.declared.table.DimType.{DimType}
 use Rattle.xdg_types.specs.Table.{KeepDims, firsts}
 use Rattle.xdg_principles.specs.declared.lookup.Lookup.{Lookup}
@@ -16,35 +10,9 @@ use Rattle.xdg_principles.specs.declared.principle.Sort.{Sort}
 use Rattle.xdg_principles.specs.declared.principle.Sort.TheVariants as s
 use Rattle.xdg_principles.specs.Lent.{Knows, names_by, member_names}
 use Rattle.xdg_principles.specs.Settings.{dim_texts, labels_in, members_in, at_place}
+use Rattle.xdg_facts.specs.Membership.{Differ}
 
--- ---- one name after the other
-
-module _ {A : Type 0} (name : A → List ℕ) where
-  among_at : (xs : List A) (k : ℕ) (d : A) → k < length xs → Among (map name xs) (name (get_or xs k d))
-  among_at [] k d h = absurd (omega arith)
-  among_at (x ∷ xs) zero d h = inl refl
-  among_at (x ∷ xs) (suc k) d h = inr (among_at xs k d (omega arith))
-
-  fresh : (xs : List A) (k : ℕ) (d : A) → Differ (map name xs) → k < length xs → has_text (map name (take k xs)) (name (get_or xs k d)) ≡ false
-  fresh [] k d differ h = absurd (omega arith)
-  fresh (x ∷ xs) zero d differ h = refl
-  fresh (x ∷ xs) (suc k) d differ h =
-      let less : k < length xs = omega arith in
-      let t = name (get_or xs k d) in
-      let other : bytes_eq (name x) t ≡ false = elim (cases_Bool (bytes_eq (name x) t)) [
-        | inl e ↦ absurd (differ.0 (subst (Among (map name xs)) (sym ((bytes_eq-Decides (name x) t).0 e)) (among_at xs k d less)))
-        | inr e ↦ e
-      ] in
-      ap (λ b. b || has_text (map name (take k xs)) t) other ∙ fresh xs k d differ.1 less
-
-  pub name_added : (xs : List A) (k : ℕ) (x : A) (all next : List (List ℕ)) (text : List ℕ) (added : Bool) → Differ (map name xs) → k < length xs → x ≡ get_or xs k x → text ≡ name x
-      → added ≡ not (has_text all text) → next ≡ (if added then all ++ text ∷ [] else all) → all ≡ map name (take k xs) → next ≡ map name (take (k + 1) xs)
-  name_added xs k x all next text added differ within at named new grown before =
-      let front : take (k + 1) xs ≡ take k xs ++ x ∷ [] = rw add-one (take-suc xs k x within ∙ ap (λ z. take k xs ++ z ∷ []) (sym at)) in
-      let alone : has_text all text ≡ false = ap (λ ts. has_text ts text) before ∙ ap (has_text (map name (take k xs))) (named ∙ ap name at) ∙ fresh xs k x differ within in
-      let is : added ≡ true = new ∙ ap not alone in
-      grown ∙ ap (λ b. if b then all ++ text ∷ [] else all) is ∙ ap (λ ts. ts ++ text ∷ []) before ∙ ap (λ t. map name (take k xs) ++ t ∷ []) named
-      ∙ sym (map-append name (take k xs) (x ∷ [])) ∙ sym (ap (map name) front)
+-- ---- names differ
 
 differ_here : (sort : Sort) (dim : DimType) → (x : KeepDims (dim ∷ [])) → Differ (firsts (members_in sort (Some dim)))
 differ_here s.Feature dim x = x.0.fields

@@ -4,22 +4,23 @@ use Rattle.std.specs.List.{flat_map}
 use Rattle.xdg_base.specs.declared.faults.Cause.TheVariants as causes
 use Rattle.xdg_base.specs.declared.faults.Fault.{Fault}
 use Rattle.xdg_ast.specs.declared.names.Name.{Name}
-use Rattle.xdg_domain.specs.Shapes.{Among}
-use Rattle.xdg_names.specs.First.{In, Tells, first}
+use Rattle.xdg_names.specs.First.{Tells, first}
 use Rattle.xdg_names.proofs.First.{tells_as, first-tells}
-use Rattle.xdg_names.proofs.In.{in_append, in_left, in_right, in_flat_map, flat_map_in, in_unless, unless_in}
 use Rattle.xdg_names.specs.Texts.{has_text}
 use Rattle.xdg_types.specs.Names.{fault_at}
 use Rattle.xdg_types.specs.NameFaults.{unknown, repeats, different}
-use Rattle.xdg_types.specs.Parts.{Statement, dim_names, used_names, texts}
+use Rattle.xdg_types.specs.Parts.{Statement, dim_names, used_names, keys}
 use Rattle.xdg_types.proofs.Distinct.{missing, not_there, has_among, among_has, same_known}
 use Rattle.xdg_types.proofs.NamesAgain.{again_sound, again_complete}
 use Rattle.xdg_principles.specs.declared.principle.Form.{Form}
 use Rattle.xdg_principles.specs.Names.{IsForeign, IsMissing, PrincipleNameOffends, once, dim_keys, arg_keys, required_keys}
 use Rattle.xdg_principles.specs.NameFaults.{foreign, lacking, key_faults, left_out, form_faults, again, unused, use_faults, name_faults}
 use Rattle.xdg_principles.specs.Principles.{principle_named}
-use Rattle.xdg_principles.specs.Uses.{Use, principle_uses, keys, values}
+use Rattle.xdg_principles.specs.Uses.{Use, principle_uses, values}
 use Rattle.xdg_principles.proofs.Tests.{not_among, no_text, when_some, some_when}
+use Rattle.xdg_facts.specs.Membership.{In}
+use Rattle.xdg_facts.proofs.In.{in_append, in_left, in_right, in_unless, unless_in, in_flat_map, flat_map_in}
+use Rattle.xdg_ast.specs.Texts.{texts}
 
 module _ (statements : List Statement) where
   abbrev defined : List (List ℕ)
@@ -161,12 +162,12 @@ module _ (statements : List Statement) where
           (lacking_in one.name.span.start (keys one.args) (required_keys form) key f a e)
     ])
 
-    unknown_in : (name : Name) (f : Fault) → In (values one.dims) name → (Among (texts (dim_names statements)) name.text → ⊥) → f ≡ fault_at causes.UnknownName name.span.start → In all f
+    unknown_in : (name : Name) (f : Fault) → In (values one.dims) name → (In (texts (dim_names statements)) name.text → ⊥) → f ≡ fault_at causes.UnknownName name.span.start → In all f
     unknown_in name f named absent e = from_dims f (in_left (flat_map (unknown defined) (values one.dims)) (unused used one) f
         (flat_map_in (unknown defined) (values one.dims) name f named
         (unless_in (has_text defined name.text) (fault_at causes.UnknownName name.span.start) f (not_there (dim_names statements) name.text absent) (sym e))))
 
-    unused_in : (name : Name) (f : Fault) → Among (texts (used_names statements)) one.within.text → In (values one.dims) name → (Among (texts (used_names statements)) name.text → ⊥) → f ≡ fault_at causes.UnknownName name.span.start → In all f
+    unused_in : (name : Name) (f : Fault) → In (texts (used_names statements)) one.within.text → In (values one.dims) name → (In (texts (used_names statements)) name.text → ⊥) → f ≡ fault_at causes.UnknownName name.span.start → In all f
     unused_in name f home named absent e = from_dims f (in_right (flat_map (unknown defined) (values one.dims)) (unused used one) f
         (some_when (has_text used one.within.text) (flat_map (unknown used) (values one.dims)) f
         (subst (λ b. b ≡ true) (sym (same_known (used_names statements) one.within.text)) (among_has (texts (used_names statements)) one.within.text home))

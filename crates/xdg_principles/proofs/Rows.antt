@@ -2,7 +2,6 @@
 use Rattle.std.proofs.Common.{◌≡◌, inl, inr, ℕ, List, [], ◌∷◌, Some, sym, ap, ◌∙◌, subst}
 use Rattle.std.specs.Prelude.{if◌then◌else◌, bytes_eq}
 use Rattle.std.proofs.lemmas.Bool.{cases_Bool}
-use Rattle.xdg_names.specs.First.{In}
 use Rattle.xdg_principles.specs.declared.principle.Form.{Form}
 use Rattle.xdg_principles.specs.declared.principle.Parameter.{Parameter}
 use Rattle.xdg_principles.specs.declared.principle.Preset.{Preset}
@@ -10,6 +9,7 @@ use Rattle.xdg_principles.specs.declared.principle.Preset.TheVariants as p
 use Rattle.xdg_principles.specs.declared.principle.Wanted.{Wanted}
 use Rattle.xdg_principles.specs.declared.principle.Wanted.TheVariants as a
 use Rattle.xdg_principles.specs.Principles.{principle_named, row_named, Row, principles, parameters}
+use Rattle.xdg_facts.specs.Membership.{In}
 
 -- a feature or an attribute is required or by default a feature, and labels are required
 abbrev pub IsDefaulted : Wanted → Preset → Type 0

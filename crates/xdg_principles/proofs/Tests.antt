@@ -2,15 +2,14 @@
 use Rattle.std.proofs.Common.{◌≡◌, ℕ, Bool, true, false, List, [], sym, ◌∙◌, refl}
 use Rattle.std.specs.Prelude.{if◌then◌else◌}
 use Rattle.std.proofs.lemmas.Bool.{true≢false, false≢true, false_from_ne_true}
-use Rattle.xdg_domain.specs.Shapes.{Among}
-use Rattle.xdg_names.specs.First.{In}
 use Rattle.xdg_names.specs.Texts.{has_text}
 use Rattle.xdg_types.proofs.Distinct.{has_among, among_has}
+use Rattle.xdg_facts.specs.Membership.{In}
 
-pub not_among : (all : List (List ℕ)) (t : List ℕ) → has_text all t ≡ false → Among all t → ⊥
+pub not_among : (all : List (List ℕ)) (t : List ℕ) → has_text all t ≡ false → In all t → ⊥
 not_among all t e h = true≢false (sym (among_has all t h) ∙ e)
 
-pub no_text : (all : List (List ℕ)) (t : List ℕ) → (Among all t → ⊥) → has_text all t ≡ false
+pub no_text : (all : List (List ℕ)) (t : List ℕ) → (In all t → ⊥) → has_text all t ≡ false
 no_text all t h = false_from_ne_true (has_text all t) (λ e. h (has_among all t e))
 
 -- a list under a test

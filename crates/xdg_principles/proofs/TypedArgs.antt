@@ -7,13 +7,12 @@ use Rattle.std.proofs.lemmas.Option.{slice_get-map}
 use Rattle.xdg_ast.specs.declared.names.Name.{Name}
 use Rattle.xdg_base.specs.declared.faults.Cause.TheVariants as causes
 use Rattle.xdg_base.specs.declared.faults.Fault.{Fault}
-use Rattle.xdg_domain.specs.Shapes.{Shape, domain, set, iset, valency, mapping, shape, Differ}
+use Rattle.xdg_domain.specs.Shapes.{Shape, domain, set, iset, valency, mapping, shape}
 use Rattle.xdg_domain.specs.declared.types.Ty.{Ty}
 use Rattle.xdg_names.proofs.Texts.{place_of-Some}
 use Rattle.xdg_terms.specs.Forms.{Term, constant_of}
 use Rattle.xdg_types.specs.Kinds.{is_small}
 use Rattle.xdg_types.specs.Names.{fault_at}
-use Rattle.xdg_types.specs.Parts.{texts}
 use Rattle.xdg_types.specs.Table as types
 use Rattle.xdg_types.specs.Table.{Table, typed, firsts}
 use Rattle.xdg_types.proofs.Elements.{differ_unless}
@@ -43,6 +42,8 @@ use Rattle.xdg_principles.proofs.TypedRows.{HasWhich, FixesShared, IsSoundElemen
 use Rattle.xdg_principles.proofs.WantedLaw.{wanted_true, wanted_false}
 use Rattle.xdg_facts.proofs.Lists.{some_at}
 use Rattle.xdg_facts.proofs.Options.{none_some, some_same}
+use Rattle.xdg_facts.specs.Membership.{Differ}
+use Rattle.xdg_ast.specs.Texts.{texts}
 
 -- ---- the type that arguments share
 

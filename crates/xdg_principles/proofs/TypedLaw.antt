@@ -4,14 +4,13 @@ use Rattle.std.specs.Prelude.{IfOk}
 use Rattle.xdg_ast.specs.declared.names.Name.{Name}
 use Rattle.xdg_base.specs.declared.faults.Cause.TheVariants as causes
 use Rattle.xdg_base.specs.declared.faults.Fault.{Fault}
-use Rattle.xdg_domain.specs.Shapes.{Shape, Among}
-use Rattle.xdg_names.specs.First.{In}
+use Rattle.xdg_domain.specs.Shapes.{Shape}
 use Rattle.xdg_names.specs.Texts.{place_of}
 use Rattle.xdg_types.specs.declared.table.DimType.{DimType}
 use Rattle.xdg_types.specs.Answers.{HasTable, None_of}
 use Rattle.xdg_types.specs.Names.{fault_at}
-use Rattle.xdg_types.specs.Parts.{Statement, used_names, texts}
-use Rattle.xdg_types.specs.Table.{Table, IsTable, HasPlace}
+use Rattle.xdg_types.specs.Parts.{Statement, used_names}
+use Rattle.xdg_types.specs.Table.{Table, IsTable}
 use Rattle.xdg_types.proofs.Elements.{among_or_not}
 use Rattle.xdg_principles.specs.declared.building.Arg.{Arg}
 use Rattle.xdg_principles.specs.declared.building.PrincipleUse.{PrincipleUse}
@@ -29,6 +28,8 @@ use Rattle.xdg_principles.proofs.TypedArgs.{shared_or, small_shared, fixes, type
 use Rattle.xdg_principles.proofs.TypedPlaces.{place_in, as_many, dim_of_place, name_of_dim, place_below, used_text, used_place}
 use Rattle.xdg_principles.proofs.TypedRows.{HasWhich, which_at, FixesShared, fixing, sound_wanted}
 use Rattle.xdg_principles.proofs.UseLaw.{stands_here, value_under, are_uses}
+use Rattle.xdg_facts.specs.Membership.{In}
+use Rattle.xdg_ast.specs.Texts.{texts}
 
 -- ---- lists
 
@@ -85,10 +86,10 @@ module _ (statements : List Statement) (table : Table) (has : HasTable statement
         let name = name_of_dim table.dims (under one.dims (dim_key is.form.dims which.0)) k which.1 in
         (name.0, (value_under one.dims (dim_key is.form.dims which.0) name.0 name.1.0, name.1.1))
 
-    used_too : HasPlace table.used u.home → (k : ℕ) → In u.dims k → HasPlace table.used k
+    used_too : In table.used u.home → (k : ℕ) → In u.dims k → In table.used k
     used_too at k i =
         let name = named_dim k i in
-        let within : Among (texts (used_names statements)) one.within.text = used_text table.dims (used_names statements) table.used has.table.used u.home one.within.text at is.home in
+        let within : In (texts (used_names statements)) one.within.text = used_text table.dims (used_names statements) table.used has.table.used u.home one.within.text at is.home in
         elim (among_or_not (texts (used_names statements)) name.0.text) [
           | inl among ↦ used_place table.dims (used_names statements) table.used types.names has.table.used k name.0.text among name.1.1
           | inr missing ↦ absurd (named (fault_at causes.UnknownName name.0.span.start)

@@ -3,23 +3,22 @@ use Rattle.std.proofs.Common.{◌≡◌, inl, inr, ℕ, zero, suc, ◌<◌, List
 use Rattle.std.specs.Prelude.{slice_get}
 use Rattle.std.proofs.lemmas.List.{length-map, get_or-map}
 use Rattle.xdg_ast.specs.declared.names.Name.{Name}
-use Rattle.xdg_domain.specs.Shapes.{Among, Differ}
-use Rattle.xdg_names.specs.First.{In}
 use Rattle.xdg_names.specs.Texts.{place_of}
 use Rattle.xdg_names.proofs.Texts.{place_of-Some, place_of-at}
 use Rattle.xdg_types.specs.declared.table.DimType.{DimType}
-use Rattle.xdg_types.specs.Parts.{texts}
 use Rattle.xdg_types.specs.Table as table
-use Rattle.xdg_types.specs.Table.{AreUsed, HasPlace}
+use Rattle.xdg_types.specs.Table.{AreUsed}
 use Rattle.xdg_types.proofs.Elements.{all_differ}
 use Rattle.xdg_principles.specs.declared.principle.Which.{Which}
 use Rattle.xdg_principles.specs.Settings.{Setting, dim_texts, dim_place, place_named}
 use Rattle.xdg_principles.specs.Made.{AreLabels, ArePlaces}
 use Rattle.xdg_facts.proofs.Options.{none_some, some_same}
+use Rattle.xdg_facts.specs.Membership.{In, Differ}
+use Rattle.xdg_ast.specs.Texts.{texts}
 
 -- ---- labels
 
-label_again : (known : List (List ℕ)) (names : List Name) (ns : List ℕ) (k : ℕ) (t : List ℕ) → AreLabels known names ns → HasPlace ns k → place_of known t ≡ Some k → Among (texts names) t
+label_again : (known : List (List ℕ)) (names : List Name) (ns : List ℕ) (k : ℕ) (t : List ℕ) → AreLabels known names ns → In ns k → place_of known t ≡ Some k → In (texts names) t
 label_again known [] [] k t h i is = absurd i
 label_again known [] (n ∷ ns) k t h i is = absurd h
 label_again known (name ∷ names) [] k t h i is = absurd h
@@ -74,7 +73,7 @@ name_at : (dims : List DimType) (k : ℕ) (dim : DimType) → k < length dims �
 name_at dims k dim within is = get_or-map (λ (x : DimType). x.name) dims k dim [] within ∙ ap (λ (x : DimType). x.name) is
 
 -- a dimension whose place is used is named as used
-pub used_text : (dims : List DimType) (names : List Name) (ks : List ℕ) → AreUsed dims names ks → (k : ℕ) (t : List ℕ) → HasPlace ks k → place_of (dim_texts dims) t ≡ Some k → Among (texts names) t
+pub used_text : (dims : List DimType) (names : List Name) (ks : List ℕ) → AreUsed dims names ks → (k : ℕ) (t : List ℕ) → In ks k → place_of (dim_texts dims) t ≡ Some k → In (texts names) t
 used_text dims [] [] h k t i is = absurd i
 used_text dims [] (j ∷ ks) h k t i is = absurd h
 used_text dims (name ∷ names) [] h k t i is = absurd h
@@ -84,7 +83,7 @@ used_text dims (name ∷ names) (j ∷ ks) h k t i is = elim i [
 ]
 
 -- the place of a dimension that is named as used is used
-pub used_place : (dims : List DimType) (names : List Name) (ks : List ℕ) → Differ (dim_texts dims) → AreUsed dims names ks → (k : ℕ) (t : List ℕ) → Among (texts names) t → place_of (dim_texts dims) t ≡ Some k → HasPlace ks k
+pub used_place : (dims : List DimType) (names : List Name) (ks : List ℕ) → Differ (dim_texts dims) → AreUsed dims names ks → (k : ℕ) (t : List ℕ) → In (texts names) t → place_of (dim_texts dims) t ≡ Some k → In ks k
 used_place dims [] ks apart h k t i is = absurd i
 used_place dims (name ∷ names) [] apart h k t i is = absurd h
 used_place dims (name ∷ names) (j ∷ ks) apart h k t i is = elim i [

@@ -2,7 +2,6 @@
 use Rattle.std.proofs.Common.{◌≡◌, inl, inr, ℕ, List, [], ◌∷◌, Option, None, Some, refl, sym, ap, ◌∙◌, subst}
 use Rattle.std.specs.Prelude.{if◌then◌else◌, bytes_eq, slice_get}
 use Rattle.std.proofs.lemmas.Bool.{cases_Bool}
-use Rattle.xdg_names.specs.First.{In}
 use Rattle.xdg_principles.specs.declared.principle.Dims.{Dims}
 use Rattle.xdg_principles.specs.declared.principle.Dims.TheVariants as d
 use Rattle.xdg_principles.specs.declared.principle.Element.{Element}
@@ -20,6 +19,7 @@ use Rattle.xdg_principles.specs.declared.principle.Which.{Which}
 use Rattle.xdg_principles.specs.declared.principle.Which.TheVariants as w
 use Rattle.xdg_principles.specs.Principles.{principle_named, row_named, Row, principles, dims_in, parameters}
 use Rattle.xdg_principles.specs.Typed.{number_of}
+use Rattle.xdg_facts.specs.Membership.{In}
 
 -- ---- dimensions
 

@@ -2,7 +2,7 @@
 use Rattle.std.proofs.Common.{◌≡◌, inl, inr, ℕ, suc, true, List, [], ◌∷◌, map, Option, None, Some, refl, sym, ap, ◌∙◌, subst}
 use Rattle.std.specs.List.{flat_map}
 use Rattle.std.specs.Prelude.{option_map, if◌then◌else◌, bytes_eq, codes}
-use Rattle.std.proofs.lemmas.Bool.{true≢false, false≢true, cases_Bool}
+use Rattle.std.proofs.lemmas.Bool.{true≢false, cases_Bool}
 use Rattle.std.proofs.lemmas.Slice.Eq.{bytes_eq-Decides}
 use Rattle.xdg_ast.specs.declared.names.Name.{Name}
 use Rattle.xdg_ast.specs.declared.names.Pair.{Pair}
@@ -10,18 +10,14 @@ use Rattle.xdg_ast.specs.declared.grammar.DimPartKind.{DimPartKind}
 use Rattle.xdg_ast.specs.declared.grammar.DimPartKind.TheVariants as v
 use Rattle.xdg_base.specs.declared.faults.Cause.TheVariants as causes
 use Rattle.xdg_base.specs.declared.faults.Fault.{Fault}
-use Rattle.xdg_domain.specs.Shapes.{Among}
-use Rattle.xdg_names.specs.First.{In}
-use Rattle.xdg_names.proofs.In.{in_flat_map, flat_map_in}
 use Rattle.xdg_names.specs.Texts.{place_of}
 use Rattle.xdg_terms.specs.Forms.{Term, constant_of}
-use Rattle.xdg_terms.specs.Offences.{is_some}
 use Rattle.xdg_terms.specs.Means.{truth_text}
 use Rattle.xdg_types.specs.Answers.{None_of}
 use Rattle.xdg_types.specs.Names.{fault_at}
-use Rattle.xdg_types.specs.Parts.{DimPart, Statement, Dimension, dimensions, dim_names, texts}
+use Rattle.xdg_types.specs.Parts.{DimPart, Statement, Dimension, dimensions, dim_names, keys}
 use Rattle.xdg_types.specs.Table.{Table, firsts}
-use Rattle.xdg_types.proofs.Elements.{among_or_not}
+use Rattle.xdg_types.proofs.Elements.{among_or_not, in_texts}
 use Rattle.xdg_principles.specs.declared.principle.Form.{Form}
 use Rattle.xdg_principles.specs.declared.principle.Parameter.{Parameter}
 use Rattle.xdg_principles.specs.declared.principle.Preset.{Preset}
@@ -34,21 +30,17 @@ use Rattle.xdg_principles.specs.declared.principle.Wanted.{Wanted}
 use Rattle.xdg_principles.specs.declared.principle.Wanted.TheVariants as a
 use Rattle.xdg_principles.specs.Principles.{principle_named, dim_key, dims_in, key_text, parameters, preset_feature}
 use Rattle.xdg_principles.specs.Names.{PrincipleNameOffends, key_if_required, required_key}
-use Rattle.xdg_principles.specs.Uses.{Use, use_in, uses_in, principle_uses, keys, values, under}
+use Rattle.xdg_principles.specs.Uses.{Use, use_in, uses_in, principle_uses, values, under}
 use Rattle.xdg_principles.specs.Settings.{Setting, Called, with_form, setting, arguments_in, arguments, dim_texts, dim_place, place_named, labels, members, term_in, constant_at, list_of, list_at, listed_in, called_in, called_or, called_at, called_by, names_at}
 use Rattle.xdg_principles.specs.Arguments.{OneOffends, ArgumentOffends, has_form, truths}
 use Rattle.xdg_principles.specs.Made.{HasDims, IsMember, AreLabels, IsLabelList, IsTruth, IsArg, AreArgs, ArePlaces, IsUse, AreUses, ArePrincipleUses, or_zero, place_called, member_number, label_number, truth_of, arg, args, built_with, built}
 use Rattle.xdg_principles.proofs.Rows.{IsDefaulted, sound_parameter}
+use Rattle.xdg_facts.specs.Membership.{In}
+use Rattle.xdg_facts.proofs.In.{in_flat_map, flat_map_in, map_in}
+use Rattle.xdg_ast.specs.Texts.{texts}
+use Rattle.xdg_terms.proofs.Right.{told}
 
 -- ---- lists
-
-map_in : {A B : Type 0} (g : A → B) (xs : List A) (x : A) → In xs x → In (map g xs) (g x)
-map_in g [] x h = absurd h
-map_in g (y ∷ xs) x h = elim h [ inl e ↦ inl (ap g e) | inr k ↦ inr (map_in g xs x k) ]
-
-text_in : (names : List Name) (n : Name) → In names n → Among (texts names) n.text
-text_in [] n h = absurd h
-text_in (m ∷ names) n h = elim h [ inl e ↦ inl (ap (λ (x : Name). x.text) e) | inr k ↦ inr (text_in names n k) ]
 
 abbrev IsThere : Option ℕ → Type 0
 IsThere o = o ≡ Some (or_zero o)
@@ -57,7 +49,7 @@ there_more : (o : Option ℕ) → IsThere o → IsThere (option_map suc o)
 there_more None h = cc
 there_more (Some n) h = refl
 
-place_there : (known : List (List ℕ)) (t : List ℕ) → Among known t → IsThere (place_of known t)
+place_there : (known : List (List ℕ)) (t : List ℕ) → In known t → IsThere (place_of known t)
 place_there [] t h = absurd h
 place_there (x ∷ known) t h = elim (cases_Bool (bytes_eq x t)) [
   | inl e ↦ subst (λ b. IsThere (if b then Some 0 else option_map suc (place_of known t))) (sym e) refl
@@ -70,7 +62,7 @@ place_there (x ∷ known) t h = elim (cases_Bool (bytes_eq x t)) [
 
 -- ---- pairs
 
-none_under : {A : Type 0} (pairs : List (Pair A)) (key : List ℕ) → under pairs key ≡ None → Among (texts (keys pairs)) key → ⊥
+none_under : {A : Type 0} (pairs : List (Pair A)) (key : List ℕ) → under pairs key ≡ None → In (texts (keys pairs)) key → ⊥
 none_under [] key e h = h
 none_under {A} (pair ∷ pairs) key e h = elim (cases_Bool (bytes_eq pair.key.text key)) [
   | inl q ↦ absurd (some_none pair.value (sym (ap (λ b. if b then Some pair.value else under pairs key) q) ∙ e))
@@ -97,12 +89,7 @@ value_under (pair ∷ pairs) key name e = elim (cases_Bool (bytes_eq pair.key.te
 
 within_part : (within : Name) (kind : DimPartKind) (one : Use) → In (use_in within kind) one → one.within ≡ within
 within_part within (v.UsePrinciple name dims args) one h = elim h [ inl e ↦ sym (ap (λ (x : Use). x.within) e) | inr z ↦ absurd z ]
-within_part within (v.DefType name type) one h = absurd h
-within_part within (v.LabelType type) one h = absurd h
-within_part within (v.AttrsType type) one h = absurd h
-within_part within (v.EntryType type) one h = absurd h
-within_part within (v.Output name) one h = absurd h
-within_part within (v.UseOutput name) one h = absurd h
+within_part within other one h = absurd h
 
 within_dim : (statements : List Statement) (one : Use) → In (principle_uses statements) one → In (dim_names statements) one.within
 within_dim statements one h =
@@ -111,10 +98,6 @@ within_dim statements one h =
     subst (In (dim_names statements)) (sym (within_part k.0.0 q.0.kind one q.1.1)) (map_in (λ (dim : Dimension). dim.0) (dimensions statements) k.0 k.1.0)
 
 -- ---- one argument
-
-is_some_some : {A : Type 0} (o : Option A) → is_some o ≡ true → (y : A) × (o ≡ Some y)
-is_some_some None h = absurd (false≢true h)
-is_some_some (Some y) h = (y, refl)
 
 -- a left-out feature is one by default
 preset_called : (at : ℕ) (sort : Sort) (which : Which) (typing : Typing) (preset : Preset) → IsDefaulted (a.Member sort which typing) preset → (preset ≡ p.Required → ⊥) → (called : Called) × (called_at at (preset_feature preset) ≡ Some called)
@@ -125,17 +108,15 @@ preset_called at sort which typing p.Out h k = (record { text = codes "out"; at 
 
 labels_required : (which : Which) (preset : Preset) → IsDefaulted (a.Labels which) preset → preset ≡ p.Required
 labels_required which p.Required h = refl
-labels_required which p.False h = absurd h
-labels_required which p.In h = absurd h
-labels_required which p.Out h = absurd h
+labels_required which other h = absurd h
 
-truth_said : (t : List ℕ) → Among truths t → t ≡ truth_text (bytes_eq t (codes "true"))
+truth_said : (t : List ℕ) → In truths t → t ≡ truth_text (bytes_eq t (codes "true"))
 truth_said t h = elim h [
   | inl e ↦ subst (λ u. u ≡ truth_text (bytes_eq u (codes "true"))) e refl
   | inr k ↦ elim k [ inl e ↦ subst (λ u. u ≡ truth_text (bytes_eq u (codes "true"))) e refl | inr z ↦ absurd z ]
 ]
 
-labels_are : (known : List (List ℕ)) (names : List Name) → ((n : Name) → In names n → Among known n.text) → AreLabels known names (map (label_number known) names)
+labels_are : (known : List (List ℕ)) (names : List Name) → ((n : Name) → In names n → In known n.text) → AreLabels known names (map (label_number known) names)
 labels_are known [] h = tt
 labels_are known (n ∷ names) h = (place_there known n.text (h n (inl refl)), labels_are known names (λ m k. h m (inr k)))
 
@@ -150,10 +131,10 @@ module _ (setting : Setting) (parameter : Parameter) (right : (f : Fault) → On
     called_by_term : (o : Option Term) → term_in setting parameter ≡ o → (called : Called) × (called_or (called_at setting.one.name.span.start (preset_feature parameter.preset)) o ≡ Some called)
     called_by_term None e = preset_called setting.one.name.span.start sort which typing parameter.preset (subst (λ w. IsDefaulted w parameter.preset) wanted sound) (λ q. given q e)
     called_by_term (Some term) e =
-        let k = is_some_some (constant_of term) (subst (λ w. has_form w term ≡ true) wanted (formed term e)) in
+        let k = told (constant_of term) (subst (λ w. has_form w term ≡ true) wanted (formed term e)) in
         (record { text = k.0.text; at = k.0.span.start }, ap called_by k.1)
 
-    there : (called : Called) → called_in setting parameter ≡ Some called → Among (firsts (members setting sort which)) called.text
+    there : (called : Called) → called_in setting parameter ≡ Some called → In (firsts (members setting sort which)) called.text
     there called e = elim (among_or_not (firsts (members setting sort which)) called.text) [
       | inl h ↦ h
       | inr h ↦ absurd (right (fault_at causes.UnknownName called.at)
@@ -168,8 +149,8 @@ module _ (setting : Setting) (parameter : Parameter) (right : (f : Fault) → On
   truth_is : parameter.wanted ≡ a.Truth → (o : Option Term) → term_in setting parameter ≡ o → IsTruth (truth_of (constant_at o)) o
   truth_is wanted None e = refl
   truth_is wanted (Some term) e =
-      let k = is_some_some (constant_of term) (subst (λ w. has_form w term ≡ true) wanted (formed term e)) in
-      let said : Among truths k.0.text = elim (among_or_not truths k.0.text) [
+      let k = told (constant_of term) (subst (λ w. has_form w term ≡ true) wanted (formed term e)) in
+      let said : In truths k.0.text = elim (among_or_not truths k.0.text) [
         | inl h ↦ h
         | inr h ↦ absurd (right (fault_at causes.NotMember k.0.span.start) (inr (inr (inr (inl (record { wanted = wanted; name = k.0; given = ap constant_at e ∙ k.1; missing = h; fault = refl }))))))
       ] in
@@ -178,7 +159,7 @@ module _ (setting : Setting) (parameter : Parameter) (right : (f : Fault) → On
   list_is : (which : Which) → parameter.wanted ≡ a.Labels which → (o : Option Term) → term_in setting parameter ≡ o → IsLabelList (labels setting which) o (map (label_number (labels setting which)) (list_at o))
   list_is which wanted None e = given (labels_required which parameter.preset (subst (λ w. IsDefaulted w parameter.preset) wanted sound)) e
   list_is which wanted (Some term) e =
-      let k = is_some_some (list_of term) (subst (λ w. has_form w term ≡ true) wanted (formed term e)) in
+      let k = told (list_of term) (subst (λ w. has_form w term ≡ true) wanted (formed term e)) in
       let listed : listed_in setting parameter ≡ k.0 = ap list_at e ∙ ap names_at k.1 in (
         k.0,
         (
@@ -215,7 +196,7 @@ required_in ps x h e = flat_map_in required_key ps x (key_text x.key) h (subst (
 module _ (statements : List Statement) (table : Table) (has : HasDims statements table) (named : None_of (PrincipleNameOffends statements)) (right : None_of (ArgumentOffends statements table)) where
   module _ (one : Use) (stands : In (principle_uses statements) one) where
     known_dim : (name : Name) → In (dim_names statements) name → IsThere (place_of (dim_texts table.dims) name.text)
-    known_dim name h = place_there (dim_texts table.dims) name.text (subst (λ ts. Among ts name.text) (sym has) (text_in (dim_names statements) name h))
+    known_dim name h = place_there (dim_texts table.dims) name.text (subst (λ ts. In ts name.text) (sym has) (in_texts (dim_names statements) name h))
 
     module _ (form : Form) (known : principle_named one.name.text ≡ Some form) where
       abbrev here : Setting
@@ -254,7 +235,7 @@ module _ (statements : List Statement) (table : Table) (has : HasDims statements
             fault = refl;
           })))))))
       dim_there w h (Some name) e = elim (among_or_not (texts (dim_names statements)) name.text) [
-        | inl k ↦ place_there (dim_texts table.dims) name.text (subst (λ ts. Among ts name.text) (sym has) k)
+        | inl k ↦ place_there (dim_texts table.dims) name.text (subst (λ ts. In ts name.text) (sym has) k)
         | inr k ↦ absurd (named (fault_at causes.UnknownName name.span.start)
             (inr (inr (inl (record { one = one; stands = stands; name = name; named = value_under one.dims (dim_key form.dims w) name e; missing = k; fault = refl })))))
       ]

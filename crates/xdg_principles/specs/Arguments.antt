@@ -3,13 +3,12 @@ use Rattle.std.specs.Prelude.{◌≡◌, ◌⊎◌, ℕ, Bool, false, List, [], 
 use Rattle.xdg_ast.specs.declared.names.Name.{Name}
 use Rattle.xdg_base.specs.declared.faults.Cause.TheVariants as causes
 use Rattle.xdg_base.specs.declared.faults.Fault.{Fault}
-use Rattle.xdg_domain.specs.Shapes.{Among, shape}
+use Rattle.xdg_domain.specs.Shapes.{shape}
 use Rattle.xdg_domain.specs.declared.types.Ty.{Ty}
-use Rattle.xdg_names.specs.First.{In}
 use Rattle.xdg_terms.specs.Forms.{Term, constant_of}
 use Rattle.xdg_terms.specs.Offences.{is_some}
 use Rattle.xdg_types.specs.Names.{fault_at}
-use Rattle.xdg_types.specs.Parts.{Statement, texts}
+use Rattle.xdg_types.specs.Parts.{Statement}
 use Rattle.xdg_types.specs.Table.{Table, firsts}
 use Rattle.xdg_principles.specs.declared.principle.Which.{Which}
 use Rattle.xdg_principles.specs.declared.principle.Typing.{Typing}
@@ -18,6 +17,8 @@ use Rattle.xdg_principles.specs.declared.principle.Wanted.{Wanted}
 use Rattle.xdg_principles.specs.declared.principle.Wanted.TheVariants as a
 use Rattle.xdg_principles.specs.Settings.{Argument, Called, arguments, labels, members, member_type, term_in, constant_in, listed_in, list_of, called_in}
 use Rattle.xdg_principles.specs.Wanted.{IsWanted}
+use Rattle.xdg_facts.specs.Membership.{In}
+use Rattle.xdg_ast.specs.Texts.{texts}
 
 -- a feature, an attribute and a truth value are given by a constant, labels by square brackets
 abbrev pub has_form : Wanted → Term → Bool
@@ -45,7 +46,7 @@ pub record IsUnknownMember (x : Argument) (f : Fault) : Type 0 where
   pub wanted : x.parameter.wanted ≡ a.Member sort which typing
   pub called : Called
   pub given : called_in x.setting x.parameter ≡ Some called
-  pub missing : Among (firsts (members x.setting sort which)) called.text → ⊥
+  pub missing : In (firsts (members x.setting sort which)) called.text → ⊥
   pub fault : f ≡ fault_at causes.UnknownName called.at
 
 -- its type isn't the wanted one
@@ -66,7 +67,7 @@ pub record IsNoTruth (x : Argument) (f : Fault) : Type 0 where
   pub wanted : x.parameter.wanted ≡ a.Truth
   pub name : Name
   pub given : constant_in x.setting x.parameter ≡ Some name
-  pub missing : Among truths name.text → ⊥
+  pub missing : In truths name.text → ⊥
   pub fault : f ≡ fault_at causes.NotMember name.span.start
 
 -- a constant is no label of the dimension
@@ -75,7 +76,7 @@ pub record IsNoLabel (x : Argument) (f : Fault) : Type 0 where
   pub wanted : x.parameter.wanted ≡ a.Labels which
   pub name : Name
   pub given : In (listed_in x.setting x.parameter) name
-  pub missing : Among (labels x.setting which) name.text → ⊥
+  pub missing : In (labels x.setting which) name.text → ⊥
   pub fault : f ≡ fault_at causes.NotMember name.span.start
 
 -- a label stands twice
@@ -86,7 +87,7 @@ pub record IsLabelTwice (x : Argument) (f : Fault) : Type 0 where
   pub name : Name
   pub after : List Name
   pub parts : listed_in x.setting x.parameter ≡ before ++ name ∷ after
-  pub earlier : Among (texts before) name.text
+  pub earlier : In (texts before) name.text
   pub fault : f ≡ fault_at causes.Twice name.span.start
 
 abbrev pub OneOffends : Argument → Fault → Type 0

@@ -5,7 +5,7 @@ use Rattle.xdg_names.specs.Texts.{place_of}
 use Rattle.xdg_terms.specs.Forms.{Term, constant_of}
 use Rattle.xdg_terms.specs.Means.{truth_text}
 use Rattle.xdg_types.specs.declared.table.DimType.{DimType}
-use Rattle.xdg_types.specs.Parts.{Statement, dim_names, texts}
+use Rattle.xdg_types.specs.Parts.{Statement, dim_names}
 use Rattle.xdg_types.specs.Table.{Table}
 use Rattle.xdg_principles.specs.declared.building.Arg.{Arg}
 use Rattle.xdg_principles.specs.declared.building.Arg.TheVariants as g
@@ -20,6 +20,7 @@ use Rattle.xdg_principles.specs.declared.principle.Which.{Which}
 use Rattle.xdg_principles.specs.Principles.{principle_named, dims_in, parameters}
 use Rattle.xdg_principles.specs.Settings.{Setting, Called, dim_texts, dim_place, labels, member_place, term_in, constant_in, listed_in, list_of, called_in}
 use Rattle.xdg_principles.specs.Uses.{Use, principle_uses}
+use Rattle.xdg_ast.specs.Texts.{texts}
 
 -- ---- what a table of types has to be
 

@@ -6,11 +6,12 @@ use Rattle.xdg_base.specs.declared.faults.Fault.{Fault}
 use Rattle.xdg_names.specs.Texts.{has_text}
 use Rattle.xdg_types.specs.NameFaults.{unknown, repeats, different}
 use Rattle.xdg_types.specs.Names.{fault_at}
-use Rattle.xdg_types.specs.Parts.{Statement, dim_names, used_names, texts}
+use Rattle.xdg_types.specs.Parts.{Statement, dim_names, used_names, keys}
 use Rattle.xdg_principles.specs.declared.principle.Form.{Form}
 use Rattle.xdg_principles.specs.Names.{dim_keys, arg_keys, required_keys}
 use Rattle.xdg_principles.specs.Principles.{principle_named}
-use Rattle.xdg_principles.specs.Uses.{Use, principle_uses, keys, values}
+use Rattle.xdg_principles.specs.Uses.{Use, principle_uses, values}
+use Rattle.xdg_ast.specs.Texts.{texts}
 
 -- a name that isn't one of these keys
 abbrev pub foreign : List (List ℕ) → Name → List Fault

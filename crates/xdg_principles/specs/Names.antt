@@ -3,16 +3,16 @@ use Rattle.std.specs.Prelude.{◌≡◌, ◌⊎◌, ℕ, List, [], ◌∷◌, �
 use Rattle.xdg_ast.specs.declared.names.Name.{Name}
 use Rattle.xdg_base.specs.declared.faults.Cause.TheVariants as causes
 use Rattle.xdg_base.specs.declared.faults.Fault.{Fault}
-use Rattle.xdg_domain.specs.Shapes.{Among}
-use Rattle.xdg_names.specs.First.{In}
 use Rattle.xdg_types.specs.Names.{fault_at}
-use Rattle.xdg_types.specs.Parts.{Statement, dim_names, used_names, texts}
+use Rattle.xdg_types.specs.Parts.{Statement, dim_names, used_names, keys}
 use Rattle.xdg_principles.specs.declared.principle.Form.{Form}
 use Rattle.xdg_principles.specs.declared.principle.Parameter.{Parameter}
 use Rattle.xdg_principles.specs.declared.principle.Preset.{Preset}
 use Rattle.xdg_principles.specs.declared.principle.Preset.TheVariants as p
 use Rattle.xdg_principles.specs.Principles.{principle_named, dim_key, dims_in, key_text, parameters}
-use Rattle.xdg_principles.specs.Uses.{Use, principle_uses, keys, values}
+use Rattle.xdg_principles.specs.Uses.{Use, principle_uses, values}
+use Rattle.xdg_facts.specs.Membership.{In}
+use Rattle.xdg_ast.specs.Texts.{texts}
 
 -- ---- the keys of a principle
 
@@ -58,7 +58,7 @@ pub record IsTwice (statements : List Statement) (f : Fault) : Type 0 where
   pub name : Name
   pub after : List Name
   pub parts : names ≡ before ++ name ∷ after
-  pub earlier : Among (texts before) name.text
+  pub earlier : In (texts before) name.text
   pub fault : f ≡ fault_at causes.Twice name.span.start
 
 -- a dimension is named that isn't defined, whether or not there is such a principle
@@ -67,22 +67,22 @@ pub record IsUnknownDimension (statements : List Statement) (f : Fault) : Type 0
   pub stands : In (principle_uses statements) one
   pub name : Name
   pub named : In (values one.dims) name
-  pub missing : Among (texts (dim_names statements)) name.text → ⊥
+  pub missing : In (texts (dim_names statements)) name.text → ⊥
   pub fault : f ≡ fault_at causes.UnknownName name.span.start
 
 -- in a dimension that is used, one is named that isn't used
 pub record IsUnusedDimension (statements : List Statement) (f : Fault) : Type 0 where
   pub one : Use
   pub stands : In (principle_uses statements) one
-  pub used : Among (texts (used_names statements)) one.within.text
+  pub used : In (texts (used_names statements)) one.within.text
   pub name : Name
   pub named : In (values one.dims) name
-  pub missing : Among (texts (used_names statements)) name.text → ⊥
+  pub missing : In (texts (used_names statements)) name.text → ⊥
   pub fault : f ≡ fault_at causes.UnknownName name.span.start
 
 -- a name that isn't one of these keys
 abbrev pub IsForeign : List (List ℕ) → List Name → Name → Type 0
-IsForeign known names name = In names name × (Among known name.text → ⊥)
+IsForeign known names name = In names name × (In known name.text → ⊥)
 
 -- a dimension or an argument is given that the principle hasn't
 pub record IsUnknownKey (statements : List Statement) (f : Fault) : Type 0 where
@@ -96,7 +96,7 @@ pub record IsUnknownKey (statements : List Statement) (f : Fault) : Type 0 where
 
 -- one of these keys that no name is
 abbrev pub IsMissing : List (List ℕ) → List Name → List ℕ → Type 0
-IsMissing wanted names key = In wanted key × (Among (texts names) key → ⊥)
+IsMissing wanted names key = In wanted key × (In (texts names) key → ⊥)
 
 -- a dimension of the principle is left out, or an argument that has no default
 pub record IsLeftOut (statements : List Statement) (f : Fault) : Type 0 where

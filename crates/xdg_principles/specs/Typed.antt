@@ -1,10 +1,9 @@
 -- That a use of a principle, by number, names what is there and has the wanted types: said of a table of types alone, without the text.
 use Rattle.std.specs.Prelude.{◌≡◌, ℕ, ◌<◌, true, List, [], ◌∷◌, length, Option, Some, slice_get}
 use Rattle.xdg_domain.specs.Shapes.{Shape, domain, valency}
-use Rattle.xdg_names.specs.First.{In}
 use Rattle.xdg_types.specs.declared.table.DimType.{DimType}
 use Rattle.xdg_types.specs.Kinds.{is_small}
-use Rattle.xdg_types.specs.Table.{Table, Typed, typed, HasPlace, ArePlaces}
+use Rattle.xdg_types.specs.Table.{Table, Typed, typed, ArePlaces}
 use Rattle.xdg_principles.specs.declared.building.Arg.{Arg}
 use Rattle.xdg_principles.specs.declared.building.Arg.TheVariants as g
 use Rattle.xdg_principles.specs.declared.building.PrincipleUse.{PrincipleUse}
@@ -23,6 +22,7 @@ use Rattle.xdg_principles.specs.declared.principle.Which.TheVariants as w
 use Rattle.xdg_principles.specs.Principles.{principle_named, dims_in, parameters}
 use Rattle.xdg_principles.specs.Settings.{at_place, labels_in, members_in}
 use Rattle.xdg_principles.specs.Wanted.{IsSame, IsSetOf, IsMapTo}
+use Rattle.xdg_facts.specs.Membership.{In}
 
 -- ---- the dimensions of a use
 
@@ -96,7 +96,7 @@ pub record IsTypedUse (table : Table) (u : PrincipleUse) : Type 0 where
   pub home : u.home < length table.dims
   pub count : length u.dims ≡ length (dims_in form.dims)
   pub dims : (k : ℕ) → In u.dims k → k < length table.dims
-  pub used : HasPlace table.used u.home → (k : ℕ) → In u.dims k → HasPlace table.used k
+  pub used : In table.used u.home → (k : ℕ) → In u.dims k → In table.used k
   pub shared : Shape
   pub small : is_small shared ≡ true
   pub args : AreTypedArgs table u shared (parameters form) u.args

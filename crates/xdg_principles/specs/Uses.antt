@@ -36,9 +36,6 @@ principle_uses statements = flat_map uses_in (dimensions statements)
 
 -- ---- pairs
 
-abbrev pub keys : {A : Type 0} → List (Pair A) → List Name
-keys pairs = map (λ pair. pair.key) pairs
-
 -- the dimensions that are named
 abbrev pub values : List (Pair Name) → List Name
 values pairs = map (λ pair. pair.value) pairs

@@ -15,7 +15,6 @@ ghost use Rattle.xdg_principles.specs.Settings.{term_in, called_in, member_type}
 ghost use Rattle.xdg_principles.specs.Uses.{seen};
 
 use crate::fitting::is_wanted;
-use crate::keys::repeated;
 use crate::lookup::{Lookup, index_names};
 use crate::principle::{Parameter, Sort, Typing, Wanted, Which, principle};
 use crate::settings::{SettingRef, constant, is_list};
@@ -24,7 +23,7 @@ use std::alloc::{AllocError, Global};
 use xdg_ast::{Name, Statement, Term};
 use xdg_base::{Cause, Fault, Text};
 use xdg_names::{Index, earlier};
-use xdg_types::{DimType, TypeTable};
+use xdg_types::{DimType, TypeTable, repeated};
 
 /// The first fault of the arguments in the uses of principles, in dimensions that are used and in others, if there is
 /// one. The table is that of the grammar's types.

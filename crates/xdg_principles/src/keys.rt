@@ -1,52 +1,22 @@
 //! Keys of dimensions and arguments.
 
-ghost use Rattle.std.specs.Prelude.{◌≡◌, [], flat_map, IfOk};
+ghost use Rattle.std.specs.Prelude.{◌≡◌, flat_map};
 ghost use Rattle.std.specs.Option.{option_copied};
 ghost use Rattle.xdg_names.specs.First.{first};
 ghost use Rattle.xdg_names.specs.Texts.{has_text};
 ghost use Rattle.xdg_types.specs.NameFaults as names;
-ghost use Rattle.xdg_types.specs.Parts.{texts};
+ghost use Rattle.xdg_types.specs.Parts.{keys};
+ghost use Rattle.xdg_ast.specs.Texts.{texts};
 ghost use Rattle.xdg_principles.specs.Uses as spec;
 
-use std::alloc::{AllocError, Global};
 use xdg_ast::{Name, Pair};
-use xdg_base::{Cause, Fault};
+use xdg_base::Fault;
 use xdg_names::{Index, earlier};
-
-/// The fault of a name that was seen before. From then on it is seen.
-pub(crate) fn repeated(
-    alloc: Global,
-    seen: &mut Index,
-    name: &Name,
-) -> Result<Option<Fault>, AllocError>
-    ensures found { IfOk result (λ found. found ≡ first (names.repeated seen.old name.now)) }
-    ensures seen { IfOk result (λ _. seen.new ≡ names.with_text seen.old name.now.text) }
-{
-    if seen.add(alloc, name.text.as_str())? {
-        return Ok(None);
-    }
-    Ok(Some(Fault {
-        cause: Cause::Twice,
-        at: name.span.start,
-        reached: 0,
-    }))
-}
-
-/// The first key that stands there before.
-pub(crate) fn keys_again<T>(alloc: Global, pairs: &[Pair<T>]) -> Result<Option<Fault>, AllocError>
-    ensures { IfOk result (λ found. found ≡ first (names.repeats [] (spec.keys pairs.now))) }
-{
-    let mut seen = Index::new(alloc);
-    let mut found = None;
-    for pair in pairs {
-        found = earlier(found, repeated(alloc, &mut seen, &pair.key)?);
-    }
-    Ok(found)
-}
+use xdg_types::unknown;
 
 /// Whether a key stands there.
 pub(crate) fn has_key<T>(pairs: &[Pair<T>], key: &str) -> bool
-    ensures { result ≡ has_text (texts (spec.keys pairs.now)) key.now }
+    ensures { result ≡ has_text (texts (keys pairs.now)) key.now }
 {
     for pair in pairs {
         if pair.key.text.as_str() == key {
@@ -77,19 +47,4 @@ pub(crate) fn unknown_among(known: &Index, pairs: &[Pair<Name>]) -> Option<Fault
         found = earlier(found, unknown(known, &pair.value));
     }
     found
-}
-
-/// The fault of a name that isn't among these.
-fn unknown(known: &Index, name: &Name) -> Option<Fault>
-    ensures { result ≡ first (names.unknown known.now name.now) }
-{
-    if known.contains(name.text.as_str()) {
-        None
-    } else {
-        Some(Fault {
-            cause: Cause::UnknownName,
-            at: name.span.start,
-            reached: 0,
-        })
-    }
 }

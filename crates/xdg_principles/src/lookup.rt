@@ -1,17 +1,17 @@
 //! The names of dimensions, features and attributes by number.
 
-ghost use Rattle.std.specs.Prelude.{◌≡◌, map, Some, IfOk};
-ghost use Rattle.xdg_domain.specs.Shapes.{Differ};
+ghost use Rattle.std.specs.Prelude.{◌≡◌, Some, IfOk};
+ghost use Rattle.xdg_facts.specs.Membership.{Differ};
 ghost use Rattle.xdg_types.specs.Table.{KeepDims, firsts};
 ghost use Rattle.xdg_principles.specs.Lent as spec;
-ghost use Rattle.xdg_principles.specs.Settings.{dim_texts, members_in};
+ghost use Rattle.xdg_principles.specs.Settings.{members_in};
 
 use crate::principle::Sort;
 use std::alloc::{AllocError, Global};
 use xdg_base::{List, Text};
 use xdg_domain::Ty;
 use xdg_names::Index;
-use xdg_types::{DimType, TypeTable};
+use xdg_types::{DimType, TypeTable, index_dims};
 
 /// Indexes of the names in a table of types, each by its place.
 #[derive(Drop)]
@@ -53,21 +53,10 @@ pub(crate) fn index_names(alloc: Global, table: &TypeTable) -> Result<Lookup, Al
 {
     let dims = table.dims();
     Ok(Lookup {
-        dims: dim_names(alloc, dims)?,
+        dims: index_dims(alloc, dims)?,
         features: all_names(alloc, dims, Sort::Feature)?,
         attributes: all_names(alloc, dims, Sort::Attribute)?,
     })
-}
-
-fn dim_names(alloc: Global, dims: &[DimType]) -> Result<Index, AllocError>
-    requires { Differ (dim_texts dims.now) }
-    ensures { IfOk result (λ made. made ≡ dim_texts dims.now) }
-{
-    let mut all = Index::new(alloc);
-    for dim in dims {
-        all.add(alloc, dim.name.as_str())?;
-    }
-    Ok(all)
 }
 
 /// The names of the features or the attributes of each dimension.

@@ -6,19 +6,20 @@ ghost use Rattle.xdg_names.specs.First.{first, Tells};
 ghost use Rattle.xdg_names.specs.Texts.{has_text};
 ghost use Rattle.xdg_types.specs.NameFaults as names;
 ghost use Rattle.xdg_types.specs.Names.{fault_at};
-ghost use Rattle.xdg_types.specs.Parts.{dim_names, used_name, used_names};
+ghost use Rattle.xdg_types.specs.Parts.{dim_names, used_name, used_names, keys};
 ghost use Rattle.xdg_principles.specs.Names.{PrincipleNameOffends, dim_keys, arg_keys, required_key, required_keys};
 ghost use Rattle.xdg_principles.specs.NameFaults as spec;
 ghost use Rattle.xdg_principles.specs.Principles.{dim_key, dims_in, told, key_text, principle_named};
-ghost use Rattle.xdg_principles.specs.Uses.{keys, seen};
+ghost use Rattle.xdg_principles.specs.Uses.{seen};
 
-use crate::keys::{has_key, keys_again, repeated, unknown_among};
+use crate::keys::{has_key, unknown_among};
 use crate::principle::{Dims, Form, Parameter, Preset, Which, principle};
 use crate::using::{UseRef, principle_uses};
 use std::alloc::{AllocError, Global};
 use xdg_ast::{Name, Pair, Statement, StatementKind, Term};
 use xdg_base::{Cause, Fault};
 use xdg_names::{Index, earlier};
+use xdg_types::{keys_again, repeated};
 
 /// The first fault of the names in the uses of principles, in dimensions that are used and in others, if there is one.
 ///

@@ -14,7 +14,7 @@ use Rattle.xdg_ast.specs.Grammar.{Params, CardTerm, is_among, is_constant, name_
 use Rattle.xdg_ast.specs.Words.{Word, word_of, mark, number, quoted, constant, is_name, IsShortText, IsSpellable}
 use Rattle.xdg_ast.specs.Trees.{name_word, names_words, card_words, gen_phrase, constant_in, term_words, elem_words, in_braces as braced_words, in_square_brackets as bracketed_words}
 use Rattle.xdg_ast.specs.Same.{nowhere, bare_part, bare_name, bare_names, bare_card, bare_gen, bare_elem, bare_term, bare_terms}
-use Rattle.xdg_print.proofs.AgainTrees.{term_words-Const, term_words-Param, term_words-Number, term_words-Card, term_words-Braces, term_words-Tuple, term_words-Gen, elem_words-Count, elem_words-Keyed, elem_words-Const, elem_words-Tuple, bare_term-Const, bare_term-Param, bare_term-Card, bare_term-Braces, bare_term-Tuple, bare_term-Gen, bare_elem-Count, bare_elem-Keyed, bare_elem-Const, bare_elem-Tuple}
+use Rattle.xdg_print.proofs.AgainTrees.{term_words-Const, term_words-Param, term_words-Number, term_words-Card, term_words-Braces, term_words-Tuple, term_words-Gen, elem_words-Count, elem_words-Keyed, elem_words-Const, elem_words-Tuple, bare_term-Const, bare_term-Param, bare_term-Card, bare_term-Tuple, bare_term-Gen, bare_elem-Count, bare_elem-Keyed, bare_elem-Const, bare_elem-Tuple}
 use Rattle.xdg_print.proofs.AgainWritten.{Written, written_in, token_written, nothing_written, both_written, made_written, Gives, token_gives, nothing_gives, made_gives, both_gives, either_gives}
 use Rattle.xdg_print.proofs.AgainNames.{Like, Kept, constant_kind, constant_says, short_text, name_text, name_words, constant_spellable, name_gives, name_written, same_text, small_value, number_written, many_keeps, keyed_keeps}
 use Rattle.xdg_print.proofs.AgainKept.{kept_by, behind_keeps, made_keeps, spanned_keeps}
@@ -22,6 +22,7 @@ use Rattle.xdg_print.proofs.AgainLevels.{elems_words, pairs_words, Below, nested
 use Rattle.xdg_print.proofs.AgainTerms.{bracketed_keeps, card_keeps, gen_keeps}
 use Rattle.xdg_facts.proofs.Truths.{and_false}
 use Rattle.xdg_facts.proofs.Truths.{choose}
+use Rattle.xdg_ast.proofs.Bared.{bare_term_braces}
 
 -- ---- constants and parameters
 
@@ -109,7 +110,7 @@ module _ (params : Params) (m n : ℕ) (le : m ≤ n) (below : Below params m) w
   unfolding term_kind inside
   term_kind_keeps = either_gives _ _ Term number_keeps
       (either_gives _ _ Term (made_keeps t.Braces (in_braces (under params m) (λ j. j.elems)) (in_braces (under params n) (λ j. j.elems)) (term_kind params (under params n)) (map (bare_part bare_elem)) (λ xs. braced_words (elems_words params xs)) bare_term (term_words params) t.Braces
-      bare_term-Braces (term_words-Braces params) (λ ts y h. inr (inl h))
+      bare_term_braces (term_words-Braces params) (λ ts y h. inr (inl h))
       (nested_keeps k.LeftBrace k.RightBrace (λ j. j.elems) params m n le below (map (bare_part bare_elem)) (elems_words params) (refl, refl) refl (refl, refl) refl (λ m' n' l levels. levels.elems_is n' l)))
       (either_gives _ _ Term (made_keeps t.Tuple (bracketed_names (under params m)) (bracketed_names (under params n)) (term_kind params (under params n)) bare_names (λ xs. bracketed_words (names_words xs)) bare_term (term_words params) t.Tuple
       bare_term-Tuple (term_words-Tuple params) (λ ts y h. inr (inr (inl h))) (bracketed_keeps params m n le below))

@@ -12,11 +12,12 @@ use Rattle.xdg_ast.specs.Grammar.{Params, Term, Elem, Gen, Expr, TypeTerm, Insid
 use Rattle.xdg_ast.specs.Words.{Word, mark, IsSpellable}
 use Rattle.xdg_ast.specs.Trees.{in_braces, gen_phrase, elem_words, term_words, terms_words, pair_words, expr_phrase, type_words}
 use Rattle.xdg_ast.specs.Same.{nowhere, bare_part, bare_name, bare_pair, bare_option, bare_gen, bare_elem, bare_terms, bare_expr, bare_type}
-use Rattle.xdg_print.proofs.AgainTrees.{gen_phrase-And, gen_phrase-Or, bare_gen-And, bare_gen-Or, expr_phrase-And, expr_phrase-Or, bare_expr-And, bare_expr-Or}
+use Rattle.xdg_print.proofs.AgainTrees.{gen_phrase-And, gen_phrase-Or, expr_phrase-And, expr_phrase-Or}
 use Rattle.xdg_print.proofs.AgainWritten.{Written, weaker, room_written, Gives, stronger, full_gives, room_gives}
 use Rattle.xdg_print.proofs.AgainNames.{Like, Kept, name_words}
 use Rattle.xdg_print.proofs.AgainKept.{option_words}
 use Rattle.xdg_print.proofs.AgainPhrases.{Joining, Natural}
+use Rattle.xdg_ast.proofs.Bared.{bare_gen_or, bare_gen_and, bare_expr_and, bare_expr_or}
 
 -- ---- generators and expressions as phrases
 
@@ -30,8 +31,8 @@ gens = record {
   any_one = λ s x. refl;
   all_phrase = λ s x y xs. gen_phrase-And (x ∷ (y ∷ xs));
   any_phrase = λ s x y xs. gen_phrase-Or (x ∷ (y ∷ xs));
-  all_bare = λ s s' x y x' y' xs xs' h. ap (λ kind. record { kind = kind; span = nowhere }) (bare_gen-And (x' ∷ (y' ∷ xs')) ∙ (ap g.And h ∙ sym (bare_gen-And (x ∷ (y ∷ xs)))));
-  any_bare = λ s s' x y x' y' xs xs' h. ap (λ kind. record { kind = kind; span = nowhere }) (bare_gen-Or (x' ∷ (y' ∷ xs')) ∙ (ap g.Or h ∙ sym (bare_gen-Or (x ∷ (y ∷ xs)))));
+  all_bare = λ s s' x y x' y' xs xs' h. ap (λ kind. record { kind = kind; span = nowhere }) (bare_gen_and (x' ∷ (y' ∷ xs')) ∙ (ap g.And h ∙ sym (bare_gen_and (x ∷ (y ∷ xs)))));
+  any_bare = λ s s' x y x' y' xs xs' h. ap (λ kind. record { kind = kind; span = nowhere }) (bare_gen_or (x' ∷ (y' ∷ xs')) ∙ (ap g.Or h ∙ sym (bare_gen_or (x ∷ (y ∷ xs)))));
 }
 
 abbrev pub exprs : Params → Joining Expr Expr
@@ -44,8 +45,8 @@ exprs params = record {
   any_one = λ s x. refl;
   all_phrase = λ s x y xs. expr_phrase-And params (x ∷ (y ∷ xs));
   any_phrase = λ s x y xs. expr_phrase-Or params (x ∷ (y ∷ xs));
-  all_bare = λ s s' x y x' y' xs xs' h. ap (λ kind. record { kind = kind; span = nowhere }) (bare_expr-And (x' ∷ (y' ∷ xs')) ∙ (ap ex.And h ∙ sym (bare_expr-And (x ∷ (y ∷ xs)))));
-  any_bare = λ s s' x y x' y' xs xs' h. ap (λ kind. record { kind = kind; span = nowhere }) (bare_expr-Or (x' ∷ (y' ∷ xs')) ∙ (ap ex.Or h ∙ sym (bare_expr-Or (x ∷ (y ∷ xs)))));
+  all_bare = λ s s' x y x' y' xs xs' h. ap (λ kind. record { kind = kind; span = nowhere }) (bare_expr_and (x' ∷ (y' ∷ xs')) ∙ (ap ex.And h ∙ sym (bare_expr_and (x ∷ (y ∷ xs)))));
+  any_bare = λ s s' x y x' y' xs xs' h. ap (λ kind. record { kind = kind; span = nowhere }) (bare_expr_or (x' ∷ (y' ∷ xs')) ∙ (ap ex.Or h ∙ sym (bare_expr_or (x ∷ (y ∷ xs)))));
 }
 
 -- ---- words and parts without places, of what stands in brackets

@@ -28,7 +28,9 @@ use Rattle.xdg_ast.specs.Grammar.{Params}
 use Rattle.xdg_ast.specs.Words.{Word, mark, number}
 use Rattle.xdg_ast.specs.Trees.{name_word, names_words, in_braces, in_square_brackets, Phrase, conjoined, disjoined, plainly, card_words, gen_phrase, elem_words, term_words, pair_words, terms_words, args_words, expr_phrase}
 use Rattle.xdg_ast.specs.Same.{bare_part, bare_name, bare_names, bare_num, bare_option, bare_card, bare_gen, bare_elem, bare_term, bare_terms, bare_expr}
-use Rattle.xdg_print.proofs.AgainTrees.{map-map, term_words-Const, term_words-Param, term_words-Card, term_words-Braces, term_words-Tuple, term_words-Gen, elem_words-Count, elem_words-Keyed, elem_words-Const, elem_words-Tuple, gen_phrase-Const, gen_phrase-And, gen_phrase-Or, expr_phrase-Or, expr_phrase-And, expr_phrase-Dim, expr_phrase-Use, bare_term-Const, bare_term-Param, bare_term-Number, bare_term-Card, bare_term-Braces, bare_term-Tuple, bare_term-Gen, bare_elem-Count, bare_elem-Keyed, bare_elem-Const, bare_elem-Tuple, bare_gen-Const, bare_gen-And, bare_gen-Or, bare_expr-Or, bare_expr-And, bare_expr-Dim, bare_expr-Use}
+use Rattle.xdg_print.proofs.AgainTrees.{term_words-Const, term_words-Param, term_words-Card, term_words-Braces, term_words-Tuple, term_words-Gen, elem_words-Count, elem_words-Keyed, elem_words-Const, elem_words-Tuple, gen_phrase-Const, gen_phrase-And, gen_phrase-Or, expr_phrase-Or, expr_phrase-And, expr_phrase-Dim, expr_phrase-Use, bare_term-Const, bare_term-Param, bare_term-Number, bare_term-Card, bare_term-Tuple, bare_term-Gen, bare_elem-Count, bare_elem-Keyed, bare_elem-Const, bare_elem-Tuple, bare_gen-Const, bare_expr-Dim, bare_expr-Use}
+use Rattle.xdg_facts.proofs.Lists.{fused}
+use Rattle.xdg_ast.proofs.Bared.{bare_gen_or, bare_gen_and, bare_term_braces, bare_expr_and, bare_expr_or}
 
 -- ---- lists whose members have the same words without places
 
@@ -48,7 +50,7 @@ each_words b w [] = refl
 each_words b w (x ∷ xs) = ap (λ v. v ++ flat_map (λ part. w part.kind) (map (bare_part b) (map (first b w) xs))) x.kind.1 ∙ ap (λ vs. w x.kind.0 ++ vs) (each_words b w xs)
 
 names_same : (names : List Name) → names_words (bare_names names) ≡ names_words names
-names_same names = map-map name_word bare_name names
+names_same names = fused name_word bare_name names
 
 -- ---- cardinalities
 
@@ -58,7 +60,7 @@ card_same c.One = refl
 card_same c.Maybe = refl
 card_same c.Any = refl
 card_same c.Some1 = refl
-card_same (c.Numbers nums) = ap (λ words. mark k.Hash ∷ in_braces words) (map-map (λ (num : Num). number num.value) bare_num nums)
+card_same (c.Numbers nums) = ap (λ words. mark k.Hash ∷ in_braces words) (fused (λ (num : Num). number num.value) bare_num nums)
 card_same (c.Interval low high) = refl
 
 -- ---- generators
@@ -70,10 +72,10 @@ gen_made : (z : GenKind-F (Placeless bare_gen gen_phrase)) → GenSame (roll-Gen
 gen_made (GenKind-F.Const name) = subst GenSame (sym (g.rolls-Const name)) (ap gen_phrase (bare_gen-Const name) ∙ (gen_phrase-Const (bare_name name) ∙ sym (gen_phrase-Const name)))
 gen_made (GenKind-F.And members) =
     let ms = map (first bare_gen gen_phrase) members in
-    subst GenSame (sym (g.rolls-And ms)) (ap gen_phrase (bare_gen-And ms) ∙ (gen_phrase-And (map (bare_part bare_gen) ms) ∙ (ap conjoined (each_map bare_gen gen_phrase members) ∙ sym (gen_phrase-And ms))))
+    subst GenSame (sym (g.rolls-And ms)) (ap gen_phrase (bare_gen_and ms) ∙ (gen_phrase-And (map (bare_part bare_gen) ms) ∙ (ap conjoined (each_map bare_gen gen_phrase members) ∙ sym (gen_phrase-And ms))))
 gen_made (GenKind-F.Or members) =
     let ms = map (first bare_gen gen_phrase) members in
-    subst GenSame (sym (g.rolls-Or ms)) (ap gen_phrase (bare_gen-Or ms) ∙ (gen_phrase-Or (map (bare_part bare_gen) ms) ∙ (ap disjoined (each_map bare_gen gen_phrase members) ∙ sym (gen_phrase-Or ms))))
+    subst GenSame (sym (g.rolls-Or ms)) (ap gen_phrase (bare_gen_or ms) ∙ (gen_phrase-Or (map (bare_part bare_gen) ms) ∙ (ap disjoined (each_map bare_gen gen_phrase members) ∙ sym (gen_phrase-Or ms))))
 
 gen_same : (kind : GenKind) → GenSame kind
 gen_same = ind-GenKind GenSame (λ x z is. subst (λ v. GenSame (roll-GenKind v)) is (gen_made z))
@@ -113,7 +115,7 @@ module _ (params : Params) where
   term_made (TermKind-F.Braces given) =
       let elems = map (first bare_elem (elem_words params)) given in
       subst TermSame (sym (t.rolls-Braces elems))
-      (ap (term_words params) (bare_term-Braces elems) ∙ (term_words-Braces params (map (bare_part bare_elem) elems) ∙ (ap in_braces (each_words bare_elem (elem_words params) given) ∙ sym (term_words-Braces params elems))))
+      (ap (term_words params) (bare_term_braces elems) ∙ (term_words-Braces params (map (bare_part bare_elem) elems) ∙ (ap in_braces (each_words bare_elem (elem_words params) given) ∙ sym (term_words-Braces params elems))))
   term_made (TermKind-F.TermKind::Tuple names) = subst TermSame (sym (t.rolls-Tuple names))
       (ap (term_words params) (bare_term-Tuple names) ∙ (term_words-Tuple params (bare_names names) ∙ (ap in_square_brackets (names_same names) ∙ sym (term_words-Tuple params names))))
   term_made (TermKind-F.Gen gen) = subst TermSame (sym (t.rolls-Gen gen))
@@ -142,10 +144,10 @@ module _ (params : Params) where
   expr_made : (z : ExprKind-F (Placeless bare_expr (expr_phrase params))) → ExprSame (roll-ExprKind (map-ExprKind (Placeless bare_expr (expr_phrase params)) ExprKind (λ v. v.0) z))
   expr_made (ExprKind-F.Or members) =
       let ms = map (first bare_expr (expr_phrase params)) members in
-      subst ExprSame (sym (x.rolls-Or ms)) (ap (expr_phrase params) (bare_expr-Or ms) ∙ (expr_phrase-Or params (map (bare_part bare_expr) ms) ∙ (ap disjoined (each_map bare_expr (expr_phrase params) members) ∙ sym (expr_phrase-Or params ms))))
+      subst ExprSame (sym (x.rolls-Or ms)) (ap (expr_phrase params) (bare_expr_or ms) ∙ (expr_phrase-Or params (map (bare_part bare_expr) ms) ∙ (ap disjoined (each_map bare_expr (expr_phrase params) members) ∙ sym (expr_phrase-Or params ms))))
   expr_made (ExprKind-F.And members) =
       let ms = map (first bare_expr (expr_phrase params)) members in
-      subst ExprSame (sym (x.rolls-And ms)) (ap (expr_phrase params) (bare_expr-And ms) ∙ (expr_phrase-And params (map (bare_part bare_expr) ms) ∙ (ap conjoined (each_map bare_expr (expr_phrase params) members) ∙ sym (expr_phrase-And params ms))))
+      subst ExprSame (sym (x.rolls-And ms)) (ap (expr_phrase params) (bare_expr_and ms) ∙ (expr_phrase-And params (map (bare_part bare_expr) ms) ∙ (ap conjoined (each_map bare_expr (expr_phrase params) members) ∙ sym (expr_phrase-And params ms))))
   expr_made (ExprKind-F.Dim name pairs) = subst ExprSame (sym (x.rolls-Dim name pairs))
       (ap (expr_phrase params) (bare_expr-Dim name pairs) ∙ (expr_phrase-Dim params (bare_name name) (bare_terms pairs) ∙ (ap (λ words. plainly (mark k.Dim ∷ name_word name ∷ words)) (terms_same pairs) ∙ sym (expr_phrase-Dim params name pairs))))
   expr_made (ExprKind-F.Use name pairs) = subst ExprSame (sym (x.rolls-Use name pairs))

@@ -1,5 +1,5 @@
 -- The words of trees, and trees without their places, a form at a time.
-use Rattle.std.proofs.Common.{◌≡◌, ℕ, List, [], ◌∷◌, ◌++◌, map, flat_map, Option, refl, sym, ap, ◌∙◌}
+use Rattle.std.proofs.Common.{◌≡◌, ℕ, List, [], ◌∷◌, ◌++◌, map, flat_map, Option, sym, ap, ◌∙◌}
 use Rattle.std.proofs.lemmas.List.Folds.{flat_map-map}
 use Rattle.xdg_ast.specs.declared.token.Kind.TheVariants as k
 use Rattle.xdg_ast.specs.declared.names.Name.{Name}
@@ -27,18 +27,13 @@ use Rattle.xdg_ast.specs.declared.expressions.ExprKind.TheFolds.{fold-roll-ExprK
 use Rattle.xdg_ast.specs.Grammar.{Params}
 use Rattle.xdg_ast.specs.Words.{Word, mark, number}
 use Rattle.xdg_ast.specs.Trees.{name_word, names_words, in_braces, in_parentheses, in_square_brackets, Phrase, conjoined, disjoined, plainly, card_words, gen_step, gen_phrase, constant_in, elem_step, term_step, elem_words, term_words, pair_words, terms_words, args_words, expr_step, expr_phrase, type_step, type_words}
-use Rattle.xdg_ast.specs.Same.{bare_part, bare_name, bare_names, bare_pair, bare_option, bare_card, bare_gen_step, bare_gen, bare_elem_step, bare_term_step, bare_elem, bare_term, bare_terms, bare_expr_step, bare_expr, bare_type_step, bare_type}
+use Rattle.xdg_ast.specs.Same.{bare_part, bare_name, bare_names, bare_option, bare_card, bare_gen_step, bare_gen, bare_elem_step, bare_term_step, bare_elem, bare_term, bare_terms, bare_expr_step, bare_expr, bare_type_step, bare_type}
+use Rattle.xdg_facts.proofs.Lists.{fused}
 
 -- ---- a function of what stands in a place
 
 abbrev with_kind : {A B : Type 0} → (A → B) → Spanned A → Spanned B
 with_kind f part = record { kind = f part.kind; span = part.span }
-
-pub map-map : {A B C : Type 0} (f : B → C) (h : A → B) (xs : List A) → map f (map h xs) ≡ map (λ x. f (h x)) xs
-map-map f h [] = refl
-map-map f h (x ∷ xs) = ap (λ ys. f (h x) ∷ ys) (map-map f h xs)
-
--- ---- words of terms
 
 pub term_words-Const : (params : Params) (name : Name) → term_words params (t.Const name) ≡ constant_in params name.text ∷ []
 term_words-Const params name = ap (term_words params) (sym (t.rolls-Const name)) ∙ fold-roll-TermKind (List Word) (List Word) elem_step (term_step params) (TermKind-F.TermKind::Const name)
@@ -81,18 +76,18 @@ pub gen_phrase-Const : (name : Name) → gen_phrase (g.Const name) ≡ plainly (
 gen_phrase-Const name = ap gen_phrase (sym (g.rolls-Const name)) ∙ fold-roll-GenKind Phrase gen_step (GenKind-F.Const name)
 
 pub gen_phrase-And : (members : List (Spanned GenKind)) → gen_phrase (g.And members) ≡ conjoined (map (λ gen. gen_phrase gen.kind) members)
-gen_phrase-And members = ap gen_phrase (sym (g.rolls-And members)) ∙ (fold-roll-GenKind Phrase gen_step (GenKind-F.And members) ∙ ap conjoined (map-map (λ gen. gen.kind) (with_kind gen_phrase) members))
+gen_phrase-And members = ap gen_phrase (sym (g.rolls-And members)) ∙ (fold-roll-GenKind Phrase gen_step (GenKind-F.And members) ∙ ap conjoined (fused (λ gen. gen.kind) (with_kind gen_phrase) members))
 
 pub gen_phrase-Or : (members : List (Spanned GenKind)) → gen_phrase (g.Or members) ≡ disjoined (map (λ gen. gen_phrase gen.kind) members)
-gen_phrase-Or members = ap gen_phrase (sym (g.rolls-Or members)) ∙ (fold-roll-GenKind Phrase gen_step (GenKind-F.Or members) ∙ ap disjoined (map-map (λ gen. gen.kind) (with_kind gen_phrase) members))
+gen_phrase-Or members = ap gen_phrase (sym (g.rolls-Or members)) ∙ (fold-roll-GenKind Phrase gen_step (GenKind-F.Or members) ∙ ap disjoined (fused (λ gen. gen.kind) (with_kind gen_phrase) members))
 
 -- ---- words of expressions
 
 pub expr_phrase-Or : (params : Params) (members : List (Spanned ExprKind)) → expr_phrase params (x.Or members) ≡ disjoined (map (λ expr. expr_phrase params expr.kind) members)
-expr_phrase-Or params members = ap (expr_phrase params) (sym (x.rolls-Or members)) ∙ (fold-roll-ExprKind Phrase (expr_step params) (ExprKind-F.Or members) ∙ ap disjoined (map-map (λ expr. expr.kind) (with_kind (expr_phrase params)) members))
+expr_phrase-Or params members = ap (expr_phrase params) (sym (x.rolls-Or members)) ∙ (fold-roll-ExprKind Phrase (expr_step params) (ExprKind-F.Or members) ∙ ap disjoined (fused (λ expr. expr.kind) (with_kind (expr_phrase params)) members))
 
 pub expr_phrase-And : (params : Params) (members : List (Spanned ExprKind)) → expr_phrase params (x.And members) ≡ conjoined (map (λ expr. expr_phrase params expr.kind) members)
-expr_phrase-And params members = ap (expr_phrase params) (sym (x.rolls-And members)) ∙ (fold-roll-ExprKind Phrase (expr_step params) (ExprKind-F.And members) ∙ ap conjoined (map-map (λ expr. expr.kind) (with_kind (expr_phrase params)) members))
+expr_phrase-And params members = ap (expr_phrase params) (sym (x.rolls-And members)) ∙ (fold-roll-ExprKind Phrase (expr_step params) (ExprKind-F.And members) ∙ ap conjoined (fused (λ expr. expr.kind) (with_kind (expr_phrase params)) members))
 
 pub expr_phrase-Dim : (params : Params) (name : Name) (pairs : List (Pair (Spanned TermKind))) → expr_phrase params (x.Dim name pairs) ≡ plainly (mark k.Dim ∷ name_word name ∷ terms_words params pairs)
 expr_phrase-Dim params name pairs = ap (expr_phrase params) (sym (x.rolls-Dim name pairs)) ∙ fold-roll-ExprKind Phrase (expr_step params) (ExprKind-F.Dim name pairs)
@@ -155,9 +150,6 @@ bare_term-Number n = ap bare_term (sym (t.rolls-Number n)) ∙ fold-roll-TermKin
 pub bare_term-Card : (card : Spanned CardKind) → bare_term (t.Card card) ≡ t.Card (bare_part bare_card card)
 bare_term-Card card = ap bare_term (sym (t.rolls-Card card)) ∙ fold-roll-TermKind ElemKind TermKind bare_elem_step bare_term_step (TermKind-F.Card card)
 
-pub bare_term-Braces : (elems : List (Spanned ElemKind)) → bare_term (t.Braces elems) ≡ t.Braces (map (bare_part bare_elem) elems)
-bare_term-Braces elems = ap bare_term (sym (t.rolls-Braces elems)) ∙ (fold-roll-TermKind ElemKind TermKind bare_elem_step bare_term_step (TermKind-F.Braces elems) ∙ ap t.Braces (map-map (bare_part (λ elem. elem)) (with_kind bare_elem) elems))
-
 pub bare_term-Tuple : (names : List Name) → bare_term (t.Tuple names) ≡ t.Tuple (bare_names names)
 bare_term-Tuple names = ap bare_term (sym (t.rolls-Tuple names)) ∙ fold-roll-TermKind ElemKind TermKind bare_elem_step bare_term_step (TermKind-F.TermKind::Tuple names)
 
@@ -183,20 +175,6 @@ bare_elem-Tuple names = ap bare_elem (sym (e.rolls-Tuple names)) ∙ fold-roll-E
 pub bare_gen-Const : (name : Name) → bare_gen (g.Const name) ≡ g.Const (bare_name name)
 bare_gen-Const name = ap bare_gen (sym (g.rolls-Const name)) ∙ fold-roll-GenKind GenKind bare_gen_step (GenKind-F.Const name)
 
-pub bare_gen-And : (members : List (Spanned GenKind)) → bare_gen (g.And members) ≡ g.And (map (bare_part bare_gen) members)
-bare_gen-And members = ap bare_gen (sym (g.rolls-And members)) ∙ (fold-roll-GenKind GenKind bare_gen_step (GenKind-F.And members) ∙ ap g.And (map-map (bare_part (λ gen. gen)) (with_kind bare_gen) members))
-
-pub bare_gen-Or : (members : List (Spanned GenKind)) → bare_gen (g.Or members) ≡ g.Or (map (bare_part bare_gen) members)
-bare_gen-Or members = ap bare_gen (sym (g.rolls-Or members)) ∙ (fold-roll-GenKind GenKind bare_gen_step (GenKind-F.Or members) ∙ ap g.Or (map-map (bare_part (λ gen. gen)) (with_kind bare_gen) members))
-
--- ---- expressions without places
-
-pub bare_expr-Or : (members : List (Spanned ExprKind)) → bare_expr (x.Or members) ≡ x.Or (map (bare_part bare_expr) members)
-bare_expr-Or members = ap bare_expr (sym (x.rolls-Or members)) ∙ (fold-roll-ExprKind ExprKind bare_expr_step (ExprKind-F.Or members) ∙ ap x.Or (map-map (bare_part (λ expr. expr)) (with_kind bare_expr) members))
-
-pub bare_expr-And : (members : List (Spanned ExprKind)) → bare_expr (x.And members) ≡ x.And (map (bare_part bare_expr) members)
-bare_expr-And members = ap bare_expr (sym (x.rolls-And members)) ∙ (fold-roll-ExprKind ExprKind bare_expr_step (ExprKind-F.And members) ∙ ap x.And (map-map (bare_part (λ expr. expr)) (with_kind bare_expr) members))
-
 pub bare_expr-Dim : (name : Name) (pairs : List (Pair (Spanned TermKind))) → bare_expr (x.Dim name pairs) ≡ x.Dim (bare_name name) (bare_terms pairs)
 bare_expr-Dim name pairs = ap bare_expr (sym (x.rolls-Dim name pairs)) ∙ fold-roll-ExprKind ExprKind bare_expr_step (ExprKind-F.Dim name pairs)
 
@@ -207,21 +185,6 @@ bare_expr-Use name pairs = ap bare_expr (sym (x.rolls-Use name pairs)) ∙ fold-
 
 pub bare_type-Domain : (names : List Name) → bare_type (y.Domain names) ≡ y.Domain (bare_names names)
 bare_type-Domain names = ap bare_type (sym (y.rolls-Domain names)) ∙ fold-roll-TypeKind TypeKind bare_type_step (TypeKind-F.Domain names)
-
-pub bare_type-Rec : (pairs : List (Pair (Spanned TypeKind))) → bare_type (y.Rec pairs) ≡ y.Rec (map (bare_pair (bare_part bare_type)) pairs)
-bare_type-Rec pairs = ap bare_type (sym (y.rolls-Rec pairs)) ∙ (fold-roll-TypeKind TypeKind bare_type_step (TypeKind-F.Rec pairs) ∙ ap y.Rec (map-map (bare_pair (bare_part (λ type. type))) (λ pair. record { key = pair.key; value = with_kind bare_type pair.value }) pairs))
-
-pub bare_type-Tuple : (types : List (Spanned TypeKind)) → bare_type (y.Tuple types) ≡ y.Tuple (map (bare_part bare_type) types)
-bare_type-Tuple types = ap bare_type (sym (y.rolls-Tuple types)) ∙ (fold-roll-TypeKind TypeKind bare_type_step (TypeKind-F.Tuple types) ∙ ap y.Tuple (map-map (bare_part (λ type. type)) (with_kind bare_type) types))
-
-pub bare_type-Set : (type : Spanned TypeKind) → bare_type (y.Set type) ≡ y.Set (bare_part bare_type type)
-bare_type-Set type = ap bare_type (sym (y.rolls-Set type)) ∙ fold-roll-TypeKind TypeKind bare_type_step (TypeKind-F.Set type)
-
-pub bare_type-ISet : (type : Spanned TypeKind) → bare_type (y.ISet type) ≡ y.ISet (bare_part bare_type type)
-bare_type-ISet type = ap bare_type (sym (y.rolls-ISet type)) ∙ fold-roll-TypeKind TypeKind bare_type_step (TypeKind-F.ISet type)
-
-pub bare_type-Valency : (type : Spanned TypeKind) → bare_type (y.Valency type) ≡ y.Valency (bare_part bare_type type)
-bare_type-Valency type = ap bare_type (sym (y.rolls-Valency type)) ∙ fold-roll-TypeKind TypeKind bare_type_step (TypeKind-F.Valency type)
 
 pub bare_type-Map : (key : Spanned TypeKind) (value : Spanned TypeKind) → bare_type (y.Map key value) ≡ y.Map (bare_part bare_type key) (bare_part bare_type value)
 bare_type-Map key value = ap bare_type (sym (y.rolls-Map key value)) ∙ fold-roll-TypeKind TypeKind bare_type_step (TypeKind-F.Map key value)

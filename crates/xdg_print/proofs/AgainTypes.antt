@@ -11,11 +11,12 @@ use Rattle.xdg_ast.specs.Grammar.{Params, TypeTerm, Inside, in_braces, in_parent
 use Rattle.xdg_ast.specs.Words.{Word, mark, constant, IsShortText, IsSpellable}
 use Rattle.xdg_ast.specs.Trees.{name_word, names_words, pair_words, type_words, in_braces as between_braces, in_parentheses as parenthesized}
 use Rattle.xdg_ast.specs.Same.{bare_part, bare_name, bare_names, bare_pair, bare_type}
-use Rattle.xdg_print.proofs.AgainTrees.{type_words-Empty, type_words-Domain, type_words-Rec, type_words-Tuple, type_words-Set, type_words-ISet, type_words-Valency, type_words-Map, type_words-Card, type_words-Bool, type_words-Int, type_words-Str, type_words-Named, bare_type-Domain, bare_type-Rec, bare_type-Tuple, bare_type-Set, bare_type-ISet, bare_type-Valency, bare_type-Map, bare_type-Named}
+use Rattle.xdg_print.proofs.AgainTrees.{type_words-Empty, type_words-Domain, type_words-Rec, type_words-Tuple, type_words-Set, type_words-ISet, type_words-Valency, type_words-Map, type_words-Card, type_words-Bool, type_words-Int, type_words-Str, type_words-Named, bare_type-Domain, bare_type-Map, bare_type-Named}
 use Rattle.xdg_print.proofs.AgainWritten.{Written, written_in, nothing_written, both_written, made_written, Gives, stronger, nothing_gives, made_gives, both_gives, either_gives}
 use Rattle.xdg_print.proofs.AgainNames.{Like, Kept, name_words, name_gives, name_written, name_keeps, names_keeps, same_text, many_keeps, keyed_keeps}
 use Rattle.xdg_print.proofs.AgainKept.{kept_by, sign_keeps, behind_keeps, made_keeps, both_keeps, pair_keeps, spanned_keeps}
 use Rattle.xdg_print.proofs.AgainLevels.{types_words, two_words, bare_two, GoodBraced, Levels, Below, nested_gives, nested_written, nested_keeps}
+use Rattle.xdg_ast.proofs.Bared.{bare_type_rec, bare_type_tuple, bare_type_set, bare_type_iset, bare_type_valency}
 
 abbrev pub one_words : TypeTerm → List Word
 one_words type = type_words type.kind
@@ -49,13 +50,13 @@ module _ (params : Params) (m n : ℕ) (le : m ≤ n) (below : Below params m) w
   unfolding type_kind inside
   type_kind_keeps = either_gives _ _ TypeKept braced_type
       (either_gives _ _ TypeKept (made_keeps y.Tuple (behind (token (is k.Tuple)) (in_parentheses (under params m) (λ j. j.more_types))) (behind (token (is k.Tuple)) (in_parentheses (under params n) (λ j. j.more_types))) (type_kind (under params n)) (map (bare_part bare_type)) (λ z. mark k.Tuple ∷ parenthesized (types_words z)) bare_type type_words y.Tuple
-      bare_type-Tuple type_words-Tuple (λ ts z h. inr (inl h)) (in_parentheses_keep k.Tuple (λ j. j.more_types) (map (bare_part bare_type)) types_words (refl, refl) refl (λ m' n' l levels. levels.more_is n' l)))
+      bare_type_tuple type_words-Tuple (λ ts z h. inr (inl h)) (in_parentheses_keep k.Tuple (λ j. j.more_types) (map (bare_part bare_type)) types_words (refl, refl) refl (λ m' n' l levels. levels.more_is n' l)))
       (either_gives _ _ TypeKept (made_keeps y.Set (behind (token (is k.Set)) (in_parentheses (under params m) (λ j. j.one_type))) (behind (token (is k.Set)) (in_parentheses (under params n) (λ j. j.one_type))) (type_kind (under params n)) (bare_part bare_type) (λ z. mark k.Set ∷ parenthesized (one_words z)) bare_type type_words y.Set
-      bare_type-Set type_words-Set (λ ts z h. inr (inr (inl h))) (in_parentheses_keep k.Set (λ j. j.one_type) (bare_part bare_type) one_words (refl, refl) refl (λ m' n' l levels. levels.type_is n' l)))
+      bare_type_set type_words-Set (λ ts z h. inr (inr (inl h))) (in_parentheses_keep k.Set (λ j. j.one_type) (bare_part bare_type) one_words (refl, refl) refl (λ m' n' l levels. levels.type_is n' l)))
       (either_gives _ _ TypeKept (made_keeps y.ISet (behind (token (is k.ISet)) (in_parentheses (under params m) (λ j. j.one_type))) (behind (token (is k.ISet)) (in_parentheses (under params n) (λ j. j.one_type))) (type_kind (under params n)) (bare_part bare_type) (λ z. mark k.ISet ∷ parenthesized (one_words z)) bare_type type_words y.ISet
-      bare_type-ISet type_words-ISet (λ ts z h. inr (inr (inr (inl h)))) (in_parentheses_keep k.ISet (λ j. j.one_type) (bare_part bare_type) one_words (refl, refl) refl (λ m' n' l levels. levels.type_is n' l)))
+      bare_type_iset type_words-ISet (λ ts z h. inr (inr (inr (inl h)))) (in_parentheses_keep k.ISet (λ j. j.one_type) (bare_part bare_type) one_words (refl, refl) refl (λ m' n' l levels. levels.type_is n' l)))
       (either_gives _ _ TypeKept (made_keeps y.Valency (behind (token (is k.Valency)) (in_parentheses (under params m) (λ j. j.one_type))) (behind (token (is k.Valency)) (in_parentheses (under params n) (λ j. j.one_type))) (type_kind (under params n)) (bare_part bare_type) (λ z. mark k.Valency ∷ parenthesized (one_words z)) bare_type type_words y.Valency
-      bare_type-Valency type_words-Valency (λ ts z h. inr (inr (inr (inr (inl h))))) (in_parentheses_keep k.Valency (λ j. j.one_type) (bare_part bare_type) one_words (refl, refl) refl (λ m' n' l levels. levels.type_is n' l)))
+      bare_type_valency type_words-Valency (λ ts z h. inr (inr (inr (inr (inl h))))) (in_parentheses_keep k.Valency (λ j. j.one_type) (bare_part bare_type) one_words (refl, refl) refl (λ m' n' l levels. levels.type_is n' l)))
       (either_gives _ _ TypeKept (made_keeps (λ (said : TypeTerm × TypeTerm). y.Map said.0 said.1) (behind (token (is k.Map)) (in_parentheses (under params m) (λ j. j.two_types))) (behind (token (is k.Map)) (in_parentheses (under params n) (λ j. j.two_types))) (type_kind (under params n)) bare_two (λ z. mark k.Map ∷ parenthesized (two_words z)) bare_type type_words (λ (said : TypeTerm × TypeTerm). y.Map said.0 said.1)
       (λ said. bare_type-Map said.0 said.1) (λ said. type_words-Map said.0 said.1) (λ ts z h. inr (inr (inr (inr (inr (inl h)))))) (in_parentheses_keep k.Map (λ j. j.two_types) bare_two two_words (refl, refl) refl (λ m' n' l levels. levels.two_is n' l)))
       (either_gives _ _ TypeKept (sign_keeps k.Card (type_kind (under params n)) bare_type type_words y.Card (refl, refl) refl type_words-Card (λ ts z h. inr (inr (inr (inr (inr (inr (inl h))))))))
@@ -102,8 +103,8 @@ module _ (params : Params) (m n : ℕ) (le : m ≤ n) (below : Below params m) w
   record_like : (a b : Name) (x z : TypeTerm) (xs zs : List (Pair TypeTerm)) → a.text ≡ b.text → Like (bare_part bare_type) (λ v. mark k.Colon ∷ one_words v) x z → Like bare_pairs pairs_of_types xs zs
       → Like bare_type type_words (record_of x xs a) (record_of z zs b)
   record_like a b x z xs zs h i j = record {
-    bare = bare_type-Rec (record { key = a; value = x } ∷ xs) ∙ (ap (λ c. y.Rec (record { key = c; value = bare_part bare_type x } ∷ bare_pairs xs)) (same_text a b h).bare
-        ∙ (ap (λ v. y.Rec (record { key = bare_name b; value = v } ∷ bare_pairs xs)) i.bare ∙ (ap (λ vs. y.Rec (record { key = bare_name b; value = bare_part bare_type z } ∷ vs)) j.bare ∙ sym (bare_type-Rec (record { key = b; value = z } ∷ zs)))));
+    bare = bare_type_rec (record { key = a; value = x } ∷ xs) ∙ (ap (λ c. y.Rec (record { key = c; value = bare_part bare_type x } ∷ bare_pairs xs)) (same_text a b h).bare
+        ∙ (ap (λ v. y.Rec (record { key = bare_name b; value = v } ∷ bare_pairs xs)) i.bare ∙ (ap (λ vs. y.Rec (record { key = bare_name b; value = bare_part bare_type z } ∷ vs)) j.bare ∙ sym (bare_type_rec (record { key = b; value = z } ∷ zs)))));
     words = type_words-Rec (record { key = a; value = x } ∷ xs) ∙ (ap (λ text. between_braces (constant text ∷ ((mark k.Colon ∷ one_words x) ++ pairs_of_types xs))) h
         ∙ (ap (λ ws. between_braces (name_word b ∷ (ws ++ pairs_of_types xs))) i.words ∙ (ap (λ ws. between_braces (name_word b ∷ ((mark k.Colon ∷ one_words z) ++ ws))) j.words ∙ sym (type_words-Rec (record { key = b; value = z } ∷ zs)))));
   }

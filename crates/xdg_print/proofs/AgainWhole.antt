@@ -19,7 +19,6 @@ use Rattle.xdg_ast.specs.Words.{Word, word_of, mark, constant, IsSpellable, AreS
 use Rattle.xdg_ast.specs.Trees.{name_word, term_words, in_braces as between_braces}
 use Rattle.xdg_ast.specs.Canon.{Line, line, indented, part_words, preset_words, class_param_words, body_words, statement_words, statement_lines, line_text, lines_of, canon}
 use Rattle.xdg_ast.specs.Same.{nowhere, bare_part, bare_name, bare_option, bare_term, bare_expr, bare_class_param, bare_statement, bare_statements, bare_grammar, Same}
-use Rattle.xdg_print.proofs.AgainTrees.{map-map}
 use Rattle.xdg_print.proofs.AgainWritten.{Written, weaker, at_words, token_written, bind_written, made_written, Gives, token_gives, made_gives, bind_gives, either_gives}
 use Rattle.xdg_print.proofs.AgainNames.{Like, Kept, constant_says, short_text, name_text, constant_spellable, name_words, name_keeps, same_text, many_keeps}
 use Rattle.xdg_print.proofs.AgainKept.{option_words, behind_keeps, made_keeps, both_keeps, pair_keeps, optional_keeps, with_words, at_place_keeps}
@@ -27,6 +26,7 @@ use Rattle.xdg_print.proofs.AgainLevels.{nested_keeps}
 use Rattle.xdg_print.proofs.AgainElems.{term_keeps}
 use Rattle.xdg_print.proofs.AgainExprs.{expr_words, expr_keeps}
 use Rattle.xdg_print.proofs.AgainDims.{below_of, PartSaid, part_said, parts_words, parts_keep}
+use Rattle.xdg_facts.proofs.Lists.{fused}
 
 -- ---- parameters of classes
 
@@ -128,8 +128,8 @@ stated_dim dim = (s.DefDim dim.0 (map (λ (p : PartSaid). record { kind = p.0; s
 dim_is : (dim : Dim) → stated (s.DefDim dim.0 dim.1) ≡ stated_dim (bare_dim dim)
 unfolding bare_statement statement_lines
 dim_is dim =
-    let a = map-map (λ (p : PartSaid). record { kind = p.0; span = nowhere }) (λ (part : DimPart). part_said part.kind) dim.1 in
-    let b = map-map (λ (p : PartSaid). indented p.1) (λ (part : DimPart). part_said part.kind) dim.1 in
+    let a = fused (λ (p : PartSaid). record { kind = p.0; span = nowhere }) (λ (part : DimPart). part_said part.kind) dim.1 in
+    let b = fused (λ (p : PartSaid). indented p.1) (λ (part : DimPart). part_said part.kind) dim.1 in
     ap (λ parts. (s.DefDim (bare_name dim.0) parts, line (mark k.DefDim ∷ name_word dim.0 ∷ mark k.LeftBrace ∷ []) ∷ (map (λ (part : DimPart). indented (part_words part.kind)) dim.1 ++ line (mark k.RightBrace ∷ []) ∷ []))) (sym a)
     ∙ ap (λ lines. (s.DefDim (bare_name dim.0) (map (λ (p : PartSaid). record { kind = p.0; span = nowhere }) (map (λ (part : DimPart). part_said part.kind) dim.1)), line (mark k.DefDim ∷ name_word dim.0 ∷ mark k.LeftBrace ∷ []) ∷ (lines ++ line (mark k.RightBrace ∷ []) ∷ []))) (sym b)
 
@@ -215,7 +215,7 @@ lines_are (x ∷ xs) = flat_map-append (λ (l : Line). l.words) (statement_lines
 -- ---- the whole
 
 bare_from : (xs : List (Spanned StatementKind)) → map (λ (p : Stated). record { kind = p.0; span = nowhere }) (map (λ (x : Spanned StatementKind). stated x.kind) xs) ≡ bare_statements xs
-bare_from xs = map-map (λ (p : Stated). record { kind = p.0; span = nowhere }) (λ (x : Spanned StatementKind). stated x.kind) xs
+bare_from xs = fused (λ (p : Stated). record { kind = p.0; span = nowhere }) (λ (x : Spanned StatementKind). stated x.kind) xs
 
 lines_from : (xs : List (Spanned StatementKind)) → flat_map (λ (p : Stated). p.1) (map (λ (x : Spanned StatementKind). stated x.kind) xs) ≡ flat_map (λ x. statement_lines x.kind) xs
 lines_from xs = flat_map-map (λ (p : Stated). p.1) (λ (x : Spanned StatementKind). stated x.kind) xs

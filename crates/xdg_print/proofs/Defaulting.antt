@@ -11,11 +11,13 @@ use Rattle.std.proofs.lemmas.Slice.Eq.{bytes_eq-Decides}
 use Rattle.xdg_domain.specs.Cards.{cards}
 use Rattle.xdg_domain.specs.Defaults.{default, for_each_key, map_of_default}
 use Rattle.xdg_domain.specs.Shapes.{Shape, domain, tuple, truth, integer, text, set, iset, card, valency, mapping, fields, count, IsMapped, IsType}
-use Rattle.xdg_domain.specs.declared.values.Value.{Value, out-Value, roll-Value, roll-out-Value}
+use Rattle.xdg_domain.specs.declared.values.Value.{Value, out-Value}
 use Rattle.xdg_domain.specs.declared.values.Value.TheOpen.{Value-F}
 use Rattle.xdg_domain.specs.declared.values.Value.TheVariants as v
 use Rattle.xdg_domain.proofs.DefaultLaws.{decided, mapped_plain}
 use Rattle.xdg_print.specs.Defaulted.{counts_up, is_default}
+use Rattle.xdg_domain.proofs.JoinLaws.{same_out}
+use Rattle.xdg_facts.proofs.Options.{some_same}
 
 -- ---- keys that count up
 
@@ -62,15 +64,9 @@ map_law k u d law l = (λ e. absurd (true≢false (sym e)), λ e. absurd (cc))
 
 -- ---- values
 
-same_value : (x y : Value) → out-Value x ≡ out-Value y → x ≡ y
-same_value x y e = sym (roll-out-Value x) ∙ ap roll-Value e ∙ roll-out-Value y
-
-same_some : (x y : Value) → Some x ≡ Some y → x ≡ y
-same_some x y e = cc
-
 -- a test that is exact on layers is exact on values
 lifted : (b : Bool) (d x : Value) (l : Value-F Value) → out-Value d ≡ l → Decides b (l ≡ out-Value x) → Decides b (Some d ≡ Some x)
-lifted b d x l is law = Decides-like b (λ e. ap Some (same_value d x (is ∙ e))) (λ e. sym is ∙ ap out-Value (same_some d x e)) law
+lifted b d x l is law = Decides-like b (λ e. ap Some (same_out d x (is ∙ e))) (λ e. sym is ∙ ap out-Value (some_same d x e)) law
 
 pub default_law : (s : Shape) → IsMapped s → IsType s → (x : Value) → Decides (is_default s (out-Value x)) (default s ≡ Some x)
 default_law (domain cs) mapped right x = absurd mapped
@@ -89,7 +85,7 @@ default_law (mapping k u) mapped right x = elim (decided u right.1.1) [
       let d : Value = some.1.0 in
       let all : List (ℕ × Value) = for_each_key (count k) d in
       let law : (w : Value) → Decides (is_default u (out-Value w)) (w ≡ d) = λ w.
-      Decides-like (is_default u (out-Value w)) (λ e. same_some w d (sym e ∙ some.1.1)) (λ e. some.1.1 ∙ ap Some (sym e)) (default_law u right.1.0 right.1.1 w) in
+      Decides-like (is_default u (out-Value w)) (λ e. some_same w d (sym e ∙ some.1.1)) (λ e. some.1.1 ∙ ap Some (sym e)) (default_law u right.1.0 right.1.1 w) in
       let is : default (mapping k u) ≡ Some (v.Map all) = ap (map_of_default (count k)) some.1.1 in
       Decides-like (is_default (mapping k u) (out-Value x)) (λ e. is ∙ e) (λ e. sym is ∙ e) (lifted _ (v.Map all) x (Value-F.Map all) (v.outs-Map all) (map_law k u d law (out-Value x)))
 ]

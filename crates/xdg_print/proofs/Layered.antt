@@ -1,22 +1,20 @@
 -- The trees of types, variant by variant, and what stands in values of them.
 use Rattle.std.proofs.Common.{◌≡◌, ℕ, zero, suc, ◌<◌, List, [], ◌∷◌, length, get_or, map, sym, ap, ◌∙◌, subst, arith}
 use Rattle.xdg_domain.specs.Cards.{IsCards}
-use Rattle.xdg_domain.specs.Shapes.{Shape, tuple, valency, mapping, fields, fields_of, layer, shape, shapes_of, count, constants, constants_of, IsDomain, IsMapped, IsType, AreTypes}
+use Rattle.xdg_domain.specs.Shapes.{Shape, tuple, valency, mapping, fields, fields_of, shape, shapes_of, count, constants, constants_of, IsDomain, IsMapped, IsType, AreTypes}
 use Rattle.xdg_domain.specs.Sized.{sizes_of}
 use Rattle.xdg_domain.specs.Tuples.{InRange}
 use Rattle.xdg_domain.specs.Values.{AllBelow, EachSaid, IsIn, IsValue, IsFieldOf}
-use Rattle.xdg_domain.specs.declared.types.Ty.{Ty, out-Ty, map-Ty, fold_out-Ty}
+use Rattle.xdg_domain.specs.declared.types.Ty.{Ty}
 use Rattle.xdg_domain.specs.declared.types.Ty.TheOpen.{Ty-F}
 use Rattle.xdg_domain.specs.declared.types.Ty.TheVariants as t
 use Rattle.xdg_domain.specs.declared.values.Value.{Value, out-Value}
 use Rattle.xdg_domain.specs.declared.values.Value.TheOpen.{Value-F}
 use Rattle.xdg_domain.specs.declared.values.Value.TheVariants as v
 use Rattle.xdg_types.specs.Table.{typed}
+use Rattle.xdg_domain.proofs.Shaped.{by_layer}
 
 -- ---- types
-
-by_layer : (ty : Ty) (l : Ty-F Ty) → out-Ty ty ≡ l → shape ty ≡ layer (map-Ty Ty Shape shape l)
-by_layer ty l is = fold_out-Ty Shape layer ty ∙ ap (λ m. layer (map-Ty Ty Shape shape m)) is
 
 pub of_tuple : (ty : Ty) (types : List Ty) → ty ≡ t.Tuple types → shape ty ≡ tuple (shapes_of (map shape types))
 of_tuple ty types is = ap shape is ∙ by_layer (t.Tuple types) (Ty-F.Tuple types) (t.outs-Tuple types)

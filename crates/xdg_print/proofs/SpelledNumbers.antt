@@ -1,5 +1,5 @@
 -- Numbers, as they are read.
-use Rattle.std.proofs.Common.{◌≡◌, ℕ, ◌+◌, ◌*◌, ◌-◌, ◌/◌, ◌%◌, ◌<◌, ◌≤◌, true, List, [], ◌∷◌, ◌++◌, length, refl, ◌∙◌, ap, arith, length-append}
+use Rattle.std.proofs.Common.{◌≡◌, ℕ, ◌+◌, ◌-◌, ◌/◌, ◌%◌, ◌<◌, ◌≤◌, true, List, [], ◌∷◌, ◌++◌, length, refl, ◌∙◌, ap, arith, length-append}
 use Rattle.std.specs.Prelude.{decimal}
 use Rattle.std.specs.Char.{is_ascii, is_ascii_digit}
 use Rattle.std.specs.List.{list_all}
@@ -13,10 +13,7 @@ use Rattle.xdg_ast.specs.Tokenizes.{StopsBefore, IsToken, number, value_after, g
 use Rattle.xdg_ast.specs.Words.{Word, word_of, IsSpellable}
 use Rattle.xdg_print.proofs.SpelledTexts.{AreBytesOf, ascii_bytes, each_passes, weaker_test}
 use Rattle.xdg_print.proofs.SpelledNames.{Says, says_more}
-
-after_append : (value : ℕ) (cs : List ℕ) (c : ℕ) → value_after value (cs ++ c ∷ []) ≡ value_after value cs * 10 + (c - 48)
-after_append value [] c = refl
-after_append value (d ∷ cs) c = after_append (value * 10 + (d - 48)) cs c
+use Rattle.xdg_lex.proofs.Pending.{value_more}
 
 from_append : (value : ℕ) (cs : List ℕ) (c : ℕ) → value_from value (cs ++ c ∷ []) ≡ with_digit (value_from value cs) c
 from_append value [] c = refl
@@ -49,7 +46,7 @@ more_digits n digits great front =
     record {
       digits_only = list_all-append is_ascii_digit digits ((48 + n % 10) ∷ []) ∙ and_from (list_all is_ascii_digit digits) _ front.digits_only (and_from (is_ascii_digit (48 + n % 10)) true (is_digit (n % 10) last) refl);
       some_digits = omega (arith, length-append digits ((48 + n % 10) ∷ []));
-      after = omega (arith, after_append 0 digits (48 + n % 10), front.after);
+      after = omega (arith, value_more 0 digits (48 + n % 10), front.after);
       from = λ fits. omega (arith, fits, from_append 0 digits (48 + n % 10), front.from (omega (arith, fits)));
     }
 

@@ -5,12 +5,14 @@ use Rattle.std.specs.List.{position_from}
 use Rattle.std.specs.Str.{bytes_eq}
 use Rattle.std.proofs.lemmas.Option.{get_or_from_slice_get}
 use Rattle.std.proofs.lemmas.Slice.Eq.{bytes_eq-Decides}
-use Rattle.xdg_domain.specs.Shapes.{Shape, text, Among, Differ}
+use Rattle.xdg_domain.specs.Shapes.{Shape, text}
 use Rattle.xdg_domain.specs.declared.types.Ty.{Ty}
 use Rattle.xdg_types.specs.declared.table.DimType.{DimType}
-use Rattle.xdg_types.specs.Table.{Table, Typed, typed, firsts, HasPlace, ArePlaces, KeepsDim, KeepDims, IsTable}
+use Rattle.xdg_types.specs.Table.{Table, Typed, typed, firsts, KeepsDim, KeepDims, IsTable}
 use Rattle.xdg_packed.specs.Entries.{IsWordPlace, TellsWordPlace}
 use Rattle.xdg_print.specs.WordPlaces.{is_text, is_word, is_lex, features, with_field, in_dim, place_of_word}
+use Rattle.xdg_facts.specs.Membership.{In, Differ}
+use Rattle.xdg_types.proofs.Places.{places_once}
 
 -- ---- the first that passes a test
 
@@ -44,7 +46,7 @@ from_none test (x ∷ xs) i (suc k) none h = from_none test xs (i + 1) k (rest_n
 
 -- ---- what differs stands at one place
 
-among_at : {X : Type 0} (f : X → List ℕ) (xs : List X) (j : ℕ) (y : X) (t : List ℕ) → slice_get xs j ≡ Some y → f y ≡ t → Among (map f xs) t
+among_at : {X : Type 0} (f : X → List ℕ) (xs : List X) (j : ℕ) (y : X) (t : List ℕ) → slice_get xs j ≡ Some y → f y ≡ t → In (map f xs) t
 among_at f [] j y t at is = absurd (cc)
 among_at f (x ∷ xs) zero y t at is = let same : x ≡ y = cc in inl (ap f same ∙ is)
 among_at f (x ∷ xs) (suc j) y t at is = inr (among_at f xs j y t at is)
@@ -55,18 +57,6 @@ differ_apart f (z ∷ xs) zero zero x y h a b same = refl
 differ_apart f (z ∷ xs) zero (suc j) x y h a b same = let is : z ≡ x = cc in absurd (h.0 (among_at f xs j y (f z) b (sym same ∙ sym (ap f is))))
 differ_apart f (z ∷ xs) (suc i) zero x y h a b same = let is : z ≡ y = cc in absurd (h.0 (among_at f xs i x (f z) a (same ∙ sym (ap f is))))
 differ_apart f (z ∷ xs) (suc i) (suc j) x y h a b same = ap suc (differ_apart f xs i j x y h.1 a b same)
-
-place_at : (ks : List ℕ) (j k : ℕ) → slice_get ks j ≡ Some k → HasPlace ks k
-place_at [] j k at = absurd (cc)
-place_at (l ∷ ks) zero k at = inl (let same : l ≡ k = cc in same)
-place_at (l ∷ ks) (suc j) k at = inr (place_at ks j k at)
-
-places_apart : (bound : ℕ) (ks : List ℕ) (i j k : ℕ) → ArePlaces bound ks → slice_get ks i ≡ Some k → slice_get ks j ≡ Some k → i ≡ j
-places_apart bound [] i j k h a b = absurd (cc)
-places_apart bound (l ∷ ks) zero zero k h a b = refl
-places_apart bound (l ∷ ks) zero (suc j) k h a b = let is : l ≡ k = cc in absurd (h.0.1 (subst (HasPlace ks) (sym is) (place_at ks j k b)))
-places_apart bound (l ∷ ks) (suc i) zero k h a b = let is : l ≡ k = cc in absurd (h.0.1 (subst (HasPlace ks) (sym is) (place_at ks i k a)))
-places_apart bound (l ∷ ks) (suc i) (suc j) k h a b = ap suc (places_apart bound ks i j k h.1 a b)
 
 kept : (dims : List DimType) (k : ℕ) (dim : DimType) → KeepDims dims → slice_get dims k ≡ Some dim → KeepsDim dim
 kept [] k dim h at = absurd (cc)
@@ -106,7 +96,7 @@ dim_place table h d f w (Some j) some =
     let found = from_found (lex_test table) table.used 0 j some in
     let lex = is_lex_true (slice_get table.dims found.1.1.0) found.1.1.1.1 in
     let same_dim : found.1.1.0 ≡ w.used.0 = differ_apart (λ dim. dim.name) table.dims found.1.1.0 w.used.0 lex.0 w.lex h.names lex.1.0 w.used.1.1 (lex.1.1 ∙ sym w.name) in
-    let same_place : found.0 ≡ d = places_apart (length table.dims) table.used found.0 d w.used.0 h.used (found.1.1.1.0 ∙ ap Some same_dim) w.used.1.0 in
+    let same_place : found.0 ≡ d = places_once (length table.dims) table.used found.0 d w.used.0 h.used (found.1.1.1.0 ∙ ap Some same_dim) w.used.1.0 in
     let at = found.1.0 in
     let is : j ≡ d = omega (arith, at, same_place) in ap Some is
 

@@ -89,3 +89,6 @@ pub tuple_done : (given : TypeKind) (types items : List (Spanned TypeKind)) (p o
     → put_mark k.RightParenthesis q ≡ put (type_words given) p
 tuple_done given types items p opened q is same one two =
     enclosed k.LeftParenthesis k.RightParenthesis (λ type. type_words type.kind) items types (put_mark k.Tuple p) opened q same one two ∙ sym (ap (λ z. put (type_words z) p) is ∙ put_tuple types p)
+
+-- the words of each form of a type
+pub ruleset type_steps = (put_empty, put_domain, put_set, put_iset, put_valency, put_map, put_card, put_bool, put_int, put_str, put_named)

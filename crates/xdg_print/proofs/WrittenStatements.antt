@@ -76,3 +76,6 @@ unfolding canon
 all_printed grammar items p q same none written =
     ap (λ z. z.text) written ∙ ap (λ z. (put_lines (flat_map lines_in items) z).text) none
     ∙ ap (λ z. (put_lines (flat_map lines_in z) start).text) same ∙ text_of_lines (flat_map lines_in grammar.statements) start
+
+-- the lines of statements without parts
+pub ruleset statement_steps = (put_use_dim, put_def_entry, put_def_class)

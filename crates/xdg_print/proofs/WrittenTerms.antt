@@ -20,6 +20,7 @@ use Rattle.xdg_print.specs.declared.printer.Printer.{Printer}
 use Rattle.xdg_print.specs.Printed.{put, is_joined, is_disjoined}
 use Rattle.xdg_print.proofs.Written.{put_mark, put_braces, put_square_brackets, enclosed}
 use Rattle.xdg_print.proofs.AgainTrees as form
+use Rattle.xdg_facts.proofs.Lists.{fused}
 
 -- ---- generators
 
@@ -50,20 +51,16 @@ joined_gen gen = in_conjunction (gen_phrase gen.kind)
 abbrev pub disjoined_gen : Spanned GenKind → List Word
 disjoined_gen gen = in_disjunction (gen_phrase gen.kind)
 
-map_map : {A B C : Type 0} (f : B → C) (h : A → B) (xs : List A) → map f (map h xs) ≡ map (λ x. f (h x)) xs
-map_map f h [] = refl
-map_map f h (x ∷ xs) = ap (λ ys. f (h x) ∷ ys) (map_map f h xs)
-
 pub gen_and_done : (given : GenKind) (members items : List (Spanned GenKind)) (p q : Printer) → given ≡ g.And members → items ≡ members → q ≡ put (separated k.Ampersand (map joined_gen items)) p → q ≡ put (gen_phrase given).words p
 gen_and_done given members items p q is same written =
     written ∙ ap (λ z. put (separated k.Ampersand (map joined_gen z)) p) same
-    ∙ ap (λ z. put (separated k.Ampersand z) p) (sym (map_map in_conjunction (λ gen. gen_phrase gen.kind) members))
+    ∙ ap (λ z. put (separated k.Ampersand z) p) (sym (fused in_conjunction (λ gen. gen_phrase gen.kind) members))
     ∙ sym (ap (λ z. put (gen_phrase z).words p) is ∙ ap (λ z. put z.words p) (form.gen_phrase-And members))
 
 pub gen_or_done : (given : GenKind) (members items : List (Spanned GenKind)) (p q : Printer) → given ≡ g.Or members → items ≡ members → q ≡ put (separated k.Bar (map disjoined_gen items)) p → q ≡ put (gen_phrase given).words p
 gen_or_done given members items p q is same written =
     written ∙ ap (λ z. put (separated k.Bar (map disjoined_gen z)) p) same
-    ∙ ap (λ z. put (separated k.Bar z) p) (sym (map_map in_disjunction (λ gen. gen_phrase gen.kind) members))
+    ∙ ap (λ z. put (separated k.Bar z) p) (sym (fused in_disjunction (λ gen. gen_phrase gen.kind) members))
     ∙ sym (ap (λ z. put (gen_phrase z).words p) is ∙ ap (λ z. put z.words p) (form.gen_phrase-Or members))
 
 -- ---- terms
@@ -163,11 +160,26 @@ disjoined_expr params expr = in_disjunction (expr_phrase params expr.kind)
 pub expr_and_done : (params : Params) (given : ExprKind) (members items : List (Spanned ExprKind)) (p q : Printer) → given ≡ x.And members → items ≡ members → q ≡ put (separated k.Ampersand (map (joined_expr params) items)) p → q ≡ put (expr_phrase params given).words p
 expr_and_done params given members items p q is same written =
     written ∙ ap (λ z. put (separated k.Ampersand (map (joined_expr params) z)) p) same
-    ∙ ap (λ z. put (separated k.Ampersand z) p) (sym (map_map in_conjunction (λ expr. expr_phrase params expr.kind) members))
+    ∙ ap (λ z. put (separated k.Ampersand z) p) (sym (fused in_conjunction (λ expr. expr_phrase params expr.kind) members))
     ∙ sym (ap (λ z. put (expr_phrase params z).words p) is ∙ ap (λ z. put z.words p) (form.expr_phrase-And params members))
 
 pub expr_or_done : (params : Params) (given : ExprKind) (members items : List (Spanned ExprKind)) (p q : Printer) → given ≡ x.Or members → items ≡ members → q ≡ put (separated k.Bar (map (disjoined_expr params) items)) p → q ≡ put (expr_phrase params given).words p
 expr_or_done params given members items p q is same written =
     written ∙ ap (λ z. put (separated k.Bar (map (disjoined_expr params) z)) p) same
-    ∙ ap (λ z. put (separated k.Bar z) p) (sym (map_map in_disjunction (λ expr. expr_phrase params expr.kind) members))
+    ∙ ap (λ z. put (separated k.Bar z) p) (sym (fused in_disjunction (λ expr. expr_phrase params expr.kind) members))
     ∙ sym (ap (λ z. put (expr_phrase params z).words p) is ∙ ap (λ z. put z.words p) (form.expr_phrase-Or params members))
+
+-- which expressions stand in brackets in a conjunction
+pub ruleset joined_steps = (expr_or_joined, expr_and_joined, expr_dim_joined, expr_use_joined)
+
+-- and which in a disjunction
+pub ruleset disjoined_steps = (expr_or_disjoined, expr_and_disjoined, expr_dim_disjoined, expr_use_disjoined)
+
+-- which generators stand in brackets in a disjunction
+pub ruleset generator_steps = (gen_const_disjoined, gen_and_disjoined, gen_or_disjoined)
+
+-- the words of each form of a term
+pub ruleset term_steps = (put_term_const, put_term_param, put_term_number, put_term_card, put_term_tuple, put_term_gen)
+
+-- the words of each form of an element
+pub ruleset elem_steps = (put_elem_count, put_elem_keyed, put_elem_const, put_elem_tuple)

@@ -9,7 +9,7 @@ use std::alloc::AllocError;
 use xdg_ast::{ExprKind, Kind, Params};
 
 /// Whether an expression stands in brackets in a conjunction.
-#[tactic(auto, using(crate::proofs::WrittenTerms::expr_or_joined, crate::proofs::WrittenTerms::expr_and_joined, crate::proofs::WrittenTerms::expr_dim_joined, crate::proofs::WrittenTerms::expr_use_joined))]
+#[tactic(auto, using(crate::proofs::WrittenTerms::joined_steps))]
 fn is_joined(params: &Params, expr: &ExprKind) -> bool
     ensures { result ≡ is_joined (expr_phrase params.now expr.now) }
 {
@@ -17,7 +17,7 @@ fn is_joined(params: &Params, expr: &ExprKind) -> bool
 }
 
 /// Whether an expression stands in brackets in a disjunction.
-#[tactic(auto, using(crate::proofs::WrittenTerms::expr_or_disjoined, crate::proofs::WrittenTerms::expr_and_disjoined, crate::proofs::WrittenTerms::expr_dim_disjoined, crate::proofs::WrittenTerms::expr_use_disjoined))]
+#[tactic(auto, using(crate::proofs::WrittenTerms::disjoined_steps))]
 fn is_disjoined(params: &Params, expr: &ExprKind) -> bool
     ensures { result ≡ is_disjoined (expr_phrase params.now expr.now) }
 {

@@ -152,7 +152,7 @@ impl Printer {
     }
 
     /// Adds the lines of a statement.
-    #[tactic(auto, using(crate::proofs::WrittenStatements::put_use_dim, crate::proofs::WrittenStatements::put_def_entry, crate::proofs::WrittenStatements::put_def_class))]
+    #[tactic(auto, using(crate::proofs::WrittenStatements::statement_steps))]
     fn statement(&mut self, alloc: Global, statement: &StatementKind) -> Result<(), AllocError>
         ensures { OnOk result (self.new ≡ put_lines (statement_lines statement.now) self.old) }
     {

@@ -20,7 +20,7 @@ fn is_joined(generator: &GenKind) -> bool
 }
 
 /// Whether a generator stands in brackets in a disjunction.
-#[tactic(auto, using(crate::proofs::WrittenTerms::gen_const_disjoined, crate::proofs::WrittenTerms::gen_and_disjoined, crate::proofs::WrittenTerms::gen_or_disjoined))]
+#[tactic(auto, using(crate::proofs::WrittenTerms::generator_steps))]
 fn is_disjoined(generator: &GenKind) -> bool
     ensures { result ≡ is_disjoined (gen_phrase generator.now) }
 {
@@ -91,7 +91,7 @@ impl Printer {
 
     /// Adds a term in the body of a class with these parameters.
     #[cycle(term)]
-    #[tactic(auto, using(crate::proofs::WrittenTerms::put_term_const, crate::proofs::WrittenTerms::put_term_param, crate::proofs::WrittenTerms::put_term_number, crate::proofs::WrittenTerms::put_term_card, crate::proofs::WrittenTerms::put_term_tuple, crate::proofs::WrittenTerms::put_term_gen))]
+    #[tactic(auto, using(crate::proofs::WrittenTerms::term_steps))]
     pub(crate) fn term(&mut self, params: &Params, term: &TermKind) -> Result<(), AllocError>
         ensures { OnOk result (self.new ≡ put (term_words params.now term.now) self.old) }
     {
@@ -121,7 +121,7 @@ impl Printer {
 
     /// Adds an element of a term in braces.
     #[cycle(term)]
-    #[tactic(auto, using(crate::proofs::WrittenTerms::put_elem_count, crate::proofs::WrittenTerms::put_elem_keyed, crate::proofs::WrittenTerms::put_elem_const, crate::proofs::WrittenTerms::put_elem_tuple))]
+    #[tactic(auto, using(crate::proofs::WrittenTerms::elem_steps))]
     fn elem(&mut self, params: &Params, elem: &ElemKind) -> Result<(), AllocError>
         ensures { OnOk result (self.new ≡ put (elem_words params.now elem.now) self.old) }
     {

@@ -13,7 +13,7 @@ use xdg_ast::{Kind, Name, TypeKind};
 impl Printer {
     /// Adds a type.
     #[cycle(types)]
-    #[tactic(auto, using(crate::proofs::Written::put_empty, crate::proofs::Written::put_domain, crate::proofs::Written::put_set, crate::proofs::Written::put_iset, crate::proofs::Written::put_valency, crate::proofs::Written::put_map, crate::proofs::Written::put_card, crate::proofs::Written::put_bool, crate::proofs::Written::put_int, crate::proofs::Written::put_str, crate::proofs::Written::put_named))]
+    #[tactic(auto, using(crate::proofs::Written::type_steps))]
     pub(crate) fn type_term(&mut self, given: &TypeKind) -> Result<(), AllocError>
         ensures { OnOk result (self.new ≡ put (type_words given.now) self.old) }
     {

@@ -9,7 +9,7 @@ ghost use Rattle.xdg_ast.specs.Canon.{spelling, escaped, is_tight_behind, is_tig
 ghost use Rattle.xdg_print.specs.Printed.{keyword_text, has_name_form, is_keyword};
 
 use std::alloc::AllocError;
-use xdg_ast::Kind;
+use xdg_ast::{Kind, keyword_of};
 use xdg_base::Text;
 
 /// How a keyword is spelled. Of other words it tells nothing.
@@ -119,36 +119,14 @@ pub(crate) fn is_tight(one: Kind, other: Kind) -> bool
 }
 
 /// Whether a text is a keyword.
-#[tactic(auto, unfolding(crate::specs::Printed::is_keyword, xdg_ast::specs::Kinds::keyword_of))]
+#[tactic(auto, unfolding(crate::specs::Printed::is_keyword))]
 fn is_keyword(text: &str) -> bool
     ensures { result ≡ is_keyword text.now }
 {
-    matches!(
-        text,
-        "defdim"
-            | "deftype"
-            | "deflabeltype"
-            | "defattrstype"
-            | "defentrytype"
-            | "useprinciple"
-            | "dims"
-            | "args"
-            | "output"
-            | "useoutput"
-            | "defclass"
-            | "defentry"
-            | "dim"
-            | "usedim"
-            | "tuple"
-            | "set"
-            | "iset"
-            | "valency"
-            | "map"
-            | "card"
-            | "bool"
-            | "int"
-            | "string"
-    )
+    match keyword_of(text) {
+        Some(_) => true,
+        None => false,
+    }
 }
 
 fn begins_name(byte: u8) -> bool

@@ -13,10 +13,11 @@ use Rattle.xdg_problem.specs.declared.parts.Principle.TheVariants as principles
 use Rattle.xdg_problem.specs.Places.{nodes, below}
 use Rattle.xdg_problem.specs.Vectors.{attr_sizes}
 use Rattle.xdg_problem.specs.Arguments.{first_dim, label_count, attr_count, attr_of, attr_place, no_plan}
-use Rattle.xdg_problem.specs.Problems.{IsGroup, attr_arguments, dim_arguments}
+use Rattle.xdg_problem.specs.Problems.{IsGroup}
 use Rattle.xdg_problem.specs.Tests.{Test, test_attrs}
 use Rattle.xdg_problem.proofs.Counted.{length_attrs_of}
 use Rattle.xdg_problem.proofs.EachTest.{Each}
+use Rattle.xdg_problem.specs.Principles.{dim_arguments, attr_arguments}
 
 -- the values of a dimension stand behind those of the dimensions before it
 attrs_before : (n : ℕ) (plans : List DimPlan) (dim : ℕ) → dim < length plans → length (attr_sizes n (take dim plans)) + n * length (slice_index_or plans dim no_plan).attrs ≤ length (attr_sizes n plans)
@@ -89,12 +90,6 @@ module _ (parts : Parts) (group : Group) (is : IsGroup parts group) where
   each_within principles.Government same = λ u a l b v c. one _ (takes principles.Government 0 same (omega arith) v c)
   each_within principles.Climbing same = λ u a v b. none
   each_within principles.Barriers same = λ w a v b. none
-  each_within principles.LinkingEnd same = λ u a l b v c. none
-  each_within principles.LinkingDaughter same = λ u a l b v c. none
-  each_within principles.LinkingMother same = λ u a l b v c. none
-  each_within principles.LinkingBelowStart same = λ u a l b v c. none
-  each_within principles.LinkingAboveStart same = λ u a l b v c. none
-  each_within principles.LinkingSisters same = λ u a l b v c. none
-  each_within principles.LinkingNotDaughter same = λ u a l b v c. none
   each_within (principles.Rule formula) same = tt
   each_within (principles.Bound costs bound) same = tt
+  each_within principle same = λ u a l b v c. none

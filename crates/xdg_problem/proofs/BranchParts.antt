@@ -12,9 +12,10 @@ use Rattle.xdg_problem.specs.declared.parts.Principle.TheVariants as principles
 use Rattle.xdg_problem.specs.Arguments.{first_dim, label_count}
 use Rattle.xdg_problem.specs.Branches.{branch_group, branch_of, branch_principle, first_alone, first_candidates, no_entry}
 use Rattle.xdg_problem.specs.Places.{nodes}
-use Rattle.xdg_problem.specs.Problems.{AreCandidates, AreFeatures, IsGroup, IsOrderFor, IsProblem, IsSuited, attr_arguments, dim_arguments, truth_arguments}
+use Rattle.xdg_problem.specs.Problems.{AreCandidates, IsGroup, IsProblem, IsSuited}
 use Rattle.xdg_problem.proofs.BranchLists.{each_alone, length_alone, members_alone, same_lengths}
 use Rattle.xdg_problem.proofs.BranchTruths.{suits_cut}
+use Rattle.xdg_problem.specs.Principles.{dim_arguments, attr_arguments, truth_arguments, IsOrderFor, AreFeatures}
 
 one_candidate : (candidates : List EntryNo) (place : ℕ) → AreCandidates candidates → place < length candidates → AreCandidates (get_or candidates place no_entry ∷ [])
 one_candidate candidates place are within = record {

@@ -14,7 +14,7 @@ use Rattle.xdg_problem.specs.Asking.{AsksWhole}
 use Rattle.xdg_problem.specs.Branches.{BeginsAt, branch_group, branch_of, branch_principle, first_alone, first_candidates, no_entry}
 use Rattle.xdg_problem.specs.BranchLaws.{BranchLaws}
 use Rattle.xdg_problem.specs.Claims.{claim}
-use Rattle.xdg_problem.specs.Conditions.{conditions_for, conditions_of}
+use Rattle.xdg_problem.specs.Conditions.{conditions_of}
 use Rattle.xdg_problem.specs.Costs.{total_cost}
 use Rattle.xdg_problem.specs.Problems.{IsProblem}
 use Rattle.xdg_problem.specs.Relations.{IsKept, Relation}
@@ -25,6 +25,7 @@ use Rattle.xdg_problem.proofs.BranchAsks.{alone_rows, links_down, links_up, same
 use Rattle.xdg_problem.proofs.BranchParts.{branch_problem}
 use Rattle.xdg_problem.proofs.BranchTruths.{claim_cut, true_cut}
 use Rattle.xdg_problem.proofs.BranchVectors.{branch_entries, branch_fits, branch_order, branch_vectors}
+use Rattle.xdg_problem.specs.Principles.{conditions_for}
 
 module _ (parts : Parts) (place : ℕ) (is : IsProblem parts) (within : place < length (first_candidates parts)) where
   abbrev branch : Parts

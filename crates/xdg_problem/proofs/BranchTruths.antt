@@ -215,3 +215,6 @@ module _ (parts : Parts) (place : ℕ) (more attrs : List ℕ) (edges : List Edg
       λ either. elim either [ inl here ↦ inl ((true_cut c b).0 here) | inr later ↦ inr ((some_cut cs b).0 later) ],
       λ either. elim either [ inl here ↦ inl ((true_cut c b).1 here) | inr later ↦ inr ((some_cut cs b).1 later) ],
     )
+
+-- each form of a formula, cut at a place
+pub ruleset cut_steps = (cut_not, cut_and, cut_or, cut_every, cut_any, cut_edge, cut_above, cut_left, cut_same, cut_attr, cut_feat)

@@ -14,7 +14,7 @@ drop_joined (suc n) [] ys = let e : suc n - 0 ≡ suc n = omega arith in rw e re
 drop_joined (suc n) (x ∷ xs) ys = let e : suc n - suc (length xs) ≡ n - length xs = omega arith in rw e (drop_joined n xs ys)
 
 -- entries that stand in a prefix are the same in whatever continues it
-entries_same : (candidates : List (List EntryNo)) (p t : List ℕ) → length candidates ≤ length p → entries_at candidates (p ++ t) ≡ entries_at candidates p
+pub entries_same : (candidates : List (List EntryNo)) (p t : List ℕ) → length candidates ≤ length p → entries_at candidates (p ++ t) ≡ entries_at candidates p
 entries_same [] p t long = refl
 entries_same (one ∷ more) [] t long = absurd (omega (arith, long))
 entries_same (one ∷ more) (x ∷ p) t long = ap (λ es. slice_index_or one x (record { 0 = 0 }) ∷ es) (entries_same more p t (omega (arith, long)))
@@ -24,7 +24,7 @@ take_same zero p t long = refl
 take_same (suc n) [] t long = absurd (omega (arith, long))
 take_same (suc n) (x ∷ p) t long = ap (λ xs. x ∷ xs) (take_same n p t (omega (arith, long)))
 
-chosen_whole : (edges : List Edge) (p t : List ℕ) → length edges ≤ length p → chosen edges (p ++ t) ≡ chosen edges p
+pub chosen_whole : (edges : List Edge) (p t : List ℕ) → length edges ≤ length p → chosen edges (p ++ t) ≡ chosen edges p
 chosen_whole [] p t long = refl
 chosen_whole (e ∷ edges) [] t long = absurd (omega (arith, long))
 chosen_whole (e ∷ edges) (x ∷ p) t long = ap (λ es. cond (x == 0) (e ∷ es) es) (chosen_whole edges p t (omega (arith, long)))

@@ -18,7 +18,7 @@ use Rattle.xdg_problem.proofs.Deciding.{Decided, decided_like, decided_both, dec
 use Rattle.xdg_problem.proofs.DecidingPaths.{decided_either, decided_true, decided_not, decided_daughter_by, decided_above}
 
 -- that something holds of a number below a bound
-decided_some : (P : ℕ → Type 0) (n : ℕ) → ((k : ℕ) → Decided (P k)) → Decided ((k : ℕ) × (k < n) × P k)
+pub decided_some : (P : ℕ → Type 0) (n : ℕ) → ((k : ℕ) → Decided (P k)) → Decided ((k : ℕ) × (k < n) × P k)
 decided_some P zero each = inr (λ found. (let l : found.0 < 0 = found.1 in absurd (omega (arith, l))))
 decided_some P (suc n) each = decided_like (((k : ℕ) × (k < n) × P k) ⊎ P n) ((k : ℕ) × (k < suc n) × P k)
     (λ either. elim either [

@@ -1,9 +1,9 @@
 -- The tests of each principle, written out.
-use Rattle.std.proofs.Common.{◌≡◌, ℕ, ◌<◌, Bool, true, false, List}
+use Rattle.std.proofs.Common.{◌≡◌, ℕ, ◌<◌, Bool, true, false, List, Option, Some, None}
 use Rattle.xdg_problem.specs.declared.parts.Principle.{Principle}
 use Rattle.xdg_problem.specs.declared.parts.Principle.TheVariants as principles
 use Rattle.xdg_problem.specs.Arguments.{truth_of}
-use Rattle.xdg_problem.specs.Tests.{Test, IsTestOf, out_count, in_count, one_mother, no_cycle, one_root, one_label, ordered_daughters, ordered_yields, projective, allowed_value, agreeing, governed, climbing, not_blocked, linked_end, linked_daughter, linked_mother, linked_sister, linked_path}
+use Rattle.xdg_problem.specs.Tests.{Test, IsTestOf, out_count, in_count, one_mother, no_cycle, one_root, one_label, ordered_daughters, ordered_yields, projective, allowed_value, agreeing, governed, climbing, not_blocked, linked_end, linked_daughter, linked_mother, linked_sister, linked_path, entry_node}
 
 module _ (truths : List Bool) (n labels : ℕ) (Q : Test → Type 0) where
   -- for each node, for each two, for each two and a label
@@ -44,8 +44,6 @@ module _ (truths : List Bool) (n labels : ℕ) (Q : Test → Type 0) where
   Tested principle = (test : Test) → IsTestOf principle truths n labels test → Q test
 
   pub tested_each : (principle : Principle) → Tested principle → Each principle
-  tested_each principles.Graph t = tt
-  tested_each principles.Entries t = tt
   tested_each principles.Tree t = (λ v a k b. t (one_mother v k) (a, b), λ k a. t (no_cycle k) a, t one_root tt)
   tested_each principles.Dag t = (λ k a. t (no_cycle k) a, λ e. t one_root e, λ e u a v b. t (one_label u v) (e, a, b))
   tested_each principles.Valency t = (λ v a l b k c. t (out_count v l k) (a, b, c), λ v a l b k c. t (in_count v l k) (a, b, c))
@@ -63,8 +61,7 @@ module _ (truths : List Bool) (n labels : ℕ) (Q : Test → Type 0) where
   tested_each principles.LinkingAboveStart t = λ u a l b v c. t (linked_path u l v) (a, b, c)
   tested_each principles.LinkingSisters t = λ u a l b v c. t (linked_sister u l v) (a, b, c)
   tested_each principles.LinkingNotDaughter t = λ u a l b v c. t (linked_daughter u l v) (a, b, c)
-  tested_each (principles.Rule formula) t = tt
-  tested_each (principles.Bound costs bound) t = tt
+  tested_each principle t = tt
 
   pub each_tested : (principle : Principle) → Each principle → Tested principle
   each_tested principles.Tree each (one_mother v k) is = each.0 v is.0 k is.1
@@ -91,3 +88,23 @@ module _ (truths : List Bool) (n labels : ℕ) (Q : Test → Type 0) where
   each_tested principles.LinkingSisters each (linked_sister u l v) is = each u is.0 l is.1 v is.2
   each_tested principles.LinkingNotDaughter each (linked_daughter u l v) is = each u is.0 l is.1 v is.2
   each_tested principle each test is = absurd is
+
+-- the node whose entry a test looks at is a node
+abbrev pub IsNode : ℕ → Option ℕ → Type 0
+IsNode n None = Unit {0}
+IsNode n (Some node) = node < n
+
+pub each_node : (truths : List Bool) (n labels : ℕ) (principle : Principle) → Each truths n labels (λ test. IsNode n (entry_node test)) principle
+each_node truths n labels principles.Graph = tt
+each_node truths n labels principles.Entries = tt
+each_node truths n labels principles.Tree = (λ v a k b. tt, λ k a. tt, tt)
+each_node truths n labels principles.Dag = (λ k a. tt, λ e. tt, λ e u a v b. tt)
+each_node truths n labels principles.Valency = (λ v a l b k c. a, λ v a l b k c. a)
+each_node truths n labels principles.Order = (λ e u a. tt, λ e u a. tt)
+each_node truths n labels principles.Projectivity = λ u a v b. tt
+each_node truths n labels principles.Agr = λ v a. a
+each_node truths n labels principles.Climbing = λ u a v b. tt
+each_node truths n labels principles.Barriers = λ w a v b. a
+each_node truths n labels (principles.Rule formula) = tt
+each_node truths n labels (principles.Bound costs bound) = tt
+each_node truths n labels principle = λ u a l b v c. a

@@ -37,3 +37,6 @@ edges_go_on a b k d l m =
 
 pub edges_end : (a b : List Edge) (k : ℕ) → length a ≤ k → EdgesLess Before (drop k a) (drop k b) → ⊥
 edges_end a b k l h = subst (λ z. EdgesLess Before z (drop k b)) (drop_all k a l) h
+
+-- each turn over two lists of edges
+pub ruleset edges_steps = (edges_step, edges_decided, edges_refused, edges_go_on, edges_end)

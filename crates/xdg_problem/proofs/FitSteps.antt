@@ -1,5 +1,5 @@
 -- Steps of the loops that judge an analysis.
-use Rattle.std.proofs.Common.{◌≡◌, ℕ, ◌<◌, ◌≤◌, ◌+◌, ◌-◌, ◌*◌, List, [], ◌∷◌, ◌++◌, length, get_or, take, drop, refl, ap, sym, ◌∙◌, arith, subst, zero, suc, map, Bool, true, false, length-append, length-drop}
+use Rattle.std.proofs.Common.{◌≡◌, ℕ, ◌<◌, ◌≤◌, ◌+◌, ◌-◌, ◌*◌, List, [], ◌∷◌, ◌++◌, length, get_or, take, drop, ap, sym, ◌∙◌, arith, subst, zero, suc, map, Bool, true, false, length-append, length-drop}
 use Rattle.std.specs.Prelude.{◌↔◌, Contains}
 use Rattle.std.specs.List.{flat_map}
 use Rattle.std.proofs.lemmas.List.{drop_more, drop_all, length-map, get_or_default, get_or-map, get_or-drop}
@@ -15,16 +15,11 @@ use Rattle.xdg_problem.specs.Analyses.{HasCandidates, Before, EdgesRise}
 use Rattle.xdg_problem.specs.EdgeOrder.{RisesAt}
 use Rattle.xdg_problem.specs.Values.{AreValues, value_counts}
 use Rattle.xdg_problem.proofs.Counted.{length_attrs_of}
+use Rattle.xdg_problem.proofs.EntryPlaces.{length_entries}
 
 -- candidates
 
 -- entries
-
-pub entries_lengths : (candidates : List (List EntryNo)) (entries : List EntryNo) → HasCandidates candidates entries → length entries ≡ length candidates
-entries_lengths [] [] h = refl
-entries_lengths [] (e ∷ es) h = absurd h
-entries_lengths (c ∷ cs) [] h = absurd h
-entries_lengths (c ∷ cs) (e ∷ es) h = ap suc (entries_lengths cs es h.1)
 
 entries_at : (candidates : List (List EntryNo)) (entries : List EntryNo) (k : ℕ) (d : List EntryNo) (x : EntryNo) → k < length candidates → k < length entries → HasCandidates (drop k candidates) (drop k entries) ↔ (Contains (get_or candidates k d) (get_or entries k x) × HasCandidates (drop (k + 1) candidates) (drop (k + 1) entries))
 entries_at candidates entries k d x l m =
@@ -139,7 +134,7 @@ values_narrow plan plans n w x e m a =
 pub values_short : (dims : List DimPlan) (n w k : ℕ) (d : DimPlan) (x : List ℕ) → k < length dims → w ≡ n * length (get_or dims k d).attrs → length x < w → AreValues n (drop k dims) x → ⊥
 values_short dims n w k d x l e m a = values_narrow (get_or dims k d) (drop (k + 1) dims) n w x e m (subst (λ z. AreValues n z x) (drop_more dims k d l) a)
 
-plan_drop : (dims : List DimPlan) (k : ℕ) (plan : DimPlan) → k < length dims → plan ≡ get_or dims k plan → drop k dims ≡ plan ∷ drop (k + 1) dims
+pub plan_drop : (dims : List DimPlan) (k : ℕ) (plan : DimPlan) → k < length dims → plan ≡ get_or dims k plan → drop k dims ≡ plan ∷ drop (k + 1) dims
 plan_drop dims k plan l s = drop_more dims k plan l ∙ ap (λ z. z ∷ drop (k + 1) dims) (sym s)
 
 pub values_step : (dims : List DimPlan) (n w k : ℕ) (plan : DimPlan) (x now later : List ℕ) → k < length dims → plan ≡ get_or dims k plan → w ≡ n * length plan.attrs → w ≤ length x → now ≡ take w x → later ≡ drop w x → Fits (flat_map (λ (node : ℕ). value_counts plan) (below n)) now → AreValues n (drop (k + 1) dims) later ↔ AreValues n (drop k dims) x
@@ -197,3 +192,12 @@ rise_refused edges k l r d m =
 
 pub rise_end : (edges : List Edge) (k : ℕ) → length edges ≤ k → EdgesRise (drop k edges)
 rise_end edges k l = subst (λ z. EdgesRise z) (sym (drop_all k edges l)) tt
+
+-- each turn over entries
+pub ruleset entries_steps = (length_entries, entries_step, entries_refused, entries_end)
+
+-- the values of one dimension
+pub ruleset dim_steps = (wide_enough, left_after, dim_step, dim_refused)
+
+-- each turn over the values of dimensions
+pub ruleset values_steps = (values_short, values_step, values_refused, values_end)

@@ -19,10 +19,11 @@ use Rattle.xdg_problem.specs.Claims.{Suits}
 use Rattle.xdg_problem.specs.Conditions.{conditions_of}
 use Rattle.xdg_problem.specs.Costs.{CostLists}
 use Rattle.xdg_problem.specs.Further.{no_features, use_of, with_uses}
-use Rattle.xdg_problem.specs.Problems.{AreFeatures, IsGroup, IsProblem}
+use Rattle.xdg_problem.specs.Problems.{IsGroup, IsProblem}
 use Rattle.xdg_problem.specs.Relations.{IsKept, Relation}
 use Rattle.xdg_problem.specs.Vectors.{entry_places}
 use Rattle.xdg_problem.proofs.FurtherTruths.{suited_still, whole_still}
+use Rattle.xdg_problem.specs.Principles.{AreFeatures}
 
 -- no features
 

@@ -10,7 +10,6 @@ use Rattle.xdg_problem.specs.declared.parts.Principle.{Principle}
 use Rattle.xdg_problem.specs.declared.parts.Principle.TheVariants as principles
 use Rattle.xdg_problem.specs.Places.{nodes}
 use Rattle.xdg_problem.specs.Arguments.{first_dim, label_count, truth_of}
-use Rattle.xdg_problem.specs.Conditions.{conditions_for}
 use Rattle.xdg_problem.specs.Asking.{AsksWhole}
 use Rattle.xdg_problem.specs.Relations.{IsKept}
 use Rattle.xdg_problem.specs.Tests.{Test}
@@ -24,6 +23,7 @@ use Rattle.xdg_problem.proofs.AgreeTests.{agr_tests, agree_tests, govern_tests}
 use Rattle.xdg_problem.proofs.PathTests.{below_tests, blocked_tests}
 use Rattle.xdg_problem.proofs.LinkTests.{end_tests, daughter_tests, mother_tests as linked_mother_tests, below_start_tests, above_start_tests, sister_tests, not_daughter_tests}
 use Rattle.xdg_facts.proofs.Facts.{then_iff}
+use Rattle.xdg_problem.specs.Principles.{conditions_for}
 
 module _ (parts : Parts) (group : Group) (candidates attrs : List ℕ) (edges : List Edge) (some : 0 < nodes parts) (mothers : All (λ e. e.mother.0 < nodes parts) edges) (daughters : All (λ e. e.daughter.0 < nodes parts) edges) where
   abbrev Kept : Condition → Type 0

@@ -93,7 +93,7 @@ record IsBehind (p : Edge) (places edges : List Edge) : Type 0 where
   pub behind : AllByRecursion (Before p) edges
   pub within : AllByRecursion (Contains places) edges
 
-narrow : (p : Edge) (places edges : List Edge) → AllByRecursion (Before p) edges → AllByRecursion (Contains (p ∷ places)) edges → AllByRecursion (Contains places) edges
+pub narrow : (p : Edge) (places edges : List Edge) → AllByRecursion (Before p) edges → AllByRecursion (Contains (p ∷ places)) edges → AllByRecursion (Contains places) edges
 narrow p places [] b a = tt
 narrow p places (e ∷ edges) b a = (
   elim (contains_cases p places e a.0) [
@@ -198,3 +198,6 @@ not_entries parts a b p h k l m = less_not (vector parts a) (vector parts b) (en
 
 pub not_attrs : (parts : Parts) (a b : Analysis) → IsAnalysis parts a → IsAnalysis parts b → a.entries ≡ b.entries → Less b.attrs a.attrs → Less (vector parts a) (vector parts b) → ⊥
 not_attrs parts a b h k e l m = less_not (vector parts a) (vector parts b) (attrs_first parts b a k h (sym e) l) m
+
+-- by which part one analysis is less than another
+pub ruleset less_steps = (entries_first, attrs_first, edges_exact, not_entries, not_attrs)

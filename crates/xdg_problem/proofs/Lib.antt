@@ -56,3 +56,5 @@ pub mod Turning
 pub mod RowReads
 pub mod Walks
 pub mod Numbered
+pub mod BoxPlaces
+pub mod FormulaFronts

@@ -80,8 +80,6 @@ module _ (truths : List Bool) (n labels : ℕ) (Q : Test → Type 0) (each : (te
   each_triple test = decided_below (λ u. (l : ℕ) → l < labels → (v : ℕ) → v < n → Q (test u l v)) n (λ u. decided_below (λ l. (v : ℕ) → v < n → Q (test u l v)) labels (λ l. decided_below (λ v. Q (test u l v)) n (λ v. each (test u l v))))
 
   pub decided_tests : (principle : Principle) → Decided (Each truths n labels Q principle)
-  decided_tests principles.Graph = inl tt
-  decided_tests principles.Entries = inl tt
   decided_tests principles.Tree = triple_decided _ _ _ (each_pair one_mother) (each_node no_cycle) (each one_root)
   decided_tests principles.Dag = triple_decided _ _ _ (each_node no_cycle) (decided_from _ _ (decided_true (truth_of truths 0)) (each one_root)) (decided_from _ _ (decided_true (truth_of truths 1)) (each_pair one_label))
   decided_tests principles.Valency = decided_both _ _ (each_triple out_count) (each_triple in_count)
@@ -99,8 +97,7 @@ module _ (truths : List Bool) (n labels : ℕ) (Q : Test → Type 0) (each : (te
   decided_tests principles.LinkingAboveStart = each_triple linked_path
   decided_tests principles.LinkingSisters = each_triple linked_sister
   decided_tests principles.LinkingNotDaughter = each_triple linked_daughter
-  decided_tests (principles.Rule formula) = inl tt
-  decided_tests (principles.Bound costs bound) = inl tt
+  decided_tests principle = inl tt
 
 decided_use : (parts : Parts) (prefix : List ℕ) (group : Group) → Decided (IsLiveFor parts group prefix)
 decided_use parts prefix group =

@@ -80,3 +80,6 @@ out_grows dim k mother label start now new n h g =
 
 pub has_places : (parts : Parts) → HasPlaces parts
 has_places parts = record { order = places_before parts; exact = λ e. (is_place parts e, place_is parts e) }
+
+-- each turn over dimensions
+pub ruleset place_steps = (dims_push, dims_skip, dims_end, labels_small)

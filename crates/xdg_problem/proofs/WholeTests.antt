@@ -1,5 +1,5 @@
 -- A whole vector is live exactly where its analysis satisfies each principle use.
-use Rattle.std.proofs.Common.{◌≡◌, ℕ, ◌<◌, ◌≤◌, ◌-◌, ◌↔◌, Bool, false, List, [], ◌∷◌, length, drop, map, refl, sym, ap, ap₂, ◌∙◌, subst, arith, Option, Some, None}
+use Rattle.std.proofs.Common.{◌≡◌, ℕ, ◌<◌, ◌≤◌, ◌-◌, ◌↔◌, false, List, [], ◌∷◌, length, drop, map, refl, sym, ap, ap₂, ◌∙◌, subst, arith, Option, Some, None}
 use Rattle.std.specs.Prelude.{All, slice_index}
 use Rattle.std.proofs.lemmas.List.{drop_all, get_or-take, get_or-drop}
 use Rattle.std.proofs.lemmas.List.Elements.{All-nil, All-head, All-tail, All-weaker}
@@ -7,8 +7,6 @@ use Rattle.xdg_facts.specs.Fits.{Fits}
 use Rattle.xdg_problem.specs.declared.analysis.Edge.{Edge}
 use Rattle.xdg_problem.specs.declared.parts.Group.{Group}
 use Rattle.xdg_problem.specs.declared.parts.Parts.{Parts}
-use Rattle.xdg_problem.specs.declared.parts.Principle.{Principle}
-use Rattle.xdg_problem.specs.declared.parts.Principle.TheVariants as principles
 use Rattle.xdg_problem.specs.Places.{nodes, places}
 use Rattle.xdg_problem.specs.Vectors.{attr_sizes, shape, first_place, entry_places, entries_at, edges_in, analysis_of}
 use Rattle.xdg_problem.specs.Analyses.{IsPlace}
@@ -20,29 +18,9 @@ use Rattle.xdg_problem.specs.Live.{open_places, EntryStands, entry_in, AttrStand
 use Rattle.xdg_problem.proofs.VectorFacts.{length_shape, entries_back, analysis_fits}
 use Rattle.xdg_problem.proofs.Shortening.{passes_like}
 use Rattle.xdg_problem.proofs.Passing.{PassesAt}
-use Rattle.xdg_problem.proofs.EachTest.{Each, each_tested, tested_each}
+use Rattle.xdg_problem.proofs.EachTest.{each_tested, tested_each, IsNode, each_node}
 use Rattle.xdg_problem.proofs.AttrPlaces.{AreWithin, each_within}
 use Rattle.xdg_problem.proofs.KeptTests.{kept_tests}
-
--- the node whose entry a test looks at is a node
-abbrev pub IsNode : ℕ → Option ℕ → Type 0
-IsNode n None = Unit {0}
-IsNode n (Some node) = node < n
-
-pub each_node : (truths : List Bool) (n labels : ℕ) (principle : Principle) → Each truths n labels (λ test. IsNode n (entry_node test)) principle
-each_node truths n labels principles.Graph = tt
-each_node truths n labels principles.Entries = tt
-each_node truths n labels principles.Tree = (λ v a k b. tt, λ k a. tt, tt)
-each_node truths n labels principles.Dag = (λ k a. tt, λ e. tt, λ e u a v b. tt)
-each_node truths n labels principles.Valency = (λ v a l b k c. a, λ v a l b k c. a)
-each_node truths n labels principles.Order = (λ e u a. tt, λ e u a. tt)
-each_node truths n labels principles.Projectivity = λ u a v b. tt
-each_node truths n labels principles.Agr = λ v a. a
-each_node truths n labels principles.Climbing = λ u a v b. tt
-each_node truths n labels principles.Barriers = λ w a v b. a
-each_node truths n labels (principles.Rule formula) = tt
-each_node truths n labels (principles.Bound costs bound) = tt
-each_node truths n labels principle = λ u a l b v c. a
 
 entry_stands : (n : ℕ) (node : Option ℕ) (x : List ℕ) → IsNode n node → n ≤ length x → EntryStands node x
 entry_stands n None x is long = tt

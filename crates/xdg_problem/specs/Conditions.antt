@@ -1,40 +1,14 @@
 -- The conditions of each principle, in their order, and the tuples of which each condition speaks.
-use Rattle.std.specs.Prelude.{◌≡◌, ℕ, ◌<◌, Bool, List, [], ◌∷◌, ◌++◌, cond, length}
+use Rattle.std.specs.Prelude.{◌≡◌, ℕ, ◌<◌, List, [], ◌∷◌, length}
 use Rattle.xdg_problem.specs.declared.analysis.Edge.{Edge}
 use Rattle.xdg_problem.specs.declared.conditions.Condition.{Condition}
 use Rattle.xdg_problem.specs.declared.conditions.Condition.TheVariants as conditions
 use Rattle.xdg_problem.specs.declared.parts.Group.{Group}
 use Rattle.xdg_problem.specs.declared.parts.Parts.{Parts}
-use Rattle.xdg_problem.specs.declared.parts.Principle.{Principle}
-use Rattle.xdg_problem.specs.declared.parts.Principle.TheVariants as principles
 use Rattle.xdg_problem.specs.Places.{nodes}
 use Rattle.xdg_problem.specs.Paths.{edges_on, roots}
-use Rattle.xdg_problem.specs.Arguments.{first_dim, label_count, truth_of}
-
--- the conditions of a principle with its truth values, which choose two of those of dag
-abbrev pub conditions_for : Principle → List Bool → List Condition
-conditions_for principles.Graph truths = []
-conditions_for principles.Entries truths = []
-conditions_for principles.Tree truths = conditions.Cycle ∷ conditions.Roots ∷ conditions.Mothers ∷ []
-conditions_for principles.Dag truths =
-    conditions.Cycle ∷ (cond (truth_of truths 0) (conditions.Roots ∷ []) [] ++ cond (truth_of truths 1) (conditions.Pair ∷ []) [])
-conditions_for principles.Valency truths = conditions.InCount ∷ conditions.OutCount ∷ []
-conditions_for principles.Order truths = conditions.Order ∷ []
-conditions_for principles.Projectivity truths = conditions.Between ∷ []
-conditions_for principles.Agr truths = conditions.Agr ∷ []
-conditions_for principles.Agreement truths = conditions.Agree ∷ []
-conditions_for principles.Government truths = conditions.Govern ∷ []
-conditions_for principles.Climbing truths = conditions.Below ∷ []
-conditions_for principles.Barriers truths = conditions.Blocked ∷ []
-conditions_for principles.LinkingEnd truths = conditions.Link ∷ []
-conditions_for principles.LinkingDaughter truths = conditions.Link ∷ []
-conditions_for principles.LinkingMother truths = conditions.Link ∷ []
-conditions_for principles.LinkingBelowStart truths = conditions.Link ∷ []
-conditions_for principles.LinkingAboveStart truths = conditions.Link ∷ []
-conditions_for principles.LinkingSisters truths = conditions.Link ∷ []
-conditions_for principles.LinkingNotDaughter truths = conditions.Link ∷ []
-conditions_for (principles.Rule formula) truths = conditions.Rule ∷ []
-conditions_for (principles.Bound costs bound) truths = conditions.Bound ∷ []
+use Rattle.xdg_problem.specs.Arguments.{first_dim, label_count}
+use Rattle.xdg_problem.specs.Principles.{conditions_for}
 
 -- the conditions of a principle use
 abbrev pub conditions_of : Group → List Condition

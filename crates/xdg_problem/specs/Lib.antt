@@ -27,3 +27,4 @@ pub mod Names
 pub mod Boxes
 pub mod Branches
 pub mod BranchLaws
+pub mod Principles

@@ -1,11 +1,8 @@
 -- What the parts of a problem keep.
 use Rattle.std.specs.Prelude.{◌≡◌, ◌≢◌, ℕ, ◌<◌, ◌≤◌, List, [], length, All, AllPairs, slice_index_or}
-use Rattle.xdg_base.specs.declared.ids.LabelId.{LabelId}
-use Rattle.std.specs.List.Sorted.{IsStrictlyIncreasing}
 use Rattle.xdg_base.specs.declared.ids.EntryNo.{EntryNo}
 use Rattle.xdg_problem.specs.declared.parts.AttrPlan.{AttrPlan}
 use Rattle.xdg_problem.specs.declared.parts.DimPlan.{DimPlan}
-use Rattle.xdg_problem.specs.declared.parts.Feat.{Feat}
 use Rattle.xdg_problem.specs.declared.parts.Group.{Group}
 use Rattle.xdg_problem.specs.declared.parts.Parts.{Parts}
 use Rattle.xdg_problem.specs.declared.parts.Shown.{Shown}
@@ -14,7 +11,8 @@ use Rattle.xdg_problem.specs.declared.parts.Principle.{Principle}
 use Rattle.xdg_problem.specs.declared.parts.Principle.TheVariants as principles
 use Rattle.xdg_problem.specs.Places.{nodes}
 use Rattle.xdg_problem.specs.Claims.{Suits}
-use Rattle.xdg_problem.specs.Arguments.{first_dim, second_dim, label_count, attr_count, value_count, attr_of}
+use Rattle.xdg_problem.specs.Arguments.{first_dim, label_count, attr_count}
+use Rattle.xdg_problem.specs.Principles.{dim_arguments, attr_arguments, truth_arguments, IsOrderFor, AreFeatures}
 
 -- the candidates of a node: 1 to 1,024, rising
 pub record AreCandidates (candidates : List EntryNo) : Type 0 where
@@ -42,92 +40,6 @@ pub record IsDim (plan : DimPlan) : Type 0 where
   pub attrs_most : length plan.attrs ≤ 8
   pub attrs_differ : AllPairs (λ a b. a.name ≢ b.name) plan.attrs
   pub attrs : All IsAttr plan.attrs
-
--- a cardinality: at least one number, and none above 127
-pub record IsCardinality (numbers : List ℕ) : Type 0 where
-  pub some : 0 < length numbers
-  pub rising : IsStrictlyIncreasing numbers
-  pub small : All (λ number. number ≤ 127) numbers
-
--- a feature that gives a cardinality for each label
-pub record IsValency (labels : ℕ) (feature : Feat) : Type 0 where
-  pub count : length feature.rows ≡ labels
-  pub rows : All IsCardinality feature.rows
-
--- a set of numbers below a bound
-pub record IsSet (bound : ℕ) (numbers : List ℕ) : Type 0 where
-  pub rising : IsStrictlyIncreasing numbers
-  pub small : All (λ number. number < bound) numbers
-
--- a feature that is a set, in one row, or gives a set for each label
-pub record AreSets (rows bound : ℕ) (feature : Feat) : Type 0 where
-  pub count : length feature.rows ≡ rows
-  pub each : All (IsSet bound) feature.rows
-
--- how many dimensions a principle takes
-abbrev pub dim_arguments : Principle → ℕ
-dim_arguments principles.Climbing = 2
-dim_arguments principles.Barriers = 2
-dim_arguments principles.LinkingEnd = 3
-dim_arguments principles.LinkingDaughter = 3
-dim_arguments principles.LinkingMother = 3
-dim_arguments principles.LinkingBelowStart = 3
-dim_arguments principles.LinkingAboveStart = 3
-dim_arguments principles.LinkingSisters = 3
-dim_arguments principles.LinkingNotDaughter = 3
-dim_arguments (principles.Rule formula) = 0
-dim_arguments (principles.Bound costs bound) = 0
-dim_arguments principle = 1
-
--- how many attributes of its dimension a principle takes
-abbrev pub attr_arguments : Principle → ℕ
-attr_arguments principles.Order = 1
-attr_arguments principles.Agr = 1
-attr_arguments principles.Agreement = 2
-attr_arguments principles.Government = 1
-attr_arguments principle = 0
-
--- how many truth values a principle takes
-abbrev pub truth_arguments : Principle → ℕ
-truth_arguments principles.Dag = 2
-truth_arguments principles.Order = 1
-truth_arguments principle = 0
-
--- the list of labels that a principle takes: order takes different labels of its dimension
-abbrev pub IsOrderFor : Principle → ℕ → List LabelId → Type 0
-IsOrderFor principles.Order labels order = All (λ label. label.0 < labels) order × AllPairs (λ a b. a ≢ b) order
-IsOrderFor principle labels order = order ≡ []
-
--- the features of one candidate: those that the principle takes
-abbrev pub AreFeatures : Principle → Parts → Group → List Feat → Type 0
--- In and Out
-AreFeatures principles.Valency parts group features = (length features ≡ 2) × All (IsValency (label_count parts (first_dim group))) features
--- Agrs, a set of values of Agr
-AreFeatures principles.Agr parts group features = (length features ≡ 1) × All (AreSets 1 (value_count parts (first_dim group) (attr_of group 0))) features
--- Agree, a set of labels
-AreFeatures principles.Agreement parts group features = (length features ≡ 1) × All (AreSets 1 (label_count parts (first_dim group))) features
--- Govern, for each label a set of values of Agr
-AreFeatures principles.Government parts group features =
-    (length features ≡ 1) × All (AreSets (label_count parts (first_dim group)) (value_count parts (first_dim group) (attr_of group 0))) features
--- Blocks, a set of labels of the second dimension
-AreFeatures principles.Barriers parts group features = (length features ≡ 1) × All (AreSets 1 (label_count parts (second_dim group))) features
--- Link, for each label of the first dimension a set of labels of the second
-AreFeatures principles.LinkingEnd parts group features =
-    (length features ≡ 1) × All (AreSets (label_count parts (first_dim group)) (label_count parts (second_dim group))) features
-AreFeatures principles.LinkingDaughter parts group features =
-    (length features ≡ 1) × All (AreSets (label_count parts (first_dim group)) (label_count parts (second_dim group))) features
-AreFeatures principles.LinkingMother parts group features =
-    (length features ≡ 1) × All (AreSets (label_count parts (first_dim group)) (label_count parts (second_dim group))) features
-AreFeatures principles.LinkingBelowStart parts group features =
-    (length features ≡ 1) × All (AreSets (label_count parts (first_dim group)) (label_count parts (second_dim group))) features
-AreFeatures principles.LinkingAboveStart parts group features =
-    (length features ≡ 1) × All (AreSets (label_count parts (first_dim group)) (label_count parts (second_dim group))) features
-AreFeatures principles.LinkingSisters parts group features =
-    (length features ≡ 1) × All (AreSets (label_count parts (first_dim group)) (label_count parts (second_dim group))) features
--- Link, a set of labels of the first dimension
-AreFeatures principles.LinkingNotDaughter parts group features = (length features ≡ 1) × All (AreSets 1 (label_count parts (first_dim group))) features
--- the other principles take none
-AreFeatures principle parts group features = length features ≡ 0
 
 -- what a principle holds goes with the problem: the formula of a rule. What costs speak of need not be there.
 abbrev pub IsSuited : Principle → Parts → Type 0

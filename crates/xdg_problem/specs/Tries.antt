@@ -14,9 +14,9 @@ use Rattle.xdg_problem.specs.Places.{edge, places}
 use Rattle.xdg_problem.specs.Vectors.{shape, vector, analysis_of}
 use Rattle.xdg_problem.specs.Paths.{roots}
 use Rattle.xdg_problem.specs.Arguments.{attr_place}
-use Rattle.xdg_problem.specs.Conditions.{conditions_for}
 use Rattle.xdg_problem.specs.Asking.{attr_places}
 use Rattle.xdg_problem.specs.Tests.{agreeing, looks_at}
+use Rattle.xdg_problem.specs.Principles.{conditions_for}
 
 abbrev word : SentenceWord
 word = record { text = 119 ∷ []; at = 0 }

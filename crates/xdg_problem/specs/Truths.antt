@@ -58,3 +58,7 @@ FormulaHolds parts analysis formula = IsTrueIn parts analysis (claim formula) un
 abbrev pub HasTruth : Bool → Type 0 → Type 0
 HasTruth true P = P
 HasTruth false P = P → ⊥
+
+-- each name stands for a node of the sentence
+abbrev pub AreNodes : Parts → (ℕ → ℕ) → Type 0
+AreNodes parts b = (name : ℕ) → b name < nodes parts

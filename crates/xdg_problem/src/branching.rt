@@ -156,7 +156,7 @@ fn branch_table(
 impl Formula {
     /// A copy whose tables say for the first node what they say for its candidate at a place.
     #[cycle(branch)]
-    #[tactic(auto, using(crate::proofs::BranchTruths::cut_not, crate::proofs::BranchTruths::cut_and, crate::proofs::BranchTruths::cut_or, crate::proofs::BranchTruths::cut_every, crate::proofs::BranchTruths::cut_any, crate::proofs::BranchTruths::cut_edge, crate::proofs::BranchTruths::cut_above, crate::proofs::BranchTruths::cut_left, crate::proofs::BranchTruths::cut_same, crate::proofs::BranchTruths::cut_attr, crate::proofs::BranchTruths::cut_feat))]
+    #[tactic(auto, using(crate::proofs::BranchTruths::cut_steps))]
     fn branch(&self, alloc: Global, place: usize) -> Result<Formula, AllocError>
         ensures { IfOk result (λ made. made ≡ branch_formula place self.now) }
     {

@@ -25,7 +25,7 @@ fn compare_entries(a: &[EntryNo], b: &[EntryNo]) -> Ordering
 }
 
 /// Whether one list of edges comes before another.
-#[tactic(auto, using(crate::proofs::EdgesCompared::edges_step, crate::proofs::EdgesCompared::edges_decided, crate::proofs::EdgesCompared::edges_refused, crate::proofs::EdgesCompared::edges_go_on, crate::proofs::EdgesCompared::edges_end))]
+#[tactic(auto, using(crate::proofs::EdgesCompared::edges_steps))]
 fn edges_less(a: &[Edge], b: &[Edge]) -> bool
     ensures { IsTrue result ↔ EdgesLess Before a.now b.now }
 {
@@ -44,7 +44,7 @@ fn edges_less(a: &[Edge], b: &[Edge]) -> bool
 }
 
 /// Whether an analysis comes before another: at the first decision in which they differ it has the earlier value.
-#[tactic(auto, using(crate::proofs::Less::entries_first, crate::proofs::Less::attrs_first, crate::proofs::Less::edges_exact, crate::proofs::Less::not_entries, crate::proofs::Less::not_attrs))]
+#[tactic(auto, using(crate::proofs::Less::less_steps))]
 pub fn comes_first(parts: &Parts, a: &Analysis, b: &Analysis) -> bool
     requires problem { IsProblem parts.now }
     requires a_fits { IsAnalysis parts.now a.now }

@@ -28,7 +28,7 @@ fn is_candidate(candidates: &[EntryNo], entry: EntryNo) -> bool
 }
 
 /// Whether each node has one of its candidates.
-#[tactic(auto, using(crate::proofs::FitSteps::entries_lengths, crate::proofs::FitSteps::entries_step, crate::proofs::FitSteps::entries_refused, crate::proofs::FitSteps::entries_end))]
+#[tactic(auto, using(crate::proofs::FitSteps::entries_steps))]
 fn entries_fit(candidates: &[SharedList<EntryNo>], entries: &[EntryNo]) -> bool
     ensures { IsTrue result ↔ HasCandidates candidates.now entries.now }
 {
@@ -58,7 +58,7 @@ fn node_fits(attrs: &[AttrPlan], values: &[u16]) -> bool
 }
 
 /// Whether the values are values of the attributes of a dimension, node by node.
-#[tactic(auto, using(crate::proofs::FitSteps::wide_enough, crate::proofs::FitSteps::left_after, crate::proofs::FitSteps::dim_step, crate::proofs::FitSteps::dim_refused))]
+#[tactic(auto, using(crate::proofs::FitSteps::dim_steps))]
 fn dim_fits(plan: &DimPlan, nodes: usize, values: &[u16]) -> bool
     requires same_length { length values.now ≡ nodes * length plan.now.attrs }
     ensures { IsTrue result ↔ Fits (flat_map (λ node. value_counts plan.now) (below nodes)) values.now }
@@ -75,7 +75,7 @@ fn dim_fits(plan: &DimPlan, nodes: usize, values: &[u16]) -> bool
 }
 
 /// Whether the values are values of the attributes of all dimensions.
-#[tactic(auto, using(crate::proofs::FitSteps::values_short, crate::proofs::FitSteps::values_step, crate::proofs::FitSteps::values_refused, crate::proofs::FitSteps::values_end))]
+#[tactic(auto, using(crate::proofs::FitSteps::values_steps))]
 fn values_fit(dims: &[DimPlan], nodes: usize, values: &[u16]) -> bool
     requires most { nodes ≤ 128 }
     requires each { All IsDim dims.now }

@@ -15,10 +15,10 @@ mod decisions;
 mod fitting;
 mod formula;
 mod laws;
-mod names;
 mod numbers;
 mod parts;
 mod places;
+mod principles;
 mod problem;
 mod shared;
 mod sizes;
@@ -32,8 +32,11 @@ pub use costing::cost_of;
 pub use costs::Costs;
 pub use formula::Formula;
 pub use laws::{branch_laws, further_laws, live_laws, solution_laws, verdict_laws};
-pub use names::{principle_name, principle_named};
 pub use numbers::Nums;
 pub use parts::{AttrPlan, DimPlan, Feat, Group, Parts, Principle, SentenceWord, Shown};
+pub use principles::{
+    PrincipleFamily, family_of, feature_dim, looks_at_attrs, looks_at_entries, looks_at_first,
+    looks_at_second, principle_name, principle_named,
+};
 pub use problem::Problem;
 pub use shared::SharedList;

@@ -62,7 +62,7 @@ fn push_mothers(out: &mut List<Edge>, dim: u8, nodes: u8, labels: u8) -> Result<
 }
 
 /// The places where an edge may stand, in the order in which they are decided.
-#[tactic(auto, using(crate::proofs::PlaceSteps::dims_push, crate::proofs::PlaceSteps::dims_skip, crate::proofs::PlaceSteps::dims_end, crate::proofs::PlaceSteps::labels_small))]
+#[tactic(auto, using(crate::proofs::PlaceSteps::place_steps))]
 pub fn list(parts: &Parts, alloc: Global) -> Result<List<Edge>, AllocError>
     requires { IsProblem parts.now }
     ensures listed { IfOk result (λ list. list ≡ places parts.now) }

@@ -1,6 +1,5 @@
 -- What is kept of boxes is kept of analyses.
-use Rattle.std.proofs.Common.{◌≡◌, ◌≢◌, ℕ, suc, ◌<◌, Bool, List, [], ◌∷◌, All, length, ap, sym, ◌∙◌, arith, subst}
-use Rattle.std.proofs.lemmas.List.{length-map}
+use Rattle.std.proofs.Common.{◌≡◌, ◌≢◌, ℕ, suc, ◌<◌, Bool, List, [], ◌∷◌, All, length, sym, ◌∙◌, arith, subst}
 use Rattle.xdg_problem.specs.declared.analysis.Analysis.{Analysis}
 use Rattle.xdg_problem.specs.declared.parts.Parts.{Parts}
 use Rattle.xdg_problem.specs.Analyses.{IsAnalysis}
@@ -20,6 +19,7 @@ use Rattle.xdg_propcore.specs.Uses.{Satisfies, no_use, use_at}
 use Rattle.xdg_propcore.specs.declared.fixpoint.Fixpoint.{Fixpoint}
 use Rattle.xdg_propcore.specs.declared.fixpoint.Fixpoint.TheVariants as fixpoints
 use Rattle.xdg_propcore.specs.declared.moved.Moved.{Moved}
+use Rattle.xdg_store.proofs.Boxed.{length_box}
 
 in_larger : (small large : List (List Bool)) (x : List ℕ) → length small ≡ length large → LiesIn small large → IsIn small x → IsIn large x
 in_larger [] [] [] e l h = tt
@@ -28,9 +28,6 @@ in_larger [] (row ∷ large) x e l h = absurd (omega (arith, e))
 in_larger (row ∷ small) [] x e l h = absurd (omega (arith, e))
 in_larger (row ∷ small) (more ∷ large) [] e l h = h
 in_larger (row ∷ small) (more ∷ large) (n ∷ x) e l (h, rest) = (l 0 n h, in_larger small large x (omega (arith, e)) (λ d v k. l (suc d) v k) rest)
-
-box_length : (sizes : List ℕ) (box : List (List Bool)) → IsBox sizes box → length box ≡ length sizes
-box_length sizes box is = sym (length-map box length) ∙ ap length is.sizes
 
 module _ (parts : Parts) (problem : IsProblem parts) (analysis : Analysis) (is : IsAnalysis parts analysis) where
   -- the box of the analysis
@@ -45,8 +42,8 @@ module _ (parts : Parts) (problem : IsProblem parts) (analysis : Analysis) (is :
 
   single_in : (box : List (List Bool)) → IsBox (shape parts) box → LiesIn single box → IsIn box (vector parts analysis)
   single_in box box_is lies =
-      let mine = agrees_in single (vector parts analysis) (box_length (shape parts) single single_box ∙ sym (length_vector parts analysis problem is)) (only_agrees (shape parts) (vector parts analysis) (vector_fits parts analysis problem is)) in
-      in_larger single box (vector parts analysis) (box_length (shape parts) single single_box ∙ sym (box_length (shape parts) box box_is)) lies mine
+      let mine = agrees_in single (vector parts analysis) (length_box (shape parts) single single_box ∙ sym (length_vector parts analysis problem is)) (only_agrees (shape parts) (vector parts analysis) (vector_fits parts analysis problem is)) in
+      in_larger single box (vector parts analysis) (length_box (shape parts) single single_box ∙ sym (length_box (shape parts) box box_is)) lies mine
 
   single_closed : (number : ℕ) → number < length parts.groups → Relation parts (use_at parts number) analysis → IsClosedFor parts (use_at parts number) single
   single_closed number within relation = ((rule_laws parts problem (use_at parts number) (problem.groups number no_use within)).single analysis is).1 relation

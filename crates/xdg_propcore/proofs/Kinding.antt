@@ -12,7 +12,8 @@ use Rattle.xdg_problem.specs.declared.parts.Parts.{Parts}
 use Rattle.xdg_problem.specs.Arguments.{first_dim, second_dim}
 use Rattle.xdg_problem.specs.Problems.{IsGroup, IsProblem}
 use Rattle.xdg_propcore.specs.Kinds.{entry_kind, attr_kind, edge_kind}
-use Rattle.xdg_propcore.specs.UseKinds.{AreSmall, HasKinds, looks_at_attrs, looks_at_entries, looks_at_first, looks_at_second, with_kind}
+use Rattle.xdg_propcore.specs.UseKinds.{AreSmall, HasKinds, with_kind}
+use Rattle.xdg_problem.specs.Principles.{looks_at_entries, looks_at_attrs, looks_at_first, looks_at_second}
 
 -- ---- one kind more
 

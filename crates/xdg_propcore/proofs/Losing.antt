@@ -3,7 +3,7 @@
 use Rattle.std.proofs.Common.{◌≡◌, ◌≢◌, ℕ, ◌<◌, ◌^◌, ◌⊎◌, inl, inr, Bool, true, false, List, [], get_or, refl, ap, sym, ◌∙◌, arith, subst}
 use Rattle.std.specs.Int.{bit_at, trailing_zeros, w64}
 use Rattle.std.specs.Int.RustNames.{bit_or}
-use Rattle.std.proofs.lemmas.Bool.{cases_eq}
+use Rattle.std.proofs.lemmas.Bool.{cases_eq, cases_Bool}
 use Rattle.std.proofs.lemmas.Nat.Bits.{bit_at-lt, bit_at-pow_same, bit_at-pow_other, bit_at-trailing_zeros, bit_at-zero, bit_at_or}
 use Rattle.xdg_problem.specs.declared.parts.Parts.{Parts}
 use Rattle.xdg_problem.specs.Boxes.{Has, LiesIn, without}
@@ -11,6 +11,7 @@ use Rattle.xdg_rules.proofs.Removing.{keeps_others}
 use Rattle.xdg_propcore.specs.Kinds.{kind_of}
 use Rattle.xdg_propcore.specs.Losses.{IsLost, Loses, LosesKind}
 use Rattle.xdg_store.proofs.Leaving.{taken_gone, without_inside}
+use Rattle.xdg_rules.specs.Rules.{has}
 
 -- the box lost values of exactly the kinds of the wake set; where the set is empty it is as it was
 pub record Losing (parts : Parts) (wakes : ℕ) (old now : List (List Bool)) : Type 0 where
@@ -78,3 +79,9 @@ losing_end parts wakes old now small some so =
       each = so.each;
       only = so.only;
     }
+
+pub kept_or_lost : (old new : List (List Bool)) (d v : ℕ) → (IsLost old new d v → ⊥) → Has old d v → Has new d v
+kept_or_lost old new d v kept h = elim (cases_Bool (has new d v)) [
+  | inl there ↦ there
+  | inr gone ↦ absurd (kept (h, λ there. (let z : true ≡ false = sym there ∙ gone in cc)))
+]

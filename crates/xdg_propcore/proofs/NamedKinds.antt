@@ -14,7 +14,8 @@ use Rattle.xdg_problem.specs.Tests.{out_count, no_cycle, ordered_daughters, orde
 use Rattle.xdg_problem.specs.Tests.{linked_end, linked_daughter, linked_mother, linked_sister, linked_path}
 use Rattle.xdg_problem.proofs.Looking.{and_3, sees_place}
 use Rattle.xdg_propcore.specs.Kinds.{IsNamed, entry_kind, attr_kind, edge_kind}
-use Rattle.xdg_propcore.specs.UseKinds.{IsKindFor, IsKindOf, looks_at_attrs, looks_at_entries, looks_at_first, looks_at_second}
+use Rattle.xdg_propcore.specs.UseKinds.{IsKindFor, IsKindOf}
+use Rattle.xdg_problem.specs.Principles.{looks_at_entries, looks_at_attrs, looks_at_first, looks_at_second}
 
 never : {A : Type 0} → false ≡ true → A
 never e = absurd (false≢true e)
@@ -75,8 +76,6 @@ module _ (parts : Parts) (group : Group) where
   order_named false truth e kind k = named_by principles.Order e (ordered_daughters 0) (truth, omega arith) never (λ h. omega arith) (λ h. and_2 (one == one) (0 == 0) (same one) refl) never kind k
 
   each_named : (p : Principle) → group.principle ≡ p → (kind : ℕ) → IsKindOf p one two kind → IsNamed parts group kind
-  each_named principles.Graph e kind k = absurd (none one two kind k)
-  each_named principles.Entries e kind k = absurd (none one two kind k)
   each_named principles.Tree e kind k = named_by principles.Tree e (no_cycle 0) (omega arith) never never (λ h. cycle_looks) never kind k
   each_named principles.Dag e kind k = named_by principles.Dag e (no_cycle 0) (omega arith) never never (λ h. cycle_looks) never kind k
   each_named principles.Valency e kind k = named_by principles.Valency e (out_count 0 0 0) (omega arith, omega arith, omega arith) (λ h. refl) never (λ h. count_looks) never kind k
@@ -94,8 +93,7 @@ module _ (parts : Parts) (group : Group) where
   each_named principles.LinkingAboveStart e kind k = named_by principles.LinkingAboveStart e (linked_path 0 0 0) (omega arith, omega arith, omega arith) (λ h. refl) never (λ h. place_looks) (λ h. same two) kind k
   each_named principles.LinkingSisters e kind k = named_by principles.LinkingSisters e (linked_sister 0 0 0) (omega arith, omega arith, omega arith) (λ h. refl) never (λ h. place_looks) (λ h. and_2 (two == two) ((0 == 0) || (0 == 0)) (same two) refl) kind k
   each_named principles.LinkingNotDaughter e kind k = named_by principles.LinkingNotDaughter e (linked_daughter 0 0 0) (omega arith, omega arith, omega arith) (λ h. refl) never (λ h. place_looks) (λ h. linked_looks) kind k
-  each_named (principles.Rule formula) e kind k = absurd (none one two kind k)
-  each_named (principles.Bound costs bound) e kind k = absurd (none one two kind k)
+  each_named principle e kind k = absurd (none one two kind k)
 
   pub kind_named : (kind : ℕ) → IsKindFor group kind → IsNamed parts group kind
   kind_named kind k = each_named group.principle refl kind k

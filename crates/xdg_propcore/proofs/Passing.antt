@@ -20,7 +20,7 @@ use Rattle.xdg_store.specs.InRange.{HasCandidate, HasValue}
 use Rattle.xdg_store.specs.States.{State, Known}
 use Rattle.xdg_store.specs.declared.change.Change.{Change}
 use Rattle.xdg_store.specs.declared.change.Change.TheVariants as changes
-use Rattle.xdg_store.proofs.Boxed.{has_decision, length_box}
+use Rattle.xdg_store.proofs.Boxed.{length_box}
 use Rattle.xdg_store.proofs.Leaving.{taken_gone, without_inside, others_stay, parts_stay, box_shrinks}
 use Rattle.xdg_propcore.specs.Kinds.{kind_of, entry_kind, attr_kind, edge_kind}
 use Rattle.xdg_propcore.specs.Losses.{IsLost, Loses, LosesKind}
@@ -34,6 +34,7 @@ use Rattle.xdg_propcore.proofs.DecisionKinds.{kind_of_entry, kind_of_attr, kind_
 use Rattle.xdg_propcore.proofs.Settling.{extends_both}
 use Rattle.xdg_facts.proofs.Truths.{either}
 use Rattle.xdg_facts.proofs.Bits.{or_new_bit, or_left_bit}
+use Rattle.xdg_problem.proofs.BoxPlaces.{has_decision}
 
 -- ---- nothing is done
 

@@ -49,24 +49,7 @@ is_firsts (a ∷ b ∷ []) is l =
 passes : (test : Test) → IsTest sample agr_use test → TestPasses sample agr_use firsts test
 passes (allowed_value zero) is = has_first
 passes (allowed_value (suc v)) is = absurd (omega (arith, is))
-passes (out_count v l k) is = absurd is
-passes (in_count v l k) is = absurd is
-passes (one_mother v k) is = absurd is
-passes (no_cycle k) is = absurd is
-passes one_root is = absurd is
-passes (one_label u v) is = absurd is
-passes (ordered_daughters u) is = absurd is
-passes (ordered_yields u) is = absurd is
-passes (projective u v) is = absurd is
-passes (agreeing u l v) is = absurd is
-passes (governed u l v) is = absurd is
-passes (climbing u v) is = absurd is
-passes (not_blocked w v) is = absurd is
-passes (linked_end u l v) is = absurd is
-passes (linked_daughter u l v) is = absurd is
-passes (linked_mother u l v) is = absurd is
-passes (linked_sister u l v) is = absurd is
-passes (linked_path u l v) is = absurd is
+passes other is = absurd is
 
 value_first : (v : ℕ) → Has firsts 1 v → v ≡ 0
 value_first zero h = refl

@@ -1,6 +1,6 @@
 -- The sample is a problem, and what the test asks of it is in range.
-use Rattle.std.proofs.Common.{◌≡◌, ◌≢◌, ◌<◌, ℕ, zero, suc, List, [], ◌∷◌, All, length, rules, refl, subst, sym, ap, arith, lit<, lit≤, codes}
-use Rattle.std.specs.Prelude.{true, false, nat_eq, slice_index_or}
+use Rattle.std.proofs.Common.{◌≡◌, ◌≢◌, ◌<◌, ℕ, zero, suc, List, [], ◌∷◌, All, length, rules, refl, subst, sym, arith, lit<, lit≤, codes}
+use Rattle.std.specs.Prelude.{slice_index_or}
 use Rattle.xdg_base.specs.declared.ids.AttrId.{AttrId}
 use Rattle.xdg_base.specs.declared.ids.DimId.{DimId}
 use Rattle.xdg_base.specs.declared.ids.EntryNo.{EntryNo}
@@ -9,21 +9,19 @@ use Rattle.xdg_problem.specs.declared.parts.DimPlan.{DimPlan}
 use Rattle.xdg_problem.specs.declared.parts.Parts.{Parts}
 use Rattle.xdg_problem.specs.declared.parts.Shown.{Shown}
 use Rattle.xdg_problem.specs.declared.parts.Shown.TheVariants as shown
-use Rattle.xdg_problem.specs.Problems.{IsProblem, IsDim, IsAttr, IsGroup, IsSet, AreCandidates, AreFeatures, AreSets, HasConstant}
+use Rattle.xdg_problem.specs.Problems.{IsProblem, IsDim, IsAttr, IsGroup, AreCandidates, HasConstant}
 use Rattle.xdg_store.specs.InRange.{HasValue}
 use Rattle.xdg_propcore.specs.Sample.{agr_use, colour, first_alone, plan, sample, IsUse}
 use Rattle.xdg_propcore.specs.Uses.{StandsIn}
 use Rattle.xdg_facts.proofs.Lists.{all_one, all_two, pairs_one, pairs_two, pairs_none}
+use Rattle.xdg_store.proofs.Small.{differ_values}
 
-one_candidate : AreCandidates (record { 0 = 3 } ∷ [])
+pub one_candidate : AreCandidates (record { 0 = 3 } ∷ [])
 one_candidate = record { some = lit< tt; most = lit≤ tt; rising = pairs_one (λ (a b : EntryNo). a.0 < b.0) (record { 0 = 3 }); small = all_one (λ (e : EntryNo). e.0 < 4294967295) (record { 0 = 3 }) (lit< tt) }
 
 abbrev first_byte : Shown → ℕ
 first_byte (shown.One (b ∷ text)) = b
 first_byte value = 0
-
-differ_values : (shown.One (codes "x")) ≢ (shown.One (codes "y"))
-differ_values same = let h : true ≡ false = ap (λ v. nat_eq (first_byte v) 120) same in cc
 
 is_colour : IsAttr colour
 is_colour = record { some = lit< tt; most = lit≤ tt; shown_as = all_two HasConstant (shown.One (codes "x")) (shown.One (codes "y")) tt tt; differ = pairs_two (λ (a b : Shown). a ≢ b) (shown.One (codes "x")) (shown.One (codes "y")) differ_values }

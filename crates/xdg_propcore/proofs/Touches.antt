@@ -1,12 +1,10 @@
 -- The nodes of the decisions that have lost values.
-use Rattle.std.proofs.Common.{◌≡◌, ℕ, ◌<◌, ◌≤◌, ◌+◌, ◌-◌, ◌*◌, inl, inr, Bool, true, List, [], Contains, length, get_or, set, replicate, cond, refl, ap, sym, ◌∙◌, arith, subst}
+use Rattle.std.proofs.Common.{◌≡◌, ℕ, ◌<◌, ◌≤◌, ◌-◌, inl, inr, Bool, true, List, [], Contains, length, get_or, set, replicate, cond, refl, ap, sym, ◌∙◌, arith, subst}
 use Rattle.std.specs.Prelude.{◌==◌, ◌||◌}
 use Rattle.std.specs.Int.{bit_at}
 use Rattle.std.proofs.lemmas.Bool.{cases_eq, cases_lt, eq-eqb, le-ltb, lt-ltb}
 use Rattle.std.proofs.lemmas.Nat.Bits.{bit_at_ones}
-use Rattle.std.proofs.lemmas.Nat.{row_fits}
 use Rattle.std.proofs.lemmas.List.{get_or_default, get_or-replicate, get_or-set_same, get_or-set_other}
-use Rattle.xdg_nodeset.specs.Nodes.{has}
 use Rattle.xdg_nodeset.specs.Words.{in_words}
 use Rattle.xdg_problem.specs.declared.analysis.Edge.{Edge}
 use Rattle.xdg_problem.specs.declared.parts.Parts.{Parts}
@@ -26,6 +24,8 @@ use Rattle.xdg_propcore.specs.Touching.{HasTouched, InTable, IsSmall, Marks, Mar
 use Rattle.xdg_propcore.specs.declared.touched.Touched.{Touched}
 use Rattle.xdg_propcore.proofs.DecisionKinds.{kind_of_attr, kind_of_edge, kind_of_entry}
 use Rattle.xdg_facts.proofs.Truths.{or_here, either_true}
+use Rattle.xdg_facts.specs.Rises.{has}
+use Rattle.xdg_store.proofs.Renewed.{same_row}
 
 -- ---- a table of sets
 
@@ -77,16 +77,6 @@ small_decision parts (decisions.Place edge) problem is = small_place parts edge 
         (omega (arith, few, label), omega (arith, mother, most), omega (arith, daughter, most))
 
 -- ---- all of them
-
--- of two places in a table of rows that are the same the rows are the same
-same_row : (m a n b w : ℕ) → a < w → b < w → m * w + a ≡ n * w + b → m ≡ n
-same_row m a n b w l k e = elim (cases_eq m n) [
-  | inl q ↦ q
-  | inr f ↦ elim (cases_lt m n) [
-    | inl less ↦ absurd (let r = row_fits m w n w less (omega arith) in omega (arith, r, e, l))
-    | inr more ↦ absurd (let less : n < m = omega (arith, more, f) in let r = row_fits n w m w less (omega arith) in omega (arith, r, e, k))
-  ]
-]
 
 module _ (parts : Parts) (dim : ℕ) (problem : IsProblem parts) (old now : List (List Bool)) (decisions' : List Decision) (names : Names parts old now decisions') (t : Touched) (count : ℕ) (all : length decisions' ≤ count) (marked : AreMarked t dim decisions' count) where
   kind_named : (decision : Decision) → IsDecision parts decision → (d : ℕ) → number_of parts decision ≡ d → kind_of parts (number_of parts decision) ≡ kind_of parts d

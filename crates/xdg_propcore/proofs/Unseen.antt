@@ -9,7 +9,7 @@ use Rattle.xdg_problem.specs.declared.parts.Principle.TheVariants as principles
 use Rattle.xdg_problem.specs.Arguments.{first_dim, second_dim, attr_of}
 use Rattle.xdg_problem.specs.Boxes.{Has, IsBox, LiesIn, entry_decision, edge_decision}
 use Rattle.xdg_problem.specs.Places.{nodes}
-use Rattle.xdg_problem.specs.Problems.{IsGroup, IsProblem, attr_arguments, dim_arguments}
+use Rattle.xdg_problem.specs.Problems.{IsGroup, IsProblem}
 use Rattle.xdg_problem.specs.Vectors.{shape}
 use Rattle.xdg_rules.specs.Rules.{has, IsPlaceOn, may_edges, must_edges, attr_of_node}
 use Rattle.xdg_rules.proofs.Among.{Among}
@@ -17,8 +17,9 @@ use Rattle.xdg_rules.proofs.Shrinking.{may_exact, must_exact}
 use Rattle.xdg_propcore.specs.Families.{LosesUnseen}
 use Rattle.xdg_propcore.specs.Kinds.{kind_of, edge_kind}
 use Rattle.xdg_propcore.specs.Losses.{LosesOutside}
-use Rattle.xdg_propcore.specs.UseKinds.{HasKinds, looks_at_attrs, looks_at_entries, looks_at_first, looks_at_second}
+use Rattle.xdg_propcore.specs.UseKinds.{HasKinds}
 use Rattle.xdg_propcore.proofs.DecisionKinds.{kind_of_entry, kind_of_attr, kind_of_edge}
+use Rattle.xdg_problem.specs.Principles.{dim_arguments, attr_arguments, looks_at_entries, looks_at_attrs, looks_at_first, looks_at_second}
 
 -- a wake set has the kinds at which they look
 pub loses_unseen : (parts : Parts) (group : Group) (wakes : ℕ) (old new : List (List Bool)) → HasKinds group wakes → IsBox (shape parts) old → IsBox (shape parts) new → LiesIn new old → LosesOutside parts wakes old new → LosesUnseen parts group old new

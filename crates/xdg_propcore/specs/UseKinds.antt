@@ -4,57 +4,9 @@ use Rattle.std.specs.Int.{bit_at}
 use lib.Bits.{bit_or}
 use Rattle.xdg_problem.specs.declared.parts.Group.{Group}
 use Rattle.xdg_problem.specs.declared.parts.Principle.{Principle}
-use Rattle.xdg_problem.specs.declared.parts.Principle.TheVariants as principles
 use Rattle.xdg_problem.specs.Arguments.{first_dim, second_dim}
 use Rattle.xdg_propcore.specs.Kinds.{entry_kind, attr_kind, edge_kind}
-
--- Those of a rule and of a bound aren't told here: they go by more than the principle.
-
--- the tests of a principle look at entries
-abbrev pub looks_at_entries : Principle → Bool
-looks_at_entries principles.Valency = true
-looks_at_entries principles.Agr = true
-looks_at_entries principles.Agreement = true
-looks_at_entries principles.Government = true
-looks_at_entries principles.Barriers = true
-looks_at_entries principles.LinkingEnd = true
-looks_at_entries principles.LinkingDaughter = true
-looks_at_entries principles.LinkingMother = true
-looks_at_entries principles.LinkingBelowStart = true
-looks_at_entries principles.LinkingAboveStart = true
-looks_at_entries principles.LinkingSisters = true
-looks_at_entries principles.LinkingNotDaughter = true
-looks_at_entries principle = false
-
--- at attributes of the first dimension
-abbrev pub looks_at_attrs : Principle → Bool
-looks_at_attrs principles.Order = true
-looks_at_attrs principles.Agr = true
-looks_at_attrs principles.Agreement = true
-looks_at_attrs principles.Government = true
-looks_at_attrs principle = false
-
--- at edges of the first dimension
-abbrev pub looks_at_first : Principle → Bool
-looks_at_first principles.Graph = false
-looks_at_first principles.Entries = false
-looks_at_first principles.Agr = false
-looks_at_first (principles.Rule formula) = false
-looks_at_first (principles.Bound costs bound) = false
-looks_at_first principle = true
-
--- at edges of the second
-abbrev pub looks_at_second : Principle → Bool
-looks_at_second principles.Climbing = true
-looks_at_second principles.Barriers = true
-looks_at_second principles.LinkingEnd = true
-looks_at_second principles.LinkingDaughter = true
-looks_at_second principles.LinkingMother = true
-looks_at_second principles.LinkingBelowStart = true
-looks_at_second principles.LinkingAboveStart = true
-looks_at_second principles.LinkingSisters = true
-looks_at_second principles.LinkingNotDaughter = true
-looks_at_second principle = false
+use Rattle.xdg_problem.specs.Principles.{looks_at_entries, looks_at_attrs, looks_at_first, looks_at_second}
 
 -- a kind of values at which they look, where the dimensions have these numbers
 abbrev pub IsKindOf : Principle → ℕ → ℕ → ℕ → Type 0

@@ -6,73 +6,7 @@ ghost use Rattle.xdg_propcore.specs.UseKinds as spec;
 
 use crate::wake::Wake;
 use xdg_base::DimId;
-use xdg_problem::{Group, Principle};
-
-/// Whether the tests of a principle look at entries.
-fn looks_at_entries(principle: &Principle) -> bool
-    ensures { result ≡ spec.looks_at_entries principle.now }
-{
-    match principle {
-        Principle::Valency => true,
-        Principle::Agr => true,
-        Principle::Agreement => true,
-        Principle::Government => true,
-        Principle::Barriers => true,
-        Principle::LinkingEnd => true,
-        Principle::LinkingDaughter => true,
-        Principle::LinkingMother => true,
-        Principle::LinkingBelowStart => true,
-        Principle::LinkingAboveStart => true,
-        Principle::LinkingSisters => true,
-        Principle::LinkingNotDaughter => true,
-        _ => false,
-    }
-}
-
-/// Whether they look at attributes of the first dimension.
-fn looks_at_attrs(principle: &Principle) -> bool
-    ensures { result ≡ spec.looks_at_attrs principle.now }
-{
-    match principle {
-        Principle::Order => true,
-        Principle::Agr => true,
-        Principle::Agreement => true,
-        Principle::Government => true,
-        _ => false,
-    }
-}
-
-/// Whether they look at edges of the first dimension.
-fn looks_at_first(principle: &Principle) -> bool
-    ensures { result ≡ spec.looks_at_first principle.now }
-{
-    match principle {
-        Principle::Graph => false,
-        Principle::Entries => false,
-        Principle::Agr => false,
-        Principle::Rule(_) => false,
-        Principle::Bound(_, _) => false,
-        _ => true,
-    }
-}
-
-/// Whether they look at edges of the second dimension.
-fn looks_at_second(principle: &Principle) -> bool
-    ensures { result ≡ spec.looks_at_second principle.now }
-{
-    match principle {
-        Principle::Climbing => true,
-        Principle::Barriers => true,
-        Principle::LinkingEnd => true,
-        Principle::LinkingDaughter => true,
-        Principle::LinkingMother => true,
-        Principle::LinkingBelowStart => true,
-        Principle::LinkingAboveStart => true,
-        Principle::LinkingSisters => true,
-        Principle::LinkingNotDaughter => true,
-        _ => false,
-    }
-}
+use xdg_problem::{Group, looks_at_attrs, looks_at_entries, looks_at_first, looks_at_second};
 
 /// The dimension that a dimension argument names. It is 0 where the principle use has no such argument.
 fn dim_at(group: &Group, argument: usize) -> DimId

@@ -135,13 +135,6 @@ impl Pass {
         self.note(Change::Emptied, Wake(0));
     }
 
-    /// Whether no box inside is closed.
-    pub fn is_dead(&self) -> bool
-        ensures { result ≡ self.now.dead }
-    {
-        self.dead
-    }
-
     /// What the step did.
     pub fn moved(&self) -> Moved
         ensures { Answers result self.now }

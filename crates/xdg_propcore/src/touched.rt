@@ -1,7 +1,7 @@
 //! What has lost values.
 
 ghost use Rattle.std.specs.Prelude.{◌≡◌, ℕ, ◌<◌, true, length};
-ghost use Rattle.xdg_nodeset.specs.Nodes.{has};
+ghost use Rattle.xdg_facts.specs.Rises.{has};
 ghost use Rattle.xdg_store.specs.States.{Known};
 ghost use Rattle.xdg_propcore.specs.Standing.{box_at};
 ghost use Rattle.xdg_propcore.specs.Touching.{Grows, HasAll, HasTouched, InTable, IsSmall, Marks};

@@ -1,14 +1,11 @@
 -- What is read back are exactly the texts of analyses.
-use Rattle.std.proofs.Common.{◌≡◌, ◌⊎◌, inl, inr, ◌<◌, ◌≤◌, ◌+◌, ◌++◌, ◌^◌, ℕ, zero, suc, List, [], ◌∷◌, length, map, refl, sym, ap, ◌∙◌, subst, arith, Ok, None, length-append}
-use Rattle.std.specs.Prelude.{IsUtf8, ◌↔◌}
-use Rattle.std.proofs.lemmas.List.{length-map}
+use Rattle.std.proofs.Common.{◌≡◌, inl, inr, ◌<◌, ◌≤◌, ◌+◌, ◌++◌, ◌^◌, ℕ, List, [], ◌∷◌, length, map, sym, ap, ◌∙◌, subst, arith, None, length-append}
+use Rattle.std.specs.Prelude.{IsUtf8}
 use Rattle.xdg_problem.specs.declared.analysis.Analysis.{Analysis}
 use Rattle.xdg_problem.specs.declared.parts.Parts.{Parts}
-use Rattle.xdg_base.specs.declared.ids.EntryNo.{EntryNo}
-use Rattle.xdg_problem.specs.Analyses.{HasCandidates, IsAnalysis}
+use Rattle.xdg_problem.specs.Analyses.{IsAnalysis}
 use Rattle.xdg_problem.specs.Places.{nodes}
 use Rattle.xdg_problem.specs.Problems.{IsProblem}
-use Rattle.xdg_problem.specs.Vectors.{attr_sizes}
 use Rattle.xdg_reading.specs.declared.line.Line.{Line}
 use Rattle.xdg_reading.specs.declared.line.Line.TheVariants as lines
 use Rattle.xdg_reading.specs.declared.texts.AnalysisText.{AnalysisText}
@@ -19,10 +16,11 @@ use Rattle.xdg_reading.specs.Texts.{word_lines, body, lines_of, lines2_of, Place
 use Rattle.xdg_text.specs.Blocks.{block, block2}
 use Rattle.xdg_reading.specs.Blocks.{HasWords, IsReadBack, IsBlock, ReadsBack}
 use Rattle.xdg_reading.specs.Fits.{Shows}
-use Rattle.xdg_reading.proofs.Answered.{same_lengths, shown_analysis}
+use Rattle.xdg_reading.proofs.Answered.{same_lengths}
 use Rattle.xdg_reading.proofs.Placing.{text_at, text_words, text_shows, body_placed}
 use Rattle.xdg_reading.proofs.Written.{both_texts, text1_is, text2_is, values_count, edges_count}
 use Rattle.xdg_reading.specs.Slots.{slots}
+use Rattle.xdg_problem.proofs.EntryPlaces.{length_entries}
 
 by_text : (parts : Parts) (bytes : List ℕ) (a : Analysis) (t : AnalysisText) → HasWords parts t → Shows parts t a → IsText bytes t → IsBlock parts bytes a
 by_text parts bytes a t words shows (number, inl has) = (number, has.placed.0.0, has.placed.0.1, inl (has.parts ∙ text1_is parts t a number words shows))
@@ -33,12 +31,6 @@ read_is_block parts bytes a (t, read, words, fit) = (fit.0, by_text parts bytes 
 
 words_count : (parts : Parts) (t : AnalysisText) → IsProblem parts → HasWords parts t → length t.words ≡ nodes parts
 words_count parts t problem words = sym (same_lengths parts t problem words) ∙ problem.candidates_each
-
-entries_each : (cs : List (List EntryNo)) (entries : List EntryNo) → HasCandidates cs entries → length entries ≡ length cs
-entries_each [] [] has = refl
-entries_each [] (e ∷ entries) has = absurd has
-entries_each (c ∷ cs) [] has = absurd has
-entries_each (c ∷ cs) (e ∷ entries) has = ap suc (entries_each cs entries has.1)
 
 -- there are no more lines than bytes
 few_attrs : (xs : List AttrLine) → length xs ≤ length (text_of (map lines.Attr xs))
@@ -83,7 +75,7 @@ block_text1 parts bytes a number problem is low high e =
     let same : bytes ≡ text_of (lines_of number t) = e ∙ sym (text1_is parts t a number words (text_shows parts a start is)) in
     let size : length bytes ≡ length (line_text (lines.Analysis number)) + length (text_of (body t)) = ap length same ∙ length-append (line_text (lines.Analysis number)) (text_of (body t)) in
     let count = words_count parts t problem words in
-    let each : length a.entries ≡ length t.words = entries_each parts.candidates a.entries is.entries ∙ problem.candidates_each ∙ sym count in
+    let each : length a.entries ≡ length t.words = length_entries parts.candidates a.entries is.entries ∙ problem.candidates_each ∙ sym count in
     record {
       parts = same;
       placed = ((low, high), body_placed parts a start problem is);
@@ -118,7 +110,7 @@ block_text2 parts bytes a number problem is small low high e =
       parts = same;
       placed = (tt, ((low, high), ((omega (arith, count, problem.some), omega (arith, count, problem.most), omega (arith, few.attrs, whole, small), omega (arith, few.edges, whole, small)), subst (λ k. Placed k (body t)) (sym place) (body_placed parts a start problem is))));
       some = omega (arith, count, problem.some);
-      each = entries_each parts.candidates a.entries is.entries ∙ problem.candidates_each ∙ sym count;
+      each = length_entries parts.candidates a.entries is.entries ∙ problem.candidates_each ∙ sym count;
       end = omega (arith, end_is parts a start, whole);
     }
 

@@ -1,6 +1,6 @@
 -- Quoted texts and constants are read as they are written.
-use Rattle.std.proofs.Common.{◌≡◌, ◌≢◌, ◌<◌, ◌≤◌, ◌++◌, ◌+◌, ◌==◌, ◌&&◌, ◌||◌, ◌⊎◌, inl, inr, ℕ, zero, suc, List, [], ◌∷◌, length, get_or, drop, refl, sym, ap, ◌∙◌, subst, arith, true, false, cond, not, Bool, Some, None, Option, append_assoc}
-use Rattle.std.proofs.lemmas.Bool.{eqb-true, eq-eqb, ne_eqb, and_parts, not-true, not_from_false, and_from, or_parts, or_from, or_left, or_right, both_ways, cases_Bool}
+use Rattle.std.proofs.Common.{◌≡◌, ◌≢◌, ◌<◌, ◌++◌, ◌+◌, ◌==◌, ◌&&◌, ◌||◌, ◌⊎◌, inl, inr, ℕ, zero, suc, List, [], ◌∷◌, length, get_or, drop, refl, sym, ap, ◌∙◌, arith, true, false, cond, not, Bool, Some, None, Option, append_assoc}
+use Rattle.std.proofs.lemmas.Bool.{eqb-true, ne_eqb, and_parts, not_from_false, and_from, or_parts, or_from, or_left, or_right, both_ways}
 use Rattle.std.specs.List.{list_all, flat_map}
 use Rattle.xdg_text.specs.Constants.{is_name, is_keyword, begins_name, continues_name, is_escaped, escaped, quoted, constant}
 use Rattle.xdg_reading.specs.Pieces.{after, past, lead, behind, until, inside, quoted_at, name_at, quoted_constant_at, constant_at, begins_quoted, is_plain}
@@ -8,6 +8,7 @@ use Rattle.xdg_reading.proofs.Fronts.{until_it, until_stands, it_stands, same_by
 use Rattle.xdg_reading.proofs.Insides.{plain_byte}
 use Rattle.xdg_reading.proofs.Steps.{pair, lead_found, Led, cond_either, cond_found, cond_left, after_found, past_found}
 use Rattle.xdg_facts.proofs.Options.{none_some, some_same}
+use Rattle.xdg_text.proofs.Names.{unescaped}
 
 -- what ends a word: neither a mark nor a part of a name
 pub record IsEnd (end : ℕ) : Type 0 where
@@ -53,9 +54,6 @@ marked false bytes = bytes
 escaped_is : (byte : ℕ) → is_escaped byte ≡ true → escaped byte ≡ 92 ∷ byte ∷ []
 escaped_is byte e = ap (λ t. cond t (92 ∷ byte ∷ []) (byte ∷ [])) e
 
-plain_is : (byte : ℕ) → is_escaped byte ≡ false → escaped byte ≡ byte ∷ []
-plain_is byte e = ap (λ t. cond t (92 ∷ byte ∷ []) (byte ∷ [])) e
-
 inside_true : (byte : ℕ) (bytes : List ℕ) → inside true (byte ∷ bytes) ≡ cond (is_escaped byte) (lead byte (inside false bytes)) None
 unfolding inside
 inside_true byte bytes = refl
@@ -78,7 +76,7 @@ after_mark byte bytes text rest e led known =
 after_plain : (byte : ℕ) (bytes text rest : List ℕ) → is_escaped byte ≡ false → Led byte (inside false bytes) (text, rest) → ((x r : List ℕ) → inside false bytes ≡ Some (x, r) → bytes ≡ flat_map escaped x ++ 34 ∷ r) → byte ∷ bytes ≡ flat_map escaped text ++ 34 ∷ rest
 after_plain byte bytes text rest e led known =
     ap (λ z. byte ∷ z) (known led.more led.rest led.is)
-    ∙ ap (λ z. (z ++ flat_map escaped led.more) ++ 34 ∷ led.rest) (sym (plain_is byte e))
+    ∙ ap (λ z. (z ++ flat_map escaped led.more) ++ 34 ∷ led.rest) (sym (unescaped byte e))
     ∙ ap (λ (p : List ℕ × List ℕ). flat_map escaped p.0 ++ 34 ∷ p.1) led.all
 
 -- what is read of an inside is written so

@@ -34,12 +34,7 @@ place_of bytes front left e = let size : length bytes ≡ length (front ++ left)
 -- no line is empty
 pub some_text : (l : Line) → 0 < length (line_text l)
 some_text lines.Version = omega arith
-some_text (lines.Analysis number) = omega arith
-some_text (lines.Counts words attrs edges) = omega arith
-some_text (lines.Word node word entry) = omega arith
-some_text (lines.Attr a) = omega arith
-some_text (lines.Edge e) = omega arith
-some_text lines.End = omega arith
+some_text other = omega arith
 
 pub shrinks : (at : ℕ) (left new : List ℕ) (l : Line) → line_at at left ≡ Some (l, new) → length new < length left
 shrinks at left new l read =

@@ -3,7 +3,6 @@ use Rattle.std.proofs.Common.{◌≡◌, ℕ, ◌+◌, ◌-◌, length, Bool, tr
 use Rattle.std.specs.Prelude.{codes, decimal}
 use Rattle.std.specs.List.{AllZip}
 use Rattle.xdg_formula.specs.declared.tree.Rule.{Rule}
-use Rattle.xdg_problem.specs.Names.{name_of}
 use Rattle.xdg_problem.specs.declared.analysis.Analysis.{Analysis}
 use Rattle.xdg_problem.specs.declared.conditions.Condition.{Condition}
 use Rattle.xdg_problem.specs.declared.parts.Group.{Group}
@@ -15,6 +14,7 @@ use Rattle.xdg_judge.specs.declared.verdict.Verdict.TheVariants as verdicts
 use Rattle.xdg_judge.specs.Verdicts.{IsVerdict, AreVerdicts, tuple_of}
 use Rattle.xdg_reports.specs.VerdictsText.{said_text, labels_of, title_text, verdict_line, verdict_lines, is_kept, are_kept, solution_line, verdicts_text, behind, condition_text}
 use Rattle.xdg_reports.specs.OneText.{IsOneText}
+use Rattle.xdg_problem.specs.Principles.{name_of}
 
 -- two verdicts on one principle use say the same
 same_said : (parts : Parts) (a : Analysis) (group : Group) (labels : List (List ℕ)) (v w : Verdict) → IsVerdict parts a group v → IsVerdict parts a group w → (said_text labels v ≡ said_text labels w) × (is_kept v ≡ is_kept w)

@@ -10,11 +10,11 @@ use Rattle.xdg_problem.specs.declared.parts.DimPlan.{DimPlan}
 use Rattle.xdg_problem.specs.declared.parts.Group.{Group}
 use Rattle.xdg_problem.specs.declared.parts.Parts.{Parts}
 use Rattle.xdg_problem.specs.Arguments.{no_plan}
-use Rattle.xdg_problem.specs.Names.{name_of}
 use Rattle.xdg_io.specs.Held.{Appends, AppendsFront}
-use Rattle.xdg_text.proofs.Pieces.{appends_both, front_of_second}
 use Rattle.xdg_judge.specs.declared.verdict.Verdict.{Verdict}
 use Rattle.xdg_reports.specs.VerdictsText.{behind, item_text, items_text, labels_of, said_text, title_text, verdict_line, verdict_lines}
+use Rattle.xdg_io.proofs.Written.{appends_both, front_of_second}
+use Rattle.xdg_problem.specs.Principles.{name_of}
 
 abbrev pub zero_dim : DimId
 zero_dim = record { 0 = 0 }

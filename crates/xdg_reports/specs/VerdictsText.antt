@@ -9,12 +9,12 @@ use Rattle.xdg_problem.specs.declared.conditions.Condition.TheVariants as condit
 use Rattle.xdg_problem.specs.declared.parts.Group.{Group}
 use Rattle.xdg_problem.specs.declared.parts.Parts.{Parts}
 use Rattle.xdg_problem.specs.Arguments.{first_dim, no_plan}
-use Rattle.xdg_problem.specs.Names.{name_of}
 use Rattle.xdg_judge.specs.declared.verdict.Verdict.{Verdict}
 use Rattle.xdg_judge.specs.declared.verdict.Verdict.TheVariants as verdicts
 use Rattle.xdg_judge.specs.Verdicts.{tuple_of}
 use Rattle.xdg_text.specs.Constants.{constant}
 use Rattle.xdg_text.specs.Lines.{line}
+use Rattle.xdg_problem.specs.Principles.{name_of}
 
 -- ---- conditions
 

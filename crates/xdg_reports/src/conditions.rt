@@ -103,7 +103,7 @@ fn write_item<K: Sink>(
 }
 
 /// Writes the items of a condition's tuple.
-#[tactic(auto, using(xdg_text::proofs::Pieces::appends_both, xdg_text::proofs::Pieces::start, xdg_text::proofs::Pieces::done, xdg_text::proofs::Pieces::rose_later))]
+#[tactic(auto, using(xdg_text::proofs::Pieces::write_steps))]
 fn write_items<K: Sink>(
     labels: &[Text],
     condition: Condition,
@@ -123,7 +123,7 @@ fn write_items<K: Sink>(
 }
 
 /// Writes a condition with its tuple, and nothing of a rule or a bound.
-#[tactic(auto, using(xdg_text::proofs::Pieces::appends_both, xdg_text::proofs::Pieces::start, xdg_text::proofs::Pieces::done, xdg_text::proofs::Pieces::rose_later))]
+#[tactic(auto, using(xdg_text::proofs::Pieces::write_steps))]
 pub(crate) fn write_condition<K: Sink>(
     labels: &[Text],
     condition: Condition,

@@ -49,7 +49,7 @@ fn labels_at(parts: &Parts, dim: u8) -> &[Text]
 }
 
 /// Writes the names of the dimensions of a principle use.
-#[tactic(auto, using(xdg_text::proofs::Pieces::appends_both, xdg_text::proofs::Pieces::start, xdg_text::proofs::Pieces::done, xdg_text::proofs::Pieces::rose_later))]
+#[tactic(auto, using(xdg_text::proofs::Pieces::write_steps))]
 fn write_dims<K: Sink>(parts: &Parts, dims: &[DimId], sink: &mut K) -> Result<(), Failed>
     ensures all { OnOk result (Appends (K.held sink.old) (K.held sink.new) (flat_map (spec.dim_text parts.now) dims.now)) }
     ensures front { OnErr result (AppendsFront (K.held sink.old) (K.held sink.new) (flat_map (spec.dim_text parts.now) dims.now)) }
@@ -76,7 +76,7 @@ fn numbers_of(tuple: &Tuple4) -> &[u8]
 }
 
 /// Writes `kept`, or `broken` with the condition and its tuple.
-#[tactic(auto, using(xdg_text::proofs::Pieces::appends_both, xdg_text::proofs::Pieces::start, xdg_text::proofs::Pieces::done, xdg_text::proofs::Pieces::rose_later))]
+#[tactic(auto, using(xdg_text::proofs::Pieces::write_steps))]
 pub(crate) fn write_said<K: Sink>(
     labels: &[Text],
     verdict: &Verdict,
@@ -154,7 +154,7 @@ fn write_verdict<K: Sink>(
 }
 
 /// Writes the lines of uses with their verdicts, numbered from 1, the last of which are these rules.
-#[tactic(auto, using(xdg_text::proofs::Pieces::appends_both, xdg_text::proofs::Pieces::start, xdg_text::proofs::Pieces::done, xdg_text::proofs::Pieces::rose_later))]
+#[tactic(auto, using(xdg_text::proofs::Pieces::write_steps))]
 fn write_verdict_lines<K: Sink>(
     parts: &Parts,
     own: usize,

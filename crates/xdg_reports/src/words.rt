@@ -11,7 +11,7 @@ use xdg_io::{Failed, Sink, write_all};
 use xdg_text::write_constant;
 
 /// Writes a word as it stands.
-#[tactic(auto, using(xdg_text::proofs::Pieces::appends_both, xdg_text::proofs::Pieces::start, xdg_text::proofs::Pieces::done, xdg_text::proofs::Pieces::rose_later))]
+#[tactic(auto, using(xdg_text::proofs::Pieces::write_steps))]
 pub(crate) fn write_word<K: Sink>(word: &str, sink: &mut K) -> Result<(), Failed>
     ensures all { OnOk result (Appends (K.held sink.old) (K.held sink.new) (behind word.now)) }
     ensures front { OnErr result (AppendsFront (K.held sink.old) (K.held sink.new) (behind word.now)) }
@@ -24,7 +24,7 @@ pub(crate) fn write_word<K: Sink>(word: &str, sink: &mut K) -> Result<(), Failed
 }
 
 /// Writes a constant, as a name where it can be, and else quoted.
-#[tactic(auto, using(xdg_text::proofs::Pieces::appends_both, xdg_text::proofs::Pieces::start, xdg_text::proofs::Pieces::done, xdg_text::proofs::Pieces::rose_later))]
+#[tactic(auto, using(xdg_text::proofs::Pieces::write_steps))]
 pub(crate) fn write_constant_behind<K: Sink>(text: &str, sink: &mut K) -> Result<(), Failed>
     ensures all { OnOk result (Appends (K.held sink.old) (K.held sink.new) (behind (constant text.now))) }
     ensures front { OnErr result (AppendsFront (K.held sink.old) (K.held sink.new) (behind (constant text.now))) }

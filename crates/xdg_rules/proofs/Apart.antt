@@ -11,15 +11,15 @@ use Rattle.xdg_problem.proofs.Deciding.{Decided, decided_both, decided_equal, de
 use Rattle.xdg_problem.proofs.DecidingPaths.{decided_either, decided_true, decided_not, decided_above}
 use Rattle.xdg_rules.specs.Rules.{may_edges, must_edges}
 use Rattle.xdg_rules.proofs.Among.{Among, above_among}
-use Rattle.xdg_rules.proofs.DecidingBoxes.{decided_some_below, decided_remaining, decided_among}
+use Rattle.xdg_rules.proofs.DecidingBoxes.{decided_remaining, decided_among}
 use Rattle.xdg_rules.proofs.Shrinking.{may_of, must_is}
 use Rattle.xdg_rules.proofs.Sizes.{node_within}
 use Rattle.xdg_problem.specs.Claims.{Claim, negation, conjunction, disjunction, every, some, joined, above, left, same, valued, fitting, Claims, none, claim_then, IsOf, EachIsOf}
-use Rattle.xdg_problem.specs.Truths.{bound, says, HasTruth}
+use Rattle.xdg_problem.specs.Truths.{bound, says, HasTruth, AreNodes}
 use Rattle.xdg_rules.specs.Worths.{EachValue, Makes, MakesEach, MakesSome}
-use Rattle.xdg_rules.specs.WorthLaws.{AreNodes}
 use Rattle.xdg_rules.proofs.Bound.{bound_nodes}
 use Rattle.xdg_rules.proofs.NodeValues.{attr_decided}
+use Rattle.xdg_problem.proofs.DecidingTruths.{decided_some as decided_some_below}
 
 -- an edge that must be may be
 pub must_may : (parts : Parts) (box : List (List Bool)) (dim : ℕ) → Among (must_edges parts box dim) (may_edges parts box dim)

@@ -13,12 +13,11 @@ use Rattle.xdg_problem.specs.Boxes.{Has, IsBox, Agrees}
 use Rattle.xdg_problem.specs.Claims.{Suits, claim}
 use Rattle.xdg_problem.specs.Costs.{CostLists, total_cost}
 use Rattle.xdg_problem.specs.Problems.{IsProblem, IsSuited}
-use Rattle.xdg_problem.specs.Truths.{unbound, FormulaHolds}
+use Rattle.xdg_problem.specs.Truths.{unbound, FormulaHolds, AreNodes}
 use Rattle.xdg_problem.specs.Vectors.{shape, entry_places, entries_at, edges_in, analysis_of}
 use Rattle.xdg_problem.proofs.VectorFacts.{entries_back, length_shape}
 use Rattle.xdg_rules.specs.Bounds.{least_cost, BoundReached, BoundPlace}
 use Rattle.xdg_rules.specs.Rules.{TakesBy}
-use Rattle.xdg_rules.specs.WorthLaws.{AreNodes}
 use Rattle.xdg_rules.specs.Worths.{RuleFalse}
 use Rattle.xdg_rules.proofs.ClaimLaws.{agreeing_sound, agreeing_settled}
 use Rattle.xdg_rules.proofs.Costing.{cost_whole, place_whole}

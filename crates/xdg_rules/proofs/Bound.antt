@@ -3,8 +3,7 @@ use Rattle.std.proofs.Common.{ℕ, ◌<◌, Bool, true, false, cond}
 use Rattle.std.specs.Prelude.{◌==◌}
 use Rattle.xdg_problem.specs.declared.parts.Parts.{Parts}
 use Rattle.xdg_problem.specs.Places.{nodes}
-use Rattle.xdg_problem.specs.Truths.{bound}
-use Rattle.xdg_rules.specs.WorthLaws.{AreNodes}
+use Rattle.xdg_problem.specs.Truths.{bound, AreNodes}
 
 chosen : (n : ℕ) (is : Bool) (node other : ℕ) → node < n → other < n → cond is node other < n
 chosen n true node other l m = l

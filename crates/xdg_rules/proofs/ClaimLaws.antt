@@ -15,9 +15,9 @@ use Rattle.xdg_rules.specs.Boxed.{only, first_numbers}
 use Rattle.xdg_rules.specs.Rules.{first_true}
 use Rattle.xdg_rules.proofs.Single.{single_agrees, only_agrees, only_box, only_lies}
 use Rattle.xdg_problem.specs.Claims.{Claim, IsOf, IsBound}
-use Rattle.xdg_problem.specs.Truths.{IsTrueIn, HasTruth}
+use Rattle.xdg_problem.specs.Truths.{IsTrueIn, HasTruth, AreNodes}
 use Rattle.xdg_rules.specs.Worths.{Makes, IsWorth}
-use Rattle.xdg_rules.specs.WorthLaws.{HasOneWorth, WorthLaws, Agree, NameLaws, AreNodes}
+use Rattle.xdg_rules.specs.WorthLaws.{HasOneWorth, WorthLaws, Agree, NameLaws}
 use Rattle.xdg_rules.proofs.Apart.{apart, decided_makes}
 use Rattle.xdg_rules.proofs.Named.{true_like, makes_like}
 use Rattle.xdg_rules.proofs.Narrowing.{narrower}

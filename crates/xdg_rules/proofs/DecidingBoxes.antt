@@ -1,8 +1,8 @@
 -- What can be decided of the values that remain in a box, of its edges and of its entries.
-use Rattle.std.proofs.Common.{◌≡◌, ℕ, ◌<◌, ◌≤◌, inl, inr, zero, suc, Bool, true, false, List, [], ◌∷◌, length, refl, ap, ap₂, arith, subst}
+use Rattle.std.proofs.Common.{◌≡◌, ℕ, ◌<◌, ◌≤◌, inl, inr, Bool, true, false, List, [], ◌∷◌, length, refl, ap, ap₂, subst}
 use Rattle.std.specs.Prelude.{All, Contains, slice_index_or}
 use Rattle.std.specs.List.{Any}
-use Rattle.std.proofs.lemmas.Bool.{cases_Bool, cases_eq, both_ways}
+use Rattle.std.proofs.lemmas.Bool.{cases_Bool, both_ways}
 use Rattle.std.proofs.lemmas.List.Elements.{All-contains, All-contains_itself, All-weaker}
 use Rattle.xdg_problem.specs.declared.analysis.Edge.{Edge}
 use Rattle.xdg_problem.proofs.Deciding.{Decided, decided_like, decided_both, decided_from, decided_equal, decided_most, decided_below, decided_all, decided_contains}
@@ -13,20 +13,7 @@ use Rattle.xdg_problem.specs.Places.{same_edge}
 use Rattle.xdg_problem.specs.Boxes.{Has, IsOnly, entry_decision}
 use Rattle.xdg_rules.specs.Rules.{EachEntry, IsDecided, HasNoneWithin, IsGreatest, IsLeast, ComesBefore}
 use Rattle.xdg_rules.proofs.Sizes.{row_within}
-
--- some number below n
-pub decided_some_below : (P : ℕ → Type 0) (n : ℕ) → ((k : ℕ) → Decided (P k)) → Decided ((k : ℕ) × (k < n) × P k)
-decided_some_below P zero each = inr (λ some. (let l = some.1 in omega (arith, l)))
-decided_some_below P (suc n) each = elim (decided_some_below P n each) [
-  | inl some ↦ inl (some.0, (let l = some.1 in omega (arith, l)), some.2)
-  | inr none ↦ elim (each n) [
-    | inl last ↦ inl (n, (omega arith), last)
-    | inr not_last ↦ inr (λ some. elim (cases_eq some.0 n) [
-      | inl e ↦ not_last (subst P e some.2)
-      | inr other ↦ none (some.0, (let l = some.1 in omega (arith, l, other)), some.2)
-    ])
-  ]
-]
+use Rattle.xdg_problem.proofs.DecidingTruths.{decided_some as decided_some_below}
 
 pub decided_has : (box : List (List Bool)) (d v : ℕ) → Decided (Has box d v)
 decided_has box d v = decided_true (slice_index_or (slice_index_or box d []) v false)

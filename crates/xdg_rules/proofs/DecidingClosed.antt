@@ -1,8 +1,7 @@
 -- Whether a box is closed can be decided, and whether a prefix is boxed.
-use Rattle.std.proofs.Common.{◌≡◌, ℕ, ◌+◌, ◌<◌, ◌↔◌, inl, inr, zero, suc, Bool, true, false, List, [], ◌∷◌, ◌++◌, length, map, refl, sym, subst, arith, Option, Some, None}
+use Rattle.std.proofs.Common.{◌≡◌, ℕ, ◌+◌, ◌<◌, ◌↔◌, inl, inr, zero, suc, Bool, true, false, List, [], ◌∷◌, ◌++◌, length, map, refl, sym, subst, Option, Some, None}
 use Rattle.std.specs.Prelude.{filter, All, Contains, slice_index_or, ◌&&◌}
 use Rattle.std.specs.List.{Any, flat_map}
-use Rattle.std.proofs.lemmas.Bool.{false≢true}
 use Rattle.xdg_facts.specs.Listing.{HasOneListing}
 use Rattle.xdg_facts.proofs.Exists.{decided_listing}
 use Rattle.xdg_facts.proofs.Unique.{listing_unique}
@@ -26,17 +25,12 @@ use Rattle.xdg_rules.proofs.Sizes.{row_within}
 use Rattle.xdg_rules.proofs.ClosedLive.{none_fails}
 use Rattle.xdg_rules.proofs.DecidingBoxes.{decided_remaining, decided_some, decided_decided, decided_lists}
 use Rattle.xdg_rules.proofs.DecidingRules.{decided_by}
-
--- a decision of which something remains has a row
-decision_within : (box : List (List Bool)) (d v : ℕ) → Has box d v → d < length box
-decision_within [] d v has = absurd (false≢true has)
-decision_within (row ∷ box) zero v has = omega arith
-decision_within (row ∷ box) (suc d) v has = (let l = decision_within box d v has in omega (arith, l))
+use Rattle.xdg_problem.proofs.BoxPlaces.{has_decision}
 
 -- of all values that remain
 pub decided_everywhere : (box : List (List Bool)) (P : ℕ → ℕ → Type 0) → ((d v : ℕ) → Decided (P d v)) → Decided ((d v : ℕ) → Has box d v → P d v)
 decided_everywhere box P each = decided_like ((d : ℕ) → d < length box → (v : ℕ) → Has box d v → P d v) ((d v : ℕ) → Has box d v → P d v)
-    (λ all d v has. all d (decision_within box d v has) v has)
+    (λ all d v has. all d (has_decision box d v has) v has)
     (λ all d l v has. all d v has)
     (decided_below (λ d. (v : ℕ) → Has box d v → P d v) (length box) (λ d. decided_remaining box d (P d) (each d)))
 

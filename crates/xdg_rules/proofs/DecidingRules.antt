@@ -24,7 +24,8 @@ use Rattle.xdg_problem.specs.Boxes.{Has, IsOnly, entry_decision, edge_decision}
 use Rattle.xdg_rules.specs.Rules.{may_edges, must_edges, IsPlaceOn, SaysPresent, SaysAbsent, EachEntry, HasNoneWithin, IsGreatest, IsLeast, ValencyEntry, ValencyFull, ValencyNeeded, OneMother, RootFound, OnlyMother, NoCycle, OneLabel, attr_of_node, AgrValues, AsksAgreement, AgreementValues, Governs, GovernmentValues, ComesBefore, DaughterOrder, HeadOffends, AboutHead, OfHead, ProjectivityReach, ClimbingReach, BarriersReach, LinkingReach, LinkingNotDaughter, TakesForRoot, TakesBy}
 use Rattle.xdg_rules.specs.Bounds.{edge_cost, least_cost, BoundPlace}
 use Rattle.xdg_rules.proofs.Apart.{decided_makes}
-use Rattle.xdg_rules.proofs.DecidingBoxes.{decided_some_below, decided_has, decided_remaining, decided_some, decided_only, decided_each_entry, decided_lists, decided_edges, decided_among, decided_none_within, decided_greatest, decided_least, decided_comes}
+use Rattle.xdg_rules.proofs.DecidingBoxes.{decided_has, decided_remaining, decided_some, decided_only, decided_each_entry, decided_lists, decided_edges, decided_among, decided_none_within, decided_greatest, decided_least, decided_comes}
+use Rattle.xdg_problem.proofs.DecidingTruths.{decided_some as decided_some_below}
 
 -- some element of a list
 decided_in : {X : Type 0} (xs : List X) (P : X → Type 0) → ((x : X) → Decided (P x)) → Decided ((x : X) × Contains xs x × P x)

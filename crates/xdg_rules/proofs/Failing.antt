@@ -12,10 +12,9 @@ use Rattle.xdg_problem.specs.Problems.{IsProblem, IsGroup}
 use Rattle.xdg_problem.specs.Tests.{Test, IsTest, looks_at, entry_node, test_attrs}
 use Rattle.xdg_problem.specs.Vectors.{attr_sizes, shape}
 use Rattle.xdg_problem.proofs.AttrPlaces.{AreWithin, each_within}
-use Rattle.xdg_problem.proofs.EachTest.{each_tested}
+use Rattle.xdg_problem.proofs.EachTest.{each_tested, IsNode, each_node}
 use Rattle.xdg_problem.proofs.FilterFacts.{filter_alike}
 use Rattle.xdg_problem.proofs.Shortening.{passes_like}
-use Rattle.xdg_problem.proofs.WholeTests.{IsNode, each_node}
 use Rattle.xdg_problem.specs.Boxes.{Has, IsBox, LiesIn, edge_decision, entry_decision}
 use Rattle.xdg_rules.specs.Rules.{has, IsDecided, first_true, value_in, EntryDecided, entry_value, FailsTest}
 use Rattle.xdg_rules.proofs.Sizes.{edge_within, node_within, attr_place_within}

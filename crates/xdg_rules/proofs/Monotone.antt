@@ -7,7 +7,7 @@ use Rattle.xdg_problem.specs.declared.parts.Principle.TheVariants as principles
 use Rattle.xdg_problem.specs.Arguments.{first_dim, attr_of}
 use Rattle.xdg_problem.specs.Claims.{claim}
 use Rattle.xdg_problem.specs.Places.{nodes}
-use Rattle.xdg_problem.specs.Problems.{IsProblem, IsGroup, attr_arguments}
+use Rattle.xdg_problem.specs.Problems.{IsProblem, IsGroup}
 use Rattle.xdg_problem.specs.Truths.{unbound}
 use Rattle.xdg_problem.specs.Vectors.{shape}
 use Rattle.xdg_problem.proofs.AttrPlaces.{attr_within, attr_dim_within}
@@ -20,6 +20,7 @@ use Rattle.xdg_rules.proofs.Rooted.{root_found, only_mother}
 use Rattle.xdg_rules.proofs.Failing.{fails_test}
 use Rattle.xdg_rules.proofs.Narrowing.{narrower}
 use Rattle.xdg_rules.proofs.Costing.{cost_more, bound_kept}
+use Rattle.xdg_problem.specs.Principles.{attr_arguments}
 
 -- an attribute that a principle takes has a decision for each node
 pub attr_decided : (parts : Parts) (group : Group) → IsGroup parts group → (argument : ℕ) → argument < attr_arguments group.principle → (node : ℕ) → node < nodes parts → attr_of_node parts group argument node < length (shape parts)

@@ -14,9 +14,8 @@ use Rattle.xdg_rules.proofs.DecidingBoxes.{decided_among}
 use Rattle.xdg_rules.proofs.Shrinking.{may_is, must_of}
 use Rattle.xdg_rules.proofs.Sizes.{node_within}
 use Rattle.xdg_problem.specs.Claims.{Claim, negation, conjunction, disjunction, every, some, joined, above, left, same, valued, fitting, Claims, none, claim_then, IsOf, EachIsOf}
-use Rattle.xdg_problem.specs.Truths.{bound, says, HasTruth}
+use Rattle.xdg_problem.specs.Truths.{bound, says, HasTruth, AreNodes}
 use Rattle.xdg_rules.specs.Worths.{EachValue, Makes, MakesEach, MakesSome}
-use Rattle.xdg_rules.specs.WorthLaws.{AreNodes}
 use Rattle.xdg_rules.proofs.Bound.{bound_nodes}
 use Rattle.xdg_rules.proofs.NodeValues.{attr_decided}
 

@@ -1,5 +1,5 @@
 -- The box of a vector's values: it is a box that agrees with the vector, and it lies in each box in which the vector lies.
-use Rattle.std.proofs.Common.{◌≡◌, ℕ, ◌+◌, ◌<◌, ◌↔◌, zero, suc, Bool, true, false, List, [], ◌∷◌, length, map, refl, sym, ap₂, ◌∙◌, arith, subst, ◌≤◌}
+use Rattle.std.proofs.Common.{◌≡◌, ℕ, ◌+◌, ◌<◌, ◌↔◌, zero, suc, Bool, true, false, List, [], ◌∷◌, length, map, refl, sym, ap₂, ◌∙◌, arith, subst}
 use Rattle.std.specs.Prelude.{slice_index, slice_index_or, ◌==◌}
 use Rattle.std.proofs.lemmas.Bool.{eq-eqb, eqb-true, false≢true}
 use Rattle.std.proofs.lemmas.List.{length-map, get_or-replicate}
@@ -11,6 +11,7 @@ use Rattle.xdg_rules.specs.Boxed.{one_value, only, first_numbers}
 use Rattle.xdg_rules.specs.Rules.{first_true}
 use Rattle.xdg_rules.proofs.Failing.{first_only}
 use Rattle.xdg_rules.proofs.Sizes.{row_within, within_sizes}
+use Rattle.xdg_facts.proofs.Fitting.{fits_length}
 
 -- the flag at k is that of the number k behind the first
 pub flag_from : (test : ℕ → Bool) (first count k : ℕ) → slice_index_or (map test (numbers_from first count)) k false ≡ true → test (first + k) ≡ true
@@ -99,11 +100,6 @@ lying_agrees (size ∷ sizes) (x ∷ p) (row ∷ box) fits filled lies =
       λ v. (value v, λ e. subst (λ k. slice_index_or row k false ≡ true) (value some.0 some.1 ∙ sym e) some.1),
       lying_agrees sizes p box fits.1 (λ d l. filled (suc d) (omega (arith, l))) (λ d v has. lies (suc d) v has),
     )
-
-fits_length : (sizes p : List ℕ) → Fits sizes p → length p ≤ length sizes
-fits_length sizes [] fits = omega arith
-fits_length [] (x ∷ p) fits = absurd fits
-fits_length (size ∷ sizes) (x ∷ p) fits = (let l = fits_length sizes p fits.1 in omega (arith, l))
 
 pub lies_agrees : (sizes p : List ℕ) (box : List (List Bool)) → Fits sizes p → IsBox sizes box → LiesIn box (only sizes p) → Agrees box p
 lies_agrees sizes p box fits is lies = lying_agrees sizes p box fits (λ d l. is.filled d (let short = fits_length sizes p fits in omega (arith, l, short))) lies

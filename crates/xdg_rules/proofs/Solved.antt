@@ -9,9 +9,8 @@ use Rattle.xdg_problem.specs.declared.parts.Parts.{Parts}
 use Rattle.xdg_problem.specs.declared.parts.Principle.{Principle}
 use Rattle.xdg_problem.specs.declared.parts.Principle.TheVariants as principles
 use Rattle.xdg_problem.specs.Arguments.{truth_of}
-use Rattle.xdg_problem.specs.Conditions.{conditions_for}
 use Rattle.xdg_problem.specs.Asking.{AsksWhole}
-use Rattle.xdg_problem.specs.Problems.{IsProblem, IsGroup, IsSuited, attr_arguments}
+use Rattle.xdg_problem.specs.Problems.{IsProblem, IsGroup, IsSuited}
 use Rattle.xdg_problem.specs.Relations.{Relation}
 use Rattle.xdg_problem.specs.Vectors.{shape, entry_places, entries_at, edges_in, analysis_of}
 use Rattle.xdg_problem.proofs.Tuples.{one_kept, two_kept, three_kept, chosen_kept}
@@ -25,6 +24,7 @@ use Rattle.xdg_rules.proofs.Whole.{whole_fits}
 use Rattle.xdg_rules.proofs.SoundTree.{Kept, one_mother, for_root, no_cycle, one_label, valency_entry, valency_full, valency_needed}
 use Rattle.xdg_rules.proofs.SoundValues.{agr_values, agreement_values, government_values, daughter_order, about_head, of_head}
 use Rattle.xdg_rules.proofs.SoundPaths.{projectivity_reach, climbing_reach, barriers_reach, linking_reach, linking_not_daughter}
+use Rattle.xdg_problem.specs.Principles.{attr_arguments, conditions_for}
 
 module _ (parts : Parts) (group : Group) (group_is : IsGroup parts group) (box : List (List Bool)) (x : List ℕ) (problem : IsProblem parts) (is : IsBox (shape parts) box) (whole : length x ≡ length (shape parts)) (agrees : Agrees box x) where
   abbrev Holds : Condition → Type 0

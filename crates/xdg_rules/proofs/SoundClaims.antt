@@ -15,9 +15,8 @@ use Rattle.xdg_problem.proofs.DecidingPaths.{contained}
 use Rattle.xdg_problem.proofs.Looking.{any_of}
 use Rattle.xdg_rules.proofs.Whole.{may_on, must_on, entry_has}
 use Rattle.xdg_problem.specs.Claims.{Claim, negation, conjunction, disjunction, every, some, joined, above, left, same, valued, fitting, Claims, none, claim_then, IsOf, EachIsOf}
-use Rattle.xdg_problem.specs.Truths.{bound, IsTrueIn, EachTrueOf, SomeTrueOf, HasTruth}
+use Rattle.xdg_problem.specs.Truths.{bound, IsTrueIn, EachTrueOf, SomeTrueOf, HasTruth, AreNodes}
 use Rattle.xdg_rules.specs.Worths.{Makes, MakesEach, MakesSome}
-use Rattle.xdg_rules.specs.WorthLaws.{AreNodes}
 use Rattle.xdg_rules.proofs.Bound.{bound_nodes}
 use Rattle.xdg_rules.proofs.NodeValues.{attr_remains}
 

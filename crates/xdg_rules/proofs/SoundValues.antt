@@ -12,7 +12,7 @@ use Rattle.xdg_problem.specs.Asking.{IsInItem}
 use Rattle.xdg_problem.specs.Features.{set_row, map_row}
 use Rattle.xdg_problem.specs.Paths.{edges_on, IsDaughterBy}
 use Rattle.xdg_problem.specs.Places.{nodes, places}
-use Rattle.xdg_problem.specs.Problems.{IsProblem, IsGroup, attr_arguments}
+use Rattle.xdg_problem.specs.Problems.{IsProblem, IsGroup}
 use Rattle.xdg_problem.specs.Vectors.{shape, entry_places, entries_at, edges_in, analysis_of}
 use Rattle.xdg_problem.proofs.Looking.{any_of}
 use Rattle.xdg_problem.proofs.Ordered.{Ordered, ordered_from_pairs, each_contained}
@@ -23,6 +23,7 @@ use Rattle.xdg_rules.proofs.Whole.{must_on, present, entry_is, entry_has, attr_i
 use Rattle.xdg_rules.proofs.SoundTree.{Kept}
 use Rattle.xdg_rules.proofs.Shrinking.{must_is}
 use Rattle.xdg_rules.proofs.Counting.{label_on}
+use Rattle.xdg_problem.specs.Principles.{attr_arguments}
 
 -- what holds of each label and each later one holds of two that come so in the order
 ordered_before : (R : ℕ → ℕ → Type 0) (order : List ℕ) (l m : ℕ) → Ordered R order → ComesBefore order l m → R l m

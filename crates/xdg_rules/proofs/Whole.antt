@@ -11,7 +11,7 @@ use Rattle.xdg_problem.specs.declared.parts.Parts.{Parts}
 use Rattle.xdg_problem.specs.Arguments.{first_dim, attr_of, attr_place}
 use Rattle.xdg_problem.specs.Paths.{edges_on}
 use Rattle.xdg_problem.specs.Places.{nodes, places}
-use Rattle.xdg_problem.specs.Problems.{IsProblem, IsGroup, attr_arguments}
+use Rattle.xdg_problem.specs.Problems.{IsProblem, IsGroup}
 use Rattle.xdg_problem.specs.Vectors.{attr_sizes, shape, entry_places, entries_at, edges_in}
 use Rattle.xdg_problem.proofs.AttrPlaces.{attr_within, attr_dim_within}
 use Rattle.xdg_problem.proofs.FilterFacts.{filter_both, filter_alike}
@@ -21,6 +21,7 @@ use Rattle.xdg_rules.specs.Rules.{has, may_edges, must_edges, SaysPresent, SaysA
 use Rattle.xdg_rules.proofs.Sizes.{edge_within, node_within, attr_place_within}
 use Rattle.xdg_rules.proofs.Agreeing.{agrees_fits, says_present, edges_present, at, present_at}
 use Rattle.xdg_rules.proofs.Shrinking.{may_be, must_be, may_of, may_is}
+use Rattle.xdg_problem.specs.Principles.{attr_arguments}
 
 pub whole_fits : (parts : Parts) (box : List (List Bool)) (x : List ℕ) → IsBox (shape parts) box → Agrees box x → Fits (shape parts) x
 whole_fits parts box x is agrees = subst (λ sizes. Fits sizes x) is.sizes (agrees_fits box x agrees)

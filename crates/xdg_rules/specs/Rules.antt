@@ -300,7 +300,8 @@ pub record LinkingReach (parts : Parts) (group : Group) (box : List (List Bool))
   pub says : SaysPresent parts place d v
   pub links : EachEntry box place.mother.0 (λ c. 0 < length (map_row group place.mother.0 c place.label.0))
   pub apart : EachEntry box place.mother.0
-      (λ c. IsLinked group.principle (may_edges parts box (second_dim group)) place.mother.0 (map_row group place.mother.0 c place.label.0) place.daughter.0 → ⊥)
+      (λ c. IsLinked group.principle (may_edges parts box (second_dim group)) place.mother.0 (map_row group place.mother.0 c place.label.0) place.daughter.0
+      → ⊥)
 
 -- two edges from one node to another, of the first dimension and of the second, that each remaining entry keeps apart: either
 -- one where the other must be

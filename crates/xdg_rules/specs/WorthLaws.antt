@@ -1,10 +1,9 @@
 -- What values of claims in boxes keep.
-use Rattle.std.specs.Prelude.{◌≡◌, ℕ, ◌<◌, Bool, List, Option, Some, None, Contains}
+use Rattle.std.specs.Prelude.{◌≡◌, ℕ, Bool, List, Option, Some, None, Contains}
 use Rattle.xdg_problem.specs.declared.analysis.Analysis.{Analysis}
 use Rattle.xdg_problem.specs.declared.parts.Parts.{Parts}
 use Rattle.xdg_problem.specs.Analyses.{IsAnalysis}
 use Rattle.xdg_problem.specs.Boxes.{IsBox, LiesIn, IsSingle, IsIn}
-use Rattle.xdg_problem.specs.Places.{nodes}
 use Rattle.xdg_problem.specs.Vectors.{shape, vector, analysis_of}
 use Rattle.xdg_rules.specs.Boxed.{first_numbers}
 use Rattle.xdg_problem.specs.Claims.{Claim}
@@ -45,7 +44,3 @@ Agree scope a b = (name : ℕ) → Contains scope name → a name ≡ b name
 pub record NameLaws (parts : Parts) (scope : List ℕ) (c : Claim) : Type 0 where
   pub truth : (analysis : Analysis) (a b : ℕ → ℕ) → Agree scope a b → IsTrueIn parts analysis c a → IsTrueIn parts analysis c b
   pub worth : (box : List (List Bool)) (value : Option Bool) (a b : ℕ → ℕ) → Agree scope a b → IsWorth parts box c a value → IsWorth parts box c b value
-
--- each name stands for a node of the sentence
-abbrev pub AreNodes : Parts → (ℕ → ℕ) → Type 0
-AreNodes parts b = (name : ℕ) → b name < nodes parts

@@ -5,7 +5,8 @@ ghost use Rattle.xdg_problem.specs.declared.parts.Parts.{Parts};
 ghost use Rattle.xdg_problem.specs.Claims.{Claim, IsBound, IsOf};
 ghost use Rattle.xdg_problem.specs.Problems.{IsProblem};
 ghost use Rattle.xdg_rules.specs.Laws.{BoxedLaws, EachRuleLaws};
-ghost use Rattle.xdg_rules.specs.WorthLaws.{AreNodes, NameLaws, WorthLaws};
+ghost use Rattle.xdg_rules.specs.WorthLaws.{NameLaws, WorthLaws};
+ghost use Rattle.xdg_problem.specs.Truths.{AreNodes};
 
 /// A law, and nothing to run: what the rules of a principle take from a box remains in no box inside that is closed for the
 /// principle, so no rule takes a value of an analysis that satisfies it; and a box of single values is closed exactly where

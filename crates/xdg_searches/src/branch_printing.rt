@@ -50,7 +50,7 @@ pub fn print_branches<R: Threads + Sync, K: Sink>(
 }
 
 /// Prints analyses of a sentence, numbered from 1, and the last line behind them.
-#[tactic(auto, using(xdg_text::proofs::Pieces::appends_both, xdg_text::proofs::Pieces::rose_later))]
+#[tactic(auto, using(xdg_io::proofs::Written::appends_both, xdg_text::proofs::Pieces::rose_later))]
 fn print_found<K: Sink>(
     form: Form,
     problem: &Problem,
@@ -71,7 +71,7 @@ fn print_found<K: Sink>(
 }
 
 /// Writes analyses of a sentence, numbered from 1.
-#[tactic(auto, using(xdg_text::proofs::Pieces::start, xdg_text::proofs::Pieces::done, xdg_text::proofs::Pieces::rose_later))]
+#[tactic(auto, using(xdg_text::proofs::Pieces::start, xdg_io::proofs::Written::written_all, xdg_text::proofs::Pieces::rose_later))]
 fn write_blocks<K: Sink>(
     form: Form,
     problem: &Problem,

@@ -17,13 +17,9 @@ use Rattle.xdg_problem.specs.Vectors.{attr_sizes, shape}
 use Rattle.xdg_problem.proofs.Ordered.{each_append, each_flat_map, each_map, each_of_all, each_weaker}
 use Rattle.xdg_store.specs.States.{values_in, remaining}
 use Rattle.xdg_store.proofs.Counting.{Filled}
+use Rattle.xdg_problem.proofs.BoxPlaces.{has_decision}
 
 -- ---- what has a value
-
-pub has_decision : (box : List (List Bool)) (d v : ℕ) → Has box d v → d < length box
-has_decision [] d v h = cc
-has_decision (row ∷ box) zero v h = omega arith
-has_decision (row ∷ box) (suc d) v h = let e = has_decision box d v h in omega (arith, e)
 
 pub has_place : (row : List Bool) (v : ℕ) → get_or row v false ≡ true → v < length row
 has_place [] v h = cc

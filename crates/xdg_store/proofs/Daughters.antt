@@ -3,7 +3,6 @@ use Rattle.std.proofs.Common.{◌≡◌, ◌≢◌, ℕ, ◌<◌, ◌+◌, ◌�
 use Rattle.std.specs.Prelude.{◌&&◌, ◌==◌, nat_lt}
 use Rattle.std.proofs.lemmas.Bool.{and_parts, and_from, eqb-false, lt-ltb, ltb-true, ne_eqb, not-true}
 use Rattle.std.proofs.lemmas.List.{get_or_default}
-use Rattle.xdg_nodeset.specs.Nodes.{has}
 use Rattle.xdg_problem.specs.declared.parts.Parts.{Parts}
 use Rattle.xdg_problem.specs.Analyses.{IsPlace}
 use Rattle.xdg_problem.specs.Arguments.{no_plan}
@@ -13,9 +12,10 @@ use Rattle.xdg_problem.specs.Problems.{IsProblem}
 use Rattle.xdg_store.specs.InRange.{HasEdges}
 use Rattle.xdg_store.specs.Layout.{bits_of, box_in, edge_row, is_set}
 use Rattle.xdg_store.proofs.Pairs.{IsPair, edge_is_pair, may_has, must_has}
+use Rattle.xdg_facts.specs.Rises.{has}
 
 -- an edge from the node to another is a place
-out_is_place : (parts : Parts) (dim mother label daughter : ℕ) → HasEdges parts dim mother label → daughter < nodes parts → mother ≢ daughter → IsPlace parts (edge dim mother label daughter)
+pub out_is_place : (parts : Parts) (dim mother label daughter : ℕ) → HasEdges parts dim mother label → daughter < nodes parts → mother ≢ daughter → IsPlace parts (edge dim mother label daughter)
 out_is_place parts dim mother label daughter h l n = record {
   plan = get_or parts.dims dim no_plan;
   dim = h.dim_in;

@@ -4,7 +4,6 @@ use Rattle.std.specs.Prelude.{◌&&◌, ◌==◌, nat_lt, All, sum}
 use Rattle.std.proofs.lemmas.Bool.{and_from, and_parts, cases_eq, lt-ltb, ltb-true}
 use Rattle.std.proofs.lemmas.Nat.{row_fits}
 use Rattle.std.proofs.lemmas.List.{get_or_default, get_or-drop, get_or-replicate, get_or-set_other, length-drop, length-replicate}
-use Rattle.xdg_nodeset.specs.Nodes.{has}
 use Rattle.xdg_problem.specs.declared.analysis.Edge.{Edge}
 use Rattle.xdg_problem.specs.declared.parts.Parts.{Parts}
 use Rattle.xdg_problem.specs.Analyses.{IsPlace}
@@ -35,6 +34,7 @@ use Rattle.xdg_store.proofs.Located.{edge_located, place_found}
 use Rattle.xdg_store.proofs.Pairs.{IsPair, edge_is_pair, may_has, may_read, must_has, must_read}
 use Rattle.xdg_store.proofs.Removals.{bit_in_range}
 use Rattle.xdg_store.proofs.Starting.{ones_set}
+use Rattle.xdg_facts.specs.Rises.{has}
 
 -- ---- decisions that are apart
 

@@ -7,7 +7,8 @@ use Rattle.xdg_store.specs.Change.{Removes}
 use Rattle.xdg_store.specs.States.{State}
 use Rattle.xdg_store.specs.declared.change.Change.{Change}
 use Rattle.xdg_store.specs.declared.change.Change.TheVariants as changes
-use Rattle.xdg_store.proofs.Boxed.{has_decision, has_place, kept_beside, kept_elsewhere}
+use Rattle.xdg_store.proofs.Boxed.{has_place, kept_beside, kept_elsewhere}
+use Rattle.xdg_problem.proofs.BoxPlaces.{has_decision}
 
 -- ---- a box without a value
 

@@ -17,7 +17,7 @@ use Rattle.xdg_store.specs.declared.decision.Decision.TheVariants as decisions
 -- ---- edges that stand at one place
 
 -- of two places in a table of rows that are the same the rows are the same
-same_row : (m a n b w : ℕ) → a < w → b < w → m * w + a ≡ n * w + b → m ≡ n
+pub same_row : (m a n b w : ℕ) → a < w → b < w → m * w + a ≡ n * w + b → m ≡ n
 same_row m a n b w l k e = elim (cases_eq m n) [
   | inl q ↦ q
   | inr f ↦ elim (cases_lt m n) [

@@ -21,10 +21,10 @@ use Rattle.xdg_store.proofs.Boxed.{IsSize, sizes_fit}
 
 -- ---- attributes
 
-abbrev sizes_on : ℕ → DimPlan → List ℕ
+abbrev pub sizes_on : ℕ → DimPlan → List ℕ
 sizes_on n plan = flat_map (λ node. map (λ (attr : AttrPlan). length attr.values) plan.attrs) (below n)
 
-attrs_more : (n : ℕ) (dims : List DimPlan) (i : ℕ) (plan : DimPlan) → i < length dims → plan ≡ get_or dims i plan → length (attr_sizes n (take (i + 1) dims)) ≡ length (attr_sizes n (take i dims)) + n * length plan.attrs
+pub attrs_more : (n : ℕ) (dims : List DimPlan) (i : ℕ) (plan : DimPlan) → i < length dims → plan ≡ get_or dims i plan → length (attr_sizes n (take (i + 1) dims)) ≡ length (attr_sizes n (take i dims)) + n * length plan.attrs
 attrs_more n [] i plan l e = absurd (omega (arith, l))
 attrs_more n (first ∷ dims) zero plan l e =
     let a = length-append (sizes_on n first) (attr_sizes n []) in

@@ -20,7 +20,7 @@ abbrev first_byte : Shown → ℕ
 first_byte (shown.One text) = get_or text 0 0
 first_byte (shown.Many texts) = 0
 
-differ_values : (shown.One (codes "x")) ≢ (shown.One (codes "y"))
+pub differ_values : (shown.One (codes "x")) ≢ (shown.One (codes "y"))
 differ_values same = let h : true ≡ false = ap (λ v. nat_eq (first_byte v) 120) same in cc
 
 is_colour : IsAttr colour

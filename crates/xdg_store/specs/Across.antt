@@ -1,6 +1,5 @@
 -- Edges by their daughters.
 use Rattle.std.specs.Prelude.{◌≡◌, ◌≢◌, ◌⊎◌, ℕ, ◌<◌, ◌≤◌, ◌+◌, ◌*◌, Bool, not, List, [], length, slice_index_or, Contains}
-use Rattle.xdg_nodeset.specs.Nodes.{has}
 use Rattle.xdg_problem.specs.declared.analysis.Edge.{Edge}
 use Rattle.xdg_problem.specs.declared.parts.Parts.{Parts}
 use Rattle.xdg_problem.specs.Analyses.{IsPlace}
@@ -9,6 +8,7 @@ use Rattle.xdg_store.specs.Layout.{edge_bit, is_set}
 use Rattle.xdg_store.specs.declared.across.Mothers.{Mothers}
 use Rattle.xdg_store.specs.declared.decision.Decision.{Decision}
 use Rattle.xdg_store.specs.declared.decision.Decision.TheVariants as decisions
+use Rattle.xdg_facts.specs.Rises.{has}
 
 -- where the mothers of a daughter by a label stand, in a sentence of n nodes
 abbrev pub mothers_at : ℕ → ℕ → ℕ → ℕ → ℕ

@@ -1,7 +1,7 @@
 //! Edges by their daughters.
 
 ghost use Rattle.std.specs.Prelude.{◌≡◌, ◌≢◌, ℕ, ◌<◌, ◌≤◌, All, length};
-ghost use Rattle.xdg_nodeset.specs.Nodes.{has};
+ghost use Rattle.xdg_facts.specs.Rises.{has};
 ghost use Rattle.xdg_store.specs.Across.{Fits, FitsIn, Renews, RenewsAll, RenewsOf, mothers_at};
 
 use crate::decision::Decision;

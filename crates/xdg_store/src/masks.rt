@@ -1,7 +1,7 @@
 //! Rows of bits as sets of nodes.
 
 ghost use Rattle.std.specs.Prelude.{◌≡◌, ℕ, ◌<◌, ◌≤◌, ◌+◌, ◌*◌, ◌%◌, length, nat_lt};
-ghost use Rattle.xdg_nodeset.specs.Nodes.{has};
+ghost use Rattle.xdg_facts.specs.Rises.{has};
 ghost use Rattle.xdg_store.specs.Layout.{is_set};
 
 use xdg_base::NodeId;

@@ -1,7 +1,7 @@
 //! The values that remain.
 
 ghost use Rattle.std.specs.Prelude.{◌≡◌, ◌≢◌, ℕ, ◌<◌, ◌+◌, ◌-◌, ◌^◌, ◌↔◌, [], ◌∷◌, IsTrue, IfOk, length, min, slice_index_or, take};
-ghost use Rattle.xdg_nodeset.specs.Nodes.{has};
+ghost use Rattle.xdg_facts.specs.Rises.{has};
 ghost use Rattle.xdg_problem.specs.Analyses.{IsPlace};
 ghost use Rattle.xdg_problem.specs.Boxes.{Has, IsSingle, May, Must, full, entry_decision, attr_decision, edge_decision};
 ghost use Rattle.xdg_problem.specs.Places.{edge, nodes};
@@ -48,7 +48,7 @@ pub struct Store<'a> {
 impl<'a> Model for Store<'a> {
     ghost use Rattle.std.specs.Prelude.{◌≡◌, ℕ, nat_lt};
     ghost use Rattle.std.specs.Vec.{vec_capacity};
-    ghost use Rattle.xdg_nodeset.specs.Nodes.{has};
+    ghost use Rattle.xdg_facts.specs.Rises.{has};
     ghost use Rattle.xdg_problem.specs.Places.{nodes};
     ghost use Rattle.xdg_trail.specs.Trailed.{past};
     ghost use Rattle.xdg_store.specs.Across.{AreKept};
@@ -215,6 +215,8 @@ impl<'a> Store<'a> {
     }
 
     /// Whether each decision has one value. It compares two numbers.
+    ///
+    /// The search knows it from its numbers: it is for those who keep a store of their own.
     pub fn is_single(&self) -> bool
         ensures exact { IsTrue result ↔ IsSingle self.now.now }
         ensures known { Known self.now }

@@ -3,7 +3,6 @@ use Rattle.std.proofs.Common.{◌≡◌, ℕ, zero, suc, ◌<◌, ◌≤◌, ◌
 use Rattle.std.specs.Prelude.{IsTrue}
 use Rattle.std.proofs.lemmas.Bool.{cases_eq, false≢true}
 use Rattle.std.proofs.lemmas.List.{length-replicate}
-use Rattle.xdg_nodeset.specs.Nodes.{has}
 use Rattle.xdg_problem.specs.declared.analysis.Edge.{Edge}
 use Rattle.xdg_problem.specs.declared.parts.Parts.{Parts}
 use Rattle.xdg_problem.specs.Analyses.{Before}
@@ -16,6 +15,7 @@ use Rattle.xdg_stream.specs.declared.row.Row.{Row}
 use Rattle.xdg_stream.proofs.Finding.{adds_both}
 use Rattle.xdg_stream.proofs.Named.{place_decision, place_there}
 use Rattle.xdg_stream.proofs.Reading.{says_alone}
+use Rattle.xdg_facts.specs.Rises.{has}
 
 -- ---- what stands between two edges of a row is in it
 

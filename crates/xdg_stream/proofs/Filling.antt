@@ -8,6 +8,7 @@ use Rattle.xdg_problem.specs.declared.analysis.Edge.{Edge}
 use Rattle.xdg_problem.specs.declared.parts.Parts.{Parts}
 use Rattle.xdg_problem.specs.Places.{places}
 use Rattle.xdg_problem.specs.Vectors.{entries_at, chosen, edges_in, first_place}
+use Rattle.xdg_problem.proofs.Continued.{entries_same, chosen_whole}
 
 abbrev no_entry : EntryNo
 no_entry = record { 0 = 0 }
@@ -22,11 +23,6 @@ entries_push : (candidates : List (List EntryNo)) (p : List ℕ) (x : ℕ) (d : 
 entries_push [] p x d l = absurd (omega (arith, l))
 entries_push (c ∷ candidates) [] x d l = entries_one c candidates x
 entries_push (c ∷ candidates) (a ∷ p) x d l = ap (λ xs. slice_index_or c a no_entry ∷ xs) (entries_push candidates p x d (omega (arith, l)))
-
-entries_full : (candidates : List (List EntryNo)) (p t : List ℕ) → length candidates ≤ length p → entries_at candidates (p ++ t) ≡ entries_at candidates p
-entries_full [] p t l = refl
-entries_full (c ∷ candidates) [] t l = absurd (omega (arith, l))
-entries_full (c ∷ candidates) (a ∷ p) t l = ap (λ xs. slice_index_or c a no_entry ∷ xs) (entries_full candidates p t (omega (arith, l)))
 
 entries_few : (candidates : List (List EntryNo)) (p : List ℕ) → length (entries_at candidates p) ≤ length p
 entries_few [] p = omega arith
@@ -52,7 +48,7 @@ module _ (candidates : List (List EntryNo)) (numbers : List ℕ) (i : ℕ) (l : 
   pub entries_rest : (items : List EntryNo) → items ≡ entries_at candidates (take i numbers) → length candidates ≤ i → items ≡ entries_at candidates numbers
   entries_rest items so_far past =
       let t = taken in
-      so_far ∙ sym (entries_full candidates (take i numbers) (drop i numbers) (omega (arith, t, past))) ∙ ap (entries_at candidates) (take-append-drop i numbers)
+      so_far ∙ sym (entries_same candidates (take i numbers) (drop i numbers) (omega (arith, t, past))) ∙ ap (entries_at candidates) (take-append-drop i numbers)
 
   pub entries_room : (items : List EntryNo) (room : ℕ) → items ≡ entries_at candidates (take i numbers) → i < length candidates → length candidates ≤ room → length items < room
   entries_room items room so_far within held = (let t = taken in let e = ap length so_far in let f = entries_few candidates (take i numbers) in omega (arith, t, e, f, within, held))
@@ -78,11 +74,6 @@ chosen_push : (edges : List Edge) (numbers : List ℕ) (x : ℕ) (d : Edge) → 
 chosen_push [] numbers x d l = absurd (omega (arith, l))
 chosen_push (e ∷ edges) [] x d l = ap (λ rest. cond (x == 0) (e ∷ rest) rest) (chosen_none edges)
 chosen_push (e ∷ edges) (number ∷ numbers) x d l = chosen_put (number == 0) e (chosen edges (numbers ++ x ∷ [])) (chosen edges numbers) (cond (x == 0) (get_or edges (length numbers) d ∷ []) []) (chosen_push edges numbers x d (omega (arith, l)))
-
-chosen_full : (edges : List Edge) (numbers t : List ℕ) → length edges ≤ length numbers → chosen edges (numbers ++ t) ≡ chosen edges numbers
-chosen_full [] numbers t l = refl
-chosen_full (e ∷ edges) [] t l = absurd (omega (arith, l))
-chosen_full (e ∷ edges) (number ∷ numbers) t l = ap (λ z. cond (number == 0) (e ∷ z) z) (chosen_full edges numbers t (omega (arith, l)))
 
 few_more : (b : Bool) (e : Edge) (xs : List Edge) (n : ℕ) → length xs ≤ n → length (cond b (e ∷ xs) xs) ≤ suc n
 few_more true e xs n l = omega (arith, l)
@@ -113,7 +104,7 @@ module _ (edges : List Edge) (numbers : List ℕ) (i : ℕ) (l : i < length numb
   pub chosen_rest : (items : List Edge) → items ≡ chosen edges (take i numbers) → length edges ≤ i → items ≡ chosen edges numbers
   chosen_rest items so_far past =
       let t = counted in
-      so_far ∙ sym (chosen_full edges (take i numbers) (drop i numbers) (omega (arith, t, past))) ∙ ap (chosen edges) (take-append-drop i numbers)
+      so_far ∙ sym (chosen_whole edges (take i numbers) (drop i numbers) (omega (arith, t, past))) ∙ ap (chosen edges) (take-append-drop i numbers)
 
   pub chosen_room : (items : List Edge) (room : ℕ) → items ≡ chosen edges (take i numbers) → i < length edges → length edges ≤ room → length items < room
   chosen_room items room so_far within held = (let t = counted in let e = ap length so_far in let f = chosen_few edges (take i numbers) in omega (arith, t, e, f, within, held))

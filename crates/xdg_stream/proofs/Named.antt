@@ -1,23 +1,20 @@
 -- Decisions by their numbers.
-use Rattle.std.proofs.Common.{◌≡◌, ℕ, ◌<◌, ◌≤◌, ◌+◌, ◌-◌, ◌*◌, zero, suc, List, [], ◌∷◌, ◌++◌, length, get_or, take, map, refl, ap, ap₂, sym, ◌∙◌, arith, subst, length-append}
+use Rattle.std.proofs.Common.{◌≡◌, ℕ, ◌<◌, ◌≤◌, ◌+◌, ◌-◌, ◌*◌, zero, suc, List, [], ◌∷◌, length, get_or, take, refl, ap, ap₂, sym, ◌∙◌, arith, subst}
 use Rattle.std.specs.Prelude.{◌/◌, ◌%◌, slice_index}
 use Rattle.std.proofs.lemmas.List.{get_or-map, get_or_default, take_all}
 use Rattle.std.proofs.lemmas.Nat.{div-add-mod'}
 use Rattle.std.proofs.Math.Nat.{mod-lt, div-lt_iff_lt-mul}
-use Rattle.xdg_problem.proofs.Counted.{length_attrs_of}
-use Rattle.std.specs.List.{flat_map}
 use Rattle.xdg_problem.specs.declared.analysis.Edge.{Edge}
-use Rattle.xdg_problem.specs.declared.parts.AttrPlan.{AttrPlan}
 use Rattle.xdg_problem.specs.declared.parts.DimPlan.{DimPlan}
 use Rattle.xdg_problem.specs.declared.parts.Parts.{Parts}
 use Rattle.xdg_problem.specs.Analyses.{Before, IsPlace}
 use Rattle.xdg_problem.specs.Arguments.{no_plan, attr_count}
 use Rattle.xdg_problem.specs.Boxes.{attr_decision, edge_decision, place_in}
-use Rattle.xdg_problem.specs.Places.{nodes, numbers_from, below, places}
+use Rattle.xdg_problem.specs.Places.{nodes, numbers_from, places}
 use Rattle.xdg_problem.specs.Problems.{IsProblem}
 use Rattle.xdg_problem.specs.Vectors.{attr_sizes, shape, first_place}
 use Rattle.xdg_problem.proofs.Edges.{same_edge_itself, before_apart}
-use Rattle.xdg_problem.proofs.Ordered.{Ordered, each_at}
+use Rattle.xdg_problem.proofs.Ordered.{Ordered, each_at, numbers_length}
 use Rattle.xdg_problem.proofs.PlaceOrder.{is_place, place_is, places_ordered}
 use Rattle.xdg_problem.proofs.VectorFacts.{length_shape}
 use Rattle.xdg_store.specs.InRange.{HasValue}
@@ -26,19 +23,16 @@ use Rattle.xdg_store.proofs.Located.{Located, attr_located}
 use Rattle.xdg_store.proofs.Sizes.{bits_sizes}
 use Rattle.xdg_rules.proofs.Sizes.{edge_size}
 use Rattle.xdg_facts.proofs.Numbers.{some_after}
+use Rattle.xdg_store.proofs.Room.{attrs_more}
 
 -- ---- how many values
-
-row_length : (start count : ℕ) → length (numbers_from start count) ≡ count
-row_length start zero = refl
-row_length start (suc count) = ap suc (row_length (suc start) count)
 
 located_size : (parts : Parts) (d start count : ℕ) → Located parts d (numbers_from start count) → slice_index (shape parts) d ≡ count
 located_size parts d start count at =
     ap (λ z. get_or z d 0) (sym (bits_sizes parts))
     ∙ get_or-map length (bits_of parts) d [] 0 at.within
     ∙ ap length at.is
-    ∙ row_length start count
+    ∙ numbers_length start count
 
 pub has_value : (parts : Parts) (node dim attr value : ℕ) → IsProblem parts → (dim < length parts.dims) × (node < nodes parts) × (attr < attr_count parts dim) → value < slice_index (shape parts) (attr_decision parts dim node attr) → HasValue parts node dim attr value
 has_value parts node dim attr value is l v = record {
@@ -70,25 +64,6 @@ place_number parts edges d at first same is l m =
     omega (arith, place, is, l)
 
 -- ---- attributes
-
-abbrev sizes_on : ℕ → DimPlan → List ℕ
-sizes_on n plan = flat_map (λ node. map (λ (attr : AttrPlan). length attr.values) plan.attrs) (below n)
-
-attrs_more : (n : ℕ) (dims : List DimPlan) (i : ℕ) (plan : DimPlan) → i < length dims → plan ≡ get_or dims i plan → length (attr_sizes n (take (i + 1) dims)) ≡ length (attr_sizes n (take i dims)) + n * length plan.attrs
-attrs_more n [] i plan l e = absurd (omega (arith, l))
-attrs_more n (first ∷ dims) zero plan l e =
-    let a = length-append (sizes_on n first) (attr_sizes n []) in
-    let b = length_attrs_of n first in
-    let c : n * length plan.attrs ≡ n * length first.attrs = ap (λ (p : DimPlan). n * length p.attrs) e in
-    omega (arith, a, b, c)
-attrs_more n (first ∷ dims) (suc i) plan l e =
-    let r = attrs_more n dims i plan (omega (arith, l)) e in
-    let q : suc i + 1 ≡ suc (i + 1) = omega arith in
-    let s : take (suc i + 1) (first ∷ dims) ≡ first ∷ take (i + 1) dims = ap (λ k. take k (first ∷ dims)) q in
-    let t : length (attr_sizes n (take (suc i + 1) (first ∷ dims))) ≡ length (sizes_on n first ++ attr_sizes n (take (i + 1) dims)) = ap (λ z. length (attr_sizes n z)) s in
-    let a = length-append (sizes_on n first) (attr_sizes n (take (i + 1) dims)) in
-    let b = length-append (sizes_on n first) (attr_sizes n (take i dims)) in
-    omega (arith, r, t, a, b)
 
 same_count : (parts : Parts) (dims : List DimPlan) (plan : DimPlan) (dim width : ℕ) → dims ≡ parts.dims → dim < length dims → plan ≡ get_or dims dim plan → width ≡ length plan.attrs → attr_count parts dim ≡ width
 same_count parts dims plan dim width same l found w =

@@ -2,7 +2,6 @@
 use Rattle.std.proofs.Common.{◌≡◌, ◌≢◌, ℕ, ◌<◌, ◌↔◌, inl, inr, zero, suc, true, Bool, List, length, get_or, refl, ap, sym, ◌∙◌, arith, subst, Contains}
 use Rattle.std.specs.Prelude.{IsTrue}
 use Rattle.std.proofs.lemmas.List.{get_or_default}
-use Rattle.xdg_nodeset.specs.Nodes.{has}
 use Rattle.xdg_problem.specs.declared.analysis.Edge.{Edge}
 use Rattle.xdg_problem.specs.declared.parts.DimPlan.{DimPlan}
 use Rattle.xdg_problem.specs.declared.parts.Parts.{Parts}
@@ -18,6 +17,7 @@ use Rattle.xdg_store.specs.InRange.{HasEdges}
 use Rattle.xdg_stream.specs.Rows.{IsOf, Reads, Says}
 use Rattle.xdg_stream.specs.Runs.{IsAlone}
 use Rattle.xdg_stream.specs.declared.row.Row.{Row}
+use Rattle.xdg_facts.specs.Rises.{has}
 
 -- ---- a row is read
 

@@ -1,5 +1,5 @@
 -- Decisions in range.
-use Rattle.std.proofs.Common.{ℕ, ◌<◌, ◌≤◌, ◌^◌, List, [], ◌∷◌, ◌++◌, length, arith}
+use Rattle.std.proofs.Common.{ℕ, ◌<◌, ◌^◌, List, [], ◌∷◌, ◌++◌, length, arith}
 use Rattle.std.specs.Prelude.{slice_index}
 use Rattle.xdg_facts.specs.Fits.{Fits}
 use Rattle.xdg_problem.specs.declared.parts.Parts.{Parts}
@@ -17,9 +17,3 @@ fits_last [] [] v fits = absurd fits
 fits_last (s ∷ sizes) [] v fits = (omega arith, fits.0)
 fits_last [] (x ∷ p) v fits = absurd fits
 fits_last (s ∷ sizes) (x ∷ p) v fits = (let k = fits_last sizes p v fits.1 in ((let l = k.0 in omega (arith, l)), k.1))
-
--- what fits is no longer than the sizes
-pub fits_short : (sizes x : List ℕ) → Fits sizes x → length x ≤ length sizes
-fits_short sizes [] fits = omega arith
-fits_short [] (a ∷ x) fits = absurd fits
-fits_short (s ∷ sizes) (a ∷ x) fits = (let l = fits_short sizes x fits.1 in omega (arith, l))

@@ -11,13 +11,14 @@ use Rattle.xdg_problem.specs.declared.parts.Parts.{Parts}
 use Rattle.xdg_problem.specs.Analyses.{Before, IsAnalysis, IsPlace}
 use Rattle.xdg_problem.specs.Places.{places}
 use Rattle.xdg_problem.specs.Vectors.{place_among, entry_places, presence, shape, vector}
-use Rattle.xdg_problem.proofs.Edges.{same_edge_itself, before_irreflexive, before_transitive, before_apart}
+use Rattle.xdg_problem.proofs.Edges.{same_edge_itself, before_transitive, before_apart}
 use Rattle.xdg_problem.proofs.EntryPlaces.{length_entry_places}
 use Rattle.xdg_problem.proofs.Ordered.{Ordered, each_weaker, each_contained, contains_cases}
 use Rattle.xdg_problem.proofs.PlaceOrder.{places_ordered, place_is}
 use Rattle.xdg_problem.proofs.Presence.{rise_ordered, present_head, absent_before, presence_skip}
 use Rattle.xdg_problem.proofs.VectorFacts.{length_shape}
 use Rattle.xdg_stream.specs.Vectored.{marks}
+use Rattle.xdg_problem.proofs.Less.{narrow}
 
 -- ---- the numbers of entries
 
@@ -62,16 +63,6 @@ module _ (old : List ℕ) (candidates : List (List EntryNo)) (entries : List Ent
   places_room items room so_far within held = (let t = taken in let e = ap length so_far ∙ length-append old (entry_places candidates (take i entries)) in let f = places_few candidates (take i entries) in omega (arith, t, e, f, within, held))
 
 -- ---- the numbers of edge places
-
-narrow : (p : Edge) (more edges : List Edge) → AllByRecursion (Before p) edges → AllByRecursion (Contains (p ∷ more)) edges → AllByRecursion (Contains more) edges
-narrow p more [] b a = tt
-narrow p more (e ∷ edges) b a = (
-  elim (contains_cases p more e a.0) [
-    | inl s ↦ absurd (before_irreflexive e (subst (λ z. Before z e) s b.0))
-    | inr c ↦ c
-  ],
-  narrow p more edges b.1 a.1,
-)
 
 -- the marks of edges that stand at places are their presence there
 pub marks_presence : (edge_places edges : List Edge) → Ordered Before edge_places → Ordered Before edges → AllByRecursion (Contains edge_places) edges → marks edge_places edges ≡ map (presence edges) edge_places

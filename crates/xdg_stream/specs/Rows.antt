@@ -1,11 +1,11 @@
 -- The edges with a label out of a mother, as they are read at once.
 use Rattle.std.specs.Prelude.{◌≡◌, ◌↔◌, ◌⊎◌, ℕ, Bool, List, IsTrue}
-use Rattle.xdg_nodeset.specs.Nodes.{has}
 use Rattle.xdg_problem.specs.declared.analysis.Edge.{Edge}
 use Rattle.xdg_problem.specs.declared.parts.Parts.{Parts}
 use Rattle.xdg_problem.specs.Analyses.{IsPlace}
 use Rattle.xdg_problem.specs.Boxes.{May, Must}
 use Rattle.xdg_stream.specs.declared.row.Row.{Row}
+use Rattle.xdg_facts.specs.Rises.{has}
 
 -- the edge is in the row
 pub record IsOf (row : Row) (e : Edge) : Type 0 where

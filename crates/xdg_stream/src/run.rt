@@ -90,6 +90,8 @@ pub fn collect<F: Front + Drop>(
 
 /// `collect`, said of the list of the counted prefixes after the start and that of the solutions.
 ///
+/// Called by trials alone: a whole search as one value, for fronts of their own. Commands take solution after solution from a stream.
+///
 /// # Errors
 ///
 /// Fails where memory runs out.

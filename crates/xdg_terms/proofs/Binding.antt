@@ -9,14 +9,14 @@ use Rattle.xdg_ast.specs.declared.terms.TermKind.{TermKind, out-TermKind}
 use Rattle.xdg_ast.specs.declared.terms.ElemKind.{ElemKind}
 use Rattle.xdg_ast.specs.declared.terms.ElemKind.TheOpen.{TermKind-F}
 use Rattle.xdg_domain.specs.Shapes.{Shape, domain, tuple, truth, integer, text, set, iset, card, valency, mapping, fields, Fields, no_field, field_then, sizes}
-use Rattle.xdg_names.specs.First.{In}
-use Rattle.xdg_names.proofs.In.{in_flat_map, flat_map_in}
 use Rattle.xdg_terms.specs.Forms.{Term, Bindings, Look, with_bound, with_open, unless_open, bound, bound_in, bound_to, bound_or, constant_of, constant_in, number_of, number_in, card_of, card_in, generator_of, generator_in, bracket_of, bracket_in, constants_of, brackets_of, counts_of, pairs_of, braces_in, plain_elem, bracketed_elem, counted_elem, keyed_elem}
 use Rattle.xdg_terms.specs.Offences.{is_some, has_form, has_set_form, all_told, OfSeen, OffendsIn, OffendsUnder, OffendsBy, Offends}
 use Rattle.xdg_terms.specs.Wanted.{Want, free_in, free_of, or_inside, params_in, params_under, params_inside}
 use Rattle.xdg_terms.specs.Replaced.{IsOpenRight, AreBoundRight}
 use Rattle.xdg_terms.proofs.Right.{RightHere, formed}
 use Rattle.xdg_facts.proofs.Texts.{is_same, same_text}
+use Rattle.xdg_facts.specs.Membership.{In}
+use Rattle.xdg_facts.proofs.In.{in_flat_map, flat_map_in}
 
 -- ---- a term of a wanted form is no parameter
 

@@ -12,8 +12,6 @@ use Rattle.xdg_ast.specs.declared.terms.ElemKind.TheVariants as e
 use Rattle.xdg_ast.specs.declared.terms.ElemKind.TheOpen.{TermKind-F, ElemKind-F}
 use Rattle.xdg_domain.specs.Shapes as d
 use Rattle.xdg_domain.specs.Shapes.{Shape, domain, tuple, truth, integer, text, set, iset, card, valency, mapping, fields, Fields, no_field, field_then, sizes}
-use Rattle.xdg_names.specs.First.{In}
-use Rattle.xdg_names.proofs.In.{flat_map_in}
 use Rattle.xdg_terms.specs.Forms.{Term, Card, Bindings, with_open, bound, bound_in, bound_to, bound_or, constant_of, constant_in, number_of, number_in, card_of, card_in, generator_of, generator_in, bracket_of, bracket_in, constants_of, brackets_of, counts_of, pairs_of, braces_in, all_of, then_also, plain_in, plain_elem, bracketed_in, bracketed_elem, counted_in, counted_elem, keyed_in, keyed_elem}
 use Rattle.xdg_terms.specs.Offences.{is_some, has_form, has_set_form, all_told, keys_of, asked_in, OffendsHere, OfSeen, OffendsIn, OffendsUnder}
 use Rattle.xdg_terms.specs.Closed.{closed, closed_by, closing, kind_by, closing_kind, closing_elem}
@@ -23,6 +21,8 @@ use Rattle.xdg_terms.proofs.Right.{formed, told}
 use Rattle.xdg_terms.proofs.Replacing.{closed_is}
 use Rattle.xdg_terms.proofs.Binding.{open_param, looked_at, seen, no_form, RightIn, RightBy, here_of, right_in, all_looked_at}
 use Rattle.xdg_facts.proofs.Texts.{is_same, same_text}
+use Rattle.xdg_facts.specs.Membership.{In}
+use Rattle.xdg_facts.proofs.In.{flat_map_in}
 
 module _ (bs : Bindings) where
   -- ---- elements without terms stay

@@ -9,10 +9,11 @@ use Rattle.xdg_ast.specs.declared.names.Num.{Num}
 use Rattle.xdg_ast.specs.declared.terms.CardKind.{CardKind}
 use Rattle.xdg_ast.specs.declared.terms.CardKind.TheVariants as c
 use Rattle.xdg_facts.proofs.Truths.{and_false, or_false, or_true}
-use Rattle.xdg_domain.specs.Cards.{has, cards, numbers_below, with_card, IsCards}
-use Rattle.xdg_domain.proofs.Rising.{numbers_agree, none_of}
+use Rattle.xdg_domain.specs.Cards.{cards, with_card, IsCards}
 use Rattle.xdg_terms.specs.Built.{some_or_all, card_numbers}
 use Rattle.xdg_terms.specs.Counted.{told, AreCards}
+use Rattle.xdg_facts.specs.Rises.{has, numbers_below}
+use Rattle.xdg_facts.proofs.Rising.{numbers_agree, none_of}
 
 -- ---- what was found
 

@@ -102,7 +102,7 @@ plain_layer texts (ElemKind-F.Count name written) x h = absurd (cc)
 plain_layer texts (ElemKind-F.Keyed name t) x h = absurd (cc)
 plain_layer texts (ElemKind-F.ElemKind::Tuple names) x h = absurd (cc)
 
-so_many : (b : Bool) (names xs : List Name) → (if b then Some names else None) ≡ Some xs → names ≡ xs
+pub so_many : (b : Bool) (names xs : List Name) → (if b then Some names else None) ≡ Some xs → names ≡ xs
 so_many true names xs h = cc
 so_many false names xs h = absurd (cc)
 

@@ -10,11 +10,11 @@ use Rattle.xdg_ast.specs.declared.terms.GenKind.TheVariants as g
 use Rattle.xdg_ast.specs.declared.terms.GenKind.TheOpen.{GenKind-F}
 use Rattle.xdg_ast.specs.declared.terms.GenKind.TheFolds.{fold-roll-GenKind}
 use Rattle.xdg_domain.specs.Shapes.{Shape, count}
-use Rattle.xdg_domain.specs.Cards.{has, numbers_below}
 use Rattle.xdg_terms.specs.Forms.{Gen}
 use Rattle.xdg_terms.specs.Built.{texts_at, generated}
 use Rattle.xdg_terms.specs.Means.{fulfils, fulfils_step}
-use Rattle.xdg_terms.proofs.SameMembers.{same_rising, below_rises}
+use Rattle.xdg_facts.specs.Rises.{has, numbers_below}
+use Rattle.xdg_domain.proofs.Numbers.{increasing_same, numbers_increase}
 
 -- ---- generators, a form at a time
 
@@ -43,5 +43,5 @@ pub told_set : (s : Shape) (gen : Gen) (found : List ℕ) (bound : ℕ) (r : Res
 unfolding generated
 told_set s gen found bound (Ok made) full is same rises =
     let whole : found ≡ generated s gen = is ∙ ap (λ b. numbers_below b (λ n. fulfils (texts_at s n) gen.kind)) full in
-    same_rising made (generated s gen) rises (below_rises (count s) (λ n. fulfils (texts_at s n) gen.kind)) (λ n. same n ∙ ap (λ l. has l n) whole)
+    increasing_same made (generated s gen) rises (numbers_increase (count s) (λ n. fulfils (texts_at s n) gen.kind)) (λ n. same n ∙ ap (λ l. has l n) whole)
 told_set s gen found bound (Err e) full is same rises = tt

@@ -19,15 +19,17 @@ use Rattle.xdg_ast.specs.declared.terms.GenKind.{GenKind}
 use Rattle.xdg_ast.specs.declared.terms.CardKind.{CardKind}
 use Rattle.xdg_ast.specs.declared.terms.CardKind.TheVariants as c
 use Rattle.xdg_domain.specs.Shapes as d
-use Rattle.xdg_domain.specs.Shapes.{Shape, domain, tuple, truth, integer, text, set, iset, card, valency, mapping, fields, Shapes, Fields, no_field, field_then, sizes, in_a_row, names_of, Among}
-use Rattle.xdg_names.specs.First.{In, Tells, first}
+use Rattle.xdg_domain.specs.Shapes.{Shape, domain, tuple, truth, integer, text, set, iset, card, valency, mapping, fields, Shapes, Fields, no_field, field_then, sizes, in_a_row, names_of}
+use Rattle.xdg_names.specs.First.{Tells, first}
 use Rattle.xdg_names.proofs.First.{tells_as, first-tells}
-use Rattle.xdg_names.proofs.In.{in_append, in_left, in_right, in_flat_map, flat_map_in, in_unless, unless_in, in_when, when_in}
 use Rattle.xdg_terms.specs.Forms.{Term, Card, Look, all_of, bracketed_elem, braces_in, generator_in, constant_of, number_of, card_of, generator_of, bracket_of, constants_of, brackets_of, counts_of, pairs_of}
 use Rattle.xdg_terms.specs.Offences.{fault_at, has_form, has_set_form, asked_in_set, is_some, one_told, all_told, Asked, asked_in, asked_in_turn, asked, keys, field_keys, known_fields, cards, keys_of, gen_names, IsWrongKind, IsNotMember, IsTwice, IsUnknownField, IsOutOfRange, CardOffends, OffendsHere, OfSeen, OffendsIn, OffendsUnder, OffendsBy}
 use Rattle.xdg_terms.specs.Faults as spec
+use Rattle.xdg_names.specs.Texts.{has_text}
 use Rattle.xdg_terms.proofs.Has.{has_among, among_has}
 use Rattle.xdg_facts.proofs.Texts.{same_text, is_same}
+use Rattle.xdg_facts.specs.Membership.{In}
+use Rattle.xdg_facts.proofs.In.{in_append, in_left, in_right, in_unless, unless_in, in_when, when_in, in_flat_map, flat_map_in}
 
 -- ---- the rules as lists
 
@@ -43,26 +45,26 @@ rows form t all known names twice_told written =
 abbrev here : Shape → Term → List Fault
 here s t = rows (has_form s t) t (asked s t) (known_fields s) (field_keys s t) (keys s t) (cards s t)
 
-in_missing : (cause : Cause) (texts : List (List ℕ)) (name : Name) (f : Fault) → In (spec.missing cause texts name) f → (Among texts name.text → ⊥) × (f ≡ fault_at cause name.span.start)
+in_missing : (cause : Cause) (texts : List (List ℕ)) (name : Name) (f : Fault) → In (spec.missing cause texts name) f → (In texts name.text → ⊥) × (f ≡ fault_at cause name.span.start)
 unfolding spec.missing
 in_missing cause texts name f h =
-    let e = in_unless (spec.has texts name.text) (fault_at cause name.span.start) f h in
+    let e = in_unless (has_text texts name.text) (fault_at cause name.span.start) f h in
     ((λ a. true≢false (sym (among_has texts name.text a) ∙ e.0)), sym e.1)
 
-missing_in : (cause : Cause) (texts : List (List ℕ)) (name : Name) (f : Fault) → (Among texts name.text → ⊥) → f ≡ fault_at cause name.span.start → In (spec.missing cause texts name) f
+missing_in : (cause : Cause) (texts : List (List ℕ)) (name : Name) (f : Fault) → (In texts name.text → ⊥) → f ≡ fault_at cause name.span.start → In (spec.missing cause texts name) f
 unfolding spec.missing
 missing_in cause texts name f absent is =
-    unless_in (spec.has texts name.text) (fault_at cause name.span.start) f (false_from_ne_true (spec.has texts name.text) (λ e. absent (has_among texts name.text e))) (sym is)
+    unless_in (has_text texts name.text) (fault_at cause name.span.start) f (false_from_ne_true (has_text texts name.text) (λ e. absent (has_among texts name.text e))) (sym is)
 
-in_twice : (before : List Name) (name : Name) (f : Fault) → In (spec.twice before name) f → Among (spec.texts_of before) name.text × (f ≡ fault_at causes.Twice name.span.start)
+in_twice : (before : List Name) (name : Name) (f : Fault) → In (spec.twice before name) f → In (spec.texts_of before) name.text × (f ≡ fault_at causes.Twice name.span.start)
 unfolding spec.twice
 in_twice before name f h =
-    let e = in_when (spec.has (spec.texts_of before) name.text) (fault_at causes.Twice name.span.start) f h in
+    let e = in_when (has_text (spec.texts_of before) name.text) (fault_at causes.Twice name.span.start) f h in
     (has_among (spec.texts_of before) name.text e.0, sym e.1)
 
-twice_in : (before : List Name) (name : Name) (f : Fault) → Among (spec.texts_of before) name.text → f ≡ fault_at causes.Twice name.span.start → In (spec.twice before name) f
+twice_in : (before : List Name) (name : Name) (f : Fault) → In (spec.texts_of before) name.text → f ≡ fault_at causes.Twice name.span.start → In (spec.twice before name) f
 unfolding spec.twice
-twice_in before name f among is = when_in (spec.has (spec.texts_of before) name.text) (fault_at causes.Twice name.span.start) f (among_has (spec.texts_of before) name.text among) (sym is)
+twice_in before name f among is = when_in (has_text (spec.texts_of before) name.text) (fault_at causes.Twice name.span.start) f (among_has (spec.texts_of before) name.text among) (sym is)
 
 -- ---- cardinalities
 
@@ -97,24 +99,18 @@ numbers_in written [] f h = inl (sym h)
 numbers_in written (num ∷ nums) f h = flat_map_in spec.too_big (num ∷ nums) h.0 f h.1.0 (too_big_in h.0 f h.1.1.0 h.1.1.1)
 
 in_card_kind : (written : Card) (kind : CardKind) (f : Fault) → In (spec.card_kind_faults written kind) f → CardOffends written kind f
-in_card_kind written c.One f h = h
-in_card_kind written c.Maybe f h = h
-in_card_kind written c.Any f h = h
-in_card_kind written c.Some1 f h = h
 in_card_kind written (c.Numbers nums) f h = in_numbers written nums f h
 in_card_kind written (c.Interval low high) f h =
     elim (in_append (spec.too_big low) (spec.wrong_end low high) f h) [ inl l ↦ inl (in_too_big low f l) | inr r ↦ inr (in_wrong_end low high f r) ]
+in_card_kind written other f h = h
 
 card_kind_in : (written : Card) (kind : CardKind) (f : Fault) → CardOffends written kind f → In (spec.card_kind_faults written kind) f
-card_kind_in written c.One f h = h
-card_kind_in written c.Maybe f h = h
-card_kind_in written c.Any f h = h
-card_kind_in written c.Some1 f h = h
 card_kind_in written (c.Numbers nums) f h = numbers_in written nums f h
 card_kind_in written (c.Interval low high) f h = elim h [
   | inl l ↦ in_left (spec.too_big low) (spec.wrong_end low high) f (too_big_in low f l.0 l.1)
   | inr r ↦ in_right (spec.too_big low) (spec.wrong_end low high) f (wrong_end_in low high f r.0 r.1)
 ]
+card_kind_in written other f h = h
 
 in_card : (written : Card) (f : Fault) → In (spec.card_faults written) f → CardOffends written written.kind f
 unfolding spec.card_faults
@@ -127,7 +123,7 @@ card_in written f h = card_kind_in written written.kind f h
 -- ---- keys that stand twice
 
 abbrev Again : List Name → Fault → Type 0
-Again all f = (before : List Name) × ((name : Name) × ((after : List Name) × ((all ≡ before ++ name ∷ after) × (Among (spec.texts_of before) name.text × (f ≡ fault_at causes.Twice name.span.start)))))
+Again all f = (before : List Name) × ((name : Name) × ((after : List Name) × ((all ≡ before ++ name ∷ after) × (In (spec.texts_of before) name.text × (f ≡ fault_at causes.Twice name.span.start)))))
 
 again : (all front names : List Name) → all ≡ front ++ names → (f : Fault) → In (spec.all_twice front names) f → Again all f
 again all front [] e f h = absurd h
@@ -136,12 +132,12 @@ again all front (name ∷ names) e f h = elim (in_append (spec.twice front name)
   | inr later ↦ again all (front ++ name ∷ []) names (e ∙ sym (append_assoc front (name ∷ []) names)) f later
 ]
 
-again_in : (front before : List Name) (name : Name) (after : List Name) (f : Fault) → Among (spec.texts_of (front ++ before)) name.text → f ≡ fault_at causes.Twice name.span.start → In (spec.all_twice front (before ++ name ∷ after)) f
+again_in : (front before : List Name) (name : Name) (after : List Name) (f : Fault) → In (spec.texts_of (front ++ before)) name.text → f ≡ fault_at causes.Twice name.span.start → In (spec.all_twice front (before ++ name ∷ after)) f
 again_in front [] name after f among is =
-    in_left (spec.twice front name) (spec.all_twice (front ++ name ∷ []) after) f (twice_in front name f (subst (λ xs. Among (spec.texts_of xs) name.text) (append-nil front) among) is)
+    in_left (spec.twice front name) (spec.all_twice (front ++ name ∷ []) after) f (twice_in front name f (subst (λ xs. In (spec.texts_of xs) name.text) (append-nil front) among) is)
 again_in front (x ∷ before) name after f among is =
     in_right (spec.twice front x) (spec.all_twice (front ++ x ∷ []) (before ++ name ∷ after)) f
-    (again_in (front ++ x ∷ []) before name after f (subst (λ xs. Among (spec.texts_of xs) name.text) (sym (append_assoc front (x ∷ []) before)) among) is)
+    (again_in (front ++ x ∷ []) before name after f (subst (λ xs. In (spec.texts_of xs) name.text) (sym (append_assoc front (x ∷ []) before)) among) is)
 
 -- ---- the term itself
 

@@ -1,36 +1,38 @@
 -- The sets, maps and records of terms without an offence.
-use Rattle.std.proofs.Common.{◌≡◌, ◌⊎◌, inl, inr, ℕ, ◌<◌, List, [], ◌∷◌, ◌++◌, length, get_or, Some, None, refl, sym, ap, ◌∙◌}
-use Rattle.std.specs.Prelude.{◌↔◌, Bool, true, false, ◌||◌, ◌==◌}
+use Rattle.std.proofs.Common.{◌≡◌, ◌⊎◌, inl, inr, ℕ, ◌<◌, List, [], ◌++◌, length, get_or, Some, None, refl, sym, ap, ◌∙◌}
+use Rattle.std.specs.Prelude.{◌↔◌, Bool, true, false, ◌||◌}
 use Rattle.std.specs.List.{flat_map}
 use Rattle.std.specs.List.Sorted.{IsStrictlyIncreasing}
-use Rattle.std.proofs.lemmas.Bool.{false≢true, or_cases, or_left, or_right, eq-eqb, cases_lt}
+use Rattle.std.proofs.lemmas.Bool.{false≢true, or_cases, cases_lt}
 use Rattle.xdg_ast.specs.declared.names.Name.{Name}
 use Rattle.xdg_ast.specs.declared.names.Spanned.{Spanned}
 use Rattle.xdg_ast.specs.declared.terms.GenKind.{GenKind}
 use Rattle.xdg_ast.specs.declared.terms.TermKind.{TermKind, out-TermKind}
 use Rattle.xdg_ast.specs.declared.terms.ElemKind.{ElemKind}
 use Rattle.xdg_ast.specs.declared.terms.ElemKind.TheOpen.{TermKind-F}
-use Rattle.xdg_domain.specs.Cards.{has}
-use Rattle.xdg_domain.specs.Shapes.{Shape, domain, tuple, Shapes, sizes, product, count, constants_of, in_a_row, Among, Differ, IsSmall, IsTuple}
+use Rattle.xdg_domain.specs.Shapes.{Shape, domain, tuple, Shapes, sizes, product, count, constants_of, in_a_row, IsSmall, IsTuple}
 use Rattle.xdg_domain.specs.Values.{AllBelow}
-use Rattle.xdg_domain.proofs.Rising.{has_of, has_beyond}
-use Rattle.xdg_names.specs.First.{In}
-use Rattle.xdg_names.proofs.In.{in_left, flat_map_in}
 use Rattle.xdg_terms.specs.Forms.{Term, Gen, all_of, plain_elem, bracketed_elem, keyed_elem, counted_elem, braces_in, generator_in, brackets_of, generator_of, counts_of, pairs_of}
 use Rattle.xdg_terms.specs.Forms as forms
 use Rattle.xdg_terms.specs.Offences.{is_some, one_told, all_told, gen_names, asked_in, asked_in_turn, asked_in_set, has_set_form}
-use Rattle.xdg_terms.specs.Means.{texts_of, fulfils, tuple_texts, IsSetOf}
+use Rattle.xdg_terms.specs.Means.{fulfils, tuple_texts, IsSetOf}
 use Rattle.xdg_terms.specs.Built.{listed, generated, set_in, set_of, elems_of}
-use Rattle.xdg_terms.proofs.SameMembers.{as_set_has, as_set_rises, below_rises}
+use Rattle.xdg_terms.proofs.SameMembers.{as_set_has, as_set_rises}
 use Rattle.xdg_terms.proofs.Right.{Stands, told}
 use Rattle.xdg_terms.proofs.Read.{braces_read}
 use Rattle.xdg_terms.proofs.Meant.{domain_set, bracket_set, asked_named}
+use Rattle.xdg_facts.specs.Membership.{In, Differ}
+use Rattle.xdg_facts.proofs.In.{in_left, flat_map_in}
+use Rattle.xdg_facts.specs.Rises.{has}
+use Rattle.xdg_ast.specs.Texts.{texts as texts_of}
+use Rattle.xdg_facts.proofs.Rising.{has_beyond, has_of}
+use Rattle.xdg_domain.proofs.Numbers.{below_has, numbers_increase}
 
 -- ---- sets
 
 domain_set_in : (cs : List (List ℕ)) (k : TermKind-F ElemKind TermKind) → Differ cs → is_some (braces_in plain_elem k) ≡ true
     → ((texts : List (List ℕ)) (name : Name) → In (asked_in cs (all_told (braces_in plain_elem k))) (texts, name) → Stands texts name)
-    → IsStrictlyIncreasing (set_in (domain cs) k) × ((n : ℕ) → (has (set_in (domain cs) k) n ≡ true) ↔ ((n < length cs) × Among (texts_of (all_told (braces_in plain_elem k))) (get_or cs n [])))
+    → IsStrictlyIncreasing (set_in (domain cs) k) × ((n : ℕ) → (has (set_in (domain cs) k) n ≡ true) ↔ ((n < length cs) × In (texts_of (all_told (braces_in plain_elem k))) (get_or cs n [])))
 domain_set_in cs (TermKind-F.Braces elems) differ formed stand =
     let r = told (all_of plain_elem elems) formed in
     let names = all_told (all_of plain_elem elems) in
@@ -63,7 +65,7 @@ generated_has ss gen n =
 
 generated_rises : (ss : Shapes) (gen : Gen) → IsStrictlyIncreasing (generated (tuple ss) gen)
 unfolding generated
-generated_rises ss gen = below_rises (product (sizes ss)) (λ m. fulfils (tuple_texts ss m) gen.kind)
+generated_rises ss gen = numbers_increase (product (sizes ss)) (λ m. fulfils (tuple_texts ss m) gen.kind)
 
 tuple_set_in : (ss : Shapes) (k : TermKind-F ElemKind TermKind) → IsTuple ss → (is_some (braces_in (bracketed_elem (length (sizes ss))) k) || is_some (generator_in k)) ≡ true
     → ((texts : List (List ℕ)) (name : Name) → In (flat_map (asked_in_turn (constants_of ss)) (all_told (braces_in (bracketed_elem (length (sizes ss))) k))
@@ -101,12 +103,8 @@ set_law (domain cs) t small formed stand = domain_set_in cs (out-TermKind t.kind
 set_law (tuple ss) t small formed stand = tuple_set_in ss (out-TermKind t.kind) small formed stand
 set_law s t small formed stand = absurd small
 
-pub all_below : (bound : ℕ) (ns : List ℕ) → ((n : ℕ) → has ns n ≡ true → n < bound) → AllBelow bound ns
-all_below bound [] h = tt
-all_below bound (n ∷ ns) h = (h n (or_left (n == n) (has ns n) (eq-eqb n n refl)), all_below bound ns (λ m stands. h m (or_right (n == m) (has ns m) stands)))
-
 pub set_below : (s : Shape) (t : Term) (ns : List ℕ) → IsSetOf s t ns → IsStrictlyIncreasing ns × AllBelow (count s) ns
-set_below s t ns h = (h.0, all_below (count s) ns (λ n stands. ((h.1 n).0 stands).0))
+set_below s t ns h = (h.0, below_has (count s) ns (λ n stands. ((h.1 n).0 stands).0))
 
 -- ---- elements
 

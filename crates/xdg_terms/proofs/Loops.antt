@@ -21,9 +21,10 @@ use Rattle.xdg_domain.specs.declared.types.Ty.{Ty}
 use Rattle.xdg_domain.specs.Shapes.{shape, shapes_of, constants, constants_of, in_a_row}
 use Rattle.xdg_names.specs.First.{earlier, first}
 use Rattle.xdg_names.proofs.First.{first_turn, first_change}
-use Rattle.xdg_terms.specs.Faults.{has, missing, missing_in_turn, texts_of, keys, key_in, key_of, key_faults_in, key_faults, twice, all_twice}
+use Rattle.xdg_terms.specs.Faults.{missing, missing_in_turn, texts_of, keys, key_in, key_of, key_faults_in, key_faults, twice, all_twice}
 use Rattle.xdg_terms.specs.Offences.{gen_names, gen_step}
-use Rattle.xdg_terms.proofs.Has.{has_append}
+use Rattle.xdg_names.specs.Texts.{has_text}
+use Rattle.xdg_names.proofs.Texts.{has_text-append}
 
 pub each_turn : {A : Type 0} (g : A → List Fault) (xs : List A) (i : ℕ) (x : A) (found next now total : Option Fault)
     → i < length xs → x ≡ get_or xs i x → next ≡ first (g x) → now ≡ earlier found next → earlier found (first (flat_map g (drop i xs))) ≡ total → earlier now (first (flat_map g (drop (i + 1) xs))) ≡ total
@@ -40,16 +41,16 @@ name_turn left rest type texts names i name found next now total front domain wi
 -- ---- a text among those of the items
 
 module _ {A : Type 0} (here : A → List (List ℕ)) (all : List A → List (List ℕ)) (each : (x : A) (xs : List A) → all (x ∷ xs) ≡ here x ++ all xs) where
-  any_turn : (xs : List A) (i : ℕ) (x : A) (text : List ℕ) → i < length xs → x ≡ get_or xs i x → has (all (drop i xs)) text ≡ (has (here x) text || has (all (drop (i + 1) xs)) text)
+  any_turn : (xs : List A) (i : ℕ) (x : A) (text : List ℕ) → i < length xs → x ≡ get_or xs i x → has_text (all (drop i xs)) text ≡ (has_text (here x) text || has_text (all (drop (i + 1) xs)) text)
   any_turn xs i x text within is =
       let front : drop i xs ≡ x ∷ drop (i + 1) xs = rw (add-one, drop-cons xs i x) (ap (λ y. y ∷ drop (suc i) xs) (sym is)) in
-      ap (λ ys. has (all ys) text) front ∙ ap (λ ts. has ts text) (each x (drop (i + 1) xs)) ∙ has_append (here x) (all (drop (i + 1) xs)) text
+      ap (λ ys. has_text (all ys) text) front ∙ ap (λ ts. has_text ts text) (each x (drop (i + 1) xs)) ∙ has_text-append (here x) (all (drop (i + 1) xs)) text
 
-  pub found_here : (xs : List A) (i : ℕ) (x : A) (text : List ℕ) (total : Bool) → i < length xs → x ≡ get_or xs i x → has (here x) text ≡ true → has (all (drop i xs)) text ≡ total → true ≡ total
-  found_here xs i x text total within is at_x so_far = sym (ap (λ b. b || has (all (drop (i + 1) xs)) text) at_x) ∙ sym (any_turn xs i x text within is) ∙ so_far
+  pub found_here : (xs : List A) (i : ℕ) (x : A) (text : List ℕ) (total : Bool) → i < length xs → x ≡ get_or xs i x → has_text (here x) text ≡ true → has_text (all (drop i xs)) text ≡ total → true ≡ total
+  found_here xs i x text total within is at_x so_far = sym (ap (λ b. b || has_text (all (drop (i + 1) xs)) text) at_x) ∙ sym (any_turn xs i x text within is) ∙ so_far
 
-  pub passed_here : (xs : List A) (i : ℕ) (x : A) (text : List ℕ) (total : Bool) → i < length xs → x ≡ get_or xs i x → has (here x) text ≡ false → has (all (drop i xs)) text ≡ total → has (all (drop (i + 1) xs)) text ≡ total
-  passed_here xs i x text total within is at_x so_far = sym (ap (λ b. b || has (all (drop (i + 1) xs)) text) at_x) ∙ sym (any_turn xs i x text within is) ∙ so_far
+  pub passed_here : (xs : List A) (i : ℕ) (x : A) (text : List ℕ) (total : Bool) → i < length xs → x ≡ get_or xs i x → has_text (here x) text ≡ false → has_text (all (drop i xs)) text ≡ total → has_text (all (drop (i + 1) xs)) text ≡ total
+  passed_here xs i x text total within is at_x so_far = sym (ap (λ b. b || has_text (all (drop (i + 1) xs)) text) at_x) ∙ sym (any_turn xs i x text within is) ∙ so_far
 
 -- the constants of domains in a row
 pub row_texts : (type : Ty) (types : List Ty) → in_a_row (constants_of (shapes_of (map shape (type ∷ types)))) ≡ constants (shape type) ++ in_a_row (constants_of (shapes_of (map shape types)))

@@ -8,13 +8,12 @@ use Rattle.xdg_ast.specs.declared.names.Name.{Name}
 use Rattle.xdg_domain.specs.Cards.{IsCards}
 use Rattle.xdg_domain.specs.Valencies.{said_at, KeysRise}
 use Rattle.xdg_domain.specs.Shapes as d
-use Rattle.xdg_domain.specs.Shapes.{Shape, domain, tuple, truth, integer, text, set, iset, card, valency, mapping, fields, Shapes, Fields, no_field, field_then, sizes, count, constants, constants_of, Among, Differ, IsDomain, IsSmall, IsTuple, IsMapped, IsType, AreTypes}
+use Rattle.xdg_domain.specs.Shapes.{Shape, domain, tuple, truth, integer, text, set, iset, card, valency, mapping, fields, Shapes, Fields, no_field, field_then, sizes, count, constants, constants_of, IsDomain, IsSmall, IsTuple, IsMapped, IsType, AreTypes}
 use Rattle.xdg_domain.specs.Tuples.{index}
 use Rattle.xdg_domain.specs.Values.{EachSaid, IsIn, IsFieldOf, IsValue}
 use Rattle.xdg_domain.specs.declared.values.Value.{Value, out-Value}
 use Rattle.xdg_domain.specs.declared.values.Value.TheVariants as v
 use Rattle.xdg_domain.specs.declared.values.Value.TheOpen.{Value-F}
-use Rattle.xdg_names.specs.First.{In}
 use Rattle.xdg_terms.specs.Forms.{Term, Card, Bindings, bound, constant_of, number_of, card_of, bracket_of, counts_of, pairs_of, counted_elem, keyed_elem}
 use Rattle.xdg_terms.specs.Offences.{one_told, all_told, asked_in, asked_in_turn, Offends, OffendsField}
 use Rattle.xdg_terms.specs.Means.{IsAt, truth_text, AllowedBy, written_for, Said, MeansIn, MeansField, Means}
@@ -27,6 +26,7 @@ use Rattle.xdg_terms.proofs.Meant.{at_place, among_at, all_places, TupleOf, tupl
 use Rattle.xdg_terms.proofs.Lawful.{set_law, set_below, counts_read, pairs_read}
 use Rattle.xdg_terms.proofs.SaidKeys.{made_of, put_rises, put_here, put_later, said_made, from_rises, keys_said, keys_each}
 use Rattle.xdg_facts.proofs.Texts.{same_text, is_same}
+use Rattle.xdg_facts.specs.Membership.{In, Differ}
 
 -- the term means the value, which is one of the type where its numbers are in range
 abbrev pub GoodIn : Bindings → Shape → Term → Value-F Value → Type 0
@@ -54,7 +54,7 @@ tuple_good bs ss t h =
     let p : TupleOf ss r.0 (or_zero (tuple_number (tuple ss) (names_of t))) = subst (TupleOf ss r.0) (sym e) (tuple_of_places ss r.0 all.0 all.1) in
     ((p.within, (r.0, (r.1, p.texts))), λ _. p.within)
 
-truth_told : (t : List ℕ) (b : Bool) → bytes_eq t (codes "true") ≡ b → Among (codes "true" ∷ codes "false" ∷ []) t → t ≡ truth_text b
+truth_told : (t : List ℕ) (b : Bool) → bytes_eq t (codes "true") ≡ b → In (codes "true" ∷ codes "false" ∷ []) t → t ≡ truth_text b
 truth_told t true e h = same_text t (codes "true") e
 truth_told t false e h = elim h [ inl is ↦ absurd (true≢false (sym (is_same t (codes "true") (sym is)) ∙ e)) | inr k ↦ elim k [ inl is ↦ sym is | inr none ↦ absurd none ] ]
 
@@ -128,7 +128,7 @@ fields_rise : (bs : Bindings) (fs : Fields) (elems : List Elem) (at : ℕ) → K
 fields_rise bs no_field elems at = tt
 fields_rise bs (field_then name u fs) elems at = put_rises (λ (w : Term). built bs u w) at (fields_from bs fs elems (at + 1)) (first_for keyed_elem elems name) (fields_rise bs fs elems (at + 1))
 
-offends_among : (bs : Bindings) (fs : Fields) (pair : Name × Term) (f : Fault) → OffendsField bs fs pair f → Among (d.names_of fs) (pair.0).text
+offends_among : (bs : Bindings) (fs : Fields) (pair : Name × Term) (f : Fault) → OffendsField bs fs pair f → In (d.names_of fs) (pair.0).text
 offends_among bs no_field pair f h = absurd h
 offends_among bs (field_then name u fs) pair f h = elim h [ inl a ↦ inl a.0 | inr b ↦ inr (offends_among bs fs pair f b.1) ]
 
@@ -136,8 +136,8 @@ offends_among bs (field_then name u fs) pair f h = elim h [ inl a ↦ inl a.0 | 
 abbrev FieldsRight : Bindings → Fields → List (Name × Term) → Type 0
 FieldsRight bs fs pairs = (pair : Name × Term) (f : Fault) → In pairs pair → OffendsField bs fs pair f → ⊥
 
-later_right : (bs : Bindings) (name : List ℕ) (u : Shape) (fs : Fields) (pairs : List (Name × Term)) → (Among (d.names_of fs) name → ⊥) → FieldsRight bs (field_then name u fs) pairs → FieldsRight bs fs pairs
-later_right bs name u fs pairs other right pair f among bad = right pair f among (inr ((λ e. other (subst (Among (d.names_of fs)) (sym e) (offends_among bs fs pair f bad))), bad))
+later_right : (bs : Bindings) (name : List ℕ) (u : Shape) (fs : Fields) (pairs : List (Name × Term)) → (In (d.names_of fs) name → ⊥) → FieldsRight bs (field_then name u fs) pairs → FieldsRight bs fs pairs
+later_right bs name u fs pairs other right pair f among bad = right pair f among (inr ((λ e. other (subst (In (d.names_of fs)) (sym e) (offends_among bs fs pair f bad))), bad))
 
 first_right : (bs : Bindings) (name : List ℕ) (u : Shape) (fs : Fields) (pairs : List (Name × Term)) (w : Term) → FieldsRight bs (field_then name u fs) pairs → written_for pairs name ≡ Some w → IsRight bs u w
 first_right bs name u fs pairs w right e f bad = let q = written pairs name w e in right q.pair f q.among (inl (sym q.key, subst (λ z. Offends bs u z f) (sym q.value) bad))

@@ -4,18 +4,20 @@ use Rattle.std.specs.Prelude.{◌↔◌, true}
 use Rattle.xdg_ast.specs.declared.names.Name.{Name}
 use Rattle.xdg_ast.specs.declared.names.Spanned.{Spanned}
 use Rattle.xdg_ast.specs.declared.terms.ElemKind.{ElemKind}
-use Rattle.xdg_domain.specs.Cards.{has}
-use Rattle.xdg_domain.specs.Shapes.{Shape, domain, tuple, Shapes, no_shape, shape_then, sizes, product, constants, constants_of, Among, Differ, IsDomain, AreDomains, IsTuple}
+use Rattle.xdg_domain.specs.Shapes.{domain, tuple, Shapes, no_shape, shape_then, sizes, product, constants, constants_of, AreDomains, IsTuple}
 use Rattle.xdg_domain.specs.Tuples.{index, places, InRange}
 use Rattle.xdg_domain.proofs.TupleNumbers.{index_below, places_of_index, index_of_places, places_in_range}
-use Rattle.xdg_names.specs.First.{In}
 use Rattle.xdg_terms.specs.Forms.{all_of, plain_elem, bracketed_elem}
 use Rattle.xdg_terms.specs.Offences.{asked_in, asked_in_turn}
-use Rattle.xdg_terms.specs.Means.{texts_of, IsAt, chosen, tuple_texts}
+use Rattle.xdg_terms.specs.Means.{IsAt, chosen, tuple_texts}
 use Rattle.xdg_terms.specs.Built.{place_from, places_behind, number_of_places, tuple_number, listed}
 use Rattle.xdg_terms.proofs.Placing.{placed, are_chosen}
 use Rattle.xdg_terms.proofs.Right.{Stands}
 use Rattle.xdg_terms.proofs.Read.{listed_numbers, numbers_listed, plain_alike, bracketed_alike, each_long}
+use Rattle.xdg_facts.specs.Membership.{In, Differ}
+use Rattle.xdg_facts.specs.Rises.{has}
+use Rattle.xdg_domain.proofs.Constants.{domain_differs}
+use Rattle.xdg_ast.specs.Texts.{texts as texts_of}
 
 -- ---- constants
 
@@ -25,13 +27,13 @@ at_place cs name n h =
     let e : p.k ≡ n = omega (arith, p.is) in
     (subst (λ k. k < length cs) e p.within, subst (λ k. get_or cs k [] ≡ name) e p.name_is)
 
-pub among_at : (cs : List (List ℕ)) (k : ℕ) (t : List ℕ) → k < length cs → get_or cs k [] ≡ t → Among cs t
+pub among_at : (cs : List (List ℕ)) (k : ℕ) (t : List ℕ) → k < length cs → get_or cs k [] ≡ t → In cs t
 among_at [] k t within is = absurd (omega (arith, within))
 among_at (c ∷ cs) zero t within is = inl is
 among_at (c ∷ cs) (suc k) t within is = inr (among_at cs k t (omega (arith, within)) is)
 
 -- in a list whose texts all differ a text stands in one place
-one_place : (cs : List (List ℕ)) (m n : ℕ) → Differ cs → m < length cs → n < length cs → get_or cs m [] ≡ get_or cs n [] → m ≡ n
+pub one_place : (cs : List (List ℕ)) (m n : ℕ) → Differ cs → m < length cs → n < length cs → get_or cs m [] ≡ get_or cs n [] → m ≡ n
 one_place [] m n h within inside e = absurd (omega (arith, within))
 one_place (c ∷ cs) zero zero h within inside e = refl
 one_place (c ∷ cs) zero (suc n) h within inside e = absurd (h.0 (among_at cs n c (omega (arith, inside)) (sym e)))
@@ -68,11 +70,7 @@ pub tuple_of_number : (ss : Shapes) (names : List Name) (n : ℕ) (o : Option (L
 tuple_of_number ss names n None e h = absurd (cc)
 tuple_of_number ss names n (Some ns) e h = let same : index (sizes ss) ns ≡ n = cc in subst (TupleOf ss names) same (tuple_of_places ss names ns e)
 
-domain_differs : (s : Shape) → IsDomain s → Differ (constants s)
-domain_differs (domain cs) h = h.1
-domain_differs s h = absurd h
-
-same_chosen : (ss : Shapes) (ms ns : List ℕ) → AreDomains ss → InRange (sizes ss) ms → InRange (sizes ss) ns → chosen (constants_of ss) ms ≡ chosen (constants_of ss) ns → ms ≡ ns
+pub same_chosen : (ss : Shapes) (ms ns : List ℕ) → AreDomains ss → InRange (sizes ss) ms → InRange (sizes ss) ns → chosen (constants_of ss) ms ≡ chosen (constants_of ss) ns → ms ≡ ns
 same_chosen no_shape [] [] h r q e = refl
 same_chosen no_shape [] (n ∷ ns) h r q e = absurd q
 same_chosen no_shape (m ∷ ms) ns h r q e = absurd r
@@ -95,11 +93,11 @@ number_of_tuple ss names n type same h within texts =
 -- ---- sets
 
 -- the texts that stand in a list of names
-named_among : (names : List Name) (name : Name) (t : List ℕ) → In names name → name.text ≡ t → Among (texts_of names) t
+named_among : (names : List Name) (name : Name) (t : List ℕ) → In names name → name.text ≡ t → In (texts_of names) t
 named_among [] name t h is = absurd h
 named_among (x ∷ names) name t h is = elim h [ inl e ↦ inl (ap (λ (z : Name). z.text) e ∙ is) | inr k ↦ inr (named_among names name t k is) ]
 
-among_named : (names : List Name) (t : List ℕ) → Among (texts_of names) t → (name : Name) × (In names name × (name.text ≡ t))
+among_named : (names : List Name) (t : List ℕ) → In (texts_of names) t → (name : Name) × (In names name × (name.text ≡ t))
 among_named [] t h = absurd h
 among_named (x ∷ names) t h = elim h [ inl e ↦ (x, (inl refl, e)) | inr k ↦ (let r = among_named names t k in (r.0, (inr r.1.0, r.1.1))) ]
 
@@ -108,7 +106,7 @@ asked_named texts [] name h = absurd h
 asked_named texts (x ∷ names) name h = elim h [ inl e ↦ inl (ap (λ (z : Name). (texts, z)) e) | inr k ↦ inr (asked_named texts names name k) ]
 
 pub domain_set : (cs : List (List ℕ)) (elems : List (Spanned ElemKind)) (names : List Name) → Differ cs → all_of plain_elem elems ≡ Some names → ((name : Name) → In names name → Stands cs name) → (n : ℕ)
-    → (has (listed (domain cs) elems) n ≡ true) ↔ ((n < length cs) × Among (texts_of names) (get_or cs n []))
+    → (has (listed (domain cs) elems) n ≡ true) ↔ ((n < length cs) × In (texts_of names) (get_or cs n []))
 domain_set cs elems names differ read stand n = (
   (λ h. (
       let r = listed_numbers (domain cs) plain_elem (λ (name : Name). place_from 0 cs name.text) (plain_alike cs) elems names n read h in

@@ -7,7 +7,6 @@ use Rattle.std.proofs.lemmas.List.{drop_all}
 use Rattle.std.proofs.lemmas.Slice.Eq.{bytes_eq-Decides}
 use Rattle.xdg_ast.specs.declared.names.Name.{Name}
 use Rattle.xdg_domain.specs.declared.types.Ty.{Ty}
-use Rattle.xdg_domain.specs.Cards.{has}
 use Rattle.xdg_domain.specs.Shapes.{Shape, tuple, Shapes, no_shape, shape_then, shape, constants, constants_of, sizes, sizes_in, IsTupleType}
 use Rattle.xdg_domain.specs.Sized.{sizes_of}
 use Rattle.xdg_domain.specs.Tuples.{InRange}
@@ -15,8 +14,10 @@ use Rattle.xdg_domain.specs.Values.{AllBelow}
 use Rattle.xdg_domain.proofs.Merging.{append_nothing}
 use Rattle.xdg_domain.proofs.Sizing.{domains_small}
 use Rattle.xdg_terms.specs.Built.{Elem, place_from, places_behind, constants_each, constants_in, listed, as_set}
-use Rattle.xdg_terms.specs.Means.{chosen, texts_of}
+use Rattle.xdg_terms.specs.Means.{chosen}
 use Rattle.xdg_terms.proofs.SameMembers.{is_set}
+use Rattle.xdg_facts.specs.Rises.{has}
+use Rattle.xdg_ast.specs.Texts.{texts as texts_of}
 
 -- ---- one constant
 

@@ -6,13 +6,13 @@ use Rattle.xdg_ast.specs.declared.names.Name.{Name}
 use Rattle.xdg_ast.specs.declared.terms.TermKind.{TermKind, out-TermKind}
 use Rattle.xdg_ast.specs.declared.terms.ElemKind.{ElemKind, out-ElemKind}
 use Rattle.xdg_ast.specs.declared.terms.ElemKind.TheOpen.{TermKind-F, ElemKind-F}
-use Rattle.xdg_domain.specs.Cards.{has}
 use Rattle.xdg_domain.specs.Shapes.{Shape, domain, tuple, Shapes}
-use Rattle.xdg_names.specs.First.{In}
 use Rattle.xdg_terms.specs.Forms.{Term, then_also, all_of, braces_in, bracket_in, bracket_of, plain_in, plain_elem, bracketed_in, bracketed_elem}
 use Rattle.xdg_terms.specs.Means.{written_for}
 use Rattle.xdg_terms.specs.Built.{Elem, place_from, tuple_number, names_in, names_of, elems_in, if_named, first_for, some_before, number_in_elem, number_of_elem, listed}
 use Rattle.xdg_facts.proofs.Texts.{same_text}
+use Rattle.xdg_facts.specs.Membership.{In}
+use Rattle.xdg_facts.specs.Rises.{has}
 
 -- ---- tuples
 

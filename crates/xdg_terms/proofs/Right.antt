@@ -9,10 +9,8 @@ use Rattle.xdg_base.specs.declared.faults.Fault.{Fault}
 use Rattle.xdg_ast.specs.declared.names.Name.{Name}
 use Rattle.xdg_ast.specs.declared.terms.CardKind.{CardKind}
 use Rattle.xdg_ast.specs.declared.terms.CardKind.TheVariants as c
-use Rattle.xdg_domain.specs.Cards.{has, cards, IsCards}
-use Rattle.xdg_domain.specs.Shapes.{Shape, Among}
-use Rattle.xdg_domain.proofs.Rising.{numbers_agree, has_of, has_beyond, rises_of}
-use Rattle.xdg_names.specs.First.{In}
+use Rattle.xdg_domain.specs.Cards.{cards, IsCards}
+use Rattle.xdg_domain.specs.Shapes.{Shape}
 use Rattle.xdg_terms.specs.Forms.{Term, Card}
 use Rattle.xdg_terms.specs.Offences.{fault_at, has_form, is_some, asked, CardOffends, OffendsHere}
 use Rattle.xdg_terms.specs.Offences as o
@@ -20,6 +18,9 @@ use Rattle.xdg_terms.specs.Means.{allows, AllowedBy}
 use Rattle.xdg_terms.specs.Built.{place_from, card_numbers, some_or_all}
 use Rattle.xdg_facts.proofs.Truths.{and_2}
 use Rattle.xdg_facts.proofs.Texts.{is_same}
+use Rattle.xdg_facts.specs.Membership.{In}
+use Rattle.xdg_facts.specs.Rises.{has}
+use Rattle.xdg_facts.proofs.Rising.{numbers_agree, has_beyond, has_of, rises_of}
 
 -- nothing is wrong with the term itself
 abbrev pub RightHere : Shape → Term → Type 0
@@ -40,11 +41,11 @@ told (Some x) h = (x, refl)
 
 -- ---- constants
 
-none_placed : (at : ℕ) (c : List ℕ) (cs : List (List ℕ)) (name : List ℕ) (b : Bool) → bytes_eq c name ≡ b → ((place_from (at + 1) cs name ≡ None) → Among cs name → ⊥) → (if b then Some at else place_from (at + 1) cs name) ≡ None → Among (c ∷ cs) name → ⊥
+none_placed : (at : ℕ) (c : List ℕ) (cs : List (List ℕ)) (name : List ℕ) (b : Bool) → bytes_eq c name ≡ b → ((place_from (at + 1) cs name ≡ None) → In cs name → ⊥) → (if b then Some at else place_from (at + 1) cs name) ≡ None → In (c ∷ cs) name → ⊥
 none_placed at c cs name true is later e h = cc
 none_placed at c cs name false is later e h = elim h [ inl same ↦ true≢false (sym (is_same c name same) ∙ is) | inr rest ↦ later e rest ]
 
-unplaced : (at : ℕ) (cs : List (List ℕ)) (name : List ℕ) → place_from at cs name ≡ None → Among cs name → ⊥
+unplaced : (at : ℕ) (cs : List (List ℕ)) (name : List ℕ) → place_from at cs name ≡ None → In cs name → ⊥
 unplaced at [] name e h = h
 unplaced at (c ∷ cs) name e h = none_placed at c cs name (bytes_eq c name) refl (unplaced (at + 1) cs name) e h
 

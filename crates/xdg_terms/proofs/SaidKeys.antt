@@ -7,14 +7,11 @@ use Rattle.xdg_domain.specs.Valencies.{said_at, KeysRise}
 use Rattle.xdg_domain.specs.Values.{EachSaid}
 use Rattle.xdg_terms.specs.Means.{written_for, written_at, Said}
 use Rattle.xdg_terms.specs.Built.{put, said_from}
+use Rattle.xdg_domain.proofs.Keyed.{unsaid}
 
 pub rises_later : {V : Type 0} (sooner low : ℕ) (s : List (ℕ × V)) → sooner ≤ low → KeysRise low s → KeysRise sooner s
 rises_later sooner low [] order r = tt
 rises_later sooner low (e ∷ s) order (a, b) = (omega (arith, order, a), b)
-
-unsaid : {V : Type 0} (low key : ℕ) (s : List (ℕ × V)) → key < low → KeysRise low s → said_at s key ≡ None
-unsaid low key [] below r = refl
-unsaid low key (e ∷ s) below (a, b) = ap (λ t. cond t (Some e.1) (said_at s key)) (ne_eqb e.0 key (λ i. omega (arith, i, a, below))) ∙ unsaid (e.0 + 1) key s (omega (arith, a, below)) b
 
 pub made_of : {A V : Type 0} → (A → V) → Option A → Option V
 made_of make None = None

@@ -17,35 +17,35 @@ use Rattle.xdg_ast.specs.declared.terms.ElemKind.{ElemKind}
 use Rattle.xdg_ast.specs.declared.terms.ElemKind.TheVariants as e
 use Rattle.xdg_ast.specs.declared.terms.ElemKind.TheOpen.{TermKind-F, ElemKind-F}
 use Rattle.xdg_ast.specs.declared.terms.ElemKind.TheFolds.{fold-roll-ElemKind, fold-roll-TermKind}
-use Rattle.xdg_domain.specs.Shapes.{Among}
-use Rattle.xdg_names.specs.First.{In, Tells, first, earlier}
+use Rattle.xdg_names.specs.First.{Tells, first, earlier}
 use Rattle.xdg_names.proofs.First.{tells_as, first-tells, first_turn, earlier-none}
-use Rattle.xdg_names.proofs.In.{in_flat_map, flat_map_in, in_unless, unless_in}
 use Rattle.xdg_terms.specs.Forms.{Term}
 use Rattle.xdg_terms.specs.Offences.{fault_at}
 use Rattle.xdg_terms.specs.Stray.{term_step, elem_step, tokens, elem_tokens, IsStrayParam, stray, all_stray}
 use Rattle.xdg_facts.proofs.Texts.{same_text, is_same}
+use Rattle.xdg_facts.specs.Membership.{In}
+use Rattle.xdg_facts.proofs.In.{in_unless, unless_in, in_flat_map, flat_map_in}
 
 -- ---- among the parameters
 
-pub any_among : (free : List (List ℕ)) (t : List ℕ) → is_among free t ≡ true → Among free t
+pub any_among : (free : List (List ℕ)) (t : List ℕ) → is_among free t ≡ true → In free t
 any_among [] t h = absurd (true≢false (sym h))
 any_among (x ∷ xs) t h = elim (or_cases (bytes_eq x t) (is_among xs t) h) [ inl a ↦ inl (same_text x t a) | inr b ↦ inr (any_among xs t b) ]
 
-pub among_any : (free : List (List ℕ)) (t : List ℕ) → Among free t → is_among free t ≡ true
+pub among_any : (free : List (List ℕ)) (t : List ℕ) → In free t → is_among free t ≡ true
 among_any [] t h = absurd h
 among_any (x ∷ xs) t h = elim h [ inl a ↦ or_left (bytes_eq x t) (is_among xs t) (is_same x t a) | inr b ↦ or_right (bytes_eq x t) (is_among xs t) (among_any xs t b) ]
 
 -- ---- the law
 
 module _ (free : List (List ℕ)) where
-  in_stray : (name : Name) (f : Fault) → In (stray free name) f → (Among free name.text → ⊥) × (f ≡ fault_at causes.WrongKind name.span.start)
+  in_stray : (name : Name) (f : Fault) → In (stray free name) f → (In free name.text → ⊥) × (f ≡ fault_at causes.WrongKind name.span.start)
   unfolding stray
   in_stray name f h =
       let w = in_unless (is_among free name.text) (fault_at causes.WrongKind name.span.start) f h in
       ((λ a. true≢false (sym (among_any free name.text a) ∙ w.0)), sym w.1)
 
-  stray_in : (name : Name) (f : Fault) → (Among free name.text → ⊥) → f ≡ fault_at causes.WrongKind name.span.start → In (stray free name) f
+  stray_in : (name : Name) (f : Fault) → (In free name.text → ⊥) → f ≡ fault_at causes.WrongKind name.span.start → In (stray free name) f
   unfolding stray
   stray_in name f absent is = unless_in (is_among free name.text) (fault_at causes.WrongKind name.span.start) f (false_from_ne_true (is_among free name.text) (λ h. absent (any_among free name.text h))) (sym is)
 

@@ -6,7 +6,7 @@ use Rattle.xdg_ast.specs.declared.terms.CardKind.{CardKind}
 use Rattle.xdg_ast.specs.declared.terms.TermKind.{TermKind, out-TermKind}
 use Rattle.xdg_ast.specs.declared.terms.ElemKind.{ElemKind, out-ElemKind}
 use Rattle.xdg_ast.specs.declared.terms.ElemKind.TheOpen.{TermKind-F, ElemKind-F}
-use Rattle.xdg_domain.specs.Cards.{has, cards, numbers_below}
+use Rattle.xdg_domain.specs.Cards.{cards}
 use Rattle.xdg_domain.specs.Shapes as d
 use Rattle.xdg_domain.specs.Shapes.{Shape, domain, tuple, truth, integer, text, set, iset, card, valency, mapping, fields, Shapes, Fields, no_field, field_then}
 use Rattle.xdg_domain.specs.Shapes.{sizes, product}
@@ -16,6 +16,7 @@ use Rattle.xdg_domain.specs.declared.values.Value.{Value}
 use Rattle.xdg_domain.specs.declared.values.Value.TheVariants as v
 use Rattle.xdg_terms.specs.Forms.{Term, Card, Gen, Bindings, bound, constant_of, number_of, card_of, counted_elem, keyed_elem}
 use Rattle.xdg_terms.specs.Means.{allows, chosen, fulfils}
+use Rattle.xdg_facts.specs.Rises.{has, numbers_below}
 
 abbrev pub Elem : Type 0
 Elem = Spanned ElemKind

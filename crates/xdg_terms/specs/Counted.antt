@@ -1,6 +1,7 @@
 -- The numbers of a cardinality that were found so far.
 use Rattle.std.specs.Prelude.{ℕ, Bool, false, List, Option, Some, None}
-use Rattle.xdg_domain.specs.Cards.{has, IsCards}
+use Rattle.xdg_domain.specs.Cards.{IsCards}
+use Rattle.xdg_facts.specs.Rises.{has}
 
 abbrev pub told : Option (List ℕ) → ℕ → Bool
 told None n = false

@@ -1,5 +1,5 @@
 -- The offences of a term as a list, in the order in which they are looked for.
-use Rattle.std.specs.Prelude.{ℕ, ◌||◌, nat_lt, Bool, false, List, [], ◌∷◌, ◌++◌, length, map, Option, Some, None, if◌then◌else◌, bytes_eq, codes}
+use Rattle.std.specs.Prelude.{ℕ, ◌||◌, nat_lt, List, [], ◌∷◌, ◌++◌, length, map, Option, Some, None, if◌then◌else◌, bytes_eq, codes}
 use Rattle.std.specs.List.{flat_map}
 use Rattle.xdg_base.specs.declared.faults.Cause.{Cause}
 use Rattle.xdg_base.specs.declared.faults.Cause.TheVariants as causes
@@ -19,17 +19,13 @@ use Rattle.xdg_domain.specs.Shapes.{Shape, domain, tuple, truth, integer, text, 
 use Rattle.xdg_domain.specs.Shapes.{sizes, in_a_row, names_of, fields_of, shape}
 use Rattle.xdg_terms.specs.Forms.{Term, Card, Look, constant_of, number_of, card_of, generator_of, bracket_of, constants_of, brackets_of, counts_of, pairs_of}
 use Rattle.xdg_terms.specs.Offences.{fault_at, gen_names}
+use Rattle.xdg_names.specs.Texts.{has_text}
 
 -- ---- single rules
 
--- the text stands in the list
-abbrev pub has : List (List ℕ) → List ℕ → Bool
-has [] t = false
-has (x ∷ xs) t = bytes_eq x t || has xs t
-
 -- a name that has to stand among these texts
 unfoldable pub missing : Cause → List (List ℕ) → Name → List Fault
-missing cause texts name = if has texts name.text then [] else fault_at cause name.span.start ∷ []
+missing cause texts name = if has_text texts name.text then [] else fault_at cause name.span.start ∷ []
 
 abbrev pub all_missing : Cause → List (List ℕ) → List Name → List Fault
 all_missing cause texts = flat_map (missing cause texts)
@@ -45,7 +41,7 @@ texts_of = map (λ name. name.text)
 
 -- a name that stands before too
 unfoldable pub twice : List Name → Name → List Fault
-twice before name = if has (texts_of before) name.text then fault_at causes.Twice name.span.start ∷ [] else []
+twice before name = if has_text (texts_of before) name.text then fault_at causes.Twice name.span.start ∷ [] else []
 
 -- the names that stand before too, of those after the first ones
 abbrev pub all_twice : List Name → List Name → List Fault

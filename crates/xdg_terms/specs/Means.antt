@@ -1,5 +1,5 @@
 -- Which value a term means where a type is wanted.
-use Rattle.std.specs.Prelude.{◌≡◌, ◌⊎◌, ◌↔◌, ℕ, zero, suc, ◌<◌, ◌==◌, nat_lt, nat_le, Bool, true, false, ◌&&◌, ◌||◌, List, [], ◌∷◌, length, map, get_or, Option}
+use Rattle.std.specs.Prelude.{◌≡◌, ◌⊎◌, ◌↔◌, ℕ, zero, suc, ◌<◌, ◌==◌, nat_lt, nat_le, Bool, true, false, ◌&&◌, ◌||◌, List, [], ◌∷◌, length, get_or, Option}
 use Rattle.std.specs.Prelude.{Some, None, if◌then◌else◌, bytes_eq, codes}
 use Rattle.std.specs.List.{list_any, list_all}
 use Rattle.std.specs.List.Sorted.{IsStrictlyIncreasing}
@@ -10,21 +10,20 @@ use Rattle.xdg_ast.specs.declared.terms.CardKind.TheVariants as c
 use Rattle.xdg_ast.specs.declared.terms.GenKind.{GenKind}
 use Rattle.xdg_ast.specs.declared.terms.GenKind.TheOpen.{GenKind-F}
 use Rattle.xdg_ast.specs.declared.terms.GenKind.TheFolds.{fold-GenKind}
-use Rattle.xdg_domain.specs.Cards.{has, IsCards}
+use Rattle.xdg_domain.specs.Cards.{IsCards}
 use Rattle.xdg_domain.specs.Valencies.{said_at, KeysRise}
 use Rattle.xdg_domain.specs.Shapes as d
 use Rattle.xdg_domain.specs.Shapes.{Shape, domain, tuple, truth, integer, text, set, iset, card, valency, mapping, fields, Shapes, Fields, no_field, field_then}
-use Rattle.xdg_domain.specs.Shapes.{sizes, product, count, Among}
+use Rattle.xdg_domain.specs.Shapes.{sizes, product, count}
 use Rattle.xdg_domain.specs.Tuples.{places}
 use Rattle.xdg_domain.specs.declared.values.Value.{Value, out-Value}
 use Rattle.xdg_domain.specs.declared.values.Value.TheOpen.{Value-F}
-use Rattle.xdg_names.specs.First.{In}
 use Rattle.xdg_terms.specs.Forms.{Term, Card, Bindings, bound, constant_of, number_of, card_of, generator_of, bracket_of, constants_of, brackets_of, counts_of}
 use Rattle.xdg_terms.specs.Forms.{pairs_of}
 use Rattle.xdg_terms.specs.Offences.{all_told}
-
-abbrev pub texts_of : List Name → List (List ℕ)
-texts_of names = map (λ name. name.text) names
+use Rattle.xdg_facts.specs.Membership.{In}
+use Rattle.xdg_facts.specs.Rises.{has}
+use Rattle.xdg_ast.specs.Texts.{texts}
 
 -- the constant with that number
 abbrev pub IsAt : List (List ℕ) → ℕ → List ℕ → Type 0
@@ -55,9 +54,9 @@ fulfils constants = fold-GenKind Bool (fulfils_step constants)
 -- the term names the constant or the tuple with that number
 abbrev pub Mentions : Shape → Term → ℕ → Type 0
 Mentions (tuple ss) t n =
-    ((names : List Name) × (In (all_told (brackets_of (length (sizes ss)) t)) names × (tuple_texts ss n ≡ texts_of names)))
+    ((names : List Name) × (In (all_told (brackets_of (length (sizes ss)) t)) names × (tuple_texts ss n ≡ texts names)))
     ⊎ ((gen : Spanned GenKind) × ((generator_of t ≡ Some gen) × (fulfils (tuple_texts ss n) gen.kind ≡ true)))
-Mentions s t n = Among (texts_of (all_told (constants_of t))) (get_or (d.constants s) n [])
+Mentions s t n = In (texts (all_told (constants_of t))) (get_or (d.constants s) n [])
 
 abbrev pub IsSetOf : Shape → Term → List ℕ → Type 0
 IsSetOf s t ns = IsStrictlyIncreasing ns × ((n : ℕ) → (has ns n ≡ true) ↔ ((n < count s) × Mentions s t n))
@@ -105,7 +104,7 @@ abbrev mutual
   pub MeansIn : Bindings → Shape → Term → Value-F Value → Type 0
   MeansIn bs (domain cs) t (Value-F.Const n) = (name : Name) × ((constant_of t ≡ Some name) × IsAt cs n name.text)
   MeansIn bs (tuple ss) t (Value-F.Tuple n) =
-      (n < product (sizes ss)) × ((names : List Name) × ((bracket_of (length (sizes ss)) t ≡ Some names) × (tuple_texts ss n ≡ texts_of names)))
+      (n < product (sizes ss)) × ((names : List Name) × ((bracket_of (length (sizes ss)) t ≡ Some names) × (tuple_texts ss n ≡ texts names)))
   MeansIn bs truth t (Value-F.Bool b) = (name : Name) × ((constant_of t ≡ Some name) × (name.text ≡ truth_text b))
   MeansIn bs integer t (Value-F.Int n) = number_of t ≡ Some n
   MeansIn bs text t (Value-F.Str x) = (name : Name) × ((constant_of t ≡ Some name) × (name.text ≡ x))

@@ -12,10 +12,10 @@ use Rattle.xdg_ast.specs.declared.terms.GenKind.TheOpen.{GenKind-F}
 use Rattle.xdg_ast.specs.declared.terms.GenKind.TheFolds.{fold-GenKind}
 use Rattle.xdg_domain.specs.Shapes as d
 use Rattle.xdg_domain.specs.Shapes.{Shape, domain, tuple, truth, integer, text, set, iset, card, valency, mapping, fields, Fields, no_field, field_then, sizes}
-use Rattle.xdg_domain.specs.Shapes.{in_a_row, names_of, Among}
-use Rattle.xdg_names.specs.First.{In}
+use Rattle.xdg_domain.specs.Shapes.{in_a_row, names_of}
 use Rattle.xdg_terms.specs.Forms.{Term, Card, Bindings, Look, with_bound, with_open, constant_of, number_of, card_of, generator_of, bracket_of, constants_of}
 use Rattle.xdg_terms.specs.Forms.{brackets_of, counts_of, pairs_of}
+use Rattle.xdg_facts.specs.Membership.{In}
 
 abbrev pub fault_at : Cause → ℕ → Fault
 fault_at cause place = record { cause = cause; at = place; reached = 0 }
@@ -129,7 +129,7 @@ pub record IsNotMember (s : Shape) (t : Term) (f : Fault) : Type 0 where
   pub texts : List (List ℕ)
   pub name : Name
   pub stands : In (asked s t) (texts, name)
-  pub missing : Among texts name.text → ⊥
+  pub missing : In texts name.text → ⊥
   pub fault : f ≡ fault_at causes.NotMember name.span.start
 
 -- a key stands there that an earlier one has too
@@ -138,14 +138,14 @@ pub record IsTwice (s : Shape) (t : Term) (f : Fault) : Type 0 where
   pub name : Name
   pub after : List Name
   pub parts : keys s t ≡ before ++ name ∷ after
-  pub earlier : Among (map (λ key. key.text) before) name.text
+  pub earlier : In (map (λ key. key.text) before) name.text
   pub fault : f ≡ fault_at causes.Twice name.span.start
 
 -- no field has the name
 pub record IsUnknownField (s : Shape) (t : Term) (f : Fault) : Type 0 where
   pub name : Name
   pub stands : In (field_keys s t) name
-  pub missing : Among (known_fields s) name.text → ⊥
+  pub missing : In (known_fields s) name.text → ⊥
   pub fault : f ≡ fault_at causes.UnknownName name.span.start
 
 -- a number is above 127; the second number of an interval is below the first; no number is given

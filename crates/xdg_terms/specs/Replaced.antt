@@ -2,10 +2,10 @@
 use Rattle.std.specs.Prelude.{◌≡◌, ℕ, List, [], Some}
 use Rattle.xdg_base.specs.declared.faults.Fault.{Fault}
 use Rattle.xdg_domain.specs.Shapes.{Shape}
-use Rattle.xdg_names.specs.First.{In}
 use Rattle.xdg_terms.specs.Forms.{Term, Bindings, bound_to}
 use Rattle.xdg_terms.specs.Offences.{OpenOffends}
 use Rattle.xdg_terms.specs.Wanted.{params_in}
+use Rattle.xdg_facts.specs.Membership.{In}
 
 -- nothing is wrong with the term, in which these parameters are open
 abbrev pub IsOpenRight : List (List ℕ) → Shape → Term → Type 0

@@ -8,10 +8,9 @@ use Rattle.xdg_ast.specs.declared.terms.TermKind.{TermKind}
 use Rattle.xdg_ast.specs.declared.terms.ElemKind.{ElemKind}
 use Rattle.xdg_ast.specs.declared.terms.ElemKind.TheOpen.{TermKind-F, ElemKind-F}
 use Rattle.xdg_ast.specs.declared.terms.ElemKind.TheFolds.{fold-TermKind, fold-ElemKind}
-use Rattle.xdg_domain.specs.Shapes.{Among}
-use Rattle.xdg_names.specs.First.{In}
 use Rattle.xdg_terms.specs.Forms.{Term}
 use Rattle.xdg_terms.specs.Offences.{fault_at}
+use Rattle.xdg_facts.specs.Membership.{In}
 
 -- ---- all parameters in a term
 
@@ -35,7 +34,7 @@ elem_tokens = fold-ElemKind (List Name) (List Name) elem_step term_step
 pub record IsStrayParam (free : List (List ℕ)) (t : Term) (f : Fault) : Type 0 where
   pub name : Name
   pub stands : In (tokens t.kind) name
-  pub missing : Among free name.text → ⊥
+  pub missing : In free name.text → ⊥
   pub fault : f ≡ fault_at causes.WrongKind name.span.start
 
 -- ---- the same as a list

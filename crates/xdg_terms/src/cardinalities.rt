@@ -2,7 +2,8 @@
 
 ghost use Rattle.std.specs.Prelude.{◌≡◌, ℕ, ◌<◌, ◌==◌, ◌||◌, ◌&&◌, Bool, nat_le};
 ghost use Rattle.std.specs.List.{list_any};
-ghost use Rattle.xdg_domain.specs.Cards.{has, numbers_below, IsCards};
+ghost use Rattle.xdg_domain.specs.Cards.{IsCards};
+ghost use Rattle.xdg_facts.specs.Rises.{has, numbers_below};
 ghost use Rattle.xdg_terms.specs.Built as spec;
 ghost use Rattle.xdg_terms.specs.Counted.{told, AreCards};
 

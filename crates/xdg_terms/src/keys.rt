@@ -6,6 +6,7 @@ ghost use Rattle.xdg_base.specs.declared.faults.Cause.TheVariants as causes;
 ghost use Rattle.xdg_domain.specs.Shapes.{names_of};
 ghost use Rattle.xdg_names.specs.First.{first};
 ghost use Rattle.xdg_terms.specs.Faults as spec;
+ghost use Rattle.xdg_names.specs.Texts.{has_text};
 
 use crate::cards::check_card;
 use crate::faults::fault_at;
@@ -19,7 +20,7 @@ use xdg_names::earlier;
 /// Whether an element has the key.
 #[tactic(auto, unfolding(crate::specs::Faults::key_of))]
 fn has_key(elem: &Elem, text: &str) -> bool
-    ensures { result ≡ spec.has (spec.texts_of (spec.key_of elem.now)) text.now }
+    ensures { result ≡ has_text (spec.texts_of (spec.key_of elem.now)) text.now }
 {
     match &elem.kind {
         ElemKind::Count(name, _) => name.text.as_str() == text,
@@ -30,7 +31,7 @@ fn has_key(elem: &Elem, text: &str) -> bool
 
 /// Whether one of the elements has the key.
 fn is_key(elems: &[Elem], text: &str) -> bool
-    ensures { result ≡ spec.has (spec.texts_of (spec.keys elems.now)) text.now }
+    ensures { result ≡ has_text (spec.texts_of (spec.keys elems.now)) text.now }
 {
     for elem in elems {
         if has_key(elem, text) {
@@ -108,7 +109,7 @@ pub(crate) fn check_keys(texts: &[Text], elems: &[Elem]) -> Option<Fault>
 
 /// Whether a field has the name.
 fn has_field(fields: &[(Text, Ty)], text: &str) -> bool
-    ensures { result ≡ spec.has (names_of (spec.fields_in fields.now)) text.now }
+    ensures { result ≡ has_text (names_of (spec.fields_in fields.now)) text.now }
 {
     for (name, _) in fields {
         if name.as_str() == text {

@@ -6,6 +6,7 @@ ghost use Rattle.xdg_domain.specs.Shapes as shapes;
 ghost use Rattle.xdg_domain.specs.Shapes.{shape, shapes_of};
 ghost use Rattle.xdg_names.specs.First.{first};
 ghost use Rattle.xdg_terms.specs.Faults as spec;
+ghost use Rattle.xdg_names.specs.Texts.{has_text};
 
 use crate::cards::check_card;
 use crate::faults::fault_at;
@@ -26,7 +27,7 @@ pub(crate) fn constants(ty: &Ty) -> &[Text]
 
 /// Whether a text stands in the list.
 pub(crate) fn has(texts: &[Text], text: &str) -> bool
-    ensures { result ≡ spec.has texts.now text.now }
+    ensures { result ≡ has_text texts.now text.now }
 {
     for other in texts {
         if other.as_str() == text {

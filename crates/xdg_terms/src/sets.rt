@@ -7,6 +7,7 @@ ghost use Rattle.xdg_domain.specs.Shapes as shapes;
 ghost use Rattle.xdg_domain.specs.Shapes.{shape, shapes_of};
 ghost use Rattle.xdg_names.specs.First.{first};
 ghost use Rattle.xdg_terms.specs.Faults as spec;
+ghost use Rattle.xdg_names.specs.Texts.{has_text};
 ghost use Rattle.xdg_terms.specs.Offences.{gen_names};
 
 use crate::faults::fault_at;
@@ -78,7 +79,7 @@ fn check_each_bracket(types: &[Ty], elems: &[Elem]) -> Option<Fault>
 
 /// Whether a text is a constant of one of the domains.
 fn is_in_a_row(types: &[Ty], text: &str) -> bool
-    ensures { result ≡ spec.has (shapes.in_a_row (shapes.constants_of (shapes_of (map shape types.now)))) text.now }
+    ensures { result ≡ has_text (shapes.in_a_row (shapes.constants_of (shapes_of (map shape types.now)))) text.now }
 {
     for ty in types {
         if has(constants(ty), text) {

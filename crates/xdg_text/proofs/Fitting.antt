@@ -1,18 +1,18 @@
 -- What an analysis of a problem gives to the writers of its lines.
-use Rattle.std.proofs.Common.{◌≡◌, ◌≤◌, ◌+◌, ◌*◌, ◌++◌, ℕ, zero, suc, List, [], ◌∷◌, length, drop, map, refl, sym, ap, ◌∙◌, subst, arith, append_assoc, zero-mul}
+use Rattle.std.proofs.Common.{◌≡◌, ◌≤◌, ◌+◌, ◌*◌, ◌++◌, ℕ, zero, suc, List, [], ◌∷◌, length, drop, map, sym, ap, ◌∙◌, subst, arith, append_assoc, zero-mul}
 use Rattle.std.proofs.lemmas.List.{drop-drop}
 use Rattle.std.specs.List.{flat_map}
-use Rattle.xdg_base.specs.declared.ids.EntryNo.{EntryNo}
 use Rattle.xdg_facts.specs.Fits.{Fits}
 use Rattle.xdg_problem.specs.declared.analysis.Analysis.{Analysis}
 use Rattle.xdg_problem.specs.declared.parts.AttrPlan.{AttrPlan}
 use Rattle.xdg_problem.specs.declared.parts.DimPlan.{DimPlan}
 use Rattle.xdg_problem.specs.declared.parts.Parts.{Parts}
-use Rattle.xdg_problem.specs.Analyses.{HasCandidates, IsAnalysis}
+use Rattle.xdg_problem.specs.Analyses.{IsAnalysis}
 use Rattle.xdg_problem.specs.Places.{numbers_from}
 use Rattle.xdg_problem.specs.Problems.{IsProblem}
 use Rattle.xdg_problem.specs.Vectors.{attr_sizes}
 use Rattle.xdg_text.specs.Ranges.{HasValues, NodesHaveValues, DimsHaveValues}
+use Rattle.xdg_problem.proofs.EntryPlaces.{length_entries}
 
 -- numbers that go with the sizes are there, and the numbers after them go with the other sizes
 record Has (here : Type 0) (more : List ℕ) (left : List ℕ) : Type 0 where
@@ -45,15 +45,9 @@ fits_dims n (plan ∷ plans) values fits enough =
     let here = fits_nodes plan.attrs 0 n (attr_sizes n plans) values fits enough in
     (here.has, fits_dims n plans (drop (n * length plan.attrs) values) here.fits here.enough)
 
-same_count : (candidates : List (List EntryNo)) (entries : List EntryNo) → HasCandidates candidates entries → length entries ≡ length candidates
-same_count [] [] has = refl
-same_count [] (entry ∷ entries) has = absurd has
-same_count (cs ∷ candidates) [] has = absurd has
-same_count (cs ∷ candidates) (entry ∷ entries) has = ap suc (same_count candidates entries has.1)
-
 -- there is an entry for each word
 pub entries_each : (parts : Parts) (analysis : Analysis) → IsProblem parts → IsAnalysis parts analysis → length analysis.entries ≡ length parts.words
-entries_each parts analysis problem fits = same_count parts.candidates analysis.entries fits.entries ∙ problem.candidates_each
+entries_each parts analysis problem fits = length_entries parts.candidates analysis.entries fits.entries ∙ problem.candidates_each
 
 -- each attribute of each node has one of its values
 pub values_there : (parts : Parts) (analysis : Analysis) → IsAnalysis parts analysis → DimsHaveValues (length parts.words) parts.dims analysis.attrs

@@ -7,7 +7,7 @@ use Rattle.xdg_facts.proofs.Truths.{none_or}
 pub name_of_parts : (text : List ℕ) (first : ℕ) (others : List ℕ) → text ≡ first ∷ others → is_name text ≡ ((begins_name first && list_all continues_name others) && not (is_keyword text))
 name_of_parts text first others parts = subst (λ z. is_name z ≡ ((begins_name first && list_all continues_name others) && not (is_keyword z))) (sym parts) refl
 
-unescaped : (byte : ℕ) → is_escaped byte ≡ false → escaped byte ≡ byte ∷ []
+pub unescaped : (byte : ℕ) → is_escaped byte ≡ false → escaped byte ≡ byte ∷ []
 unescaped byte none = ap (λ z. cond z (92 ∷ byte ∷ []) (byte ∷ [])) none
 
 -- a text without quotation marks and backslashes stands as it is

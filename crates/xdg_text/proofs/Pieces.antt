@@ -11,6 +11,7 @@ use Rattle.xdg_text.specs.Lines.{led, line}
 use Rattle.std.specs.Prelude.{codes}
 use Rattle.xdg_text.specs.Words.{word_text, led_word}
 use Rattle.xdg_io.proofs.Written as io
+use Rattle.xdg_io.proofs.Written.{appends_both, front_of_second, front_of_first, written_all}
 use Rattle.xdg_io.proofs.Counts as counts
 
 pub rose_later : (a b c : ℕ) → a ≤ b → Rose b c → Rose a c
@@ -18,18 +19,6 @@ rose_later a b c same rose = counts.rose_later a b c same rose
 
 pub stays : {a b c : ℕ} → b ≡ a → c ≡ b → c ≡ a
 stays first second = second ∙ first
-
--- a part was added, and then another
-pub appends_both : {a b c : Option (List ℕ)} {x y : List ℕ} → Appends a b x → Appends b c y → Appends a c (x ++ y)
-appends_both first second = io.appends_both first second
-
--- a part was added, and then a proper front of another
-pub front_of_second : {a b c : Option (List ℕ)} {x y : List ℕ} → Appends a b x → AppendsFront b c y → AppendsFront a c (x ++ y)
-front_of_second first second = io.front_of_second first second
-
--- a proper front of the first part is one of both
-pub front_of_first : {a b : Option (List ℕ)} {x : List ℕ} (y : List ℕ) → AppendsFront a b x → AppendsFront a b (x ++ y)
-front_of_first y first = io.front_of_first y first
 
 -- before the first piece all is left
 pub start : (a : Option (List ℕ)) (text : List ℕ) → WrittenSoFar a a text text
@@ -50,10 +39,6 @@ stop {a} {b} {c} {text} {piece} rest so_far added =
     let both : AppendsFront b c (piece ++ rest) = io.front_of_first rest added in
     let all : AppendsFront a c (so_far.front ++ (piece ++ rest)) = io.front_of_second so_far.appends both in
     subst (λ z. AppendsFront a c z) so_far.parts all
-
--- where nothing is left, all was added
-pub done : {a b : Option (List ℕ)} {text rest : List ℕ} → WrittenSoFar a b text rest → rest ≡ [] → Appends a b text
-done so_far empty = io.written_all so_far empty
 
 -- the text of a list of items from a place on begins with that of the item there
 from_place : {X : Type 0} (f : X → List ℕ) (xs : List X) (i : ℕ) (x : X) → i < length xs → x ≡ get_or xs i x → flat_map f (drop i xs) ≡ f x ++ flat_map f (drop (i + 1) xs)
@@ -90,3 +75,12 @@ led_words (word ∷ words) = ap (λ z. led_word word ++ z) (led_words words)
 -- the words of a line, and its line feed
 pub line_parts : (first : List ℕ) (others : List Word) → (first ++ flat_map led_word others) ++ codes "\n" ≡ line first (map word_text others)
 line_parts first others = append_assoc first (flat_map led_word others) (codes "\n") ∙ ap (λ z. first ++ (z ++ codes "\n")) (sym (led_words others))
+
+-- what was written at once, in parts and by a last call
+pub ruleset write_steps = (appends_both, start, written_all, rose_later)
+
+-- what was written by one call or by two
+pub ruleset byte_steps = (appends_both, front_of_second, front_of_first, rose_later)
+
+-- what was written by a loop
+pub ruleset each_steps = (start, next_of, stop_of, written_all, rose_later)

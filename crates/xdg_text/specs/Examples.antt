@@ -1,5 +1,5 @@
 -- Some constants, values, lines and a block, worked out by hand.
-use Rattle.std.specs.Prelude.{◌≡◌, List, [], ◌∷◌, true, false, codes, refl}
+use Rattle.std.specs.Prelude.{◌≡◌, List, [], ◌∷◌, ◌++◌, true, false, codes, refl}
 use Rattle.std.specs.Fmt.{digits}
 use Rattle.xdg_base.specs.declared.faults.Cause.TheVariants as causes
 use Rattle.xdg_problem.specs.declared.parts.AttrPlan.{AttrPlan}
@@ -78,8 +78,8 @@ abbrev pub reading : Analysis
 reading = record { entries = record { 0 = 9 } ∷ record { 0 = 3 } ∷ []; attrs = 0 ∷ 1 ∷ 1 ∷ 0 ∷ 0 ∷ 1 ∷ []; edges = edge 1 1 0 0 ∷ [] }
 
 by_dimension_node_and_attribute : block german 12 reading
-    ≡ codes
-    "analysis 12\nword 1 \"der\" 10\nword 2 \"Frau\" 4\nattr id 1 agr [m nom]\nattr id 2 agr [f gen]\nattr lp 1 on \"v f\"\nattr lp 1 agr [m nom]\nattr lp 2 on n\nattr lp 2 agr [f gen]\nedge lp 2 detf 1\nend\n"
+    ≡ codes "analysis 12\nword 1 \"der\" 10\nword 2 \"Frau\" 4\nattr id 1 agr [m nom]\nattr id 2 agr [f gen]\n"
+    ++ codes "attr lp 1 on \"v f\"\nattr lp 1 agr [m nom]\nattr lp 2 on n\nattr lp 2 agr [f gen]\nedge lp 2 detf 1\nend\n"
 unfolding is_keyword keywords digits
 by_dimension_node_and_attribute = refl
 

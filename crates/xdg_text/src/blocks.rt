@@ -37,7 +37,7 @@ fn write_word_line<K: Sink>(
 }
 
 /// Writes the lines of all nodes.
-#[tactic(auto, using(crate::proofs::Pieces::appends_both, crate::proofs::Pieces::start, crate::proofs::Pieces::done, crate::proofs::Pieces::rose_later))]
+#[tactic(auto, using(crate::proofs::Pieces::write_steps))]
 fn write_word_lines<K: Sink>(
     words: &[SentenceWord],
     entries: &[EntryNo],
@@ -83,7 +83,7 @@ fn write_attr_line<'a, K: Sink>(
 }
 
 /// Writes the lines of a node's attributes, whose values come first in the list.
-#[tactic(auto, using(crate::proofs::Pieces::appends_both, crate::proofs::Pieces::start, crate::proofs::Pieces::done, crate::proofs::Pieces::rose_later))]
+#[tactic(auto, using(crate::proofs::Pieces::write_steps))]
 fn write_node_lines<K: Sink>(
     dim: &Text,
     node: usize,
@@ -106,7 +106,7 @@ fn write_node_lines<K: Sink>(
 }
 
 /// Writes the lines of the attributes of a dimension, node by node.
-#[tactic(auto, using(crate::proofs::Pieces::appends_both, crate::proofs::Pieces::start, crate::proofs::Pieces::done, crate::proofs::Pieces::rose_later))]
+#[tactic(auto, using(crate::proofs::Pieces::write_steps))]
 fn write_dim_lines<K: Sink>(
     dim: &DimPlan,
     nodes: usize,
@@ -132,7 +132,7 @@ fn write_dim_lines<K: Sink>(
 }
 
 /// Writes the lines of all attributes, dimension by dimension.
-#[tactic(auto, using(crate::proofs::Pieces::appends_both, crate::proofs::Pieces::start, crate::proofs::Pieces::done, crate::proofs::Pieces::rose_later))]
+#[tactic(auto, using(crate::proofs::Pieces::write_steps))]
 fn write_attr_lines<K: Sink>(
     dims: &[DimPlan],
     nodes: usize,
@@ -178,7 +178,7 @@ fn write_edge_line<K: Sink>(dims: &[DimPlan], edge: &Edge, sink: &mut K) -> Resu
 }
 
 /// Writes the lines of edges in their order.
-#[tactic(auto, using(crate::proofs::Pieces::appends_both, crate::proofs::Pieces::start, crate::proofs::Pieces::done, crate::proofs::Pieces::rose_later))]
+#[tactic(auto, using(crate::proofs::Pieces::write_steps))]
 fn write_edge_lines<K: Sink>(dims: &[DimPlan], edges: &[Edge], sink: &mut K) -> Result<(), Failed>
     requires { All (HasNames dims.now) edges.now }
     ensures all { OnOk result (Appends (K.held sink.old) (K.held sink.new) (edge_lines dims.now edges.now)) }
@@ -194,7 +194,7 @@ fn write_edge_lines<K: Sink>(dims: &[DimPlan], edges: &[Edge], sink: &mut K) -> 
 }
 
 /// Writes the lines of the words, of the attributes and of the edges, and the last line.
-#[tactic(auto, using(crate::proofs::Pieces::appends_both, crate::proofs::Pieces::rose_later))]
+#[tactic(auto, using(xdg_io::proofs::Written::appends_both, crate::proofs::Pieces::rose_later))]
 fn write_body<K: Sink>(
     words: &[SentenceWord],
     dims: &[DimPlan],
@@ -221,7 +221,7 @@ fn write_body<K: Sink>(
 }
 
 /// Writes the lines of text 1.
-#[tactic(auto, using(crate::proofs::Pieces::appends_both, crate::proofs::Pieces::rose_later))]
+#[tactic(auto, using(xdg_io::proofs::Written::appends_both, crate::proofs::Pieces::rose_later))]
 fn write_block<K: Sink>(
     words: &[SentenceWord],
     dims: &[DimPlan],
@@ -268,7 +268,7 @@ fn write_counts<K: Sink>(
 }
 
 /// Writes the lines of text 2.
-#[tactic(auto, using(crate::proofs::Pieces::appends_both, crate::proofs::Pieces::rose_later))]
+#[tactic(auto, using(xdg_io::proofs::Written::appends_both, crate::proofs::Pieces::rose_later))]
 fn write_block2<K: Sink>(
     words: &[SentenceWord],
     dims: &[DimPlan],
@@ -363,7 +363,8 @@ pub fn write_parts2<K: Sink>(
     ensures all { OnOk result
         (Appends (K.held sink.old) (K.held sink.new) (block2 problem.now number (record { entries = entries.now; attrs = attrs.now; edges = edges.now }))) }
     ensures front { OnErr result
-        (AppendsFront (K.held sink.old) (K.held sink.new) (block2 problem.now number (record { entries = entries.now; attrs = attrs.now; edges = edges.now }))) }
+        (AppendsFront (K.held sink.old) (K.held sink.new)
+        (block2 problem.now number (record { entries = entries.now; attrs = attrs.now; edges = edges.now }))) }
     ensures cause { OnErr result (Rose (K.faults sink.old) (K.faults sink.new)) }
     ensures lasting { K.faults sink.old ≤ K.faults sink.new }
     ensures quiet { OnOk result (K.faults sink.new ≡ K.faults sink.old) }

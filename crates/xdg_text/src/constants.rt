@@ -75,7 +75,7 @@ fn has_escaped(bytes: &[u8]) -> bool
 }
 
 /// Writes a byte as it stands between quotation marks.
-#[tactic(auto, using(crate::proofs::Pieces::appends_both, crate::proofs::Pieces::front_of_second, crate::proofs::Pieces::front_of_first, crate::proofs::Pieces::rose_later))]
+#[tactic(auto, using(crate::proofs::Pieces::byte_steps))]
 fn write_escaped_byte<K: Sink>(byte: u8, sink: &mut K) -> Result<(), Failed>
     ensures all { OnOk result (Appends (K.held sink.old) (K.held sink.new) (escaped byte)) }
     ensures front { OnErr result (AppendsFront (K.held sink.old) (K.held sink.new) (escaped byte)) }
@@ -91,7 +91,7 @@ fn write_escaped_byte<K: Sink>(byte: u8, sink: &mut K) -> Result<(), Failed>
 }
 
 /// Writes bytes as they stand between quotation marks, one by one.
-#[tactic(auto, using(crate::proofs::Pieces::start, crate::proofs::Pieces::next_of, crate::proofs::Pieces::stop_of, crate::proofs::Pieces::done, crate::proofs::Pieces::rose_later))]
+#[tactic(auto, using(crate::proofs::Pieces::each_steps))]
 fn write_escaped_bytes<K: Sink>(bytes: &[u8], sink: &mut K) -> Result<(), Failed>
     ensures all { OnOk result (Appends (K.held sink.old) (K.held sink.new) (flat_map escaped bytes.now)) }
     ensures front { OnErr result (AppendsFront (K.held sink.old) (K.held sink.new) (flat_map escaped bytes.now)) }
@@ -122,8 +122,8 @@ fn write_escaped<K: Sink>(text: &str, sink: &mut K) -> Result<(), Failed>
 }
 
 /// Writes a text between quotation marks.
-#[tactic(auto, using(crate::proofs::Pieces::appends_both, crate::proofs::Pieces::front_of_second, crate::proofs::Pieces::front_of_first, crate::proofs::Pieces::rose_later))]
-pub fn write_quoted<K: Sink>(text: &str, sink: &mut K) -> Result<(), Failed>
+#[tactic(auto, using(crate::proofs::Pieces::byte_steps))]
+pub(crate) fn write_quoted<K: Sink>(text: &str, sink: &mut K) -> Result<(), Failed>
     ensures all { OnOk result (Appends (K.held sink.old) (K.held sink.new) (quoted text.now)) }
     ensures front { OnErr result (AppendsFront (K.held sink.old) (K.held sink.new) (quoted text.now)) }
     ensures cause { OnErr result (Rose (K.faults sink.old) (K.faults sink.new)) }

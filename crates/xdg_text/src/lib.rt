@@ -9,8 +9,7 @@ mod pushing;
 mod values;
 
 pub use blocks::{write, write_parts, write_parts2, write2};
-pub use constants::{is_name, write_constant, write_quoted};
+pub use constants::{is_name, write_constant};
 pub use faults::{fault_line, write_complete, write_first, write_spent, write_usage};
 pub use lines::{Word, write_line};
 pub use pushing::push;
-pub use values::write_value;

@@ -69,7 +69,7 @@ fn write_word<K: Sink>(word: &Word, sink: &mut K) -> Result<(), Failed>
 }
 
 /// Writes a word with a space before it.
-#[tactic(auto, using(crate::proofs::Pieces::appends_both, crate::proofs::Pieces::start, crate::proofs::Pieces::done, crate::proofs::Pieces::rose_later))]
+#[tactic(auto, using(crate::proofs::Pieces::write_steps))]
 fn write_led_word<K: Sink>(word: &Word, sink: &mut K) -> Result<(), Failed>
     ensures all { OnOk result (Appends (K.held sink.old) (K.held sink.new) (led_word word.now)) }
     ensures front { OnErr result (AppendsFront (K.held sink.old) (K.held sink.new) (led_word word.now)) }
@@ -82,7 +82,7 @@ fn write_led_word<K: Sink>(word: &Word, sink: &mut K) -> Result<(), Failed>
 }
 
 /// Writes words with a space before each.
-#[tactic(auto, using(crate::proofs::Pieces::appends_both, crate::proofs::Pieces::start, crate::proofs::Pieces::done, crate::proofs::Pieces::rose_later))]
+#[tactic(auto, using(crate::proofs::Pieces::write_steps))]
 fn write_led_words<K: Sink>(words: &[Word], sink: &mut K) -> Result<(), Failed>
     ensures all { OnOk result (Appends (K.held sink.old) (K.held sink.new) (flat_map led_word words.now)) }
     ensures front { OnErr result (AppendsFront (K.held sink.old) (K.held sink.new) (flat_map led_word words.now)) }
@@ -97,7 +97,7 @@ fn write_led_words<K: Sink>(words: &[Word], sink: &mut K) -> Result<(), Failed>
 }
 
 /// Writes the words of a line with a space between two.
-#[tactic(auto, using(crate::proofs::Pieces::appends_both, crate::proofs::Pieces::start, crate::proofs::Pieces::done, crate::proofs::Pieces::rose_later))]
+#[tactic(auto, using(crate::proofs::Pieces::write_steps))]
 fn write_words<K: Sink>(first: &str, others: &[Word], sink: &mut K) -> Result<(), Failed>
     ensures all { OnOk result (Appends (K.held sink.old) (K.held sink.new) (first.now ++ flat_map led_word others.now)) }
     ensures front { OnErr result (AppendsFront (K.held sink.old) (K.held sink.new) (first.now ++ flat_map led_word others.now)) }
@@ -110,7 +110,7 @@ fn write_words<K: Sink>(first: &str, others: &[Word], sink: &mut K) -> Result<()
 }
 
 /// Writes a line behind which another one is written at once.
-#[tactic(auto, using(crate::proofs::Pieces::appends_both, crate::proofs::Pieces::start, crate::proofs::Pieces::done, crate::proofs::Pieces::rose_later))]
+#[tactic(auto, using(crate::proofs::Pieces::write_steps))]
 pub(crate) fn write_inner_line<K: Sink>(
     first: &str,
     others: &[Word],
@@ -127,7 +127,7 @@ pub(crate) fn write_inner_line<K: Sink>(
 }
 
 /// Writes a line: its words with a space between two, and a line feed.
-#[tactic(auto, using(crate::proofs::Pieces::appends_both, crate::proofs::Pieces::start, crate::proofs::Pieces::done, crate::proofs::Pieces::rose_later))]
+#[tactic(auto, using(crate::proofs::Pieces::write_steps))]
 pub fn write_line<K: Sink>(first: &str, others: &[Word], sink: &mut K) -> Result<(), Failed>
     ensures all { OnOk result (Appends (K.held sink.old) (K.held sink.new) (line first.now (map word_text others.now))) }
     ensures front { OnErr result (AppendsFront (K.held sink.old) (K.held sink.new) (line first.now (map word_text others.now))) }

@@ -36,6 +36,8 @@ impl Sink for Kept {
 }
 
 /// Adds the bytes of a block, as [`write`] writes them. On want of memory the bytes stay as they were.
+///
+/// No command calls it: it is for those who keep texts in memory.
 pub fn push(
     alloc: Global,
     bytes: &mut Bytes,

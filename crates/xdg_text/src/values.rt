@@ -24,7 +24,7 @@ fn write_text<K: Sink>(text: &Text, sink: &mut K) -> Result<(), Failed>
 }
 
 /// Writes a constant with a space before it.
-#[tactic(auto, using(crate::proofs::Pieces::appends_both, crate::proofs::Pieces::start, crate::proofs::Pieces::done, crate::proofs::Pieces::rose_later))]
+#[tactic(auto, using(crate::proofs::Pieces::write_steps))]
 fn write_led_constant<K: Sink>(text: &Text, sink: &mut K) -> Result<(), Failed>
     ensures all { OnOk result (Appends (K.held sink.old) (K.held sink.new) (led_constant text.now)) }
     ensures front { OnErr result (AppendsFront (K.held sink.old) (K.held sink.new) (led_constant text.now)) }
@@ -37,7 +37,7 @@ fn write_led_constant<K: Sink>(text: &Text, sink: &mut K) -> Result<(), Failed>
 }
 
 /// Writes constants with a space before each.
-#[tactic(auto, using(crate::proofs::Pieces::appends_both, crate::proofs::Pieces::start, crate::proofs::Pieces::done, crate::proofs::Pieces::rose_later))]
+#[tactic(auto, using(crate::proofs::Pieces::write_steps))]
 fn write_led_constants<K: Sink>(texts: &[Text], sink: &mut K) -> Result<(), Failed>
     ensures all { OnOk result (Appends (K.held sink.old) (K.held sink.new) (flat_map led_constant texts.now)) }
     ensures front { OnErr result (AppendsFront (K.held sink.old) (K.held sink.new) (flat_map led_constant texts.now)) }
@@ -52,7 +52,7 @@ fn write_led_constants<K: Sink>(texts: &[Text], sink: &mut K) -> Result<(), Fail
 }
 
 /// Writes constants with a space between two.
-#[tactic(auto, using(crate::proofs::Pieces::appends_both, crate::proofs::Pieces::start, crate::proofs::Pieces::done, crate::proofs::Pieces::rose_later))]
+#[tactic(auto, using(crate::proofs::Pieces::write_steps))]
 fn write_constants<K: Sink>(texts: &[Text], sink: &mut K) -> Result<(), Failed>
     ensures all { OnOk result (Appends (K.held sink.old) (K.held sink.new) (join_by constant (codes " ") texts.now)) }
     ensures front { OnErr result (AppendsFront (K.held sink.old) (K.held sink.new) (join_by constant (codes " ") texts.now)) }
@@ -70,7 +70,7 @@ fn write_constants<K: Sink>(texts: &[Text], sink: &mut K) -> Result<(), Failed>
 }
 
 /// Writes a tuple in square brackets.
-#[tactic(auto, using(crate::proofs::Pieces::appends_both, crate::proofs::Pieces::start, crate::proofs::Pieces::done, crate::proofs::Pieces::rose_later))]
+#[tactic(auto, using(crate::proofs::Pieces::write_steps))]
 fn write_tuple<K: Sink>(texts: &[Text], sink: &mut K) -> Result<(), Failed>
     ensures all { OnOk result (Appends (K.held sink.old) (K.held sink.new) (codes "[" ++ (join_by constant (codes " ") texts.now ++ codes "]"))) }
     ensures front { OnErr result (AppendsFront (K.held sink.old) (K.held sink.new) (codes "[" ++ (join_by constant (codes " ") texts.now ++ codes "]"))) }
@@ -84,7 +84,7 @@ fn write_tuple<K: Sink>(texts: &[Text], sink: &mut K) -> Result<(), Failed>
 }
 
 /// Writes a value of an attribute: one constant, or those of a tuple in square brackets.
-pub fn write_value<K: Sink>(value: &Shown, sink: &mut K) -> Result<(), Failed>
+pub(crate) fn write_value<K: Sink>(value: &Shown, sink: &mut K) -> Result<(), Failed>
     ensures all { OnOk result (Appends (K.held sink.old) (K.held sink.new) (value_text value.now)) }
     ensures front { OnErr result (AppendsFront (K.held sink.old) (K.held sink.new) (value_text value.now)) }
     ensures cause { OnErr result (Rose (K.faults sink.old) (K.faults sink.new)) }

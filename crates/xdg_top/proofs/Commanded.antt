@@ -77,14 +77,7 @@ memory_leaves given O held = record { part = memory_part O held; at_once = λ ot
 pub memory_left : (command : Command) (O : Status → List ℕ → Type 0) (held : Option (List ℕ)) → LeavesOf command O statuses.OutOfMemory held held
 memory_left (commands.Corpus options) O held = memory_part O held
 memory_left (commands.Arrange options) O held = memory_part O held
-memory_left (commands.Parse options) O held = refl
-memory_left (commands.Resume options) O held = refl
-memory_left (commands.Explain options) O held = refl
-memory_left (commands.Check grammar) O held = refl
-memory_left (commands.Lexicon grammar) O held = refl
-memory_left (commands.Print grammar) O held = refl
-memory_left (commands.Drill number) O held = refl
-memory_left (commands.Best options) O held = refl
+memory_left other O held = refl
 
 -- words that are no command write the usage line, or nothing
 pub usage_leaves : (given : List (List ℕ)) (O : Status → List ℕ → Type 0) (result : Status) (old new : Option (List ℕ)) → Leaves O result old new → LeavesBy given O result old new
@@ -144,28 +137,12 @@ asked_leaves given files input command asked result old new exact is leaves = su
 -- no command ends as words that are none
 never_usage : (command : Command) → EndsWith command statuses.Usage → ⊥
 never_usage (commands.Parse options) e = e
-never_usage (commands.Resume options) e = e
-never_usage (commands.Explain options) e = e
-never_usage (commands.Check grammar) e = e
-never_usage (commands.Lexicon grammar) e = e
-never_usage (commands.Print grammar) e = e
-never_usage (commands.Drill number) e = e
-never_usage (commands.Corpus options) e = e
-never_usage (commands.Arrange options) e = e
-never_usage (commands.Best options) e = e
+never_usage other e = e
 
 -- each may end for want of memory
 pub memory_ends : (command : Command) → EndsWith command statuses.OutOfMemory
 memory_ends (commands.Parse options) = tt
-memory_ends (commands.Resume options) = tt
-memory_ends (commands.Explain options) = tt
-memory_ends (commands.Check grammar) = tt
-memory_ends (commands.Lexicon grammar) = tt
-memory_ends (commands.Print grammar) = tt
-memory_ends (commands.Drill number) = tt
-memory_ends (commands.Corpus options) = tt
-memory_ends (commands.Arrange options) = tt
-memory_ends (commands.Best options) = tt
+memory_ends other = tt
 
 pub not_usage : (command : Command) (result : Status) → EndsWith command result → result ≡ statuses.Usage → ⊥
 not_usage command result ends e = never_usage command (subst (EndsWith command) e ends)

@@ -3,19 +3,17 @@ use Rattle.std.proofs.Common.{◌≡◌, ◌≢◌, ◌<◌, ℕ, zero, suc, Lis
 use Rattle.std.specs.Prelude.{Option, None, slice_index_or}
 use Rattle.xdg_base.specs.declared.ids.AttrId.{AttrId}
 use Rattle.xdg_base.specs.declared.ids.DimId.{DimId}
-use Rattle.xdg_base.specs.declared.ids.EntryNo.{EntryNo}
 use Rattle.xdg_problem.specs.declared.parts.AttrPlan.{AttrPlan}
 use Rattle.xdg_problem.specs.declared.parts.DimPlan.{DimPlan}
 use Rattle.xdg_problem.specs.declared.parts.Parts.{Parts}
-use Rattle.xdg_problem.specs.Problems.{IsProblem, IsAttr, IsDim, IsGroup, AreCandidates, AreFeatures}
+use Rattle.xdg_problem.specs.Problems.{IsProblem, IsAttr, IsDim, IsGroup, AreCandidates}
 use Rattle.xdg_propcore.specs.Uses.{AllStandIn, StandsIn}
 use Rattle.xdg_split.specs.Asked.{Asked, IsJob, asked}
 use Rattle.xdg_split.specs.Splits.{AllWant, wanted_of}
 use Rattle.xdg_trials.specs.Alone.{IsGraph, alone, graph_use, job, pair, plan}
 use Rattle.xdg_facts.proofs.Lists.{all_one, all_two, all_none, pairs_one, pairs_none}
-
-one_candidate : AreCandidates (record { 0 = 3 } ∷ [])
-one_candidate = record { some = lit< tt; most = lit≤ tt; rising = pairs_one (λ (a b : EntryNo). a.0 < b.0) (record { 0 = 3 }); small = all_one (λ (e : EntryNo). e.0 < 4294967295) (record { 0 = 3 }) (lit< tt) }
+use Rattle.xdg_propcore.proofs.SampleProblem.{one_candidate}
+use Rattle.xdg_problem.specs.Principles.{AreFeatures}
 
 is_plan : IsDim plan
 is_plan = record { labels_most = lit≤ tt; labels_differ = pairs_none (λ (a b : List ℕ). a ≢ b); attrs_most = lit≤ tt; attrs_differ = pairs_none (λ (a b : AttrPlan). a.name ≢ b.name); attrs = all_none IsAttr }

@@ -1,7 +1,7 @@
 //! The components of small graphs that are worked out by hand, and their order, which no command shows.
 
 ghost use Rattle.std.specs.Prelude.{ℕ, ◌<◌, IsTrue, length};
-ghost use Rattle.xdg_names.specs.First.{In};
+ghost use Rattle.xdg_facts.specs.Membership.{In};
 ghost use Rattle.xdg_names.specs.declared.graph.Use.{Use};
 ghost use Rattle.xdg_names.specs.Leads.{IsGraph};
 

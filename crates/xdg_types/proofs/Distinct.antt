@@ -5,22 +5,23 @@ use Rattle.std.proofs.lemmas.Bool.{or_cases, or_left, or_right, true≢false, fa
 use Rattle.std.proofs.lemmas.List.{append-nil}
 use Rattle.std.proofs.lemmas.Slice.Eq.{bytes_eq-Decides}
 use Rattle.xdg_ast.specs.declared.names.Name.{Name}
-use Rattle.xdg_domain.specs.Shapes.{Among, Differ}
 use Rattle.xdg_names.specs.Texts.{has_text}
-use Rattle.xdg_types.specs.Parts.{texts}
 use Rattle.xdg_types.specs.NameFaults.{with_text, with_all, different}
+use Rattle.xdg_facts.specs.Membership.{In, Differ}
+use Rattle.xdg_ast.specs.Texts.{texts}
+use Rattle.xdg_facts.proofs.In.{in_append, in_left, in_right}
 
 -- ---- the test and what it says
 
-pub has_among : (all : List (List ℕ)) (t : List ℕ) → has_text all t ≡ true → Among all t
+pub has_among : (all : List (List ℕ)) (t : List ℕ) → has_text all t ≡ true → In all t
 has_among [] t h = absurd (true≢false (sym h))
 has_among (x ∷ all) t h = elim (or_cases (bytes_eq x t) (has_text all t) h) [ inl e ↦ inl ((bytes_eq-Decides x t).0 e) | inr k ↦ inr (has_among all t k) ]
 
-pub among_has : (all : List (List ℕ)) (t : List ℕ) → Among all t → has_text all t ≡ true
+pub among_has : (all : List (List ℕ)) (t : List ℕ) → In all t → has_text all t ≡ true
 among_has [] t h = absurd h
 among_has (x ∷ all) t h = elim h [ inl e ↦ or_left (bytes_eq x t) (has_text all t) ((bytes_eq-Decides x t).1 e) | inr k ↦ or_right (bytes_eq x t) (has_text all t) (among_has all t k) ]
 
-same_test : (xs ys : List (List ℕ)) (t : List ℕ) → (Among xs t → Among ys t) → (Among ys t → Among xs t) → has_text xs t ≡ has_text ys t
+same_test : (xs ys : List (List ℕ)) (t : List ℕ) → (In xs t → In ys t) → (In ys t → In xs t) → has_text xs t ≡ has_text ys t
 same_test xs ys t to from = by (has_text xs t) (has_text ys t) refl refl
   where
     by : (a b : Bool) → has_text xs t ≡ a → has_text ys t ≡ b → a ≡ b
@@ -30,94 +31,82 @@ same_test xs ys t to from = by (has_text xs t) (has_text ys t) refl refl
 
 -- ---- lists in a row
 
-pub among_append : (xs ys : List (List ℕ)) (t : List ℕ) → Among (xs ++ ys) t → Among xs t ⊎ Among ys t
-among_append [] ys t h = inr h
-among_append (x ∷ xs) ys t h = elim h [ inl e ↦ inl (inl e) | inr k ↦ elim (among_append xs ys t k) [ inl l ↦ inl (inr l) | inr r ↦ inr r ] ]
-
-among_left : (xs ys : List (List ℕ)) (t : List ℕ) → Among xs t → Among (xs ++ ys) t
-among_left [] ys t h = absurd h
-among_left (x ∷ xs) ys t h = elim h [ inl e ↦ inl e | inr k ↦ inr (among_left xs ys t k) ]
-
-among_right : (xs ys : List (List ℕ)) (t : List ℕ) → Among ys t → Among (xs ++ ys) t
-among_right [] ys t h = h
-among_right (x ∷ xs) ys t h = inr (among_right xs ys t h)
-
-pub texts_left : (front more : List Name) (t : List ℕ) → Among (texts front) t → Among (texts (front ++ more)) t
+pub texts_left : (front more : List Name) (t : List ℕ) → In (texts front) t → In (texts (front ++ more)) t
 texts_left [] more t h = absurd h
 texts_left (n ∷ front) more t h = elim h [ inl e ↦ inl e | inr k ↦ inr (texts_left front more t k) ]
 
-pub texts_right : (front more : List Name) (t : List ℕ) → Among (texts more) t → Among (texts (front ++ more)) t
+pub texts_right : (front more : List Name) (t : List ℕ) → In (texts more) t → In (texts (front ++ more)) t
 texts_right [] more t h = h
 texts_right (n ∷ front) more t h = inr (texts_right front more t h)
 
 -- ---- one text more
 
 module _ (seen : List (List ℕ)) (x : List ℕ) where
-  pub with_splits : (t : List ℕ) → Among (with_text seen x) t → Among seen t ⊎ (x ≡ t)
+  pub with_splits : (t : List ℕ) → In (with_text seen x) t → In seen t ⊎ (x ≡ t)
   with_splits t = by (has_text seen x)
     where
-      by : (b : Bool) → Among (if b then seen else seen ++ x ∷ []) t → Among seen t ⊎ (x ≡ t)
+      by : (b : Bool) → In (if b then seen else seen ++ x ∷ []) t → In seen t ⊎ (x ≡ t)
       by true h = inl h
-      by false h = elim (among_append seen (x ∷ []) t h) [ inl l ↦ inl l | inr r ↦ elim r [ inl e ↦ inr e | inr k ↦ absurd k ] ]
+      by false h = elim (in_append seen (x ∷ []) t h) [ inl l ↦ inl l | inr r ↦ elim r [ inl e ↦ inr e | inr k ↦ absurd k ] ]
 
-  pub with_old : (t : List ℕ) → Among seen t → Among (with_text seen x) t
+  pub with_old : (t : List ℕ) → In seen t → In (with_text seen x) t
   with_old t h = by (has_text seen x)
     where
-      by : (b : Bool) → Among (if b then seen else seen ++ x ∷ []) t
+      by : (b : Bool) → In (if b then seen else seen ++ x ∷ []) t
       by true = h
-      by false = among_left seen (x ∷ []) t h
+      by false = in_left seen (x ∷ []) t h
 
-  pub with_new : Among (with_text seen x) x
+  pub with_new : In (with_text seen x) x
   with_new = by (has_text seen x) refl
     where
-      by : (b : Bool) → has_text seen x ≡ b → Among (if b then seen else seen ++ x ∷ []) x
+      by : (b : Bool) → has_text seen x ≡ b → In (if b then seen else seen ++ x ∷ []) x
       by true e = has_among seen x e
-      by false e = among_right seen (x ∷ []) x (inl refl)
+      by false e = in_right seen (x ∷ []) x (inl refl)
 
 -- ---- the texts of names more
 
-all_splits : (seen : List (List ℕ)) (names : List Name) (t : List ℕ) → Among (with_all seen names) t → Among seen t ⊎ Among (texts names) t
+all_splits : (seen : List (List ℕ)) (names : List Name) (t : List ℕ) → In (with_all seen names) t → In seen t ⊎ In (texts names) t
 all_splits seen [] t h = inl h
 all_splits seen (n ∷ names) t h = elim (all_splits (with_text seen n.text) names t h) [
   | inl k ↦ elim (with_splits seen n.text t k) [ inl s ↦ inl s | inr e ↦ inr (inl e) ]
   | inr l ↦ inr (inr l)
 ]
 
-all_old : (seen : List (List ℕ)) (names : List Name) (t : List ℕ) → Among seen t → Among (with_all seen names) t
+all_old : (seen : List (List ℕ)) (names : List Name) (t : List ℕ) → In seen t → In (with_all seen names) t
 all_old seen [] t h = h
 all_old seen (n ∷ names) t h = all_old (with_text seen n.text) names t (with_old seen n.text t h)
 
-all_new : (seen : List (List ℕ)) (names : List Name) (t : List ℕ) → Among (texts names) t → Among (with_all seen names) t
+all_new : (seen : List (List ℕ)) (names : List Name) (t : List ℕ) → In (texts names) t → In (with_all seen names) t
 all_new seen [] t h = absurd h
 all_new seen (n ∷ names) t h = elim h [
-  | inl e ↦ all_old (with_text seen n.text) names t (subst (Among (with_text seen n.text)) e (with_new seen n.text))
+  | inl e ↦ all_old (with_text seen n.text) names t (subst (In (with_text seen n.text)) e (with_new seen n.text))
   | inr k ↦ all_new (with_text seen n.text) names t k
 ]
 
-none_left : (t : List ℕ) (names : List Name) → Among [] t ⊎ Among (texts names) t → Among (texts names) t
+none_left : (t : List ℕ) (names : List Name) → In [] t ⊎ In (texts names) t → In (texts names) t
 none_left t names h = elim h [ inl k ↦ absurd k | inr k ↦ k ]
 
 -- a text stands among the different ones just if it stands among all
 pub same_known : (names : List Name) (t : List ℕ) → has_text (different names) t ≡ has_text (texts names) t
 same_known names t = same_test (different names) (texts names) t (λ h. none_left t names (all_splits [] names t h)) (all_new [] names t)
 
-pub missing : (names : List Name) (t : List ℕ) → has_text (different names) t ≡ false → Among (texts names) t → ⊥
+pub missing : (names : List Name) (t : List ℕ) → has_text (different names) t ≡ false → In (texts names) t → ⊥
 missing names t e h = true≢false (sym (among_has (different names) t (all_new [] names t h)) ∙ e)
 
-pub not_there : (names : List Name) (t : List ℕ) → (Among (texts names) t → ⊥) → has_text (different names) t ≡ false
+pub not_there : (names : List Name) (t : List ℕ) → (In (texts names) t → ⊥) → has_text (different names) t ≡ false
 not_there names t h = false_from_ne_true (has_text (different names) t) (λ e. h (none_left t names (all_splits [] names t (has_among (different names) t e))))
 
 -- ---- texts that differ
 
-grown : (seen : List (List ℕ)) (names : List Name) → ((t : List ℕ) → Among seen t → Among (texts names) t → ⊥) → Differ (texts names) → with_all seen names ≡ seen ++ texts names
+grown : (seen : List (List ℕ)) (names : List Name) → ((t : List ℕ) → In seen t → In (texts names) t → ⊥) → Differ (texts names) → with_all seen names ≡ seen ++ texts names
 grown seen [] apart differ = sym (append-nil seen)
 grown seen (n ∷ names) apart differ =
     let new : has_text seen n.text ≡ false = false_from_ne_true (has_text seen n.text) (λ e. apart n.text (has_among seen n.text e) (inl refl)) in
     ap (λ b. with_all (if b then seen else seen ++ n.text ∷ []) names) new
     ∙ grown (seen ++ n.text ∷ []) names
-    (λ t h k. elim (among_append seen (n.text ∷ []) t h) [
+    (λ t h k. elim (in_append seen (n.text ∷ []) t h) [
       | inl s ↦ apart t s (inr k)
-      | inr e ↦ elim e [ inl q ↦ differ.0 (subst (Among (texts names)) (sym q) k) | inr z ↦ z ]
+      | inr e ↦ elim e [ inl q ↦ differ.0 (subst (In (texts names)) (sym q) k) | inr z ↦ z ]
     ])
     differ.1
     ∙ append_assoc seen (n.text ∷ []) (texts names)

@@ -4,34 +4,18 @@ use Rattle.std.specs.Str.{bytes_eq}
 use Rattle.std.proofs.lemmas.Bool.{cases_Bool, true≢false, false_from_ne_true}
 use Rattle.std.proofs.lemmas.Slice.Eq.{bytes_eq-Decides}
 use Rattle.xdg_ast.specs.declared.names.Name.{Name}
-use Rattle.xdg_domain.specs.Shapes.{Among, Differ}
-use Rattle.xdg_names.specs.First.{In}
 use Rattle.xdg_names.specs.Texts.{has_text, AllDiffer}
-use Rattle.xdg_types.specs.Parts.{texts}
 use Rattle.xdg_types.proofs.Distinct.{has_among}
+use Rattle.xdg_facts.specs.Membership.{In, Differ}
+use Rattle.xdg_ast.specs.Texts.{texts}
+use Rattle.xdg_facts.proofs.In.{in_append}
 
 pub not_more : (m n : ℕ) → (m < n → ⊥) → n ≤ m
 not_more m n h = omega arith
 
 -- ---- membership
 
-pub among_in : (xs : List (List ℕ)) (t : List ℕ) → Among xs t → In xs t
-among_in [] t h = absurd h
-among_in (x ∷ xs) t h = elim h [ inl e ↦ inl e | inr k ↦ inr (among_in xs t k) ]
-
-pub among_left : (xs ys : List (List ℕ)) (t : List ℕ) → Among xs t → Among (xs ++ ys) t
-among_left [] ys t h = absurd h
-among_left (x ∷ xs) ys t h = elim h [ inl e ↦ inl e | inr k ↦ inr (among_left xs ys t k) ]
-
-pub among_right : (xs ys : List (List ℕ)) (t : List ℕ) → Among ys t → Among (xs ++ ys) t
-among_right [] ys t h = h
-among_right (x ∷ xs) ys t h = inr (among_right xs ys t h)
-
-pub among_append : (xs ys : List (List ℕ)) (t : List ℕ) → Among (xs ++ ys) t → Among xs t ⊎ Among ys t
-among_append [] ys t h = inr h
-among_append (x ∷ xs) ys t h = elim h [ inl e ↦ inl (inl e) | inr k ↦ elim (among_append xs ys t k) [ inl l ↦ inl (inr l) | inr r ↦ inr r ] ]
-
-pub among_or_not : (xs : List (List ℕ)) (t : List ℕ) → Among xs t ⊎ (Among xs t → ⊥)
+pub among_or_not : (xs : List (List ℕ)) (t : List ℕ) → In xs t ⊎ (In xs t → ⊥)
 among_or_not [] t = inr (λ h. h)
 among_or_not (x ∷ xs) t = elim (cases_Bool (bytes_eq x t)) [
   | inl e ↦ inl (inl ((bytes_eq-Decides x t).0 e))
@@ -41,14 +25,14 @@ among_or_not (x ∷ xs) t = elim (cases_Bool (bytes_eq x t)) [
   ]
 ]
 
-pub among_has : (xs : List (List ℕ)) (t : List ℕ) → Among xs t → has_text xs t ≡ true
+pub among_has : (xs : List (List ℕ)) (t : List ℕ) → In xs t → has_text xs t ≡ true
 among_has [] t h = absurd h
 among_has (x ∷ xs) t h = elim (cases_Bool (bytes_eq x t)) [
   | inl e ↦ rw e refl
   | inr e ↦ elim h [ inl same ↦ absurd (true≢false (sym ((bytes_eq-Decides x t).1 same) ∙ e)) | inr l ↦ rw e (among_has xs t l) ]
 ]
 
-pub in_texts : (ns : List Name) (n : Name) → In ns n → Among (texts ns) n.text
+pub in_texts : (ns : List Name) (n : Name) → In ns n → In (texts ns) n.text
 in_texts [] n h = absurd h
 in_texts (m ∷ ns) n h = elim h [ inl e ↦ inl (ap (λ (k : Name). k.text) e) | inr k ↦ inr (in_texts ns n k) ]
 
@@ -72,14 +56,14 @@ part_at [] n h = absurd (omega arith)
 part_at (x ∷ xs) zero h = record { before = []; one = x; after = xs; parts = refl; len = refl }
 part_at (x ∷ xs) (suc n) h = let r = part_at xs n (omega arith) in record { before = x ∷ r.before; one = r.one; after = r.after; parts = ap (λ ys. x ∷ ys) r.parts; len = omega (arith, r.len) }
 
-pub among_part : (ns : List Name) (t : List ℕ) → Among (texts ns) t → (n : Name) × (IsPart ns n × (n.text ≡ t))
+pub among_part : (ns : List Name) (t : List ℕ) → In (texts ns) t → (n : Name) × (IsPart ns n × (n.text ≡ t))
 among_part [] t h = absurd h
 among_part (n ∷ ns) t h = elim h [
   | inl e ↦ (n, (record { before = []; after = ns; parts = refl }, e))
   | inr k ↦ (let r = among_part ns t k in (r.0, (record { before = n ∷ r.1.0.before; after = r.1.0.after; parts = ap (λ ys. n ∷ ys) r.1.0.parts }, r.1.1)))
 ]
 
-pub among_name : (ns : List Name) (t : List ℕ) → Among (texts ns) t → (n : Name) × (In ns n × (n.text ≡ t))
+pub among_name : (ns : List Name) (t : List ℕ) → In (texts ns) t → (n : Name) × (In ns n × (n.text ≡ t))
 among_name [] t h = absurd h
 among_name (n ∷ ns) t h = elim h [
   | inl e ↦ (n, (inl refl, e))
@@ -89,17 +73,17 @@ among_name (n ∷ ns) t h = elim h [
 -- ---- lists whose texts differ
 
 -- no name has the text of an earlier one
-pub differ_unless : (ns : List Name) → ((before : List Name) (name : Name) (after : List Name) → ns ≡ before ++ name ∷ after → Among (texts before) name.text → ⊥) → Differ (texts ns)
+pub differ_unless : (ns : List Name) → ((before : List Name) (name : Name) (after : List Name) → ns ≡ before ++ name ∷ after → In (texts before) name.text → ⊥) → Differ (texts ns)
 differ_unless [] h = tt
 differ_unless (n ∷ ns) h = (
   λ a. let r = among_part ns n.text a in h (n ∷ r.1.0.before) r.0 r.1.0.after (ap (λ ys. n ∷ ys) r.1.0.parts) (inl (sym r.1.1)),
   differ_unless ns (λ before name after e a. h (n ∷ before) name after (ap (λ ys. n ∷ ys) e) (inr a)),
 )
 
-pub differ_append : (xs ys : List (List ℕ)) → Differ xs → Differ ys → ((t : List ℕ) → Among xs t → Among ys t → ⊥) → Differ (xs ++ ys)
+pub differ_append : (xs ys : List (List ℕ)) → Differ xs → Differ ys → ((t : List ℕ) → In xs t → In ys t → ⊥) → Differ (xs ++ ys)
 differ_append [] ys h k apart = k
 differ_append (x ∷ xs) ys h k apart = (
-  λ a. elim (among_append xs ys x a) [ inl l ↦ h.0 l | inr r ↦ apart x (inl refl) r ],
+  λ a. elim (in_append xs ys x a) [ inl l ↦ h.0 l | inr r ↦ apart x (inl refl) r ],
   differ_append xs ys h.1 k (λ t l r. apart t (inr l) r),
 )
 

@@ -3,4 +3,7 @@ pub mod Distinct
 pub mod Elements
 pub mod Made
 pub mod NamesAgain
+pub mod NameTurns
 pub mod Treed
+pub mod InUse
+pub mod Places

@@ -3,14 +3,14 @@ use Rattle.std.proofs.Common.{◌≡◌, ◌⊎◌, inl, inr, ℕ, List, [], ◌
 use Rattle.xdg_base.specs.declared.faults.Cause.TheVariants as causes
 use Rattle.xdg_base.specs.declared.faults.Fault.{Fault}
 use Rattle.xdg_ast.specs.declared.names.Name.{Name}
-use Rattle.xdg_domain.specs.Shapes.{Among, Differ}
-use Rattle.xdg_names.specs.First.{In}
-use Rattle.xdg_names.proofs.In.{in_append, in_left, in_right, in_when, when_in}
 use Rattle.xdg_names.specs.Texts.{has_text}
-use Rattle.xdg_types.specs.Parts.{Statement, texts}
+use Rattle.xdg_types.specs.Parts.{Statement}
 use Rattle.xdg_types.specs.Names.{fault_at, NameOffends, once}
 use Rattle.xdg_types.specs.NameFaults.{repeated, repeats, with_text}
 use Rattle.xdg_types.proofs.Distinct.{has_among, among_has, with_splits, with_old, with_new, texts_left, texts_right}
+use Rattle.xdg_facts.specs.Membership.{In, Differ}
+use Rattle.xdg_facts.proofs.In.{in_append, in_left, in_right, in_when, when_in}
+use Rattle.xdg_ast.specs.Texts.{texts}
 
 -- a name that an earlier one of these has
 pub record Again (names : List Name) (f : Fault) : Type 0 where
@@ -18,11 +18,11 @@ pub record Again (names : List Name) (f : Fault) : Type 0 where
   pub name : Name
   pub after : List Name
   pub parts : names ≡ before ++ name ∷ after
-  pub earlier : Among (texts before) name.text
+  pub earlier : In (texts before) name.text
   pub fault : f ≡ fault_at causes.Twice name.span.start
 
 -- the names before these have been seen
-pub again_sound : (front rest : List Name) (seen : List (List ℕ)) → ((t : List ℕ) → Among seen t → Among (texts front) t) → (f : Fault) → In (repeats seen rest) f → Again (front ++ rest) f
+pub again_sound : (front rest : List Name) (seen : List (List ℕ)) → ((t : List ℕ) → In seen t → In (texts front) t) → (f : Fault) → In (repeats seen rest) f → Again (front ++ rest) f
 again_sound front [] seen known f h = absurd h
 again_sound front (n ∷ rest) seen known f h = elim (in_append (repeated seen n) (repeats (with_text seen n.text) rest) f h) [
   | inl here ↦ (let k = in_when (has_text seen n.text) (fault_at causes.Twice n.span.start) f here in
@@ -36,17 +36,17 @@ again_sound front (n ∷ rest) seen known f h = elim (in_append (repeated seen n
       f later)
 ]
 
-pub again_complete : (before : List Name) (n : Name) (after : List Name) (seen : List (List ℕ)) (f : Fault) → Among seen n.text ⊎ Among (texts before) n.text → fault_at causes.Twice n.span.start ≡ f
+pub again_complete : (before : List Name) (n : Name) (after : List Name) (seen : List (List ℕ)) (f : Fault) → In seen n.text ⊎ In (texts before) n.text → fault_at causes.Twice n.span.start ≡ f
     → In (repeats seen (before ++ n ∷ after)) f
 again_complete [] n after seen f h e =
-    let stands : Among seen n.text = elim h [ inl s ↦ s | inr k ↦ absurd k ] in
+    let stands : In seen n.text = elim h [ inl s ↦ s | inr k ↦ absurd k ] in
     in_left (repeated seen n) (repeats (with_text seen n.text) after) f (when_in (has_text seen n.text) (fault_at causes.Twice n.span.start) f (among_has seen n.text stands) e)
 again_complete (x ∷ before) n after seen f h e =
     in_right (repeated seen x) (repeats (with_text seen x.text) (before ++ n ∷ after)) f
     (again_complete before n after (with_text seen x.text) f
     (elim h [
       | inl s ↦ inl (with_old seen x.text n.text s)
-      | inr k ↦ elim k [ inl q ↦ inl (subst (Among (with_text seen x.text)) q (with_new seen x.text)) | inr b ↦ inr b ]
+      | inr k ↦ elim k [ inl q ↦ inl (subst (In (with_text seen x.text)) q (with_new seen x.text)) | inr b ↦ inr b ]
     ])
     e)
 
@@ -59,7 +59,7 @@ record At (names : List Name) (t : List ℕ) : Type 0 where
   parts : names ≡ before ++ name ∷ after
   text : name.text ≡ t
 
-stands_at : (names : List Name) (t : List ℕ) → Among (texts names) t → At names t
+stands_at : (names : List Name) (t : List ℕ) → In (texts names) t → At names t
 stands_at [] t h = absurd h
 stands_at (n ∷ names) t h = elim h [
   | inl e ↦ record { before = []; name = n; after = names; parts = refl; text = e }

@@ -19,10 +19,10 @@ abbrev pub members : List (Pair TypeTerm) → Members
 members [] = no_member
 members (p ∷ ps) = member_then p.key p.value.span.start (tree p.value.kind) (members ps)
 
-abbrev treed : TypeTerm → Spanned Tree
+abbrev pub treed : TypeTerm → Spanned Tree
 treed t = record { kind = tree t.kind; span = t.span }
 
-abbrev paired : Pair TypeTerm → Pair (Spanned Tree)
+abbrev pub paired : Pair TypeTerm → Pair (Spanned Tree)
 paired p = record { key = p.key; value = treed p.value }
 
 trees_are : (ts : List TypeTerm) → trees_of (map treed ts) ≡ trees ts

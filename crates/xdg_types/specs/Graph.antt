@@ -4,7 +4,8 @@ use Rattle.xdg_ast.specs.declared.names.Name.{Name}
 use Rattle.xdg_names.specs.declared.graph.Use.{Use}
 use Rattle.xdg_names.specs.Texts.{place_of}
 use Rattle.xdg_types.specs.Written.{Tree, tree, uses}
-use Rattle.xdg_types.specs.Parts.{Statement, Definition, definitions, defined_names, texts}
+use Rattle.xdg_types.specs.Parts.{Statement, Definition, definitions, defined_names}
+use Rattle.xdg_ast.specs.Texts.{texts}
 
 abbrev pub use_at : Name → Option ℕ → List Use
 use_at name None = []

@@ -7,13 +7,13 @@ use Rattle.xdg_ast.specs.declared.names.Name.{Name}
 use Rattle.xdg_ast.specs.declared.grammar.DimPartKind.{DimPartKind}
 use Rattle.xdg_ast.specs.declared.grammar.DimPartKind.TheVariants as p
 use Rattle.xdg_domain.specs.Shapes.{Shape, domain, tuple, set, iset, card, valency, mapping, fields, Shapes, no_shape, shape_then, Fields, no_field, field_then}
-use Rattle.xdg_domain.specs.Shapes.{constants, constants_of, in_a_row, sizes, product, Among}
-use Rattle.xdg_names.specs.First.{In}
+use Rattle.xdg_domain.specs.Shapes.{constants, constants_of, in_a_row, sizes, product}
 use Rattle.xdg_types.specs.Written.{Tree, listed, recorded, tupled, set_of, iset_of, valency_of, map_of, named, Trees, no_tree, tree_then, Members, no_member}
 use Rattle.xdg_types.specs.Written.{member_then, member_names, tree}
 use Rattle.xdg_types.specs.Parts.{Statement, dimensions, used_places}
 use Rattle.xdg_types.specs.Meaning.{meaning, domains_meaning, as_domain}
 use Rattle.xdg_types.specs.Names.{fault_at}
+use Rattle.xdg_facts.specs.Membership.{In}
 
 -- ---- sites
 
@@ -173,9 +173,9 @@ Split (tree_then here s before) ts at t after = (rest : Trees) × ((ts ≡ tree_
 -- the field is given by name
 abbrev pub SharesAt : (List ℕ → Shape) → List (List ℕ) → ℕ → Tree → Fault → Type 0
 SharesAt names earlier at (listed constants) f =
-    (name : Name) × (In constants name × (Among earlier name.text × (f ≡ fault_at causes.Twice name.span.start)))
+    (name : Name) × (In constants name × (In earlier name.text × (f ≡ fault_at causes.Twice name.span.start)))
 SharesAt names earlier at (named name) f =
-    (constant : List ℕ) × (In (constants (as_domain (names name.text))) constant × (Among earlier constant × (f ≡ fault_at causes.Twice at)))
+    (constant : List ℕ) × (In (constants (as_domain (names name.text))) constant × (In earlier constant × (f ≡ fault_at causes.Twice at)))
 SharesAt names earlier at _ f = ⊥
 
 pub record SharesConstant (names : List ℕ → Shape) (site : Site) (f : Fault) : Type 0 where

@@ -1,11 +1,12 @@
 -- What written types mean.
 use Rattle.std.specs.Prelude.{◌≡◌, ℕ, List, []}
 use Rattle.xdg_domain.specs.Shapes.{Shape, domain, tuple, truth, integer, text, set, iset, card, valency, mapping, fields, Shapes, no_shape, shape_then, Fields}
-use Rattle.xdg_domain.specs.Shapes.{no_field, field_then, Among}
-use Rattle.xdg_names.specs.First.{In}
+use Rattle.xdg_domain.specs.Shapes.{no_field, field_then}
 use Rattle.xdg_types.specs.Written.{Tree, nothing, listed, recorded, tupled, set_of, iset_of, valency_of, map_of, a_card, a_bool, an_int, a_string, named}
 use Rattle.xdg_types.specs.Written.{Trees, no_tree, tree_then, Members, no_member, member_then, tree}
-use Rattle.xdg_types.specs.Parts.{Statement, Definition, definitions, defined_names, texts}
+use Rattle.xdg_types.specs.Parts.{Statement, Definition, definitions, defined_names}
+use Rattle.xdg_facts.specs.Membership.{In}
+use Rattle.xdg_ast.specs.Texts.{texts}
 
 -- empty braces are the domain without constants where a domain is wanted, and else the record without fields
 abbrev pub as_domain : Shape → Shape
@@ -40,7 +41,7 @@ abbrev mutual
 -- The names mean what their definitions say. A name that no definition has means `bool`; no right grammar has one.
 pub record Resolves (statements : List Statement) (names : List ℕ → Shape) : Type 0 where
   pub defined : (d : Definition) → In (definitions statements) d → names d.name.text ≡ meaning names (tree d.body.kind)
-  pub undefined : (name : List ℕ) → (Among (texts (defined_names statements)) name → ⊥) → names name ≡ truth
+  pub undefined : (name : List ℕ) → (In (texts (defined_names statements)) name → ⊥) → names name ≡ truth
 
 -- The type is no name, or a name that means `bool` since no definition has it.
 abbrev pub IsHead : (List ℕ → Shape) → Tree → Type 0

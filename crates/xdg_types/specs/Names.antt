@@ -6,10 +6,10 @@ use Rattle.xdg_base.specs.declared.faults.Fault.{Fault}
 use Rattle.xdg_ast.specs.declared.names.Name.{Name}
 use Rattle.xdg_ast.specs.declared.grammar.DimPartKind.{DimPartKind}
 use Rattle.xdg_ast.specs.declared.grammar.DimPartKind.TheVariants as p
-use Rattle.xdg_domain.specs.Shapes.{Among}
-use Rattle.xdg_names.specs.First.{In}
 use Rattle.xdg_types.specs.Written.{tree, uses, lists}
-use Rattle.xdg_types.specs.Parts.{TypeTerm, DimPart, Statement, Dimension, dimensions, dim_names, used_names, defined_names, types, texts}
+use Rattle.xdg_types.specs.Parts.{TypeTerm, DimPart, Statement, Dimension, dimensions, dim_names, used_names, defined_names, types}
+use Rattle.xdg_facts.specs.Membership.{In}
+use Rattle.xdg_ast.specs.Texts.{texts}
 
 abbrev pub fault_at : Cause → ℕ → Fault
 fault_at cause place = record { cause = cause; at = place; reached = 0 }
@@ -18,7 +18,7 @@ fault_at cause place = record { cause = cause; at = place; reached = 0 }
 pub record IsUnknownDimension (statements : List Statement) (f : Fault) : Type 0 where
   pub name : Name
   pub used : In (used_names statements) name
-  pub missing : Among (texts (dim_names statements)) name.text → ⊥
+  pub missing : In (texts (dim_names statements)) name.text → ⊥
   pub fault : f ≡ fault_at causes.UnknownName name.span.start
 
 -- a name of a type stands there that no dimension defines
@@ -27,7 +27,7 @@ pub record IsUnknownType (statements : List Statement) (f : Fault) : Type 0 wher
   pub stands : In (types statements) type
   pub name : Name
   pub used : In (uses (tree type.kind)) name
-  pub missing : Among (texts (defined_names statements)) name.text → ⊥
+  pub missing : In (texts (defined_names statements)) name.text → ⊥
   pub fault : f ≡ fault_at causes.UnknownName name.span.start
 
 -- the lists of names in each of which a name may stand once
@@ -43,7 +43,7 @@ pub record IsTwice (statements : List Statement) (f : Fault) : Type 0 where
   pub name : Name
   pub after : List Name
   pub parts : names ≡ before ++ name ∷ after
-  pub earlier : Among (texts before) name.text
+  pub earlier : In (texts before) name.text
   pub fault : f ≡ fault_at causes.Twice name.span.start
 
 -- the parts of a dimension that may stand once

@@ -1,6 +1,7 @@
 -- The dimensions and the types of a grammar.
 use Rattle.std.specs.Prelude.{ℕ, List, [], ◌∷◌, map, flat_map}
 use Rattle.xdg_ast.specs.declared.names.Name.{Name}
+use Rattle.xdg_ast.specs.declared.names.Pair.{Pair}
 use Rattle.xdg_ast.specs.declared.names.Spanned.{Spanned}
 use Rattle.xdg_ast.specs.declared.types.TypeKind.{TypeKind}
 use Rattle.xdg_ast.specs.declared.grammar.DimPartKind.{DimPartKind}
@@ -93,5 +94,6 @@ type_in _ = []
 abbrev pub types : List Statement → List TypeTerm
 types statements = flat_map (λ dim. in_parts type_in dim.1) (dimensions statements)
 
-abbrev pub texts : List Name → List (List ℕ)
-texts names = map (λ name. name.text) names
+-- the keys of pairs
+abbrev pub keys : {A : Type 0} → List (Pair A) → List Name
+keys pairs = map (λ pair. pair.key) pairs

@@ -1,12 +1,13 @@
 -- The table of a grammar's dimensions and types, and which table a grammar has.
-use Rattle.std.specs.Prelude.{◌≡◌, ◌⊎◌, ℕ, ◌<◌, ◌≤◌, List, [], ◌∷◌, length, map, get_or}
+use Rattle.std.specs.Prelude.{◌≡◌, ℕ, ◌<◌, ◌≤◌, List, [], ◌∷◌, length, map, get_or, Option, None, Some, if◌then◌else◌, bytes_eq}
 use Rattle.xdg_ast.specs.declared.names.Name.{Name}
-use Rattle.xdg_domain.specs.Shapes.{Shape, fields, Fields, no_field, field_then, constants, count, shape, IsType, IsSmall, Differ}
+use Rattle.xdg_domain.specs.Shapes.{Shape, fields, Fields, no_field, field_then, constants, count, shape, IsType, IsSmall}
 use Rattle.xdg_domain.specs.declared.types.Ty.{Ty}
 use Rattle.xdg_types.specs.declared.table.DimType.{DimType}
 use Rattle.xdg_types.specs.Written.{tree}
 use Rattle.xdg_types.specs.Parts.{TypeTerm, Statement, Dimension, dimensions, used_names, label_type, attrs_type, entry_type, in_parts}
 use Rattle.xdg_types.specs.Meaning.{meaning, as_domain}
+use Rattle.xdg_facts.specs.Membership.{In, Differ}
 
 -- ---- what the table has
 
@@ -83,15 +84,10 @@ abbrev pub KeepDims : List DimType → Type 0
 KeepDims [] = Unit {0}
 KeepDims (dim ∷ dims) = KeepsDim dim × KeepDims dims
 
--- the place stands in the list
-abbrev pub HasPlace : List ℕ → ℕ → Type 0
-HasPlace [] k = ⊥
-HasPlace (j ∷ js) k = (j ≡ k) ⊎ HasPlace js k
-
 -- places of dimensions, all different
 abbrev pub ArePlaces : ℕ → List ℕ → Type 0
 ArePlaces bound [] = Unit {0}
-ArePlaces bound (k ∷ ks) = ((k < bound) × (HasPlace ks k → ⊥)) × ArePlaces bound ks
+ArePlaces bound (k ∷ ks) = ((k < bound) × (In ks k → ⊥)) × ArePlaces bound ks
 
 -- names that differ, types as grammars may have them, and counts within the limits
 pub record IsTable (table : Table) : Type 0 where
@@ -99,3 +95,8 @@ pub record IsTable (table : Table) : Type 0 where
   pub dims : KeepDims table.dims
   pub used : ArePlaces (length table.dims) table.used
   pub few_used : length table.used ≤ 8
+
+-- the first dimension with that name
+abbrev pub dim_named : List DimType → List ℕ → Option DimType
+dim_named [] name = None
+dim_named (d ∷ ds) name = if bytes_eq d.name name then Some d else dim_named ds name

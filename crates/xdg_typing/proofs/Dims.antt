@@ -63,9 +63,7 @@ module _ (names : Naming) where
 
   no_dimension : (kind : StatementKind) → ((name : Name) (parts : List DimPart) → kind ≡ v.DefDim name parts → ⊥) → dimension kind ≡ []
   no_dimension (v.DefDim name parts) h = absurd (h name parts refl)
-  no_dimension (v.UseDim name) h = refl
-  no_dimension (v.DefClass name params body) h = refl
-  no_dimension (v.DefEntry e) h = refl
+  no_dimension other h = refl
 
   pub dim_passed : (ss : List Statement) (i : ℕ) (s : Statement) (all next : List DimType) → i < length ss → s ≡ get_or ss i s → ((name : Name) (parts : List DimPart) → s.kind ≡ v.DefDim name parts → ⊥)
       → next ≡ all → AreDims names (dimensions (take i ss)) all → AreDims names (dimensions (take (i + 1) ss)) next

@@ -3,12 +3,8 @@ use Rattle.std.proofs.Common.{◌≡◌, List, ◌∷◌, ◌++◌, map, ap, ◌
 use Rattle.std.specs.List.{flat_map}
 use Rattle.std.proofs.lemmas.List.{map-append}
 use Rattle.std.proofs.lemmas.Grind.{flat_map-append}
-use Rattle.xdg_types.specs.Parts.{DimPart, Statement, dimension, dimensions, definition, definitions_in, dim_names, defined_names}
-use Rattle.xdg_types.specs.NameFaults.{dim_name}
+use Rattle.xdg_types.specs.Parts.{DimPart, Statement, dimension, dimensions, definition, definitions_in, defined_names}
 use Rattle.xdg_typing.specs.Listed.{named_in, named_by, defined_name}
-
-pub each_dim : (statement : Statement) (more : List Statement) → dim_names (statement ∷ more) ≡ dim_name statement.kind ++ dim_names more
-each_dim statement more = map-append (λ dim. dim.0) (dimension statement.kind) (dimensions more)
 
 pub each_part : (part : DimPart) (more : List DimPart) → named_by (part ∷ more) ≡ named_in part.kind ++ named_by more
 each_part part more = map-append (λ d. d.name) (definition part.kind) (definitions_in more)

@@ -62,3 +62,6 @@ module _ (known : List (List ℕ)) where
   walked_record kind ps items i old made is same past sum =
       let whole : uses_in known (tree kind) ≡ flat_map (λ p. uses_in known (tree p.value.kind)) items = ap (λ x. uses_in known (tree x)) is ∙ in_record ps ∙ ap (flat_map (λ p. uses_in known (tree p.value.kind))) (sym same) in
       sum ∙ ap (λ xs. old ++ flat_map (λ p. uses_in known (tree p.value.kind)) xs) (take_all i items past) ∙ ap (λ us. old ++ us) (sym whole)
+
+-- what each form of a type uses
+pub ruleset use_steps = (in_set, in_iset, in_valency, in_map, in_named, in_tuple, in_record)

@@ -1,27 +1,20 @@
 -- The names and the lists of names in a record and in a tuple type are those of their parts.
-use Rattle.std.proofs.Common.{◌≡◌, ℕ, ◌≤◌, length, drop, List, [], ◌∷◌, ◌++◌, map, sym, ◌∙◌, ap, ap₂, refl, Option}
+use Rattle.std.proofs.Common.{◌≡◌, List, [], ◌∷◌, ◌++◌, map, sym, ◌∙◌, ap, ap₂, refl, Option}
 use Rattle.std.specs.List.{flat_map}
 use Rattle.std.proofs.lemmas.Grind.{flat_map-append}
 use Rattle.xdg_base.specs.declared.faults.Fault.{Fault}
 use Rattle.xdg_names.specs.First.{first, earlier}
-use Rattle.xdg_names.proofs.First.{first_append, earlier-none}
-use Rattle.std.proofs.lemmas.List.{at_drop_all}
+use Rattle.xdg_names.proofs.First.{first_append}
 use Rattle.xdg_ast.specs.declared.names.Name.{Name}
 use Rattle.xdg_ast.specs.declared.names.Pair.{Pair}
-use Rattle.xdg_ast.specs.declared.names.Spanned.{Spanned}
 use Rattle.xdg_ast.specs.declared.types.TypeKind.{TypeKind}
 use Rattle.xdg_ast.specs.declared.types.TypeKind.TheVariants as y
 use Rattle.xdg_ast.specs.declared.types.TypeKind.TheOpen.{TypeKind-F}
 use Rattle.xdg_ast.specs.declared.types.TypeKind.TheFolds.{fold-roll-TypeKind}
 use Rattle.xdg_types.specs.Written.{Tree, tree, layer, trees_of, members_of, uses, uses_in_trees, uses_in_members, lists, lists_in_trees, lists_in_members, member_names}
-use Rattle.xdg_types.specs.Parts.{TypeTerm}
-use Rattle.xdg_typing.specs.Listed.{uses_in, uses_of, lists_in, lists_of, keys}
-
-abbrev treed : TypeTerm → Spanned Tree
-treed t = record { kind = tree t.kind; span = t.span }
-
-abbrev paired : Pair TypeTerm → Pair (Spanned Tree)
-paired p = record { key = p.key; value = treed p.value }
+use Rattle.xdg_types.specs.Parts.{TypeTerm, keys}
+use Rattle.xdg_typing.specs.Listed.{uses_in, uses_of, lists_in, lists_of}
+use Rattle.xdg_types.proofs.Treed.{treed, paired}
 
 uses_trees : (ts : List TypeTerm) → uses_in_trees (trees_of (map treed ts)) ≡ flat_map uses_in ts
 uses_trees [] = refl
@@ -103,10 +96,3 @@ module _ (g : List Name → List Fault) (kind : TypeKind) where
       ∙ sym (first_append (flat_map g (lists_in t)) (flat_map g (lists_in u)))
       ∙ ap first (sym (flat_map-append g (lists_in t) (lists_in u)))
       ∙ ap (λ ns. first (flat_map g ns)) (sym (lists_map t u)) ∙ ap (λ k. first (flat_map g (lists (tree k)))) (sym is)
-
--- at the end of a loop nothing is left
-pub found_all : {A : Type 0} (all : List A → List Fault) → all [] ≡ [] → (xs : List A) (i : ℕ) (found total : Option Fault) → length xs ≤ i
-    → earlier found (first (all (drop i xs))) ≡ total → found ≡ total
-found_all all none xs i found total over so_far =
-    let e : all (drop i xs) ≡ all [] = at_drop_all all xs i over in
-    sym (earlier-none found) ∙ ap (λ fs. earlier found (first fs)) (sym none ∙ sym e) ∙ so_far

@@ -5,9 +5,9 @@ use Rattle.std.proofs.lemmas.List.{length-map}
 use Rattle.xdg_names.specs.declared.graph.Use.{Use}
 use Rattle.xdg_names.specs.Leads.{IsGraph, AreComponents}
 use Rattle.xdg_names.specs.Closing.{IsClosing}
-use Rattle.xdg_domain.specs.Shapes.{Shape, Differ}
+use Rattle.xdg_domain.specs.Shapes.{Shape}
 use Rattle.xdg_types.specs.Written.{tree}
-use Rattle.xdg_types.specs.Parts.{TypeTerm, Statement, Definition, definitions, defined_names, texts}
+use Rattle.xdg_types.specs.Parts.{TypeTerm, Statement, Definition, definitions, defined_names}
 use Rattle.xdg_types.specs.Names.{NameOffends}
 use Rattle.xdg_types.specs.Graph.{uses_in, type_graph}
 use Rattle.xdg_typing.specs.Heads.{Agrees, Knows, NamesFirst, RightBefore}
@@ -18,6 +18,8 @@ use Rattle.xdg_types.specs.Meaning.{Resolves}
 use Rattle.xdg_typing.specs.Weights.{Weighs, UsesFirst, WeighedBefore}
 use Rattle.xdg_typing.proofs.Ordered.{is_graph, in_order, names_first, uses_first, knows, weighs, agrees, rank, ranks}
 use Rattle.xdg_typing.proofs.OneMeaning.{names, names_resolve, one_meaning}
+use Rattle.xdg_facts.specs.Membership.{Differ}
+use Rattle.xdg_ast.specs.Texts.{texts}
 
 abbrev at : Bor TypeTerm → TypeTerm
 at b = b.now

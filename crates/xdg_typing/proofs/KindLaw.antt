@@ -4,15 +4,16 @@ use Rattle.std.specs.Prelude.{slice_get}
 use Rattle.xdg_base.specs.declared.faults.Cause.TheVariants as causes
 use Rattle.xdg_base.specs.declared.faults.Fault.{Fault}
 use Rattle.xdg_domain.specs.Shapes.{Shape}
-use Rattle.xdg_names.specs.First.{In, Tells, first, earlier}
+use Rattle.xdg_names.specs.First.{Tells, first, earlier}
 use Rattle.xdg_names.proofs.First.{tells_as, first-tells}
-use Rattle.xdg_names.proofs.In.{in_append, in_left, in_right, in_flat_map, flat_map_in}
 use Rattle.xdg_types.specs.Parts.{Statement, used_places}
 use Rattle.xdg_types.specs.Kinds.{sites, reaching, IsNinthDimension, KindOffends}
 use Rattle.xdg_typing.specs.KindFaults.{site_faults, faults_in, ninth_use_faults, all_faults}
 use Rattle.xdg_typing.proofs.KindRows.{site_sound, site_complete}
 use Rattle.xdg_typing.proofs.RecordRows.{between, at_place}
 use Rattle.xdg_typing.proofs.Walked.{joined}
+use Rattle.xdg_facts.specs.Membership.{In}
+use Rattle.xdg_facts.proofs.In.{in_append, in_left, in_right, in_flat_map, flat_map_in}
 
 ninth_use : (found : Option ℕ) (f : Fault) → In (ninth_use_faults found) f → (place : ℕ) × ((found ≡ Some place) × (f ≡ reaching causes.TooWide place 9))
 ninth_use None f h = absurd h

@@ -6,8 +6,6 @@ use Rattle.xdg_base.specs.declared.faults.Cause.TheVariants as causes
 use Rattle.xdg_base.specs.declared.faults.Fault.{Fault}
 use Rattle.xdg_ast.specs.declared.names.Name.{Name}
 use Rattle.xdg_domain.specs.Shapes.{Shape, constants, sizes, product}
-use Rattle.xdg_names.specs.First.{In}
-use Rattle.xdg_names.proofs.In.{in_append, in_left, in_right, in_unless, unless_in, in_when, when_in}
 use Rattle.xdg_types.specs.Written.{Tree, listed, tupled, Trees}
 use Rattle.xdg_types.specs.Meaning.{meaning, domains_meaning, as_domain}
 use Rattle.xdg_types.specs.Names.{fault_at}
@@ -15,6 +13,8 @@ use Rattle.xdg_types.specs.Kinds.{Wanted, the_labels, Site, is_of_kind, has_no_f
 use Rattle.xdg_typing.specs.KindFaults.{kind_faults, big_faults, label_faults, wide_faults, shared_faults, attributes_faults, alone_faults, site_faults}
 use Rattle.xdg_typing.proofs.RecordRows.{attributes_sound, attributes_complete}
 use Rattle.xdg_typing.proofs.SharedRows.{shares_sound, shares_complete}
+use Rattle.xdg_facts.specs.Membership.{In}
+use Rattle.xdg_facts.proofs.In.{in_append, in_left, in_right, in_unless, unless_in, in_when, when_in}
 
 not_both : (right fieldless : Bool) → (right && not fieldless) ≡ false → (right ≡ false) ⊎ (fieldless ≡ true)
 not_both false b h = inl refl

@@ -4,9 +4,8 @@ use Rattle.std.specs.List.{flat_map}
 use Rattle.xdg_base.specs.declared.faults.Cause.TheVariants as causes
 use Rattle.xdg_base.specs.declared.faults.Fault.{Fault}
 use Rattle.xdg_ast.specs.declared.names.Name.{Name}
-use Rattle.xdg_names.specs.First.{In, Tells, first}
+use Rattle.xdg_names.specs.First.{Tells, first}
 use Rattle.xdg_names.proofs.First.{tells_as, first-tells}
-use Rattle.xdg_names.proofs.In.{in_append, in_left, in_right, in_flat_map, flat_map_in, in_unless, unless_in}
 use Rattle.xdg_names.specs.Texts.{has_text}
 use Rattle.xdg_types.specs.Written.{tree, uses, lists}
 use Rattle.xdg_types.specs.Parts.{TypeTerm, Statement, Dimension, dimensions, dim_names, used_names, defined_names, in_parts, type_in, types}
@@ -16,6 +15,8 @@ use Rattle.xdg_typing.specs.Listed.{in_type, none_stood, parts_again, in_dimensi
 use Rattle.xdg_types.proofs.Distinct.{missing, not_there}
 use Rattle.xdg_types.proofs.NamesAgain.{again_sound, again_complete}
 use Rattle.xdg_typing.proofs.PartsAgain.{none_yet, parts_sound, parts_complete}
+use Rattle.xdg_facts.specs.Membership.{In}
+use Rattle.xdg_facts.proofs.In.{in_append, in_left, in_right, in_unless, unless_in, in_flat_map, flat_map_in}
 
 module _ (statements : List Statement) where
   abbrev dims : List (List ℕ)

@@ -1,16 +1,17 @@
 -- Where the types have ranks and no name is defined twice, the names have one meaning.
 use Rattle.std.proofs.Common.{◌≡◌, ◌⊎◌, inl, inr, ℕ, zero, suc, ◌<◌, List, [], ◌∷◌, map, refl, sym, ap, ap₂, ◌∙◌, subst, arith, Bool, true, false, Option, None, Some}
 use Rattle.std.specs.Prelude.{bytes_eq, if◌then◌else◌}
-use Rattle.std.proofs.lemmas.Bool.{false_from_ne_true, true≢false}
+use Rattle.std.proofs.lemmas.Bool.{true≢false}
 use Rattle.xdg_ast.specs.declared.names.Name.{Name}
-use Rattle.xdg_domain.specs.Shapes.{Shape, truth, fields, tuple, set, iset, valency, mapping, shape_then, field_then, Among, Differ}
-use Rattle.xdg_names.specs.First.{In}
-use Rattle.xdg_names.proofs.In.{in_left, in_right}
+use Rattle.xdg_domain.specs.Shapes.{Shape, truth, fields, tuple, set, iset, valency, mapping, shape_then, field_then}
 use Rattle.xdg_types.specs.Written.{Tree, nothing, listed, recorded, tupled, set_of, iset_of, valency_of, map_of, a_card, a_bool, an_int, a_string, named, Trees, no_tree, tree_then, Members, no_member, member_then, tree, uses, uses_in_trees, uses_in_members}
-use Rattle.xdg_types.specs.Parts.{Statement, Definition, definitions, texts}
+use Rattle.xdg_types.specs.Parts.{Statement, Definition, definitions}
 use Rattle.xdg_types.specs.Meaning.{meaning, domains_meaning, fields_meaning, as_domain, Resolves}
 use Rattle.xdg_typing.specs.Answers.{IsRanked}
-use Rattle.xdg_facts.proofs.Texts.{same_text, is_same}
+use Rattle.xdg_facts.proofs.Texts.{same_text, is_same, other_test}
+use Rattle.xdg_facts.specs.Membership.{In, Differ}
+use Rattle.xdg_facts.proofs.In.{in_left, in_right}
+use Rattle.xdg_ast.specs.Texts.{texts}
 
 -- a type's meaning turns on the names that it uses alone
 module _ (p q : List ℕ → Shape) where
@@ -51,14 +52,11 @@ pub found : List Definition → List ℕ → Option Definition
 found [] name = None
 found (d ∷ ds) name = if bytes_eq d.name.text name then Some d else found ds name
 
-other_test : (a b : List ℕ) → (a ≡ b → ⊥) → bytes_eq a b ≡ false
-other_test a b ne = false_from_ne_true (bytes_eq a b) (λ h. ne (same_text a b h))
-
-pub among_in : (ds : List Definition) (d : Definition) → In ds d → Among (names_in ds) d.name.text
+pub among_in : (ds : List Definition) (d : Definition) → In ds d → In (names_in ds) d.name.text
 among_in [] d h = absurd h
 among_in (x ∷ ds) d h = elim h [ inl e ↦ inl (ap (λ y. y.name.text) e) | inr k ↦ inr (among_in ds d k) ]
 
-pub found_none : (ds : List Definition) (name : List ℕ) → (Among (names_in ds) name → ⊥) → found ds name ≡ None
+pub found_none : (ds : List Definition) (name : List ℕ) → (In (names_in ds) name → ⊥) → found ds name ≡ None
 unfolding found
 found_none [] name h = refl
 found_none (d ∷ ds) name h = rw (other_test d.name.text name (λ e. h (inl e))) (found_none ds name (λ k. h (inr k)))
@@ -67,7 +65,7 @@ some_by : (d : Definition) (o : Option Definition) (b : Bool) → (b ≡ true) �
 some_by d o true h e = cc
 some_by d o false h e = elim h [ inl t ↦ true≢false (sym t) | inr k ↦ k e ]
 
-pub among_found : (ds : List Definition) (name : List ℕ) → Among (names_in ds) name → found ds name ≡ None → ⊥
+pub among_found : (ds : List Definition) (name : List ℕ) → In (names_in ds) name → found ds name ≡ None → ⊥
 unfolding found
 among_found [] name a h = a
 among_found (d ∷ ds) name a h = some_by d (found ds name) (bytes_eq d.name.text name) (elim a [ inl e ↦ inl (is_same d.name.text name e) | inr k ↦ inr (among_found ds name k) ]) h
@@ -87,7 +85,7 @@ unfolding found
 found_is [] apart d h = absurd h
 found_is (x ∷ ds) apart d h = elim h [
   | inl e ↦ subst (λ y. (if bytes_eq x.name.text y.name.text then Some x else found ds y.name.text) ≡ Some y) e (rw (is_same x.name.text x.name.text refl) refl)
-  | inr k ↦ rw (other_test x.name.text d.name.text (λ e. apart.0 (subst (Among (names_in ds)) (sym e) (among_in ds d k)))) (found_is ds apart.1 d k)
+  | inr k ↦ rw (other_test x.name.text d.name.text (λ e. apart.0 (subst (In (names_in ds)) (sym e) (among_in ds d k)))) (found_is ds apart.1 d k)
 ]
 
 -- ---- the names
@@ -123,7 +121,7 @@ module _ (statements : List Statement) (rank : List ℕ → ℕ) (ranked : IsRan
             elim (found ds u.text) as (λ o. found ds u.text ≡ o → followed ds n u.text ≡ followed ds m u.text) [
               | None ↦ λ none. undefined_followed ds n u.text none ∙ sym (undefined_followed ds m u.text none)
               | Some x ↦ λ some. (let at = found_in ds u.text x some in
-                  let less : rank u.text < rank name = subst (λ t. rank u.text < rank t) is.1 (ranked d u is.0 i (subst (Among (names_in ds)) at.1 (among_in ds x at.0))) in
+                  let less : rank u.text < rank name = subst (λ t. rank u.text < rank t) is.1 (ranked d u is.0 i (subst (In (names_in ds)) at.1 (among_in ds x at.0))) in
                   settled n m u.text (omega (arith, less, h)) (omega (arith, less, k)))
             ] refl)))
       ] refl
@@ -140,7 +138,7 @@ module _ (statements : List Statement) (rank : List ℕ → ℕ) (ranked : IsRan
         elim (found ds u.text) as (λ o. found ds u.text ≡ o → followed ds (rank d.name.text) u.text ≡ names u.text) [
           | None ↦ λ none. undefined_followed ds (rank d.name.text) u.text none ∙ sym (undefined_followed ds (suc (rank u.text)) u.text none)
           | Some x ↦ λ some. (let at = found_in ds u.text x some in
-              let less : rank u.text < rank d.name.text = ranked d u h i (subst (Among (names_in ds)) at.1 (among_in ds x at.0)) in
+              let less : rank u.text < rank d.name.text = ranked d u h i (subst (In (names_in ds)) at.1 (among_in ds x at.0)) in
               settled (rank d.name.text) (suc (rank u.text)) u.text less (omega arith))
         ] refl));
     undefined = λ name h. undefined_followed ds (suc (rank name)) name (found_none ds name h);
@@ -151,13 +149,13 @@ module _ (statements : List Statement) (rank : List ℕ → ℕ) (ranked : IsRan
   one_by p q h k zero name l = absurd (omega arith)
   one_by p q h k (suc n) name l =
       elim (found ds name) as (λ o. found ds name ≡ o → p name ≡ q name) [
-        | None ↦ λ none. (let out : Among (names_in ds) name → ⊥ = λ a. among_found ds name a none in h.undefined name out ∙ sym (k.undefined name out))
+        | None ↦ λ none. (let out : In (names_in ds) name → ⊥ = λ a. among_found ds name a none in h.undefined name out ∙ sym (k.undefined name out))
         | Some d ↦ λ some. (let is = found_in ds name d some in
             subst (λ t. p t ≡ q t) is.1 (h.defined d is.0 ∙ same_meaning p q (tree d.body.kind) (λ u i.
             elim (found ds u.text) as (λ o. found ds u.text ≡ o → p u.text ≡ q u.text) [
-              | None ↦ λ none. (let out : Among (names_in ds) u.text → ⊥ = λ a. among_found ds u.text a none in h.undefined u.text out ∙ sym (k.undefined u.text out))
+              | None ↦ λ none. (let out : In (names_in ds) u.text → ⊥ = λ a. among_found ds u.text a none in h.undefined u.text out ∙ sym (k.undefined u.text out))
               | Some x ↦ λ found_x. (let at = found_in ds u.text x found_x in
-                  let less : rank u.text < rank d.name.text = ranked d u is.0 i (subst (Among (names_in ds)) at.1 (among_in ds x at.0)) in
+                  let less : rank u.text < rank d.name.text = ranked d u is.0 i (subst (In (names_in ds)) at.1 (among_in ds x at.0)) in
                   let here : rank d.name.text ≡ rank name = ap rank is.1 in
                   one_by p q h k n u.text (omega (arith, less, here, l)))
             ] refl) ∙ sym (k.defined d is.0)))

@@ -5,6 +5,7 @@ use Rattle.xdg_domain.specs.declared.types.Ty.TheOpen.{Ty-F}
 use Rattle.xdg_domain.specs.declared.types.Ty.TheFolds.{ind-Ty, fold-roll-Ty}
 use Rattle.xdg_domain.specs.Shapes.{Shape, domain, tuple, truth, integer, text, set, iset, card, valency, mapping, fields, Shapes, no_shape, shape_then, Fields, no_field, field_then, shapes_of, fields_of, layer, shape}
 use Rattle.xdg_types.specs.Table.{Typed, typed}
+use Rattle.xdg_domain.specs.Sized.{shape_of_field}
 
 -- the type of that shape
 abbrev mutual
@@ -43,10 +44,7 @@ types_told (k ∷ ks) = ap₂ (λ t ts. t ∷ ts) k.1 (types_told ks)
 abbrev field : List ℕ × Told → List ℕ × Ty
 field f = (f.0, f.1.0)
 
-abbrev field_shape : List ℕ × Ty → List ℕ × Shape
-field_shape f = (f.0, shape f.1)
-
-fields_told : (fs : List (List ℕ × Told)) → of_fields (fields_of (map field_shape (map field fs))) ≡ map field fs
+fields_told : (fs : List (List ℕ × Told)) → of_fields (fields_of (map shape_of_field (map field fs))) ≡ map field fs
 fields_told [] = refl
 fields_told (f ∷ fs) = ap₂ (λ t ts. (f.0, t) ∷ ts) f.1.1 (fields_told fs)
 

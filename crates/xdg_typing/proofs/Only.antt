@@ -7,13 +7,13 @@ use Rattle.xdg_ast.specs.declared.names.Name.{Name}
 use Rattle.xdg_base.specs.declared.faults.Fault.{Fault}
 use Rattle.xdg_base.specs.declared.faults.Stop.{Stop}
 use Rattle.xdg_base.specs.declared.faults.Stop.TheVariants as stops
-use Rattle.xdg_domain.specs.Shapes.{Shape, Differ}
+use Rattle.xdg_domain.specs.Shapes.{Shape}
 use Rattle.xdg_names.specs.First.{Tells as TellsFault}
 use Rattle.xdg_names.proofs.One.{one_first}
 use Rattle.xdg_names.specs.Texts.{place_of, AllDiffer}
 use Rattle.xdg_names.proofs.Texts.{place_of-at}
 use Rattle.xdg_types.specs.declared.table.DimType.{DimType}
-use Rattle.xdg_types.specs.Parts.{Statement, Dimension, dimensions, dim_names, used_names, texts}
+use Rattle.xdg_types.specs.Parts.{Statement, Dimension, dimensions, dim_names, used_names}
 use Rattle.xdg_types.specs.Names.{NameOffends}
 use Rattle.xdg_types.specs.Kinds.{KindOffends}
 use Rattle.xdg_types.specs.Table.{Table, IsDim, AreDims, AreUsed, IsTableOf}
@@ -24,6 +24,8 @@ use Rattle.xdg_types.proofs.NamesAgain.{no_repeat}
 use Rattle.xdg_typing.proofs.OneShape.{one_typed}
 use Rattle.xdg_types.proofs.Elements.{all_differ}
 use Rattle.xdg_types.proofs.Made.{names_made}
+use Rattle.xdg_facts.specs.Membership.{Differ}
+use Rattle.xdg_ast.specs.Texts.{texts}
 
 -- ---- the dimensions
 

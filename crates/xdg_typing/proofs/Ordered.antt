@@ -1,20 +1,17 @@
 -- The definitions of a grammar as a graph: in range, in order, and ranked where no type leads back to itself.
-use Rattle.std.proofs.Common.{◌≡◌, inl, inr, ℕ, ◌<◌, List, [], ◌∷◌, length, map, get_or, slice_index_or, refl, sym, ap, ◌∙◌, subst, arith, Option, None, Some, true≢false}
+use Rattle.std.proofs.Common.{◌≡◌, inl, ℕ, ◌<◌, List, [], ◌∷◌, length, map, get_or, slice_index_or, refl, sym, ap, ◌∙◌, subst, arith, Option, None, Some, true≢false}
 use Rattle.std.proofs.lemmas.List.{get_or-map, length-map}
 use Rattle.xdg_base.specs.declared.faults.Fault.{Fault}
-use Rattle.xdg_ast.specs.declared.names.Name.{Name}
 use Rattle.xdg_names.specs.declared.graph.Use.{Use}
 use Rattle.xdg_names.specs.Leads.{uses_of, IsGraph, AreComponents, number}
 use Rattle.xdg_names.specs.Closing.{IsClosing}
 use Rattle.xdg_names.proofs.Laws.{falls, follows}
 use Rattle.xdg_names.proofs.Numbered.{from_within}
-use Rattle.xdg_domain.specs.Shapes.{Shape, Differ}
-use Rattle.xdg_names.specs.First.{In}
-use Rattle.xdg_names.proofs.In.{in_get, in_index, in_flat_map, flat_map_in}
+use Rattle.xdg_domain.specs.Shapes.{Shape}
 use Rattle.xdg_names.specs.Texts.{place_of}
 use Rattle.xdg_names.proofs.Texts.{place_of-Some, place_of-None, place_of-at, place_of-has_text}
 use Rattle.xdg_types.specs.Written.{tree, uses, named}
-use Rattle.xdg_types.specs.Parts.{TypeTerm, Statement, Definition, definitions, defined_names, texts}
+use Rattle.xdg_types.specs.Parts.{TypeTerm, Statement, Definition, definitions, defined_names}
 use Rattle.xdg_types.specs.Graph.{use_at, use_of, uses_in, type_graph}
 use Rattle.xdg_types.specs.Meaning.{Resolves, meaning, IsHead}
 use Rattle.xdg_typing.specs.Heads.{Agrees, NamesFirst, Knows, RightBefore}
@@ -22,6 +19,10 @@ use Rattle.xdg_typing.specs.Answers.{IsRanked}
 use Rattle.xdg_typing.specs.Weights.{Weighs, UsesFirst, WeighedBefore, looked, weight_of, leaf}
 use Rattle.xdg_types.proofs.Distinct.{among_has}
 use Rattle.xdg_types.proofs.Elements.{all_differ}
+use Rattle.xdg_facts.specs.Membership.{In, Differ}
+use Rattle.xdg_facts.proofs.In.{in_get, in_index, in_flat_map, flat_map_in}
+use Rattle.xdg_ast.specs.Texts.{texts}
+use Rattle.xdg_types.proofs.InUse.{in_use}
 
 -- ---- the graph
 
@@ -35,10 +36,6 @@ name_text d = d.name.text
 texts_are : (ds : List Definition) → texts (map (λ d. d.name) ds) ≡ map name_text ds
 texts_are [] = refl
 texts_are (d ∷ ds) = ap (λ xs. d.name.text ∷ xs) (texts_are ds)
-
-in_use : (name : Name) (o : Option ℕ) (u : Use) → In (use_at name o) u → (o ≡ Some u.to)
-in_use name None u h = absurd h
-in_use name (Some k) u h = elim h [ inl e ↦ ap (λ x. Some x.to) e | inr n ↦ absurd n ]
 
 module _ (statements : List Statement) where
   abbrev ds : List Definition

@@ -3,12 +3,12 @@ use Rattle.std.proofs.Common.{◌≡◌, ◌⊎◌, inl, inr, true, List, [], �
 use Rattle.std.proofs.lemmas.Bool.{false≢true}
 use Rattle.xdg_base.specs.declared.faults.Cause.TheVariants as causes
 use Rattle.xdg_base.specs.declared.faults.Fault.{Fault}
-use Rattle.xdg_names.specs.First.{In}
-use Rattle.xdg_names.proofs.In.{in_append, in_left, in_right, in_when, when_in}
 use Rattle.xdg_typing.specs.declared.singles.Stood.{Stood}
 use Rattle.xdg_types.specs.Parts.{DimPart}
 use Rattle.xdg_types.specs.Names.{fault_at, Single, the_labels, the_attributes, the_features, single}
 use Rattle.xdg_typing.specs.Listed.{has_stood, with_part, none_stood, part_again, parts_again}
+use Rattle.xdg_facts.specs.Membership.{In}
+use Rattle.xdg_facts.proofs.In.{in_append, in_left, in_right, in_when, when_in}
 
 -- one of these parts is of this kind
 abbrev pub Earlier : List DimPart → Single → Type 0

@@ -7,9 +7,10 @@ use Rattle.std.proofs.lemmas.List.{at_drop_more, drop_all}
 use Rattle.xdg_ast.specs.declared.names.Name.{Name}
 use Rattle.xdg_domain.specs.Shapes.{Shape, constants, sizes, product}
 use Rattle.xdg_types.specs.Written.{tree}
-use Rattle.xdg_types.specs.Parts.{TypeTerm, texts}
+use Rattle.xdg_types.specs.Parts.{TypeTerm}
 use Rattle.xdg_types.specs.Meaning.{meaning, domains_meaning, as_domain}
 use Rattle.xdg_typing.specs.KindFaults.{trees_in}
+use Rattle.xdg_ast.specs.Texts.{texts}
 
 past : (m p top : ℕ) → top < m → min (top * p) top ≡ min (m * p) top
 past m zero top h = let e : top * zero ≡ m * zero = omega arith in ap (λ x. min x top) e

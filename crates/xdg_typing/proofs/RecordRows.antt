@@ -6,14 +6,14 @@ use Rattle.xdg_base.specs.declared.faults.Cause.TheVariants as causes
 use Rattle.xdg_base.specs.declared.faults.Fault.{Fault}
 use Rattle.xdg_ast.specs.declared.names.Name.{Name}
 use Rattle.xdg_domain.specs.Shapes.{Shape, fields, Fields, no_field, field_then}
-use Rattle.xdg_names.specs.First.{In}
-use Rattle.xdg_names.proofs.In.{in_append, in_left, in_right, in_when, when_in}
 use Rattle.xdg_types.specs.Written.{Tree, recorded, named, member_names}
 use Rattle.xdg_types.specs.Meaning.{as_domain}
 use Rattle.xdg_types.specs.Names.{fault_at}
 use Rattle.xdg_types.specs.Kinds.{Wanted, the_attributes, Site, is_attribute, reaching, field_count, HasOther, NamedOffends, AttributesOffend, HasWrongAttributes}
 use Rattle.xdg_typing.specs.KindFaults.{ninth_name_faults, has_other, wide_record_faults, other_faults, named_faults, record_faults, attributes_faults}
 use Rattle.xdg_facts.proofs.Truths.{from_not}
+use Rattle.xdg_facts.specs.Membership.{In}
+use Rattle.xdg_facts.proofs.In.{in_append, in_left, in_right, in_when, when_in}
 
 -- what stands at a place stands between others
 pub between : {A : Type 0} (xs : List A) (k : ℕ) (x : A) → slice_get xs k ≡ Some x → (before : List A) × ((after : List A) × ((xs ≡ before ++ x ∷ after) × (length before ≡ k)))

@@ -7,17 +7,15 @@ use Rattle.xdg_ast.specs.declared.names.Name.{Name}
 use Rattle.xdg_ast.specs.declared.grammar.DimPartKind.{DimPartKind}
 use Rattle.xdg_ast.specs.declared.grammar.DimPartKind.TheVariants as p
 use Rattle.xdg_domain.specs.declared.types.Ty.{Ty}
-use Rattle.xdg_domain.specs.Shapes.{Shape, domain, tuple, truth, integer, text, set, iset, card, valency, mapping, fields, Fields, no_field, field_then, constants, shape, Among, Differ, IsType, AreTypes, names_of}
-use Rattle.xdg_names.specs.First.{In}
-use Rattle.xdg_names.proofs.In.{in_flat_map, in_left, in_right}
+use Rattle.xdg_domain.specs.Shapes.{Shape, domain, tuple, truth, integer, text, set, iset, card, valency, mapping, fields, Fields, no_field, field_then, constants, shape, IsType, AreTypes, names_of}
 use Rattle.xdg_names.proofs.Texts.{place_of-has_text, place_of-Some}
 use Rattle.xdg_types.specs.declared.table.DimType.{DimType}
 use Rattle.xdg_types.specs.Written.{Tree, nothing, listed, recorded, tupled, set_of, iset_of, valency_of, map_of, a_card, a_bool, an_int, a_string, named, Members, no_member, member_then, member_names, tree}
-use Rattle.xdg_types.specs.Parts.{TypeTerm, DimPart, Statement, Dimension, dimensions, dim_names, used_name, used_names, used_places, label_type, attrs_type, entry_type, in_parts, texts}
+use Rattle.xdg_types.specs.Parts.{TypeTerm, DimPart, Statement, Dimension, dimensions, dim_names, used_name, used_names, used_places, label_type, attrs_type, entry_type, in_parts}
 use Rattle.xdg_types.specs.Meaning.{meaning, fields_meaning, as_domain}
 use Rattle.xdg_types.specs.Kinds.{an_attribute, the_labels, the_attributes, the_features, inside, inside_members, inside_attributes, is_record, is_attribute, field_count, HasOther, reaching}
 use Rattle.xdg_types.specs.Names.{fault_at}
-use Rattle.xdg_types.specs.Table.{Typed, typed, typed_fields, fields_in, first_meaning, IsDim, AreDims, AreUsed, firsts, AreAttributes, AreFeatures, KeepsDim, KeepDims, HasPlace, ArePlaces, IsTable}
+use Rattle.xdg_types.specs.Table.{Typed, typed, typed_fields, fields_in, first_meaning, IsDim, AreDims, AreUsed, firsts, AreAttributes, AreFeatures, KeepsDim, KeepDims, ArePlaces, IsTable}
 use Rattle.xdg_typing.specs.Used.{found, places}
 use Rattle.xdg_typing.specs.Branches.{Naming}
 use Rattle.xdg_typing.specs.Right.{AreRight}
@@ -25,6 +23,9 @@ use Rattle.xdg_types.proofs.Elements.{not_more, among_has, among_or_not, part_at
 use Rattle.xdg_types.proofs.Made.{names_in, names_made}
 use Rattle.xdg_typing.proofs.RightTypes.{IsFine, AreFine, as_type, domain_of, attribute_of, constants_differ, kind_of, right_type, right_attributes}
 use Rattle.xdg_typing.proofs.RightText.{Stands, type_stands, site_fine, differ_once, lists_once, uses_right}
+use Rattle.xdg_facts.specs.Membership.{In, Differ}
+use Rattle.xdg_facts.proofs.In.{in_left, in_right, in_flat_map}
+use Rattle.xdg_ast.specs.Texts.{texts}
 
 -- ---- fields
 
@@ -78,30 +79,15 @@ record IsFirst (kind : TypeTerm → DimPartKind) (names : Naming) (parts : List 
 
 label_part : (kind : DimPartKind) (type : TypeTerm) → In (label_type kind) type → kind ≡ p.LabelType type
 label_part (p.LabelType t) type h = elim h [ inl e ↦ ap (λ (u : TypeTerm). p.LabelType u) e | inr k ↦ absurd k ]
-label_part (p.DefType name t) type h = absurd h
-label_part (p.AttrsType t) type h = absurd h
-label_part (p.EntryType t) type h = absurd h
-label_part (p.Output name) type h = absurd h
-label_part (p.UseOutput name) type h = absurd h
-label_part (p.UsePrinciple name dims args) type h = absurd h
+label_part other type h = absurd h
 
 attrs_part : (kind : DimPartKind) (type : TypeTerm) → In (attrs_type kind) type → kind ≡ p.AttrsType type
 attrs_part (p.AttrsType t) type h = elim h [ inl e ↦ ap (λ (u : TypeTerm). p.AttrsType u) e | inr k ↦ absurd k ]
-attrs_part (p.DefType name t) type h = absurd h
-attrs_part (p.LabelType t) type h = absurd h
-attrs_part (p.EntryType t) type h = absurd h
-attrs_part (p.Output name) type h = absurd h
-attrs_part (p.UseOutput name) type h = absurd h
-attrs_part (p.UsePrinciple name dims args) type h = absurd h
+attrs_part other type h = absurd h
 
 entry_part : (kind : DimPartKind) (type : TypeTerm) → In (entry_type kind) type → kind ≡ p.EntryType type
 entry_part (p.EntryType t) type h = elim h [ inl e ↦ ap (λ (u : TypeTerm). p.EntryType u) e | inr k ↦ absurd k ]
-entry_part (p.DefType name t) type h = absurd h
-entry_part (p.LabelType t) type h = absurd h
-entry_part (p.AttrsType t) type h = absurd h
-entry_part (p.Output name) type h = absurd h
-entry_part (p.UseOutput name) type h = absurd h
-entry_part (p.UsePrinciple name dims args) type h = absurd h
+entry_part other type h = absurd h
 
 first_or_none : (kind : TypeTerm → DimPartKind) (names : Naming) (parts : List DimPart) (types : List TypeTerm) → ((type : TypeTerm) → In types type → (part : DimPart) × (In parts part × (part.kind ≡ kind type)))
     → (first_meaning names types ≡ fields no_field) ⊎ IsFirst kind names parts types
@@ -282,7 +268,7 @@ module _ (statements : List Statement) (names : Naming) (right : AreRight statem
 -- ---- names and places
 
 -- the name of a dimension whose place is there is among the names
-named_there : (dims : List DimType) (names : List Name) (ks : List ℕ) (k : ℕ) (dim : DimType) → AreUsed dims names ks → HasPlace ks k → get_or dims k dim ≡ dim → Among (texts names) dim.name
+named_there : (dims : List DimType) (names : List Name) (ks : List ℕ) (k : ℕ) (dim : DimType) → AreUsed dims names ks → In ks k → get_or dims k dim ≡ dim → In (texts names) dim.name
 named_there dims [] [] k dim are h at = absurd h
 named_there dims [] (j ∷ ks) k dim are h at = absurd are
 named_there dims (name ∷ names) [] k dim are h at = absurd are
@@ -301,7 +287,7 @@ are_places dims [] [] are differ = tt
 are_places dims [] (k ∷ ks) are differ = absurd are
 are_places dims (name ∷ names) [] are differ = absurd are
 are_places dims (name ∷ names) (k ∷ ks) are differ = (
-  (are.0.1.0, λ h. differ.0 (subst (Among (texts names)) are.0.1.1.1 (named_there dims names ks k are.0.0 are.1 h are.0.1.1.0))),
+  (are.0.1.0, λ h. differ.0 (subst (In (texts names)) are.0.1.1.1 (named_there dims names ks k are.0.0 are.1 h are.0.1.1.0))),
   are_places dims names ks are.1 differ.1,
 )
 
@@ -331,7 +317,7 @@ dim_at [] k h = absurd (omega arith)
 dim_at (d ∷ dims) zero h = record { dim = d; at = refl; named = refl }
 dim_at (d ∷ dims) (suc k) h = let w = dim_at dims k (omega arith) in record { dim = w.dim; at = w.at; named = w.named }
 
-pub found_are_used : (dims : List DimType) (names : List Name) → ((name : Name) → In names name → Among (names_in dims) name.text) → AreUsed dims names (places (names_in dims) names)
+pub found_are_used : (dims : List DimType) (names : List Name) → ((name : Name) → In names name → In (names_in dims) name.text) → AreUsed dims names (places (names_in dims) names)
 found_are_used dims [] h = tt
 found_are_used dims (name ∷ names) h =
     let f = place_of-has_text (names_in dims) name.text (among_has (names_in dims) name.text (h name (inl refl))) in
@@ -347,7 +333,7 @@ module _ (statements : List Statement) (names : Naming) (right : AreRight statem
   pub names_differ : (dims : List DimType) → AreDims names (dimensions statements) dims → Differ (names_in dims)
   names_differ dims are = subst Differ (sym (names_made names (dimensions statements) dims are)) (differ_once statements names right (dim_names statements) (inl refl))
 
-  used_is_defined : (name : Name) → In (used_names statements) name → Among (texts (dim_names statements)) name.text
+  used_is_defined : (name : Name) → In (used_names statements) name → In (texts (dim_names statements)) name.text
   used_is_defined name i = elim (among_or_not (texts (dim_names statements)) name.text) [
     | inl a ↦ a
     | inr n ↦ absurd (right.once (fault_at causes.UnknownName name.span.start) (inl (record { name = name; used = i; missing = n; fault = refl })))
@@ -360,7 +346,7 @@ module _ (statements : List Statement) (names : Naming) (right : AreRight statem
       right.kinds (reaching causes.TooWide w.one 9) (inl (record { before = w.before; ninth = w.one; after = w.after; parts = w.parts; eight = w.len; fault = refl })))
 
   pub used_are : (dims : List DimType) → AreDims names (dimensions statements) dims → AreUsed dims (used_names statements) (places (names_in dims) (used_names statements))
-  used_are dims are = found_are_used dims (used_names statements) (λ name i. subst (λ ts. Among ts name.text) (sym (names_made names (dimensions statements) dims are)) (used_is_defined name i))
+  used_are dims are = found_are_used dims (used_names statements) (λ name i. subst (λ ts. In ts name.text) (sym (names_made names (dimensions statements) dims are)) (used_is_defined name i))
 
   pub is_table : (dims : List DimType) (used : List ℕ) → AreDims names (dimensions statements) dims → AreUsed dims (used_names statements) used → IsTable (record { dims = dims; used = used })
   is_table dims used are places_are =

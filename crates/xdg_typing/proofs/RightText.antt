@@ -5,30 +5,26 @@ use Rattle.xdg_base.specs.declared.faults.Cause.TheVariants as causes
 use Rattle.xdg_ast.specs.declared.names.Name.{Name}
 use Rattle.xdg_ast.specs.declared.grammar.DimPartKind.{DimPartKind}
 use Rattle.xdg_ast.specs.declared.grammar.DimPartKind.TheVariants as p
-use Rattle.xdg_domain.specs.Shapes.{Among, Differ, IsType}
-use Rattle.xdg_names.specs.First.{In}
-use Rattle.xdg_names.proofs.In.{in_flat_map, flat_map_in}
+use Rattle.xdg_domain.specs.Shapes.{IsType}
 use Rattle.xdg_types.specs.Written.{tree, uses, lists}
-use Rattle.xdg_types.specs.Parts.{TypeTerm, DimPart, Statement, Dimension, Definition, dimensions, definition, definitions_in, definitions, defined_names, type_in, in_parts, types, texts}
+use Rattle.xdg_types.specs.Parts.{TypeTerm, DimPart, Statement, Dimension, Definition, dimensions, definition, definitions_in, definitions, defined_names, type_in, in_parts, types}
 use Rattle.xdg_types.specs.Kinds.{anything, part_sites}
 use Rattle.xdg_types.specs.Names.{fault_at, once}
 use Rattle.xdg_typing.specs.Branches.{Naming}
 use Rattle.xdg_typing.specs.Right.{AreRight}
 use Rattle.xdg_types.proofs.Elements.{differ_unless, among_or_not}
 use Rattle.xdg_typing.proofs.RightTypes.{AreFine, HaveTypes, AllOnce, right_type}
+use Rattle.xdg_facts.specs.Membership.{In, Differ}
+use Rattle.xdg_facts.proofs.In.{in_flat_map, flat_map_in}
+use Rattle.xdg_ast.specs.Texts.{texts}
 
 -- a definition's part
 pub definition_in : (kind : DimPartKind) (d : Definition) → In (definition kind) d → kind ≡ p.DefType d.name d.body
 definition_in (p.DefType name type) d h = elim h [ inl e ↦ ap (λ (x : Definition). p.DefType x.name x.body) e | inr k ↦ absurd k ]
-definition_in (p.LabelType type) d h = absurd h
-definition_in (p.AttrsType type) d h = absurd h
-definition_in (p.EntryType type) d h = absurd h
-definition_in (p.Output name) d h = absurd h
-definition_in (p.UseOutput name) d h = absurd h
-definition_in (p.UsePrinciple name dims args) d h = absurd h
+definition_in other d h = absurd h
 
 -- the definition of a name
-defined_by : (ds : List Definition) (t : List ℕ) → Among (texts (map (λ d. d.name) ds)) t → (d : Definition) × (In ds d × (d.name.text ≡ t))
+defined_by : (ds : List Definition) (t : List ℕ) → In (texts (map (λ d. d.name) ds)) t → (d : Definition) × (In ds d × (d.name.text ≡ t))
 defined_by [] t h = absurd h
 defined_by (d ∷ ds) t h = elim h [
   | inl e ↦ (d, (inl refl, e))
@@ -69,7 +65,7 @@ module _ (statements : List Statement) (names : Naming) (right : AreRight statem
   lists_once type h ns i = differ_once ns (inr (inr (inr (flat_map_in (λ (t : TypeTerm). lists (tree t.kind)) (types statements) type ns h i))))
 
   -- each name that stands in a type is defined
-  pub is_defined : (type : TypeTerm) → In (types statements) type → (u : Name) → In (uses (tree type.kind)) u → Among (texts (defined_names statements)) u.text
+  pub is_defined : (type : TypeTerm) → In (types statements) type → (u : Name) → In (uses (tree type.kind)) u → In (texts (defined_names statements)) u.text
   is_defined type h u i = elim (among_or_not (texts (defined_names statements)) u.text) [
     | inl a ↦ a
     | inr n ↦ absurd (right.once (fault_at causes.UnknownName u.span.start) (inr (inl (record { type = type; stands = h; name = u; used = i; missing = n; fault = refl }))))

@@ -7,17 +7,17 @@ use Rattle.std.proofs.lemmas.List.{length-map}
 use Rattle.xdg_base.specs.declared.faults.Cause.TheVariants as causes
 use Rattle.xdg_base.specs.declared.faults.Fault.{Fault}
 use Rattle.xdg_ast.specs.declared.names.Name.{Name}
-use Rattle.xdg_domain.specs.Shapes.{Shape, domain, tuple, truth, integer, text, set, iset, card, valency, mapping, fields, Shapes, no_shape, shape_then, Fields, no_field, field_then, constants, constants_of, in_a_row, sizes, product, count, Among, Differ, IsDomain, AreDomains, IsSmall, IsMapped, names_of, IsType, AreTypes}
-use Rattle.xdg_names.specs.First.{In}
-use Rattle.xdg_names.proofs.In.{in_left, in_right}
+use Rattle.xdg_domain.specs.Shapes.{Shape, domain, tuple, truth, integer, text, set, iset, card, valency, mapping, fields, Shapes, no_shape, shape_then, Fields, no_field, field_then, constants, constants_of, in_a_row, sizes, product, count, IsDomain, AreDomains, IsSmall, IsMapped, names_of, IsType, AreTypes}
 use Rattle.xdg_types.specs.Written.{Tree, nothing, listed, recorded, tupled, set_of, iset_of, valency_of, map_of, a_card, a_bool, an_int, a_string, named, Trees, no_tree, tree_then, Members, no_member, member_then, member_names, uses, uses_in_trees, uses_in_members, lists, lists_in_trees, lists_in_members}
-use Rattle.xdg_types.specs.Parts.{texts}
 use Rattle.xdg_types.specs.Meaning.{meaning, domains_meaning, fields_meaning, as_domain}
 use Rattle.xdg_types.specs.Names.{fault_at}
 use Rattle.xdg_types.specs.Kinds.{Wanted, anything, a_domain, a_small, a_mapped, an_attribute, Site, inside, inside_trees, inside_members, inside_attributes, is_domain, is_small, is_mapped, is_empty_domain, are_domains, has_empty_domain, has_no_tuple, is_attribute, is_of_kind, SiteOffends, Split, SharesAt}
 use Rattle.xdg_typing.specs.Branches.{Naming}
-use Rattle.xdg_types.proofs.Elements.{not_more, among_in, among_left, among_right, among_append, among_name, differ_append}
+use Rattle.xdg_types.proofs.Elements.{not_more, among_name, differ_append}
 use Rattle.xdg_facts.proofs.Truths.{from_not, none_or}
+use Rattle.xdg_facts.specs.Membership.{In, Differ}
+use Rattle.xdg_facts.proofs.In.{in_left, in_right, in_append}
+use Rattle.xdg_ast.specs.Texts.{texts}
 
 -- ---- shapes of the wanted kind
 
@@ -77,18 +77,9 @@ mapped_of text k = absurd (false≢true k)
 -- a domain's constants differ, and what is no domain has none
 pub constants_differ : (s : Shape) → IsDomain s → Differ (constants s)
 constants_differ (domain cs) h = h.1
-constants_differ (tuple ss) h = absurd h
-constants_differ (fields fs) h = absurd h
-constants_differ truth h = absurd h
-constants_differ integer h = absurd h
-constants_differ text h = absurd h
-constants_differ (set u) h = absurd h
-constants_differ (iset u) h = absurd h
-constants_differ card h = absurd h
-constants_differ (valency u) h = absurd h
-constants_differ (mapping l u) h = absurd h
+constants_differ other h = absurd h
 
-none_in_fields : (fs : Fields) (t : List ℕ) → Among (constants (as_domain (fields fs))) t → ⊥
+none_in_fields : (fs : Fields) (t : List ℕ) → In (constants (as_domain (fields fs))) t → ⊥
 none_in_fields no_field t h = h
 none_in_fields (field_then name u fs) t h = h
 
@@ -97,16 +88,7 @@ none_in_fields (field_then name u fs) t h = h
 some_constant : (s : Shape) → IsDomain s → is_empty_domain s ≡ false → 0 < length (constants s)
 some_constant (domain []) h k = absurd (true≢false k)
 some_constant (domain (c ∷ cs)) h k = omega arith
-some_constant (tuple ss) h k = absurd h
-some_constant (fields fs) h k = absurd h
-some_constant truth h k = absurd h
-some_constant integer h k = absurd h
-some_constant text h k = absurd h
-some_constant (set u) h k = absurd h
-some_constant (iset u) h k = absurd h
-some_constant card h k = absurd h
-some_constant (valency u) h k = absurd h
-some_constant (mapping l u) h k = absurd h
+some_constant other h k = absurd h
 
 both_positive : (m n : ℕ) → 0 < m → 0 < n → 0 < m * n
 both_positive m n h k = omega (arith, mul-lt-mul_of_pos_left {m = 0} {n = n} {k = m} k h)
@@ -118,16 +100,7 @@ some_tuple (shape_then s ss) h k = let e = none_or (is_empty_domain s) (has_empt
 
 one_domain : (s : Shape) → IsDomain s → is_domain s ≡ true
 one_domain (domain cs) h = refl
-one_domain (tuple ss) h = absurd h
-one_domain (fields fs) h = absurd h
-one_domain truth h = absurd h
-one_domain integer h = absurd h
-one_domain text h = absurd h
-one_domain (set u) h = absurd h
-one_domain (iset u) h = absurd h
-one_domain card h = absurd h
-one_domain (valency u) h = absurd h
-one_domain (mapping l u) h = absurd h
+one_domain other h = absurd h
 
 all_domains : (ss : Shapes) → AreDomains ss → are_domains ss ≡ true
 all_domains no_shape h = refl
@@ -182,7 +155,7 @@ module _ (names : Naming) where
   own t = constants (as_domain (meaning names t))
 
   abbrev NoneShared : Trees → Type 0
-  NoneShared ts = (before : Trees) (at : ℕ) (field : Tree) (after : Trees) (c : List ℕ) → Split before ts at field after → Among (own field) c → Among (row before) c → ⊥
+  NoneShared ts = (before : Trees) (at : ℕ) (field : Tree) (after : Trees) (c : List ℕ) → Split before ts at field after → In (own field) c → In (row before) c → ⊥
 
   record HasField (ts : Trees) (c : List ℕ) : Type 0 where
     before : Trees
@@ -190,11 +163,11 @@ module _ (names : Naming) where
     field : Tree
     after : Trees
     parts : Split before ts at field after
-    has : Among (own field) c
+    has : In (own field) c
 
-  field_with : (ts : Trees) (c : List ℕ) → Among (row ts) c → HasField ts c
+  field_with : (ts : Trees) (c : List ℕ) → In (row ts) c → HasField ts c
   field_with no_tree c h = absurd h
-  field_with (tree_then at t ts) c h = elim (among_append (own t) (row ts) c h) [
+  field_with (tree_then at t ts) c h = elim (in_append (own t) (row ts) c h) [
     | inl l ↦ record { before = no_tree; at = at; field = t; after = ts; parts = refl; has = l }
     | inr r ↦ (let w = field_with ts c r in record { before = tree_then at t w.before; at = w.at; field = w.field; after = w.after; parts = (ts, (refl, w.parts)); has = w.has })
   ]
@@ -203,23 +176,14 @@ module _ (names : Naming) where
   apart no_tree none domains = tt
   apart (tree_then at t ts) none domains =
       differ_append (own t) (row ts) (constants_differ (as_domain (meaning names t)) domains.0)
-      (apart ts (λ before there field after c split has earlier. none (tree_then at t before) there field after c (ts, (refl, split)) has (among_right (own t) (row before) c earlier)) domains.1)
-      (λ c has later. let w = field_with ts c later in none (tree_then at t w.before) w.at w.field w.after c (ts, (refl, w.parts)) w.has (among_left (own t) (row w.before) c has))
+      (apart ts (λ before there field after c split has earlier. none (tree_then at t before) there field after c (ts, (refl, split)) has (in_right (own t) (row before) c earlier)) domains.1)
+      (λ c has later. let w = field_with ts c later in none (tree_then at t w.before) w.at w.field w.after c (ts, (refl, w.parts)) w.has (in_left (own t) (row w.before) c has))
 
-  shares : (earlier : List (List ℕ)) (at : ℕ) (t : Tree) (c : List ℕ) → Among (own t) c → Among earlier c → (f : Fault) × SharesAt names earlier at t f
-  shares earlier at (listed cs) c has before = let w = among_name cs c has in (fault_at causes.Twice w.0.span.start, (w.0, (w.1.0, (subst (Among earlier) (sym w.1.1) before, refl))))
-  shares earlier at (named name) c has before = (fault_at causes.Twice at, (c, (among_in (own (named name)) c has, (before, refl))))
+  shares : (earlier : List (List ℕ)) (at : ℕ) (t : Tree) (c : List ℕ) → In (own t) c → In earlier c → (f : Fault) × SharesAt names earlier at t f
+  shares earlier at (listed cs) c has before = let w = among_name cs c has in (fault_at causes.Twice w.0.span.start, (w.0, (w.1.0, (subst (In earlier) (sym w.1.1) before, refl))))
+  shares earlier at (named name) c has before = (fault_at causes.Twice at, (c, (has, (before, refl))))
   shares earlier at (recorded ms) c has before = absurd (none_in_fields (fields_meaning names ms) c has)
-  shares earlier at nothing c has before = absurd has
-  shares earlier at (tupled ts) c has before = absurd has
-  shares earlier at (set_of there t) c has before = absurd has
-  shares earlier at (iset_of there t) c has before = absurd has
-  shares earlier at (valency_of there t) c has before = absurd has
-  shares earlier at (map_of there t further u) c has before = absurd has
-  shares earlier at a_card c has before = absurd has
-  shares earlier at a_bool c has before = absurd has
-  shares earlier at an_int c has before = absurd has
-  shares earlier at a_string c has before = absurd has
+  shares earlier at other c has before = absurd has
 
   none_shared : (wanted : Wanted) (at : ℕ) (ts : Trees) → IsFine (record { wanted = wanted; at = at; written = tupled ts }) → NoneShared ts
   none_shared wanted at ts fine before there field after c split has earlier =

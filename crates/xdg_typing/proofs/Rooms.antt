@@ -147,22 +147,12 @@ module _ (names : Naming) where
   first_entry : (kind : DimPartKind) (more : List TypeTerm) (t : TypeTerm) (rest : ℕ) → (slice_get more 0 ≡ Some t → parts (meaning names (tree t.kind)) ≤ rest)
       → slice_get (entry_type kind ++ more) 0 ≡ Some t → parts (meaning names (tree t.kind)) ≤ all_parts names (given kind) + rest
   first_entry (k.EntryType type) more t rest h is = let e : type ≡ t = cc in let f = ap (λ (u : TypeTerm). parts (meaning names (tree u.kind))) e in omega (arith, f)
-  first_entry (k.LabelType type) more t rest h is = let e = h is in omega (arith, e)
-  first_entry (k.AttrsType type) more t rest h is = let e = h is in omega (arith, e)
-  first_entry (k.DefType name type) more t rest h is = let e = h is in omega (arith, e)
-  first_entry (k.Output name) more t rest h is = let e = h is in omega (arith, e)
-  first_entry (k.UseOutput name) more t rest h is = let e = h is in omega (arith, e)
-  first_entry (k.UsePrinciple name dims args) more t rest h is = let e = h is in omega (arith, e)
+  first_entry other more t rest h is = let e = h is in omega (arith, e)
 
   first_attrs : (kind : DimPartKind) (more : List TypeTerm) (t : TypeTerm) (rest : ℕ) → (slice_get more 0 ≡ Some t → parts (meaning names (tree t.kind)) ≤ rest)
       → slice_get (attrs_type kind ++ more) 0 ≡ Some t → parts (meaning names (tree t.kind)) ≤ all_parts names (given kind) + rest
   first_attrs (k.AttrsType type) more t rest h is = let e : type ≡ t = cc in let f = ap (λ (u : TypeTerm). parts (meaning names (tree u.kind))) e in omega (arith, f)
-  first_attrs (k.LabelType type) more t rest h is = let e = h is in omega (arith, e)
-  first_attrs (k.EntryType type) more t rest h is = let e = h is in omega (arith, e)
-  first_attrs (k.DefType name type) more t rest h is = let e = h is in omega (arith, e)
-  first_attrs (k.Output name) more t rest h is = let e = h is in omega (arith, e)
-  first_attrs (k.UseOutput name) more t rest h is = let e = h is in omega (arith, e)
-  first_attrs (k.UsePrinciple name dims args) more t rest h is = let e = h is in omega (arith, e)
+  first_attrs other more t rest h is = let e = h is in omega (arith, e)
 
   entry_given : (ps : List DimPart) (t : TypeTerm) → slice_get (in_parts entry_type ps) 0 ≡ Some t → parts (meaning names (tree t.kind)) ≤ all_parts names (given_in ps)
   entry_given [] t is = absurd cc

@@ -4,19 +4,18 @@ use Rattle.std.specs.Prelude.{IsTrue, ◌↔◌}
 use Rattle.xdg_ast.specs.declared.names.Pair.{Pair}
 use Rattle.xdg_ast.specs.declared.types.TypeKind.{TypeKind}
 use Rattle.xdg_ast.specs.declared.types.TypeKind.TheVariants as y
-use Rattle.xdg_domain.specs.declared.types.Ty.{Ty, out-Ty, map-Ty, fold_out-Ty}
+use Rattle.xdg_domain.specs.declared.types.Ty.{Ty}
 use Rattle.xdg_domain.specs.declared.types.Ty.TheOpen.{Ty-F}
 use Rattle.xdg_domain.specs.declared.types.Ty.TheVariants as t
-use Rattle.xdg_domain.specs.Shapes.{Shape, tuple, text, set, iset, valency, mapping, fields, no_field, field_then, shape_then, layer, shape, shapes_of, fields_of}
+use Rattle.xdg_domain.specs.Shapes.{Shape, tuple, text, set, iset, valency, mapping, fields, no_field, field_then, shape_then, shape, shapes_of, fields_of}
 use Rattle.xdg_types.specs.Written.{tree}
 use Rattle.xdg_types.specs.Parts.{TypeTerm}
 use Rattle.xdg_types.specs.Meaning.{meaning, domains_meaning, fields_meaning, as_domain}
 use Rattle.xdg_types.specs.Table.{typed}
 use Rattle.xdg_typing.specs.Branches.{domain_meaning, field_meaning}
 use Rattle.xdg_types.proofs.Treed.{trees, members, tree_set, tree_iset, tree_valency, tree_map, tree_tuple, tree_rec}
-
-by_layer : (ty : Ty) (l : Ty-F Ty) → out-Ty ty ≡ l → shape ty ≡ layer (map-Ty Ty Shape shape l)
-by_layer ty l is = fold_out-Ty Shape layer ty ∙ ap (λ m. layer (map-Ty Ty Shape shape m)) is
+use Rattle.xdg_domain.proofs.Opened.{shape_map}
+use Rattle.xdg_domain.proofs.Shaped.{by_layer}
 
 shape_tuple : (all : List Ty) → shape (t.Tuple all) ≡ tuple (shapes_of (map shape all))
 shape_tuple all = by_layer (t.Tuple all) (Ty-F.Tuple all) (t.outs-Tuple all)
@@ -29,9 +28,6 @@ shape_iset of = by_layer (t.ISet of) (Ty-F.ISet of) (t.outs-ISet of)
 
 shape_valency : (of : Ty) → shape (t.Valency of) ≡ valency (shape of)
 shape_valency of = by_layer (t.Valency of) (Ty-F.Valency of) (t.outs-Valency of)
-
-shape_map : (key of : Ty) → shape (t.Map key of) ≡ mapping (shape key) (shape of)
-shape_map key of = by_layer (t.Map key of) (Ty-F.Map key of) (t.outs-Map key of)
 
 shape_rec : (all : List (List ℕ × Ty)) → shape (t.Rec all) ≡ fields (fields_of (typed all))
 shape_rec all = by_layer (t.Rec all) (Ty-F.Rec all) (t.outs-Rec all)

@@ -4,20 +4,21 @@ use Rattle.std.proofs.lemmas.List.{append-nil}
 use Rattle.xdg_base.specs.declared.faults.Cause.TheVariants as causes
 use Rattle.xdg_base.specs.declared.faults.Fault.{Fault}
 use Rattle.xdg_domain.specs.Shapes.{Shape, constants, constants_of, in_a_row}
-use Rattle.xdg_names.specs.First.{In}
-use Rattle.xdg_names.proofs.In.{in_append, in_left, in_right, in_flat_map, flat_map_in, in_when, when_in}
 use Rattle.xdg_names.specs.Texts.{has_text}
 use Rattle.xdg_types.specs.Written.{Tree, listed, tupled, named, Trees, no_tree, tree_then}
 use Rattle.xdg_types.specs.Meaning.{meaning, domains_meaning, as_domain}
 use Rattle.xdg_types.specs.Names.{fault_at}
 use Rattle.xdg_types.specs.Kinds.{Site, Split, SharesAt, SharesConstant}
-use Rattle.xdg_typing.specs.KindFaults.{add_texts, has_one, twice_faults, field_faults, shared_in, shared_faults}
+use Rattle.xdg_typing.specs.KindFaults.{add_texts, has_one, field_faults, shared_in, shared_faults}
 use Rattle.xdg_typing.proofs.KindAmong.{Alike, alike_none, alike_more, has_among, among_has, has_one_in, in_has_one}
+use Rattle.xdg_facts.specs.Membership.{In}
+use Rattle.xdg_facts.proofs.In.{in_append, in_left, in_right, in_when, when_in, in_flat_map, flat_map_in}
+use Rattle.xdg_types.specs.NameFaults.{repeated}
 
 module _ (names : List ℕ → Shape) where
   field_sound : (seen earlier : List (List ℕ)) → Alike seen earlier → (at : ℕ) (t : Tree) (f : Fault) → In (field_faults names seen at t) f → SharesAt names earlier at t f
   field_sound seen earlier alike at (listed cs) f h =
-      let r = in_flat_map (twice_faults seen) cs f h in
+      let r = in_flat_map (repeated seen) cs f h in
       let k = in_when (has_text seen r.0.text) (fault_at causes.Twice r.0.span.start) f r.1.1 in
       (r.0, (r.1.0, (alike.to r.0.text (has_among seen r.0.text k.0), sym k.1)))
   field_sound seen earlier alike at (named name) f h =
@@ -29,7 +30,7 @@ module _ (names : List ℕ → Shape) where
 
   field_complete : (seen earlier : List (List ℕ)) → Alike seen earlier → (at : ℕ) (t : Tree) (f : Fault) → SharesAt names earlier at t f → In (field_faults names seen at t) f
   field_complete seen earlier alike at (listed cs) f h =
-      flat_map_in (twice_faults seen) cs h.0 f h.1.0
+      flat_map_in (repeated seen) cs h.0 f h.1.0
       (when_in (has_text seen h.0.text) (fault_at causes.Twice h.0.span.start) f (among_has seen h.0.text (alike.from h.0.text h.1.1.0)) (sym h.1.1.1))
   field_complete seen earlier alike at (named name) f h =
       let cs = constants (as_domain (names name.text)) in

@@ -11,12 +11,13 @@ use Rattle.xdg_ast.specs.declared.types.TypeKind.{TypeKind, out-TypeKind}
 use Rattle.xdg_ast.specs.declared.types.TypeKind.TheVariants as y
 use Rattle.xdg_domain.specs.Shapes.{Shape, constants}
 use Rattle.xdg_types.specs.Written.{tree}
-use Rattle.xdg_types.specs.Parts.{TypeTerm, texts}
+use Rattle.xdg_types.specs.Parts.{TypeTerm}
 use Rattle.xdg_types.specs.Meaning.{meaning, as_domain}
 use Rattle.xdg_types.specs.Kinds.{Wanted, anything, a_domain, a_mapped, an_attribute, Site, inside, inside_trees, inside_members, inside_attributes, is_of_kind, has_no_field}
 use Rattle.xdg_typing.specs.KindFaults.{trees_in, members_in, form_tree, fieldless_form, wrong_faults, kind_faults, big_faults, label_faults, wide_faults, attributes_faults, alone_faults, site_faults, faults_in, shared_in, shared_faults}
 use Rattle.xdg_typing.proofs.Layers.{tree_form, tree_rec, tree_tuple, tree_map, fieldless_is}
 use Rattle.xdg_typing.proofs.Products.{texts_length}
+use Rattle.xdg_ast.specs.Texts.{texts}
 
 -- a list of faults is another
 pub same_faults : {E : Type 0} (result : Result (Option Fault) E) (fs gs : List Fault) → fs ≡ gs → IfOk result (λ found. found ≡ first fs) → IfOk result (λ found. found ≡ first gs)

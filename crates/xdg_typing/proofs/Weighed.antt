@@ -52,3 +52,6 @@ module _ (at : Name → ℕ) where
   record_weighed kind ps items i all is same past so_far =
       ap held (ap (λ (qs : List (Pair TypeTerm)). beside_members at all (members qs)) (sym (drop_all i items past)) ∙ so_far ∙ ap (λ (qs : List (Pair TypeTerm)). beside_members at 0 (members qs)) same)
       ∙ sym (ap (λ k. weighed at (tree k)) is ∙ ap (weighed at) (tree_rec ps))
+
+-- what each form of a type weighs
+pub ruleset weight_steps = (of_set, of_iset, of_valency, of_map, of_named, of_domain)

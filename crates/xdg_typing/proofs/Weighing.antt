@@ -4,7 +4,6 @@ use Rattle.std.proofs.lemmas.Bool.{cases_eq, cases_lt}
 use Rattle.std.proofs.lemmas.List.{get_or-map, length-map, get_or-set_same, get_or-set_other}
 use Rattle.xdg_names.proofs.Texts.{place_of-Some}
 use Rattle.xdg_domain.specs.Shapes.{Shape}
-use Rattle.xdg_names.specs.First.{In}
 use Rattle.xdg_names.specs.Texts.{place_of}
 use Rattle.xdg_types.specs.Written.{tree, uses}
 use Rattle.xdg_types.specs.Parts.{TypeTerm}
@@ -12,6 +11,7 @@ use Rattle.xdg_types.specs.Meaning.{meaning}
 use Rattle.xdg_typing.specs.Heads.{Agrees}
 use Rattle.xdg_typing.specs.Weights.{weighed, named_weight, looked, weight_of, leaf, UsesFirst, WeighedBefore}
 use Rattle.xdg_typing.proofs.WeightLaws.{weigh_right}
+use Rattle.xdg_facts.specs.Membership.{In}
 
 module _ (names : List ℕ → Shape) (known : List (List ℕ)) (bodies : List TypeTerm) (order : List ℕ) (agrees : Agrees names known bodies) (first : UsesFirst known bodies order)
     (within : (i : ℕ) → i < length order → slice_index_or order i 0 < length bodies) where

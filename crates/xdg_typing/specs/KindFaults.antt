@@ -18,6 +18,7 @@ use Rattle.xdg_types.specs.Meaning.{meaning, domains_meaning, as_domain}
 use Rattle.xdg_types.specs.Names.{fault_at}
 use Rattle.xdg_types.specs.Kinds.{Wanted, anything, a_domain, a_small, a_mapped, an_attribute, the_labels, the_attributes, the_features, Site, sites}
 use Rattle.xdg_types.specs.Kinds.{is_of_kind, is_attribute, has_no_field, reaching, field_count}
+use Rattle.xdg_types.specs.NameFaults.{repeated, with_text}
 
 -- what is wanted
 abbrev pub asked : Asked → Wanted
@@ -128,19 +129,13 @@ wide_faults names at _ = []
 
 -- ---- constants that two fields of a tuple type have
 
-abbrev pub add_text : List (List ℕ) → List ℕ → List (List ℕ)
-add_text seen text = if has_text seen text then seen else seen ++ text ∷ []
-
 abbrev pub add_texts : List (List ℕ) → List (List ℕ) → List (List ℕ)
 add_texts seen [] = seen
-add_texts seen (text ∷ more) = add_texts (add_text seen text) more
+add_texts seen (text ∷ more) = add_texts (with_text seen text) more
 
 abbrev pub has_one : List (List ℕ) → List (List ℕ) → Bool
 has_one seen [] = false
 has_one seen (text ∷ more) = has_text seen text || has_one seen more
-
-abbrev pub twice_faults : List (List ℕ) → Name → List Fault
-twice_faults seen name = if has_text seen name.text then fault_at causes.Twice name.span.start ∷ [] else []
 
 -- a field that is given by name has a constant of an earlier one
 abbrev pub one_fault : ℕ → Bool → List Fault
@@ -148,7 +143,7 @@ one_fault at shared = if shared then fault_at causes.Twice at ∷ [] else []
 
 -- earlier fields have these constants
 abbrev pub field_faults : (List ℕ → Shape) → List (List ℕ) → ℕ → Tree → List Fault
-field_faults names seen at (listed constants) = flat_map (twice_faults seen) constants
+field_faults names seen at (listed constants) = flat_map (repeated seen) constants
 field_faults names seen at (named name) = one_fault at (has_one seen (constants (as_domain (names name.text))))
 field_faults names seen at _ = []
 

@@ -27,9 +27,6 @@ named_by parts = map (λ d. d.name) (definitions_in parts)
 abbrev pub defined_name : StatementKind → List Name
 defined_name kind = map (λ d. d.name) (flat_map (λ dim. definitions_in dim.1) (dimension kind))
 
-abbrev pub keys : List (Pair TypeTerm) → List Name
-keys pairs = map (λ pair. pair.key) pairs
-
 -- ---- types
 
 abbrev pub uses_in : TypeTerm → List Name

@@ -2,11 +2,11 @@
 use Rattle.std.specs.Prelude.{◌≡◌, ℕ, ◌<◌, ◌+◌, ◌-◌, ◌^◌, min, List, [], length, get_or, slice_index_or, Option, None, Some}
 use Rattle.xdg_ast.specs.declared.names.Name.{Name}
 use Rattle.xdg_domain.specs.Shapes.{Shape, domain, tuple, set, iset, valency, mapping, fields, Shapes, no_shape, shape_then, Fields, no_field, field_then}
-use Rattle.xdg_names.specs.First.{In}
 use Rattle.xdg_names.specs.Texts.{place_of}
 use Rattle.xdg_types.specs.Written.{Tree, listed, recorded, tupled, set_of, iset_of, valency_of, map_of, named, Trees, no_tree, tree_then, Members, no_member}
 use Rattle.xdg_types.specs.Written.{member_then, uses, tree}
 use Rattle.xdg_types.specs.Parts.{TypeTerm}
+use Rattle.xdg_facts.specs.Membership.{In}
 
 -- ---- types without names
 

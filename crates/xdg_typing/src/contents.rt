@@ -4,13 +4,12 @@ ghost use Rattle.std.specs.Prelude.{◌≡◌, [], flat_map, IfOk};
 ghost use Rattle.xdg_names.specs.First.{first};
 ghost use Rattle.xdg_types.specs.Written.{tree, lists};
 ghost use Rattle.xdg_types.specs.NameFaults as spec;
-ghost use Rattle.xdg_typing.specs.Listed as listing;
 
-use crate::repeats::repeated;
 use std::alloc::{AllocError, Global};
-use xdg_ast::{Name, Pair, TypeKind, TypeTerm};
+use xdg_ast::{Name, TypeKind, TypeTerm};
 use xdg_base::Fault;
 use xdg_names::{Index, earlier};
+use xdg_types::{keys_again, repeated};
 
 /// The first constant of a domain in a type, or field of a record in it, that stands there before.
 pub(crate) fn lists_again(alloc: Global, ty: &TypeTerm) -> Result<Option<Fault>, AllocError>
@@ -57,18 +56,6 @@ fn constants_again(alloc: Global, names: &[Name]) -> Result<Option<Fault>, Alloc
     let mut found = None;
     for name in names {
         found = earlier(found, repeated(alloc, &mut seen, name)?);
-    }
-    Ok(found)
-}
-
-/// The first of the fields of a record that stands there before.
-fn keys_again(alloc: Global, fields: &[Pair<TypeTerm>]) -> Result<Option<Fault>, AllocError>
-    ensures { IfOk result (λ found. found ≡ first (spec.repeats [] (listing.keys fields.now))) }
-{
-    let mut seen = Index::new(alloc);
-    let mut found = None;
-    for field in fields {
-        found = earlier(found, repeated(alloc, &mut seen, &field.key)?);
     }
     Ok(found)
 }

@@ -2,7 +2,7 @@
 
 ghost use Rattle.std.specs.Prelude.{◌≡◌, ◌↔◌, map, slice_get, IfOk, IsTrue};
 ghost use Rattle.std.specs.Option.{option_copied};
-ghost use Rattle.xdg_domain.specs.Shapes.{constants, Differ};
+ghost use Rattle.xdg_domain.specs.Shapes.{constants};
 ghost use Rattle.xdg_types.specs.Parts as spec;
 ghost use Rattle.xdg_typing.specs.Branches.{Naming};
 ghost use Rattle.xdg_types.specs.Meaning.{as_domain};
@@ -217,18 +217,6 @@ fn entry_type<'a>(parts: &'a [DimPart]) -> Option<&'a TypeTerm>
         }
     }
     None
-}
-
-/// The names of dimensions by number.
-pub(crate) fn names_of(alloc: Global, dims: &[DimType]) -> Result<Index, AllocError>
-    requires { Differ (map (λ dim. dim.name) dims.now) }
-    ensures { IfOk result (λ made. made ≡ map (λ dim. dim.name) dims.now) }
-{
-    let mut all = Index::new(alloc);
-    for dim in dims {
-        all.add(alloc, dim.name.as_str())?;
-    }
-    Ok(all)
 }
 
 /// The places of the dimensions that are used, in the order of their uses.

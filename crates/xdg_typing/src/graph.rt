@@ -24,7 +24,7 @@ fn add_name(known: &Index, name: &Name, made: &mut List<Use>) -> Result<(), Allo
 }
 
 /// Adds the uses in a type, in the order of the text.
-#[tactic(auto, using(crate::proofs::GraphUses::in_set, crate::proofs::GraphUses::in_iset, crate::proofs::GraphUses::in_valency, crate::proofs::GraphUses::in_map, crate::proofs::GraphUses::in_named, crate::proofs::GraphUses::in_tuple, crate::proofs::GraphUses::in_record))]
+#[tactic(auto, using(crate::proofs::GraphUses::use_steps))]
 fn add_uses(known: &Index, ty: &TypeKind, made: &mut List<Use>) -> Result<(), AllocError>
     ensures { IfOk result (λ _. made.new ≡ made.old ++ spec.uses_in known.now (tree ty.now)) }
 {

@@ -9,11 +9,11 @@ ghost use Rattle.xdg_typing.specs.Right.{AreRight};
 ghost use Rattle.xdg_typing.specs.Small.{AreSmall};
 
 use crate::definitions::Definitions;
-use crate::dimensions::{is_small, names_of, resolve_dimensions, used_places};
+use crate::dimensions::{is_small, resolve_dimensions, used_places};
 use std::alloc::Global;
 use xdg_ast::Statement;
 use xdg_base::OutOfMemory;
-use xdg_types::TypeTable;
+use xdg_types::{TypeTable, index_dims};
 
 /// The dimensions of a grammar with their types. Want of memory where the types together have more than
 /// [`MOST_PARTS`](crate::resolving::MOST_PARTS) parts, names followed; then nothing is made.
@@ -26,14 +26,15 @@ pub(crate) fn table<'a>(
         × (Knows names definitions.now.names (map (λ head. head.now) definitions.now.heads.items)
         × (Weighs names definitions.now.names definitions.now.weights.items × AreRight statements.now names)) }
     ensures made { IfOk result
-        (λ made. (names : Naming) → Knows names definitions.now.names (map (λ head. head.now) definitions.now.heads.items) → IsTableOf names statements.now made) }
+        (λ made. (names : Naming) → Knows names definitions.now.names (map (λ head. head.now) definitions.now.heads.items)
+        → IsTableOf names statements.now made) }
     ensures within { IfOk result (λ _. (names : Naming) → Weighs names definitions.now.names definitions.now.weights.items → AreSmall names statements.now) }
 {
     if !is_small(definitions, statements) {
         return Err(OutOfMemory);
     }
     let dims = resolve_dimensions(alloc, definitions, statements)?;
-    let known = names_of(alloc, dims.as_slice())?;
+    let known = index_dims(alloc, dims.as_slice())?;
     let used = used_places(alloc, &known, statements)?;
     Ok(TypeTable::new(dims, used))
 }

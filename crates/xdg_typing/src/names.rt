@@ -1,10 +1,11 @@
 //! The pass over the names of dimensions and types.
 
 ghost use Rattle.std.specs.Prelude.{◌≡◌, ℕ, List, flat_map, IfOk};
-ghost use Rattle.xdg_domain.specs.Shapes.{Differ};
+ghost use Rattle.xdg_facts.specs.Membership.{Differ};
 ghost use Rattle.xdg_names.specs.First.{first, Tells};
 ghost use Rattle.xdg_names.specs.Texts.{has_text};
-ghost use Rattle.xdg_types.specs.Parts.{dimension, dimensions, defined_names, in_parts, type_in, texts};
+ghost use Rattle.xdg_types.specs.Parts.{dimension, dimensions, defined_names, in_parts, type_in};
+ghost use Rattle.xdg_ast.specs.Texts.{texts};
 ghost use Rattle.xdg_types.specs.Names.{NameOffends};
 ghost use Rattle.xdg_typing.specs.Listed as listing;
 

@@ -7,28 +7,10 @@ ghost use Rattle.xdg_types.specs.NameFaults as spec;
 ghost use Rattle.xdg_typing.specs.Listed as listing;
 
 use std::alloc::{AllocError, Global};
-use xdg_ast::{DimPart, DimPartKind, Name, Statement, StatementKind};
-use xdg_base::{Cause, Fault};
+use xdg_ast::{DimPart, DimPartKind, Statement, StatementKind};
+use xdg_base::Fault;
 use xdg_names::{Index, earlier};
-
-/// The fault of a name that was seen before. From then on it is seen.
-pub(crate) fn repeated(
-    alloc: Global,
-    seen: &mut Index,
-    name: &Name,
-) -> Result<Option<Fault>, AllocError>
-    ensures found { IfOk result (λ found. found ≡ first (spec.repeated seen.old name.now)) }
-    ensures seen { IfOk result (λ _. seen.new ≡ spec.with_text seen.old name.now.text) }
-{
-    if seen.add(alloc, name.text.as_str())? {
-        return Ok(None);
-    }
-    Ok(Some(Fault {
-        cause: Cause::Twice,
-        at: name.span.start,
-        reached: 0,
-    }))
-}
+use xdg_types::repeated;
 
 // ---- dimensions
 

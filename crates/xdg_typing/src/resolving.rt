@@ -4,7 +4,7 @@ ghost use Rattle.std.specs.Prelude.{◌≡◌, ◌↔◌, ◌+◌, map, IfOk, Is
 ghost use Rattle.xdg_domain.specs.Shapes.{shape, fields, no_field};
 ghost use Rattle.xdg_typing.specs.Weights.{parts};
 ghost use Rattle.xdg_types.specs.Written.{tree};
-ghost use Rattle.xdg_types.specs.Parts.{texts};
+ghost use Rattle.xdg_ast.specs.Texts.{texts};
 ghost use Rattle.xdg_typing.specs.Branches.{Naming, domain_meaning, field_meaning, attribute_meaning};
 ghost use Rattle.xdg_typing.specs.Room.{HasRoom, field_types};
 ghost use Rattle.xdg_typing.specs.Small.{all_parts};

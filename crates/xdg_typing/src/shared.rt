@@ -4,9 +4,10 @@ ghost use Rattle.std.specs.Prelude.{◌≡◌, ℕ, List, [], map, flat_map, IfO
 ghost use Rattle.xdg_domain.specs.Shapes.{Shape};
 ghost use Rattle.xdg_names.specs.First.{first};
 ghost use Rattle.xdg_types.specs.Written.{tree};
-ghost use Rattle.xdg_types.specs.Parts.{texts};
+ghost use Rattle.xdg_ast.specs.Texts.{texts};
 ghost use Rattle.xdg_typing.specs.Heads.{Knows};
-ghost use Rattle.xdg_typing.specs.KindFaults.{add_texts, has_one, trees_in, twice_faults, field_faults, shared_in, shared_faults, one_fault};
+ghost use Rattle.xdg_typing.specs.KindFaults.{add_texts, has_one, trees_in, field_faults, shared_in, shared_faults, one_fault};
+ghost use Rattle.xdg_types.specs.NameFaults.{repeated};
 
 use crate::definitions::Definitions;
 use crate::sizes::constants_of;
@@ -36,7 +37,7 @@ fn has_one(seen: &Index, constants: &[Name]) -> bool
 }
 
 fn check_constant(seen: &Index, constant: &Name) -> Option<Fault>
-    ensures { result ≡ first (twice_faults seen.now constant.now) }
+    ensures { result ≡ first (repeated seen.now constant.now) }
 {
     if seen.contains(constant.text.as_str()) {
         Some(Fault {
@@ -50,7 +51,7 @@ fn check_constant(seen: &Index, constant: &Name) -> Option<Fault>
 }
 
 fn check_constants(seen: &Index, constants: &[Name]) -> Option<Fault>
-    ensures { result ≡ first (flat_map (twice_faults seen.now) constants.now) }
+    ensures { result ≡ first (flat_map (repeated seen.now) constants.now) }
 {
     let mut found = None;
     for constant in constants {

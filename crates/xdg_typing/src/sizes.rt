@@ -5,7 +5,7 @@ ghost use Rattle.xdg_ast.specs.declared.types.TypeKind.{out-TypeKind};
 ghost use Rattle.xdg_domain.specs.Shapes.{Shape, constants, sizes, product};
 ghost use Rattle.xdg_names.specs.First.{first};
 ghost use Rattle.xdg_types.specs.Written.{tree};
-ghost use Rattle.xdg_types.specs.Parts.{texts};
+ghost use Rattle.xdg_ast.specs.Texts.{texts};
 ghost use Rattle.xdg_types.specs.Meaning.{meaning, domains_meaning, as_domain};
 ghost use Rattle.xdg_typing.specs.Heads.{Knows};
 ghost use Rattle.xdg_typing.specs.KindFaults.{asked, trees_in, form_tree, form_constants, big_faults, label_faults, tuple_faults, wide_faults};

@@ -6,23 +6,10 @@ ghost use Rattle.xdg_types.specs.Written.{tree, uses};
 ghost use Rattle.xdg_types.specs.Parts.{used_name, used_names};
 ghost use Rattle.xdg_types.specs.NameFaults as spec;
 
-use xdg_ast::{Name, Statement, StatementKind, TypeKind, TypeTerm};
-use xdg_base::{Cause, Fault};
+use xdg_ast::{Statement, StatementKind, TypeKind, TypeTerm};
+use xdg_base::Fault;
 use xdg_names::{Index, earlier};
-
-/// The fault of a name that isn't among those that are known.
-fn unknown(known: &Index, name: &Name) -> Option<Fault>
-    ensures { result ≡ first (spec.unknown known.now name.now) }
-{
-    if known.contains(name.text.as_str()) {
-        return None;
-    }
-    Some(Fault {
-        cause: Cause::UnknownName,
-        at: name.span.start,
-        reached: 0,
-    })
-}
+use xdg_types::unknown;
 
 /// The first name in a type that isn't among those that are known.
 pub(crate) fn unknown_in(known: &Index, ty: &TypeTerm) -> Option<Fault>

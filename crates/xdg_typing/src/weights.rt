@@ -31,7 +31,7 @@ fn named_weight(names: &Index, weights: &[u64], name: &Name) -> u64
 
 /// The weight of a type, given those of the definitions. It recurses as deep as the type is written, which is limited by the
 /// brackets that may stand open.
-#[tactic(auto, using(crate::proofs::Weighed::of_set, crate::proofs::Weighed::of_iset, crate::proofs::Weighed::of_valency, crate::proofs::Weighed::of_map, crate::proofs::Weighed::of_named, crate::proofs::Weighed::of_domain))]
+#[tactic(auto, using(crate::proofs::Weighed::weight_steps))]
 pub(crate) fn weigh(names: &Index, weights: &[u64], ty: &TypeKind) -> u64
     ensures { result ≡ spec.weighed (spec.named_weight names.now weights.now) (tree ty.now) }
 {

@@ -1,5 +1,4 @@
 use Rattle.std.proofs.Common.{ap, arith, refl, rules, subst, sym, ◌∙◌}
-use Rattle.xdg_nodeset.specs.Nodes.{has}
 use Rattle.xdg_problem.specs.declared.formula.Formula.TheViews.{the_lemmas}
 use Rattle.xdg_problem.specs.declared.formula.Formula.TheVariants as y
 use Rattle.xdg_problem.specs.Claims.{IsOf, above, claim, joined, valued}
@@ -13,6 +12,7 @@ use Rattle.xdg_formula_value.proofs.Narrowed.{IsSoOver, narrowed_none, narrowed_
 use Rattle.xdg_formula_value.proofs.Rowed.{first_later, gathered_more, gathered_start, head_in, open_first}
 use Rattle.xdg_formula_value.proofs.Stood.{rebound, rebound_agrees}
 use Rattle.xdg_formula_value.proofs.+rows.Goals as goal
+use Rattle.xdg_facts.specs.Rises.{has}
 
 -- quantifiers
 

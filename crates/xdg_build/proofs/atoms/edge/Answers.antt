@@ -1,10 +1,10 @@
 use Rattle.std.proofs.Common.{◌≡◌, ◌≤◌, true, List, ℕ, length, map, sym, subst}
 use Rattle.xdg_formula.specs.Tables.{used_dims}
-use Rattle.xdg_terms.specs.Faults.{has}
 use Rattle.xdg_build.proofs.Atomic.{edge_made, label_known, type_kept}
 use Rattle.xdg_build.proofs.Rightly.{edge_right}
 use Rattle.xdg_build.proofs.Standing.{dim_at, dim_has}
 use Rattle.xdg_build.proofs.atoms.edge.Goals as goal
+use Rattle.xdg_names.specs.Texts.{has_text}
 
 pub dim_number-place-requires : goal.dim_number-place-requires
 dim_number-place-requires c =
@@ -17,7 +17,7 @@ dim_type-requires c = (dim_at c.args.types.now.dims c.args.types.now.used c.args
 pub label_number-requires-clause-known : goal.label_number-requires-clause-known
 label_number-requires-clause-known c =
     let right = edge_right (used_dims c.args.types.now) (map (λ text. text.now) c.args.bound.now) c.args.dim.now c.args.mother.now c.args.label.now c.args.daughter.now c.requires.right in
-    subst (λ (labels : List (List ℕ)). has labels c.args.label.now.text ≡ true) (sym c.as_slice-labels.ensures)
+    subst (λ (labels : List (List ℕ)). has_text labels c.args.label.now.text ≡ true) (sym c.as_slice-labels.ensures)
     (label_known c.args.types.now c.args.packed.now c.dim_number-place.ensures.keeps c.args.dim.now c.dim_number-place.result c.dim_number-place.ensures.at c.dim_type.result.now c.dim_type.ensures (map (λ text. text.now) c.args.bound.now) c.args.mother.now c.args.label.now c.args.daughter.now right)
 
 pub label_number-requires-clause-few : goal.label_number-requires-clause-few

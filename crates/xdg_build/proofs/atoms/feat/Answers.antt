@@ -4,7 +4,6 @@ use Rattle.xdg_domain.specs.Shapes.{shape, IsSmall}
 use Rattle.xdg_domain.specs.declared.types.Ty.{Ty}
 use Rattle.xdg_problem.specs.declared.parts.Parts.{Parts}
 use Rattle.xdg_formula.specs.Formulas.{value_faults}
-use Rattle.xdg_terms.specs.Faults.{has}
 use Rattle.xdg_types.specs.Table.{firsts}
 use Rattle.xdg_formula.specs.Tables.{used_dims}
 use Rattle.xdg_build.specs.Tables.{table_of}
@@ -13,6 +12,7 @@ use Rattle.xdg_build.proofs.Chosen.{feature_here, type_within, members_found, re
 use Rattle.xdg_build.proofs.Rightly.{feat_right}
 use Rattle.xdg_build.proofs.Standing.{dim_at, dim_has, type_has}
 use Rattle.xdg_build.proofs.atoms.feat.Goals as goal
+use Rattle.xdg_names.specs.Texts.{has_text}
 
 pub dim_number-place-requires : goal.dim_number-place-requires
 dim_number-place-requires c = (let right = feat_right (used_dims c.args.types.now) (map (λ text. text.now) c.args.bound.now) c.args.node.now c.args.dim.now c.args.feature.now c.args.value.now c.requires.right in dim_has c.args.types.now.dims c.args.types.now.used c.args.dim.now.text right.found right.there)
@@ -23,7 +23,7 @@ dim_type-requires c = (dim_at c.args.types.now.dims c.args.types.now.used c.args
 pub type_place-own-requires : goal.type_place-own-requires
 type_place-own-requires c =
     let right = feat_right (used_dims c.args.types.now) (map (λ text. text.now) c.args.bound.now) c.args.node.now c.args.dim.now c.args.feature.now c.args.value.now c.requires.right in
-    subst (λ (all : List (List ℕ × Ty)). has (firsts all) c.args.feature.now.text ≡ true) (sym c.as_slice-fields.ensures) (type_has _ c.args.feature.now.text right.type (feature_there c.args.types.now c.args.packed.now c.dim_number-place.ensures.keeps c.args.dim.now c.dim_number-place.result c.dim_number-place.ensures.at c.dim_type.result.now c.dim_type.ensures (map (λ text. text.now) c.args.bound.now) c.args.node.now c.args.feature.now c.args.value.now right))
+    subst (λ (all : List (List ℕ × Ty)). has_text (firsts all) c.args.feature.now.text ≡ true) (sym c.as_slice-fields.ensures) (type_has _ c.args.feature.now.text right.type (feature_there c.args.types.now c.args.packed.now c.dim_number-place.ensures.keeps c.args.dim.now c.dim_number-place.result c.dim_number-place.ensures.at c.dim_type.result.now c.dim_type.ensures (map (λ text. text.now) c.args.bound.now) c.args.node.now c.args.feature.now c.args.value.now right))
 
 pub bounds-fields-own : goal.bounds-fields-own
 bounds-fields-own c = type_within c.as_slice-fields.result.now c.args.feature.now.text c.type_place-own.result c.type_place-own.ensures

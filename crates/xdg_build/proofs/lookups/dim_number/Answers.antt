@@ -1,12 +1,12 @@
 use Rattle.std.proofs.Common.{◌≡◌, ◌<◌, All, List, ℕ, true, ap, ap₂, length, sym, subst, arith}
-use Rattle.xdg_terms.specs.Faults.{has}
 use Rattle.xdg_formula.proofs.Turns.{place_within}
 use Rattle.xdg_build.specs.Places.{IsPlaceOf, names_at}
 use Rattle.xdg_build.proofs.Standing.{dim_below}
 use Rattle.xdg_build.proofs.lookups.dim_number.Goals as goal
+use Rattle.xdg_names.specs.Texts.{has_text}
 
 pub dim_place-requires-clause-known : goal.dim_place-requires-clause-known
-dim_place-requires-clause-known c = subst (λ (names : List (List ℕ)). has names c.args.name.now.text ≡ true) (ap₂ names_at (sym c.dims.ensures.same) (sym c.used.ensures.same)) c.requires
+dim_place-requires-clause-known c = subst (λ (names : List (List ℕ)). has_text names c.args.name.now.text ≡ true) (ap₂ names_at (sym c.dims.ensures.same) (sym c.used.ensures.same)) c.requires
 
 pub dim_place-requires-clause-used : goal.dim_place-requires-clause-used
 dim_place-requires-clause-used c =

@@ -1,7 +1,7 @@
 use Rattle.std.proofs.Common.{◌<◌, All, sym, subst, length}
 use Rattle.xdg_types.specs.Table.{KeepDims}
-use Rattle.xdg_build.proofs.Planned.{place_within}
 use Rattle.xdg_build.proofs.plans.plans.Goals as goal
+use Rattle.xdg_formula.proofs.Turns.{place_within}
 
 pub plans_of-requires-clause-dims : goal.plans_of-requires-clause-dims
 plans_of-requires-clause-dims c = subst KeepDims (sym c.dims.ensures.same) c.dims.ensures.keeps.dims

@@ -1,11 +1,11 @@
 use Rattle.std.proofs.Common.{sym, ◌∙◌, inr, subst}
 use Rattle.xdg_check.specs.Checked.{IsOrder}
 use Rattle.xdg_check.specs.Counts.{class_texts}
-use Rattle.xdg_domain.specs.Shapes.{Differ}
 use Rattle.xdg_check.proofs.Assembled.{classes_are, apart, made_order, is_checked, is_checked_of, names_slice, names_final, written_back}
 use Rattle.xdg_check.proofs.LeftOut.{all_small}
 use Rattle.xdg_check.proofs.Words.{word_lex}
 use Rattle.xdg_check.proofs.passes.assemble.Goals as goal
+use Rattle.xdg_facts.specs.Membership.{Differ}
 
 pub uses-requires-clause-names : goal.uses-requires-clause-names
 uses-requires-clause-names c = λ f h. c.requires.named f (inr h)

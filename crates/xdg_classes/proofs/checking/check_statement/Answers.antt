@@ -1,8 +1,7 @@
 use Rattle.std.proofs.Common.{◌≡◌, ap, ◌∙◌, subst}
 use Rattle.xdg_names.specs.First.{Tells}
 use Rattle.xdg_classes.specs.Bodies.{body}
-use Rattle.xdg_classes.specs.Definitions.{texts, param_names}
-use Rattle.xdg_ast.specs.Grammar.{params_of}
+use Rattle.xdg_classes.specs.Definitions.{param_names}
 use Rattle.xdg_ast.specs.Grammar.{params_of}
 use Rattle.xdg_classes.specs.Given.{told}
 use Rattle.xdg_classes.specs.Collected.{feature_of}
@@ -11,6 +10,7 @@ use Rattle.xdg_classes.proofs.Telling.{if_ok, tells_sum}
 use Rattle.xdg_classes.proofs.Growing.{names_of_params}
 use Rattle.xdg_classes.proofs.ValueLaw.{class_wrong, entry_wrong}
 use Rattle.xdg_classes.proofs.checking.check_statement.Goals as goal
+use Rattle.xdg_ast.specs.Texts.{texts}
 
 pub returns-in-DefClass : goal.returns-in-DefClass
 returns-in-DefClass c =

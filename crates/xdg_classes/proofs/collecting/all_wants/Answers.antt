@@ -6,15 +6,16 @@ use Rattle.xdg_classes.specs.Lent.{class_def}
 use Rattle.std.proofs.lemmas.Option.{slice_get-get_or}
 use Rattle.std.specs.Prelude.{◌↔◌, List}
 use Rattle.xdg_domain.specs.Shapes.{Shape}
-use Rattle.xdg_names.specs.First.{In}
 use Rattle.xdg_classes.specs.Bodies.{body}
-use Rattle.xdg_classes.specs.Definitions.{classes, texts, param_names}
+use Rattle.xdg_classes.specs.Definitions.{classes, param_names}
 use Rattle.xdg_classes.specs.Given.{given, told}
 use Rattle.xdg_classes.specs.Collected.{body_wants, feature_of}
 use Rattle.xdg_names.specs.Leads.{number}
 use Rattle.xdg_classes.specs.KnownWants.{AreRightUpTo}
 use Rattle.xdg_classes.proofs.Settling.{settled_step, all_known}
 use Rattle.xdg_classes.proofs.collecting.all_wants.Goals as goal
+use Rattle.xdg_facts.specs.Membership.{In}
+use Rattle.xdg_ast.specs.Texts.{texts}
 
 pub loop-at-preserved : goal.loop-at-preserved
 loop-at-preserved c statements table fits =

@@ -10,4 +10,4 @@ loop-record-preserved c =
     let u = spec.said_faults c.args.known.now in
     let item = c.record-item.result in
     first_turn (λ xs. flat_map u (map said xs)) (u (said item)) item (λ xs. refl)
-    _ _ _ _ _ _ c.loop-record-test.true c.record-item.is c.unknown_dim.ensures c.earlier-found.ensures c.loop-record.invariant
+    _ _ _ _ _ _ c.loop-record-test.true c.record-item.is c.unknown.ensures c.earlier-found.ensures c.loop-record.invariant

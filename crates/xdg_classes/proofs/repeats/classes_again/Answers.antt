@@ -1,7 +1,7 @@
 use Rattle.std.proofs.Common.{map, refl}
 use Rattle.xdg_classes.specs.Definitions.{class_names}
 use Rattle.xdg_classes.specs.Lent.{class_def}
-use Rattle.xdg_classes.proofs.Turns.{name_turn}
+use Rattle.xdg_types.proofs.NameTurns.{name_turn}
 use Rattle.xdg_classes.proofs.repeats.classes_again.Goals as goal
 
 pub loop-definition-preserved : goal.loop-definition-preserved

@@ -1,6 +1,6 @@
 use Rattle.std.proofs.Common.{refl}
 use Rattle.xdg_classes.specs.Definitions.{param_names}
-use Rattle.xdg_classes.proofs.Turns.{name_turn}
+use Rattle.xdg_types.proofs.NameTurns.{name_turn}
 use Rattle.xdg_classes.proofs.repeats.params_again.Goals as goal
 
 pub loop-param-preserved : goal.loop-param-preserved

@@ -1,7 +1,7 @@
 use Rattle.std.proofs.Common.{refl}
 use Rattle.std.specs.List.{flat_map}
 use Rattle.xdg_names.proofs.First.{first_turn}
-use Rattle.xdg_classes.specs.Definitions.{keys}
+use Rattle.xdg_types.specs.Parts.{keys}
 use Rattle.xdg_classes.specs.NameFaults as spec
 use Rattle.xdg_classes.proofs.uses.unknown_params.Goals as goal
 

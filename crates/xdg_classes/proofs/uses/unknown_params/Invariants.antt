@@ -1,7 +1,7 @@
 use Rattle.std.proofs.Common.{◌≡◌, drop}
 use Rattle.std.specs.List.{flat_map}
 use Rattle.xdg_names.specs.First.{first, earlier}
-use Rattle.xdg_classes.specs.Definitions.{keys}
+use Rattle.xdg_types.specs.Parts.{keys}
 use Rattle.xdg_classes.specs.NameFaults as spec
 use Rattle.xdg_classes.proofs.uses.unknown_params.Given as goal
 

@@ -2,10 +2,10 @@ use Rattle.std.proofs.Common.{◌≡◌, ap, map, refl, subst, ◌∙◌}
 use Rattle.std.specs.List.{flat_map}
 use Rattle.std.specs.Prelude.{IfOk}
 use Rattle.xdg_names.specs.First.{first}
-use Rattle.xdg_names.proofs.First.{first_turn}
+use Rattle.xdg_names.proofs.First.{first_turn, found_all}
 use Rattle.xdg_formula.specs.Formulas.{formula_faults}
 use Rattle.xdg_formula.specs.Tables.{used_dims}
-use Rattle.xdg_formula.proofs.Formed.{found_all, told_or, told_and, faults_not, told_every, told_any, told_edge, told_above, told_left, told_same, told_attr, told_feat}
+use Rattle.xdg_formula.proofs.Formed.{told_or, told_and, faults_not, told_every, told_any, told_edge, told_above, told_left, told_same, told_attr, told_feat}
 use Rattle.xdg_formula.proofs.formula_checking.+check_kind.Goals as goal
 
 pub loop-member-preserved : goal.loop-member-preserved

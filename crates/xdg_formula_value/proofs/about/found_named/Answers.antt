@@ -1,11 +1,11 @@
 use Rattle.std.proofs.Common.{◌≡◌, true}
-use Rattle.xdg_nodeset.specs.Nodes.{has}
 use Rattle.xdg_problem.specs.Claims.{claim}
 use Rattle.xdg_formula_value.specs.Lost.{AgreeBut}
 use Rattle.xdg_formula_value.specs.Rows.{stands}
 use Rattle.xdg_formula_value.proofs.Finding.{agree_rest, finds_weaker}
 use Rattle.xdg_formula_value.proofs.Forms.{nodes_inside}
 use Rattle.xdg_formula_value.proofs.about.found_named.Goals as goal
+use Rattle.xdg_facts.specs.Rises.{has}
 
 pub returns-then-not-is_named : goal.returns-then-not-is_named
 returns-then-not-is_named c = finds_weaker c.args.store.now.parts c.args.store.now.now (claim c.args.formula.now) c.args.truth (λ b. AgreeBut c.args.free (stands c.args.binding.now) b × (has c.args.names c.args.name ≡ true → b c.args.name ≡ c.args.node.0)) (AgreeBut c.args.free (stands c.args.binding.now)) c.found.result

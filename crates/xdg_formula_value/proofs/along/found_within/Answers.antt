@@ -1,6 +1,5 @@
 use Rattle.std.proofs.Common.{◌≡◌, ◌∙◌, subst, sym, true}
 use Rattle.std.proofs.lemmas.Bool.{and_parts}
-use Rattle.xdg_nodeset.specs.Nodes.{has}
 use Rattle.xdg_problem.specs.Claims.{claim}
 use Rattle.xdg_problem.specs.Places.{nodes}
 use Rattle.xdg_formula_value.specs.Rows.{stands}
@@ -10,6 +9,7 @@ use Rattle.xdg_formula_value.proofs.Rowed.{first_later, head_in}
 use Rattle.xdg_formula_value.proofs.Stood.{nodes_unbound}
 use Rattle.xdg_formula_value.proofs.Within.{In, in_any, in_end, in_start, in_turn}
 use Rattle.xdg_formula_value.proofs.along.found_within.Goals as goal
+use Rattle.xdg_facts.specs.Rises.{has}
 
 pub found-requires-clause-nodes : goal.found-requires-clause-nodes
 found-requires-clause-nodes c = nodes_unbound c.args.store.now.parts (stands c.none_bound.result) c.none_bound.ensures c.node_count.ensures.known.problem.some

@@ -1,9 +1,9 @@
 use Rattle.std.proofs.Common.{◌≡◌, ℕ, true}
-use Rattle.xdg_nodeset.specs.Nodes.{has}
 use Rattle.xdg_problem.specs.Paths.{IsDaughterBy}
 use Rattle.xdg_graph.specs.Edges.{edges_of}
 use Rattle.xdg_formula_value.proofs.Keeping.{NoneOfEdge}
 use Rattle.xdg_formula_value.proofs.kept.lasting_by.Given as goal
+use Rattle.xdg_facts.specs.Rises.{has}
 
 abbrev pub invariant-loop-decision : goal.invariant-loop-decision
 invariant-loop-decision l = (x : ℕ) → has l.row x ≡ true

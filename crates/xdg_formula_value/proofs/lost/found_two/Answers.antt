@@ -1,6 +1,5 @@
 use Rattle.std.proofs.Common.{◌≡◌, ◌∙◌, ap, arith, refl, subst, sym, true}
 use Rattle.std.proofs.lemmas.Bool.{and_parts}
-use Rattle.xdg_nodeset.specs.Nodes.{has}
 use Rattle.xdg_problem.specs.Claims.{claim}
 use Rattle.xdg_problem.specs.Places.{nodes}
 use Rattle.xdg_formula_value.specs.Rows.{stands}
@@ -8,6 +7,7 @@ use Rattle.xdg_formula_value.proofs.Finding.{pairs_none, pairs_start, pairs_here
 use Rattle.xdg_formula_value.proofs.Forms.{nodes_inside}
 use Rattle.xdg_formula_value.proofs.Rowed.{first_later, head_in}
 use Rattle.xdg_formula_value.proofs.lost.found_two.Goals as goal
+use Rattle.xdg_facts.specs.Rises.{has}
 
 pub returns-then-len-eq0 : goal.returns-then-len-eq0
 returns-then-len-eq0 c = pairs_none c.args.store.now.parts c.args.store.now.now (claim c.args.formula.now) c.args.truth (stands c.args.binding.now) c.args.name c.args.other c.possible_second-second.result (let count = c.len.ensures.value in let none = c.if-len-eq0.true in omega (arith, count, none)) c.possible_second-second.ensures.bounds

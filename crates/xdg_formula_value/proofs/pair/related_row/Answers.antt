@@ -1,11 +1,11 @@
 use Rattle.std.proofs.Common.{◌≡◌, ◌<◌, arith, sym, subst}
-use Rattle.xdg_nodeset.specs.Nodes.{has}
 use Rattle.xdg_problem.specs.Places.{nodes}
 use Rattle.xdg_formula_value.specs.Pairs.{Along, Relates}
 use Rattle.xdg_formula_value.specs.Rows.{IsRow, stands}
 use Rattle.xdg_formula_value.specs.declared.way.Way.TheVariants as ways
 use Rattle.xdg_formula_value.proofs.Paired.{both_row, first_row, second_row, neither_row}
 use Rattle.xdg_formula_value.proofs.pair.related_row.Goals as goal
+use Rattle.xdg_facts.specs.Rises.{has}
 
 pub returns-then-second-name : goal.returns-then-second-name
 returns-then-second-name c = both_row c.args.pair c.args.which c.args.store.now.parts c.args.store.now.now (nodes c.args.store.now.parts) (stands c.args.binding.now) c.args.name c.args.first c.args.second c.to_itself.result c.if-first-name.true c.if-second-name.true c.to_itself.ensures

@@ -1,10 +1,10 @@
 use Rattle.std.proofs.Common.{ap, arith}
-use Rattle.xdg_nodeset.specs.Nodes.{has}
 use Rattle.xdg_problem.specs.Places.{nodes}
 use Rattle.xdg_formula_value.specs.Pairs.{Relates}
 use Rattle.xdg_formula_value.proofs.Paired.{at_itself}
 use Rattle.xdg_formula_value.proofs.Rowed.{first_more, first_none, first_row}
 use Rattle.xdg_formula_value.proofs.pair.to_itself.Goals as goal
+use Rattle.xdg_facts.specs.Rises.{has}
 
 pub loop-node-init : goal.loop-node-init
 loop-node-init c = first_none (λ v. Relates c.args.pair c.args.which c.args.store.now.parts c.args.store.now.now v v) c.empty-row.result (λ v. ap (λ s. has s v) c.empty-row.ensures.value)

@@ -1,10 +1,10 @@
 use Rattle.std.proofs.Common.{ℕ, ◌↔◌, IsTrue, sym, subst}
-use Rattle.xdg_nodeset.specs.Nodes.{has}
 use Rattle.xdg_problem.specs.Paths.{IsDaughterBy}
 use Rattle.xdg_graph.specs.declared.which.Which.TheVariants as whichs
 use Rattle.xdg_graph.specs.Edges.{edges_of}
 use Rattle.xdg_graph.proofs.Edges.{mothers_exact}
 use Rattle.xdg_graph.proofs.upward.mothers_by.Goals as goal
+use Rattle.xdg_facts.specs.Rises.{has}
 
 pub returns-in-May-clause-exact : goal.returns-in-May-clause-exact
 returns-in-May-clause-exact c = subst (λ w. (x : ℕ) → IsTrue (has c.mothers_may.result x) ↔ IsDaughterBy (edges_of w c.args.store.now.parts c.args.store.now.now c.args.dim.0) x c.args.label.0 c.args.daughter.0) (sym c.in-May.is) (mothers_exact whichs.May c.args.store.now.parts c.args.store.now.now c.args.dim.0 c.args.daughter.0 c.args.label.0 c.mothers_may.result c.mothers_may.ensures.known.is_box c.requires.node c.requires.label c.mothers_may.ensures.exact)

@@ -1,6 +1,6 @@
-use Rattle.xdg_names.proofs.In.{in_at}
 use Rattle.xdg_lexicon.proofs.Dims.{ReadsAt, begun, further, keeps_at, read_here, read_says, read_right}
 use Rattle.xdg_lexicon.proofs.entries.read_partial.Goals as goal
+use Rattle.xdg_facts.proofs.In.{in_at}
 
 pub read_dim-requires-clause-keeps : goal.read_dim-requires-clause-keeps
 read_dim-requires-clause-keeps c = keeps_at c.args.dims.now c.loop-dim.dim-index c.dim-item.result c.loop-dim-test.true c.dim-item.is c.requires.keeps

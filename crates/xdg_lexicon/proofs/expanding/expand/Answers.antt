@@ -1,13 +1,13 @@
 use Rattle.std.proofs.Common.{◌≤◌, length, Err, refl, sym, ap, ◌∙◌, subst, arith}
 use Rattle.std.proofs.lemmas.Result.{err_from_is_err_and}
-use Rattle.xdg_names.specs.First.{In}
 use Rattle.xdg_packed.specs.Entries.{IsWordPlace, AreEntries}
 use Rattle.xdg_lexicon.specs.Answers.{Tells, Gives}
 use Rattle.xdg_lexicon.specs.Expanding.{so_far}
 use Rattle.xdg_lexicon.specs.Sources.{source_of}
-use Rattle.xdg_lexicon.proofs.Adding.{in_at}
 use Rattle.xdg_lexicon.proofs.Stepping.{expanded_none, expanded_more, refused_tells, refused_only, all_expanded, expanded_only}
 use Rattle.xdg_lexicon.proofs.expanding.expand.Goals as goal
+use Rattle.xdg_facts.specs.Membership.{In}
+use Rattle.xdg_facts.proofs.In.{in_at}
 
 pub loop-def-init : goal.loop-def-init
 loop-def-init c =

@@ -4,9 +4,10 @@ use Rattle.xdg_lexicon.specs.Partial.{IsPartial}
 use Rattle.xdg_packed.specs.Entries.{IsEntry}
 use Rattle.xdg_lexicon.specs.Lexicon.{whole}
 use Rattle.xdg_lexicon.specs.Steps.{AddsMembers}
-use Rattle.xdg_lexicon.proofs.Adding.{adds_begun, adds_further, adds_done, in_at}
+use Rattle.xdg_lexicon.proofs.Adding.{adds_begun, adds_further, adds_done}
 use Rattle.xdg_lexicon.proofs.Putting.{puts_right, partial_at}
 use Rattle.xdg_lexicon.proofs.growing.add_members.Goals as goal
+use Rattle.xdg_facts.proofs.In.{in_at}
 
 pub loop-member-init : goal.loop-member-init
 loop-member-init c = record {

@@ -1,13 +1,13 @@
 use Rattle.std.proofs.Common.{◌≡◌, rules, ap, sym, ◌∙◌, subst}
 use Rattle.std.specs.Prelude.{IfSome}
 use Rattle.xdg_domain.specs.Shapes.{shape}
-use Rattle.xdg_names.proofs.In.{in_at}
 use Rattle.xdg_terms.specs.Answers.{IsRight}
 use Rattle.xdg_terms.specs.Means.{written_for}
 use Rattle.xdg_lexicon.specs.Partial.{written}
 use Rattle.xdg_lexicon.proofs.Fields.{Reading, read_one, read_all, type_at}
 use Rattle.xdg_lexicon.proofs.Made.{start, more}
 use Rattle.xdg_lexicon.proofs.records.read_record.Goals as goal
+use Rattle.xdg_facts.proofs.In.{in_at}
 
 pub value_of-requires-clause-typed : goal.value_of-requires-clause-typed
 value_of-requires-clause-typed c = type_at c.args.fields.now c.loop-place.place c.index-fields-place.result c.loop-place-test.true c.index-fields-place.is c.requires.typed

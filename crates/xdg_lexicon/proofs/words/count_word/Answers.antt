@@ -1,18 +1,18 @@
 use Rattle.std.proofs.Common.{◌+◌, length, vec_len, sym, ap, ◌∙◌, slice_set}
 use Rattle.xdg_packed.proofs.Packs.{added_last}
-use Rattle.xdg_packed.proofs.WordLists.{still_as_many}
-use Rattle.xdg_lexicon.proofs.Counting.{inside, as_many, any_number, known_counted, new_counted}
+use Rattle.xdg_packed.proofs.WordLists.{still_as_many, place_inside}
+use Rattle.xdg_lexicon.proofs.Counting.{as_many, any_number, known_counted, new_counted}
 use Rattle.xdg_lexicon.proofs.words.count_word.Goals as goal
 
 pub index-requires : goal.index-requires
-index-requires c = inside c.args.words.now c.args.word.now c.in-Some.place (vec_len c.args.counts.now) (sym c.in-Some.ensures) c.requires
+index-requires c = place_inside c.args.words.now c.args.word.now c.in-Some.place (vec_len c.args.counts.now) (sym c.in-Some.ensures) c.requires
 
 pub index_mut-requires : goal.index_mut-requires
-index_mut-requires c = inside c.args.words.now c.args.word.now c.in-Some.place (vec_len c.args.counts.now) (sym c.in-Some.ensures) c.requires
+index_mut-requires c = place_inside c.args.words.now c.args.word.now c.in-Some.place (vec_len c.args.counts.now) (sym c.in-Some.ensures) c.requires
 
 pub returns-in-Some-checked_add-clause-counted : goal.returns-in-Some-checked_add-clause-counted
 returns-in-Some-checked_add-clause-counted c said count =
-    let within = inside c.args.words.now c.args.word.now c.in-Some.place (length c.args.counts.now.items) (sym c.in-Some.ensures) (as_many said c.args.words.now c.args.counts.now.items count) in
+    let within = place_inside c.args.words.now c.args.word.now c.in-Some.place (length c.args.counts.now.items) (sym c.in-Some.ensures) (as_many said c.args.words.now c.args.counts.now.items count) in
     known_counted said c.args.words.now c.args.counts.now.items c.args.word.now count c.in-Some.place (slice_set c.args.counts.now.items c.in-Some.place c.in-Some-checked_add.count) (sym c.in-Some.ensures)
     (ap (slice_set c.args.counts.now.items c.in-Some.place) (c.in-Some-checked_add.ensures.1 ∙ ap (λ n. n + 1) (c.index.ensures ∙ any_number c.args.counts.now.items c.in-Some.place c.index.result.now 0 within)))
 

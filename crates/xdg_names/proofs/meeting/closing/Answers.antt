@@ -1,10 +1,11 @@
 use Rattle.std.proofs.Common.{◌≡◌, ◌<◌, length, refl, sym, subst, arith}
-use Rattle.xdg_names.specs.First.{In, Tells, Below}
+use Rattle.xdg_names.specs.First.{Tells, Below}
 use Rattle.xdg_names.proofs.First.{tells_next}
 use Rattle.xdg_names.specs.Leads.{uses_of, number}
 use Rattle.xdg_names.specs.Closing.{HasMeeting}
 use Rattle.xdg_names.proofs.Laws.{tells_closing, the_uses}
 use Rattle.xdg_names.proofs.meeting.closing.Goals as goal
+use Rattle.xdg_facts.specs.Membership.{In}
 
 pub meeting_uses-requires : goal.meeting_uses-requires
 meeting_uses-requires c =

@@ -1,9 +1,9 @@
 use Rattle.std.proofs.Common.{◌≡◌, length, subst, arith}
 use Rattle.xdg_names.specs.First.{Tells, Below}
 use Rattle.xdg_names.proofs.First.{tells_next}
-use Rattle.xdg_names.proofs.In.{in_get}
 use Rattle.xdg_names.specs.Closing.{Meets, the_use}
 use Rattle.xdg_names.proofs.meeting.meeting_uses.Goals as goal
+use Rattle.xdg_facts.proofs.In.{in_get}
 
 pub loop-i-preserved : goal.loop-i-preserved
 loop-i-preserved c =

@@ -5,11 +5,12 @@ use Rattle.xdg_domain.specs.declared.types.Ty.TheViews.{the_lemmas}
 use Rattle.xdg_domain.specs.Shapes.{shape, fields, mapping, IsType}
 use Rattle.xdg_domain.specs.Valencies.{said_at, KeysRise}
 use Rattle.xdg_domain.proofs.Made.{seen, one_type}
-use Rattle.xdg_domain.proofs.Shaped.{shape_map, shape_rec}
+use Rattle.xdg_domain.proofs.Shaped.{shape_rec}
 use Rattle.xdg_packed.specs.Filled.{filled, keys_said, fields_said, IsSaid, AreValuesOf}
 use Rattle.xdg_packed.proofs.Laws.{map_said, record_said}
 use Rattle.xdg_packed.proofs.Steps.{SoFar, begun, here_said, one_more, lacking, done, key_more}
 use Rattle.xdg_packed.proofs.filling.+filled.Goals as goal
+use Rattle.xdg_domain.proofs.Opened.{shape_map}
 
 pub filled-filled_map-requires : goal.filled-filled_map-requires
 filled-filled_map-requires t c =

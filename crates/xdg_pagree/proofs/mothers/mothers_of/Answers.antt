@@ -1,11 +1,11 @@
 use Rattle.std.proofs.Common.{◌≡◌, ◌<◌, ◌∙◌, ◌∷◌, ℕ, true, sym, subst}
-use Rattle.xdg_nodeset.specs.Nodes.{has}
 use Rattle.xdg_problem.specs.Places.{nodes}
 use Rattle.xdg_graph.proofs.Labelled.{has_edges}
 use Rattle.xdg_pagree.specs.Untouched.{AreMothersOf}
 use Rattle.xdg_pagree.proofs.Bringing.{brings_end, brings_next, brings_start}
 use Rattle.xdg_pagree.proofs.Looping.{head_in, tail_in}
 use Rattle.xdg_pagree.proofs.mothers.mothers_of.Goals as goal
+use Rattle.xdg_facts.specs.Rises.{has}
 
 pub loop-daughter-init : goal.loop-daughter-init
 loop-daughter-init c = (tt, tt, (λ v h. h), brings_start c.args.store.now.parts c.args.store.now.now c.args.dim.0 c.args.label.0 c.into_iter-daughter-iterator.result c.empty-mothers.result c.empty-mothers.ensures.value)

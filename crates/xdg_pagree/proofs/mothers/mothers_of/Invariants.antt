@@ -1,7 +1,7 @@
 use Rattle.std.proofs.Common.{◌≡◌, ℕ, true}
-use Rattle.xdg_nodeset.specs.Nodes.{has}
 use Rattle.xdg_pagree.proofs.Bringing.{Brings}
 use Rattle.xdg_pagree.proofs.mothers.mothers_of.Given as goal
+use Rattle.xdg_facts.specs.Rises.{has}
 
 abbrev pub invariant-loop-daughter : goal.invariant-loop-daughter
 invariant-loop-daughter l =

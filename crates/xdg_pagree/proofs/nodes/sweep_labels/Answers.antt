@@ -4,7 +4,7 @@ use Rattle.xdg_problem.specs.declared.parts.Parts.{Parts}
 use Rattle.xdg_graph.specs.Edges.{edge_labels}
 use Rattle.xdg_propcore.proofs.Sweeping.{sweeps_next, sweeps_start, sweeps_skip, group_stays}
 use Rattle.xdg_pagree.specs.Places.{AreLabelsDone, AreMothersDone, AreNodesDone}
-use Rattle.xdg_pagree.specs.Untouched.{IsEvery}
+use Rattle.xdg_graph.specs.Every.{IsEvery}
 use Rattle.xdg_pagree.proofs.AtNodes.{labels_first, labels_next, labels_last}
 use Rattle.xdg_pagree.proofs.Others.{others_later}
 use Rattle.xdg_pagree.proofs.nodes.sweep_labels.Goals as goal
@@ -22,7 +22,7 @@ pub sweep_label-requires-clause-principle : goal.sweep_label-requires-clause-pri
 sweep_label-requires-clause-principle c = c.requires.principle
 
 pub sweep_label-requires-clause-sentence : goal.sweep_label-requires-clause-sentence
-sweep_label-requires-clause-sentence c = subst (λ (parts : Parts). IsEvery (nodes parts) c.sentence_nodes-sentence.result) (sym c.loop-number.invariant.goes.extends.same) c.sentence_nodes-sentence.ensures
+sweep_label-requires-clause-sentence c = subst (λ (parts : Parts). IsEvery (nodes parts) c.every_node-sentence.result) (sym c.loop-number.invariant.goes.extends.same) c.every_node-sentence.ensures.all
 
 pub sweep_label-requires-clause-dim : goal.sweep_label-requires-clause-dim
 sweep_label-requires-clause-dim c = c.dim_of-dim.ensures

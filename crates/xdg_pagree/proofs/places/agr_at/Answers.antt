@@ -1,10 +1,10 @@
 use Rattle.std.proofs.Common.{◌<◌, sym, subst, arith}
-use Rattle.xdg_problem.specs.Problems.{attr_arguments, dim_arguments}
 use Rattle.xdg_pagree.proofs.AtPlaces.{value_takes, entry_later, agr_done}
 use Rattle.xdg_graph.proofs.SlotValues.{slot_stays}
 use Rattle.xdg_problem.specs.Places.{nodes}
 use Rattle.xdg_propcore.proofs.Sweeping.{group_stays}
 use Rattle.xdg_pagree.proofs.places.agr_at.Goals as goal
+use Rattle.xdg_problem.specs.Principles.{dim_arguments, attr_arguments}
 
 pub slot_of-slot-requires-clause-group : goal.slot_of-slot-requires-clause-group
 slot_of-slot-requires-clause-group c = c.requires.group

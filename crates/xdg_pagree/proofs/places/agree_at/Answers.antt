@@ -1,9 +1,9 @@
 use Rattle.std.proofs.Common.{◌≡◌, ◌<◌, false, true, refl, sym, subst, arith}
-use Rattle.xdg_problem.specs.Problems.{attr_arguments, dim_arguments}
 use Rattle.xdg_pagree.proofs.AtPlaces.{agreement_apart, agreement_free, agreement_must, mother_takes, daughter_later}
 use Rattle.xdg_graph.proofs.SlotValues.{slot_stays}
 use Rattle.xdg_propcore.proofs.Sweeping.{group_stays}
 use Rattle.xdg_pagree.proofs.places.agree_at.Goals as goal
+use Rattle.xdg_problem.specs.Principles.{dim_arguments, attr_arguments}
 
 pub slot_of-mother-requires-clause-group : goal.slot_of-mother-requires-clause-group
 slot_of-mother-requires-clause-group c = c.requires.group

@@ -1,7 +1,7 @@
 use Rattle.std.proofs.Common.{◌≡◌, ◌<◌, false, true, refl, sym, subst, arith}
-use Rattle.xdg_problem.specs.Problems.{attr_arguments, dim_arguments}
 use Rattle.xdg_pagree.proofs.AtPlaces.{government_apart, government_free, government_must, daughter_governed}
 use Rattle.xdg_pagree.proofs.places.govern_at.Goals as goal
+use Rattle.xdg_problem.specs.Principles.{dim_arguments, attr_arguments}
 
 pub slot_of-slot-requires-clause-group : goal.slot_of-slot-requires-clause-group
 slot_of-slot-requires-clause-group c = c.requires.group

@@ -1,8 +1,8 @@
 use Rattle.std.proofs.Common.{◌≡◌, ◌||◌, ◌∙◌, false, inl, inr, sym}
 use Rattle.std.proofs.lemmas.Bool.{false≢true}
 use Rattle.xdg_nodeset.proofs.TableSets.{either}
-use Rattle.xdg_nodeset.specs.Nodes.{has}
 use Rattle.xdg_pagree.proofs.touched.is_node_touched.Goals as goal
+use Rattle.xdg_facts.specs.Rises.{has}
 
 pub returns : goal.returns
 returns c free =

@@ -1,7 +1,7 @@
 use Rattle.std.proofs.Common.{◌≡◌, ◌∙◌, subst, sym, true}
 use Rattle.std.proofs.lemmas.Bool.{false≢true}
-use Rattle.xdg_nodeset.specs.Nodes.{has}
 use Rattle.xdg_pagree.proofs.touched.is_row_touched.Goals as goal
+use Rattle.xdg_facts.specs.Rises.{has}
 
 pub returns : goal.returns
 returns c free = (

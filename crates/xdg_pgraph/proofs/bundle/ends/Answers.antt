@@ -1,8 +1,8 @@
 use Rattle.std.proofs.Common.{◌≡◌, true, subst, arith}
 use Rattle.std.proofs.lemmas.Bool.{false≢true}
-use Rattle.xdg_nodeset.specs.Nodes.{has}
 use Rattle.xdg_pgraph.proofs.Ends.{none_behind}
 use Rattle.xdg_pgraph.proofs.bundle.ends.Goals as goal
+use Rattle.xdg_facts.specs.Rises.{has}
 
 pub returns-then-bundle-plane : goal.returns-then-bundle-plane
 returns-then-bundle-plane c other = (

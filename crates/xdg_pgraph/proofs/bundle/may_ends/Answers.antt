@@ -1,8 +1,8 @@
 use Rattle.std.proofs.Common.{sym, subst}
-use Rattle.xdg_nodeset.specs.Nodes.{has}
 use Rattle.xdg_pgraph.specs.declared.found.Which.TheVariants as whichs
 use Rattle.xdg_pgraph.proofs.Ends.{TellsEnds, out_told, in_told}
 use Rattle.xdg_pgraph.proofs.bundle.may_ends.Goals as goal
+use Rattle.xdg_facts.specs.Rises.{has}
 
 pub returns-in-Out : goal.returns-in-Out
 returns-in-Out c = subst (TellsEnds whichs.May c.args.store.now c.args.plane.now.dim.0 c.args.bundle.node c.args.bundle.label c.daughters_may.result) (sym c.in-Out.is)

@@ -1,6 +1,5 @@
 use Rattle.std.proofs.Common.{◌≡◌, ◌+◌, ◌∙◌, refl, sym, subst, arith}
 use Rattle.std.proofs.lemmas.Bool.{and_parts}
-use Rattle.xdg_nodeset.specs.Nodes.{has}
 use Rattle.xdg_rules.specs.Rules.{must_edges}
 use Rattle.xdg_store.specs.States.{Known}
 use Rattle.xdg_propcore.specs.Passes.{Clears}
@@ -13,6 +12,7 @@ use Rattle.xdg_pgraph.proofs.Skipped.{label_skip}
 use Rattle.xdg_pgraph.proofs.Told.{leaves_other}
 use Rattle.xdg_pgraph.proofs.label.one_label_from.Goals as goal
 use Rattle.xdg_pgraph.proofs.label.one_label_from.Goals.{then-contains, else-contains}
+use Rattle.xdg_facts.specs.Rises.{has}
 
 pub loop-daughter-init : goal.loop-daughter-init
 loop-daughter-init c = (label_start c.args.plane.now c.args.pass.now c.args.pass.now c.args.pass.now c.args.store.now c.args.store.now c.args.store.now (LabelInto c.args.mother 0) (λ e x. (let l = x.1 in omega (arith, l))), refl, c.requires.known)

@@ -1,7 +1,7 @@
 use Rattle.std.proofs.Common.{◌∙◌, ◌==◌, ◌||◌, ap}
-use Rattle.xdg_nodeset.specs.Nodes.{has}
 use Rattle.xdg_pgraph.proofs.Opened.{not_wanted, with_wanted}
 use Rattle.xdg_pgraph.proofs.opening.with_if.Goals as goal
+use Rattle.xdg_facts.specs.Rises.{has}
 
 pub returns-then-not-wanted : goal.returns-then-not-wanted
 returns-then-not-wanted c n = not_wanted (has c.args.nodes n) (n == c.args.node) c.args.wanted c.if-not-wanted.true

@@ -1,8 +1,8 @@
 use Rattle.std.proofs.Common.{◌≡◌, ◌∙◌, [], ap, get_or, inl, inr, subst, sym, true}
 use Rattle.xdg_nodeset.proofs.TableSets.{both, either}
-use Rattle.xdg_nodeset.specs.Nodes.{has}
 use Rattle.xdg_pgraph.specs.Untouched.{side}
 use Rattle.xdg_pgraph.proofs.valency.is_touched.Goals as goal
+use Rattle.xdg_facts.specs.Rises.{has}
 
 pub returns : goal.returns
 returns c =

@@ -1,8 +1,9 @@
 use Rattle.std.proofs.Common.{◌≡◌, ◌∙◌, ◌↔◌, ℕ, true, sym, subst}
-use Rattle.xdg_nodeset.specs.Nodes.{has, IsNodes}
+use Rattle.xdg_nodeset.specs.Nodes.{IsNodes}
 use Rattle.xdg_porder.specs.Across.{Crosses}
 use Rattle.xdg_porder.proofs.Gathering.{gathers_start, gathers_next, gathers_end, head_in, kept_end, nodes_small, small_later}
 use Rattle.xdg_porder.proofs.sets.across.Goals as goal
+use Rattle.xdg_facts.specs.Rises.{has}
 
 pub loop-node-init : goal.loop-node-init
 loop-node-init c = (tt, tt, nodes_small c.into_iter-node-iterator.result (subst IsNodes (sym (c.into_iter-node-iterator.ensures.into_iter_gives ∙ c.iter-node-items.ensures.value)) c.iter-node-items.ensures.nodes), gathers_start (λ v x. (x ≡ v) × Crosses c.args.u.0 c.args.reached v) c.into_iter-node-iterator.result c.empty-found.result c.empty-found.ensures.value)

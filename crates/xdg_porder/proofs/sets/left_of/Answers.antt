@@ -1,7 +1,8 @@
 use Rattle.std.proofs.Common.{◌≡◌, ◌≤◌, ◌∙◌, ◌↔◌, ℕ, true, sym, subst}
-use Rattle.xdg_nodeset.specs.Nodes.{has, IsNodes}
+use Rattle.xdg_nodeset.specs.Nodes.{IsNodes}
 use Rattle.xdg_porder.proofs.Gathering.{gathers_start, gathers_next, gathers_end, head_in, nodes_small, small_later, unions}
 use Rattle.xdg_porder.proofs.sets.left_of.Goals as goal
+use Rattle.xdg_facts.specs.Rises.{has}
 
 pub loop-end-init : goal.loop-end-init
 loop-end-init c = (tt, tt, nodes_small c.into_iter-end-iterator.result (subst IsNodes (sym (c.into_iter-end-iterator.ensures.into_iter_gives ∙ c.iter-end-items.ensures.value)) c.iter-end-items.ensures.nodes), gathers_start (λ v x. x ≤ v) c.into_iter-end-iterator.result c.empty-reached.result c.empty-reached.ensures.value)

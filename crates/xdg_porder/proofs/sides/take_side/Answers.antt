@@ -1,9 +1,9 @@
 use Rattle.std.proofs.Common.{◌≡◌, true, arith, length, subst}
 use Rattle.std.proofs.lemmas.Bool.{false≢true}
-use Rattle.xdg_nodeset.specs.Nodes.{has}
 use Rattle.xdg_porder.proofs.Removing.{node_later}
 use Rattle.xdg_porder.proofs.Siding.{none_yet, reached_wrong, reaches_next, side_end, side_first, side_next}
 use Rattle.xdg_porder.proofs.sides.take_side.Goals as goal
+use Rattle.xdg_facts.specs.Rises.{has}
 
 pub loop-place-init : goal.loop-place-init
 loop-place-init c = (

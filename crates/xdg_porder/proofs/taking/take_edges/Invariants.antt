@@ -1,8 +1,8 @@
 use Rattle.std.proofs.Common.{◌≡◌, ℕ, true}
-use Rattle.xdg_nodeset.specs.Nodes.{has}
 use Rattle.xdg_propcore.specs.Sweeps.{Sweeps}
 use Rattle.xdg_porder.proofs.Removing.{EdgesGone}
 use Rattle.xdg_porder.proofs.taking.take_edges.Given as goal
+use Rattle.xdg_facts.specs.Rises.{has}
 
 abbrev pub invariant-loop-daughter : goal.invariant-loop-daughter
 invariant-loop-daughter l =

@@ -1,8 +1,8 @@
 use Rattle.std.proofs.Common.{sym, subst}
-use Rattle.xdg_domain.specs.Shapes.{Differ}
 use Rattle.xdg_types.specs.Table.{firsts}
 use Rattle.xdg_principles.proofs.Lookups.{differ_at}
 use Rattle.xdg_principles.proofs.lookup.all_names.Goals as goal
+use Rattle.xdg_facts.specs.Membership.{Differ}
 
 pub names_of-requires : goal.names_of-requires
 names_of-requires c =

@@ -1,6 +1,6 @@
 use Rattle.std.proofs.Common.{ℕ, List}
 use Rattle.xdg_domain.specs.declared.types.Ty.{Ty}
-use Rattle.xdg_principles.proofs.Lookups.{name_added}
+use Rattle.xdg_types.proofs.Made.{name_added}
 use Rattle.xdg_principles.proofs.lookup.names_of.Goals as goal
 
 pub loop-member-preserved : goal.loop-member-preserved

@@ -8,7 +8,7 @@ use Rattle.xdg_names.specs.Texts.{has_text}
 use Rattle.xdg_types.specs.Names.{fault_at}
 use Rattle.xdg_principles.specs.Names.{dim_keys}
 use Rattle.xdg_principles.specs.NameFaults as spec
-use Rattle.xdg_principles.specs.Uses.{keys}
+use Rattle.xdg_types.specs.Parts.{keys}
 use Rattle.xdg_principles.proofs.names.foreign_dims.Goals as goal
 
 pub loop-pair-preserved : goal.loop-pair-preserved

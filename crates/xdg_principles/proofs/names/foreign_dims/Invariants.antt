@@ -3,7 +3,7 @@ use Rattle.std.specs.List.{flat_map}
 use Rattle.xdg_names.specs.First.{first, earlier}
 use Rattle.xdg_principles.specs.Names.{dim_keys}
 use Rattle.xdg_principles.specs.NameFaults as spec
-use Rattle.xdg_principles.specs.Uses.{keys}
+use Rattle.xdg_types.specs.Parts.{keys}
 use Rattle.xdg_principles.proofs.names.foreign_dims.Given as goal
 
 abbrev pub invariant-loop-pair : goal.invariant-loop-pair

@@ -1,9 +1,9 @@
 use Rattle.std.proofs.Common.{◌^◌, ◌∙◌, ap}
 use Rattle.xdg_problem.specs.Arguments.{first_dim, second_dim}
 use Rattle.xdg_propcore.specs.Kinds.{entry_kind, attr_kind, edge_kind}
-use Rattle.xdg_propcore.specs.UseKinds.{looks_at_attrs, looks_at_entries, looks_at_first, looks_at_second}
 use Rattle.xdg_propcore.proofs.Kinding.{few, has_kinds, with_it}
 use Rattle.xdg_propcore.proofs.kinds.kinds_of.Goals as goal
+use Rattle.xdg_problem.specs.Principles.{looks_at_entries, looks_at_attrs, looks_at_first, looks_at_second}
 
 pub edges-requires : goal.edges-requires
 edges-requires c = few c.dim_at-two.result.0 (second_dim c.args.group.now) c.dim_at-two.ensures c.requires.1

@@ -2,9 +2,10 @@ use Rattle.std.proofs.Common.{◌∙◌, Bool, [], ◌++◌, cond, sym, subst}
 use Rattle.std.specs.Prelude.{OnErr}
 use Rattle.std.proofs.lemmas.Result.{on_err_weaker}
 use Rattle.xdg_io.specs.Held.{AppendsFront}
-use Rattle.xdg_text.proofs.Pieces.{front_of_first, front_of_second, at_exit}
+use Rattle.xdg_text.proofs.Pieces.{at_exit}
 use Rattle.xdg_reports.specs.VerdictsText.{behind, condition_word, items_text}
 use Rattle.xdg_reports.proofs.conditions.write_condition.Goals as goal
+use Rattle.xdg_io.proofs.Written.{front_of_second, front_of_first}
 
 pub returns-in_err-write_word-clause-front : goal.returns-in_err-write_word-clause-front
 returns-in_err-write_word-clause-front g c =

@@ -1,10 +1,11 @@
 use Rattle.std.proofs.Common.{◌≤◌, ap, length, sym, subst, ◌∙◌}
 use Rattle.std.proofs.lemmas.Result.{on_err_weaker, on_ok_weaker}
-use Rattle.xdg_text.proofs.Pieces.{appends_both, at_exit, front_of_first, front_of_second}
+use Rattle.xdg_text.proofs.Pieces.{at_exit}
 use Rattle.xdg_judge.specs.Verdicts.{IsVerdict}
 use Rattle.xdg_problem.specs.declared.parts.Parts.{Parts}
 use Rattle.xdg_reports.proofs.verdicts.write_all_verdicts.Goals as goal
 use Rattle.xdg_facts.proofs.Lists.{zip_length}
+use Rattle.xdg_io.proofs.Written.{appends_both, front_of_second, front_of_first}
 
 pub write_verdict_lines-requires : goal.write_verdict_lines-requires
 write_verdict_lines-requires g c =

@@ -1,8 +1,9 @@
 use Rattle.std.proofs.lemmas.Result.{on_err_weaker, on_ok_weaker}
-use Rattle.xdg_text.proofs.Pieces.{front_of_first, front_of_second, at_exit}
+use Rattle.xdg_text.proofs.Pieces.{at_exit}
 use Rattle.xdg_reports.specs.VerdictsText.{verdict_line}
 use Rattle.xdg_reports.proofs.Verdicted.{line_all, line_front}
 use Rattle.xdg_reports.proofs.verdicts.write_verdict.Goals as goal
+use Rattle.xdg_io.proofs.Written.{front_of_second, front_of_first}
 
 pub returns-in_err-write_first-clause-front : goal.returns-in_err-write_first-clause-front
 unfolding verdict_line

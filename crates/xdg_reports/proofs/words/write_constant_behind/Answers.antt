@@ -1,6 +1,7 @@
 use Rattle.std.proofs.lemmas.Result.{on_err_weaker}
-use Rattle.xdg_text.proofs.Pieces.{front_of_first, front_of_second, at_exit}
+use Rattle.xdg_text.proofs.Pieces.{at_exit}
 use Rattle.xdg_reports.proofs.words.write_constant_behind.Goals as goal
+use Rattle.xdg_io.proofs.Written.{front_of_second, front_of_first}
 
 pub returns-in_err-write_all-clause-front : goal.returns-in_err-write_all-clause-front
 returns-in_err-write_all-clause-front g c = at_exit _ (front_of_first _ c.in_err-write_all.ensures.front)

@@ -1,12 +1,12 @@
 use Rattle.std.proofs.Common.{map, sym, ap, ◌∙◌}
 use Rattle.xdg_domain.specs.Shapes as shapes
 use Rattle.xdg_domain.specs.Shapes.{shape, shapes_of}
-use Rattle.xdg_terms.specs.Faults as spec
+use Rattle.xdg_names.specs.Texts.{has_text}
 use Rattle.xdg_terms.proofs.Loops.{found_here, passed_here, row_texts}
 use Rattle.xdg_terms.proofs.sets.is_in_a_row.Goals as goal
 
 pub returns-then-has : goal.returns-then-has
-returns-then-has c = found_here (λ ty. shapes.constants (shape ty)) (λ tys. shapes.in_a_row (shapes.constants_of (shapes_of (map shape tys)))) row_texts c.args.types.now c.loop-ty.ty-index c.ty-item.result c.args.text.now _ c.loop-ty-test.true c.ty-item.is (ap (λ ts. spec.has ts c.args.text.now) (sym c.constants.ensures) ∙ sym c.has.ensures ∙ c.if-has.true) c.loop-ty.invariant
+returns-then-has c = found_here (λ ty. shapes.constants (shape ty)) (λ tys. shapes.in_a_row (shapes.constants_of (shapes_of (map shape tys)))) row_texts c.args.types.now c.loop-ty.ty-index c.ty-item.result c.args.text.now _ c.loop-ty-test.true c.ty-item.is (ap (λ ts. has_text ts c.args.text.now) (sym c.constants.ensures) ∙ sym c.has.ensures ∙ c.if-has.true) c.loop-ty.invariant
 
 pub loop-ty-preserved : goal.loop-ty-preserved
-loop-ty-preserved c = passed_here (λ ty. shapes.constants (shape ty)) (λ tys. shapes.in_a_row (shapes.constants_of (shapes_of (map shape tys)))) row_texts c.args.types.now c.loop-ty.ty-index c.ty-item.result c.args.text.now _ c.loop-ty-test.true c.ty-item.is (ap (λ ts. spec.has ts c.args.text.now) (sym c.constants.ensures) ∙ sym c.has.ensures ∙ c.if-has.false) c.loop-ty.invariant
+loop-ty-preserved c = passed_here (λ ty. shapes.constants (shape ty)) (λ tys. shapes.in_a_row (shapes.constants_of (shapes_of (map shape tys)))) row_texts c.args.types.now c.loop-ty.ty-index c.ty-item.result c.args.text.now _ c.loop-ty-test.true c.ty-item.is (ap (λ ts. has_text ts c.args.text.now) (sym c.constants.ensures) ∙ sym c.has.ensures ∙ c.if-has.false) c.loop-ty.invariant

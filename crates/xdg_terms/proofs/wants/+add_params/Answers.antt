@@ -4,14 +4,15 @@ use Rattle.xdg_domain.specs.declared.types.Ty.TheVariants as y
 use Rattle.xdg_domain.specs.Shapes.{shape, mapping}
 use Rattle.xdg_terms.specs.Faults.{fields_in}
 use Rattle.xdg_terms.specs.Wanted as spec
-use Rattle.xdg_terms.proofs.Sizes.{record_shape, map_shape}
+use Rattle.xdg_terms.proofs.Sizes.{record_shape}
 use Rattle.xdg_terms.proofs.Wanting.{inside_map, inside_record, under_here}
 use Rattle.xdg_terms.proofs.wants.+add_params.Goals as goal
+use Rattle.xdg_domain.proofs.Opened.{shape_map}
 
 pub add_inside-returns-in-Map : goal.add_inside-returns-in-Map
 add_inside-returns-in-Map t c =
     subst (λ us. IfOk c.add_values.result (λ _. spec.wants_of c.add_values.new.found.items ≡ spec.wants_of c.args.found.now.items ++ us))
-    (inside_map c.args.params.now (shape c.args.ty.now) (shape c.in-Map.field-0) (shape c.get.result.now) c.args.term.now c.keyed.result.now (ap shape c.in-Map.is ∙ map_shape c.in-Map.field-0 c.in-Map.value ∙ ap (λ z. mapping (shape c.in-Map.field-0) (shape z)) (sym c.get.ensures)) c.keyed.ensures)
+    (inside_map c.args.params.now (shape c.args.ty.now) (shape c.in-Map.field-0) (shape c.get.result.now) c.args.term.now c.keyed.result.now (ap shape c.in-Map.is ∙ shape_map c.in-Map.field-0 c.in-Map.value ∙ ap (λ z. mapping (shape c.in-Map.field-0) (shape z)) (sym c.get.ensures)) c.keyed.ensures)
     c.add_values.ensures
 
 pub add_inside-returns-in-Rec : goal.add_inside-returns-in-Rec

@@ -1,8 +1,8 @@
 use Rattle.std.proofs.Common.{subst}
 use Rattle.std.proofs.lemmas.Result.{on_err_weaker, on_ok_weaker}
-use Rattle.xdg_io.proofs.Written.{front_in_first, front_in_second}
+use Rattle.xdg_io.proofs.Written.{front_in_first, front_in_second, appends_both}
 use Rattle.xdg_io.specs.Held.{Appends}
-use Rattle.xdg_text.proofs.Pieces.{appends_both, at_exit, line_parts}
+use Rattle.xdg_text.proofs.Pieces.{at_exit, line_parts}
 use Rattle.xdg_text.proofs.lines.write_line.Goals as goal
 
 pub returns-in_err-write_words-clause-front : goal.returns-in_err-write_words-clause-front

@@ -1,8 +1,8 @@
 use Rattle.std.proofs.Common.{◌<◌, inl, inr, get_or, subst}
 use Rattle.std.proofs.lemmas.List.{get_or_default}
-use Rattle.xdg_names.proofs.In.{in_drop}
 use Rattle.xdg_names.specs.declared.graph.Use.{Use}
 use Rattle.xdg_trials.proofs.circles.lead_below.Goals as goal
+use Rattle.xdg_facts.proofs.In.{in_drop}
 
 pub loop-next-preserved : goal.loop-next-preserved
 loop-next-preserved c = λ u h.

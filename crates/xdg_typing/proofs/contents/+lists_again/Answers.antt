@@ -1,10 +1,10 @@
 use Rattle.std.proofs.Common.{[], refl}
 use Rattle.std.specs.List.{flat_map}
 use Rattle.std.proofs.lemmas.Grind.{flat_map-append}
-use Rattle.xdg_names.proofs.First.{first_turn}
+use Rattle.xdg_names.proofs.First.{first_turn, found_all}
 use Rattle.xdg_types.specs.NameFaults as spec
 use Rattle.xdg_typing.specs.Listed as listing
-use Rattle.xdg_typing.proofs.Inside.{lists_rec_first, lists_tuple_first, lists_map_first, found_all}
+use Rattle.xdg_typing.proofs.Inside.{lists_rec_first, lists_tuple_first, lists_map_first}
 use Rattle.xdg_typing.proofs.contents.+lists_again.Goals as goal
 
 pub loop-field-preserved : goal.loop-field-preserved

@@ -1,8 +1,8 @@
 use Rattle.xdg_types.specs.Parts.{dim_names}
 use Rattle.xdg_types.specs.NameFaults.{dim_name}
 use Rattle.xdg_types.proofs.Again.{again_turn}
-use Rattle.xdg_typing.proofs.Each.{each_dim}
 use Rattle.xdg_typing.proofs.repeats.dims_again.Goals as goal
+use Rattle.xdg_types.proofs.NameTurns.{each_dim}
 
 pub loop-statement-preserved : goal.loop-statement-preserved
 loop-statement-preserved c =

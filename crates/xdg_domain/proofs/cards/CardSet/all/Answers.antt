@@ -1,7 +1,7 @@
 use Rattle.xdg_domain.proofs.Masks.{members_are_cards, all_bits, all_has}
 use Rattle.std.proofs.Common.{◌-◌, ◌^◌, ap, ◌∙◌, arith}
-use Rattle.xdg_domain.specs.Cards.{has}
 use Rattle.xdg_domain.proofs.cards.CardSet.all.Goals as goal
+use Rattle.xdg_facts.specs.Rises.{has}
 
 pub returns-clause-value : goal.returns-clause-value
 returns-clause-value c = all_bits

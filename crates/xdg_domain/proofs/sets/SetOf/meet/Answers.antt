@@ -1,10 +1,10 @@
 use Rattle.std.proofs.Common.{◌≡◌, ◌⊎◌, arith, ap₂, sym, ◌∙◌, ◌+◌, [], drop, subst, inl, inr}
 use Rattle.std.specs.Prelude.{◌&&◌}
 use Rattle.std.specs.List.Sorted.{IsStrictlyIncreasing}
-use Rattle.xdg_domain.specs.Cards.{has}
 use Rattle.xdg_domain.proofs.Merging.{Meeting, meeting_start, meet_less, meet_more, meet_same, met_has, met_rises, nothing_left}
 use Rattle.xdg_domain.proofs.sets.SetOf.meet.Goals.{then-loop-i-test+else-j-theirs, else-loop-i-test}
 use Rattle.xdg_domain.proofs.sets.SetOf.meet.Goals as goal
+use Rattle.xdg_facts.specs.Rises.{has}
 
 pub loop-i-init : goal.loop-i-init
 loop-i-init c =

@@ -3,9 +3,9 @@ use Rattle.std.specs.Prelude.{eqb}
 use Rattle.std.specs.List.Sorted.{IsStrictlyIncreasing}
 use Rattle.std.proofs.lemmas.List.Filters.{dedup_is}
 use Rattle.std.proofs.lemmas.Map.Keys.{IsStrictlyIncreasing-dedup}
-use Rattle.xdg_domain.specs.Cards.{has}
 use Rattle.xdg_domain.proofs.Sorting.{dedup_has, permuted_has}
 use Rattle.xdg_domain.proofs.sets.SetOf.of.Goals as goal
+use Rattle.xdg_facts.specs.Rises.{has}
 
 pub invariant_of-result : goal.invariant_of-result
 invariant_of-result c =

@@ -1,9 +1,9 @@
 use Rattle.std.proofs.Common.{◌≡◌, ◌⊎◌, arith, ap, ap₂, sym, ◌∙◌, ◌+◌, ◌++◌, [], drop, ◌||◌, subst, inl, inr}
 use Rattle.std.specs.List.Sorted.{IsStrictlyIncreasing}
-use Rattle.xdg_domain.specs.Cards.{has}
 use Rattle.xdg_domain.proofs.Merging.{Joining, joining_start, join_less, join_more, join_same, joined_has, joined_rises, nothing_left}
 use Rattle.xdg_domain.proofs.sets.SetOf.union.Goals.{then-loop-i-test+else-j-theirs, else-loop-i-test}
 use Rattle.xdg_domain.proofs.sets.SetOf.union.Goals as goal
+use Rattle.xdg_facts.specs.Rises.{has}
 
 pub loop-i-init : goal.loop-i-init
 loop-i-init c =

@@ -1,7 +1,6 @@
 use Rattle.std.proofs.Common.{◌≡◌, ◌<◌, ◌+◌, ◌-◌, ◌∙◌, ◌∷◌, length, get_or, reverse, arith, ap, sym, subst, refl}
 use Rattle.std.proofs.lemmas.List.{get_or_default}
 use Rattle.xdg_classes.specs.Bodies.{Expr, body}
-use Rattle.xdg_names.specs.First.{In}
 use Rattle.xdg_lexicon.specs.declared.frames.Scope.{Scope}
 use Rattle.xdg_lexicon.specs.declared.frames.Frame.TheVariants as frame
 use Rattle.xdg_lexicon.specs.Denotes.{IsRanked}
@@ -14,6 +13,7 @@ use Rattle.xdg_lexicon.proofs.Framed.{is_none, is_some, pushed, part_stands, or_
 use Rattle.xdg_lexicon.proofs.Settled.{record_right}
 use Rattle.xdg_lexicon.proofs.Weighed.{IsLighter, weighs_some, or_lighter, and_lighter, use_lighter}
 use Rattle.xdg_lexicon.proofs.frames.Walk.enter.Goals as goal
+use Rattle.xdg_facts.specs.Membership.{In}
 
 pub down-init : goal.down-init
 down-init c = record { enters = c.requires.enters; same = refl; lighter = omega arith }

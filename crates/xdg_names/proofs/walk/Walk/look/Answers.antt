@@ -1,13 +1,13 @@
 use Rattle.std.proofs.Common.{◌≡◌, ℕ, List, ◌∷◌, [], ◌<◌, length, sym, ap, subst, refl, arith}
 use Rattle.std.proofs.lemmas.List.{get_or_read}
-use Rattle.xdg_names.specs.First.{In}
-use Rattle.xdg_names.proofs.In.{in_left}
 use Rattle.xdg_names.specs.Leads.{number}
 use Rattle.xdg_names.specs.Walks.{Merges}
 use Rattle.xdg_names.proofs.Walking.{leads_on}
 use Rattle.xdg_names.proofs.Merging.{leads_last, merged, merged_looked}
 use Rattle.xdg_names.proofs.walk.Walk.look.Goals as goal
 use Rattle.xdg_facts.proofs.Lists.{length_more}
+use Rattle.xdg_facts.specs.Membership.{In}
+use Rattle.xdg_facts.proofs.In.{in_left}
 
 pub enter-requires-clause-reached : goal.enter-requires-clause-reached
 enter-requires-clause-reached c = λ a h. leads_on c.args.graph.now a c.args.from c.args.to (leads_last _ _ _ _ _ _ _ _ c.requires.walks c.args.from c.requires.on c.requires.last a h) c.requires.reached

@@ -1,7 +1,7 @@
 use Rattle.std.proofs.Common.{ap, sym, ◌∙◌, arith}
-use Rattle.xdg_nodeset.specs.Bits.{members}
 use Rattle.xdg_nodeset.proofs.Masks.{members_are_nodes, first_bit, empty_bits}
 use Rattle.xdg_nodeset.proofs.set.NodeSet.first.Goals as goal
+use Rattle.xdg_facts.specs.BitSets.{members}
 
 pub returns-then-self-eq0-clause-value : goal.returns-then-self-eq0-clause-value
 returns-then-self-eq0-clause-value c = sym c.self.view_is ∙ ap members c.if-self-eq0.true ∙ empty_bits

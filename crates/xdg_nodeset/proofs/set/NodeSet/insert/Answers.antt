@@ -1,10 +1,10 @@
 use Rattle.std.proofs.Common.{◌*◌, ◌%◌, ◌^◌, ap, ◌∙◌, arith}
 use Rattle.std.proofs.lemmas.Nat.{or_lt}
 use Rattle.xdg_nodeset.specs.Nodes.{with_node}
-use Rattle.xdg_nodeset.specs.Bits.{members}
 use Rattle.xdg_nodeset.proofs.Standing.{with_same, with_has}
 use Rattle.xdg_nodeset.proofs.Masks.{with_bits, members_are_nodes}
 use Rattle.xdg_nodeset.proofs.set.NodeSet.insert.Goals as goal
+use Rattle.xdg_facts.specs.BitSets.{members}
 
 pub invariant_of-self : goal.invariant_of-self
 invariant_of-self c = or_lt 128 c.self.inside.bits (1 * 2 ^ c.args.node.0 % 2 ^ 128) c.self.invariant (omega arith)

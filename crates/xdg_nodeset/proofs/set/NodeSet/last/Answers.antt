@@ -1,7 +1,7 @@
 use Rattle.std.proofs.Common.{ap, sym, ◌∙◌, arith}
-use Rattle.xdg_nodeset.specs.Bits.{members}
 use Rattle.xdg_nodeset.proofs.Masks.{last_bit, empty_bits}
 use Rattle.xdg_nodeset.proofs.set.NodeSet.last.Goals as goal
+use Rattle.xdg_facts.specs.BitSets.{members}
 
 pub returns-then-self-eq0 : goal.returns-then-self-eq0
 returns-then-self-eq0 c = sym c.self.view_is ∙ ap members c.if-self-eq0.true ∙ empty_bits

@@ -1,9 +1,9 @@
 use Rattle.std.proofs.Common.{ap₂, ◌∙◌}
 use Rattle.xdg_nodeset.specs.Nodes.{meet}
-use Rattle.xdg_nodeset.specs.Bits.{members}
 use Rattle.xdg_nodeset.proofs.Standing.{meet_has}
 use Rattle.xdg_nodeset.proofs.Masks.{members_are_nodes, meet_bits}
 use Rattle.xdg_nodeset.proofs.set.NodeSet.meet.Goals as goal
+use Rattle.xdg_facts.specs.BitSets.{members}
 
 pub returns-clause-value : goal.returns-clause-value
 returns-clause-value c = meet_bits c.self.inside.bits c.other.inside.bits ∙ ap₂ meet c.self.view_is c.other.view_is

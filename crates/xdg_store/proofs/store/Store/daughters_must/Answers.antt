@@ -1,5 +1,4 @@
 use Rattle.std.proofs.Common.{◌≢◌, ◌<◌, ◌↔◌, IsTrue, subst, sym}
-use Rattle.xdg_nodeset.specs.Nodes.{has}
 use Rattle.xdg_problem.specs.Boxes.{Must}
 use Rattle.xdg_problem.specs.Places.{edge, nodes}
 use Rattle.xdg_store.specs.InRange.{HasEdges}
@@ -9,6 +8,7 @@ use Rattle.xdg_problem.specs.Vectors.{shape}
 use Rattle.xdg_store.specs.States.{Known}
 use Rattle.xdg_store.proofs.Histories.{known_of}
 use Rattle.xdg_store.proofs.store.Store.daughters_must.Goals as goal
+use Rattle.xdg_facts.specs.Rises.{has}
 
 pub returns-clause-known : goal.returns-clause-known
 returns-clause-known c = subst Known c.self.view_is (known_of c.self.inside.problem.now (sum (shape c.self.inside.problem.now)) c.self.inside.turns c.self.inside.trail c.self.invariant.0.problem c.self.invariant.0.sound)

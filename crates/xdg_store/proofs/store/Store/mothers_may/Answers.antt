@@ -1,5 +1,4 @@
 use Rattle.std.proofs.Common.{◌≢◌, ◌<◌, ◌↔◌, IsTrue, length, arith, subst, sym}
-use Rattle.xdg_nodeset.specs.Nodes.{has}
 use Rattle.xdg_problem.specs.Boxes.{May}
 use Rattle.xdg_problem.specs.Places.{edge, nodes}
 use Rattle.xdg_store.specs.InRange.{HasEdges}
@@ -9,6 +8,7 @@ use Rattle.xdg_problem.specs.Vectors.{shape}
 use Rattle.xdg_store.specs.States.{Known}
 use Rattle.xdg_store.proofs.Histories.{known_of}
 use Rattle.xdg_store.proofs.store.Store.mothers_may.Goals as goal
+use Rattle.xdg_facts.specs.Rises.{has}
 
 pub index-requires : goal.index-requires
 index-requires c =

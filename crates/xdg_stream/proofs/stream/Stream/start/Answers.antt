@@ -8,9 +8,9 @@ use Rattle.xdg_problem.specs.Vectors.{shape}
 use Rattle.xdg_rules.specs.Boxed.{Boxed}
 use Rattle.xdg_stream.specs.Place.{place, Next}
 use Rattle.xdg_stream.specs.Streamed.{IsCharged, seen, start_vector}
-use Rattle.xdg_stream.proofs.Sized.{fits_short}
 use Rattle.xdg_stream.proofs.Streaming.{start_fits, stream_start}
 use Rattle.xdg_stream.proofs.stream.Stream.start.Goals as goal
+use Rattle.xdg_facts.proofs.Fitting.{fits_length}
 
 pub start-requires : goal.start-requires
 start-requires g c = c.requires.stand
@@ -19,7 +19,7 @@ pub refill-requires-clause-short : goal.refill-requires-clause-short
 refill-requires-clause-short g c =
     let parts = c.args.problem.now in
     let fits = start_fits parts (option_copied c.args.after) c.in_ok-last.ensures.problem c.requires.fits in
-    let short = fits_short (shape parts) (start_vector parts (option_copied c.args.after)) fits in
+    let short = fits_length (shape parts) (start_vector parts (option_copied c.args.after)) fits in
     let given = ap length (c.as_slice.ensures.value ∙ c.in_ok-start.ensures) in
     let same = ap (λ (p : Parts). length (shape p)) c.in_ok-last.ensures.empty.0 in
     omega (arith, short, given, same)
@@ -28,7 +28,7 @@ pub refill_numbers-requires : goal.refill_numbers-requires
 refill_numbers-requires g c =
     let parts = c.args.problem.now in
     let fits = start_fits parts (option_copied c.args.after) c.in_ok-last.ensures.problem c.requires.fits in
-    let short = fits_short (shape parts) (start_vector parts (option_copied c.args.after)) fits in
+    let short = fits_length (shape parts) (start_vector parts (option_copied c.args.after)) fits in
     let given = ap length (c.as_slice-2.ensures.value ∙ c.in_ok-start.ensures) in
     let room = c.in_ok-reached.ensures.capacity in
     let n = c.decisions.ensures in
