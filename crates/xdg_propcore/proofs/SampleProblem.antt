@@ -9,6 +9,7 @@ use Rattle.xdg_problem.specs.declared.parts.DimPlan.{DimPlan}
 use Rattle.xdg_problem.specs.declared.parts.Parts.{Parts}
 use Rattle.xdg_problem.specs.declared.parts.Shown.{Shown}
 use Rattle.xdg_problem.specs.declared.parts.Shown.TheVariants as shown
+use Rattle.xdg_problem.specs.Principles.{IsSet, AreFeatures, AreSets}
 use Rattle.xdg_problem.specs.Problems.{IsProblem, IsDim, IsAttr, IsGroup, AreCandidates, HasConstant}
 use Rattle.xdg_store.specs.InRange.{HasValue}
 use Rattle.xdg_propcore.specs.Sample.{agr_use, colour, first_alone, plan, sample, IsUse}
