@@ -8,7 +8,7 @@ use Rattle.xdg_problem.specs.declared.analysis.Edge.{Edge}
 use Rattle.xdg_problem.specs.declared.parts.Parts.{Parts}
 use Rattle.xdg_problem.specs.Analyses.{IsPlace}
 use Rattle.xdg_problem.specs.Arguments.{attr_count, no_plan}
-use Rattle.xdg_problem.specs.Boxes.{May, Must, entry_decision, attr_decision, edge_decision, place_in, without}
+use Rattle.xdg_problem.specs.Boxes.{May, Must, entry_decision, attr_decision, edge_decision, place_in}
 use Rattle.xdg_problem.specs.Places.{edge, nodes, places}
 use Rattle.xdg_problem.specs.Problems.{IsDim, IsProblem}
 use Rattle.xdg_problem.specs.Vectors.{shape}
@@ -263,13 +263,6 @@ module _ (parts : Parts) (p : IsProblem parts) where
       let last = row_within rows dim daughter (labels - 1) n (mothers_at n dim daughter (labels - 1)) (h (labels - 1) (omega (arith, some))) m refl long in
       let e : first + labels ≡ mothers_at n dim daughter (labels - 1) + 1 = omega (arith, at, some) in
       omega (arith, last, e)
-
-  pub no_mothers_asked : (words : List ℕ) (dim daughter labels : ℕ) → labels ≡ 0 → AreMothers parts (box_in (bits_of parts) words) dim daughter labels []
-  no_mothers_asked words dim daughter labels none = record {
-    count = sym none;
-    may = λ mother label m d l. absurd (omega (arith, none, l));
-    must = λ mother label m d l. absurd (omega (arith, none, l));
-  }
 
   module _ (words : List ℕ) (rows : List Mothers) (kept : AreKept parts words rows) (n dim daughter labels first : ℕ) (some : 0 < labels) (h : (label : ℕ) → label < labels → HasEdges parts dim daughter label) (m : n ≡ nodes parts) (at : first ≡ mothers_at n dim daughter 0) (part : List Mothers) (part_is : part ≡ take labels (drop first rows)) where
     row_there : (label : ℕ) → label < labels → get_or part label no_mothers ≡ get_or rows (mothers_at (nodes parts) dim daughter label) no_mothers

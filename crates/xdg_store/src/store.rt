@@ -288,11 +288,12 @@ impl<'a> Store<'a> {
         ensures mothers { AreMothers self.now.parts self.now.now dim.0 daughter.0 labels result.now }
         ensures known { Known self.now }
     {
+        let rows = self.across.as_slice();
         if labels == 0 {
             return &[];
         }
         let first = mothers_at(self.node_count, dim, daughter, LabelId(0));
-        rows_from(self.across.as_slice(), first, labels as usize)
+        rows_from(rows, first, labels as usize)
     }
 
     /// The nodes of the sentence.
