@@ -1,21 +1,21 @@
 -- What a store keeps of edges by their daughters, over its calls.
-use Rattle.std.proofs.Common.{◌≡◌, ◌≢◌, ◌⊎◌, ℕ, ◌<◌, ◌≤◌, ◌+◌, ◌-◌, ◌*◌, ◌↔◌, inl, inr, Bool, false, not, IsTrue, List, [], length, get_or, set, drop, replicate, refl, ap, sym, ◌∙◌, arith, subst, zero, suc}
+use Rattle.std.proofs.Common.{◌≡◌, ◌≢◌, ◌⊎◌, ℕ, ◌<◌, ◌≤◌, ◌+◌, ◌-◌, ◌*◌, ◌↔◌, inl, inr, Bool, false, not, IsTrue, List, [], length, get_or, set, drop, take, replicate, refl, ap, sym, ◌∙◌, arith, subst, zero, suc}
 use Rattle.std.specs.Prelude.{◌&&◌, ◌==◌, nat_lt, All, sum}
 use Rattle.std.proofs.lemmas.Bool.{and_from, and_parts, cases_eq, lt-ltb, ltb-true}
 use Rattle.std.proofs.lemmas.Nat.{row_fits}
-use Rattle.std.proofs.lemmas.List.{get_or_default, get_or-drop, get_or-replicate, get_or-set_other, length-drop, length-replicate}
+use Rattle.std.proofs.lemmas.List.{get_or_default, get_or-drop, get_or-replicate, get_or-set_other, get_or-take, length-drop, length-replicate, length-take-le}
 use Rattle.xdg_problem.specs.declared.analysis.Edge.{Edge}
 use Rattle.xdg_problem.specs.declared.parts.Parts.{Parts}
 use Rattle.xdg_problem.specs.Analyses.{IsPlace}
 use Rattle.xdg_problem.specs.Arguments.{attr_count, no_plan}
-use Rattle.xdg_problem.specs.Boxes.{May, Must, entry_decision, attr_decision, edge_decision, place_in, without}
+use Rattle.xdg_problem.specs.Boxes.{May, Must, entry_decision, attr_decision, edge_decision, place_in}
 use Rattle.xdg_problem.specs.Places.{edge, nodes, places}
 use Rattle.xdg_problem.specs.Problems.{IsDim, IsProblem}
 use Rattle.xdg_problem.specs.Vectors.{shape}
 use Rattle.xdg_problem.proofs.AttrPlaces.{attr_within}
 use Rattle.xdg_problem.proofs.PlaceOrder.{place_is}
 use Rattle.xdg_trail.specs.Trailed.{Trailed, past}
-use Rattle.xdg_store.specs.Across.{AreKept, Fits, FitsIn, IsKept, Renews, RenewsAll, edge_at, mothers_at, no_mothers, row_count}
+use Rattle.xdg_store.specs.Across.{AreKept, AreMothers, Fits, FitsIn, IsKept, Renews, RenewsAll, edge_at, mothers_at, no_mothers, row_count}
 use Rattle.xdg_store.specs.Change.{Removes}
 use Rattle.xdg_store.specs.Decisions.{IsDecision, number_of}
 use Rattle.xdg_store.specs.InRange.{HasEdges}
@@ -254,3 +254,40 @@ module _ (parts : Parts) (p : IsProblem parts) where
         let says : has row.must node ≡ not (is_set words (edge_bit (nodes parts) e + 128)) = ap (λ (r : Mothers). has r.must node) (sym there) ∙ (kept.each e is).must in
         let w = must_has parts e (edge_bit (nodes parts) e) words (is_set words (edge_bit (nodes parts) e + 128)) (pair e is) refl in
         (λ i. w.0 (sym says ∙ i), λ i. says ∙ w.1 i)))
+
+  -- ---- the mothers of a daughter by label
+
+  -- the rows of so many labels are there
+  pub rows_within : (rows dim daughter labels n first : ℕ) → 0 < labels → ((label : ℕ) → label < labels → HasEdges parts dim daughter label) → n ≡ nodes parts → first ≡ mothers_at n dim daughter 0 → row_count parts ≤ rows → first + labels ≤ rows
+  rows_within rows dim daughter labels n first some h m at long =
+      let last = row_within rows dim daughter (labels - 1) n (mothers_at n dim daughter (labels - 1)) (h (labels - 1) (omega (arith, some))) m refl long in
+      let e : first + labels ≡ mothers_at n dim daughter (labels - 1) + 1 = omega (arith, at, some) in
+      omega (arith, last, e)
+
+  module _ (words : List ℕ) (rows : List Mothers) (kept : AreKept parts words rows) (n dim daughter labels first : ℕ) (some : 0 < labels) (h : (label : ℕ) → label < labels → HasEdges parts dim daughter label) (m : n ≡ nodes parts) (at : first ≡ mothers_at n dim daughter 0) (part : List Mothers) (part_is : part ≡ take labels (drop first rows)) where
+    row_there : (label : ℕ) → label < labels → get_or part label no_mothers ≡ get_or rows (mothers_at (nodes parts) dim daughter label) no_mothers
+    row_there label l =
+        let place : first + label ≡ mothers_at n dim daughter label = omega (arith, at) in
+        ap (λ xs. get_or xs label no_mothers) part_is
+        ∙ get_or-take labels (drop first rows) label no_mothers l
+        ∙ get_or-drop first rows label no_mothers
+        ∙ ap (λ i. get_or rows i no_mothers) place
+        ∙ ap (λ i. get_or rows (mothers_at i dim daughter label) no_mothers) m
+
+    pub mothers_are : AreMothers parts (box_in (bits_of parts) words) dim daughter labels part
+    mothers_are =
+        let within = rows_within (length rows) dim daughter labels n first some h m at kept.long in
+        let behind = length-drop first rows in
+        record {
+          count = ap length part_is ∙ length-take-le labels (drop first rows) (omega (arith, within, behind));
+          may = λ mother label l d i.
+              let e = edge dim mother label daughter in
+              let is = into_is_place dim mother label daughter (h label i) l d in
+              may_has parts e (edge_bit (nodes parts) e) words (has (get_or part label no_mothers).may mother) (pair e is) (ap (λ (r : Mothers). has r.may mother) (row_there label i) ∙ (kept.each e is).may);
+          must = λ mother label l d i.
+              let e = edge dim mother label daughter in
+              let is = into_is_place dim mother label daughter (h label i) l d in
+              let says : has (get_or part label no_mothers).must mother ≡ not (is_set words (edge_bit (nodes parts) e + 128)) = ap (λ (r : Mothers). has r.must mother) (row_there label i) ∙ (kept.each e is).must in
+              let w = must_has parts e (edge_bit (nodes parts) e) words (is_set words (edge_bit (nodes parts) e + 128)) (pair e is) refl in
+              (λ i. w.0 (sym says ∙ i), λ i. says ∙ w.1 i);
+        }

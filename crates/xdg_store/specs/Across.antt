@@ -1,9 +1,10 @@
 -- Edges by their daughters.
-use Rattle.std.specs.Prelude.{◌≡◌, ◌≢◌, ◌⊎◌, ℕ, ◌<◌, ◌≤◌, ◌+◌, ◌*◌, Bool, not, List, [], length, slice_index_or, Contains}
+use Rattle.std.specs.Prelude.{◌≡◌, ◌≢◌, ◌⊎◌, ◌↔◌, ℕ, ◌<◌, ◌≤◌, ◌+◌, ◌*◌, Bool, not, IsTrue, List, [], length, slice_index_or, Contains}
 use Rattle.xdg_problem.specs.declared.analysis.Edge.{Edge}
 use Rattle.xdg_problem.specs.declared.parts.Parts.{Parts}
 use Rattle.xdg_problem.specs.Analyses.{IsPlace}
-use Rattle.xdg_problem.specs.Places.{nodes}
+use Rattle.xdg_problem.specs.Boxes.{May, Must}
+use Rattle.xdg_problem.specs.Places.{edge, nodes}
 use Rattle.xdg_store.specs.Layout.{edge_bit, is_set}
 use Rattle.xdg_store.specs.declared.across.Mothers.{Mothers}
 use Rattle.xdg_store.specs.declared.decision.Decision.{Decision}
@@ -72,3 +73,9 @@ RenewsOf n words (decisions.Place edge) old new = Renews n words edge old new
 pub record RenewsAll (n : ℕ) (words : List ℕ) (changed : List Decision) (old new : List Mothers) : Type 0 where
   pub count : length new ≡ length old
   pub each : (e : Edge) → Fits n (length old) (length words) e → IsKept n words old e ⊎ Contains changed (decisions.Place e) → IsKept n words new e
+
+-- of each of so many labels, from which other nodes edges with it may lead into a daughter, and from which they must
+pub record AreMothers (parts : Parts) (box : List (List Bool)) (dim daughter labels : ℕ) (rows : List Mothers) : Type 0 where
+  pub count : length rows ≡ labels
+  pub may : (mother label : ℕ) → mother < nodes parts → mother ≢ daughter → label < labels → IsTrue (in_may rows label mother) ↔ May parts box (edge dim mother label daughter)
+  pub must : (mother label : ℕ) → mother < nodes parts → mother ≢ daughter → label < labels → IsTrue (in_must rows label mother) ↔ Must parts box (edge dim mother label daughter)

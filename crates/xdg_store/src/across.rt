@@ -1,6 +1,6 @@
 //! Edges by their daughters.
 
-ghost use Rattle.std.specs.Prelude.{◌≡◌, ◌≢◌, ℕ, ◌<◌, ◌≤◌, All, length};
+ghost use Rattle.std.specs.Prelude.{◌≡◌, ◌≢◌, ℕ, ◌<◌, ◌≤◌, ◌+◌, All, drop, length, take};
 ghost use Rattle.xdg_facts.specs.Rises.{has};
 ghost use Rattle.xdg_store.specs.Across.{Fits, FitsIn, Renews, RenewsAll, RenewsOf, mothers_at};
 
@@ -12,9 +12,10 @@ use xdg_nodeset::NodeSet;
 use xdg_problem::Edge;
 use xdg_trail::Trail;
 
-/// The mothers from which edges with a label may lead into a node, and those from which they must.
+/// The mothers from which edges with a label may lead into a daughter, and those from which they must. What a set has of
+/// the daughter itself, and of nodes that the sentence has not, says nothing.
 #[derive(Clone, Copy, Debug)]
-pub(crate) struct Mothers {
+pub struct Mothers {
     pub may: NodeSet,
     pub must: NodeSet,
 }
@@ -25,6 +26,15 @@ pub(crate) fn mothers_at(nodes: usize, dim: DimId, daughter: NodeId, label: Labe
     ensures { result ≡ mothers_at nodes dim.0 daughter.0 label.0 }
 {
     (dim.0 as usize * nodes + daughter.0 as usize) * 32 + label.0 as usize
+}
+
+/// So many rows from a place on.
+pub(crate) fn rows_from(rows: &[Mothers], first: usize, count: usize) -> &[Mothers]
+    requires { first + count ≤ length rows.now }
+    ensures { result.now ≡ take count (drop first rows.now) }
+{
+    let rest = &rows[first..];
+    &rest[..count]
 }
 
 /// A set with a node, or without it.

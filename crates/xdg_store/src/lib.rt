@@ -14,6 +14,7 @@ mod rows;
 mod start;
 mod store;
 
+pub use across::Mothers;
 pub use change::Change;
 pub use decision::Decision;
 pub use store::Store;

@@ -1,17 +1,18 @@
 //! The values that remain.
 
-ghost use Rattle.std.specs.Prelude.{◌≡◌, ◌≢◌, ℕ, ◌<◌, ◌+◌, ◌-◌, ◌^◌, ◌↔◌, [], ◌∷◌, IsTrue, IfOk, length, min, slice_index_or, take};
+ghost use Rattle.std.specs.Prelude.{◌≡◌, ◌≢◌, ℕ, ◌<◌, ◌+◌, ◌-◌, ◌^◌, ◌↔◌, [], ◌∷◌, IsTrue, IfOk, length, min, nat_lt, slice_index_or, take};
 ghost use Rattle.xdg_facts.specs.Rises.{has};
 ghost use Rattle.xdg_problem.specs.Analyses.{IsPlace};
 ghost use Rattle.xdg_problem.specs.Boxes.{Has, IsSingle, May, Must, full, entry_decision, attr_decision, edge_decision};
 ghost use Rattle.xdg_problem.specs.Places.{edge, nodes};
 ghost use Rattle.xdg_problem.specs.Vectors.{shape};
+ghost use Rattle.xdg_store.specs.Across.{AreMothers};
 ghost use Rattle.xdg_store.specs.Change.{Removes};
 ghost use Rattle.xdg_store.specs.InRange.{HasCandidate, HasEdges, HasValue};
 ghost use Rattle.xdg_store.specs.Naming.{Names};
 ghost use Rattle.xdg_store.specs.States.{Known};
 
-use crate::across::{Mothers, mothers_at, renew, renew_all};
+use crate::across::{Mothers, mothers_at, renew, renew_all, rows_from};
 use crate::change::Change;
 use crate::decision::Decision;
 use crate::layout::{attr_row, edge_row, entry_row};
@@ -278,6 +279,29 @@ impl<'a> Store<'a> {
         let mut mothers = row.must.meet(&self.all);
         mothers.remove(daughter);
         mothers
+    }
+
+    /// By label, for the first so many labels of a dimension, the mothers from which edges into a daughter may lead, and
+    /// those from which they must. No set is made for it.
+    pub fn mothers_by_label(&self, dim: DimId, daughter: NodeId, labels: u8) -> &[Mothers]
+        requires { (label : ℕ) → label < labels → HasEdges self.now.parts dim.0 daughter.0 label }
+        ensures mothers { AreMothers self.now.parts self.now.now dim.0 daughter.0 labels result.now }
+        ensures known { Known self.now }
+    {
+        let rows = self.across.as_slice();
+        if labels == 0 {
+            return &[];
+        }
+        let first = mothers_at(self.node_count, dim, daughter, LabelId(0));
+        rows_from(rows, first, labels as usize)
+    }
+
+    /// The nodes of the sentence.
+    pub fn all_nodes(&self) -> NodeSet
+        ensures members { (node : ℕ) → has result node ≡ nat_lt node (nodes self.now.parts) }
+        ensures known { Known self.now }
+    {
+        self.all
     }
 
     /// The present time, to which [`Store::undo`] can go back: how many boxes there were before this one.
