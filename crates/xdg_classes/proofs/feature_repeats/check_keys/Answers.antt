@@ -1,4 +1,4 @@
-use Rattle.std.proofs.Common.{◌≡◌}
+use Rattle.std.proofs.Common.{[], ◌≡◌}
 use Rattle.xdg_names.specs.First.{Tells, first}
 use Rattle.xdg_types.specs.NameFaults.{repeats}
 use Rattle.xdg_types.specs.Parts.{keys}
