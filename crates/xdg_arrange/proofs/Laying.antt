@@ -3,8 +3,9 @@ use Rattle.std.proofs.Common.{◌≡◌, ◌∙◌, ℕ, ◌<◌, ◌≤◌, ◌
 use Rattle.std.specs.Prelude.{Option, cond}
 use Rattle.std.proofs.lemmas.Bool.{eqb-true}
 use Rattle.std.proofs.lemmas.List.{length-map, length-take, take-append-drop, take-map, take-take}
-use Rattle.xdg_split.specs.Printed.{blocks, shown}
-use Rattle.xdg_split.specs.declared.forms.Form.TheVariants as forms
+use Rattle.xdg_text.specs.Blocks.{shown}
+use Rattle.xdg_split.specs.Printed.{blocks}
+use Rattle.xdg_text.specs.declared.form.Form.TheVariants as forms
 use Rattle.xdg_split.proofs.Boxing.{boxed_listing}
 use Rattle.xdg_split.proofs.FoundSoFar.{all_answers, blocks_found, first_answers, map_more, spent_answers}
 use Rattle.xdg_arrange.specs.Found.{Adds, Finds, led_block, led_blocks}

@@ -1,7 +1,7 @@
 -- What a search finds of an arrangement, and what is printed of it.
 use Rattle.std.specs.Prelude.{◌≡◌, ℕ, ◌==◌, cond, List, [], ◌∷◌, ◌++◌, None, Option, codes, decimal, length, map, take}
 use Rattle.xdg_split.specs.Printed.{blocks}
-use Rattle.xdg_split.specs.declared.forms.Form.TheVariants as forms
+use Rattle.xdg_text.specs.declared.form.Form.TheVariants as forms
 use Rattle.xdg_io.specs.Held.{Appends, AppendsFront}
 use Rattle.xdg_facts.specs.Endings.{IsEnding}
 use Rattle.xdg_facts.specs.Listing.{IsListing}

@@ -19,7 +19,7 @@ use xdg_io::{Failed, Sink};
 use xdg_problem::{Edge, Problem, SentenceWord};
 use xdg_propcore::Propagator;
 use xdg_stream::{Step, Stream};
-use xdg_text::{Word, write_line, write_parts};
+use xdg_text::{Form, Word, write_line, write_parts};
 
 /// What the search of an arrangement came to.
 #[derive(Clone, Copy, Debug)]
@@ -88,7 +88,7 @@ fn write_found<K: Sink>(
     ensures quiet { OnOk result (K.faults out.new ≡ K.faults out.old) }
 {
     write_lead(lead, count, out)?;
-    write_parts(problem, count, entries, attrs, edges, out)
+    write_parts(Form::One, problem, count, entries, attrs, edges, out)
 }
 
 /// Prints what a stream that has just started finds.

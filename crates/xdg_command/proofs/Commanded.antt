@@ -12,7 +12,7 @@ use Rattle.xdg_command.specs.Syntax.{Table, arranged, corpused, costed, explaine
 use Rattle.xdg_command.specs.declared.commands.ExplainOptions.{ExplainOptions}
 use Rattle.xdg_command.specs.declared.commands.ParseOptions.{ParseOptions}
 use Rattle.xdg_command.specs.declared.commands.ResumeOptions.{ResumeOptions}
-use Rattle.xdg_command.specs.declared.commands.TextForm.{TextForm}
+use Rattle.xdg_text.specs.declared.form.Form.{Form}
 use Rattle.xdg_command.proofs.Lookups.{right}
 use Rattle.xdg_command.proofs.Spelled.{read_items}
 
@@ -165,7 +165,7 @@ module _ (words : List (List ℕ)) where
     pub bad_first : ((f : Option ℕ) → HasFirst (first_value (found_of found) (codes "first")) f → ⊥) → (options : ParseOptions) → IsParse words options → ⊥
     bad_first none options w = none options.first (subst (λ o. HasFirst o options.first) (sym (m.2.values (codes "first") refl)) (parse_said options w).first)
 
-    pub bad_text : ((form : TextForm) → HasText (first_value (found_of found) (codes "text")) form → ⊥) → (options : ParseOptions) → IsParse words options → ⊥
+    pub bad_text : ((form : Form) → HasText (first_value (found_of found) (codes "text")) form → ⊥) → (options : ParseOptions) → IsParse words options → ⊥
     bad_text none options w = none options.text (subst (λ o. HasText o options.text) (sym (m.2.values (codes "text") refl)) (parse_said options w).text)
 
     pub segment_found : (b : Bool) → (one_text (found_of found) (codes "segment") ≡ Some (codes "true") → b ≡ true) → (one_text (found_of found) (codes "segment") ≡ Some (codes "false") → b ≡ false)
@@ -234,7 +234,7 @@ module _ (words : List (List ℕ)) where
     pub no_first : ((f : Option ℕ) → HasFirst (first_value (found_of found) (codes "first")) f → ⊥) → (options : ResumeOptions) → IsResume words options → ⊥
     no_first none options w = none options.first (subst (λ o. HasFirst o options.first) (sym (m.2.values (codes "first") refl)) (resume_said options w).first)
 
-    pub no_text : ((form : TextForm) → HasText (first_value (found_of found) (codes "text")) form → ⊥) → (options : ResumeOptions) → IsResume words options → ⊥
+    pub no_text : ((form : Form) → HasText (first_value (found_of found) (codes "text")) form → ⊥) → (options : ResumeOptions) → IsResume words options → ⊥
     no_text none options w = none options.text (subst (λ o. HasText o options.text) (sym (m.2.values (codes "text") refl)) (resume_said options w).text)
 
     pub resume_found : (options : ResumeOptions) → first_value (found_of found) (codes "grammar") ≡ Some options.grammar → first_value (found_of found) (codes "analysis") ≡ Some options.analysis

@@ -18,8 +18,8 @@ use Rattle.xdg_command.specs.declared.commands.CorpusOptions.{CorpusOptions}
 use Rattle.xdg_command.specs.declared.commands.ExplainOptions.{ExplainOptions}
 use Rattle.xdg_command.specs.declared.commands.ParseOptions.{ParseOptions}
 use Rattle.xdg_command.specs.declared.commands.ResumeOptions.{ResumeOptions}
-use Rattle.xdg_command.specs.declared.commands.TextForm.{TextForm}
-use Rattle.xdg_command.specs.declared.commands.TextForm.TheVariants as forms
+use Rattle.xdg_text.specs.declared.form.Form.{Form}
+use Rattle.xdg_text.specs.declared.form.Form.TheVariants as forms
 use Rattle.xdg_command.specs.declared.reading.Verb.{Verb}
 use Rattle.xdg_command.specs.declared.reading.Verb.TheVariants as verbs
 use Rattle.xdg_command.proofs.Commanded.{arranged_right, corpused_right, costed_right, explained_right, file_of, one_file_right, parsed_right, resumed_right, said}
@@ -157,7 +157,7 @@ one_first (Some text) None b p q = absurd p
 one_first (Some text) (Some a) None p q = absurd q
 one_first (Some text) (Some a) (Some b) p q = ap (λ n. Some n) (p.value ∙ sym q.value)
 
-one_text_form : (given : Option (List ℕ)) (a b : TextForm) → HasText given a → HasText given b → a ≡ b
+one_text_form : (given : Option (List ℕ)) (a b : Form) → HasText given a → HasText given b → a ≡ b
 one_text_form None a b p q = p ∙ sym q
 one_text_form (Some text) forms.One forms.One p q = refl
 one_text_form (Some text) forms.One forms.Two p q = let bad : 49 ≡ 50 = ap (λ xs. slice_index xs 0) (sym p ∙ q) in absurd (omega (arith, bad))

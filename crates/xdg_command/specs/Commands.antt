@@ -12,8 +12,8 @@ use Rattle.xdg_command.specs.declared.commands.CorpusOptions.{CorpusOptions}
 use Rattle.xdg_command.specs.declared.commands.ExplainOptions.{ExplainOptions}
 use Rattle.xdg_command.specs.declared.commands.ParseOptions.{ParseOptions}
 use Rattle.xdg_command.specs.declared.commands.ResumeOptions.{ResumeOptions}
-use Rattle.xdg_command.specs.declared.commands.TextForm.{TextForm}
-use Rattle.xdg_command.specs.declared.commands.TextForm.TheVariants as forms
+use Rattle.xdg_text.specs.declared.form.Form.{Form}
+use Rattle.xdg_text.specs.declared.form.Form.TheVariants as forms
 
 -- the text is one to ten ASCII digits, which write this number, and the number lies in the range
 pub record IsNumber (least most : ℕ) (text : List ℕ) (number : ℕ) : Type 0 where
@@ -43,7 +43,7 @@ HasFirst (Some text) None = ⊥
 HasFirst (Some text) (Some first) = IsNumber 1 1000000 text first
 
 -- `--text N`, 1 or 2; 1 where it isn't given
-abbrev pub HasText : Option (List ℕ) → TextForm → Type 0
+abbrev pub HasText : Option (List ℕ) → Form → Type 0
 HasText None form = form ≡ forms.One
 HasText (Some text) forms.One = text ≡ codes "1"
 HasText (Some text) forms.Two = text ≡ codes "2"

@@ -1,15 +1,7 @@
 //! What the program is asked to do.
 
 use xdg_base::Text;
-
-/// In which of the two forms analyses are printed.
-#[derive(Clone, Copy, Debug, PartialEq, Eq)]
-pub enum TextForm {
-    /// The first form, where nothing else is asked for.
-    One,
-    /// The second form.
-    Two,
-}
+use xdg_text::Form;
 
 /// What `parse` is asked to do.
 #[derive(Debug, Drop)]
@@ -22,8 +14,8 @@ pub struct ParseOptions {
     pub first: Option<u64>,
     /// Whether words are cut by the Unicode rules of word boundaries.
     pub segment: bool,
-    /// The form in which analyses are printed.
-    pub text: TextForm,
+    /// In which of their two texts analyses are printed.
+    pub text: Form,
     /// Whether the branches of the first word's entries are searched side by side, each with the whole budget.
     pub split: bool,
     /// The name of the file of further rules, if one is given.
@@ -41,8 +33,8 @@ pub struct ResumeOptions {
     pub budget: u64,
     /// After how many analyses to stop, 1 to 1,000,000, or `None` to go on to the last.
     pub first: Option<u64>,
-    /// The form in which analyses are printed.
-    pub text: TextForm,
+    /// In which of their two texts analyses are printed.
+    pub text: Form,
     /// The name of the file of further rules, if one is given.
     pub rules: Option<Text>,
 }

@@ -9,6 +9,6 @@ mod values;
 
 pub use commands::{
     ArrangeOptions, BestOptions, Command, CorpusOptions, ExplainOptions, ParseOptions,
-    ResumeOptions, TextForm,
+    ResumeOptions,
 };
 pub use reading::command;

@@ -6,7 +6,7 @@ ghost use Rattle.std.specs.Char.{is_ascii_digit};
 ghost use Rattle.xdg_command.specs.Answers.{IsExactly};
 ghost use Rattle.xdg_command.specs.Commands.{HasBudget, HasFirst, HasText, IsDrillNumber, IsNumber};
 
-use crate::TextForm;
+use xdg_text::Form;
 
 /// The budget of a search to which none is given.
 const BUDGET: u64 = 10_000_000;
@@ -72,13 +72,13 @@ pub(crate) fn drill_number(text: &str) -> Option<u64>
 }
 
 /// The form of analyses, from the value of `--text`.
-pub(crate) fn text_form(given: Option<&str>) -> Option<TextForm>
+pub(crate) fn text_form(given: Option<&str>) -> Option<Form>
     ensures { IsExactly (HasText (option_map (λ text. text.now) given.entry)) result }
 {
     match given {
-        Some("1") => Some(TextForm::One),
-        Some("2") => Some(TextForm::Two),
+        Some("1") => Some(Form::One),
+        Some("2") => Some(Form::Two),
         Some(_) => None,
-        None => Some(TextForm::One),
+        None => Some(Form::One),
     }
 }

@@ -4,7 +4,7 @@ use Rattle.std.specs.Prelude.{None, Some, slice_get}
 use Rattle.std.specs.List.{AllZip}
 use Rattle.std.proofs.lemmas.List.{append_assoc}
 use Rattle.xdg_split.specs.Printed.{Prints}
-use Rattle.xdg_split.specs.declared.forms.Form.TheVariants as forms
+use Rattle.xdg_text.specs.declared.form.Form.TheVariants as forms
 use Rattle.xdg_base.specs.declared.faults.Fault.{Fault}
 use Rattle.xdg_command.specs.declared.commands.CorpusOptions.{CorpusOptions}
 use Rattle.xdg_corpus.specs.Groups.{AsksFor, StandsFor, answer_text, group_text, own_text}

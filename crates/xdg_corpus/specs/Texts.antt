@@ -2,7 +2,7 @@
 use Rattle.std.specs.Prelude.{◌≡◌, ℕ, ◌+◌, ◌≤◌, List, [], ◌∷◌, ◌++◌, codes, decimal}
 use Rattle.xdg_split.specs.Printed.{Prints}
 use Rattle.xdg_split.specs.Written.{IsSome}
-use Rattle.xdg_split.specs.declared.forms.Form.TheVariants as forms
+use Rattle.xdg_text.specs.declared.form.Form.TheVariants as forms
 use Rattle.xdg_base.specs.declared.faults.Fault.{Fault}
 use Rattle.xdg_command.specs.declared.commands.CorpusOptions.{CorpusOptions}
 use Rattle.xdg_inputs.specs.Meanings.{Meaning}

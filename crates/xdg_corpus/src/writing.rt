@@ -11,8 +11,8 @@ use crate::sizes::are_long;
 use std::alloc::Global;
 use xdg_base::Bytes;
 use xdg_io::{Failed, Sink, write_all};
-use xdg_split::{Answer, Kept};
-use xdg_text::{Word, fault_line, write_line};
+use xdg_split::Answer;
+use xdg_text::{Kept, Word, fault_line, write_line};
 
 /// Writes the text of a line alone.
 fn write_own<K: Sink>(sentence: &Sentence, answers: &[Answer], out: &mut K) -> Result<(), Failed>

@@ -3,9 +3,10 @@ use Rattle.std.proofs.Common.{◌≡◌, ◌≢◌, ℕ, ◌<◌, ◌≤◌, ◌
 use Rattle.std.specs.Prelude.{All, Option}
 use Rattle.std.proofs.Math.Seq.{drop-cons, take-length}
 use Rattle.std.proofs.lemmas.List.Elements.{All-nil, All-cons, All-take, All-weaker}
-use Rattle.xdg_split.specs.Printed.{blocks, last_line, shown}
+use Rattle.xdg_text.specs.Blocks.{shown}
+use Rattle.xdg_split.specs.Printed.{blocks, last_line}
 use Rattle.xdg_split.specs.Written.{IsSome}
-use Rattle.xdg_split.specs.declared.forms.Form.{Form}
+use Rattle.xdg_text.specs.declared.form.Form.{Form}
 use Rattle.xdg_searches.specs.Branched.{CanBranch, IsBranched, PrintsBranches, branch_job, branch_jobs, jobs_from}
 use Rattle.xdg_searches.specs.Written.{WritesAll}
 use Rattle.xdg_io.specs.Held.{Appends, AppendsFront}

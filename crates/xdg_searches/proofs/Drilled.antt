@@ -13,12 +13,12 @@ use Rattle.xdg_inputs.specs.Meanings.{Meaning}
 use Rattle.xdg_inputs.specs.GrammarTexts.{TellsTree}
 use Rattle.xdg_io.specs.Held.{Appends, AppendsFront}
 use Rattle.xdg_io.specs.Rose.{Rose}
-use Rattle.xdg_facts.specs.declared.Ending.{Ending}
 use Rattle.xdg_problem.specs.declared.parts.Parts.{Parts}
 use Rattle.xdg_inputs.specs.Outcomes.{MeaningThen}
 use Rattle.xdg_searches.specs.Outcomes.{DrillOf, DrillSentence, Drilled, drill_line, generated, status_of}
 use Rattle.xdg_inputs.specs.Refusals.{Refuses, Stops, refusal_of}
-use Rattle.xdg_inputs.specs.Runs.{Ends, Leaves, Wrote}
+use Rattle.xdg_inputs.specs.Runs.{Leaves, Wrote}
+use Rattle.xdg_searches.proofs.SearchLeaves.{ended_leaves}
 use Rattle.xdg_searches.specs.Runs.{DrillEnds}
 use Rattle.xdg_inputs.specs.GrammarFiles.{HasBadText, HasTree, ReadText, grammar_limit}
 use Rattle.xdg_inputs.specs.declared.refusals.Refusal.{Refusal}
@@ -40,15 +40,14 @@ module _ (number : ℕ) (m : Meaning) (parts : Parts) (words entries : ℕ) (cou
       let same : counts ≡ d.counts = one counts d.counts are d.are in
       (ap (λ c. status_of c.ending) same ∙ sym d.status_is, line_is ∙ ap (drill_line number (length parts.words) (length m.entries)) same ∙ sym d.text_is)
 
-  pub drilled_ends : (ending : Ending) (old new : Option (List ℕ)) → counts.ending ≡ ending → Appends old new (drill_line number words entries counts) → Ends (Drilled number m parts) (status_of ending) old new
-  drilled_ends ending old new is added =
-      let ends : Ends (Drilled number m parts) (status_of counts.ending) old new = record {
+  pub drilled_ends : (status : Status) (old new : Option (List ℕ)) → status ≡ status_of counts.ending → Appends old new (drill_line number words entries counts) → Leaves (Drilled number m parts) status old new
+  drilled_ends status old new is added =
+      ended_leaves (Drilled number m parts) counts.ending status old new is (record {
         text = drill_line number words entries counts;
         outcome = record { counts = counts; are = are; status_is = refl; text_is = line_is };
         only = λ other more d. same_line other more d;
         appends = added;
-      } in
-      subst (λ e. Ends (Drilled number m parts) (status_of e) old new) is ends
+      })
 
   pub drilled_front : (old new : Option (List ℕ)) → AppendsFront old new (drill_line number words entries counts) → (status : Status) (text : List ℕ) → Drilled number m parts status text → AppendsFront old new text
   drilled_front old new front status text d = subst (AppendsFront old new) (same_line status text d).1 front

@@ -2,7 +2,7 @@
 use Rattle.std.specs.Prelude.{◌≡◌, ℕ, ◌≤◌, List, ◌++◌, length, map, Option}
 use Rattle.xdg_split.specs.Printed.{blocks, last_line}
 use Rattle.xdg_split.specs.Written.{IsSome}
-use Rattle.xdg_split.specs.declared.forms.Form.{Form}
+use Rattle.xdg_text.specs.declared.form.Form.{Form}
 use Rattle.xdg_facts.specs.declared.Ending.{Ending}
 use Rattle.xdg_problem.specs.declared.analysis.Analysis.{Analysis}
 use Rattle.xdg_problem.specs.declared.parts.Parts.{Parts}

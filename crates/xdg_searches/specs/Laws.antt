@@ -1,6 +1,6 @@
 -- What the search of a sentence by branches keeps.
 use Rattle.std.specs.Prelude.{◌≡◌, ◌≢◌, ℕ, List, [], length, take, All, Option}
-use Rattle.xdg_split.specs.declared.forms.Form.{Form}
+use Rattle.xdg_text.specs.declared.form.Form.{Form}
 use Rattle.xdg_searches.specs.Branched.{IsBranched, PrintsBranches, branch_jobs}
 use Rattle.xdg_facts.specs.declared.Ending.{Ending}
 use Rattle.xdg_facts.specs.declared.Ending.TheVariants as endings

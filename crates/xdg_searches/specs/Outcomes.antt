@@ -1,13 +1,10 @@
 -- The status and the text of `parse`, `resume` and `drill`, as the files and the input alone determine them.
 use Rattle.std.specs.Prelude.{◌≡◌, ℕ, Bool, true, false, List, [], ◌∷◌, length, Option, Some, codes, decimal}
 use Rattle.xdg_split.specs.Printed.{Prints}
-use Rattle.xdg_split.specs.declared.forms.Form.{Form}
-use Rattle.xdg_split.specs.declared.forms.Form.TheVariants as forms
+use Rattle.xdg_text.specs.declared.form.Form.{Form}
 use Rattle.xdg_searches.specs.Branched.{PrintsBranches}
 use Rattle.xdg_command.specs.declared.commands.ParseOptions.{ParseOptions}
 use Rattle.xdg_command.specs.declared.commands.ResumeOptions.{ResumeOptions}
-use Rattle.xdg_command.specs.declared.commands.TextForm.{TextForm}
-use Rattle.xdg_command.specs.declared.commands.TextForm.TheVariants as texts
 use Rattle.xdg_searches.specs.Counted.{AreCounts}
 use Rattle.xdg_searches.specs.declared.counting.Counts.{Counts}
 use Rattle.xdg_formula.specs.declared.tree.Rules.{Rules}
@@ -30,10 +27,6 @@ use Rattle.xdg_inputs.specs.Sentences.{HasProblem, IsBadSentence}
 
 -- ---- `parse` and `resume`
 
-abbrev pub form_of : TextForm → Form
-form_of texts.One = forms.One
-form_of texts.Two = forms.Two
-
 -- the status of a search that ended so
 abbrev pub status_of : Ending → Status
 status_of endings.Complete = statuses.Done
@@ -54,15 +47,15 @@ pub record SearchedBranches (form : Form) (budget : ℕ) (wanted : Option ℕ) (
 
 -- the search of a problem from its beginning on, by branches or not
 abbrev pub ParsedBy : Bool → ParseOptions → Parts → Status → List ℕ → Type 0
-ParsedBy true options parts = SearchedBranches (form_of options.text) options.budget options.first parts
-ParsedBy false options parts = Searched (form_of options.text) options.budget options.first parts []
+ParsedBy true options parts = SearchedBranches options.text options.budget options.first parts
+ParsedBy false options parts = Searched options.text options.budget options.first parts []
 
 abbrev pub Parsed : ParseOptions → Parts → Status → List ℕ → Type 0
 Parsed options parts = ParsedBy options.split options parts
 
 -- the search of a problem from behind an analysis of it on
 abbrev pub SearchedBehind : ResumeOptions → Analysis → Parts → Status → List ℕ → Type 0
-SearchedBehind options analysis parts = Searched (form_of options.text) options.budget options.first parts (vector parts analysis)
+SearchedBehind options analysis parts = Searched options.text options.budget options.first parts (vector parts analysis)
 
 -- the search of the problem of an analysis with rules, from behind the analysis on
 abbrev pub Resumed : ResumeOptions → Rules → Meaning → Analysed → Status → List ℕ → Type 0

@@ -1,6 +1,6 @@
 -- What a search by branches leaves in the sink.
 use Rattle.std.specs.Prelude.{◌≡◌, ℕ, List, Option}
-use Rattle.xdg_split.specs.declared.forms.Form.{Form}
+use Rattle.xdg_text.specs.declared.form.Form.{Form}
 use Rattle.xdg_split.specs.declared.printing.Printed.{Printed}
 use Rattle.xdg_split.specs.declared.printing.Printed.TheVariants as printed
 use Rattle.xdg_searches.specs.Branched.{PrintsBranches}

@@ -1,7 +1,7 @@
 //! Searching by branches, and printing what is found.
 
 ghost use Rattle.std.specs.Prelude.{◌≡◌, ◌≢◌, ◌≤◌, ◌++◌, All, length, OnErr, OnOk};
-ghost use Rattle.xdg_split.specs.Printed.{blocks, last_line, shown};
+ghost use Rattle.xdg_split.specs.Printed.{blocks, last_line};
 ghost use Rattle.xdg_searches.specs.Branched.{CanBranch};
 ghost use Rattle.xdg_searches.specs.Laws.{BranchedLaws};
 ghost use Rattle.xdg_searches.specs.Written.{WritesBranches};
@@ -15,8 +15,8 @@ use std::thread::Threads;
 use xdg_facts::Ending;
 use xdg_io::{Failed, Sink};
 use xdg_problem::{Analysis, Problem};
-use xdg_split::{Form, Printed};
-use xdg_text::{write, write_complete, write_first, write_spent, write2};
+use xdg_split::Printed;
+use xdg_text::{Form, write_analysis, write_complete, write_first, write_spent};
 
 /// Searches a sentence by the branches of its first word's entries, each with the whole budget, and then prints each solution that was
 /// found, in their order, and the last line. Where a number of analyses is asked for, at least one, it prints so many. Four branches are
@@ -86,30 +86,9 @@ fn write_blocks<K: Sink>(
     ensures quiet { OnOk result (K.faults sink.new ≡ K.faults sink.old) }
 {
     for (place, analysis) in found.iter().enumerate() {
-        write_block(form, problem, place as u64 + 1, analysis, sink)?;
+        write_analysis(form, problem, place as u64 + 1, analysis, sink)?;
     }
     Ok(())
-}
-
-/// Writes an analysis with its number.
-fn write_block<K: Sink>(
-    form: Form,
-    problem: &Problem,
-    number: u64,
-    analysis: &Analysis,
-    sink: &mut K,
-) -> Result<(), Failed>
-    requires { IsAnalysis problem.now analysis.now }
-    ensures all { OnOk result (Appends (K.held sink.old) (K.held sink.new) (shown form problem.now number analysis.now)) }
-    ensures front { OnErr result (AppendsFront (K.held sink.old) (K.held sink.new) (shown form problem.now number analysis.now)) }
-    ensures cause { OnErr result (Rose (K.faults sink.old) (K.faults sink.new)) }
-    ensures lasting { K.faults sink.old ≤ K.faults sink.new }
-    ensures quiet { OnOk result (K.faults sink.new ≡ K.faults sink.old) }
-{
-    match form {
-        Form::One => write(problem, number, analysis, sink),
-        Form::Two => write2(problem, number, analysis, sink),
-    }
 }
 
 /// Writes the last line behind so many analyses.

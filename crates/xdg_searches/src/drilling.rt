@@ -12,6 +12,7 @@ ghost use Rattle.xdg_searches.specs.Runs.{DrillEnds};
 
 use crate::counting::{Counts, count_judged};
 use crate::generator::{grammar_text, sentence_text};
+use crate::printing::status_of;
 use std::alloc::Global;
 use xdg_ast::Grammar;
 use xdg_base::OutOfMemory;
@@ -85,11 +86,7 @@ fn drill_problem<K: Sink>(
     if written.is_err() {
         return Status::WriteFault;
     }
-    match counts.ending {
-        Ending::Complete => Status::Done,
-        Ending::First => Status::Done,
-        Ending::Spent => Status::Spent,
-    }
+    status_of(counts.ending)
 }
 
 /// Makes the problem of the generated sentence and prints how many analyses it has, or the fault line of what is refused.

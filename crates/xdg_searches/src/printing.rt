@@ -6,27 +6,31 @@ ghost use Rattle.xdg_split.specs.Written.{IsSome};
 ghost use Rattle.xdg_searches.specs.Branched.{CanBranch};
 ghost use Rattle.xdg_io.specs.Rose.{Rose};
 ghost use Rattle.xdg_inputs.specs.Runs.{Leaves};
-ghost use Rattle.xdg_searches.specs.Outcomes.{Parsed, Searched, form_of};
+ghost use Rattle.xdg_searches.specs.Outcomes.{Parsed, Searched};
+ghost use Rattle.xdg_searches.specs.Outcomes as spec;
 ghost use Rattle.xdg_stream.specs.Streamed.{IsStart, start_vector};
 
 use crate::branched::search_branches;
 use std::alloc::Global;
 use std::thread::Threads;
-use xdg_command::{ParseOptions, TextForm};
+use xdg_command::ParseOptions;
 use xdg_engine::props;
 use xdg_facts::Ending;
 use xdg_inputs::Status;
 use xdg_io::Sink;
 use xdg_problem::{Analysis, Problem};
-use xdg_split::{Form, Printed, print_analyses};
+use xdg_split::{Printed, print_analyses};
+use xdg_text::Form;
 
-/// The form in which analyses are printed.
-pub(crate) fn form_of(text: TextForm) -> Form
-    ensures { result ≡ form_of text }
+/// The status of a search that ended so.
+pub(crate) fn status_of(ending: Ending) -> Status
+    ensures is { result ≡ spec.status_of ending }
+    ensures ends { (result ≡ Status.Done) ⊎ (result ≡ Status.Spent) }
 {
-    match text {
-        TextForm::One => Form::One,
-        TextForm::Two => Form::Two,
+    match ending {
+        Ending::Complete => Status::Done,
+        Ending::First => Status::Done,
+        Ending::Spent => Status::Spent,
     }
 }
 
@@ -37,19 +41,18 @@ pub(crate) fn search<K: Sink>(
     after: Option<&Analysis>,
     budget: u64,
     first: Option<u64>,
-    text: TextForm,
+    form: Form,
     out: &mut K,
 ) -> Status
     requires fits { IsStart problem.now (option_copied after) }
     requires some { IsSome first }
-    ensures leaves { Leaves (Searched (form_of text) budget first problem.now (start_vector problem.now (option_copied after.entry))) result (K.held out.old)
+    ensures leaves { Leaves (Searched form budget first problem.now (start_vector problem.now (option_copied after.entry))) result (K.held out.old)
         (K.held out.new) }
     ensures write_fault { result ≡ Status.WriteFault → Rose (K.faults out.old) (K.faults out.new) }
     ensures out_lasting { K.faults out.old ≤ K.faults out.new }
     ensures out_quiet { result ≢ Status.WriteFault → K.faults out.new ≡ K.faults out.old }
     ensures ends { (result ≡ Status.Done) ⊎ ((result ≡ Status.Spent) ⊎ ((result ≡ Status.WriteFault) ⊎ (result ≡ Status.OutOfMemory))) }
 {
-    let form = form_of(text);
     let Ok(propagators) = props(alloc, problem) else {
         return Status::OutOfMemory;
     };
@@ -63,9 +66,7 @@ pub(crate) fn search<K: Sink>(
         form,
         out,
     ) {
-        Printed::Ended(Ending::Complete) => Status::Done,
-        Printed::Ended(Ending::First) => Status::Done,
-        Printed::Ended(Ending::Spent) => Status::Spent,
+        Printed::Ended(ending) => status_of(ending),
         Printed::Failed => Status::WriteFault,
         Printed::OutOfMemory => Status::OutOfMemory,
     }
@@ -86,9 +87,9 @@ pub(crate) fn search_asked<R: Threads + Sync, K: Sink>(
     ensures out_quiet { result ≢ Status.WriteFault → K.faults out.new ≡ K.faults out.old }
     ensures ends { (result ≡ Status.Done) ⊎ ((result ≡ Status.Spent) ⊎ ((result ≡ Status.WriteFault) ⊎ (result ≡ Status.OutOfMemory))) }
 {
-    let (budget, first, text) = (options.budget, options.first, options.text);
+    let (budget, first, form) = (options.budget, options.first, options.text);
     if options.split {
-        return search_branches(rt, alloc, problem, budget, first, text, out);
+        return search_branches(rt, alloc, problem, budget, first, form, out);
     }
-    search(alloc, problem, None, budget, first, text, out)
+    search(alloc, problem, None, budget, first, form, out)
 }

@@ -16,9 +16,10 @@ use Rattle.xdg_problem.specs.Vectors.{shape, vector, analysis_of}
 use Rattle.xdg_problem.specs.Problems.{IsProblem}
 use Rattle.xdg_problem.proofs.SolutionLists.{analyses_back}
 use Rattle.xdg_rules.specs.Boxed.{Boxed}
-use Rattle.xdg_split.specs.declared.forms.Form.{Form}
+use Rattle.xdg_text.specs.declared.form.Form.{Form}
 use Rattle.xdg_facts.specs.Endings.{IsUpTo, IsAt, IsEnding}
-use Rattle.xdg_split.specs.Printed.{shown, blocks, last_line, Prints}
+use Rattle.xdg_text.specs.Blocks.{shown}
+use Rattle.xdg_split.specs.Printed.{blocks, last_line, Prints}
 use Rattle.xdg_split.specs.Written.{WritesWhole}
 use Rattle.xdg_split.proofs.Boxing.{boxed_listing}
 use Rattle.xdg_split.proofs.FoundSoFar.{blocks_found}

@@ -22,8 +22,9 @@ use Rattle.xdg_stream.specs.declared.search.Step.{Step}
 use Rattle.xdg_stream.specs.declared.search.Step.TheVariants as steps
 use Rattle.xdg_stream.specs.Streamed.{Streamed, Leaves, IsCharged, Advances}
 use Rattle.xdg_stream.proofs.Streaming.{end_found, spent_found}
-use Rattle.xdg_split.specs.declared.forms.Form.{Form}
-use Rattle.xdg_split.specs.Printed.{shown, blocks}
+use Rattle.xdg_text.specs.declared.form.Form.{Form}
+use Rattle.xdg_text.specs.Blocks.{shown}
+use Rattle.xdg_split.specs.Printed.{blocks}
 
 -- The blocks of the vectors that were found are printed, and the stream, which began right behind a start, goes on.
 pub record Found (form : Form) (wanted : Option ℕ) (parts : Parts) (start : List ℕ) (budget : ℕ) (s : Streamed) (count : ℕ) (old new : Option (List ℕ)) : Type 0 where

@@ -10,7 +10,7 @@ use Rattle.xdg_problem.specs.Vectors.{shape, vector}
 use Rattle.xdg_problem.specs.Problems.{IsProblem}
 use Rattle.xdg_problem.proofs.SolutionLists.{solutions_unique}
 use Rattle.xdg_rules.specs.Boxed.{Boxed}
-use Rattle.xdg_split.specs.declared.forms.Form.{Form}
+use Rattle.xdg_text.specs.declared.form.Form.{Form}
 use Rattle.xdg_split.specs.Printed.{blocks, last_line, IsOnePrint}
 use Rattle.xdg_split.proofs.Boxing.{boxed_listing}
 

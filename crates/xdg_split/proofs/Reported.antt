@@ -12,7 +12,7 @@ use Rattle.xdg_problem.proofs.SolutionLists.{analyses_back}
 use Rattle.xdg_problem.proofs.OneList.{some_solution_list}
 use Rattle.xdg_rules.specs.Boxed.{Boxed}
 use Rattle.xdg_rules.proofs.RuleLaws.{boxed_laws}
-use Rattle.xdg_split.specs.declared.forms.Form.{Form}
+use Rattle.xdg_text.specs.declared.form.Form.{Form}
 use Rattle.xdg_split.specs.Printed.{blocks, last_line, Prints}
 use Rattle.xdg_split.proofs.Boxing.{boxed_listing}
 

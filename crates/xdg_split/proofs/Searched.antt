@@ -3,7 +3,7 @@ use Rattle.std.proofs.Common.{◌≡◌, ℕ, List, [], ◌++◌, ◌∙◌, ap,
 use Rattle.std.specs.Prelude.{Option, None, Some}
 use Rattle.xdg_split.specs.Printed.{IsOnePrint, Prints}
 use Rattle.xdg_split.specs.Written.{WritesWhole}
-use Rattle.xdg_split.specs.declared.forms.Form.TheVariants as forms
+use Rattle.xdg_text.specs.declared.form.Form.TheVariants as forms
 use Rattle.xdg_facts.specs.declared.Ending.{Ending}
 use Rattle.xdg_problem.specs.declared.parts.Parts.{Parts}
 use Rattle.xdg_split.specs.Answers.{IsAnswer}

@@ -1,7 +1,7 @@
 -- What answers a job.
 use Rattle.std.specs.Prelude.{◌≡◌, ℕ, List, []}
 use Rattle.xdg_split.specs.Printed.{Prints}
-use Rattle.xdg_split.specs.declared.forms.Form.TheVariants as forms
+use Rattle.xdg_text.specs.declared.form.Form.TheVariants as forms
 use Rattle.xdg_facts.specs.declared.Ending.{Ending}
 use Rattle.xdg_split.specs.Asked.{Asked}
 use Rattle.xdg_split.specs.declared.answer.Answer.{Answer}

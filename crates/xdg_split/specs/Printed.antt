@@ -9,15 +9,9 @@ use Rattle.xdg_problem.specs.declared.parts.Parts.{Parts}
 use Rattle.xdg_problem.specs.Vectors.{shape, vector}
 use Rattle.xdg_problem.specs.Solutions.{IsSolutionList}
 use Rattle.xdg_rules.specs.Boxed.{Boxed}
-use Rattle.xdg_text.specs.Blocks.{block, block2}
+use Rattle.xdg_text.specs.Blocks.{shown}
 use Rattle.xdg_text.specs.Lines.{complete_line, first_line, spent_line}
-use Rattle.xdg_split.specs.declared.forms.Form.{Form}
-use Rattle.xdg_split.specs.declared.forms.Form.TheVariants as forms
-
--- an analysis with its number, in one of the two texts
-abbrev pub shown : Form → Parts → ℕ → Analysis → List ℕ
-shown forms.One parts number analysis = block parts number analysis
-shown forms.Two parts number analysis = block2 parts number analysis
+use Rattle.xdg_text.specs.declared.form.Form.{Form}
 
 -- analyses, numbered from a number on
 abbrev pub blocks : Form → Parts → ℕ → List Analysis → List ℕ

@@ -4,7 +4,7 @@ use Rattle.xdg_io.specs.Held.{Appends, AppendsFront}
 use Rattle.xdg_facts.specs.declared.Ending.{Ending}
 use Rattle.xdg_problem.specs.declared.parts.Parts.{Parts}
 use Rattle.xdg_split.specs.Printed.{Prints}
-use Rattle.xdg_split.specs.declared.forms.Form.{Form}
+use Rattle.xdg_text.specs.declared.form.Form.{Form}
 use Rattle.xdg_split.specs.declared.printing.Printed.{Printed}
 use Rattle.xdg_split.specs.declared.printing.Printed.TheVariants as printed
 

@@ -16,7 +16,7 @@ use xdg_stream::{Step, Stream};
 
 /// The analysis that a stream found last, in memory of its own.
 #[tactic(auto, using(crate::proofs::FoundSoFar::analysis_is))]
-fn last_analysis<P: Propagator>(
+pub fn last_analysis<P: Propagator>(
     alloc: Global,
     stream: &Stream<'_, P>,
 ) -> Result<Analysis, AllocError>

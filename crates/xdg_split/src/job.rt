@@ -9,9 +9,7 @@ ghost use Rattle.xdg_split.specs.Splits.{IsSplit};
 
 use crate::answer::Answer;
 use crate::finding::find;
-use crate::forms::Form;
 use crate::found::Found;
-use crate::kept::Kept;
 use crate::printing::{Printed, print_analyses};
 use std::alloc::Global;
 use std::marker::Model;
@@ -19,6 +17,7 @@ use xdg_base::{List, OutOfMemory};
 use xdg_problem::Problem;
 use xdg_propcore::Propagator;
 use xdg_stream::Stream;
+use xdg_text::{Form, Kept};
 
 /// A sentence that is to be searched from the beginning, with a budget of its own. Contracts see what is asked for. The propagators
 /// are no part of that: by whichever a sentence is searched, its answer is the same.

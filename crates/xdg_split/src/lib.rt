@@ -5,19 +5,16 @@
 mod answer;
 mod answering;
 mod finding;
-mod forms;
 mod found;
 mod job;
-mod kept;
 mod printing;
 mod slots;
 mod splitting;
 
 pub use answer::Answer;
 pub use answering::answers;
-pub use forms::Form;
+pub use finding::last_analysis;
 pub use found::Found;
 pub use job::Job;
-pub use kept::Kept;
 pub use printing::{Printed, print_analyses};
 pub use splitting::{SplitAnswer, split, split_laws};

@@ -9,14 +9,13 @@ ghost use Rattle.xdg_problem.specs.Problems.{IsProblem};
 ghost use Rattle.xdg_propcore.specs.Uses.{AllStandIn};
 ghost use Rattle.xdg_stream.specs.Streamed.{IsCharged, IsStart, start_vector};
 
-use crate::forms::{Form, write_shown};
 use std::alloc::Global;
 use xdg_facts::Ending;
 use xdg_io::Sink;
 use xdg_problem::{Analysis, Problem};
 use xdg_propcore::Propagator;
 use xdg_stream::{Step, Stream};
-use xdg_text::{write_complete, write_first, write_spent};
+use xdg_text::{Form, write_complete, write_first, write_parts, write_spent};
 
 /// What printing the analyses of a sentence came to.
 #[derive(Clone, Copy, Debug)]
@@ -82,7 +81,7 @@ fn print_found<P: Propagator, K: Sink>(
         match stream.advance() {
             Step::Found => {
                 count += 1;
-                let written = write_shown(
+                let written = write_parts(
                     form,
                     problem,
                     count,

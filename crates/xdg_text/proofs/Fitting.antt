@@ -1,5 +1,5 @@
 -- What an analysis of a problem gives to the writers of its lines.
-use Rattle.std.proofs.Common.{◌≡◌, ◌≤◌, ◌+◌, ◌*◌, ◌++◌, ℕ, zero, suc, List, [], ◌∷◌, length, drop, map, sym, ap, ◌∙◌, subst, arith, append_assoc, zero-mul}
+use Rattle.std.proofs.Common.{◌≡◌, ◌≤◌, ◌+◌, ◌*◌, ◌++◌, ℕ, zero, suc, List, [], ◌∷◌, length, drop, map, refl, sym, ap, ◌∙◌, subst, arith, append_assoc, zero-mul}
 use Rattle.std.proofs.lemmas.List.{drop-drop}
 use Rattle.std.specs.List.{flat_map}
 use Rattle.xdg_facts.specs.Fits.{Fits}
@@ -7,10 +7,15 @@ use Rattle.xdg_problem.specs.declared.analysis.Analysis.{Analysis}
 use Rattle.xdg_problem.specs.declared.parts.AttrPlan.{AttrPlan}
 use Rattle.xdg_problem.specs.declared.parts.DimPlan.{DimPlan}
 use Rattle.xdg_problem.specs.declared.parts.Parts.{Parts}
+use Rattle.xdg_problem.specs.declared.parts.SentenceWord.{SentenceWord}
 use Rattle.xdg_problem.specs.Analyses.{IsAnalysis}
 use Rattle.xdg_problem.specs.Places.{numbers_from}
 use Rattle.xdg_problem.specs.Problems.{IsProblem}
 use Rattle.xdg_problem.specs.Vectors.{attr_sizes}
+use Rattle.xdg_text.specs.Blocks.{body_lines, head_lines, shown}
+use Rattle.xdg_text.specs.Lines.{analysis_line, counts_line, version_line}
+use Rattle.xdg_text.specs.declared.form.Form.{Form}
+use Rattle.xdg_text.specs.declared.form.Form.TheVariants as forms
 use Rattle.xdg_text.specs.Ranges.{HasValues, NodesHaveValues, DimsHaveValues}
 use Rattle.xdg_problem.proofs.EntryPlaces.{length_entries}
 
@@ -52,3 +57,19 @@ entries_each parts analysis problem fits = length_entries parts.candidates analy
 -- each attribute of each node has one of its values
 pub values_there : (parts : Parts) (analysis : Analysis) → IsAnalysis parts analysis → DimsHaveValues (length parts.words) parts.dims analysis.attrs
 values_there parts analysis fits = fits_dims (length parts.words) parts.dims analysis.attrs fits.attrs (omega (arith, fits.attr_count))
+
+-- the lines before those of the words, and the others behind them
+lines_of : (form : Form) (parts : Parts) (number : ℕ) (a : Analysis) → head_lines form number (length parts.words) (length a.attrs) (length a.edges) ++ body_lines parts.words parts.dims a.entries a.attrs a.edges ≡ shown form parts number a
+lines_of forms.One parts number a = refl
+lines_of forms.Two parts number a =
+    let counts : List ℕ = counts_line (length parts.words) (length a.attrs) (length a.edges) in
+    let body : List ℕ = body_lines parts.words parts.dims a.entries a.attrs a.edges in
+    append_assoc version_line (analysis_line number ++ counts) body ∙ ap (λ z. version_line ++ z) (append_assoc (analysis_line number) counts body)
+
+-- the same of the words and the dimensions that a problem lends
+pub lines_are : (form : Form) (parts held : Parts) (number : ℕ) (a : Analysis) (words : List SentenceWord) (dims : List DimPlan) → words ≡ held.words → dims ≡ held.dims → held ≡ parts
+    → head_lines form number (length words) (length a.attrs) (length a.edges) ++ body_lines words dims a.entries a.attrs a.edges ≡ shown form parts number a
+lines_are form parts held number a words dims w d same =
+    ap (λ ws. head_lines form number (length ws) (length a.attrs) (length a.edges) ++ body_lines ws dims a.entries a.attrs a.edges) (w ∙ ap (λ p. p.words) same)
+    ∙ ap (λ plans. head_lines form number (length parts.words) (length a.attrs) (length a.edges) ++ body_lines parts.words plans a.entries a.attrs a.edges) (d ∙ ap (λ p. p.dims) same)
+    ∙ lines_of form parts number a

@@ -9,9 +9,11 @@ use Rattle.xdg_problem.specs.declared.parts.DimPlan.{DimPlan}
 use Rattle.xdg_problem.specs.declared.parts.Parts.{Parts}
 use Rattle.xdg_problem.specs.declared.parts.SentenceWord.{SentenceWord}
 use Rattle.xdg_problem.specs.declared.parts.Shown.{Shown}
-use Rattle.xdg_problem.specs.declared.parts.Shown.TheVariants as shown
+use Rattle.xdg_problem.specs.declared.parts.Shown.TheVariants as kinds
 use Rattle.xdg_text.specs.Lines.{analysis_line, version_line, counts_line, word_line, attr_line, edge_line, end_line}
 use Rattle.xdg_text.specs.Values.{value_text}
+use Rattle.xdg_text.specs.declared.form.Form.{Form}
+use Rattle.xdg_text.specs.declared.form.Form.TheVariants as forms
 
 -- the lines of the nodes from the one numbered node on
 abbrev pub word_lines : ℕ → List SentenceWord → List EntryNo → List ℕ
@@ -20,7 +22,7 @@ word_lines node (word ∷ words) [] = []
 word_lines node (word ∷ words) (entry ∷ entries) = word_line node word.text entry.0 ++ word_lines (suc node) words entries
 
 abbrev pub no_value : Shown
-no_value = shown.Many []
+no_value = kinds.Many []
 
 -- the text of the value with this number
 abbrev pub value_at : AttrPlan → ℕ → List ℕ
@@ -72,3 +74,13 @@ block2_lines words plans number entries attrs edges =
 -- the text 2 of an analysis, with a number
 abbrev pub block2 : Parts → ℕ → Analysis → List ℕ
 block2 parts number analysis = block2_lines parts.words parts.dims number analysis.entries analysis.attrs analysis.edges
+
+-- the lines before those of the words
+abbrev pub head_lines : Form → ℕ → ℕ → ℕ → ℕ → List ℕ
+head_lines forms.One number words attrs edges = analysis_line number
+head_lines forms.Two number words attrs edges = version_line ++ (analysis_line number ++ counts_line words attrs edges)
+
+-- an analysis with its number, in one of its two texts
+abbrev pub shown : Form → Parts → ℕ → Analysis → List ℕ
+shown forms.One parts number analysis = block parts number analysis
+shown forms.Two parts number analysis = block2 parts number analysis

@@ -4,11 +4,12 @@ ghost use Rattle.std.specs.Prelude.{◌≡◌, ◌<◌, ◌≤◌, ℕ, List, Op
 ghost use Rattle.xdg_io.specs.Held.{Appends, AppendsFront};
 ghost use Rattle.xdg_io.specs.Rose.{Rose};
 ghost use Rattle.xdg_problem.specs.Analyses.{IsAnalysis};
-ghost use Rattle.xdg_text.specs.Blocks.{word_lines, value_at, node_lines, dim_lines, attr_lines, line_of_edge, edge_lines, body_lines, block_lines, block};
-ghost use Rattle.xdg_text.specs.Blocks.{block2_lines, block2};
-ghost use Rattle.xdg_text.specs.Lines.{analysis_line, version_line, counts_line, word_line, attr_line, end_line};
+ghost use Rattle.xdg_text.specs.Blocks.{word_lines, value_at, node_lines, dim_lines, attr_lines, line_of_edge, edge_lines, body_lines};
+ghost use Rattle.xdg_text.specs.Blocks.{head_lines, block, block2, shown};
+ghost use Rattle.xdg_text.specs.Lines.{counts_line, word_line, attr_line, end_line};
 ghost use Rattle.xdg_text.specs.Ranges.{HasValues, NodesHaveValues, DimsHaveValues, HasNames};
 
+use crate::form::Form;
 use crate::lines::{Word, write_inner_line, write_line};
 use xdg_base::{EntryNo, Text};
 use xdg_io::{Failed, Sink};
@@ -220,32 +221,6 @@ fn write_body<K: Sink>(
     write_line("end", &[], sink)
 }
 
-/// Writes the lines of text 1.
-#[tactic(auto, using(xdg_io::proofs::Written::appends_both, crate::proofs::Pieces::rose_later))]
-fn write_block<K: Sink>(
-    words: &[SentenceWord],
-    dims: &[DimPlan],
-    number: u64,
-    entries: &[EntryNo],
-    attrs: &[u16],
-    edges: &[Edge],
-    sink: &mut K,
-) -> Result<(), Failed>
-    requires most { length words.now ≤ 128 }
-    requires few { All (λ plan. length plan.attrs ≤ 8) dims.now }
-    requires entries { length entries.now ≡ length words.now }
-    requires attrs { DimsHaveValues (length words.now) dims.now attrs.now }
-    requires edges { All (HasNames dims.now) edges.now }
-    ensures all { OnOk result (Appends (K.held sink.old) (K.held sink.new) (block_lines words.now dims.now number entries.now attrs.now edges.now)) }
-    ensures front { OnErr result (AppendsFront (K.held sink.old) (K.held sink.new) (block_lines words.now dims.now number entries.now attrs.now edges.now)) }
-    ensures cause { OnErr result (Rose (K.faults sink.old) (K.faults sink.new)) }
-    ensures lasting { K.faults sink.old ≤ K.faults sink.new }
-    ensures quiet { OnOk result (K.faults sink.new ≡ K.faults sink.old) }
-{
-    write_inner_line("analysis", &[Word::Number(number)], sink)?;
-    write_body(words, dims, entries, attrs, edges, sink)
-}
-
 /// Writes the line that tells how many lines of words, of attributes and of edges follow.
 fn write_counts<K: Sink>(
     words: usize,
@@ -267,37 +242,37 @@ fn write_counts<K: Sink>(
     write_inner_line("counts", &counts, sink)
 }
 
-/// Writes the lines of text 2.
+/// Writes the lines before those of the words.
 #[tactic(auto, using(xdg_io::proofs::Written::appends_both, crate::proofs::Pieces::rose_later))]
-fn write_block2<K: Sink>(
-    words: &[SentenceWord],
-    dims: &[DimPlan],
+fn write_head<K: Sink>(
+    form: Form,
     number: u64,
-    entries: &[EntryNo],
-    attrs: &[u16],
-    edges: &[Edge],
+    words: usize,
+    attrs: usize,
+    edges: usize,
     sink: &mut K,
 ) -> Result<(), Failed>
-    requires most { length words.now ≤ 128 }
-    requires few { All (λ plan. length plan.attrs ≤ 8) dims.now }
-    requires entries { length entries.now ≡ length words.now }
-    requires attrs { DimsHaveValues (length words.now) dims.now attrs.now }
-    requires edges { All (HasNames dims.now) edges.now }
-    ensures all { OnOk result (Appends (K.held sink.old) (K.held sink.new) (block2_lines words.now dims.now number entries.now attrs.now edges.now)) }
-    ensures front { OnErr result (AppendsFront (K.held sink.old) (K.held sink.new) (block2_lines words.now dims.now number entries.now attrs.now edges.now)) }
+    ensures all { OnOk result (Appends (K.held sink.old) (K.held sink.new) (head_lines form number words attrs edges)) }
+    ensures front { OnErr result (AppendsFront (K.held sink.old) (K.held sink.new) (head_lines form number words attrs edges)) }
     ensures cause { OnErr result (Rose (K.faults sink.old) (K.faults sink.new)) }
     ensures lasting { K.faults sink.old ≤ K.faults sink.new }
     ensures quiet { OnOk result (K.faults sink.new ≡ K.faults sink.old) }
 {
-    write_inner_line("xdg", &[Word::Number(2)], sink)?;
     let numbers = [Word::Number(number)];
-    write_inner_line("analysis", &numbers, sink)?;
-    write_counts(words.len(), attrs.len(), edges.len(), sink)?;
-    write_body(words, dims, entries, attrs, edges, sink)
+    match form {
+        Form::One => write_inner_line("analysis", &numbers, sink),
+        Form::Two => {
+            write_inner_line("xdg", &[Word::Number(2)], sink)?;
+            write_inner_line("analysis", &numbers, sink)?;
+            write_counts(words, attrs, edges, sink)
+        }
+    }
 }
 
-/// Writes the block of the analysis that has these entries, attributes and edges. It takes no memory.
+/// Writes the analysis that has these entries, attributes and edges, with its number. It takes no memory.
+#[tactic(auto, using(crate::proofs::Pieces::rose_later))]
 pub fn write_parts<K: Sink>(
+    form: Form,
     problem: &Problem,
     number: u64,
     entries: &[EntryNo],
@@ -307,21 +282,43 @@ pub fn write_parts<K: Sink>(
 ) -> Result<(), Failed>
     requires { IsAnalysis problem.now (record { entries = entries.now; attrs = attrs.now; edges = edges.now }) }
     ensures all { OnOk result
-        (Appends (K.held sink.old) (K.held sink.new) (block problem.now number (record { entries = entries.now; attrs = attrs.now; edges = edges.now }))) }
+        (Appends (K.held sink.old) (K.held sink.new) (shown form problem.now number (record { entries = entries.now; attrs = attrs.now; edges = edges.now }))) }
     ensures front { OnErr result
-        (AppendsFront (K.held sink.old) (K.held sink.new) (block problem.now number (record { entries = entries.now; attrs = attrs.now; edges = edges.now }))) }
+        (AppendsFront (K.held sink.old) (K.held sink.new)
+        (shown form problem.now number (record { entries = entries.now; attrs = attrs.now; edges = edges.now }))) }
     ensures cause { OnErr result (Rose (K.faults sink.old) (K.faults sink.new)) }
     ensures lasting { K.faults sink.old ≤ K.faults sink.new }
     ensures quiet { OnOk result (K.faults sink.new ≡ K.faults sink.old) }
 {
     let parts = problem.parts();
-    write_block(
-        parts.words.as_slice(),
-        parts.dims.as_slice(),
+    let words = parts.words.as_slice();
+    let dims = parts.dims.as_slice();
+    write_head(form, number, words.len(), attrs.len(), edges.len(), sink)?;
+    write_body(words, dims, entries, attrs, edges, sink)
+}
+
+/// Writes an analysis with its number, which counts from 1. It takes no memory.
+pub fn write_analysis<K: Sink>(
+    form: Form,
+    problem: &Problem,
+    number: u64,
+    analysis: &Analysis,
+    sink: &mut K,
+) -> Result<(), Failed>
+    requires { IsAnalysis problem.now analysis.now }
+    ensures all { OnOk result (Appends (K.held sink.old) (K.held sink.new) (shown form problem.now number analysis.now)) }
+    ensures front { OnErr result (AppendsFront (K.held sink.old) (K.held sink.new) (shown form problem.now number analysis.now)) }
+    ensures cause { OnErr result (Rose (K.faults sink.old) (K.faults sink.new)) }
+    ensures lasting { K.faults sink.old ≤ K.faults sink.new }
+    ensures quiet { OnOk result (K.faults sink.new ≡ K.faults sink.old) }
+{
+    write_parts(
+        form,
+        problem,
         number,
-        entries,
-        attrs,
-        edges,
+        analysis.entries.as_slice(),
+        analysis.attrs.as_slice(),
+        analysis.edges.as_slice(),
         sink,
     )
 }
@@ -340,45 +337,7 @@ pub fn write<K: Sink>(
     ensures lasting { K.faults sink.old ≤ K.faults sink.new }
     ensures quiet { OnOk result (K.faults sink.new ≡ K.faults sink.old) }
 {
-    write_parts(
-        problem,
-        number,
-        analysis.entries.as_slice(),
-        analysis.attrs.as_slice(),
-        analysis.edges.as_slice(),
-        sink,
-    )
-}
-
-/// Writes the text 2 of the analysis that has these entries, attributes and edges. It takes no memory.
-pub fn write_parts2<K: Sink>(
-    problem: &Problem,
-    number: u64,
-    entries: &[EntryNo],
-    attrs: &[u16],
-    edges: &[Edge],
-    sink: &mut K,
-) -> Result<(), Failed>
-    requires { IsAnalysis problem.now (record { entries = entries.now; attrs = attrs.now; edges = edges.now }) }
-    ensures all { OnOk result
-        (Appends (K.held sink.old) (K.held sink.new) (block2 problem.now number (record { entries = entries.now; attrs = attrs.now; edges = edges.now }))) }
-    ensures front { OnErr result
-        (AppendsFront (K.held sink.old) (K.held sink.new)
-        (block2 problem.now number (record { entries = entries.now; attrs = attrs.now; edges = edges.now }))) }
-    ensures cause { OnErr result (Rose (K.faults sink.old) (K.faults sink.new)) }
-    ensures lasting { K.faults sink.old ≤ K.faults sink.new }
-    ensures quiet { OnOk result (K.faults sink.new ≡ K.faults sink.old) }
-{
-    let parts = problem.parts();
-    write_block2(
-        parts.words.as_slice(),
-        parts.dims.as_slice(),
-        number,
-        entries,
-        attrs,
-        edges,
-        sink,
-    )
+    write_analysis(Form::One, problem, number, analysis, sink)
 }
 
 /// Writes the text 2 of an analysis, whose number counts from 1: a block that tells the number of the format first, and
@@ -396,12 +355,5 @@ pub fn write2<K: Sink>(
     ensures lasting { K.faults sink.old ≤ K.faults sink.new }
     ensures quiet { OnOk result (K.faults sink.new ≡ K.faults sink.old) }
 {
-    write_parts2(
-        problem,
-        number,
-        analysis.entries.as_slice(),
-        analysis.attrs.as_slice(),
-        analysis.edges.as_slice(),
-        sink,
-    )
+    write_analysis(Form::Two, problem, number, analysis, sink)
 }

@@ -3,7 +3,7 @@ use Rattle.std.specs.String.{string_bytes}
 use Rattle.xdg_command.specs.Answers.{IsExactly}
 use Rattle.xdg_command.specs.Commands.{HasBudget, HasFirst, HasText}
 use Rattle.xdg_command.specs.declared.commands.ParseOptions.{ParseOptions}
-use Rattle.xdg_command.specs.declared.commands.TextForm.{TextForm}
+use Rattle.xdg_text.specs.declared.form.Form.{Form}
 use Rattle.xdg_command.specs.Found.{Matches}
 use Rattle.xdg_command.specs.Syntax.{parsed}
 use Rattle.xdg_command.proofs.Commanded.{bad_budget, bad_first, bad_text, parse_found, parse_missing, parse_none, parsed_right, segment_found, split_found}
@@ -37,7 +37,7 @@ pub returns-in_default-text_form : goal.returns-in_default-text_form
 returns-in_default-text_form c =
     let words = map string_bytes c.args.words.now in
     let matched : Matches parsed words (Some c.in-Some.found) = subst (Matches parsed words) c.in-Some.is (c.in_ok-found.ensures parsed parsed_right c.in_ok-parse.ensures) in
-    bad_text words c.in-Some.found matched (subst (λ o. (form : TextForm) → HasText o form → ⊥) c.get_str-4.ensures c.in_default-text_form.ensures)
+    bad_text words c.in-Some.found matched (subst (λ o. (form : Form) → HasText o form → ⊥) c.get_str-4.ensures c.in_default-text_form.ensures)
 
 pub returns : goal.returns
 returns c =

@@ -3,7 +3,7 @@ use Rattle.std.specs.String.{string_bytes}
 use Rattle.xdg_command.specs.Answers.{IsExactly}
 use Rattle.xdg_command.specs.Commands.{HasBudget, HasFirst, HasText}
 use Rattle.xdg_command.specs.declared.commands.ResumeOptions.{ResumeOptions}
-use Rattle.xdg_command.specs.declared.commands.TextForm.{TextForm}
+use Rattle.xdg_text.specs.declared.form.Form.{Form}
 use Rattle.xdg_command.specs.Found.{Matches}
 use Rattle.xdg_command.specs.Syntax.{resumed}
 use Rattle.xdg_command.proofs.Commanded.{no_budget, no_first, no_text, resume_found, resume_missing, resume_none, resumed_right, start_missing}
@@ -43,7 +43,7 @@ pub returns-in_default-text_form : goal.returns-in_default-text_form
 returns-in_default-text_form c =
     let words = map string_bytes c.args.words.now in
     let matched : Matches resumed words (Some c.in-Some.found) = subst (Matches resumed words) c.in-Some.is (c.in_ok-found.ensures resumed resumed_right c.in_ok-resume.ensures) in
-    no_text words c.in-Some.found matched (subst (λ o. (form : TextForm) → HasText o form → ⊥) c.get_str-5.ensures c.in_default-text_form.ensures)
+    no_text words c.in-Some.found matched (subst (λ o. (form : Form) → HasText o form → ⊥) c.get_str-5.ensures c.in_default-text_form.ensures)
 
 pub returns : goal.returns
 returns c =

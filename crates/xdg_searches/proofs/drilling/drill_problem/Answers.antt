@@ -1,8 +1,8 @@
 use Rattle.std.proofs.Common.{◌∙◌, ap, length, sym}
 use Rattle.xdg_split.proofs.Ending.{done_of, failed_of}
 use Rattle.xdg_inputs.specs.Answers.{meaning_of}
-use Rattle.xdg_facts.specs.declared.Ending.TheVariants as endings
 use Rattle.xdg_searches.proofs.Drilled.{drilled_ends, drilled_front}
+use Rattle.xdg_searches.proofs.SearchLeaves.{ends_so, no_fault}
 use Rattle.xdg_searches.proofs.drilling.drill_problem.Goals as goal
 
 pub returns-then-is_err-clause-leaves : goal.returns-then-is_err-clause-leaves
@@ -11,23 +11,17 @@ returns-then-is_err-clause-leaves g c =
     (c.len-words.ensures ∙ ap (λ p. length p.words) c.parts.ensures.same) c.len.ensures c.in-Ok-count_judged.ensures.counts c.count_judged.ensures.one _ _
     (failed_of c.write_counts-written.result _ (sym c.is_err.ensures.value ∙ c.if-is_err.true) c.write_counts-written.ensures.front)
 
-pub returns-in-Complete-clause-leaves : goal.returns-in-Complete-clause-leaves
-returns-in-Complete-clause-leaves g c =
-    drilled_ends c.args.number (meaning_of c.args.expanded.now) c.args.problem.now c.len-words.result c.len.result c.in-Ok-count_judged.counts
-    (c.len-words.ensures ∙ ap (λ p. length p.words) c.parts.ensures.same) c.len.ensures c.in-Ok-count_judged.ensures.counts c.count_judged.ensures.one endings.Complete _ _ c.in-Complete.is
-    (done_of c.write_counts-written.result _ (sym c.is_err.ensures.value ∙ c.if-is_err.false) c.write_counts-written.ensures.all)
-
-pub returns-in-First-clause-leaves : goal.returns-in-First-clause-leaves
-returns-in-First-clause-leaves g c =
-    drilled_ends c.args.number (meaning_of c.args.expanded.now) c.args.problem.now c.len-words.result c.len.result c.in-Ok-count_judged.counts
-    (c.len-words.ensures ∙ ap (λ p. length p.words) c.parts.ensures.same) c.len.ensures c.in-Ok-count_judged.ensures.counts c.count_judged.ensures.one endings.First _ _ c.in-First.is
-    (done_of c.write_counts-written.result _ (sym c.is_err.ensures.value ∙ c.if-is_err.false) c.write_counts-written.ensures.all)
-
 pub returns-clause-leaves : goal.returns-clause-leaves
 returns-clause-leaves g c =
     drilled_ends c.args.number (meaning_of c.args.expanded.now) c.args.problem.now c.len-words.result c.len.result c.in-Ok-count_judged.counts
-    (c.len-words.ensures ∙ ap (λ p. length p.words) c.parts.ensures.same) c.len.ensures c.in-Ok-count_judged.ensures.counts c.count_judged.ensures.one endings.Spent _ _ c.in-Spent.is
+    (c.len-words.ensures ∙ ap (λ p. length p.words) c.parts.ensures.same) c.len.ensures c.in-Ok-count_judged.ensures.counts c.count_judged.ensures.one c.status_of.result _ _ c.status_of.ensures.is
     (done_of c.write_counts-written.result _ (sym c.is_err.ensures.value ∙ c.if-is_err.false) c.write_counts-written.ensures.all)
+
+pub returns-clause-write_fault : goal.returns-clause-write_fault
+returns-clause-write_fault g c = no_fault c.status_of.result _ _ c.status_of.ensures.ends
+
+pub returns-clause-ends : goal.returns-clause-ends
+returns-clause-ends g c = ends_so c.status_of.result c.status_of.ensures.ends
 
 pub returns-clause-out_quiet : goal.returns-clause-out_quiet
 returns-clause-out_quiet g c differs = done_of c.write_counts-written.result _ (sym c.is_err.ensures.value ∙ c.if-is_err.false) c.write_counts-written.ensures.quiet
