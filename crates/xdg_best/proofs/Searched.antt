@@ -14,9 +14,7 @@ use Rattle.xdg_facts.specs.Order.{Less}
 use Rattle.xdg_facts.specs.Whole.{is_whole}
 use Rattle.xdg_facts.proofs.Joined.{so_far_end, so_far_split}
 use Rattle.xdg_facts.proofs.Ordered.{less_irreflexive}
-use Rattle.xdg_base.specs.declared.ids.EntryNo.{EntryNo}
 use Rattle.xdg_problem.specs.declared.analysis.Analysis.{Analysis}
-use Rattle.xdg_problem.specs.declared.analysis.Edge.{Edge}
 use Rattle.xdg_problem.specs.declared.parts.Parts.{Parts}
 use Rattle.xdg_problem.specs.Analyses.{IsAnalysis}
 use Rattle.xdg_problem.specs.Problems.{IsProblem}
@@ -88,12 +86,6 @@ module _ (shape : List ℕ) (P : List ℕ → Type 0) (start : List ℕ) (counte
       something : (xs : List (List ℕ)) (x : List ℕ) → Member xs x → 0 < length xs
       something [] x m = absurd m
       something (y ∷ xs) x m = omega arith
-
--- ---- an analysis in memory of its own
-
-pub analysis_is : (parts : Parts) (x : List ℕ) (entries : List EntryNo) (attrs : List ℕ) (edges : List Edge) → entries ≡ (analysis_of parts x).entries → attrs ≡ (analysis_of parts x).attrs → edges ≡ (analysis_of parts x).edges
-    → record { entries = entries; attrs = attrs; edges = edges } ≡ analysis_of parts x
-analysis_is parts x entries attrs edges p q r = (λ i. let made : Analysis = record { entries = p i; attrs = q i; edges = r i } in made)
 
 -- ---- a call
 

@@ -7,14 +7,14 @@ ghost use Rattle.xdg_base.specs.declared.faults.OutOfMemory.{OutOfMemory};
 ghost use Rattle.xdg_best.specs.Searches.{IsRound};
 ghost use Rattle.xdg_problem.specs.declared.parts.Parts.{Parts};
 ghost use Rattle.xdg_problem.specs.Problems.{IsProblem};
-ghost use Rattle.xdg_problem.specs.Vectors.{analysis_of};
 ghost use Rattle.xdg_propcore.specs.Uses.{AllStandIn};
 ghost use Rattle.xdg_stream.specs.Streamed.{IsCharged, IsStart, start_vector};
 
-use std::alloc::{AllocError, Global};
+use std::alloc::Global;
 use xdg_base::{List, OutOfMemory};
 use xdg_problem::{Analysis, Problem};
 use xdg_propcore::Propagator;
+use xdg_split::last_analysis;
 use xdg_stream::{Step, Stream};
 
 /// What the search of one round came to.
@@ -26,23 +26,6 @@ pub(crate) enum Round {
     End,
     /// The budget was spent before one.
     Spent,
-}
-
-/// The analysis that a stream found last, in memory of its own.
-fn last_analysis<P: Propagator>(
-    alloc: Global,
-    stream: &Stream<'_, P>,
-) -> Result<Analysis, AllocError>
-    ensures { IfOk result (λ made. made ≡ analysis_of stream.now.parts stream.now.last) }
-{
-    let entries = List::from_slice(alloc, stream.entries())?;
-    let attrs = List::from_slice(alloc, stream.attrs())?;
-    let edges = List::from_slice(alloc, stream.edges())?;
-    Ok(Analysis {
-        entries,
-        attrs,
-        edges,
-    })
 }
 
 /// The first solution of a stream that has just started.
