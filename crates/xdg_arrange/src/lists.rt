@@ -8,8 +8,6 @@ ghost use Rattle.xdg_inputs.specs.Answers.{meaning_of};
 ghost use Rattle.xdg_inputs.specs.Packed.{IsPackedOf};
 ghost use Rattle.xdg_build.specs.Grammars.{grammar_of};
 ghost use Rattle.xdg_io.specs.Rose.{Rose};
-ghost use Rattle.xdg_inputs.specs.Places.{place_in};
-ghost use Rattle.xdg_build.specs.Refusals.{fault};
 ghost use Rattle.xdg_inputs.specs.Refusals.{Stops};
 ghost use Rattle.xdg_inputs.specs.Stages.{Accepts};
 ghost use Rattle.xdg_linear.specs.Segments.{words_in};
@@ -17,7 +15,7 @@ ghost use Rattle.xdg_linear.specs.Segments.{words_in};
 use std::alloc::Global;
 use std::str;
 use xdg_base::{Cause, Fault, List, Stop};
-use xdg_inputs::{Expanded, Refusal, refused_in, stopped_in, too_long};
+use xdg_inputs::{Expanded, Refusal, no_text, stopped_in, too_long};
 use xdg_io::{ReadStop, Source, read_all};
 use xdg_linear::words_of;
 use xdg_packed::Packed;
@@ -86,20 +84,6 @@ fn words_within(
         Some(fault) => Err(Stop::Fault(fault)),
         None => Ok(words),
     }
-}
-
-/// The refusal of an input that is not UTF-8 from a place on.
-fn no_text(input: &[u8], at: usize) -> Refusal
-    requires within { at ≤ length input.now }
-    requires small { length input.now ≤ 65536 }
-    ensures { let refused = fault Cause.BadUtf8 at 0 in result ≡ Refusal.Text refused (place_in input.now refused) }
-{
-    let fault = Fault {
-        cause: Cause::BadUtf8,
-        at: at as u32,
-        reached: 0,
-    };
-    refused_in(input, fault)
 }
 
 /// The words of an input.

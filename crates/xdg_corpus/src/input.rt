@@ -4,33 +4,16 @@ ghost use Rattle.std.specs.Prelude.{◌≡◌, ◌≢◌, ◌≤◌, ℕ, List, 
 ghost use Rattle.xdg_corpus.specs.Inputs.{HasText, IsBadCorpus};
 ghost use Rattle.xdg_io.specs.Left.{TakesAll};
 ghost use Rattle.xdg_io.specs.Rose.{Rose};
-ghost use Rattle.xdg_inputs.specs.Places.{place_in};
-ghost use Rattle.xdg_build.specs.Refusals.{fault};
 ghost use Rattle.xdg_inputs.specs.Refusals.{Stops};
 ghost use Rattle.xdg_inputs.specs.Stages.{Accepts};
 
 use std::alloc::Global;
 use std::str;
-use xdg_base::{Cause, Fault};
-use xdg_inputs::{Refusal, refused_in, too_long};
+use xdg_inputs::{Refusal, no_text, too_long};
 use xdg_io::{ReadStop, Source, read_all};
 
 /// How many bytes the input of a corpus may have.
 const CORPUS_LIMIT: u64 = 4_194_304;
-
-/// The refusal of an input that is not UTF-8 from a place on.
-fn no_text(input: &[u8], at: usize) -> Refusal
-    requires within { at ≤ length input.now }
-    requires small { length input.now ≤ 4194304 }
-    ensures { let refused = fault Cause.BadUtf8 at 0 in result ≡ Refusal.Text refused (place_in input.now refused) }
-{
-    let fault = Fault {
-        cause: Cause::BadUtf8,
-        at: at as u32,
-        reached: 0,
-    };
-    refused_in(input, fault)
-}
 
 /// The text of bytes, or their refusal where they are not UTF-8.
 pub(crate) fn text_of(input: &[u8]) -> Result<&str, Refusal>

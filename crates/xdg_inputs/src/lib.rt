@@ -21,7 +21,7 @@ pub use expanding::{Expanded, expand_tree};
 pub use loading::{Loaded, load_tree};
 pub use packing::pack_entries;
 pub use reading::read_tree;
-pub use refusals::{Refusal, refuse, refused_in, stopped_in, too_long};
+pub use refusals::{Refusal, no_text, refuse, refused_in, stopped_in, too_long};
 pub use rules_files::load_rules;
 pub use sentence::{problem_in, read_problem};
 pub use status::Status;

@@ -42,6 +42,20 @@ pub fn refused_in(text: &[u8], fault: Fault) -> Refusal
     Refusal::Text(fault, place_within(text, fault.at))
 }
 
+/// The refusal of an input that is not UTF-8 from a place on.
+pub fn no_text(input: &[u8], at: usize) -> Refusal
+    requires within { at ≤ length input.now }
+    requires small { length input.now < 2 ^ 32 }
+    ensures { let refused = fault Cause.BadUtf8 at 0 in result ≡ Refusal.Text refused (place_in input.now refused) }
+{
+    let fault = Fault {
+        cause: Cause::BadUtf8,
+        at: at as u32,
+        reached: 0,
+    };
+    refused_in(input, fault)
+}
+
 /// The refusal of a text for what stopped a call.
 pub fn stopped_in(text: &[u8], stop: Stop) -> Refusal
     requires { length text.now < 2 ^ 32 }

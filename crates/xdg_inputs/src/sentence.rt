@@ -8,38 +8,21 @@ ghost use Rattle.xdg_build.specs.Grammars.{grammar_of};
 ghost use Rattle.xdg_inputs.specs.Made.{IsMade};
 ghost use Rattle.xdg_inputs.specs.Sentences.{HasProblem, IsBadSentence};
 ghost use Rattle.xdg_io.specs.Rose.{Rose};
-ghost use Rattle.xdg_inputs.specs.Places.{place_in};
-ghost use Rattle.xdg_build.specs.Refusals.{fault};
 ghost use Rattle.xdg_inputs.specs.Refusals.{Stops};
 ghost use Rattle.xdg_inputs.specs.Stages.{Accepts};
 ghost use Rattle.xdg_problem.specs.declared.parts.Parts as declared;
 
 use crate::expanding::Expanded;
-use crate::refusals::{Refusal, refused_in, stopped_in, too_long};
+use crate::refusals::{Refusal, no_text, stopped_in, too_long};
 use crate::words::problem_of;
 use std::alloc::Global;
 use std::str;
-use xdg_base::{Cause, Fault};
 use xdg_io::{ReadStop, Source, read_all};
 use xdg_packed::Packed;
 use xdg_problem::Problem;
 
 /// How many bytes a sentence may have.
 const SENTENCE_LIMIT: u64 = 65_536;
-
-/// The refusal of an input that is not UTF-8 from a place on.
-fn no_text(input: &[u8], at: usize) -> Refusal
-    requires within { at ≤ length input.now }
-    requires small { length input.now ≤ 65536 }
-    ensures { let refused = fault Cause.BadUtf8 at 0 in result ≡ Refusal.Text refused (place_in input.now refused) }
-{
-    let fault = Fault {
-        cause: Cause::BadUtf8,
-        at: at as u32,
-        reached: 0,
-    };
-    refused_in(input, fault)
-}
 
 /// The problem of a sentence, whose words are cut by the Unicode rules of word boundaries where that is asked for.
 pub fn problem_in(
