@@ -5,8 +5,8 @@ use Rattle.xdg_base.specs.declared.ids.EntryNo.{EntryNo}
 use Rattle.xdg_problem.specs.declared.parts.SentenceWord.{SentenceWord}
 use Rattle.xdg_reading.specs.declared.line.Line.{Line}
 use Rattle.xdg_reading.specs.declared.line.Line.TheVariants as lines
-use Rattle.xdg_reading.specs.declared.reading.Refused.{Refused}
-use Rattle.xdg_reading.specs.declared.reading.Refused.TheVariants as refused
+use Rattle.xdg_reading.specs.declared.refused.Refused.{Refused}
+use Rattle.xdg_reading.specs.declared.refused.Refused.TheVariants as refused
 use Rattle.xdg_reading.specs.declared.stage.Stage.{Stage}
 use Rattle.xdg_reading.specs.declared.stage.Stage.TheVariants as stages
 use Rattle.xdg_reading.specs.declared.texts.AnalysisText.{AnalysisText}

@@ -9,30 +9,12 @@ ghost use Rattle.xdg_base.specs.declared.faults.Stop.TheVariants as stops;
 
 use crate::cursor::{Cursor, Why};
 use crate::line::{Line, read_line};
+use crate::refused::Refused;
 use crate::stage::{Stage, has_ended, next};
 use crate::texts::AnalysisText;
 use std::alloc::{AllocError, Global};
 use std::str;
 use xdg_base::{Cause, Fault, List, Stop};
-
-/// Why bytes are not read.
-#[derive(Clone, Copy, Debug)]
-pub(crate) enum Refused {
-    /// No memory was to be had.
-    Memory,
-    /// The line at this place offends first.
-    At(u32),
-}
-
-impl From<AllocError> for Refused {
-    ghost use Rattle.xdg_reading.specs.declared.reading.Refused.TheVariants.{Memory};
-
-    ghost from_gives = { λ _ refused. refused ≡ Memory };
-
-    fn from(_: AllocError) -> Refused {
-        Refused::Memory
-    }
-}
 
 /// A text without lines.
 fn empty(alloc: Global) -> AnalysisText

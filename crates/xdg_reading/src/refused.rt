@@ -1,10 +1,10 @@
-//! Why a text shows no analysis.
+//! Why a text is no analysis, or shows none.
 
 ghost use Rattle.std.specs.Prelude.{◌≡◌};
 
 use std::alloc::AllocError;
 
-/// Why a text shows no analysis.
+/// Why a text is no analysis, or shows none.
 #[derive(Clone, Copy, Debug)]
 pub(crate) enum Refused {
     /// No memory was to be had.
