@@ -16,7 +16,6 @@ use crate::entered::{Roots, find_roots};
 use crate::finding::entering;
 use crate::found::{Found, Which};
 use crate::incoming::Incoming;
-use crate::opening::Openings;
 use crate::plane::Plane;
 use crate::taking::{forbid_entering, force_entering};
 use xdg_base::NodeId;
@@ -35,6 +34,9 @@ pub(crate) fn one_mother(store: &mut Store, pass: &mut Pass, plane: &Plane, inco
     ensures known { Known store.new }
 {
     let crowded = incoming.must.some.meet(&incoming.may.more);
+    if crowded.len() == 0 {
+        return;
+    }
     for daughter in 0..plane.nodes {
         if crowded.contains(NodeId(daughter)) {
             let musts = entering(store, plane, Which::Must, daughter);
@@ -64,10 +66,11 @@ pub(crate) fn for_root(store: &mut Store, pass: &mut Pass, plane: &Plane, incomi
     requires known { Known store.old }
     requires incoming { AreOf store.old.parts store.old.now plane.now.dim.0 incoming.now }
     ensures runs { RunsFor ForRoot plane.now.dim.0 pass.old store.old pass.new store.new }
+    ensures quiet { IsQuiet pass.new → store.new.now ≡ store.old.now }
     ensures parts { store.new.parts ≡ store.old.parts }
     ensures known { Known store.new }
 {
-    match find_roots(plane, &incoming.must.some) {
+    match find_roots(store, plane, &incoming.must.some) {
         Roots::Nothing => pass.fail(store),
         Roots::One(root) => forbid_mothers(store, pass, plane, incoming, root),
         Roots::More => {}
@@ -85,6 +88,9 @@ fn only_mother(store: &mut Store, pass: &mut Pass, plane: &Plane, single: &NodeS
     ensures parts { store.new.parts ≡ store.old.parts }
     ensures known { Known store.new }
 {
+    if single.len() == 0 {
+        return;
+    }
     for daughter in 0..plane.nodes {
         if single.contains(NodeId(daughter)) {
             force_entering(store, pass, plane, daughter);
@@ -93,17 +99,17 @@ fn only_mother(store: &mut Store, pass: &mut Pass, plane: &Plane, single: &NodeS
 }
 
 /// Where no edge may lead into one node, edges lead into all others. There is no second such node.
-pub(crate) fn for_others(store: &mut Store, pass: &mut Pass, plane: &Plane)
+pub(crate) fn for_others(store: &mut Store, pass: &mut Pass, plane: &Plane, incoming: &Incoming)
     requires plane { IsPlane store.old.parts plane.now }
     requires known { Known store.old }
+    requires incoming { AreOf store.old.parts store.old.now plane.now.dim.0 incoming.now }
     ensures runs { RunsFor ForOthers plane.now.dim.0 pass.old store.old pass.new store.new }
     ensures parts { store.new.parts ≡ store.old.parts }
     ensures known { Known store.new }
 {
-    let openings = Openings::of(store, plane);
-    match find_roots(plane, &openings.some) {
+    match find_roots(store, plane, &incoming.may.some) {
         Roots::Nothing => {}
-        Roots::One(_) => only_mother(store, pass, plane, &openings.single),
+        Roots::One(_) => only_mother(store, pass, plane, &incoming.single()),
         Roots::More => pass.fail(store),
     }
 }
