@@ -9,7 +9,7 @@ use Rattle.xdg_problem.specs.declared.analysis.Edge.{Edge}
 use Rattle.xdg_problem.specs.declared.parts.Group.{Group}
 use Rattle.xdg_problem.specs.declared.parts.Parts.{Parts}
 use Rattle.xdg_problem.specs.Boxes.{Has, edge_decision}
-use Rattle.xdg_rules.specs.Rules.{IsPlaceOn, SaysPresent, may_edges, must_edges}
+use Rattle.xdg_rules.specs.Rules.{IsPlaceOn, OneMother, SaysPresent, may_edges, must_edges}
 use Rattle.xdg_rules.proofs.Shrinking.{may_of, must_is}
 use Rattle.xdg_store.specs.States.{State}
 use Rattle.xdg_propcore.specs.Passes.{Progress, Clears, IsQuiet}
@@ -25,7 +25,7 @@ use Rattle.xdg_pgraph.specs.Planes.{IsPlane}
 use Rattle.xdg_pgraph.specs.Seeking.{Aims, BacksFrom, StartAll, ToNode}
 use Rattle.xdg_pgraph.proofs.Labels.{LabelInto}
 use Rattle.xdg_pgraph.proofs.Reached.{BacksInto}
-use Rattle.xdg_pgraph.proofs.Ruled.{OneMotherBelow}
+use Rattle.xdg_pgraph.proofs.Ruled.{OneMotherOutside, RunsPart}
 use Rattle.xdg_facts.specs.Rises.{has}
 
 -- more is looked at, where the rule takes nothing that remained at first
@@ -112,17 +112,16 @@ module _ (plane : Plane) (p q : Progress) (old mid : State) (must may : Entered)
   abbrev dim : ℕ
   dim = plane.dim.0
 
-  pub one_mother_skip : (both_there : List ℕ) → Tells (Contains (must_edges old.parts old.now dim)) must → Tells (Contains (may_edges old.parts old.now dim)) may → ((n : ℕ) → has both_there n ≡ (has must.some n && has may.more n)) → has both_there w ≡ false → RunsFor (OneMotherBelow w) dim p old q mid → RunsFor (OneMotherBelow (w + 1)) dim p old q mid
-  one_mother_skip both_there m y is none before group is_group on takes = runs_skip (OneMotherBelow w old.parts group) (OneMotherBelow (w + 1) old.parts group) group p q old mid
-      (λ d v x h. elim (cases_eq x.rule.place.daughter.0 w) [
-        | inl at ↦ absurd (
-            let other = subst (λ k. Contains (must_edges old.parts old.now k) x.rule.other) on x.rule.must in
-            crowded (Contains (must_edges old.parts old.now dim)) (Contains (may_edges old.parts old.now dim)) must may both_there w m y is none x.rule.place x.rule.other other (must_may old.parts old.now dim x.rule.other other)
-            (place_may old.parts old.now dim x.rule.place d v (subst (λ k. IsPlaceOn old.parts k x.rule.place) on x.rule.is) x.rule.says h)
-            at (sym x.rule.both ∙ at) x.rule.differs)
-        | inr other ↦ record { rule = x.rule; below = (let b = x.below in omega (arith, b, other)) }
-      ])
-      (before group is_group on (λ box d v x. takes box d v (record { rule = x.rule; below = (let l = x.below in omega (arith, l)) })))
+  -- into a node that isn't crowded no edge is to be taken
+  pub one_mother_start : (left : List ℕ) → Tells (Contains (must_edges old.parts old.now dim)) must → Tells (Contains (may_edges old.parts old.now dim)) may → ((n : ℕ) → has left n ≡ (has must.some n && has may.more n)) → RunsPart OneMother (OneMotherOutside left) dim p old p old
+  one_mother_start left m y is group is_group on takes = record {
+    goes = goes_none group p old;
+    done = λ z d v x h.
+        let other = subst (λ k. Contains (must_edges old.parts old.now k) x.rule.other) on x.rule.must in
+        crowded (Contains (must_edges old.parts old.now dim)) (Contains (may_edges old.parts old.now dim)) must may left x.rule.place.daughter.0 m y is x.outside x.rule.place x.rule.other other (must_may old.parts old.now dim x.rule.other other)
+        (place_may old.parts old.now dim x.rule.place d v (subst (λ k. IsPlaceOn old.parts k x.rule.place) on x.rule.is) x.rule.says h)
+        refl (sym x.rule.both) x.rule.differs;
+  }
 
   pub label_skip : (u : ℕ) (both_there : List ℕ) → Tells (Leaving (must_edges old.parts old.now dim) u) must → Tells (Leaving (may_edges old.parts old.now dim) u) may → ((n : ℕ) → has both_there n ≡ (has must.some n && has may.more n)) → has both_there w ≡ false → RunsFor (OneLabelOf (LabelInto u w)) dim p old q mid → RunsFor (OneLabelOf (LabelInto u (w + 1))) dim p old q mid
   label_skip u both_there m y is none before group is_group on takes = runs_skip (OneLabelOf (LabelInto u w) old.parts group) (OneLabelOf (LabelInto u (w + 1)) old.parts group) group p q old mid

@@ -56,15 +56,23 @@ impl Sources {
         if mothers.len() == 0 {
             return Entered::nowhere();
         }
-        if mothers.len() > 1 || self.more.meet(others).len() > 0 {
+        let here = alone(daughter);
+        if mothers.len() > 1 {
             return Entered {
-                some: alone(daughter),
-                more: alone(daughter),
+                some: here,
+                more: here,
+            };
+        }
+        let doubled = self.more.meet(others);
+        if doubled.len() == 0 {
+            return Entered {
+                some: here,
+                more: NodeSet::empty(),
             };
         }
         Entered {
-            some: alone(daughter),
-            more: NodeSet::empty(),
+            some: here,
+            more: here,
         }
     }
 }
