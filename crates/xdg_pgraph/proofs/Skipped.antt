@@ -1,5 +1,5 @@
 -- Nodes at which the rules take nothing that remains.
-use Rattle.std.proofs.Common.{◌≡◌, ◌≢◌, ℕ, ◌+◌, ◌&&◌, inl, inr, Bool, true, false, List, length, refl, sym, ◌∙◌, subst, arith}
+use Rattle.std.proofs.Common.{◌≡◌, ◌≢◌, ℕ, ◌+◌, ◌<◌, ◌&&◌, inl, inr, Bool, true, false, List, ◌∷◌, length, refl, sym, ◌∙◌, subst, arith}
 use Rattle.std.specs.Prelude.{Contains}
 use Rattle.std.proofs.lemmas.Bool.{cases_eq, false≢true}
 use Rattle.std.proofs.lemmas.List.{nil_from_length}
@@ -16,6 +16,7 @@ use Rattle.xdg_propcore.specs.Passes.{Progress, Clears, IsQuiet}
 use Rattle.xdg_propcore.proofs.Passing.{goes_none}
 use Rattle.xdg_pgraph.specs.declared.entered.Entered.{Entered}
 use Rattle.xdg_pgraph.specs.declared.found.Found.TheVariants as founds
+use Rattle.xdg_pgraph.specs.declared.found.Which.TheVariants as whichs
 use Rattle.xdg_pgraph.specs.declared.incoming.Incoming.{Incoming}
 use Rattle.xdg_pgraph.specs.declared.plane.Plane.{Plane}
 use Rattle.xdg_pgraph.specs.Entering.{Tells, Leaving}
@@ -25,7 +26,8 @@ use Rattle.xdg_pgraph.specs.Planes.{IsPlane}
 use Rattle.xdg_pgraph.specs.Seeking.{Aims, BacksFrom, StartAll, ToNode}
 use Rattle.xdg_pgraph.proofs.Labels.{LabelInto}
 use Rattle.xdg_pgraph.proofs.Reached.{BacksInto}
-use Rattle.xdg_pgraph.proofs.Ruled.{OneMotherOutside, RunsPart}
+use Rattle.xdg_pgraph.proofs.Ruled.{OneMotherOutside, RunsPart, head_in}
+use Rattle.xdg_pgraph.proofs.Told.{entered_within}
 use Rattle.xdg_facts.specs.Rises.{has}
 
 -- more is looked at, where the rule takes nothing that remained at first
@@ -62,6 +64,10 @@ module _ (parts : Parts) (box : List (List Bool)) (dim : ℕ) where
 
   place_may : (e : Edge) (d v : ℕ) → IsPlaceOn parts dim e → SaysPresent parts e d v → Has box d v → Contains (may_edges parts box dim) e
   place_may e d v on says h = may_of parts box dim e (record { place = on.0; dim_is = on.1; present = subst (λ k. Has box (edge_decision parts e) k) says.1 (subst (λ k. Has box k v) says.0 h) })
+
+-- the next of some crowded nodes is a node
+pub crowded_within : (parts : Parts) (box : List (List Bool)) (plane : Plane) (must may : Entered) (all left rest : List ℕ) (v : ℕ) → IsPlane parts plane → Tells (Contains (must_edges parts box plane.dim.0)) must → ((n : ℕ) → has all n ≡ (has must.some n && has may.more n)) → ((w : ℕ) → has left w ≡ true → has all w ≡ true) → left ≡ v ∷ rest → v < plane.nodes
+crowded_within parts box plane must may all left rest v plane_is m is within first = entered_within whichs.Must parts box plane plane_is v must m ((both (has must.some v) (has may.more v)).0 (sym (is v) ∙ within v (head_in left rest v first))).0
 
 -- no edge that may be leads into a node
 pub none_enters : (dim w : ℕ) (p : Progress) (s : State) (incoming : Incoming) → AreOf s.parts s.now dim incoming → has incoming.may.some w ≡ false → Clears (Aims s.parts dim founds.More (ToNode w)) p s p s

@@ -1,14 +1,11 @@
-use Rattle.std.proofs.Common.{◌≡◌, ◌<◌, ◌&&◌, ◌∙◌, ℕ, true, [], ◌∷◌, List, ap, refl, sym, subst}
+use Rattle.std.proofs.Common.{◌≡◌, ◌∙◌, ℕ, [], ◌∷◌, List, ap, refl, sym, subst}
 use Rattle.xdg_facts.specs.Rises.{has}
-use Rattle.xdg_nodeset.proofs.TableSets.{both}
 use Rattle.xdg_rules.specs.Rules.{must_edges}
 use Rattle.xdg_propcore.specs.Passes.{Clears}
-use Rattle.xdg_pgraph.specs.declared.found.Which.TheVariants as whichs
 use Rattle.xdg_pgraph.specs.Planes.{IsPlane}
 use Rattle.xdg_pgraph.specs.Seeking.{Aims, Finds, Into, ToNode}
-use Rattle.xdg_pgraph.proofs.Ruled.{head_in, one_mother_end, one_mother_turn, tail_in}
-use Rattle.xdg_pgraph.proofs.Skipped.{one_mother_start, stays_both}
-use Rattle.xdg_pgraph.proofs.Told.{entered_within}
+use Rattle.xdg_pgraph.proofs.Ruled.{one_mother_end, one_mother_turn, tail_in}
+use Rattle.xdg_pgraph.proofs.Skipped.{crowded_within, one_mother_start, stays_both}
 use Rattle.xdg_pgraph.proofs.tree.one_mother.Goals as goal
 
 pub loop-daughter-init : goal.loop-daughter-init
@@ -24,15 +21,6 @@ loop-daughter-init c =
       (λ z. (z, refl)),
     )
 
--- the daughter is one of the crowded
-within : (c : goal.After-in-Some) → c.in-Some.daughter.0 < c.args.plane.now.nodes
-within c =
-    let v = c.in-Some.daughter.0 in
-    let crowded_is = c.into_iter-daughter-iterator.ensures.into_iter_gives ∙ c.iter-daughter-items.ensures.value in
-    let there = c.loop-daughter.invariant.2 v (head_in c.loop-daughter.daughter-iterator c.next.new.self v c.in-Some.ensures.steps) in
-    entered_within whichs.Must c.args.store.now.parts c.args.store.now.now c.args.plane.now c.requires.plane v c.args.incoming.now.must c.requires.incoming.must
-    ((both (has c.args.incoming.now.must.some v) (has c.args.incoming.now.may.more v)).0 (sym (c.meet-crowded.ensures.members v) ∙ ap (λ (s : List ℕ). has s v) (sym crowded_is) ∙ there)).0
-
 pub entering-musts-requires-clause-plane : goal.entering-musts-requires-clause-plane
 entering-musts-requires-clause-plane c = subst (λ z. IsPlane z c.args.plane.now) (sym c.loop-daughter.invariant.4) c.requires.plane
 
@@ -40,7 +28,8 @@ pub entering-musts-requires-clause-known : goal.entering-musts-requires-clause-k
 entering-musts-requires-clause-known c = c.loop-daughter.invariant.5
 
 pub entering-musts-requires-clause-daughter : goal.entering-musts-requires-clause-daughter
-entering-musts-requires-clause-daughter c = ?
+entering-musts-requires-clause-daughter c = crowded_within c.args.store.now.parts c.args.store.now.now c.args.plane.now c.args.incoming.now.must c.args.incoming.now.may c.into_iter-daughter-iterator.result c.loop-daughter.daughter-iterator c.next.new.self c.in-Some.daughter.0 c.requires.plane c.requires.incoming.must
+    (λ n. ap (λ (s : List ℕ). has s n) (c.into_iter-daughter-iterator.ensures.into_iter_gives ∙ c.iter-daughter-items.ensures.value) ∙ c.meet-crowded.ensures.members n) c.loop-daughter.invariant.2 c.in-Some.ensures.steps
 
 pub forbid_entering-requires-clause-plane : goal.forbid_entering-requires-clause-plane
 forbid_entering-requires-clause-plane c = subst (λ z. IsPlane z c.args.plane.now) (sym c.loop-daughter.invariant.4) c.requires.plane
@@ -49,7 +38,8 @@ pub forbid_entering-requires-clause-known : goal.forbid_entering-requires-clause
 forbid_entering-requires-clause-known c = c.loop-daughter.invariant.5
 
 pub forbid_entering-requires-clause-daughter : goal.forbid_entering-requires-clause-daughter
-forbid_entering-requires-clause-daughter c = ?
+forbid_entering-requires-clause-daughter c = crowded_within c.args.store.now.parts c.args.store.now.now c.args.plane.now c.args.incoming.now.must c.args.incoming.now.may c.into_iter-daughter-iterator.result c.loop-daughter.daughter-iterator c.next.new.self c.in-Some.daughter.0 c.requires.plane c.requires.incoming.must
+    (λ n. ap (λ (s : List ℕ). has s n) (c.into_iter-daughter-iterator.ensures.into_iter_gives ∙ c.iter-daughter-items.ensures.value) ∙ c.meet-crowded.ensures.members n) c.loop-daughter.invariant.2 c.in-Some.ensures.steps
 
 pub loop-daughter-preserved : goal.loop-daughter-preserved
 loop-daughter-preserved c =
