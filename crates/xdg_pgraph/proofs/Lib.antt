@@ -27,4 +27,5 @@ pub mod MustsStay
 pub mod Told
 pub mod Skipped
 pub mod Needing
-pub mod Opened
+pub mod Sources
+pub mod RootSets

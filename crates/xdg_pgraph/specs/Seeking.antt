@@ -2,6 +2,7 @@
 use Rattle.std.specs.Prelude.{◌≡◌, ◌≢◌, ◌≤◌, ◌<◌, ℕ, Bool, true, List, [], ◌∷◌, length, Contains}
 use Rattle.xdg_problem.specs.declared.analysis.Edge.{Edge}
 use Rattle.xdg_problem.specs.declared.parts.Parts.{Parts}
+use Rattle.xdg_problem.specs.Boxes.{Has}
 use Rattle.xdg_problem.specs.Paths.{mothers}
 use Rattle.xdg_nodeset.specs.Tables.{In}
 use Rattle.xdg_rules.specs.Rules.{IsPlaceOn, SaysPresent, SaysAbsent, may_edges, must_edges}
@@ -80,11 +81,6 @@ RootsAre xs rootss.Nothing = xs ≡ []
 RootsAre xs (rootss.One v) = xs ≡ v ∷ []
 RootsAre xs rootss.More = 2 ≤ length xs
 
-abbrev pub roots_with : Roots → ℕ → Roots
-roots_with rootss.Nothing v = rootss.One v
-roots_with (rootss.One u) v = rootss.More
-roots_with rootss.More v = rootss.More
-
 -- the value that says that an edge is absent, which is the only one of the edges into a node
 pub record Only (parts : Parts) (edges : List Edge) (node d v : ℕ) : Type 0 where
   pub place : Edge
@@ -93,7 +89,9 @@ pub record Only (parts : Parts) (edges : List Edge) (node d v : ℕ) : Type 0 wh
   pub one : mothers edges node ≡ 1
   pub says : SaysAbsent parts place d v
 
--- one of the edges leads from a node to another
+-- no edge that may be the only one into a node may still be absent
+abbrev pub NoneOnly : Parts → List (List Bool) → ℕ → ℕ → Type 0
+NoneOnly parts box dim w = (d v : ℕ) → Only parts (may_edges parts box dim) w d v → Has box d v → ⊥
 
 -- the table leads from the daughter of an edge back to its mother
 abbrev pub Backs : List (List ℕ) → Edge → Type 0
