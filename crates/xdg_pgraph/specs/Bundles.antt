@@ -12,7 +12,7 @@ use Rattle.xdg_rules.specs.Rules.{HasNoneWithin, IsGreatest, IsLeast, SaysPresen
 use Rattle.xdg_pgraph.specs.declared.bundle.Way.{Way}
 use Rattle.xdg_pgraph.specs.declared.bundle.Way.TheVariants as ways
 use Rattle.xdg_pgraph.specs.declared.bundle.Bundle.{Bundle}
-use Rattle.xdg_pgraph.specs.declared.bundle.Ends.{Ends}
+use Rattle.xdg_pgraph.specs.declared.bundle.FarNodes.{FarNodes}
 use Rattle.xdg_facts.specs.Rises.{has}
 
 -- the edge with a label between a node and another
@@ -61,7 +61,7 @@ abbrev pub AreEnds : List Edge → ℕ → Way → ℕ → ℕ → List ℕ → 
 AreEnds edges dim way node label ends = (other : ℕ) → IsTrue (has ends other) ↔ Contains edges (edge_to way dim node label other)
 
 -- two sets have those of the edges that may be present, and of those that must be
-pub record HasEnds (parts : Parts) (box : List (List Bool)) (dim : ℕ) (way : Way) (node label : ℕ) (ends : Ends) : Type 0 where
+pub record HasFarNodes (parts : Parts) (box : List (List Bool)) (dim : ℕ) (way : Way) (node label : ℕ) (ends : FarNodes) : Type 0 where
   pub may : AreEnds (may_edges parts box dim) dim way node label ends.may
   pub must : AreEnds (must_edges parts box dim) dim way node label ends.must
 

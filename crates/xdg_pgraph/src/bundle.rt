@@ -6,7 +6,7 @@ ghost use Rattle.xdg_facts.specs.Rises.{has};
 ghost use Rattle.xdg_problem.specs.declared.parts.Group.{Group as Use};
 ghost use Rattle.xdg_store.specs.States.{Known};
 ghost use Rattle.xdg_pgraph.specs.declared.bundle.Way.TheVariants as ways;
-ghost use Rattle.xdg_pgraph.specs.Bundles.{HasEnds, argument_of, edge_to, numbers_of};
+ghost use Rattle.xdg_pgraph.specs.Bundles.{HasFarNodes, argument_of, edge_to, numbers_of};
 ghost use Rattle.xdg_pgraph.specs.Planes.{IsPlane};
 ghost use Rattle.xdg_pgraph.specs.Seeking.{edges_of};
 
@@ -34,7 +34,7 @@ pub(crate) struct Bundle {
 
 /// The other nodes of the edges of a bundle that may be present, and of those that must be.
 #[derive(Clone, Copy, Debug)]
-pub(crate) struct Ends {
+pub(crate) struct FarNodes {
     pub may: NodeSet,
     pub must: NodeSet,
 }
@@ -144,56 +144,56 @@ pub(crate) fn ends(store: &Store, plane: &Plane, which: Which, bundle: Bundle) -
 }
 
 /// The daughters of the edges with a label out of a node.
-fn ends_out(store: &Store, plane: &Plane, node: u8, label: u8) -> Ends
+fn far_daughters(store: &Store, plane: &Plane, node: u8, label: u8) -> FarNodes
     requires plane { IsPlane store.now.parts plane.now }
     requires known { Known store.now }
     requires node { node < plane.now.nodes }
     requires label { label < plane.now.labels }
-    ensures { HasEnds store.now.parts store.now.now plane.now.dim.0 ways.Out node label result }
+    ensures { HasFarNodes store.now.parts store.now.now plane.now.dim.0 ways.Out node label result }
 {
     let mother = NodeId(node);
     let label = LabelId(label);
-    Ends {
+    FarNodes {
         may: store.daughters_may(plane.dim, mother, label),
         must: store.daughters_must(plane.dim, mother, label),
     }
 }
 
 /// The mothers of those into it.
-fn ends_in(store: &Store, plane: &Plane, node: u8, label: u8) -> Ends
+fn far_mothers(store: &Store, plane: &Plane, node: u8, label: u8) -> FarNodes
     requires plane { IsPlane store.now.parts plane.now }
     requires known { Known store.now }
     requires node { node < plane.now.nodes }
     requires label { label < plane.now.labels }
-    ensures { HasEnds store.now.parts store.now.now plane.now.dim.0 ways.In node label result }
+    ensures { HasFarNodes store.now.parts store.now.now plane.now.dim.0 ways.In node label result }
 {
     let daughter = NodeId(node);
     let mothers = store.mothers_by_label(plane.dim, daughter, plane.labels)[usize::from(label)];
     let mut others = store.all_nodes();
     others.remove(daughter);
-    Ends {
+    FarNodes {
         may: mothers.may.meet(&others),
         must: mothers.must.meet(&others),
     }
 }
 
-impl Ends {
+impl FarNodes {
     /// Those of a bundle; a dimension without edges has none.
-    pub(crate) fn of(store: &Store, plane: &Plane, bundle: Bundle) -> Ends
+    pub(crate) fn of(store: &Store, plane: &Plane, bundle: Bundle) -> FarNodes
         requires plane { IsPlane store.now.parts plane.now }
         requires known { Known store.now }
         requires node { bundle.node < plane.now.nodes }
-        ensures { HasEnds store.now.parts store.now.now plane.now.dim.0 bundle.way bundle.node bundle.label result }
+        ensures { HasFarNodes store.now.parts store.now.now plane.now.dim.0 bundle.way bundle.node bundle.label result }
     {
         if bundle.label >= plane.labels {
-            return Ends {
+            return FarNodes {
                 may: NodeSet::empty(),
                 must: NodeSet::empty(),
             };
         }
         match bundle.way {
-            Way::Out => ends_out(store, plane, bundle.node, bundle.label),
-            Way::In => ends_in(store, plane, bundle.node, bundle.label),
+            Way::Out => far_daughters(store, plane, bundle.node, bundle.label),
+            Way::In => far_mothers(store, plane, bundle.node, bundle.label),
         }
     }
 }

@@ -18,7 +18,7 @@ ghost use Rattle.xdg_pgraph.specs.Spans.{Spans};
 ghost use Rattle.xdg_pgraph.specs.Untouched.{AreOthersDone, HasLost, IsLeftAlone, IsTouched, lost_edges, side};
 
 use crate::bounds::{has_none_within, said_of};
-use crate::bundle::{Bundle, Ends, Way, features_of, numbers_at};
+use crate::bundle::{Bundle, FarNodes, Way, features_of, numbers_at};
 use crate::plane::Plane;
 use crate::span::Span;
 use xdg_base::NodeId;
@@ -158,7 +158,7 @@ fn take_bundle(
     requires span { Spans store.old.parts store.old.now bundle.node span }
     ensures { Sweeps group.now (IsBundleDone bundle.way store.old.parts group.now bundle.node bundle.label) pass.old store.old pass.new store.new }
 {
-    let ends = Ends::of(store, plane, bundle);
+    let ends = FarNodes::of(store, plane, bundle);
     let open = ends.may.minus(&ends.must);
     let least = ends.must.len();
     let most = ends.may.len();
