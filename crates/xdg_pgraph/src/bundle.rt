@@ -65,7 +65,7 @@ fn argument(way: Way) -> usize
 pub(crate) fn features_of(group: &Group, node: u8) -> &[List<Feat>]
     ensures { result.now ≡ slice_index_or group.now.feats node [] }
 {
-    let Some(candidates) = group.feats.get(usize::from(node)) else {
+    let Some(candidates) = group.feats.get(node as usize) else {
         return &[];
     };
     candidates.as_slice()
@@ -77,13 +77,13 @@ pub(crate) fn numbers_at(candidates: &[List<Feat>], bundle: Bundle, place: u16) 
         → result.now ≡ numbers_of bundle.way group bundle.node bundle.label place }
     ensures rising { IsStrictlyIncreasing result.now }
 {
-    let Some(features) = candidates.get(usize::from(place)) else {
+    let Some(features) = candidates.get(place as usize) else {
         return &[];
     };
     let Some(feature) = features.get(argument(bundle.way)) else {
         return &[];
     };
-    let Some(numbers) = feature.rows.get(usize::from(bundle.label)) else {
+    let Some(numbers) = feature.rows.get(bundle.label as usize) else {
         return &[];
     };
     numbers.as_slice()
