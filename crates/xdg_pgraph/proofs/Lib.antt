@@ -28,3 +28,4 @@ pub mod Told
 pub mod Skipped
 pub mod Needing
 pub mod Opened
+pub mod Members

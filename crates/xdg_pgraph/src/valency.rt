@@ -158,10 +158,10 @@ fn take_bundle(
     requires span { Spans store.old.parts store.old.now bundle.node span }
     ensures { Sweeps group.now (IsBundleDone bundle.way store.old.parts group.now bundle.node bundle.label) pass.old store.old pass.new store.new }
 {
-    let ends = FarNodes::of(store, plane, bundle);
-    let open = ends.may.minus(&ends.must);
-    let least = ends.must.len();
-    let most = ends.may.len();
+    let far = FarNodes::of(store, plane, bundle);
+    let open = far.may.minus(&far.must);
+    let least = far.must.len();
+    let most = far.may.len();
     let said = said_of(store, group, bundle, span, least, most);
     take_open_if(store, pass, plane, bundle, open, true, said.full);
     take_open_if(store, pass, plane, bundle, open, false, said.needed);
