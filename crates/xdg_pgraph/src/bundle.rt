@@ -168,7 +168,8 @@ fn far_mothers(store: &Store, plane: &Plane, node: u8, label: u8) -> FarNodes
     ensures { HasFarNodes store.now.parts store.now.now plane.now.dim.0 ways.In node label result }
 {
     let daughter = NodeId(node);
-    let mothers = store.mothers_by_label(plane.dim, daughter, plane.labels)[usize::from(label)];
+    let rows = store.mothers_by_label(plane.dim, daughter, plane.labels);
+    let mothers = rows[label as usize];
     let mut others = store.all_nodes();
     others.remove(daughter);
     FarNodes {

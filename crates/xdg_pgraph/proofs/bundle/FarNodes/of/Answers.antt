@@ -13,7 +13,7 @@ returns-then-bundle-plane c = record {
     λ e. absurd (none_behind whichs.May c.args.bundle.way c.args.store.now.parts c.args.store.now.now c.args.plane.now c.args.bundle.node c.args.bundle.label other c.requires.plane (let t = c.if-bundle-plane.true in omega (arith, t)) e),
   );
   must = λ other. (
-    λ t. absurd (false≢true (subst (λ s. has s other ≡ true) c.empty-2.ensures.value t)),
+    λ t. absurd (false≢true (subst (λ s. has s other ≡ true) c.empty-then-bundle-plane.ensures.value t)),
     λ e. absurd (none_behind whichs.Must c.args.bundle.way c.args.store.now.parts c.args.store.now.now c.args.plane.now c.args.bundle.node c.args.bundle.label other c.requires.plane (let t = c.if-bundle-plane.true in omega (arith, t)) e),
   );
 }
