@@ -13,7 +13,7 @@ pub returns : goal.returns
 returns c =
     let row : Mothers = c.index-rows-label.result in
     let within : c.args.label < length c.mothers_by_label-rows.result.now = (let n = c.mothers_by_label-rows.ensures.mothers.count in let l = c.requires.label in omega (arith, n, l)) in
-    let at : slice_index_or c.mothers_by_label-rows.result.now c.args.label no_mothers ≡ row = get_or_default c.mothers_by_label-rows.result.now c.args.label no_mothers row within ∙ c.index-rows-label.is in
+    let at : slice_index_or c.mothers_by_label-rows.result.now c.args.label no_mothers ≡ row = get_or_default c.mothers_by_label-rows.result.now c.args.label no_mothers row within ∙ sym c.index-rows-label.is in
     record {
       may = λ other. in_told whichs.May c.args.store.now c.args.plane.now c.requires.plane c.requires.known c.args.node c.args.label c.requires.node c.requires.label other (has c.meet.result other)
           (mothers_told (nodes c.args.store.now.parts) c.args.node c.all_nodes-others.result c.remove.new.self row.may c.meet.result c.all_nodes-others.ensures.members c.remove.ensures.members c.meet.ensures.members (λ n. May c.args.store.now.parts c.args.store.now.now (edge c.args.plane.now.dim.0 n c.args.label c.args.node))
