@@ -29,3 +29,4 @@ pub mod Skipped
 pub mod Needing
 pub mod Sources
 pub mod RootSets
+pub mod Members
