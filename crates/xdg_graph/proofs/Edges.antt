@@ -60,13 +60,13 @@ mothers_exact which parts box dim node label set is within l h x = (
 -- ---- edges with any label
 
 -- a node to which a relation leads by one of the first labels
-abbrev ByFirst : (ℕ → ℕ → Type 0) → ℕ → ℕ → Type 0
+abbrev pub ByFirst : (ℕ → ℕ → Type 0) → ℕ → ℕ → Type 0
 ByFirst by k x = (label : ℕ) × (label < k) × by label x
 
-first_start : (by : ℕ → ℕ → Type 0) (set : List ℕ) → set ≡ [] → (x : ℕ) → IsTrue (has set x) ↔ ByFirst by 0 x
+pub first_start : (by : ℕ → ℕ → Type 0) (set : List ℕ) → set ≡ [] → (x : ℕ) → IsTrue (has set x) ↔ ByFirst by 0 x
 first_start by set empty x = (λ t. absurd (false≢true (subst (λ s. has s x ≡ true) empty t)), λ b. absurd (let l = b.1 in omega (arith, l)))
 
-first_next : (by : ℕ → ℕ → Type 0) (k : ℕ) (old more set : List ℕ) → ((x : ℕ) → IsTrue (has old x) ↔ ByFirst by k x) → ((x : ℕ) → IsTrue (has more x) ↔ by k x) → ((x : ℕ) → has set x ≡ (has old x || has more x)) → (x : ℕ) → IsTrue (has set x) ↔ ByFirst by (k + 1) x
+pub first_next : (by : ℕ → ℕ → Type 0) (k : ℕ) (old more set : List ℕ) → ((x : ℕ) → IsTrue (has old x) ↔ ByFirst by k x) → ((x : ℕ) → IsTrue (has more x) ↔ by k x) → ((x : ℕ) → has set x ≡ (has old x || has more x)) → (x : ℕ) → IsTrue (has set x) ↔ ByFirst by (k + 1) x
 first_next by k old more set before here both x = (
   λ t. elim ((either (has old x) (has more x)).0 (sym (both x) ∙ t)) [
     | inl o ↦ (let b = (before x).0 o in (b.0, (let l = b.1 in omega (arith, l)), b.2))
@@ -83,7 +83,7 @@ abbrev pub IsBelow : List Edge → ℕ → ℕ → ℕ → Type 0
 IsBelow edges k u v = (label : ℕ) × (label < k) × IsDaughterBy edges u label v
 
 -- they are all edges
-any_label : (which : Which) (parts : Parts) (box : List (List Bool)) (dim k u x : ℕ) → IsBox (shape parts) box → edge_labels parts dim ≤ k → IsBelow (edges_of which parts box dim) k u x ↔ IsDaughter (edges_of which parts box dim) u x
+pub any_label : (which : Which) (parts : Parts) (box : List (List Bool)) (dim k u x : ℕ) → IsBox (shape parts) box → edge_labels parts dim ≤ k → IsBelow (edges_of which parts box dim) k u x ↔ IsDaughter (edges_of which parts box dim) u x
 any_label which parts box dim k u x is all = (
   λ (label, l, (j, e, within, at, (m, b, d))). (j, e, within, at, (m, d)),
   λ (j, e, within, at, (m, d)).
@@ -103,14 +103,3 @@ below_next edges k u old more set before here both x = first_next (IsDaughterBy 
 
 pub below_all : (which : Which) (parts : Parts) (box : List (List Bool)) (dim k u : ℕ) (set : List ℕ) → IsBox (shape parts) box → edge_labels parts dim ≤ k → ((x : ℕ) → IsTrue (has set x) ↔ IsBelow (edges_of which parts box dim) k u x) → (x : ℕ) → IsTrue (has set x) ↔ IsDaughter (edges_of which parts box dim) u x
 below_all which parts box dim k u set is all h x = (let same = any_label which parts box dim k u x is all in (λ t. same.0 ((h x).0 t), λ d. (h x).1 (same.1 d)))
-
--- ---- the mothers of a node
-
-pub over_start : (edges : List Edge) (set : List ℕ) (v : ℕ) → set ≡ [] → (x : ℕ) → IsTrue (has set x) ↔ IsBelow edges 0 x v
-over_start edges set v empty x = first_start (λ label u. IsDaughterBy edges u label v) set empty x
-
-pub over_next : (edges : List Edge) (k v : ℕ) (old more set : List ℕ) → ((x : ℕ) → IsTrue (has old x) ↔ IsBelow edges k x v) → ((x : ℕ) → IsTrue (has more x) ↔ IsDaughterBy edges x k v) → ((x : ℕ) → has set x ≡ (has old x || has more x)) → (x : ℕ) → IsTrue (has set x) ↔ IsBelow edges (k + 1) x v
-over_next edges k v old more set before here both x = first_next (λ label u. IsDaughterBy edges u label v) k old more set before here both x
-
-pub over_all : (which : Which) (parts : Parts) (box : List (List Bool)) (dim k v : ℕ) (set : List ℕ) → IsBox (shape parts) box → edge_labels parts dim ≤ k → ((x : ℕ) → IsTrue (has set x) ↔ IsBelow (edges_of which parts box dim) k x v) → (x : ℕ) → IsTrue (has set x) ↔ IsDaughter (edges_of which parts box dim) x v
-over_all which parts box dim k v set is all h x = (let same = any_label which parts box dim k x v is all in (λ t. same.0 ((h x).0 t), λ d. (h x).1 (same.1 d)))

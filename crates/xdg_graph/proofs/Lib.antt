@@ -5,3 +5,6 @@ pub mod Edges
 pub mod Noting
 pub mod Widening
 pub mod UpTo
+pub mod Ahead
+pub mod ByRow
+pub mod Adding

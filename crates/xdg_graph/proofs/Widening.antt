@@ -1,9 +1,10 @@
 -- The first sets of a table are widened, where the others are empty.
-use Rattle.std.proofs.Common.{◌≡◌, ℕ, ◌≤◌, ◌⊎◌, ◌↔◌, inl, inr, true, List, [], ◌∷◌, length, get_or, sym, subst, arith}
-use Rattle.std.proofs.lemmas.Bool.{cases_lt}
-use Rattle.xdg_nodeset.specs.Tables.{In}
-use Rattle.xdg_nodeset.proofs.TableSets.{Widened, widened_start, widened_more}
-use Rattle.xdg_graph.specs.Edges.{HasNoneFrom}
+use Rattle.std.proofs.Common.{◌≡◌, ℕ, ◌+◌, ◌<◌, ◌≤◌, ◌⊎◌, ◌↔◌, ◌||◌, inl, inr, true, false, List, [], ◌∷◌, length, get_or, sym, ◌∙◌, subst, arith}
+use Rattle.std.proofs.lemmas.Bool.{cases_eq, cases_lt, false≢true}
+use Rattle.xdg_nodeset.specs.Tables.{In, IsClosure}
+use Rattle.xdg_nodeset.proofs.Closures.{closure_more}
+use Rattle.xdg_nodeset.proofs.TableSets.{Widened, either, widened_start, widened_more}
+use Rattle.xdg_graph.specs.Edges.{HasNoneFrom, IsLedTo}
 use Rattle.xdg_facts.specs.Rises.{has}
 
 module _ (old now : List (List ℕ)) (size middle : ℕ) (rest : HasNoneFrom size old) where
@@ -31,3 +32,29 @@ widened_none table middle beyond is none a b = (
 
 -- each turn over the nodes of a table
 pub ruleset widened_steps = (widened_start, widened_more, widened_rest, widened_none)
+
+-- ---- nodes that no set has
+
+-- each node that one of the first sets has is among some
+abbrev pub IsLedToBy : ℕ → List (List ℕ) → List ℕ → Type 0
+IsLedToBy k table ends = (a b : ℕ) → a < k → In table a b → has ends b ≡ true
+
+pub led_start : (table : List (List ℕ)) (ends : List ℕ) → IsLedToBy 0 table ends
+led_start table ends a b l h = absurd (omega (arith, l))
+
+pub led_next : (table : List (List ℕ)) (k : ℕ) (ends set new : List ℕ) → set ≡ get_or table k [] → ((n : ℕ) → has new n ≡ (has ends n || has set n)) → IsLedToBy k table ends → IsLedToBy (k + 1) table new
+led_next table k ends set new at is so_far a b l h = is b ∙ (either (has ends b) (has set b)).1 (elim (cases_eq a k) [
+  | inl same ↦ inr (subst (λ s. has s b ≡ true) (sym at) (subst (λ i. In table i b) same h))
+  | inr other ↦ inl (so_far a b (omega (arith, l, other)) h)
+])
+
+pub led_end : (table : List (List ℕ)) (k size : ℕ) (ends : List ℕ) → size ≤ k → HasNoneFrom size table → IsLedToBy k table ends → IsLedTo table ends
+led_end table k size ends all rest led a b h = elim (cases_lt a size) [ inl l ↦ led a b (omega (arith, l, all)) h | inr past ↦ absurd (rest a b past h) ]
+
+-- nothing leads through such a node
+pub closure_skip : (i : ℕ) (table now : List (List ℕ)) (ends : List ℕ) → has ends i ≡ false → IsLedTo now ends → IsClosure i table now → IsClosure (i + 1) table now
+closure_skip i table now ends none led c = closure_more i table now now c (λ a b. (λ h. inl h, λ h. elim h [ inl o ↦ o | inr o ↦ absurd (false≢true (sym none ∙ led a i o.0)) ]))
+
+-- what is added leads to nodes to which something led before
+pub led_widened : (old new : List (List ℕ)) (i : ℕ) (ends : List ℕ) → ((a b : ℕ) → In new a b ↔ (In old a b ⊎ (In old a i × In old i b))) → IsLedTo old ends → IsLedTo new ends
+led_widened old new i ends step led a b h = elim ((step a b).0 h) [ inl o ↦ led a b o | inr o ↦ led i b o.1 ]

@@ -5,10 +5,10 @@ ghost use Rattle.xdg_facts.specs.Rises.{has};
 ghost use Rattle.xdg_nodeset.specs.Tables.{In, IsClosure};
 ghost use Rattle.xdg_problem.specs.Paths.{Above};
 ghost use Rattle.xdg_store.specs.States.{Known};
-ghost use Rattle.xdg_graph.specs.Edges.{HasNoneFrom, edges_of};
+ghost use Rattle.xdg_graph.specs.Edges.{HasNoneFrom, IsLedTo, edges_of};
 
 use crate::labels::node_count;
-use crate::tables::daughters;
+use crate::tables::{daughters, set_at};
 use crate::upward::mothers;
 use crate::which::Which;
 use xdg_base::{DimId, NodeId};
@@ -47,14 +47,31 @@ fn widen(table: &mut [NodeSet; 128], size: u8, middle: u8)
     }
 }
 
+/// The nodes that one of the first sets of a table has.
+fn led_to(table: &[NodeSet; 128], size: u8) -> NodeSet
+    requires size { size ≤ 128 }
+    requires rest { HasNoneFrom size table.now }
+    ensures { IsLedTo table.now result }
+{
+    let mut ends = NodeSet::empty();
+    for at in 0..size {
+        ends = ends.union(&set_at(table, NodeId(at)));
+    }
+    ends
+}
+
 /// Adds to a table what it leads to through the first nodes, by the algorithm of Warshall (1962), where the sets of the others are empty.
-#[tactic(auto, using(xdg_nodeset::proofs::Closures::closure_start, xdg_nodeset::proofs::Closures::closure_more))]
+/// To a node that no set has nothing leads, and so nothing through it.
 fn close(table: &mut [NodeSet; 128], size: u8)
     requires size { size ≤ 128 }
     requires rest { HasNoneFrom size table.old }
     ensures { IsClosure size table.old table.new }
 {
+    let ends = led_to(table, size);
     for middle in 0..size {
+        if !ends.contains(NodeId(middle)) {
+            continue;
+        }
         widen(table, size, middle);
     }
 }

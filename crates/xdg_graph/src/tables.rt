@@ -1,6 +1,6 @@
 //! The daughters of each node.
 
-ghost use Rattle.std.specs.Prelude.{◌≡◌, ◌<◌, ◌↔◌, ℕ, [], IsTrue, slice_index_or};
+ghost use Rattle.std.specs.Prelude.{◌≡◌, ◌<◌, ◌↔◌, ◌⊎◌, ℕ, [], true, IsTrue, slice_index_or};
 ghost use Rattle.xdg_facts.specs.Rises.{has};
 ghost use Rattle.xdg_nodeset.specs.Tables.{In};
 ghost use Rattle.xdg_problem.specs.Paths.{IsDaughter, IsDaughterBy};
@@ -9,6 +9,7 @@ ghost use Rattle.xdg_store.specs.States.{Known};
 ghost use Rattle.xdg_graph.specs.Edges.{HasNoneFrom, edge_labels, edges_of};
 
 use crate::labels::{labels_of, node_count};
+use crate::upward::mothers_with;
 use crate::which::Which;
 use xdg_base::{DimId, LabelId, NodeId};
 use xdg_nodeset::NodeSet;
@@ -55,16 +56,61 @@ pub fn daughters_of(store: &Store, which: Which, dim: DimId, mother: NodeId) -> 
     daughters
 }
 
-/// For each node its daughters; a node that the sentence has not has none.
+/// For each node those to which an edge leads that may be present.
 #[tactic(auto, using(crate::proofs::Noting::noted_start, crate::proofs::Noting::noted_next))]
+fn may_daughters(store: &Store, dim: DimId) -> [NodeSet; 128]
+    ensures exact { (a b : ℕ) → In result a b ↔ IsDaughter (edges_of Which.May store.now.parts store.now.now dim.0) a b }
+    ensures known { Known store.now }
+{
+    let mut table = [NodeSet::empty(); 128];
+    for mother in 0..node_count(store) {
+        table[usize::from(mother)] = daughters_of(store, Which::May, dim, NodeId(mother));
+    }
+    table
+}
+
+/// Adds to a table that it leads from a node to another.
+#[tactic(auto, using(xdg_nodeset::proofs::TableSets::added))]
+fn add(table: &mut [NodeSet; 128], from: NodeId, to: NodeId)
+    requires from { from.0 < 128 }
+    requires to { to.0 < 128 }
+    ensures { (a b : ℕ) → In table.new a b ↔ (In table.old a b ⊎ ((from.0 ≡ a) × (to.0 ≡ b))) }
+{
+    table[usize::from(from.0)].insert(to);
+}
+
+/// Adds to a table that it leads from some nodes to one.
+fn add_all(table: &mut [NodeSet; 128], mothers: NodeSet, daughter: NodeId)
+    requires { daughter.0 < 128 }
+    ensures { (a b : ℕ) → In table.new a b ↔ (In table.old a b ⊎ ((has mothers a ≡ true) × (daughter.0 ≡ b))) }
+{
+    for mother in mothers.iter() {
+        add(table, mother, daughter);
+    }
+}
+
+/// For each node those to which an edge leads that must be present. Few edges must be, so that it goes from each daughter to its mothers.
+fn must_daughters(store: &Store, dim: DimId) -> [NodeSet; 128]
+    ensures exact { (a b : ℕ) → In result a b ↔ IsDaughter (edges_of Which.Must store.now.parts store.now.now dim.0) a b }
+    ensures known { Known store.now }
+{
+    let mut table = [NodeSet::empty(); 128];
+    let labels = labels_of(store, dim);
+    for daughter in 0..node_count(store) {
+        let mothers = mothers_with(store, Which::Must, dim, NodeId(daughter), labels);
+        add_all(&mut table, mothers, NodeId(daughter));
+    }
+    table
+}
+
+/// For each node its daughters; a node that the sentence has not has none.
 pub fn daughters(store: &Store, which: Which, dim: DimId) -> [NodeSet; 128]
     ensures exact { (a b : ℕ) → In result a b ↔ IsDaughter (edges_of which store.now.parts store.now.now dim.0) a b }
     ensures rest { HasNoneFrom (nodes store.now.parts) result }
     ensures known { Known store.now }
 {
-    let mut table = [NodeSet::empty(); 128];
-    for mother in 0..node_count(store) {
-        table[usize::from(mother)] = daughters_of(store, which, dim, NodeId(mother));
+    match which {
+        Which::May => may_daughters(store, dim),
+        Which::Must => must_daughters(store, dim),
     }
-    table
 }

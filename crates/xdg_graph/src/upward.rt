@@ -6,13 +6,13 @@ ghost use Rattle.xdg_nodeset.specs.Tables.{In};
 ghost use Rattle.xdg_problem.specs.Paths.{IsDaughter, IsDaughterBy};
 ghost use Rattle.xdg_problem.specs.Places.{nodes};
 ghost use Rattle.xdg_store.specs.States.{Known};
-ghost use Rattle.xdg_graph.specs.Edges.{HasNoneFrom, edge_labels, edges_of};
+ghost use Rattle.xdg_graph.specs.Edges.{HasNoneFrom, InSome, edge_labels, edges_of, mothers_in};
 
 use crate::labels::{labels_of, node_count};
 use crate::which::Which;
 use xdg_base::{DimId, LabelId, NodeId};
 use xdg_nodeset::NodeSet;
-use xdg_store::Store;
+use xdg_store::{Mothers, Store};
 
 /// The nodes from which an edge with a label leads into a node.
 pub fn mothers_by(
@@ -33,18 +33,53 @@ pub fn mothers_by(
     }
 }
 
+/// What a row has of the edges that may be present, or of those that must be.
+fn mothers_in(which: Which, row: &Mothers) -> NodeSet
+    ensures { result ≡ mothers_in which row.now }
+{
+    match which {
+        Which::May => row.may,
+        Which::Must => row.must,
+    }
+}
+
+/// The nodes that some row has.
+fn mothers_in_some(which: Which, rows: &[Mothers]) -> NodeSet
+    ensures { (x : ℕ) → IsTrue (has result x) ↔ InSome which rows.now x }
+{
+    let mut mothers = NodeSet::empty();
+    for row in rows {
+        mothers = mothers.union(&mothers_in(which, row));
+    }
+    mothers
+}
+
+/// The nodes from which an edge leads into a node, on a dimension whose edges have so many labels.
+pub(crate) fn mothers_with(
+    store: &Store,
+    which: Which,
+    dim: DimId,
+    daughter: NodeId,
+    labels: u8,
+) -> NodeSet
+    requires node { daughter.0 < nodes store.now.parts }
+    requires labels { labels ≡ edge_labels store.now.parts dim.0 }
+    ensures exact { (x : ℕ) → IsTrue (has result x) ↔ IsDaughter (edges_of which store.now.parts store.now.now dim.0) x daughter.0 }
+    ensures known { Known store.now }
+{
+    let rows = store.mothers_by_label(dim, daughter, labels);
+    let mut mothers = mothers_in_some(which, rows).meet(&store.all_nodes());
+    mothers.remove(daughter);
+    mothers
+}
+
 /// The nodes from which an edge leads into a node.
-#[tactic(auto, using(crate::proofs::Edges::over_start, crate::proofs::Edges::over_next))]
 pub fn mothers_of(store: &Store, which: Which, dim: DimId, daughter: NodeId) -> NodeSet
     requires { daughter.0 < nodes store.now.parts }
     ensures exact { (x : ℕ) → IsTrue (has result x) ↔ IsDaughter (edges_of which store.now.parts store.now.now dim.0) x daughter.0 }
     ensures known { Known store.now }
 {
-    let mut mothers = NodeSet::empty();
-    for label in 0..labels_of(store, dim) {
-        mothers = mothers.union(&mothers_by(store, which, dim, daughter, LabelId(label)));
-    }
-    mothers
+    mothers_with(store, which, dim, daughter, labels_of(store, dim))
 }
 
 /// For each node its mothers; a node that the sentence has not has none.
@@ -55,8 +90,9 @@ pub fn mothers(store: &Store, which: Which, dim: DimId) -> [NodeSet; 128]
     ensures known { Known store.now }
 {
     let mut table = [NodeSet::empty(); 128];
+    let labels = labels_of(store, dim);
     for daughter in 0..node_count(store) {
-        table[usize::from(daughter)] = mothers_of(store, which, dim, NodeId(daughter));
+        table[usize::from(daughter)] = mothers_with(store, which, dim, NodeId(daughter), labels);
     }
     table
 }

@@ -1,15 +1,19 @@
-use Rattle.std.proofs.Common.{arith, refl}
-use Rattle.xdg_graph.proofs.Noting.{noted_start, noted_end}
+use Rattle.std.proofs.Common.{ℕ, ◌↔◌, sym, subst}
+use Rattle.xdg_nodeset.specs.Tables.{In}
+use Rattle.xdg_problem.specs.Paths.{IsDaughter}
+use Rattle.xdg_graph.specs.declared.which.Which.TheVariants as whichs
+use Rattle.xdg_graph.specs.Edges.{edges_of}
+use Rattle.xdg_graph.proofs.Adding.{none_from}
 use Rattle.xdg_graph.proofs.tables.daughters.Goals as goal
 
-pub loop-mother-init : goal.loop-mother-init
-loop-mother-init c = noted_start _ c.empty-table.result _ c.empty-table.ensures.value refl
+pub returns-in-May-clause-exact : goal.returns-in-May-clause-exact
+returns-in-May-clause-exact c = subst (λ w. (a b : ℕ) → In c.may_daughters.result a b ↔ IsDaughter (edges_of w c.args.store.now.parts c.args.store.now.now c.args.dim.0) a b) (sym c.in-May.is) c.may_daughters.ensures.exact
 
-pub returns-clause-exact : goal.returns-clause-exact
-returns-clause-exact c = noted_end c.args.which c.args.store.now.parts c.args.store.now.now c.args.dim.0 c.loop-mother.mother c.loop-mother.table c.node_count-mother-end.ensures.known.is_box (let n = c.loop-mother-test.false in let e = c.node_count-mother-end.ensures.size in omega (arith, n, e)) c.loop-mother.invariant
+pub returns-in-May-clause-rest : goal.returns-in-May-clause-rest
+returns-in-May-clause-rest c = none_from whichs.May c.args.store.now.parts c.args.store.now.now c.args.dim.0 c.may_daughters.ensures.known.is_box c.may_daughters.result c.may_daughters.ensures.exact
 
-pub returns-clause-rest : goal.returns-clause-rest
-returns-clause-rest c a b past h =
-    let n = c.loop-mother-test.false in
-    let e = c.node_count-mother-end.ensures.size in
-    c.loop-mother.invariant.left a b (let k = c.loop-mother.auto.mother-end in omega (arith, n, e, past, k)) h
+pub returns-in-Must-clause-exact : goal.returns-in-Must-clause-exact
+returns-in-Must-clause-exact c = subst (λ w. (a b : ℕ) → In c.must_daughters.result a b ↔ IsDaughter (edges_of w c.args.store.now.parts c.args.store.now.now c.args.dim.0) a b) (sym c.in-Must.is) c.must_daughters.ensures.exact
+
+pub returns-in-Must-clause-rest : goal.returns-in-Must-clause-rest
+returns-in-Must-clause-rest c = none_from whichs.Must c.args.store.now.parts c.args.store.now.now c.args.dim.0 c.must_daughters.ensures.known.is_box c.must_daughters.result c.must_daughters.ensures.exact

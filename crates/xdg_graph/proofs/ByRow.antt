@@ -1,0 +1,83 @@
+-- The mothers of a node by the rows of its labels.
+use Rattle.std.proofs.Common.{◌≡◌, ◌≢◌, ℕ, ◌<◌, ◌≤◌, ◌+◌, ◌↔◌, ◌&&◌, ◌||◌, inl, inr, Bool, true, IsTrue, List, [], length, get_or, ap, sym, ◌∙◌, arith, subst}
+use Rattle.std.specs.Prelude.{◌==◌, nat_lt, not}
+use Rattle.std.proofs.lemmas.Bool.{cases_lt, eq-eqb, false≢true, lt-ltb, ltb-true, ne_eqb}
+use Rattle.std.proofs.lemmas.List.{get_or_default, get_or_past}
+use Rattle.xdg_facts.specs.Rises.{has}
+use Rattle.xdg_nodeset.proofs.TableSets.{both}
+use Rattle.xdg_problem.specs.declared.parts.Parts.{Parts}
+use Rattle.xdg_problem.specs.Boxes.{IsBox}
+use Rattle.xdg_problem.specs.Paths.{IsDaughter}
+use Rattle.xdg_problem.specs.Places.{edge, nodes}
+use Rattle.xdg_problem.specs.Vectors.{shape}
+use Rattle.xdg_store.specs.Across.{AreMothers, no_mothers}
+use Rattle.xdg_store.specs.InRange.{HasEdges}
+use Rattle.xdg_store.specs.declared.across.Mothers.{Mothers}
+use Rattle.xdg_graph.specs.declared.which.Which.{Which}
+use Rattle.xdg_graph.specs.declared.which.Which.TheVariants as whichs
+use Rattle.xdg_graph.specs.Edges.{InSome, Stands, edge_labels, edges_of, mothers_in}
+use Rattle.xdg_graph.proofs.Edges.{any_label, first_next, first_start, stands_by}
+use Rattle.xdg_graph.proofs.Labelled.{has_edges, place_between}
+
+-- ---- the nodes that some row has
+
+-- a row has a node
+abbrev RowHas : Which → List Mothers → ℕ → ℕ → Type 0
+RowHas which rows label x = has (mothers_in which (get_or rows label no_mothers)) x ≡ true
+
+-- one of the first rows has a node
+abbrev pub InFirst : Which → List Mothers → ℕ → ℕ → Type 0
+InFirst which rows k x = (label : ℕ) × (label < k) × RowHas which rows label x
+
+pub rows_start : (which : Which) (rows : List Mothers) (set : List ℕ) → set ≡ [] → (x : ℕ) → IsTrue (has set x) ↔ InFirst which rows 0 x
+rows_start which rows set empty x = first_start (RowHas which rows) set empty x
+
+pub rows_next : (which : Which) (rows : List Mothers) (k : ℕ) (row : Mothers) (old more set : List ℕ) → k < length rows → row ≡ get_or rows k row → more ≡ mothers_in which row → ((x : ℕ) → has set x ≡ (has old x || has more x)) → ((x : ℕ) → IsTrue (has old x) ↔ InFirst which rows k x) → (x : ℕ) → IsTrue (has set x) ↔ InFirst which rows (k + 1) x
+rows_next which rows k row old more set l at is joined so_far x =
+    let same : more ≡ mothers_in which (get_or rows k no_mothers) = is ∙ ap (mothers_in which) (at ∙ get_or_default rows k row no_mothers l) in
+    first_next (RowHas which rows) k old more set so_far (λ y. (λ h. subst (λ s. has s y ≡ true) same h, λ h. subst (λ s. has s y ≡ true) (sym same) h)) joined x
+
+none_past : (which : Which) (rows : List Mothers) (k x : ℕ) → length rows ≤ k → RowHas which rows k x → ⊥
+none_past whichs.May rows k x l h = false≢true (subst (λ (r : Mothers). has r.may x ≡ true) (get_or_past rows k no_mothers l) h)
+none_past whichs.Must rows k x l h = false≢true (subst (λ (r : Mothers). has r.must x ≡ true) (get_or_past rows k no_mothers l) h)
+
+pub rows_end : (which : Which) (rows : List Mothers) (k : ℕ) (set : List ℕ) → length rows ≤ k → ((x : ℕ) → IsTrue (has set x) ↔ InFirst which rows k x) → (x : ℕ) → IsTrue (has set x) ↔ InSome which rows x
+rows_end which rows k set all exact x = (
+  λ t. (let p = (exact x).0 t in elim (cases_lt p.0 (length rows)) [ inl m ↦ (p.0, m, p.2) | inr past ↦ absurd (none_past which rows p.0 x past p.2) ]),
+  λ (label, l, h). (exact x).1 (label, omega (arith, l, all), h),
+)
+
+-- ---- the mothers of a node
+
+-- the rows that are asked for
+pub rows_there : (parts : Parts) (dim daughter labels : ℕ) → daughter < nodes parts → labels ≡ edge_labels parts dim → (label : ℕ) → label < labels → HasEdges parts dim daughter label
+rows_there parts dim daughter labels within same label l = has_edges parts dim daughter label within (omega (arith, l, same))
+
+-- a row says from which other nodes an edge leads
+row_stands : (which : Which) (parts : Parts) (box : List (List Bool)) (dim v labels : ℕ) (rows : List Mothers) → AreMothers parts box dim v labels rows → (u label : ℕ) → u < nodes parts → u ≢ v → label < labels → RowHas which rows label u ↔ Stands which parts box (edge dim u label v)
+row_stands whichs.May parts box dim v labels rows are u label l differ i = are.may u label l differ i
+row_stands whichs.Must parts box dim v labels rows are u label l differ i = are.must u label l differ i
+
+-- one set has the nodes that some row has, of those of the sentence, without the daughter
+others_in : (u v n : ℕ) (joined every met set : List ℕ) → ((x : ℕ) → has every x ≡ nat_lt x n) → ((x : ℕ) → has met x ≡ (has joined x && has every x)) → ((x : ℕ) → has set x ≡ (not (x == v) && has met x)) → (has set u ≡ true) ↔ ((u < n) × (u ≢ v) × (has joined u ≡ true))
+others_in u v n joined every met set all meets without = (
+  λ h.
+      let a = (both (not (u == v)) (has met u)).0 (sym (without u) ∙ h) in
+      let b = (both (has joined u) (has every u)).0 (sym (meets u) ∙ a.1) in
+      (ltb-true u n (sym (all u) ∙ b.1), λ same. false≢true (sym (ap not (eq-eqb u v same)) ∙ a.0), b.0),
+  λ (l, differ, j). without u ∙ (both (not (u == v)) (has met u)).1 (ap not (ne_eqb u v differ), meets u ∙ (both (has joined u) (has every u)).1 (j, all u ∙ lt-ltb u n l)),
+)
+
+pub mothers_by_rows : (which : Which) (parts : Parts) (box : List (List Bool)) (dim v labels : ℕ) (rows : List Mothers) (joined every met set : List ℕ) → IsBox (shape parts) box → v < nodes parts → labels ≡ edge_labels parts dim → AreMothers parts box dim v labels rows → ((x : ℕ) → IsTrue (has joined x) ↔ InSome which rows x)
+    → ((x : ℕ) → has every x ≡ nat_lt x (nodes parts)) → ((x : ℕ) → has met x ≡ (has joined x && has every x)) → ((x : ℕ) → has set x ≡ (not (x == v) && has met x)) → (u : ℕ) → IsTrue (has set u) ↔ IsDaughter (edges_of which parts box dim) u v
+mothers_by_rows which parts box dim v labels rows joined every met set box_is within same are some all meets without u =
+    let others = others_in u v (nodes parts) joined every met set all meets without in
+    let any = any_label which parts box dim labels u v box_is (omega (arith, same)) in (
+      λ h. (let p = others.0 h in
+          let r = (some u).0 p.2 in
+          let l : r.0 < labels = (let m = r.1 in let e = are.count in omega (arith, m, e)) in
+          any.0 (r.0, l, (stands_by which parts box dim u r.0 v box_is).1 (place_between parts dim u r.0 v p.0 within p.1 (omega (arith, l, same)), (row_stands which parts box dim v labels rows are u r.0 p.0 p.1 l).0 r.2))),
+      λ d. (let (label, l, by) = any.1 d in
+          let (place, stands) = (stands_by which parts box dim u label v box_is).0 by in
+          others.1 (place.mother, place.differ, (some u).1 (label, (let e = are.count in omega (arith, l, e)), (row_stands which parts box dim v labels rows are u label place.mother place.differ l).1 stands))),
+    )
