@@ -21,7 +21,6 @@ pub mod Ruled
 pub mod RuledRoots
 pub mod Single
 pub mod Reached
-pub mod Starting
 pub mod Labels
 pub mod MustsStay
 pub mod Told

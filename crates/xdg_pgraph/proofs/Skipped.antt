@@ -2,9 +2,7 @@
 use Rattle.std.proofs.Common.{◌≡◌, ◌≢◌, ℕ, ◌+◌, ◌<◌, ◌&&◌, inl, inr, Bool, true, false, List, ◌∷◌, length, refl, sym, ◌∙◌, subst, arith}
 use Rattle.std.specs.Prelude.{Contains}
 use Rattle.std.proofs.lemmas.Bool.{cases_eq, false≢true}
-use Rattle.std.proofs.lemmas.List.{nil_from_length}
 use Rattle.xdg_nodeset.proofs.TableSets.{both}
-use Rattle.xdg_nodeset.specs.Tables.{In}
 use Rattle.xdg_problem.specs.declared.analysis.Edge.{Edge}
 use Rattle.xdg_problem.specs.declared.parts.Group.{Group}
 use Rattle.xdg_problem.specs.declared.parts.Parts.{Parts}
@@ -23,11 +21,10 @@ use Rattle.xdg_pgraph.specs.Entering.{Tells, Leaving}
 use Rattle.xdg_pgraph.specs.Incomings.{AreOf}
 use Rattle.xdg_pgraph.specs.Ruling.{Runs, RunsFor, OneLabelOf}
 use Rattle.xdg_pgraph.specs.Planes.{IsPlane}
-use Rattle.xdg_pgraph.specs.Seeking.{Aims, BacksFrom, StartAll, ToNode}
+use Rattle.xdg_pgraph.specs.Seeking.{Aims, ToNode}
 use Rattle.xdg_pgraph.proofs.Labels.{LabelInto}
-use Rattle.xdg_pgraph.proofs.Reached.{BacksInto}
-use Rattle.xdg_pgraph.proofs.Ruled.{OneMotherOutside, RunsPart, head_in}
 use Rattle.xdg_pgraph.proofs.Told.{entered_within}
+use Rattle.xdg_pgraph.proofs.Ruled.{OneMotherOutside, RunsPart, head_in}
 use Rattle.xdg_facts.specs.Rises.{has}
 
 -- more is looked at, where the rule takes nothing that remained at first
@@ -80,38 +77,13 @@ none_enters dim w p s incoming are none = record {
 }
 
 -- more is aimed at, of which nothing remained at first
-clears_skip : (A B : ℕ → ℕ → Type 0) (p q : Progress) (old new : State) → ((d v : ℕ) → A d v → B d v) → ((d v : ℕ) → B d v → Has old.now d v → A d v) → Clears A p old q new → Clears B p old q new
+pub clears_skip : (A B : ℕ → ℕ → Type 0) (p q : Progress) (old new : State) → ((d v : ℕ) → A d v → B d v) → ((d v : ℕ) → B d v → Has old.now d v → A d v) → Clears A p old q new → Clears B p old q new
 clears_skip A B p q old new to from c = record {
   same = c.same;
   inside = c.inside;
   quiet = c.quiet;
   gone = λ z d v b h. c.gone z d v (from d v b (c.inside d v h)) h;
   goes = λ group around is lies takes. c.goes group around is lies (λ d v a. takes d v (to d v a));
-}
-
--- no edge that may be leads to a node and closes a cycle
-pub back_skip : (plane : Plane) (far : List (List ℕ)) (p q : Progress) (old mid : State) (u w : ℕ) (may : Entered) → Tells (Leaving (may_edges old.parts old.now plane.dim.0) u) may → ((has may.some w ≡ true) × In far w u → ⊥) → Clears (Aims old.parts plane.dim.0 founds.More (BacksInto far u w)) p old q mid → Clears (Aims old.parts plane.dim.0 founds.More (BacksInto far u (w + 1))) p old q mid
-back_skip plane far p q old mid u w may tells none = clears_skip (Aims old.parts plane.dim.0 founds.More (BacksInto far u w)) (Aims old.parts plane.dim.0 founds.More (BacksInto far u (w + 1))) p q old mid
-    (λ d v a. record { place = a.place; is = a.is; aimed = (a.aimed.0, (let l = a.aimed.1 in omega (arith, l))); other = a.other; says = a.says })
-    (λ d v a h. elim (cases_eq a.place.daughter.0 w) [
-      | inl at ↦ absurd (none (
-        (tells.once w).1 (a.place, (place_may old.parts old.now plane.dim.0 a.place d v a.is a.says h, a.aimed.0.0), at),
-        subst (λ k. In far k u) at (subst (λ k. In far a.place.daughter.0 k) a.aimed.0.0 a.aimed.0.1),
-      ))
-      | inr other ↦ record { place = a.place; is = a.is; aimed = (a.aimed.0, (let l = a.aimed.1 in omega (arith, l, other))); other = a.other; says = a.says }
-    ])
-
--- no edge out of a node leads to one for which the table has some node
-pub none_back : (plane : Plane) (far : List (List ℕ)) (p : Progress) (s : State) (u : ℕ) (may : Entered) (starts met : List ℕ) → IsPlane s.parts plane → Tells (Leaving (may_edges s.parts s.now plane.dim.0) u) may → StartAll far plane.nodes starts → ((n : ℕ) → has met n ≡ (has may.some n && has starts n)) → length met ≡ 0 → Clears (Aims s.parts plane.dim.0 founds.More (BacksFrom far u)) p s p s
-none_back plane far p s u may starts met plane_is tells all is none = record {
-  same = refl;
-  inside = λ d v h. h;
-  quiet = λ z. (z, refl);
-  gone = λ z d v a h.
-      let here = (tells.once a.place.daughter.0).1 (a.place, (place_may s.parts s.now plane.dim.0 a.place d v a.is a.says h, a.aimed.0), refl) in
-      let there = all a.place.daughter.0 a.place.mother.0 (((plane_is.exact a.place).0 a.is).daughter) a.aimed.1 in
-      false≢true (subst (λ xs. has xs a.place.daughter.0 ≡ true) (nil_from_length met none) (is a.place.daughter.0 ∙ (both (has may.some a.place.daughter.0) (has starts a.place.daughter.0)).1 (here, there)));
-  goes = λ group around is_group lies takes. goes_none group p s;
 }
 
 module _ (plane : Plane) (p q : Progress) (old mid : State) (must may : Entered) (w : ℕ) where

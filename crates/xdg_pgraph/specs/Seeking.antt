@@ -97,13 +97,9 @@ NoneOnly parts box dim w = (d v : ℕ) → Only parts (may_edges parts box dim) 
 abbrev pub Backs : List (List ℕ) → Edge → Type 0
 Backs far e = In far e.daughter.0 e.mother.0
 
--- and the edge leaves a node
-abbrev pub BacksFrom : List (List ℕ) → ℕ → Edge → Type 0
-BacksFrom far u e = (e.mother.0 ≡ u) × Backs far e
-
--- each of the first nodes for which the table has some node is in a set
-abbrev pub StartAll : List (List ℕ) → ℕ → List ℕ → Type 0
-StartAll far k starts = (a b : ℕ) → a < k → In far a b → has starts a ≡ true
+-- and the edge leads into a node
+abbrev pub BacksInto : List (List ℕ) → ℕ → Edge → Type 0
+BacksInto far v e = (e.daughter.0 ≡ v) × Backs far e
 
 -- the value that says that an edge from a node to another is present, beside which one of some edges leads there
 pub record Doubled (parts : Parts) (dim : ℕ) (edges : List Edge) (u v d x : ℕ) : Type 0 where
