@@ -1,5 +1,5 @@
 -- Nodes at which the rules take nothing that remains.
-use Rattle.std.proofs.Common.{◌≡◌, ◌≢◌, ℕ, ◌+◌, ◌&&◌, inl, inr, Bool, true, false, List, length, refl, sym, ◌∙◌, subst, arith}
+use Rattle.std.proofs.Common.{◌≡◌, ◌≢◌, ℕ, ◌+◌, ◌&&◌, inl, inr, Bool, false, List, refl, sym, ◌∙◌, subst, arith}
 use Rattle.std.specs.Prelude.{Contains}
 use Rattle.std.proofs.lemmas.Bool.{cases_eq, false≢true}
 use Rattle.xdg_nodeset.proofs.TableSets.{both}
@@ -56,7 +56,7 @@ module _ (parts : Parts) (box : List (List Bool)) (dim : ℕ) where
   pub must_may : (e : Edge) → Contains (must_edges parts box dim) e → Contains (may_edges parts box dim) e
   must_may e c = (let m = must_is parts box dim e c in may_of parts box dim e (record { place = m.place; dim_is = m.dim_is; present = m.present }))
 
-  place_may : (e : Edge) (d v : ℕ) → IsPlaceOn parts dim e → SaysPresent parts e d v → Has box d v → Contains (may_edges parts box dim) e
+  pub place_may : (e : Edge) (d v : ℕ) → IsPlaceOn parts dim e → SaysPresent parts e d v → Has box d v → Contains (may_edges parts box dim) e
   place_may e d v on says h = may_of parts box dim e (record { place = on.0; dim_is = on.1; present = subst (λ k. Has box (edge_decision parts e) k) says.1 (subst (λ k. Has box k v) says.0 h) })
 
 -- no edge that may be leads into a node
