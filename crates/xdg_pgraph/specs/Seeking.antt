@@ -1,5 +1,5 @@
 -- Edges that are looked for, and edges that are taken away.
-use Rattle.std.specs.Prelude.{◌≡◌, ◌≢◌, ◌≤◌, ◌<◌, ℕ, Bool, true, List, [], ◌∷◌, length, Contains}
+use Rattle.std.specs.Prelude.{◌≡◌, ◌≢◌, ◌≤◌, ℕ, Bool, List, [], ◌∷◌, length, Contains}
 use Rattle.xdg_problem.specs.declared.analysis.Edge.{Edge}
 use Rattle.xdg_problem.specs.declared.parts.Parts.{Parts}
 use Rattle.xdg_problem.specs.Boxes.{Has}
@@ -12,7 +12,6 @@ use Rattle.xdg_pgraph.specs.declared.found.Which.{Which}
 use Rattle.xdg_pgraph.specs.declared.found.Which.TheVariants as whichs
 use Rattle.xdg_pgraph.specs.declared.entered.Roots.{Roots}
 use Rattle.xdg_pgraph.specs.declared.entered.Roots.TheVariants as rootss
-use Rattle.xdg_facts.specs.Rises.{has}
 
 -- the edges of a dimension that may be, or those that must be
 abbrev pub edges_of : Which → Parts → List (List Bool) → ℕ → List Edge

@@ -12,7 +12,7 @@ use crate::found::Found;
 use crate::plane::Plane;
 use crate::taking::forbid_joined;
 use xdg_base::NodeId;
-use xdg_graph::{Which, above, mothers_of, set_at};
+use xdg_graph::{Which, mothers_of, note_above, set_at};
 use xdg_nodeset::NodeSet;
 use xdg_propcore::Pass;
 use xdg_store::Store;
@@ -49,7 +49,8 @@ pub(crate) fn no_cycle(store: &mut Store, pass: &mut Pass, plane: &Plane)
     ensures parts { store.new.parts ≡ store.old.parts }
     ensures known { Known store.new }
 {
-    let far = above(store, Which::Must, plane.dim);
+    let mut far = [NodeSet::empty(); 128];
+    note_above(&mut far, store, Which::Must, plane.dim);
     for daughter in 0..plane.nodes {
         no_cycle_into(store, pass, plane, &far, daughter);
     }
