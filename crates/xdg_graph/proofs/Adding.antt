@@ -1,9 +1,8 @@
 -- A table of daughters, from each daughter to its mothers.
-use Rattle.std.proofs.Common.{◌≡◌, ℕ, ◌<◌, ◌≤◌, ◌+◌, ◌⊎◌, ◌↔◌, inl, inr, Bool, true, IsTrue, List, [], ◌∷◌, replicate, sym, ◌∙◌, arith, subst}
+use Rattle.std.proofs.Common.{◌≡◌, ℕ, ◌<◌, ◌≤◌, ◌+◌, ◌⊎◌, ◌↔◌, inl, inr, Bool, true, IsTrue, List, [], ◌∷◌, sym, ◌∙◌, arith, subst}
 use Rattle.std.proofs.lemmas.Bool.{cases_eq}
 use Rattle.xdg_facts.specs.Rises.{has}
 use Rattle.xdg_nodeset.specs.Tables.{In}
-use Rattle.xdg_nodeset.proofs.TableSets.{no_in}
 use Rattle.xdg_problem.specs.declared.parts.Parts.{Parts}
 use Rattle.xdg_problem.specs.Boxes.{IsBox}
 use Rattle.xdg_problem.specs.Paths.{IsDaughter}
@@ -11,7 +10,7 @@ use Rattle.xdg_problem.specs.Places.{nodes}
 use Rattle.xdg_problem.specs.Vectors.{shape}
 use Rattle.xdg_problem.proofs.PlaceOrder.{is_place}
 use Rattle.xdg_graph.specs.declared.which.Which.{Which}
-use Rattle.xdg_graph.specs.Edges.{HasNoneFrom, edges_of}
+use Rattle.xdg_graph.specs.Edges.{HasNoneFrom, IsBlank, edges_of}
 use Rattle.xdg_graph.proofs.Ahead.{head_in, head_or_tail, none_ahead, tail_in}
 use Rattle.xdg_graph.proofs.Edges.{which_exact}
 
@@ -54,8 +53,8 @@ adds_end first left to old new is all a b = (
 abbrev pub LeadsBelow : (ℕ → ℕ → Type 0) → ℕ → List (List ℕ) → Type 0
 LeadsBelow leads k table = (a b : ℕ) → In table a b ↔ (leads a b × (b < k))
 
-pub below_none : (leads : ℕ → ℕ → Type 0) (set : List ℕ) (table : List (List ℕ)) → set ≡ [] → table ≡ replicate 128 set → LeadsBelow leads 0 table
-below_none leads set table empty is a b = (λ h. absurd (no_in table 128 set is empty a b h), λ h. absurd (let l = h.1 in omega (arith, l)))
+pub below_none : (leads : ℕ → ℕ → Type 0) (table : List (List ℕ)) → IsBlank table → LeadsBelow leads 0 table
+below_none leads table blank a b = (λ h. absurd (blank a b h), λ h. absurd (let l = h.1 in omega (arith, l)))
 
 pub below_more : (leads : ℕ → ℕ → Type 0) (k : ℕ) (mothers : List ℕ) (old new : List (List ℕ)) → ((x : ℕ) → IsTrue (has mothers x) ↔ leads x k) → ((a b : ℕ) → In new a b ↔ (In old a b ⊎ ((has mothers a ≡ true) × (k ≡ b)))) → LeadsBelow leads k old → LeadsBelow leads (k + 1) new
 below_more leads k mothers old new exact step so_far a b = (

@@ -1,10 +1,9 @@
 -- Tables of nodes below others.
-use Rattle.std.proofs.Common.{◌≡◌, ◌≢◌, ℕ, ◌<◌, ◌≤◌, ◌+◌, ◌↔◌, inl, inr, Bool, true, IsTrue, List, [], ◌∷◌, length, replicate, ap, sym, ◌∙◌, arith, subst, refl}
+use Rattle.std.proofs.Common.{◌≡◌, ◌≢◌, ℕ, ◌<◌, ◌≤◌, ◌+◌, ◌↔◌, inl, inr, Bool, true, IsTrue, List, [], ◌∷◌, length, sym, arith, subst, refl}
 use Rattle.std.specs.Prelude.{slice_set}
 use Rattle.std.proofs.lemmas.Bool.{cases_lt, cases_eq}
-use Rattle.std.proofs.lemmas.List.{get_or-set_same, get_or-set_other, length-set, length-replicate}
+use Rattle.std.proofs.lemmas.List.{get_or-set_same, get_or-set_other}
 use Rattle.xdg_nodeset.specs.Tables.{In, Along, IsClosure}
-use Rattle.xdg_nodeset.proofs.TableSets.{no_in}
 use Rattle.xdg_problem.proofs.Walks.{above_edge, above_trans, closed_above}
 use Rattle.xdg_problem.specs.declared.analysis.Edge.{Edge}
 use Rattle.xdg_problem.specs.declared.parts.Parts.{Parts}
@@ -15,7 +14,7 @@ use Rattle.xdg_problem.specs.Vectors.{shape}
 use Rattle.xdg_problem.proofs.Looking.{any_of}
 use Rattle.xdg_problem.proofs.PlaceOrder.{is_place}
 use Rattle.xdg_graph.specs.declared.which.Which.{Which}
-use Rattle.xdg_graph.specs.Edges.{edges_of}
+use Rattle.xdg_graph.specs.Edges.{IsBlank, edges_of}
 use Rattle.xdg_graph.proofs.Edges.{which_exact}
 use Rattle.xdg_facts.specs.Rises.{has}
 
@@ -23,22 +22,16 @@ use Rattle.xdg_facts.specs.Rises.{has}
 
 -- the sets of the first nodes are those of a relation, and the others are empty
 pub record Noted (leads : ℕ → ℕ → Type 0) (k : ℕ) (table : List (List ℕ)) : Type 0 where
-  pub long : length table ≡ 128
   pub done : (a b : ℕ) → a < k → In table a b ↔ leads a b
   pub left : (a b : ℕ) → k ≤ a → In table a b → ⊥
 
-pub noted_start : (leads : ℕ → ℕ → Type 0) (set : List ℕ) (table : List (List ℕ)) → set ≡ [] → table ≡ replicate 128 set → Noted leads 0 table
-noted_start leads set table empty is = record {
-  long = ap length is ∙ length-replicate 128 set;
-  done = λ a b l. absurd (omega (arith, l));
-  left = λ a b l i. no_in table 128 set is empty a b i;
-}
+pub noted_start : (leads : ℕ → ℕ → Type 0) (table : List (List ℕ)) → IsBlank table → Noted leads 0 table
+noted_start leads table blank = record { done = λ a b l. absurd (omega (arith, l)); left = λ a b l i. blank a b i }
 
-pub noted_next : (leads : ℕ → ℕ → Type 0) (k : ℕ) (table : List (List ℕ)) (set : List ℕ) → k < 128 → Noted leads k table → ((x : ℕ) → IsTrue (has set x) ↔ leads k x) → Noted leads (k + 1) (slice_set table k set)
+pub noted_next : (leads : ℕ → ℕ → Type 0) (k : ℕ) (table : List (List ℕ)) (set : List ℕ) → k < length table → Noted leads k table → ((x : ℕ) → IsTrue (has set x) ↔ leads k x) → Noted leads (k + 1) (slice_set table k set)
 noted_next leads k table set small before here = record {
-  long = length-set table k set ∙ before.long;
   done = λ a b l. elim (cases_eq a k) [
-    | inl same ↦ subst (λ i. In (slice_set table k set) i b ↔ leads i b) (sym same) (subst (λ s. (has s b ≡ true) ↔ leads k b) (sym (get_or-set_same table k set [] (let n = before.long in omega (arith, n, small)))) (here b))
+    | inl same ↦ subst (λ i. In (slice_set table k set) i b ↔ leads i b) (sym same) (subst (λ s. (has s b ≡ true) ↔ leads k b) (sym (get_or-set_same table k set [] small)) (here b))
     | inr other ↦ subst (λ s. (has s b ≡ true) ↔ leads a b) (sym (get_or-set_other table k a set [] other)) (before.done a b (omega (arith, l, other)))
   ];
   left = λ a b l i. (let other : a ≢ k = omega (arith, l) in before.left a b (omega (arith, l)) (subst (λ s. has s b ≡ true) (get_or-set_other table k a set [] other) i));

@@ -27,6 +27,10 @@ Stands whichs.Must = Must
 abbrev pub HasNoneFrom : ℕ → List (List ℕ) → Type 0
 HasNoneFrom size table = (a b : ℕ) → size ≤ a → In table a b → ⊥
 
+-- a table without nodes
+abbrev pub IsBlank : List (List ℕ) → Type 0
+IsBlank table = (a b : ℕ) → In table a b → ⊥
+
 -- how many labels the edges of a dimension can have: none where it has no edges
 abbrev pub plan_labels : DimPlan → ℕ
 plan_labels plan = cond plan.graph (length plan.labels) 0

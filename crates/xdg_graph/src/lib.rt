@@ -18,7 +18,7 @@ pub use arguments::{attr_of, dim_of, truth_of};
 pub use entries::{each_entry_has, each_entry_has_some, entry_count};
 pub use features::{feature_row, is_member, row_of};
 pub use labels::{edge_labels, labels_of, node_count};
-pub use paths::{above, ancestors};
+pub use paths::{above, ancestors, note_above};
 pub use sentence::{every_node, up_to};
 pub use slot::{Slot, slot_of};
 pub use tables::{daughters, daughters_by, daughters_of, set_at};

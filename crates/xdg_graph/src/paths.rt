@@ -5,11 +5,11 @@ ghost use Rattle.xdg_facts.specs.Rises.{has};
 ghost use Rattle.xdg_nodeset.specs.Tables.{In, IsClosure};
 ghost use Rattle.xdg_problem.specs.Paths.{Above};
 ghost use Rattle.xdg_store.specs.States.{Known};
-ghost use Rattle.xdg_graph.specs.Edges.{HasNoneFrom, IsLedTo, edges_of};
+ghost use Rattle.xdg_graph.specs.Edges.{HasNoneFrom, IsBlank, IsLedTo, edges_of};
 
 use crate::labels::node_count;
-use crate::tables::{daughters, set_at};
-use crate::upward::mothers;
+use crate::tables::{note_daughters, set_at};
+use crate::upward::note_mothers;
 use crate::which::Which;
 use xdg_base::{DimId, NodeId};
 use xdg_nodeset::NodeSet;
@@ -76,14 +76,24 @@ fn close(table: &mut [NodeSet; 128], size: u8)
     }
 }
 
+/// Notes in a table without nodes, for each node, those below it, as `above` gives them. A caller that keeps the table copies none.
+pub fn note_above(table: &mut [NodeSet; 128], store: &Store, which: Which, dim: DimId)
+    requires blank { IsBlank table.old }
+    ensures exact { (a b : ℕ) → In table.new a b ↔ Above (edges_of which store.now.parts store.now.now dim.0) a b }
+    ensures known { Known store.now }
+{
+    note_daughters(table, store, which, dim);
+    close(table, node_count(store));
+}
+
 /// For each node those below it: a path of one or more of the edges leads to them. It takes an operation on sets for each two
 /// nodes, and one for each node and label.
 pub fn above(store: &Store, which: Which, dim: DimId) -> [NodeSet; 128]
     ensures exact { (a b : ℕ) → In result a b ↔ Above (edges_of which store.now.parts store.now.now dim.0) a b }
     ensures known { Known store.now }
 {
-    let mut table = daughters(store, which, dim);
-    close(&mut table, node_count(store));
+    let mut table = [NodeSet::empty(); 128];
+    note_above(&mut table, store, which, dim);
     table
 }
 
@@ -92,7 +102,8 @@ pub fn ancestors(store: &Store, which: Which, dim: DimId) -> [NodeSet; 128]
     ensures exact { (a b : ℕ) → In result a b ↔ Above (edges_of which store.now.parts store.now.now dim.0) b a }
     ensures known { Known store.now }
 {
-    let mut table = mothers(store, which, dim);
+    let mut table = [NodeSet::empty(); 128];
+    note_mothers(&mut table, store, which, dim);
     close(&mut table, node_count(store));
     table
 }

@@ -6,7 +6,7 @@ ghost use Rattle.xdg_nodeset.specs.Tables.{In};
 ghost use Rattle.xdg_problem.specs.Paths.{IsDaughter, IsDaughterBy};
 ghost use Rattle.xdg_problem.specs.Places.{nodes};
 ghost use Rattle.xdg_store.specs.States.{Known};
-ghost use Rattle.xdg_graph.specs.Edges.{HasNoneFrom, edge_labels, edges_of};
+ghost use Rattle.xdg_graph.specs.Edges.{HasNoneFrom, IsBlank, edge_labels, edges_of};
 
 use crate::labels::{labels_of, node_count};
 use crate::upward::mothers_with;
@@ -56,17 +56,16 @@ pub fn daughters_of(store: &Store, which: Which, dim: DimId, mother: NodeId) -> 
     daughters
 }
 
-/// For each node those to which an edge leads that may be present.
-#[tactic(auto, using(crate::proofs::Noting::noted_start, crate::proofs::Noting::noted_next))]
-fn may_daughters(store: &Store, dim: DimId) -> [NodeSet; 128]
-    ensures exact { (a b : ℕ) → In result a b ↔ IsDaughter (edges_of Which.May store.now.parts store.now.now dim.0) a b }
+/// Notes for each node those to which an edge leads that may be present.
+#[tactic(auto, using(crate::proofs::Noting::noted_next))]
+fn note_may(table: &mut [NodeSet; 128], store: &Store, dim: DimId)
+    requires blank { IsBlank table.old }
+    ensures exact { (a b : ℕ) → In table.new a b ↔ IsDaughter (edges_of Which.May store.now.parts store.now.now dim.0) a b }
     ensures known { Known store.now }
 {
-    let mut table = [NodeSet::empty(); 128];
     for mother in 0..node_count(store) {
         table[usize::from(mother)] = daughters_of(store, Which::May, dim, NodeId(mother));
     }
-    table
 }
 
 /// Adds to a table that it leads from a node to another.
@@ -89,18 +88,30 @@ fn add_all(table: &mut [NodeSet; 128], mothers: NodeSet, daughter: NodeId)
     }
 }
 
-/// For each node those to which an edge leads that must be present. Few edges must be, so that it goes from each daughter to its mothers.
-fn must_daughters(store: &Store, dim: DimId) -> [NodeSet; 128]
-    ensures exact { (a b : ℕ) → In result a b ↔ IsDaughter (edges_of Which.Must store.now.parts store.now.now dim.0) a b }
+/// Notes for each node those to which an edge leads that must be present. Few edges must be, so that it goes from each daughter to its mothers.
+fn note_must(table: &mut [NodeSet; 128], store: &Store, dim: DimId)
+    requires blank { IsBlank table.old }
+    ensures exact { (a b : ℕ) → In table.new a b ↔ IsDaughter (edges_of Which.Must store.now.parts store.now.now dim.0) a b }
     ensures known { Known store.now }
 {
-    let mut table = [NodeSet::empty(); 128];
     let labels = labels_of(store, dim);
     for daughter in 0..node_count(store) {
         let mothers = mothers_with(store, Which::Must, dim, NodeId(daughter), labels);
-        add_all(&mut table, mothers, NodeId(daughter));
+        add_all(table, mothers, NodeId(daughter));
     }
-    table
+}
+
+/// Notes for each node its daughters; a node that the sentence has not has none.
+pub(crate) fn note_daughters(table: &mut [NodeSet; 128], store: &Store, which: Which, dim: DimId)
+    requires blank { IsBlank table.old }
+    ensures exact { (a b : ℕ) → In table.new a b ↔ IsDaughter (edges_of which store.now.parts store.now.now dim.0) a b }
+    ensures rest { HasNoneFrom (nodes store.now.parts) table.new }
+    ensures known { Known store.now }
+{
+    match which {
+        Which::May => note_may(table, store, dim),
+        Which::Must => note_must(table, store, dim),
+    }
 }
 
 /// For each node its daughters; a node that the sentence has not has none.
@@ -109,8 +120,7 @@ pub fn daughters(store: &Store, which: Which, dim: DimId) -> [NodeSet; 128]
     ensures rest { HasNoneFrom (nodes store.now.parts) result }
     ensures known { Known store.now }
 {
-    match which {
-        Which::May => may_daughters(store, dim),
-        Which::Must => must_daughters(store, dim),
-    }
+    let mut table = [NodeSet::empty(); 128];
+    note_daughters(&mut table, store, which, dim);
+    table
 }

@@ -6,7 +6,7 @@ ghost use Rattle.xdg_nodeset.specs.Tables.{In};
 ghost use Rattle.xdg_problem.specs.Paths.{IsDaughter, IsDaughterBy};
 ghost use Rattle.xdg_problem.specs.Places.{nodes};
 ghost use Rattle.xdg_store.specs.States.{Known};
-ghost use Rattle.xdg_graph.specs.Edges.{HasNoneFrom, InSome, edge_labels, edges_of, mothers_in};
+ghost use Rattle.xdg_graph.specs.Edges.{HasNoneFrom, InSome, IsBlank, edge_labels, edges_of, mothers_in};
 
 use crate::labels::{labels_of, node_count};
 use crate::which::Which;
@@ -82,17 +82,27 @@ pub fn mothers_of(store: &Store, which: Which, dim: DimId, daughter: NodeId) -> 
     mothers_with(store, which, dim, daughter, labels_of(store, dim))
 }
 
+/// Notes for each node its mothers; a node that the sentence has not has none.
+#[tactic(auto, using(crate::proofs::Noting::noted_next))]
+pub(crate) fn note_mothers(table: &mut [NodeSet; 128], store: &Store, which: Which, dim: DimId)
+    requires blank { IsBlank table.old }
+    ensures exact { (a b : ℕ) → In table.new a b ↔ IsDaughter (edges_of which store.now.parts store.now.now dim.0) b a }
+    ensures rest { HasNoneFrom (nodes store.now.parts) table.new }
+    ensures known { Known store.now }
+{
+    let labels = labels_of(store, dim);
+    for daughter in 0..node_count(store) {
+        table[usize::from(daughter)] = mothers_with(store, which, dim, NodeId(daughter), labels);
+    }
+}
+
 /// For each node its mothers; a node that the sentence has not has none.
-#[tactic(auto, using(crate::proofs::Noting::noted_start, crate::proofs::Noting::noted_next))]
 pub fn mothers(store: &Store, which: Which, dim: DimId) -> [NodeSet; 128]
     ensures exact { (a b : ℕ) → In result a b ↔ IsDaughter (edges_of which store.now.parts store.now.now dim.0) b a }
     ensures rest { HasNoneFrom (nodes store.now.parts) result }
     ensures known { Known store.now }
 {
     let mut table = [NodeSet::empty(); 128];
-    let labels = labels_of(store, dim);
-    for daughter in 0..node_count(store) {
-        table[usize::from(daughter)] = mothers_with(store, which, dim, NodeId(daughter), labels);
-    }
+    note_mothers(&mut table, store, which, dim);
     table
 }

@@ -22,7 +22,7 @@ use Rattle.xdg_pgraph.specs.declared.bundle.Way.{Way}
 use Rattle.xdg_pgraph.specs.declared.bundle.Way.TheVariants as ways
 use Rattle.xdg_pgraph.specs.declared.bundle.Bundle.{Bundle}
 use Rattle.xdg_pgraph.specs.declared.found.Which.TheVariants as whichs
-use Rattle.xdg_pgraph.specs.Bundles.{near_node, numbers_of, count_of, Barred, EdgeAt, IsBundleDone, IsLabelDone, AreLabelsDone, AreNodesDone}
+use Rattle.xdg_pgraph.specs.Bundles.{near_node, numbers_of, count_of, Barred, EdgeAt, IsBundleDone, IsLabelDone, AreLabelsDone}
 use Rattle.xdg_pgraph.proofs.PlaneFacts.{which_place}
 
 -- ---- what is taken is taken by the rules
@@ -110,10 +110,4 @@ pub labels_next : (k : ℕ) (parts : Parts) (group : Group) (node : ℕ) (box : 
 labels_next k parts group node box before here l less = elim (cases_lt l k) [
   | inl below ↦ before l below
   | inr past ↦ (let e : l ≡ k = omega (arith, less, past) in subst (λ m. IsLabelDone parts group node m box) (sym e) here)
-]
-
-pub nodes_next : (k labels : ℕ) (parts : Parts) (group : Group) (box : List (List Bool)) → AreNodesDone k labels parts group box → AreLabelsDone labels parts group k box → AreNodesDone (k + 1) labels parts group box
-nodes_next k labels parts group box before here n less = elim (cases_lt n k) [
-  | inl below ↦ before n below
-  | inr past ↦ (let e : n ≡ k = omega (arith, less, past) in subst (λ m. AreLabelsDone labels parts group m box) (sym e) here)
 ]

@@ -1,24 +1,19 @@
 -- What valency takes, value by value.
-use Rattle.std.proofs.Common.{◌≡◌, ℕ, ◌<◌, ◌≤◌, ◌+◌, inl, inr, Bool, true, false, List, [], length, get_or, refl, sym, ◌∙◌, subst, arith}
+use Rattle.std.proofs.Common.{◌≡◌, ℕ, ◌<◌, ◌≤◌, ◌+◌, inl, inr, Bool, true, false, List, [], ◌∷◌, ◌++◌, length, get_or, refl, sym, ◌∙◌, subst, arith}
 use Rattle.std.specs.Prelude.{Contains, All, not}
 use Rattle.std.proofs.lemmas.Bool.{cases_eq, false≢true}
 use Rattle.std.proofs.lemmas.List.Elements.{All-contains, All-weaker, All-contains_itself}
-use Rattle.xdg_problem.specs.declared.analysis.Edge.{Edge}
 use Rattle.xdg_problem.specs.declared.parts.Group.{Group}
 use Rattle.xdg_problem.specs.declared.parts.Parts.{Parts}
-use Rattle.xdg_problem.specs.Analyses.{IsPlace}
 use Rattle.xdg_problem.specs.Boxes.{Has, entry_decision, edge_decision}
-use Rattle.xdg_problem.proofs.PlaceOrder.{place_is}
 use Rattle.xdg_rules.specs.Rules.{HasNoneWithin}
 use Rattle.xdg_store.specs.States.{State}
 use Rattle.xdg_propcore.specs.Passes.{Progress, Clears}
 use Rattle.xdg_propcore.proofs.Passing.{clears_none, clears_like, clears_both, goes_none}
 use Rattle.xdg_pgraph.specs.declared.bundle.Bundle.{Bundle}
-use Rattle.xdg_pgraph.specs.declared.plane.Plane.{Plane}
 use Rattle.xdg_pgraph.specs.Bounding.{NoneBarred}
 use Rattle.xdg_pgraph.specs.Bundles.{edge_to, numbers_of, Barred, OpenTo}
-use Rattle.xdg_pgraph.specs.Planes.{IsPlane}
-use Rattle.xdg_pgraph.proofs.Ends.{far_is, far_within}
+use Rattle.xdg_pgraph.proofs.Members.{has_front, has_next, has_cases, front_more, front_all, front_member}
 use Rattle.xdg_facts.specs.Rises.{has}
 
 -- ---- entries
@@ -110,52 +105,39 @@ none_barred parts group bundle least most p s none = record {
 
 -- ---- edges
 
--- the edges to the first nodes
-pub record OpenBelow (parts : Parts) (dim : ℕ) (bundle : Bundle) (others : List ℕ) (value k d v : ℕ) : Type 0 where
-  pub to : OpenTo parts dim bundle others value d v
-  pub below : to.other < k
+-- the edges to the members of a list up to those that are left
+pub record OpenedTo (parts : Parts) (dim : ℕ) (bundle : Bundle) (value : ℕ) (first left : List ℕ) (p : Progress) (old : State) (q : Progress) (new : State) : Type 0 where
+  pub front : List ℕ
+  pub whole : front ++ left ≡ first
+  pub clears : Clears (OpenTo parts dim bundle front value) p old q new
+
+module _ (parts : Parts) (dim : ℕ) (bundle : Bundle) (value : ℕ) (first left rest : List ℕ) (p q r : Progress) (old mid new : State) where
+  pub opened_start : OpenedTo parts dim bundle value first first p old p old
+  opened_start = record { front = []; whole = refl; clears = clears_none (OpenTo parts dim bundle [] value) p old (λ d v a. false≢true a.is) }
+
+  pub opened_member : (k : ℕ) → left ≡ k ∷ rest → OpenedTo parts dim bundle value first left p old q mid → has first k ≡ true
+  opened_member k left_is a = front_member a.front left rest first k left_is a.whole
+
+  pub opened_more : (k : ℕ) → left ≡ k ∷ rest → OpenedTo parts dim bundle value first left p old q mid → Clears (λ d v. (d ≡ edge_decision parts (edge_to bundle.way dim bundle.node bundle.label k)) × (v ≡ value)) q mid r new → OpenedTo parts dim bundle value first rest p old r new
+  opened_more k left_is a b = record {
+    front = a.front ++ k ∷ [];
+    whole = front_more a.front left rest first k left_is a.whole;
+    clears = clears_both (OpenTo parts dim bundle a.front value) (λ d v. (d ≡ edge_decision parts (edge_to bundle.way dim bundle.node bundle.label k)) × (v ≡ value)) (OpenTo parts dim bundle (a.front ++ k ∷ []) value) p q r old mid new
+        (λ d v x. record { other = x.other; is = has_front a.front k x.other x.is; decision = x.decision; value_is = x.value_is })
+        (λ d v x. record { other = k; is = has_next a.front [] k; decision = x.0; value_is = x.1 })
+        (λ d v x. elim (has_cases a.front k x.other x.is) [
+          | inl before ↦ inl (record { other = x.other; is = before; decision = x.decision; value_is = x.value_is })
+          | inr same ↦ inr (subst (λ y. d ≡ edge_decision parts (edge_to bundle.way dim bundle.node bundle.label y)) same x.decision, x.value_is)
+        ])
+        a.clears b;
+  }
+
+  pub opened_all : (others : List ℕ) → first ≡ others → left ≡ [] → OpenedTo parts dim bundle value first left p old q mid → Clears (OpenTo parts dim bundle others value) p old q mid
+  opened_all others same left_is a = subst (λ s. Clears (OpenTo parts dim bundle s value) p old q mid) (front_all a.front left first left_is a.whole ∙ same) a.clears
 
 module _ (parts : Parts) (dim : ℕ) (bundle : Bundle) (others : List ℕ) (value : ℕ) (p q r : Progress) (old mid new : State) where
-  abbrev There : ℕ → ℕ → ℕ → Type 0
-  There = OpenBelow parts dim bundle others value
-
-  pub open_start : Clears (There 0) p old p old
-  open_start = clears_none (There 0) p old (λ d v a. (let l = a.below in omega (arith, l)))
-
-  pub open_skip : (k : ℕ) → has others k ≡ false → Clears (There k) p old q mid → Clears (There (k + 1)) p old q mid
-  open_skip k not = clears_like (There k) (There (k + 1)) p q old mid
-      (λ d v a. record { to = a.to; below = (let l = a.below in omega (arith, l)) })
-      (λ d v a. record {
-        to = a.to;
-        below = elim (cases_eq a.to.other k) [
-          | inl same ↦ absurd (false≢true (sym not ∙ subst (λ x. has others x ≡ true) same a.to.is))
-          | inr other ↦ (let l = a.below in omega (arith, l, other))
-        ];
-      })
-
-  pub open_taken : (k : ℕ) → has others k ≡ true → Clears (There k) p old q mid → Clears (λ d v. (d ≡ edge_decision parts (edge_to bundle.way dim bundle.node bundle.label k)) × (v ≡ value)) q mid r new → Clears (There (k + 1)) p old r new
-  open_taken k is a b = clears_both (There k) (λ d v. (d ≡ edge_decision parts (edge_to bundle.way dim bundle.node bundle.label k)) × (v ≡ value)) (There (k + 1)) p q r old mid new
-      (λ d v x. record { to = x.to; below = (let l = x.below in omega (arith, l)) })
-      (λ d v x. record { to = record { other = k; is = is; decision = x.0; value_is = x.1 }; below = omega arith })
-      (λ d v x. elim (cases_eq x.to.other k) [
-        | inl same ↦ inr (subst (λ y. d ≡ edge_decision parts (edge_to bundle.way dim bundle.node bundle.label y)) same x.to.decision, x.to.value_is)
-        | inr other ↦ inl (record { to = x.to; below = (let l = x.below in omega (arith, l, other)) })
-      ])
-      a b
-
-  pub open_end : (k : ℕ) → ((other : ℕ) → has others other ≡ true → other < k) → Clears (There k) p old q mid → Clears (OpenTo parts dim bundle others value) p old q mid
-  open_end k all = clears_like (There k) (OpenTo parts dim bundle others value) p q old mid
-      (λ d v a. a.to)
-      (λ d v a. record { to = a; below = all a.other a.is })
-
   pub wanted_none : (wanted : Bool) → wanted ≡ false → Clears (λ d v. (wanted ≡ true) × OpenTo parts dim bundle others value d v) p old p old
   wanted_none wanted not = clears_none (λ d v. (wanted ≡ true) × OpenTo parts dim bundle others value d v) p old (λ d v a. false≢true (sym not ∙ a.0))
 
   pub wanted_some : (wanted : Bool) → wanted ≡ true → Clears (OpenTo parts dim bundle others value) p old q mid → Clears (λ d v. (wanted ≡ true) × OpenTo parts dim bundle others value d v) p old q mid
   wanted_some wanted is = clears_like (OpenTo parts dim bundle others value) (λ d v. (wanted ≡ true) × OpenTo parts dim bundle others value d v) p q old mid (λ d v a. (is, a)) (λ d v a. a.1)
-
--- the other node of an edge place is one of the sentence
-pub place_within : (parts : Parts) (plane : Plane) (bundle : Bundle) (other : ℕ) → IsPlane parts plane → IsPlace parts (edge_to bundle.way plane.dim.0 bundle.node bundle.label other) → (edge_to bundle.way plane.dim.0 bundle.node bundle.label other).dim.0 ≡ plane.dim.0 → other < plane.nodes
-place_within parts plane bundle other plane_is place on =
-    let e : Edge = edge_to bundle.way plane.dim.0 bundle.node bundle.label other in
-    subst (λ k. k < plane.nodes) (far_is bundle.way plane.dim.0 bundle.node bundle.label other) (far_within bundle.way plane e ((plane_is.exact e).0 (place_is parts e place, on)))

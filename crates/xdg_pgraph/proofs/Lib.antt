@@ -21,10 +21,11 @@ pub mod Ruled
 pub mod RuledRoots
 pub mod Single
 pub mod Reached
-pub mod Starting
 pub mod Labels
 pub mod MustsStay
 pub mod Told
 pub mod Skipped
 pub mod Needing
-pub mod Opened
+pub mod Sources
+pub mod RootSets
+pub mod Members

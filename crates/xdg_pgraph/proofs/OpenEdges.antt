@@ -12,7 +12,7 @@ use Rattle.xdg_problem.proofs.PlaceOrder.{is_place}
 use Rattle.xdg_rules.specs.Rules.{IsGreatest, IsLeast, may_edges, must_edges}
 use Rattle.xdg_store.specs.States.{State}
 use Rattle.xdg_propcore.specs.Passes.{Progress, Clears}
-use Rattle.xdg_propcore.proofs.Passing.{clears_none, clears_both}
+use Rattle.xdg_propcore.proofs.Passing.{clears_both}
 use Rattle.xdg_pgraph.specs.declared.bundle.Bundle.{Bundle}
 use Rattle.xdg_pgraph.specs.declared.found.Which.TheVariants as whichs
 use Rattle.xdg_pgraph.specs.Bundles.{edge_to, far_node, numbers_of, count_of, OpenTo, EdgeAt, FullAt, NeededAt, IsOpen}
@@ -50,15 +50,6 @@ module _ (bundle : Bundle) (s : State) (group : Group) (dim : ℕ) (on : dim ≡
 
   here : (e : Edge) → IsOpen bundle.way s.parts s.now (first_dim group) bundle.node bundle.label e → OpenEdge e
   here e = subst (λ k. IsOpen bundle.way s.parts s.now k bundle.node bundle.label e) (sym on)
-
-  pub none_open : (p : Progress) → open_ones ≡ [] → Clears (EdgeAt bundle.way s.parts group s.now bundle.node bundle.label) p s p s
-  none_open p none = clears_none (EdgeAt bundle.way s.parts group s.now bundle.node bundle.label) p s (λ d v a. elim a [
-    | inl f ↦ gone f.place (here f.place f.is)
-    | inr n ↦ gone n.place (here n.place n.is)
-  ])
-    where
-      gone : (e : Edge) → OpenEdge e → ⊥
-      gone e is = false≢true (subst (λ xs. has xs (far_node bundle.way e) ≡ true) none (open_of e is))
 
   module _ (full needed : Bool) (must_nodes : IsNodes must) (may_nodes : IsNodes may) (greatest : IsTrue full ↔ IsGreatest s.now bundle.node (numbers_of bundle.way group bundle.node bundle.label) (length must)) (least : IsTrue needed ↔ IsLeast s.now bundle.node (numbers_of bundle.way group bundle.node bundle.label) (length may)) where
     must_count : length must ≡ count_of bundle.way (must_edges s.parts s.now (first_dim group)) bundle.node bundle.label

@@ -1,5 +1,5 @@
 -- Bundles of which nothing was lost: there valency takes no more than before.
-use Rattle.std.proofs.Common.{◌≡◌, ℕ, ◌<◌, ◌+◌, inl, inr, Bool, true, false, List, length, refl, sym, ◌∙◌, ap, subst, arith}
+use Rattle.std.proofs.Common.{◌≡◌, ℕ, ◌<◌, inl, inr, Bool, true, false, List, [], ◌∷◌, ◌++◌, length, refl, sym, ◌∙◌, ap, subst, arith}
 use Rattle.std.specs.Prelude.{Contains, filter, not, ◌==◌, ◌&&◌, ◌||◌}
 use Rattle.std.proofs.lemmas.Bool.{cases_Bool, cases_lt, false≢true}
 use Rattle.std.proofs.lemmas.List.{get_or_past}
@@ -18,19 +18,21 @@ use Rattle.xdg_problem.proofs.PlaceOrder.{is_place}
 use Rattle.std.proofs.lemmas.Bool.{eqb-true}
 use Rattle.xdg_rules.specs.Rules.{has, HasNoneWithin, IsClosedFor, IsGreatest, IsLeast, may_edges, must_edges}
 use Rattle.xdg_rules.proofs.Shrinking.{may_be, must_be, may_is, may_of, must_is, must_of}
-use Rattle.xdg_store.specs.States.{State}
+use Rattle.xdg_store.specs.States.{State, Known}
 use Rattle.xdg_propcore.specs.Passes.{Progress, IsQuiet}
 use Rattle.xdg_propcore.specs.Sweeps.{Sweeps}
+use Rattle.xdg_propcore.proofs.Sweeping.{sweeps_start}
 use Rattle.xdg_propcore.specs.Touching.{HasAll, HasTouched, InTable, MarksEdge}
 use Rattle.xdg_propcore.specs.declared.touched.Touched.{Touched}
-use Rattle.xdg_pgraph.specs.Bundles.{AreNodesDone, EdgeAt, IsBundleDone, count_of, near_node, numbers_of}
+use Rattle.xdg_pgraph.specs.Bundles.{AreLabelsDone, AreNodesDone, EdgeAt, IsBundleDone, count_of, near_node, numbers_of}
 use Rattle.xdg_pgraph.proofs.CountsStay.{greatest_before, least_before}
 use Rattle.xdg_pgraph.specs.Untouched.{AreOthersDone, IsLeftAlone, IsTouched, near, side}
 use Rattle.xdg_pgraph.specs.declared.bundle.Way.{Way}
 use Rattle.xdg_pgraph.specs.declared.bundle.Way.TheVariants as ways
-use Rattle.xdg_pgraph.proofs.Bundled.{edge_takes, entry_takes, nodes_next}
+use Rattle.xdg_pgraph.proofs.Bundled.{edge_takes, entry_takes, next_both}
 use Rattle.xdg_pgraph.proofs.Ends.{counted, in_bundle, in_parts}
-use Rattle.xdg_facts.proofs.Truths.{either_true, or_here, same_and, same_flag}
+use Rattle.xdg_pgraph.proofs.Members.{front_all, front_member, front_more, has_cases}
+use Rattle.xdg_facts.proofs.Truths.{either, either_true, or_here, same_and, same_flag}
 use Rattle.xdg_facts.specs.Rises.{has as has_node}
 use Rattle.xdg_propcore.proofs.Losing.{kept_or_lost}
 
@@ -169,16 +171,50 @@ left_alone t some all node first second none way label (inl lost) = false≢true
 left_alone t some all node first second none ways.Out label (inr lost) = false≢true (sym none ∙ second node ∙ or_here (has_node some node) (has_node t.daughters node) (first node ∙ either_true (has_node t.entries node) (has_node t.mothers node) lost.0))
 left_alone t some all node first second none ways.In label (inr lost) = false≢true (sym none ∙ second node ∙ either_true (has_node some node) (has_node t.daughters node) lost.0)
 
--- there nothing is left to take
-pub node_alone : (t : Touched) (group : Group) (k labels : ℕ) (p : Progress) (old : State) (q : Progress) (mid : State) → k < nodes old.parts → labels ≡ label_count old.parts (first_dim group) → IsLeftAlone t k → (IsQuiet p → AreOthersDone t old.parts group old.now) → Sweeps group (AreNodesDone k labels old.parts group) p old q mid → Sweeps group (AreNodesDone (k + 1) labels old.parts group) p old q mid
-node_alone t group k labels p old q mid within labels_are alone others a = record {
-  goes = a.goes;
-  known = a.known;
-  done = λ quiet.
-      let same = a.goes.quiet quiet in
-      let here : AreOthersDone t old.parts group mid.now = subst (λ box. AreOthersDone t old.parts group box) (sym same.1) (others same.0) in
-      nodes_next k labels old.parts group mid.now (a.done quiet) (λ label l. (let known = subst (λ n. label < n) labels_are l in (here ways.Out k label within known (alone ways.Out label), here ways.In k label within known (alone ways.In label))));
-}
+-- ---- one node after another
+
+-- the nodes of a list up to those that are left are done
+pub record SweptTo (labels : ℕ) (parts : Parts) (group : Group) (first left : List ℕ) (p : Progress) (old : State) (q : Progress) (new : State) : Type 0 where
+  pub front : List ℕ
+  pub whole : front ++ left ≡ first
+  pub sweeps : Sweeps group (λ box. (v : ℕ) → has_node front v ≡ true → AreLabelsDone labels parts group v box) p old q new
+
+module _ (t : Touched) (labels : ℕ) (group : Group) (first left rest : List ℕ) (p q r : Progress) (old mid new : State) where
+  pub swept_start : Known old → SweptTo labels old.parts group first first p old p old
+  swept_start known = record {
+    front = [];
+    whole = refl;
+    sweeps = sweeps_start group (λ box. (v : ℕ) → has_node [] v ≡ true → AreLabelsDone labels old.parts group v box) p old known (λ v h. absurd (false≢true h));
+  }
+
+  pub swept_member : (k : ℕ) → left ≡ k ∷ rest → SweptTo labels old.parts group first left p old q mid → has_node first k ≡ true
+  swept_member k left_is a = front_member a.front left rest first k left_is a.whole
+
+  pub swept_more : (k : ℕ) → left ≡ k ∷ rest → SweptTo labels old.parts group first left p old q mid → Sweeps group (AreLabelsDone labels mid.parts group k) q mid r new → SweptTo labels old.parts group first rest p old r new
+  swept_more k left_is a b = record {
+    front = a.front ++ k ∷ [];
+    whole = front_more a.front left rest first k left_is a.whole;
+    sweeps = next_both group (λ box. (v : ℕ) → has_node a.front v ≡ true → AreLabelsDone labels old.parts group v box) (λ box. (v : ℕ) → has_node (a.front ++ k ∷ []) v ≡ true → AreLabelsDone labels old.parts group v box) (λ parts. AreLabelsDone labels parts group k) p old q mid r new a.sweeps b
+        (λ box before here v h. elim (has_cases a.front k v h) [
+          | inl there ↦ before v there
+          | inr same ↦ subst (λ n. AreLabelsDone labels old.parts group n box) (sym same) here
+        ]);
+  }
+
+  -- at the others nothing is left to take
+  pub swept_all : (count : ℕ) → count ≡ nodes old.parts → labels ≡ label_count old.parts (first_dim group) → ((v : ℕ) → v < nodes old.parts → (has_node first v ≡ true → ⊥) → IsLeftAlone t v) → (IsQuiet p → AreOthersDone t old.parts group old.now) → left ≡ [] → SweptTo labels old.parts group first left p old q mid → Sweeps group (AreNodesDone count labels old.parts group) p old q mid
+  swept_all count count_is labels_are alone others left_is a = record {
+    goes = a.sweeps.goes;
+    known = a.sweeps.known;
+    done = λ quiet node less.
+        let same = a.sweeps.goes.quiet quiet in
+        let here : AreOthersDone t old.parts group mid.now = subst (λ box. AreOthersDone t old.parts group box) (sym same.1) (others same.0) in
+        let within = subst (λ n. node < n) count_is less in
+        elim (either (has_node first node)) [
+          | inl there ↦ a.sweeps.done quiet node (subst (λ s. has_node s node ≡ true) (sym (front_all a.front left first left_is a.whole)) there)
+          | inr gone ↦ (λ label l. (let known = subst (λ n. label < n) labels_are l in (here ways.Out node label within known (alone node within gone ways.Out label), here ways.In node label within known (alone node within gone ways.In label))))
+        ];
+  }
 
 -- ---- labels
 

@@ -1,7 +1,9 @@
 -- Rules, step by step.
-use Rattle.std.proofs.Common.{◌≡◌, ◌≢◌, ℕ, ◌+◌, ◌<◌, ◌≤◌, ◌⊎◌, inl, inr, Bool, List, sym, ◌∙◌, subst, arith}
+use Rattle.std.proofs.Common.{◌≡◌, ◌≢◌, ℕ, ◌⊎◌, ◌||◌, ◌==◌, inl, inr, Bool, true, false, List, [], ◌∷◌, refl, ap, sym, ◌∙◌, subst}
 use Rattle.std.specs.Prelude.{Contains}
-use Rattle.std.proofs.lemmas.Bool.{cases_eq}
+use Rattle.std.proofs.lemmas.Bool.{cases_eq, eq-eqb, ne_eqb}
+use Rattle.xdg_facts.proofs.Truths.{either_true, or_here}
+use Rattle.xdg_facts.specs.Rises.{has}
 use Rattle.xdg_problem.specs.declared.analysis.Edge.{Edge}
 use Rattle.xdg_problem.specs.declared.parts.Group.{Group}
 use Rattle.xdg_problem.specs.declared.parts.Parts.{Parts}
@@ -15,7 +17,6 @@ use Rattle.xdg_propcore.specs.Passes.{Progress, Clears}
 use Rattle.xdg_propcore.proofs.Passing.{goes_none, goes_both}
 use Rattle.xdg_pgraph.specs.declared.found.Found.{Found}
 use Rattle.xdg_pgraph.specs.declared.found.Found.TheVariants as founds
-use Rattle.xdg_pgraph.specs.Planes.{IsPlane}
 use Rattle.xdg_pgraph.specs.declared.plane.Plane.{Plane}
 use Rattle.xdg_pgraph.specs.Seeking.{Aims, Finds, ToNode, Into, IsOther}
 use Rattle.xdg_pgraph.specs.Ruling.{Runs, RunsFor}
@@ -57,31 +58,43 @@ runs_turn A C Aim group p q r old mid new a b is takes each = record {
 pub runs_like : (A C : List (List Bool) → ℕ → ℕ → Type 0) (group : Group) (p q : Progress) (old new : State) → ((d v : ℕ) → C new.now d v → A new.now d v) → Runs A group p old q new → Runs C group p old q new
 runs_like A C group p q old new to a = record { goes = a.goes; done = λ z d v c h. a.done z d v (to d v c) h }
 
+-- ---- over the nodes of a set
+
+-- a part of what a rule takes is taken, where all of it is taken by the principle use
+abbrev pub RunsPart : (Parts → Group → List (List Bool) → ℕ → ℕ → Type 0) → (Parts → Group → List (List Bool) → ℕ → ℕ → Type 0) → ℕ → Progress → State → Progress → State → Type 0
+RunsPart Whole Part dim p old q new =
+    (group : Group) → IsGroup old.parts group → first_dim group ≡ dim
+    → ((box : List (List Bool)) (d v : ℕ) → Whole old.parts group box d v → Takes old.parts group box d v)
+    → Runs (Part old.parts group) group p old q new
+
+pub head_in : (left rest : List ℕ) (v : ℕ) → left ≡ v ∷ rest → has left v ≡ true
+head_in left rest v is = subst (λ s. has s v ≡ true) (sym is) (or_here (v == v) (has rest v) (eq-eqb v v refl))
+
+pub tail_in : (left rest : List ℕ) (v w : ℕ) → left ≡ v ∷ rest → has rest w ≡ true → has left w ≡ true
+tail_in left rest v w is h = subst (λ s. has s w ≡ true) (sym is) (either_true (v == w) (has rest w) h)
+
+-- what isn't behind the first, and isn't the first, isn't there
+pub still_out : (left rest : List ℕ) (v w : ℕ) → left ≡ v ∷ rest → (w ≡ v → ⊥) → has rest w ≡ false → has left w ≡ false
+still_out left rest v w is other out = subst (λ s. has s w ≡ false) (sym is) (ap (λ b. b || has rest w) (ne_eqb v w (λ e. other (sym e))) ∙ out)
+
 -- ---- one mother
 
--- the rule, for daughters below a bound
-pub record OneMotherBelow (bound : ℕ) (parts : Parts) (group : Group) (box : List (List Bool)) (d v : ℕ) : Type 0 where
+-- the rule, for daughters outside a set
+pub record OneMotherOutside (left : List ℕ) (parts : Parts) (group : Group) (box : List (List Bool)) (d v : ℕ) : Type 0 where
   pub rule : OneMother parts group box d v
-  pub below : rule.place.daughter.0 < bound
+  pub outside : has left rule.place.daughter.0 ≡ false
 
 module _ (plane : Plane) (p q r : Progress) (old mid new : State) where
   abbrev dim : ℕ
   dim = plane.dim.0
 
-  pub one_mother_start : RunsFor (OneMotherBelow 0) dim p old p old
-  one_mother_start group is on takes = runs_none (OneMotherBelow 0 old.parts group) group p old (λ d v a. (let l = a.below in omega (arith, l)))
-
-  module _ (w : ℕ) (found : Found) (same : mid.parts ≡ old.parts) (f : Finds (Into (must_edges old.parts mid.now dim) w) found) where
-    aim_is_rule : (group : Group) → first_dim group ≡ dim → (d v : ℕ) → Aims old.parts dim found (ToNode w) d v → OneMotherBelow (w + 1) old.parts group mid.now d v
+  module _ (left rest : List ℕ) (w : ℕ) (found : Found) (first : left ≡ w ∷ rest) (same : mid.parts ≡ old.parts) (f : Finds (Into (must_edges old.parts mid.now dim) w) found) where
+    aim_is_rule : (group : Group) → first_dim group ≡ dim → (d v : ℕ) → Aims old.parts dim found (ToNode w) d v → OneMother old.parts group mid.now d v
     aim_is_rule group on d v aim =
         let o = other_of (Into (must_edges old.parts mid.now dim) w) found f aim.place aim.other in
-        let at : aim.place.daughter.0 ≡ w = aim.aimed in
-        record {
-          rule = record { place = aim.place; is = subst (λ k. IsPlaceOn old.parts k aim.place) (sym on) aim.is; says = aim.says; other = o.0; must = subst (λ k. Contains (must_edges old.parts mid.now k) o.0) (sym on) o.1.0; differs = o.2; both = aim.aimed ∙ sym o.1.1 };
-          below = omega (arith, at);
-        }
+        record { place = aim.place; is = subst (λ k. IsPlaceOn old.parts k aim.place) (sym on) aim.is; says = aim.says; other = o.0; must = subst (λ k. Contains (must_edges old.parts mid.now k) o.0) (sym on) o.1.0; differs = o.2; both = aim.aimed ∙ sym o.1.1 }
 
-    rule_is_aim : (group : Group) → first_dim group ≡ dim → (d v : ℕ) → OneMotherBelow (w + 1) old.parts group mid.now d v → OneMotherBelow w old.parts group mid.now d v ⊎ Aims old.parts dim found (ToNode w) d v
+    rule_is_aim : (group : Group) → first_dim group ≡ dim → (d v : ℕ) → OneMotherOutside rest old.parts group mid.now d v → OneMotherOutside left old.parts group mid.now d v ⊎ Aims old.parts dim found (ToNode w) d v
     rule_is_aim group on d v a = elim (cases_eq a.rule.place.daughter.0 w) [
       | inl at ↦ inr (record {
         place = a.rule.place;
@@ -90,18 +103,18 @@ module _ (plane : Plane) (p q r : Progress) (old mid new : State) where
         other = is_other (Into (must_edges old.parts mid.now dim) w) found f a.rule.place a.rule.other (subst (λ k. Contains (must_edges old.parts mid.now k) a.rule.other) on a.rule.must, sym a.rule.both ∙ at) a.rule.differs;
         says = a.rule.says;
       })
-      | inr other ↦ inl (record { rule = a.rule; below = (let b = a.below in omega (arith, b, other)) })
+      | inr other ↦ inl (record { rule = a.rule; outside = still_out left rest w a.rule.place.daughter.0 first other a.outside })
     ]
 
-    pub one_mother_turn : RunsFor (OneMotherBelow w) dim p old q mid → Clears (Aims old.parts dim found (ToNode w)) q mid r new → RunsFor (OneMotherBelow (w + 1)) dim p old r new
-    one_mother_turn a b group is on takes = runs_turn (OneMotherBelow w old.parts group) (OneMotherBelow (w + 1) old.parts group) (Aims old.parts dim found (ToNode w)) group p q r old mid new
-        (a group is on (λ box d v x. takes box d v (record { rule = x.rule; below = (let l = x.below in omega (arith, l)) })))
+    pub one_mother_turn : RunsPart OneMother (OneMotherOutside left) dim p old q mid → Clears (Aims old.parts dim found (ToNode w)) q mid r new → RunsPart OneMother (OneMotherOutside rest) dim p old r new
+    one_mother_turn a b group is on takes = runs_turn (OneMotherOutside left old.parts group) (OneMotherOutside rest old.parts group) (Aims old.parts dim found (ToNode w)) group p q r old mid new
+        (a group is on takes)
         b
         (subst (λ z. IsGroup z group) (sym same) is)
         (λ d v aim. subst (λ z. Takes z group mid.now d v) (sym same) (takes mid.now d v (aim_is_rule group on d v aim)))
         (rule_is_aim group on)
 
-  pub one_mother_end : (w : ℕ) → IsPlane old.parts plane → plane.nodes ≤ w → RunsFor (OneMotherBelow w) dim p old q mid → RunsFor OneMother dim p old q mid
-  one_mother_end w plane_is all a group is on takes = runs_like (OneMotherBelow w old.parts group) (OneMother old.parts group) group p q old mid
-      (λ d v x. record { rule = x; below = (let k = ((plane_is.exact x.place).0 (subst (λ z. IsPlaceOn old.parts z x.place) on x.is)).daughter in omega (arith, k, all)) })
-      (a group is on (λ box d v x. takes box d v x.rule))
+  pub one_mother_end : (left : List ℕ) → left ≡ [] → RunsPart OneMother (OneMotherOutside left) dim p old q mid → RunsFor OneMother dim p old q mid
+  one_mother_end left none a group is on takes = runs_like (OneMotherOutside left old.parts group) (OneMother old.parts group) group p q old mid
+      (λ d v x. record { rule = x; outside = ap (λ s. has s x.place.daughter.0) none })
+      (a group is on takes)

@@ -3,24 +3,18 @@ use Rattle.std.proofs.Common.{◌≡◌, ◌≢◌, ℕ, suc, ◌+◌, ◌<◌, 
 use Rattle.std.specs.Prelude.{Contains, filter}
 use Rattle.std.proofs.lemmas.Bool.{cases_eq, eq-eqb, eqb-true, false_from_ne_true, false≢true}
 use Rattle.std.proofs.lemmas.List.{nil_from_length}
-use Rattle.std.proofs.lemmas.List.Elements.{filter-append}
 use Rattle.xdg_facts.proofs.Truths.{either_true, or_false, or_here}
 use Rattle.xdg_nodeset.specs.Nodes.{IsNodes}
-use Rattle.xdg_problem.proofs.Numbered.{numbers_more}
 use Rattle.xdg_problem.specs.declared.analysis.Edge.{Edge}
 use Rattle.xdg_problem.specs.declared.parts.Parts.{Parts}
-use Rattle.xdg_problem.specs.Paths.{roots}
 use Rattle.xdg_problem.specs.Places.{below, edge}
 use Rattle.xdg_problem.proofs.Edges.{edge_equal}
-use Rattle.xdg_rules.proofs.Among.{is_root, free_root, root_free}
-use Rattle.xdg_pgraph.specs.declared.entered.Roots.{Roots}
-use Rattle.xdg_pgraph.specs.declared.entered.Roots.TheVariants as rootss
 use Rattle.xdg_pgraph.specs.declared.found.Found.{Found}
 use Rattle.xdg_pgraph.specs.declared.found.Found.TheVariants as founds
 use Rattle.xdg_pgraph.specs.declared.found.Which.{Which}
 use Rattle.xdg_pgraph.specs.declared.plane.Plane.{Plane}
 use Rattle.xdg_pgraph.specs.Planes.{IsPlane, IsOnPlane}
-use Rattle.xdg_pgraph.specs.Seeking.{Finds, IsMore, Joins, Into, IntoWith, RootsAre, edges_of, found_with, found_merged, roots_with}
+use Rattle.xdg_pgraph.specs.Seeking.{Finds, IsMore, Joins, Into, IntoWith, edges_of, found_with, found_merged}
 use Rattle.xdg_pgraph.proofs.Looked.{finds_like, finds_with, finds_merged}
 use Rattle.xdg_pgraph.proofs.PlaneFacts.{which_place}
 use Rattle.xdg_facts.specs.Rises.{has, Rises}
@@ -41,7 +35,7 @@ module _ (edges : List Edge) (dim u v : ℕ) (on : (e : Edge) → Contains edges
   this_edge l e j k = sym (edge_equal e (edge dim u l v) (on e j.0) j.1.0 k j.1.1)
 
   -- one label more
-  label_cases : (l : ℕ) (e : Edge) → JoinsBelow edges u v (l + 1) e → JoinsBelow edges u v l e ⊎ (edge dim u l v ≡ e)
+  pub label_cases : (l : ℕ) (e : Edge) → JoinsBelow edges u v (l + 1) e → JoinsBelow edges u v l e ⊎ (edge dim u l v ≡ e)
   label_cases l e j = elim (cases_eq e.label.0 l) [
     | inl same ↦ inr (this_edge l e j.0 same)
     | inr other ↦ inl (j.0, (let b = j.1 in omega (arith, b, other)))
@@ -83,7 +77,7 @@ module _ (edges : List Edge) (v : ℕ) where
 rest_rises : (low bound n : ℕ) (s : List ℕ) → Rises low bound (n ∷ s) → Rises (n + 1) bound s
 rest_rises low bound n s r = r.2
 
-two_in : (s : List ℕ) → Rises 0 128 s → 1 < length s → (a : ℕ) × (b : ℕ) × (has s a ≡ true) × (has s b ≡ true) × (a ≢ b)
+pub two_in : (s : List ℕ) → Rises 0 128 s → 1 < length s → (a : ℕ) × (b : ℕ) × (has s a ≡ true) × (has s b ≡ true) × (a ≢ b)
 two_in [] rises two = absurd (omega (arith, two))
 two_in (a ∷ []) rises two = absurd (omega (arith, two))
 two_in (a ∷ b ∷ s) rises two = (
@@ -116,32 +110,6 @@ module _ (edges : List Edge) (dim v l : ℕ) (on : (e : Edge) → Contains edges
 
   pub with_more : IsNodes mothers → 1 < length mothers → Finds (IntoWith edges v l) founds.More
   with_more nodes two = (let t = two_in mothers nodes.rises two in (edge dim t.0 l v, edge dim t.1 l v, edge_in t.0 t.2, edge_in t.1 t.3, λ same. t.4 (ap (λ (e : Edge). e.mother.0) same)))
-
--- ---- roots
-
-root_put : (b : Bool) (v : ℕ) (xs : List ℕ) (r : Roots) → b ≡ true → RootsAre xs r → RootsAre (xs ++ cond b (v ∷ []) []) (roots_with r v)
-root_put false v xs r passes is = absurd (false≢true passes)
-root_put true v xs rootss.Nothing passes is = ap (λ ys. ys ++ (v ∷ [])) is
-root_put true v xs (rootss.One u) passes is = (let n = length-append xs (v ∷ []) in let m = ap length is in omega (arith, n, m))
-root_put true v xs rootss.More passes is = (let n = length-append xs (v ∷ []) in omega (arith, n, is))
-
-root_skip : (b : Bool) (v : ℕ) (xs : List ℕ) (r : Roots) → b ≡ false → RootsAre xs r → RootsAre (xs ++ cond b (v ∷ []) []) r
-root_skip true v xs r fails is = absurd (false≢true (sym fails))
-root_skip false v xs r fails is = subst (λ ys. RootsAre ys r) (sym (append-nil xs)) is
-
-roots_next : (edges : List Edge) (v : ℕ) → roots (v + 1) edges ≡ roots v edges ++ cond (is_root edges v) (v ∷ []) []
-roots_next edges v =
-    let e : v + 1 ≡ suc v = omega arith in
-    let z : 0 + v ≡ v = omega arith in
-    ap (λ m. roots m edges) e ∙ ap (filter (is_root edges)) (numbers_more 0 v) ∙ filter-append (is_root edges) (below v) ((0 + v) ∷ []) ∙ ap (λ k. roots v edges ++ cond (is_root edges k) (k ∷ []) []) z
-
--- a node into which no edge leads
-pub root_taken : (edges : List Edge) (v : ℕ) (r : Roots) → Finds (Into edges v) founds.Nothing → RootsAre (roots v edges) r → RootsAre (roots (v + 1) edges) (roots_with r v)
-root_taken edges v r none is = subst (λ xs. RootsAre xs (roots_with r v)) (sym (roots_next edges v)) (root_put (is_root edges v) v (roots v edges) r (free_root edges v (λ e c into. none e (c, into))) is)
-
--- a node into which an edge leads
-pub root_left : (edges : List Edge) (v : ℕ) (r : Roots) (e : Edge) → Into edges v e → RootsAre (roots v edges) r → RootsAre (roots (v + 1) edges) r
-root_left edges v r e into is = subst (λ xs. RootsAre xs r) (sym (roots_next edges v)) (root_skip (is_root edges v) v (roots v edges) r (false_from_ne_true (is_root edges v) (λ free. root_free edges v free e into.0 into.1)) is)
 
 -- ---- as the code goes
 

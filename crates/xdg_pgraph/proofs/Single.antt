@@ -1,5 +1,5 @@
 -- The one edge that may lead into a node.
-use Rattle.std.proofs.Common.{◌≡◌, ℕ, ◌+◌, ◌<◌, ◌≤◌, ◌⊎◌, inl, inr, Bool, List, [], ◌∷◌, length, sym, ◌∙◌, ap, subst, arith}
+use Rattle.std.proofs.Common.{◌≡◌, ℕ, ◌≤◌, ◌⊎◌, inl, inr, Bool, false, List, [], ◌∷◌, length, refl, sym, ◌∙◌, ap, subst, arith}
 use Rattle.std.specs.Prelude.{Contains, filter, ◌==◌}
 use Rattle.std.proofs.lemmas.Bool.{cases_eq, eq-eqb, eqb-true}
 use Rattle.std.proofs.lemmas.List.Sums.{length-filter}
@@ -23,7 +23,7 @@ use Rattle.xdg_rules.proofs.Keeping.{counts_one, counts_two}
 use Rattle.xdg_rules.proofs.Shrinking.{may_be, may_among}
 use Rattle.xdg_store.specs.States.{State, Known}
 use Rattle.xdg_propcore.specs.Passes.{Progress, Clears, EachValue}
-use Rattle.xdg_propcore.proofs.Passing.{clears_none, clears_like}
+use Rattle.xdg_propcore.proofs.Passing.{clears_none, clears_like, goes_none}
 use Rattle.xdg_pgraph.specs.declared.entered.Roots.{Roots}
 use Rattle.xdg_pgraph.specs.declared.entered.Roots.TheVariants as rootss
 use Rattle.xdg_pgraph.specs.declared.found.Found.{Found}
@@ -31,11 +31,12 @@ use Rattle.xdg_pgraph.specs.declared.found.Found.TheVariants as founds
 use Rattle.xdg_pgraph.specs.declared.found.Which.TheVariants as whichs
 use Rattle.xdg_pgraph.specs.declared.plane.Plane.{Plane}
 use Rattle.xdg_pgraph.specs.Planes.{IsPlane}
-use Rattle.xdg_pgraph.specs.Seeking.{Finds, Into, Only, RootsAre}
+use Rattle.xdg_pgraph.specs.Seeking.{Finds, Into, NoneOnly, Only, RootsAre}
 use Rattle.xdg_pgraph.specs.Ruling.{Runs, RunsFor, ForOthers}
 use Rattle.xdg_pgraph.proofs.PlaneFacts.{which_place}
-use Rattle.xdg_pgraph.proofs.Ruled.{runs_none, runs_turn, runs_like}
+use Rattle.xdg_pgraph.proofs.Ruled.{RunsPart, runs_none, runs_turn, runs_like, still_out}
 use Rattle.xdg_facts.proofs.Lists.{contains_more}
+use Rattle.xdg_facts.specs.Rises.{has}
 
 -- ---- how many edges lead into a node
 
@@ -75,44 +76,48 @@ module _ (parts : Parts) (box : List (List Bool)) (dim w : ℕ) where
   pub only_place : (found : Found) (e : Edge) → found ≡ founds.One e → Finds (Into may w) found → IsPlace parts e
   only_place found e is f = is_place parts e (which_place whichs.May parts box dim e (subst (Finds (Into may w)) is f).0.0).0
 
--- ---- the rule, for daughters below a bound
+-- ---- the rule, for daughters outside a set
 
-pub record OnlyMotherBelow (bound : ℕ) (parts : Parts) (group : Group) (box : List (List Bool)) (d v : ℕ) : Type 0 where
+pub record OnlyMotherOutside (left : List ℕ) (parts : Parts) (group : Group) (box : List (List Bool)) (d v : ℕ) : Type 0 where
   pub rule : OnlyMother parts group box d v
-  pub below : rule.place.daughter.0 < bound
+  pub outside : has left rule.place.daughter.0 ≡ false
 
 module _ (plane : Plane) (p q r : Progress) (old mid new : State) (root : ℕ) (there : Contains (roots plane.nodes (may_edges old.parts old.now plane.dim.0)) root) where
   abbrev dim : ℕ
   dim = plane.dim.0
 
-  pub only_start : RunsFor (OnlyMotherBelow 0) dim p old p old
-  only_start group is on takes = runs_none (OnlyMotherBelow 0 old.parts group) group p old (λ d v a. (let l = a.below in omega (arith, l)))
+  pub only_start : (left : List ℕ) → ((v : ℕ) → has left v ≡ false → NoneOnly old.parts old.now dim v) → RunsPart OnlyMother (OnlyMotherOutside left) dim p old p old
+  only_start left none group is on takes = record {
+    goes = goes_none group p old;
+    done = λ z d v x h. none x.rule.place.daughter.0 x.outside d v (record {
+      place = x.rule.place;
+      among = subst (λ k. Contains (may_edges old.parts old.now k) x.rule.place) on x.rule.may;
+      into = refl;
+      one = subst (λ k. mothers (may_edges old.parts old.now k) x.rule.place.daughter.0 ≡ 1) on x.rule.only;
+      says = x.rule.says;
+    }) h;
+  }
 
-  module _ (w : ℕ) (plane_is : IsPlane old.parts plane) (same : mid.parts ≡ old.parts) (known : Known mid) where
+  module _ (left rest : List ℕ) (w : ℕ) (first : left ≡ w ∷ rest) (plane_is : IsPlane old.parts plane) (same : mid.parts ≡ old.parts) (known : Known mid) where
     abbrev Here : ℕ → ℕ → Type 0
     Here = Only old.parts (may_edges old.parts mid.now dim) w
 
-    module _ (group : Group) (on : first_dim group ≡ dim) (a : Runs (OnlyMotherBelow w old.parts group) group p old q mid) where
+    module _ (group : Group) (on : first_dim group ≡ dim) (a : Runs (OnlyMotherOutside left old.parts group) group p old q mid) where
       root_stays : Contains (roots (nodes old.parts) (may_edges old.parts mid.now (first_dim group))) root
       root_stays = subst (λ k. Contains (roots (nodes old.parts) (may_edges old.parts mid.now k)) root) (sym on)
           (roots_among (may_edges old.parts mid.now dim) (may_edges old.parts old.now dim) (may_among old.parts mid.now old.now (subst (λ z. IsBox (shape z) mid.now) same known.is_box) a.goes.extends.inside dim) (nodes old.parts) root (subst (λ n. Contains (roots n (may_edges old.parts old.now dim)) root) plane_is.nodes_is there))
 
-      here_rule : (d v : ℕ) → Here d v → OnlyMotherBelow (w + 1) old.parts group mid.now d v
-      here_rule d v h =
-          let at : h.place.daughter.0 ≡ w = h.into in
-          record {
-            rule = record {
-              place = h.place;
-              may = subst (λ k. Contains (may_edges old.parts mid.now k) h.place) (sym on) h.among;
-              says = h.says;
-              only = subst (λ k. mothers (may_edges old.parts mid.now k) h.place.daughter.0 ≡ 1) (sym on) (ap (mothers (may_edges old.parts mid.now dim)) h.into ∙ h.one);
-              other = root;
-              root = root_stays;
-            };
-            below = omega (arith, at);
-          }
+      here_rule : (d v : ℕ) → Here d v → OnlyMother old.parts group mid.now d v
+      here_rule d v h = record {
+        place = h.place;
+        may = subst (λ k. Contains (may_edges old.parts mid.now k) h.place) (sym on) h.among;
+        says = h.says;
+        only = subst (λ k. mothers (may_edges old.parts mid.now k) h.place.daughter.0 ≡ 1) (sym on) (ap (mothers (may_edges old.parts mid.now dim)) h.into ∙ h.one);
+        other = root;
+        root = root_stays;
+      }
 
-      rule_here : (d v : ℕ) → OnlyMotherBelow (w + 1) old.parts group mid.now d v → OnlyMotherBelow w old.parts group mid.now d v ⊎ Here d v
+      rule_here : (d v : ℕ) → OnlyMotherOutside rest old.parts group mid.now d v → OnlyMotherOutside left old.parts group mid.now d v ⊎ Here d v
       rule_here d v x = elim (cases_eq x.rule.place.daughter.0 w) [
         | inl at ↦ inr (record {
           place = x.rule.place;
@@ -121,21 +126,21 @@ module _ (plane : Plane) (p q r : Progress) (old mid new : State) (root : ℕ) (
           one = ap (mothers (may_edges old.parts mid.now dim)) (sym at) ∙ subst (λ k. mothers (may_edges old.parts mid.now k) x.rule.place.daughter.0 ≡ 1) on x.rule.only;
           says = x.rule.says;
         })
-        | inr other ↦ inl (record { rule = x.rule; below = (let b = x.below in omega (arith, b, other)) })
+        | inr other ↦ inl (record { rule = x.rule; outside = still_out left rest w x.rule.place.daughter.0 first other x.outside })
       ]
 
-    pub only_turn : RunsFor (OnlyMotherBelow w) dim p old q mid → Clears Here q mid r new → RunsFor (OnlyMotherBelow (w + 1)) dim p old r new
+    pub only_turn : RunsPart OnlyMother (OnlyMotherOutside left) dim p old q mid → Clears Here q mid r new → RunsPart OnlyMother (OnlyMotherOutside rest) dim p old r new
     only_turn before c group is on takes =
-        let a = before group is on (λ box d v x. takes box d v (record { rule = x.rule; below = (let l = x.below in omega (arith, l)) })) in
-        runs_turn (OnlyMotherBelow w old.parts group) (OnlyMotherBelow (w + 1) old.parts group) Here group p q r old mid new a c
+        let a = before group is on takes in
+        runs_turn (OnlyMotherOutside left old.parts group) (OnlyMotherOutside rest old.parts group) Here group p q r old mid new a c
         (subst (λ z. IsGroup z group) (sym same) is)
         (λ d v h. subst (λ z. Takes z group mid.now d v) (sym same) (takes mid.now d v (here_rule group on a d v h)))
         (rule_here group on a)
 
-  pub only_end : (w : ℕ) → IsPlane old.parts plane → plane.nodes ≤ w → RunsFor (OnlyMotherBelow w) dim p old q mid → RunsFor OnlyMother dim p old q mid
-  only_end w plane_is all a group is on takes = runs_like (OnlyMotherBelow w old.parts group) (OnlyMother old.parts group) group p q old mid
-      (λ d v x. record { rule = x; below = (let place = which_place whichs.May old.parts mid.now (first_dim group) x.place x.may in let k = ((plane_is.exact x.place).0 (place.0, place.1 ∙ on)).daughter in omega (arith, k, all)) })
-      (a group is on (λ box d v x. takes box d v x.rule))
+  pub only_end : (left : List ℕ) → left ≡ [] → RunsPart OnlyMother (OnlyMotherOutside left) dim p old q mid → RunsFor OnlyMother dim p old q mid
+  only_end left none a group is on takes = runs_like (OnlyMotherOutside left old.parts group) (OnlyMother old.parts group) group p q old mid
+      (λ d v x. record { rule = x; outside = ap (λ s. has s x.place.daughter.0) none })
+      (a group is on takes)
 
 -- ---- by the number of the roots
 

@@ -1,31 +1,30 @@
 -- Nodes at which the rules take nothing that remains.
-use Rattle.std.proofs.Common.{◌≡◌, ◌≢◌, ℕ, ◌+◌, ◌&&◌, inl, inr, Bool, true, false, List, length, refl, sym, ◌∙◌, subst, arith}
+use Rattle.std.proofs.Common.{◌≡◌, ◌≢◌, ℕ, ◌+◌, ◌<◌, ◌&&◌, inl, inr, Bool, true, false, List, ◌∷◌, length, refl, sym, ◌∙◌, subst, arith}
 use Rattle.std.specs.Prelude.{Contains}
 use Rattle.std.proofs.lemmas.Bool.{cases_eq, false≢true}
-use Rattle.std.proofs.lemmas.List.{nil_from_length}
 use Rattle.xdg_nodeset.proofs.TableSets.{both}
-use Rattle.xdg_nodeset.specs.Tables.{In}
 use Rattle.xdg_problem.specs.declared.analysis.Edge.{Edge}
 use Rattle.xdg_problem.specs.declared.parts.Group.{Group}
 use Rattle.xdg_problem.specs.declared.parts.Parts.{Parts}
 use Rattle.xdg_problem.specs.Boxes.{Has, edge_decision}
-use Rattle.xdg_rules.specs.Rules.{IsPlaceOn, SaysPresent, may_edges, must_edges}
+use Rattle.xdg_rules.specs.Rules.{IsPlaceOn, OneMother, SaysPresent, may_edges, must_edges}
 use Rattle.xdg_rules.proofs.Shrinking.{may_of, must_is}
 use Rattle.xdg_store.specs.States.{State}
 use Rattle.xdg_propcore.specs.Passes.{Progress, Clears, IsQuiet}
 use Rattle.xdg_propcore.proofs.Passing.{goes_none}
 use Rattle.xdg_pgraph.specs.declared.entered.Entered.{Entered}
 use Rattle.xdg_pgraph.specs.declared.found.Found.TheVariants as founds
+use Rattle.xdg_pgraph.specs.declared.found.Which.TheVariants as whichs
 use Rattle.xdg_pgraph.specs.declared.incoming.Incoming.{Incoming}
 use Rattle.xdg_pgraph.specs.declared.plane.Plane.{Plane}
 use Rattle.xdg_pgraph.specs.Entering.{Tells, Leaving}
 use Rattle.xdg_pgraph.specs.Incomings.{AreOf}
 use Rattle.xdg_pgraph.specs.Ruling.{Runs, RunsFor, OneLabelOf}
 use Rattle.xdg_pgraph.specs.Planes.{IsPlane}
-use Rattle.xdg_pgraph.specs.Seeking.{Aims, BacksFrom, StartAll, ToNode}
+use Rattle.xdg_pgraph.specs.Seeking.{Aims, ToNode}
 use Rattle.xdg_pgraph.proofs.Labels.{LabelInto}
-use Rattle.xdg_pgraph.proofs.Reached.{BacksInto}
-use Rattle.xdg_pgraph.proofs.Ruled.{OneMotherBelow}
+use Rattle.xdg_pgraph.proofs.Told.{entered_within}
+use Rattle.xdg_pgraph.proofs.Ruled.{OneMotherOutside, RunsPart, head_in}
 use Rattle.xdg_facts.specs.Rises.{has}
 
 -- more is looked at, where the rule takes nothing that remained at first
@@ -60,8 +59,12 @@ module _ (parts : Parts) (box : List (List Bool)) (dim : ℕ) where
   pub must_may : (e : Edge) → Contains (must_edges parts box dim) e → Contains (may_edges parts box dim) e
   must_may e c = (let m = must_is parts box dim e c in may_of parts box dim e (record { place = m.place; dim_is = m.dim_is; present = m.present }))
 
-  place_may : (e : Edge) (d v : ℕ) → IsPlaceOn parts dim e → SaysPresent parts e d v → Has box d v → Contains (may_edges parts box dim) e
+  pub place_may : (e : Edge) (d v : ℕ) → IsPlaceOn parts dim e → SaysPresent parts e d v → Has box d v → Contains (may_edges parts box dim) e
   place_may e d v on says h = may_of parts box dim e (record { place = on.0; dim_is = on.1; present = subst (λ k. Has box (edge_decision parts e) k) says.1 (subst (λ k. Has box k v) says.0 h) })
+
+-- the next of some crowded nodes is a node
+pub crowded_within : (parts : Parts) (box : List (List Bool)) (plane : Plane) (must may : Entered) (all left rest : List ℕ) (v : ℕ) → IsPlane parts plane → Tells (Contains (must_edges parts box plane.dim.0)) must → ((n : ℕ) → has all n ≡ (has must.some n && has may.more n)) → ((w : ℕ) → has left w ≡ true → has all w ≡ true) → left ≡ v ∷ rest → v < plane.nodes
+crowded_within parts box plane must may all left rest v plane_is m is within first = entered_within whichs.Must parts box plane plane_is v must m ((both (has must.some v) (has may.more v)).0 (sym (is v) ∙ within v (head_in left rest v first))).0
 
 -- no edge that may be leads into a node
 pub none_enters : (dim w : ℕ) (p : Progress) (s : State) (incoming : Incoming) → AreOf s.parts s.now dim incoming → has incoming.may.some w ≡ false → Clears (Aims s.parts dim founds.More (ToNode w)) p s p s
@@ -74,7 +77,7 @@ none_enters dim w p s incoming are none = record {
 }
 
 -- more is aimed at, of which nothing remained at first
-clears_skip : (A B : ℕ → ℕ → Type 0) (p q : Progress) (old new : State) → ((d v : ℕ) → A d v → B d v) → ((d v : ℕ) → B d v → Has old.now d v → A d v) → Clears A p old q new → Clears B p old q new
+pub clears_skip : (A B : ℕ → ℕ → Type 0) (p q : Progress) (old new : State) → ((d v : ℕ) → A d v → B d v) → ((d v : ℕ) → B d v → Has old.now d v → A d v) → Clears A p old q new → Clears B p old q new
 clears_skip A B p q old new to from c = record {
   same = c.same;
   inside = c.inside;
@@ -83,46 +86,20 @@ clears_skip A B p q old new to from c = record {
   goes = λ group around is lies takes. c.goes group around is lies (λ d v a. takes d v (to d v a));
 }
 
--- no edge that may be leads to a node and closes a cycle
-pub back_skip : (plane : Plane) (far : List (List ℕ)) (p q : Progress) (old mid : State) (u w : ℕ) (may : Entered) → Tells (Leaving (may_edges old.parts old.now plane.dim.0) u) may → ((has may.some w ≡ true) × In far w u → ⊥) → Clears (Aims old.parts plane.dim.0 founds.More (BacksInto far u w)) p old q mid → Clears (Aims old.parts plane.dim.0 founds.More (BacksInto far u (w + 1))) p old q mid
-back_skip plane far p q old mid u w may tells none = clears_skip (Aims old.parts plane.dim.0 founds.More (BacksInto far u w)) (Aims old.parts plane.dim.0 founds.More (BacksInto far u (w + 1))) p q old mid
-    (λ d v a. record { place = a.place; is = a.is; aimed = (a.aimed.0, (let l = a.aimed.1 in omega (arith, l))); other = a.other; says = a.says })
-    (λ d v a h. elim (cases_eq a.place.daughter.0 w) [
-      | inl at ↦ absurd (none (
-        (tells.once w).1 (a.place, (place_may old.parts old.now plane.dim.0 a.place d v a.is a.says h, a.aimed.0.0), at),
-        subst (λ k. In far k u) at (subst (λ k. In far a.place.daughter.0 k) a.aimed.0.0 a.aimed.0.1),
-      ))
-      | inr other ↦ record { place = a.place; is = a.is; aimed = (a.aimed.0, (let l = a.aimed.1 in omega (arith, l, other))); other = a.other; says = a.says }
-    ])
-
--- no edge out of a node leads to one for which the table has some node
-pub none_back : (plane : Plane) (far : List (List ℕ)) (p : Progress) (s : State) (u : ℕ) (may : Entered) (starts met : List ℕ) → IsPlane s.parts plane → Tells (Leaving (may_edges s.parts s.now plane.dim.0) u) may → StartAll far plane.nodes starts → ((n : ℕ) → has met n ≡ (has may.some n && has starts n)) → length met ≡ 0 → Clears (Aims s.parts plane.dim.0 founds.More (BacksFrom far u)) p s p s
-none_back plane far p s u may starts met plane_is tells all is none = record {
-  same = refl;
-  inside = λ d v h. h;
-  quiet = λ z. (z, refl);
-  gone = λ z d v a h.
-      let here = (tells.once a.place.daughter.0).1 (a.place, (place_may s.parts s.now plane.dim.0 a.place d v a.is a.says h, a.aimed.0), refl) in
-      let there = all a.place.daughter.0 a.place.mother.0 (((plane_is.exact a.place).0 a.is).daughter) a.aimed.1 in
-      false≢true (subst (λ xs. has xs a.place.daughter.0 ≡ true) (nil_from_length met none) (is a.place.daughter.0 ∙ (both (has may.some a.place.daughter.0) (has starts a.place.daughter.0)).1 (here, there)));
-  goes = λ group around is_group lies takes. goes_none group p s;
-}
-
 module _ (plane : Plane) (p q : Progress) (old mid : State) (must may : Entered) (w : ℕ) where
   abbrev dim : ℕ
   dim = plane.dim.0
 
-  pub one_mother_skip : (both_there : List ℕ) → Tells (Contains (must_edges old.parts old.now dim)) must → Tells (Contains (may_edges old.parts old.now dim)) may → ((n : ℕ) → has both_there n ≡ (has must.some n && has may.more n)) → has both_there w ≡ false → RunsFor (OneMotherBelow w) dim p old q mid → RunsFor (OneMotherBelow (w + 1)) dim p old q mid
-  one_mother_skip both_there m y is none before group is_group on takes = runs_skip (OneMotherBelow w old.parts group) (OneMotherBelow (w + 1) old.parts group) group p q old mid
-      (λ d v x h. elim (cases_eq x.rule.place.daughter.0 w) [
-        | inl at ↦ absurd (
-            let other = subst (λ k. Contains (must_edges old.parts old.now k) x.rule.other) on x.rule.must in
-            crowded (Contains (must_edges old.parts old.now dim)) (Contains (may_edges old.parts old.now dim)) must may both_there w m y is none x.rule.place x.rule.other other (must_may old.parts old.now dim x.rule.other other)
-            (place_may old.parts old.now dim x.rule.place d v (subst (λ k. IsPlaceOn old.parts k x.rule.place) on x.rule.is) x.rule.says h)
-            at (sym x.rule.both ∙ at) x.rule.differs)
-        | inr other ↦ record { rule = x.rule; below = (let b = x.below in omega (arith, b, other)) }
-      ])
-      (before group is_group on (λ box d v x. takes box d v (record { rule = x.rule; below = (let l = x.below in omega (arith, l)) })))
+  -- into a node that isn't crowded no edge is to be taken
+  pub one_mother_start : (left : List ℕ) → Tells (Contains (must_edges old.parts old.now dim)) must → Tells (Contains (may_edges old.parts old.now dim)) may → ((n : ℕ) → has left n ≡ (has must.some n && has may.more n)) → RunsPart OneMother (OneMotherOutside left) dim p old p old
+  one_mother_start left m y is group is_group on takes = record {
+    goes = goes_none group p old;
+    done = λ z d v x h.
+        let other = subst (λ k. Contains (must_edges old.parts old.now k) x.rule.other) on x.rule.must in
+        crowded (Contains (must_edges old.parts old.now dim)) (Contains (may_edges old.parts old.now dim)) must may left x.rule.place.daughter.0 m y is x.outside x.rule.place x.rule.other other (must_may old.parts old.now dim x.rule.other other)
+        (place_may old.parts old.now dim x.rule.place d v (subst (λ k. IsPlaceOn old.parts k x.rule.place) on x.rule.is) x.rule.says h)
+        refl (sym x.rule.both) x.rule.differs;
+  }
 
   pub label_skip : (u : ℕ) (both_there : List ℕ) → Tells (Leaving (must_edges old.parts old.now dim) u) must → Tells (Leaving (may_edges old.parts old.now dim) u) may → ((n : ℕ) → has both_there n ≡ (has must.some n && has may.more n)) → has both_there w ≡ false → RunsFor (OneLabelOf (LabelInto u w)) dim p old q mid → RunsFor (OneLabelOf (LabelInto u (w + 1))) dim p old q mid
   label_skip u both_there m y is none before group is_group on takes = runs_skip (OneLabelOf (LabelInto u w) old.parts group) (OneLabelOf (LabelInto u (w + 1)) old.parts group) group p q old mid

@@ -5,20 +5,17 @@ use Rattle.std.proofs.lemmas.Bool.{cases_eq, eq-eqb, eqb-true, false≢true}
 use Rattle.xdg_nodeset.proofs.TableSets.{either, both}
 use Rattle.xdg_problem.specs.declared.analysis.Edge.{Edge}
 use Rattle.xdg_problem.specs.declared.parts.Parts.{Parts}
-use Rattle.xdg_problem.specs.Paths.{roots}
 use Rattle.xdg_problem.specs.Places.{edge}
 use Rattle.xdg_problem.proofs.Edges.{edge_equal}
 use Rattle.xdg_pgraph.specs.declared.entered.Entered.{Entered}
-use Rattle.xdg_pgraph.specs.declared.entered.Roots.{Roots}
 use Rattle.xdg_pgraph.specs.declared.found.Found.{Found}
 use Rattle.xdg_pgraph.specs.declared.found.Found.TheVariants as founds
 use Rattle.xdg_pgraph.specs.declared.found.Which.{Which}
 use Rattle.xdg_pgraph.specs.declared.plane.Plane.{Plane}
 use Rattle.xdg_pgraph.specs.Entering.{Enters, EnterTwice, Tells, Leaving, Labelled}
 use Rattle.xdg_pgraph.specs.Planes.{IsPlane, IsOnPlane}
-use Rattle.xdg_pgraph.specs.Seeking.{Finds, Into, ToNode, RootsAre, edges_of, roots_with}
+use Rattle.xdg_pgraph.specs.Seeking.{Finds, Into, ToNode, edges_of}
 use Rattle.xdg_pgraph.proofs.PlaneFacts.{which_place}
-use Rattle.xdg_pgraph.proofs.Searched.{root_taken, root_left}
 use Rattle.xdg_facts.specs.Rises.{has}
 
 -- the same edges, told in another way
@@ -184,11 +181,6 @@ module _ (which : Which) (parts : Parts) (box : List (List Bool)) (plane : Plane
     pub leaves_other : (u v : ℕ) (a : Entered) → Tells (Leaving those u) a → has a.some v ≡ true → u ≢ v
     leaves_other u v a t h same = (let s = (t.once v).0 h in (those_plane s.0 s.1.0).differ (s.1.1 ∙ same ∙ sym s.2))
 
--- ---- roots
-
-module _ (edges : List Edge) (v : ℕ) (some : List ℕ) (r new : Roots) (t : (n : ℕ) → IsTrue (has some n) ↔ Enters (Contains edges) n) where
-  pub root_out : has some v ≡ false → new ≡ roots_with r v → RootsAre (roots v edges) r → RootsAre (roots (v + 1) edges) new
-  root_out none new_is is = subst (RootsAre (roots (v + 1) edges)) (sym new_is) (root_taken edges v r (λ e into. false≢true (sym none ∙ (t v).1 (e, into.0, into.1))) is)
-
-  pub root_in : has some v ≡ true → new ≡ r → RootsAre (roots v edges) r → RootsAre (roots (v + 1) edges) new
-  root_in there new_is is = (let s = (t v).0 there in subst (RootsAre (roots (v + 1) edges)) (sym new_is) (root_left edges v r s.0 (s.1, s.2) is))
+    -- edges lead into nodes of the sentence
+    pub entered_within : (v : ℕ) (a : Entered) → Tells (Contains those) a → has a.some v ≡ true → v < plane.nodes
+    entered_within v a t h = (let s = (t.once v).0 h in let k = (those_plane s.0 s.1).daughter in let e : s.0.daughter.0 ≡ v = s.2 in omega (arith, k, e))

@@ -1,18 +1,20 @@
 -- How numbers of edges stand to those that entries allow.
-use Rattle.std.specs.Prelude.{◌≡◌, ◌≢◌, ◌⊎◌, ℕ, Bool, List, All, Contains}
+use Rattle.std.specs.Prelude.{◌≡◌, ◌<◌, ◌≤◌, ◌+◌, ◌⊎◌, ℕ, Bool, List, All, Contains}
 use Rattle.xdg_problem.specs.declared.parts.Group.{Group}
 use Rattle.xdg_problem.specs.Boxes.{Has, entry_decision}
 use Rattle.xdg_rules.specs.Rules.{HasNoneWithin}
-use Rattle.xdg_pgraph.specs.declared.bounds.Bound.{Bound}
-use Rattle.xdg_pgraph.specs.declared.bounds.Bound.TheVariants as bounds
+use Rattle.xdg_pgraph.specs.declared.bounds.Allowed.{Allowed}
 use Rattle.xdg_pgraph.specs.declared.bundle.Bundle.{Bundle}
 use Rattle.xdg_pgraph.specs.Bundles.{numbers_of}
 
--- what stood one way to a number stands another way with the numbers of one entry more: R holds of those that aren't beyond it
-abbrev pub Comes : (ℕ → Type 0) → List ℕ → ℕ → Bound → Bound → Type 0
-Comes R row number old bounds.Past = (old ≡ bounds.Past) ⊎ (All R row → ⊥)
-Comes R row number old bounds.Met = (old ≢ bounds.Past) × All R row × ((old ≡ bounds.Met) ⊎ Contains row number)
-Comes R row number old bounds.Free = (old ≡ bounds.Free) × All R row × (Contains row number → ⊥)
+-- the bounds of some numbers and of those of a row more: each of the two is one of before, or of the row
+pub record Widens (row : List ℕ) (old new : Allowed) : Type 0 where
+  pub most : old.behind ≤ new.behind
+  pub most_of : All (λ k. k < new.behind) row
+  pub most_is : (new.behind ≡ old.behind) ⊎ ((k : ℕ) × Contains row k × (k + 1 ≡ new.behind))
+  pub least : new.least ≤ old.least
+  pub least_of : All (λ k. new.least ≤ k) row
+  pub least_is : (new.least ≡ old.least) ⊎ Contains row new.least
 
 -- each entry that remains allows a number of edges between two
 abbrev pub NoneBarred : Group → Bundle → ℕ → ℕ → List (List Bool) → Type 0

@@ -12,6 +12,7 @@ use Rattle.xdg_rules.specs.Rules.{HasNoneWithin, IsGreatest, IsLeast, SaysPresen
 use Rattle.xdg_pgraph.specs.declared.bundle.Way.{Way}
 use Rattle.xdg_pgraph.specs.declared.bundle.Way.TheVariants as ways
 use Rattle.xdg_pgraph.specs.declared.bundle.Bundle.{Bundle}
+use Rattle.xdg_pgraph.specs.declared.bundle.FarNodes.{FarNodes}
 use Rattle.xdg_facts.specs.Rises.{has}
 
 -- the edge with a label between a node and another
@@ -56,8 +57,13 @@ pub record IsOpen (way : Way) (parts : Parts) (box : List (List Bool)) (dim node
   pub free : Contains (must_edges parts box dim) e → ⊥
 
 -- a set has the other nodes of a bundle's edges, among those of a list
-abbrev pub AreEnds : List Edge → ℕ → Bundle → List ℕ → Type 0
-AreEnds edges dim bundle ends = (other : ℕ) → IsTrue (has ends other) ↔ Contains edges (edge_to bundle.way dim bundle.node bundle.label other)
+abbrev pub AreEnds : List Edge → ℕ → Way → ℕ → ℕ → List ℕ → Type 0
+AreEnds edges dim way node label ends = (other : ℕ) → IsTrue (has ends other) ↔ Contains edges (edge_to way dim node label other)
+
+-- two sets have those of the edges that may be present, and of those that must be
+pub record HasFarNodes (parts : Parts) (box : List (List Bool)) (dim : ℕ) (way : Way) (node label : ℕ) (ends : FarNodes) : Type 0 where
+  pub may : AreEnds (may_edges parts box dim) dim way node label ends.may
+  pub must : AreEnds (must_edges parts box dim) dim way node label ends.must
 
 -- ---- what valency takes at a bundle
 

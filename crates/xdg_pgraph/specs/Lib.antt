@@ -2,7 +2,6 @@ pub mod Planes
 pub mod Seeking
 pub mod Entering
 pub mod Incomings
-pub mod Openings
 pub mod Ruling
 pub mod Musts
 pub mod Bounding

@@ -1,7 +1,8 @@
 -- Edges that are looked for, and edges that are taken away.
-use Rattle.std.specs.Prelude.{◌≡◌, ◌≢◌, ◌≤◌, ◌<◌, ℕ, Bool, true, List, [], ◌∷◌, length, Contains}
+use Rattle.std.specs.Prelude.{◌≡◌, ◌≢◌, ◌≤◌, ℕ, Bool, List, [], ◌∷◌, length, Contains}
 use Rattle.xdg_problem.specs.declared.analysis.Edge.{Edge}
 use Rattle.xdg_problem.specs.declared.parts.Parts.{Parts}
+use Rattle.xdg_problem.specs.Boxes.{Has}
 use Rattle.xdg_problem.specs.Paths.{mothers}
 use Rattle.xdg_nodeset.specs.Tables.{In}
 use Rattle.xdg_rules.specs.Rules.{IsPlaceOn, SaysPresent, SaysAbsent, may_edges, must_edges}
@@ -11,7 +12,6 @@ use Rattle.xdg_pgraph.specs.declared.found.Which.{Which}
 use Rattle.xdg_pgraph.specs.declared.found.Which.TheVariants as whichs
 use Rattle.xdg_pgraph.specs.declared.entered.Roots.{Roots}
 use Rattle.xdg_pgraph.specs.declared.entered.Roots.TheVariants as rootss
-use Rattle.xdg_facts.specs.Rises.{has}
 
 -- the edges of a dimension that may be, or those that must be
 abbrev pub edges_of : Which → Parts → List (List Bool) → ℕ → List Edge
@@ -80,11 +80,6 @@ RootsAre xs rootss.Nothing = xs ≡ []
 RootsAre xs (rootss.One v) = xs ≡ v ∷ []
 RootsAre xs rootss.More = 2 ≤ length xs
 
-abbrev pub roots_with : Roots → ℕ → Roots
-roots_with rootss.Nothing v = rootss.One v
-roots_with (rootss.One u) v = rootss.More
-roots_with rootss.More v = rootss.More
-
 -- the value that says that an edge is absent, which is the only one of the edges into a node
 pub record Only (parts : Parts) (edges : List Edge) (node d v : ℕ) : Type 0 where
   pub place : Edge
@@ -93,19 +88,17 @@ pub record Only (parts : Parts) (edges : List Edge) (node d v : ℕ) : Type 0 wh
   pub one : mothers edges node ≡ 1
   pub says : SaysAbsent parts place d v
 
--- one of the edges leads from a node to another
+-- no edge that may be the only one into a node may still be absent
+abbrev pub NoneOnly : Parts → List (List Bool) → ℕ → ℕ → Type 0
+NoneOnly parts box dim w = (d v : ℕ) → Only parts (may_edges parts box dim) w d v → Has box d v → ⊥
 
 -- the table leads from the daughter of an edge back to its mother
 abbrev pub Backs : List (List ℕ) → Edge → Type 0
 Backs far e = In far e.daughter.0 e.mother.0
 
--- and the edge leaves a node
-abbrev pub BacksFrom : List (List ℕ) → ℕ → Edge → Type 0
-BacksFrom far u e = (e.mother.0 ≡ u) × Backs far e
-
--- each of the first nodes for which the table has some node is in a set
-abbrev pub StartAll : List (List ℕ) → ℕ → List ℕ → Type 0
-StartAll far k starts = (a b : ℕ) → a < k → In far a b → has starts a ≡ true
+-- and the edge leads into a node
+abbrev pub BacksInto : List (List ℕ) → ℕ → Edge → Type 0
+BacksInto far v e = (e.daughter.0 ≡ v) × Backs far e
 
 -- the value that says that an edge from a node to another is present, beside which one of some edges leads there
 pub record Doubled (parts : Parts) (dim : ℕ) (edges : List Edge) (u v d x : ℕ) : Type 0 where

@@ -1,18 +1,20 @@
 //! The edges with a label out of a node, or into it.
 
-ghost use Rattle.std.specs.Prelude.{◌≡◌, ◌<◌, ◌↔◌, ℕ, IsTrue, Contains};
+ghost use Rattle.std.specs.List.Sorted.{IsStrictlyIncreasing};
+ghost use Rattle.std.specs.Prelude.{◌≡◌, ◌<◌, ◌↔◌, [], ℕ, IsTrue, Contains, slice_index_or};
 ghost use Rattle.xdg_facts.specs.Rises.{has};
+ghost use Rattle.xdg_problem.specs.declared.parts.Group.{Group as Use};
 ghost use Rattle.xdg_store.specs.States.{Known};
-ghost use Rattle.xdg_pgraph.specs.Bundles.{argument_of, edge_to, numbers_of};
+ghost use Rattle.xdg_pgraph.specs.declared.bundle.Way.TheVariants as ways;
+ghost use Rattle.xdg_pgraph.specs.Bundles.{HasFarNodes, argument_of, edge_to, numbers_of};
 ghost use Rattle.xdg_pgraph.specs.Planes.{IsPlane};
 ghost use Rattle.xdg_pgraph.specs.Seeking.{edges_of};
 
 use crate::found::Which;
 use crate::plane::Plane;
-use xdg_base::{LabelId, NodeId};
-use xdg_graph::feature_row;
+use xdg_base::{LabelId, List, NodeId};
 use xdg_nodeset::NodeSet;
-use xdg_problem::{Edge, Group};
+use xdg_problem::{Edge, Feat, Group};
 use xdg_store::Store;
 
 /// Out of a node, or into it.
@@ -28,6 +30,13 @@ pub(crate) struct Bundle {
     pub way: Way,
     pub node: u8,
     pub label: u8,
+}
+
+/// The other nodes of the edges of a bundle that may be present, and of those that must be.
+#[derive(Clone, Copy, Debug)]
+pub(crate) struct FarNodes {
+    pub may: NodeSet,
+    pub must: NodeSet,
 }
 
 impl Bundle {
@@ -52,17 +61,32 @@ fn argument(way: Way) -> usize
     }
 }
 
-/// The numbers of edges that a candidate of the node allows.
-pub(crate) fn numbers_of(group: &Group, bundle: Bundle, place: u16) -> &[u16]
-    ensures { result.now ≡ numbers_of bundle.way group.now bundle.node bundle.label place }
+/// The features of a node's candidates.
+pub(crate) fn features_of(group: &Group, node: u8) -> &[List<Feat>]
+    ensures { result.now ≡ slice_index_or group.now.feats node [] }
 {
-    feature_row(
-        group,
-        NodeId(bundle.node),
-        place,
-        argument(bundle.way),
-        LabelId(bundle.label),
-    )
+    let Some(candidates) = group.feats.get(node as usize) else {
+        return &[];
+    };
+    candidates.as_slice()
+}
+
+/// The numbers of edges that a candidate of the node allows, by the features of all of them. They rise.
+pub(crate) fn numbers_at(candidates: &[List<Feat>], bundle: Bundle, place: u16) -> &[u16]
+    ensures same { (group : Use) → candidates.now ≡ slice_index_or group.feats bundle.node []
+        → result.now ≡ numbers_of bundle.way group bundle.node bundle.label place }
+    ensures rising { IsStrictlyIncreasing result.now }
+{
+    let Some(features) = candidates.get(place as usize) else {
+        return &[];
+    };
+    let Some(feature) = features.get(argument(bundle.way)) else {
+        return &[];
+    };
+    let Some(numbers) = feature.rows.get(bundle.label as usize) else {
+        return &[];
+    };
+    numbers.as_slice()
 }
 
 /// The other nodes of the edges of a bundle that may be present.
@@ -116,5 +140,61 @@ pub(crate) fn ends(store: &Store, plane: &Plane, which: Which, bundle: Bundle) -
     match which {
         Which::May => may_ends(store, plane, bundle),
         Which::Must => must_ends(store, plane, bundle),
+    }
+}
+
+/// The daughters of the edges with a label out of a node.
+fn far_daughters(store: &Store, plane: &Plane, node: u8, label: u8) -> FarNodes
+    requires plane { IsPlane store.now.parts plane.now }
+    requires known { Known store.now }
+    requires node { node < plane.now.nodes }
+    requires label { label < plane.now.labels }
+    ensures { HasFarNodes store.now.parts store.now.now plane.now.dim.0 ways.Out node label result }
+{
+    let mother = NodeId(node);
+    let label = LabelId(label);
+    FarNodes {
+        may: store.daughters_may(plane.dim, mother, label),
+        must: store.daughters_must(plane.dim, mother, label),
+    }
+}
+
+/// The mothers of those into it.
+fn far_mothers(store: &Store, plane: &Plane, node: u8, label: u8) -> FarNodes
+    requires plane { IsPlane store.now.parts plane.now }
+    requires known { Known store.now }
+    requires node { node < plane.now.nodes }
+    requires label { label < plane.now.labels }
+    ensures { HasFarNodes store.now.parts store.now.now plane.now.dim.0 ways.In node label result }
+{
+    let daughter = NodeId(node);
+    let rows = store.mothers_by_label(plane.dim, daughter, plane.labels);
+    let mothers = rows[label as usize];
+    let mut others = store.all_nodes();
+    others.remove(daughter);
+    FarNodes {
+        may: mothers.may.meet(&others),
+        must: mothers.must.meet(&others),
+    }
+}
+
+impl FarNodes {
+    /// Those of a bundle; a dimension without edges has none.
+    pub(crate) fn of(store: &Store, plane: &Plane, bundle: Bundle) -> FarNodes
+        requires plane { IsPlane store.now.parts plane.now }
+        requires known { Known store.now }
+        requires node { bundle.node < plane.now.nodes }
+        ensures { HasFarNodes store.now.parts store.now.now plane.now.dim.0 bundle.way bundle.node bundle.label result }
+    {
+        if bundle.label >= plane.labels {
+            return FarNodes {
+                may: NodeSet::empty(),
+                must: NodeSet::empty(),
+            };
+        }
+        match bundle.way {
+            Way::Out => far_daughters(store, plane, bundle.node, bundle.label),
+            Way::In => far_mothers(store, plane, bundle.node, bundle.label),
+        }
     }
 }

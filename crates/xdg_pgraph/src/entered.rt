@@ -1,17 +1,16 @@
 //! The nodes into which edges lead.
 
-ghost use Rattle.std.specs.Prelude.{◌≡◌, ◌<◌, ◌≤◌, ◌==◌, ◌↔◌, ◌||◌, ◌&&◌, ℕ, IsTrue, List, Contains};
+ghost use Rattle.std.specs.Prelude.{◌≡◌, ◌<◌, ◌==◌, ◌↔◌, ◌||◌, ◌&&◌, ℕ, IsTrue, List, Contains};
 ghost use Rattle.xdg_facts.specs.Rises.{has};
 ghost use Rattle.xdg_problem.specs.declared.analysis.Edge.{Edge as Arrow};
 ghost use Rattle.xdg_problem.specs.Paths.{roots};
 ghost use Rattle.xdg_store.specs.States.{Known};
 ghost use Rattle.xdg_pgraph.specs.Entering.{Enters, Tells, Leaving, Labelled};
 ghost use Rattle.xdg_pgraph.specs.Planes.{IsPlane};
-ghost use Rattle.xdg_pgraph.specs.Seeking.{Into, RootsAre, edges_of, roots_with};
+ghost use Rattle.xdg_pgraph.specs.Seeking.{RootsAre, edges_of};
 
 use crate::bundle::{Bundle, Way, ends};
-use crate::finding::entering;
-use crate::found::{Found, Which};
+use crate::found::Which;
 use crate::plane::Plane;
 use xdg_base::NodeId;
 use xdg_nodeset::NodeSet;
@@ -26,7 +25,7 @@ pub(crate) struct Entered {
 
 impl Entered {
     /// No edge leads anywhere.
-    fn nowhere() -> Entered
+    pub(crate) fn nowhere() -> Entered
         ensures { Tells (λ (e : Arrow). ⊥) result }
     {
         Entered {
@@ -36,7 +35,7 @@ impl Entered {
     }
 
     /// What other edges add.
-    fn merged(&self, other: &Entered) -> Entered
+    pub(crate) fn merged(&self, other: &Entered) -> Entered
         ensures some { (n : ℕ) → has result.some n ≡ (has self.now.some n || has other.now.some n) }
         ensures more { (n : ℕ) → has result.more n ≡ (has self.now.more n || (has other.now.more n || (has self.now.some n && has other.now.some n))) }
     {
@@ -91,39 +90,6 @@ pub(crate) fn alone(node: u8) -> NodeSet
     nodes
 }
 
-/// What the edges into a node lead to.
-fn entered_into(store: &Store, plane: &Plane, which: Which, daughter: u8) -> Entered
-    requires plane { IsPlane store.now.parts plane.now }
-    requires known { Known store.now }
-    requires daughter { daughter < plane.now.nodes }
-    ensures { Tells (Into (edges_of which store.now.parts store.now.now plane.now.dim.0) daughter) result }
-{
-    match entering(store, plane, which, daughter) {
-        Found::Nothing => Entered::nowhere(),
-        Found::One(_) => Entered {
-            some: alone(daughter),
-            more: NodeSet::empty(),
-        },
-        Found::More => Entered {
-            some: alone(daughter),
-            more: alone(daughter),
-        },
-    }
-}
-
-/// What all edges lead to.
-pub(crate) fn all_entered(store: &Store, plane: &Plane, which: Which) -> Entered
-    requires plane { IsPlane store.now.parts plane.now }
-    requires known { Known store.now }
-    ensures { Tells (Contains (edges_of which store.now.parts store.now.now plane.now.dim.0)) result }
-{
-    let mut entered = Entered::nowhere();
-    for daughter in 0..plane.nodes {
-        entered = entered.merged(&entered_into(store, plane, which, daughter));
-    }
-    entered
-}
-
 /// Nodes without mother.
 #[derive(Clone, Copy, Debug)]
 pub(crate) enum Roots {
@@ -135,29 +101,17 @@ pub(crate) enum Roots {
     More,
 }
 
-impl Roots {
-    /// One node more.
-    fn with(self, node: u8) -> Roots
-        ensures { result ≡ roots_with self node }
-    {
-        match self {
-            Roots::Nothing => Roots::One(node),
-            Roots::One(_) => Roots::More,
-            Roots::More => Roots::More,
-        }
-    }
-}
-
 /// The nodes into which no edge leads, by those into which some do.
-pub(crate) fn find_roots(plane: &Plane, some: &NodeSet) -> Roots
-    requires small { plane.now.nodes ≤ 128 }
+pub(crate) fn find_roots(store: &Store, plane: &Plane, some: &NodeSet) -> Roots
+    requires plane { IsPlane store.now.parts plane.now }
     ensures { (edges : List Arrow) → ((n : ℕ) → IsTrue (has some.now n) ↔ Enters (Contains edges) n) → RootsAre (roots plane.now.nodes edges) result }
 {
-    let mut nodes = Roots::Nothing;
-    for node in 0..plane.nodes {
-        if !some.contains(NodeId(node)) {
-            nodes = nodes.with(node);
-        }
+    let nodes = store.all_nodes().minus(some);
+    let Some(root) = nodes.first() else {
+        return Roots::Nothing;
+    };
+    if nodes.len() > 1 {
+        return Roots::More;
     }
-    nodes
+    Roots::One(root.0)
 }

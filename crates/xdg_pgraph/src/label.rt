@@ -80,7 +80,8 @@ pub(crate) fn take_tree(store: &mut Store, pass: &mut Pass, plane: &Plane)
     one_mother(store, pass, plane, &first);
     let second = first.renewed(store, pass, plane);
     for_root(store, pass, plane, &second);
-    for_others(store, pass, plane);
+    let third = second.renewed(store, pass, plane);
+    for_others(store, pass, plane, &third);
     no_cycle(store, pass, plane);
 }
 
@@ -95,9 +96,10 @@ fn take_root(store: &mut Store, pass: &mut Pass, plane: &Plane, wanted: bool)
     if !wanted {
         return;
     }
-    let incoming = Incoming::of(store, plane);
-    for_root(store, pass, plane, &incoming);
-    for_others(store, pass, plane);
+    let first = Incoming::of(store, plane);
+    for_root(store, pass, plane, &first);
+    let second = first.renewed(store, pass, plane);
+    for_others(store, pass, plane, &second);
 }
 
 /// The rules that go by the edges that may be, where they are asked for.
@@ -111,7 +113,8 @@ pub(crate) fn take_others(store: &mut Store, pass: &mut Pass, plane: &Plane, wan
     if !wanted {
         return;
     }
-    for_others(store, pass, plane);
+    let incoming = Incoming::of(store, plane);
+    for_others(store, pass, plane, &incoming);
 }
 
 /// The rule of labels, where it is asked for.

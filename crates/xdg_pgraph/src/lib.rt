@@ -10,7 +10,6 @@ mod graph_prop;
 mod incoming;
 mod label;
 mod lasting;
-mod opening;
 mod plane;
 mod reach;
 mod span;

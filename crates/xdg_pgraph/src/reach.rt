@@ -1,73 +1,43 @@
 //! What paths along edges that must be lead to.
 
-ghost use Rattle.std.specs.Prelude.{◌≡◌, ◌↔◌, ◌<◌, ◌≤◌, true, IsTrue};
-ghost use Rattle.xdg_nodeset.specs.Tables.{In};
-ghost use Rattle.xdg_facts.specs.Rises.{has};
+ghost use Rattle.std.specs.Prelude.{◌≡◌, ◌<◌};
 ghost use Rattle.xdg_propcore.specs.Passes.{Clears};
 ghost use Rattle.xdg_rules.specs.Rules.{NoCycle};
 ghost use Rattle.xdg_store.specs.States.{Known};
 ghost use Rattle.xdg_pgraph.specs.Planes.{IsPlane};
 ghost use Rattle.xdg_pgraph.specs.Ruling.{RunsFor};
-ghost use Rattle.xdg_pgraph.specs.Seeking.{Aims, BacksFrom, StartAll};
+ghost use Rattle.xdg_pgraph.specs.Seeking.{Aims, BacksInto};
 
-use crate::entered::entered_from;
-use crate::found::{Found, Which as Edges};
+use crate::found::Found;
 use crate::plane::Plane;
 use crate::taking::forbid_joined;
 use xdg_base::NodeId;
-use xdg_graph::{Which, above, set_at};
+use xdg_graph::{Which, mothers_of, note_above, set_at};
 use xdg_nodeset::NodeSet;
 use xdg_propcore::Pass;
 use xdg_store::Store;
 
-/// Whether an edge from a node to one of some others would close a cycle.
-fn is_back(far: &[NodeSet; 128], mother: u8, daughters: NodeSet, daughter: u8) -> bool
-    requires mother { mother < 128 }
-    requires daughter { daughter < 128 }
-    ensures { IsTrue result ↔ ((has daughters daughter ≡ true) × In far.now daughter mother) }
-{
-    daughters.contains(NodeId(daughter)) && far[usize::from(daughter)].contains(NodeId(mother))
-}
-
-/// The first nodes for which a table has some node.
-fn starts_of(far: &[NodeSet; 128], nodes: u8) -> NodeSet
-    requires { nodes ≤ 128 }
-    ensures { StartAll far.now nodes result }
-{
-    let mut starts = NodeSet::empty();
-    for node in 0..nodes {
-        if set_at(far, NodeId(node)).len() == 0 {
-            continue;
-        }
-        starts.insert(NodeId(node));
-    }
-    starts
-}
-
-/// Takes away the edges out of a node that would close a cycle.
-fn no_cycle_from(
+/// Takes away the edges into a node that would close a cycle: a table leads from the node back to their mothers.
+fn no_cycle_into(
     store: &mut Store,
     pass: &mut Pass,
     plane: &Plane,
     far: &[NodeSet; 128],
-    starts: NodeSet,
-    mother: u8,
+    daughter: u8,
 )
     requires plane { IsPlane store.old.parts plane.now }
     requires known { Known store.old }
-    requires mother { mother < plane.now.nodes }
-    requires starts { StartAll far.now plane.now.nodes starts }
-    ensures clears { Clears (Aims store.old.parts plane.now.dim.0 Found.More (BacksFrom far.now mother)) pass.old store.old pass.new store.new }
+    requires daughter { daughter < plane.now.nodes }
+    ensures clears { Clears (Aims store.old.parts plane.now.dim.0 Found.More (BacksInto far.now daughter)) pass.old store.old pass.new store.new }
     ensures known { Known store.new }
 {
-    let daughters = entered_from(store, plane, Edges::May, mother).some;
-    if daughters.meet(&starts).len() == 0 {
+    let below = set_at(far, NodeId(daughter));
+    if below.len() == 0 {
         return;
     }
-    for daughter in 0..plane.nodes {
-        if is_back(far, mother, daughters, daughter) {
-            forbid_joined(store, pass, plane, mother, daughter, Found::More);
-        }
+    let back = mothers_of(store, Which::May, plane.dim, NodeId(daughter)).meet(&below);
+    for mother in back.iter() {
+        forbid_joined(store, pass, plane, mother.0, daughter, Found::More);
     }
 }
 
@@ -79,9 +49,9 @@ pub(crate) fn no_cycle(store: &mut Store, pass: &mut Pass, plane: &Plane)
     ensures parts { store.new.parts ≡ store.old.parts }
     ensures known { Known store.new }
 {
-    let far = above(store, Which::Must, plane.dim);
-    let starts = starts_of(&far, plane.nodes);
-    for mother in 0..plane.nodes {
-        no_cycle_from(store, pass, plane, &far, starts, mother);
+    let mut far = [NodeSet::empty(); 128];
+    note_above(&mut far, store, Which::Must, plane.dim);
+    for daughter in 0..plane.nodes {
+        no_cycle_into(store, pass, plane, &far, daughter);
     }
 }

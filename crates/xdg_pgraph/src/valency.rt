@@ -8,19 +8,17 @@ ghost use Rattle.xdg_problem.specs.Arguments.{first_dim, label_count};
 ghost use Rattle.xdg_problem.specs.Boxes.{edge_decision};
 ghost use Rattle.xdg_problem.specs.Places.{nodes};
 ghost use Rattle.xdg_problem.specs.Problems.{IsGroup};
-ghost use Rattle.xdg_rules.specs.Rules.{may_edges, must_edges};
 ghost use Rattle.xdg_store.specs.States.{Known};
 ghost use Rattle.xdg_propcore.specs.Passes.{Clears, IsQuiet};
 ghost use Rattle.xdg_propcore.specs.Sweeps.{Sweeps};
 ghost use Rattle.xdg_pgraph.specs.Bounding.{NoneBarred};
-ghost use Rattle.xdg_pgraph.specs.Bundles.{AreEnds, AreLabelsDone, AreNodesDone, Barred, IsBundleDone, IsLabelDone, OpenTo, edge_to};
+ghost use Rattle.xdg_pgraph.specs.Bundles.{AreLabelsDone, AreNodesDone, Barred, IsBundleDone, IsLabelDone, OpenTo, edge_to};
 ghost use Rattle.xdg_pgraph.specs.Planes.{IsPlane};
 ghost use Rattle.xdg_pgraph.specs.Spans.{Spans};
-ghost use Rattle.xdg_pgraph.specs.Untouched.{AreOthersDone, IsLeftAlone, IsTouched, near, side};
+ghost use Rattle.xdg_pgraph.specs.Untouched.{AreOthersDone, HasLost, IsLeftAlone, IsTouched, lost_edges, side};
 
 use crate::bounds::{has_none_within, said_of};
-use crate::bundle::{Bundle, Way, ends, numbers_of};
-use crate::found::Which;
+use crate::bundle::{Bundle, FarNodes, Way, features_of, numbers_at};
 use crate::plane::Plane;
 use crate::span::Span;
 use xdg_base::NodeId;
@@ -45,11 +43,12 @@ fn take_entries(
     ensures clears { Clears (Barred store.old.parts group.now bundle least most) pass.old store.old pass.new store.new }
     ensures known { Known store.new }
 {
+    let candidates = features_of(group, bundle.node);
     for place in span.from..span.to {
         if !store.entry_in(NodeId(bundle.node), place) {
             continue;
         }
-        if !has_none_within(numbers_of(group, bundle, place), least, most) {
+        if !has_none_within(numbers_at(candidates, bundle, place), least, most) {
             continue;
         }
         pass.remove_entry(store, NodeId(bundle.node), place);
@@ -57,6 +56,7 @@ fn take_entries(
 }
 
 /// The same, where some entry may be one of them.
+#[inline(always)]
 fn take_entries_if(
     store: &mut Store,
     pass: &mut Pass,
@@ -108,15 +108,13 @@ fn take_open(
     ensures clears { Clears (OpenTo store.old.parts plane.now.dim.0 bundle others (cond present 0 1)) pass.old store.old pass.new store.new }
     ensures known { Known store.new }
 {
-    for other in 0..plane.nodes {
-        if !others.contains(NodeId(other)) {
-            continue;
-        }
-        take_value(store, pass, bundle.edge(plane, other), present);
+    for other in others.iter() {
+        take_value(store, pass, bundle.edge(plane, other.0), present);
     }
 }
 
 /// The same, where it is wanted.
+#[inline(always)]
 fn take_open_if(
     store: &mut Store,
     pass: &mut Pass,
@@ -140,40 +138,8 @@ fn take_open_if(
 }
 
 /// Takes what valency takes at a bundle: that further edges are present, where as many must be as the entries allow at most, that
-/// they are absent, where only as many may be as the entries want at least, and entries. The ends are those of the edges that must be
-/// present, and of those that may be.
-fn take_open_bundle(
-    store: &mut Store,
-    pass: &mut Pass,
-    plane: &Plane,
-    group: &Group,
-    bundle: Bundle,
-    span: Span,
-    must: NodeSet,
-    may: NodeSet,
-)
-    requires plane { IsPlane store.old.parts plane.now }
-    requires dim { plane.now.dim.0 ≡ first_dim group.now }
-    requires known { Known store.old }
-    requires group { IsGroup store.old.parts group.now }
-    requires principle { group.now.principle ≡ principles.Valency }
-    requires node { bundle.node < plane.now.nodes }
-    requires label { bundle.label < label_count store.old.parts plane.now.dim.0 }
-    requires span { Spans store.old.parts store.old.now bundle.node span }
-    requires must { AreEnds (must_edges store.old.parts store.old.now plane.now.dim.0) plane.now.dim.0 bundle must }
-    requires may { AreEnds (may_edges store.old.parts store.old.now plane.now.dim.0) plane.now.dim.0 bundle may }
-    ensures { Sweeps group.now (IsBundleDone bundle.way store.old.parts group.now bundle.node bundle.label) pass.old store.old pass.new store.new }
-{
-    let open = may.minus(&must);
-    let least = must.len();
-    let most = may.len();
-    let said = said_of(store, group, bundle, span, least, most);
-    take_open_if(store, pass, plane, bundle, open, true, said.full);
-    take_open_if(store, pass, plane, bundle, open, false, said.needed);
-    take_entries_if(store, pass, group, bundle, span, least, most, said.barred);
-}
-
-/// Takes what valency takes at a bundle. Where each edge that may be present must be, it only looks for entries.
+/// they are absent, where only as many may be as the entries want at least, and entries.
+#[inline(never)]
 fn take_bundle(
     store: &mut Store,
     pass: &mut Pass,
@@ -192,14 +158,14 @@ fn take_bundle(
     requires span { Spans store.old.parts store.old.now bundle.node span }
     ensures { Sweeps group.now (IsBundleDone bundle.way store.old.parts group.now bundle.node bundle.label) pass.old store.old pass.new store.new }
 {
-    let must = ends(store, plane, Which::Must, bundle);
-    let may = ends(store, plane, Which::May, bundle);
-    let open = may.minus(&must);
-    if open.len() == 0 {
-        take_entries(store, pass, group, bundle, span, must.len(), may.len());
-        return;
-    }
-    take_open_bundle(store, pass, plane, group, bundle, span, must, may);
+    let far = FarNodes::of(store, plane, bundle);
+    let open = far.may.minus(&far.must);
+    let least = far.must.len();
+    let most = far.may.len();
+    let said = said_of(store, group, bundle, span, least, most);
+    take_open_if(store, pass, plane, bundle, open, true, said.full);
+    take_open_if(store, pass, plane, bundle, open, false, said.needed);
+    take_entries_if(store, pass, group, bundle, span, least, most, said.barred);
 }
 
 /// The nodes that have lost values of edges out of them, or into them, by their labels.
@@ -212,16 +178,6 @@ fn side(touched: &Touched, way: Way) -> &[NodeSet; 32]
     }
 }
 
-/// The same for all labels together.
-fn near(touched: &Touched, way: Way) -> NodeSet
-    ensures { result ≡ near way touched.now }
-{
-    match way {
-        Way::Out => touched.mothers,
-        Way::In => touched.daughters,
-    }
-}
-
 /// The nodes that a table has for a label.
 fn nodes_at(table: &[NodeSet; 32], label: u8) -> NodeSet
     requires { label < 32 }
@@ -230,33 +186,77 @@ fn nodes_at(table: &[NodeSet; 32], label: u8) -> NodeSet
     table[usize::from(label)]
 }
 
+/// What was lost at a node: an entry, values of edges out of it, and values of edges into it.
+#[derive(Clone, Copy, Debug)]
+struct Lost {
+    pub entries: bool,
+    pub out: bool,
+    pub into: bool,
+}
+
+impl Lost {
+    /// What was lost at a node.
+    fn of(touched: &Touched, node: u8) -> Lost
+        requires { node < 128 }
+        ensures { HasLost touched.now node result }
+    {
+        let node = NodeId(node);
+        Lost {
+            entries: touched.entries.contains(node),
+            out: touched.mothers.contains(node),
+            into: touched.daughters.contains(node),
+        }
+    }
+
+    /// Whether values of edges were lost.
+    fn edges(self, way: Way) -> bool
+        ensures { result ≡ lost_edges way self }
+    {
+        match way {
+            Way::Out => self.out,
+            Way::In => self.into,
+        }
+    }
+}
+
 /// Whether something was lost of a bundle.
-fn is_touched(touched: &Touched, bundle: Bundle) -> bool
+#[inline(always)]
+fn is_touched(touched: &Touched, lost: Lost, bundle: Bundle) -> bool
+    requires lost { HasLost touched.now bundle.node lost }
     requires node { bundle.node < 128 }
     requires label { bundle.label < 32 }
     ensures { IsTrue result ↔ IsTouched bundle.way touched.now bundle.node bundle.label }
 {
-    let nodes = nodes_at(side(touched, bundle.way), bundle.label).meet(&near(touched, bundle.way));
-    touched.entries.union(&nodes).contains(NodeId(bundle.node))
+    if lost.entries {
+        return true;
+    }
+    if !lost.edges(bundle.way) {
+        return false;
+    }
+    nodes_at(side(touched, bundle.way), bundle.label).contains(NodeId(bundle.node))
 }
 
-/// The nodes at which something was lost.
-fn touched_nodes(touched: &Touched) -> NodeSet
-    ensures { (node : ℕ) → has result node ≡ false → IsLeftAlone touched.now node }
+/// The nodes of the sentence at which something was lost.
+fn touched_nodes(store: &Store, touched: &Touched) -> NodeSet
+    ensures within { (node : ℕ) → has result node ≡ true → node < nodes store.now.parts }
+    ensures others { (node : ℕ) → node < nodes store.now.parts → (has result node ≡ true → ⊥) → IsLeftAlone touched.now node }
 {
-    touched
+    let lost = touched
         .entries
         .union(&touched.mothers)
-        .union(&touched.daughters)
+        .union(&touched.daughters);
+    lost.meet(&store.all_nodes())
 }
 
 /// Takes what valency takes at a bundle, if something was lost of it.
+#[inline(always)]
 fn take_touched(
     store: &mut Store,
     pass: &mut Pass,
     plane: &Plane,
     group: &Group,
     touched: &Touched,
+    lost: Lost,
     bundle: Bundle,
     span: Span,
 )
@@ -268,10 +268,11 @@ fn take_touched(
     requires node { bundle.node < plane.now.nodes }
     requires label { bundle.label < label_count store.old.parts plane.now.dim.0 }
     requires span { Spans store.old.parts store.old.now bundle.node span }
+    requires lost { HasLost touched.now bundle.node lost }
     requires others { IsQuiet pass.old → AreOthersDone touched.now store.old.parts group.now store.old.now }
     ensures { Sweeps group.now (IsBundleDone bundle.way store.old.parts group.now bundle.node bundle.label) pass.old store.old pass.new store.new }
 {
-    if !is_touched(touched, bundle) {
+    if !is_touched(touched, lost, bundle) {
         return;
     }
     take_bundle(store, pass, plane, group, bundle, span);
@@ -284,6 +285,7 @@ fn take_label(
     plane: &Plane,
     group: &Group,
     touched: &Touched,
+    lost: Lost,
     node: u8,
     label: u8,
     span: Span,
@@ -296,6 +298,7 @@ fn take_label(
     requires node { node < plane.now.nodes }
     requires label { label < label_count store.old.parts plane.now.dim.0 }
     requires span { Spans store.old.parts store.old.now node span }
+    requires lost { HasLost touched.now node lost }
     requires others { IsQuiet pass.old → AreOthersDone touched.now store.old.parts group.now store.old.now }
     ensures { Sweeps group.now (IsLabelDone store.old.parts group.now node label) pass.old store.old pass.new store.new }
 {
@@ -304,13 +307,13 @@ fn take_label(
         node,
         label,
     };
-    take_touched(store, pass, plane, group, touched, out, span);
+    take_touched(store, pass, plane, group, touched, lost, out, span);
     let into = Bundle {
         way: Way::In,
         node,
         label,
     };
-    take_touched(store, pass, plane, group, touched, into, span);
+    take_touched(store, pass, plane, group, touched, lost, into, span);
 }
 
 /// Takes what valency takes at a node and all labels.
@@ -334,8 +337,9 @@ fn take_labels(
     ensures { Sweeps group.now (AreLabelsDone labels store.old.parts group.now node) pass.old store.old pass.new store.new }
 {
     let span = Span::of(store, node);
+    let lost = Lost::of(touched, node);
     for label in 0..labels {
-        take_label(store, pass, plane, group, touched, node, label, span);
+        take_label(store, pass, plane, group, touched, lost, node, label, span);
     }
 }
 
@@ -358,11 +362,8 @@ pub(crate) fn take_valency(
     requires others { IsQuiet pass.old → AreOthersDone touched.now store.old.parts group.now store.old.now }
     ensures { Sweeps group.now (AreNodesDone plane.now.nodes labels store.old.parts group.now) pass.old store.old pass.new store.new }
 {
-    let nodes = touched_nodes(touched);
-    for node in 0..plane.nodes {
-        if !nodes.contains(NodeId(node)) {
-            continue;
-        }
-        take_labels(store, pass, plane, group, touched, node, labels);
+    let nodes = touched_nodes(store, touched);
+    for node in nodes.iter() {
+        take_labels(store, pass, plane, group, touched, node.0, labels);
     }
 }

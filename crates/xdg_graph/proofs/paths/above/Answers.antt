@@ -1,10 +1,6 @@
-use Rattle.std.proofs.Common.{arith, subst, sym}
-use Rattle.xdg_graph.proofs.Noting.{closure_exact}
-use Rattle.xdg_graph.specs.Edges.{HasNoneFrom}
+use Rattle.std.proofs.Common.{refl}
+use Rattle.xdg_nodeset.proofs.TableSets.{no_in}
 use Rattle.xdg_graph.proofs.paths.above.Goals as goal
 
-pub returns-clause-exact : goal.returns-clause-exact
-returns-clause-exact c = closure_exact c.args.which c.args.store.now.parts c.args.store.now.now c.args.dim.0 c.node_count.result c.daughters-table.result c.close.new.table c.daughters-table.ensures.known.is_box (let e = c.node_count.ensures.size in omega (arith, e)) c.daughters-table.ensures.exact c.close.ensures
-
-pub close-requires-clause-rest : goal.close-requires-clause-rest
-close-requires-clause-rest c = subst (λ n. HasNoneFrom n c.daughters-table.result) (sym c.node_count.ensures.size) c.daughters-table.ensures.rest
+pub note_above-requires : goal.note_above-requires
+note_above-requires c = record { blank = no_in _ 128 c.empty-table.result refl c.empty-table.ensures.value }

@@ -1,19 +1,6 @@
-use Rattle.std.proofs.Common.{ℕ, ◌↔◌, sym, subst}
-use Rattle.xdg_nodeset.specs.Tables.{In}
-use Rattle.xdg_problem.specs.Paths.{IsDaughter}
-use Rattle.xdg_graph.specs.declared.which.Which.TheVariants as whichs
-use Rattle.xdg_graph.specs.Edges.{edges_of}
-use Rattle.xdg_graph.proofs.Adding.{none_from}
+use Rattle.std.proofs.Common.{refl}
+use Rattle.xdg_nodeset.proofs.TableSets.{no_in}
 use Rattle.xdg_graph.proofs.tables.daughters.Goals as goal
 
-pub returns-in-May-clause-exact : goal.returns-in-May-clause-exact
-returns-in-May-clause-exact c = subst (λ w. (a b : ℕ) → In c.may_daughters.result a b ↔ IsDaughter (edges_of w c.args.store.now.parts c.args.store.now.now c.args.dim.0) a b) (sym c.in-May.is) c.may_daughters.ensures.exact
-
-pub returns-in-May-clause-rest : goal.returns-in-May-clause-rest
-returns-in-May-clause-rest c = none_from whichs.May c.args.store.now.parts c.args.store.now.now c.args.dim.0 c.may_daughters.ensures.known.is_box c.may_daughters.result c.may_daughters.ensures.exact
-
-pub returns-in-Must-clause-exact : goal.returns-in-Must-clause-exact
-returns-in-Must-clause-exact c = subst (λ w. (a b : ℕ) → In c.must_daughters.result a b ↔ IsDaughter (edges_of w c.args.store.now.parts c.args.store.now.now c.args.dim.0) a b) (sym c.in-Must.is) c.must_daughters.ensures.exact
-
-pub returns-in-Must-clause-rest : goal.returns-in-Must-clause-rest
-returns-in-Must-clause-rest c = none_from whichs.Must c.args.store.now.parts c.args.store.now.now c.args.dim.0 c.must_daughters.ensures.known.is_box c.must_daughters.result c.must_daughters.ensures.exact
+pub note_daughters-requires : goal.note_daughters-requires
+note_daughters-requires c = record { blank = no_in _ 128 c.empty-table.result refl c.empty-table.ensures.value }

@@ -1,15 +1,6 @@
-use Rattle.std.proofs.Common.{arith, refl}
-use Rattle.xdg_graph.proofs.Noting.{noted_start, mothers_end}
+use Rattle.std.proofs.Common.{refl}
+use Rattle.xdg_nodeset.proofs.TableSets.{no_in}
 use Rattle.xdg_graph.proofs.upward.mothers.Goals as goal
 
-pub loop-daughter-init : goal.loop-daughter-init
-loop-daughter-init c = noted_start _ c.empty-table.result _ c.empty-table.ensures.value refl
-
-pub returns-clause-exact : goal.returns-clause-exact
-returns-clause-exact c = mothers_end c.args.which c.args.store.now.parts c.args.store.now.now c.args.dim.0 c.loop-daughter.daughter c.loop-daughter.table c.node_count-daughter-end.ensures.known.is_box (let n = c.loop-daughter-test.false in let e = c.node_count-daughter-end.ensures.size in omega (arith, n, e)) c.loop-daughter.invariant
-
-pub returns-clause-rest : goal.returns-clause-rest
-returns-clause-rest c a b past h =
-    let n = c.loop-daughter-test.false in
-    let e = c.node_count-daughter-end.ensures.size in
-    c.loop-daughter.invariant.left a b (let k = c.loop-daughter.auto.daughter-end in omega (arith, n, e, past, k)) h
+pub note_mothers-requires : goal.note_mothers-requires
+note_mothers-requires c = record { blank = no_in _ 128 c.empty-table.result refl c.empty-table.ensures.value }

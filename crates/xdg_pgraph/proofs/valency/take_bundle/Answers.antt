@@ -1,24 +1,53 @@
-use Rattle.std.proofs.Common.{◌∙◌, arith}
-use Rattle.std.proofs.lemmas.List.{nil_from_length}
+use Rattle.std.proofs.Common.{◌<◌, ◌↔◌, ◌∙◌, IsTrue, sym, subst, arith}
+use Rattle.xdg_problem.specs.Analyses.{IsPlace}
+use Rattle.xdg_problem.specs.Boxes.{entry_decision}
+use Rattle.xdg_problem.specs.Places.{nodes}
+use Rattle.xdg_problem.specs.declared.parts.Parts.{Parts}
+use Rattle.xdg_rules.specs.Rules.{IsGreatest, IsLeast}
+use Rattle.xdg_pgraph.specs.Bundles.{edge_to, numbers_of}
+use Rattle.xdg_pgraph.specs.Planes.{IsPlane}
 use Rattle.xdg_pgraph.specs.declared.found.Which.TheVariants as whichs
 use Rattle.xdg_pgraph.proofs.Bundled.{bundle_swept}
 use Rattle.xdg_pgraph.proofs.Ends.{which_counted}
-use Rattle.xdg_pgraph.proofs.OpenEdges.{none_open}
+use Rattle.xdg_pgraph.proofs.OpenEdges.{open_place, edges_clear}
+use Rattle.xdg_pgraph.proofs.Spanned.{spans_later}
 use Rattle.xdg_pgraph.proofs.valency.take_bundle.Goals as goal
 
-pub take_entries-requires-clause-node : goal.take_entries-requires-clause-node
-take_entries-requires-clause-node c = (let l = c.requires.node in let n = c.requires.plane.nodes_is in omega (arith, l, n))
+pub said_of-said-requires-clause-node : goal.said_of-said-requires-clause-node
+said_of-said-requires-clause-node c = (let l = c.requires.node in let n = c.requires.plane.nodes_is in omega (arith, l, n))
 
-pub take_open_bundle-requires-clause-must : goal.take_open_bundle-requires-clause-must
-take_open_bundle-requires-clause-must c = c.ends-must.ensures
+pub said_of-said-requires-clause-few : goal.said_of-said-requires-clause-few
+said_of-said-requires-clause-few c = (
+  (let e = c.len-least.ensures.value in let f = c.len-least.ensures.nodes.few in omega (arith, e, f)),
+  (let e = c.len-most.ensures.value in let f = c.len-most.ensures.nodes.few in omega (arith, e, f)),
+)
 
-pub take_open_bundle-requires-clause-may : goal.take_open_bundle-requires-clause-may
-take_open_bundle-requires-clause-may c = c.ends-may.ensures
+pub take_open_if-requires-clause-places : goal.take_open_if-requires-clause-places
+take_open_if-requires-clause-places c = open_place c.args.bundle c.args.store.now c.args.group.now c.args.plane.now.dim.0 c.requires.dim c.of-far.result.must c.of-far.result.may c.minus-open.result c.of-far.ensures.must c.of-far.ensures.may c.minus-open.ensures.members
 
-pub returns-then-len-eq0 : goal.returns-then-len-eq0
-returns-then-len-eq0 c =
-    let edges = none_open c.args.bundle c.args.store.now c.args.group.now c.args.plane.now.dim.0 c.requires.dim c.ends-must.result c.ends-may.result c.minus-open.result c.ends-must.ensures c.ends-may.ensures c.minus-open.ensures.members c.args.pass.now (nil_from_length c.minus-open.result (let e = c.len.ensures.value in let t = c.if-len-eq0.true in omega (arith, e, t))) in
-    bundle_swept c.args.bundle c.args.group.now c.args.pass.now c.args.pass.now c.take_entries.new.pass c.args.store.now c.args.store.now c.take_entries.new.store c.requires.group c.requires.principle c.args.plane.now.dim.0 c.requires.dim c.requires.known (let l = c.requires.node in let n = c.requires.plane.nodes_is in omega (arith, l, n)) c.requires.label c.len-then-len-eq0.result c.len-then-len-eq0-2.result
-    (c.len-then-len-eq0.ensures.value ∙ which_counted whichs.Must c.args.bundle.way c.args.store.now.parts c.args.store.now.now c.args.plane.now.dim.0 c.args.bundle.node c.args.bundle.label c.ends-must.result c.len-then-len-eq0.ensures.nodes c.ends-must.ensures)
-    (c.len-then-len-eq0-2.ensures.value ∙ which_counted whichs.May c.args.bundle.way c.args.store.now.parts c.args.store.now.now c.args.plane.now.dim.0 c.args.bundle.node c.args.bundle.label c.ends-may.result c.len-then-len-eq0-2.ensures.nodes c.ends-may.ensures)
-    c.take_entries.ensures.known edges c.take_entries.ensures.clears
+pub take_open_if-requires-2-clause-plane : goal.take_open_if-requires-2-clause-plane
+take_open_if-requires-2-clause-plane c = subst (λ (parts : Parts). IsPlane parts c.args.plane.now) (sym c.take_open_if.ensures.clears.same) c.requires.plane
+
+pub take_open_if-requires-2-clause-places : goal.take_open_if-requires-2-clause-places
+take_open_if-requires-2-clause-places c other is = subst (λ (parts : Parts). IsPlace parts (edge_to c.args.bundle.way c.args.plane.now.dim.0 c.args.bundle.node c.args.bundle.label other)) (sym c.take_open_if.ensures.clears.same) (open_place c.args.bundle c.args.store.now c.args.group.now c.args.plane.now.dim.0 c.requires.dim c.of-far.result.must c.of-far.result.may c.minus-open.result c.of-far.ensures.must c.of-far.ensures.may c.minus-open.ensures.members other is)
+
+pub take_entries_if-requires-clause-node : goal.take_entries_if-requires-clause-node
+take_entries_if-requires-clause-node c = subst (λ (parts : Parts). c.args.bundle.node < nodes parts) (sym (c.take_open_if-2.ensures.clears.same ∙ c.take_open_if.ensures.clears.same)) (let l = c.requires.node in let n = c.requires.plane.nodes_is in omega (arith, l, n))
+
+pub take_entries_if-requires-clause-span : goal.take_entries_if-requires-clause-span
+take_entries_if-requires-clause-span c = spans_later c.args.store.now.parts c.take_open_if-2.new.store.parts c.args.store.now.now c.take_open_if-2.new.store.now c.args.bundle.node c.args.span (c.take_open_if-2.ensures.clears.same ∙ c.take_open_if.ensures.clears.same) (λ d v h. c.take_open_if.ensures.clears.inside d v (c.take_open_if-2.ensures.clears.inside d v h)) c.requires.span
+
+pub take_entries_if-requires-clause-others : goal.take_entries_if-requires-clause-others
+take_entries_if-requires-clause-others c not k has = c.said_of-said.ensures.barred not k (c.take_open_if.ensures.clears.inside (entry_decision c.args.bundle.node) k (c.take_open_if-2.ensures.clears.inside (entry_decision c.args.bundle.node) k has))
+
+pub returns : goal.returns
+returns c =
+    let edges = edges_clear c.args.bundle c.args.store.now c.args.group.now c.args.plane.now.dim.0 c.requires.dim c.of-far.result.must c.of-far.result.may c.minus-open.result c.of-far.ensures.must c.of-far.ensures.may c.minus-open.ensures.members
+    c.said_of-said.result.full c.said_of-said.result.needed c.len-least.ensures.nodes c.len-most.ensures.nodes
+    (subst (λ n. IsTrue c.said_of-said.result.full ↔ IsGreatest c.args.store.now.now c.args.bundle.node (numbers_of c.args.bundle.way c.args.group.now c.args.bundle.node c.args.bundle.label) n) c.len-least.ensures.value c.said_of-said.ensures.full)
+    (subst (λ n. IsTrue c.said_of-said.result.needed ↔ IsLeast c.args.store.now.now c.args.bundle.node (numbers_of c.args.bundle.way c.args.group.now c.args.bundle.node c.args.bundle.label) n) c.len-most.ensures.value c.said_of-said.ensures.needed)
+    c.args.pass.now c.take_open_if.new.pass c.take_open_if-2.new.pass c.take_open_if.new.store c.take_open_if-2.new.store c.take_open_if.ensures.clears c.take_open_if-2.ensures.clears in
+    bundle_swept c.args.bundle c.args.group.now c.args.pass.now c.take_open_if-2.new.pass c.take_entries_if.new.pass c.args.store.now c.take_open_if-2.new.store c.take_entries_if.new.store c.requires.group c.requires.principle c.args.plane.now.dim.0 c.requires.dim c.requires.known (let l = c.requires.node in let n = c.requires.plane.nodes_is in omega (arith, l, n)) c.requires.label c.len-least.result c.len-most.result
+    (c.len-least.ensures.value ∙ which_counted whichs.Must c.args.bundle.way c.args.store.now.parts c.args.store.now.now c.args.plane.now.dim.0 c.args.bundle.node c.args.bundle.label c.of-far.result.must c.len-least.ensures.nodes c.of-far.ensures.must)
+    (c.len-most.ensures.value ∙ which_counted whichs.May c.args.bundle.way c.args.store.now.parts c.args.store.now.now c.args.plane.now.dim.0 c.args.bundle.node c.args.bundle.label c.of-far.result.may c.len-most.ensures.nodes c.of-far.ensures.may)
+    c.take_entries_if.ensures.known edges c.take_entries_if.ensures.clears

@@ -18,7 +18,7 @@ loop-place-preserved-then-not-entry_in c = (
 pub loop-place-preserved-then-not-has_none_within : goal.loop-place-preserved-then-not-has_none_within
 loop-place-preserved-then-not-has_none_within c = (
   barred_skip c.args.store.now.parts c.args.group.now c.args.bundle c.args.least c.args.most c.args.pass.now c.loop-place.pass c.loop-place.pass c.args.store.now c.loop-place.store c.loop-place.store c.loop-place.place
-      (λ all. (let t : false ≡ true = c.if-not-has_none_within.ensures.1 (subst (All (Outside c.args.least c.args.most)) (sym c.numbers_of.ensures) all) in cc))
+      (λ all. (let t : false ≡ true = c.if-not-has_none_within.ensures.1 (subst (All (Outside c.args.least c.args.most)) (sym (c.numbers_at.ensures.same c.args.group.now c.features_of-candidates.ensures)) all) in cc))
       c.loop-place.invariant.0,
   c.loop-place.invariant.1,
 )
@@ -27,7 +27,7 @@ pub loop-place-preserved : goal.loop-place-preserved
 loop-place-preserved c = (
   barred_taken c.args.store.now.parts c.args.group.now c.args.bundle c.args.least c.args.most c.args.pass.now c.loop-place.pass c.remove_entry.new.self c.args.store.now c.loop-place.store c.remove_entry.new.store c.loop-place.place
       (let t = c.loop-place-test.true in let within = c.requires.span.within in omega (arith, t, within))
-      (subst (All (Outside c.args.least c.args.most)) c.numbers_of.ensures (c.if-not-has_none_within.ensures.0 refl))
+      (subst (All (Outside c.args.least c.args.most)) (c.numbers_at.ensures.same c.args.group.now c.features_of-candidates.ensures) (c.if-not-has_none_within.ensures.0 refl))
       c.loop-place.invariant.0
       c.remove_entry.ensures.clears,
   c.remove_entry.ensures.known,
