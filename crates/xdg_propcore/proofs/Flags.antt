@@ -6,7 +6,7 @@ use Rattle.std.specs.Int.RustNames.{bit_or}
 use lib.Bits.{bit_and}
 use Rattle.std.proofs.lemmas.Bool.{cases_eq, eq-eqb, eqb-true}
 use Rattle.std.proofs.lemmas.List.{length-map, length-set, get_or-map, get_or-set_same, get_or-set_other}
-use Rattle.std.proofs.lemmas.Nat.Bits.{bit_at-trailing_zeros, bit_at-zero, bit_at_set_same, bit_at_set_other}
+use Rattle.std.proofs.lemmas.Nat.Bits.{bit_at-trailing_zeros, bit_at-zero, bit_at_set_same, bit_at_set_other, shr_and_one}
 use Rattle.xdg_problem.specs.Places.{below, numbers_from}
 use Rattle.xdg_problem.proofs.Ordered.{numbers_length}
 use Rattle.xdg_store.specs.Layout.{is_set}
@@ -34,6 +34,10 @@ on_set words count at h =
 
 pub set_on : (words : List ℕ) (count at : ℕ) → HoldsFlags words count → is_set words at ≡ true → IsOn (flags_of words count) at
 set_on words count at holds e = flag_at words count at (holds.none at e) ∙ e
+
+-- a bit that is read
+pub read_on : (words : List ℕ) (count at w : ℕ) → HoldsFlags words count → w ≡ get_or words (at / 64) 0 → nat_eq (bit_and (w / 2 ^ (at % 64)) 1) 1 ≡ true → IsOn (flags_of words count) at
+read_on words count at w holds is t = set_on words count at holds (ap (λ z. nat_eq (bit_at z (at % 64)) 1) (sym is) ∙ ap (λ b. nat_eq b 1) (sym (shr_and_one w (at % 64))) ∙ t)
 
 -- ---- writing
 

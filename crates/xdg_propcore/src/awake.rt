@@ -1,6 +1,6 @@
 //! Which propagators are awake.
 
-ghost use Rattle.std.specs.Prelude.{◌≡◌, ℕ, ◌<◌, true, false, length, slice_index, slice_set, IfOk, IfSome, IfNone};
+ghost use Rattle.std.specs.Prelude.{◌≡◌, ℕ, ◌<◌, true, false, length, slice_index, slice_set, IfOk, IfSome, IfNone, IsTrue};
 ghost use Rattle.xdg_propcore.specs.Flags.{IsOn};
 
 use std::alloc::Global;
@@ -55,6 +55,27 @@ impl Awake {
             }
         }
         None
+    }
+
+    /// Whether the one at a place is awake.
+    fn is_awake(&self, at: usize) -> bool
+        ensures { IsTrue result → IsOn self.now at }
+    {
+        if at >= self.count {
+            return false;
+        }
+        (self.words[at / 64] >> (at % 64)) & 1 == 1
+    }
+
+    /// The one at a place, if it is awake, or else the first that is.
+    pub(crate) fn next(&self, asked: usize) -> Option<usize>
+        ensures some { IfSome result (λ at. IsOn self.now at) }
+        ensures none { IfNone result ((at : ℕ) → IsOn self.now at → ⊥) }
+    {
+        if self.is_awake(asked) {
+            return Some(asked);
+        }
+        self.first()
     }
 
     /// Wakes one.

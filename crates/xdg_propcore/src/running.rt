@@ -1,6 +1,6 @@
 //! Propagators run until each is still.
 
-ghost use Rattle.std.specs.Prelude.{◌≡◌, ◌≢◌, ℕ, ◌<◌, ◌≤◌, ◌+◌, ◌-◌, ◌^◌, ◌↔◌, length, map, min, slice_index, All};
+ghost use Rattle.std.specs.Prelude.{◌≡◌, ◌≢◌, ℕ, ◌<◌, ◌≤◌, ◌+◌, ◌-◌, ◌^◌, ◌↔◌, Some, None, length, map, min, slice_index, slice_index_or, All};
 ghost use lib.Bits.{bit_and};
 ghost use Rattle.xdg_store.specs.States.{Known};
 ghost use Rattle.xdg_propcore.specs.Fixed.{AreStill, Settles};
@@ -53,6 +53,21 @@ fn step<P: Propagator>(prop: &P, store: &mut Store, since: Option<Mark>) -> Move
     }
 }
 
+/// Which propagator is asked first for the next step, where the one at a place has just taken values. Where much was lost since that was still last,
+/// it is the same, until it is still once more: so it doesn't look at the same losses in each of its turns. Else it is the first.
+fn asked_next(store: &Store, rests: &Rests, at: usize) -> usize
+    requires place { at < length rests.now }
+    requires mark { (mark : ℕ) → slice_index_or rests.now at None ≡ Some mark → mark < length store.now.history }
+{
+    let Some(mark) = rests.mark_of(at) else {
+        return 0;
+    };
+    if store.removed_since(mark).len() > 512 {
+        return at;
+    }
+    0
+}
+
 /// Lets each propagator that is awake take its steps, until all are still or one finds no closed box.
 pub(crate) fn run<P: Propagator>(
     store: &mut Store,
@@ -78,13 +93,17 @@ pub(crate) fn run<P: Propagator>(
     ensures rest_count { length rests.new ≡ length rests.old }
 {
     P::laws();
-    while let Some(at) = awake.first() {
+    let mut asked = 0;
+    while let Some(at) = awake.next(asked) {
         match step(&props[at], store, rests.mark_of(at)) {
             Moved::Same => {
                 awake.sleep(at);
                 rests.set(at, store.mark());
             }
-            Moved::Changed(lost) => wake(wakes, lost, awake),
+            Moved::Changed(lost) => {
+                wake(wakes, lost, awake);
+                asked = asked_next(store, rests, at);
+            }
             Moved::Dead => return Fixpoint::Dead,
         }
     }

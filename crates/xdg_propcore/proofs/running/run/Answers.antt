@@ -73,3 +73,11 @@ pub returns-clause-settles : goal.returns-clause-settles
 returns-clause-settles g c =
     let none : (at : ℕ) → IsOn c.loop-at.awake at → ⊥ = search rules in
     running_done g.P.Propagator.stands g.P.Propagator.still g.P.Propagator.kinds c.args.props.now c.args.store.now (on_count c.args.awake.now) c.loop-at.store c.loop-at.awake c.loop-at.invariant.0 none c.laws.ensures.still_closed
+
+pub asked_next-asked-requires-clause-place : goal.asked_next-asked-requires-clause-place
+asked_next-asked-requires-clause-place g c = let e = c.loop-at.invariant.0.lengths in let n = c.loop-at.invariant.1.count in let q = has_place c.loop-at.awake c.in-Some.at c.in-Some.ensures.some in omega (arith, e, n, q)
+
+pub asked_next-asked-requires-clause-mark : goal.asked_next-asked-requires-clause-mark
+asked_next-asked-requires-clause-mark g c mark some =
+    let l : c.in-Some.at < length c.args.props.now = (let e = c.loop-at.invariant.0.lengths in let q = has_place c.loop-at.awake c.in-Some.at c.in-Some.ensures.some in omega (arith, e, q)) in
+    ((are_held_on g.P.Propagator.still c.args.props.now c.loop-at.store c.step.new.store c.loop-at.rests c.in-Changed.ensures.extends c.loop-at.invariant.1).each c.in-Some.at c.index-props-at.result l mark some).within
