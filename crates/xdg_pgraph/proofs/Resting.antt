@@ -1,6 +1,6 @@
 -- Where no edge must be present that needed not be before, the rules that go by the edges that may be take something only at the daughters
 -- of lost edges, or where one of these has become a root.
-use Rattle.std.proofs.Common.{◌≡◌, ℕ, ◌<◌, ◌≤◌, inl, inr, Bool, true, false, List, length, refl, sym, ◌∙◌, ap, subst, arith}
+use Rattle.std.proofs.Common.{◌≡◌, ℕ, ◌+◌, ◌<◌, ◌≤◌, inl, inr, Bool, true, false, List, length, refl, sym, ◌∙◌, ap, subst, arith}
 use Rattle.std.specs.Prelude.{All, Contains}
 use Rattle.std.proofs.lemmas.Bool.{cases_Bool, both_ways, false≢true}
 use Rattle.xdg_facts.specs.Rises.{has}
@@ -9,7 +9,7 @@ use Rattle.xdg_problem.specs.declared.parts.Group.{Group}
 use Rattle.xdg_problem.specs.declared.parts.Parts.{Parts}
 use Rattle.xdg_problem.specs.Arguments.{first_dim}
 use Rattle.xdg_problem.specs.Boxes.{Has, IsBox, LiesIn, edge_decision}
-use Rattle.xdg_problem.specs.Paths.{roots}
+use Rattle.xdg_problem.specs.Paths.{mothers, roots}
 use Rattle.xdg_problem.specs.Places.{below, nodes}
 use Rattle.xdg_problem.specs.Problems.{IsProblem}
 use Rattle.xdg_problem.specs.Vectors.{shape}
@@ -24,10 +24,16 @@ use Rattle.xdg_store.specs.Decisions.{IsDecision, number_of}
 use Rattle.xdg_store.specs.Naming.{Names}
 use Rattle.xdg_store.specs.declared.decision.Decision.{Decision}
 use Rattle.xdg_store.specs.declared.decision.Decision.TheVariants as decisions
+use Rattle.xdg_store.specs.States.{State}
 use Rattle.xdg_store.proofs.Kept.{on_edge}
+use Rattle.xdg_propcore.specs.Passes.{Progress}
+use Rattle.xdg_propcore.proofs.Passing.{goes_none}
 use Rattle.xdg_pgraph.specs.declared.plane.Plane.{Plane}
-use Rattle.xdg_pgraph.specs.Musts.{HasDaughter, IsLost, IsMustOn, IsSettled, RestsIf}
-use Rattle.xdg_pgraph.specs.Ruling.{ForOthers}
+use Rattle.xdg_pgraph.specs.Musts.{HasDaughter, IsLost, IsSettled, RestsIf, RunsBut}
+use Rattle.xdg_pgraph.specs.Planes.{IsPlane}
+use Rattle.xdg_pgraph.specs.Ruling.{ForOthers, OthersIf, RunsFor}
+use Rattle.xdg_pgraph.proofs.Labels.{wanted_runs}
+use Rattle.xdg_pgraph.proofs.Ruled.{runs_none}
 use Rattle.xdg_pgraph.proofs.Single.{not_more, one_mother_there}
 
 module _ (parts : Parts) (dim : ℕ) (problem : IsProblem parts) (old now : List (List Bool)) (now_is : IsBox (shape parts) now) (lies : LiesIn now old) (removed : List Decision) (names : Names parts old now removed) (daughters : List ℕ) (lost : All (IsLost parts now dim daughters) removed) (settled : (w : ℕ) → w < nodes parts → has daughters w ≡ true → IsSettled parts now dim w) where
@@ -96,3 +102,18 @@ rests_but parts group dim on problem old now now_is lies removed names daughters
 rests_but parts group dim on problem old now now_is lies removed names daughters lost closed takes settled d v h (inr two) =
     let here = subst (λ k. All (IsLost parts now k daughters) removed) on lost in
     closed d v (lies d v h) (takes old d v (inr (two_before parts (first_dim group) problem old now now_is lies removed names daughters here settled two)))
+
+-- ---- the part of a step
+
+module _ (daughters : List ℕ) (wanted : Bool) (plane : Plane) (p q : Progress) (old new : State) where
+  pub others_unwanted : wanted ≡ false → RunsBut daughters wanted plane.dim.0 p old p old
+  others_unwanted no_wish group is on takes rests = runs_none (OthersIf wanted old.parts group) group p old (λ d v a. false≢true (sym no_wish ∙ a.0))
+
+  pub others_settled : IsPlane old.parts plane → ((w : ℕ) → w < plane.nodes → has daughters w ≡ true → IsSettled old.parts old.now plane.dim.0 w) → RunsBut daughters wanted plane.dim.0 p old p old
+  others_settled plane_is settled group is on takes rests = record {
+    goes = goes_none group p old;
+    done = λ z d v a h. rests (λ box e x b. takes box e x (a.0, b)) (λ w l there. subst (λ k. IsSettled old.parts old.now k w) (sym on) (settled w (let n = plane_is.nodes_is in omega (arith, l, n)) there)) d v h a.1;
+  }
+
+  pub others_run : wanted ≡ true → RunsFor ForOthers plane.dim.0 p old q new → RunsBut daughters wanted plane.dim.0 p old q new
+  others_run wish c group is on takes rests = wanted_runs ForOthers plane.dim.0 p q old new wanted wish c group is on takes

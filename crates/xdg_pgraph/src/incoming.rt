@@ -165,7 +165,8 @@ pub(crate) fn are_settled(store: &Store, plane: &Plane, nodes: NodeSet) -> bool
     ensures { IsTrue result → (n : ℕ) → n < plane.now.nodes → has nodes n ≡ true → IsSettled store.now.parts store.now.now plane.now.dim.0 n }
 {
     let all = store.all_nodes();
-    for node in nodes.meet(&all).iter() {
+    let here = nodes.meet(&all);
+    for node in here.iter() {
         let others = all.minus(&alone(node.0));
         if !counts_at(store, plane, &others, node.0).are_settled() {
             return false;
