@@ -15,12 +15,12 @@ use Rattle.xdg_problem.specs.Problems.{IsProblem}
 use Rattle.xdg_problem.specs.Vectors.{shape}
 use Rattle.xdg_problem.proofs.Ordered.{contains_filter, each_contained, numbers_within}
 use Rattle.xdg_problem.proofs.PlaceOrder.{is_place}
-use Rattle.xdg_rules.specs.Rules.{has as has_value, HasTwoRoots, IsClosedFor, IsPlaceOn, OnlyMother, may_edges}
+use Rattle.xdg_rules.specs.Rules.{has as has_value, IsClosedFor, IsPlaceOn, may_edges}
 use Rattle.xdg_rules.proofs.Among.{free_root, is_root, root_contained, root_free}
 use Rattle.xdg_rules.proofs.DecidingBoxes.{decided_edges}
 use Rattle.xdg_rules.proofs.Keeping.{less_length}
 use Rattle.xdg_rules.proofs.Shrinking.{may_among, may_is, may_of}
-use Rattle.xdg_store.specs.Decisions.{IsDecision, number_of}
+use Rattle.xdg_store.specs.Decisions.{IsDecision}
 use Rattle.xdg_store.specs.Naming.{Names}
 use Rattle.xdg_store.specs.declared.decision.Decision.{Decision}
 use Rattle.xdg_store.specs.declared.decision.Decision.TheVariants as decisions

@@ -15,7 +15,6 @@ use Rattle.xdg_rules.specs.Rules.{may_edges, must_edges}
 use Rattle.xdg_rules.proofs.DecidingBoxes.{decided_edges}
 use Rattle.xdg_rules.proofs.Shrinking.{must_is}
 use Rattle.xdg_store.specs.Across.{AreMothers, no_mothers}
-use Rattle.xdg_store.specs.InRange.{HasEdges}
 use Rattle.xdg_store.specs.States.{State, Known}
 use Rattle.xdg_store.specs.declared.across.Mothers.{Mothers}
 use Rattle.xdg_pgraph.specs.declared.entered.Count.{Count}
@@ -32,7 +31,7 @@ use Rattle.xdg_pgraph.specs.Entering.{Enters, Tells, more_of, some_of}
 use Rattle.xdg_pgraph.specs.Incomings.{AreCounts, AreOf, AreOthers, AreSources, CountsSettle, HaveMothers, IsCount, LeadNowhere}
 use Rattle.xdg_pgraph.specs.Musts.{IsSettled}
 use Rattle.xdg_pgraph.specs.Planes.{IsPlane}
-use Rattle.xdg_pgraph.specs.Seeking.{Finds, Into, Joins, NoneOnly, edges_of}
+use Rattle.xdg_pgraph.specs.Seeking.{Into, Joins, NoneOnly, edges_of}
 use Rattle.xdg_pgraph.proofs.Ends.{IsThere, in_told}
 use Rattle.xdg_pgraph.proofs.PlaneFacts.{which_place}
 use Rattle.xdg_pgraph.proofs.Searched.{JoinsBelow, label_cases, two_in}

@@ -1,4 +1,4 @@
-use Rattle.std.proofs.Common.{◌∙◌, ◌||◌, ◌&&◌, not, sym}
+use Rattle.std.proofs.Common.{◌∙◌, ◌||◌, not, sym}
 use Rattle.xdg_facts.specs.Rises.{has}
 use Rattle.xdg_nodeset.proofs.TableSets.{both}
 use Rattle.xdg_rules.specs.Rules.{may_edges}

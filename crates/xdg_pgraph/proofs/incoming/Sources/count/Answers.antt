@@ -1,4 +1,4 @@
-use Rattle.std.proofs.Common.{◌≡◌, ◌≢◌, ◌∙◌, length, sym, arith}
+use Rattle.std.proofs.Common.{◌∙◌, sym, arith}
 use Rattle.xdg_pgraph.proofs.Sources.{labels_counted, mothers_counted, no_mothers_counted, one_counted}
 use Rattle.xdg_pgraph.proofs.incoming.Sources.count.Goals as goal
 
