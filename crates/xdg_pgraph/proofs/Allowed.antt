@@ -1,7 +1,7 @@
 -- The numbers of edges that entries allow.
 use Rattle.std.proofs.Common.{◌≡◌, ℕ, ◌<◌, ◌≤◌, ◌+◌, ◌-◌, ◌⊎◌, ◌↔◌, inl, inr, Bool, false, IsTrue, List, [], length, slice_index_or, refl, sym, ◌∙◌, ap, subst, arith}
 use Prim.Native.Nat.{min, max}
-use Rattle.std.specs.Prelude.{Contains, All, AllPairs, ◌==◌}
+use Rattle.std.specs.Prelude.{Contains, All, ◌==◌}
 use Rattle.std.specs.List.Sorted.{IsStrictlyIncreasing}
 use Rattle.std.proofs.lemmas.Bool.{cases_eq, cases_lt, eq-eqb, eqb-true}
 use Rattle.std.proofs.lemmas.List.Elements.{All-contains, All-weaker}

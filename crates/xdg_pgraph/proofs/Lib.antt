@@ -28,4 +28,5 @@ pub mod Skipped
 pub mod Needing
 pub mod Sources
 pub mod RootSets
+pub mod Resting
 pub mod Members

@@ -20,6 +20,7 @@ use Rattle.xdg_problem.proofs.FilterFacts.{filter_alike}
 use Rattle.xdg_problem.proofs.Ordered.{contains_filter}
 use Rattle.xdg_problem.proofs.PlaceOrder.{is_place, place_is}
 use Rattle.xdg_rules.specs.Rules.{has, IsClosedFor, NoCycle, OneLabel, OneMother, TakesBy, TakesForRoot, must_edges}
+use Rattle.xdg_facts.specs.Rises.{has as has_node}
 use Rattle.xdg_facts.proofs.Truths.{same_flag}
 use Rattle.xdg_rules.proofs.Shrinking.{must_be, must_is, must_less, must_test}
 use Rattle.xdg_store.specs.Decisions.{IsDecision, number_of}
@@ -29,23 +30,28 @@ use Rattle.xdg_store.specs.declared.decision.Decision.TheVariants as decisions
 use Rattle.xdg_store.proofs.Located.{place_found}
 use Rattle.xdg_propcore.specs.Kinds.{kind_of}
 use Rattle.xdg_propcore.proofs.DecisionKinds.{kind_of_attr, kind_of_edge, kind_of_entry}
-use Rattle.xdg_pgraph.specs.Musts.{AreMustsDone, ByMusts, IsMustOn}
+use Rattle.xdg_pgraph.specs.Musts.{AreMustsDone, ByMusts, HasDaughter, IsLost, IsMustOn}
 use Rattle.xdg_pgraph.specs.Ruling.{ForRoot}
 
 -- ---- one decision after another
 
--- none of the first decisions, so many, is on an edge that must be
-abbrev pub NoneMust : Parts → List (List Bool) → ℕ → List Decision → ℕ → Type 0
-NoneMust parts box dim removed count = (k : ℕ) (d : Decision) → k < count → IsMustOn parts box dim (get_or removed k d) → ⊥
+-- the first decisions, so many, are on edges that need not be, and have their daughters among some nodes
+abbrev pub AreLost : Parts → List (List Bool) → ℕ → List Decision → ℕ → List ℕ → Type 0
+AreLost parts box dim removed count daughters = (k : ℕ) (d : Decision) → k < count → IsLost parts box dim daughters (get_or removed k d)
 
-pub none_more : (parts : Parts) (box : List (List Bool)) (dim : ℕ) (removed : List Decision) (k : ℕ) (decision : Decision) → k < length removed → decision ≡ get_or removed k decision → (IsMustOn parts box dim decision → ⊥) → NoneMust parts box dim removed k → NoneMust parts box dim removed (k + 1)
-none_more parts box dim removed k decision within is free before i d l must = elim (cases_eq i k) [
-  | inl q ↦ free (subst (IsMustOn parts box dim) (ap (λ j. get_or removed j d) q ∙ sym (get_or_default removed k decision d within) ∙ sym is) must)
-  | inr f ↦ before i d (omega (arith, l, f)) must
+kept : (dim : ℕ) (old new : List ℕ) (d : Decision) → ((n : ℕ) → has_node old n ≡ true → has_node new n ≡ true) → HasDaughter dim old d → HasDaughter dim new d
+kept dim old new (decisions.Entry node) stays h = tt
+kept dim old new (decisions.Attr on node attr) stays h = tt
+kept dim old new (decisions.Place e) stays h = λ on. stays e.daughter.0 (h on)
+
+pub lost_more : (parts : Parts) (box : List (List Bool)) (dim : ℕ) (removed : List Decision) (k : ℕ) (default : Decision) (old new : List ℕ) → k < length removed → (IsMustOn parts box dim (get_or removed k default) → ⊥) → HasDaughter dim new (get_or removed k default) → ((n : ℕ) → has_node old n ≡ true → has_node new n ≡ true) → AreLost parts box dim removed k old → AreLost parts box dim removed (k + 1) new
+lost_more parts box dim removed k default old new within free here stays before i d l = elim (cases_eq i k) [
+  | inl q ↦ subst (IsLost parts box dim new) (get_or_default removed k default d within ∙ ap (λ j. get_or removed j d) (sym q)) (free, here)
+  | inr f ↦ (let b = before i d (omega (arith, l, f)) in (b.0, kept dim old new (get_or removed i d) stays b.1))
 ]
 
-pub none_all : (parts : Parts) (box : List (List Bool)) (dim : ℕ) (removed : List Decision) (k : ℕ) → length removed ≤ k → NoneMust parts box dim removed k → All (λ d. IsMustOn parts box dim d → ⊥) removed
-none_all parts box dim removed k all before i d l = before i d (omega (arith, l, all))
+pub lost_all : (parts : Parts) (box : List (List Bool)) (dim : ℕ) (removed : List Decision) (k : ℕ) (daughters : List ℕ) → length removed ≤ k → AreLost parts box dim removed k daughters → All (IsLost parts box dim daughters) removed
+lost_all parts box dim removed k daughters all before i d l = before i d (omega (arith, l, all))
 
 -- ---- all of them
 

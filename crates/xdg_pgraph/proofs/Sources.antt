@@ -1,9 +1,9 @@
 -- The nodes from which edges lead into a node, label by label.
 use Rattle.std.proofs.Common.{◌≡◌, ◌≢◌, ℕ, ◌+◌, ◌<◌, ◌≤◌, ◌↔◌, ◌⊎◌, ◌||◌, ◌&&◌, ◌==◌, inl, inr, Bool, true, false, not, IsTrue, List, [], ◌∷◌, length, get_or, refl, sym, ◌∙◌, ap, subst, arith}
 use Rattle.std.specs.Prelude.{Contains, nat_lt}
-use Rattle.std.proofs.lemmas.Bool.{eq-eqb, eqb-true, false≢true, lt-ltb, ltb-true, ne_eqb, eqb-false, not-true}
+use Rattle.std.proofs.lemmas.Bool.{cases_eq, false_from_ne_true, eq-eqb, eqb-true, false≢true, lt-ltb, ltb-true, ne_eqb, eqb-false, not-true}
 use Rattle.std.proofs.lemmas.List.{get_or_default, nil_from_length}
-use Rattle.xdg_facts.proofs.Truths.{none_or, or_false, or_here}
+use Rattle.xdg_facts.proofs.Truths.{and_false, or_false, or_here}
 use Rattle.xdg_facts.specs.Rises.{has}
 use Rattle.xdg_nodeset.specs.Nodes.{IsNodes}
 use Rattle.xdg_nodeset.proofs.TableSets.{both, either}
@@ -15,26 +15,30 @@ use Rattle.xdg_rules.specs.Rules.{may_edges, must_edges}
 use Rattle.xdg_rules.proofs.DecidingBoxes.{decided_edges}
 use Rattle.xdg_rules.proofs.Shrinking.{must_is}
 use Rattle.xdg_store.specs.Across.{AreMothers, no_mothers}
-use Rattle.xdg_store.specs.InRange.{HasEdges}
 use Rattle.xdg_store.specs.States.{State, Known}
 use Rattle.xdg_store.specs.declared.across.Mothers.{Mothers}
+use Rattle.xdg_pgraph.specs.declared.entered.Count.{Count}
+use Rattle.xdg_pgraph.specs.declared.entered.Count.TheVariants as counts
 use Rattle.xdg_pgraph.specs.declared.entered.Entered.{Entered}
 use Rattle.xdg_pgraph.specs.declared.found.Found.TheVariants as founds
 use Rattle.xdg_pgraph.specs.declared.found.Which.{Which}
 use Rattle.xdg_pgraph.specs.declared.found.Which.TheVariants as whichs
+use Rattle.xdg_pgraph.specs.declared.incoming.Counts.{Counts}
 use Rattle.xdg_pgraph.specs.declared.incoming.Incoming.{Incoming}
 use Rattle.xdg_pgraph.specs.declared.incoming.Sources.{Sources}
 use Rattle.xdg_pgraph.specs.declared.plane.Plane.{Plane}
-use Rattle.xdg_pgraph.specs.Entering.{Enters, Tells}
-use Rattle.xdg_pgraph.specs.Incomings.{AreOf, AreSources, HaveMothers, LeadNowhere}
+use Rattle.xdg_pgraph.specs.Entering.{Enters, Tells, more_of, some_of}
+use Rattle.xdg_pgraph.specs.Incomings.{AreCounts, AreOf, AreOthers, AreSources, CountsSettle, HaveMothers, IsCount, LeadNowhere}
+use Rattle.xdg_pgraph.specs.Musts.{IsSettled}
 use Rattle.xdg_pgraph.specs.Planes.{IsPlane}
-use Rattle.xdg_pgraph.specs.Seeking.{Finds, Into, Joins, NoneOnly, edges_of}
+use Rattle.xdg_pgraph.specs.Seeking.{Into, Joins, NoneOnly, edges_of}
 use Rattle.xdg_pgraph.proofs.Ends.{IsThere, in_told}
 use Rattle.xdg_pgraph.proofs.PlaneFacts.{which_place}
 use Rattle.xdg_pgraph.proofs.Searched.{JoinsBelow, label_cases, two_in}
 use Rattle.xdg_pgraph.proofs.Single.{not_more}
 use Rattle.xdg_pgraph.proofs.Skipped.{must_may}
-use Rattle.xdg_pgraph.proofs.Told.{more_told, none_told, one_told}
+use Rattle.xdg_pgraph.proofs.Ruled.{head_in, still_out}
+use Rattle.xdg_pgraph.proofs.Told.{ToBelow, all_turn, more_told, one_told}
 
 -- ---- the rows of a daughter
 
@@ -42,16 +46,12 @@ abbrev pub row_of : Which → Mothers → List ℕ
 row_of whichs.May row = row.may
 row_of whichs.Must row = row.must
 
--- the other nodes of a sentence
-abbrev pub AreOthers : ℕ → ℕ → List ℕ → Type 0
-AreOthers n w others = (m : ℕ) → (has others m ≡ true) ↔ ((m < n) × (m ≢ w))
-
-pub others_are : (all others : List ℕ) (n w : ℕ) → ((k : ℕ) → has all k ≡ nat_lt k n) → ((k : ℕ) → has others k ≡ (not (k == w) && has all k)) → AreOthers n w others
-others_are all others n w whole taken m = (
+pub others_are : (all this others : List ℕ) (n w : ℕ) → ((k : ℕ) → has all k ≡ nat_lt k n) → ((k : ℕ) → has this k ≡ (k == w)) → ((k : ℕ) → has others k ≡ (has all k && not (has this k))) → AreOthers n w others
+others_are all this others n w whole this_is taken m = (
   λ h.
-      let q = (both (not (m == w)) (has all m)).0 (sym (taken m) ∙ h) in
-      (ltb-true m n (sym (whole m) ∙ q.1), eqb-false m w (not-true (m == w) q.0)),
-  λ h. taken m ∙ (both (not (m == w)) (has all m)).1 (ap not (ne_eqb m w h.1), whole m ∙ lt-ltb m n h.0),
+      let q = (both (has all m) (not (has this m))).0 (sym (taken m) ∙ h) in
+      (ltb-true m n (sym (whole m) ∙ q.0), eqb-false m w (sym (this_is m) ∙ not-true (has this m) q.1)),
+  λ h. taken m ∙ (both (has all m) (not (has this m))).1 (whole m ∙ lt-ltb m n h.0, ap not (this_is m ∙ ne_eqb m w h.1)),
 )
 
 module _ (which : Which) (s : State) (plane : Plane) (plane_is : IsPlane s.parts plane) (known : Known s) (w : ℕ) (within : w < plane.nodes) (others : List ℕ) (others_is : AreOthers plane.nodes w others) where
@@ -171,7 +171,7 @@ module _ (which : Which) (s : State) (plane : Plane) (plane_is : IsPlane s.parts
     low : (m : ℕ) (e : Edge) → Joins those m w e → JoinsBelow those m w l e
     low m e j = (j, (let k = ((plane_is.exact e).0 (which_place which s.parts s.now plane.dim.0 e j.0)).label in let n = are.count in omega (arith, k, n, all)))
 
--- ---- what they tell of the node
+-- ---- how many edges lead into the node
 
 first_of : (xs : List ℕ) → (length xs ≢ 0) → (m : ℕ) × (has xs m ≡ true)
 first_of [] some = absurd (some refl)
@@ -182,7 +182,7 @@ one_in [] a b few p q = absurd (false≢true p)
 one_in (x ∷ []) a b few p q = sym (eqb-true x a (sym (or_false (x == a)) ∙ p)) ∙ eqb-true x b (sym (or_false (x == b)) ∙ q)
 one_in (x ∷ y ∷ xs) a b few p q = absurd (omega (arith, few))
 
-module _ (edges : List Edge) (w : ℕ) (others : List ℕ) (a : Sources) (mothers twos : List ℕ) (all : HaveMothers edges w others) (t : AreSources (λ m. Joins edges m w) others a) (met : (n : ℕ) → has mothers n ≡ (has a.some n && has others n)) where
+module _ (edges : List Edge) (w : ℕ) (others : List ℕ) (a : Sources) (mothers : List ℕ) (all : HaveMothers edges w others) (t : AreSources (λ m. Joins edges m w) others a) (met : (n : ℕ) → has mothers n ≡ (has a.some n && has others n)) where
   mother_in : (e : Edge) → Into edges w e → has mothers e.mother.0 ≡ true
   mother_in e i = (let o = all e i in met e.mother.0 ∙ (both (has a.some e.mother.0) (has others e.mother.0)).1 ((t.once e.mother.0 o).1 (e, (i.0, (refl, i.1))), o))
 
@@ -192,47 +192,97 @@ module _ (edges : List Edge) (w : ℕ) (others : List ℕ) (a : Sources) (mother
   into : (m : ℕ) (e : Edge) → Joins edges m w e → Into edges w e
   into m e j = (j.0, j.1.1)
 
-  pub none_entered : (nowhere : Entered) → length mothers ≡ 0 → Tells (λ (e : Edge). ⊥) nowhere → Tells (Into edges w) nowhere
-  none_entered nowhere none tells = none_told edges w founds.Nothing (λ e i. false≢true (subst (λ xs. has xs e.mother.0 ≡ true) (nil_from_length mothers none) (mother_in e i))) nowhere refl tells
+  pub no_mothers_counted : length mothers ≡ 0 → IsCount (Into edges w) counts.Nothing
+  no_mothers_counted none e i = false≢true (subst (λ xs. has xs e.mother.0 ≡ true) (nil_from_length mothers none) (mother_in e i))
 
-  module _ (some more : List ℕ) (some_is : (n : ℕ) → has some n ≡ (n == w)) where
-    abbrev made : Entered
-    made = record { some = some; more = more }
+  pub mothers_counted : IsNodes mothers → 1 < length mothers → IsCount (Into edges w) counts.More
+  mothers_counted is two =
+      let x = two_in mothers is.rises two in
+      let e = (mother_of x.0 x.2).1 in
+      let f = (mother_of x.1 x.3).1 in
+      (e.0, f.0, into x.0 e.0 e.1, into x.1 f.0 f.1, λ same. x.4 (sym e.1.1.0 ∙ ap (λ (z : Edge). z.mother.0) same ∙ f.1.1.0))
 
-    pub mothers_entered : IsNodes mothers → 1 < length mothers → ((n : ℕ) → has more n ≡ (n == w)) → Tells (Into edges w) made
-    mothers_entered is two more_is =
-        let x = two_in mothers is.rises two in
-        let e = (mother_of x.0 x.2).1 in
-        let f = (mother_of x.1 x.3).1 in
-        more_told edges w founds.More (e.0, f.0, into x.0 e.0 e.1, into x.1 f.0 f.1, λ same. x.4 (sym e.1.1.0 ∙ ap (λ (z : Edge). z.mother.0) same ∙ f.1.1.0)) some more refl some_is more_is
+  module _ (twos : List ℕ) (twice : (n : ℕ) → has twos n ≡ (has a.more n && has others n)) where
+    pub labels_counted : length twos ≢ 0 → IsCount (Into edges w) counts.More
+    labels_counted there =
+        let m = first_of twos there in
+        let b = (both (has a.more m.0) (has others m.0)).0 (sym (twice m.0) ∙ m.1) in
+        let x = (t.twice m.0 b.1).0 b.0 in
+        (x.0, x.1, into m.0 x.0 x.2, into m.0 x.1 x.3, x.4)
 
-    module _ (twice : (n : ℕ) → has twos n ≡ (has a.more n && has others n)) where
-      pub labels_entered : length twos ≢ 0 → ((n : ℕ) → has more n ≡ (n == w)) → Tells (Into edges w) made
-      labels_entered there more_is =
-          let m = first_of twos there in
-          let b = (both (has a.more m.0) (has others m.0)).0 (sym (twice m.0) ∙ m.1) in
-          let x = (t.twice m.0 b.1).0 b.0 in
-          more_told edges w founds.More (x.0, x.1, into m.0 x.0 x.2, into m.0 x.1 x.3, x.4) some more refl some_is more_is
+    pub one_counted : length mothers ≢ 0 → length mothers ≤ 1 → length twos ≡ 0 → IsCount (Into edges w) counts.One
+    one_counted there few none =
+        let m = first_of mothers there in
+        let of = mother_of m.0 m.1 in
+        (of.1.0, into m.0 of.1.0 of.1.1, λ e i. only e i m.0 m.1 of.1.0 of.0 of.1.1)
+      where
+        only : (e : Edge) → Into edges w e → (m : ℕ) → has mothers m ≡ true → (f : Edge) → has others m ≡ true → Joins edges m w f → f ≡ e
+        only e i m h f o j = elim (decided_edges f e) [
+          | inl same ↦ same
+          | inr differ ↦
+              let at : e.mother.0 ≡ m = one_in mothers e.mother.0 m few (mother_in e i) h in
+              let there_twice : has twos m ≡ true = twice m ∙ (both (has a.more m) (has others m)).1 ((t.twice m o).1 (f, e, j, (i.0, (at, i.1)), differ), o) in
+              absurd (false≢true (subst (λ xs. has xs m ≡ true) (nil_from_length twos none) there_twice))
+        ]
 
-      pub one_entered : length mothers ≢ 0 → length mothers ≤ 1 → length twos ≡ 0 → more ≡ [] → Tells (Into edges w) made
-      one_entered there few none more_is =
-          let m = first_of mothers there in
-          let of = mother_of m.0 m.1 in
-          let f = of.1.0 in
-          one_told edges w (founds.One f) (into m.0 f of.1.1, λ e i. only e i m.0 m.1 f of.0 of.1.1) f some more refl some_is more_is
-        where
-          only : (e : Edge) → Into edges w e → (m : ℕ) → has mothers m ≡ true → (f : Edge) → has others m ≡ true → Joins edges m w f → f ≡ e
-          only e i m h f o j = elim (decided_edges f e) [
-            | inl same ↦ same
-            | inr differ ↦
-                let at : e.mother.0 ≡ m = one_in mothers e.mother.0 m few (mother_in e i) h in
-                let there_twice : has twos m ≡ true = twice m ∙ (both (has a.more m) (has others m)).1 ((t.twice m o).1 (f, e, j, (i.0, (at, i.1)), differ), o) in
-                absurd (false≢true (subst (λ xs. has xs m ≡ true) (nil_from_length twos none) there_twice))
-          ]
+-- ---- a node more
+
+and_true : (p : Bool) → p ≡ (p && true)
+and_true true = refl
+and_true false = refl
+
+-- what so many edges into a node lead to
+abbrev entered_of : List ℕ → Count → Entered
+entered_of this counts.Nothing = record { some = []; more = [] }
+entered_of this counts.One = record { some = this; more = [] }
+entered_of this counts.More = record { some = this; more = this }
+
+some_by : (this : List ℕ) (count : Count) (n : ℕ) → has (entered_of this count).some n ≡ (has this n && some_of count)
+some_by this counts.Nothing n = sym (and_false (has this n))
+some_by this counts.One n = and_true (has this n)
+some_by this counts.More n = and_true (has this n)
+
+more_by : (this : List ℕ) (count : Count) (n : ℕ) → has (entered_of this count).more n ≡ (has this n && more_of count)
+more_by this counts.Nothing n = sym (and_false (has this n))
+more_by this counts.One n = sym (and_false (has this n))
+more_by this counts.More n = and_true (has this n)
+
+count_told : (edges : List Edge) (w : ℕ) (this : List ℕ) (count : Count) → ((n : ℕ) → has this n ≡ (n == w)) → IsCount (Into edges w) count → Tells (Into edges w) (entered_of this count)
+count_told edges w this counts.Nothing this_is none = record {
+  once = λ v. (λ h. absurd (false≢true h), λ s. absurd (none s.0 s.1));
+  twice = λ v. (λ h. absurd (false≢true h), λ s. absurd (none s.first s.one.0));
+}
+count_told edges w this counts.One this_is one = one_told edges w (founds.One one.0) (one.1, one.2) one.0 this [] refl this_is refl
+count_told edges w this counts.More this_is two = more_told edges w founds.More two this this refl this_is this_is
+
+cross : (p q r s : Bool) → (q && s) ≡ false → (p || r) ≡ (p || (r || (q && s)))
+cross p q r s none = ap (λ z. p || z) (sym (or_false r)) ∙ ap (λ z. p || (r || z)) (sym none)
+
+module _ (which : Which) (parts : Parts) (box : List (List Bool)) (plane : Plane) (w : ℕ) (a c : Entered) (this : List ℕ) (count : Count) where
+  abbrev some_edges : List Edge
+  some_edges = edges_of which parts box plane.dim.0
+
+  -- the nodes below a bound, and one more
+  pub count_turn : ((n : ℕ) → has this n ≡ (n == w)) → ((n : ℕ) → has c.some n ≡ (has a.some n || (has this n && some_of count))) → ((n : ℕ) → has c.more n ≡ (has a.more n || (has this n && more_of count))) → Tells (ToBelow some_edges w) a → IsCount (Into some_edges w) count → Tells (ToBelow some_edges (w + 1)) c
+  count_turn this_is some_is more_is below here =
+      let b : Entered = entered_of this count in
+      all_turn which parts box plane w a b c
+      (λ n. some_is n ∙ ap (λ z. has a.some n || z) (sym (some_by this count n)))
+      (λ n. more_is n ∙ ap (λ z. has a.more n || z) (sym (more_by this count n)) ∙ cross (has a.more n) (has a.some n) (has b.more n) (has b.some n) (apart_at n))
+      below (count_told some_edges w this count this_is here)
+    where
+      apart_at : (n : ℕ) → (has a.some n && has (entered_of this count).some n) ≡ false
+      apart_at n = false_from_ne_true (has a.some n && has (entered_of this count).some n) (λ t.
+          let q = (both (has a.some n) (has (entered_of this count).some n)).0 t in
+          let s = (below.once n).0 q.0 in
+          let l = s.1.1 in
+          let at : s.0.daughter.0 ≡ n = s.2 in
+          let same : n ≡ w = eqb-true n w (sym (this_is n) ∙ ((both (has this n) (some_of count)).0 (sym (some_by this count n) ∙ q.1)).0) in
+          omega (arith, l, at, same))
 
 -- ---- the only edge that may lead into a node
 
-module _ (parts : Parts) (box : List (List Bool)) (dim w : ℕ) (incoming : Incoming) (are : AreOf parts box dim incoming) where
+module _ (parts : Parts) (box : List (List Bool)) (dim w : ℕ) where
   must_there : Enters (Contains (must_edges parts box dim)) w → NoneOnly parts box dim w
   must_there s d v x h = elim (decided_edges x.place s.0) [
     | inl same ↦ false≢true (sym (must_is parts box dim x.place (subst (Contains (must_edges parts box dim)) (sym same) s.1)).not_absent ∙ subst (λ k. Has box (edge_decision parts x.place) k) x.says.1 (subst (λ k. Has box k v) x.says.0 h))
@@ -240,8 +290,8 @@ module _ (parts : Parts) (box : List (List Bool)) (dim w : ℕ) (incoming : Inco
   ]
 
   -- into a node that isn't among those with one edge alone
-  pub not_single : (single : List ℕ) → ((n : ℕ) → has single n ≡ (has incoming.may.some n && not (has incoming.may.more n || has incoming.must.some n))) → has single w ≡ false → NoneOnly parts box dim w
-  not_single single is none d v x h = elim (or_not (has incoming.may.more w) (has incoming.must.some w)) [
+  pub not_single : (incoming : Incoming) (single : List ℕ) → AreOf parts box dim incoming → ((n : ℕ) → has single n ≡ (has incoming.may.some n && not (has incoming.may.more n || has incoming.must.some n))) → has single w ≡ false → NoneOnly parts box dim w
+  not_single incoming single are is none d v x h = elim (or_not (has incoming.may.more w) (has incoming.must.some w)) [
     | inl some ↦ elim ((either (has incoming.may.more w) (has incoming.must.some w)).0 some) [
       | inl more ↦ (let two = (are.may.twice w).0 more in not_more parts box dim w (two.first, two.second, two.one, two.two, two.differ) x.one)
       | inr must ↦ must_there ((are.must.once w).0 must) d v x h
@@ -252,3 +302,42 @@ module _ (parts : Parts) (box : List (List Bool)) (dim w : ℕ) (incoming : Inco
     or_not true q = inl refl
     or_not false true = inl refl
     or_not false false = inr refl
+
+  several_settled : IsCount (Into (may_edges parts box dim) w) counts.More → IsSettled parts box dim w
+  several_settled two = record {
+    entered = (two.0, two.2.0, two.2.1);
+    none = λ d v x h. not_more parts box dim w two x.one;
+  }
+
+  must_settled : (count : Count) → (count ≢ counts.Nothing) → IsCount (Into (must_edges parts box dim) w) count → IsSettled parts box dim w
+  must_settled counts.Nothing some is = absurd (some refl)
+  must_settled counts.One some is = record { entered = (is.0, must_may parts box dim is.0 is.1.0, is.1.1); none = must_there (is.0, is.1.0, is.1.1) }
+  must_settled counts.More some is = record { entered = (is.0, must_may parts box dim is.0 is.2.0, is.2.1); none = must_there (is.0, is.2.0, is.2.1) }
+
+  pub counts_settle : (here : Counts) → AreCounts parts box dim w here → CountsSettle here → IsSettled parts box dim w
+  counts_settle here are settle = elim settle [
+    | inl more ↦ several_settled (subst (IsCount (Into (may_edges parts box dim) w)) more are.may)
+    | inr (one, must) ↦ must_settled here.must must are.must
+  ]
+
+-- ---- over the nodes of a set
+
+-- those of the first that are no more to come are settled
+abbrev pub AreSettled : Parts → List (List Bool) → ℕ → List ℕ → List ℕ → Type 0
+AreSettled parts box dim first left = (v : ℕ) → has first v ≡ true → has left v ≡ false → IsSettled parts box dim v
+
+pub settled_start : (parts : Parts) (box : List (List Bool)) (dim : ℕ) (first : List ℕ) → AreSettled parts box dim first first
+settled_start parts box dim first v there out = absurd (false≢true (sym out ∙ there))
+
+pub settled_next : (parts : Parts) (box : List (List Bool)) (dim w : ℕ) (first left rest : List ℕ) → left ≡ w ∷ rest → IsSettled parts box dim w → AreSettled parts box dim first left → AreSettled parts box dim first rest
+settled_next parts box dim w first left rest is here before v there out = elim (cases_eq v w) [
+  | inl same ↦ subst (IsSettled parts box dim) (sym same) here
+  | inr other ↦ before v there (still_out left rest w v is other out)
+]
+
+-- the next of some nodes of the sentence
+pub next_within : (n : ℕ) (some all here first left rest : List ℕ) (v : ℕ) → ((k : ℕ) → has all k ≡ nat_lt k n) → ((k : ℕ) → has here k ≡ (has some k && has all k)) → first ≡ here → ((k : ℕ) → has left k ≡ true → has first k ≡ true) → left ≡ v ∷ rest → v < n
+next_within n some all here first left rest v whole met first_is within is = ltb-true v n (sym (whole v) ∙ ((both (has some v) (has all v)).0 (sym (met v) ∙ ap (λ s. has s v) (sym first_is) ∙ within v (head_in left rest v is))).1)
+
+pub all_settled : (parts : Parts) (box : List (List Bool)) (dim n : ℕ) (some all here first left : List ℕ) → ((k : ℕ) → has all k ≡ nat_lt k n) → ((k : ℕ) → has here k ≡ (has some k && has all k)) → first ≡ here → left ≡ [] → AreSettled parts box dim first left → (v : ℕ) → v < n → has some v ≡ true → IsSettled parts box dim v
+all_settled parts box dim n some all here first left whole met first_is none settled v l there = settled v (ap (λ s. has s v) first_is ∙ met v ∙ (both (has some v) (has all v)).1 (there, whole v ∙ lt-ltb v n l)) (ap (λ s. has s v) none)

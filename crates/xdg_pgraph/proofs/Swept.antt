@@ -21,7 +21,7 @@ use Rattle.xdg_propcore.proofs.Sweeping.{sweeps_skip}
 use Rattle.xdg_pgraph.specs.Bundles.{AreNodesDone, IsLabelDone}
 use Rattle.xdg_pgraph.proofs.Closing.{closed_by_rules}
 use Rattle.xdg_pgraph.specs.Family.{IsOfFamily}
-use Rattle.xdg_pgraph.specs.Musts.{AreMustsDone, ByMusts}
+use Rattle.xdg_pgraph.specs.Musts.{AreMustsDone, ByMusts, RestsIf, RunsBut}
 use Rattle.xdg_pgraph.specs.Ruling.{RunsFor, OthersIf, ByTree, ByDag}
 
 -- ---- where nothing is left to take by the edges that must be, nor by those that may be
@@ -91,25 +91,25 @@ module _ (group : Group) (p q : Progress) (old new : State) (is : IsGroup old.pa
 
   -- ---- where the edges that must be are those of before
 
-  module _ (principle : Principle) (principle_is : group.principle ≡ principle) (musts : AreMustsDone old.parts group old.now) where
+  module _ (principle : Principle) (principle_is : group.principle ≡ principle) (musts : AreMustsDone old.parts group old.now) (daughters : List ℕ) (rests : RestsIf daughters old.parts group old.now) where
     musts_still : new.now ≡ old.now → (d v : ℕ) → Has new.now d v → ByMusts principle old.parts group new.now d v → ⊥
     musts_still unchanged = subst (λ box. (d v : ℕ) → Has box d v → ByMusts principle old.parts group box d v → ⊥) (sym unchanged) (subst (λ z. (d v : ℕ) → Has old.now d v → ByMusts z old.parts group old.now d v → ⊥) principle_is musts)
 
     -- the rules that go by the edges that may be were run
-    others_ruled : (rooted : Bool) → ((box : List (List Bool)) (d v : ℕ) → OthersIf rooted old.parts group box d v → TakesBy principle old.parts group box d v) → (((d v : ℕ) → Has new.now d v → ByMusts principle old.parts group new.now d v → ⊥) → ((d v : ℕ) → OthersIf rooted old.parts group new.now d v → Has new.now d v → ⊥) → (d v : ℕ) → Has new.now d v → TakesBy principle old.parts group new.now d v → ⊥) → RunsFor (OthersIf rooted) dim p old q new → Sweeps group (IsClosedFor old.parts group) p old q new
+    others_ruled : (rooted : Bool) → ((box : List (List Bool)) (d v : ℕ) → OthersIf rooted old.parts group box d v → TakesBy principle old.parts group box d v) → (((d v : ℕ) → Has new.now d v → ByMusts principle old.parts group new.now d v → ⊥) → ((d v : ℕ) → OthersIf rooted old.parts group new.now d v → Has new.now d v → ⊥) → (d v : ℕ) → Has new.now d v → TakesBy principle old.parts group new.now d v → ⊥) → RunsBut daughters rooted dim p old q new → Sweeps group (IsClosedFor old.parts group) p old q new
     others_ruled rooted takes none c =
-        let runs = c group is (sym on) (λ box d v rule. inr (subst (λ z. TakesBy z old.parts group box d v) (sym principle_is) (takes box d v rule))) in
+        let runs = c group is (sym on) (λ box d v rule. inr (subst (λ z. TakesBy z old.parts group box d v) (sym principle_is) (takes box d v rule))) rests in
         record {
           goes = runs.goes;
           known = known;
           done = λ quiet. closes principle principle_is (none (musts_still (runs.goes.quiet quiet).1) (runs.done quiet));
         }
 
-  pub tree_lasts : group.principle ≡ principles.Tree → AreMustsDone old.parts group old.now → RunsFor (OthersIf true) dim p old q new → Sweeps group (IsClosedFor old.parts group) p old q new
-  tree_lasts principle_is musts c = others_ruled principles.Tree principle_is musts true (λ box d v rule. inr (inl (inr (inr rule.1)))) (tree_none old.parts group new.now) c
+  pub tree_lasts : group.principle ≡ principles.Tree → AreMustsDone old.parts group old.now → (daughters : List ℕ) → RestsIf daughters old.parts group old.now → RunsBut daughters true dim p old q new → Sweeps group (IsClosedFor old.parts group) p old q new
+  tree_lasts principle_is musts daughters rests c = others_ruled principles.Tree principle_is musts daughters rests true (λ box d v rule. inr (inl (inr (inr rule.1)))) (tree_none old.parts group new.now) c
 
-  pub dag_lasts : (rooted : Bool) → rooted ≡ truth_of group.truths 0 → group.principle ≡ principles.Dag → AreMustsDone old.parts group old.now → RunsFor (OthersIf rooted) dim p old q new → Sweeps group (IsClosedFor old.parts group) p old q new
-  dag_lasts rooted rooted_is principle_is musts c = others_ruled principles.Dag principle_is musts rooted (λ box d v rule. inr (inl (sym rooted_is ∙ rule.0, inr (inr rule.1)))) (dag_none old.parts group new.now rooted rooted_is) c
+  pub dag_lasts : (rooted : Bool) → rooted ≡ truth_of group.truths 0 → group.principle ≡ principles.Dag → AreMustsDone old.parts group old.now → (daughters : List ℕ) → RestsIf daughters old.parts group old.now → RunsBut daughters rooted dim p old q new → Sweeps group (IsClosedFor old.parts group) p old q new
+  dag_lasts rooted rooted_is principle_is musts daughters rests c = others_ruled principles.Dag principle_is musts daughters rests rooted (λ box d v rule. inr (inl (sym rooted_is ∙ rule.0, inr (inr rule.1)))) (dag_none old.parts group new.now rooted rooted_is) c
 
   -- ---- valency
 

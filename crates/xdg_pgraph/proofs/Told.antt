@@ -1,5 +1,5 @@
 -- The nodes into which some edges lead, step by step.
-use Rattle.std.proofs.Common.{◌≡◌, ◌≢◌, ℕ, ◌+◌, ◌<◌, ◌≤◌, ◌⊎◌, ◌↔◌, ◌||◌, ◌&&◌, ◌==◌, inl, inr, Bool, true, false, IsTrue, List, [], refl, sym, ◌∙◌, subst, arith}
+use Rattle.std.proofs.Common.{◌≡◌, ◌≢◌, ℕ, ◌+◌, ◌<◌, ◌≤◌, ◌⊎◌, ◌↔◌, ◌||◌, ◌&&◌, ◌==◌, inl, inr, Bool, true, IsTrue, List, [], refl, sym, ◌∙◌, subst, arith}
 use Rattle.std.specs.Prelude.{Contains}
 use Rattle.std.proofs.lemmas.Bool.{cases_eq, eq-eqb, eqb-true, false≢true}
 use Rattle.xdg_nodeset.proofs.TableSets.{either, both}
@@ -95,9 +95,6 @@ ToBelow edges w e = Contains edges e × (e.daughter.0 < w)
 
 -- the edges into one node
 module _ (edges : List Edge) (w : ℕ) (found : Found) (there : Finds (Into edges w) found) where
-  pub none_told : (a : Entered) → found ≡ founds.Nothing → Tells (λ e. ⊥) a → Tells (Into edges w) a
-  none_told a is t = tells_like (λ e. ⊥) (Into edges w) a (λ e x. absurd x) (subst (Finds (Into edges w)) is there) t
-
   once_told : (f : Edge) → Into edges w f → (some : List ℕ) → ((n : ℕ) → has some n ≡ (n == w)) → (v : ℕ) → IsTrue (has some v) ↔ Enters (Into edges w) v
   once_told f i some some_is v = (
     λ h. (let at : v ≡ w = eqb-true v w (sym (some_is v) ∙ h) in (f, i, i.1 ∙ sym at)),

@@ -1,7 +1,9 @@
 -- The nodes into which some edges lead.
-use Rattle.std.specs.Prelude.{◌≡◌, ◌≢◌, ◌↔◌, ℕ, List, IsTrue, Contains}
+use Rattle.std.specs.Prelude.{◌≡◌, ◌≢◌, ◌↔◌, ℕ, Bool, true, false, List, IsTrue, Contains}
 use Rattle.xdg_problem.specs.declared.analysis.Edge.{Edge}
 use Rattle.xdg_pgraph.specs.Seeking.{ToNode}
+use Rattle.xdg_pgraph.specs.declared.entered.Count.{Count}
+use Rattle.xdg_pgraph.specs.declared.entered.Count.TheVariants as counts
 use Rattle.xdg_pgraph.specs.declared.entered.Entered.{Entered}
 use Rattle.xdg_facts.specs.Rises.{has}
 
@@ -29,3 +31,15 @@ Leaving edges u e = Contains edges e × (e.mother.0 ≡ u)
 -- and with a label
 abbrev pub Labelled : List Edge → ℕ → ℕ → Edge → Type 0
 Labelled edges u l e = Leaving edges u e × (e.label.0 ≡ l)
+
+-- one edge at least
+abbrev pub some_of : Count → Bool
+some_of counts.Nothing = false
+some_of counts.One = true
+some_of counts.More = true
+
+-- more than one
+abbrev pub more_of : Count → Bool
+more_of counts.Nothing = false
+more_of counts.One = false
+more_of counts.More = true

@@ -5,7 +5,7 @@ ghost use Rattle.xdg_facts.specs.Rises.{has};
 ghost use Rattle.xdg_problem.specs.declared.analysis.Edge.{Edge as Arrow};
 ghost use Rattle.xdg_problem.specs.Paths.{roots};
 ghost use Rattle.xdg_store.specs.States.{Known};
-ghost use Rattle.xdg_pgraph.specs.Entering.{Enters, Tells, Leaving, Labelled};
+ghost use Rattle.xdg_pgraph.specs.Entering.{Enters, Tells, Leaving, Labelled, more_of, some_of};
 ghost use Rattle.xdg_pgraph.specs.Planes.{IsPlane};
 ghost use Rattle.xdg_pgraph.specs.Seeking.{RootsAre, edges_of};
 
@@ -15,6 +15,17 @@ use crate::plane::Plane;
 use xdg_base::NodeId;
 use xdg_nodeset::NodeSet;
 use xdg_store::Store;
+
+/// How many edges lead into a node.
+#[derive(Clone, Copy, Debug)]
+pub(crate) enum Count {
+    /// No edge.
+    Nothing,
+    /// One edge alone.
+    One,
+    /// More than one edge.
+    More,
+}
 
 /// The nodes into which some edges lead: one at least, and more than one.
 #[derive(Clone, Copy, Debug)]
@@ -34,8 +45,26 @@ impl Entered {
         }
     }
 
+    /// With a node into which so many edges lead.
+    pub(crate) fn with(&self, node: &NodeSet, count: Count) -> Entered
+        ensures some { (n : ℕ) → has result.some n ≡ (has self.now.some n || (has node.now n && some_of count)) }
+        ensures more { (n : ℕ) → has result.more n ≡ (has self.now.more n || (has node.now n && more_of count)) }
+    {
+        match count {
+            Count::Nothing => *self,
+            Count::One => Entered {
+                some: self.some.union(node),
+                more: self.more,
+            },
+            Count::More => Entered {
+                some: self.some.union(node),
+                more: self.more.union(node),
+            },
+        }
+    }
+
     /// What other edges add.
-    pub(crate) fn merged(&self, other: &Entered) -> Entered
+    fn merged(&self, other: &Entered) -> Entered
         ensures some { (n : ℕ) → has result.some n ≡ (has self.now.some n || has other.now.some n) }
         ensures more { (n : ℕ) → has result.more n ≡ (has self.now.more n || (has other.now.more n || (has self.now.some n && has other.now.some n))) }
     {

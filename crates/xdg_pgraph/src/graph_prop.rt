@@ -13,7 +13,7 @@ ghost use Rattle.xdg_pgraph.specs.Family.{IsOfFamily};
 ghost use Rattle.xdg_pgraph.specs.Planes.{IsPlane};
 
 use crate::label::{take_dag, take_others, take_tree};
-use crate::lasting::are_musts_done;
+use crate::lasting::daughters_since;
 use crate::plane::{Plane, label_count};
 use crate::valency::take_valency;
 use xdg_graph::truth_of;
@@ -69,20 +69,16 @@ fn take_all(store: &mut Store, pass: &mut Pass, parts: &Parts, group: &Group, si
 {
     let plane = Plane::of(parts, group);
     match &group.principle {
-        Principle::Tree => {
-            if are_musts_done(store, group, plane.dim, since) {
-                take_others(store, pass, &plane, true);
-                return;
-            }
-            take_tree(store, pass, &plane);
-        }
+        Principle::Tree => match daughters_since(store, group, plane.dim, since) {
+            Some(daughters) => take_others(store, pass, &plane, true, daughters),
+            None => take_tree(store, pass, &plane),
+        },
         Principle::Dag => {
             let rooted = truth_of(group, 0);
-            if are_musts_done(store, group, plane.dim, since) {
-                take_others(store, pass, &plane, rooted);
-                return;
+            match daughters_since(store, group, plane.dim, since) {
+                Some(daughters) => take_others(store, pass, &plane, rooted, daughters),
+                None => take_dag(store, pass, &plane, rooted, truth_of(group, 1)),
             }
-            take_dag(store, pass, &plane, rooted, truth_of(group, 1));
         }
         Principle::Valency => {
             let labels = label_count(parts, &plane);

@@ -1,16 +1,16 @@
 //! The edges that lead into nodes.
 
-ghost use Rattle.std.specs.Prelude.{◌≡◌, ◌<◌, ◌||◌, ◌&&◌, ℕ, List, nat_lt, not};
+ghost use Rattle.std.specs.Prelude.{◌≡◌, ◌<◌, ◌↔◌, ◌||◌, ◌&&◌, ℕ, true, IsTrue, List, not};
 ghost use Rattle.xdg_facts.specs.Rises.{has};
 ghost use Rattle.xdg_problem.specs.declared.analysis.Edge.{Edge as Arrow};
 ghost use Rattle.xdg_store.specs.States.{Known};
 ghost use Rattle.xdg_propcore.specs.Passes.{IsQuiet};
-ghost use Rattle.xdg_pgraph.specs.Entering.{Tells};
-ghost use Rattle.xdg_pgraph.specs.Incomings.{AreInto, AreOf, AreSources, HaveMothers, LeadNowhere};
+ghost use Rattle.xdg_pgraph.specs.Incomings.{AreCounts, AreOf, AreOthers, AreSources, CountsSettle, HaveMothers, IsCount, LeadNowhere};
+ghost use Rattle.xdg_pgraph.specs.Musts.{IsSettled};
 ghost use Rattle.xdg_pgraph.specs.Planes.{IsPlane};
 ghost use Rattle.xdg_pgraph.specs.Seeking.{Into, Joins};
 
-use crate::entered::{Entered, alone};
+use crate::entered::{Count, Entered, alone};
 use crate::plane::Plane;
 use xdg_base::NodeId;
 use xdg_nodeset::NodeSet;
@@ -46,34 +46,50 @@ impl Sources {
         }
     }
 
-    /// What the edges from some nodes into a node lead to.
-    fn entered(&self, others: &NodeSet, daughter: u8) -> Entered
-        requires { daughter < 128 }
-        ensures { (edges : List Arrow) → HaveMothers edges daughter others.now → AreSources (λ m. Joins edges m daughter) others.now self.now
-            → Tells (Into edges daughter) result }
+    /// How many edges lead from some nodes into a node.
+    fn count(&self, others: &NodeSet) -> Count
+        ensures { (edges : List Arrow) (daughter : ℕ) → HaveMothers edges daughter others.now
+            → AreSources (λ m. Joins edges m daughter) others.now self.now → IsCount (Into edges daughter) result }
     {
         let mothers = self.some.meet(others);
         if mothers.len() == 0 {
-            return Entered::nowhere();
+            return Count::Nothing;
         }
-        let here = alone(daughter);
         if mothers.len() > 1 {
-            return Entered {
-                some: here,
-                more: here,
-            };
+            return Count::More;
         }
         let doubled = self.more.meet(others);
         if doubled.len() == 0 {
-            return Entered {
-                some: here,
-                more: NodeSet::empty(),
-            };
+            return Count::One;
         }
-        Entered {
-            some: here,
-            more: here,
-        }
+        Count::More
+    }
+}
+
+/// How many edges may lead into a node, and how many must.
+#[derive(Clone, Copy, Debug)]
+pub(crate) struct Counts {
+    pub may: Count,
+    pub must: Count,
+}
+
+/// How many edges lead into a node from the other nodes of the sentence.
+fn counts_at(store: &Store, plane: &Plane, others: &NodeSet, daughter: u8) -> Counts
+    requires plane { IsPlane store.now.parts plane.now }
+    requires known { Known store.now }
+    requires others { AreOthers plane.now.nodes daughter others.now }
+    requires daughter { daughter < plane.now.nodes }
+    ensures { AreCounts store.now.parts store.now.now plane.now.dim.0 daughter result }
+{
+    let mut may = Sources::none();
+    let mut must = Sources::none();
+    for row in store.mothers_by_label(plane.dim, NodeId(daughter), plane.labels) {
+        may = may.with(&row.may);
+        must = must.with(&row.must);
+    }
+    Counts {
+        may: may.count(others),
+        must: must.count(others),
     }
 }
 
@@ -82,28 +98,6 @@ impl Sources {
 pub(crate) struct Incoming {
     pub may: Entered,
     pub must: Entered,
-}
-
-/// What the edges into a node lead to.
-fn incoming_at(store: &Store, plane: &Plane, all: NodeSet, daughter: u8) -> Incoming
-    requires plane { IsPlane store.now.parts plane.now }
-    requires known { Known store.now }
-    requires all { (n : ℕ) → has all n ≡ nat_lt n plane.now.nodes }
-    requires daughter { daughter < plane.now.nodes }
-    ensures { AreInto store.now.parts store.now.now plane.now.dim.0 daughter result }
-{
-    let mut others = all;
-    others.remove(NodeId(daughter));
-    let mut may = Sources::none();
-    let mut must = Sources::none();
-    for row in store.mothers_by_label(plane.dim, NodeId(daughter), plane.labels) {
-        may = may.with(&row.may);
-        must = must.with(&row.must);
-    }
-    Incoming {
-        may: may.entered(&others, daughter),
-        must: must.entered(&others, daughter),
-    }
 }
 
 impl Incoming {
@@ -117,9 +111,10 @@ impl Incoming {
         let mut may = Entered::nowhere();
         let mut must = Entered::nowhere();
         for daughter in 0..plane.nodes {
-            let here = incoming_at(store, plane, all, daughter);
-            may = may.merged(&here.may);
-            must = must.merged(&here.must);
+            let this = alone(daughter);
+            let here = counts_at(store, plane, &all.minus(&this), daughter);
+            may = may.with(&this, here.may);
+            must = must.with(&this, here.must);
         }
         Incoming { may, must }
     }
@@ -144,4 +139,38 @@ impl Incoming {
     {
         self.may.some.minus(&self.may.more.union(&self.must.some))
     }
+}
+
+impl Counts {
+    /// Whether edges may lead into the node, more than one of them or one that must be present.
+    fn are_settled(self) -> bool
+        ensures { IsTrue result ↔ CountsSettle self }
+    {
+        match self.may {
+            Count::Nothing => false,
+            Count::One => match self.must {
+                Count::Nothing => false,
+                Count::One => true,
+                Count::More => true,
+            },
+            Count::More => true,
+        }
+    }
+}
+
+/// Whether edges may lead into each of some nodes of the sentence, more than one of them or one that must be present.
+pub(crate) fn are_settled(store: &Store, plane: &Plane, nodes: NodeSet) -> bool
+    requires plane { IsPlane store.now.parts plane.now }
+    requires known { Known store.now }
+    ensures { IsTrue result → (n : ℕ) → n < plane.now.nodes → has nodes n ≡ true → IsSettled store.now.parts store.now.now plane.now.dim.0 n }
+{
+    let all = store.all_nodes();
+    let here = nodes.meet(&all);
+    for node in here.iter() {
+        let others = all.minus(&alone(node.0));
+        if !counts_at(store, plane, &others, node.0).are_settled() {
+            return false;
+        }
+    }
+    true
 }

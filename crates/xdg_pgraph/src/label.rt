@@ -4,19 +4,21 @@ ghost use Rattle.std.specs.Prelude.{◌≡◌, ◌≢◌, ◌<◌, true};
 ghost use Rattle.xdg_rules.specs.Rules.{OneLabel, must_edges};
 ghost use Rattle.xdg_propcore.specs.Passes.{Clears};
 ghost use Rattle.xdg_store.specs.States.{Known};
+ghost use Rattle.xdg_pgraph.specs.Musts.{RunsBut};
 ghost use Rattle.xdg_pgraph.specs.Planes.{IsPlane};
-ghost use Rattle.xdg_pgraph.specs.Ruling.{RunsFor, OneLabelOf, RootIf, OthersIf, LabelIf, ByTree, ByDag};
+ghost use Rattle.xdg_pgraph.specs.Ruling.{RunsFor, OneLabelOf, RootIf, LabelIf, ByTree, ByDag};
 ghost use Rattle.xdg_pgraph.specs.Seeking.{Doubled};
 
 use crate::entered::entered_from;
 use crate::finding::joined;
 use crate::found::Which;
-use crate::incoming::Incoming;
+use crate::incoming::{Incoming, are_settled};
 use crate::plane::Plane;
 use crate::reach::no_cycle;
 use crate::taking::forbid_joined;
 use crate::tree::{for_others, for_root, one_mother};
 use xdg_base::NodeId;
+use xdg_nodeset::NodeSet;
 use xdg_propcore::Pass;
 use xdg_store::Store;
 
@@ -102,15 +104,24 @@ fn take_root(store: &mut Store, pass: &mut Pass, plane: &Plane, wanted: bool)
     for_others(store, pass, plane, &second);
 }
 
-/// The rules that go by the edges that may be, where they are asked for.
-pub(crate) fn take_others(store: &mut Store, pass: &mut Pass, plane: &Plane, wanted: bool)
+/// The rules that go by the edges that may be, where they are asked for, and where only some nodes need be looked at.
+pub(crate) fn take_others(
+    store: &mut Store,
+    pass: &mut Pass,
+    plane: &Plane,
+    wanted: bool,
+    daughters: NodeSet,
+)
     requires plane { IsPlane store.old.parts plane.now }
     requires known { Known store.old }
-    ensures runs { RunsFor (OthersIf wanted) plane.now.dim.0 pass.old store.old pass.new store.new }
+    ensures runs { RunsBut daughters wanted plane.now.dim.0 pass.old store.old pass.new store.new }
     ensures parts { store.new.parts ≡ store.old.parts }
     ensures known { Known store.new }
 {
     if !wanted {
+        return;
+    }
+    if are_settled(store, plane, daughters) {
         return;
     }
     let incoming = Incoming::of(store, plane);

@@ -1,6 +1,5 @@
-use Rattle.std.proofs.Common.{◌≡◌, ◌∙◌, ℕ, ap, sym, arith}
+use Rattle.std.proofs.Common.{◌∙◌, ap, sym, arith}
 use Rattle.std.specs.Prelude.{nat_lt}
-use Rattle.xdg_facts.specs.Rises.{has}
 use Rattle.xdg_nodeset.specs.Nodes.{without}
 use Rattle.xdg_pgraph.proofs.RootSets.{more_roots, no_roots, one_root}
 use Rattle.xdg_pgraph.proofs.entered.find_roots.Goals as goal

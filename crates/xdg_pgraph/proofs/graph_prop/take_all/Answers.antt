@@ -5,17 +5,17 @@ use Rattle.xdg_problem.specs.Places.{nodes}
 use Rattle.xdg_pgraph.proofs.Swept.{tree_lasts, tree_swept, dag_lasts, dag_swept, valency_swept}
 use Rattle.xdg_pgraph.proofs.graph_prop.take_all.Goals as goal
 
-pub returns-else-are_musts_done : goal.returns-else-are_musts_done
-returns-else-are_musts_done c = tree_swept c.args.group.now c.args.pass.now c.take_tree.new.pass c.args.store.now c.take_tree.new.store c.requires.group c.requires.family c.take_tree.ensures.parts c.take_tree.ensures.known c.of-plane.result.dim.0 c.of-plane.ensures.dim c.in-Tree.is c.take_tree.ensures.runs
+pub returns-in-None : goal.returns-in-None
+returns-in-None c = tree_swept c.args.group.now c.args.pass.now c.take_tree.new.pass c.args.store.now c.take_tree.new.store c.requires.group c.requires.family c.take_tree.ensures.parts c.take_tree.ensures.known c.of-plane.result.dim.0 c.of-plane.ensures.dim c.in-Tree.is c.take_tree.ensures.runs
 
-pub returns-then-are_musts_done : goal.returns-then-are_musts_done
-returns-then-are_musts_done c = tree_lasts c.args.group.now c.args.pass.now c.take_others.new.pass c.args.store.now c.take_others.new.store c.requires.group c.requires.family c.take_others.ensures.parts c.take_others.ensures.known c.of-plane.result.dim.0 c.of-plane.ensures.dim c.in-Tree.is (c.are_musts_done.ensures c.if-are_musts_done.true) c.take_others.ensures.runs
+pub returns-in-Some : goal.returns-in-Some
+returns-in-Some c = tree_lasts c.args.group.now c.args.pass.now c.take_others.new.pass c.args.store.now c.take_others.new.store c.requires.group c.requires.family c.take_others.ensures.parts c.take_others.ensures.known c.of-plane.result.dim.0 c.of-plane.ensures.dim c.in-Tree.is c.in-Some.ensures.0 c.in-Some.daughters c.in-Some.ensures.1 c.take_others.ensures.runs
 
-pub returns-else-are_musts_done-2 : goal.returns-else-are_musts_done-2
-returns-else-are_musts_done-2 c = dag_swept c.args.group.now c.args.pass.now c.take_dag.new.pass c.args.store.now c.take_dag.new.store c.requires.group c.requires.family c.take_dag.ensures.parts c.take_dag.ensures.known c.of-plane.result.dim.0 c.of-plane.ensures.dim c.truth_of-rooted.result c.truth_of.result c.truth_of-rooted.ensures c.truth_of.ensures c.in-Dag.is c.take_dag.ensures.runs
+pub returns-in-None-daughters_since : goal.returns-in-None-daughters_since
+returns-in-None-daughters_since c = dag_swept c.args.group.now c.args.pass.now c.take_dag.new.pass c.args.store.now c.take_dag.new.store c.requires.group c.requires.family c.take_dag.ensures.parts c.take_dag.ensures.known c.of-plane.result.dim.0 c.of-plane.ensures.dim c.truth_of-rooted.result c.truth_of.result c.truth_of-rooted.ensures c.truth_of.ensures c.in-Dag.is c.take_dag.ensures.runs
 
-pub returns-then-are_musts_done-2 : goal.returns-then-are_musts_done-2
-returns-then-are_musts_done-2 c = dag_lasts c.args.group.now c.args.pass.now c.take_others-then-are_musts_done-2.new.pass c.args.store.now c.take_others-then-are_musts_done-2.new.store c.requires.group c.requires.family c.take_others-then-are_musts_done-2.ensures.parts c.take_others-then-are_musts_done-2.ensures.known c.of-plane.result.dim.0 c.of-plane.ensures.dim c.truth_of-rooted.result c.truth_of-rooted.ensures c.in-Dag.is (c.are_musts_done-in-Dag.ensures c.if-are_musts_done-2.true) c.take_others-then-are_musts_done-2.ensures.runs
+pub returns-in-Some-daughters_since : goal.returns-in-Some-daughters_since
+returns-in-Some-daughters_since c = dag_lasts c.args.group.now c.args.pass.now c.take_others-in-Some-daughters_since.new.pass c.args.store.now c.take_others-in-Some-daughters_since.new.store c.requires.group c.requires.family c.take_others-in-Some-daughters_since.ensures.parts c.take_others-in-Some-daughters_since.ensures.known c.of-plane.result.dim.0 c.of-plane.ensures.dim c.truth_of-rooted.result c.truth_of-rooted.ensures c.in-Dag.is c.in-Some-daughters_since.ensures.0 c.in-Some-daughters_since.daughters c.in-Some-daughters_since.ensures.1 c.take_others-in-Some-daughters_since.ensures.runs
 
 pub returns-in-Valency : goal.returns-in-Valency
 returns-in-Valency c = valency_swept c.args.group.now c.args.pass.now c.take_counts.new.pass c.args.store.now c.take_counts.new.store c.requires.group c.requires.family c.take_counts.ensures.goes.extends.same c.take_counts.ensures.known c.of-plane.result.dim.0 c.of-plane.ensures.dim c.label_count-labels.result c.of-plane.result.nodes

@@ -1,4 +1,4 @@
-use Rattle.std.proofs.Common.{◌∙◌, ◌||◌, ◌&&◌, not, sym}
+use Rattle.std.proofs.Common.{◌∙◌, ◌||◌, not, sym}
 use Rattle.xdg_facts.specs.Rises.{has}
 use Rattle.xdg_nodeset.proofs.TableSets.{both}
 use Rattle.xdg_rules.specs.Rules.{may_edges}
@@ -15,7 +15,7 @@ only_mother-requires-clause-within c v h =
     ((both (has i.may.some v) (not (has i.may.more v || has i.must.some v))).0 (sym (c.single.ensures v) ∙ h)).0
 
 pub only_mother-requires-clause-single : goal.only_mother-requires-clause-single
-only_mother-requires-clause-single c v none = not_single c.args.store.now.parts c.args.store.now.now c.args.plane.now.dim.0 v c.args.incoming.now c.requires.incoming c.single.result c.single.ensures none
+only_mother-requires-clause-single c v none = not_single c.args.store.now.parts c.args.store.now.now c.args.plane.now.dim.0 v c.args.incoming.now c.single.result c.requires.incoming c.single.ensures none
 
 pub returns-in-Nothing-clause-runs : goal.returns-in-Nothing-clause-runs
 returns-in-Nothing-clause-runs c = (

@@ -1,4 +1,4 @@
-use Rattle.std.proofs.Common.{◌≡◌, ◌∙◌, ℕ, [], ◌∷◌, List, ap, refl, sym, subst}
+use Rattle.std.proofs.Common.{◌≡◌, ◌∙◌, ℕ, ◌∷◌, List, ap, refl, sym, subst}
 use Rattle.xdg_facts.specs.Rises.{has}
 use Rattle.xdg_rules.specs.Rules.{must_edges}
 use Rattle.xdg_propcore.specs.Passes.{Clears}

@@ -1,7 +1,8 @@
 use Rattle.std.proofs.Common.{◌∙◌, ap, sym, arith}
 use Rattle.std.specs.Prelude.{nat_lt}
 use Rattle.xdg_pgraph.specs.declared.found.Which.TheVariants as whichs
-use Rattle.xdg_pgraph.proofs.Told.{all_end, all_start, all_turn}
+use Rattle.xdg_pgraph.proofs.Sources.{count_turn, others_are}
+use Rattle.xdg_pgraph.proofs.Told.{all_end, all_start}
 use Rattle.xdg_pgraph.proofs.incoming.Incoming.of.Goals as goal
 
 pub loop-daughter-init : goal.loop-daughter-init
@@ -10,13 +11,13 @@ loop-daughter-init c = (
   all_start whichs.Must c.args.store.now.parts c.args.store.now.now c.args.plane.now c.nowhere-must.result c.nowhere-must.ensures,
 )
 
-pub incoming_at-here-requires-clause-all : goal.incoming_at-here-requires-clause-all
-incoming_at-here-requires-clause-all c n = c.all_nodes-all.ensures.members n ∙ ap (nat_lt n) (sym c.requires.plane.nodes_is)
+pub counts_at-here-requires-clause-others : goal.counts_at-here-requires-clause-others
+counts_at-here-requires-clause-others c = others_are c.all_nodes-all.result c.alone-this.result c.minus.result c.args.plane.now.nodes c.loop-daughter.daughter (λ n. c.all_nodes-all.ensures.members n ∙ ap (nat_lt n) (sym c.requires.plane.nodes_is)) c.alone-this.ensures c.minus.ensures.members
 
 pub loop-daughter-preserved : goal.loop-daughter-preserved
 loop-daughter-preserved c = (
-  all_turn whichs.May c.args.store.now.parts c.args.store.now.now c.args.plane.now c.loop-daughter.daughter c.loop-daughter.may c.incoming_at-here.result.may c.merged-may.result c.merged-may.ensures.some c.merged-may.ensures.more c.loop-daughter.invariant.0 c.incoming_at-here.ensures.may,
-  all_turn whichs.Must c.args.store.now.parts c.args.store.now.now c.args.plane.now c.loop-daughter.daughter c.loop-daughter.must c.incoming_at-here.result.must c.merged-must.result c.merged-must.ensures.some c.merged-must.ensures.more c.loop-daughter.invariant.1 c.incoming_at-here.ensures.must,
+  count_turn whichs.May c.args.store.now.parts c.args.store.now.now c.args.plane.now c.loop-daughter.daughter c.loop-daughter.may c.with-may.result c.alone-this.result c.counts_at-here.result.may c.alone-this.ensures c.with-may.ensures.some c.with-may.ensures.more c.loop-daughter.invariant.0 c.counts_at-here.ensures.may,
+  count_turn whichs.Must c.args.store.now.parts c.args.store.now.now c.args.plane.now c.loop-daughter.daughter c.loop-daughter.must c.with-must.result c.alone-this.result c.counts_at-here.result.must c.alone-this.ensures c.with-must.ensures.some c.with-must.ensures.more c.loop-daughter.invariant.1 c.counts_at-here.ensures.must,
 )
 
 pub returns : goal.returns

@@ -2,7 +2,7 @@ use Rattle.xdg_pgraph.specs.declared.found.Which.TheVariants as whichs
 use Rattle.xdg_pgraph.specs.Incomings.{AreSources}
 use Rattle.xdg_pgraph.specs.Seeking.{edges_of}
 use Rattle.xdg_pgraph.proofs.Searched.{JoinsBelow}
-use Rattle.xdg_pgraph.proofs.incoming.incoming_at.Given as goal
+use Rattle.xdg_pgraph.proofs.incoming.counts_at.Given as goal
 
 abbrev pub invariant-loop-row : goal.invariant-loop-row
 invariant-loop-row l =
