@@ -26,7 +26,7 @@ use Rattle.xdg_pgraph.specs.declared.found.Which.{Which}
 use Rattle.xdg_pgraph.specs.declared.found.Which.TheVariants as whichs
 use Rattle.xdg_pgraph.specs.declared.plane.Plane.{Plane}
 use Rattle.xdg_pgraph.specs.Bundles.{edge_to, near_node, far_node, count_of}
-use Rattle.xdg_pgraph.specs.Planes.{IsPlane, IsOnPlane}
+use Rattle.xdg_pgraph.specs.Planes.{IsPlane}
 use Rattle.xdg_pgraph.specs.Seeking.{edges_of}
 use Rattle.xdg_pgraph.proofs.PlaneFacts.{edge_on, which_place}
 use Rattle.xdg_pgraph.proofs.Rising.{AreRising, rising_alike, nodes_rising, map_contained, map_rising}
@@ -39,7 +39,7 @@ pub near_is : (way : Way) (dim node label other : ℕ) → near_node way (edge_t
 near_is ways.Out dim node label other = refl
 near_is ways.In dim node label other = refl
 
-pub far_is : (way : Way) (dim node label other : ℕ) → far_node way (edge_to way dim node label other) ≡ other
+far_is : (way : Way) (dim node label other : ℕ) → far_node way (edge_to way dim node label other) ≡ other
 far_is ways.Out dim node label other = refl
 far_is ways.In dim node label other = refl
 
@@ -55,10 +55,6 @@ pub edge_told : (way : Way) (dim node label : ℕ) (e : Edge) → e.dim.0 ≡ di
 edge_told ways.Out dim node label e d n l = edge_equal e (edge dim node label e.daughter.0) d n l refl
 edge_told ways.In dim node label e d n l = edge_equal e (edge dim e.mother.0 label node) d refl l n
 
-pub far_within : (way : Way) (plane : Plane) (e : Edge) → IsOnPlane plane e → far_node way e < plane.nodes
-far_within ways.Out plane e on = on.daughter
-far_within ways.In plane e on = on.mother
-
 -- ---- those of a list of edges
 
 abbrev pub in_bundle : Way → ℕ → ℕ → Edge → Bool
@@ -69,7 +65,7 @@ pub in_parts : (way : Way) (node label : ℕ) (e : Edge) → in_bundle way node 
 in_parts ways.Out node label e h = (let both = and_parts (e.mother.0 == node) (e.label.0 == label) h in (eqb-true e.mother.0 node both.0, eqb-true e.label.0 label both.1))
 in_parts ways.In node label e h = (let both = and_parts (e.daughter.0 == node) (e.label.0 == label) h in (eqb-true e.daughter.0 node both.0, eqb-true e.label.0 label both.1))
 
-pub in_from : (way : Way) (node label : ℕ) (e : Edge) → near_node way e ≡ node → e.label.0 ≡ label → in_bundle way node label e ≡ true
+in_from : (way : Way) (node label : ℕ) (e : Edge) → near_node way e ≡ node → e.label.0 ≡ label → in_bundle way node label e ≡ true
 in_from ways.Out node label e n l = and_from (e.mother.0 == node) (e.label.0 == label) (eq-eqb e.mother.0 node n) (eq-eqb e.label.0 label l)
 in_from ways.In node label e n l = and_from (e.daughter.0 == node) (e.label.0 == label) (eq-eqb e.daughter.0 node n) (eq-eqb e.label.0 label l)
 
@@ -122,7 +118,7 @@ module _ (way : Way) (edges : List Edge) (dim node label : ℕ) (ends : List ℕ
       contains_of_has ends n ((exact n).1 (subst (Contains edges) same both.0))
 
   -- where the set has the other nodes of those edges of a list, it has as many nodes as there are edges
-  pub ends_counted : length ends ≡ count_of way edges node label
+  ends_counted : length ends ≡ count_of way edges node label
   ends_counted = rising_alike ends (map (far_node way) ys) (nodes_rising ends is) rising there back ∙ length-map ys (far_node way) ∙ counted way edges node label
 
 which_ordered : (which : Which) (parts : Parts) (box : List (List Bool)) (dim : ℕ) → Ordered Before (edges_of which parts box dim)
