@@ -1,9 +1,8 @@
 use Rattle.std.proofs.Common.{refl, sym, map, arith}
 use Rattle.xdg_ast.specs.Words.{number}
 use Rattle.xdg_print.specs.Printed.{put}
-use Rattle.xdg_print.proofs.Signs.{card_passed, card_put, cards_end}
+use Rattle.xdg_print.proofs.Signs.{card_passed, card_put, cards_end, cards_from}
 use Rattle.xdg_print.proofs.cards.put_numbers.Goals as goal
-use Rattle.xdg_packed.proofs.Writing.{cards_from}
 
 pub loop-number-init : goal.loop-number-init
 loop-number-init c = (refl, λ h. absurd (omega (arith, h)))
