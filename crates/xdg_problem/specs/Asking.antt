@@ -58,60 +58,53 @@ abbrev pub AsksLink : Principle → Group → ℕ → List Edge → ℕ → ℕ 
 AsksLink principles.LinkingNotDaughter group candidate edges u l v = Contains (set_row group u candidate) l → IsDaughter edges u v → ⊥
 AsksLink principle group candidate edges u l v = 0 < length (map_row group u candidate l) → IsLinked principle edges u (map_row group u candidate l) v
 
--- What a condition asks of a tuple, in words of all that it reads: the candidate that the tuple's first node has, the
--- values of the attributes that it names, in order, and the edges.
-abbrev pub AsksOf : Condition → Group → ℕ → List ℕ → List Edge → List ℕ → Type 0
+-- What a condition asks of the items of a tuple, in their order: of the candidate that the first node has, the values of the
+-- attributes that the condition names, in order, and the edges of the first and of the second dimension.
+abbrev pub AsksOfItems : Condition → Group → ℕ → List ℕ → List Edge → List Edge → ℕ → ℕ → ℕ → Type 0
 -- v is not above itself
-AsksOf conditions.Cycle group candidate values edges tuple = Above (edges_on (first_dim group) edges) (first tuple) (first tuple) → ⊥
+AsksOfItems conditions.Cycle group candidate values edges others v _ _ = Above edges v v → ⊥
 -- the number of nodes without mother is 1
-AsksOf conditions.Roots group candidate values edges tuple = first tuple ≡ 1
+AsksOfItems conditions.Roots group candidate values edges others count _ _ = count ≡ 1
 -- at most one edge leads into v
-AsksOf conditions.Mothers group candidate values edges tuple = mothers (edges_on (first_dim group) edges) (first tuple) ≤ 1
+AsksOfItems conditions.Mothers group candidate values edges others v _ _ = mothers edges v ≤ 1
 -- at most one edge joins u to v, so at most one label does
-AsksOf conditions.Pair group candidate values edges tuple = edges_joining (edges_on (first_dim group) edges) (first tuple) (second tuple) ≤ 1
+AsksOfItems conditions.Pair group candidate values edges others u v _ = edges_joining edges u v ≤ 1
 -- the number of edges with label l into v is one that In has for v at l
-AsksOf conditions.InCount group candidate values edges tuple =
-    Contains (in_row group (first tuple) candidate (second tuple)) (edges_into (edges_on (first_dim group) edges) (first tuple) (second tuple))
+AsksOfItems conditions.InCount group candidate values edges others v l _ = Contains (in_row group v candidate l) (edges_into edges v l)
 -- the number of edges with label l out of v is one that Out has for v at l
-AsksOf conditions.OutCount group candidate values edges tuple =
-    Contains (out_row group (first tuple) candidate (second tuple)) (edges_out_of (edges_on (first_dim group) edges) (first tuple) (second tuple))
+AsksOfItems conditions.OutCount group candidate values edges others v l _ = Contains (out_row group v candidate l) (edges_out_of edges v l)
 -- for each two labels in the order: where x stands in an item of u with the earlier and y in one with the later, x stands to the left of y
-AsksOf conditions.Order group candidate values edges tuple =
+AsksOfItems conditions.Order group candidate values edges others u x y =
     AllPairs
-    (λ earlier later. IsInItem (edges_on (first_dim group) edges) (truth_of group.truths 0 ≡ true) (slice_index values 0) (first tuple) earlier
-    (second tuple)
-    → IsInItem (edges_on (first_dim group) edges) (truth_of group.truths 0 ≡ true) (slice_index values 0) (first tuple) later (third tuple)
-    → second tuple < third tuple)
+    (λ earlier later. IsInItem edges (truth_of group.truths 0 ≡ true) (slice_index values 0) u earlier x
+    → IsInItem edges (truth_of group.truths 0 ≡ true) (slice_index values 0) u later y
+    → x < y)
     (order_of group)
 -- where v is a daughter of u, and w stands between them, u is above w
-AsksOf conditions.Between group candidate values edges tuple =
-    IsDaughter (edges_on (first_dim group) edges) (first tuple) (second tuple) → IsBetween (first tuple) (second tuple) (third tuple)
-    → Above (edges_on (first_dim group) edges) (first tuple) (third tuple)
+AsksOfItems conditions.Between group candidate values edges others u v w = IsDaughter edges u v → IsBetween u v w → Above edges u w
 -- the value of v's Agr is in v's Agrs
-AsksOf conditions.Agr group candidate values edges tuple = Contains (set_row group (first tuple) candidate) (slice_index values 0)
+AsksOfItems conditions.Agr group candidate values edges others v _ _ = Contains (set_row group v candidate) (slice_index values 0)
 -- where u -l-> v and l is in u's Agree, the value of u's Agr1 is that of v's Agr2
-AsksOf conditions.Agree group candidate values edges tuple =
-    IsDaughterBy (edges_on (first_dim group) edges) (first tuple) (second tuple) (third tuple) → Contains (set_row group (first tuple) candidate) (second tuple)
-    → slice_index values 0 ≡ slice_index values 1
+AsksOfItems conditions.Agree group candidate values edges others u l v =
+    IsDaughterBy edges u l v → Contains (set_row group u candidate) l → slice_index values 0 ≡ slice_index values 1
 -- where u -l-> v and u's Govern at l isn't empty, the value of v's Agr is in it
-AsksOf conditions.Govern group candidate values edges tuple =
-    IsDaughterBy (edges_on (first_dim group) edges) (first tuple) (second tuple) (third tuple)
-    → 0 < length (map_row group (first tuple) candidate (second tuple))
-    → Contains (map_row group (first tuple) candidate (second tuple)) (slice_index values 0)
+AsksOfItems conditions.Govern group candidate values edges others u l v =
+    IsDaughterBy edges u l v → 0 < length (map_row group u candidate l) → Contains (map_row group u candidate l) (slice_index values 0)
 -- where u is above v on the first dimension, it is on the second
-AsksOf conditions.Below group candidate values edges tuple =
-    Above (edges_on (first_dim group) edges) (first tuple) (second tuple) → Above (edges_on (second_dim group) edges) (first tuple) (second tuple)
+AsksOfItems conditions.Below group candidate values edges others u v _ = Above edges u v → Above others u v
 -- where a path on the second dimension leads from w to v and its last label is in w's Blocks, w is above v on the first
-AsksOf conditions.Blocked group candidate values edges tuple =
-    AboveByLast (edges_on (second_dim group) edges) (first tuple) (set_row group (first tuple) candidate) (second tuple)
-    → Above (edges_on (first_dim group) edges) (first tuple) (second tuple)
+AsksOfItems conditions.Blocked group candidate values edges others w v _ = AboveByLast others w (set_row group w candidate) v → Above edges w v
 -- where u -l-> v on the first dimension, v is linked to u by edges of the second as the principle says
-AsksOf conditions.Link group candidate values edges tuple =
-    IsDaughterBy (edges_on (first_dim group) edges) (first tuple) (second tuple) (third tuple)
-    → AsksLink group.principle group candidate (edges_on (second_dim group) edges) (first tuple) (second tuple) (third tuple)
+AsksOfItems conditions.Link group candidate values edges others u l v = IsDaughterBy edges u l v → AsksLink group.principle group candidate others u l v
 -- a rule and a bound ask nothing of what is read here, but of all decisions
-AsksOf conditions.Rule group candidate values edges tuple = Unit {0}
-AsksOf conditions.Bound group candidate values edges tuple = Unit {0}
+AsksOfItems conditions.Rule group candidate values edges others _ _ _ = Unit {0}
+AsksOfItems conditions.Bound group candidate values edges others _ _ _ = Unit {0}
+
+-- what a condition asks of a tuple, by all edges
+abbrev pub AsksOf : Condition → Group → ℕ → List ℕ → List Edge → List ℕ → Type 0
+AsksOf condition group candidate values edges tuple =
+    AsksOfItems condition group candidate values (edges_on (first_dim group) edges) (edges_on (second_dim group) edges)
+    (first tuple) (second tuple) (third tuple)
 
 -- What a rule or a bound asks of all decisions together: of the entries as places among the candidates, the values of attributes
 -- and the edges. No other principle asks anything there.
