@@ -101,34 +101,35 @@ abbrev pub IsOrderFor : Principle → ℕ → List LabelId → Type 0
 IsOrderFor principles.Order labels order = All (λ label. label.0 < labels) order × AllPairs (λ a b. a ≢ b) order
 IsOrderFor principle labels order = order ≡ []
 
+-- one feature of sets
+abbrev pub IsOneOfSets : ℕ → ℕ → List Feat → Type 0
+IsOneOfSets rows bound features = (length features ≡ 1) × All (AreSets rows bound) features
+
+-- Link of six linkings, for each label of the first dimension a set of labels of the second
+abbrev pub AreLinkFeatures : Parts → Group → List Feat → Type 0
+AreLinkFeatures parts group features = IsOneOfSets (label_count parts (first_dim group)) (label_count parts (second_dim group)) features
+
 -- the features of one candidate: those that the principle takes
 abbrev pub AreFeatures : Principle → Parts → Group → List Feat → Type 0
 -- In and Out
 AreFeatures principles.Valency parts group features = (length features ≡ 2) × All (IsValency (label_count parts (first_dim group))) features
 -- Agrs, a set of values of Agr
-AreFeatures principles.Agr parts group features = (length features ≡ 1) × All (AreSets 1 (value_count parts (first_dim group) (attr_of group 0))) features
+AreFeatures principles.Agr parts group features = IsOneOfSets 1 (value_count parts (first_dim group) (attr_of group 0)) features
 -- Agree, a set of labels
-AreFeatures principles.Agreement parts group features = (length features ≡ 1) × All (AreSets 1 (label_count parts (first_dim group))) features
+AreFeatures principles.Agreement parts group features = IsOneOfSets 1 (label_count parts (first_dim group)) features
 -- Govern, for each label a set of values of Agr
 AreFeatures principles.Government parts group features =
-    (length features ≡ 1) × All (AreSets (label_count parts (first_dim group)) (value_count parts (first_dim group) (attr_of group 0))) features
+    IsOneOfSets (label_count parts (first_dim group)) (value_count parts (first_dim group) (attr_of group 0)) features
 -- Blocks, a set of labels of the second dimension
-AreFeatures principles.Barriers parts group features = (length features ≡ 1) × All (AreSets 1 (label_count parts (second_dim group))) features
--- Link, for each label of the first dimension a set of labels of the second
-AreFeatures principles.LinkingEnd parts group features =
-    (length features ≡ 1) × All (AreSets (label_count parts (first_dim group)) (label_count parts (second_dim group))) features
-AreFeatures principles.LinkingDaughter parts group features =
-    (length features ≡ 1) × All (AreSets (label_count parts (first_dim group)) (label_count parts (second_dim group))) features
-AreFeatures principles.LinkingMother parts group features =
-    (length features ≡ 1) × All (AreSets (label_count parts (first_dim group)) (label_count parts (second_dim group))) features
-AreFeatures principles.LinkingBelowStart parts group features =
-    (length features ≡ 1) × All (AreSets (label_count parts (first_dim group)) (label_count parts (second_dim group))) features
-AreFeatures principles.LinkingAboveStart parts group features =
-    (length features ≡ 1) × All (AreSets (label_count parts (first_dim group)) (label_count parts (second_dim group))) features
-AreFeatures principles.LinkingSisters parts group features =
-    (length features ≡ 1) × All (AreSets (label_count parts (first_dim group)) (label_count parts (second_dim group))) features
+AreFeatures principles.Barriers parts group features = IsOneOfSets 1 (label_count parts (second_dim group)) features
+AreFeatures principles.LinkingEnd parts group features = AreLinkFeatures parts group features
+AreFeatures principles.LinkingDaughter parts group features = AreLinkFeatures parts group features
+AreFeatures principles.LinkingMother parts group features = AreLinkFeatures parts group features
+AreFeatures principles.LinkingBelowStart parts group features = AreLinkFeatures parts group features
+AreFeatures principles.LinkingAboveStart parts group features = AreLinkFeatures parts group features
+AreFeatures principles.LinkingSisters parts group features = AreLinkFeatures parts group features
 -- Link, a set of labels of the first dimension
-AreFeatures principles.LinkingNotDaughter parts group features = (length features ≡ 1) × All (AreSets 1 (label_count parts (first_dim group))) features
+AreFeatures principles.LinkingNotDaughter parts group features = IsOneOfSets 1 (label_count parts (first_dim group)) features
 -- the other principles take none
 AreFeatures principle parts group features = length features ≡ 0
 
