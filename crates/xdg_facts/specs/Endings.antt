@@ -20,23 +20,18 @@ abbrev pub IsAt : ℕ → Option ℕ → Type 0
 IsAt m None = ⊥
 IsAt m (Some n) = m ≡ n
 
+-- the named ending, where the budget reaches so many of all solutions, which stand among so many counted prefixes
+abbrev pub IsEndingOf : Ending → (reached counted all b : ℕ) → Option ℕ → ℕ → Type 0
 -- all solutions, the budget covers all counted prefixes, and no more solutions were wanted
-abbrev pub Complete : List ℕ → ℕ → Option ℕ → List (List ℕ) → List (List ℕ) → ℕ → Type 0
-Complete shape b wanted counted solutions m = (m ≡ length solutions) × (length counted ≤ b) × IsBelow m wanted
-
+IsEndingOf endings.Complete reached counted all b wanted m = (m ≡ all) × (counted ≤ b) × IsBelow m wanted
 -- as many as wanted, and the budget reaches them
-abbrev pub First : List ℕ → ℕ → Option ℕ → List (List ℕ) → List (List ℕ) → ℕ → Type 0
-First shape b wanted counted solutions m = IsAt m wanted × (m ≤ reach shape b counted)
-
+IsEndingOf endings.First reached counted all b wanted m = IsAt m wanted × (m ≤ reached)
 -- as many as the budget reaches, fewer than wanted, and a counted prefix is beyond the budget
-abbrev pub Spent : List ℕ → ℕ → Option ℕ → List (List ℕ) → List (List ℕ) → ℕ → Type 0
-Spent shape b wanted counted solutions m = (m ≡ reach shape b counted) × (b < length counted) × IsBelow m wanted
+IsEndingOf endings.Spent reached counted all b wanted m = (m ≡ reached) × (b < counted) × IsBelow m wanted
 
--- the named ending, over the lists of the counted prefixes and of the solutions
+-- the same over the lists of the counted prefixes and of the solutions
 abbrev pub IsEnding : Ending → List ℕ → ℕ → Option ℕ → List (List ℕ) → List (List ℕ) → ℕ → Type 0
-IsEnding endings.Complete shape b wanted counted solutions m = Complete shape b wanted counted solutions m
-IsEnding endings.First shape b wanted counted solutions m = First shape b wanted counted solutions m
-IsEnding endings.Spent shape b wanted counted solutions m = Spent shape b wanted counted solutions m
+IsEnding ending shape b wanted counted solutions m = IsEndingOf ending (reach shape b counted) (length counted) (length solutions) b wanted m
 
 -- over the list of the counted prefixes, of which the solutions are the whole ones, there is one ending with one number of
 -- answers, and no other
