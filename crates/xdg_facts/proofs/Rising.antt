@@ -1,10 +1,10 @@
 -- Rising lists of the numbers below a bound that pass a test.
-use Rattle.std.proofs.Common.{◌≡◌, ℕ, ◌<◌, ◌≤◌, ◌+◌, zero, suc, List, [], ◌∷◌, ◌++◌, length, refl, ap, sym, ◌∙◌, arith, inl, inr, subst}
+use Rattle.std.proofs.Common.{◌≡◌, ℕ, ◌<◌, ◌≤◌, ◌+◌, ◌⊎◌, zero, suc, List, [], ◌∷◌, ◌++◌, length, refl, ap, sym, ◌∙◌, arith, inl, inr, subst}
 use Rattle.std.specs.Prelude.{Bool, true, false, cond, not, ◌&&◌, ◌||◌, ◌==◌, filter}
 use Rattle.std.specs.List.{range_with_len, Contains}
 use Rattle.std.proofs.Math.Nat.{zero-add}
-use Rattle.std.proofs.lemmas.Bool.{cond_both, cond-true, cond-false, cases_eq, eq-eqb, ne_eqb, or_left, or_right}
-use Rattle.xdg_facts.proofs.Truths.{none_in, agree_in, apart}
+use Rattle.std.proofs.lemmas.Bool.{cond_both, cond-true, cond-false, cases_eq, eq-eqb, eqb-true, false≢true, ne_eqb, or_cases, or_left, or_right}
+use Rattle.xdg_facts.proofs.Truths.{none_in, agree_in, apart, either_true, or_here}
 use Rattle.xdg_facts.specs.Rises.{has, numbers_below, Rises}
 
 pub numbers_agree : (bound : ℕ) (p q : ℕ → Bool) → ((k : ℕ) → k < bound → p k ≡ q k) → numbers_below bound p ≡ numbers_below bound q
@@ -12,6 +12,21 @@ unfolding numbers_below
 numbers_agree bound p q same = agree_in p q 0 bound (λ k _ below. same k (omega (arith, below)))
 
 -- ---- what stands in the list
+
+pub no_member : (set : List ℕ) (x : ℕ) → set ≡ [] → has set x ≡ true → ⊥
+no_member set x empty h = false≢true (subst (λ s. has s x ≡ true) empty h)
+
+pub head_in : (left rest : List ℕ) (v : ℕ) → left ≡ v ∷ rest → has left v ≡ true
+head_in left rest v is = subst (λ s. has s v ≡ true) (sym is) (or_here (v == v) (has rest v) (eq-eqb v v refl))
+
+pub tail_in : (left rest : List ℕ) (v x : ℕ) → left ≡ v ∷ rest → has rest x ≡ true → has left x ≡ true
+tail_in left rest v x is h = subst (λ s. has s x ≡ true) (sym is) (either_true (v == x) (has rest x) h)
+
+pub head_or_tail : (left rest : List ℕ) (v x : ℕ) → left ≡ v ∷ rest → has left x ≡ true → (v ≡ x) ⊎ (has rest x ≡ true)
+head_or_tail left rest v x is h = elim (or_cases (v == x) (has rest x) (subst (λ s. has s x ≡ true) is h)) [
+  | inl same ↦ inl (eqb-true v x same)
+  | inr later ↦ inr later
+]
 
 pub has_not_before : (p : ℕ → Bool) (a n k : ℕ) → k < a → has (filter p (range_with_len a n)) k ≡ false
 has_not_before p a zero k before = refl

@@ -12,7 +12,8 @@ use Rattle.xdg_formula_value.specs.Lost.{AgreeBut, Finds, HasNode, HasNodes}
 use Rattle.xdg_graph.specs.Every.{IsEvery}
 use Rattle.xdg_formula_value.specs.Rows.{Bounds, IsRowOn, Over}
 use Rattle.xdg_formula_value.proofs.Narrowed.{within_row}
-use Rattle.xdg_formula_value.proofs.Rowed.{head_or_tail, no_member, over_told}
+use Rattle.xdg_formula_value.proofs.Rowed.{over_told}
+use Rattle.xdg_facts.proofs.Rising.{no_member, head_or_tail}
 use Rattle.xdg_formula_value.proofs.Stood.{bound_back, bound_here, bound_else}
 use Rattle.xdg_facts.specs.Rises.{has}
 use Rattle.xdg_nodeset.proofs.TableSets.{none_in}

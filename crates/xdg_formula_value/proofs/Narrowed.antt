@@ -9,7 +9,8 @@ use Rattle.xdg_problem.specs.Truths.{bound, AreNodes}
 use Rattle.xdg_rules.specs.Worths.{Makes}
 use Rattle.xdg_graph.specs.Every.{IsEvery}
 use Rattle.xdg_formula_value.specs.Rows.{AreFirst, Bounds, IsRowOn, Over}
-use Rattle.xdg_formula_value.proofs.Rowed.{Gathered, gathered_among, no_member, over_told}
+use Rattle.xdg_formula_value.proofs.Rowed.{Gathered, gathered_among, over_told}
+use Rattle.xdg_facts.proofs.Rising.{no_member}
 use Rattle.xdg_facts.specs.Rises.{has}
 use Rattle.xdg_nodeset.proofs.TableSets.{none_in}
 

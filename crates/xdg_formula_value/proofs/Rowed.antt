@@ -1,12 +1,12 @@
 -- Rows that are joined, gathered and looked over.
-use Rattle.std.proofs.Common.{◌≡◌, ◌⊎◌, ◌↔◌, ℕ, ◌+◌, ◌<◌, ◌≤◌, IsTrue, inl, inr, Bool, true, false, List, [], ◌∷◌, length, refl, sym, ◌∙◌, subst, arith}
-use Rattle.std.specs.Prelude.{not, ◌==◌}
-use Rattle.std.proofs.lemmas.Bool.{cases_eq, cases_Bool, and_from, and_parts, both_ways, eq-eqb, eqb-true, not_from_false, false≢true, or_cases}
+use Rattle.std.proofs.Common.{◌≡◌, ◌⊎◌, ◌↔◌, ℕ, ◌+◌, ◌<◌, ◌≤◌, IsTrue, inl, inr, Bool, true, false, List, [], ◌∷◌, length, sym, ◌∙◌, subst, arith}
+use Rattle.std.specs.Prelude.{not}
+use Rattle.std.proofs.lemmas.Bool.{cases_eq, cases_Bool, and_from, and_parts, both_ways, not_from_false, false≢true}
 use Rattle.xdg_problem.specs.Truths.{HasTruth}
-use Rattle.xdg_facts.proofs.Truths.{either_true, or_here}
 use Rattle.xdg_graph.specs.Every.{IsEvery}
 use Rattle.xdg_formula_value.specs.Rows.{IsRow, IsRowOn, HasFirst, Joined, Over, AreFirst, open_in}
 use Rattle.xdg_facts.specs.Rises.{has}
+use Rattle.xdg_facts.proofs.Rising.{no_member, head_in, tail_in, head_or_tail}
 use Rattle.xdg_nodeset.proofs.TableSets.{none_in}
 
 -- two rows, the second of which is right where it still matters
@@ -62,21 +62,6 @@ row_constant n care all P set few first same like v within =
 -- the members of some nodes: what was gathered, and what those still to come bring, is what all bring
 abbrev pub Gathered : List ℕ → (ℕ → Type 0) → List ℕ → List ℕ → Type 0
 Gathered care P left set = (x : ℕ) → ((has set x ≡ true) ⊎ ((has left x ≡ true) × P x)) ↔ ((has care x ≡ true) × P x)
-
-pub no_member : (set : List ℕ) (x : ℕ) → set ≡ [] → has set x ≡ true → ⊥
-no_member set x empty there = false≢true (subst (λ s. has s x ≡ true) empty there)
-
-pub head_in : (left rest : List ℕ) (v : ℕ) → left ≡ v ∷ rest → has left v ≡ true
-head_in left rest v at = subst (λ s. has s v ≡ true) (sym at) (or_here (v == v) (has rest v) (eq-eqb v v refl))
-
-tail_in : (left rest : List ℕ) (v x : ℕ) → left ≡ v ∷ rest → has rest x ≡ true → has left x ≡ true
-tail_in left rest v x at later = subst (λ s. has s x ≡ true) (sym at) (either_true (v == x) (has rest x) later)
-
-pub head_or_tail : (left rest : List ℕ) (v x : ℕ) → left ≡ v ∷ rest → has left x ≡ true → (v ≡ x) ⊎ (has rest x ≡ true)
-head_or_tail left rest v x at there = elim (or_cases (v == x) (has rest x) (subst (λ s. has s x ≡ true) at there)) [
-  | inl same ↦ inl (eqb-true v x same)
-  | inr later ↦ inr later
-]
 
 pub first_later : (n : ℕ) (left rest : List ℕ) (v : ℕ) → left ≡ v ∷ rest → AreFirst n left → AreFirst n rest
 first_later n left rest v at first x later = first x (tail_in left rest v x at later)

@@ -15,7 +15,7 @@ use Rattle.xdg_store.specs.declared.decision.Decision.TheVariants as decisions
 use Rattle.xdg_formula_value.specs.Lost.{AgreeBut, Finds, IsBy, MovesPath, OnNames, Passes, PathsStay, Reaches, Seen}
 use Rattle.xdg_graph.specs.Every.{IsEvery}
 use Rattle.xdg_formula_value.proofs.Finding.{NoneMade, agree_rest, finds_no, finds_weaker, missed}
-use Rattle.xdg_formula_value.proofs.Rowed.{head_or_tail, no_member}
+use Rattle.xdg_facts.proofs.Rising.{no_member, head_or_tail}
 use Rattle.xdg_facts.specs.Rises.{has}
 
 module _ (parts : Parts) (box : List (List Bool)) (c : Claim) (truth : Bool) where

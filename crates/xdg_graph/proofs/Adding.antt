@@ -2,6 +2,7 @@
 use Rattle.std.proofs.Common.{◌≡◌, ℕ, ◌<◌, ◌≤◌, ◌+◌, ◌⊎◌, ◌↔◌, inl, inr, Bool, true, IsTrue, List, [], ◌∷◌, sym, ◌∙◌, arith, subst}
 use Rattle.std.proofs.lemmas.Bool.{cases_eq}
 use Rattle.xdg_facts.specs.Rises.{has}
+use Rattle.xdg_facts.proofs.Rising.{head_in, head_or_tail, no_member, tail_in}
 use Rattle.xdg_nodeset.specs.Tables.{In}
 use Rattle.xdg_problem.specs.declared.parts.Parts.{Parts}
 use Rattle.xdg_problem.specs.Boxes.{IsBox}
@@ -11,7 +12,6 @@ use Rattle.xdg_problem.specs.Vectors.{shape}
 use Rattle.xdg_problem.proofs.PlaceOrder.{is_place}
 use Rattle.xdg_graph.specs.declared.which.Which.{Which}
 use Rattle.xdg_graph.specs.Edges.{HasNoneFrom, IsBlank, edges_of}
-use Rattle.xdg_graph.proofs.Ahead.{head_in, head_or_tail, none_ahead, tail_in}
 use Rattle.xdg_graph.proofs.Edges.{which_exact}
 
 -- ---- a daughter of some nodes
@@ -30,11 +30,11 @@ adds_next first left rest v to old mid new is step so_far a b = (
       | inl earlier ↦ (so_far a b).0 (inl earlier)
       | inr (same, at) ↦ (so_far a b).0 (inr (subst (λ x. has left x ≡ true) same (head_in left rest v is), at))
     ]
-    | inr (later, at) ↦ (so_far a b).0 (inr (tail_in left rest v is a later, at))
+    | inr (later, at) ↦ (so_far a b).0 (inr (tail_in left rest v a is later, at))
   ],
   λ h. elim ((so_far a b).1 h) [
     | inl earlier ↦ inl ((step a b).1 (inl earlier))
-    | inr (there, at) ↦ elim (head_or_tail left rest v is a there) [
+    | inr (there, at) ↦ elim (head_or_tail left rest v a is there) [
       | inl same ↦ inl ((step a b).1 (inr (same, at)))
       | inr later ↦ inr (later, at)
     ]
@@ -44,7 +44,7 @@ adds_next first left rest v to old mid new is step so_far a b = (
 pub adds_end : (first left : List ℕ) (to : ℕ) (old new : List (List ℕ)) → left ≡ [] → Adds first left to old new → (a b : ℕ) → In new a b ↔ (In old a b ⊎ ((has first a ≡ true) × (to ≡ b)))
 adds_end first left to old new is all a b = (
   λ h. (all a b).0 (inl h),
-  λ h. elim ((all a b).1 h) [ inl there ↦ there | inr (more, at) ↦ absurd (none_ahead left a is more) ],
+  λ h. elim ((all a b).1 h) [ inl there ↦ there | inr (more, at) ↦ absurd (no_member left a is more) ],
 )
 
 -- ---- daughter by daughter

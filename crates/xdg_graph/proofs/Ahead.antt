@@ -1,10 +1,11 @@
 -- A loop over the nodes of a set: those that are still to come.
-use Rattle.std.proofs.Common.{◌≡◌, ℕ, ◌+◌, ◌<◌, ◌≤◌, ◌⊎◌, inl, inr, true, List, [], ◌∷◌, refl, sym, ◌∙◌, subst, arith}
+use Rattle.std.proofs.Common.{◌≡◌, ℕ, ◌+◌, ◌<◌, ◌≤◌, inl, inr, true, List, [], ◌∷◌, sym, ◌∙◌, subst, arith}
 use Rattle.std.specs.Prelude.{◌==◌}
-use Rattle.std.proofs.lemmas.Bool.{eq-eqb, eqb-true, false≢true}
+use Rattle.std.proofs.lemmas.Bool.{eqb-true, false≢true}
 use Rattle.xdg_nodeset.specs.Nodes.{IsNodes}
 use Rattle.xdg_nodeset.proofs.TableSets.{either}
 use Rattle.xdg_facts.specs.Rises.{has, Rises}
+use Rattle.xdg_facts.proofs.Rising.{head_in, tail_in}
 
 -- they rise, and are among the nodes of the set
 pub record Ahead (set left : List ℕ) : Type 0 where
@@ -23,16 +24,6 @@ rises_past low bound k (n ∷ s) l rises h = elim ((either (n == k) (has s k)).0
   | inr later ↦ rises_past (n + 1) bound k s (let m = rises.0 in omega (arith, l, m)) rises.2 later
 ]
 
-module _ (left rest : List ℕ) (v : ℕ) (is : left ≡ v ∷ rest) where
-  pub head_in : has left v ≡ true
-  head_in = subst (λ s. has s v ≡ true) (sym is) ((either (v == v) (has rest v)).1 (inl (eq-eqb v v refl)))
-
-  pub tail_in : (x : ℕ) → has rest x ≡ true → has left x ≡ true
-  tail_in x h = subst (λ s. has s x ≡ true) (sym is) ((either (v == x) (has rest x)).1 (inr h))
-
-  pub head_or_tail : (x : ℕ) → has left x ≡ true → (v ≡ x) ⊎ (has rest x ≡ true)
-  head_or_tail x h = elim ((either (v == x) (has rest x)).0 (subst (λ s. has s x ≡ true) is h)) [ inl same ↦ inl (eqb-true v x same) | inr later ↦ inr later ]
-
 module _ (set left rest : List ℕ) (v : ℕ) (is : left ≡ v ∷ rest) (ahead : Ahead set left) where
   pub ahead_here : has set v ≡ true
   ahead_here = ahead.among v (head_in left rest v is)
@@ -44,10 +35,7 @@ module _ (set left rest : List ℕ) (v : ℕ) (is : left ≡ v ∷ rest) (ahead 
   ahead_small = ahead_parts.1
 
   pub ahead_next : Ahead set rest
-  ahead_next = record { low = v + 1; rises = ahead_parts.2; among = λ x h. ahead.among x (tail_in left rest v is x h) }
+  ahead_next = record { low = v + 1; rises = ahead_parts.2; among = λ x h. ahead.among x (tail_in left rest v x is h) }
 
   pub ahead_once : has rest v ≡ true → ⊥
   ahead_once h = rises_past (v + 1) 128 v rest (omega arith) ahead_parts.2 h
-
-pub none_ahead : (left : List ℕ) (x : ℕ) → left ≡ [] → has left x ≡ true → ⊥
-none_ahead left x is h = false≢true (subst (λ s. has s x ≡ true) is h)

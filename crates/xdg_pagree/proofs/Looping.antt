@@ -1,23 +1,15 @@
 -- A loop over the nodes of a set.
-use Rattle.std.proofs.Common.{◌≡◌, ℕ, ◌||◌, inl, inr, Bool, true, List, ◌∷◌, refl, sym, subst}
-use Rattle.std.specs.Prelude.{◌==◌}
-use Rattle.std.proofs.lemmas.Bool.{cases_eq, eq-eqb, ne_eqb}
+use Rattle.std.proofs.Common.{◌≡◌, ℕ, ◌||◌, inl, inr, Bool, true, List, ◌∷◌, sym, subst}
+use Rattle.std.proofs.lemmas.Bool.{cases_eq, ne_eqb}
 use Rattle.xdg_problem.specs.declared.parts.Group.{Group}
 use Rattle.xdg_problem.specs.declared.parts.Parts.{Parts}
 use Rattle.xdg_store.specs.States.{State, Known}
 use Rattle.xdg_propcore.specs.Passes.{Progress}
 use Rattle.xdg_propcore.specs.Sweeps.{Sweeps}
 use Rattle.xdg_propcore.proofs.Sweeping.{sweeps_next, sweeps_start}
-use Rattle.xdg_facts.proofs.Truths.{or_here, either_true}
 use Rattle.xdg_facts.specs.Rises.{has}
 
 -- ---- the nodes still to come
-
-pub head_in : (left rest : List ℕ) (v : ℕ) → left ≡ v ∷ rest → has left v ≡ true
-head_in left rest v is = subst (λ s. has s v ≡ true) (sym is) (or_here (v == v) (has rest v) (eq-eqb v v refl))
-
-pub tail_in : (left rest : List ℕ) (v w : ℕ) → left ≡ v ∷ rest → has rest w ≡ true → has left w ≡ true
-tail_in left rest v w is h = subst (λ s. has s w ≡ true) (sym is) (either_true (v == w) (has rest w) h)
 
 -- what isn't still to come is the first of them, or wasn't among them
 pub not_left : (left rest : List ℕ) (v w : ℕ) → left ≡ v ∷ rest → (w ≡ v → ⊥) → (has rest w ≡ true → ⊥) → has left w ≡ true → ⊥

@@ -11,7 +11,8 @@ use Rattle.xdg_problem.specs.Paths.{Above, IsDaughter}
 use Rattle.xdg_problem.proofs.Looking.{any_of}
 use Rattle.xdg_rules.specs.Rules.{IsPlaceOn, NoCycle, may_edges, must_edges}
 use Rattle.xdg_rules.proofs.Shrinking.{may_exact}
-use Rattle.xdg_graph.proofs.Ahead.{Ahead, ahead_once, head_or_tail, none_ahead, tail_in}
+use Rattle.xdg_graph.proofs.Ahead.{Ahead, ahead_once}
+use Rattle.xdg_facts.proofs.Rising.{head_or_tail, no_member, tail_in}
 use Rattle.xdg_store.specs.States.{State}
 use Rattle.xdg_propcore.specs.Passes.{Progress, Clears}
 use Rattle.xdg_pgraph.specs.declared.found.Found.TheVariants as founds
@@ -78,19 +79,19 @@ module _ (plane : Plane) (far : List (List ℕ)) (p q r : Progress) (old mid new
 
   pub back_taken : (v u : ℕ) (set left rest : List ℕ) → left ≡ u ∷ rest → Ahead set left → In far v u → Clears (There (BacksBut far v left)) p old q mid → Clears (Aims mid.parts plane.dim.0 founds.More (FromTo u v)) q mid r new → Clears (There (BacksBut far v rest)) p old r new
   back_taken v u set left rest is ahead back a b = aims_join old.parts plane.dim.0 founds.More (BacksBut far v left) (FromTo u v) (BacksBut far v rest) p q r old mid new refl
-      (λ e x. (x.0, λ h. x.1 (tail_in left rest u is e.mother.0 h)))
+      (λ e x. (x.0, λ h. x.1 (tail_in left rest u e.mother.0 is h)))
       (λ e x. (
         (x.1, subst (λ k. In far e.daughter.0 k) (sym x.0) (subst (λ k. In far k u) (sym x.1) back)),
         λ h. ahead_once set left rest u is ahead (subst (λ k. has rest k ≡ true) x.0 h),
       ))
       (λ e on x. elim (cases_eq e.mother.0 u) [
         | inl same ↦ inr (same, x.0.0)
-        | inr other ↦ inl (x.0, λ h. elim (head_or_tail left rest u is e.mother.0 h) [ inl same ↦ other (sym same) | inr later ↦ x.1 later ])
+        | inr other ↦ inl (x.0, λ h. elim (head_or_tail left rest u e.mother.0 is h) [ inl same ↦ other (sym same) | inr later ↦ x.1 later ])
       ])
       a b
 
   pub back_end : (v : ℕ) (left : List ℕ) → left ≡ [] → Clears (There (BacksBut far v left)) p old q mid → Clears (There (BacksInto far v)) p old q mid
-  back_end v left is a = aims_same old.parts plane.dim.0 founds.More (BacksBut far v left) (BacksInto far v) p q old mid (λ e on x. x.0) (λ e on x. (x, λ h. none_ahead left e.mother.0 is h)) a
+  back_end v left is a = aims_same old.parts plane.dim.0 founds.More (BacksBut far v left) (BacksInto far v) p q old mid (λ e on x. x.0) (λ e on x. (x, λ h. no_member left e.mother.0 is h)) a
 
   pub below_start : Clears (There (BacksBelow far 0)) p old p old
   below_start = clears_none (There (BacksBelow far 0)) p old (λ d v a. (let l = a.aimed.1 in omega (arith, l)))

@@ -1,8 +1,7 @@
 -- Rules, step by step.
-use Rattle.std.proofs.Common.{◌≡◌, ◌≢◌, ℕ, ◌⊎◌, ◌||◌, ◌==◌, inl, inr, Bool, true, false, List, [], ◌∷◌, refl, ap, sym, ◌∙◌, subst}
+use Rattle.std.proofs.Common.{◌≡◌, ◌≢◌, ℕ, ◌⊎◌, ◌||◌, inl, inr, Bool, false, List, [], ◌∷◌, ap, sym, ◌∙◌, subst}
 use Rattle.std.specs.Prelude.{Contains}
-use Rattle.std.proofs.lemmas.Bool.{cases_eq, eq-eqb, ne_eqb}
-use Rattle.xdg_facts.proofs.Truths.{either_true, or_here}
+use Rattle.std.proofs.lemmas.Bool.{cases_eq, ne_eqb}
 use Rattle.xdg_facts.specs.Rises.{has}
 use Rattle.xdg_problem.specs.declared.analysis.Edge.{Edge}
 use Rattle.xdg_problem.specs.declared.parts.Group.{Group}
@@ -66,12 +65,6 @@ RunsPart Whole Part dim p old q new =
     (group : Group) → IsGroup old.parts group → first_dim group ≡ dim
     → ((box : List (List Bool)) (d v : ℕ) → Whole old.parts group box d v → Takes old.parts group box d v)
     → Runs (Part old.parts group) group p old q new
-
-pub head_in : (left rest : List ℕ) (v : ℕ) → left ≡ v ∷ rest → has left v ≡ true
-head_in left rest v is = subst (λ s. has s v ≡ true) (sym is) (or_here (v == v) (has rest v) (eq-eqb v v refl))
-
-pub tail_in : (left rest : List ℕ) (v w : ℕ) → left ≡ v ∷ rest → has rest w ≡ true → has left w ≡ true
-tail_in left rest v w is h = subst (λ s. has s w ≡ true) (sym is) (either_true (v == w) (has rest w) h)
 
 -- what isn't behind the first, and isn't the first, isn't there
 pub still_out : (left rest : List ℕ) (v w : ℕ) → left ≡ v ∷ rest → (w ≡ v → ⊥) → has rest w ≡ false → has left w ≡ false

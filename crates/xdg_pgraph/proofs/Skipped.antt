@@ -24,7 +24,8 @@ use Rattle.xdg_pgraph.specs.Planes.{IsPlane}
 use Rattle.xdg_pgraph.specs.Seeking.{Aims, ToNode}
 use Rattle.xdg_pgraph.proofs.Labels.{LabelInto}
 use Rattle.xdg_pgraph.proofs.Told.{entered_within}
-use Rattle.xdg_pgraph.proofs.Ruled.{OneMotherOutside, RunsPart, head_in}
+use Rattle.xdg_pgraph.proofs.Ruled.{OneMotherOutside, RunsPart}
+use Rattle.xdg_facts.proofs.Rising.{head_in}
 use Rattle.xdg_facts.specs.Rises.{has}
 
 -- more is looked at, where the rule takes nothing that remained at first

@@ -37,7 +37,8 @@ use Rattle.xdg_pgraph.proofs.PlaneFacts.{which_place}
 use Rattle.xdg_pgraph.proofs.Searched.{JoinsBelow, label_cases, two_in}
 use Rattle.xdg_pgraph.proofs.Single.{not_more}
 use Rattle.xdg_pgraph.proofs.Skipped.{must_may}
-use Rattle.xdg_pgraph.proofs.Ruled.{head_in, still_out}
+use Rattle.xdg_pgraph.proofs.Ruled.{still_out}
+use Rattle.xdg_facts.proofs.Rising.{head_in}
 use Rattle.xdg_pgraph.proofs.Told.{ToBelow, all_turn, more_told, one_told}
 
 -- ---- the rows of a daughter

@@ -1,8 +1,6 @@
 -- The daughters of a node by a label, one after another, and those near which nothing was lost.
 use Rattle.std.proofs.Common.{◌≡◌, ◌≢◌, ℕ, ◌<◌, ◌↔◌, ◌||◌, ◌&&◌, IsTrue, inl, inr, Bool, true, List, [], ◌∷◌, length, refl, sym, ◌∙◌, subst}
-use Rattle.std.specs.Prelude.{◌==◌}
-use Rattle.std.proofs.lemmas.Bool.{cases_Bool, cases_eq, eq-eqb, false≢true, ne_eqb}
-use Rattle.xdg_facts.proofs.Truths.{either_true, or_here}
+use Rattle.std.proofs.lemmas.Bool.{cases_Bool, cases_eq, false≢true, ne_eqb}
 use Rattle.xdg_nodeset.proofs.TableSets.{both}
 use Rattle.xdg_problem.specs.declared.analysis.Edge.{Edge}
 use Rattle.xdg_problem.specs.declared.parts.Group.{Group}
@@ -124,11 +122,3 @@ on_later group dim u label v Done p old q mid dim_is is place a = record {
   place_is = subst (λ parts. IsPlace parts (edge dim u label v)) (sym a.goes.extends.same) (subst (λ i. IsPlace old.parts (edge i u label v)) (sym dim_is) place);
   on = dim_is;
 }
-
--- ---- the nodes of a set still to come
-
-pub head_in : (left rest : List ℕ) (v : ℕ) → left ≡ v ∷ rest → has left v ≡ true
-head_in left rest v is = subst (λ s. has s v ≡ true) (sym is) (or_here (v == v) (has rest v) (eq-eqb v v refl))
-
-pub tail_in : (left rest : List ℕ) (v w : ℕ) → left ≡ v ∷ rest → has rest w ≡ true → has left w ≡ true
-tail_in left rest v w is h = subst (λ s. has s w ≡ true) (sym is) (either_true (v == w) (has rest w) h)

@@ -2,39 +2,24 @@
 use Rattle.std.proofs.Common.{◌≡◌, ℕ, ◌<◌, ◌⊎◌, ◌↔◌, ◌==◌, ◌||◌, ◌&&◌, inl, inr, Bool, true, false, IsTrue, List, [], ◌∷◌, refl, sym, ap, ◌∙◌, arith, subst}
 use Rattle.std.specs.Prelude.{not, nat_lt}
 use Prim.Native.Nat.{min, max}
-use Rattle.std.proofs.lemmas.Bool.{cases_lt, eq-eqb, eqb-true, lt-ltb, ltb-true, false≢true}
+use Rattle.std.proofs.lemmas.Bool.{cases_lt, eq-eqb, lt-ltb, ltb-true, false≢true}
 use Rattle.xdg_nodeset.proofs.TableSets.{either, both}
 use Rattle.xdg_nodeset.specs.Nodes.{IsNodes}
 use Rattle.xdg_problem.specs.Asking.{IsBetween}
 use Rattle.xdg_porder.specs.Across.{Crosses}
 use Rattle.xdg_facts.proofs.Truths.{left_out}
 use Rattle.xdg_facts.specs.Rises.{has}
-use Rattle.xdg_facts.proofs.Rising.{has_beyond}
+use Rattle.xdg_facts.proofs.Rising.{has_beyond, no_member, head_in, tail_in, head_or_tail}
 
 -- what was gathered, and what the nodes still to come bring, is what all bring
 abbrev pub Gathers : (ℕ → ℕ → Type 0) → List ℕ → List ℕ → List ℕ → Type 0
 Gathers Q first left acc = (x : ℕ) → ((has acc x ≡ true) ⊎ ((v : ℕ) × (has left v ≡ true) × Q v x)) ↔ ((v : ℕ) × (has first v ≡ true) × Q v x)
-
-no_member : (set : List ℕ) (x : ℕ) → set ≡ [] → has set x ≡ true → ⊥
-no_member set x empty h = false≢true (subst (λ s. has s x ≡ true) empty h)
 
 pub gathers_start : (Q : ℕ → ℕ → Type 0) (first acc : List ℕ) → acc ≡ [] → Gathers Q first first acc
 gathers_start Q first acc empty x = (
   λ h. elim h [ inl there ↦ absurd (no_member acc x empty there) | inr more ↦ more ],
   λ h. inr h,
 )
-
-pub head_in : (left rest : List ℕ) (v : ℕ) → left ≡ v ∷ rest → has left v ≡ true
-head_in left rest v is = subst (λ s. has s v ≡ true) (sym is) ((either (v == v) (has rest v)).1 (inl (eq-eqb v v refl)))
-
-pub tail_in : (left rest : List ℕ) (v w : ℕ) → left ≡ v ∷ rest → has rest w ≡ true → has left w ≡ true
-tail_in left rest v w is h = subst (λ s. has s w ≡ true) (sym is) ((either (v == w) (has rest w)).1 (inr h))
-
-pub head_or_tail : (left rest : List ℕ) (v w : ℕ) → left ≡ v ∷ rest → has left w ≡ true → (v ≡ w) ⊎ (has rest w ≡ true)
-head_or_tail left rest v w is h = elim ((either (v == w) (has rest w)).0 (subst (λ s. has s w ≡ true) is h)) [
-  | inl same ↦ inl (eqb-true v w same)
-  | inr later ↦ inr later
-]
 
 pub gathers_next : (Q : ℕ → ℕ → Type 0) (first left rest acc new : List ℕ) (v : ℕ) → left ≡ v ∷ rest → ((x : ℕ) → (has new x ≡ true) ↔ ((has acc x ≡ true) ⊎ Q v x)) → Gathers Q first left acc → Gathers Q first rest new
 gathers_next Q first left rest acc new v is step before x = (

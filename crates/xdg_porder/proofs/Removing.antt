@@ -21,7 +21,7 @@ use Rattle.xdg_porder.specs.Items.{IsAtNode, IsReady, MayOwn, NoneFollow, NoneSt
 use Rattle.xdg_graph.specs.Slots.{IsSlot, decision_of}
 use Rattle.xdg_graph.specs.declared.slot.Slot.{Slot}
 use Rattle.xdg_graph.proofs.SlotValues.{slot_below}
-use Rattle.xdg_porder.proofs.Gathering.{head_or_tail}
+use Rattle.xdg_facts.proofs.Rising.{head_or_tail}
 use Rattle.xdg_facts.specs.Rises.{has}
 
 -- what is ready stays so

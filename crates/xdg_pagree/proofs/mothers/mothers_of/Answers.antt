@@ -3,7 +3,7 @@ use Rattle.xdg_problem.specs.Places.{nodes}
 use Rattle.xdg_graph.proofs.Labelled.{has_edges}
 use Rattle.xdg_pagree.specs.Untouched.{AreMothersOf}
 use Rattle.xdg_pagree.proofs.Bringing.{brings_end, brings_next, brings_start}
-use Rattle.xdg_pagree.proofs.Looping.{head_in, tail_in}
+use Rattle.xdg_facts.proofs.Rising.{head_in, tail_in}
 use Rattle.xdg_pagree.proofs.mothers.mothers_of.Goals as goal
 use Rattle.xdg_facts.specs.Rises.{has}
 

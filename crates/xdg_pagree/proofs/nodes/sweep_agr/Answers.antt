@@ -6,7 +6,8 @@ use Rattle.xdg_propcore.specs.Sweeps.{Sweeps}
 use Rattle.xdg_propcore.proofs.Sweeping.{group_stays}
 use Rattle.xdg_pagree.specs.Places.{IsNodeDone}
 use Rattle.xdg_pagree.specs.Untouched.{HasOwn}
-use Rattle.xdg_pagree.proofs.Looping.{AreDone, head_in, tail_in, turns_next, turns_start}
+use Rattle.xdg_pagree.proofs.Looping.{AreDone, turns_next, turns_start}
+use Rattle.xdg_facts.proofs.Rising.{head_in, tail_in}
 use Rattle.xdg_pagree.proofs.Others.{agr_last}
 use Rattle.xdg_pagree.proofs.nodes.sweep_agr.Goals as goal
 

@@ -1,6 +1,6 @@
 use Rattle.std.proofs.Common.{◌∙◌, refl, ap, sym, arith}
 use Rattle.std.specs.Prelude.{nat_lt}
-use Rattle.xdg_pgraph.proofs.Ruled.{tail_in}
+use Rattle.xdg_facts.proofs.Rising.{tail_in}
 use Rattle.xdg_pgraph.proofs.Sources.{all_settled, counts_settle, next_within, others_are, settled_next, settled_start}
 use Rattle.xdg_pgraph.proofs.incoming.are_settled.Goals as goal
 

@@ -4,7 +4,8 @@ use Rattle.xdg_rules.specs.Rules.{must_edges}
 use Rattle.xdg_propcore.specs.Passes.{Clears}
 use Rattle.xdg_pgraph.specs.Planes.{IsPlane}
 use Rattle.xdg_pgraph.specs.Seeking.{Aims, Finds, Into, ToNode}
-use Rattle.xdg_pgraph.proofs.Ruled.{one_mother_end, one_mother_turn, tail_in}
+use Rattle.xdg_pgraph.proofs.Ruled.{one_mother_end, one_mother_turn}
+use Rattle.xdg_facts.proofs.Rising.{tail_in}
 use Rattle.xdg_pgraph.proofs.Skipped.{crowded_within, one_mother_start, stays_both}
 use Rattle.xdg_pgraph.proofs.tree.one_mother.Goals as goal
 

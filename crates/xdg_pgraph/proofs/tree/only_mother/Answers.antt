@@ -4,7 +4,7 @@ use Rattle.xdg_rules.specs.Rules.{may_edges}
 use Rattle.xdg_propcore.specs.Passes.{Clears}
 use Rattle.xdg_pgraph.specs.Planes.{IsPlane}
 use Rattle.xdg_pgraph.specs.Seeking.{Only}
-use Rattle.xdg_pgraph.proofs.Ruled.{head_in, tail_in}
+use Rattle.xdg_facts.proofs.Rising.{head_in, tail_in}
 use Rattle.xdg_pgraph.proofs.Single.{only_end, only_start, only_turn}
 use Rattle.xdg_pgraph.proofs.tree.only_mother.Goals as goal
 

@@ -2,7 +2,8 @@ use Rattle.std.proofs.Common.{◌≡◌, ◌∙◌, ◌∷◌, sym, subst}
 use Rattle.xdg_problem.specs.Arguments.{first_dim}
 use Rattle.xdg_propcore.proofs.Sweeping.{sweeps_start}
 use Rattle.xdg_plink.specs.Untouched.{AreOthersDoneAt, ArePlaces}
-use Rattle.xdg_plink.proofs.Daughters.{AreDaughtersDone, daughters_last, daughters_turn, head_in, on_later, tail_in}
+use Rattle.xdg_plink.proofs.Daughters.{AreDaughtersDone, daughters_last, daughters_turn, on_later}
+use Rattle.xdg_facts.proofs.Rising.{head_in, tail_in}
 use Rattle.xdg_plink.proofs.Present.{asks_fewer}
 use Rattle.xdg_plink.proofs.Sweeping.{ready_later}
 use Rattle.xdg_plink.proofs.taking.take_daughters.Goals as goal

@@ -1,7 +1,8 @@
 use Rattle.std.proofs.Common.{◌≡◌, ◌∙◌, ◌↔◌, ℕ, true, sym, subst}
 use Rattle.xdg_nodeset.specs.Nodes.{IsNodes}
 use Rattle.xdg_porder.specs.Across.{Crosses}
-use Rattle.xdg_porder.proofs.Gathering.{gathers_start, gathers_next, gathers_end, head_in, kept_end, nodes_small, small_later}
+use Rattle.xdg_porder.proofs.Gathering.{gathers_start, gathers_next, gathers_end, kept_end, nodes_small, small_later}
+use Rattle.xdg_facts.proofs.Rising.{head_in}
 use Rattle.xdg_porder.proofs.sets.across.Goals as goal
 use Rattle.xdg_facts.specs.Rises.{has}
 

@@ -1,6 +1,7 @@
 use Rattle.std.proofs.Common.{◌≡◌, ◌≤◌, ◌∙◌, ◌↔◌, ℕ, true, sym, subst}
 use Rattle.xdg_nodeset.specs.Nodes.{IsNodes}
-use Rattle.xdg_porder.proofs.Gathering.{gathers_start, gathers_next, gathers_end, head_in, nodes_small, small_later, unions}
+use Rattle.xdg_porder.proofs.Gathering.{gathers_start, gathers_next, gathers_end, nodes_small, small_later, unions}
+use Rattle.xdg_facts.proofs.Rising.{head_in}
 use Rattle.xdg_porder.proofs.sets.left_of.Goals as goal
 use Rattle.xdg_facts.specs.Rises.{has}
 

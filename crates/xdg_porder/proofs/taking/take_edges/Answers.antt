@@ -1,7 +1,7 @@
 use Rattle.std.proofs.Common.{◌∙◌, sym, subst}
 use Rattle.xdg_propcore.specs.Sweeps.{Sweeps}
 use Rattle.xdg_porder.specs.Items.{NoneFollow, TakesEdges}
-use Rattle.xdg_porder.proofs.Gathering.{head_in, tail_in}
+use Rattle.xdg_facts.proofs.Rising.{head_in, tail_in}
 use Rattle.xdg_porder.proofs.Removing.{edges_first, edge_place, edges_turn, edges_end}
 use Rattle.xdg_porder.proofs.taking.take_edges.Goals as goal
 
