@@ -10,7 +10,7 @@ use Rattle.xdg_command.specs.Syntax.{Table, all_differ}
 use Rattle.xdg_command.proofs.Fitting.{has_more, most, no_more}
 use Rattle.xdg_command.proofs.Lookups.{Right, among_at, not_operand}
 use Rattle.xdg_command.proofs.Placed.{put}
-use Rattle.xdg_command.proofs.Reader.{onward}
+use Rattle.xdg_facts.specs.Onward.{onward}
 use Rattle.xdg_command.proofs.Rules.{added, flag_rule, form, operand_rule, row, value_rule}
 use Rattle.xdg_command.proofs.Spelled.{flag_form, value_form}
 use Rattle.xdg_facts.proofs.Lists.{some_at}

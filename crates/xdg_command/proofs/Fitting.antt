@@ -7,7 +7,7 @@ use Rattle.clap.specs.Walk.{Row, Rule, has_row}
 use Rattle.xdg_command.specs.Items.{Item, operand, valued, flagged, one_if, operands_of, uses_of}
 use Rattle.xdg_command.specs.Syntax.{Table}
 use Rattle.xdg_command.proofs.Placed.{put, put_operand}
-use Rattle.xdg_command.proofs.Reader.{onward}
+use Rattle.xdg_facts.specs.Onward.{onward}
 use Rattle.xdg_command.proofs.Rules.{added, flag_rule, operand_rule, row, value_rule}
 use Rattle.xdg_facts.proofs.Texts.{same_text}
 use Rattle.xdg_facts.proofs.Lists.{get_within}

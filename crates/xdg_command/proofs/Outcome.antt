@@ -23,7 +23,8 @@ use Rattle.xdg_command.proofs.Finding.{finds_flag, finds_operand, finds_value, f
 use Rattle.xdg_command.proofs.Fitting.{onward_is, put_few, put_once, put_rows, rows_of_items}
 use Rattle.xdg_command.proofs.Lookups.{Right, among_at, apart_at, finds_in}
 use Rattle.xdg_command.proofs.Placed.{put}
-use Rattle.xdg_command.proofs.Reader.{onward, read}
+use Rattle.xdg_command.proofs.Reader.{read}
+use Rattle.xdg_facts.specs.Onward.{onward}
 use Rattle.xdg_command.proofs.Rules.{flag_rule, nothing, operand_rule, value_rule}
 use Rattle.xdg_command.proofs.Spelled.{flag_form, items_read, read_items, value_form}
 use Rattle.xdg_command.proofs.Turns.{between, held}

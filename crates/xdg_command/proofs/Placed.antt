@@ -4,7 +4,7 @@ use Rattle.std.specs.Prelude.{codes, slice_get}
 use Rattle.clap.specs.Walk.{Row}
 use Rattle.xdg_command.specs.Items.{Item, operand, valued, flagged}
 use Rattle.xdg_command.specs.Syntax.{Table}
-use Rattle.xdg_command.proofs.Reader.{onward}
+use Rattle.xdg_facts.specs.Onward.{onward}
 use Rattle.xdg_command.proofs.Rules.{added, flag_rule, operand_rule, value_rule}
 
 -- the operand with this name is found in this place

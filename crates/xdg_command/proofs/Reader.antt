@@ -7,10 +7,6 @@ use Rattle.xdg_command.specs.Items.{Item, operand, valued, flagged, dashed}
 use Rattle.xdg_command.specs.Syntax.{Table}
 use Rattle.xdg_command.proofs.Rules.{form}
 
-abbrev pub onward : {A B : Type 0} → Option A → (A → Option B) → Option B
-onward None f = None
-onward (Some a) f = f a
-
 abbrev pub behind : Item → Option (List Item) → Option (List Item)
 behind item None = None
 behind item (Some items) = Some (item ∷ items)

@@ -14,7 +14,8 @@ use Rattle.clap.specs.Faults.{settle_fault, turn_fault, use_fault, walk_fault}
 use Rattle.xdg_command.specs.Items.{Item, operand, valued, flagged, dashed}
 use Rattle.xdg_command.specs.Syntax.{Table}
 use Rattle.xdg_command.proofs.Placed.{put, put_operand}
-use Rattle.xdg_command.proofs.Reader.{behind, by_form, by_letters, by_long, by_value, read, onward, unless_long}
+use Rattle.xdg_command.proofs.Reader.{behind, by_form, by_letters, by_long, by_value, read, unless_long}
+use Rattle.xdg_facts.specs.Onward.{onward}
 use Rattle.xdg_command.proofs.Rules.{Finds, added, flag_rule, form, nothing, operand_rule, option_rule, value_rule}
 use Rattle.xdg_command.proofs.Turns.{awaited_end, awaited_letter, awaited_long, awaited_value, awaiting, between, end_turn, flag_refused, flag_turn, held, later_refused, later_turn, letter_refused, name_refused, name_turn, trailing_at, value_turn, word_refused, word_turn}
 use Rattle.xdg_command.proofs.Uses.{empty_refused, flag_used, operand_used, using_as, value_used}

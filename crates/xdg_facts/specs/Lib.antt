@@ -11,3 +11,4 @@ pub mod Examples
 pub mod Membership
 pub mod Rises
 pub mod BitSets
+pub mod Onward

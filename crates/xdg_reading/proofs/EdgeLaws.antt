@@ -13,20 +13,21 @@ use Rattle.xdg_problem.specs.Places.{nodes, edge}
 use Rattle.xdg_problem.specs.Problems.{IsProblem, IsDim}
 use Rattle.xdg_reading.specs.declared.texts.EdgeLine.{EdgeLine}
 use Rattle.xdg_text.specs.Blocks.{no_plan}
-use Rattle.xdg_reading.specs.Fitted.{lead, or_at, some_and, may_join, follows, said_edge, said_edges}
+use Rattle.xdg_reading.specs.Fitted.{lead, or_at, may_join, follows, said_edge, said_edges}
 use Rattle.xdg_reading.specs.Fits.{SaysEdge, Follows, NextEdge, SayEdges, EdgeOffends, this_edge, later_edge}
 use Rattle.xdg_reading.specs.Names.{dim_number, label_number}
 use Rattle.xdg_reading.proofs.Told.{position_of}
 use Rattle.xdg_reading.proofs.Turns.{precedes_is, precedes_from}
 use Rattle.xdg_facts.proofs.Options.{none_some}
 use Rattle.xdg_facts.proofs.Options.{some_same}
+use Rattle.xdg_facts.specs.Onward.{onward}
 
 record Known {X Y : Type 0} (o : Option X) (f : X → Option Y) (y : Y) : Type 0 where
   pub value : X
   pub is : o ≡ Some value
   pub goes : f value ≡ Some y
 
-known : {X Y : Type 0} (o : Option X) (f : X → Option Y) (y : Y) → some_and o f ≡ Some y → Known o f y
+known : {X Y : Type 0} (o : Option X) (f : X → Option Y) (y : Y) → onward o f ≡ Some y → Known o f y
 known None f y e = cc
 known (Some x) f y e = record { value = x; is = refl; goes = e }
 
@@ -66,7 +67,7 @@ made_edge parts line dim label is_dim is_label joins =
 pub edge_said : (parts : Parts) (line : EdgeLine) (e : Edge) → said_edge parts line ≡ Some e → Says parts line e
 unfolding said_edge
 edge_said parts line e said =
-    let d = known (dim_number parts.dims line.dim) (λ dim. some_and (label_number (plan_at parts dim).labels line.label) (λ label. cond (may_join parts (plan_at parts dim) line) (Some (edge dim line.mother.0 label line.daughter.0)) None)) e said in
+    let d = known (dim_number parts.dims line.dim) (λ dim. onward (label_number (plan_at parts dim).labels line.label) (λ label. cond (may_join parts (plan_at parts dim) line) (Some (edge dim line.mother.0 label line.daughter.0)) None)) e said in
     let l = known (label_number (plan_at parts d.value).labels line.label) (λ label. cond (may_join parts (plan_at parts d.value) line) (Some (edge d.value line.mother.0 label line.daughter.0)) None) e d.goes in
     let joins = cond_known (may_join parts (plan_at parts d.value) line) (edge d.value line.mother.0 l.value line.daughter.0) e l.goes in
     subst (Says parts line) joins.1 (made_edge parts line d.value l.value d.is l.is joins.0)
@@ -93,8 +94,8 @@ edge_told parts line e problem known_edge =
     let joins : may_join parts plan line ≡ true = and_from (plan.graph && nat_lt line.mother.0 (nodes parts) && nat_lt line.daughter.0 (nodes parts)) (not (line.mother.0 == line.daughter.0))
     (and_from (plan.graph && nat_lt line.mother.0 (nodes parts)) (nat_lt line.daughter.0 (nodes parts)) (and_from plan.graph (nat_lt line.mother.0 (nodes parts)) (ap (λ p. p.graph) same ∙ place.graph) (lt-ltb line.mother.0 (nodes parts) mother)) (lt-ltb line.daughter.0 (nodes parts) daughter))
     (not_from_false (line.mother.0 == line.daughter.0) (ne_eqb line.mother.0 line.daughter.0 differ)) in
-    ap (λ o. some_and o (λ dim. some_and (label_number (plan_at parts dim).labels line.label) (λ label. cond (may_join parts (plan_at parts dim) line) (Some (edge dim line.mother.0 label line.daughter.0)) None))) dim_is
-    ∙ ap (λ o. some_and o (λ label. cond (may_join parts plan line) (Some (edge e.dim.0 line.mother.0 label line.daughter.0)) None)) label_is
+    ap (λ o. onward o (λ dim. onward (label_number (plan_at parts dim).labels line.label) (λ label. cond (may_join parts (plan_at parts dim) line) (Some (edge dim line.mother.0 label line.daughter.0)) None))) dim_is
+    ∙ ap (λ o. onward o (λ label. cond (may_join parts plan line) (Some (edge e.dim.0 line.mother.0 label line.daughter.0)) None)) label_is
     ∙ ap (λ t. cond t (Some (edge e.dim.0 line.mother.0 e.label.0 line.daughter.0)) None) joins
     ∙ ap₂ (λ m d. Some (edge e.dim.0 m.0 e.label.0 d.0)) (sym says.mother) (sym says.daughter)
 

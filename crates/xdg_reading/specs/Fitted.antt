@@ -18,6 +18,7 @@ use Rattle.xdg_reading.specs.declared.refused.Refused.TheVariants as refused
 use Rattle.xdg_reading.specs.Fits.{behind_attrs}
 use Rattle.xdg_reading.specs.Names.{dim_number, label_number, value_number}
 use Rattle.xdg_reading.specs.Slots.{Asked, slots}
+use Rattle.xdg_facts.specs.Onward.{onward}
 
 abbrev pub has_entry : List EntryNo → EntryNo → Bool
 has_entry candidates entry = list_any (λ candidate. candidate.0 == entry.0) candidates
@@ -64,10 +65,6 @@ abbrev pub follows : Option Edge → Edge → Bool
 follows None e = true
 follows (Some before) e = precedes before e
 
-abbrev pub some_and : {X Y : Type 0} → Option X → (X → Option Y) → Option Y
-some_and None f = None
-some_and (Some x) f = f x
-
 -- an edge may stand between these nodes on this dimension
 abbrev pub may_join : Parts → DimPlan → EdgeLine → Bool
 may_join parts plan line = plan.graph && nat_lt line.mother.0 (nodes parts) && nat_lt line.daughter.0 (nodes parts) && not (line.mother.0 == line.daughter.0)
@@ -75,7 +72,7 @@ may_join parts plan line = plan.graph && nat_lt line.mother.0 (nodes parts) && n
 -- the edge that a line says, if it may stand
 unfoldable pub said_edge : Parts → EdgeLine → Option Edge
 said_edge parts line =
-    some_and (dim_number parts.dims line.dim) (λ dim. some_and (label_number (slice_index_or parts.dims dim no_plan).labels line.label) (λ label.
+    onward (dim_number parts.dims line.dim) (λ dim. onward (label_number (slice_index_or parts.dims dim no_plan).labels line.label) (λ label.
     cond (may_join parts (slice_index_or parts.dims dim no_plan) line) (Some (edge dim line.mother.0 label line.daughter.0)) None))
 
 -- the edges that lines say

@@ -1,0 +1,7 @@
+-- What comes of an option's value.
+use Rattle.std.specs.Prelude.{Option, Some, None}
+
+-- what a further step makes of the value, if there is one
+abbrev pub onward : {A B : Type 0} → Option A → (A → Option B) → Option B
+onward None f = None
+onward (Some a) f = f a
