@@ -13,7 +13,7 @@ use Rattle.xdg_types.specs.Names.{fault_at}
 use Rattle.xdg_types.specs.Parts.{Statement, keys}
 use Rattle.xdg_types.specs.Table.{Table}
 use Rattle.xdg_types.proofs.Elements.{among_or_not, among_name, differ_append}
-use Rattle.xdg_types.proofs.Distinct.{among_has, has_among}
+use Rattle.xdg_names.proofs.Texts.{has_among, among_has}
 use Rattle.xdg_classes.specs.Bodies.{Term, Called}
 use Rattle.xdg_classes.specs.Definitions.{ClassDef, classes, class_names, class_named, param_names}
 use Rattle.xdg_classes.specs.Names.{NameOffends, all_calls, once}

@@ -6,7 +6,7 @@ use Rattle.std.proofs.lemmas.List.{take_more, map-append}
 use Rattle.xdg_ast.specs.declared.grammar.StatementKind.TheVariants as k
 use Rattle.xdg_names.specs.Texts.{has_text}
 use Rattle.xdg_types.specs.Parts.{Statement}
-use Rattle.xdg_types.proofs.Distinct.{has_among, among_has}
+use Rattle.xdg_names.proofs.Texts.{has_among, among_has}
 use Rattle.xdg_classes.specs.Bodies.{Expr, body}
 use Rattle.xdg_classes.specs.Definitions as d
 use Rattle.xdg_classes.specs.Definitions.{ClassDef, entry, entry_at}

@@ -4,8 +4,7 @@ use Rattle.std.proofs.lemmas.Bool.{false_from_ne_true, true≢false}
 use Rattle.std.proofs.lemmas.List.{length-map, get_or-map}
 use Rattle.std.proofs.lemmas.Option.{slice_get-get_or, get_or_from_slice_get, slice_get_within}
 use Rattle.xdg_names.specs.Texts.{has_text, place_of}
-use Rattle.xdg_names.proofs.Texts.{place_of-Some, place_of-None, place_of-at, None-place_of}
-use Rattle.xdg_types.proofs.Distinct.{has_among, among_has}
+use Rattle.xdg_names.proofs.Texts.{place_of-Some, place_of-None, place_of-at, None-place_of, has_among, among_has}
 use Rattle.xdg_types.proofs.Elements.{all_differ}
 use Rattle.xdg_classes.specs.Bodies.{Body, body, Called, calls}
 use Rattle.xdg_check.specs.declared.checked.Class.{Class}

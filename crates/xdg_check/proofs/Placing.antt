@@ -5,12 +5,11 @@ use Rattle.std.proofs.lemmas.Option.{get_or_from_slice_get, slice_get_within}
 use Rattle.xdg_names.specs.Leads.{uses_of}
 use Rattle.xdg_names.specs.declared.graph.Use.{Use}
 use Rattle.xdg_names.specs.Texts.{place_of}
-use Rattle.xdg_names.proofs.Texts.{place_of-has_text}
+use Rattle.xdg_names.proofs.Texts.{place_of-has_text, among_has}
 use Rattle.xdg_types.specs.Answers.{None_of}
 use Rattle.xdg_types.specs.Graph.{use_at, use_of}
 use Rattle.xdg_types.specs.Parts.{Statement}
 use Rattle.xdg_types.specs.Table.{Table}
-use Rattle.xdg_types.proofs.Distinct.{among_has}
 use Rattle.xdg_types.proofs.Elements.{in_texts}
 use Rattle.xdg_classes.specs.Bodies.{body, Called, calls}
 use Rattle.xdg_classes.specs.Definitions.{ClassDef, classes, class_names, Scoped, bodies}

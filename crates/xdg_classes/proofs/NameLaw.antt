@@ -16,7 +16,8 @@ use Rattle.xdg_types.specs.Names.{fault_at}
 use Rattle.xdg_types.specs.NameFaults.{repeats, different}
 use Rattle.xdg_types.specs.Parts.{Statement, keys}
 use Rattle.xdg_types.specs.Table.{Table}
-use Rattle.xdg_types.proofs.Distinct.{has_among, among_has, missing, not_there, same_known}
+use Rattle.xdg_types.proofs.Distinct.{missing, not_there, same_known}
+use Rattle.xdg_names.proofs.Texts.{has_among, among_has}
 use Rattle.xdg_types.proofs.NamesAgain.{again_sound, again_complete, differ_by}
 use Rattle.xdg_classes.specs.Bodies.{Term, Called}
 use Rattle.xdg_classes.specs.Definitions.{ClassDef, classes, class_names, class_named, param_names}

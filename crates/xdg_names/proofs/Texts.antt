@@ -3,13 +3,14 @@ use Rattle.std.proofs.Common.{◌≡◌, ℕ, zero, suc, ◌<◌, ◌+◌, Bool,
 use Rattle.std.specs.List.{list_any, position_from}
 use Rattle.std.specs.Str.{bytes_eq}
 use Rattle.std.proofs.Math.Bool.{or-false}
-use Rattle.std.proofs.lemmas.Bool.{cases_Bool}
+use Rattle.std.proofs.lemmas.Bool.{cases_Bool, or_cases, or_left, or_right}
 use Rattle.std.proofs.lemmas.Bool.Decides.{same_from_decides, Decides-like}
 use Rattle.std.proofs.lemmas.Iterator.Adapters.{position_from-zero}
 use Rattle.std.proofs.lemmas.List.{map-append}
 use Rattle.std.proofs.lemmas.Slice.Eq.{bytes_eq-Decides}
 use Rattle.xdg_names.specs.Texts.{has_text, place_of, AllDiffer}
 use Rattle.xdg_facts.proofs.Texts.{equal}
+use Rattle.xdg_facts.specs.Membership.{In}
 use Rattle.xdg_facts.proofs.Truths.{none_or}
 
 -- ---- tests and places
@@ -29,6 +30,21 @@ later None place e = absurd (true≢false (sym (ap is_some e)))
 later (Some before) place e = (before, refl, cc)
 
 -- ---- one list
+
+-- what the test finds stands there, and the other way round
+pub has_among : (texts : List (List ℕ)) (text : List ℕ) → has_text texts text ≡ true → In texts text
+has_among [] text h = absurd (true≢false (sym h))
+has_among (first ∷ texts) text h = elim (or_cases (bytes_eq first text) (has_text texts text) h) [
+  | inl same ↦ inl ((bytes_eq-Decides first text).0 same)
+  | inr later ↦ inr (has_among texts text later)
+]
+
+pub among_has : (texts : List (List ℕ)) (text : List ℕ) → In texts text → has_text texts text ≡ true
+among_has [] text h = absurd h
+among_has (first ∷ texts) text h = elim h [
+  | inl same ↦ or_left (bytes_eq first text) (has_text texts text) ((bytes_eq-Decides first text).1 same)
+  | inr later ↦ or_right (bytes_eq first text) (has_text texts text) (among_has texts text later)
+]
 
 -- a text has a place just if it stands there
 pub is_some-place_of : (texts : List (List ℕ)) (text : List ℕ) → is_some (place_of texts text) ≡ has_text texts text

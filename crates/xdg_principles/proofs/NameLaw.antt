@@ -10,7 +10,8 @@ use Rattle.xdg_names.specs.Texts.{has_text}
 use Rattle.xdg_types.specs.Names.{fault_at}
 use Rattle.xdg_types.specs.NameFaults.{unknown, repeats, different}
 use Rattle.xdg_types.specs.Parts.{Statement, dim_names, used_names, keys}
-use Rattle.xdg_types.proofs.Distinct.{missing, not_there, has_among, among_has, same_known}
+use Rattle.xdg_types.proofs.Distinct.{missing, not_there, same_known}
+use Rattle.xdg_names.proofs.Texts.{has_among, among_has}
 use Rattle.xdg_types.proofs.NamesAgain.{again_sound, again_complete}
 use Rattle.xdg_principles.specs.declared.principle.Form.{Form}
 use Rattle.xdg_principles.specs.Names.{IsForeign, IsMissing, PrincipleNameOffends, once, dim_keys, arg_keys, required_keys}

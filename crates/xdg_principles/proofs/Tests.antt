@@ -3,7 +3,7 @@ use Rattle.std.proofs.Common.{◌≡◌, ℕ, Bool, true, false, List, [], sym, 
 use Rattle.std.specs.Prelude.{if◌then◌else◌}
 use Rattle.std.proofs.lemmas.Bool.{true≢false, false≢true, false_from_ne_true}
 use Rattle.xdg_names.specs.Texts.{has_text}
-use Rattle.xdg_types.proofs.Distinct.{has_among, among_has}
+use Rattle.xdg_names.proofs.Texts.{has_among, among_has}
 use Rattle.xdg_facts.specs.Membership.{In}
 
 pub not_among : (all : List (List ℕ)) (t : List ℕ) → has_text all t ≡ false → In all t → ⊥

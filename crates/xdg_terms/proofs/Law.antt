@@ -26,7 +26,7 @@ use Rattle.xdg_terms.specs.Forms.{Term, Card, Look, all_of, bracketed_elem, brac
 use Rattle.xdg_terms.specs.Offences.{fault_at, has_form, has_set_form, asked_in_set, is_some, one_told, all_told, Asked, asked_in, asked_in_turn, asked, keys, field_keys, known_fields, cards, keys_of, gen_names, IsWrongKind, IsNotMember, IsTwice, IsUnknownField, IsOutOfRange, CardOffends, OffendsHere, OfSeen, OffendsIn, OffendsUnder, OffendsBy}
 use Rattle.xdg_terms.specs.Faults as spec
 use Rattle.xdg_names.specs.Texts.{has_text}
-use Rattle.xdg_terms.proofs.Has.{has_among, among_has}
+use Rattle.xdg_names.proofs.Texts.{has_among, among_has}
 use Rattle.xdg_facts.proofs.Texts.{same_text, is_same}
 use Rattle.xdg_facts.specs.Membership.{In}
 use Rattle.xdg_facts.proofs.In.{in_append, in_left, in_right, in_unless, unless_in, in_when, when_in, in_flat_map, flat_map_in}

@@ -4,7 +4,6 @@ pub mod SameMembers
 pub mod Placing
 pub mod Saying
 pub mod Formed
-pub mod Has
 pub mod Law
 pub mod Loops
 pub mod Sizes

@@ -1,25 +1,16 @@
 -- Which texts stand among the different texts of names.
 use Rattle.std.proofs.Common.{◌≡◌, ◌⊎◌, inl, inr, ℕ, Bool, true, false, if◌then◌else◌, List, [], ◌∷◌, ◌++◌, refl, sym, ap, ◌∙◌, subst, append_assoc}
-use Rattle.std.specs.Str.{bytes_eq}
-use Rattle.std.proofs.lemmas.Bool.{or_cases, or_left, or_right, true≢false, false_from_ne_true}
+use Rattle.std.proofs.lemmas.Bool.{true≢false, false_from_ne_true}
 use Rattle.std.proofs.lemmas.List.{append-nil}
-use Rattle.std.proofs.lemmas.Slice.Eq.{bytes_eq-Decides}
 use Rattle.xdg_ast.specs.declared.names.Name.{Name}
 use Rattle.xdg_names.specs.Texts.{has_text}
+use Rattle.xdg_names.proofs.Texts.{has_among, among_has}
 use Rattle.xdg_types.specs.NameFaults.{with_text, with_all, different}
 use Rattle.xdg_facts.specs.Membership.{In, Differ}
 use Rattle.xdg_ast.specs.Texts.{texts}
 use Rattle.xdg_facts.proofs.In.{in_append, in_left, in_right}
 
 -- ---- the test and what it says
-
-pub has_among : (all : List (List ℕ)) (t : List ℕ) → has_text all t ≡ true → In all t
-has_among [] t h = absurd (true≢false (sym h))
-has_among (x ∷ all) t h = elim (or_cases (bytes_eq x t) (has_text all t) h) [ inl e ↦ inl ((bytes_eq-Decides x t).0 e) | inr k ↦ inr (has_among all t k) ]
-
-pub among_has : (all : List (List ℕ)) (t : List ℕ) → In all t → has_text all t ≡ true
-among_has [] t h = absurd h
-among_has (x ∷ all) t h = elim h [ inl e ↦ or_left (bytes_eq x t) (has_text all t) ((bytes_eq-Decides x t).1 e) | inr k ↦ or_right (bytes_eq x t) (has_text all t) (among_has all t k) ]
 
 same_test : (xs ys : List (List ℕ)) (t : List ℕ) → (In xs t → In ys t) → (In ys t → In xs t) → has_text xs t ≡ has_text ys t
 same_test xs ys t to from = by (has_text xs t) (has_text ys t) refl refl

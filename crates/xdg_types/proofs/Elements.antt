@@ -1,11 +1,11 @@
 -- Texts that stand in lists, and lists whose texts differ.
-use Rattle.std.proofs.Common.{◌≡◌, ◌⊎◌, inl, inr, ℕ, zero, suc, ◌<◌, ◌≤◌, true, List, [], ◌∷◌, ◌++◌, length, ap, sym, ◌∙◌, refl, arith}
+use Rattle.std.proofs.Common.{◌≡◌, ◌⊎◌, inl, inr, ℕ, zero, suc, ◌<◌, ◌≤◌, List, [], ◌∷◌, ◌++◌, length, ap, sym, ◌∙◌, refl, arith}
 use Rattle.std.specs.Str.{bytes_eq}
 use Rattle.std.proofs.lemmas.Bool.{cases_Bool, true≢false, false_from_ne_true}
 use Rattle.std.proofs.lemmas.Slice.Eq.{bytes_eq-Decides}
 use Rattle.xdg_ast.specs.declared.names.Name.{Name}
 use Rattle.xdg_names.specs.Texts.{has_text, AllDiffer}
-use Rattle.xdg_types.proofs.Distinct.{has_among}
+use Rattle.xdg_names.proofs.Texts.{has_among}
 use Rattle.xdg_facts.specs.Membership.{In, Differ}
 use Rattle.xdg_ast.specs.Texts.{texts}
 use Rattle.xdg_facts.proofs.In.{in_append}
@@ -23,13 +23,6 @@ among_or_not (x ∷ xs) t = elim (cases_Bool (bytes_eq x t)) [
     | inl k ↦ inl (inr k)
     | inr k ↦ inr (λ h. elim h [ inl same ↦ true≢false (sym ((bytes_eq-Decides x t).1 same) ∙ e) | inr l ↦ k l ])
   ]
-]
-
-pub among_has : (xs : List (List ℕ)) (t : List ℕ) → In xs t → has_text xs t ≡ true
-among_has [] t h = absurd h
-among_has (x ∷ xs) t h = elim (cases_Bool (bytes_eq x t)) [
-  | inl e ↦ rw e refl
-  | inr e ↦ elim h [ inl same ↦ absurd (true≢false (sym ((bytes_eq-Decides x t).1 same) ∙ e)) | inr l ↦ rw e (among_has xs t l) ]
 ]
 
 pub in_texts : (ns : List Name) (n : Name) → In ns n → In (texts ns) n.text

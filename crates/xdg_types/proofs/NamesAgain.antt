@@ -7,7 +7,8 @@ use Rattle.xdg_names.specs.Texts.{has_text}
 use Rattle.xdg_types.specs.Parts.{Statement}
 use Rattle.xdg_types.specs.Names.{fault_at, NameOffends, once}
 use Rattle.xdg_types.specs.NameFaults.{repeated, repeats, with_text}
-use Rattle.xdg_types.proofs.Distinct.{has_among, among_has, with_splits, with_old, with_new, texts_left, texts_right}
+use Rattle.xdg_types.proofs.Distinct.{with_splits, with_old, with_new, texts_left, texts_right}
+use Rattle.xdg_names.proofs.Texts.{has_among, among_has}
 use Rattle.xdg_facts.specs.Membership.{In, Differ}
 use Rattle.xdg_facts.proofs.In.{in_append, in_left, in_right, in_when, when_in}
 use Rattle.xdg_ast.specs.Texts.{texts}

@@ -1,10 +1,9 @@
 -- Which texts stand among others, and among those that a pass has seen.
 use Rattle.std.proofs.Common.{◌≡◌, ◌⊎◌, inl, inr, ℕ, Bool, true, false, List, [], ◌∷◌, ◌++◌, refl, sym, subst}
 use Rattle.std.specs.Prelude.{if◌then◌else◌}
-use Rattle.std.specs.Str.{bytes_eq}
 use Rattle.std.proofs.lemmas.Bool.{or_cases, or_left, or_right, true≢false}
-use Rattle.std.proofs.lemmas.Slice.Eq.{bytes_eq-Decides}
 use Rattle.xdg_names.specs.Texts.{has_text}
+use Rattle.xdg_names.proofs.Texts.{has_among, among_has}
 use Rattle.xdg_typing.specs.KindFaults.{add_texts, has_one}
 use Rattle.xdg_facts.specs.Membership.{In}
 use Rattle.xdg_types.specs.NameFaults.{with_text}
@@ -12,14 +11,6 @@ use Rattle.xdg_facts.proofs.In.{in_append, in_left, in_right}
 
 abbrev Text : Type 0
 Text = List ℕ
-
-pub has_among : (texts : List Text) (t : Text) → has_text texts t ≡ true → In texts t
-has_among [] t h = absurd (true≢false (sym h))
-has_among (x ∷ xs) t h = elim (or_cases (bytes_eq x t) (has_text xs t) h) [ inl e ↦ inl ((bytes_eq-Decides x t).0 e) | inr k ↦ inr (has_among xs t k) ]
-
-pub among_has : (texts : List Text) (t : Text) → In texts t → has_text texts t ≡ true
-among_has [] t h = absurd h
-among_has (x ∷ xs) t h = elim h [ inl e ↦ or_left (bytes_eq x t) (has_text xs t) ((bytes_eq-Decides x t).1 e) | inr k ↦ or_right (bytes_eq x t) (has_text xs t) (among_has xs t k) ]
 
 of_added : (seen : List Text) (x t : Text) (b : Bool) → In (if b then seen else seen ++ x ∷ []) t → In seen t ⊎ (x ≡ t)
 of_added seen x t true h = inl h

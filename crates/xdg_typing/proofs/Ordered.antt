@@ -9,7 +9,7 @@ use Rattle.xdg_names.proofs.Laws.{falls, follows}
 use Rattle.xdg_names.proofs.Numbered.{from_within}
 use Rattle.xdg_domain.specs.Shapes.{Shape}
 use Rattle.xdg_names.specs.Texts.{place_of}
-use Rattle.xdg_names.proofs.Texts.{place_of-Some, place_of-None, place_of-at, place_of-has_text}
+use Rattle.xdg_names.proofs.Texts.{place_of-Some, place_of-None, place_of-at, place_of-has_text, among_has}
 use Rattle.xdg_types.specs.Written.{tree, uses, named}
 use Rattle.xdg_types.specs.Parts.{TypeTerm, Statement, Definition, definitions, defined_names}
 use Rattle.xdg_types.specs.Graph.{use_at, use_of, uses_in, type_graph}
@@ -17,7 +17,6 @@ use Rattle.xdg_types.specs.Meaning.{Resolves, meaning, IsHead}
 use Rattle.xdg_typing.specs.Heads.{Agrees, NamesFirst, Knows, RightBefore}
 use Rattle.xdg_typing.specs.Answers.{IsRanked}
 use Rattle.xdg_typing.specs.Weights.{Weighs, UsesFirst, WeighedBefore, looked, weight_of, leaf}
-use Rattle.xdg_types.proofs.Distinct.{among_has}
 use Rattle.xdg_types.proofs.Elements.{all_differ}
 use Rattle.xdg_facts.specs.Membership.{In, Differ}
 use Rattle.xdg_facts.proofs.In.{in_get, in_index, in_flat_map, flat_map_in}

@@ -8,7 +8,7 @@ use Rattle.xdg_ast.specs.declared.grammar.DimPartKind.{DimPartKind}
 use Rattle.xdg_ast.specs.declared.grammar.DimPartKind.TheVariants as p
 use Rattle.xdg_domain.specs.declared.types.Ty.{Ty}
 use Rattle.xdg_domain.specs.Shapes.{Shape, domain, tuple, truth, integer, text, set, iset, card, valency, mapping, fields, Fields, no_field, field_then, constants, shape, IsType, AreTypes, names_of}
-use Rattle.xdg_names.proofs.Texts.{place_of-has_text, place_of-Some}
+use Rattle.xdg_names.proofs.Texts.{place_of-has_text, place_of-Some, among_has}
 use Rattle.xdg_types.specs.declared.table.DimType.{DimType}
 use Rattle.xdg_types.specs.Written.{Tree, nothing, listed, recorded, tupled, set_of, iset_of, valency_of, map_of, a_card, a_bool, an_int, a_string, named, Members, no_member, member_then, member_names, tree}
 use Rattle.xdg_types.specs.Parts.{TypeTerm, DimPart, Statement, Dimension, dimensions, dim_names, used_name, used_names, used_places, label_type, attrs_type, entry_type, in_parts}
@@ -19,7 +19,7 @@ use Rattle.xdg_types.specs.Table.{Typed, typed, typed_fields, fields_in, first_m
 use Rattle.xdg_typing.specs.Used.{found, places}
 use Rattle.xdg_typing.specs.Branches.{Naming}
 use Rattle.xdg_typing.specs.Right.{AreRight}
-use Rattle.xdg_types.proofs.Elements.{not_more, among_has, among_or_not, part_at}
+use Rattle.xdg_types.proofs.Elements.{not_more, among_or_not, part_at}
 use Rattle.xdg_types.proofs.Made.{names_in, names_made}
 use Rattle.xdg_typing.proofs.RightTypes.{IsFine, AreFine, as_type, domain_of, attribute_of, constants_differ, kind_of, right_type, right_attributes}
 use Rattle.xdg_typing.proofs.RightText.{Stands, type_stands, site_fine, differ_once, lists_once, uses_right}

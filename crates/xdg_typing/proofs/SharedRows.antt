@@ -10,7 +10,8 @@ use Rattle.xdg_types.specs.Meaning.{meaning, domains_meaning, as_domain}
 use Rattle.xdg_types.specs.Names.{fault_at}
 use Rattle.xdg_types.specs.Kinds.{Site, Split, SharesAt, SharesConstant}
 use Rattle.xdg_typing.specs.KindFaults.{add_texts, has_one, field_faults, shared_in, shared_faults}
-use Rattle.xdg_typing.proofs.KindAmong.{Alike, alike_none, alike_more, has_among, among_has, has_one_in, in_has_one}
+use Rattle.xdg_typing.proofs.KindAmong.{Alike, alike_none, alike_more, has_one_in, in_has_one}
+use Rattle.xdg_names.proofs.Texts.{has_among, among_has}
 use Rattle.xdg_facts.specs.Membership.{In}
 use Rattle.xdg_facts.proofs.In.{in_append, in_left, in_right, in_when, when_in, in_flat_map, flat_map_in}
 use Rattle.xdg_types.specs.NameFaults.{repeated}
