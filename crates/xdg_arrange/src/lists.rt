@@ -3,7 +3,6 @@
 ghost use Rattle.std.specs.Prelude.{◌≡◌, ◌≢◌, ◌≤◌, ◌<◌, ◌^◌, ℕ, List, [], None, Some, length, IfErr, IfOk, MatchResult};
 ghost use Rattle.xdg_arrange.specs.Lists.{HasList, IsBadList, IsRefused, Listed};
 ghost use Rattle.xdg_arrange.specs.Lists as spec;
-ghost use Rattle.xdg_build.specs.Refusals as unknown;
 ghost use Rattle.xdg_inputs.specs.Answers.{meaning_of};
 ghost use Rattle.xdg_inputs.specs.Packed.{IsPackedOf};
 ghost use Rattle.xdg_build.specs.Grammars.{grammar_of};
@@ -15,6 +14,7 @@ ghost use Rattle.xdg_linear.specs.Segments.{words_in};
 use std::alloc::Global;
 use std::str;
 use xdg_base::{Cause, Fault, List, Stop};
+use xdg_build::first_unknown;
 use xdg_inputs::{Expanded, Refusal, no_text, stopped_in, too_long};
 use xdg_io::{ReadStop, Source, read_all};
 use xdg_linear::words_of;
@@ -26,22 +26,6 @@ const LIST_LIMIT: u64 = 65_536;
 
 /// How many words are arranged at most.
 const WORDS: usize = 8;
-
-/// The first word that has no entry.
-fn first_unknown(packed: &Packed, words: &[SentenceWord]) -> Option<Fault>
-    ensures { result ≡ unknown.first_unknown packed.now words.now }
-{
-    for word in words {
-        if packed.of_word(word.text.as_str()).is_empty() {
-            return Some(Fault {
-                cause: Cause::UnknownWord,
-                at: word.at,
-                reached: 0,
-            });
-        }
-    }
-    None
-}
 
 /// Why words are not arranged: there is none, or too many, or one has no entry.
 fn refusal(packed: &Packed, words: &[SentenceWord]) -> Option<Fault>

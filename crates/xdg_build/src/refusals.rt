@@ -11,7 +11,7 @@ use xdg_problem::SentenceWord;
 const WORDS: usize = 128;
 
 /// The first word that has no entry.
-fn first_unknown(packed: &Packed, words: &[SentenceWord]) -> Option<Fault>
+pub fn first_unknown(packed: &Packed, words: &[SentenceWord]) -> Option<Fault>
     ensures { result ≡ first_unknown packed.now words.now }
 {
     for word in words {
