@@ -15,12 +15,12 @@ ghost use Rattle.xdg_problem.specs.Analyses.{IsAnalysis};
 
 use crate::expanding::Expanded;
 use crate::refusals::{Refusal, stopped_in, too_long};
-use std::alloc::{AllocError, Global};
-use xdg_base::{Cause, Fault, List, Stop};
+use std::alloc::Global;
+use xdg_base::{Cause, Fault, Stop};
 use xdg_build::build;
 use xdg_io::{LoadStop, Shelf};
 use xdg_packed::Packed;
-use xdg_problem::{Analysis, Problem, SentenceWord};
+use xdg_problem::{Analysis, Problem, copy_words};
 use xdg_reading::{AnalysisText, fit, read};
 
 /// How many bytes the file of an analysis may have.
@@ -31,20 +31,6 @@ const ANALYSIS_LIMIT: u64 = 4_294_967_295;
 pub struct Judgeable {
     pub problem: Problem,
     pub analysis: Analysis,
-}
-
-/// The same words.
-fn copy_words(alloc: Global, words: &[SentenceWord]) -> Result<List<SentenceWord>, AllocError>
-    ensures { IfOk result (λ made. made ≡ words.now) }
-{
-    let mut made = List::new(alloc);
-    for word in words {
-        made.push(SentenceWord {
-            text: word.text.copy(alloc)?,
-            at: word.at,
-        })?;
-    }
-    Ok(made)
 }
 
 /// What is wrong with an analysis text where its words are refused.

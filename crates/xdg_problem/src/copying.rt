@@ -112,10 +112,7 @@ impl Principle {
 }
 
 /// A copy of words.
-pub(crate) fn copy_words(
-    alloc: Global,
-    words: &[SentenceWord],
-) -> Result<List<SentenceWord>, AllocError>
+pub fn copy_words(alloc: Global, words: &[SentenceWord]) -> Result<List<SentenceWord>, AllocError>
     ensures { IfOk result (λ made. made ≡ words.now) }
 {
     let mut made = List::new(alloc);

@@ -1,7 +1,7 @@
 //! A compiled sentence: its words, what has to be decided, which principles judge the decisions, and the
 //! definitions of an analysis, of a solution, of their order and of the prefixes that a search goes through.
 //!
-//! Everything above this crate knows a grammar text, everything below it a search; both meet here.
+//! What makes a problem knows no search, and what searches or judges one knows no grammar text.
 #![tactic(auto)]
 
 mod analysis;
@@ -28,6 +28,7 @@ mod with_rules;
 
 pub use analysis::{Analysis, Edge, is_before};
 pub use conditions::Condition;
+pub use copying::copy_words;
 pub use costing::cost_of;
 pub use costs::Costs;
 pub use formula::Formula;
