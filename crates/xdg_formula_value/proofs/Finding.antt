@@ -7,7 +7,7 @@ use Rattle.xdg_problem.specs.Claims.{Claim}
 use Rattle.xdg_problem.specs.Places.{nodes}
 use Rattle.xdg_problem.specs.Truths.{bound, AreNodes}
 use Rattle.xdg_rules.specs.Worths.{Makes}
-use Rattle.xdg_rules.proofs.Bound.{bound_nodes}
+use Rattle.xdg_problem.proofs.Bindings.{bound_nodes}
 use Rattle.xdg_formula_value.specs.Lost.{AgreeBut, Finds, HasNode, HasNodes}
 use Rattle.xdg_graph.specs.Every.{IsEvery}
 use Rattle.xdg_formula_value.specs.Rows.{Bounds, IsRowOn, Over}

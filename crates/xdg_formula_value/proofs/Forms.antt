@@ -1,5 +1,5 @@
 -- Rows of nodes at which a box makes a formula true, or false, form by form.
-use Rattle.std.proofs.Common.{◌≡◌, ◌↔◌, ℕ, ◌+◌, ◌<◌, ◌≤◌, Bool, true, List, length, map, take, get_or, sym, subst}
+use Rattle.std.proofs.Common.{◌≡◌, ◌↔◌, ℕ, ◌+◌, ◌<◌, ◌≤◌, Bool, true, List, length, map, take, get_or, subst}
 use Rattle.std.specs.Prelude.{not}
 use Rattle.std.proofs.lemmas.List.{take_all}
 use Rattle.xdg_base.specs.declared.ids.AttrId.{AttrId}
@@ -11,10 +11,9 @@ use Rattle.xdg_problem.specs.declared.parts.Parts.{Parts}
 use Rattle.xdg_problem.specs.Boxes.{attr_decision}
 use Rattle.xdg_problem.specs.Claims.{claims_of, claim}
 use Rattle.xdg_problem.specs.Places.{nodes}
-use Rattle.xdg_problem.specs.Truths.{bound, says, HasTruth, AreNodes}
+use Rattle.xdg_problem.specs.Truths.{bound, says, HasTruth}
 use Rattle.xdg_rules.specs.Rules.{EachEntry}
 use Rattle.xdg_rules.specs.Worths.{Makes, EachValue}
-use Rattle.xdg_rules.proofs.Bound.{bound_nodes}
 use Rattle.xdg_formula_value.specs.Pairs.{Relates, edges_for}
 use Rattle.xdg_formula_value.specs.Rows.{AreFirst, IsRow, IsRowOn, Joined, Over, open_in}
 use Rattle.xdg_formula_value.specs.Several.{MakesSeveral}
@@ -24,10 +23,6 @@ use Rattle.xdg_formula_value.proofs.Formed.{not_makes, and_several, or_several, 
 use Rattle.xdg_formula_value.proofs.Fronts.{several_more, several_none}
 use Rattle.xdg_formula_value.proofs.Rowed.{row_constant, row_done, row_like, row_more, row_on}
 use Rattle.xdg_facts.specs.Rises.{has}
-
--- a binding in which a further name stands for a node binds to nodes
-pub nodes_inside : (parts : Parts) (old new : ℕ → ℕ) (name node : ℕ) → new ≡ bound old name node → AreNodes parts old → node < nodes parts → AreNodes parts new
-nodes_inside parts old new name node is are within = subst (AreNodes parts) (sym is) (bound_nodes parts old name node are within)
 
 module _ (parts : Parts) (box : List (List Bool)) (truth : Bool) (b : ℕ → ℕ) (name : ℕ) (care : List ℕ) where
   -- the nodes for which the name stands so that the box makes the formula so

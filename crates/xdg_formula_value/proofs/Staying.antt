@@ -23,7 +23,7 @@ use Rattle.xdg_problem.specs.Vectors.{shape}
 use Rattle.xdg_problem.proofs.FilterFacts.{filter_alike}
 use Rattle.xdg_rules.specs.Rules.{has, may_edges, must_edges, FailsTest, TakesBy, Takes, IsClosedFor}
 use Rattle.xdg_rules.specs.Worths.{Makes, MakesEach, MakesSome, RuleFalse}
-use Rattle.xdg_rules.proofs.Bound.{bound_nodes}
+use Rattle.xdg_problem.proofs.Bindings.{bound_nodes}
 use Rattle.xdg_rules.proofs.Sizes.{some_value}
 use Rattle.xdg_propcore.specs.Kinds.{kind_of, edge_kind}
 use Rattle.xdg_propcore.specs.Losses.{LosesOutside}

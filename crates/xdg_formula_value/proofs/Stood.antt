@@ -1,10 +1,8 @@
 -- Bindings as tables.
-use Rattle.std.proofs.Common.{◌≡◌, ℕ, ◌<◌, inl, inr, Bool, true, false, cond, List, replicate, refl, sym, ◌∙◌, ap, subst}
+use Rattle.std.proofs.Common.{◌≡◌, ℕ, inl, inr, Bool, true, false, cond, List, replicate, refl, sym, ◌∙◌, ap}
 use Rattle.std.specs.Prelude.{slice_index, ◌==◌}
 use Rattle.std.proofs.lemmas.Bool.{cases_eq, eq-eqb, false_from_ne_true, eqb-true}
-use Rattle.xdg_problem.specs.declared.parts.Parts.{Parts}
-use Rattle.xdg_problem.specs.Places.{nodes}
-use Rattle.xdg_problem.specs.Truths.{bound, unbound, AreNodes}
+use Rattle.xdg_problem.specs.Truths.{bound, unbound}
 use Rattle.xdg_formula_value.specs.Rows.{stands}
 use Rattle.xdg_facts.proofs.Numbers.{zeros}
 
@@ -47,7 +45,3 @@ rebound name node b old new is agree = is ∙ agree node
 
 pub rebound_agrees : (name node : ℕ) (b old new : ℕ → ℕ) → new ≡ bound old name node → AgreeOutside name old b → AgreeOutside name new b
 rebound_agrees name node b old new is agree later = ap (λ a. bound a name later) is ∙ bound_again old name node later ∙ agree later
-
--- where each name stands for the first node, each stands for a node
-pub nodes_unbound : (parts : Parts) (b : ℕ → ℕ) → b ≡ unbound → 0 < nodes parts → AreNodes parts b
-nodes_unbound parts b is some = subst (AreNodes parts) (sym is) (λ name. some)

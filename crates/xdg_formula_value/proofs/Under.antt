@@ -13,7 +13,7 @@ use Rattle.xdg_problem.specs.Problems.{IsProblem}
 use Rattle.xdg_problem.specs.Truths.{bound, unbound}
 use Rattle.xdg_problem.specs.Vectors.{shape}
 use Rattle.xdg_rules.specs.Worths.{Makes, RuleFalse}
-use Rattle.xdg_rules.proofs.Bound.{bound_nodes}
+use Rattle.xdg_problem.proofs.Bindings.{bound_nodes}
 use Rattle.xdg_rules.proofs.ClaimLaws.{name_laws}
 use Rattle.xdg_store.specs.Naming.{Names}
 use Rattle.xdg_store.specs.declared.decision.Decision.{Decision}

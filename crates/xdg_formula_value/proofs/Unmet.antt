@@ -14,7 +14,7 @@ use Rattle.xdg_problem.specs.Vectors.{shape}
 use Rattle.xdg_problem.proofs.PlaceOrder.{is_place}
 use Rattle.xdg_rules.specs.Rules.{has, may_edges, must_edges}
 use Rattle.xdg_rules.specs.Worths.{Makes, MakesEach, MakesSome}
-use Rattle.xdg_rules.proofs.Bound.{bound_nodes}
+use Rattle.xdg_problem.proofs.Bindings.{bound_nodes}
 use Rattle.xdg_rules.proofs.Shrinking.{may_exact, must_exact}
 use Rattle.xdg_store.specs.Decisions.{IsDecision, number_of}
 use Rattle.xdg_store.specs.Naming.{Names}

@@ -1,11 +1,9 @@
 -- Bindings as tables.
-use Rattle.std.proofs.Common.{◌≡◌, ℕ, ◌<◌, inl, inr, Bool, true, false, cond, List, length, replicate, sym, ◌∙◌, ap, subst}
+use Rattle.std.proofs.Common.{◌≡◌, ℕ, ◌<◌, inl, inr, cond, List, length, replicate, sym, ◌∙◌, ap}
 use Rattle.std.specs.Prelude.{slice_index, slice_set, ◌==◌}
 use Rattle.std.proofs.lemmas.Bool.{cases_eq, eq-eqb, false_from_ne_true, eqb-true}
 use Rattle.std.proofs.lemmas.List.{get_or-set_same, get_or-set_other}
-use Rattle.xdg_problem.specs.declared.parts.Parts.{Parts}
-use Rattle.xdg_problem.specs.Places.{nodes}
-use Rattle.xdg_problem.specs.Truths.{bound, unbound, AreNodes}
+use Rattle.xdg_problem.specs.Truths.{bound, unbound}
 use Rattle.xdg_judge.specs.Graphs.{stands}
 use Rattle.xdg_facts.proofs.Numbers.{zeros}
 
@@ -22,16 +20,3 @@ bound_table table name node within = λ i other. bound_at table name node other 
 -- a table of zeros binds no name
 pub unbound_table : (table : List ℕ) (count : ℕ) → table ≡ replicate count 0 → stands table ≡ unbound
 unbound_table table count is = λ i name. (ap (λ t. slice_index t name) is ∙ zeros count name) i
-
--- and each name stands for a node still where one more stands for one
-pub nodes_bound : (parts : Parts) (b : ℕ → ℕ) (name node : ℕ) → AreNodes parts b → node < nodes parts → AreNodes parts (bound b name node)
-nodes_bound parts b name node are within other = bound_within (other == name) where
-  bound_within : (same : Bool) → cond same node (b other) < nodes parts
-  bound_within true = within
-  bound_within false = are other
-
-pub nodes_inside : (parts : Parts) (b c : ℕ → ℕ) (name node : ℕ) → c ≡ bound b name node → AreNodes parts b → node < nodes parts → AreNodes parts c
-nodes_inside parts b c name node is are within = subst (AreNodes parts) (sym is) (nodes_bound parts b name node are within)
-
-pub nodes_unbound : (parts : Parts) (b : ℕ → ℕ) → b ≡ unbound → 0 < nodes parts → AreNodes parts b
-nodes_unbound parts b is some = subst (AreNodes parts) (sym is) (λ name. some)

@@ -4,19 +4,15 @@ use Rattle.std.specs.List.{list_any, position_from}
 use Rattle.std.specs.Str.{bytes_eq}
 use Rattle.std.proofs.Math.Bool.{or-false}
 use Rattle.std.proofs.lemmas.Bool.{cases_Bool, or_cases, or_left, or_right}
-use Rattle.std.proofs.lemmas.Bool.Decides.{same_from_decides, Decides-like}
 use Rattle.std.proofs.lemmas.Iterator.Adapters.{position_from-zero}
 use Rattle.std.proofs.lemmas.List.{map-append}
 use Rattle.std.proofs.lemmas.Slice.Eq.{bytes_eq-Decides}
 use Rattle.xdg_names.specs.Texts.{has_text, place_of, AllDiffer}
-use Rattle.xdg_facts.proofs.Texts.{equal}
+use Rattle.xdg_facts.proofs.Texts.{either_way, equal}
 use Rattle.xdg_facts.specs.Membership.{In}
 use Rattle.xdg_facts.proofs.Truths.{none_or}
 
 -- ---- tests and places
-
-either_way : (a b : List ℕ) → bytes_eq a b ≡ bytes_eq b a
-either_way a b = same_from_decides (bytes_eq a b) (bytes_eq b a) (bytes_eq-Decides a b) (Decides-like (bytes_eq b a) sym sym (bytes_eq-Decides b a))
 
 or_none : (a b : Bool) → a ≡ false → b ≡ false → (a || b) ≡ false
 or_none a b p q = ap (λ c. c || b) p ∙ q

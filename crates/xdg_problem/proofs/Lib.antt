@@ -58,3 +58,4 @@ pub mod Walks
 pub mod Numbered
 pub mod BoxPlaces
 pub mod FormulaFronts
+pub mod Bindings

@@ -21,7 +21,6 @@ pub mod DecidingRules
 pub mod DecidingClosed
 pub mod Greatest
 pub mod RuleLaws
-pub mod Bound
 pub mod NodeValues
 pub mod Narrowing
 pub mod SoundClaims

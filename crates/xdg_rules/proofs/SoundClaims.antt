@@ -17,7 +17,7 @@ use Rattle.xdg_rules.proofs.Whole.{may_on, must_on, entry_has}
 use Rattle.xdg_problem.specs.Claims.{Claim, negation, conjunction, disjunction, every, some, joined, above, left, same, valued, fitting, Claims, none, claim_then, IsOf, EachIsOf}
 use Rattle.xdg_problem.specs.Truths.{bound, IsTrueIn, EachTrueOf, SomeTrueOf, HasTruth, AreNodes}
 use Rattle.xdg_rules.specs.Worths.{Makes, MakesEach, MakesSome}
-use Rattle.xdg_rules.proofs.Bound.{bound_nodes}
+use Rattle.xdg_problem.proofs.Bindings.{bound_nodes}
 use Rattle.xdg_rules.proofs.NodeValues.{attr_remains}
 
 -- an edge among those of a dimension joins its nodes, and where an edge joins nodes it is that edge

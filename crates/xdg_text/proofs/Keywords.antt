@@ -4,14 +4,12 @@ use Rattle.std.specs.List.{list_any, AllByRecursion}
 use Rattle.std.proofs.lemmas.Bool.{false_from_ne_true}
 use Rattle.std.proofs.lemmas.Slice.Eq.{bytes_eq-Decides}
 use Rattle.xdg_facts.proofs.Truths.{or_false}
+use Rattle.xdg_facts.proofs.Texts.{either_way}
 use Rattle.xdg_text.specs.Constants.{is_keyword, keywords}
 
 -- whether one of some words is the text
 abbrev any_is : List ℕ → List (List ℕ) → Bool
 any_is text words = list_any (λ word. bytes_eq word text) words
-
-either_way : (a b : List ℕ) → bytes_eq a b ≡ bytes_eq b a
-either_way a b = grind (arith, bytes_eq-Decides a b, bytes_eq-Decides b a)
 
 other : (text word : List ℕ) → text ≢ word → bytes_eq word text ≡ false
 other text word differ = false_from_ne_true (bytes_eq word text) (λ e. differ (sym ((bytes_eq-Decides word text).0 e)))

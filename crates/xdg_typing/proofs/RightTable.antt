@@ -8,6 +8,7 @@ use Rattle.xdg_ast.specs.declared.grammar.DimPartKind.{DimPartKind}
 use Rattle.xdg_ast.specs.declared.grammar.DimPartKind.TheVariants as p
 use Rattle.xdg_domain.specs.declared.types.Ty.{Ty}
 use Rattle.xdg_domain.specs.Shapes.{Shape, domain, tuple, truth, integer, text, set, iset, card, valency, mapping, fields, Fields, no_field, field_then, constants, shape, IsType, AreTypes, names_of}
+use Rattle.xdg_domain.proofs.Constants.{domain_differs}
 use Rattle.xdg_names.proofs.Texts.{place_of-has_text, place_of-Some, among_has}
 use Rattle.xdg_types.specs.declared.table.DimType.{DimType}
 use Rattle.xdg_types.specs.Written.{Tree, nothing, listed, recorded, tupled, set_of, iset_of, valency_of, map_of, a_card, a_bool, an_int, a_string, named, Members, no_member, member_then, member_names, tree}
@@ -21,7 +22,7 @@ use Rattle.xdg_typing.specs.Branches.{Naming}
 use Rattle.xdg_typing.specs.Right.{AreRight}
 use Rattle.xdg_types.proofs.Elements.{not_more, among_or_not, part_at}
 use Rattle.xdg_types.proofs.Made.{names_in, names_made}
-use Rattle.xdg_typing.proofs.RightTypes.{IsFine, AreFine, as_type, domain_of, attribute_of, constants_differ, kind_of, right_type, right_attributes}
+use Rattle.xdg_typing.proofs.RightTypes.{IsFine, AreFine, as_type, domain_of, attribute_of, kind_of, right_type, right_attributes}
 use Rattle.xdg_typing.proofs.RightText.{Stands, type_stands, site_fine, differ_once, lists_once, uses_right}
 use Rattle.xdg_facts.specs.Membership.{In, Differ}
 use Rattle.xdg_facts.proofs.In.{in_left, in_right, in_flat_map}
@@ -210,7 +211,7 @@ module _ (statements : List Statement) (names : Naming) (right : AreRight statem
         let t = tree w.type.kind in
         let is_right = as_type (meaning names t) (right_type names the_labels w.type.span.start t here (λ site i. fine site (inr i)) (lists_once statements names right w.type stands) (uses_right statements names right w.type stands)) in
         subst (λ u. RightLabels (constants (as_domain u))) (sym w.first) (record {
-          differ = constants_differ (as_domain (meaning names t)) (domain_of (as_domain (meaning names t)) (kind_of names the_labels w.type.span.start t here) is_right);
+          differ = domain_differs (as_domain (meaning names t)) (domain_of (as_domain (meaning names t)) (kind_of names the_labels w.type.span.start t here) is_right);
           few = not_more 32 (length (constants (as_domain (meaning names t)))) (λ h. here _ (inr (inr (inl (record { wanted = refl; many = h; fault = refl })))));
         })
   ]

@@ -8,6 +8,7 @@ use Rattle.xdg_base.specs.declared.faults.Cause.TheVariants as causes
 use Rattle.xdg_base.specs.declared.faults.Fault.{Fault}
 use Rattle.xdg_ast.specs.declared.names.Name.{Name}
 use Rattle.xdg_domain.specs.Shapes.{Shape, domain, tuple, truth, integer, text, set, iset, card, valency, mapping, fields, Shapes, no_shape, shape_then, Fields, no_field, field_then, constants, constants_of, in_a_row, sizes, product, count, IsDomain, AreDomains, IsSmall, IsMapped, names_of, IsType, AreTypes}
+use Rattle.xdg_domain.proofs.Constants.{domain_differs}
 use Rattle.xdg_types.specs.Written.{Tree, nothing, listed, recorded, tupled, set_of, iset_of, valency_of, map_of, a_card, a_bool, an_int, a_string, named, Trees, no_tree, tree_then, Members, no_member, member_then, member_names, uses, uses_in_trees, uses_in_members, lists, lists_in_trees, lists_in_members}
 use Rattle.xdg_types.specs.Meaning.{meaning, domains_meaning, fields_meaning, as_domain}
 use Rattle.xdg_types.specs.Names.{fault_at}
@@ -73,11 +74,6 @@ mapped_of (fields fs) k = absurd (false≢true k)
 mapped_of truth k = absurd (false≢true k)
 mapped_of integer k = absurd (false≢true k)
 mapped_of text k = absurd (false≢true k)
-
--- a domain's constants differ, and what is no domain has none
-pub constants_differ : (s : Shape) → IsDomain s → Differ (constants s)
-constants_differ (domain cs) h = h.1
-constants_differ other h = absurd h
 
 none_in_fields : (fs : Fields) (t : List ℕ) → In (constants (as_domain (fields fs))) t → ⊥
 none_in_fields no_field t h = h
@@ -175,7 +171,7 @@ module _ (names : Naming) where
   apart : (ts : Trees) → NoneShared ts → AreDomains (domains_meaning names ts) → Differ (row ts)
   apart no_tree none domains = tt
   apart (tree_then at t ts) none domains =
-      differ_append (own t) (row ts) (constants_differ (as_domain (meaning names t)) domains.0)
+      differ_append (own t) (row ts) (domain_differs (as_domain (meaning names t)) domains.0)
       (apart ts (λ before there field after c split has earlier. none (tree_then at t before) there field after c (ts, (refl, split)) has (in_right (own t) (row before) c earlier)) domains.1)
       (λ c has later. let w = field_with ts c later in none (tree_then at t w.before) w.at w.field w.after c (ts, (refl, w.parts)) w.has (in_left (own t) (row w.before) c has))
 

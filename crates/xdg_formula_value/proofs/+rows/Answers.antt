@@ -6,7 +6,8 @@ use Rattle.xdg_problem.specs.Places.{nodes}
 use Rattle.xdg_problem.proofs.Claimed.{claim_edge, claim_above, claim_attr}
 use Rattle.xdg_formula_value.specs.Rows.{stands}
 use Rattle.xdg_formula_value.proofs.Formed.{is_of, not_of, and_of, or_of, every_of, any_of}
-use Rattle.xdg_formula_value.proofs.Forms.{nodes_inside, not_row, several_start, several_skip, several_turn, several_end, and_row, or_row, every_row, any_row, edge_row, above_row, left_row, same_row, attr_row, feat_row}
+use Rattle.xdg_formula_value.proofs.Forms.{not_row, several_start, several_skip, several_turn, several_end, and_row, or_row, every_row, any_row, edge_row, above_row, left_row, same_row, attr_row, feat_row}
+use Rattle.xdg_problem.proofs.Bindings.{nodes_inside}
 use Rattle.xdg_formula_value.proofs.Fronts.{part_of}
 use Rattle.xdg_formula_value.proofs.Narrowed.{IsSoOver, narrowed_none, narrowed_told, narrowed_first, narrowed_row}
 use Rattle.xdg_formula_value.proofs.Rowed.{first_later, gathered_more, gathered_start, open_first}

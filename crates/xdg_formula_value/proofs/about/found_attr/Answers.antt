@@ -5,7 +5,7 @@ use Rattle.std.proofs.lemmas.Bool.{false≢true}
 use Rattle.xdg_store.specs.declared.decision.Decision.TheVariants as decisions
 use Rattle.xdg_formula_value.specs.Rows.{stands}
 use Rattle.xdg_formula_value.proofs.Concerning.{attr_else, attr_found}
-use Rattle.xdg_formula_value.proofs.Stood.{nodes_unbound}
+use Rattle.xdg_problem.proofs.Bindings.{nodes_unbound}
 use Rattle.xdg_formula_value.proofs.about.found_attr.Goals as goal
 
 pub found_named-requires-clause-nodes : goal.found_named-requires-clause-nodes

@@ -4,7 +4,7 @@ use Rattle.xdg_store.specs.Decisions.{IsDecision}
 use Rattle.xdg_store.specs.declared.decision.Decision.TheVariants as decisions
 use Rattle.xdg_formula_value.specs.Rows.{stands}
 use Rattle.xdg_formula_value.proofs.Concerning.{entry_else, entry_found}
-use Rattle.xdg_formula_value.proofs.Stood.{nodes_unbound}
+use Rattle.xdg_problem.proofs.Bindings.{nodes_unbound}
 use Rattle.xdg_formula_value.proofs.about.found_entry.Goals as goal
 
 pub found_named-requires-clause-nodes : goal.found_named-requires-clause-nodes

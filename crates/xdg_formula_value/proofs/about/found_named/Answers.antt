@@ -3,7 +3,7 @@ use Rattle.xdg_problem.specs.Claims.{claim}
 use Rattle.xdg_formula_value.specs.Lost.{AgreeBut}
 use Rattle.xdg_formula_value.specs.Rows.{stands}
 use Rattle.xdg_formula_value.proofs.Finding.{agree_rest, finds_weaker}
-use Rattle.xdg_formula_value.proofs.Forms.{nodes_inside}
+use Rattle.xdg_problem.proofs.Bindings.{nodes_inside}
 use Rattle.xdg_formula_value.proofs.about.found_named.Goals as goal
 use Rattle.xdg_facts.specs.Rises.{has}
 

@@ -4,10 +4,9 @@ use Rattle.xdg_problem.specs.Claims.{claim}
 use Rattle.xdg_problem.specs.Places.{nodes}
 use Rattle.xdg_formula_value.specs.Rows.{stands}
 use Rattle.xdg_formula_value.proofs.Finding.{finds_on}
-use Rattle.xdg_formula_value.proofs.Forms.{nodes_inside}
+use Rattle.xdg_problem.proofs.Bindings.{nodes_inside, nodes_unbound}
 use Rattle.xdg_formula_value.proofs.Rowed.{first_later}
 use Rattle.xdg_facts.proofs.Rising.{head_in}
-use Rattle.xdg_formula_value.proofs.Stood.{nodes_unbound}
 use Rattle.xdg_formula_value.proofs.Within.{In, in_any, in_end, in_start, in_turn}
 use Rattle.xdg_formula_value.proofs.along.found_within.Goals as goal
 use Rattle.xdg_facts.specs.Rises.{has}

@@ -4,7 +4,7 @@ use Rattle.xdg_problem.specs.Claims.{claim}
 use Rattle.xdg_problem.specs.Places.{nodes}
 use Rattle.xdg_formula_value.specs.Rows.{stands}
 use Rattle.xdg_formula_value.proofs.Finding.{pairs_none, pairs_start, pairs_here, pairs_found, pairs_turn, pairs_end}
-use Rattle.xdg_formula_value.proofs.Forms.{nodes_inside}
+use Rattle.xdg_problem.proofs.Bindings.{nodes_inside}
 use Rattle.xdg_formula_value.proofs.Rowed.{first_later}
 use Rattle.xdg_facts.proofs.Rising.{head_in}
 use Rattle.xdg_formula_value.proofs.lost.found_two.Goals as goal

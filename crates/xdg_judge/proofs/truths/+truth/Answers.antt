@@ -1,7 +1,7 @@
 use Rattle.std.proofs.Common.{rules, arith}
 use Rattle.xdg_problem.specs.declared.formula.Formula.TheViews.{the_lemmas}
 use Rattle.xdg_judge.specs.Graphs.{stands}
-use Rattle.xdg_judge.proofs.Bindings.{nodes_inside}
+use Rattle.xdg_problem.proofs.Bindings.{nodes_inside}
 use Rattle.xdg_judge.proofs.Formed.{and_turn, or_turn, and_refused, and_end, or_found, or_end, every_turn, any_turn, every_refused, every_end, any_found, any_end}
 use Rattle.xdg_judge.proofs.truths.+truth.Goals as goal
 

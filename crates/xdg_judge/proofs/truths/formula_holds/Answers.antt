@@ -1,5 +1,5 @@
 use Rattle.xdg_judge.specs.Graphs.{stands}
-use Rattle.xdg_judge.proofs.Bindings.{nodes_unbound}
+use Rattle.xdg_problem.proofs.Bindings.{nodes_unbound}
 use Rattle.xdg_judge.proofs.Formed.{holds_unbound}
 use Rattle.xdg_judge.proofs.truths.formula_holds.Goals as goal
 

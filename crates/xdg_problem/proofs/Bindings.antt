@@ -1,9 +1,9 @@
 -- Bindings of names to nodes of the sentence.
-use Rattle.std.proofs.Common.{ℕ, ◌<◌, Bool, true, false, cond}
+use Rattle.std.proofs.Common.{◌≡◌, ℕ, ◌<◌, Bool, true, false, cond, sym, subst}
 use Rattle.std.specs.Prelude.{◌==◌}
 use Rattle.xdg_problem.specs.declared.parts.Parts.{Parts}
 use Rattle.xdg_problem.specs.Places.{nodes}
-use Rattle.xdg_problem.specs.Truths.{bound, AreNodes}
+use Rattle.xdg_problem.specs.Truths.{bound, unbound, AreNodes}
 
 chosen : (n : ℕ) (is : Bool) (node other : ℕ) → node < n → other < n → cond is node other < n
 chosen n true node other l m = l
@@ -12,3 +12,9 @@ chosen n false node other l m = m
 -- where a further name stands for a node of the sentence, each name does
 pub bound_nodes : (parts : Parts) (b : ℕ → ℕ) (name node : ℕ) → AreNodes parts b → node < nodes parts → AreNodes parts (bound b name node)
 bound_nodes parts b name node are within other = chosen (nodes parts) (other == name) node (b other) within (are other)
+
+pub nodes_inside : (parts : Parts) (old new : ℕ → ℕ) (name node : ℕ) → new ≡ bound old name node → AreNodes parts old → node < nodes parts → AreNodes parts new
+nodes_inside parts old new name node is are within = subst (AreNodes parts) (sym is) (bound_nodes parts old name node are within)
+
+pub nodes_unbound : (parts : Parts) (b : ℕ → ℕ) → b ≡ unbound → 0 < nodes parts → AreNodes parts b
+nodes_unbound parts b is some = subst (AreNodes parts) (sym is) (λ name. some)
