@@ -6,7 +6,8 @@ use Rattle.xdg_base.specs.declared.faults.Fault.{Fault}
 use Rattle.xdg_base.specs.declared.faults.Stop.{Stop}
 use Rattle.xdg_base.specs.declared.faults.Stop.TheVariants as stops
 use Rattle.xdg_best.specs.Costed.{HasBadCosts, HasCosts, IsBadCosts, too_long, wrong, costs_limit}
-use Rattle.xdg_best.specs.Texts.{Gives, IsAnswer, IsRefused, Says, Tells}
+use Rattle.xdg_best.specs.Texts.{IsAnswer, IsRefused, Says, Tells}
+use Rattle.xdg_base.specs.Told.{Gives}
 use Rattle.xdg_io.specs.Files.{HasFile}
 use Rattle.xdg_inputs.specs.Refusals.{RejectsAt, Stops, refusal_of}
 use Rattle.xdg_inputs.specs.Stages.{Accepts, Rejects}

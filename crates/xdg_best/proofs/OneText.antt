@@ -19,7 +19,8 @@ use Rattle.xdg_best.specs.Building.{Comes}
 use Rattle.xdg_best.specs.Meaning.{costs_of, Offends, first_fault}
 use Rattle.xdg_best.specs.Reading as reading
 use Rattle.xdg_best.specs.Statements.{Derives}
-use Rattle.xdg_best.specs.Texts.{Reads, no_tokens, no_statements, wrong, IsAnswer, Gives, Tells}
+use Rattle.xdg_best.specs.Texts.{Reads, no_tokens, no_statements, wrong, IsAnswer, Tells}
+use Rattle.xdg_base.specs.Told.{Gives}
 use Rattle.xdg_best.proofs.Firsts.{rises, first_told}
 
 abbrev Answer : Type 0
@@ -49,7 +50,7 @@ module _ (bytes : List ℕ) (table : Table) (entries : ℕ) where
     statements_tell (stops.Fault f) told = no_statements ts spelled (subst (λ n. reading.IsRefused ts n f) is_end told)
     statements_tell stops.OutOfMemory told = tt
 
-    pub statements_only : (stop : Stop) → ((a : Result (List Statement) Fault) → reading.IsAnswer ts end a → reading.Gives a (Err stop)) → (answer : Answer) → IsAnswer bytes table entries answer → Gives answer (Err stop)
+    pub statements_only : (stop : Stop) → ((a : Result (List Statement) Fault) → reading.IsAnswer ts end a → Gives a (Err stop)) → (answer : Answer) → IsAnswer bytes table entries answer → Gives answer (Err stop)
     statements_only stops.OutOfMemory only answer is = tt
     statements_only (stops.Fault g) only (Ok costs) is =
         absurd (let e : ◌≡◌ {A = Result (List Statement) Fault} (Ok is.said) (Err g) = only (Ok is.said) (subst (λ z. Derives z is.said) (same_tokens is.reads.tokens is.reads.spells) is.reads.derives) in cc)

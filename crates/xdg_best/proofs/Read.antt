@@ -19,7 +19,8 @@ use Rattle.xdg_best.specs.declared.statements.Statement.TheVariants as statement
 use Rattle.xdg_best.specs.declared.statements.Turn.{Turn}
 use Rattle.xdg_best.specs.declared.statements.Turn.TheVariants as turns
 use Rattle.xdg_best.specs.Statements.{is_number, is_constant, is_name, is_word, entry_word, edge_word, Says, entry, edge, Derives}
-use Rattle.xdg_best.specs.Reading.{Starts, Ends, IsUnexpectedAt, IsRefused, unexpected, IsAnswer, Tells, Gives}
+use Rattle.xdg_best.specs.Reading.{Starts, Ends, IsUnexpectedAt, IsRefused, unexpected, IsAnswer, Tells}
+use Rattle.xdg_base.specs.Told.{Gives}
 use Rattle.xdg_best.specs.Turns.{turn_of, Outcome, after_turn, after_last, run, Runs}
 use Rattle.xdg_facts.proofs.Truths.{choose}
 

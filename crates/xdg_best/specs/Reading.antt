@@ -3,7 +3,7 @@ use Rattle.std.specs.Prelude.{◌≡◌, ℕ, List, [], ◌∷◌, ◌++◌, Res
 use Rattle.xdg_base.specs.declared.faults.Fault.{Fault}
 use Rattle.xdg_base.specs.declared.faults.Cause.TheVariants as causes
 use Rattle.xdg_base.specs.declared.faults.Stop.{Stop}
-use Rattle.xdg_base.specs.declared.faults.Stop.TheVariants as stops
+use Rattle.xdg_base.specs.Told.{TellsOf}
 use Rattle.xdg_ast.specs.Lexemes.{Lexeme}
 use Rattle.xdg_lex.specs.Pieces.{refusal}
 use Rattle.xdg_ast.specs.Derives.{place_of}
@@ -39,12 +39,4 @@ IsAnswer ts end (Err fault) = IsRefused ts end fault
 
 -- a call answers so, unless memory ran out
 abbrev pub Tells : List Lexeme → ℕ → Result (List Statement) Stop → Type 0
-Tells ts end (Ok ss) = Derives ts ss
-Tells ts end (Err (stops.Fault fault)) = IsRefused ts end fault
-Tells ts end (Err stops.OutOfMemory) = Unit {0}
-
--- a call gives these statements or this fault, or memory ran out
-abbrev pub Gives : Result (List Statement) Fault → Result (List Statement) Stop → Type 0
-Gives answer (Ok ss) = answer ≡ Ok ss
-Gives answer (Err (stops.Fault fault)) = answer ≡ Err fault
-Gives answer (Err stops.OutOfMemory) = Unit {0}
+Tells ts end = TellsOf (IsAnswer ts end)

@@ -2,7 +2,7 @@
 use Rattle.std.specs.Prelude.{◌≡◌, ℕ, List, [], length, Some, None, Result, Ok, Err}
 use Rattle.xdg_base.specs.declared.faults.Fault.{Fault}
 use Rattle.xdg_base.specs.declared.faults.Stop.{Stop}
-use Rattle.xdg_base.specs.declared.faults.Stop.TheVariants as stops
+use Rattle.xdg_base.specs.Told.{TellsOf}
 use Rattle.xdg_names.specs.First as first
 use Rattle.xdg_ast.specs.Lexemes.{Lexeme}
 use Rattle.xdg_lex.specs.Offends as tokens
@@ -39,13 +39,5 @@ abbrev pub IsAnswer : List ℕ → Table → ℕ → Result CostLists Fault → 
 IsAnswer bytes table entries (Ok costs) = Says bytes table entries costs
 IsAnswer bytes table entries (Err fault) = IsRefused bytes table entries fault
 
--- what a call answers is this, where memory isn't wanting
-abbrev pub Gives : Result CostLists Fault → Result CostLists Stop → Type 0
-Gives answer (Ok costs) = answer ≡ Ok costs
-Gives answer (Err (stops.Fault fault)) = answer ≡ Err fault
-Gives answer (Err stops.OutOfMemory) = Unit {0}
-
 abbrev pub Tells : List ℕ → Table → ℕ → Result CostLists Stop → Type 0
-Tells bytes table entries (Ok costs) = Says bytes table entries costs
-Tells bytes table entries (Err (stops.Fault fault)) = IsRefused bytes table entries fault
-Tells bytes table entries (Err stops.OutOfMemory) = Unit {0}
+Tells bytes table entries = TellsOf (IsAnswer bytes table entries)

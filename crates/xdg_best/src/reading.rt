@@ -8,7 +8,8 @@ ghost use Rattle.xdg_ast.specs.Lexemes.{lexemes_of};
 ghost use Rattle.xdg_lex.specs.Pieces.{refusal};
 ghost use Rattle.xdg_best.specs.declared.statements.Open.TheVariants as open_;
 ghost use Rattle.xdg_best.specs.declared.statements.Statement as statements;
-ghost use Rattle.xdg_best.specs.Reading.{Gives, IsAnswer, Tells};
+ghost use Rattle.xdg_best.specs.Reading.{IsAnswer, Tells};
+ghost use Rattle.xdg_base.specs.Told.{Gives};
 ghost use Rattle.xdg_best.specs.Turns.{run, Runs};
 
 use crate::statements::{Open, Statement, Turn, next_turn};

@@ -2,7 +2,8 @@
 
 ghost use Rattle.std.specs.Prelude.{◌<◌, ◌^◌, Result, length};
 ghost use Rattle.xdg_base.specs.declared.faults.Fault as faults;
-ghost use Rattle.xdg_best.specs.Texts.{Gives, IsAnswer, Tells};
+ghost use Rattle.xdg_best.specs.Texts.{IsAnswer, Tells};
+ghost use Rattle.xdg_base.specs.Told.{Gives};
 ghost use Rattle.xdg_problem.specs.Costs.{CostLists};
 
 use crate::building::build;

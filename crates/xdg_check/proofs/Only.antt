@@ -17,11 +17,11 @@ use Rattle.xdg_classes.specs.Wants.{NamedBody}
 use Rattle.xdg_principles.proofs.OneUse.{one_list}
 use Rattle.xdg_check.specs.declared.checked.Class.{Class}
 use Rattle.xdg_check.specs.declared.checked.EntryDef.{EntryDef}
-use Rattle.xdg_check.specs.Answers.{NameOffends, ValueOffends, IsRight, Refuses, IsClassOf, AreClassesOf, IsEntryOf, AreEntriesOf, IsCheckedOf, Tells}
+use Rattle.xdg_check.specs.Answers.{NameOffends, ValueOffends, IsRight, Refuses, IsClassOf, AreClassesOf, IsEntryOf, AreEntriesOf, IsCheckedOf, Tells, IsAnswer}
 use Rattle.xdg_check.specs.Checked.{Parts, named_body, named_bodies}
 use Rattle.xdg_check.specs.Completed.{completed}
 use Rattle.xdg_check.specs.Lex.{LexOffends}
-use Rattle.xdg_check.specs.Only.{placed_body, SameMeaning, IsAnswer, Gives}
+use Rattle.xdg_check.specs.Only.{placed_body, SameMeaning, Gives}
 use Rattle.xdg_ast.specs.Texts.{texts}
 
 -- ---- classes and entries

@@ -2,7 +2,7 @@
 use Rattle.std.specs.Prelude.{◌≡◌, ◌⊎◌, List, [], ◌∷◌, Result, Ok, Err, Some}
 use Rattle.xdg_base.specs.declared.faults.Fault.{Fault}
 use Rattle.xdg_base.specs.declared.faults.Stop.{Stop}
-use Rattle.xdg_base.specs.declared.faults.Stop.TheVariants as stops
+use Rattle.xdg_base.specs.Told.{TellsOf}
 use Rattle.xdg_names.specs.First.{Tells as TellsFault}
 use Rattle.xdg_types.specs.Answers.{None_of}
 use Rattle.xdg_types.specs.Parts.{Statement}
@@ -85,9 +85,12 @@ pub record IsCheckedOf (statements : List Statement) (table : Table) (parts : Pa
   pub uses : AreCounted uses (λ c. c.uses) parts.classes
   pub combos : AreCounted combos (λ c. c.combos) parts.classes
 
+-- the grammar is right and this is its checked form, or it is refused so
+abbrev pub IsAnswer : List Statement → Table → Result Parts Fault → Type 0
+IsAnswer statements table (Ok parts) = IsRight statements table × IsCheckedOf statements table parts
+IsAnswer statements table (Err fault) = Refuses statements table fault
+
 -- A checked grammar: nothing is wrong, and it is that of the grammar. A fault: it is the first. Want of memory tells
 -- nothing.
 abbrev pub Tells : List Statement → Table → Result Parts Stop → Type 0
-Tells statements table (Ok parts) = IsRight statements table × IsCheckedOf statements table parts
-Tells statements table (Err (stops.Fault f)) = Refuses statements table f
-Tells statements table (Err stops.OutOfMemory) = Unit {0}
+Tells statements table = TellsOf (IsAnswer statements table)

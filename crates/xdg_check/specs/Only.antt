@@ -1,13 +1,10 @@
 -- The one answer for a grammar with its table.
-use Rattle.std.specs.Prelude.{◌≡◌, ℕ, List, map, Result, Ok, Err}
+use Rattle.std.specs.Prelude.{◌≡◌, ℕ, map, Result, Ok, Err}
 use Rattle.xdg_base.specs.declared.faults.Fault.{Fault}
 use Rattle.xdg_base.specs.declared.faults.Stop.{Stop}
 use Rattle.xdg_base.specs.declared.faults.Stop.TheVariants as stops
-use Rattle.xdg_types.specs.Parts.{Statement}
-use Rattle.xdg_types.specs.Table.{Table}
 use Rattle.xdg_classes.specs.Bodies.{Body, body}
 use Rattle.xdg_check.specs.declared.checked.EntryDef.{EntryDef}
-use Rattle.xdg_check.specs.Answers.{IsRight, Refuses, IsCheckedOf}
 use Rattle.xdg_check.specs.Checked.{Parts, named_bodies}
 
 -- the body of an entry with the place of its word
@@ -21,11 +18,6 @@ pub record SameMeaning (a b : Parts) : Type 0 where
   pub principles : a.principles ≡ b.principles
   pub classes : named_bodies a.classes ≡ named_bodies b.classes
   pub entries : map placed_body a.entries ≡ map placed_body b.entries
-
--- the grammar is right and this is its checked form, or it is refused so
-abbrev pub IsAnswer : List Statement → Table → Result Parts Fault → Type 0
-IsAnswer statements table (Ok parts) = IsRight statements table × IsCheckedOf statements table parts
-IsAnswer statements table (Err fault) = Refuses statements table fault
 
 -- a call gives what means the same, or this fault, unless memory ran out
 abbrev pub Gives : Result Parts Fault → Result Parts Stop → Type 0

@@ -8,9 +8,9 @@ ghost use Rattle.xdg_names.specs.First.{Tells as TellsFault};
 ghost use Rattle.xdg_types.specs.Answers.{HasTable, None_of};
 ghost use Rattle.xdg_types.specs.Table.{IsTable};
 ghost use Rattle.xdg_packed.specs.Entries.{IsWordPlace};
-ghost use Rattle.xdg_check.specs.Answers.{NameOffends, ValueOffends, IsCheckedOf, Tells};
+ghost use Rattle.xdg_check.specs.Answers.{NameOffends, ValueOffends, IsCheckedOf, Tells, IsAnswer};
 ghost use Rattle.xdg_check.specs.Checked.{Parts};
-ghost use Rattle.xdg_check.specs.Only.{IsAnswer, Gives};
+ghost use Rattle.xdg_check.specs.Only.{Gives};
 ghost use Rattle.xdg_check.specs.Weights.{default_bytes, most_bytes};
 
 use crate::checked::Checked;

@@ -14,7 +14,8 @@ use Rattle.xdg_formula.specs.declared.tree.Rule.{Rule}
 use Rattle.xdg_formula.specs.declared.tree.Rules.{Rules}
 use Rattle.xdg_formula.specs.Derived.{DerivesWithin, IsRefused}
 use Rattle.xdg_formula.specs.Rules.{rules}
-use Rattle.xdg_formula.specs.Texts.{rules_of, TellsSeen, no_tokens, no_rules, IsAnswer, Tells, Gives}
+use Rattle.xdg_formula.specs.Texts.{rules_of, TellsSeen, no_tokens, no_rules, IsAnswer, Tells}
+use Rattle.xdg_base.specs.Told.{Gives}
 use Rattle.xdg_formula.specs.Words.{seen_all}
 use Rattle.xdg_formula.proofs.Lawful.{rules_rule}
 use Rattle.xdg_formula.proofs.Steadied.{rules_steady}

@@ -1,8 +1,9 @@
 -- What a rules text stands for, and with which fault a text is refused.
-use Rattle.std.specs.Prelude.{◌≡◌, ℕ, List, length, Result, Ok, Err}
+use Rattle.std.specs.Prelude.{ℕ, List, length, Result, Ok, Err}
 use Rattle.xdg_base.specs.declared.faults.Fault.{Fault}
 use Rattle.xdg_base.specs.declared.faults.Stop.{Stop}
 use Rattle.xdg_base.specs.declared.faults.Stop.TheVariants as stops
+use Rattle.xdg_base.specs.Told.{TellsOf}
 use Rattle.xdg_ast.specs.Lexemes.{Lexeme}
 use Rattle.xdg_lex.specs.Offends as tokens
 use Rattle.xdg_ast.specs.Tokenizes.{Spells}
@@ -46,12 +47,4 @@ IsAnswer bytes (Err fault) = IsUnreadable bytes fault
 
 -- a call answers so, unless memory ran out
 abbrev pub Tells : List ℕ → Result Rules Stop → Type 0
-Tells bytes (Ok tree) = Reads bytes tree
-Tells bytes (Err (stops.Fault fault)) = IsUnreadable bytes fault
-Tells bytes (Err stops.OutOfMemory) = Unit {0}
-
--- a call gives this tree or this fault, or memory ran out
-abbrev pub Gives : Result Rules Fault → Result Rules Stop → Type 0
-Gives answer (Ok tree) = answer ≡ Ok tree
-Gives answer (Err (stops.Fault fault)) = answer ≡ Err fault
-Gives answer (Err stops.OutOfMemory) = Unit {0}
+Tells bytes = TellsOf (IsAnswer bytes)

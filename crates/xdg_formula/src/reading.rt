@@ -6,7 +6,8 @@ ghost use Rattle.xdg_base.specs.declared.faults.Cause.TheVariants as causes;
 ghost use Rattle.xdg_base.specs.declared.faults.Stop.TheVariants as stops;
 ghost use Rattle.xdg_ast.specs.Lexemes.{lexemes_of};
 ghost use Rattle.xdg_formula.specs.declared.tree.Rules as trees;
-ghost use Rattle.xdg_formula.specs.Texts.{TellsSeen, Tells, IsAnswer, Gives};
+ghost use Rattle.xdg_formula.specs.Texts.{TellsSeen, Tells, IsAnswer};
+ghost use Rattle.xdg_base.specs.Told.{Gives};
 ghost use Rattle.xdg_formula.specs.Words.{seen_all};
 
 use crate::rules::rules;

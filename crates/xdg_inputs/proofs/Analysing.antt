@@ -5,6 +5,7 @@ use Rattle.xdg_base.specs.declared.faults.Cause.TheVariants as causes
 use Rattle.xdg_base.specs.declared.faults.Fault.{Fault}
 use Rattle.xdg_base.specs.declared.faults.Stop.{Stop}
 use Rattle.xdg_base.specs.declared.faults.Stop.TheVariants as stops
+use Rattle.xdg_base.specs.Told.{Gives}
 use Rattle.xdg_build.specs.Compiled.{compiled}
 use Rattle.xdg_build.specs.Refusals.{refusal, IsRefused, fault}
 use Rattle.xdg_build.specs.Solutions.{KeepsSolutions}
@@ -191,20 +192,20 @@ words_unknown g t words (stops.Fault f) e r = word_unknown f (subst (λ w. refus
 words_unknown g t words stops.OutOfMemory e r = no_memory
 
 pub misfits : (g : Grammar) (t : AnalysisText) (words : List SentenceWord) (problem : Parts) (stop : Stop) → words ≡ t.words → problem ≡ compiled g words → refusal g words ≡ None → fitting.Tells problem t (Err stop)
-    → ((answer : Result Analysis Fault) → fitting.IsAnswer problem t answer → fitting.Gives answer (Err stop)) → IsNotJudged g t stop
+    → ((answer : Result Analysis Fault) → fitting.IsAnswer problem t answer → Gives answer (Err stop)) → IsNotJudged g t stop
 misfits g t words problem (stops.Fault f) e k known tells only =
     let same : problem ≡ compiled g t.words = k ∙ ap (compiled g) e in
     not_fit f (subst (λ w. refusal g w ≡ None) e known) (subst (λ p. fitting.IsAnswer p t (Err f)) same tells) (λ answer a. only answer (subst (λ p. fitting.IsAnswer p t answer) (sym same) a))
 misfits g t words problem stops.OutOfMemory e k known tells only = no_memory
 
 module _ (made : Expanded) (lexicon : Lexicon) (packed : IsPackedOf made lexicon) (told : Option (List ℕ → Option (List ℕ))) (files : List ℕ → Option (List ℕ)) (name text : List ℕ) (old new : ℕ) (has : HasFile told name text) (within : length text ≤ analysis_limit) where
-  reading_stops : (stop : Stop) → reading.Tells text (Err stop) → ((answer : Result AnalysisText Fault) → reading.IsAnswer text answer → reading.Gives answer (Err stop))
+  reading_stops : (stop : Stop) → reading.Tells text (Err stop) → ((answer : Result AnalysisText Fault) → reading.IsAnswer text answer → Gives answer (Err stop))
       → Stops (told ≡ Some files) old new Analysed (HasBadAnalysis files name (meaning_of made)) (HasAnalysis files name (meaning_of made)) (refusal_of text stop)
   reading_stops (stops.Fault f) tells only = λ t. record { text = text; rejects = reading_rejected made lexicon packed files name text (told_file told files name text t has) f within tells only; place_is = refl }
   reading_stops stops.OutOfMemory tells only = tt
 
   -- a text that isn't read stops the call
-  pub unread_stops : (read : List ℕ) (stop : Stop) (refusal : Refusal) → read ≡ text → reading.Tells read (Err stop) → ((answer : Result AnalysisText Fault) → reading.IsAnswer read answer → reading.Gives answer (Err stop)) → refusal ≡ refusal_of text stop
+  pub unread_stops : (read : List ℕ) (stop : Stop) (refusal : Refusal) → read ≡ text → reading.Tells read (Err stop) → ((answer : Result AnalysisText Fault) → reading.IsAnswer read answer → Gives answer (Err stop)) → refusal ≡ refusal_of text stop
       → Stops (told ≡ Some files) old new Analysed (HasBadAnalysis files name (meaning_of made)) (HasAnalysis files name (meaning_of made)) refusal
   unread_stops read stop refused e tells only r =
       subst (Stops (told ≡ Some files) old new Analysed (HasBadAnalysis files name (meaning_of made)) (HasAnalysis files name (meaning_of made))) (sym r)
@@ -217,14 +218,14 @@ module _ (made : Expanded) (lexicon : Lexicon) (packed : IsPackedOf made lexicon
   judging_stops t (stops.Fault f) is one (not_fit h known misfit fits) = λ k. record { text = text; rejects = fit_rejected made lexicon packed files name text (told_file told files name text k has) t f within is one known misfit fits; place_is = refl }
 
   -- so does a text that isn't judged
-  pub unjudged_stops : (read : List ℕ) (t : AnalysisText) (stop : Stop) (refusal : Refusal) → read ≡ text → reading.Tells read (Ok t) → ((answer : Result AnalysisText Fault) → reading.IsAnswer read answer → reading.Gives answer (Ok t)) → IsNotJudged (grammar_of made.checked lexicon) t stop → refusal ≡ refusal_of text stop
+  pub unjudged_stops : (read : List ℕ) (t : AnalysisText) (stop : Stop) (refusal : Refusal) → read ≡ text → reading.Tells read (Ok t) → ((answer : Result AnalysisText Fault) → reading.IsAnswer read answer → Gives answer (Ok t)) → IsNotJudged (grammar_of made.checked lexicon) t stop → refusal ≡ refusal_of text stop
       → Stops (told ≡ Some files) old new Analysed (HasBadAnalysis files name (meaning_of made)) (HasAnalysis files name (meaning_of made)) refusal
   unjudged_stops read t stop refused e tells only bad r =
       subst (Stops (told ≡ Some files) old new Analysed (HasBadAnalysis files name (meaning_of made)) (HasAnalysis files name (meaning_of made))) (sym r)
       (judging_stops t stop (subst (λ z. reading.Tells z (Ok t)) e tells) (λ answer a. only answer (subst (λ z. reading.IsAnswer z answer) (sym e) a)) bad)
 
   -- and one that is judged has its analysis
-  pub judged_accepted : (read : List ℕ) (t : AnalysisText) (judgeable : Judgeable) → told ≡ Some files → read ≡ text → reading.Tells read (Ok t) → ((answer : Result AnalysisText Fault) → reading.IsAnswer read answer → reading.Gives answer (Ok t)) → IsJudged (grammar_of made.checked lexicon) t judgeable
+  pub judged_accepted : (read : List ℕ) (t : AnalysisText) (judgeable : Judgeable) → told ≡ Some files → read ≡ text → reading.Tells read (Ok t) → ((answer : Result AnalysisText Fault) → reading.IsAnswer read answer → Gives answer (Ok t)) → IsJudged (grammar_of made.checked lexicon) t judgeable
       → Accepts Analysed (HasBadAnalysis files name (meaning_of made)) (HasAnalysis files name (meaning_of made)) (analysed_of judgeable)
   judged_accepted read t judgeable k e tells only j =
       analysis_accepted made lexicon packed files name text (told_file told files name text k has) t judgeable.problem judgeable.analysis within (subst (λ z. reading.Tells z (Ok t)) e tells)

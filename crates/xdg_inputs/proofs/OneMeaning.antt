@@ -7,7 +7,7 @@ use Rattle.xdg_base.specs.declared.faults.Stop.TheVariants as stops
 use Rattle.xdg_ast.specs.declared.grammar.Grammar.{Grammar}
 use Rattle.xdg_types.specs.Answers as types
 use Rattle.xdg_types.specs.Answers.{HasTable}
-use Rattle.xdg_types.specs.Only as types_only
+use Rattle.xdg_base.specs.Told as told
 use Rattle.xdg_types.specs.Table.{Table}
 use Rattle.xdg_check.specs.Answers as check
 use Rattle.xdg_check.specs.Answers.{IsRight, IsCheckedOf}
@@ -59,7 +59,7 @@ one_fault f g e = cc
 one_table : (s t : Table) → ◌≡◌ {A = Result Table Fault} (Ok s) (Ok t) → s ≡ t
 one_table s t e = cc
 
-pub types_only_tell : (tree : Grammar) (stop : Stop) → ((a : Result Table Fault) → types_only.IsAnswer tree.statements a → types_only.Gives a (Err stop)) → (answer : Result Meaning Fault) → IsAnswer tree answer → Gives answer (Err stop)
+pub types_only_tell : (tree : Grammar) (stop : Stop) → ((a : Result Table Fault) → types.IsAnswer tree.statements a → told.Gives a (Err stop)) → (answer : Result Meaning Fault) → IsAnswer tree answer → Gives answer (Err stop)
 types_only_tell tree stops.OutOfMemory only answer is = tt
 types_only_tell tree (stops.Fault g) only (Ok m) is = absurd (no_table is.checked.types g (only (Ok is.checked.types) is.checks.types))
 types_only_tell tree (stops.Fault g) only (Err f) (of_types refused) = one_fault f g (only (Err f) refused)
@@ -68,7 +68,7 @@ types_only_tell tree (stops.Fault g) only (Err f) (of_lexicon checked are refuse
 
 -- there is one table
 OneTable : Grammar → Table → Type 0
-OneTable tree table = (a : Result Table Fault) → types_only.IsAnswer tree.statements a → a ≡ Ok table
+OneTable tree table = (a : Result Table Fault) → types.IsAnswer tree.statements a → a ≡ Ok table
 
 -- what is checked is checked with that table
 checked_so : (tree : Grammar) (table : Table) (checked : Parts) → OneTable tree table → Checks tree checked → IsRight tree.statements table × IsCheckedOf tree.statements table checked
@@ -85,7 +85,7 @@ untyped : (tree : Grammar) (table : Table) (f : Fault) → OneTable tree table �
 unfolding OneTable
 untyped tree table f one refused = no_fault table f (one (Err f) refused)
 
-check_only_refuses : (tree : Grammar) (table : Table) (stop : Stop) → OneTable tree table → ((a : Result Parts Fault) → check_only.IsAnswer tree.statements table a → check_only.Gives a (Err stop))
+check_only_refuses : (tree : Grammar) (table : Table) (stop : Stop) → OneTable tree table → ((a : Result Parts Fault) → check.IsAnswer tree.statements table a → check_only.Gives a (Err stop))
     → (answer : Result Meaning Fault) → IsAnswer tree answer → Gives answer (Err stop)
 check_only_refuses tree table stops.OutOfMemory one only answer is = tt
 check_only_refuses tree table (stops.Fault g) one only (Ok m) is = absurd (only (Ok is.checked) (checked_so tree table is.checked one is.checks))
@@ -93,8 +93,8 @@ check_only_refuses tree table (stops.Fault g) one only (Err f) (of_types refused
 check_only_refuses tree table (stops.Fault g) one only (Err f) (of_check other has refused) = only (Err f) (refused_so tree table other f one has refused)
 check_only_refuses tree table (stops.Fault g) one only (Err f) (of_lexicon checked are refused) = absurd (only (Ok checked) (checked_so tree table checked one are))
 
-pub check_only_tell : (tree : Grammar) (table : Table) (stop : Stop) → ((a : Result Table Fault) → types_only.IsAnswer tree.statements a → types_only.Gives a (Ok table))
-    → ((a : Result Parts Fault) → check_only.IsAnswer tree.statements table a → check_only.Gives a (Err stop)) → (answer : Result Meaning Fault) → IsAnswer tree answer → Gives answer (Err stop)
+pub check_only_tell : (tree : Grammar) (table : Table) (stop : Stop) → ((a : Result Table Fault) → types.IsAnswer tree.statements a → told.Gives a (Ok table))
+    → ((a : Result Parts Fault) → check.IsAnswer tree.statements table a → check_only.Gives a (Err stop)) → (answer : Result Meaning Fault) → IsAnswer tree answer → Gives answer (Err stop)
 unfolding OneTable
 check_only_tell tree table stop one only = check_only_refuses tree table stop one only
 
@@ -114,11 +114,11 @@ OneMeaning tree checked = (a : Parts) → Checks tree a → SameMeaning a checke
 NotRefused : Grammar → Type 0
 NotRefused tree = ((f : Fault) → types.Refuses tree.statements f → ⊥) × ((table : Table) (f : Fault) → HasTable tree.statements table → check.Refuses tree.statements table f → ⊥)
 
-one_meaning : (tree : Grammar) (table : Table) (checked : Parts) → OneTable tree table → ((a : Result Parts Fault) → check_only.IsAnswer tree.statements table a → check_only.Gives a (Ok checked)) → OneMeaning tree checked
+one_meaning : (tree : Grammar) (table : Table) (checked : Parts) → OneTable tree table → ((a : Result Parts Fault) → check.IsAnswer tree.statements table a → check_only.Gives a (Ok checked)) → OneMeaning tree checked
 unfolding OneMeaning
 one_meaning tree table checked one only a are = only (Ok a) (checked_so tree table a one are)
 
-not_refused : (tree : Grammar) (table : Table) (checked : Parts) → OneTable tree table → ((a : Result Parts Fault) → check_only.IsAnswer tree.statements table a → check_only.Gives a (Ok checked)) → NotRefused tree
+not_refused : (tree : Grammar) (table : Table) (checked : Parts) → OneTable tree table → ((a : Result Parts Fault) → check.IsAnswer tree.statements table a → check_only.Gives a (Ok checked)) → NotRefused tree
 unfolding NotRefused
 not_refused tree table checked one only = (λ f refused. untyped tree table f one refused, λ other f has refused. only (Err f) (refused_so tree table other f one has refused))
 
@@ -147,14 +147,14 @@ lexicon_gives tree checked all one none only (Err f) (of_types refused) = absurd
 lexicon_gives tree checked all one none only (Err f) (of_check table has refused) = absurd (none.1 table f has refused)
 lexicon_gives tree checked all one none only (Err f) (of_lexicon other are refused) = absurd (only (Err f) (subst (λ s. entries.Refuses s f) (same_source other checked (one other are)) refused))
 
-pub expand_only_tell : (tree : Grammar) (table : Table) (checked : Parts) (stop : Stop) → ((a : Result Table Fault) → types_only.IsAnswer tree.statements a → types_only.Gives a (Ok table))
-    → ((a : Result Parts Fault) → check_only.IsAnswer tree.statements table a → check_only.Gives a (Ok checked)) → ((a : Result (List Entry) Fault) → lexicon.IsAnswer (source_of checked) a → lexicon.Gives a (Err stop))
+pub expand_only_tell : (tree : Grammar) (table : Table) (checked : Parts) (stop : Stop) → ((a : Result Table Fault) → types.IsAnswer tree.statements a → told.Gives a (Ok table))
+    → ((a : Result Parts Fault) → check.IsAnswer tree.statements table a → check_only.Gives a (Ok checked)) → ((a : Result (List Entry) Fault) → lexicon.IsAnswer (source_of checked) a → lexicon.Gives a (Err stop))
     → (answer : Result Meaning Fault) → IsAnswer tree answer → Gives answer (Err stop)
 unfolding OneTable
 expand_only_tell tree table checked stop one two only = lexicon_refuses tree checked stop (one_meaning tree table checked one two) (not_refused tree table checked one two) only
 
-pub made_only : (tree : Grammar) (table : Table) (checked : Parts) (all : List Entry) → ((a : Result Table Fault) → types_only.IsAnswer tree.statements a → types_only.Gives a (Ok table))
-    → ((a : Result Parts Fault) → check_only.IsAnswer tree.statements table a → check_only.Gives a (Ok checked)) → ((a : Result (List Entry) Fault) → lexicon.IsAnswer (source_of checked) a → lexicon.Gives a (Ok all))
+pub made_only : (tree : Grammar) (table : Table) (checked : Parts) (all : List Entry) → ((a : Result Table Fault) → types.IsAnswer tree.statements a → told.Gives a (Ok table))
+    → ((a : Result Parts Fault) → check.IsAnswer tree.statements table a → check_only.Gives a (Ok checked)) → ((a : Result (List Entry) Fault) → lexicon.IsAnswer (source_of checked) a → lexicon.Gives a (Ok all))
     → (answer : Result Meaning Fault) → IsAnswer tree answer → Gives answer (Ok (record { checked = checked; entries = all }))
 unfolding OneTable
 made_only tree table checked all one two only = lexicon_gives tree checked all (one_meaning tree table checked one two) (not_refused tree table checked one two) only

@@ -4,6 +4,7 @@ use Rattle.std.specs.Prelude.{Result}
 use Rattle.xdg_base.specs.declared.faults.Fault.{Fault}
 use Rattle.xdg_base.specs.declared.faults.Stop.{Stop}
 use Rattle.xdg_base.specs.declared.faults.Stop.TheVariants as stops
+use Rattle.xdg_base.specs.Told.{Gives}
 use Rattle.xdg_lex.specs.Lexed as tokens
 use Rattle.xdg_lex.specs.Lexed.{Lexed}
 use Rattle.xdg_ast.specs.Lexemes.{Lexeme, lexemes_of}
@@ -34,14 +35,14 @@ pub tree_tells : (text : List ℕ) (read : List Token) (end : ℕ) (result : Res
 tree_tells text read end result same spells told = parsed_tells text (lexemes_of read) result spells (subst (λ n. trees.Tells (lexemes_of read) n result) same told)
 
 -- what parsing gives, where there is one list of tokens
-given : (answer : Result Grammar Fault) (result : Result Grammar Stop) → trees.Gives answer result → ReadsAs answer result
+given : (answer : Result Grammar Fault) (result : Result Grammar Stop) → Gives answer result → ReadsAs answer result
 given answer (Err stops.OutOfMemory) gives = tt
 given (Ok tree) (Ok made) gives = cc
 given (Err f) (Err (stops.Fault g)) gives = cc
 given (Ok tree) (Err (stops.Fault g)) gives = absurd cc
 given (Err f) (Ok made) gives = absurd cc
 
-parsed_only : (text : List ℕ) (ts : List Lexeme) (result : Result Grammar Stop) → ((a : Lexed) → tokens_told.IsAnswer text a → a ≡ Ok ts) → ((a : Result Grammar Fault) → trees.IsAnswer ts (length text) a → trees.Gives a result)
+parsed_only : (text : List ℕ) (ts : List Lexeme) (result : Result Grammar Stop) → ((a : Lexed) → tokens_told.IsAnswer text a → a ≡ Ok ts) → ((a : Result Grammar Fault) → trees.IsAnswer ts (length text) a → Gives a result)
     → (answer : Result Grammar Fault) → IsReadAs text answer → ReadsAs answer result
 parsed_only text ts result spelled only (Ok tree) (us, spells, derives) =
     given (Ok tree) result (only (Ok tree) (subst (λ z. trees.IsAnswer z (length text) (Ok tree)) (same-tokens ts us (spelled (Ok us) spells)) derives))
@@ -50,6 +51,6 @@ parsed_only text ts result spelled only (Err f) (no_grammar us spells refused) =
     given (Err f) result (only (Err f) (subst (λ z. trees.IsAnswer z (length text) (Err f)) (same-tokens ts us (spelled (Ok us) spells)) refused))
 
 pub tree_only : (text : List ℕ) (read : List Token) (end : ℕ) (result : Result Grammar Stop) → end ≡ length text → ((a : Lexed) → tokens_told.IsAnswer text a → tokens.Gives a (Ok read))
-    → ((a : Result Grammar Fault) → trees.IsAnswer (lexemes_of read) end a → trees.Gives a result) → (answer : Result Grammar Fault) → IsReadAs text answer → ReadsAs answer result
+    → ((a : Result Grammar Fault) → trees.IsAnswer (lexemes_of read) end a → Gives a result) → (answer : Result Grammar Fault) → IsReadAs text answer → ReadsAs answer result
 tree_only text read end result same spelled only =
-    parsed_only text (lexemes_of read) result spelled (subst (λ n. (a : Result Grammar Fault) → trees.IsAnswer (lexemes_of read) n a → trees.Gives a result) same only)
+    parsed_only text (lexemes_of read) result spelled (subst (λ n. (a : Result Grammar Fault) → trees.IsAnswer (lexemes_of read) n a → Gives a result) same only)

@@ -5,7 +5,7 @@ use Rattle.xdg_base.specs.declared.faults.Cause.TheVariants as causes
 use Rattle.xdg_base.specs.declared.faults.Fault.{Fault}
 use Rattle.xdg_base.specs.declared.faults.Stop.{Stop}
 use Rattle.xdg_base.specs.declared.faults.Stop.TheVariants as stops
-use Rattle.xdg_formula.specs.Texts.{Gives}
+use Rattle.xdg_base.specs.Told.{Gives}
 use Rattle.xdg_formula.specs.declared.tree.Rules.{Rules}
 use Rattle.xdg_io.specs.Files as told_files
 use Rattle.xdg_inputs.specs.Refusals.{RejectsAt, Stops, refusal_of}

@@ -4,6 +4,7 @@ use Rattle.std.specs.Prelude.{Option, Result}
 use Rattle.xdg_base.specs.declared.faults.Fault.{Fault}
 use Rattle.xdg_base.specs.declared.faults.Stop.{Stop}
 use Rattle.xdg_base.specs.declared.faults.Stop.TheVariants as stops
+use Rattle.xdg_base.specs.Told.{Gives}
 use Rattle.xdg_formula.specs.Answers as checked
 use Rattle.xdg_formula.specs.declared.tree.Rules.{Rules}
 use Rattle.xdg_formula.specs.Texts as texts
@@ -12,7 +13,7 @@ use Rattle.xdg_inputs.specs.RulesTexts.{IsAnswer, IsRefused, Says, Tells, unread
 
 -- what the reader says of its answer
 abbrev pub OnlyRead : List ℕ → Result Rules Stop → Type 0
-OnlyRead text result = (answer : Result Rules Fault) → texts.IsAnswer text answer → texts.Gives answer result
+OnlyRead text result = (answer : Result Rules Fault) → texts.IsAnswer text answer → Gives answer result
 
 -- and the check
 abbrev pub OnlyChecked : Table → Rules → Result (Unit {0}) Stop → Type 0
@@ -29,7 +30,7 @@ module _ (table : Table) (text : List ℕ) where
   refused_unread f g only (unreadable u) = only (Err g) u
   refused_unread f g only (wrong rules reads a) = let e : ◌≡◌ {A = Result Rules Fault} (Ok rules) (Err f) = only (Ok rules) reads in absurd (cc)
 
-  pub unread_only : (stop : Stop) → OnlyRead text (Err stop) → (answer : Result Rules Fault) → IsAnswer table text answer → texts.Gives answer (Err stop)
+  pub unread_only : (stop : Stop) → OnlyRead text (Err stop) → (answer : Result Rules Fault) → IsAnswer table text answer → Gives answer (Err stop)
   unread_only (stops.Fault f) only (Ok rules) says = only (Ok rules) says.reads
   unread_only (stops.Fault f) only (Err g) refused = refused_unread f g only refused
   unread_only stops.OutOfMemory only answer is = tt
@@ -56,7 +57,7 @@ module _ (table : Table) (text : List ℕ) where
     said_wrong : (f : Fault) (other : Rules) → OnlyChecked table rules (Err (stops.Fault f)) → Says table text other → ⊥
     said_wrong f other only says = let e : None ≡ Some f = only None (checked_here other None says.reads says.right) in cc
 
-    pub wrong_only : (stop : Stop) → OnlyChecked table rules (Err stop) → (answer : Result Rules Fault) → IsAnswer table text answer → texts.Gives answer (Err stop)
+    pub wrong_only : (stop : Stop) → OnlyChecked table rules (Err stop) → (answer : Result Rules Fault) → IsAnswer table text answer → Gives answer (Err stop)
     wrong_only (stops.Fault f) only (Ok other) says = absurd (said_wrong f other only says)
     wrong_only (stops.Fault f) only (Err g) refused = refused_wrong f g only refused
     wrong_only stops.OutOfMemory only answer is = tt
@@ -70,6 +71,6 @@ module _ (table : Table) (text : List ℕ) where
     refused_right g right (unreadable u) = one (Err g) u
     refused_right g right (wrong other r a) = absurd (right g (checked_here other (Some g) r a).0)
 
-    pub right_only : checked.IsAnswer table rules.rules None → (answer : Result Rules Fault) → IsAnswer table text answer → texts.Gives answer (Ok rules)
+    pub right_only : checked.IsAnswer table rules.rules None → (answer : Result Rules Fault) → IsAnswer table text answer → Gives answer (Ok rules)
     right_only right (Ok other) says = one (Ok other) says.reads
     right_only right (Err g) refused = refused_right g right refused

@@ -2,7 +2,7 @@
 use Rattle.std.specs.Prelude.{ℕ, List, Result, Ok, Err, Some, None}
 use Rattle.xdg_base.specs.declared.faults.Fault.{Fault}
 use Rattle.xdg_base.specs.declared.faults.Stop.{Stop}
-use Rattle.xdg_base.specs.declared.faults.Stop.TheVariants as stops
+use Rattle.xdg_base.specs.Told.{TellsOf}
 use Rattle.xdg_formula.specs.Answers as checked
 use Rattle.xdg_formula.specs.declared.tree.Rules.{Rules}
 use Rattle.xdg_formula.specs.Texts.{IsUnreadable, Reads}
@@ -25,6 +25,4 @@ IsAnswer table text (Err fault) = IsRefused table text fault
 
 -- a call answers so, unless memory ran out
 abbrev pub Tells : Table → List ℕ → Result Rules Stop → Type 0
-Tells table text (Ok rules) = Says table text rules
-Tells table text (Err (stops.Fault fault)) = IsRefused table text fault
-Tells table text (Err stops.OutOfMemory) = Unit {0}
+Tells table text = TellsOf (IsAnswer table text)

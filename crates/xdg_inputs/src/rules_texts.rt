@@ -3,7 +3,7 @@
 ghost use Rattle.std.specs.Prelude.{◌<◌, ◌^◌, Result, length};
 ghost use Rattle.xdg_base.specs.declared.faults.Fault as faults;
 ghost use Rattle.xdg_formula.specs.declared.tree.Rules as trees;
-ghost use Rattle.xdg_formula.specs.Texts.{Gives};
+ghost use Rattle.xdg_base.specs.Told.{Gives};
 ghost use Rattle.xdg_inputs.specs.RulesTexts.{IsAnswer, Tells};
 
 use std::alloc::Global;

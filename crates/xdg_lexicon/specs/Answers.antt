@@ -3,6 +3,7 @@ use Rattle.std.specs.Prelude.{◌≡◌, List, Result, Ok, Err}
 use Rattle.xdg_base.specs.declared.faults.Fault.{Fault}
 use Rattle.xdg_base.specs.declared.faults.Stop.{Stop}
 use Rattle.xdg_base.specs.declared.faults.Stop.TheVariants as stops
+use Rattle.xdg_base.specs.Told.{TellsOf}
 use Rattle.xdg_packed.specs.Lexicon.{Entry}
 use Rattle.xdg_lexicon.specs.Sources.{Source}
 use Rattle.xdg_lexicon.specs.Lexicon.{IsLexicon, Refuses}
@@ -21,6 +22,4 @@ Gives _ _ = ⊥
 
 -- the lexicon, or the first fault; want of memory tells nothing
 abbrev pub Tells : Source → Result (List Entry) Stop → Type 0
-Tells source (Ok entries) = IsLexicon source entries
-Tells source (Err (stops.Fault f)) = Refuses source f
-Tells source (Err stops.OutOfMemory) = Unit {0}
+Tells source = TellsOf (IsAnswer source)

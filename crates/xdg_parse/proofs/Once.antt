@@ -7,7 +7,8 @@ use Rattle.xdg_base.specs.declared.faults.Stop.TheVariants as stops
 use Rattle.xdg_ast.specs.Lexemes.{Lexeme}
 use Rattle.xdg_ast.specs.declared.grammar.Grammar.{Grammar}
 use Rattle.xdg_ast.specs.Derives.{DerivesWithin, most_brackets, IsRefused, unexpected, too_deep}
-use Rattle.xdg_parse.specs.Outcome.{IsAnswer, Tells, Gives}
+use Rattle.xdg_parse.specs.Outcome.{IsAnswer, Tells}
+use Rattle.xdg_base.specs.Told.{Gives}
 use Rattle.xdg_parse.proofs.Whole.{shallow}
 use Rattle.xdg_parse.proofs.Unique.{read_once, unexpected-once, deep-once, not-both, not-unexpected, not-deep}
 

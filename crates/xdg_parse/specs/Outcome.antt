@@ -1,8 +1,8 @@
 -- What parsing answers.
-use Rattle.std.specs.Prelude.{◌≡◌, ℕ, List, Result, Ok, Err}
+use Rattle.std.specs.Prelude.{ℕ, List, Result, Ok, Err}
 use Rattle.xdg_base.specs.declared.faults.Fault.{Fault}
 use Rattle.xdg_base.specs.declared.faults.Stop.{Stop}
-use Rattle.xdg_base.specs.declared.faults.Stop.TheVariants as stops
+use Rattle.xdg_base.specs.Told.{TellsOf}
 use Rattle.xdg_ast.specs.Lexemes.{Lexeme}
 use Rattle.xdg_ast.specs.declared.grammar.Grammar.{Grammar}
 use Rattle.xdg_ast.specs.Derives.{DerivesWithin, most_brackets, IsRefused}
@@ -14,12 +14,4 @@ IsAnswer ts end (Err fault) = IsRefused ts end fault
 
 -- a call answers so, unless memory ran out
 abbrev pub Tells : List Lexeme → ℕ → Result Grammar Stop → Type 0
-Tells ts end (Ok g) = DerivesWithin most_brackets ts g
-Tells ts end (Err (stops.Fault fault)) = IsRefused ts end fault
-Tells ts end (Err stops.OutOfMemory) = Unit {0}
-
--- a call gives this grammar or this fault, or memory ran out
-abbrev pub Gives : Result Grammar Fault → Result Grammar Stop → Type 0
-Gives answer (Ok g) = answer ≡ Ok g
-Gives answer (Err (stops.Fault fault)) = answer ≡ Err fault
-Gives answer (Err stops.OutOfMemory) = Unit {0}
+Tells ts end = TellsOf (IsAnswer ts end)

@@ -6,7 +6,8 @@ ghost use Rattle.xdg_base.specs.declared.faults.Cause.TheVariants as causes;
 ghost use Rattle.xdg_base.specs.declared.faults.Stop.TheVariants as stops;
 ghost use Rattle.xdg_ast.specs.Lexemes.{lexemes_of};
 ghost use Rattle.xdg_ast.specs.declared.grammar.Grammar as trees;
-ghost use Rattle.xdg_parse.specs.Outcome.{IsAnswer, Tells, Gives};
+ghost use Rattle.xdg_parse.specs.Outcome.{IsAnswer, Tells};
+ghost use Rattle.xdg_base.specs.Told.{Gives};
 
 use crate::cursor::{Cursor, Why};
 use crate::statements::statements;

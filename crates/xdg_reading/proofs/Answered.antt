@@ -17,7 +17,8 @@ use Rattle.xdg_reading.specs.declared.texts.AnalysisText.{AnalysisText}
 use Rattle.xdg_reading.specs.declared.texts.EdgeLine.{EdgeLine}
 use Rattle.xdg_reading.specs.Texts.{refusal}
 use Rattle.xdg_reading.specs.Fitted.{words_fault, said_values, said_edges, unless, then, fitted}
-use Rattle.xdg_reading.specs.Fits.{SayValues, SayEdges, Shows, behind_attrs, Offends, word, attr, edge, IsAnswer, Tells, Gives}
+use Rattle.xdg_reading.specs.Fits.{SayValues, SayEdges, Shows, behind_attrs, Offends, word, attr, edge, IsAnswer, Tells}
+use Rattle.xdg_base.specs.Told.{Gives}
 use Rattle.xdg_reading.specs.Slots.{slots}
 use Rattle.xdg_reading.proofs.Attributes.{are_attrs, all_differ, fit_sizes, count_sizes}
 use Rattle.xdg_reading.proofs.EdgeLaws.{EdgesTold, edges_told, edges_said, edge_refused}

@@ -19,7 +19,8 @@ use Rattle.xdg_reading.specs.declared.texts.EdgeLine.{EdgeLine}
 use Rattle.xdg_reading.specs.Gathered.{Whole}
 use Rattle.xdg_reading.specs.Lines.{line_text, text_of, IsLine, line_at}
 use Rattle.xdg_reading.specs.Stages.{next, Goes, OffendsAt}
-use Rattle.xdg_reading.specs.Texts.{word_lines, lines_of, lines2_of, Placed, HasLines, IsText, IsRefused, no_text, no_analysis, IsAnswer, Tells, Gives, refusal}
+use Rattle.xdg_reading.specs.Texts.{word_lines, lines_of, lines2_of, Placed, HasLines, IsText, IsRefused, no_text, no_analysis, IsAnswer, Tells, refusal}
+use Rattle.xdg_base.specs.Told.{Gives}
 use Rattle.xdg_reading.proofs.LineLaws.{line_read}
 use Rattle.xdg_reading.proofs.Shapes.{whole_text, words_in, entries_in, attrs_in, edges_in, edge_lines, attr_lines}
 use Rattle.xdg_reading.proofs.Steps.{pair}

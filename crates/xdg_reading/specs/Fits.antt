@@ -3,8 +3,8 @@ use Rattle.std.specs.Prelude.{◌≡◌, ◌<◌, ℕ, Option, Some, None, Resul
 use Rattle.xdg_base.specs.declared.faults.Fault.{Fault}
 use Rattle.xdg_base.specs.declared.faults.Cause.TheVariants as causes
 use Rattle.xdg_base.specs.declared.faults.Stop.{Stop}
-use Rattle.xdg_base.specs.declared.faults.Stop.TheVariants as stops
 use Rattle.xdg_base.specs.declared.ids.EntryNo.{EntryNo}
+use Rattle.xdg_base.specs.Told.{TellsOf}
 use Rattle.xdg_problem.specs.declared.analysis.Analysis.{Analysis}
 use Rattle.xdg_problem.specs.declared.analysis.Edge.{Edge}
 use Rattle.xdg_problem.specs.declared.parts.DimPlan.{DimPlan}
@@ -109,12 +109,4 @@ IsAnswer parts t (Err fault) = (at : ℕ) × (fault ≡ refusal causes.NotAnalys
 
 -- a call answers so, unless memory ran out
 abbrev pub Tells : Parts → AnalysisText → Result Analysis Stop → Type 0
-Tells parts t (Ok a) = IsAnswer parts t (Ok a)
-Tells parts t (Err (stops.Fault fault)) = IsAnswer parts t (Err fault)
-Tells parts t (Err stops.OutOfMemory) = Unit {0}
-
--- a call gives this answer, unless memory ran out
-abbrev pub Gives : Result Analysis Fault → Result Analysis Stop → Type 0
-Gives answer (Ok a) = answer ≡ Ok a
-Gives answer (Err (stops.Fault fault)) = answer ≡ Err fault
-Gives answer (Err stops.OutOfMemory) = Unit {0}
+Tells parts t = TellsOf (IsAnswer parts t)

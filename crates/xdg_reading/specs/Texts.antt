@@ -5,8 +5,8 @@ use Rattle.xdg_base.specs.declared.faults.Fault.{Fault}
 use Rattle.xdg_base.specs.declared.faults.Cause.TheVariants as causes
 use Rattle.xdg_base.specs.declared.faults.Cause.{Cause}
 use Rattle.xdg_base.specs.declared.faults.Stop.{Stop}
-use Rattle.xdg_base.specs.declared.faults.Stop.TheVariants as stops
 use Rattle.xdg_base.specs.declared.ids.EntryNo.{EntryNo}
+use Rattle.xdg_base.specs.Told.{TellsOf}
 use Rattle.xdg_problem.specs.declared.parts.SentenceWord.{SentenceWord}
 use Rattle.xdg_reading.specs.declared.line.Line.{Line}
 use Rattle.xdg_reading.specs.declared.line.Line.TheVariants as lines
@@ -64,12 +64,4 @@ IsAnswer bytes (Err fault) = IsRefused bytes fault
 
 -- a call answers so, unless memory ran out
 abbrev pub Tells : List ℕ → Result AnalysisText Stop → Type 0
-Tells bytes (Ok t) = IsAnswer bytes (Ok t)
-Tells bytes (Err (stops.Fault fault)) = IsAnswer bytes (Err fault)
-Tells bytes (Err stops.OutOfMemory) = Unit {0}
-
--- a call gives this answer, unless memory ran out
-abbrev pub Gives : Result AnalysisText Fault → Result AnalysisText Stop → Type 0
-Gives answer (Ok t) = answer ≡ Ok t
-Gives answer (Err (stops.Fault fault)) = answer ≡ Err fault
-Gives answer (Err stops.OutOfMemory) = Unit {0}
+Tells bytes = TellsOf (IsAnswer bytes)

@@ -1,6 +1,7 @@
 //! The analysis that a text shows.
 
 ghost use Rattle.std.specs.Prelude.{◌≡◌, ◌<◌, length, map, Result};
+ghost use Rattle.xdg_base.specs.Told as told;
 ghost use Rattle.xdg_base.specs.declared.faults.Fault as faults;
 ghost use Rattle.xdg_base.specs.declared.faults.Stop.TheVariants as stops;
 ghost use Rattle.xdg_base.specs.declared.faults.Cause.TheVariants as causes;
@@ -85,7 +86,7 @@ pub fn fit(alloc: Global, problem: &Problem, text: &AnalysisText) -> Result<Anal
     requires words { map (λ word. word.text) text.now.words ≡ map (λ word. word.text) problem.now.words }
     requires entries { length text.now.entries ≡ length text.now.words }
     ensures tells { Tells problem.now text.now result }
-    ensures only { (answer : Result analyses.Analysis faults.Fault) → IsAnswer problem.now text.now answer → answers.Gives answer result }
+    ensures only { (answer : Result analyses.Analysis faults.Fault) → IsAnswer problem.now text.now answer → told.Gives answer result }
 {
     match fitted(alloc, problem.parts(), text) {
         Ok(analysis) => Ok(analysis),

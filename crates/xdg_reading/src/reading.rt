@@ -4,7 +4,8 @@ ghost use Rattle.std.specs.Prelude.{◌≡◌, [], ◌<◌, ◌+◌, ◌^◌, le
 ghost use Rattle.xdg_base.specs.declared.faults.Fault as faults;
 ghost use Rattle.xdg_reading.specs.declared.texts.AnalysisText as trees;
 ghost use Rattle.xdg_reading.specs.Gathered.{Adds, Answers};
-ghost use Rattle.xdg_reading.specs.Texts.{Tells, IsAnswer, Gives, refusal};
+ghost use Rattle.xdg_reading.specs.Texts.{Tells, IsAnswer, refusal};
+ghost use Rattle.xdg_base.specs.Told.{Gives};
 ghost use Rattle.xdg_base.specs.declared.faults.Stop.TheVariants as stops;
 
 use crate::cursor::{Cursor, Why};

@@ -2,7 +2,7 @@
 use Rattle.std.specs.Prelude.{◌≡◌, ◌⊎◌, ℕ, List, Result, Ok, Err, Some}
 use Rattle.xdg_base.specs.declared.faults.Fault.{Fault}
 use Rattle.xdg_base.specs.declared.faults.Stop.{Stop}
-use Rattle.xdg_base.specs.declared.faults.Stop.TheVariants as stops
+use Rattle.xdg_base.specs.Told.{TellsOf}
 use Rattle.xdg_names.specs.Closing.{IsClosing}
 use Rattle.xdg_domain.specs.Shapes.{Shape}
 use Rattle.xdg_names.specs.First.{Tells as TellsFault}
@@ -46,7 +46,10 @@ Refuses statements f =
     TellsFault (NameOffends statements) (Some f)
     ⊎ ((None_of (NameOffends statements) × TellsFault (CycleOffends statements) (Some f)) ⊎ HasWrongKind statements f)
 
+-- the grammar has this table, or is refused so
+abbrev pub IsAnswer : List Statement → Result Table Fault → Type 0
+IsAnswer statements (Ok table) = HasTable statements table
+IsAnswer statements (Err fault) = Refuses statements fault
+
 abbrev pub Tells : List Statement → Result Table Stop → Type 0
-Tells statements (Ok table) = HasTable statements table
-Tells statements (Err (stops.Fault f)) = Refuses statements f
-Tells statements (Err stops.OutOfMemory) = Unit {0}
+Tells statements = TellsOf (IsAnswer statements)

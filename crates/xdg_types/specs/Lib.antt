@@ -4,7 +4,6 @@ pub mod Kinds
 pub mod Meaning
 pub mod NameFaults
 pub mod Names
-pub mod Only
 pub mod Parts
 pub mod Table
 pub mod Written

@@ -18,7 +18,8 @@ use Rattle.xdg_types.specs.Names.{NameOffends}
 use Rattle.xdg_types.specs.Kinds.{KindOffends}
 use Rattle.xdg_types.specs.Table.{Table, IsDim, AreDims, AreUsed, IsTableOf}
 use Rattle.xdg_types.specs.Answers.{CycleOffends, HasTable, Refuses, Tells}
-use Rattle.xdg_types.specs.Only.{IsAnswer, Gives}
+use Rattle.xdg_types.specs.Answers.{IsAnswer}
+use Rattle.xdg_base.specs.Told.{Gives}
 use Rattle.xdg_types.proofs.Made.{names_in}
 use Rattle.xdg_types.proofs.NamesAgain.{no_repeat}
 use Rattle.xdg_typing.proofs.OneShape.{one_typed}
