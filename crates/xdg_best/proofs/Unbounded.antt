@@ -3,6 +3,7 @@ use Rattle.std.proofs.Common.{ℕ, inl, inr, Bool, true, false, List, ◌++◌}
 use Rattle.std.specs.Prelude.{not}
 use Rattle.std.proofs.lemmas.List.Elements.{All-weaker}
 use Rattle.xdg_problem.specs.declared.parts.Group.{Group}
+use Rattle.xdg_problem.specs.declared.parts.Linking.{Linking}
 use Rattle.xdg_problem.specs.declared.parts.Parts.{Parts}
 use Rattle.xdg_problem.specs.declared.parts.Principle.{Principle}
 use Rattle.xdg_problem.specs.declared.parts.Principle.TheVariants as principles
@@ -14,6 +15,7 @@ use Rattle.xdg_rules.specs.Boxed.{Boxed}
 use Rattle.xdg_rules.specs.Bounds.{BoundPlace}
 use Rattle.xdg_rules.specs.Worths.{Makes, MakesEach, MakesSome}
 use Rattle.xdg_problem.specs.Truths.{unbound}
+use Rattle.xdg_problem.specs.Principles.{linking_of, way_in}
 use Rattle.xdg_rules.specs.Rules.{TestDecided, FailsTest, ValencyEntry, ValencyFull, ValencyNeeded, OneMother, RootFound, OnlyMother, NoCycle, OneLabel, AgrValues, AgreementValues, GovernmentValues, DaughterOrder, AboutHead, OfHead, ProjectivityReach, ClimbingReach, BarriersReach, LinkingReach, LinkingNotDaughter, TakesForRoot, TakesBy, Takes, IsClosedFor, IsClosed}
 use Rattle.xdg_facts.proofs.Lists.{all_before}
 
@@ -77,8 +79,8 @@ module _ (parts : Parts) (uses : List Group) where
   barriers_reach : (group : Group) (box : List (List Bool)) (d v : ℕ) → BarriersReach parts group box d v → BarriersReach (with_uses parts uses) group box d v
   barriers_reach group box d v r = record { place = r.place; is = r.is; says = r.says; barrier = r.barrier; above = r.above; blocks = r.blocks; apart = r.apart }
 
-  linking_reach : (group : Group) (box : List (List Bool)) (d v : ℕ) → LinkingReach parts group box d v → LinkingReach (with_uses parts uses) group box d v
-  linking_reach group box d v r = record { place = r.place; is = r.is; says = r.says; links = r.links; apart = r.apart }
+  linking_reach : (way : Linking) (group : Group) (box : List (List Bool)) (d v : ℕ) → LinkingReach parts group box way d v → LinkingReach (with_uses parts uses) group box way d v
+  linking_reach way group box d v r = record { place = r.place; is = r.is; says = r.says; links = r.links; apart = r.apart }
 
   linking_not_daughter : (group : Group) (box : List (List Bool)) (d v : ℕ) → LinkingNotDaughter parts group box d v → LinkingNotDaughter (with_uses parts uses) group box d v
   linking_not_daughter group box d v r = record { place = r.place; is = r.is; other = r.other; other_is = r.other_is; mother = r.mother; daughter = r.daughter; keeps = r.keeps; one = r.one }
@@ -141,18 +143,13 @@ module _ (parts : Parts) (uses : List Group) where
   takes_by principles.Government group box d v r = government_values group box d v r
   takes_by principles.Climbing group box d v r = climbing_reach group box d v r
   takes_by principles.Barriers group box d v r = barriers_reach group box d v r
-  takes_by principles.LinkingEnd group box d v r = linking_reach group box d v r
-  takes_by principles.LinkingDaughter group box d v r = linking_reach group box d v r
-  takes_by principles.LinkingMother group box d v r = linking_reach group box d v r
-  takes_by principles.LinkingBelowStart group box d v r = linking_reach group box d v r
-  takes_by principles.LinkingAboveStart group box d v r = linking_reach group box d v r
-  takes_by principles.LinkingSisters group box d v r = linking_reach group box d v r
   takes_by principles.LinkingNotDaughter group box d v r = linking_not_daughter group box d v r
   takes_by principles.Graph group box d v r = r
   takes_by principles.Entries group box d v r = r
   takes_by (principles.Rule formula) group box d v r = makes box (claim formula) false unbound r
   takes_by (principles.Bound costs bound) group box d v (inl r) = inl r
   takes_by (principles.Bound costs bound) group box d v (inr r) = inr (bound_place costs bound box d v r)
+  takes_by principle group box d v r = linking_reach (way_in (linking_of principle)) group box d v r
 
   takes : (group : Group) (box : List (List Bool)) (d v : ℕ) → Takes parts group box d v → Takes (with_uses parts uses) group box d v
   takes group box d v (inl r) = inl (fails_test group box r)

@@ -8,8 +8,8 @@ use Rattle.xdg_problem.specs.declared.conditions.Condition.{Condition}
 use Rattle.xdg_problem.specs.declared.conditions.Condition.TheVariants as conditions
 use Rattle.xdg_problem.specs.declared.parts.Group.{Group}
 use Rattle.xdg_problem.specs.declared.parts.Parts.{Parts}
+use Rattle.xdg_problem.specs.declared.parts.Linking.TheVariants as linkings
 use Rattle.xdg_problem.specs.declared.parts.Principle.{Principle}
-use Rattle.xdg_problem.specs.declared.parts.Principle.TheVariants as principles
 use Rattle.xdg_problem.specs.Arguments.{first_dim, second_dim, label_count, order_of, truth_of, attr_of, attr_place}
 use Rattle.xdg_problem.specs.Asking.{IsBetween, IsInItem, IsLinked, AsksLink, Asks}
 use Rattle.xdg_problem.specs.Conditions.{AreBelow}
@@ -320,13 +320,13 @@ module _ (edges : List Edge) (P : Edge → Type 0) (row : List ℕ) (same : (f :
     λ p. (p.0, p.2, (same f is).1 p.1),
   ))
 
-  pub end_linked : (u v : ℕ) → Any (λ f. (f.daughter.0 ≡ v) × P f) edges ↔ IsLinked principles.LinkingEnd edges u row v
+  pub end_linked : (u v : ℕ) → Any (λ f. (f.daughter.0 ≡ v) × P f) edges ↔ IsLinked linkings.End edges u row v
   end_linked u v = any_same (λ f. (f.daughter.0 ≡ v) × P f) (λ f. Contains row f.label.0 × (f.daughter.0 ≡ v)) edges (λ f is. (
     λ p. ((same f is).0 p.1, p.0),
     λ p. (p.1, (same f is).1 p.0),
   ))
 
-  pub sisters_linked : (u v : ℕ) → Any (λ h. (h.daughter.0 ≡ u) × Any (λ f. (f.mother.0 ≡ h.mother.0) × (f.daughter.0 ≡ v) × P f) edges) edges ↔ IsLinked principles.LinkingSisters edges u row v
+  pub sisters_linked : (u v : ℕ) → Any (λ h. (h.daughter.0 ≡ u) × Any (λ f. (f.mother.0 ≡ h.mother.0) × (f.daughter.0 ≡ v) × P f) edges) edges ↔ IsLinked linkings.Sisters edges u row v
   sisters_linked u v = any_same (λ h. (h.daughter.0 ≡ u) × Any (λ f. (f.mother.0 ≡ h.mother.0) × (f.daughter.0 ≡ v) × P f) edges) (λ h. (h.daughter.0 ≡ u) × IsDaughterByAny edges h.mother.0 row v) edges (λ h is. (
     λ p. (p.0, (by_daughter h.mother.0 v).0 p.1),
     λ p. (p.0, (by_daughter h.mother.0 v).1 p.1),

@@ -3,6 +3,7 @@ use Rattle.std.proofs.Common.{◌≡◌, inl, inr, ℕ, ◌+◌, ◌<◌, List, 
 use Rattle.std.specs.Prelude.{None, Some, bytes_eq, if◌then◌else◌, length, flat_map}
 use Rattle.std.proofs.lemmas.Bool.{cases_Bool}
 use Rattle.std.proofs.lemmas.Slice.Eq.{bytes_eq-Decides}
+use Rattle.xdg_problem.specs.declared.parts.Linking.TheVariants as linkings
 use Rattle.xdg_problem.specs.declared.parts.Principle.{Principle}
 use Rattle.xdg_problem.specs.declared.parts.Principle.TheVariants as principles
 use Rattle.xdg_problem.specs.Names.{IsOfTexts}
@@ -93,8 +94,9 @@ in_table : List Principle
 in_table =
     principles.Graph ∷ principles.Entries ∷ principles.Tree ∷ principles.Projectivity ∷ principles.Dag ∷ principles.Valency ∷ principles.Order
     ∷ principles.Agr ∷ principles.Agreement ∷ principles.Government ∷ principles.Climbing ∷ principles.Barriers
-    ∷ principles.LinkingEnd ∷ principles.LinkingDaughter ∷ principles.LinkingMother ∷ principles.LinkingBelowStart ∷ principles.LinkingAboveStart
-    ∷ principles.LinkingSisters ∷ principles.LinkingNotDaughter ∷ []
+    ∷ principles.LinkingEnd ∷ principles.LinkingDaughter ∷ principles.LinkingMother
+    ∷ principles.LinkingBelowStart ∷ principles.LinkingAboveStart ∷ principles.LinkingSisters
+    ∷ principles.LinkingNotDaughter ∷ []
 
 -- the rows have the names of these principles
 abbrev Matches : List Principle → List Row → Type 0

@@ -14,12 +14,14 @@ use Rattle.xdg_problem.specs.declared.analysis.Edge.{Edge}
 use Rattle.xdg_problem.specs.declared.conditions.Condition.{Condition}
 use Rattle.xdg_problem.specs.declared.conditions.Condition.TheVariants as conditions
 use Rattle.xdg_problem.specs.declared.parts.Group.{Group}
+use Rattle.xdg_problem.specs.declared.parts.Linking.{Linking}
+use Rattle.xdg_problem.specs.declared.parts.Linking.TheVariants as linkings
 use Rattle.xdg_problem.specs.declared.parts.Principle.{Principle}
 use Rattle.xdg_problem.specs.declared.parts.Principle.TheVariants as principles
 use Rattle.xdg_problem.specs.declared.parts.SentenceWord.{SentenceWord}
 use Rattle.xdg_problem.specs.Analyses.{IsAnalysis}
 use Rattle.xdg_problem.specs.Arguments.{label_count, first_dim, second_dim, attr_of, attr_place, order_of, truth_of}
-use Rattle.xdg_problem.specs.Asking.{IsInItem, AsksLink, IsLinked}
+use Rattle.xdg_problem.specs.Asking.{IsInItem, IsLinked, AsksLink}
 use Rattle.xdg_problem.specs.Features.{row, set_row, map_row}
 use Rattle.xdg_problem.specs.Names.{IsOfTexts}
 use Rattle.xdg_problem.specs.Paths.{edges_on, IsDaughter, IsDaughterBy}
@@ -618,11 +620,11 @@ module _ (g : Grammar) (words : List SentenceWord) (a : Analysis) (u : Principle
   -- ---- linking
 
   -- the principles that take a map, by what they ask of an edge on D1
-  by_map : (q : Principle) (named : name_of q ≡ u.principle) → form_of q ≡ linking labels_to_labels → feature_dim q ≡ 2 → (P : Edge → Type 0)
-      → ((f : Edge) (row : List ℕ) → ((k : Edge) → Contains F2 k → IsLink g words a u f k ↔ Contains row k.label.0) → P f ↔ IsLinked q F2 f.mother.0 row f.daughter.0)
-      → ((c x l v : ℕ) → AsksLink q G c F2 x l v ↔ (0 < length (map_row G x c l) → IsLinked q F2 x (map_row G x c l) v))
+  by_map : (q : Principle) (way : Linking) (named : name_of q ≡ u.principle) → form_of q ≡ linking labels_to_labels → feature_dim q ≡ 2 → (P : Edge → Type 0)
+      → ((f : Edge) (row : List ℕ) → ((k : Edge) → Contains F2 k → IsLink g words a u f k ↔ Contains row k.label.0) → P f ↔ IsLinked way F2 f.mother.0 row f.daughter.0)
+      → ((c x l v : ℕ) → AsksLink q G c F2 x l v ↔ (0 < length (map_row G x c l) → IsLinked way F2 x (map_row G x c l) v))
       → Linked g words a u P ↔ C conditions.Link
-  by_map q named form third P linked asks =
+  by_map q way named form third P linked asks =
       let d = D1 g words a u in
       let dims : length u.dims ≡ 3 = dims_are g words a u h q named ∙ ap (λ (f : Form). length (dims_in f.dims)) form in
       let two : 1 < length u.dims = omega (arith, dims) in
@@ -651,34 +653,34 @@ module _ (g : Grammar) (words : List SentenceWord) (a : Analysis) (u : Principle
       let each : (k : Edge) → Contains F2 k → IsLink g words a u f k ↔ Contains row k.label.0 = λ k on. member_is M s row (label_text g (D2 g words a u) k.label.0 ∷ []) k.label.0 has
       (subst (λ b. k.label.0 < b) (sym (label_count_is (labels_at g.table u) shape nth.Second s (dimension g (D2 g words a u)).labels s_is second_are)) (within2.label k on))
       (label_texts (labels_at g.table u) shape nth.Second s (dimension g (D2 g words a u)).labels k.label.0 s_is second_are) in
-      let mapped = map_asks g words a u h q named M s row (P f) (IsLinked q F2 f.mother.0 row f.daughter.0) has (linked f row each) in
+      let mapped = map_asks g words a u h q named M s row (P f) (IsLinked way F2 f.mother.0 row f.daughter.0) has (linked f row each) in
       let asked = asks c f.mother.0 f.label.0 f.daughter.0 in (
         λ p. asked.1 (mapped.0 p),
         λ p. mapped.1 (asked.0 p),
       ))
 
   linking_end : Same principles.LinkingEnd
-  linking_end named = one (Asks g words a u principles.LinkingEnd) conditions.Link (by_map principles.LinkingEnd named refl refl (λ f. Any (λ k. (k.daughter.0 ≡ f.daughter.0) × IsLink g words a u f k) F2)
+  linking_end named = one (Asks g words a u principles.LinkingEnd) conditions.Link (by_map principles.LinkingEnd linkings.End named refl refl (λ f. Any (λ k. (k.daughter.0 ≡ f.daughter.0) × IsLink g words a u f k) F2)
       (λ f row same. kept.end_linked F2 (IsLink g words a u f) row same f.mother.0 f.daughter.0) (λ c x l v. (λ p. p, λ p. p)))
 
   linking_daughter : Same principles.LinkingDaughter
-  linking_daughter named = one (Asks g words a u principles.LinkingDaughter) conditions.Link (by_map principles.LinkingDaughter named refl refl (λ f. HasLink g words a u f f.mother.0 f.daughter.0)
+  linking_daughter named = one (Asks g words a u principles.LinkingDaughter) conditions.Link (by_map principles.LinkingDaughter linkings.Daughter named refl refl (λ f. HasLink g words a u f f.mother.0 f.daughter.0)
       (λ f row same. kept.by_daughter F2 (IsLink g words a u f) row same f.mother.0 f.daughter.0) (λ c x l v. (λ p. p, λ p. p)))
 
   linking_mother : Same principles.LinkingMother
-  linking_mother named = one (Asks g words a u principles.LinkingMother) conditions.Link (by_map principles.LinkingMother named refl refl (λ f. HasLink g words a u f f.daughter.0 f.mother.0)
+  linking_mother named = one (Asks g words a u principles.LinkingMother) conditions.Link (by_map principles.LinkingMother linkings.Mother named refl refl (λ f. HasLink g words a u f f.daughter.0 f.mother.0)
       (λ f row same. kept.by_daughter F2 (IsLink g words a u f) row same f.daughter.0 f.mother.0) (λ c x l v. (λ p. p, λ p. p)))
 
   linking_below_start : Same principles.LinkingBelowStart
-  linking_below_start named = one (Asks g words a u principles.LinkingBelowStart) conditions.Link (by_map principles.LinkingBelowStart named refl refl (λ f. StartsBy F2 f.mother.0 (IsLink g words a u f) f.daughter.0)
+  linking_below_start named = one (Asks g words a u principles.LinkingBelowStart) conditions.Link (by_map principles.LinkingBelowStart linkings.BelowStart named refl refl (λ f. StartsBy F2 f.mother.0 (IsLink g words a u f) f.daughter.0)
       (λ f row same. kept.starts_same F2 (IsLink g words a u f) row f.mother.0 f.daughter.0 same) (λ c x l v. (λ p. p, λ p. p)))
 
   linking_above_start : Same principles.LinkingAboveStart
-  linking_above_start named = one (Asks g words a u principles.LinkingAboveStart) conditions.Link (by_map principles.LinkingAboveStart named refl refl (λ f. StartsBy F2 f.daughter.0 (IsLink g words a u f) f.mother.0)
+  linking_above_start named = one (Asks g words a u principles.LinkingAboveStart) conditions.Link (by_map principles.LinkingAboveStart linkings.AboveStart named refl refl (λ f. StartsBy F2 f.daughter.0 (IsLink g words a u f) f.mother.0)
       (λ f row same. kept.starts_same F2 (IsLink g words a u f) row f.daughter.0 f.mother.0 same) (λ c x l v. (λ p. p, λ p. p)))
 
   linking_sisters : Same principles.LinkingSisters
-  linking_sisters named = one (Asks g words a u principles.LinkingSisters) conditions.Link (by_map principles.LinkingSisters named refl refl (λ f. Any (λ k. (k.daughter.0 ≡ f.mother.0) × HasLink g words a u f k.mother.0 f.daughter.0) F2)
+  linking_sisters named = one (Asks g words a u principles.LinkingSisters) conditions.Link (by_map principles.LinkingSisters linkings.Sisters named refl refl (λ f. Any (λ k. (k.daughter.0 ≡ f.mother.0) × HasLink g words a u f k.mother.0 f.daughter.0) F2)
       (λ f row same. kept.sisters_linked F2 (IsLink g words a u f) row same f.mother.0 f.daughter.0) (λ c x l v. (λ p. p, λ p. p)))
 
   linking_not_daughter : Same principles.LinkingNotDaughter

@@ -3,8 +3,7 @@ use Rattle.std.proofs.Common.{◌≡◌, ℕ, ◌⊎◌, ◌↔◌, inl, inr, Bo
 use Rattle.std.specs.Prelude.{IsTrue, All, Contains}
 use Rattle.std.proofs.lemmas.List.Elements.{All-nil, All-cons, All-head, All-tail, All-append}
 use Rattle.xdg_problem.specs.declared.analysis.Edge.{Edge}
-use Rattle.xdg_problem.specs.declared.parts.Principle.{Principle}
-use Rattle.xdg_problem.specs.declared.parts.Principle.TheVariants as principles
+use Rattle.xdg_problem.specs.declared.parts.Linking.{Linking}
 use Rattle.xdg_problem.specs.Asking.{IsInItem, IsLinked}
 use Rattle.xdg_problem.specs.Paths.{Leads, Above, AboveByFirst, AboveByLast, IsDaughterBy, IsDaughterByAny, AreSistersByAny}
 use Rattle.xdg_judge.specs.declared.paths.Way.TheVariants as ways
@@ -38,13 +37,13 @@ last_joined edges labels u v (k, e, l, at, (label, (inr a, d))) = record {
 pub last_exact : (edges : List Edge) (labels : List ℕ) (u v : ℕ) → IsJoined ways.Last edges labels u v ↔ AboveByLast edges u labels v
 last_exact edges labels u v = (last_joined edges labels u v, by_last edges labels u v)
 
-first_exact : (edges : List Edge) (labels : List ℕ) (u v : ℕ) → IsJoined ways.First edges labels u v ↔ AboveByFirst edges u labels v
+pub first_exact : (edges : List Edge) (labels : List ℕ) (u v : ℕ) → IsJoined ways.First edges labels u v ↔ AboveByFirst edges u labels v
 first_exact edges labels u v = (first_joined edges labels u v, joined_first edges labels u v)
 
-straight_exact : (edges : List Edge) (labels : List ℕ) (u v : ℕ) → IsJoined ways.Straight edges labels u v ↔ IsDaughterByAny edges u labels v
+pub straight_exact : (edges : List Edge) (labels : List ℕ) (u v : ℕ) → IsJoined ways.Straight edges labels u v ↔ IsDaughterByAny edges u labels v
 straight_exact edges labels u v = (λ (k, e, l, at, (label, (m, d))). (k, e, l, at, (m, label, d)), λ (k, e, l, at, (m, label, d)). (k, e, l, at, (label, (m, d))))
 
-sister_exact : (edges : List Edge) (labels : List ℕ) (u v : ℕ) → IsJoined ways.Sister edges labels u v ↔ AreSistersByAny edges u labels v
+pub sister_exact : (edges : List Edge) (labels : List ℕ) (u v : ℕ) → IsJoined ways.Sister edges labels u v ↔ AreSistersByAny edges u labels v
 sister_exact edges labels u v = (
   λ (k, e, l, at, (label, ((k2, f, l2, at2, (m, d)), ev))). (k2, f, l2, at2, (d, (k, e, l, at, (sym m, label, ev)))),
   λ (k2, f, l2, at2, (d, (k, e, l, at, (m, label, ev)))). (k, e, l, at, (label, ((k2, f, l2, at2, (sym m, d)), ev))),
@@ -53,24 +52,9 @@ sister_exact edges labels u v = (
 pub through : {A B : Type 0} {b : Bool} → IsTrue b ↔ A → A ↔ B → IsTrue b ↔ B
 through f g = (λ t. g.0 (f.0 t), λ x. f.1 (g.1 x))
 
--- what the linking principles ask, one for each
-pub linked_end : (p : Principle) (b : Bool) (edges : List Edge) (labels : List ℕ) (u v : ℕ) → p ≡ principles.LinkingEnd → IsTrue b ↔ IsJoined ways.Into edges labels u v → IsTrue b ↔ IsLinked p edges u labels v
-linked_end p b edges labels u v is h = subst (λ q. IsTrue b ↔ IsLinked q edges u labels v) (sym is) h
-
-pub linked_daughter : (p : Principle) (b : Bool) (edges : List Edge) (labels : List ℕ) (u v : ℕ) → p ≡ principles.LinkingDaughter → IsTrue b ↔ IsJoined ways.Straight edges labels u v → IsTrue b ↔ IsLinked p edges u labels v
-linked_daughter p b edges labels u v is h = subst (λ q. IsTrue b ↔ IsLinked q edges u labels v) (sym is) (through h (straight_exact edges labels u v))
-
-pub linked_mother : (p : Principle) (b : Bool) (edges : List Edge) (labels : List ℕ) (u v : ℕ) → p ≡ principles.LinkingMother → IsTrue b ↔ IsJoined ways.Straight edges labels v u → IsTrue b ↔ IsLinked p edges u labels v
-linked_mother p b edges labels u v is h = subst (λ q. IsTrue b ↔ IsLinked q edges u labels v) (sym is) (through h (straight_exact edges labels v u))
-
-pub linked_below : (p : Principle) (b : Bool) (edges : List Edge) (labels : List ℕ) (u v : ℕ) → p ≡ principles.LinkingBelowStart → IsTrue b ↔ IsJoined ways.First edges labels u v → IsTrue b ↔ IsLinked p edges u labels v
-linked_below p b edges labels u v is h = subst (λ q. IsTrue b ↔ IsLinked q edges u labels v) (sym is) (through h (first_exact edges labels u v))
-
-pub linked_above : (p : Principle) (b : Bool) (edges : List Edge) (labels : List ℕ) (u v : ℕ) → p ≡ principles.LinkingAboveStart → IsTrue b ↔ IsJoined ways.First edges labels v u → IsTrue b ↔ IsLinked p edges u labels v
-linked_above p b edges labels u v is h = subst (λ q. IsTrue b ↔ IsLinked q edges u labels v) (sym is) (through h (first_exact edges labels v u))
-
-pub linked_sisters : (p : Principle) (b : Bool) (edges : List Edge) (labels : List ℕ) (u v : ℕ) → p ≡ principles.LinkingSisters → IsTrue b ↔ IsJoined ways.Sister edges labels u v → IsTrue b ↔ IsLinked p edges u labels v
-linked_sisters p b edges labels u v is h = subst (λ q. IsTrue b ↔ IsLinked q edges u labels v) (sym is) (through h (sister_exact edges labels u v))
+-- what a way of linking asks, where the way is known
+pub linked_as : (way known : Linking) (b : Bool) (edges : List Edge) (labels : List ℕ) (u v : ℕ) → way ≡ known → IsTrue b ↔ IsLinked known edges u labels v → IsTrue b ↔ IsLinked way edges u labels v
+linked_as way known b edges labels u v is h = subst (λ w. IsTrue b ↔ IsLinked w edges u labels v) (sym is) h
 
 -- x stands in an item as the node itself, as a daughter, or below one
 

@@ -1,11 +1,11 @@
 //! What a condition asks of one tuple.
 
-ghost use Rattle.std.specs.Prelude.{◌≡◌, ◌<◌, ◌⊎◌, ◌↔◌, [], ◌∷◌, true, false, IsTrue, Contains, slice_index, AllPairs};
+ghost use Rattle.std.specs.Prelude.{◌≡◌, ◌<◌, ◌⊎◌, ◌↔◌, [], ◌∷◌, true, false, IsTrue, Contains, Some, slice_index, AllPairs};
 ghost use Rattle.xdg_problem.specs.declared.conditions.Condition.TheVariants as conditions;
 ghost use Rattle.xdg_problem.specs.Arguments.{first_dim, second_dim, truth_of};
-ghost use Rattle.xdg_problem.specs.Asking.{AsksLink, IsBetween, IsInItem, IsLinked};
+ghost use Rattle.xdg_problem.specs.Asking.{AsksBy, AsksLink, IsBetween, IsInItem, IsLinked};
 ghost use Rattle.xdg_problem.specs.Vectors.{entry_places};
-ghost use Rattle.xdg_problem.specs.Features.{in_row, out_row};
+ghost use Rattle.xdg_problem.specs.Features.{in_row, map_row, out_row};
 ghost use Rattle.xdg_problem.specs.Paths.{edges_on, Above};
 ghost use Rattle.xdg_problem.specs.Places.{nodes};
 ghost use Rattle.xdg_judge.specs.Counting.{IsTally};
@@ -18,7 +18,7 @@ use crate::paths::{Way, is_joined, is_member};
 use crate::reads::{attr_of, row_of, truth_of, value_of};
 use crate::view::View;
 use xdg_base::LabelId;
-use xdg_problem::{Condition, Principle};
+use xdg_problem::{Condition, Linking, Principle};
 
 /// Whether a number of edges with a label into v is one that its entry allows.
 fn passes_in(view: &View, v: u8, label: u8, count: usize) -> bool
@@ -244,23 +244,44 @@ fn passes_order(view: &View, u: u8, x: u8, y: u8) -> bool
     is_ordered(view, view.group.order.as_slice(), yields, own, u, x, y)
 }
 
-/// Whether edges of the second dimension link u to its daughter v, with one of some labels.
-fn is_linked(view: &View, labels: &[u16], u: u8, v: u8) -> bool
+/// Whether edges of the second dimension link u to its daughter v in a way, with one of some labels.
+fn is_linked(view: &View, way: Linking, labels: &[u16], u: u8, v: u8) -> bool
     requires view { IsView view.now.parts.now view.now.group.now view.now.analysis.now view.now.first_dim view.now.second_dim view.now.first view.now.second }
     requires u_within { u < nodes view.now.parts.now }
     requires v_within { v < nodes view.now.parts.now }
-    ensures { IsTrue result ↔ IsLinked view.now.group.now.principle (edges_on (second_dim view.now.group.now) view.now.analysis.now.edges) u labels.now v }
+    ensures { IsTrue result ↔ IsLinked way (edges_on (second_dim view.now.group.now) view.now.analysis.now.edges) u labels.now v }
 {
     let links = &view.second;
-    match &view.group.principle {
-        Principle::LinkingEnd => is_joined(links, Way::Into, labels, u, v),
-        Principle::LinkingDaughter => is_joined(links, Way::Straight, labels, u, v),
-        Principle::LinkingMother => is_joined(links, Way::Straight, labels, v, u),
-        Principle::LinkingBelowStart => is_joined(links, Way::First, labels, u, v),
-        Principle::LinkingAboveStart => is_joined(links, Way::First, labels, v, u),
-        Principle::LinkingSisters => is_joined(links, Way::Sister, labels, u, v),
-        _ => true,
+    match way {
+        Linking::End => is_joined(links, Way::Into, labels, u, v),
+        Linking::Daughter => is_joined(links, Way::Straight, labels, u, v),
+        Linking::Mother => is_joined(links, Way::Straight, labels, v, u),
+        Linking::BelowStart => is_joined(links, Way::First, labels, u, v),
+        Linking::AboveStart => is_joined(links, Way::First, labels, v, u),
+        Linking::Sisters => is_joined(links, Way::Sister, labels, u, v),
     }
+}
+
+/// Whether edges of the second dimension link u to its daughter v in a way, with one of the labels that u has for a label, if it has any.
+fn links_by(view: &View, way: Linking, u: u8, label: u8, v: u8) -> bool
+    requires view { IsView view.now.parts.now view.now.group.now view.now.analysis.now view.now.first_dim view.now.second_dim view.now.first view.now.second }
+    requires u_within { u < nodes view.now.parts.now }
+    requires v_within { v < nodes view.now.parts.now }
+    ensures { IsTrue result
+        ↔ AsksBy (Some way) (edges_on (second_dim view.now.group.now) view.now.analysis.now.edges) u
+        (map_row view.now.group.now u (slice_index (entry_places view.now.parts.now.candidates view.now.analysis.now.entries) u) label) v }
+{
+    let labels = row_of(
+        view.group,
+        usize::from(u),
+        view.candidate(u),
+        0,
+        usize::from(label),
+    );
+    if labels.len() == 0 {
+        return true;
+    }
+    is_linked(view, way, labels, u, v)
 }
 
 /// Whether the principle finds on the second dimension what it asks for an edge from u to v with a label on the first.
@@ -272,24 +293,22 @@ fn links(view: &View, u: u8, label: u8, v: u8) -> bool
         ↔ AsksLink view.now.group.now.principle view.now.group.now (slice_index (entry_places view.now.parts.now.candidates view.now.analysis.now.entries) u)
         (edges_on (second_dim view.now.group.now) view.now.analysis.now.edges) u label v }
 {
-    if matches!(&view.group.principle, Principle::LinkingNotDaughter) {
-        let labels = row_of(view.group, usize::from(u), view.candidate(u), 0, 0);
-        if !is_member(labels, usize::from(label)) {
-            return true;
+    match &view.group.principle {
+        Principle::LinkingNotDaughter => {
+            let labels = row_of(view.group, usize::from(u), view.candidate(u), 0, 0);
+            if !is_member(labels, usize::from(label)) {
+                return true;
+            }
+            !view.is_second_daughter(u, v)
         }
-        return !view.is_second_daughter(u, v);
+        Principle::LinkingEnd => links_by(view, Linking::End, u, label, v),
+        Principle::LinkingDaughter => links_by(view, Linking::Daughter, u, label, v),
+        Principle::LinkingMother => links_by(view, Linking::Mother, u, label, v),
+        Principle::LinkingBelowStart => links_by(view, Linking::BelowStart, u, label, v),
+        Principle::LinkingAboveStart => links_by(view, Linking::AboveStart, u, label, v),
+        Principle::LinkingSisters => links_by(view, Linking::Sisters, u, label, v),
+        _ => true,
     }
-    let labels = row_of(
-        view.group,
-        usize::from(u),
-        view.candidate(u),
-        0,
-        usize::from(label),
-    );
-    if labels.len() == 0 {
-        return true;
-    }
-    is_linked(view, labels, u, v)
 }
 
 /// Whether an edge from u to v with a label on the first dimension is linked as the principle asks.

@@ -1,11 +1,13 @@
 -- Where no rule of a linking principle takes a value that remains, no test of it that is decided fails.
-use Rattle.std.proofs.Common.{◌≡◌, ℕ, ◌<◌, ◌↔◌, ◌&&◌, ◌||◌, ◌==◌, inl, Bool, true, List, length, refl, sym, ◌∙◌, ap, subst, arith}
+use Rattle.std.proofs.Common.{◌≡◌, ℕ, ◌<◌, ◌↔◌, ◌&&◌, ◌==◌, inl, Bool, true, List, length, refl, sym, ◌∙◌, ap, subst, arith}
 use Rattle.std.specs.Prelude.{Contains, filter}
 use Rattle.std.specs.List.{Any}
 use Rattle.std.proofs.lemmas.Bool.{eq-eqb}
 use Rattle.std.proofs.lemmas.List.Elements.{All-contains}
 use Rattle.xdg_problem.specs.declared.analysis.Edge.{Edge}
 use Rattle.xdg_problem.specs.declared.parts.Group.{Group}
+use Rattle.xdg_problem.specs.declared.parts.Linking.{Linking}
+use Rattle.xdg_problem.specs.declared.parts.Linking.TheVariants as linkings
 use Rattle.xdg_problem.specs.declared.parts.Parts.{Parts}
 use Rattle.xdg_problem.specs.declared.parts.Principle.{Principle}
 use Rattle.xdg_problem.specs.declared.parts.Principle.TheVariants as principles
@@ -13,9 +15,9 @@ use Rattle.xdg_problem.specs.Arguments.{first_dim, second_dim, label_count}
 use Rattle.xdg_problem.specs.Asking.{AsksLink, IsLinked}
 use Rattle.xdg_problem.specs.Boxes.{Has, IsBox, edge_decision, entry_decision}
 use Rattle.xdg_problem.specs.Features.{map_row, set_row}
-use Rattle.xdg_problem.specs.Paths.{edges_on, AboveByFirst, AreSistersByAny, IsDaughter, IsDaughterBy, IsDaughterByAny, IsEnteredByAny}
+use Rattle.xdg_problem.specs.Paths.{edges_on, AboveByFirst, AreSistersByAny, IsDaughter, IsDaughterBy, IsDaughterByAny}
 use Rattle.xdg_problem.specs.Places.{edge, nodes, places}
-use Rattle.xdg_problem.specs.Tests.{Test, looks_at, looks_first, looks_second, linked_end, linked_daughter, linked_mother, linked_sister, linked_path}
+use Rattle.xdg_problem.specs.Tests.{Test, can_link, looks_at, looks_first, looks_second, linked, unlinked}
 use Rattle.xdg_problem.specs.Vectors.{shape}
 use Rattle.xdg_problem.proofs.EachTest.{Each, each_tested}
 use Rattle.xdg_problem.proofs.FilterFacts.{filter_both, filter_alike}
@@ -79,84 +81,85 @@ module _ (parts : Parts) (group : Group) (box : List (List Bool)) (is : IsBox (s
       (any_seen test one (λ e. (e.mother.0 ≡ u) × (e.label.0 ≡ l) × (e.daughter.0 ≡ v))
       (λ e here on. either_true (looks_second two test e) (looks_first one test e) (looks e ∙ sees_place one u l v e here on))).0
 
-  end_seen : (u l v : ℕ) (labels : List ℕ) → IsEnteredByAny (may two) labels v → IsEnteredByAny (edges_on two (seen (linked_end u l v))) labels v
-  end_seen u l v labels =
-      (any_seen (linked_end u l v) two (λ e. Contains labels e.label.0 × (e.daughter.0 ≡ v))
-      (λ e at on. or_here (looks_second two (linked_end u l v) e) (looks_first one (linked_end u l v) e)
-      (and_2 (e.dim.0 == two) (e.daughter.0 == v) on (eq-eqb e.daughter.0 v at.1)))).1
+  -- a test sees what can link
+  sees : (way : Linking) (u l v : ℕ) (e : Edge) → can_link way u v e ≡ true → (e.dim.0 == two) ≡ true → looks_at group (linked way u l v) e ≡ true
+  sees way u l v e can on =
+      or_here (looks_second two (linked way u l v) e) (looks_first one (linked way u l v) e) (and_2 (e.dim.0 == two) (can_link way u v e) on can)
 
-  daughter_seen : (u l v : ℕ) (labels : List ℕ) → IsDaughterByAny (may two) u labels v
-      → IsDaughterByAny (edges_on two (seen (linked_daughter u l v))) u labels v
-  daughter_seen u l v labels =
-      (any_seen (linked_daughter u l v) two (λ e. (e.mother.0 ≡ u) × Contains labels e.label.0 × (e.daughter.0 ≡ v))
-      (λ e at on. or_here (looks_second two (linked_daughter u l v) e) (looks_first one (linked_daughter u l v) e)
-      (and_3 (e.dim.0 == two) (e.mother.0 == u) (e.daughter.0 == v) on (eq-eqb e.mother.0 u at.0) (eq-eqb e.daughter.0 v at.2)))).1
+  any_linked : (way : Linking) (u l v : ℕ) (P : Edge → Type 0) → ((e : Edge) → P e → can_link way u v e ≡ true)
+      → Any P (may two) → Any P (edges_on two (seen (linked way u l v)))
+  any_linked way u l v P can = (any_seen (linked way u l v) two P (λ e is. sees way u l v e (can e is))).1
 
-  mother_seen : (u l v : ℕ) (labels : List ℕ) → IsDaughterByAny (may two) v labels u → IsDaughterByAny (edges_on two (seen (linked_mother u l v))) v labels u
-  mother_seen u l v labels =
-      (any_seen (linked_mother u l v) two (λ e. (e.mother.0 ≡ v) × Contains labels e.label.0 × (e.daughter.0 ≡ u))
-      (λ e at on. or_here (looks_second two (linked_mother u l v) e) (looks_first one (linked_mother u l v) e)
-      (and_3 (e.dim.0 == two) (e.mother.0 == v) (e.daughter.0 == u) on (eq-eqb e.mother.0 v at.0) (eq-eqb e.daughter.0 u at.2)))).1
+  path_seen : (way : Linking) (u l v from to : ℕ) (labels : List ℕ) → ((e : Edge) → can_link way u v e ≡ true)
+      → AboveByFirst (may two) from labels to → AboveByFirst (edges_on two (seen (linked way u l v))) from labels to
+  path_seen way u l v from to labels can =
+      subst (λ es. AboveByFirst es from labels to) (sym (all_seen (linked way u l v) two (λ e. sees way u l v e (can e))))
 
-  sister_seen : (u l v : ℕ) (labels : List ℕ) → AreSistersByAny (may two) u labels v → AreSistersByAny (edges_on two (seen (linked_sister u l v))) u labels v
+  sister_seen : (u l v : ℕ) (labels : List ℕ) → AreSistersByAny (may two) u labels v
+      → AreSistersByAny (edges_on two (seen (linked linkings.Sisters u l v))) u labels v
   sister_seen u l v labels s =
-      let test = linked_sister u l v in
-      let few : List Edge = edges_on two (seen test) in
-      let under : (mother : ℕ) → IsDaughterByAny (may two) mother labels v
-      → IsDaughterByAny few mother labels v =
-      λ mother. (any_seen test two (λ e. (e.mother.0 ≡ mother) × Contains labels e.label.0 × (e.daughter.0 ≡ v))
-      (λ e at on. or_here (looks_second two test e) (looks_first one test e)
-      (and_2 (e.dim.0 == two) ((e.daughter.0 == u) || (e.daughter.0 == v)) on
-      (either_true (e.daughter.0 == u) (e.daughter.0 == v) (eq-eqb e.daughter.0 v at.2))))).1
-      in
-      (any_seen test two (λ e. (e.daughter.0 ≡ u) × IsDaughterByAny few e.mother.0 labels v)
-      (λ e at on. or_here (looks_second two test e) (looks_first one test e)
-      (and_2 (e.dim.0 == two) ((e.daughter.0 == u) || (e.daughter.0 == v)) on
-      (or_here (e.daughter.0 == u) (e.daughter.0 == v) (eq-eqb e.daughter.0 u at.0))))).1
+      let few : List Edge = edges_on two (seen (linked linkings.Sisters u l v)) in
+      any_linked linkings.Sisters u l v (λ e. (e.daughter.0 ≡ u) × IsDaughterByAny few e.mother.0 labels v)
+      (λ e is. or_here (e.daughter.0 == u) (e.daughter.0 == v) (eq-eqb e.daughter.0 u is.0))
       (any_weaker (λ e. (e.daughter.0 ≡ u) × IsDaughterByAny (may two) e.mother.0 labels v) (λ e. (e.daughter.0 ≡ u) × IsDaughterByAny few e.mother.0 labels v)
-      (may two) (λ e both. (both.0, under e.mother.0 both.1)) s)
+      (may two)
+      (λ e both. (
+        both.0,
+        any_linked linkings.Sisters u l v (λ f. (f.mother.0 ≡ e.mother.0) × Contains labels f.label.0 × (f.daughter.0 ≡ v))
+            (λ f is. either_true (f.daughter.0 == u) (f.daughter.0 == v) (eq-eqb f.daughter.0 v is.2)) both.1,
+      )) s)
 
-  path_seen : (u l v from to : ℕ) (labels : List ℕ) → AboveByFirst (may two) from labels to
-      → AboveByFirst (edges_on two (seen (linked_path u l v))) from labels to
-  path_seen u l v from to labels =
-      subst (λ es. AboveByFirst es from labels to)
-      (sym (all_seen (linked_path u l v) two (λ e on. or_here (looks_second two (linked_path u l v) e) (looks_first one (linked_path u l v) e) on)))
+  link_seen : (way : Linking) (u l v : ℕ) (labels : List ℕ) → IsLinked way (may two) u labels v
+      → IsLinked way (edges_on two (seen (linked way u l v))) u labels v
+  link_seen linkings.End u l v labels =
+      any_linked linkings.End u l v (λ e. Contains labels e.label.0 × (e.daughter.0 ≡ v)) (λ e is. eq-eqb e.daughter.0 v is.1)
+  link_seen linkings.Daughter u l v labels =
+      any_linked linkings.Daughter u l v (λ e. (e.mother.0 ≡ u) × Contains labels e.label.0 × (e.daughter.0 ≡ v))
+      (λ e is. and_2 (e.mother.0 == u) (e.daughter.0 == v) (eq-eqb e.mother.0 u is.0) (eq-eqb e.daughter.0 v is.2))
+  link_seen linkings.Mother u l v labels =
+      any_linked linkings.Mother u l v (λ e. (e.mother.0 ≡ v) × Contains labels e.label.0 × (e.daughter.0 ≡ u))
+      (λ e is. and_2 (e.mother.0 == v) (e.daughter.0 == u) (eq-eqb e.mother.0 v is.0) (eq-eqb e.daughter.0 u is.2))
+  link_seen linkings.BelowStart u l v labels = path_seen linkings.BelowStart u l v u v labels (λ e. refl)
+  link_seen linkings.AboveStart u l v labels = path_seen linkings.AboveStart u l v v u labels (λ e. refl)
+  link_seen linkings.Sisters u l v labels = sister_seen u l v labels
 
   -- what a test asks of an edge
   abbrev Asks : Principle → Test → ℕ → ℕ → ℕ → ℕ → Type 0
   Asks p test c u l v = IsDaughterBy (edges_on one (seen test)) u l v → AsksLink p group c (edges_on two (seen test)) u l v
 
+  -- what the test of a way asks of it
+  abbrev AsksIn : Linking → ℕ → ℕ → ℕ → ℕ → Type 0
+  AsksIn way c u l v =
+      IsDaughterBy (edges_on one (seen (linked way u l v))) u l v → 0 < length (map_row group u c l)
+      → IsLinked way (edges_on two (seen (linked way u l v))) u (map_row group u c l) v
+
   -- a test that asks for an edge
-  reach_fails : (p : Principle) → group.principle ≡ p → (test : Test) (u l v : ℕ) → IsDecided box (entry_decision u)
-      → (IsDaughterBy (edges_on one (seen test)) u l v → IsDaughterBy (may one) u l v)
-      → ((labels : List ℕ) → IsLinked p (may two) u labels v → IsLinked p (edges_on two (seen test)) u labels v)
-      →
-      ((c : ℕ) → (0 < length (map_row group u c l) → IsLinked p (edges_on two (seen test)) u (map_row group u c l) v)
-      → AsksLink p group c (edges_on two (seen test)) u l v)
-      → ((d x : ℕ) → Has box d x → LinkingReach parts group box d x → ⊥)
-      → (Asks group.principle test (value_in box (entry_decision u)) u l v → ⊥) → ⊥
-  reach_fails p same test u l v decided placed linked asks closed fails = failing (λ d. asks c (λ some. absurd (reach d some)))
+  reach_fails : (principle : Principle) (way : Linking) → group.principle ≡ principle
+      → ((c u l v : ℕ) → AsksIn way c u l v → Asks principle (linked way u l v) c u l v) → (u l v : ℕ) → IsDecided box (entry_decision u)
+      → ((d x : ℕ) → Has box d x → LinkingReach parts group box way d x → ⊥)
+      → (Asks group.principle (linked way u l v) (value_in box (entry_decision u)) u l v → ⊥) → ⊥
+  reach_fails principle way same asks u l v decided closed fails = failing (λ d some. absurd (reach d some))
     where
+      test : Test
+      test = linked way u l v
+
       c : ℕ
       c = value_in box (entry_decision u)
 
-      failing : Asks p test c u l v → ⊥
-      failing h = fails (subst (λ q. Asks q test c u l v) (sym same) h)
+      failing : AsksIn way c u l v → ⊥
+      failing h = fails (subst (λ q. Asks q test c u l v) (sym same) (asks c u l v h))
 
       only : (x : ℕ) → Has box (entry_decision u) x → x ≡ c
       only x remains = decided.2 x remains ∙ sym (value_is box (entry_decision u) decided)
 
-      apart : (x : ℕ) → Has box (entry_decision u) x → IsLinked group.principle (may two) u (map_row group u x l) v → ⊥
+      apart : (x : ℕ) → Has box (entry_decision u) x → IsLinked way (may two) u (map_row group u x l) v → ⊥
       apart x remains link =
           failing
-          (λ d. asks c
-          (λ some. linked (map_row group u c l)
-          (subst (λ z. IsLinked p (may two) u (map_row group u z l) v) (only x remains)
-          (subst (λ q. IsLinked q (may two) u (map_row group u x l) v) same link))))
+          (λ d some. link_seen way u l v (map_row group u c l) (subst (λ z. IsLinked way (may two) u (map_row group u z l) v) (only x remains) link))
 
       reach : IsDaughterBy (edges_on one (seen test)) u l v → 0 < length (map_row group u c l) → ⊥
       reach d some =
-          let place = (may_by parts box one u l v).0 (placed d) in
+          let place = (may_by parts box one u l v).0 (place_seen test u l v (λ e. refl) d) in
           closed (edge_decision parts (edge one u l v)) 0 place.1 (record {
             place = edge one u l v;
             is = (place_is parts (edge one u l v) place.0, refl);
@@ -166,13 +169,13 @@ module _ (parts : Parts) (group : Group) (box : List (List Bool)) (is : IsBox (s
           })
 
   -- a test that asks for none
-  apart_fails : group.principle ≡ principles.LinkingNotDaughter → (u l v : ℕ) → TestDecided parts group box (linked_daughter u l v)
+  apart_fails : group.principle ≡ principles.LinkingNotDaughter → (u l v : ℕ) → TestDecided parts group box (unlinked u l v)
       → ((d x : ℕ) → Has box d x → LinkingNotDaughter parts group box d x → ⊥)
-      → (Asks group.principle (linked_daughter u l v) (value_in box (entry_decision u)) u l v → ⊥) → ⊥
+      → (Asks group.principle (unlinked u l v) (value_in box (entry_decision u)) u l v → ⊥) → ⊥
   apart_fails same u l v decided closed fails = failing (λ d keeps joined. apart d keeps joined)
     where
       test : Test
-      test = linked_daughter u l v
+      test = unlinked u l v
 
       c : ℕ
       c = value_in box (entry_decision u)
@@ -214,24 +217,12 @@ module _ (parts : Parts) (group : Group) (box : List (List Bool)) (is : IsBox (s
 
   each_fine : (p : Principle) → IsLinking p → group.principle ≡ p → ((d x : ℕ) → Has box d x → TakesBy p parts group box d x → ⊥)
       → Each group.truths (nodes parts) (label_count parts one) Fine p
-  each_fine principles.LinkingEnd f e closed =
-      λ u a l b v w decided fails. reach_fails principles.LinkingEnd e (linked_end u l v) u l v decided.entry (place_seen (linked_end u l v) u l v (λ e. refl))
-      (end_seen u l v) (λ c h. h) closed fails
-  each_fine principles.LinkingDaughter f e closed =
-      λ u a l b v w decided fails. reach_fails principles.LinkingDaughter e (linked_daughter u l v) u l v decided.entry
-      (place_seen (linked_daughter u l v) u l v (λ e. refl)) (daughter_seen u l v) (λ c h. h) closed fails
-  each_fine principles.LinkingMother f e closed =
-      λ u a l b v w decided fails. reach_fails principles.LinkingMother e (linked_mother u l v) u l v decided.entry
-      (place_seen (linked_mother u l v) u l v (λ e. refl)) (mother_seen u l v) (λ c h. h) closed fails
-  each_fine principles.LinkingBelowStart f e closed =
-      λ u a l b v w decided fails. reach_fails principles.LinkingBelowStart e (linked_path u l v) u l v decided.entry
-      (place_seen (linked_path u l v) u l v (λ e. refl)) (path_seen u l v u v) (λ c h. h) closed fails
-  each_fine principles.LinkingAboveStart f e closed =
-      λ u a l b v w decided fails. reach_fails principles.LinkingAboveStart e (linked_path u l v) u l v decided.entry
-      (place_seen (linked_path u l v) u l v (λ e. refl)) (path_seen u l v v u) (λ c h. h) closed fails
-  each_fine principles.LinkingSisters f e closed =
-      λ u a l b v w decided fails. reach_fails principles.LinkingSisters e (linked_sister u l v) u l v decided.entry
-      (place_seen (linked_sister u l v) u l v (λ e. refl)) (sister_seen u l v) (λ c h. h) closed fails
+  each_fine principles.LinkingEnd f e closed = λ u a l b v w decided fails. reach_fails principles.LinkingEnd linkings.End e (λ c u l v h. h) u l v decided.entry closed fails
+  each_fine principles.LinkingDaughter f e closed = λ u a l b v w decided fails. reach_fails principles.LinkingDaughter linkings.Daughter e (λ c u l v h. h) u l v decided.entry closed fails
+  each_fine principles.LinkingMother f e closed = λ u a l b v w decided fails. reach_fails principles.LinkingMother linkings.Mother e (λ c u l v h. h) u l v decided.entry closed fails
+  each_fine principles.LinkingBelowStart f e closed = λ u a l b v w decided fails. reach_fails principles.LinkingBelowStart linkings.BelowStart e (λ c u l v h. h) u l v decided.entry closed fails
+  each_fine principles.LinkingAboveStart f e closed = λ u a l b v w decided fails. reach_fails principles.LinkingAboveStart linkings.AboveStart e (λ c u l v h. h) u l v decided.entry closed fails
+  each_fine principles.LinkingSisters f e closed = λ u a l b v w decided fails. reach_fails principles.LinkingSisters linkings.Sisters e (λ c u l v h. h) u l v decided.entry closed fails
   each_fine principles.LinkingNotDaughter f e closed = λ u a l b v w decided fails. apart_fails e u l v decided closed fails
   each_fine principle f e closed = absurd f
 

@@ -3,6 +3,7 @@ use Rattle.std.proofs.Common.{ℕ, inl, inr, Bool, List}
 use Rattle.std.specs.Prelude.{Contains}
 use Rattle.xdg_problem.specs.declared.analysis.Edge.{Edge}
 use Rattle.xdg_problem.specs.declared.parts.Group.{Group}
+use Rattle.xdg_problem.specs.declared.parts.Linking.{Linking}
 use Rattle.xdg_problem.specs.declared.parts.Parts.{Parts}
 use Rattle.xdg_problem.specs.Arguments.{first_dim, second_dim}
 use Rattle.xdg_problem.specs.Asking.{IsLinked}
@@ -15,14 +16,14 @@ module _ (parts : Parts) (group : Group) (old new : List (List Bool)) where
   abbrev pub KeepsEntries : Edge → Type 0
   KeepsEntries e = (c : ℕ) → Has old (entry_decision e.mother.0) c → Has new (entry_decision e.mother.0) c
 
-  -- what linked the nodes of a place links them still
-  abbrev pub KeepsLinks : Edge → Type 0
-  KeepsLinks e =
-      (labels : List ℕ) → IsLinked group.principle (may_edges parts old (second_dim group)) e.mother.0 labels e.daughter.0
-      → IsLinked group.principle (may_edges parts new (second_dim group)) e.mother.0 labels e.daughter.0
+  -- what linked the nodes of a place in a way links them still
+  abbrev pub KeepsLinks : Linking → Edge → Type 0
+  KeepsLinks way e =
+      (labels : List ℕ) → IsLinked way (may_edges parts old (second_dim group)) e.mother.0 labels e.daughter.0
+      → IsLinked way (may_edges parts new (second_dim group)) e.mother.0 labels e.daughter.0
 
-  pub reach_before : (d v : ℕ) (rule : LinkingReach parts group new d v) → KeepsEntries rule.place → KeepsLinks rule.place → LinkingReach parts group old d v
-  reach_before d v rule entries links = record {
+  pub reach_before : (way : Linking) (d v : ℕ) (rule : LinkingReach parts group new way d v) → KeepsEntries rule.place → KeepsLinks way rule.place → LinkingReach parts group old way d v
+  reach_before way d v rule entries links = record {
     place = rule.place;
     is = rule.is;
     says = rule.says;

@@ -1,8 +1,8 @@
 -- Edges near which something was lost.
 use Rattle.std.proofs.Common.{◌≡◌, ℕ, ◌<◌, ◌||◌, inl, inr, true, List, length, sym, ◌∙◌, subst}
 use Rattle.xdg_nodeset.proofs.TableSets.{either}
-use Rattle.xdg_problem.specs.declared.parts.Principle.{Principle}
-use Rattle.xdg_problem.specs.declared.parts.Principle.TheVariants as principles
+use Rattle.xdg_problem.specs.declared.parts.Linking.{Linking}
+use Rattle.xdg_problem.specs.declared.parts.Linking.TheVariants as linkings
 use Rattle.xdg_propcore.specs.declared.touched.Touched.{Touched}
 use Rattle.xdg_plink.specs.Untouched.{HasJoins, HasLinks, IsFree}
 use Rattle.xdg_plink.specs.declared.near.Near.{Near}
@@ -33,23 +33,23 @@ module _ (lost : Touched) (near : Near) (mothers : near.mothers ≡ lost.entries
 
   module _ (ends : near.ends ≡ lost.daughters) where
     -- an edge into a node
-    pub links_end : (p : Principle) → p ≡ principles.LinkingEnd → ((n : ℕ) → n < 128 → has near.starts n ≡ true) → HasLinks near p lost
-    links_end p is starts = subst (λ q. HasLinks near q lost) (sym is) (λ u v within free. (entries_free u v free, λ there. free.1 (starts u within) (subst (λ s. has s v ≡ true) (sym ends) there)))
+    pub links_end : (way : Linking) → way ≡ linkings.End → ((n : ℕ) → n < 128 → has near.starts n ≡ true) → HasLinks near way lost
+    links_end way is starts = subst (λ w. HasLinks near w lost) (sym is) (λ u v within free. (entries_free u v free, λ there. free.1 (starts u within) (subst (λ s. has s v ≡ true) (sym ends) there)))
 
     -- from a node to one
-    pub links_daughter : (p : Principle) → p ≡ principles.LinkingDaughter → near.starts ≡ lost.mothers → HasLinks near p lost
-    links_daughter p is starts = subst (λ q. HasLinks near q lost) (sym is) (λ u v within free. (entries_free u v free, λ from to. free.1 (subst (λ s. has s u ≡ true) (sym starts) from) (subst (λ s. has s v ≡ true) (sym ends) to)))
+    pub links_daughter : (way : Linking) → way ≡ linkings.Daughter → near.starts ≡ lost.mothers → HasLinks near way lost
+    links_daughter way is starts = subst (λ w. HasLinks near w lost) (sym is) (λ u v within free. (entries_free u v free, λ from to. free.1 (subst (λ s. has s u ≡ true) (sym starts) from) (subst (λ s. has s v ≡ true) (sym ends) to)))
 
-  pub links_mother : (p : Principle) → p ≡ principles.LinkingMother → near.starts ≡ lost.daughters → near.ends ≡ lost.mothers → HasLinks near p lost
-  links_mother p is starts ends = subst (λ q. HasLinks near q lost) (sym is) (λ u v within free. (entries_free u v free, λ from to. free.1 (subst (λ s. has s u ≡ true) (sym starts) to) (subst (λ s. has s v ≡ true) (sym ends) from)))
+  pub links_mother : (way : Linking) → way ≡ linkings.Mother → near.starts ≡ lost.daughters → near.ends ≡ lost.mothers → HasLinks near way lost
+  links_mother way is starts ends = subst (λ w. HasLinks near w lost) (sym is) (λ u v within free. (entries_free u v free, λ from to. free.1 (subst (λ s. has s u ≡ true) (sym starts) to) (subst (λ s. has s v ≡ true) (sym ends) from)))
 
   -- none at all
   pub paths_none : length lost.daughters ≡ 0 → (u v : ℕ) → u < 128 → IsFree near u v → (has lost.entries u ≡ true → ⊥) × ((x : ℕ) → has lost.daughters x ≡ true → ⊥)
   paths_none empty u v within free = (entries_free u v free, no_member lost.daughters empty)
 
 -- into one of two sisters
-pub links_sisters : (lost : Touched) (near : Near) (p : Principle) → p ≡ principles.LinkingSisters → ((n : ℕ) → has near.mothers n ≡ (has lost.entries n || has lost.daughters n)) → ((n : ℕ) → n < 128 → has near.starts n ≡ true) → near.ends ≡ lost.daughters → HasLinks near p lost
-links_sisters lost near p is mothers starts ends = subst (λ q. HasLinks near q lost) (sym is) (λ u v within free.
+pub links_sisters : (lost : Touched) (near : Near) (way : Linking) → way ≡ linkings.Sisters → ((n : ℕ) → has near.mothers n ≡ (has lost.entries n || has lost.daughters n)) → ((n : ℕ) → n < 128 → has near.starts n ≡ true) → near.ends ≡ lost.daughters → HasLinks near way lost
+links_sisters lost near way is mothers starts ends = subst (λ w. HasLinks near w lost) (sym is) (λ u v within free.
     let both = in_neither lost.entries lost.daughters near.mothers u (mothers u) free.0 in
     (both.0, (both.1, λ there. free.1 (starts u within) (subst (λ s. has s v ≡ true) (sym ends) there))))
 
@@ -57,11 +57,11 @@ links_sisters lost near p is mothers starts ends = subst (λ q. HasLinks near q 
 abbrev pub PathsFree : Near → Touched → Type 0
 PathsFree near lost = (u v : ℕ) → u < 128 → IsFree near u v → (has lost.entries u ≡ true → ⊥) × ((x : ℕ) → has lost.daughters x ≡ true → ⊥)
 
-pub links_below : (lost : Touched) (near : Near) (p : Principle) → p ≡ principles.LinkingBelowStart → PathsFree near lost → HasLinks near p lost
-links_below lost near p is free = subst (λ q. HasLinks near q lost) (sym is) free
+pub links_below : (lost : Touched) (near : Near) (way : Linking) → way ≡ linkings.BelowStart → PathsFree near lost → HasLinks near way lost
+links_below lost near way is free = subst (λ w. HasLinks near w lost) (sym is) free
 
-pub links_above : (lost : Touched) (near : Near) (p : Principle) → p ≡ principles.LinkingAboveStart → PathsFree near lost → HasLinks near p lost
-links_above lost near p is free = subst (λ q. HasLinks near q lost) (sym is) free
+pub links_above : (lost : Touched) (near : Near) (way : Linking) → way ≡ linkings.AboveStart → PathsFree near lost → HasLinks near way lost
+links_above lost near way is free = subst (λ w. HasLinks near w lost) (sym is) free
 
 -- of both dimensions
 pub joins_both : (first second : Touched) (near : Near) → near.mothers ≡ second.entries → ((n : ℕ) → has near.starts n ≡ (has first.mothers n || has second.mothers n)) → ((n : ℕ) → has near.ends n ≡ (has first.daughters n || has second.daughters n)) → HasJoins near first second

@@ -4,8 +4,9 @@ use Rattle.std.specs.Prelude.{Contains}
 use Rattle.std.specs.List.{Any}
 use Rattle.xdg_problem.specs.declared.analysis.Edge.{Edge}
 use Rattle.xdg_problem.specs.declared.parts.Group.{Group}
+use Rattle.xdg_problem.specs.declared.parts.Linking.{Linking}
+use Rattle.xdg_problem.specs.declared.parts.Linking.TheVariants as linkings
 use Rattle.xdg_problem.specs.declared.parts.Parts.{Parts}
-use Rattle.xdg_problem.specs.declared.parts.Principle.{Principle}
 use Rattle.xdg_problem.specs.declared.parts.Principle.TheVariants as principles
 use Rattle.xdg_problem.specs.Arguments.{first_dim, second_dim}
 use Rattle.xdg_problem.specs.Asking.{IsLinked}
@@ -24,7 +25,7 @@ use Rattle.xdg_propcore.specs.declared.touched.Touched.{Touched}
 use Rattle.xdg_plink.specs.Family.{Reaches}
 use Rattle.xdg_plink.specs.Steps.{TakesAt}
 use Rattle.xdg_plink.specs.Untouched.{AreLinksFree, AreOthersDone, HasJoins, HasLinks, IsFree}
-use Rattle.xdg_plink.specs.Ways.{from_node, way_of}
+use Rattle.xdg_plink.specs.Ways.{way_of}
 use Rattle.xdg_plink.specs.declared.near.Near.{Near}
 use Rattle.xdg_plink.proofs.Keeping.{KeepsEntries, KeepsLinks, apart_before, reach_before}
 use Rattle.xdg_plink.proofs.Sweeping.{reach_at, reach_takes}
@@ -50,17 +51,19 @@ module _ (parts : Parts) (old new : List (List Bool)) (dim : ℕ) (t : Touched) 
   daughter_kept u labels v free = any_kept (λ e. (e.mother.0 ≡ u) × Contains labels e.label.0 × (e.daughter.0 ≡ v))
       (λ e at marks. free (subst (λ i. has t.mothers i ≡ true) at.0 marks.mother) (subst (λ i. has t.daughters i ≡ true) at.2 marks.daughter))
 
-  linked_kept : (p : Principle) (u v : ℕ) → AreLinksFree (way_of p) t (from_node p u v) (from_node p v u) → (labels : List ℕ) → IsLinked p (may_edges parts old dim) u labels v → IsLinked p (may_edges parts new dim) u labels v
-  linked_kept principles.LinkingEnd u v free labels link = any_kept (λ e. Contains labels e.label.0 × (e.daughter.0 ≡ v)) (λ e at marks. free (subst (λ i. has t.daughters i ≡ true) at.1 marks.daughter)) link
-  linked_kept principles.LinkingDaughter u v free labels link = daughter_kept u labels v free link
-  linked_kept principles.LinkingMother u v free labels link = daughter_kept v labels u free link
-  linked_kept principles.LinkingBelowStart u v free labels link = linked_among (may_edges parts old dim) (may_edges parts new dim) (λ e c. may_kept e (λ marks. free e.daughter.0 marks.daughter) c) principles.LinkingBelowStart u labels v link
-  linked_kept principles.LinkingAboveStart u v free labels link = linked_among (may_edges parts old dim) (may_edges parts new dim) (λ e c. may_kept e (λ marks. free e.daughter.0 marks.daughter) c) principles.LinkingAboveStart u labels v link
-  linked_kept principles.LinkingSisters u v free labels link =
+  path_kept : (way : Linking) (u v : ℕ) → ((x : ℕ) → has t.daughters x ≡ true → ⊥) → (labels : List ℕ) → IsLinked way (may_edges parts old dim) u labels v → IsLinked way (may_edges parts new dim) u labels v
+  path_kept way u v free labels = linked_among (may_edges parts old dim) (may_edges parts new dim) (λ e c. may_kept e (λ marks. free e.daughter.0 marks.daughter) c) way u labels v
+
+  linked_kept : (way : Linking) (u v : ℕ) → AreLinksFree way t u v → (labels : List ℕ) → IsLinked way (may_edges parts old dim) u labels v → IsLinked way (may_edges parts new dim) u labels v
+  linked_kept linkings.End u v free labels link = any_kept (λ e. Contains labels e.label.0 × (e.daughter.0 ≡ v)) (λ e at marks. free (subst (λ i. has t.daughters i ≡ true) at.1 marks.daughter)) link
+  linked_kept linkings.Daughter u v free labels link = daughter_kept u labels v free link
+  linked_kept linkings.Mother u v free labels link = daughter_kept v labels u free link
+  linked_kept linkings.BelowStart u v free labels link = path_kept linkings.BelowStart u v free labels link
+  linked_kept linkings.AboveStart u v free labels link = path_kept linkings.AboveStart u v free labels link
+  linked_kept linkings.Sisters u v free labels link =
       any_weaker (λ e. (e.daughter.0 ≡ u) × IsDaughterByAny (may_edges parts old dim) e.mother.0 labels v) (λ e. (e.daughter.0 ≡ u) × IsDaughterByAny (may_edges parts new dim) e.mother.0 labels v) (may_edges parts new dim)
       (λ e there. (there.0, daughter_kept e.mother.0 labels v (λ m d. free.1 d) there.1))
       (any_kept (λ e. (e.daughter.0 ≡ u) × IsDaughterByAny (may_edges parts old dim) e.mother.0 labels v) (λ e at marks. free.0 (subst (λ i. has t.daughters i ≡ true) at.0 marks.daughter)) link)
-  linked_kept p u v free labels link = tt
 
   entry_kept : (node c : ℕ) → node < nodes parts → (has t.entries node ≡ true → ⊥) → Has old (entry_decision node) c → Has new (entry_decision node) c
   entry_kept node c within free = kept_or_lost old new (entry_decision node) c (λ lost. free (touched.entries node c within lost))
@@ -68,14 +71,14 @@ module _ (parts : Parts) (old new : List (List Bool)) (dim : ℕ) (t : Touched) 
 -- ---- what was closed is done where nothing was lost
 
 module _ (parts : Parts) (group : Group) (problem : IsProblem parts) (old new : List (List Bool)) (lies : LiesIn new old) (closed : IsClosedFor parts group old) (near : Near) (second : Touched) (touched : HasTouched parts (second_dim group) old new second) where
-  pub links_stay : Reaches group.principle → HasLinks near group.principle second → AreOthersDone near parts group new
+  pub links_stay : Reaches group.principle → HasLinks near (way_of group.principle) second → AreOthersDone near parts group new
   links_stay reaches links e on free d v remains takes =
       let (rule, same) = reach_at group.principle reaches parts group new e d v takes in
       let place = is_place parts e on.0 in
       let kept = links e.mother.0 e.daughter.0 (let most = problem.most in let within = place.mother in omega (arith, within, most)) free in
-      closed d v (lies d v remains) (inr (reach_takes group.principle reaches parts group old d v (reach_before parts group old new d v rule
+      closed d v (lies d v remains) (inr (reach_takes group.principle reaches parts group old d v (reach_before parts group old new (way_of group.principle) d v rule
       (subst (KeepsEntries parts group old new) (sym same) (λ c. entry_kept parts old new (second_dim group) second touched e.mother.0 c place.mother kept.0))
-      (subst (KeepsLinks parts group old new) (sym same) (linked_kept parts old new (second_dim group) second touched group.principle e.mother.0 e.daughter.0 kept.1)))))
+      (subst (KeepsLinks parts group old new (way_of group.principle)) (sym same) (linked_kept parts old new (second_dim group) second touched (way_of group.principle) e.mother.0 e.daughter.0 kept.1)))))
 
   pub joins_stay : group.principle ≡ principles.LinkingNotDaughter → IsBox (shape parts) old → IsBox (shape parts) new → (first : Touched) → HasTouched parts (first_dim group) old new first → HasJoins near first second → AreOthersDone near parts group new
   joins_stay apart was is first touched_first joins e on free d v remains takes =

@@ -2,6 +2,8 @@
 use Rattle.std.proofs.Common.{◌≡◌, ℕ, inl, inr, Bool, List, subst}
 use Rattle.xdg_problem.specs.declared.analysis.Edge.{Edge}
 use Rattle.xdg_problem.specs.declared.parts.Group.{Group}
+use Rattle.xdg_problem.specs.declared.parts.Linking.{Linking}
+use Rattle.xdg_problem.specs.declared.parts.Linking.TheVariants as linkings
 use Rattle.xdg_problem.specs.declared.parts.Parts.{Parts}
 use Rattle.xdg_problem.specs.declared.parts.Principle.{Principle}
 use Rattle.xdg_problem.specs.declared.parts.Principle.TheVariants as principles
@@ -17,16 +19,16 @@ module _ (parts : Parts) (group : Group) (box : List (List Bool)) (place : Edge)
   says_present : (rule_place : Edge) → rule_place ≡ place → (d v : ℕ) → Has box d v → SaysPresent parts rule_place d v → May parts box place
   says_present rule_place same d v has says = subst (May parts box) same (subst (Has box (edge_decision parts rule_place)) says.1 (subst (λ k. Has box k v) says.0 has))
 
-  reach_present : (d v : ℕ) → Has box d v → (rule : LinkingReach parts group box d v) × (rule.place ≡ place) → May parts box place
-  reach_present d v has (rule, same) = says_present rule.place same d v has rule.says
+  reach_present : (way : Linking) (d v : ℕ) → Has box d v → (rule : LinkingReach parts group box way d v) × (rule.place ≡ place) → May parts box place
+  reach_present way d v has (rule, same) = says_present rule.place same d v has rule.says
 
   pub takes_present : (p : Principle) → IsLinking p → (d v : ℕ) → Has box d v → TakesAt p parts group box place d v → May parts box place
-  takes_present principles.LinkingEnd l d v has t = reach_present d v has t
-  takes_present principles.LinkingDaughter l d v has t = reach_present d v has t
-  takes_present principles.LinkingMother l d v has t = reach_present d v has t
-  takes_present principles.LinkingBelowStart l d v has t = reach_present d v has t
-  takes_present principles.LinkingAboveStart l d v has t = reach_present d v has t
-  takes_present principles.LinkingSisters l d v has t = reach_present d v has t
+  takes_present principles.LinkingEnd l d v has t = reach_present linkings.End d v has t
+  takes_present principles.LinkingDaughter l d v has t = reach_present linkings.Daughter d v has t
+  takes_present principles.LinkingMother l d v has t = reach_present linkings.Mother d v has t
+  takes_present principles.LinkingBelowStart l d v has t = reach_present linkings.BelowStart d v has t
+  takes_present principles.LinkingAboveStart l d v has t = reach_present linkings.AboveStart d v has t
+  takes_present principles.LinkingSisters l d v has t = reach_present linkings.Sisters d v has t
   takes_present principles.LinkingNotDaughter l d v has (rule, same) = elim rule.one [
     | inl here ↦ says_present rule.place same d v has here.0
     | inr there ↦ subst (May parts box) same (must_is parts box (first_dim group) rule.place there.1).present

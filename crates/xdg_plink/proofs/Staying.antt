@@ -1,6 +1,8 @@
 -- Where a linking principle takes nothing, it takes nothing while the box loses no value at which its tests look.
 use Rattle.std.proofs.Common.{◌≡◌, ℕ, ◌<◌, inl, inr, Bool, true, List, refl}
 use Rattle.xdg_problem.specs.declared.parts.Group.{Group}
+use Rattle.xdg_problem.specs.declared.parts.Linking.{Linking}
+use Rattle.xdg_problem.specs.declared.parts.Linking.TheVariants as linkings
 use Rattle.xdg_problem.specs.declared.parts.Parts.{Parts}
 use Rattle.xdg_problem.specs.declared.parts.Principle.{Principle}
 use Rattle.xdg_problem.specs.declared.parts.Principle.TheVariants as principles
@@ -45,11 +47,11 @@ module _ (parts : Parts) (group : Group) (old new : List (List Bool)) (problem :
   may_kept : Among (may_edges parts old (second_dim group)) (may_edges parts new (second_dim group))
   may_kept = may_stay parts group old new unseen (second_dim group) on_second
 
-  reach_kept : (d v : ℕ) → LinkingReach parts group new d v → LinkingReach parts group old d v
-  reach_kept d v rule =
+  reach_kept : (way : Linking) (d v : ℕ) → LinkingReach parts group new way d v → LinkingReach parts group old way d v
+  reach_kept way d v rule =
       let within = (is_place parts rule.place rule.is.0).mother in
-      reach_before parts group old new d v rule (λ c. entries rule.place.mother.0 c within)
-      (λ labels. linked_among (may_edges parts old (second_dim group)) (may_edges parts new (second_dim group)) may_kept group.principle rule.place.mother.0
+      reach_before parts group old new way d v rule (λ c. entries rule.place.mother.0 c within)
+      (λ labels. linked_among (may_edges parts old (second_dim group)) (may_edges parts new (second_dim group)) may_kept way rule.place.mother.0
       labels rule.place.daughter.0)
 
   apart_kept : (d v : ℕ) → LinkingNotDaughter parts group new d v → LinkingNotDaughter parts group old d v
@@ -60,12 +62,12 @@ module _ (parts : Parts) (group : Group) (old new : List (List Bool)) (problem :
       (must_before parts group old new unseen (second_dim group) on_second rule.other)
 
   takes_kept : (p : Principle) → IsLinking p → (d v : ℕ) → TakesBy p parts group new d v → TakesBy p parts group old d v
-  takes_kept principles.LinkingEnd f d v t = reach_kept d v t
-  takes_kept principles.LinkingDaughter f d v t = reach_kept d v t
-  takes_kept principles.LinkingMother f d v t = reach_kept d v t
-  takes_kept principles.LinkingBelowStart f d v t = reach_kept d v t
-  takes_kept principles.LinkingAboveStart f d v t = reach_kept d v t
-  takes_kept principles.LinkingSisters f d v t = reach_kept d v t
+  takes_kept principles.LinkingEnd f d v t = reach_kept linkings.End d v t
+  takes_kept principles.LinkingDaughter f d v t = reach_kept linkings.Daughter d v t
+  takes_kept principles.LinkingMother f d v t = reach_kept linkings.Mother d v t
+  takes_kept principles.LinkingBelowStart f d v t = reach_kept linkings.BelowStart d v t
+  takes_kept principles.LinkingAboveStart f d v t = reach_kept linkings.AboveStart d v t
+  takes_kept principles.LinkingSisters f d v t = reach_kept linkings.Sisters d v t
   takes_kept principles.LinkingNotDaughter f d v t = apart_kept d v t
   takes_kept p f d v t = absurd f
 

@@ -4,6 +4,8 @@ use Rattle.std.specs.Prelude.{length}
 use Rattle.std.proofs.lemmas.Bool.{cases_lt, false≢true}
 use Rattle.xdg_problem.specs.declared.analysis.Edge.{Edge}
 use Rattle.xdg_problem.specs.declared.parts.Group.{Group}
+use Rattle.xdg_problem.specs.declared.parts.Linking.{Linking}
+use Rattle.xdg_problem.specs.declared.parts.Linking.TheVariants as linkings
 use Rattle.xdg_problem.specs.declared.parts.Parts.{Parts}
 use Rattle.xdg_problem.specs.declared.parts.Principle.{Principle}
 use Rattle.xdg_problem.specs.declared.parts.Principle.TheVariants as principles
@@ -27,17 +29,18 @@ use Rattle.xdg_propcore.specs.Sweeps.{Sweeps}
 use Rattle.xdg_plink.specs.Steps.{AreLabelsDone, AreMothersDone, Asks, DoneAt, IsCut, IsExact, IsLabelDone, IsReady, TakesAt}
 use Rattle.xdg_graph.specs.Edges.{edge_labels}
 use Rattle.xdg_plink.specs.Ways.{Covers, way_of}
-use Rattle.xdg_plink.specs.declared.way.Way.{Way}
-use Rattle.xdg_plink.specs.declared.way.Way.TheVariants as ways
 use Rattle.xdg_plink.proofs.Linking.{linked_led, led_linked}
 
 -- ---- what the table covers
 
-covers_less : (way : Way) (parts : Parts) (small large : List (List Bool)) (dim : ℕ) (table : List (List ℕ)) → IsBox (shape parts) small → LiesIn small large → Covers way (may_edges parts large dim) table → Covers way (may_edges parts small dim) table
-covers_less ways.First parts small large dim table is lies covers = λ from to above. covers from to (above_among (may_edges parts small dim) (may_edges parts large dim) (may_among parts small large is lies dim) to from above)
-covers_less ways.Sister parts small large dim table is lies covers = λ from to (k, e, l, at, (m, d)). covers from to (any_of (λ f. (f.mother.0 ≡ to) × (f.daughter.0 ≡ from)) (may_edges parts large dim) e (may_among parts small large is lies dim e (k, l, at)) (m, d))
-covers_less ways.Into parts small large dim table is lies covers = tt
-covers_less ways.Straight parts small large dim table is lies covers = tt
+above_less : (parts : Parts) (small large : List (List Bool)) (dim : ℕ) (table : List (List ℕ)) → IsBox (shape parts) small → LiesIn small large → Covers linkings.BelowStart (may_edges parts large dim) table → Covers linkings.BelowStart (may_edges parts small dim) table
+above_less parts small large dim table is lies covers = λ from to above. covers from to (above_among (may_edges parts small dim) (may_edges parts large dim) (may_among parts small large is lies dim) to from above)
+
+covers_less : (way : Linking) (parts : Parts) (small large : List (List Bool)) (dim : ℕ) (table : List (List ℕ)) → IsBox (shape parts) small → LiesIn small large → Covers way (may_edges parts large dim) table → Covers way (may_edges parts small dim) table
+covers_less linkings.BelowStart parts small large dim table is lies covers = above_less parts small large dim table is lies covers
+covers_less linkings.AboveStart parts small large dim table is lies covers = above_less parts small large dim table is lies covers
+covers_less linkings.Sisters parts small large dim table is lies covers = λ from to (k, e, l, at, (m, d)). covers from to (any_of (λ f. (f.mother.0 ≡ to) × (f.daughter.0 ≡ from)) (may_edges parts large dim) e (may_among parts small large is lies dim e (k, l, at)) (m, d))
+covers_less way parts small large dim table is lies covers = tt
 
 -- it stays so
 pub ready_later : (group : Group) (table : List (List ℕ)) (Done : List (List Bool) → Type 0) (p : Progress) (old : State) (q : Progress) (new : State) → IsReady group table old → Sweeps group Done p old q new → IsReady group table new
@@ -51,7 +54,7 @@ ready_later group table Done p old q new ready a = record {
 
 -- ---- principles
 
-pub reach_at : (p : Principle) → Reaches p → (parts : Parts) (group : Group) (box : List (List Bool)) (place : Edge) (d v : ℕ) → TakesAt p parts group box place d v → (rule : LinkingReach parts group box d v) × (rule.place ≡ place)
+pub reach_at : (p : Principle) → Reaches p → (parts : Parts) (group : Group) (box : List (List Bool)) (place : Edge) (d v : ℕ) → TakesAt p parts group box place d v → (rule : LinkingReach parts group box (way_of p) d v) × (rule.place ≡ place)
 reach_at principles.LinkingEnd r parts group box place d v t = t
 reach_at principles.LinkingDaughter r parts group box place d v t = t
 reach_at principles.LinkingMother r parts group box place d v t = t
@@ -60,7 +63,7 @@ reach_at principles.LinkingAboveStart r parts group box place d v t = t
 reach_at principles.LinkingSisters r parts group box place d v t = t
 reach_at principle r parts group box place d v t = absurd r
 
-pub reach_takes : (p : Principle) → Reaches p → (parts : Parts) (group : Group) (box : List (List Bool)) (d v : ℕ) → LinkingReach parts group box d v → TakesBy p parts group box d v
+pub reach_takes : (p : Principle) → Reaches p → (parts : Parts) (group : Group) (box : List (List Bool)) (d v : ℕ) → LinkingReach parts group box (way_of p) d v → TakesBy p parts group box d v
 reach_takes principles.LinkingEnd r parts group box d v t = t
 reach_takes principles.LinkingDaughter r parts group box d v t = t
 reach_takes principles.LinkingMother r parts group box d v t = t
@@ -102,7 +105,7 @@ module _ (group : Group) (table : List (List ℕ)) (p : Progress) (s : State) (p
       let (rule, same) = reach_at group.principle reaches s.parts group box place d v takes in
       subst (λ e. IsCut s.parts group table box e) same (
         subst (λ i. Has box i 0) rule.says.0 (subst (λ x. Has box d x) rule.says.1 has),
-        λ c remains led. rule.apart c remains (led_linked group.principle reaches (may_edges s.parts box (second_dim group)) table (map_row group rule.place.mother.0 c rule.place.label.0) rule.place.mother.0 rule.place.daughter.0 exact led),
+        λ c remains led. rule.apart c remains (led_linked (way_of group.principle) (may_edges s.parts box (second_dim group)) table (map_row group rule.place.mother.0 c rule.place.label.0) rule.place.mother.0 rule.place.daughter.0 exact led),
       )
 
   pub cut_none : (b : Bool) → b ≡ false → IsTrue b ↔ IsCut s.parts group table box place → Sweeps group (DoneAt s.parts group table place) p s p s
@@ -115,7 +118,7 @@ module _ (group : Group) (table : List (List ℕ)) (p : Progress) (s : State) (p
     is = (place_is s.parts place is, on);
     says = (refl, refl);
     links = (asks_link group.principle reaches group box place.mother.0 place.label.0).0 asks;
-    apart = λ c remains link. cut.1 c remains (linked_led group.principle reaches (may_edges s.parts box (second_dim group)) table (map_row group place.mother.0 c place.label.0) place.mother.0 place.daughter.0 ready.covers link);
+    apart = λ c remains link. cut.1 c remains (linked_led (way_of group.principle) (may_edges s.parts box (second_dim group)) table (map_row group place.mother.0 c place.label.0) place.mother.0 place.daughter.0 ready.covers link);
   }))
 
   pub cut_taken : (q : Progress) (new : State) → Known new → new.parts ≡ s.parts → Goes group p s q new → (Has new.now (edge_decision s.parts place) 0 → q.dead ≡ true) → Sweeps group (DoneAt s.parts group table place) p s q new

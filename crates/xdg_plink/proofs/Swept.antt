@@ -2,6 +2,7 @@
 use Rattle.std.proofs.Common.{◌≡◌, ℕ, Bool, List, sym, subst}
 use Rattle.xdg_problem.specs.declared.analysis.Edge.{Edge}
 use Rattle.xdg_problem.specs.declared.parts.Group.{Group}
+use Rattle.xdg_problem.specs.declared.parts.Linking.{Linking}
 use Rattle.xdg_problem.specs.declared.parts.Parts.{Parts}
 use Rattle.xdg_problem.specs.Boxes.{IsBox}
 use Rattle.xdg_problem.specs.Places.{nodes}
@@ -12,11 +13,10 @@ use Rattle.xdg_propcore.specs.Passes.{Progress}
 use Rattle.xdg_propcore.specs.Sweeps.{Sweeps}
 use Rattle.xdg_plink.specs.Family.{IsLinking}
 use Rattle.xdg_plink.specs.Steps.{AreMothersDone, IsExact}
-use Rattle.xdg_plink.specs.declared.way.Way.{Way}
 use Rattle.xdg_plink.proofs.Closing.{all_done}
 
 -- what is said of the table of a way and a dimension
-pub says_as : (Says : Way → List Edge → List (List ℕ) → Type 0) (parts : Parts) (box : List (List Bool)) (way its : Way) (dim second : ℕ) (table : List (List ℕ)) → way ≡ its → dim ≡ second → Says way (may_edges parts box dim) table → Says its (may_edges parts box second) table
+pub says_as : (Says : Linking → List Edge → List (List ℕ) → Type 0) (parts : Parts) (box : List (List Bool)) (way its : Linking) (dim second : ℕ) (table : List (List ℕ)) → way ≡ its → dim ≡ second → Says way (may_edges parts box dim) table → Says its (may_edges parts box second) table
 says_as Says parts box way its dim second table p q h = subst (λ w. Says w (may_edges parts box second) table) p (subst (λ i. Says way (may_edges parts box i) table) q h)
 
 pub swept : (group : Group) (table : List (List ℕ)) (p q : Progress) (old new : State) → IsLinking group.principle → IsExact old.parts group table old.now → Sweeps group (AreMothersDone old.parts group table (nodes old.parts)) p old q new → Sweeps group (IsClosedFor old.parts group) p old q new

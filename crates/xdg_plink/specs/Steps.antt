@@ -1,7 +1,8 @@
 -- What a part of a step does.
-use Rattle.std.specs.Prelude.{◌≡◌, ℕ, ◌<◌, Bool, List, length, Contains}
+use Rattle.std.specs.Prelude.{◌≡◌, ℕ, ◌<◌, Bool, List, length, Contains, Option, None, Some}
 use Rattle.xdg_problem.specs.declared.analysis.Edge.{Edge}
 use Rattle.xdg_problem.specs.declared.parts.Group.{Group}
+use Rattle.xdg_problem.specs.declared.parts.Linking.{Linking}
 use Rattle.xdg_problem.specs.declared.parts.Parts.{Parts}
 use Rattle.xdg_problem.specs.declared.parts.Principle.{Principle}
 use Rattle.xdg_problem.specs.declared.parts.Principle.TheVariants as principles
@@ -10,17 +11,23 @@ use Rattle.xdg_problem.specs.Arguments.{first_dim, second_dim}
 use Rattle.xdg_problem.specs.Boxes.{Has, May, Must}
 use Rattle.xdg_problem.specs.Places.{edge, nodes}
 use Rattle.xdg_problem.specs.Features.{map_row, set_row}
+use Rattle.xdg_problem.specs.Principles.{linking_of}
 use Rattle.xdg_problem.specs.Problems.{IsGroup}
 use Rattle.xdg_rules.specs.Rules.{EachEntry, IsPlaceOn, LinkingNotDaughter, LinkingReach, SaysPresent, may_edges, must_edges}
 use Rattle.xdg_store.specs.States.{State, Known}
 use Rattle.xdg_plink.specs.Family.{IsLinking, Reaches}
 use Rattle.xdg_graph.specs.Edges.{edge_labels}
-use Rattle.xdg_plink.specs.Ways.{Covers, IsLed, Keeps, from_node, way_of}
+use Rattle.xdg_plink.specs.Ways.{Covers, IsLed, Keeps, way_of}
 
--- what the rule of a principle takes at a place of the first dimension
+-- what the rule of a principle that links in a way takes at a place of the first dimension
+abbrev pub TakesLinkAt : Option Linking → Parts → Group → List (List Bool) → Edge → ℕ → ℕ → Type 0
+TakesLinkAt None parts group box place d v = ⊥
+TakesLinkAt (Some way) parts group box place d v = (rule : LinkingReach parts group box way d v) × (rule.place ≡ place)
+
+-- what the rule of any takes there
 abbrev pub TakesAt : Principle → Parts → Group → List (List Bool) → Edge → ℕ → ℕ → Type 0
 TakesAt principles.LinkingNotDaughter parts group box place d v = (rule : LinkingNotDaughter parts group box d v) × (rule.place ≡ place)
-TakesAt principle parts group box place d v = (rule : LinkingReach parts group box d v) × (rule.place ≡ place)
+TakesAt principle parts group box place d v = TakesLinkAt (linking_of principle) parts group box place d v
 
 -- it takes nothing there that remains
 abbrev pub IsDoneAt : Parts → Group → Edge → List (List Bool) → Type 0
@@ -41,7 +48,7 @@ IsCut parts group table box place =
     May parts box place
     × EachEntry box place.mother.0
     (λ c. IsLed (way_of group.principle) (may_edges parts box (second_dim group)) table (map_row group place.mother.0 c place.label.0)
-    (from_node group.principle place.mother.0 place.daughter.0) (from_node group.principle place.daughter.0 place.mother.0)
+    place.mother.0 place.daughter.0
     → ⊥)
 
 -- nothing is done at a place, if the table is exact

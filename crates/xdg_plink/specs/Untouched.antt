@@ -2,8 +2,9 @@
 use Rattle.std.specs.Prelude.{◌≡◌, ◌≢◌, ◌<◌, ℕ, Bool, true, List}
 use Rattle.xdg_problem.specs.declared.analysis.Edge.{Edge}
 use Rattle.xdg_problem.specs.declared.parts.Group.{Group}
+use Rattle.xdg_problem.specs.declared.parts.Linking.{Linking}
+use Rattle.xdg_problem.specs.declared.parts.Linking.TheVariants as linkings
 use Rattle.xdg_problem.specs.declared.parts.Parts.{Parts}
-use Rattle.xdg_problem.specs.declared.parts.Principle.{Principle}
 use Rattle.xdg_problem.specs.Analyses.{IsPlace}
 use Rattle.xdg_problem.specs.Arguments.{first_dim}
 use Rattle.xdg_problem.specs.Boxes.{May}
@@ -11,10 +12,7 @@ use Rattle.xdg_problem.specs.Places.{edge, nodes}
 use Rattle.xdg_rules.specs.Rules.{IsPlaceOn}
 use Rattle.xdg_propcore.specs.declared.touched.Touched.{Touched}
 use Rattle.xdg_plink.specs.Steps.{IsDoneAt}
-use Rattle.xdg_plink.specs.Ways.{from_node, way_of}
 use Rattle.xdg_plink.specs.declared.near.Near.{Near}
-use Rattle.xdg_plink.specs.declared.way.Way.{Way}
-use Rattle.xdg_plink.specs.declared.way.Way.TheVariants as ways
 use Rattle.xdg_facts.specs.Rises.{has}
 
 -- ---- what was lost of edges
@@ -23,12 +21,14 @@ use Rattle.xdg_facts.specs.Rises.{has}
 abbrev pub AreJoinsFree : Touched → ℕ → ℕ → Type 0
 AreJoinsFree lost u v = has lost.mothers u ≡ true → has lost.daughters v ≡ true → ⊥
 
--- no edge by which a way links a to b
-abbrev pub AreLinksFree : Way → Touched → ℕ → ℕ → Type 0
-AreLinksFree ways.Into lost a b = has lost.daughters b ≡ true → ⊥
-AreLinksFree ways.Straight lost a b = AreJoinsFree lost a b
-AreLinksFree ways.First lost a b = (x : ℕ) → has lost.daughters x ≡ true → ⊥
-AreLinksFree ways.Sister lost a b = (has lost.daughters a ≡ true → ⊥) × (has lost.daughters b ≡ true → ⊥)
+-- no edge by which a way links v to u
+abbrev pub AreLinksFree : Linking → Touched → ℕ → ℕ → Type 0
+AreLinksFree linkings.End lost u v = has lost.daughters v ≡ true → ⊥
+AreLinksFree linkings.Daughter lost u v = AreJoinsFree lost u v
+AreLinksFree linkings.Mother lost u v = AreJoinsFree lost v u
+AreLinksFree linkings.BelowStart lost u v = (x : ℕ) → has lost.daughters x ≡ true → ⊥
+AreLinksFree linkings.AboveStart lost u v = (x : ℕ) → has lost.daughters x ≡ true → ⊥
+AreLinksFree linkings.Sisters lost u v = (has lost.daughters u ≡ true → ⊥) × (has lost.daughters v ≡ true → ⊥)
 
 -- ---- edges near which something was lost
 
@@ -36,11 +36,9 @@ AreLinksFree ways.Sister lost a b = (has lost.daughters a ≡ true → ⊥) × (
 abbrev pub IsFree : Near → ℕ → ℕ → Type 0
 IsFree near u v = (has near.mothers u ≡ true → ⊥) × (has near.starts u ≡ true → has near.ends v ≡ true → ⊥)
 
--- beside them u has lost no entry, and no edge was lost by which a principle links u and v
-abbrev pub HasLinks : Near → Principle → Touched → Type 0
-HasLinks near principle lost =
-    (u v : ℕ) → u < 128 → IsFree near u v
-    → (has lost.entries u ≡ true → ⊥) × AreLinksFree (way_of principle) lost (from_node principle u v) (from_node principle v u)
+-- beside them u has lost no entry, and no edge was lost by which a way links v to u
+abbrev pub HasLinks : Near → Linking → Touched → Type 0
+HasLinks near way lost = (u v : ℕ) → u < 128 → IsFree near u v → (has lost.entries u ≡ true → ⊥) × AreLinksFree way lost u v
 
 -- nor an edge from u to v of either dimension
 abbrev pub HasJoins : Near → Touched → Touched → Type 0

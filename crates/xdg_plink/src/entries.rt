@@ -9,14 +9,14 @@ ghost use Rattle.xdg_problem.specs.Features.{map_row};
 ghost use Rattle.xdg_problem.specs.Places.{nodes};
 ghost use Rattle.xdg_rules.specs.Rules.{EachEntry, may_edges};
 ghost use Rattle.xdg_store.specs.States.{Known};
-ghost use Rattle.xdg_plink.specs.Ways.{way_of, from_node, Stands, IsEnd, IsLed};
+ghost use Rattle.xdg_plink.specs.Ways.{way_of, Stands, IsEnd, IsLed};
 
 use crate::neighbours::{may_daughters, may_mothers};
-use crate::way::{Way, is_turned, way_of};
+use crate::way::way_of;
 use xdg_base::{DimId, LabelId, NodeId};
 use xdg_graph::{dim_of, entry_count, row_of, set_at};
 use xdg_nodeset::NodeSet;
-use xdg_problem::{Group, Principle};
+use xdg_problem::{Group, Linking};
 use xdg_store::Store;
 
 /// Whether two sets have a node in common.
@@ -42,73 +42,66 @@ fn overlap_or_has(others: NodeSet, node: NodeId, far: NodeSet) -> bool
     overlap(others, far)
 }
 
-/// Whether one of some nodes may be the other end of an edge that links a to b, by a table.
-fn has_end(others: NodeSet, table: &[NodeSet; 128], way: Way, a: NodeId, b: NodeId) -> bool
-    requires a { a.0 < 128 }
-    requires b { b.0 < 128 }
-    ensures { IsTrue result ↔ ((x : ℕ) × (has others x ≡ true) × IsEnd way table.now a.0 b.0 x) }
+/// Whether one of some nodes may be the other end of an edge that links v to u, by a table.
+fn has_end(others: NodeSet, table: &[NodeSet; 128], way: Linking, u: NodeId, v: NodeId) -> bool
+    requires u { u.0 < 128 }
+    requires v { v.0 < 128 }
+    ensures { IsTrue result ↔ ((x : ℕ) × (has others x ≡ true) × IsEnd way table.now u.0 v.0 x) }
 {
     match way {
-        Way::Into => overlap(others, others),
-        Way::Straight => others.contains(b),
-        Way::First => overlap_or_has(others, b, set_at(table, b)),
-        Way::Sister => overlap(others, set_at(table, a)),
+        Linking::End => overlap(others, others),
+        Linking::Daughter => others.contains(v),
+        Linking::Mother => others.contains(u),
+        Linking::BelowStart => overlap_or_has(others, v, set_at(table, v)),
+        Linking::AboveStart => overlap_or_has(others, u, set_at(table, u)),
+        Linking::Sisters => overlap(others, set_at(table, u)),
     }
 }
 
-/// The other ends of the edges with a label that may stand for a to b.
-fn others(store: &Store, dim: DimId, way: Way, a: NodeId, b: NodeId, label: u16) -> NodeSet
-    requires a { a.0 < nodes store.now.parts }
-    requires b { b.0 < nodes store.now.parts }
-    ensures exact { (x : ℕ) → IsTrue (has result x) ↔ Stands way (may_edges store.now.parts store.now.now dim.0) a.0 b.0 label x }
+/// The other ends of the edges with a label that may stand for a link of v to u.
+fn others(store: &Store, dim: DimId, way: Linking, u: NodeId, v: NodeId, label: u16) -> NodeSet
+    requires u { u.0 < nodes store.now.parts }
+    requires v { v.0 < nodes store.now.parts }
+    ensures exact { (x : ℕ) → IsTrue (has result x) ↔ Stands way (may_edges store.now.parts store.now.now dim.0) u.0 v.0 label x }
     ensures known { Known store.now }
 {
     match way {
-        Way::Into => may_mothers(store, dim, b, label),
-        Way::Sister => may_mothers(store, dim, b, label),
-        Way::Straight => may_daughters(store, dim, a, label),
-        Way::First => may_daughters(store, dim, a, label),
+        Linking::End => may_mothers(store, dim, v, label),
+        Linking::Daughter => may_daughters(store, dim, u, label),
+        Linking::Mother => may_daughters(store, dim, v, label),
+        Linking::BelowStart => may_daughters(store, dim, u, label),
+        Linking::AboveStart => may_daughters(store, dim, v, label),
+        Linking::Sisters => may_mothers(store, dim, v, label),
     }
 }
 
-/// Whether an edge with one of some labels may link a to b, by a table.
+/// Whether an edge with one of some labels may link v to u, by a table.
 #[tactic(auto, using(xdg_nodeset::proofs::Meetings::none_start))]
 fn is_led(
     store: &Store,
     dim: DimId,
-    way: Way,
+    way: Linking,
     table: &[NodeSet; 128],
-    a: NodeId,
-    b: NodeId,
+    u: NodeId,
+    v: NodeId,
     labels: &[u16],
 ) -> bool
-    requires a { a.0 < nodes store.now.parts }
-    requires b { b.0 < nodes store.now.parts }
-    ensures exact { IsTrue result ↔ IsLed way (may_edges store.now.parts store.now.now dim.0) table.now labels.now a.0 b.0 }
+    requires u { u.0 < nodes store.now.parts }
+    requires v { v.0 < nodes store.now.parts }
+    ensures exact { IsTrue result ↔ IsLed way (may_edges store.now.parts store.now.now dim.0) table.now labels.now u.0 v.0 }
     ensures known { Known store.now }
 {
     // Each store holds a box.
     let _ = store.turns();
     for label in labels {
-        if has_end(others(store, dim, way, a, b, *label), table, way, a, b) {
+        if has_end(others(store, dim, way, u, v, *label), table, way, u, v) {
             return true;
         }
     }
     false
 }
 
-/// For an edge from u to v the node that a principle links.
-fn linked(principle: &Principle, u: NodeId, v: NodeId) -> NodeId
-    ensures node { result.0 ≡ from_node principle.now u.0 v.0 }
-    ensures within { (n : ℕ) → u.0 < n → v.0 < n → result.0 < n }
-{
-    if is_turned(principle) {
-        return v;
-    }
-    u
-}
-
-/// Whether for an entry of u an edge may link u to v as the principle use asks at a label, by a table.
+/// Whether for an entry of u an edge may link v to u as the principle use asks at a label, by a table.
 fn entry_links(
     store: &Store,
     group: &Group,
@@ -122,25 +115,15 @@ fn entry_links(
     requires v { v.0 < nodes store.now.parts }
     ensures exact { IsTrue result
         ↔ IsLed (way_of group.now.principle) (may_edges store.now.parts store.now.now (second_dim group.now)) table.now (map_row group.now u.0 place label.0)
-        (from_node group.now.principle u.0 v.0) (from_node group.now.principle v.0 u.0) }
+        u.0 v.0 }
     ensures known { Known store.now }
 {
     let dim = dim_of(group, 1);
     let way = way_of(&group.principle);
-    let from = linked(&group.principle, u, v);
-    let to = linked(&group.principle, v, u);
-    is_led(
-        store,
-        dim,
-        way,
-        table,
-        from,
-        to,
-        row_of(group, u, place, label),
-    )
+    is_led(store, dim, way, table, u, v, row_of(group, u, place, label))
 }
 
-/// Whether for no remaining entry of u an edge may link u to v as the principle use asks at a label, by a table.
+/// Whether for no remaining entry of u an edge may link v to u as the principle use asks at a label, by a table.
 pub(crate) fn none_links(
     store: &Store,
     group: &Group,
@@ -154,7 +137,7 @@ pub(crate) fn none_links(
     ensures exact { IsTrue result
         ↔ EachEntry store.now.now u.0
         (λ c. IsLed (way_of group.now.principle) (may_edges store.now.parts store.now.now (second_dim group.now)) table.now
-        (map_row group.now u.0 c label.0) (from_node group.now.principle u.0 v.0) (from_node group.now.principle v.0 u.0)
+        (map_row group.now u.0 c label.0) u.0 v.0
         → ⊥) }
     ensures known { Known store.now }
 {

@@ -12,10 +12,11 @@ ghost use Rattle.xdg_plink.specs.Family.{IsLinking};
 ghost use Rattle.xdg_plink.specs.Untouched.{AreNear, AreOthersDone, HasJoins, HasLinks, IsFree};
 
 use crate::asking::asks_edges;
+use crate::way::way_of;
 use xdg_base::{DimId, LabelId, NodeId};
 use xdg_graph::dim_of;
 use xdg_nodeset::NodeSet;
-use xdg_problem::{Group, Principle};
+use xdg_problem::{Group, Linking};
 use xdg_propcore::Touched;
 use xdg_store::{Mark, Store};
 
@@ -106,35 +107,34 @@ fn near_paths(lost: &Touched) -> Near
     Near::all()
 }
 
-/// Those at which a principle that asks for edges may take more, by what was lost of entries and of edges of the second dimension.
-fn near_links(principle: &Principle, lost: &Touched) -> Near
-    ensures { HasLinks result principle.now lost.now }
+/// Those at which a way of linking may take more, by what was lost of entries and of edges of the second dimension.
+fn near_links(way: Linking, lost: &Touched) -> Near
+    ensures { HasLinks result way lost.now }
 {
     let nodes = every();
-    match principle {
-        Principle::LinkingEnd => Near {
+    match way {
+        Linking::End => Near {
             mothers: lost.entries,
             starts: nodes,
             ends: lost.daughters,
         },
-        Principle::LinkingDaughter => Near {
+        Linking::Daughter => Near {
             mothers: lost.entries,
             starts: lost.mothers,
             ends: lost.daughters,
         },
-        Principle::LinkingMother => Near {
+        Linking::Mother => Near {
             mothers: lost.entries,
             starts: lost.daughters,
             ends: lost.mothers,
         },
-        Principle::LinkingBelowStart => near_paths(lost),
-        Principle::LinkingAboveStart => near_paths(lost),
-        Principle::LinkingSisters => Near {
+        Linking::BelowStart => near_paths(lost),
+        Linking::AboveStart => near_paths(lost),
+        Linking::Sisters => Near {
             mothers: lost.entries.union(&lost.daughters),
             starts: nodes,
             ends: lost.daughters,
         },
-        _ => Near::all(),
     }
 }
 
@@ -162,7 +162,7 @@ fn near_lost(store: &Store, group: &Group, mark: Mark) -> Near
     let second_dim = dim_of(group, 1);
     let second = Touched::since(store, mark, second_dim);
     if asks_edges(&group.principle) {
-        return near_links(&group.principle, &second);
+        return near_links(way_of(&group.principle), &second);
     }
     let first_dim = dim_of(group, 0);
     let first = Touched::since(store, mark, first_dim);

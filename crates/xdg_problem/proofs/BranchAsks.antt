@@ -11,12 +11,13 @@ use Rattle.xdg_problem.specs.declared.parts.Group.{Group}
 use Rattle.xdg_problem.specs.declared.parts.Parts.{Parts}
 use Rattle.xdg_problem.specs.declared.parts.Principle.{Principle}
 use Rattle.xdg_problem.specs.declared.parts.Principle.TheVariants as principles
-use Rattle.xdg_problem.specs.Asking.{Asks, AsksLink, AsksOf, AsksWhole, IsLinked, attr_places, first, second, third}
+use Rattle.xdg_problem.specs.Asking.{Asks, AsksBy, AsksLink, AsksOf, AsksWhole, attr_places, first, second, third}
 use Rattle.xdg_problem.specs.Arguments.{first_dim, second_dim}
 use Rattle.xdg_problem.specs.Branches.{branch_principle, first_alone}
 use Rattle.xdg_problem.specs.Conditions.{IsTuple}
 use Rattle.xdg_problem.specs.Features.{row}
 use Rattle.xdg_problem.specs.Paths.{AboveByLast, edges_on, edges_into, edges_out_of}
+use Rattle.xdg_problem.specs.Principles.{linking_of}
 use Rattle.xdg_problem.specs.Relations.{IsKept}
 
 -- the parts with other candidates and principle uses
@@ -79,10 +80,8 @@ alone_rows group (fs ∷ feats) place more (suc node) argument label = refl
 
 pub links_down : (principle : Principle) (place : ℕ) (group : Group) (f g : List (List (List Feat))) → SameLinks (branch_principle place principle) principle group f g
 links_down principles.LinkingNotDaughter place group f g node c d edges l v same asks = λ has. asks (subst (λ r. Contains r l) (sym (same 0 0)) has)
-links_down (principles.Rule formula) place group f g node c d edges l v same asks = λ some. tt
-links_down principle place group f g node c d edges l v same asks = subst (λ r. 0 < length r → IsLinked principle edges node r v) (same 0 l) asks
+links_down principle place group f g node c d edges l v same asks = subst (λ r. AsksBy (linking_of principle) edges node r v) (same 0 l) asks
 
 pub links_up : (principle : Principle) (place : ℕ) (group : Group) (f g : List (List (List Feat))) → SameLinks principle (branch_principle place principle) group f g
 links_up principles.LinkingNotDaughter place group f g node c d edges l v same asks = λ has. asks (subst (λ r. Contains r l) (sym (same 0 0)) has)
-links_up (principles.Rule formula) place group f g node c d edges l v same asks = λ some. tt
-links_up principle place group f g node c d edges l v same asks = subst (λ r. 0 < length r → IsLinked principle edges node r v) (same 0 l) asks
+links_up principle place group f g node c d edges l v same asks = subst (λ r. AsksBy (linking_of principle) edges node r v) (same 0 l) asks

@@ -1,18 +1,21 @@
 -- What a condition asks of a tuple can be decided.
-use Rattle.std.proofs.Common.{◌≡◌, ℕ, ◌<◌, ◌⊎◌, inl, true, List, length, map, refl, sym, subst}
+use Rattle.std.proofs.Common.{◌≡◌, ℕ, ◌<◌, ◌⊎◌, inl, true, List, length, map, refl, sym, subst, Option, None, Some}
 use Rattle.std.specs.Prelude.{slice_index}
 use Rattle.std.specs.List.{Any}
 use Rattle.xdg_problem.specs.declared.analysis.Edge.{Edge}
 use Rattle.xdg_problem.specs.declared.conditions.Condition.{Condition}
 use Rattle.xdg_problem.specs.declared.conditions.Condition.TheVariants as conditions
 use Rattle.xdg_problem.specs.declared.parts.Group.{Group}
+use Rattle.xdg_problem.specs.declared.parts.Linking.{Linking}
+use Rattle.xdg_problem.specs.declared.parts.Linking.TheVariants as linkings
 use Rattle.xdg_problem.specs.declared.parts.Parts.{Parts}
 use Rattle.xdg_problem.specs.declared.parts.Principle.{Principle}
 use Rattle.xdg_problem.specs.declared.parts.Principle.TheVariants as principles
 use Rattle.xdg_problem.specs.Paths.{edges_on, edges_into, edges_out_of, edges_joining, mothers, IsDaughter, IsDaughterBy, Above}
 use Rattle.xdg_problem.specs.Features.{in_row, out_row, set_row, map_row}
+use Rattle.xdg_problem.specs.Principles.{linking_of}
 use Rattle.xdg_problem.specs.Arguments.{first_dim, second_dim, truth_of, order_of}
-use Rattle.xdg_problem.specs.Asking.{first, second, third, IsBetween, IsInItem, IsLinked, AsksLink, AsksOf, attr_places, Asks}
+use Rattle.xdg_problem.specs.Asking.{first, second, third, IsBetween, IsInItem, IsLinked, AsksBy, AsksLink, AsksOf, attr_places, Asks}
 use Rattle.xdg_problem.proofs.Deciding.{Decided, decided_like, decided_both, decided_from, decided_equal, decided_less, decided_most, decided_contains}
 use Rattle.xdg_problem.proofs.DecidingPaths.{decided_either, decided_true, decided_not, decided_any, contained, decided_pairs, triple_decided, decided_daughter, decided_daughter_by, decided_daughter_by_any, decided_entered, decided_sisters, decided_above, decided_above_by_first, decided_above_by_last}
 use Rattle.xdg_problem.proofs.DecidingTruths.{decided_whole}
@@ -32,21 +35,24 @@ decided_item edges yields own u label x takes = decided_either ((label ≡ own) 
     (decided_both _ _ (decided_equal label own) (decided_equal x u))
     (decided_either (IsDaughterBy edges u label x) (yields × ((v : ℕ) × IsDaughterBy edges u label v × Above edges v x)) (decided_daughter_by edges u label x) (decided_both _ _ takes (decided_yield edges u label x)))
 
-pub decided_linked : (principle : Principle) (edges : List Edge) (u : ℕ) (labels : List ℕ) (v : ℕ) → Decided (IsLinked principle edges u labels v)
-decided_linked principles.LinkingEnd edges u labels v = decided_entered edges labels v
-decided_linked principles.LinkingDaughter edges u labels v = decided_daughter_by_any edges u labels v
-decided_linked principles.LinkingMother edges u labels v = decided_daughter_by_any edges v labels u
-decided_linked principles.LinkingBelowStart edges u labels v = decided_above_by_first edges u labels v
-decided_linked principles.LinkingAboveStart edges u labels v = decided_above_by_first edges v labels u
-decided_linked principles.LinkingSisters edges u labels v = decided_sisters edges u labels v
-decided_linked principle edges u labels v = inl tt
+pub decided_linked : (way : Linking) (edges : List Edge) (u : ℕ) (labels : List ℕ) (v : ℕ) → Decided (IsLinked way edges u labels v)
+decided_linked linkings.End edges u labels v = decided_entered edges labels v
+decided_linked linkings.Daughter edges u labels v = decided_daughter_by_any edges u labels v
+decided_linked linkings.Mother edges u labels v = decided_daughter_by_any edges v labels u
+decided_linked linkings.BelowStart edges u labels v = decided_above_by_first edges u labels v
+decided_linked linkings.AboveStart edges u labels v = decided_above_by_first edges v labels u
+decided_linked linkings.Sisters edges u labels v = decided_sisters edges u labels v
 
 labelled : (labels : List ℕ) (P : Type 0) → Decided P → Decided (0 < length labels → P)
 labelled labels P p = decided_from (0 < length labels) P (decided_less 0 (length labels)) p
 
+decided_way : (linking : Option Linking) (edges : List Edge) (u : ℕ) (labels : List ℕ) (v : ℕ) → Decided (AsksBy linking edges u labels v)
+decided_way None edges u labels v = inl tt
+decided_way (Some way) edges u labels v = labelled labels _ (decided_linked way edges u labels v)
+
 decided_link : (principle : Principle) (group : Group) (candidate : ℕ) (edges : List Edge) (u l v : ℕ) → Decided (AsksLink principle group candidate edges u l v)
 decided_link principles.LinkingNotDaughter group candidate edges u l v = decided_from _ _ (decided_contains (set_row group u candidate) l) (decided_not (IsDaughter edges u v) (decided_daughter edges u v))
-decided_link principle group candidate edges u l v = labelled (map_row group u candidate l) _ (decided_linked principle edges u (map_row group u candidate l) v)
+decided_link principle group candidate edges u l v = decided_way (linking_of principle) edges u (map_row group u candidate l) v
 
 pub decided_asks : (condition : Condition) (group : Group) (candidate : ℕ) (values : List ℕ) (edges : List Edge) (tuple : List ℕ) → Decided (AsksOf condition group candidate values edges tuple)
 decided_asks conditions.Cycle group candidate values edges tuple = decided_not _ (decided_above (edges_on (first_dim group) edges) (first tuple) (first tuple))

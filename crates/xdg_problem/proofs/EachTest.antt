@@ -1,9 +1,12 @@
 -- The tests of each principle, written out.
-use Rattle.std.proofs.Common.{◌≡◌, ℕ, ◌<◌, Bool, true, false, List, Option, Some, None}
+use Rattle.std.proofs.Common.{◌≡◌, ℕ, ◌<◌, Bool, true, false, List, Option, Some, None, refl, sym, subst}
+use Rattle.xdg_problem.specs.declared.parts.Linking.{Linking}
+use Rattle.xdg_problem.specs.declared.parts.Linking.TheVariants as linkings
 use Rattle.xdg_problem.specs.declared.parts.Principle.{Principle}
 use Rattle.xdg_problem.specs.declared.parts.Principle.TheVariants as principles
+use Rattle.xdg_problem.specs.Principles.{linking_of, way_in}
 use Rattle.xdg_problem.specs.Arguments.{truth_of}
-use Rattle.xdg_problem.specs.Tests.{Test, IsTestOf, out_count, in_count, one_mother, no_cycle, one_root, one_label, ordered_daughters, ordered_yields, projective, allowed_value, agreeing, governed, climbing, not_blocked, linked_end, linked_daughter, linked_mother, linked_sister, linked_path, entry_node}
+use Rattle.xdg_problem.specs.Tests.{Test, IsTestOf, out_count, in_count, one_mother, no_cycle, one_root, one_label, ordered_daughters, ordered_yields, projective, allowed_value, agreeing, governed, climbing, not_blocked, linked, unlinked, entry_node}
 
 module _ (truths : List Bool) (n labels : ℕ) (Q : Test → Type 0) where
   -- for each node, for each two, for each two and a label
@@ -15,6 +18,11 @@ module _ (truths : List Bool) (n labels : ℕ) (Q : Test → Type 0) where
 
   abbrev pub EachTriple : (ℕ → ℕ → ℕ → Test) → Type 0
   EachTriple test = (u : ℕ) → u < n → (l : ℕ) → l < labels → (v : ℕ) → v < n → Q (test u l v)
+
+  -- of each test of a principle that links in a way
+  abbrev pub EachLinked : Option Linking → Type 0
+  EachLinked None = Unit {0}
+  EachLinked (Some way) = EachTriple (linked way)
 
   -- Q holds of each test of a principle
   abbrev pub Each : Principle → Type 0
@@ -30,20 +38,17 @@ module _ (truths : List Bool) (n labels : ℕ) (Q : Test → Type 0) where
   Each principles.Government = EachTriple governed
   Each principles.Climbing = EachPair climbing
   Each principles.Barriers = EachPair not_blocked
-  Each principles.LinkingEnd = EachTriple linked_end
-  Each principles.LinkingDaughter = EachTriple linked_daughter
-  Each principles.LinkingMother = EachTriple linked_mother
-  Each principles.LinkingBelowStart = EachTriple linked_path
-  Each principles.LinkingAboveStart = EachTriple linked_path
-  Each principles.LinkingSisters = EachTriple linked_sister
-  Each principles.LinkingNotDaughter = EachTriple linked_daughter
+  Each principles.LinkingNotDaughter = EachTriple unlinked
   Each (principles.Rule formula) = Unit {0}
   Each (principles.Bound costs bound) = Unit {0}
+  Each principle = EachLinked (linking_of principle)
 
   abbrev pub Tested : Principle → Type 0
   Tested principle = (test : Test) → IsTestOf principle truths n labels test → Q test
 
   pub tested_each : (principle : Principle) → Tested principle → Each principle
+  tested_each principles.Graph t = tt
+  tested_each principles.Entries t = tt
   tested_each principles.Tree t = (λ v a k b. t (one_mother v k) (a, b), λ k a. t (no_cycle k) a, t one_root tt)
   tested_each principles.Dag t = (λ k a. t (no_cycle k) a, λ e. t one_root e, λ e u a v b. t (one_label u v) (e, a, b))
   tested_each principles.Valency t = (λ v a l b k c. t (out_count v l k) (a, b, c), λ v a l b k c. t (in_count v l k) (a, b, c))
@@ -54,14 +59,10 @@ module _ (truths : List Bool) (n labels : ℕ) (Q : Test → Type 0) where
   tested_each principles.Government t = λ u a l b v c. t (governed u l v) (a, b, c)
   tested_each principles.Climbing t = λ u a v b. t (climbing u v) (a, b)
   tested_each principles.Barriers t = λ w a v b. t (not_blocked w v) (a, b)
-  tested_each principles.LinkingEnd t = λ u a l b v c. t (linked_end u l v) (a, b, c)
-  tested_each principles.LinkingDaughter t = λ u a l b v c. t (linked_daughter u l v) (a, b, c)
-  tested_each principles.LinkingMother t = λ u a l b v c. t (linked_mother u l v) (a, b, c)
-  tested_each principles.LinkingBelowStart t = λ u a l b v c. t (linked_path u l v) (a, b, c)
-  tested_each principles.LinkingAboveStart t = λ u a l b v c. t (linked_path u l v) (a, b, c)
-  tested_each principles.LinkingSisters t = λ u a l b v c. t (linked_sister u l v) (a, b, c)
-  tested_each principles.LinkingNotDaughter t = λ u a l b v c. t (linked_daughter u l v) (a, b, c)
-  tested_each principle t = tt
+  tested_each principles.LinkingNotDaughter t = λ u a l b v c. t (unlinked u l v) (a, b, c)
+  tested_each (principles.Rule formula) t = tt
+  tested_each (principles.Bound costs bound) t = tt
+  tested_each principle t = λ u a l b v c. t (linked (way_in (linking_of principle)) u l v) (refl, (a, b, c))
 
   pub each_tested : (principle : Principle) → Each principle → Tested principle
   each_tested principles.Tree each (one_mother v k) is = each.0 v is.0 k is.1
@@ -80,13 +81,14 @@ module _ (truths : List Bool) (n labels : ℕ) (Q : Test → Type 0) where
   each_tested principles.Government each (governed u l v) is = each u is.0 l is.1 v is.2
   each_tested principles.Climbing each (climbing u v) is = each u is.0 v is.1
   each_tested principles.Barriers each (not_blocked w v) is = each w is.0 v is.1
-  each_tested principles.LinkingEnd each (linked_end u l v) is = each u is.0 l is.1 v is.2
-  each_tested principles.LinkingDaughter each (linked_daughter u l v) is = each u is.0 l is.1 v is.2
-  each_tested principles.LinkingMother each (linked_mother u l v) is = each u is.0 l is.1 v is.2
-  each_tested principles.LinkingBelowStart each (linked_path u l v) is = each u is.0 l is.1 v is.2
-  each_tested principles.LinkingAboveStart each (linked_path u l v) is = each u is.0 l is.1 v is.2
-  each_tested principles.LinkingSisters each (linked_sister u l v) is = each u is.0 l is.1 v is.2
-  each_tested principles.LinkingNotDaughter each (linked_daughter u l v) is = each u is.0 l is.1 v is.2
+  each_tested principles.LinkingEnd each (linked asked u l v) is = subst (λ w. Q (linked w u l v)) (sym is.0) (each u is.1.0 l is.1.1 v is.1.2)
+  each_tested principles.LinkingDaughter each (linked asked u l v) is = subst (λ w. Q (linked w u l v)) (sym is.0) (each u is.1.0 l is.1.1 v is.1.2)
+  each_tested principles.LinkingMother each (linked asked u l v) is = subst (λ w. Q (linked w u l v)) (sym is.0) (each u is.1.0 l is.1.1 v is.1.2)
+  each_tested principles.LinkingBelowStart each (linked asked u l v) is = subst (λ w. Q (linked w u l v)) (sym is.0) (each u is.1.0 l is.1.1 v is.1.2)
+  each_tested principles.LinkingAboveStart each (linked asked u l v) is = subst (λ w. Q (linked w u l v)) (sym is.0) (each u is.1.0 l is.1.1 v is.1.2)
+  each_tested principles.LinkingSisters each (linked asked u l v) is = subst (λ w. Q (linked w u l v)) (sym is.0) (each u is.1.0 l is.1.1 v is.1.2)
+  each_tested principles.LinkingNotDaughter each (unlinked u l v) is = each u is.0 l is.1 v is.2
+  each_tested principle each (linked asked u l v) is = absurd is
   each_tested principle each test is = absurd is
 
 -- the node whose entry a test looks at is a node

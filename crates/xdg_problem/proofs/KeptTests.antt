@@ -21,9 +21,9 @@ use Rattle.xdg_problem.proofs.ValencyTests.{in_tests, out_tests}
 use Rattle.xdg_problem.proofs.OrderTests.{order_tests, between_tests}
 use Rattle.xdg_problem.proofs.AgreeTests.{agr_tests, agree_tests, govern_tests}
 use Rattle.xdg_problem.proofs.PathTests.{below_tests, blocked_tests}
-use Rattle.xdg_problem.proofs.LinkTests.{end_tests, daughter_tests, mother_tests as linked_mother_tests, below_start_tests, above_start_tests, sister_tests, not_daughter_tests}
+use Rattle.xdg_problem.proofs.LinkTests.{linked_tests, unlinked_tests}
 use Rattle.xdg_facts.proofs.Facts.{then_iff}
-use Rattle.xdg_problem.specs.Principles.{conditions_for}
+use Rattle.xdg_problem.specs.Principles.{conditions_for, linking_of, way_in}
 
 module _ (parts : Parts) (group : Group) (candidates attrs : List ℕ) (edges : List Edge) (some : 0 < nodes parts) (mothers : All (λ e. e.mother.0 < nodes parts) edges) (daughters : All (λ e. e.daughter.0 < nodes parts) edges) where
   abbrev Kept : Condition → Type 0
@@ -80,12 +80,7 @@ module _ (parts : Parts) (group : Group) (candidates attrs : List ℕ) (edges : 
   kept_tests principles.Government is = one _ conditions.Govern (govern_tests parts group candidates attrs edges)
   kept_tests principles.Climbing is = one _ conditions.Below (below_tests parts group candidates attrs edges)
   kept_tests principles.Barriers is = one _ conditions.Blocked (blocked_tests parts group candidates attrs edges)
-  kept_tests principles.LinkingEnd is = one _ conditions.Link (end_tests parts group candidates attrs edges is)
-  kept_tests principles.LinkingDaughter is = one _ conditions.Link (daughter_tests parts group candidates attrs edges is)
-  kept_tests principles.LinkingMother is = one _ conditions.Link (linked_mother_tests parts group candidates attrs edges is)
-  kept_tests principles.LinkingBelowStart is = one _ conditions.Link (below_start_tests parts group candidates attrs edges is)
-  kept_tests principles.LinkingAboveStart is = one _ conditions.Link (above_start_tests parts group candidates attrs edges is)
-  kept_tests principles.LinkingSisters is = one _ conditions.Link (sister_tests parts group candidates attrs edges is)
-  kept_tests principles.LinkingNotDaughter is = one _ conditions.Link (not_daughter_tests parts group candidates attrs edges is)
+  kept_tests principles.LinkingNotDaughter is = one _ conditions.Link (unlinked_tests parts group candidates attrs edges is)
   kept_tests (principles.Rule formula) is = then_iff _ _ _ (by_empty (principles.Rule formula) is) (one_kept Kept conditions.Rule)
   kept_tests (principles.Bound costs bound) is = then_iff _ _ _ (by_empty (principles.Bound costs bound) is) (one_kept Kept conditions.Bound)
+  kept_tests principle is = one _ conditions.Link (linked_tests parts group candidates attrs edges principle (way_in (linking_of principle)) is (λ c u l v es. (λ asks. asks, λ asks. asks)))

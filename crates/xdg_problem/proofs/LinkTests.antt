@@ -1,21 +1,23 @@
 -- On a whole vector the tests of each linking principle are its condition.
-use Rattle.std.proofs.Common.{◌≡◌, ℕ, ◌<◌, ◌↔◌, List, length, sym, subst}
-use Rattle.std.specs.Prelude.{filter, slice_index, Contains, ◌==◌, ◌||◌}
+use Rattle.std.proofs.Common.{◌≡◌, ℕ, ◌<◌, ◌↔◌, true, List, length, refl, sym, subst, Some}
+use Rattle.std.specs.Prelude.{filter, slice_index, Contains, ◌==◌}
 use Rattle.std.specs.List.{Any}
 use Rattle.std.proofs.lemmas.Bool.{eq-eqb}
 use Rattle.xdg_problem.specs.declared.analysis.Edge.{Edge}
 use Rattle.xdg_problem.specs.declared.conditions.Condition.TheVariants as conditions
 use Rattle.xdg_problem.specs.declared.parts.Group.{Group}
+use Rattle.xdg_problem.specs.declared.parts.Linking.{Linking}
+use Rattle.xdg_problem.specs.declared.parts.Linking.TheVariants as linkings
 use Rattle.xdg_problem.specs.declared.parts.Parts.{Parts}
 use Rattle.xdg_problem.specs.declared.parts.Principle.{Principle}
 use Rattle.xdg_problem.specs.declared.parts.Principle.TheVariants as principles
 use Rattle.xdg_problem.specs.Places.{nodes}
-use Rattle.xdg_problem.specs.Paths.{edges_on, IsDaughter, IsDaughterBy, IsDaughterByAny, IsEnteredByAny, AreSistersByAny, AboveByFirst}
+use Rattle.xdg_problem.specs.Paths.{edges_on, IsDaughter, IsDaughterBy, IsDaughterByAny, AreSistersByAny, AboveByFirst}
 use Rattle.xdg_problem.specs.Features.{map_row}
 use Rattle.xdg_problem.specs.Arguments.{first_dim, second_dim, label_count}
-use Rattle.xdg_problem.specs.Asking.{AsksLink, Asks}
+use Rattle.xdg_problem.specs.Asking.{AsksBy, AsksLink, Asks, IsLinked}
 use Rattle.xdg_problem.specs.Relations.{IsKept}
-use Rattle.xdg_problem.specs.Tests.{Test, linked_end, linked_daughter, linked_mother, linked_sister, linked_path, looks_first, looks_second, looks_at}
+use Rattle.xdg_problem.specs.Tests.{Test, linked, unlinked, can_link, looks_first, looks_second, looks_at}
 use Rattle.xdg_problem.proofs.Looking.{and_3, any_weaker, on_same, any_same, sees_place}
 use Rattle.xdg_problem.proofs.Tuples.{triples}
 use Rattle.xdg_problem.proofs.Passing.{PassesAt}
@@ -58,81 +60,59 @@ module _ (parts : Parts) (group : Group) (candidates attrs : List ℕ) (edges : 
   abbrev Linked : (ℕ → ℕ → ℕ → Test) → Type 0
   Linked test = EachTriple group.truths n labels (PassesAt parts group candidates attrs edges) test ↔ IsKept parts group candidates attrs edges conditions.Link
 
-  end_linked : (u l v : ℕ) (labels : List ℕ) → IsEnteredByAny (edges_on two (seen (linked_end u l v))) labels v ↔ IsEnteredByAny (edges_on two edges) labels v
-  end_linked u l v labels = any_same (looks_at group (linked_end u l v)) two edges (λ e. Contains labels e.label.0 × (e.daughter.0 ≡ v)) (λ e is on. or_here (looks_second two (linked_end u l v) e) (looks_first one (linked_end u l v) e) (and_2 (e.dim.0 == two) (e.daughter.0 == v) on (eq-eqb e.daughter.0 v is.1)))
+  -- a test that looks at the edge of a place sees it
+  placed : (test : Test) (u l v : ℕ) → ((e : Edge) → (e.mother.0 ≡ u) × (e.label.0 ≡ l) × (e.daughter.0 ≡ v) → (e.dim.0 == one) ≡ true → looks_first one test e ≡ true) → IsDaughterBy (edges_on one (seen test)) u l v ↔ IsDaughterBy (edges_on one edges) u l v
+  placed test u l v looks = any_same (looks_at group test) one edges (λ e. (e.mother.0 ≡ u) × (e.label.0 ≡ l) × (e.daughter.0 ≡ v)) (λ e here on. either_true (looks_second two test e) (looks_first one test e) (looks e here on))
 
-  pub end_tests : group.principle ≡ principles.LinkingEnd → Linked linked_end
-  end_tests is = triples (Asks conditions.Link parts group candidates attrs edges) (λ u l v. PassesAt parts group candidates attrs edges (linked_end u l v)) n labels n (λ u l v.
-      link_like principles.LinkingEnd group (slice_index candidates u) u l v (edges_on one (seen (linked_end u l v))) (edges_on one edges) (edges_on two (seen (linked_end u l v))) (edges_on two edges) is
-      (any_same (looks_at group (linked_end u l v)) one edges (λ e. (e.mother.0 ≡ u) × (e.label.0 ≡ l) × (e.daughter.0 ≡ v)) (λ e here on. either_true (looks_second two (linked_end u l v) e) (looks_first one (linked_end u l v) e) (sees_place one u l v e here on)))
-      (labels_like _ _ (link_row u l) (end_linked u l v (link_row u l))))
+  -- it sees what can link
+  sees : (way : Linking) (u l v : ℕ) (e : Edge) → can_link way u v e ≡ true → (e.dim.0 == two) ≡ true → looks_at group (linked way u l v) e ≡ true
+  sees way u l v e can on = or_here (looks_second two (linked way u l v) e) (looks_first one (linked way u l v) e) (and_2 (e.dim.0 == two) (can_link way u v e) on can)
 
-  daughter_linked : (u l v : ℕ) (labels : List ℕ) → IsDaughterByAny (edges_on two (seen (linked_daughter u l v))) u labels v ↔ IsDaughterByAny (edges_on two edges) u labels v
-  daughter_linked u l v labels = any_same (looks_at group (linked_daughter u l v)) two edges (λ e. (e.mother.0 ≡ u) × Contains labels e.label.0 × (e.daughter.0 ≡ v)) (λ e is on. or_here (looks_second two (linked_daughter u l v) e) (looks_first one (linked_daughter u l v) e) (and_3 (e.dim.0 == two) (e.mother.0 == u) (e.daughter.0 == v) on (eq-eqb e.mother.0 u is.0) (eq-eqb e.daughter.0 v is.2)))
+  any_linked : (way : Linking) (u l v : ℕ) (P : Edge → Type 0) → ((e : Edge) → P e → can_link way u v e ≡ true) → Any P (edges_on two (seen (linked way u l v))) ↔ Any P (edges_on two edges)
+  any_linked way u l v P can = any_same (looks_at group (linked way u l v)) two edges P (λ e is. sees way u l v e (can e is))
 
-  daughter_placed : (u l v : ℕ) → IsDaughterBy (edges_on one (seen (linked_daughter u l v))) u l v ↔ IsDaughterBy (edges_on one edges) u l v
-  daughter_placed u l v = any_same (looks_at group (linked_daughter u l v)) one edges (λ e. (e.mother.0 ≡ u) × (e.label.0 ≡ l) × (e.daughter.0 ≡ v)) (λ e is on. either_true (looks_second two (linked_daughter u l v) e) (looks_first one (linked_daughter u l v) e) (sees_place one u l v e is on))
+  path_linked : (way : Linking) (u l v from to : ℕ) (labels : List ℕ) → ((e : Edge) → can_link way u v e ≡ true) → AboveByFirst (edges_on two (seen (linked way u l v))) from labels to ↔ AboveByFirst (edges_on two edges) from labels to
+  path_linked way u l v from to labels can =
+      let same = on_same (looks_at group (linked way u l v)) two edges (λ e. sees way u l v e (can e)) in
+      (subst (λ es. AboveByFirst es from labels to) same, subst (λ es. AboveByFirst es from labels to) (sym same))
 
-  pub daughter_tests : group.principle ≡ principles.LinkingDaughter → Linked linked_daughter
-  daughter_tests is = triples (Asks conditions.Link parts group candidates attrs edges) (λ u l v. PassesAt parts group candidates attrs edges (linked_daughter u l v)) n labels n (λ u l v.
-      link_like principles.LinkingDaughter group (slice_index candidates u) u l v (edges_on one (seen (linked_daughter u l v))) (edges_on one edges) (edges_on two (seen (linked_daughter u l v))) (edges_on two edges) is
-      (daughter_placed u l v)
-      (labels_like _ _ (link_row u l) (daughter_linked u l v (link_row u l))))
+  sister_placed : (u l v mother : ℕ) (labels : List ℕ) → IsDaughterByAny (edges_on two (seen (linked linkings.Sisters u l v))) mother labels v ↔ IsDaughterByAny (edges_on two edges) mother labels v
+  sister_placed u l v mother labels = any_linked linkings.Sisters u l v (λ e. (e.mother.0 ≡ mother) × Contains labels e.label.0 × (e.daughter.0 ≡ v)) (λ e is. either_true (e.daughter.0 == u) (e.daughter.0 == v) (eq-eqb e.daughter.0 v is.2))
 
-  no_daughter : (u l v : ℕ) → IsDaughter (edges_on two (seen (linked_daughter u l v))) u v ↔ IsDaughter (edges_on two edges) u v
-  no_daughter u l v = any_same (looks_at group (linked_daughter u l v)) two edges (λ e. (e.mother.0 ≡ u) × (e.daughter.0 ≡ v)) (λ e is on. or_here (looks_second two (linked_daughter u l v) e) (looks_first one (linked_daughter u l v) e) (and_3 (e.dim.0 == two) (e.mother.0 == u) (e.daughter.0 == v) on (eq-eqb e.mother.0 u is.0) (eq-eqb e.daughter.0 v is.1)))
+  sister_common : (u l v : ℕ) (labels : List ℕ) (rest : List Edge) → AreSistersOf rest (edges_on two (seen (linked linkings.Sisters u l v))) u labels v ↔ AreSistersOf rest (edges_on two edges) u labels v
+  sister_common u l v labels rest = any_linked linkings.Sisters u l v (λ e. (e.daughter.0 ≡ u) × IsDaughterByAny rest e.mother.0 labels v) (λ e is. or_here (e.daughter.0 == u) (e.daughter.0 == v) (eq-eqb e.daughter.0 u is.0))
 
-  pub not_daughter_tests : group.principle ≡ principles.LinkingNotDaughter → Linked linked_daughter
-  not_daughter_tests is = triples (Asks conditions.Link parts group candidates attrs edges) (λ u l v. PassesAt parts group candidates attrs edges (linked_daughter u l v)) n labels n (λ u l v.
-      link_like principles.LinkingNotDaughter group (slice_index candidates u) u l v (edges_on one (seen (linked_daughter u l v))) (edges_on one edges) (edges_on two (seen (linked_daughter u l v))) (edges_on two edges) is
-      (daughter_placed u l v)
-      (λ p named d. p named ((no_daughter u l v).1 d), λ p named d. p named ((no_daughter u l v).0 d)))
-
-  mother_linked : (u l v : ℕ) (labels : List ℕ) → IsDaughterByAny (edges_on two (seen (linked_mother u l v))) v labels u ↔ IsDaughterByAny (edges_on two edges) v labels u
-  mother_linked u l v labels = any_same (looks_at group (linked_mother u l v)) two edges (λ e. (e.mother.0 ≡ v) × Contains labels e.label.0 × (e.daughter.0 ≡ u)) (λ e is on. or_here (looks_second two (linked_mother u l v) e) (looks_first one (linked_mother u l v) e) (and_3 (e.dim.0 == two) (e.mother.0 == v) (e.daughter.0 == u) on (eq-eqb e.mother.0 v is.0) (eq-eqb e.daughter.0 u is.2)))
-
-  pub mother_tests : group.principle ≡ principles.LinkingMother → Linked linked_mother
-  mother_tests is = triples (Asks conditions.Link parts group candidates attrs edges) (λ u l v. PassesAt parts group candidates attrs edges (linked_mother u l v)) n labels n (λ u l v.
-      link_like principles.LinkingMother group (slice_index candidates u) u l v (edges_on one (seen (linked_mother u l v))) (edges_on one edges) (edges_on two (seen (linked_mother u l v))) (edges_on two edges) is
-      (any_same (looks_at group (linked_mother u l v)) one edges (λ e. (e.mother.0 ≡ u) × (e.label.0 ≡ l) × (e.daughter.0 ≡ v)) (λ e here on. either_true (looks_second two (linked_mother u l v) e) (looks_first one (linked_mother u l v) e) (sees_place one u l v e here on)))
-      (labels_like _ _ (link_row u l) (mother_linked u l v (link_row u l))))
-
-  sister_placed : (u l v mother : ℕ) (labels : List ℕ) → IsDaughterByAny (edges_on two (seen (linked_sister u l v))) mother labels v ↔ IsDaughterByAny (edges_on two edges) mother labels v
-  sister_placed u l v mother labels = any_same (looks_at group (linked_sister u l v)) two edges (λ e. (e.mother.0 ≡ mother) × Contains labels e.label.0 × (e.daughter.0 ≡ v)) (λ e is on. or_here (looks_second two (linked_sister u l v) e) (looks_first one (linked_sister u l v) e) (and_2 (e.dim.0 == two) ((e.daughter.0 == u) || (e.daughter.0 == v)) on (either_true (e.daughter.0 == u) (e.daughter.0 == v) (eq-eqb e.daughter.0 v is.2))))
-
-  sister_common : (u l v : ℕ) (labels : List ℕ) (rest : List Edge) → AreSistersOf rest (edges_on two (seen (linked_sister u l v))) u labels v ↔ AreSistersOf rest (edges_on two edges) u labels v
-  sister_common u l v labels rest = any_same (looks_at group (linked_sister u l v)) two edges (λ e. (e.daughter.0 ≡ u) × IsDaughterByAny rest e.mother.0 labels v) (λ e is on. or_here (looks_second two (linked_sister u l v) e) (looks_first one (linked_sister u l v) e) (and_2 (e.dim.0 == two) ((e.daughter.0 == u) || (e.daughter.0 == v)) on (or_here (e.daughter.0 == u) (e.daughter.0 == v) (eq-eqb e.daughter.0 u is.0))))
-
-  sister_linked : (u l v : ℕ) (labels : List ℕ) → AreSistersByAny (edges_on two (seen (linked_sister u l v))) u labels v ↔ AreSistersByAny (edges_on two edges) u labels v
+  sister_linked : (u l v : ℕ) (labels : List ℕ) → AreSistersByAny (edges_on two (seen (linked linkings.Sisters u l v))) u labels v ↔ AreSistersByAny (edges_on two edges) u labels v
   sister_linked u l v labels =
-      let few : List Edge = edges_on two (seen (linked_sister u l v)) in
+      let few : List Edge = edges_on two (seen (linked linkings.Sisters u l v)) in
       let many : List Edge = edges_on two edges in (
         λ s. any_weaker (λ e. (e.daughter.0 ≡ u) × IsDaughterByAny few e.mother.0 labels v) (λ e. (e.daughter.0 ≡ u) × IsDaughterByAny many e.mother.0 labels v) many (λ e both. (both.0, (sister_placed u l v e.mother.0 labels).0 both.1)) ((sister_common u l v labels few).0 s),
         λ s. (sister_common u l v labels few).1 (any_weaker (λ e. (e.daughter.0 ≡ u) × IsDaughterByAny many e.mother.0 labels v) (λ e. (e.daughter.0 ≡ u) × IsDaughterByAny few e.mother.0 labels v) many (λ e both. (both.0, (sister_placed u l v e.mother.0 labels).1 both.1)) s),
       )
 
-  pub sister_tests : group.principle ≡ principles.LinkingSisters → Linked linked_sister
-  sister_tests is = triples (Asks conditions.Link parts group candidates attrs edges) (λ u l v. PassesAt parts group candidates attrs edges (linked_sister u l v)) n labels n (λ u l v.
-      link_like principles.LinkingSisters group (slice_index candidates u) u l v (edges_on one (seen (linked_sister u l v))) (edges_on one edges) (edges_on two (seen (linked_sister u l v))) (edges_on two edges) is
-      (any_same (looks_at group (linked_sister u l v)) one edges (λ e. (e.mother.0 ≡ u) × (e.label.0 ≡ l) × (e.daughter.0 ≡ v)) (λ e here on. either_true (looks_second two (linked_sister u l v) e) (looks_first one (linked_sister u l v) e) (sees_place one u l v e here on)))
-      (labels_like _ _ (link_row u l) (sister_linked u l v (link_row u l))))
+  linked_same : (way : Linking) (u l v : ℕ) (labels : List ℕ) → IsLinked way (edges_on two (seen (linked way u l v))) u labels v ↔ IsLinked way (edges_on two edges) u labels v
+  linked_same linkings.End u l v labels = any_linked linkings.End u l v (λ e. Contains labels e.label.0 × (e.daughter.0 ≡ v)) (λ e is. eq-eqb e.daughter.0 v is.1)
+  linked_same linkings.Daughter u l v labels = any_linked linkings.Daughter u l v (λ e. (e.mother.0 ≡ u) × Contains labels e.label.0 × (e.daughter.0 ≡ v)) (λ e is. and_2 (e.mother.0 == u) (e.daughter.0 == v) (eq-eqb e.mother.0 u is.0) (eq-eqb e.daughter.0 v is.2))
+  linked_same linkings.Mother u l v labels = any_linked linkings.Mother u l v (λ e. (e.mother.0 ≡ v) × Contains labels e.label.0 × (e.daughter.0 ≡ u)) (λ e is. and_2 (e.mother.0 == v) (e.daughter.0 == u) (eq-eqb e.mother.0 v is.0) (eq-eqb e.daughter.0 u is.2))
+  linked_same linkings.BelowStart u l v labels = path_linked linkings.BelowStart u l v u v labels (λ e. refl)
+  linked_same linkings.AboveStart u l v labels = path_linked linkings.AboveStart u l v v u labels (λ e. refl)
+  linked_same linkings.Sisters u l v labels = sister_linked u l v labels
 
-  path_placed : (u l v : ℕ) → IsDaughterBy (edges_on one (seen (linked_path u l v))) u l v ↔ IsDaughterBy (edges_on one edges) u l v
-  path_placed u l v = any_same (looks_at group (linked_path u l v)) one edges (λ e. (e.mother.0 ≡ u) × (e.label.0 ≡ l) × (e.daughter.0 ≡ v)) (λ e is on. either_true (looks_second two (linked_path u l v) e) (looks_first one (linked_path u l v) e) (sees_place one u l v e is on))
+  pub linked_tests : (principle : Principle) (way : Linking) → group.principle ≡ principle
+      → ((c u l v : ℕ) (es : List Edge) → AsksLink principle group c es u l v ↔ AsksBy (Some way) es u (map_row group u c l) v) → Linked (linked way)
+  linked_tests principle way is asks = triples (Asks conditions.Link parts group candidates attrs edges) (λ u l v. PassesAt parts group candidates attrs edges (linked way u l v)) n labels n (λ u l v.
+      let c : ℕ = slice_index candidates u in
+      let few : List Edge = edges_on two (seen (linked way u l v)) in
+      let same = labels_like _ _ (link_row u l) (linked_same way u l v (link_row u l)) in
+      link_like principle group c u l v (edges_on one (seen (linked way u l v))) (edges_on one edges) few (edges_on two edges) is
+      (placed (linked way u l v) u l v (sees_place one u l v))
+      (λ h. (asks c u l v (edges_on two edges)).1 (same.0 ((asks c u l v few).0 h)), λ h. (asks c u l v few).1 (same.1 ((asks c u l v (edges_on two edges)).0 h))))
 
-  path_linked : (u l v from to : ℕ) (labels : List ℕ) → AboveByFirst (edges_on two (seen (linked_path u l v))) from labels to ↔ AboveByFirst (edges_on two edges) from labels to
-  path_linked u l v from to labels =
-      let same = on_same (looks_at group (linked_path u l v)) two edges (λ e on. or_here (looks_second two (linked_path u l v) e) (looks_first one (linked_path u l v) e) on) in
-      (subst (λ es. AboveByFirst es from labels to) same, subst (λ es. AboveByFirst es from labels to) (sym same))
+  no_daughter : (u l v : ℕ) → IsDaughter (edges_on two (seen (unlinked u l v))) u v ↔ IsDaughter (edges_on two edges) u v
+  no_daughter u l v = any_same (looks_at group (unlinked u l v)) two edges (λ e. (e.mother.0 ≡ u) × (e.daughter.0 ≡ v)) (λ e is on. or_here (looks_second two (unlinked u l v) e) (looks_first one (unlinked u l v) e) (and_3 (e.dim.0 == two) (e.mother.0 == u) (e.daughter.0 == v) on (eq-eqb e.mother.0 u is.0) (eq-eqb e.daughter.0 v is.1)))
 
-  pub below_start_tests : group.principle ≡ principles.LinkingBelowStart → Linked linked_path
-  below_start_tests is = triples (Asks conditions.Link parts group candidates attrs edges) (λ u l v. PassesAt parts group candidates attrs edges (linked_path u l v)) n labels n (λ u l v.
-      link_like principles.LinkingBelowStart group (slice_index candidates u) u l v (edges_on one (seen (linked_path u l v))) (edges_on one edges) (edges_on two (seen (linked_path u l v))) (edges_on two edges) is
-      (path_placed u l v)
-      (labels_like _ _ (link_row u l) (path_linked u l v u v (link_row u l))))
-
-  pub above_start_tests : group.principle ≡ principles.LinkingAboveStart → Linked linked_path
-  above_start_tests is = triples (Asks conditions.Link parts group candidates attrs edges) (λ u l v. PassesAt parts group candidates attrs edges (linked_path u l v)) n labels n (λ u l v.
-      link_like principles.LinkingAboveStart group (slice_index candidates u) u l v (edges_on one (seen (linked_path u l v))) (edges_on one edges) (edges_on two (seen (linked_path u l v))) (edges_on two edges) is
-      (path_placed u l v)
-      (labels_like _ _ (link_row u l) (path_linked u l v v u (link_row u l))))
+  pub unlinked_tests : group.principle ≡ principles.LinkingNotDaughter → Linked unlinked
+  unlinked_tests is = triples (Asks conditions.Link parts group candidates attrs edges) (λ u l v. PassesAt parts group candidates attrs edges (unlinked u l v)) n labels n (λ u l v.
+      link_like principles.LinkingNotDaughter group (slice_index candidates u) u l v (edges_on one (seen (unlinked u l v))) (edges_on one edges) (edges_on two (seen (unlinked u l v))) (edges_on two edges) is
+      (placed (unlinked u l v) u l v (sees_place one u l v))
+      (λ p named d. p named ((no_daughter u l v).1 d), λ p named d. p named ((no_daughter u l v).0 d)))

@@ -7,6 +7,7 @@ use Rattle.xdg_problem.specs.declared.parts.Group.{Group}
 use Rattle.xdg_problem.specs.declared.parts.Parts.{Parts}
 use Rattle.xdg_problem.specs.declared.parts.Principle.{Principle}
 use Rattle.xdg_problem.specs.declared.parts.Principle.TheVariants as principles
+use Rattle.xdg_problem.specs.Principles.{linking_of, way_in}
 use Rattle.xdg_problem.specs.Places.{nodes}
 use Rattle.xdg_problem.specs.Vectors.{shape, entry_places, edges_in, analysis_of}
 use Rattle.xdg_problem.specs.Relations.{IsKeptWhole}
@@ -14,7 +15,7 @@ use Rattle.xdg_problem.specs.Paths.{roots}
 use Rattle.xdg_problem.specs.Features.{in_row, out_row, IsWithin}
 use Rattle.xdg_problem.specs.Arguments.{first_dim, label_count, truth_of}
 use Rattle.xdg_problem.specs.Asking.{AsksOf}
-use Rattle.xdg_problem.specs.Tests.{Test, out_count, in_count, one_mother, no_cycle, one_root, one_label, ordered_daughters, ordered_yields, projective, allowed_value, agreeing, governed, climbing, not_blocked, linked_end, linked_daughter, linked_mother, linked_sister, linked_path, looks_at, entry_node, test_attrs, Counts, Passes}
+use Rattle.xdg_problem.specs.Tests.{Test, out_count, in_count, one_mother, no_cycle, one_root, one_label, ordered_daughters, ordered_yields, projective, allowed_value, agreeing, governed, climbing, not_blocked, linked, unlinked, looks_at, entry_node, test_attrs, Counts, Passes}
 use Rattle.xdg_problem.specs.Live.{open_places, EntryStands, entry_in, AttrStands, attr_in, Stands, Holds, IsLiveFor, Live}
 use Rattle.xdg_problem.proofs.Deciding.{Decided, decided_like, decided_both, decided_from, decided_equal, decided_less, decided_most, decided_false, decided_below, decided_all, decided_contains, decided_within}
 use Rattle.xdg_problem.proofs.CycleTests.{decided_no_cycle}
@@ -48,11 +49,8 @@ decided_passes n group (agreeing u l v) candidate values edges = decided_asks co
 decided_passes n group (governed u l v) candidate values edges = decided_asks conditions.Govern group candidate values edges (u ∷ l ∷ v ∷ [])
 decided_passes n group (climbing u v) candidate values edges = decided_asks conditions.Below group candidate values edges (u ∷ v ∷ [])
 decided_passes n group (not_blocked w v) candidate values edges = decided_asks conditions.Blocked group candidate values edges (w ∷ v ∷ [])
-decided_passes n group (linked_end u l v) candidate values edges = decided_asks conditions.Link group candidate values edges (u ∷ l ∷ v ∷ [])
-decided_passes n group (linked_daughter u l v) candidate values edges = decided_asks conditions.Link group candidate values edges (u ∷ l ∷ v ∷ [])
-decided_passes n group (linked_mother u l v) candidate values edges = decided_asks conditions.Link group candidate values edges (u ∷ l ∷ v ∷ [])
-decided_passes n group (linked_sister u l v) candidate values edges = decided_asks conditions.Link group candidate values edges (u ∷ l ∷ v ∷ [])
-decided_passes n group (linked_path u l v) candidate values edges = decided_asks conditions.Link group candidate values edges (u ∷ l ∷ v ∷ [])
+decided_passes n group (linked way u l v) candidate values edges = decided_asks conditions.Link group candidate values edges (u ∷ l ∷ v ∷ [])
+decided_passes n group (unlinked u l v) candidate values edges = decided_asks conditions.Link group candidate values edges (u ∷ l ∷ v ∷ [])
 
 decided_entry : (node : Option ℕ) (prefix : List ℕ) → Decided (EntryStands node prefix)
 decided_entry None prefix = inl tt
@@ -80,6 +78,8 @@ module _ (truths : List Bool) (n labels : ℕ) (Q : Test → Type 0) (each : (te
   each_triple test = decided_below (λ u. (l : ℕ) → l < labels → (v : ℕ) → v < n → Q (test u l v)) n (λ u. decided_below (λ l. (v : ℕ) → v < n → Q (test u l v)) labels (λ l. decided_below (λ v. Q (test u l v)) n (λ v. each (test u l v))))
 
   pub decided_tests : (principle : Principle) → Decided (Each truths n labels Q principle)
+  decided_tests principles.Graph = inl tt
+  decided_tests principles.Entries = inl tt
   decided_tests principles.Tree = triple_decided _ _ _ (each_pair one_mother) (each_node no_cycle) (each one_root)
   decided_tests principles.Dag = triple_decided _ _ _ (each_node no_cycle) (decided_from _ _ (decided_true (truth_of truths 0)) (each one_root)) (decided_from _ _ (decided_true (truth_of truths 1)) (each_pair one_label))
   decided_tests principles.Valency = decided_both _ _ (each_triple out_count) (each_triple in_count)
@@ -90,14 +90,10 @@ module _ (truths : List Bool) (n labels : ℕ) (Q : Test → Type 0) (each : (te
   decided_tests principles.Government = each_triple governed
   decided_tests principles.Climbing = each_pair climbing
   decided_tests principles.Barriers = each_pair not_blocked
-  decided_tests principles.LinkingEnd = each_triple linked_end
-  decided_tests principles.LinkingDaughter = each_triple linked_daughter
-  decided_tests principles.LinkingMother = each_triple linked_mother
-  decided_tests principles.LinkingBelowStart = each_triple linked_path
-  decided_tests principles.LinkingAboveStart = each_triple linked_path
-  decided_tests principles.LinkingSisters = each_triple linked_sister
-  decided_tests principles.LinkingNotDaughter = each_triple linked_daughter
-  decided_tests principle = inl tt
+  decided_tests principles.LinkingNotDaughter = each_triple unlinked
+  decided_tests (principles.Rule formula) = inl tt
+  decided_tests (principles.Bound costs bound) = inl tt
+  decided_tests principle = each_triple (linked (way_in (linking_of principle)))
 
 decided_use : (parts : Parts) (prefix : List ℕ) (group : Group) → Decided (IsLiveFor parts group prefix)
 decided_use parts prefix group =

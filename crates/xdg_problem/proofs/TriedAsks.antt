@@ -8,6 +8,7 @@ use Rattle.xdg_problem.specs.declared.conditions.Condition.TheVariants as condit
 use Rattle.xdg_problem.specs.declared.parts.Feat.{Feat}
 use Rattle.xdg_problem.specs.declared.parts.Group.{Group}
 use Rattle.xdg_problem.specs.declared.parts.Principle.{Principle}
+use Rattle.xdg_problem.specs.declared.parts.Linking.TheVariants as linkings
 use Rattle.xdg_problem.specs.declared.parts.Principle.TheVariants as principles
 use Rattle.xdg_problem.specs.Places.{edge}
 use Rattle.xdg_problem.specs.Paths.{Leads, Above}

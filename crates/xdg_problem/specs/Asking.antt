@@ -1,12 +1,15 @@
 -- What each condition asks of one tuple.
-use Rattle.std.specs.Prelude.{◌≡◌, ℕ, ◌<◌, ◌≤◌, ◌⊎◌, true, List, [], ◌∷◌, length, map, slice_index, Contains, AllPairs}
+use Rattle.std.specs.Prelude.{◌≡◌, ℕ, ◌<◌, ◌≤◌, ◌⊎◌, true, List, [], ◌∷◌, length, map, slice_index, Contains, AllPairs, Option, None, Some}
 use Rattle.xdg_problem.specs.declared.analysis.Edge.{Edge}
 use Rattle.xdg_problem.specs.declared.conditions.Condition.{Condition}
 use Rattle.xdg_problem.specs.declared.conditions.Condition.TheVariants as conditions
 use Rattle.xdg_problem.specs.declared.parts.Group.{Group}
+use Rattle.xdg_problem.specs.declared.parts.Linking.{Linking}
+use Rattle.xdg_problem.specs.declared.parts.Linking.TheVariants as linkings
 use Rattle.xdg_problem.specs.declared.parts.Parts.{Parts}
 use Rattle.xdg_problem.specs.declared.parts.Principle.{Principle}
 use Rattle.xdg_problem.specs.declared.parts.Principle.TheVariants as principles
+use Rattle.xdg_problem.specs.Principles.{linking_of}
 use Rattle.xdg_problem.specs.Paths.{edges_on, edges_into, edges_out_of, edges_joining, mothers, IsDaughter, IsDaughterBy, IsDaughterByAny, IsEnteredByAny}
 use Rattle.xdg_problem.specs.Paths.{AreSistersByAny, Above, AboveByFirst, AboveByLast}
 use Rattle.xdg_problem.specs.Features.{in_row, out_row, set_row, map_row}
@@ -37,26 +40,29 @@ IsInItem edges yields own u label x =
     ((label ≡ own) × (x ≡ u)) ⊎ (IsDaughterBy edges u label x ⊎ (yields × ((v : ℕ) × IsDaughterBy edges u label v × Above edges v x)))
 
 -- what linking asks of a daughter v of u on the first dimension, by edges of the second, with one of some labels
-abbrev pub IsLinked : Principle → List Edge → ℕ → List ℕ → ℕ → Type 0
+abbrev pub IsLinked : Linking → List Edge → ℕ → List ℕ → ℕ → Type 0
 -- an edge with one of them leads into v
-IsLinked principles.LinkingEnd edges u labels v = IsEnteredByAny edges labels v
+IsLinked linkings.End edges u labels v = IsEnteredByAny edges labels v
 -- v is a daughter of u
-IsLinked principles.LinkingDaughter edges u labels v = IsDaughterByAny edges u labels v
+IsLinked linkings.Daughter edges u labels v = IsDaughterByAny edges u labels v
 -- v is a mother of u
-IsLinked principles.LinkingMother edges u labels v = IsDaughterByAny edges v labels u
+IsLinked linkings.Mother edges u labels v = IsDaughterByAny edges v labels u
 -- a path from u to v starts with one of them
-IsLinked principles.LinkingBelowStart edges u labels v = AboveByFirst edges u labels v
+IsLinked linkings.BelowStart edges u labels v = AboveByFirst edges u labels v
 -- a path from v to u starts with one of them
-IsLinked principles.LinkingAboveStart edges u labels v = AboveByFirst edges v labels u
+IsLinked linkings.AboveStart edges u labels v = AboveByFirst edges v labels u
 -- u and v have a mother in common, v with one of them
-IsLinked principles.LinkingSisters edges u labels v = AreSistersByAny edges u labels v
--- no other principle links
-IsLinked principle edges u labels v = Unit {0}
+IsLinked linkings.Sisters edges u labels v = AreSistersByAny edges u labels v
 
--- what the condition Link asks where u -l-> v on the first dimension: without labels it asks nothing
+-- what a principle asks that links in a way, with these labels: without labels it asks nothing
+abbrev pub AsksBy : Option Linking → List Edge → ℕ → List ℕ → ℕ → Type 0
+AsksBy None edges u labels v = Unit {0}
+AsksBy (Some way) edges u labels v = 0 < length labels → IsLinked way edges u labels v
+
+-- what the condition Link asks where u -l-> v on the first dimension
 abbrev pub AsksLink : Principle → Group → ℕ → List Edge → ℕ → ℕ → ℕ → Type 0
 AsksLink principles.LinkingNotDaughter group candidate edges u l v = Contains (set_row group u candidate) l → IsDaughter edges u v → ⊥
-AsksLink principle group candidate edges u l v = 0 < length (map_row group u candidate l) → IsLinked principle edges u (map_row group u candidate l) v
+AsksLink principle group candidate edges u l v = AsksBy (linking_of principle) edges u (map_row group u candidate l) v
 
 -- What a condition asks of the items of a tuple, in their order: of the candidate that the first node has, the values of the
 -- attributes that the condition names, in order, and the edges of the first and of the second dimension.

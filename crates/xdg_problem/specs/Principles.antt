@@ -1,6 +1,8 @@
 -- The table of principles: each definition is a column of it, with a line for a principle or for all others. What a principle asks stands in
 -- Asking and Tests, and what it takes from boxes in xdg_rules.
-use Rattle.std.specs.Prelude.{ℕ, List, codes, ◌≡◌, ◌≢◌, ◌<◌, ◌≤◌, [], length, All, AllPairs, Bool, ◌∷◌, ◌++◌, cond, true, false}
+use Rattle.std.specs.Prelude.{ℕ, List, codes, ◌≡◌, ◌≢◌, ◌<◌, ◌≤◌, [], length, All, AllPairs, Bool, ◌∷◌, ◌++◌, cond, true, false, Option, None, Some}
+use Rattle.xdg_problem.specs.declared.parts.Linking.{Linking}
+use Rattle.xdg_problem.specs.declared.parts.Linking.TheVariants as linkings
 use Rattle.xdg_problem.specs.declared.parts.Principle.{Principle}
 use Rattle.xdg_problem.specs.declared.parts.Principle.TheVariants as principles
 use Rattle.xdg_base.specs.declared.ids.LabelId.{LabelId}
@@ -19,8 +21,9 @@ abbrev pub all_principles : List Principle
 all_principles =
     principles.Graph ∷ principles.Entries ∷ principles.Tree ∷ principles.Dag ∷ principles.Valency ∷ principles.Order ∷ principles.Projectivity
     ∷ principles.Agr ∷ principles.Agreement ∷ principles.Government ∷ principles.Climbing ∷ principles.Barriers
-    ∷ principles.LinkingEnd ∷ principles.LinkingDaughter ∷ principles.LinkingMother ∷ principles.LinkingBelowStart ∷ principles.LinkingAboveStart
-    ∷ principles.LinkingSisters ∷ principles.LinkingNotDaughter ∷ []
+    ∷ principles.LinkingEnd ∷ principles.LinkingDaughter ∷ principles.LinkingMother
+    ∷ principles.LinkingBelowStart ∷ principles.LinkingAboveStart ∷ principles.LinkingSisters
+    ∷ principles.LinkingNotDaughter ∷ []
 
 -- the name of a principle
 abbrev pub name_of : Principle → List ℕ
@@ -67,20 +70,38 @@ pub record AreSets (rows bound : ℕ) (feature : Feat) : Type 0 where
   pub count : length feature.rows ≡ rows
   pub each : All (IsSet bound) feature.rows
 
+-- how a principle links, where it asks for edges that link
+abbrev pub linking_of : Principle → Option Linking
+linking_of principles.LinkingEnd = Some linkings.End
+linking_of principles.LinkingDaughter = Some linkings.Daughter
+linking_of principles.LinkingMother = Some linkings.Mother
+linking_of principles.LinkingBelowStart = Some linkings.BelowStart
+linking_of principles.LinkingAboveStart = Some linkings.AboveStart
+linking_of principles.LinkingSisters = Some linkings.Sisters
+linking_of principle = None
+
+-- there is a way
+abbrev pub HasWay : Option Linking → Type 0
+HasWay None = ⊥
+HasWay (Some way) = Unit {0}
+
+abbrev pub has_way : Option Linking → Bool
+has_way None = false
+has_way (Some way) = true
+
+-- the way, and End where there is none
+abbrev pub way_in : Option Linking → Linking
+way_in None = linkings.End
+way_in (Some way) = way
+
 -- how many dimensions a principle takes
 abbrev pub dim_arguments : Principle → ℕ
 dim_arguments principles.Climbing = 2
 dim_arguments principles.Barriers = 2
-dim_arguments principles.LinkingEnd = 3
-dim_arguments principles.LinkingDaughter = 3
-dim_arguments principles.LinkingMother = 3
-dim_arguments principles.LinkingBelowStart = 3
-dim_arguments principles.LinkingAboveStart = 3
-dim_arguments principles.LinkingSisters = 3
 dim_arguments principles.LinkingNotDaughter = 3
 dim_arguments (principles.Rule formula) = 0
 dim_arguments (principles.Bound costs bound) = 0
-dim_arguments principle = 1
+dim_arguments principle = cond (has_way (linking_of principle)) 3 1
 
 -- how many attributes of its dimension a principle takes
 abbrev pub attr_arguments : Principle → ℕ
@@ -105,9 +126,10 @@ IsOrderFor principle labels order = order ≡ []
 abbrev pub IsOneOfSets : ℕ → ℕ → List Feat → Type 0
 IsOneOfSets rows bound features = (length features ≡ 1) × All (AreSets rows bound) features
 
--- Link of six linkings, for each label of the first dimension a set of labels of the second
-abbrev pub AreLinkFeatures : Parts → Group → List Feat → Type 0
-AreLinkFeatures parts group features = IsOneOfSets (label_count parts (first_dim group)) (label_count parts (second_dim group)) features
+-- the features that linking takes
+abbrev pub AreLinkFeatures : Option Linking → Parts → Group → List Feat → Type 0
+AreLinkFeatures None parts group features = length features ≡ 0
+AreLinkFeatures (Some way) parts group features = IsOneOfSets (label_count parts (first_dim group)) (label_count parts (second_dim group)) features
 
 -- the features of one candidate: those that the principle takes
 abbrev pub AreFeatures : Principle → Parts → Group → List Feat → Type 0
@@ -122,30 +144,18 @@ AreFeatures principles.Government parts group features =
     IsOneOfSets (label_count parts (first_dim group)) (value_count parts (first_dim group) (attr_of group 0)) features
 -- Blocks, a set of labels of the second dimension
 AreFeatures principles.Barriers parts group features = IsOneOfSets 1 (label_count parts (second_dim group)) features
-AreFeatures principles.LinkingEnd parts group features = AreLinkFeatures parts group features
-AreFeatures principles.LinkingDaughter parts group features = AreLinkFeatures parts group features
-AreFeatures principles.LinkingMother parts group features = AreLinkFeatures parts group features
-AreFeatures principles.LinkingBelowStart parts group features = AreLinkFeatures parts group features
-AreFeatures principles.LinkingAboveStart parts group features = AreLinkFeatures parts group features
-AreFeatures principles.LinkingSisters parts group features = AreLinkFeatures parts group features
 -- Link, a set of labels of the first dimension
 AreFeatures principles.LinkingNotDaughter parts group features = IsOneOfSets 1 (label_count parts (first_dim group)) features
--- the other principles take none
-AreFeatures principle parts group features = length features ≡ 0
+-- where it links, Link, for each label of the first dimension a set of labels of the second; else it takes none
+AreFeatures principle parts group features = AreLinkFeatures (linking_of principle) parts group features
 
 -- which of a principle's dimensions has its features: D2 for barriers, D3 for linking, and else D or D1
 abbrev pub feature_dim : Principle → ℕ
 feature_dim principles.Barriers = 1
-feature_dim principles.LinkingEnd = 2
-feature_dim principles.LinkingDaughter = 2
-feature_dim principles.LinkingMother = 2
-feature_dim principles.LinkingBelowStart = 2
-feature_dim principles.LinkingAboveStart = 2
-feature_dim principles.LinkingSisters = 2
 feature_dim principles.LinkingNotDaughter = 2
-feature_dim principle = 0
+feature_dim principle = cond (has_way (linking_of principle)) 2 0
 
--- the conditions of a principle with its truth values, which choose two of those of dag
+-- the conditions of a principle with its truth values, which choose two of those of dag; all linkings have one
 abbrev pub conditions_for : Principle → List Bool → List Condition
 conditions_for principles.Graph truths = []
 conditions_for principles.Entries truths = []
@@ -160,15 +170,9 @@ conditions_for principles.Agreement truths = conditions.Agree ∷ []
 conditions_for principles.Government truths = conditions.Govern ∷ []
 conditions_for principles.Climbing truths = conditions.Below ∷ []
 conditions_for principles.Barriers truths = conditions.Blocked ∷ []
-conditions_for principles.LinkingEnd truths = conditions.Link ∷ []
-conditions_for principles.LinkingDaughter truths = conditions.Link ∷ []
-conditions_for principles.LinkingMother truths = conditions.Link ∷ []
-conditions_for principles.LinkingBelowStart truths = conditions.Link ∷ []
-conditions_for principles.LinkingAboveStart truths = conditions.Link ∷ []
-conditions_for principles.LinkingSisters truths = conditions.Link ∷ []
-conditions_for principles.LinkingNotDaughter truths = conditions.Link ∷ []
 conditions_for (principles.Rule formula) truths = conditions.Rule ∷ []
 conditions_for (principles.Bound costs bound) truths = conditions.Bound ∷ []
+conditions_for principle truths = conditions.Link ∷ []
 
 -- the tests of a principle look at entries; those of a rule and of a bound aren't told here: they go by more than the principle
 abbrev pub looks_at_entries : Principle → Bool
@@ -177,14 +181,8 @@ looks_at_entries principles.Agr = true
 looks_at_entries principles.Agreement = true
 looks_at_entries principles.Government = true
 looks_at_entries principles.Barriers = true
-looks_at_entries principles.LinkingEnd = true
-looks_at_entries principles.LinkingDaughter = true
-looks_at_entries principles.LinkingMother = true
-looks_at_entries principles.LinkingBelowStart = true
-looks_at_entries principles.LinkingAboveStart = true
-looks_at_entries principles.LinkingSisters = true
 looks_at_entries principles.LinkingNotDaughter = true
-looks_at_entries principle = false
+looks_at_entries principle = has_way (linking_of principle)
 
 -- at attributes of the first dimension
 abbrev pub looks_at_attrs : Principle → Bool
@@ -207,14 +205,8 @@ looks_at_first principle = true
 abbrev pub looks_at_second : Principle → Bool
 looks_at_second principles.Climbing = true
 looks_at_second principles.Barriers = true
-looks_at_second principles.LinkingEnd = true
-looks_at_second principles.LinkingDaughter = true
-looks_at_second principles.LinkingMother = true
-looks_at_second principles.LinkingBelowStart = true
-looks_at_second principles.LinkingAboveStart = true
-looks_at_second principles.LinkingSisters = true
 looks_at_second principles.LinkingNotDaughter = true
-looks_at_second principle = false
+looks_at_second principle = has_way (linking_of principle)
 
 -- the principles of each family
 abbrev pub IsOf : PrincipleFamily → Principle → Type 0
@@ -230,13 +222,8 @@ IsOf families.Agree principles.Agreement = Unit {0}
 IsOf families.Agree principles.Government = Unit {0}
 IsOf families.Multi principles.Climbing = Unit {0}
 IsOf families.Multi principles.Barriers = Unit {0}
-IsOf families.Link principles.LinkingEnd = Unit {0}
-IsOf families.Link principles.LinkingDaughter = Unit {0}
-IsOf families.Link principles.LinkingMother = Unit {0}
-IsOf families.Link principles.LinkingBelowStart = Unit {0}
-IsOf families.Link principles.LinkingAboveStart = Unit {0}
-IsOf families.Link principles.LinkingSisters = Unit {0}
 IsOf families.Link principles.LinkingNotDaughter = Unit {0}
+IsOf families.Link principle = HasWay (linking_of principle)
 IsOf families.Rule (principles.Rule formula) = Unit {0}
 IsOf families.Bound (principles.Bound costs bound) = Unit {0}
 IsOf family principle = ⊥

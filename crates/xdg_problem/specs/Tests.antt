@@ -3,10 +3,13 @@ use Rattle.std.specs.Prelude.{◌≡◌, ℕ, ◌<◌, ◌≤◌, ◌+◌, ◌==
 use Rattle.xdg_problem.specs.declared.analysis.Edge.{Edge}
 use Rattle.xdg_problem.specs.declared.conditions.Condition.TheVariants as conditions
 use Rattle.xdg_problem.specs.declared.parts.Group.{Group}
+use Rattle.xdg_problem.specs.declared.parts.Linking.{Linking}
+use Rattle.xdg_problem.specs.declared.parts.Linking.TheVariants as linkings
 use Rattle.xdg_problem.specs.declared.parts.Parts.{Parts}
 use Rattle.xdg_problem.specs.declared.parts.Principle.{Principle}
 use Rattle.xdg_problem.specs.declared.parts.Principle.TheVariants as principles
 use Rattle.xdg_problem.specs.Places.{nodes}
+use Rattle.xdg_problem.specs.Principles.{linking_of}
 use Rattle.xdg_problem.specs.Paths.{NoCycle, roots}
 use Rattle.xdg_problem.specs.Features.{in_row, out_row, IsWithin}
 use Rattle.xdg_problem.specs.Arguments.{first_dim, second_dim, label_count, truth_of}
@@ -43,20 +46,19 @@ pub data Test : Type 0 where
   climbing : (u v : ℕ) → Test
   -- the entry of w, and all edges of the first and of the second dimension
   not_blocked : (w v : ℕ) → Test
-  -- the entry of u, the edge u -l-> v of the first dimension, and on the second the edges into v
-  linked_end : (u l v : ℕ) → Test
+  -- the entry of u, the edge u -l-> v of the first dimension, and on the second the edges that can link v to u in that way
+  linked : (way : Linking) (u l v : ℕ) → Test
   -- the entry of u, the edge u -l-> v of the first dimension, and on the second the edges from u to v
-  linked_daughter : (u l v : ℕ) → Test
-  -- the entry of u, the edge u -l-> v of the first dimension, and on the second the edges from v to u
-  linked_mother : (u l v : ℕ) → Test
-  -- the entry of u, the edge u -l-> v of the first dimension, and on the second the edges into u and into v
-  linked_sister : (u l v : ℕ) → Test
-  -- the entry of u, the edge u -l-> v of the first dimension, and all edges of the second
-  linked_path : (u l v : ℕ) → Test
+  unlinked : (u l v : ℕ) → Test
 
 -- a node, a label and a node
 abbrev pub IsTriple : ℕ → ℕ → ℕ → ℕ → ℕ → Type 0
 IsTriple n labels u l v = (u < n) × (l < labels) × (v < n)
+
+-- the test of a principle that links in a way
+abbrev pub IsLinkTest : Option Linking → Linking → ℕ → ℕ → ℕ → ℕ → ℕ → Type 0
+IsLinkTest None asked n labels u l v = ⊥
+IsLinkTest (Some way) asked n labels u l v = (asked ≡ way) × IsTriple n labels u l v
 
 -- which tests a principle with its truth values has, with n nodes and so many labels of the first dimension
 abbrev pub IsTestOf : Principle → List Bool → ℕ → ℕ → Test → Type 0
@@ -76,13 +78,8 @@ IsTestOf principles.Agreement truths n labels (agreeing u l v) = IsTriple n labe
 IsTestOf principles.Government truths n labels (governed u l v) = IsTriple n labels u l v
 IsTestOf principles.Climbing truths n labels (climbing u v) = (u < n) × (v < n)
 IsTestOf principles.Barriers truths n labels (not_blocked w v) = (w < n) × (v < n)
-IsTestOf principles.LinkingEnd truths n labels (linked_end u l v) = IsTriple n labels u l v
-IsTestOf principles.LinkingDaughter truths n labels (linked_daughter u l v) = IsTriple n labels u l v
-IsTestOf principles.LinkingMother truths n labels (linked_mother u l v) = IsTriple n labels u l v
-IsTestOf principles.LinkingBelowStart truths n labels (linked_path u l v) = IsTriple n labels u l v
-IsTestOf principles.LinkingAboveStart truths n labels (linked_path u l v) = IsTriple n labels u l v
-IsTestOf principles.LinkingSisters truths n labels (linked_sister u l v) = IsTriple n labels u l v
-IsTestOf principles.LinkingNotDaughter truths n labels (linked_daughter u l v) = IsTriple n labels u l v
+IsTestOf principles.LinkingNotDaughter truths n labels (unlinked u l v) = IsTriple n labels u l v
+IsTestOf principle truths n labels (linked way u l v) = IsLinkTest (linking_of principle) way n labels u l v
 IsTestOf principle truths n labels test = ⊥
 
 -- the tests of a principle use
@@ -105,21 +102,24 @@ looks_first dim (agreeing u l v) e = (e.dim.0 == dim) && (e.mother.0 == u) && (e
 looks_first dim (governed u l v) e = (e.dim.0 == dim) && (e.mother.0 == u) && (e.label.0 == l) && (e.daughter.0 == v)
 looks_first dim (climbing u v) e = e.dim.0 == dim
 looks_first dim (not_blocked w v) e = e.dim.0 == dim
-looks_first dim (linked_end u l v) e = (e.dim.0 == dim) && (e.mother.0 == u) && (e.label.0 == l) && (e.daughter.0 == v)
-looks_first dim (linked_daughter u l v) e = (e.dim.0 == dim) && (e.mother.0 == u) && (e.label.0 == l) && (e.daughter.0 == v)
-looks_first dim (linked_mother u l v) e = (e.dim.0 == dim) && (e.mother.0 == u) && (e.label.0 == l) && (e.daughter.0 == v)
-looks_first dim (linked_sister u l v) e = (e.dim.0 == dim) && (e.mother.0 == u) && (e.label.0 == l) && (e.daughter.0 == v)
-looks_first dim (linked_path u l v) e = (e.dim.0 == dim) && (e.mother.0 == u) && (e.label.0 == l) && (e.daughter.0 == v)
+looks_first dim (linked way u l v) e = (e.dim.0 == dim) && (e.mother.0 == u) && (e.label.0 == l) && (e.daughter.0 == v)
+looks_first dim (unlinked u l v) e = (e.dim.0 == dim) && (e.mother.0 == u) && (e.label.0 == l) && (e.daughter.0 == v)
+
+-- whether an edge of the second dimension can link v to u in a way
+abbrev pub can_link : Linking → ℕ → ℕ → Edge → Bool
+can_link linkings.End u v e = e.daughter.0 == v
+can_link linkings.Daughter u v e = (e.mother.0 == u) && (e.daughter.0 == v)
+can_link linkings.Mother u v e = (e.mother.0 == v) && (e.daughter.0 == u)
+can_link linkings.BelowStart u v e = true
+can_link linkings.AboveStart u v e = true
+can_link linkings.Sisters u v e = (e.daughter.0 == u) || (e.daughter.0 == v)
 
 -- the edge places of the second dimension that a test looks at
 abbrev pub looks_second : ℕ → Test → Edge → Bool
 looks_second dim (climbing u v) e = e.dim.0 == dim
 looks_second dim (not_blocked w v) e = e.dim.0 == dim
-looks_second dim (linked_end u l v) e = (e.dim.0 == dim) && (e.daughter.0 == v)
-looks_second dim (linked_daughter u l v) e = (e.dim.0 == dim) && (e.mother.0 == u) && (e.daughter.0 == v)
-looks_second dim (linked_mother u l v) e = (e.dim.0 == dim) && (e.mother.0 == v) && (e.daughter.0 == u)
-looks_second dim (linked_sister u l v) e = (e.dim.0 == dim) && ((e.daughter.0 == u) || (e.daughter.0 == v))
-looks_second dim (linked_path u l v) e = e.dim.0 == dim
+looks_second dim (linked way u l v) e = (e.dim.0 == dim) && can_link way u v e
+looks_second dim (unlinked u l v) e = (e.dim.0 == dim) && (e.mother.0 == u) && (e.daughter.0 == v)
 looks_second dim test e = false
 
 -- the edge places that a test looks at
@@ -142,11 +142,8 @@ entry_node (agreeing u l v) = Some u
 entry_node (governed u l v) = Some u
 entry_node (climbing u v) = None
 entry_node (not_blocked w v) = Some w
-entry_node (linked_end u l v) = Some u
-entry_node (linked_daughter u l v) = Some u
-entry_node (linked_mother u l v) = Some u
-entry_node (linked_sister u l v) = Some u
-entry_node (linked_path u l v) = Some u
+entry_node (linked way u l v) = Some u
+entry_node (unlinked u l v) = Some u
 
 -- where the values of the attributes stand that a test looks at, among all values of attributes
 abbrev pub test_attrs : Parts → Group → Test → List ℕ
@@ -178,8 +175,5 @@ Passes n group (agreeing u l v) candidate values edges = AsksOf conditions.Agree
 Passes n group (governed u l v) candidate values edges = AsksOf conditions.Govern group candidate values edges (u ∷ l ∷ v ∷ [])
 Passes n group (climbing u v) candidate values edges = AsksOf conditions.Below group candidate values edges (u ∷ v ∷ [])
 Passes n group (not_blocked w v) candidate values edges = AsksOf conditions.Blocked group candidate values edges (w ∷ v ∷ [])
-Passes n group (linked_end u l v) candidate values edges = AsksOf conditions.Link group candidate values edges (u ∷ l ∷ v ∷ [])
-Passes n group (linked_daughter u l v) candidate values edges = AsksOf conditions.Link group candidate values edges (u ∷ l ∷ v ∷ [])
-Passes n group (linked_mother u l v) candidate values edges = AsksOf conditions.Link group candidate values edges (u ∷ l ∷ v ∷ [])
-Passes n group (linked_sister u l v) candidate values edges = AsksOf conditions.Link group candidate values edges (u ∷ l ∷ v ∷ [])
-Passes n group (linked_path u l v) candidate values edges = AsksOf conditions.Link group candidate values edges (u ∷ l ∷ v ∷ [])
+Passes n group (linked way u l v) candidate values edges = AsksOf conditions.Link group candidate values edges (u ∷ l ∷ v ∷ [])
+Passes n group (unlinked u l v) candidate values edges = AsksOf conditions.Link group candidate values edges (u ∷ l ∷ v ∷ [])

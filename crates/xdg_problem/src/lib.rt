@@ -34,10 +34,10 @@ pub use costs::Costs;
 pub use formula::Formula;
 pub use laws::{branch_laws, further_laws, live_laws, solution_laws, verdict_laws};
 pub use numbers::Nums;
-pub use parts::{AttrPlan, DimPlan, Feat, Group, Parts, Principle, SentenceWord, Shown};
+pub use parts::{AttrPlan, DimPlan, Feat, Group, Linking, Parts, Principle, SentenceWord, Shown};
 pub use principles::{
-    PrincipleFamily, family_of, feature_dim, looks_at_attrs, looks_at_entries, looks_at_first,
-    looks_at_second, principle_name, principle_named,
+    PrincipleFamily, family_of, feature_dim, linking_of, looks_at_attrs, looks_at_entries,
+    looks_at_first, looks_at_second, principle_name, principle_named,
 };
 pub use problem::Problem;
 pub use shared::SharedList;

@@ -45,6 +45,23 @@ pub struct Feat {
     pub rows: SharedList<Nums>,
 }
 
+/// How a principle links a daughter v of u on D1 to u by edges of D2, which have one of some labels.
+#[derive(Clone, Copy, Debug)]
+pub enum Linking {
+    /// v has a mother.
+    End,
+    /// v is a daughter of u.
+    Daughter,
+    /// v is a mother of u.
+    Mother,
+    /// v is below u, by a path that starts with one of the labels.
+    BelowStart,
+    /// v is above u, by a path that starts with one of the labels.
+    AboveStart,
+    /// v has a mother in common with u, and is its daughter under one of the labels.
+    Sisters,
+}
+
 /// A principle (Debusmann 2006, chapters 4 and 7). D is its dimension, D1 and D2 are its first and second one; u and v are
 /// nodes, and u -l-> v is an edge with label l from u to v. A set that belongs to a node is a feature of its entry.
 #[derive(Debug, Drop)]

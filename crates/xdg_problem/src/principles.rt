@@ -4,7 +4,7 @@ ghost use Rattle.std.specs.Prelude.{◌≡◌};
 ghost use Rattle.xdg_problem.specs.Names.{IsNamed};
 ghost use Rattle.xdg_problem.specs.Principles as rows;
 
-use crate::parts::Principle;
+use crate::parts::{Linking, Principle};
 
 /// The name of a principle: that in grammar texts, or `rule` or `bound`.
 pub fn principle_name(principle: &Principle) -> &'static str
@@ -59,6 +59,21 @@ pub fn principle_named(name: &str) -> Option<Principle>
         "principle.linkingAboveStart" => Some(Principle::LinkingAboveStart),
         "principle.linkingSisters" => Some(Principle::LinkingSisters),
         "principle.linkingNotDaughter" => Some(Principle::LinkingNotDaughter),
+        _ => None,
+    }
+}
+
+/// How a principle links, where it asks for edges that link.
+pub fn linking_of(principle: &Principle) -> Option<Linking>
+    ensures { result ≡ rows.linking_of principle.now }
+{
+    match principle {
+        Principle::LinkingEnd => Some(Linking::End),
+        Principle::LinkingDaughter => Some(Linking::Daughter),
+        Principle::LinkingMother => Some(Linking::Mother),
+        Principle::LinkingBelowStart => Some(Linking::BelowStart),
+        Principle::LinkingAboveStart => Some(Linking::AboveStart),
+        Principle::LinkingSisters => Some(Linking::Sisters),
         _ => None,
     }
 }

@@ -1,21 +1,22 @@
 -- The tests of each principle name the kinds at which they look.
 use Rattle.std.proofs.Common.{◌≡◌, ◌⊎◌, ℕ, ◌<◌, inl, inr, Bool, true, false, Some, length, refl, sym, arith, subst}
-use Rattle.std.specs.Prelude.{◌==◌, ◌&&◌, ◌||◌, nat_le}
+use Rattle.std.specs.Prelude.{◌==◌, ◌&&◌, nat_le}
 use Rattle.std.proofs.lemmas.Bool.{and_from, eq-eqb, false≢true}
 use Rattle.xdg_facts.proofs.Truths.{and_2, either_true, or_here}
 use Rattle.xdg_problem.specs.declared.parts.Group.{Group}
+use Rattle.xdg_problem.specs.declared.parts.Linking.{Linking}
+use Rattle.xdg_problem.specs.declared.parts.Linking.TheVariants as linkings
 use Rattle.xdg_problem.specs.declared.parts.Parts.{Parts}
 use Rattle.xdg_problem.specs.declared.parts.Principle.{Principle}
 use Rattle.xdg_problem.specs.declared.parts.Principle.TheVariants as principles
 use Rattle.xdg_problem.specs.Arguments.{first_dim, second_dim, truth_of}
 use Rattle.xdg_problem.specs.Places.{edge}
 use Rattle.xdg_problem.specs.Tests.{Test, IsTestOf, entry_node, looks_first, looks_second, test_attrs}
-use Rattle.xdg_problem.specs.Tests.{out_count, no_cycle, ordered_daughters, ordered_yields, projective, allowed_value, agreeing, governed, climbing, not_blocked}
-use Rattle.xdg_problem.specs.Tests.{linked_end, linked_daughter, linked_mother, linked_sister, linked_path}
+use Rattle.xdg_problem.specs.Tests.{out_count, no_cycle, ordered_daughters, ordered_yields, projective, allowed_value, agreeing, governed, climbing, not_blocked, can_link, linked, unlinked}
 use Rattle.xdg_problem.proofs.Looking.{and_3, sees_place}
 use Rattle.xdg_propcore.specs.Kinds.{IsNamed, entry_kind, attr_kind, edge_kind}
 use Rattle.xdg_propcore.specs.UseKinds.{IsKindFor, IsKindOf}
-use Rattle.xdg_problem.specs.Principles.{looks_at_entries, looks_at_attrs, looks_at_first, looks_at_second}
+use Rattle.xdg_problem.specs.Principles.{looks_at_entries, looks_at_attrs, looks_at_first, looks_at_second, linking_of, way_in}
 
 never : {A : Type 0} → false ≡ true → A
 never e = absurd (false≢true e)
@@ -29,6 +30,15 @@ none one two kind k = elim k [
     | inr edges ↦ elim edges [ inl x ↦ false≢true x.0 | inr x ↦ false≢true x.0 ]
   ]
 ]
+
+-- in each way an edge can link the only node to itself
+can_here : (dim : ℕ) (way : Linking) → can_link way 0 0 (edge dim 0 0 0) ≡ true
+can_here dim linkings.End = refl
+can_here dim linkings.Daughter = refl
+can_here dim linkings.Mother = refl
+can_here dim linkings.BelowStart = refl
+can_here dim linkings.AboveStart = refl
+can_here dim linkings.Sisters = refl
 
 module _ (parts : Parts) (group : Group) where
   abbrev one : ℕ
@@ -68,14 +78,16 @@ module _ (parts : Parts) (group : Group) where
   place_looks : ((one == one) && (0 == 0) && (0 == 0) && (0 == 0)) ≡ true
   place_looks = sees_place one 0 0 0 (edge one 0 0 0) (refl, refl, refl) (same one)
 
-  linked_looks : ((two == two) && (0 == 0) && (0 == 0)) ≡ true
-  linked_looks = and_3 (two == two) (0 == 0) (0 == 0) (same two) refl refl
+  way_looks : (way : Linking) → ((two == two) && can_link way 0 0 (edge two 0 0 0)) ≡ true
+  way_looks way = and_2 (two == two) (can_link way 0 0 (edge two 0 0 0)) (same two) (can_here two way)
 
   order_named : (along : Bool) → truth_of group.truths 0 ≡ along → group.principle ≡ principles.Order → (kind : ℕ) → IsKindOf principles.Order one two kind → IsNamed parts group kind
   order_named true truth e kind k = named_by principles.Order e (ordered_yields 0) (truth, omega arith) never (λ h. omega arith) (λ h. same one) never kind k
   order_named false truth e kind k = named_by principles.Order e (ordered_daughters 0) (truth, omega arith) never (λ h. omega arith) (λ h. and_2 (one == one) (0 == 0) (same one) refl) never kind k
 
   each_named : (p : Principle) → group.principle ≡ p → (kind : ℕ) → IsKindOf p one two kind → IsNamed parts group kind
+  each_named principles.Graph e kind k = absurd (none one two kind k)
+  each_named principles.Entries e kind k = absurd (none one two kind k)
   each_named principles.Tree e kind k = named_by principles.Tree e (no_cycle 0) (omega arith) never never (λ h. cycle_looks) never kind k
   each_named principles.Dag e kind k = named_by principles.Dag e (no_cycle 0) (omega arith) never never (λ h. cycle_looks) never kind k
   each_named principles.Valency e kind k = named_by principles.Valency e (out_count 0 0 0) (omega arith, omega arith, omega arith) (λ h. refl) never (λ h. count_looks) never kind k
@@ -86,14 +98,10 @@ module _ (parts : Parts) (group : Group) where
   each_named principles.Government e kind k = named_by principles.Government e (governed 0 0 0) (omega arith, omega arith, omega arith) (λ h. refl) (λ h. omega arith) (λ h. place_looks) never kind k
   each_named principles.Climbing e kind k = named_by principles.Climbing e (climbing 0 0) (omega arith, omega arith) never never (λ h. same one) (λ h. same two) kind k
   each_named principles.Barriers e kind k = named_by principles.Barriers e (not_blocked 0 0) (omega arith, omega arith) (λ h. refl) never (λ h. same one) (λ h. same two) kind k
-  each_named principles.LinkingEnd e kind k = named_by principles.LinkingEnd e (linked_end 0 0 0) (omega arith, omega arith, omega arith) (λ h. refl) never (λ h. place_looks) (λ h. and_2 (two == two) (0 == 0) (same two) refl) kind k
-  each_named principles.LinkingDaughter e kind k = named_by principles.LinkingDaughter e (linked_daughter 0 0 0) (omega arith, omega arith, omega arith) (λ h. refl) never (λ h. place_looks) (λ h. linked_looks) kind k
-  each_named principles.LinkingMother e kind k = named_by principles.LinkingMother e (linked_mother 0 0 0) (omega arith, omega arith, omega arith) (λ h. refl) never (λ h. place_looks) (λ h. linked_looks) kind k
-  each_named principles.LinkingBelowStart e kind k = named_by principles.LinkingBelowStart e (linked_path 0 0 0) (omega arith, omega arith, omega arith) (λ h. refl) never (λ h. place_looks) (λ h. same two) kind k
-  each_named principles.LinkingAboveStart e kind k = named_by principles.LinkingAboveStart e (linked_path 0 0 0) (omega arith, omega arith, omega arith) (λ h. refl) never (λ h. place_looks) (λ h. same two) kind k
-  each_named principles.LinkingSisters e kind k = named_by principles.LinkingSisters e (linked_sister 0 0 0) (omega arith, omega arith, omega arith) (λ h. refl) never (λ h. place_looks) (λ h. and_2 (two == two) ((0 == 0) || (0 == 0)) (same two) refl) kind k
-  each_named principles.LinkingNotDaughter e kind k = named_by principles.LinkingNotDaughter e (linked_daughter 0 0 0) (omega arith, omega arith, omega arith) (λ h. refl) never (λ h. place_looks) (λ h. linked_looks) kind k
-  each_named principle e kind k = absurd (none one two kind k)
+  each_named principles.LinkingNotDaughter e kind k = named_by principles.LinkingNotDaughter e (unlinked 0 0 0) (omega arith, omega arith, omega arith) (λ h. refl) never (λ h. place_looks) (λ h. and_3 (two == two) (0 == 0) (0 == 0) (same two) refl refl) kind k
+  each_named (principles.Rule formula) e kind k = absurd (none one two kind k)
+  each_named (principles.Bound costs bound) e kind k = absurd (none one two kind k)
+  each_named principle e kind k = named_by principle e (linked (way_in (linking_of principle)) 0 0 0) (refl, (omega arith, omega arith, omega arith)) (λ h. refl) never (λ h. place_looks) (λ h. way_looks (way_in (linking_of principle))) kind k
 
   pub kind_named : (kind : ℕ) → IsKindFor group kind → IsNamed parts group kind
   kind_named kind k = each_named group.principle refl kind k

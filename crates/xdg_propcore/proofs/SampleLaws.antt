@@ -4,9 +4,7 @@ use Rattle.std.proofs.Common.{subst, lit<}
 use Rattle.xdg_problem.specs.declared.parts.Parts.{Parts}
 use Rattle.xdg_problem.specs.Boxes.{Has, IsBox, LiesIn}
 use Rattle.xdg_problem.specs.Features.{set_row}
-use Rattle.xdg_problem.specs.Tests.{Test, IsTest, allowed_value, out_count, in_count, one_mother, no_cycle, one_root, one_label, ordered_daughters}
-use Rattle.xdg_problem.specs.Tests.{ordered_yields, projective, agreeing, governed, climbing, not_blocked, linked_end, linked_daughter, linked_mother}
-use Rattle.xdg_problem.specs.Tests.{linked_sister, linked_path}
+use Rattle.xdg_problem.specs.Tests.{Test, IsTest, allowed_value}
 use Rattle.xdg_problem.specs.Vectors.{shape}
 use Rattle.xdg_rules.specs.Rules.{IsClosedFor, AgrValues, TestPasses, attr_of_node}
 use Rattle.xdg_propcore.specs.Sample.{sample, agr_use, LacksSecond, IsUse}
@@ -49,7 +47,7 @@ is_firsts (a ∷ b ∷ []) is l =
 passes : (test : Test) → IsTest sample agr_use test → TestPasses sample agr_use firsts test
 passes (allowed_value zero) is = has_first
 passes (allowed_value (suc v)) is = absurd (omega (arith, is))
-passes other is = absurd is
+passes test is = absurd is
 
 value_first : (v : ℕ) → Has firsts 1 v → v ≡ 0
 value_first zero h = refl

@@ -9,13 +9,13 @@ use Rattle.xdg_problem.specs.declared.parts.DimPlan.{DimPlan}
 use Rattle.xdg_problem.specs.declared.parts.Parts.{Parts}
 use Rattle.xdg_problem.specs.declared.parts.Shown.{Shown}
 use Rattle.xdg_problem.specs.declared.parts.Shown.TheVariants as shown
-use Rattle.xdg_problem.specs.Principles.{IsSet, AreFeatures, AreSets}
 use Rattle.xdg_problem.specs.Problems.{IsProblem, IsDim, IsAttr, IsGroup, AreCandidates, HasConstant}
 use Rattle.xdg_store.specs.InRange.{HasValue}
 use Rattle.xdg_propcore.specs.Sample.{agr_use, colour, first_alone, plan, sample, IsUse}
 use Rattle.xdg_propcore.specs.Uses.{StandsIn}
 use Rattle.xdg_facts.proofs.Lists.{all_one, all_two, pairs_one, pairs_two, pairs_none}
 use Rattle.xdg_store.proofs.Small.{differ_values}
+use Rattle.xdg_problem.specs.Principles.{IsSet, AreSets, AreFeatures}
 
 pub one_candidate : AreCandidates (record { 0 = 3 } ∷ [])
 one_candidate = record { some = lit< tt; most = lit≤ tt; rising = pairs_one (λ (a b : EntryNo). a.0 < b.0) (record { 0 = 3 }); small = all_one (λ (e : EntryNo). e.0 < 4294967295) (record { 0 = 3 }) (lit< tt) }

@@ -5,8 +5,8 @@ use Rattle.std.specs.List.{Any, list_any}
 use Rattle.std.proofs.lemmas.Bool.{cases_Bool, or_cases, false≢true, both_ways, not-true, not_from_false, eqb-true, eq-eqb}
 use Rattle.std.proofs.lemmas.List.Elements.{All-weaker}
 use Rattle.xdg_problem.specs.declared.analysis.Edge.{Edge}
-use Rattle.xdg_problem.specs.declared.parts.Principle.{Principle}
-use Rattle.xdg_problem.specs.declared.parts.Principle.TheVariants as principles
+use Rattle.xdg_problem.specs.declared.parts.Linking.{Linking}
+use Rattle.xdg_problem.specs.declared.parts.Linking.TheVariants as linkings
 use Rattle.xdg_problem.specs.Asking.{IsLinked}
 use Rattle.xdg_problem.specs.Paths.{IsDaughterByAny, Above, AboveByFirst, roots}
 use Rattle.xdg_problem.specs.Places.{below}
@@ -77,17 +77,16 @@ module _ (few many : List Edge) (among : Among few many) where
   daughter_any_among : (u : ℕ) (labels : List ℕ) (v : ℕ) → IsDaughterByAny few u labels v → IsDaughterByAny many u labels v
   daughter_any_among u labels v = any_among (λ e. (e.mother.0 ≡ u) × Contains labels e.label.0 × (e.daughter.0 ≡ v))
 
-  pub linked_among : (principle : Principle) (u : ℕ) (labels : List ℕ) (v : ℕ) → IsLinked principle few u labels v → IsLinked principle many u labels v
-  linked_among principles.LinkingEnd u labels v link = any_among (λ e. Contains labels e.label.0 × (e.daughter.0 ≡ v)) link
-  linked_among principles.LinkingDaughter u labels v link = daughter_any_among u labels v link
-  linked_among principles.LinkingMother u labels v link = daughter_any_among v labels u link
-  linked_among principles.LinkingBelowStart u labels v link = above_first_among u labels v link
-  linked_among principles.LinkingAboveStart u labels v link = above_first_among v labels u link
-  linked_among principles.LinkingSisters u labels v link =
+  pub linked_among : (way : Linking) (u : ℕ) (labels : List ℕ) (v : ℕ) → IsLinked way few u labels v → IsLinked way many u labels v
+  linked_among linkings.End u labels v link = any_among (λ e. Contains labels e.label.0 × (e.daughter.0 ≡ v)) link
+  linked_among linkings.Daughter u labels v link = daughter_any_among u labels v link
+  linked_among linkings.Mother u labels v link = daughter_any_among v labels u link
+  linked_among linkings.BelowStart u labels v link = above_first_among u labels v link
+  linked_among linkings.AboveStart u labels v link = above_first_among v labels u link
+  linked_among linkings.Sisters u labels v link =
       any_weaker (λ e. (e.daughter.0 ≡ u) × IsDaughterByAny few e.mother.0 labels v) (λ e. (e.daughter.0 ≡ u) × IsDaughterByAny many e.mother.0 labels v) many
       (λ e both. (both.0, daughter_any_among e.mother.0 labels v both.1))
       (any_among (λ e. (e.daughter.0 ≡ u) × IsDaughterByAny few e.mother.0 labels v) link)
-  linked_among principle u labels v link = tt
 
   -- a root of the many is one of the few
   root_among : (v : ℕ) → is_root many v ≡ true → is_root few v ≡ true

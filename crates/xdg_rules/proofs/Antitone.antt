@@ -3,6 +3,7 @@ use Rattle.std.proofs.Common.{◌≡◌, ℕ, ◌<◌, ◌≤◌, inl, inr, Bool
 use Rattle.std.specs.Prelude.{Contains}
 use Rattle.xdg_problem.specs.declared.analysis.Edge.{Edge}
 use Rattle.xdg_problem.specs.declared.parts.Group.{Group}
+use Rattle.xdg_problem.specs.declared.parts.Linking.{Linking}
 use Rattle.xdg_problem.specs.declared.parts.Parts.{Parts}
 use Rattle.xdg_problem.specs.Arguments.{first_dim, second_dim}
 use Rattle.xdg_problem.specs.Features.{in_row, out_row, set_row, map_row}
@@ -154,13 +155,13 @@ module _ (parts : Parts) (group : Group) (small large : List (List Bool)) (is : 
     apart = may_apart one rule.barrier rule.place.daughter.0 rule.apart;
   }
 
-  pub linking_reach : (d v : ℕ) → LinkingReach parts group large d v → LinkingReach parts group small d v
-  linking_reach d v rule = record {
+  pub linking_reach : (way : Linking) (d v : ℕ) → LinkingReach parts group large way d v → LinkingReach parts group small way d v
+  linking_reach way d v rule = record {
     place = rule.place;
     is = rule.is;
     says = rule.says;
     links = each_entry rule.place.mother.0 (λ c. 0 < length (map_row group rule.place.mother.0 c rule.place.label.0)) rule.links;
-    apart = λ c remains link. rule.apart c (lies (entry_decision rule.place.mother.0) c remains) (linked_among (may_small two) (may_large two) (may_among parts small large is lies two) group.principle rule.place.mother.0 (map_row group rule.place.mother.0 c rule.place.label.0) rule.place.daughter.0 link);
+    apart = λ c remains link. rule.apart c (lies (entry_decision rule.place.mother.0) c remains) (linked_among (may_small two) (may_large two) (may_among parts small large is lies two) way rule.place.mother.0 (map_row group rule.place.mother.0 c rule.place.label.0) rule.place.daughter.0 link);
   }
 
   pub linking_not_daughter : (d v : ℕ) → LinkingNotDaughter parts group large d v → LinkingNotDaughter parts group small d v

@@ -1,10 +1,11 @@
 -- What a rule takes from a box can be decided of each value.
-use Rattle.std.proofs.Common.{◌≡◌, ◌≢◌, ℕ, ◌+◌, ◌<◌, ◌≤◌, ◌⊎◌, inl, inr, Bool, false, List, [], ◌∷◌, length, refl, sym, subst, arith}
+use Rattle.std.proofs.Common.{◌≡◌, ◌≢◌, ℕ, ◌+◌, ◌<◌, ◌≤◌, ◌⊎◌, inl, inr, Bool, false, List, [], ◌∷◌, length, refl, sym, subst, arith, Option, None, Some}
 use Rattle.std.specs.Prelude.{All, Contains}
 use Rattle.std.specs.List.{Any}
 use Rattle.std.proofs.lemmas.List.Elements.{All-head}
 use Rattle.xdg_problem.specs.declared.analysis.Edge.{Edge}
 use Rattle.xdg_problem.specs.declared.parts.Group.{Group}
+use Rattle.xdg_problem.specs.declared.parts.Linking.{Linking}
 use Rattle.xdg_problem.specs.declared.parts.Parts.{Parts}
 use Rattle.xdg_problem.specs.declared.parts.Principle.{Principle}
 use Rattle.xdg_problem.specs.declared.parts.Principle.TheVariants as principles
@@ -21,7 +22,8 @@ use Rattle.xdg_problem.proofs.DecidingAsks.{decided_between, decided_linked}
 use Rattle.xdg_problem.proofs.DecidingPaths.{decided_either, decided_true, decided_not, decided_any, contained, triple_decided, decided_above}
 use Rattle.xdg_problem.proofs.Looking.{any_of}
 use Rattle.xdg_problem.specs.Boxes.{Has, IsOnly, entry_decision, edge_decision}
-use Rattle.xdg_rules.specs.Rules.{may_edges, must_edges, IsPlaceOn, SaysPresent, SaysAbsent, EachEntry, HasNoneWithin, IsGreatest, IsLeast, ValencyEntry, ValencyFull, ValencyNeeded, OneMother, RootFound, OnlyMother, NoCycle, OneLabel, attr_of_node, AgrValues, AsksAgreement, AgreementValues, Governs, GovernmentValues, ComesBefore, DaughterOrder, HeadOffends, AboutHead, OfHead, ProjectivityReach, ClimbingReach, BarriersReach, LinkingReach, LinkingNotDaughter, TakesForRoot, TakesBy}
+use Rattle.xdg_problem.specs.Principles.{linking_of}
+use Rattle.xdg_rules.specs.Rules.{may_edges, must_edges, IsPlaceOn, SaysPresent, SaysAbsent, EachEntry, HasNoneWithin, IsGreatest, IsLeast, ValencyEntry, ValencyFull, ValencyNeeded, OneMother, RootFound, OnlyMother, NoCycle, OneLabel, attr_of_node, AgrValues, AsksAgreement, AgreementValues, Governs, GovernmentValues, ComesBefore, DaughterOrder, HeadOffends, AboutHead, OfHead, ProjectivityReach, ClimbingReach, BarriersReach, LinkingReach, LinkingNotDaughter, TakesForRoot, TakesBy, TakesLinked}
 use Rattle.xdg_rules.specs.Bounds.{edge_cost, least_cost, BoundPlace}
 use Rattle.xdg_rules.proofs.Apart.{decided_makes}
 use Rattle.xdg_rules.proofs.DecidingBoxes.{decided_has, decided_remaining, decided_some, decided_only, decided_each_entry, decided_lists, decided_edges, decided_among, decided_none_within, decided_greatest, decided_least, decided_comes}
@@ -278,14 +280,14 @@ module _ (parts : Parts) (group : Group) (box : List (List Bool)) (d v : ℕ) wh
       (λ r. (r.place, r.is, (r.says, rule_barrier r)))
       (placed two Barrier decided_barrier)
 
-  linking_reach : Decided (LinkingReach parts group box d v)
-  linking_reach =
-      let gone : Edge → Type 0 = λ e. EachEntry box e.mother.0 (λ c. IsLinked group.principle (may two) e.mother.0 (map_row group e.mother.0 c e.label.0) e.daughter.0 → ⊥) in
+  linking_reach : (way : Linking) → Decided (LinkingReach parts group box way d v)
+  linking_reach way =
+      let gone : Edge → Type 0 = λ e. EachEntry box e.mother.0 (λ c. IsLinked way (may two) e.mother.0 (map_row group e.mother.0 c e.label.0) e.daughter.0 → ⊥) in
       let links : Edge → Type 0 = λ e. EachEntry box e.mother.0 (λ c. 0 < length (map_row group e.mother.0 c e.label.0)) in
-      decided_like ((e : Edge) × IsPlaceOn parts one e × (SaysPresent parts e d v × (links e × gone e))) (LinkingReach parts group box d v)
+      decided_like ((e : Edge) × IsPlaceOn parts one e × (SaysPresent parts e d v × (links e × gone e))) (LinkingReach parts group box way d v)
       (λ s. record { place = s.0; is = s.1; says = s.2.0; links = s.2.1.0; apart = s.2.1.1 })
       (λ r. (r.place, r.is, (r.says, (r.links, r.apart))))
-      (placed one (λ e. links e × gone e) (λ e. decided_both (links e) (gone e) (mapped e) (decided_each_entry box e.mother.0 _ (λ c. decided_not _ (decided_linked group.principle (may two) e.mother.0 (map_row group e.mother.0 c e.label.0) e.daughter.0)))))
+      (placed one (λ e. links e × gone e) (λ e. decided_both (links e) (gone e) (mapped e) (decided_each_entry box e.mother.0 _ (λ c. decided_not _ (decided_linked way (may two) e.mother.0 (map_row group e.mother.0 c e.label.0) e.daughter.0)))))
 
   linking_not_daughter : Decided (LinkingNotDaughter parts group box d v)
   linking_not_daughter =
@@ -307,6 +309,10 @@ module _ (parts : Parts) (group : Group) (box : List (List Bool)) (d v : ℕ) wh
       (λ r. (r.place, r.is, (r.says, (r.free, r.reaches))))
       (decided_in (places parts) _ (λ e. decided_both _ _ (says_present e) (decided_both _ _ (decided_has box (edge_decision parts e) 1) (decided_most bound (least_cost parts costs box + edge_cost costs e)))))
 
+  decided_way : (linking : Option Linking) → Decided (TakesLinked linking parts group box d v)
+  decided_way None = inr (λ none. none)
+  decided_way (Some way) = linking_reach way
+
   pub decided_by : (principle : Principle) → Decided (TakesBy principle parts group box d v)
   decided_by principles.Tree = decided_either _ _ one_mother (decided_either _ _ for_root no_cycle)
   decided_by principles.Dag = decided_either _ _ no_cycle (decided_either _ _ (decided_both _ _ (decided_true (truth_of group.truths 0)) for_root) (decided_both _ _ (decided_true (truth_of group.truths 1)) one_label))
@@ -318,13 +324,7 @@ module _ (parts : Parts) (group : Group) (box : List (List Bool)) (d v : ℕ) wh
   decided_by principles.Government = government_values
   decided_by principles.Climbing = climbing_reach
   decided_by principles.Barriers = barriers_reach
-  decided_by principles.LinkingEnd = linking_reach
-  decided_by principles.LinkingDaughter = linking_reach
-  decided_by principles.LinkingMother = linking_reach
-  decided_by principles.LinkingBelowStart = linking_reach
-  decided_by principles.LinkingAboveStart = linking_reach
-  decided_by principles.LinkingSisters = linking_reach
   decided_by principles.LinkingNotDaughter = linking_not_daughter
   decided_by (principles.Rule formula) = decided_makes parts box (claim formula) false unbound
   decided_by (principles.Bound costs bound) = decided_either _ _ (decided_most bound (least_cost parts costs box)) (bound_place costs bound)
-  decided_by principle = inr (λ none. none)
+  decided_by principle = decided_way (linking_of principle)

@@ -1,6 +1,7 @@
 -- The monotone law: what a principle use takes from a box remains in no closed box that lies in it.
-use Rattle.std.proofs.Common.{◌≡◌, ℕ, ◌<◌, inl, inr, Bool, false, List, length, refl, sym, subst, arith}
+use Rattle.std.proofs.Common.{◌≡◌, ℕ, ◌<◌, inl, inr, Bool, false, List, length, refl, sym, subst, arith, Option, None, Some}
 use Rattle.xdg_problem.specs.declared.parts.Group.{Group}
+use Rattle.xdg_problem.specs.declared.parts.Linking.{Linking}
 use Rattle.xdg_problem.specs.declared.parts.Parts.{Parts}
 use Rattle.xdg_problem.specs.declared.parts.Principle.{Principle}
 use Rattle.xdg_problem.specs.declared.parts.Principle.TheVariants as principles
@@ -12,7 +13,7 @@ use Rattle.xdg_problem.specs.Truths.{unbound}
 use Rattle.xdg_problem.specs.Vectors.{shape}
 use Rattle.xdg_problem.proofs.AttrPlaces.{attr_within, attr_dim_within}
 use Rattle.xdg_problem.specs.Boxes.{Has, IsBox, LiesIn}
-use Rattle.xdg_rules.specs.Rules.{TakesForRoot, TakesBy, Takes, IsClosedFor, attr_of_node}
+use Rattle.xdg_rules.specs.Rules.{TakesForRoot, TakesBy, Takes, IsClosedFor, attr_of_node, TakesLinked}
 use Rattle.xdg_rules.proofs.Sizes.{attr_place_within}
 use Rattle.xdg_rules.proofs.Antitone.{valency_entry, one_mother, no_root, two_roots, no_cycle, one_label, agr_values, agreement_values, government_values, daughter_order, about_head, of_head, projectivity_reach, climbing_reach, barriers_reach, linking_reach, linking_not_daughter}
 use Rattle.xdg_rules.proofs.Counting.{valency_full, valency_needed}
@@ -20,7 +21,7 @@ use Rattle.xdg_rules.proofs.Rooted.{root_found, only_mother}
 use Rattle.xdg_rules.proofs.Failing.{fails_test}
 use Rattle.xdg_rules.proofs.Narrowing.{narrower}
 use Rattle.xdg_rules.proofs.Costing.{cost_more, bound_kept}
-use Rattle.xdg_problem.specs.Principles.{attr_arguments}
+use Rattle.xdg_problem.specs.Principles.{attr_arguments, linking_of}
 
 -- an attribute that a principle takes has a decision for each node
 pub attr_decided : (parts : Parts) (group : Group) → IsGroup parts group → (argument : ℕ) → argument < attr_arguments group.principle → (node : ℕ) → node < nodes parts → attr_of_node parts group argument node < length (shape parts)
@@ -44,6 +45,10 @@ module _ (parts : Parts) (group : Group) (small large : List (List Bool)) (probl
       ]
     ]
   ]
+
+  way_less : (linking : Option Linking) (d v : ℕ) → TakesLinked linking parts group large d v → TakesLinked linking parts group small d v
+  way_less None d v taken = absurd taken
+  way_less (Some way) d v taken = linking_reach parts group small large is lies way d v taken
 
   taken_by : (principle : Principle) → group.principle ≡ principle → KeepsBy principle → (d v : ℕ) → Has small d v → TakesBy principle parts group large d v → ⊥
   taken_by principles.Tree same keeps d v has taken = elim taken [
@@ -80,19 +85,13 @@ module _ (parts : Parts) (group : Group) (small large : List (List Bool)) (probl
   taken_by principles.Government same keeps d v has taken = keeps d v has (government_values parts group small large is lies d v taken)
   taken_by principles.Climbing same keeps d v has taken = keeps d v has (climbing_reach parts group small large is lies d v taken)
   taken_by principles.Barriers same keeps d v has taken = keeps d v has (barriers_reach parts group small large is lies d v taken)
-  taken_by principles.LinkingEnd same keeps d v has taken = keeps d v has (linking_reach parts group small large is lies d v taken)
-  taken_by principles.LinkingDaughter same keeps d v has taken = keeps d v has (linking_reach parts group small large is lies d v taken)
-  taken_by principles.LinkingMother same keeps d v has taken = keeps d v has (linking_reach parts group small large is lies d v taken)
-  taken_by principles.LinkingBelowStart same keeps d v has taken = keeps d v has (linking_reach parts group small large is lies d v taken)
-  taken_by principles.LinkingAboveStart same keeps d v has taken = keeps d v has (linking_reach parts group small large is lies d v taken)
-  taken_by principles.LinkingSisters same keeps d v has taken = keeps d v has (linking_reach parts group small large is lies d v taken)
   taken_by principles.LinkingNotDaughter same keeps d v has taken = keeps d v has (linking_not_daughter parts group small large is lies d v taken)
   taken_by (principles.Rule formula) same keeps d v has taken = keeps d v has (narrower parts small large is lies (claim formula) false unbound taken)
   taken_by (principles.Bound costs bound) same keeps d v has taken = elim taken [
     | inl reached ↦ keeps d v has (inl (let more = cost_more parts costs small large problem is lies in omega (arith, reached, more)))
     | inr place ↦ bound_kept parts costs small large problem is lies bound d v (λ reached. keeps d v has (inl reached)) (λ rule. keeps d v has (inr rule)) has place
   ]
-  taken_by principle same keeps d v has taken = absurd taken
+  taken_by principle same keeps d v has taken = keeps d v has (way_less (linking_of principle) d v taken)
 
   pub monotone : IsClosedFor parts group small → (d v : ℕ) → Takes parts group large d v → Has small d v → ⊥
   monotone closed d v taken has = elim taken [

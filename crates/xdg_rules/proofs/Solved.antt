@@ -5,6 +5,7 @@ use Rattle.xdg_problem.specs.declared.analysis.Edge.{Edge}
 use Rattle.xdg_problem.specs.declared.conditions.Condition.{Condition}
 use Rattle.xdg_problem.specs.declared.conditions.Condition.TheVariants as conditions
 use Rattle.xdg_problem.specs.declared.parts.Group.{Group}
+use Rattle.xdg_problem.specs.declared.parts.Linking.TheVariants as linkings
 use Rattle.xdg_problem.specs.declared.parts.Parts.{Parts}
 use Rattle.xdg_problem.specs.declared.parts.Principle.{Principle}
 use Rattle.xdg_problem.specs.declared.parts.Principle.TheVariants as principles
@@ -87,12 +88,12 @@ module _ (parts : Parts) (group : Group) (group_is : IsGroup parts group) (box :
   keeps_by principles.Government same all d v has taken = government_values parts group group_is box x problem is whole agrees (takes_attrs principles.Government 0 same (omega arith)) ((one_kept Holds conditions.Govern).1 all) d v has taken
   keeps_by principles.Climbing same all d v has taken = climbing_reach parts group box x problem is whole agrees ((one_kept Holds conditions.Below).1 all) d v has taken
   keeps_by principles.Barriers same all d v has taken = barriers_reach parts group box x problem is whole agrees ((one_kept Holds conditions.Blocked).1 all) d v has taken
-  keeps_by principles.LinkingEnd same all d v has taken = linking_reach parts group box x problem is whole agrees principles.LinkingEnd same (λ e asks. asks) ((one_kept Holds conditions.Link).1 all) d v has taken
-  keeps_by principles.LinkingDaughter same all d v has taken = linking_reach parts group box x problem is whole agrees principles.LinkingDaughter same (λ e asks. asks) ((one_kept Holds conditions.Link).1 all) d v has taken
-  keeps_by principles.LinkingMother same all d v has taken = linking_reach parts group box x problem is whole agrees principles.LinkingMother same (λ e asks. asks) ((one_kept Holds conditions.Link).1 all) d v has taken
-  keeps_by principles.LinkingBelowStart same all d v has taken = linking_reach parts group box x problem is whole agrees principles.LinkingBelowStart same (λ e asks. asks) ((one_kept Holds conditions.Link).1 all) d v has taken
-  keeps_by principles.LinkingAboveStart same all d v has taken = linking_reach parts group box x problem is whole agrees principles.LinkingAboveStart same (λ e asks. asks) ((one_kept Holds conditions.Link).1 all) d v has taken
-  keeps_by principles.LinkingSisters same all d v has taken = linking_reach parts group box x problem is whole agrees principles.LinkingSisters same (λ e asks. asks) ((one_kept Holds conditions.Link).1 all) d v has taken
+  keeps_by principles.LinkingEnd same all d v has taken = linking_reach parts group box x problem is whole agrees principles.LinkingEnd linkings.End same (λ e asks. asks) ((one_kept Holds conditions.Link).1 all) d v has taken
+  keeps_by principles.LinkingDaughter same all d v has taken = linking_reach parts group box x problem is whole agrees principles.LinkingDaughter linkings.Daughter same (λ e asks. asks) ((one_kept Holds conditions.Link).1 all) d v has taken
+  keeps_by principles.LinkingMother same all d v has taken = linking_reach parts group box x problem is whole agrees principles.LinkingMother linkings.Mother same (λ e asks. asks) ((one_kept Holds conditions.Link).1 all) d v has taken
+  keeps_by principles.LinkingBelowStart same all d v has taken = linking_reach parts group box x problem is whole agrees principles.LinkingBelowStart linkings.BelowStart same (λ e asks. asks) ((one_kept Holds conditions.Link).1 all) d v has taken
+  keeps_by principles.LinkingAboveStart same all d v has taken = linking_reach parts group box x problem is whole agrees principles.LinkingAboveStart linkings.AboveStart same (λ e asks. asks) ((one_kept Holds conditions.Link).1 all) d v has taken
+  keeps_by principles.LinkingSisters same all d v has taken = linking_reach parts group box x problem is whole agrees principles.LinkingSisters linkings.Sisters same (λ e asks. asks) ((one_kept Holds conditions.Link).1 all) d v has taken
   keeps_by principles.LinkingNotDaughter same all d v has taken = linking_not_daughter parts group box x problem is whole agrees same ((one_kept Holds conditions.Link).1 all) d v has taken
   keeps_by (principles.Rule formula) same all d v has taken = rule_takes_none parts group box x problem is whole agrees formula (subst (λ p. IsSuited p parts) same group_is.suits) (subst (λ p. AsksWhole p parts candidates attrs edges) same ((one_kept Holds conditions.Rule).1 all [] refl)) taken
   keeps_by (principles.Bound costs bound) same all d v has taken = bound_takes_none parts group box x problem is whole agrees costs bound (subst (λ p. AsksWhole p parts candidates attrs edges) same ((one_kept Holds conditions.Bound).1 all [] refl)) d v has taken

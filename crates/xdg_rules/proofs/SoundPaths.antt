@@ -1,17 +1,18 @@
 -- In a box that agrees with a whole vector the rules of paths and links take nothing that remains, if the conditions hold.
-use Rattle.std.proofs.Common.{◌≡◌, ℕ, ◌<◌, ◌⊎◌, inl, inr, Bool, List, [], ◌∷◌, ◌++◌, length, refl, sym, ◌∙◌, arith, subst}
+use Rattle.std.proofs.Common.{◌≡◌, ℕ, ◌<◌, ◌⊎◌, inl, inr, Bool, List, [], ◌∷◌, ◌++◌, length, refl, sym, ◌∙◌, arith, subst, Some}
 use Rattle.std.specs.Prelude.{Contains, All, slice_index, ◌==◌}
 use Rattle.std.proofs.lemmas.List.Elements.{All-nil, All-cons, All-append, All-filter, All-weaker}
 use Rattle.xdg_problem.specs.declared.analysis.Edge.{Edge}
 use Rattle.xdg_problem.specs.declared.conditions.Condition.{Condition}
 use Rattle.xdg_problem.specs.declared.conditions.Condition.TheVariants as conditions
 use Rattle.xdg_problem.specs.declared.parts.Group.{Group}
+use Rattle.xdg_problem.specs.declared.parts.Linking.{Linking}
 use Rattle.xdg_problem.specs.declared.parts.Parts.{Parts}
 use Rattle.xdg_problem.specs.declared.parts.Principle.{Principle}
 use Rattle.xdg_problem.specs.declared.parts.Principle.TheVariants as principles
 use Rattle.xdg_problem.specs.Analyses.{IsPlace}
 use Rattle.xdg_problem.specs.Arguments.{first_dim, second_dim}
-use Rattle.xdg_problem.specs.Asking.{IsLinked, AsksLink}
+use Rattle.xdg_problem.specs.Asking.{IsLinked, AsksLink, AsksBy}
 use Rattle.xdg_problem.specs.Features.{set_row, map_row}
 use Rattle.xdg_problem.specs.Paths.{edges_on, IsDaughter, IsDaughterBy, Leads, Above, AboveByLast}
 use Rattle.xdg_problem.specs.Places.{nodes, places}
@@ -112,17 +113,15 @@ module _ (parts : Parts) (group : Group) (box : List (List Bool)) (x : List ℕ)
       let blocks = rule.blocks (entry rule.barrier) (entry_has parts box x problem is whole agrees rule.barrier within) in
       may_above one rule.barrier rule.place.daughter.0 rule.apart (kept (rule.barrier ∷ rule.place.daughter.0 ∷ []) (within, (place.daughter, tt)) (above_by_last (on two) (set_row group rule.barrier (entry rule.barrier)) rule.barrier rule.place stands blocks above))
 
-  -- what links asks of an edge that stands
-  abbrev Links : Principle → Edge → Type 0
-  Links principle e = 0 < length (map_row group e.mother.0 (entry e.mother.0) e.label.0) → IsLinked principle (on two) e.mother.0 (map_row group e.mother.0 (entry e.mother.0) e.label.0) e.daughter.0
-
   asks_link : Holds conditions.Link → (e : Edge) → Contains (places parts) e → e.dim.0 ≡ one → Contains (on one) e → AsksLink group.principle group (entry e.mother.0) (on two) e.mother.0 e.label.0 e.daughter.0
   asks_link kept e placed is_on stands =
       let place = is_place parts e placed in
       kept (e.mother.0 ∷ e.label.0 ∷ e.daughter.0 ∷ []) (place.mother, (label_on parts one e place is_on, (place.daughter, tt))) (daughter_by one e stands)
 
-  pub linking_reach : (principle : Principle) → group.principle ≡ principle → ((e : Edge) → AsksLink principle group (entry e.mother.0) (on two) e.mother.0 e.label.0 e.daughter.0 → Links principle e) → Holds conditions.Link → (d v : ℕ) → Has box d v → LinkingReach parts group box d v → ⊥
-  linking_reach principle same links kept d v has rule =
+  pub linking_reach : (principle : Principle) (way : Linking) → group.principle ≡ principle
+      → ((e : Edge) → AsksLink principle group (entry e.mother.0) (on two) e.mother.0 e.label.0 e.daughter.0 → AsksBy (Some way) (on two) e.mother.0 (map_row group e.mother.0 (entry e.mother.0) e.label.0) e.daughter.0)
+      → Holds conditions.Link → (d v : ℕ) → Has box d v → LinkingReach parts group box way d v → ⊥
+  linking_reach principle way same asks_by kept d v has rule =
       let u : ℕ = rule.place.mother.0 in
       let l : ℕ = rule.place.label.0 in
       let w : ℕ = rule.place.daughter.0 in
@@ -130,8 +129,8 @@ module _ (parts : Parts) (group : Group) (box : List (List Bool)) (x : List ℕ)
       let remains = entry_has parts box x problem is whole agrees u (is_place parts rule.place rule.is.0).mother in
       let stands = present parts box x problem is whole agrees one rule.place d v rule.is rule.says has in
       let asks = subst (λ p. AsksLink p group (entry u) (on two) u l w) same (asks_link kept rule.place rule.is.0 rule.is.1 stands) in
-      let linked = subst (λ p. IsLinked p (on two) u row w) (sym same) (links rule.place asks (rule.links (entry u) remains)) in
-      rule.apart (entry u) remains (subst (λ es. IsLinked group.principle es u row w) (sym (may_on parts box x problem is whole agrees two)) linked)
+      let linked = asks_by rule.place asks (rule.links (entry u) remains) in
+      rule.apart (entry u) remains (subst (λ es. IsLinked way es u row w) (sym (may_on parts box x problem is whole agrees two)) linked)
 
   pub linking_not_daughter : group.principle ≡ principles.LinkingNotDaughter → Holds conditions.Link → (d v : ℕ) → Has box d v → LinkingNotDaughter parts group box d v → ⊥
   linking_not_daughter same kept d v has rule =

@@ -4,6 +4,7 @@ use Rattle.std.specs.Prelude.{◌≡◌, ◌≢◌, ℕ, suc, ◌+◌, ◌<◌, 
 use Rattle.std.specs.Prelude.{Contains, All, slice_index_or}
 use Rattle.xdg_problem.specs.declared.analysis.Edge.{Edge}
 use Rattle.xdg_problem.specs.declared.parts.Group.{Group}
+use Rattle.xdg_problem.specs.declared.parts.Linking.{Linking}
 use Rattle.xdg_problem.specs.declared.parts.Parts.{Parts}
 use Rattle.xdg_problem.specs.declared.parts.Principle.{Principle}
 use Rattle.xdg_problem.specs.declared.parts.Principle.TheVariants as principles
@@ -13,6 +14,7 @@ use Rattle.xdg_problem.specs.Boxes.{Has, IsOnly, entry_decision, attr_decision, 
 use Rattle.xdg_problem.specs.Features.{in_row, out_row, set_row, map_row}
 use Rattle.xdg_problem.specs.Paths.{edges_into, edges_out_of, mothers, roots, Above}
 use Rattle.xdg_problem.specs.Places.{nodes, places}
+use Rattle.xdg_problem.specs.Principles.{linking_of}
 use Rattle.xdg_problem.specs.Tests.{Test, IsTest, looks_at, entry_node, test_attrs, Passes}
 pub use Rattle.xdg_rules.specs.Remaining.{has, may_edges, must_edges, IsPlaceOn, SaysPresent, SaysAbsent, EachEntry}
 use Rattle.xdg_rules.specs.Worths.{RuleFalse}
@@ -308,13 +310,13 @@ module _ (parts : Parts) (group : Group) (box : List (List Bool)) where
     pub apart : Above may_first barrier place.daughter.0 → ⊥
 
   -- an edge of the first dimension, for which each remaining entry of its mother links, and by no edges that may be
-  pub record LinkingReach (d v : ℕ) : Type 0 where
+  pub record LinkingReach (way : Linking) (d v : ℕ) : Type 0 where
     pub place : Edge
     pub is : IsPlaceOn parts (first_dim group) place
     pub says : SaysPresent parts place d v
     pub links : EachEntry box place.mother.0 (λ c. 0 < length (map_row group place.mother.0 c place.label.0))
     pub apart : EachEntry box place.mother.0
-        (λ c. IsLinked group.principle may_second place.mother.0 (map_row group place.mother.0 c place.label.0) place.daughter.0 → ⊥)
+        (λ c. IsLinked way may_second place.mother.0 (map_row group place.mother.0 c place.label.0) place.daughter.0 → ⊥)
 
   -- two edges from one node to another, of the first dimension and of the second, that each remaining entry keeps apart: either
   -- one where the other must be
@@ -334,6 +336,11 @@ module _ (parts : Parts) (group : Group) (box : List (List Bool)) where
   abbrev pub TakesForRoot : ℕ → ℕ → Type 0
   TakesForRoot d v = RootFound d v ⊎ (HasNoRoot ⊎ (OnlyMother d v ⊎ HasTwoRoots))
 
+-- what the rule of a principle takes that links in a way
+abbrev pub TakesLinked : Option Linking → Parts → Group → List (List Bool) → ℕ → ℕ → Type 0
+TakesLinked None parts group box d v = ⊥
+TakesLinked (Some way) parts group box d v = LinkingReach parts group box way d v
+
 -- what the rules of a principle take, beside its tests
 abbrev pub TakesBy : Principle → Parts → Group → List (List Bool) → ℕ → ℕ → Type 0
 TakesBy principles.Tree parts group box d v = OneMother parts group box d v ⊎ (TakesForRoot parts group box d v ⊎ NoCycle parts group box d v)
@@ -348,16 +355,10 @@ TakesBy principles.Agreement parts group box d v = AgreementValues parts group b
 TakesBy principles.Government parts group box d v = GovernmentValues parts group box d v
 TakesBy principles.Climbing parts group box d v = ClimbingReach parts group box d v
 TakesBy principles.Barriers parts group box d v = BarriersReach parts group box d v
-TakesBy principles.LinkingEnd parts group box d v = LinkingReach parts group box d v
-TakesBy principles.LinkingDaughter parts group box d v = LinkingReach parts group box d v
-TakesBy principles.LinkingMother parts group box d v = LinkingReach parts group box d v
-TakesBy principles.LinkingBelowStart parts group box d v = LinkingReach parts group box d v
-TakesBy principles.LinkingAboveStart parts group box d v = LinkingReach parts group box d v
-TakesBy principles.LinkingSisters parts group box d v = LinkingReach parts group box d v
 TakesBy principles.LinkingNotDaughter parts group box d v = LinkingNotDaughter parts group box d v
 TakesBy (principles.Rule formula) parts group box d v = RuleFalse parts formula box
 TakesBy (principles.Bound costs bound) parts group box d v = BoundReached parts costs bound box ⊎ BoundPlace parts costs bound box d v
-TakesBy principle parts group box d v = ⊥
+TakesBy principle parts group box d v = TakesLinked (linking_of principle) parts group box d v
 
 -- what a principle use takes from a box: everything where a test of it fails that is decided, and what its rules take
 abbrev pub Takes : Parts → Group → List (List Bool) → ℕ → ℕ → Type 0

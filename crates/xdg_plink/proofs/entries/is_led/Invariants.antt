@@ -4,4 +4,4 @@ use Rattle.xdg_plink.proofs.Leading.{LedBy}
 use Rattle.xdg_plink.proofs.entries.is_led.Given as goal
 
 abbrev pub invariant-loop-label : goal.invariant-loop-label
-invariant-loop-label l = NoneMeet (LedBy l.way (may_edges l.store.parts l.store.now l.dim.0) l.table l.a.0 l.b.0) l.labels l.label-index
+invariant-loop-label l = NoneMeet (LedBy l.way (may_edges l.store.parts l.store.now l.dim.0) l.table l.u.0 l.v.0) l.labels l.label-index

@@ -1,6 +1,7 @@
 use Rattle.std.proofs.Common.{◌≡◌, false, true, refl, subst}
 use Rattle.xdg_propcore.specs.Standing.{box_at}
 use Rattle.xdg_propcore.specs.Touching.{HasTouched}
+use Rattle.xdg_plink.specs.Untouched.{HasLinks}
 use Rattle.xdg_plink.proofs.Others.{joins_stay, links_stay}
 use Rattle.xdg_plink.proofs.Sweeping.{not_reaching}
 use Rattle.xdg_plink.proofs.near.near_lost.Goals as goal
@@ -16,7 +17,8 @@ returns-then-asks_edges c =
     let s = c.args.store.now in
     let held = c.requires.held in
     links_stay s.parts c.args.group.now c.requires.known.problem (box_at s c.args.mark) s.now held.inside held.calm c.near_links.result c.since-second.result
-    (subst (λ d. HasTouched s.parts d (box_at s c.args.mark) s.now c.since-second.result) c.dim_of-second_dim.ensures c.since-second.ensures.touched) (c.if-asks_edges.ensures.0 refl) c.near_links.ensures
+    (subst (λ d. HasTouched s.parts d (box_at s c.args.mark) s.now c.since-second.result) c.dim_of-second_dim.ensures c.since-second.ensures.touched) (c.if-asks_edges.ensures.0 refl)
+    (subst (λ w. HasLinks c.near_links.result w c.since-second.result) c.way_of.ensures c.near_links.ensures)
 
 pub returns : goal.returns
 returns c =
