@@ -3,7 +3,6 @@
 //! and the nodes below it and above it, by the edges that may be present or by those that must be.
 #![tactic(auto)]
 
-mod arguments;
 mod entries;
 mod features;
 mod labels;
@@ -14,7 +13,6 @@ mod tables;
 mod upward;
 mod which;
 
-pub use arguments::{attr_of, dim_of, truth_of};
 pub use entries::{each_entry_has, each_entry_has_some, entry_count};
 pub use features::{feature_row, is_member, row_of};
 pub use labels::{edge_labels, labels_of, node_count};

@@ -7,9 +7,8 @@ ghost use Rattle.xdg_problem.specs.Principles.{dim_arguments, attr_arguments};
 ghost use Rattle.xdg_rules.specs.Rules.{attr_of_node};
 ghost use Rattle.xdg_graph.specs.Slots.{IsSlot, decision_of};
 
-use crate::arguments::{attr_of, dim_of};
 use xdg_base::{AttrId, DimId, NodeId};
-use xdg_problem::{Group, Parts};
+use xdg_problem::{Group, Parts, attr_of, dim_of};
 use xdg_store::Store;
 
 /// An attribute of a node.

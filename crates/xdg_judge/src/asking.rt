@@ -15,10 +15,10 @@ ghost use Rattle.xdg_judge.specs.Verdicts.{AsksHere};
 
 use crate::counts::counted;
 use crate::paths::{Way, is_joined, is_member};
-use crate::reads::{attr_of, row_of, truth_of, value_of};
+use crate::reads::{attr_of, row_of, value_of};
 use crate::view::View;
 use xdg_base::LabelId;
-use xdg_problem::{Condition, Linking, Principle};
+use xdg_problem::{Condition, Linking, Principle, truth_of};
 
 /// Whether a number of edges with a label into v is one that its entry allows.
 fn passes_in(view: &View, v: u8, label: u8, count: usize) -> bool

@@ -14,14 +14,14 @@ ghost use Rattle.xdg_judge.specs.Views.{IsView};
 ghost use Rattle.xdg_judge.specs.Verdicts.{IsOfWhole, tuple_of, IsVerdict, AreVerdicts, IsKeptHere, IsLeastBroken};
 
 use crate::counts::{count_roots, tally};
-use crate::reads::{label_count_of, truth_of};
+use crate::reads::label_count_of;
 use crate::search::first_refused;
 use crate::verdict::{Tuple4, Verdict};
 use crate::view::View;
 use crate::whole::keeps_whole;
 use std::alloc::{AllocError, Global};
 use xdg_base::List;
-use xdg_problem::{Analysis, Condition, Group, Parts, Principle, Problem};
+use xdg_problem::{Analysis, Condition, Group, Parts, Principle, Problem, truth_of};
 
 /// The number of nodes without mother, where it isn't 1.
 #[tactic(auto, using(crate::proofs::Judging::roots_kept, crate::proofs::Judging::roots_broken))]

@@ -1,7 +1,7 @@
 //! What a principle use and an analysis give to read.
 
 ghost use Rattle.std.specs.Prelude.{◌≡◌, ◌≤◌, ◌<◌, [], length, take, slice_index, slice_index_or, All};
-ghost use Rattle.xdg_problem.specs.Arguments.{dim_of, attr_of, truth_of, label_count, attr_place, attr_count};
+ghost use Rattle.xdg_problem.specs.Arguments.{dim_of, attr_of, label_count, attr_place, attr_count};
 ghost use Rattle.xdg_problem.specs.Features.{row};
 ghost use Rattle.xdg_problem.specs.Places.{nodes};
 ghost use Rattle.xdg_problem.specs.Problems.{IsDim, IsProblem};
@@ -27,16 +27,6 @@ pub fn attr_of(group: &Group, argument: usize) -> u8
     match group.attrs.get(argument) {
         Some(attr) => attr.0,
         None => 0,
-    }
-}
-
-/// A truth value.
-pub fn truth_of(group: &Group, argument: usize) -> bool
-    ensures { result ≡ truth_of group.now.truths argument }
-{
-    match group.truths.get(argument) {
-        Some(truth) => *truth,
-        None => false,
     }
 }
 

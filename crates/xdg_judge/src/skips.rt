@@ -12,11 +12,11 @@ ghost use Rattle.xdg_judge.specs.Verdicts.{AsksHere};
 
 use crate::asking::is_in_item;
 use crate::links::{leads_nowhere, leads_to_all};
-use crate::reads::{attr_of, truth_of, value_of};
+use crate::reads::{attr_of, value_of};
 use crate::view::View;
 use xdg_base::{LabelId, NodeId};
 use xdg_nodeset::NodeSet;
-use xdg_problem::Condition;
+use xdg_problem::{Condition, truth_of};
 
 /// Whether u has no daughter with a label on the first dimension.
 fn has_no_daughter(view: &View, u: u8, label: u8) -> bool

@@ -20,9 +20,9 @@ use crate::places::{agr_at, asks, place_at};
 use crate::reads::is_agr;
 use crate::touched::daughters_at;
 use xdg_base::{DimId, LabelId, NodeId};
-use xdg_graph::{dim_of, every_node, labels_of};
+use xdg_graph::{every_node, labels_of};
 use xdg_nodeset::NodeSet;
-use xdg_problem::{Edge, Group};
+use xdg_problem::{Edge, Group, dim_of};
 use xdg_propcore::{Pass, Touched};
 use xdg_store::Store;
 

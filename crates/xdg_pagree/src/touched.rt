@@ -11,9 +11,8 @@ ghost use Rattle.xdg_pagree.specs.Family.{IsOfFamily};
 ghost use Rattle.xdg_pagree.specs.Untouched.{AreOthersDone, AreTouched, IsNodeFree, IsRowFree};
 
 use xdg_base::{DimId, LabelId, NodeId};
-use xdg_graph::dim_of;
 use xdg_nodeset::NodeSet;
-use xdg_problem::Group;
+use xdg_problem::{Group, dim_of};
 use xdg_propcore::Touched;
 use xdg_store::{Mark, Store};
 

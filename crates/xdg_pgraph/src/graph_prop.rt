@@ -16,8 +16,7 @@ use crate::label::{take_dag, take_others, take_tree};
 use crate::lasting::daughters_since;
 use crate::plane::{Plane, label_count};
 use crate::valency::take_valency;
-use xdg_graph::truth_of;
-use xdg_problem::{Group, Parts, Principle};
+use xdg_problem::{Group, Parts, Principle, truth_of};
 use xdg_propcore::{Family, Pass, Touched, UseProp};
 use xdg_store::{Mark, Store};
 

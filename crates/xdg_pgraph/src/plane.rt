@@ -8,8 +8,7 @@ ghost use Rattle.xdg_pgraph.specs.Family.{IsOfFamily};
 ghost use Rattle.xdg_pgraph.specs.Planes.{IsPlane};
 
 use xdg_base::{DimId, LabelId, NodeId};
-use xdg_graph::dim_of;
-use xdg_problem::{Edge, Group, Parts};
+use xdg_problem::{Edge, Group, Parts, dim_of};
 
 /// A dimension with its number of nodes and of labels; a dimension without edges has no labels here.
 #[derive(Clone, Copy, Debug)]

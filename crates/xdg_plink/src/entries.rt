@@ -14,9 +14,9 @@ ghost use Rattle.xdg_plink.specs.Ways.{way_of, Stands, IsEnd, IsLed};
 use crate::neighbours::{may_daughters, may_mothers};
 use crate::way::way_of;
 use xdg_base::{DimId, LabelId, NodeId};
-use xdg_graph::{dim_of, entry_count, row_of, set_at};
+use xdg_graph::{entry_count, row_of, set_at};
 use xdg_nodeset::NodeSet;
-use xdg_problem::{Group, Linking};
+use xdg_problem::{Group, Linking, dim_of};
 use xdg_store::Store;
 
 /// Whether two sets have a node in common.

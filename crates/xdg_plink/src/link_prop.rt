@@ -6,8 +6,7 @@ use crate::near::near_since;
 use crate::reach::table_for;
 use crate::taking::take_all;
 use crate::way::way_of;
-use xdg_graph::dim_of;
-use xdg_problem::Group;
+use xdg_problem::{Group, dim_of};
 use xdg_propcore::{Family, Pass, UseProp};
 use xdg_store::{Mark, Store};
 

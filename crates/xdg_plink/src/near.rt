@@ -14,9 +14,8 @@ ghost use Rattle.xdg_plink.specs.Untouched.{AreNear, AreOthersDone, HasJoins, Ha
 use crate::asking::asks_edges;
 use crate::way::way_of;
 use xdg_base::{DimId, LabelId, NodeId};
-use xdg_graph::dim_of;
 use xdg_nodeset::NodeSet;
-use xdg_problem::{Group, Linking};
+use xdg_problem::{Group, Linking, dim_of};
 use xdg_propcore::Touched;
 use xdg_store::{Mark, Store};
 

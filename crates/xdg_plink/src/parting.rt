@@ -9,8 +9,8 @@ ghost use Rattle.xdg_propcore.specs.Sweeps.{Sweeps};
 ghost use Rattle.xdg_plink.specs.Steps.{AsksApart, CanPart, IsDoneAt, IsFirstDone, IsSecondDone, MustJoin};
 
 use xdg_base::{DimId, LabelId, NodeId};
-use xdg_graph::{dim_of, labels_of};
-use xdg_problem::{Edge, Group};
+use xdg_graph::labels_of;
+use xdg_problem::{Edge, Group, dim_of};
 use xdg_propcore::Pass;
 use xdg_store::Store;
 

@@ -14,9 +14,9 @@ use crate::cutting::cut;
 use crate::near::Near;
 use crate::parting::part;
 use xdg_base::{LabelId, NodeId};
-use xdg_graph::{dim_of, labels_of, node_count};
+use xdg_graph::{labels_of, node_count};
 use xdg_nodeset::NodeSet;
-use xdg_problem::{Edge, Group};
+use xdg_problem::{Edge, Group, dim_of};
 use xdg_propcore::Pass;
 use xdg_store::Store;
 

@@ -13,9 +13,9 @@ ghost use Rattle.xdg_pmulti.specs.Aims.{AreNodes, Forbids, IsStopped, StoppedBy}
 use crate::blocking::blocking;
 use crate::taking::forbid_out;
 use xdg_base::{DimId, LabelId, NodeId};
-use xdg_graph::{Which, above, dim_of, labels_of, set_at};
+use xdg_graph::{Which, above, labels_of, set_at};
 use xdg_nodeset::NodeSet;
-use xdg_problem::Group;
+use xdg_problem::{Group, dim_of};
 use xdg_propcore::Pass;
 use xdg_store::Store;
 

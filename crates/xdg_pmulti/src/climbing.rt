@@ -9,9 +9,9 @@ ghost use Rattle.xdg_pmulti.specs.Aims.{Forbids, From, Leaves};
 
 use crate::taking::forbid_beyond;
 use xdg_base::{DimId, LabelId, NodeId};
-use xdg_graph::{Which, above, dim_of, labels_of, node_count, set_at};
+use xdg_graph::{Which, above, labels_of, node_count, set_at};
 use xdg_nodeset::NodeSet;
-use xdg_problem::Group;
+use xdg_problem::{Group, dim_of};
 use xdg_propcore::Pass;
 use xdg_store::Store;
 

@@ -8,8 +8,8 @@ ghost use Rattle.xdg_porder.specs.Items.{IsOrdering};
 
 use crate::yields::{are_settled, fails_at};
 use xdg_base::NodeId;
-use xdg_graph::{Which, above, dim_of, node_count};
-use xdg_problem::Group;
+use xdg_graph::{Which, above, node_count};
+use xdg_problem::{Group, dim_of};
 use xdg_store::Store;
 
 /// Whether the test of some node is decided and fails.

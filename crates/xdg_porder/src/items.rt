@@ -11,9 +11,9 @@ ghost use Rattle.xdg_graph.specs.Slots.{IsSlot, decision_of};
 
 use crate::reads::label_count;
 use xdg_base::{LabelId, NodeId};
-use xdg_graph::{Slot, dim_of, slot_of};
+use xdg_graph::{Slot, slot_of};
 use xdg_nodeset::NodeSet;
-use xdg_problem::Group;
+use xdg_problem::{Group, dim_of};
 use xdg_store::Store;
 
 /// The nodes that may be daughters of a node with a label.

@@ -8,8 +8,8 @@ ghost use Rattle.xdg_graph.specs.Edges.{edge_labels};
 ghost use Rattle.xdg_porder.specs.Items.{label_at};
 
 use xdg_base::LabelId;
-use xdg_graph::{dim_of, labels_of};
-use xdg_problem::{Group, Principle};
+use xdg_graph::labels_of;
+use xdg_problem::{Group, Principle, dim_of};
 use xdg_store::Store;
 
 /// Whether a principle use is one of order.

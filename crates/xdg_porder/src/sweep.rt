@@ -11,9 +11,9 @@ ghost use Rattle.xdg_porder.specs.Items.{AreOthersDone, IsOrdering, IsReady};
 use crate::across::take_across;
 use crate::failing::fails_test;
 use crate::sides::take_nodes;
-use xdg_graph::{Which, above, dim_of, truth_of};
+use xdg_graph::{Which, above};
 use xdg_nodeset::NodeSet;
-use xdg_problem::Group;
+use xdg_problem::{Group, dim_of, truth_of};
 use xdg_propcore::{Pass, Touched};
 use xdg_store::{Mark, Store};
 

@@ -7,9 +7,9 @@ ghost use Rattle.xdg_propcore.specs.Sweeps.{Sweeps};
 ghost use Rattle.xdg_porder.specs.Items.{IsAtNode, IsReady, MayOwn, NoneFollow, NoneStand, TakesEdges, TakesItems};
 
 use xdg_base::{LabelId, NodeId};
-use xdg_graph::{dim_of, slot_of};
+use xdg_graph::slot_of;
 use xdg_nodeset::NodeSet;
-use xdg_problem::{Edge, Group};
+use xdg_problem::{Edge, Group, dim_of};
 use xdg_propcore::Pass;
 use xdg_store::Store;
 

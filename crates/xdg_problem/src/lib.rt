@@ -5,6 +5,7 @@
 #![tactic(auto)]
 
 mod analysis;
+mod arguments;
 mod branching;
 mod comparing;
 mod conditions;
@@ -27,6 +28,7 @@ mod with_bound;
 mod with_rules;
 
 pub use analysis::{Analysis, Edge, is_before};
+pub use arguments::{attr_of, dim_of, truth_of};
 pub use conditions::Condition;
 pub use copying::copy_words;
 pub use costing::cost_of;

@@ -1,22 +1,12 @@
 //! At which kinds of values principle uses look.
 
 ghost use Rattle.std.specs.Prelude.{◌≡◌};
-ghost use Rattle.xdg_problem.specs.Arguments.{dim_of};
 ghost use Rattle.xdg_propcore.specs.UseKinds as spec;
 
 use crate::wake::Wake;
-use xdg_base::DimId;
-use xdg_problem::{Group, looks_at_attrs, looks_at_entries, looks_at_first, looks_at_second};
-
-/// The dimension that a dimension argument names. It is 0 where the principle use has no such argument.
-fn dim_at(group: &Group, argument: usize) -> DimId
-    ensures { result.0 ≡ dim_of group.now argument }
-{
-    match group.dims.get(argument) {
-        Some(dim) => *dim,
-        None => DimId(0),
-    }
-}
+use xdg_problem::{
+    Group, dim_of, looks_at_attrs, looks_at_entries, looks_at_first, looks_at_second,
+};
 
 /// A wake set with kinds more, if they are wanted.
 fn with_kind(wanted: bool, kind: Wake, wakes: Wake) -> Wake
@@ -34,8 +24,8 @@ pub(crate) fn kinds_of(group: &Group) -> Wake
     ensures { spec.HasKinds group.now result.0 }
 {
     let principle = &group.principle;
-    let one = dim_at(group, 0);
-    let two = dim_at(group, 1);
+    let one = dim_of(group, 0);
+    let two = dim_of(group, 1);
     let second = with_kind(looks_at_second(principle), Wake::edges(two), Wake(0));
     let first = with_kind(looks_at_first(principle), Wake::edges(one), second);
     let attrs = with_kind(looks_at_attrs(principle), Wake::attrs(one), first);

@@ -3,8 +3,8 @@
 ghost use Rattle.std.specs.Prelude.{◌≡◌};
 ghost use Rattle.xdg_problem.specs.Arguments.{attr_of, dim_of, truth_of};
 
+use crate::parts::Group;
 use xdg_base::{AttrId, DimId};
-use xdg_problem::Group;
 
 /// The dimension that a dimension argument names. It is 0 where the principle use has no such argument.
 pub fn dim_of(group: &Group, argument: usize) -> DimId
