@@ -1,6 +1,6 @@
 //! The nodes below each node, and those above it.
 
-ghost use Rattle.std.specs.Prelude.{◌≡◌, ◌≤◌, ◌<◌, ◌↔◌, ◌⊎◌, ℕ, true};
+ghost use Rattle.std.specs.Prelude.{◌≤◌, ◌<◌, ◌↔◌, ◌⊎◌, ℕ};
 ghost use Rattle.xdg_facts.specs.Rises.{has};
 ghost use Rattle.xdg_nodeset.specs.Tables.{In, IsClosure};
 ghost use Rattle.xdg_problem.specs.Paths.{Above};
@@ -12,20 +12,8 @@ use crate::tables::{note_daughters, set_at};
 use crate::upward::note_mothers;
 use crate::which::Which;
 use xdg_base::{DimId, NodeId};
-use xdg_nodeset::NodeSet;
+use xdg_nodeset::{NodeSet, extended};
 use xdg_store::Store;
-
-/// A set, with what a second one adds to it where it has the node in the middle.
-#[tactic(auto, using(xdg_nodeset::proofs::TableSets::extended_yes, xdg_nodeset::proofs::TableSets::extended_no))]
-fn extended(set: NodeSet, middle: u8, beyond: NodeSet) -> NodeSet
-    requires { middle < 128 }
-    ensures { (b : ℕ) → (has result b ≡ true) ↔ ((has set b ≡ true) ⊎ ((has set middle ≡ true) × (has beyond b ≡ true))) }
-{
-    if set.contains(NodeId(middle)) {
-        return set.union(&beyond);
-    }
-    set
-}
 
 /// Adds to each of the first sets of a table that has the node in the middle what the table has for that node. The others are
 /// empty.

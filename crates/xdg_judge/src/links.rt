@@ -9,7 +9,7 @@ ghost use Rattle.xdg_nodeset.specs.Tables.{In, InBy, IsClosure};
 ghost use Rattle.xdg_judge.specs.Reached.{AreWithin};
 
 use xdg_base::NodeId;
-use xdg_nodeset::NodeSet;
+use xdg_nodeset::{NodeSet, extended};
 use xdg_problem::Edge;
 
 /// Which way edges are followed.
@@ -100,18 +100,6 @@ fn add(table: &mut [NodeSet; 128], from: u8, to: u8)
     ensures { (a b : ℕ) → In table.new a b ↔ (In table.old a b ⊎ ((from ≡ a) × (to ≡ b))) }
 {
     table[usize::from(from)].insert(NodeId(to));
-}
-
-/// A set, with what a second one adds to it where it has the node in the middle.
-#[tactic(auto, using(xdg_nodeset::proofs::TableSets::extended_yes, xdg_nodeset::proofs::TableSets::extended_no))]
-fn extended(set: NodeSet, middle: u8, beyond: NodeSet) -> NodeSet
-    requires { middle < 128 }
-    ensures { (b : ℕ) → (has result b ≡ true) ↔ ((has set b ≡ true) ⊎ ((has set middle ≡ true) × (has beyond b ≡ true))) }
-{
-    if set.contains(NodeId(middle)) {
-        return set.union(&beyond);
-    }
-    set
 }
 
 /// Adds to each set of a table that has the node in the middle what the table has for that node.

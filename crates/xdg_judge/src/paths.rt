@@ -8,7 +8,7 @@ ghost use Rattle.xdg_nodeset.specs.Tables.{Meet};
 
 use crate::links::Links;
 use xdg_base::NodeId;
-use xdg_nodeset::NodeSet;
+use xdg_nodeset::{NodeSet, overlap};
 
 /// How an edge joins a node u to a node v.
 #[derive(Clone, Copy, Debug)]
@@ -41,17 +41,6 @@ fn including(set: NodeSet, node: u8) -> NodeSet
     let mut set = set;
     set.insert(NodeId(node));
     set
-}
-
-/// Whether two sets have a node in common.
-#[tactic(auto, using(xdg_nodeset::proofs::Meetings::some_met, xdg_nodeset::proofs::Meetings::none_met))]
-fn overlap(a: NodeSet, b: NodeSet) -> bool
-    ensures { IsTrue result ↔ Meet a b }
-{
-    match a.meet(&b).first() {
-        Some(_) => true,
-        None => false,
-    }
 }
 
 /// Whether the set at a label has a node in common with another set.

@@ -15,20 +15,9 @@ use crate::neighbours::{may_daughters, may_mothers};
 use crate::way::way_of;
 use xdg_base::{DimId, LabelId, NodeId};
 use xdg_graph::{entry_count, row_of, set_at};
-use xdg_nodeset::NodeSet;
+use xdg_nodeset::{NodeSet, overlap};
 use xdg_problem::{Group, Linking, dim_of};
 use xdg_store::Store;
-
-/// Whether two sets have a node in common.
-#[tactic(auto, using(xdg_nodeset::proofs::Meetings::some_met, xdg_nodeset::proofs::Meetings::none_met))]
-fn overlap(a: NodeSet, b: NodeSet) -> bool
-    ensures { IsTrue result ↔ Meet a b }
-{
-    match a.meet(&b).first() {
-        Some(_) => true,
-        None => false,
-    }
-}
 
 /// Whether two sets have a node in common, or the first has a node.
 #[tactic(auto, using(crate::proofs::Leading::here_meets, crate::proofs::Leading::far_meets))]
