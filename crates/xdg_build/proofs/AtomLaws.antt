@@ -2,7 +2,6 @@
 use Rattle.std.proofs.Common.{◌≡◌, ◌↔◌, ℕ, zero, suc, ◌<◌, true, List, [], ◌∷◌, length, get_or, sym, ap, ◌∙◌, subst, arith}
 use Rattle.std.specs.Prelude.{◌==◌, Any, Contains, Some, slice_get, slice_index}
 use Rattle.std.proofs.lemmas.Bool.{eqb-true}
-use Rattle.std.proofs.lemmas.List.{get_or_default}
 use Rattle.std.proofs.lemmas.List.Elements.{All-contains, All-filter, filter_passes}
 use Rattle.xdg_ast.specs.declared.names.Name.{Name}
 use Rattle.xdg_ast.specs.Grammar.{Term}
@@ -18,6 +17,7 @@ use Rattle.xdg_problem.specs.Arguments.{attr_place, no_plan, value_count}
 use Rattle.xdg_problem.specs.Claims.{joined, above, left, same, valued}
 use Rattle.xdg_problem.specs.Paths.{edges_on, Above}
 use Rattle.xdg_problem.specs.Places.{nodes}
+use Rattle.xdg_problem.proofs.PlacePlans.{plan_read}
 use Rattle.xdg_terms.specs.Means.{IsAt}
 use Rattle.xdg_types.specs.declared.table.DimType.{DimType}
 use Rattle.xdg_types.specs.Table.{Table, IsTable, KeepsDim, KeepDims, AreAttributes, Typed, typed, firsts}
@@ -122,7 +122,7 @@ module _ (table : Table) (lexicon : Lexicon) (parts : Parts) (is : IsTable table
     label_within a fits e there =
         let place : IsPlace parts e = All-contains (IsPlace parts) (edges_on d a.edges) e (All-filter (λ f. f.dim.0 == d) (IsPlace parts) a.edges fits.places) there in
         let dim_is : e.dim.0 ≡ d = eqb-true e.dim.0 d (All-contains (λ f. (f.dim.0 == d) ≡ true) (edges_on d a.edges) e (filter_passes (λ f. f.dim.0 == d) a.edges) there) in
-        let plan_is : get_or parts.dims d no_plan ≡ place.plan = get_or_default parts.dims d no_plan place.plan known ∙ ap (λ i. get_or parts.dims i place.plan) (sym dim_is) ∙ place.is_plan in
+        let plan_is : get_or parts.dims d no_plan ≡ place.plan = ap (λ i. get_or parts.dims i no_plan) (sym dim_is) ∙ plan_read parts e place no_plan in
         subst (λ (labels : List (List ℕ)). e.label.0 < length labels) (ap (λ (plan : DimPlan). plan.labels) (sym plan_is) ∙ (plan_of table lexicon parts is for_it d at.within).labels) place.label
 
     -- an edge has the label's name exactly where it has its number

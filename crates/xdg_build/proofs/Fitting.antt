@@ -5,6 +5,7 @@ use Rattle.std.specs.List.{AllZip, flat_map, range_with_len}
 use Rattle.std.proofs.lemmas.List.{get_or-map, length-map}
 use Rattle.std.proofs.lemmas.List.Elements.{All-weaker}
 use Rattle.std.proofs.lemmas.List.FromFn.{length-range_with_len}
+use Rattle.std.proofs.lemmas.Option.{slice_get_read}
 use Rattle.xdg_base.specs.declared.ids.EntryNo.{EntryNo}
 use Rattle.xdg_domain.specs.Shapes.{Shape, count}
 use Rattle.xdg_facts.specs.Fits.{Fits}
@@ -17,6 +18,7 @@ use Rattle.xdg_problem.specs.declared.parts.SentenceWord.{SentenceWord}
 use Rattle.xdg_problem.specs.Analyses.{HasCandidates, IsPlace, IsAnalysis}
 use Rattle.xdg_problem.specs.Places.{below}
 use Rattle.xdg_problem.specs.Vectors.{attr_sizes}
+use Rattle.xdg_problem.proofs.PlacePlans.{dim_within, plan_read}
 use Rattle.xdg_types.specs.declared.table.DimType.{DimType}
 use Rattle.xdg_types.specs.Table.{Typed, typed}
 use Rattle.xdg_build.specs.Grammars.{Grammar, no_dim, used_dims}
@@ -88,8 +90,8 @@ module _ (g : Grammar) where
   module _ (words : List SentenceWord) where
     edge_of : (e : Edge) → IsPlace (compiled g words) e → IsEdge g (length words) e
     edge_of e h =
-        let within : e.dim.0 < length g.table.used = subst (λ n. e.dim.0 < n) dim_count h.dim in
-        let same : h.plan ≡ plan_at g g.table.dims (get_or g.table.used e.dim.0 0) = sym h.is_plan ∙ plan_is e.dim.0 h.plan within in
+        let within : e.dim.0 < length g.table.used = subst (λ n. e.dim.0 < n) dim_count (dim_within (compiled g words) e h) in
+        let same : h.plan ≡ plan_at g g.table.dims (get_or g.table.used e.dim.0 0) = sym (plan_read (compiled g words) e h h.plan) ∙ plan_is e.dim.0 h.plan within in
         record {
           dim = within;
           graph = subst (λ (plan : DimPlan). plan.graph ≡ true) same h.graph;
@@ -102,8 +104,7 @@ module _ (g : Grammar) where
     place_of : (e : Edge) → IsEdge g (length words) e → IsPlace (compiled g words) e
     place_of e h = record {
       plan = plan_at g g.table.dims (get_or g.table.used e.dim.0 0);
-      dim = subst (λ n. e.dim.0 < n) (sym dim_count) h.dim;
-      is_plan = plan_is e.dim.0 (plan_at g g.table.dims (get_or g.table.used e.dim.0 0)) h.dim;
+      plan_is = slice_get_read (plans g) (length (plans g)) e.dim.0 (plan_at g g.table.dims (get_or g.table.used e.dim.0 0)) refl (subst (λ n. e.dim.0 < n) (sym dim_count) h.dim) (sym (plan_is e.dim.0 (plan_at g g.table.dims (get_or g.table.used e.dim.0 0)) h.dim));
       graph = h.graph;
       label = subst (λ (dim : DimType). e.label.0 < length dim.labels) (dim_is e.dim.0 h.dim) h.label;
       mother = h.mother;

@@ -14,6 +14,7 @@ use Rattle.xdg_problem.specs.declared.parts.Parts.{Parts}
 use Rattle.xdg_problem.specs.Analyses.{IsAnalysis, IsPlace}
 use Rattle.xdg_problem.specs.Arguments.{label_count, attr_count, no_plan}
 use Rattle.xdg_problem.specs.Paths.{edges_on}
+use Rattle.xdg_problem.proofs.PlacePlans.{dim_within}
 use Rattle.xdg_types.specs.declared.table.DimType.{DimType}
 use Rattle.xdg_types.specs.Table.{Table, IsTable, ArePlaces, typed, dim_named}
 use Rattle.xdg_build.specs.Grammars.{Grammar}
@@ -126,7 +127,7 @@ module _ (table : Table) (lexicon : Lexicon) (parts : Parts) (is : IsTable table
         later f stands = (let within : stands.0 < length es = stands.1 in (suc stands.0, omega (arith, within), stands.2))
 
     edge_dim : (e : Edge) → Contains a.edges e → e.dim.0 < length table.used
-    edge_dim e stands = (let l : e.dim.0 < length parts.dims = (All-contains (IsPlace parts) a.edges e fits.places stands).dim in omega (arith, l, dims_long, used_long table lexicon is))
+    edge_dim e stands = (let l : e.dim.0 < length parts.dims = dim_within parts e (All-contains (IsPlace parts) a.edges e fits.places stands) in omega (arith, l, dims_long, used_long table lexicon is))
 
     pub edges_same : (d : ℕ) → d < length (used_dims table) → edges_on d a.edges ≡ edges_in h a (among_all table lexicon is d)
     edges_same d l = filter_same (λ e. e.dim.0 == d) (λ e. get_or table.used e.dim.0 0 == among_all table lexicon is d) a.edges (λ e stands. elim (cases_eq e.dim.0 d) [

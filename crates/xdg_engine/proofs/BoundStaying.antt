@@ -19,6 +19,7 @@ use Rattle.xdg_problem.specs.Tests.{IsTestOf}
 use Rattle.xdg_problem.specs.Vectors.{shape}
 use Rattle.xdg_problem.proofs.FilterFacts.{filter_alike}
 use Rattle.xdg_problem.proofs.PlaceOrder.{is_place}
+use Rattle.xdg_problem.proofs.PlacePlans.{dim_within}
 use Rattle.xdg_propcore.specs.Kinds.{kind_of, edge_kind}
 use Rattle.xdg_propcore.specs.Losses.{LosesOutside}
 use Rattle.xdg_propcore.specs.Uses.{IsClosedBy, StandsFor, use_at}
@@ -76,7 +77,7 @@ module _ (parts : Parts) (problem : IsProblem parts) (old new : List (List Bool)
 
   same_edge_values : (e : Edge) → Contains (places parts) e → (v : ℕ) → has new (edge_decision parts e) v ≡ has old (edge_decision parts e) v
   same_edge_values e place v =
-      let dim_in = (is_place parts e place).dim in
+      let dim_in = dim_within parts e (is_place parts e place) in
       let few = problem.dims_most in
       same_has (edge_decision parts e) v (subst (λ k. bit_at 87381 k ≡ 1) (sym (kind_of_edge parts e place)) (edge_bit e.dim.0 (omega (arith, dim_in, few))))
 

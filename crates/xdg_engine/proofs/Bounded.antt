@@ -9,6 +9,7 @@ use Rattle.xdg_problem.specs.Costs.{CostLists}
 use Rattle.xdg_problem.specs.Places.{edge}
 use Rattle.xdg_problem.specs.Problems.{IsProblem}
 use Rattle.xdg_problem.proofs.PlaceOrder.{is_place, place_is}
+use Rattle.xdg_problem.proofs.PlacePlans.{dim_within}
 use Rattle.xdg_graph.specs.Edges.{edge_labels}
 use Rattle.xdg_graph.proofs.Labelled.{label_below}
 use Rattle.xdg_rules.specs.Bounds.{least_cost}
@@ -42,7 +43,7 @@ module _ (parts : Parts) (group : Group) (costs : CostLists) (bound : ℕ) (prob
       let place = is_place parts e rule.is in
       let label_in = label_below parts e place in
       let label_small = small e.dim.0 in
-      let dim_in = place.dim in
+      let dim_in = dim_within parts e place in
       let cost = costs_are e.dim.0 e.label.0 (omega (arith, dim_in, few)) (omega (arith, label_in, label_small)) in
       let reaches = rule.reaches in
       let k : ℕ = edge_decision parts e in

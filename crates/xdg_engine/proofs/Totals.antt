@@ -15,6 +15,7 @@ use Rattle.xdg_problem.specs.Places.{nodes, places}
 use Rattle.xdg_problem.specs.Problems.{IsProblem}
 use Rattle.xdg_problem.proofs.FilterFacts.{filter_contained}
 use Rattle.xdg_problem.proofs.PlaceOrder.{is_place}
+use Rattle.xdg_problem.proofs.PlacePlans.{dim_within}
 use Rattle.xdg_graph.specs.Edges.{edge_labels}
 use Rattle.xdg_graph.proofs.Labelled.{label_below}
 use Rattle.xdg_rules.specs.Bounds.{sum_below, least_below, or_nothing, node_cost, edge_cost, must_places}
@@ -85,7 +86,7 @@ module _ (parts : Parts) (box : List (List Bool)) where
   in_range : (e : Edge) → Contains (must_places parts box) e → (e.dim.0 < length parts.dims) × (e.mother.0 < nodes parts) × (e.label.0 < edge_labels parts e.dim.0)
   in_range e c =
       let place = is_place parts e (filter_contained (λ e. has box (edge_decision parts e) 0 && not (has box (edge_decision parts e) 1)) (places parts) e c).0 in
-      (place.dim, place.mother, label_below parts e place)
+      (dim_within parts e place, place.mother, label_below parts e place)
 
   -- at the end
   pub edges_summed : (costs : CostLists) (rows : List (List ℕ)) (k total : ℕ) → IsProblem parts → AreLabelCosts costs rows → k ≡ length parts.dims → total ≡ sum_below (λ dim. dim_sum (slice_index_or rows dim []) dim) k → total ≡ sum_by (edge_cost costs) (must_places parts box)

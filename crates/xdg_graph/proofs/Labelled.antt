@@ -2,7 +2,8 @@
 use Rattle.std.proofs.Common.{◌≡◌, ◌≢◌, ℕ, ◌<◌, inl, inr, Bool, true, false, cond, Some, None, length, get_or, ap, sym, ◌∙◌, arith, subst, refl}
 use Rattle.std.specs.Prelude.{slice_get}
 use Rattle.std.proofs.lemmas.Bool.{cases_lt, false≢true}
-use Rattle.std.proofs.lemmas.List.{get_or_default, get_or_past}
+use Rattle.std.proofs.lemmas.List.{get_or_past}
+use Rattle.std.proofs.lemmas.Option.{slice_get-get_or}
 use Rattle.xdg_facts.proofs.Lookups.{read_some, read_none}
 use Rattle.xdg_problem.specs.declared.analysis.Edge.{Edge}
 use Rattle.xdg_problem.specs.declared.parts.DimPlan.{DimPlan}
@@ -10,6 +11,7 @@ use Rattle.xdg_problem.specs.declared.parts.Parts.{Parts}
 use Rattle.xdg_problem.specs.Analyses.{IsPlace}
 use Rattle.xdg_problem.specs.Arguments.{no_plan}
 use Rattle.xdg_problem.specs.Places.{edge, nodes}
+use Rattle.xdg_problem.proofs.PlacePlans.{plan_read}
 use Rattle.xdg_store.specs.InRange.{HasEdges}
 use Rattle.xdg_graph.specs.Edges.{edge_labels, plan_labels}
 
@@ -38,7 +40,7 @@ has_edges parts dim node label within l =
 -- the label of a place is one
 pub label_below : (parts : Parts) (e : Edge) → IsPlace parts e → e.label.0 < edge_labels parts e.dim.0
 label_below parts e is =
-    let same : get_or parts.dims e.dim.0 no_plan ≡ is.plan = sym (get_or_default parts.dims e.dim.0 is.plan no_plan is.dim) ∙ is.is_plan in
+    let same : get_or parts.dims e.dim.0 no_plan ≡ is.plan = plan_read parts e is no_plan in
     subst (λ p. e.label.0 < plan_labels p) (sym same) (labels_cond is.plan.graph (length is.plan.labels) e.label.0 is.graph is.label)
 
 -- a place between two nodes of a dimension that has edges
@@ -47,8 +49,7 @@ place_between parts dim u l x a b differ label =
     let h = has_edges parts dim u l a label in
     record {
       plan = get_or parts.dims dim no_plan;
-      dim = h.dim_in;
-      is_plan = get_or_default parts.dims dim (get_or parts.dims dim no_plan) no_plan h.dim_in;
+      plan_is = slice_get-get_or parts.dims dim no_plan h.dim_in;
       graph = h.graph;
       label = h.label_in;
       mother = a;

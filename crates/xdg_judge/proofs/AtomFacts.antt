@@ -20,6 +20,7 @@ use Rattle.xdg_nodeset.specs.Tables.{In, InBy}
 use Rattle.xdg_facts.proofs.Lookups.{read_none, read_some}
 use Rattle.xdg_facts.proofs.Facts.{then_iff}
 use Rattle.xdg_problem.proofs.EntryPlaces.{length_entries}
+use Rattle.xdg_problem.proofs.PlacePlans.{dim_within}
 
 -- no edge is of a dimension that the problem lacks
 
@@ -28,7 +29,7 @@ on_dim parts analysis dim e fits past on =
     let found = filter_contained (λ x. x.dim.0 == dim) analysis.edges e on in
     let place : IsPlace parts e = subst (IsPlace parts) found.0.2 (fits.places found.0.0 e found.0.1) in
     let is = eqb-true e.dim.0 dim found.1 in
-    let within = place.dim in
+    let within = dim_within parts e place in
     omega (arith, past, is, within)
 
 not_told : (P : Type 0) → (P → ⊥) → IsTrue false ↔ P

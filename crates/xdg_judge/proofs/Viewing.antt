@@ -14,12 +14,13 @@ use Rattle.xdg_judge.specs.Links.{AreLinks}
 use Rattle.xdg_judge.specs.Reached.{AreWithin}
 use Rattle.xdg_judge.specs.Views.{IsView}
 use Rattle.xdg_problem.proofs.EntryPlaces.{length_entries}
+use Rattle.xdg_problem.proofs.PlacePlans.{dim_within, plan_read}
 
 -- an edge at a place is between nodes of the sentence, and its label is one of at most 32
 pub place_within : (parts : Parts) (e : Edge) (n : ℕ) → IsProblem parts → nodes parts ≤ n → IsPlace parts e → (e.mother.0 < n) × (e.label.0 < 32) × (e.daughter.0 < n)
 place_within parts e n problem most p =
     let m = p.mother in let v = p.daughter in let l = p.label in
-    let plan : IsDim p.plan = subst IsDim p.is_plan (problem.dims e.dim.0 p.plan p.dim) in
+    let plan : IsDim p.plan = subst IsDim (plan_read parts e p p.plan) (problem.dims e.dim.0 p.plan (dim_within parts e p)) in
     let few = plan.labels_most in
     (omega (arith, m, most), omega (arith, l, few), omega (arith, v, most))
 

@@ -1,7 +1,8 @@
 -- The numbers of a dimension and its places.
 use Rattle.std.proofs.Common.{◌≡◌, ◌≢◌, ℕ, ◌<◌, ◌⊎◌, ◌↔◌, inl, inr, Bool, true, false, List, length, get_or, refl, sym, ◌∙◌, ap, subst, arith}
-use Rattle.std.specs.Prelude.{Contains, IsTrue}
+use Rattle.std.specs.Prelude.{Contains, IsTrue, slice_get, Some}
 use Rattle.std.proofs.lemmas.List.{get_or_default}
+use Rattle.std.proofs.lemmas.Option.{slice_get_read}
 use Rattle.xdg_problem.specs.declared.analysis.Edge.{Edge}
 use Rattle.xdg_problem.specs.declared.parts.DimPlan.{DimPlan}
 use Rattle.xdg_problem.specs.declared.parts.Parts.{Parts}
@@ -12,6 +13,7 @@ use Rattle.xdg_problem.specs.Places.{edge, nodes}
 use Rattle.xdg_problem.specs.Problems.{IsDim, IsProblem}
 use Rattle.xdg_problem.specs.Vectors.{shape}
 use Rattle.xdg_problem.proofs.PlaceOrder.{is_place, place_is}
+use Rattle.xdg_problem.proofs.PlacePlans.{plan_read}
 use Rattle.xdg_rules.specs.Rules.{IsPlaceOn}
 use Rattle.xdg_rules.proofs.Shrinking.{may_exact, must_exact, may_is, must_is}
 use Rattle.xdg_pgraph.specs.declared.plane.Plane.{Plane}
@@ -26,7 +28,7 @@ LabelsOf plan labels = ((plan.graph ≡ true) × (labels ≡ length plan.labels)
 
 module _ (parts : Parts) (plan : DimPlan) (plane : Plane) (problem : IsProblem parts) (within : plane.dim.0 < length parts.dims) (plan_is : get_or parts.dims plane.dim.0 plan ≡ plan) (count : plane.nodes ≡ nodes parts) (labels : LabelsOf plan plane.labels) where
   same_plan : (e : Edge) (is : IsPlace parts e) → e.dim.0 ≡ plane.dim.0 → is.plan ≡ plan
-  same_plan e is d = sym is.is_plan ∙ get_or_default parts.dims e.dim.0 is.plan plan is.dim ∙ ap (λ k. get_or parts.dims k plan) d ∙ plan_is
+  same_plan e is d = sym (plan_read parts e is plan) ∙ ap (λ k. get_or parts.dims k plan) d ∙ plan_is
 
   on_plane : (e : Edge) → IsPlace parts e → e.dim.0 ≡ plane.dim.0 → IsOnPlane plane e
   on_plane e is d = record {
@@ -43,8 +45,7 @@ module _ (parts : Parts) (plan : DimPlan) (plane : Plane) (problem : IsProblem p
   place_on : (e : Edge) → IsOnPlane plane e → IsPlace parts e
   place_on e on = record {
     plan = plan;
-    dim = subst (λ k. k < length parts.dims) (sym on.dim) within;
-    is_plan = subst (λ k. get_or parts.dims k plan ≡ plan) (sym on.dim) plan_is;
+    plan_is = subst (λ k. slice_get parts.dims k ≡ Some plan) (sym on.dim) (slice_get_read parts.dims (length parts.dims) plane.dim.0 plan refl within (sym plan_is));
     graph = elim labels [ inl some ↦ some.0 | inr none ↦ absurd (let l = on.label in let z = none.1 in omega (arith, l, z)) ];
     label = elim labels [ inl some ↦ (let l = on.label in let s = some.1 in omega (arith, l, s)) | inr none ↦ absurd (let l = on.label in let z = none.1 in omega (arith, l, z)) ];
     mother = (let m = on.mother in omega (arith, m, count));

@@ -62,10 +62,10 @@ entries_differ (c ∷ candidates) place (e ∷ entries) rising within has =
 
 module _ (parts : Parts) (place : ℕ) (is : IsProblem parts) (within : place < length (first_candidates parts)) where
   place_down : (e : Edge) → IsPlace (branch_of parts place) e → IsPlace parts e
-  place_down e p = record { plan = p.plan; dim = p.dim; is_plan = p.is_plan; graph = p.graph; label = p.label; mother = p.mother; daughter = p.daughter; differ = p.differ }
+  place_down e p = record { plan = p.plan; plan_is = p.plan_is; graph = p.graph; label = p.label; mother = p.mother; daughter = p.daughter; differ = p.differ }
 
   place_up : (e : Edge) → IsPlace parts e → IsPlace (branch_of parts place) e
-  place_up e p = record { plan = p.plan; dim = p.dim; is_plan = p.is_plan; graph = p.graph; label = p.label; mother = p.mother; daughter = p.daughter; differ = p.differ }
+  place_up e p = record { plan = p.plan; plan_is = p.plan_is; graph = p.graph; label = p.label; mother = p.mother; daughter = p.daughter; differ = p.differ }
 
   pub branch_fits : (a : Analysis) → IsAnalysis (branch_of parts place) a ↔ (IsAnalysis parts a × BeginsAt parts place a)
   branch_fits a = (

@@ -112,10 +112,10 @@ module _ (parts : Parts) (uses : List Group) where
   -- the same analyses fit
 
   place_still : (e : Edge) → IsPlace parts e → IsPlace (with_uses parts uses) e
-  place_still e is = record { plan = is.plan; dim = is.dim; is_plan = is.is_plan; graph = is.graph; label = is.label; mother = is.mother; daughter = is.daughter; differ = is.differ }
+  place_still e is = record { plan = is.plan; plan_is = is.plan_is; graph = is.graph; label = is.label; mother = is.mother; daughter = is.daughter; differ = is.differ }
 
   place_before : (e : Edge) → IsPlace (with_uses parts uses) e → IsPlace parts e
-  place_before e is = record { plan = is.plan; dim = is.dim; is_plan = is.is_plan; graph = is.graph; label = is.label; mother = is.mother; daughter = is.daughter; differ = is.differ }
+  place_before e is = record { plan = is.plan; plan_is = is.plan_is; graph = is.graph; label = is.label; mother = is.mother; daughter = is.daughter; differ = is.differ }
 
   pub fits_still : (analysis : Analysis) → IsAnalysis (with_uses parts uses) analysis ↔ IsAnalysis parts analysis
   fits_still analysis = (

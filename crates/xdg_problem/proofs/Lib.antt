@@ -59,3 +59,4 @@ pub mod Numbered
 pub mod BoxPlaces
 pub mod FormulaFronts
 pub mod Bindings
+pub mod PlacePlans

@@ -1,6 +1,6 @@
 -- The places: their order, what they are, and how many.
 use Rattle.std.proofs.Common.{◌≡◌, ◌≢◌, ℕ, ◌<◌, ◌≤◌, ◌+◌, inl, inr, List, [], ◌∷◌, length, get_or, refl, ap, sym, ◌∙◌, arith, subst, zero, suc, Bool, true, false, cond, not}
-use Rattle.std.specs.Prelude.{AllPairs, Contains, ◌==◌}
+use Rattle.std.specs.Prelude.{AllPairs, Contains, ◌==◌, slice_get, Some}
 use Rattle.std.specs.List.{AllByRecursion, flat_map}
 use Rattle.std.proofs.lemmas.Bool.{ne_eqb, not-true, eqb-false, cases_Bool}
 use Rattle.xdg_problem.specs.declared.analysis.Edge.{Edge}
@@ -9,6 +9,7 @@ use Rattle.xdg_problem.specs.declared.parts.Parts.{Parts}
 use Rattle.xdg_problem.specs.Places.{below, edge, others, places_out, places_of, places_from, nodes, places}
 use Rattle.xdg_problem.specs.Analyses.{IsPlace, Before}
 use Rattle.xdg_problem.proofs.Ordered.{Ordered, each_weaker, each_append, each_map, each_filter, each_passed, each_both, each_of_all, each_across, each_contained, each_flat_map, ordered_pairs, ordered_append, ordered_map, ordered_filter, ordered_flat_map, numbers_within, numbers_ordered, contains_left, contains_right, contains_map, contains_filter, contains_flat_map, contains_numbers}
+use Rattle.xdg_problem.proofs.PlacePlans.{dim_within, plan_read}
 
 -- where the places of one label, of one mother and of one dimension stand
 
@@ -85,8 +86,7 @@ places_of_are dim n labels = each_flat_map (IsOf dim n labels) (out_of dim n lab
 record IsPlaceFrom (dim n : ℕ) (plans : List DimPlan) (e : Edge) : Type 0 where
   pub place : ℕ
   pub plan : DimPlan
-  pub within : place < length plans
-  pub is_plan : get_or plans place plan ≡ plan
+  pub plan_is : slice_get plans place ≡ Some plan
   pub dim_is : e.dim.0 ≡ dim + place
   pub graph : plan.graph ≡ true
   pub label : e.label.0 < length plan.labels
@@ -96,7 +96,7 @@ record IsPlaceFrom (dim n : ℕ) (plans : List DimPlan) (e : Edge) : Type 0 wher
 
 plan_are : (dim n : ℕ) (plan : DimPlan) (plans : List DimPlan) (b : Bool) → plan.graph ≡ b → AllByRecursion (IsPlaceFrom dim n (plan ∷ plans)) (cond b (places_of dim n (length plan.labels)) [])
 plan_are dim n plan plans true g = each_weaker (IsOf dim n (length plan.labels)) (IsPlaceFrom dim n (plan ∷ plans)) (places_of dim n (length plan.labels))
-    (λ e h. record { place = 0; plan = plan; within = omega arith; is_plan = refl; dim_is = (let d : e.dim.0 ≡ dim = h.dim_is in omega arith); graph = g; label = h.label; mother = h.mother; daughter = h.daughter; differ = h.differ })
+    (λ e h. record { place = 0; plan = plan; plan_is = refl; dim_is = (let d : e.dim.0 ≡ dim = h.dim_is in omega arith); graph = g; label = h.label; mother = h.mother; daughter = h.daughter; differ = h.differ })
     (places_of_are dim n (length plan.labels))
 plan_are dim n plan plans false g = tt
 
@@ -104,13 +104,13 @@ from_are : (dim n : ℕ) (plans : List DimPlan) → AllByRecursion (IsPlaceFrom 
 from_are dim n [] = tt
 from_are dim n (plan ∷ plans) = each_append (IsPlaceFrom dim n (plan ∷ plans)) (cond plan.graph (places_of dim n (length plan.labels)) []) (places_from (suc dim) n plans) (plan_are dim n plan plans plan.graph refl)
     (each_weaker (IsPlaceFrom (suc dim) n plans) (IsPlaceFrom dim n (plan ∷ plans)) (places_from (suc dim) n plans)
-    (λ e h. record { place = suc h.place; plan = h.plan; within = (let w : h.place < length plans = h.within in omega arith); is_plan = h.is_plan; dim_is = (let d : e.dim.0 ≡ suc dim + h.place = h.dim_is in omega arith); graph = h.graph; label = h.label; mother = h.mother; daughter = h.daughter; differ = h.differ })
+    (λ e h. record { place = suc h.place; plan = h.plan; plan_is = h.plan_is; dim_is = (let d : e.dim.0 ≡ suc dim + h.place = h.dim_is in omega arith); graph = h.graph; label = h.label; mother = h.mother; daughter = h.daughter; differ = h.differ })
     (from_are (suc dim) n plans))
 
 is_place_from : (parts : Parts) (e : Edge) → IsPlaceFrom 0 (nodes parts) parts.dims e → IsPlace parts e
 is_place_from parts e h =
     let d : e.dim.0 ≡ h.place = (let k : e.dim.0 ≡ 0 + h.place = h.dim_is in omega arith) in
-    record { plan = h.plan; dim = subst (λ i. i < length parts.dims) (sym d) h.within; is_plan = subst (λ i. get_or parts.dims i h.plan ≡ h.plan) (sym d) h.is_plan; graph = h.graph; label = h.label; mother = h.mother; daughter = h.daughter; differ = h.differ }
+    record { plan = h.plan; plan_is = subst (λ i. slice_get parts.dims i ≡ Some h.plan) (sym d) h.plan_is; graph = h.graph; label = h.label; mother = h.mother; daughter = h.daughter; differ = h.differ }
 
 pub each_is_place : (parts : Parts) → AllByRecursion (IsPlace parts) (places parts)
 each_is_place parts = each_weaker (IsPlaceFrom 0 (nodes parts) parts.dims) (IsPlace parts) (places parts) (is_place_from parts) (from_are 0 (nodes parts) parts.dims)
@@ -143,4 +143,4 @@ contains_from dim n (first ∷ plans) (suc place) plan mother label daughter w i
 pub place_is : (parts : Parts) (e : Edge) → IsPlace parts e → Contains (places parts) e
 place_is parts e h =
     let z : 0 + e.dim.0 ≡ e.dim.0 = omega arith in
-    subst (λ k. Contains (places parts) (edge k e.mother.0 e.label.0 e.daughter.0)) z (contains_from 0 (nodes parts) parts.dims e.dim.0 h.plan e.mother.0 e.label.0 e.daughter.0 h.dim h.is_plan h.graph h.mother h.label h.daughter h.differ)
+    subst (λ k. Contains (places parts) (edge k e.mother.0 e.label.0 e.daughter.0)) z (contains_from 0 (nodes parts) parts.dims e.dim.0 h.plan e.mother.0 e.label.0 e.daughter.0 (dim_within parts e h) (plan_read parts e h h.plan) h.graph h.mother h.label h.daughter h.differ)

@@ -1,5 +1,5 @@
 -- Which analyses belong to a problem.
-use Rattle.std.specs.Prelude.{◌≡◌, ◌≢◌, ◌<◌, ◌⊎◌, List, [], ◌∷◌, length, Contains, All, true, slice_index_or}
+use Rattle.std.specs.Prelude.{◌≡◌, ◌≢◌, ◌<◌, ◌⊎◌, List, [], ◌∷◌, length, Contains, All, true, slice_get, Some}
 use Rattle.xdg_base.specs.declared.ids.EntryNo.{EntryNo}
 use Rattle.xdg_facts.specs.Fits.{Fits}
 use Rattle.xdg_problem.specs.declared.analysis.Edge.{Edge}
@@ -19,8 +19,7 @@ HasCandidates (candidates ∷ more) (entry ∷ entries) = Contains candidates en
 -- an edge of a dimension that has edges, with one of its labels, between two different nodes
 pub record IsPlace (parts : Parts) (e : Edge) : Type 0 where
   pub plan : DimPlan
-  pub dim : e.dim.0 < length parts.dims
-  pub is_plan : slice_index_or parts.dims e.dim.0 plan ≡ plan
+  pub plan_is : slice_get parts.dims e.dim.0 ≡ Some plan
   pub graph : plan.graph ≡ true
   pub label : e.label.0 < length plan.labels
   pub mother : e.mother.0 < nodes parts

@@ -101,11 +101,9 @@ fn may_stand(parts: &Parts, edge: &Edge) -> bool
     ensures { IsTrue result ↔ IsPlace parts.now edge.now }
 {
     let nodes = parts.words.len();
-    let dims = parts.dims.as_slice();
-    if edge.dim.0 as usize >= dims.len() {
+    let Some(plan) = parts.dims.get(edge.dim.0 as usize) else {
         return false;
-    }
-    let plan = &dims[edge.dim.0 as usize];
+    };
     plan.graph
         && (edge.label.0 as usize) < plan.labels.len()
         && (edge.mother.0 as usize) < nodes

@@ -14,6 +14,7 @@ use Rattle.xdg_problem.specs.Boxes.{entry_decision, attr_decision, edge_decision
 use Rattle.xdg_problem.specs.Places.{nodes, places}
 use Rattle.xdg_problem.specs.Problems.{IsDim, IsProblem}
 use Rattle.xdg_problem.proofs.PlaceOrder.{place_is}
+use Rattle.xdg_problem.proofs.PlacePlans.{dim_within, plan_read}
 use Rattle.xdg_store.specs.Decisions.{IsDecision, number_of}
 use Rattle.xdg_store.specs.Naming.{Names}
 use Rattle.xdg_store.specs.declared.decision.Decision.{Decision}
@@ -68,7 +69,7 @@ small_decision parts (decisions.Place edge) problem is = small_place parts edge 
   where
     small_place : (parts : Parts) (edge : Edge) → IsProblem parts → IsPlace parts edge → (edge.label.0 < 32) × (edge.mother.0 < 128) × (edge.daughter.0 < 128)
     small_place parts edge problem is =
-        let plan = subst IsDim is.is_plan (problem.dims edge.dim.0 is.plan is.dim) in
+        let plan = subst IsDim (plan_read parts edge is is.plan) (problem.dims edge.dim.0 is.plan (dim_within parts edge is)) in
         let few = plan.labels_most in
         let label = is.label in
         let mother = is.mother in

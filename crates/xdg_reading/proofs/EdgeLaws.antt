@@ -1,16 +1,17 @@
 -- The edges that lines say.
 use Rattle.std.proofs.Common.{◌≡◌, ◌<◌, ◌==◌, ◌&&◌, ℕ, List, [], ◌∷◌, length, get_or, refl, sym, ap, ap₂, ◌∙◌, subst, true, false, cond, not, Bool, Some, None, Option, Ok, Err, nat_lt, bytes_eq}
 use Rattle.std.specs.Prelude.{Result}
-use Rattle.std.proofs.lemmas.List.{get_or_default}
 use Rattle.std.proofs.lemmas.List.Quantifiers.{position-Some}
 use Rattle.std.proofs.lemmas.Slice.Eq.{bytes_eq-Decides}
 use Rattle.std.proofs.lemmas.Bool.{ltb-true, lt-ltb, and_parts, and_from, false_from_ne_true, both_ways, not-true, not_from_false, ne_eqb, eqb-false}
+use Rattle.std.proofs.lemmas.Option.{slice_get-get_or}
 use Rattle.xdg_problem.specs.declared.analysis.Edge.{Edge}
 use Rattle.xdg_problem.specs.declared.parts.DimPlan.{DimPlan}
 use Rattle.xdg_problem.specs.declared.parts.Parts.{Parts}
 use Rattle.xdg_problem.specs.Analyses.{IsPlace}
 use Rattle.xdg_problem.specs.Places.{nodes, edge}
 use Rattle.xdg_problem.specs.Problems.{IsProblem, IsDim}
+use Rattle.xdg_problem.proofs.PlacePlans.{dim_within, plan_read}
 use Rattle.xdg_reading.specs.declared.texts.EdgeLine.{EdgeLine}
 use Rattle.xdg_text.specs.Blocks.{no_plan}
 use Rattle.xdg_reading.specs.Fitted.{lead, or_at, may_join, follows, said_edge, said_edges}
@@ -54,8 +55,7 @@ made_edge parts line dim label is_dim is_label joins =
       says = record { dim = (bytes_eq-Decides (plan_at parts dim).name line.dim).0 d.1; mother = refl; label = (bytes_eq-Decides (get_or (plan_at parts dim).labels label []) line.label).0 l.1; daughter = refl };
       stands = record {
         plan = plan_at parts dim;
-        dim = d.0;
-        is_plan = sym (get_or_default parts.dims dim no_plan (plan_at parts dim) d.0);
+        plan_is = slice_get-get_or parts.dims dim no_plan d.0;
         graph = one.0;
         label = l.0;
         mother = ltb-true line.mother.0 (nodes parts) one.1;
@@ -73,7 +73,7 @@ edge_said parts line e said =
     subst (Says parts line) joins.1 (made_edge parts line d.value l.value d.is l.is joins.0)
 
 by_plan : (parts : Parts) (e : Edge) → (place : IsPlace parts e) → plan_at parts e.dim.0 ≡ place.plan
-by_plan parts e place = get_or_default parts.dims e.dim.0 no_plan place.plan place.dim ∙ place.is_plan
+by_plan parts e place = plan_read parts e place no_plan
 
 pub edge_told : (parts : Parts) (line : EdgeLine) (e : Edge) → IsProblem parts → Says parts line e → said_edge parts line ≡ Some e
 unfolding said_edge
@@ -82,10 +82,11 @@ edge_told parts line e problem known_edge =
     let place = known_edge.stands in
     let plan = plan_at parts e.dim.0 in
     let same = by_plan parts e place in
+    let dim_in = dim_within parts e place in
     let within : e.label.0 < length plan.labels = subst (λ p. e.label.0 < length p.labels) (sym same) place.label in
-    let is_dim : IsDim plan = problem.dims e.dim.0 no_plan place.dim in
-    let dim_is : dim_number parts.dims line.dim ≡ Some e.dim.0 = position_of (λ p. bytes_eq p.name line.dim) parts.dims e.dim.0 no_plan place.dim ((bytes_eq-Decides plan.name line.dim).1 says.dim)
-    (λ j before. false_from_ne_true (bytes_eq (plan_at parts j).name line.dim) (λ h. problem.dims_differ j e.dim.0 no_plan before place.dim ((bytes_eq-Decides (plan_at parts j).name line.dim).0 h ∙ sym says.dim))) in
+    let is_dim : IsDim plan = problem.dims e.dim.0 no_plan dim_in in
+    let dim_is : dim_number parts.dims line.dim ≡ Some e.dim.0 = position_of (λ p. bytes_eq p.name line.dim) parts.dims e.dim.0 no_plan dim_in ((bytes_eq-Decides plan.name line.dim).1 says.dim)
+    (λ j before. false_from_ne_true (bytes_eq (plan_at parts j).name line.dim) (λ h. problem.dims_differ j e.dim.0 no_plan before dim_in ((bytes_eq-Decides (plan_at parts j).name line.dim).0 h ∙ sym says.dim))) in
     let label_is : label_number plan.labels line.label ≡ Some e.label.0 = position_of (λ name. bytes_eq name line.label) plan.labels e.label.0 [] within ((bytes_eq-Decides (get_or plan.labels e.label.0 []) line.label).1 says.label)
     (λ j before. false_from_ne_true (bytes_eq (get_or plan.labels j []) line.label) (λ h. is_dim.labels_differ j e.label.0 [] before within ((bytes_eq-Decides (get_or plan.labels j []) line.label).0 h ∙ sym says.label))) in
     let mother : line.mother.0 < nodes parts = subst (λ m. m.0 < nodes parts) says.mother place.mother in

@@ -1,9 +1,8 @@
 -- What valency takes of edges from a box, it takes from each closed box that lies in it, too: where no entry is taken, the
 -- counts of the smaller box are those of the larger one.
-use Rattle.std.proofs.Common.{◌≡◌, ℕ, ◌<◌, ◌≤◌, inl, inr, Bool, true, List, length, refl, sym, ◌∙◌, arith, subst}
+use Rattle.std.proofs.Common.{◌≡◌, ℕ, ◌<◌, ◌≤◌, inl, inr, Bool, true, List, length, refl, sym, arith, subst}
 use Rattle.std.specs.Prelude.{Contains, All, slice_index_or, ◌==◌, ◌&&◌}
 use Rattle.std.proofs.lemmas.Bool.{and_from, eq-eqb}
-use Rattle.std.proofs.lemmas.List.{get_or_default}
 use Rattle.std.proofs.lemmas.List.Elements.{All-contains}
 use Rattle.xdg_problem.specs.declared.analysis.Edge.{Edge}
 use Rattle.xdg_problem.specs.declared.parts.Group.{Group}
@@ -18,6 +17,7 @@ use Rattle.xdg_problem.specs.Problems.{IsProblem}
 use Rattle.xdg_problem.specs.Vectors.{shape}
 use Rattle.xdg_problem.proofs.PlaceOrder.{is_place}
 use Rattle.xdg_problem.specs.Boxes.{Has, IsBox, LiesIn, entry_decision}
+use Rattle.xdg_problem.proofs.PlacePlans.{plan_read}
 use Rattle.xdg_rules.specs.Rules.{may_edges, must_edges, IsGreatest, IsLeast, ValencyEntry, ValencyFull, ValencyNeeded}
 use Rattle.xdg_rules.proofs.Sizes.{node_within}
 use Rattle.xdg_rules.proofs.Shrinking.{may_or_not, may_count, must_count, may_count_more, must_count_more, may_is}
@@ -25,7 +25,7 @@ use Rattle.xdg_rules.proofs.Shrinking.{may_or_not, may_count, must_count, may_co
 -- the label of a place is one of its dimension
 label_known : (parts : Parts) (e : Edge) → IsPlace parts e → e.label.0 < label_count parts e.dim.0
 label_known parts e is =
-    let plan : slice_index_or parts.dims e.dim.0 no_plan ≡ is.plan = get_or_default parts.dims e.dim.0 no_plan is.plan is.dim ∙ is.is_plan in
+    let plan : slice_index_or parts.dims e.dim.0 no_plan ≡ is.plan = plan_read parts e is no_plan in
     subst (λ (p : DimPlan). e.label.0 < length p.labels) (sym plan) is.label
 
 pub label_on : (parts : Parts) (dim : ℕ) (e : Edge) → IsPlace parts e → e.dim.0 ≡ dim → e.label.0 < label_count parts dim

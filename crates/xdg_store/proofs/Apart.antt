@@ -13,6 +13,7 @@ use Rattle.xdg_problem.specs.Places.{numbers_from, below, nodes, places}
 use Rattle.xdg_problem.specs.Problems.{AreCandidates, IsAttr, IsDim, IsProblem}
 use Rattle.xdg_problem.proofs.Ordered.{Ordered, each_weaker, each_append, each_map, each_both, each_across, each_flat_map, numbers_within, numbers_ordered, ordered_append, ordered_map, ordered_flat_map}
 use Rattle.xdg_problem.proofs.PlaceOrder.{places_ordered, each_is_place}
+use Rattle.xdg_problem.proofs.PlacePlans.{dim_within, plan_read}
 use Rattle.xdg_store.specs.Layout.{entry_row, block, entry_bits, row_bits, attr_bits, pair_bits, bits_of, bit_count}
 use Rattle.xdg_store.proofs.Separate.{Differ, Apart, AreSeparate}
 
@@ -213,9 +214,9 @@ fine_places parts p = each_weaker (IsPlace parts) (Fine (nodes parts) (length pa
     let most = p.most in
     let daughter = is.daughter in
     let label = is.label in
-    let plan : IsDim is.plan = subst IsDim is.is_plan (p.dims e.dim.0 is.plan is.dim) in
+    let plan : IsDim is.plan = subst IsDim (plan_read parts e is is.plan) (p.dims e.dim.0 is.plan (dim_within parts e is)) in
     let labels = plan.labels_most in
-    (is.mother, omega (arith, label, labels), omega (arith, daughter, most), is.dim)) (each_is_place parts)
+    (is.mother, omega (arith, label, labels), omega (arith, daughter, most), dim_within parts e is)) (each_is_place parts)
 
 low_apart : (low high : ℕ) (r s : List ℕ) → Within low high r → AllByRecursion (λ b. high ≤ b) s → Apart r s
 low_apart low high r s p q = each_across Differ (λ a. (low ≤ a) × (a < high)) (λ b. high ≤ b) r s (λ x y i j same. (let u = i.1 in omega (arith, u, j, same))) p q

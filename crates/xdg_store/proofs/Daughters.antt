@@ -2,7 +2,7 @@
 use Rattle.std.proofs.Common.{◌≡◌, ◌≢◌, ℕ, ◌<◌, ◌+◌, ◌↔◌, not, IsTrue, List, get_or, ap, sym, ◌∙◌, arith, refl}
 use Rattle.std.specs.Prelude.{◌&&◌, ◌==◌, nat_lt}
 use Rattle.std.proofs.lemmas.Bool.{and_parts, and_from, eqb-false, lt-ltb, ltb-true, ne_eqb, not-true}
-use Rattle.std.proofs.lemmas.List.{get_or_default}
+use Rattle.std.proofs.lemmas.Option.{slice_get-get_or}
 use Rattle.xdg_problem.specs.declared.parts.Parts.{Parts}
 use Rattle.xdg_problem.specs.Analyses.{IsPlace}
 use Rattle.xdg_problem.specs.Arguments.{no_plan}
@@ -18,8 +18,7 @@ use Rattle.xdg_facts.specs.Rises.{has}
 pub out_is_place : (parts : Parts) (dim mother label daughter : ℕ) → HasEdges parts dim mother label → daughter < nodes parts → mother ≢ daughter → IsPlace parts (edge dim mother label daughter)
 out_is_place parts dim mother label daughter h l n = record {
   plan = get_or parts.dims dim no_plan;
-  dim = h.dim_in;
-  is_plan = get_or_default parts.dims dim (get_or parts.dims dim no_plan) no_plan h.dim_in;
+  plan_is = slice_get-get_or parts.dims dim no_plan h.dim_in;
   graph = h.graph;
   label = h.label_in;
   mother = h.node_in;

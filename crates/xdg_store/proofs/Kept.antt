@@ -4,6 +4,7 @@ use Rattle.std.specs.Prelude.{◌&&◌, ◌==◌, nat_lt, All, sum}
 use Rattle.std.proofs.lemmas.Bool.{and_from, and_parts, cases_eq, lt-ltb, ltb-true}
 use Rattle.std.proofs.lemmas.Nat.{row_fits}
 use Rattle.std.proofs.lemmas.List.{get_or_default, get_or-drop, get_or-replicate, get_or-set_other, get_or-take, length-drop, length-replicate, length-take-le}
+use Rattle.std.proofs.lemmas.Option.{slice_get-get_or}
 use Rattle.xdg_problem.specs.declared.analysis.Edge.{Edge}
 use Rattle.xdg_problem.specs.declared.parts.Parts.{Parts}
 use Rattle.xdg_problem.specs.Analyses.{IsPlace}
@@ -14,6 +15,7 @@ use Rattle.xdg_problem.specs.Problems.{IsDim, IsProblem}
 use Rattle.xdg_problem.specs.Vectors.{shape}
 use Rattle.xdg_problem.proofs.AttrPlaces.{attr_within}
 use Rattle.xdg_problem.proofs.PlaceOrder.{place_is}
+use Rattle.xdg_problem.proofs.PlacePlans.{dim_within, plan_read}
 use Rattle.xdg_trail.specs.Trailed.{Trailed, past}
 use Rattle.xdg_store.specs.Across.{AreKept, AreMothers, Fits, FitsIn, IsKept, Renews, RenewsAll, edge_at, mothers_at, no_mothers, row_count}
 use Rattle.xdg_store.specs.Change.{Removes}
@@ -61,13 +63,13 @@ on_edge parts (decisions.Place f) e p place is same = ap (λ g. decisions.Place 
 
 pub place_fits : (parts : Parts) (rows words : ℕ) (e : Edge) → IsProblem parts → IsPlace parts e → row_count parts ≤ rows → bit_count parts ≤ 64 * words → Fits (nodes parts) rows words e
 place_fits parts rows words e p is long wide =
-    let plan = subst IsDim is.is_plan (p.dims e.dim.0 is.plan is.dim) in
+    let plan = subst IsDim (plan_read parts e is is.plan) (p.dims e.dim.0 is.plan (dim_within parts e is)) in
     let few = plan.labels_most in
     let label = is.label in
     let mother = is.mother in
     let daughter = is.daughter in
     let most = p.most in
-    let row = row_fits e.dim.0 (nodes parts) (length parts.dims) (nodes parts) is.dim (omega arith) in
+    let row = row_fits e.dim.0 (nodes parts) (length parts.dims) (nodes parts) (dim_within parts e is) (omega arith) in
     let bit : edge_bit (nodes parts) e + 128 < bit_count parts = bit_in_range parts (edge_decision parts e) 1 _ p (edge_located parts p.candidates_each e is) (omega arith) in
     record {
       label = omega (arith, few, label);
@@ -203,8 +205,7 @@ module _ (parts : Parts) (p : IsProblem parts) where
   into_is_place : (dim node label daughter : ℕ) → HasEdges parts dim daughter label → node < nodes parts → node ≢ daughter → IsPlace parts (edge dim node label daughter)
   into_is_place dim node label daughter h l n = record {
     plan = get_or parts.dims dim no_plan;
-    dim = h.dim_in;
-    is_plan = get_or_default parts.dims dim (get_or parts.dims dim no_plan) no_plan h.dim_in;
+    plan_is = slice_get-get_or parts.dims dim no_plan h.dim_in;
     graph = h.graph;
     label = h.label_in;
     mother = l;

@@ -56,7 +56,7 @@ pub has_value : (parts : Parts) (node value : ℕ) → parts ≡ small → node 
 has_value parts node value is l m = subst (λ p. HasValue p node 0 0 value) (sym is) (record { node_in = l; dim_in = lit< tt; attr_in = lit< tt; value_in = m })
 
 pub has_place : (parts : Parts) (mother : ℕ) → parts ≡ small → mother < 2 → IsPlace parts (edge 0 mother 0 (1 - mother))
-has_place parts mother is l = subst (λ p. IsPlace p (edge 0 mother 0 (1 - mother))) (sym is) (record { plan = plan; dim = lit< tt; is_plan = refl; graph = refl; label = lit< tt; mother = l; daughter = omega (arith, l); differ = λ e. omega (arith, l, e) })
+has_place parts mother is l = subst (λ p. IsPlace p (edge 0 mother 0 (1 - mother))) (sym is) (record { plan = plan; plan_is = refl; graph = refl; label = lit< tt; mother = l; daughter = omega (arith, l); differ = λ e. omega (arith, l, e) })
 
 pub has_edges : (parts : Parts) (node : ℕ) → parts ≡ small → node < 2 → HasEdges parts 0 node 0
 has_edges parts node is l = subst (λ p. HasEdges p 0 node 0) (sym is) (record { dim_in = lit< tt; graph = refl; node_in = l; label_in = lit< tt })

@@ -1,7 +1,6 @@
 -- A row that is read says of the edges in it which values remain.
 use Rattle.std.proofs.Common.{◌≡◌, ◌≢◌, ℕ, ◌<◌, ◌↔◌, inl, inr, zero, suc, true, Bool, List, length, get_or, refl, ap, sym, ◌∙◌, arith, subst, Contains}
 use Rattle.std.specs.Prelude.{IsTrue}
-use Rattle.std.proofs.lemmas.List.{get_or_default}
 use Rattle.xdg_problem.specs.declared.analysis.Edge.{Edge}
 use Rattle.xdg_problem.specs.declared.parts.DimPlan.{DimPlan}
 use Rattle.xdg_problem.specs.declared.parts.Parts.{Parts}
@@ -12,6 +11,7 @@ use Rattle.xdg_problem.specs.Places.{edge, nodes, places}
 use Rattle.xdg_problem.specs.Problems.{IsProblem}
 use Rattle.xdg_problem.specs.Vectors.{shape}
 use Rattle.xdg_problem.proofs.PlaceOrder.{place_is}
+use Rattle.xdg_problem.proofs.PlacePlans.{dim_within, plan_read}
 use Rattle.xdg_rules.proofs.Sizes.{edge_some, edge_values}
 use Rattle.xdg_store.specs.InRange.{HasEdges}
 use Rattle.xdg_stream.specs.Rows.{IsOf, Reads, Says}
@@ -24,9 +24,9 @@ use Rattle.xdg_facts.specs.Rises.{has}
 -- the label of an edge place is one of its dimension
 pub place_edges : (parts : Parts) (e : Edge) → IsPlace parts e → HasEdges parts e.dim.0 e.mother.0 e.label.0
 place_edges parts e is =
-    let same : get_or parts.dims e.dim.0 no_plan ≡ is.plan = get_or_default parts.dims e.dim.0 no_plan is.plan is.dim ∙ is.is_plan in
+    let same : get_or parts.dims e.dim.0 no_plan ≡ is.plan = plan_read parts e is no_plan in
     record {
-      dim_in = is.dim;
+      dim_in = dim_within parts e is;
       graph = subst (λ (plan : DimPlan). plan.graph ≡ true) (sym same) is.graph;
       node_in = is.mother;
       label_in = subst (λ (plan : DimPlan). e.label.0 < length plan.labels) (sym same) is.label;

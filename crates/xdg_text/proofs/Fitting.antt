@@ -2,22 +2,25 @@
 use Rattle.std.proofs.Common.{◌≡◌, ◌≤◌, ◌+◌, ◌*◌, ◌++◌, ℕ, zero, suc, List, [], ◌∷◌, length, drop, map, refl, sym, ap, ◌∙◌, subst, arith, append_assoc, zero-mul}
 use Rattle.std.proofs.lemmas.List.{drop-drop}
 use Rattle.std.specs.List.{flat_map}
+use Rattle.std.proofs.lemmas.List.Elements.{All-weaker}
+use Rattle.std.specs.Prelude.{All}
 use Rattle.xdg_facts.specs.Fits.{Fits}
 use Rattle.xdg_problem.specs.declared.analysis.Analysis.{Analysis}
 use Rattle.xdg_problem.specs.declared.parts.AttrPlan.{AttrPlan}
 use Rattle.xdg_problem.specs.declared.parts.DimPlan.{DimPlan}
 use Rattle.xdg_problem.specs.declared.parts.Parts.{Parts}
 use Rattle.xdg_problem.specs.declared.parts.SentenceWord.{SentenceWord}
-use Rattle.xdg_problem.specs.Analyses.{IsAnalysis}
+use Rattle.xdg_problem.specs.Analyses.{IsAnalysis, IsPlace}
 use Rattle.xdg_problem.specs.Places.{numbers_from}
 use Rattle.xdg_problem.specs.Problems.{IsProblem}
 use Rattle.xdg_problem.specs.Vectors.{attr_sizes}
-use Rattle.xdg_text.specs.Blocks.{body_lines, head_lines, shown}
+use Rattle.xdg_text.specs.Blocks.{body_lines, head_lines, shown, no_plan}
 use Rattle.xdg_text.specs.Lines.{analysis_line, counts_line, version_line}
 use Rattle.xdg_text.specs.declared.form.Form.{Form}
 use Rattle.xdg_text.specs.declared.form.Form.TheVariants as forms
-use Rattle.xdg_text.specs.Ranges.{HasValues, NodesHaveValues, DimsHaveValues}
+use Rattle.xdg_text.specs.Ranges.{HasValues, NodesHaveValues, DimsHaveValues, HasNames}
 use Rattle.xdg_problem.proofs.EntryPlaces.{length_entries}
+use Rattle.xdg_problem.proofs.PlacePlans.{dim_within, plan_read}
 
 -- numbers that go with the sizes are there, and the numbers after them go with the other sizes
 record Has (here : Type 0) (more : List ℕ) (left : List ℕ) : Type 0 where
@@ -73,3 +76,9 @@ lines_are form parts held number a words dims w d same =
     ap (λ ws. head_lines form number (length ws) (length a.attrs) (length a.edges) ++ body_lines ws dims a.entries a.attrs a.edges) (w ∙ ap (λ p. p.words) same)
     ∙ ap (λ plans. head_lines form number (length parts.words) (length a.attrs) (length a.edges) ++ body_lines parts.words plans a.entries a.attrs a.edges) (d ∙ ap (λ p. p.dims) same)
     ∙ lines_of form parts number a
+
+-- each edge has one of the dimensions, and one of its labels
+pub names_there : (parts : Parts) (analysis : Analysis) → IsAnalysis parts analysis → All (HasNames parts.dims) analysis.edges
+names_there parts analysis fits = All-weaker (IsPlace parts) (HasNames parts.dims)
+    (λ e is. (dim_within parts e is, subst (λ (plan : DimPlan). e.label.0 < length plan.labels) (sym (plan_read parts e is no_plan)) is.label))
+    analysis.edges fits.places

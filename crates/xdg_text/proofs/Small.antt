@@ -63,7 +63,7 @@ pub small_problem : (parts : Parts) → parts ≡ german → IsProblem parts
 small_problem parts is = subst IsProblem (sym is) is_problem
 
 is_place : IsPlace german (edge 1 1 0 0)
-is_place = record { plan = lp; dim = lit< tt; is_plan = refl; graph = refl; label = lit< tt; mother = lit< tt; daughter = lit< tt; differ = differ_nodes }
+is_place = record { plan = lp; plan_is = refl; graph = refl; label = lit< tt; mother = lit< tt; daughter = lit< tt; differ = differ_nodes }
 
 is_analysis : IsAnalysis german reading
 is_analysis = record {

@@ -2,6 +2,7 @@ use Rattle.std.proofs.Common.{arith, subst}
 use Rattle.xdg_store.specs.Decisions.{IsDecision}
 use Rattle.xdg_stream.proofs.Since.{attr_in, edge_in, entry_in}
 use Rattle.xdg_stream.proofs.narrowing.kind_of.Goals as goal
+use Rattle.xdg_problem.proofs.PlacePlans.{dim_within}
 
 pub attrs-requires : goal.attrs-requires
 attrs-requires c =
@@ -13,7 +14,7 @@ attrs-requires c =
 pub edges-requires : goal.edges-requires
 edges-requires c =
     let there = subst (IsDecision c.args.problem.now) c.in-Place.is c.requires.is in
-    let l = there.dim in
+    let l = dim_within c.args.problem.now c.in-Place.edge there in
     let m = c.requires.problem.dims_most in
     omega (arith, l, m)
 

@@ -2,7 +2,7 @@ use Rattle.std.proofs.lemmas.Result.{on_err_weaker, on_ok_weaker}
 use Rattle.std.proofs.Common.{subst}
 use Rattle.xdg_io.specs.Held.{Appends}
 use Rattle.xdg_io.proofs.Written.{appends_both, front_in_first, front_in_second}
-use Rattle.xdg_text.proofs.Fitting.{entries_each, lines_are, values_there}
+use Rattle.xdg_text.proofs.Fitting.{entries_each, lines_are, names_there, values_there}
 use Rattle.xdg_text.proofs.Pieces.{at_exit}
 use Rattle.xdg_text.proofs.blocks.write_parts.Goals as goal
 
@@ -16,6 +16,9 @@ write_body-requires-clause-entries g c = rw (c.as_slice-words.ensures, c.parts-p
 
 pub write_body-requires-clause-attrs : goal.write_body-requires-clause-attrs
 write_body-requires-clause-attrs g c = rw (c.as_slice-words.ensures, c.as_slice-dims.ensures, c.parts-parts.ensures.same) (values_there c.args.problem.now (record { entries = c.args.entries.now; attrs = c.args.attrs.now; edges = c.args.edges.now }) c.requires)
+
+pub write_body-requires-clause-edges : goal.write_body-requires-clause-edges
+write_body-requires-clause-edges g c = rw (c.as_slice-dims.ensures, c.parts-parts.ensures.same) (names_there c.args.problem.now (record { entries = c.args.entries.now; attrs = c.args.attrs.now; edges = c.args.edges.now }) c.requires)
 
 pub returns-clause-all : goal.returns-clause-all
 returns-clause-all g c =
