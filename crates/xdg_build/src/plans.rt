@@ -14,7 +14,7 @@ use std::alloc::{AllocError, Global};
 use xdg_base::{List, Text};
 use xdg_check::{Checked, PrincipleUse};
 use xdg_domain::{Ty, count};
-use xdg_problem::{AttrPlan, DimPlan};
+use xdg_problem::{AttrPlan, DimPlan, Principle, principle_name};
 use xdg_types::{DimType, TypeTable};
 
 fn copied(alloc: Global, texts: &[Text]) -> Result<List<Text>, AllocError>
@@ -58,8 +58,9 @@ fn attr_plans(alloc: Global, attrs: &[(Text, Ty)]) -> Result<List<AttrPlan>, All
 fn makes_graph(types: &TypeTable, place: usize, one: &PrincipleUse) -> bool
     ensures { result ≡ spec.makes_graph types.now place one.now }
 {
+    let graph = principle_name(&Principle::Graph);
     types.used().contains(&one.home)
-        && one.principle.as_str() == "principle.graph"
+        && one.principle.as_str() == graph
         && one.dims.as_slice().contains(&place)
 }
 
