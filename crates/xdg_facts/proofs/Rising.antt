@@ -28,6 +28,25 @@ head_or_tail left rest v x is h = elim (or_cases (v == x) (has rest x) (subst (�
   | inr later ↦ inr later
 ]
 
+-- a list with one number more at its end
+pub has_front : (front : List ℕ) (v x : ℕ) → has front x ≡ true → has (front ++ v ∷ []) x ≡ true
+has_front [] v x h = absurd (false≢true h)
+has_front (m ∷ front) v x h = elim (or_cases (m == x) (has front x) h) [
+  | inl here ↦ or_here (m == x) (has (front ++ v ∷ []) x) here
+  | inr there ↦ either_true (m == x) (has (front ++ v ∷ []) x) (has_front front v x there)
+]
+
+pub has_next : (front rest : List ℕ) (v : ℕ) → has (front ++ v ∷ rest) v ≡ true
+has_next [] rest v = or_here (v == v) (has rest v) (eq-eqb v v refl)
+has_next (m ∷ front) rest v = either_true (m == v) (has (front ++ v ∷ rest) v) (has_next front rest v)
+
+pub has_cases : (front : List ℕ) (v x : ℕ) → has (front ++ v ∷ []) x ≡ true → (has front x ≡ true) ⊎ (x ≡ v)
+has_cases [] v x h = elim (or_cases (v == x) false h) [ inl here ↦ inr (sym (eqb-true v x here)) | inr none ↦ absurd (false≢true none) ]
+has_cases (m ∷ front) v x h = elim (or_cases (m == x) (has (front ++ v ∷ []) x) h) [
+  | inl here ↦ inl (or_here (m == x) (has front x) here)
+  | inr there ↦ elim (has_cases front v x there) [ inl before ↦ inl (either_true (m == x) (has front x) before) | inr same ↦ inr same ]
+]
+
 pub has_not_before : (p : ℕ → Bool) (a n k : ℕ) → k < a → has (filter p (range_with_len a n)) k ≡ false
 has_not_before p a zero k before = refl
 has_not_before p a (suc n) k before =

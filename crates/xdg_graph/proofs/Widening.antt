@@ -1,9 +1,9 @@
 -- The first sets of a table are widened, where the others are empty.
-use Rattle.std.proofs.Common.{◌≡◌, ℕ, ◌+◌, ◌<◌, ◌≤◌, ◌⊎◌, ◌↔◌, ◌||◌, inl, inr, true, false, List, [], ◌∷◌, length, get_or, sym, ◌∙◌, subst, arith}
+use Rattle.std.proofs.Common.{◌≡◌, ℕ, ◌+◌, ◌<◌, ◌≤◌, ◌⊎◌, ◌↔◌, ◌||◌, inl, inr, true, false, List, [], length, get_or, sym, ◌∙◌, subst, arith}
 use Rattle.std.proofs.lemmas.Bool.{cases_eq, cases_lt, false≢true}
 use Rattle.xdg_nodeset.specs.Tables.{In, IsClosure}
 use Rattle.xdg_nodeset.proofs.Closures.{closure_more}
-use Rattle.xdg_nodeset.proofs.TableSets.{Widened, either, widened_start, widened_more}
+use Rattle.xdg_nodeset.proofs.TableSets.{Widened, either, none_in, widened_start, widened_more}
 use Rattle.xdg_graph.specs.Edges.{HasNoneFrom, IsLedTo}
 use Rattle.xdg_facts.specs.Rises.{has}
 
@@ -19,15 +19,11 @@ module _ (old now : List (List ℕ)) (size middle : ℕ) (rest : HasNoneFrom siz
         ))
   ]
 
-pub no_member : (set : List ℕ) → length set ≡ 0 → (b : ℕ) → has set b ≡ true → ⊥
-no_member [] e b h = cc
-no_member (n ∷ set) e b h = omega (arith, e)
-
 -- where nothing lies beyond the middle all stays as it is
 pub widened_none : (table : List (List ℕ)) (middle : ℕ) (beyond : List ℕ) → beyond ≡ get_or table middle [] → length beyond ≡ 0 → (a b : ℕ) → In table a b ↔ (In table a b ⊎ (In table a middle × In table middle b))
 widened_none table middle beyond is none a b = (
   λ h. inl h,
-  λ h. elim h [ inl o ↦ o | inr o ↦ absurd (no_member beyond none b (subst (λ z. has z b ≡ true) (sym is) o.1)) ],
+  λ h. elim h [ inl o ↦ o | inr o ↦ absurd (none_in beyond b none (subst (λ z. has z b ≡ true) (sym is) o.1)) ],
 )
 
 -- each turn over the nodes of a table

@@ -3,7 +3,7 @@ use Rattle.std.proofs.Common.{◌≡◌, ◌≢◌, ℕ, ◌<◌, ◌↔◌, ◌
 use Rattle.std.specs.Prelude.{Contains}
 use Rattle.std.proofs.lemmas.Bool.{cases_Bool, false≢true}
 use Rattle.std.proofs.lemmas.List.{nil_from_length}
-use Rattle.xdg_nodeset.proofs.TableSets.{both}
+use Rattle.xdg_nodeset.proofs.TableSets.{both, none_in}
 use Rattle.xdg_problem.specs.declared.analysis.Edge.{Edge}
 use Rattle.xdg_problem.specs.declared.parts.Group.{Group}
 use Rattle.xdg_problem.specs.declared.parts.Parts.{Parts}
@@ -34,7 +34,6 @@ use Rattle.xdg_pagree.proofs.Keeping.{KeepsPlace, asks_before, attr_some, lacks_
 use Rattle.xdg_facts.specs.Rises.{has}
 use Rattle.xdg_propcore.proofs.Losing.{kept_or_lost}
 use Rattle.xdg_store.proofs.Daughters.{out_is_place}
-use Rattle.xdg_graph.proofs.Widening.{no_member}
 use Rattle.xdg_problem.specs.Principles.{dim_arguments, attr_arguments}
 
 -- ---- what was closed is done where nothing was lost
@@ -158,7 +157,7 @@ label_skipped t group dim mother label set p s known on edges of touched empty o
   known = known;
   done = λ quiet asks.
       (daughters_last group dim mother label set p s p s on (λ still. done_at_others t s.parts group s.now dim mother label set on edges of touched asks (others still))
-      (sweeps_start group (AreDone (λ v. IsDoneAt s.parts group (edge dim mother label v)) set []) p s known (λ v there out. absurd (no_member set empty v there)))).done quiet;
+      (sweeps_start group (AreDone (λ v. IsDoneAt s.parts group (edge dim mother label v)) set []) p s known (λ v there out. absurd (none_in set v empty there)))).done quiet;
 }
 
 -- ---- behind the nodes at which something may be left

@@ -13,7 +13,8 @@ use Rattle.xdg_propcore.proofs.Passing.{clears_none, clears_like, clears_both, g
 use Rattle.xdg_pgraph.specs.declared.bundle.Bundle.{Bundle}
 use Rattle.xdg_pgraph.specs.Bounding.{NoneBarred}
 use Rattle.xdg_pgraph.specs.Bundles.{edge_to, numbers_of, Barred, OpenTo}
-use Rattle.xdg_pgraph.proofs.Members.{has_front, has_next, has_cases, front_more, front_all, front_member}
+use Rattle.xdg_pgraph.proofs.Members.{front_more, front_all, front_member}
+use Rattle.xdg_facts.proofs.Rising.{has_front, has_next, has_cases}
 use Rattle.xdg_facts.specs.Rises.{has}
 
 -- ---- entries

@@ -31,7 +31,8 @@ use Rattle.xdg_pgraph.specs.declared.bundle.Way.{Way}
 use Rattle.xdg_pgraph.specs.declared.bundle.Way.TheVariants as ways
 use Rattle.xdg_pgraph.proofs.Bundled.{edge_takes, entry_takes, next_both}
 use Rattle.xdg_pgraph.proofs.Ends.{counted, in_bundle, in_parts}
-use Rattle.xdg_pgraph.proofs.Members.{front_all, front_member, front_more, has_cases}
+use Rattle.xdg_pgraph.proofs.Members.{front_all, front_member, front_more}
+use Rattle.xdg_facts.proofs.Rising.{has_cases}
 use Rattle.xdg_facts.proofs.Truths.{either, either_true, or_here, same_and, same_flag}
 use Rattle.xdg_facts.specs.Rises.{has as has_node}
 use Rattle.xdg_propcore.proofs.Losing.{kept_or_lost}

@@ -1,7 +1,7 @@
 -- The daughters of a node by a label, one after another, and those near which nothing was lost.
 use Rattle.std.proofs.Common.{◌≡◌, ◌≢◌, ℕ, ◌<◌, ◌↔◌, ◌||◌, ◌&&◌, IsTrue, inl, inr, Bool, true, List, [], ◌∷◌, length, refl, sym, ◌∙◌, subst}
 use Rattle.std.proofs.lemmas.Bool.{cases_Bool, cases_eq, false≢true, ne_eqb}
-use Rattle.xdg_nodeset.proofs.TableSets.{both}
+use Rattle.xdg_nodeset.proofs.TableSets.{both, none_in}
 use Rattle.xdg_problem.specs.declared.analysis.Edge.{Edge}
 use Rattle.xdg_problem.specs.declared.parts.Group.{Group}
 use Rattle.xdg_problem.specs.declared.parts.Parts.{Parts}
@@ -25,7 +25,6 @@ use Rattle.xdg_plink.specs.Untouched.{AreNear, AreOthersDone, AreOthersDoneAt, A
 use Rattle.xdg_plink.specs.declared.near.Near.{Near}
 use Rattle.xdg_plink.proofs.Present.{takes_asked, takes_present}
 use Rattle.xdg_facts.specs.Rises.{has}
-use Rattle.xdg_graph.proofs.Widening.{no_member}
 use Rattle.xdg_graph.proofs.Edges.{edge_at}
 
 -- ---- a set without nodes
@@ -62,7 +61,7 @@ pub label_skipped : (near : Near) (group : Group) (table : List (List ℕ)) (dim
 label_skipped near group table dim u label set p s known dim_is linking is empty others = record {
   goes = goes_none group p s;
   known = known;
-  done = λ quiet exact e on mother label_is. done_at_others near s.parts group s.now dim u label set dim_is linking is (others quiet) e on mother label_is (no_member set empty e.daughter.0);
+  done = λ quiet exact e on mother label_is. done_at_others near s.parts group s.now dim u label set dim_is linking is (others quiet) e on mother label_is (none_in set e.daughter.0 empty);
 }
 
 -- nor where the entries don't ask for anything

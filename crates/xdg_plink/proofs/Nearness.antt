@@ -1,13 +1,12 @@
 -- Edges near which something was lost.
 use Rattle.std.proofs.Common.{◌≡◌, ℕ, ◌<◌, ◌||◌, inl, inr, true, List, length, sym, ◌∙◌, subst}
-use Rattle.xdg_nodeset.proofs.TableSets.{either}
+use Rattle.xdg_nodeset.proofs.TableSets.{either, none_in}
 use Rattle.xdg_problem.specs.declared.parts.Linking.{Linking}
 use Rattle.xdg_problem.specs.declared.parts.Linking.TheVariants as linkings
 use Rattle.xdg_propcore.specs.declared.touched.Touched.{Touched}
 use Rattle.xdg_plink.specs.Untouched.{HasJoins, HasLinks, IsFree}
 use Rattle.xdg_plink.specs.declared.near.Near.{Near}
 use Rattle.xdg_facts.specs.Rises.{has}
-use Rattle.xdg_graph.proofs.Widening.{no_member}
 
 -- a node is in neither of two sets that isn't in both together
 pub in_neither : (a b met : List ℕ) (n : ℕ) → has met n ≡ (has a n || has b n) → (has met n ≡ true → ⊥) → (has a n ≡ true → ⊥) × (has b n ≡ true → ⊥)
@@ -21,8 +20,8 @@ in_neither a b met n is free = (
 -- where there are none
 pub none_near : (near : Near) (met : List ℕ) → ((n : ℕ) → has met n ≡ (has near.mothers n || has near.ends n)) → length met ≡ 0 → (u v : ℕ) → IsFree near u v
 none_near near met is empty u v = (
-  (in_neither near.mothers near.ends met u (is u) (no_member met empty u)).0,
-  λ start end. (in_neither near.mothers near.ends met v (is v) (no_member met empty v)).1 end,
+  (in_neither near.mothers near.ends met u (is u) (none_in met u empty)).0,
+  λ start end. (in_neither near.mothers near.ends met v (is v) (none_in met v empty)).1 end,
 )
 
 -- ---- where something was lost
@@ -45,7 +44,7 @@ module _ (lost : Touched) (near : Near) (mothers : near.mothers ≡ lost.entries
 
   -- none at all
   pub paths_none : length lost.daughters ≡ 0 → (u v : ℕ) → u < 128 → IsFree near u v → (has lost.entries u ≡ true → ⊥) × ((x : ℕ) → has lost.daughters x ≡ true → ⊥)
-  paths_none empty u v within free = (entries_free u v free, no_member lost.daughters empty)
+  paths_none empty u v within free = (entries_free u v free, λ x. none_in lost.daughters x empty)
 
 -- into one of two sisters
 pub links_sisters : (lost : Touched) (near : Near) (way : Linking) → way ≡ linkings.Sisters → ((n : ℕ) → has near.mothers n ≡ (has lost.entries n || has lost.daughters n)) → ((n : ℕ) → n < 128 → has near.starts n ≡ true) → near.ends ≡ lost.daughters → HasLinks near way lost

@@ -1,6 +1,6 @@
 -- Edges that go, one after another.
-use Rattle.std.proofs.Common.{◌≡◌, ℕ, ◌+◌, ◌<◌, ◌⊎◌, ◌==◌, inl, inr, true, false, List, [], ◌∷◌, ◌++◌, refl, sym, ◌∙◌, ap, subst, arith, append-nil, append_assoc}
-use Rattle.std.proofs.lemmas.Bool.{cases_eq, eq-eqb, eqb-true, false≢true, or_cases}
+use Rattle.std.proofs.Common.{◌≡◌, ℕ, ◌+◌, ◌<◌, ◌⊎◌, inl, inr, true, List, [], ◌∷◌, ◌++◌, refl, sym, ◌∙◌, ap, subst, arith, append-nil, append_assoc}
+use Rattle.std.proofs.lemmas.Bool.{cases_eq, false≢true}
 use Rattle.xdg_problem.specs.declared.analysis.Edge.{Edge}
 use Rattle.xdg_problem.specs.declared.parts.Parts.{Parts}
 use Rattle.xdg_problem.specs.Boxes.{Has, edge_decision}
@@ -10,8 +10,8 @@ use Rattle.xdg_store.specs.States.{State}
 use Rattle.xdg_propcore.specs.Passes.{Progress, Clears}
 use Rattle.xdg_propcore.proofs.Passing.{clears_none, clears_like, clears_both}
 use Rattle.xdg_pmulti.specs.Aims.{Forbids}
-use Rattle.xdg_facts.proofs.Truths.{or_here, either_true}
 use Rattle.xdg_facts.specs.Rises.{has}
+use Rattle.xdg_facts.proofs.Rising.{has_front, has_next, has_cases}
 
 -- the same edges, told in another way
 pub forbids_like : (parts : Parts) (dim : ℕ) (P Q : Edge → Type 0) → ((e : Edge) → IsPlaceOn parts dim e → P e → Q e) → (d v : ℕ) → Forbids parts dim P d v → Forbids parts dim Q d v
@@ -68,24 +68,6 @@ first_more dim P k p q r old mid new = one_more dim (λ x. x < k) (λ x. x < k +
 
 -- ---- the members of a list
 
-has_front : (front : List ℕ) (v x : ℕ) → has front x ≡ true → has (front ++ v ∷ []) x ≡ true
-has_front [] v x h = absurd (false≢true h)
-has_front (m ∷ front) v x h = elim (or_cases (m == x) (has front x) h) [
-  | inl here ↦ or_here (m == x) (has (front ++ v ∷ []) x) here
-  | inr there ↦ either_true (m == x) (has (front ++ v ∷ []) x) (has_front front v x there)
-]
-
-has_in : (front rest : List ℕ) (v : ℕ) → has (front ++ v ∷ rest) v ≡ true
-has_in [] rest v = or_here (v == v) (has rest v) (eq-eqb v v refl)
-has_in (m ∷ front) rest v = either_true (m == v) (has (front ++ v ∷ rest) v) (has_in front rest v)
-
-has_cases : (front : List ℕ) (v x : ℕ) → has (front ++ v ∷ []) x ≡ true → (has front x ≡ true) ⊎ (x ≡ v)
-has_cases [] v x h = elim (or_cases (v == x) false h) [ inl here ↦ inr (sym (eqb-true v x here)) | inr none ↦ absurd (false≢true none) ]
-has_cases (m ∷ front) v x h = elim (or_cases (m == x) (has (front ++ v ∷ []) x) h) [
-  | inl here ↦ inl (or_here (m == x) (has front x) here)
-  | inr there ↦ elim (has_cases front v x there) [ inl before ↦ inl (either_true (m == x) (has front x) before) | inr same ↦ inr same ]
-]
-
 -- the edges that go by the members of a list up to those that are left
 pub record Passed (parts : Parts) (dim : ℕ) (P : ℕ → Edge → Type 0) (first left : List ℕ) (p : Progress) (old : State) (q : Progress) (new : State) : Type 0 where
   pub front : List ℕ
@@ -99,7 +81,7 @@ pub passed_more : (dim : ℕ) (P : ℕ → Edge → Type 0) (first left rest : L
 passed_more dim P first left rest v p q r old mid new left_is a b = record {
   front = a.front ++ v ∷ [];
   whole = append_assoc a.front (v ∷ []) rest ∙ ap (λ s. a.front ++ s) (sym left_is) ∙ a.whole;
-  clears = one_more dim (λ x. has a.front x ≡ true) (λ x. has (a.front ++ v ∷ []) x ≡ true) P v p q r old mid new (has_front a.front v) (has_in a.front [] v) (has_cases a.front v) a.clears b;
+  clears = one_more dim (λ x. has a.front x ≡ true) (λ x. has (a.front ++ v ∷ []) x ≡ true) P v p q r old mid new (has_front a.front v) (has_next a.front [] v) (has_cases a.front v) a.clears b;
 }
 
 pub passed_all : (parts : Parts) (dim : ℕ) (P : ℕ → Edge → Type 0) (first left : List ℕ) (p q : Progress) (old new : State) → left ≡ [] → Passed parts dim P first left p old q new → Clears (Forbids parts dim (ByOne (λ x. has first x ≡ true) P)) p old q new
@@ -113,7 +95,7 @@ passed_set parts dim P set items first left p q old new same is left_is a = subs
 
 -- the next one is a member
 pub passed_member : (parts : Parts) (dim : ℕ) (P : ℕ → Edge → Type 0) (first left rest : List ℕ) (v : ℕ) (p q : Progress) (old new : State) → left ≡ v ∷ rest → Passed parts dim P first left p old q new → has first v ≡ true
-passed_member parts dim P first left rest v p q old new left_is a = subst (λ s. has s v ≡ true) (ap (λ s. a.front ++ s) (sym left_is) ∙ a.whole) (has_in a.front rest v)
+passed_member parts dim P first left rest v p q old new left_is a = subst (λ s. has s v ≡ true) (ap (λ s. a.front ++ s) (sym left_is) ∙ a.whole) (has_next a.front rest v)
 
 -- what holds of the members of the set holds of it, in the sentence that stays
 pub passed_node : (dim : ℕ) (P : ℕ → Edge → Type 0) (set items first left rest : List ℕ) (v : ℕ) (p q : Progress) (old mid : State) → items ≡ set → first ≡ items → left ≡ v ∷ rest → ((u : ℕ) → has set u ≡ true → u < nodes old.parts) → Passed old.parts dim P first left p old q mid → v < nodes mid.parts

@@ -1,12 +1,12 @@
 use Rattle.std.proofs.Common.{◌∙◌, arith, sym}
 use Rattle.std.proofs.lemmas.Bool.{false≢true}
 use Rattle.xdg_plink.proofs.near.Near.leads_from.Goals as goal
-use Rattle.xdg_graph.proofs.Widening.{no_member}
+use Rattle.xdg_nodeset.proofs.TableSets.{none_in}
 
 pub returns-then-len-eq0 : goal.returns-then-len-eq0
 returns-then-len-eq0 c free v = (
   λ there. false≢true (sym c.if-contains.false ∙ c.contains.ensures.value ∙ there),
-  λ start end. no_member c.args.self.now.ends (let e = c.len.ensures.value in let z = c.if-len-eq0.true in omega (arith, e, z)) v end,
+  λ start end. none_in c.args.self.now.ends v (let e = c.len.ensures.value in let z = c.if-len-eq0.true in omega (arith, e, z)) end,
 )
 
 pub returns : goal.returns
