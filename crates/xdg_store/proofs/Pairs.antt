@@ -1,5 +1,5 @@
 -- Edge places: decisions with two bits.
-use Rattle.std.proofs.Common.{◌≡◌, ℕ, ◌≤◌, ◌+◌, ◌↔◌, Bool, true, false, not, IsTrue, List, [], get_or, ap, sym, ◌∙◌, arith, subst, refl}
+use Rattle.std.proofs.Common.{◌≡◌, ℕ, ◌<◌, ◌≤◌, ◌+◌, ◌*◌, ◌↔◌, Bool, true, false, not, IsTrue, List, [], length, get_or, ap, sym, ◌∙◌, arith, subst, refl}
 use Rattle.xdg_problem.specs.declared.analysis.Edge.{Edge}
 use Rattle.xdg_problem.specs.declared.parts.Parts.{Parts}
 use Rattle.xdg_problem.specs.Analyses.{IsPlace}
@@ -8,13 +8,13 @@ use Rattle.xdg_problem.specs.Places.{nodes}
 use Rattle.xdg_problem.specs.Problems.{IsProblem}
 use Rattle.xdg_trail.specs.Trailed.{Trailed}
 use Rattle.xdg_store.specs.Change.{Removes}
-use Rattle.xdg_store.specs.Layout.{bits_of, box_in, edge_bit, edge_row, is_set, pair_bits}
+use Rattle.xdg_store.specs.Layout.{bit_count, bits_of, box_in, edge_bit, edge_row, is_set, pair_bits}
 use Rattle.xdg_store.specs.Rows.{Takes}
 use Rattle.xdg_store.specs.States.{Keeps}
 use Rattle.xdg_store.specs.declared.change.Change.{Change}
 use Rattle.xdg_store.proofs.Histories.{seen}
 use Rattle.xdg_store.proofs.Located.{Located, edge_located}
-use Rattle.xdg_store.proofs.Removals.{OtherIn, has_bit, has_room, removes, keeps_taken}
+use Rattle.xdg_store.proofs.Removals.{OtherIn, bit_in_range, has_bit, has_room, removes, keeps_taken}
 
 -- an edge place, and the bit that says whether its edge may be present
 pub record IsPair (parts : Parts) (e : Edge) (present : ℕ) : Type 0 where
@@ -36,6 +36,15 @@ module _ (parts : Parts) (t : Trailed) (single : ℕ) (e : Edge) (present : ℕ)
 
   absent_is : present + 128 ≡ get_or row 1 0
   absent_is = ap (λ i. i + 128) at.present_is
+
+  -- both of its bits are among those of the words
+  pub pair_within : (present < 64 * length t.words) × (present + 128 < 64 * length t.words)
+  pair_within =
+      let low : edge_bit (nodes parts) e < bit_count parts = bit_in_range parts d 0 row keeps.problem at.located (omega arith) in
+      let high : edge_bit (nodes parts) e + 128 < bit_count parts = bit_in_range parts d 1 row keeps.problem at.located (omega arith) in
+      let long = keeps.long in
+      let is = at.present_is in
+      (omega (arith, low, long, is), omega (arith, high, long, is))
 
   -- the other value of a place
 

@@ -10,8 +10,24 @@ use Rattle.xdg_store.specs.declared.decision.Decision.TheVariants as decisions
 use Rattle.xdg_store.proofs.Histories.{known_of, seen}
 use Rattle.xdg_store.proofs.Kept.{kept_renewed, place_fits}
 use Rattle.xdg_store.proofs.Noting.{note_room, steps_after}
-use Rattle.xdg_store.proofs.Pairs.{edge_is_pair, forbid_keeps, forbid_removes, forbid_room}
+use Rattle.xdg_store.proofs.Pairs.{edge_is_pair, forbid_keeps, forbid_removes, forbid_room, pair_within}
 use Rattle.xdg_store.proofs.store.Store.forbid_edge.Goals as goal
+
+pub take_of_pair-change-requires-clause-bit_within : goal.take_of_pair-change-requires-clause-bit_within
+take_of_pair-change-requires-clause-bit_within c =
+    let p = c.self.inside.problem.now in
+    let h = subst (λ s. IsPlace s.parts c.args.edge) (sym c.self.view_is) c.requires in
+    let present = c.edge_row-row.result + c.args.edge.daughter.0 in
+    let pair = edge_is_pair p c.args.edge c.self.inside.node_count c.edge_row-row.result present c.self.invariant.0.problem h c.self.invariant.1 c.edge_row-row.ensures refl in
+    (pair_within p c.self.inside.trail c.self.inside.single c.args.edge present c.self.invariant.0 pair).0
+
+pub take_of_pair-change-requires-clause-other_within : goal.take_of_pair-change-requires-clause-other_within
+take_of_pair-change-requires-clause-other_within c =
+    let p = c.self.inside.problem.now in
+    let h = subst (λ s. IsPlace s.parts c.args.edge) (sym c.self.view_is) c.requires in
+    let present = c.edge_row-row.result + c.args.edge.daughter.0 in
+    let pair = edge_is_pair p c.args.edge c.self.inside.node_count c.edge_row-row.result present c.self.invariant.0.problem h c.self.invariant.1 c.edge_row-row.ensures refl in
+    (pair_within p c.self.inside.trail c.self.inside.single c.args.edge present c.self.invariant.0 pair).1
 
 pub take_of_pair-change-requires-clause-room : goal.take_of_pair-change-requires-clause-room
 take_of_pair-change-requires-clause-room c =
