@@ -15,7 +15,7 @@ use Rattle.xdg_problem.specs.Boxes.{Has, IsBox, LiesIn, entry_decision, edge_dec
 use Rattle.xdg_problem.specs.Costs.{CostLists}
 use Rattle.xdg_problem.specs.Places.{nodes, places}
 use Rattle.xdg_problem.specs.Problems.{IsProblem}
-use Rattle.xdg_problem.specs.Tests.{IsTestOf}
+use Rattle.xdg_problem.specs.Tests.{Test, IsTestOf, linked}
 use Rattle.xdg_problem.specs.Vectors.{shape}
 use Rattle.xdg_problem.proofs.FilterFacts.{filter_alike}
 use Rattle.xdg_problem.proofs.PlaceOrder.{is_place}
@@ -32,10 +32,14 @@ use Rattle.xdg_engine.specs.Bounding.{HoldsBound, bound_stands}
 use Rattle.xdg_engine.specs.declared.cost_prop.CostProp.{CostProp}
 
 -- a bound has no tests
+untested : (costs : CostLists) (bound : ℕ) (truths : List Bool) (n labels : ℕ) (test : Test) → IsTestOf (principles.Bound costs bound) truths n labels test → ⊥
+untested costs bound truths n labels (linked way u l v) named = named
+untested costs bound truths n labels test named = named
+
 no_test : (parts : Parts) (group : Group) (box : List (List Bool)) (costs : CostLists) (bound : ℕ) → group.principle ≡ principles.Bound costs bound
     → FailsTest parts group box → ⊥
-no_test parts group box costs bound is failing =
-    subst (λ p. IsTestOf p group.truths (nodes parts) (label_count parts (first_dim group)) failing.test) is failing.is
+no_test parts group box costs bound is failing = untested costs bound group.truths (nodes parts) (label_count parts (first_dim group)) failing.test
+    (subst (λ p. IsTestOf p group.truths (nodes parts) (label_count parts (first_dim group)) failing.test) is failing.is)
 
 -- where it takes nothing the box is closed
 pub closed_for_bound : (parts : Parts) (group : Group) (box : List (List Bool)) (costs : CostLists) (bound : ℕ) → group.principle ≡ principles.Bound costs bound

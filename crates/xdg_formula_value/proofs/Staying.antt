@@ -17,7 +17,7 @@ use Rattle.xdg_problem.specs.Claims.{claim_then, claim, IsOf, EachIsOf, Suits}
 use Rattle.xdg_problem.specs.Paths.{Above}
 use Rattle.xdg_problem.specs.Places.{edge, nodes, places}
 use Rattle.xdg_problem.specs.Problems.{IsProblem, IsGroup, IsSuited}
-use Rattle.xdg_problem.specs.Tests.{IsTestOf}
+use Rattle.xdg_problem.specs.Tests.{Test, IsTestOf, linked}
 use Rattle.xdg_problem.specs.Truths.{bound, unbound, AreNodes}
 use Rattle.xdg_problem.specs.Vectors.{shape}
 use Rattle.xdg_problem.proofs.FilterFacts.{filter_alike}
@@ -129,11 +129,15 @@ module _ (parts : Parts) (problem : IsProblem parts) (wakes : ℕ) (old new : Li
 
 -- ---- a rule
 
+-- it has no tests
+untested : (formula : Formula) (truths : List Bool) (n labels : ℕ) (test : Test) → IsTestOf (principles.Rule formula) truths n labels test → ⊥
+untested formula truths n labels (linked way u l v) named = named
+untested formula truths n labels test named = named
+
 module _ (parts : Parts) (group : Group) (box : List (List Bool)) where
-  -- it has no tests
   no_test : (p : Principle) → IsRule p → group.principle ≡ p → FailsTest parts group box → ⊥
-  no_test (principles.Rule formula) rule is failing =
-      subst (λ p. IsTestOf p group.truths (nodes parts) (label_count parts (first_dim group)) failing.test) is failing.is
+  no_test (principles.Rule formula) rule is failing = untested formula group.truths (nodes parts) (label_count parts (first_dim group)) failing.test
+      (subst (λ p. IsTestOf p group.truths (nodes parts) (label_count parts (first_dim group)) failing.test) is failing.is)
   no_test p rule is failing = absurd rule
 
   -- where its formula isn't false the box is closed for it

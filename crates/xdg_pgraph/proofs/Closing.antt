@@ -8,7 +8,7 @@ use Rattle.xdg_problem.specs.Arguments.{first_dim, label_count}
 use Rattle.xdg_problem.specs.Boxes.{Has, IsBox, entry_decision}
 use Rattle.xdg_problem.specs.Places.{nodes}
 use Rattle.xdg_problem.specs.Problems.{IsProblem}
-use Rattle.xdg_problem.specs.Tests.{Test, IsTestOf, out_count, in_count, one_mother, no_cycle, one_root, one_label}
+use Rattle.xdg_problem.specs.Tests.{Test, IsTestOf, linked, out_count, in_count, one_mother, no_cycle, one_root, one_label}
 use Rattle.xdg_problem.specs.Vectors.{shape}
 use Rattle.xdg_rules.specs.Rules.{TestDecided, TestPasses, TakesBy, IsClosedFor}
 use Rattle.xdg_rules.proofs.Sizes.{node_within}
@@ -52,7 +52,9 @@ module _ (parts : Parts) (group : Group) (box : List (List Bool)) (problem : IsP
 
   passes_all : (p : Principle) → IsOfFamily p → (test : Test) → IsTestOf p group.truths (nodes parts) (label_count parts (first_dim group)) test
       → TestDecided parts group box test → NoRule p → TestPasses parts group box test
+  passes_all principles.Graph family (linked way u l v) named decided none = absurd named
   passes_all principles.Graph family test named decided none = absurd named
+  passes_all principles.Entries family (linked way u l v) named decided none = absurd named
   passes_all principles.Entries family test named decided none = absurd named
   passes_all principles.Tree family test named decided none = tree_test test named decided none
   passes_all principles.Dag family test named decided none = dag_test test named decided none

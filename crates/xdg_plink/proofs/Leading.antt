@@ -1,7 +1,7 @@
 -- Edges that link one node to another, by tables.
 use Rattle.std.proofs.Common.{◌≡◌, ℕ, ◌⊎◌, ◌↔◌, inl, inr, Bool, true, false, IsTrue, List, [], get_or, sym, ◌∙◌, subst, refl}
 use Rattle.std.proofs.lemmas.Bool.{false≢true}
-use Rattle.xdg_nodeset.specs.Tables.{Meet}
+use Rattle.xdg_nodeset.specs.Tables.{In, Meet}
 use Rattle.xdg_problem.specs.declared.analysis.Edge.{Edge}
 use Rattle.xdg_problem.specs.declared.parts.Linking.{Linking}
 use Rattle.xdg_problem.specs.declared.parts.Parts.{Parts}
