@@ -128,9 +128,9 @@ impl<'a, R: Print> Sink for StdoutSink<'a, R> {
             self.kept = end;
             return Ok(count);
         }
-        self.kept = 0;
-        let lines = self.lines;
-        write_all(&mut self.sink, &lines[..end])?;
+        let StdoutSink { sink, lines, kept } = self;
+        *kept = 0;
+        write_all(sink, &lines[..end])?;
         Ok(count)
     }
 
