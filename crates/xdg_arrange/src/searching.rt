@@ -1,9 +1,9 @@
 //! The search of an arrangement, printed as analyses are found.
 
-ghost use Rattle.std.specs.Prelude.{◌≡◌, ◌≢◌, ◌≤◌, ◌<◌, ◌∷◌, ◌==◌, ◌^◌, [], None, codes, cond, decimal, map, IfOk, OnErr, OnOk};
+ghost use Rattle.std.specs.Prelude.{◌≡◌, ◌≢◌, ◌≤◌, ◌<◌, ◌∷◌, ◌==◌, ◌^◌, [], None, codes, cond, decimal, map, IfOk};
 ghost use Rattle.xdg_arrange.specs.Found.{IsOneFind, Writes, arrangement_line, led_block};
-ghost use Rattle.xdg_io.specs.Held.{Appends, AppendsFront};
 ghost use Rattle.xdg_io.specs.Rose.{Rose};
+ghost use Rattle.xdg_io.specs.Texts.{WritesText};
 ghost use Rattle.xdg_problem.specs.Analyses.{IsAnalysis};
 ghost use Rattle.xdg_problem.specs.Problems.{IsProblem};
 ghost use Rattle.xdg_propcore.specs.Uses.{AllStandIn};
@@ -52,11 +52,8 @@ fn lead_of<'a>(
 
 /// Writes the line of an arrangement before its first analysis, and nothing before another.
 fn write_lead<K: Sink>(lead: &[Word], count: u64, out: &mut K) -> Result<(), Failed>
-    ensures all { OnOk result (Appends (K.held out.old) (K.held out.new) (cond (count == 1) (line (codes "arrangement") (map word_text lead.now)) [])) }
-    ensures front { OnErr result (AppendsFront (K.held out.old) (K.held out.new) (cond (count == 1) (line (codes "arrangement") (map word_text lead.now)) [])) }
-    ensures cause { OnErr result (Rose (K.faults out.old) (K.faults out.new)) }
-    ensures lasting { K.faults out.old ≤ K.faults out.new }
-    ensures quiet { OnOk result (K.faults out.new ≡ K.faults out.old) }
+    ensures { WritesText result (K.held out.old) (K.held out.new) (K.faults out.old) (K.faults out.new)
+        (cond (count == 1) (line (codes "arrangement") (map word_text lead.now)) []) }
 {
     if count == 1 {
         write_line("arrangement", lead, out)
@@ -66,7 +63,6 @@ fn write_lead<K: Sink>(lead: &[Word], count: u64, out: &mut K) -> Result<(), Fai
 }
 
 /// Writes an analysis with its number, and before the first one the line of its arrangement.
-#[tactic(auto, using(xdg_io::proofs::Written::appends_both, xdg_text::proofs::Pieces::rose_later))]
 fn write_found<K: Sink>(
     problem: &Problem,
     lead: &[Word],
@@ -77,15 +73,9 @@ fn write_found<K: Sink>(
     out: &mut K,
 ) -> Result<(), Failed>
     requires { IsAnalysis problem.now (record { entries = entries.now; attrs = attrs.now; edges = edges.now }) }
-    ensures all { OnOk result (Appends (K.held out.old) (K.held out.new)
+    ensures { WritesText result (K.held out.old) (K.held out.new) (K.faults out.old) (K.faults out.new)
         (led_block (line (codes "arrangement") (map word_text lead.now)) problem.now count
-        (record { entries = entries.now; attrs = attrs.now; edges = edges.now }))) }
-    ensures front { OnErr result (AppendsFront (K.held out.old) (K.held out.new)
-        (led_block (line (codes "arrangement") (map word_text lead.now)) problem.now count
-        (record { entries = entries.now; attrs = attrs.now; edges = edges.now }))) }
-    ensures cause { OnErr result (Rose (K.faults out.old) (K.faults out.new)) }
-    ensures lasting { K.faults out.old ≤ K.faults out.new }
-    ensures quiet { OnOk result (K.faults out.new ≡ K.faults out.old) }
+        (record { entries = entries.now; attrs = attrs.now; edges = edges.now })) }
 {
     write_lead(lead, count, out)?;
     write_parts(Form::One, problem, count, entries, attrs, edges, out)

@@ -1,9 +1,8 @@
 //! The text of a search for the cheapest analysis.
 
-ghost use Rattle.std.specs.Prelude.{◌≡◌, ◌≤◌, ◌++◌, OnErr, OnOk};
+ghost use Rattle.std.specs.Prelude.{◌++◌};
 ghost use Rattle.xdg_best.specs.CheapestTexts.{answer_text, cost_line, found_text, last_text};
-ghost use Rattle.xdg_io.specs.Held.{Appends, AppendsFront};
-ghost use Rattle.xdg_io.specs.Rose.{Rose};
+ghost use Rattle.xdg_io.specs.Texts.{WritesText};
 ghost use Rattle.xdg_problem.specs.Analyses.{IsAnalysis};
 ghost use Rattle.xdg_stream.specs.Streamed.{IsStart};
 ghost use Rattle.xdg_text.specs.Blocks.{block};
@@ -14,7 +13,6 @@ use xdg_problem::{Analysis, Problem};
 use xdg_text::{Word, write, write_line};
 
 /// Writes an analysis as block 1, and its cost.
-#[tactic(auto, using(xdg_io::proofs::Written::appends_both, xdg_text::proofs::Pieces::rose_later))]
 fn write_find<K: Sink>(
     problem: &Problem,
     analysis: &Analysis,
@@ -22,11 +20,8 @@ fn write_find<K: Sink>(
     sink: &mut K,
 ) -> Result<(), Failed>
     requires { IsAnalysis problem.now analysis.now }
-    ensures all { OnOk result (Appends (K.held sink.old) (K.held sink.new) (block problem.now 1 analysis.now ++ cost_line cost)) }
-    ensures front { OnErr result (AppendsFront (K.held sink.old) (K.held sink.new) (block problem.now 1 analysis.now ++ cost_line cost)) }
-    ensures cause { OnErr result (Rose (K.faults sink.old) (K.faults sink.new)) }
-    ensures lasting { K.faults sink.old ≤ K.faults sink.new }
-    ensures quiet { OnOk result (K.faults sink.new ≡ K.faults sink.old) }
+    ensures { WritesText result (K.held sink.old) (K.held sink.new) (K.faults sink.old) (K.faults sink.new)
+        (block problem.now 1 analysis.now ++ cost_line cost) }
 {
     write(problem, 1, analysis, sink)?;
     write_line("cost", &[Word::Number(cost)], sink)
@@ -35,11 +30,7 @@ fn write_find<K: Sink>(
 /// Writes what was found, if something was.
 fn write_found<K: Sink>(problem: &Problem, answer: &BestAnswer, sink: &mut K) -> Result<(), Failed>
     requires { IsStart problem.now answer.now.found }
-    ensures all { OnOk result (Appends (K.held sink.old) (K.held sink.new) (found_text problem.now answer.now)) }
-    ensures front { OnErr result (AppendsFront (K.held sink.old) (K.held sink.new) (found_text problem.now answer.now)) }
-    ensures cause { OnErr result (Rose (K.faults sink.old) (K.faults sink.new)) }
-    ensures lasting { K.faults sink.old ≤ K.faults sink.new }
-    ensures quiet { OnOk result (K.faults sink.new ≡ K.faults sink.old) }
+    ensures { WritesText result (K.held sink.old) (K.held sink.new) (K.faults sink.old) (K.faults sink.new) (found_text problem.now answer.now) }
 {
     match &answer.found {
         None => Ok(()),
@@ -49,11 +40,7 @@ fn write_found<K: Sink>(problem: &Problem, answer: &BestAnswer, sink: &mut K) ->
 
 /// Writes the line that says that the budget was spent, or that there is no analysis; where neither is so, nothing.
 fn write_last<K: Sink>(answer: &BestAnswer, sink: &mut K) -> Result<(), Failed>
-    ensures all { OnOk result (Appends (K.held sink.old) (K.held sink.new) (last_text answer.now)) }
-    ensures front { OnErr result (AppendsFront (K.held sink.old) (K.held sink.new) (last_text answer.now)) }
-    ensures cause { OnErr result (Rose (K.faults sink.old) (K.faults sink.new)) }
-    ensures lasting { K.faults sink.old ≤ K.faults sink.new }
-    ensures quiet { OnOk result (K.faults sink.new ≡ K.faults sink.old) }
+    ensures { WritesText result (K.held sink.old) (K.held sink.new) (K.faults sink.old) (K.faults sink.new) (last_text answer.now) }
 {
     if answer.spent {
         return write_line("spent", &[], sink);
@@ -65,18 +52,13 @@ fn write_last<K: Sink>(answer: &BestAnswer, sink: &mut K) -> Result<(), Failed>
 }
 
 /// Writes what a search for the cheapest analysis came to.
-#[tactic(auto, using(xdg_io::proofs::Written::appends_both, xdg_text::proofs::Pieces::rose_later))]
 pub(crate) fn write_answer<K: Sink>(
     problem: &Problem,
     answer: &BestAnswer,
     sink: &mut K,
 ) -> Result<(), Failed>
     requires { IsStart problem.now answer.now.found }
-    ensures all { OnOk result (Appends (K.held sink.old) (K.held sink.new) (answer_text problem.now answer.now)) }
-    ensures front { OnErr result (AppendsFront (K.held sink.old) (K.held sink.new) (answer_text problem.now answer.now)) }
-    ensures cause { OnErr result (Rose (K.faults sink.old) (K.faults sink.new)) }
-    ensures lasting { K.faults sink.old ≤ K.faults sink.new }
-    ensures quiet { OnOk result (K.faults sink.new ≡ K.faults sink.old) }
+    ensures { WritesText result (K.held sink.old) (K.held sink.new) (K.faults sink.old) (K.faults sink.new) (answer_text problem.now answer.now) }
 {
     write_found(problem, answer, sink)?;
     write_last(answer, sink)

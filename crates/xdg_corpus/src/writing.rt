@@ -1,10 +1,9 @@
 //! What is written of a group.
 
-ghost use Rattle.std.specs.Prelude.{◌≡◌, ◌≤◌, ◌<◌, ◌+◌, ◌++◌, ◌^◌, length, IfOk, OnErr, OnOk};
+ghost use Rattle.std.specs.Prelude.{◌≡◌, ◌<◌, ◌+◌, ◌++◌, ◌^◌, length, IfOk};
 ghost use Rattle.xdg_corpus.specs.Groups.{group_text, own_text};
 ghost use Rattle.xdg_corpus.specs.Texts.{sentence_line};
-ghost use Rattle.xdg_io.specs.Held.{Appends, AppendsFront};
-ghost use Rattle.xdg_io.specs.Rose.{Rose};
+ghost use Rattle.xdg_io.specs.Texts.{WritesText};
 
 use crate::group::Sentence;
 use crate::sizes::are_long;
@@ -16,11 +15,7 @@ use xdg_text::{Kept, Word, fault_line, write_line};
 
 /// Writes the text of a line alone.
 fn write_own<K: Sink>(sentence: &Sentence, answers: &[Answer], out: &mut K) -> Result<(), Failed>
-    ensures all { OnOk result (Appends (K.held out.old) (K.held out.new) (own_text answers.now sentence.now)) }
-    ensures front { OnErr result (AppendsFront (K.held out.old) (K.held out.new) (own_text answers.now sentence.now)) }
-    ensures cause { OnErr result (Rose (K.faults out.old) (K.faults out.new)) }
-    ensures lasting { K.faults out.old ≤ K.faults out.new }
-    ensures quiet { OnOk result (K.faults out.new ≡ K.faults out.old) }
+    ensures { WritesText result (K.held out.old) (K.held out.new) (K.faults out.old) (K.faults out.new) (own_text answers.now sentence.now) }
 {
     match sentence {
         Sentence::Refused(fault, place) => fault_line(fault, *place, out),
@@ -32,25 +27,21 @@ fn write_own<K: Sink>(sentence: &Sentence, answers: &[Answer], out: &mut K) -> R
 }
 
 /// Writes the number of a line, and its text.
-#[tactic(auto, using(xdg_io::proofs::Written::appends_both, xdg_text::proofs::Pieces::rose_later))]
 fn write_sentence<K: Sink>(
     number: u64,
     sentence: &Sentence,
     answers: &[Answer],
     out: &mut K,
 ) -> Result<(), Failed>
-    ensures all { OnOk result (Appends (K.held out.old) (K.held out.new) (sentence_line number ++ own_text answers.now sentence.now)) }
-    ensures front { OnErr result (AppendsFront (K.held out.old) (K.held out.new) (sentence_line number ++ own_text answers.now sentence.now)) }
-    ensures cause { OnErr result (Rose (K.faults out.old) (K.faults out.new)) }
-    ensures lasting { K.faults out.old ≤ K.faults out.new }
-    ensures quiet { OnOk result (K.faults out.new ≡ K.faults out.old) }
+    ensures { WritesText result (K.held out.old) (K.held out.new) (K.faults out.old) (K.faults out.new)
+        (sentence_line number ++ own_text answers.now sentence.now) }
 {
     write_line("sentence", &[Word::Number(number)], out)?;
     write_own(sentence, answers, out)
 }
 
 /// Writes the texts of lines in their order, of which the first has this number, piece by piece.
-#[tactic(auto, using(xdg_text::proofs::Pieces::start, xdg_io::proofs::Written::written_all, xdg_text::proofs::Pieces::rose_later))]
+#[tactic(auto, using(xdg_io::proofs::Parts::start))]
 fn write_texts<K: Sink>(
     first: u64,
     sentences: &[Sentence],
@@ -58,11 +49,7 @@ fn write_texts<K: Sink>(
     out: &mut K,
 ) -> Result<(), Failed>
     requires { first + length sentences.now < 2 ^ 64 }
-    ensures all { OnOk result (Appends (K.held out.old) (K.held out.new) (group_text answers.now first sentences.now)) }
-    ensures front { OnErr result (AppendsFront (K.held out.old) (K.held out.new) (group_text answers.now first sentences.now)) }
-    ensures cause { OnErr result (Rose (K.faults out.old) (K.faults out.new)) }
-    ensures lasting { K.faults out.old ≤ K.faults out.new }
-    ensures quiet { OnOk result (K.faults out.new ≡ K.faults out.old) }
+    ensures { WritesText result (K.held out.old) (K.held out.new) (K.faults out.old) (K.faults out.new) (group_text answers.now first sentences.now) }
 {
     for (place, sentence) in sentences.iter().enumerate() {
         write_sentence(first + place as u64, sentence, answers, out)?;
@@ -95,11 +82,7 @@ pub(crate) fn write_group<K: Sink>(
     out: &mut K,
 ) -> Result<(), Failed>
     requires { first + length sentences.now < 2 ^ 64 }
-    ensures all { OnOk result (Appends (K.held out.old) (K.held out.new) (group_text answers.now first sentences.now)) }
-    ensures front { OnErr result (AppendsFront (K.held out.old) (K.held out.new) (group_text answers.now first sentences.now)) }
-    ensures cause { OnErr result (Rose (K.faults out.old) (K.faults out.new)) }
-    ensures lasting { K.faults out.old ≤ K.faults out.new }
-    ensures quiet { OnOk result (K.faults out.new ≡ K.faults out.old) }
+    ensures { WritesText result (K.held out.old) (K.held out.new) (K.faults out.old) (K.faults out.new) (group_text answers.now first sentences.now) }
 {
     if are_long(answers) {
         return write_texts(first, sentences, answers, out);

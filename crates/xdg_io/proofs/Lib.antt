@@ -3,3 +3,4 @@ pub mod Written
 pub mod Read
 pub mod Shelves
 pub mod Streams
+pub mod Parts

@@ -3,3 +3,4 @@ pub mod Held
 pub mod Left
 pub mod Memory
 pub mod Rose
+pub mod Texts

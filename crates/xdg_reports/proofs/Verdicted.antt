@@ -1,6 +1,5 @@
 -- The texts of verdicts, piece by piece.
-use Rattle.std.proofs.Common.{◌≡◌, ℕ, suc, ◌<◌, ◌+◌, List, ◌∷◌, ◌++◌, length, get_or, slice_get, drop, Option, None, unwrap_or, sym, ap, ap₂, ◌∙◌, add-one}
-use Rattle.std.specs.Prelude.{codes, decimal}
+use Rattle.std.proofs.Common.{◌≡◌, ℕ, suc, ◌<◌, ◌+◌, List, ◌∷◌, ◌++◌, length, get_or, slice_get, drop, None, unwrap_or, sym, ap, ap₂, ◌∙◌, add-one}
 use Rattle.std.proofs.Math.Seq.{drop-cons}
 use Rattle.std.proofs.lemmas.Option.{unwrap_or-slice_get}
 use Rattle.xdg_base.specs.declared.ids.DimId.{DimId}
@@ -10,11 +9,8 @@ use Rattle.xdg_problem.specs.declared.parts.DimPlan.{DimPlan}
 use Rattle.xdg_problem.specs.declared.parts.Group.{Group}
 use Rattle.xdg_problem.specs.declared.parts.Parts.{Parts}
 use Rattle.xdg_problem.specs.Arguments.{no_plan}
-use Rattle.xdg_io.specs.Held.{Appends, AppendsFront}
 use Rattle.xdg_judge.specs.declared.verdict.Verdict.{Verdict}
-use Rattle.xdg_reports.specs.VerdictsText.{behind, item_text, items_text, labels_of, said_text, title_text, verdict_line, verdict_lines}
-use Rattle.xdg_io.proofs.Written.{appends_both, front_of_second}
-use Rattle.xdg_problem.specs.Principles.{name_of}
+use Rattle.xdg_reports.specs.VerdictsText.{behind, item_text, items_text, verdict_line, verdict_lines}
 
 abbrev pub zero_dim : DimId
 zero_dim = record { 0 = 0 }
@@ -37,16 +33,3 @@ lines_from parts own rules groups verdicts i group verdict within is there at =
   where
     from_place : {X : Type 0} (xs : List X) (k : ℕ) (x : X) → k < length xs → x ≡ get_or xs k x → drop k xs ≡ x ∷ drop (k + 1) xs
     from_place xs k x h e = rw (add-one) (drop-cons xs k x h ∙ ap (λ z. z ∷ drop (suc k) xs) (sym e))
-
-module _ (parts : Parts) (own : ℕ) (rules : List Rule) (place : ℕ) (group : Group) (verdict : Verdict) {a b c d e f : Option (List ℕ)} where
-  -- all pieces of a line were added
-  pub line_all : Appends a b (decimal (place + 1)) → Appends b c (behind (name_of group.principle)) → Appends c d (title_text parts own rules place group) → Appends d e (said_text (labels_of parts group) verdict) → Appends e f (codes "\n")
-      → Appends a f (verdict_line parts own rules place group verdict)
-  unfolding verdict_line
-  line_all one two three four five = appends_both one (appends_both two (appends_both three (appends_both four five)))
-
-  -- and of the last piece a proper front
-  pub line_front : Appends a b (decimal (place + 1)) → Appends b c (behind (name_of group.principle)) → Appends c d (title_text parts own rules place group) → Appends d e (said_text (labels_of parts group) verdict) → AppendsFront e f (codes "\n")
-      → AppendsFront a f (verdict_line parts own rules place group verdict)
-  unfolding verdict_line
-  line_front one two three four five = front_of_second one (front_of_second two (front_of_second three (front_of_second four five)))

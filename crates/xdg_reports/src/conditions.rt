@@ -1,8 +1,7 @@
 //! Conditions and their tuples as they are written.
 
-ghost use Rattle.std.specs.Prelude.{◌≡◌, ◌≤◌, ℕ, List, Option, OnOk, OnErr};
-ghost use Rattle.xdg_io.specs.Held.{Appends, AppendsFront};
-ghost use Rattle.xdg_io.specs.Rose.{Rose};
+ghost use Rattle.std.specs.Prelude.{◌≡◌};
+ghost use Rattle.xdg_io.specs.Texts.{WritesText};
 ghost use Rattle.xdg_reports.specs.VerdictsText as spec;
 
 use crate::words::{write_constant_behind, write_number, write_word};
@@ -87,11 +86,8 @@ fn write_item<K: Sink>(
     number: u8,
     sink: &mut K,
 ) -> Result<(), Failed>
-    ensures all { OnOk result (Appends (K.held sink.old) (K.held sink.new) (spec.behind (spec.item_text labels.now condition place number))) }
-    ensures front { OnErr result (AppendsFront (K.held sink.old) (K.held sink.new) (spec.behind (spec.item_text labels.now condition place number))) }
-    ensures cause { OnErr result (Rose (K.faults sink.old) (K.faults sink.new)) }
-    ensures lasting { K.faults sink.old ≤ K.faults sink.new }
-    ensures quiet { OnOk result (K.faults sink.new ≡ K.faults sink.old) }
+    ensures { WritesText result (K.held sink.old) (K.held sink.new) (K.faults sink.old) (K.faults sink.new)
+        (spec.behind (spec.item_text labels.now condition place number)) }
 {
     if counts(condition) {
         return write_number(u64::from(number), sink);
@@ -103,18 +99,15 @@ fn write_item<K: Sink>(
 }
 
 /// Writes the items of a condition's tuple.
-#[tactic(auto, using(xdg_text::proofs::Pieces::write_steps))]
+#[tactic(auto, using(xdg_io::proofs::Parts::start))]
 fn write_items<K: Sink>(
     labels: &[Text],
     condition: Condition,
     numbers: &[u8],
     sink: &mut K,
 ) -> Result<(), Failed>
-    ensures all { OnOk result (Appends (K.held sink.old) (K.held sink.new) (spec.items_text labels.now condition 0 numbers.now)) }
-    ensures front { OnErr result (AppendsFront (K.held sink.old) (K.held sink.new) (spec.items_text labels.now condition 0 numbers.now)) }
-    ensures cause { OnErr result (Rose (K.faults sink.old) (K.faults sink.new)) }
-    ensures lasting { K.faults sink.old ≤ K.faults sink.new }
-    ensures quiet { OnOk result (K.faults sink.new ≡ K.faults sink.old) }
+    ensures { WritesText result (K.held sink.old) (K.held sink.new) (K.faults sink.old) (K.faults sink.new)
+        (spec.items_text labels.now condition 0 numbers.now) }
 {
     for (place, number) in numbers.iter().enumerate() {
         write_item(labels, condition, place, *number, sink)?;
@@ -123,18 +116,15 @@ fn write_items<K: Sink>(
 }
 
 /// Writes a condition with its tuple, and nothing of a rule or a bound.
-#[tactic(auto, using(xdg_text::proofs::Pieces::write_steps))]
+#[tactic(auto, using(xdg_io::proofs::Parts::writes_nothing))]
 pub(crate) fn write_condition<K: Sink>(
     labels: &[Text],
     condition: Condition,
     numbers: &[u8],
     sink: &mut K,
 ) -> Result<(), Failed>
-    ensures all { OnOk result (Appends (K.held sink.old) (K.held sink.new) (spec.condition_text labels.now condition numbers.now)) }
-    ensures front { OnErr result (AppendsFront (K.held sink.old) (K.held sink.new) (spec.condition_text labels.now condition numbers.now)) }
-    ensures cause { OnErr result (Rose (K.faults sink.old) (K.faults sink.new)) }
-    ensures lasting { K.faults sink.old ≤ K.faults sink.new }
-    ensures quiet { OnOk result (K.faults sink.new ≡ K.faults sink.old) }
+    ensures { WritesText result (K.held sink.old) (K.held sink.new) (K.faults sink.old) (K.faults sink.new)
+        (spec.condition_text labels.now condition numbers.now) }
 {
     if !is_told(condition) {
         return Ok(());

@@ -1,9 +1,8 @@
 //! The lines of verdicts.
 
-ghost use Rattle.std.specs.Prelude.{◌≡◌, ◌≤◌, ◌<◌, ◌+◌, ◌-◌, ◌^◌, ℕ, List, Option, length, slice_get, OnOk, OnErr};
+ghost use Rattle.std.specs.Prelude.{◌≡◌, ◌≤◌, ◌<◌, ◌+◌, ◌-◌, ◌^◌, length, slice_get};
 ghost use Rattle.std.specs.List.{flat_map};
-ghost use Rattle.xdg_io.specs.Held.{Appends, AppendsFront};
-ghost use Rattle.xdg_io.specs.Rose.{Rose};
+ghost use Rattle.xdg_io.specs.Texts.{WritesText};
 ghost use Rattle.xdg_problem.specs.declared.analysis.Analysis.{Analysis};
 ghost use Rattle.xdg_judge.specs.Verdicts.{AreVerdicts, tuple_of};
 ghost use Rattle.xdg_reports.specs.OneText.{IsOneText};
@@ -49,13 +48,9 @@ fn labels_at(parts: &Parts, dim: u8) -> &[Text]
 }
 
 /// Writes the names of the dimensions of a principle use.
-#[tactic(auto, using(xdg_text::proofs::Pieces::write_steps))]
+#[tactic(auto, using(xdg_io::proofs::Parts::loop_steps))]
 fn write_dims<K: Sink>(parts: &Parts, dims: &[DimId], sink: &mut K) -> Result<(), Failed>
-    ensures all { OnOk result (Appends (K.held sink.old) (K.held sink.new) (flat_map (spec.dim_text parts.now) dims.now)) }
-    ensures front { OnErr result (AppendsFront (K.held sink.old) (K.held sink.new) (flat_map (spec.dim_text parts.now) dims.now)) }
-    ensures cause { OnErr result (Rose (K.faults sink.old) (K.faults sink.new)) }
-    ensures lasting { K.faults sink.old ≤ K.faults sink.new }
-    ensures quiet { OnOk result (K.faults sink.new ≡ K.faults sink.old) }
+    ensures { WritesText result (K.held sink.old) (K.held sink.new) (K.faults sink.old) (K.faults sink.new) (flat_map (spec.dim_text parts.now) dims.now) }
 {
     for dim in dims {
         write_constant_behind(dim_name(parts, *dim), sink)?;
@@ -76,17 +71,12 @@ fn numbers_of(tuple: &Tuple4) -> &[u8]
 }
 
 /// Writes `kept`, or `broken` with the condition and its tuple.
-#[tactic(auto, using(xdg_text::proofs::Pieces::write_steps))]
 pub(crate) fn write_said<K: Sink>(
     labels: &[Text],
     verdict: &Verdict,
     sink: &mut K,
 ) -> Result<(), Failed>
-    ensures all { OnOk result (Appends (K.held sink.old) (K.held sink.new) (spec.said_text labels.now verdict.now)) }
-    ensures front { OnErr result (AppendsFront (K.held sink.old) (K.held sink.new) (spec.said_text labels.now verdict.now)) }
-    ensures cause { OnErr result (Rose (K.faults sink.old) (K.faults sink.new)) }
-    ensures lasting { K.faults sink.old ≤ K.faults sink.new }
-    ensures quiet { OnOk result (K.faults sink.new ≡ K.faults sink.old) }
+    ensures { WritesText result (K.held sink.old) (K.held sink.new) (K.faults sink.old) (K.faults sink.new) (spec.said_text labels.now verdict.now) }
 {
     match verdict {
         Verdict::Kept => write_word("kept", sink),
@@ -117,11 +107,8 @@ fn write_title<K: Sink>(
     group: &Group,
     sink: &mut K,
 ) -> Result<(), Failed>
-    ensures all { OnOk result (Appends (K.held sink.old) (K.held sink.new) (spec.title_text parts.now own rules.now place group.now)) }
-    ensures front { OnErr result (AppendsFront (K.held sink.old) (K.held sink.new) (spec.title_text parts.now own rules.now place group.now)) }
-    ensures cause { OnErr result (Rose (K.faults sink.old) (K.faults sink.new)) }
-    ensures lasting { K.faults sink.old ≤ K.faults sink.new }
-    ensures quiet { OnOk result (K.faults sink.new ≡ K.faults sink.old) }
+    ensures { WritesText result (K.held sink.old) (K.held sink.new) (K.faults sink.old) (K.faults sink.new)
+        (spec.title_text parts.now own rules.now place group.now) }
 {
     if place < own {
         return write_dims(parts, group.dims.as_slice(), sink);
@@ -140,11 +127,8 @@ fn write_verdict<K: Sink>(
     sink: &mut K,
 ) -> Result<(), Failed>
     requires { place + 1 < 2 ^ 64 }
-    ensures all { OnOk result (Appends (K.held sink.old) (K.held sink.new) (spec.verdict_line parts.now own rules.now place group.now verdict.now)) }
-    ensures front { OnErr result (AppendsFront (K.held sink.old) (K.held sink.new) (spec.verdict_line parts.now own rules.now place group.now verdict.now)) }
-    ensures cause { OnErr result (Rose (K.faults sink.old) (K.faults sink.new)) }
-    ensures lasting { K.faults sink.old ≤ K.faults sink.new }
-    ensures quiet { OnOk result (K.faults sink.new ≡ K.faults sink.old) }
+    ensures { WritesText result (K.held sink.old) (K.held sink.new) (K.faults sink.old) (K.faults sink.new)
+        (spec.verdict_line parts.now own rules.now place group.now verdict.now) }
 {
     write_first(place as u64 + 1, sink)?;
     write_word(principle_name(&group.principle), sink)?;
@@ -154,7 +138,7 @@ fn write_verdict<K: Sink>(
 }
 
 /// Writes the lines of uses with their verdicts, numbered from 1, the last of which are these rules.
-#[tactic(auto, using(xdg_text::proofs::Pieces::write_steps))]
+#[tactic(auto, using(xdg_io::proofs::Parts::start))]
 fn write_verdict_lines<K: Sink>(
     parts: &Parts,
     own: usize,
@@ -164,11 +148,8 @@ fn write_verdict_lines<K: Sink>(
     sink: &mut K,
 ) -> Result<(), Failed>
     requires { length groups.now ≡ length verdicts.now }
-    ensures all { OnOk result (Appends (K.held sink.old) (K.held sink.new) (spec.verdict_lines parts.now own rules.now 0 groups.now verdicts.now)) }
-    ensures front { OnErr result (AppendsFront (K.held sink.old) (K.held sink.new) (spec.verdict_lines parts.now own rules.now 0 groups.now verdicts.now)) }
-    ensures cause { OnErr result (Rose (K.faults sink.old) (K.faults sink.new)) }
-    ensures lasting { K.faults sink.old ≤ K.faults sink.new }
-    ensures quiet { OnOk result (K.faults sink.new ≡ K.faults sink.old) }
+    ensures { WritesText result (K.held sink.old) (K.held sink.new) (K.faults sink.old) (K.faults sink.new)
+        (spec.verdict_lines parts.now own rules.now 0 groups.now verdicts.now) }
 {
     for (place, group) in groups.iter().enumerate() {
         write_verdict(parts, own, rules, place, group, &verdicts[place], sink)?;
@@ -191,11 +172,7 @@ fn are_kept(verdicts: &[Verdict]) -> bool
 
 /// Writes the last line.
 pub(crate) fn write_last<K: Sink>(kept: bool, sink: &mut K) -> Result<(), Failed>
-    ensures all { OnOk result (Appends (K.held sink.old) (K.held sink.new) (spec.solution_line kept)) }
-    ensures front { OnErr result (AppendsFront (K.held sink.old) (K.held sink.new) (spec.solution_line kept)) }
-    ensures cause { OnErr result (Rose (K.faults sink.old) (K.faults sink.new)) }
-    ensures lasting { K.faults sink.old ≤ K.faults sink.new }
-    ensures quiet { OnOk result (K.faults sink.new ≡ K.faults sink.old) }
+    ensures { WritesText result (K.held sink.old) (K.held sink.new) (K.faults sink.old) (K.faults sink.new) (spec.solution_line kept) }
 {
     if kept {
         return write_line("solution", &[], sink);
@@ -221,11 +198,8 @@ pub fn write_verdicts<K: Sink>(
 ) -> Result<(), Failed>
     requires rules { length rules.now ≤ length problem.now.groups }
     requires verdicts { (analysis : Analysis) × AreVerdicts problem.now analysis problem.now.groups verdicts.now }
-    ensures all { OnOk result (Appends (K.held sink.old) (K.held sink.new) (spec.verdicts_text problem.now rules.now verdicts.now)) }
-    ensures front { OnErr result (AppendsFront (K.held sink.old) (K.held sink.new) (spec.verdicts_text problem.now rules.now verdicts.now)) }
-    ensures cause { OnErr result (Rose (K.faults sink.old) (K.faults sink.new)) }
-    ensures lasting { K.faults sink.old ≤ K.faults sink.new }
-    ensures quiet { OnOk result (K.faults sink.new ≡ K.faults sink.old) }
+    ensures written { WritesText result (K.held sink.old) (K.held sink.new) (K.faults sink.old) (K.faults sink.new)
+        (spec.verdicts_text problem.now rules.now verdicts.now) }
     ensures one { IsOneText problem.now rules.now }
 {
     let _parts = problem.parts();
@@ -249,11 +223,8 @@ fn write_all_verdicts<K: Sink>(
 ) -> Result<(), Failed>
     requires rules { length rules.now ≤ length problem.now.groups }
     requires verdicts { (analysis : Analysis) × AreVerdicts problem.now analysis problem.now.groups verdicts.now }
-    ensures all { OnOk result (Appends (K.held sink.old) (K.held sink.new) (spec.verdicts_text problem.now rules.now verdicts.now)) }
-    ensures front { OnErr result (AppendsFront (K.held sink.old) (K.held sink.new) (spec.verdicts_text problem.now rules.now verdicts.now)) }
-    ensures cause { OnErr result (Rose (K.faults sink.old) (K.faults sink.new)) }
-    ensures lasting { K.faults sink.old ≤ K.faults sink.new }
-    ensures quiet { OnOk result (K.faults sink.new ≡ K.faults sink.old) }
+    ensures { WritesText result (K.held sink.old) (K.held sink.new) (K.faults sink.old) (K.faults sink.new)
+        (spec.verdicts_text problem.now rules.now verdicts.now) }
 {
     let parts = problem.parts();
     let own = own_count(parts, rules);

@@ -1,12 +1,12 @@
 //! Searching by branches, and printing what is found.
 
-ghost use Rattle.std.specs.Prelude.{◌≡◌, ◌≢◌, ◌≤◌, ◌++◌, All, length, OnErr, OnOk};
+ghost use Rattle.std.specs.Prelude.{◌≡◌, ◌≢◌, ◌≤◌, ◌++◌, All, length};
 ghost use Rattle.xdg_split.specs.Printed.{blocks, last_line};
 ghost use Rattle.xdg_searches.specs.Branched.{CanBranch};
 ghost use Rattle.xdg_searches.specs.Laws.{BranchedLaws};
 ghost use Rattle.xdg_searches.specs.Written.{WritesBranches};
-ghost use Rattle.xdg_io.specs.Held.{Appends, AppendsFront};
 ghost use Rattle.xdg_io.specs.Rose.{Rose};
+ghost use Rattle.xdg_io.specs.Texts.{WritesText};
 ghost use Rattle.xdg_problem.specs.Analyses.{IsAnalysis};
 
 use crate::searching::search;
@@ -50,7 +50,6 @@ pub fn print_branches<R: Threads + Sync, K: Sink>(
 }
 
 /// Prints analyses of a sentence, numbered from 1, and the last line behind them.
-#[tactic(auto, using(xdg_io::proofs::Written::appends_both, xdg_text::proofs::Pieces::rose_later))]
 fn print_found<K: Sink>(
     form: Form,
     problem: &Problem,
@@ -59,19 +58,15 @@ fn print_found<K: Sink>(
     sink: &mut K,
 ) -> Result<(), Failed>
     requires { All (IsAnalysis problem.now) found.now }
-    ensures all { OnOk result (Appends (K.held sink.old) (K.held sink.new) (blocks form problem.now 1 found.now ++ last_line ending (length found.now))) }
-    ensures front { OnErr result
-        (AppendsFront (K.held sink.old) (K.held sink.new) (blocks form problem.now 1 found.now ++ last_line ending (length found.now))) }
-    ensures cause { OnErr result (Rose (K.faults sink.old) (K.faults sink.new)) }
-    ensures lasting { K.faults sink.old ≤ K.faults sink.new }
-    ensures quiet { OnOk result (K.faults sink.new ≡ K.faults sink.old) }
+    ensures { WritesText result (K.held sink.old) (K.held sink.new) (K.faults sink.old) (K.faults sink.new)
+        (blocks form problem.now 1 found.now ++ last_line ending (length found.now)) }
 {
     write_blocks(form, problem, found, sink)?;
     write_last(ending, found.len() as u64, sink)
 }
 
 /// Writes analyses of a sentence, numbered from 1.
-#[tactic(auto, using(xdg_text::proofs::Pieces::start, xdg_io::proofs::Written::written_all, xdg_text::proofs::Pieces::rose_later))]
+#[tactic(auto, using(xdg_io::proofs::Parts::start))]
 fn write_blocks<K: Sink>(
     form: Form,
     problem: &Problem,
@@ -79,11 +74,7 @@ fn write_blocks<K: Sink>(
     sink: &mut K,
 ) -> Result<(), Failed>
     requires { All (IsAnalysis problem.now) found.now }
-    ensures all { OnOk result (Appends (K.held sink.old) (K.held sink.new) (blocks form problem.now 1 found.now)) }
-    ensures front { OnErr result (AppendsFront (K.held sink.old) (K.held sink.new) (blocks form problem.now 1 found.now)) }
-    ensures cause { OnErr result (Rose (K.faults sink.old) (K.faults sink.new)) }
-    ensures lasting { K.faults sink.old ≤ K.faults sink.new }
-    ensures quiet { OnOk result (K.faults sink.new ≡ K.faults sink.old) }
+    ensures { WritesText result (K.held sink.old) (K.held sink.new) (K.faults sink.old) (K.faults sink.new) (blocks form problem.now 1 found.now) }
 {
     for (place, analysis) in found.iter().enumerate() {
         write_analysis(form, problem, place as u64 + 1, analysis, sink)?;
@@ -93,11 +84,7 @@ fn write_blocks<K: Sink>(
 
 /// Writes the last line behind so many analyses.
 fn write_last<K: Sink>(ending: Ending, count: u64, sink: &mut K) -> Result<(), Failed>
-    ensures all { OnOk result (Appends (K.held sink.old) (K.held sink.new) (last_line ending count)) }
-    ensures front { OnErr result (AppendsFront (K.held sink.old) (K.held sink.new) (last_line ending count)) }
-    ensures cause { OnErr result (Rose (K.faults sink.old) (K.faults sink.new)) }
-    ensures lasting { K.faults sink.old ≤ K.faults sink.new }
-    ensures quiet { OnOk result (K.faults sink.new ≡ K.faults sink.old) }
+    ensures { WritesText result (K.held sink.old) (K.held sink.new) (K.faults sink.old) (K.faults sink.new) (last_line ending count) }
 {
     match ending {
         Ending::Complete => write_complete(count, sink),

@@ -1,10 +1,10 @@
 //! The command `drill`.
 
-ghost use Rattle.std.specs.Prelude.{◌≡◌, ◌≢◌, ◌≤◌, ◌⊎◌, length, OnErr, OnOk};
+ghost use Rattle.std.specs.Prelude.{◌≡◌, ◌≢◌, ◌≤◌, ◌⊎◌, length};
 ghost use Rattle.xdg_packed.specs.Entries.{IsRightLexicon};
 ghost use Rattle.xdg_inputs.specs.Answers.{meaning_of};
-ghost use Rattle.xdg_io.specs.Held.{Appends, AppendsFront};
 ghost use Rattle.xdg_io.specs.Rose.{Rose};
+ghost use Rattle.xdg_io.specs.Texts.{WritesText};
 ghost use Rattle.xdg_inputs.specs.Outcomes.{MeaningThen};
 ghost use Rattle.xdg_inputs.specs.Runs.{Leaves, Wrote};
 ghost use Rattle.xdg_searches.specs.Outcomes.{DrillOf, DrillSentence, Drilled, drill_line};
@@ -36,11 +36,7 @@ fn write_counts<K: Sink>(
     counts: Counts,
     out: &mut K,
 ) -> Result<(), Failed>
-    ensures all { OnOk result (Appends (K.held out.old) (K.held out.new) (drill_line number words entries counts)) }
-    ensures front { OnErr result (AppendsFront (K.held out.old) (K.held out.new) (drill_line number words entries counts)) }
-    ensures cause { OnErr result (Rose (K.faults out.old) (K.faults out.new)) }
-    ensures lasting { K.faults out.old ≤ K.faults out.new }
-    ensures quiet { OnOk result (K.faults out.new ≡ K.faults out.old) }
+    ensures { WritesText result (K.held out.old) (K.held out.new) (K.faults out.old) (K.faults out.new) (drill_line number words entries counts) }
 {
     let line = [
         Word::Number(number),

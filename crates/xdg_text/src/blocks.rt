@@ -1,12 +1,11 @@
 //! The blocks of analyses.
 
-ghost use Rattle.std.specs.Prelude.{◌≡◌, ◌<◌, ◌≤◌, ℕ, List, Option, length, All, OnOk, OnErr};
-ghost use Rattle.xdg_io.specs.Held.{Appends, AppendsFront};
-ghost use Rattle.xdg_io.specs.Rose.{Rose};
+ghost use Rattle.std.specs.Prelude.{◌≡◌, ◌<◌, ◌≤◌, length, All};
+ghost use Rattle.xdg_io.specs.Texts.{WritesText};
 ghost use Rattle.xdg_problem.specs.Analyses.{IsAnalysis};
 ghost use Rattle.xdg_text.specs.Blocks.{word_lines, value_at, node_lines, dim_lines, attr_lines, line_of_edge, edge_lines, body_lines};
 ghost use Rattle.xdg_text.specs.Blocks.{head_lines, block, block2, shown};
-ghost use Rattle.xdg_text.specs.Lines.{counts_line, word_line, attr_line, end_line};
+ghost use Rattle.xdg_text.specs.Lines.{counts_line, word_line, attr_line};
 ghost use Rattle.xdg_text.specs.Ranges.{HasValues, NodesHaveValues, DimsHaveValues, HasNames};
 
 use crate::form::Form;
@@ -23,11 +22,7 @@ fn write_word_line<K: Sink>(
     sink: &mut K,
 ) -> Result<(), Failed>
     requires { node < 128 }
-    ensures all { OnOk result (Appends (K.held sink.old) (K.held sink.new) (word_line node word.now.text entry.0)) }
-    ensures front { OnErr result (AppendsFront (K.held sink.old) (K.held sink.new) (word_line node word.now.text entry.0)) }
-    ensures cause { OnErr result (Rose (K.faults sink.old) (K.faults sink.new)) }
-    ensures lasting { K.faults sink.old ≤ K.faults sink.new }
-    ensures quiet { OnOk result (K.faults sink.new ≡ K.faults sink.old) }
+    ensures { WritesText result (K.held sink.old) (K.held sink.new) (K.faults sink.old) (K.faults sink.new) (word_line node word.now.text entry.0) }
 {
     let words = [
         Word::Number(node as u64 + 1),
@@ -38,7 +33,7 @@ fn write_word_line<K: Sink>(
 }
 
 /// Writes the lines of all nodes.
-#[tactic(auto, using(crate::proofs::Pieces::write_steps))]
+#[tactic(auto, using(xdg_io::proofs::Parts::loop_steps))]
 fn write_word_lines<K: Sink>(
     words: &[SentenceWord],
     entries: &[EntryNo],
@@ -46,11 +41,7 @@ fn write_word_lines<K: Sink>(
 ) -> Result<(), Failed>
     requires most { length words.now ≤ 128 }
     requires each { length entries.now ≡ length words.now }
-    ensures all { OnOk result (Appends (K.held sink.old) (K.held sink.new) (word_lines 0 words.now entries.now)) }
-    ensures front { OnErr result (AppendsFront (K.held sink.old) (K.held sink.new) (word_lines 0 words.now entries.now)) }
-    ensures cause { OnErr result (Rose (K.faults sink.old) (K.faults sink.new)) }
-    ensures lasting { K.faults sink.old ≤ K.faults sink.new }
-    ensures quiet { OnOk result (K.faults sink.new ≡ K.faults sink.old) }
+    ensures { WritesText result (K.held sink.old) (K.held sink.new) (K.faults sink.old) (K.faults sink.new) (word_lines 0 words.now entries.now) }
 {
     for (node, word) in words.iter().enumerate() {
         write_word_line(node, word, entries[node], sink)?;
@@ -68,11 +59,8 @@ fn write_attr_line<'a, K: Sink>(
 ) -> Result<(), Failed>
     requires small { node < 128 }
     requires within { value < length attr.now.values }
-    ensures all { OnOk result (Appends (K.held sink.old) (K.held sink.new) (attr_line dim.now node attr.now.name (value_at attr.now value))) }
-    ensures front { OnErr result (AppendsFront (K.held sink.old) (K.held sink.new) (attr_line dim.now node attr.now.name (value_at attr.now value))) }
-    ensures cause { OnErr result (Rose (K.faults sink.old) (K.faults sink.new)) }
-    ensures lasting { K.faults sink.old ≤ K.faults sink.new }
-    ensures quiet { OnOk result (K.faults sink.new ≡ K.faults sink.old) }
+    ensures { WritesText result (K.held sink.old) (K.held sink.new) (K.faults sink.old) (K.faults sink.new)
+        (attr_line dim.now node attr.now.name (value_at attr.now value)) }
 {
     let words = [
         Word::Constant(dim.as_str()),
@@ -84,7 +72,7 @@ fn write_attr_line<'a, K: Sink>(
 }
 
 /// Writes the lines of a node's attributes, whose values come first in the list.
-#[tactic(auto, using(crate::proofs::Pieces::write_steps))]
+#[tactic(auto, using(xdg_io::proofs::Parts::loop_steps))]
 fn write_node_lines<K: Sink>(
     dim: &Text,
     node: usize,
@@ -94,11 +82,7 @@ fn write_node_lines<K: Sink>(
 ) -> Result<(), Failed>
     requires small { node < 128 }
     requires within { HasValues attrs.now values.now }
-    ensures all { OnOk result (Appends (K.held sink.old) (K.held sink.new) (node_lines dim.now node attrs.now values.now)) }
-    ensures front { OnErr result (AppendsFront (K.held sink.old) (K.held sink.new) (node_lines dim.now node attrs.now values.now)) }
-    ensures cause { OnErr result (Rose (K.faults sink.old) (K.faults sink.new)) }
-    ensures lasting { K.faults sink.old ≤ K.faults sink.new }
-    ensures quiet { OnOk result (K.faults sink.new ≡ K.faults sink.old) }
+    ensures { WritesText result (K.held sink.old) (K.held sink.new) (K.faults sink.old) (K.faults sink.new) (node_lines dim.now node attrs.now values.now) }
 {
     for (at, attr) in attrs.iter().enumerate() {
         write_attr_line(dim, node, attr, values[at], sink)?;
@@ -107,7 +91,7 @@ fn write_node_lines<K: Sink>(
 }
 
 /// Writes the lines of the attributes of a dimension, node by node.
-#[tactic(auto, using(crate::proofs::Pieces::write_steps))]
+#[tactic(auto, using(xdg_io::proofs::Parts::loop_steps))]
 fn write_dim_lines<K: Sink>(
     dim: &DimPlan,
     nodes: usize,
@@ -116,11 +100,7 @@ fn write_dim_lines<K: Sink>(
 ) -> Result<(), Failed>
     requires most { nodes ≤ 128 }
     requires within { NodesHaveValues dim.now.attrs nodes values.now }
-    ensures all { OnOk result (Appends (K.held sink.old) (K.held sink.new) (dim_lines dim.now 0 nodes values.now)) }
-    ensures front { OnErr result (AppendsFront (K.held sink.old) (K.held sink.new) (dim_lines dim.now 0 nodes values.now)) }
-    ensures cause { OnErr result (Rose (K.faults sink.old) (K.faults sink.new)) }
-    ensures lasting { K.faults sink.old ≤ K.faults sink.new }
-    ensures quiet { OnOk result (K.faults sink.new ≡ K.faults sink.old) }
+    ensures { WritesText result (K.held sink.old) (K.held sink.new) (K.faults sink.old) (K.faults sink.new) (dim_lines dim.now 0 nodes values.now) }
 {
     let attrs = dim.attrs.as_slice();
     let mut rest = values;
@@ -133,7 +113,7 @@ fn write_dim_lines<K: Sink>(
 }
 
 /// Writes the lines of all attributes, dimension by dimension.
-#[tactic(auto, using(crate::proofs::Pieces::write_steps))]
+#[tactic(auto, using(xdg_io::proofs::Parts::loop_steps))]
 fn write_attr_lines<K: Sink>(
     dims: &[DimPlan],
     nodes: usize,
@@ -143,11 +123,7 @@ fn write_attr_lines<K: Sink>(
     requires most { nodes ≤ 128 }
     requires few { All (λ plan. length plan.attrs ≤ 8) dims.now }
     requires within { DimsHaveValues nodes dims.now values.now }
-    ensures all { OnOk result (Appends (K.held sink.old) (K.held sink.new) (attr_lines nodes dims.now values.now)) }
-    ensures front { OnErr result (AppendsFront (K.held sink.old) (K.held sink.new) (attr_lines nodes dims.now values.now)) }
-    ensures cause { OnErr result (Rose (K.faults sink.old) (K.faults sink.new)) }
-    ensures lasting { K.faults sink.old ≤ K.faults sink.new }
-    ensures quiet { OnOk result (K.faults sink.new ≡ K.faults sink.old) }
+    ensures { WritesText result (K.held sink.old) (K.held sink.new) (K.faults sink.old) (K.faults sink.new) (attr_lines nodes dims.now values.now) }
 {
     let mut rest = values;
     for dim in dims {
@@ -161,11 +137,7 @@ fn write_attr_lines<K: Sink>(
 /// Writes the line of an edge.
 fn write_edge_line<K: Sink>(dims: &[DimPlan], edge: &Edge, sink: &mut K) -> Result<(), Failed>
     requires { HasNames dims.now edge.now }
-    ensures all { OnOk result (Appends (K.held sink.old) (K.held sink.new) (line_of_edge dims.now edge.now)) }
-    ensures front { OnErr result (AppendsFront (K.held sink.old) (K.held sink.new) (line_of_edge dims.now edge.now)) }
-    ensures cause { OnErr result (Rose (K.faults sink.old) (K.faults sink.new)) }
-    ensures lasting { K.faults sink.old ≤ K.faults sink.new }
-    ensures quiet { OnOk result (K.faults sink.new ≡ K.faults sink.old) }
+    ensures { WritesText result (K.held sink.old) (K.held sink.new) (K.faults sink.old) (K.faults sink.new) (line_of_edge dims.now edge.now) }
 {
     let dim = &dims[edge.dim.0 as usize];
     let label = &dim.labels.as_slice()[edge.label.0 as usize];
@@ -179,14 +151,10 @@ fn write_edge_line<K: Sink>(dims: &[DimPlan], edge: &Edge, sink: &mut K) -> Resu
 }
 
 /// Writes the lines of edges in their order.
-#[tactic(auto, using(crate::proofs::Pieces::write_steps))]
+#[tactic(auto, using(xdg_io::proofs::Parts::loop_steps))]
 fn write_edge_lines<K: Sink>(dims: &[DimPlan], edges: &[Edge], sink: &mut K) -> Result<(), Failed>
     requires { All (HasNames dims.now) edges.now }
-    ensures all { OnOk result (Appends (K.held sink.old) (K.held sink.new) (edge_lines dims.now edges.now)) }
-    ensures front { OnErr result (AppendsFront (K.held sink.old) (K.held sink.new) (edge_lines dims.now edges.now)) }
-    ensures cause { OnErr result (Rose (K.faults sink.old) (K.faults sink.new)) }
-    ensures lasting { K.faults sink.old ≤ K.faults sink.new }
-    ensures quiet { OnOk result (K.faults sink.new ≡ K.faults sink.old) }
+    ensures { WritesText result (K.held sink.old) (K.held sink.new) (K.faults sink.old) (K.faults sink.new) (edge_lines dims.now edges.now) }
 {
     for edge in edges {
         write_edge_line(dims, edge, sink)?;
@@ -195,7 +163,6 @@ fn write_edge_lines<K: Sink>(dims: &[DimPlan], edges: &[Edge], sink: &mut K) -> 
 }
 
 /// Writes the lines of the words, of the attributes and of the edges, and the last line.
-#[tactic(auto, using(xdg_io::proofs::Written::appends_both, crate::proofs::Pieces::rose_later))]
 fn write_body<K: Sink>(
     words: &[SentenceWord],
     dims: &[DimPlan],
@@ -209,11 +176,8 @@ fn write_body<K: Sink>(
     requires entries { length entries.now ≡ length words.now }
     requires attrs { DimsHaveValues (length words.now) dims.now attrs.now }
     requires edges { All (HasNames dims.now) edges.now }
-    ensures all { OnOk result (Appends (K.held sink.old) (K.held sink.new) (body_lines words.now dims.now entries.now attrs.now edges.now)) }
-    ensures front { OnErr result (AppendsFront (K.held sink.old) (K.held sink.new) (body_lines words.now dims.now entries.now attrs.now edges.now)) }
-    ensures cause { OnErr result (Rose (K.faults sink.old) (K.faults sink.new)) }
-    ensures lasting { K.faults sink.old ≤ K.faults sink.new }
-    ensures quiet { OnOk result (K.faults sink.new ≡ K.faults sink.old) }
+    ensures { WritesText result (K.held sink.old) (K.held sink.new) (K.faults sink.old) (K.faults sink.new)
+        (body_lines words.now dims.now entries.now attrs.now edges.now) }
 {
     write_word_lines(words, entries, sink)?;
     write_attr_lines(dims, words.len(), attrs, sink)?;
@@ -228,11 +192,7 @@ fn write_counts<K: Sink>(
     edges: usize,
     sink: &mut K,
 ) -> Result<(), Failed>
-    ensures all { OnOk result (Appends (K.held sink.old) (K.held sink.new) (counts_line words attrs edges)) }
-    ensures front { OnErr result (AppendsFront (K.held sink.old) (K.held sink.new) (counts_line words attrs edges)) }
-    ensures cause { OnErr result (Rose (K.faults sink.old) (K.faults sink.new)) }
-    ensures lasting { K.faults sink.old ≤ K.faults sink.new }
-    ensures quiet { OnOk result (K.faults sink.new ≡ K.faults sink.old) }
+    ensures { WritesText result (K.held sink.old) (K.held sink.new) (K.faults sink.old) (K.faults sink.new) (counts_line words attrs edges) }
 {
     let counts = [
         Word::Number(words as u64),
@@ -243,7 +203,6 @@ fn write_counts<K: Sink>(
 }
 
 /// Writes the lines before those of the words.
-#[tactic(auto, using(xdg_io::proofs::Written::appends_both, crate::proofs::Pieces::rose_later))]
 fn write_head<K: Sink>(
     form: Form,
     number: u64,
@@ -252,11 +211,7 @@ fn write_head<K: Sink>(
     edges: usize,
     sink: &mut K,
 ) -> Result<(), Failed>
-    ensures all { OnOk result (Appends (K.held sink.old) (K.held sink.new) (head_lines form number words attrs edges)) }
-    ensures front { OnErr result (AppendsFront (K.held sink.old) (K.held sink.new) (head_lines form number words attrs edges)) }
-    ensures cause { OnErr result (Rose (K.faults sink.old) (K.faults sink.new)) }
-    ensures lasting { K.faults sink.old ≤ K.faults sink.new }
-    ensures quiet { OnOk result (K.faults sink.new ≡ K.faults sink.old) }
+    ensures { WritesText result (K.held sink.old) (K.held sink.new) (K.faults sink.old) (K.faults sink.new) (head_lines form number words attrs edges) }
 {
     let numbers = [Word::Number(number)];
     match form {
@@ -270,7 +225,6 @@ fn write_head<K: Sink>(
 }
 
 /// Writes the analysis that has these entries, attributes and edges, with its number. It takes no memory.
-#[tactic(auto, using(crate::proofs::Pieces::rose_later))]
 pub fn write_parts<K: Sink>(
     form: Form,
     problem: &Problem,
@@ -281,14 +235,8 @@ pub fn write_parts<K: Sink>(
     sink: &mut K,
 ) -> Result<(), Failed>
     requires { IsAnalysis problem.now (record { entries = entries.now; attrs = attrs.now; edges = edges.now }) }
-    ensures all { OnOk result
-        (Appends (K.held sink.old) (K.held sink.new) (shown form problem.now number (record { entries = entries.now; attrs = attrs.now; edges = edges.now }))) }
-    ensures front { OnErr result
-        (AppendsFront (K.held sink.old) (K.held sink.new)
-        (shown form problem.now number (record { entries = entries.now; attrs = attrs.now; edges = edges.now }))) }
-    ensures cause { OnErr result (Rose (K.faults sink.old) (K.faults sink.new)) }
-    ensures lasting { K.faults sink.old ≤ K.faults sink.new }
-    ensures quiet { OnOk result (K.faults sink.new ≡ K.faults sink.old) }
+    ensures { WritesText result (K.held sink.old) (K.held sink.new) (K.faults sink.old) (K.faults sink.new)
+        (shown form problem.now number (record { entries = entries.now; attrs = attrs.now; edges = edges.now })) }
 {
     let parts = problem.parts();
     let words = parts.words.as_slice();
@@ -306,11 +254,7 @@ pub fn write_analysis<K: Sink>(
     sink: &mut K,
 ) -> Result<(), Failed>
     requires { IsAnalysis problem.now analysis.now }
-    ensures all { OnOk result (Appends (K.held sink.old) (K.held sink.new) (shown form problem.now number analysis.now)) }
-    ensures front { OnErr result (AppendsFront (K.held sink.old) (K.held sink.new) (shown form problem.now number analysis.now)) }
-    ensures cause { OnErr result (Rose (K.faults sink.old) (K.faults sink.new)) }
-    ensures lasting { K.faults sink.old ≤ K.faults sink.new }
-    ensures quiet { OnOk result (K.faults sink.new ≡ K.faults sink.old) }
+    ensures { WritesText result (K.held sink.old) (K.held sink.new) (K.faults sink.old) (K.faults sink.new) (shown form problem.now number analysis.now) }
 {
     write_parts(
         form,
@@ -331,11 +275,7 @@ pub fn write<K: Sink>(
     sink: &mut K,
 ) -> Result<(), Failed>
     requires { IsAnalysis problem.now analysis.now }
-    ensures all { OnOk result (Appends (K.held sink.old) (K.held sink.new) (block problem.now number analysis.now)) }
-    ensures front { OnErr result (AppendsFront (K.held sink.old) (K.held sink.new) (block problem.now number analysis.now)) }
-    ensures cause { OnErr result (Rose (K.faults sink.old) (K.faults sink.new)) }
-    ensures lasting { K.faults sink.old ≤ K.faults sink.new }
-    ensures quiet { OnOk result (K.faults sink.new ≡ K.faults sink.old) }
+    ensures { WritesText result (K.held sink.old) (K.held sink.new) (K.faults sink.old) (K.faults sink.new) (block problem.now number analysis.now) }
 {
     write_analysis(Form::One, problem, number, analysis, sink)
 }
@@ -349,11 +289,7 @@ pub fn write2<K: Sink>(
     sink: &mut K,
 ) -> Result<(), Failed>
     requires { IsAnalysis problem.now analysis.now }
-    ensures all { OnOk result (Appends (K.held sink.old) (K.held sink.new) (block2 problem.now number analysis.now)) }
-    ensures front { OnErr result (AppendsFront (K.held sink.old) (K.held sink.new) (block2 problem.now number analysis.now)) }
-    ensures cause { OnErr result (Rose (K.faults sink.old) (K.faults sink.new)) }
-    ensures lasting { K.faults sink.old ≤ K.faults sink.new }
-    ensures quiet { OnOk result (K.faults sink.new ≡ K.faults sink.old) }
+    ensures { WritesText result (K.held sink.old) (K.held sink.new) (K.faults sink.old) (K.faults sink.new) (block2 problem.now number analysis.now) }
 {
     write_analysis(Form::Two, problem, number, analysis, sink)
 }

@@ -1,9 +1,8 @@
 //! Constants as a grammar text has them: names where they can be, and else quoted texts.
 
-ghost use Rattle.std.specs.Prelude.{◌≡◌, ◌≤◌, ℕ, List, Option, OnOk, OnErr};
+ghost use Rattle.std.specs.Prelude.{◌≡◌};
 ghost use Rattle.std.specs.List.{list_all, list_any, flat_map};
-ghost use Rattle.xdg_io.specs.Held.{Appends, AppendsFront};
-ghost use Rattle.xdg_io.specs.Rose.{Rose};
+ghost use Rattle.xdg_io.specs.Texts.{WritesText};
 ghost use Rattle.xdg_text.specs.Constants.{is_keyword, begins_name, continues_name, is_name, is_escaped, escaped, quoted, constant};
 
 use xdg_io::{Failed, Sink, write_all};
@@ -75,13 +74,8 @@ fn has_escaped(bytes: &[u8]) -> bool
 }
 
 /// Writes a byte as it stands between quotation marks.
-#[tactic(auto, using(crate::proofs::Pieces::byte_steps))]
 fn write_escaped_byte<K: Sink>(byte: u8, sink: &mut K) -> Result<(), Failed>
-    ensures all { OnOk result (Appends (K.held sink.old) (K.held sink.new) (escaped byte)) }
-    ensures front { OnErr result (AppendsFront (K.held sink.old) (K.held sink.new) (escaped byte)) }
-    ensures cause { OnErr result (Rose (K.faults sink.old) (K.faults sink.new)) }
-    ensures lasting { K.faults sink.old ≤ K.faults sink.new }
-    ensures quiet { OnOk result (K.faults sink.new ≡ K.faults sink.old) }
+    ensures { WritesText result (K.held sink.old) (K.held sink.new) (K.faults sink.old) (K.faults sink.new) (escaped byte) }
 {
     if is_escaped(byte) {
         write_all(sink, &[b'\\', byte])
@@ -91,13 +85,9 @@ fn write_escaped_byte<K: Sink>(byte: u8, sink: &mut K) -> Result<(), Failed>
 }
 
 /// Writes bytes as they stand between quotation marks, one by one.
-#[tactic(auto, using(crate::proofs::Pieces::each_steps))]
+#[tactic(auto, using(xdg_io::proofs::Parts::loop_steps))]
 fn write_escaped_bytes<K: Sink>(bytes: &[u8], sink: &mut K) -> Result<(), Failed>
-    ensures all { OnOk result (Appends (K.held sink.old) (K.held sink.new) (flat_map escaped bytes.now)) }
-    ensures front { OnErr result (AppendsFront (K.held sink.old) (K.held sink.new) (flat_map escaped bytes.now)) }
-    ensures cause { OnErr result (Rose (K.faults sink.old) (K.faults sink.new)) }
-    ensures lasting { K.faults sink.old ≤ K.faults sink.new }
-    ensures quiet { OnOk result (K.faults sink.new ≡ K.faults sink.old) }
+    ensures { WritesText result (K.held sink.old) (K.held sink.new) (K.faults sink.old) (K.faults sink.new) (flat_map escaped bytes.now) }
 {
     for byte in bytes {
         write_escaped_byte(*byte, sink)?;
@@ -107,11 +97,7 @@ fn write_escaped_bytes<K: Sink>(bytes: &[u8], sink: &mut K) -> Result<(), Failed
 
 /// Writes a text as it stands between quotation marks, at once where nothing in it is escaped.
 fn write_escaped<K: Sink>(text: &str, sink: &mut K) -> Result<(), Failed>
-    ensures all { OnOk result (Appends (K.held sink.old) (K.held sink.new) (flat_map escaped text.now)) }
-    ensures front { OnErr result (AppendsFront (K.held sink.old) (K.held sink.new) (flat_map escaped text.now)) }
-    ensures cause { OnErr result (Rose (K.faults sink.old) (K.faults sink.new)) }
-    ensures lasting { K.faults sink.old ≤ K.faults sink.new }
-    ensures quiet { OnOk result (K.faults sink.new ≡ K.faults sink.old) }
+    ensures { WritesText result (K.held sink.old) (K.held sink.new) (K.faults sink.old) (K.faults sink.new) (flat_map escaped text.now) }
 {
     let bytes = text.as_bytes();
     if has_escaped(bytes) {
@@ -122,13 +108,8 @@ fn write_escaped<K: Sink>(text: &str, sink: &mut K) -> Result<(), Failed>
 }
 
 /// Writes a text between quotation marks.
-#[tactic(auto, using(crate::proofs::Pieces::byte_steps))]
 pub(crate) fn write_quoted<K: Sink>(text: &str, sink: &mut K) -> Result<(), Failed>
-    ensures all { OnOk result (Appends (K.held sink.old) (K.held sink.new) (quoted text.now)) }
-    ensures front { OnErr result (AppendsFront (K.held sink.old) (K.held sink.new) (quoted text.now)) }
-    ensures cause { OnErr result (Rose (K.faults sink.old) (K.faults sink.new)) }
-    ensures lasting { K.faults sink.old ≤ K.faults sink.new }
-    ensures quiet { OnOk result (K.faults sink.new ≡ K.faults sink.old) }
+    ensures { WritesText result (K.held sink.old) (K.held sink.new) (K.faults sink.old) (K.faults sink.new) (quoted text.now) }
 {
     write_all(sink, b"\"")?;
     write_escaped(text, sink)?;
@@ -137,11 +118,7 @@ pub(crate) fn write_quoted<K: Sink>(text: &str, sink: &mut K) -> Result<(), Fail
 
 /// Writes a constant: as a name where it can be, and else between quotation marks.
 pub fn write_constant<K: Sink>(text: &str, sink: &mut K) -> Result<(), Failed>
-    ensures all { OnOk result (Appends (K.held sink.old) (K.held sink.new) (constant text.now)) }
-    ensures front { OnErr result (AppendsFront (K.held sink.old) (K.held sink.new) (constant text.now)) }
-    ensures cause { OnErr result (Rose (K.faults sink.old) (K.faults sink.new)) }
-    ensures lasting { K.faults sink.old ≤ K.faults sink.new }
-    ensures quiet { OnOk result (K.faults sink.new ≡ K.faults sink.old) }
+    ensures { WritesText result (K.held sink.old) (K.held sink.new) (K.faults sink.old) (K.faults sink.new) (constant text.now) }
 {
     if is_name(text) {
         write_all(sink, text.as_bytes())

@@ -1,10 +1,9 @@
 //! Printed lines.
 
-ghost use Rattle.std.specs.Prelude.{◌≡◌, ◌≤◌, ℕ, List, Option, ◌++◌, codes, decimal, map, OnOk, OnErr};
+ghost use Rattle.std.specs.Prelude.{◌++◌, decimal, map};
 ghost use Rattle.std.specs.List.{flat_map};
-ghost use Rattle.xdg_io.specs.Held.{Appends, AppendsFront};
-ghost use Rattle.xdg_io.specs.Rose.{Rose};
-ghost use Rattle.xdg_text.specs.Lines.{led, line};
+ghost use Rattle.xdg_io.specs.Texts.{WritesText};
+ghost use Rattle.xdg_text.specs.Lines.{line};
 ghost use Rattle.xdg_text.specs.Words.{word_text, led_word};
 
 use crate::constants::{write_constant, write_quoted};
@@ -30,22 +29,14 @@ pub enum Word<'a> {
 
 /// Writes characters as they stand.
 fn write_plain<K: Sink>(text: &str, sink: &mut K) -> Result<(), Failed>
-    ensures all { OnOk result (Appends (K.held sink.old) (K.held sink.new) (text.now)) }
-    ensures front { OnErr result (AppendsFront (K.held sink.old) (K.held sink.new) (text.now)) }
-    ensures cause { OnErr result (Rose (K.faults sink.old) (K.faults sink.new)) }
-    ensures lasting { K.faults sink.old ≤ K.faults sink.new }
-    ensures quiet { OnOk result (K.faults sink.new ≡ K.faults sink.old) }
+    ensures { WritesText result (K.held sink.old) (K.held sink.new) (K.faults sink.old) (K.faults sink.new) (text.now) }
 {
     write_all(sink, text.as_bytes())
 }
 
 /// Writes a number in decimal digits.
 fn write_number<K: Sink>(number: u64, sink: &mut K) -> Result<(), Failed>
-    ensures all { OnOk result (Appends (K.held sink.old) (K.held sink.new) (decimal number)) }
-    ensures front { OnErr result (AppendsFront (K.held sink.old) (K.held sink.new) (decimal number)) }
-    ensures cause { OnErr result (Rose (K.faults sink.old) (K.faults sink.new)) }
-    ensures lasting { K.faults sink.old ≤ K.faults sink.new }
-    ensures quiet { OnOk result (K.faults sink.new ≡ K.faults sink.old) }
+    ensures { WritesText result (K.held sink.old) (K.held sink.new) (K.faults sink.old) (K.faults sink.new) (decimal number) }
 {
     let mut buffer = Buffer::new();
     write_all(sink, buffer.format(number).as_bytes())
@@ -53,11 +44,7 @@ fn write_number<K: Sink>(number: u64, sink: &mut K) -> Result<(), Failed>
 
 /// Writes a word.
 fn write_word<K: Sink>(word: &Word, sink: &mut K) -> Result<(), Failed>
-    ensures all { OnOk result (Appends (K.held sink.old) (K.held sink.new) (word_text word.now)) }
-    ensures front { OnErr result (AppendsFront (K.held sink.old) (K.held sink.new) (word_text word.now)) }
-    ensures cause { OnErr result (Rose (K.faults sink.old) (K.faults sink.new)) }
-    ensures lasting { K.faults sink.old ≤ K.faults sink.new }
-    ensures quiet { OnOk result (K.faults sink.new ≡ K.faults sink.old) }
+    ensures { WritesText result (K.held sink.old) (K.held sink.new) (K.faults sink.old) (K.faults sink.new) (word_text word.now) }
 {
     match word {
         Word::Plain(text) => write_plain(text, sink),
@@ -69,26 +56,17 @@ fn write_word<K: Sink>(word: &Word, sink: &mut K) -> Result<(), Failed>
 }
 
 /// Writes a word with a space before it.
-#[tactic(auto, using(crate::proofs::Pieces::write_steps))]
 fn write_led_word<K: Sink>(word: &Word, sink: &mut K) -> Result<(), Failed>
-    ensures all { OnOk result (Appends (K.held sink.old) (K.held sink.new) (led_word word.now)) }
-    ensures front { OnErr result (AppendsFront (K.held sink.old) (K.held sink.new) (led_word word.now)) }
-    ensures cause { OnErr result (Rose (K.faults sink.old) (K.faults sink.new)) }
-    ensures lasting { K.faults sink.old ≤ K.faults sink.new }
-    ensures quiet { OnOk result (K.faults sink.new ≡ K.faults sink.old) }
+    ensures { WritesText result (K.held sink.old) (K.held sink.new) (K.faults sink.old) (K.faults sink.new) (led_word word.now) }
 {
     write_all(sink, b" ")?;
     write_word(word, sink)
 }
 
 /// Writes words with a space before each.
-#[tactic(auto, using(crate::proofs::Pieces::write_steps))]
+#[tactic(auto, using(xdg_io::proofs::Parts::loop_steps))]
 fn write_led_words<K: Sink>(words: &[Word], sink: &mut K) -> Result<(), Failed>
-    ensures all { OnOk result (Appends (K.held sink.old) (K.held sink.new) (flat_map led_word words.now)) }
-    ensures front { OnErr result (AppendsFront (K.held sink.old) (K.held sink.new) (flat_map led_word words.now)) }
-    ensures cause { OnErr result (Rose (K.faults sink.old) (K.faults sink.new)) }
-    ensures lasting { K.faults sink.old ≤ K.faults sink.new }
-    ensures quiet { OnOk result (K.faults sink.new ≡ K.faults sink.old) }
+    ensures { WritesText result (K.held sink.old) (K.held sink.new) (K.faults sink.old) (K.faults sink.new) (flat_map led_word words.now) }
 {
     for word in words {
         write_led_word(word, sink)?;
@@ -97,43 +75,28 @@ fn write_led_words<K: Sink>(words: &[Word], sink: &mut K) -> Result<(), Failed>
 }
 
 /// Writes the words of a line with a space between two.
-#[tactic(auto, using(crate::proofs::Pieces::write_steps))]
 fn write_words<K: Sink>(first: &str, others: &[Word], sink: &mut K) -> Result<(), Failed>
-    ensures all { OnOk result (Appends (K.held sink.old) (K.held sink.new) (first.now ++ flat_map led_word others.now)) }
-    ensures front { OnErr result (AppendsFront (K.held sink.old) (K.held sink.new) (first.now ++ flat_map led_word others.now)) }
-    ensures cause { OnErr result (Rose (K.faults sink.old) (K.faults sink.new)) }
-    ensures lasting { K.faults sink.old ≤ K.faults sink.new }
-    ensures quiet { OnOk result (K.faults sink.new ≡ K.faults sink.old) }
+    ensures { WritesText result (K.held sink.old) (K.held sink.new) (K.faults sink.old) (K.faults sink.new) (first.now ++ flat_map led_word others.now) }
 {
     write_plain(first, sink)?;
     write_led_words(others, sink)
 }
 
 /// Writes a line behind which another one is written at once.
-#[tactic(auto, using(crate::proofs::Pieces::write_steps))]
 pub(crate) fn write_inner_line<K: Sink>(
     first: &str,
     others: &[Word],
     sink: &mut K,
 ) -> Result<(), Failed>
-    ensures all { OnOk result (Appends (K.held sink.old) (K.held sink.new) (line first.now (map word_text others.now))) }
-    ensures front { OnErr result (AppendsFront (K.held sink.old) (K.held sink.new) (line first.now (map word_text others.now))) }
-    ensures cause { OnErr result (Rose (K.faults sink.old) (K.faults sink.new)) }
-    ensures lasting { K.faults sink.old ≤ K.faults sink.new }
-    ensures quiet { OnOk result (K.faults sink.new ≡ K.faults sink.old) }
+    ensures { WritesText result (K.held sink.old) (K.held sink.new) (K.faults sink.old) (K.faults sink.new) (line first.now (map word_text others.now)) }
 {
     write_words(first, others, sink)?;
     sink.feed()
 }
 
 /// Writes a line: its words with a space between two, and a line feed.
-#[tactic(auto, using(crate::proofs::Pieces::write_steps))]
 pub fn write_line<K: Sink>(first: &str, others: &[Word], sink: &mut K) -> Result<(), Failed>
-    ensures all { OnOk result (Appends (K.held sink.old) (K.held sink.new) (line first.now (map word_text others.now))) }
-    ensures front { OnErr result (AppendsFront (K.held sink.old) (K.held sink.new) (line first.now (map word_text others.now))) }
-    ensures cause { OnErr result (Rose (K.faults sink.old) (K.faults sink.new)) }
-    ensures lasting { K.faults sink.old ≤ K.faults sink.new }
-    ensures quiet { OnOk result (K.faults sink.new ≡ K.faults sink.old) }
+    ensures { WritesText result (K.held sink.old) (K.held sink.new) (K.faults sink.old) (K.faults sink.new) (line first.now (map word_text others.now)) }
 {
     write_words(first, others, sink)?;
     write_all(sink, b"\n")

@@ -1,11 +1,8 @@
-use Rattle.std.proofs.lemmas.Result.{on_err_weaker}
-use Rattle.xdg_text.proofs.Pieces.{at_exit}
+use Rattle.xdg_io.proofs.Parts.{writes_both, writes_first}
 use Rattle.xdg_reports.proofs.verdicts.write_said.Goals as goal
-use Rattle.xdg_io.proofs.Written.{front_of_second, front_of_first}
 
-pub returns-in_err-write_word-in-Broken-clause-front : goal.returns-in_err-write_word-in-Broken-clause-front
-returns-in_err-write_word-in-Broken-clause-front g c = rw c.in-Broken.is (at_exit _ (front_of_first _ c.in_err-write_word-in-Broken.ensures.front))
+pub returns-in_err-write_word-in-Broken : goal.returns-in_err-write_word-in-Broken
+returns-in_err-write_word-in-Broken g c = rw c.in-Broken.is (writes_first _ c.from_residual.ensures.0 c.in_err-write_word-in-Broken.ensures)
 
-pub returns-in_ok-write_word-in-Broken-clause-front : goal.returns-in_ok-write_word-in-Broken-clause-front
-returns-in_ok-write_word-in-Broken-clause-front g c =
-    rw c.in-Broken.is (on_err_weaker _ (λ last. front_of_second c.in_ok-write_word-in-Broken.ensures.all last) (rw c.numbers_of.ensures.numbers at c.write_condition.ensures.front))
+pub returns-in_ok-write_word-in-Broken : goal.returns-in_ok-write_word-in-Broken
+returns-in_ok-write_word-in-Broken g c = rw c.in-Broken.is (writes_both c.in_ok-write_word-in-Broken.ensures (rw c.numbers_of.ensures.numbers at c.write_condition.ensures))

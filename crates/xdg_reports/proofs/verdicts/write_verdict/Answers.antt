@@ -1,35 +1,28 @@
-use Rattle.std.proofs.lemmas.Result.{on_err_weaker, on_ok_weaker}
-use Rattle.xdg_text.proofs.Pieces.{at_exit}
+use Rattle.xdg_io.proofs.Parts.{writes_both, writes_first}
 use Rattle.xdg_reports.specs.VerdictsText.{verdict_line}
-use Rattle.xdg_reports.proofs.Verdicted.{line_all, line_front}
 use Rattle.xdg_reports.proofs.verdicts.write_verdict.Goals as goal
-use Rattle.xdg_io.proofs.Written.{front_of_second, front_of_first}
 
-pub returns-in_err-write_first-clause-front : goal.returns-in_err-write_first-clause-front
+pub returns-in_err-write_first : goal.returns-in_err-write_first
 unfolding verdict_line
-returns-in_err-write_first-clause-front g c = at_exit _ (front_of_first _ c.in_err-write_first.ensures.front)
+returns-in_err-write_first g c = writes_first _ c.from_residual.ensures.0 c.in_err-write_first.ensures
 
-pub returns-in_err-write_word-clause-front : goal.returns-in_err-write_word-clause-front
+pub returns-in_err-write_word : goal.returns-in_err-write_word
 unfolding verdict_line
-returns-in_err-write_word-clause-front g c = at_exit _ (front_of_second c.in_ok-write_first.ensures.all (front_of_first _ (rw c.principle_name.ensures at c.in_err-write_word.ensures.front)))
+returns-in_err-write_word g c = writes_both c.in_ok-write_first.ensures (writes_first _ c.from_residual-in_err-write_word.ensures.0 (rw c.principle_name.ensures at c.in_err-write_word.ensures))
 
-pub returns-in_err-write_title-clause-front : goal.returns-in_err-write_title-clause-front
+pub returns-in_err-write_title : goal.returns-in_err-write_title
 unfolding verdict_line
-returns-in_err-write_title-clause-front g c =
-    at_exit _ (front_of_second c.in_ok-write_first.ensures.all (front_of_second (rw c.principle_name.ensures at c.in_ok-write_word.ensures.all) (front_of_first _ c.in_err-write_title.ensures.front)))
+returns-in_err-write_title g c =
+    writes_both c.in_ok-write_first.ensures (writes_both (rw c.principle_name.ensures at c.in_ok-write_word.ensures) (writes_first _ c.from_residual-in_err-write_title.ensures.0 c.in_err-write_title.ensures))
 
-pub returns-in_err-write_said-clause-front : goal.returns-in_err-write_said-clause-front
+pub returns-in_err-write_said : goal.returns-in_err-write_said
 unfolding verdict_line
-returns-in_err-write_said-clause-front g c =
-    at_exit _ (front_of_second c.in_ok-write_first.ensures.all (front_of_second (rw c.principle_name.ensures at c.in_ok-write_word.ensures.all) (front_of_second c.in_ok-write_title.ensures.all
-    (front_of_first _ (rw c.labels_of.ensures at c.in_err-write_said.ensures.front)))))
+returns-in_err-write_said g c =
+    writes_both c.in_ok-write_first.ensures (writes_both (rw c.principle_name.ensures at c.in_ok-write_word.ensures) (writes_both c.in_ok-write_title.ensures
+    (writes_first _ c.from_residual-in_err-write_said.ensures.0 (rw c.labels_of.ensures at c.in_err-write_said.ensures))))
 
-pub returns-clause-all : goal.returns-clause-all
-returns-clause-all g c =
-    on_ok_weaker _ (λ last. line_all c.args.parts.now c.args.own c.args.rules.now c.args.place c.args.group.now c.args.verdict.now c.in_ok-write_first.ensures.all (rw c.principle_name.ensures at c.in_ok-write_word.ensures.all) c.in_ok-write_title.ensures.all
-    (rw c.labels_of.ensures at c.in_ok-write_said.ensures.all) last) c.write_all.ensures.all
-
-pub returns-clause-front : goal.returns-clause-front
-returns-clause-front g c =
-    on_err_weaker _ (λ last. line_front c.args.parts.now c.args.own c.args.rules.now c.args.place c.args.group.now c.args.verdict.now c.in_ok-write_first.ensures.all (rw c.principle_name.ensures at c.in_ok-write_word.ensures.all) c.in_ok-write_title.ensures.all
-    (rw c.labels_of.ensures at c.in_ok-write_said.ensures.all) last) c.write_all.ensures.front
+pub returns : goal.returns
+unfolding verdict_line
+returns g c =
+    writes_both c.in_ok-write_first.ensures (writes_both (rw c.principle_name.ensures at c.in_ok-write_word.ensures) (writes_both c.in_ok-write_title.ensures
+    (writes_both (rw c.labels_of.ensures at c.in_ok-write_said.ensures) c.write_all.ensures)))

@@ -1,10 +1,8 @@
-use Rattle.std.proofs.lemmas.Result.{on_err_weaker}
-use Rattle.xdg_text.proofs.Pieces.{at_exit}
+use Rattle.xdg_io.proofs.Parts.{writes_both, writes_first}
 use Rattle.xdg_reports.proofs.words.write_constant_behind.Goals as goal
-use Rattle.xdg_io.proofs.Written.{front_of_second, front_of_first}
 
-pub returns-in_err-write_all-clause-front : goal.returns-in_err-write_all-clause-front
-returns-in_err-write_all-clause-front g c = at_exit _ (front_of_first _ c.in_err-write_all.ensures.front)
+pub returns-in_err-write_all : goal.returns-in_err-write_all
+returns-in_err-write_all g c = writes_first _ c.from_residual.ensures.0 c.in_err-write_all.ensures
 
-pub returns-clause-front : goal.returns-clause-front
-returns-clause-front g c = on_err_weaker _ (λ last. front_of_second c.in_ok-write_all.ensures.all last) c.write_constant.ensures.front
+pub returns : goal.returns
+returns g c = writes_both c.in_ok-write_all.ensures c.write_constant.ensures

@@ -1,19 +1,14 @@
-use Rattle.std.proofs.lemmas.Result.{on_err_weaker, on_ok_weaker}
-use Rattle.xdg_text.proofs.Pieces.{at_exit}
+use Rattle.xdg_io.proofs.Parts.{writes_both, writes_first}
 use Rattle.xdg_text.proofs.blocks.write_body.Goals as goal
-use Rattle.xdg_io.proofs.Written.{appends_both, front_of_second, front_of_first}
 
-pub returns-in_err-write_word_lines-clause-front : goal.returns-in_err-write_word_lines-clause-front
-returns-in_err-write_word_lines-clause-front g c = at_exit _ (front_of_first _ c.in_err-write_word_lines.ensures.front)
+pub returns-in_err-write_word_lines : goal.returns-in_err-write_word_lines
+returns-in_err-write_word_lines g c = writes_first _ c.from_residual.ensures.0 c.in_err-write_word_lines.ensures
 
-pub returns-in_err-write_attr_lines-clause-front : goal.returns-in_err-write_attr_lines-clause-front
-returns-in_err-write_attr_lines-clause-front g c = at_exit _ (front_of_second c.in_ok-write_word_lines.ensures.all (front_of_first _ c.in_err-write_attr_lines.ensures.front))
+pub returns-in_err-write_attr_lines : goal.returns-in_err-write_attr_lines
+returns-in_err-write_attr_lines g c = writes_both c.in_ok-write_word_lines.ensures (writes_first _ c.from_residual-in_err-write_attr_lines.ensures.0 c.in_err-write_attr_lines.ensures)
 
-pub returns-in_err-write_edge_lines-clause-front : goal.returns-in_err-write_edge_lines-clause-front
-returns-in_err-write_edge_lines-clause-front g c = at_exit _ (front_of_second c.in_ok-write_word_lines.ensures.all (front_of_second c.in_ok-write_attr_lines.ensures.all (front_of_first _ c.in_err-write_edge_lines.ensures.front)))
+pub returns-in_err-write_edge_lines : goal.returns-in_err-write_edge_lines
+returns-in_err-write_edge_lines g c = writes_both c.in_ok-write_word_lines.ensures (writes_both c.in_ok-write_attr_lines.ensures (writes_first _ c.from_residual-in_err-write_edge_lines.ensures.0 c.in_err-write_edge_lines.ensures))
 
-pub returns-clause-all : goal.returns-clause-all
-returns-clause-all g c = on_ok_weaker _ (λ last. appends_both c.in_ok-write_word_lines.ensures.all (appends_both c.in_ok-write_attr_lines.ensures.all (appends_both c.in_ok-write_edge_lines.ensures.all last))) c.write_line.ensures.all
-
-pub returns-clause-front : goal.returns-clause-front
-returns-clause-front g c = on_err_weaker _ (λ last. front_of_second c.in_ok-write_word_lines.ensures.all (front_of_second c.in_ok-write_attr_lines.ensures.all (front_of_second c.in_ok-write_edge_lines.ensures.all last))) c.write_line.ensures.front
+pub returns : goal.returns
+returns g c = writes_both c.in_ok-write_word_lines.ensures (writes_both c.in_ok-write_attr_lines.ensures (writes_both c.in_ok-write_edge_lines.ensures c.write_line.ensures))

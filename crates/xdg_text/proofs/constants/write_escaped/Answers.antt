@@ -4,12 +4,7 @@ use Rattle.xdg_text.specs.Constants.{escaped}
 use Rattle.xdg_text.proofs.Names.{nothing_escaped}
 use Rattle.xdg_text.proofs.constants.write_escaped.Goals as goal
 
-pub returns-else-has_escaped-clause-all : goal.returns-else-has_escaped-clause-all
-returns-else-has_escaped-clause-all g c =
+pub returns-else-has_escaped : goal.returns-else-has_escaped
+returns-else-has_escaped g c =
     let same : flat_map escaped c.args.text.now ≡ c.as_bytes-bytes.result.now = ap (flat_map escaped) (sym c.as_bytes-bytes.ensures.value) ∙ nothing_escaped c.as_bytes-bytes.result.now (sym c.has_escaped.ensures ∙ c.if-has_escaped.false) in
-    rw same c.write_all.ensures.all
-
-pub returns-else-has_escaped-clause-front : goal.returns-else-has_escaped-clause-front
-returns-else-has_escaped-clause-front g c =
-    let same : flat_map escaped c.args.text.now ≡ c.as_bytes-bytes.result.now = ap (flat_map escaped) (sym c.as_bytes-bytes.ensures.value) ∙ nothing_escaped c.as_bytes-bytes.result.now (sym c.has_escaped.ensures ∙ c.if-has_escaped.false) in
-    rw same c.write_all.ensures.front
+    rw same c.write_all.ensures

@@ -1,15 +1,9 @@
-use Rattle.std.proofs.Common.{subst}
-use Rattle.std.proofs.lemmas.Result.{on_err_weaker, on_ok_weaker}
-use Rattle.xdg_io.proofs.Written.{front_in_first, front_in_second, appends_both}
-use Rattle.xdg_io.specs.Held.{Appends}
-use Rattle.xdg_text.proofs.Pieces.{at_exit, line_parts}
+use Rattle.xdg_io.proofs.Parts.{writes_both, writes_first, writes_whole}
+use Rattle.xdg_text.proofs.Pieces.{line_parts}
 use Rattle.xdg_text.proofs.lines.write_line.Goals as goal
 
-pub returns-in_err-write_words-clause-front : goal.returns-in_err-write_words-clause-front
-returns-in_err-write_words-clause-front g c = at_exit _ (front_in_first _ c.in_err-write_words.ensures.front (line_parts c.args.first.now c.args.others.now))
+pub returns-in_err-write_words : goal.returns-in_err-write_words
+returns-in_err-write_words g c = writes_whole (line_parts c.args.first.now c.args.others.now) (writes_first _ c.from_residual.ensures.0 c.in_err-write_words.ensures)
 
-pub returns-clause-all : goal.returns-clause-all
-returns-clause-all g c = on_ok_weaker _ (λ last. subst (λ z. Appends (g.K.Sink.held c.args.sink.now) (g.K.Sink.held c.write_all.new.sink) z) (line_parts c.args.first.now c.args.others.now) (appends_both c.in_ok-write_words.ensures.all last)) c.write_all.ensures.all
-
-pub returns-clause-front : goal.returns-clause-front
-returns-clause-front g c = on_err_weaker _ (λ last. front_in_second c.in_ok-write_words.ensures.all (line_parts c.args.first.now c.args.others.now) last) c.write_all.ensures.front
+pub returns : goal.returns
+returns g c = writes_whole (line_parts c.args.first.now c.args.others.now) (writes_both c.in_ok-write_words.ensures c.write_all.ensures)

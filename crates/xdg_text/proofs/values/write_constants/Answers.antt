@@ -1,6 +1,8 @@
-use Rattle.std.proofs.lemmas.Result.{on_err_weaker}
+use Rattle.xdg_io.proofs.Parts.{writes_both, writes_first}
 use Rattle.xdg_text.proofs.values.write_constants.Goals as goal
-use Rattle.xdg_io.proofs.Written.{front_of_second}
 
-pub returns-in_ok-write_text-in-Some-clause-front : goal.returns-in_ok-write_text-in-Some-clause-front
-returns-in_ok-write_text-in-Some-clause-front g c = rw c.in-Some.ensures.cases.0 (on_err_weaker _ (λ last. front_of_second c.in_ok-write_text-in-Some.ensures.all last) c.write_led_constants.ensures.front)
+pub returns-in_err-write_text-in-Some : goal.returns-in_err-write_text-in-Some
+returns-in_err-write_text-in-Some g c = rw c.in-Some.ensures.cases.0 (writes_first _ c.from_residual.ensures.0 c.in_err-write_text-in-Some.ensures)
+
+pub returns-in_ok-write_text-in-Some : goal.returns-in_ok-write_text-in-Some
+returns-in_ok-write_text-in-Some g c = rw c.in-Some.ensures.cases.0 (writes_both c.in_ok-write_text-in-Some.ensures c.write_led_constants.ensures)

@@ -1,13 +1,11 @@
-use Rattle.std.proofs.lemmas.Result.{on_err_weaker}
-use Rattle.xdg_text.proofs.Pieces.{at_exit}
+use Rattle.xdg_io.proofs.Parts.{writes_both, writes_first}
 use Rattle.xdg_text.proofs.values.write_tuple.Goals as goal
-use Rattle.xdg_io.proofs.Written.{front_of_second, front_of_first}
 
-pub returns-in_err-write_all-clause-front : goal.returns-in_err-write_all-clause-front
-returns-in_err-write_all-clause-front g c = at_exit _ (front_of_first _ c.in_err-write_all.ensures.front)
+pub returns-in_err-write_all : goal.returns-in_err-write_all
+returns-in_err-write_all g c = writes_first _ c.from_residual.ensures.0 c.in_err-write_all.ensures
 
-pub returns-in_err-write_constants-clause-front : goal.returns-in_err-write_constants-clause-front
-returns-in_err-write_constants-clause-front g c = at_exit _ (front_of_second c.in_ok-write_all.ensures.all (front_of_first _ c.in_err-write_constants.ensures.front))
+pub returns-in_err-write_constants : goal.returns-in_err-write_constants
+returns-in_err-write_constants g c = writes_both c.in_ok-write_all.ensures (writes_first _ c.from_residual-in_err-write_constants.ensures.0 c.in_err-write_constants.ensures)
 
-pub returns-clause-front : goal.returns-clause-front
-returns-clause-front g c = on_err_weaker _ (λ last. front_of_second c.in_ok-write_all.ensures.all (front_of_second c.in_ok-write_constants.ensures.all last)) c.write_all-2.ensures.front
+pub returns : goal.returns
+returns g c = writes_both c.in_ok-write_all.ensures (writes_both c.in_ok-write_constants.ensures c.write_all-2.ensures)
