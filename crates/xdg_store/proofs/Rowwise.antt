@@ -1,5 +1,7 @@
 -- Entries and attributes: decisions whose bits stand in a row.
-use Rattle.std.proofs.Common.{◌≡◌, ℕ, ◌<◌, ◌≤◌, ◌+◌, ◌↔◌, Bool, true, false, IsTrue, List, [], length, get_or, ap, sym, ◌∙◌, arith, subst}
+use Rattle.std.proofs.Common.{◌≡◌, ℕ, ◌<◌, ◌≤◌, ◌+◌, ◌*◌, ◌/◌, ◌%◌, ◌↔◌, Bool, true, false, IsTrue, List, [], length, get_or, refl, ap, ap₂, sym, ◌∙◌, arith, subst}
+use Rattle.std.specs.Int.{bit_at}
+use Rattle.std.proofs.lemmas.Bool.{eq-eqb, eqb-true}
 use Rattle.std.proofs.lemmas.List.{get_or_default}
 use Rattle.xdg_base.specs.declared.ids.EntryNo.{EntryNo}
 use Rattle.xdg_problem.specs.declared.parts.AttrPlan.{AttrPlan}
@@ -13,7 +15,7 @@ use Rattle.xdg_problem.proofs.Ordered.{numbers_length}
 use Rattle.xdg_trail.specs.Trailed.{Trailed}
 use Rattle.xdg_store.specs.Change.{Removes}
 use Rattle.xdg_store.specs.InRange.{HasCandidate, HasValue}
-use Rattle.xdg_store.specs.Layout.{attr_row, bits_of, box_in, entry_row, is_set}
+use Rattle.xdg_store.specs.Layout.{attr_row, bit_count, bits_of, box_in, entry_row, is_set}
 use Rattle.xdg_store.specs.Rows.{HasOther, Takes}
 use Rattle.xdg_store.specs.States.{Keeps}
 use Rattle.xdg_store.specs.declared.change.Change.{Change}
@@ -78,6 +80,22 @@ candidates_are parts shown all item node place size p h s a i l =
     let w = h.node_in in
     let e : all ≡ parts.candidates = a ∙ ap (λ (q : Parts). q.candidates) s in
     l ∙ ap length (i ∙ ap (λ z. get_or z node item) e ∙ get_or_default parts.candidates node item [] (omega (arith, each, w)))
+
+-- the word of the first of them is there
+pub entry_word : (parts : Parts) (node start : ℕ) (words : List ℕ) → start ≡ entry_row node → node < nodes parts → bit_count parts ≤ 64 * length words → start / 64 < length words
+entry_word parts node start words s l long = omega (arith, s, l, long)
+
+-- and says of each of the first 64 whether it remains
+pub entries_have : (parts : Parts) (node place start word : ℕ) (words : List ℕ) → IsProblem parts → start ≡ entry_row node → word ≡ get_or words (start / 64) 0 → place < 64 → HasCandidate parts node place → (bit_at word place ≡ 1) ↔ Has (box_in (bits_of parts) words) (entry_decision node) place
+entries_have parts node place start word words p s w few h =
+    let row = entry_is_row parts node place start (length (get_or parts.candidates node [])) p h s refl in
+    let same = row_has parts (entry_decision node) start (length (get_or parts.candidates node [])) place words (is_set words (start + place)) row refl in
+    let at : (start + place) / 64 ≡ start / 64 = omega (arith, s, few) in
+    let bit : (start + place) % 64 ≡ place = omega (arith, s, few) in
+    let read : bit_at (get_or words ((start + place) / 64) 0) ((start + place) % 64) ≡ bit_at word place = ap₂ (λ i b. bit_at (get_or words i 0) b) at bit ∙ ap (λ z. bit_at z place) (sym w) in (
+      λ is. same.0 (eq-eqb (bit_at (get_or words ((start + place) / 64) 0) ((start + place) % 64)) 1 (read ∙ is)),
+      λ has. sym read ∙ eqb-true (bit_at (get_or words ((start + place) / 64) 0) ((start + place) % 64)) 1 (same.1 has),
+    )
 
 -- ---- attributes
 

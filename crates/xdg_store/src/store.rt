@@ -1,6 +1,7 @@
 //! The values that remain.
 
 ghost use Rattle.std.specs.Prelude.{◌≡◌, ◌≢◌, ℕ, ◌<◌, ◌+◌, ◌-◌, ◌^◌, ◌↔◌, [], ◌∷◌, IsTrue, IfOk, length, min, nat_lt, slice_index_or, take};
+ghost use Rattle.std.specs.Int.{bit_at};
 ghost use Rattle.xdg_facts.specs.Rises.{has};
 ghost use Rattle.xdg_problem.specs.Analyses.{IsPlace};
 ghost use Rattle.xdg_problem.specs.Boxes.{Has, IsSingle, May, Must, full, entry_decision, attr_decision, edge_decision};
@@ -183,6 +184,18 @@ impl<'a> Store<'a> {
         ensures known { Known self.now }
     {
         is_set(&self.trail, entry_row(node) + place as usize)
+    }
+
+    /// The first 64 candidates of a node: a bit for each that remains, the first at the lowest.
+    pub fn first_entries(&self, node: NodeId) -> u64
+        requires { node.0 < nodes self.now.parts }
+        ensures exact { (place : ℕ)
+            → place < 64
+            → HasCandidate self.now.parts node.0 place
+            → (bit_at result place ≡ 1) ↔ Has self.now.now (entry_decision node.0) place }
+        ensures known { Known self.now }
+    {
+        self.trail.word(entry_row(node) / 64)
     }
 
     /// Whether a value of a node's attribute remains.
