@@ -85,11 +85,13 @@ decision_fits parts (decisions.Attr dim node attr) rows words p is long wide = t
 decision_fits parts (decisions.Place e) rows words p is long wide = place_fits parts rows words e p is long wide
 
 -- those behind a mark
-pub all_fit : (parts : Parts) (t : Trailed) (removed : List Decision) (room rows words mark : ℕ) → IsProblem parts → AreSteps parts (oldest (bits_of parts) (past t)) removed room → row_count parts ≤ rows → bit_count parts ≤ 64 * words → All (FitsIn (nodes parts) rows words) (drop mark removed)
-all_fit parts t removed room rows words mark p steps long wide k d l =
+pub all_decided : (parts : Parts) (t : Trailed) (removed : List Decision) (room mark : ℕ) → AreSteps parts (oldest (bits_of parts) (past t)) removed room → All (IsDecision parts) (drop mark removed)
+all_decided parts t removed room mark steps k d l =
     let size = length-drop mark removed in
-    subst (FitsIn (nodes parts) rows words) (sym (get_or-drop mark removed k d))
-    (decision_fits parts (get_or removed (mark + k) d) rows words p (steps.each (mark + k) (omega (arith, size, l)) d).0 long wide)
+    subst (IsDecision parts) (sym (get_or-drop mark removed k d)) (steps.each (mark + k) (omega (arith, size, l)) d).0
+
+pub all_fit : (parts : Parts) (t : Trailed) (removed : List Decision) (room rows words mark : ℕ) → IsProblem parts → AreSteps parts (oldest (bits_of parts) (past t)) removed room → row_count parts ≤ rows → bit_count parts ≤ 64 * words → All (FitsIn (nodes parts) rows words) (drop mark removed)
+all_fit parts t removed room rows words mark p steps long wide k d l = decision_fits parts (get_or (drop mark removed) k d) rows words p (all_decided parts t removed room mark steps k d l) long wide
 
 -- the code's count of them
 pub rows_are : (parts shown : Parts) (n d : ℕ) → shown ≡ parts → n ≡ length shown.words → d ≡ length shown.dims → row_count parts ≤ d * n * 32
@@ -102,7 +104,7 @@ rows_are parts shown n d s e f =
 -- ---- words that say the same of an edge
 
 module _ (parts : Parts) (p : IsProblem parts) where
-  pair : (e : Edge) → IsPlace parts e → IsPair parts e (edge_bit (nodes parts) e)
+  pub pair : (e : Edge) → IsPlace parts e → IsPair parts e (edge_bit (nodes parts) e)
   pair e is = edge_is_pair parts e (nodes parts) (edge_row (nodes parts) e.dim.0 e.mother.0 e.label.0) (edge_bit (nodes parts) e) p is refl refl refl
 
   pub stays : (e : Edge) (old new : List ℕ) (rows : List Mothers) → IsPlace parts e → get_or (box_in (bits_of parts) new) (edge_decision parts e) [] ≡ get_or (box_in (bits_of parts) old) (edge_decision parts e) [] → IsKept (nodes parts) old rows e → IsKept (nodes parts) new rows e

@@ -18,3 +18,5 @@ pub mod Small
 pub mod Noting
 pub mod Renewed
 pub mod Kept
+pub mod Labelled
+pub mod Telling

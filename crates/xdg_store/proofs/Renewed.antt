@@ -26,7 +26,7 @@ same_row m a n b w l k e = elim (cases_eq m n) [
   ]
 ]
 
-row_of : (x y l m : ℕ) → l < 32 → m < 32 → x * 32 + l ≡ y * 32 + m → (x ≡ y) × (l ≡ m)
+pub row_of : (x y l m : ℕ) → l < 32 → m < 32 → x * 32 + l ≡ y * 32 + m → (x ≡ y) × (l ≡ m)
 row_of x y l m p q e = (omega (arith, p, q, e), omega (arith, p, q, e))
 
 pub same_cell : (n rows words : ℕ) (e f : Edge) → Fits n rows words e → Fits n rows words f → edge_at n e ≡ edge_at n f → e.mother.0 ≡ f.mother.0 → e ≡ f

@@ -6,4 +6,5 @@ pub mod Decisions
 pub mod Naming
 pub mod Rows
 pub mod Across
+pub mod Labels
 pub mod Example

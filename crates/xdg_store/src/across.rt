@@ -1,10 +1,14 @@
 //! Edges by their daughters.
 
-ghost use Rattle.std.specs.Prelude.{◌≡◌, ◌≢◌, ℕ, ◌<◌, ◌≤◌, ◌+◌, All, drop, length, take};
+ghost use Rattle.std.specs.Prelude.{◌≡◌, ◌≢◌, ℕ, ◌<◌, ◌≤◌, ◌+◌, ◌*◌, All, drop, length, nat_lt, take};
 ghost use Rattle.xdg_facts.specs.Rises.{has};
+ghost use Rattle.xdg_problem.specs.Analyses.{IsPlace};
 ghost use Rattle.xdg_store.specs.Across.{Fits, FitsIn, Renews, RenewsAll, RenewsOf, mothers_at};
+ghost use Rattle.xdg_store.specs.Decisions.{IsDecision};
+ghost use Rattle.xdg_store.specs.Labels.{StaysTold};
 
 use crate::decision::Decision;
+use crate::labels::{LabelsInto, relabel};
 use crate::layout::edge_row;
 use crate::rows::is_set;
 use xdg_base::{DimId, LabelId, NodeId};
@@ -52,8 +56,8 @@ fn with_if(nodes: NodeSet, node: NodeId, wanted: bool) -> NodeSet
     changed
 }
 
-/// Makes anew what is kept of an edge.
-pub(crate) fn renew(rows: &mut Vec<Mothers>, trail: &Trail, nodes: usize, edge: Edge)
+/// Makes anew what the row of an edge has of it.
+fn renew_row(rows: &mut Vec<Mothers>, trail: &Trail, nodes: usize, edge: Edge)
     requires nodes { nodes ≤ 128 }
     requires fits { Fits nodes (length rows.old.items) (length trail.now.words) edge }
     ensures { Renews nodes trail.now.words edge rows.old.items rows.new.items }
@@ -70,26 +74,68 @@ pub(crate) fn renew(rows: &mut Vec<Mothers>, trail: &Trail, nodes: usize, edge: 
     };
 }
 
-/// Makes anew what is kept of an edge, where a decision is one on an edge.
-fn renew_of(rows: &mut Vec<Mothers>, trail: &Trail, nodes: usize, decision: Decision)
+/// Makes anew what is kept of an edge, where `all` has the nodes.
+pub(crate) fn renew(
+    rows: &mut Vec<Mothers>,
+    into: &mut Vec<LabelsInto>,
+    trail: &Trail,
+    nodes: usize,
+    all: &NodeSet,
+    edge: Edge,
+)
     requires nodes { nodes ≤ 128 }
+    requires all { (node : ℕ) → has all.now node ≡ nat_lt node nodes }
+    requires fits { Fits nodes (length rows.old.items) (length trail.now.words) edge }
+    requires wide { length rows.old.items ≤ length into.old.items * 32 }
+    ensures renews { Renews nodes trail.now.words edge rows.old.items rows.new.items }
+    ensures count { length into.new.items ≡ length into.old.items }
+    ensures told { StaysTold nodes (λ parts. IsPlace parts edge) rows.old.items into.old.items rows.new.items into.new.items }
+{
+    renew_row(rows, trail, nodes, edge);
+    relabel(into, rows.as_slice(), nodes, all, edge);
+}
+
+/// Makes anew what is kept of an edge, where a decision is one on an edge.
+fn renew_of(
+    rows: &mut Vec<Mothers>,
+    into: &mut Vec<LabelsInto>,
+    trail: &Trail,
+    nodes: usize,
+    all: &NodeSet,
+    decision: Decision,
+)
+    requires nodes { nodes ≤ 128 }
+    requires all { (node : ℕ) → has all.now node ≡ nat_lt node nodes }
     requires fits { FitsIn nodes (length rows.old.items) (length trail.now.words) decision }
-    ensures { RenewsOf nodes trail.now.words decision rows.old.items rows.new.items }
+    requires wide { length rows.old.items ≤ length into.old.items * 32 }
+    ensures renews { RenewsOf nodes trail.now.words decision rows.old.items rows.new.items }
+    ensures count { length into.new.items ≡ length into.old.items }
+    ensures told { StaysTold nodes (λ parts. IsDecision parts decision) rows.old.items into.old.items rows.new.items into.new.items }
 {
     match decision {
         Decision::Entry(_) => {}
         Decision::Attr(_, _, _) => {}
-        Decision::Place(edge) => renew(rows, trail, nodes, edge),
+        Decision::Place(edge) => renew(rows, into, trail, nodes, all, edge),
     }
 }
 
 /// Makes anew what is kept of the edges of some decisions.
-pub(crate) fn renew_all(rows: &mut Vec<Mothers>, trail: &Trail, nodes: usize, changed: &[Decision])
+pub(crate) fn renew_all(
+    rows: &mut Vec<Mothers>,
+    into: &mut Vec<LabelsInto>,
+    trail: &Trail,
+    nodes: usize,
+    all: &NodeSet,
+    changed: &[Decision],
+)
     requires nodes { nodes ≤ 128 }
+    requires all { (node : ℕ) → has all.now node ≡ nat_lt node nodes }
     requires fits { All (FitsIn nodes (length rows.old.items) (length trail.now.words)) changed.now }
-    ensures { RenewsAll nodes trail.now.words changed.now rows.old.items rows.new.items }
+    requires wide { length rows.old.items ≤ length into.old.items * 32 }
+    ensures renews { RenewsAll nodes trail.now.words changed.now rows.old.items rows.new.items }
+    ensures told { StaysTold nodes (λ parts. All (IsDecision parts) changed.now) rows.old.items into.old.items rows.new.items into.new.items }
 {
     for decision in changed {
-        renew_of(rows, trail, nodes, *decision);
+        renew_of(rows, into, trail, nodes, all, *decision);
     }
 }

@@ -7,6 +7,7 @@
 mod across;
 mod change;
 mod decision;
+mod labels;
 mod layout;
 mod masks;
 mod naming;
@@ -17,5 +18,6 @@ mod store;
 pub use across::Mothers;
 pub use change::Change;
 pub use decision::Decision;
+pub use labels::{Labels, LabelsInto};
 pub use store::Store;
 pub use xdg_trail::Mark;

@@ -10,12 +10,14 @@ ghost use Rattle.xdg_problem.specs.Vectors.{shape};
 ghost use Rattle.xdg_store.specs.Across.{AreMothers};
 ghost use Rattle.xdg_store.specs.Change.{Removes};
 ghost use Rattle.xdg_store.specs.InRange.{HasCandidate, HasEdges, HasValue};
+ghost use Rattle.xdg_store.specs.Labels.{AreLabels};
 ghost use Rattle.xdg_store.specs.Naming.{Names};
 ghost use Rattle.xdg_store.specs.States.{Known};
 
 use crate::across::{Mothers, mothers_at, renew, renew_all, rows_from};
 use crate::change::Change;
 use crate::decision::Decision;
+use crate::labels::{LabelsInto, label_all, labels_at, no_labels};
 use crate::layout::{attr_row, edge_row, entry_row};
 use crate::masks::{nodes_below, row_nodes};
 use crate::naming::{behind, note};
@@ -40,6 +42,8 @@ pub struct Store<'a> {
     removed: Vec<Decision>,
     // What the bits of edges say, by daughters. It is no part of the trail: it follows from the words.
     across: Vec<Mothers>,
+    // What follows from it of all labels of a daughter.
+    into: Vec<LabelsInto>,
     node_count: usize,
     all: NodeSet,
     // How much room the trail has left when each decision has one value.
@@ -54,6 +58,7 @@ impl<'a> Model for Store<'a> {
     ghost use Rattle.xdg_problem.specs.Places.{nodes};
     ghost use Rattle.xdg_trail.specs.Trailed.{past};
     ghost use Rattle.xdg_store.specs.Across.{AreKept};
+    ghost use Rattle.xdg_store.specs.Labels.{AreTold};
     ghost use Rattle.xdg_store.specs.Layout.{bits_of, box_in};
     ghost use Rattle.xdg_store.specs.Naming.{AreSteps};
     ghost use Rattle.xdg_store.specs.States.{State, Keeps, oldest};
@@ -75,7 +80,8 @@ impl<'a> Model for Store<'a> {
         × (s.node_count ≡ nodes s.problem.now)
         × ((node : ℕ) → has s.all node ≡ nat_lt node (nodes s.problem.now))
         × AreSteps s.problem.now (oldest (bits_of s.problem.now) (past s.trail)) s.removed.items (vec_capacity s.removed)
-        × AreKept s.problem.now s.trail.words s.across.items };
+        × AreKept s.problem.now s.trail.words s.across.items
+        × AreTold s.problem.now s.across.items s.into.items };
 }
 
 impl<'a> Store<'a> {
@@ -101,12 +107,15 @@ impl<'a> Store<'a> {
             must: NodeSet::empty(),
         };
         let across = vec![in alloc; full; parts.dims.len() * node_count * 32]?;
+        let mut into = vec![in alloc; no_labels(); parts.dims.len() * node_count]?;
+        label_all(&mut into, parts.dims.as_slice(), node_count);
         let single = trail.spare() - free;
         Ok(Store {
             problem,
             trail,
             removed,
             across,
+            into,
             node_count,
             all,
             single,
@@ -158,7 +167,14 @@ impl<'a> Store<'a> {
         let row = edge_row(self.node_count, edge.dim, edge.mother, edge.label);
         let present = row + edge.daughter.0 as usize;
         let change = take_of_pair(&mut self.trail, present + 128, present);
-        renew(&mut self.across, &self.trail, self.node_count, edge);
+        renew(
+            &mut self.across,
+            &mut self.into,
+            &self.trail,
+            self.node_count,
+            &self.all,
+            edge,
+        );
         note(&mut self.removed, change, Decision::Place(edge));
         change
     }
@@ -172,7 +188,14 @@ impl<'a> Store<'a> {
         let row = edge_row(self.node_count, edge.dim, edge.mother, edge.label);
         let present = row + edge.daughter.0 as usize;
         let change = take_of_pair(&mut self.trail, present, present + 128);
-        renew(&mut self.across, &self.trail, self.node_count, edge);
+        renew(
+            &mut self.across,
+            &mut self.into,
+            &self.trail,
+            self.node_count,
+            &self.all,
+            edge,
+        );
         note(&mut self.removed, change, Decision::Place(edge));
         change
     }
@@ -309,6 +332,17 @@ impl<'a> Store<'a> {
         rows_from(rows, first, labels as usize)
     }
 
+    /// The labels of the edges into a daughter that may be present, and of those that must be.
+    pub fn labels_into(&self, dim: DimId, daughter: NodeId) -> LabelsInto
+        requires dim { dim.0 < length self.now.parts.dims }
+        requires daughter { daughter.0 < nodes self.now.parts }
+        ensures may { AreLabels self.now.parts (May self.now.parts self.now.now) dim.0 daughter.0 result.may }
+        ensures must { AreLabels self.now.parts (Must self.now.parts self.now.now) dim.0 daughter.0 result.must }
+        ensures known { Known self.now }
+    {
+        self.into[labels_at(self.node_count, dim, daughter)]
+    }
+
     /// The nodes of the sentence.
     pub fn all_nodes(&self) -> NodeSet
         ensures members { (node : ℕ) → has result node ≡ nat_lt node (nodes self.now.parts) }
@@ -337,7 +371,14 @@ impl<'a> Store<'a> {
     {
         self.trail.undo(mark);
         let undone = behind(self.removed.as_slice(), mark.records());
-        renew_all(&mut self.across, &self.trail, self.node_count, undone);
+        renew_all(
+            &mut self.across,
+            &mut self.into,
+            &self.trail,
+            self.node_count,
+            &self.all,
+            undone,
+        );
         self.removed.truncate(mark.records());
     }
 

@@ -1,15 +1,29 @@
-use Rattle.std.proofs.Common.{arith, refl}
+use Rattle.std.proofs.Common.{arith, refl, ◌∙◌}
 use Rattle.xdg_store.proofs.Renewed.{upto_end, upto_start, upto_turn}
 use Rattle.xdg_store.proofs.across.renew_all.Goals as goal
 
 pub loop-decision-init : goal.loop-decision-init
-loop-decision-init c = upto_start c.args.nodes c.args.trail.now.words c.args.changed.now c.args.rows.now.items
+loop-decision-init c = (upto_start c.args.nodes c.args.trail.now.words c.args.changed.now c.args.rows.now.items, refl, λ parts p same h told. told)
 
 pub renew_of-requires-clause-fits : goal.renew_of-requires-clause-fits
-renew_of-requires-clause-fits c = rw c.loop-decision.invariant.count_stays (c.requires.fits c.loop-decision.decision-index _ c.loop-decision-test.true)
+renew_of-requires-clause-fits c = rw c.loop-decision.invariant.0.count_stays (c.requires.fits c.loop-decision.decision-index _ c.loop-decision-test.true)
+
+pub renew_of-requires-clause-wide : goal.renew_of-requires-clause-wide
+renew_of-requires-clause-wide c =
+    let rows = c.loop-decision.invariant.0.count_stays in
+    let into = c.loop-decision.invariant.1 in
+    let wide = c.requires.wide in
+    omega (arith, rows, into, wide)
 
 pub loop-decision-preserved : goal.loop-decision-preserved
-loop-decision-preserved c = upto_turn c.args.nodes c.args.trail.now.words c.args.changed.now c.args.rows.now.items c.loop-decision.rows.items c.renew_of.new.rows.items c.loop-decision.decision-index c.loop-decision.invariant _ _ c.loop-decision-test.true refl (c.requires.fits c.loop-decision.decision-index _ c.loop-decision-test.true) c.renew_of.ensures
+loop-decision-preserved c = (
+  upto_turn c.args.nodes c.args.trail.now.words c.args.changed.now c.args.rows.now.items c.loop-decision.rows.items c.renew_of.new.rows.items c.loop-decision.decision-index c.loop-decision.invariant.0 _ _ c.loop-decision-test.true refl (c.requires.fits c.loop-decision.decision-index _ c.loop-decision-test.true) c.renew_of.ensures.renews,
+  c.renew_of.ensures.count ∙ c.loop-decision.invariant.1,
+  λ parts p same h told. c.renew_of.ensures.told parts p same (h c.loop-decision.decision-index _ c.loop-decision-test.true) (c.loop-decision.invariant.2 parts p same h told),
+)
 
-pub returns : goal.returns
-returns c = upto_end c.args.nodes c.args.trail.now.words c.args.changed.now c.args.rows.now.items c.loop-decision.rows.items c.loop-decision.decision-index (let t = c.loop-decision-test.false in omega (arith, t)) c.loop-decision.invariant
+pub returns-clause-renews : goal.returns-clause-renews
+returns-clause-renews c = upto_end c.args.nodes c.args.trail.now.words c.args.changed.now c.args.rows.now.items c.loop-decision.rows.items c.loop-decision.decision-index (let t = c.loop-decision-test.false in omega (arith, t)) c.loop-decision.invariant.0
+
+pub returns-clause-told : goal.returns-clause-told
+returns-clause-told c = c.loop-decision.invariant.2

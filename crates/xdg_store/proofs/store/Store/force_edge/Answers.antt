@@ -1,5 +1,5 @@
-use Rattle.std.proofs.Common.{◌+◌, length, refl, subst, sym}
-use Rattle.std.specs.Prelude.{sum}
+use Rattle.std.proofs.Common.{◌+◌, ◌∙◌, length, refl, ap, subst, sym}
+use Rattle.std.specs.Prelude.{nat_lt, sum}
 use Rattle.std.specs.Vec.{vec_capacity}
 use Rattle.xdg_problem.specs.Analyses.{IsPlace}
 use Rattle.xdg_problem.specs.Boxes.{edge_decision}
@@ -46,6 +46,12 @@ renew-requires-clause-fits c =
     subst (λ n. Fits n (length c.self.inside.across.items) (length c.take_of_pair-change.new.trail.words) c.args.edge) (sym c.self.invariant.1)
     (place_fits p (length c.self.inside.across.items) (length c.take_of_pair-change.new.trail.words) c.args.edge c.self.invariant.0.problem h c.self.invariant.4.long (force_keeps p c.self.inside.trail c.self.inside.single c.args.edge present c.self.invariant.0 pair c.take_of_pair-change.new.trail c.take_of_pair-change.result c.take_of_pair-change.ensures).long)
 
+pub renew-requires-clause-all : goal.renew-requires-clause-all
+renew-requires-clause-all c node = c.self.invariant.2 node ∙ ap (nat_lt node) (sym c.self.invariant.1)
+
+pub renew-requires-clause-wide : goal.renew-requires-clause-wide
+renew-requires-clause-wide c = c.self.invariant.5.wide
+
 pub note-requires : goal.note-requires
 note-requires c =
     let p = c.self.inside.problem.now in
@@ -69,7 +75,8 @@ invariant_of-self c =
       steps_after p c.take_of_pair-change.result c.self.inside.trail c.take_of_pair-change.new.trail c.self.inside.turns c.self.inside.single c.self.inside.removed.items c.note.new.removed.items (decisions.Place c.args.edge) 1 (vec_capacity c.self.inside.removed) (vec_capacity c.note.new.removed)
           c.self.invariant.0 h c.self.invariant.3 (force_removes p c.self.inside.trail c.self.inside.single c.args.edge present c.self.invariant.0 pair c.take_of_pair-change.new.trail c.take_of_pair-change.result c.self.inside.turns c.take_of_pair-change.ensures) c.note.ensures.items c.note.ensures.room,
       kept_renewed p c.self.invariant.0.problem c.take_of_pair-change.result c.self.inside.trail c.take_of_pair-change.new.trail c.self.inside.turns 1 c.args.edge c.self.inside.across.items c.renew.new.rows.items h (force_keeps p c.self.inside.trail c.self.inside.single c.args.edge present c.self.invariant.0 pair c.take_of_pair-change.new.trail c.take_of_pair-change.result c.take_of_pair-change.ensures).long (force_removes p c.self.inside.trail c.self.inside.single c.args.edge present c.self.invariant.0 pair c.take_of_pair-change.new.trail c.take_of_pair-change.result c.self.inside.turns c.take_of_pair-change.ensures)
-          (subst (λ n. Renews n c.take_of_pair-change.new.trail.words c.args.edge c.self.inside.across.items c.renew.new.rows.items) c.self.invariant.1 c.renew.ensures) c.self.invariant.4,
+          (subst (λ n. Renews n c.take_of_pair-change.new.trail.words c.args.edge c.self.inside.across.items c.renew.new.rows.items) c.self.invariant.1 c.renew.ensures.renews) c.self.invariant.4,
+      c.renew.ensures.told p c.self.invariant.0.problem (sym c.self.invariant.1) h c.self.invariant.5,
     )
 
 pub returns-clause-removes : goal.returns-clause-removes

@@ -45,6 +45,7 @@ invariant_of-self c =
           c.self.invariant.0 (h.dim_in, h.node_in, h.attr_in) c.self.invariant.3 (row_removes p c.self.inside.trail c.self.inside.single (attr_decision p c.args.dim.0 c.args.node.0 c.args.attr.0) c.attr_row-row.result c.len-size.result c.args.value c.self.invariant.0 row c.take_of_row-change.new.trail c.take_of_row-change.result c.self.inside.turns c.take_of_row-change.ensures) c.note.ensures.items c.note.ensures.room,
       kept_by_other p c.self.invariant.0.problem c.take_of_row-change.result c.self.inside.trail c.take_of_row-change.new.trail c.self.inside.turns (attr_decision p c.args.dim.0 c.args.node.0 c.args.attr.0) c.args.value c.self.inside.across.items (row_removes p c.self.inside.trail c.self.inside.single (attr_decision p c.args.dim.0 c.args.node.0 c.args.attr.0) c.attr_row-row.result c.len-size.result c.args.value c.self.invariant.0 row c.take_of_row-change.new.trail c.take_of_row-change.result c.self.inside.turns c.take_of_row-change.ensures)
           (λ e. not_attr p e c.args.dim.0 c.args.node.0 c.args.attr.0 h.dim_in h.node_in h.attr_in) c.self.invariant.4,
+      c.self.invariant.5,
     )
 
 pub returns-clause-removes : goal.returns-clause-removes

@@ -44,6 +44,7 @@ invariant_of-self c =
           c.self.invariant.0 h.node_in c.self.invariant.3 (row_removes p c.self.inside.trail c.self.inside.single (entry_decision c.args.node.0) c.entry_row.result c.len-size.result c.args.place c.self.invariant.0 row c.take_of_row-change.new.trail c.take_of_row-change.result c.self.inside.turns c.take_of_row-change.ensures) c.note.ensures.items c.note.ensures.room,
       kept_by_other p c.self.invariant.0.problem c.take_of_row-change.result c.self.inside.trail c.take_of_row-change.new.trail c.self.inside.turns (entry_decision c.args.node.0) c.args.place c.self.inside.across.items (row_removes p c.self.inside.trail c.self.inside.single (entry_decision c.args.node.0) c.entry_row.result c.len-size.result c.args.place c.self.invariant.0 row c.take_of_row-change.new.trail c.take_of_row-change.result c.self.inside.turns c.take_of_row-change.ensures)
           (λ e. not_entry p e c.args.node.0 c.self.invariant.0.problem h.node_in) c.self.invariant.4,
+      c.self.invariant.5,
     )
 
 pub returns-clause-removes : goal.returns-clause-removes

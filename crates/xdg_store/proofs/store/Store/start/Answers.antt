@@ -1,4 +1,4 @@
-use Rattle.std.proofs.Common.{◌≡◌, ◌≤◌, ◌+◌, ◌-◌, ◌*◌, ℕ, length, ap, arith, ◌∙◌}
+use Rattle.std.proofs.Common.{◌≡◌, ◌≤◌, ◌+◌, ◌-◌, ◌*◌, ℕ, length, ap, arith, subst, sym, ◌∙◌}
 use Rattle.std.specs.Vec.{vec_capacity}
 use Rattle.xdg_store.proofs.Noting.{steps_start}
 use Rattle.xdg_problem.specs.Places.{nodes}
@@ -8,9 +8,12 @@ use Rattle.xdg_store.specs.Layout.{bit_count}
 use Rattle.xdg_store.proofs.Histories.{known_of}
 use Rattle.xdg_store.specs.States.{Keeps}
 use Rattle.xdg_store.proofs.Kept.{kept_start, rows_are}
+use Rattle.xdg_store.proofs.Telling.{sizes_are, told_start}
+use Rattle.std.proofs.lemmas.List.{length-replicate}
+use Rattle.xdg_problem.specs.Problems.{IsDim}
 use Rattle.xdg_store.proofs.Starting.{full_words, keeps_start, words_are}
 use Rattle.xdg_problem.specs.Vectors.{shape}
-use Rattle.std.specs.Prelude.{sum}
+use Rattle.std.specs.Prelude.{All, sum}
 use Rattle.xdg_store.proofs.store.Store.start.Goals as goal
 
 the_words : (c : goal.After-spare) → bit_count c.args.problem.now ≤ 64 * (c.len-node_count.result * 16 + c.len.result * c.len-node_count.result * 256)
@@ -23,6 +26,17 @@ the_keeps : (c : goal.After-spare) → Keeps c.args.problem.now c.in_ok-trail.tr
 the_keeps c = keeps_start c.args.problem.now c.in_ok-trail.trail (c.spare.result - c.free_values-free.result) c.free_values-free.result (c.len-node_count.result * 16 + c.len.result * c.len-node_count.result * 256)
     c.free_values-free.ensures.problem (the_words c) (c.in_ok-trail.ensures.words ∙ c.in_ok-words.ensures.items_if_clones_equal (λ y h. h)) c.in_ok-trail.ensures.records c.free_values-free.ensures.free c.in_ok-trail.ensures.spare (ap (λ (i : ℕ). i - c.free_values-free.result) c.spare.ensures)
 
+the_into : (c : goal.After-spare) → length c.in_ok-into.into.items ≡ c.len-3.result * c.len-node_count.result
+the_into c = ap length (c.in_ok-into.ensures.items_if_clones_equal (λ y h. h)) ∙ length-replicate (c.len-3.result * c.len-node_count.result) c.no_labels.result
+
+pub label_all-requires-clause-count : goal.label_all-requires-clause-count
+label_all-requires-clause-count c =
+    ap length (c.in_ok-into.ensures.items_if_clones_equal (λ y h. h)) ∙ length-replicate (c.len-3.result * c.len-node_count.result) c.no_labels.result
+    ∙ ap (λ i. i * c.len-node_count.result) (c.len-3.ensures ∙ ap length (sym c.as_slice.ensures))
+
+pub label_all-requires-clause-dims : goal.label_all-requires-clause-dims
+label_all-requires-clause-dims c = subst (All IsDim) (sym (c.as_slice.ensures ∙ ap (λ (q : Parts). q.dims) c.parts-parts.ensures.same)) c.free_values-free.ensures.problem.dims
+
 pub invariant_of-result : goal.invariant_of-result
 invariant_of-result c =
     let k = the_keeps c in
@@ -33,6 +47,11 @@ invariant_of-result c =
       steps_start c.args.problem.now c.in_ok-trail.trail c.in_ok-removed.removed.items (vec_capacity c.in_ok-removed.removed) c.free_values-free.result c.in_ok-trail.ensures.records c.in_ok-removed.ensures.items (let e = c.in_ok-removed.ensures.exact in omega (arith, e)) c.free_values-free.ensures.free,
       kept_start c.args.problem.now c.free_values-free.ensures.problem (c.len-node_count.result * 16 + c.len.result * c.len-node_count.result * 256) (c.len-2.result * c.len-node_count.result * 32) c.in_ok-trail.trail.words c.nodes_below-all.result c.empty.result c.in_ok-across.across.items
           (the_words c) (the_rows c) (c.in_ok-trail.ensures.words ∙ c.in_ok-words.ensures.items_if_clones_equal (λ y h. h)) (c.in_ok-across.ensures.items_if_clones_equal (λ y h. h)) c.empty.ensures.value (rw (← n) c.nodes_below-all.ensures),
+      (let made = the_into c in
+          let kept = c.label_all.ensures.count in
+          let sizes = sizes_are c.args.problem.now c.parts-parts.result.now c.len-node_count.result c.len-2.result c.len-3.result c.parts-parts.ensures.same c.len-node_count.ensures c.len-2.ensures c.len-3.ensures in
+          told_start c.args.problem.now c.free_values-free.ensures.problem (c.len-2.result * c.len-node_count.result * 32) c.in_ok-across.across.items c.nodes_below-all.result c.empty.result (c.in_ok-across.ensures.items_if_clones_equal (λ y h. h)) c.empty.ensures.value (rw (← n) c.nodes_below-all.ensures) (the_rows c)
+          c.label_all.new.into.items c.len-node_count.result n c.as_slice.result.now (c.as_slice.ensures ∙ ap (λ (q : Parts). q.dims) c.parts-parts.ensures.same) c.label_all.ensures.first (omega (arith, made, kept, sizes.0)) (omega (arith, made, kept, sizes.1))),
     )
 
 pub returns-clause-now : goal.returns-clause-now

@@ -1,12 +1,13 @@
 use Rattle.std.proofs.Common.{◌≡◌, ◌≤◌, ◌+◌, ◌-◌, ◌∙◌, [], length, get_or, take, drop, ap, ap₂, arith, subst, sym}
-use Rattle.std.specs.Prelude.{All, sum}
+use Rattle.std.specs.Prelude.{All, nat_lt, sum}
 use Rattle.std.specs.Vec.{vec_capacity}
 use Rattle.xdg_problem.specs.Places.{nodes}
 use Rattle.xdg_problem.specs.Vectors.{shape}
 use Rattle.xdg_store.specs.Across.{FitsIn, RenewsAll}
+use Rattle.xdg_store.specs.Decisions.{IsDecision}
 use Rattle.xdg_store.specs.Layout.{bits_of}
 use Rattle.xdg_store.proofs.Histories.{cut_last, history_cut, history_length, keeps_undone, known_of}
-use Rattle.xdg_store.proofs.Kept.{all_fit, kept_undone}
+use Rattle.xdg_store.proofs.Kept.{all_decided, all_fit, kept_undone}
 use Rattle.xdg_store.proofs.Noting.{steps_cut}
 use Rattle.xdg_store.proofs.store.Store.undo.Goals as goal
 
@@ -28,6 +29,12 @@ renew_all-requires-clause-fits c =
     (subst (All (FitsIn (nodes p) (length c.self.inside.across.items) (length c.undo.new.self.words))) (sym (c.behind-undone.ensures ∙ ap₂ drop c.records.ensures c.as_slice.ensures.value))
     (all_fit p c.self.inside.trail c.self.inside.removed.items (vec_capacity c.self.inside.removed) (length c.self.inside.across.items) (length c.undo.new.self.words) c.args.mark c.self.invariant.0.problem c.self.invariant.3 c.self.invariant.4.long keeps.long))
 
+pub renew_all-requires-clause-all : goal.renew_all-requires-clause-all
+renew_all-requires-clause-all c node = c.self.invariant.2 node ∙ ap (nat_lt node) (sym c.self.invariant.1)
+
+pub renew_all-requires-clause-wide : goal.renew_all-requires-clause-wide
+renew_all-requires-clause-wide c = c.self.invariant.5.wide
+
 pub invariant_of-self : goal.invariant_of-self
 invariant_of-self c =
     let n = history_length (bits_of c.self.inside.problem.now) c.self.inside.trail in
@@ -41,8 +48,10 @@ invariant_of-self c =
       kept_undone c.self.inside.problem.now c.self.invariant.0.problem c.self.inside.trail c.undo.new.self c.self.inside.single (vec_capacity c.self.inside.removed) c.args.mark c.self.inside.removed.items c.self.inside.across.items c.renew_all.new.rows.items
           c.self.invariant.0 (keeps_undone c.self.inside.problem.now c.self.inside.trail c.undo.new.self c.self.inside.single c.args.mark c.self.invariant.0 c.undo.ensures.len c.undo.ensures.room c.undo.ensures.past) l c.undo.ensures.past c.self.invariant.3
           (subst (λ k. RenewsAll k c.undo.new.self.words (drop c.args.mark c.self.inside.removed.items) c.self.inside.across.items c.renew_all.new.rows.items) c.self.invariant.1
-          (subst (λ ds. RenewsAll c.self.inside.node_count c.undo.new.self.words ds c.self.inside.across.items c.renew_all.new.rows.items) (c.behind-undone.ensures ∙ ap₂ drop c.records.ensures c.as_slice.ensures.value) c.renew_all.ensures))
+          (subst (λ ds. RenewsAll c.self.inside.node_count c.undo.new.self.words ds c.self.inside.across.items c.renew_all.new.rows.items) (c.behind-undone.ensures ∙ ap₂ drop c.records.ensures c.as_slice.ensures.value) c.renew_all.ensures.renews))
           c.self.invariant.4,
+      c.renew_all.ensures.told c.self.inside.problem.now c.self.invariant.0.problem (sym c.self.invariant.1)
+          (subst (All (IsDecision c.self.inside.problem.now)) (sym (c.behind-undone.ensures ∙ ap₂ drop c.records.ensures c.as_slice.ensures.value)) (all_decided c.self.inside.problem.now c.self.inside.trail c.self.inside.removed.items (vec_capacity c.self.inside.removed) c.args.mark c.self.invariant.3)) c.self.invariant.5,
     )
 
 pub returns-clause-known : goal.returns-clause-known

@@ -1,0 +1,162 @@
+-- The bits of labels.
+use Rattle.std.proofs.Common.{◌≡◌, ◌≢◌, ℕ, ◌<◌, ◌≤◌, ◌-◌, ◌*◌, ◌%◌, ◌^◌, ◌↔◌, inl, inr, Bool, true, false, not, IsTrue, List, [], ◌∷◌, length, get_or, set, refl, ap, sym, ◌∙◌, arith}
+use Rattle.std.specs.Prelude.{◌&&◌, ◌==◌, nat_lt}
+use Rattle.std.specs.Int.{bit_at, bit_not, w32}
+use lib.Bits.{bit_and, bit_or}
+use Rattle.std.proofs.lemmas.Bool.{and_from, and_parts, cases_lt, eq-eqb, eqb-false, eqb-true, false≢true, lt-ltb, ltb-true, ne_eqb, not-true}
+use Rattle.std.proofs.lemmas.List.{get_or_default, get_or-set_other, get_or-set_same, length-set}
+use Rattle.std.proofs.lemmas.Nat.{one_shl}
+use Rattle.std.proofs.lemmas.Nat.Bits.{bit_at_above, bit_at_and, bit_at_clear_other, bit_at_clear_same, bit_at_ones, bit_at_ones_above, bit_at_set_same}
+use Rattle.xdg_facts.proofs.Truths.{either_true, or_false, or_here}
+use Rattle.xdg_facts.specs.Rises.{has, Rises}
+use Rattle.xdg_nodeset.specs.Nodes.{IsNodes}
+use Rattle.xdg_problem.specs.declared.analysis.Edge.{Edge}
+use Rattle.xdg_store.specs.Across.{edge_at, mothers_at, no_mothers}
+use Rattle.xdg_store.specs.Labels.{IsLabelled, IsMore, IsSome, Marks, Relabels, at_place, labels_at, no_labels}
+use Rattle.xdg_store.specs.declared.across.Mothers.{Mothers}
+use Rattle.xdg_store.specs.declared.labels.Labels.{Labels}
+use Rattle.xdg_store.specs.declared.labels.LabelsInto.{LabelsInto}
+
+-- ---- a bit
+
+pub set_here : (word bit : ℕ) (wanted : Bool) → bit < 32 → wanted ≡ true → (bit_at (bit_or word (1 * 2 ^ bit % 2 ^ 32)) bit ≡ 1) ↔ IsTrue wanted
+set_here word bit wanted l is = (λ h. is, λ h. bit_at_set_same w32 word bit l)
+
+pub clear_here : (word bit : ℕ) (wanted : Bool) → bit < 32 → wanted ≡ false → (bit_at (bit_and word (bit_not w32 (1 * 2 ^ bit % 2 ^ 32))) bit ≡ 1) ↔ IsTrue wanted
+clear_here word bit wanted l is = (
+  λ h. absurd (let z = bit_at_clear_same w32 word bit l in omega (arith, z, h)),
+  λ h. absurd (false≢true (sym is ∙ h)),
+)
+
+pub clear_others : (word bit : ℕ) → word < 2 ^ 32 → bit < 32 → (i : ℕ) → i ≢ bit → bit_at (bit_and word (bit_not w32 (1 * 2 ^ bit % 2 ^ 32))) i ≡ bit_at word i
+clear_others word bit small l i other = elim (cases_lt i 32) [
+  | inl k ↦ bit_at_clear_other w32 word bit l i k other
+  | inr k ↦
+      let none = bit_at_above word 32 i small k in
+      let both = bit_at_and word (bit_not w32 (1 * 2 ^ bit % 2 ^ 32)) i in
+      omega (arith, none, both)
+]
+
+-- ---- the first labels
+
+low_bits : (count : ℕ) → (label : ℕ) → (bit_at (2 ^ count - 1) label ≡ 1) ↔ (label < count)
+low_bits count label = (
+  λ h. elim (cases_lt label count) [
+    | inl l ↦ l
+    | inr l ↦ absurd (let z = bit_at_ones_above count label l in omega (arith, z, h))
+  ],
+  λ l. bit_at_ones count label l,
+)
+
+pub first_bits : (count : ℕ) (wanted : Bool) → count < 32 → wanted ≡ true → (label : ℕ) → (bit_at (1 * 2 ^ count % 2 ^ 32 - 1) label ≡ 1) ↔ ((label < count) × IsTrue wanted)
+first_bits count wanted l is label =
+    let e : bit_at (1 * 2 ^ count % 2 ^ 32 - 1) label ≡ bit_at (2 ^ count - 1) label = ap (λ w. bit_at (w - 1) label) (one_shl count 32 l) in
+    let low = low_bits count label in
+    (λ h. (low.0 (sym e ∙ h), is), λ h. e ∙ low.1 h.0)
+
+pub all_bits : (count : ℕ) (wanted : Bool) → count ≤ 32 → 32 ≤ count → wanted ≡ true → (label : ℕ) → (bit_at 4294967295 label ≡ 1) ↔ ((label < count) × IsTrue wanted)
+all_bits count wanted most least is label =
+    let low = low_bits 32 label in (
+      λ h. (let l = low.0 h in (omega (arith, l, least), is)),
+      λ h. (let l = h.0 in low.1 (omega (arith, l, most))),
+    )
+
+-- ---- how many nodes a set has
+
+some_in : (nodes : List ℕ) → 0 < length nodes → IsSome (λ m. IsTrue (has nodes m))
+some_in [] l = absurd (omega (arith, l))
+some_in (a ∷ nodes) l = (a, or_here (a == a) (has nodes a) (eq-eqb a a refl))
+
+next_above : (low bound a b : ℕ) (nodes : List ℕ) → Rises low bound (a ∷ b ∷ nodes) → a < b
+next_above low bound a b nodes rises = (let up = rises.2.0 in omega (arith, up))
+
+pub two_in : (nodes : List ℕ) → Rises 0 128 nodes → 1 < length nodes → IsMore (λ m. IsTrue (has nodes m))
+two_in [] rises l = absurd (omega (arith, l))
+two_in (a ∷ []) rises l = absurd (omega (arith, l))
+two_in (a ∷ b ∷ nodes) rises l = (
+  a,
+  b,
+  (λ same. (let up = next_above 0 128 a b nodes rises in omega (arith, up, same))),
+  or_here (a == a) (has (b ∷ nodes) a) (eq-eqb a a refl),
+  either_true (a == b) (has (b ∷ nodes) b) (or_here (b == b) (has nodes b) (eq-eqb b b refl)),
+)
+
+one_node : (nodes : List ℕ) (m : ℕ) → has nodes m ≡ true → 0 < length nodes
+one_node [] m h = absurd (false≢true h)
+one_node (a ∷ nodes) m h = omega arith
+
+two_nodes : (nodes : List ℕ) (m k : ℕ) → m ≢ k → has nodes m ≡ true → has nodes k ≡ true → 1 < length nodes
+two_nodes [] m k differ h i = absurd (false≢true h)
+two_nodes (a ∷ []) m k differ h i = absurd (differ (sym (eqb-true a m (sym (or_false (a == m)) ∙ h)) ∙ eqb-true a k (sym (or_false (a == k)) ∙ i)))
+two_nodes (a ∷ b ∷ nodes) m k differ h i = omega arith
+
+pub marks_of : (nodes : List ℕ) (label count : ℕ) (old : Labels) (some more : ℕ) → IsNodes nodes → count ≡ length nodes → (bit_at some label ≡ 1) ↔ IsTrue (nat_lt 0 count) → ((l : ℕ) → l ≢ label → bit_at some l ≡ bit_at old.some l) → (bit_at more label ≡ 1) ↔ IsTrue (nat_lt 1 count) → ((l : ℕ) → l ≢ label → bit_at more l ≡ bit_at old.more l) → Marks (λ m. IsTrue (has nodes m)) label old (record { some = some; more = more })
+marks_of nodes label count old some more is size some_is some_rest more_is more_rest = record {
+  here = record {
+    some = (
+      λ h. some_in nodes (let l = ltb-true 0 count (some_is.0 h) in omega (arith, l, size)),
+      λ (m, h). some_is.1 (lt-ltb 0 count (let l = one_node nodes m h in omega (arith, l, size))),
+    );
+    more = (
+      λ h. two_in nodes is.rises (let l = ltb-true 1 count (more_is.0 h) in omega (arith, l, size)),
+      λ (m, k, differ, h, i). more_is.1 (lt-ltb 1 count (let l = two_nodes nodes m k differ h i in omega (arith, l, size))),
+    );
+  };
+  some_others = some_rest;
+  more_others = more_rest;
+}
+
+-- ---- what else is said by the same bits
+
+pub labelled_like : (P Q : ℕ → Type 0) (old new : Labels) (k l : ℕ) → bit_at new.some l ≡ bit_at old.some k → bit_at new.more l ≡ bit_at old.more k → ((m : ℕ) → P m ↔ Q m) → IsLabelled P old k → IsLabelled Q new l
+labelled_like P Q old new k l some more same is = record {
+  some = (
+    λ h. (let x = is.some.0 (sym some ∙ h) in (x.0, (same x.0).0 x.1)),
+    λ (m, q). some ∙ is.some.1 (m, (same m).1 q),
+  );
+  more = (
+    λ h. (let x = is.more.0 (sym more ∙ h) in (x.0, x.1, x.2, (same x.0).0 x.3, (same x.1).0 x.4)),
+    λ (m, i, differ, p, q). more ∙ is.more.1 (m, i, differ, (same m).1 p, (same i).1 q),
+  );
+}
+
+-- ---- the labels of one daughter
+
+-- a set of other nodes of the sentence
+other_mothers : (n daughter : ℕ) (all set mothers : List ℕ) → ((k : ℕ) → has all k ≡ nat_lt k n) → ((k : ℕ) → has mothers k ≡ (not (k == daughter) && (has set k && has all k))) → (m : ℕ) → IsTrue (has mothers m) ↔ ((m < n) × (m ≢ daughter) × IsTrue (has set m))
+other_mothers n daughter all set mothers whole taken m = (
+  λ h.
+      let q = and_parts (not (m == daughter)) (has set m && has all m) (sym (taken m) ∙ h) in
+      let b = and_parts (has set m) (has all m) q.1 in
+      (ltb-true m n (sym (whole m) ∙ b.1), eqb-false m daughter (not-true (m == daughter) q.0), b.0),
+  λ (l, d, h). taken m ∙ and_from (not (m == daughter)) (has set m && has all m) (ap not (ne_eqb m daughter d)) (and_from (has set m) (has all m) h (whole m ∙ lt-ltb m n l)),
+)
+
+marks_like : (P Q : ℕ → Type 0) (label : ℕ) (old old' new new' : Labels) → old ≡ old' → new ≡ new' → ((m : ℕ) → P m ↔ Q m) → Marks P label old new → Marks Q label old' new'
+marks_like P Q label old old' new new' was now same marks = record {
+  here = labelled_like P Q new new' label label (ap (λ (z : Labels). bit_at z.some label) (sym now)) (ap (λ (z : Labels). bit_at z.more label) (sym now)) same marks.here;
+  some_others = λ l other. ap (λ (z : Labels). bit_at z.some l) (sym now) ∙ marks.some_others l other ∙ ap (λ (z : Labels). bit_at z.some l) was;
+  more_others = λ l other. ap (λ (z : Labels). bit_at z.more l) (sym now) ∙ marks.more_others l other ∙ ap (λ (z : Labels). bit_at z.more l) was;
+}
+
+module _ (n : ℕ) (rows : List Mothers) (e : Edge) (row : Mothers) (at : ℕ) (at_is : at ≡ mothers_at n e.dim.0 e.daughter.0 e.label.0) (within : at < length rows) (row_is : row ≡ get_or rows at row) (all mays musts : List ℕ) (whole : (k : ℕ) → has all k ≡ nat_lt k n) (mays_are : (k : ℕ) → has mays k ≡ (not (k == e.daughter.0) && (has row.may k && has all k))) (musts_are : (k : ℕ) → has musts k ≡ (not (k == e.daughter.0) && (has row.must k && has all k))) (old new : List LabelsInto) (was : LabelsInto) (may must : Labels) (place : ℕ) (place_is : place ≡ labels_at n e.dim.0 e.daughter.0) (there : place < length old) (was_is : was ≡ get_or old place was) (new_is : new ≡ set old place (record { may = may; must = must })) where
+  this_row : row ≡ get_or rows (edge_at n e) no_mothers
+  this_row = row_is ∙ get_or_default rows at row no_mothers within ∙ ap (λ i. get_or rows i no_mothers) at_is
+
+  was_there : was ≡ at_place old (labels_at n e.dim.0 e.daughter.0)
+  was_there = was_is ∙ get_or_default old place was no_labels there ∙ ap (at_place old) place_is
+
+  now_there : record { may = may; must = must } ≡ at_place new (labels_at n e.dim.0 e.daughter.0)
+  now_there = sym (get_or-set_same old place (record { may = may; must = must }) no_labels there) ∙ ap (λ (z : List LabelsInto). get_or z place no_labels) (sym new_is) ∙ ap (at_place new) place_is
+
+  pub relabelled : Marks (λ m. IsTrue (has mays m)) e.label.0 was.may may → Marks (λ m. IsTrue (has musts m)) e.label.0 was.must must → Relabels n rows e old new
+  relabelled may_marks must_marks = record {
+    count = ap length new_is ∙ length-set old place (record { may = may; must = must });
+    may = marks_like _ _ e.label.0 was.may _ may _ (ap (λ (z : LabelsInto). z.may) was_there) (ap (λ (z : LabelsInto). z.may) now_there) (λ m.
+        let o = other_mothers n e.daughter.0 all row.may mays whole mays_are m in
+        (λ h. (let x = o.0 h in (x.0, x.1, ap (λ (r : Mothers). has r.may m) (sym this_row) ∙ x.2)), λ (l, d, h). o.1 (l, d, ap (λ (r : Mothers). has r.may m) this_row ∙ h))) may_marks;
+    must = marks_like _ _ e.label.0 was.must _ must _ (ap (λ (z : LabelsInto). z.must) was_there) (ap (λ (z : LabelsInto). z.must) now_there) (λ m.
+        let o = other_mothers n e.daughter.0 all row.must musts whole musts_are m in
+        (λ h. (let x = o.0 h in (x.0, x.1, ap (λ (r : Mothers). has r.must m) (sym this_row) ∙ x.2)), λ (l, d, h). o.1 (l, d, ap (λ (r : Mothers). has r.must m) this_row ∙ h))) must_marks;
+    others = λ i other. ap (λ (z : List LabelsInto). at_place z i) new_is ∙ get_or-set_other old place i (record { may = may; must = must }) no_labels (λ s. other (s ∙ place_is));
+  }

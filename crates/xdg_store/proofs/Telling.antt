@@ -1,0 +1,294 @@
+-- What a store keeps of the labels of edges into daughters, over its calls.
+use Rattle.std.proofs.Common.{◌≡◌, ◌≢◌, ◌⊎◌, ℕ, ◌<◌, ◌≤◌, ◌+◌, ◌*◌, ◌/◌, ◌↔◌, inl, inr, Bool, true, List, [], length, get_or, set, replicate, refl, ap, ap₂, sym, ◌∙◌, arith, subst, zero, suc}
+use Rattle.std.specs.Prelude.{nat_lt, slice_get}
+use Rattle.std.specs.Int.{bit_at}
+use Rattle.std.proofs.lemmas.Bool.{cases_eq, false≢true, lt-ltb}
+use Rattle.std.proofs.lemmas.List.{get_or_default, get_or-replicate, get_or-set_other, get_or-set_same, length-replicate, length-set}
+use Rattle.std.proofs.lemmas.Nat.{div_below, div-mul-add, row_fits}
+use Rattle.std.proofs.lemmas.Nat.Bits.{bit_at-zero}
+use Rattle.std.proofs.lemmas.Option.{slice_get-get_or}
+use Rattle.xdg_problem.specs.declared.analysis.Edge.{Edge}
+use Rattle.xdg_problem.specs.declared.parts.DimPlan.{DimPlan}
+use Rattle.xdg_problem.specs.declared.parts.Parts.{Parts}
+use Rattle.xdg_problem.specs.Analyses.{IsPlace}
+use Rattle.xdg_problem.specs.Arguments.{no_plan}
+use Rattle.xdg_problem.specs.Boxes.{May, Must}
+use Rattle.xdg_problem.specs.Places.{edge, nodes}
+use Rattle.xdg_problem.specs.Problems.{IsDim, IsProblem}
+use Rattle.xdg_problem.proofs.PlacePlans.{dim_within, plan_read}
+use Rattle.xdg_store.specs.Across.{AreKept, Renews, edge_at, in_may, in_must, mothers_at, no_mothers, row_count}
+use Rattle.xdg_store.specs.InRange.{HasEdges}
+use Rattle.xdg_store.specs.Labels.{AreFirst, AreLabels, AreTold, InRows, IsLabelled, IsMother, LeadsInto, Marks, Relabels, StaysTold, at_place, labels_at, no_labels}
+use Rattle.xdg_store.specs.Layout.{bits_of, box_in, edge_bit, is_set}
+use Rattle.xdg_facts.specs.Rises.{has}
+use Rattle.xdg_store.specs.declared.across.Mothers.{Mothers}
+use Rattle.xdg_store.specs.declared.labels.Labels.{Labels}
+use Rattle.xdg_store.specs.declared.labels.LabelsInto.{LabelsInto}
+use Rattle.xdg_store.proofs.Kept.{pair, row_within}
+use Rattle.xdg_store.proofs.Labelled.{labelled_like}
+use Rattle.xdg_store.proofs.Pairs.{may_has, must_has}
+use Rattle.xdg_store.proofs.Renewed.{row_of, same_row}
+
+-- ---- after an edge was made anew
+
+few_labels : (parts : Parts) (e : Edge) → IsProblem parts → IsPlace parts e → e.label.0 < 32
+few_labels parts e p is =
+    let most = (subst IsDim (plan_read parts e is is.plan) (p.dims e.dim.0 is.plan (dim_within parts e is))).labels_most in
+    let label = is.label in
+    omega (arith, most, label)
+
+module _ (parts : Parts) (p : IsProblem parts) (e : Edge) (is : IsPlace parts e) (rows rows' : List Mothers) (into into' : List LabelsInto) (others : (place : ℕ) → place ≢ labels_at (nodes parts) e.dim.0 e.daughter.0 → at_place into' place ≡ at_place into place) where
+  abbrev n : ℕ
+  n = nodes parts
+
+  abbrev at : ℕ
+  at = labels_at n e.dim.0 e.daughter.0
+
+  -- for the edges that may be present, and for those that must be
+  module _ (has_mother : List Mothers → ℕ → ℕ → Bool) (side : LabelsInto → Labels) (same_rows : (place mother : ℕ) → (place ≢ edge_at n e) ⊎ (mother ≢ e.mother.0) → has_mother rows' place mother ≡ has_mother rows place mother) (marks : Marks (IsMother has_mother n rows' e) e.label.0 (side (at_place into at)) (side (at_place into' at))) (dim daughter label : ℕ) (within : daughter < n) where
+    abbrev Before : ℕ → Type 0
+    Before = LeadsInto parts (InRows has_mother n rows) dim daughter label
+
+    abbrev After : ℕ → Type 0
+    After = LeadsInto parts (InRows has_mother n rows') dim daughter label
+
+    -- another row
+    elsewhere : (labels_at n dim daughter ≢ at) ⊎ (label ≢ e.label.0) → (m : ℕ) → Before m ↔ After m
+    elsewhere w m = (λ x. (x.0, same x.0 ∙ x.1), λ x. (x.0, sym (same x.0) ∙ x.1))
+      where
+        apart : label < 32 → mothers_at n dim daughter label ≢ edge_at n e
+        apart l q =
+            let r = row_of (labels_at n dim daughter) at label e.label.0 l (few_labels parts e p is) q in
+            elim w [ inl other ↦ other r.0 | inr other ↦ other r.1 ]
+
+        same : IsPlace parts (edge dim m label daughter) → has_mother rows' (mothers_at n dim daughter label) m ≡ has_mother rows (mothers_at n dim daughter label) m
+        same place = same_rows (mothers_at n dim daughter label) m (inl (apart (few_labels parts (edge dim m label daughter) p place)))
+
+    -- the row of the edge
+    module _ (same_at : labels_at n dim daughter ≡ at) (same_label : label ≡ e.label.0) where
+      same_dim : dim ≡ e.dim.0
+      same_dim = same_row dim daughter e.dim.0 e.daughter.0 n within is.daughter same_at
+
+      same_daughter : daughter ≡ e.daughter.0
+      same_daughter = (let front : dim * n ≡ e.dim.0 * n = ap (λ i. i * n) same_dim in omega (arith, same_at, front))
+
+      same_place : mothers_at n dim daughter label ≡ edge_at n e
+      same_place = ap₂ (λ i l. i * 32 + l) same_at same_label
+
+      its_mothers : (m : ℕ) → IsMother has_mother n rows' e m ↔ After m
+      its_mothers m = (
+        λ (l, differ, h). (
+          record {
+            plan = is.plan;
+            plan_is = ap (slice_get parts.dims) same_dim ∙ is.plan_is;
+            graph = is.graph;
+            label = subst (λ i. i < length is.plan.labels) (sym same_label) is.label;
+            mother = l;
+            daughter = within;
+            differ = λ s. differ (s ∙ same_daughter);
+          },
+          ap (λ i. has_mother rows' i m) same_place ∙ h,
+        ),
+        λ x. (x.0.mother, (λ s. x.0.differ (s ∙ sym same_daughter)), ap (λ i. has_mother rows' i m) (sym same_place) ∙ x.1),
+      )
+
+      made_anew : IsLabelled After (side (at_place into' (labels_at n dim daughter))) label
+      made_anew = labelled_like (IsMother has_mother n rows' e) After (side (at_place into' at)) (side (at_place into' (labels_at n dim daughter))) e.label.0 label
+          (ap₂ (λ i l. bit_at (side (at_place into' i)).some l) same_at same_label)
+          (ap₂ (λ i l. bit_at (side (at_place into' i)).more l) same_at same_label)
+          its_mothers marks.here
+
+    pub label_told : IsLabelled Before (side (at_place into (labels_at n dim daughter))) label → IsLabelled After (side (at_place into' (labels_at n dim daughter))) label
+    label_told before = elim (cases_eq (labels_at n dim daughter) at) [
+      | inl same ↦ elim (cases_eq label e.label.0) [
+        | inl this ↦ made_anew same this
+        | inr other ↦ labelled_like Before After (side (at_place into (labels_at n dim daughter))) (side (at_place into' (labels_at n dim daughter))) label label
+            (ap (λ i. bit_at (side (at_place into' i)).some label) same ∙ marks.some_others label other ∙ ap (λ i. bit_at (side (at_place into i)).some label) (sym same))
+            (ap (λ i. bit_at (side (at_place into' i)).more label) same ∙ marks.more_others label other ∙ ap (λ i. bit_at (side (at_place into i)).more label) (sym same))
+            (elsewhere (inr other)) before
+      ]
+      | inr other ↦ labelled_like Before After (side (at_place into (labels_at n dim daughter))) (side (at_place into' (labels_at n dim daughter))) label label
+          (ap (λ (z : LabelsInto). bit_at (side z).some label) (others (labels_at n dim daughter) other))
+          (ap (λ (z : LabelsInto). bit_at (side z).more label) (others (labels_at n dim daughter) other))
+          (elsewhere (inl other)) before
+    ]
+
+pub stays_told : (n : ℕ) (words : List ℕ) (e : Edge) (rows rows' : List Mothers) (into into' : List LabelsInto) → Renews n words e rows rows' → Relabels n rows' e into into' → StaysTold n (λ parts. IsPlace parts e) rows into rows' into'
+stays_told n words e rows rows' into into' renews relabels parts p same is told = after (subst (λ k. Renews k words e rows rows') (sym same) renews) (subst (λ k. Relabels k rows' e into into') (sym same) relabels)
+  where
+    after : Renews (nodes parts) words e rows rows' → Relabels (nodes parts) rows' e into into' → AreTold parts rows' into'
+    after r l = record {
+      wide = (let a = told.wide in let b = r.count in let c = l.count in omega (arith, a, b, c));
+      may = λ dim daughter d within label. label_told parts p e is rows rows' into into' l.others in_may (λ z. z.may) r.may_others l.may dim daughter label within (told.may dim daughter d within label);
+      must = λ dim daughter d within label. label_told parts p e is rows rows' into into' l.others in_must (λ z. z.must) r.must_others l.must dim daughter label within (told.must dim daughter d within label);
+    }
+
+-- ---- at the start
+
+positive : (n d l : ℕ) → l < d * n → 0 < n
+positive zero d l m = absurd (let e : d * 0 ≡ 0 = grind arith in omega (arith, m, e))
+positive (suc n) d l m = omega arith
+
+-- one daughter more
+pub first_more : (n : ℕ) (dims : List DimPlan) (old into : List LabelsInto) (k : ℕ) (plan : DimPlan) (labels : LabelsInto) → length old ≡ length dims * n → length into ≡ length old → k < length old → plan ≡ get_or dims (k / n) plan → AreFirst n plan labels → ((i : ℕ) → i < k → AreFirst n (get_or dims (i / n) no_plan) (at_place into i)) → (length (set into k labels) ≡ length old) × ((i : ℕ) → i < k + 1 → AreFirst n (get_or dims (i / n) no_plan) (at_place (set into k labels) i))
+first_more n dims old into k plan labels count same l plan_is here before = (
+  length-set into k labels ∙ same,
+  λ i m. elim (cases_eq i k) [
+    | inl e ↦
+        let there : k / n < length dims = div_below k n (length dims) (positive n (length dims) k (omega (arith, l, count))) (omega (arith, l, count)) in
+        subst (λ j. AreFirst n (get_or dims (j / n) no_plan) (at_place (set into k labels) j)) (sym e)
+        (subst (λ q. AreFirst n q (at_place (set into k labels) k)) (plan_is ∙ get_or_default dims (k / n) plan no_plan there)
+        (subst (AreFirst n plan) (sym (get_or-set_same into k labels no_labels (omega (arith, l, same)))) here))
+    | inr other ↦ subst (AreFirst n (get_or dims (i / n) no_plan)) (sym (get_or-set_other into k i labels no_labels other)) (before i (omega (arith, m, other)))
+  ],
+)
+
+module _ (parts : Parts) (p : IsProblem parts) (size : ℕ) (rows : List Mothers) (all none : List ℕ) (rows_are : rows ≡ replicate size (record { may = all; must = none })) (none_is : none ≡ []) (whole : (k : ℕ) → has all k ≡ nat_lt k (nodes parts)) (long : row_count parts ≤ size) (into : List LabelsInto) (n : ℕ) (n_is : n ≡ nodes parts) (dims : List DimPlan) (dims_are : dims ≡ parts.dims) (first : (k : ℕ) → k < length into → AreFirst n (get_or dims (k / n) no_plan) (at_place into k)) (count : length parts.dims * nodes parts ≤ length into) where
+  module _ (dim daughter label : ℕ) (d : dim < length parts.dims) (within : daughter < nodes parts) where
+    abbrev plan : DimPlan
+    plan = get_or parts.dims dim no_plan
+
+    abbrev place : ℕ
+    place = labels_at (nodes parts) dim daughter
+
+    here : AreFirst (nodes parts) plan (at_place into place)
+    here =
+        let fits = row_fits dim (nodes parts) (length parts.dims) (nodes parts) d (omega arith) in
+        let there : place < length into = omega (arith, fits, within, count) in
+        let at : place / n ≡ dim = ap (λ k. place / k) n_is ∙ div-mul-add dim (nodes parts) daughter within in
+        subst (λ k. AreFirst k plan (at_place into place)) n_is
+        (subst (λ q. AreFirst n q (at_place into place)) (ap (λ z. get_or z (place / n) no_plan) dims_are ∙ ap (λ i. get_or parts.dims i no_plan) at) (first place there))
+
+    row_is : HasEdges parts dim daughter label → get_or rows (mothers_at (nodes parts) dim daughter label) no_mothers ≡ record { may = all; must = none }
+    row_is h =
+        ap (λ (z : List Mothers). get_or z (mothers_at (nodes parts) dim daughter label) no_mothers) rows_are
+        ∙ get_or-replicate size (mothers_at (nodes parts) dim daughter label) (record { may = all; must = none }) no_mothers (row_within parts p size dim daughter label (nodes parts) (mothers_at (nodes parts) dim daughter label) h refl refl long)
+
+    abbrev Leads : ℕ → Type 0
+    Leads = LeadsInto parts (InRows in_may (nodes parts) rows) dim daughter label
+
+    leads : plan.graph ≡ true → label < length plan.labels → (m : ℕ) → m < nodes parts → m ≢ daughter → Leads m
+    leads graph l m k differ = (
+      record { plan = plan; plan_is = slice_get-get_or parts.dims dim no_plan d; graph = graph; label = l; mother = k; daughter = within; differ = differ },
+      ap (λ (r : Mothers). has r.may m) (row_is (record { dim_in = d; graph = graph; node_in = within; label_in = l })) ∙ whole m ∙ lt-ltb m (nodes parts) k,
+    )
+
+    has_edges : (m : ℕ) → IsPlace parts (edge dim m label daughter) → HasEdges parts dim daughter label
+    has_edges m is =
+        let read = plan_read parts (edge dim m label daughter) is no_plan in
+        record {
+          dim_in = d;
+          graph = ap (λ (q : DimPlan). q.graph) read ∙ is.graph;
+          node_in = within;
+          label_in = subst (λ (q : DimPlan). label < length q.labels) (sym read) is.label;
+        }
+
+    one_other : 1 < nodes parts → (m : ℕ) × (m < nodes parts) × (m ≢ daughter)
+    one_other more = elim (cases_eq daughter 0) [
+      | inl e ↦ (1, more, (λ s. omega (arith, e, s)))
+      | inr e ↦ (0, omega (arith, more), (λ s. e (sym s)))
+    ]
+
+    two_others : 2 < nodes parts → (m : ℕ) × (k : ℕ) × (m ≢ k) × (m < nodes parts) × (m ≢ daughter) × (k < nodes parts) × (k ≢ daughter)
+    two_others more = elim (cases_eq daughter 0) [
+      | inl e ↦ (1, 2, (λ s. omega (arith, s)), omega (arith, more), (λ s. omega (arith, e, s)), more, (λ s. omega (arith, e, s)))
+      | inr e ↦ elim (cases_eq daughter 1) [
+        | inl f ↦ (0, 2, (λ s. omega (arith, s)), omega (arith, more), (λ s. e (sym s)), more, (λ s. omega (arith, f, s)))
+        | inr f ↦ (0, 1, (λ s. omega (arith, s)), omega (arith, more), (λ s. e (sym s)), omega (arith, more), (λ s. f (sym s)))
+      ]
+    ]
+
+    pub may_first : IsLabelled Leads (at_place into place).may label
+    may_first = record {
+      some = (
+        λ h.
+            let x = (here.some label).0 h in
+            let o = one_other x.2 in
+            (o.0, leads x.0 x.1 o.0 o.1 o.2),
+        λ (m, (is, h)).
+            let edges = has_edges m is in
+            let k = is.mother in
+            let differ = is.differ in
+            (here.some label).1 (edges.graph, edges.label_in, omega (arith, k, within, differ)),
+      );
+      more = (
+        λ h.
+            let x = (here.more label).0 h in
+            let o = two_others x.2 in
+            (o.0, o.1, o.2, leads x.0 x.1 o.0 o.3 o.4, leads x.0 x.1 o.1 o.5 o.6),
+        λ (m, k, apart, (is, h), (other, i)).
+            let edges = has_edges m is in
+            let a = is.mother in
+            let b = is.differ in
+            let c = other.mother in
+            let f = other.differ in
+            (here.more label).1 (edges.graph, edges.label_in, omega (arith, a, b, c, f, apart, within)),
+      );
+    }
+
+    none_must : (m : ℕ) → LeadsInto parts (InRows in_must (nodes parts) rows) dim daughter label m → ⊥
+    none_must m (is, h) = false≢true (sym (ap (λ (r : Mothers). has r.must m) (row_is (has_edges m is)) ∙ ap (λ z. has z m) none_is) ∙ h)
+
+    no_bit : (word : ℕ) → word ≡ 0 → bit_at word label ≡ 1 → ⊥
+    no_bit word e h = (let z = ap (λ w. bit_at w label) e ∙ bit_at-zero label in omega (arith, z, h))
+
+    pub must_first : IsLabelled (LeadsInto parts (InRows in_must (nodes parts) rows) dim daughter label) (at_place into place).must label
+    must_first = record {
+      some = (λ h. absurd (no_bit (at_place into place).must.some here.must_some h), λ (m, x). absurd (none_must m x));
+      more = (λ h. absurd (no_bit (at_place into place).must.more here.must_more h), λ (m, k, apart, x, y). absurd (none_must m x));
+    }
+
+  pub told_start : size ≤ length into * 32 → AreTold parts rows into
+  told_start wide = record {
+    wide = (let e : length rows ≡ size = ap length rows_are ∙ length-replicate size (record { may = all; must = none }) in omega (arith, e, wide));
+    may = λ dim daughter d within label. may_first dim daughter label d within;
+    must = λ dim daughter d within label. must_first dim daughter label d within;
+  }
+
+-- the code's counts of them
+pub sizes_are : (parts shown : Parts) (n d e : ℕ) → shown ≡ parts → n ≡ length shown.words → d ≡ length shown.dims → e ≡ length shown.dims → (length parts.dims * nodes parts ≤ e * n) × (d * n * 32 ≤ e * n * 32)
+sizes_are parts shown n d e s m f g =
+    let a : n ≡ nodes parts = m ∙ ap (λ (q : Parts). length q.words) s in
+    let b : e ≡ length parts.dims = g ∙ ap (λ (q : Parts). length q.dims) s in
+    let c : e * n ≡ length parts.dims * nodes parts = ap (λ i. i * n) b ∙ ap (λ i. length parts.dims * i) a in
+    let k : d * n ≡ e * n = ap (λ i. i * n) (f ∙ sym g) in
+    (omega (arith, c), omega (arith, k))
+
+-- ---- what is read
+
+-- the labels of a daughter are there
+pub labels_within : (parts : Parts) (rows : List Mothers) (into : List LabelsInto) (words : List ℕ) (n dim daughter place : ℕ) → AreKept parts words rows → AreTold parts rows into → n ≡ nodes parts → place ≡ labels_at n dim daughter → dim < length parts.dims → daughter < nodes parts → place < length into
+labels_within parts rows into words n dim daughter place kept told m at d l =
+    let long = kept.long in
+    let wide = told.wide in
+    let row = row_fits dim (nodes parts) (length parts.dims) (nodes parts) d (omega arith) in
+    let is : place ≡ labels_at (nodes parts) dim daughter = at ∙ ap (λ i. labels_at i dim daughter) m in
+    omega (arith, long, wide, row, is, l)
+
+pub labels_read : (parts : Parts) (into : List LabelsInto) (n dim daughter place : ℕ) (read : LabelsInto) → place < length into → n ≡ nodes parts → place ≡ labels_at n dim daughter → read ≡ get_or into place read → at_place into (labels_at (nodes parts) dim daughter) ≡ read
+labels_read parts into n dim daughter place read there m at is = sym (is ∙ get_or_default into place read no_labels there ∙ ap (at_place into) (at ∙ ap (λ i. labels_at i dim daughter) m))
+
+module _ (parts : Parts) (p : IsProblem parts) (words : List ℕ) (rows : List Mothers) (into : List LabelsInto) (kept : AreKept parts words rows) (told : AreTold parts rows into) (dim daughter : ℕ) (d : dim < length parts.dims) (l : daughter < nodes parts) where
+  abbrev box : List (List Bool)
+  box = box_in (bits_of parts) words
+
+  abbrev those : LabelsInto
+  those = at_place into (labels_at (nodes parts) dim daughter)
+
+  may_says : (e : Edge) → IsPlace parts e → InRows in_may (nodes parts) rows e ↔ May parts box e
+  may_says e is = may_has parts e (edge_bit (nodes parts) e) words (in_may rows (edge_at (nodes parts) e) e.mother.0) (pair parts p e is) (kept.each e is).may
+
+  must_says : (e : Edge) → IsPlace parts e → InRows in_must (nodes parts) rows e ↔ Must parts box e
+  must_says e is =
+      let k = (kept.each e is).must in
+      let w = must_has parts e (edge_bit (nodes parts) e) words (is_set words (edge_bit (nodes parts) e + 128)) (pair parts p e is) refl in
+      (λ i. w.0 (sym k ∙ i), λ i. k ∙ w.1 i)
+
+  leads_like : (P Q : Edge → Type 0) → ((e : Edge) → IsPlace parts e → P e ↔ Q e) → (label m : ℕ) → LeadsInto parts P dim daughter label m ↔ LeadsInto parts Q dim daughter label m
+  leads_like P Q same label m = (λ x. (x.0, (same (edge dim m label daughter) x.0).0 x.1), λ x. (x.0, (same (edge dim m label daughter) x.0).1 x.1))
+
+  pub may_told : AreLabels parts (May parts box) dim daughter those.may
+  may_told label = labelled_like _ _ those.may those.may label label refl refl (leads_like (InRows in_may (nodes parts) rows) (May parts box) may_says label) (told.may dim daughter d l label)
+
+  pub must_told : AreLabels parts (Must parts box) dim daughter those.must
+  must_told label = labelled_like _ _ those.must those.must label label refl refl (leads_like (InRows in_must (nodes parts) rows) (Must parts box) must_says label) (told.must dim daughter d l label)

@@ -1,0 +1,89 @@
+-- The labels of edges into daughters.
+use Rattle.std.specs.Prelude.{◌≡◌, ◌≢◌, ◌↔◌, ℕ, ◌<◌, ◌≤◌, ◌+◌, ◌*◌, Bool, true, IsTrue, List, length, slice_index_or}
+use Rattle.std.specs.Int.{bit_at}
+use Rattle.xdg_problem.specs.declared.analysis.Edge.{Edge}
+use Rattle.xdg_problem.specs.declared.parts.DimPlan.{DimPlan}
+use Rattle.xdg_problem.specs.declared.parts.Parts.{Parts}
+use Rattle.xdg_problem.specs.Analyses.{IsPlace}
+use Rattle.xdg_problem.specs.Places.{edge, nodes}
+use Rattle.xdg_problem.specs.Problems.{IsProblem}
+use Rattle.xdg_store.specs.Across.{edge_at, in_may, in_must}
+use Rattle.xdg_store.specs.declared.across.Mothers.{Mothers}
+use Rattle.xdg_store.specs.declared.labels.Labels.{Labels}
+use Rattle.xdg_store.specs.declared.labels.LabelsInto.{LabelsInto}
+
+-- ---- what is said of them
+
+-- something holds of one number at least, and of more than one
+abbrev pub IsSome : (ℕ → Type 0) → Type 0
+IsSome P = (m : ℕ) × P m
+
+abbrev pub IsMore : (ℕ → Type 0) → Type 0
+IsMore P = (m : ℕ) × (k : ℕ) × (m ≢ k) × P m × P k
+
+-- the bits of a label say of how many mothers something holds
+pub record IsLabelled (P : ℕ → Type 0) (labels : Labels) (label : ℕ) : Type 0 where
+  pub some : (bit_at labels.some label ≡ 1) ↔ IsSome P
+  pub more : (bit_at labels.more label ≡ 1) ↔ IsMore P
+
+-- an edge with a label leads from a mother into a daughter, and something holds of it
+abbrev pub LeadsInto : Parts → (Edge → Type 0) → ℕ → ℕ → ℕ → ℕ → Type 0
+LeadsInto parts P dim daughter label mother = IsPlace parts (edge dim mother label daughter) × P (edge dim mother label daughter)
+
+-- those of the edges into a daughter of which something holds
+abbrev pub AreLabels : Parts → (Edge → Type 0) → ℕ → ℕ → Labels → Type 0
+AreLabels parts P dim daughter labels = (label : ℕ) → IsLabelled (LeadsInto parts P dim daughter label) labels label
+
+-- ---- where they stand
+
+-- the place of those into a daughter, in a sentence of n nodes
+abbrev pub labels_at : ℕ → ℕ → ℕ → ℕ
+labels_at n dim daughter = dim * n + daughter
+
+abbrev pub no_labels : LabelsInto
+no_labels = record { may = record { some = 0; more = 0 }; must = record { some = 0; more = 0 } }
+
+abbrev pub at_place : List LabelsInto → ℕ → LabelsInto
+at_place into place = slice_index_or into place no_labels
+
+-- rows have the mother of an edge
+abbrev pub InRows : (List Mothers → ℕ → ℕ → Bool) → ℕ → List Mothers → Edge → Type 0
+InRows has_mother n rows e = IsTrue (has_mother rows (edge_at n e) e.mother.0)
+
+-- what stands of each daughter is what rows say
+pub record AreTold (parts : Parts) (rows : List Mothers) (into : List LabelsInto) : Type 0 where
+  pub wide : length rows ≤ length into * 32
+  pub may : (dim daughter : ℕ) → dim < length parts.dims → daughter < nodes parts → AreLabels parts (InRows in_may (nodes parts) rows) dim daughter (at_place into (labels_at (nodes parts) dim daughter)).may
+  pub must : (dim daughter : ℕ) → dim < length parts.dims → daughter < nodes parts → AreLabels parts (InRows in_must (nodes parts) rows) dim daughter (at_place into (labels_at (nodes parts) dim daughter)).must
+
+-- ---- how they are made anew
+
+-- the bits of one label are made anew, and of no other
+pub record Marks (P : ℕ → Type 0) (label : ℕ) (old new : Labels) : Type 0 where
+  pub here : IsLabelled P new label
+  pub some_others : (l : ℕ) → l ≢ label → bit_at new.some l ≡ bit_at old.some l
+  pub more_others : (l : ℕ) → l ≢ label → bit_at new.more l ≡ bit_at old.more l
+
+-- the row of an edge has a mother of the sentence of n nodes, other than the daughter
+abbrev pub IsMother : (List Mothers → ℕ → ℕ → Bool) → ℕ → List Mothers → Edge → ℕ → Type 0
+IsMother has_mother n rows e m = (m < n) × (m ≢ e.daughter.0) × IsTrue (has_mother rows (edge_at n e) m)
+
+-- those of the label of an edge, by its row
+pub record Relabels (n : ℕ) (rows : List Mothers) (e : Edge) (old new : List LabelsInto) : Type 0 where
+  pub count : length new ≡ length old
+  pub may : Marks (IsMother in_may n rows e) e.label.0 (at_place old (labels_at n e.dim.0 e.daughter.0)).may (at_place new (labels_at n e.dim.0 e.daughter.0)).may
+  pub must : Marks (IsMother in_must n rows e) e.label.0 (at_place old (labels_at n e.dim.0 e.daughter.0)).must (at_place new (labels_at n e.dim.0 e.daughter.0)).must
+  pub others : (place : ℕ) → place ≢ labels_at n e.dim.0 e.daughter.0 → at_place new place ≡ at_place old place
+
+-- after a change of rows what stands is right again, for a problem of n nodes of which something holds
+abbrev pub StaysTold : ℕ → (Parts → Type 0) → List Mothers → List LabelsInto → List Mothers → List LabelsInto → Type 0
+StaysTold n P old before new after = (parts : Parts) → IsProblem parts → nodes parts ≡ n → P parts → AreTold parts old before → AreTold parts new after
+
+-- ---- the start
+
+-- the labels of all edges into a daughter on a dimension, in a sentence of n nodes
+pub record AreFirst (n : ℕ) (plan : DimPlan) (into : LabelsInto) : Type 0 where
+  pub some : (label : ℕ) → (bit_at into.may.some label ≡ 1) ↔ ((plan.graph ≡ true) × (label < length plan.labels) × (1 < n))
+  pub more : (label : ℕ) → (bit_at into.may.more label ≡ 1) ↔ ((plan.graph ≡ true) × (label < length plan.labels) × (2 < n))
+  pub must_some : into.must.some ≡ 0
+  pub must_more : into.must.more ≡ 0
