@@ -1,14 +1,11 @@
 -- What is written of a group, line by line.
-use Rattle.std.proofs.Common.{◌≡◌, ◌<◌, ◌≤◌, ◌+◌, ◌++◌, ℕ, List, suc, length, drop, get_or, sym, ap, ◌∙◌, subst, arith}
-use Rattle.std.specs.Prelude.{Option}
+use Rattle.std.proofs.Common.{◌≡◌, ◌<◌, ◌≤◌, ◌+◌, ◌++◌, ℕ, List, [], suc, length, drop, get_or, sym, ap, ◌∙◌, arith}
 use Rattle.std.proofs.Math.Seq.{drop-cons}
 use Rattle.std.proofs.lemmas.Option.{slice_get_past}
 use Rattle.xdg_corpus.specs.Groups.{answer_text, group_text, own_text}
 use Rattle.xdg_corpus.specs.Texts.{sentence_line}
 use Rattle.xdg_corpus.specs.declared.group.Sentence.{Sentence}
 use Rattle.xdg_corpus.specs.declared.group.Sentence.TheVariants as sentences
-use Rattle.xdg_io.specs.Held.{Appends}
-use Rattle.xdg_io.proofs.Written.{appends_nothing}
 use Rattle.xdg_split.specs.declared.answer.Answer.{Answer}
 
 -- the texts from a place on begin with that of the line there
@@ -23,6 +20,5 @@ group_from answers first said i sentence within is =
     ∙ ap (λ n. (sentence_line (first + i) ++ own_text answers sentence) ++ group_text answers (first + (i + 1)) (drop n said)) next
 
 -- a place without an answer has no text
-pub no_answer : (answers : List Answer) (sentence : Sentence) (place : ℕ) (held : Option (List ℕ)) → sentence ≡ sentences.Job place → length answers ≤ place → Appends held held (own_text answers sentence)
-no_answer answers sentence place held is past =
-    subst (λ z. Appends held held (own_text answers z)) (sym is) (subst (λ z. Appends held held (answer_text z)) (sym (slice_get_past answers place past)) (appends_nothing held))
+pub no_answer : (answers : List Answer) (sentence : Sentence) (place : ℕ) → sentence ≡ sentences.Job place → length answers ≤ place → [] ≡ own_text answers sentence
+no_answer answers sentence place is past = sym (ap (own_text answers) is ∙ ap answer_text (slice_get_past answers place past))
