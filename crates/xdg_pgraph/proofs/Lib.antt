@@ -30,3 +30,4 @@ pub mod Sources
 pub mod RootSets
 pub mod Resting
 pub mod Members
+pub mod Mothers

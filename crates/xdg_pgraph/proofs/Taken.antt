@@ -13,16 +13,12 @@ use Rattle.xdg_propcore.proofs.Passing.{clears_like, clears_both}
 use Rattle.xdg_pgraph.specs.declared.found.Found.{Found}
 use Rattle.xdg_pgraph.specs.declared.plane.Plane.{Plane}
 use Rattle.xdg_pgraph.specs.Planes.{IsPlane}
-use Rattle.xdg_pgraph.specs.Seeking.{Aims, FromTo, ToNode, IsOther}
+use Rattle.xdg_pgraph.specs.Seeking.{Aims, FromTo, IsOther}
 use Rattle.xdg_pgraph.proofs.PlaneFacts.{edge_on}
 
 -- an edge from a node to another with a label below a bound
 abbrev pub FromToBelow : ℕ → ℕ → ℕ → Edge → Type 0
 FromToBelow u v l e = FromTo u v e × (e.label.0 < l)
-
--- an edge into a node from a mother below a bound
-abbrev pub ToNodeBelow : ℕ → ℕ → Edge → Type 0
-ToNodeBelow v m e = ToNode v e × (e.mother.0 < m)
 
 -- the same edges, told in another way
 pub aims_like : (parts : Parts) (dim : ℕ) (others : Found) (P Q : Edge → Type 0) → ((e : Edge) → IsPlaceOn parts dim e → P e → Q e) → (d v : ℕ) → Aims parts dim others P d v → Aims parts dim others Q d v
@@ -67,33 +63,6 @@ module _ (parts : Parts) (plane : Plane) (others : Found) (p q r : Progress) (ol
     labels_done all = clears_like (Aims parts dim others (FromToBelow u v l)) (Aims parts dim others (FromTo u v)) p q old mid
         (aims_like parts dim others (FromToBelow u v l) (FromTo u v) (λ e on j. j.0))
         (aims_like parts dim others (FromTo u v) (FromToBelow u v l) (λ e on j. (j, (let k = ((is.exact e).0 on).label in omega (arith, k, all)))))
-
-  module _ (v m : ℕ) where
-    mother_cases : (e : Edge) → ToNodeBelow v (m + 1) e → ToNodeBelow v m e ⊎ FromTo m v e
-    mother_cases e j = elim (cases_eq e.mother.0 m) [
-      | inl k ↦ inr (k, j.0)
-      | inr other ↦ inl (j.0, (let b = j.1 in omega (arith, b, other)))
-    ]
-
-    pub mother_taken : mid.parts ≡ parts → Clears (Aims parts dim others (ToNodeBelow v m)) p old q mid → Clears (Aims mid.parts dim others (FromTo m v)) q mid r new → Clears (Aims parts dim others (ToNodeBelow v (m + 1))) p old r new
-    mother_taken stays a b = clears_both (Aims parts dim others (ToNodeBelow v m)) (Aims parts dim others (FromTo m v)) (Aims parts dim others (ToNodeBelow v (m + 1))) p q r old mid new
-        (aims_like parts dim others (ToNodeBelow v m) (ToNodeBelow v (m + 1)) (λ e on j. (j.0, (let b = j.1 in omega (arith, b)))))
-        (aims_like parts dim others (FromTo m v) (ToNodeBelow v (m + 1)) (λ e on j. (j.1, (let b = j.0 in omega (arith, b)))))
-        (λ e x aim. elim (mother_cases aim.place aim.aimed) [
-          | inl j ↦ inl (record { place = aim.place; is = aim.is; aimed = j; other = aim.other; says = aim.says })
-          | inr j ↦ inr (record { place = aim.place; is = aim.is; aimed = j; other = aim.other; says = aim.says })
-        ])
-        a (subst (λ z. Clears (Aims z dim others (FromTo m v)) q mid r new) stays b)
-
-    pub mother_itself : m ≡ v → Clears (Aims parts dim others (ToNodeBelow v m)) p old q mid → Clears (Aims parts dim others (ToNodeBelow v (m + 1))) p old q mid
-    mother_itself itself = clears_like (Aims parts dim others (ToNodeBelow v m)) (Aims parts dim others (ToNodeBelow v (m + 1))) p q old mid
-        (aims_like parts dim others (ToNodeBelow v m) (ToNodeBelow v (m + 1)) (λ e on j. (j.0, (let b = j.1 in omega (arith, b)))))
-        (aims_like parts dim others (ToNodeBelow v (m + 1)) (ToNodeBelow v m) (λ e on j. elim (mother_cases e j) [ inl k ↦ k | inr k ↦ absurd (((is.exact e).0 on).differ (k.0 ∙ itself ∙ sym k.1)) ]))
-
-    pub mothers_done : plane.nodes ≤ m → Clears (Aims parts dim others (ToNodeBelow v m)) p old q mid → Clears (Aims parts dim others (ToNode v)) p old q mid
-    mothers_done all = clears_like (Aims parts dim others (ToNodeBelow v m)) (Aims parts dim others (ToNode v)) p q old mid
-        (aims_like parts dim others (ToNodeBelow v m) (ToNode v) (λ e on j. j.0))
-        (aims_like parts dim others (ToNode v) (ToNodeBelow v m) (λ e on j. (j, (let k = ((is.exact e).0 on).mother in omega (arith, k, all)))))
 
 -- ---- as the code goes
 

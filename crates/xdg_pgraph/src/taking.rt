@@ -10,6 +10,8 @@ ghost use Rattle.xdg_pgraph.specs.Planes.{IsPlane};
 use crate::finding::entering;
 use crate::found::{Found, Which};
 use crate::plane::Plane;
+use xdg_base::NodeId;
+use xdg_graph::mothers_of;
 use xdg_propcore::Pass;
 use xdg_store::Store;
 
@@ -38,7 +40,7 @@ pub(crate) fn forbid_joined(
     }
 }
 
-/// Takes away that an edge into a node is present, each that isn't the only one of some edges.
+/// Takes away that an edge into a node is present, each that isn't the only one of some edges. It looks only at the mothers that may be.
 pub(crate) fn forbid_entering(
     store: &mut Store,
     pass: &mut Pass,
@@ -52,10 +54,9 @@ pub(crate) fn forbid_entering(
     ensures clears { Clears (Aims store.old.parts plane.now.dim.0 others (ToNode daughter)) pass.old store.old pass.new store.new }
     ensures known { Known store.new }
 {
-    for mother in 0..plane.nodes {
-        if mother != daughter {
-            forbid_joined(store, pass, plane, mother, daughter, others);
-        }
+    let mothers = mothers_of(store, xdg_graph::Which::May, plane.dim, NodeId(daughter));
+    for mother in mothers.iter() {
+        forbid_joined(store, pass, plane, mother.0, daughter, others);
     }
 }
 
