@@ -34,17 +34,24 @@ fn attr_at(parts: &Parts, at: usize) -> Decision
     Decision::Entry(NodeId(0))
 }
 
-/// How many decisions come before those on edges, whose places are given.
-pub(crate) fn first_edge(store: &Store, edge_places: &[Edge]) -> usize
+/// How many of so many decisions come before those on edges, whose places are given.
+pub(crate) fn first_edge(store: &Store, decisions: usize, edge_places: &[Edge]) -> usize
+    requires decisions { decisions ≡ length (shape store.now.parts) }
     requires listed { edge_places.now ≡ places store.now.parts }
     ensures first { result ≡ first_place store.now.parts }
     ensures all { result + length edge_places.now ≡ length (shape store.now.parts) }
 {
-    store.problem().decisions() as usize - edge_places.len()
+    decisions - edge_places.len()
 }
 
-/// The decision at a place among all decisions on a sentence, whose edge places are given.
-pub(crate) fn decision_at(problem: &Problem, edge_places: &[Edge], at: usize) -> Decision
+/// The decision at a place among so many decisions on a sentence, whose edge places are given.
+pub(crate) fn decision_at(
+    problem: &Problem,
+    decisions: usize,
+    edge_places: &[Edge],
+    at: usize,
+) -> Decision
+    requires decisions { decisions ≡ length (shape problem.now) }
     requires listed { edge_places.now ≡ places problem.now }
     requires within { at < length (shape problem.now) }
     ensures is { IsDecision problem.now result }
@@ -55,7 +62,7 @@ pub(crate) fn decision_at(problem: &Problem, edge_places: &[Edge], at: usize) ->
     if at < nodes {
         return Decision::Entry(NodeId(at as u8));
     }
-    let first = problem.decisions() as usize - edge_places.len();
+    let first = decisions - edge_places.len();
     if at < first {
         return attr_at(parts, at - nodes);
     }

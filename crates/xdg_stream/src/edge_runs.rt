@@ -31,12 +31,14 @@ fn add_absent(count: usize, mark: Mark, marks: &mut Vec<Mark>, numbers: &mut Vec
 #[tactic(auto, using(crate::proofs::Reading::none_read))]
 pub(crate) fn add_edges(
     store: &Store,
+    decisions: usize,
     edge_places: &[Edge],
     mark: Mark,
     marks: &mut Vec<Mark>,
     numbers: &mut Vec<u16>,
     most: u64,
 ) -> u64
+    requires decisions { decisions ≡ length (shape store.now.parts) }
     requires listed { edge_places.now ≡ places store.now.parts }
     requires known { Known store.now }
     requires behind { first_place store.now.parts ≤ length numbers.old.items }
@@ -48,7 +50,7 @@ pub(crate) fn add_edges(
     ensures mark_room { vec_capacity marks.old ≤ vec_capacity marks.new }
 {
     let width = store.problem().parts().words.len().saturating_sub(1);
-    let first = first_edge(store, edge_places);
+    let first = first_edge(store, decisions, edge_places);
     let mut row = no_row();
     let mut added = 0;
     let mut place = numbers.len() - first;

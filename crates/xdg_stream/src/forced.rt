@@ -33,15 +33,16 @@ fn last_value(store: &Store, decision: Decision, size: u16) -> Option<u16>
     found
 }
 
-/// The same, by the number of the decision. The edge places of the sentence are given.
-fn alone(store: &Store, edge_places: &[Edge], at: usize) -> Option<u16>
+/// The same, by the number of the decision. How many decisions there are on the sentence is given, and its edge places.
+fn alone(store: &Store, decisions: usize, edge_places: &[Edge], at: usize) -> Option<u16>
+    requires decisions { decisions ≡ length (shape store.now.parts) }
     requires listed { edge_places.now ≡ places store.now.parts }
     requires within { at < length (shape store.now.parts) }
     requires known { Known store.now }
     ensures { IfSome result (λ value. IsAlone store.now.now at value) }
 {
     let problem = store.problem();
-    let decision = decision_at(problem, edge_places, at);
+    let decision = decision_at(problem, decisions, edge_places, at);
     let size = problem.value_count(at) as u16;
     last_value(store, decision, size)
 }
@@ -49,12 +50,14 @@ fn alone(store: &Store, edge_places: &[Edge], at: usize) -> Option<u16>
 /// Adds what `add_alone` adds, as far as it comes before the decisions on edges.
 fn add_first(
     store: &Store,
+    decisions: usize,
     edge_places: &[Edge],
     mark: Mark,
     marks: &mut Vec<Mark>,
     numbers: &mut Vec<u16>,
     most: u64,
 ) -> u64
+    requires decisions { decisions ≡ length (shape store.now.parts) }
     requires listed { edge_places.now ≡ places store.now.parts }
     requires known { Known store.now }
     requires count { length marks.old.items ≡ length numbers.old.items + 1 }
@@ -64,13 +67,13 @@ fn add_first(
     ensures number_room { vec_capacity numbers.new ≡ vec_capacity numbers.old }
     ensures mark_room { vec_capacity marks.new ≡ vec_capacity marks.old }
 {
-    let first = first_edge(store, edge_places);
+    let first = first_edge(store, decisions, edge_places);
     let mut added = 0;
     for at in numbers.len()..first {
         if added == most {
             return added;
         }
-        let Some(value) = alone(store, edge_places, at) else {
+        let Some(value) = alone(store, decisions, edge_places, at) else {
             return added;
         };
         marks.push_reserved(mark);
@@ -84,12 +87,14 @@ fn add_first(
 /// at most. Each gets the mark of that box. It answers how many.
 pub(crate) fn add_alone(
     store: &Store,
+    decisions: usize,
     edge_places: &[Edge],
     mark: Mark,
     marks: &mut Vec<Mark>,
     numbers: &mut Vec<u16>,
     most: u64,
 ) -> u64
+    requires decisions { decisions ≡ length (shape store.now.parts) }
     requires listed { edge_places.now ≡ places store.now.parts }
     requires known { Known store.now }
     requires count { length marks.old.items ≡ length numbers.old.items + 1 }
@@ -99,13 +104,21 @@ pub(crate) fn add_alone(
     ensures number_room { vec_capacity numbers.old ≤ vec_capacity numbers.new }
     ensures mark_room { vec_capacity marks.old ≤ vec_capacity marks.new }
 {
-    let added = add_first(store, edge_places, mark, marks, numbers, most);
+    let added = add_first(store, decisions, edge_places, mark, marks, numbers, most);
     let reached = numbers.len();
-    let first = first_edge(store, edge_places);
+    let first = first_edge(store, decisions, edge_places);
     if reached < first {
         return added;
     }
-    let more = add_edges(store, edge_places, mark, marks, numbers, most - added);
+    let more = add_edges(
+        store,
+        decisions,
+        edge_places,
+        mark,
+        marks,
+        numbers,
+        most - added,
+    );
     added + more
 }
 

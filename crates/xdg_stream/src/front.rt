@@ -28,6 +28,8 @@ pub struct BoxFront<'a, P: Propagator> {
     store: Store<'a>,
     props: &'a [P],
     agenda: Agenda,
+    // How many decisions there are.
+    decisions: usize,
     edge_places: List<Edge>,
     numbers: Vec<u16>,
     // None where no prefix is boxed; else one for each front of the numbers, the empty one first.
@@ -35,12 +37,13 @@ pub struct BoxFront<'a, P: Propagator> {
 }
 
 impl<'a, P: Propagator> Model for BoxFront<'a, P> {
-    ghost use Rattle.std.specs.Prelude.{◌≡◌, map};
+    ghost use Rattle.std.specs.Prelude.{◌≡◌, length, map};
     ghost use Rattle.std.specs.Vec.{vec_capacity};
     ghost use Rattle.xdg_store.specs.States.{Known};
     ghost use Rattle.xdg_stream.specs.Fronted.{Fronted, HasFront};
     ghost use Rattle.xdg_stream.specs.Levels.{AllStill, AreAll};
     ghost use Rattle.xdg_propcore.specs.Uses.{AllStandIn};
+    ghost use Rattle.xdg_problem.specs.Vectors.{shape};
     ghost use Rattle.std.specs.Coded.{codes};
     ghost use Rattle.xdg_problem.specs.contracts.formula.Formula as formula;
 
@@ -54,7 +57,8 @@ impl<'a, P: Propagator> Model for BoxFront<'a, P> {
         × AllStandIn P.stands f.props.now f.store.parts
         × (f.agenda ≡ map P.kinds f.props.now)
         × HasFront f.store.parts f.store.history f.edge_places f.marks.items f.numbers.items (vec_capacity f.marks) (vec_capacity f.numbers)
-        × AreAll (AllStill P.still f.props.now) f.store.parts f.store.history f.marks.items };
+        × AreAll (AllStill P.still f.props.now) f.store.parts f.store.history f.marks.items
+        × (f.decisions ≡ length (shape f.store.parts)) };
 }
 
 impl<'a, P: Propagator> BoxFront<'a, P> {
@@ -85,6 +89,7 @@ impl<'a, P: Propagator> BoxFront<'a, P> {
             store,
             props,
             agenda,
+            decisions,
             edge_places,
             numbers,
             marks,
@@ -122,7 +127,7 @@ impl<P: Propagator> Front for BoxFront<'_, P> {
     }
 
     fn decisions(&self) -> usize {
-        self.store.problem().decisions() as usize
+        self.decisions
     }
 
     fn size(&self, decision: usize) -> u16 {
@@ -139,6 +144,7 @@ impl<P: Propagator> Front for BoxFront<'_, P> {
             &mut self.store,
             self.props,
             &mut self.agenda,
+            self.decisions,
             self.edge_places.as_slice(),
             depth - 1,
             value,
@@ -160,6 +166,7 @@ impl<P: Propagator> Front for BoxFront<'_, P> {
         self.store.undo(mark);
         add_alone(
             &self.store,
+            self.decisions,
             self.edge_places.as_slice(),
             mark,
             &mut self.marks,

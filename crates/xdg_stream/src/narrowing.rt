@@ -92,17 +92,19 @@ pub(crate) fn narrow<P: Propagator>(
     }
 }
 
-/// The same, by the number of the decision. The edge places of the sentence are given.
+/// The same, by the number of the decision. How many decisions there are on the sentence is given, and its edge places.
 pub(crate) fn lengthen<P: Propagator>(
     store: &mut Store,
     props: &[P],
     agenda: &mut Agenda,
+    decisions: usize,
     edge_places: &[Edge],
     at: usize,
     value: u16,
 ) -> bool
     requires stand { AllStandIn P.stands props.now store.old.parts }
     requires agenda { agenda.old ≡ map P.kinds props.now }
+    requires decisions { decisions ≡ length (shape store.old.parts) }
     requires listed { edge_places.now ≡ places store.old.parts }
     requires within { at < length (shape store.old.parts) }
     requires value { value < slice_index (shape store.old.parts) at }
@@ -115,7 +117,7 @@ pub(crate) fn lengthen<P: Propagator>(
     ensures agenda { agenda.new ≡ agenda.old }
 {
     let problem = store.problem();
-    let decision = decision_at(problem, edge_places, at);
+    let decision = decision_at(problem, decisions, edge_places, at);
     let size = problem.value_count(at) as u16;
     narrow(store, props, agenda, decision, size, value)
 }

@@ -1,6 +1,7 @@
 use Rattle.std.proofs.Common.{◌∙◌, ◌<◌, ◌≤◌, ◌++◌, ◌∷◌, [], ap, arith, length, sym, subst}
 use Rattle.std.specs.Prelude.{All}
 use Rattle.std.specs.Vec.{vec_capacity}
+use Rattle.xdg_problem.specs.declared.parts.Parts.{Parts}
 use Rattle.xdg_problem.specs.Vectors.{shape}
 use Rattle.xdg_propcore.specs.Uses.{StandsIn}
 use Rattle.xdg_stream.specs.Fronted.{HasFront}
@@ -45,4 +46,5 @@ invariant_of-result g c =
         | in-Dead w ↦ subst (λ m. AreAll (AllStill g.P.Propagator.still c.args.props.now) new.parts new.history m.items) (sym w.marks-is)
             (calm_none (AllStill g.P.Propagator.still c.args.props.now) new.parts new.history c.in_ok-marks.marks.items c.in_ok-marks.ensures.items)
       ],
+      (let all = ap (λ (p : Parts). length (shape p)) parts in omega (arith, all, decided)),
     )

@@ -38,6 +38,7 @@ invariant_of-self-2 g c =
       cut_front parts history c.self.inside.edge_places marks numbers c.truncate-2.new.self.items c.truncate-3.new.self.items (vec_capacity c.self.inside.marks) (vec_capacity c.self.inside.numbers) (vec_capacity c.truncate-2.new.self) (vec_capacity c.truncate-3.new.self) (d - 1) c.self.invariant.3
           (omega (arith, short)) (c.truncate-2.ensures.items ∙ ap (λ k. take k marks) next) c.truncate-3.ensures.items (omega (arith, a)) (omega (arith, b)),
       calm_cut (AllStill g.P.Propagator.still c.self.inside.props.now) parts history marks c.truncate-2.new.self.items d c.self.invariant.4 c.truncate-2.ensures.items,
+      c.self.invariant.5,
     )
 
 pub returns-clause-backs : goal.returns-clause-backs

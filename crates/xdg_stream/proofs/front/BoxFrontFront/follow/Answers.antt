@@ -1,11 +1,16 @@
 use Rattle.std.proofs.Common.{◌≡◌, ◌+◌, ◌-◌, ◌∙◌, [], arith, ap, length, subst, sym, take}
 use Rattle.std.specs.Prelude.{slice_index_or}
 use Rattle.std.specs.Vec.{vec_capacity}
+use Rattle.xdg_problem.specs.declared.parts.Parts.{Parts}
+use Rattle.xdg_problem.specs.Vectors.{shape}
 use Rattle.xdg_propcore.specs.Uses.{AllStandIn}
 use Rattle.xdg_stream.proofs.Pushing.{follows_here, read_at, run_follows, run_front}
 use Rattle.xdg_stream.specs.Levels.{AllStill}
 use Rattle.xdg_stream.proofs.Calming.{calm_at_top, calm_more, calm_undone}
 use Rattle.xdg_stream.proofs.front.BoxFrontFront.follow.Goals as goal
+
+pub add_alone-requires-clause-decisions : goal.add_alone-requires-clause-decisions
+add_alone-requires-clause-decisions g c = c.self.invariant.5 ∙ ap (λ (p : Parts). length (shape p)) (sym c.undo.ensures.parts)
 
 pub invariant_of-self : goal.invariant_of-self
 invariant_of-self g c =
@@ -37,6 +42,7 @@ invariant_of-self g c =
       calm_more (AllStill g.P.Propagator.still c.self.inside.props.now) s1.parts s1.history marks marks'.items c.add_alone.ensures.adds.added mark
           (calm_undone (AllStill g.P.Propagator.still c.self.inside.props.now) s0 s1 edges marks numbers mr nr at has is same now_is undone c.self.invariant.4)
           (calm_at_top (AllStill g.P.Propagator.still c.self.inside.props.now) s0 s1 edges marks numbers mr nr at has is same now_is undone c.self.invariant.4 mark mark_is) c.add_alone.ensures.adds.marks_are,
+      c.self.invariant.5 ∙ ap (λ (p : Parts). length (shape p)) (sym same),
     )
 
 pub returns-clause-follows : goal.returns-clause-follows

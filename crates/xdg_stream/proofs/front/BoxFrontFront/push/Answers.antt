@@ -70,6 +70,9 @@ lengthen-requires-clause-still g c =
     let undone = c.undo.ensures.history ∙ ap (λ m. take (m + 1) s0.history) mark_is in
     calm_top (AllStill g.P.Propagator.still c.self.inside.props.now) s0 s1 edges marks numbers mr nr at has is same now_is undone c.self.invariant.4
 
+pub lengthen-requires-clause-decisions : goal.lengthen-requires-clause-decisions
+lengthen-requires-clause-decisions g c = c.self.invariant.5 ∙ ap (λ (p : Parts). length (shape p)) (sym c.undo.ensures.parts)
+
 pub lengthen-requires-clause-listed : goal.lengthen-requires-clause-listed
 lengthen-requires-clause-listed g c =
     c.as_slice-2.ensures ∙ c.self.invariant.3.listed ∙ ap places (sym c.undo.ensures.parts)
@@ -131,6 +134,7 @@ invariant_of-self g c =
       c.lengthen.ensures.agenda ∙ c.self.invariant.2,
       kept_front s0 s1 edges marks numbers mr nr at has is same now_is undone s2 extends,
       calm_grown (AllStill g.P.Propagator.still c.self.inside.props.now) s0 s1 edges marks numbers mr nr at has is same now_is undone c.self.invariant.4 s2 extends,
+      c.self.invariant.5 ∙ ap (λ (p : Parts). length (shape p)) (sym (extends.same ∙ same)),
     )
 
 pub returns-then-not-lengthen-clause-kept : goal.returns-then-not-lengthen-clause-kept
@@ -231,6 +235,7 @@ invariant_of-self-2 g c =
       calm_with (AllStill g.P.Propagator.still c.self.inside.props.now) s2.parts s2.history marks c.push_reserved.new.self.items c.mark.result
           (calm_grown (AllStill g.P.Propagator.still c.self.inside.props.now) s0 s1 edges marks numbers mr nr at has is same now_is undone c.self.invariant.4 s2 extends)
           (subst ((AllStill g.P.Propagator.still c.self.inside.props.now) s2.parts) (sym c.mark.ensures.last) (c.if-not-lengthen.ensures.still refl)) c.push_reserved.ensures.items,
+      c.self.invariant.5 ∙ ap (λ (p : Parts). length (shape p)) (sym (extends.same ∙ same)),
     )
 
 pub returns-clause-kept : goal.returns-clause-kept
