@@ -18,7 +18,7 @@ use Rattle.xdg_problem.specs.Problems.{IsDim, IsProblem}
 use Rattle.xdg_problem.proofs.PlacePlans.{dim_within, plan_read}
 use Rattle.xdg_store.specs.Across.{AreKept, Renews, edge_at, in_may, in_must, mothers_at, no_mothers, row_count}
 use Rattle.xdg_store.specs.InRange.{HasEdges}
-use Rattle.xdg_store.specs.Labels.{AreFirst, AreLabels, AreTold, InRows, IsLabelled, IsMother, LeadsInto, Marks, Relabels, StaysTold, at_place, labels_at, no_labels}
+use Rattle.xdg_store.specs.Labels.{AreFirst, AreLabels, AreTold, InRows, IsLabelled, IsMother, LeadsInto, Marks, Relabels, SaysAgain, StaysTold, at_place, labels_at, no_labels}
 use Rattle.xdg_store.specs.Layout.{bits_of, box_in, edge_bit, is_set}
 use Rattle.xdg_facts.specs.Rises.{has}
 use Rattle.xdg_store.specs.declared.across.Mothers.{Mothers}
@@ -45,7 +45,7 @@ module _ (parts : Parts) (p : IsProblem parts) (e : Edge) (is : IsPlace parts e)
   at = labels_at n e.dim.0 e.daughter.0
 
   -- for the edges that may be present, and for those that must be
-  module _ (has_mother : List Mothers → ℕ → ℕ → Bool) (side : LabelsInto → Labels) (same_rows : (place mother : ℕ) → (place ≢ edge_at n e) ⊎ (mother ≢ e.mother.0) → has_mother rows' place mother ≡ has_mother rows place mother) (marks : Marks (IsMother has_mother n rows' e) e.label.0 (side (at_place into at)) (side (at_place into' at))) (dim daughter label : ℕ) (within : daughter < n) where
+  module _ (has_mother : List Mothers → ℕ → ℕ → Bool) (side : LabelsInto → Labels) (same_rows : (place mother : ℕ) → (place ≢ edge_at n e) ⊎ (mother ≢ e.mother.0) → has_mother rows' place mother ≡ has_mother rows place mother) (says : SaysAgain has_mother n e rows rows' (side (at_place into at)) (side (at_place into' at))) (dim daughter label : ℕ) (within : daughter < n) where
     abbrev Before : ℕ → Type 0
     Before = LeadsInto parts (InRows has_mother n rows) dim daughter label
 
@@ -65,7 +65,7 @@ module _ (parts : Parts) (p : IsProblem parts) (e : Edge) (is : IsPlace parts e)
         same place = same_rows (mothers_at n dim daughter label) m (inl (apart (few_labels parts (edge dim m label daughter) p place)))
 
     -- the row of the edge
-    module _ (same_at : labels_at n dim daughter ≡ at) (same_label : label ≡ e.label.0) where
+    module _ (marks : Marks (IsMother has_mother n rows' e) e.label.0 (side (at_place into at)) (side (at_place into' at))) (same_at : labels_at n dim daughter ≡ at) (same_label : label ≡ e.label.0) where
       same_dim : dim ≡ e.dim.0
       same_dim = same_row dim daughter e.dim.0 e.daughter.0 n within is.daughter same_at
 
@@ -98,10 +98,10 @@ module _ (parts : Parts) (p : IsProblem parts) (e : Edge) (is : IsPlace parts e)
           (ap₂ (λ i l. bit_at (side (at_place into' i)).more l) same_at same_label)
           its_mothers marks.here
 
-    pub label_told : IsLabelled Before (side (at_place into (labels_at n dim daughter))) label → IsLabelled After (side (at_place into' (labels_at n dim daughter))) label
-    label_told before = elim (cases_eq (labels_at n dim daughter) at) [
+    told_by : Marks (IsMother has_mother n rows' e) e.label.0 (side (at_place into at)) (side (at_place into' at)) → IsLabelled Before (side (at_place into (labels_at n dim daughter))) label → IsLabelled After (side (at_place into' (labels_at n dim daughter))) label
+    told_by marks before = elim (cases_eq (labels_at n dim daughter) at) [
       | inl same ↦ elim (cases_eq label e.label.0) [
-        | inl this ↦ made_anew same this
+        | inl this ↦ made_anew marks same this
         | inr other ↦ labelled_like Before After (side (at_place into (labels_at n dim daughter))) (side (at_place into' (labels_at n dim daughter))) label label
             (ap (λ i. bit_at (side (at_place into' i)).some label) same ∙ marks.some_others label other ∙ ap (λ i. bit_at (side (at_place into i)).some label) (sym same))
             (ap (λ i. bit_at (side (at_place into' i)).more label) same ∙ marks.more_others label other ∙ ap (λ i. bit_at (side (at_place into i)).more label) (sym same))
@@ -113,10 +113,33 @@ module _ (parts : Parts) (p : IsProblem parts) (e : Edge) (is : IsPlace parts e)
           (elsewhere (inl other)) before
     ]
 
-pub stays_told : (n : ℕ) (words : List ℕ) (e : Edge) (rows rows' : List Mothers) (into into' : List LabelsInto) → Renews n words e rows rows' → Relabels n rows' e into into' → StaysTold n (λ parts. IsPlace parts e) rows into rows' into'
-stays_told n words e rows rows' into into' renews relabels parts p same is told = after (subst (λ k. Renews k words e rows rows') (sym same) renews) (subst (λ k. Relabels k rows' e into into') (sym same) relabels)
+    -- where the row stays
+    unchanged : ((m : ℕ) → has_mother rows' (edge_at n e) m ≡ has_mother rows (edge_at n e) m) → side (at_place into' at) ≡ side (at_place into at) → IsLabelled Before (side (at_place into (labels_at n dim daughter))) label → IsLabelled After (side (at_place into' (labels_at n dim daughter))) label
+    unchanged row_stays labels_stay before = labelled_like Before After (side (at_place into (labels_at n dim daughter))) (side (at_place into' (labels_at n dim daughter))) label label
+        (ap (λ (z : Labels). bit_at z.some label) bits) (ap (λ (z : Labels). bit_at z.more label) bits) (λ m. (λ x. (x.0, rows_stay m ∙ x.1), λ x. (x.0, sym (rows_stay m) ∙ x.1))) before
+      where
+        rows_stay : (m : ℕ) → has_mother rows' (mothers_at n dim daughter label) m ≡ has_mother rows (mothers_at n dim daughter label) m
+        rows_stay m = elim (cases_eq (mothers_at n dim daughter label) (edge_at n e)) [
+          | inl here ↦ ap (λ i. has_mother rows' i m) here ∙ row_stays m ∙ ap (λ i. has_mother rows i m) (sym here)
+          | inr other ↦ same_rows (mothers_at n dim daughter label) m (inl other)
+        ]
+
+        bits : side (at_place into' (labels_at n dim daughter)) ≡ side (at_place into (labels_at n dim daughter))
+        bits = elim (cases_eq (labels_at n dim daughter) at) [
+          | inl here ↦ ap (λ i. side (at_place into' i)) here ∙ labels_stay ∙ ap (λ i. side (at_place into i)) (sym here)
+          | inr other ↦ ap side (others (labels_at n dim daughter) other)
+        ]
+
+    pub label_told : IsLabelled Before (side (at_place into (labels_at n dim daughter))) label → IsLabelled After (side (at_place into' (labels_at n dim daughter))) label
+    label_told before = elim says [
+      | inl stays ↦ unchanged stays.0 stays.1 before
+      | inr marks ↦ told_by marks before
+    ]
+
+pub stays_told : (n : ℕ) (words : List ℕ) (e : Edge) (rows rows' : List Mothers) (into into' : List LabelsInto) → Renews n words e rows rows' → Relabels n e rows rows' into into' → StaysTold n (λ parts. IsPlace parts e) rows into rows' into'
+stays_told n words e rows rows' into into' renews relabels parts p same is told = after (subst (λ k. Renews k words e rows rows') (sym same) renews) (subst (λ k. Relabels k e rows rows' into into') (sym same) relabels)
   where
-    after : Renews (nodes parts) words e rows rows' → Relabels (nodes parts) rows' e into into' → AreTold parts rows' into'
+    after : Renews (nodes parts) words e rows rows' → Relabels (nodes parts) e rows rows' into into' → AreTold parts rows' into'
     after r l = record {
       wide = (let a = told.wide in let b = r.count in let c = l.count in omega (arith, a, b, c));
       may = λ dim daughter d within label. label_told parts p e is rows rows' into into' l.others in_may (λ z. z.may) r.may_others l.may dim daughter label within (told.may dim daughter d within label);

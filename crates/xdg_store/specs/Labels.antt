@@ -1,6 +1,7 @@
 -- The labels of edges into daughters.
-use Rattle.std.specs.Prelude.{◌≡◌, ◌≢◌, ◌↔◌, ℕ, ◌<◌, ◌≤◌, ◌+◌, ◌*◌, Bool, true, IsTrue, List, length, slice_index_or}
+use Rattle.std.specs.Prelude.{◌≡◌, ◌≢◌, ◌⊎◌, ◌↔◌, ℕ, ◌<◌, ◌≤◌, ◌+◌, ◌*◌, Bool, true, IsTrue, List, length, slice_index_or}
 use Rattle.std.specs.Int.{bit_at}
+use Rattle.xdg_facts.specs.Rises.{has}
 use Rattle.xdg_problem.specs.declared.analysis.Edge.{Edge}
 use Rattle.xdg_problem.specs.declared.parts.DimPlan.{DimPlan}
 use Rattle.xdg_problem.specs.declared.parts.Parts.{Parts}
@@ -68,12 +69,24 @@ pub record Marks (P : ℕ → Type 0) (label : ℕ) (old new : Labels) : Type 0 
 abbrev pub IsMother : (List Mothers → ℕ → ℕ → Bool) → ℕ → List Mothers → Edge → ℕ → Type 0
 IsMother has_mother n rows e m = (m < n) × (m ≢ e.daughter.0) × IsTrue (has_mother rows (edge_at n e) m)
 
--- those of the label of an edge, by its row
-pub record Relabels (n : ℕ) (rows : List Mothers) (e : Edge) (old new : List LabelsInto) : Type 0 where
-  pub count : length new ≡ length old
-  pub may : Marks (IsMother in_may n rows e) e.label.0 (at_place old (labels_at n e.dim.0 e.daughter.0)).may (at_place new (labels_at n e.dim.0 e.daughter.0)).may
-  pub must : Marks (IsMother in_must n rows e) e.label.0 (at_place old (labels_at n e.dim.0 e.daughter.0)).must (at_place new (labels_at n e.dim.0 e.daughter.0)).must
-  pub others : (place : ℕ) → place ≢ labels_at n e.dim.0 e.daughter.0 → at_place new place ≡ at_place old place
+-- an edge is among those of its row where it is wanted, and the bits of its label are made anew unless the row stays
+pub record RenewsSide (all : List ℕ) (e : Edge) (wanted : Bool) (old new : List ℕ) (before after : Labels) : Type 0 where
+  pub here : has new e.mother.0 ≡ wanted
+  pub others : (m : ℕ) → m ≢ e.mother.0 → has new m ≡ has old m
+  pub labels : ((new ≡ old) × (after ≡ before)) ⊎ Marks (λ m. IsTrue (has all m) × (m ≢ e.daughter.0) × IsTrue (has new m)) e.label.0 before after
+
+-- the bits of the label of an edge say again what its row says
+abbrev pub SaysAgain : (List Mothers → ℕ → ℕ → Bool) → ℕ → Edge → List Mothers → List Mothers → Labels → Labels → Type 0
+SaysAgain has_mother n e old new before after =
+    (((m : ℕ) → has_mother new (edge_at n e) m ≡ has_mother old (edge_at n e) m) × (after ≡ before))
+    ⊎ Marks (IsMother has_mother n new e) e.label.0 before after
+
+-- and those of no other
+pub record Relabels (n : ℕ) (e : Edge) (old new : List Mothers) (before after : List LabelsInto) : Type 0 where
+  pub count : length after ≡ length before
+  pub may : SaysAgain in_may n e old new (at_place before (labels_at n e.dim.0 e.daughter.0)).may (at_place after (labels_at n e.dim.0 e.daughter.0)).may
+  pub must : SaysAgain in_must n e old new (at_place before (labels_at n e.dim.0 e.daughter.0)).must (at_place after (labels_at n e.dim.0 e.daughter.0)).must
+  pub others : (place : ℕ) → place ≢ labels_at n e.dim.0 e.daughter.0 → at_place after place ≡ at_place before place
 
 -- after a change of rows what stands is right again, for a problem of n nodes of which something holds
 abbrev pub StaysTold : ℕ → (Parts → Type 0) → List Mothers → List LabelsInto → List Mothers → List LabelsInto → Type 0

@@ -8,7 +8,7 @@ ghost use Rattle.xdg_store.specs.Decisions.{IsDecision};
 ghost use Rattle.xdg_store.specs.Labels.{StaysTold};
 
 use crate::decision::Decision;
-use crate::labels::{LabelsInto, relabel};
+use crate::labels::{LabelsInto, labels_at, renew_side};
 use crate::layout::edge_row;
 use crate::rows::is_set;
 use xdg_base::{DimId, LabelId, NodeId};
@@ -41,39 +41,6 @@ pub(crate) fn rows_from(rows: &[Mothers], first: usize, count: usize) -> &[Mothe
     &rest[..count]
 }
 
-/// A set with a node, or without it.
-fn with_if(nodes: NodeSet, node: NodeId, wanted: bool) -> NodeSet
-    requires { node.0 < 128 }
-    ensures here { has result node.0 ≡ wanted }
-    ensures others { (n : ℕ) → n ≢ node.0 → has result n ≡ has nodes n }
-{
-    let mut changed = nodes;
-    if wanted {
-        changed.insert(node);
-        return changed;
-    }
-    changed.remove(node);
-    changed
-}
-
-/// Makes anew what the row of an edge has of it.
-fn renew_row(rows: &mut Vec<Mothers>, trail: &Trail, nodes: usize, edge: Edge)
-    requires nodes { nodes ≤ 128 }
-    requires fits { Fits nodes (length rows.old.items) (length trail.now.words) edge }
-    ensures { Renews nodes trail.now.words edge rows.old.items rows.new.items }
-{
-    let place = mothers_at(nodes, edge.dim, edge.daughter, edge.label);
-    let row = edge_row(nodes, edge.dim, edge.mother, edge.label);
-    let present = row + edge.daughter.0 as usize;
-    let may = is_set(trail, present);
-    let must = !is_set(trail, present + 128);
-    let old = rows[place];
-    rows[place] = Mothers {
-        may: with_if(old.may, edge.mother, may),
-        must: with_if(old.must, edge.mother, must),
-    };
-}
-
 /// Makes anew what is kept of an edge, where `all` has the nodes.
 pub(crate) fn renew(
     rows: &mut Vec<Mothers>,
@@ -91,8 +58,17 @@ pub(crate) fn renew(
     ensures count { length into.new.items ≡ length into.old.items }
     ensures told { StaysTold nodes (λ parts. IsPlace parts edge) rows.old.items into.old.items rows.new.items into.new.items }
 {
-    renew_row(rows, trail, nodes, edge);
-    relabel(into, rows.as_slice(), nodes, all, edge);
+    let present = edge_row(nodes, edge.dim, edge.mother, edge.label) + edge.daughter.0 as usize;
+    let place = mothers_at(nodes, edge.dim, edge.daughter, edge.label);
+    let at = labels_at(nodes, edge.dim, edge.daughter);
+    let may = is_set(trail, present);
+    let must = !is_set(trail, present + 128);
+    let mut row = rows[place];
+    let mut labels = into[at];
+    renew_side(&mut row.may, &mut labels.may, all, edge, may);
+    renew_side(&mut row.must, &mut labels.must, all, edge, must);
+    rows[place] = row;
+    into[at] = labels;
 }
 
 /// Makes anew what is kept of an edge, where a decision is one on an edge.

@@ -1,14 +1,12 @@
 //! The labels of edges into daughters.
 
-ghost use Rattle.std.specs.Prelude.{◌≡◌, ◌≢◌, ℕ, ◌<◌, ◌≤◌, ◌*◌, ◌/◌, ◌↔◌, ◌&&◌, ◌==◌, not, IsTrue, All, length, nat_lt, slice_index_or};
+ghost use Rattle.std.specs.Prelude.{◌≡◌, ◌≢◌, ℕ, ◌<◌, ◌≤◌, ◌*◌, ◌/◌, ◌↔◌, ◌&&◌, ◌==◌, not, false, IsTrue, All, length, nat_lt, slice_index_or};
 ghost use Rattle.std.specs.Int.{bit_at};
 ghost use Rattle.xdg_facts.specs.Rises.{has};
 ghost use Rattle.xdg_problem.specs.Arguments.{no_plan};
 ghost use Rattle.xdg_problem.specs.Problems.{IsDim};
-ghost use Rattle.xdg_store.specs.Across.{mothers_at};
-ghost use Rattle.xdg_store.specs.Labels.{AreFirst, Marks, Relabels, at_place, labels_at, no_labels};
+ghost use Rattle.xdg_store.specs.Labels.{AreFirst, Marks, RenewsSide, at_place, labels_at, no_labels};
 
-use crate::across::{Mothers, mothers_at};
 use xdg_base::{DimId, LabelId, NodeId};
 use xdg_nodeset::NodeSet;
 use xdg_problem::{DimPlan, Edge};
@@ -70,37 +68,36 @@ fn mothers_in(set: &NodeSet, all: &NodeSet, daughter: NodeId) -> NodeSet
     mothers
 }
 
-/// Makes anew what is said of the label of an edge, from its row.
-pub(crate) fn relabel(
-    into: &mut Vec<LabelsInto>,
-    rows: &[Mothers],
-    nodes: usize,
+/// Adds a node to a set, or takes it out, and tells whether the set changed.
+fn set_if(nodes: &mut NodeSet, node: NodeId, wanted: bool) -> bool
+    requires { node.0 < 128 }
+    ensures here { has nodes.new node.0 ≡ wanted }
+    ensures others { (n : ℕ) → n ≢ node.0 → has nodes.new n ≡ has nodes.old n }
+    ensures same { result ≡ false → nodes.new ≡ nodes.old }
+{
+    if wanted {
+        return nodes.insert(node);
+    }
+    nodes.remove(node)
+}
+
+/// Makes anew whether an edge is among those of its row, and what is said of its label where the row changes by it. `all`
+/// has the nodes of the sentence.
+pub(crate) fn renew_side(
+    mothers: &mut NodeSet,
+    labels: &mut Labels,
     all: &NodeSet,
     edge: Edge,
+    wanted: bool,
 )
-    requires nodes { nodes ≤ 128 }
-    requires all { (node : ℕ) → has all.now node ≡ nat_lt node nodes }
     requires label { edge.label.0 < 32 }
-    requires daughter { edge.daughter.0 < nodes }
-    requires row { mothers_at nodes edge.dim.0 edge.daughter.0 edge.label.0 < length rows.now }
-    requires wide { length rows.now ≤ length into.old.items * 32 }
-    ensures { Relabels nodes rows.now edge into.old.items into.new.items }
+    requires mother { edge.mother.0 < 128 }
+    requires daughter { edge.daughter.0 < 128 }
+    ensures { RenewsSide all.now edge wanted mothers.old mothers.new labels.old labels.new }
 {
-    let row = rows[mothers_at(nodes, edge.dim, edge.daughter, edge.label)];
-    let place = labels_at(nodes, edge.dim, edge.daughter);
-    let old = into[place];
-    into[place] = LabelsInto {
-        may: with_label(
-            old.may,
-            edge.label,
-            mothers_in(&row.may, all, edge.daughter),
-        ),
-        must: with_label(
-            old.must,
-            edge.label,
-            mothers_in(&row.must, all, edge.daughter),
-        ),
-    };
+    if set_if(mothers, edge.mother, wanted) {
+        *labels = with_label(*labels, edge.label, mothers_in(mothers, all, edge.daughter));
+    }
 }
 
 /// The first so many labels where they are wanted, and else none.
