@@ -6,6 +6,7 @@ pub mod Ruling
 pub mod Musts
 pub mod Bounding
 pub mod Bundles
+pub mod Allowances
 pub mod Spans
 pub mod Untouched
 pub mod Family

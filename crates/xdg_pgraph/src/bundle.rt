@@ -52,7 +52,7 @@ impl Bundle {
 }
 
 /// The place of the feature that says how many edges there may be.
-fn argument(way: Way) -> usize
+pub(crate) fn argument(way: Way) -> usize
     ensures { result ≡ argument_of way }
 {
     match way {

@@ -1,6 +1,7 @@
 //! Propagators of the principles that look at the edges of one dimension: graph, entries, tree, dag and valency.
 #![tactic(auto)]
 
+mod allowances;
 mod bounds;
 mod bundle;
 mod entered;
