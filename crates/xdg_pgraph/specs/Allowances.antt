@@ -1,6 +1,7 @@
 -- The numbers of edges that entries allow, by classes of entries.
 use Rattle.std.specs.Prelude.{◌≡◌, ◌≢◌, ◌<◌, ◌≤◌, ◌+◌, ◌*◌, ℕ, List, [], All, Contains, length, slice_index_or}
 use Rattle.std.specs.Int.{bit_at}
+use Rattle.xdg_problem.specs.declared.parts.Feat.{Feat}
 use Rattle.xdg_problem.specs.declared.parts.Group.{Group}
 use Rattle.xdg_problem.specs.declared.parts.Parts.{Parts}
 use Rattle.xdg_pgraph.specs.declared.allowances.Allowances.{Allowances}
@@ -25,6 +26,12 @@ pub record AreClasses (count : ℕ) (group : Group) (bundle : Bundle) (classes :
 abbrev pub HasClasses : Parts → Group → Bundle → List Class → Type 0
 HasClasses parts group bundle classes =
     classes ≢ [] → AreClasses (length (slice_index_or parts.candidates bundle.node [])) group bundle classes
+
+-- the class at a place has such numbers
+pub record IsClassOf (candidates : List (List Feat)) (bundle : Bundle) (numbers : List ℕ) (classes : List Class) (at : ℕ) : Type 0 where
+  pub within : at < length classes
+  pub same : (group : Group) (class : Class) → candidates ≡ slice_index_or group.feats bundle.node [] → slice_index_or classes at class ≡ class
+      → numbers_of bundle.way group bundle.node bundle.label class.first ≡ numbers
 
 -- where a bundle's classes stand among those of all bundles, where there are so many labels
 abbrev pub class_place : ℕ → Bundle → ℕ

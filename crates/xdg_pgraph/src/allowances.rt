@@ -1,13 +1,13 @@
 //! The numbers of edges that entries allow, by classes of entries.
 
-ghost use Rattle.std.specs.Prelude.{◌≡◌, ◌≢◌, ◌<◌, ◌≤◌, ◌+◌, ◌*◌, ◌++◌, ◌∷◌, [], ℕ, IfOk, IsTrue, OnOk, length, slice_index_or};
+ghost use Rattle.std.specs.Prelude.{◌≡◌, ◌≢◌, ◌<◌, ◌+◌, ◌*◌, ◌++◌, ◌∷◌, [], ℕ, IfOk, IfSome, IsTrue, OnOk, length, slice_index_or, slice_set};
 ghost use Rattle.xdg_problem.specs.declared.parts.Group.{Group as Use};
 ghost use Rattle.xdg_problem.specs.declared.parts.Parts.{Parts as Sentence};
 ghost use Rattle.xdg_problem.specs.Arguments.{first_dim, label_count};
 ghost use Rattle.xdg_problem.specs.Places.{nodes};
 ghost use Rattle.xdg_problem.specs.Problems.{IsGroup, IsProblem};
 ghost use Rattle.xdg_pgraph.specs.Family.{IsOfFamily};
-ghost use Rattle.xdg_pgraph.specs.Allowances.{AreAllowances, AreClasses, AreRows, HasClasses, class_place};
+ghost use Rattle.xdg_pgraph.specs.Allowances.{AreAllowances, AreClasses, AreRows, HasClasses, IsClassOf, class_place};
 
 use crate::bundle::{Bundle, Way, argument, features_of, numbers_at};
 use crate::plane::{Plane, label_count};
@@ -64,27 +64,57 @@ impl Row {
         &self.classes[..self.count]
     }
 
-    /// Adds an entry to the class with its numbers, or to one of its own. It says whether there was room.
+    /// Adds a class.
+    fn push(&mut self, class: Class)
+        requires { length self.old < 8 }
+        ensures { self.new ≡ self.old ++ class ∷ [] }
+    {
+        self.classes[self.count] = class;
+        self.count += 1;
+    }
+
+    /// Puts a class in the place of another.
+    fn put(&mut self, at: usize, class: Class)
+        requires { at < length self.old }
+        ensures { self.new ≡ slice_set self.old at class }
+    {
+        self.classes[at] = class;
+    }
+
+    /// The place of the class of such numbers, if there is one.
+    fn find(&self, candidates: &[List<Feat>], bundle: Bundle, numbers: &[u16]) -> Option<usize>
+        ensures { IfSome result (λ at. IsClassOf candidates.now bundle numbers.now self.now at) }
+    {
+        for (at, class) in self.as_slice().iter().enumerate() {
+            if numbers_at(candidates, bundle, class.first) == numbers {
+                return Some(at);
+            }
+        }
+        None
+    }
+
+    /// Adds an entry to the class of its numbers, or to one of its own. It says whether there was room.
     fn add(&mut self, candidates: &[List<Feat>], bundle: Bundle, entry: u16) -> bool
         requires { entry < 64 }
         ensures { (group : Use) → candidates.now ≡ slice_index_or group.feats bundle.node [] → AreClasses entry group bundle self.old → IsTrue result
             → AreClasses (entry + 1) group bundle self.new }
     {
         let numbers = numbers_at(candidates, bundle, entry);
-        for at in 0..self.count {
-            if numbers_at(candidates, bundle, self.classes[at].first) == numbers {
-                self.classes[at].entries |= 1 << entry;
-                return true;
-            }
+        let bit = 1 << entry;
+        if let Some(at) = self.find(candidates, bundle, numbers) {
+            let class = self.as_slice()[at];
+            let entries = class.entries | bit;
+            let first = class.first;
+            self.put(at, Class { first, entries });
+            return true;
         }
         if self.count == 8 {
             return false;
         }
-        self.classes[self.count] = Class {
+        self.push(Class {
             first: entry,
-            entries: 1 << entry,
-        };
-        self.count += 1;
+            entries: bit,
+        });
         true
     }
 
@@ -133,15 +163,23 @@ fn add_rows(
     requires rows { AreRows parts.now group.now labels rows.old }
     requires before { length rows.old ≡ node * labels * 2 }
     ensures rows { OnOk result (AreRows parts.now group.now labels rows.new) }
-    ensures behind { OnOk result (length rows.new ≡ (node + 1) * labels * 2) }
+    ensures behind { OnOk result (length rows.new ≡ (node * labels + labels) * 2) }
 {
     let candidates = features_of(group, node);
     let count = entry_count(parts, NodeId(node));
     for label in 0..labels {
-        for way in [Way::In, Way::Out] {
-            let bundle = Bundle { way, node, label };
-            rows.push(Row::of(candidates, bundle, count))?;
-        }
+        let into = Bundle {
+            way: Way::In,
+            node,
+            label,
+        };
+        rows.push(Row::of(candidates, into, count))?;
+        let out = Bundle {
+            way: Way::Out,
+            node,
+            label,
+        };
+        rows.push(Row::of(candidates, out, count))?;
     }
     Ok(())
 }

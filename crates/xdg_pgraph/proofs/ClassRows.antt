@@ -1,0 +1,64 @@
+-- The rows of classes of all bundles.
+use Rattle.std.proofs.Common.{◌≡◌, ◌≢◌, ℕ, ◌<◌, ◌≤◌, ◌+◌, ◌*◌, inl, inr, List, [], ◌∷◌, ◌++◌, length, get_or, refl, ap, sym, ◌∙◌, arith, subst}
+use Rattle.std.proofs.lemmas.Bool.{cases_eq, cases_lt}
+use Rattle.std.proofs.lemmas.List.{get_or_append_left, get_or_past, get_or_push, length_push}
+use Rattle.xdg_problem.specs.declared.parts.Group.{Group}
+use Rattle.xdg_problem.specs.declared.parts.Parts.{Parts}
+use Rattle.xdg_store.proofs.Renewed.{same_row}
+use Rattle.xdg_pgraph.specs.declared.allowances.Class.{Class}
+use Rattle.xdg_pgraph.specs.declared.bundle.Bundle.{Bundle}
+use Rattle.xdg_pgraph.specs.declared.bundle.Way.{Way}
+use Rattle.xdg_pgraph.specs.declared.bundle.Way.TheVariants as ways
+use Rattle.xdg_pgraph.specs.Allowances.{AreRows, HasClasses, class_place}
+use Rattle.xdg_pgraph.specs.Bundles.{argument_of}
+
+-- ---- a place is that of one bundle
+
+few_ways : (way : Way) → argument_of way < 2
+few_ways ways.Out = omega arith
+few_ways ways.In = omega arith
+
+same_way : (one other : Way) → argument_of one ≡ argument_of other → one ≡ other
+same_way ways.Out ways.Out e = refl
+same_way ways.In ways.In e = refl
+same_way ways.Out ways.In e = absurd (omega (arith, e))
+same_way ways.In ways.Out e = absurd (omega (arith, e))
+
+same_pair : (m n a b : ℕ) → a < 2 → b < 2 → m * 2 + a ≡ n * 2 + b → (m ≡ n) × (a ≡ b)
+same_pair m n a b l k e = (omega (arith, l, k, e), omega (arith, l, k, e))
+
+same_label : (m n a b w : ℕ) → m ≡ n → m * w + a ≡ n * w + b → a ≡ b
+same_label m n a b w same e = (let q = ap (λ z. z * w) same in omega (arith, e, q))
+
+bundle_equal : (a b : Bundle) → a.way ≡ b.way → a.node ≡ b.node → a.label ≡ b.label → a ≡ b
+bundle_equal a b w n l =
+    ap (λ way. record { way = way; node = a.node; label = a.label }) w ∙ ap (λ node. record { way = b.way; node = node; label = a.label }) n
+    ∙ ap (λ label. record { way = b.way; node = b.node; label = label }) l
+
+same_bundle : (labels : ℕ) (a b : Bundle) → a.label < labels → b.label < labels → class_place labels a ≡ class_place labels b → a ≡ b
+same_bundle labels a b l k e =
+    let both = same_pair (a.node * labels + a.label) (b.node * labels + b.label) (argument_of a.way) (argument_of b.way) (few_ways a.way) (few_ways b.way) e in
+    let node = same_row a.node a.label b.node b.label labels l k both.0 in
+    bundle_equal a b (same_way a.way b.way both.1) node (same_label a.node b.node a.label b.label labels node both.0)
+
+-- ---- one row after another
+
+module _ (parts : Parts) (group : Group) (labels : ℕ) where
+  -- behind the rows there is none
+  past : (rows : List (List Class)) (bundle : Bundle) → length rows ≤ class_place labels bundle → HasClasses parts group bundle (get_or rows (class_place labels bundle) [])
+  past rows bundle behind some = absurd (some (get_or_past rows (class_place labels bundle) [] behind))
+
+  pub rows_none : AreRows parts group labels []
+  rows_none bundle l some = absurd (some refl)
+
+  pub rows_more : (rows : List (List Class)) (bundle : Bundle) (row : List Class) → bundle.label < labels → length rows ≡ class_place labels bundle → HasClasses parts group bundle row → AreRows parts group labels rows → AreRows parts group labels (rows ++ row ∷ [])
+  rows_more rows bundle row l at has are other k = elim (cases_lt (class_place labels other) (length rows)) [
+    | inl before ↦ subst (HasClasses parts group other) (sym (get_or_append_left rows (row ∷ []) [] (class_place labels other) before)) (are other k)
+    | inr behind ↦ elim (cases_eq (class_place labels other) (length rows)) [
+      | inl here ↦
+          let same : bundle ≡ other = same_bundle labels bundle other l k (sym at ∙ sym here) in
+          subst (λ it. HasClasses parts group it (get_or (rows ++ row ∷ []) (class_place labels it) [])) same
+          (subst (HasClasses parts group bundle) (sym (get_or_push rows row [] (class_place labels bundle) at)) has)
+      | inr apart ↦ past (rows ++ row ∷ []) other (let long = length_push rows row in omega (arith, long, behind, apart))
+    ]
+  ]
