@@ -1,6 +1,7 @@
 -- For which principle uses a propagator of any family stands.
 use Rattle.std.specs.Prelude.{◌≡◌, ℕ, ◌<◌, List, length, slice_index_or}
 use Rattle.xdg_problem.specs.declared.parts.Parts.{Parts}
+use Rattle.xdg_propcore.specs.Families.{KeepsNothing}
 use Rattle.xdg_propcore.specs.UseStanding as family
 use Rattle.xdg_pgraph.specs.Family as graph
 use Rattle.xdg_porder.specs.Family as order
@@ -14,11 +15,11 @@ use Rattle.xdg_engine.specs.declared.any_prop.AnyProp.TheVariants as any
 
 -- for those for which it stands in its family
 abbrev pub stands_for : AnyProp → Parts → ℕ → Type 0
-stands_for (any.Graph p) = family.stands_for graph.IsOfFamily p
-stands_for (any.Order p) = family.stands_for order.IsOfFamily p
-stands_for (any.Agree p) = family.stands_for agree.IsOfFamily p
-stands_for (any.Multi p) = family.stands_for multi.IsOfFamily p
-stands_for (any.Link p) = family.stands_for link.IsLinking p
+stands_for (any.Graph p) = family.stands_for graph.IsOfFamily graph.KeepsAllowances p
+stands_for (any.Order p) = family.stands_for order.IsOfFamily KeepsNothing p
+stands_for (any.Agree p) = family.stands_for agree.IsOfFamily KeepsNothing p
+stands_for (any.Multi p) = family.stands_for multi.IsOfFamily KeepsNothing p
+stands_for (any.Link p) = family.stands_for link.IsLinking KeepsNothing p
 stands_for (any.Rule p) = rule.stands_for p
 stands_for (any.Cost p) = bound_stands p
 

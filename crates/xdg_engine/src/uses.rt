@@ -31,11 +31,11 @@ fn prop_of(alloc: Global, problem: &Problem, group: usize) -> Result<AnyProp, Ou
     ensures { IfOk result (λ p. StandsFor (stands_for p) problem.now group) }
 {
     match family_at(problem, group) {
-        PrincipleFamily::Graph => Ok(AnyProp::Graph(GraphProp::of(problem, group)?)),
-        PrincipleFamily::Order => Ok(AnyProp::Order(OrderProp::of(problem, group)?)),
-        PrincipleFamily::Agree => Ok(AnyProp::Agree(AgreeProp::of(problem, group)?)),
-        PrincipleFamily::Multi => Ok(AnyProp::Multi(MultiProp::of(problem, group)?)),
-        PrincipleFamily::Link => Ok(AnyProp::Link(LinkProp::of(problem, group)?)),
+        PrincipleFamily::Graph => Ok(AnyProp::Graph(GraphProp::of(alloc, problem, group)?)),
+        PrincipleFamily::Order => Ok(AnyProp::Order(OrderProp::of(alloc, problem, group)?)),
+        PrincipleFamily::Agree => Ok(AnyProp::Agree(AgreeProp::of(alloc, problem, group)?)),
+        PrincipleFamily::Multi => Ok(AnyProp::Multi(MultiProp::of(alloc, problem, group)?)),
+        PrincipleFamily::Link => Ok(AnyProp::Link(LinkProp::of(alloc, problem, group)?)),
         PrincipleFamily::Rule => Ok(AnyProp::Rule(RuleProp::of(problem, group)?)),
         PrincipleFamily::Bound => Ok(AnyProp::Cost(CostProp::of(alloc, problem, group)?)),
     }

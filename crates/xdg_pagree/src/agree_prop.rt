@@ -1,11 +1,14 @@
 //! The family.
 
+ghost use Rattle.xdg_propcore.specs.Families.{KeepsNothing};
 ghost use Rattle.xdg_pagree.specs.Family.{IsOfFamily};
 
 use crate::nodes::sweep_nodes;
-use crate::touched::touched_since;
-use xdg_problem::Group;
-use xdg_propcore::{Family, Pass, UseProp};
+use crate::touched::gather_lost;
+use std::alloc::Global;
+use xdg_base::OutOfMemory;
+use xdg_problem::{Group, Problem};
+use xdg_propcore::{Family, Pass, Touched, UseProp};
 use xdg_store::{Mark, Store};
 
 /// The family of agr, agreement and government.
@@ -18,8 +21,15 @@ pub type AgreeProp = UseProp<Agree>;
 impl Family for Agree {
     ghost holds = { IsOfFamily };
 
-    fn sweep(store: &mut Store, pass: &mut Pass, group: &Group, since: &Option<Mark>) {
-        let touched = touched_since(store, group, since);
+    ghost fits = { KeepsNothing };
+
+    fn of(_alloc: Global, _problem: &Problem, _group: &Group) -> Result<Agree, OutOfMemory> {
+        Ok(Agree)
+    }
+
+    fn sweep(&self, store: &mut Store, pass: &mut Pass, group: &Group, since: &Option<Mark>) {
+        let mut touched = Touched::none();
+        gather_lost(&mut touched, store, group, since);
         sweep_nodes(store, pass, group, &touched);
     }
 

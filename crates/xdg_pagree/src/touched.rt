@@ -16,17 +16,17 @@ use xdg_problem::{Group, dim_of};
 use xdg_propcore::Touched;
 use xdg_store::{Mark, Store};
 
-/// What was lost since a mark at which the principle use was still, or all, if there is none.
-pub(crate) fn touched_since(store: &Store, group: &Group, since: &Option<Mark>) -> Touched
+/// Gathers what was lost since a mark at which the principle use was still, or all, if there is none.
+pub(crate) fn gather_lost(touched: &mut Touched, store: &Store, group: &Group, since: &Option<Mark>)
     requires known { Known store.now }
     requires group { IsGroup store.now.parts group.now }
     requires family { IsOfFamily group.now.principle }
     requires held { HeldIf (λ parts box. IsClosedFor parts group.now box) store.now since.now }
-    ensures { AreOthersDone result store.now.parts group.now store.now.now }
+    ensures { AreOthersDone touched.new store.now.parts group.now store.now.now }
 {
     match *since {
-        Some(mark) => Touched::since(store, mark, dim_of(group, 0)),
-        None => Touched::all(),
+        Some(mark) => touched.gather(store, mark, dim_of(group, 0)),
+        None => *touched = Touched::all(),
     }
 }
 

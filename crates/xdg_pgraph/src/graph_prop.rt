@@ -9,20 +9,25 @@ ghost use Rattle.xdg_store.specs.States.{Known};
 ghost use Rattle.xdg_propcore.specs.Standing.{HeldIf};
 ghost use Rattle.xdg_propcore.specs.Sweeps.{Sweeps};
 ghost use Rattle.xdg_pgraph.specs.Bundles.{AreNodesDone};
-ghost use Rattle.xdg_pgraph.specs.Family.{IsOfFamily};
+ghost use Rattle.xdg_pgraph.specs.Family.{IsOfFamily, KeepsAllowances};
 ghost use Rattle.xdg_pgraph.specs.Planes.{IsPlane};
 
+use crate::allowances::Allowances;
 use crate::label::{take_dag, take_others, take_tree};
 use crate::lasting::daughters_since;
 use crate::plane::{Plane, label_count};
 use crate::valency::take_valency;
-use xdg_problem::{Group, Parts, Principle, truth_of};
+use std::alloc::Global;
+use xdg_base::OutOfMemory;
+use xdg_problem::{Group, Parts, Principle, Problem, truth_of};
 use xdg_propcore::{Family, Pass, Touched, UseProp};
 use xdg_store::{Mark, Store};
 
-/// The family of graph, entries, tree, dag and valency. The first two take nothing.
+/// The family of graph, entries, tree, dag and valency. The first two take nothing. Of a use of valency it keeps what the entries allow.
 #[derive(Debug, Drop)]
-pub struct Graph;
+pub struct Graph {
+    allowances: Allowances,
+}
 
 /// The propagator of a use of graph, entries, tree, dag or valency.
 pub type GraphProp = UseProp<Graph>;
@@ -47,7 +52,8 @@ fn take_counts(
 {
     match *since {
         Some(mark) => {
-            let touched = Touched::since(store, mark, plane.dim);
+            let mut touched = Touched::none();
+            touched.gather(store, mark, plane.dim);
             take_valency(store, pass, plane, group, &touched, labels);
         }
         None => {
@@ -90,7 +96,17 @@ fn take_all(store: &mut Store, pass: &mut Pass, parts: &Parts, group: &Group, si
 impl Family for Graph {
     ghost holds = { IsOfFamily };
 
-    fn sweep(store: &mut Store, pass: &mut Pass, group: &Group, since: &Option<Mark>) {
+    ghost fits = { KeepsAllowances };
+
+    fn of(alloc: Global, problem: &Problem, group: &Group) -> Result<Graph, OutOfMemory> {
+        let allowances = match &group.principle {
+            Principle::Valency => Allowances::of(alloc, problem.parts(), group)?,
+            _ => Allowances::none(alloc),
+        };
+        Ok(Graph { allowances })
+    }
+
+    fn sweep(&self, store: &mut Store, pass: &mut Pass, group: &Group, since: &Option<Mark>) {
         let parts = store.problem().parts();
         take_all(store, pass, parts, group, since);
     }

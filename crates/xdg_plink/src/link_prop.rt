@@ -1,12 +1,15 @@
 //! The family.
 
+ghost use Rattle.xdg_propcore.specs.Families.{KeepsNothing};
 ghost use Rattle.xdg_plink.specs.Family.{IsLinking};
 
 use crate::near::near_since;
 use crate::reach::table_for;
 use crate::taking::take_all;
 use crate::way::way_of;
-use xdg_problem::{Group, dim_of};
+use std::alloc::Global;
+use xdg_base::OutOfMemory;
+use xdg_problem::{Group, Problem, dim_of};
 use xdg_propcore::{Family, Pass, UseProp};
 use xdg_store::{Mark, Store};
 
@@ -20,7 +23,13 @@ pub type LinkProp = UseProp<Link>;
 impl Family for Link {
     ghost holds = { IsLinking };
 
-    fn sweep(store: &mut Store, pass: &mut Pass, group: &Group, since: &Option<Mark>) {
+    ghost fits = { KeepsNothing };
+
+    fn of(_alloc: Global, _problem: &Problem, _group: &Group) -> Result<Link, OutOfMemory> {
+        Ok(Link)
+    }
+
+    fn sweep(&self, store: &mut Store, pass: &mut Pass, group: &Group, since: &Option<Mark>) {
         let near = near_since(store, group, since);
         if near.is_empty() {
             return;

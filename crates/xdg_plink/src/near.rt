@@ -159,12 +159,14 @@ fn near_lost(store: &Store, group: &Group, mark: Mark) -> Near
     ensures { AreOthersDone result store.now.parts group.now store.now.now }
 {
     let second_dim = dim_of(group, 1);
-    let second = Touched::since(store, mark, second_dim);
+    let mut second = Touched::none();
+    second.gather(store, mark, second_dim);
     if asks_edges(&group.principle) {
         return near_links(way_of(&group.principle), &second);
     }
     let first_dim = dim_of(group, 0);
-    let first = Touched::since(store, mark, first_dim);
+    let mut first = Touched::none();
+    first.gather(store, mark, first_dim);
     near_joins(&first, &second)
 }
 

@@ -1,11 +1,14 @@
 //! The family.
 
+ghost use Rattle.xdg_propcore.specs.Families.{KeepsNothing};
 ghost use Rattle.xdg_pmulti.specs.Family.{IsOfFamily};
 
 use crate::barriers::take_barriers;
 use crate::climbing::take_climbing;
 use crate::reads::is_climbing;
-use xdg_problem::Group;
+use std::alloc::Global;
+use xdg_base::OutOfMemory;
+use xdg_problem::{Group, Problem};
 use xdg_propcore::{Family, Pass, UseProp};
 use xdg_store::{Mark, Store};
 
@@ -19,7 +22,13 @@ pub type MultiProp = UseProp<Multi>;
 impl Family for Multi {
     ghost holds = { IsOfFamily };
 
-    fn sweep(store: &mut Store, pass: &mut Pass, group: &Group, _since: &Option<Mark>) {
+    ghost fits = { KeepsNothing };
+
+    fn of(_alloc: Global, _problem: &Problem, _group: &Group) -> Result<Multi, OutOfMemory> {
+        Ok(Multi)
+    }
+
+    fn sweep(&self, store: &mut Store, pass: &mut Pass, group: &Group, _since: &Option<Mark>) {
         if is_climbing(group) {
             take_climbing(store, pass, group);
             return;

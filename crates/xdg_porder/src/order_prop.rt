@@ -1,10 +1,13 @@
 //! The family.
 
+ghost use Rattle.xdg_propcore.specs.Families.{KeepsNothing};
 ghost use Rattle.xdg_porder.specs.Family.{IsOfFamily};
 
 use crate::reads::is_order;
 use crate::sweep::{take_order, take_projective};
-use xdg_problem::Group;
+use std::alloc::Global;
+use xdg_base::OutOfMemory;
+use xdg_problem::{Group, Problem};
 use xdg_propcore::{Family, Pass, UseProp};
 use xdg_store::{Mark, Store};
 
@@ -18,7 +21,13 @@ pub type OrderProp = UseProp<Order>;
 impl Family for Order {
     ghost holds = { IsOfFamily };
 
-    fn sweep(store: &mut Store, pass: &mut Pass, group: &Group, since: &Option<Mark>) {
+    ghost fits = { KeepsNothing };
+
+    fn of(_alloc: Global, _problem: &Problem, _group: &Group) -> Result<Order, OutOfMemory> {
+        Ok(Order)
+    }
+
+    fn sweep(&self, store: &mut Store, pass: &mut Pass, group: &Group, since: &Option<Mark>) {
         if is_order(group) {
             take_order(store, pass, group, since);
             return;

@@ -39,7 +39,8 @@ fn touched_since(store: &Store, group: &Group, since: &Option<Mark>) -> NodeSet
 {
     match *since {
         Some(mark) => {
-            let touched = Touched::since(store, mark, dim_of(group, 0));
+            let mut touched = Touched::none();
+            touched.gather(store, mark, dim_of(group, 0));
             touched.mothers.union(&touched.attrs)
         }
         None => Touched::all().mothers,

@@ -37,6 +37,10 @@ module _ (stands : Parts → ℕ → Type 0) (number turns : ℕ) (old t : State
     pub group_known : IsGroup t.parts group
     group_known = subst (IsGroup t.parts) use_is (subst (λ parts. IsGroup t.parts (use_at parts number)) parts_stay (known.problem.groups number no_use (subst (λ (parts : Parts). number < length parts.groups) (sym parts_stay) mine.0)))
 
+    -- what is kept is of it still
+    pub fits_so : (Fits : Parts → Group → Type 0) → Fits old.parts (use_at old.parts number) → Fits t.parts group
+    fits_so Fits fits = subst (λ parts. Fits parts group) (sym parts_stay) (subst (Fits old.parts) use_is fits)
+
     pub held_so : (since : Option ℕ) → HeldIf (λ parts box. IsClosedBy stands parts box) old since → HeldIf (λ parts box. IsClosedFor parts group box) t since
     held_so since held mark some =
         let h = held mark some in

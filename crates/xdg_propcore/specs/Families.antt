@@ -24,8 +24,14 @@ StaysClosed Holds =
     (parts : Parts) (group : Group) (old new : List (List Bool)) → IsProblem parts → IsGroup parts group → Holds group.principle
     → LosesUnseen parts group old new → IsClosedFor parts group old → IsClosedFor parts group new
 
--- the number is that of a use of one of these principles, and the wake set is for it; mine is the propagator's own number
-pub record StandsAt (Holds : Principle → Type 0) (mine wakes : ℕ) (parts : Parts) (number : ℕ) : Type 0 where
+-- the number is that of a use of one of these principles, and the wake set and what is kept are for it; mine is the propagator's own
+-- number
+pub record StandsAt (Holds : Principle → Type 0) (Fits : Parts → Group → Type 0) (mine wakes : ℕ) (parts : Parts) (number : ℕ) : Type 0 where
   pub number_is : number ≡ mine
   pub family : Holds (use_at parts number).principle
   pub kinds : HasKinds (use_at parts number) wakes
+  pub fits : Fits parts (use_at parts number)
+
+-- what is kept of a principle use, where that is nothing
+abbrev pub KeepsNothing : {F : Type 0} → F → Parts → Group → Type 0
+KeepsNothing kept parts group = Unit {0}

@@ -52,6 +52,20 @@ fn insert(table: &mut [NodeSet; 32], label: LabelId, node: NodeId)
 }
 
 impl Touched {
+    /// No node.
+    #[inline(always)]
+    pub fn none() -> Touched {
+        let none = NodeSet::empty();
+        Touched {
+            entries: none,
+            attrs: none,
+            mothers: none,
+            daughters: none,
+            out: [none; 32],
+            into: [none; 32],
+        }
+    }
+
     /// All nodes, of all.
     pub fn all() -> Touched
         ensures { HasAll result }
@@ -95,24 +109,15 @@ impl Touched {
         }
     }
 
-    /// Those that have lost values since a mark, of attributes and edges of a dimension.
-    pub fn since(store: &Store, since: Mark, dim: DimId) -> Touched
+    /// Adds those that have lost values since a mark, of attributes and edges of a dimension. The table is large, so it is filled where it is.
+    pub fn gather(&mut self, store: &Store, since: Mark, dim: DimId)
         requires { since < length store.now.history }
-        ensures touched { HasTouched store.now.parts dim.0 (box_at store.now since) store.now.now result }
+        ensures touched { HasTouched store.now.parts dim.0 (box_at store.now since) store.now.now self.new }
         ensures known { Known store.now }
     {
-        let mut touched = Touched {
-            entries: NodeSet::empty(),
-            attrs: NodeSet::empty(),
-            mothers: NodeSet::empty(),
-            daughters: NodeSet::empty(),
-            out: [NodeSet::empty(); 32],
-            into: [NodeSet::empty(); 32],
-        };
         let removed = store.removed_since(since);
         for decision in removed {
-            touched.add(dim, *decision);
+            self.add(dim, *decision);
         }
-        touched
     }
 }

@@ -15,17 +15,17 @@ use crate::moved::Moved;
 use crate::pass::Pass;
 use crate::propagator::Propagator;
 use crate::wake::Wake;
-use std::marker::PhantomData;
+use std::alloc::Global;
 use xdg_base::OutOfMemory;
 use xdg_problem::{Group, Problem};
 use xdg_store::{Mark, Store};
 
-/// The propagator of a use of a principle of a family: it keeps the number of the use, and the kinds of values that wake it.
+/// The propagator of a use of a principle of a family: it keeps the number of the use, the kinds of values that wake it, and what its family keeps of it.
 #[derive(Debug, Drop)]
 pub struct UseProp<F: Family> {
     number: usize,
     wakes: Wake,
-    family: PhantomData<F>,
+    family: F,
 }
 
 /// A principle use of a problem, by its number from 0.
@@ -38,28 +38,29 @@ pub fn use_of(problem: &Problem, number: usize) -> &Group
 }
 
 impl<F: Family> UseProp<F> {
-    /// The propagator of the principle use of a problem with a number, from 0, one of a principle of the family. It takes no
-    /// memory, so it gives no error.
-    pub fn of(problem: &Problem, group: usize) -> Result<UseProp<F>, OutOfMemory>
+    /// The propagator of the principle use of a problem with a number, from 0, one of a principle of the family.
+    pub fn of(alloc: Global, problem: &Problem, group: usize) -> Result<UseProp<F>, OutOfMemory>
         requires within { group < length problem.now.groups }
         requires family { F.holds (use_at problem.now group).principle }
-        ensures { IfOk result (λ p. StandsFor (stands_for F.holds p) problem.now group) }
+        ensures { IfOk result (λ p. StandsFor (stands_for F.holds F.fits p) problem.now group) }
     {
-        let wakes = kinds_of(use_of(problem, group));
+        let found = use_of(problem, group);
+        let wakes = kinds_of(found);
+        let family = F::of(alloc, problem, found)?;
         Ok(UseProp {
             number: group,
             wakes,
-            family: PhantomData,
+            family,
         })
     }
 
     /// Takes a step, where it was still at a mark, if there is one.
     fn take_step(&self, store: &mut Store, since: Option<Mark>) -> Moved
-        requires stands { StandsIn (stands_for F.holds self.now) store.old.parts }
-        requires held { HeldIf (λ parts box. IsClosedBy (stands_for F.holds self.now) parts box) store.old since }
+        requires stands { StandsIn (stands_for F.holds F.fits self.now) store.old.parts }
+        requires held { HeldIf (λ parts box. IsClosedBy (stands_for F.holds F.fits self.now) parts box) store.old since }
         ensures extends { Extends store.old store.new }
-        ensures keeps { Keeps (stands_for F.holds self.now) result store.old store.new }
-        ensures same { (result ≡ moves.Same) ↔ IsClosedBy (stands_for F.holds self.now) store.old.parts store.old.now }
+        ensures keeps { Keeps (stands_for F.holds F.fits self.now) result store.old store.new }
+        ensures same { (result ≡ moves.Same) ↔ IsClosedBy (stands_for F.holds F.fits self.now) store.old.parts store.old.now }
         ensures moves { Moves result store.old store.new }
         ensures turns { store.new.turns ≡ min (store.old.turns + 1) (2 ^ 64 - 1) }
         ensures known { Known store.new }
@@ -67,15 +68,15 @@ impl<F: Family> UseProp<F> {
         store.turn();
         let group = use_of(store.problem(), self.number);
         let mut pass = Pass::start();
-        F::sweep(store, &mut pass, group, &since);
+        self.family.sweep(store, &mut pass, group, &since);
         pass.moved()
     }
 }
 
 impl<F: Family> Propagator for UseProp<F> {
-    ghost stands = { stands_for F.holds };
+    ghost stands = { stands_for F.holds F.fits };
 
-    ghost still = { λ p parts box. IsClosedBy (stands_for F.holds p) parts box };
+    ghost still = { λ p parts box. IsClosedBy (stands_for F.holds F.fits p) parts box };
 
     ghost kinds = { λ p. p.wakes.0 };
 
