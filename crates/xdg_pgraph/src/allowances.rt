@@ -78,7 +78,8 @@ impl Row {
         requires { at < length self.old }
         ensures { self.new ≡ slice_set self.old at class }
     {
-        self.classes[at] = class;
+        let classes = &mut self.classes;
+        classes[at] = class;
     }
 
     /// The place of the class of such numbers, if there is one.
