@@ -6,24 +6,24 @@ use Rattle.xdg_plink.proofs.Others.{joins_stay, links_stay}
 use Rattle.xdg_plink.proofs.Sweeping.{not_reaching}
 use Rattle.xdg_plink.proofs.near.near_lost.Goals as goal
 
-pub since-second-requires : goal.since-second-requires
-since-second-requires c = c.requires.held.within
+pub gather-requires : goal.gather-requires
+gather-requires c = c.requires.held.within
 
-pub since-first-requires : goal.since-first-requires
-since-first-requires c = c.requires.held.within
+pub gather-requires-2 : goal.gather-requires-2
+gather-requires-2 c = c.requires.held.within
 
 pub returns-then-asks_edges : goal.returns-then-asks_edges
 returns-then-asks_edges c =
     let s = c.args.store.now in
     let held = c.requires.held in
-    links_stay s.parts c.args.group.now c.requires.known.problem (box_at s c.args.mark) s.now held.inside held.calm c.near_links.result c.since-second.result
-    (subst (λ d. HasTouched s.parts d (box_at s c.args.mark) s.now c.since-second.result) c.dim_of-second_dim.ensures c.since-second.ensures.touched) (c.if-asks_edges.ensures.0 refl)
-    (subst (λ w. HasLinks c.near_links.result w c.since-second.result) c.way_of.ensures c.near_links.ensures)
+    links_stay s.parts c.args.group.now c.requires.known.problem (box_at s c.args.mark) s.now held.inside held.calm c.near_links.result c.gather.new.self
+    (subst (λ d. HasTouched s.parts d (box_at s c.args.mark) s.now c.gather.new.self) c.dim_of-second_dim.ensures c.gather.ensures.touched) (c.if-asks_edges.ensures.0 refl)
+    (subst (λ w. HasLinks c.near_links.result w c.gather.new.self) c.way_of.ensures c.near_links.ensures)
 
 pub returns : goal.returns
 returns c =
     let s = c.args.store.now in
     let held = c.requires.held in
-    joins_stay s.parts c.args.group.now c.requires.known.problem (box_at s c.args.mark) s.now held.inside held.calm c.near_joins.result c.since-second.result
-    (subst (λ d. HasTouched s.parts d (box_at s c.args.mark) s.now c.since-second.result) c.dim_of-second_dim.ensures c.since-second.ensures.touched) (not_reaching c.args.group.now.principle c.requires.family (λ r. (let t : false ≡ true = c.if-asks_edges.ensures.1 r in cc))) held.is c.requires.known.is_box c.since-first.result
-    (subst (λ d. HasTouched s.parts d (box_at s c.args.mark) s.now c.since-first.result) c.dim_of-first_dim.ensures c.since-first.ensures.touched) c.near_joins.ensures
+    joins_stay s.parts c.args.group.now c.requires.known.problem (box_at s c.args.mark) s.now held.inside held.calm c.near_joins.result c.gather.new.self
+    (subst (λ d. HasTouched s.parts d (box_at s c.args.mark) s.now c.gather.new.self) c.dim_of-second_dim.ensures c.gather.ensures.touched) (not_reaching c.args.group.now.principle c.requires.family (λ r. (let t : false ≡ true = c.if-asks_edges.ensures.1 r in cc))) held.is c.requires.known.is_box c.gather-2.new.self
+    (subst (λ d. HasTouched s.parts d (box_at s c.args.mark) s.now c.gather-2.new.self) c.dim_of-first_dim.ensures c.gather-2.ensures.touched) c.near_joins.ensures

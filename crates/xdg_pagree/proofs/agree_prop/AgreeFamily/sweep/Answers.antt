@@ -10,4 +10,4 @@ returns c = sweeps_skip c.args.group.now (AreNodesDone (nodes c.args.store.now.p
     (closed_by_nodes c.args.store.now.parts c.args.group.now c.sweep_nodes.new.store.now c.requires.family)
 
 pub sweep_nodes-requires-clause-others : goal.sweep_nodes-requires-clause-others
-sweep_nodes-requires-clause-others c quiet = c.touched_since-touched.ensures
+sweep_nodes-requires-clause-others c quiet = c.gather_lost.ensures

@@ -23,5 +23,5 @@ returns-then-eq c =
           sym at_is ∙ get_or_default c.args.self.now c.loop-at.at class none within ∙ ap (λ classes. get_or classes c.loop-at.at none) (sym c.as_slice-class-items.ensures) in
           ap (λ (it : Class). numbers_of c.args.bundle.way group c.args.bundle.node c.args.bundle.label it.first) got
           ∙ sym (c.numbers_at.ensures.same group is)
-          ∙ (slice_eq-Decides Decides-eqb _ _ _ (c.if-eq.ensures tt)).0 refl;
+          ∙ (slice_eq-Decides Decides-eqb _ _ _ c.if-eq.ensures).0 refl;
     }
