@@ -9,7 +9,8 @@ use Rattle.xdg_pgraph.specs.declared.allowances.Class.{Class}
 use Rattle.xdg_pgraph.specs.declared.bundle.Bundle.{Bundle}
 use Rattle.xdg_pgraph.specs.declared.bundle.Way.{Way}
 use Rattle.xdg_pgraph.specs.declared.bundle.Way.TheVariants as ways
-use Rattle.xdg_pgraph.specs.Allowances.{AreRows, HasClasses, class_place}
+use Rattle.xdg_pgraph.specs.declared.allowances.Allowances.{Allowances}
+use Rattle.xdg_pgraph.specs.Allowances.{AreAllowances, AreRows, HasClasses, class_place}
 use Rattle.xdg_pgraph.specs.Bundles.{argument_of}
 
 -- ---- a place is that of one bundle
@@ -62,3 +63,8 @@ module _ (parts : Parts) (group : Group) (labels : ℕ) where
       | inr apart ↦ past (rows ++ row ∷ []) other (let long = length_push rows row in omega (arith, long, behind, apart))
     ]
   ]
+
+-- ---- a table that was made
+
+pub table_is : (given parts : Parts) (group : Group) (made table : Allowances) → given ≡ parts → table ≡ made → AreAllowances given group made → AreAllowances parts group table
+table_is given parts group made table same is are = subst (AreAllowances parts group) (sym is) (subst (λ (it : Parts). AreAllowances it group made) same are)

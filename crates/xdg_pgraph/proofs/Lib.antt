@@ -31,3 +31,5 @@ pub mod RootSets
 pub mod Resting
 pub mod Members
 pub mod Mothers
+pub mod Classing
+pub mod ClassRows
