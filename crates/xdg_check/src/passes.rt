@@ -168,7 +168,6 @@ fn check_statements(
 /// The time is linear in the text and in what the completed bindings hold; each class's body is counted once. Where a
 /// class with defaults is used many times, the bindings hold as many copies of them; these are counted first, and above
 /// 67,108,864 bytes of the text the answer is want of memory, with nothing taken.
-#[tactic(auto, using(crate::proofs::Only::only_answer))]
 pub fn check(alloc: Global, grammar: &Grammar, table: TypeTable) -> Result<Checked, Stop>
     requires { HasTable grammar.now.statements table }
     ensures tells { Tells grammar.now.statements table result }

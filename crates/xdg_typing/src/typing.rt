@@ -69,7 +69,6 @@ fn types_of(alloc: Global, statements: &[Statement]) -> Result<TypeTable, Stop>
 /// tuple type that names a domain of more than 64 constants many times, and many attributes given by one very wide name,
 /// take time that grows with the square. What the types hold is counted first: above 16,777,216 parts the
 /// answer is want of memory, and nothing is made.
-#[tactic(auto, using(crate::proofs::Only::only_answer))]
 pub fn types(alloc: Global, grammar: &Grammar) -> Result<TypeTable, Stop>
     ensures tells { Tells grammar.now.statements result }
     ensures only { (answer : Result Table faults.Fault) → IsAnswer grammar.now.statements answer → Gives answer result }
