@@ -1,11 +1,11 @@
 -- What stands at the front of a text.
 use denote.Ref.{Bor}
-use Rattle.std.proofs.Common.{◌≡◌, ◌≢◌, ◌<◌, ◌≤◌, ◌++◌, ◌+◌, ◌==◌, ◌⊎◌, inl, inr, ℕ, zero, suc, List, [], ◌∷◌, length, drop, take, get_or, refl, sym, ap, ◌∙◌, subst, arith, true, false, cond, Bool, Some, None, Option, MatchOption}
-use Rattle.std.proofs.lemmas.Bool.{eq-eqb, ne_eqb, eqb-true, eqb-false, cases_eq, cases_Bool}
+use Rattle.std.proofs.Common.{◌≡◌, ◌≢◌, ◌<◌, ◌++◌, ◌+◌, ◌==◌, ◌⊎◌, inl, inr, ℕ, suc, List, [], ◌∷◌, length, get_or, refl, sym, ap, ◌∙◌, arith, true, false, cond, Bool, Some, None, Option, MatchOption}
+use Rattle.std.proofs.lemmas.Bool.{eq-eqb, ne_eqb, eqb-true}
 use Rattle.std.proofs.lemmas.Str.Pattern.{split_parts, strip_prefix_char, IsSplitOnceResult}
 use Rattle.std.specs.Str.Pattern.{FindsTextPrefix, FindsCharPrefix, StripsPrefix}
 use Rattle.xdg_reading.proofs.Steps.{pair, lead_found, cond_either}
-use Rattle.xdg_reading.specs.Pieces.{behind, until, lead, Skips, Takes}
+use Rattle.xdg_reading.specs.Pieces.{behind, until, lead}
 use Rattle.xdg_facts.proofs.Options.{some_same}
 
 -- a test on two equal numbers

@@ -1,7 +1,7 @@
 -- The insides of quoted texts.
-use Rattle.std.proofs.Common.{◌≡◌, ◌≢◌, ◌<◌, ◌≤◌, ◌++◌, ◌+◌, ◌==◌, ◌⊎◌, ◌&&◌, inl, inr, ℕ, zero, suc, List, [], ◌∷◌, length, drop, take, get_or, refl, sym, ap, ◌∙◌, subst, arith, true, false, cond, not, Bool, Some, None, Option, append_assoc, take-append-drop, append-nil}
-use Rattle.std.proofs.lemmas.Bool.{eq-eqb, ne_eqb, eqb-true, eqb-false, cases_Bool, and_parts, not-true, or_from, and_from}
-use Rattle.std.proofs.lemmas.List.Sums.{prefix_len_passes, prefix_len_stops, prefix_len-le-length}
+use Rattle.std.proofs.Common.{◌≡◌, ◌<◌, ◌++◌, ◌+◌, ◌==◌, ◌&&◌, ℕ, suc, List, [], ◌∷◌, length, drop, take, get_or, refl, sym, ap, ◌∙◌, subst, arith, true, false, cond, not, Bool, Some, None, Option, append_assoc, take-append-drop, append-nil}
+use Rattle.std.proofs.lemmas.Bool.{eqb-true, and_parts, not-true, or_from, and_from}
+use Rattle.std.proofs.lemmas.List.Sums.{prefix_len_stops, prefix_len-le-length}
 use Rattle.std.specs.List.{list_all, prefix_len}
 use Rattle.std.specs.Str.{IsCharBoundary}
 use Rattle.xdg_reading.specs.Pieces.{behind, lead, leads, inside, is_plain, stops_plain, GoesPlain}

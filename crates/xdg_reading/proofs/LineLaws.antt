@@ -1,21 +1,19 @@
 -- Lines are read as they are written.
-use Rattle.std.proofs.Common.{◌≡◌, ◌<◌, ◌≤◌, ◌++◌, ◌+◌, ◌^◌, ◌⊎◌, inl, inr, ℕ, zero, suc, List, [], ◌∷◌, length, refl, sym, ap, ◌∙◌, subst, arith, lit<, lit≤, true, false, cond, Bool, Some, None, Option, append_assoc, codes, decimal}
-use Rattle.std.specs.List.{flat_map}
+use Rattle.std.proofs.Common.{◌≡◌, ◌<◌, ◌≤◌, ◌++◌, ◌+◌, ◌^◌, ◌⊎◌, inl, inr, ℕ, List, [], ◌∷◌, refl, sym, ap, ◌∙◌, subst, arith, lit<, Some, None, Option, append_assoc, codes, decimal}
 use Rattle.xdg_base.specs.declared.ids.NodeId.{NodeId}
 use Rattle.xdg_base.specs.declared.ids.EntryNo.{EntryNo}
 use Rattle.xdg_problem.specs.declared.parts.SentenceWord.{SentenceWord}
-use Rattle.xdg_problem.specs.declared.parts.Shown.{Shown}
 use Rattle.xdg_text.specs.Constants.{constant, quoted}
 use Rattle.xdg_text.specs.Values.{value_text}
 use Rattle.std.specs.Fmt.{digits}
-use Rattle.xdg_text.specs.Lines.{led, line, version_line, analysis_line, counts_line, word_line, attr_line, edge_line}
+use Rattle.xdg_text.specs.Lines.{led, line, version_line}
 use Rattle.xdg_reading.specs.declared.line.Line.{Line}
 use Rattle.xdg_reading.specs.declared.line.Line.TheVariants as lines
 use Rattle.xdg_reading.specs.declared.texts.AttrLine.{AttrLine}
 use Rattle.xdg_reading.specs.declared.texts.EdgeLine.{EdgeLine}
 use Rattle.xdg_reading.specs.Pieces.{after, past_or, behind, number_at, ordinal_at, quoted_at, constant_at, value_at}
 use Rattle.xdg_reading.specs.Lines.{line_text, IsLine, node_at, analysis_at, counts_at, word_at, attr_at, edge_at, line_at}
-use Rattle.xdg_reading.proofs.Constants.{space, line_feed, quoted_read, quoted_spelled, constant_read, constant_spelled}
+use Rattle.xdg_reading.proofs.Constants.{space, quoted_read, quoted_spelled, constant_read, constant_spelled}
 use Rattle.xdg_reading.proofs.Fronts.{it_stands}
 use Rattle.xdg_reading.proofs.Numbers.{number_read, number_spelled, ordinal_read, ordinal_spelled}
 use Rattle.xdg_reading.proofs.Steps.{pair, after_found, past_or_found, Passed}

@@ -1,7 +1,5 @@
 -- The text that an analysis has, with the places of its lines.
-use Rattle.std.proofs.Common.{◌≡◌, ◌≢◌, ◌⊎◌, inl, inr, ◌<◌, ◌≤◌, ◌+◌, ◌*◌, ◌-◌, ◌++◌, ◌^◌, ℕ, zero, suc, List, [], ◌∷◌, length, map, drop, get_or, refl, sym, ap, ap₂, ◌∙◌, subst, arith, Some, None, Option, Ok, append_assoc, append-nil, length-append, All}
-use Rattle.std.specs.Prelude.{Contains}
-use Rattle.std.proofs.lemmas.List.{length-map, get_or_default}
+use Rattle.std.proofs.Common.{◌≡◌, ◌<◌, ◌≤◌, ◌+◌, ◌-◌, ◌++◌, ℕ, zero, suc, List, [], ◌∷◌, length, map, get_or, refl, sym, ap, ◌∙◌, subst, arith, Some, None, Option, length-append}
 use Rattle.std.proofs.lemmas.List.Elements.{recursion_from_All}
 use Rattle.std.specs.List.{flat_map, AllByRecursion}
 use Rattle.xdg_base.specs.declared.ids.EntryNo.{EntryNo}
@@ -12,23 +10,23 @@ use Rattle.xdg_problem.specs.declared.parts.AttrPlan.{AttrPlan}
 use Rattle.xdg_problem.specs.declared.parts.DimPlan.{DimPlan}
 use Rattle.xdg_problem.specs.declared.parts.Parts.{Parts}
 use Rattle.xdg_problem.specs.declared.parts.SentenceWord.{SentenceWord}
-use Rattle.xdg_problem.specs.Analyses.{HasCandidates, IsPlace, Before, EdgesRise, IsAnalysis}
+use Rattle.xdg_problem.specs.Analyses.{HasCandidates, IsPlace, EdgesRise, IsAnalysis}
 use Rattle.xdg_problem.specs.Places.{numbers_from, nodes}
-use Rattle.xdg_problem.specs.Problems.{IsProblem, IsAttr, AreCandidates, HasConstant}
+use Rattle.xdg_problem.specs.Problems.{IsProblem, AreCandidates}
 use Rattle.xdg_reading.specs.declared.line.Line.{Line}
 use Rattle.xdg_reading.specs.declared.line.Line.TheVariants as lines
 use Rattle.xdg_reading.specs.declared.texts.AnalysisText.{AnalysisText}
 use Rattle.xdg_reading.specs.declared.texts.AttrLine.{AttrLine}
 use Rattle.xdg_reading.specs.declared.texts.EdgeLine.{EdgeLine}
-use Rattle.xdg_reading.specs.Lines.{line_text, text_of, attr_text, edge_text, IsLine}
-use Rattle.xdg_reading.specs.Texts.{word_lines, body, lines_of, lines2_of, Placed}
+use Rattle.xdg_reading.specs.Lines.{line_text, text_of, attr_text, edge_text}
+use Rattle.xdg_reading.specs.Texts.{word_lines, body, Placed}
 use Rattle.xdg_text.specs.Blocks.{no_plan, no_value}
 use Rattle.xdg_text.specs.Lines.{word_line}
 use Rattle.xdg_reading.specs.Blocks.{HasWords}
-use Rattle.xdg_reading.specs.Fits.{SaysValue, SaysEdge, SayValues, SayEdges, NextEdge, Follows, Shows}
+use Rattle.xdg_reading.specs.Fits.{SayValues, SayEdges, Follows, Shows}
 use Rattle.xdg_reading.specs.Slots.{Asked, node_slots, dim_slots, slots}
 use Rattle.xdg_reading.proofs.Attributes.{AreAttrs, are_attrs, size, sizes_are}
-use Rattle.xdg_reading.proofs.Written.{both_texts, texts}
+use Rattle.xdg_reading.proofs.Written.{texts}
 
 -- lines that follow placed lines
 pub placed_both : (at : ℕ) (xs ys : List Line) → Placed at xs → Placed (at + length (text_of xs)) ys → Placed at (xs ++ ys)

@@ -1,6 +1,6 @@
 -- Lines from the first to the last are those of a text, and those of a text go from the first to the last.
-use Rattle.std.proofs.Common.{◌≡◌, ◌≢◌, ◌<◌, ◌≤◌, ◌++◌, ◌+◌, ◌-◌, ◌==◌, ◌&&◌, ◌⊎◌, inl, inr, ℕ, zero, suc, List, [], ◌∷◌, length, map, refl, sym, ap, ap₂, ◌∙◌, subst, arith, lit<, true, false, cond, Bool, Some, None, Option, append_assoc, append-nil, length-append, codes, nat_lt, add-one}
-use Rattle.std.proofs.lemmas.Bool.{both_ways, eqb-true, eqb-false, eq-eqb, ne_eqb, and_parts, and_from, ltb-true, lt-ltb}
+use Rattle.std.proofs.Common.{◌≡◌, ◌<◌, ◌≤◌, ◌++◌, ◌+◌, ◌-◌, ◌==◌, ◌&&◌, ◌⊎◌, inl, inr, ℕ, suc, List, [], ◌∷◌, length, map, refl, sym, ap, ap₂, ◌∙◌, subst, arith, false, nat_lt, add-one}
+use Rattle.std.proofs.lemmas.Bool.{eqb-true, eqb-false, and_parts, ltb-true}
 use Rattle.std.specs.List.{flat_map}
 use Rattle.xdg_base.specs.declared.ids.NodeId.{NodeId}
 use Rattle.xdg_base.specs.declared.ids.EntryNo.{EntryNo}
@@ -13,8 +13,8 @@ use Rattle.xdg_reading.specs.declared.texts.AnalysisText.{AnalysisText}
 use Rattle.xdg_reading.specs.declared.texts.AttrLine.{AttrLine}
 use Rattle.xdg_reading.specs.declared.texts.EdgeLine.{EdgeLine}
 use Rattle.xdg_reading.specs.Gathered.{word_in, entry_in, attr_in, edge_in, Holds, Whole}
-use Rattle.xdg_reading.specs.Lines.{line_text, text_of, IsLine}
-use Rattle.xdg_reading.specs.Stages.{next, Goes}
+use Rattle.xdg_reading.specs.Lines.{line_text, text_of}
+use Rattle.xdg_reading.specs.Stages.{Goes}
 use Rattle.xdg_reading.specs.Texts.{word_lines, body, lines_of, lines2_of, Placed, HasLines, IsText}
 use Rattle.xdg_reading.proofs.Steps.{cond_found, cond_left}
 use Rattle.xdg_facts.proofs.Options.{none_some, some_same}

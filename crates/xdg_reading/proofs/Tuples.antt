@@ -1,5 +1,5 @@
 -- How the constants of a tuple are read one after the other.
-use Rattle.std.proofs.Common.{◌≡◌, ◌<◌, ◌++◌, ◌+◌, ◌-◌, ℕ, zero, suc, List, [], ◌∷◌, refl, sym, ap, ◌∙◌, subst, arith, true, false, cond, not, Bool, Some, None, Option}
+use Rattle.std.proofs.Common.{◌≡◌, ◌<◌, ◌++◌, ◌+◌, ◌-◌, ℕ, suc, List, [], ◌∷◌, sym, ap, ◌∙◌, arith, true, cond, Bool, Some, Option}
 use Rattle.xdg_reading.specs.Pieces.{after, lead, leads, element_at, constants_at}
 use Rattle.xdg_reading.proofs.Insides.{lead_is, leads_both}
 

@@ -1,6 +1,6 @@
 -- Values of attributes are read as they are written.
-use Rattle.std.proofs.Common.{◌≡◌, ◌<◌, ◌≤◌, ◌++◌, ◌+◌, ◌==◌, ◌&&◌, not, ◌⊎◌, inl, inr, ℕ, zero, suc, List, [], ◌∷◌, length, refl, sym, ap, ◌∙◌, subst, arith, lit<, true, false, cond, Bool, Some, None, Option, append_assoc, length-append, codes}
-use Rattle.std.proofs.lemmas.Bool.{and_parts, both_ways, ne_eqb}
+use Rattle.std.proofs.Common.{◌≡◌, ◌<◌, ◌≤◌, ◌++◌, ◌+◌, ◌&&◌, not, ◌⊎◌, inl, inr, ℕ, zero, suc, List, [], ◌∷◌, length, refl, sym, ap, ◌∙◌, subst, arith, lit<, true, false, cond, Bool, Some, None, Option, append_assoc, length-append, codes}
+use Rattle.std.proofs.lemmas.Bool.{and_parts, both_ways}
 use Rattle.std.specs.List.{flat_map, join_by, list_all}
 use Rattle.xdg_problem.specs.declared.parts.Shown.{Shown}
 use Rattle.xdg_problem.specs.declared.parts.Shown.TheVariants as shown
@@ -8,7 +8,7 @@ use Rattle.xdg_problem.specs.Problems.{HasConstant}
 use Rattle.xdg_text.specs.Constants.{constant, quoted, is_name, begins_name, continues_name, is_keyword}
 use Rattle.xdg_text.specs.Values.{value_text}
 use Rattle.xdg_reading.specs.Pieces.{after, past, past_or, or_else, lead, behind, constant_at, element_at, constants_at, tuple_at, value_at}
-use Rattle.xdg_reading.proofs.Constants.{space, bracket, line_feed, constant_read, constant_other, constant_spelled, quoted_parts}
+use Rattle.xdg_reading.proofs.Constants.{space, bracket, line_feed, constant_read, constant_other, constant_spelled}
 use Rattle.xdg_reading.proofs.Fronts.{it_stands, other_byte}
 use Rattle.xdg_reading.proofs.Steps.{pair, after_found, past_found, past_or_found, lead_found, cond_either, or_else_found, Passed}
 use Rattle.xdg_facts.proofs.Options.{none_some, some_same}

@@ -1,6 +1,6 @@
 -- The lines of a text that shows an analysis are those of its block.
-use Rattle.std.proofs.Common.{◌≡◌, ◌⊎◌, inl, inr, ◌<◌, ◌≤◌, ◌+◌, ◌*◌, ◌++◌, ◌^◌, ℕ, zero, suc, List, [], ◌∷◌, length, map, drop, get_or, refl, sym, ap, ap₂, ◌∙◌, subst, arith, Some, None, Option, Ok, append_assoc, append-nil, length-append}
-use Rattle.std.proofs.lemmas.List.{length-map, drop-drop}
+use Rattle.std.proofs.Common.{◌≡◌, ◌+◌, ◌*◌, ◌++◌, ℕ, zero, suc, List, [], ◌∷◌, length, map, drop, get_or, refl, sym, ap, ap₂, ◌∙◌, arith, Some, None, Option, append_assoc, append-nil, length-append}
+use Rattle.std.proofs.lemmas.List.{length-map}
 use Rattle.std.proofs.lemmas.List.Concat.{flat_map-append}
 use Rattle.std.specs.List.{flat_map}
 use Rattle.xdg_base.specs.declared.ids.EntryNo.{EntryNo}
@@ -16,14 +16,14 @@ use Rattle.xdg_reading.specs.declared.line.Line.TheVariants as lines
 use Rattle.xdg_reading.specs.declared.texts.AnalysisText.{AnalysisText}
 use Rattle.xdg_reading.specs.declared.texts.AttrLine.{AttrLine}
 use Rattle.xdg_reading.specs.declared.texts.EdgeLine.{EdgeLine}
-use Rattle.xdg_reading.specs.Lines.{line_text, text_of, attr_text, edge_text}
+use Rattle.xdg_reading.specs.Lines.{line_text, text_of, edge_text}
 use Rattle.xdg_reading.specs.Texts.{word_lines, body, lines_of, lines2_of}
 use Rattle.xdg_text.specs.Blocks as blocks
-use Rattle.xdg_text.specs.Blocks.{no_plan, no_value, value_at, node_lines, dim_lines, attr_lines, line_of_edge, edge_lines, body_lines, block, block2}
+use Rattle.xdg_text.specs.Blocks.{no_plan, value_at, node_lines, dim_lines, attr_lines, line_of_edge, edge_lines, body_lines, block, block2}
 use Rattle.xdg_text.specs.Lines.{word_line, attr_line, edge_line, end_line}
 use Rattle.xdg_text.specs.Values.{value_text}
 use Rattle.xdg_reading.specs.Blocks.{HasWords}
-use Rattle.xdg_reading.specs.Fits.{SaysValue, SaysEdge, SayValues, SayEdges, Shows}
+use Rattle.xdg_reading.specs.Fits.{SaysEdge, SayValues, SayEdges, Shows}
 use Rattle.xdg_reading.specs.Slots.{Asked, node_slots, dim_slots, slots}
 
 abbrev pub texts : List SentenceWord → List (List ℕ)

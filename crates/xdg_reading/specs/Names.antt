@@ -1,5 +1,5 @@
 -- Tests on names and values.
-use Rattle.std.specs.Prelude.{ℕ, ◌==◌, ◌&&◌, Bool, true, false, Option, List, [], ◌∷◌, bytes_eq}
+use Rattle.std.specs.Prelude.{ℕ, ◌&&◌, Bool, true, false, Option, List, [], ◌∷◌, bytes_eq}
 use Rattle.std.specs.List.{position}
 use Rattle.xdg_problem.specs.declared.parts.DimPlan.{DimPlan}
 use Rattle.xdg_problem.specs.declared.parts.Shown.{Shown}

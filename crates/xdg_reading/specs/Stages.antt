@@ -1,5 +1,5 @@
 -- Which lines a text has, one after the other.
-use Rattle.std.specs.Prelude.{◌≡◌, ℕ, ◌+◌, ◌-◌, ◌<◌, ◌==◌, ◌&&◌, nat_lt, Bool, true, false, cond, Option, Some, None, List, [], ◌∷◌, ◌++◌, length}
+use Rattle.std.specs.Prelude.{◌≡◌, ℕ, ◌+◌, ◌-◌, ◌==◌, ◌&&◌, nat_lt, Bool, true, false, cond, Option, Some, None, List, [], ◌∷◌, ◌++◌, length}
 use Rattle.xdg_reading.specs.declared.line.Line.{Line}
 use Rattle.xdg_reading.specs.declared.line.Line.TheVariants as lines
 use Rattle.xdg_reading.specs.declared.stage.Stage.{Stage}

@@ -1,4 +1,4 @@
-use Rattle.std.proofs.Common.{◌≡◌, ◌∙◌, ap, ap₂, map, sym}
+use Rattle.std.proofs.Common.{◌∙◌, ap, ap₂, map}
 use Rattle.xdg_problem.specs.Places.{nodes}
 use Rattle.xdg_reading.specs.Slots.{asked_by, slots}
 use Rattle.xdg_reading.proofs.Attributes.{few_values, are_attrs}

@@ -1,4 +1,4 @@
-use Rattle.std.proofs.Common.{◌≡◌, ◌-◌, ◌≤◌, ℕ, length, arith, refl, ap, sym, ◌∙◌, Some, subst}
+use Rattle.std.proofs.Common.{◌-◌, length, arith, ap, sym, ◌∙◌, Some, subst}
 use Rattle.xdg_reading.proofs.Walks.{unread_offends, other_offends, taken, left_offends, all_read, shrinks, at_end, within}
 use Rattle.xdg_reading.specs.Stages.{OffendsAt}
 use Rattle.xdg_reading.proofs.reading.read_lines.Goals as goal

@@ -1,4 +1,4 @@
-use Rattle.std.proofs.Common.{◌≡◌, ◌++◌, ◌-◌, drop, map}
+use Rattle.std.proofs.Common.{◌≡◌, ◌++◌, ◌-◌, map}
 use Rattle.std.specs.List.{flat_map}
 use Rattle.xdg_problem.specs.Places.{numbers_from}
 use Rattle.xdg_reading.specs.Slots.{asked_by, node_slots, dim_slots}

@@ -1,6 +1,6 @@
-use Rattle.std.proofs.Common.{◌≡◌, Some, None, subst}
+use Rattle.std.proofs.Common.{◌≡◌, Some, subst}
 use Rattle.xdg_reading.specs.Pieces.{behind}
-use Rattle.xdg_reading.proofs.Fronts.{stripped, not_stripped}
+use Rattle.xdg_reading.proofs.Fronts.{stripped}
 use Rattle.xdg_reading.proofs.cursor.Cursor.skip.Goals as goal
 
 pub returns-in-Some : goal.returns-in-Some
