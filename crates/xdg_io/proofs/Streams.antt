@@ -1,5 +1,5 @@
 -- What streams gain.
-use Rattle.std.proofs.Common.{◌≡◌, ℕ, List, Option, None, Some, [], take, subst, ◌∙◌, ◌++◌}
+use Rattle.std.proofs.Common.{◌≡◌, ℕ, List, Option, None, Some, [], take, subst, ◌∙◌}
 use Rattle.std.proofs.lemmas.List.{append-nil}
 use Rattle.std.specs.Io.KnownBytes.{Appends, Keeps}
 

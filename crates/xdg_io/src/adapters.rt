@@ -134,13 +134,13 @@ impl<'a, R: Print> Sink for StdoutSink<'a, R> {
         Ok(count)
     }
 
-    fn feed(&mut self) -> Result<(), Failed> {
+    fn keep(&mut self, byte: u8) -> Result<(), Failed> {
         if self.kept + 1 < LINES {
-            self.lines[self.kept] = b'\n';
+            self.lines[self.kept] = byte;
             self.kept += 1;
             return Ok(());
         }
-        self.write(b"\n")?;
+        self.write(&[byte])?;
         Ok(())
     }
 }

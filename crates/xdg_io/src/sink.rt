@@ -1,7 +1,7 @@
 //! Where bytes are written to.
 
-ghost use Rattle.std.specs.Prelude.{◌≡◌, ◌∷◌, [], Option, ◌<◌, ◌≤◌, ◌+◌, ℕ, List, length, take, IfOk, OnOk, OnErr};
-ghost use Rattle.xdg_io.specs.Held.{Appends, AppendsFront};
+ghost use Rattle.std.specs.Prelude.{◌≡◌, ◌∷◌, [], Option, ◌<◌, ◌≤◌, ℕ, List, length, take, IfOk, OnOk, OnErr};
+ghost use Rattle.xdg_io.specs.Held.{Appends};
 ghost use Rattle.xdg_io.specs.Rose.{Rose};
 ghost use Rattle.xdg_io.specs.Texts.{WritesText};
 
@@ -27,15 +27,11 @@ pub trait Sink {
         ensures lasting { faults self.old ≤ faults self.new }
         ensures quiet { OnOk result (faults self.new ≡ faults self.old) };
 
-    /// Takes a line feed behind which another line is written at once, so a sink that hands on whole lines may keep this one till then.
-    fn feed(&mut self) -> Result<(), Failed>
-        ensures all { OnOk result (Appends (held self.old) (held self.new) (10 ∷ [])) }
-        ensures front { OnErr result (AppendsFront (held self.old) (held self.new) (10 ∷ [])) }
-        ensures cause { OnErr result (Rose (faults self.old) (faults self.new)) }
-        ensures lasting { faults self.old ≤ faults self.new }
-        ensures quiet { OnOk result (faults self.new ≡ faults self.old) }
+    /// Takes a byte behind which more is written at once, so a sink that hands on whole lines may keep this one till then.
+    fn keep(&mut self, byte: u8) -> Result<(), Failed>
+        ensures { WritesText result (held self.old) (held self.new) (faults self.old) (faults self.new) (byte ∷ []) }
     {
-        self.write(b"\n")?;
+        self.write(&[byte])?;
         Ok(())
     }
 }

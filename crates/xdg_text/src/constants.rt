@@ -111,7 +111,7 @@ fn write_escaped<K: Sink>(text: &str, sink: &mut K) -> Result<(), Failed>
 pub(crate) fn write_quoted<K: Sink>(text: &str, sink: &mut K) -> Result<(), Failed>
     ensures { WritesText result (K.held sink.old) (K.held sink.new) (K.faults sink.old) (K.faults sink.new) (quoted text.now) }
 {
-    write_all(sink, b"\"")?;
+    sink.keep(b'"')?;
     write_escaped(text, sink)?;
     write_all(sink, b"\"")
 }

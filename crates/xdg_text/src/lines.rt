@@ -59,7 +59,7 @@ fn write_word<K: Sink>(word: &Word, sink: &mut K) -> Result<(), Failed>
 fn write_led_word<K: Sink>(word: &Word, sink: &mut K) -> Result<(), Failed>
     ensures { WritesText result (K.held sink.old) (K.held sink.new) (K.faults sink.old) (K.faults sink.new) (led_word word.now) }
 {
-    write_all(sink, b" ")?;
+    sink.keep(b' ')?;
     write_word(word, sink)
 }
 
@@ -91,7 +91,7 @@ pub(crate) fn write_inner_line<K: Sink>(
     ensures { WritesText result (K.held sink.old) (K.held sink.new) (K.faults sink.old) (K.faults sink.new) (line first.now (map word_text others.now)) }
 {
     write_words(first, others, sink)?;
-    sink.feed()
+    sink.keep(b'\n')
 }
 
 /// Writes a line: its words with a space between two, and a line feed.

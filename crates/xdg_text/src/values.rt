@@ -22,7 +22,7 @@ fn write_text<K: Sink>(text: &Text, sink: &mut K) -> Result<(), Failed>
 fn write_led_constant<K: Sink>(text: &Text, sink: &mut K) -> Result<(), Failed>
     ensures { WritesText result (K.held sink.old) (K.held sink.new) (K.faults sink.old) (K.faults sink.new) (led_constant text.now) }
 {
-    write_all(sink, b" ")?;
+    sink.keep(b' ')?;
     write_text(text, sink)
 }
 
@@ -56,7 +56,7 @@ fn write_tuple<K: Sink>(texts: &[Text], sink: &mut K) -> Result<(), Failed>
     ensures { WritesText result (K.held sink.old) (K.held sink.new) (K.faults sink.old) (K.faults sink.new)
         (codes "[" ++ (join_by constant (codes " ") texts.now ++ codes "]")) }
 {
-    write_all(sink, b"[")?;
+    sink.keep(b'[')?;
     write_constants(texts, sink)?;
     write_all(sink, b"]")
 }

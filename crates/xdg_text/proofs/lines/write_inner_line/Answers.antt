@@ -6,6 +6,4 @@ pub returns-in_err-write_words : goal.returns-in_err-write_words
 returns-in_err-write_words g c = writes_whole (line_parts c.args.first.now c.args.others.now) (writes_first _ c.from_residual.ensures.0 c.in_err-write_words.ensures)
 
 pub returns : goal.returns
-returns g c =
-    let fed = c.feed.ensures in
-    writes_whole (line_parts c.args.first.now c.args.others.now) (writes_both c.in_ok-write_words.ensures (record { all = fed.all; front = fed.front; cause = fed.cause; lasting = fed.lasting; quiet = fed.quiet }))
+returns g c = writes_whole (line_parts c.args.first.now c.args.others.now) (writes_both c.in_ok-write_words.ensures c.keep.ensures)
