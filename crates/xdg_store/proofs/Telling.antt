@@ -1,9 +1,9 @@
 -- What a store keeps of the labels of edges into daughters, over its calls.
-use Rattle.std.proofs.Common.{◌≡◌, ◌≢◌, ◌⊎◌, ℕ, ◌<◌, ◌≤◌, ◌+◌, ◌*◌, ◌/◌, ◌↔◌, inl, inr, Bool, true, List, [], length, get_or, set, replicate, refl, ap, ap₂, sym, ◌∙◌, arith, subst, zero, suc}
+use Rattle.std.proofs.Common.{◌≡◌, ◌≢◌, ◌⊎◌, ℕ, ◌<◌, ◌≤◌, ◌+◌, ◌*◌, ◌/◌, ◌↔◌, inl, inr, Bool, true, List, [], length, get_or, set, drop, take, replicate, refl, ap, ap₂, sym, ◌∙◌, arith, subst, zero, suc}
 use Rattle.std.specs.Prelude.{nat_lt, slice_get}
 use Rattle.std.specs.Int.{bit_at}
 use Rattle.std.proofs.lemmas.Bool.{cases_eq, false≢true, lt-ltb}
-use Rattle.std.proofs.lemmas.List.{get_or_default, get_or-replicate, get_or-set_other, get_or-set_same, length-replicate, length-set}
+use Rattle.std.proofs.lemmas.List.{get_or_default, get_or-drop, get_or-replicate, get_or-set_other, get_or-set_same, get_or-take, length-drop, length-replicate, length-set, length-take-le}
 use Rattle.std.proofs.lemmas.Nat.{div_below, div-mul-add, row_fits}
 use Rattle.std.proofs.lemmas.Nat.Bits.{bit_at-zero}
 use Rattle.std.proofs.lemmas.Option.{slice_get-get_or}
@@ -18,7 +18,7 @@ use Rattle.xdg_problem.specs.Problems.{IsDim, IsProblem}
 use Rattle.xdg_problem.proofs.PlacePlans.{dim_within, plan_read}
 use Rattle.xdg_store.specs.Across.{AreKept, Renews, edge_at, in_may, in_must, mothers_at, no_mothers, row_count}
 use Rattle.xdg_store.specs.InRange.{HasEdges}
-use Rattle.xdg_store.specs.Labels.{AreFirst, AreLabels, AreTold, InRows, IsLabelled, IsMother, LeadsInto, Marks, Relabels, SaysAgain, StaysTold, at_place, labels_at, no_labels}
+use Rattle.xdg_store.specs.Labels.{AreFirst, AreLabels, AreLabelsOf, AreTold, InRows, IsLabelled, IsMother, LeadsInto, Marks, Relabels, SaysAgain, StaysTold, at_place, labels_at, no_labels}
 use Rattle.xdg_store.specs.Layout.{bits_of, box_in, edge_bit, is_set}
 use Rattle.xdg_facts.specs.Rises.{has}
 use Rattle.xdg_store.specs.declared.across.Mothers.{Mothers}
@@ -315,3 +315,31 @@ module _ (parts : Parts) (p : IsProblem parts) (words : List ℕ) (rows : List M
 
   pub must_told : AreLabels parts (Must parts box) dim daughter those.must
   must_told label = labelled_like _ _ those.must those.must label label refl refl (leads_like (InRows in_must (nodes parts) rows) (Must parts box) must_says label) (told.must dim daughter d l label)
+
+-- ---- those of all daughters
+
+-- they are there
+pub part_within : (parts : Parts) (rows : List Mothers) (into : List LabelsInto) (words : List ℕ) (n dim first : ℕ) → AreKept parts words rows → AreTold parts rows into → n ≡ nodes parts → first ≡ labels_at n dim 0 → dim < length parts.dims → first + n ≤ length into
+part_within parts rows into words n dim first kept told m at d =
+    let long = kept.long in
+    let wide = told.wide in
+    let row = row_fits dim (nodes parts) (length parts.dims) (nodes parts) d (omega arith) in
+    let is : first ≡ labels_at (nodes parts) dim 0 = at ∙ ap (λ i. labels_at i dim 0) m in
+    omega (arith, long, wide, row, is, m)
+
+module _ (parts : Parts) (p : IsProblem parts) (words : List ℕ) (rows : List Mothers) (into : List LabelsInto) (kept : AreKept parts words rows) (told : AreTold parts rows into) (dim n first : ℕ) (d : dim < length parts.dims) (m : n ≡ nodes parts) (at : first ≡ labels_at n dim 0) (part : List LabelsInto) (part_is : part ≡ take n (drop first into)) where
+  part_at : (daughter : ℕ) → daughter < nodes parts → at_place into (labels_at (nodes parts) dim daughter) ≡ at_place part daughter
+  part_at daughter l =
+      let is : first ≡ labels_at (nodes parts) dim 0 = at ∙ ap (λ i. labels_at i dim 0) m in
+      let place : first + daughter ≡ labels_at (nodes parts) dim daughter = omega (arith, is) in
+      sym (ap (λ (xs : List LabelsInto). at_place xs daughter) part_is ∙ get_or-take n (drop first into) daughter no_labels (omega (arith, l, m)) ∙ get_or-drop first into daughter no_labels ∙ ap (at_place into) place)
+
+  pub part_told : AreLabelsOf parts (box_in (bits_of parts) words) dim part
+  part_told =
+      let within = part_within parts rows into words n dim first kept told m at d in
+      let behind = length-drop first into in
+      record {
+        count = ap length part_is ∙ length-take-le n (drop first into) (omega (arith, within, behind)) ∙ m;
+        may = λ daughter l. subst (λ (z : LabelsInto). AreLabels parts (May parts (box_in (bits_of parts) words)) dim daughter z.may) (part_at daughter l) (may_told parts p words rows into kept told dim daughter d l);
+        must = λ daughter l. subst (λ (z : LabelsInto). AreLabels parts (Must parts (box_in (bits_of parts) words)) dim daughter z.must) (part_at daughter l) (must_told parts p words rows into kept told dim daughter d l);
+      }

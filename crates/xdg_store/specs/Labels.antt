@@ -6,6 +6,7 @@ use Rattle.xdg_problem.specs.declared.analysis.Edge.{Edge}
 use Rattle.xdg_problem.specs.declared.parts.DimPlan.{DimPlan}
 use Rattle.xdg_problem.specs.declared.parts.Parts.{Parts}
 use Rattle.xdg_problem.specs.Analyses.{IsPlace}
+use Rattle.xdg_problem.specs.Boxes.{May, Must}
 use Rattle.xdg_problem.specs.Places.{edge, nodes}
 use Rattle.xdg_problem.specs.Problems.{IsProblem}
 use Rattle.xdg_store.specs.Across.{edge_at, in_may, in_must}
@@ -46,6 +47,12 @@ no_labels = record { may = record { some = 0; more = 0 }; must = record { some =
 
 abbrev pub at_place : List LabelsInto → ℕ → LabelsInto
 at_place into place = slice_index_or into place no_labels
+
+-- those of each node of the sentence, for the edges of a box
+pub record AreLabelsOf (parts : Parts) (box : List (List Bool)) (dim : ℕ) (labels : List LabelsInto) : Type 0 where
+  pub count : length labels ≡ nodes parts
+  pub may : (daughter : ℕ) → daughter < nodes parts → AreLabels parts (May parts box) dim daughter (at_place labels daughter).may
+  pub must : (daughter : ℕ) → daughter < nodes parts → AreLabels parts (Must parts box) dim daughter (at_place labels daughter).must
 
 -- rows have the mother of an edge
 abbrev pub InRows : (List Mothers → ℕ → ℕ → Bool) → ℕ → List Mothers → Edge → Type 0

@@ -1,6 +1,6 @@
 //! The labels of edges into daughters.
 
-ghost use Rattle.std.specs.Prelude.{◌≡◌, ◌≢◌, ℕ, ◌<◌, ◌≤◌, ◌*◌, ◌/◌, ◌↔◌, ◌&&◌, ◌==◌, not, false, IsTrue, All, length, nat_lt, slice_index_or};
+ghost use Rattle.std.specs.Prelude.{◌≡◌, ◌≢◌, ℕ, ◌<◌, ◌≤◌, ◌+◌, ◌*◌, ◌/◌, ◌↔◌, ◌&&◌, ◌==◌, not, false, IsTrue, All, drop, length, nat_lt, slice_index_or, take};
 ghost use Rattle.std.specs.Int.{bit_at};
 ghost use Rattle.xdg_facts.specs.Rises.{has};
 ghost use Rattle.xdg_problem.specs.Arguments.{no_plan};
@@ -32,6 +32,15 @@ pub(crate) fn labels_at(nodes: usize, dim: DimId, daughter: NodeId) -> usize
     ensures { result ≡ labels_at nodes dim.0 daughter.0 }
 {
     dim.0 as usize * nodes + daughter.0 as usize
+}
+
+/// So many labels from a place on.
+pub(crate) fn labels_from(labels: &[LabelsInto], first: usize, count: usize) -> &[LabelsInto]
+    requires { first + count ≤ length labels.now }
+    ensures { result.now ≡ take count (drop first labels.now) }
+{
+    let rest = &labels[first..];
+    &rest[..count]
 }
 
 /// A word with a bit, or without it.

@@ -10,14 +10,14 @@ ghost use Rattle.xdg_problem.specs.Vectors.{shape};
 ghost use Rattle.xdg_store.specs.Across.{AreMothers};
 ghost use Rattle.xdg_store.specs.Change.{Removes};
 ghost use Rattle.xdg_store.specs.InRange.{HasCandidate, HasEdges, HasValue};
-ghost use Rattle.xdg_store.specs.Labels.{AreLabels};
+ghost use Rattle.xdg_store.specs.Labels.{AreLabels, AreLabelsOf};
 ghost use Rattle.xdg_store.specs.Naming.{Names};
 ghost use Rattle.xdg_store.specs.States.{Known};
 
 use crate::across::{Mothers, mothers_at, renew, renew_all, rows_from};
 use crate::change::Change;
 use crate::decision::Decision;
-use crate::labels::{LabelsInto, label_all, labels_at, no_labels};
+use crate::labels::{LabelsInto, label_all, labels_at, labels_from, no_labels};
 use crate::layout::{attr_row, edge_row, entry_row};
 use crate::masks::{nodes_below, row_nodes};
 use crate::naming::{behind, note};
@@ -341,6 +341,16 @@ impl<'a> Store<'a> {
         ensures known { Known self.now }
     {
         self.into[labels_at(self.node_count, dim, daughter)]
+    }
+
+    /// For each node of the sentence the labels of the edges into it that may be present, and of those that must be.
+    pub fn labels_by_daughter(&self, dim: DimId) -> &[LabelsInto]
+        requires { dim.0 < length self.now.parts.dims }
+        ensures labels { AreLabelsOf self.now.parts self.now.now dim.0 result.now }
+        ensures known { Known self.now }
+    {
+        let first = labels_at(self.node_count, dim, NodeId(0));
+        labels_from(self.into.as_slice(), first, self.node_count)
     }
 
     /// The nodes of the sentence.
