@@ -14,9 +14,10 @@ use Rattle.xdg_problem.specs.Features.{row}
 use Rattle.xdg_problem.proofs.RowReads.{in_candidates}
 use Rattle.xdg_rules.specs.Rules.{HasNoneWithin, IsGreatest, IsLeast}
 use Rattle.xdg_pgraph.specs.declared.bounds.Allowed.{Allowed}
+use Rattle.xdg_pgraph.specs.declared.bounds.Looked.{Looked}
 use Rattle.xdg_pgraph.specs.declared.bundle.Way.{Way}
 use Rattle.xdg_pgraph.specs.declared.bundle.Way.TheVariants as ways
-use Rattle.xdg_pgraph.specs.Bounding.{Widens}
+use Rattle.xdg_pgraph.specs.Bounding.{SomeAllows, Tells, Widens}
 use Rattle.xdg_pgraph.specs.Bundles.{argument_of, numbers_of}
 
 -- ---- the numbers of a candidate
@@ -82,118 +83,94 @@ widens_none numbers old none = record {
   least_is = inl refl;
 }
 
--- ---- a number and those of the first entries
+-- ---- entries, one after another
 
--- an entry that remains allows a number
-abbrev pub SomeAllows : List (List Bool) → ℕ → (ℕ → List ℕ) → ℕ → Type 0
-SomeAllows box node row number = (c : ℕ) × Has box (entry_decision node) c × Contains (row c) number
+module _ (box : List (List Bool)) (node : ℕ) (row : ℕ → List ℕ) (limit least most : ℕ) where
+  abbrev TellsOf : (ℕ → Type 0) → Looked → Type 0
+  TellsOf = Tells box node row limit least most
 
--- the bounds are those of the first entries that remain
-pub record Bounds (box : List (List Bool)) (node : ℕ) (row : ℕ → List ℕ) (limit k : ℕ) (allowed : Allowed) : Type 0 where
-  pub most : (c : ℕ) → c < k → Has box (entry_decision node) c → All (λ m. m < allowed.behind) (row c)
-  pub most_is : (m : ℕ) → m + 1 ≡ allowed.behind → SomeAllows box node row m
-  pub least : (c : ℕ) → c < k → Has box (entry_decision node) c → All (λ m. allowed.least ≤ m) (row c)
-  pub least_is : allowed.least ≤ limit → SomeAllows box node row allowed.least
-
-module _ (box : List (List Bool)) (node : ℕ) (row : ℕ → List ℕ) (limit : ℕ) where
-  last_or : (k c : ℕ) → c < k + 1 → (c < k) ⊎ (c ≡ k)
-  last_or k c l = elim (cases_lt c k) [ inl less ↦ inl less | inr past ↦ inr (omega (arith, l, past)) ]
-
-  each_next : (P : ℕ → Type 0) (k : ℕ) → ((c : ℕ) → c < k → Has box (entry_decision node) c → P c) → (Has box (entry_decision node) k → P k) → (c : ℕ) → c < k + 1 → Has box (entry_decision node) c → P c
-  each_next P k before here c l h = elim (last_or k c l) [
-    | inl less ↦ before c less h
-    | inr same ↦ subst P (sym same) (here (subst (Has box (entry_decision node)) same h))
-  ]
-
-  -- none of those before remains
-  pub bounds_start : (k : ℕ) (allowed : Allowed) → ((c : ℕ) → c < k → Has box (entry_decision node) c → ⊥) → allowed.behind ≡ 0 → limit < allowed.least → Bounds box node row limit k allowed
-  bounds_start k allowed gone behind least = record {
-    most = λ c l h. absurd (gone c l h);
-    most_is = λ m e. absurd (omega (arith, e, behind));
-    least = λ c l h. absurd (gone c l h);
-    least_is = λ l. absurd (omega (arith, l, least));
+  -- none was seen that remains
+  pub tells_start : (Seen : ℕ → Type 0) (looked : Looked) → ((c : ℕ) → Seen c → ⊥) → looked.allowed.behind ≡ 0 → limit < looked.allowed.least → TellsOf Seen looked
+  tells_start Seen looked none behind first = record {
+    behind = λ c s h. absurd (none c s);
+    behind_is = λ m e. absurd (omega (arith, e, behind));
+    first = λ c s h. absurd (none c s);
+    first_is = λ l. absurd (omega (arith, l, first));
+    within = λ not c s h. absurd (none c s);
   }
 
-  -- an entry that doesn't remain
-  pub bounds_skip : (k : ℕ) (allowed : Allowed) → Bounds box node row limit k allowed → (Has box (entry_decision node) k → ⊥) → Bounds box node row limit (k + 1) allowed
-  bounds_skip k allowed b gone = record {
-    most = each_next (λ c. All (λ m. m < allowed.behind) (row c)) k b.most (λ h. absurd (gone h));
-    most_is = b.most_is;
-    least = each_next (λ c. All (λ m. allowed.least ≤ m) (row c)) k b.least (λ h. absurd (gone h));
-    least_is = b.least_is;
+  -- of those that are seen now, each that remains was seen
+  pub tells_skip : (Seen Now : ℕ → Type 0) (looked : Looked) → ((c : ℕ) → Now c → Has box (entry_decision node) c → Seen c) → TellsOf Seen looked → TellsOf Now looked
+  tells_skip Seen Now looked back t = record {
+    behind = λ c s h. t.behind c (back c s h) h;
+    behind_is = t.behind_is;
+    first = λ c s h. t.first c (back c s h) h;
+    first_is = t.first_is;
+    within = λ not c s h. t.within not c (back c s h) h;
   }
 
-  -- one that does
-  pub bounds_next : (k : ℕ) (old new : Allowed) → Bounds box node row limit k old → Has box (entry_decision node) k → Widens (row k) old new → Bounds box node row limit (k + 1) new
-  bounds_next k old new b has w = record {
-    most = each_next (λ c. All (λ m. m < new.behind) (row c)) k
-        (λ c l h. All-weaker (λ m. m < old.behind) (λ m. m < new.behind) (λ m x. (let g = w.most in omega (arith, x, g))) (row c) (b.most c l h))
-        (λ h. w.most_of);
-    most_is = λ m e. elim w.most_is [
-      | inl same ↦ b.most_is m (e ∙ same)
-      | inr (x, here, is) ↦ (k, has, (let same : x ≡ m = omega (arith, is, e) in subst (Contains (row k)) same here))
+  -- or else allows some numbers, which some entry that remains allows
+  pub tells_next : (Seen Now : ℕ → Type 0) (numbers : List ℕ) (old new : Looked) (k : ℕ) → Has box (entry_decision node) k → row k ≡ numbers → ((c : ℕ) → Now c → Has box (entry_decision node) c → Seen c ⊎ (row c ≡ numbers)) → Widens numbers old.allowed new.allowed → (new.barred ≡ false → (old.barred ≡ false) × (HasNoneWithin numbers least most → ⊥)) → TellsOf Seen old → TellsOf Now new
+  tells_next Seen Now numbers old new k has allows each w barred t = record {
+    behind = λ c s h. elim (each c s h) [
+      | inl seen ↦ All-weaker (λ m. m < old.allowed.behind) (λ m. m < new.allowed.behind) (λ m x. (let g = w.most in omega (arith, x, g))) (row c) (t.behind c seen h)
+      | inr same ↦ subst (All (λ m. m < new.allowed.behind)) (sym same) w.most_of
     ];
-    least = each_next (λ c. All (λ m. new.least ≤ m) (row c)) k
-        (λ c l h. All-weaker (λ m. old.least ≤ m) (λ m. new.least ≤ m) (λ m x. (let g = w.least in omega (arith, x, g))) (row c) (b.least c l h))
-        (λ h. w.least_of);
-    least_is = λ l. elim w.least_is [
-      | inl same ↦ subst (SomeAllows box node row) (sym same) (b.least_is (subst (λ x. x ≤ limit) same l))
-      | inr here ↦ (k, has, here)
+    behind_is = λ m e. elim w.most_is [
+      | inl same ↦ t.behind_is m (e ∙ same)
+      | inr (x, here, is) ↦ (k, has, subst (λ z. Contains z m) (sym allows) (let same : x ≡ m = omega (arith, is, e) in subst (Contains numbers) same here))
     ];
+    first = λ c s h. elim (each c s h) [
+      | inl seen ↦ All-weaker (λ m. old.allowed.least ≤ m) (λ m. new.allowed.least ≤ m) (λ m x. (let g = w.least in omega (arith, x, g))) (row c) (t.first c seen h)
+      | inr same ↦ subst (All (λ m. new.allowed.least ≤ m)) (sym same) w.least_of
+    ];
+    first_is = λ l. elim w.least_is [
+      | inl same ↦ subst (SomeAllows box node row) (sym same) (t.first_is (subst (λ x. x ≤ limit) same l))
+      | inr here ↦ (k, has, subst (λ z. Contains z new.allowed.least) (sym allows) here)
+    ];
+    within = λ not c s h none. (let both = barred not in elim (each c s h) [
+      | inl seen ↦ t.within both.0 c seen h none
+      | inr same ↦ both.1 (subst (λ z. HasNoneWithin z least most) same none)
+    ]);
   }
 
-  module _ (k : ℕ) (allowed : Allowed) (b : Bounds box node row limit k allowed) (all : (c : ℕ) → Has box (entry_decision node) c → c < k) where
-    greatest_to : (number : ℕ) → IsGreatest box node row number → allowed.behind ≡ number + 1
+  module _ (looked : Looked) (t : TellsOf (Has box (entry_decision node)) looked) where
+    greatest_to : (number : ℕ) → IsGreatest box node row number → looked.allowed.behind ≡ number + 1
     greatest_to number g =
-        let above = All-contains (λ m. m < allowed.behind) (row g.entry) number (b.most g.entry (all g.entry g.remains) g.remains) g.allowed in
-        let found = b.most_is (allowed.behind - 1) (omega (arith, above)) in
-        let below = All-contains (λ m. m ≤ number) (row found.0) (allowed.behind - 1) (g.most found.0 found.1) found.2 in
+        let above = All-contains (λ m. m < looked.allowed.behind) (row g.entry) number (t.behind g.entry g.remains g.remains) g.allowed in
+        let found = t.behind_is (looked.allowed.behind - 1) (omega (arith, above)) in
+        let below = All-contains (λ m. m ≤ number) (row found.0) (looked.allowed.behind - 1) (g.most found.0 found.1) found.2 in
         omega (arith, above, below)
 
-    greatest_from : (number : ℕ) → allowed.behind ≡ number + 1 → IsGreatest box node row number
+    greatest_from : (number : ℕ) → looked.allowed.behind ≡ number + 1 → IsGreatest box node row number
     greatest_from number is =
-        let found = b.most_is number (sym is) in
+        let found = t.behind_is number (sym is) in
         record {
           entry = found.0;
           remains = found.1;
           allowed = found.2;
-          most = λ c h. All-weaker (λ m. m < allowed.behind) (λ m. m ≤ number) (λ m x. omega (arith, x, is)) (row c) (b.most c (all c h) h);
+          most = λ c h. All-weaker (λ m. m < looked.allowed.behind) (λ m. m ≤ number) (λ m x. omega (arith, x, is)) (row c) (t.behind c h h);
         }
 
-    least_to : (number : ℕ) → number ≤ limit → IsLeast box node row number → allowed.least ≡ number
+    least_to : (number : ℕ) → number ≤ limit → IsLeast box node row number → looked.allowed.least ≡ number
     least_to number few g =
-        let below = All-contains (λ m. allowed.least ≤ m) (row g.entry) number (b.least g.entry (all g.entry g.remains) g.remains) g.allowed in
-        let found = b.least_is (omega (arith, below, few)) in
-        let above = All-contains (λ m. number ≤ m) (row found.0) allowed.least (g.least found.0 found.1) found.2 in
+        let below = All-contains (λ m. looked.allowed.least ≤ m) (row g.entry) number (t.first g.entry g.remains g.remains) g.allowed in
+        let found = t.first_is (omega (arith, below, few)) in
+        let above = All-contains (λ m. number ≤ m) (row found.0) looked.allowed.least (g.least found.0 found.1) found.2 in
         omega (arith, above, below)
 
-    least_from : (number : ℕ) → number ≤ limit → allowed.least ≡ number → IsLeast box node row number
+    least_from : (number : ℕ) → number ≤ limit → looked.allowed.least ≡ number → IsLeast box node row number
     least_from number few is =
-        let found = b.least_is (omega (arith, is, few)) in
+        let found = t.first_is (omega (arith, is, few)) in
         record {
           entry = found.0;
           remains = found.1;
           allowed = subst (Contains (row found.0)) is found.2;
-          least = λ c h. All-weaker (λ m. allowed.least ≤ m) (λ m. number ≤ m) (λ m x. omega (arith, x, is)) (row c) (b.least c (all c h) h);
+          least = λ c h. All-weaker (λ m. looked.allowed.least ≤ m) (λ m. number ≤ m) (λ m x. omega (arith, x, is)) (row c) (t.first c h h);
         }
 
-    pub bounds_greatest : (number : ℕ) → IsTrue (allowed.behind == number + 1) ↔ IsGreatest box node row number
-    bounds_greatest number = (λ t. greatest_from number (eqb-true allowed.behind (number + 1) t), λ g. eq-eqb allowed.behind (number + 1) (greatest_to number g))
+    pub told_greatest : (number : ℕ) → IsTrue (looked.allowed.behind == number + 1) ↔ IsGreatest box node row number
+    told_greatest number = (λ e. greatest_from number (eqb-true looked.allowed.behind (number + 1) e), λ g. eq-eqb looked.allowed.behind (number + 1) (greatest_to number g))
 
-    pub bounds_least : (number : ℕ) → number ≤ limit → IsTrue (allowed.least == number) ↔ IsLeast box node row number
-    bounds_least number few = (λ t. least_from number few (eqb-true allowed.least number t), λ g. eq-eqb allowed.least number (least_to number few g))
-
--- ---- entries without a number between two
-
-module _ (box : List (List Bool)) (node : ℕ) (row : ℕ → List ℕ) (least most : ℕ) where
-  -- each of the first ones that remain has one, unless it is said that some may not
-  abbrev pub Within : ℕ → Bool → Type 0
-  Within k barred = barred ≡ false → (c : ℕ) → c < k → Has box (entry_decision node) c → HasNoneWithin (row c) least most → ⊥
-
-  pub within_next : (k : ℕ) (old new : Bool) → Within k old → (new ≡ false → (old ≡ false) × (Has box (entry_decision node) k → HasNoneWithin (row k) least most → ⊥)) → Within (k + 1) new
-  within_next k old new before step not c l h none =
-      let both = step not in
-      elim (cases_lt c k) [
-        | inl less ↦ before both.0 c less h none
-        | inr past ↦ (let e : c ≡ k = omega (arith, l, past) in both.1 (subst (Has box (entry_decision node)) e h) (subst (λ x. HasNoneWithin (row x) least most) e none))
-      ]
+    pub told_least : (number : ℕ) → number ≤ limit → IsTrue (looked.allowed.least == number) ↔ IsLeast box node row number
+    told_least number few = (λ e. least_from number few (eqb-true looked.allowed.least number e), λ g. eq-eqb looked.allowed.least number (least_to number few g))

@@ -106,8 +106,8 @@ next_both group Done Next M p old q mid r new a b next =
     let both = sweeps_both group Done (M old.parts) p old q mid r new a (subst (λ parts. Sweeps group (M parts) q mid r new) a.goes.extends.same b) in
     sweeps_skip group (λ box. Done box × M old.parts box) Next p old r new both (λ done. next new.now done.0 done.1)
 
-pub labels_next : (k : ℕ) (parts : Parts) (group : Group) (node : ℕ) (box : List (List Bool)) → AreLabelsDone k parts group node box → IsLabelDone parts group node k box → AreLabelsDone (k + 1) parts group node box
-labels_next k parts group node box before here l less = elim (cases_lt l k) [
+pub labels_next : (k : ℕ) (parts : Parts) (group : Group) (box : List (List Bool)) → AreLabelsDone k parts group box → IsLabelDone parts group k box → AreLabelsDone (k + 1) parts group box
+labels_next k parts group box before here l less = elim (cases_lt l k) [
   | inl below ↦ before l below
-  | inr past ↦ (let e : l ≡ k = omega (arith, less, past) in subst (λ m. IsLabelDone parts group node m box) (sym e) here)
+  | inr past ↦ (let e : l ≡ k = omega (arith, less, past) in subst (λ m. IsLabelDone parts group m box) (sym e) here)
 ]

@@ -10,7 +10,7 @@ pub mod Bundled
 pub mod Others
 pub mod Clearing
 pub mod Allowed
-pub mod Spanned
+pub mod Classed
 pub mod Rising
 pub mod Ends
 pub mod Looked

@@ -1,9 +1,10 @@
 -- Bundles of which nothing was lost: there valency takes no more than before.
 use Rattle.std.proofs.Common.{◌≡◌, ℕ, ◌<◌, inl, inr, Bool, true, false, List, [], ◌∷◌, ◌++◌, length, refl, sym, ◌∙◌, ap, subst, arith}
-use Rattle.std.specs.Prelude.{Contains, filter, not, ◌==◌, ◌&&◌, ◌||◌}
+use Rattle.std.specs.Prelude.{Contains, IsTrue, filter, nat_lt, not, slice_index_or, ◌==◌, ◌&&◌, ◌||◌, ◌↔◌}
 use Rattle.std.proofs.lemmas.Bool.{cases_Bool, cases_lt, false≢true}
 use Rattle.std.proofs.lemmas.List.{get_or_past}
 use Rattle.std.proofs.lemmas.List.Elements.{All-weaker, All-contains_itself}
+use Rattle.xdg_nodeset.proofs.TableSets.{both, either as one_of}
 use Rattle.xdg_problem.specs.declared.analysis.Edge.{Edge}
 use Rattle.xdg_problem.specs.declared.parts.DimPlan.{DimPlan}
 use Rattle.xdg_problem.specs.declared.parts.Group.{Group}
@@ -15,7 +16,7 @@ use Rattle.xdg_problem.specs.Places.{nodes, places}
 use Rattle.xdg_problem.specs.Problems.{IsProblem}
 use Rattle.xdg_problem.proofs.FilterFacts.{filter_alike, filter_both}
 use Rattle.xdg_problem.proofs.PlaceOrder.{is_place}
-use Rattle.std.proofs.lemmas.Bool.{eqb-true}
+use Rattle.std.proofs.lemmas.Bool.{eqb-true, lt-ltb, ltb-true}
 use Rattle.xdg_rules.specs.Rules.{has, HasNoneWithin, IsClosedFor, IsGreatest, IsLeast, may_edges, must_edges}
 use Rattle.xdg_rules.proofs.Shrinking.{may_be, must_be, may_is, may_of, must_is, must_of}
 use Rattle.xdg_store.specs.States.{State, Known}
@@ -24,16 +25,16 @@ use Rattle.xdg_propcore.specs.Sweeps.{Sweeps}
 use Rattle.xdg_propcore.proofs.Sweeping.{sweeps_start}
 use Rattle.xdg_propcore.specs.Touching.{HasAll, HasTouched, InTable, MarksEdge}
 use Rattle.xdg_propcore.specs.declared.touched.Touched.{Touched}
-use Rattle.xdg_pgraph.specs.Bundles.{AreLabelsDone, AreNodesDone, EdgeAt, IsBundleDone, count_of, near_node, numbers_of}
+use Rattle.xdg_pgraph.specs.Bundles.{EdgeAt, IsBundleDone, IsWayDone, count_of, near_node, numbers_of}
 use Rattle.xdg_pgraph.proofs.CountsStay.{greatest_before, least_before}
-use Rattle.xdg_pgraph.specs.Untouched.{AreOthersDone, IsLeftAlone, IsTouched, near, side}
+use Rattle.xdg_pgraph.specs.Untouched.{AreOthersDone, IsTouched, side}
 use Rattle.xdg_pgraph.specs.declared.bundle.Way.{Way}
 use Rattle.xdg_pgraph.specs.declared.bundle.Way.TheVariants as ways
 use Rattle.xdg_pgraph.proofs.Bundled.{edge_takes, entry_takes, next_both}
 use Rattle.xdg_pgraph.proofs.Ends.{counted, in_bundle, in_parts}
 use Rattle.xdg_pgraph.proofs.Members.{front_all, front_member, front_more}
 use Rattle.xdg_facts.proofs.Rising.{has_cases}
-use Rattle.xdg_facts.proofs.Truths.{either, either_true, or_here, same_and, same_flag}
+use Rattle.xdg_facts.proofs.Truths.{either, same_and, same_flag}
 use Rattle.xdg_facts.specs.Rises.{has as has_node}
 use Rattle.xdg_propcore.proofs.Losing.{kept_or_lost}
 
@@ -63,9 +64,9 @@ same_length test p q edges same =
 
 -- ---- what is lost of a bundle
 
-side_of : (way : Way) (t : Touched) (e : Edge) → MarksEdge t e → (has_node (near way t) (near_node way e) ≡ true) × InTable (side way t) e.label.0 (near_node way e)
-side_of ways.Out t e both = (both.mother, both.out)
-side_of ways.In t e both = (both.daughter, both.into)
+side_of : (way : Way) (t : Touched) (e : Edge) → MarksEdge t e → InTable (side way t) e.label.0 (near_node way e)
+side_of ways.Out t e both = both.out
+side_of ways.In t e both = both.into
 
 module _ (parts : Parts) (group : Group) (old new : List (List Bool)) (lies : LiesIn new old) (t : Touched) (touched : HasTouched parts (first_dim group) old new t) (way : Way) (node label : ℕ) (within : node < nodes parts) (free : IsTouched way t node label → ⊥) where
   abbrev dim : ℕ
@@ -76,10 +77,7 @@ module _ (parts : Parts) (group : Group) (old new : List (List Bool)) (lies : Li
 
   value_same : (e : Edge) → Contains (places parts) e → e.dim.0 ≡ dim → near_node way e ≡ node → e.label.0 ≡ label → (v : ℕ) → Has old (edge_decision parts e) v → Has new (edge_decision parts e) v
   value_same e place on near_is label_is v = kept_or_lost old new (edge_decision parts e) v (λ lost.
-      free (inr (let marked = side_of way t e (touched.edges e v (is_place parts e place) on lost) in (
-        subst (λ n. has_node (near way t) n ≡ true) near_is marked.0,
-        subst (λ n. InTable (side way t) label n) near_is (subst (λ l. InTable (side way t) l (near_node way e)) label_is marked.1),
-      ))))
+      free (inr (subst (λ n. InTable (side way t) label n) near_is (subst (λ l. InTable (side way t) l (near_node way e)) label_is (side_of way t e (touched.edges e v (is_place parts e place) on lost))))))
 
   flag_same : (e : Edge) → Contains (places parts) e → in_bundle way node label e ≡ true → (e.dim.0 == dim) ≡ true → (v : ℕ) → has new (edge_decision parts e) v ≡ has old (edge_decision parts e) v
   flag_same e place inside on v =
@@ -165,55 +163,69 @@ others_on t group Done p old q mid a others quiet =
     let same = a.goes.quiet quiet in
     subst (λ box. AreOthersDone t mid.parts group box) (sym same.1) (subst (λ parts. AreOthersDone t parts group old.now) (sym a.goes.extends.same) (others same.0))
 
--- ---- nodes at which nothing was lost
+-- ---- the nodes of which something was lost
 
-pub left_alone : (t : Touched) (some all : List ℕ) (node : ℕ) → ((k : ℕ) → has_node some k ≡ (has_node t.entries k || has_node t.mothers k)) → ((k : ℕ) → has_node all k ≡ (has_node some k || has_node t.daughters k)) → has_node all node ≡ false → IsLeftAlone t node
-left_alone t some all node first second none way label (inl lost) = false≢true (sym none ∙ second node ∙ or_here (has_node some node) (has_node t.daughters node) (first node ∙ or_here (has_node t.entries node) (has_node t.mothers node) lost))
-left_alone t some all node first second none ways.Out label (inr lost) = false≢true (sym none ∙ second node ∙ or_here (has_node some node) (has_node t.daughters node) (first node ∙ either_true (has_node t.entries node) (has_node t.mothers node) lost.0))
-left_alone t some all node first second none ways.In label (inr lost) = false≢true (sym none ∙ second node ∙ either_true (has_node some node) (has_node t.daughters node) lost.0)
+-- of the bundles with a label those nodes of the sentence that have lost an entry, or stand in the table
+pub touched_in : (way : Way) (t : Touched) (label node count : ℕ) (edges lost all met : List ℕ) → edges ≡ slice_index_or (side way t) label [] → ((n : ℕ) → has_node lost n ≡ (has_node t.entries n || has_node edges n)) → ((n : ℕ) → has_node all n ≡ nat_lt n count) → ((n : ℕ) → has_node met n ≡ (has_node lost n && has_node all n)) → IsTrue (has_node met node) ↔ ((node < count) × IsTouched way t node label)
+touched_in way t label node count edges lost all met edges_are lost_is all_is met_is = (
+  λ h.
+      let two = (both (has_node lost node) (has_node all node)).0 (sym (met_is node) ∙ h) in (
+        ltb-true node count (sym (all_is node) ∙ two.1),
+        elim ((one_of (has_node t.entries node) (has_node edges node)).0 (sym (lost_is node) ∙ two.0)) [
+          | inl entry ↦ inl entry
+          | inr edge ↦ inr (subst (λ s. has_node s node ≡ true) edges_are edge)
+        ],
+      ),
+  λ (within, touched). met_is node ∙ (both (has_node lost node) (has_node all node)).1 (
+    lost_is node ∙ (one_of (has_node t.entries node) (has_node edges node)).1 (elim touched [
+      | inl entry ↦ inl entry
+      | inr edge ↦ inr (subst (λ s. has_node s node ≡ true) (sym edges_are) edge)
+    ]),
+    all_is node ∙ lt-ltb node count within,
+  ),
+)
 
 -- ---- one node after another
 
--- the nodes of a list up to those that are left are done
-pub record SweptTo (labels : ℕ) (parts : Parts) (group : Group) (first left : List ℕ) (p : Progress) (old : State) (q : Progress) (new : State) : Type 0 where
+-- at the nodes of a list up to those that are left the bundles with a label are done
+pub record SweptTo (way : Way) (label : ℕ) (parts : Parts) (group : Group) (first left : List ℕ) (p : Progress) (old : State) (q : Progress) (new : State) : Type 0 where
   pub front : List ℕ
   pub whole : front ++ left ≡ first
-  pub sweeps : Sweeps group (λ box. (v : ℕ) → has_node front v ≡ true → AreLabelsDone labels parts group v box) p old q new
+  pub sweeps : Sweeps group (λ box. (v : ℕ) → has_node front v ≡ true → IsBundleDone way parts group v label box) p old q new
 
-module _ (t : Touched) (labels : ℕ) (group : Group) (first left rest : List ℕ) (p q r : Progress) (old mid new : State) where
-  pub swept_start : Known old → SweptTo labels old.parts group first first p old p old
+module _ (way : Way) (label : ℕ) (group : Group) (first left rest : List ℕ) (p q r : Progress) (old mid new : State) where
+  pub swept_start : Known old → SweptTo way label old.parts group first first p old p old
   swept_start known = record {
     front = [];
     whole = refl;
-    sweeps = sweeps_start group (λ box. (v : ℕ) → has_node [] v ≡ true → AreLabelsDone labels old.parts group v box) p old known (λ v h. absurd (false≢true h));
+    sweeps = sweeps_start group (λ box. (v : ℕ) → has_node [] v ≡ true → IsBundleDone way old.parts group v label box) p old known (λ v h. absurd (false≢true h));
   }
 
-  pub swept_member : (k : ℕ) → left ≡ k ∷ rest → SweptTo labels old.parts group first left p old q mid → has_node first k ≡ true
+  pub swept_member : (k : ℕ) → left ≡ k ∷ rest → SweptTo way label old.parts group first left p old q mid → has_node first k ≡ true
   swept_member k left_is a = front_member a.front left rest first k left_is a.whole
 
-  pub swept_more : (k : ℕ) → left ≡ k ∷ rest → SweptTo labels old.parts group first left p old q mid → Sweeps group (AreLabelsDone labels mid.parts group k) q mid r new → SweptTo labels old.parts group first rest p old r new
+  pub swept_more : (k : ℕ) → left ≡ k ∷ rest → SweptTo way label old.parts group first left p old q mid → Sweeps group (IsBundleDone way mid.parts group k label) q mid r new → SweptTo way label old.parts group first rest p old r new
   swept_more k left_is a b = record {
     front = a.front ++ k ∷ [];
     whole = front_more a.front left rest first k left_is a.whole;
-    sweeps = next_both group (λ box. (v : ℕ) → has_node a.front v ≡ true → AreLabelsDone labels old.parts group v box) (λ box. (v : ℕ) → has_node (a.front ++ k ∷ []) v ≡ true → AreLabelsDone labels old.parts group v box) (λ parts. AreLabelsDone labels parts group k) p old q mid r new a.sweeps b
+    sweeps = next_both group (λ box. (v : ℕ) → has_node a.front v ≡ true → IsBundleDone way old.parts group v label box) (λ box. (v : ℕ) → has_node (a.front ++ k ∷ []) v ≡ true → IsBundleDone way old.parts group v label box) (λ parts. IsBundleDone way parts group k label) p old q mid r new a.sweeps b
         (λ box before here v h. elim (has_cases a.front k v h) [
           | inl there ↦ before v there
-          | inr same ↦ subst (λ n. AreLabelsDone labels old.parts group n box) (sym same) here
+          | inr same ↦ subst (λ n. IsBundleDone way old.parts group n label box) (sym same) here
         ]);
   }
 
   -- at the others nothing is left to take
-  pub swept_all : (count : ℕ) → count ≡ nodes old.parts → labels ≡ label_count old.parts (first_dim group) → ((v : ℕ) → v < nodes old.parts → (has_node first v ≡ true → ⊥) → IsLeftAlone t v) → (IsQuiet p → AreOthersDone t old.parts group old.now) → left ≡ [] → SweptTo labels old.parts group first left p old q mid → Sweeps group (AreNodesDone count labels old.parts group) p old q mid
-  swept_all count count_is labels_are alone others left_is a = record {
+  pub swept_all : (t : Touched) → label < label_count old.parts (first_dim group) → ((v : ℕ) → v < nodes old.parts → IsTouched way t v label → has_node first v ≡ true) → (IsQuiet p → AreOthersDone t old.parts group old.now) → left ≡ [] → SweptTo way label old.parts group first left p old q mid → Sweeps group (IsWayDone way old.parts group label) p old q mid
+  swept_all t known there others left_is a = record {
     goes = a.sweeps.goes;
     known = a.sweeps.known;
-    done = λ quiet node less.
+    done = λ quiet node within.
         let same = a.sweeps.goes.quiet quiet in
         let here : AreOthersDone t old.parts group mid.now = subst (λ box. AreOthersDone t old.parts group box) (sym same.1) (others same.0) in
-        let within = subst (λ n. node < n) count_is less in
         elim (either (has_node first node)) [
-          | inl there ↦ a.sweeps.done quiet node (subst (λ s. has_node s node ≡ true) (sym (front_all a.front left first left_is a.whole)) there)
-          | inr gone ↦ (λ label l. (let known = subst (λ n. label < n) labels_are l in (here ways.Out node label within known (alone node within gone ways.Out label), here ways.In node label within known (alone node within gone ways.In label))))
+          | inl swept ↦ a.sweeps.done quiet node (subst (λ s. has_node s node ≡ true) (sym (front_all a.front left first left_is a.whole)) swept)
+          | inr gone ↦ here way node label within known (λ touched. gone (there node within touched))
         ];
   }
 

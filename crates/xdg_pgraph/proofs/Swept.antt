@@ -18,7 +18,7 @@ use Rattle.xdg_store.specs.States.{State, Known}
 use Rattle.xdg_propcore.specs.Passes.{Progress}
 use Rattle.xdg_propcore.specs.Sweeps.{Sweeps}
 use Rattle.xdg_propcore.proofs.Sweeping.{sweeps_skip}
-use Rattle.xdg_pgraph.specs.Bundles.{AreNodesDone, IsLabelDone}
+use Rattle.xdg_pgraph.specs.Bundles.{AreLabelsDone, IsLabelDone}
 use Rattle.xdg_pgraph.proofs.Closing.{closed_by_rules}
 use Rattle.xdg_pgraph.specs.Family.{IsOfFamily}
 use Rattle.xdg_pgraph.specs.Musts.{AreMustsDone, ByMusts, RestsIf, RunsBut}
@@ -113,17 +113,17 @@ module _ (group : Group) (p q : Progress) (old new : State) (is : IsGroup old.pa
 
   -- ---- valency
 
-  module _ (labels : ℕ) (labels_are : labels ≡ label_count old.parts (first_dim group)) (done : AreNodesDone (nodes old.parts) labels old.parts group new.now) where
-    at_label : (node label : ℕ) → node < nodes old.parts → label < label_count old.parts (first_dim group) → IsLabelDone old.parts group node label new.now
-    at_label node label within label_known = done node within label (omega (arith, label_known, labels_are))
+  module _ (labels : ℕ) (labels_are : labels ≡ label_count old.parts (first_dim group)) (done : AreLabelsDone labels old.parts group new.now) where
+    at_label : (label : ℕ) → label < label_count old.parts (first_dim group) → IsLabelDone old.parts group label new.now
+    at_label label label_known = done label (omega (arith, label_known, labels_are))
 
     no_valency : (d v : ℕ) → Has new.now d v → TakesBy principles.Valency old.parts group new.now d v → ⊥
     no_valency d v h (inl r) =
-        let here = at_label r.node r.label r.within r.known in
+        let here = at_label r.label r.known in
         let mine = subst (λ k. Has new.now k v) r.is h in
         elim r.none [
-          | inl out ↦ here.0.entries v mine out
-          | inr into ↦ here.1.entries v mine into
+          | inl out ↦ (here.0 r.node r.within).entries v mine out
+          | inr into ↦ (here.1 r.node r.within).entries v mine into
         ]
     no_valency d v h (inr (inl r)) =
         let place = is_place old.parts r.place r.is.0 in
@@ -131,8 +131,8 @@ module _ (group : Group) (p q : Progress) (old new : State) (is : IsGroup old.pa
         let present : Has new.now (edge_decision old.parts r.place) 0 = subst (Has new.now (edge_decision old.parts r.place)) r.says.1 (subst (λ k. Has new.now k v) r.says.0 h) in
         let may = may_of old.parts new.now (first_dim group) r.place (record { place = r.is.0; dim_is = r.is.1; present = present }) in
         elim r.full [
-          | inl out ↦ (at_label r.place.mother.0 r.place.label.0 place.mother label_known).0.edges d v h (inl (record { place = r.place; is = record { may = record { among = may; near = refl; label_is = refl }; free = r.free }; says = r.says; full = out }))
-          | inr into ↦ (at_label r.place.daughter.0 r.place.label.0 place.daughter label_known).1.edges d v h (inl (record { place = r.place; is = record { may = record { among = may; near = refl; label_is = refl }; free = r.free }; says = r.says; full = into }))
+          | inl out ↦ ((at_label r.place.label.0 label_known).0 r.place.mother.0 place.mother).edges d v h (inl (record { place = r.place; is = record { may = record { among = may; near = refl; label_is = refl }; free = r.free }; says = r.says; full = out }))
+          | inr into ↦ ((at_label r.place.label.0 label_known).1 r.place.daughter.0 place.daughter).edges d v h (inl (record { place = r.place; is = record { may = record { among = may; near = refl; label_is = refl }; free = r.free }; says = r.says; full = into }))
         ]
     no_valency d v h (inr (inr r)) =
         let may = may_is old.parts new.now (first_dim group) r.place r.may in
@@ -141,10 +141,10 @@ module _ (group : Group) (p q : Progress) (old new : State) (is : IsGroup old.pa
         let absent : Has new.now (edge_decision old.parts r.place) 1 = subst (Has new.now (edge_decision old.parts r.place)) r.says.1 (subst (λ k. Has new.now k v) r.says.0 h) in
         let free : Contains (must_edges old.parts new.now (first_dim group)) r.place → ⊥ = (λ c. (let must = must_is old.parts new.now (first_dim group) r.place c in let not = must.not_absent in let z : true ≡ false = sym absent ∙ not in cc)) in
         elim r.needed [
-          | inl out ↦ (at_label r.place.mother.0 r.place.label.0 place.mother label_known).0.edges d v h (inr (record { place = r.place; is = record { may = record { among = r.may; near = refl; label_is = refl }; free = free }; says = r.says; needed = out }))
-          | inr into ↦ (at_label r.place.daughter.0 r.place.label.0 place.daughter label_known).1.edges d v h (inr (record { place = r.place; is = record { may = record { among = r.may; near = refl; label_is = refl }; free = free }; says = r.says; needed = into }))
+          | inl out ↦ ((at_label r.place.label.0 label_known).0 r.place.mother.0 place.mother).edges d v h (inr (record { place = r.place; is = record { may = record { among = r.may; near = refl; label_is = refl }; free = free }; says = r.says; needed = out }))
+          | inr into ↦ ((at_label r.place.label.0 label_known).1 r.place.daughter.0 place.daughter).edges d v h (inr (record { place = r.place; is = record { may = record { among = r.may; near = refl; label_is = refl }; free = free }; says = r.says; needed = into }))
         ]
 
-  pub valency_swept : (labels count : ℕ) → labels ≡ label_count old.parts dim → count ≡ nodes old.parts → group.principle ≡ principles.Valency → Sweeps group (AreNodesDone count labels old.parts group) p old q new → Sweeps group (IsClosedFor old.parts group) p old q new
-  valency_swept labels count labels_are count_is principle_is sweep = sweeps_skip group (AreNodesDone count labels old.parts group) (IsClosedFor old.parts group) p old q new sweep
-      (λ done. closes principles.Valency principle_is (no_valency labels (labels_are ∙ ap (label_count old.parts) on) (subst (λ n. AreNodesDone n labels old.parts group new.now) count_is done)))
+  pub valency_swept : (labels : ℕ) → labels ≡ label_count old.parts dim → group.principle ≡ principles.Valency → Sweeps group (AreLabelsDone labels old.parts group) p old q new → Sweeps group (IsClosedFor old.parts group) p old q new
+  valency_swept labels labels_are principle_is sweep = sweeps_skip group (AreLabelsDone labels old.parts group) (IsClosedFor old.parts group) p old q new sweep
+      (λ done. closes principles.Valency principle_is (no_valency labels (labels_are ∙ ap (label_count old.parts) on) done))

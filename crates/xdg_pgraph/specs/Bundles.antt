@@ -7,7 +7,7 @@ use Rattle.xdg_problem.specs.Arguments.{first_dim}
 use Rattle.xdg_problem.specs.Boxes.{Has, entry_decision, edge_decision}
 use Rattle.xdg_problem.specs.Features.{in_row, out_row}
 use Rattle.xdg_problem.specs.Paths.{edges_into, edges_out_of}
-use Rattle.xdg_problem.specs.Places.{edge}
+use Rattle.xdg_problem.specs.Places.{edge, nodes}
 use Rattle.xdg_rules.specs.Rules.{HasNoneWithin, IsGreatest, IsLeast, SaysPresent, SaysAbsent, may_edges, must_edges}
 use Rattle.xdg_pgraph.specs.declared.bundle.Way.{Way}
 use Rattle.xdg_pgraph.specs.declared.bundle.Way.TheVariants as ways
@@ -108,14 +108,14 @@ pub record IsBundleDone (way : Way) (parts : Parts) (group : Group) (node label 
       → ⊥
   pub edges : (d v : ℕ) → Has box d v → EdgeAt way parts group box node label d v → ⊥
 
--- at both bundles of a node and a label
-abbrev pub IsLabelDone : Parts → Group → ℕ → ℕ → List (List Bool) → Type 0
-IsLabelDone parts group node label box = IsBundleDone ways.Out parts group node label box × IsBundleDone ways.In parts group node label box
+-- at the bundles with a label out of all nodes, or into them
+abbrev pub IsWayDone : Way → Parts → Group → ℕ → List (List Bool) → Type 0
+IsWayDone way parts group label box = (node : ℕ) → node < nodes parts → IsBundleDone way parts group node label box
 
--- at the first labels of a node
-abbrev pub AreLabelsDone : ℕ → Parts → Group → ℕ → List (List Bool) → Type 0
-AreLabelsDone k parts group node box = (label : ℕ) → label < k → IsLabelDone parts group node label box
+-- at both
+abbrev pub IsLabelDone : Parts → Group → ℕ → List (List Bool) → Type 0
+IsLabelDone parts group label box = IsWayDone ways.Out parts group label box × IsWayDone ways.In parts group label box
 
--- at so many labels of the first nodes
-abbrev pub AreNodesDone : ℕ → ℕ → Parts → Group → List (List Bool) → Type 0
-AreNodesDone k labels parts group box = (node : ℕ) → node < k → AreLabelsDone labels parts group node box
+-- at those with the first labels
+abbrev pub AreLabelsDone : ℕ → Parts → Group → List (List Bool) → Type 0
+AreLabelsDone k parts group box = (label : ℕ) → label < k → IsLabelDone parts group label box

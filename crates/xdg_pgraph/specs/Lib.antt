@@ -7,6 +7,5 @@ pub mod Musts
 pub mod Bounding
 pub mod Bundles
 pub mod Allowances
-pub mod Spans
 pub mod Untouched
 pub mod Family

@@ -168,13 +168,10 @@ fn far_mothers(store: &Store, plane: &Plane, node: u8, label: u8) -> FarNodes
     ensures { HasFarNodes store.now.parts store.now.now plane.now.dim.0 ways.In node label result }
 {
     let daughter = NodeId(node);
-    let rows = store.mothers_by_label(plane.dim, daughter, plane.labels);
-    let mothers = rows[label as usize];
-    let mut others = store.all_nodes();
-    others.remove(daughter);
+    let label = LabelId(label);
     FarNodes {
-        may: mothers.may.meet(&others),
-        must: mothers.must.meet(&others),
+        may: store.mothers_may(plane.dim, daughter, label),
+        must: store.mothers_must(plane.dim, daughter, label),
     }
 }
 

@@ -8,7 +8,8 @@ ghost use Rattle.xdg_rules.specs.Rules.{IsClosedFor};
 ghost use Rattle.xdg_store.specs.States.{Known};
 ghost use Rattle.xdg_propcore.specs.Standing.{HeldIf};
 ghost use Rattle.xdg_propcore.specs.Sweeps.{Sweeps};
-ghost use Rattle.xdg_pgraph.specs.Bundles.{AreNodesDone};
+ghost use Rattle.xdg_pgraph.specs.Allowances.{AreAllowances};
+ghost use Rattle.xdg_pgraph.specs.Bundles.{AreLabelsDone};
 ghost use Rattle.xdg_pgraph.specs.Family.{IsOfFamily, KeepsAllowances};
 ghost use Rattle.xdg_pgraph.specs.Planes.{IsPlane};
 
@@ -38,6 +39,7 @@ fn take_counts(
     pass: &mut Pass,
     plane: &Plane,
     group: &Group,
+    allowances: &Allowances,
     since: &Option<Mark>,
     labels: u8,
 )
@@ -46,29 +48,38 @@ fn take_counts(
     requires known { Known store.old }
     requires group { IsGroup store.old.parts group.now }
     requires principle { group.now.principle ≡ principles.Valency }
+    requires fits { AreAllowances store.old.parts group.now allowances.now }
     requires labels { labels ≡ label_count store.old.parts plane.now.dim.0 }
     requires held { HeldIf (λ parts box. IsClosedFor parts group.now box) store.old since.now }
-    ensures { Sweeps group.now (AreNodesDone plane.now.nodes labels store.old.parts group.now) pass.old store.old pass.new store.new }
+    ensures { Sweeps group.now (AreLabelsDone labels store.old.parts group.now) pass.old store.old pass.new store.new }
 {
     match *since {
         Some(mark) => {
             let mut touched = Touched::none();
             touched.gather(store, mark, plane.dim);
-            take_valency(store, pass, plane, group, &touched, labels);
+            take_valency(store, pass, plane, group, allowances, &touched, labels);
         }
         None => {
             let touched = Touched::all();
-            take_valency(store, pass, plane, group, &touched, labels);
+            take_valency(store, pass, plane, group, allowances, &touched, labels);
         }
     }
 }
 
 /// Takes what a principle use takes, which was still at a mark, if there is one.
-fn take_all(store: &mut Store, pass: &mut Pass, parts: &Parts, group: &Group, since: &Option<Mark>)
+fn take_all(
+    store: &mut Store,
+    pass: &mut Pass,
+    parts: &Parts,
+    group: &Group,
+    allowances: &Allowances,
+    since: &Option<Mark>,
+)
     requires parts { parts.now ≡ store.old.parts }
     requires known { Known store.old }
     requires group { IsGroup store.old.parts group.now }
     requires family { IsOfFamily group.now.principle }
+    requires fits { AreAllowances store.old.parts group.now allowances.now }
     requires held { HeldIf (λ parts box. IsClosedFor parts group.now box) store.old since.now }
     ensures { Sweeps group.now (IsClosedFor store.old.parts group.now) pass.old store.old pass.new store.new }
 {
@@ -87,7 +98,7 @@ fn take_all(store: &mut Store, pass: &mut Pass, parts: &Parts, group: &Group, si
         }
         Principle::Valency => {
             let labels = label_count(parts, &plane);
-            take_counts(store, pass, &plane, group, since, labels);
+            take_counts(store, pass, &plane, group, allowances, since, labels);
         }
         _ => {}
     }
@@ -108,7 +119,7 @@ impl Family for Graph {
 
     fn sweep(&self, store: &mut Store, pass: &mut Pass, group: &Group, since: &Option<Mark>) {
         let parts = store.problem().parts();
-        take_all(store, pass, parts, group, since);
+        take_all(store, pass, parts, group, &self.allowances, since);
     }
 
     fn stays() {}

@@ -13,7 +13,6 @@ mod label;
 mod lasting;
 mod plane;
 mod reach;
-mod span;
 mod taking;
 mod tree;
 mod valency;

@@ -11,17 +11,18 @@ ghost use Rattle.xdg_problem.specs.Problems.{IsGroup};
 ghost use Rattle.xdg_store.specs.States.{Known};
 ghost use Rattle.xdg_propcore.specs.Passes.{Clears, IsQuiet};
 ghost use Rattle.xdg_propcore.specs.Sweeps.{Sweeps};
+ghost use Rattle.xdg_pgraph.specs.Allowances.{AreAllowances};
 ghost use Rattle.xdg_pgraph.specs.Bounding.{NoneBarred};
-ghost use Rattle.xdg_pgraph.specs.Bundles.{AreLabelsDone, AreNodesDone, Barred, IsBundleDone, IsLabelDone, OpenTo, edge_to};
+ghost use Rattle.xdg_pgraph.specs.Bundles.{AreLabelsDone, Barred, IsBundleDone, IsLabelDone, IsWayDone, OpenTo, edge_to};
 ghost use Rattle.xdg_pgraph.specs.Planes.{IsPlane};
-ghost use Rattle.xdg_pgraph.specs.Spans.{Spans};
-ghost use Rattle.xdg_pgraph.specs.Untouched.{AreOthersDone, HasLost, IsLeftAlone, IsTouched, lost_edges, side};
+ghost use Rattle.xdg_pgraph.specs.Untouched.{AreOthersDone, IsTouched, side};
 
+use crate::allowances::Allowances;
 use crate::bounds::{has_none_within, said_of};
 use crate::bundle::{Bundle, FarNodes, Way, features_of, numbers_at};
 use crate::plane::Plane;
-use crate::span::Span;
 use xdg_base::NodeId;
+use xdg_graph::entry_count;
 use xdg_nodeset::NodeSet;
 use xdg_problem::{Edge, Group};
 use xdg_propcore::{Pass, Touched};
@@ -33,18 +34,17 @@ fn take_entries(
     pass: &mut Pass,
     group: &Group,
     bundle: Bundle,
-    span: Span,
     least: usize,
     most: usize,
 )
     requires known { Known store.old }
     requires node { bundle.node < nodes store.old.parts }
-    requires span { Spans store.old.parts store.old.now bundle.node span }
     ensures clears { Clears (Barred store.old.parts group.now bundle least most) pass.old store.old pass.new store.new }
     ensures known { Known store.new }
 {
     let candidates = features_of(group, bundle.node);
-    for place in span.from..span.to {
+    let count = entry_count(store.problem().parts(), NodeId(bundle.node));
+    for place in 0..count {
         if !store.entry_in(NodeId(bundle.node), place) {
             continue;
         }
@@ -62,14 +62,12 @@ fn take_entries_if(
     pass: &mut Pass,
     group: &Group,
     bundle: Bundle,
-    span: Span,
     least: usize,
     most: usize,
     wanted: bool,
 )
     requires known { Known store.old }
     requires node { bundle.node < nodes store.old.parts }
-    requires span { Spans store.old.parts store.old.now bundle.node span }
     requires others { wanted ≡ false → NoneBarred group.now bundle least most store.old.now }
     ensures clears { Clears (Barred store.old.parts group.now bundle least most) pass.old store.old pass.new store.new }
     ensures known { Known store.new }
@@ -77,7 +75,7 @@ fn take_entries_if(
     if !wanted {
         return;
     }
-    take_entries(store, pass, group, bundle, span, least, most);
+    take_entries(store, pass, group, bundle, least, most);
 }
 
 /// Takes away that an edge is present, or that it is absent.
@@ -145,27 +143,28 @@ fn take_bundle(
     pass: &mut Pass,
     plane: &Plane,
     group: &Group,
+    allowances: &Allowances,
     bundle: Bundle,
-    span: Span,
 )
     requires plane { IsPlane store.old.parts plane.now }
     requires dim { plane.now.dim.0 ≡ first_dim group.now }
     requires known { Known store.old }
     requires group { IsGroup store.old.parts group.now }
     requires principle { group.now.principle ≡ principles.Valency }
+    requires fits { AreAllowances store.old.parts group.now allowances.now }
     requires node { bundle.node < plane.now.nodes }
     requires label { bundle.label < label_count store.old.parts plane.now.dim.0 }
-    requires span { Spans store.old.parts store.old.now bundle.node span }
     ensures { Sweeps group.now (IsBundleDone bundle.way store.old.parts group.now bundle.node bundle.label) pass.old store.old pass.new store.new }
 {
     let far = FarNodes::of(store, plane, bundle);
     let open = far.may.minus(&far.must);
     let least = far.must.len();
     let most = far.may.len();
-    let said = said_of(store, group, bundle, span, least, most);
+    let classes = allowances.classes(bundle);
+    let said = said_of(store, group, bundle, classes, least, most);
     take_open_if(store, pass, plane, bundle, open, true, said.full);
     take_open_if(store, pass, plane, bundle, open, false, said.needed);
-    take_entries_if(store, pass, group, bundle, span, least, most, said.barred);
+    take_entries_if(store, pass, group, bundle, least, most, said.barred);
 }
 
 /// The nodes that have lost values of edges out of them, or into them, by their labels.
@@ -186,170 +185,98 @@ fn nodes_at(table: &[NodeSet; 32], label: u8) -> NodeSet
     table[usize::from(label)]
 }
 
-/// What was lost at a node: an entry, values of edges out of it, and values of edges into it.
-#[derive(Clone, Copy, Debug)]
-struct Lost {
-    pub entries: bool,
-    pub out: bool,
-    pub into: bool,
-}
-
-impl Lost {
-    /// What was lost at a node.
-    fn of(touched: &Touched, node: u8) -> Lost
-        requires { node < 128 }
-        ensures { HasLost touched.now node result }
-    {
-        let node = NodeId(node);
-        Lost {
-            entries: touched.entries.contains(node),
-            out: touched.mothers.contains(node),
-            into: touched.daughters.contains(node),
-        }
-    }
-
-    /// Whether values of edges were lost.
-    fn edges(self, way: Way) -> bool
-        ensures { result ≡ lost_edges way self }
-    {
-        match way {
-            Way::Out => self.out,
-            Way::In => self.into,
-        }
-    }
-}
-
-/// Whether something was lost of a bundle.
-#[inline(always)]
-fn is_touched(touched: &Touched, lost: Lost, bundle: Bundle) -> bool
-    requires lost { HasLost touched.now bundle.node lost }
-    requires node { bundle.node < 128 }
-    requires label { bundle.label < 32 }
-    ensures { IsTrue result ↔ IsTouched bundle.way touched.now bundle.node bundle.label }
+/// The nodes of the sentence at which something was lost of the bundle with a label: an entry, or a value of an edge.
+fn touched_nodes(store: &Store, touched: &Touched, way: Way, label: u8) -> NodeSet
+    requires { label < 32 }
+    ensures { (node : ℕ) → IsTrue (has result node) ↔ ((node < nodes store.now.parts) × IsTouched way touched.now node label) }
 {
-    if lost.entries {
-        return true;
-    }
-    if !lost.edges(bundle.way) {
-        return false;
-    }
-    nodes_at(side(touched, bundle.way), bundle.label).contains(NodeId(bundle.node))
-}
-
-/// The nodes of the sentence at which something was lost.
-fn touched_nodes(store: &Store, touched: &Touched) -> NodeSet
-    ensures within { (node : ℕ) → has result node ≡ true → node < nodes store.now.parts }
-    ensures others { (node : ℕ) → node < nodes store.now.parts → (has result node ≡ true → ⊥) → IsLeftAlone touched.now node }
-{
-    let lost = touched
-        .entries
-        .union(&touched.mothers)
-        .union(&touched.daughters);
+    let edges = nodes_at(side(touched, way), label);
+    let lost = touched.entries.union(&edges);
     lost.meet(&store.all_nodes())
 }
 
-/// Takes what valency takes at a bundle, if something was lost of it.
-#[inline(always)]
-fn take_touched(
+/// Takes what valency takes at the bundles with a label out of all nodes, or into them. Where nothing was lost of a bundle nothing
+/// is left to take there.
+fn take_way(
     store: &mut Store,
     pass: &mut Pass,
     plane: &Plane,
     group: &Group,
+    allowances: &Allowances,
     touched: &Touched,
-    lost: Lost,
-    bundle: Bundle,
-    span: Span,
+    way: Way,
+    label: u8,
 )
     requires plane { IsPlane store.old.parts plane.now }
     requires dim { plane.now.dim.0 ≡ first_dim group.now }
     requires known { Known store.old }
     requires group { IsGroup store.old.parts group.now }
     requires principle { group.now.principle ≡ principles.Valency }
-    requires node { bundle.node < plane.now.nodes }
-    requires label { bundle.label < label_count store.old.parts plane.now.dim.0 }
-    requires span { Spans store.old.parts store.old.now bundle.node span }
-    requires lost { HasLost touched.now bundle.node lost }
+    requires fits { AreAllowances store.old.parts group.now allowances.now }
+    requires label { label < label_count store.old.parts plane.now.dim.0 }
     requires others { IsQuiet pass.old → AreOthersDone touched.now store.old.parts group.now store.old.now }
-    ensures { Sweeps group.now (IsBundleDone bundle.way store.old.parts group.now bundle.node bundle.label) pass.old store.old pass.new store.new }
+    ensures { Sweeps group.now (IsWayDone way store.old.parts group.now label) pass.old store.old pass.new store.new }
 {
-    if !is_touched(touched, lost, bundle) {
-        return;
+    let nodes = touched_nodes(store, touched, way, label);
+    for node in nodes.iter() {
+        let bundle = Bundle {
+            way,
+            node: node.0,
+            label,
+        };
+        take_bundle(store, pass, plane, group, allowances, bundle);
     }
-    take_bundle(store, pass, plane, group, bundle, span);
 }
 
-/// Takes what valency takes at a node and a label.
+/// The same, out of them and into them.
 fn take_label(
     store: &mut Store,
     pass: &mut Pass,
     plane: &Plane,
     group: &Group,
+    allowances: &Allowances,
     touched: &Touched,
-    lost: Lost,
-    node: u8,
     label: u8,
-    span: Span,
 )
     requires plane { IsPlane store.old.parts plane.now }
     requires dim { plane.now.dim.0 ≡ first_dim group.now }
     requires known { Known store.old }
     requires group { IsGroup store.old.parts group.now }
     requires principle { group.now.principle ≡ principles.Valency }
-    requires node { node < plane.now.nodes }
+    requires fits { AreAllowances store.old.parts group.now allowances.now }
     requires label { label < label_count store.old.parts plane.now.dim.0 }
-    requires span { Spans store.old.parts store.old.now node span }
-    requires lost { HasLost touched.now node lost }
     requires others { IsQuiet pass.old → AreOthersDone touched.now store.old.parts group.now store.old.now }
-    ensures { Sweeps group.now (IsLabelDone store.old.parts group.now node label) pass.old store.old pass.new store.new }
+    ensures { Sweeps group.now (IsLabelDone store.old.parts group.now label) pass.old store.old pass.new store.new }
 {
-    let out = Bundle {
-        way: Way::Out,
-        node,
+    take_way(
+        store,
+        pass,
+        plane,
+        group,
+        allowances,
+        touched,
+        Way::Out,
         label,
-    };
-    take_touched(store, pass, plane, group, touched, lost, out, span);
-    let into = Bundle {
-        way: Way::In,
-        node,
+    );
+    take_way(
+        store,
+        pass,
+        plane,
+        group,
+        allowances,
+        touched,
+        Way::In,
         label,
-    };
-    take_touched(store, pass, plane, group, touched, lost, into, span);
+    );
 }
 
-/// Takes what valency takes at a node and all labels.
-fn take_labels(
-    store: &mut Store,
-    pass: &mut Pass,
-    plane: &Plane,
-    group: &Group,
-    touched: &Touched,
-    node: u8,
-    labels: u8,
-)
-    requires plane { IsPlane store.old.parts plane.now }
-    requires dim { plane.now.dim.0 ≡ first_dim group.now }
-    requires known { Known store.old }
-    requires group { IsGroup store.old.parts group.now }
-    requires principle { group.now.principle ≡ principles.Valency }
-    requires node { node < plane.now.nodes }
-    requires labels { labels ≡ label_count store.old.parts plane.now.dim.0 }
-    requires others { IsQuiet pass.old → AreOthersDone touched.now store.old.parts group.now store.old.now }
-    ensures { Sweeps group.now (AreLabelsDone labels store.old.parts group.now node) pass.old store.old pass.new store.new }
-{
-    let span = Span::of(store, node);
-    let lost = Lost::of(touched, node);
-    for label in 0..labels {
-        take_label(store, pass, plane, group, touched, lost, node, label, span);
-    }
-}
-
-/// Takes what valency takes at all nodes, on a dimension with so many labels. Where nothing was lost of a bundle nothing is left
-/// to take there.
+/// Takes what valency takes on a dimension with so many labels, label by label.
 pub(crate) fn take_valency(
     store: &mut Store,
     pass: &mut Pass,
     plane: &Plane,
     group: &Group,
+    allowances: &Allowances,
     touched: &Touched,
     labels: u8,
 )
@@ -358,12 +285,12 @@ pub(crate) fn take_valency(
     requires known { Known store.old }
     requires group { IsGroup store.old.parts group.now }
     requires principle { group.now.principle ≡ principles.Valency }
+    requires fits { AreAllowances store.old.parts group.now allowances.now }
     requires labels { labels ≡ label_count store.old.parts plane.now.dim.0 }
     requires others { IsQuiet pass.old → AreOthersDone touched.now store.old.parts group.now store.old.now }
-    ensures { Sweeps group.now (AreNodesDone plane.now.nodes labels store.old.parts group.now) pass.old store.old pass.new store.new }
+    ensures { Sweeps group.now (AreLabelsDone labels store.old.parts group.now) pass.old store.old pass.new store.new }
 {
-    let nodes = touched_nodes(store, touched);
-    for node in nodes.iter() {
-        take_labels(store, pass, plane, group, touched, node.0, labels);
+    for label in 0..labels {
+        take_label(store, pass, plane, group, allowances, touched, label);
     }
 }

@@ -10,11 +10,13 @@ use Rattle.xdg_pgraph.specs.declared.found.Which.TheVariants as whichs
 use Rattle.xdg_pgraph.proofs.Bundled.{bundle_swept}
 use Rattle.xdg_pgraph.proofs.Ends.{which_counted}
 use Rattle.xdg_pgraph.proofs.OpenEdges.{open_place, edges_clear}
-use Rattle.xdg_pgraph.proofs.Spanned.{spans_later}
 use Rattle.xdg_pgraph.proofs.valency.take_bundle.Goals as goal
 
 pub said_of-said-requires-clause-node : goal.said_of-said-requires-clause-node
 said_of-said-requires-clause-node c = (let l = c.requires.node in let n = c.requires.plane.nodes_is in omega (arith, l, n))
+
+pub said_of-said-requires-clause-classes : goal.said_of-said-requires-clause-classes
+said_of-said-requires-clause-classes c = c.classes-classes.ensures c.args.store.now.parts c.args.group.now c.requires.fits
 
 pub said_of-said-requires-clause-few : goal.said_of-said-requires-clause-few
 said_of-said-requires-clause-few c = (
@@ -33,9 +35,6 @@ take_open_if-requires-2-clause-places c other is = subst (λ (parts : Parts). Is
 
 pub take_entries_if-requires-clause-node : goal.take_entries_if-requires-clause-node
 take_entries_if-requires-clause-node c = subst (λ (parts : Parts). c.args.bundle.node < nodes parts) (sym (c.take_open_if-2.ensures.clears.same ∙ c.take_open_if.ensures.clears.same)) (let l = c.requires.node in let n = c.requires.plane.nodes_is in omega (arith, l, n))
-
-pub take_entries_if-requires-clause-span : goal.take_entries_if-requires-clause-span
-take_entries_if-requires-clause-span c = spans_later c.args.store.now.parts c.take_open_if-2.new.store.parts c.args.store.now.now c.take_open_if-2.new.store.now c.args.bundle.node c.args.span (c.take_open_if-2.ensures.clears.same ∙ c.take_open_if.ensures.clears.same) (λ d v h. c.take_open_if.ensures.clears.inside d v (c.take_open_if-2.ensures.clears.inside d v h)) c.requires.span
 
 pub take_entries_if-requires-clause-others : goal.take_entries_if-requires-clause-others
 take_entries_if-requires-clause-others c not k has = c.said_of-said.ensures.barred not k (c.take_open_if.ensures.clears.inside (entry_decision c.args.bundle.node) k (c.take_open_if-2.ensures.clears.inside (entry_decision c.args.bundle.node) k has))

@@ -1,11 +1,12 @@
-use Rattle.std.proofs.Common.{◌≡◌, All, true, false, refl, sym, subst, arith}
+use Rattle.std.proofs.Common.{◌≡◌, ◌∙◌, [], All, true, false, length, get_or, ap, refl, sym, subst, arith}
 use Rattle.xdg_problem.specs.declared.parts.Parts.{Parts}
 use Rattle.xdg_store.specs.InRange.{HasCandidate}
+use Rattle.xdg_graph.proofs.Remaining.{entry_end}
 use Rattle.xdg_pgraph.proofs.Clearing.{Outside, barred_absent, barred_start, barred_skip, barred_taken, barred_end}
 use Rattle.xdg_pgraph.proofs.valency.take_entries.Goals as goal
 
 pub loop-place-init : goal.loop-place-init
-loop-place-init c = (barred_start c.args.store.now.parts c.args.group.now c.args.bundle c.args.least c.args.most c.args.pass.now c.args.pass.now c.args.pass.now c.args.store.now c.args.store.now c.args.store.now c.args.span.from (λ k l has. (let from = (c.requires.span.each k has).0 in omega (arith, l, from))), c.requires.known)
+loop-place-init c = (barred_start c.args.store.now.parts c.args.group.now c.args.bundle c.args.least c.args.most c.args.pass.now c.args.pass.now c.args.pass.now c.args.store.now c.args.store.now c.args.store.now 0 (λ k l has. omega (arith, l)), c.requires.known)
 
 pub loop-place-preserved-then-not-entry_in : goal.loop-place-preserved-then-not-entry_in
 loop-place-preserved-then-not-entry_in c = (
@@ -26,7 +27,7 @@ loop-place-preserved-then-not-has_none_within c = (
 pub loop-place-preserved : goal.loop-place-preserved
 loop-place-preserved c = (
   barred_taken c.args.store.now.parts c.args.group.now c.args.bundle c.args.least c.args.most c.args.pass.now c.loop-place.pass c.remove_entry.new.self c.args.store.now c.loop-place.store c.remove_entry.new.store c.loop-place.place
-      (let t = c.loop-place-test.true in let within = c.requires.span.within in omega (arith, t, within))
+      (let t = c.loop-place-test.true in let e = c.entry_count-count.ensures.count ∙ ap (λ (p : Parts). length (get_or p.candidates c.args.bundle.node [])) (c.parts.ensures.same ∙ c.problem.ensures.parts) in omega (arith, t, e))
       (subst (All (Outside c.args.least c.args.most)) (c.numbers_at.ensures.same c.args.group.now c.features_of-candidates.ensures) (c.if-not-has_none_within.ensures.0 refl))
       c.loop-place.invariant.0
       c.remove_entry.ensures.clears,
@@ -35,11 +36,11 @@ loop-place-preserved c = (
 
 pub returns-clause-clears : goal.returns-clause-clears
 returns-clause-clears c = barred_end c.args.store.now.parts c.args.group.now c.args.bundle c.args.least c.args.most c.args.pass.now c.loop-place.pass c.loop-place.pass c.args.store.now c.loop-place.store c.loop-place.store c.loop-place.place
-    (λ k has. (let to = (c.requires.span.each k has).1 in let t = c.loop-place-test.false in omega (arith, to, t)))
+    (λ k has. entry_end c.args.store.now c.problem.result.now c.parts.result.now c.args.bundle.node k c.entry_count-count.result c.loop-place.place c.requires.known c.requires.node c.parts.ensures.same c.problem.ensures.parts c.entry_count-count.ensures.count (let t = c.loop-place-test.false in omega (arith, t)) has)
     c.loop-place.invariant.0
 
 pub entry_in-requires : goal.entry_in-requires
-entry_in-requires c = subst (λ (parts : Parts). HasCandidate parts c.args.bundle.node c.loop-place.place) (sym c.loop-place.invariant.0.same) (record { node_in = c.requires.node; place_in = (let t = c.loop-place-test.true in let within = c.requires.span.within in omega (arith, t, within)) })
+entry_in-requires c = subst (λ (parts : Parts). HasCandidate parts c.args.bundle.node c.loop-place.place) (sym c.loop-place.invariant.0.same) (record { node_in = c.requires.node; place_in = (let t = c.loop-place-test.true in let e = c.entry_count-count.ensures.count ∙ ap (λ (p : Parts). length (get_or p.candidates c.args.bundle.node [])) (c.parts.ensures.same ∙ c.problem.ensures.parts) in omega (arith, t, e)) })
 
 pub remove_entry-requires : goal.remove_entry-requires
-remove_entry-requires c = subst (λ (parts : Parts). HasCandidate parts c.args.bundle.node c.loop-place.place) (sym c.loop-place.invariant.0.same) (record { node_in = c.requires.node; place_in = (let t = c.loop-place-test.true in let within = c.requires.span.within in omega (arith, t, within)) })
+remove_entry-requires c = subst (λ (parts : Parts). HasCandidate parts c.args.bundle.node c.loop-place.place) (sym c.loop-place.invariant.0.same) (record { node_in = c.requires.node; place_in = (let t = c.loop-place-test.true in let e = c.entry_count-count.ensures.count ∙ ap (λ (p : Parts). length (get_or p.candidates c.args.bundle.node [])) (c.parts.ensures.same ∙ c.problem.ensures.parts) in omega (arith, t, e)) })

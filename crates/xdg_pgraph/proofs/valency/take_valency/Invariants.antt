@@ -1,8 +1,6 @@
-use Rattle.xdg_pgraph.proofs.Others.{SweptTo}
+use Rattle.xdg_propcore.specs.Sweeps.{Sweeps}
+use Rattle.xdg_pgraph.specs.Bundles.{AreLabelsDone}
 use Rattle.xdg_pgraph.proofs.valency.take_valency.Given as goal
 
-abbrev pub invariant-loop-node : goal.invariant-loop-node
-invariant-loop-node l =
-    (goal.iterator-loop-node).can_next l.node-iterator
-    × (goal.iterator-loop-node).is_finite l.node-iterator
-    × SweptTo l.labels l.fn.store.parts l.group l.initial.node-iterator l.node-iterator l.fn.pass l.fn.store l.pass l.store
+abbrev pub invariant-loop-label : goal.invariant-loop-label
+invariant-loop-label l = Sweeps l.group (AreLabelsDone l.label l.fn.store.parts l.group) l.fn.pass l.fn.store l.pass l.store

@@ -1,0 +1,85 @@
+-- The entries of some classes, class by class.
+use Rattle.std.proofs.Common.{◌≡◌, ℕ, ◌<◌, ◌≤◌, ◌+◌, ◌⊎◌, ◌↔◌, inl, inr, Bool, List, length, slice_index_or, refl, sym, ◌∙◌, ap, ap₂, subst, arith}
+use Prim.Native.Nat.{bit_and, min}
+use Rattle.std.specs.Int.{bit_at, trailing_zeros, w64}
+use Rattle.std.proofs.lemmas.Bool.{cases_lt}
+use Rattle.std.proofs.lemmas.Nat.Bits.{bit_at-lt, bit_at-trailing_zeros, bit_at-zero, bit_at_and}
+use Rattle.xdg_problem.specs.declared.parts.Group.{Group}
+use Rattle.xdg_problem.specs.Boxes.{Has, entry_decision}
+use Rattle.xdg_pgraph.specs.declared.allowances.Class.{Class}
+use Rattle.xdg_pgraph.specs.declared.bundle.Bundle.{Bundle}
+use Rattle.xdg_pgraph.specs.Allowances.{AreClasses, IsClass}
+use Rattle.xdg_pgraph.specs.Bundles.{numbers_of}
+
+-- one of the first classes has an entry
+pub record IsIn (classes : List Class) (k c : ℕ) : Type 0 where
+  pub class : Class
+  pub place : ℕ
+  pub before : place < k
+  pub within : place < length classes
+  pub is : slice_index_or classes place class ≡ class
+  pub member : bit_at class.entries c ≡ 1
+
+pub none_in : (classes : List Class) (c : ℕ) → IsIn classes 0 c → ⊥
+none_in classes c i = (let l = i.before in omega (arith, l))
+
+-- some bit of a number
+some_bit : (n : ℕ) → 0 < n → n < 2 ^ 64 → (i : ℕ) × (i < 64) × (bit_at n i ≡ 1)
+some_bit n l m = (let t = bit_at-trailing_zeros w64 n l m in (trailing_zeros w64 n, t.0, t.1))
+
+-- both numbers have it
+both_bits : (a b i : ℕ) → bit_at (bit_and a b) i ≡ 1 → (bit_at a i ≡ 1) × (bit_at b i ≡ 1)
+both_bits a b i h =
+    let e = bit_at_and a b i in
+    let x = bit_at-lt a i in
+    let y = bit_at-lt b i in (
+      omega (arith, e, h, x, y),
+      omega (arith, e, h, x, y),
+    )
+
+module _ (count : ℕ) (group : Group) (bundle : Bundle) (classes : List Class) (are : AreClasses count group bundle classes) where
+  -- each candidate is in one of them
+  pub each_in : (c k : ℕ) → c < count → length classes ≤ k → IsIn classes k c
+  each_in c k l all =
+      let found = are.cover c l in
+      let within : found.1.0 < length classes = found.1.1 in
+      record { class = found.0; place = found.1.0; before = omega (arith, within, all); within = within; is = found.1.2; member = found.2 }
+
+  module _ (box : List (List Bool)) (remain : ℕ) (told : (c : ℕ) → c < 64 → c < count → (bit_at remain c ≡ 1) ↔ Has box (entry_decision bundle.node) c) (k : ℕ) (class : Class) (within : k < length classes) (this : (d : Class) → slice_index_or classes k d ≡ class) where
+    here : IsClass count group bundle class
+    here = subst (IsClass count group bundle) (this class) (are.right k class within)
+
+    -- the last of them has it, or one before
+    last_or : (c : ℕ) → IsIn classes (k + 1) c → IsIn classes k c ⊎ (bit_at class.entries c ≡ 1)
+    last_or c i = elim (cases_lt i.place k) [
+      | inl less ↦ inl (record { class = i.class; place = i.place; before = less; within = i.within; is = i.is; member = i.member })
+      | inr past ↦
+          let at : i.place ≡ k = (let l = i.before in omega (arith, l, past)) in
+          let same : i.class ≡ class = sym i.is ∙ ap (λ p. slice_index_or classes p i.class) at ∙ this i.class in
+          inr (subst (λ (x : Class). bit_at x.entries c ≡ 1) same i.member)
+    ]
+
+    -- none of its entries remains
+    pub class_gone : bit_and class.entries remain ≡ 0 → (c : ℕ) → IsIn classes (k + 1) c → Has box (entry_decision bundle.node) c → IsIn classes k c
+    class_gone none c i has = elim (last_or c i) [
+      | inl before ↦ before
+      | inr mine ↦ absurd (
+          let few = are.few in
+          let below = (here.each c mine).0 in
+          let left : bit_at remain c ≡ 1 = (told c (omega (arith, below, few)) below).1 has in
+          let e = bit_at_and class.entries remain c in
+          let z : bit_at (bit_and class.entries remain) c ≡ 0 = ap (λ n. bit_at n c) none ∙ bit_at-zero c in
+          omega (arith, e, z, mine, left)
+          )
+    ]
+
+    -- some do
+    pub class_left : 0 < bit_and class.entries remain → bit_and class.entries remain < 2 ^ 64 → (c : ℕ) × Has box (entry_decision bundle.node) c × (numbers_of bundle.way group bundle.node bundle.label c ≡ numbers_of bundle.way group bundle.node bundle.label class.first)
+    class_left some small =
+        let bit = some_bit (bit_and class.entries remain) some small in
+        let two = both_bits class.entries remain bit.0 bit.2 in
+        let mine = here.each bit.0 two.0 in
+        (bit.0, (told bit.0 bit.1 mine.0).0 two.1, mine.1)
+
+    pub class_next : (c : ℕ) → IsIn classes (k + 1) c → Has box (entry_decision bundle.node) c → IsIn classes k c ⊎ (numbers_of bundle.way group bundle.node bundle.label c ≡ numbers_of bundle.way group bundle.node bundle.label class.first)
+    class_next c i has = elim (last_or c i) [ inl before ↦ inl before | inr mine ↦ inr (here.each c mine).1 ]
