@@ -1,8 +1,11 @@
 -- The entries of some classes, class by class.
-use Rattle.std.proofs.Common.{◌≡◌, ℕ, ◌<◌, ◌≤◌, ◌+◌, ◌⊎◌, ◌↔◌, inl, inr, Bool, List, length, slice_index_or, refl, sym, ◌∙◌, ap, ap₂, subst, arith}
-use Prim.Native.Nat.{bit_and, min}
+use Rattle.std.proofs.Common.{◌≡◌, ℕ, ◌<◌, ◌≤◌, ◌+◌, ◌^◌, ◌⊎◌, ◌↔◌, inl, inr, Bool, List, length, slice_index_or, sym, ◌∙◌, ap, subst, arith}
+use Prim.Native.Nat.{min}
+use lib.Bits.{bit_and}
 use Rattle.std.specs.Int.{bit_at, trailing_zeros, w64}
-use Rattle.std.proofs.lemmas.Bool.{cases_lt}
+use Rattle.std.proofs.lemmas.Bool.{cases_eq, cases_lt}
+use Rattle.std.proofs.lemmas.List.{get_or_default}
+use Rattle.std.proofs.lemmas.Nat.{and_le_r}
 use Rattle.std.proofs.lemmas.Nat.Bits.{bit_at-lt, bit_at-trailing_zeros, bit_at-zero, bit_at_and}
 use Rattle.xdg_problem.specs.declared.parts.Group.{Group}
 use Rattle.xdg_problem.specs.Boxes.{Has, entry_decision}
@@ -27,15 +30,15 @@ none_in classes c i = (let l = i.before in omega (arith, l))
 some_bit : (n : ℕ) → 0 < n → n < 2 ^ 64 → (i : ℕ) × (i < 64) × (bit_at n i ≡ 1)
 some_bit n l m = (let t = bit_at-trailing_zeros w64 n l m in (trailing_zeros w64 n, t.0, t.1))
 
+two_ones : (a b m : ℕ) → m ≡ min a b → m ≡ 1 → a < 2 → b < 2 → (a ≡ 1) × (b ≡ 1)
+two_ones a b m e h x y = (omega (arith, e, h, x, y), omega (arith, e, h, x, y))
+
+not_none : (a b m : ℕ) → m ≡ min a b → m ≡ 0 → a ≡ 1 → b ≡ 1 → ⊥
+not_none a b m e h x y = omega (arith, e, h, x, y)
+
 -- both numbers have it
 both_bits : (a b i : ℕ) → bit_at (bit_and a b) i ≡ 1 → (bit_at a i ≡ 1) × (bit_at b i ≡ 1)
-both_bits a b i h =
-    let e = bit_at_and a b i in
-    let x = bit_at-lt a i in
-    let y = bit_at-lt b i in (
-      omega (arith, e, h, x, y),
-      omega (arith, e, h, x, y),
-    )
+both_bits a b i h = two_ones (bit_at a i) (bit_at b i) (bit_at (bit_and a b) i) (bit_at_and a b i) h (bit_at-lt a i) (bit_at-lt b i)
 
 module _ (count : ℕ) (group : Group) (bundle : Bundle) (classes : List Class) (are : AreClasses count group bundle classes) where
   -- each candidate is in one of them
@@ -45,9 +48,12 @@ module _ (count : ℕ) (group : Group) (bundle : Bundle) (classes : List Class) 
       let within : found.1.0 < length classes = found.1.1 in
       record { class = found.0; place = found.1.0; before = omega (arith, within, all); within = within; is = found.1.2; member = found.2 }
 
-  module _ (box : List (List Bool)) (remain : ℕ) (told : (c : ℕ) → c < 64 → c < count → (bit_at remain c ≡ 1) ↔ Has box (entry_decision bundle.node) c) (k : ℕ) (class : Class) (within : k < length classes) (this : (d : Class) → slice_index_or classes k d ≡ class) where
+  module _ (box : List (List Bool)) (remain : ℕ) (told : (c : ℕ) → c < 64 → c < count → (bit_at remain c ≡ 1) ↔ Has box (entry_decision bundle.node) c) (k : ℕ) (d : Class) (within : k < length classes) where
+    abbrev class : Class
+    class = slice_index_or classes k d
+
     here : IsClass count group bundle class
-    here = subst (IsClass count group bundle) (this class) (are.right k class within)
+    here = are.right k d within
 
     -- the last of them has it, or one before
     last_or : (c : ℕ) → IsIn classes (k + 1) c → IsIn classes k c ⊎ (bit_at class.entries c ≡ 1)
@@ -55,7 +61,7 @@ module _ (count : ℕ) (group : Group) (bundle : Bundle) (classes : List Class) 
       | inl less ↦ inl (record { class = i.class; place = i.place; before = less; within = i.within; is = i.is; member = i.member })
       | inr past ↦
           let at : i.place ≡ k = (let l = i.before in omega (arith, l, past)) in
-          let same : i.class ≡ class = sym i.is ∙ ap (λ p. slice_index_or classes p i.class) at ∙ this i.class in
+          let same : i.class ≡ class = sym i.is ∙ ap (λ p. slice_index_or classes p i.class) at ∙ get_or_default classes k i.class d within in
           inr (subst (λ (x : Class). bit_at x.entries c ≡ 1) same i.member)
     ]
 
@@ -66,17 +72,16 @@ module _ (count : ℕ) (group : Group) (bundle : Bundle) (classes : List Class) 
       | inr mine ↦ absurd (
           let few = are.few in
           let below = (here.each c mine).0 in
-          let left : bit_at remain c ≡ 1 = (told c (omega (arith, below, few)) below).1 has in
-          let e = bit_at_and class.entries remain c in
-          let z : bit_at (bit_and class.entries remain) c ≡ 0 = ap (λ n. bit_at n c) none ∙ bit_at-zero c in
-          omega (arith, e, z, mine, left)
+          not_none (bit_at class.entries c) (bit_at remain c) (bit_at (bit_and class.entries remain) c) (bit_at_and class.entries remain c)
+          (ap (λ n. bit_at n c) none ∙ bit_at-zero c) mine ((told c (omega (arith, below, few)) below).1 has)
           )
     ]
 
     -- some do
-    pub class_left : 0 < bit_and class.entries remain → bit_and class.entries remain < 2 ^ 64 → (c : ℕ) × Has box (entry_decision bundle.node) c × (numbers_of bundle.way group bundle.node bundle.label c ≡ numbers_of bundle.way group bundle.node bundle.label class.first)
-    class_left some small =
-        let bit = some_bit (bit_and class.entries remain) some small in
+    pub class_left : remain < 2 ^ 64 → (bit_and class.entries remain ≡ 0 → ⊥) → (c : ℕ) × Has box (entry_decision bundle.node) c × (numbers_of bundle.way group bundle.node bundle.label c ≡ numbers_of bundle.way group bundle.node bundle.label class.first)
+    class_left small some =
+        let fewer : bit_and class.entries remain ≤ remain = and_le_r class.entries remain in
+        let bit = some_bit (bit_and class.entries remain) (elim (cases_eq (bit_and class.entries remain) 0) [ inl none ↦ absurd (some none) | inr other ↦ omega (arith, other) ]) (omega (arith, fewer, small)) in
         let two = both_bits class.entries remain bit.0 bit.2 in
         let mine = here.each bit.0 two.0 in
         (bit.0, (told bit.0 bit.1 mine.0).0 two.1, mine.1)

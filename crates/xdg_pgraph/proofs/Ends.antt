@@ -1,8 +1,8 @@
 -- The other nodes of the edges of a bundle, and how many there are.
-use Rattle.std.proofs.Common.{◌≡◌, ◌≢◌, ℕ, ◌<◌, ◌≤◌, ◌↔◌, ◌&&◌, inl, inr, Bool, true, IsTrue, List, length, map, refl, sym, ◌∙◌, ap, subst, arith}
-use Rattle.std.specs.Prelude.{Contains, filter, nat_lt, not, ◌==◌}
+use Rattle.std.proofs.Common.{◌≡◌, ◌≢◌, ℕ, ◌<◌, ◌≤◌, ◌↔◌, ◌&&◌, inl, inr, Bool, true, IsTrue, List, length, map, refl, ◌∙◌, ap, subst, arith}
+use Rattle.std.specs.Prelude.{Contains, filter, ◌==◌}
 use Rattle.std.specs.List.{AllByRecursion}
-use Rattle.std.proofs.lemmas.Bool.{and_parts, and_from, eq-eqb, eqb-false, eqb-true, lt-ltb, ltb-true, ne_eqb, not-true}
+use Rattle.std.proofs.lemmas.Bool.{and_parts, and_from, eq-eqb, eqb-true}
 use Rattle.std.proofs.lemmas.List.Elements.{All-weaker, All-contains_itself, recursion_from_All}
 use Rattle.std.proofs.lemmas.List.{length-map}
 use Rattle.std.proofs.lemmas.List.Sums.{length-filter}
@@ -161,19 +161,6 @@ module _ (which : Which) (s : State) (plane : Plane) (plane_is : IsPlane s.parts
 -- the set has the other nodes of those edges of a bundle that may be, or must be
 abbrev pub TellsEnds : Which → State → ℕ → ℕ → ℕ → List ℕ → Way → Type 0
 TellsEnds which s dim node label ends way = (other : ℕ) → IsTrue (has ends other) ↔ Contains (edges_of which s.parts s.now dim) (edge_to way dim node label other)
-
--- of the nodes that a row of mothers has, those of the sentence but the daughter itself
-module _ (count daughter : ℕ) (all others there met : List ℕ) (whole : (n : ℕ) → has all n ≡ nat_lt n count) (taken : (n : ℕ) → has others n ≡ (not (n == daughter) && has all n)) (both : (n : ℕ) → has met n ≡ (has there n && has others n)) where
-  pub mothers_told : (P : ℕ → Type 0) → ((n : ℕ) → n < count → n ≢ daughter → IsTrue (has there n) ↔ P n) → (n : ℕ) → IsTrue (has met n) ↔ ((n < count) × (n ≢ daughter) × P n)
-  mothers_told P says n = (
-    λ t.
-        let b = and_parts (has there n) (has others n) (sym (both n) ∙ t) in
-        let o = and_parts (not (n == daughter)) (has all n) (sym (taken n) ∙ b.1) in
-        let l = ltb-true n count (sym (whole n) ∙ o.1) in
-        let d = eqb-false n daughter (not-true (n == daughter) o.0) in
-        (l, d, (says n l d).0 b.0),
-    λ (l, d, is). both n ∙ and_from (has there n) (has others n) ((says n l d).1 is) (taken n ∙ and_from (not (n == daughter)) (has all n) (ap not (ne_eqb n daughter d)) (whole n ∙ lt-ltb n count l)),
-  )
 
 -- a label behind those of the dimension's edges
 pub none_behind : (which : Which) (way : Way) (parts : Parts) (box : List (List Bool)) (plane : Plane) (node label other : ℕ) → IsPlane parts plane → plane.labels ≤ label → Contains (edges_of which parts box plane.dim.0) (edge_to way plane.dim.0 node label other) → ⊥

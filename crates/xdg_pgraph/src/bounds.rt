@@ -1,7 +1,7 @@
 //! The numbers of edges that entries allow.
 
 ghost use Rattle.std.specs.List.Sorted.{IsStrictlyIncreasing};
-ghost use Rattle.std.specs.Prelude.{◌≡◌, ◌<◌, ◌≤◌, ◌↔◌, [], ℕ, IsTrue, All, false, length, slice_index_or};
+ghost use Rattle.std.specs.Prelude.{◌≡◌, ◌<◌, ◌≤◌, ◌↔◌, [], IsTrue, All, false, length, slice_index_or};
 ghost use Rattle.xdg_problem.specs.Places.{nodes};
 ghost use Rattle.xdg_rules.specs.Rules.{HasNoneWithin, IsGreatest, IsLeast};
 ghost use Rattle.xdg_store.specs.States.{Known};
@@ -40,6 +40,15 @@ pub(crate) struct Said {
     pub needed: bool,
     /// Whether some entry may allow none from the one to the other.
     pub barred: bool,
+}
+
+impl Said {
+    /// Whether something may be left to take.
+    pub(crate) fn takes(self) -> bool
+        ensures { result ≡ false → (self.full ≡ false) × (self.needed ≡ false) × (self.barred ≡ false) }
+    {
+        self.full || self.needed || self.barred
+    }
 }
 
 /// Whether no number lies between two others, or is one of them.

@@ -162,6 +162,9 @@ fn take_bundle(
     let most = far.may.len();
     let classes = allowances.classes(bundle);
     let said = said_of(store, group, bundle, classes, least, most);
+    if !said.takes() {
+        return;
+    }
     take_open_if(store, pass, plane, bundle, open, true, said.full);
     take_open_if(store, pass, plane, bundle, open, false, said.needed);
     take_entries_if(store, pass, group, bundle, least, most, said.barred);

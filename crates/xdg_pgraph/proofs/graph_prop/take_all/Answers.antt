@@ -1,7 +1,6 @@
 use Rattle.std.proofs.Common.{◌∙◌, ap}
 use Rattle.xdg_problem.specs.declared.parts.Parts.{Parts}
 use Rattle.xdg_problem.specs.Arguments.{label_count}
-use Rattle.xdg_problem.specs.Places.{nodes}
 use Rattle.xdg_pgraph.proofs.Swept.{tree_lasts, tree_swept, dag_lasts, dag_swept, valency_swept}
 use Rattle.xdg_pgraph.proofs.graph_prop.take_all.Goals as goal
 
@@ -18,9 +17,8 @@ pub returns-in-Some-daughters_since : goal.returns-in-Some-daughters_since
 returns-in-Some-daughters_since c = dag_lasts c.args.group.now c.args.pass.now c.take_others-in-Some-daughters_since.new.pass c.args.store.now c.take_others-in-Some-daughters_since.new.store c.requires.group c.requires.family c.take_others-in-Some-daughters_since.ensures.parts c.take_others-in-Some-daughters_since.ensures.known c.of-plane.result.dim.0 c.of-plane.ensures.dim c.truth_of-rooted.result c.truth_of-rooted.ensures c.in-Dag.is c.in-Some-daughters_since.ensures.0 c.in-Some-daughters_since.daughters c.in-Some-daughters_since.ensures.1 c.take_others-in-Some-daughters_since.ensures.runs
 
 pub returns-in-Valency : goal.returns-in-Valency
-returns-in-Valency c = valency_swept c.args.group.now c.args.pass.now c.take_counts.new.pass c.args.store.now c.take_counts.new.store c.requires.group c.requires.family c.take_counts.ensures.goes.extends.same c.take_counts.ensures.known c.of-plane.result.dim.0 c.of-plane.ensures.dim c.label_count-labels.result c.of-plane.result.nodes
+returns-in-Valency c = valency_swept c.args.group.now c.args.pass.now c.take_counts.new.pass c.args.store.now c.take_counts.new.store c.requires.group c.requires.family c.take_counts.ensures.goes.extends.same c.take_counts.ensures.known c.of-plane.result.dim.0 c.of-plane.ensures.dim c.label_count-labels.result
     (c.label_count-labels.ensures ∙ ap (λ (parts : Parts). label_count parts c.of-plane.result.dim.0) c.requires.parts)
-    (c.of-plane.ensures.plane.nodes_is ∙ ap (λ (parts : Parts). nodes parts) c.requires.parts)
     c.in-Valency.is c.take_counts.ensures
 
 pub take_counts-requires-clause-labels : goal.take_counts-requires-clause-labels
