@@ -54,7 +54,6 @@ fn run(alloc: Global, tokens: &[Token], end: u32) -> Result<List<Statement>, Sto
 ///
 /// The error is [`Cause::Unexpected`] at the first token with which the tokens before it don't go on in any costs text, or at the
 /// end where the tokens are no whole one; or want of memory.
-#[tactic(auto, using(crate::proofs::Read::run_tells, crate::proofs::Read::run_only))]
 pub(crate) fn statements(
     alloc: Global,
     tokens: &List<Token>,
