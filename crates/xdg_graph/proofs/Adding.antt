@@ -68,6 +68,19 @@ below_more leads k mothers old new exact step so_far a b = (
   ]),
 )
 
+-- where nothing is added
+pub blank_none : (leads : ℕ → ℕ → Type 0) (table : List (List ℕ)) → IsBlank table → ((a b : ℕ) → leads a b → ⊥) → (a b : ℕ) → In table a b ↔ leads a b
+blank_none leads table blank none a b = (λ h. absurd (blank a b h), λ h. absurd (none a b h))
+
+pub below_skip : (leads : ℕ → ℕ → Type 0) (k : ℕ) (table : List (List ℕ)) → ((a : ℕ) → leads a k → ⊥) → LeadsBelow leads k table → LeadsBelow leads (k + 1) table
+below_skip leads k table none so_far a b = (
+  λ h. (let p = (so_far a b).0 h in (p.0, (let l = p.1 in omega (arith, l)))),
+  λ h. elim (cases_eq b k) [
+    | inl same ↦ absurd (none a (subst (leads a) same h.0))
+    | inr other ↦ (so_far a b).1 (h.0, (let l = h.1 in omega (arith, l, other)))
+  ],
+)
+
 module _ (which : Which) (parts : Parts) (box : List (List Bool)) (dim : ℕ) (is : IsBox (shape parts) box) where
   pub mother_below : (a b : ℕ) → IsDaughter (edges_of which parts box dim) a b → a < nodes parts
   mother_below a b (j, e, within, at, (m, d)) =

@@ -1,18 +1,23 @@
 -- The mothers of a node by the rows of its labels.
 use Rattle.std.proofs.Common.{◌≡◌, ◌≢◌, ℕ, ◌<◌, ◌≤◌, ◌+◌, ◌↔◌, ◌&&◌, ◌||◌, inl, inr, Bool, true, IsTrue, List, [], length, get_or, ap, sym, ◌∙◌, arith, subst}
 use Rattle.std.specs.Prelude.{◌==◌, nat_lt, not}
+use Rattle.std.specs.Int.{bit_at}
+use Rattle.std.proofs.lemmas.Nat.Bits.{bit_at-zero}
 use Rattle.std.proofs.lemmas.Bool.{cases_lt, eq-eqb, false≢true, lt-ltb, ltb-true, ne_eqb}
 use Rattle.std.proofs.lemmas.List.{get_or_default, get_or_past}
 use Rattle.xdg_facts.specs.Rises.{has}
 use Rattle.xdg_nodeset.proofs.TableSets.{both}
 use Rattle.xdg_problem.specs.declared.parts.Parts.{Parts}
+use Rattle.xdg_problem.specs.Analyses.{IsPlace}
 use Rattle.xdg_problem.specs.Boxes.{IsBox}
 use Rattle.xdg_problem.specs.Paths.{IsDaughter}
 use Rattle.xdg_problem.specs.Places.{edge, nodes}
 use Rattle.xdg_problem.specs.Vectors.{shape}
 use Rattle.xdg_store.specs.Across.{AreMothers, no_mothers}
 use Rattle.xdg_store.specs.InRange.{HasEdges}
+use Rattle.xdg_store.specs.Labels.{AreLabelsOf, at_place, no_labels}
 use Rattle.xdg_store.specs.declared.across.Mothers.{Mothers}
+use Rattle.xdg_store.specs.declared.labels.LabelsInto.{LabelsInto}
 use Rattle.xdg_graph.specs.declared.which.Which.{Which}
 use Rattle.xdg_graph.specs.declared.which.Which.TheVariants as whichs
 use Rattle.xdg_graph.specs.Edges.{InSome, Stands, edge_labels, edges_of, mothers_in}
@@ -81,3 +86,24 @@ mothers_by_rows which parts box dim v labels rows joined every met set box_is wi
           let (place, stands) = (stands_by which parts box dim u label v box_is).0 by in
           others.1 (place.mother, place.differ, (some u).1 (label, (let e = are.count in omega (arith, l, e)), (row_stands which parts box dim v labels rows are u label place.mother place.differ l).1 stands))),
     )
+
+-- ---- a node into which no edge leads
+
+no_mother : (which : Which) (parts : Parts) (box : List (List Bool)) (dim u v : ℕ) → IsBox (shape parts) box → ((label : ℕ) → label < edge_labels parts dim → IsPlace parts (edge dim u label v) → Stands which parts box (edge dim u label v) → ⊥) → IsDaughter (edges_of which parts box dim) u v → ⊥
+no_mother which parts box dim u v box_is none d =
+    let by = (any_label which parts box dim (edge_labels parts dim) u v box_is (omega arith)).1 d in
+    let stands = (stands_by which parts box dim u by.0 v box_is).0 by.2 in
+    none by.0 by.1 stands.0 stands.1
+
+-- on a dimension without labels
+pub without_labels : (which : Which) (parts : Parts) (box : List (List Bool)) (dim labels : ℕ) → IsBox (shape parts) box → labels ≡ edge_labels parts dim → labels ≡ 0 → (u v : ℕ) → IsDaughter (edges_of which parts box dim) u v → ⊥
+without_labels which parts box dim labels box_is count none u v d = no_mother which parts box dim u v box_is (λ label l place stands. omega (arith, l, count, none)) d
+
+-- where no label has an edge that must be
+pub no_label_must : (parts : Parts) (box : List (List Bool)) (dim v i : ℕ) (rows : List LabelsInto) (into : LabelsInto) → IsBox (shape parts) box → AreLabelsOf parts box dim rows → v < nodes parts → i ≡ v → (get_or rows i into).must.some ≡ 0 → (u : ℕ) → IsDaughter (edges_of whichs.Must parts box dim) u v → ⊥
+no_label_must parts box dim v i rows into box_is are within is none u d =
+    let there : get_or rows i into ≡ at_place rows v = ap (λ k. get_or rows k into) is ∙ get_or_default rows v into no_labels (let n = are.count in omega (arith, n, within)) in
+    no_mother whichs.Must parts box dim u v box_is (λ label l place stands.
+    let bit = (are.must v within label).some.1 (u, (place, stands)) in
+    let zero = ap (λ (z : LabelsInto). bit_at z.must.some label) (sym there) ∙ ap (λ w. bit_at w label) none ∙ bit_at-zero label in
+    omega (arith, bit, zero)) d

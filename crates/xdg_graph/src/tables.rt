@@ -95,7 +95,15 @@ fn note_must(table: &mut [NodeSet; 128], store: &Store, dim: DimId)
     ensures known { Known store.now }
 {
     let labels = labels_of(store, dim);
+    if labels == 0 {
+        return;
+    }
+    let rows = store.labels_by_daughter(dim);
     for daughter in 0..node_count(store) {
+        let into = rows[usize::from(daughter)];
+        if into.must.some == 0 {
+            continue;
+        }
         let mothers = mothers_with(store, Which::Must, dim, NodeId(daughter), labels);
         add_all(table, mothers, NodeId(daughter));
     }
