@@ -13,12 +13,14 @@ use Rattle.xdg_problem.specs.declared.parts.Parts.{Parts}
 use Rattle.xdg_inputs.specs.RuledSteps.{RulesThen, WithRules}
 use Rattle.xdg_text.specs.Lines.{line}
 use Rattle.xdg_reports.specs.VerdictsText.{verdicts_text}
-use Rattle.xdg_inputs.specs.Outcomes.{Files, ReadThen, GrammarThen, IsDone}
+use Rattle.xdg_inputs.specs.Outcomes.{Files, ReadThen, MeaningThen, GrammarThen, IsDone}
 use Rattle.xdg_inputs.specs.GrammarFiles.{ReadText}
 use Rattle.xdg_inputs.specs.declared.status.Status.TheVariants as statuses
 use Rattle.xdg_inputs.specs.declared.status.Status.{Status}
 use Rattle.xdg_inputs.specs.Analyses.{Analysed}
 use Rattle.xdg_inputs.specs.AnalysisSteps.{AnalysisThen}
+use Rattle.xdg_reports.specs.declared.reports.Report.{Report}
+use Rattle.xdg_reports.specs.declared.reports.Report.TheVariants as reports
 
 -- ---- `explain`
 
@@ -50,11 +52,11 @@ counts_line dims classes entries = line (codes "ok") (codes "dims" ∷ decimal d
 abbrev pub check_line : ReadText → Meaning → List ℕ
 check_line read m = counts_line (length m.table.used) (length (classes read.tree.statements)) (length m.entries)
 
-abbrev pub CheckOf : List ℕ → Files → Status → List ℕ → Type 0
-CheckOf grammar files = GrammarThen files grammar (λ read m. IsDone (check_line read m))
+-- what a report tells of a grammar that was read
+abbrev pub ReportThen : Report → ReadText → Status → List ℕ → Type 0
+ReportThen reports.Check read = MeaningThen read (λ m. IsDone (check_line read m))
+ReportThen reports.Lexicon read = MeaningThen read (λ m. IsDone (lexicon_text m.table m.entries))
+ReportThen reports.Print read = IsDone (canon read.tree)
 
-abbrev pub LexiconOf : List ℕ → Files → Status → List ℕ → Type 0
-LexiconOf grammar files = GrammarThen files grammar (λ read m. IsDone (lexicon_text m.table m.entries))
-
-abbrev pub PrintOf : List ℕ → Files → Status → List ℕ → Type 0
-PrintOf grammar files = ReadThen files grammar (λ read. IsDone (canon read.tree))
+abbrev pub ReportOf : Report → List ℕ → Files → Status → List ℕ → Type 0
+ReportOf report grammar files = ReadThen files grammar (ReportThen report)

@@ -1,6 +1,8 @@
 -- The statuses with which `check`, `lexicon`, `print` and `explain` can end: all but these.
 use Rattle.xdg_inputs.specs.declared.status.Status.TheVariants as statuses
 use Rattle.xdg_inputs.specs.declared.status.Status.{Status}
+use Rattle.xdg_reports.specs.declared.reports.Report.{Report}
+use Rattle.xdg_reports.specs.declared.reports.Report.TheVariants as reports
 
 abbrev pub ExplainEnds : Status → Type 0
 ExplainEnds statuses.Usage = ⊥
@@ -28,3 +30,7 @@ PrintEnds statuses.BadAnalysis = ⊥
 PrintEnds statuses.BadRules = ⊥
 PrintEnds statuses.BadCosts = ⊥
 PrintEnds status = Unit {0}
+
+abbrev pub EndsOf : Report → Status → Type 0
+EndsOf reports.Print = PrintEnds
+EndsOf report = ReportEnds

@@ -9,5 +9,5 @@ mod verdicts;
 mod words;
 
 pub use explain::explain_analysis;
-pub use reports::{check_grammar, print_grammar, print_lexicon};
+pub use reports::{Report, print_report};
 pub use verdicts::write_verdicts;

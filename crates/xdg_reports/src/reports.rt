@@ -1,42 +1,48 @@
-//! The commands `check`, `lexicon` and `print`.
+//! The commands `check`, `lexicon` and `print`: a report on a grammar is a text, which is written in one place.
 
-ghost use Rattle.std.specs.Prelude.{◌≡◌, ◌≢◌, ◌≤◌, ◌⊎◌, ℕ, List, Option, Some, length};
+ghost use Rattle.std.specs.Prelude.{◌≡◌, ◌≢◌, ◌≤◌, ◌⊎◌, ℕ, List, Option, Some, length, IfOk};
 ghost use Rattle.xdg_io.specs.Rose.{Rose};
-ghost use Rattle.xdg_print.specs.LexiconText as entries;
 ghost use Rattle.xdg_inputs.specs.Loaded.{read_of};
-ghost use Rattle.xdg_inputs.specs.Outcomes.{IsDone, MeaningThen};
+ghost use Rattle.xdg_inputs.specs.Outcomes.{IsDone};
 ghost use Rattle.xdg_inputs.specs.Runs.{Leaves, Wrote};
-ghost use Rattle.xdg_reports.specs.Outcomes.{CheckOf, LexiconOf, PrintOf, check_line, counts_line};
-ghost use Rattle.xdg_reports.specs.Runs.{PrintEnds, ReportEnds};
+ghost use Rattle.xdg_reports.specs.Outcomes.{ReportOf, ReportThen, counts_line};
+ghost use Rattle.xdg_reports.specs.Runs.{EndsOf};
 
 use std::alloc::Global;
-use xdg_base::OutOfMemory;
+use xdg_base::{Bytes, OutOfMemory};
 use xdg_inputs::{Loaded, Status, expand_tree, load_tree, refuse, stopped_in};
 use xdg_io::{Failed, Shelf, Sink, write_all};
 use xdg_print::{lexicon_text, print};
-use xdg_text::{Word, write_line};
+use xdg_text::{Kept, Word, write_line};
+
+/// A report on a grammar.
+#[derive(Clone, Copy, Debug)]
+pub enum Report {
+    /// How much it holds: the numbers of its used dimensions, of its classes and of its entries.
+    Check,
+    /// Its entries.
+    Lexicon,
+    /// Its canonical text.
+    Print,
+}
 
 /// Writes the text of a run that is done.
-fn write_text<K: Sink>(text: &str, out: &mut K) -> Status
+fn write_text<K: Sink>(text: &[u8], out: &mut K) -> Status
     ensures leaves { Leaves (IsDone text.now) result (K.held out.old) (K.held out.new) }
     ensures ends { (result ≡ Status.Done) ⊎ (result ≡ Status.WriteFault) }
     ensures write_fault { result ≡ Status.WriteFault → Rose (K.faults out.old) (K.faults out.new) }
     ensures out_lasting { K.faults out.old ≤ K.faults out.new }
     ensures out_quiet { result ≢ Status.WriteFault → K.faults out.new ≡ K.faults out.old }
 {
-    match write_all(out, text.as_bytes()) {
+    match write_all(out, text) {
         Ok(()) => Status::Done,
         Err(Failed) => Status::WriteFault,
     }
 }
 
-/// Writes the line of `check`.
-fn write_counts<K: Sink>(dims: usize, classes: usize, entries: usize, out: &mut K) -> Status
-    ensures leaves { Leaves (IsDone (counts_line dims classes entries)) result (K.held out.old) (K.held out.new) }
-    ensures ends { (result ≡ Status.Done) ⊎ (result ≡ Status.WriteFault) }
-    ensures write_fault { result ≡ Status.WriteFault → Rose (K.faults out.old) (K.faults out.new) }
-    ensures out_lasting { K.faults out.old ≤ K.faults out.new }
-    ensures out_quiet { result ≢ Status.WriteFault → K.faults out.new ≡ K.faults out.old }
+/// The line of `check`.
+fn counts_line(alloc: Global, dims: usize, classes: usize, entries: usize) -> Result<Bytes, Failed>
+    ensures { IfOk result (λ line. line ≡ counts_line dims classes entries) }
 {
     let words = [
         Word::Plain("dims"),
@@ -46,19 +52,18 @@ fn write_counts<K: Sink>(dims: usize, classes: usize, entries: usize, out: &mut 
         Word::Plain("entries"),
         Word::Number(entries as u64),
     ];
-    match write_line("ok", &words, out) {
-        Ok(()) => Status::Done,
-        Err(Failed) => Status::WriteFault,
-    }
+    let mut kept = Kept::new(alloc);
+    write_line("ok", &words, &mut kept)?;
+    Ok(kept.into_bytes())
 }
 
 /// Prints how much the grammar of a text holds, or the fault line of what is refused.
 fn check_loaded<K: Sink>(alloc: Global, loaded: Loaded, out: &mut K) -> Status
     requires { length loaded.text.items ≤ 4194304 }
-    ensures leaves { Leaves (MeaningThen (read_of loaded) (λ m. IsDone (check_line (read_of loaded) m))) result (K.held out.old) (K.held out.new) }
+    ensures leaves { Leaves (ReportThen Report.Check (read_of loaded)) result (K.held out.old) (K.held out.new) }
     ensures write_fault { result ≡ Status.WriteFault → Rose (K.faults out.old) (K.faults out.new) }
     ensures out_lasting { K.faults out.old ≤ K.faults out.new }
-    ensures wrote { Wrote ReportEnds result (K.faults out.old) (K.faults out.new) (K.held out.old) (K.held out.new) }
+    ensures wrote { Wrote (EndsOf Report.Check) result (K.faults out.old) (K.faults out.new) (K.held out.old) (K.held out.new) }
     ensures command { (result ≡ Status.Usage → ⊥) × (result ≡ Status.ReadFault → ⊥) }
 {
     let Loaded { text, tree } = loaded;
@@ -68,16 +73,19 @@ fn check_loaded<K: Sink>(alloc: Global, loaded: Loaded, out: &mut K) -> Status
     };
     let dims = expanded.checked.types().used().len();
     let classes = expanded.checked.classes().len();
-    write_counts(dims, classes, expanded.entries.len(), out)
+    match counts_line(alloc, dims, classes, expanded.entries.len()) {
+        Ok(line) => write_text(line.as_slice(), out),
+        Err(Failed) => Status::OutOfMemory,
+    }
 }
 
 /// Prints the entries of the grammar of a text, or the fault line of what is refused.
 fn list_loaded<K: Sink>(alloc: Global, loaded: Loaded, out: &mut K) -> Status
     requires { length loaded.text.items ≤ 4194304 }
-    ensures leaves { Leaves (MeaningThen (read_of loaded) (λ m. IsDone (entries.lexicon_text m.table m.entries))) result (K.held out.old) (K.held out.new) }
+    ensures leaves { Leaves (ReportThen Report.Lexicon (read_of loaded)) result (K.held out.old) (K.held out.new) }
     ensures write_fault { result ≡ Status.WriteFault → Rose (K.faults out.old) (K.faults out.new) }
     ensures out_lasting { K.faults out.old ≤ K.faults out.new }
-    ensures wrote { Wrote ReportEnds result (K.faults out.old) (K.faults out.new) (K.held out.old) (K.held out.new) }
+    ensures wrote { Wrote (EndsOf Report.Lexicon) result (K.faults out.old) (K.faults out.new) (K.held out.old) (K.held out.new) }
     ensures command { (result ≡ Status.Usage → ⊥) × (result ≡ Status.ReadFault → ⊥) }
 {
     let Loaded { text, tree } = loaded;
@@ -86,83 +94,51 @@ fn list_loaded<K: Sink>(alloc: Global, loaded: Loaded, out: &mut K) -> Status
         Err(stop) => return refuse(stopped_in(&text, stop), Status::BadGrammar, out),
     };
     match lexicon_text(alloc, expanded.checked.types(), expanded.entries.as_slice()) {
-        Ok(text) => write_text(text.as_str(), out),
+        Ok(text) => write_text(text.as_str().as_bytes(), out),
         Err(OutOfMemory) => Status::OutOfMemory,
     }
 }
 
-/// Loads a grammar and prints how much it holds, or the fault line of what is refused.
-pub fn check_grammar<H: Shelf, K: Sink>(
-    alloc: Global,
-    name: &str,
-    shelf: &mut H,
-    out: &mut K,
-) -> Status
-    ensures leaves { (files : List ℕ → Option (List ℕ)) → H.files shelf.old ≡ Some files
-        → Leaves (CheckOf name.now files) result (K.held out.old) (K.held out.new) }
-    ensures read_fault { result ≡ Status.ReadFault → Rose (H.faults shelf.old name.now) (H.faults shelf.new name.now) }
+/// Prints the canonical text of the grammar of a text.
+fn print_loaded<K: Sink>(alloc: Global, loaded: Loaded, out: &mut K) -> Status
+    ensures leaves { Leaves (ReportThen Report.Print (read_of loaded)) result (K.held out.old) (K.held out.new) }
     ensures write_fault { result ≡ Status.WriteFault → Rose (K.faults out.old) (K.faults out.new) }
-    ensures files { H.files shelf.new ≡ H.files shelf.old }
-    ensures shelf_lasting { (other : List ℕ) → H.faults shelf.old other ≤ H.faults shelf.new other }
-    ensures shelf_quiet { (other : List ℕ) → result ≢ Status.ReadFault → H.faults shelf.new other ≡ H.faults shelf.old other }
     ensures out_lasting { K.faults out.old ≤ K.faults out.new }
-    ensures wrote { Wrote ReportEnds result (K.faults out.old) (K.faults out.new) (K.held out.old) (K.held out.new) }
-    ensures command { result ≡ Status.Usage → ⊥ }
+    ensures wrote { Wrote (EndsOf Report.Print) result (K.faults out.old) (K.faults out.new) (K.held out.old) (K.held out.new) }
+    ensures command { (result ≡ Status.Usage → ⊥) × (result ≡ Status.ReadFault → ⊥) }
 {
-    match load_tree(alloc, shelf, name) {
-        Ok(loaded) => check_loaded(alloc, loaded, out),
-        Err(refusal) => refuse(refusal, Status::BadText, out),
+    match print(alloc, &loaded.tree) {
+        Ok(text) => write_text(text.as_str().as_bytes(), out),
+        Err(OutOfMemory) => Status::OutOfMemory,
     }
 }
 
-/// Loads a grammar and prints its entries, or the fault line of what is refused.
-pub fn print_lexicon<H: Shelf, K: Sink>(
+/// Loads a grammar and prints a report on it, or the fault line of what is refused.
+pub fn print_report<H: Shelf, K: Sink>(
     alloc: Global,
+    report: Report,
     name: &str,
     shelf: &mut H,
     out: &mut K,
 ) -> Status
     ensures leaves { (files : List ℕ → Option (List ℕ)) → H.files shelf.old ≡ Some files
-        → Leaves (LexiconOf name.now files) result (K.held out.old) (K.held out.new) }
+        → Leaves (ReportOf report name.now files) result (K.held out.old) (K.held out.new) }
     ensures read_fault { result ≡ Status.ReadFault → Rose (H.faults shelf.old name.now) (H.faults shelf.new name.now) }
     ensures write_fault { result ≡ Status.WriteFault → Rose (K.faults out.old) (K.faults out.new) }
     ensures files { H.files shelf.new ≡ H.files shelf.old }
     ensures shelf_lasting { (other : List ℕ) → H.faults shelf.old other ≤ H.faults shelf.new other }
     ensures shelf_quiet { (other : List ℕ) → result ≢ Status.ReadFault → H.faults shelf.new other ≡ H.faults shelf.old other }
     ensures out_lasting { K.faults out.old ≤ K.faults out.new }
-    ensures wrote { Wrote ReportEnds result (K.faults out.old) (K.faults out.new) (K.held out.old) (K.held out.new) }
-    ensures command { result ≡ Status.Usage → ⊥ }
-{
-    match load_tree(alloc, shelf, name) {
-        Ok(loaded) => list_loaded(alloc, loaded, out),
-        Err(refusal) => refuse(refusal, Status::BadText, out),
-    }
-}
-
-/// Loads a grammar and prints its canonical text, or the fault line of what is refused.
-pub fn print_grammar<H: Shelf, K: Sink>(
-    alloc: Global,
-    name: &str,
-    shelf: &mut H,
-    out: &mut K,
-) -> Status
-    ensures leaves { (files : List ℕ → Option (List ℕ)) → H.files shelf.old ≡ Some files
-        → Leaves (PrintOf name.now files) result (K.held out.old) (K.held out.new) }
-    ensures read_fault { result ≡ Status.ReadFault → Rose (H.faults shelf.old name.now) (H.faults shelf.new name.now) }
-    ensures write_fault { result ≡ Status.WriteFault → Rose (K.faults out.old) (K.faults out.new) }
-    ensures files { H.files shelf.new ≡ H.files shelf.old }
-    ensures shelf_lasting { (other : List ℕ) → H.faults shelf.old other ≤ H.faults shelf.new other }
-    ensures shelf_quiet { (other : List ℕ) → result ≢ Status.ReadFault → H.faults shelf.new other ≡ H.faults shelf.old other }
-    ensures out_lasting { K.faults out.old ≤ K.faults out.new }
-    ensures wrote { Wrote PrintEnds result (K.faults out.old) (K.faults out.new) (K.held out.old) (K.held out.new) }
+    ensures wrote { Wrote (EndsOf report) result (K.faults out.old) (K.faults out.new) (K.held out.old) (K.held out.new) }
     ensures command { result ≡ Status.Usage → ⊥ }
 {
     let loaded = match load_tree(alloc, shelf, name) {
         Ok(loaded) => loaded,
         Err(refusal) => return refuse(refusal, Status::BadText, out),
     };
-    match print(alloc, &loaded.tree) {
-        Ok(text) => write_text(text.as_str(), out),
-        Err(OutOfMemory) => Status::OutOfMemory,
+    match report {
+        Report::Check => check_loaded(alloc, loaded, out),
+        Report::Lexicon => list_loaded(alloc, loaded, out),
+        Report::Print => print_loaded(alloc, loaded, out),
     }
 }

@@ -13,7 +13,8 @@ use Rattle.xdg_text.specs.Lines.{usage_line}
 use Rattle.xdg_inputs.specs.Outcomes.{Files}
 use Rattle.xdg_inputs.specs.declared.status.Status.TheVariants as statuses
 use Rattle.xdg_inputs.specs.declared.status.Status.{Status}
-use Rattle.xdg_reports.specs.Outcomes.{ExplainOf, CheckOf, LexiconOf, PrintOf}
+use Rattle.xdg_reports.specs.Outcomes.{ExplainOf, ReportOf}
+use Rattle.xdg_reports.specs.declared.reports.Report.TheVariants as reports
 use Rattle.xdg_searches.specs.Outcomes.{ParseOf, ResumeOf, DrillOf}
 
 -- where a command is asked for a number of analyses, it is at least one, and a sentence can be searched by branches, and each line of a
@@ -29,9 +30,9 @@ abbrev pub CommandOf : Command → Files → List ℕ → Status → List ℕ �
 CommandOf (commands.Parse options) files input = ParseOf options files input
 CommandOf (commands.Resume options) files input = ResumeOf options files
 CommandOf (commands.Explain options) files input = ExplainOf options files
-CommandOf (commands.Check grammar) files input = CheckOf grammar files
-CommandOf (commands.Lexicon grammar) files input = LexiconOf grammar files
-CommandOf (commands.Print grammar) files input = PrintOf grammar files
+CommandOf (commands.Check grammar) files input = ReportOf reports.Check grammar files
+CommandOf (commands.Lexicon grammar) files input = ReportOf reports.Lexicon grammar files
+CommandOf (commands.Print grammar) files input = ReportOf reports.Print grammar files
 CommandOf (commands.Drill number) files input = DrillOf number
 CommandOf (commands.Corpus options) files input = CorpusOf options files input
 CommandOf (commands.Arrange options) files input = ArrangeOf options files input

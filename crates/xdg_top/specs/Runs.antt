@@ -11,7 +11,8 @@ use Rattle.xdg_io.specs.Rose.{Rose}
 use Rattle.xdg_inputs.specs.Runs.{Leaves, Unwritten}
 use Rattle.xdg_inputs.specs.declared.status.Status.{Status}
 use Rattle.xdg_inputs.specs.declared.status.Status.TheVariants as statuses
-use Rattle.xdg_reports.specs.Runs.{ExplainEnds, ReportEnds, PrintEnds}
+use Rattle.xdg_reports.specs.Runs.{ExplainEnds, EndsOf}
+use Rattle.xdg_reports.specs.declared.reports.Report.TheVariants as reports
 use Rattle.xdg_searches.specs.Runs.{ParseEnds, ResumeEnds, DrillEnds}
 
 -- ---- what a command reads
@@ -59,9 +60,9 @@ abbrev pub EndsWith : Command → Status → Type 0
 EndsWith (commands.Parse options) = ParseEnds
 EndsWith (commands.Resume options) = ResumeEnds
 EndsWith (commands.Explain options) = ExplainEnds
-EndsWith (commands.Check grammar) = ReportEnds
-EndsWith (commands.Lexicon grammar) = ReportEnds
-EndsWith (commands.Print grammar) = PrintEnds
+EndsWith (commands.Check grammar) = EndsOf reports.Check
+EndsWith (commands.Lexicon grammar) = EndsOf reports.Lexicon
+EndsWith (commands.Print grammar) = EndsOf reports.Print
 EndsWith (commands.Drill number) = DrillEnds
 EndsWith (commands.Corpus options) = CorpusEnds
 EndsWith (commands.Arrange options) = ArrangeEnds

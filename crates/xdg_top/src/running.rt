@@ -18,7 +18,7 @@ use xdg_command::{Command, command};
 use xdg_corpus::corpus;
 use xdg_inputs::Status;
 use xdg_io::{Failed, Shelf, Sink, Source};
-use xdg_reports::{check_grammar, explain_analysis, print_grammar, print_lexicon};
+use xdg_reports::{Report, explain_analysis, print_report};
 use xdg_searches::{drill, parse_sentence, resume_analysis};
 use xdg_text::write_usage;
 
@@ -54,9 +54,15 @@ fn run_command<R: Threads + Sync, H: Shelf, S: Source, K: Sink>(
         Command::Parse(options) => parse_sentence(rt, alloc, options, shelf, input, out),
         Command::Resume(options) => resume_analysis(alloc, options, shelf, out),
         Command::Explain(options) => explain_analysis(alloc, options, shelf, out),
-        Command::Check { grammar } => check_grammar(alloc, grammar.as_str(), shelf, out),
-        Command::Lexicon { grammar } => print_lexicon(alloc, grammar.as_str(), shelf, out),
-        Command::Print { grammar } => print_grammar(alloc, grammar.as_str(), shelf, out),
+        Command::Check { grammar } => {
+            print_report(alloc, Report::Check, grammar.as_str(), shelf, out)
+        }
+        Command::Lexicon { grammar } => {
+            print_report(alloc, Report::Lexicon, grammar.as_str(), shelf, out)
+        }
+        Command::Print { grammar } => {
+            print_report(alloc, Report::Print, grammar.as_str(), shelf, out)
+        }
         Command::Drill { number } => drill(alloc, *number, out),
         Command::Corpus(options) => corpus(rt, alloc, options, shelf, input, out),
         Command::Arrange(options) => arrange(alloc, options, shelf, input, out),

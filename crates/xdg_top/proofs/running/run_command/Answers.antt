@@ -4,7 +4,8 @@ use Rattle.xdg_best.specs.Runs.{BestEnds}
 use Rattle.xdg_command.specs.declared.commands.Command.TheVariants as commands
 use Rattle.xdg_corpus.specs.Outcomes.{CorpusEnds}
 use Rattle.xdg_io.specs.Rose.{Rose}
-use Rattle.xdg_reports.specs.Outcomes.{CheckOf, LexiconOf, PrintOf}
+use Rattle.xdg_reports.specs.Outcomes.{ReportOf}
+use Rattle.xdg_reports.specs.declared.reports.Report.TheVariants as reports
 use Rattle.xdg_top.specs.Outcomes.{WantsSome}
 use Rattle.xdg_inputs.specs.Runs.{Leaves}
 use Rattle.xdg_searches.specs.Runs.{DrillEnds, ParseEnds}
@@ -83,42 +84,42 @@ returns-in-Explain-clause-all_read g c content reads done told = absurd (subst R
 
 pub returns-in-Check-clause-leaves : goal.returns-in-Check-clause-leaves
 returns-in-Check-clause-leaves g c files content told given =
-    said_leaves files content c.args.command.now (commands.Check c.in-Check.grammar) c.check_grammar.result (g.K.Sink.held c.args.out.now) (g.K.Sink.held c.check_grammar.new.out) c.in-Check.is
-    (subst (λ n. Leaves (CheckOf n files) c.check_grammar.result (g.K.Sink.held c.args.out.now) (g.K.Sink.held c.check_grammar.new.out)) c.as_str.ensures (c.check_grammar.ensures.leaves files told))
+    said_leaves files content c.args.command.now (commands.Check c.in-Check.grammar) c.print_report.result (g.K.Sink.held c.args.out.now) (g.K.Sink.held c.print_report.new.out) c.in-Check.is
+    (subst (λ n. Leaves (ReportOf reports.Check n files) c.print_report.result (g.K.Sink.held c.args.out.now) (g.K.Sink.held c.print_report.new.out)) c.as_str.ensures (c.print_report.ensures.leaves files told))
 
 pub returns-in-Check-clause-wrote : goal.returns-in-Check-clause-wrote
-returns-in-Check-clause-wrote g c = said_wrote c.args.command.now (commands.Check c.in-Check.grammar) c.check_grammar.result (g.K.Sink.faults c.args.out.now) (g.K.Sink.faults c.check_grammar.new.out) (g.K.Sink.held c.args.out.now) (g.K.Sink.held c.check_grammar.new.out) c.in-Check.is (λ u. u) c.check_grammar.ensures.wrote
+returns-in-Check-clause-wrote g c = said_wrote c.args.command.now (commands.Check c.in-Check.grammar) c.print_report.result (g.K.Sink.faults c.args.out.now) (g.K.Sink.faults c.print_report.new.out) (g.K.Sink.held c.args.out.now) (g.K.Sink.held c.print_report.new.out) c.in-Check.is (λ u. u) c.print_report.ensures.wrote
 
 pub returns-in-Check-clause-read_fault : goal.returns-in-Check-clause-read_fault
-returns-in-Check-clause-read_fault g c failed = file_failed c.args.command.now (commands.Check c.in-Check.grammar) c.as_str.result.now (g.H.Shelf.faults c.args.shelf.now) (g.H.Shelf.faults c.check_grammar.new.shelf) (g.S.Source.faults c.args.input.now) (g.S.Source.faults c.args.input.now) c.in-Check.is c.as_str.ensures (c.check_grammar.ensures.read_fault failed)
+returns-in-Check-clause-read_fault g c failed = file_failed c.args.command.now (commands.Check c.in-Check.grammar) c.as_str.result.now (g.H.Shelf.faults c.args.shelf.now) (g.H.Shelf.faults c.print_report.new.shelf) (g.S.Source.faults c.args.input.now) (g.S.Source.faults c.args.input.now) c.in-Check.is c.as_str.ensures (c.print_report.ensures.read_fault failed)
 
 pub returns-in-Check-clause-all_read : goal.returns-in-Check-clause-all_read
 returns-in-Check-clause-all_read g c content reads done told = absurd (subst ReadsInput c.in-Check.is reads)
 
 pub returns-in-Lexicon-clause-leaves : goal.returns-in-Lexicon-clause-leaves
 returns-in-Lexicon-clause-leaves g c files content told given =
-    said_leaves files content c.args.command.now (commands.Lexicon c.in-Lexicon.grammar) c.print_lexicon.result (g.K.Sink.held c.args.out.now) (g.K.Sink.held c.print_lexicon.new.out) c.in-Lexicon.is
-    (subst (λ n. Leaves (LexiconOf n files) c.print_lexicon.result (g.K.Sink.held c.args.out.now) (g.K.Sink.held c.print_lexicon.new.out)) c.as_str-in-Lexicon.ensures (c.print_lexicon.ensures.leaves files told))
+    said_leaves files content c.args.command.now (commands.Lexicon c.in-Lexicon.grammar) c.print_report-in-Lexicon.result (g.K.Sink.held c.args.out.now) (g.K.Sink.held c.print_report-in-Lexicon.new.out) c.in-Lexicon.is
+    (subst (λ n. Leaves (ReportOf reports.Lexicon n files) c.print_report-in-Lexicon.result (g.K.Sink.held c.args.out.now) (g.K.Sink.held c.print_report-in-Lexicon.new.out)) c.as_str-in-Lexicon.ensures (c.print_report-in-Lexicon.ensures.leaves files told))
 
 pub returns-in-Lexicon-clause-wrote : goal.returns-in-Lexicon-clause-wrote
-returns-in-Lexicon-clause-wrote g c = said_wrote c.args.command.now (commands.Lexicon c.in-Lexicon.grammar) c.print_lexicon.result (g.K.Sink.faults c.args.out.now) (g.K.Sink.faults c.print_lexicon.new.out) (g.K.Sink.held c.args.out.now) (g.K.Sink.held c.print_lexicon.new.out) c.in-Lexicon.is (λ u. u) c.print_lexicon.ensures.wrote
+returns-in-Lexicon-clause-wrote g c = said_wrote c.args.command.now (commands.Lexicon c.in-Lexicon.grammar) c.print_report-in-Lexicon.result (g.K.Sink.faults c.args.out.now) (g.K.Sink.faults c.print_report-in-Lexicon.new.out) (g.K.Sink.held c.args.out.now) (g.K.Sink.held c.print_report-in-Lexicon.new.out) c.in-Lexicon.is (λ u. u) c.print_report-in-Lexicon.ensures.wrote
 
 pub returns-in-Lexicon-clause-read_fault : goal.returns-in-Lexicon-clause-read_fault
-returns-in-Lexicon-clause-read_fault g c failed = file_failed c.args.command.now (commands.Lexicon c.in-Lexicon.grammar) c.as_str-in-Lexicon.result.now (g.H.Shelf.faults c.args.shelf.now) (g.H.Shelf.faults c.print_lexicon.new.shelf) (g.S.Source.faults c.args.input.now) (g.S.Source.faults c.args.input.now) c.in-Lexicon.is c.as_str-in-Lexicon.ensures (c.print_lexicon.ensures.read_fault failed)
+returns-in-Lexicon-clause-read_fault g c failed = file_failed c.args.command.now (commands.Lexicon c.in-Lexicon.grammar) c.as_str-in-Lexicon.result.now (g.H.Shelf.faults c.args.shelf.now) (g.H.Shelf.faults c.print_report-in-Lexicon.new.shelf) (g.S.Source.faults c.args.input.now) (g.S.Source.faults c.args.input.now) c.in-Lexicon.is c.as_str-in-Lexicon.ensures (c.print_report-in-Lexicon.ensures.read_fault failed)
 
 pub returns-in-Lexicon-clause-all_read : goal.returns-in-Lexicon-clause-all_read
 returns-in-Lexicon-clause-all_read g c content reads done told = absurd (subst ReadsInput c.in-Lexicon.is reads)
 
 pub returns-in-Print-clause-leaves : goal.returns-in-Print-clause-leaves
 returns-in-Print-clause-leaves g c files content told given =
-    said_leaves files content c.args.command.now (commands.Print c.in-Print.grammar) c.print_grammar.result (g.K.Sink.held c.args.out.now) (g.K.Sink.held c.print_grammar.new.out) c.in-Print.is
-    (subst (λ n. Leaves (PrintOf n files) c.print_grammar.result (g.K.Sink.held c.args.out.now) (g.K.Sink.held c.print_grammar.new.out)) c.as_str-in-Print.ensures (c.print_grammar.ensures.leaves files told))
+    said_leaves files content c.args.command.now (commands.Print c.in-Print.grammar) c.print_report-in-Print.result (g.K.Sink.held c.args.out.now) (g.K.Sink.held c.print_report-in-Print.new.out) c.in-Print.is
+    (subst (λ n. Leaves (ReportOf reports.Print n files) c.print_report-in-Print.result (g.K.Sink.held c.args.out.now) (g.K.Sink.held c.print_report-in-Print.new.out)) c.as_str-in-Print.ensures (c.print_report-in-Print.ensures.leaves files told))
 
 pub returns-in-Print-clause-wrote : goal.returns-in-Print-clause-wrote
-returns-in-Print-clause-wrote g c = said_wrote c.args.command.now (commands.Print c.in-Print.grammar) c.print_grammar.result (g.K.Sink.faults c.args.out.now) (g.K.Sink.faults c.print_grammar.new.out) (g.K.Sink.held c.args.out.now) (g.K.Sink.held c.print_grammar.new.out) c.in-Print.is (λ u. u) c.print_grammar.ensures.wrote
+returns-in-Print-clause-wrote g c = said_wrote c.args.command.now (commands.Print c.in-Print.grammar) c.print_report-in-Print.result (g.K.Sink.faults c.args.out.now) (g.K.Sink.faults c.print_report-in-Print.new.out) (g.K.Sink.held c.args.out.now) (g.K.Sink.held c.print_report-in-Print.new.out) c.in-Print.is (λ u. u) c.print_report-in-Print.ensures.wrote
 
 pub returns-in-Print-clause-read_fault : goal.returns-in-Print-clause-read_fault
-returns-in-Print-clause-read_fault g c failed = file_failed c.args.command.now (commands.Print c.in-Print.grammar) c.as_str-in-Print.result.now (g.H.Shelf.faults c.args.shelf.now) (g.H.Shelf.faults c.print_grammar.new.shelf) (g.S.Source.faults c.args.input.now) (g.S.Source.faults c.args.input.now) c.in-Print.is c.as_str-in-Print.ensures (c.print_grammar.ensures.read_fault failed)
+returns-in-Print-clause-read_fault g c failed = file_failed c.args.command.now (commands.Print c.in-Print.grammar) c.as_str-in-Print.result.now (g.H.Shelf.faults c.args.shelf.now) (g.H.Shelf.faults c.print_report-in-Print.new.shelf) (g.S.Source.faults c.args.input.now) (g.S.Source.faults c.args.input.now) c.in-Print.is c.as_str-in-Print.ensures (c.print_report-in-Print.ensures.read_fault failed)
 
 pub returns-in-Print-clause-all_read : goal.returns-in-Print-clause-all_read
 returns-in-Print-clause-all_read g c content reads done told = absurd (subst ReadsInput c.in-Print.is reads)
