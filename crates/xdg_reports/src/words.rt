@@ -13,7 +13,7 @@ use xdg_text::write_constant;
 pub(crate) fn write_word<K: Sink>(word: &str, sink: &mut K) -> Result<(), Failed>
     ensures { WritesText result (K.held sink.old) (K.held sink.new) (K.faults sink.old) (K.faults sink.new) (behind word.now) }
 {
-    write_all(sink, b" ")?;
+    sink.keep(b' ')?;
     write_all(sink, word.as_bytes())
 }
 
@@ -21,7 +21,7 @@ pub(crate) fn write_word<K: Sink>(word: &str, sink: &mut K) -> Result<(), Failed
 pub(crate) fn write_constant_behind<K: Sink>(text: &str, sink: &mut K) -> Result<(), Failed>
     ensures { WritesText result (K.held sink.old) (K.held sink.new) (K.faults sink.old) (K.faults sink.new) (behind (constant text.now)) }
 {
-    write_all(sink, b" ")?;
+    sink.keep(b' ')?;
     write_constant(text, sink)
 }
 
