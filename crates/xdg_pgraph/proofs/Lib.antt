@@ -27,6 +27,7 @@ pub mod Told
 pub mod Skipped
 pub mod Needing
 pub mod Sources
+pub mod LabelCounts
 pub mod RootSets
 pub mod Resting
 pub mod Members

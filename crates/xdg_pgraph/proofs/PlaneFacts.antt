@@ -58,6 +58,7 @@ module _ (parts : Parts) (plan : DimPlan) (plane : Plane) (problem : IsProblem p
 
   pub plane_is : IsPlane parts plane
   plane_is = record {
+    dim_in = within;
     nodes_is = count;
     small = (let m = problem.most in omega (arith, m, count));
     labels_small = elim labels [

@@ -1,5 +1,5 @@
 -- The places of a dimension.
-use Rattle.std.specs.Prelude.{◌≡◌, ◌≢◌, ◌<◌, ◌≤◌, ◌↔◌, ℕ}
+use Rattle.std.specs.Prelude.{◌≡◌, ◌≢◌, ◌<◌, ◌≤◌, ◌↔◌, ℕ, length}
 use Rattle.xdg_problem.specs.declared.analysis.Edge.{Edge}
 use Rattle.xdg_problem.specs.declared.parts.Parts.{Parts}
 use Rattle.xdg_problem.specs.Places.{nodes}
@@ -17,6 +17,7 @@ pub record IsOnPlane (plane : Plane) (e : Edge) : Type 0 where
 
 -- the numbers of a dimension are those of its places
 pub record IsPlane (parts : Parts) (plane : Plane) : Type 0 where
+  pub dim_in : plane.dim.0 < length parts.dims
   pub nodes_is : plane.nodes ≡ nodes parts
   pub small : plane.nodes ≤ 128
   pub labels_small : plane.labels ≤ 32

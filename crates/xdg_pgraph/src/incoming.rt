@@ -1,69 +1,35 @@
 //! The edges that lead into nodes.
 
-ghost use Rattle.std.specs.Prelude.{◌≡◌, ◌<◌, ◌↔◌, ◌||◌, ◌&&◌, ℕ, true, IsTrue, List, not};
+ghost use Rattle.std.specs.Prelude.{◌≡◌, ◌<◌, ◌↔◌, ◌||◌, ◌&&◌, ℕ, true, IsTrue, not};
 ghost use Rattle.xdg_facts.specs.Rises.{has};
-ghost use Rattle.xdg_problem.specs.declared.analysis.Edge.{Edge as Arrow};
 ghost use Rattle.xdg_store.specs.States.{Known};
 ghost use Rattle.xdg_propcore.specs.Passes.{IsQuiet};
-ghost use Rattle.xdg_pgraph.specs.Incomings.{AreCounts, AreOf, AreOthers, AreSources, CountsSettle, HaveMothers, IsCount, LeadNowhere};
+ghost use Rattle.xdg_pgraph.specs.Incomings.{AreCounts, AreOf, CountsSettle, HaveLabels};
 ghost use Rattle.xdg_pgraph.specs.Musts.{IsSettled};
 ghost use Rattle.xdg_pgraph.specs.Planes.{IsPlane};
-ghost use Rattle.xdg_pgraph.specs.Seeking.{Into, Joins};
 
 use crate::entered::{Count, Entered, alone};
 use crate::plane::Plane;
 use xdg_base::NodeId;
 use xdg_nodeset::NodeSet;
 use xdg_propcore::{Moved, Pass};
-use xdg_store::Store;
+use xdg_store::{Labels, Store};
 
-/// The nodes from which edges lead into a node: one edge at least, and more than one.
-#[derive(Clone, Copy, Debug)]
-pub(crate) struct Sources {
-    pub some: NodeSet,
-    pub more: NodeSet,
-}
-
-impl Sources {
-    /// No edge leads into the node.
-    fn none() -> Sources
-        ensures { LeadNowhere result }
-    {
-        Sources {
-            some: NodeSet::empty(),
-            more: NodeSet::empty(),
-        }
+/// How many edges have these labels.
+fn count(labels: Labels) -> Count
+    ensures { HaveLabels labels result }
+{
+    if labels.some == 0 {
+        return Count::Nothing;
     }
-
-    /// With the mothers of the edges with a label more.
-    fn with(&self, mothers: &NodeSet) -> Sources
-        ensures some { (n : ℕ) → has result.some n ≡ (has self.now.some n || has mothers.now n) }
-        ensures more { (n : ℕ) → has result.more n ≡ (has self.now.more n || (has self.now.some n && has mothers.now n)) }
-    {
-        Sources {
-            some: self.some.union(mothers),
-            more: self.more.union(&self.some.meet(mothers)),
-        }
+    if labels.more != 0 {
+        return Count::More;
     }
-
-    /// How many edges lead from some nodes into a node.
-    fn count(&self, others: &NodeSet) -> Count
-        ensures { (edges : List Arrow) (daughter : ℕ) → HaveMothers edges daughter others.now
-            → AreSources (λ m. Joins edges m daughter) others.now self.now → IsCount (Into edges daughter) result }
-    {
-        let mothers = self.some.meet(others);
-        if mothers.len() == 0 {
-            return Count::Nothing;
-        }
-        if mothers.len() > 1 {
-            return Count::More;
-        }
-        let doubled = self.more.meet(others);
-        if doubled.len() == 0 {
-            return Count::One;
-        }
-        Count::More
+    let first = labels.some.trailing_zeros();
+    if labels.some & !(1 << first) != 0 {
+        return Count::More;
     }
+    Count::One
 }
 
 /// How many edges may lead into a node, and how many must.
@@ -73,23 +39,17 @@ pub(crate) struct Counts {
     pub must: Count,
 }
 
-/// How many edges lead into a node from the other nodes of the sentence.
-fn counts_at(store: &Store, plane: &Plane, others: &NodeSet, daughter: u8) -> Counts
+/// How many edges lead into a node.
+fn counts_at(store: &Store, plane: &Plane, daughter: u8) -> Counts
     requires plane { IsPlane store.now.parts plane.now }
     requires known { Known store.now }
-    requires others { AreOthers plane.now.nodes daughter others.now }
     requires daughter { daughter < plane.now.nodes }
     ensures { AreCounts store.now.parts store.now.now plane.now.dim.0 daughter result }
 {
-    let mut may = Sources::none();
-    let mut must = Sources::none();
-    for row in store.mothers_by_label(plane.dim, NodeId(daughter), plane.labels) {
-        may = may.with(&row.may);
-        must = must.with(&row.must);
-    }
+    let into = store.labels_into(plane.dim, NodeId(daughter));
     Counts {
-        may: may.count(others),
-        must: must.count(others),
+        may: count(into.may),
+        must: count(into.must),
     }
 }
 
@@ -107,12 +67,11 @@ impl Incoming {
         requires known { Known store.now }
         ensures { AreOf store.now.parts store.now.now plane.now.dim.0 result }
     {
-        let all = store.all_nodes();
         let mut may = Entered::nowhere();
         let mut must = Entered::nowhere();
         for daughter in 0..plane.nodes {
             let this = alone(daughter);
-            let here = counts_at(store, plane, &all.minus(&this), daughter);
+            let here = counts_at(store, plane, daughter);
             may = may.with(&this, here.may);
             must = must.with(&this, here.must);
         }
@@ -164,11 +123,9 @@ pub(crate) fn are_settled(store: &Store, plane: &Plane, nodes: NodeSet) -> bool
     requires known { Known store.now }
     ensures { IsTrue result → (n : ℕ) → n < plane.now.nodes → has nodes n ≡ true → IsSettled store.now.parts store.now.now plane.now.dim.0 n }
 {
-    let all = store.all_nodes();
-    let here = nodes.meet(&all);
+    let here = nodes.meet(&store.all_nodes());
     for node in here.iter() {
-        let others = all.minus(&alone(node.0));
-        if !counts_at(store, plane, &others, node.0).are_settled() {
+        if !counts_at(store, plane, node.0).are_settled() {
             return false;
         }
     }

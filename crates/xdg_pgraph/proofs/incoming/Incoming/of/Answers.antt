@@ -1,7 +1,6 @@
-use Rattle.std.proofs.Common.{◌∙◌, ap, sym, arith}
-use Rattle.std.specs.Prelude.{nat_lt}
+use Rattle.std.proofs.Common.{arith}
 use Rattle.xdg_pgraph.specs.declared.found.Which.TheVariants as whichs
-use Rattle.xdg_pgraph.proofs.Sources.{count_turn, others_are}
+use Rattle.xdg_pgraph.proofs.Sources.{count_turn}
 use Rattle.xdg_pgraph.proofs.Told.{all_end, all_start}
 use Rattle.xdg_pgraph.proofs.incoming.Incoming.of.Goals as goal
 
@@ -10,9 +9,6 @@ loop-daughter-init c = (
   all_start whichs.May c.args.store.now.parts c.args.store.now.now c.args.plane.now c.nowhere-may.result c.nowhere-may.ensures,
   all_start whichs.Must c.args.store.now.parts c.args.store.now.now c.args.plane.now c.nowhere-must.result c.nowhere-must.ensures,
 )
-
-pub counts_at-here-requires-clause-others : goal.counts_at-here-requires-clause-others
-counts_at-here-requires-clause-others c = others_are c.all_nodes-all.result c.alone-this.result c.minus.result c.args.plane.now.nodes c.loop-daughter.daughter (λ n. c.all_nodes-all.ensures.members n ∙ ap (nat_lt n) (sym c.requires.plane.nodes_is)) c.alone-this.ensures c.minus.ensures.members
 
 pub loop-daughter-preserved : goal.loop-daughter-preserved
 loop-daughter-preserved c = (

@@ -1,0 +1,123 @@
+-- How many edges lead into a node, by their labels.
+use Rattle.std.proofs.Common.{◌≡◌, ◌≢◌, ℕ, ◌<◌, ◌≤◌, ◌*◌, ◌%◌, ◌^◌, ◌↔◌, List, inl, inr, refl, sym, ◌∙◌, ap, ap₂, subst, arith}
+use lib.Bits.{bit_and}
+use Prim.Native.Nat.{min}
+use Rattle.std.specs.Prelude.{Contains}
+use Rattle.std.specs.Int.{bit_at, bit_not, trailing_zeros, w32}
+use Rattle.std.proofs.lemmas.Bool.{cases_eq, cases_lt}
+use Rattle.std.proofs.lemmas.Nat.{and_le_l}
+use Rattle.std.proofs.lemmas.Nat.Bits.{bit_at-lt, bit_at-trailing_zeros, bit_at-zero, bit_at_above, bit_at_and, bit_at_clear_other, bit_at_clear_same}
+use Rattle.xdg_problem.specs.declared.analysis.Edge.{Edge}
+use Rattle.xdg_problem.specs.declared.parts.Parts.{Parts}
+use Rattle.xdg_problem.specs.Analyses.{IsPlace}
+use Rattle.xdg_problem.specs.Places.{edge}
+use Rattle.xdg_problem.proofs.Edges.{edge_equal}
+use Rattle.xdg_problem.proofs.PlaceOrder.{is_place, place_is}
+use Rattle.xdg_rules.specs.Rules.{IsPlaceOn}
+use Rattle.xdg_store.specs.Labels.{AreLabels, LeadsInto}
+use Rattle.xdg_store.specs.declared.labels.Labels.{Labels}
+use Rattle.xdg_pgraph.specs.declared.entered.Count.{Count}
+use Rattle.xdg_pgraph.specs.declared.entered.Count.TheVariants as counts
+use Rattle.xdg_pgraph.specs.Incomings.{HaveLabels, IsCount}
+use Rattle.xdg_pgraph.specs.Seeking.{Into}
+
+-- ---- bits
+
+-- the lowest bit of a number that isn't 0
+pub lowest_bit : (n : ℕ) → (n ≡ 0 → ⊥) → n < 2 ^ 32 → (trailing_zeros w32 n < 32) × (bit_at n (trailing_zeros w32 n) ≡ 1)
+lowest_bit n some small = (let t = bit_at-trailing_zeros w32 n (elim (cases_eq n 0) [ inl none ↦ absurd (some none) | inr other ↦ omega (arith, other) ]) small in (t.0, t.1))
+
+of_both : (a b m : ℕ) → m ≡ min a b → m ≡ 1 → a < 2 → b < 2 → a ≡ 1
+of_both a b m e h x y = omega (arith, e, h, x, y)
+
+module _ (n first : ℕ) (small : n < 2 ^ 32) (within : first < 32) where
+  abbrev others : ℕ
+  others = bit_and n (bit_not w32 (1 * 2 ^ first % 2 ^ 32))
+
+  -- another bit than that
+  pub other_bit : (others ≡ 0 → ⊥) → (l : ℕ) × (l ≢ first) × (bit_at n l ≡ 1)
+  other_bit some =
+      let fewer : others ≤ n = and_le_l n (bit_not w32 (1 * 2 ^ first % 2 ^ 32)) in
+      let found = lowest_bit others some (omega (arith, fewer, small)) in
+      let l : ℕ = trailing_zeros w32 others in (
+        l,
+        λ same. (let gone : bit_at others first ≡ 0 = bit_at_clear_same w32 n first within in let here : bit_at others first ≡ 1 = subst (λ k. bit_at others k ≡ 1) same found.1 in omega (arith, gone, here)),
+        of_both (bit_at n l) (bit_at (bit_not w32 (1 * 2 ^ first % 2 ^ 32)) l) (bit_at others l) (bit_at_and n (bit_not w32 (1 * 2 ^ first % 2 ^ 32)) l) found.1 (bit_at-lt n l) (bit_at-lt (bit_not w32 (1 * 2 ^ first % 2 ^ 32)) l),
+      )
+
+  -- there is none
+  pub one_bit : others ≡ 0 → (l : ℕ) → l ≢ first → bit_at n l ≡ 1 → ⊥
+  one_bit none l other is = elim (cases_lt l 32) [
+    | inl low ↦ (let kept : bit_at others l ≡ bit_at n l = bit_at_clear_other w32 n first within l low other in let zero : bit_at others l ≡ 0 = ap (λ k. bit_at k l) none ∙ bit_at-zero l in omega (arith, kept, zero, is))
+    | inr high ↦ (let zero : bit_at n l ≡ 0 = bit_at_above n 32 l small high in omega (arith, zero, is))
+  ]
+
+-- ---- edges
+
+-- an edge of a dimension leads into a node, and something holds of it
+abbrev pub IsInto : Parts → (Edge → Type 0) → ℕ → ℕ → Edge → Type 0
+IsInto parts P dim w e = IsPlace parts e × (e.dim.0 ≡ dim) × (e.daughter.0 ≡ w) × P e
+
+module _ (parts : Parts) (P : Edge → Type 0) (dim w : ℕ) (labels : Labels) (are : AreLabels parts P dim w labels) where
+  abbrev Those : Edge → Type 0
+  Those = IsInto parts P dim w
+
+  those : (l m : ℕ) → LeadsInto parts P dim w l m → Those (edge dim m l w)
+  those l m leads = (leads.0, refl, refl, leads.1)
+
+  this : (e : Edge) → Those e → e ≡ edge dim e.mother.0 e.label.0 w
+  this e i = edge_equal e (edge dim e.mother.0 e.label.0 w) i.1 refl refl i.2
+
+  leads_in : (e : Edge) → Those e → LeadsInto parts P dim w e.label.0 e.mother.0
+  leads_in e i = (subst (IsPlace parts) (this e i) i.0, subst P (this e i) i.3)
+
+  marked : (e : Edge) → Those e → bit_at labels.some e.label.0 ≡ 1
+  marked e i = (are e.label.0).some.1 (e.mother.0, leads_in e i)
+
+  none_counted : labels.some ≡ 0 → IsCount Those counts.Nothing
+  none_counted none e i = (let here = marked e i in let zero : bit_at labels.some e.label.0 ≡ 0 = ap (λ n. bit_at n e.label.0) none ∙ bit_at-zero e.label.0 in omega (arith, here, zero))
+
+  -- two mothers
+  doubled_counted : (l : ℕ) → bit_at labels.more l ≡ 1 → IsCount Those counts.More
+  doubled_counted l h = (let x = (are l).more.0 h in (edge dim x.0 l w, edge dim x.1 l w, those l x.0 x.3, those l x.1 x.4, λ same. x.2 (ap (λ (e : Edge). e.mother.0) same)))
+
+  -- two labels
+  labels_counted : (l k : ℕ) → k ≢ l → bit_at labels.some l ≡ 1 → bit_at labels.some k ≡ 1 → IsCount Those counts.More
+  labels_counted l k differ h g =
+      let x = (are l).some.0 h in
+      let y = (are k).some.0 g in
+      (edge dim x.0 l w, edge dim y.0 k w, those l x.0 x.1, those k y.0 y.1, λ same. differ (sym (ap (λ (e : Edge). e.label.0) same)))
+
+  one_counted : (l : ℕ) → bit_at labels.some l ≡ 1 → ((k : ℕ) → k ≢ l → bit_at labels.some k ≡ 1 → ⊥) → labels.more ≡ 0 → IsCount Those counts.One
+  one_counted l h alone none = (let x = (are l).some.0 h in (edge dim x.0 l w, those l x.0 x.1, λ f i. only x.0 x.1 f i)) where
+    only : (m : ℕ) → LeadsInto parts P dim w l m → (f : Edge) → Those f → edge dim m l w ≡ f
+    only m leads f i =
+        let at : f.label.0 ≡ l = elim (cases_eq f.label.0 l) [ inl same ↦ same | inr other ↦ absurd (alone f.label.0 other (marked f i)) ] in
+        elim (cases_eq m f.mother.0) [
+          | inl same ↦ ap₂ (λ u k. edge dim u k w) same (sym at) ∙ sym (this f i)
+          | inr differ ↦ absurd (
+              let two : bit_at labels.more l ≡ 1 = (are l).more.1 (m, f.mother.0, differ, leads, subst (λ k. LeadsInto parts P dim w k f.mother.0) at (leads_in f i)) in
+              let zero : bit_at labels.more l ≡ 0 = ap (λ n. bit_at n l) none ∙ bit_at-zero l in
+              omega (arith, two, zero)
+              )
+        ]
+
+  edges_counted : (count : Count) → HaveLabels labels count → IsCount Those count
+  edges_counted counts.Nothing none = none_counted none
+  edges_counted counts.One one = one_counted one.0 one.1 one.2 one.3
+  edges_counted counts.More (inl twice) = doubled_counted twice.0 twice.1
+  edges_counted counts.More (inr two) = labels_counted two.0 two.1 two.2 two.3 two.4
+
+-- ---- edges of a list
+
+counted_like : (P Q : Edge → Type 0) (count : Count) → ((e : Edge) → P e → Q e) → ((e : Edge) → Q e → P e) → IsCount P count → IsCount Q count
+counted_like P Q counts.Nothing to from none = λ e q. none e (from e q)
+counted_like P Q counts.One to from one = (one.0, to one.0 one.1, λ f q. one.2 f (from f q))
+counted_like P Q counts.More to from more = (more.0, more.1, to more.0 more.2, to more.1 more.3, more.4)
+
+-- the edges of a list are those places of a dimension of which something holds
+pub into_counted : (edges : List Edge) (parts : Parts) (P : Edge → Type 0) (dim w : ℕ) (labels : Labels) (count : Count) → ((e : Edge) → Contains edges e ↔ (IsPlaceOn parts dim e × P e)) → AreLabels parts P dim w labels → HaveLabels labels count → IsCount (Into edges w) count
+into_counted edges parts P dim w labels count exact are have = counted_like (IsInto parts P dim w) (Into edges w) count
+    (λ e i. ((exact e).1 ((place_is parts e i.0, i.1), i.3), i.2))
+    (λ e x. (let both = (exact e).0 x.0 in (is_place parts e both.0.0, both.0.1, x.1, both.1)))
+    (edges_counted parts P dim w labels are count have)
