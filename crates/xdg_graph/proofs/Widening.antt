@@ -1,9 +1,10 @@
 -- The first sets of a table are widened, where the others are empty.
 use Rattle.std.proofs.Common.{◌≡◌, ℕ, ◌+◌, ◌<◌, ◌≤◌, ◌⊎◌, ◌↔◌, ◌||◌, inl, inr, true, false, List, [], length, get_or, sym, ◌∙◌, subst, arith}
 use Rattle.std.proofs.lemmas.Bool.{cases_eq, cases_lt, false≢true}
+use Rattle.std.specs.Prelude.{slice_set}
 use Rattle.xdg_nodeset.specs.Tables.{In, IsClosure}
 use Rattle.xdg_nodeset.proofs.Closures.{closure_more}
-use Rattle.xdg_nodeset.proofs.TableSets.{Widened, either, none_in, widened_start, widened_more}
+use Rattle.xdg_nodeset.proofs.TableSets.{Widened, either, extended_yes, none_in, widened_start, widened_more}
 use Rattle.xdg_graph.specs.Edges.{HasNoneFrom, IsLedTo}
 use Rattle.xdg_facts.specs.Rises.{has}
 
@@ -19,6 +20,24 @@ module _ (old now : List (List ℕ)) (size middle : ℕ) (rest : HasNoneFrom siz
         ))
   ]
 
+-- a set that hasn't the middle stays as it is
+pub widened_without : (old now : List (List ℕ)) (middle i : ℕ) → has (get_or now i []) middle ≡ false → Widened old now middle i → Widened old now middle (i + 1)
+widened_without old now middle i none w = record {
+  len = w.len;
+  done = λ a b m. elim (cases_eq a i) [
+    | inl s ↦ subst (λ z. In now z b ↔ (In old z b ⊎ (In old z middle × In old middle b))) (sym s)
+        (subst (λ z. In now i b ↔ ((has z b ≡ true) ⊎ ((has z middle ≡ true) × In old middle b))) (w.left i (omega arith))
+        (λ h. inl h, λ h. elim h [ inl o ↦ o | inr o ↦ absurd (false≢true (sym none ∙ o.0)) ]))
+    | inr other ↦ w.done a b (omega (arith, m, other))
+  ];
+  left = λ a m. w.left a (omega (arith, m));
+}
+
+-- to one that has it is added what lies beyond
+pub widened_with : (old now : List (List ℕ)) (middle i : ℕ) (beyond set : List ℕ) → i < length now → beyond ≡ get_or old middle [] → has (get_or now i []) middle ≡ true → ((b : ℕ) → has set b ≡ (has (get_or now i []) b || has beyond b)) → Widened old now middle i → Widened old (slice_set now i set) middle (i + 1)
+widened_with old now middle i beyond set l is with_it members w = widened_more old now middle i set l
+    (λ b. subst (λ z. (has set b ≡ true) ↔ ((has (get_or now i []) b ≡ true) ⊎ ((has (get_or now i []) middle ≡ true) × (has z b ≡ true)))) is (extended_yes (get_or now i []) beyond set middle b with_it (members b))) w
+
 -- where nothing lies beyond the middle all stays as it is
 pub widened_none : (table : List (List ℕ)) (middle : ℕ) (beyond : List ℕ) → beyond ≡ get_or table middle [] → length beyond ≡ 0 → (a b : ℕ) → In table a b ↔ (In table a b ⊎ (In table a middle × In table middle b))
 widened_none table middle beyond is none a b = (
@@ -27,7 +46,7 @@ widened_none table middle beyond is none a b = (
 )
 
 -- each turn over the nodes of a table
-pub ruleset widened_steps = (widened_start, widened_more, widened_rest, widened_none)
+pub ruleset widened_steps = (widened_start, widened_without, widened_with, widened_rest, widened_none)
 
 -- ---- nodes that no set has
 

@@ -12,7 +12,7 @@ use crate::tables::{note_daughters, set_at};
 use crate::upward::note_mothers;
 use crate::which::Which;
 use xdg_base::{DimId, NodeId};
-use xdg_nodeset::{NodeSet, extended};
+use xdg_nodeset::NodeSet;
 use xdg_store::Store;
 
 /// Adds to each of the first sets of a table that has the node in the middle what the table has for that node. The others are
@@ -31,7 +31,11 @@ fn widen(table: &mut [NodeSet; 128], size: u8, middle: u8)
     }
     for at in 0..size {
         let place = usize::from(at);
-        table[place] = extended(table[place], middle, beyond);
+        let set = table[place];
+        if !set.contains(NodeId(middle)) {
+            continue;
+        }
+        table[place] = set.union(&beyond);
     }
 }
 
