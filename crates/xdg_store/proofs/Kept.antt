@@ -1,11 +1,12 @@
 -- What a store keeps of edges by their daughters, over its calls.
 use Rattle.std.proofs.Common.{◌≡◌, ◌≢◌, ◌⊎◌, ℕ, ◌<◌, ◌≤◌, ◌+◌, ◌-◌, ◌*◌, ◌↔◌, inl, inr, Bool, false, not, IsTrue, List, [], length, get_or, set, drop, take, replicate, refl, ap, sym, ◌∙◌, arith, subst, zero, suc}
-use Rattle.std.specs.Prelude.{◌&&◌, ◌==◌, nat_lt, All, sum}
-use Rattle.std.proofs.lemmas.Bool.{and_from, and_parts, cases_eq, lt-ltb, ltb-true}
+use Rattle.std.specs.Prelude.{All, sum}
+use Rattle.std.proofs.lemmas.Bool.{cases_eq}
 use Rattle.std.proofs.lemmas.Nat.{row_fits}
-use Rattle.std.proofs.lemmas.List.{get_or_default, get_or-drop, get_or-replicate, get_or-set_other, get_or-take, length-drop, length-replicate, length-take-le}
+use Rattle.std.proofs.lemmas.List.{get_or_default, get_or-drop, get_or-set_other, get_or-set_same, get_or-take, length-drop, length-take-le}
 use Rattle.std.proofs.lemmas.Option.{slice_get-get_or}
 use Rattle.xdg_problem.specs.declared.analysis.Edge.{Edge}
+use Rattle.xdg_problem.specs.declared.parts.DimPlan.{DimPlan}
 use Rattle.xdg_problem.specs.declared.parts.Parts.{Parts}
 use Rattle.xdg_problem.specs.Analyses.{IsPlace}
 use Rattle.xdg_problem.specs.Arguments.{attr_count, no_plan}
@@ -14,10 +15,11 @@ use Rattle.xdg_problem.specs.Places.{edge, nodes, places}
 use Rattle.xdg_problem.specs.Problems.{IsDim, IsProblem}
 use Rattle.xdg_problem.specs.Vectors.{shape}
 use Rattle.xdg_problem.proofs.AttrPlaces.{attr_within}
+use Rattle.xdg_problem.proofs.BoxPlaces.{has_decision}
 use Rattle.xdg_problem.proofs.PlaceOrder.{place_is}
 use Rattle.xdg_problem.proofs.PlacePlans.{dim_within, plan_read}
 use Rattle.xdg_trail.specs.Trailed.{Trailed, past}
-use Rattle.xdg_store.specs.Across.{AreKept, AreMothers, Fits, FitsIn, IsKept, Renews, RenewsAll, edge_at, mothers_at, no_mothers, row_count}
+use Rattle.xdg_store.specs.Across.{AreFull, AreKept, AreMothers, Fits, FitsIn, Forbids, Forces, IsFull, IsKept, OnlyOthers, Renews, RenewsAll, edge_at, in_may, in_must, mothers_at, no_mothers, row_count}
 use Rattle.xdg_store.specs.Change.{Removes}
 use Rattle.xdg_store.specs.Decisions.{IsDecision, number_of}
 use Rattle.xdg_store.specs.InRange.{HasEdges}
@@ -29,8 +31,8 @@ use Rattle.xdg_store.specs.declared.change.Change.{Change}
 use Rattle.xdg_store.specs.declared.change.Change.TheVariants as changes
 use Rattle.xdg_store.specs.declared.decision.Decision.{Decision}
 use Rattle.xdg_store.specs.declared.decision.Decision.TheVariants as decisions
-use Rattle.xdg_store.proofs.Renewed.{kept_beside}
-use Rattle.xdg_store.proofs.Daughters.{without_mother}
+use Rattle.xdg_store.proofs.Renewed.{daughter_is, kept_beside}
+use Rattle.xdg_store.proofs.Boxed.{has_place}
 use Rattle.xdg_store.proofs.Histories.{cut_last, history_cut, history_length, known_of, seen}
 use Rattle.xdg_store.proofs.Located.{edge_located, place_found}
 use Rattle.xdg_store.proofs.Pairs.{IsPair, edge_is_pair, may_has, may_read, must_has, must_read}
@@ -61,28 +63,44 @@ on_edge parts (decisions.Place f) e p place is same = ap (λ g. decisions.Place 
 
 -- ---- an edge's place
 
-pub place_fits : (parts : Parts) (rows words : ℕ) (e : Edge) → IsProblem parts → IsPlace parts e → row_count parts ≤ rows → bit_count parts ≤ 64 * words → Fits (nodes parts) rows words e
-place_fits parts rows words e p is long wide =
-    let plan = subst IsDim (plan_read parts e is is.plan) (p.dims e.dim.0 is.plan (dim_within parts e is)) in
-    let few = plan.labels_most in
+pub few_labels : (parts : Parts) (e : Edge) → IsProblem parts → IsPlace parts e → e.label.0 < 32
+few_labels parts e p is =
+    let most = (subst IsDim (plan_read parts e is is.plan) (p.dims e.dim.0 is.plan (dim_within parts e is))).labels_most in
     let label = is.label in
-    let mother = is.mother in
+    omega (arith, most, label)
+
+pub place_fits : (parts : Parts) (rows : ℕ) (e : Edge) → IsProblem parts → IsPlace parts e → row_count parts ≤ rows → Fits (nodes parts) rows e
+place_fits parts rows e p is long =
+    let few = few_labels parts e p is in
     let daughter = is.daughter in
-    let most = p.most in
     let row = row_fits e.dim.0 (nodes parts) (length parts.dims) (nodes parts) (dim_within parts e is) (omega arith) in
-    let bit : edge_bit (nodes parts) e + 128 < bit_count parts = bit_in_range parts (edge_decision parts e) 1 _ p (edge_located parts p.candidates_each e is) (omega arith) in
     record {
-      label = omega (arith, few, label);
-      mother = omega (arith, mother, most);
+      label = few;
+      mother = is.mother;
       daughter = daughter;
-      row_in = omega (arith, row, daughter, few, label, long);
-      bits_in = omega (arith, bit, wide);
+      row_in = omega (arith, row, daughter, few, long);
     }
+
+bits_fit : (parts : Parts) (words : ℕ) (e : Edge) → IsProblem parts → IsPlace parts e → bit_count parts ≤ 64 * words → edge_bit (nodes parts) e + 128 < 64 * words
+bits_fit parts words e p is wide =
+    let bit : edge_bit (nodes parts) e + 128 < bit_count parts = bit_in_range parts (edge_decision parts e) 1 _ p (edge_located parts p.candidates_each e is) (omega arith) in
+    omega (arith, bit, wide)
 
 pub decision_fits : (parts : Parts) (decision : Decision) (rows words : ℕ) → IsProblem parts → IsDecision parts decision → row_count parts ≤ rows → bit_count parts ≤ 64 * words → FitsIn (nodes parts) rows words decision
 decision_fits parts (decisions.Entry node) rows words p is long wide = tt
 decision_fits parts (decisions.Attr dim node attr) rows words p is long wide = tt
-decision_fits parts (decisions.Place e) rows words p is long wide = place_fits parts rows words e p is long wide
+decision_fits parts (decisions.Place e) rows words p is long wide = (place_fits parts rows e p is long, bits_fit parts words e p is wide)
+
+-- the daughter of an edge has edges with its label
+pub place_has : (parts : Parts) (e : Edge) → IsPlace parts e → HasEdges parts e.dim.0 e.daughter.0 e.label.0
+place_has parts e is =
+    let read = plan_read parts e is no_plan in
+    record {
+      dim_in = dim_within parts e is;
+      graph = ap (λ (q : DimPlan). q.graph) read ∙ is.graph;
+      node_in = is.daughter;
+      label_in = subst (λ (q : DimPlan). e.label.0 < length q.labels) (sym read) is.label;
+    }
 
 -- those behind a mark
 pub all_decided : (parts : Parts) (t : Trailed) (removed : List Decision) (room mark : ℕ) → AreSteps parts (oldest (bits_of parts) (past t)) removed room → All (IsDecision parts) (drop mark removed)
@@ -121,23 +139,58 @@ module _ (parts : Parts) (p : IsProblem parts) where
   same_but changes.Changed t u turns d v r e n = ap (λ s. get_or s.now e []) r.2 ∙ get_or-set_other (box_in (bits_of parts) t.words) d e (set (get_or (box_in (bits_of parts) t.words) d []) v false) [] n
   same_but changes.Emptied t u turns d v r e n = ap (λ s. get_or s.now e []) r.2
 
+  -- of no edge
+  kept_like : (t u : List ℕ) (rows : List Mothers) → ((e : Edge) → get_or (box_in (bits_of parts) u) (edge_decision parts e) [] ≡ get_or (box_in (bits_of parts) t) (edge_decision parts e) []) → AreKept parts t rows → AreKept parts u rows
+  kept_like t u rows same kept = record { long = kept.long; each = λ e is. stays e t u rows is (same e) (kept.each e is) }
+
   -- of another decision than one on an edge
   pub kept_by_other : (change : Change) (t u : Trailed) (turns d v : ℕ) (rows : List Mothers) → Removes change (seen parts t turns) (seen parts u turns) d v → ((e : Edge) → edge_decision parts e ≢ d) → AreKept parts t.words rows → AreKept parts u.words rows
-  kept_by_other change t u turns d v rows r other kept = record {
-    long = kept.long;
-    each = λ e is. stays e t.words u.words rows is (same_but change t u turns d v r (edge_decision parts e) (other e)) (kept.each e is);
-  }
+  kept_by_other change t u turns d v rows r other = kept_like t.words u.words rows (λ e. same_but change t u turns d v r (edge_decision parts e) (other e))
 
   -- of one on an edge
-  pub kept_renewed : (change : Change) (t u : Trailed) (turns v : ℕ) (f : Edge) (rows more : List Mothers) → IsPlace parts f → bit_count parts ≤ 64 * length u.words → Removes change (seen parts t turns) (seen parts u turns) (edge_decision parts f) v → Renews (nodes parts) u.words f rows more → AreKept parts t.words rows → AreKept parts u.words more
-  kept_renewed change t u turns v f rows more at wide r renews kept = record {
-    long = (let l = kept.long in let c = renews.count in omega (arith, l, c));
-    each = λ e is. kept_beside (nodes parts) u.words e f rows more
-        (place_fits parts (length rows) (length u.words) e p is kept.long wide)
-        (place_fits parts (length rows) (length u.words) f p at kept.long wide)
-        renews
-        (λ differ. stays e t.words u.words rows is (same_but change t u turns (edge_decision parts f) v r (edge_decision parts e) (λ same. differ (same_place parts f e at is same))) (kept.each e is));
-  }
+  module _ (t u : Trailed) (turns : ℕ) (f : Edge) (rows more : List Mothers) (at : IsPlace parts f) (kept : AreKept parts t.words rows) where
+    kept_same : seen parts u turns ≡ seen parts t turns → more ≡ rows → AreKept parts u.words more
+    kept_same same stay = subst (AreKept parts u.words) (sym stay) (kept_like t.words u.words rows (λ e. ap (λ s. get_or s.now (edge_decision parts e) []) same) kept)
+
+    -- a value of its decision was taken
+    module _ (v : ℕ) (removes : Removes changes.Changed (seen parts t turns) (seen parts u turns) (edge_decision parts f) v) where
+      bits_now : get_or (box_in (bits_of parts) u.words) (edge_decision parts f) [] ≡ set (get_or (box_in (bits_of parts) t.words) (edge_decision parts f) []) v false
+      bits_now = ap (λ s. get_or s.now (edge_decision parts f) []) removes.2 ∙ get_or-set_same (box_in (bits_of parts) t.words) (edge_decision parts f) (set (get_or (box_in (bits_of parts) t.words) (edge_decision parts f) []) v false) [] (has_decision (box_in (bits_of parts) t.words) (edge_decision parts f) v removes.0)
+
+      taken : get_or (get_or (box_in (bits_of parts) u.words) (edge_decision parts f) []) v false ≡ false
+      taken = ap (λ row. get_or row v false) bits_now ∙ get_or-set_same (get_or (box_in (bits_of parts) t.words) (edge_decision parts f) []) v false false (has_place _ v removes.0)
+
+      left : (w : ℕ) → w ≢ v → get_or (get_or (box_in (bits_of parts) t.words) (edge_decision parts f) []) w false ≡ get_or (get_or (box_in (bits_of parts) u.words) (edge_decision parts f) []) w false
+      left w other = sym (ap (λ row. get_or row w false) bits_now ∙ get_or-set_other (get_or (box_in (bits_of parts) t.words) (edge_decision parts f) []) v w false false other)
+
+      kept_changed : (possible certain : Bool) → Renews (nodes parts) f possible certain rows more → IsKept (nodes parts) u.words more f → AreKept parts u.words more
+      kept_changed possible certain renews here = record {
+        long = (let l = kept.long in let c = renews.count in omega (arith, l, c));
+        each = λ e is. kept_beside (nodes parts) u.words e f possible certain rows more
+            (place_fits parts (length rows) e p is kept.long)
+            (place_fits parts (length rows) f p at kept.long)
+            renews here
+            (λ differ. stays e t.words u.words rows is (same_but changes.Changed t u turns (edge_decision parts f) v removes (edge_decision parts e) (λ same. differ (same_place parts f e at is same))) (kept.each e is));
+      }
+
+    abbrev bit : ℕ
+    bit = edge_bit (nodes parts) f
+
+    pub kept_forced : (change : Change) → Removes change (seen parts t turns) (seen parts u turns) (edge_decision parts f) 1 → Forces change (nodes parts) f rows more → AreKept parts u.words more
+    kept_forced changes.Same (gone, same) stay = kept_same same stay
+    kept_forced changes.Changed removes renews = kept_changed 1 removes _ _ renews (record {
+      may = renews.may.here ∙ (kept.each f at).may ∙ sym (may_read parts f bit t.words (pair f at)) ∙ left 1 removes 0 (λ s. omega (arith, s)) ∙ may_read parts f bit u.words (pair f at);
+      must = renews.must.here ∙ ap not (sym (taken 1 removes) ∙ must_read parts f bit u.words (pair f at));
+    })
+    kept_forced changes.Emptied (has_it, only, same) stay = kept_same same stay
+
+    pub kept_forbidden : (change : Change) → Removes change (seen parts t turns) (seen parts u turns) (edge_decision parts f) 0 → Forbids change (nodes parts) f rows more → AreKept parts u.words more
+    kept_forbidden changes.Same (gone, same) stay = kept_same same stay
+    kept_forbidden changes.Changed removes renews = kept_changed 0 removes _ _ renews (record {
+      may = renews.may.here ∙ sym (taken 0 removes) ∙ may_read parts f bit u.words (pair f at);
+      must = renews.must.here ∙ (kept.each f at).must ∙ ap not (sym (must_read parts f bit t.words (pair f at)) ∙ left 0 removes 1 (λ s. omega (arith, s)) ∙ must_read parts f bit u.words (pair f at));
+    })
+    kept_forbidden changes.Emptied (has_it, only, same) stay = kept_same same stay
 
   -- ---- going back
 
@@ -172,7 +225,7 @@ module _ (parts : Parts) (p : IsProblem parts) where
       let now_is : get_or history (mark + (length removed - mark)) [] ≡ box_in (bits_of parts) t.words = ap (λ i. get_or history i []) (sym end) ∙ now.last in
       record {
         long = (let a = kept.long in let b = renews.count in omega (arith, a, b));
-        each = λ e is. renews.each e (place_fits parts (length rows) (length u.words) e p is kept.long keeps.long) (elim (same_or_named history removed steps.each mark (edge_decision parts e) default (length removed - mark) (omega (arith, c, long, l))) [
+        each = λ e is. renews.each e (place_fits parts (length rows) e p is kept.long) (elim (same_or_named history removed steps.each mark (edge_decision parts e) default (length removed - mark) (omega (arith, c, long, l))) [
           | inl same ↦ inl (stays e t.words u.words rows is (ap (λ b. get_or b (edge_decision parts e) []) then_is ∙ sym same ∙ ap (λ b. get_or b (edge_decision parts e) []) now_is) (kept.each e is))
           | inr (k, w, number) ↦
               let within : mark + k < length removed = omega (arith, w) in
@@ -182,27 +235,7 @@ module _ (parts : Parts) (p : IsProblem parts) where
         ]);
       }
 
-  -- ---- the start
-
-  abbrev pub first_row : List ℕ → List ℕ → Mothers
-  first_row all none = record { may = all; must = none }
-
-  pub kept_start : (count size : ℕ) (words all none : List ℕ) (rows : List Mothers) → bit_count parts ≤ 64 * count → row_count parts ≤ size → words ≡ replicate count 18446744073709551615 → rows ≡ replicate size (first_row all none) → none ≡ [] → ((node : ℕ) → has all node ≡ nat_lt node (nodes parts)) → AreKept parts words rows
-  kept_start count size words all none rows wide long words_are rows_are none_is whole =
-      let rows_size : length rows ≡ size = ap length rows_are ∙ length-replicate size (first_row all none) in
-      record {
-        long = omega (arith, long, rows_size);
-        each = λ e is.
-            let fits = place_fits parts size count e p is long wide in
-            let bit = fits.bits_in in
-            let there : get_or rows (edge_at (nodes parts) e) no_mothers ≡ first_row all none = ap (λ (z : List Mothers). get_or z (edge_at (nodes parts) e) no_mothers) rows_are ∙ get_or-replicate size (edge_at (nodes parts) e) (first_row all none) no_mothers fits.row_in in
-            record {
-              may = ap (λ (r : Mothers). has r.may e.mother.0) there ∙ whole e.mother.0 ∙ lt-ltb e.mother.0 (nodes parts) is.mother ∙ sym (ones_set count (edge_bit (nodes parts) e) words words_are (omega (arith, bit)));
-              must = ap (λ (r : Mothers). has r.must e.mother.0) there ∙ ap (λ z. has z e.mother.0) none_is ∙ sym (ap not (ones_set count (edge_bit (nodes parts) e + 128) words words_are bit));
-            };
-      }
-
-  -- ---- the mothers of a daughter as a set
+  -- ---- where a daughter's mothers stand
 
   into_is_place : (dim node label daughter : ℕ) → HasEdges parts dim daughter label → node < nodes parts → node ≢ daughter → IsPlace parts (edge dim node label daughter)
   into_is_place dim node label daughter h l n = record {
@@ -215,48 +248,76 @@ module _ (parts : Parts) (p : IsProblem parts) where
     differ = n;
   }
 
-  -- where a daughter's mothers stand
-  pub row_within : (rows : ℕ) (dim daughter label n place : ℕ) → HasEdges parts dim daughter label → n ≡ nodes parts → place ≡ mothers_at n dim daughter label → row_count parts ≤ rows → place < rows
-  row_within rows dim daughter label n place h m at long =
+  label_small : (dim daughter label : ℕ) → HasEdges parts dim daughter label → label < 32
+  label_small dim daughter label h =
       let few = (p.dims dim no_plan h.dim_in).labels_most in
       let label_in = h.label_in in
+      omega (arith, few, label_in)
+
+  pub row_within : (rows : ℕ) (dim daughter label n place : ℕ) → HasEdges parts dim daughter label → n ≡ nodes parts → place ≡ mothers_at n dim daughter label → row_count parts ≤ rows → place < rows
+  row_within rows dim daughter label n place h m at long =
+      let few = label_small dim daughter label h in
       let daughter_in = h.node_in in
       let row = row_fits dim (nodes parts) (length parts.dims) (nodes parts) h.dim_in (omega arith) in
       let is : place ≡ mothers_at (nodes parts) dim daughter label = at ∙ ap (λ i. mothers_at i dim daughter label) m in
-      omega (arith, few, label_in, daughter_in, row, is, long)
+      omega (arith, few, daughter_in, row, is, long)
 
-  -- a set of nodes of the sentence, without the daughter
-  mothers_exact : (all got met set : List ℕ) (daughter node : ℕ) (P : Type 0) → ((k : ℕ) → has all k ≡ nat_lt k (nodes parts)) → ((k : ℕ) → has met k ≡ (has got k && has all k)) → ((k : ℕ) → has set k ≡ (not (k == daughter) && has met k)) → (node < nodes parts → node ≢ daughter → IsTrue (has got node) ↔ P) → IsTrue (has set node) ↔ ((node < nodes parts) × (node ≢ daughter) × P)
-  mothers_exact all got met set daughter node P whole both taken reads =
-      let w = without_mother met set daughter node taken in (
+  -- ---- the start
+
+  pub full_at : (rows : List Mothers) (dim daughter label : ℕ) → HasEdges parts dim daughter label → AreFull rows (nodes parts) → row_count parts ≤ length rows → IsFull (nodes parts) daughter (get_or rows (mothers_at (nodes parts) dim daughter label) no_mothers)
+  full_at rows dim daughter label h full long =
+      let place = mothers_at (nodes parts) dim daughter label in
+      subst (λ d. IsFull (nodes parts) d (get_or rows place no_mothers)) (daughter_is (nodes parts) dim daughter label h.node_in (label_small dim daughter label h)) (full place (row_within (length rows) dim daughter label (nodes parts) place h refl refl long))
+
+  pub kept_start : (count : ℕ) (words : List ℕ) (rows : List Mothers) → bit_count parts ≤ 64 * count → row_count parts ≤ length rows → words ≡ replicate count 18446744073709551615 → AreFull rows (nodes parts) → AreKept parts words rows
+  kept_start count words rows wide long words_are full = record {
+    long = long;
+    each = λ e is.
+        let bit = bits_fit parts count e p is wide in
+        let row = full_at rows e.dim.0 e.daughter.0 e.label.0 (place_has parts e is) full long in
+        record {
+          may = (row.may e.mother.0).1 (is.mother, is.differ) ∙ sym (ones_set count (edge_bit (nodes parts) e) words words_are (omega (arith, bit)));
+          must = ap (λ z. has z e.mother.0) row.must ∙ sym (ap not (ones_set count (edge_bit (nodes parts) e + 128) words words_are bit));
+        };
+  }
+
+  -- ---- the mothers of a daughter as a set
+
+  module _ (words : List ℕ) (rows : List Mothers) (kept : AreKept parts words rows) where
+    pub may_says : (e : Edge) → IsPlace parts e → IsTrue (in_may rows (edge_at (nodes parts) e) e.mother.0) ↔ May parts (box_in (bits_of parts) words) e
+    may_says e is = may_has parts e (edge_bit (nodes parts) e) words (in_may rows (edge_at (nodes parts) e) e.mother.0) (pair e is) (kept.each e is).may
+
+    pub must_says : (e : Edge) → IsPlace parts e → IsTrue (in_must rows (edge_at (nodes parts) e) e.mother.0) ↔ Must parts (box_in (bits_of parts) words) e
+    must_says e is =
+        let k = (kept.each e is).must in
+        let w = must_has parts e (edge_bit (nodes parts) e) words (is_set words (edge_bit (nodes parts) e + 128)) (pair e is) refl in
+        (λ i. w.0 (sym k ∙ i), λ i. k ∙ w.1 i)
+
+    module _ (dim daughter label : ℕ) (h : HasEdges parts dim daughter label) (row : Mothers) (there : get_or rows (mothers_at (nodes parts) dim daughter label) no_mothers ≡ row) (node : ℕ) where
+      -- for the edges that may be present, and for those that must be
+      exact : (look : Mothers → List ℕ) (P : Edge → Type 0) → OnlyOthers (λ xs i m. has (look (get_or xs i no_mothers)) m) (nodes parts) rows → (IsPlace parts (edge dim node label daughter) → IsTrue (has (look (get_or rows (mothers_at (nodes parts) dim daughter label) no_mothers)) node) ↔ P (edge dim node label daughter)) → IsTrue (has (look row) node) ↔ ((node < nodes parts) × (node ≢ daughter) × P (edge dim node label daughter))
+      exact look P only says = (
         λ i.
-            let q = w.0 i in
-            let b = and_parts (has got node) (has all node) (sym (both node) ∙ q.1) in
-            let l = ltb-true node (nodes parts) (sym (whole node) ∙ b.1) in
-            let d : node ≢ daughter = λ s. q.0 (sym s) in
-            (l, d, (reads l d).0 b.0),
-        λ (l, d, holds). w.1 ((λ s. d (sym s)), both node ∙ and_from (has got node) (has all node) ((reads l d).1 holds) (whole node ∙ lt-ltb node (nodes parts) l)),
+            let j = ap (λ r. has (look r) node) there ∙ i in
+            let o = only (mothers_at (nodes parts) dim daughter label) node j in
+            let differ : node ≢ daughter = λ s. o.1 (s ∙ sym (daughter_is (nodes parts) dim daughter label h.node_in (label_small dim daughter label h))) in
+            (o.0, differ, (says (into_is_place dim node label daughter h o.0 differ)).0 j),
+        λ (l, d, holds). ap (λ r. has (look r) node) (sym there) ∙ (says (into_is_place dim node label daughter h l d)).1 holds,
       )
 
-  module _ (words : List ℕ) (rows : List Mothers) (kept : AreKept parts words rows) (n dim daughter label place : ℕ) (h : HasEdges parts dim daughter label) (m : n ≡ nodes parts) (at : place ≡ mothers_at n dim daughter label) (row : Mothers) (row_is : row ≡ get_or rows place row) (all met set : List ℕ) (whole : (k : ℕ) → has all k ≡ nat_lt k (nodes parts)) (taken : (k : ℕ) → has set k ≡ (not (k == daughter) && has met k)) (node : ℕ) where
-    there : get_or rows (mothers_at (nodes parts) dim daughter label) no_mothers ≡ row
-    there =
+      pub may_exact : OnlyOthers in_may (nodes parts) rows → IsTrue (has row.may node) ↔ ((node < nodes parts) × (node ≢ daughter) × May parts (box_in (bits_of parts) words) (edge dim node label daughter))
+      may_exact only = exact (λ r. r.may) (May parts (box_in (bits_of parts) words)) only (may_says (edge dim node label daughter))
+
+      pub must_exact : OnlyOthers in_must (nodes parts) rows → IsTrue (has row.must node) ↔ ((node < nodes parts) × (node ≢ daughter) × Must parts (box_in (bits_of parts) words) (edge dim node label daughter))
+      must_exact only = exact (λ r. r.must) (Must parts (box_in (bits_of parts) words)) only (must_says (edge dim node label daughter))
+
+    -- the row that is read
+    pub row_read : (n dim daughter label place : ℕ) → HasEdges parts dim daughter label → n ≡ nodes parts → place ≡ mothers_at n dim daughter label → (row : Mothers) → row ≡ get_or rows place row → get_or rows (mothers_at (nodes parts) dim daughter label) no_mothers ≡ row
+    row_read n dim daughter label place h m at row row_is =
         ap (λ i. get_or rows (mothers_at i dim daughter label) no_mothers) (sym m)
         ∙ ap (λ i. get_or rows i no_mothers) (sym at)
         ∙ get_or_default rows place no_mothers row (row_within (length rows) dim daughter label n place h m at kept.long)
         ∙ sym row_is
-
-    pub mothers_may_exact : ((k : ℕ) → has met k ≡ (has row.may k && has all k)) → IsTrue (has set node) ↔ ((node < nodes parts) × (node ≢ daughter) × May parts (box_in (bits_of parts) words) (edge dim node label daughter))
-    mothers_may_exact both = mothers_exact all row.may met set daughter node (May parts (box_in (bits_of parts) words) (edge dim node label daughter)) whole both taken
-        (λ l d. (let e = edge dim node label daughter in let is = into_is_place dim node label daughter h l d in
-        may_has parts e (edge_bit (nodes parts) e) words (has row.may node) (pair e is) (ap (λ (r : Mothers). has r.may node) (sym there) ∙ (kept.each e is).may)))
-
-    pub mothers_must_exact : ((k : ℕ) → has met k ≡ (has row.must k && has all k)) → IsTrue (has set node) ↔ ((node < nodes parts) × (node ≢ daughter) × Must parts (box_in (bits_of parts) words) (edge dim node label daughter))
-    mothers_must_exact both = mothers_exact all row.must met set daughter node (Must parts (box_in (bits_of parts) words) (edge dim node label daughter)) whole both taken
-        (λ l d. (let e = edge dim node label daughter in let is = into_is_place dim node label daughter h l d in
-        let says : has row.must node ≡ not (is_set words (edge_bit (nodes parts) e + 128)) = ap (λ (r : Mothers). has r.must node) (sym there) ∙ (kept.each e is).must in
-        let w = must_has parts e (edge_bit (nodes parts) e) words (is_set words (edge_bit (nodes parts) e + 128)) (pair e is) refl in
-        (λ i. w.0 (sym says ∙ i), λ i. says ∙ w.1 i)))
 
   -- ---- the mothers of a daughter by label
 
@@ -267,7 +328,7 @@ module _ (parts : Parts) (p : IsProblem parts) where
       let e : first + labels ≡ mothers_at n dim daughter (labels - 1) + 1 = omega (arith, at, some) in
       omega (arith, last, e)
 
-  module _ (words : List ℕ) (rows : List Mothers) (kept : AreKept parts words rows) (n dim daughter labels first : ℕ) (some : 0 < labels) (h : (label : ℕ) → label < labels → HasEdges parts dim daughter label) (m : n ≡ nodes parts) (at : first ≡ mothers_at n dim daughter 0) (part : List Mothers) (part_is : part ≡ take labels (drop first rows)) where
+  module _ (words : List ℕ) (rows : List Mothers) (kept : AreKept parts words rows) (may_only : OnlyOthers in_may (nodes parts) rows) (must_only : OnlyOthers in_must (nodes parts) rows) (n dim daughter labels first : ℕ) (some : 0 < labels) (h : (label : ℕ) → label < labels → HasEdges parts dim daughter label) (m : n ≡ nodes parts) (at : first ≡ mothers_at n dim daughter 0) (part : List Mothers) (part_is : part ≡ take labels (drop first rows)) where
     row_there : (label : ℕ) → label < labels → get_or part label no_mothers ≡ get_or rows (mothers_at (nodes parts) dim daughter label) no_mothers
     row_there label l =
         let place : first + label ≡ mothers_at n dim daughter label = omega (arith, at) in
@@ -283,14 +344,6 @@ module _ (parts : Parts) (p : IsProblem parts) where
         let behind = length-drop first rows in
         record {
           count = ap length part_is ∙ length-take-le labels (drop first rows) (omega (arith, within, behind));
-          may = λ mother label l d i.
-              let e = edge dim mother label daughter in
-              let is = into_is_place dim mother label daughter (h label i) l d in
-              may_has parts e (edge_bit (nodes parts) e) words (has (get_or part label no_mothers).may mother) (pair e is) (ap (λ (r : Mothers). has r.may mother) (row_there label i) ∙ (kept.each e is).may);
-          must = λ mother label l d i.
-              let e = edge dim mother label daughter in
-              let is = into_is_place dim mother label daughter (h label i) l d in
-              let says : has (get_or part label no_mothers).must mother ≡ not (is_set words (edge_bit (nodes parts) e + 128)) = ap (λ (r : Mothers). has r.must mother) (row_there label i) ∙ (kept.each e is).must in
-              let w = must_has parts e (edge_bit (nodes parts) e) words (is_set words (edge_bit (nodes parts) e + 128)) (pair e is) refl in
-              (λ i. w.0 (sym says ∙ i), λ i. says ∙ w.1 i);
+          may = λ mother label i. may_exact words rows kept dim daughter label (h label i) (get_or part label no_mothers) (sym (row_there label i)) mother may_only;
+          must = λ mother label i. must_exact words rows kept dim daughter label (h label i) (get_or part label no_mothers) (sym (row_there label i)) mother must_only;
         }

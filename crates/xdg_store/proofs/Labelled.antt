@@ -1,9 +1,9 @@
 -- The bits of labels.
-use Rattle.std.proofs.Common.{◌≡◌, ◌≢◌, ℕ, ◌<◌, ◌≤◌, ◌+◌, ◌-◌, ◌*◌, ◌%◌, ◌^◌, ◌↔◌, ◌⊎◌, inl, inr, Bool, true, false, not, IsTrue, List, [], ◌∷◌, length, get_or, set, refl, ap, sym, ◌∙◌, arith}
-use Rattle.std.specs.Prelude.{◌&&◌, ◌==◌, nat_lt}
+use Rattle.std.proofs.Common.{◌≡◌, ◌≢◌, ℕ, ◌<◌, ◌≤◌, ◌-◌, ◌*◌, ◌%◌, ◌^◌, ◌↔◌, ◌⊎◌, inl, inr, Bool, true, false, IsTrue, List, [], ◌∷◌, length, get_or, set, refl, ap, sym, ◌∙◌, arith}
+use Rattle.std.specs.Prelude.{◌==◌, nat_lt}
 use Rattle.std.specs.Int.{bit_at, bit_not, w32}
 use lib.Bits.{bit_and, bit_or}
-use Rattle.std.proofs.lemmas.Bool.{and_from, and_parts, cases_eq, cases_lt, eq-eqb, eqb-false, eqb-true, false≢true, lt-ltb, ltb-true, ne_eqb, not-true}
+use Rattle.std.proofs.lemmas.Bool.{cases_eq, cases_lt, eq-eqb, eqb-true, false≢true, lt-ltb, ltb-true}
 use Rattle.std.proofs.lemmas.List.{get_or_default, get_or-set_other, get_or-set_same, length-set}
 use Rattle.std.proofs.lemmas.Nat.{one_shl}
 use Rattle.std.proofs.lemmas.Nat.Bits.{bit_at_above, bit_at_and, bit_at_clear_other, bit_at_clear_same, bit_at_ones, bit_at_ones_above, bit_at_set_same}
@@ -11,9 +11,8 @@ use Rattle.xdg_facts.proofs.Truths.{either_true, or_false, or_here}
 use Rattle.xdg_facts.specs.Rises.{has, Rises}
 use Rattle.xdg_nodeset.specs.Nodes.{IsNodes}
 use Rattle.xdg_problem.specs.declared.analysis.Edge.{Edge}
-use Rattle.xdg_store.specs.Across.{Renews, edge_at, no_mothers}
+use Rattle.xdg_store.specs.Across.{Renews, Sets, edge_at, no_mothers}
 use Rattle.xdg_store.specs.Labels.{IsLabelled, IsMore, IsSome, Marks, Relabels, RenewsSide, SaysAgain, at_place, labels_at, no_labels}
-use Rattle.xdg_store.specs.Layout.{edge_bit, is_set}
 use Rattle.xdg_store.specs.declared.across.Mothers.{Mothers}
 use Rattle.xdg_store.specs.declared.labels.Labels.{Labels}
 use Rattle.xdg_store.specs.declared.labels.LabelsInto.{LabelsInto}
@@ -130,37 +129,21 @@ marks_like P Q label old old' new new' was now same marks = record {
   more_others = λ l other. ap (λ (z : Labels). bit_at z.more l) (sym now) ∙ marks.more_others l other ∙ ap (λ (z : Labels). bit_at z.more l) was;
 }
 
--- a set of other nodes of the sentence
-other_mothers : (daughter : ℕ) (all set mothers : List ℕ) → ((k : ℕ) → has mothers k ≡ (not (k == daughter) && (has set k && has all k))) → (m : ℕ) → IsTrue (has mothers m) ↔ (IsTrue (has all m) × (m ≢ daughter) × IsTrue (has set m))
-other_mothers daughter all set mothers taken m = (
-  λ h.
-      let q = and_parts (not (m == daughter)) (has set m && has all m) (sym (taken m) ∙ h) in
-      let b = and_parts (has set m) (has all m) q.1 in
-      (b.1, eqb-false m daughter (not-true (m == daughter) q.0), b.0),
-  λ (a, d, h). taken m ∙ and_from (not (m == daughter)) (has set m && has all m) (ap not (ne_eqb m daughter d)) (and_from (has set m) (has all m) h a),
-)
-
-pub side_changed : (all : List ℕ) (e : Edge) (wanted : Bool) (old new mothers : List ℕ) (before after : Labels) → has new e.mother.0 ≡ wanted → ((m : ℕ) → m ≢ e.mother.0 → has new m ≡ has old m) → ((k : ℕ) → has mothers k ≡ (not (k == e.daughter.0) && (has new k && has all k))) → Marks (λ m. IsTrue (has mothers m)) e.label.0 before after → RenewsSide all e wanted old new before after
-side_changed all e wanted old new mothers before after here others taken marks = record {
-  here = here;
-  others = others;
-  labels = inr (marks_like (λ m. IsTrue (has mothers m)) _ e.label.0 before before after after refl refl (other_mothers e.daughter.0 all new mothers taken) marks);
-}
+-- one that isn't looked at
+pub side_stays : (e : Edge) (wanted : Bool) (set : List ℕ) (labels : Labels) → has set e.mother.0 ≡ wanted → RenewsSide e wanted set set labels labels
+side_stays e wanted set labels is = record { here = is; others = λ m other. refl; labels = inl (refl, refl) }
 
 -- ---- both sides
 
-module _ (n : ℕ) (words all : List ℕ) (whole : (k : ℕ) → has all k ≡ nat_lt k n) (e : Edge) (may must : Bool) (may_is : may ≡ is_set words (edge_bit n e)) (must_is : must ≡ not (is_set words (edge_bit n e + 128))) (rows : List Mothers) (row row' : Mothers) (place : ℕ) (place_is : place ≡ edge_at n e) (within : place < length rows) (row_is : row ≡ get_or rows place row) where
-  was_row : get_or rows (edge_at n e) no_mothers ≡ row
+module _ (n : ℕ) (e : Edge) (rows : List Mothers) (row row' : Mothers) (place : ℕ) (place_is : place ≡ edge_at n e) (within : place < length rows) (row_is : row ≡ get_or rows place row) where
+  pub was_row : get_or rows (edge_at n e) no_mothers ≡ row
   was_row = sym (row_is ∙ get_or_default rows place row no_mothers within ∙ ap (λ i. get_or rows i no_mothers) place_is)
 
   now_row : get_or (set rows place row') (edge_at n e) no_mothers ≡ row'
   now_row = ap (λ i. get_or (set rows place row') i no_mothers) (sym place_is) ∙ get_or-set_same rows place row' no_mothers within
 
   -- for the edges that may be present, and for those that must be
-  module _ (look : Mothers → List ℕ) (wanted : Bool) (before after : Labels) (side : RenewsSide all e wanted (look row) (look row') before after) where
-    side_kept : has (look (get_or (set rows place row') (edge_at n e) no_mothers)) e.mother.0 ≡ wanted
-    side_kept = ap (λ r. has (look r) e.mother.0) now_row ∙ side.here
-
+  module _ (look : Mothers → List ℕ) (wanted : Bool) (before after : Labels) (side : RenewsSide e wanted (look row) (look row') before after) where
     side_others : (i m : ℕ) → (i ≢ edge_at n e) ⊎ (m ≢ e.mother.0) → has (look (get_or (set rows place row') i no_mothers)) m ≡ has (look (get_or rows i no_mothers)) m
     side_others i m w = elim (cases_eq i (edge_at n e)) [
       | inl here ↦ elim w [
@@ -175,25 +158,24 @@ module _ (n : ℕ) (words all : List ℕ) (whole : (k : ℕ) → has all k ≡ n
       | inr elsewhere ↦ ap (λ r. has (look r) m) (get_or-set_other rows place i row' no_mothers (λ s. elsewhere (s ∙ place_is)))
     ]
 
-    mother_in : (m : ℕ) → (IsTrue (has all m) × (m ≢ e.daughter.0) × IsTrue (has (look row') m)) ↔ ((m < n) × (m ≢ e.daughter.0) × IsTrue (has (look (get_or (set rows place row') (edge_at n e) no_mothers)) m))
-    mother_in m = (
-      λ (a, d, h). (ltb-true m n (sym (whole m) ∙ a), d, ap (λ r. has (look r) m) now_row ∙ h),
-      λ (l, d, h). (whole m ∙ lt-ltb m n l, d, ap (λ r. has (look r) m) (sym now_row) ∙ h),
-    )
+    side_sets : Sets (λ xs i m. has (look (get_or xs i no_mothers)) m) n e wanted rows (set rows place row')
+    side_sets = record { here = ap (λ r. has (look r) e.mother.0) now_row ∙ side.here; others = side_others }
 
-    pub side_says : (was now : Labels) → before ≡ was → after ≡ now → SaysAgain (λ xs i m. has (look (get_or xs i no_mothers)) m) n e rows (set rows place row') was now
+    mother_in : (m : ℕ) → IsTrue (has (look row') m) ↔ IsTrue (has (look (get_or (set rows place row') (edge_at n e) no_mothers)) m)
+    mother_in m = (λ h. ap (λ r. has (look r) m) now_row ∙ h, λ h. ap (λ r. has (look r) m) (sym now_row) ∙ h)
+
+    side_says : (was now : Labels) → before ≡ was → after ≡ now → SaysAgain (λ xs i m. has (look (get_or xs i no_mothers)) m) n e rows (set rows place row') was now
     side_says was now was_is now_is = elim side.labels [
       | inl stays ↦ inl ((λ m. ap (λ r. has (look r) m) now_row ∙ ap (λ xs. has xs m) stays.0 ∙ ap (λ r. has (look r) m) (sym was_row)), sym now_is ∙ stays.1 ∙ was_is)
-      | inr marks ↦ inr (marks_like (λ m. IsTrue (has all m) × (m ≢ e.daughter.0) × IsTrue (has (look row') m)) _ e.label.0 before was after now was_is now_is mother_in marks)
+      | inr marks ↦ inr (marks_like (λ m. IsTrue (has (look row') m)) _ e.label.0 before was after now was_is now_is mother_in marks)
     ]
 
-  module _ (into : List LabelsInto) (labels labels' : LabelsInto) (at : ℕ) (at_is : at ≡ labels_at n e.dim.0 e.daughter.0) (there : at < length into) (labels_is : labels ≡ get_or into at labels) (may_side : RenewsSide all e may row.may row'.may labels.may labels'.may) (must_side : RenewsSide all e must row.must row'.must labels.must labels'.must) where
-    pub renews_row : Renews n words e rows (set rows place row')
+  module _ (into : List LabelsInto) (labels labels' : LabelsInto) (at : ℕ) (at_is : at ≡ labels_at n e.dim.0 e.daughter.0) (there : at < length into) (labels_is : labels ≡ get_or into at labels) (possible certain : Bool) (may_side : RenewsSide e possible row.may row'.may labels.may labels'.may) (must_side : RenewsSide e certain row.must row'.must labels.must labels'.must) where
+    pub renews_row : Renews n e possible certain rows (set rows place row')
     renews_row = record {
       count = length-set rows place row';
-      kept = record { may = side_kept (λ r. r.may) may labels.may labels'.may may_side ∙ may_is; must = side_kept (λ r. r.must) must labels.must labels'.must must_side ∙ must_is };
-      may_others = side_others (λ r. r.may) may labels.may labels'.may may_side;
-      must_others = side_others (λ r. r.must) must labels.must labels'.must must_side;
+      may = side_sets (λ r. r.may) possible labels.may labels'.may may_side;
+      must = side_sets (λ r. r.must) certain labels.must labels'.must must_side;
     }
 
     was_labels : labels ≡ at_place into (labels_at n e.dim.0 e.daughter.0)
@@ -205,7 +187,7 @@ module _ (n : ℕ) (words all : List ℕ) (whole : (k : ℕ) → has all k ≡ n
     pub relabels_row : Relabels n e rows (set rows place row') into (set into at labels')
     relabels_row = record {
       count = length-set into at labels';
-      may = side_says (λ r. r.may) may labels.may labels'.may may_side _ _ (ap (λ (z : LabelsInto). z.may) was_labels) (ap (λ (z : LabelsInto). z.may) now_labels);
-      must = side_says (λ r. r.must) must labels.must labels'.must must_side _ _ (ap (λ (z : LabelsInto). z.must) was_labels) (ap (λ (z : LabelsInto). z.must) now_labels);
+      may = side_says (λ r. r.may) possible labels.may labels'.may may_side _ _ (ap (λ (z : LabelsInto). z.may) was_labels) (ap (λ (z : LabelsInto). z.may) now_labels);
+      must = side_says (λ r. r.must) certain labels.must labels'.must must_side _ _ (ap (λ (z : LabelsInto). z.must) was_labels) (ap (λ (z : LabelsInto). z.must) now_labels);
       others = λ i other. get_or-set_other into at i labels' no_labels (λ s. other (s ∙ at_is));
     }

@@ -1,15 +1,16 @@
 -- Edges by their daughters.
-use Rattle.std.proofs.Common.{◌≡◌, ◌≢◌, ◌⊎◌, ℕ, ◌<◌, ◌≤◌, ◌+◌, ◌*◌, inl, inr, List, length, get_or, refl, ap, sym, ◌∙◌, arith, subst}
-use Rattle.std.specs.Prelude.{Contains}
-use Rattle.std.proofs.lemmas.Bool.{cases_eq, cases_lt}
-use Rattle.std.proofs.lemmas.Nat.{row_fits}
-use Rattle.std.proofs.lemmas.List.{get_or_default}
+use Rattle.std.proofs.Common.{◌≡◌, ◌≢◌, ◌⊎◌, ℕ, ◌<◌, ◌≤◌, ◌+◌, ◌*◌, ◌/◌, ◌%◌, inl, inr, Bool, not, List, [], length, get_or, set, refl, ap, sym, ◌∙◌, arith, subst}
+use Rattle.std.specs.Prelude.{◌&&◌, ◌==◌, Contains, nat_lt}
+use Rattle.std.proofs.lemmas.Bool.{and_from, and_parts, cases_eq, cases_lt, eqb-false, lt-ltb, ltb-true, ne_eqb, not-true}
+use Rattle.std.proofs.lemmas.Nat.{mod-mul-add, row_fits}
+use Rattle.std.proofs.lemmas.List.{get_or_default, get_or-set_other, get_or-set_same, length-set}
 use Rattle.xdg_base.specs.declared.ids.AttrId.{AttrId}
 use Rattle.xdg_base.specs.declared.ids.DimId.{DimId}
 use Rattle.xdg_base.specs.declared.ids.NodeId.{NodeId}
+use Rattle.xdg_facts.specs.Rises.{has}
 use Rattle.xdg_problem.specs.declared.analysis.Edge.{Edge}
 use Rattle.xdg_problem.proofs.Edges.{edge_equal}
-use Rattle.xdg_store.specs.Across.{Fits, FitsIn, IsKept, Renews, RenewsAll, RenewsOf, edge_at}
+use Rattle.xdg_store.specs.Across.{Fits, FitsIn, IsFull, IsKept, OnlyOthers, Renews, RenewsAll, RenewsBy, RenewsOf, Sets, daughter_at, edge_at, in_may, in_must, mothers_at, no_mothers}
 use Rattle.xdg_store.specs.declared.across.Mothers.{Mothers}
 use Rattle.xdg_store.specs.declared.decision.Decision.{Decision}
 use Rattle.xdg_store.specs.declared.decision.Decision.TheVariants as decisions
@@ -29,33 +30,63 @@ same_row m a n b w l k e = elim (cases_eq m n) [
 pub row_of : (x y l m : ℕ) → l < 32 → m < 32 → x * 32 + l ≡ y * 32 + m → (x ≡ y) × (l ≡ m)
 row_of x y l m p q e = (omega (arith, p, q, e), omega (arith, p, q, e))
 
-pub same_cell : (n rows words : ℕ) (e f : Edge) → Fits n rows words e → Fits n rows words f → edge_at n e ≡ edge_at n f → e.mother.0 ≡ f.mother.0 → e ≡ f
-same_cell n rows words e f p q at mother =
+-- the daughter whose mothers stand there
+pub daughter_is : (n dim daughter label : ℕ) → daughter < n → label < 32 → daughter_at n (mothers_at n dim daughter label) ≡ daughter
+daughter_is n dim daughter label l m =
+    let row : mothers_at n dim daughter label / 32 ≡ dim * n + daughter = omega (arith, m) in
+    ap (λ i. i % n) row ∙ mod-mul-add dim n daughter l
+
+pub same_cell : (n rows : ℕ) (e f : Edge) → Fits n rows e → Fits n rows f → edge_at n e ≡ edge_at n f → e.mother.0 ≡ f.mother.0 → e ≡ f
+same_cell n rows e f p q at mother =
     let r = row_of (e.dim.0 * n + e.daughter.0) (f.dim.0 * n + f.daughter.0) e.label.0 f.label.0 p.label q.label at in
     let sum = r.0 in
     let dim : e.dim.0 ≡ f.dim.0 = same_row e.dim.0 e.daughter.0 f.dim.0 f.daughter.0 n p.daughter q.daughter sum in
     let front : e.dim.0 * n ≡ f.dim.0 * n = ap (λ i. i * n) dim in
     edge_equal e f dim mother r.1 (omega (arith, sum, front))
 
+-- ---- an edge that is made anew
+
 -- what is kept of another edge stays
-pub kept_beside : (n : ℕ) (words : List ℕ) (e f : Edge) (old new : List Mothers) → Fits n (length old) (length words) e → Fits n (length old) (length words) f → Renews n words f old new → (e ≢ f → IsKept n words old e) → IsKept n words new e
-kept_beside n words e f old new p q renews kept = elim (cases_eq (edge_at n e) (edge_at n f)) [
+pub kept_beside : (n : ℕ) (words : List ℕ) (e f : Edge) (possible certain : Bool) (old new : List Mothers) → Fits n (length old) e → Fits n (length old) f → Renews n f possible certain old new → IsKept n words new f → (e ≢ f → IsKept n words old e) → IsKept n words new e
+kept_beside n words e f possible certain old new p q renews here kept = elim (cases_eq (edge_at n e) (edge_at n f)) [
   | inl at ↦ elim (cases_eq e.mother.0 f.mother.0) [
-    | inl mother ↦ subst (IsKept n words new) (sym (same_cell n (length old) (length words) e f p q at mother)) renews.kept
+    | inl mother ↦ subst (IsKept n words new) (sym (same_cell n (length old) e f p q at mother)) here
     | inr other ↦ moved (inr other) (λ s. other (ap (λ (g : Edge). g.mother.0) s))
   ]
   | inr other ↦ moved (inl other) (λ s. other (ap (edge_at n) s))
 ]
   where
     moved : (edge_at n e ≢ edge_at n f) ⊎ (e.mother.0 ≢ f.mother.0) → e ≢ f → IsKept n words new e
-    moved w differ = let k = kept differ in record { may = renews.may_others (edge_at n e) e.mother.0 w ∙ k.may; must = renews.must_others (edge_at n e) e.mother.0 w ∙ k.must }
+    moved w differ = let k = kept differ in record { may = renews.may.others (edge_at n e) e.mother.0 w ∙ k.may; must = renews.must.others (edge_at n e) e.mother.0 w ∙ k.must }
+
+-- by words
+kept_here : (n : ℕ) (words : List ℕ) (e : Edge) (old new : List Mothers) → RenewsBy n words e old new → IsKept n words new e
+kept_here n words e old new renews = record { may = renews.may.here; must = renews.must.here }
+
+-- its mother is another node
+pub others_stay : (has_mother : List Mothers → ℕ → ℕ → Bool) (n : ℕ) (e : Edge) (wanted : Bool) (old new : List Mothers) → Sets has_mother n e wanted old new → e.mother.0 < n → e.mother.0 ≢ daughter_at n (edge_at n e) → OnlyOthers has_mother n old → OnlyOthers has_mother n new
+others_stay has_mother n e wanted old new sets l differ only place mother h = elim (cases_eq place (edge_at n e)) [
+  | inl at ↦ elim (cases_eq mother e.mother.0) [
+    | inl this ↦ (omega (arith, this, l), λ s. differ (sym this ∙ s ∙ ap (daughter_at n) at))
+    | inr other ↦ only place mother (sym (sets.others place mother (inr other)) ∙ h)
+  ]
+  | inr other ↦ only place mother (sym (sets.others place mother (inl other)) ∙ h)
+]
+
+-- one side behind the other
+pub renews_both : (n : ℕ) (e : Edge) (possible certain possible' certain' : Bool) (old mid new : List Mothers) → possible ≡ possible' → certain ≡ certain' → Renews n e possible (in_must old (edge_at n e) e.mother.0) old mid → Renews n e (in_may mid (edge_at n e) e.mother.0) certain mid new → Renews n e possible' certain' old new
+renews_both n e possible certain possible' certain' old mid new a b first second = record {
+  count = second.count ∙ first.count;
+  may = record { here = second.may.here ∙ first.may.here ∙ a; others = λ place mother w. second.may.others place mother w ∙ first.may.others place mother w };
+  must = record { here = second.must.here ∙ b; others = λ place mother w. second.must.others place mother w ∙ first.must.others place mother w };
+}
 
 -- ---- the edges of some decisions
 
 -- those of the first decisions, so many, are made anew
 pub record RenewedUpTo (n : ℕ) (words : List ℕ) (changed : List Decision) (old new : List Mothers) (count : ℕ) : Type 0 where
   pub count_stays : length new ≡ length old
-  pub each : (e : Edge) → Fits n (length old) (length words) e → IsKept n words old e ⊎ ((k : ℕ) × (k < count) × (get_or changed k (decisions.Place e) ≡ decisions.Place e)) → IsKept n words new e
+  pub each : (e : Edge) → Fits n (length old) e → IsKept n words old e ⊎ ((k : ℕ) × (k < count) × (get_or changed k (decisions.Place e) ≡ decisions.Place e)) → IsKept n words new e
 
 module _ (n : ℕ) (words : List ℕ) (changed : List Decision) (old : List Mothers) where
   pub upto_start : RenewedUpTo n words changed old old 0
@@ -78,7 +109,7 @@ module _ (n : ℕ) (words : List ℕ) (changed : List Decision) (old : List Moth
 
   module _ (mid new : List Mothers) (i : ℕ) (so_far : RenewedUpTo n words changed old mid i) where
     -- what was kept by then, unless it is the decision at i that is one on the edge
-    kept_then : (decision default : Decision) → i < length changed → get_or changed i default ≡ decision → (e : Edge) → Fits n (length old) (length words) e → IsKept n words old e ⊎ ((k : ℕ) × (k < i + 1) × (get_or changed k (decisions.Place e) ≡ decisions.Place e)) → IsKept n words mid e ⊎ (decision ≡ decisions.Place e)
+    kept_then : (decision default : Decision) → i < length changed → get_or changed i default ≡ decision → (e : Edge) → Fits n (length old) e → IsKept n words old e ⊎ ((k : ℕ) × (k < i + 1) × (get_or changed k (decisions.Place e) ≡ decisions.Place e)) → IsKept n words mid e ⊎ (decision ≡ decisions.Place e)
     kept_then decision default l is e fits (inl kept) = inl (so_far.each e fits (inl kept))
     kept_then decision default l is e fits (inr (k, m, at)) = elim (cases_lt k i) [
       | inl less ↦ inl (so_far.each e fits (inr (k, less, at)))
@@ -102,14 +133,14 @@ module _ (n : ℕ) (words : List ℕ) (changed : List Decision) (old : List Moth
     })
     upto_turn (decisions.Place f) default l is fits renews = record {
       count_stays = renews.count ∙ so_far.count_stays;
-      each = λ e p w. kept_beside n words e f mid new (there e p) (there f fits) renews (λ differ. elim (kept_then (decisions.Place f) default l is e p w) [
+      each = λ e p w. kept_beside n words e f _ _ mid new (there e p) (there f fits.0) renews (kept_here n words f mid new renews) (λ differ. elim (kept_then (decisions.Place f) default l is e p w) [
         | inl kept ↦ kept
         | inr q ↦ absurd (differ (sym (ap (edge_in f) q)))
       ]);
     }
       where
-        there : (e : Edge) → Fits n (length old) (length words) e → Fits n (length mid) (length words) e
-        there e p = subst (λ rows. Fits n rows (length words) e) (sym so_far.count_stays) p
+        there : (e : Edge) → Fits n (length old) e → Fits n (length mid) e
+        there e p = subst (λ rows. Fits n rows e) (sym so_far.count_stays) p
 
   pub upto_end : (new : List Mothers) (i : ℕ) → length changed ≤ i → RenewedUpTo n words changed old new i → RenewsAll n words changed old new
   upto_end new i most so_far = record {
@@ -120,3 +151,25 @@ module _ (n : ℕ) (words : List ℕ) (changed : List Decision) (old : List Moth
       widened : (e : Edge) → IsKept n words old e ⊎ Contains changed (decisions.Place e) → IsKept n words old e ⊎ ((k : ℕ) × (k < i) × (get_or changed k (decisions.Place e) ≡ decisions.Place e))
       widened e (inl kept) = inl kept
       widened e (inr (k, l, is)) = inr (k, omega (arith, l, most), is)
+
+-- ---- the start
+
+-- all nodes but the daughter
+pub row_full : (n daughter : ℕ) (all may must : List ℕ) → ((k : ℕ) → has all k ≡ nat_lt k n) → ((k : ℕ) → has may k ≡ (not (k == daughter) && has all k)) → must ≡ [] → IsFull n daughter (record { may = may; must = must })
+row_full n daughter all may must whole taken none = record {
+  may = λ k. (
+    λ h. (let q = and_parts (not (k == daughter)) (has all k) (sym (taken k) ∙ h) in (ltb-true k n (sym (whole k) ∙ q.1), eqb-false k daughter (not-true (k == daughter) q.0))),
+    λ (l, other). taken k ∙ and_from (not (k == daughter)) (has all k) (ap not (ne_eqb k daughter other)) (whole k ∙ lt-ltb k n l),
+  );
+  must = none;
+}
+
+-- one row more
+pub rows_more : (n : ℕ) (old rows : List Mothers) (k : ℕ) (row : Mothers) → length rows ≡ length old → k < length old → IsFull n (daughter_at n k) row → ((i : ℕ) → i < k → IsFull n (daughter_at n i) (get_or rows i no_mothers)) → (length (set rows k row) ≡ length old) × ((i : ℕ) → i < k + 1 → IsFull n (daughter_at n i) (get_or (set rows k row) i no_mothers))
+rows_more n old rows k row same l here before = (
+  length-set rows k row ∙ same,
+  λ i m. elim (cases_eq i k) [
+    | inl e ↦ subst (λ j. IsFull n (daughter_at n j) (get_or (set rows k row) j no_mothers)) (sym e) (subst (IsFull n (daughter_at n k)) (sym (get_or-set_same rows k row no_mothers (omega (arith, l, same)))) here)
+    | inr other ↦ subst (IsFull n (daughter_at n i)) (sym (get_or-set_other rows k i row no_mothers other)) (before i (omega (arith, m, other)))
+  ],
+)

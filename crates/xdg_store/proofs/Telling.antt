@@ -1,9 +1,9 @@
 -- What a store keeps of the labels of edges into daughters, over its calls.
-use Rattle.std.proofs.Common.{◌≡◌, ◌≢◌, ◌⊎◌, ℕ, ◌<◌, ◌≤◌, ◌+◌, ◌*◌, ◌/◌, ◌↔◌, inl, inr, Bool, true, List, [], length, get_or, set, drop, take, replicate, refl, ap, ap₂, sym, ◌∙◌, arith, subst, zero, suc}
-use Rattle.std.specs.Prelude.{nat_lt, slice_get}
+use Rattle.std.proofs.Common.{◌≡◌, ◌≢◌, ◌⊎◌, ℕ, ◌<◌, ◌≤◌, ◌+◌, ◌*◌, ◌/◌, ◌↔◌, inl, inr, Bool, true, false, List, length, get_or, set, drop, take, replicate, refl, ap, ap₂, sym, ◌∙◌, arith, subst, zero, suc}
+use Rattle.std.specs.Prelude.{IsTrue, slice_get}
 use Rattle.std.specs.Int.{bit_at}
-use Rattle.std.proofs.lemmas.Bool.{cases_eq, false≢true, lt-ltb}
-use Rattle.std.proofs.lemmas.List.{get_or_default, get_or-drop, get_or-replicate, get_or-set_other, get_or-set_same, get_or-take, length-drop, length-replicate, length-set, length-take-le}
+use Rattle.std.proofs.lemmas.Bool.{cases_eq, cases_lt, false≢true}
+use Rattle.std.proofs.lemmas.List.{get_or_default, get_or-drop, get_or-set_other, get_or-set_same, get_or-take, get_or_past, length-drop, length-replicate, length-set, length-take-le}
 use Rattle.std.proofs.lemmas.Nat.{div_below, div-mul-add, row_fits}
 use Rattle.std.proofs.lemmas.Nat.Bits.{bit_at-zero}
 use Rattle.std.proofs.lemmas.Option.{slice_get-get_or}
@@ -14,28 +14,20 @@ use Rattle.xdg_problem.specs.Analyses.{IsPlace}
 use Rattle.xdg_problem.specs.Arguments.{no_plan}
 use Rattle.xdg_problem.specs.Boxes.{May, Must}
 use Rattle.xdg_problem.specs.Places.{edge, nodes}
-use Rattle.xdg_problem.specs.Problems.{IsDim, IsProblem}
-use Rattle.xdg_problem.proofs.PlacePlans.{dim_within, plan_read}
-use Rattle.xdg_store.specs.Across.{AreKept, Renews, edge_at, in_may, in_must, mothers_at, no_mothers, row_count}
+use Rattle.xdg_problem.specs.Problems.{IsProblem}
+use Rattle.xdg_store.specs.Across.{AreFull, AreKept, Fits, IsFull, OnlyOthers, Renews, Sets, daughter_at, edge_at, in_may, in_must, mothers_at, no_mothers, row_count}
 use Rattle.xdg_store.specs.InRange.{HasEdges}
-use Rattle.xdg_store.specs.Labels.{AreFirst, AreLabels, AreLabelsOf, AreTold, InRows, IsLabelled, IsMother, LeadsInto, Marks, Relabels, SaysAgain, StaysTold, at_place, labels_at, no_labels}
-use Rattle.xdg_store.specs.Layout.{bits_of, box_in, edge_bit, is_set}
+use Rattle.xdg_store.specs.Labels.{AreFirst, AreLabels, AreLabelsOf, AreTold, InRows, IsLabelled, LeadsInto, Marks, Relabels, RenewsSide, SaysAgain, StaysTold, at_place, labels_at, no_labels}
+use Rattle.xdg_store.specs.Layout.{bits_of, box_in}
 use Rattle.xdg_facts.specs.Rises.{has}
 use Rattle.xdg_store.specs.declared.across.Mothers.{Mothers}
 use Rattle.xdg_store.specs.declared.labels.Labels.{Labels}
 use Rattle.xdg_store.specs.declared.labels.LabelsInto.{LabelsInto}
-use Rattle.xdg_store.proofs.Kept.{pair, row_within}
-use Rattle.xdg_store.proofs.Labelled.{labelled_like}
-use Rattle.xdg_store.proofs.Pairs.{may_has, must_has}
-use Rattle.xdg_store.proofs.Renewed.{row_of, same_row}
+use Rattle.xdg_store.proofs.Kept.{few_labels, full_at, may_says, must_says, place_has}
+use Rattle.xdg_store.proofs.Labelled.{labelled_like, relabels_row, renews_row, side_stays, was_row}
+use Rattle.xdg_store.proofs.Renewed.{daughter_is, others_stay, row_of, same_row}
 
 -- ---- after an edge was made anew
-
-few_labels : (parts : Parts) (e : Edge) → IsProblem parts → IsPlace parts e → e.label.0 < 32
-few_labels parts e p is =
-    let most = (subst IsDim (plan_read parts e is is.plan) (p.dims e.dim.0 is.plan (dim_within parts e is))).labels_most in
-    let label = is.label in
-    omega (arith, most, label)
 
 module _ (parts : Parts) (p : IsProblem parts) (e : Edge) (is : IsPlace parts e) (rows rows' : List Mothers) (into into' : List LabelsInto) (others : (place : ℕ) → place ≢ labels_at (nodes parts) e.dim.0 e.daughter.0 → at_place into' place ≡ at_place into place) where
   abbrev n : ℕ
@@ -45,12 +37,16 @@ module _ (parts : Parts) (p : IsProblem parts) (e : Edge) (is : IsPlace parts e)
   at = labels_at n e.dim.0 e.daughter.0
 
   -- for the edges that may be present, and for those that must be
-  module _ (has_mother : List Mothers → ℕ → ℕ → Bool) (side : LabelsInto → Labels) (same_rows : (place mother : ℕ) → (place ≢ edge_at n e) ⊎ (mother ≢ e.mother.0) → has_mother rows' place mother ≡ has_mother rows place mother) (says : SaysAgain has_mother n e rows rows' (side (at_place into at)) (side (at_place into' at))) (dim daughter label : ℕ) (within : daughter < n) where
+  module _ (has_mother : List Mothers → ℕ → ℕ → Bool) (side : LabelsInto → Labels) (wanted : Bool) (sets : Sets has_mother n e wanted rows rows') (only : OnlyOthers has_mother n rows') (says : SaysAgain has_mother n e rows rows' (side (at_place into at)) (side (at_place into' at))) (dim daughter label : ℕ) (within : daughter < n) where
     abbrev Before : ℕ → Type 0
     Before = LeadsInto parts (InRows has_mother n rows) dim daughter label
 
     abbrev After : ℕ → Type 0
     After = LeadsInto parts (InRows has_mother n rows') dim daughter label
+
+    -- in the row of the edge
+    abbrev Here : ℕ → Type 0
+    Here m = IsTrue (has_mother rows' (edge_at n e) m)
 
     -- another row
     elsewhere : (labels_at n dim daughter ≢ at) ⊎ (label ≢ e.label.0) → (m : ℕ) → Before m ↔ After m
@@ -62,10 +58,10 @@ module _ (parts : Parts) (p : IsProblem parts) (e : Edge) (is : IsPlace parts e)
             elim w [ inl other ↦ other r.0 | inr other ↦ other r.1 ]
 
         same : IsPlace parts (edge dim m label daughter) → has_mother rows' (mothers_at n dim daughter label) m ≡ has_mother rows (mothers_at n dim daughter label) m
-        same place = same_rows (mothers_at n dim daughter label) m (inl (apart (few_labels parts (edge dim m label daughter) p place)))
+        same place = sets.others (mothers_at n dim daughter label) m (inl (apart (few_labels parts (edge dim m label daughter) p place)))
 
     -- the row of the edge
-    module _ (marks : Marks (IsMother has_mother n rows' e) e.label.0 (side (at_place into at)) (side (at_place into' at))) (same_at : labels_at n dim daughter ≡ at) (same_label : label ≡ e.label.0) where
+    module _ (marks : Marks Here e.label.0 (side (at_place into at)) (side (at_place into' at))) (same_at : labels_at n dim daughter ≡ at) (same_label : label ≡ e.label.0) where
       same_dim : dim ≡ e.dim.0
       same_dim = same_row dim daughter e.dim.0 e.daughter.0 n within is.daughter same_at
 
@@ -75,30 +71,30 @@ module _ (parts : Parts) (p : IsProblem parts) (e : Edge) (is : IsPlace parts e)
       same_place : mothers_at n dim daughter label ≡ edge_at n e
       same_place = ap₂ (λ i l. i * 32 + l) same_at same_label
 
-      its_mothers : (m : ℕ) → IsMother has_mother n rows' e m ↔ After m
+      its_mothers : (m : ℕ) → Here m ↔ After m
       its_mothers m = (
-        λ (l, differ, h). (
+        λ h. (let other = only (edge_at n e) m h in (
           record {
             plan = is.plan;
             plan_is = ap (slice_get parts.dims) same_dim ∙ is.plan_is;
             graph = is.graph;
             label = subst (λ i. i < length is.plan.labels) (sym same_label) is.label;
-            mother = l;
+            mother = other.0;
             daughter = within;
-            differ = λ s. differ (s ∙ same_daughter);
+            differ = λ s. other.1 (s ∙ same_daughter ∙ sym (daughter_is n e.dim.0 e.daughter.0 e.label.0 is.daughter (few_labels parts e p is)));
           },
           ap (λ i. has_mother rows' i m) same_place ∙ h,
-        ),
-        λ x. (x.0.mother, (λ s. x.0.differ (s ∙ sym same_daughter)), ap (λ i. has_mother rows' i m) (sym same_place) ∙ x.1),
+        )),
+        λ x. ap (λ i. has_mother rows' i m) (sym same_place) ∙ x.1,
       )
 
       made_anew : IsLabelled After (side (at_place into' (labels_at n dim daughter))) label
-      made_anew = labelled_like (IsMother has_mother n rows' e) After (side (at_place into' at)) (side (at_place into' (labels_at n dim daughter))) e.label.0 label
+      made_anew = labelled_like Here After (side (at_place into' at)) (side (at_place into' (labels_at n dim daughter))) e.label.0 label
           (ap₂ (λ i l. bit_at (side (at_place into' i)).some l) same_at same_label)
           (ap₂ (λ i l. bit_at (side (at_place into' i)).more l) same_at same_label)
           its_mothers marks.here
 
-    told_by : Marks (IsMother has_mother n rows' e) e.label.0 (side (at_place into at)) (side (at_place into' at)) → IsLabelled Before (side (at_place into (labels_at n dim daughter))) label → IsLabelled After (side (at_place into' (labels_at n dim daughter))) label
+    told_by : Marks Here e.label.0 (side (at_place into at)) (side (at_place into' at)) → IsLabelled Before (side (at_place into (labels_at n dim daughter))) label → IsLabelled After (side (at_place into' (labels_at n dim daughter))) label
     told_by marks before = elim (cases_eq (labels_at n dim daughter) at) [
       | inl same ↦ elim (cases_eq label e.label.0) [
         | inl this ↦ made_anew marks same this
@@ -121,7 +117,7 @@ module _ (parts : Parts) (p : IsProblem parts) (e : Edge) (is : IsPlace parts e)
         rows_stay : (m : ℕ) → has_mother rows' (mothers_at n dim daughter label) m ≡ has_mother rows (mothers_at n dim daughter label) m
         rows_stay m = elim (cases_eq (mothers_at n dim daughter label) (edge_at n e)) [
           | inl here ↦ ap (λ i. has_mother rows' i m) here ∙ row_stays m ∙ ap (λ i. has_mother rows i m) (sym here)
-          | inr other ↦ same_rows (mothers_at n dim daughter label) m (inl other)
+          | inr other ↦ sets.others (mothers_at n dim daughter label) m (inl other)
         ]
 
         bits : side (at_place into' (labels_at n dim daughter)) ≡ side (at_place into (labels_at n dim daughter))
@@ -136,15 +132,51 @@ module _ (parts : Parts) (p : IsProblem parts) (e : Edge) (is : IsPlace parts e)
       | inr marks ↦ told_by marks before
     ]
 
-pub stays_told : (n : ℕ) (words : List ℕ) (e : Edge) (rows rows' : List Mothers) (into into' : List LabelsInto) → Renews n words e rows rows' → Relabels n e rows rows' into into' → StaysTold n (λ parts. IsPlace parts e) rows into rows' into'
-stays_told n words e rows rows' into into' renews relabels parts p same is told = after (subst (λ k. Renews k words e rows rows') (sym same) renews) (subst (λ k. Relabels k e rows rows' into into') (sym same) relabels)
+stays_told : (n : ℕ) (e : Edge) (possible certain : Bool) (rows rows' : List Mothers) (into into' : List LabelsInto) → Renews n e possible certain rows rows' → Relabels n e rows rows' into into' → StaysTold n (λ parts. IsPlace parts e) rows into rows' into'
+stays_told n e possible certain rows rows' into into' renews relabels parts p same is told = after (subst (λ k. Renews k e possible certain rows rows') (sym same) renews) (subst (λ k. Relabels k e rows rows' into into') (sym same) relabels)
   where
-    after : Renews (nodes parts) words e rows rows' → Relabels (nodes parts) e rows rows' into into' → AreTold parts rows' into'
-    after r l = record {
-      wide = (let a = told.wide in let b = r.count in let c = l.count in omega (arith, a, b, c));
-      may = λ dim daughter d within label. label_told parts p e is rows rows' into into' l.others in_may (λ z. z.may) r.may_others l.may dim daughter label within (told.may dim daughter d within label);
-      must = λ dim daughter d within label. label_told parts p e is rows rows' into into' l.others in_must (λ z. z.must) r.must_others l.must dim daughter label within (told.must dim daughter d within label);
-    }
+    differ : e.mother.0 ≢ daughter_at (nodes parts) (edge_at (nodes parts) e)
+    differ s = is.differ (s ∙ daughter_is (nodes parts) e.dim.0 e.daughter.0 e.label.0 is.daughter (few_labels parts e p is))
+
+    after : Renews (nodes parts) e possible certain rows rows' → Relabels (nodes parts) e rows rows' into into' → AreTold parts rows' into'
+    after r l =
+        let may_only = others_stay in_may (nodes parts) e possible rows rows' r.may is.mother differ told.may_others in
+        let must_only = others_stay in_must (nodes parts) e certain rows rows' r.must is.mother differ told.must_others in
+        record {
+          wide = (let a = told.wide in let b = r.count in let c = l.count in omega (arith, a, b, c));
+          may_others = may_only;
+          must_others = must_only;
+          may = λ dim daughter d within label. label_told parts p e is rows rows' into into' l.others in_may (λ z. z.may) possible r.may may_only l.may dim daughter label within (told.may dim daughter d within label);
+          must = λ dim daughter d within label. label_told parts p e is rows rows' into into' l.others in_must (λ z. z.must) certain r.must must_only l.must dim daughter label within (told.must dim daughter d within label);
+        }
+
+-- one side alone
+module _ (n : ℕ) (e : Edge) (rows : List Mothers) (into : List LabelsInto) (row : Mothers) (labels : LabelsInto) (place : ℕ) (fits : Fits n (length rows) e) (wide : length rows ≤ length into * 32) (place_is : place ≡ edge_at n e) (row_is : row ≡ get_or rows place row) (labels_is : labels ≡ get_or into (place / 32) labels) where
+  within : place < length rows
+  within = let l = fits.row_in in omega (arith, place_is, l)
+
+  there : place / 32 < length into
+  there = let l = within in omega (arith, l, wide)
+
+  at_is : place / 32 ≡ labels_at n e.dim.0 e.daughter.0
+  at_is = let l = fits.label in omega (arith, place_is, l)
+
+  module _ (row' : Mothers) (labels' : LabelsInto) (possible certain : Bool) (may : RenewsSide e possible row.may row'.may labels.may labels'.may) (must : RenewsSide e certain row.must row'.must labels.must labels'.must) where
+    renewed : Renews n e possible certain rows (set rows place row') × StaysTold n (λ parts. IsPlace parts e) rows into (set rows place row') (set into (place / 32) labels')
+    renewed =
+        let renews = renews_row n e rows row row' place place_is within row_is into labels labels' (place / 32) at_is there labels_is possible certain may must in
+        (renews, stays_told n e possible certain rows _ into _ renews (relabels_row n e rows row row' place place_is within row_is into labels labels' (place / 32) at_is there labels_is possible certain may must))
+
+  -- the row of the edge as it was
+  was : row ≡ get_or rows (edge_at n e) no_mothers
+  was = sym (was_row n e rows row row place place_is within row_is)
+
+  module _ (wanted : Bool) (mothers : List ℕ) (bits : Labels) where
+    pub may_renewed : RenewsSide e wanted row.may mothers labels.may bits → Renews n e wanted (in_must rows (edge_at n e) e.mother.0) rows (set rows place (record { may = mothers; must = row.must })) × StaysTold n (λ parts. IsPlace parts e) rows into (set rows place (record { may = mothers; must = row.must })) (set into (place / 32) (record { may = bits; must = labels.must }))
+    may_renewed side = renewed (record { may = mothers; must = row.must }) (record { may = bits; must = labels.must }) wanted (in_must rows (edge_at n e) e.mother.0) side (side_stays e _ row.must labels.must (ap (λ (r : Mothers). has r.must e.mother.0) was))
+
+    pub must_renewed : RenewsSide e wanted row.must mothers labels.must bits → Renews n e (in_may rows (edge_at n e) e.mother.0) wanted rows (set rows place (record { may = row.may; must = mothers })) × StaysTold n (λ parts. IsPlace parts e) rows into (set rows place (record { may = row.may; must = mothers })) (set into (place / 32) (record { may = labels.may; must = bits }))
+    must_renewed side = renewed (record { may = row.may; must = mothers }) (record { may = labels.may; must = bits }) (in_may rows (edge_at n e) e.mother.0) wanted (side_stays e _ row.may labels.may (ap (λ (r : Mothers). has r.may e.mother.0) was)) side
 
 -- ---- at the start
 
@@ -166,7 +198,11 @@ first_more n dims old into k plan labels count same l plan_is here before = (
   ],
 )
 
-module _ (parts : Parts) (p : IsProblem parts) (size : ℕ) (rows : List Mothers) (all none : List ℕ) (rows_are : rows ≡ replicate size (record { may = all; must = none })) (none_is : none ≡ []) (whole : (k : ℕ) → has all k ≡ nat_lt k (nodes parts)) (long : row_count parts ≤ size) (into : List LabelsInto) (n : ℕ) (n_is : n ≡ nodes parts) (dims : List DimPlan) (dims_are : dims ≡ parts.dims) (first : (k : ℕ) → k < length into → AreFirst n (get_or dims (k / n) no_plan) (at_place into k)) (count : length parts.dims * nodes parts ≤ length into) where
+-- the code's room for them
+pub some_nodes : (rows : List Mothers) (row : Mothers) (d n : ℕ) → rows ≡ replicate (d * n * 32) row → 0 < length rows → 0 < n
+some_nodes rows row d n is l = positive n d 0 (let e = ap length is ∙ length-replicate (d * n * 32) row in omega (arith, l, e))
+
+module _ (parts : Parts) (p : IsProblem parts) (rows : List Mothers) (full : AreFull rows (nodes parts)) (long : row_count parts ≤ length rows) (into : List LabelsInto) (n : ℕ) (n_is : n ≡ nodes parts) (dims : List DimPlan) (dims_are : dims ≡ parts.dims) (first : (k : ℕ) → k < length into → AreFirst n (get_or dims (k / n) no_plan) (at_place into k)) (count : length parts.dims * nodes parts ≤ length into) where
   module _ (dim daughter label : ℕ) (d : dim < length parts.dims) (within : daughter < nodes parts) where
     abbrev plan : DimPlan
     plan = get_or parts.dims dim no_plan
@@ -182,10 +218,8 @@ module _ (parts : Parts) (p : IsProblem parts) (size : ℕ) (rows : List Mothers
         subst (λ k. AreFirst k plan (at_place into place)) n_is
         (subst (λ q. AreFirst n q (at_place into place)) (ap (λ z. get_or z (place / n) no_plan) dims_are ∙ ap (λ i. get_or parts.dims i no_plan) at) (first place there))
 
-    row_is : HasEdges parts dim daughter label → get_or rows (mothers_at (nodes parts) dim daughter label) no_mothers ≡ record { may = all; must = none }
-    row_is h =
-        ap (λ (z : List Mothers). get_or z (mothers_at (nodes parts) dim daughter label) no_mothers) rows_are
-        ∙ get_or-replicate size (mothers_at (nodes parts) dim daughter label) (record { may = all; must = none }) no_mothers (row_within parts p size dim daughter label (nodes parts) (mothers_at (nodes parts) dim daughter label) h refl refl long)
+    row_full : HasEdges parts dim daughter label → IsFull (nodes parts) daughter (get_or rows (mothers_at (nodes parts) dim daughter label) no_mothers)
+    row_full h = full_at parts p rows dim daughter label h full long
 
     abbrev Leads : ℕ → Type 0
     Leads = LeadsInto parts (InRows in_may (nodes parts) rows) dim daughter label
@@ -193,18 +227,11 @@ module _ (parts : Parts) (p : IsProblem parts) (size : ℕ) (rows : List Mothers
     leads : plan.graph ≡ true → label < length plan.labels → (m : ℕ) → m < nodes parts → m ≢ daughter → Leads m
     leads graph l m k differ = (
       record { plan = plan; plan_is = slice_get-get_or parts.dims dim no_plan d; graph = graph; label = l; mother = k; daughter = within; differ = differ },
-      ap (λ (r : Mothers). has r.may m) (row_is (record { dim_in = d; graph = graph; node_in = within; label_in = l })) ∙ whole m ∙ lt-ltb m (nodes parts) k,
+      ((row_full (record { dim_in = d; graph = graph; node_in = within; label_in = l })).may m).1 (k, differ),
     )
 
     has_edges : (m : ℕ) → IsPlace parts (edge dim m label daughter) → HasEdges parts dim daughter label
-    has_edges m is =
-        let read = plan_read parts (edge dim m label daughter) is no_plan in
-        record {
-          dim_in = d;
-          graph = ap (λ (q : DimPlan). q.graph) read ∙ is.graph;
-          node_in = within;
-          label_in = subst (λ (q : DimPlan). label < length q.labels) (sym read) is.label;
-        }
+    has_edges m is = place_has parts (edge dim m label daughter) is
 
     one_other : 1 < nodes parts → (m : ℕ) × (m < nodes parts) × (m ≢ daughter)
     one_other more = elim (cases_eq daughter 0) [
@@ -250,7 +277,7 @@ module _ (parts : Parts) (p : IsProblem parts) (size : ℕ) (rows : List Mothers
     }
 
     none_must : (m : ℕ) → LeadsInto parts (InRows in_must (nodes parts) rows) dim daughter label m → ⊥
-    none_must m (is, h) = false≢true (sym (ap (λ (r : Mothers). has r.must m) (row_is (has_edges m is)) ∙ ap (λ z. has z m) none_is) ∙ h)
+    none_must m (is, h) = false≢true (sym (ap (λ z. has z m) (row_full (has_edges m is)).must) ∙ h)
 
     no_bit : (word : ℕ) → word ≡ 0 → bit_at word label ≡ 1 → ⊥
     no_bit word e h = (let z = ap (λ w. bit_at w label) e ∙ bit_at-zero label in omega (arith, z, h))
@@ -261,9 +288,17 @@ module _ (parts : Parts) (p : IsProblem parts) (size : ℕ) (rows : List Mothers
       more = (λ h. absurd (no_bit (at_place into place).must.more here.must_more h), λ (m, k, apart, x, y). absurd (none_must m x));
     }
 
-  pub told_start : size ≤ length into * 32 → AreTold parts rows into
+  only : (has_mother : List Mothers → ℕ → ℕ → Bool) → ((place m : ℕ) → length rows ≤ place → has_mother rows place m ≡ false) → ((place m : ℕ) → place < length rows → IsTrue (has_mother rows place m) → (m < nodes parts) × (m ≢ daughter_at (nodes parts) place)) → OnlyOthers has_mother (nodes parts) rows
+  only has_mother past there place m h = elim (cases_lt place (length rows)) [
+    | inl l ↦ there place m l h
+    | inr l ↦ absurd (false≢true (sym (past place m l) ∙ h))
+  ]
+
+  pub told_start : length rows ≤ length into * 32 → AreTold parts rows into
   told_start wide = record {
-    wide = (let e : length rows ≡ size = ap length rows_are ∙ length-replicate size (record { may = all; must = none }) in omega (arith, e, wide));
+    wide = wide;
+    may_others = only in_may (λ place m l. ap (λ (r : Mothers). has r.may m) (get_or_past rows place no_mothers l)) (λ place m l. ((full place l).may m).0);
+    must_others = only in_must (λ place m l. ap (λ (r : Mothers). has r.must m) (get_or_past rows place no_mothers l)) (λ place m l h. absurd (false≢true (sym (ap (λ z. has z m) (full place l).must) ∙ h)));
     may = λ dim daughter d within label. may_first dim daughter label d within;
     must = λ dim daughter d within label. must_first dim daughter label d within;
   }
@@ -298,23 +333,14 @@ module _ (parts : Parts) (p : IsProblem parts) (words : List ℕ) (rows : List M
   abbrev those : LabelsInto
   those = at_place into (labels_at (nodes parts) dim daughter)
 
-  may_says : (e : Edge) → IsPlace parts e → InRows in_may (nodes parts) rows e ↔ May parts box e
-  may_says e is = may_has parts e (edge_bit (nodes parts) e) words (in_may rows (edge_at (nodes parts) e) e.mother.0) (pair parts p e is) (kept.each e is).may
-
-  must_says : (e : Edge) → IsPlace parts e → InRows in_must (nodes parts) rows e ↔ Must parts box e
-  must_says e is =
-      let k = (kept.each e is).must in
-      let w = must_has parts e (edge_bit (nodes parts) e) words (is_set words (edge_bit (nodes parts) e + 128)) (pair parts p e is) refl in
-      (λ i. w.0 (sym k ∙ i), λ i. k ∙ w.1 i)
-
   leads_like : (P Q : Edge → Type 0) → ((e : Edge) → IsPlace parts e → P e ↔ Q e) → (label m : ℕ) → LeadsInto parts P dim daughter label m ↔ LeadsInto parts Q dim daughter label m
   leads_like P Q same label m = (λ x. (x.0, (same (edge dim m label daughter) x.0).0 x.1), λ x. (x.0, (same (edge dim m label daughter) x.0).1 x.1))
 
   pub may_told : AreLabels parts (May parts box) dim daughter those.may
-  may_told label = labelled_like _ _ those.may those.may label label refl refl (leads_like (InRows in_may (nodes parts) rows) (May parts box) may_says label) (told.may dim daughter d l label)
+  may_told label = labelled_like _ _ those.may those.may label label refl refl (leads_like (InRows in_may (nodes parts) rows) (May parts box) (may_says parts p words rows kept) label) (told.may dim daughter d l label)
 
   pub must_told : AreLabels parts (Must parts box) dim daughter those.must
-  must_told label = labelled_like _ _ those.must those.must label label refl refl (leads_like (InRows in_must (nodes parts) rows) (Must parts box) must_says label) (told.must dim daughter d l label)
+  must_told label = labelled_like _ _ those.must those.must label label refl refl (leads_like (InRows in_must (nodes parts) rows) (Must parts box) (must_says parts p words rows kept) label) (told.must dim daughter d l label)
 
 -- ---- those of all daughters
 

@@ -1,5 +1,5 @@
 -- Edges by their daughters.
-use Rattle.std.specs.Prelude.{◌≡◌, ◌≢◌, ◌⊎◌, ◌↔◌, ℕ, ◌<◌, ◌≤◌, ◌+◌, ◌*◌, Bool, not, IsTrue, List, [], length, slice_index_or, Contains}
+use Rattle.std.specs.Prelude.{◌≡◌, ◌≢◌, ◌⊎◌, ◌↔◌, ℕ, ◌<◌, ◌≤◌, ◌+◌, ◌*◌, ◌/◌, ◌%◌, Bool, true, false, not, IsTrue, List, [], length, slice_index_or, Contains}
 use Rattle.xdg_problem.specs.declared.analysis.Edge.{Edge}
 use Rattle.xdg_problem.specs.declared.parts.Parts.{Parts}
 use Rattle.xdg_problem.specs.Analyses.{IsPlace}
@@ -7,6 +7,8 @@ use Rattle.xdg_problem.specs.Boxes.{May, Must}
 use Rattle.xdg_problem.specs.Places.{edge, nodes}
 use Rattle.xdg_store.specs.Layout.{edge_bit, is_set}
 use Rattle.xdg_store.specs.declared.across.Mothers.{Mothers}
+use Rattle.xdg_store.specs.declared.change.Change.{Change}
+use Rattle.xdg_store.specs.declared.change.Change.TheVariants as changes
 use Rattle.xdg_store.specs.declared.decision.Decision.{Decision}
 use Rattle.xdg_store.specs.declared.decision.Decision.TheVariants as decisions
 use Rattle.xdg_facts.specs.Rises.{has}
@@ -25,6 +27,10 @@ row_count parts = (length parts.dims * nodes parts) * 32
 abbrev pub no_mothers : Mothers
 no_mothers = record { may = []; must = [] }
 
+-- whose mothers stand at a place
+abbrev pub daughter_at : ℕ → ℕ → ℕ
+daughter_at n place = place / 32 % n
+
 -- a mother is among those at a place
 abbrev pub in_may : List Mothers → ℕ → ℕ → Bool
 in_may rows place mother = has (slice_index_or rows place no_mothers).may mother
@@ -42,40 +48,84 @@ pub record AreKept (parts : Parts) (words : List ℕ) (rows : List Mothers) : Ty
   pub long : row_count parts ≤ length rows
   pub each : (e : Edge) → IsPlace parts e → IsKept (nodes parts) words rows e
 
--- an edge stands in so many rows and so many words
-pub record Fits (n rows words : ℕ) (e : Edge) : Type 0 where
+-- rows have only nodes of a sentence of n nodes, and none its daughter
+abbrev pub OnlyOthers : (List Mothers → ℕ → ℕ → Bool) → ℕ → List Mothers → Type 0
+OnlyOthers has_mother n rows = (place mother : ℕ) → IsTrue (has_mother rows place mother) → (mother < n) × (mother ≢ daughter_at n place)
+
+-- ---- how they are made anew
+
+-- an edge stands in so many rows
+pub record Fits (n rows : ℕ) (e : Edge) : Type 0 where
   pub label : e.label.0 < 32
-  pub mother : e.mother.0 < 128
+  pub mother : e.mother.0 < n
   pub daughter : e.daughter.0 < n
   pub row_in : edge_at n e < rows
-  pub bits_in : edge_bit n e + 128 < 64 * words
 
--- a decision on an edge is one on such an edge
+-- a decision on an edge is one on such an edge, whose bits stand in so many words
 abbrev pub FitsIn : ℕ → ℕ → ℕ → Decision → Type 0
 FitsIn n rows words (decisions.Entry node) = Unit {0}
 FitsIn n rows words (decisions.Attr dim node attr) = Unit {0}
-FitsIn n rows words (decisions.Place edge) = Fits n rows words edge
+FitsIn n rows words (decisions.Place edge) = Fits n rows edge × (edge_bit n edge + 128 < 64 * words)
 
--- what is kept of an edge is made anew, and of no other
-pub record Renews (n : ℕ) (words : List ℕ) (e : Edge) (old new : List Mothers) : Type 0 where
+-- on one side the row of an edge has its mother where that is wanted, and all else is as it was
+pub record Sets (has_mother : List Mothers → ℕ → ℕ → Bool) (n : ℕ) (e : Edge) (wanted : Bool) (old new : List Mothers) : Type 0 where
+  pub here : has_mother new (edge_at n e) e.mother.0 ≡ wanted
+  pub others : (place mother : ℕ) → (place ≢ edge_at n e) ⊎ (mother ≢ e.mother.0) → has_mother new place mother ≡ has_mother old place mother
+
+-- on both sides
+pub record Renews (n : ℕ) (e : Edge) (possible certain : Bool) (old new : List Mothers) : Type 0 where
   pub count : length new ≡ length old
-  pub kept : IsKept n words new e
-  pub may_others : (place mother : ℕ) → (place ≢ edge_at n e) ⊎ (mother ≢ e.mother.0) → in_may new place mother ≡ in_may old place mother
-  pub must_others : (place mother : ℕ) → (place ≢ edge_at n e) ⊎ (mother ≢ e.mother.0) → in_must new place mother ≡ in_must old place mother
+  pub may : Sets in_may n e possible old new
+  pub must : Sets in_must n e certain old new
 
--- that of the edge on which a decision is
+-- an edge was forced by a call that answers so
+abbrev pub Forces : Change → ℕ → Edge → List Mothers → List Mothers → Type 0
+Forces changes.Same n e old new = new ≡ old
+Forces changes.Changed n e old new = Renews n e (in_may old (edge_at n e) e.mother.0) true old new
+Forces changes.Emptied n e old new = new ≡ old
+
+-- and forbidden
+abbrev pub Forbids : Change → ℕ → Edge → List Mothers → List Mothers → Type 0
+Forbids changes.Same n e old new = new ≡ old
+Forbids changes.Changed n e old new = Renews n e false (in_must old (edge_at n e) e.mother.0) old new
+Forbids changes.Emptied n e old new = new ≡ old
+
+-- what is kept of an edge is what words say
+abbrev pub RenewsBy : ℕ → List ℕ → Edge → List Mothers → List Mothers → Type 0
+RenewsBy n words e old new = Renews n e (is_set words (edge_bit n e)) (not (is_set words (edge_bit n e + 128))) old new
+
+-- and of the edge on which a decision is
 abbrev pub RenewsOf : ℕ → List ℕ → Decision → List Mothers → List Mothers → Type 0
 RenewsOf n words (decisions.Entry node) old new = new ≡ old
 RenewsOf n words (decisions.Attr dim node attr) old new = new ≡ old
-RenewsOf n words (decisions.Place edge) old new = Renews n words edge old new
+RenewsOf n words (decisions.Place edge) old new = RenewsBy n words edge old new
 
 -- that of the edges of some decisions
 pub record RenewsAll (n : ℕ) (words : List ℕ) (changed : List Decision) (old new : List Mothers) : Type 0 where
   pub count : length new ≡ length old
-  pub each : (e : Edge) → Fits n (length old) (length words) e → IsKept n words old e ⊎ Contains changed (decisions.Place e) → IsKept n words new e
+  pub each : (e : Edge) → Fits n (length old) e → IsKept n words old e ⊎ Contains changed (decisions.Place e) → IsKept n words new e
 
--- of each of so many labels, from which other nodes edges with it may lead into a daughter, and from which they must
+-- ---- the start
+
+-- all other nodes of a sentence of n nodes may be mothers of a daughter, and none must be
+pub record IsFull (n daughter : ℕ) (row : Mothers) : Type 0 where
+  pub may : (mother : ℕ) → IsTrue (has row.may mother) ↔ ((mother < n) × (mother ≢ daughter))
+  pub must : row.must ≡ []
+
+-- of the daughter at each place
+abbrev pub AreFull : List Mothers → ℕ → Type 0
+AreFull rows n = (place : ℕ) → place < length rows → IsFull n (daughter_at n place) (slice_index_or rows place no_mothers)
+
+-- ---- what is read
+
+-- of each of so many labels, the other nodes from which edges with it may lead into a daughter, and from which they must
 pub record AreMothers (parts : Parts) (box : List (List Bool)) (dim daughter labels : ℕ) (rows : List Mothers) : Type 0 where
   pub count : length rows ≡ labels
-  pub may : (mother label : ℕ) → mother < nodes parts → mother ≢ daughter → label < labels → IsTrue (in_may rows label mother) ↔ May parts box (edge dim mother label daughter)
-  pub must : (mother label : ℕ) → mother < nodes parts → mother ≢ daughter → label < labels → IsTrue (in_must rows label mother) ↔ Must parts box (edge dim mother label daughter)
+  pub may : (mother label : ℕ)
+      → label < labels
+      → IsTrue (in_may rows label mother)
+      ↔ ((mother < nodes parts) × (mother ≢ daughter) × May parts box (edge dim mother label daughter))
+  pub must : (mother label : ℕ)
+      → label < labels
+      → IsTrue (in_must rows label mother)
+      ↔ ((mother < nodes parts) × (mother ≢ daughter) × Must parts box (edge dim mother label daughter))

@@ -9,7 +9,7 @@ use Rattle.xdg_problem.specs.Analyses.{IsPlace}
 use Rattle.xdg_problem.specs.Boxes.{May, Must}
 use Rattle.xdg_problem.specs.Places.{edge, nodes}
 use Rattle.xdg_problem.specs.Problems.{IsProblem}
-use Rattle.xdg_store.specs.Across.{edge_at, in_may, in_must}
+use Rattle.xdg_store.specs.Across.{OnlyOthers, edge_at, in_may, in_must}
 use Rattle.xdg_store.specs.declared.across.Mothers.{Mothers}
 use Rattle.xdg_store.specs.declared.labels.Labels.{Labels}
 use Rattle.xdg_store.specs.declared.labels.LabelsInto.{LabelsInto}
@@ -58,11 +58,19 @@ pub record AreLabelsOf (parts : Parts) (box : List (List Bool)) (dim : ℕ) (lab
 abbrev pub InRows : (List Mothers → ℕ → ℕ → Bool) → ℕ → List Mothers → Edge → Type 0
 InRows has_mother n rows e = IsTrue (has_mother rows (edge_at n e) e.mother.0)
 
--- what stands of each daughter is what rows say
+-- rows have only others, and what stands of each daughter is what they say
 pub record AreTold (parts : Parts) (rows : List Mothers) (into : List LabelsInto) : Type 0 where
   pub wide : length rows ≤ length into * 32
-  pub may : (dim daughter : ℕ) → dim < length parts.dims → daughter < nodes parts → AreLabels parts (InRows in_may (nodes parts) rows) dim daughter (at_place into (labels_at (nodes parts) dim daughter)).may
-  pub must : (dim daughter : ℕ) → dim < length parts.dims → daughter < nodes parts → AreLabels parts (InRows in_must (nodes parts) rows) dim daughter (at_place into (labels_at (nodes parts) dim daughter)).must
+  pub may_others : OnlyOthers in_may (nodes parts) rows
+  pub must_others : OnlyOthers in_must (nodes parts) rows
+  pub may : (dim daughter : ℕ)
+      → dim < length parts.dims
+      → daughter < nodes parts
+      → AreLabels parts (InRows in_may (nodes parts) rows) dim daughter (at_place into (labels_at (nodes parts) dim daughter)).may
+  pub must : (dim daughter : ℕ)
+      → dim < length parts.dims
+      → daughter < nodes parts
+      → AreLabels parts (InRows in_must (nodes parts) rows) dim daughter (at_place into (labels_at (nodes parts) dim daughter)).must
 
 -- ---- how they are made anew
 
@@ -72,21 +80,17 @@ pub record Marks (P : ℕ → Type 0) (label : ℕ) (old new : Labels) : Type 0 
   pub some_others : (l : ℕ) → l ≢ label → bit_at new.some l ≡ bit_at old.some l
   pub more_others : (l : ℕ) → l ≢ label → bit_at new.more l ≡ bit_at old.more l
 
--- the row of an edge has a mother of the sentence of n nodes, other than the daughter
-abbrev pub IsMother : (List Mothers → ℕ → ℕ → Bool) → ℕ → List Mothers → Edge → ℕ → Type 0
-IsMother has_mother n rows e m = (m < n) × (m ≢ e.daughter.0) × IsTrue (has_mother rows (edge_at n e) m)
-
 -- an edge is among those of its row where it is wanted, and the bits of its label are made anew unless the row stays
-pub record RenewsSide (all : List ℕ) (e : Edge) (wanted : Bool) (old new : List ℕ) (before after : Labels) : Type 0 where
+pub record RenewsSide (e : Edge) (wanted : Bool) (old new : List ℕ) (before after : Labels) : Type 0 where
   pub here : has new e.mother.0 ≡ wanted
   pub others : (m : ℕ) → m ≢ e.mother.0 → has new m ≡ has old m
-  pub labels : ((new ≡ old) × (after ≡ before)) ⊎ Marks (λ m. IsTrue (has all m) × (m ≢ e.daughter.0) × IsTrue (has new m)) e.label.0 before after
+  pub labels : ((new ≡ old) × (after ≡ before)) ⊎ Marks (λ m. IsTrue (has new m)) e.label.0 before after
 
 -- the bits of the label of an edge say again what its row says
 abbrev pub SaysAgain : (List Mothers → ℕ → ℕ → Bool) → ℕ → Edge → List Mothers → List Mothers → Labels → Labels → Type 0
 SaysAgain has_mother n e old new before after =
     (((m : ℕ) → has_mother new (edge_at n e) m ≡ has_mother old (edge_at n e) m) × (after ≡ before))
-    ⊎ Marks (IsMother has_mother n new e) e.label.0 before after
+    ⊎ Marks (λ m. IsTrue (has_mother new (edge_at n e) m)) e.label.0 before after
 
 -- and those of no other
 pub record Relabels (n : ℕ) (e : Edge) (old new : List Mothers) (before after : List LabelsInto) : Type 0 where

@@ -1,6 +1,6 @@
 //! The labels of edges into daughters.
 
-ghost use Rattle.std.specs.Prelude.{◌≡◌, ◌≢◌, ℕ, ◌<◌, ◌≤◌, ◌+◌, ◌*◌, ◌/◌, ◌↔◌, ◌&&◌, ◌==◌, not, false, IsTrue, All, drop, length, nat_lt, slice_index_or, take};
+ghost use Rattle.std.specs.Prelude.{◌≡◌, ◌≢◌, ℕ, ◌<◌, ◌≤◌, ◌*◌, ◌/◌, ◌↔◌, false, IsTrue, All, length, slice_index_or};
 ghost use Rattle.std.specs.Int.{bit_at};
 ghost use Rattle.xdg_facts.specs.Rises.{has};
 ghost use Rattle.xdg_problem.specs.Arguments.{no_plan};
@@ -34,15 +34,6 @@ pub(crate) fn labels_at(nodes: usize, dim: DimId, daughter: NodeId) -> usize
     dim.0 as usize * nodes + daughter.0 as usize
 }
 
-/// So many labels from a place on.
-pub(crate) fn labels_from(labels: &[LabelsInto], first: usize, count: usize) -> &[LabelsInto]
-    requires { first + count ≤ length labels.now }
-    ensures { result.now ≡ take count (drop first labels.now) }
-{
-    let rest = &labels[first..];
-    &rest[..count]
-}
-
 /// A word with a bit, or without it.
 fn with_bit_if(word: u32, bit: u8, wanted: bool) -> u32
     requires { bit < 32 }
@@ -56,25 +47,15 @@ fn with_bit_if(word: u32, bit: u8, wanted: bool) -> u32
 }
 
 /// Labels, of which one is that of edges from so many mothers as a set has.
-fn with_label(labels: Labels, label: LabelId, mothers: NodeSet) -> Labels
+fn with_label(labels: Labels, label: LabelId, mothers: &NodeSet) -> Labels
     requires { label.0 < 32 }
-    ensures { Marks (λ m. IsTrue (has mothers m)) label.0 labels result }
+    ensures { Marks (λ m. IsTrue (has mothers.now m)) label.0 labels result }
 {
     let count = mothers.len();
     Labels {
         some: with_bit_if(labels.some, label.0, count > 0),
         more: with_bit_if(labels.more, label.0, count > 1),
     }
-}
-
-/// What a set has of the nodes of a sentence that aren't the daughter.
-fn mothers_in(set: &NodeSet, all: &NodeSet, daughter: NodeId) -> NodeSet
-    requires { daughter.0 < 128 }
-    ensures { (n : ℕ) → has result n ≡ (not (n == daughter.0) && (has set.now n && has all.now n)) }
-{
-    let mut mothers = set.meet(all);
-    mothers.remove(daughter);
-    mothers
 }
 
 /// Adds a node to a set, or takes it out, and tells whether the set changed.
@@ -90,22 +71,14 @@ fn set_if(nodes: &mut NodeSet, node: NodeId, wanted: bool) -> bool
     nodes.remove(node)
 }
 
-/// Makes anew whether an edge is among those of its row, and what is said of its label where the row changes by it. `all`
-/// has the nodes of the sentence.
-pub(crate) fn renew_side(
-    mothers: &mut NodeSet,
-    labels: &mut Labels,
-    all: &NodeSet,
-    edge: Edge,
-    wanted: bool,
-)
+/// Makes anew whether an edge is among those of its row, and what is said of its label where the row changes by it.
+pub(crate) fn renew_side(mothers: &mut NodeSet, labels: &mut Labels, edge: Edge, wanted: bool)
     requires label { edge.label.0 < 32 }
     requires mother { edge.mother.0 < 128 }
-    requires daughter { edge.daughter.0 < 128 }
-    ensures { RenewsSide all.now edge wanted mothers.old mothers.new labels.old labels.new }
+    ensures { RenewsSide edge wanted mothers.old mothers.new labels.old labels.new }
 {
     if set_if(mothers, edge.mother, wanted) {
-        *labels = with_label(*labels, edge.label, mothers_in(mothers, all, edge.daughter));
+        *labels = with_label(*labels, edge.label, mothers);
     }
 }
 

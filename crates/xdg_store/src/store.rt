@@ -14,10 +14,12 @@ ghost use Rattle.xdg_store.specs.Labels.{AreLabels, AreLabelsOf};
 ghost use Rattle.xdg_store.specs.Naming.{Names};
 ghost use Rattle.xdg_store.specs.States.{Known};
 
-use crate::across::{Mothers, mothers_at, renew, renew_all, rows_from};
+use crate::across::{
+    Mothers, fill_rows, mothers_at, no_mothers, part_of, renew_all, renew_forbidden, renew_forced,
+};
 use crate::change::Change;
 use crate::decision::Decision;
-use crate::labels::{LabelsInto, label_all, labels_at, labels_from, no_labels};
+use crate::labels::{LabelsInto, label_all, labels_at, no_labels};
 use crate::layout::{attr_row, edge_row, entry_row};
 use crate::masks::{nodes_below, row_nodes};
 use crate::naming::{behind, note};
@@ -102,11 +104,8 @@ impl<'a> Store<'a> {
         let trail = Trail::start(alloc, words, free)?;
         let removed = Vec::with_capacity(alloc, free)?;
         let all = nodes_below(node_count);
-        let full = Mothers {
-            may: all,
-            must: NodeSet::empty(),
-        };
-        let across = vec![in alloc; full; parts.dims.len() * node_count * 32]?;
+        let mut across = vec![in alloc; no_mothers(); parts.dims.len() * node_count * 32]?;
+        fill_rows(&mut across, node_count, &all);
         let mut into = vec![in alloc; no_labels(); parts.dims.len() * node_count]?;
         label_all(&mut into, parts.dims.as_slice(), node_count);
         let single = trail.spare() - free;
@@ -167,13 +166,12 @@ impl<'a> Store<'a> {
         let row = edge_row(self.node_count, edge.dim, edge.mother, edge.label);
         let present = row + edge.daughter.0 as usize;
         let change = take_of_pair(&mut self.trail, present + 128, present);
-        renew(
+        renew_forced(
             &mut self.across,
             &mut self.into,
-            &self.trail,
             self.node_count,
-            &self.all,
             edge,
+            change,
         );
         note(&mut self.removed, change, Decision::Place(edge));
         change
@@ -188,13 +186,12 @@ impl<'a> Store<'a> {
         let row = edge_row(self.node_count, edge.dim, edge.mother, edge.label);
         let present = row + edge.daughter.0 as usize;
         let change = take_of_pair(&mut self.trail, present, present + 128);
-        renew(
+        renew_forbidden(
             &mut self.across,
             &mut self.into,
-            &self.trail,
             self.node_count,
-            &self.all,
             edge,
+            change,
         );
         note(&mut self.removed, change, Decision::Place(edge));
         change
@@ -297,10 +294,7 @@ impl<'a> Store<'a> {
             ↔ ((node < nodes self.now.parts) × (node ≢ daughter.0) × May self.now.parts self.now.now (edge dim.0 node label.0 daughter.0)) }
         ensures known { Known self.now }
     {
-        let row = self.across[mothers_at(self.node_count, dim, daughter, label)];
-        let mut mothers = row.may.meet(&self.all);
-        mothers.remove(daughter);
-        mothers
+        self.across[mothers_at(self.node_count, dim, daughter, label)].may
     }
 
     /// The mothers from which an edge with a label into a daughter must lead.
@@ -311,10 +305,7 @@ impl<'a> Store<'a> {
             ↔ ((node < nodes self.now.parts) × (node ≢ daughter.0) × Must self.now.parts self.now.now (edge dim.0 node label.0 daughter.0)) }
         ensures known { Known self.now }
     {
-        let row = self.across[mothers_at(self.node_count, dim, daughter, label)];
-        let mut mothers = row.must.meet(&self.all);
-        mothers.remove(daughter);
-        mothers
+        self.across[mothers_at(self.node_count, dim, daughter, label)].must
     }
 
     /// By label, for the first so many labels of a dimension, the mothers from which edges into a daughter may lead, and
@@ -329,7 +320,7 @@ impl<'a> Store<'a> {
             return &[];
         }
         let first = mothers_at(self.node_count, dim, daughter, LabelId(0));
-        rows_from(rows, first, labels as usize)
+        part_of(rows, first, labels as usize)
     }
 
     /// The labels of the edges into a daughter that may be present, and of those that must be.
@@ -350,7 +341,7 @@ impl<'a> Store<'a> {
         ensures known { Known self.now }
     {
         let first = labels_at(self.node_count, dim, NodeId(0));
-        labels_from(self.into.as_slice(), first, self.node_count)
+        part_of(self.into.as_slice(), first, self.node_count)
     }
 
     /// The nodes of the sentence.
@@ -386,7 +377,6 @@ impl<'a> Store<'a> {
             &mut self.into,
             &self.trail,
             self.node_count,
-            &self.all,
             undone,
         );
         self.removed.truncate(mark.records());

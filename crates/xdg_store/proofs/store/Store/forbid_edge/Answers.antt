@@ -1,14 +1,14 @@
-use Rattle.std.proofs.Common.{◌+◌, ◌∙◌, length, refl, ap, subst, sym}
-use Rattle.std.specs.Prelude.{nat_lt, sum}
+use Rattle.std.proofs.Common.{◌+◌, length, refl, subst, sym}
+use Rattle.std.specs.Prelude.{sum}
 use Rattle.std.specs.Vec.{vec_capacity}
 use Rattle.xdg_problem.specs.Analyses.{IsPlace}
 use Rattle.xdg_problem.specs.Boxes.{edge_decision}
 use Rattle.xdg_problem.specs.Vectors.{shape}
-use Rattle.xdg_store.specs.Across.{Fits, Renews}
+use Rattle.xdg_store.specs.Across.{Fits, Forbids}
 use Rattle.xdg_store.specs.Change.{Removes}
 use Rattle.xdg_store.specs.declared.decision.Decision.TheVariants as decisions
 use Rattle.xdg_store.proofs.Histories.{known_of, seen}
-use Rattle.xdg_store.proofs.Kept.{kept_renewed, place_fits}
+use Rattle.xdg_store.proofs.Kept.{kept_forbidden, place_fits}
 use Rattle.xdg_store.proofs.Noting.{note_room, steps_after}
 use Rattle.xdg_store.proofs.Pairs.{edge_is_pair, forbid_keeps, forbid_removes, forbid_room, pair_within}
 use Rattle.xdg_store.proofs.store.Store.forbid_edge.Goals as goal
@@ -37,20 +37,14 @@ take_of_pair-change-requires-clause-room c =
     let pair = edge_is_pair p c.args.edge c.self.inside.node_count c.edge_row-row.result present c.self.invariant.0.problem h c.self.invariant.1 c.edge_row-row.ensures refl in
     forbid_room p c.self.inside.trail c.self.inside.single c.args.edge present c.self.invariant.0 pair
 
-pub renew-requires-clause-fits : goal.renew-requires-clause-fits
-renew-requires-clause-fits c =
+pub renew_forbidden-requires-clause-fits : goal.renew_forbidden-requires-clause-fits
+renew_forbidden-requires-clause-fits c =
     let p = c.self.inside.problem.now in
     let h = subst (λ s. IsPlace s.parts c.args.edge) (sym c.self.view_is) c.requires in
-    let present = c.edge_row-row.result + c.args.edge.daughter.0 in
-    let pair = edge_is_pair p c.args.edge c.self.inside.node_count c.edge_row-row.result present c.self.invariant.0.problem h c.self.invariant.1 c.edge_row-row.ensures refl in
-    subst (λ n. Fits n (length c.self.inside.across.items) (length c.take_of_pair-change.new.trail.words) c.args.edge) (sym c.self.invariant.1)
-    (place_fits p (length c.self.inside.across.items) (length c.take_of_pair-change.new.trail.words) c.args.edge c.self.invariant.0.problem h c.self.invariant.4.long (forbid_keeps p c.self.inside.trail c.self.inside.single c.args.edge present c.self.invariant.0 pair c.take_of_pair-change.new.trail c.take_of_pair-change.result c.take_of_pair-change.ensures).long)
+    subst (λ n. Fits n (length c.self.inside.across.items) c.args.edge) (sym c.self.invariant.1) (place_fits p (length c.self.inside.across.items) c.args.edge c.self.invariant.0.problem h c.self.invariant.4.long)
 
-pub renew-requires-clause-all : goal.renew-requires-clause-all
-renew-requires-clause-all c node = c.self.invariant.2 node ∙ ap (nat_lt node) (sym c.self.invariant.1)
-
-pub renew-requires-clause-wide : goal.renew-requires-clause-wide
-renew-requires-clause-wide c = c.self.invariant.5.wide
+pub renew_forbidden-requires-clause-wide : goal.renew_forbidden-requires-clause-wide
+renew_forbidden-requires-clause-wide c = c.self.invariant.5.wide
 
 pub note-requires : goal.note-requires
 note-requires c =
@@ -74,9 +68,9 @@ invariant_of-self c =
       c.self.invariant.2,
       steps_after p c.take_of_pair-change.result c.self.inside.trail c.take_of_pair-change.new.trail c.self.inside.turns c.self.inside.single c.self.inside.removed.items c.note.new.removed.items (decisions.Place c.args.edge) 0 (vec_capacity c.self.inside.removed) (vec_capacity c.note.new.removed)
           c.self.invariant.0 h c.self.invariant.3 (forbid_removes p c.self.inside.trail c.self.inside.single c.args.edge present c.self.invariant.0 pair c.take_of_pair-change.new.trail c.take_of_pair-change.result c.self.inside.turns c.take_of_pair-change.ensures) c.note.ensures.items c.note.ensures.room,
-      kept_renewed p c.self.invariant.0.problem c.take_of_pair-change.result c.self.inside.trail c.take_of_pair-change.new.trail c.self.inside.turns 0 c.args.edge c.self.inside.across.items c.renew.new.rows.items h (forbid_keeps p c.self.inside.trail c.self.inside.single c.args.edge present c.self.invariant.0 pair c.take_of_pair-change.new.trail c.take_of_pair-change.result c.take_of_pair-change.ensures).long (forbid_removes p c.self.inside.trail c.self.inside.single c.args.edge present c.self.invariant.0 pair c.take_of_pair-change.new.trail c.take_of_pair-change.result c.self.inside.turns c.take_of_pair-change.ensures)
-          (subst (λ n. Renews n c.take_of_pair-change.new.trail.words c.args.edge c.self.inside.across.items c.renew.new.rows.items) c.self.invariant.1 c.renew.ensures.renews) c.self.invariant.4,
-      c.renew.ensures.told p c.self.invariant.0.problem (sym c.self.invariant.1) h c.self.invariant.5,
+      kept_forbidden p c.self.invariant.0.problem c.self.inside.trail c.take_of_pair-change.new.trail c.self.inside.turns c.args.edge c.self.inside.across.items c.renew_forbidden.new.rows.items h c.self.invariant.4 c.take_of_pair-change.result (forbid_removes p c.self.inside.trail c.self.inside.single c.args.edge present c.self.invariant.0 pair c.take_of_pair-change.new.trail c.take_of_pair-change.result c.self.inside.turns c.take_of_pair-change.ensures)
+          (subst (λ n. Forbids c.take_of_pair-change.result n c.args.edge c.self.inside.across.items c.renew_forbidden.new.rows.items) c.self.invariant.1 c.renew_forbidden.ensures.forbids),
+      c.renew_forbidden.ensures.told p c.self.invariant.0.problem (sym c.self.invariant.1) h c.self.invariant.5,
     )
 
 pub returns-clause-removes : goal.returns-clause-removes

@@ -8,8 +8,8 @@ use Rattle.xdg_store.proofs.Histories.{known_of}
 use Rattle.xdg_store.proofs.Telling.{part_told, part_within}
 use Rattle.xdg_store.proofs.store.Store.labels_by_daughter.Goals as goal
 
-pub labels_from-requires : goal.labels_from-requires
-labels_from-requires c =
+pub part_of-requires : goal.part_of-requires
+part_of-requires c =
     let d = subst (λ s. c.args.dim.0 < length s.parts.dims) (sym c.self.view_is) c.requires in
     subst (λ (xs : List LabelsInto). c.labels_at-first.result + c.self.inside.node_count ≤ length xs) (sym c.as_slice.ensures.value)
     (part_within c.self.inside.problem.now c.self.inside.across.items c.self.inside.into.items c.self.inside.trail.words c.self.inside.node_count c.args.dim.0 c.labels_at-first.result c.self.invariant.4 c.self.invariant.5 c.self.invariant.1 c.labels_at-first.ensures d)
@@ -17,9 +17,9 @@ labels_from-requires c =
 pub returns-clause-labels : goal.returns-clause-labels
 returns-clause-labels c =
     let d = subst (λ s. c.args.dim.0 < length s.parts.dims) (sym c.self.view_is) c.requires in
-    let part : c.labels_from.result.now ≡ take c.self.inside.node_count (drop c.labels_at-first.result c.self.inside.into.items) = c.labels_from.ensures ∙ ap (λ (xs : List LabelsInto). take c.self.inside.node_count (drop c.labels_at-first.result xs)) c.as_slice.ensures.value in
-    subst (λ s. AreLabelsOf s.parts s.now c.args.dim.0 c.labels_from.result.now) c.self.view_is
-    (part_told c.self.inside.problem.now c.self.invariant.0.problem c.self.inside.trail.words c.self.inside.across.items c.self.inside.into.items c.self.invariant.4 c.self.invariant.5 c.args.dim.0 c.self.inside.node_count c.labels_at-first.result d c.self.invariant.1 c.labels_at-first.ensures c.labels_from.result.now part)
+    let part : c.part_of.result.now ≡ take c.self.inside.node_count (drop c.labels_at-first.result c.self.inside.into.items) = c.part_of.ensures ∙ ap (λ (xs : List LabelsInto). take c.self.inside.node_count (drop c.labels_at-first.result xs)) c.as_slice.ensures.value in
+    subst (λ s. AreLabelsOf s.parts s.now c.args.dim.0 c.part_of.result.now) c.self.view_is
+    (part_told c.self.inside.problem.now c.self.invariant.0.problem c.self.inside.trail.words c.self.inside.across.items c.self.inside.into.items c.self.invariant.4 c.self.invariant.5 c.args.dim.0 c.self.inside.node_count c.labels_at-first.result d c.self.invariant.1 c.labels_at-first.ensures c.part_of.result.now part)
 
 pub returns-clause-known : goal.returns-clause-known
 returns-clause-known c = subst Known c.self.view_is (known_of c.self.inside.problem.now (sum (shape c.self.inside.problem.now)) c.self.inside.turns c.self.inside.trail c.self.invariant.0.problem c.self.invariant.0.sound)

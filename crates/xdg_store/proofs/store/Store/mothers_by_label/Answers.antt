@@ -19,8 +19,8 @@ some_of labels n = omega (arith, n)
 pub returns-then-labels-eq0-clause-known : goal.returns-then-labels-eq0-clause-known
 returns-then-labels-eq0-clause-known c = subst Known c.self.view_is (known_of c.self.inside.problem.now (sum (shape c.self.inside.problem.now)) c.self.inside.turns c.self.inside.trail c.self.invariant.0.problem c.self.invariant.0.sound)
 
-pub rows_from-requires : goal.rows_from-requires
-rows_from-requires c =
+pub part_of-requires : goal.part_of-requires
+part_of-requires c =
     let p = c.self.inside.problem.now in
     let h : HasAll p c.args.dim.0 c.args.daughter.0 c.args.labels = subst (λ s. HasAll s.parts c.args.dim.0 c.args.daughter.0 c.args.labels) (sym c.self.view_is) c.requires in
     subst (λ (xs : List Mothers). c.mothers_at-first.result + c.args.labels ≤ length xs) (sym c.as_slice-rows.ensures.value)
@@ -30,9 +30,9 @@ pub returns-clause-mothers : goal.returns-clause-mothers
 returns-clause-mothers c =
     let p = c.self.inside.problem.now in
     let h : HasAll p c.args.dim.0 c.args.daughter.0 c.args.labels = subst (λ s. HasAll s.parts c.args.dim.0 c.args.daughter.0 c.args.labels) (sym c.self.view_is) c.requires in
-    let part : c.rows_from.result.now ≡ take c.args.labels (drop c.mothers_at-first.result c.self.inside.across.items) = c.rows_from.ensures ∙ ap (λ (xs : List Mothers). take c.args.labels (drop c.mothers_at-first.result xs)) c.as_slice-rows.ensures.value in
-    subst (λ s. AreMothers s.parts s.now c.args.dim.0 c.args.daughter.0 c.args.labels c.rows_from.result.now) c.self.view_is
-    (mothers_are p c.self.invariant.0.problem c.self.inside.trail.words c.self.inside.across.items c.self.invariant.4 c.self.inside.node_count c.args.dim.0 c.args.daughter.0 c.args.labels c.mothers_at-first.result (some_of c.args.labels c.if-labels-eq0.false) h c.self.invariant.1 c.mothers_at-first.ensures c.rows_from.result.now part)
+    let part : c.part_of.result.now ≡ take c.args.labels (drop c.mothers_at-first.result c.self.inside.across.items) = c.part_of.ensures ∙ ap (λ (xs : List Mothers). take c.args.labels (drop c.mothers_at-first.result xs)) c.as_slice-rows.ensures.value in
+    subst (λ s. AreMothers s.parts s.now c.args.dim.0 c.args.daughter.0 c.args.labels c.part_of.result.now) c.self.view_is
+    (mothers_are p c.self.invariant.0.problem c.self.inside.trail.words c.self.inside.across.items c.self.invariant.4 c.self.invariant.5.may_others c.self.invariant.5.must_others c.self.inside.node_count c.args.dim.0 c.args.daughter.0 c.args.labels c.mothers_at-first.result (some_of c.args.labels c.if-labels-eq0.false) h c.self.invariant.1 c.mothers_at-first.ensures c.part_of.result.now part)
 
 pub returns-clause-known : goal.returns-clause-known
 returns-clause-known c = subst Known c.self.view_is (known_of c.self.inside.problem.now (sum (shape c.self.inside.problem.now)) c.self.inside.turns c.self.inside.trail c.self.invariant.0.problem c.self.invariant.0.sound)

@@ -2,7 +2,7 @@ use Rattle.std.proofs.Common.{◌≢◌, ◌<◌, ◌↔◌, IsTrue, length, ari
 use Rattle.xdg_problem.specs.Boxes.{Must}
 use Rattle.xdg_problem.specs.Places.{edge, nodes}
 use Rattle.xdg_store.specs.InRange.{HasEdges}
-use Rattle.xdg_store.proofs.Kept.{mothers_must_exact, row_within}
+use Rattle.xdg_store.proofs.Kept.{must_exact, row_read, row_within}
 use Rattle.std.specs.Prelude.{sum}
 use Rattle.xdg_problem.specs.Vectors.{shape}
 use Rattle.xdg_store.specs.States.{Known}
@@ -25,6 +25,7 @@ pub returns-clause-exact : goal.returns-clause-exact
 returns-clause-exact c node =
     let p = c.self.inside.problem.now in
     let h = subst (λ s. HasEdges s.parts c.args.dim.0 c.args.daughter.0 c.args.label.0) (sym c.self.view_is) c.requires in
-    subst (λ s. IsTrue (has c.remove.new.self node) ↔ ((node < nodes s.parts) × (node ≢ c.args.daughter.0) × Must s.parts s.now (edge c.args.dim.0 node c.args.label.0 c.args.daughter.0))) c.self.view_is
-    (mothers_must_exact p c.self.invariant.0.problem c.self.inside.trail.words c.self.inside.across.items c.self.invariant.4 c.self.inside.node_count c.args.dim.0 c.args.daughter.0 c.args.label.0 c.mothers_at.result h c.self.invariant.1 c.mothers_at.ensures
-    c.index.result.now c.index.ensures c.self.inside.all c.meet-mothers.result c.remove.new.self c.self.invariant.2 c.remove.ensures.members node c.meet-mothers.ensures.members)
+    let rows = c.self.inside.across.items in
+    let there = row_read p c.self.invariant.0.problem c.self.inside.trail.words rows c.self.invariant.4 c.self.inside.node_count c.args.dim.0 c.args.daughter.0 c.args.label.0 c.mothers_at.result h c.self.invariant.1 c.mothers_at.ensures c.index.result.now c.index.ensures in
+    subst (λ s. IsTrue (has c.index.result.now.must node) ↔ ((node < nodes s.parts) × (node ≢ c.args.daughter.0) × Must s.parts s.now (edge c.args.dim.0 node c.args.label.0 c.args.daughter.0))) c.self.view_is
+    (must_exact p c.self.invariant.0.problem c.self.inside.trail.words rows c.self.invariant.4 c.args.dim.0 c.args.daughter.0 c.args.label.0 h c.index.result.now there node c.self.invariant.5.must_others)

@@ -1,5 +1,5 @@
 use Rattle.std.proofs.Common.{◌≡◌, ◌≤◌, ◌+◌, ◌-◌, ◌∙◌, [], length, get_or, take, drop, ap, ap₂, arith, subst, sym}
-use Rattle.std.specs.Prelude.{All, nat_lt, sum}
+use Rattle.std.specs.Prelude.{All, sum}
 use Rattle.std.specs.Vec.{vec_capacity}
 use Rattle.xdg_problem.specs.Places.{nodes}
 use Rattle.xdg_problem.specs.Vectors.{shape}
@@ -28,9 +28,6 @@ renew_all-requires-clause-fits c =
     subst (λ k. All (FitsIn k (length c.self.inside.across.items) (length c.undo.new.self.words)) c.behind-undone.result.now) (sym c.self.invariant.1)
     (subst (All (FitsIn (nodes p) (length c.self.inside.across.items) (length c.undo.new.self.words))) (sym (c.behind-undone.ensures ∙ ap₂ drop c.records.ensures c.as_slice.ensures.value))
     (all_fit p c.self.inside.trail c.self.inside.removed.items (vec_capacity c.self.inside.removed) (length c.self.inside.across.items) (length c.undo.new.self.words) c.args.mark c.self.invariant.0.problem c.self.invariant.3 c.self.invariant.4.long keeps.long))
-
-pub renew_all-requires-clause-all : goal.renew_all-requires-clause-all
-renew_all-requires-clause-all c node = c.self.invariant.2 node ∙ ap (nat_lt node) (sym c.self.invariant.1)
 
 pub renew_all-requires-clause-wide : goal.renew_all-requires-clause-wide
 renew_all-requires-clause-wide c = c.self.invariant.5.wide
