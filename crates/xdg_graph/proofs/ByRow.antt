@@ -1,12 +1,10 @@
 -- The mothers of a node by the rows of its labels.
-use Rattle.std.proofs.Common.{◌≡◌, ◌≢◌, ℕ, ◌<◌, ◌≤◌, ◌+◌, ◌↔◌, ◌&&◌, ◌||◌, inl, inr, Bool, true, IsTrue, List, [], length, get_or, ap, sym, ◌∙◌, arith, subst}
-use Rattle.std.specs.Prelude.{◌==◌, nat_lt, not}
+use Rattle.std.proofs.Common.{◌≡◌, ◌≢◌, ℕ, ◌<◌, ◌≤◌, ◌+◌, ◌↔◌, ◌||◌, inl, inr, Bool, true, IsTrue, List, [], length, get_or, ap, sym, ◌∙◌, arith, subst}
 use Rattle.std.specs.Int.{bit_at}
 use Rattle.std.proofs.lemmas.Nat.Bits.{bit_at-zero}
-use Rattle.std.proofs.lemmas.Bool.{cases_lt, eq-eqb, false≢true, lt-ltb, ltb-true, ne_eqb}
+use Rattle.std.proofs.lemmas.Bool.{cases_lt, false≢true}
 use Rattle.std.proofs.lemmas.List.{get_or_default, get_or_past}
 use Rattle.xdg_facts.specs.Rises.{has}
-use Rattle.xdg_nodeset.proofs.TableSets.{both}
 use Rattle.xdg_problem.specs.declared.parts.Parts.{Parts}
 use Rattle.xdg_problem.specs.Analyses.{IsPlace}
 use Rattle.xdg_problem.specs.Boxes.{IsBox}
@@ -59,32 +57,20 @@ pub rows_there : (parts : Parts) (dim daughter labels : ℕ) → daughter < node
 rows_there parts dim daughter labels within same label l = has_edges parts dim daughter label within (omega (arith, l, same))
 
 -- a row says from which other nodes an edge leads
-row_stands : (which : Which) (parts : Parts) (box : List (List Bool)) (dim v labels : ℕ) (rows : List Mothers) → AreMothers parts box dim v labels rows → (u label : ℕ) → u < nodes parts → u ≢ v → label < labels → RowHas which rows label u ↔ Stands which parts box (edge dim u label v)
-row_stands whichs.May parts box dim v labels rows are u label l differ i = are.may u label l differ i
-row_stands whichs.Must parts box dim v labels rows are u label l differ i = are.must u label l differ i
+row_stands : (which : Which) (parts : Parts) (box : List (List Bool)) (dim v labels : ℕ) (rows : List Mothers) → AreMothers parts box dim v labels rows → (u label : ℕ) → label < labels → RowHas which rows label u ↔ ((u < nodes parts) × (u ≢ v) × Stands which parts box (edge dim u label v))
+row_stands whichs.May parts box dim v labels rows are u label l = are.may u label l
+row_stands whichs.Must parts box dim v labels rows are u label l = are.must u label l
 
--- one set has the nodes that some row has, of those of the sentence, without the daughter
-others_in : (u v n : ℕ) (joined every met set : List ℕ) → ((x : ℕ) → has every x ≡ nat_lt x n) → ((x : ℕ) → has met x ≡ (has joined x && has every x)) → ((x : ℕ) → has set x ≡ (not (x == v) && has met x)) → (has set u ≡ true) ↔ ((u < n) × (u ≢ v) × (has joined u ≡ true))
-others_in u v n joined every met set all meets without = (
-  λ h.
-      let a = (both (not (u == v)) (has met u)).0 (sym (without u) ∙ h) in
-      let b = (both (has joined u) (has every u)).0 (sym (meets u) ∙ a.1) in
-      (ltb-true u n (sym (all u) ∙ b.1), λ same. false≢true (sym (ap not (eq-eqb u v same)) ∙ a.0), b.0),
-  λ (l, differ, j). without u ∙ (both (not (u == v)) (has met u)).1 (ap not (ne_eqb u v differ), meets u ∙ (both (has joined u) (has every u)).1 (j, all u ∙ lt-ltb u n l)),
-)
-
-pub mothers_by_rows : (which : Which) (parts : Parts) (box : List (List Bool)) (dim v labels : ℕ) (rows : List Mothers) (joined every met set : List ℕ) → IsBox (shape parts) box → v < nodes parts → labels ≡ edge_labels parts dim → AreMothers parts box dim v labels rows → ((x : ℕ) → IsTrue (has joined x) ↔ InSome which rows x)
-    → ((x : ℕ) → has every x ≡ nat_lt x (nodes parts)) → ((x : ℕ) → has met x ≡ (has joined x && has every x)) → ((x : ℕ) → has set x ≡ (not (x == v) && has met x)) → (u : ℕ) → IsTrue (has set u) ↔ IsDaughter (edges_of which parts box dim) u v
-mothers_by_rows which parts box dim v labels rows joined every met set box_is within same are some all meets without u =
-    let others = others_in u v (nodes parts) joined every met set all meets without in
+pub mothers_by_rows : (which : Which) (parts : Parts) (box : List (List Bool)) (dim v labels : ℕ) (rows : List Mothers) (set : List ℕ) → IsBox (shape parts) box → v < nodes parts → labels ≡ edge_labels parts dim → AreMothers parts box dim v labels rows → ((x : ℕ) → IsTrue (has set x) ↔ InSome which rows x) → (u : ℕ) → IsTrue (has set u) ↔ IsDaughter (edges_of which parts box dim) u v
+mothers_by_rows which parts box dim v labels rows set box_is within same are some u =
     let any = any_label which parts box dim labels u v box_is (omega (arith, same)) in (
-      λ h. (let p = others.0 h in
-          let r = (some u).0 p.2 in
+      λ h. (let r = (some u).0 h in
           let l : r.0 < labels = (let m = r.1 in let e = are.count in omega (arith, m, e)) in
-          any.0 (r.0, l, (stands_by which parts box dim u r.0 v box_is).1 (place_between parts dim u r.0 v p.0 within p.1 (omega (arith, l, same)), (row_stands which parts box dim v labels rows are u r.0 p.0 p.1 l).0 r.2))),
+          let (p, differ, stands) = (row_stands which parts box dim v labels rows are u r.0 l).0 r.2 in
+          any.0 (r.0, l, (stands_by which parts box dim u r.0 v box_is).1 (place_between parts dim u r.0 v p within differ (omega (arith, l, same)), stands))),
       λ d. (let (label, l, by) = any.1 d in
           let (place, stands) = (stands_by which parts box dim u label v box_is).0 by in
-          others.1 (place.mother, place.differ, (some u).1 (label, (let e = are.count in omega (arith, l, e)), (row_stands which parts box dim v labels rows are u label place.mother place.differ l).1 stands))),
+          (some u).1 (label, (let e = are.count in omega (arith, l, e)), (row_stands which parts box dim v labels rows are u label l).1 (place.mother, place.differ, stands))),
     )
 
 -- ---- a node into which no edge leads

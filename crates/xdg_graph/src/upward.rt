@@ -67,10 +67,7 @@ pub(crate) fn mothers_with(
     ensures exact { (x : ℕ) → IsTrue (has result x) ↔ IsDaughter (edges_of which store.now.parts store.now.now dim.0) x daughter.0 }
     ensures known { Known store.now }
 {
-    let rows = store.mothers_by_label(dim, daughter, labels);
-    let mut mothers = mothers_in_some(which, rows).meet(&store.all_nodes());
-    mothers.remove(daughter);
-    mothers
+    mothers_in_some(which, store.mothers_by_label(dim, daughter, labels))
 }
 
 /// The nodes from which an edge leads into a node.
