@@ -1,6 +1,6 @@
 //! The labels of edges into daughters.
 
-ghost use Rattle.std.specs.Prelude.{◌≡◌, ◌≢◌, ℕ, ◌<◌, ◌≤◌, ◌*◌, ◌/◌, ◌↔◌, false, IsTrue, All, length, slice_index_or};
+ghost use Rattle.std.specs.Prelude.{◌≡◌, ◌≢◌, ℕ, ◌<◌, ◌≤◌, ◌*◌, ◌/◌, ◌↔◌, IsTrue, All, length, slice_index_or};
 ghost use Rattle.std.specs.Int.{bit_at};
 ghost use Rattle.xdg_facts.specs.Rises.{has};
 ghost use Rattle.xdg_problem.specs.Arguments.{no_plan};
@@ -58,17 +58,17 @@ fn with_label(labels: Labels, label: LabelId, mothers: &NodeSet) -> Labels
     }
 }
 
-/// Adds a node to a set, or takes it out, and tells whether the set changed.
-fn set_if(nodes: &mut NodeSet, node: NodeId, wanted: bool) -> bool
+/// Adds a node to a set, or takes it out.
+fn set_if(nodes: &mut NodeSet, node: NodeId, wanted: bool)
     requires { node.0 < 128 }
     ensures here { has nodes.new node.0 ≡ wanted }
     ensures others { (n : ℕ) → n ≢ node.0 → has nodes.new n ≡ has nodes.old n }
-    ensures same { result ≡ false → nodes.new ≡ nodes.old }
 {
     if wanted {
-        return nodes.insert(node);
+        nodes.insert(node);
+        return;
     }
-    nodes.remove(node)
+    nodes.remove(node);
 }
 
 /// Makes anew whether an edge is among those of its row, and what is said of its label where the row changes by it.
@@ -77,9 +77,11 @@ pub(crate) fn renew_side(mothers: &mut NodeSet, labels: &mut Labels, edge: Edge,
     requires mother { edge.mother.0 < 128 }
     ensures { RenewsSide edge wanted mothers.old mothers.new labels.old labels.new }
 {
-    if set_if(mothers, edge.mother, wanted) {
-        *labels = with_label(*labels, edge.label, mothers);
+    if mothers.contains(edge.mother) == wanted {
+        return;
     }
+    set_if(mothers, edge.mother, wanted);
+    *labels = with_label(*labels, edge.label, mothers);
 }
 
 /// The first so many labels where they are wanted, and else none.
