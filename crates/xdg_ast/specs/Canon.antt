@@ -1,5 +1,5 @@
 -- The canonical text of a grammar.
-use Rattle.std.specs.Prelude.{ℕ, Bool, ◌||◌, ◌&&◌, ◌==◌, if◌then◌else◌, List, [], ◌∷◌, ◌++◌, map, flat_map, Option, Some, None, codes, decimal}
+use Rattle.std.specs.Prelude.{ℕ, Bool, ◌||◌, ◌&&◌, if◌then◌else◌, List, [], ◌∷◌, ◌++◌, map, flat_map, get_or, Option, Some, None, codes, decimal}
 use Rattle.xdg_ast.specs.declared.token.Kind.{Kind}
 use Rattle.xdg_ast.specs.declared.token.Kind.TheVariants as k
 use Rattle.xdg_ast.specs.declared.names.Name.{Name}
@@ -13,7 +13,8 @@ use Rattle.xdg_ast.specs.declared.grammar.DimPartKind.TheVariants as d
 use Rattle.xdg_ast.specs.declared.grammar.StatementKind.{StatementKind}
 use Rattle.xdg_ast.specs.declared.grammar.StatementKind.TheVariants as s
 use Rattle.xdg_ast.specs.declared.grammar.Grammar.{Grammar}
-use Rattle.xdg_ast.specs.Language.{Kinds, is, ◌or◌}
+use Rattle.xdg_names.specs.Spelling.{keywords, quoted}
+use Rattle.xdg_ast.specs.Language.{Kinds, number, is, ◌or◌}
 use Rattle.xdg_ast.specs.Grammar.{Params, params_of}
 use Rattle.xdg_ast.specs.Words.{Word, mark}
 use Rattle.xdg_ast.specs.Trees.{name_word, in_braces, pair_words, terms_words, term_words, type_words, expr_phrase}
@@ -71,60 +72,15 @@ statement_lines (s.DefEntry body) = line (statement_words (s.DefEntry body)) ∷
 
 -- ---- spelling
 
--- a quotation mark and a backslash stand behind a backslash
-abbrev pub escaped : List ℕ → List ℕ
-escaped [] = []
-escaped (c ∷ cs) = if c == 34 || c == 92 then 92 ∷ c ∷ escaped cs else c ∷ escaped cs
-
 -- the text of a keyword or a sign
 abbrev pub text_of : Kind → List ℕ
-text_of k.DefDim = codes "defdim"
-text_of k.DefType = codes "deftype"
-text_of k.DefLabelType = codes "deflabeltype"
-text_of k.DefAttrsType = codes "defattrstype"
-text_of k.DefEntryType = codes "defentrytype"
-text_of k.UsePrinciple = codes "useprinciple"
-text_of k.Dims = codes "dims"
-text_of k.Args = codes "args"
-text_of k.Output = codes "output"
-text_of k.UseOutput = codes "useoutput"
-text_of k.DefClass = codes "defclass"
-text_of k.DefEntry = codes "defentry"
-text_of k.Dim = codes "dim"
-text_of k.UseDim = codes "usedim"
-text_of k.Tuple = codes "tuple"
-text_of k.Set = codes "set"
-text_of k.ISet = codes "iset"
-text_of k.Valency = codes "valency"
-text_of k.Map = codes "map"
-text_of k.Card = codes "card"
-text_of k.Bool = codes "bool"
-text_of k.Int = codes "int"
-text_of k.String = codes "string"
-text_of k.LeftBrace = codes "{"
-text_of k.RightBrace = codes "}"
-text_of k.LeftParenthesis = codes "("
-text_of k.RightParenthesis = codes ")"
-text_of k.LeftBracket = codes "["
-text_of k.RightBracket = codes "]"
-text_of k.Colon = codes ":"
-text_of k.Ampersand = codes "&"
-text_of k.Bar = codes "|"
-text_of k.Dollar = codes "$"
-text_of k.Hash = codes "#"
-text_of k.Exclamation = codes "!"
-text_of k.Question = codes "?"
-text_of k.Star = codes "*"
-text_of k.Plus = codes "+"
-text_of k.Name = []
-text_of k.Quoted = []
-text_of k.Number = []
+text_of kind = get_or ([] ∷ [] ∷ [] ∷ (keywords ++ map (λ sign. sign ∷ []) (codes "{}()[]:&|$#!?*+"))) (number kind) []
 
 -- a word as it is written
 unfoldable pub spelling : Word → List ℕ
 spelling word = elim word.kind as (λ _. List ℕ) [
   | k.Name ↦ word.content
-  | k.Quoted ↦ 34 ∷ (escaped word.content ++ 34 ∷ [])
+  | k.Quoted ↦ quoted word.content
   | k.Number ↦ decimal word.value
   | kind ↦ text_of kind
 ]

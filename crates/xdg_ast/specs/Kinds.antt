@@ -1,16 +1,8 @@
 -- The kinds of signs and names.
-use Rattle.std.specs.Prelude.{ℕ, Bool, Option, Some, None, List, codes, bytes_eq, if◌then◌else◌, ◌==◌, ◌||◌, unwrap_or}
-use Rattle.std.specs.Char.{is_ascii_alphabetic, is_ascii_alphanumeric}
+use Rattle.std.specs.Prelude.{ℕ, Option, Some, None, List, [], ◌∷◌, bytes_eq, if◌then◌else◌, ◌==◌, unwrap_or}
+use Rattle.xdg_names.specs.Spelling.{keywords}
 use Rattle.xdg_ast.specs.declared.token.Kind.{Kind}
 use Rattle.xdg_ast.specs.declared.token.Kind.TheVariants as kinds
-
--- a name begins with an ASCII letter or `_`
-abbrev pub begins_name : ℕ → Bool
-begins_name c = is_ascii_alphabetic c || c == 95
-
--- and goes on with letters, digits, `_` and `.`
-abbrev pub continues_name : ℕ → Bool
-continues_name c = is_ascii_alphanumeric c || c == 95 || c == 46
 
 -- the sign that a character is
 unfoldable pub sign_of : ℕ → Option Kind
@@ -32,33 +24,21 @@ sign_of c =
     (if c == 43 then Some kinds.Plus else
     None))))))))))))))
 
+-- the kinds of the keywords, in the order of their table
+abbrev pub keyword_kinds : List Kind
+keyword_kinds =
+    kinds.DefDim ∷ kinds.DefType ∷ kinds.DefLabelType ∷ kinds.DefAttrsType ∷ kinds.DefEntryType ∷ kinds.UsePrinciple ∷ kinds.Dims ∷ kinds.Args
+    ∷ kinds.Output ∷ kinds.UseOutput ∷ kinds.DefClass ∷ kinds.DefEntry ∷ kinds.Dim ∷ kinds.UseDim ∷ kinds.Tuple ∷ kinds.Set ∷ kinds.ISet
+    ∷ kinds.Valency ∷ kinds.Map ∷ kinds.Card ∷ kinds.Bool ∷ kinds.Int ∷ kinds.String ∷ []
+
+-- the kind that stands where the first of the texts does that a name is
+abbrev pub kind_among : List (List ℕ) → List Kind → List ℕ → Option Kind
+kind_among (text ∷ texts) (kind ∷ others) name = if bytes_eq name text then Some kind else kind_among texts others name
+kind_among texts others name = None
+
 -- the keyword that a name is
 unfoldable pub keyword_of : List ℕ → Option Kind
-keyword_of name =
-    if bytes_eq name (codes "defdim") then Some kinds.DefDim else
-    (if bytes_eq name (codes "deftype") then Some kinds.DefType else
-    (if bytes_eq name (codes "deflabeltype") then Some kinds.DefLabelType else
-    (if bytes_eq name (codes "defattrstype") then Some kinds.DefAttrsType else
-    (if bytes_eq name (codes "defentrytype") then Some kinds.DefEntryType else
-    (if bytes_eq name (codes "useprinciple") then Some kinds.UsePrinciple else
-    (if bytes_eq name (codes "dims") then Some kinds.Dims else
-    (if bytes_eq name (codes "args") then Some kinds.Args else
-    (if bytes_eq name (codes "output") then Some kinds.Output else
-    (if bytes_eq name (codes "useoutput") then Some kinds.UseOutput else
-    (if bytes_eq name (codes "defclass") then Some kinds.DefClass else
-    (if bytes_eq name (codes "defentry") then Some kinds.DefEntry else
-    (if bytes_eq name (codes "dim") then Some kinds.Dim else
-    (if bytes_eq name (codes "usedim") then Some kinds.UseDim else
-    (if bytes_eq name (codes "tuple") then Some kinds.Tuple else
-    (if bytes_eq name (codes "set") then Some kinds.Set else
-    (if bytes_eq name (codes "iset") then Some kinds.ISet else
-    (if bytes_eq name (codes "valency") then Some kinds.Valency else
-    (if bytes_eq name (codes "map") then Some kinds.Map else
-    (if bytes_eq name (codes "card") then Some kinds.Card else
-    (if bytes_eq name (codes "bool") then Some kinds.Bool else
-    (if bytes_eq name (codes "int") then Some kinds.Int else
-    (if bytes_eq name (codes "string") then Some kinds.String else
-    None))))))))))))))))))))))
+keyword_of name = kind_among keywords keyword_kinds name
 
 -- the kind of a token, where names that are keywords count as names so far
 abbrev pub refined : Kind → List ℕ → Kind

@@ -1,10 +1,11 @@
 -- The language of tokens: which characters are tokens, white space and comments in turn.
-use Rattle.std.specs.Prelude.{◌≡◌, ℕ, ◌+◌, ◌*◌, ◌-◌, ◌≤◌, ◌==◌, ◌||◌, Bool, true, false, Option, Some, None, List, [], ◌∷◌, ◌++◌, length, unwrap_or, not}
+use Rattle.std.specs.Prelude.{◌≡◌, ℕ, ◌+◌, ◌*◌, ◌-◌, ◌≤◌, ◌==◌, Bool, true, false, Option, Some, None, List, [], ◌∷◌, ◌++◌, length, unwrap_or, not}
 use Rattle.std.specs.Char.{is_whitespace, is_ascii_digit, len_utf8}
 use Rattle.std.specs.Str.{chars, IsUtf8, encode_utf8_all}
 use Rattle.xdg_ast.specs.declared.token.Kind.{Kind}
 use Rattle.xdg_ast.specs.declared.token.Kind.TheVariants as kinds
-use Rattle.xdg_ast.specs.Kinds.{begins_name, continues_name, sign_of, refined}
+use Rattle.xdg_names.specs.Spelling.{begins_name, continues_name, is_escaped}
+use Rattle.xdg_ast.specs.Kinds.{sign_of, refined}
 use Rattle.xdg_ast.specs.Lexemes.{Lexeme, lexeme}
 
 -- how many bytes characters take
@@ -27,10 +28,6 @@ is_slash c = c == 47
 abbrev pub is_no_line_feed : ℕ → Bool
 is_no_line_feed c = not (c == 10)
 
--- what a backslash may stand before in a quoted text: `"` and `\`
-abbrev pub is_escapable : ℕ → Bool
-is_escapable c = c == 34 || c == 92
-
 -- no star of these characters has a slash behind it
 abbrev pub HasNoClose : List ℕ → Type 0
 HasNoClose [] = Unit {0}
@@ -46,11 +43,11 @@ pub data IsGap : List ℕ → Type 0 where
 -- stands neither before a quotation mark nor before a backslash. Such a backslash stands for itself.
 pub data IsInside (start : ℕ) : List ℕ → ℕ → Option ℕ → Type 0 where
   nothing : IsInside start [] 0 None
-  plain : (cs : List ℕ) (content : ℕ) (wrong : Option ℕ) (c : ℕ) → IsInside start cs content wrong → is_escapable c ≡ false
+  plain : (cs : List ℕ) (content : ℕ) (wrong : Option ℕ) (c : ℕ) → IsInside start cs content wrong → is_escaped c ≡ false
       → IsInside start (cs ++ c ∷ []) (content + len_utf8 c) wrong
-  escaped : (cs : List ℕ) (content : ℕ) (wrong : Option ℕ) (c : ℕ) → IsInside start cs content wrong → is_escapable c ≡ true
+  escaped : (cs : List ℕ) (content : ℕ) (wrong : Option ℕ) (c : ℕ) → IsInside start cs content wrong → is_escaped c ≡ true
       → IsInside start (cs ++ 92 ∷ c ∷ []) (content + 1) wrong
-  stray : (cs : List ℕ) (content : ℕ) (wrong : Option ℕ) (c : ℕ) → IsInside start cs content wrong → is_escapable c ≡ false
+  stray : (cs : List ℕ) (content : ℕ) (wrong : Option ℕ) (c : ℕ) → IsInside start cs content wrong → is_escaped c ≡ false
       → IsInside start (cs ++ 92 ∷ c ∷ []) (content + 1 + len_utf8 c) (Some (unwrap_or wrong (start + size_of cs)))
 
 -- the number that digits write, after those that wrote a number

@@ -1,11 +1,10 @@
 -- What tokens say, whatever their places and their spelling: their kinds, with the constants and the numbers that they stand for.
-use Rattle.std.specs.Prelude.{◌≡◌, ◌≤◌, ℕ, Bool, true, false, ◌&&◌, if◌then◌else◌, List, [], ◌∷◌, length, Option, Some, None, IsUtf8}
-use Rattle.std.specs.List.{list_all}
+use Rattle.std.specs.Prelude.{◌≡◌, ◌≤◌, ℕ, true, if◌then◌else◌, List, [], ◌∷◌, length, IsUtf8}
 use Rattle.xdg_ast.specs.declared.token.Kind.{Kind}
 use Rattle.xdg_ast.specs.declared.token.Kind.TheVariants as k
 use Rattle.xdg_ast.specs.Lexemes.{Lexeme}
 use Rattle.xdg_ast.specs.Contents.{content_of, value_of}
-use Rattle.xdg_ast.specs.Kinds.{begins_name, continues_name, keyword_of}
+use Rattle.xdg_names.specs.Spelling.{is_name}
 use Rattle.xdg_ast.specs.Language.{is}
 use Rattle.xdg_ast.specs.Grammar.{is_constant}
 
@@ -33,15 +32,6 @@ number n = record { kind = k.Number; content = []; value = n }
 
 abbrev pub quoted : List ℕ → Word
 quoted text = record { kind = k.Quoted; content = text; value = 0 }
-
-abbrev pub is_none : Option Kind → Bool
-is_none None = true
-is_none (Some kind) = false
-
--- a text that is a name: ASCII letters, digits, `_` and `.`, the first a letter or `_`, and no keyword
-unfoldable pub is_name : List ℕ → Bool
-is_name [] = false
-is_name (c ∷ cs) = begins_name c && list_all continues_name cs && is_none (keyword_of (c ∷ cs))
 
 -- a constant, as a name where it can be one
 abbrev pub constant : List ℕ → Word

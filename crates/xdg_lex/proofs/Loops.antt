@@ -10,10 +10,10 @@ use Rattle.xdg_base.specs.declared.faults.Cause.TheVariants as causes
 use Rattle.xdg_lex.specs.declared.pieces.Mode.{Mode}
 use Rattle.xdg_lex.specs.declared.pieces.Mode.TheVariants as in_
 use Rattle.xdg_lex.specs.declared.pieces.Turn.TheVariants as turns
-use Rattle.xdg_ast.specs.Kinds.{continues_name}
+use Rattle.xdg_names.specs.Spelling.{continues_name, is_escaped}
 use Rattle.xdg_lex.specs.Pieces.{goes_on, digit_goes_on, quoted_goes_on, escape_goes_on, begins, ends, refusal, inside}
 use Rattle.xdg_lex.specs.Lexed.{Lexed, run, ended, begun, turned}
-use Rattle.xdg_ast.specs.Tokenizes.{size_of, EachPasses, StopsBefore, HasNoClose, IsInside, nothing, plain, escaped, stray, value_after, greatest_number, is_slash, is_no_line_feed, is_escapable}
+use Rattle.xdg_ast.specs.Tokenizes.{size_of, EachPasses, StopsBefore, HasNoClose, IsInside, nothing, plain, escaped, stray, value_after, greatest_number, is_slash, is_no_line_feed}
 use Rattle.xdg_lex.proofs.Steps.{run-nil, run-cons, before_none}
 use Rattle.xdg_facts.proofs.Truths.{from_not}
 
@@ -166,7 +166,7 @@ open_goes star start text (c ∷ body) apart none =
     goes_step start text (commented star) (commented (c == 42)) c body (comment_goes star (start + length text) c apart)
     ∙ open_goes (c == 42) start (text ++ encode_utf8 c) body none.0 none.1
 
-plain_goes : (at content : ℕ) (wrong : Option ℕ) (c : ℕ) → is_escapable c ≡ false → goes_on (in_.Quoted (inside content wrong)) at c ≡ turns.GoesOn (in_.Quoted (inside (content + len_utf8 c) wrong))
+plain_goes : (at content : ℕ) (wrong : Option ℕ) (c : ℕ) → is_escaped c ≡ false → goes_on (in_.Quoted (inside content wrong)) at c ≡ turns.GoesOn (in_.Quoted (inside (content + len_utf8 c) wrong))
 unfolding goes_on quoted_goes_on
 plain_goes at content wrong c f =
     let parts = or_parts (c == 34) (c == 92) f in
@@ -180,14 +180,14 @@ pub quote_goes : (at content : ℕ) (wrong : Option ℕ) → goes_on (in_.Quoted
 unfolding goes_on quoted_goes_on
 quote_goes at content wrong = refl
 
-escaped_goes : (at content backslash : ℕ) (wrong : Option ℕ) (c : ℕ) → is_escapable c ≡ true → goes_on (in_.Escape (inside content wrong) backslash) at c ≡ turns.GoesOn (in_.Quoted (inside (content + 1) wrong))
+escaped_goes : (at content backslash : ℕ) (wrong : Option ℕ) (c : ℕ) → is_escaped c ≡ true → goes_on (in_.Escape (inside content wrong) backslash) at c ≡ turns.GoesOn (in_.Quoted (inside (content + 1) wrong))
 unfolding goes_on escape_goes_on
-escaped_goes at content backslash wrong c t = cond-true (is_escapable c) _ _ t
+escaped_goes at content backslash wrong c t = cond-true (is_escaped c) _ _ t
 
-stray_goes : (at content backslash : ℕ) (wrong : Option ℕ) (c : ℕ) → is_escapable c ≡ false
+stray_goes : (at content backslash : ℕ) (wrong : Option ℕ) (c : ℕ) → is_escaped c ≡ false
     → goes_on (in_.Escape (inside content wrong) backslash) at c ≡ turns.GoesOn (in_.Quoted (inside (content + 1 + len_utf8 c) (Some (unwrap_or wrong backslash))))
 unfolding goes_on escape_goes_on
-stray_goes at content backslash wrong c f = cond-false (is_escapable c) _ _ f
+stray_goes at content backslash wrong c f = cond-false (is_escaped c) _ _ f
 
 pub one_more : (text cs : List ℕ) (c : ℕ) → (text ++ encode_utf8_all cs) ++ encode_utf8 c ≡ text ++ encode_utf8_all (cs ++ c ∷ [])
 one_more text cs c =

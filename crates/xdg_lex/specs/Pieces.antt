@@ -11,7 +11,8 @@ use Rattle.xdg_lex.specs.declared.pieces.Mode.{Mode}
 use Rattle.xdg_lex.specs.declared.pieces.Mode.TheVariants as in_
 use Rattle.xdg_lex.specs.declared.pieces.Turn.{Turn}
 use Rattle.xdg_lex.specs.declared.pieces.Turn.TheVariants as turns
-use Rattle.xdg_ast.specs.Kinds.{begins_name, continues_name, sign_of}
+use Rattle.xdg_names.specs.Spelling.{begins_name, continues_name}
+use Rattle.xdg_ast.specs.Kinds.{sign_of}
 
 -- a refusal that no limit is the cause of
 abbrev pub refusal : Cause → ℕ → Fault

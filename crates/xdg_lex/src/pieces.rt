@@ -5,10 +5,10 @@ ghost use Rattle.std.specs.Char.{len_utf8};
 ghost use Rattle.xdg_lex.specs.Pieces.{digit_goes_on, quoted_goes_on, escape_goes_on, line_goes_on, comment_goes_on, star_goes_on};
 ghost use Rattle.xdg_lex.specs.Pieces.{goes_on, begins, ends, ends_quoted};
 ghost use Rattle.xdg_lex.specs.Pieces.{refusal, counted, counted_after};
-ghost use Rattle.xdg_ast.specs.Kinds.{begins_name, continues_name};
 
 use xdg_ast::{Kind, sign_of};
 use xdg_base::{Cause, Fault, Span};
+use xdg_names::{begins_name, continues_name};
 
 /// How many bytes of content a name and a quoted text may have.
 const LONGEST: u32 = 127;
@@ -63,20 +63,6 @@ pub(crate) fn refusal(cause: Cause, at: u32) -> Fault
         at,
         reached: 0,
     }
-}
-
-/// Whether a name begins with this character.
-fn begins_name(c: char) -> bool
-    ensures { result ≡ begins_name c }
-{
-    c.is_ascii_alphabetic() || c == '_'
-}
-
-/// Whether a name goes on with this character.
-fn continues_name(c: char) -> bool
-    ensures { result ≡ continues_name c }
-{
-    c.is_ascii_alphanumeric() || c == '_' || c == '.'
 }
 
 #[tactic(auto, unfolding(crate::specs::Pieces::digit_goes_on))]

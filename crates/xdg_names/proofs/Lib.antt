@@ -9,3 +9,5 @@ pub mod Leaving
 pub mod Numbered
 pub mod Laws
 pub mod Texts
+pub mod Keywords
+pub mod Names

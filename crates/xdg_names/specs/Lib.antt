@@ -3,3 +3,4 @@ pub mod Leads
 pub mod Closing
 pub mod Walks
 pub mod Texts
+pub mod Spelling

@@ -11,7 +11,8 @@ use Rattle.xdg_ast.specs.declared.terms.ElemKind.{ElemKind}
 use Rattle.xdg_ast.specs.declared.terms.ElemKind.TheVariants as e
 use Rattle.xdg_ast.specs.Language.{Language, is, token, nothing, both, made, behind}
 use Rattle.xdg_ast.specs.Grammar.{Params, CardTerm, is_among, is_constant, name_of, number_of, named, in_braces, inside, under, bracketed_names, card, gen, term_kind, term, elem_tail, elem_kind, elem, elems, keyed_term, terms, name}
-use Rattle.xdg_ast.specs.Words.{Word, word_of, mark, number, quoted, constant, is_name, IsShortText, IsSpellable}
+use Rattle.xdg_names.specs.Spelling.{is_name}
+use Rattle.xdg_ast.specs.Words.{Word, word_of, mark, number, quoted, constant, IsShortText, IsSpellable}
 use Rattle.xdg_ast.specs.Trees.{name_word, names_words, card_words, gen_phrase, constant_in, term_words, elem_words, in_braces as braced_words, in_square_brackets as bracketed_words}
 use Rattle.xdg_ast.specs.Same.{nowhere, bare_part, bare_name, bare_names, bare_card, bare_gen, bare_elem, bare_term, bare_terms}
 use Rattle.xdg_print.proofs.AgainTrees.{term_words-Const, term_words-Param, term_words-Number, term_words-Card, term_words-Braces, term_words-Tuple, term_words-Gen, elem_words-Count, elem_words-Keyed, elem_words-Const, elem_words-Tuple, bare_term-Const, bare_term-Param, bare_term-Card, bare_term-Tuple, bare_term-Gen, bare_elem-Count, bare_elem-Keyed, bare_elem-Const, bare_elem-Tuple}

@@ -12,7 +12,6 @@ pub mod AgainTypes
 pub mod AgainWhole
 pub mod AgainWritten
 pub mod Escaping
-pub mod Names
 pub mod Put
 pub mod ReadAgain
 pub mod SpelledBack

@@ -1,16 +1,20 @@
 -- Names and keywords, as they are read.
 use Rattle.std.proofs.Common.{◌≡◌, ℕ, ◌+◌, ◌≤◌, Bool, true, false, ◌&&◌, Option, Some, None, List, [], ◌∷◌, ◌++◌, length, map, refl, sym, ◌∙◌, ap, subst, arith}
-use Rattle.std.specs.Prelude.{unwrap_or, bytes_eq, codes}
+use Rattle.std.specs.Prelude.{◌||◌, if◌then◌else◌, not, nat_lt, is_none, unwrap_or, bytes_eq}
 use Rattle.std.specs.Char.{is_ascii, is_ascii_digit}
 use Rattle.std.specs.List.{list_all}
 use Rattle.std.specs.Str.{encode_utf8_all}
 use Rattle.std.proofs.lemmas.Bool.{and_parts, and_from, cond_both, true≢false}
 use Rattle.xdg_ast.specs.declared.token.Kind.{Kind}
 use Rattle.xdg_ast.specs.declared.token.Kind.TheVariants as k
-use Rattle.xdg_ast.specs.Kinds.{begins_name, continues_name, keyword_of, refined}
+use Rattle.xdg_names.specs.Spelling.{keywords, is_keyword, begins_name, continues_name, is_name}
+use Rattle.xdg_names.specs.Texts.{has_text}
+use Rattle.xdg_ast.specs.Kinds.{keyword_kinds, kind_among, keyword_of, refined}
+use Rattle.xdg_ast.specs.Language.{number}
 use Rattle.xdg_ast.specs.Lexemes.{Lexeme, lexeme}
 use Rattle.xdg_ast.specs.Tokenizes.{size_of, StopsBefore, IsToken, name, Tokenizes, token}
-use Rattle.xdg_ast.specs.Words.{Word, word_of, is_none, is_name, IsSpellable}
+use Rattle.xdg_ast.specs.Words.{Word, word_of, IsSpellable}
+use Rattle.xdg_facts.proofs.Texts.{either_way}
 use Rattle.xdg_print.proofs.SpelledTexts.{AreBytesOf, ascii_bytes, each_passes, weaker_test, bytes_utf8}
 
 -- ---- the tokens of characters that begin at a place
@@ -67,15 +71,29 @@ named_says kind cs behind word words a is short said stops =
 
 -- ---- names
 
+one_among : (test : Bool) (kind : Kind) (found : Option Kind) (other : Bool) → is_none found ≡ not other → is_none (if test then Some kind else found) ≡ not (test || other)
+one_among true kind found other e = refl
+one_among false kind found other e = e
+
+-- a text has no kind where it stands nowhere among the texts
+none_among : (texts : List (List ℕ)) (kinds : List Kind) (text : List ℕ) → length texts ≡ length kinds → is_none (kind_among texts kinds text) ≡ not (has_text texts text)
+none_among [] kinds text e = refl
+none_among (word ∷ words) [] text e = absurd (omega (arith, e))
+none_among (word ∷ words) (kind ∷ kinds) text e =
+    one_among (bytes_eq text word) kind (kind_among words kinds text) (has_text words text) (none_among words kinds text (omega (arith, e)))
+    ∙ ap (λ b. not (b || has_text words text)) (either_way text word)
+
+no_kind : (text : List ℕ) → is_none (keyword_of text) ≡ not (is_keyword text)
+unfolding keyword_of is_keyword
+no_kind text = none_among keywords keyword_kinds text refl
+
 name_parts : (cs : List ℕ) → is_name cs ≡ true → (is_named cs ≡ true) × (is_none (keyword_of cs) ≡ true)
-unfolding is_name
 name_parts [] a = absurd (true≢false (sym a))
-name_parts (c ∷ cs) a = and_parts (is_named (c ∷ cs)) (is_none (keyword_of (c ∷ cs))) a
+name_parts (c ∷ cs) a = let parts = and_parts (is_named (c ∷ cs)) (not (is_keyword (c ∷ cs))) a in (parts.0, no_kind (c ∷ cs) ∙ parts.1)
 
 name_from : (cs : List ℕ) → is_named cs ≡ true → is_none (keyword_of cs) ≡ true → is_name cs ≡ true
-unfolding is_name
 name_from [] a none = a
-name_from (c ∷ cs) a none = and_from (is_named (c ∷ cs)) (is_none (keyword_of (c ∷ cs))) a none
+name_from (c ∷ cs) a none = and_from (is_named (c ∷ cs)) (not (is_keyword (c ∷ cs))) a (sym (no_kind (c ∷ cs)) ∙ none)
 
 no_keyword : (found : Option Kind) → is_none found ≡ true → unwrap_or found k.Name ≡ k.Name
 no_keyword None none = refl
@@ -98,33 +116,22 @@ abbrev pub IsMark : Option Kind → Type 0
 IsMark None = Unit {0}
 IsMark (Some kind) = (at : ℕ) (text : List ℕ) → IsSpellable (word_of (lexeme kind at text))
 
+mark_spelled : (kind : Kind) → nat_lt 2 (number kind) ≡ true → IsMark (Some kind)
+mark_spelled k.Name e = absurd (true≢false (sym e))
+mark_spelled k.Quoted e = absurd (true≢false (sym e))
+mark_spelled k.Number e = absurd (true≢false (sym e))
+mark_spelled kind e = λ at text. (refl, refl)
+
+mark_among : (texts : List (List ℕ)) (kinds : List Kind) (text : List ℕ) → list_all (λ kind. nat_lt 2 (number kind)) kinds ≡ true → IsMark (kind_among texts kinds text)
+mark_among [] kinds text e = tt
+mark_among (word ∷ words) [] text e = tt
+mark_among (word ∷ words) (kind ∷ kinds) text e =
+    let parts = and_parts (nat_lt 2 (number kind)) (list_all (λ kind. nat_lt 2 (number kind)) kinds) e in
+    cond_both (bytes_eq text word) _ _ IsMark (λ _. mark_spelled kind parts.0) (λ _. mark_among words kinds text parts.1)
+
 keyword_mark : (text : List ℕ) → IsMark (keyword_of text)
 unfolding keyword_of
-keyword_mark text =
-    cond_both (bytes_eq text (codes "defdim")) _ _ IsMark (λ _ at text. (refl, refl))
-    (λ _. cond_both (bytes_eq text (codes "deftype")) _ _ IsMark (λ _ at text. (refl, refl))
-    (λ _. cond_both (bytes_eq text (codes "deflabeltype")) _ _ IsMark (λ _ at text. (refl, refl))
-    (λ _. cond_both (bytes_eq text (codes "defattrstype")) _ _ IsMark (λ _ at text. (refl, refl))
-    (λ _. cond_both (bytes_eq text (codes "defentrytype")) _ _ IsMark (λ _ at text. (refl, refl))
-    (λ _. cond_both (bytes_eq text (codes "useprinciple")) _ _ IsMark (λ _ at text. (refl, refl))
-    (λ _. cond_both (bytes_eq text (codes "dims")) _ _ IsMark (λ _ at text. (refl, refl))
-    (λ _. cond_both (bytes_eq text (codes "args")) _ _ IsMark (λ _ at text. (refl, refl))
-    (λ _. cond_both (bytes_eq text (codes "output")) _ _ IsMark (λ _ at text. (refl, refl))
-    (λ _. cond_both (bytes_eq text (codes "useoutput")) _ _ IsMark (λ _ at text. (refl, refl))
-    (λ _. cond_both (bytes_eq text (codes "defclass")) _ _ IsMark (λ _ at text. (refl, refl))
-    (λ _. cond_both (bytes_eq text (codes "defentry")) _ _ IsMark (λ _ at text. (refl, refl))
-    (λ _. cond_both (bytes_eq text (codes "dim")) _ _ IsMark (λ _ at text. (refl, refl))
-    (λ _. cond_both (bytes_eq text (codes "usedim")) _ _ IsMark (λ _ at text. (refl, refl))
-    (λ _. cond_both (bytes_eq text (codes "tuple")) _ _ IsMark (λ _ at text. (refl, refl))
-    (λ _. cond_both (bytes_eq text (codes "set")) _ _ IsMark (λ _ at text. (refl, refl))
-    (λ _. cond_both (bytes_eq text (codes "iset")) _ _ IsMark (λ _ at text. (refl, refl))
-    (λ _. cond_both (bytes_eq text (codes "valency")) _ _ IsMark (λ _ at text. (refl, refl))
-    (λ _. cond_both (bytes_eq text (codes "map")) _ _ IsMark (λ _ at text. (refl, refl))
-    (λ _. cond_both (bytes_eq text (codes "card")) _ _ IsMark (λ _ at text. (refl, refl))
-    (λ _. cond_both (bytes_eq text (codes "bool")) _ _ IsMark (λ _ at text. (refl, refl))
-    (λ _. cond_both (bytes_eq text (codes "int")) _ _ IsMark (λ _ at text. (refl, refl))
-    (λ _. cond_both (bytes_eq text (codes "string")) _ _ IsMark (λ _ at text. (refl, refl))
-    (λ _. tt)))))))))))))))))))))))
+keyword_mark text = mark_among keywords keyword_kinds text refl
 
 found_spelled : (found : Option Kind) (at : ℕ) (text : List ℕ) → keyword_of text ≡ found → IsMark found → is_named text ≡ true → length text ≤ 127 → IsSpellable (word_of (lexeme (unwrap_or found k.Name) at text))
 found_spelled None at text is marked named short =

@@ -1,60 +1,42 @@
 -- Quoted texts, as they are read.
-use Rattle.std.proofs.Common.{◌≡◌, ℕ, suc, ◌+◌, ◌<◌, ◌≤◌, ◌==◌, true, false, Option, None, List, [], ◌∷◌, ◌++◌, length, get_or, refl, sym, ◌∙◌, ap, subst, arith, append_assoc, append-nil, length-append}
+use Rattle.std.proofs.Common.{◌≡◌, ℕ, ◌+◌, ◌≤◌, ◌==◌, true, false, Option, None, List, [], ◌∷◌, ◌++◌, length, refl, sym, ◌∙◌, ap, subst, arith, append_assoc, append-nil, length-append}
 use Rattle.std.specs.Char.{encode_utf8, len_utf8}
 use Rattle.std.specs.Str.{all_scalars, encode_utf8_all}
 use Rattle.std.proofs.lemmas.Bool.{and_parts, and_from, or_parts, cond_both, cond-true, cond-false, true≢false, false_from_ne_true, cases_Bool}
+use Rattle.std.proofs.lemmas.Grind.{flat_map-append}
 use Rattle.std.proofs.lemmas.Option.{none-some}
-use Rattle.std.proofs.lemmas.Str.{chars-encodes, encode_ascii, encodes-append, inside_one, length-encode, len_utf8_ascii}
+use Rattle.std.proofs.lemmas.Str.{chars-encodes, encode_ascii, encodes-append, length-encode, len_utf8_ascii}
+use Rattle.xdg_names.specs.Spelling.{is_escaped, escaped as escaped_byte, quoted as quote}
 use Rattle.xdg_ast.specs.declared.token.Kind.TheVariants as k
 use Rattle.xdg_ast.specs.Contents.{undone, unquoted}
 use Rattle.xdg_ast.specs.Lexemes.{lexeme}
-use Rattle.xdg_ast.specs.Tokenizes.{size_of, is_escapable, IsInside, nothing, plain, escaped, stray, IsToken, quoted}
-use Rattle.xdg_ast.specs.Canon.{escaped as escape}
+use Rattle.xdg_ast.specs.Tokenizes.{size_of, IsInside, nothing, plain, escaped, stray, IsToken, quoted}
 use Rattle.std.proofs.Math.Logic.{inl, inr}
 use Rattle.xdg_ast.specs.Words.{Word, word_of, IsShortText, IsSpellable}
+use Rattle.xdg_print.proofs.Escaping.{escape, escapable_low, escape_taken, escape_left, character_kept}
 use Rattle.xdg_print.proofs.SpelledTexts.{AreBytesOf, scalars_append, scalars_front, scalars_rest}
 use Rattle.xdg_print.proofs.SpelledNames.{Says, says_more}
 
 -- ---- characters that are escaped
 
-escapable_low : (c : ℕ) → is_escapable c ≡ true → c < 128
-escapable_low c e = grind (arith, e)
-
-escape_taken : (c : ℕ) (cs : List ℕ) → is_escapable c ≡ true → escape (c ∷ cs) ≡ 92 ∷ c ∷ escape cs
-escape_taken c cs e = cond-true (is_escapable c) _ _ e
-
-escape_left : (c : ℕ) (cs : List ℕ) → is_escapable c ≡ false → escape (c ∷ cs) ≡ c ∷ escape cs
-escape_left c cs e = cond-false (is_escapable c) _ _ e
-
--- bytes none of which is escaped
-escape_kept : (bs rest : List ℕ) → ((i : ℕ) → i < length bs → is_escapable (get_or bs i 0) ≡ false) → escape (bs ++ rest) ≡ bs ++ escape rest
-escape_kept [] rest none = refl
-escape_kept (b ∷ bs) rest none = escape_left b (bs ++ rest) (none 0 (omega arith)) ∙ ap (λ l. b ∷ l) (escape_kept bs rest (λ i within. none (suc i) (omega (arith, within))))
-
-no_escape_inside : (c i : ℕ) → is_escapable c ≡ false → i < length (encode_utf8 c) → is_escapable (get_or (encode_utf8 c) i 0) ≡ false
-no_escape_inside c i e within =
-    false_from_ne_true (is_escapable (get_or (encode_utf8 c) i 0)) (λ t.
-    let same : c ≡ get_or (encode_utf8 c) i 0 = inside_one c [] (encode_utf8 c) i (sym (append-nil (encode_utf8 c))) within (escapable_low (get_or (encode_utf8 c) i 0) t) in
-    true≢false (sym t ∙ ap is_escapable (sym same) ∙ e))
-
 -- the bytes of escaped characters are the escaped bytes
 encode_escape : (cs : List ℕ) → encode_utf8_all (escape cs) ≡ escape (encode_utf8_all cs)
 unfolding encode_utf8
 encode_escape [] = refl
-encode_escape (c ∷ cs) = elim (cases_Bool (is_escapable c)) as (λ _. encode_utf8_all (escape (c ∷ cs)) ≡ escape (encode_utf8_all (c ∷ cs))) [
+encode_escape (c ∷ cs) = elim (cases_Bool (is_escaped c)) as (λ _. encode_utf8_all (escape (c ∷ cs)) ≡ escape (encode_utf8_all (c ∷ cs))) [
   | inl t ↦
       let one : encode_utf8 c ≡ c ∷ [] = encode_ascii c (escapable_low c t) in
       ap encode_utf8_all (escape_taken c cs t) ∙ ap (λ l. 92 ∷ (l ++ encode_utf8_all (escape cs))) one ∙ ap (λ l. 92 ∷ c ∷ l) (encode_escape cs)
       ∙ sym (ap (λ l. escape (l ++ encode_utf8_all cs)) one ∙ escape_taken c (encode_utf8_all cs) t)
   | inr f ↦ ap encode_utf8_all (escape_left c cs f) ∙ ap (λ l. encode_utf8 c ++ l) (encode_escape cs)
-      ∙ sym (escape_kept (encode_utf8 c) (encode_utf8_all cs) (λ i within. no_escape_inside c i f within))
+      ∙ sym (flat_map-append escaped_byte (encode_utf8 c) (encode_utf8_all cs) ∙ ap (λ l. l ++ escape (encode_utf8_all cs)) (character_kept c f))
 ]
 
 scalars_escape : (cs : List ℕ) → all_scalars cs ≡ true → all_scalars (escape cs) ≡ true
 scalars_escape [] a = refl
 scalars_escape (c ∷ cs) a =
     let parts = and_parts _ (all_scalars cs) a in
-    cond_both (is_escapable c) (92 ∷ c ∷ escape cs) (c ∷ escape cs) (λ l. all_scalars l ≡ true)
+    cond_both (is_escaped c) (92 ∷ c ∷ []) (c ∷ []) (λ l. all_scalars (l ++ escape cs) ≡ true)
     (λ _. and_from _ (all_scalars (escape cs)) parts.0 (scalars_escape cs parts.1))
     (λ _. and_from _ (all_scalars (escape cs)) parts.0 (scalars_escape cs parts.1))
 
@@ -63,7 +45,7 @@ scalars_escape (c ∷ cs) a =
 -- escaped characters go on the inside of a quoted text
 inside_more : (start : ℕ) (before : List ℕ) (content : ℕ) (cs : List ℕ) → IsInside start before content None → IsInside start (before ++ escape cs) (content + size_of cs) None
 inside_more start before content [] is = subst (λ l. IsInside start l (content + 0) None) (sym (append-nil before)) (subst (λ n. IsInside start before n None) (omega arith) is)
-inside_more start before content (c ∷ cs) is = elim (cases_Bool (is_escapable c)) as (λ _. IsInside start (before ++ escape (c ∷ cs)) (content + size_of (c ∷ cs)) None) [
+inside_more start before content (c ∷ cs) is = elim (cases_Bool (is_escaped c)) as (λ _. IsInside start (before ++ escape (c ∷ cs)) (content + size_of (c ∷ cs)) None) [
   | inl t ↦
       let size : (content + 1) + size_of cs ≡ content + size_of (c ∷ cs) = omega (arith, length-append (encode_utf8 c) (encode_utf8_all cs), length-encode c, len_utf8_ascii c (escapable_low c t)) in
       subst (λ n. IsInside start (before ++ escape (c ∷ cs)) n None) size
@@ -79,23 +61,19 @@ inside_more start before content (c ∷ cs) is = elim (cases_Bool (is_escapable 
 undone_escapable : (c : ℕ) (cs : List ℕ) → undone false (92 ∷ c ∷ cs) ≡ c ∷ undone false cs
 undone_escapable c cs = refl
 
-undone_plain : (c : ℕ) (cs : List ℕ) → is_escapable c ≡ false → undone false (c ∷ cs) ≡ c ∷ undone false cs
+undone_plain : (c : ℕ) (cs : List ℕ) → is_escaped c ≡ false → undone false (c ∷ cs) ≡ c ∷ undone false cs
 undone_plain c cs f =
     let parts = or_parts (c == 34) (c == 92) f in
     cond-false (c == 34) _ _ parts.0 ∙ cond-false (c == 92) _ _ parts.1
 
 undone_escape : (cs behind : List ℕ) → undone false (escape cs ++ behind) ≡ cs ++ undone false behind
 undone_escape [] behind = refl
-undone_escape (c ∷ cs) behind = elim (cases_Bool (is_escapable c)) as (λ _. undone false (escape (c ∷ cs) ++ behind) ≡ c ∷ (cs ++ undone false behind)) [
+undone_escape (c ∷ cs) behind = elim (cases_Bool (is_escaped c)) as (λ _. undone false (escape (c ∷ cs) ++ behind) ≡ c ∷ (cs ++ undone false behind)) [
   | inl t ↦ ap (λ l. undone false (l ++ behind)) (escape_taken c cs t) ∙ undone_escapable c (escape cs ++ behind) ∙ ap (λ l. c ∷ l) (undone_escape cs behind)
   | inr f ↦ ap (λ l. undone false (l ++ behind)) (escape_left c cs f) ∙ undone_plain c (escape cs ++ behind) f ∙ ap (λ l. c ∷ l) (undone_escape cs behind)
 ]
 
 -- ---- quoted texts
-
--- the characters of a quoted text that stands for characters
-abbrev pub quote : List ℕ → List ℕ
-quote cs = 34 ∷ (escape cs ++ 34 ∷ [])
 
 scalars_quote : (cs : List ℕ) → all_scalars cs ≡ true → all_scalars (quote cs) ≡ true
 scalars_quote cs a = scalars_append (escape cs) (34 ∷ []) (scalars_escape cs a) refl

@@ -7,7 +7,8 @@ use Rattle.std.proofs.Math.Logic.{inl, inr}
 use Rattle.std.proofs.lemmas.Bool.{and_parts, or_cases, or_left, or_right, true≢false, false_from_ne_true}
 use Rattle.xdg_ast.specs.declared.token.Kind.{Kind}
 use Rattle.xdg_ast.specs.declared.token.Kind.TheVariants as k
-use Rattle.xdg_ast.specs.Kinds.{continues_name, sign_of, keyword_of, refined}
+use Rattle.xdg_names.specs.Spelling.{continues_name, quoted as quote}
+use Rattle.xdg_ast.specs.Kinds.{sign_of, keyword_of, refined}
 use Rattle.xdg_ast.specs.Lexemes.{lexeme}
 use Rattle.xdg_ast.specs.Tokenizes.{StopsBefore, sign}
 use Rattle.xdg_ast.specs.Language.{is}
@@ -16,7 +17,7 @@ use Rattle.xdg_ast.specs.Canon.{text_of, spelling, is_tight_behind, is_tight_bef
 use Rattle.xdg_print.proofs.SpelledTexts.{AreBytesOf, ascii_bytes, utf8_bytes}
 use Rattle.xdg_print.proofs.SpelledNames.{Says, says_more, is_named, named_says, name_says, name_bytes, digit_continues}
 use Rattle.xdg_print.proofs.SpelledNumbers.{decimal_bytes, number_says}
-use Rattle.xdg_print.proofs.SpelledQuotes.{quote, quote_bytes, quoted_says}
+use Rattle.xdg_print.proofs.SpelledQuotes.{quote_bytes, quoted_says}
 
 -- the characters of a word
 abbrev pub characters : Kind → List ℕ → ℕ → List ℕ

@@ -1,16 +1,14 @@
 -- A text that is written word by word and line by line.
-use Rattle.std.specs.Prelude.{ℕ, Bool, true, false, ◌&&◌, nat_lt, if◌then◌else◌, List, [], ◌∷◌, ◌++◌, flat_map, Some, None}
-use Rattle.std.specs.List.{list_all}
+use Rattle.std.specs.Prelude.{ℕ, Bool, true, false, nat_lt, if◌then◌else◌, List, [], ◌∷◌, ◌++◌, flat_map, Some, None}
 use Rattle.xdg_ast.specs.declared.token.Kind.{Kind}
 use Rattle.xdg_ast.specs.declared.token.Kind.TheVariants as k
-use Rattle.xdg_ast.specs.Kinds.{keyword_of, begins_name, continues_name}
 use Rattle.xdg_ast.specs.declared.names.Name.{Name}
 use Rattle.xdg_ast.specs.declared.names.Pair.{Pair}
 use Rattle.xdg_ast.specs.declared.grammar.DimPartKind.{DimPartKind}
 use Rattle.xdg_ast.specs.declared.grammar.StatementKind.TheVariants as s
 use Rattle.xdg_ast.specs.declared.names.Spanned.{Spanned}
 use Rattle.xdg_ast.specs.Language as language
-use Rattle.xdg_ast.specs.Words.{Word, mark, is_none}
+use Rattle.xdg_ast.specs.Words.{Word, mark}
 use Rattle.xdg_ast.specs.Trees.{single, conjunction, disjunction, Phrase, name_word, pair_words}
 use Rattle.xdg_ast.specs.Canon.{text_of, gap, spelling, Line, statement_lines}
 use Rattle.xdg_print.specs.declared.printer.Printer.{Printer}
@@ -58,15 +56,6 @@ name_pairs_words pairs = flat_map (pair_words (λ name. name_word name ∷ [])) 
 -- the lines of a dimension
 abbrev pub dim_lines : Name → List (Spanned DimPartKind) → List Line
 dim_lines name parts = statement_lines (s.DefDim name parts)
-
--- bytes that are a name or a keyword
-abbrev pub has_name_form : List ℕ → Bool
-has_name_form [] = false
-has_name_form (c ∷ cs) = begins_name c && list_all continues_name cs
-
--- a keyword
-unfoldable pub is_keyword : List ℕ → Bool
-is_keyword text = if is_none (keyword_of text) then false else true
 
 -- the text of a keyword, and nothing of a sign
 abbrev pub keyword_text : Kind → List ℕ

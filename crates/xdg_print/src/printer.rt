@@ -7,11 +7,12 @@ ghost use Rattle.xdg_ast.specs.Trees.{name_word, names_words, nums_words, consta
 ghost use Rattle.xdg_ast.specs.Canon.{gap};
 ghost use Rattle.xdg_print.specs.Printed.{put, begun, ended, opening, closing};
 
-use crate::words::{is_name, is_tight, mark_text, push_escaped};
+use crate::words::{is_tight, mark_text, push_escaped};
 use itoa::Buffer;
 use std::alloc::{AllocError, Global};
 use xdg_ast::{Kind, Name, Num, Params};
 use xdg_base::Text;
+use xdg_names::is_name;
 
 /// The text so far, and the kind of the last word of its last line, if it has one.
 #[derive(Drop)]

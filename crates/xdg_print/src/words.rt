@@ -2,14 +2,14 @@
 
 ghost use Rattle.std.specs.Prelude.{◌≡◌, ◌++◌, OnOk};
 ghost use Rattle.std.specs.Char.{encode_utf8};
-ghost use Rattle.std.specs.List.{list_all};
-ghost use Rattle.xdg_ast.specs.Kinds.{begins_name, continues_name};
-ghost use Rattle.xdg_ast.specs.Words.{mark, is_name};
-ghost use Rattle.xdg_ast.specs.Canon.{spelling, escaped, is_tight_behind, is_tight_before, takes_types, is_tight};
-ghost use Rattle.xdg_print.specs.Printed.{keyword_text, has_name_form, is_keyword};
+ghost use Rattle.std.specs.List.{flat_map};
+ghost use Rattle.xdg_names.specs.Spelling.{escaped};
+ghost use Rattle.xdg_ast.specs.Words.{mark};
+ghost use Rattle.xdg_ast.specs.Canon.{spelling, is_tight_behind, is_tight_before, takes_types, is_tight};
+ghost use Rattle.xdg_print.specs.Printed.{keyword_text};
 
 use std::alloc::AllocError;
-use xdg_ast::{Kind, keyword_of};
+use xdg_ast::Kind;
 use xdg_base::Text;
 
 /// How a keyword is spelled. Of other words it tells nothing.
@@ -118,57 +118,9 @@ pub(crate) fn is_tight(one: Kind, other: Kind) -> bool
         || (takes_types(one) && matches!(other, Kind::LeftParenthesis))
 }
 
-/// Whether a text is a keyword.
-#[tactic(auto, unfolding(crate::specs::Printed::is_keyword))]
-fn is_keyword(text: &str) -> bool
-    ensures { result ≡ is_keyword text.now }
-{
-    match keyword_of(text) {
-        Some(_) => true,
-        None => false,
-    }
-}
-
-fn begins_name(byte: u8) -> bool
-    ensures { result ≡ begins_name byte }
-{
-    byte.is_ascii_alphabetic() || byte == b'_'
-}
-
-fn continues_name(byte: u8) -> bool
-    ensures { result ≡ continues_name byte }
-{
-    byte.is_ascii_alphanumeric() || byte == b'_' || byte == b'.'
-}
-
-/// Whether each of the bytes continues a name.
-fn continue_name(bytes: &[u8]) -> bool
-    ensures { result ≡ list_all continues_name bytes.now }
-{
-    bytes.iter().all(|byte| continues_name(*byte))
-}
-
-/// Whether bytes are a name or a keyword.
-fn has_name_form(bytes: &[u8]) -> bool
-    ensures { result ≡ has_name_form bytes.now }
-{
-    match bytes.split_first() {
-        Some((first, others)) => begins_name(*first) && continue_name(others),
-        None => false,
-    }
-}
-
-/// Whether a text can stand as a name.
-#[tactic(auto, using(crate::proofs::Names::name_of_form))]
-pub(crate) fn is_name(text: &str) -> bool
-    ensures { result ≡ is_name text.now }
-{
-    has_name_form(text.as_bytes()) && !is_keyword(text)
-}
-
 /// Adds a character, with a backslash before it if it is a quotation mark or a backslash.
 fn push_character(text: &mut Text, c: char) -> Result<(), AllocError>
-    ensures { OnOk result (text.new ≡ text.old ++ escaped (encode_utf8 c)) }
+    ensures { OnOk result (text.new ≡ text.old ++ flat_map escaped (encode_utf8 c)) }
 {
     if c == '"' {
         return text.push_str("\\\"");
@@ -182,7 +134,7 @@ fn push_character(text: &mut Text, c: char) -> Result<(), AllocError>
 
 /// Adds a text with a backslash before each quotation mark and each backslash.
 pub(crate) fn push_escaped(text: &mut Text, characters: &str) -> Result<(), AllocError>
-    ensures { OnOk result (text.new ≡ text.old ++ escaped characters.now) }
+    ensures { OnOk result (text.new ≡ text.old ++ flat_map escaped characters.now) }
 {
     for c in characters.chars() {
         push_character(text, c)?;

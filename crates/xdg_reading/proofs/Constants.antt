@@ -8,7 +8,7 @@ use Rattle.xdg_reading.proofs.Fronts.{until_it, until_stands, it_stands, same_by
 use Rattle.xdg_reading.proofs.Insides.{plain_byte}
 use Rattle.xdg_reading.proofs.Steps.{pair, lead_found, Led, cond_either, cond_found, cond_left, after_found, past_found}
 use Rattle.xdg_facts.proofs.Options.{none_some, some_same}
-use Rattle.xdg_text.proofs.Names.{unescaped}
+use Rattle.xdg_names.proofs.Names.{escaped_is, unescaped}
 
 -- what ends a word: neither a mark nor a part of a name
 pub record IsEnd (end : ℕ) : Type 0 where
@@ -50,9 +50,6 @@ inside_read (byte ∷ text) rest = by (inside_read text rest) (is_escaped byte) 
 abbrev marked : Bool → List ℕ → List ℕ
 marked true bytes = 92 ∷ bytes
 marked false bytes = bytes
-
-escaped_is : (byte : ℕ) → is_escaped byte ≡ true → escaped byte ≡ 92 ∷ byte ∷ []
-escaped_is byte e = ap (λ t. cond t (92 ∷ byte ∷ []) (byte ∷ [])) e
 
 inside_true : (byte : ℕ) (bytes : List ℕ) → inside true (byte ∷ bytes) ≡ cond (is_escaped byte) (lead byte (inside false bytes)) None
 unfolding inside

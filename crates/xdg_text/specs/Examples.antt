@@ -10,19 +10,19 @@ use Rattle.xdg_problem.specs.declared.parts.Shown.TheVariants as shown
 use Rattle.xdg_problem.specs.declared.analysis.Analysis.{Analysis}
 use Rattle.xdg_problem.specs.Places.{edge}
 use Rattle.xdg_text.specs.Blocks.{block}
-use Rattle.xdg_text.specs.Constants.{keywords, is_keyword, constant}
+use Rattle.xdg_text.specs.Constants.{is_keyword, constant}
 use Rattle.xdg_text.specs.Lines.{attr_line, fault_text, complete_line}
 use Rattle.xdg_text.specs.Values.{value_text}
 
 a_name : constant (codes "p.x_2") ≡ codes "p.x_2"
-unfolding is_keyword keywords
+unfolding is_keyword
 a_name = refl
 
 two_words : constant (codes "b c") ≡ codes "\"b c\""
 two_words = refl
 
 a_keyword : constant (codes "dim") ≡ codes "\"dim\""
-unfolding is_keyword keywords
+unfolding is_keyword
 a_keyword = refl
 
 no_characters : constant [] ≡ codes "\"\""
@@ -32,7 +32,7 @@ escaped_characters : constant (codes "a\"b\\c") ≡ codes "\"a\\\"b\\\\c\""
 escaped_characters = refl
 
 tuple_line : attr_line (codes "id") 8 (codes "agr") (value_text (shown.Many (codes "m" ∷ codes "nom" ∷ []))) ≡ codes "attr id 9 agr [m nom]\n"
-unfolding is_keyword keywords digits
+unfolding is_keyword digits
 tuple_line = refl
 
 abbrev pub sentence : List SentenceWord
@@ -51,7 +51,7 @@ plain = record {
 the_dog_barks : block plain 1
     (record { entries = record { 0 = 0 } ∷ record { 0 = 1 } ∷ record { 0 = 2 } ∷ []; attrs = []; edges = edge 0 1 0 0 ∷ edge 0 2 1 1 ∷ [] })
     ≡ codes "analysis 1\nword 1 \"the\" 1\nword 2 \"dog\" 2\nword 3 \"barks\" 3\nedge id 2 det 1\nedge id 3 subj 2\nend\n"
-unfolding is_keyword keywords digits
+unfolding is_keyword digits
 the_dog_barks = refl
 
 abbrev pub agr : AttrPlan
@@ -80,7 +80,7 @@ reading = record { entries = record { 0 = 9 } ∷ record { 0 = 3 } ∷ []; attrs
 by_dimension_node_and_attribute : block german 12 reading
     ≡ codes "analysis 12\nword 1 \"der\" 10\nword 2 \"Frau\" 4\nattr id 1 agr [m nom]\nattr id 2 agr [f gen]\n"
     ++ codes "attr lp 1 on \"v f\"\nattr lp 1 agr [m nom]\nattr lp 2 on n\nattr lp 2 agr [f gen]\nedge lp 2 detf 1\nend\n"
-unfolding is_keyword keywords digits
+unfolding is_keyword digits
 by_dimension_node_and_attribute = refl
 
 not_a_member : fault_text (record { cause = causes.NotMember; at = 30; reached = 0 }) (record { line = 3; column = 9 })

@@ -1,70 +1,12 @@
 //! Constants as a grammar text has them: names where they can be, and else quoted texts.
 
 ghost use Rattle.std.specs.Prelude.{◌≡◌};
-ghost use Rattle.std.specs.List.{list_all, list_any, flat_map};
+ghost use Rattle.std.specs.List.{list_any, flat_map};
 ghost use Rattle.xdg_io.specs.Texts.{WritesText};
-ghost use Rattle.xdg_text.specs.Constants.{is_keyword, begins_name, continues_name, is_name, is_escaped, escaped, quoted, constant};
+ghost use Rattle.xdg_text.specs.Constants.{is_escaped, escaped, quoted, constant};
 
 use xdg_io::{Failed, Sink, write_all};
-
-/// Whether a text is a keyword. It is compared with those of its length alone.
-#[tactic(auto, unfolding(crate::specs::Constants::is_keyword, crate::specs::Constants::keywords))]
-fn is_keyword(text: &str) -> bool
-    ensures { result ≡ is_keyword text.now }
-{
-    match text.len() {
-        3 => matches!(text, "dim" | "set" | "map" | "int"),
-        4 => matches!(text, "dims" | "args" | "iset" | "card" | "bool"),
-        5 => text == "tuple",
-        6 => matches!(text, "defdim" | "output" | "usedim" | "string"),
-        7 => matches!(text, "deftype" | "valency"),
-        8 => matches!(text, "defclass" | "defentry"),
-        9 => text == "useoutput",
-        12 => matches!(
-            text,
-            "deflabeltype" | "defattrstype" | "defentrytype" | "useprinciple"
-        ),
-        _ => false,
-    }
-}
-
-fn begins_name(byte: u8) -> bool
-    ensures { result ≡ begins_name byte }
-{
-    byte.is_ascii_alphabetic() || byte == b'_'
-}
-
-fn continues_name(byte: u8) -> bool
-    ensures { result ≡ continues_name byte }
-{
-    byte.is_ascii_alphanumeric() || byte == b'_' || byte == b'.'
-}
-
-/// Whether each of the bytes continues a name.
-fn continue_name(bytes: &[u8]) -> bool
-    ensures { result ≡ list_all continues_name bytes.now }
-{
-    bytes.iter().all(|byte| continues_name(*byte))
-}
-
-/// Whether a text can stand as a name: an ASCII letter or `_`, then ASCII letters, digits, `_` and `.`, and no keyword.
-#[tactic(auto, using(crate::proofs::Names::name_of_parts))]
-pub fn is_name(text: &str) -> bool
-    ensures { result ≡ is_name text.now }
-{
-    match text.as_bytes().split_first() {
-        Some((first, others)) => {
-            begins_name(*first) && continue_name(others) && !is_keyword(text)
-        }
-        None => false,
-    }
-}
-
-fn is_escaped(byte: u8) -> bool
-    ensures { result ≡ is_escaped byte }
-{
-    byte == b'"' || byte == b'\\'
-}
+use xdg_names::{is_escaped, is_name};
 
 /// Whether a byte of the text is escaped between quotation marks.
 fn has_escaped(bytes: &[u8]) -> bool

@@ -11,9 +11,10 @@ mod pushing;
 mod values;
 
 pub use blocks::{write, write_analysis, write_parts, write2};
-pub use constants::{is_name, write_constant};
+pub use constants::write_constant;
 pub use faults::{fault_line, write_complete, write_first, write_spent, write_usage};
 pub use form::Form;
 pub use kept::Kept;
 pub use lines::{Word, write_line};
 pub use pushing::push;
+pub use xdg_names::is_name;

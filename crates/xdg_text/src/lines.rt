@@ -34,10 +34,14 @@ fn write_plain<K: Sink>(text: &str, sink: &mut K) -> Result<(), Failed>
     write_all(sink, text.as_bytes())
 }
 
-/// Writes a number in decimal digits.
+/// Writes a number in decimal digits, behind which more of the line is written: so a single digit is kept.
+#[tactic(auto, using(std::proofs::lemmas::Fmt::decimal_digit))]
 fn write_number<K: Sink>(number: u64, sink: &mut K) -> Result<(), Failed>
     ensures { WritesText result (K.held sink.old) (K.held sink.new) (K.faults sink.old) (K.faults sink.new) (decimal number) }
 {
+    if number < 10 {
+        return sink.keep(b'0' + number as u8);
+    }
     let mut buffer = Buffer::new();
     write_all(sink, buffer.format(number).as_bytes())
 }

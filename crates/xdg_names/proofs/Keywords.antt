@@ -1,31 +1,26 @@
 -- Whether a text is a keyword, by its length.
 use Rattle.std.proofs.Common.{◌≡◌, ◌≢◌, ◌∙◌, ℕ, ◌==◌, List, [], ◌∷◌, Bool, true, false, ◌||◌, cond, length, filter, bytes_eq, ap, sym, refl, arith}
-use Rattle.std.specs.List.{list_any, AllByRecursion}
-use Rattle.std.proofs.lemmas.Bool.{false_from_ne_true}
-use Rattle.std.proofs.lemmas.Slice.Eq.{bytes_eq-Decides}
+use Rattle.std.specs.List.{AllByRecursion}
 use Rattle.xdg_facts.proofs.Truths.{or_false}
-use Rattle.xdg_facts.proofs.Texts.{either_way}
-use Rattle.xdg_text.specs.Constants.{is_keyword, keywords}
-
--- whether one of some words is the text
-abbrev any_is : List ℕ → List (List ℕ) → Bool
-any_is text words = list_any (λ word. bytes_eq word text) words
+use Rattle.xdg_facts.proofs.Texts.{either_way, other_test}
+use Rattle.xdg_names.specs.Spelling.{is_keyword, keywords}
+use Rattle.xdg_names.specs.Texts.{has_text}
 
 other : (text word : List ℕ) → text ≢ word → bytes_eq word text ≡ false
-other text word differ = false_from_ne_true (bytes_eq word text) (λ e. differ (sym ((bytes_eq-Decides word text).0 e)))
+other text word differ = other_test word text (λ e. differ (sym e))
 
-none_of : (text : List ℕ) (words : List (List ℕ)) → AllByRecursion (λ word. text ≢ word) words → any_is text words ≡ false
+none_of : (text : List ℕ) (words : List (List ℕ)) → AllByRecursion (λ word. text ≢ word) words → has_text words text ≡ false
 none_of text [] differ = refl
-none_of text (word ∷ words) differ = ap (λ b. b || any_is text words) (other text word differ.0) ∙ none_of text words differ.1
+none_of text (word ∷ words) differ = ap (λ b. b || has_text words text) (other text word differ.0) ∙ none_of text words differ.1
 
 -- a word of another length is passed over
-skipped : (text word : List ℕ) (n : ℕ) (words left : List (List ℕ)) (same : Bool) → length text ≡ n → (length word == n) ≡ same → any_is text words ≡ any_is text left → any_is text (word ∷ words) ≡ any_is text (cond same (word ∷ left) left)
+skipped : (text word : List ℕ) (n : ℕ) (words left : List (List ℕ)) (same : Bool) → length text ≡ n → (length word == n) ≡ same → has_text words text ≡ has_text left text → has_text (word ∷ words) text ≡ has_text (cond same (word ∷ left) left) text
 skipped text word n words left true is same rest = ap (λ b. bytes_eq word text || b) rest
 skipped text word n words left false is same rest =
     let apart : text ≢ word = λ e. (let l = sym (ap length e) ∙ is in grind (arith, same, l)) in
-    ap (λ b. b || any_is text words) (other text word apart) ∙ rest
+    ap (λ b. b || has_text words text) (other text word apart) ∙ rest
 
-by_length : (text : List ℕ) (n : ℕ) → length text ≡ n → (words : List (List ℕ)) → any_is text words ≡ any_is text (filter (λ word. length word == n) words)
+by_length : (text : List ℕ) (n : ℕ) → length text ≡ n → (words : List (List ℕ)) → has_text words text ≡ has_text (filter (λ word. length word == n) words) text
 by_length text n is [] = refl
 by_length text n is (word ∷ words) = skipped text word n words (filter (λ other. length other == n) words) (length word == n) is refl (by_length text n is words)
 
@@ -38,11 +33,11 @@ none_at text n is differ = sym (by_length text n is keywords ∙ none_of text (f
 pub one_at : (text word : List ℕ) (n : ℕ) (result : Bool) → length text ≡ n → filter (λ other. length other == n) keywords ≡ word ∷ [] → result ≡ bytes_eq text word → result ≡ is_keyword text
 unfolding is_keyword
 one_at text word n result is one asked =
-    asked ∙ either_way text word ∙ sym (by_length text n is keywords ∙ ap (any_is text) one ∙ or_false (bytes_eq word text))
+    asked ∙ either_way text word ∙ sym (by_length text n is keywords ∙ ap (λ words. has_text words text) one ∙ or_false (bytes_eq word text))
 
-unlike : (text : List ℕ) (words : List (List ℕ)) → AllByRecursion (λ word. length text ≢ length word) words → any_is text words ≡ false
+unlike : (text : List ℕ) (words : List (List ℕ)) → AllByRecursion (λ word. length text ≢ length word) words → has_text words text ≡ false
 unlike text [] differ = refl
-unlike text (word ∷ words) differ = ap (λ b. b || any_is text words) (other text word (λ e. differ.0 (ap length e))) ∙ unlike text words differ.1
+unlike text (word ∷ words) differ = ap (λ b. b || has_text words text) (other text word (λ e. differ.0 (ap length e))) ∙ unlike text words differ.1
 
 -- a text that is as long as no keyword
 pub too_long : (text : List ℕ) → AllByRecursion (λ word. length text ≢ length word) keywords → false ≡ is_keyword text
