@@ -110,18 +110,22 @@ module _ (parts : Parts) (group : Group) (box : List (List Bool)) (is : IsBox (s
 
   -- ---- projectivity
 
-  module _ (table : List (List ℕ)) (exact : (a b : ℕ) → In table a b ↔ Above (may_edges parts box (first_dim group)) a b) (done : AreNodesDone parts group table (nodes parts) box) where
-    -- each node across which an edge may lead is below its mother
-    crossed : (e : Edge) → IsPlaceOn parts (first_dim group) e → May parts box e → (w : ℕ) → IsBetween e.mother.0 e.daughter.0 w → Above (may_edges parts box (first_dim group)) e.mother.0 w
-    crossed e on here w between = elim (cases_Bool (has (get_or table e.mother.0 []) w)) [
-      | inl there ↦ (exact e.mother.0 w).0 there
-      | inr out ↦ absurd (
-          let place = is_place parts e on.0 in
-          let below = label_below parts e place in
-          let same = ap (edge_labels parts) on.1 in
-          done e.mother.0 place.mother e.label.0 (omega (arith, below, same)) e.daughter.0 (follows e on here) w between (λ h. false≢true (sym out ∙ h)))
-    ]
+  -- each node across which an edge may lead is below its mother
+  abbrev pub AllReached : Type 0
+  AllReached = (e : Edge) → IsPlaceOn parts (first_dim group) e → May parts box e → (w : ℕ) → IsBetween e.mother.0 e.daughter.0 w
+      → Above (may_edges parts box (first_dim group)) e.mother.0 w
 
+  pub all_reached : (table : List (List ℕ)) → ((a b : ℕ) → In table a b ↔ Above (may_edges parts box (first_dim group)) a b) → AreNodesDone parts group table (nodes parts) box → AllReached
+  all_reached table exact done e on here w between = elim (cases_Bool (has (get_or table e.mother.0 []) w)) [
+    | inl there ↦ (exact e.mother.0 w).0 there
+    | inr out ↦ absurd (
+        let place = is_place parts e on.0 in
+        let below = label_below parts e place in
+        let same = ap (edge_labels parts) on.1 in
+        done e.mother.0 place.mother e.label.0 (omega (arith, below, same)) e.daughter.0 (follows e on here) w between (λ h. false≢true (sym out ∙ h)))
+  ]
+
+  module _ (crossed : AllReached) where
     abbrev few : ℕ → ℕ → List Edge
     few u v = edges_on (first_dim group) (filter (λ e. looks_at group (projective u v) e && flag box (edge_decision parts e) 0) (places parts))
 

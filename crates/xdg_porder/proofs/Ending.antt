@@ -20,7 +20,7 @@ use Rattle.xdg_propcore.proofs.Sweeping.{sweeps_skip, sweeps_both}
 use Rattle.xdg_porder.specs.Across.{AreNodesDone, IsTabled}
 use Rattle.xdg_porder.specs.Family.{IsOfFamily}
 use Rattle.xdg_porder.specs.Items.{AreMothersDone, IsOrdering, IsReady}
-use Rattle.xdg_porder.proofs.Closing.{order_closed, across_closed}
+use Rattle.xdg_porder.proofs.Closing.{order_closed, across_closed, all_reached}
 
 -- all was taken, since a test fails
 pub failed_all : (group : Group) (Done : List (List Bool) → Type 0) (p : Progress) (s : State) (q : Progress) → IsReady group s → FailsTest s.parts group s.now → ((g : Group) → IsGroup s.parts g → ((d v : ℕ) → Has s.now d v → Takes s.parts g s.now d v) → Goes g p s q s) → q.dead ≡ true → Sweeps group Done p s q s
@@ -47,7 +47,8 @@ across_ends group table dim p old q new flat same exact a = record {
   done = λ quiet.
       let stays = (a.goes.quiet quiet).1 in
       let exact_now = subst (λ box. (x y : ℕ) → In table x y ↔ Above (may_edges old.parts box (first_dim group)) x y) (sym stays) (table_at old.parts old.now table dim (first_dim group) same exact) in
-      across_closed old.parts group new.now (subst (λ parts. IsBox (shape parts) new.now) a.goes.extends.same a.known.is_box) table exact_now (a.done quiet) flat;
+      let box_is = subst (λ parts. IsBox (shape parts) new.now) a.goes.extends.same a.known.is_box in
+      across_closed old.parts group new.now box_is (all_reached old.parts group new.now box_is table exact_now (a.done quiet)) flat;
 }
 
 -- a principle of the family that is not order

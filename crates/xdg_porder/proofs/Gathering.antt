@@ -1,13 +1,8 @@
 -- Sets that gather what each node of another set brings.
-use Rattle.std.proofs.Common.{◌≡◌, ℕ, ◌<◌, ◌⊎◌, ◌↔◌, ◌==◌, ◌||◌, ◌&&◌, inl, inr, Bool, true, false, IsTrue, List, [], ◌∷◌, refl, sym, ap, ◌∙◌, arith, subst}
-use Rattle.std.specs.Prelude.{not, nat_lt}
-use Prim.Native.Nat.{min, max}
-use Rattle.std.proofs.lemmas.Bool.{cases_lt, eq-eqb, lt-ltb, ltb-true, false≢true}
-use Rattle.xdg_nodeset.proofs.TableSets.{either, both}
+use Rattle.std.proofs.Common.{◌≡◌, ℕ, ◌<◌, ◌⊎◌, ◌↔◌, ◌||◌, inl, inr, true, false, IsTrue, List, [], ◌∷◌, sym, ap, ◌∙◌, subst}
+use Rattle.std.proofs.lemmas.Bool.{cases_lt, false≢true}
+use Rattle.xdg_nodeset.proofs.TableSets.{either}
 use Rattle.xdg_nodeset.specs.Nodes.{IsNodes}
-use Rattle.xdg_problem.specs.Asking.{IsBetween}
-use Rattle.xdg_porder.specs.Across.{Crosses}
-use Rattle.xdg_facts.proofs.Truths.{left_out}
 use Rattle.xdg_facts.specs.Rises.{has}
 use Rattle.xdg_facts.proofs.Rising.{has_beyond, no_member, head_in, tail_in, head_or_tail}
 
@@ -45,13 +40,6 @@ gathers_end Q first left acc empty before x = (
   λ h. elim ((before x).1 h) [ inl there ↦ there | inr (v, none, q) ↦ absurd (no_member left v empty none) ],
 )
 
--- where each node brings itself, if it is as asked
-pub kept_end : (P : ℕ → Type 0) (first acc : List ℕ) → ((x : ℕ) → (has acc x ≡ true) ↔ ((v : ℕ) × (has first v ≡ true) × ((x ≡ v) × P v))) → (x : ℕ) → (has acc x ≡ true) ↔ ((has first x ≡ true) × P x)
-kept_end P first acc exact x = (
-  λ h. (let (v, there, (same, p)) = (exact x).0 h in (subst (λ k. has first k ≡ true) (sym same) there, subst P (sym same) p)),
-  λ (there, p). (exact x).1 (x, there, (refl, p)),
-)
-
 -- the nodes of a set are below 128
 abbrev pub AreSmall : List ℕ → Type 0
 AreSmall set = (v : ℕ) → has set v ≡ true → v < 128
@@ -75,42 +63,5 @@ unions Q acc more new exact is x = (
   λ h. is x ∙ (either (has acc x) (has more x)).1 (elim h [ inl old ↦ inl old | inr q ↦ inr ((exact x).1 q) ]),
 )
 
--- a set has a node, or none
-pub some_or_none : (set : List ℕ) → ((v : ℕ) × (has set v ≡ true)) ⊎ ((v : ℕ) → has set v ≡ true → ⊥)
-some_or_none [] = inr (λ v h. false≢true h)
-some_or_none (v ∷ rest) = inl (v, (either (v == v) (has rest v)).1 (inl (eq-eqb v v refl)))
-
 pub some_exact : (set rest : List ℕ) (node : ℕ) → set ≡ node ∷ rest → IsTrue false ↔ ((v : ℕ) → has set v ≡ true → ⊥)
 some_exact set rest node is = (λ t. absurd (false≢true t), λ n. absurd (n node (head_in set rest node is)))
-
--- ---- ranges
-
-inside_exact : (a b v : ℕ) → ((nat_lt (min a b) v && nat_lt v (max a b)) ≡ true) ↔ IsBetween a b v
-inside_exact a b v = (
-  λ h. (let two = (both (nat_lt (min a b) v) (nat_lt v (max a b))).0 h in
-      let l = ltb-true (min a b) v two.0 in
-      let m = ltb-true v (max a b) two.1 in
-      elim (cases_lt a b) [
-        | inl less ↦ inl (omega (arith, l, m, less), omega (arith, l, m, less))
-        | inr past ↦ inr (omega (arith, l, m, past), omega (arith, l, m, past))
-      ]),
-  λ h. (both (nat_lt (min a b) v) (nat_lt v (max a b))).1 (elim h [
-    | inl up ↦ (let x = up.0 in let y = up.1 in (lt-ltb (min a b) v (omega (arith, x, y)), lt-ltb v (max a b) (omega (arith, x, y))))
-    | inr down ↦ (let x = down.0 in let y = down.1 in (lt-ltb (min a b) v (omega (arith, x, y)), lt-ltb v (max a b) (omega (arith, x, y))))
-  ]),
-)
-
--- ---- crossing
-
-pub crosses_exact : (u v : ℕ) (reached inner gaps : List ℕ) (b : Bool) → ((w : ℕ) → has inner w ≡ (nat_lt (min u v) w && nat_lt w (max u v))) → ((w : ℕ) → has gaps w ≡ (has inner w && not (has reached w))) → IsTrue b ↔ ((w : ℕ) → has gaps w ≡ true → ⊥) → IsTrue (not b) ↔ Crosses u reached v
-crosses_exact u v reached inner gaps true is is_gaps exact = (
-  λ t. absurd (false≢true t),
-  λ (w, between, out). absurd (exact.0 refl w (is_gaps w ∙ (left_out (has inner w) (has reached w)).1 (is w ∙ (inside_exact u v w).1 between, out))),
-)
-crosses_exact u v reached inner gaps false is is_gaps exact = (
-  λ t. (elim (some_or_none gaps) [
-    | inl found ↦ (let two = (left_out (has inner found.0) (has reached found.0)).0 (sym (is_gaps found.0) ∙ found.1) in (found.0, (inside_exact u v found.0).0 (sym (is found.0) ∙ two.0), two.1))
-    | inr none ↦ absurd (false≢true (exact.1 none))
-  ]),
-  λ c. refl,
-)

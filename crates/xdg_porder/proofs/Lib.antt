@@ -1,4 +1,5 @@
 pub mod Gathering
+pub mod Bounding
 pub mod Following
 pub mod Removing
 pub mod Pairing
@@ -11,3 +12,4 @@ pub mod Testing
 pub mod Closing
 pub mod Ending
 pub mod Staying
+pub mod MaysStay

@@ -1,15 +1,15 @@
--- Edges that are decided, and labels whose items stand in the wrong order.
-use Rattle.std.proofs.Common.{◌≡◌, ℕ, ◌<◌, ◌≤◌, ◌+◌, ◌⊎◌, ◌↔◌, ◌||◌, ◌&&◌, inl, inr, Bool, true, false, IsTrue, List, refl, sym, ap, ◌∙◌, arith, subst}
+-- Edges that are decided, and labels whose items stand in order.
+use Rattle.std.proofs.Common.{◌≡◌, ℕ, ◌<◌, ◌≤◌, ◌+◌, ◌⊎◌, ◌↔◌, ◌||◌, ◌&&◌, inl, inr, Bool, true, false, IsTrue, List, [], sym, ◌∙◌, arith, subst}
 use Rattle.std.specs.Prelude.{not}
 use Rattle.std.proofs.lemmas.Bool.{cases_Bool, cases_lt, false≢true}
-use Rattle.xdg_nodeset.specs.Tables.{In}
+use Rattle.xdg_nodeset.specs.Tables.{In, Meet}
 use Rattle.xdg_nodeset.proofs.TableSets.{either}
 use Rattle.xdg_problem.specs.declared.parts.Group.{Group}
 use Rattle.xdg_problem.specs.declared.parts.Parts.{Parts}
-use Rattle.xdg_porder.specs.Items.{MayFollow, MustFollow, label_at}
-use Rattle.xdg_porder.specs.Yields.{IsBroken, IsLabelSettled}
-use Rattle.xdg_porder.proofs.Gathering.{some_or_none}
+use Rattle.xdg_porder.specs.Items.{MayFollow, MustFollow}
+use Rattle.xdg_porder.specs.Yields.{IsLabelSettled}
 use Rattle.xdg_facts.proofs.Truths.{left_out}
+use Rattle.xdg_facts.proofs.Rising.{no_member}
 use Rattle.xdg_facts.specs.Rises.{has}
 
 -- where no node is left that may follow and needn't
@@ -34,26 +34,47 @@ below_of P table follow below p exact x = (
   λ (v, there, i). (exact x).1 (v, (p v).1 there, i),
 )
 
-pub broken_exact : (L R : ℕ → Type 0) (left right wrong : List ℕ) (b : Bool) → ((x : ℕ) → (has left x ≡ true) ↔ L x) → ((y : ℕ) → (has right y ≡ true) ↔ R y) → ((y : ℕ) → (has wrong y ≡ true) ↔ ((has right y ≡ true) × ((x : ℕ) × (has left x ≡ true) × (y ≤ x)))) → IsTrue b ↔ ((v : ℕ) → has wrong v ≡ true → ⊥) → IsTrue (not b) ↔ ((x y : ℕ) × L x × R y × (y ≤ x))
-broken_exact L R left right wrong true l r exact none = (
-  λ t. absurd (false≢true t),
-  λ (x, y, lx, ry, far). absurd (none.0 refl y ((exact y).1 ((r y).1 ry, (x, (l x).1 lx, far)))),
-)
-broken_exact L R left right wrong false l r exact none = (
-  λ t. (elim (some_or_none wrong) [
-    | inl (y, there) ↦ (let (here, (x, at, far)) = (exact y).0 there in (x, y, (l x).0 at, (r y).0 here, far))
-    | inr no_one ↦ absurd (false≢true (none.1 no_one))
-  ]),
-  λ h. refl,
+-- ---- one label of an order after another, where S i x says that x stands below an item with the label at the place i
+
+-- the nodes at or left of those with the first labels
+abbrev pub Reached : (ℕ → ℕ → Type 0) → ℕ → List ℕ → Type 0
+Reached S k set = (v : ℕ) → (has set v ≡ true) ↔ ((i x : ℕ) × (i < k) × S i x × (v ≤ x))
+
+-- the first labels are in order
+abbrev pub InOrder : (ℕ → ℕ → Type 0) → ℕ → Type 0
+InOrder S k = (i j x y : ℕ) → i < j → j < k → S i x → S j y → y ≤ x → ⊥
+
+pub order_start : (S : ℕ → ℕ → Type 0) (set : List ℕ) → set ≡ [] → Reached S 0 set × InOrder S 0
+order_start S set empty = (
+  λ v. (λ h. absurd (no_member set v empty h), λ (i, x, l, s, at). absurd (omega (arith, l))),
+  λ i j x y less within. absurd (omega (arith, within)),
 )
 
--- none of the later places up to a number is broken
-abbrev pub NoneBroken : Parts → Group → List (List ℕ) → List (List Bool) → ℕ → ℕ → ℕ → Type 0
-NoneBroken parts group table box u i k = (j : ℕ) → i < j → j < k → IsBroken parts group table box u (label_at group i) (label_at group j) → ⊥
+module _ (S : ℕ → ℕ → Type 0) (k : ℕ) (set below : List ℕ) (overlaps : Bool) (before : Reached S k set × InOrder S k) (below_is : (x : ℕ) → (has below x ≡ true) ↔ S k x)
+    (meets : IsTrue overlaps ↔ Meet set below) where
+  pub order_broken : (n : ℕ) → k < n → overlaps ≡ true → (i j x y : ℕ) × (i < j) × (j < n) × S i x × S j y × (y ≤ x)
+  order_broken n within here =
+      let (y, left, there) = meets.0 here in
+      let (i, x, less, first, at) = (before.0 y).0 left in
+      (i, k, x, y, less, within, first, (below_is y).0 there, at)
 
-pub none_broken : (parts : Parts) (group : Group) (table : List (List ℕ)) (box : List (List Bool)) (u i k earlier later : ℕ) (b : Bool) → NoneBroken parts group table box u i k → b ≡ false → IsTrue b ↔ IsBroken parts group table box u earlier later → earlier ≡ label_at group i → later ≡ label_at group k → NoneBroken parts group table box u i (k + 1)
-none_broken parts group table box u i k earlier later b before fails exact first second j less within broken = elim (cases_lt j k) [
-  | inl below ↦ before j less below broken
-  | inr past ↦ (let e : j ≡ k = omega (arith, within, past) in
-      false≢true (sym fails ∙ exact.1 (subst (λ l. IsBroken parts group table box u l later) (sym first) (subst (λ m. IsBroken parts group table box u (label_at group i) m) (ap (label_at group) e ∙ sym second) broken))))
-]
+  pub order_next : (left more : List ℕ) → ((v : ℕ) → (has left v ≡ true) ↔ ((w : ℕ) × (has below w ≡ true) × (v ≤ w))) → ((n : ℕ) → has more n ≡ (has set n || has left n))
+      → overlaps ≡ false → Reached S (k + 1) more × InOrder S (k + 1)
+  order_next left more left_is is apart = (
+    λ v. (
+      λ h. elim ((either (has set v) (has left v)).0 (sym (is v) ∙ h)) [
+        | inl old ↦ (let (i, x, less, s, at) = (before.0 v).0 old in (i, x, omega (arith, less), s, at))
+        | inr new ↦ (let (x, there, at) = (left_is v).0 new in (k, x, omega arith, (below_is x).0 there, at))
+      ],
+      λ (i, x, less, s, at). is v ∙ (either (has set v) (has left v)).1 (elim (cases_lt i k) [
+        | inl sooner ↦ inl ((before.0 v).1 (i, x, sooner, s, at))
+        | inr past ↦ (let e : i ≡ k = omega (arith, less, past) in inr ((left_is v).1 (x, (below_is x).1 (subst (λ j. S j x) e s), at)))
+      ]),
+    ),
+    λ i j x y less within first second at. elim (cases_lt j k) [
+      | inl sooner ↦ before.1 i j x y less sooner first second at
+      | inr past ↦
+          let e : j ≡ k = omega (arith, within, past) in
+          false≢true (sym apart ∙ meets.1 (y, (before.0 y).1 (i, x, omega (arith, less, e), first, at), (below_is y).1 (subst (λ m. S m y) e second)))
+    ],
+  )

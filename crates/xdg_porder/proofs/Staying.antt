@@ -1,5 +1,5 @@
 -- While a box loses no value at which their tests look, order and projectivity take no more than before.
-use Rattle.std.proofs.Common.{◌≡◌, ℕ, ◌<◌, ◌&&◌, inl, inr, Bool, true, false, List, [], ◌∷◌, length, map, refl, sym, ap₂, ◌∙◌, arith, subst, None}
+use Rattle.std.proofs.Common.{◌≡◌, ℕ, ◌<◌, ◌&&◌, inl, inr, Bool, true, List, [], ◌∷◌, length, map, refl, sym, ap₂, ◌∙◌, arith, subst, None}
 use Rattle.std.specs.Prelude.{Contains, filter, All, ◌==◌, ◌+◌}
 use Rattle.std.proofs.lemmas.Bool.{eqb-true}
 use Rattle.std.proofs.lemmas.List.Elements.{All-nil, All-cons, All-head, All-tail, All-weaker, All-contains, All-contains_itself}

@@ -216,7 +216,7 @@ module _ (parts : Parts) (group : Group) (box : List (List Bool)) (is : IsBox (s
         ]
 
     pub broken_fails : group.principle ≡ principles.Order → truth_of group.truths 0 ≡ true → (u : ℕ) → u < nodes parts → AreSettled parts group box → IsDecided box (own_of u) × IsBrokenAt parts group table box u → FailsTest parts group box
-    broken_fails order along u within settled (own, (i, iw, (j, less, jw, (x, y, first, second, far)))) = record {
+    broken_fails order along u within settled (own, (i, j, x, y, less, jw, first, second, far)) = record {
       test = ordered_yields u;
       is = subst (λ p. IsTestOf p group.truths (nodes parts) (label_count parts one) (ordered_yields u)) (sym order) (along, within);
       decided = record {
@@ -245,19 +245,14 @@ module _ (parts : Parts) (group : Group) (box : List (List Bool)) (is : IsBox (s
                 own,
                 (
                   i,
-                  omega (arith, less, jw, c),
-                  (
-                    j,
-                    less,
-                    omega (arith, jw, c),
-                    (
-                      x,
-                      y,
-                      subst (λ l. StandsBelow parts group table box u l x) at_i (item_below u (get_or (order_of group) i d) x own first),
-                      subst (λ l. StandsBelow parts group table box u l y) at_j (item_below u (get_or (order_of group) j d) y own second),
-                      past,
-                    ),
-                  ),
+                  j,
+                  x,
+                  y,
+                  less,
+                  omega (arith, jw, c),
+                  subst (λ l. StandsBelow parts group table box u l x) at_i (item_below u (get_or (order_of group) i d) x own first),
+                  subst (λ l. StandsBelow parts group table box u l y) at_j (item_below u (get_or (order_of group) j d) y own second),
+                  past,
                 ),
               ))
         ]

@@ -39,7 +39,3 @@ pub record IsTabled (group : Group) (table : List (List ℕ)) (s : State) : Type
 -- at a node
 abbrev pub IsAcrossNode : Group → List (List ℕ) → ℕ → State → Type 0
 IsAcrossNode group table u s = IsTabled group table s × (u < nodes s.parts)
-
--- at a label of a node
-abbrev pub IsAcrossLabel : Group → List (List ℕ) → ℕ → ℕ → State → Type 0
-IsAcrossLabel group table u label s = IsAcrossNode group table u s × (label < edge_labels s.parts (first_dim group))

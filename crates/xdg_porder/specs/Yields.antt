@@ -27,15 +27,11 @@ AreSettled parts group box = (u : ℕ) → u < nodes parts → IsNodeSettled par
 abbrev pub StandsBelow : Parts → Group → List (List ℕ) → List (List Bool) → ℕ → ℕ → ℕ → Type 0
 StandsBelow parts group table box u label x = MayStand parts group box u label x ⊎ ((v : ℕ) × MayFollow parts group box u label v × In table v x)
 
--- of two labels, y with the later one stands at or left of x with the earlier one
-abbrev pub IsBroken : Parts → Group → List (List ℕ) → List (List Bool) → ℕ → ℕ → ℕ → Type 0
-IsBroken parts group table box u earlier later =
-    (x y : ℕ) × StandsBelow parts group table box u earlier x × StandsBelow parts group table box u later y × (y ≤ x)
+-- the same with the label at a place of the order
+abbrev pub StandsAt : Parts → Group → List (List ℕ) → List (List Bool) → ℕ → ℕ → ℕ → Type 0
+StandsAt parts group table box u i x = StandsBelow parts group table box u (label_at group i) x
 
--- so it is with the label at a place of the order and one at a later place
-abbrev pub IsBrokenFrom : Parts → Group → List (List ℕ) → List (List Bool) → ℕ → ℕ → Type 0
-IsBrokenFrom parts group table box u i = (j : ℕ) × (i < j) × (j < length group.order) × IsBroken parts group table box u (label_at group i) (label_at group j)
-
--- so it is with two labels
+-- with the labels at two places of the order, y with the later one stands at or left of x with the earlier one
 abbrev pub IsBrokenAt : Parts → Group → List (List ℕ) → List (List Bool) → ℕ → Type 0
-IsBrokenAt parts group table box u = (i : ℕ) × (i < length group.order) × IsBrokenFrom parts group table box u i
+IsBrokenAt parts group table box u =
+    (i j x y : ℕ) × (i < j) × (j < length group.order) × StandsAt parts group table box u i x × StandsAt parts group table box u j y × (y ≤ x)

@@ -5,11 +5,11 @@ ghost use Rattle.xdg_problem.specs.Arguments.{first_dim};
 ghost use Rattle.xdg_problem.specs.Places.{nodes};
 ghost use Rattle.xdg_propcore.specs.Sweeps.{Sweeps};
 ghost use Rattle.xdg_graph.specs.Edges.{edge_labels};
-ghost use Rattle.xdg_porder.specs.Across.{AreLabelsDone, AreNodesDone, IsAcrossLabel, IsAcrossNode, IsLabelDone, IsTabled};
+ghost use Rattle.xdg_porder.specs.Across.{AreLabelsDone, AreNodesDone, IsAcrossNode, IsTabled};
 
 use crate::items::may_follow;
 use crate::reads::label_count;
-use crate::sets::across;
+use crate::sets::{crossed, is_empty};
 use crate::taking::take_edges;
 use xdg_base::{LabelId, NodeId};
 use xdg_graph::{node_count, set_at};
@@ -17,22 +17,6 @@ use xdg_nodeset::NodeSet;
 use xdg_problem::Group;
 use xdg_propcore::Pass;
 use xdg_store::Store;
-
-/// Takes the edges from a node with a label across nodes that by a table can't be below it.
-fn take_across_label(
-    store: &mut Store,
-    pass: &mut Pass,
-    group: &Group,
-    table: &[NodeSet; 128],
-    u: NodeId,
-    label: LabelId,
-)
-    requires { IsAcrossLabel group.now table.now u.0 label.0 store.old }
-    ensures { Sweeps group.now (IsLabelDone store.old.parts group.now table.now u.0 label.0) pass.old store.old pass.new store.new }
-{
-    let refused = across(may_follow(store, group, u, label), u, set_at(table, u));
-    take_edges(store, pass, group, u, label, refused);
-}
 
 /// Takes the edges from a node across nodes that by a table can't be below it.
 fn take_across_node(
@@ -46,8 +30,13 @@ fn take_across_node(
     ensures { Sweeps group.now (AreLabelsDone store.old.parts group.now table.now u.0 (edge_labels store.old.parts (first_dim group.now))) pass.old store.old
         pass.new store.new }
 {
+    let across = crossed(u, set_at(table, u));
+    if is_empty(across) {
+        return;
+    }
     for label in 0..label_count(store, group) {
-        take_across_label(store, pass, group, table, u, LabelId(label));
+        let refused = may_follow(store, group, u, LabelId(label)).meet(&across);
+        take_edges(store, pass, group, u, LabelId(label), refused);
     }
 }
 

@@ -8,7 +8,8 @@ ghost use Rattle.xdg_porder.specs.Items.{IsOrdering};
 
 use crate::yields::{are_settled, fails_at};
 use xdg_base::NodeId;
-use xdg_graph::{Which, above, node_count};
+use xdg_graph::{Which, node_count, note_above};
+use xdg_nodeset::NodeSet;
 use xdg_problem::{Group, dim_of};
 use xdg_store::Store;
 
@@ -21,7 +22,8 @@ pub(crate) fn fails_test(store: &Store, group: &Group) -> bool
     if !are_settled(store, group) {
         return false;
     }
-    let table = above(store, Which::May, dim_of(group, 0));
+    let mut table = [NodeSet::empty(); 128];
+    note_above(&mut table, store, Which::May, dim_of(group, 0));
     for u in 0..node_count(store) {
         if fails_at(store, group, &table, NodeId(u)) {
             return true;

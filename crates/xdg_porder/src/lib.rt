@@ -5,6 +5,7 @@
 mod across;
 mod failing;
 mod items;
+mod lasting;
 mod order_prop;
 mod reads;
 mod sets;

@@ -3,6 +3,7 @@
 ghost use Rattle.xdg_propcore.specs.Families.{KeepsNothing};
 ghost use Rattle.xdg_porder.specs.Family.{IsOfFamily};
 
+use crate::lasting::rests;
 use crate::reads::is_order;
 use crate::sweep::{take_order, take_projective};
 use std::alloc::Global;
@@ -30,6 +31,9 @@ impl Family for Order {
     fn sweep(&self, store: &mut Store, pass: &mut Pass, group: &Group, since: &Option<Mark>) {
         if is_order(group) {
             take_order(store, pass, group, since);
+            return;
+        }
+        if rests(store, group, since) {
             return;
         }
         take_projective(store, pass, group);

@@ -11,7 +11,7 @@ ghost use Rattle.xdg_porder.specs.Items.{AreOthersDone, IsOrdering, IsReady};
 use crate::across::take_across;
 use crate::failing::fails_test;
 use crate::sides::take_nodes;
-use xdg_graph::{Which, above};
+use xdg_graph::{Which, note_above};
 use xdg_nodeset::NodeSet;
 use xdg_problem::{Group, dim_of, truth_of};
 use xdg_propcore::{Pass, Touched};
@@ -64,6 +64,7 @@ pub(crate) fn take_projective(store: &mut Store, pass: &mut Pass, group: &Group)
     requires projective { group.now.principle ≡ principles.Projectivity }
     ensures { Sweeps group.now (IsClosedFor store.old.parts group.now) pass.old store.old pass.new store.new }
 {
-    let table = above(store, Which::May, dim_of(group, 0));
+    let mut table = [NodeSet::empty(); 128];
+    note_above(&mut table, store, Which::May, dim_of(group, 0));
     take_across(store, pass, group, &table);
 }

@@ -1,18 +1,18 @@
 //! Whether an order that takes yields along fails in a box whose edges are decided.
 
-ghost use Rattle.std.specs.Prelude.{◌≡◌, ◌<◌, ◌+◌, ◌↔◌, ℕ, true, IsTrue, length};
+ghost use Rattle.std.specs.Prelude.{◌≡◌, ◌<◌, ◌↔◌, ℕ, true, IsTrue};
 ghost use Rattle.xdg_facts.specs.Rises.{has};
 ghost use Rattle.xdg_problem.specs.Places.{nodes};
 ghost use Rattle.xdg_rules.specs.Rules.{IsDecided, attr_of_node};
 ghost use Rattle.xdg_porder.specs.Items.{IsAtNode};
-ghost use Rattle.xdg_porder.specs.Yields.{AreSettled, IsBroken, IsBrokenAt, IsBrokenFrom, IsLabelSettled, IsNodeSettled, StandsBelow};
+ghost use Rattle.xdg_porder.specs.Yields.{AreSettled, IsBrokenAt, IsLabelSettled, IsNodeSettled, StandsBelow};
 
 use crate::items::{is_own_decided, may_follow, may_items, must_follow};
 use crate::reads::{label_at, label_count};
-use crate::sets::{all_below, at_or_left, is_empty};
+use crate::sets::{all_below, is_empty, left_of};
 use xdg_base::{LabelId, NodeId};
 use xdg_graph::node_count;
-use xdg_nodeset::NodeSet;
+use xdg_nodeset::{NodeSet, overlap};
 use xdg_problem::Group;
 use xdg_store::Store;
 
@@ -65,54 +65,18 @@ fn stands_below(
     may_items(store, group, u, label).union(&below)
 }
 
-/// Whether of two labels of a node one with the later label stands at or left of one with the earlier label.
-fn is_broken(
-    store: &Store,
-    group: &Group,
-    table: &[NodeSet; 128],
-    u: NodeId,
-    earlier: LabelId,
-    later: LabelId,
-) -> bool
-    requires { IsAtNode group.now u.0 store.now }
-    ensures { IsTrue result ↔ IsBroken store.now.parts group.now table.now store.now.now u.0 earlier.0 later.0 }
-{
-    let left = stands_below(store, group, table, u, earlier);
-    let right = stands_below(store, group, table, u, later);
-    !is_empty(at_or_left(right, left))
-}
-
-/// Whether it is so with the label at a place of the order and a later one.
-fn is_broken_from(
-    store: &Store,
-    group: &Group,
-    table: &[NodeSet; 128],
-    u: NodeId,
-    place: usize,
-) -> bool
-    requires at { IsAtNode group.now u.0 store.now }
-    requires place { place < length group.now.order }
-    ensures { IsTrue result ↔ IsBrokenFrom store.now.parts group.now table.now store.now.now u.0 place }
-{
-    let count = group.order.len();
-    let earlier = label_at(group, place);
-    for later in place + 1..count {
-        if is_broken(store, group, table, u, earlier, label_at(group, later)) {
-            return true;
-        }
-    }
-    false
-}
-
-/// Whether it is so with two labels of the order.
+/// Whether of two labels of the order a node with the later one stands at or left of one with the earlier one.
 fn is_broken_at(store: &Store, group: &Group, table: &[NodeSet; 128], u: NodeId) -> bool
     requires { IsAtNode group.now u.0 store.now }
     ensures { IsTrue result ↔ IsBrokenAt store.now.parts group.now table.now store.now.now u.0 }
 {
+    let mut reached = NodeSet::empty();
     for place in 0..group.order.len() {
-        if is_broken_from(store, group, table, u, place) {
+        let below = stands_below(store, group, table, u, label_at(group, place));
+        if overlap(reached, below) {
             return true;
         }
+        reached = reached.union(&left_of(below));
     }
     false
 }

@@ -1,20 +1,39 @@
-use Rattle.std.proofs.Common.{◌<◌, arith, subst, sym}
-use Rattle.xdg_problem.specs.declared.parts.Parts.{Parts}
+use Rattle.std.proofs.Common.{arith}
 use Rattle.xdg_problem.specs.Arguments.{first_dim}
 use Rattle.xdg_graph.specs.Edges.{edge_labels}
 use Rattle.xdg_porder.specs.Across.{IsLabelDone}
-use Rattle.xdg_porder.proofs.Crossing.{across_later}
+use Rattle.xdg_porder.proofs.Crossing.{across_done, across_later, across_none, across_takes}
 use Rattle.xdg_porder.proofs.Looping.{below_first, below_next, below_end}
 use Rattle.xdg_porder.proofs.across.take_across_node.Goals as goal
+
+pub set_at-requires : goal.set_at-requires
+set_at-requires c = (let l = c.requires.1 in let m = c.requires.0.ready.known.problem.most in omega (arith, l, m))
+
+pub crossed-across-requires : goal.crossed-across-requires
+crossed-across-requires c = (let l = c.requires.1 in let m = c.requires.0.ready.known.problem.most in omega (arith, l, m))
 
 pub loop-label-init : goal.loop-label-init
 loop-label-init c = below_first c.args.group.now (λ parts label. IsLabelDone parts c.args.group.now c.args.table.now c.args.u.0 label) c.args.pass.now c.args.store.now c.requires.0.ready.known
 
-pub take_across_label-requires : goal.take_across_label-requires
-take_across_label-requires c = (across_later c.args.group.now c.args.table.now c.args.u.0 _ c.args.pass.now c.args.store.now c.loop-label.pass c.loop-label.store c.requires c.loop-label.invariant, subst (λ (parts : Parts). c.loop-label.label < edge_labels parts (first_dim c.args.group.now)) (sym c.loop-label.invariant.goes.extends.same) (let l = c.loop-label-test.true in let e = c.label_count-label-end.ensures.count in omega (arith, l, e)))
+pub returns-then-is_empty : goal.returns-then-is_empty
+returns-then-is_empty c = across_none c.args.group.now c.args.table.now c.args.u.0 c.args.store.now c.requires c.set_at.result c.crossed-across.result c.set_at.ensures c.crossed-across.ensures (c.is_empty.ensures.0 c.if-is_empty.true) c.args.pass.now
+
+pub may_follow-requires : goal.may_follow-requires
+may_follow-requires c = (across_later c.args.group.now c.args.table.now c.args.u.0 _ c.args.pass.now c.args.store.now c.loop-label.pass c.loop-label.store c.requires c.loop-label.invariant).1
+
+pub take_edges-requires-clause-ready : goal.take_edges-requires-clause-ready
+take_edges-requires-clause-ready c = (across_later c.args.group.now c.args.table.now c.args.u.0 _ c.args.pass.now c.args.store.now c.loop-label.pass c.loop-label.store c.requires c.loop-label.invariant).0.ready
+
+pub take_edges-requires-clause-takes : goal.take_edges-requires-clause-takes
+take_edges-requires-clause-takes c =
+    let at = across_later c.args.group.now c.args.table.now c.args.u.0 _ c.args.pass.now c.args.store.now c.loop-label.pass c.loop-label.store c.requires c.loop-label.invariant in
+    across_takes c.args.group.now c.args.table.now c.args.u.0 c.loop-label.store at c.set_at.result c.crossed-across.result c.set_at.ensures c.crossed-across.ensures c.loop-label.label c.meet-refused.result c.may_follow.result c.may_follow.ensures.exact c.meet-refused.ensures.members
 
 pub loop-label-preserved : goal.loop-label-preserved
-loop-label-preserved c = below_next c.args.group.now (λ parts label. IsLabelDone parts c.args.group.now c.args.table.now c.args.u.0 label) c.loop-label.label c.args.pass.now c.args.store.now c.loop-label.pass c.loop-label.store c.take_across_label.new.pass c.take_across_label.new.store c.loop-label.invariant c.take_across_label.ensures
+loop-label-preserved c =
+    let at = across_later c.args.group.now c.args.table.now c.args.u.0 _ c.args.pass.now c.args.store.now c.loop-label.pass c.loop-label.store c.requires c.loop-label.invariant in
+    below_next c.args.group.now (λ parts label. IsLabelDone parts c.args.group.now c.args.table.now c.args.u.0 label) c.loop-label.label c.args.pass.now c.args.store.now c.loop-label.pass c.loop-label.store c.take_edges.new.pass c.take_edges.new.store c.loop-label.invariant
+    (across_done c.args.group.now c.args.table.now c.args.u.0 c.loop-label.store at c.set_at.result c.crossed-across.result c.set_at.ensures c.crossed-across.ensures c.loop-label.label c.meet-refused.result c.may_follow.result c.may_follow.ensures.exact c.meet-refused.ensures.members c.loop-label.pass c.take_edges.new.pass c.take_edges.new.store c.take_edges.ensures)
 
 pub returns : goal.returns
 returns c = below_end c.args.group.now (λ parts label. IsLabelDone parts c.args.group.now c.args.table.now c.args.u.0 label) c.loop-label.label (edge_labels c.args.store.now.parts (first_dim c.args.group.now)) c.args.pass.now c.args.store.now c.loop-label.pass c.loop-label.store (let l = c.loop-label-test.false in let e = c.label_count-label-end.ensures.count in omega (arith, l, e)) c.loop-label.invariant
