@@ -1,17 +1,14 @@
 -- The boxes of the words that stood.
-use Rattle.std.proofs.Common.{◌≡◌, ℕ, ◌<◌, ◌≤◌, ◌+◌, ◌-◌, ◌↔◌, Bool, true, List, [], ◌∷◌, ◌++◌, length, get_or, set, take, drop, refl, ap, sym, ◌∙◌, arith, subst, zero, suc, length-append}
+use Rattle.std.proofs.Common.{◌≡◌, ℕ, ◌<◌, ◌≤◌, ◌+◌, ◌-◌, Bool, List, [], ◌∷◌, ◌++◌, length, get_or, set, take, drop, refl, ap, sym, ◌∙◌, arith, subst, zero, suc, length-append}
 use Rattle.std.proofs.lemmas.List.{take-append-le, take_all, get_or-take, length-take-le, get_or_push}
 use Rattle.xdg_problem.specs.declared.parts.Parts.{Parts}
-use Rattle.std.specs.Prelude.{nat_eq, sum}
-use Rattle.std.proofs.lemmas.Bool.{eq-eqb, eqb-true}
-use Rattle.xdg_problem.specs.Boxes.{IsBox, IsSingle}
+use Rattle.std.specs.Prelude.{sum}
+use Rattle.xdg_problem.specs.Boxes.{IsBox}
 use Rattle.xdg_problem.specs.Problems.{IsProblem}
 use Rattle.xdg_problem.specs.Vectors.{shape}
 use Rattle.xdg_trail.specs.Trailed.{Trailed, states, past}
 use Rattle.xdg_store.specs.Layout.{bits_of, box_in}
 use Rattle.xdg_store.specs.States.{State, Keeps, Known, Sound, oldest, remaining}
-use Rattle.xdg_store.proofs.Boxed.{box_filled, length_box}
-use Rattle.xdg_store.proofs.Counting.{count_from_single, single_from_count}
 
 -- what a store with these parts, this trail and these turns is seen as
 abbrev pub seen : Parts → Trailed → ℕ → State
@@ -45,7 +42,7 @@ length-earlier ws rs =
     omega (arith, e, f)
 
 -- what is sound of the present words
-pub present : (sizes : List ℕ) (total : ℕ) (bits : List (List ℕ)) (t : Trailed) → Sound sizes total bits (past t) → (remaining (box_in bits t.words) + length t.records ≡ total) × IsBox sizes (box_in bits t.words)
+pub present : (sizes : List ℕ) (total : ℕ) (bits : List (List ℕ)) (t : Trailed) → Sound sizes total bits (past t) → (remaining (box_in bits t.words) + length t.records ≤ total) × IsBox sizes (box_in bits t.words)
 present sizes total bits t s =
     let h = subst (Sound sizes total bits) (split_states t.words t.records) s in
     let n = length-earlier t.words t.records in
@@ -93,8 +90,8 @@ cut_last h m l =
     let e : length (take (m + 1) h) - 1 ≡ m = omega (arith, n) in
     ap (λ i. get_or (take (m + 1) h) i []) e ∙ get_or-take (m + 1) h m [] (omega arith)
 
-pub keeps_undone : (parts : Parts) (old new : Trailed) (single mark : ℕ) → Keeps parts old single → length new.words ≡ length old.words → new.spare + length new.records ≡ old.spare + length old.records → past new ≡ drop (length old.records - mark) (past old) → Keeps parts new single
-keeps_undone parts old new single mark keeps len room e = record {
+pub keeps_undone : (parts : Parts) (old new : Trailed) (mark : ℕ) → Keeps parts old → length new.words ≡ length old.words → new.spare + length new.records ≡ old.spare + length old.records → past new ≡ drop (length old.records - mark) (past old) → Keeps parts new
+keeps_undone parts old new mark keeps len room e = record {
   problem = keeps.problem;
   long = (let l = keeps.long in omega (arith, len, l));
   spare = (let s = keeps.spare in omega (arith, room, s));
@@ -114,17 +111,3 @@ pub last_at : (now : State) (mark : ℕ) → Known now → mark + 1 ≡ length n
 last_at now mark known e =
     let i : mark ≡ length now.history - 1 = omega (arith, e) in
     ap (λ k. get_or now.history k []) i ∙ known.last
-
--- ---- single boxes
-
-pub single_exact : (parts : Parts) (t : Trailed) (single spare : ℕ) → Keeps parts t single → spare ≡ t.spare → (nat_eq spare single ≡ true) ↔ IsSingle (box_in (bits_of parts) t.words)
-single_exact parts t single spare keeps e =
-    let now = present (shape parts) (sum (shape parts)) (bits_of parts) t keeps.sound in
-    let count = now.0 in
-    let room = keeps.spare in
-    let box = box_in (bits_of parts) t.words in
-    let filled = box_filled (shape parts) box now.1 in
-    let size = length_box (shape parts) box now.1 in (
-      λ h. (let s : spare ≡ single = eqb-true spare single h in single_from_count box filled (omega (arith, count, room, e, s, size))),
-      λ h. (let r = count_from_single box filled h in eq-eqb spare single (omega (arith, count, room, e, r, size))),
-    )

@@ -213,8 +213,8 @@ module _ (parts : Parts) (p : IsProblem parts) where
       let long = history_length (bits_of parts) t in
       sym known.last ∙ ap (λ z. get_or z (length z - 1) []) h ∙ cut_last (oldest (bits_of parts) (past t)) mark (omega (arith, long, l))
 
-  pub kept_undone : (t u : Trailed) (single room mark : ℕ) (removed : List Decision) (rows more : List Mothers) → Keeps parts t single → Keeps parts u single → mark ≤ length t.records → past u ≡ drop (length t.records - mark) (past t) → AreSteps parts (oldest (bits_of parts) (past t)) removed room → RenewsAll (nodes parts) u.words (drop mark removed) rows more → AreKept parts t.words rows → AreKept parts u.words more
-  kept_undone t u single room mark removed rows more before keeps l e steps renews kept =
+  pub kept_undone : (t u : Trailed) (room mark : ℕ) (removed : List Decision) (rows more : List Mothers) → Keeps parts t → Keeps parts u → mark ≤ length t.records → past u ≡ drop (length t.records - mark) (past t) → AreSteps parts (oldest (bits_of parts) (past t)) removed room → RenewsAll (nodes parts) u.words (drop mark removed) rows more → AreKept parts t.words rows → AreKept parts u.words more
+  kept_undone t u room mark removed rows more before keeps l e steps renews kept =
       let history = oldest (bits_of parts) (past t) in
       let long = history_length (bits_of parts) t in
       let c = steps.count in

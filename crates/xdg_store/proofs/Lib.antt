@@ -13,10 +13,13 @@ pub mod Rowwise
 pub mod Pairs
 pub mod Daughters
 pub mod OneWord
+pub mod OneBlock
 pub mod Leaving
 pub mod Small
 pub mod Noting
 pub mod Renewed
 pub mod Kept
+pub mod Several
+pub mod Alone
 pub mod Labelled
 pub mod Telling

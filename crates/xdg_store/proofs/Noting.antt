@@ -4,10 +4,10 @@ use Rattle.std.specs.Prelude.{sum}
 use Rattle.std.proofs.lemmas.Bool.{cases_Bool, cases_eq, cases_lt}
 use Rattle.std.proofs.lemmas.List.{get_or_append_left, get_or_at, get_or_default, get_or-drop, get_or-set_other, get_or-take, length-drop, length-take-le}
 use Rattle.xdg_problem.specs.declared.parts.Parts.{Parts}
-use Rattle.xdg_problem.specs.Boxes.{Has, without}
+use Rattle.xdg_problem.specs.Boxes.{Has}
 use Rattle.xdg_problem.specs.Vectors.{shape}
 use Rattle.xdg_trail.specs.Trailed.{Trailed, past}
-use Rattle.xdg_store.specs.Change.{Removes}
+use Rattle.xdg_store.specs.Change.{Removes, RemovesAll}
 use Rattle.xdg_store.specs.Decisions.{IsDecision, number_of}
 use Rattle.xdg_store.specs.Layout.{bits_of, box_in}
 use Rattle.xdg_store.specs.Naming.{AreSteps, IsStep, Names, SameBut, noted}
@@ -19,6 +19,23 @@ use Rattle.xdg_store.specs.declared.decision.Decision.TheVariants as decisions
 use Rattle.xdg_store.proofs.Boxed.{box_filled, length_box}
 use Rattle.xdg_store.proofs.Counting.{enough_left}
 use Rattle.xdg_store.proofs.Histories.{history_cut, history_length, known_of, present, seen}
+
+-- what the names need of a removal: nothing changed, or there is one more box, in which every other decision is as it was
+abbrev pub IsOneStep : Change → State → State → ℕ → Type 0
+IsOneStep changes.Same old new d = new ≡ old
+IsOneStep changes.Changed old new d = (new.history ≡ old.history ++ (new.now ∷ [])) × SameBut old.now new.now d
+IsOneStep changes.Emptied old new d = new ≡ old
+
+pub one_step : (change : Change) (old new : State) (d v : ℕ) → Removes change old new d v → IsOneStep change old new d
+one_step changes.Same old new d v r = r.1
+one_step changes.Changed old new d v (has, other, more) =
+    (ap (λ s. s.history) more ∙ ap (λ b. old.history ++ (b ∷ [])) (sym (ap (λ s. s.now) more)), λ e n. ap (λ s. get_or s.now e []) more ∙ get_or-set_other old.now d e (set (get_or old.now d []) v false) [] n)
+one_step changes.Emptied old new d v (has, only, same) = same
+
+pub block_step : (change : Change) (old new : State) (d : ℕ) (Goes : ℕ → Type 0) → RemovesAll change old new d Goes → IsOneStep change old new d
+block_step changes.Same old new d Goes r = r.1
+block_step changes.Changed old new d Goes r = (r.1.grown, r.1.others)
+block_step changes.Emptied old new d Goes r = r.1
 
 module _ (parts : Parts) where
   -- what is said of a step, by the decision and the two boxes
@@ -37,39 +54,37 @@ module _ (parts : Parts) where
       (get_or_append_left history more [] (k + 1) (omega (arith, count, l)))
       (step d)
 
-  newest : (s : State) (removed : List Decision) (decision : Decision) (v k : ℕ) → Known s → length s.history ≡ length removed + 1 → k ≡ length removed → IsDecision parts decision → IsStep parts (s.history ++ (without s.now (number_of parts decision) v ∷ [])) (removed ++ (decision ∷ [])) k
-  newest s removed decision v k known count at is d =
-      let taken = without s.now (number_of parts decision) v in
+  newest : (s : State) (taken : List (List Bool)) (removed : List Decision) (decision : Decision) (k : ℕ) → Known s → length s.history ≡ length removed + 1 → k ≡ length removed → IsDecision parts decision → SameBut s.now taken (number_of parts decision) → IsStep parts (s.history ++ (taken ∷ [])) (removed ++ (decision ∷ [])) k
+  newest s taken removed decision k known count at is same d =
       let last : k ≡ length s.history - 1 = omega (arith, count, at) in
       says_alike _ _ _ _ _ _
       (get_or_at removed decision [] d k (sym at))
       (get_or_append_left s.history (taken ∷ []) [] k (omega (arith, count, at)) ∙ ap (λ i. get_or s.history i []) last ∙ known.last)
       (get_or_at s.history taken [] [] (k + 1) (omega (arith, count, at)))
-      (is, λ e n. get_or-set_other s.now (number_of parts decision) e (set (get_or s.now (number_of parts decision) []) v false) [] n)
+      (is, same)
 
-  pub noted_steps : (change : Change) (old new : State) (removed : List Decision) (decision : Decision) (v room : ℕ) → Known old → IsDecision parts decision → AreSteps parts old.history removed room → Removes change old new (number_of parts decision) v → AreSteps parts new.history (noted change removed decision) room
-  noted_steps changes.Same old new removed decision v room known is steps (gone, same) = subst (λ s. AreSteps parts s.history removed room) (sym same) steps
-  noted_steps changes.Emptied old new removed decision v room known is steps (has, only, same) = subst (λ s. AreSteps parts s.history removed room) (sym same) steps
-  noted_steps changes.Changed old new removed decision v room known is steps (has, other, more) =
-      let taken = without old.now (number_of parts decision) v in
+  pub noted_steps : (change : Change) (old new : State) (removed : List Decision) (decision : Decision) (room : ℕ) → Known old → IsDecision parts decision → AreSteps parts old.history removed room → IsOneStep change old new (number_of parts decision) → AreSteps parts new.history (noted change removed decision) room
+  noted_steps changes.Same old new removed decision room known is steps same = subst (λ s. AreSteps parts s.history removed room) (sym same) steps
+  noted_steps changes.Emptied old new removed decision room known is steps same = subst (λ s. AreSteps parts s.history removed room) (sym same) steps
+  noted_steps changes.Changed old new removed decision room known is steps (more, same) =
       let c = steps.count in
-      let a = length-append old.history (taken ∷ []) in
+      let a = length-append old.history (new.now ∷ []) in
       let b = length-append removed (decision ∷ []) in
-      subst (λ s. AreSteps parts s.history (removed ++ (decision ∷ [])) room) (sym more) (record {
+      subst (λ h. AreSteps parts h (removed ++ (decision ∷ [])) room) (sym more) (record {
         count = omega (arith, c, a, b);
         each = λ k l. elim (cases_lt k (length removed)) [
-          | inl m ↦ grown old.history (taken ∷ []) removed (decision ∷ []) k c m (steps.each k m)
-          | inr m ↦ newest old removed decision v k known c (omega (arith, l, m, b)) is
+          | inl m ↦ grown old.history (new.now ∷ []) removed (decision ∷ []) k c m (steps.each k m)
+          | inr m ↦ newest old new.now removed decision k known c (omega (arith, l, m, b)) is same
         ];
         most = steps.most;
       })
 
   -- ---- room
 
-  pub note_room : (change : Change) (t u : Trailed) (turns single : ℕ) (removed : List Decision) (d v room : ℕ) → Keeps parts u single → AreSteps parts (oldest (bits_of parts) (past t)) removed room → Removes change (seen parts t turns) (seen parts u turns) d v → change ≡ changes.Changed → length removed < room
-  note_room changes.Same t u turns single removed d v room keeps steps removes is = cc
-  note_room changes.Emptied t u turns single removed d v room keeps steps removes is = cc
-  note_room changes.Changed t u turns single removed d v room keeps steps (has, other, more) is =
+  pub step_room : (change : Change) (t u : Trailed) (turns : ℕ) (removed : List Decision) (d room : ℕ) → Keeps parts u → AreSteps parts (oldest (bits_of parts) (past t)) removed room → IsOneStep change (seen parts t turns) (seen parts u turns) d → change ≡ changes.Changed → length removed < room
+  step_room changes.Same t u turns removed d room keeps steps step is = cc
+  step_room changes.Emptied t u turns removed d room keeps steps step is = cc
+  step_room changes.Changed t u turns removed d room keeps steps (more, others) is =
       let box = box_in (bits_of parts) u.words in
       let now = present (shape parts) (sum (shape parts)) (bits_of parts) u keeps.sound in
       let count = now.0 in
@@ -77,10 +92,13 @@ module _ (parts : Parts) where
       let size = length_box (shape parts) box now.1 in
       let before = steps.count in
       let after = history_length (bits_of parts) u in
-      let one = length-append (oldest (bits_of parts) (past t)) (without (box_in (bits_of parts) t.words) d v ∷ []) in
-      let same : length (oldest (bits_of parts) (past u)) ≡ length (oldest (bits_of parts) (past t) ++ (without (box_in (bits_of parts) t.words) d v ∷ [])) = ap (λ s. length s.history) more in
+      let one = length-append (oldest (bits_of parts) (past t)) (box ∷ []) in
+      let same : length (oldest (bits_of parts) (past u)) ≡ length (oldest (bits_of parts) (past t) ++ (box ∷ [])) = ap length more in
       let most = steps.most in
       omega (arith, count, left, size, before, after, one, same, most)
+
+  pub note_room : (change : Change) (t u : Trailed) (turns : ℕ) (removed : List Decision) (d v room : ℕ) → Keeps parts u → AreSteps parts (oldest (bits_of parts) (past t)) removed room → Removes change (seen parts t turns) (seen parts u turns) d v → change ≡ changes.Changed → length removed < room
+  note_room change t u turns removed d v room keeps steps removes = step_room change t u turns removed d room keeps steps (one_step change (seen parts t turns) (seen parts u turns) d v removes)
 
   -- ---- the start, and going back
 
@@ -143,11 +161,14 @@ module _ (parts : Parts) where
 module _ (parts : Parts) where
   -- ---- as the code goes
 
-  pub steps_after : (change : Change) (t u : Trailed) (turns single : ℕ) (removed removed' : List Decision) (decision : Decision) (v room room' : ℕ) → Keeps parts t single → IsDecision parts decision → AreSteps parts (oldest (bits_of parts) (past t)) removed room → Removes change (seen parts t turns) (seen parts u turns) (number_of parts decision) v → removed' ≡ noted change removed decision → room' ≡ room → AreSteps parts (oldest (bits_of parts) (past u)) removed' room'
-  steps_after change t u turns single removed removed' decision v room room' keeps is steps removes removed_is room_is =
+  pub step_after : (change : Change) (t u : Trailed) (turns : ℕ) (removed removed' : List Decision) (decision : Decision) (room room' : ℕ) → Keeps parts t → IsDecision parts decision → AreSteps parts (oldest (bits_of parts) (past t)) removed room → IsOneStep change (seen parts t turns) (seen parts u turns) (number_of parts decision) → removed' ≡ noted change removed decision → room' ≡ room → AreSteps parts (oldest (bits_of parts) (past u)) removed' room'
+  step_after change t u turns removed removed' decision room room' keeps is steps step removed_is room_is =
       subst (λ n. AreSteps parts (oldest (bits_of parts) (past u)) removed' n) (sym room_is)
       (subst (λ xs. AreSteps parts (oldest (bits_of parts) (past u)) xs room) (sym removed_is)
-      (noted_steps parts change (seen parts t turns) (seen parts u turns) removed decision v room (known_of parts (sum (shape parts)) turns t keeps.problem keeps.sound) is steps removes))
+      (noted_steps parts change (seen parts t turns) (seen parts u turns) removed decision room (known_of parts (sum (shape parts)) turns t keeps.problem keeps.sound) is steps step))
+
+  pub steps_after : (change : Change) (t u : Trailed) (turns : ℕ) (removed removed' : List Decision) (decision : Decision) (v room room' : ℕ) → Keeps parts t → IsDecision parts decision → AreSteps parts (oldest (bits_of parts) (past t)) removed room → Removes change (seen parts t turns) (seen parts u turns) (number_of parts decision) v → removed' ≡ noted change removed decision → room' ≡ room → AreSteps parts (oldest (bits_of parts) (past u)) removed' room'
+  steps_after change t u turns removed removed' decision v room room' keeps is steps removes = step_after change t u turns removed removed' decision room room' keeps is steps (one_step change (seen parts t turns) (seen parts u turns) (number_of parts decision) v removes)
 
   pub steps_cut : (t u : Trailed) (removed removed' : List Decision) (room room' mark n : ℕ) → mark ≤ length t.records → past u ≡ drop (length t.records - mark) (past t) → AreSteps parts (oldest (bits_of parts) (past t)) removed room → removed' ≡ take n removed → n ≡ mark → room' ≡ room → AreSteps parts (oldest (bits_of parts) (past u)) removed' room'
   steps_cut t u removed removed' room room' mark n l past_is steps removed_is n_is room_is =

@@ -30,16 +30,16 @@ bit_mask value first l m i k = ap (λ w. bit_at w i) (one_shl (value - first) 64
 
 -- ---- a word with a bit
 
-some_bit : (n : ℕ) → 0 < n → n < 2 ^ 64 → (i : ℕ) × (i < 64) × (bit_at n i ≡ 1)
+pub some_bit : (n : ℕ) → 0 < n → n < 2 ^ 64 → (i : ℕ) × (i < 64) × (bit_at n i ≡ 1)
 some_bit n l m = let t = bit_at-trailing_zeros w64 n l m in (trailing_zeros w64 n, t.0, t.1)
 
-three : (a b c : ℕ) → min (min a b) c ≡ 1 → a < 2 → b < 2 → c < 2 → (a ≡ 1) × (b ≡ 1) × (c ≡ 1)
+pub three : (a b c : ℕ) → min (min a b) c ≡ 1 → a < 2 → b < 2 → c < 2 → (a ≡ 1) × (b ≡ 1) × (c ≡ 1)
 three a b c e l m k = (omega (arith, e, l, m, k), omega (arith, e, l, m, k), omega (arith, e, l, m, k))
 
-abbrev flag : Bool → ℕ
+abbrev pub flag : Bool → ℕ
 flag b = cond b 1 0
 
-one_if : (b : Bool) → flag b ≡ 1 → b ≡ true
+pub one_if : (b : Bool) → flag b ≡ 1 → b ≡ true
 one_if true e = cc
 one_if false e = cc
 

@@ -27,7 +27,7 @@ edge_is_pair parts e n row present p is m r b = record {
   present_is = b ∙ ap (λ i. i + e.daughter.0) (r ∙ ap (λ i. edge_row i e.dim.0 e.mother.0 e.label.0) m);
 }
 
-module _ (parts : Parts) (t : Trailed) (single : ℕ) (e : Edge) (present : ℕ) (keeps : Keeps parts t single) (at : IsPair parts e present) where
+module _ (parts : Parts) (t : Trailed) (e : Edge) (present : ℕ) (keeps : Keeps parts t) (at : IsPair parts e present) where
   abbrev row : List ℕ
   row = pair_bits (nodes parts) e
 
@@ -65,22 +65,22 @@ module _ (parts : Parts) (t : Trailed) (single : ℕ) (e : Edge) (present : ℕ)
       ap (is_set t.words) at.present_is ∙ ap (λ i. is_set t.words (get_or row i 0)) (sym s) ∙ h
 
   pub forbid_room : is_set t.words present ≡ true → is_set t.words (present + 128) ≡ true → 1 ≤ t.spare
-  forbid_room h other = has_room parts t single d 0 row keeps at.located (omega arith) (subst (λ b. is_set t.words b ≡ true) at.present_is h) (to_absent other)
+  forbid_room h other = has_room parts t d 0 row keeps at.located (omega arith) (subst (λ b. is_set t.words b ≡ true) at.present_is h) (to_absent other)
 
   pub force_room : is_set t.words (present + 128) ≡ true → is_set t.words present ≡ true → 1 ≤ t.spare
-  force_room h other = has_room parts t single d 1 row keeps at.located (omega arith) (subst (λ b. is_set t.words b ≡ true) absent_is h) (to_present other)
+  force_room h other = has_room parts t d 1 row keeps at.located (omega arith) (subst (λ b. is_set t.words b ≡ true) absent_is h) (to_present other)
 
   pub forbid_removes : (u : Trailed) (change : Change) (turns : ℕ) → Takes change t u present (is_set t.words (present + 128) ≡ true) → Removes change (seen parts t turns) (seen parts u turns) d 0
-  forbid_removes u change turns takes = removes parts t single d 0 row keeps at.located (omega arith) u present (is_set t.words (present + 128) ≡ true) at.present_is to_absent from_absent change turns takes
+  forbid_removes u change turns takes = removes parts t d 0 row keeps at.located (omega arith) u present (is_set t.words (present + 128) ≡ true) at.present_is to_absent from_absent change turns takes
 
-  pub forbid_keeps : (u : Trailed) (change : Change) → Takes change t u present (is_set t.words (present + 128) ≡ true) → Keeps parts u single
-  forbid_keeps u change takes = keeps_taken parts t single d 0 row keeps at.located (omega arith) u present (is_set t.words (present + 128) ≡ true) at.present_is to_absent from_absent change takes
+  pub forbid_keeps : (u : Trailed) (change : Change) → Takes change t u present (is_set t.words (present + 128) ≡ true) → Keeps parts u
+  forbid_keeps u change takes = keeps_taken parts t d 0 row keeps at.located (omega arith) u present (is_set t.words (present + 128) ≡ true) at.present_is to_absent from_absent change takes
 
   pub force_removes : (u : Trailed) (change : Change) (turns : ℕ) → Takes change t u (present + 128) (is_set t.words present ≡ true) → Removes change (seen parts t turns) (seen parts u turns) d 1
-  force_removes u change turns takes = removes parts t single d 1 row keeps at.located (omega arith) u (present + 128) (is_set t.words present ≡ true) absent_is to_present from_present change turns takes
+  force_removes u change turns takes = removes parts t d 1 row keeps at.located (omega arith) u (present + 128) (is_set t.words present ≡ true) absent_is to_present from_present change turns takes
 
-  pub force_keeps : (u : Trailed) (change : Change) → Takes change t u (present + 128) (is_set t.words present ≡ true) → Keeps parts u single
-  force_keeps u change takes = keeps_taken parts t single d 1 row keeps at.located (omega arith) u (present + 128) (is_set t.words present ≡ true) absent_is to_present from_present change takes
+  pub force_keeps : (u : Trailed) (change : Change) → Takes change t u (present + 128) (is_set t.words present ≡ true) → Keeps parts u
+  force_keeps u change takes = keeps_taken parts t d 1 row keeps at.located (omega arith) u (present + 128) (is_set t.words present ≡ true) absent_is to_present from_present change takes
 
 -- what the bits say of an edge
 

@@ -66,7 +66,7 @@ box_cleared parts d v row words p long at l =
 abbrev pub OtherIn : List ℕ → List ℕ → ℕ → Type 0
 OtherIn words row v = (x : ℕ) × (x < length row) × (x ≢ v) × (is_set words (get_or row x 0) ≡ true)
 
-module _ (parts : Parts) (t : Trailed) (single d v : ℕ) (row : List ℕ) (keeps : Keeps parts t single) (at : Located parts d row) (within : v < length row) where
+module _ (parts : Parts) (t : Trailed) (d v : ℕ) (row : List ℕ) (keeps : Keeps parts t) (at : Located parts d row) (within : v < length row) where
   abbrev box : List (List Bool)
   box = box_in (bits_of parts) t.words
 
@@ -113,7 +113,7 @@ module _ (parts : Parts) (t : Trailed) (single d v : ℕ) (row : List ℕ) (keep
         ap (λ b. record { parts = parts; now = b; history = oldest (bits_of parts) (past u); turns = turns }) new_now
         ∙ ap (λ g. record { parts = parts; now = new_box; history = g; turns = turns }) h
 
-    pub keeps_cleared : is_set t.words (get_or row v 0) ≡ true → OtherIn t.words row v → Keeps parts u single
+    pub keeps_cleared : is_set t.words (get_or row v 0) ≡ true → OtherIn t.words row v → Keeps parts u
     keeps_cleared e other = record {
       problem = keeps.problem;
       long = (let n = length-cleared t.words (get_or row v 0) in let m = ap length clears.words in let l = keeps.long in omega (arith, n, m, l));
@@ -148,7 +148,7 @@ module _ (parts : Parts) (t : Trailed) (single d v : ℕ) (row : List ℕ) (keep
     removes changes.Changed turns (e, other, clears) = (has (set_is e), not_only e other, seen_cleared u (subst (Clears t u) bit_is clears) turns)
     removes changes.Emptied turns (e, none, same) = (has (set_is e), is_only none, ap (λ w. seen parts w turns) same)
 
-    pub keeps_taken : (change : Change) → Takes change t u bit Other → Keeps parts u single
-    keeps_taken changes.Same (e, same) = subst (λ w. Keeps parts w single) (sym same) keeps
+    pub keeps_taken : (change : Change) → Takes change t u bit Other → Keeps parts u
+    keeps_taken changes.Same (e, same) = subst (λ w. Keeps parts w) (sym same) keeps
     keeps_taken changes.Changed (e, other, clears) = keeps_cleared u (subst (Clears t u) bit_is clears) (set_is e) (other_if other)
-    keeps_taken changes.Emptied (e, none, same) = subst (λ w. Keeps parts w single) (sym same) keeps
+    keeps_taken changes.Emptied (e, none, same) = subst (λ w. Keeps parts w) (sym same) keeps

@@ -28,7 +28,7 @@ pub record IsRow (parts : Parts) (d start size v : ℕ) : Type 0 where
   pub located : Located parts d (numbers_from start size)
   pub within : v < size
 
-module _ (parts : Parts) (t : Trailed) (single d start size v : ℕ) (keeps : Keeps parts t single) (at : IsRow parts d start size v) where
+module _ (parts : Parts) (t : Trailed) (d start size v : ℕ) (keeps : Keeps parts t) (at : IsRow parts d start size v) where
   abbrev row : List ℕ
   row = numbers_from start size
 
@@ -48,13 +48,13 @@ module _ (parts : Parts) (t : Trailed) (single d start size v : ℕ) (keeps : Ke
       (x, m, n, subst (λ b. is_set t.words b ≡ true) (sym (bit_is x m)) e)
 
   pub row_room : is_set t.words (start + v) ≡ true → HasOther t.words start size v → 1 ≤ t.spare
-  row_room e other = has_room parts t single d v row keeps at.located (within_row v at.within) (subst (λ b. is_set t.words b ≡ true) (bit_is v at.within) e) (to_row other)
+  row_room e other = has_room parts t d v row keeps at.located (within_row v at.within) (subst (λ b. is_set t.words b ≡ true) (bit_is v at.within) e) (to_row other)
 
   pub row_removes : (u : Trailed) (change : Change) (turns : ℕ) → Takes change t u (start + v) (HasOther t.words start size v) → Removes change (seen parts t turns) (seen parts u turns) d v
-  row_removes u change turns takes = removes parts t single d v row keeps at.located (within_row v at.within) u (start + v) (HasOther t.words start size v) (bit_is v at.within) to_row from_row change turns takes
+  row_removes u change turns takes = removes parts t d v row keeps at.located (within_row v at.within) u (start + v) (HasOther t.words start size v) (bit_is v at.within) to_row from_row change turns takes
 
-  pub row_keeps : (u : Trailed) (change : Change) → Takes change t u (start + v) (HasOther t.words start size v) → Keeps parts u single
-  row_keeps u change takes = keeps_taken parts t single d v row keeps at.located (within_row v at.within) u (start + v) (HasOther t.words start size v) (bit_is v at.within) to_row from_row change takes
+  pub row_keeps : (u : Trailed) (change : Change) → Takes change t u (start + v) (HasOther t.words start size v) → Keeps parts u
+  row_keeps u change takes = keeps_taken parts t d v row keeps at.located (within_row v at.within) u (start + v) (HasOther t.words start size v) (bit_is v at.within) to_row from_row change takes
 
 -- what the code reads of a value
 pub row_has : (parts : Parts) (d start size v : ℕ) (words : List ℕ) (result : Bool) → IsRow parts d start size v → result ≡ is_set words (start + v) → IsTrue result ↔ Has (box_in (bits_of parts) words) d v

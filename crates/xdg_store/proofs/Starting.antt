@@ -1,5 +1,5 @@
 -- The box of all values.
-use Rattle.std.proofs.Common.{◌≡◌, ℕ, ◌<◌, ◌≤◌, ◌+◌, ◌-◌, ◌*◌, ◌/◌, ◌%◌, true, List, [], length, map, replicate, ap, sym, ◌∙◌, arith, subst}
+use Rattle.std.proofs.Common.{◌≡◌, ℕ, ◌<◌, ◌≤◌, ◌+◌, ◌*◌, ◌/◌, ◌%◌, true, List, [], length, map, replicate, ap, sym, ◌∙◌, arith, subst}
 use Rattle.std.specs.Prelude.{nat_eq, sum}
 use Rattle.std.specs.Int.{bit_at}
 use Rattle.std.specs.List.{AllByRecursion}
@@ -34,13 +34,13 @@ full_words parts count words p l e =
     (λ row a. each_weaker (λ b. b < bit_count parts) (λ b. is_set words b ≡ true) row (λ b w. ones_set count b words e (omega (arith, w, l))) a) (bits_within parts p))
     ∙ ap (map (λ size. replicate size true)) (bits_sizes parts)
 
-pub keeps_start : (parts : Parts) (t : Trailed) (single free count : ℕ) → IsProblem parts → bit_count parts ≤ 64 * count → t.words ≡ replicate count 18446744073709551615 → t.records ≡ [] → free + length (shape parts) ≡ sum (shape parts) → free ≤ t.spare → single ≡ t.spare - free → Keeps parts t single
-keeps_start parts t single free count p l words none all room left =
+pub keeps_start : (parts : Parts) (t : Trailed) (free count : ℕ) → IsProblem parts → bit_count parts ≤ 64 * count → t.words ≡ replicate count 18446744073709551615 → t.records ≡ [] → free + length (shape parts) ≡ sum (shape parts) → free ≤ t.spare → Keeps parts t
+keeps_start parts t free count p l words none all room =
     let box = full_words parts count t.words p l words in
     record {
       problem = p;
       long = (let n = ap length words in let r = length-replicate {A = ℕ} count 18446744073709551615 in omega (arith, n, r, l));
-      spare = (let n = ap length none in omega (arith, n, all, room, left));
+      spare = (let n = ap length none in omega (arith, n, all, room));
       sound = subst (λ rs. Sound (shape parts) (sum (shape parts)) (bits_of parts) (states t.words rs)) (sym none) (
         (let e : remaining (box_in (bits_of parts) t.words) ≡ sum (shape parts) = ap remaining box ∙ remaining_full (shape parts) in omega (arith, e)),
         subst (IsBox (shape parts)) (sym box) (full_is_box parts p),

@@ -5,6 +5,7 @@ pub mod Change
 pub mod Decisions
 pub mod Naming
 pub mod Rows
+pub mod Singles
 pub mod Across
 pub mod Labels
 pub mod Example

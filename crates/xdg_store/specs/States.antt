@@ -37,16 +37,16 @@ abbrev pub oldest : List (List ℕ) → List (List ℕ) → List (List (List Boo
 oldest bits [] = []
 oldest bits (words ∷ before) = oldest bits before ++ (box_in bits words ∷ [])
 
--- each state is a box, and each value was in the first box or was removed, one for each further state
+-- each state is a box, and each further state has lost one value at least
 abbrev pub Sound : List ℕ → ℕ → List (List ℕ) → List (List ℕ) → Type 0
 Sound sizes total bits [] = Unit {0}
 Sound sizes total bits (words ∷ before) =
-    (remaining (box_in bits words) + length before ≡ total) × IsBox sizes (box_in bits words) × Sound sizes total bits before
+    (remaining (box_in bits words) + length before ≤ total) × IsBox sizes (box_in bits words) × Sound sizes total bits before
 
 -- what a store keeps of its trail: it has a word for each bit, room for each value that can still be removed, and each
--- earlier time of it says a box; single is how much room is left when no decision can lose a value
-pub record Keeps (parts : Parts) (t : Trailed) (single : ℕ) : Type 0 where
+-- earlier time of it says a box
+pub record Keeps (parts : Parts) (t : Trailed) : Type 0 where
   pub problem : IsProblem parts
   pub long : bit_count parts ≤ 64 * length t.words
-  pub spare : single + sum (shape parts) ≡ t.spare + length t.records + length (shape parts)
+  pub spare : sum (shape parts) ≤ t.spare + length t.records + length (shape parts)
   pub sound : Sound (shape parts) (sum (shape parts)) (bits_of parts) (past t)

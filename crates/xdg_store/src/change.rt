@@ -3,10 +3,10 @@
 /// What a removal did.
 #[derive(Clone, Copy, Debug, PartialEq, Eq)]
 pub enum Change {
-    /// The value didn't remain, and nothing changed.
+    /// No value to be taken remained, and nothing changed.
     Same,
-    /// The value remained beside others, and remains no more.
+    /// Such values remained beside others, and remain no more.
     Changed,
-    /// The value is the last of its decision, and nothing changed.
+    /// Its decision has no other values left, and nothing changed.
     Emptied,
 }

@@ -12,6 +12,7 @@ mod layout;
 mod masks;
 mod naming;
 mod rows;
+mod single;
 mod start;
 mod store;
 

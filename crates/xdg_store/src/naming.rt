@@ -8,7 +8,7 @@ ghost use Rattle.xdg_store.specs.declared.change.Change.TheVariants as changes;
 use crate::change::Change;
 use crate::decision::Decision;
 
-/// Keeps of which decision a value was removed, if one was.
+/// Keeps of which decision values were removed, if any were.
 pub(crate) fn note(removed: &mut Vec<Decision>, change: Change, decision: Decision)
     requires room { change ≡ changes.Changed → length removed.old.items < vec_capacity removed.old }
     ensures items { removed.new.items ≡ noted change removed.old.items decision }

@@ -2,8 +2,10 @@
 
 ghost use Rattle.std.specs.Prelude.{◌≡◌, ◌<◌, ◌≤◌, ◌+◌, ◌*◌, ◌%◌, ◌^◌, ◌==◌, ℕ, ◌↔◌, IsTrue, true, cond, length, nat_lt};
 ghost use Rattle.std.specs.Int.{bit_at};
+ghost use Rattle.xdg_store.specs.Change.{IsTaken};
 ghost use Rattle.xdg_store.specs.Layout.{is_set};
-ghost use Rattle.xdg_store.specs.Rows.{Clears, HasOther, HasOtherInWord, Takes};
+ghost use Rattle.xdg_store.specs.Rows.{Clears, HasLeft, HasLeftInWord, HasOther, HasOtherInWord, Takes, TakesAll};
+ghost use Rattle.xdg_store.specs.Singles.{IsAlone};
 
 use crate::change::Change;
 use xdg_trail::Trail;
@@ -106,4 +108,83 @@ pub(crate) fn take_of_pair(trail: &mut Trail, bit: usize, other: usize) -> Chang
     }
     clear(trail, bit);
     Change::Changed
+}
+
+/// Of the bits of a block of 64 that are taken those in the word at a place of the row.
+fn taken_in(block: usize, taken: u64, place: usize) -> u64
+    ensures { (i : ℕ) → i < 64 → (bit_at result i ≡ 1) ↔ IsTaken block taken (place * 64 + i) }
+{
+    if place == block {
+        return taken;
+    }
+    0
+}
+
+/// Whether a word of a row has a bit that is set and isn't taken. Its lowest bit is that of the value `first`.
+fn has_left_in_word(word: u64, first: usize, size: usize, taken: u64) -> bool
+    requires { first < size }
+    ensures { IsTrue result ↔ HasLeftInWord word first size taken }
+{
+    let left = word & low_bits(size - first) & !taken;
+    left != 0
+}
+
+/// Whether a row has a bit that is set beside those taken of a block of 64. The row starts with the first bit of a word.
+fn has_left(trail: &Trail, start: usize, size: usize, block: usize, taken: u64) -> bool
+    requires first { start % 64 ≡ 0 }
+    requires within { start + size ≤ 64 * length trail.now.words }
+    requires small { start + size < 2 ^ 32 }
+    ensures { IsTrue result ↔ HasLeft trail.now.words start size block taken }
+{
+    for place in 0..(size + 63) / 64 {
+        let word = trail.word(start / 64 + place);
+        let here = taken_in(block, taken, place);
+        if has_left_in_word(word, place * 64, size, here) {
+            return true;
+        }
+    }
+    false
+}
+
+/// Takes several values from a row of bits at once, unless no other is left: those of a block of 64 whose bits are set in `taken`.
+/// The row starts with the first bit of a word.
+pub(crate) fn take_of_block(
+    trail: &mut Trail,
+    start: usize,
+    size: usize,
+    block: usize,
+    taken: u64,
+) -> Change
+    requires first { start % 64 ≡ 0 }
+    requires within { start + size ≤ 64 * length trail.old.words }
+    requires small { start + size < 2 ^ 32 }
+    requires block { block * 64 < size }
+    requires room { (v : ℕ) → v < size → is_set trail.old.words (start + v) ≡ true → HasOther trail.old.words start size v → 1 ≤ trail.old.spare }
+    ensures { TakesAll result trail.old trail.new start size block taken }
+{
+    let word = trail.word(start / 64 + block);
+    let gone = word & low_bits(size - block * 64) & taken;
+    if gone == 0 {
+        return Change::Same;
+    }
+    if !has_left(trail, start, size, block, taken) {
+        return Change::Emptied;
+    }
+    trail.set(start / 64 + block, word & !gone);
+    Change::Changed
+}
+
+/// Whether no two bits of a row are set. The row starts with the first bit of a word.
+pub(crate) fn is_alone(trail: &Trail, start: usize, size: usize) -> bool
+    requires first { start % 64 ≡ 0 }
+    requires within { start + size ≤ 64 * length trail.now.words }
+    requires small { start + size < 2 ^ 32 }
+    ensures { IsTrue result ↔ IsAlone trail.now.words start size }
+{
+    for value in 0..size {
+        if is_set(trail, start + value) {
+            return !has_other(trail, start, size, value);
+        }
+    }
+    true
 }

@@ -1,6 +1,6 @@
 //! The values that remain.
 
-ghost use Rattle.std.specs.Prelude.{◌≡◌, ◌≢◌, ℕ, ◌<◌, ◌+◌, ◌-◌, ◌^◌, ◌↔◌, [], ◌∷◌, IsTrue, IfOk, length, min, nat_lt, slice_index_or, take};
+ghost use Rattle.std.specs.Prelude.{◌≡◌, ◌≢◌, ℕ, ◌<◌, ◌+◌, ◌*◌, ◌-◌, ◌^◌, ◌↔◌, [], ◌∷◌, IsTrue, IfOk, length, min, nat_lt, slice_index_or, take};
 ghost use Rattle.std.specs.Int.{bit_at};
 ghost use Rattle.xdg_facts.specs.Rises.{has};
 ghost use Rattle.xdg_problem.specs.Analyses.{IsPlace};
@@ -8,7 +8,7 @@ ghost use Rattle.xdg_problem.specs.Boxes.{Has, IsSingle, May, Must, full, entry_
 ghost use Rattle.xdg_problem.specs.Places.{edge, nodes};
 ghost use Rattle.xdg_problem.specs.Vectors.{shape};
 ghost use Rattle.xdg_store.specs.Across.{AreMothers};
-ghost use Rattle.xdg_store.specs.Change.{Removes};
+ghost use Rattle.xdg_store.specs.Change.{IsTaken, Removes, RemovesAll};
 ghost use Rattle.xdg_store.specs.InRange.{HasCandidate, HasEdges, HasValue};
 ghost use Rattle.xdg_store.specs.Labels.{AreLabels, AreLabelsOf};
 ghost use Rattle.xdg_store.specs.Naming.{Names};
@@ -23,7 +23,8 @@ use crate::labels::{LabelsInto, label_all, labels_at, no_labels};
 use crate::layout::{attr_row, edge_row, entry_row};
 use crate::masks::{nodes_below, row_nodes};
 use crate::naming::{behind, note};
-use crate::rows::{is_set, take_of_pair, take_of_row};
+use crate::rows::{is_set, take_of_block, take_of_pair, take_of_row};
+use crate::single::is_single;
 use crate::start::free_values;
 use std::alloc::Global;
 use std::marker::Model;
@@ -32,13 +33,13 @@ use xdg_nodeset::NodeSet;
 use xdg_problem::{Edge, Problem};
 use xdg_trail::{Mark, Trail};
 
-/// For each decision on a sentence the values that remain, a box. Each decision keeps at least one. Values are removed
-/// one at a time, and all removals since a [`Mark`] can be undone at once. Nodes, dimensions, labels, attributes, places
+/// For each decision on a sentence the values that remain, a box. Each decision keeps at least one. A change removes one value of
+/// a decision, or several, and all changes since a [`Mark`] can be undone at once. Nodes, dimensions, labels, attributes, places
 /// among candidates and numbers of values count from 0 and are those of the problem. Only [`Store::start`] takes memory.
 #[derive(Debug, Drop)]
 pub struct Store<'a> {
     problem: &'a Problem,
-    // A bit for each value: whether it remains. Each removal is one record.
+    // A bit for each value: whether it remains. Each change is one record.
     trail: Trail,
     // Of which decision each of them is.
     removed: Vec<Decision>,
@@ -48,8 +49,6 @@ pub struct Store<'a> {
     into: Vec<LabelsInto>,
     node_count: usize,
     all: NodeSet,
-    // How much room the trail has left when each decision has one value.
-    single: usize,
     turns: u64,
 }
 
@@ -78,7 +77,7 @@ impl<'a> Model for Store<'a> {
       turns = s.turns;
     } };
 
-    ghost invariant = { λ s. Keeps s.problem.now s.trail s.single
+    ghost invariant = { λ s. Keeps s.problem.now s.trail
         × (s.node_count ≡ nodes s.problem.now)
         × ((node : ℕ) → has s.all node ≡ nat_lt node (nodes s.problem.now))
         × AreSteps s.problem.now (oldest (bits_of s.problem.now) (past s.trail)) s.removed.items (vec_capacity s.removed)
@@ -108,7 +107,6 @@ impl<'a> Store<'a> {
         fill_rows(&mut across, node_count, &all);
         let mut into = vec![in alloc; no_labels(); parts.dims.len() * node_count]?;
         label_all(&mut into, parts.dims.as_slice(), node_count);
-        let single = trail.spare() - free;
         Ok(Store {
             problem,
             trail,
@@ -117,7 +115,6 @@ impl<'a> Store<'a> {
             into,
             node_count,
             all,
-            single,
             turns: 0,
         })
     }
@@ -143,6 +140,21 @@ impl<'a> Store<'a> {
         change
     }
 
+    /// Takes some of a node's candidates away at once, unless no other is left: of the 64 candidates from the place `block` * 64 on
+    /// those whose bits are set, the first at the lowest.
+    pub fn remove_entries(&mut self, node: NodeId, block: u16, taken: u64) -> Change
+        requires { HasCandidate self.old.parts node.0 (block * 64) }
+        ensures removes { RemovesAll result self.old self.new (entry_decision node.0) (IsTaken block taken) }
+        ensures known { Known self.new }
+    {
+        let candidates = self.problem.parts().candidates.as_slice();
+        let size = candidates[node.0 as usize].len();
+        let row = entry_row(node);
+        let change = take_of_block(&mut self.trail, row, size, block as usize, taken);
+        note(&mut self.removed, change, Decision::Entry(node));
+        change
+    }
+
     /// Takes a value of a node's attribute away, unless it is the attribute's last.
     pub fn remove_attr(&mut self, node: NodeId, dim: DimId, attr: AttrId, value: u16) -> Change
         requires { HasValue self.old.parts node.0 dim.0 attr.0 value }
@@ -153,6 +165,28 @@ impl<'a> Store<'a> {
         let size = plan.attrs.as_slice()[attr.0 as usize].values.len();
         let row = attr_row(self.node_count, dim, node, attr);
         let change = take_of_row(&mut self.trail, row, size, value as usize);
+        note(&mut self.removed, change, Decision::Attr(dim, node, attr));
+        change
+    }
+
+    /// Takes some of the values of a node's attribute away at once, unless no other is left: of the 64 values from that numbered
+    /// `block` * 64 on those whose bits are set, the first at the lowest.
+    pub fn remove_attrs(
+        &mut self,
+        node: NodeId,
+        dim: DimId,
+        attr: AttrId,
+        block: u16,
+        taken: u64,
+    ) -> Change
+        requires { HasValue self.old.parts node.0 dim.0 attr.0 (block * 64) }
+        ensures removes { RemovesAll result self.old self.new (attr_decision self.old.parts dim.0 node.0 attr.0) (IsTaken block taken) }
+        ensures known { Known self.new }
+    {
+        let plan = &self.problem.parts().dims.as_slice()[dim.0 as usize];
+        let size = plan.attrs.as_slice()[attr.0 as usize].values.len();
+        let row = attr_row(self.node_count, dim, node, attr);
+        let change = take_of_block(&mut self.trail, row, size, block as usize, taken);
         note(&mut self.removed, change, Decision::Attr(dim, node, attr));
         change
     }
@@ -248,14 +282,14 @@ impl<'a> Store<'a> {
         !is_set(&self.trail, row + edge.daughter.0 as usize + 128)
     }
 
-    /// Whether each decision has one value. It compares two numbers.
+    /// Whether each decision has one value. It looks at each decision.
     ///
     /// The search knows it from its numbers: it is for those who keep a store of their own.
     pub fn is_single(&self) -> bool
         ensures exact { IsTrue result ↔ IsSingle self.now.now }
         ensures known { Known self.now }
     {
-        self.trail.spare() == self.single
+        is_single(&self.trail, self.problem.parts())
     }
 
     /// The daughters that an edge with a label out of a mother may have.

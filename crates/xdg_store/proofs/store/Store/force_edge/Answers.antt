@@ -19,7 +19,7 @@ take_of_pair-change-requires-clause-bit_within c =
     let h = subst (λ s. IsPlace s.parts c.args.edge) (sym c.self.view_is) c.requires in
     let present = c.edge_row-row.result + c.args.edge.daughter.0 in
     let pair = edge_is_pair p c.args.edge c.self.inside.node_count c.edge_row-row.result present c.self.invariant.0.problem h c.self.invariant.1 c.edge_row-row.ensures refl in
-    (pair_within p c.self.inside.trail c.self.inside.single c.args.edge present c.self.invariant.0 pair).1
+    (pair_within p c.self.inside.trail c.args.edge present c.self.invariant.0 pair).1
 
 pub take_of_pair-change-requires-clause-other_within : goal.take_of_pair-change-requires-clause-other_within
 take_of_pair-change-requires-clause-other_within c =
@@ -27,7 +27,7 @@ take_of_pair-change-requires-clause-other_within c =
     let h = subst (λ s. IsPlace s.parts c.args.edge) (sym c.self.view_is) c.requires in
     let present = c.edge_row-row.result + c.args.edge.daughter.0 in
     let pair = edge_is_pair p c.args.edge c.self.inside.node_count c.edge_row-row.result present c.self.invariant.0.problem h c.self.invariant.1 c.edge_row-row.ensures refl in
-    (pair_within p c.self.inside.trail c.self.inside.single c.args.edge present c.self.invariant.0 pair).0
+    (pair_within p c.self.inside.trail c.args.edge present c.self.invariant.0 pair).0
 
 pub take_of_pair-change-requires-clause-room : goal.take_of_pair-change-requires-clause-room
 take_of_pair-change-requires-clause-room c =
@@ -35,7 +35,7 @@ take_of_pair-change-requires-clause-room c =
     let h = subst (λ s. IsPlace s.parts c.args.edge) (sym c.self.view_is) c.requires in
     let present = c.edge_row-row.result + c.args.edge.daughter.0 in
     let pair = edge_is_pair p c.args.edge c.self.inside.node_count c.edge_row-row.result present c.self.invariant.0.problem h c.self.invariant.1 c.edge_row-row.ensures refl in
-    force_room p c.self.inside.trail c.self.inside.single c.args.edge present c.self.invariant.0 pair
+    force_room p c.self.inside.trail c.args.edge present c.self.invariant.0 pair
 
 pub renew_forced-requires-clause-fits : goal.renew_forced-requires-clause-fits
 renew_forced-requires-clause-fits c =
@@ -53,8 +53,8 @@ note-requires c =
     let present = c.edge_row-row.result + c.args.edge.daughter.0 in
     let pair = edge_is_pair p c.args.edge c.self.inside.node_count c.edge_row-row.result present c.self.invariant.0.problem h c.self.invariant.1 c.edge_row-row.ensures refl in
     record {
-      room = note_room p c.take_of_pair-change.result c.self.inside.trail c.take_of_pair-change.new.trail c.self.inside.turns c.self.inside.single c.self.inside.removed.items (edge_decision p c.args.edge) 1 (vec_capacity c.self.inside.removed)
-          (force_keeps p c.self.inside.trail c.self.inside.single c.args.edge present c.self.invariant.0 pair c.take_of_pair-change.new.trail c.take_of_pair-change.result c.take_of_pair-change.ensures) c.self.invariant.3 (force_removes p c.self.inside.trail c.self.inside.single c.args.edge present c.self.invariant.0 pair c.take_of_pair-change.new.trail c.take_of_pair-change.result c.self.inside.turns c.take_of_pair-change.ensures);
+      room = note_room p c.take_of_pair-change.result c.self.inside.trail c.take_of_pair-change.new.trail c.self.inside.turns c.self.inside.removed.items (edge_decision p c.args.edge) 1 (vec_capacity c.self.inside.removed)
+          (force_keeps p c.self.inside.trail c.args.edge present c.self.invariant.0 pair c.take_of_pair-change.new.trail c.take_of_pair-change.result c.take_of_pair-change.ensures) c.self.invariant.3 (force_removes p c.self.inside.trail c.args.edge present c.self.invariant.0 pair c.take_of_pair-change.new.trail c.take_of_pair-change.result c.self.inside.turns c.take_of_pair-change.ensures);
     }
 
 pub invariant_of-self : goal.invariant_of-self
@@ -63,12 +63,12 @@ invariant_of-self c =
     let h = subst (λ s. IsPlace s.parts c.args.edge) (sym c.self.view_is) c.requires in
     let present = c.edge_row-row.result + c.args.edge.daughter.0 in
     let pair = edge_is_pair p c.args.edge c.self.inside.node_count c.edge_row-row.result present c.self.invariant.0.problem h c.self.invariant.1 c.edge_row-row.ensures refl in (
-      force_keeps p c.self.inside.trail c.self.inside.single c.args.edge present c.self.invariant.0 pair c.take_of_pair-change.new.trail c.take_of_pair-change.result c.take_of_pair-change.ensures,
+      force_keeps p c.self.inside.trail c.args.edge present c.self.invariant.0 pair c.take_of_pair-change.new.trail c.take_of_pair-change.result c.take_of_pair-change.ensures,
       c.self.invariant.1,
       c.self.invariant.2,
-      steps_after p c.take_of_pair-change.result c.self.inside.trail c.take_of_pair-change.new.trail c.self.inside.turns c.self.inside.single c.self.inside.removed.items c.note.new.removed.items (decisions.Place c.args.edge) 1 (vec_capacity c.self.inside.removed) (vec_capacity c.note.new.removed)
-          c.self.invariant.0 h c.self.invariant.3 (force_removes p c.self.inside.trail c.self.inside.single c.args.edge present c.self.invariant.0 pair c.take_of_pair-change.new.trail c.take_of_pair-change.result c.self.inside.turns c.take_of_pair-change.ensures) c.note.ensures.items c.note.ensures.room,
-      kept_forced p c.self.invariant.0.problem c.self.inside.trail c.take_of_pair-change.new.trail c.self.inside.turns c.args.edge c.self.inside.across.items c.renew_forced.new.rows.items h c.self.invariant.4 c.take_of_pair-change.result (force_removes p c.self.inside.trail c.self.inside.single c.args.edge present c.self.invariant.0 pair c.take_of_pair-change.new.trail c.take_of_pair-change.result c.self.inside.turns c.take_of_pair-change.ensures)
+      steps_after p c.take_of_pair-change.result c.self.inside.trail c.take_of_pair-change.new.trail c.self.inside.turns c.self.inside.removed.items c.note.new.removed.items (decisions.Place c.args.edge) 1 (vec_capacity c.self.inside.removed) (vec_capacity c.note.new.removed)
+          c.self.invariant.0 h c.self.invariant.3 (force_removes p c.self.inside.trail c.args.edge present c.self.invariant.0 pair c.take_of_pair-change.new.trail c.take_of_pair-change.result c.self.inside.turns c.take_of_pair-change.ensures) c.note.ensures.items c.note.ensures.room,
+      kept_forced p c.self.invariant.0.problem c.self.inside.trail c.take_of_pair-change.new.trail c.self.inside.turns c.args.edge c.self.inside.across.items c.renew_forced.new.rows.items h c.self.invariant.4 c.take_of_pair-change.result (force_removes p c.self.inside.trail c.args.edge present c.self.invariant.0 pair c.take_of_pair-change.new.trail c.take_of_pair-change.result c.self.inside.turns c.take_of_pair-change.ensures)
           (subst (λ n. Forces c.take_of_pair-change.result n c.args.edge c.self.inside.across.items c.renew_forced.new.rows.items) c.self.invariant.1 c.renew_forced.ensures.forces),
       c.renew_forced.ensures.told p c.self.invariant.0.problem (sym c.self.invariant.1) h c.self.invariant.5,
     )
@@ -79,7 +79,7 @@ returns-clause-removes c =
     let h = subst (λ s. IsPlace s.parts c.args.edge) (sym c.self.view_is) c.requires in
     let present = c.edge_row-row.result + c.args.edge.daughter.0 in
     let pair = edge_is_pair p c.args.edge c.self.inside.node_count c.edge_row-row.result present c.self.invariant.0.problem h c.self.invariant.1 c.edge_row-row.ensures refl in
-    subst (λ s. Removes c.take_of_pair-change.result s (seen p c.take_of_pair-change.new.trail c.self.inside.turns) (edge_decision s.parts c.args.edge) 1) c.self.view_is (force_removes p c.self.inside.trail c.self.inside.single c.args.edge present c.self.invariant.0 pair c.take_of_pair-change.new.trail c.take_of_pair-change.result c.self.inside.turns c.take_of_pair-change.ensures)
+    subst (λ s. Removes c.take_of_pair-change.result s (seen p c.take_of_pair-change.new.trail c.self.inside.turns) (edge_decision s.parts c.args.edge) 1) c.self.view_is (force_removes p c.self.inside.trail c.args.edge present c.self.invariant.0 pair c.take_of_pair-change.new.trail c.take_of_pair-change.result c.self.inside.turns c.take_of_pair-change.ensures)
 
 pub returns-clause-known : goal.returns-clause-known
 returns-clause-known c =
@@ -87,4 +87,4 @@ returns-clause-known c =
     let h = subst (λ s. IsPlace s.parts c.args.edge) (sym c.self.view_is) c.requires in
     let present = c.edge_row-row.result + c.args.edge.daughter.0 in
     let pair = edge_is_pair p c.args.edge c.self.inside.node_count c.edge_row-row.result present c.self.invariant.0.problem h c.self.invariant.1 c.edge_row-row.ensures refl in
-    known_of p (sum (shape p)) c.self.inside.turns c.take_of_pair-change.new.trail c.self.invariant.0.problem (force_keeps p c.self.inside.trail c.self.inside.single c.args.edge present c.self.invariant.0 pair c.take_of_pair-change.new.trail c.take_of_pair-change.result c.take_of_pair-change.ensures).sound
+    known_of p (sum (shape p)) c.self.inside.turns c.take_of_pair-change.new.trail c.self.invariant.0.problem (force_keeps p c.self.inside.trail c.args.edge present c.self.invariant.0 pair c.take_of_pair-change.new.trail c.take_of_pair-change.result c.take_of_pair-change.ensures).sound

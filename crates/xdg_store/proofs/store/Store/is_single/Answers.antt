@@ -1,14 +1,18 @@
-use Rattle.std.proofs.Common.{◌↔◌, IsTrue, subst}
-use Rattle.std.specs.Prelude.{nat_eq}
-use Rattle.xdg_problem.specs.Boxes.{IsSingle}
+use Rattle.std.proofs.Common.{◌↔◌, ◌≤◌, ◌*◌, IsTrue, length, subst, sym}
 use Rattle.std.specs.Prelude.{sum}
+use Rattle.xdg_problem.specs.Boxes.{IsSingle}
 use Rattle.xdg_problem.specs.Vectors.{shape}
+use Rattle.xdg_store.specs.Layout.{bit_count, bits_of, box_in}
 use Rattle.xdg_store.specs.States.{Known}
-use Rattle.xdg_store.proofs.Histories.{known_of, single_exact}
+use Rattle.xdg_store.proofs.Histories.{known_of}
 use Rattle.xdg_store.proofs.store.Store.is_single.Goals as goal
+
+pub is_single-requires-clause-long : goal.is_single-requires-clause-long
+is_single-requires-clause-long c = subst (λ q. bit_count q ≤ 64 * length c.self.inside.trail.words) (sym c.parts.ensures.same) c.self.invariant.0.long
 
 pub returns-clause-known : goal.returns-clause-known
 returns-clause-known c = subst Known c.self.view_is (known_of c.self.inside.problem.now (sum (shape c.self.inside.problem.now)) c.self.inside.turns c.self.inside.trail c.self.invariant.0.problem c.self.invariant.0.sound)
 
 pub returns-clause-exact : goal.returns-clause-exact
-returns-clause-exact c = subst (λ s. IsTrue (nat_eq c.spare.result c.self.inside.single) ↔ IsSingle s.now) c.self.view_is (single_exact c.self.inside.problem.now c.self.inside.trail c.self.inside.single c.spare.result c.self.invariant.0 c.spare.ensures)
+returns-clause-exact c = subst (λ s. IsTrue c.is_single.result ↔ IsSingle s.now) c.self.view_is
+    (subst (λ q. IsTrue c.is_single.result ↔ IsSingle (box_in (bits_of q) c.self.inside.trail.words)) c.parts.ensures.same c.is_single.ensures)

@@ -14,7 +14,7 @@ is_set-requires c =
     let h = subst (λ s. IsPlace s.parts c.args.edge) (sym c.self.view_is) c.requires in
     let present = c.edge_row-row.result + c.args.edge.daughter.0 in
     let pair = edge_is_pair p c.args.edge c.self.inside.node_count c.edge_row-row.result present c.self.invariant.0.problem h c.self.invariant.1 c.edge_row-row.ensures refl in
-    (pair_within p c.self.inside.trail c.self.inside.single c.args.edge present c.self.invariant.0 pair).0
+    (pair_within p c.self.inside.trail c.args.edge present c.self.invariant.0 pair).0
 
 pub returns-clause-known : goal.returns-clause-known
 returns-clause-known c = subst Known c.self.view_is (known_of c.self.inside.problem.now (sum (shape c.self.inside.problem.now)) c.self.inside.turns c.self.inside.trail c.self.invariant.0.problem c.self.invariant.0.sound)

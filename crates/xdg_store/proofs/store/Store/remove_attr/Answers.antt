@@ -19,7 +19,7 @@ take_of_row-change-requires-clause-room c =
     let h = subst (λ s. HasValue s.parts c.args.node.0 c.args.dim.0 c.args.attr.0 c.args.value) (sym c.self.view_is) c.requires in
     let size = values_are p c.parts.result.now c.as_slice.result.now c.index-as_slice-dim.result c.as_slice-2.result.now c.index-as_slice-attr.result c.args.node.0 c.args.dim.0 c.args.attr.0 c.args.value c.len-size.result h c.parts.ensures.same c.as_slice.ensures c.index-as_slice-dim.is c.as_slice-2.ensures c.index-as_slice-attr.is (c.len-size.ensures ∙ ap (λ (q : AttrPlan). length q.values) (sym c.index-as_slice-attr.is)) in
     let row = attr_is_row p c.self.inside.node_count c.args.dim.0 c.args.node.0 c.args.attr.0 c.args.value c.attr_row-row.result c.len-size.result c.self.invariant.0.problem h c.self.invariant.1 c.attr_row-row.ensures size in
-    row_room p c.self.inside.trail c.self.inside.single (attr_decision p c.args.dim.0 c.args.node.0 c.args.attr.0) c.attr_row-row.result c.len-size.result c.args.value c.self.invariant.0 row
+    row_room p c.self.inside.trail (attr_decision p c.args.dim.0 c.args.node.0 c.args.attr.0) c.attr_row-row.result c.len-size.result c.args.value c.self.invariant.0 row
 
 pub note-requires : goal.note-requires
 note-requires c =
@@ -28,8 +28,8 @@ note-requires c =
     let size = values_are p c.parts.result.now c.as_slice.result.now c.index-as_slice-dim.result c.as_slice-2.result.now c.index-as_slice-attr.result c.args.node.0 c.args.dim.0 c.args.attr.0 c.args.value c.len-size.result h c.parts.ensures.same c.as_slice.ensures c.index-as_slice-dim.is c.as_slice-2.ensures c.index-as_slice-attr.is (c.len-size.ensures ∙ ap (λ (q : AttrPlan). length q.values) (sym c.index-as_slice-attr.is)) in
     let row = attr_is_row p c.self.inside.node_count c.args.dim.0 c.args.node.0 c.args.attr.0 c.args.value c.attr_row-row.result c.len-size.result c.self.invariant.0.problem h c.self.invariant.1 c.attr_row-row.ensures size in
     record {
-      room = note_room p c.take_of_row-change.result c.self.inside.trail c.take_of_row-change.new.trail c.self.inside.turns c.self.inside.single c.self.inside.removed.items (attr_decision p c.args.dim.0 c.args.node.0 c.args.attr.0) c.args.value (vec_capacity c.self.inside.removed)
-          (row_keeps p c.self.inside.trail c.self.inside.single (attr_decision p c.args.dim.0 c.args.node.0 c.args.attr.0) c.attr_row-row.result c.len-size.result c.args.value c.self.invariant.0 row c.take_of_row-change.new.trail c.take_of_row-change.result c.take_of_row-change.ensures) c.self.invariant.3 (row_removes p c.self.inside.trail c.self.inside.single (attr_decision p c.args.dim.0 c.args.node.0 c.args.attr.0) c.attr_row-row.result c.len-size.result c.args.value c.self.invariant.0 row c.take_of_row-change.new.trail c.take_of_row-change.result c.self.inside.turns c.take_of_row-change.ensures);
+      room = note_room p c.take_of_row-change.result c.self.inside.trail c.take_of_row-change.new.trail c.self.inside.turns c.self.inside.removed.items (attr_decision p c.args.dim.0 c.args.node.0 c.args.attr.0) c.args.value (vec_capacity c.self.inside.removed)
+          (row_keeps p c.self.inside.trail (attr_decision p c.args.dim.0 c.args.node.0 c.args.attr.0) c.attr_row-row.result c.len-size.result c.args.value c.self.invariant.0 row c.take_of_row-change.new.trail c.take_of_row-change.result c.take_of_row-change.ensures) c.self.invariant.3 (row_removes p c.self.inside.trail (attr_decision p c.args.dim.0 c.args.node.0 c.args.attr.0) c.attr_row-row.result c.len-size.result c.args.value c.self.invariant.0 row c.take_of_row-change.new.trail c.take_of_row-change.result c.self.inside.turns c.take_of_row-change.ensures);
     }
 
 pub invariant_of-self : goal.invariant_of-self
@@ -38,12 +38,12 @@ invariant_of-self c =
     let h = subst (λ s. HasValue s.parts c.args.node.0 c.args.dim.0 c.args.attr.0 c.args.value) (sym c.self.view_is) c.requires in
     let size = values_are p c.parts.result.now c.as_slice.result.now c.index-as_slice-dim.result c.as_slice-2.result.now c.index-as_slice-attr.result c.args.node.0 c.args.dim.0 c.args.attr.0 c.args.value c.len-size.result h c.parts.ensures.same c.as_slice.ensures c.index-as_slice-dim.is c.as_slice-2.ensures c.index-as_slice-attr.is (c.len-size.ensures ∙ ap (λ (q : AttrPlan). length q.values) (sym c.index-as_slice-attr.is)) in
     let row = attr_is_row p c.self.inside.node_count c.args.dim.0 c.args.node.0 c.args.attr.0 c.args.value c.attr_row-row.result c.len-size.result c.self.invariant.0.problem h c.self.invariant.1 c.attr_row-row.ensures size in (
-      row_keeps p c.self.inside.trail c.self.inside.single (attr_decision p c.args.dim.0 c.args.node.0 c.args.attr.0) c.attr_row-row.result c.len-size.result c.args.value c.self.invariant.0 row c.take_of_row-change.new.trail c.take_of_row-change.result c.take_of_row-change.ensures,
+      row_keeps p c.self.inside.trail (attr_decision p c.args.dim.0 c.args.node.0 c.args.attr.0) c.attr_row-row.result c.len-size.result c.args.value c.self.invariant.0 row c.take_of_row-change.new.trail c.take_of_row-change.result c.take_of_row-change.ensures,
       c.self.invariant.1,
       c.self.invariant.2,
-      steps_after p c.take_of_row-change.result c.self.inside.trail c.take_of_row-change.new.trail c.self.inside.turns c.self.inside.single c.self.inside.removed.items c.note.new.removed.items (decisions.Attr c.args.dim c.args.node c.args.attr) c.args.value (vec_capacity c.self.inside.removed) (vec_capacity c.note.new.removed)
-          c.self.invariant.0 (h.dim_in, h.node_in, h.attr_in) c.self.invariant.3 (row_removes p c.self.inside.trail c.self.inside.single (attr_decision p c.args.dim.0 c.args.node.0 c.args.attr.0) c.attr_row-row.result c.len-size.result c.args.value c.self.invariant.0 row c.take_of_row-change.new.trail c.take_of_row-change.result c.self.inside.turns c.take_of_row-change.ensures) c.note.ensures.items c.note.ensures.room,
-      kept_by_other p c.self.invariant.0.problem c.take_of_row-change.result c.self.inside.trail c.take_of_row-change.new.trail c.self.inside.turns (attr_decision p c.args.dim.0 c.args.node.0 c.args.attr.0) c.args.value c.self.inside.across.items (row_removes p c.self.inside.trail c.self.inside.single (attr_decision p c.args.dim.0 c.args.node.0 c.args.attr.0) c.attr_row-row.result c.len-size.result c.args.value c.self.invariant.0 row c.take_of_row-change.new.trail c.take_of_row-change.result c.self.inside.turns c.take_of_row-change.ensures)
+      steps_after p c.take_of_row-change.result c.self.inside.trail c.take_of_row-change.new.trail c.self.inside.turns c.self.inside.removed.items c.note.new.removed.items (decisions.Attr c.args.dim c.args.node c.args.attr) c.args.value (vec_capacity c.self.inside.removed) (vec_capacity c.note.new.removed)
+          c.self.invariant.0 (h.dim_in, h.node_in, h.attr_in) c.self.invariant.3 (row_removes p c.self.inside.trail (attr_decision p c.args.dim.0 c.args.node.0 c.args.attr.0) c.attr_row-row.result c.len-size.result c.args.value c.self.invariant.0 row c.take_of_row-change.new.trail c.take_of_row-change.result c.self.inside.turns c.take_of_row-change.ensures) c.note.ensures.items c.note.ensures.room,
+      kept_by_other p c.self.invariant.0.problem c.take_of_row-change.result c.self.inside.trail c.take_of_row-change.new.trail c.self.inside.turns (attr_decision p c.args.dim.0 c.args.node.0 c.args.attr.0) c.args.value c.self.inside.across.items (row_removes p c.self.inside.trail (attr_decision p c.args.dim.0 c.args.node.0 c.args.attr.0) c.attr_row-row.result c.len-size.result c.args.value c.self.invariant.0 row c.take_of_row-change.new.trail c.take_of_row-change.result c.self.inside.turns c.take_of_row-change.ensures)
           (λ e. not_attr p e c.args.dim.0 c.args.node.0 c.args.attr.0 h.dim_in h.node_in h.attr_in) c.self.invariant.4,
       c.self.invariant.5,
     )
@@ -54,7 +54,7 @@ returns-clause-removes c =
     let h = subst (λ s. HasValue s.parts c.args.node.0 c.args.dim.0 c.args.attr.0 c.args.value) (sym c.self.view_is) c.requires in
     let size = values_are p c.parts.result.now c.as_slice.result.now c.index-as_slice-dim.result c.as_slice-2.result.now c.index-as_slice-attr.result c.args.node.0 c.args.dim.0 c.args.attr.0 c.args.value c.len-size.result h c.parts.ensures.same c.as_slice.ensures c.index-as_slice-dim.is c.as_slice-2.ensures c.index-as_slice-attr.is (c.len-size.ensures ∙ ap (λ (q : AttrPlan). length q.values) (sym c.index-as_slice-attr.is)) in
     let row = attr_is_row p c.self.inside.node_count c.args.dim.0 c.args.node.0 c.args.attr.0 c.args.value c.attr_row-row.result c.len-size.result c.self.invariant.0.problem h c.self.invariant.1 c.attr_row-row.ensures size in
-    subst (λ s. Removes c.take_of_row-change.result s (seen p c.take_of_row-change.new.trail c.self.inside.turns) (attr_decision s.parts c.args.dim.0 c.args.node.0 c.args.attr.0) c.args.value) c.self.view_is (row_removes p c.self.inside.trail c.self.inside.single (attr_decision p c.args.dim.0 c.args.node.0 c.args.attr.0) c.attr_row-row.result c.len-size.result c.args.value c.self.invariant.0 row c.take_of_row-change.new.trail c.take_of_row-change.result c.self.inside.turns c.take_of_row-change.ensures)
+    subst (λ s. Removes c.take_of_row-change.result s (seen p c.take_of_row-change.new.trail c.self.inside.turns) (attr_decision s.parts c.args.dim.0 c.args.node.0 c.args.attr.0) c.args.value) c.self.view_is (row_removes p c.self.inside.trail (attr_decision p c.args.dim.0 c.args.node.0 c.args.attr.0) c.attr_row-row.result c.len-size.result c.args.value c.self.invariant.0 row c.take_of_row-change.new.trail c.take_of_row-change.result c.self.inside.turns c.take_of_row-change.ensures)
 
 pub returns-clause-known : goal.returns-clause-known
 returns-clause-known c =
@@ -62,4 +62,4 @@ returns-clause-known c =
     let h = subst (λ s. HasValue s.parts c.args.node.0 c.args.dim.0 c.args.attr.0 c.args.value) (sym c.self.view_is) c.requires in
     let size = values_are p c.parts.result.now c.as_slice.result.now c.index-as_slice-dim.result c.as_slice-2.result.now c.index-as_slice-attr.result c.args.node.0 c.args.dim.0 c.args.attr.0 c.args.value c.len-size.result h c.parts.ensures.same c.as_slice.ensures c.index-as_slice-dim.is c.as_slice-2.ensures c.index-as_slice-attr.is (c.len-size.ensures ∙ ap (λ (q : AttrPlan). length q.values) (sym c.index-as_slice-attr.is)) in
     let row = attr_is_row p c.self.inside.node_count c.args.dim.0 c.args.node.0 c.args.attr.0 c.args.value c.attr_row-row.result c.len-size.result c.self.invariant.0.problem h c.self.invariant.1 c.attr_row-row.ensures size in
-    known_of p (sum (shape p)) c.self.inside.turns c.take_of_row-change.new.trail c.self.invariant.0.problem (row_keeps p c.self.inside.trail c.self.inside.single (attr_decision p c.args.dim.0 c.args.node.0 c.args.attr.0) c.attr_row-row.result c.len-size.result c.args.value c.self.invariant.0 row c.take_of_row-change.new.trail c.take_of_row-change.result c.take_of_row-change.ensures).sound
+    known_of p (sum (shape p)) c.self.inside.turns c.take_of_row-change.new.trail c.self.invariant.0.problem (row_keeps p c.self.inside.trail (attr_decision p c.args.dim.0 c.args.node.0 c.args.attr.0) c.attr_row-row.result c.len-size.result c.args.value c.self.invariant.0 row c.take_of_row-change.new.trail c.take_of_row-change.result c.take_of_row-change.ensures).sound

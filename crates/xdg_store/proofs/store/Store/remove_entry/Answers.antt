@@ -18,7 +18,7 @@ take_of_row-change-requires-clause-room c =
     let h = subst (λ s. HasCandidate s.parts c.args.node.0 c.args.place) (sym c.self.view_is) c.requires in
     let size = candidates_are p c.parts.result.now c.as_slice-candidates.result.now c.index-candidates-node.result c.args.node.0 c.args.place c.len-size.result c.self.invariant.0.problem h c.parts.ensures.same c.as_slice-candidates.ensures c.index-candidates-node.is c.len-size.ensures in
     let row = entry_is_row p c.args.node.0 c.args.place c.entry_row.result c.len-size.result c.self.invariant.0.problem h c.entry_row.ensures size in
-    row_room p c.self.inside.trail c.self.inside.single (entry_decision c.args.node.0) c.entry_row.result c.len-size.result c.args.place c.self.invariant.0 row
+    row_room p c.self.inside.trail (entry_decision c.args.node.0) c.entry_row.result c.len-size.result c.args.place c.self.invariant.0 row
 
 pub note-requires : goal.note-requires
 note-requires c =
@@ -27,8 +27,8 @@ note-requires c =
     let size = candidates_are p c.parts.result.now c.as_slice-candidates.result.now c.index-candidates-node.result c.args.node.0 c.args.place c.len-size.result c.self.invariant.0.problem h c.parts.ensures.same c.as_slice-candidates.ensures c.index-candidates-node.is c.len-size.ensures in
     let row = entry_is_row p c.args.node.0 c.args.place c.entry_row.result c.len-size.result c.self.invariant.0.problem h c.entry_row.ensures size in
     record {
-      room = note_room p c.take_of_row-change.result c.self.inside.trail c.take_of_row-change.new.trail c.self.inside.turns c.self.inside.single c.self.inside.removed.items (entry_decision c.args.node.0) c.args.place (vec_capacity c.self.inside.removed)
-          (row_keeps p c.self.inside.trail c.self.inside.single (entry_decision c.args.node.0) c.entry_row.result c.len-size.result c.args.place c.self.invariant.0 row c.take_of_row-change.new.trail c.take_of_row-change.result c.take_of_row-change.ensures) c.self.invariant.3 (row_removes p c.self.inside.trail c.self.inside.single (entry_decision c.args.node.0) c.entry_row.result c.len-size.result c.args.place c.self.invariant.0 row c.take_of_row-change.new.trail c.take_of_row-change.result c.self.inside.turns c.take_of_row-change.ensures);
+      room = note_room p c.take_of_row-change.result c.self.inside.trail c.take_of_row-change.new.trail c.self.inside.turns c.self.inside.removed.items (entry_decision c.args.node.0) c.args.place (vec_capacity c.self.inside.removed)
+          (row_keeps p c.self.inside.trail (entry_decision c.args.node.0) c.entry_row.result c.len-size.result c.args.place c.self.invariant.0 row c.take_of_row-change.new.trail c.take_of_row-change.result c.take_of_row-change.ensures) c.self.invariant.3 (row_removes p c.self.inside.trail (entry_decision c.args.node.0) c.entry_row.result c.len-size.result c.args.place c.self.invariant.0 row c.take_of_row-change.new.trail c.take_of_row-change.result c.self.inside.turns c.take_of_row-change.ensures);
     }
 
 pub invariant_of-self : goal.invariant_of-self
@@ -37,12 +37,12 @@ invariant_of-self c =
     let h = subst (λ s. HasCandidate s.parts c.args.node.0 c.args.place) (sym c.self.view_is) c.requires in
     let size = candidates_are p c.parts.result.now c.as_slice-candidates.result.now c.index-candidates-node.result c.args.node.0 c.args.place c.len-size.result c.self.invariant.0.problem h c.parts.ensures.same c.as_slice-candidates.ensures c.index-candidates-node.is c.len-size.ensures in
     let row = entry_is_row p c.args.node.0 c.args.place c.entry_row.result c.len-size.result c.self.invariant.0.problem h c.entry_row.ensures size in (
-      row_keeps p c.self.inside.trail c.self.inside.single (entry_decision c.args.node.0) c.entry_row.result c.len-size.result c.args.place c.self.invariant.0 row c.take_of_row-change.new.trail c.take_of_row-change.result c.take_of_row-change.ensures,
+      row_keeps p c.self.inside.trail (entry_decision c.args.node.0) c.entry_row.result c.len-size.result c.args.place c.self.invariant.0 row c.take_of_row-change.new.trail c.take_of_row-change.result c.take_of_row-change.ensures,
       c.self.invariant.1,
       c.self.invariant.2,
-      steps_after p c.take_of_row-change.result c.self.inside.trail c.take_of_row-change.new.trail c.self.inside.turns c.self.inside.single c.self.inside.removed.items c.note.new.removed.items (decisions.Entry c.args.node) c.args.place (vec_capacity c.self.inside.removed) (vec_capacity c.note.new.removed)
-          c.self.invariant.0 h.node_in c.self.invariant.3 (row_removes p c.self.inside.trail c.self.inside.single (entry_decision c.args.node.0) c.entry_row.result c.len-size.result c.args.place c.self.invariant.0 row c.take_of_row-change.new.trail c.take_of_row-change.result c.self.inside.turns c.take_of_row-change.ensures) c.note.ensures.items c.note.ensures.room,
-      kept_by_other p c.self.invariant.0.problem c.take_of_row-change.result c.self.inside.trail c.take_of_row-change.new.trail c.self.inside.turns (entry_decision c.args.node.0) c.args.place c.self.inside.across.items (row_removes p c.self.inside.trail c.self.inside.single (entry_decision c.args.node.0) c.entry_row.result c.len-size.result c.args.place c.self.invariant.0 row c.take_of_row-change.new.trail c.take_of_row-change.result c.self.inside.turns c.take_of_row-change.ensures)
+      steps_after p c.take_of_row-change.result c.self.inside.trail c.take_of_row-change.new.trail c.self.inside.turns c.self.inside.removed.items c.note.new.removed.items (decisions.Entry c.args.node) c.args.place (vec_capacity c.self.inside.removed) (vec_capacity c.note.new.removed)
+          c.self.invariant.0 h.node_in c.self.invariant.3 (row_removes p c.self.inside.trail (entry_decision c.args.node.0) c.entry_row.result c.len-size.result c.args.place c.self.invariant.0 row c.take_of_row-change.new.trail c.take_of_row-change.result c.self.inside.turns c.take_of_row-change.ensures) c.note.ensures.items c.note.ensures.room,
+      kept_by_other p c.self.invariant.0.problem c.take_of_row-change.result c.self.inside.trail c.take_of_row-change.new.trail c.self.inside.turns (entry_decision c.args.node.0) c.args.place c.self.inside.across.items (row_removes p c.self.inside.trail (entry_decision c.args.node.0) c.entry_row.result c.len-size.result c.args.place c.self.invariant.0 row c.take_of_row-change.new.trail c.take_of_row-change.result c.self.inside.turns c.take_of_row-change.ensures)
           (λ e. not_entry p e c.args.node.0 c.self.invariant.0.problem h.node_in) c.self.invariant.4,
       c.self.invariant.5,
     )
@@ -53,7 +53,7 @@ returns-clause-removes c =
     let h = subst (λ s. HasCandidate s.parts c.args.node.0 c.args.place) (sym c.self.view_is) c.requires in
     let size = candidates_are p c.parts.result.now c.as_slice-candidates.result.now c.index-candidates-node.result c.args.node.0 c.args.place c.len-size.result c.self.invariant.0.problem h c.parts.ensures.same c.as_slice-candidates.ensures c.index-candidates-node.is c.len-size.ensures in
     let row = entry_is_row p c.args.node.0 c.args.place c.entry_row.result c.len-size.result c.self.invariant.0.problem h c.entry_row.ensures size in
-    subst (λ s. Removes c.take_of_row-change.result s (seen p c.take_of_row-change.new.trail c.self.inside.turns) (entry_decision c.args.node.0) c.args.place) c.self.view_is (row_removes p c.self.inside.trail c.self.inside.single (entry_decision c.args.node.0) c.entry_row.result c.len-size.result c.args.place c.self.invariant.0 row c.take_of_row-change.new.trail c.take_of_row-change.result c.self.inside.turns c.take_of_row-change.ensures)
+    subst (λ s. Removes c.take_of_row-change.result s (seen p c.take_of_row-change.new.trail c.self.inside.turns) (entry_decision c.args.node.0) c.args.place) c.self.view_is (row_removes p c.self.inside.trail (entry_decision c.args.node.0) c.entry_row.result c.len-size.result c.args.place c.self.invariant.0 row c.take_of_row-change.new.trail c.take_of_row-change.result c.self.inside.turns c.take_of_row-change.ensures)
 
 pub returns-clause-known : goal.returns-clause-known
 returns-clause-known c =
@@ -61,4 +61,4 @@ returns-clause-known c =
     let h = subst (λ s. HasCandidate s.parts c.args.node.0 c.args.place) (sym c.self.view_is) c.requires in
     let size = candidates_are p c.parts.result.now c.as_slice-candidates.result.now c.index-candidates-node.result c.args.node.0 c.args.place c.len-size.result c.self.invariant.0.problem h c.parts.ensures.same c.as_slice-candidates.ensures c.index-candidates-node.is c.len-size.ensures in
     let row = entry_is_row p c.args.node.0 c.args.place c.entry_row.result c.len-size.result c.self.invariant.0.problem h c.entry_row.ensures size in
-    known_of p (sum (shape p)) c.self.inside.turns c.take_of_row-change.new.trail c.self.invariant.0.problem (row_keeps p c.self.inside.trail c.self.inside.single (entry_decision c.args.node.0) c.entry_row.result c.len-size.result c.args.place c.self.invariant.0 row c.take_of_row-change.new.trail c.take_of_row-change.result c.take_of_row-change.ensures).sound
+    known_of p (sum (shape p)) c.self.inside.turns c.take_of_row-change.new.trail c.self.invariant.0.problem (row_keeps p c.self.inside.trail (entry_decision c.args.node.0) c.entry_row.result c.len-size.result c.args.place c.self.invariant.0 row c.take_of_row-change.new.trail c.take_of_row-change.result c.take_of_row-change.ensures).sound

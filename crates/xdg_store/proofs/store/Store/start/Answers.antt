@@ -1,4 +1,4 @@
-use Rattle.std.proofs.Common.{◌≡◌, ◌≤◌, ◌+◌, ◌-◌, ◌*◌, ℕ, length, ap, arith, subst, sym, ◌∙◌}
+use Rattle.std.proofs.Common.{◌≡◌, ◌≤◌, ◌+◌, ◌*◌, length, ap, arith, subst, sym, ◌∙◌}
 use Rattle.std.specs.Vec.{vec_capacity}
 use Rattle.xdg_store.proofs.Noting.{steps_start}
 use Rattle.xdg_problem.specs.Places.{nodes}
@@ -16,20 +16,20 @@ use Rattle.xdg_problem.specs.Vectors.{shape}
 use Rattle.std.specs.Prelude.{All, sum}
 use Rattle.xdg_store.proofs.store.Store.start.Goals as goal
 
-the_words : (c : goal.After-spare) → bit_count c.args.problem.now ≤ 64 * (c.len-node_count.result * 16 + c.len.result * c.len-node_count.result * 256)
+the_words : (c : goal.After-label_all) → bit_count c.args.problem.now ≤ 64 * (c.len-node_count.result * 16 + c.len.result * c.len-node_count.result * 256)
 the_words c = words_are c.args.problem.now c.parts-parts.result.now c.len-node_count.result c.len.result c.parts-parts.ensures.same c.len-node_count.ensures c.len.ensures
 
-the_rows : (c : goal.After-spare) → row_count c.args.problem.now ≤ c.len-2.result * c.len-node_count.result * 32
+the_rows : (c : goal.After-label_all) → row_count c.args.problem.now ≤ c.len-2.result * c.len-node_count.result * 32
 the_rows c = rows_are c.args.problem.now c.parts-parts.result.now c.len-node_count.result c.len-2.result c.parts-parts.ensures.same c.len-node_count.ensures c.len-2.ensures
 
-the_keeps : (c : goal.After-spare) → Keeps c.args.problem.now c.in_ok-trail.trail (c.spare.result - c.free_values-free.result)
-the_keeps c = keeps_start c.args.problem.now c.in_ok-trail.trail (c.spare.result - c.free_values-free.result) c.free_values-free.result (c.len-node_count.result * 16 + c.len.result * c.len-node_count.result * 256)
-    c.free_values-free.ensures.problem (the_words c) (c.in_ok-trail.ensures.words ∙ c.in_ok-words.ensures.items_if_clones_equal (λ y h. h)) c.in_ok-trail.ensures.records c.free_values-free.ensures.free c.in_ok-trail.ensures.spare (ap (λ (i : ℕ). i - c.free_values-free.result) c.spare.ensures)
+the_keeps : (c : goal.After-label_all) → Keeps c.args.problem.now c.in_ok-trail.trail
+the_keeps c = keeps_start c.args.problem.now c.in_ok-trail.trail c.free_values-free.result (c.len-node_count.result * 16 + c.len.result * c.len-node_count.result * 256)
+    c.free_values-free.ensures.problem (the_words c) (c.in_ok-trail.ensures.words ∙ c.in_ok-words.ensures.items_if_clones_equal (λ y h. h)) c.in_ok-trail.ensures.records c.free_values-free.ensures.free c.in_ok-trail.ensures.spare
 
-the_into : (c : goal.After-spare) → length c.in_ok-into.into.items ≡ c.len-3.result * c.len-node_count.result
+the_into : (c : goal.After-label_all) → length c.in_ok-into.into.items ≡ c.len-3.result * c.len-node_count.result
 the_into c = ap length (c.in_ok-into.ensures.items_if_clones_equal (λ y h. h)) ∙ length-replicate (c.len-3.result * c.len-node_count.result) c.no_labels.result
 
-the_across : (c : goal.After-spare) → length c.fill_rows.new.rows.items ≡ c.len-2.result * c.len-node_count.result * 32
+the_across : (c : goal.After-label_all) → length c.fill_rows.new.rows.items ≡ c.len-2.result * c.len-node_count.result * 32
 the_across c = c.fill_rows.ensures.count ∙ ap length (c.in_ok-across.ensures.items_if_clones_equal (λ y h. h)) ∙ length-replicate (c.len-2.result * c.len-node_count.result * 32) c.no_mothers.result
 
 pub fill_rows-requires-clause-some : goal.fill_rows-requires-clause-some

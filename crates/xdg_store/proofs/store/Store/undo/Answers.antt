@@ -24,7 +24,7 @@ renew_all-requires-clause-fits c =
     let n = history_length (bits_of p) c.self.inside.trail in
     let e : length c.args.self.now.history ≡ length c.self.inside.trail.records + 1 = sym (ap (λ s. length s.history) c.self.view_is) ∙ n in
     let r = c.requires in
-    let keeps = keeps_undone p c.self.inside.trail c.undo.new.self c.self.inside.single c.args.mark c.self.invariant.0 c.undo.ensures.len c.undo.ensures.room c.undo.ensures.past in
+    let keeps = keeps_undone p c.self.inside.trail c.undo.new.self c.args.mark c.self.invariant.0 c.undo.ensures.len c.undo.ensures.room c.undo.ensures.past in
     subst (λ k. All (FitsIn k (length c.self.inside.across.items) (length c.undo.new.self.words)) c.behind-undone.result.now) (sym c.self.invariant.1)
     (subst (All (FitsIn (nodes p) (length c.self.inside.across.items) (length c.undo.new.self.words))) (sym (c.behind-undone.ensures ∙ ap₂ drop c.records.ensures c.as_slice.ensures.value))
     (all_fit p c.self.inside.trail c.self.inside.removed.items (vec_capacity c.self.inside.removed) (length c.self.inside.across.items) (length c.undo.new.self.words) c.args.mark c.self.invariant.0.problem c.self.invariant.3 c.self.invariant.4.long keeps.long))
@@ -38,12 +38,12 @@ invariant_of-self c =
     let e : length c.args.self.now.history ≡ length c.self.inside.trail.records + 1 = sym (ap (λ s. length s.history) c.self.view_is) ∙ n in
     let r = c.requires in
     let l : c.args.mark ≤ length c.self.inside.trail.records = omega (arith, e, r) in (
-      keeps_undone c.self.inside.problem.now c.self.inside.trail c.undo.new.self c.self.inside.single c.args.mark c.self.invariant.0 c.undo.ensures.len c.undo.ensures.room c.undo.ensures.past,
+      keeps_undone c.self.inside.problem.now c.self.inside.trail c.undo.new.self c.args.mark c.self.invariant.0 c.undo.ensures.len c.undo.ensures.room c.undo.ensures.past,
       c.self.invariant.1,
       c.self.invariant.2,
       steps_cut c.self.inside.problem.now c.self.inside.trail c.undo.new.self c.self.inside.removed.items c.truncate.new.self.items (vec_capacity c.self.inside.removed) (vec_capacity c.truncate.new.self) c.args.mark c.records-2.result l c.undo.ensures.past c.self.invariant.3 c.truncate.ensures.items c.records-2.ensures c.truncate.ensures.capacity,
-      kept_undone c.self.inside.problem.now c.self.invariant.0.problem c.self.inside.trail c.undo.new.self c.self.inside.single (vec_capacity c.self.inside.removed) c.args.mark c.self.inside.removed.items c.self.inside.across.items c.renew_all.new.rows.items
-          c.self.invariant.0 (keeps_undone c.self.inside.problem.now c.self.inside.trail c.undo.new.self c.self.inside.single c.args.mark c.self.invariant.0 c.undo.ensures.len c.undo.ensures.room c.undo.ensures.past) l c.undo.ensures.past c.self.invariant.3
+      kept_undone c.self.inside.problem.now c.self.invariant.0.problem c.self.inside.trail c.undo.new.self (vec_capacity c.self.inside.removed) c.args.mark c.self.inside.removed.items c.self.inside.across.items c.renew_all.new.rows.items
+          c.self.invariant.0 (keeps_undone c.self.inside.problem.now c.self.inside.trail c.undo.new.self c.args.mark c.self.invariant.0 c.undo.ensures.len c.undo.ensures.room c.undo.ensures.past) l c.undo.ensures.past c.self.invariant.3
           (subst (λ k. RenewsAll k c.undo.new.self.words (drop c.args.mark c.self.inside.removed.items) c.self.inside.across.items c.renew_all.new.rows.items) c.self.invariant.1
           (subst (λ ds. RenewsAll c.self.inside.node_count c.undo.new.self.words ds c.self.inside.across.items c.renew_all.new.rows.items) (c.behind-undone.ensures ∙ ap₂ drop c.records.ensures c.as_slice.ensures.value) c.renew_all.ensures.renews))
           c.self.invariant.4,
@@ -52,7 +52,7 @@ invariant_of-self c =
     )
 
 pub returns-clause-known : goal.returns-clause-known
-returns-clause-known c = known_of c.self.inside.problem.now (sum (shape c.self.inside.problem.now)) c.self.inside.turns c.undo.new.self c.self.invariant.0.problem (keeps_undone c.self.inside.problem.now c.self.inside.trail c.undo.new.self c.self.inside.single c.args.mark c.self.invariant.0 c.undo.ensures.len c.undo.ensures.room c.undo.ensures.past).sound
+returns-clause-known c = known_of c.self.inside.problem.now (sum (shape c.self.inside.problem.now)) c.self.inside.turns c.undo.new.self c.self.invariant.0.problem (keeps_undone c.self.inside.problem.now c.self.inside.trail c.undo.new.self c.args.mark c.self.invariant.0 c.undo.ensures.len c.undo.ensures.room c.undo.ensures.past).sound
 
 pub returns-clause-history : goal.returns-clause-history
 returns-clause-history c =
