@@ -13,6 +13,7 @@ pub mod SampleSteps
 pub mod SampleProblem
 pub mod Losing
 pub mod Naming
+pub mod Shrinking
 pub mod Passing
 pub mod Sweeping
 pub mod Kinding

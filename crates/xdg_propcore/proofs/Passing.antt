@@ -8,20 +8,20 @@ use Rattle.xdg_problem.specs.declared.parts.Group.{Group}
 use Rattle.xdg_problem.specs.declared.parts.Parts.{Parts}
 use Rattle.xdg_problem.specs.declared.analysis.Edge.{Edge}
 use Rattle.xdg_problem.specs.Analyses.{IsPlace}
-use Rattle.xdg_problem.specs.Boxes.{Has, IsBox, IsOnly, LiesIn, without, entry_decision, attr_decision, edge_decision}
+use Rattle.xdg_problem.specs.Boxes.{Has, IsBox, LiesIn, entry_decision, attr_decision, edge_decision}
+use Rattle.xdg_problem.specs.Places.{nodes}
 use Rattle.xdg_problem.specs.Problems.{IsGroup, IsProblem}
 use Rattle.xdg_problem.specs.Vectors.{shape}
 use Rattle.xdg_problem.proofs.PlaceOrder.{place_is}
 use Rattle.xdg_rules.specs.Rules.{IsClosedFor, Takes}
-use Rattle.xdg_rules.proofs.Removing.{lies_without}
+use Rattle.xdg_rules.proofs.NodeValues.{attr_decided}
 use Rattle.xdg_rules.proofs.RuleLaws.{rule_laws}
-use Rattle.xdg_store.specs.Change.{Removes, with_box}
-use Rattle.xdg_store.specs.InRange.{HasCandidate, HasValue}
+use Rattle.xdg_rules.proofs.Sizes.{edge_within, node_within}
+use Rattle.xdg_store.specs.Change.{Removes, RemovesAll, Shrinks}
+use Rattle.xdg_store.specs.InRange.{HasValue}
 use Rattle.xdg_store.specs.States.{State, Known}
 use Rattle.xdg_store.specs.declared.change.Change.{Change}
 use Rattle.xdg_store.specs.declared.change.Change.TheVariants as changes
-use Rattle.xdg_store.proofs.Boxed.{length_box}
-use Rattle.xdg_store.proofs.Leaving.{taken_gone, without_inside, others_stay, parts_stay, box_shrinks}
 use Rattle.xdg_propcore.specs.Kinds.{kind_of, entry_kind, attr_kind, edge_kind}
 use Rattle.xdg_propcore.specs.Losses.{IsLost, Loses, LosesKind}
 use Rattle.xdg_propcore.specs.Passes.{Progress, Goes, Clears, EachValue, HasNoneClosed, IsQuiet, Answers, noted, untouched}
@@ -32,9 +32,9 @@ use Rattle.xdg_propcore.specs.declared.moved.Moved.TheVariants as moves
 use Rattle.xdg_propcore.proofs.Analyses.{keeps_boxes}
 use Rattle.xdg_propcore.proofs.DecisionKinds.{kind_of_entry, kind_of_attr, kind_of_edge}
 use Rattle.xdg_propcore.proofs.Settling.{extends_both}
+use Rattle.xdg_propcore.proofs.Shrinking.{lies_shrunk, one_removed, removal_extends, shrinks_keeps}
 use Rattle.xdg_facts.proofs.Truths.{either}
 use Rattle.xdg_facts.proofs.Bits.{or_new_bit, or_left_bit}
-use Rattle.xdg_problem.proofs.BoxPlaces.{has_decision}
 
 -- ---- nothing is done
 
@@ -89,7 +89,7 @@ module _ (group : Group) (p q r : Progress) (old mid new : State) (a : Goes grou
     quiet = λ z. (let y = b.quiet z in let x = a.quiet y.0 in (x.0, y.1 ∙ x.1));
   }
 
--- ---- a value is taken
+-- ---- values of a decision are taken
 
 bit_old : (a k kind : ℕ) → kind ≢ k → bit_at (bit_or a (2 ^ k)) kind ≡ 1 → bit_at a kind ≡ 1
 bit_old a k kind n h = let e = bit_at_or a (2 ^ k) kind in let s = bit_at-pow_other k kind n in omega (arith, e, s, h)
@@ -97,37 +97,37 @@ bit_old a k kind n h = let e = bit_at_or a (2 ^ k) kind in let s = bit_at-pow_ot
 never_quiet : (p : Progress) (kind : ℕ) → bit_or p.lost (2 ^ kind) ≡ 0 → ⊥
 never_quiet p kind e = (let n = or_new_bit p.lost kind in let z = ap (λ m. bit_at m kind) e in let y = bit_at-zero kind in omega (arith, n, z, y))
 
-module _ (group : Group) (p : Progress) (old : State) (around : List (List Bool)) (d v kind : ℕ) (known : IsProblem old.parts) (is : IsGroup old.parts group) (kind_is : kind_of old.parts d ≡ kind) (lies : LiesIn old.now around) (takes : Takes old.parts group around d v) where
-  only_one : (e x : ℕ) → IsLost old.now (without old.now d v) e x → e ≡ d
-  only_one e x l = elim (cases_eq e d) [
+module _ (group : Group) (p : Progress) (old new : State) (around : List (List Bool)) (d kind : ℕ) (Taken : ℕ → Type 0) (known : IsProblem old.parts) (is : IsGroup old.parts group) (lies : LiesIn old.now around) (takes : (v : ℕ) → Taken v → Takes old.parts group around d v) where
+  -- no closed box inside has one of the values
+  in_none : (box : List (List Bool)) → IsBox (shape old.parts) box → IsClosedFor old.parts group box → LiesIn box old.now → (v : ℕ) → Taken v → Has box d v → ⊥
+  in_none box box_is closed inside v taken = (rule_laws old.parts known group is).monotone box around box_is (λ e x h. lies e x (inside e x h)) closed d v (takes v taken)
+
+  only_one : Shrinks old new d Taken → (e x : ℕ) → IsLost old.now new.now e x → e ≡ d
+  only_one s e x l = elim (cases_eq e d) [
     | inl same ↦ same
-    | inr other ↦ absurd (l.1 (others_stay old.now d v e x l.0 (inl other)))
+    | inr other ↦ absurd (l.1 (shrinks_keeps old new d Taken s e x l.0 (λ same taken. other same)))
   ]
 
-  -- no closed box inside has it
-  in_none : (box : List (List Bool)) → IsBox (shape old.parts) box → IsClosedFor old.parts group box → LiesIn box old.now → Has box d v → ⊥
-  in_none box box_is closed inside = (rule_laws old.parts known group is).monotone box around box_is (λ e x h. lies e x (inside e x h)) closed d v takes
-
-  lost_one : Has old.now d v → Goes group p old (noted changes.Changed p (2 ^ kind)) (with_box old (without old.now d v))
-  lost_one has = record {
-    extends = record { same = refl; more = without old.now d v ∷ []; grown = refl; inside = without_inside old.now d v };
-    turns = refl;
-    keeps = λ box box_is closed inside. lies_without box old.now d v inside (in_none box box_is closed inside);
+  lost_some : kind_of old.parts d ≡ kind → ((v : ℕ) × Taken v × Has old.now d v) → Shrinks old new d Taken → Goes group p old (noted changes.Changed p (2 ^ kind)) new
+  lost_some kind_is some s = record {
+    extends = record { same = s.parts; more = new.now ∷ []; grown = s.grown; inside = s.inside };
+    turns = s.turns;
+    keeps = λ box box_is closed inside. lies_shrunk old new d Taken s box inside (in_none box box_is closed inside);
     before = λ k h. or_left_bit p.lost (2 ^ kind) k h;
-    each = λ e x l. subst (λ i. bit_at (bit_or p.lost (2 ^ kind)) (kind_of old.parts i) ≡ 1) (sym (only_one e x l)) (subst (λ k. bit_at (bit_or p.lost (2 ^ kind)) k ≡ 1) (sym kind_is) (or_new_bit p.lost kind));
+    each = λ e x l. subst (λ i. bit_at (bit_or p.lost (2 ^ kind)) (kind_of old.parts i) ≡ 1) (sym (only_one s e x l)) (subst (λ k. bit_at (bit_or p.lost (2 ^ kind)) k ≡ 1) (sym kind_is) (or_new_bit p.lost kind));
     only = λ k h. elim (cases_eq k kind) [
-      | inl same ↦ inr (record { decision = d; value = v; lost = (has, taken_gone old.now d v); is = kind_is ∙ sym same })
+      | inl same ↦ inr (record { decision = d; value = some.0; lost = (some.2, s.gone some.0 some.1); is = kind_is ∙ sym same })
       | inr other ↦ inl (bit_old p.lost kind k other h)
     ];
     dead = λ h. inl h;
     quiet = λ q. absurd (never_quiet p kind q.0);
   }
 
-  -- the last value of its decision
-  lost_last : IsOnly old.now d v → Has old.now d v → d < length (shape old.parts) → HasNoneClosed old.parts group old.now
-  lost_last alone has within box box_is closed inside =
+  -- they are all values of their decision
+  lost_last : ((v : ℕ) → Has old.now d v → Taken v) → d < length (shape old.parts) → HasNoneClosed old.parts group old.now
+  lost_last all within box box_is closed inside =
       let some = box_is.filled d within in
-      in_none box box_is closed inside (subst (λ x. Has box d x) (alone some.0 (inside d some.0 some.1)) some.1)
+      in_none box box_is closed inside some.0 (all some.0 (inside d some.0 some.1)) some.1
 
 dead_goes : (group : Group) (p : Progress) (s : State) → HasNoneClosed s.parts group s.now → Goes group p s (noted changes.Emptied p 0) s
 dead_goes group p s none = record {
@@ -141,47 +141,42 @@ dead_goes group p s none = record {
   quiet = λ q. (let e = q.1 in cc);
 }
 
--- a value that is taken, from the box or from one around it
-pub goes_taken : (change : Change) (group : Group) (p : Progress) (old new : State) (around : List (List Bool)) (d v kind : ℕ) → Known new → IsGroup old.parts group → kind_of old.parts d ≡ kind → Removes change old new d v → LiesIn old.now around → Takes old.parts group around d v → Goes group p old (noted change p (2 ^ kind)) new
-goes_taken changes.Same group p old new around d v kind known is kind_is r lies takes = subst (λ s. Goes group p old p s) (sym r.1) (goes_none group p old)
-goes_taken changes.Changed group p old new around d v kind known is kind_is r lies takes =
-    let same : new.parts ≡ old.parts = ap (λ (s : State). s.parts) r.2 in
-    let problem : IsProblem old.parts = subst IsProblem same known.problem in
-    subst (λ s. Goes group p old (noted changes.Changed p (2 ^ kind)) s) (sym r.2) (lost_one group p old around d v kind problem is kind_is lies takes r.0)
-goes_taken changes.Emptied group p old new around d v kind known is kind_is r lies takes =
-    let mine : Known old = subst Known r.2 known in
-    let long = length_box (shape old.parts) old.now mine.is_box in
-    let within = has_decision old.now d v r.0 in
-    subst (λ s. Goes group p old (noted changes.Emptied p 0) s) (sym r.2) (dead_goes group p old (lost_last group p old around d v kind mine.problem is kind_is lies takes r.1 r.0 (omega (arith, long, within))))
+-- values that are taken, from the box or from one around it
+goes_taken : (change : Change) (group : Group) (p : Progress) (old new : State) (around : List (List Bool)) (d kind : ℕ) (Taken : ℕ → Type 0) → IsProblem old.parts → d < length (shape old.parts) → IsGroup old.parts group → kind_of old.parts d ≡ kind → RemovesAll change old new d Taken → LiesIn old.now around → ((v : ℕ) → Taken v → Takes old.parts group around d v) → Goes group p old (noted change p (2 ^ kind)) new
+goes_taken changes.Same group p old new around d kind Taken known within is kind_is r lies takes = subst (λ s. Goes group p old p s) (sym r.1) (goes_none group p old)
+goes_taken changes.Changed group p old new around d kind Taken known within is kind_is r lies takes = lost_some group p old new around d kind Taken known is lies takes kind_is r.0 r.1
+goes_taken changes.Emptied group p old new around d kind Taken known within is kind_is r lies takes = subst (λ s. Goes group p old (noted changes.Emptied p 0) s) (sym r.1) (dead_goes group p old (lost_last group p old new around d kind Taken known is lies takes r.0 within))
 
--- it remains no more, unless it was the last
-pub taken_out : (change : Change) (p : Progress) (old new : State) (d v kinds : ℕ) → Removes change old new d v → Has new.now d v → (noted change p kinds).dead ≡ true
-taken_out changes.Same p old new d v kinds r h = absurd (r.0 (subst (λ s. Has s.now d v) r.1 h))
-taken_out changes.Changed p old new d v kinds r h = absurd (taken_gone old.now d v (subst (λ s. Has s.now d v) r.2 h))
-taken_out changes.Emptied p old new d v kinds r h = refl
+-- they remain no more, unless no other value did
+taken_out : (change : Change) (p : Progress) (old new : State) (d v kinds : ℕ) (Taken : ℕ → Type 0) → RemovesAll change old new d Taken → Taken v → Has new.now d v → (noted change p kinds).dead ≡ true
+taken_out changes.Same p old new d v kinds Taken r taken h = absurd (r.0 v taken (subst (λ s. Has s.now d v) r.1 h))
+taken_out changes.Changed p old new d v kinds Taken r taken h = absurd (r.1.gone v taken h)
+taken_out changes.Emptied p old new d v kinds Taken r taken h = refl
 
-quiet_taken : (change : Change) (p : Progress) (old new : State) (d v kind : ℕ) → Removes change old new d v → IsQuiet (noted change p (2 ^ kind)) → IsQuiet p × (new.now ≡ old.now)
-quiet_taken changes.Same p old new d v kind r q = (q, ap (λ (s : State). s.now) r.1)
-quiet_taken changes.Changed p old new d v kind r q = absurd (never_quiet p kind q.0)
-quiet_taken changes.Emptied p old new d v kind r q = (let e = q.1 in cc)
+quiet_taken : (change : Change) (p : Progress) (old new : State) (d kind : ℕ) (Taken : ℕ → Type 0) → RemovesAll change old new d Taken → IsQuiet (noted change p (2 ^ kind)) → IsQuiet p × (new.now ≡ old.now)
+quiet_taken changes.Same p old new d kind Taken r q = (q, ap (λ (s : State). s.now) r.1)
+quiet_taken changes.Changed p old new d kind Taken r q = absurd (never_quiet p kind q.0)
+quiet_taken changes.Emptied p old new d kind Taken r q = (let e = q.1 in cc)
 
-gone_taken : (change : Change) (p : Progress) (old new : State) (d v kinds : ℕ) → Removes change old new d v → IsQuiet (noted change p kinds) → Has new.now d v → ⊥
-gone_taken change p old new d v kinds r q h = (let e = q.1 in let t = taken_out change p old new d v kinds r h in cc)
+gone_taken : (change : Change) (p : Progress) (old new : State) (d v kinds : ℕ) (Taken : ℕ → Type 0) → RemovesAll change old new d Taken → IsQuiet (noted change p kinds) → Taken v → Has new.now d v → ⊥
+gone_taken change p old new d v kinds Taken r q taken h = (let e = q.1 in let t = taken_out change p old new d v kinds Taken r taken h in cc)
 
-one_value : (d v e x : ℕ) (box : List (List Bool)) → e ≡ d → x ≡ v → Has box e x → Has box d v
-one_value d v e x box same value h = subst (λ i. Has box i v) same (subst (λ y. Has box e y) value h)
-
--- one value is cleared
-pub clears_taken : (change : Change) (p q : Progress) (old new : State) (d v kind kinds : ℕ) → Known new → kind_of old.parts d ≡ kind → Removes change old new d v → kinds ≡ 2 ^ kind → q ≡ noted change p kinds → Clears (λ e x. (e ≡ d) × (x ≡ v)) p old q new
-clears_taken change p q old new d v kind kinds known kind_is r kinds_is q_is =
+-- values of one decision are cleared
+clears_taken : (change : Change) (p q : Progress) (old new : State) (d kind kinds : ℕ) (Taken : ℕ → Type 0) → IsProblem old.parts → d < length (shape old.parts) → kind_of old.parts d ≡ kind → RemovesAll change old new d Taken → kinds ≡ 2 ^ kind → q ≡ noted change p kinds → Clears (λ e x. (e ≡ d) × Taken x) p old q new
+clears_taken change p q old new d kind kinds Taken known within kind_is r kinds_is q_is =
     let progress : q ≡ noted change p (2 ^ kind) = q_is ∙ ap (noted change p) kinds_is in
+    let extends = removal_extends change old new d Taken r in
     record {
-      same = parts_stay change old new d v r;
-      inside = box_shrinks change old new d v r;
-      quiet = λ z. quiet_taken change p old new d v kind r (subst IsQuiet progress z);
-      gone = λ z e x aim h. gone_taken change p old new d v (2 ^ kind) r (subst IsQuiet progress z) (one_value d v e x new.now aim.0 aim.1 h);
-      goes = λ group around is lies takes. subst (λ z. Goes group p old z new) (sym progress) (goes_taken change group p old new around d v kind known is kind_is r lies (takes d v (refl, refl)));
+      same = extends.same;
+      inside = extends.inside;
+      quiet = λ z. quiet_taken change p old new d kind Taken r (subst IsQuiet progress z);
+      gone = λ z e x aim h. gone_taken change p old new d x (2 ^ kind) Taken r (subst IsQuiet progress z) aim.1 (subst (λ i. Has new.now i x) aim.0 h);
+      goes = λ group around is lies takes. subst (λ z. Goes group p old z new) (sym progress) (goes_taken change group p old new around d kind Taken known within is kind_is r lies (λ v taken. takes d v (refl, taken)));
     }
+
+-- the sentence was that of a problem before
+known_before : (change : Change) (old new : State) (d : ℕ) (Taken : ℕ → Type 0) → RemovesAll change old new d Taken → Known new → IsProblem old.parts
+known_before change old new d Taken r known = subst IsProblem (removal_extends change old new d Taken r).same known.problem
 
 -- nothing is aimed at
 pub clears_none : (Aim : ℕ → ℕ → Type 0) (p : Progress) (s : State) → ((d v : ℕ) → Aim d v → ⊥) → Clears Aim p s p s
@@ -220,20 +215,25 @@ clears_both A B C p q r old mid new first second each a b = record {
 
 -- a value of an edge place
 pub edge_clears : (change : Change) (p q : Progress) (old new : State) (e : Edge) (v kinds : ℕ) → Known new → IsPlace old.parts e → Removes change old new (edge_decision old.parts e) v → kinds ≡ 2 ^ edge_kind e.dim.0 → q ≡ noted change p kinds → Clears (λ d x. (d ≡ edge_decision old.parts e) × (x ≡ v)) p old q new
-edge_clears change p q old new e v kinds known is r kinds_is q_is = clears_taken change p q old new (edge_decision old.parts e) v (edge_kind e.dim.0) kinds known (kind_of_edge old.parts e (place_is old.parts e is)) r kinds_is q_is
+edge_clears change p q old new e v kinds known is r kinds_is q_is =
+    let d = edge_decision old.parts e in
+    let all = one_removed change old new d v r in
+    let place = place_is old.parts e is in
+    clears_taken change p q old new d (edge_kind e.dim.0) kinds (λ x. x ≡ v) (known_before change old new d (λ x. x ≡ v) all known) (edge_within old.parts e place) (kind_of_edge old.parts e place) all kinds_is q_is
 
--- a candidate of a node
-pub entry_clears : (change : Change) (p q : Progress) (old new : State) (node v kinds : ℕ) → Known new → HasCandidate old.parts node v → Removes change old new (entry_decision node) v → kinds ≡ 2 ^ entry_kind → q ≡ noted change p kinds → Clears (λ d x. (d ≡ entry_decision node) × (x ≡ v)) p old q new
-entry_clears change p q old new node v kinds known is r kinds_is q_is =
-    let same = parts_stay change old new (entry_decision node) v r in
-    let problem : IsProblem old.parts = subst IsProblem same known.problem in
+-- candidates of a node
+pub entry_clears : (change : Change) (p q : Progress) (old new : State) (node kinds : ℕ) (Taken : ℕ → Type 0) → Known new → node < nodes old.parts → RemovesAll change old new (entry_decision node) Taken → kinds ≡ 2 ^ entry_kind → q ≡ noted change p kinds → Clears (λ d x. (d ≡ entry_decision node) × Taken x) p old q new
+entry_clears change p q old new node kinds Taken known within r kinds_is q_is =
+    let problem = known_before change old new (entry_decision node) Taken r known in
     let each = problem.candidates_each in
-    let within = is.node_in in
-    clears_taken change p q old new (entry_decision node) v entry_kind kinds known (kind_of_entry old.parts node (omega (arith, each, within))) r kinds_is q_is
+    clears_taken change p q old new (entry_decision node) entry_kind kinds Taken problem (node_within old.parts node problem within) (kind_of_entry old.parts node (omega (arith, each, within))) r kinds_is q_is
 
 -- a value of a node's attribute
 pub attr_clears : (change : Change) (p q : Progress) (old new : State) (node dim attr v kinds : ℕ) → Known new → HasValue old.parts node dim attr v → Removes change old new (attr_decision old.parts dim node attr) v → kinds ≡ 2 ^ attr_kind dim → q ≡ noted change p kinds → Clears (λ d x. (d ≡ attr_decision old.parts dim node attr) × (x ≡ v)) p old q new
-attr_clears change p q old new node dim attr v kinds known is r kinds_is q_is = clears_taken change p q old new (attr_decision old.parts dim node attr) v (attr_kind dim) kinds known (kind_of_attr old.parts dim node attr is.dim_in is.node_in is.attr_in) r kinds_is q_is
+attr_clears change p q old new node dim attr v kinds known is r kinds_is q_is =
+    let d = attr_decision old.parts dim node attr in
+    let all = one_removed change old new d v r in
+    clears_taken change p q old new d (attr_kind dim) kinds (λ x. x ≡ v) (known_before change old new d (λ x. x ≡ v) all known) (attr_decided old.parts dim node attr is.dim_in is.node_in is.attr_in) (kind_of_attr old.parts dim node attr is.dim_in is.node_in is.attr_in) all kinds_is q_is
 
 -- what is cleared from a box is taken from it
 pub goes_cleared : (group : Group) (p q : Progress) (old new : State) (d v : ℕ) → Clears (λ e x. (e ≡ d) × (x ≡ v)) p old q new → IsGroup old.parts group → Takes old.parts group old.now d v → Goes group p old q new

@@ -1,11 +1,12 @@
 //! What a step of a propagator takes.
 
-ghost use Rattle.std.specs.Prelude.{◌≡◌, ◌<◌, ℕ, true};
+ghost use Rattle.std.specs.Prelude.{◌≡◌, ◌*◌, ℕ, true};
 ghost use Rattle.xdg_problem.specs.declared.parts.Group.{Group as Use};
 ghost use Rattle.xdg_problem.specs.Analyses.{IsPlace};
 ghost use Rattle.xdg_problem.specs.Boxes.{Has, entry_decision, attr_decision, edge_decision};
 ghost use Rattle.xdg_problem.specs.Problems.{IsGroup};
 ghost use Rattle.xdg_rules.specs.Rules.{Takes};
+ghost use Rattle.xdg_store.specs.Change.{IsTaken};
 ghost use Rattle.xdg_store.specs.InRange.{HasCandidate, HasValue};
 ghost use Rattle.xdg_store.specs.States.{Known};
 ghost use Rattle.xdg_propcore.specs.Passes.{Goes, Clears, EachValue, Answers, noted, untouched};
@@ -97,6 +98,17 @@ impl Pass {
         ensures known { Known store.new }
     {
         let change = store.remove_entry(node, place);
+        self.note(change, Wake::entries());
+    }
+
+    /// Takes some of a node's candidates away at once: of the 64 candidates from the place `block` * 64 on those whose bits are set.
+    pub fn remove_entries(&mut self, store: &mut Store, node: NodeId, block: u16, taken: u64)
+        requires { HasCandidate store.old.parts node.0 (block * 64) }
+        ensures clears { Clears (λ d v. (d ≡ entry_decision node.0) × IsTaken block taken v) self.old store.old self.new store.new }
+        ensures parts { store.new.parts ≡ store.old.parts }
+        ensures known { Known store.new }
+    {
+        let change = store.remove_entries(node, block, taken);
         self.note(change, Wake::entries());
     }
 

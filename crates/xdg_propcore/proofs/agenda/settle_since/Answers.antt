@@ -1,6 +1,5 @@
-use Rattle.std.proofs.Common.{◌≡◌, ◌<◌, ◌≢◌, ◌∙◌, ℕ, ap, arith, get_or, length, map, sym}
+use Rattle.std.proofs.Common.{◌≡◌, ◌∙◌, ap, arith, length, map, sym}
 use Rattle.std.proofs.lemmas.List.{length-map}
-use lib.Bits.{bit_and}
 use Rattle.xdg_propcore.specs.declared.wake.Wake.{Wake}
 use Rattle.xdg_propcore.proofs.Analyses.{all_kept}
 use Rattle.xdg_propcore.proofs.Holding.{all_held}

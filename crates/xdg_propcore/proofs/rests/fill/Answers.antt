@@ -1,4 +1,4 @@
-use Rattle.std.proofs.Common.{◌≡◌, ℕ, ◌<◌, ◌+◌, ◌∙◌, inl, inr, List, Option, Some, None, ap, arith, get_or, length, length-set, set, subst, sym}
+use Rattle.std.proofs.Common.{◌∙◌, Some, arith, length-set}
 use Rattle.xdg_propcore.proofs.Holding.{filled_more}
 use Rattle.xdg_propcore.proofs.rests.fill.Goals as goal
 
