@@ -26,6 +26,9 @@ pub record IsIn (classes : List Class) (k c : ℕ) : Type 0 where
 pub none_in : (classes : List Class) (c : ℕ) → IsIn classes 0 c → ⊥
 none_in classes c i = (let l = i.before in omega (arith, l))
 
+pub in_more : (classes : List Class) (k c : ℕ) → IsIn classes k c → IsIn classes (k + 1) c
+in_more classes k c i = record { class = i.class; place = i.place; before = (let l = i.before in omega (arith, l)); within = i.within; is = i.is; member = i.member }
+
 -- some bit of a number
 some_bit : (n : ℕ) → 0 < n → n < 2 ^ 64 → (i : ℕ) × (i < 64) × (bit_at n i ≡ 1)
 some_bit n l m = (let t = bit_at-trailing_zeros w64 n l m in (trailing_zeros w64 n, t.0, t.1))
@@ -48,26 +51,37 @@ module _ (count : ℕ) (group : Group) (bundle : Bundle) (classes : List Class) 
       let within : found.1.0 < length classes = found.1.1 in
       record { class = found.0; place = found.1.0; before = omega (arith, within, all); within = within; is = found.1.2; member = found.2 }
 
+  module _ (k : ℕ) (d : Class) (within : k < length classes) where
+    -- a class
+    abbrev class_at : Class
+    class_at = slice_index_or classes k d
+
+    pub class_is : IsClass count group bundle class_at
+    class_is = are.right k d within
+
+    -- it has an entry, or one before does
+    pub last_or : (c : ℕ) → IsIn classes (k + 1) c → IsIn classes k c ⊎ (bit_at class_at.entries c ≡ 1)
+    last_or c i = elim (cases_lt i.place k) [
+      | inl less ↦ inl (record { class = i.class; place = i.place; before = less; within = i.within; is = i.is; member = i.member })
+      | inr past ↦
+          let at : i.place ≡ k = (let l = i.before in omega (arith, l, past)) in
+          let same : i.class ≡ class_at = sym i.is ∙ ap (λ p. slice_index_or classes p i.class) at ∙ get_or_default classes k i.class d within in
+          inr (subst (λ (x : Class). bit_at x.entries c ≡ 1) same i.member)
+    ]
+
+    pub in_last : (c : ℕ) → bit_at class_at.entries c ≡ 1 → IsIn classes (k + 1) c
+    in_last c bit = record { class = class_at; place = k; before = omega arith; within = within; is = get_or_default classes k class_at d within; member = bit }
+
   module _ (box : List (List Bool)) (remain : ℕ) (told : (c : ℕ) → c < 64 → c < count → (bit_at remain c ≡ 1) ↔ Has box (entry_decision bundle.node) c) (k : ℕ) (d : Class) (within : k < length classes) where
     abbrev class : Class
     class = slice_index_or classes k d
 
     here : IsClass count group bundle class
-    here = are.right k d within
-
-    -- the last of them has it, or one before
-    last_or : (c : ℕ) → IsIn classes (k + 1) c → IsIn classes k c ⊎ (bit_at class.entries c ≡ 1)
-    last_or c i = elim (cases_lt i.place k) [
-      | inl less ↦ inl (record { class = i.class; place = i.place; before = less; within = i.within; is = i.is; member = i.member })
-      | inr past ↦
-          let at : i.place ≡ k = (let l = i.before in omega (arith, l, past)) in
-          let same : i.class ≡ class = sym i.is ∙ ap (λ p. slice_index_or classes p i.class) at ∙ get_or_default classes k i.class d within in
-          inr (subst (λ (x : Class). bit_at x.entries c ≡ 1) same i.member)
-    ]
+    here = class_is k d within
 
     -- none of its entries remains
     pub class_gone : bit_and class.entries remain ≡ 0 → (c : ℕ) → IsIn classes (k + 1) c → Has box (entry_decision bundle.node) c → IsIn classes k c
-    class_gone none c i has = elim (last_or c i) [
+    class_gone none c i has = elim (last_or k d within c i) [
       | inl before ↦ before
       | inr mine ↦ absurd (
           let few = are.few in
@@ -87,4 +101,4 @@ module _ (count : ℕ) (group : Group) (bundle : Bundle) (classes : List Class) 
         (bit.0, (told bit.0 bit.1 mine.0).0 two.1, mine.1)
 
     pub class_next : (c : ℕ) → IsIn classes (k + 1) c → Has box (entry_decision bundle.node) c → IsIn classes k c ⊎ (numbers_of bundle.way group bundle.node bundle.label c ≡ numbers_of bundle.way group bundle.node bundle.label class.first)
-    class_next c i has = elim (last_or c i) [ inl before ↦ inl before | inr mine ↦ inr (here.each c mine).1 ]
+    class_next c i has = elim (last_or k d within c i) [ inl before ↦ inl before | inr mine ↦ inr (here.each c mine).1 ]

@@ -1,5 +1,5 @@
 -- Classes of entries by the numbers of edges that they allow.
-use Rattle.std.proofs.Common.{◌≡◌, ℕ, ◌<◌, ◌≤◌, ◌+◌, ◌*◌, ◌%◌, ◌^◌, ◌⊎◌, inl, inr, List, [], ◌∷◌, ◌++◌, length, get_or, set, take, refl, ap, sym, ◌∙◌, arith, subst}
+use Rattle.std.proofs.Common.{◌≡◌, ℕ, ◌<◌, ◌≤◌, ◌+◌, ◌⊎◌, inl, inr, List, [], ◌∷◌, ◌++◌, length, get_or, set, take, refl, ap, sym, ◌∙◌, arith, subst}
 use Rattle.std.proofs.lemmas.Bool.{cases_eq, cases_lt}
 use Rattle.std.proofs.lemmas.List.{get_or_append_left, get_or_default, get_or_push, get_or-set_same, get_or-set_other, get_or-take, length-set, length-take-le, length_push, same_lists}
 use Rattle.std.proofs.lemmas.Nat.Bits.{bit_at_or, bit_at_set_other, bit_at_set_same, bit_at-zero}
@@ -8,13 +8,9 @@ use Rattle.xdg_facts.proofs.Bits.{or_left_bit}
 use Rattle.xdg_problem.specs.declared.parts.Group.{Group}
 use Rattle.xdg_pgraph.specs.declared.allowances.Class.{Class}
 use Rattle.xdg_pgraph.specs.declared.bundle.Bundle.{Bundle}
-use Rattle.xdg_pgraph.specs.Allowances.{AreClasses, IsClass}
+use Rattle.xdg_pgraph.specs.Allowances.{AreClasses, IsClass, Keeps, bit_of, with_entry}
 use Rattle.xdg_pgraph.specs.Bundles.{numbers_of}
 use lib.Bits.{bit_or}
-
--- a word with the bit of an entry
-abbrev pub bit_of : ℕ → ℕ
-bit_of k = 1 * 2 ^ k % 2 ^ 64
 
 has_alone : (k i : ℕ) → bit_at (bit_of k) i ≡ bit_at (bit_or 0 (bit_of k)) i
 has_alone k i = (let e = bit_at_or 0 (bit_of k) i in let z = bit_at-zero i in omega (arith, e, z))
@@ -24,14 +20,6 @@ has_only entries k c small bit = elim (cases_eq c k) [
   | inl same ↦ inr same
   | inr other ↦ inl (sym (bit_at_set_other w64 entries k small c other) ∙ bit)
 ]
-
--- a class with an entry more
-abbrev pub with_entry : Class → ℕ → Class
-with_entry class k = record { first = class.first; entries = bit_or class.entries (bit_of k) }
-
--- a class of an entry alone
-abbrev pub one_entry : ℕ → Class
-one_entry k = record { first = k; entries = bit_of k }
 
 -- a class among the first so many
 pub take_set : (classes : List Class) (count at : ℕ) (class : Class) → count ≤ length classes → take count (set classes at class) ≡ set (take count classes) at class
@@ -59,6 +47,7 @@ module _ (group : Group) (bundle : Bundle) where
   later k class is = record {
     first = (let f = is.first in omega (arith, f));
     each = λ c bit. (let e = is.each c bit in (let l = e.0 in omega (arith, l), e.1));
+    kept = is.kept;
   }
 
   joined : (k : ℕ) (class : Class) → k < 64 → numbers k ≡ numbers class.first → IsClass k group bundle class → IsClass (k + 1) group bundle (with_entry class k)
@@ -68,15 +57,17 @@ module _ (group : Group) (bundle : Bundle) where
       | inl old ↦ (let e = is.each c old in (let l = e.0 in omega (arith, l), e.1))
       | inr new ↦ (omega (arith, new), ap numbers new ∙ same)
     ];
+    kept = record { spans = is.kept.spans; whole = is.kept.whole };
   }
 
-  alone : (k : ℕ) → k < 64 → IsClass (k + 1) group bundle (one_entry k)
-  alone k small = record {
-    first = omega arith;
+  alone : (k : ℕ) (class : Class) → k < 64 → class.entries ≡ bit_of k → class.first ≡ k → Keeps (numbers k) class → IsClass (k + 1) group bundle class
+  alone k class small entries_are first_is kept = record {
+    first = omega (arith, first_is);
     each = λ c bit. elim (cases_eq c k) [
-      | inl same ↦ (omega (arith, same), ap numbers same)
-      | inr other ↦ absurd (let set = bit_at_set_other w64 0 k small c other in let e = has_alone k c in let z = bit_at-zero c in omega (arith, bit, set, e, z))
+      | inl same ↦ (omega (arith, same), ap numbers (same ∙ sym first_is))
+      | inr other ↦ absurd (let b = subst (λ w. bit_at w c ≡ 1) entries_are bit in let set = bit_at_set_other w64 0 k small c other in let e = has_alone k c in let z = bit_at-zero c in omega (arith, b, set, e, z))
     ];
+    kept = subst (λ n. Keeps (numbers n) class) (sym first_is) kept;
   }
 
   -- before the first entry
@@ -115,15 +106,14 @@ module _ (group : Group) (bundle : Bundle) where
       }
 
   -- it has a class of its own
-  pub classes_open : (k : ℕ) (classes : List Class) → k < 64 → AreClasses k group bundle classes → AreClasses (k + 1) group bundle (classes ++ one_entry k ∷ [])
-  classes_open k classes small are =
-      let new = one_entry k in
+  pub classes_open : (k : ℕ) (classes : List Class) (new : Class) → k < 64 → new.entries ≡ bit_of k → new.first ≡ k → Keeps (numbers k) new → AreClasses k group bundle classes → AreClasses (k + 1) group bundle (classes ++ new ∷ [])
+  classes_open k classes new small entries_are first_is kept are =
       let more = classes ++ new ∷ [] in
       let long : length more ≡ length classes + 1 = length_push classes new in
       record {
         few = omega (arith, small);
         cover = λ c l. elim (cases_eq c k) [
-          | inl e ↦ (new, (length classes, omega (arith, long), get_or_push classes new new (length classes) refl), subst (λ i. bit_at (bit_of k) i ≡ 1) (sym e) (has_alone k k ∙ bit_at_set_same w64 0 k small))
+          | inl e ↦ (new, (length classes, omega (arith, long), get_or_push classes new new (length classes) refl), subst (λ w. bit_at w c ≡ 1) (sym entries_are) (subst (λ i. bit_at (bit_of k) i ≡ 1) (sym e) (has_alone k k ∙ bit_at_set_same w64 0 k small)))
           | inr f ↦
               let old = are.cover c (omega (arith, l, f)) in
               let place = old.1.0 in
@@ -134,6 +124,6 @@ module _ (group : Group) (bundle : Bundle) where
           | inl before ↦ subst (IsClass (k + 1) group bundle) (sym (get_or_append_left classes (new ∷ []) d i before)) (later k (get_or classes i d) (are.right i d before))
           | inr behind ↦
               let last : i ≡ length classes = omega (arith, l, long, behind) in
-              subst (IsClass (k + 1) group bundle) (sym (subst (λ j. get_or more j d ≡ new) (sym last) (get_or_push classes new d (length classes) refl))) (alone k small)
+              subst (IsClass (k + 1) group bundle) (sym (subst (λ j. get_or more j d ≡ new) (sym last) (get_or_push classes new d (length classes) refl))) (alone k new small entries_are first_is kept)
         ];
       }

@@ -1,5 +1,5 @@
 -- What valency takes, value by value.
-use Rattle.std.proofs.Common.{◌≡◌, ℕ, ◌<◌, ◌≤◌, ◌+◌, inl, inr, Bool, true, false, List, [], ◌∷◌, ◌++◌, length, get_or, refl, sym, ◌∙◌, subst, arith}
+use Rattle.std.proofs.Common.{◌≡◌, ℕ, ◌<◌, ◌≤◌, ◌+◌, ◌⊎◌, inl, inr, Bool, true, false, List, [], ◌∷◌, ◌++◌, length, get_or, refl, sym, ◌∙◌, subst, arith}
 use Rattle.std.specs.Prelude.{Contains, All, not}
 use Rattle.std.proofs.lemmas.Bool.{cases_eq, false≢true}
 use Rattle.std.proofs.lemmas.List.Elements.{All-contains, All-weaker, All-contains_itself}
@@ -26,7 +26,7 @@ BarredBelow parts group bundle least most k d v = Barred parts group bundle leas
 abbrev pub Outside : ℕ → ℕ → ℕ → Type 0
 Outside least most k = least ≤ k → k ≤ most → ⊥
 
-outside_none : (cardinality : List ℕ) (least most : ℕ) → All (Outside least most) cardinality → HasNoneWithin cardinality least most
+pub outside_none : (cardinality : List ℕ) (least most : ℕ) → All (Outside least most) cardinality → HasNoneWithin cardinality least most
 outside_none cardinality least most all k c = All-contains (Outside least most) cardinality k all c
 
 pub none_outside : (cardinality : List ℕ) (least most : ℕ) → HasNoneWithin cardinality least most → All (Outside least most) cardinality
@@ -139,6 +139,13 @@ module _ (parts : Parts) (dim : ℕ) (bundle : Bundle) (value : ℕ) (first left
 module _ (parts : Parts) (dim : ℕ) (bundle : Bundle) (others : List ℕ) (value : ℕ) (p q r : Progress) (old mid new : State) where
   pub wanted_none : (wanted : Bool) → wanted ≡ false → Clears (λ d v. (wanted ≡ true) × OpenTo parts dim bundle others value d v) p old p old
   wanted_none wanted not = clears_none (λ d v. (wanted ≡ true) × OpenTo parts dim bundle others value d v) p old (λ d v a. false≢true (sym not ∙ a.0))
+
+  -- nothing is open, or it isn't wanted
+  pub wanted_nowhere : (wanted : Bool) → (others ≡ []) ⊎ (wanted ≡ false) → Clears (λ d v. (wanted ≡ true) × OpenTo parts dim bundle others value d v) p old p old
+  wanted_nowhere wanted why = clears_none (λ d v. (wanted ≡ true) × OpenTo parts dim bundle others value d v) p old (λ d v a. elim why [
+    | inl nowhere ↦ false≢true (subst (λ s. has s a.1.other ≡ true) nowhere a.1.is)
+    | inr not ↦ false≢true (sym not ∙ a.0)
+  ])
 
   pub wanted_some : (wanted : Bool) → wanted ≡ true → Clears (OpenTo parts dim bundle others value) p old q mid → Clears (λ d v. (wanted ≡ true) × OpenTo parts dim bundle others value d v) p old q mid
   wanted_some wanted is = clears_like (OpenTo parts dim bundle others value) (λ d v. (wanted ≡ true) × OpenTo parts dim bundle others value d v) p q old mid (λ d v a. (is, a)) (λ d v a. a.1)

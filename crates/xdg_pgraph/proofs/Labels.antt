@@ -10,8 +10,8 @@ use Rattle.xdg_problem.specs.Boxes.{Has}
 use Rattle.xdg_problem.specs.Problems.{IsGroup}
 use Rattle.xdg_rules.specs.Rules.{IsPlaceOn, Takes, TakesForRoot, OneLabel, OneMother, NoCycle, must_edges}
 use Rattle.xdg_store.specs.States.{State}
-use Rattle.xdg_propcore.specs.Passes.{Progress, Clears}
-use Rattle.xdg_propcore.proofs.Passing.{clears_like, goes_both}
+use Rattle.xdg_propcore.specs.Passes.{Progress, Clears, IsQuiet}
+use Rattle.xdg_propcore.proofs.Passing.{clears_like, goes_both, goes_none}
 use Rattle.xdg_pgraph.specs.declared.found.Found.{Found}
 use Rattle.xdg_pgraph.specs.declared.plane.Plane.{Plane}
 use Rattle.xdg_pgraph.specs.Planes.{IsPlane, IsOnPlane}
@@ -175,14 +175,20 @@ module _ (dim : ℕ) (a b c : Progress) (s t u : State) where
       ])
       one two
 
-abbrev pub CycleOrRoot : Bool → Parts → Group → List (List Bool) → ℕ → ℕ → Type 0
-CycleOrRoot rooted parts group box d v = NoCycle parts group box d v ⊎ RootIf rooted parts group box d v
+abbrev pub RootOrLabel : Bool → Bool → Parts → Group → List (List Bool) → ℕ → ℕ → Type 0
+RootOrLabel rooted disjoint parts group box d v = RootIf rooted parts group box d v ⊎ LabelIf disjoint parts group box d v
 
-pub dag_runs : (dim : ℕ) (a b c e : Progress) (s t u v : State) (rooted disjoint : Bool) → t.parts ≡ s.parts → u.parts ≡ t.parts → RunsFor NoCycle dim a s b t → RunsFor (RootIf rooted) dim b t c u → RunsFor (LabelIf disjoint) dim c u e v → RunsFor (ByDag rooted disjoint) dim a s e v
+pub dag_runs : (dim : ℕ) (a b c e : Progress) (s t u v : State) (rooted disjoint : Bool) → t.parts ≡ s.parts → u.parts ≡ t.parts → RunsFor (RootIf rooted) dim a s b t → RunsFor (LabelIf disjoint) dim b t c u → RunsFor NoCycle dim c u e v → RunsFor (ByDag rooted disjoint) dim a s e v
 dag_runs dim a b c e s t u v rooted disjoint first second one two three =
-    run_both dim a c e s u v (CycleOrRoot rooted) (LabelIf disjoint) (ByDag rooted disjoint) (second ∙ first)
-    (λ parts group box d x h. elim h [ inl k ↦ inl k | inr r ↦ inr (inl r) ])
-    (λ parts group box d x h. inr (inr h))
-    (λ parts group box d x h. elim h [ inl k ↦ inl (inl k) | inr h ↦ elim h [ inl r ↦ inl (inr r) | inr l ↦ inr l ] ])
-    (run_both dim a b c s t u NoCycle (RootIf rooted) (CycleOrRoot rooted) first (λ parts group box d x h. inl h) (λ parts group box d x h. inr h) (λ parts group box d x h. h) one two)
+    run_both dim a c e s u v (RootOrLabel rooted disjoint) NoCycle (ByDag rooted disjoint) (second ∙ first)
+    (λ parts group box d x h. inr h)
+    (λ parts group box d x h. inl h)
+    (λ parts group box d x h. elim h [ inl k ↦ inr k | inr h ↦ inl h ])
+    (run_both dim a b c s t u (RootIf rooted) (LabelIf disjoint) (RootOrLabel rooted disjoint) first (λ parts group box d x h. inl h) (λ parts group box d x h. inr h) (λ parts group box d x h. h) one two)
     three
+
+-- ---- a rule that is left out
+
+-- where something was taken nothing is asked
+pub runs_left : (A : Parts → Group → List (List Bool) → ℕ → ℕ → Type 0) (dim : ℕ) (p : Progress) (s : State) → (IsQuiet p → ⊥) → RunsFor A dim p s p s
+runs_left A on_dim p s taken group is on takes = record { goes = goes_none group p s; done = λ quiet. absurd (taken quiet) }

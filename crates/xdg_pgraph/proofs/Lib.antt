@@ -34,3 +34,5 @@ pub mod Members
 pub mod Mothers
 pub mod Classing
 pub mod ClassRows
+pub mod Keeping
+pub mod Barring

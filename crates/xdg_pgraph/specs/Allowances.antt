@@ -1,13 +1,28 @@
 -- The numbers of edges that entries allow, by classes of entries.
-use Rattle.std.specs.Prelude.{◌≡◌, ◌≢◌, ◌<◌, ◌≤◌, ◌+◌, ◌*◌, ℕ, List, [], All, Contains, length, slice_index_or}
+use Rattle.std.specs.Prelude.{◌≡◌, ◌≢◌, ◌<◌, ◌≤◌, ◌+◌, ◌*◌, ◌%◌, ◌^◌, ℕ, true, List, [], All, Contains, length, slice_index_or}
 use Rattle.std.specs.Int.{bit_at}
+use lib.Bits.{bit_or}
 use Rattle.xdg_problem.specs.declared.parts.Feat.{Feat}
 use Rattle.xdg_problem.specs.declared.parts.Group.{Group}
 use Rattle.xdg_problem.specs.declared.parts.Parts.{Parts}
 use Rattle.xdg_pgraph.specs.declared.allowances.Allowances.{Allowances}
 use Rattle.xdg_pgraph.specs.declared.allowances.Class.{Class}
 use Rattle.xdg_pgraph.specs.declared.bundle.Bundle.{Bundle}
+use Rattle.xdg_pgraph.specs.Bounding.{Spans}
 use Rattle.xdg_pgraph.specs.Bundles.{argument_of, numbers_of}
+
+-- what a class keeps of some numbers: their bounds, and whether each number between them is one of them
+pub record Keeps (numbers : List ℕ) (class : Class) : Type 0 where
+  pub spans : Spans numbers class.allowed
+  pub whole : class.whole ≡ true → (k : ℕ) → class.allowed.least ≤ k → k < class.allowed.behind → Contains numbers k
+
+-- a word with the bit of an entry
+abbrev pub bit_of : ℕ → ℕ
+bit_of k = 1 * 2 ^ k % 2 ^ 64
+
+-- a class with an entry more
+abbrev pub with_entry : Class → ℕ → Class
+with_entry class k = record { entries = bit_or class.entries (bit_of k); allowed = class.allowed; first = class.first; whole = class.whole }
 
 -- candidates of a node, which has so many, that allow the same numbers of a bundle's edges as the first of them
 pub record IsClass (count : ℕ) (group : Group) (bundle : Bundle) (class : Class) : Type 0 where
@@ -15,6 +30,7 @@ pub record IsClass (count : ℕ) (group : Group) (bundle : Bundle) (class : Clas
   pub each : (c : ℕ) → bit_at class.entries c ≡ 1
       → (c < count)
       × (numbers_of bundle.way group bundle.node bundle.label c ≡ numbers_of bundle.way group bundle.node bundle.label class.first)
+  pub kept : Keeps (numbers_of bundle.way group bundle.node bundle.label class.first) class
 
 -- classes of all candidates of a node, which has so many
 pub record AreClasses (count : ℕ) (group : Group) (bundle : Bundle) (classes : List Class) : Type 0 where

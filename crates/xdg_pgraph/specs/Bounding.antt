@@ -1,5 +1,6 @@
 -- How numbers of edges stand to those that entries allow.
-use Rattle.std.specs.Prelude.{◌≡◌, ◌<◌, ◌≤◌, ◌+◌, ◌⊎◌, ℕ, Bool, false, List, All, Contains}
+use Rattle.std.specs.Prelude.{◌≡◌, ◌<◌, ◌≤◌, ◌+◌, ◌^◌, ◌⊎◌, ◌↔◌, ℕ, Bool, false, List, All, Contains}
+use Rattle.std.specs.Int.{bit_at}
 use Rattle.xdg_problem.specs.declared.parts.Group.{Group}
 use Rattle.xdg_problem.specs.Boxes.{Has, entry_decision}
 use Rattle.xdg_rules.specs.Rules.{HasNoneWithin}
@@ -16,6 +17,13 @@ pub record Widens (row : List ℕ) (old new : Allowed) : Type 0 where
   pub least : new.least ≤ old.least
   pub least_of : All (λ k. new.least ≤ k) row
   pub least_is : (new.least ≡ old.least) ⊎ Contains row new.least
+
+-- bounds are those of some numbers: the least, and the one behind the greatest. Of none the first is beyond all numbers of 32 bits
+pub record Spans (numbers : List ℕ) (allowed : Allowed) : Type 0 where
+  pub behind : All (λ k. k < allowed.behind) numbers
+  pub behind_is : (allowed.behind ≡ 0) ⊎ ((k : ℕ) × Contains numbers k × (k + 1 ≡ allowed.behind))
+  pub least : All (λ k. allowed.least ≤ k) numbers
+  pub least_is : ((k : ℕ) → k < 2 ^ 32 → k ≤ allowed.least) ⊎ Contains numbers allowed.least
 
 -- an entry that remains allows a number
 abbrev pub SomeAllows : List (List Bool) → ℕ → (ℕ → List ℕ) → ℕ → Type 0
@@ -39,3 +47,8 @@ TellsAll group bundle least most box looked =
 abbrev pub NoneBarred : Group → Bundle → ℕ → ℕ → List (List Bool) → Type 0
 NoneBarred group bundle least most box =
     (c : ℕ) → Has box (entry_decision bundle.node) c → HasNoneWithin (numbers_of bundle.way group bundle.node bundle.label c) least most → ⊥
+
+-- the entries that allow no number between two, of the first so many: a bit for each
+abbrev pub AreBarred : ℕ → Group → Bundle → ℕ → ℕ → ℕ → Type 0
+AreBarred count group bundle least most bits =
+    (c : ℕ) → (bit_at bits c ≡ 1) ↔ ((c < count) × HasNoneWithin (numbers_of bundle.way group bundle.node bundle.label c) least most)

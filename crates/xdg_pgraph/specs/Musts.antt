@@ -60,7 +60,8 @@ RestsBut daughters parts group box =
 
 -- if the principle use takes it
 abbrev pub RestsIf : List ℕ → Parts → Group → List (List Bool) → Type 0
-RestsIf daughters parts group box = ((box : List (List Bool)) (d v : ℕ) → ForOthers parts group box d v → Takes parts group box d v) → RestsBut daughters parts group box
+RestsIf daughters parts group box =
+    ((box : List (List Bool)) (d v : ℕ) → ForOthers parts group box d v → Takes parts group box d v) → RestsBut daughters parts group box
 
 -- a part of a step for the rules that go by the edges that may be, where they are asked for and only some nodes need be looked at
 abbrev pub RunsBut : List ℕ → Bool → ℕ → Progress → State → Progress → State → Type 0

@@ -1,5 +1,6 @@
 //! The numbers of edges that entries allow, by classes of entries.
 
+ghost use Rattle.std.specs.List.Sorted.{IsStrictlyIncreasing};
 ghost use Rattle.std.specs.Prelude.{◌≡◌, ◌≢◌, ◌<◌, ◌+◌, ◌*◌, ◌++◌, ◌∷◌, [], ℕ, IfOk, IfSome, IsTrue, OnOk, length, slice_index_or, slice_set};
 ghost use Rattle.xdg_problem.specs.declared.parts.Group.{Group as Use};
 ghost use Rattle.xdg_problem.specs.declared.parts.Parts.{Parts as Sentence};
@@ -7,8 +8,9 @@ ghost use Rattle.xdg_problem.specs.Arguments.{first_dim, label_count};
 ghost use Rattle.xdg_problem.specs.Places.{nodes};
 ghost use Rattle.xdg_problem.specs.Problems.{IsGroup, IsProblem};
 ghost use Rattle.xdg_pgraph.specs.Family.{IsOfFamily};
-ghost use Rattle.xdg_pgraph.specs.Allowances.{AreAllowances, AreClasses, AreRows, HasClasses, IsClassOf, class_place};
+ghost use Rattle.xdg_pgraph.specs.Allowances.{AreAllowances, AreClasses, AreRows, HasClasses, IsClassOf, Keeps, bit_of, class_place, with_entry};
 
+use crate::bounds::Allowed;
 use crate::bundle::{Bundle, Way, argument, features_of, numbers_at};
 use crate::plane::{Plane, label_count};
 use std::alloc::{AllocError, Global};
@@ -20,8 +22,54 @@ use xdg_problem::{Feat, Group, Parts};
 /// Some entries of a node that allow the same numbers of edges of a bundle: a bit for each, and the first of them, which tells the numbers.
 #[derive(Clone, Copy, Debug)]
 pub(crate) struct Class {
-    pub first: u16,
     pub entries: u64,
+    /// The bounds of the numbers.
+    pub allowed: Allowed,
+    pub first: u16,
+    /// Whether each number between the bounds is allowed.
+    pub whole: bool,
+}
+
+impl Class {
+    /// No entry.
+    fn none() -> Class {
+        Class {
+            entries: 0,
+            allowed: Allowed::none(),
+            first: 0,
+            whole: false,
+        }
+    }
+
+    /// An entry alone, which allows such numbers. They rise.
+    fn of(entry: u16, numbers: &[u16]) -> Class
+        requires rising { IsStrictlyIncreasing numbers.now }
+        requires entry { entry < 64 }
+        ensures entries { result.entries ≡ bit_of entry }
+        ensures first { result.first ≡ entry }
+        ensures keeps { Keeps numbers.now result }
+    {
+        let allowed = Allowed::none().with(numbers);
+        Class {
+            entries: 1 << entry,
+            allowed,
+            first: entry,
+            whole: allowed.behind as usize <= allowed.least as usize + numbers.len(),
+        }
+    }
+
+    /// The class with an entry more.
+    fn with(self, entry: u16) -> Class
+        requires { entry < 64 }
+        ensures { result ≡ with_entry self entry }
+    {
+        Class {
+            entries: self.entries | 1 << entry,
+            allowed: self.allowed,
+            first: self.first,
+            whole: self.whole,
+        }
+    }
 }
 
 /// Some classes, at most eight.
@@ -47,12 +95,8 @@ impl Row {
     fn none() -> Row
         ensures { result ≡ [] }
     {
-        let class = Class {
-            first: 0,
-            entries: 0,
-        };
         Row {
-            classes: [class; 8],
+            classes: [Class::none(); 8],
             count: 0,
         }
     }
@@ -101,21 +145,15 @@ impl Row {
             → AreClasses (entry + 1) group bundle self.new }
     {
         let numbers = numbers_at(candidates, bundle, entry);
-        let bit = 1 << entry;
         if let Some(at) = self.find(candidates, bundle, numbers) {
             let class = self.as_slice()[at];
-            let entries = class.entries | bit;
-            let first = class.first;
-            self.put(at, Class { first, entries });
+            self.put(at, class.with(entry));
             return true;
         }
         if self.count == 8 {
             return false;
         }
-        self.push(Class {
-            first: entry,
-            entries: bit,
-        });
+        self.push(Class::of(entry, numbers));
         true
     }
 

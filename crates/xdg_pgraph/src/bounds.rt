@@ -1,18 +1,19 @@
 //! The numbers of edges that entries allow.
 
 ghost use Rattle.std.specs.List.Sorted.{IsStrictlyIncreasing};
-ghost use Rattle.std.specs.Prelude.{◌≡◌, ◌<◌, ◌≤◌, ◌↔◌, [], IsTrue, All, false, length, slice_index_or};
+ghost use Rattle.std.specs.Prelude.{◌≡◌, ◌<◌, ◌≤◌, ◌↔◌, ◌⊎◌, ◌^◌, ℕ, List, [], IsTrue, All, false, length, slice_index_or};
 ghost use Rattle.xdg_problem.specs.Places.{nodes};
 ghost use Rattle.xdg_rules.specs.Rules.{HasNoneWithin, IsGreatest, IsLeast};
 ghost use Rattle.xdg_store.specs.States.{Known};
-ghost use Rattle.xdg_pgraph.specs.Allowances.{AreClasses, HasClasses};
-ghost use Rattle.xdg_pgraph.specs.Bounding.{NoneBarred, TellsAll, Widens};
+ghost use Rattle.xdg_pgraph.specs.Allowances.{AreClasses, HasClasses, Keeps};
+ghost use Rattle.xdg_pgraph.specs.Bounding.{AreBarred, NoneBarred, Spans, TellsAll, Widens};
 ghost use Rattle.xdg_pgraph.specs.Bundles.{numbers_of};
 
 use crate::allowances::Class;
 use crate::bundle::{Bundle, features_of, numbers_at};
 use xdg_base::NodeId;
 use xdg_graph::entry_count;
+use xdg_nodeset::NodeSet;
 use xdg_problem::Group;
 use xdg_store::Store;
 
@@ -20,8 +21,8 @@ use xdg_store::Store;
 /// the second is 0.
 #[derive(Clone, Copy, Debug)]
 pub(crate) struct Allowed {
-    pub least: usize,
-    pub behind: usize,
+    pub least: u32,
+    pub behind: u32,
 }
 
 /// What some entries allow, and whether one of them may allow no number from one to another.
@@ -43,11 +44,18 @@ pub(crate) struct Said {
 }
 
 impl Said {
-    /// Whether something may be left to take.
-    pub(crate) fn takes(self) -> bool
-        ensures { result ≡ false → (self.full ≡ false) × (self.needed ≡ false) × (self.barred ≡ false) }
+    /// Whether something may be left to take, where some nodes are the ends of edges that may be and need not.
+    pub(crate) fn takes(self, open: &NodeSet) -> bool
+        ensures { result ≡ false
+            → (self.barred ≡ false) × ((open.now ≡ []) ⊎ (self.full ≡ false)) × ((open.now ≡ []) ⊎ (self.needed ≡ false)) }
     {
-        self.full || self.needed || self.barred
+        if self.barred {
+            return true;
+        }
+        match open.first() {
+            None => false,
+            Some(_) => self.full || self.needed,
+        }
     }
 }
 
@@ -59,8 +67,29 @@ pub(crate) fn has_none_within(numbers: &[u16], least: usize, most: usize) -> boo
 }
 
 impl Allowed {
+    /// What no entry allows.
+    pub(crate) fn none() -> Allowed
+        ensures behind { result.behind ≡ 0 }
+        ensures least { (number : ℕ) → number < 2 ^ 32 → number ≤ result.least }
+    {
+        Allowed {
+            least: u32::MAX,
+            behind: 0,
+        }
+    }
+
+    /// What these and those allow that allow some numbers.
+    fn merged(self, other: Allowed) -> Allowed
+        ensures { (numbers : List ℕ) → Spans numbers other → Widens numbers self result }
+    {
+        Allowed {
+            least: self.least.min(other.least),
+            behind: self.behind.max(other.behind),
+        }
+    }
+
     /// What these and one entry more allow, whose numbers rise.
-    fn with(self, numbers: &[u16]) -> Allowed
+    pub(crate) fn with(self, numbers: &[u16]) -> Allowed
         requires { IsStrictlyIncreasing numbers.now }
         ensures { Widens numbers.now self result }
     {
@@ -71,8 +100,8 @@ impl Allowed {
             return self;
         };
         Allowed {
-            least: self.least.min(usize::from(*first)),
-            behind: self.behind.max(usize::from(*last) + 1),
+            least: self.least.min(u32::from(*first)),
+            behind: self.behind.max(u32::from(*last) + 1),
         }
     }
 }
@@ -93,10 +122,7 @@ impl Looked {
         ensures { (result.allowed.behind ≡ 0) × (128 < result.allowed.least) }
     {
         Looked {
-            allowed: Allowed {
-                least: usize::MAX,
-                behind: 0,
-            },
+            allowed: Allowed::none(),
             barred: false,
         }
     }
@@ -115,6 +141,7 @@ impl Looked {
 }
 
 /// What the entries of a node that remain allow of a bundle. It looks at them one by one.
+#[inline(never)]
 fn by_entries(store: &Store, group: &Group, bundle: Bundle, least: usize, most: usize) -> Looked
     requires known { Known store.now }
     requires node { bundle.node < nodes store.now.parts }
@@ -133,7 +160,60 @@ fn by_entries(store: &Store, group: &Group, bundle: Bundle, least: usize, most: 
     looked
 }
 
-/// The same, by one candidate of each class of which entries remain.
+/// Whether a candidate of a bundle's node allows no number from one to another.
+#[inline(never)]
+fn entry_allows_none(group: &Group, bundle: Bundle, place: u16, least: usize, most: usize) -> bool
+    ensures { IsTrue result ↔ HasNoneWithin (numbers_of bundle.way group.now bundle.node bundle.label place) least most }
+{
+    let candidates = features_of(group, bundle.node);
+    has_none_within(numbers_at(candidates, bundle, place), least, most)
+}
+
+/// Whether the entries of a class allow no number from one to another, which isn't less.
+fn class_allows_none(
+    group: &Group,
+    bundle: Bundle,
+    class: &Class,
+    least: usize,
+    most: usize,
+) -> bool
+    requires class { Keeps (numbers_of bundle.way group.now bundle.node bundle.label class.now.first) class.now }
+    requires order { least ≤ most }
+    ensures { IsTrue result ↔ HasNoneWithin (numbers_of bundle.way group.now bundle.node bundle.label class.now.first) least most }
+{
+    if most < class.allowed.least as usize {
+        return true;
+    }
+    if class.allowed.behind as usize <= least {
+        return true;
+    }
+    if class.whole {
+        return false;
+    }
+    entry_allows_none(group, bundle, class.first, least, most)
+}
+
+/// Whether some entry may allow none between two numbers, the second of which isn't less, with those of a class more.
+fn with_class_barred(
+    barred: bool,
+    group: &Group,
+    bundle: Bundle,
+    class: &Class,
+    least: usize,
+    most: usize,
+) -> bool
+    requires class { Keeps (numbers_of bundle.way group.now bundle.node bundle.label class.now.first) class.now }
+    requires order { least ≤ most }
+    ensures { result ≡ false
+        → (barred ≡ false) × (HasNoneWithin (numbers_of bundle.way group.now bundle.node bundle.label class.now.first) least most → ⊥) }
+{
+    if barred {
+        return true;
+    }
+    class_allows_none(group, bundle, class, least, most)
+}
+
+/// What the entries of a node that remain allow of a bundle, by its classes, between two numbers of which the second isn't less.
 fn by_classes(
     store: &Store,
     group: &Group,
@@ -145,22 +225,46 @@ fn by_classes(
     requires known { Known store.now }
     requires node { bundle.node < nodes store.now.parts }
     requires classes { AreClasses (length (slice_index_or store.now.parts.candidates bundle.node [])) group.now bundle classes.now }
+    requires order { least ≤ most }
     ensures { TellsAll group.now bundle least most store.now.now result }
 {
-    let candidates = features_of(group, bundle.node);
     let remain = store.first_entries(NodeId(bundle.node));
     let mut looked = Looked::none();
     for class in classes {
         if class.entries & remain == 0 {
             continue;
         }
-        let numbers = numbers_at(candidates, bundle, class.first);
-        looked = looked.with(numbers, least, most);
+        looked = Looked {
+            allowed: looked.allowed.merged(class.allowed),
+            barred: with_class_barred(looked.barred, group, bundle, class, least, most),
+        };
     }
     looked
 }
 
-/// The same, by the classes of the bundle, if it has some.
+/// The entries of a bundle's node, by its classes, that allow no number from one to another, which isn't less: a bit for each, the first at the lowest.
+pub(crate) fn barred_entries(
+    group: &Group,
+    bundle: Bundle,
+    classes: &[Class],
+    least: usize,
+    most: usize,
+) -> u64
+    requires order { least ≤ most }
+    requires classes { All (λ class. Keeps (numbers_of bundle.way group.now bundle.node bundle.label class.first) class) classes.now }
+    ensures { (count : ℕ) → AreClasses count group.now bundle classes.now → AreBarred count group.now bundle least most result }
+{
+    let mut barred = 0;
+    for class in classes {
+        if !class_allows_none(group, bundle, class, least, most) {
+            continue;
+        }
+        barred |= class.entries;
+    }
+    barred
+}
+
+/// The same for any two numbers, by the classes of the bundle, if it has some.
 fn looked_at(
     store: &Store,
     group: &Group,
@@ -174,7 +278,7 @@ fn looked_at(
     requires classes { HasClasses store.now.parts group.now bundle classes.now }
     ensures { TellsAll group.now bundle least most store.now.now result }
 {
-    if classes.is_empty() {
+    if classes.is_empty() || most < least {
         return by_entries(store, group, bundle, least, most);
     }
     by_classes(store, group, bundle, classes, least, most)
@@ -199,8 +303,8 @@ pub(crate) fn said_of(
 {
     let looked = looked_at(store, group, bundle, classes, least, most);
     Said {
-        full: looked.allowed.behind == least + 1,
-        needed: looked.allowed.least == most,
+        full: looked.allowed.behind as usize == least + 1,
+        needed: looked.allowed.least as usize == most,
         barred: looked.barred,
     }
 }

@@ -1,7 +1,7 @@
 //! The rule of labels, and all rules of trees and of dags together.
 
 ghost use Rattle.std.specs.Prelude.{◌≡◌, ◌≢◌, ◌<◌, true};
-ghost use Rattle.xdg_rules.specs.Rules.{OneLabel, must_edges};
+ghost use Rattle.xdg_rules.specs.Rules.{NoCycle, OneLabel, must_edges};
 ghost use Rattle.xdg_propcore.specs.Passes.{Clears};
 ghost use Rattle.xdg_store.specs.States.{Known};
 ghost use Rattle.xdg_pgraph.specs.Musts.{RunsBut};
@@ -19,7 +19,7 @@ use crate::taking::forbid_joined;
 use crate::tree::{for_others, for_root, one_mother};
 use xdg_base::NodeId;
 use xdg_nodeset::NodeSet;
-use xdg_propcore::Pass;
+use xdg_propcore::{Moved, Pass};
 use xdg_store::Store;
 
 /// From a node to another no edge leads beside one that must be.
@@ -70,6 +70,21 @@ pub(crate) fn one_label(store: &mut Store, pass: &mut Pass, plane: &Plane)
     }
 }
 
+/// No edge closes a cycle of edges that must be, where nothing was taken before. What has taken something is followed by another step.
+fn no_cycle_if_quiet(store: &mut Store, pass: &mut Pass, plane: &Plane)
+    requires plane { IsPlane store.old.parts plane.now }
+    requires known { Known store.old }
+    ensures runs { RunsFor NoCycle plane.now.dim.0 pass.old store.old pass.new store.new }
+    ensures parts { store.new.parts ≡ store.old.parts }
+    ensures known { Known store.new }
+{
+    match pass.moved() {
+        Moved::Same => no_cycle(store, pass, plane),
+        Moved::Changed(_) => {}
+        Moved::Dead => {}
+    }
+}
+
 /// All rules of a tree.
 pub(crate) fn take_tree(store: &mut Store, pass: &mut Pass, plane: &Plane)
     requires plane { IsPlane store.old.parts plane.now }
@@ -84,7 +99,7 @@ pub(crate) fn take_tree(store: &mut Store, pass: &mut Pass, plane: &Plane)
     for_root(store, pass, plane, &second);
     let third = second.renewed(store, pass, plane);
     for_others(store, pass, plane, &third);
-    no_cycle(store, pass, plane);
+    no_cycle_if_quiet(store, pass, plane);
 }
 
 /// The rules of the root, where they are asked for.
@@ -156,7 +171,7 @@ pub(crate) fn take_dag(
     ensures parts { store.new.parts ≡ store.old.parts }
     ensures known { Known store.new }
 {
-    no_cycle(store, pass, plane);
     take_root(store, pass, plane, rooted);
     take_labels(store, pass, plane, disjoint);
+    no_cycle_if_quiet(store, pass, plane);
 }

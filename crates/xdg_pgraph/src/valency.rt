@@ -11,14 +11,14 @@ ghost use Rattle.xdg_problem.specs.Problems.{IsGroup};
 ghost use Rattle.xdg_store.specs.States.{Known};
 ghost use Rattle.xdg_propcore.specs.Passes.{Clears, IsQuiet};
 ghost use Rattle.xdg_propcore.specs.Sweeps.{Sweeps};
-ghost use Rattle.xdg_pgraph.specs.Allowances.{AreAllowances};
+ghost use Rattle.xdg_pgraph.specs.Allowances.{AreAllowances, HasClasses};
 ghost use Rattle.xdg_pgraph.specs.Bounding.{NoneBarred};
 ghost use Rattle.xdg_pgraph.specs.Bundles.{AreLabelsDone, Barred, IsBundleDone, IsLabelDone, IsWayDone, OpenTo, edge_to};
 ghost use Rattle.xdg_pgraph.specs.Planes.{IsPlane};
 ghost use Rattle.xdg_pgraph.specs.Untouched.{AreOthersDone, IsTouched, side};
 
-use crate::allowances::Allowances;
-use crate::bounds::{has_none_within, said_of};
+use crate::allowances::{Allowances, Class};
+use crate::bounds::{barred_entries, has_none_within, said_of};
 use crate::bundle::{Bundle, FarNodes, Way, features_of, numbers_at};
 use crate::plane::Plane;
 use xdg_base::NodeId;
@@ -28,8 +28,8 @@ use xdg_problem::{Edge, Group};
 use xdg_propcore::{Pass, Touched};
 use xdg_store::Store;
 
-/// Takes the entries of a node away that allow no number between two counts.
-fn take_entries(
+/// Takes the entries of a node away that allow no number between two counts. It looks at them one by one.
+fn take_one_by_one(
     store: &mut Store,
     pass: &mut Pass,
     group: &Group,
@@ -55,6 +55,31 @@ fn take_entries(
     }
 }
 
+/// The same, all at once by the classes of the bundle, if it has some.
+#[inline(never)]
+fn take_entries(
+    store: &mut Store,
+    pass: &mut Pass,
+    group: &Group,
+    bundle: Bundle,
+    classes: &[Class],
+    least: usize,
+    most: usize,
+)
+    requires known { Known store.old }
+    requires node { bundle.node < nodes store.old.parts }
+    requires classes { HasClasses store.old.parts group.now bundle classes.now }
+    ensures clears { Clears (Barred store.old.parts group.now bundle least most) pass.old store.old pass.new store.new }
+    ensures known { Known store.new }
+{
+    if classes.is_empty() || most < least {
+        take_one_by_one(store, pass, group, bundle, least, most);
+        return;
+    }
+    let barred = barred_entries(group, bundle, classes, least, most);
+    pass.remove_entries(store, NodeId(bundle.node), 0, barred);
+}
+
 /// The same, where some entry may be one of them.
 #[inline(always)]
 fn take_entries_if(
@@ -62,12 +87,14 @@ fn take_entries_if(
     pass: &mut Pass,
     group: &Group,
     bundle: Bundle,
+    classes: &[Class],
     least: usize,
     most: usize,
     wanted: bool,
 )
     requires known { Known store.old }
     requires node { bundle.node < nodes store.old.parts }
+    requires classes { HasClasses store.old.parts group.now bundle classes.now }
     requires others { wanted ≡ false → NoneBarred group.now bundle least most store.old.now }
     ensures clears { Clears (Barred store.old.parts group.now bundle least most) pass.old store.old pass.new store.new }
     ensures known { Known store.new }
@@ -75,7 +102,7 @@ fn take_entries_if(
     if !wanted {
         return;
     }
-    take_entries(store, pass, group, bundle, least, most);
+    take_entries(store, pass, group, bundle, classes, least, most);
 }
 
 /// Takes away that an edge is present, or that it is absent.
@@ -92,6 +119,7 @@ fn take_value(store: &mut Store, pass: &mut Pass, edge: Edge, present: bool)
 }
 
 /// Takes away that the edges to some nodes are present, or that they are absent.
+#[inline(never)]
 fn take_open(
     store: &mut Store,
     pass: &mut Pass,
@@ -162,12 +190,21 @@ fn take_bundle(
     let most = far.may.len();
     let classes = allowances.classes(bundle);
     let said = said_of(store, group, bundle, classes, least, most);
-    if !said.takes() {
+    if !said.takes(&open) {
         return;
     }
     take_open_if(store, pass, plane, bundle, open, true, said.full);
     take_open_if(store, pass, plane, bundle, open, false, said.needed);
-    take_entries_if(store, pass, group, bundle, least, most, said.barred);
+    take_entries_if(
+        store,
+        pass,
+        group,
+        bundle,
+        classes,
+        least,
+        most,
+        said.barred,
+    );
 }
 
 /// The nodes that have lost values of edges out of them, or into them, by their labels.

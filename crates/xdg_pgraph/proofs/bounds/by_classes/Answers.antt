@@ -1,9 +1,9 @@
-use Rattle.std.proofs.Common.{◌+◌, ◌∙◌, [], inl, inr, length, get_or, sym, arith}
+use Rattle.std.proofs.Common.{◌+◌, [], length, get_or, arith}
 use Rattle.xdg_problem.specs.Boxes.{Has, entry_decision}
 use Rattle.xdg_graph.proofs.Remaining.{entry_below}
 use Rattle.xdg_pgraph.specs.Bundles.{numbers_of}
 use Rattle.xdg_pgraph.proofs.Allowed.{tells_next, tells_skip, tells_start}
-use Rattle.xdg_pgraph.proofs.Classed.{IsIn, class_gone, class_left, class_next, each_in, none_in}
+use Rattle.xdg_pgraph.proofs.Classed.{IsIn, class_gone, class_is, class_left, class_next, each_in, none_in}
 use Rattle.xdg_pgraph.proofs.bounds.by_classes.Goals as goal
 
 pub loop-class-init : goal.loop-class-init
@@ -16,20 +16,20 @@ loop-class-preserved-then-class-remain-eq0 c = tells_skip c.args.store.now.now c
     c.loop-class.class-index _ c.loop-class-test.true c.if-class-remain-eq0.true)
     c.loop-class.invariant
 
-pub with-looked-requires : goal.with-looked-requires
-with-looked-requires c = c.numbers_at-numbers.ensures.rising
+pub with_class_barred-requires-clause-class : goal.with_class_barred-requires-clause-class
+with_class_barred-requires-clause-class c = (class_is (length (get_or c.args.store.now.parts.candidates c.args.bundle.node [])) c.args.group.now c.args.bundle c.args.classes.now c.requires.classes c.loop-class.class-index _ c.loop-class-test.true).kept
 
 pub loop-class-preserved : goal.loop-class-preserved
 loop-class-preserved c =
-    let same = c.numbers_at-numbers.ensures.same c.args.group.now c.features_of-candidates.ensures in
+    let is = class_is (length (get_or c.args.store.now.parts.candidates c.args.bundle.node [])) c.args.group.now c.args.bundle c.args.classes.now c.requires.classes c.loop-class.class-index _ c.loop-class-test.true in
     let left = class_left (length (get_or c.args.store.now.parts.candidates c.args.bundle.node [])) c.args.group.now c.args.bundle c.args.classes.now c.requires.classes c.args.store.now.now c.first_entries-remain.result
     (λ e few below. c.first_entries-remain.ensures.exact e few (record { node_in = c.requires.node; place_in = below }))
     c.loop-class.class-index _ c.loop-class-test.true c.first_entries-remain.type_inv c.if-class-remain-eq0.false in
-    tells_next c.args.store.now.now c.args.bundle.node (numbers_of c.args.bundle.way c.args.group.now c.args.bundle.node c.args.bundle.label) 128 c.args.least c.args.most (IsIn c.args.classes.now c.loop-class.class-index) (IsIn c.args.classes.now (c.loop-class.class-index + 1)) c.numbers_at-numbers.result.now c.loop-class.looked c.with-looked.result left.0 left.1 (left.2 ∙ sym same)
-    (λ e i has. elim (class_next (length (get_or c.args.store.now.parts.candidates c.args.bundle.node [])) c.args.group.now c.args.bundle c.args.classes.now c.requires.classes c.args.store.now.now c.first_entries-remain.result
+    tells_next c.args.store.now.now c.args.bundle.node (numbers_of c.args.bundle.way c.args.group.now c.args.bundle.node c.args.bundle.label) 128 c.args.least c.args.most (IsIn c.args.classes.now c.loop-class.class-index) (IsIn c.args.classes.now (c.loop-class.class-index + 1)) _ c.loop-class.looked (record { allowed = c.merged.result; barred = c.with_class_barred.result }) left.0 left.1 left.2
+    (class_next (length (get_or c.args.store.now.parts.candidates c.args.bundle.node [])) c.args.group.now c.args.bundle c.args.classes.now c.requires.classes c.args.store.now.now c.first_entries-remain.result
     (λ e few below. c.first_entries-remain.ensures.exact e few (record { node_in = c.requires.node; place_in = below }))
-    c.loop-class.class-index _ c.loop-class-test.true e i has) [ inl before ↦ inl before | inr mine ↦ inr (mine ∙ sym same) ])
-    c.with-looked.ensures.allowed c.with-looked.ensures.barred c.loop-class.invariant
+    c.loop-class.class-index _ c.loop-class-test.true)
+    (c.merged.ensures _ is.kept.spans) c.with_class_barred.ensures c.loop-class.invariant
 
 pub returns : goal.returns
 returns c = tells_skip c.args.store.now.now c.args.bundle.node (numbers_of c.args.bundle.way c.args.group.now c.args.bundle.node c.args.bundle.label) 128 c.args.least c.args.most (IsIn c.args.classes.now c.loop-class.class-index) (Has c.args.store.now.now (entry_decision c.args.bundle.node)) c.loop-class.looked

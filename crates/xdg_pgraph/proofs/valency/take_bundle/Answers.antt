@@ -4,11 +4,12 @@ use Rattle.xdg_problem.specs.Boxes.{entry_decision}
 use Rattle.xdg_problem.specs.Places.{nodes}
 use Rattle.xdg_problem.specs.declared.parts.Parts.{Parts}
 use Rattle.xdg_rules.specs.Rules.{IsGreatest, IsLeast}
+use Rattle.xdg_pgraph.specs.Allowances.{HasClasses}
 use Rattle.xdg_pgraph.specs.Bundles.{edge_to, numbers_of}
 use Rattle.xdg_pgraph.specs.Planes.{IsPlane}
 use Rattle.xdg_pgraph.specs.declared.found.Which.TheVariants as whichs
 use Rattle.xdg_pgraph.proofs.Bundled.{bundle_swept}
-use Rattle.xdg_pgraph.proofs.Clearing.{none_barred, wanted_none}
+use Rattle.xdg_pgraph.proofs.Clearing.{none_barred, wanted_nowhere}
 use Rattle.xdg_pgraph.proofs.Ends.{which_counted}
 use Rattle.xdg_pgraph.proofs.OpenEdges.{open_place, edges_clear}
 use Rattle.xdg_pgraph.proofs.valency.take_bundle.Goals as goal
@@ -48,12 +49,12 @@ returns-then-not-takes c =
     (subst (λ n. IsTrue c.said_of-said.result.full ↔ IsGreatest c.args.store.now.now c.args.bundle.node (numbers_of c.args.bundle.way c.args.group.now c.args.bundle.node c.args.bundle.label) n) c.len-least.ensures.value c.said_of-said.ensures.full)
     (subst (λ n. IsTrue c.said_of-said.result.needed ↔ IsLeast c.args.store.now.now c.args.bundle.node (numbers_of c.args.bundle.way c.args.group.now c.args.bundle.node c.args.bundle.label) n) c.len-most.ensures.value c.said_of-said.ensures.needed)
     c.args.pass.now c.args.pass.now c.args.pass.now c.args.store.now c.args.store.now
-    (wanted_none c.args.store.now.parts c.args.plane.now.dim.0 c.args.bundle c.minus-open.result 0 c.args.pass.now c.args.pass.now c.args.pass.now c.args.store.now c.args.store.now c.args.store.now c.said_of-said.result.full none.0)
-    (wanted_none c.args.store.now.parts c.args.plane.now.dim.0 c.args.bundle c.minus-open.result 1 c.args.pass.now c.args.pass.now c.args.pass.now c.args.store.now c.args.store.now c.args.store.now c.said_of-said.result.needed none.1) in
+    (wanted_nowhere c.args.store.now.parts c.args.plane.now.dim.0 c.args.bundle c.minus-open.result 0 c.args.pass.now c.args.pass.now c.args.pass.now c.args.store.now c.args.store.now c.args.store.now c.said_of-said.result.full none.1)
+    (wanted_nowhere c.args.store.now.parts c.args.plane.now.dim.0 c.args.bundle c.minus-open.result 1 c.args.pass.now c.args.pass.now c.args.pass.now c.args.store.now c.args.store.now c.args.store.now c.said_of-said.result.needed none.2) in
     bundle_swept c.args.bundle c.args.group.now c.args.pass.now c.args.pass.now c.args.pass.now c.args.store.now c.args.store.now c.args.store.now c.requires.group c.requires.principle c.args.plane.now.dim.0 c.requires.dim c.requires.known (let l = c.requires.node in let n = c.requires.plane.nodes_is in omega (arith, l, n)) c.requires.label c.len-least.result c.len-most.result
     (c.len-least.ensures.value ∙ which_counted whichs.Must c.args.bundle.way c.args.store.now.parts c.args.store.now.now c.args.plane.now.dim.0 c.args.bundle.node c.args.bundle.label c.of-far.result.must c.len-least.ensures.nodes c.of-far.ensures.must)
     (c.len-most.ensures.value ∙ which_counted whichs.May c.args.bundle.way c.args.store.now.parts c.args.store.now.now c.args.plane.now.dim.0 c.args.bundle.node c.args.bundle.label c.of-far.result.may c.len-most.ensures.nodes c.of-far.ensures.may)
-    c.requires.known edges (none_barred c.args.store.now.parts c.args.group.now c.args.bundle c.len-least.result c.len-most.result c.args.pass.now c.args.store.now (c.said_of-said.ensures.barred none.2))
+    c.requires.known edges (none_barred c.args.store.now.parts c.args.group.now c.args.bundle c.len-least.result c.len-most.result c.args.pass.now c.args.store.now (c.said_of-said.ensures.barred none.0))
 
 pub returns : goal.returns
 returns c =
@@ -66,3 +67,6 @@ returns c =
     (c.len-least.ensures.value ∙ which_counted whichs.Must c.args.bundle.way c.args.store.now.parts c.args.store.now.now c.args.plane.now.dim.0 c.args.bundle.node c.args.bundle.label c.of-far.result.must c.len-least.ensures.nodes c.of-far.ensures.must)
     (c.len-most.ensures.value ∙ which_counted whichs.May c.args.bundle.way c.args.store.now.parts c.args.store.now.now c.args.plane.now.dim.0 c.args.bundle.node c.args.bundle.label c.of-far.result.may c.len-most.ensures.nodes c.of-far.ensures.may)
     c.take_entries_if.ensures.known edges c.take_entries_if.ensures.clears
+
+pub take_entries_if-requires-clause-classes : goal.take_entries_if-requires-clause-classes
+take_entries_if-requires-clause-classes c = subst (λ (parts : Parts). HasClasses parts c.args.group.now c.args.bundle c.classes-classes.result.now) (sym (c.take_open_if-2.ensures.clears.same ∙ c.take_open_if.ensures.clears.same)) (c.classes-classes.ensures c.args.store.now.parts c.args.group.now c.requires.fits)

@@ -1,46 +1,14 @@
-use Rattle.std.proofs.Common.{◌≡◌, ◌∙◌, [], All, true, false, length, get_or, ap, refl, sym, subst, arith}
-use Rattle.xdg_problem.specs.declared.parts.Parts.{Parts}
-use Rattle.xdg_store.specs.InRange.{HasCandidate}
-use Rattle.xdg_graph.proofs.Remaining.{entry_end}
-use Rattle.xdg_pgraph.proofs.Clearing.{Outside, barred_absent, barred_start, barred_skip, barred_taken, barred_end}
+use Rattle.std.proofs.Common.{◌∙◌, ◌==◌, [], ap, get_or, length, sym}
+use Rattle.std.proofs.lemmas.Bool.{false≢true}
+use Rattle.xdg_pgraph.proofs.Barring.{barred_at_once, has_first}
 use Rattle.xdg_pgraph.proofs.valency.take_entries.Goals as goal
 
-pub loop-place-init : goal.loop-place-init
-loop-place-init c = (barred_start c.args.store.now.parts c.args.group.now c.args.bundle c.args.least c.args.most c.args.pass.now c.args.pass.now c.args.pass.now c.args.store.now c.args.store.now c.args.store.now 0 (λ k l has. omega (arith, l)), c.requires.known)
-
-pub loop-place-preserved-then-not-entry_in : goal.loop-place-preserved-then-not-entry_in
-loop-place-preserved-then-not-entry_in c = (
-  barred_absent c.args.store.now.parts c.args.group.now c.args.bundle c.args.least c.args.most c.args.pass.now c.loop-place.pass c.loop-place.pass c.args.store.now c.loop-place.store c.loop-place.store c.loop-place.place
-      (λ has. (let t : false ≡ true = c.if-not-entry_in.ensures.exact.1 has in cc))
-      c.loop-place.invariant.0,
-  c.loop-place.invariant.1,
-)
-
-pub loop-place-preserved-then-not-has_none_within : goal.loop-place-preserved-then-not-has_none_within
-loop-place-preserved-then-not-has_none_within c = (
-  barred_skip c.args.store.now.parts c.args.group.now c.args.bundle c.args.least c.args.most c.args.pass.now c.loop-place.pass c.loop-place.pass c.args.store.now c.loop-place.store c.loop-place.store c.loop-place.place
-      (λ all. (let t : false ≡ true = c.if-not-has_none_within.ensures.1 (subst (All (Outside c.args.least c.args.most)) (sym (c.numbers_at.ensures.same c.args.group.now c.features_of-candidates.ensures)) all) in cc))
-      c.loop-place.invariant.0,
-  c.loop-place.invariant.1,
-)
-
-pub loop-place-preserved : goal.loop-place-preserved
-loop-place-preserved c = (
-  barred_taken c.args.store.now.parts c.args.group.now c.args.bundle c.args.least c.args.most c.args.pass.now c.loop-place.pass c.remove_entry.new.self c.args.store.now c.loop-place.store c.remove_entry.new.store c.loop-place.place
-      (let t = c.loop-place-test.true in let e = c.entry_count-count.ensures.count ∙ ap (λ (p : Parts). length (get_or p.candidates c.args.bundle.node [])) (c.parts.ensures.same ∙ c.problem.ensures.parts) in omega (arith, t, e))
-      (subst (All (Outside c.args.least c.args.most)) (c.numbers_at.ensures.same c.args.group.now c.features_of-candidates.ensures) (c.if-not-has_none_within.ensures.0 refl))
-      c.loop-place.invariant.0
-      c.remove_entry.ensures.clears,
-  c.remove_entry.ensures.known,
-)
+pub remove_entries-requires : goal.remove_entries-requires
+remove_entries-requires c = has_first c.args.store.now.parts c.args.group.now c.args.bundle c.args.classes.now c.requires.node (λ none. false≢true (sym c.if-is_empty.false ∙ c.is_empty.ensures ∙ ap (λ classes. length classes == 0) none)) c.requires.classes
 
 pub returns-clause-clears : goal.returns-clause-clears
-returns-clause-clears c = barred_end c.args.store.now.parts c.args.group.now c.args.bundle c.args.least c.args.most c.args.pass.now c.loop-place.pass c.loop-place.pass c.args.store.now c.loop-place.store c.loop-place.store c.loop-place.place
-    (λ k has. entry_end c.args.store.now c.problem.result.now c.parts.result.now c.args.bundle.node k c.entry_count-count.result c.loop-place.place c.requires.known c.requires.node c.parts.ensures.same c.problem.ensures.parts c.entry_count-count.ensures.count (let t = c.loop-place-test.false in omega (arith, t)) has)
-    c.loop-place.invariant.0
-
-pub entry_in-requires : goal.entry_in-requires
-entry_in-requires c = subst (λ (parts : Parts). HasCandidate parts c.args.bundle.node c.loop-place.place) (sym c.loop-place.invariant.0.same) (record { node_in = c.requires.node; place_in = (let t = c.loop-place-test.true in let e = c.entry_count-count.ensures.count ∙ ap (λ (p : Parts). length (get_or p.candidates c.args.bundle.node [])) (c.parts.ensures.same ∙ c.problem.ensures.parts) in omega (arith, t, e)) })
-
-pub remove_entry-requires : goal.remove_entry-requires
-remove_entry-requires c = subst (λ (parts : Parts). HasCandidate parts c.args.bundle.node c.loop-place.place) (sym c.loop-place.invariant.0.same) (record { node_in = c.requires.node; place_in = (let t = c.loop-place-test.true in let e = c.entry_count-count.ensures.count ∙ ap (λ (p : Parts). length (get_or p.candidates c.args.bundle.node [])) (c.parts.ensures.same ∙ c.problem.ensures.parts) in omega (arith, t, e)) })
+returns-clause-clears c =
+    let are = c.requires.classes (λ none. false≢true (sym c.if-is_empty.false ∙ c.is_empty.ensures ∙ ap (λ classes. length classes == 0) none)) in
+    barred_at_once c.args.store.now.parts c.args.group.now c.args.bundle c.args.classes.now c.args.least c.args.most c.barred_entries-barred.result c.args.pass.now c.remove_entries.new.self c.args.store.now c.remove_entries.new.store are
+    (c.barred_entries-barred.ensures (length (get_or c.args.store.now.parts.candidates c.args.bundle.node [])) are)
+    c.remove_entries.ensures.clears

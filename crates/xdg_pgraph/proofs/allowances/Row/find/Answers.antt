@@ -1,4 +1,4 @@
-use Rattle.std.proofs.Common.{◌≡◌, ◌<◌, ◌∙◌, length, get_or, ap, arith, refl, sym}
+use Rattle.std.proofs.Common.{◌≡◌, ◌<◌, ◌∙◌, false, length, get_or, ap, arith, refl, sym}
 use Rattle.std.proofs.lemmas.Bool.Decides.{Decides-eqb}
 use Rattle.std.proofs.lemmas.List.{get_or_default}
 use Rattle.std.proofs.lemmas.Slice.Eq.{slice_eq-Decides}
@@ -14,7 +14,7 @@ loop-at-preserved c = tt
 
 pub returns-then-eq : goal.returns-then-eq
 returns-then-eq c =
-    let none : Class = record { first = 0; entries = 0 } in
+    let none : Class = record { entries = 0; allowed = record { least = 0; behind = 0 }; first = 0; whole = false } in
     let within : c.loop-at.at < length c.args.self.now = (let l = c.loop-at-test.true in let e = ap length c.as_slice-class-items.ensures in omega (arith, l, e)) in
     record {
       within = within;
