@@ -26,6 +26,10 @@ FromTo u v e = (e.mother.0 ≡ u) × (e.daughter.0 ≡ v)
 abbrev pub ToNode : ℕ → Edge → Type 0
 ToNode v e = e.daughter.0 ≡ v
 
+-- and with a label
+abbrev pub ToWith : ℕ → ℕ → Edge → Type 0
+ToWith v l e = ToNode v e × (e.label.0 ≡ l)
+
 -- one of the edges, from a node to another
 abbrev pub Joins : List Edge → ℕ → ℕ → Edge → Type 0
 Joins edges u v e = Contains edges e × FromTo u v e

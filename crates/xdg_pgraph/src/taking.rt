@@ -1,17 +1,16 @@
 //! Taking edges away.
 
-ghost use Rattle.std.specs.Prelude.{◌≡◌, ◌≢◌, ◌<◌};
+ghost use Rattle.std.specs.Prelude.{◌≢◌, ◌<◌};
 ghost use Rattle.xdg_rules.specs.Rules.{may_edges};
 ghost use Rattle.xdg_store.specs.States.{Known};
 ghost use Rattle.xdg_propcore.specs.Passes.{Clears};
-ghost use Rattle.xdg_pgraph.specs.Seeking.{Aims, FromTo, Only, ToNode};
+ghost use Rattle.xdg_pgraph.specs.Seeking.{Aims, FromTo, Only, ToNode, ToWith};
 ghost use Rattle.xdg_pgraph.specs.Planes.{IsPlane};
 
 use crate::finding::entering;
 use crate::found::{Found, Which};
 use crate::plane::Plane;
-use xdg_base::NodeId;
-use xdg_graph::mothers_of;
+use xdg_base::{LabelId, NodeId};
 use xdg_propcore::Pass;
 use xdg_store::Store;
 
@@ -40,7 +39,34 @@ pub(crate) fn forbid_joined(
     }
 }
 
-/// Takes away that an edge into a node is present, each that isn't the only one of some edges. It looks only at the mothers that may be.
+/// Takes away that an edge with a label into a node is present, each that isn't the only one of some edges. It looks only at those that
+/// may be.
+fn forbid_labelled(
+    store: &mut Store,
+    pass: &mut Pass,
+    plane: &Plane,
+    daughter: u8,
+    label: u8,
+    others: Found,
+)
+    requires plane { IsPlane store.old.parts plane.now }
+    requires known { Known store.old }
+    requires daughter { daughter < plane.now.nodes }
+    requires label { label < plane.now.labels }
+    ensures clears { Clears (Aims store.old.parts plane.now.dim.0 others (ToWith daughter label)) pass.old store.old pass.new store.new }
+    ensures known { Known store.new }
+{
+    let mothers = store.mothers_may(plane.dim, NodeId(daughter), LabelId(label));
+    for mother in mothers.iter() {
+        let edge = plane.edge(mother.0, label, daughter);
+        if !others.has_other(edge) {
+            continue;
+        }
+        pass.forbid(store, edge);
+    }
+}
+
+/// Takes away that an edge into a node is present, each that isn't the only one of some edges.
 pub(crate) fn forbid_entering(
     store: &mut Store,
     pass: &mut Pass,
@@ -54,9 +80,8 @@ pub(crate) fn forbid_entering(
     ensures clears { Clears (Aims store.old.parts plane.now.dim.0 others (ToNode daughter)) pass.old store.old pass.new store.new }
     ensures known { Known store.new }
 {
-    let mothers = mothers_of(store, xdg_graph::Which::May, plane.dim, NodeId(daughter));
-    for mother in mothers.iter() {
-        forbid_joined(store, pass, plane, mother.0, daughter, others);
+    for label in 0..plane.labels {
+        forbid_labelled(store, pass, plane, daughter, label, others);
     }
 }
 
