@@ -21,7 +21,7 @@ use Rattle.xdg_graph.proofs.Remaining.{entry_below}
 use Rattle.xdg_pgraph.specs.declared.bundle.Way.{Way}
 use Rattle.xdg_pgraph.specs.declared.bundle.Way.TheVariants as ways
 use Rattle.xdg_pgraph.specs.declared.bundle.Bundle.{Bundle}
-use Rattle.xdg_pgraph.specs.declared.found.Which.TheVariants as whichs
+use Rattle.xdg_graph.specs.declared.which.Which.TheVariants as whichs
 use Rattle.xdg_pgraph.specs.Bundles.{near_node, numbers_of, count_of, Barred, EdgeAt, IsBundleDone, IsLabelDone, AreLabelsDone}
 use Rattle.xdg_pgraph.proofs.PlaneFacts.{which_place}
 

@@ -10,24 +10,22 @@ use Rattle.xdg_nodeset.specs.Nodes.{IsNodes}
 use Rattle.xdg_problem.specs.declared.analysis.Edge.{Edge}
 use Rattle.xdg_problem.specs.declared.parts.Parts.{Parts}
 use Rattle.xdg_problem.specs.Analyses.{Before}
-use Rattle.xdg_problem.specs.Boxes.{May, Must, IsBox}
 use Rattle.xdg_problem.specs.Places.{edge, nodes, places}
-use Rattle.xdg_problem.specs.Vectors.{shape}
 use Rattle.xdg_problem.proofs.Edges.{edge_equal}
 use Rattle.xdg_problem.proofs.FilterFacts.{filter_contained}
 use Rattle.xdg_problem.proofs.Ordered.{Ordered, each_both, each_filter, each_passed, ordered_filter, contains_filter, contains_map}
 use Rattle.xdg_problem.proofs.PlaceOrder.{places_ordered}
-use Rattle.xdg_rules.specs.Rules.{IsPlaceOn}
-use Rattle.xdg_rules.proofs.Shrinking.{may_be, must_be, may_exact, must_exact}
+use Rattle.xdg_rules.proofs.Shrinking.{may_be, must_be}
 use Rattle.xdg_store.specs.States.{State, Known}
 use Rattle.xdg_pgraph.specs.declared.bundle.Way.{Way}
 use Rattle.xdg_pgraph.specs.declared.bundle.Way.TheVariants as ways
-use Rattle.xdg_pgraph.specs.declared.found.Which.{Which}
-use Rattle.xdg_pgraph.specs.declared.found.Which.TheVariants as whichs
+use Rattle.xdg_graph.specs.declared.which.Which.{Which}
+use Rattle.xdg_graph.specs.declared.which.Which.TheVariants as whichs
 use Rattle.xdg_pgraph.specs.declared.plane.Plane.{Plane}
 use Rattle.xdg_pgraph.specs.Bundles.{edge_to, near_node, far_node, count_of}
 use Rattle.xdg_pgraph.specs.Planes.{IsPlane}
-use Rattle.xdg_pgraph.specs.Seeking.{edges_of}
+use Rattle.xdg_graph.specs.Edges.{Stands, edges_of}
+use Rattle.xdg_graph.proofs.Edges.{which_exact}
 use Rattle.xdg_pgraph.proofs.PlaneFacts.{edge_on, which_place}
 use Rattle.xdg_pgraph.proofs.Rising.{AreRising, rising_alike, nodes_rising, map_contained, map_rising}
 use Rattle.xdg_facts.specs.Rises.{has}
@@ -130,17 +128,8 @@ which_counted which way parts box dim node label ends is exact = ends_counted wa
 
 -- ---- what the store tells
 
--- an edge may be present, or must be
-abbrev pub IsThere : Which → Parts → List (List Bool) → Edge → Type 0
-IsThere whichs.May parts box e = May parts box e
-IsThere whichs.Must parts box e = Must parts box e
-
-which_exact : (which : Which) (parts : Parts) (box : List (List Bool)) (dim : ℕ) (e : Edge) → IsBox (shape parts) box → Contains (edges_of which parts box dim) e ↔ (IsPlaceOn parts dim e × IsThere which parts box e)
-which_exact whichs.May parts box dim e is = may_exact parts box dim e
-which_exact whichs.Must parts box dim e is = must_exact parts box dim e is
-
 module _ (which : Which) (s : State) (plane : Plane) (plane_is : IsPlane s.parts plane) (known : Known s) (node label : ℕ) (within : node < plane.nodes) (small : label < plane.labels) (other : ℕ) (b : Bool) where
-  pub out_told : IsTrue b ↔ ((other < nodes s.parts) × (node ≢ other) × IsThere which s.parts s.now (edge plane.dim.0 node label other)) → IsTrue b ↔ Contains (edges_of which s.parts s.now plane.dim.0) (edge plane.dim.0 node label other)
+  pub out_told : IsTrue b ↔ ((other < nodes s.parts) × (node ≢ other) × Stands which s.parts s.now (edge plane.dim.0 node label other)) → IsTrue b ↔ Contains (edges_of which s.parts s.now plane.dim.0) (edge plane.dim.0 node label other)
   out_told exact = (
     λ t. (let e = exact.0 t in (which_exact which s.parts s.now plane.dim.0 (edge plane.dim.0 node label other) known.is_box).1 (edge_on s.parts plane node label other plane_is within (let l = e.0 in let n = plane_is.nodes_is in omega (arith, l, n)) e.1 small, e.2)),
     λ c.
@@ -149,7 +138,7 @@ module _ (which : Which) (s : State) (plane : Plane) (plane_is : IsPlane s.parts
         exact.1 ((let l = on.daughter in let n = plane_is.nodes_is in omega (arith, l, n)), on.differ, both.1),
   )
 
-  pub in_told : IsTrue b ↔ ((other < nodes s.parts) × (other ≢ node) × IsThere which s.parts s.now (edge plane.dim.0 other label node)) → IsTrue b ↔ Contains (edges_of which s.parts s.now plane.dim.0) (edge plane.dim.0 other label node)
+  pub in_told : IsTrue b ↔ ((other < nodes s.parts) × (other ≢ node) × Stands which s.parts s.now (edge plane.dim.0 other label node)) → IsTrue b ↔ Contains (edges_of which s.parts s.now plane.dim.0) (edge plane.dim.0 other label node)
   in_told exact = (
     λ t. (let e = exact.0 t in (which_exact which s.parts s.now plane.dim.0 (edge plane.dim.0 other label node) known.is_box).1 (edge_on s.parts plane other label node plane_is (let l = e.0 in let n = plane_is.nodes_is in omega (arith, l, n)) within e.1 small, e.2)),
     λ c.

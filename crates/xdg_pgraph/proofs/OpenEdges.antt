@@ -14,7 +14,7 @@ use Rattle.xdg_store.specs.States.{State}
 use Rattle.xdg_propcore.specs.Passes.{Progress, Clears}
 use Rattle.xdg_propcore.proofs.Passing.{clears_both}
 use Rattle.xdg_pgraph.specs.declared.bundle.Bundle.{Bundle}
-use Rattle.xdg_pgraph.specs.declared.found.Which.TheVariants as whichs
+use Rattle.xdg_graph.specs.declared.which.Which.TheVariants as whichs
 use Rattle.xdg_pgraph.specs.Bundles.{edge_to, far_node, numbers_of, count_of, OpenTo, EdgeAt, FullAt, NeededAt, IsOpen}
 use Rattle.xdg_pgraph.proofs.PlaneFacts.{which_place}
 use Rattle.xdg_pgraph.proofs.Ends.{TellsEnds, which_counted, near_is, label_is, edge_told}

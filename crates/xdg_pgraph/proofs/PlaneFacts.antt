@@ -17,10 +17,10 @@ use Rattle.xdg_problem.proofs.PlacePlans.{plan_read}
 use Rattle.xdg_rules.specs.Rules.{IsPlaceOn}
 use Rattle.xdg_rules.proofs.Shrinking.{may_exact, must_exact, may_is, must_is}
 use Rattle.xdg_pgraph.specs.declared.plane.Plane.{Plane}
-use Rattle.xdg_pgraph.specs.declared.found.Which.{Which}
-use Rattle.xdg_pgraph.specs.declared.found.Which.TheVariants as whichs
+use Rattle.xdg_graph.specs.declared.which.Which.{Which}
+use Rattle.xdg_graph.specs.declared.which.Which.TheVariants as whichs
 use Rattle.xdg_pgraph.specs.Planes.{IsPlane, IsOnPlane}
-use Rattle.xdg_pgraph.specs.Seeking.{edges_of}
+use Rattle.xdg_graph.specs.Edges.{edges_of}
 
 -- how many labels the places have
 abbrev pub LabelsOf : DimPlan → ℕ → Type 0

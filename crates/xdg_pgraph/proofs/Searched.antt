@@ -11,10 +11,11 @@ use Rattle.xdg_problem.specs.Places.{edge}
 use Rattle.xdg_problem.proofs.Edges.{edge_equal}
 use Rattle.xdg_pgraph.specs.declared.found.Found.{Found}
 use Rattle.xdg_pgraph.specs.declared.found.Found.TheVariants as founds
-use Rattle.xdg_pgraph.specs.declared.found.Which.{Which}
+use Rattle.xdg_graph.specs.declared.which.Which.{Which}
 use Rattle.xdg_pgraph.specs.declared.plane.Plane.{Plane}
 use Rattle.xdg_pgraph.specs.Planes.{IsPlane, IsOnPlane}
-use Rattle.xdg_pgraph.specs.Seeking.{Finds, IsMore, Joins, Into, IntoWith, edges_of, found_with, found_merged}
+use Rattle.xdg_graph.specs.Edges.{edges_of}
+use Rattle.xdg_pgraph.specs.Seeking.{Finds, IsMore, Joins, Into, IntoWith, found_with, found_merged}
 use Rattle.xdg_pgraph.proofs.Looked.{finds_like, finds_with, finds_merged}
 use Rattle.xdg_pgraph.proofs.PlaneFacts.{which_place}
 use Rattle.xdg_facts.specs.Rises.{has, Rises}

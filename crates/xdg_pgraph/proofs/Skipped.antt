@@ -14,7 +14,7 @@ use Rattle.xdg_propcore.specs.Passes.{Progress, Clears, IsQuiet}
 use Rattle.xdg_propcore.proofs.Passing.{goes_none}
 use Rattle.xdg_pgraph.specs.declared.entered.Entered.{Entered}
 use Rattle.xdg_pgraph.specs.declared.found.Found.TheVariants as founds
-use Rattle.xdg_pgraph.specs.declared.found.Which.TheVariants as whichs
+use Rattle.xdg_graph.specs.declared.which.Which.TheVariants as whichs
 use Rattle.xdg_pgraph.specs.declared.incoming.Incoming.{Incoming}
 use Rattle.xdg_pgraph.specs.declared.plane.Plane.{Plane}
 use Rattle.xdg_pgraph.specs.Entering.{Tells, Leaving}

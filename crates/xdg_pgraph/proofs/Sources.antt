@@ -16,14 +16,15 @@ use Rattle.xdg_pgraph.specs.declared.entered.Count.{Count}
 use Rattle.xdg_pgraph.specs.declared.entered.Count.TheVariants as counts
 use Rattle.xdg_pgraph.specs.declared.entered.Entered.{Entered}
 use Rattle.xdg_pgraph.specs.declared.found.Found.TheVariants as founds
-use Rattle.xdg_pgraph.specs.declared.found.Which.{Which}
+use Rattle.xdg_graph.specs.declared.which.Which.{Which}
 use Rattle.xdg_pgraph.specs.declared.incoming.Counts.{Counts}
 use Rattle.xdg_pgraph.specs.declared.incoming.Incoming.{Incoming}
 use Rattle.xdg_pgraph.specs.declared.plane.Plane.{Plane}
 use Rattle.xdg_pgraph.specs.Entering.{Enters, Tells, more_of, some_of}
 use Rattle.xdg_pgraph.specs.Incomings.{AreCounts, AreOf, CountsSettle, IsCount}
 use Rattle.xdg_pgraph.specs.Musts.{IsSettled}
-use Rattle.xdg_pgraph.specs.Seeking.{Into, NoneOnly, edges_of}
+use Rattle.xdg_graph.specs.Edges.{edges_of}
+use Rattle.xdg_pgraph.specs.Seeking.{Into, NoneOnly}
 use Rattle.xdg_pgraph.proofs.Single.{not_more}
 use Rattle.xdg_pgraph.proofs.Skipped.{must_may}
 use Rattle.xdg_pgraph.proofs.Ruled.{still_out}

@@ -10,11 +10,12 @@ use Rattle.xdg_problem.proofs.Edges.{edge_equal}
 use Rattle.xdg_pgraph.specs.declared.entered.Entered.{Entered}
 use Rattle.xdg_pgraph.specs.declared.found.Found.{Found}
 use Rattle.xdg_pgraph.specs.declared.found.Found.TheVariants as founds
-use Rattle.xdg_pgraph.specs.declared.found.Which.{Which}
+use Rattle.xdg_graph.specs.declared.which.Which.{Which}
 use Rattle.xdg_pgraph.specs.declared.plane.Plane.{Plane}
 use Rattle.xdg_pgraph.specs.Entering.{Enters, EnterTwice, Tells, Leaving, Labelled}
 use Rattle.xdg_pgraph.specs.Planes.{IsPlane, IsOnPlane}
-use Rattle.xdg_pgraph.specs.Seeking.{Finds, Into, ToNode, edges_of}
+use Rattle.xdg_graph.specs.Edges.{edges_of}
+use Rattle.xdg_pgraph.specs.Seeking.{Finds, Into, ToNode}
 use Rattle.xdg_pgraph.proofs.PlaneFacts.{which_place}
 use Rattle.xdg_facts.specs.Rises.{has}
 

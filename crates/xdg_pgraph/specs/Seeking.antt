@@ -5,18 +5,11 @@ use Rattle.xdg_problem.specs.declared.parts.Parts.{Parts}
 use Rattle.xdg_problem.specs.Boxes.{Has}
 use Rattle.xdg_problem.specs.Paths.{mothers}
 use Rattle.xdg_nodeset.specs.Tables.{In}
-use Rattle.xdg_rules.specs.Rules.{IsPlaceOn, SaysPresent, SaysAbsent, may_edges, must_edges}
+use Rattle.xdg_rules.specs.Rules.{IsPlaceOn, SaysPresent, SaysAbsent, may_edges}
 use Rattle.xdg_pgraph.specs.declared.found.Found.{Found}
 use Rattle.xdg_pgraph.specs.declared.found.Found.TheVariants as founds
-use Rattle.xdg_pgraph.specs.declared.found.Which.{Which}
-use Rattle.xdg_pgraph.specs.declared.found.Which.TheVariants as whichs
 use Rattle.xdg_pgraph.specs.declared.entered.Roots.{Roots}
 use Rattle.xdg_pgraph.specs.declared.entered.Roots.TheVariants as rootss
-
--- the edges of a dimension that may be, or those that must be
-abbrev pub edges_of : Which → Parts → List (List Bool) → ℕ → List Edge
-edges_of whichs.May parts box dim = may_edges parts box dim
-edges_of whichs.Must parts box dim = must_edges parts box dim
 
 -- an edge from a node to another
 abbrev pub FromTo : ℕ → ℕ → Edge → Type 0

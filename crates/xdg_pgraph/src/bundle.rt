@@ -5,14 +5,14 @@ ghost use Rattle.std.specs.Prelude.{◌≡◌, ◌<◌, ◌↔◌, [], ℕ, IsTr
 ghost use Rattle.xdg_facts.specs.Rises.{has};
 ghost use Rattle.xdg_problem.specs.declared.parts.Group.{Group as Use};
 ghost use Rattle.xdg_store.specs.States.{Known};
+ghost use Rattle.xdg_graph.specs.Edges.{edges_of};
 ghost use Rattle.xdg_pgraph.specs.declared.bundle.Way.TheVariants as ways;
 ghost use Rattle.xdg_pgraph.specs.Bundles.{HasFarNodes, argument_of, edge_to, numbers_of};
 ghost use Rattle.xdg_pgraph.specs.Planes.{IsPlane};
-ghost use Rattle.xdg_pgraph.specs.Seeking.{edges_of};
 
-use crate::found::Which;
 use crate::plane::Plane;
 use xdg_base::{LabelId, List, NodeId};
+use xdg_graph::Which;
 use xdg_nodeset::NodeSet;
 use xdg_problem::{Edge, Feat, Group};
 use xdg_store::Store;

@@ -5,14 +5,15 @@ ghost use Rattle.xdg_facts.specs.Rises.{has};
 ghost use Rattle.xdg_problem.specs.declared.analysis.Edge.{Edge as Arrow};
 ghost use Rattle.xdg_problem.specs.Paths.{roots};
 ghost use Rattle.xdg_store.specs.States.{Known};
+ghost use Rattle.xdg_graph.specs.Edges.{edges_of};
 ghost use Rattle.xdg_pgraph.specs.Entering.{Enters, Tells, Leaving, Labelled, more_of, some_of};
 ghost use Rattle.xdg_pgraph.specs.Planes.{IsPlane};
-ghost use Rattle.xdg_pgraph.specs.Seeking.{RootsAre, edges_of};
+ghost use Rattle.xdg_pgraph.specs.Seeking.{RootsAre};
 
 use crate::bundle::{Bundle, Way, ends};
-use crate::found::Which;
 use crate::plane::Plane;
 use xdg_base::NodeId;
+use xdg_graph::Which;
 use xdg_nodeset::NodeSet;
 use xdg_store::Store;
 

@@ -1,14 +1,16 @@
 //! Looking for edges.
 
-ghost use Rattle.std.specs.Prelude.{◌≡◌, ◌≢◌, ◌<◌, ◌↔◌, IsTrue, Contains};
+ghost use Rattle.std.specs.Prelude.{◌≢◌, ◌<◌, ◌↔◌, IsTrue, Contains};
 ghost use Rattle.xdg_problem.specs.Analyses.{IsPlace};
 ghost use Rattle.xdg_store.specs.States.{Known};
-ghost use Rattle.xdg_pgraph.specs.Seeking.{Finds, Into, IntoWith, Joins, edges_of};
+ghost use Rattle.xdg_graph.specs.Edges.{edges_of};
+ghost use Rattle.xdg_pgraph.specs.Seeking.{Finds, Into, IntoWith, Joins};
 ghost use Rattle.xdg_pgraph.specs.Planes.{IsPlane};
 
 use crate::bundle::{Bundle, Way, ends};
-use crate::found::{Found, Which};
+use crate::found::Found;
 use crate::plane::Plane;
+use xdg_graph::Which;
 use xdg_problem::Edge;
 use xdg_store::Store;
 

@@ -17,15 +17,6 @@ pub(crate) enum Found {
     More,
 }
 
-/// Which edges of a dimension.
-#[derive(Clone, Copy, Debug)]
-pub(crate) enum Which {
-    /// Those that may be present.
-    May,
-    /// Those that must be present.
-    Must,
-}
-
 /// Whether two edges are the same.
 pub(crate) fn is_same(a: Edge, b: Edge) -> bool
     ensures { IsTrue result ↔ (a ≡ b) }

@@ -1,6 +1,6 @@
 //! The rule of labels, and all rules of trees and of dags together.
 
-ghost use Rattle.std.specs.Prelude.{◌≡◌, ◌≢◌, ◌<◌, true};
+ghost use Rattle.std.specs.Prelude.{◌≡◌, ◌≢◌, ◌<◌};
 ghost use Rattle.xdg_rules.specs.Rules.{NoCycle, OneLabel, must_edges};
 ghost use Rattle.xdg_propcore.specs.Passes.{Clears};
 ghost use Rattle.xdg_store.specs.States.{Known};
@@ -11,13 +11,13 @@ ghost use Rattle.xdg_pgraph.specs.Seeking.{Doubled};
 
 use crate::entered::entered_from;
 use crate::finding::joined;
-use crate::found::Which;
 use crate::incoming::{Incoming, are_settled};
 use crate::plane::Plane;
 use crate::reach::no_cycle;
 use crate::taking::forbid_joined;
 use crate::tree::{for_others, for_root, one_mother};
 use xdg_base::NodeId;
+use xdg_graph::Which;
 use xdg_nodeset::NodeSet;
 use xdg_propcore::{Moved, Pass};
 use xdg_store::Store;

@@ -8,9 +8,10 @@ ghost use Rattle.xdg_pgraph.specs.Seeking.{Aims, FromTo, Only, ToNode, ToWith};
 ghost use Rattle.xdg_pgraph.specs.Planes.{IsPlane};
 
 use crate::finding::entering;
-use crate::found::{Found, Which};
+use crate::found::Found;
 use crate::plane::Plane;
 use xdg_base::{LabelId, NodeId};
+use xdg_graph::Which;
 use xdg_propcore::Pass;
 use xdg_store::Store;
 

@@ -13,11 +13,12 @@ ghost use Rattle.xdg_pgraph.specs.Seeking.{Aims, NoneOnly, ToNode};
 
 use crate::entered::{Roots, find_roots};
 use crate::finding::entering;
-use crate::found::{Found, Which};
+use crate::found::Found;
 use crate::incoming::Incoming;
 use crate::plane::Plane;
 use crate::taking::{forbid_entering, force_entering};
 use xdg_base::NodeId;
+use xdg_graph::Which;
 use xdg_nodeset::NodeSet;
 use xdg_propcore::Pass;
 use xdg_store::Store;

@@ -1,4 +1,4 @@
-use Rattle.xdg_pgraph.specs.declared.found.Which.TheVariants as whichs
+use Rattle.xdg_graph.specs.declared.which.Which.TheVariants as whichs
 use Rattle.xdg_pgraph.proofs.Ends.{out_told}
 use Rattle.xdg_pgraph.proofs.bundle.far_daughters.Goals as goal
 use Rattle.xdg_facts.specs.Rises.{has}

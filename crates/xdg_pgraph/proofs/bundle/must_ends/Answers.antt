@@ -1,5 +1,5 @@
 use Rattle.std.proofs.Common.{sym, subst}
-use Rattle.xdg_pgraph.specs.declared.found.Which.TheVariants as whichs
+use Rattle.xdg_graph.specs.declared.which.Which.TheVariants as whichs
 use Rattle.xdg_pgraph.proofs.Ends.{TellsEnds, out_told, in_told}
 use Rattle.xdg_pgraph.proofs.bundle.must_ends.Goals as goal
 use Rattle.xdg_facts.specs.Rises.{has}

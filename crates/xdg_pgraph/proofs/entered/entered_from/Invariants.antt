@@ -1,5 +1,5 @@
 use Rattle.xdg_pgraph.specs.Entering.{Tells}
-use Rattle.xdg_pgraph.specs.Seeking.{edges_of}
+use Rattle.xdg_graph.specs.Edges.{edges_of}
 use Rattle.xdg_pgraph.proofs.Told.{LeavingBelow}
 use Rattle.xdg_pgraph.proofs.entered.entered_from.Given as goal
 

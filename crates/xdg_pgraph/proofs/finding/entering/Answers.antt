@@ -1,5 +1,5 @@
 use Rattle.std.proofs.Common.{◌+◌, arith}
-use Rattle.xdg_pgraph.specs.Seeking.{edges_of}
+use Rattle.xdg_graph.specs.Edges.{edges_of}
 use Rattle.xdg_pgraph.proofs.Searched.{into_two, into_turn, into_end}
 use Rattle.xdg_pgraph.proofs.finding.entering.Goals as goal
 

@@ -1,6 +1,6 @@
 use Rattle.std.proofs.Common.{◌↔◌, sym, subst}
 use Rattle.std.specs.Prelude.{IsTrue, Contains}
-use Rattle.xdg_pgraph.specs.Seeking.{edges_of}
+use Rattle.xdg_graph.specs.Edges.{edges_of}
 use Rattle.xdg_pgraph.proofs.PlaneFacts.{among_may, among_must}
 use Rattle.xdg_pgraph.proofs.finding.is_among.Goals as goal
 

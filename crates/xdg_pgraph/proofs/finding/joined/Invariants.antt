@@ -1,4 +1,5 @@
-use Rattle.xdg_pgraph.specs.Seeking.{Finds, edges_of}
+use Rattle.xdg_graph.specs.Edges.{edges_of}
+use Rattle.xdg_pgraph.specs.Seeking.{Finds}
 use Rattle.xdg_pgraph.proofs.Searched.{JoinsBelow}
 use Rattle.xdg_pgraph.proofs.finding.joined.Given as goal
 

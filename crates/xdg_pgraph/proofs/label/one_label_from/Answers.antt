@@ -3,7 +3,7 @@ use Rattle.std.proofs.lemmas.Bool.{and_parts}
 use Rattle.xdg_rules.specs.Rules.{must_edges}
 use Rattle.xdg_store.specs.States.{Known}
 use Rattle.xdg_propcore.specs.Passes.{Clears}
-use Rattle.xdg_pgraph.specs.declared.found.Which.TheVariants as whichs
+use Rattle.xdg_graph.specs.declared.which.Which.TheVariants as whichs
 use Rattle.xdg_pgraph.specs.Planes.{IsPlane}
 use Rattle.xdg_pgraph.specs.Ruling.{RunsFor, OneLabelOf}
 use Rattle.xdg_pgraph.specs.Seeking.{Doubled}

@@ -8,7 +8,7 @@ use Rattle.xdg_problem.specs.declared.analysis.Edge.{Edge}
 use Rattle.xdg_problem.proofs.PlaceOrder.{is_place}
 use Rattle.xdg_graph.proofs.Ahead.{ahead_here, ahead_next, ahead_start}
 use Rattle.xdg_propcore.specs.Passes.{Clears}
-use Rattle.xdg_pgraph.specs.declared.found.Which.TheVariants as whichs
+use Rattle.xdg_graph.specs.declared.which.Which.TheVariants as whichs
 use Rattle.xdg_pgraph.specs.Seeking.{IsOther}
 use Rattle.xdg_pgraph.proofs.Ends.{in_told}
 use Rattle.xdg_pgraph.proofs.Mothers.{mothers_end, mothers_left, mothers_start, mothers_taken}

@@ -7,7 +7,7 @@ use Rattle.xdg_rules.specs.Rules.{IsGreatest, IsLeast}
 use Rattle.xdg_pgraph.specs.Allowances.{HasClasses}
 use Rattle.xdg_pgraph.specs.Bundles.{edge_to, numbers_of}
 use Rattle.xdg_pgraph.specs.Planes.{IsPlane}
-use Rattle.xdg_pgraph.specs.declared.found.Which.TheVariants as whichs
+use Rattle.xdg_graph.specs.declared.which.Which.TheVariants as whichs
 use Rattle.xdg_pgraph.proofs.Bundled.{bundle_swept}
 use Rattle.xdg_pgraph.proofs.Clearing.{none_barred, wanted_nowhere}
 use Rattle.xdg_pgraph.proofs.Ends.{which_counted}

@@ -1,7 +1,7 @@
 use Rattle.std.proofs.Common.{◌≡◌, true, subst, sym, arith}
 use Rattle.std.proofs.lemmas.Bool.{false≢true}
 use Rattle.xdg_pgraph.specs.Bundles.{HasFarNodes}
-use Rattle.xdg_pgraph.specs.declared.found.Which.TheVariants as whichs
+use Rattle.xdg_graph.specs.declared.which.Which.TheVariants as whichs
 use Rattle.xdg_pgraph.proofs.Ends.{none_behind}
 use Rattle.xdg_pgraph.proofs.bundle.FarNodes.of.Goals as goal
 use Rattle.xdg_facts.specs.Rises.{has}

@@ -1,5 +1,5 @@
 use Rattle.std.proofs.Common.{arith}
-use Rattle.xdg_pgraph.specs.declared.found.Which.TheVariants as whichs
+use Rattle.xdg_graph.specs.declared.which.Which.TheVariants as whichs
 use Rattle.xdg_pgraph.proofs.Sources.{count_turn}
 use Rattle.xdg_pgraph.proofs.Told.{all_end, all_start}
 use Rattle.xdg_pgraph.proofs.incoming.Incoming.of.Goals as goal

@@ -1,6 +1,6 @@
-use Rattle.xdg_pgraph.specs.declared.found.Which.TheVariants as whichs
+use Rattle.xdg_graph.specs.declared.which.Which.TheVariants as whichs
 use Rattle.xdg_pgraph.specs.Entering.{Tells}
-use Rattle.xdg_pgraph.specs.Seeking.{edges_of}
+use Rattle.xdg_graph.specs.Edges.{edges_of}
 use Rattle.xdg_pgraph.proofs.Told.{ToBelow}
 use Rattle.xdg_pgraph.proofs.incoming.Incoming.of.Given as goal
 
