@@ -13,7 +13,7 @@ use Rattle.xdg_ast.specs.declared.grammar.DimPartKind.TheVariants as d
 use Rattle.xdg_ast.specs.declared.grammar.StatementKind.{StatementKind}
 use Rattle.xdg_ast.specs.declared.grammar.StatementKind.TheVariants as s
 use Rattle.xdg_ast.specs.declared.grammar.Grammar.{Grammar}
-use Rattle.xdg_names.specs.Spelling.{keywords, quoted}
+use Rattle.xdg_base.specs.Spelling.{keywords, quoted}
 use Rattle.xdg_ast.specs.Language.{Kinds, number, is, ◌or◌}
 use Rattle.xdg_ast.specs.Grammar.{Params, params_of}
 use Rattle.xdg_ast.specs.Words.{Word, mark}

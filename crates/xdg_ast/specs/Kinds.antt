@@ -1,6 +1,6 @@
 -- The kinds of signs and names.
 use Rattle.std.specs.Prelude.{ℕ, Option, Some, None, List, [], ◌∷◌, bytes_eq, if◌then◌else◌, ◌==◌, unwrap_or}
-use Rattle.xdg_names.specs.Spelling.{keywords}
+use Rattle.xdg_base.specs.Spelling.{keywords}
 use Rattle.xdg_ast.specs.declared.token.Kind.{Kind}
 use Rattle.xdg_ast.specs.declared.token.Kind.TheVariants as kinds
 

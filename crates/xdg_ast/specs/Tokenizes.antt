@@ -4,7 +4,7 @@ use Rattle.std.specs.Char.{is_whitespace, is_ascii_digit, len_utf8}
 use Rattle.std.specs.Str.{chars, IsUtf8, encode_utf8_all}
 use Rattle.xdg_ast.specs.declared.token.Kind.{Kind}
 use Rattle.xdg_ast.specs.declared.token.Kind.TheVariants as kinds
-use Rattle.xdg_names.specs.Spelling.{begins_name, continues_name, is_escaped}
+use Rattle.xdg_base.specs.Spelling.{begins_name, continues_name, is_escaped}
 use Rattle.xdg_ast.specs.Kinds.{sign_of, refined}
 use Rattle.xdg_ast.specs.Lexemes.{Lexeme, lexeme}
 

@@ -4,7 +4,7 @@ use Rattle.xdg_ast.specs.declared.token.Kind.{Kind}
 use Rattle.xdg_ast.specs.declared.token.Kind.TheVariants as k
 use Rattle.xdg_ast.specs.Lexemes.{Lexeme}
 use Rattle.xdg_ast.specs.Contents.{content_of, value_of}
-use Rattle.xdg_names.specs.Spelling.{is_name}
+use Rattle.xdg_base.specs.Spelling.{is_name}
 use Rattle.xdg_ast.specs.Language.{is}
 use Rattle.xdg_ast.specs.Grammar.{is_constant}
 

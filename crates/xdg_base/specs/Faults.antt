@@ -1,6 +1,7 @@
--- The number and the name of each fault, and which faults tell a number reached.
+-- The number and the name of each fault, which faults tell a number reached, and a fault that tells none.
 use Rattle.std.specs.Prelude.{ℕ, Bool, true, false, List, codes}
 use Rattle.xdg_base.specs.declared.faults.Cause.{Cause}
+use Rattle.xdg_base.specs.declared.faults.Fault.{Fault}
 use Rattle.xdg_base.specs.declared.faults.Cause.TheVariants as causes
 
 abbrev pub number_of : Cause → ℕ
@@ -76,3 +77,7 @@ tells_reached causes.TooManyRules = true
 tells_reached causes.TooNested = true
 tells_reached causes.ArrangeLimit = true
 tells_reached _ = false
+
+-- a fault at a place that tells no number reached
+abbrev pub fault_at : Cause → ℕ → Fault
+fault_at cause place = record { cause = cause; at = place; reached = 0 }

@@ -6,7 +6,7 @@ use Rattle.xdg_base.specs.declared.faults.Cause.TheVariants as causes
 use Rattle.xdg_ast.specs.declared.token.Kind.{Kind}
 use Rattle.xdg_ast.specs.declared.token.Kind.TheVariants as kinds
 use Rattle.xdg_lex.specs.declared.pieces.Mode.TheVariants as in_
-use Rattle.xdg_names.specs.Spelling.{begins_name}
+use Rattle.xdg_base.specs.Spelling.{begins_name}
 use Rattle.xdg_ast.specs.Kinds.{sign_of}
 use Rattle.xdg_lex.specs.Pieces.{begins, sign_begins, refusal, inside}
 use Rattle.xdg_lex.specs.Offends.{BeginsNothing}

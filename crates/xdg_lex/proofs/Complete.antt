@@ -12,7 +12,7 @@ use Rattle.xdg_ast.specs.declared.token.Kind.TheVariants as kinds
 use Rattle.xdg_lex.specs.declared.pieces.Inside.{Inside}
 use Rattle.xdg_lex.specs.declared.pieces.Mode.{Mode}
 use Rattle.xdg_lex.specs.declared.pieces.Mode.TheVariants as in_
-use Rattle.xdg_names.specs.Spelling.{begins_name, continues_name}
+use Rattle.xdg_base.specs.Spelling.{begins_name, continues_name}
 use Rattle.xdg_lex.specs.Pieces.{goes_on, begins, ends, ends_quoted, escaped_rightly, refusal, too_long, inside}
 use Rattle.xdg_lex.specs.Lexed.{Lexed, run, before, ended, begun, turned}
 use Rattle.xdg_ast.specs.Lexemes.{Lexeme, lexeme}

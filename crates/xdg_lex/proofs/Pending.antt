@@ -12,7 +12,7 @@ use Rattle.xdg_lex.specs.declared.pieces.Mode.{Mode}
 use Rattle.xdg_lex.specs.declared.pieces.Mode.TheVariants as in_
 use Rattle.xdg_lex.specs.declared.pieces.Turn.{Turn}
 use Rattle.xdg_lex.specs.declared.pieces.Turn.TheVariants as turns
-use Rattle.xdg_names.specs.Spelling.{begins_name, continues_name}
+use Rattle.xdg_base.specs.Spelling.{begins_name, continues_name}
 use Rattle.xdg_ast.specs.Kinds.{sign_of}
 use Rattle.xdg_lex.specs.Pieces.{goes_on, digit_goes_on, quoted_goes_on, escape_goes_on, line_goes_on, comment_goes_on, star_goes_on, begins, sign_begins, refusal, inside}
 use Rattle.xdg_ast.specs.Tokenizes.{size_of, EachPasses, StopsBefore, HasNoClose, IsGap, white, line, closed, IsInside, nothing, plain, escaped, stray, value_after, greatest_number, is_no_line_feed}

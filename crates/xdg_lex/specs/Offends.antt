@@ -8,7 +8,7 @@ use Rattle.xdg_base.specs.declared.faults.Stop.{Stop}
 use Rattle.xdg_base.specs.declared.faults.Stop.TheVariants as stops
 use Rattle.xdg_ast.specs.declared.token.Kind.{Kind}
 use Rattle.xdg_ast.specs.declared.token.Token.{Token}
-use Rattle.xdg_names.specs.Spelling.{begins_name, continues_name}
+use Rattle.xdg_base.specs.Spelling.{begins_name, continues_name}
 use Rattle.xdg_ast.specs.Kinds.{sign_of}
 use Rattle.xdg_lex.specs.Lexed.{Lexed}
 use Rattle.xdg_ast.specs.Lexemes.{lexemes_of}

@@ -7,8 +7,7 @@ ghost use Rattle.xdg_lex.specs.Pieces.{goes_on, begins, ends, ends_quoted};
 ghost use Rattle.xdg_lex.specs.Pieces.{refusal, counted, counted_after};
 
 use xdg_ast::{Kind, sign_of};
-use xdg_base::{Cause, Fault, Span};
-use xdg_names::{begins_name, continues_name};
+use xdg_base::{Cause, Fault, Span, begins_name, continues_name};
 
 /// How many bytes of content a name and a quoted text may have.
 const LONGEST: u32 = 127;

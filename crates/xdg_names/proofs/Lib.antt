@@ -9,5 +9,3 @@ pub mod Leaving
 pub mod Numbered
 pub mod Laws
 pub mod Texts
-pub mod Keywords
-pub mod Names

@@ -3,4 +3,3 @@ pub mod Leads
 pub mod Closing
 pub mod Walks
 pub mod Texts
-pub mod Spelling

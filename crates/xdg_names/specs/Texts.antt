@@ -1,10 +1,6 @@
 -- Texts by number.
-use Rattle.std.specs.Prelude.{◌≡◌, ℕ, suc, Bool, false, ◌||◌, if◌then◌else◌, List, [], ◌∷◌, Option, None, Some, option_map, bytes_eq}
-
--- whether a text stands among texts
-abbrev pub has_text : List (List ℕ) → List ℕ → Bool
-has_text [] text = false
-has_text (first ∷ texts) text = bytes_eq first text || has_text texts text
+use Rattle.std.specs.Prelude.{◌≡◌, ℕ, suc, false, if◌then◌else◌, List, [], ◌∷◌, Option, None, Some, option_map, bytes_eq}
+pub use Rattle.xdg_base.specs.Texts.{has_text}
 
 -- the place of the first of the texts that equals it, from 0
 abbrev pub place_of : List (List ℕ) → List ℕ → Option ℕ

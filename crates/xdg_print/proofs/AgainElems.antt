@@ -11,7 +11,7 @@ use Rattle.xdg_ast.specs.declared.terms.ElemKind.{ElemKind}
 use Rattle.xdg_ast.specs.declared.terms.ElemKind.TheVariants as e
 use Rattle.xdg_ast.specs.Language.{Language, is, token, nothing, both, made, behind}
 use Rattle.xdg_ast.specs.Grammar.{Params, CardTerm, is_among, is_constant, name_of, number_of, named, in_braces, inside, under, bracketed_names, card, gen, term_kind, term, elem_tail, elem_kind, elem, elems, keyed_term, terms, name}
-use Rattle.xdg_names.specs.Spelling.{is_name}
+use Rattle.xdg_base.specs.Spelling.{is_name}
 use Rattle.xdg_ast.specs.Words.{Word, word_of, mark, number, quoted, constant, IsShortText, IsSpellable}
 use Rattle.xdg_ast.specs.Trees.{name_word, names_words, card_words, gen_phrase, constant_in, term_words, elem_words, in_braces as braced_words, in_square_brackets as bracketed_words}
 use Rattle.xdg_ast.specs.Same.{nowhere, bare_part, bare_name, bare_names, bare_card, bare_gen, bare_elem, bare_term, bare_terms}

@@ -10,7 +10,7 @@ use Rattle.xdg_ast.specs.declared.names.Num.{Num}
 use Rattle.xdg_ast.specs.declared.names.Pair.{Pair}
 use Rattle.xdg_ast.specs.Language.{Language, is, token, many, both, behind}
 use Rattle.xdg_ast.specs.Grammar.{is_constant, name_of, num_of, name, names, num, nums}
-use Rattle.xdg_names.specs.Spelling.{is_name}
+use Rattle.xdg_base.specs.Spelling.{is_name}
 use Rattle.xdg_ast.specs.Words.{Word, word_of, mark, number as number_word, constant, IsShortText, IsSpellable}
 use Rattle.xdg_ast.specs.Trees.{name_word, names_words, nums_words, pair_words}
 use Rattle.xdg_ast.specs.Same.{bare_name, bare_names, bare_num, bare_pair}

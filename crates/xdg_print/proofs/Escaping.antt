@@ -5,8 +5,8 @@ use Rattle.std.specs.List.{flat_map}
 use Rattle.std.proofs.lemmas.Bool.{true≢false, false_from_ne_true}
 use Rattle.std.proofs.lemmas.Grind.{flat_map-append}
 use Rattle.std.proofs.lemmas.Str.{inside_one}
-use Rattle.xdg_names.specs.Spelling.{is_escaped, escaped}
-use Rattle.xdg_names.proofs.Names.{escaped_is, unescaped}
+use Rattle.xdg_base.specs.Spelling.{is_escaped, escaped}
+use Rattle.xdg_base.proofs.Names.{escaped_is, unescaped}
 
 -- a text with a backslash before each quotation mark and each backslash
 abbrev pub escape : List ℕ → List ℕ

@@ -5,7 +5,7 @@ use Rattle.std.specs.Str.{chars, all_scalars, encode_utf8_all}
 use Rattle.std.proofs.lemmas.Bool.{and_from, cond_both}
 use Rattle.std.proofs.lemmas.Str.{scalars-chars}
 use Rattle.xdg_ast.specs.declared.token.Kind.{Kind}
-use Rattle.xdg_names.specs.Spelling.{begins_name, continues_name}
+use Rattle.xdg_base.specs.Spelling.{begins_name, continues_name}
 use Rattle.xdg_ast.specs.Kinds.{sign_of}
 use Rattle.xdg_ast.specs.Lexemes.{Lexeme, lexeme}
 use Rattle.xdg_ast.specs.Tokenizes.{IsToken, name, number, quoted, sign, Tokenizes, finished, last_comment, gap, token, Spells}

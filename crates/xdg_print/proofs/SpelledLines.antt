@@ -4,7 +4,7 @@ use Rattle.std.specs.Prelude.{flat_map}
 use Rattle.std.specs.Char.{is_ascii, is_whitespace}
 use Rattle.std.proofs.lemmas.Bool.{cond_both, eqb-true}
 use Rattle.xdg_ast.specs.declared.token.Kind.{Kind}
-use Rattle.xdg_names.specs.Spelling.{continues_name}
+use Rattle.xdg_base.specs.Spelling.{continues_name}
 use Rattle.xdg_ast.specs.Lexemes.{Lexeme}
 use Rattle.xdg_ast.specs.Tokenizes.{size_of, EachPasses, StopsBefore, white, Tokenizes, finished, Spells}
 use Rattle.xdg_ast.specs.Tokenizes.{gap as token_gap}

@@ -7,8 +7,8 @@ use Rattle.std.specs.Str.{encode_utf8_all}
 use Rattle.std.proofs.lemmas.Bool.{and_parts, and_from, cond_both, true≢false}
 use Rattle.xdg_ast.specs.declared.token.Kind.{Kind}
 use Rattle.xdg_ast.specs.declared.token.Kind.TheVariants as k
-use Rattle.xdg_names.specs.Spelling.{keywords, is_keyword, begins_name, continues_name, is_name}
-use Rattle.xdg_names.specs.Texts.{has_text}
+use Rattle.xdg_base.specs.Spelling.{keywords, is_keyword, begins_name, continues_name, is_name}
+use Rattle.xdg_base.specs.Texts.{has_text}
 use Rattle.xdg_ast.specs.Kinds.{keyword_kinds, kind_among, keyword_of, refined}
 use Rattle.xdg_ast.specs.Language.{number}
 use Rattle.xdg_ast.specs.Lexemes.{Lexeme, lexeme}

@@ -6,7 +6,7 @@ use Rattle.std.proofs.lemmas.Bool.{and_parts, and_from, or_parts, cond_both, con
 use Rattle.std.proofs.lemmas.Grind.{flat_map-append}
 use Rattle.std.proofs.lemmas.Option.{none-some}
 use Rattle.std.proofs.lemmas.Str.{chars-encodes, encode_ascii, encodes-append, length-encode, len_utf8_ascii}
-use Rattle.xdg_names.specs.Spelling.{is_escaped, escaped as escaped_byte, quoted as quote}
+use Rattle.xdg_base.specs.Spelling.{is_escaped, escaped as escaped_byte, quoted as quote}
 use Rattle.xdg_ast.specs.declared.token.Kind.TheVariants as k
 use Rattle.xdg_ast.specs.Contents.{undone, unquoted}
 use Rattle.xdg_ast.specs.Lexemes.{lexeme}

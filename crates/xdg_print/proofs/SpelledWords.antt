@@ -7,7 +7,7 @@ use Rattle.std.proofs.Math.Logic.{inl, inr}
 use Rattle.std.proofs.lemmas.Bool.{and_parts, or_cases, or_left, or_right, true≢false, false_from_ne_true}
 use Rattle.xdg_ast.specs.declared.token.Kind.{Kind}
 use Rattle.xdg_ast.specs.declared.token.Kind.TheVariants as k
-use Rattle.xdg_names.specs.Spelling.{continues_name, quoted as quote}
+use Rattle.xdg_base.specs.Spelling.{continues_name, quoted as quote}
 use Rattle.xdg_ast.specs.Kinds.{sign_of, keyword_of, refined}
 use Rattle.xdg_ast.specs.Lexemes.{lexeme}
 use Rattle.xdg_ast.specs.Tokenizes.{StopsBefore, sign}

@@ -11,8 +11,7 @@ use crate::words::{is_tight, mark_text, push_escaped};
 use itoa::Buffer;
 use std::alloc::{AllocError, Global};
 use xdg_ast::{Kind, Name, Num, Params};
-use xdg_base::Text;
-use xdg_names::is_name;
+use xdg_base::{Text, is_name};
 
 /// The text so far, and the kind of the last word of its last line, if it has one.
 #[derive(Drop)]

@@ -3,7 +3,7 @@
 ghost use Rattle.std.specs.Prelude.{◌≡◌, ◌++◌, OnOk};
 ghost use Rattle.std.specs.Char.{encode_utf8};
 ghost use Rattle.std.specs.List.{flat_map};
-ghost use Rattle.xdg_names.specs.Spelling.{escaped};
+ghost use Rattle.xdg_base.specs.Spelling.{escaped};
 ghost use Rattle.xdg_ast.specs.Words.{mark};
 ghost use Rattle.xdg_ast.specs.Canon.{spelling, is_tight_behind, is_tight_before, takes_types, is_tight};
 ghost use Rattle.xdg_print.specs.Printed.{keyword_text};

@@ -8,7 +8,7 @@ use Rattle.xdg_reading.proofs.Fronts.{until_it, until_stands, it_stands, same_by
 use Rattle.xdg_reading.proofs.Insides.{plain_byte}
 use Rattle.xdg_reading.proofs.Steps.{pair, lead_found, Led, cond_either, cond_found, cond_left, after_found, past_found}
 use Rattle.xdg_facts.proofs.Options.{none_some, some_same}
-use Rattle.xdg_names.proofs.Names.{escaped_is, unescaped}
+use Rattle.xdg_base.proofs.Names.{escaped_is, unescaped}
 
 -- what ends a word: neither a mark nor a part of a name
 pub record IsEnd (end : ℕ) : Type 0 where

@@ -1,6 +1,6 @@
 -- What is wrong with a term where a type is wanted: one case for each rule, and the same inside its parts.
 use Rattle.std.specs.Prelude.{◌≡◌, ◌⊎◌, ℕ, ◌<◌, Bool, true, false, ◌||◌, List, [], ◌∷◌, ◌++◌, length, map, flat_map, Option, Some, None, codes}
-use Rattle.xdg_base.specs.declared.faults.Cause.{Cause}
+pub use Rattle.xdg_base.specs.Faults.{fault_at}
 use Rattle.xdg_base.specs.declared.faults.Cause.TheVariants as causes
 use Rattle.xdg_base.specs.declared.faults.Fault.{Fault}
 use Rattle.xdg_ast.specs.declared.names.Name.{Name}
@@ -16,9 +16,6 @@ use Rattle.xdg_domain.specs.Shapes.{in_a_row, names_of}
 use Rattle.xdg_terms.specs.Forms.{Term, Card, Bindings, Look, with_bound, with_open, constant_of, number_of, card_of, generator_of, bracket_of, constants_of}
 use Rattle.xdg_terms.specs.Forms.{brackets_of, counts_of, pairs_of}
 use Rattle.xdg_facts.specs.Membership.{In}
-
-abbrev pub fault_at : Cause → ℕ → Fault
-fault_at cause place = record { cause = cause; at = place; reached = 0 }
 
 -- ---- forms
 

@@ -10,7 +10,7 @@ use Rattle.xdg_problem.specs.declared.parts.Shown.TheVariants as shown
 use Rattle.xdg_problem.specs.declared.analysis.Analysis.{Analysis}
 use Rattle.xdg_problem.specs.Places.{edge}
 use Rattle.xdg_text.specs.Blocks.{block}
-use Rattle.xdg_names.specs.Spelling.{is_keyword}
+use Rattle.xdg_base.specs.Spelling.{is_keyword}
 use Rattle.xdg_text.specs.Constants.{constant}
 use Rattle.xdg_text.specs.Lines.{attr_line, fault_text, complete_line}
 use Rattle.xdg_text.specs.Values.{value_text}

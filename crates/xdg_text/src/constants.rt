@@ -5,8 +5,8 @@ ghost use Rattle.std.specs.List.{list_any, flat_map};
 ghost use Rattle.xdg_io.specs.Texts.{WritesText};
 ghost use Rattle.xdg_text.specs.Constants.{is_escaped, escaped, quoted, constant};
 
+use xdg_base::{is_escaped, is_name};
 use xdg_io::{Failed, Sink, write_all};
-use xdg_names::{is_escaped, is_name};
 
 /// Whether a byte of the text is escaped between quotation marks.
 fn has_escaped(bytes: &[u8]) -> bool

@@ -17,4 +17,4 @@ pub use form::Form;
 pub use kept::Kept;
 pub use lines::{Word, write_line};
 pub use pushing::push;
-pub use xdg_names::is_name;
+pub use xdg_base::is_name;

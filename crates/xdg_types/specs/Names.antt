@@ -1,6 +1,6 @@
 -- What is wrong with the names of dimensions and types.
 use Rattle.std.specs.Prelude.{◌≡◌, ◌⊎◌, ℕ, List, ◌∷◌, ◌++◌, flat_map, Option, None, Some}
-use Rattle.xdg_base.specs.declared.faults.Cause.{Cause}
+pub use Rattle.xdg_base.specs.Faults.{fault_at}
 use Rattle.xdg_base.specs.declared.faults.Cause.TheVariants as causes
 use Rattle.xdg_base.specs.declared.faults.Fault.{Fault}
 use Rattle.xdg_ast.specs.declared.names.Name.{Name}
@@ -10,9 +10,6 @@ use Rattle.xdg_types.specs.Written.{tree, uses, lists}
 use Rattle.xdg_types.specs.Parts.{TypeTerm, DimPart, Statement, Dimension, dimensions, dim_names, used_names, defined_names, types}
 use Rattle.xdg_facts.specs.Membership.{In}
 use Rattle.xdg_ast.specs.Texts.{texts}
-
-abbrev pub fault_at : Cause → ℕ → Fault
-fault_at cause place = record { cause = cause; at = place; reached = 0 }
 
 -- a dimension is used that no statement defines
 pub record IsUnknownDimension (statements : List Statement) (f : Fault) : Type 0 where

@@ -2,7 +2,7 @@ use Rattle.std.proofs.Common.{◌≡◌, ◌==◌, false, arith, ◌∙◌, sym}
 use Rattle.std.specs.Char.{encode_utf8}
 use Rattle.std.specs.List.{flat_map}
 use Rattle.std.proofs.lemmas.Bool.{or_from}
-use Rattle.xdg_names.specs.Spelling.{escaped}
+use Rattle.xdg_base.specs.Spelling.{escaped}
 use Rattle.xdg_print.proofs.Escaping.{character_kept}
 use Rattle.xdg_print.proofs.words.push_character.Goals as goal
 

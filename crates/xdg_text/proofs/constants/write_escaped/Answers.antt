@@ -1,7 +1,7 @@
 use Rattle.std.proofs.Common.{◌≡◌, ◌∙◌, ap, sym}
 use Rattle.std.specs.List.{flat_map}
 use Rattle.xdg_text.specs.Constants.{escaped}
-use Rattle.xdg_names.proofs.Names.{nothing_escaped}
+use Rattle.xdg_base.proofs.Names.{nothing_escaped}
 use Rattle.xdg_text.proofs.constants.write_escaped.Goals as goal
 
 pub returns-else-has_escaped : goal.returns-else-has_escaped

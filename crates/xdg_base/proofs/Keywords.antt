@@ -1,13 +1,15 @@
 -- Whether a text is a keyword, by its length.
 use Rattle.std.proofs.Common.{◌≡◌, ◌≢◌, ◌∙◌, ℕ, ◌==◌, List, [], ◌∷◌, Bool, true, false, ◌||◌, cond, length, filter, bytes_eq, ap, sym, refl, arith}
 use Rattle.std.specs.List.{AllByRecursion}
-use Rattle.xdg_facts.proofs.Truths.{or_false}
-use Rattle.xdg_facts.proofs.Texts.{either_way, other_test}
-use Rattle.xdg_names.specs.Spelling.{is_keyword, keywords}
-use Rattle.xdg_names.specs.Texts.{has_text}
+use Rattle.std.proofs.Math.Bool.{or-false}
+use Rattle.std.proofs.lemmas.Bool.{false_from_ne_true}
+use Rattle.std.proofs.lemmas.Bool.Decides.{same_from_decides, Decides-like}
+use Rattle.std.proofs.lemmas.Slice.Eq.{bytes_eq-Decides}
+use Rattle.xdg_base.specs.Spelling.{is_keyword, keywords}
+use Rattle.xdg_base.specs.Texts.{has_text}
 
 other : (text word : List ℕ) → text ≢ word → bytes_eq word text ≡ false
-other text word differ = other_test word text (λ e. differ (sym e))
+other text word differ = false_from_ne_true (bytes_eq word text) (λ e. differ (sym ((bytes_eq-Decides word text).0 e)))
 
 none_of : (text : List ℕ) (words : List (List ℕ)) → AllByRecursion (λ word. text ≢ word) words → has_text words text ≡ false
 none_of text [] differ = refl
@@ -33,7 +35,7 @@ none_at text n is differ = sym (by_length text n is keywords ∙ none_of text (f
 pub one_at : (text word : List ℕ) (n : ℕ) (result : Bool) → length text ≡ n → filter (λ other. length other == n) keywords ≡ word ∷ [] → result ≡ bytes_eq text word → result ≡ is_keyword text
 unfolding is_keyword
 one_at text word n result is one asked =
-    asked ∙ either_way text word ∙ sym (by_length text n is keywords ∙ ap (λ words. has_text words text) one ∙ or_false (bytes_eq word text))
+    asked ∙ same_from_decides (bytes_eq text word) (bytes_eq word text) (bytes_eq-Decides text word) (Decides-like (bytes_eq word text) sym sym (bytes_eq-Decides word text)) ∙ sym (by_length text n is keywords ∙ ap (λ words. has_text words text) one ∙ or-false (bytes_eq word text))
 
 unlike : (text : List ℕ) (words : List (List ℕ)) → AllByRecursion (λ word. length text ≢ length word) words → has_text words text ≡ false
 unlike text [] differ = refl

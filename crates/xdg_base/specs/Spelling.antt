@@ -2,7 +2,7 @@
 use Rattle.std.specs.Prelude.{ℕ, ◌==◌, ◌&&◌, ◌||◌, Bool, false, List, [], ◌∷◌, ◌++◌, cond, not, codes}
 use Rattle.std.specs.Char.{is_ascii_alphabetic, is_ascii_alphanumeric}
 use Rattle.std.specs.List.{flat_map, list_all}
-use Rattle.xdg_names.specs.Texts.{has_text}
+use Rattle.xdg_base.specs.Texts.{has_text}
 
 -- the keywords of grammars
 abbrev pub keywords : List (List ℕ)

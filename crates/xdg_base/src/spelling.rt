@@ -2,7 +2,7 @@
 
 ghost use Rattle.std.specs.Prelude.{◌≡◌};
 ghost use Rattle.std.specs.List.{list_all};
-ghost use Rattle.xdg_names.specs.Spelling.{is_keyword, begins_name, continues_name, is_name, is_escaped};
+ghost use Rattle.xdg_base.specs.Spelling.{is_keyword, begins_name, continues_name, is_name, is_escaped};
 
 /// Whether a text is a keyword of grammars. It is compared with those of its length alone.
 #[tactic(auto, unfolding(crate::specs::Spelling::is_keyword))]

@@ -1,7 +1,7 @@
 use Rattle.std.proofs.Common.{◌≢◌, arith, length, refl}
 use Rattle.std.specs.Prelude.{codes}
-use Rattle.xdg_names.proofs.Keywords.{none_at, one_at, too_long}
-use Rattle.xdg_names.proofs.spelling.is_keyword.Goals as goal
+use Rattle.xdg_base.proofs.Keywords.{none_at, one_at, too_long}
+use Rattle.xdg_base.proofs.spelling.is_keyword.Goals as goal
 
 pub returns-in_default-matches : goal.returns-in_default-matches
 returns-in_default-matches c =
