@@ -1,3 +1,4 @@
 pub mod AloneProblem
 pub mod Binary
 pub mod Graphs
+pub mod Removing

@@ -102,6 +102,16 @@ fn remove_entry(store: &mut Store, node: u8, place: u16) -> Change
     store.remove_entry(NodeId(node), place)
 }
 
+// Of the candidates of a node those whose bits are set.
+#[tactic(auto, using(xdg_store::proofs::Small::has_candidate, crate::proofs::Removing::all_parts_stay))]
+fn remove_entries(store: &mut Store, node: u8, taken: u64) -> Change
+    requires parts { store.old.parts ≡ small }
+    requires node { node < 2 }
+    ensures parts { store.new.parts ≡ small }
+{
+    store.remove_entries(NodeId(node), 0, taken)
+}
+
 #[tactic(auto, using(xdg_store::proofs::Small::has_value, xdg_store::proofs::Leaving::parts_stay, xdg_store::proofs::Leaving::history_stays))]
 fn remove_value(store: &mut Store, node: u8, value: u16) -> Change
     requires parts { store.old.parts ≡ small }
@@ -170,5 +180,19 @@ fn removals_are_undone(rt: HostRuntime) -> Result<(), Fail> {
     store.undo(mark);
     assert!(rt; !store.is_single());
     assert_eq!(rt; counts(&store, 1), (1, 0, 1, 0));
+    Ok(())
+}
+
+#[test]
+fn several_are_removed_at_once(rt: HostRuntime) -> Result<(), Fail> {
+    let alloc = rt.alloc();
+    let problem = problem(alloc)?;
+    let mut store = Store::start(alloc, &problem)?;
+    assert_eq!(rt; remove_entries(&mut store, 1, 3), Change::Emptied);
+    assert_eq!(rt; remove_entries(&mut store, 1, 4), Change::Same);
+    assert_eq!(rt; remove_entries(&mut store, 1, 6), Change::Changed);
+    assert_eq!(rt; remove_entries(&mut store, 1, 6), Change::Same);
+    assert_eq!(rt; remove_entries(&mut store, 1, 1), Change::Emptied);
+    assert_eq!(rt; remove_entry(&mut store, 1, 1), Change::Same);
     Ok(())
 }
