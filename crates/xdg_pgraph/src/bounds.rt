@@ -1,12 +1,12 @@
 //! The numbers of edges that entries allow.
 
 ghost use Rattle.std.specs.List.Sorted.{IsStrictlyIncreasing};
-ghost use Rattle.std.specs.Prelude.{◌≡◌, ◌<◌, ◌≤◌, ◌↔◌, ◌⊎◌, ◌^◌, ℕ, List, [], IsTrue, All, false, length, slice_index_or};
+ghost use Rattle.std.specs.Prelude.{◌≡◌, ◌<◌, ◌≤◌, ◌↔◌, ◌⊎◌, ◌^◌, ℕ, [], IsTrue, All, false, length, slice_index_or};
 ghost use Rattle.xdg_problem.specs.Places.{nodes};
 ghost use Rattle.xdg_rules.specs.Rules.{HasNoneWithin, IsGreatest, IsLeast};
 ghost use Rattle.xdg_store.specs.States.{Known};
 ghost use Rattle.xdg_pgraph.specs.Allowances.{AreClasses, HasClasses, Keeps};
-ghost use Rattle.xdg_pgraph.specs.Bounding.{AreBarred, NoneBarred, Spans, TellsAll, Widens};
+ghost use Rattle.xdg_pgraph.specs.Bounding.{AreBarred, NoneBarred, TellsAll, Widens};
 ghost use Rattle.xdg_pgraph.specs.Bundles.{numbers_of};
 
 use crate::allowances::Class;
@@ -75,16 +75,6 @@ impl Allowed {
         Allowed {
             least: u32::MAX,
             behind: 0,
-        }
-    }
-
-    /// What these and those allow that allow some numbers.
-    fn merged(self, other: Allowed) -> Allowed
-        ensures { (numbers : List ℕ) → Spans numbers other → Widens numbers self result }
-    {
-        Allowed {
-            least: self.least.min(other.least),
-            behind: self.behind.max(other.behind),
         }
     }
 
@@ -229,17 +219,24 @@ fn by_classes(
     ensures { TellsAll group.now bundle least most store.now.now result }
 {
     let remain = store.first_entries(NodeId(bundle.node));
-    let mut looked = Looked::none();
+    let mut first = u32::MAX;
+    let mut behind = 0u32;
+    let mut barred = false;
     for class in classes {
         if class.entries & remain == 0 {
             continue;
         }
-        looked = Looked {
-            allowed: looked.allowed.merged(class.allowed),
-            barred: with_class_barred(looked.barred, group, bundle, class, least, most),
-        };
+        first = first.min(class.allowed.least);
+        behind = behind.max(class.allowed.behind);
+        barred = with_class_barred(barred, group, bundle, class, least, most);
     }
-    looked
+    Looked {
+        allowed: Allowed {
+            least: first,
+            behind,
+        },
+        barred,
+    }
 }
 
 /// The entries of a bundle's node, by its classes, that allow no number from one to another, which isn't less: a bit for each, the first at the lowest.
