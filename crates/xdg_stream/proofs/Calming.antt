@@ -7,9 +7,8 @@ use Rattle.xdg_problem.specs.declared.analysis.Edge.{Edge}
 use Rattle.xdg_problem.specs.declared.parts.Parts.{Parts}
 use Rattle.xdg_propcore.specs.Steps.{Extends}
 use Rattle.xdg_store.specs.States.{State}
-use Rattle.xdg_stream.specs.Fronted.{HasFront}
 use Rattle.xdg_stream.specs.Levels.{AreAll}
-use Rattle.xdg_stream.proofs.Pushing.{has_levels, top_in}
+use Rattle.xdg_stream.proofs.Pushing.{Top, has_levels, mark_in}
 
 module _ (Calm : Parts → List (List Bool) → Type 0) where
   -- ---- more fronts, and fewer
@@ -47,27 +46,27 @@ module _ (Calm : Parts → List (List Bool) → Type 0) where
 
   -- ---- back to the last one
 
-  module _ (old mid : State) (edge_places : List Edge) (marks numbers : List ℕ) (mark_room number_room at : ℕ) (has : HasFront old.parts old.history edge_places marks numbers mark_room number_room) (is : at + 1 ≡ length marks) (same : mid.parts ≡ old.parts) (now_is : mid.now ≡ slice_index_or old.history (slice_index marks at) []) (undone : mid.history ≡ take (slice_index marks at + 1) old.history) (all : AreAll Calm old.parts old.history marks) where
+  module _ {old mid : State} {edge_places : List Edge} {marks numbers : List ℕ} {mark_room number_room at mark : ℕ} (top : Top old mid edge_places marks numbers mark_room number_room at mark) (all : AreAll Calm old.parts old.history marks) where
     below : (k : ℕ) → k < length marks → slice_index marks k ≤ slice_index marks at
-    below k l = (has_levels old mid edge_places marks numbers mark_room number_room at has is).rising k at (omega (arith, l, is)) (omega (arith, is))
+    below k l = (let is = top.is in (has_levels top).rising k at (omega (arith, l, is)) (omega (arith, is)))
 
     pub calm_undone : AreAll Calm mid.parts mid.history marks
     calm_undone k l =
         let b = below k l in
-        let box : slice_index_or mid.history (slice_index marks k) [] ≡ slice_index_or old.history (slice_index marks k) [] = ap (λ g. slice_index_or g (slice_index marks k) []) undone ∙ get_or-take (slice_index marks at + 1) old.history (slice_index marks k) [] (omega (arith, b)) in
-        subst (Calm mid.parts) (sym box) (subst (λ q. Calm q (slice_index_or old.history (slice_index marks k) [])) (sym same) (all k l))
+        let box : slice_index_or mid.history (slice_index marks k) [] ≡ slice_index_or old.history (slice_index marks k) [] = ap (λ g. slice_index_or g (slice_index marks k) []) top.undone ∙ get_or-take (slice_index marks at + 1) old.history (slice_index marks k) [] (omega (arith, b)) in
+        subst (Calm mid.parts) (sym box) (subst (λ q. Calm q (slice_index_or old.history (slice_index marks k) [])) (sym top.same) (all k l))
 
     pub calm_top : Calm mid.parts mid.now
-    calm_top = subst (Calm mid.parts) (sym now_is) (subst (λ q. Calm q (slice_index_or old.history (slice_index marks at) [])) (sym same) (all at (omega (arith, is))))
+    calm_top = (let is = top.is in subst (Calm mid.parts) (sym top.now_is) (subst (λ q. Calm q (slice_index_or old.history (slice_index marks at) [])) (sym top.same) (all at (omega (arith, is)))))
 
-    pub calm_at_top : (mark : ℕ) → mark ≡ slice_index marks at → Calm mid.parts (slice_index_or mid.history mark [])
-    calm_at_top mark m = subst (λ i. Calm mid.parts (slice_index_or mid.history i [])) (sym m) (calm_undone at (omega (arith, is)))
+    pub calm_at_top : Calm mid.parts (slice_index_or mid.history mark [])
+    calm_at_top = (let is = top.is in subst (λ i. Calm mid.parts (slice_index_or mid.history i [])) (sym top.mark_is) (calm_undone at (omega (arith, is))))
 
     -- later boxes change nothing
     pub calm_grown : (new : State) → Extends mid new → AreAll Calm new.parts new.history marks
     calm_grown new extends k l =
         let b = below k l in
-        let top = top_in old mid edge_places marks numbers mark_room number_room at has is in
-        let long : length mid.history ≡ slice_index marks at + 1 = ap length undone ∙ length-take-le (slice_index marks at + 1) old.history (omega (arith, top)) in
+        let within = mark_in top in
+        let long : length mid.history ≡ slice_index marks at + 1 = ap length top.undone ∙ length-take-le (slice_index marks at + 1) old.history (omega (arith, within)) in
         let box : slice_index_or new.history (slice_index marks k) [] ≡ slice_index_or mid.history (slice_index marks k) [] = ap (λ g. slice_index_or g (slice_index marks k) []) extends.grown ∙ get_or_append_left mid.history extends.more [] (slice_index marks k) (omega (arith, b, long)) in
         subst (Calm new.parts) (sym box) (subst (λ q. Calm q (slice_index_or mid.history (slice_index marks k) [])) (sym extends.same) (calm_undone k l))

@@ -9,6 +9,7 @@ pub mod Progressing
 pub mod Wanted
 pub mod Ended
 pub mod Named
+pub mod OtherValues
 pub mod Restricting
 pub mod Longer
 pub mod Sized

@@ -9,7 +9,7 @@ use Rattle.xdg_problem.specs.declared.parts.DimPlan.{DimPlan}
 use Rattle.xdg_problem.specs.declared.parts.Parts.{Parts}
 use Rattle.xdg_problem.specs.Analyses.{Before, IsPlace}
 use Rattle.xdg_problem.specs.Arguments.{no_plan, attr_count}
-use Rattle.xdg_problem.specs.Boxes.{attr_decision, edge_decision, place_in}
+use Rattle.xdg_problem.specs.Boxes.{entry_decision, attr_decision, edge_decision, place_in}
 use Rattle.xdg_problem.specs.Places.{nodes, numbers_from, places}
 use Rattle.xdg_problem.specs.Problems.{IsProblem}
 use Rattle.xdg_problem.specs.Vectors.{attr_sizes, shape, first_place}
@@ -17,9 +17,9 @@ use Rattle.xdg_problem.proofs.Edges.{same_edge_itself, before_apart}
 use Rattle.xdg_problem.proofs.Ordered.{Ordered, each_at, numbers_length}
 use Rattle.xdg_problem.proofs.PlaceOrder.{is_place, place_is, places_ordered}
 use Rattle.xdg_problem.proofs.VectorFacts.{length_shape}
-use Rattle.xdg_store.specs.InRange.{HasValue}
+use Rattle.xdg_store.specs.InRange.{HasCandidate, HasValue}
 use Rattle.xdg_store.specs.Layout.{bits_of}
-use Rattle.xdg_store.proofs.Located.{Located, attr_located}
+use Rattle.xdg_store.proofs.Located.{Located, attr_located, entry_located}
 use Rattle.xdg_store.proofs.Sizes.{bits_sizes}
 use Rattle.xdg_rules.proofs.Sizes.{edge_size}
 use Rattle.xdg_facts.proofs.Numbers.{some_after}
@@ -33,6 +33,12 @@ located_size parts d start count at =
     ∙ get_or-map length (bits_of parts) d [] 0 at.within
     ∙ ap length at.is
     ∙ numbers_length start count
+
+pub has_candidate : (parts : Parts) (node place : ℕ) → IsProblem parts → node < nodes parts → place < slice_index (shape parts) (entry_decision node) → HasCandidate parts node place
+has_candidate parts node place is l v = record {
+  node_in = l;
+  place_in = subst (λ n. place < n) (located_size parts (entry_decision node) _ _ (entry_located parts is.candidates_each node l)) v;
+}
 
 pub has_value : (parts : Parts) (node dim attr value : ℕ) → IsProblem parts → (dim < length parts.dims) × (node < nodes parts) × (attr < attr_count parts dim) → value < slice_index (shape parts) (attr_decision parts dim node attr) → HasValue parts node dim attr value
 has_value parts node dim attr value is l v = record {

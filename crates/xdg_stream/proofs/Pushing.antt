@@ -23,66 +23,105 @@ use Rattle.xdg_stream.proofs.Sized.{fits_last}
 moved : (parts other : Parts) (history : List (List (List Bool))) (edge_places : List Edge) (marks numbers : List ℕ) (mark_room number_room : ℕ) → other ≡ parts → edge_places ≡ places parts → AreLevels parts history marks numbers → length (shape parts) ≤ number_room → length (shape parts) < mark_room → HasFront other history edge_places marks numbers mark_room number_room
 moved parts other history edge_places marks numbers mark_room number_room same listed levels for_numbers for_marks = subst (λ z. HasFront z history edge_places marks numbers mark_room number_room) (sym same) (record { listed = listed; levels = levels; for_numbers = for_numbers; for_marks = for_marks })
 
-module _ (old mid : State) (edge_places : List Edge) (marks numbers : List ℕ) (mark_room number_room at : ℕ) (has : HasFront old.parts old.history edge_places marks numbers mark_room number_room) (is : at + 1 ≡ length marks) where
-  pub has_levels : HasLevels old.parts old.history marks numbers
-  has_levels = levels_there old.parts old.history marks numbers has.levels (λ z. omega (arith, is, z))
+-- the store is back at the box of the last front, whose mark stands at a place
+pub record Top (old mid : State) (edge_places : List Edge) (marks numbers : List ℕ) (mark_room number_room at mark : ℕ) : Type 0 where
+  pub has : HasFront old.parts old.history edge_places marks numbers mark_room number_room
+  pub is : at + 1 ≡ length marks
+  pub mark_is : mark ≡ slice_index marks at
+  pub same : mid.parts ≡ old.parts
+  pub now_is : mid.now ≡ slice_index_or old.history (slice_index marks at) []
+  pub undone : mid.history ≡ take (slice_index marks at + 1) old.history
 
-  pub top_in : slice_index marks at < length old.history
-  top_in = top_within old.parts old.history marks numbers has_levels at is
+module _ (old mid : State) {edge_places : List Edge} {marks numbers read : List ℕ} {mark_room number_room depth mark : ℕ} (has : HasFront old.parts old.history edge_places marks numbers mark_room number_room) (some : depth ≢ 0) (read_is : read ≡ marks) (found : mark ≡ slice_index_or read (depth - 1) mark) (count : depth ≡ length marks) where
+  last_is : (depth - 1) + 1 ≡ length marks
+  last_is = omega (arith, count, some)
+
+  top_mark : mark ≡ slice_index marks (depth - 1)
+  top_mark = found ∙ ap (λ z. slice_index_or z (depth - 1) mark) read_is ∙ get_or_default marks (depth - 1) mark 0 (let e = last_is in omega (arith, e))
+
+  -- the mark is one of the history
+  pub top_there : mark < length old.history
+  top_there = subst (λ m. m < length old.history) (sym top_mark) (top_within old.parts old.history marks numbers (levels_there old.parts old.history marks numbers has.levels (λ z. omega (arith, count, some, z))) (depth - 1) last_is)
+
+  -- and the store went back to it
+  pub top_of : mid.parts ≡ old.parts → mid.now ≡ slice_index_or old.history mark [] → mid.history ≡ take (mark + 1) old.history → Top old mid edge_places marks numbers mark_room number_room (depth - 1) mark
+  top_of same now_is undone = record {
+    has = has;
+    is = last_is;
+    mark_is = top_mark;
+    same = same;
+    now_is = now_is ∙ ap (λ m. slice_index_or old.history m []) top_mark;
+    undone = undone ∙ ap (λ m. take (m + 1) old.history) top_mark;
+  }
+
+module _ {old mid : State} {edge_places : List Edge} {marks numbers : List ℕ} {mark_room number_room at mark : ℕ} (top : Top old mid edge_places marks numbers mark_room number_room at mark) where
+  pub has_levels : HasLevels old.parts old.history marks numbers
+  has_levels = levels_there old.parts old.history marks numbers top.has.levels (λ z. (let is = top.is in omega (arith, is, z)))
+
+  pub mark_in : slice_index marks at < length old.history
+  mark_in = top_within old.parts old.history marks numbers has_levels at top.is
 
   pub depth_is : length numbers ≡ at
-  depth_is = (let h = has_levels in let c = h.count in omega (arith, c, is))
+  depth_is = (let h = has_levels in let c = h.count in let is = top.is in omega (arith, c, is))
 
-  module _ (same : mid.parts ≡ old.parts) (now_is : mid.now ≡ slice_index_or old.history (slice_index marks at) []) (undone : mid.history ≡ take (slice_index marks at + 1) old.history) where
-    pub mid_level : IsLevel mid.parts numbers mid.now
-    mid_level = subst (λ z. IsLevel z numbers mid.now) (sym same) (subst (IsLevel old.parts numbers) (sym now_is) (top_level old.parts old.history marks numbers has_levels at is))
+  pub mid_level : IsLevel mid.parts numbers mid.now
+  mid_level = subst (λ z. IsLevel z numbers mid.now) (sym top.same) (subst (IsLevel old.parts numbers) (sym top.now_is) (top_level old.parts old.history marks numbers has_levels at top.is))
 
-    undone_levels : HasLevels old.parts mid.history marks numbers
-    undone_levels = subst (λ h. HasLevels old.parts h marks numbers) (sym undone) (levels_undone old.parts old.history marks numbers has_levels at is)
+  undone_levels : HasLevels old.parts mid.history marks numbers
+  undone_levels = subst (λ h. HasLevels old.parts h marks numbers) (sym top.undone) (levels_undone old.parts old.history marks numbers has_levels at top.is)
 
-    module _ (marks' numbers' : List ℕ) (mark most n : ℕ) (mark_is : mark ≡ slice_index marks at) (adds : Adds mid.now mark marks numbers marks' numbers' most n) where
-      -- the numbers that remain alone are forced
-      pub run_follows : Follows (shape old.parts) (Boxed old.parts) numbers numbers' most n
-      run_follows = record {
-        added = adds.added;
-        joined = adds.numbers_are;
-        count = adds.count;
-        within = adds.within;
-        forced = all_forced old.parts mid.now numbers adds.added (subst (λ z. IsLevel z numbers mid.now) same mid_level) adds.alone;
-      }
+  -- the number that is to be pushed is one of the next decision
+  pub next_fits : (f : Fronted) (v : ℕ) → record { parts = old.parts; numbers = numbers } ≡ f → Fits (shape f.parts) (f.numbers ++ v ∷ []) → (at < length (shape mid.parts)) × (v < slice_index (shape mid.parts) at)
+  next_fits f v view fits =
+      let here : Fits (shape old.parts) (numbers ++ v ∷ []) = subst (λ z. Fits (shape z.parts) (z.numbers ++ v ∷ [])) (sym view) fits in
+      let both = fits_last (shape old.parts) numbers v here in
+      subst (λ z. (at < length (shape z)) × (v < slice_index (shape z) at)) (sym top.same) (subst (λ k. (k < length (shape old.parts)) × (v < slice_index (shape old.parts) k)) depth_is both)
 
-      -- and have the box of the prefix
-      pub run_front : (mark_room' number_room' : ℕ) → mark_room ≤ mark_room' → number_room ≤ number_room' → HasFront mid.parts mid.history edge_places marks' numbers' mark_room' number_room'
-      run_front mark_room' number_room' same_marks same_numbers =
-          let top = top_in in
-          let long = length-take-le (slice_index marks at + 1) old.history (omega (arith, top)) in
-          let there : mark < length mid.history = (let e = ap length undone in omega (arith, e, long, mark_is)) in
-          let box_is : slice_index_or mid.history mark [] ≡ mid.now = ap₂ (λ h i. slice_index_or h i []) undone mark_is ∙ get_or-take (slice_index marks at + 1) old.history (slice_index marks at) [] (omega arith) ∙ sym now_is in
-          let level : IsLevel old.parts numbers (slice_index_or mid.history mark []) = subst (IsLevel old.parts numbers) (sym box_is) (subst (λ z. IsLevel z numbers mid.now) same mid_level) in
-          let before : (k : ℕ) → k < length marks → slice_index marks k ≤ mark = (λ k l. (let r = undone_levels.rising k at (omega (arith, is, l)) (omega (arith, is)) in omega (arith, r, mark_is))) in
-          let run = levels_run old.parts mid.history mark marks numbers adds.added undone_levels there before level (subst (λ b. AreAlone b (length numbers) adds.added) (sym box_is) adds.alone) in
-          let both : HasLevels old.parts mid.history marks' numbers' = subst (λ m. HasLevels old.parts mid.history m numbers') (sym adds.marks_are) (subst (HasLevels old.parts mid.history (marks ++ map (λ _. mark) adds.added)) (sym adds.numbers_are) run) in
-          let a = has.for_numbers in
-          let b = has.for_marks in
-          moved old.parts mid.parts mid.history edge_places marks' numbers' mark_room' number_room' same has.listed (inl both) (omega (arith, a, same_numbers)) (omega (arith, b, same_marks))
+  module _ (marks' numbers' : List ℕ) (most n : ℕ) (adds : Adds mid.now mark marks numbers marks' numbers' most n) where
+    -- the numbers that remain alone are forced
+    pub run_follows : Follows (shape old.parts) (Boxed old.parts) numbers numbers' most n
+    run_follows = record {
+      added = adds.added;
+      joined = adds.numbers_are;
+      count = adds.count;
+      within = adds.within;
+      forced = all_forced old.parts mid.now numbers adds.added (subst (λ z. IsLevel z numbers mid.now) top.same mid_level) adds.alone;
+    }
 
-    module _ (new : State) (extends : Extends mid new) where
-      grown : HasLevels old.parts new.history marks numbers
-      grown = subst (λ h. HasLevels old.parts h marks numbers) (sym extends.grown) (levels_grown old.parts mid.history marks numbers extends.more undone_levels)
+    -- and have the box of the prefix
+    pub run_front : (mark_room' number_room' : ℕ) → mark_room ≤ mark_room' → number_room ≤ number_room' → HasFront mid.parts mid.history edge_places marks' numbers' mark_room' number_room'
+    run_front mark_room' number_room' same_marks same_numbers =
+        let is = top.is in
+        let mark_is = top.mark_is in
+        let within = mark_in in
+        let long = length-take-le (slice_index marks at + 1) old.history (omega (arith, within)) in
+        let there : mark < length mid.history = (let e = ap length top.undone in omega (arith, e, long, mark_is)) in
+        let box_is : slice_index_or mid.history mark [] ≡ mid.now = ap₂ (λ h i. slice_index_or h i []) top.undone mark_is ∙ get_or-take (slice_index marks at + 1) old.history (slice_index marks at) [] (omega arith) ∙ sym top.now_is in
+        let level : IsLevel old.parts numbers (slice_index_or mid.history mark []) = subst (IsLevel old.parts numbers) (sym box_is) (subst (λ z. IsLevel z numbers mid.now) top.same mid_level) in
+        let before : (k : ℕ) → k < length marks → slice_index marks k ≤ mark = (λ k l. (let r = undone_levels.rising k at (omega (arith, is, l)) (omega (arith, is)) in omega (arith, r, mark_is))) in
+        let run = levels_run old.parts mid.history mark marks numbers adds.added undone_levels there before level (subst (λ b. AreAlone b (length numbers) adds.added) (sym box_is) adds.alone) in
+        let both : HasLevels old.parts mid.history marks' numbers' = subst (λ m. HasLevels old.parts mid.history m numbers') (sym adds.marks_are) (subst (HasLevels old.parts mid.history (marks ++ map (λ _. mark) adds.added)) (sym adds.numbers_are) run) in
+        let a = top.has.for_numbers in
+        let b = top.has.for_marks in
+        moved old.parts mid.parts mid.history edge_places marks' numbers' mark_room' number_room' top.same top.has.listed (inl both) (omega (arith, a, same_numbers)) (omega (arith, b, same_marks))
 
-      -- the number isn't taken
-      pub kept_front : HasFront new.parts new.history edge_places marks numbers mark_room number_room
-      kept_front = moved old.parts new.parts new.history edge_places marks numbers mark_room number_room (extends.same ∙ same) has.listed (inl grown) has.for_numbers has.for_marks
+  module _ (new : State) (extends : Extends mid new) where
+    grown : HasLevels old.parts new.history marks numbers
+    grown = subst (λ h. HasLevels old.parts h marks numbers) (sym extends.grown) (levels_grown old.parts mid.history marks numbers extends.more undone_levels)
 
-      -- the number is taken
-      pub pushed_front : (marks' numbers' : List ℕ) (mark_room' number_room' mark v : ℕ) → IsLevel mid.parts (numbers ++ v ∷ []) new.now → mark + 1 ≡ length new.history → slice_index_or new.history mark [] ≡ new.now → marks' ≡ marks ++ mark ∷ [] → numbers' ≡ numbers ++ v ∷ [] → mark_room ≡ mark_room' → number_room ≡ number_room' → HasFront new.parts new.history edge_places marks' numbers' mark_room' number_room'
-      pushed_front marks' numbers' mark_room' number_room' mark v level newest last marks_are numbers_are same_marks same_numbers =
-          let here : IsLevel old.parts (numbers ++ v ∷ []) (slice_index_or new.history mark []) = subst (λ z. IsLevel z (numbers ++ v ∷ []) (slice_index_or new.history mark [])) same (subst (IsLevel mid.parts (numbers ++ v ∷ [])) (sym last) level) in
-          let all = levels_pushed old.parts new.history marks numbers mark v grown newest here in
-          let both : HasLevels old.parts new.history marks' numbers' = subst (λ m. HasLevels old.parts new.history m numbers') (sym marks_are) (subst (HasLevels old.parts new.history (marks ++ mark ∷ [])) (sym numbers_are) all) in
-          let a = has.for_numbers in
-          let b = has.for_marks in
-          moved old.parts new.parts new.history edge_places marks' numbers' mark_room' number_room' (extends.same ∙ same) has.listed (inl both) (omega (arith, a, same_numbers)) (omega (arith, b, same_marks))
+    -- the number isn't taken
+    pub kept_front : HasFront new.parts new.history edge_places marks numbers mark_room number_room
+    kept_front = moved old.parts new.parts new.history edge_places marks numbers mark_room number_room (extends.same ∙ top.same) top.has.listed (inl grown) top.has.for_numbers top.has.for_marks
+
+    -- the number is taken
+    pub pushed_front : (marks' numbers' : List ℕ) (mark_room' number_room' mark' v : ℕ) → IsLevel mid.parts (numbers ++ v ∷ []) new.now → mark' + 1 ≡ length new.history → slice_index_or new.history mark' [] ≡ new.now → marks' ≡ marks ++ mark' ∷ [] → numbers' ≡ numbers ++ v ∷ [] → mark_room ≡ mark_room' → number_room ≡ number_room' → HasFront new.parts new.history edge_places marks' numbers' mark_room' number_room'
+    pushed_front marks' numbers' mark_room' number_room' mark' v level newest last marks_are numbers_are same_marks same_numbers =
+        let here : IsLevel old.parts (numbers ++ v ∷ []) (slice_index_or new.history mark' []) = subst (λ z. IsLevel z (numbers ++ v ∷ []) (slice_index_or new.history mark' [])) top.same (subst (IsLevel mid.parts (numbers ++ v ∷ [])) (sym last) level) in
+        let all = levels_pushed old.parts new.history marks numbers mark' v grown newest here in
+        let both : HasLevels old.parts new.history marks' numbers' = subst (λ m. HasLevels old.parts new.history m numbers') (sym marks_are) (subst (HasLevels old.parts new.history (marks ++ mark' ∷ [])) (sym numbers_are) all) in
+        let a = top.has.for_numbers in
+        let b = top.has.for_marks in
+        moved old.parts new.parts new.history edge_places marks' numbers' mark_room' number_room' (extends.same ∙ top.same) top.has.listed (inl both) (omega (arith, a, same_numbers)) (omega (arith, b, same_marks))
 
 -- where there is no box there is no boxed prefix
 pub none_boxed : (parts : Parts) (history : List (List (List Bool))) (edge_places : List Edge) (marks numbers : List ℕ) (mark_room number_room : ℕ) → HasFront parts history edge_places marks numbers mark_room number_room → length marks ≡ 0 → (p : List ℕ) → Boxed parts p → ⊥
@@ -115,17 +154,6 @@ cut_front parts history edge_places marks numbers marks' numbers' mark_room numb
 pub mark_place : (parts : Parts) (history : List (List (List Bool))) (marks numbers : List ℕ) (d : ℕ) → AreLevels parts history marks numbers → d ≤ length marks - 1 → d ≤ length numbers
 mark_place parts history marks numbers d (inl has) l = (let c = has.count in omega (arith, c, l))
 mark_place parts history marks numbers d (inr none) l = (let c = ap length none.0 in omega (arith, c, l))
-
--- the element at a place of a list
-pub read_at : (xs ys : List ℕ) (k r : ℕ) → ys ≡ xs → k < length xs → r ≡ slice_index_or ys k r → r ≡ slice_index xs k
-read_at xs ys k r same l is = is ∙ ap (λ z. slice_index_or z k r) same ∙ get_or_default xs k r 0 l
-
--- the number that is to be pushed is one of the next decision
-pub next_fits : (f : Fronted) (parts other : Parts) (numbers : List ℕ) (at v : ℕ) → record { parts = parts; numbers = numbers } ≡ f → other ≡ parts → length numbers ≡ at → Fits (shape f.parts) (f.numbers ++ v ∷ []) → (at < length (shape other)) × (v < slice_index (shape other) at)
-next_fits f parts other numbers at v view same is fits =
-    let here : Fits (shape parts) (numbers ++ v ∷ []) = subst (λ z. Fits (shape z.parts) (z.numbers ++ v ∷ [])) (sym view) fits in
-    let both = fits_last (shape parts) numbers v here in
-    subst (λ z. (at < length (shape z)) × (v < slice_index (shape z) at)) (sym same) (subst (λ k. (k < length (shape parts)) × (v < slice_index (shape parts) k)) is both)
 
 pub same_problem : (parts other : Parts) → other ≡ parts → SameProblem (shape parts) (Boxed parts) (shape other) (Boxed other)
 same_problem parts other same = subst (λ z. SameProblem (shape parts) (Boxed parts) (shape z) (Boxed z)) (sym same) (record { sizes = refl; counts = λ p. (λ x. x, λ x. x) })

@@ -8,6 +8,7 @@ pub mod Vectors
 pub mod Forced
 pub mod Apart
 pub mod Levels
+pub mod Others
 pub mod Runs
 pub mod Closing
 pub mod Fronted

@@ -1,13 +1,14 @@
 //! Decisions, named by what is decided.
 
-ghost use Rattle.std.specs.Prelude.{◌≡◌, ◌↔◌, ◌<◌, ◌+◌, IsTrue, length, slice_index};
+ghost use Rattle.std.specs.Prelude.{◌≡◌, ◌↔◌, ℕ, ◌<◌, ◌+◌, ◌*◌, IsTrue, length, slice_index};
 ghost use Rattle.xdg_problem.specs.Boxes.{Has};
 ghost use Rattle.xdg_problem.specs.Places.{nodes, places};
 ghost use Rattle.xdg_problem.specs.Problems.{IsProblem};
 ghost use Rattle.xdg_problem.specs.Vectors.{attr_sizes, first_place, shape};
-ghost use Rattle.xdg_store.specs.Change.{Removes};
+ghost use Rattle.xdg_store.specs.Change.{IsTaken, RemovesAll};
 ghost use Rattle.xdg_store.specs.States.{Known};
 ghost use Rattle.xdg_store.specs.Decisions.{IsDecision, number_of};
+ghost use Rattle.xdg_stream.specs.Others.{IsOther};
 
 use xdg_base::{AttrId, DimId, NodeId};
 use xdg_problem::{Edge, Parts, Problem};
@@ -69,22 +70,34 @@ pub(crate) fn decision_at(
     Decision::Place(edge_places[at - first])
 }
 
-/// Takes a value of a decision away, unless it is the last.
-pub(crate) fn remove(store: &mut Store, decision: Decision, value: u16) -> Change
+/// The values of a block of 64 other than a value: a bit for each, the first at the lowest.
+fn others_in(block: u16, value: u16) -> u64
+    ensures { (x : ℕ) → IsTaken block result x ↔ IsOther block value x }
+{
+    if value / 64 != block {
+        return u64::MAX;
+    }
+    !(1u64 << (value % 64))
+}
+
+/// Takes of 64 values of a decision, from that numbered `block` * 64 on, all but one away at once, unless no other is left.
+pub(crate) fn remove_others(store: &mut Store, decision: Decision, block: u16, value: u16) -> Change
     requires is { IsDecision store.old.parts decision }
+    requires block { block * 64 < slice_index (shape store.old.parts) (number_of store.old.parts decision) }
     requires value { value < slice_index (shape store.old.parts) (number_of store.old.parts decision) }
     requires known { Known store.old }
-    ensures removes { Removes result store.old store.new (number_of store.old.parts decision) value }
+    ensures removes { RemovesAll result store.old store.new (number_of store.old.parts decision) (IsOther block value) }
     ensures known { Known store.new }
 {
+    let others = others_in(block, value);
     match decision {
-        Decision::Entry(node) => store.remove_entry(node, value),
-        Decision::Attr(dim, node, attr) => store.remove_attr(node, dim, attr, value),
+        Decision::Entry(node) => store.remove_entries(node, block, others),
+        Decision::Attr(dim, node, attr) => store.remove_attrs(node, dim, attr, block, others),
         Decision::Place(edge) => {
             if value == 0 {
-                return store.forbid_edge(edge);
+                return store.force_edge(edge);
             }
-            store.force_edge(edge)
+            store.forbid_edge(edge)
         }
     }
 }

@@ -13,13 +13,13 @@ ghost use Rattle.xdg_store.specs.Naming.{LosesOf};
 ghost use Rattle.xdg_propcore.specs.Uses.{AllStandIn};
 ghost use Rattle.xdg_stream.specs.Levels.{AllStill, IsLevel, Narrows, Restricts};
 
-use crate::decision::{decision_at, remove};
+use crate::decision::{decision_at, remove_others};
 use xdg_problem::{Edge, Problem};
 use xdg_propcore::{Agenda, Fixpoint, Propagator, Wake, settle_since};
 use xdg_store::{Change, Decision, Store};
 
-/// Takes all values of a decision away but one, if that one remains. It answers whether others were taken; where the value
-/// doesn't remain, some may be.
+/// Takes all values of a decision away but one, 64 at a time, if that one remains. It answers whether others were taken; where
+/// the value doesn't remain, some may be.
 fn restrict(store: &mut Store, decision: Decision, size: u16, value: u16) -> Change
     requires is { IsDecision store.old.parts decision }
     requires size { size ≡ slice_index (shape store.old.parts) (number_of store.old.parts decision) }
@@ -31,11 +31,8 @@ fn restrict(store: &mut Store, decision: Decision, size: u16, value: u16) -> Cha
     ensures known { Known store.new }
 {
     let mut change = Change::Same;
-    for other in 0..size {
-        if other == value {
-            continue;
-        }
-        match remove(store, decision, other) {
+    for block in 0..size.div_ceil(64) {
+        match remove_others(store, decision, block, value) {
             Change::Same => {}
             Change::Changed => change = Change::Changed,
             Change::Emptied => return Change::Emptied,
