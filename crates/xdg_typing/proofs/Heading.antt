@@ -1,8 +1,8 @@
 -- The heads of definitions.
-use Rattle.std.proofs.Common.{◌≡◌, ℕ, ◌<◌, ◌+◌, List, [], map, length, get_or, set, slice_index_or, Some, Bor, sym, ◌∙◌, ap, subst, arith, inl, inr}
-use Rattle.std.proofs.lemmas.Bool.{cases_eq, cases_lt}
-use Rattle.std.proofs.lemmas.List.{get_or-map, length-map, map-set, get_or-set_same, get_or-set_other}
+use Rattle.std.proofs.Common.{◌≡◌, ℕ, ◌<◌, ◌+◌, List, [], map, length, get_or, set, slice_index_or, Some, Bor, sym, ◌∙◌, ap, subst, arith}
+use Rattle.std.proofs.lemmas.List.{get_or-map, length-map, map-set}
 use Rattle.xdg_names.proofs.Texts.{place_of-Some}
+use Rattle.xdg_typing.proofs.Turning.{set_next}
 use Rattle.xdg_ast.specs.declared.names.Name.{Name}
 use Rattle.xdg_domain.specs.Shapes.{Shape}
 use Rattle.xdg_names.specs.Texts.{place_of}
@@ -41,21 +41,6 @@ module _ (names : List ℕ → Shape) (known : List (List ℕ)) (bodies : List T
             );
       }
 
-  -- a right head more
-  pub right_next : (heads : List TypeTerm) (i : ℕ) (next : TypeTerm) → i < length order → length heads ≡ length bodies → RightBefore names known order i heads
-      → IsRight names (get_or known (slice_index_or order i 0) []) next → RightBefore names known order (i + 1) (set heads (slice_index_or order i 0) next)
-  right_next heads i next inside len before right j below t =
-      let a = slice_index_or order i 0 in
-      let small : a < length bodies = within i inside in
-      elim (cases_eq (slice_index_or order j 0) a) [
-        | inl e ↦ subst (λ m. IsRight names (get_or known m []) (get_or (set heads a next) m t)) (sym e)
-            (subst (IsRight names (get_or known a [])) (sym (get_or-set_same heads a next t (omega (arith, small, len)))) right)
-        | inr ne ↦ elim (cases_lt j i) [
-          | inl less ↦ subst (IsRight names (get_or known (slice_index_or order j 0) [])) (sym (get_or-set_other heads a (slice_index_or order j 0) next t ne)) (before j less t)
-          | inr past ↦ (let e : j ≡ i = omega (arith, below, past) in absurd (ne (ap (λ m. slice_index_or order m 0) e)))
-        ]
-      ]
-
 abbrev at : Bor TypeTerm → TypeTerm
 at h = h.now
 
@@ -75,4 +60,6 @@ heads_step known bodies heads slice order i body next first within inside len be
     let stands : body.now ≡ get_or (map at bodies) a body.now = sym (get_or-map at bodies a body body.now (within i inside) ∙ ap at (sym is)) in
     let defined = is_defined names known (map at bodies) order agrees first wide (map at heads) i body.now inside (sized ∙ len ∙ sym many) (before names agrees) stands in
     let right = gives names own (subst (λ hs. IsDefined names own known body.now (map at hs)) (sym same) defined) in
-    subst (RightBefore names known order (i + 1)) (sym (map-set at heads a next)) (right_next names known (map at bodies) order agrees first wide (map at heads) i next.now inside (sized ∙ len ∙ sym many) (before names agrees) right)
+    let small : a < length (map at heads) = let s = within i inside in omega (arith, s, sized, len) in
+    subst (RightBefore names known order (i + 1)) (sym (map-set at heads a next))
+    (λ j below t. set_next (λ m head. IsRight names (get_or known m []) head) order (map at heads) i next.now t small (λ k less. before names agrees k less t) right j below)

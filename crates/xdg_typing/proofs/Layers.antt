@@ -1,5 +1,5 @@
 -- The tree of a type, and what the form of a head tells, layer by layer.
-use Rattle.std.proofs.Common.{◌≡◌, ℕ, ◌<◌, ◌+◌, Bool, true, false, ◌||◌, List, [], ◌∷◌, length, drop, get_or, map, refl, sym, ap, ◌∙◌, subst, arith}
+use Rattle.std.proofs.Common.{◌≡◌, ℕ, ◌<◌, ◌+◌, Bool, false, ◌||◌, List, [], ◌∷◌, length, drop, get_or, map, refl, sym, ap, ◌∙◌, subst, arith, ap₂}
 use Rattle.std.specs.Prelude.{not, ltb, ◌&&◌}
 use Rattle.std.proofs.lemmas.Bool.{lt-ltb}
 use Rattle.std.proofs.lemmas.List.{at_drop_more}
@@ -25,53 +25,33 @@ members_are [] = refl
 members_are (field ∷ more) = ap (member_then field.key field.value.span.start (tree field.value.kind)) (members_are more)
 
 form_layer : (l : TypeKind-F TypeKind) → layer (map-TypeKind TypeKind Tree tree l) ≡ form_tree l
-form_layer TypeKind-F.Empty = refl
-form_layer (TypeKind-F.Domain names) = refl
 form_layer (TypeKind-F.Rec pairs) = ap recorded (members_are pairs)
 form_layer (TypeKind-F.Tuple types) = ap tupled (trees_are types)
-form_layer (TypeKind-F.Set type) = refl
-form_layer (TypeKind-F.ISet type) = refl
-form_layer (TypeKind-F.Valency type) = refl
-form_layer (TypeKind-F.Map key value) = refl
-form_layer TypeKind-F.Card = refl
-form_layer TypeKind-F.Bool = refl
-form_layer TypeKind-F.Int = refl
-form_layer TypeKind-F.Str = refl
-form_layer (TypeKind-F.Named name) = refl
+form_layer other = refl
 
 -- a type's tree, by its first layer
 pub tree_form : (kind : TypeKind) → tree kind ≡ form_tree (out-TypeKind kind)
 tree_form kind = fold_out-TypeKind Tree layer kind ∙ form_layer (out-TypeKind kind)
 
--- the trees of the forms of types
-pub tree_rec : (kind : TypeKind) (fields : List (Pair TypeTerm)) → kind ≡ y.Rec fields → tree kind ≡ recorded (members_in fields)
-tree_rec kind fields is = ap (λ k. tree k) is ∙ tree_form (y.Rec fields) ∙ ap form_tree (y.outs-Rec _)
+-- the trees of the forms of types, where what stands in them was asked for
+pub tree_rec : (kind : TypeKind) (fields given : List (Pair TypeTerm)) → kind ≡ y.Rec fields → given ≡ fields → tree kind ≡ recorded (members_in given)
+tree_rec kind fields given is same = ap tree is ∙ tree_form (y.Rec fields) ∙ ap form_tree (y.outs-Rec _) ∙ ap (λ fs. recorded (members_in fs)) (sym same)
 
-pub tree_tuple : (kind : TypeKind) (types : List TypeTerm) → kind ≡ y.Tuple types → tree kind ≡ tupled (trees_in types)
-tree_tuple kind types is = ap (λ k. tree k) is ∙ tree_form (y.Tuple types) ∙ ap form_tree (y.outs-Tuple _)
+pub tree_tuple : (kind : TypeKind) (types given : List TypeTerm) → kind ≡ y.Tuple types → given ≡ types → tree kind ≡ tupled (trees_in given)
+tree_tuple kind types given is same = ap tree is ∙ tree_form (y.Tuple types) ∙ ap form_tree (y.outs-Tuple _) ∙ ap (λ ts. tupled (trees_in ts)) (sym same)
 
-pub tree_map : (kind : TypeKind) (key value : TypeTerm) → kind ≡ y.Map key value → tree kind ≡ map_of key.span.start (tree key.kind) value.span.start (tree value.kind)
-tree_map kind key value is = ap (λ k. tree k) is ∙ tree_form (y.Map key value) ∙ ap form_tree (y.outs-Map _ _)
+pub tree_map : (kind : TypeKind) (key value k v : TypeTerm) → kind ≡ y.Map key value → k ≡ key → v ≡ value → tree kind ≡ map_of k.span.start (tree k.kind) v.span.start (tree v.kind)
+tree_map kind key value k v is same_k same_v =
+    ap tree is ∙ tree_form (y.Map key value) ∙ ap form_tree (y.outs-Map _ _)
+    ∙ ap₂ (λ (a b : TypeTerm). map_of a.span.start (tree a.kind) b.span.start (tree b.kind)) (sym same_k) (sym same_v)
 
 -- a list with something in it
 some : {A : Type 0} (x : A) (xs : List A) → not (ltb 0 (length (x ∷ xs))) ≡ false
 some x xs = let h : 0 < length (x ∷ xs) = omega arith in ap not (lt-ltb 0 (length (x ∷ xs)) h)
 
 pub fieldless_is : (l : TypeKind-F TypeKind) → fieldless_form l ≡ has_no_field (form_tree l)
-fieldless_is TypeKind-F.Empty = refl
-fieldless_is (TypeKind-F.Domain cs) = refl
-fieldless_is (TypeKind-F.Rec ps) = refl
-fieldless_is (TypeKind-F.Tuple []) = refl
 fieldless_is (TypeKind-F.Tuple (t ∷ ts)) = some t ts
-fieldless_is (TypeKind-F.Set type) = refl
-fieldless_is (TypeKind-F.ISet type) = refl
-fieldless_is (TypeKind-F.Valency type) = refl
-fieldless_is (TypeKind-F.Map key value) = refl
-fieldless_is TypeKind-F.Card = refl
-fieldless_is TypeKind-F.Bool = refl
-fieldless_is TypeKind-F.Int = refl
-fieldless_is TypeKind-F.Str = refl
-fieldless_is (TypeKind-F.Named name) = refl
+fieldless_is other = refl
 
 -- What a test of forms finds, a test of meanings finds.
 abbrev Agrees : (List ℕ → Shape) → (TypeKind-F TypeKind → Bool) → (Shape → Bool) → Type 0
@@ -79,53 +59,20 @@ Agrees names form test = (l : TypeKind-F TypeKind) → IsHead names (form_tree l
 
 module _ (names : List ℕ → Shape) where
   domain_by : Agrees names domain_form (λ s. is_domain (as_domain s))
-  domain_by TypeKind-F.Empty h = refl
-  domain_by (TypeKind-F.Domain cs) h = refl
-  domain_by (TypeKind-F.Rec []) h = refl
   domain_by (TypeKind-F.Rec (p ∷ ps)) h = some p ps
-  domain_by (TypeKind-F.Tuple types) h = refl
-  domain_by (TypeKind-F.Set type) h = refl
-  domain_by (TypeKind-F.ISet type) h = refl
-  domain_by (TypeKind-F.Valency type) h = refl
-  domain_by (TypeKind-F.Map key value) h = refl
-  domain_by TypeKind-F.Card h = refl
-  domain_by TypeKind-F.Bool h = refl
-  domain_by TypeKind-F.Int h = refl
-  domain_by TypeKind-F.Str h = refl
   domain_by (TypeKind-F.Named name) h = ap (λ s. is_domain (as_domain s)) (sym h)
+  domain_by other h = refl
 
   small_by : Agrees names small_form (λ s. is_small (as_domain s))
-  small_by TypeKind-F.Empty h = refl
-  small_by (TypeKind-F.Domain cs) h = refl
-  small_by (TypeKind-F.Rec []) h = refl
   small_by (TypeKind-F.Rec (p ∷ ps)) h = some p ps
-  small_by (TypeKind-F.Tuple types) h = refl
-  small_by (TypeKind-F.Set type) h = refl
-  small_by (TypeKind-F.ISet type) h = refl
-  small_by (TypeKind-F.Valency type) h = refl
-  small_by (TypeKind-F.Map key value) h = refl
-  small_by TypeKind-F.Card h = refl
-  small_by TypeKind-F.Bool h = refl
-  small_by TypeKind-F.Int h = refl
-  small_by TypeKind-F.Str h = refl
   small_by (TypeKind-F.Named name) h = ap (λ s. is_small (as_domain s)) (sym h)
+  small_by other h = refl
 
   empty_by : Agrees names empty_form (λ s. is_empty_domain (as_domain s))
-  empty_by TypeKind-F.Empty h = refl
-  empty_by (TypeKind-F.Domain []) h = refl
   empty_by (TypeKind-F.Domain (c ∷ cs)) h = some c cs
-  empty_by (TypeKind-F.Rec []) h = refl
   empty_by (TypeKind-F.Rec (p ∷ ps)) h = some p ps
-  empty_by (TypeKind-F.Tuple types) h = refl
-  empty_by (TypeKind-F.Set type) h = refl
-  empty_by (TypeKind-F.ISet type) h = refl
-  empty_by (TypeKind-F.Valency type) h = refl
-  empty_by (TypeKind-F.Map key value) h = refl
-  empty_by TypeKind-F.Card h = refl
-  empty_by TypeKind-F.Bool h = refl
-  empty_by TypeKind-F.Int h = refl
-  empty_by TypeKind-F.Str h = refl
   empty_by (TypeKind-F.Named name) h = ap (λ s. is_empty_domain (as_domain s)) (sym h)
+  empty_by other h = refl
 
   -- what is told of a type's head holds of the type
   told : (form : TypeKind-F TypeKind → Bool) (test : Shape → Bool) → Agrees names form test → (kind head : TypeKind) (found : Bool)
@@ -146,9 +93,7 @@ module _ (names : List ℕ → Shape) where
   -- a tuple type
   pub tuple_told : (head : TypeKind) (types given : List TypeTerm) (found : Bool) → head ≡ y.Tuple types → given ≡ types
       → found ≡ has_no_tuple (domains_meaning names (trees_in given)) → not found ≡ is_attribute (as_domain (meaning names (tree head)))
-  tuple_told head types given found is same has =
-      ap not (has ∙ ap (λ ts. has_no_tuple (domains_meaning names (trees_in ts))) same)
-      ∙ ap (λ t. is_attribute (as_domain (meaning names t))) (sym (tree_tuple head types is))
+  tuple_told head types given found is same has = ap not has ∙ ap (λ t. is_attribute (as_domain (meaning names t))) (sym (tree_tuple head types given is same))
 
   -- the next of some types is no domain without constants
   pub not_empty_here : (types : List TypeTerm) (i : ℕ) (type : TypeTerm) → i < length types → type ≡ get_or types i type → is_empty_domain (as_domain (meaning names (tree type.kind))) ≡ false
@@ -157,24 +102,9 @@ module _ (names : List ℕ → Shape) where
       let all = λ (ts : List TypeTerm). has_empty_domain (domains_meaning names (trees_in ts)) in
       sym (at_drop_more all types i type within ∙ ap (λ t. all (t ∷ drop (i + 1) types)) (sym is) ∙ ap (λ b. b || all (drop (i + 1) types)) none)
 
-  -- the next of some types is a domain
-  pub domain_here : (types : List TypeTerm) (i : ℕ) (type : TypeTerm) → i < length types → type ≡ get_or types i type → is_domain (as_domain (meaning names (tree type.kind))) ≡ true
-      → are_domains (domains_meaning names (trees_in (drop (i + 1) types))) ≡ are_domains (domains_meaning names (trees_in (drop i types)))
-  domain_here types i type within is one =
+  -- the next of some types is a domain, or it is none
+  pub domain_here : (types : List TypeTerm) (i : ℕ) (type : TypeTerm) (b : Bool) → i < length types → type ≡ get_or types i type → is_domain (as_domain (meaning names (tree type.kind))) ≡ b
+      → b && are_domains (domains_meaning names (trees_in (drop (i + 1) types))) ≡ are_domains (domains_meaning names (trees_in (drop i types)))
+  domain_here types i type b within is one =
       let all = λ (ts : List TypeTerm). are_domains (domains_meaning names (trees_in ts)) in
-      sym (at_drop_more all types i type within ∙ ap (λ t. all (t ∷ drop (i + 1) types)) (sym is) ∙ ap (λ b. b && all (drop (i + 1) types)) one)
-
-  -- or it is none
-  pub no_domain_here : (types : List TypeTerm) (i : ℕ) (type : TypeTerm) → i < length types → type ≡ get_or types i type → is_domain (as_domain (meaning names (tree type.kind))) ≡ false
-      → false ≡ are_domains (domains_meaning names (trees_in (drop i types)))
-  no_domain_here types i type within is none =
-      let all = λ (ts : List TypeTerm). are_domains (domains_meaning names (trees_in ts)) in
-      sym (at_drop_more all types i type within ∙ ap (λ t. all (t ∷ drop (i + 1) types)) (sym is) ∙ ap (λ b. b && all (drop (i + 1) types)) none)
-
-  -- a tuple type all of whose fields are domains, or one with a field that is none
-  pub tuples_told : (types : List TypeTerm) (empty : Bool) → true ≡ are_domains (domains_meaning names (trees_in types)) → empty ≡ has_empty_domain (domains_meaning names (trees_in types))
-      → empty ≡ has_no_tuple (domains_meaning names (trees_in types))
-  tuples_told types empty all has = has ∙ ap (λ b. b && has_empty_domain (domains_meaning names (trees_in types))) all
-
-  pub other_told : (types : List TypeTerm) → false ≡ are_domains (domains_meaning names (trees_in types)) → false ≡ has_no_tuple (domains_meaning names (trees_in types))
-  other_told types none = ap (λ b. b && has_empty_domain (domains_meaning names (trees_in types))) none
+      sym (at_drop_more all types i type within ∙ ap (λ t. all (t ∷ drop (i + 1) types)) (sym is) ∙ ap (λ c. c && all (drop (i + 1) types)) one)

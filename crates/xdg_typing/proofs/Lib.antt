@@ -1,11 +1,11 @@
 pub mod Each
-pub mod Inside
 pub mod NameLaw
 pub mod PartsAgain
 pub mod Heads
 pub mod GraphUses
 pub mod OneMeaning
 pub mod Ordered
+pub mod Turning
 pub mod Heading
 pub mod Joined
 pub mod Weighed

@@ -1,5 +1,5 @@
 -- What is wrong with a record of attributes.
-use Rattle.std.proofs.Common.{◌≡◌, ℕ, ◌<◌, ◌≤◌, Bool, List, [], ◌∷◌, length, get_or, map, Option, None, Some, refl, sym, ap, ap₂, ◌∙◌, arith}
+use Rattle.std.proofs.Common.{◌≡◌, ℕ, ◌<◌, ◌≤◌, Bool, List, [], ◌∷◌, length, get_or, Option, None, Some, refl, sym, ap, ap₂, ◌∙◌, arith}
 use Rattle.std.specs.Prelude.{slice_get, option_map}
 use Rattle.std.proofs.lemmas.Option.{slice_get-map, slice_get_read, slice_get_past}
 use Rattle.xdg_base.specs.declared.faults.Cause.TheVariants as causes
@@ -12,20 +12,19 @@ use Rattle.xdg_ast.specs.declared.types.TypeKind.{TypeKind}
 use Rattle.xdg_ast.specs.declared.types.TypeKind.TheVariants as y
 use Rattle.xdg_domain.specs.Shapes.{Shape}
 use Rattle.xdg_types.specs.Written.{member_names, tree}
-use Rattle.xdg_types.specs.Parts.{TypeTerm}
+use Rattle.xdg_types.specs.Parts.{TypeTerm, keys}
 use Rattle.xdg_types.specs.Meaning.{meaning, fields_meaning}
 use Rattle.xdg_types.specs.Kinds.{reaching, field_count}
-use Rattle.xdg_typing.specs.KindFaults.{members_in, ninth_name_faults, has_other, wide_record_faults, other_faults, named_faults, record_faults}
+use Rattle.xdg_typing.specs.KindFaults.{members_in, ninth_name_faults, has_other, wide_record_faults, other_faults, named_faults}
 use Rattle.xdg_typing.proofs.Layers.{tree_rec}
 
 abbrev Fields : Type 0
 Fields = List (Pair TypeTerm)
 
-key_of : Pair TypeTerm → Name
+abbrev key_of : Pair TypeTerm → Name
 key_of field = field.key
 
-members_named : (fields : Fields) → member_names (members_in fields) ≡ map key_of fields
-unfolding key_of
+pub members_named : (fields : Fields) → member_names (members_in fields) ≡ keys fields
 members_named [] = refl
 members_named (field ∷ more) = ap (λ names. field.key ∷ names) (members_named more)
 
@@ -34,7 +33,6 @@ name_at fields k = ap (λ names. slice_get names k) (members_named fields) ∙ s
 
 pub ninth_found : (fields : Fields) (field : Pair TypeTerm) → 8 < length fields → field ≡ get_or fields 8 field
     → Some (reaching causes.TooWide field.key.span.start 9) ≡ first (ninth_name_faults (slice_get (member_names (members_in fields)) 8))
-unfolding key_of
 ninth_found fields field within is =
     let e : slice_get (member_names (members_in fields)) 8 ≡ Some field.key = name_at fields 8 ∙ ap (option_map key_of) (slice_get_read fields (length fields) 8 field refl within is) in
     sym (ap (λ name. first (ninth_name_faults name)) e)
@@ -56,10 +54,4 @@ module _ (names : List ℕ → Shape) where
       let h : others ≡ has_other (fields_meaning names (members_in fields)) = has ∙ ap (λ fs. has_other (fields_meaning names (members_in fs))) same in
       sum ∙ ap₂ earlier (is_wide ∙ ap (λ n. first (wide_record_faults at n)) k) (is_other ∙ ap (λ b. first (other_faults at b)) h)
       ∙ sym (first_append (wide_record_faults at (field_count (fields_meaning names (members_in fields)))) (other_faults at (has_other (fields_meaning names (members_in fields)))))
-      ∙ ap (λ t. first (named_faults at (meaning names t))) (sym (tree_rec head fields is))
-
-  -- and one that is written out
-  pub written_record : (at : ℕ) (kind : TypeKind) (fields given : Fields) (found : Option Fault) → kind ≡ y.Rec fields → given ≡ fields
-      → found ≡ first (ninth_name_faults (slice_get (member_names (members_in given)) 8)) → found ≡ first (record_faults names at (tree kind))
-  written_record at kind fields given found is same told =
-      told ∙ ap (λ fs. first (ninth_name_faults (slice_get (member_names (members_in fs)) 8))) same ∙ ap (λ t. first (record_faults names at t)) (sym (tree_rec kind fields is))
+      ∙ ap (λ t. first (named_faults at (meaning names t))) (sym (tree_rec head fields fields is refl))

@@ -4,7 +4,7 @@ use Rattle.std.specs.Prelude.{bytes_eq, if◌then◌else◌}
 use Rattle.std.proofs.lemmas.Bool.{true≢false}
 use Rattle.xdg_ast.specs.declared.names.Name.{Name}
 use Rattle.xdg_domain.specs.Shapes.{Shape, truth, fields, tuple, set, iset, valency, mapping, shape_then, field_then}
-use Rattle.xdg_types.specs.Written.{Tree, nothing, listed, recorded, tupled, set_of, iset_of, valency_of, map_of, a_card, a_bool, an_int, a_string, named, Trees, no_tree, tree_then, Members, no_member, member_then, tree, uses, uses_in_trees, uses_in_members}
+use Rattle.xdg_types.specs.Written.{Tree, recorded, tupled, set_of, iset_of, valency_of, map_of, named, Trees, no_tree, tree_then, Members, no_member, member_then, tree, uses, uses_in_trees, uses_in_members}
 use Rattle.xdg_types.specs.Parts.{Statement, Definition, definitions}
 use Rattle.xdg_types.specs.Meaning.{meaning, domains_meaning, fields_meaning, as_domain, Resolves}
 use Rattle.xdg_typing.specs.Answers.{IsRanked}
@@ -17,8 +17,6 @@ use Rattle.xdg_ast.specs.Texts.{texts}
 module _ (p q : List ℕ → Shape) where
   mutual
     pub same_meaning : (t : Tree) → ((n : Name) → In (uses t) n → p n.text ≡ q n.text) → meaning p t ≡ meaning q t
-    same_meaning nothing h = refl
-    same_meaning (listed names) h = refl
     same_meaning (recorded ms) h = ap fields (same_fields ms h)
     same_meaning (tupled ts) h = ap tuple (same_domains ts h)
     same_meaning (set_of at t) h = ap (λ s. set (as_domain s)) (same_meaning t h)
@@ -26,11 +24,8 @@ module _ (p q : List ℕ → Shape) where
     same_meaning (valency_of at t) h = ap (λ s. valency (as_domain s)) (same_meaning t h)
     same_meaning (map_of at t there u) h =
         ap₂ (λ k s. mapping (as_domain k) s) (same_meaning t (λ n i. h n (in_left (uses t) (uses u) n i))) (same_meaning u (λ n i. h n (in_right (uses t) (uses u) n i)))
-    same_meaning a_card h = refl
-    same_meaning a_bool h = refl
-    same_meaning an_int h = refl
-    same_meaning a_string h = refl
     same_meaning (named name) h = h name (inl refl)
+    same_meaning other h = refl
 
     same_domains : (ts : Trees) → ((n : Name) → In (uses_in_trees ts) n → p n.text ≡ q n.text) → domains_meaning p ts ≡ domains_meaning q ts
     same_domains no_tree h = refl

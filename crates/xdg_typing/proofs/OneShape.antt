@@ -49,17 +49,13 @@ fields_told [] = refl
 fields_told (f ∷ fs) = ap₂ (λ t ts. (f.0, t) ∷ ts) f.1.1 (fields_told fs)
 
 layer_told : (z : Ty-F Told) → of_shape (layer (map-Ty Ty Shape shape (forget z))) ≡ roll-Ty (forget z)
-layer_told (Ty-F.Domain constants) = refl
 layer_told (Ty-F.Tuple types) = ap (λ ts. roll-Ty (Ty-F.Tuple ts)) (types_told types)
-layer_told Ty-F.Bool = refl
-layer_told Ty-F.Int = refl
-layer_told Ty-F.Str = refl
 layer_told (Ty-F.Set type) = ap (λ t. roll-Ty (Ty-F.Set t)) type.1
 layer_told (Ty-F.ISet type) = ap (λ t. roll-Ty (Ty-F.ISet t)) type.1
-layer_told Ty-F.Card = refl
 layer_told (Ty-F.Valency key) = ap (λ t. roll-Ty (Ty-F.Valency t)) key.1
 layer_told (Ty-F.Map key value) = ap₂ (λ t u. roll-Ty (Ty-F.Map t u)) key.1 value.1
 layer_told (Ty-F.Rec all) = ap (λ fs. roll-Ty (Ty-F.Rec fs)) (fields_told all)
+layer_told other = refl
 
 rolled_told : (z : Ty-F Told) → of_shape (shape (roll-Ty (forget z))) ≡ roll-Ty (forget z)
 rolled_told z = ap of_shape (fold-roll-Ty Shape layer (forget z)) ∙ layer_told z

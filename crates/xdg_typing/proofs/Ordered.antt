@@ -10,7 +10,7 @@ use Rattle.xdg_names.proofs.Numbered.{from_within}
 use Rattle.xdg_domain.specs.Shapes.{Shape}
 use Rattle.xdg_names.specs.Texts.{place_of}
 use Rattle.xdg_names.proofs.Texts.{place_of-Some, place_of-None, place_of-at, place_of-has_text, among_has}
-use Rattle.xdg_types.specs.Written.{tree, uses, named}
+use Rattle.xdg_types.specs.Written.{tree, uses}
 use Rattle.xdg_types.specs.Parts.{TypeTerm, Statement, Definition, definitions, defined_names}
 use Rattle.xdg_types.specs.Graph.{use_at, use_of, uses_in, type_graph}
 use Rattle.xdg_types.specs.Meaning.{Resolves, meaning, IsHead}
@@ -71,18 +71,6 @@ module _ (statements : List Statement) where
     pub in_order : (i : ℕ) → i < length order → slice_index_or order i 0 < length ds
     in_order i h = let w : number order i < length g = made.within i h in omega (arith, w, graph_len)
 
-    -- a type that is a name comes after the type of that name
-    pub names_first : NamesFirst known (map (λ d. d.body) ds) order
-    names_first i h t name k is place =
-        let a = slice_index_or order i 0 in
-        let inside : a < length ds = in_order i h in
-        let some = some_of ds a inside in
-        let body : tree (get_or ds a some).body.kind ≡ named name = ap (λ (x : TypeTerm). tree x.kind) (sym (get_or-map (λ d. d.body) ds a some t inside)) ∙ is in
-        let u : Use = record { to = k; at = name.span.start } in
-        let here : In (use_of known name) u = subst (λ o. In (use_at name o) u) (sym place) (inl refl) in
-        let stands : In (uses_in known (named name)) u = flat_map_in (use_of known) (name ∷ []) name u (inl refl) here in
-        follows g numbers order made acyclic i h u (subst (λ us. In us u) (sym (uses_at a inside some ∙ ap (uses_in known) body)) stands)
-
     -- what a type uses comes before it
     pub uses_first : UsesFirst known (map (λ d. d.body) ds) order
     uses_first i h t name k used place =
@@ -94,6 +82,10 @@ module _ (statements : List Statement) where
         let here : In (use_of known name) u = subst (λ o. In (use_at name o) u) (sym place) (inl refl) in
         follows g numbers order made acyclic i h u
         (subst (λ us. In us u) (sym (uses_at a inside some)) (flat_map_in (use_of known) (uses (tree (get_or ds a some).body.kind)) name u stands here))
+
+    -- a type that is a name comes after the type of that name
+    pub names_first : NamesFirst known (map (λ d. d.body) ds) order
+    names_first i h t name k is place = uses_first i h t name k (subst (λ u. In (uses u) name) (sym is) (inl refl)) place
 
     -- the rank of a name is the number of its definition's component
     abbrev pub rank_at : Option ℕ → ℕ

@@ -33,28 +33,16 @@ marked stood the_attributes = refl
 marked stood the_features = refl
 
 stays : (stood : Stood) (s : Option Single) (what : Single) → has_stood stood (Some what) ≡ true → has_stood (with_part stood s) (Some what) ≡ true
-stays stood None what h = h
 stays stood (Some the_labels) the_labels h = refl
-stays stood (Some the_labels) the_attributes h = h
-stays stood (Some the_labels) the_features h = h
-stays stood (Some the_attributes) the_labels h = h
 stays stood (Some the_attributes) the_attributes h = refl
-stays stood (Some the_attributes) the_features h = h
-stays stood (Some the_features) the_labels h = h
-stays stood (Some the_features) the_attributes h = h
 stays stood (Some the_features) the_features h = refl
+stays stood s what h = h
 
 stood_splits : (stood : Stood) (s : Option Single) (what : Single) → has_stood (with_part stood s) (Some what) ≡ true → (has_stood stood (Some what) ≡ true) ⊎ (s ≡ Some what)
-stood_splits stood None what h = inl h
 stood_splits stood (Some the_labels) the_labels h = inr refl
-stood_splits stood (Some the_labels) the_attributes h = inl h
-stood_splits stood (Some the_labels) the_features h = inl h
-stood_splits stood (Some the_attributes) the_labels h = inl h
 stood_splits stood (Some the_attributes) the_attributes h = inr refl
-stood_splits stood (Some the_attributes) the_features h = inl h
-stood_splits stood (Some the_features) the_labels h = inl h
-stood_splits stood (Some the_features) the_attributes h = inl h
 stood_splits stood (Some the_features) the_features h = inr refl
+stood_splits stood s what h = inl h
 
 pub none_yet : (what : Single) → has_stood none_stood (Some what) ≡ true → ⊥
 none_yet the_labels h = false≢true h

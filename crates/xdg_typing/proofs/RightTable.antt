@@ -7,11 +7,11 @@ use Rattle.xdg_ast.specs.declared.names.Name.{Name}
 use Rattle.xdg_ast.specs.declared.grammar.DimPartKind.{DimPartKind}
 use Rattle.xdg_ast.specs.declared.grammar.DimPartKind.TheVariants as p
 use Rattle.xdg_domain.specs.declared.types.Ty.{Ty}
-use Rattle.xdg_domain.specs.Shapes.{Shape, domain, tuple, truth, integer, text, set, iset, card, valency, mapping, fields, Fields, no_field, field_then, constants, shape, IsType, AreTypes, names_of}
+use Rattle.xdg_domain.specs.Shapes.{Shape, text, fields, Fields, no_field, field_then, constants, shape, IsType, AreTypes, names_of}
 use Rattle.xdg_domain.proofs.Constants.{domain_differs}
 use Rattle.xdg_names.proofs.Texts.{place_of-has_text, place_of-Some, among_has}
 use Rattle.xdg_types.specs.declared.table.DimType.{DimType}
-use Rattle.xdg_types.specs.Written.{Tree, nothing, listed, recorded, tupled, set_of, iset_of, valency_of, map_of, a_card, a_bool, an_int, a_string, named, Members, no_member, member_then, member_names, tree}
+use Rattle.xdg_types.specs.Written.{Tree, nothing, recorded, named, Members, no_member, member_then, member_names, tree}
 use Rattle.xdg_types.specs.Parts.{TypeTerm, DimPart, Statement, Dimension, dimensions, dim_names, used_name, used_names, used_places, label_type, attrs_type, entry_type, in_parts}
 use Rattle.xdg_types.specs.Meaning.{meaning, fields_meaning, as_domain}
 use Rattle.xdg_types.specs.Kinds.{an_attribute, the_labels, the_attributes, the_features, inside, inside_members, inside_attributes, is_record, is_attribute, field_count, HasOther, reaching}
@@ -125,16 +125,7 @@ members_count names (member_then name at t ms) = let e = members_count names ms 
 
 record_only : (s : Shape) → is_record s ≡ true → (fs : Fields) × (s ≡ fields fs)
 record_only (fields fs) h = (fs, refl)
-record_only (domain cs) h = absurd (false≢true h)
-record_only (tuple ss) h = absurd (false≢true h)
-record_only truth h = absurd (false≢true h)
-record_only integer h = absurd (false≢true h)
-record_only text h = absurd (false≢true h)
-record_only (set u) h = absurd (false≢true h)
-record_only (iset u) h = absurd (false≢true h)
-record_only card h = absurd (false≢true h)
-record_only (valency u) h = absurd (false≢true h)
-record_only (mapping l u) h = absurd (false≢true h)
+record_only other h = absurd (false≢true h)
 
 features_of : (s : Shape) → is_record s ≡ true → IsType s → RightFeatures (fields_in s)
 features_of s k h =
@@ -188,16 +179,7 @@ module _ (names : Naming) where
       subst (λ (gs : Fields). (field_count gs ≤ 8) × AllAttributes gs) same (let c = members_count names ms in let l = few_members at ms fine in omega (arith, c, l), members_attributes ms all)
   few_attributes at (named name) fine all = few_named at name fine
   few_attributes at nothing fine all = λ fs e. subst (λ (gs : Fields). (field_count gs ≤ 8) × AllAttributes gs) (same_fields no_field fs e) (omega arith, tt)
-  few_attributes at (listed cs) fine all = λ fs e. absurd cc
-  few_attributes at (tupled ts) fine all = λ fs e. absurd cc
-  few_attributes at (set_of there t) fine all = λ fs e. absurd cc
-  few_attributes at (iset_of there t) fine all = λ fs e. absurd cc
-  few_attributes at (valency_of there t) fine all = λ fs e. absurd cc
-  few_attributes at (map_of there t further u) fine all = λ fs e. absurd cc
-  few_attributes at a_card fine all = λ fs e. absurd cc
-  few_attributes at a_bool fine all = λ fs e. absurd cc
-  few_attributes at an_int fine all = λ fs e. absurd cc
-  few_attributes at a_string fine all = λ fs e. absurd cc
+  few_attributes at other fine all = λ fs e. absurd cc
 
 module _ (statements : List Statement) (names : Naming) (right : AreRight statements names) where
   labels_right : (dim : Dimension) → In (dimensions statements) dim → RightLabels (constants (as_domain (first_meaning names (in_parts label_type dim.1))))

@@ -7,9 +7,9 @@ use Rattle.std.proofs.lemmas.List.{length-map}
 use Rattle.xdg_base.specs.declared.faults.Cause.TheVariants as causes
 use Rattle.xdg_base.specs.declared.faults.Fault.{Fault}
 use Rattle.xdg_ast.specs.declared.names.Name.{Name}
-use Rattle.xdg_domain.specs.Shapes.{Shape, domain, tuple, truth, integer, text, set, iset, card, valency, mapping, fields, Shapes, no_shape, shape_then, Fields, no_field, field_then, constants, constants_of, in_a_row, sizes, product, count, IsDomain, AreDomains, IsSmall, IsMapped, names_of, IsType, AreTypes}
+use Rattle.xdg_domain.specs.Shapes.{Shape, domain, tuple, text, set, iset, card, valency, mapping, fields, Shapes, no_shape, shape_then, Fields, no_field, field_then, constants, constants_of, in_a_row, sizes, product, count, IsDomain, AreDomains, IsSmall, IsMapped, names_of, IsType, AreTypes}
 use Rattle.xdg_domain.proofs.Constants.{domain_differs}
-use Rattle.xdg_types.specs.Written.{Tree, nothing, listed, recorded, tupled, set_of, iset_of, valency_of, map_of, a_card, a_bool, an_int, a_string, named, Trees, no_tree, tree_then, Members, no_member, member_then, member_names, uses, uses_in_trees, uses_in_members, lists, lists_in_trees, lists_in_members}
+use Rattle.xdg_types.specs.Written.{Tree, nothing, listed, recorded, tupled, set_of, iset_of, valency_of, map_of, named, Trees, no_tree, tree_then, Members, no_member, member_then, member_names, uses, uses_in_trees, uses_in_members, lists, lists_in_trees, lists_in_members}
 use Rattle.xdg_types.specs.Meaning.{meaning, domains_meaning, fields_meaning, as_domain}
 use Rattle.xdg_types.specs.Names.{fault_at}
 use Rattle.xdg_types.specs.Kinds.{Wanted, anything, a_domain, a_small, a_mapped, an_attribute, Site, inside, inside_trees, inside_members, inside_attributes, is_domain, is_small, is_mapped, is_empty_domain, are_domains, has_empty_domain, has_no_tuple, is_attribute, is_of_kind, SiteOffends, Split, SharesAt}
@@ -25,42 +25,16 @@ use Rattle.xdg_ast.specs.Texts.{texts}
 pub as_type : (s : Shape) → IsType s → IsType (as_domain s)
 as_type (fields no_field) h = (omega arith, tt)
 as_type (fields (field_then name u fs)) h = h
-as_type (domain cs) h = h
-as_type (tuple ss) h = h
-as_type truth h = h
-as_type integer h = h
-as_type text h = h
-as_type (set u) h = h
-as_type (iset u) h = h
-as_type card h = h
-as_type (valency u) h = h
-as_type (mapping k u) h = h
+as_type other h = h
 
 pub domain_of : (s : Shape) → is_domain s ≡ true → IsType s → IsDomain s
 domain_of (domain cs) k h = h
-domain_of (fields fs) k h = absurd (false≢true k)
-domain_of (tuple ss) k h = absurd (false≢true k)
-domain_of truth k h = absurd (false≢true k)
-domain_of integer k h = absurd (false≢true k)
-domain_of text k h = absurd (false≢true k)
-domain_of (set u) k h = absurd (false≢true k)
-domain_of (iset u) k h = absurd (false≢true k)
-domain_of card k h = absurd (false≢true k)
-domain_of (valency u) k h = absurd (false≢true k)
-domain_of (mapping l u) k h = absurd (false≢true k)
+domain_of other k h = absurd (false≢true k)
 
 small_of : (s : Shape) → is_small s ≡ true → IsType s → IsSmall s
 small_of (domain cs) k h = h
 small_of (tuple ss) k h = h
-small_of (fields fs) k h = absurd (false≢true k)
-small_of truth k h = absurd (false≢true k)
-small_of integer k h = absurd (false≢true k)
-small_of text k h = absurd (false≢true k)
-small_of (set u) k h = absurd (false≢true k)
-small_of (iset u) k h = absurd (false≢true k)
-small_of card k h = absurd (false≢true k)
-small_of (valency u) k h = absurd (false≢true k)
-small_of (mapping l u) k h = absurd (false≢true k)
+small_of other k h = absurd (false≢true k)
 
 mapped_of : (s : Shape) → is_mapped s ≡ true → IsMapped s
 mapped_of (set u) k = tt
@@ -68,12 +42,7 @@ mapped_of (iset u) k = tt
 mapped_of card k = tt
 mapped_of (valency u) k = tt
 mapped_of (mapping l u) k = tt
-mapped_of (domain cs) k = absurd (false≢true k)
-mapped_of (tuple ss) k = absurd (false≢true k)
-mapped_of (fields fs) k = absurd (false≢true k)
-mapped_of truth k = absurd (false≢true k)
-mapped_of integer k = absurd (false≢true k)
-mapped_of text k = absurd (false≢true k)
+mapped_of other k = absurd (false≢true k)
 
 none_in_fields : (fs : Fields) (t : List ℕ) → In (constants (as_domain (fields fs))) t → ⊥
 none_in_fields no_field t h = h
@@ -107,15 +76,7 @@ attribute_of (domain cs) h k = (h, some_constant (domain cs) h (from_not (is_emp
 attribute_of (tuple ss) h k =
     let none : has_no_tuple ss ≡ false = from_not (has_no_tuple ss) k in
     (h, some_tuple ss h.domains (ap (λ b. b && has_empty_domain ss) (sym (all_domains ss h.domains)) ∙ none))
-attribute_of (fields fs) h k = absurd (false≢true k)
-attribute_of truth h k = absurd (false≢true k)
-attribute_of integer h k = absurd (false≢true k)
-attribute_of text h k = absurd (false≢true k)
-attribute_of (set u) h k = absurd (false≢true k)
-attribute_of (iset u) h k = absurd (false≢true k)
-attribute_of card h k = absurd (false≢true k)
-attribute_of (valency u) h k = absurd (false≢true k)
-attribute_of (mapping l u) h k = absurd (false≢true k)
+attribute_of other h k = absurd (false≢true k)
 
 -- ---- types
 
@@ -228,11 +189,8 @@ module _ (names : Naming) where
             right_type a_mapped further u value (λ s i. all s (in_right key_sites value_sites s (inr i))) (λ ns i. once ns (in_right (lists t) (lists u) ns i)) (λ n i. used n (in_right (uses t) (uses u) n i)),
           ),
         )
-    right_type wanted at a_card fine all once used = tt
-    right_type wanted at a_bool fine all once used = tt
-    right_type wanted at an_int fine all once used = tt
-    right_type wanted at a_string fine all once used = tt
     right_type wanted at (named name) fine all once used = used name (inl refl)
+    right_type wanted at other fine all once used = tt
 
     right_domains : (ts : Trees) → AreFine (inside_trees ts) → AllOnce (lists_in_trees ts) → HaveTypes (uses_in_trees ts) → AreDomains (domains_meaning names ts)
     right_domains no_tree all once used = tt
@@ -259,15 +217,4 @@ module _ (names : Naming) where
   -- a record of attributes
   pub right_attributes : (wanted : Wanted) (at : ℕ) (t : Tree) → IsFine (record { wanted = wanted; at = at; written = t }) → AreFine (inside_attributes t) → AllOnce (lists t) → HaveTypes (uses t) → IsType (meaning names t)
   right_attributes wanted at (recorded ms) fine all once used = right_fields an_attribute ms all once used
-  right_attributes wanted at nothing fine all once used = right_type wanted at nothing fine all once used
-  right_attributes wanted at (listed cs) fine all once used = right_type wanted at (listed cs) fine all once used
-  right_attributes wanted at (tupled ts) fine all once used = right_type wanted at (tupled ts) fine all once used
-  right_attributes wanted at (set_of there t) fine all once used = right_type wanted at (set_of there t) fine all once used
-  right_attributes wanted at (iset_of there t) fine all once used = right_type wanted at (iset_of there t) fine all once used
-  right_attributes wanted at (valency_of there t) fine all once used = right_type wanted at (valency_of there t) fine all once used
-  right_attributes wanted at (map_of there t further u) fine all once used = right_type wanted at (map_of there t further u) fine all once used
-  right_attributes wanted at a_card fine all once used = tt
-  right_attributes wanted at a_bool fine all once used = tt
-  right_attributes wanted at an_int fine all once used = tt
-  right_attributes wanted at a_string fine all once used = tt
-  right_attributes wanted at (named name) fine all once used = used name (inl refl)
+  right_attributes wanted at other fine all once used = right_type wanted at other fine all once used

@@ -1,5 +1,6 @@
 -- The parts of a type, and of those that stand in it.
-use Rattle.std.proofs.Common.{◌≡◌, ℕ, zero, suc, ◌+◌, ◌-◌, ◌<◌, ◌≤◌, List, [], ◌∷◌, ◌++◌, length, get_or, flat_map, ap, sym, ◌∙◌, refl, subst, arith, Some}
+use Rattle.std.proofs.lemmas.List.{get_or-map, length-map}
+use Rattle.std.proofs.Common.{◌≡◌, ℕ, zero, suc, ◌+◌, ◌-◌, ◌<◌, ◌≤◌, List, [], ◌∷◌, length, get_or, flat_map, ap, sym, ◌∙◌, refl, subst, arith, Some}
 use Rattle.std.specs.Prelude.{slice_get}
 use Rattle.xdg_ast.specs.declared.names.Pair.{Pair}
 use Rattle.xdg_ast.specs.declared.types.TypeKind.{TypeKind}
@@ -8,11 +9,10 @@ use Rattle.xdg_ast.specs.declared.grammar.DimPartKind.{DimPartKind}
 use Rattle.xdg_ast.specs.declared.grammar.DimPartKind.TheVariants as k
 use Rattle.xdg_ast.specs.declared.grammar.StatementKind.TheVariants as v
 use Rattle.xdg_ast.specs.declared.names.Name.{Name}
-use Rattle.xdg_domain.specs.Shapes.{Shape, domain, tuple, truth, integer, text, set, iset, card, valency, mapping, fields}
 use Rattle.xdg_types.specs.Written.{tree}
 use Rattle.xdg_types.specs.Parts.{TypeTerm, DimPart, Statement, in_parts, attrs_type, entry_type}
-use Rattle.xdg_types.specs.Meaning.{meaning, domains_meaning, fields_meaning, as_domain}
-use Rattle.xdg_types.proofs.Treed.{trees, members, tree_set, tree_iset, tree_valency, tree_map, tree_tuple, tree_rec}
+use Rattle.xdg_types.specs.Meaning.{meaning, domains_meaning, fields_meaning}
+use Rattle.xdg_types.proofs.Treed.{trees, members, tree_tuple, tree_rec}
 use Rattle.xdg_typing.specs.Heads.{Knows, IsHeadOf}
 use Rattle.xdg_typing.specs.Weights.{parts, parts_of, parts_in}
 use Rattle.xdg_typing.proofs.WeightLaws.{parts_as}
@@ -20,20 +20,6 @@ use Rattle.xdg_typing.specs.Branches.{Naming}
 use Rattle.xdg_typing.specs.Room.{HasRoom, field_types}
 use Rattle.xdg_typing.specs.Small.{given, given_in, given_by, given_types, all_parts}
 use Rattle.xdg_typing.proofs.SmallTypes.{parts_append}
-
--- a type is itself a part
-some_part : (s : Shape) → 0 < parts s
-some_part (domain cs) = omega arith
-some_part (tuple ss) = omega arith
-some_part truth = omega arith
-some_part integer = omega arith
-some_part text = omega arith
-some_part (set s) = omega arith
-some_part (iset s) = omega arith
-some_part card = omega arith
-some_part (valency s) = omega arith
-some_part (mapping s u) = omega arith
-some_part (fields fs) = omega arith
 
 -- ---- what stands in a type
 
@@ -52,11 +38,6 @@ module _ (names : Naming) where
   one_of_all (u ∷ us) zero t h = omega arith
   one_of_all (u ∷ us) (suc i) t h = let e = one_of_all us i t (omega (arith, h)) in omega (arith, e)
 
-  one_of_fields : (ps : List (Pair TypeTerm)) (i : ℕ) (p : Pair TypeTerm) → i < length ps → parts (meaning names (tree (get_or ps i p).value.kind)) ≤ all_parts names (field_types ps)
-  one_of_fields [] i p h = absurd (omega (arith, h))
-  one_of_fields (q ∷ qs) zero p h = omega arith
-  one_of_fields (q ∷ qs) (suc i) p h = let e = one_of_fields qs i p (omega (arith, h)) in omega (arith, e)
-
 -- ---- room for it
 
 module _ (known : List (List ℕ)) (heads : List TypeTerm) where
@@ -68,42 +49,6 @@ module _ (known : List (List ℕ)) (heads : List TypeTerm) where
 
   less : (count other : Naming → ℕ) (room left : ℕ) → (r : Has count room) → ((names : Naming) → Knows names known heads → count names ≤ room → other names ≤ left) → Has other left
   less count other room left r h = record { names = r.names; knows = r.knows; fits = h r.names r.knows r.fits }
-
-  pub room_is_some : (kind : TypeKind) (room : ℕ) → Has (of_kind kind) room → 0 < room
-  room_is_some kind room r = let e = some_part (meaning r.names (tree kind)) in let f : parts (meaning r.names (tree kind)) ≤ room = r.fits in omega (arith, e, f)
-
-  -- a name and what it leads to have the same parts
-  pub head_room : (kind head : TypeKind) (room : ℕ) → ((names : Naming) → Knows names known heads → IsHeadOf names kind head) → Has (of_kind kind) room → Has (of_kind head) (room - 1 + 1)
-  head_room kind head room leads r =
-      let some = room_is_some kind room r in
-      less (of_kind kind) (of_kind head) room (room - 1 + 1) r (λ names knows fits. (let e = ap parts (leads names knows).0 in omega (arith, some, fits, e)))
-
-  -- of a type with one type in it
-  inner : (kind : TypeKind) (part : TypeTerm) (room : ℕ) → ((names : Naming) → parts (meaning names (tree kind)) ≡ 1 + parts (as_domain (meaning names (tree part.kind)))) → Has (of_kind kind) (room + 1) → Has (of_kind part.kind) room
-  inner kind part room holds r =
-      less (of_kind kind) (of_kind part.kind) (room + 1) room r (λ names knows fits. (let e = holds names in let f = parts_as (meaning names (tree part.kind)) in omega (arith, fits, e, f)))
-
-  pub set_room : (kind : TypeKind) (part written : TypeTerm) (room : ℕ) → kind ≡ y.Set part → written ≡ part → Has (of_kind kind) (room + 1) → Has (of_kind written.kind) room
-  set_room kind part written room is same r = subst (λ (t : TypeTerm). Has (of_kind t.kind) room) (sym same) (inner kind part room (λ names. ap (λ t. parts (meaning names t)) (ap tree is ∙ tree_set part)) r)
-
-  pub iset_room : (kind : TypeKind) (part written : TypeTerm) (room : ℕ) → kind ≡ y.ISet part → written ≡ part → Has (of_kind kind) (room + 1) → Has (of_kind written.kind) room
-  iset_room kind part written room is same r = subst (λ (t : TypeTerm). Has (of_kind t.kind) room) (sym same) (inner kind part room (λ names. ap (λ t. parts (meaning names t)) (ap tree is ∙ tree_iset part)) r)
-
-  pub valency_room : (kind : TypeKind) (part written : TypeTerm) (room : ℕ) → kind ≡ y.Valency part → written ≡ part → Has (of_kind kind) (room + 1) → Has (of_kind written.kind) room
-  valency_room kind part written room is same r = subst (λ (t : TypeTerm). Has (of_kind t.kind) room) (sym same) (inner kind part room (λ names. ap (λ t. parts (meaning names t)) (ap tree is ∙ tree_valency part)) r)
-
-  parts_of_map : (names : Naming) (kind : TypeKind) (key of : TypeTerm) → kind ≡ y.Map key of → parts (meaning names (tree kind)) ≡ 1 + (parts (as_domain (meaning names (tree key.kind))) + parts (meaning names (tree of.kind)))
-  parts_of_map names kind key of is = ap (λ t. parts (meaning names t)) (ap tree is ∙ tree_map key of)
-
-  pub key_room : (kind : TypeKind) (key of written : TypeTerm) (room : ℕ) → kind ≡ y.Map key of → written ≡ key → Has (of_kind kind) (room + 1) → Has (of_kind written.kind) room
-  key_room kind key of written room is same r =
-      subst (λ (t : TypeTerm). Has (of_kind t.kind) room) (sym same)
-      (less (of_kind kind) (of_kind key.kind) (room + 1) room r (λ names knows fits. (let e = parts_of_map names kind key of is in let f = parts_as (meaning names (tree key.kind)) in omega (arith, fits, e, f))))
-
-  pub value_room : (kind : TypeKind) (key of written : TypeTerm) (room : ℕ) → kind ≡ y.Map key of → written ≡ of → Has (of_kind kind) (room + 1) → Has (of_kind written.kind) room
-  value_room kind key of written room is same r =
-      subst (λ (t : TypeTerm). Has (of_kind t.kind) room) (sym same)
-      (less (of_kind kind) (of_kind of.kind) (room + 1) room r (λ names knows fits. (let e = parts_of_map names kind key of is in omega (arith, fits, e))))
 
   pub tuple_room : (kind : TypeKind) (types written : List TypeTerm) (room : ℕ) → kind ≡ y.Tuple types → written ≡ types → Has (of_kind kind) (room + 1) → Has (λ names. all_parts names written) room
   tuple_room kind types written room is same r =
@@ -131,8 +76,8 @@ module _ (known : List (List ℕ)) (heads : List TypeTerm) where
 
   pub field_room : (ps : List (Pair TypeTerm)) (i : ℕ) (p : Pair TypeTerm) (room : ℕ) → i < length ps → p ≡ get_or ps i p → Has (λ names. all_parts names (field_types ps)) room → Has (of_kind p.value.kind) room
   field_room ps i p room within at r =
-      less (λ names. all_parts names (field_types ps)) (of_kind p.value.kind) room room r (λ names knows fits.
-      (let e = one_of_fields names ps i p within in let f = ap (λ (q : Pair TypeTerm). parts (meaning names (tree q.value.kind))) at in omega (arith, fits, e, f)))
+      let value = λ (q : Pair TypeTerm). q.value in
+      each_room (field_types ps) i p.value room (subst (λ n. i < n) (sym (length-map ps value)) within) (ap value at ∙ sym (get_or-map value ps i p p.value within)) r
 
 -- ---- the types of dimensions
 
@@ -143,28 +88,24 @@ module _ (names : Naming) where
   given_by_one f (z ∷ zs) zero x h = let e = parts_append names (f z) (flat_map f zs) in omega (arith, e)
   given_by_one f (z ∷ zs) (suc i) x h = let d = given_by_one f zs i x (omega (arith, h)) in let e = parts_append names (f z) (flat_map f zs) in omega (arith, d, e)
 
-  -- the first type of one kind
-  first_entry : (kind : DimPartKind) (more : List TypeTerm) (t : TypeTerm) (rest : ℕ) → (slice_get more 0 ≡ Some t → parts (meaning names (tree t.kind)) ≤ rest)
-      → slice_get (entry_type kind ++ more) 0 ≡ Some t → parts (meaning names (tree t.kind)) ≤ all_parts names (given kind) + rest
-  first_entry (k.EntryType type) more t rest h is = let e : type ≡ t = cc in let f = ap (λ (u : TypeTerm). parts (meaning names (tree u.kind))) e in omega (arith, f)
-  first_entry other more t rest h is = let e = h is in omega (arith, e)
+  -- the types of one kind among those that are given
+  pub entry_less : (kind : DimPartKind) → all_parts names (entry_type kind) ≤ all_parts names (given kind)
+  entry_less (k.EntryType type) = omega arith
+  entry_less other = omega arith
 
-  first_attrs : (kind : DimPartKind) (more : List TypeTerm) (t : TypeTerm) (rest : ℕ) → (slice_get more 0 ≡ Some t → parts (meaning names (tree t.kind)) ≤ rest)
-      → slice_get (attrs_type kind ++ more) 0 ≡ Some t → parts (meaning names (tree t.kind)) ≤ all_parts names (given kind) + rest
-  first_attrs (k.AttrsType type) more t rest h is = let e : type ≡ t = cc in let f = ap (λ (u : TypeTerm). parts (meaning names (tree u.kind))) e in omega (arith, f)
-  first_attrs other more t rest h is = let e = h is in omega (arith, e)
+  pub attrs_less : (kind : DimPartKind) → all_parts names (attrs_type kind) ≤ all_parts names (given kind)
+  attrs_less (k.AttrsType type) = omega arith
+  attrs_less other = omega arith
 
-  entry_given : (ps : List DimPart) (t : TypeTerm) → slice_get (in_parts entry_type ps) 0 ≡ Some t → parts (meaning names (tree t.kind)) ≤ all_parts names (given_in ps)
-  entry_given [] t is = absurd cc
-  entry_given (q ∷ qs) t is =
-      let e = first_entry q.kind (in_parts entry_type qs) t (all_parts names (given_in qs)) (entry_given qs t) is in
-      let f = parts_append names (given q.kind) (given_in qs) in omega (arith, e, f)
+  all_less : (which : DimPartKind → List TypeTerm) → ((kind : DimPartKind) → all_parts names (which kind) ≤ all_parts names (given kind)) → (ps : List DimPart)
+      → all_parts names (in_parts which ps) ≤ all_parts names (given_in ps)
+  all_less which less [] = omega arith
+  all_less which less (q ∷ qs) =
+      let e = all_less which less qs in let f = parts_append names (which q.kind) (in_parts which qs) in let g = parts_append names (given q.kind) (given_in qs) in omega (arith, e, f, g, less q.kind)
 
-  attrs_given : (ps : List DimPart) (t : TypeTerm) → slice_get (in_parts attrs_type ps) 0 ≡ Some t → parts (meaning names (tree t.kind)) ≤ all_parts names (given_in ps)
-  attrs_given [] t is = absurd cc
-  attrs_given (q ∷ qs) t is =
-      let e = first_attrs q.kind (in_parts attrs_type qs) t (all_parts names (given_in qs)) (attrs_given qs t) is in
-      let f = parts_append names (given q.kind) (given_in qs) in omega (arith, e, f)
+  first_part : (ts : List TypeTerm) (t : TypeTerm) → Some t ≡ slice_get ts 0 → parts (meaning names (tree t.kind)) ≤ all_parts names ts
+  first_part [] t h = absurd cc
+  first_part (u ∷ us) t h = let e : u ≡ t = cc in let f = ap (λ (v : TypeTerm). parts (meaning names (tree v.kind))) e in omega (arith, f)
 
 module _ (known : List (List ℕ)) (heads : List TypeTerm) where
   pub dim_room : (ss : List Statement) (i : ℕ) (s : Statement) (name : Name) (ps written : List DimPart) (room : ℕ) → i < length ss → s ≡ get_or ss i s → s.kind ≡ v.DefDim name ps → written ≡ ps
@@ -177,22 +118,14 @@ module _ (known : List (List ℕ)) (heads : List TypeTerm) where
       let h = ap (λ qs. all_parts names (given_in qs)) same in omega (arith, fits, e, f, g, h)))
 
   -- the fields of the type that is given for features or attributes
-  given_room : (ps : List DimPart) (t : TypeTerm) (head : TypeKind) (all written : List (Pair TypeTerm)) (room : ℕ) → ((names : Naming) → parts (meaning names (tree t.kind)) ≤ all_parts names (given_in ps))
+  pub given_room : (which : DimPartKind → List TypeTerm) → ((names : Naming) (kind : DimPartKind) → all_parts names (which kind) ≤ all_parts names (given kind))
+      → (ps : List DimPart) (t : TypeTerm) (head : TypeKind) (all written : List (Pair TypeTerm)) (room : ℕ) → Some t ≡ slice_get (in_parts which ps) 0
       → ((names : Naming) → Knows names known heads → IsHeadOf names t.kind head) → head ≡ y.Rec all → written ≡ all
       → HasRoom known heads (λ names. all_parts names (given_in ps)) room → HasRoom known heads (λ names. all_parts names (field_types written)) room
-  given_room ps t head all written room small leads is same r =
+  given_room which small ps t head all written room first leads is same r =
       less known heads (λ names. all_parts names (given_in ps)) (λ names. all_parts names (field_types written)) room room r (λ names knows fits.
-      (let e = small names in
+      (let d = first_part names (in_parts which ps) t first in
+      let e = all_less names which (small names) ps in
       let f = ap parts (leads names knows).0 in
       let g = parts_of_record known heads names head all is in
-      let h = ap (λ qs. all_parts names (field_types qs)) same in omega (arith, fits, e, f, g, h)))
-
-  pub features_room : (ps : List DimPart) (t : TypeTerm) (head : TypeKind) (all written : List (Pair TypeTerm)) (room : ℕ) → Some t ≡ slice_get (in_parts entry_type ps) 0
-      → ((names : Naming) → Knows names known heads → IsHeadOf names t.kind head) → head ≡ y.Rec all → written ≡ all
-      → HasRoom known heads (λ names. all_parts names (given_in ps)) room → HasRoom known heads (λ names. all_parts names (field_types written)) room
-  features_room ps t head all written room first leads is same r = given_room ps t head all written room (λ names. entry_given names ps t (sym first)) leads is same r
-
-  pub attributes_room : (ps : List DimPart) (t : TypeTerm) (head : TypeKind) (all written : List (Pair TypeTerm)) (room : ℕ) → Some t ≡ slice_get (in_parts attrs_type ps) 0
-      → ((names : Naming) → Knows names known heads → IsHeadOf names t.kind head) → head ≡ y.Rec all → written ≡ all
-      → HasRoom known heads (λ names. all_parts names (given_in ps)) room → HasRoom known heads (λ names. all_parts names (field_types written)) room
-  attributes_room ps t head all written room first leads is same r = given_room ps t head all written room (λ names. attrs_given names ps t (sym first)) leads is same r
+      let h = ap (λ qs. all_parts names (field_types qs)) same in omega (arith, fits, d, e, f, g, h)))

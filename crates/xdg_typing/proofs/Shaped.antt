@@ -7,27 +7,18 @@ use Rattle.xdg_ast.specs.declared.types.TypeKind.TheVariants as y
 use Rattle.xdg_domain.specs.declared.types.Ty.{Ty}
 use Rattle.xdg_domain.specs.declared.types.Ty.TheOpen.{Ty-F}
 use Rattle.xdg_domain.specs.declared.types.Ty.TheVariants as t
-use Rattle.xdg_domain.specs.Shapes.{Shape, tuple, text, set, iset, valency, mapping, fields, no_field, field_then, shape_then, shape, shapes_of, fields_of}
+use Rattle.xdg_domain.specs.Shapes.{Shape, tuple, text, mapping, fields, no_field, field_then, shape_then, shape, shapes_of, fields_of}
 use Rattle.xdg_types.specs.Written.{tree}
 use Rattle.xdg_types.specs.Parts.{TypeTerm}
 use Rattle.xdg_types.specs.Meaning.{meaning, domains_meaning, fields_meaning, as_domain}
 use Rattle.xdg_types.specs.Table.{typed}
 use Rattle.xdg_typing.specs.Branches.{domain_meaning, field_meaning}
-use Rattle.xdg_types.proofs.Treed.{trees, members, tree_set, tree_iset, tree_valency, tree_map, tree_tuple, tree_rec}
+use Rattle.xdg_types.proofs.Treed.{trees, members, tree_map, tree_tuple, tree_rec}
 use Rattle.xdg_domain.proofs.Opened.{shape_map}
 use Rattle.xdg_domain.proofs.Shaped.{by_layer}
 
 shape_tuple : (all : List Ty) → shape (t.Tuple all) ≡ tuple (shapes_of (map shape all))
 shape_tuple all = by_layer (t.Tuple all) (Ty-F.Tuple all) (t.outs-Tuple all)
-
-shape_set : (of : Ty) → shape (t.Set of) ≡ set (shape of)
-shape_set of = by_layer (t.Set of) (Ty-F.Set of) (t.outs-Set of)
-
-shape_iset : (of : Ty) → shape (t.ISet of) ≡ iset (shape of)
-shape_iset of = by_layer (t.ISet of) (Ty-F.ISet of) (t.outs-ISet of)
-
-shape_valency : (of : Ty) → shape (t.Valency of) ≡ valency (shape of)
-shape_valency of = by_layer (t.Valency of) (Ty-F.Valency of) (t.outs-Valency of)
 
 shape_rec : (all : List (List ℕ × Ty)) → shape (t.Rec all) ≡ fields (fields_of (typed all))
 shape_rec all = by_layer (t.Rec all) (Ty-F.Rec all) (t.outs-Rec all)
@@ -45,15 +36,6 @@ rec_is_empty ty all b is told = (
 -- ---- the forms
 
 module _ (names : List ℕ → Shape) where
-  pub made_set : (kind : TypeKind) (part written : TypeTerm) (inner held : Ty) → kind ≡ y.Set part → written ≡ part → held ≡ inner → shape inner ≡ as_domain (meaning names (tree written.kind)) → shape (t.Set held) ≡ meaning names (tree kind)
-  made_set kind part written inner held is same holds h = shape_set held ∙ ap set (ap shape holds ∙ h ∙ ap (λ (w : TypeTerm). as_domain (meaning names (tree w.kind))) same) ∙ sym (ap (meaning names) (ap tree is ∙ tree_set part))
-
-  pub made_iset : (kind : TypeKind) (part written : TypeTerm) (inner held : Ty) → kind ≡ y.ISet part → written ≡ part → held ≡ inner → shape inner ≡ as_domain (meaning names (tree written.kind)) → shape (t.ISet held) ≡ meaning names (tree kind)
-  made_iset kind part written inner held is same holds h = shape_iset held ∙ ap iset (ap shape holds ∙ h ∙ ap (λ (w : TypeTerm). as_domain (meaning names (tree w.kind))) same) ∙ sym (ap (meaning names) (ap tree is ∙ tree_iset part))
-
-  pub made_valency : (kind : TypeKind) (part written : TypeTerm) (inner held : Ty) → kind ≡ y.Valency part → written ≡ part → held ≡ inner → shape inner ≡ as_domain (meaning names (tree written.kind)) → shape (t.Valency held) ≡ meaning names (tree kind)
-  made_valency kind part written inner held is same holds h = shape_valency held ∙ ap valency (ap shape holds ∙ h ∙ ap (λ (w : TypeTerm). as_domain (meaning names (tree w.kind))) same) ∙ sym (ap (meaning names) (ap tree is ∙ tree_valency part))
-
   pub made_map : (kind : TypeKind) (key of key_written of_written : TypeTerm) (from to held_from held_to : Ty) → kind ≡ y.Map key of → key_written ≡ key → of_written ≡ of → held_from ≡ from → held_to ≡ to
       → shape from ≡ as_domain (meaning names (tree key_written.kind)) → shape to ≡ meaning names (tree of_written.kind) → shape (t.Map held_from held_to) ≡ meaning names (tree kind)
   made_map kind key of key_written of_written from to held_from held_to is same_key same_of holds_from holds_to h k =
@@ -74,7 +56,3 @@ module _ (names : List ℕ → Shape) where
 
   pub made_rec : (kind : TypeKind) (all written : List (Pair TypeTerm)) (made : List (List ℕ × Ty)) → kind ≡ y.Rec all → written ≡ all → typed made ≡ map (field_meaning names) written → shape (t.Rec made) ≡ meaning names (tree kind)
   made_rec kind all written made is same h = shape_rec made ∙ ap (λ fs. fields (fields_of fs)) h ∙ ap (λ ps. fields (fields_of (map (field_meaning names) ps))) same ∙ ap fields (fields_are all) ∙ sym (ap (meaning names) (ap tree is ∙ tree_rec all))
-
--- ---- where a domain is wanted
-
--- ---- lists, element by element

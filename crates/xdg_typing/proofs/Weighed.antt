@@ -1,6 +1,6 @@
 -- The weights of written types, form by form.
-use Rattle.std.proofs.Common.{◌≡◌, ℕ, ◌<◌, ◌≤◌, ◌+◌, List, ◌∷◌, length, drop, get_or, sym, ap, ◌∙◌}
-use Rattle.std.proofs.lemmas.List.{at_drop_more, drop_all}
+use Rattle.std.proofs.Common.{◌≡◌, ℕ, ◌≤◌, List, length, drop, sym, ap, ◌∙◌}
+use Rattle.std.proofs.lemmas.List.{drop_all}
 use Rattle.xdg_ast.specs.declared.names.Name.{Name}
 use Rattle.xdg_ast.specs.declared.names.Pair.{Pair}
 use Rattle.xdg_ast.specs.declared.types.TypeKind.{TypeKind}
@@ -30,16 +30,6 @@ module _ (at : Name → ℕ) where
   of_domain names = ap (weighed at) (tree_domain names)
 
   -- ---- fields
-
-  pub trees_more : (ts : List TypeTerm) (i : ℕ) (t : TypeTerm) (all : ℕ) → i < length ts → t ≡ get_or ts i t
-      → beside_trees at (beside all (weighed at (tree t.kind))) (trees (drop (i + 1) ts)) ≡ beside_trees at all (trees (drop i ts))
-  trees_more ts i t all within is =
-      sym (at_drop_more (λ (us : List TypeTerm). beside_trees at all (trees us)) ts i t within ∙ ap (λ (u : TypeTerm). beside_trees at all (trees (u ∷ drop (i + 1) ts))) (sym is))
-
-  pub members_more : (ps : List (Pair TypeTerm)) (i : ℕ) (p : Pair TypeTerm) (all : ℕ) → i < length ps → p ≡ get_or ps i p
-      → beside_members at (beside all (weighed at (tree p.value.kind))) (members (drop (i + 1) ps)) ≡ beside_members at all (members (drop i ps))
-  members_more ps i p all within is =
-      sym (at_drop_more (λ (qs : List (Pair TypeTerm)). beside_members at all (members qs)) ps i p within ∙ ap (λ (q : Pair TypeTerm). beside_members at all (members (q ∷ drop (i + 1) ps))) (sym is))
 
   pub tuple_weighed : (kind : TypeKind) (ts items : List TypeTerm) (i : ℕ) (all : ℕ) → kind ≡ y.Tuple ts → items ≡ ts → length items ≤ i
       → beside_trees at all (trees (drop i items)) ≡ beside_trees at 0 (trees items) → held all ≡ weighed at (tree kind)

@@ -1,8 +1,8 @@
 -- The weights of definitions.
-use Rattle.std.proofs.Common.{◌≡◌, ℕ, ◌<◌, ◌+◌, List, [], map, length, get_or, set, slice_index_or, Some, None, Bor, refl, sym, ◌∙◌, ap, subst, arith, inl, inr}
-use Rattle.std.proofs.lemmas.Bool.{cases_eq, cases_lt}
-use Rattle.std.proofs.lemmas.List.{get_or-map, length-map, get_or-set_same, get_or-set_other}
+use Rattle.std.proofs.Common.{◌≡◌, ℕ, ◌<◌, ◌+◌, List, [], map, length, get_or, set, slice_index_or, Some, None, Bor, refl, sym, ◌∙◌, ap, subst, arith}
+use Rattle.std.proofs.lemmas.List.{get_or-map, length-map}
 use Rattle.xdg_names.proofs.Texts.{place_of-Some}
+use Rattle.xdg_typing.proofs.Turning.{set_next}
 use Rattle.xdg_domain.specs.Shapes.{Shape}
 use Rattle.xdg_names.specs.Texts.{place_of}
 use Rattle.xdg_types.specs.Written.{tree, uses}
@@ -29,21 +29,6 @@ module _ (names : List ℕ → Shape) (known : List (List ℕ)) (bodies : List T
       ] refl)
       ∙ ap weight_of (sym (agrees.defined a (within i inside) body ∙ ap (λ (t : TypeTerm). meaning names (tree t.kind)) (sym is)))
 
-  -- a right weight more
-  pub weight_more : (weights : List ℕ) (i : ℕ) (next : ℕ) → i < length order → length weights ≡ length bodies → WeighedBefore names known order i weights
-      → next ≡ weight_of (names (get_or known (slice_index_or order i 0) [])) → WeighedBefore names known order (i + 1) (set weights (slice_index_or order i 0) next)
-  weight_more weights i next inside len before right j below =
-      let a = slice_index_or order i 0 in
-      let small : a < length bodies = within i inside in
-      elim (cases_eq (slice_index_or order j 0) a) [
-        | inl e ↦ subst (λ m. get_or (set weights a next) m leaf ≡ weight_of (names (get_or known m []))) (sym e)
-            (get_or-set_same weights a next leaf (omega (arith, small, len)) ∙ right)
-        | inr ne ↦ elim (cases_lt j i) [
-          | inl less ↦ get_or-set_other weights a (slice_index_or order j 0) next leaf ne ∙ before j less
-          | inr past ↦ (let e : j ≡ i = omega (arith, below, past) in absurd (ne (ap (λ m. slice_index_or order m 0) e)))
-        ]
-      ]
-
 abbrev at : Bor TypeTerm → TypeTerm
 at h = h.now
 
@@ -59,4 +44,5 @@ weights_step known bodies weights slice order i body next first within inside le
     let wide : (k : ℕ) → k < length order → slice_index_or order k 0 < length (map at bodies) = λ k h. subst (λ n. slice_index_or order k 0 < n) (sym many) (within k h) in
     let stands : body.now ≡ get_or (map at bodies) a body.now = sym (get_or-map at bodies a body body.now (within i inside) ∙ ap at (sym is)) in
     let right = gives ∙ ap (λ ws. weighed (named_weight known ws) (tree body.now.kind)) same ∙ next_weight names known (map at bodies) order agrees first wide weights i body.now inside (before names agrees) stands in
-    weight_more names known (map at bodies) order agrees first wide weights i next inside (len ∙ sym many) (before names agrees) right
+    let small : a < length weights = let s = within i inside in omega (arith, s, len) in
+    set_next (λ m weight. weight ≡ weight_of (names (get_or known m []))) order weights i next leaf small (before names agrees) right

@@ -2,8 +2,8 @@
 use Rattle.std.proofs.Common.{◌≡◌, inl, refl, ℕ, ◌+◌, ◌-◌, ◌^◌, List, length, min, sym, ap, ap₂, ◌∙◌, arith}
 use Rattle.std.proofs.lemmas.List.{length-map}
 use Rattle.xdg_ast.specs.declared.names.Name.{Name}
-use Rattle.xdg_domain.specs.Shapes.{Shape, domain, tuple, truth, integer, text, set, iset, card, valency, mapping, fields, no_field, field_then}
-use Rattle.xdg_types.specs.Written.{Tree, nothing, listed, recorded, tupled, set_of, iset_of, valency_of, map_of, a_card, a_bool, an_int, a_string, named, Trees, no_tree, tree_then, Members, no_member, member_then, uses, uses_in_trees, uses_in_members}
+use Rattle.xdg_domain.specs.Shapes.{Shape, text, fields, no_field, field_then}
+use Rattle.xdg_types.specs.Written.{Tree, listed, recorded, tupled, set_of, iset_of, valency_of, map_of, named, Trees, no_tree, tree_then, Members, no_member, member_then, uses, uses_in_trees, uses_in_members}
 use Rattle.xdg_types.specs.Meaning.{meaning, domains_meaning, fields_meaning, as_domain}
 use Rattle.xdg_typing.specs.Weights.{parts, parts_of, parts_in, capped, weight_of, beside, held, weighed, beside_trees, beside_members, named_weight, Weighs}
 use Rattle.xdg_facts.proofs.Numbers.{below_one}
@@ -27,16 +27,7 @@ held_capped p = below_one p (2 ^ 64 - 1)
 pub parts_as : (s : Shape) → parts (as_domain s) ≡ parts s
 parts_as (fields no_field) = refl
 parts_as (fields (field_then name u fs)) = refl
-parts_as (domain cs) = refl
-parts_as (tuple ss) = refl
-parts_as truth = refl
-parts_as integer = refl
-parts_as text = refl
-parts_as (set u) = refl
-parts_as (iset u) = refl
-parts_as card = refl
-parts_as (valency u) = refl
-parts_as (mapping k u) = refl
+parts_as other = refl
 
 weight_as : (s : Shape) → weight_of s ≡ weight_of (as_domain s)
 weight_as s = ap capped (sym (parts_as s))
@@ -63,7 +54,6 @@ module _ (names : List ℕ → Shape) (at : Name → ℕ) where
   mutual
     -- where the names that a type uses have the weights of what they mean
     pub weigh_right : (t : Tree) → ((n : Name) → In (uses t) n → at n ≡ weight_of (names n.text)) → weighed at t ≡ weight_of (meaning names t)
-    weigh_right nothing h = refl
     weigh_right (listed cs) h = constants_counted cs
     weigh_right (recorded ms) h = ap held (members_right ms 0 h) ∙ holds (parts_in (fields_meaning names ms))
     weigh_right (tupled ts) h = ap held (trees_right ts 0 h) ∙ holds (parts_of (domains_meaning names ts))
@@ -74,11 +64,8 @@ module _ (names : List ℕ → Shape) (at : Name → ℕ) where
         let s = as_domain (meaning names t) in
         ap held (ap₂ beside (weigh_right t (λ n i. h n (in_left (uses t) (uses u) n i)) ∙ weight_as (meaning names t)) (weigh_right u (λ n i. h n (in_right (uses t) (uses u) n i)))
         ∙ beside_capped (parts s) (parts (meaning names u))) ∙ held_capped (parts s + parts (meaning names u))
-    weigh_right a_card h = refl
-    weigh_right a_bool h = refl
-    weigh_right an_int h = refl
-    weigh_right a_string h = refl
     weigh_right (named name) h = h name (inl refl)
+    weigh_right other h = refl
 
     trees_right : (ts : Trees) (p : ℕ) → ((n : Name) → In (uses_in_trees ts) n → at n ≡ weight_of (names n.text))
         → beside_trees at (capped p) ts ≡ capped (p + parts_of (domains_meaning names ts))

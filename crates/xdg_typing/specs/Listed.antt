@@ -3,7 +3,6 @@ use Rattle.std.specs.Prelude.{ℕ, Bool, true, false, if◌then◌else◌, List,
 use Rattle.xdg_base.specs.declared.faults.Cause.TheVariants as causes
 use Rattle.xdg_base.specs.declared.faults.Fault.{Fault}
 use Rattle.xdg_ast.specs.declared.names.Name.{Name}
-use Rattle.xdg_ast.specs.declared.names.Pair.{Pair}
 use Rattle.xdg_ast.specs.declared.grammar.StatementKind.{StatementKind}
 use Rattle.xdg_ast.specs.declared.grammar.DimPartKind.{DimPartKind}
 use Rattle.xdg_typing.specs.declared.singles.Stood.{Stood}
@@ -28,18 +27,6 @@ abbrev pub defined_name : StatementKind → List Name
 defined_name kind = map (λ d. d.name) (flat_map (λ dim. definitions_in dim.1) (dimension kind))
 
 -- ---- types
-
-abbrev pub uses_in : TypeTerm → List Name
-uses_in type = uses (tree type.kind)
-
-abbrev pub uses_of : Pair TypeTerm → List Name
-uses_of field = uses (tree field.value.kind)
-
-abbrev pub lists_in : TypeTerm → List (List Name)
-lists_in type = lists (tree type.kind)
-
-abbrev pub lists_of : Pair TypeTerm → List (List Name)
-lists_of field = lists (tree field.value.kind)
 
 -- in a type
 abbrev pub in_type : List (List ℕ) → TypeTerm → List Fault

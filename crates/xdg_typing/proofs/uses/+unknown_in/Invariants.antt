@@ -2,13 +2,16 @@ use Rattle.std.proofs.Common.{◌≡◌, drop}
 use Rattle.std.specs.List.{flat_map}
 use Rattle.xdg_names.specs.First.{first, earlier}
 use Rattle.xdg_types.specs.NameFaults as spec
-use Rattle.xdg_typing.specs.Listed as listing
+use Rattle.xdg_types.specs.Written.{uses_in_trees, uses_in_members}
+use Rattle.xdg_typing.specs.KindFaults.{trees_in, members_in}
 use Rattle.xdg_typing.proofs.uses.+unknown_in.Given as goal
 
 abbrev pub invariant-loop-field : goal.invariant-loop-field
 invariant-loop-field l =
-    earlier l.found (first (flat_map (spec.unknown l.known) (flat_map listing.uses_of (drop l.field-index l.field-items)))) ≡ first (flat_map (spec.unknown l.known) (flat_map listing.uses_of l.field-items))
+    let u = spec.unknown l.known in
+    earlier l.found (first (flat_map u (uses_in_members (members_in (drop l.field-index l.field-items))))) ≡ first (flat_map u (uses_in_members (members_in l.field-items)))
 
 abbrev pub invariant-loop-part : goal.invariant-loop-part
 invariant-loop-part l =
-    earlier l.found (first (flat_map (spec.unknown l.known) (flat_map listing.uses_in (drop l.part-index l.part-items)))) ≡ first (flat_map (spec.unknown l.known) (flat_map listing.uses_in l.part-items))
+    let u = spec.unknown l.known in
+    earlier l.found (first (flat_map u (uses_in_trees (trees_in (drop l.part-index l.part-items))))) ≡ first (flat_map u (uses_in_trees (trees_in l.part-items)))
