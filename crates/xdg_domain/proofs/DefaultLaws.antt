@@ -5,7 +5,7 @@ use Rattle.std.specs.List.{range_with_len}
 use Rattle.std.proofs.lemmas.Bool.{cond-true, cond-false, eq-eqb, ne_eqb}
 use Rattle.xdg_domain.specs.Cards.{cards, IsCards}
 use Rattle.xdg_domain.specs.Valencies.{said_at, KeysRise}
-use Rattle.xdg_domain.specs.Shapes.{Shape, domain, tuple, truth, integer, text, set, iset, card, valency, mapping, fields, Fields, no_field, field_then, count, IsType, AreTypes, IsMapped}
+use Rattle.xdg_domain.specs.Shapes.{Shape, set, iset, card, valency, mapping, fields, Fields, no_field, field_then, count, IsType, AreTypes, IsMapped}
 use Rattle.xdg_domain.specs.Values.{EachSaid, IsIn, IsFieldOf, IsValue}
 use Rattle.xdg_domain.specs.Defaults.{default, defaults, for_each_key, map_of_default, record_of_defaults, field_and_defaults, HasPlain, SomeHasPlain, IsFilledIn, AreFilled, IsFilled}
 use Rattle.xdg_domain.specs.declared.values.Value.{Value, out-Value}
@@ -23,17 +23,12 @@ pub differ : {A : Type 0} (o : Option A) (x : A) → o ≡ None → o ≡ Some x
 differ o x e f = cc
 
 pub mapped_plain : (s : Shape) → IsMapped s → HasPlain s → ⊥
-mapped_plain (domain cs) h p = h
-mapped_plain (tuple ss) h p = h
-mapped_plain truth h p = h
-mapped_plain integer h p = h
-mapped_plain text h p = h
 mapped_plain (set s) h p = p
 mapped_plain (iset s) h p = p
 mapped_plain card h p = p
 mapped_plain (valency k) h p = p
 mapped_plain (mapping k u) h p = p
-mapped_plain (fields fs) h p = h
+mapped_plain s h p = h
 
 -- there is none, and a plain part, or there is one, and none
 abbrev pub Decided : Shape → Type 0
@@ -44,11 +39,6 @@ AllDecided place fs = ((defaults place fs ≡ None) × SomeHasPlain fs) ⊎ ((So
 
 mutual
   pub decided : (s : Shape) → IsType s → Decided s
-  decided (domain cs) h = inl (refl, tt)
-  decided (tuple ss) h = inl (refl, tt)
-  decided truth h = inl (refl, tt)
-  decided integer h = inl (refl, tt)
-  decided text h = inl (refl, tt)
   decided (set s) h = inr (λ p. p, (v.Set [], refl))
   decided (iset s) h = inr (λ p. p, (v.Set (range_with_len 0 (count s)), refl))
   decided card h = inr (λ p. p, (v.Card (cards (λ _. true)), refl))
@@ -61,6 +51,7 @@ mutual
     | inl none ↦ inl (ap record_of_defaults none.0, none.1)
     | inr some ↦ inr (some.0, (v.Rec some.1.0, ap record_of_defaults some.1.1))
   ]
+  decided s h = inl (refl, tt)
 
   pub all_decided : (place : ℕ) (fs : Fields) → AreTypes fs → AllDecided place fs
   all_decided place no_field h = inr (λ p. p, ([], refl))
@@ -105,10 +96,8 @@ pub record Taken (place : ℕ) (o : Option Value) (r : Option (List (ℕ × Valu
   pub whole : (place, first) ∷ rest ≡ all
 
 taken : (place : ℕ) (o : Option Value) (r : Option (List (ℕ × Value))) (all : List (ℕ × Value)) → field_and_defaults place o r ≡ Some all → Taken place o r all
-taken place None None all e = absurd (cc)
-taken place None (Some rest) all e = absurd (cc)
-taken place (Some x) None all e = absurd (cc)
 taken place (Some x) (Some rest) all e = record { first = x; rest = rest; one = refl; more = refl; whole = some_same ((place, x) ∷ rest) all e }
+taken place o r all e = absurd (cc)
 
 fields_rise : (fs : Fields) (place : ℕ) (all : List (ℕ × Value)) → defaults place fs ≡ Some all → KeysRise place all
 fields_rise no_field place all e = subst (KeysRise place) (some_same [] all e) tt
@@ -126,11 +115,6 @@ each_wider P Q wider (entry ∷ s) h = (wider entry.0 entry.1 h.0, each_wider P 
 
 mutual
   pub right : (s : Shape) → IsType s → (x : Value) → default s ≡ Some x → IsRight s x
-  right (domain cs) h x e = absurd (cc)
-  right (tuple ss) h x e = absurd (cc)
-  right truth h x e = absurd (cc)
-  right integer h x e = absurd (cc)
-  right text h x e = absurd (cc)
   right (set s) h x e = by_layer (set s) x (v.Set []) (Value-F.Set []) e (v.outs-Set []) ((range_rises 0 0, tt), tt)
   right (iset s) h x e =
       let full = range_with_len 0 (count s) in
@@ -164,6 +148,7 @@ mutual
           fields_filled fs h.1 0 all some.1.1 all (λ q above. refl),
         )
   ]
+  right s h x e = absurd (cc)
 
   fields_each : (fs : Fields) → AreTypes fs → (place : ℕ) (all : List (ℕ × Value)) → defaults place fs ≡ Some all → EachSaid (IsAt fs place) all
   fields_each no_field h place all e = subst (EachSaid (IsAt no_field place)) (some_same [] all e) tt

@@ -34,7 +34,7 @@ mutual
   unique (fields fs) (Value-F.Rec a) (Value-F.Rec b) (Value-F.Rec c) (Value-F.Rec d) h k = ap Value-F.Rec (says_unique (JoinsField fs) (unique_field fs) a b c d h k)
   unique _ _ _ _ _ h k = absurd (assumption (h, k))
 
-  unique_field : (fs : Fields) (place : ℕ) (x y z w : Value) → JoinsField fs place x y z → JoinsField fs place x y w → z ≡ w
+  pub unique_field : (fs : Fields) (place : ℕ) (x y z w : Value) → JoinsField fs place x y z → JoinsField fs place x y w → z ≡ w
   unique_field no_field place x y z w h k = absurd h
   unique_field (field_then name u fs) zero x y z w h k = same_out z w (unique u (out-Value x) (out-Value y) (out-Value z) (out-Value w) h k)
   unique_field (field_then name u fs) (suc place) x y z w h k = unique_field fs place x y z w h k
@@ -56,7 +56,7 @@ mutual
   apart (iset s) (Value-F.Set a) (Value-F.Set b) (Value-F.Set c) h k = absurd k
   apart _ _ _ _ h k = absurd h
 
-  apart_field : (fs : Fields) (place : ℕ) (x y z : Value) → JoinsField fs place x y z → ClashesField fs place x y → ⊥
+  pub apart_field : (fs : Fields) (place : ℕ) (x y z : Value) → JoinsField fs place x y z → ClashesField fs place x y → ⊥
   apart_field no_field place x y z h k = h
   apart_field (field_then name u fs) zero x y z h k = apart u (out-Value x) (out-Value y) (out-Value z) h k
   apart_field (field_then name u fs) (suc place) x y z h k = apart_field fs place x y z h k

@@ -86,22 +86,17 @@ both_exclusive P Q exclusive (Some x) (Some y) (Some z) h k = exclusive x y z h 
 
 pub both_commutes : {V : Type 0} (P R : V → V → V → Type 0) → ((x y z : V) → P x y z → R y x z) → (o p c : Option V) → Both P o p c → Both R p o c
 both_commutes P R commutes None None c h = h
-both_commutes P R commutes None (Some y) c h = h
-both_commutes P R commutes (Some x) None c h = h
-both_commutes P R commutes (Some x) (Some y) None h = h
 both_commutes P R commutes (Some x) (Some y) (Some z) h = commutes x y z h
+both_commutes P R commutes o p c h = h
 
 pub on_commutes : {V : Type 0} (Q R : V → V → Type 0) → ((x y : V) → Q x y → R y x) → (o p : Option V) → OnBoth Q o p → OnBoth R p o
 on_commutes Q R commutes None None h = h
-on_commutes Q R commutes None (Some y) h = h
-on_commutes Q R commutes (Some x) None h = h
 on_commutes Q R commutes (Some x) (Some y) h = commutes x y h
+on_commutes Q R commutes o p h = h
 
 pub both_changes : {V : Type 0} (P R : V → V → V → Type 0) → ((x y z : V) → P x y z → R x y z) → (o p c : Option V) → Both P o p c → Both R o p c
-both_changes P R changes None p c h = h
-both_changes P R changes (Some x) None c h = h
-both_changes P R changes (Some x) (Some y) None h = h
 both_changes P R changes (Some x) (Some y) (Some z) h = changes x y z h
+both_changes P R changes o p c h = h
 
 -- three put together from the left are put together from the right
 pub both_regroups : {V : Type 0} (P : V → V → V → Type 0) → ((x y z w : V) → P x y z → P x y w → z ≡ w) → ((x y z u v w : V) → P x y u → P u z w → P y z v → P x v w)

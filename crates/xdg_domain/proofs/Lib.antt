@@ -6,7 +6,6 @@ pub mod Keyed
 pub mod Merged
 pub mod Merging
 pub mod Sorting
-pub mod Together
 pub mod Capped
 pub mod TupleNumbers
 pub mod Sizing

@@ -1,27 +1,13 @@
 -- Two lists with rising keys put together, in the order of their keys.
-use Rattle.std.proofs.Common.{◌≡◌, ◌⊎◌, ℕ, ◌<◌, ◌≤◌, ◌+◌, List, [], ◌∷◌, ◌++◌, refl, ap, ap₂, sym, ◌∙◌, arith, inl, inr, subst, append_assoc}
-use Rattle.std.specs.Prelude.{Bool, true, false, nat_lt, Option, None, Some, MatchOption}
-use Rattle.std.proofs.lemmas.Bool.{cases_eq, cases_lt, lt-ltb, le-ltb}
+use Rattle.std.proofs.Common.{◌≡◌, ◌⊎◌, ℕ, ◌≤◌, ◌+◌, List, [], ◌∷◌, ◌++◌, length, drop, refl, ap, sym, ◌∙◌, arith, inl, inr, subst, append_assoc}
+use Rattle.std.specs.Prelude.{Option, None, Some, MatchOption}
+use Rattle.std.proofs.lemmas.Bool.{cases_eq}
 use Rattle.xdg_domain.specs.Valencies.{said_at, KeysRise}
 use Rattle.xdg_domain.specs.Values.{EachSaid}
 use Rattle.xdg_domain.specs.Joins.{Both, SaysBoth, OnBoth, OnSome}
 use Rattle.xdg_domain.specs.Joined.{behind, behind_joined, merged}
-use Rattle.xdg_domain.proofs.Merging.{append_nothing}
+use Rattle.xdg_domain.proofs.Merging.{by_order, append_nothing, nothing_left}
 use Rattle.xdg_domain.proofs.Keyed.{at_head, after_head, unsaid, both_along, on_along, on_none, both_none}
-
--- ---- one entry
-
-abbrev chosen : {A : Type 0} → Bool → Bool → A → A → A → A
-chosen less more a b c = elim less [ true ↦ a | false ↦ elim more [ true ↦ b | false ↦ c ] ]
-
-merged_less : {V : Type 0} (f : ℕ → V → V → Option V) (x y : ℕ × V) (a b : List (ℕ × V)) → x.0 < y.0 → merged f (x ∷ a) (y ∷ b) ≡ behind (x ∷ []) (merged f a (y ∷ b))
-merged_less f x y a b order = ap (λ t. chosen t (nat_lt y.0 x.0) (behind (x ∷ []) (merged f a (y ∷ b))) (behind (y ∷ []) (merged f (x ∷ a) b)) (behind_joined x.0 (f x.0 x.1 y.1) (merged f a b))) (lt-ltb x.0 y.0 order)
-
-merged_more : {V : Type 0} (f : ℕ → V → V → Option V) (x y : ℕ × V) (a b : List (ℕ × V)) → y.0 < x.0 → merged f (x ∷ a) (y ∷ b) ≡ behind (y ∷ []) (merged f (x ∷ a) b)
-merged_more f x y a b order = ap₂ (λ s t. chosen s t (behind (x ∷ []) (merged f a (y ∷ b))) (behind (y ∷ []) (merged f (x ∷ a) b)) (behind_joined x.0 (f x.0 x.1 y.1) (merged f a b))) (le-ltb x.0 y.0 (omega (arith, order))) (lt-ltb y.0 x.0 order)
-
-merged_same : {V : Type 0} (f : ℕ → V → V → Option V) (x y : ℕ × V) (a b : List (ℕ × V)) → x.0 ≡ y.0 → merged f (x ∷ a) (y ∷ b) ≡ behind_joined x.0 (f x.0 x.1 y.1) (merged f a b)
-merged_same f x y a b same = ap₂ (λ s t. chosen s t (behind (x ∷ []) (merged f a (y ∷ b))) (behind (y ∷ []) (merged f (x ∷ a) b)) (behind_joined x.0 (f x.0 x.1 y.1) (merged f a b))) (le-ltb x.0 y.0 (omega (arith, same))) (le-ltb y.0 x.0 (omega (arith, same)))
 
 -- ---- behind what is made
 
@@ -33,11 +19,15 @@ nothing_more : {V : Type 0} (f : ℕ → V → V → Option V) (a : List (ℕ ×
 nothing_more f [] = refl
 nothing_more f (x ∷ a) = refl
 
-pub take_rest : {V : Type 0} (f : ℕ → V → V → Option V) (xs ys made rest more : List (ℕ × V)) → (rest ≡ []) ⊎ (more ≡ []) → Left f xs ys made rest more → Some ((made ++ rest) ++ more) ≡ merged f xs ys
+take_rest : {V : Type 0} (f : ℕ → V → V → Option V) (xs ys made rest more : List (ℕ × V)) → (rest ≡ []) ⊎ (more ≡ []) → Left f xs ys made rest more → Some ((made ++ rest) ++ more) ≡ merged f xs ys
 take_rest f xs ys made rest more (inl e) left =
     ap (λ s. Some s) (append_assoc made rest more) ∙ ap (λ s. Some (made ++ (s ++ more))) e ∙ sym (ap (λ s. behind made (merged f s more)) e) ∙ left
 take_rest f xs ys made rest more (inr e) left =
     ap (λ s. Some ((made ++ rest) ++ s)) e ∙ ap (λ s. Some s) (append_nothing (made ++ rest)) ∙ sym (ap (λ o. behind made o) (ap (λ s. merged f rest s) e ∙ nothing_more f rest)) ∙ left
+
+-- what is made, with what is left where nothing is left of one list, is the whole
+pub take_all : {V : Type 0} (f : ℕ → V → V → Option V) (xs ys made out : List (ℕ × V)) (i j : ℕ) → (length xs ≤ i) ⊎ (length ys ≤ j) → out ≡ (made ++ drop i xs) ++ drop j ys → Left f xs ys made (drop i xs) (drop j ys) → Some out ≡ merged f xs ys
+take_all f xs ys made out i j over is left = ap (λ s. Some s) is ∙ take_rest f xs ys made (drop i xs) (drop j ys) (elim over [ inl h ↦ inl (nothing_left xs i h) | inr h ↦ inr (nothing_left ys j h) ]) left
 
 -- ---- what the whole says
 
@@ -79,22 +69,19 @@ from_tells : {V : Type 0} (f : ℕ → V → V → Option V) (P : ℕ → V → 
     → ((b : List (ℕ × V)) → KeysRise (x.0 + 1) b → EachSaid G b → Tells P Q (x.0 + 1) a b (merged f a b))
     → (low : ℕ) (b : List (ℕ × V)) → low ≤ x.0 → KeysRise low b → EachSaid G b → Tells P Q low (x ∷ a) b (merged f (x ∷ a) b)
 from_tells f P Q G makes x a rises right rest low [] above h g = ((above, rises), λ key. both_none (P key) (said_at (x ∷ a) key))
-from_tells f P Q G makes x a rises right rest low (y ∷ b) above h g = elim (cases_lt x.0 y.0) [
-  | inl less ↦ subst (λ m. Tells P Q low (x ∷ a) (y ∷ b) m) (sym (merged_less f x y a b less)) (step P Q low x (x ∷ a) (y ∷ b) a (y ∷ b) (merged f a (y ∷ b)) above
-      (both_along (P x.0) (said_at (x ∷ a) x.0) (said_at (y ∷ b) x.0) (Some x.1) (Some x.1) None (Some x.1) (at_head x a x.0 refl) (unsaid y.0 x.0 (y ∷ b) less (omega arith, h.1)) refl refl)
-      (λ key other. (after_head x a key other, refl))
-      (λ k. subst (λ t. OnBoth (Q x.0) t (said_at (y ∷ b) x.0)) (unsaid (x.0 + 1) x.0 a (omega arith) rises) k)
-      (rest (y ∷ b) (omega (arith, less), h.1) g))
-  | inr not_less ↦ elim (cases_eq x.0 y.0) [
-    | inl same ↦ subst (λ m. Tells P Q low (x ∷ a) (y ∷ b) m) (sym (merged_same f x y a b same)) (joined_step P Q low x y a b (f x.0 x.1 y.1) (merged f a b) above same rises
-        (makes x.0 x.1 y.1 right (subst (λ n. G n y.1) (sym same) g.0)) (rest b (subst (λ n. KeysRise (n + 1) b) (sym same) h.1) g.1))
-    | inr other ↦ subst (λ m. Tells P Q low (x ∷ a) (y ∷ b) m) (sym (merged_more f x y a b (omega (arith, not_less, other)))) (step P Q low y (x ∷ a) (y ∷ b) (x ∷ a) b (merged f (x ∷ a) b) h.0
-        (both_along (P y.0) (said_at (x ∷ a) y.0) (said_at (y ∷ b) y.0) (Some y.1) None (Some y.1) (Some y.1) (unsaid x.0 y.0 (x ∷ a) (omega (arith, not_less, other)) (omega arith, rises)) (at_head y b y.0 refl) refl refl)
-        (λ key apart. (refl, after_head y b key apart))
-        (λ k. on_none (Q y.0) (said_at (x ∷ a) y.0) (subst (λ t. OnBoth (Q y.0) (said_at (x ∷ a) y.0) t) (unsaid (y.0 + 1) y.0 b (omega arith) h.1) k))
-        (from_tells f P Q G makes x a rises right rest (y.0 + 1) b (omega (arith, not_less, other)) h.1 g.1))
-  ]
-]
+from_tells f P Q G makes x a rises right rest low (y ∷ b) above h g = by_order (Tells P Q low (x ∷ a) (y ∷ b)) x.0 y.0 _ _ _
+    (λ less. step P Q low x (x ∷ a) (y ∷ b) a (y ∷ b) (merged f a (y ∷ b)) above
+    (both_along (P x.0) (said_at (x ∷ a) x.0) (said_at (y ∷ b) x.0) (Some x.1) (Some x.1) None (Some x.1) (at_head x a x.0 refl) (unsaid y.0 x.0 (y ∷ b) less (omega arith, h.1)) refl refl)
+    (λ key other. (after_head x a key other, refl))
+    (λ k. subst (λ t. OnBoth (Q x.0) t (said_at (y ∷ b) x.0)) (unsaid (x.0 + 1) x.0 a (omega arith) rises) k)
+    (rest (y ∷ b) (omega (arith, less), h.1) g))
+    (λ more. step P Q low y (x ∷ a) (y ∷ b) (x ∷ a) b (merged f (x ∷ a) b) h.0
+    (both_along (P y.0) (said_at (x ∷ a) y.0) (said_at (y ∷ b) y.0) (Some y.1) None (Some y.1) (Some y.1) (unsaid x.0 y.0 (x ∷ a) more (omega arith, rises)) (at_head y b y.0 refl) refl refl)
+    (λ key apart. (refl, after_head y b key apart))
+    (λ k. on_none (Q y.0) (said_at (x ∷ a) y.0) (subst (λ t. OnBoth (Q y.0) (said_at (x ∷ a) y.0) t) (unsaid (y.0 + 1) y.0 b (omega arith) h.1) k))
+    (from_tells f P Q G makes x a rises right rest (y.0 + 1) b (omega (arith, more)) h.1 g.1))
+    (λ same. joined_step P Q low x y a b (f x.0 x.1 y.1) (merged f a b) above same rises
+    (makes x.0 x.1 y.1 right (subst (λ n. G n y.1) (sym same) g.0)) (rest b (subst (λ n. KeysRise (n + 1) b) (sym same) h.1) g.1))
 
 tells_from : {V : Type 0} (f : ℕ → V → V → Option V) (P : ℕ → V → V → V → Type 0) (Q : ℕ → V → V → Type 0) (G : ℕ → V → Type 0) → Makes f P Q G → (low : ℕ) (a b : List (ℕ × V))
     → KeysRise low a → KeysRise low b → EachSaid G a → EachSaid G b → Tells P Q low a b (merged f a b)

@@ -1,11 +1,11 @@
 -- Two rising lists of numbers put together, number by number.
-use Rattle.std.proofs.Common.{◌≡◌, ◌⊎◌, ℕ, ◌<◌, ◌≤◌, ◌+◌, zero, suc, List, [], ◌∷◌, ◌++◌, length, get_or, drop, refl, ap, sym, ◌∙◌, arith, inl, inr, subst}
-use Rattle.std.specs.Prelude.{Bool, true, false, ◌&&◌, ◌||◌, ◌==◌}
+use Rattle.std.proofs.Common.{◌≡◌, ◌⊎◌, ℕ, ◌<◌, ◌≤◌, ◌+◌, zero, suc, List, [], ◌∷◌, ◌++◌, length, get_or, drop, refl, ap, sym, ◌∙◌, arith, inl, inr, subst, append_assoc}
+use Rattle.std.specs.Prelude.{Bool, true, false, nat_lt, ◌&&◌, ◌||◌, ◌==◌}
 use Rattle.std.specs.List.Sorted.{IsStrictlyIncreasing}
-use Rattle.std.proofs.lemmas.List.{drop_more}
-use Rattle.std.proofs.lemmas.Bool.{cases_eq, ne_eqb}
-use Rattle.xdg_facts.proofs.Truths.{and_false, or_false, or_assoc}
-use Rattle.xdg_facts.specs.Rises.{has, Rises}
+use Rattle.std.proofs.lemmas.Bool.{cases_eq, cases_lt, lt-ltb, le-ltb, ne_eqb}
+use Rattle.xdg_facts.proofs.Truths.{and_false, or_false, or_true, and_swap, or_assoc}
+use Rattle.xdg_domain.specs.Joins.{IsUnion, IsMeet}
+use Rattle.xdg_facts.specs.Rises.{has}
 
 -- the list rises strictly, from low on
 abbrev pub RisesFrom : ℕ → List ℕ → Type 0
@@ -40,136 +40,49 @@ pub absent : (low n : ℕ) (s : List ℕ) → n < low → RisesFrom low s → ha
 absent low n [] below r = refl
 absent low n (m ∷ s) below (a, b) = ap (λ t. t || has s n) (ne_eqb m n (λ e. omega (arith, e, a, below))) ∙ absent (m + 1) n s (omega (arith, a, below)) b
 
--- ---- one number more, and all that are left
+-- ---- the lesser of two first
 
-rises_pushed : (low bound x : ℕ) (s : List ℕ) → Rises low bound s → low ≤ x → bound ≤ x → Rises low (x + 1) (s ++ x ∷ [])
-rises_pushed low bound x [] r first above = (first, omega arith, tt)
-rises_pushed low bound x (n ∷ s) (a, b, c) first above = (a, omega (arith, b, above), rises_pushed (n + 1) bound x s c (omega (arith, b, above)) above)
+abbrev pub chosen : {A : Type 0} → Bool → Bool → A → A → A → A
+chosen less more a b c = elim less [ true ↦ a | false ↦ elim more [ true ↦ b | false ↦ c ] ]
 
-rises_joined : (low bound : ℕ) (s t : List ℕ) → low ≤ bound → Rises low bound s → RisesFrom bound t → RisesFrom low (s ++ t)
-rises_joined low bound [] t order r more = rises_weaker low bound t order more
-rises_joined low bound (n ∷ s) t order (a, b, c) more = (a, rises_joined (n + 1) bound s t (omega (arith, b)) c more)
+pub by_order : {A : Type 0} (P : A → Type 0) (x y : ℕ) (a b c : A) → (x < y → P a) → (y < x → P b) → (x ≡ y → P c) → P (chosen (nat_lt x y) (nat_lt y x) a b c)
+by_order P x y a b c less more same = elim (cases_lt x y) [
+  | inl h ↦ subst (λ t. P (chosen t (nat_lt y x) a b c)) (sym (lt-ltb x y h)) (less h)
+  | inr h ↦ subst (λ t. P (chosen t (nat_lt y x) a b c)) (sym (le-ltb x y h)) (elim (cases_lt y x) [
+    | inl k ↦ subst (λ t. P (elim t [ true ↦ b | false ↦ c ])) (sym (lt-ltb y x k)) (more k)
+    | inr k ↦ subst (λ t. P (elim t [ true ↦ b | false ↦ c ])) (sym (le-ltb y x k)) (same (omega (arith, h, k)))
+  ])
+]
 
-pub has_joined : (s t : List ℕ) (n : ℕ) → has (s ++ t) n ≡ (has s n || has t n)
-has_joined [] t n = refl
-has_joined (m ∷ s) t n = ap (λ z. (m == n) || z) (has_joined s t n) ∙ sym (or_assoc (m == n) (has s n) (has t n))
+-- ---- the numbers of either, or of both
 
-has_pushed : (s : List ℕ) (x n : ℕ) → has (s ++ x ∷ []) n ≡ (has s n || (x == n))
-has_pushed s x n = has_joined s (x ∷ []) n ∙ ap (λ z. has s n || z) (or_false (x == n))
+-- a number that stands in one list alone, before others: of either list it is one, of both it isn't
+abbrev pub kept : Bool → ℕ → List ℕ → List ℕ
+kept true x s = x ∷ s
+kept false x s = s
 
--- ---- the numbers of either
+-- what is left of one list, where nothing is left of the other
+abbrev pub left_over : Bool → List ℕ → List ℕ
+left_over true s = s
+left_over false s = []
 
--- what is made so far, with what is left of both lists
-pub record Joining (xs ys made rest more : List ℕ) : Type 0 where
-  pub low : ℕ
-  pub rises : Rises 0 low made
-  pub first : RisesFrom low rest
-  pub second : RisesFrom low more
-  pub same : (n : ℕ) → (has made n || (has rest n || has more n)) ≡ (has xs n || has ys n)
+-- x before a, and another list, in their order; `rest` is what a and a list make together
+abbrev pub together_from : Bool → ℕ → List ℕ → (List ℕ → List ℕ) → List ℕ → List ℕ
+together_from either x a rest [] = left_over either (x ∷ a)
+together_from either x a rest (y ∷ b) = elim (nat_lt x y) [
+  | true ↦ kept either x (rest (y ∷ b))
+  | false ↦ elim (nat_lt y x) [ true ↦ kept either y (together_from either x a rest b) | false ↦ x ∷ rest b ]
+]
 
-pub joining_start : (xs ys : List ℕ) → IsStrictlyIncreasing xs → IsStrictlyIncreasing ys → Joining xs ys [] (drop 0 xs) (drop 0 ys)
-joining_start xs ys h k = record {
-  low = 0;
-  rises = tt;
-  first = rises_of_increasing xs h;
-  second = rises_of_increasing ys k;
-  same = λ n. refl;
-}
+-- the numbers of either of two rising lists, or of both, in their order
+abbrev pub together : Bool → List ℕ → List ℕ → List ℕ
+together either [] b = left_over either b
+together either (x ∷ a) b = together_from either x a (together either a) b
 
-first_moves : (a b c d : Bool) → ((a || b) || (c || d)) ≡ (a || ((b || c) || d))
-first_moves true b c d = refl
-first_moves false true c d = refl
-first_moves false false c d = refl
-
-second_moves : (a b c d : Bool) → ((a || b) || (c || d)) ≡ (a || (c || (b || d)))
-second_moves true b c d = refl
-second_moves false true true d = refl
-second_moves false true false d = refl
-second_moves false false c d = refl
-
-both_move : (a b c d : Bool) → ((a || b) || (c || d)) ≡ (a || ((b || c) || (b || d)))
-both_move true b c d = refl
-both_move false true c d = refl
-both_move false false c d = refl
-
-less_turn : (xs ys made rest more : List ℕ) (x y : ℕ) → x < y → Joining xs ys made (x ∷ rest) (y ∷ more) → Joining xs ys (made ++ x ∷ []) rest (y ∷ more)
-less_turn xs ys made rest more x y order j = record {
-  low = x + 1;
-  rises = rises_pushed 0 j.low x made j.rises (omega arith) j.first.0;
-  first = j.first.1;
-  second = (omega (arith, order), j.second.1);
-  same = λ n. ap (λ z. z || (has rest n || has (y ∷ more) n)) (has_pushed made x n) ∙ first_moves (has made n) (x == n) (has rest n) (has (y ∷ more) n) ∙ j.same n;
-}
-
-more_turn : (xs ys made rest more : List ℕ) (x y : ℕ) → y < x → Joining xs ys made (x ∷ rest) (y ∷ more) → Joining xs ys (made ++ y ∷ []) (x ∷ rest) more
-more_turn xs ys made rest more x y order j = record {
-  low = y + 1;
-  rises = rises_pushed 0 j.low y made j.rises (omega arith) j.second.0;
-  first = (omega (arith, order), j.first.1);
-  second = j.second.1;
-  same = λ n. ap (λ z. z || (has (x ∷ rest) n || has more n)) (has_pushed made y n) ∙ second_moves (has made n) (y == n) (has (x ∷ rest) n) (has more n) ∙ j.same n;
-}
-
-same_turn : (xs ys made rest more : List ℕ) (x y : ℕ) → x ≡ y → Joining xs ys made (x ∷ rest) (y ∷ more) → Joining xs ys (made ++ x ∷ []) rest more
-same_turn xs ys made rest more x y is j = record {
-  low = x + 1;
-  rises = rises_pushed 0 j.low x made j.rises (omega arith) j.first.0;
-  first = j.first.1;
-  second = subst (λ z. RisesFrom (z + 1) more) (sym is) j.second.1;
-  same = λ n. ap (λ z. z || (has rest n || has more n)) (has_pushed made x n) ∙ both_move (has made n) (x == n) (has rest n) (has more n)
-      ∙ ap (λ z. has made n || (((x == n) || has rest n) || ((z == n) || has more n))) is ∙ j.same n;
-}
-
-pub join_less : (xs ys made : List ℕ) (i j : ℕ) → i < length xs → j < length ys → get_or xs i 0 < get_or ys j 0 → Joining xs ys made (drop i xs) (drop j ys) → Joining xs ys (made ++ get_or xs i 0 ∷ []) (drop (i + 1) xs) (drop j ys)
-join_less xs ys made i j h k order t =
-    let e = drop_more xs i 0 h in
-    let f = drop_more ys j 0 k in
-    subst (λ z. Joining xs ys (made ++ get_or xs i 0 ∷ []) (drop (i + 1) xs) z) (sym f) (less_turn xs ys made (drop (i + 1) xs) (drop (j + 1) ys) (get_or xs i 0) (get_or ys j 0) order
-    (subst (λ z. Joining xs ys made (get_or xs i 0 ∷ drop (i + 1) xs) z) f (subst (λ z. Joining xs ys made z (drop j ys)) e t)))
-
-pub join_more : (xs ys made : List ℕ) (i j : ℕ) → i < length xs → j < length ys → get_or ys j 0 < get_or xs i 0 → Joining xs ys made (drop i xs) (drop j ys) → Joining xs ys (made ++ get_or ys j 0 ∷ []) (drop i xs) (drop (j + 1) ys)
-join_more xs ys made i j h k order t =
-    let e = drop_more xs i 0 h in
-    let f = drop_more ys j 0 k in
-    subst (λ z. Joining xs ys (made ++ get_or ys j 0 ∷ []) z (drop (j + 1) ys)) (sym e) (more_turn xs ys made (drop (i + 1) xs) (drop (j + 1) ys) (get_or xs i 0) (get_or ys j 0) order
-    (subst (λ z. Joining xs ys made (get_or xs i 0 ∷ drop (i + 1) xs) z) f (subst (λ z. Joining xs ys made z (drop j ys)) e t)))
-
-pub join_same : (xs ys made : List ℕ) (i j : ℕ) → i < length xs → j < length ys → get_or xs i 0 ≡ get_or ys j 0 → Joining xs ys made (drop i xs) (drop j ys) → Joining xs ys (made ++ get_or xs i 0 ∷ []) (drop (i + 1) xs) (drop (j + 1) ys)
-join_same xs ys made i j h k is t =
-    let e = drop_more xs i 0 h in
-    let f = drop_more ys j 0 k in
-    same_turn xs ys made (drop (i + 1) xs) (drop (j + 1) ys) (get_or xs i 0) (get_or ys j 0) is
-    (subst (λ z. Joining xs ys made (get_or xs i 0 ∷ drop (i + 1) xs) z) f (subst (λ z. Joining xs ys made z (drop j ys)) e t))
-
-pub joined_has : (xs ys made rest more : List ℕ) → Joining xs ys made rest more → (n : ℕ) → has ((made ++ rest) ++ more) n ≡ (has xs n || has ys n)
-joined_has xs ys made rest more j n = has_joined (made ++ rest) more n ∙ ap (λ z. z || has more n) (has_joined made rest n) ∙ or_assoc (has made n) (has rest n) (has more n) ∙ j.same n
-
-pub append_nothing : {A : Type 0} (s : List A) → s ++ [] ≡ s
-append_nothing [] = refl
-append_nothing (x ∷ s) = ap (λ t. x ∷ t) (append_nothing s)
-
-pub joined_rises : (xs ys made rest more : List ℕ) → Joining xs ys made rest more → (rest ≡ []) ⊎ (more ≡ []) → IsStrictlyIncreasing ((made ++ rest) ++ more)
-joined_rises xs ys made rest more j (inl e) = subst IsStrictlyIncreasing (sym (ap (λ s. (made ++ s) ++ more) e ∙ ap (λ s. s ++ more) (append_nothing made))) (increasing_of_rises 0 (made ++ more) (rises_joined 0 j.low made more (omega arith) j.rises j.second))
-joined_rises xs ys made rest more j (inr e) = subst IsStrictlyIncreasing (sym (ap (λ s. (made ++ rest) ++ s) e ∙ append_nothing (made ++ rest))) (increasing_of_rises 0 (made ++ rest) (rises_joined 0 j.low made rest (omega arith) j.rises j.first))
-
--- ---- the numbers of both
-
--- what is made so far, with what is left of both lists
-pub record Meeting (xs ys made rest more : List ℕ) : Type 0 where
-  pub low : ℕ
-  pub rises : Rises 0 low made
-  pub first : RisesFrom low rest
-  pub second : RisesFrom low more
-  pub same : (n : ℕ) → (has made n || (has rest n && has more n)) ≡ (has xs n && has ys n)
-
-pub meeting_start : (xs ys : List ℕ) → IsStrictlyIncreasing xs → IsStrictlyIncreasing ys → Meeting xs ys [] (drop 0 xs) (drop 0 ys)
-meeting_start xs ys h k = record {
-  low = 0;
-  rises = tt;
-  first = rises_of_increasing xs h;
-  second = rises_of_increasing ys k;
-  same = λ n. refl;
-}
+-- a number stands in either, or in both
+abbrev pub stands : Bool → Bool → Bool → Bool
+stands true s t = s || t
+stands false s t = s && t
 
 pass_first : (x n : ℕ) (a b : Bool) → (x ≡ n → b ≡ false) → (a && b) ≡ (((x == n) || a) && b)
 pass_first x n a b none = elim (cases_eq x n) [
@@ -177,75 +90,84 @@ pass_first x n a b none = elim (cases_eq x n) [
   | inr other ↦ sym (ap (λ z. (z || a) && b) (ne_eqb x n other))
 ]
 
-pass_second : (y n : ℕ) (a b : Bool) → (y ≡ n → a ≡ false) → (a && b) ≡ (a && ((y == n) || b))
-pass_second y n a b none = elim (cases_eq y n) [
-  | inl e ↦ ap (λ z. z && b) (none e) ∙ sym (ap (λ z. z && ((y == n) || b)) (none e))
-  | inr other ↦ sym (ap (λ z. a && (z || b)) (ne_eqb y n other))
-]
+pub swapped : (either a b : Bool) → stands either a b ≡ stands either b a
+swapped true true b = sym (or_true b)
+swapped true false b = sym (or_false b)
+swapped false a b = and_swap a b
 
-both_stand : (a b c d : Bool) → ((a || b) || (c && d)) ≡ (a || ((b || c) && (b || d)))
-both_stand true b c d = refl
+first_kept : (either : Bool) (x n : ℕ) (a b : Bool) (s : List ℕ) → has s n ≡ stands either a b → (x ≡ n → b ≡ false) → has (kept either x s) n ≡ stands either ((x == n) || a) b
+first_kept true x n a b s is none = ap (λ z. (x == n) || z) is ∙ sym (or_assoc (x == n) a b)
+first_kept false x n a b s is none = is ∙ pass_first x n a b none
+
+both_stand : (either b c d : Bool) → (b || stands either c d) ≡ stands either (b || c) (b || d)
+both_stand true true c d = refl
+both_stand true false c d = refl
 both_stand false true c d = refl
 both_stand false false c d = refl
 
-less_passed : (xs ys made rest more : List ℕ) (x y : ℕ) → x < y → Meeting xs ys made (x ∷ rest) (y ∷ more) → Meeting xs ys made rest (y ∷ more)
-less_passed xs ys made rest more x y order j = record {
-  low = j.low;
-  rises = j.rises;
-  first = rises_weaker j.low (x + 1) rest (omega (arith, j.first.0)) j.first.1;
-  second = j.second;
-  same = λ n. ap (λ z. has made n || z) (pass_first x n (has rest n) (has (y ∷ more) n) (λ e. absent y n (y ∷ more) (omega (arith, e, order)) (omega arith, j.second.1))) ∙ j.same n;
-}
+kept_rises : (either : Bool) (low x : ℕ) (s : List ℕ) → low ≤ x → RisesFrom (x + 1) s → RisesFrom low (kept either x s)
+kept_rises true low x s above r = (above, r)
+kept_rises false low x s above r = rises_weaker low (x + 1) s (omega (arith, above)) r
 
-more_passed : (xs ys made rest more : List ℕ) (x y : ℕ) → y < x → Meeting xs ys made (x ∷ rest) (y ∷ more) → Meeting xs ys made (x ∷ rest) more
-more_passed xs ys made rest more x y order j = record {
-  low = j.low;
-  rises = j.rises;
-  first = j.first;
-  second = rises_weaker j.low (y + 1) more (omega (arith, j.second.0)) j.second.1;
-  same = λ n. ap (λ z. has made n || z) (pass_second y n (has (x ∷ rest) n) (has more n) (λ e. absent x n (x ∷ rest) (omega (arith, e, order)) (omega arith, j.first.1))) ∙ j.same n;
-}
+-- the list rises from low on, and these stand in it
+abbrev Are : Bool → ℕ → List ℕ → List ℕ → List ℕ → Type 0
+Are either low a b c = RisesFrom low c × ((n : ℕ) → has c n ≡ stands either (has a n) (has b n))
 
-same_met : (xs ys made rest more : List ℕ) (x y : ℕ) → x ≡ y → Meeting xs ys made (x ∷ rest) (y ∷ more) → Meeting xs ys (made ++ x ∷ []) rest more
-same_met xs ys made rest more x y is j = record {
-  low = x + 1;
-  rises = rises_pushed 0 j.low x made j.rises (omega arith) j.first.0;
-  first = j.first.1;
-  second = subst (λ z. RisesFrom (z + 1) more) (sym is) j.second.1;
-  same = λ n. ap (λ z. z || (has rest n && has more n)) (has_pushed made x n) ∙ both_stand (has made n) (x == n) (has rest n) (has more n)
-      ∙ ap (λ z. has made n || (((x == n) || has rest n) && ((z == n) || has more n))) is ∙ j.same n;
-}
+from_are : (either : Bool) (x : ℕ) (a : List ℕ) → RisesFrom (x + 1) a → ((b : List ℕ) → RisesFrom (x + 1) b → Are either (x + 1) a b (together either a b))
+    → (low : ℕ) (b : List ℕ) → low ≤ x → RisesFrom low b → Are either low (x ∷ a) b (together either (x ∷ a) b)
+from_are true x a r rest low [] h k = ((h, r), λ n. sym (or_false (has (x ∷ a) n)))
+from_are false x a r rest low [] h k = (tt, λ n. sym (and_false (has (x ∷ a) n)))
+from_are either x a r rest low (y ∷ b) h k = by_order (Are either low (x ∷ a) (y ∷ b)) x y _ _ _
+    (λ less. let t = rest (y ∷ b) (omega (arith, less), k.1) in (
+      kept_rises either low x (together either a (y ∷ b)) h t.0,
+      λ n. first_kept either x n (has a n) (has (y ∷ b) n) _ (t.1 n) (λ e. absent y n (y ∷ b) (omega (arith, e, less)) (omega arith, k.1)),
+    ))
+    (λ more. let t = from_are either x a r rest (y + 1) b (omega (arith, more)) k.1 in (
+      kept_rises either low y (together either (x ∷ a) b) k.0 t.0,
+      λ n. first_kept either y n (has b n) (has (x ∷ a) n) _ (t.1 n ∙ swapped either (has (x ∷ a) n) (has b n)) (λ e. absent x n (x ∷ a) (omega (arith, e, more)) (omega arith, r))
+          ∙ swapped either (has (y ∷ b) n) (has (x ∷ a) n),
+    ))
+    (λ same. let t = rest b (subst (λ z. RisesFrom (z + 1) b) (sym same) k.1) in (
+      (h, t.0),
+      λ n. ap (λ z. (x == n) || z) (t.1 n) ∙ both_stand either (x == n) (has a n) (has b n) ∙ ap (λ z. stands either (has (x ∷ a) n) ((z == n) || has b n)) same,
+    ))
 
-pub meet_less : (xs ys made : List ℕ) (i j : ℕ) → i < length xs → j < length ys → get_or xs i 0 < get_or ys j 0 → Meeting xs ys made (drop i xs) (drop j ys) → Meeting xs ys made (drop (i + 1) xs) (drop j ys)
-meet_less xs ys made i j h k order t =
-    let e = drop_more xs i 0 h in
-    let f = drop_more ys j 0 k in
-    subst (λ z. Meeting xs ys made (drop (i + 1) xs) z) (sym f) (less_passed xs ys made (drop (i + 1) xs) (drop (j + 1) ys) (get_or xs i 0) (get_or ys j 0) order
-    (subst (λ z. Meeting xs ys made (get_or xs i 0 ∷ drop (i + 1) xs) z) f (subst (λ z. Meeting xs ys made z (drop j ys)) e t)))
+together_are : (either : Bool) (low : ℕ) (a b : List ℕ) → RisesFrom low a → RisesFrom low b → Are either low a b (together either a b)
+together_are true low [] b h k = (k, λ n. refl)
+together_are false low [] b h k = (tt, λ n. refl)
+together_are either low (x ∷ a) b h k = from_are either x a h.1 (λ c r. together_are either (x + 1) a c h.1 r) low b h.0 k
 
-pub meet_more : (xs ys made : List ℕ) (i j : ℕ) → i < length xs → j < length ys → get_or ys j 0 < get_or xs i 0 → Meeting xs ys made (drop i xs) (drop j ys) → Meeting xs ys made (drop i xs) (drop (j + 1) ys)
-meet_more xs ys made i j h k order t =
-    let e = drop_more xs i 0 h in
-    let f = drop_more ys j 0 k in
-    subst (λ z. Meeting xs ys made z (drop (j + 1) ys)) (sym e) (more_passed xs ys made (drop (i + 1) xs) (drop (j + 1) ys) (get_or xs i 0) (get_or ys j 0) order
-    (subst (λ z. Meeting xs ys made (get_or xs i 0 ∷ drop (i + 1) xs) z) f (subst (λ z. Meeting xs ys made z (drop j ys)) e t)))
+together_is : (either : Bool) (a b c : List ℕ) → IsStrictlyIncreasing a → IsStrictlyIncreasing b → c ≡ together either a b → IsStrictlyIncreasing c × ((n : ℕ) → has c n ≡ stands either (has a n) (has b n))
+together_is either a b c h k is =
+    let t = together_are either 0 a b (rises_of_increasing a h) (rises_of_increasing b k) in
+    rw is (increasing_of_rises 0 (together either a b) t.0, t.1)
 
-pub meet_same : (xs ys made : List ℕ) (i j : ℕ) → i < length xs → j < length ys → get_or xs i 0 ≡ get_or ys j 0 → Meeting xs ys made (drop i xs) (drop j ys) → Meeting xs ys (made ++ get_or xs i 0 ∷ []) (drop (i + 1) xs) (drop (j + 1) ys)
-meet_same xs ys made i j h k is t =
-    let e = drop_more xs i 0 h in
-    let f = drop_more ys j 0 k in
-    same_met xs ys made (drop (i + 1) xs) (drop (j + 1) ys) (get_or xs i 0) (get_or ys j 0) is
-    (subst (λ z. Meeting xs ys made (get_or xs i 0 ∷ drop (i + 1) xs) z) f (subst (λ z. Meeting xs ys made z (drop j ys)) e t))
+-- ---- the end
 
-pub met_has : (xs ys made rest more : List ℕ) → Meeting xs ys made rest more → (rest ≡ []) ⊎ (more ≡ []) → (n : ℕ) → has made n ≡ (has xs n && has ys n)
-met_has xs ys made rest more j (inl e) n = sym (ap (λ s. has made n || (has s n && has more n)) e ∙ or_false (has made n)) ∙ j.same n
-met_has xs ys made rest more j (inr e) n = sym (ap (λ s. has made n || (has rest n && has s n)) e ∙ ap (λ z. has made n || z) (and_false (has rest n)) ∙ or_false (has made n)) ∙ j.same n
-
-pub met_rises : (xs ys made rest more : List ℕ) → Meeting xs ys made rest more → IsStrictlyIncreasing made
-met_rises xs ys made rest more j = subst IsStrictlyIncreasing (append_nothing made) (increasing_of_rises 0 (made ++ []) (rises_joined 0 j.low made [] (omega arith) j.rises tt))
+pub append_nothing : {A : Type 0} (s : List A) → s ++ [] ≡ s
+append_nothing [] = refl
+append_nothing (x ∷ s) = ap (λ t. x ∷ t) (append_nothing s)
 
 pub nothing_left : {A : Type 0} (s : List A) (i : ℕ) → length s ≤ i → drop i s ≡ []
 nothing_left [] zero h = refl
 nothing_left [] (suc i) h = refl
 nothing_left (x ∷ s) zero h = absurd (omega (arith, h))
 nothing_left (x ∷ s) (suc i) h = nothing_left s i (omega (arith, h))
+
+one_left : (either : Bool) (rest more : List ℕ) → (rest ≡ []) ⊎ (more ≡ []) → left_over either (rest ++ more) ≡ together either rest more
+one_left either [] more h = refl
+one_left either (x ∷ rest) [] h = ap (left_over either) (append_nothing (x ∷ rest))
+one_left either (x ∷ rest) (y ∷ more) h = absurd (elim h [ inl e ↦ cc | inr e ↦ cc ])
+
+-- what is made, with what is left where nothing is left of one list
+ended : (either : Bool) (xs ys made : List ℕ) (i j : ℕ) → (length xs ≤ i) ⊎ (length ys ≤ j) → made ++ together either (drop i xs) (drop j ys) ≡ together either xs ys
+    → made ++ left_over either (drop i xs ++ drop j ys) ≡ together either xs ys
+ended either xs ys made i j h is = ap (λ s. made ++ s) (one_left either (drop i xs) (drop j ys) (elim h [ inl k ↦ inl (nothing_left xs i k) | inr k ↦ inr (nothing_left ys j k) ])) ∙ is
+
+pub united : (xs ys made out : List ℕ) (i j : ℕ) → IsStrictlyIncreasing xs → IsStrictlyIncreasing ys → (length xs ≤ i) ⊎ (length ys ≤ j)
+    → made ++ together true (drop i xs) (drop j ys) ≡ together true xs ys → out ≡ (made ++ drop i xs) ++ drop j ys → IsUnion xs ys out
+united xs ys made out i j h k over is told = together_is true xs ys out h k (told ∙ append_assoc made (drop i xs) (drop j ys) ∙ ended true xs ys made i j over is)
+
+pub met : (xs ys made : List ℕ) (i j : ℕ) → IsStrictlyIncreasing xs → IsStrictlyIncreasing ys → (length xs ≤ i) ⊎ (length ys ≤ j)
+    → made ++ together false (drop i xs) (drop j ys) ≡ together false xs ys → IsMeet xs ys made
+met xs ys made i j h k over is = together_is false xs ys made h k (sym (append_nothing made) ∙ ended false xs ys made i j over is)

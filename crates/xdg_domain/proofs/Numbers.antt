@@ -1,5 +1,5 @@
 -- Sets and cardinalities of which the same is said are the same, and what two of them say together.
-use Rattle.std.proofs.Common.{◌≡◌, ◌⊎◌, ℕ, ◌<◌, ◌≤◌, ◌+◌, List, [], ◌∷◌, refl, ap, ap₂, sym, ◌∙◌, arith, inl, inr, subst}
+use Rattle.std.proofs.Common.{◌≡◌, ◌↔◌, ◌⊎◌, ℕ, ◌<◌, ◌≤◌, ◌+◌, List, [], ◌∷◌, refl, ap, ap₂, sym, ◌∙◌, arith, inl, inr, subst}
 use lib.Pointwise.{pointwise}
 use Rattle.std.specs.Prelude.{eqb, Bool, true, false, ◌&&◌, ◌||◌, ◌==◌, Option, None, Some, MatchOption, Result, Ok, Err, IfOk, filter}
 use Rattle.std.specs.List.Sorted.{IsStrictlyIncreasing}
@@ -9,7 +9,7 @@ use Rattle.xdg_domain.specs.Valencies.{said_at, KeysRise, both_say, Clash}
 use Rattle.xdg_domain.specs.Values.{AllBelow, EachSaid}
 use Rattle.xdg_domain.specs.Joins.{Both, SaysBoth, OnBoth, OnSome, IsUnion, IsMeet, AllowsBoth, IsApart}
 use Rattle.xdg_domain.specs.Joined.{above, either, both, where_some, allowed, merged, same_list}
-use Rattle.xdg_domain.proofs.Merging.{RisesFrom, rises_of_increasing, increasing_of_rises, absent}
+use Rattle.xdg_domain.proofs.Merging.{swapped, RisesFrom, rises_of_increasing, increasing_of_rises, absent}
 use Rattle.xdg_domain.proofs.Keyed.{says_exclusive, says_unique}
 use Rattle.xdg_domain.proofs.Merged.{merged_tells}
 use Rattle.xdg_facts.proofs.Truths.{and_false, or_true, and_swap, and_first, or_assoc}
@@ -103,18 +103,12 @@ union_unique a b c d h k = increasing_same c d h.0 k.0 (λ n. h.1 n ∙ sym (k.1
 pub meet_unique : (a b c d : List ℕ) → IsMeet a b c → IsMeet a b d → c ≡ d
 meet_unique a b c d h k = increasing_same c d h.0 k.0 (λ n. h.1 n ∙ sym (k.1 n))
 
-or_swaps : (a b : Bool) → (a || b) ≡ (b || a)
-or_swaps true true = refl
-or_swaps true false = refl
-or_swaps false true = refl
-or_swaps false false = refl
-
 and_regroups : (a b c : Bool) → ((a && b) && c) ≡ (a && (b && c))
 and_regroups true b c = refl
 and_regroups false b c = refl
 
 pub union_commutes : (a b c : List ℕ) → IsUnion a b c → IsUnion b a c
-union_commutes a b c h = (h.0, λ n. h.1 n ∙ or_swaps (has a n) (has b n))
+union_commutes a b c h = (h.0, λ n. h.1 n ∙ swapped true (has a n) (has b n))
 
 pub meet_commutes : (a b c : List ℕ) → IsMeet a b c → IsMeet b a c
 meet_commutes a b c h = (h.0, λ n. h.1 n ∙ and_swap (has a n) (has b n))
@@ -191,6 +185,12 @@ where_tells : (s : List ℕ) → MatchOption (where_some s) (s ≡ []) (λ c. (c
 where_tells [] = refl
 where_tells (x ∷ s) = (refl, λ e. cc)
 
+-- what two cardinalities that meet allow
+pub met_allowed : (a b : List ℕ) (o : Option (List ℕ)) → MatchOption o (common a b ≡ []) (λ s. (s ≡ common a b) × IsCards s) → allowed a b ≡ o
+met_allowed a b None t = ap where_some t
+met_allowed a b (Some []) t = absurd (t.1.some refl)
+met_allowed a b (Some (x ∷ s)) t = ap where_some (sym t.0)
+
 tells_along : (a b : List ℕ) → IsCards a → (o : Option (List ℕ)) → MatchOption o (common a b ≡ []) (λ c. (c ≡ common a b) × (common a b ≡ [] → ⊥)) → MatchOption o (IsApart a b) (λ c. AllowsBoth a b c)
 tells_along a b h None t = λ n. sym (has_common a b n) ∙ ap (λ s. has s n) t
 tells_along a b h (Some c) t = subst (λ s. AllowsBoth a b s) (sym t.0) (
@@ -216,16 +216,30 @@ any : (s : List (ℕ × List ℕ)) → EachSaid IsAny s
 any [] = tt
 any (e ∷ s) = (tt, any s)
 
-said_clash : (o p : Option (List ℕ)) → Clash o p → OnBoth (λ s t. common s t ≡ []) o p
-said_clash None p h = h
-said_clash (Some s) None h = h
-said_clash (Some s) (Some t) h = h
+said_clash : (o p : Option (List ℕ)) → Clash o p ↔ OnBoth (λ s t. common s t ≡ []) o p
+said_clash (Some s) (Some t) = (λ h. h, λ h. h)
+said_clash o p = (λ h. h, λ h. h)
 
-said_both : (o p c : Option (List ℕ)) → c ≡ both_say o p → (Clash o p → ⊥) → Both (IsSame 0) o p c
-said_both None p c is apart = is
-said_both (Some s) None c is apart = is
-said_both (Some s) (Some t) None is apart = cc
-said_both (Some s) (Some t) (Some c) is apart = let e : c ≡ common s t = cc in (e, apart)
+said_both : (o p c : Option (List ℕ)) → ((c ≡ both_say o p) × (Clash o p → ⊥)) ↔ Both (IsSame 0) o p c
+said_both None p c = (λ h. h.0, λ is. (is, λ k. k))
+said_both (Some s) None c = (λ h. h.0, λ is. (is, λ k. k))
+said_both (Some s) (Some t) None = (λ h. cc, λ h. absurd h)
+said_both (Some s) (Some t) (Some c) = (λ h. (let e : c ≡ common s t = cc in e, h.1), λ h. (ap (λ l. Some l) h.0, h.1))
+
+keys_tell : (a b : List (ℕ × List ℕ)) → KeysRise 0 a → KeysRise 0 b → MatchOption (merged (λ key. allowed) a b) (OnSome IsNone a b) (λ c. SaysBoth IsSame a b c)
+keys_tell a b h k = merged_tells (λ key. allowed) IsSame IsNone IsAny (λ key s t _ _. where_tells (common s t)) a b h k (any a) (any b)
+
+as_said : (a b : List (ℕ × List ℕ)) (told : Option (List (ℕ × List ℕ))) → MatchOption told (OnSome IsNone a b) (λ c. SaysBoth IsSame a b c) → MatchOption told
+    ((key : ℕ) × Clash (said_at a key) (said_at b key))
+    (λ c. KeysRise 0 c × ((key : ℕ) → (said_at c key ≡ both_say (said_at a key) (said_at b key)) × (Clash (said_at a key) (said_at b key) → ⊥)))
+as_said a b None (key, t) = (key, (said_clash (said_at a key) (said_at b key)).1 t)
+as_said a b (Some c) (rises, t) = (rises, λ key. (said_both (said_at a key) (said_at b key) (said_at c key)).1 (t key))
+
+-- what they are put together is what a join of cardinalities by key tells
+pub valency_told : (a b : List (ℕ × List ℕ)) (told : Option (List (ℕ × List ℕ))) → KeysRise 0 a → KeysRise 0 b → told ≡ merged (λ key. allowed) a b → MatchOption told
+    ((key : ℕ) × Clash (said_at a key) (said_at b key))
+    (λ c. KeysRise 0 c × ((key : ℕ) → (said_at c key ≡ both_say (said_at a key) (said_at b key)) × (Clash (said_at a key) (said_at b key) → ⊥)))
+valency_told a b told h k is = rw is (as_said a b (merged (λ key. allowed) a b) (keys_tell a b h k))
 
 same_told : (a b : List (ℕ × List ℕ)) (told : Option (List (ℕ × List ℕ))) → MatchOption told (OnSome IsNone a b) (λ c. SaysBoth IsSame a b c)
     → (o : Option (List (ℕ × List ℕ))) → MatchOption o (OnSome IsNone a b) (λ c. SaysBoth IsSame a b c) → told ≡ o
@@ -236,13 +250,11 @@ same_told a b (Some c) h (Some d) k = ap (λ t. Some t) (says_unique IsSame (λ 
 
 -- what a join of cardinalities by key tells is what they are put together
 pub valency_none : (a b : List (ℕ × List ℕ)) → KeysRise 0 a → KeysRise 0 b → ((key : ℕ) × Clash (said_at a key) (said_at b key)) → None ≡ merged (λ key. allowed) a b
-valency_none a b h k (key, t) = same_told a b None (key, said_clash (said_at a key) (said_at b key) t) (merged (λ key. allowed) a b)
-    (merged_tells (λ key. allowed) IsSame IsNone IsAny (λ key s t _ _. where_tells (common s t)) a b h k (any a) (any b))
+valency_none a b h k (key, t) = same_told a b None (key, (said_clash (said_at a key) (said_at b key)).0 t) (merged (λ key. allowed) a b) (keys_tell a b h k)
 
 pub valency_some : (a b c : List (ℕ × List ℕ)) → KeysRise 0 a → KeysRise 0 b → KeysRise 0 c
     → ((key : ℕ) → (said_at c key ≡ both_say (said_at a key) (said_at b key)) × (Clash (said_at a key) (said_at b key) → ⊥)) → Some c ≡ merged (λ key. allowed) a b
-valency_some a b c h k l t = same_told a b (Some c) (l, λ key. said_both (said_at a key) (said_at b key) (said_at c key) (t key).0 (t key).1) (merged (λ key. allowed) a b)
-    (merged_tells (λ key. allowed) IsSame IsNone IsAny (λ key s t _ _. where_tells (common s t)) a b h k (any a) (any b))
+valency_some a b c h k l t = same_told a b (Some c) (l, λ key. (said_both (said_at a key) (said_at b key) (said_at c key)).0 (t key)) (merged (λ key. allowed) a b) (keys_tell a b h k)
 
 -- ---- answers
 

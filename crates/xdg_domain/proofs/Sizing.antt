@@ -6,7 +6,7 @@ use Rattle.xdg_domain.specs.Tuples.{index, places, InRange}
 use Rattle.xdg_domain.proofs.TupleNumbers.{index_below, later_sizes, place_at}
 use Rattle.xdg_domain.proofs.Capped.{capped_mul}
 use Rattle.xdg_domain.specs.declared.types.Ty.{Ty}
-use Rattle.xdg_domain.specs.Shapes.{domain, tuple, truth, integer, text, set, iset, card, valency, mapping, fields, Shapes, no_shape, shape_then, AreDomains, shape, sizes, constants, product}
+use Rattle.xdg_domain.specs.Shapes.{domain, Shapes, no_shape, shape_then, AreDomains, shape, sizes, constants, product}
 use Rattle.xdg_domain.specs.Values.{AllBelow}
 use Rattle.xdg_domain.specs.Sized.{sizes_of}
 use Rattle.xdg_facts.proofs.Numbers.{alone}
@@ -111,16 +111,7 @@ turned_all types numbers k a whole ended range before =
 pub domains_small : (ss : Shapes) → AreDomains ss → AllBelow 65 (sizes ss)
 domains_small no_shape h = tt
 domains_small (shape_then (domain cs) ss) h = (omega (arith, h.0.0), domains_small ss h.1)
-domains_small (shape_then (tuple ts) ss) h = absurd h.0
-domains_small (shape_then truth ss) h = absurd h.0
-domains_small (shape_then integer ss) h = absurd h.0
-domains_small (shape_then text ss) h = absurd h.0
-domains_small (shape_then (set s) ss) h = absurd h.0
-domains_small (shape_then (iset s) ss) h = absurd h.0
-domains_small (shape_then card ss) h = absurd h.0
-domains_small (shape_then (valency k) ss) h = absurd h.0
-domains_small (shape_then (mapping k u) ss) h = absurd h.0
-domains_small (shape_then (fields fs) ss) h = absurd h.0
+domains_small (shape_then s ss) h = absurd h.0
 
 below_at : (bound : ℕ) (ns : List ℕ) (k : ℕ) → k < length ns → AllBelow bound ns → get_or ns k 0 < bound
 below_at bound [] k within h = absurd (omega (arith, within))
@@ -128,10 +119,8 @@ below_at bound (n ∷ ns) zero within h = h.0
 below_at bound (n ∷ ns) (suc k) within h = below_at bound ns k (omega (arith, within)) h.1
 
 all_some : (a s r n : ℕ) → n < a * (s * r) → (0 < s) × (0 < r) × (r ≤ a * (s * r))
-all_some zero s r n below = absurd (omega (arith, below))
-all_some (suc a) zero r n below = absurd (omega (arith, below))
-all_some (suc a) (suc s) zero n below = absurd (omega (arith, below))
 all_some (suc a) (suc s) (suc r) n below = (omega arith, omega arith, omega arith)
+all_some a s r n below = absurd (omega (arith, below))
 
 pub record OnePlace (types : List Ty) (n k many size : ℕ) : Type 0 where
   pub later : 0 < many

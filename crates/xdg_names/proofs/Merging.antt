@@ -39,14 +39,7 @@ module _ (marks : List ℕ) (top : ℕ) (starts : List ℕ) where
     climb = v.climb;
   }
 
-  pub merging_empty : IsMerging marks top starts [] → Merges marks top starts []
-  merging_empty v = record { kept = λ s h. absurd h; all = v.all; climb = v.climb }
-
 module _ (g : List (List Use)) (marks left stack starts path order : List ℕ) (next : ℕ) (v : IsWalking g marks left stack starts path order next) where
-  -- all starts are at or below the last of the path
-  pub starts_below : (x : ℕ) → ((a : ℕ) → In path a → number marks a ≤ number marks x) → (s : ℕ) → In starts s → number marks s ≤ number marks x
-  starts_below x last s h = last s (v.starts_on s h)
-
   -- each on the stack leads to the last of the path
   pub leads_last : (x : ℕ) → In path x → ((a : ℕ) → In path a → number marks a ≤ number marks x) → (a : ℕ) → length g < number marks a → Leads g a x
   leads_last x held last a h = v.leads a x h (v.path_on x held) (λ s i l. last s (v.starts_on s i))
@@ -85,6 +78,3 @@ module _ (g : List (List Use)) (marks left stack starts path order : List ℕ) (
 
     pub merged_looked : IsLooked (length g) marks starts' x y
     merged_looked = (omega arith, λ o s h l. (m.kept s h).1)
-
-  pub finished_looked : (x y : ℕ) → 1 ≤ number marks y → number marks y ≤ length g → IsLooked (length g) marks starts x y
-  finished_looked x y h k = (h, λ o s i l. absurd (omega arith))

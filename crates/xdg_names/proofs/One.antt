@@ -31,33 +31,7 @@ cause_by n = found n rows
 decoded : (c : Cause) → cause_by (number_of c) ≡ c
 unfolding cause_by found rows
 decoded causes.BadUtf8 = refl
-decoded causes.BadChar = refl
-decoded causes.OpenText = refl
-decoded causes.Unexpected = refl
-decoded causes.UnknownName = refl
-decoded causes.Twice = refl
-decoded causes.Cycle = refl
-decoded causes.WrongKind = refl
-decoded causes.NotMember = refl
-decoded causes.MissingArg = refl
-decoded causes.UnknownPrinciple = refl
-decoded causes.WrongParams = refl
-decoded causes.CardRange = refl
-decoded causes.NoLex = refl
-decoded causes.TooLong = refl
-decoded causes.TooDeep = refl
-decoded causes.TooManyUses = refl
-decoded causes.TooManyEntries = refl
-decoded causes.TooWide = refl
-decoded causes.DomainTooBig = refl
-decoded causes.EmptySentence = refl
-decoded causes.TooManyWords = refl
-decoded causes.UnknownWord = refl
-decoded causes.NotAnalysis = refl
-decoded causes.TooManyRules = refl
-decoded causes.TooNested = refl
-decoded causes.ArrangeLimit = refl
-decoded causes.NoEntry = refl
+decoded c = refl
 
 -- causes of one number are one
 pub one_cause : (c d : Cause) → number_of c ≡ number_of d → c ≡ d

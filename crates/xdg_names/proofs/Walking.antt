@@ -248,6 +248,3 @@ module _ (g : List (List Use)) (marks left stack starts path order : List ℕ) (
   module _ (x r : ℕ) (one : number left x ≡ r + 1) where
     pub next_stands : In (uses_of g x) (the_use (uses_of g x) r)
     next_stands = let f : number left x ≤ length (uses_of g x) = v.fits x in in_get (uses_of g x) r (record { to = 0; at = 0 }) (omega arith)
-
-    pub next_inside : x < length left
-    next_inside = marked_within left x (omega arith)

@@ -1,37 +1,22 @@
-use Rattle.std.proofs.Common.{◌≡◌, ◌⊎◌, ◌++◌, [], drop, arith, ap, ap₂, sym, ◌∙◌, inl, inr, Some}
+use Rattle.std.proofs.Common.{◌++◌, arith, ap, ap₂, sym, ◌∙◌, inl, inr}
 use Rattle.xdg_domain.specs.Shapes.{shape}
 use Rattle.xdg_domain.specs.Joined.{joined, joined_field, fields_in}
-use Rattle.xdg_domain.proofs.Merging.{nothing_left}
-use Rattle.xdg_domain.proofs.Merged.{take_rest}
+use Rattle.xdg_domain.proofs.Merged.{take_all}
 use Rattle.xdg_domain.proofs.Opened.{map_told, record_told, field_beyond, field_told}
 use Rattle.xdg_domain.proofs.joining.+join.Goals.{join_entries-then-loop-i-test+else-j-theirs, join_entries-else-loop-i-test, join_fields-then-loop-i-test+else-j-theirs, join_fields-else-loop-i-test}
 use Rattle.xdg_domain.proofs.joining.+join.Goals as goal
 
 pub join_entries-returns : goal.join_entries-returns
-join_entries-returns t c =
-    let xs = c.args.mine.now in
-    let ys = c.args.theirs.now in
-    let i = c.loop-i.i in
-    let j = c.loop-i.j in
-    let ended : (drop i xs ≡ []) ⊎ (drop j ys ≡ []) = elim c.loop-i-test.branch [
-      | join_entries-then-loop-i-test+else-j-theirs w ↦ inr (nothing_left ys j (omega (arith, w.if-j-theirs)))
-      | join_entries-else-loop-i-test w ↦ inl (nothing_left xs i (omega (arith, w.loop-i-test)))
-    ] in
-    ap (λ s. Some s) (c.in_ok-add_entries-2.ensures ∙ ap₂ (λ s t. s ++ t) (c.in_ok-add_entries.ensures ∙ ap (λ t. c.loop-i.made ++ t) c.split_at.ensures.back) c.split_at-2.ensures.back)
-    ∙ take_rest (λ key. joined (shape c.args.ty.now)) xs ys c.loop-i.made (drop i xs) (drop j ys) ended c.loop-i.invariant.2
+join_entries-returns t c = take_all (λ key. joined (shape c.args.ty.now)) _ _ c.loop-i.made _ c.loop-i.i c.loop-i.j
+    (elim c.loop-i-test.branch [ join_entries-then-loop-i-test+else-j-theirs w ↦ inr (omega (arith, w.if-j-theirs)) | join_entries-else-loop-i-test w ↦ inl (omega (arith, w.loop-i-test)) ])
+    (c.in_ok-add_entries-2.ensures ∙ ap₂ (λ s t. s ++ t) (c.in_ok-add_entries.ensures ∙ ap (λ t. c.loop-i.made ++ t) c.split_at.ensures.back) c.split_at-2.ensures.back)
+    c.loop-i.invariant.2
 
 pub join_fields-returns : goal.join_fields-returns
-join_fields-returns t c =
-    let xs = c.args.mine.now in
-    let ys = c.args.theirs.now in
-    let i = c.loop-i.i in
-    let j = c.loop-i.j in
-    let ended : (drop i xs ≡ []) ⊎ (drop j ys ≡ []) = elim c.loop-i-test.branch [
-      | join_fields-then-loop-i-test+else-j-theirs w ↦ inr (nothing_left ys j (omega (arith, w.if-j-theirs)))
-      | join_fields-else-loop-i-test w ↦ inl (nothing_left xs i (omega (arith, w.loop-i-test)))
-    ] in
-    ap (λ s. Some s) (c.in_ok-add_fields-2.ensures ∙ ap₂ (λ s t. s ++ t) (c.in_ok-add_fields.ensures ∙ ap (λ t. c.loop-i.made ++ t) c.split_at.ensures.back) c.split_at-2.ensures.back)
-    ∙ take_rest (joined_field (fields_in c.args.types.now)) xs ys c.loop-i.made (drop i xs) (drop j ys) ended c.loop-i.invariant.2
+join_fields-returns t c = take_all (joined_field (fields_in c.args.types.now)) _ _ c.loop-i.made _ c.loop-i.i c.loop-i.j
+    (elim c.loop-i-test.branch [ join_fields-then-loop-i-test+else-j-theirs w ↦ inr (omega (arith, w.if-j-theirs)) | join_fields-else-loop-i-test w ↦ inl (omega (arith, w.loop-i-test)) ])
+    (c.in_ok-add_fields-2.ensures ∙ ap₂ (λ s t. s ++ t) (c.in_ok-add_fields.ensures ∙ ap (λ t. c.loop-i.made ++ t) c.split_at.ensures.back) c.split_at-2.ensures.back)
+    c.loop-i.invariant.2
 
 pub join_field-returns-then-at-types : goal.join_field-returns-then-at-types
 join_field-returns-then-at-types t c = field_beyond c.args.types.now c.args.place c.args.one.now c.args.other.now c.if-at-types.true

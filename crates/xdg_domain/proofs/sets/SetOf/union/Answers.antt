@@ -1,81 +1,26 @@
-use Rattle.std.proofs.Common.{◌≡◌, ◌⊎◌, arith, ap, ap₂, sym, ◌∙◌, ◌+◌, ◌++◌, [], drop, ◌||◌, subst, inl, inr}
+use Rattle.std.proofs.Common.{arith, ap, ap₂, ◌∙◌, ◌++◌, ◌||◌, inl, inr, subst, sym}
 use Rattle.std.specs.List.Sorted.{IsStrictlyIncreasing}
-use Rattle.xdg_domain.proofs.Merging.{Joining, joining_start, join_less, join_more, join_same, joined_has, joined_rises, nothing_left}
-use Rattle.xdg_domain.proofs.sets.SetOf.union.Goals.{then-loop-i-test+else-j-theirs, else-loop-i-test}
+use Rattle.xdg_domain.specs.Joins.{IsUnion}
+use Rattle.xdg_domain.proofs.Merging.{united}
+use Rattle.xdg_domain.proofs.sets.SetOf.union.Goals.{In_ok-extend_from_slice-2, then-loop-i-test+else-j-theirs, else-loop-i-test}
 use Rattle.xdg_domain.proofs.sets.SetOf.union.Goals as goal
 use Rattle.xdg_facts.specs.Rises.{has}
 
-pub loop-i-init : goal.loop-i-init
-loop-i-init c =
-    let xs = c.as_slice-mine.result.now in
-    let ys = c.as_slice-theirs.result.now in (
-      omega arith,
-      omega arith,
-      subst (λ s. Joining xs ys s xs ys) (sym c.new-numbers.ensures.items) (joining_start xs ys
-          (subst IsStrictlyIncreasing (sym c.as_slice-mine.ensures.value) c.self.invariant)
-          (subst IsStrictlyIncreasing (sym c.as_slice-theirs.ensures.value) c.other.invariant)),
-    )
-
-pub loop-i-preserved-then-x-y : goal.loop-i-preserved-then-x-y
-loop-i-preserved-then-x-y c =
-    let xs = c.as_slice-mine.result.now in
-    let ys = c.as_slice-theirs.result.now in (
-      omega (arith, c.loop-i-test.true),
-      c.loop-i.invariant.1,
-      subst (λ s. Joining xs ys s (drop (c.loop-i.i + 1) xs) (drop c.loop-i.j ys)) (sym c.in_ok-push.ensures.items)
-          (join_less xs ys c.loop-i.numbers.items c.loop-i.i c.loop-i.j (omega (arith, c.loop-i-test.true)) (omega (arith, c.if-j-theirs.true)) (omega (arith, c.if-x-y.true)) c.loop-i.invariant.2),
-    )
-
-pub loop-i-preserved-then-y-x : goal.loop-i-preserved-then-y-x
-loop-i-preserved-then-y-x c =
-    let xs = c.as_slice-mine.result.now in
-    let ys = c.as_slice-theirs.result.now in (
-      c.loop-i.invariant.0,
-      omega (arith, c.if-j-theirs.true),
-      subst (λ s. Joining xs ys s (drop c.loop-i.i xs) (drop (c.loop-i.j + 1) ys)) (sym c.in_ok-push-2.ensures.items)
-          (join_more xs ys c.loop-i.numbers.items c.loop-i.i c.loop-i.j (omega (arith, c.loop-i-test.true)) (omega (arith, c.if-j-theirs.true)) (omega (arith, c.if-y-x.true)) c.loop-i.invariant.2),
-    )
-
-pub loop-i-preserved : goal.loop-i-preserved
-loop-i-preserved c =
-    let xs = c.as_slice-mine.result.now in
-    let ys = c.as_slice-theirs.result.now in (
-      omega (arith, c.loop-i-test.true),
-      omega (arith, c.if-j-theirs.true),
-      subst (λ s. Joining xs ys s (drop (c.loop-i.i + 1) xs) (drop (c.loop-i.j + 1) ys)) (sym c.in_ok-push-3.ensures.items)
-          (join_same xs ys c.loop-i.numbers.items c.loop-i.i c.loop-i.j (omega (arith, c.loop-i-test.true)) (omega (arith, c.if-j-theirs.true)) (omega (arith, c.if-x-y.false, c.if-y-x.false)) c.loop-i.invariant.2),
-    )
+-- what is made is the union
+is_union : (c : In_ok-extend_from_slice-2) → IsUnion c.as_slice-mine.result.now c.as_slice-theirs.result.now c.extend_from_slice-2.new.self.items
+is_union c = united _ _ c.loop-i.numbers.items _ c.loop-i.i c.loop-i.j
+    (subst IsStrictlyIncreasing (sym c.as_slice-mine.ensures.value) c.self.invariant)
+    (subst IsStrictlyIncreasing (sym c.as_slice-theirs.ensures.value) c.other.invariant)
+    (elim c.loop-i-test.branch [ then-loop-i-test+else-j-theirs w ↦ inr (omega (arith, w.if-j-theirs)) | else-loop-i-test w ↦ inl (omega (arith, w.loop-i-test)) ])
+    c.loop-i.invariant.2
+    (c.in_ok-extend_from_slice-2.ensures.items ∙ ap₂ (λ s t. s ++ t) (c.in_ok-extend_from_slice.ensures.items ∙ ap (λ t. c.loop-i.numbers.items ++ t) c.split_at.ensures.back) c.split_at-2.ensures.back)
 
 pub invariant_of-result : goal.invariant_of-result
-invariant_of-result c =
-    let xs = c.as_slice-mine.result.now in
-    let ys = c.as_slice-theirs.result.now in
-    let i = c.loop-i.i in
-    let j = c.loop-i.j in
-    let ended : (drop i xs ≡ []) ⊎ (drop j ys ≡ []) = elim c.loop-i-test.branch [
-      | then-loop-i-test+else-j-theirs w ↦ inr (nothing_left ys j (omega (arith, w.if-j-theirs)))
-      | else-loop-i-test w ↦ inl (nothing_left xs i (omega (arith, w.loop-i-test)))
-    ] in
-    subst IsStrictlyIncreasing (sym (c.in_ok-extend_from_slice-2.ensures.items ∙ ap₂ (λ s t. s ++ t) (c.in_ok-extend_from_slice.ensures.items ∙ ap (λ t. c.loop-i.numbers.items ++ t) c.split_at.ensures.back) c.split_at-2.ensures.back))
-    (joined_rises xs ys c.loop-i.numbers.items (drop i xs) (drop j ys) c.loop-i.invariant.2 ended)
+invariant_of-result c = (is_union (goal.at.invariant_of-result c).In_ok-extend_from_slice-2).0
 
 pub returns-clause-rising : goal.returns-clause-rising
-returns-clause-rising c =
-    let xs = c.as_slice-mine.result.now in
-    let ys = c.as_slice-theirs.result.now in
-    let i = c.loop-i.i in
-    let j = c.loop-i.j in
-    let ended : (drop i xs ≡ []) ⊎ (drop j ys ≡ []) = elim c.loop-i-test.branch [
-      | then-loop-i-test+else-j-theirs w ↦ inr (nothing_left ys j (omega (arith, w.if-j-theirs)))
-      | else-loop-i-test w ↦ inl (nothing_left xs i (omega (arith, w.loop-i-test)))
-    ] in
-    subst IsStrictlyIncreasing (sym (c.in_ok-extend_from_slice-2.ensures.items ∙ ap₂ (λ s t. s ++ t) (c.in_ok-extend_from_slice.ensures.items ∙ ap (λ t. c.loop-i.numbers.items ++ t) c.split_at.ensures.back) c.split_at-2.ensures.back))
-    (joined_rises xs ys c.loop-i.numbers.items (drop i xs) (drop j ys) c.loop-i.invariant.2 ended)
+returns-clause-rising c = (is_union (goal.at.returns-clause-rising c).In_ok-extend_from_slice-2).0
 
 pub returns-clause-members : goal.returns-clause-members
-returns-clause-members c n =
-    let xs = c.as_slice-mine.result.now in
-    let ys = c.as_slice-theirs.result.now in
-    ap (λ s. has s n) (c.in_ok-extend_from_slice-2.ensures.items ∙ ap₂ (λ s t. s ++ t) (c.in_ok-extend_from_slice.ensures.items ∙ ap (λ t. c.loop-i.numbers.items ++ t) c.split_at.ensures.back) c.split_at-2.ensures.back)
-    ∙ joined_has xs ys c.loop-i.numbers.items (drop c.loop-i.i xs) (drop c.loop-i.j ys) c.loop-i.invariant.2 n
+returns-clause-members c n = (is_union (goal.at.returns-clause-members c).In_ok-extend_from_slice-2).1 n
     ∙ ap₂ (λ s t. has s n || has t n) (c.as_slice-mine.ensures.value ∙ c.self.view_is) (c.as_slice-theirs.ensures.value ∙ c.other.view_is)
