@@ -1,5 +1,5 @@
 -- Places and nodes, one after another.
-use Rattle.std.proofs.Common.{◌≡◌, ℕ, ◌<◌, ◌≤◌, ◌+◌, inl, inr, Bool, true, false, List, [], sym, ◌∙◌, arith, subst}
+use Rattle.std.proofs.Common.{◌≡◌, ℕ, ◌<◌, ◌≤◌, inl, inr, Bool, true, false, List, [], sym, ◌∙◌, arith, subst}
 use Rattle.std.proofs.lemmas.Bool.{cases_Bool, cases_lt}
 use Rattle.xdg_problem.specs.declared.analysis.Edge.{Edge}
 use Rattle.xdg_problem.specs.declared.parts.Group.{Group}
@@ -17,9 +17,9 @@ use Rattle.xdg_graph.proofs.Labelled.{label_below}
 use Rattle.xdg_propcore.specs.Passes.{Progress, IsQuiet}
 use Rattle.xdg_propcore.specs.Sweeps.{Sweeps}
 use Rattle.xdg_pagree.specs.Family.{IsOfPlaces}
-use Rattle.xdg_pagree.specs.Places.{PlaceAsks, PlaceLacks, IsDoneAt, IsLabelDone, AreLabelsDone, AreMothersDone, IsNodeDone, AreNodesDone}
+use Rattle.xdg_pagree.specs.Places.{PlaceAsks, PlaceLacks, IsDoneAt, IsLabelDone, AreLabelsDone, IsNodeDone, AreNodesDone}
 use Rattle.xdg_pagree.specs.Untouched.{AreOthersDoneAt}
-use Rattle.xdg_pagree.proofs.Looping.{AreDone}
+use Rattle.xdg_propcore.proofs.Turns.{AreDone}
 use Rattle.xdg_facts.specs.Rises.{has}
 
 -- ---- daughters
@@ -53,15 +53,6 @@ daughters_last group dim u l first p old q new dim_is others a = record {
 }
 
 -- ---- labels
-
-pub labels_first : (parts : Parts) (group : Group) (box : List (List Bool)) → AreLabelsDone 0 parts group box
-labels_first parts group box l less = absurd (omega (arith, less))
-
-pub labels_next : (k : ℕ) (parts : Parts) (group : Group) (box : List (List Bool)) → AreLabelsDone k parts group box → AreMothersDone parts group k box → AreLabelsDone (k + 1) parts group box
-labels_next k parts group box before here l less = elim (cases_lt l k) [
-  | inl below ↦ before l below
-  | inr past ↦ (let e : l ≡ k = omega (arith, less, past) in subst (λ m. AreMothersDone parts group m box) (sym e) here)
-]
 
 -- what the entries of a mother ask for in a box they ask for in each box inside
 pub asks_fewer : (p : Principle) (group : Group) (small large : List (List Bool)) (u l : ℕ) → LiesIn small large → PlaceAsks p group large u l → PlaceAsks p group small u l

@@ -1,5 +1,5 @@
 -- What the rules take at a place and at a node, and that nothing is left there.
-use Rattle.std.proofs.Common.{◌≡◌, ℕ, ◌<◌, inl, inr, Bool, true, List, length, refl, sym, ◌∙◌, subst}
+use Rattle.std.proofs.Common.{◌≡◌, ℕ, ◌<◌, inl, inr, Bool, true, List, refl, sym, ◌∙◌, subst}
 use Rattle.std.specs.Prelude.{Contains}
 use Rattle.xdg_problem.specs.declared.analysis.Edge.{Edge}
 use Rattle.xdg_problem.specs.declared.parts.Group.{Group}
@@ -15,39 +15,52 @@ use Rattle.xdg_problem.specs.Problems.{IsGroup}
 use Rattle.xdg_problem.specs.Vectors.{shape}
 use Rattle.xdg_problem.proofs.PlaceOrder.{place_is}
 use Rattle.xdg_rules.specs.Rules.{EachEntry, IsPlaceOn, AgrValues, Takes, TakesBy, must_edges, attr_of_node}
-use Rattle.xdg_rules.proofs.Shrinking.{must_exact, must_is, must_among}
+use Rattle.xdg_rules.proofs.Shrinking.{must_exact, must_among}
 use Rattle.xdg_store.specs.States.{State, Known}
 use Rattle.xdg_propcore.specs.Passes.{Progress, Goes}
+use Rattle.xdg_pagree.specs.Family.{IsOfPlaces}
+use Rattle.xdg_pagree.proofs.AtNodes.{asks_fewer, lacks_present}
+use Rattle.xdg_pagree.proofs.Keeping.{rule_at}
 use Rattle.xdg_pagree.specs.Places.{PlaceAsks, PlaceLacks, LacksOther, LacksEntry, LacksValue, NoneLacks, IsDoneAt, IsNodeDone}
 use Rattle.xdg_graph.specs.Slots.{decision_of}
 use Rattle.xdg_propcore.specs.Sweeps.{Sweeps, TakesInside}
 use Rattle.xdg_graph.specs.declared.slot.Slot.{Slot}
 use Rattle.xdg_propcore.proofs.Sweeping.{sweeps_start, sweeps_both, sweeps_taken, takes_later}
 
--- fewer entries remain, so what each of them asks for is asked for still
-pub each_fewer : (small large : List (List Bool)) (node : ℕ) (P : ℕ → Type 0) → LiesIn small large → EachEntry large node P → EachEntry small node P
-each_fewer small large node P lies each c remains = each c (lies (entry_decision node) c remains)
-
 -- nothing is left at a place of a principle
 pub done_by : (principle : Principle) (parts : Parts) (group : Group) (e : Edge) (box : List (List Bool)) → group.principle ≡ principle → ((d v : ℕ) → Has box d v → PlaceLacks principle parts group box e d v → ⊥) → IsDoneAt parts group e box
 done_by principle parts group e box is none = subst (λ p. (d v : ℕ) → Has box d v → PlaceLacks p parts group box e d v → ⊥) (sym is) none
+
+-- ---- a place of a principle that asks for something there
+
+module _ (group : Group) (s : State) (known : Known s) (is : IsGroup s.parts group) (p : Principle) (of : IsOfPlaces p) (principle : group.principle ≡ p)
+    (e : Edge) (place : IsPlace s.parts e) (dim : e.dim.0 ≡ first_dim group) (asks : PlaceAsks p group s.now e.mother.0 e.label.0) where
+  place_on : IsPlaceOn s.parts (first_dim group) e
+  place_on = (place_is s.parts e place, dim)
+
+  place_takes : (box : List (List Bool)) (d v : ℕ) → LiesIn box s.now → PlaceLacks p s.parts group box e d v → Takes s.parts group box d v
+  place_takes box d v lies lacks = inr (subst (λ q. TakesBy q s.parts group box d v) (sym principle) (rule_at p of s.parts group box e place_on (asks_fewer p group box s.now e.mother.0 e.label.0 lies asks) d v lacks))
+
+  must_here : Must s.parts s.now e → (box : List (List Bool)) → IsBox (shape s.parts) box → LiesIn box s.now → Contains (must_edges s.parts box (first_dim group)) e
+  must_here must box box_is lies = must_among s.parts box s.now box_is lies (first_dim group) e ((must_exact s.parts s.now (first_dim group) e known.is_box).1 (place_on, must))
+
+  -- the edge goes
+  place_gone : PlaceLacks p s.parts group s.now e (edge_decision s.parts e) 0 → (q r : Progress) (new : State)
+      → ((g : Group) → IsGroup s.parts g → Takes s.parts g s.now (edge_decision s.parts e) 0 → Goes g q s r new) → Known new
+      → (Has new.now (edge_decision s.parts e) 0 → r.dead ≡ true) → Sweeps group (IsDoneAt s.parts group e) q s r new
+  place_gone lacks q r new goes new_known gone =
+      let step = goes group is (place_takes s.now (edge_decision s.parts e) 0 (λ d v h. h) lacks) in
+      sweeps_taken group (λ box. Unit {0}) (IsDoneAt s.parts group e) q s q s r new (edge_decision s.parts e) 0 (sweeps_start group (λ box. Unit {0}) q s known tt) step new_known gone
+      (λ before not. done_by p s.parts group e new.now principle (λ d v has left. not (lacks_present p s.parts group new.now e d v left has)))
 
 -- ---- agreement
 
 module _ (group : Group) (s : State) (known : Known s) (is : IsGroup s.parts group) (principle : group.principle ≡ principles.Agreement) (e : Edge) (place : IsPlace s.parts e) (dim : e.dim.0 ≡ first_dim group) (asks : PlaceAsks principles.Agreement group s.now e.mother.0 e.label.0) where
   agreement_takes : (box : List (List Bool)) (d v : ℕ) → LiesIn box s.now → PlaceLacks principles.Agreement s.parts group box e d v → Takes s.parts group box d v
-  agreement_takes box d v lies lacks = inr (subst (λ p. TakesBy p s.parts group box d v) (sym principle) (record {
-    place = e;
-    is = (place_is s.parts e place, dim);
-    asks = each_fewer box s.now e.mother.0 (λ c. Contains (set_row group e.mother.0 c) e.label.0) lies asks;
-    lacks = lacks;
-  }))
+  agreement_takes = place_takes group s known is principles.Agreement tt principle e place dim asks
 
-  agreement_on : IsPlaceOn s.parts (first_dim group) e
-  agreement_on = (place_is s.parts e place, dim)
-
-  must_here : Must s.parts s.now e → (box : List (List Bool)) → IsBox (shape s.parts) box → LiesIn box s.now → Contains (must_edges s.parts box (first_dim group)) e
-  must_here must box box_is lies = must_among s.parts box s.now box_is lies (first_dim group) e ((must_exact s.parts s.now (first_dim group) e known.is_box).1 (agreement_on, must))
+  agreed_must : Must s.parts s.now e → (box : List (List Bool)) → IsBox (shape s.parts) box → LiesIn box s.now → Contains (must_edges s.parts box (first_dim group)) e
+  agreed_must = must_here group s known is principles.Agreement tt principle e place dim asks
 
   module _ (mother daughter : Slot) (mother_is : decision_of s.parts mother ≡ attr_of_node s.parts group 0 e.mother.0) (daughter_is : decision_of s.parts daughter ≡ attr_of_node s.parts group 1 e.daughter.0) where
     abbrev one : ℕ
@@ -67,13 +80,7 @@ module _ (group : Group) (s : State) (known : Known s) (is : IsGroup s.parts gro
 
     -- the ends have no value in common, and the edge goes
     pub agreement_apart : (p r : Progress) (new : State) → AreApart s.now (decision_of s.parts mother) (decision_of s.parts daughter) → ((g : Group) → IsGroup s.parts g → Takes s.parts g s.now (edge_decision s.parts e) 0 → Goes g p s r new) → Known new → (Has new.now (edge_decision s.parts e) 0 → r.dead ≡ true) → Sweeps group (IsDoneAt s.parts group e) p s r new
-    agreement_apart p r new apart goes new_known gone =
-        let step = goes group is (agreement_takes s.now (edge_decision s.parts e) 0 (λ d v h. h) (inl ((refl, refl), apart_named apart))) in
-        sweeps_taken group (λ box. Unit {0}) (IsDoneAt s.parts group e) p s p s r new (edge_decision s.parts e) 0 (sweeps_start group (λ box. Unit {0}) p s known tt) step new_known gone
-        (λ before not. done_by principles.Agreement s.parts group e new.now principle (λ d v has lacks. elim lacks [
-          | inl edge ↦ not (subst (λ k. Has new.now (edge_decision s.parts e) k) edge.0.1 (subst (λ k. Has new.now k v) edge.0.0 has))
-          | inr value ↦ not (must_is s.parts new.now (first_dim group) e value.0).present
-        ]))
+    agreement_apart p r new apart = place_gone group s known is principles.Agreement tt principle e place dim asks (inl ((refl, refl), apart_named apart)) p r new
 
     -- the edge may be absent, and the ends have a value in common
     pub agreement_free : (p : Progress) → (AreApart s.now (decision_of s.parts mother) (decision_of s.parts daughter) → ⊥) → (Must s.parts s.now e → ⊥) → Sweeps group (IsDoneAt s.parts group e) p s p s
@@ -84,10 +91,10 @@ module _ (group : Group) (s : State) (known : Known s) (is : IsGroup s.parts gro
 
     -- the edge must be: what one end lacks the other loses
     pub mother_takes : Must s.parts s.now e → TakesInside s.parts group s.now (decision_of s.parts mother) (LacksOther (decision_of s.parts daughter))
-    mother_takes must box box_is lies v lacks = agreement_takes box (decision_of s.parts mother) v lies (inr (must_here must box box_is lies, inl (mother_is, λ has. lacks (subst (λ d. Has box d v) (sym daughter_is) has))))
+    mother_takes must box box_is lies v lacks = agreement_takes box (decision_of s.parts mother) v lies (inr (agreed_must must box box_is lies, inl (mother_is, λ has. lacks (subst (λ d. Has box d v) (sym daughter_is) has))))
 
     pub daughter_takes : Must s.parts s.now e → TakesInside s.parts group s.now (decision_of s.parts daughter) (LacksOther (decision_of s.parts mother))
-    daughter_takes must box box_is lies v lacks = agreement_takes box (decision_of s.parts daughter) v lies (inr (must_here must box box_is lies, inr (daughter_is, λ has. lacks (subst (λ d. Has box d v) (sym mother_is) has))))
+    daughter_takes must box box_is lies v lacks = agreement_takes box (decision_of s.parts daughter) v lies (inr (agreed_must must box box_is lies, inr (daughter_is, λ has. lacks (subst (λ d. Has box d v) (sym mother_is) has))))
 
     -- and the same when the mother has lost hers
     pub daughter_later : (p q : Progress) (mid : State) → Sweeps group (NoneLacks (decision_of s.parts mother) (LacksOther (decision_of s.parts daughter))) p s q mid → Must s.parts s.now e → TakesInside mid.parts group mid.now (decision_of mid.parts daughter) (LacksOther (decision_of mid.parts mother))
@@ -116,14 +123,6 @@ module _ (group : Group) (s : State) (known : Known s) (is : IsGroup s.parts gro
 -- ---- government
 
 module _ (group : Group) (s : State) (known : Known s) (is : IsGroup s.parts group) (principle : group.principle ≡ principles.Government) (e : Edge) (place : IsPlace s.parts e) (dim : e.dim.0 ≡ first_dim group) (asks : PlaceAsks principles.Government group s.now e.mother.0 e.label.0) (slot : Slot) (slot_is : decision_of s.parts slot ≡ attr_of_node s.parts group 0 e.daughter.0) where
-  government_takes : (box : List (List Bool)) (d v : ℕ) → LiesIn box s.now → PlaceLacks principles.Government s.parts group box e d v → Takes s.parts group box d v
-  government_takes box d v lies lacks = inr (subst (λ p. TakesBy p s.parts group box d v) (sym principle) (record {
-    place = e;
-    is = (place_is s.parts e place, dim);
-    governs = each_fewer box s.now e.mother.0 (λ c. 0 < length (map_row group e.mother.0 c e.label.0)) lies asks;
-    lacks = lacks;
-  }))
-
   abbrev agr : ℕ
   agr = attr_of_node s.parts group 0 e.daughter.0
 
@@ -132,13 +131,7 @@ module _ (group : Group) (s : State) (known : Known s) (is : IsGroup s.parts gro
 
   -- no value is allowed, and the edge goes
   pub government_apart : (p r : Progress) (new : State) → IsRefused s.now (decision_of s.parts slot) → ((g : Group) → IsGroup s.parts g → Takes s.parts g s.now (edge_decision s.parts e) 0 → Goes g p s r new) → Known new → (Has new.now (edge_decision s.parts e) 0 → r.dead ≡ true) → Sweeps group (IsDoneAt s.parts group e) p s r new
-  government_apart p r new refused goes new_known gone =
-      let step = goes group is (government_takes s.now (edge_decision s.parts e) 0 (λ d v h. h) (inl ((refl, refl), subst (λ d. IsRefused s.now d) slot_is refused))) in
-      sweeps_taken group (λ box. Unit {0}) (IsDoneAt s.parts group e) p s p s r new (edge_decision s.parts e) 0 (sweeps_start group (λ box. Unit {0}) p s known tt) step new_known gone
-      (λ before not. done_by principles.Government s.parts group e new.now principle (λ d v has lacks. elim lacks [
-        | inl edge ↦ not (subst (λ k. Has new.now (edge_decision s.parts e) k) edge.0.1 (subst (λ k. Has new.now k v) edge.0.0 has))
-        | inr value ↦ not (must_is s.parts new.now (first_dim group) e value.0).present
-      ]))
+  government_apart p r new refused = place_gone group s known is principles.Government tt principle e place dim asks (inl ((refl, refl), subst (λ d. IsRefused s.now d) slot_is refused)) p r new
 
   pub government_free : (p : Progress) → (IsRefused s.now (decision_of s.parts slot) → ⊥) → (Must s.parts s.now e → ⊥) → Sweeps group (IsDoneAt s.parts group e) p s p s
   government_free p allowed free = sweeps_start group (IsDoneAt s.parts group e) p s known (done_by principles.Government s.parts group e s.now principle (λ d v has lacks. elim lacks [
@@ -147,7 +140,8 @@ module _ (group : Group) (s : State) (known : Known s) (is : IsGroup s.parts gro
   ]))
 
   pub daughter_governed : Must s.parts s.now e → TakesInside s.parts group s.now (decision_of s.parts slot) (LacksEntry group e.mother.0 e.label.0)
-  daughter_governed must box box_is lies v lacks = government_takes box (decision_of s.parts slot) v lies (inr (must_among s.parts box s.now box_is lies (first_dim group) e ((must_exact s.parts s.now (first_dim group) e known.is_box).1 ((place_is s.parts e place, dim), must)), slot_is, lacks))
+  daughter_governed must box box_is lies v lacks = place_takes group s known is principles.Government tt principle e place dim asks box
+      (decision_of s.parts slot) v lies (inr (must_here group s known is principles.Government tt principle e place dim asks must box box_is lies, slot_is, lacks))
 
   pub government_must : (p q : Progress) (new : State) → (IsRefused s.now (decision_of s.parts slot) → ⊥) → Sweeps group (NoneLacks (decision_of s.parts slot) (LacksEntry group e.mother.0 e.label.0)) p s q new → Sweeps group (IsDoneAt s.parts group e) p s q new
   government_must p q new allowed a = record {

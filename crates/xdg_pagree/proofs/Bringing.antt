@@ -12,7 +12,7 @@ use Rattle.xdg_rules.specs.Rules.{IsPlaceOn}
 use Rattle.xdg_propcore.specs.declared.touched.Touched.{Touched}
 use Rattle.xdg_graph.specs.Every.{IsEvery}
 use Rattle.xdg_pagree.specs.Untouched.{AreMothersOf, HasMothers, HasOwn}
-use Rattle.xdg_pagree.proofs.Looping.{not_left}
+use Rattle.xdg_propcore.proofs.Turns.{not_left}
 use Rattle.xdg_facts.specs.Rises.{has}
 
 -- ---- those that have lost something themselves

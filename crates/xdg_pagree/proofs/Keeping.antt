@@ -8,7 +8,7 @@ use Rattle.xdg_problem.specs.declared.parts.Principle.{Principle}
 use Rattle.xdg_problem.specs.declared.parts.Principle.TheVariants as principles
 use Rattle.xdg_problem.specs.Arguments.{first_dim}
 use Rattle.xdg_problem.specs.Boxes.{Has, entry_decision}
-use Rattle.xdg_rules.specs.Rules.{attr_of_node, must_edges}
+use Rattle.xdg_rules.specs.Rules.{IsPlaceOn, TakesBy, attr_of_node, must_edges}
 use Rattle.xdg_pagree.specs.Family.{IsOfPlaces}
 use Rattle.xdg_pagree.specs.Places.{PlaceAsks, PlaceLacks}
 use Rattle.xdg_problem.specs.Principles.{attr_arguments}
@@ -50,3 +50,18 @@ lacks_before principles.Government parts group is old new e keeps d v lacks =
       | inr value ↦ inr (keeps.must value.0, value.1, λ c remains. value.2 c (keeps.entries c remains))
     ]
 lacks_before p parts group is old new e keeps d v lacks = absurd lacks
+
+-- ---- the rule at a place
+
+-- what is lacked where it is asked for the rule takes
+pub rule_at : (p : Principle) → IsOfPlaces p → (parts : Parts) (group : Group) (box : List (List Bool)) (e : Edge) → IsPlaceOn parts (first_dim group) e
+    → PlaceAsks p group box e.mother.0 e.label.0 → (d v : ℕ) → PlaceLacks p parts group box e d v → TakesBy p parts group box d v
+rule_at principles.Agreement of parts group box e on asks d v lacks = record { place = e; is = on; asks = asks; lacks = lacks }
+rule_at principles.Government of parts group box e on asks d v lacks = record { place = e; is = on; governs = asks; lacks = lacks }
+rule_at p of parts group box e on asks d v lacks = absurd of
+
+-- what it takes now it took before
+pub took_at : (p : Principle) → IsOfPlaces p → (parts : Parts) (group : Group) → group.principle ≡ p → (old new : List (List Bool)) (e : Edge)
+    → IsPlaceOn parts (first_dim group) e → KeepsPlace parts group old new e → PlaceAsks p group new e.mother.0 e.label.0 → (d v : ℕ)
+    → PlaceLacks p parts group new e d v → TakesBy p parts group old d v
+took_at p of parts group is old new e on keeps asks d v lacks = rule_at p of parts group old e on (asks_before p parts group old new e keeps asks) d v (lacks_before p parts group is old new e keeps d v lacks)

@@ -5,6 +5,5 @@ pub mod AtNodes
 pub mod Bringing
 pub mod Closing
 pub mod Keeping
-pub mod Looping
 pub mod Others
 pub mod Staying

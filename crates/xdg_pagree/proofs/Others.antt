@@ -26,11 +26,11 @@ use Rattle.xdg_propcore.specs.declared.touched.Touched.{Touched}
 use Rattle.xdg_propcore.proofs.Passing.{goes_none}
 use Rattle.xdg_propcore.proofs.Sweeping.{sweeps_start}
 use Rattle.xdg_pagree.specs.Family.{IsOfFamily, IsOfPlaces}
-use Rattle.xdg_pagree.specs.Places.{AreMothersDone, AreNodesDone, IsDoneAt, IsLabelDone, IsNodeDone, PlaceAsks, PlaceLacks}
+use Rattle.xdg_pagree.specs.Places.{AreMothersDone, AreNodesDone, IsDoneAt, IsLabelDone, IsNodeDone, PlaceAsks}
 use Rattle.xdg_pagree.specs.Untouched.{AreOthersDone, AreOthersDoneAt, AreTouched, HasMothers, HasOwn, IsNodeFree, IsPlaceFree, IsRowFree}
 use Rattle.xdg_pagree.proofs.AtNodes.{daughters_last, lacks_present}
-use Rattle.xdg_pagree.proofs.Looping.{AreDone}
-use Rattle.xdg_pagree.proofs.Keeping.{KeepsPlace, asks_before, attr_some, lacks_before}
+use Rattle.xdg_propcore.proofs.Turns.{AreDone, quiet_later}
+use Rattle.xdg_pagree.proofs.Keeping.{KeepsPlace, attr_some, took_at}
 use Rattle.xdg_facts.specs.Rises.{has}
 use Rattle.xdg_propcore.proofs.Losing.{kept_or_lost}
 use Rattle.xdg_store.proofs.Daughters.{out_is_place}
@@ -73,23 +73,8 @@ module _ (parts : Parts) (group : Group) (group_is : IsGroup parts group) (famil
         must = must_kept e free.0.1;
       }
 
-  taken_before : (p : Principle) → group.principle ≡ p → IsOfPlaces p → (e : Edge) → IsPlaceOn parts (first_dim group) e → KeepsPlace parts group old new e → PlaceAsks p group new e.mother.0 e.label.0 → (d v : ℕ) → PlaceLacks p parts group new e d v → TakesBy p parts group old d v
-  taken_before principles.Agreement same of e on keeps asks d v lacks = record {
-    place = e;
-    is = on;
-    asks = asks_before principles.Agreement parts group old new e keeps asks;
-    lacks = lacks_before principles.Agreement parts group same old new e keeps d v lacks;
-  }
-  taken_before principles.Government same of e on keeps asks d v lacks = record {
-    place = e;
-    is = on;
-    governs = asks_before principles.Government parts group old new e keeps asks;
-    lacks = lacks_before principles.Government parts group same old new e keeps d v lacks;
-  }
-  taken_before p same of e on keeps asks d v lacks = absurd of
-
   place_done : IsOfPlaces group.principle → (e : Edge) → IsPlaceOn parts (first_dim group) e → PlaceAsks group.principle group new e.mother.0 e.label.0 → IsPlaceFree t e → IsDoneAt parts group e new
-  place_done of e on asks free d v remains lacks = closed d v (lies d v remains) (inr (taken_before group.principle refl of e on (place_kept of e on free) asks d v lacks))
+  place_done of e on asks free d v remains lacks = closed d v (lies d v remains) (inr (took_at group.principle of parts group refl old new e on (place_kept of e on free) asks d v lacks))
 
   node_done : group.principle ≡ principles.Agr → (node : ℕ) → node < nodes parts → IsNodeFree t node → IsNodeDone principles.Agr parts group node new
   node_done agr node within free = (
@@ -114,9 +99,7 @@ others_none t parts group box problem all = record {
 
 -- as long as nothing is taken that stays so
 pub others_later : (t : Touched) (group : Group) (Done : List (List Bool) → Type 0) (p : Progress) (old : State) (q : Progress) (mid : State) → (IsQuiet p → AreOthersDone t old.parts group old.now) → Sweeps group Done p old q mid → IsQuiet q → AreOthersDone t mid.parts group mid.now
-others_later t group Done p old q mid others a quiet =
-    let before = a.goes.quiet quiet in
-    subst (λ parts. AreOthersDone t parts group mid.now) (sym a.goes.extends.same) (subst (AreOthersDone t old.parts group) (sym before.1) (others before.0))
+others_later t group = quiet_later group (λ parts box. AreOthersDone t parts group box)
 
 -- ---- the daughters at whose places something was lost
 

@@ -45,6 +45,7 @@ pub(crate) fn remains(store: &Store, slot: Slot, value: u16) -> bool
 }
 
 /// Whether no value remains of both of two attributes.
+#[tactic(auto, using(xdg_graph::proofs::SlotValues::slot_below))]
 pub(crate) fn are_apart(store: &Store, one: Slot, other: Slot) -> bool
     requires one { IsSlot store.now.parts one }
     requires other { IsSlot store.now.parts other }
@@ -62,6 +63,7 @@ pub(crate) fn are_apart(store: &Store, one: Slot, other: Slot) -> bool
 }
 
 /// Whether no remaining value of an attribute is in a set.
+#[tactic(auto, using(xdg_graph::proofs::SlotValues::slot_below))]
 pub(crate) fn none_is_in(store: &Store, slot: Slot, set: &[u16]) -> bool
     requires { IsSlot store.now.parts slot }
     ensures exact { IsTrue result ↔ ((x : ℕ) → Has store.now.now (decision_of store.now.parts slot) x → Contains set.now x → ⊥) }
@@ -102,6 +104,7 @@ pub(crate) fn none_is_allowed(
 }
 
 /// Whether a value of an attribute remains, and not of another attribute.
+#[tactic(auto, using(xdg_graph::proofs::SlotValues::slot_below))]
 pub(crate) fn lacks_other(store: &Store, slot: Slot, other: Slot, value: u16) -> bool
     requires slot { IsSlot store.now.parts slot }
     requires other { IsSlot store.now.parts other }

@@ -16,6 +16,7 @@ use xdg_propcore::Touched;
 use xdg_store::Store;
 
 /// The nodes of the sentence that have lost an entry or a value of an attribute.
+#[tactic(auto, using(crate::proofs::Bringing::own_found))]
 pub(crate) fn own_nodes(store: &Store, touched: &Touched) -> NodeSet
     ensures { HasOwn store.now.parts touched.now result }
 {

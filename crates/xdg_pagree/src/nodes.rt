@@ -59,6 +59,7 @@ fn sweep_daughters(
 }
 
 /// Takes what the principle use takes at the places of a label out of a mother.
+#[tactic(auto, using(crate::proofs::Others::done_at_others))]
 fn sweep_mother(
     store: &mut Store,
     pass: &mut Pass,
@@ -90,6 +91,7 @@ fn sweep_mother(
 }
 
 /// Takes what the principle use takes at the places of a label.
+#[tactic(auto, using(crate::proofs::Others::others_later))]
 fn sweep_label(
     store: &mut Store,
     pass: &mut Pass,
@@ -116,6 +118,7 @@ fn sweep_label(
 }
 
 /// Takes what agreement or government takes at all labels.
+#[tactic(auto, using(crate::proofs::Others::others_later))]
 fn sweep_labels(store: &mut Store, pass: &mut Pass, group: &Group, touched: &Touched)
     requires known { Known store.old }
     requires group { IsGroup store.old.parts group.now }

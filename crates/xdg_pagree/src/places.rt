@@ -21,6 +21,7 @@ use xdg_propcore::Pass;
 use xdg_store::Store;
 
 /// Takes at a node what agr takes: the values that no remaining entry allows, and the entries that allow no remaining value.
+#[tactic(auto, using(crate::proofs::AtPlaces::value_takes))]
 pub(crate) fn agr_at(store: &mut Store, pass: &mut Pass, group: &Group, node: NodeId)
     requires known { Known store.old }
     requires group { IsGroup store.old.parts group.now }
@@ -59,6 +60,7 @@ fn agree_at(store: &mut Store, pass: &mut Pass, group: &Group, edge: Edge)
 
 /// Takes at a place where the mother governs what government takes: the edge, where no entry of the mother allows a value of the
 /// daughter, and where it must be, the values that none allows.
+#[tactic(auto, using(crate::proofs::AtPlaces::government_must))]
 fn govern_at(store: &mut Store, pass: &mut Pass, group: &Group, edge: Edge)
     requires known { Known store.old }
     requires group { IsGroup store.old.parts group.now }

@@ -17,6 +17,7 @@ use xdg_propcore::Touched;
 use xdg_store::{Mark, Store};
 
 /// Gathers what was lost since a mark at which the principle use was still, or all, if there is none.
+#[tactic(auto, using(crate::proofs::Others::others_none))]
 pub(crate) fn gather_lost(touched: &mut Touched, store: &Store, group: &Group, since: &Option<Mark>)
     requires known { Known store.now }
     requires group { IsGroup store.now.parts group.now }
@@ -67,6 +68,7 @@ fn is_row_touched(touched: &Touched, mother: NodeId, label: LabelId) -> bool
 }
 
 /// The daughters that an edge with a label out of a mother may have, as far as something was lost of what is looked at for it.
+#[tactic(auto, using(crate::proofs::Others::all_touched, crate::proofs::Others::none_touched, crate::proofs::Others::some_touched))]
 pub(crate) fn daughters_at(
     store: &Store,
     touched: &Touched,

@@ -20,3 +20,6 @@ pub mod Kinding
 pub mod NamedKinds
 pub mod Unseen
 pub mod Stepping
+pub mod Turns
+pub mod SeenEdges
+pub mod ByRules

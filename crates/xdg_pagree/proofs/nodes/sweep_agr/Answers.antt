@@ -3,25 +3,15 @@ use Rattle.xdg_problem.specs.declared.parts.Parts.{Parts}
 use Rattle.xdg_problem.specs.declared.parts.Principle.TheVariants as principles
 use Rattle.xdg_problem.specs.Places.{nodes}
 use Rattle.xdg_propcore.specs.Sweeps.{Sweeps}
-use Rattle.xdg_propcore.proofs.Sweeping.{group_stays}
 use Rattle.xdg_pagree.specs.Places.{IsNodeDone}
 use Rattle.xdg_pagree.specs.Untouched.{HasOwn}
-use Rattle.xdg_pagree.proofs.Looping.{AreDone, turns_next, turns_start}
+use Rattle.xdg_propcore.proofs.Turns.{AreDone, turns_next, turns_start}
 use Rattle.xdg_facts.proofs.Rising.{head_in, tail_in}
 use Rattle.xdg_pagree.proofs.Others.{agr_last}
 use Rattle.xdg_pagree.proofs.nodes.sweep_agr.Goals as goal
 
 pub loop-node-init : goal.loop-node-init
 loop-node-init c = (tt, tt, (λ v h. h), turns_start c.args.group.now (λ parts. IsNodeDone principles.Agr parts c.args.group.now) c.into_iter-node-iterator.result c.args.pass.now c.args.store.now c.requires.known)
-
-pub agr_at-requires-clause-known : goal.agr_at-requires-clause-known
-agr_at-requires-clause-known c = c.loop-node.invariant.3.known
-
-pub agr_at-requires-clause-group : goal.agr_at-requires-clause-group
-agr_at-requires-clause-group c = group_stays c.args.group.now c.args.pass.now c.args.store.now c.loop-node.pass c.loop-node.store c.loop-node.invariant.3.goes c.loop-node.invariant.3.known c.requires.group
-
-pub agr_at-requires-clause-principle : goal.agr_at-requires-clause-principle
-agr_at-requires-clause-principle c = c.requires.principle
 
 pub agr_at-requires-clause-node : goal.agr_at-requires-clause-node
 agr_at-requires-clause-node c =

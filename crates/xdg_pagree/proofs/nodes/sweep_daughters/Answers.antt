@@ -4,27 +4,14 @@ use Rattle.xdg_problem.specs.Places.{edge}
 use Rattle.xdg_pagree.specs.Places.{IsDoneAt}
 use Rattle.xdg_pagree.specs.Untouched.{AreNodesBeside, AreOthersDoneAt}
 use Rattle.xdg_propcore.specs.Sweeps.{Sweeps}
-use Rattle.xdg_propcore.proofs.Sweeping.{group_stays}
 use Rattle.xdg_pagree.proofs.AtNodes.{daughters_last, asks_fewer}
-use Rattle.xdg_pagree.proofs.Looping.{AreDone, turns_next, turns_start}
+use Rattle.xdg_propcore.proofs.Turns.{AreDone, turns_next, turns_start}
 use Rattle.xdg_facts.proofs.Rising.{head_in, tail_in}
 use Rattle.xdg_pagree.proofs.nodes.sweep_daughters.Goals as goal
 use Rattle.xdg_store.proofs.Daughters.{out_is_place}
 
 pub loop-daughter-init : goal.loop-daughter-init
 loop-daughter-init c = (tt, tt, (λ v h. h), turns_start c.args.group.now (λ parts v. IsDoneAt parts c.args.group.now (edge c.args.dim.0 c.args.mother.0 c.args.label.0 v)) c.into_iter-daughter-iterator.result c.args.pass.now c.args.store.now c.requires.known)
-
-pub place_at-requires-clause-known : goal.place_at-requires-clause-known
-place_at-requires-clause-known c = c.loop-daughter.invariant.3.known
-
-pub place_at-requires-clause-group : goal.place_at-requires-clause-group
-place_at-requires-clause-group c = group_stays c.args.group.now c.args.pass.now c.args.store.now c.loop-daughter.pass c.loop-daughter.store c.loop-daughter.invariant.3.goes c.loop-daughter.invariant.3.known c.requires.group
-
-pub place_at-requires-clause-principle : goal.place_at-requires-clause-principle
-place_at-requires-clause-principle c = c.requires.principle
-
-pub place_at-requires-clause-dim : goal.place_at-requires-clause-dim
-place_at-requires-clause-dim c = c.requires.dim
 
 pub place_at-requires-clause-place : goal.place_at-requires-clause-place
 place_at-requires-clause-place c =

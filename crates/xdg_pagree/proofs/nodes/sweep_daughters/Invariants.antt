@@ -2,7 +2,7 @@ use Rattle.std.proofs.Common.{◌≡◌, ℕ, true}
 use Rattle.xdg_propcore.specs.Sweeps.{Sweeps}
 use Rattle.xdg_problem.specs.Places.{edge}
 use Rattle.xdg_pagree.specs.Places.{IsDoneAt}
-use Rattle.xdg_pagree.proofs.Looping.{AreDone}
+use Rattle.xdg_propcore.proofs.Turns.{AreDone}
 use Rattle.xdg_pagree.proofs.nodes.sweep_daughters.Given as goal
 use Rattle.xdg_facts.specs.Rises.{has}
 

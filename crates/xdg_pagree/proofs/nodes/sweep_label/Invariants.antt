@@ -1,7 +1,7 @@
 use Rattle.std.proofs.Common.{◌≡◌, ℕ, true}
 use Rattle.xdg_propcore.specs.Sweeps.{Sweeps}
 use Rattle.xdg_pagree.specs.Places.{IsLabelDone, PlaceAsks}
-use Rattle.xdg_pagree.proofs.Looping.{AreDone}
+use Rattle.xdg_propcore.proofs.Turns.{AreDone}
 use Rattle.xdg_pagree.proofs.nodes.sweep_label.Given as goal
 use Rattle.xdg_facts.specs.Rises.{has}
 

@@ -8,6 +8,3 @@ use Rattle.xdg_pagree.proofs.agree_prop.AgreeFamily.sweep.Goals as goal
 pub returns : goal.returns
 returns c = sweeps_skip c.args.group.now (AreNodesDone (nodes c.args.store.now.parts) c.args.store.now.parts c.args.group.now) (IsClosedFor c.args.store.now.parts c.args.group.now) c.args.pass.now c.args.store.now c.sweep_nodes.new.pass c.sweep_nodes.new.store c.sweep_nodes.ensures
     (closed_by_nodes c.args.store.now.parts c.args.group.now c.sweep_nodes.new.store.now c.requires.family)
-
-pub sweep_nodes-requires-clause-others : goal.sweep_nodes-requires-clause-others
-sweep_nodes-requires-clause-others c quiet = c.gather_lost.ensures
