@@ -1,12 +1,10 @@
-pub mod Arranged
-pub mod Bested
 pub mod Built
 pub mod Commanded
-pub mod Corpused
 pub mod Filling
 pub mod Finding
 pub mod Fitting
 pub mod Lookups
+pub mod Meanings
 pub mod Naming
 pub mod Numbers
 pub mod Outcome

@@ -3,7 +3,7 @@ use Rattle.std.specs.String.{string_bytes}
 use Rattle.xdg_command.specs.Answers.{IsExactly}
 use Rattle.xdg_command.specs.Commands.{IsDrillNumber}
 use Rattle.xdg_command.specs.Readings.{IsOneFile}
-use Rattle.xdg_command.proofs.Commanded.{drill_found, drill_none}
+use Rattle.xdg_command.proofs.Meanings.{drill_found, drill_none}
 use Rattle.xdg_command.proofs.reading.drill.Goals as goal
 
 pub returns-in-Some : goal.returns-in-Some

@@ -1,34 +1,22 @@
-use Rattle.std.proofs.Common.{◌∙◌, Some, None, ap, map, sym, subst}
-use Rattle.std.specs.String.{string_bytes}
-use Rattle.xdg_command.specs.declared.commands.ExplainOptions.{ExplainOptions}
-use Rattle.xdg_command.specs.Found.{Matches}
-use Rattle.xdg_command.specs.Syntax.{explained}
-use Rattle.xdg_command.proofs.Commanded.{explain_found, explain_missing, explain_none, explained_right, second_missing}
+use Rattle.std.proofs.Common.{◌∙◌, refl, sym}
+use Rattle.std.specs.Prelude.{codes}
+use Rattle.xdg_command.proofs.Commanded.{double, exactly, lacking, matched, operand_said, unfit}
+use Rattle.xdg_command.proofs.Meanings.{explain_is}
 use Rattle.xdg_command.proofs.reading.explain.Goals as goal
 
 pub returns-in_default : goal.returns-in_default
-returns-in_default c =
-    let words = map string_bytes c.args.words.now in
-    let matched : Matches explained words None = subst (Matches explained words) c.in_default.is (c.in_ok-found.ensures explained explained_right c.in_ok-explain.ensures) in
-    explain_none words matched
+returns-in_default c = unfit explain_is (matched explain_is _ _ c.in_ok-found.ensures c.in_ok-explain.ensures c.in_default.is)
 
 pub returns-in_default-get_str : goal.returns-in_default-get_str
-returns-in_default-get_str c =
-    let words = map string_bytes c.args.words.now in
-    let matched : Matches explained words (Some c.in-Some.found) = subst (Matches explained words) c.in-Some.is (c.in_ok-found.ensures explained explained_right c.in_ok-explain.ensures) in
-    explain_missing words c.in-Some.found matched (sym c.in_default-get_str.ensures)
+returns-in_default-get_str c = lacking explain_is (matched explain_is _ _ c.in_ok-found.ensures c.in_ok-explain.ensures c.in-Some.is) 0 (codes "grammar") refl (sym c.in_default-get_str.ensures)
 
 pub returns-in_default-get_str-2 : goal.returns-in_default-get_str-2
-returns-in_default-get_str-2 c =
-    let words = map string_bytes c.args.words.now in
-    let matched : Matches explained words (Some c.in-Some.found) = subst (Matches explained words) c.in-Some.is (c.in_ok-found.ensures explained explained_right c.in_ok-explain.ensures) in
-    second_missing words c.in-Some.found matched (sym c.in_default-get_str-2.ensures)
+returns-in_default-get_str-2 c = lacking explain_is (matched explain_is _ _ c.in_ok-found.ensures c.in_ok-explain.ensures c.in-Some.is) 1 (codes "analysis") refl (sym c.in_default-get_str-2.ensures)
 
 pub returns : goal.returns
 returns c =
-    let words = map string_bytes c.args.words.now in
-    let matched : Matches explained words (Some c.in-Some.found) = subst (Matches explained words) c.in-Some.is (c.in_ok-found.ensures explained explained_right c.in_ok-explain.ensures) in
-    let options : ExplainOptions = record { grammar = c.in_ok-grammar.grammar; analysis = c.in_ok-analysis.analysis; rules = c.in_ok-rules.rules } in
-    explain_found words c.in-Some.found matched options
-    (sym c.in-Some-get_str.ensures ∙ ap (λ x. Some x) (sym c.in_ok-grammar.ensures)) (sym c.in-Some-get_str-2.ensures ∙ ap (λ x. Some x) (sym c.in_ok-analysis.ensures))
-    (c.in_ok-rules.ensures ∙ c.get_str-3.ensures)
+    let m = matched explain_is _ _ c.in_ok-found.ensures c.in_ok-explain.ensures c.in-Some.is in
+    exactly explain_is m _ (record {
+      files = double _ _ _ (operand_said m 0 (codes "grammar") refl c.in-Some-get_str.ensures c.in_ok-grammar.ensures) (operand_said m 1 (codes "analysis") refl c.in-Some-get_str-2.ensures c.in_ok-analysis.ensures) m.1.few;
+      rules = c.in_ok-rules.ensures ∙ c.get_str-3.ensures ∙ m.2.values (codes "rules") refl;
+    })

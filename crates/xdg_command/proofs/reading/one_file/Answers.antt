@@ -1,24 +1,16 @@
-use Rattle.std.proofs.Common.{◌∙◌, Some, None, ap, map, sym, subst}
-use Rattle.std.specs.String.{string_bytes}
-use Rattle.xdg_command.specs.Found.{Matches}
-use Rattle.xdg_command.specs.Syntax.{one_file}
-use Rattle.xdg_command.proofs.Commanded.{file_found, file_missing, file_none, one_file_right}
+use Rattle.std.proofs.Common.{refl, sym}
+use Rattle.std.specs.Prelude.{codes}
+use Rattle.xdg_command.proofs.Commanded.{exactly, lacking, matched, operand_said, single, unfit}
+use Rattle.xdg_command.proofs.Meanings.{file_is}
 use Rattle.xdg_command.proofs.reading.one_file.Goals as goal
 
 pub returns-in_default : goal.returns-in_default
-returns-in_default c =
-    let words = map string_bytes c.args.words.now in
-    let matched : Matches one_file words None = subst (Matches one_file words) c.in_default.is (c.in_ok-found.ensures one_file one_file_right c.in_ok-one_file.ensures) in
-    file_none words matched
+returns-in_default c = unfit file_is (matched file_is _ _ c.in_ok-found.ensures c.in_ok-one_file.ensures c.in_default.is)
 
 pub returns-in_default-get_str : goal.returns-in_default-get_str
-returns-in_default-get_str c =
-    let words = map string_bytes c.args.words.now in
-    let matched : Matches one_file words (Some c.in-Some.found) = subst (Matches one_file words) c.in-Some.is (c.in_ok-found.ensures one_file one_file_right c.in_ok-one_file.ensures) in
-    file_missing words c.in-Some.found matched (sym c.in_default-get_str.ensures)
+returns-in_default-get_str c = lacking file_is (matched file_is _ _ c.in_ok-found.ensures c.in_ok-one_file.ensures c.in-Some.is) 0 (codes "grammar") refl (sym c.in_default-get_str.ensures)
 
 pub returns : goal.returns
 returns c =
-    let words = map string_bytes c.args.words.now in
-    let matched : Matches one_file words (Some c.in-Some.found) = subst (Matches one_file words) c.in-Some.is (c.in_ok-found.ensures one_file one_file_right c.in_ok-one_file.ensures) in
-    file_found words c.in-Some.found matched c.in_ok-from_str.field-0 (sym c.in-Some-get_str.ensures ∙ ap (λ x. Some x) (sym c.in_ok-from_str.ensures))
+    let m = matched file_is _ _ c.in_ok-found.ensures c.in_ok-one_file.ensures c.in-Some.is in
+    exactly file_is m _ (single _ _ (operand_said m 0 (codes "grammar") refl c.in-Some-get_str.ensures c.in_ok-from_str.ensures) m.1.few)
