@@ -1,38 +1,37 @@
 -- The command of a table, once it is built.
-use Rattle.std.proofs.Common.{◌≡◌, ◌∙◌, ◌≤◌, ◌&&◌, ℕ, Bool, suc, true, false, not, List, [], ◌∷◌, ◌++◌, map, length, refl, sym, ap, subst, arith, append_assoc, append-nil}
+use Rattle.std.proofs.Common.{◌≡◌, ◌∙◌, ◌≤◌, ◌&&◌, ℕ, Bool, suc, true, false, not, List, [], ◌∷◌, ◌++◌, map, length, refl, sym, ap, arith, append_assoc, append-nil}
 use Rattle.std.specs.Prelude.{codes, count_by, is_some}
 use Rattle.std.specs.List.{fold, list_all, list_any}
 use Rattle.clap.specs.Walk.{Rule, is_early_multiple}
 use Rattle.clap.specs.Simple.{App, Shape, built, filled_from, is_buildable, is_in_order, is_ready, is_ready_leaf, is_simple, on_top, with_rule}
 use Rattle.clap.specs.Faults.{is_free_app, is_simple_and_free}
-use Rattle.std.proofs.lemmas.Bool.{and_from, not_from_false}
+use Rattle.std.proofs.lemmas.Bool.{and_from, not-true, not_from_false, or_from}
+use Rattle.std.proofs.lemmas.List.Folds.{list_all-append}
+use Rattle.clap.proofs.WalkLemmas.{both}
 use Rattle.xdg_command.specs.Syntax.{Table, app_in, args_in, bare, flag_arg, operand_arg, value_arg}
 use Rattle.xdg_command.proofs.Rules.{flag_rule, operand_rule, value_rule}
 
 -- ---- lists of rules
 
-all_map : {A : Type 0} (p : Rule → Bool) (f : A → Rule) → ((a : A) → p (f a) ≡ true) → (xs : List A) (rest : List Rule) → list_all p rest ≡ true → list_all p (map f xs ++ rest) ≡ true
-all_map p f e [] rest done = done
-all_map p f e (x ∷ xs) rest done = rw (e x) (all_map p f e xs rest done)
+all_map : {A : Type 0} (p : Rule → Bool) (f : A → Rule) → ((a : A) → p (f a) ≡ true) → (xs : List A) → list_all p (map f xs) ≡ true
+all_map p f e [] = refl
+all_map p f e (x ∷ xs) = rw (e x) (all_map p f e xs)
 
-none_map : {A : Type 0} (p : Rule → Bool) (f : A → Rule) → ((a : A) → p (f a) ≡ false) → (xs : List A) (rest : List Rule) → list_any p rest ≡ false → list_any p (map f xs ++ rest) ≡ false
-none_map p f e [] rest done = done
-none_map p f e (x ∷ xs) rest done = rw (e x) (none_map p f e xs rest done)
+all_joined : (p : Rule → Bool) (xs ys : List Rule) → list_all p xs ≡ true → list_all p ys ≡ true → list_all p (xs ++ ys) ≡ true
+all_joined p xs ys a b = list_all-append p xs ys ∙ and_from (list_all p xs) (list_all p ys) a b
+
+none_of : (p : Rule → Bool) (xs : List Rule) → list_all (λ a. not (p a)) xs ≡ true → list_any p xs ≡ false
+none_of p [] e = refl
+none_of p (x ∷ xs) e = let parts = both (not (p x)) (list_all (λ a. not (p a)) xs) e in or_from (p x) (list_any p xs) (not-true (p x) parts.0) (none_of p xs parts.1)
 
 -- operands, numbered from a place
 abbrev pub numbered : ℕ → List (List ℕ) → List Rule
 numbered place [] = []
 numbered place (name ∷ names) = operand_rule place name ∷ numbered (suc place) names
 
-all_numbered : (p : Rule → Bool) → ((place : ℕ) (name : List ℕ) → p (operand_rule place name) ≡ true) → (place : ℕ) (xs : List (List ℕ)) (rest : List Rule)
-    → list_all p rest ≡ true → list_all p (numbered place xs ++ rest) ≡ true
-all_numbered p e place [] rest done = done
-all_numbered p e place (x ∷ xs) rest done = rw (e place x) (all_numbered p e (suc place) xs rest done)
-
-none_numbered : (p : Rule → Bool) → ((place : ℕ) (name : List ℕ) → p (operand_rule place name) ≡ false) → (place : ℕ) (xs : List (List ℕ)) (rest : List Rule)
-    → list_any p rest ≡ false → list_any p (numbered place xs ++ rest) ≡ false
-none_numbered p e place [] rest done = done
-none_numbered p e place (x ∷ xs) rest done = rw (e place x) (none_numbered p e (suc place) xs rest done)
+all_numbered : (p : Rule → Bool) → ((place : ℕ) (name : List ℕ) → p (operand_rule place name) ≡ true) → (place : ℕ) (xs : List (List ℕ)) → list_all p (numbered place xs) ≡ true
+all_numbered p e place [] = refl
+all_numbered p e place (x ∷ xs) = rw (e place x) (all_numbered p e (suc place) xs)
 
 -- ---- the rules of the built command
 
@@ -48,14 +47,13 @@ shape_in t = record (bare (codes "xdg")).top { rules = rules_in t; is_built = tr
 pub all_rules : (p : Rule → Bool) (t : Table) → ((place : ℕ) (name : List ℕ) → p (operand_rule place name) ≡ true) → ((name : List ℕ) → p (value_rule name) ≡ true)
     → ((name : List ℕ) → p (flag_rule name) ≡ true) → list_all p (rules_in t) ≡ true
 all_rules p t o v f =
-    all_numbered p o 1 t.operands (options_in t) (all_map p value_rule v t.values (map flag_rule t.flags)
-    (subst (λ xs. list_all p xs ≡ true) (append-nil (map flag_rule t.flags)) (all_map p flag_rule f t.flags [] refl)))
+    all_joined p (numbered 1 t.operands) (options_in t) (all_numbered p o 1 t.operands)
+    (all_joined p (map value_rule t.values) (map flag_rule t.flags) (all_map p value_rule v t.values) (all_map p flag_rule f t.flags))
 
 pub no_rule : (p : Rule → Bool) (t : Table) → ((place : ℕ) (name : List ℕ) → p (operand_rule place name) ≡ false) → ((name : List ℕ) → p (value_rule name) ≡ false)
     → ((name : List ℕ) → p (flag_rule name) ≡ false) → list_any p (rules_in t) ≡ false
 no_rule p t o v f =
-    none_numbered p o 1 t.operands (options_in t) (none_map p value_rule v t.values (map flag_rule t.flags)
-    (subst (λ xs. list_any p xs ≡ false) (append-nil (map flag_rule t.flags)) (none_map p flag_rule f t.flags [] refl)))
+    none_of p (rules_in t) (all_rules (λ a. not (p a)) t (λ place name. not_from_false _ (o place name)) (λ name. not_from_false _ (v name)) (λ name. not_from_false _ (f name)))
 
 -- ---- building
 
@@ -91,9 +89,7 @@ module _ (t : Table) (few : length t.operands ≤ 2) where
 
   args_pass : (p : Rule → Bool) → ((name : List ℕ) → p (operand_arg name) ≡ true) → ((name : List ℕ) → p (value_arg name) ≡ true) → ((name : List ℕ) → p (flag_arg name) ≡ true)
       → list_all p (args_in t) ≡ true
-  args_pass p o v f =
-      all_map p operand_arg o t.operands _ (all_map p value_arg v t.values (map flag_arg t.flags)
-      (subst (λ xs. list_all p xs ≡ true) (append-nil (map flag_arg t.flags)) (all_map p flag_arg f t.flags [] refl)))
+  args_pass p o v f = all_joined p _ _ (all_map p operand_arg o t.operands) (all_joined p _ _ (all_map p value_arg v t.values) (all_map p flag_arg f t.flags))
 
   buildable : is_buildable (app_in t) ≡ true
   buildable = ap is_buildable (app_is t) ∙ and_from (list_all (λ a. a.is_simple) (args_in t)) true (args_pass (λ a. a.is_simple) (λ name. refl) (λ name. refl) (λ name. refl)) refl

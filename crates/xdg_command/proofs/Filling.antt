@@ -15,6 +15,7 @@ use Rattle.xdg_command.proofs.Rules.{added, flag_rule, form, operand_rule, row, 
 use Rattle.xdg_command.proofs.Spelled.{flag_form, value_form}
 use Rattle.xdg_facts.proofs.Lists.{some_at}
 use Rattle.xdg_facts.proofs.Texts.{equal, other_test}
+use Rattle.xdg_facts.proofs.Truths.{or_false}
 
 -- the options of the items are options of the table
 abbrev pub Formed : Table → List Item → Type 0
@@ -88,16 +89,12 @@ module _ (t : Table) (r : Right t) where
       let more : List Row = rows ++ row a (word ∷ []) ∷ [] in
       let ends = filled (suc k) more items form
       (λ name b is.
-      let after : has_row name more ≡ has_row name rows = has_more name rows (row a (word ∷ [])) ∙ ap (λ x. has_row name rows || x) (other_name k place.0 name b place.1 is) ∙ or_none (has_row name rows) in
+      let after : has_row name more ≡ has_row name rows = has_more name rows (row a (word ∷ [])) ∙ ap (λ x. has_row name rows || x) (other_name k place.0 name b place.1 is) ∙ or_false (has_row name rows) in
       subst (λ x. one_if x + uses_of name items ≤ 1) (sym after) (left name b is))
       (λ j name le e. has_more name rows (row a (word ∷ [])) ∙ or_from (has_row name rows) (bytes_eq place.0 name) (free j name (omega (arith, le)) e)
       (distinct_at t.operands k j place.0 name r.operands place.1 e (omega (arith, le))))
       (omega (arith, few)) in
       (ends.0, rw (place.1, none) ends.1)
-    where
-      or_none : (b : Bool) → (b || false) ≡ b
-      or_none true = refl
-      or_none false = refl
   filled k rows (valued name value ∷ items) form left free few =
       option_put k rows items (value_rule name) (value ∷ []) true form.0 left free (λ more left free. filled k more items form.1 left free few)
   filled k rows (flagged name ∷ items) form left free few =

@@ -1,8 +1,8 @@
 -- Items are found where each option is given once and there are not too many operands, and only there.
-use Rattle.std.proofs.Common.{◌≡◌, ◌∙◌, ◌≤◌, ◌+◌, ◌||◌, ℕ, Bool, suc, true, false, List, [], ◌∷◌, ◌++◌, length, Option, Some, None, refl, sym, ap, subst, arith, append_assoc, append-nil}
-use Rattle.std.specs.Prelude.{codes, slice_get, if◌then◌else◌}
+use Rattle.std.proofs.Common.{◌≡◌, ◌∙◌, ◌≤◌, ◌+◌, ◌||◌, ℕ, Bool, suc, true, false, List, [], ◌∷◌, ◌++◌, inl, inr, length, Option, Some, None, refl, sym, ap, subst, arith, append_assoc, append-nil}
+use Rattle.std.specs.Prelude.{codes, slice_get}
 use Rattle.std.specs.Str.{bytes_eq}
-use Rattle.std.proofs.lemmas.Bool.{true≢false}
+use Rattle.std.proofs.lemmas.Bool.{cases_Bool, true≢false}
 use Rattle.clap.specs.Walk.{Row, Rule, has_row}
 use Rattle.xdg_command.specs.Items.{Item, operand, valued, flagged, one_if, operands_of, uses_of}
 use Rattle.xdg_command.specs.Syntax.{Table}
@@ -10,6 +10,7 @@ use Rattle.xdg_command.proofs.Placed.{put, put_operand}
 use Rattle.xdg_facts.specs.Onward.{onward}
 use Rattle.xdg_command.proofs.Rules.{added, flag_rule, operand_rule, row, value_rule}
 use Rattle.xdg_facts.proofs.Texts.{same_text}
+use Rattle.xdg_facts.proofs.Truths.{or_assoc, or_false}
 use Rattle.xdg_facts.proofs.Lists.{get_within}
 
 -- ---- rows
@@ -28,11 +29,10 @@ rows_of_items t k (flagged name ∷ items) = row (flag_rule name) (codes "true" 
 
 -- what it is to be added
 added_is : (a : Rule) (values : List (List ℕ)) (rows more : List Row) → added a values rows ≡ Some more → (has_row a.id rows ≡ false) × (more ≡ rows ++ row a values ∷ [])
-added_is a values rows more e = go (has_row a.id rows) e
-  where
-    go : (b : Bool) → (if b then None else Some (rows ++ row a values ∷ [])) ≡ Some more → (b ≡ false) × (more ≡ rows ++ row a values ∷ [])
-    go true e = absurd cc
-    go false e = let is : rows ++ row a values ∷ [] ≡ more = cc in (refl, sym is)
+added_is a values rows more e = elim (cases_Bool (has_row a.id rows)) [
+  | inl is ↦ let bad : None ≡ Some more = rw is at e in absurd cc
+  | inr is ↦ let same : Some (rows ++ row a values ∷ []) ≡ Some more = rw is at e in let rows_are : rows ++ row a values ∷ [] ≡ more = cc in (is, sym rows_are)
+]
 
 pub onward_is : {A B : Type 0} (o : Option A) (f : A → Option B) (b : B) → onward o f ≡ Some b → (a : A) × (o ≡ Some a) × (f a ≡ Some b)
 onward_is None f b e = absurd cc
@@ -40,22 +40,18 @@ onward_is (Some a) f b e = (a, refl, e)
 
 -- one row more
 pub has_more : (name : List ℕ) (rows : List Row) (r : Row) → has_row name (rows ++ r ∷ []) ≡ (has_row name rows || bytes_eq r.id name)
-has_more name [] r = go (bytes_eq r.id name)
-  where
-    go : (b : Bool) → (b || false) ≡ b
-    go true = refl
-    go false = refl
-has_more name (x ∷ rows) r = go (has_more name rows r) (bytes_eq x.id name)
-  where
-    go : has_row name (rows ++ r ∷ []) ≡ (has_row name rows || bytes_eq r.id name) → (b : Bool) → (b || has_row name (rows ++ r ∷ [])) ≡ ((b || has_row name rows) || bytes_eq r.id name)
-    go more true = refl
-    go more false = more
+has_more name [] r = or_false (bytes_eq r.id name)
+has_more name (x ∷ rows) r = rw (has_more name rows r) (sym (or_assoc (bytes_eq x.id name) (has_row name rows) (bytes_eq r.id name)))
 
 pub most : (a b : Bool) → one_if (a || b) ≤ one_if a + one_if b
 most true true = omega arith
 most true false = omega arith
 most false true = omega arith
 most false false = omega arith
+
+at_most : (a : Bool) → one_if a ≤ 1
+at_most true = omega arith
+at_most false = omega arith
 
 pub no_more : (b : Bool) (n : ℕ) → one_if b + (1 + n) ≤ 1 → b ≡ false
 no_more true n e = absurd (omega (arith, e))
@@ -101,11 +97,7 @@ module _ (t : Table) where
       go false y before is most none = omega (arith, most)
 
   pub put_once : (k : ℕ) (rows : List Row) (items : List Item) (end : List Row) → put t k rows items ≡ Some end → Once rows items
-  put_once k rows [] end e name = go (has_row name rows)
-    where
-      go : (b : Bool) → one_if b + 0 ≤ 1
-      go true = omega arith
-      go false = omega arith
+  put_once k rows [] end e name = omega (arith, at_most (has_row name rows))
   put_once k rows (operand word ∷ items) end e name =
       let next = onward_is (put_operand (slice_get t.operands k) (suc k) word rows) (λ more. put t (suc k) more items) end e in
       by_place (slice_get t.operands k) next.0 next.1 (put_once (suc k) next.0 items end next.2)

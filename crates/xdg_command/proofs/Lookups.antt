@@ -1,10 +1,10 @@
 -- Which argument of a built command a name, a place or a letter finds.
-use Rattle.std.proofs.Common.{◌≡◌, ◌∙◌, ◌≤◌, ◌+◌, ◌&&◌, ◌||◌, ◌==◌, ℕ, Bool, zero, suc, true, false, not, cond, List, [], ◌∷◌, ◌++◌, map, length, Some, None, refl, sym, ap, ap₂, subst, arith, append-nil}
+use Rattle.std.proofs.Common.{◌≡◌, ◌∙◌, ◌≤◌, ◌+◌, ◌&&◌, ◌==◌, ℕ, Bool, zero, suc, true, false, not, List, [], ◌∷◌, ◌++◌, map, length, inl, inr, Some, None, refl, sym, ap, ap₂, subst, arith, append-nil}
 use Rattle.std.specs.Prelude.{is_some, nat_le, option_map, slice_get, if◌then◌else◌}
 use Rattle.std.specs.List.{find, list_all}
 use Rattle.std.specs.Option.{option_map_or}
 use Rattle.std.specs.Str.{bytes_eq}
-use Rattle.std.proofs.lemmas.Bool.{eq-eqb, leb-true, ne_eqb, not-true, or_right, true≢false}
+use Rattle.std.proofs.lemmas.Bool.{cases_Bool, eq-eqb, false_from_ne_true, leb-true, ne_eqb, not-true, or_cases, or_right, true≢false}
 use Rattle.clap.proofs.WalkLemmas.{both}
 use Rattle.clap.specs.Walk.{Rule, arg_by_id, arg_by_index, arg_by_long, arg_by_short, has_long, has_short}
 use Rattle.xdg_command.specs.Items.{is_among}
@@ -22,16 +22,16 @@ among_at [] k name e = absurd cc
 among_at (n ∷ names) zero name e = let is : n ≡ name = cc in rw is (rw (equal name) refl)
 among_at (n ∷ names) (suc k) name e = or_right (bytes_eq n name) (is_among names name) (among_at names k name e)
 
+-- what holds of all names holds of one that is among them
+pub named : (p : List ℕ → Bool) (names : List (List ℕ)) (name : List ℕ) → list_all p names ≡ true → is_among names name ≡ true → p name ≡ true
+named p [] name all e = absurd (true≢false (sym e))
+named p (n ∷ names) name all e =
+    let parts = both (p n) (list_all p names) all in
+    elim (or_cases (bytes_eq n name) (is_among names name) e) [ inl is ↦ ap p (sym (same_text n name is)) ∙ parts.0 | inr more ↦ named p names name parts.1 more ]
+
 -- a text among the first list is not among the second
 pub apart_at : (names others : List (List ℕ)) (name : List ℕ) → are_apart names others ≡ true → is_among names name ≡ true → is_among others name ≡ false
-apart_at [] others name apart e = absurd (true≢false (sym e))
-apart_at (n ∷ names) others name apart e =
-    let parts = both (not (is_among others n)) (are_apart names others) apart in
-    go (apart_at names others name parts.1) (not-true (is_among others n) parts.0) (bytes_eq n name) refl e
-  where
-    go : (is_among names name ≡ true → is_among others name ≡ false) → is_among others n ≡ false → (b : Bool) → bytes_eq n name ≡ b → (b || is_among names name) ≡ true → is_among others name ≡ false
-    go more here true is e = subst (λ x. is_among others x ≡ false) (same_text n name is) here
-    go more here false is e = more e
+apart_at names others name apart e = not-true (is_among others name) (named (λ n. not (is_among others n)) names name apart e)
 
 -- what `is_right` says
 pub record Right (t : Table) : Type 0 where
@@ -66,12 +66,10 @@ skipped test place (n ∷ names) rest e =
 looked : (name : List ℕ) (test : Rule → Bool) (f : List ℕ → Rule) → ((n : List ℕ) → test (f n) ≡ bytes_eq n name) → (names : List (List ℕ)) (rest : List Rule)
     → find test (map f names ++ rest) ≡ (if is_among names name then Some (f name) else find test rest)
 looked name test f e [] rest = refl
-looked name test f e (n ∷ names) rest = rw (e n) (go (looked name test f e names rest) (bytes_eq n name) refl)
-  where
-    go : find test (map f names ++ rest) ≡ (if is_among names name then Some (f name) else find test rest) → (b : Bool) → bytes_eq n name ≡ b
-        → cond b (Some (f n)) (find test (map f names ++ rest)) ≡ (if b || is_among names name then Some (f name) else find test rest)
-    go more true is = ap (λ x. Some (f x)) (same_text n name is)
-    go more false is = more
+looked name test f e (n ∷ names) rest = elim (cases_Bool (bytes_eq n name)) [
+  | inl is ↦ rw (e n, is) (ap (λ x. Some (f x)) (same_text n name is))
+  | inr is ↦ rw (e n, is) (looked name test f e names rest)
+]
 
 -- options that don't pass
 unlooked : (test : Rule → Bool) (f : List ℕ → Rule) → ((n : List ℕ) → test (f n) ≡ false) → (names : List (List ℕ)) (rest : List Rule) → find test (map f names ++ rest) ≡ find test rest
@@ -115,15 +113,11 @@ module _ (t : Table) where
 
   -- a name of an option is that of no operand
   pub not_operand : Right t → (name : List ℕ) (b : Bool) → form t name ≡ Some b → is_among t.operands name ≡ false
-  not_operand r name b e = go (is_among t.operands name) refl
-    where
-      go : (x : Bool) → is_among t.operands name ≡ x → is_among t.operands name ≡ false
-      go true is =
-          let v = apart_at t.operands t.values name r.from_values is in
-          let f = apart_at t.operands t.flags name r.from_flags is in
-          let bad : None ≡ Some b = rw (v, f) at e in
-          absurd cc
-      go false is = is
+  not_operand r name b e = false_from_ne_true (is_among t.operands name) (λ is.
+      let v = apart_at t.operands t.values name r.from_values is in
+      let f = apart_at t.operands t.flags name r.from_flags is in
+      let bad : None ≡ Some b = rw (v, f) at e in
+      cc)
 
   by_its_name : Right t → (name : List ℕ) (b : Bool) → form t name ≡ Some b → arg_by_id (rules_in t) name ≡ Some (option_rule name b)
   by_its_name r name b e =

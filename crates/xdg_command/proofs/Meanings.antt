@@ -4,7 +4,7 @@ use Rattle.std.specs.Prelude.{slice_index}
 use Rattle.std.specs.Str.Parse.{digits_value}
 use Rattle.xdg_command.specs.Answers.{IsExactly}
 use Rattle.xdg_command.specs.Commands.{HasBudget, HasFirst, HasText, IsDrillNumber, SaysArrange, SaysBest, SaysCorpus, SaysDrill, SaysExplain, SaysParse, SaysResume}
-use Rattle.xdg_command.specs.Items.{Item, operands_of}
+use Rattle.xdg_command.specs.Items.{operands_of}
 use Rattle.xdg_command.specs.Readings.{IsDrill, IsOneFile}
 use Rattle.xdg_command.specs.Syntax.{arranged, corpused, costed, explained, one_file, parsed, resumed}
 use Rattle.xdg_text.specs.declared.form.Form.{Form}

@@ -1,9 +1,9 @@
 -- What the command of a table takes, and what it finds.
-use Rattle.std.proofs.Common.{◌≡◌, ◌∙◌, ◌+◌, ◌&&◌, ◌||◌, ℕ, Bool, suc, true, false, not, List, [], ◌∷◌, ◌++◌, map, Option, Some, None, refl, sym, ap, ap₂, arith, String}
+use Rattle.std.proofs.Common.{◌≡◌, ◌∙◌, ◌+◌, ◌&&◌, ℕ, suc, true, false, not, List, [], ◌∷◌, ◌++◌, inl, inr, map, Option, Some, None, refl, sym, ap, ap₂, arith, String}
 use Rattle.std.specs.Prelude.{slice_get, if◌then◌else◌}
 use Rattle.std.specs.List.{fold}
 use Rattle.std.specs.String.{string_bytes}
-use Rattle.std.proofs.lemmas.Bool.{true≢false}
+use Rattle.std.proofs.lemmas.Bool.{cases_Bool, false_from_ne_true, true≢false}
 use Rattle.std.proofs.lemmas.Str.{IsUtf8-string_bytes}
 use Rattle.clap.specs.Matches.{found_of}
 use Rattle.clap.specs.Walk.{Row, first_of, has_row, nothing_held, one_of, rows_after, rows_of, settled, walk, walk_from, with_default}
@@ -25,6 +25,7 @@ use Rattle.xdg_command.proofs.Lookups.{Right, among_at, apart_at, finds_in}
 use Rattle.xdg_command.proofs.Placed.{put}
 use Rattle.xdg_command.proofs.Reader.{read}
 use Rattle.xdg_facts.specs.Onward.{onward}
+use Rattle.xdg_facts.proofs.Truths.{or_true}
 use Rattle.xdg_command.proofs.Rules.{flag_rule, nothing, operand_rule, value_rule}
 use Rattle.xdg_command.proofs.Spelled.{flag_form, items_read, read_items, value_form}
 use Rattle.xdg_command.proofs.Turns.{between, held}
@@ -34,26 +35,18 @@ use Rattle.xdg_command.proofs.Walked.{AreTexts, total, walked_all}
 
 module _ (t : Table) where
   quiet : (rows : List Row) (name : List ℕ) → (default_fault rows (flag_rule name) ≡ [])
-  quiet rows name = go (has_row name rows) refl
-    where
-      go : (b : Bool) → has_row name rows ≡ b → default_fault rows (flag_rule name) ≡ []
-      go true e = rw e refl
-      go false e = rw e refl
+  quiet rows name = elim (cases_Bool (has_row name rows)) [ inl e ↦ rw e refl | inr e ↦ rw e refl ]
 
   no_flag_fault : (rows : List Row) (flags : List (List ℕ)) → defaults_fault rows (map flag_rule flags) ≡ []
   unfolding defaults_fault
   no_flag_fault rows [] = refl
   no_flag_fault rows (name ∷ flags) = rw (quiet rows name) (no_flag_fault (with_default rows (flag_rule name)) flags)
 
-  silent : (b : Bool) (x : Kinds) → (if b || true then [] else x) ≡ []
-  silent true x = refl
-  silent false x = refl
-
   no_default_fault : (rows : List Row) (place : ℕ) (operands values flags : List (List ℕ)) → defaults_fault rows (numbered place operands ++ (map value_rule values ++ map flag_rule flags)) ≡ []
   unfolding defaults_fault
   no_default_fault rows place [] [] flags = no_flag_fault rows flags
-  no_default_fault rows place [] (name ∷ values) flags = rw (silent (has_row name rows)) (no_default_fault (with_default rows (value_rule name)) place [] values flags)
-  no_default_fault rows place (name ∷ operands) values flags = rw (silent (has_row name rows)) (no_default_fault (with_default rows (operand_rule place name)) (suc place) operands values flags)
+  no_default_fault rows place [] (name ∷ values) flags = rw (or_true (has_row name rows)) (no_default_fault (with_default rows (value_rule name)) place [] values flags)
+  no_default_fault rows place (name ∷ operands) values flags = rw (or_true (has_row name rows)) (no_default_fault (with_default rows (operand_rule place name)) (suc place) operands values flags)
 
   no_check_fault : (rows : List Row) → check_fault (shape_in t) rows false ≡ []
   no_check_fault rows = rw (no_rule (λ a. a.required && not (is_given a.id rows)) t (λ place name. refl) (λ name. refl) (λ name. refl)) refl
@@ -102,11 +95,7 @@ module _ (t : Table) (r : Right t) (words : List (List ℕ)) (texts : AreTexts w
   -- ---- items that are found
 
   not_flag : (name : List ℕ) → is_among t.values name ≡ true → is_among t.flags name ≡ false
-  not_flag name mine = go (is_among t.flags name) refl
-    where
-      go : (b : Bool) → is_among t.flags name ≡ b → is_among t.flags name ≡ false
-      go true e = absurd (true≢false (sym mine ∙ apart_at t.flags t.values name r.flags e))
-      go false e = e
+  not_flag name mine = false_from_ne_true (is_among t.flags name) (λ e. true≢false (sym mine ∙ apart_at t.flags t.values name r.flags e))
 
   module _ (found : ArgMatches) (end : List Row) (items : List Item) (form : Formed t items) (end_is : end ≡ rows_of_items t 0 items)
       (rows : rows_of (found_of found) ≡ fold with_default end (rules_in t)) where

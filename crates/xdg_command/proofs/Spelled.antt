@@ -1,19 +1,37 @@
 -- The reader reads just the words that are items.
-use Rattle.std.proofs.Common.{◌≡◌, ◌≢◌, ◌∙◌, ◌||◌, ◌==◌, ℕ, Bool, true, false, List, [], ◌∷◌, ◌++◌, map, Option, Some, None, refl, sym, ap, ap₂, subst, ◌+◌, suc, take, drop, arith}
+use Rattle.std.proofs.Common.{◌≡◌, ◌≢◌, ◌∙◌, ◌==◌, ℕ, Bool, true, false, List, [], ◌∷◌, ◌++◌, inl, inr, map, Option, Some, None, refl, sym, ap, ap₂, subst, ◌+◌, suc, take, drop, arith}
 use Rattle.std.specs.Prelude.{if◌then◌else◌}
-use Rattle.std.specs.List.{after_first, before_first, position_or_len, list_all, list_any}
+use Rattle.std.specs.List.{after_first, before_first, position_or_len, list_any}
 use Rattle.std.specs.Str.{bytes_eq}
-use Rattle.std.proofs.lemmas.Bool.{and_right, eqb-true, not-true, or_parts, or_right, true≢false}
-use Rattle.clap.proofs.WalkLemmas.{both}
-use Rattle.clap.specs.Lexer.{has_byte, long_of, long_of_rest, short_of}
+use Rattle.std.proofs.lemmas.Bool.{and_right, cases_Bool, eqb-true, not-true, or_parts, or_right, true≢false}
+use Rattle.clap.specs.Lexer.{has_byte, long_of, short_of}
 use Rattle.xdg_command.specs.Items.{AreItems, ended, operands, by_operand, by_flag, by_next, by_equals, Item, operand, valued, flagged, dashed, is_among, is_dashed}
 use Rattle.xdg_command.specs.Syntax.{Table, is_name}
-use Rattle.xdg_command.proofs.Lookups.{Right, apart_at}
+use Rattle.xdg_command.proofs.Lookups.{Right, apart_at, named}
 use Rattle.xdg_command.proofs.Reader.{behind, by_form, by_letters, by_long, by_value, read, unless_long}
 use Rattle.xdg_command.proofs.Rules.{form}
 use Rattle.xdg_facts.proofs.Texts.{same_text}
 
 -- ---- words
+
+-- what a word is: not dashed, a hyphen before letters, two hyphens, or these before a name
+pub data Seen : List ℕ → Type 0 where
+  undashed : (word : List ℕ) → is_dashed word ≡ false → Seen word
+  lettered : (y : ℕ) (ys : List ℕ) → (y == 45) ≡ false → Seen (45 ∷ y ∷ ys)
+  hyphens : Seen (dashed [])
+  longer : (z : ℕ) (zs : List ℕ) → Seen (dashed (z ∷ zs))
+
+hyphen : (y : ℕ) (ys : List ℕ) → Seen (45 ∷ y ∷ ys)
+hyphen y ys = elim (cases_Bool (y == 45)) [ inl is ↦ subst (λ x. Seen (45 ∷ x ∷ ys)) (sym (eqb-true y 45 is)) (two ys) | inr is ↦ lettered y ys is ]
+  where
+    two : (ys : List ℕ) → Seen (dashed ys)
+    two [] = hyphens
+    two (z ∷ zs) = longer z zs
+
+pub seen : (word : List ℕ) → Seen word
+seen [] = undashed [] refl
+seen (x ∷ []) = undashed (x ∷ []) refl
+seen (x ∷ y ∷ ys) = elim (cases_Bool (x == 45)) [ inl is ↦ subst (λ z. Seen (z ∷ y ∷ ys)) (sym (eqb-true x 45 is)) (hyphen y ys) | inr is ↦ undashed (x ∷ y ∷ ys) is ]
 
 -- what a word is that is not dashed
 pub record IsPlain (word : List ℕ) : Type 0 where
@@ -23,23 +41,17 @@ pub record IsPlain (word : List ℕ) : Type 0 where
 
 pub plain : (word : List ℕ) → is_dashed word ≡ false → IsPlain word
 plain [] e = record { not_end = refl; not_long = refl; not_short = refl }
-plain (x ∷ []) e = go (x == 45) refl
-  where
-    go : (b : Bool) → (x == 45) ≡ b → IsPlain (x ∷ [])
-    go true is = record { not_end = and_right (x == 45) false refl; not_long = rw is refl; not_short = rw is refl }
-    go false is = record { not_end = and_right (x == 45) false refl; not_long = rw is refl; not_short = rw is refl }
+plain (x ∷ []) e = elim (cases_Bool (x == 45)) [
+  | inl is ↦ record { not_end = and_right (x == 45) false refl; not_long = rw is refl; not_short = rw is refl }
+  | inr is ↦ record { not_end = and_right (x == 45) false refl; not_long = rw is refl; not_short = rw is refl }
+]
 plain (x ∷ y ∷ word) e = record { not_end = rw e refl; not_long = rw e refl; not_short = rw e refl }
 
-pub dashed_not : (word : List ℕ) → bytes_eq word (dashed []) ≡ false → long_of word ≡ None → short_of word ≡ None → is_dashed word ≡ false
-dashed_not [] not_end not_long not_short = refl
-dashed_not (x ∷ []) not_end not_long not_short = refl
-dashed_not (x ∷ y ∷ word) not_end not_long not_short = go (x == 45) (y == 45) word refl refl refl
-  where
-    go : (b c : Bool) (more : List ℕ) → (x == 45) ≡ b → (y == 45) ≡ c → word ≡ more → (x == 45) ≡ false
-    go false c more first second is = first
-    go true false more first second is = let bad : Some (y ∷ word) ≡ None = rw (first, second) at not_short in absurd cc
-    go true true [] first second is = let bad : true ≡ false = rw (is, first, second) at not_end in absurd (true≢false bad)
-    go true true (z ∷ more) first second is = let bad : long_of_rest (z ∷ more) ≡ None = rw (is, first, second) at not_long in absurd cc
+pub dashed_not : (word : List ℕ) → Seen word → bytes_eq word (dashed []) ≡ false → long_of word ≡ None → short_of word ≡ None → is_dashed word ≡ false
+dashed_not _ (undashed word e) not_end not_long not_short = e
+dashed_not _ (lettered y ys e) not_end not_long not_short = let bad : Some (y ∷ ys) ≡ None = rw e at not_short in absurd cc
+dashed_not _ hyphens not_end not_long not_short = absurd (true≢false not_end)
+dashed_not _ (longer z zs) not_end not_long not_short = absurd cc
 
 -- ---- names
 
@@ -80,56 +92,32 @@ all_before (x ∷ name) e =
 -- a text with `=` is what stands before the first, and what stands after it
 parts_of : (text : List ℕ) → has_byte 61 text ≡ true → text ≡ before_first (λ x. x == 61) text ++ 61 ∷ after_first (λ x. x == 61) text
 parts_of [] e = absurd (true≢false (sym e))
-parts_of (x ∷ text) e = go (parts_of text) (x == 61) refl e
-  where
-    go : (has_byte 61 text ≡ true → text ≡ before_first (λ x. x == 61) text ++ 61 ∷ after_first (λ x. x == 61) text) → (b : Bool) → (x == 61) ≡ b → (b || has_byte 61 text) ≡ true
-        → x ∷ text ≡ before_first (λ x. x == 61) (x ∷ text) ++ 61 ∷ after_first (λ x. x == 61) (x ∷ text)
-    go more true is e = rw is (ap (λ y. y ∷ text) (eqb-true x 61 is))
-    go more false is e = ap (λ xs. x ∷ xs) (more e) ∙ ap₂ (λ xs ys. xs ++ 61 ∷ ys) (sym (before_more x text is)) (sym (after_more x text is))
+parts_of (x ∷ text) e = elim (cases_Bool (x == 61)) [
+  | inl is ↦ rw is (ap (λ y. y ∷ text) (eqb-true x 61 is))
+  | inr is ↦ ap (λ xs. x ∷ xs) (parts_of text (rw is at e)) ∙ ap₂ (λ xs ys. xs ++ 61 ∷ ys) (sym (before_more x text is)) (sym (after_more x text is))
+]
 
 -- how an option with a name and a value is spelled
 abbrev pub spelling : List ℕ → Option (List ℕ) → List ℕ
 spelling name None = dashed name
 spelling name (Some value) = dashed name ++ 61 ∷ value
 
-pub spelled : (word : List ℕ) (p : List ℕ × Option (List ℕ)) → long_of word ≡ Some p → word ≡ spelling p.0 p.1
-spelled [] p e = absurd cc
-spelled (x ∷ []) p e = go (x == 45) refl
-  where
-    go : (b : Bool) → (x == 45) ≡ b → x ∷ [] ≡ spelling p.0 p.1
-    go true is = let bad : None ≡ Some p = rw is at e in absurd cc
-    go false is = let bad : None ≡ Some p = rw is at e in absurd cc
-spelled (x ∷ y ∷ []) p e = go (x == 45) (y == 45) refl refl
-  where
-    go : (b c : Bool) → (x == 45) ≡ b → (y == 45) ≡ c → x ∷ y ∷ [] ≡ spelling p.0 p.1
-    go true true first second = let bad : None ≡ Some p = rw (first, second) at e in absurd cc
-    go true false first second = let bad : None ≡ Some p = rw (first, second) at e in absurd cc
-    go false c first second = let bad : None ≡ Some p = rw first at e in absurd cc
-spelled (x ∷ y ∷ z ∷ word) p e = go (x == 45) (y == 45) (has_byte 61 (z ∷ word)) refl refl refl
-  where
-    go : (b c d : Bool) → (x == 45) ≡ b → (y == 45) ≡ c → has_byte 61 (z ∷ word) ≡ d → x ∷ y ∷ z ∷ word ≡ spelling p.0 p.1
-    go true true true first second equals =
-        let is : Some (before_first (λ x. x == 61) (z ∷ word), Some (after_first (λ x. x == 61) (z ∷ word))) ≡ Some p = rw (first, second, equals) at e in
-        let pair : (before_first (λ x. x == 61) (z ∷ word), Some (after_first (λ x. x == 61) (z ∷ word))) ≡ p = cc in
-        subst (λ q. x ∷ y ∷ z ∷ word ≡ spelling q.0 q.1) pair
-        (ap₂ (λ a b. a ∷ b ∷ z ∷ word) (eqb-true x 45 first) (eqb-true y 45 second) ∙ ap dashed (parts_of (z ∷ word) equals))
-    go true true false first second equals =
-        let is : Some (before_first (λ x. x == 61) (z ∷ word), None) ≡ Some p = rw (first, second, equals) at e in
-        let pair : (before_first (λ x. x == 61) (z ∷ word), None) ≡ p = cc in
-        subst (λ q. x ∷ y ∷ z ∷ word ≡ spelling q.0 q.1) pair
-        (ap₂ (λ a b. a ∷ b ∷ z ∷ word) (eqb-true x 45 first) (eqb-true y 45 second) ∙ ap dashed (sym (all_before (z ∷ word) equals)))
-    go true false d first second equals = let bad : None ≡ Some p = rw (first, second) at e in absurd cc
-    go false c d first second equals = let bad : None ≡ Some p = rw first at e in absurd cc
+pub spelled : (word : List ℕ) → Seen word → (p : List ℕ × Option (List ℕ)) → long_of word ≡ Some p → word ≡ spelling p.0 p.1
+spelled _ (undashed word e) p long = let bad : None ≡ Some p = sym (plain word e).not_long ∙ long in absurd cc
+spelled _ (lettered y ys e) p long = let bad : None ≡ Some p = rw e at long in absurd cc
+spelled _ hyphens p long = absurd cc
+spelled _ (longer z zs) p long = elim (cases_Bool (has_byte 61 (z ∷ zs))) [
+  | inl equals ↦
+      let is : Some (before_first (λ x. x == 61) (z ∷ zs), Some (after_first (λ x. x == 61) (z ∷ zs))) ≡ Some p = rw equals at long in
+      let pair : (before_first (λ x. x == 61) (z ∷ zs), Some (after_first (λ x. x == 61) (z ∷ zs))) ≡ p = cc in
+      subst (λ q. dashed (z ∷ zs) ≡ spelling q.0 q.1) pair (ap dashed (parts_of (z ∷ zs) equals))
+  | inr equals ↦
+      let is : Some (before_first (λ x. x == 61) (z ∷ zs), None) ≡ Some p = rw equals at long in
+      let pair : (before_first (λ x. x == 61) (z ∷ zs), None) ≡ p = cc in
+      subst (λ q. dashed (z ∷ zs) ≡ spelling q.0 q.1) pair (ap dashed (sym (all_before (z ∷ zs) equals)))
+]
 
 -- ---- the reader reads items
-
-named : (p : List ℕ → Bool) (names : List (List ℕ)) (name : List ℕ) → list_all p names ≡ true → is_among names name ≡ true → p name ≡ true
-named p [] name all e = absurd (true≢false (sym e))
-named p (n ∷ names) name all e = let parts = both (p n) (list_all p names) all in go (named p names name parts.1) parts.0 (bytes_eq n name) refl e
-  where
-    go : (is_among names name ≡ true → p name ≡ true) → p n ≡ true → (b : Bool) → bytes_eq n name ≡ b → (b || is_among names name) ≡ true → p name ≡ true
-    go more here true is e = subst (λ x. p x ≡ true) (same_text n name is) here
-    go more here false is e = more e
 
 -- what a word is that spells an option
 pub record IsOption (word name : List ℕ) (value : Option (List ℕ)) : Type 0 where
@@ -198,21 +186,16 @@ module _ (t : Table) (r : Right t) where
   abbrev Items : List (List ℕ) → List Item → Type 0
   Items = AreItems t.values t.flags
 
+  form_is : (x y b : Bool) → (if x then Some true else (if y then Some false else None)) ≡ Some b → (if b then x else y) ≡ true
+  form_is true y b e = let is : true ≡ b = cc in subst (λ c. (if c then true else y) ≡ true) is refl
+  form_is false true b e = let is : false ≡ b = cc in subst (λ c. (if c then false else true) ≡ true) is refl
+  form_is false false b e = absurd cc
+
   is_value : (name : List ℕ) → form t name ≡ Some true → is_among t.values name ≡ true
-  is_value name e = go (is_among t.values name) (is_among t.flags name) e
-    where
-      go : (x y : Bool) → (if x then Some true else (if y then Some false else None)) ≡ Some true → x ≡ true
-      go true y e = refl
-      go false true e = let bad : false ≡ true = cc in absurd (true≢false (sym bad))
-      go false false e = absurd cc
+  is_value name e = form_is (is_among t.values name) (is_among t.flags name) true e
 
   is_flag : (name : List ℕ) → form t name ≡ Some false → is_among t.flags name ≡ true
-  is_flag name e = go (is_among t.values name) (is_among t.flags name) e
-    where
-      go : (x y : Bool) → (if x then Some true else (if y then Some false else None)) ≡ Some false → y ≡ true
-      go true y e = let bad : true ≡ false = cc in absurd (true≢false bad)
-      go false true e = refl
-      go false false e = absurd cc
+  is_flag name e = form_is (is_among t.values name) (is_among t.flags name) false e
 
   -- the reading of one item more
   behind_is : (item : Item) (o : Option (List Item)) (items : List Item) → behind item o ≡ Some items → (rest : List Item) × (o ≡ Some rest) × (items ≡ item ∷ rest)
@@ -253,13 +236,13 @@ module _ (t : Table) (r : Right t) where
         → by_letters letters (behind (operand word) (read t None words)) ≡ Some items → Goal
     by_the_letters None not_short not_end not_long e =
         let found = behind_is (operand word) (read t None words) items e in
-        subst (Items (word ∷ words)) (sym found.2) (by_operand word words found.0 (dashed_not word not_end not_long not_short) (more found.0 found.1))
+        subst (Items (word ∷ words)) (sym found.2) (by_operand word words found.0 (dashed_not word (seen word) not_end not_long not_short) (more found.0 found.1))
     by_the_letters (Some letters) not_short not_end not_long e = absurd cc
 
     by_the_name : (long : Option (List ℕ × Option (List ℕ))) → Follows words → long_of word ≡ long → bytes_eq word (dashed []) ≡ false
         → by_long t long word (read t None words) (λ other. read t (Some other) words) ≡ Some items → Goal
     by_the_name None follows is not_end e = by_the_letters (short_of word) refl not_end is e
-    by_the_name (Some p) follows is not_end e = by_the_form (form t p.0) p.0 p.1 follows refl (spelled word p is) e
+    by_the_name (Some p) follows is not_end e = by_the_form (form t p.0) p.0 p.1 follows refl (spelled word (seen word) p is) e
 
     by_the_word : (b : Bool) → Follows words → bytes_eq word (dashed []) ≡ b
         → (if b then Some (map operand words) else by_long t (long_of word) word (read t None words) (λ other. read t (Some other) words)) ≡ Some items → Goal
@@ -276,7 +259,7 @@ module _ (t : Table) (r : Right t) where
           → by_letters letters (by_value name word (read t None words)) ≡ Some items → Wanted
       next_letters None not_short not_end not_long e =
           let found = value_is name word words items more e in
-          subst (Items (dashed name ∷ word ∷ words)) (sym found.3) (by_next name word words found.0 mine found.1 (dashed_not word not_end not_long not_short) found.2)
+          subst (Items (dashed name ∷ word ∷ words)) (sym found.3) (by_next name word words found.0 mine found.1 (dashed_not word (seen word) not_end not_long not_short) found.2)
       next_letters (Some letters) not_short not_end not_long e = absurd cc
 
       next_name : (long : Option (List ℕ × Option (List ℕ))) → long_of word ≡ long → bytes_eq word (dashed []) ≡ false

@@ -1,8 +1,8 @@
 -- One use of an argument.
-use Rattle.std.proofs.Common.{◌≡◌, ◌∙◌, ℕ, Bool, true, false, List, [], ◌∷◌, ◌++◌, Option, Some, None, refl, ap, append-nil, arith, length}
+use Rattle.std.proofs.Common.{◌≡◌, ◌∙◌, ℕ, true, false, List, [], ◌∷◌, ◌++◌, inl, inr, Option, Some, None, refl, ap, append-nil, arith, length}
 use Rattle.std.specs.Prelude.{codes, nat_lt, if◌then◌else◌}
 use Rattle.std.specs.Str.{bytes_eq}
-use Rattle.std.proofs.lemmas.Bool.{lt-ltb, or_parts}
+use Rattle.std.proofs.lemmas.Bool.{cases_Bool, lt-ltb, or_parts}
 use Rattle.clap.specs.Walk.{Row, Rule, at_row, has_row, more_values, reading_by, used, with_values, without}
 use Rattle.clap.specs.Kinds.{or_else}
 use Rattle.clap.specs.Faults.{repeat_fault, use_fault}
@@ -27,11 +27,7 @@ using_as a values rows = if nothing (use_fault false a values rows) then Some (u
 
 use_ok : (a : Rule) (values raw : List (List ℕ)) (rows : List Row) → use_fault false a values rows ≡ or_else (repeat_fault false a.id rows) []
     → used a values rows ≡ with_values a.id (reading_by a) CommandLine raw (without a.id rows) → using_as a values rows ≡ added a raw rows
-use_ok a values raw rows fault uses = go (has_row a.id rows) refl
-  where
-    go : (b : Bool) → has_row a.id rows ≡ b → using_as a values rows ≡ added a raw rows
-    go true e = rw (fault, e) refl
-    go false e = rw (fault, uses, new_row a raw rows e, e) refl
+use_ok a values raw rows fault uses = elim (cases_Bool (has_row a.id rows)) [ inl e ↦ rw (fault, e) refl | inr e ↦ rw (fault, uses, new_row a raw rows e, e) refl ]
 
 pub value_used : (name : List ℕ) (x : ℕ) (v : List ℕ) (rows : List Row) → using_as (value_rule name) ((x ∷ v) ∷ []) rows ≡ added (value_rule name) ((x ∷ v) ∷ []) rows
 value_used name x v rows =
@@ -39,11 +35,7 @@ value_used name x v rows =
     use_ok (value_rule name) ((x ∷ v) ∷ []) ((x ∷ v) ∷ []) rows (rw fits refl) refl
 
 pub empty_refused : (name : List ℕ) (rows : List Row) → using_as (value_rule name) ([] ∷ []) rows ≡ None
-empty_refused name rows = go (has_row name rows) refl
-  where
-    go : (b : Bool) → has_row name rows ≡ b → using_as (value_rule name) ([] ∷ []) rows ≡ None
-    go true e = rw e refl
-    go false e = rw e refl
+empty_refused name rows = elim (cases_Bool (has_row name rows)) [ inl e ↦ rw e refl | inr e ↦ rw e refl ]
 
 pub flag_used : (name : List ℕ) (rows : List Row) → using_as (flag_rule name) [] rows ≡ added (flag_rule name) (codes "true" ∷ []) rows
 flag_used name rows = use_ok (flag_rule name) [] (codes "true" ∷ []) rows refl refl

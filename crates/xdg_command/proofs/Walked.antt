@@ -1,10 +1,9 @@
 -- A walk over words finds what the items are found as.
-use Rattle.std.proofs.Common.{◌≡◌, ◌∙◌, ◌≤◌, ◌<◌, ℕ, Bool, suc, true, false, List, [], ◌∷◌, map, Option, Some, None, refl, sym, ap, ap₂, subst, arith, ◌==◌}
+use Rattle.std.proofs.Common.{◌≡◌, ◌∙◌, ◌≤◌, ℕ, Bool, suc, true, false, List, [], ◌∷◌, map, inl, inr, Option, Some, None, refl, sym, ap, ap₂, subst, arith}
 use Rattle.std.specs.Prelude.{codes, slice_get, option_map, if◌then◌else◌}
 use Rattle.std.specs.List.{fold}
 use Rattle.std.specs.Str.{IsUtf8, bytes_eq, chars, encode_utf8_all}
-use Rattle.std.proofs.lemmas.Bool.{eqb-true}
-use Rattle.std.proofs.lemmas.Slice.Eq.{bytes_eq-Decides}
+use Rattle.std.proofs.lemmas.Bool.{cases_Bool}
 use Rattle.std.proofs.lemmas.Str.{IsCharBoundary-after_ascii, IsUtf8-drop, encodes-chars}
 use Rattle.clap.specs.Lexer.{long_of, short_of}
 use Rattle.clap.specs.Walk.{Held, Row, Rule, Waiting, Walk, arg_by_id, arg_by_index, idle, option, settled, used, walked}
@@ -17,9 +16,11 @@ use Rattle.xdg_command.proofs.Placed.{put, put_operand}
 use Rattle.xdg_command.proofs.Reader.{behind, by_form, by_letters, by_long, by_value, read, unless_long}
 use Rattle.xdg_facts.specs.Onward.{onward}
 use Rattle.xdg_command.proofs.Rules.{Finds, added, flag_rule, form, nothing, operand_rule, option_rule, value_rule}
+use Rattle.xdg_command.proofs.Spelled.{Seen, hyphens, lettered, longer, plain, seen, undashed}
 use Rattle.xdg_command.proofs.Turns.{awaited_end, awaited_letter, awaited_long, awaited_value, awaiting, between, end_turn, flag_refused, flag_turn, held, later_refused, later_turn, letter_refused, name_refused, name_turn, trailing_at, value_turn, word_refused, word_turn}
 use Rattle.xdg_command.proofs.Uses.{empty_refused, flag_used, operand_used, using_as, value_used}
 use Rattle.xdg_facts.proofs.Lists.{get_within}
+use Rattle.xdg_facts.proofs.Texts.{same_text}
 
 -- ---- options of values
 
@@ -105,24 +106,15 @@ first_char : (y : ℕ) (ys cs : List ℕ) → encode_utf8_all cs ≡ y ∷ ys �
 first_char y ys [] e are = absurd cc
 first_char y ys (c ∷ cs) e are = record { x = c; y = y; ys = ys; letters_are = refl; first = ap (λ xs. slice_get xs 0) are }
 
-pub letter : (word letters : List ℕ) → IsUtf8 word → short_of word ≡ Some letters → Letter letters
-letter [] letters text e = absurd cc
-letter (a ∷ []) letters text e = go (a == 45) refl
-  where
-    go : (b : Bool) → (a == 45) ≡ b → Letter letters
-    go true is = let bad : None ≡ Some letters = rw is at e in absurd cc
-    go false is = let bad : None ≡ Some letters = rw is at e in absurd cc
-letter (a ∷ y ∷ ys) letters text e = go (a == 45) (y == 45) refl refl
-  where
-    go : (b c : Bool) → (a == 45) ≡ b → (y == 45) ≡ c → Letter letters
-    go true true is other = let bad : None ≡ Some letters = rw (is, other) at e in absurd cc
-    go true false is other =
-        let same : Some (y ∷ ys) ≡ Some letters = rw (is, other) at e in
-        let letters_are : y ∷ ys ≡ letters = cc in
-        let ascii : a < 128 = omega (arith, eqb-true a 45 is) in
-        let rest : IsUtf8 (y ∷ ys) = IsUtf8-drop (a ∷ y ∷ ys) 1 text (IsCharBoundary-after_ascii (a ∷ y ∷ ys) 0 text (omega arith) ascii) in
-        subst Letter letters_are (first_char y ys (chars (y ∷ ys)) (encodes-chars (y ∷ ys) rest) refl)
-    go false c is other = let bad : None ≡ Some letters = rw is at e in absurd cc
+pub letter : (word more : List ℕ) → Seen word → IsUtf8 word → short_of word ≡ Some more → Letter more
+letter _ more (undashed word e) text short = let bad : None ≡ Some more = sym (plain word e).not_short ∙ short in absurd cc
+letter _ more (lettered y ys e) text short =
+    let same : Some (y ∷ ys) ≡ Some more = rw e at short in
+    let more_is : y ∷ ys ≡ more = cc in
+    let rest : IsUtf8 (y ∷ ys) = IsUtf8-drop (45 ∷ y ∷ ys) 1 text (IsCharBoundary-after_ascii (45 ∷ y ∷ ys) 0 text (omega arith) (omega arith)) in
+    subst Letter more_is (first_char y ys (chars (y ∷ ys)) (encodes-chars (y ∷ ys) rest) refl)
+letter _ more hyphens text short = absurd cc
+letter _ more (longer z zs) text short = absurd cc
 
 -- each word is a text
 abbrev pub AreTexts : List (List ℕ) → Type 0
@@ -237,8 +229,8 @@ module _ (s : Shape) (t : Table) (finds : Finds t s.rules) (again : s.args_overr
 
       by_letter : (letters : Option (List ℕ)) → short_of word ≡ letters → long_of word ≡ None → Goal (by_letters letters (behind (operand word) (read t None words)))
       by_letter None e not_long = by_operand (slice_get t.operands k) refl not_long e
-      by_letter (Some letters) e not_long =
-          let l = letter word letters text e in
+      by_letter (Some more) e not_long =
+          let l = letter word more (seen word) text e in
           refused (letter_refused s again rows pending k word l.x l.y l.ys not_end not_long (e ∙ ap (λ ls. Some ls) l.letters_are) l.first (finds.short l.x))
 
       by_name : (long : Option (List ℕ × Option (List ℕ))) → long_of word ≡ long → Goal (by_long t long word (read t None words) (λ other. read t (Some other) words))
@@ -252,11 +244,10 @@ module _ (s : Shape) (t : Table) (finds : Finds t s.rules) (again : s.args_overr
         ∙ trailed words idle rows pending k
 
     pub walk_step : Goal (read t None (word ∷ words))
-    walk_step = go (bytes_eq word (dashed [])) refl
-      where
-        go : (b : Bool) → bytes_eq word (dashed []) ≡ b → Goal (read t None (word ∷ words))
-        go true e = let is : Some (map operand words) ≡ read t None (word ∷ words) = rw e refl in subst Goal is (ended ((bytes_eq-Decides word (dashed [])).0 e))
-        go false e = let is : by_long t (long_of word) word (read t None words) (λ other. read t (Some other) words) ≡ read t None (word ∷ words) = rw e refl in subst Goal is (by_name e (long_of word) refl)
+    walk_step = elim (cases_Bool (bytes_eq word (dashed []))) [
+      | inl e ↦ let is : Some (map operand words) ≡ read t None (word ∷ words) = rw e refl in subst Goal is (ended (same_text word (dashed []) e))
+      | inr e ↦ let is : by_long t (long_of word) word (read t None words) (λ other. read t (Some other) words) ≡ read t None (word ∷ words) = rw e refl in subst Goal is (by_name e (long_of word) refl)
+    ]
 
   module _ (word : List ℕ) (words : List (List ℕ)) (text : IsUtf8 word) (walks : Walks words) (name : List ℕ) (rows : List Row) (k : ℕ) (mine : form t name ≡ Some true) where
     found : arg_by_id s.rules name ≡ Some (value_rule name)
@@ -290,8 +281,8 @@ module _ (s : Shape) (t : Table) (finds : Finds t s.rules) (again : s.args_overr
           ∙ walks rows (Some (name, word ∷ [])) k
           ∙ ap (λ o. onward o (λ now. onward (read t None words) (put t k now))) (settle_one rows (value_rule name) (word ∷ []) found)
           ∙ valued_next word
-      awaited_letters (Some letters) e not_long =
-          let l = letter word letters text e in
+      awaited_letters (Some more) e not_long =
+          let l = letter word more (seen word) text e in
           awaited_none (awaited_letter s again rows (Some (name, [])) k word l.x l.y l.ys not_end not_long (e ∙ ap (λ ls. Some ls) l.letters_are) l.first (finds.short l.x) name)
 
       awaited_name : (long : Option (List ℕ × Option (List ℕ))) → long_of word ≡ long → Wanted (unless_long long (by_letters (short_of word) (by_value name word (read t None words))))
@@ -299,11 +290,10 @@ module _ (s : Shape) (t : Table) (finds : Finds t s.rules) (again : s.args_overr
       awaited_name (Some p) e = awaited_none (awaited_long s again rows k name found word not_end p.0 p.1 e)
 
     await_step : Wanted (read t (Some name) (word ∷ words))
-    await_step = go (bytes_eq word (dashed [])) refl
-      where
-        go : (b : Bool) → bytes_eq word (dashed []) ≡ b → Wanted (read t (Some name) (word ∷ words))
-        go true e = let is : None ≡ read t (Some name) (word ∷ words) = rw e refl in subst Wanted is (awaited_ended ((bytes_eq-Decides word (dashed [])).0 e))
-        go false e = let is : unless_long (long_of word) (by_letters (short_of word) (by_value name word (read t None words))) ≡ read t (Some name) (word ∷ words) = rw e refl in subst Wanted is (awaited_name e (long_of word) refl)
+    await_step = elim (cases_Bool (bytes_eq word (dashed []))) [
+      | inl e ↦ let is : None ≡ read t (Some name) (word ∷ words) = rw e refl in subst Wanted is (awaited_ended (same_text word (dashed []) e))
+      | inr e ↦ let is : unless_long (long_of word) (by_letters (short_of word) (by_value name word (read t None words))) ≡ read t (Some name) (word ∷ words) = rw e refl in subst Wanted is (awaited_name e (long_of word) refl)
+    ]
 
   both_walk : (words : List (List ℕ)) → AreTexts words → Walks words × Awaits words
   both_walk [] texts = (
