@@ -31,6 +31,13 @@ module _ (ps : List (List ℕ)) (ts : List (List (Bor Ty))) (p : List ℕ) (ty :
   abbrev More : (List ℕ → List Shape) → List ℕ → Shape → Type 0
   More new q s = In (new q) s ↔ (In (on ps ts q) s ⊎ In {A = Want} ((p, shape ty.now) ∷ []) (q, s))
 
+  -- another parameter, whose types are the same
+  away : (new : List ℕ → List Shape) (q : List ℕ) (s : Shape) → new q ≡ on ps ts q → (p ≡ q → ⊥) → More new q s
+  away new q s same apart = (
+    (λ h. inl (subst (λ l. In l s) same h)),
+    (λ h. elim h [ inl a ↦ subst (λ l. In l s) (sym same) a | inr b ↦ elim b [ inl e ↦ absurd (apart (ap (λ (w : Want). w.0) e)) | inr c ↦ absurd c ] ]),
+  )
+
   -- a new parameter
   abbrev added : List ℕ → List Shape
   added = on (ps ++ p ∷ []) (ts ++ (ty ∷ []) ∷ [])
@@ -39,14 +46,9 @@ module _ (ps : List (List ℕ)) (ts : List (List (Bor Ty))) (p : List ℕ) (ty :
   stays q s k fresh even is =
       let there : has_text ps q ≡ true = sym (is_some-place_of ps q) ∙ ap (λ (o : Option ℕ). elim o [ None ↦ false | Some y ↦ true ]) is in
       let within = (place_of-Some ps q k is).0 in
-      let same : added q ≡ on ps ts q =
-      ap (shapes_at (ts ++ (ty ∷ []) ∷ [])) (place_of-append_left ps (p ∷ []) q there ∙ is) ∙ ap shapes (get_or_append_left ts ((ty ∷ []) ∷ []) [] k (omega (arith, within, even))) ∙ sym (ap (shapes_at ts) is) in (
-        (λ h. inl (subst (λ l. In l s) same h)),
-        (λ h. elim h [
-          | inl a ↦ subst (λ l. In l s) (sym same) a
-          | inr b ↦ elim b [ inl e ↦ absurd (true≢false (sym there ∙ sym (ap (λ (w : Want). has_text ps w.0) e) ∙ fresh)) | inr c ↦ absurd c ]
-        ]),
-      )
+      away added q s
+      (ap (shapes_at (ts ++ (ty ∷ []) ∷ [])) (place_of-append_left ps (p ∷ []) q there ∙ is) ∙ ap shapes (get_or_append_left ts ((ty ∷ []) ∷ []) [] k (omega (arith, within, even))) ∙ sym (ap (shapes_at ts) is))
+      (λ e. true≢false (sym there ∙ sym (ap (has_text ps) e) ∙ fresh))
 
   new_by : (q : List ℕ) (s : Shape) → length ts ≡ length ps → place_of ps q ≡ None → (b : Bool) → bytes_eq p q ≡ b
       → place_of (ps ++ p ∷ []) q ≡ option_map (λ (place : ℕ). length ps + place) (if b then Some 0 else option_map suc None) → More added q s
@@ -59,15 +61,7 @@ module _ (ps : List (List ℕ)) (ts : List (List (Bor Ty))) (p : List ℕ) (ty :
         (λ h. inr (elim (subst (λ l. In l s) now h) [ inl e ↦ inl (ap₂ (λ (x : List ℕ) (y : Shape). (x, y)) same e) | inr c ↦ absurd c ])),
         (λ h. subst (λ l. In l s) (sym now) (elim h [ inl a ↦ absurd (subst (λ l. In l s) before a) | inr b ↦ elim b [ inl e ↦ inl (ap (λ (w : Want). w.1) e) | inr c ↦ absurd c ] ])),
       )
-  new_by q s even is false at place =
-      let before : on ps ts q ≡ [] = ap (shapes_at ts) is in
-      let now : added q ≡ [] = ap (shapes_at (ts ++ (ty ∷ []) ∷ [])) place in (
-        (λ h. absurd (subst (λ l. In l s) now h)),
-        (λ h. elim h [
-          | inl a ↦ absurd (subst (λ l. In l s) before a)
-          | inr b ↦ elim b [ inl e ↦ absurd (true≢false (sym ((bytes_eq-Decides p q).1 (ap (λ (w : Want). w.0) e)) ∙ at)) | inr c ↦ absurd c ]
-        ]),
-      )
+  new_by q s even is false at place = away added q s (ap (shapes_at (ts ++ (ty ∷ []) ∷ [])) place ∙ sym (ap (shapes_at ts) is)) (λ e. true≢false (sym ((bytes_eq-Decides p q).1 e) ∙ at))
 
   added_by : (q : List ℕ) (s : Shape) → has_text ps p ≡ false → length ts ≡ length ps → (o : Option ℕ) → place_of ps q ≡ o → More added q s
   added_by q s fresh even (Some k) is = stays q s k fresh even is
@@ -97,17 +91,11 @@ module _ (ps : List (List ℕ)) (ts : List (List (Bor Ty))) (p : List ℕ) (ty :
           ])),
         )
 
-    away : (q : List ℕ) (s : Shape) → on ps pushed q ≡ on ps ts q → (p ≡ q → ⊥) → More (on ps pushed) q s
-    away q s same apart = (
-      (λ h. inl (subst (λ l. In l s) same h)),
-      (λ h. elim h [ inl a ↦ subst (λ l. In l s) (sym same) a | inr b ↦ elim b [ inl e ↦ absurd (apart (ap (λ (w : Want). w.0) e)) | inr c ↦ absurd c ] ]),
-    )
-
     pushed_by : (q : List ℕ) (s : Shape) (o : Option ℕ) → place_of ps q ≡ o → More (on ps pushed) q s
-    pushed_by q s None at = away q s (ap (shapes_at pushed) at ∙ sym (ap (shapes_at ts) at)) (λ e. some_apart k (sym is ∙ ap (place_of ps) e ∙ at))
+    pushed_by q s None at = away (on ps pushed) q s (ap (shapes_at pushed) at ∙ sym (ap (shapes_at ts) at)) (λ e. some_apart k (sym is ∙ ap (place_of ps) e ∙ at))
     pushed_by q s (Some j) at = elim (cases_eq j k) [
       | inl e ↦ here q s j at e
-      | inr ne ↦ away q s (ap (shapes_at pushed) at ∙ ap shapes (get_or-set_other ts k j (types ++ ty ∷ []) [] ne) ∙ sym (ap (shapes_at ts) at)) (λ e. ne (same_mark j k (sym at ∙ sym (ap (place_of ps) e) ∙ is)))
+      | inr ne ↦ away (on ps pushed) q s (ap (shapes_at pushed) at ∙ ap shapes (get_or-set_other ts k j (types ++ ty ∷ []) [] ne) ∙ sym (ap (shapes_at ts) at)) (λ e. ne (same_mark j k (sym at ∙ sym (ap (place_of ps) e) ∙ is)))
     ]
 
     pub adds_pushed : Adds (on ps ts) (on ps (slice_set ts k (types ++ ty ∷ []))) ((p, shape ty.now) ∷ [])

@@ -10,7 +10,7 @@ use Rattle.xdg_ast.specs.declared.expressions.ExprKind.TheFolds.{fold-roll-ExprK
 use Rattle.xdg_classes.specs.declared.bodies.Record.{Record}
 use Rattle.xdg_classes.specs.declared.bodies.Call.{Call}
 use Rattle.xdg_classes.specs.Lent.{said, called}
-use Rattle.xdg_classes.specs.Bodies.{Pairs, Expr, Body, either, both, saying, calling, Bodies, no_body, body_then, bodies_of, given, layer, body, Said, Called, records, records_in, calls, calls_in}
+use Rattle.xdg_classes.specs.Bodies.{Pairs, Expr, Body, either, both, saying, calling, Bodies, no_body, body_then, bodies_of, given, layer, body, records, records_in, calls, calls_in}
 
 -- the trees of some expressions
 abbrev pub trees : List Expr → Bodies
@@ -50,41 +50,20 @@ calls_dim dim pairs = ap calls (body_dim dim pairs)
 pub calls_use : (name : Name) (args : Option Pairs) → calls (body (v.Use name args)) ≡ record { name = name; args = given args } ∷ []
 calls_use name args = ap calls (body_use name args)
 
-abbrev pub records_of : Expr → List Said
-records_of e = records (body e.kind)
-
-abbrev pub calls_of : Expr → List Called
-calls_of e = calls (body e.kind)
-
-records_all : (es : List Expr) → records_in (trees es) ≡ flat_map records_of es
+pub records_all : (es : List Expr) → records_in (trees es) ≡ flat_map (λ e. records (body e.kind)) es
 records_all [] = refl
-records_all (e ∷ es) = ap (λ rs. records_of e ++ rs) (records_all es)
+records_all (e ∷ es) = ap (λ rs. records (body e.kind) ++ rs) (records_all es)
 
-calls_all : (es : List Expr) → calls_in (trees es) ≡ flat_map calls_of es
+pub calls_all : (es : List Expr) → calls_in (trees es) ≡ flat_map (λ e. calls (body e.kind)) es
 calls_all [] = refl
-calls_all (e ∷ es) = ap (λ cs. calls_of e ++ cs) (calls_all es)
+calls_all (e ∷ es) = ap (λ cs. calls (body e.kind) ++ cs) (calls_all es)
 
 -- ---- what a walk over an expression has added, at the end of its loop
 
-module _ {A : Type 0} (old made : List A) (of : Expr → List A) (items es : List Expr) (i : ℕ) (same : items ≡ es) (past : length items ≤ i) (sum : made ≡ old ++ flat_map of (take i items)) where
-  walked : (whole : List A) → whole ≡ flat_map of es → made ≡ old ++ whole
-  walked whole is = sum ∙ ap (λ xs. old ++ flat_map of xs) (take_all i items past ∙ same) ∙ ap (λ ys. old ++ ys) (sym is)
-
-pub records_walked : (kind : ExprKind) (es items : List Expr) (i : ℕ) (old made : List Said) → body kind ≡ either (trees es) → items ≡ es → length items ≤ i
-    → made ≡ old ++ flat_map records_of (take i items) → made ≡ old ++ records (body kind)
-records_walked kind es items i old made is same past sum = walked old made records_of items es i same past sum (records (body kind)) (ap records is ∙ records_all es)
-
-pub records_walked_too : (kind : ExprKind) (es items : List Expr) (i : ℕ) (old made : List Said) → body kind ≡ both (trees es) → items ≡ es → length items ≤ i
-    → made ≡ old ++ flat_map records_of (take i items) → made ≡ old ++ records (body kind)
-records_walked_too kind es items i old made is same past sum = walked old made records_of items es i same past sum (records (body kind)) (ap records is ∙ records_all es)
-
-pub calls_walked : (kind : ExprKind) (es items : List Expr) (i : ℕ) (old made : List Called) → body kind ≡ either (trees es) → items ≡ es → length items ≤ i
-    → made ≡ old ++ flat_map calls_of (take i items) → made ≡ old ++ calls (body kind)
-calls_walked kind es items i old made is same past sum = walked old made calls_of items es i same past sum (calls (body kind)) (ap calls is ∙ calls_all es)
-
-pub calls_walked_too : (kind : ExprKind) (es items : List Expr) (i : ℕ) (old made : List Called) → body kind ≡ both (trees es) → items ≡ es → length items ≤ i
-    → made ≡ old ++ flat_map calls_of (take i items) → made ≡ old ++ calls (body kind)
-calls_walked_too kind es items i old made is same past sum = walked old made calls_of items es i same past sum (calls (body kind)) (ap calls is ∙ calls_all es)
+pub walked : {A : Type 0} (of : Body → List A) (kind : ExprKind) (es items : List Expr) (i : ℕ) (old made : List A) → of (body kind) ≡ flat_map (λ e. of (body e.kind)) es → items ≡ es → length items ≤ i
+    → made ≡ old ++ flat_map (λ e. of (body e.kind)) (take i items) → made ≡ old ++ of (body kind)
+walked of kind es items i old made is same past sum =
+    sum ∙ ap (λ xs. old ++ flat_map (λ (e : Expr). of (body e.kind)) xs) (take_all i items past ∙ same) ∙ ap (λ ys. old ++ ys) (sym is)
 
 -- ---- what one part adds
 

@@ -58,9 +58,6 @@ module _ {A : Type 0} (g : A → List Want) where
       let e : flat_map g (take i xs) ++ g x ≡ flat_map g (take (i + 1) xs) = sym (ap (flat_map g) (taken xs i x within is) ∙ flat_map-append g (take i xs) (x ∷ []) ∙ ap (λ l. flat_map g (take i xs) ++ l) (append-nil (g x))) in
       grows_as first next (flat_map g (take i xs) ++ g x) (flat_map g (take (i + 1) xs)) e (grows_then first now next (flat_map g (take i xs)) (g x) so_far more)
 
-  pub grows_end : (xs : List A) (i : ℕ) (first now : WantedTypes) → length xs ≤ i → Grows first now (flat_map g (take i xs)) → Grows first now (flat_map g xs)
-  grows_end xs i first now over = grows_as first now (flat_map g (take i xs)) (flat_map g xs) (ap (flat_map g) (take_all i xs over))
-
 -- of what is seen of each item
 pub grows_end_seen : {A B : Type 0} (f : A → B) (g : B → List Want) (xs : List A) (i : ℕ) (first now : WantedTypes) → length xs ≤ i → Grows first now (flat_map (λ x. g (f x)) (take i xs)) → Grows first now (flat_map g (map f xs))
 grows_end_seen f g xs i first now over so_far =

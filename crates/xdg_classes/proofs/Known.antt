@@ -2,7 +2,7 @@
 use Rattle.std.proofs.Common.{◌≡◌, inl, inr, ℕ, suc, ◌+◌, ◌<◌, Bool, true, false, ◌||◌, List, [], ◌∷◌, ◌++◌, length, map, take, get_or, Option, None, Some, refl, sym, ap, ◌∙◌, subst, arith, add-one}
 use Rattle.std.specs.Prelude.{slice_get, option_map, bytes_eq, if◌then◌else◌, not}
 use Rattle.std.proofs.Math.Seq.{take-suc, get_or-append_seam}
-use Rattle.std.proofs.lemmas.Bool.{cases_Bool, true≢false, false_from_ne_true}
+use Rattle.std.proofs.lemmas.Bool.{cases_Bool, true≢false, false_from_ne_true, not-false, not-true}
 use Rattle.std.proofs.lemmas.List.{map-append, length-append, get_or_append_left}
 use Rattle.std.proofs.lemmas.Option.{slice_get-get_or, slice_get_within, get_or_from_slice_get}
 use Rattle.std.proofs.lemmas.Slice.Eq.{bytes_eq-Decides}
@@ -138,20 +138,12 @@ module _ (ds : List LentClass) (i : ℕ) (d : LentClass) (within : i < length ds
     pub told_same : (text : List ℕ) (added : Bool) (more : List (List ℕ)) (next : List Params) → text ≡ d.name.now.text → added ≡ not (has_text names text) → more ≡ (if added then names ++ text ∷ [] else names) → added ≡ false → next ≡ all
         → KnowsClasses (map class_def (take (i + 1) ds)) more (map shown next)
     told_same text added more next at new grown off rest =
-        let stands : has_text names d.name.now.text ≡ true = ap (has_text names) (sym at) ∙ turned (has_text names text) (sym new ∙ off) in
+        let stands : has_text names d.name.now.text ≡ true = ap (has_text names) (sym at) ∙ not-false (has_text names text) (sym new ∙ off) in
         let ns : more ≡ names = grown ∙ ap (λ b. if b then names ++ text ∷ [] else names) off in
         subst (λ ws. KnowsClasses (map class_def (take (i + 1) ds)) more (map shown ws)) (sym rest) (subst (λ ns. KnowsClasses (map class_def (take (i + 1) ds)) ns (map shown all)) (sym ns) (turn_same stands))
-      where
-        turned : (b : Bool) → not b ≡ false → b ≡ true
-        turned true e = refl
-        turned false e = absurd (true≢false e)
 
     pub told_new : (text : List ℕ) (added : Bool) (more : List (List ℕ)) (next : List Params) (params : Params) → text ≡ d.name.now.text → added ≡ not (has_text names text) → more ≡ (if added then names ++ text ∷ [] else names) → added ≡ true
         → shown params ≡ asked_by (class_def d) → next ≡ all ++ params ∷ [] → KnowsClasses (map class_def (take (i + 1) ds)) more (map shown next)
     told_new text added more next params at new grown on asks rest =
-        let fresh : has_text names d.name.now.text ≡ false = ap (has_text names) (sym at) ∙ turned (has_text names text) (sym new ∙ on) in
+        let fresh : has_text names d.name.now.text ≡ false = ap (has_text names) (sym at) ∙ not-true (has_text names text) (sym new ∙ on) in
         turn_new params more next fresh (grown ∙ ap (λ b. if b then names ++ text ∷ [] else names) on ∙ ap (λ t. names ++ t ∷ []) at) asks rest
-      where
-        turned : (b : Bool) → not b ≡ true → b ≡ false
-        turned false e = refl
-        turned true e = absurd (true≢false (sym e))

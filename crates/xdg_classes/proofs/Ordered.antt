@@ -72,9 +72,6 @@ module _ (statements : List Statement) where
     pub graph_right : IsGraph graph
     graph_right = subst IsGraph (sym graph_is) is_graph
 
-    pub graph_as_long : length graph ≡ length lent
-    graph_as_long = ap length graph_is ∙ graph_long ∙ ap length (sym are) ∙ length-map lent class_def
-
     pub closes : (found : Option Fault) → Tells (IsClosing graph) found → Tells (IsClosing g) found
     closes found = subst (λ gs. Tells (IsClosing gs) found) graph_is
 

@@ -1,7 +1,7 @@
 -- Lists that are the same one by one.
-use Rattle.std.proofs.Common.{◌≡◌, ℕ, ◌+◌, ◌<◌, ◌≤◌, List, [], ◌∷◌, ◌++◌, length, take, get_or, map, sym, ap, ap₂, ◌∙◌, subst, add-one}
+use Rattle.std.proofs.Common.{◌≡◌, ℕ, ◌+◌, ◌<◌, List, [], ◌∷◌, ◌++◌, length, take, get_or, map, sym, ap, ap₂, ◌∙◌, subst, add-one}
 use Rattle.std.proofs.Math.Seq.{take-suc}
-use Rattle.std.proofs.lemmas.List.{map-append, take_all}
+use Rattle.std.proofs.lemmas.List.{map-append}
 use Rattle.xdg_domain.specs.declared.types.Ty.{Ty}
 use Rattle.xdg_domain.specs.declared.types.Ty.TheVariants as y
 use Rattle.xdg_domain.specs.Shapes.{fields, shape}
@@ -27,9 +27,6 @@ module _ {A B : Type 0} (f : A → B) where
 
   pub same_turn : (xs ys : List A) (i : ℕ) (x y : A) → i < length xs → i < length ys → x ≡ get_or xs i x → y ≡ get_or ys i y → f x ≡ f y → map f (take i xs) ≡ map f (take i ys) → map f (take (i + 1) xs) ≡ map f (take (i + 1) ys)
   same_turn xs ys i x y within below is at same so_far = one_more xs i x within is ∙ ap₂ (λ (s : List B) (t : B). s ++ t ∷ []) so_far same ∙ sym (one_more ys i y below at)
-
-  pub same_end : (xs ys : List A) (i : ℕ) → length xs ≤ i → length ys ≤ i → map f (take i xs) ≡ map f (take i ys) → map f xs ≡ map f ys
-  same_end xs ys i over past so_far = sym (ap (map f) (take_all i xs over)) ∙ so_far ∙ ap (map f) (take_all i ys past)
 
 -- record types whose fields have the same shapes
 pub same_records : (one other : Ty) (xs ys ps qs : List (List ℕ × Ty)) → one ≡ y.Rec xs → other ≡ y.Rec ys → ps ≡ xs → qs ≡ ys → fields_in ps ≡ fields_in qs → shape one ≡ shape other

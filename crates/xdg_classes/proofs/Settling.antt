@@ -87,6 +87,20 @@ pub unique : (statements : List Statement) → None_of (IsTwice statements) → 
 unique statements none =
     one_class (classes statements) (λ before name after parts among. none (fault_at causes.Twice name.span.start) (record { names = class_names (classes statements); among = inl refl; before = before; name = name; after = after; parts = parts; earlier = among; fault = refl }))
 
+-- ---- a list with one element changed
+
+pub set_same : {A : Type 0} (xs : List A) (k : ℕ) (x : A) → k < length xs → slice_get (slice_set xs k x) k ≡ Some x
+set_same [] k x h = absurd (omega (arith, h))
+set_same (y ∷ xs) zero x h = refl
+set_same (y ∷ xs) (suc k) x h = set_same xs k x (omega (arith, h))
+
+pub set_other : {A : Type 0} (xs : List A) (k j : ℕ) (x : A) → (j ≡ k → ⊥) → slice_get (slice_set xs k x) j ≡ slice_get xs j
+set_other [] k j x ne = refl
+set_other (y ∷ xs) zero zero x ne = absurd (ne refl)
+set_other (y ∷ xs) zero (suc j) x ne = refl
+set_other (y ∷ xs) (suc k) zero x ne = refl
+set_other (y ∷ xs) (suc k) (suc j) x ne = set_other xs k j x (λ e. ne (ap suc e))
+
 -- ---- one class
 
 -- only of a class that is there a type is wanted
@@ -227,18 +241,6 @@ module _ (statements : List Statement) (table : Table) (features : Features) (ma
           let earlier : j < i = elim (cases_eq j i) [ inl e ↦ absurd (ne (ap (number made.order) e)) | inr other ↦ omega (arith, below, other) ] in
           subst (λ o. In (given_in o param) s ↔ Wants table (named_bodies statements) (slice_index_or names (number made.order j) []) param s) (sym (set_other all (number made.order i) (number made.order j) more ne)) (so_far j earlier param s)))
     ]
-      where
-        set_same : (xs : List WantedTypes) (k : ℕ) (x : WantedTypes) → k < length xs → slice_get (slice_set xs k x) k ≡ Some x
-        set_same [] k x h = absurd (omega (arith, h))
-        set_same (y ∷ xs) zero x h = refl
-        set_same (y ∷ xs) (suc k) x h = set_same xs k x (omega (arith, h))
-
-        set_other : (xs : List WantedTypes) (k j : ℕ) (x : WantedTypes) → (j ≡ k → ⊥) → slice_get (slice_set xs k x) j ≡ slice_get xs j
-        set_other [] k j x ne = refl
-        set_other (y ∷ xs) zero zero x ne = absurd (ne refl)
-        set_other (y ∷ xs) zero (suc j) x ne = refl
-        set_other (y ∷ xs) (suc k) zero x ne = refl
-        set_other (y ∷ xs) (suc k) (suc j) x ne = set_other xs k j x (λ e. ne (ap suc e))
 
   -- the same of a class that is lent
   pub settled_step : (all : List WantedTypes) (i : ℕ) → i < length made.order → AreRightUpTo statements table made all i → (given_defs : List LentClass) (lent : LentClass) → given_defs ≡ made.definitions
