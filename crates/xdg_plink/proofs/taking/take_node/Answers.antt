@@ -7,6 +7,9 @@ use Rattle.xdg_plink.proofs.Sweeping.{below_later, labels_end, labels_first, lab
 use Rattle.xdg_propcore.proofs.Sweeping.{sweeps_start}
 use Rattle.xdg_plink.proofs.taking.take_node.Goals as goal
 
+pub leads_from-requires : goal.leads_from-requires
+leads_from-requires c = (let within = c.requires.at.1 in let most = c.requires.at.0.known.problem.most in omega (arith, within, most))
+
 pub returns-then-not-leads_from : goal.returns-then-not-leads_from
 returns-then-not-leads_from c = node_skipped c.args.near.now c.args.group.now c.args.table.now c.args.node.0 (edge_labels c.args.store.now.parts (first_dim c.args.group.now)) c.args.pass.now c.args.store.now c.requires.at.0.known (c.leads_from.ensures c.if-not-leads_from.true) c.requires.others
 

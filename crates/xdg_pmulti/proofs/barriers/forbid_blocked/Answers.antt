@@ -9,6 +9,9 @@ use Rattle.xdg_pmulti.proofs.barriers.forbid_blocked.Goals as goal
 pub loop-label-init : goal.loop-label-init
 loop-label-init c = (first_none c.args.store.now.parts c.args.dim.0 (λ x. StoppedBy (get_or c.args.blocking.now x []) x c.args.over.now c.args.near.now) c.args.pass.now c.args.store.now, c.requires.known)
 
+pub forbid_stopped-requires-clause-known : goal.forbid_stopped-requires-clause-known
+forbid_stopped-requires-clause-known c = c.loop-label.invariant.1
+
 pub forbid_stopped-requires-clause-barriers : goal.forbid_stopped-requires-clause-barriers
 forbid_stopped-requires-clause-barriers c = barred_within c.args.store.now.parts c.loop-label.store.parts c.args.blocking.now c.loop-label.label c.barriers_at-barriers.result c.loop-label.invariant.0.same c.requires.blocking c.barriers_at-barriers.ensures
 
@@ -23,3 +26,6 @@ loop-label-preserved c = (first_more c.args.dim.0 (λ x. StoppedBy (get_or c.arg
 
 pub returns-clause-clears : goal.returns-clause-clears
 returns-clause-clears c = blocked_all c.args.store.now.parts c.args.dim.0 c.loop-label.label c.args.blocking.now c.args.over.now c.args.near.now c.args.pass.now c.loop-label.pass c.args.store.now c.loop-label.store (let t = c.loop-label-test.false in let e = c.labels_of-label-end.ensures.count in omega (arith, t, e)) c.loop-label.invariant.0
+
+pub returns-clause-known : goal.returns-clause-known
+returns-clause-known c = c.loop-label.invariant.1

@@ -21,6 +21,9 @@ set_at-within-requires c =
     let most = c.loop-barrier.invariant.3.problem.most in
     omega (arith, within, most)
 
+pub forbid_out-requires-clause-known : goal.forbid_out-requires-clause-known
+forbid_out-requires-clause-known c = c.loop-barrier.invariant.3
+
 pub forbid_out-requires-clause-nodes : goal.forbid_out-requires-clause-nodes
 forbid_out-requires-clause-nodes c =
     let left_is : c.loop-barrier.barrier-iterator ≡ c.in-Some.barrier.0 ∷ c.next.new.self = c.in-Some.ensures.steps in
@@ -40,3 +43,6 @@ pub returns-clause-clears : goal.returns-clause-clears
 returns-clause-clears c =
     let left_is : c.loop-barrier.barrier-iterator ≡ [] = c.in-None.ensures.steps.0 in
     stopped_all c.args.store.now.parts c.args.dim.0 c.args.label.0 c.args.barriers c.iter-barrier-items.result c.into_iter-barrier-iterator.result c.loop-barrier.barrier-iterator c.args.over.now c.args.near.now c.args.pass.now c.loop-barrier.pass c.args.store.now c.loop-barrier.store c.iter-barrier-items.ensures.value c.into_iter-barrier-iterator.ensures.into_iter_gives left_is c.loop-barrier.invariant.2
+
+pub returns-clause-known : goal.returns-clause-known
+returns-clause-known c = c.loop-barrier.invariant.3

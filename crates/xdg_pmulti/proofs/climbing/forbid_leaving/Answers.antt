@@ -9,6 +9,9 @@ use Rattle.xdg_pmulti.proofs.climbing.forbid_leaving.Goals as goal
 pub loop-mother-init : goal.loop-mother-init
 loop-mother-init c = (first_none c.args.store.now.parts c.args.dim.0 (λ x. From x (get_or c.args.table.now x [])) c.args.pass.now c.args.store.now, c.requires)
 
+pub forbid_from-requires-clause-known : goal.forbid_from-requires-clause-known
+forbid_from-requires-clause-known c = c.loop-mother.invariant.1
+
 pub forbid_from-requires-clause-node : goal.forbid_from-requires-clause-node
 forbid_from-requires-clause-node c = stays_below nodes c.loop-mother.mother c.loop-mother.store.parts c.args.store.now.parts c.loop-mother.invariant.0.same (let t = c.loop-mother-test.true in let e = c.node_count-mother-end.ensures.size in omega (arith, t, e))
 
@@ -17,3 +20,6 @@ loop-mother-preserved c = (first_more c.args.dim.0 (λ x. From x (get_or c.args.
 
 pub returns-clause-clears : goal.returns-clause-clears
 returns-clause-clears c = leaves_all c.args.store.now.parts c.args.dim.0 c.loop-mother.mother c.args.table.now c.args.pass.now c.loop-mother.pass c.args.store.now c.loop-mother.store (let t = c.loop-mother-test.false in let e = c.node_count-mother-end.ensures.size in omega (arith, t, e)) c.loop-mother.invariant.0
+
+pub returns-clause-known : goal.returns-clause-known
+returns-clause-known c = c.loop-mother.invariant.1

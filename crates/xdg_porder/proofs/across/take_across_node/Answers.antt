@@ -6,6 +6,12 @@ use Rattle.xdg_porder.proofs.Crossing.{across_done, across_later, across_none, a
 use Rattle.xdg_porder.proofs.Looping.{below_first, below_next, below_end}
 use Rattle.xdg_porder.proofs.across.take_across_node.Goals as goal
 
+pub set_at-requires : goal.set_at-requires
+set_at-requires c = (let l = c.requires.1 in let m = c.requires.0.ready.known.problem.most in omega (arith, l, m))
+
+pub crossed-across-requires : goal.crossed-across-requires
+crossed-across-requires c = (let l = c.requires.1 in let m = c.requires.0.ready.known.problem.most in omega (arith, l, m))
+
 pub loop-label-init : goal.loop-label-init
 loop-label-init c = below_first c.args.group.now (λ parts label. IsLabelDone parts c.args.group.now c.args.table.now c.args.u.0 label) c.args.pass.now c.args.store.now c.requires.0.ready.known
 

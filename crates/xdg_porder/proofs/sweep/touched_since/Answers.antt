@@ -12,3 +12,6 @@ returns-in-Some c =
 
 pub returns-in-None : goal.returns-in-None
 returns-in-None c = others_none c.all.result.mothers c.args.store.now.parts c.args.group.now c.args.store.now.now c.requires.at.0.known.problem c.all.ensures.mothers
+
+pub gather-requires : goal.gather-requires
+gather-requires c = (c.requires.held c.in-Some.mark c.in-Some.is).within

@@ -15,6 +15,9 @@ take_all-requires-clause-ready c = record {
   covers = says_as (λ w edges t. Covers w edges t) c.args.store.now.parts c.args.store.now.now c.way_of.result (way_of c.args.group.now.principle) c.dim_of.result.0 (second_dim c.args.group.now) c.table_for-table.result c.way_of.ensures c.dim_of.ensures c.table_for-table.ensures.covers;
 }
 
+pub take_all-requires-clause-others : goal.take_all-requires-clause-others
+take_all-requires-clause-others c quiet = c.near_since-near.ensures
+
 pub returns-then-is_empty : goal.returns-then-is_empty
 returns-then-is_empty c = sweeps_start c.args.group.now (IsClosedFor c.args.store.now.parts c.args.group.now) c.args.pass.now c.args.store.now c.requires.known (closed_free c.near_since-near.result c.args.store.now.parts c.args.group.now c.args.store.now.now c.requires.known.is_box c.requires.family c.near_since-near.ensures (c.if-is_empty.ensures refl))
 

@@ -7,6 +7,9 @@ use Rattle.xdg_plink.proofs.near.Near.daughters.Goals as goal
 pub daughters_may-daughters-requires : goal.daughters_may-daughters-requires
 daughters_may-daughters-requires c = has_edges c.args.store.now.parts c.args.dim.0 c.args.node.0 c.args.label.0 c.requires.node c.requires.label
 
+pub contains-requires : goal.contains-requires
+contains-requires c = (let within = c.requires.node in let most = c.requires.known.problem.most in omega (arith, within, most))
+
 pub returns-then-contains : goal.returns-then-contains
 returns-then-contains c = all_near c.args.self.now c.args.store.now.parts c.args.store.now.now c.args.dim.0 c.args.node.0 c.args.label.0 c.daughters_may-daughters.result c.requires.node c.requires.label c.daughters_may-daughters.ensures.exact
 
