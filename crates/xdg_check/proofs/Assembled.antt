@@ -1,11 +1,9 @@
 -- A checked grammar that is put together keeps what it has to, and is that of the text.
 use Rattle.std.proofs.lemmas.List.{append-nil, drop_all, take_all, length-map}
-use Rattle.std.proofs.Common.{◌≡◌, ◌++◌, take, drop, length, arith, Some, Err, inl, inr, ℕ, List, [], map, refl, sym, ap, ◌∙◌, subst}
+use Rattle.std.proofs.Common.{◌≡◌, ◌++◌, take, drop, length, arith, Some, inl, inr, ℕ, List, [], map, refl, sym, ap, ◌∙◌, subst}
 use Rattle.xdg_base.specs.declared.faults.Fault.{Fault}
 use Rattle.xdg_types.specs.Answers.{None_of}
 use Rattle.xdg_types.specs.Parts.{Statement}
-use Rattle.xdg_base.specs.declared.faults.Stop.{Stop}
-use Rattle.xdg_base.specs.declared.faults.Stop.TheVariants as stops
 use Rattle.xdg_names.specs.First.{Tells as TellsFault}
 use Rattle.xdg_classes.specs.Graph.{CycleOffends}
 use Rattle.xdg_classes.specs.Names as c
@@ -13,14 +11,14 @@ use Rattle.xdg_types.specs.Table.{Table, IsTable}
 use Rattle.xdg_classes.specs.Bodies.{body}
 use Rattle.xdg_classes.specs.Definitions.{classes, class_names, entries}
 use Rattle.xdg_classes.specs.Lent.{class_def}
-use Rattle.xdg_classes.specs.Ordered.{OrdersClasses, TellsClasses}
+use Rattle.xdg_classes.specs.Ordered.{OrdersClasses}
 use Rattle.xdg_classes.specs.declared.lookup.Classes.{Classes}
 use Rattle.xdg_principles.specs.declared.building.PrincipleUse.{PrincipleUse}
 use Rattle.xdg_principles.specs.Made.{ArePrincipleUses}
 use Rattle.xdg_principles.specs.Typed.{AreTypedUses}
 use Rattle.xdg_check.specs.declared.checked.Class.{Class}
 use Rattle.xdg_check.specs.declared.checked.EntryDef.{EntryDef}
-use Rattle.xdg_check.specs.Answers.{NameOffends, ValueOffends, AreClassesOf, AreEntriesOf, IsCheckedOf, Refuses, Tells}
+use Rattle.xdg_check.specs.Answers.{NameOffends, ValueOffends, AreClassesOf, AreEntriesOf, IsCheckedOf, Refuses}
 use Rattle.xdg_check.specs.Checked.{IsOrder, IsChecked, IsRightBody}
 use Rattle.xdg_check.specs.Counts.{class_texts, bare, uses, combos, AreCounted}
 use Rattle.xdg_check.specs.Lex.{HasLex, LexOffends}
@@ -131,10 +129,6 @@ module _ (statements : List Statement) (table : Table) (names : None_of (NameOff
 -- ---- refusals
 
 module _ (statements : List Statement) (table : Table) where
-  pub cycle_stops : (e : Stop) → None_of (NameOffends statements table) → TellsClasses statements (Err e) → Tells statements table (Err e)
-  cycle_stops (stops.Fault f) names told = inr (names, inl told)
-  cycle_stops stops.OutOfMemory names told = tt
-
   pub value_refuses : (f : Fault) → None_of (NameOffends statements table) → None_of (CycleOffends statements) → TellsFault (ValueOffends statements table) (Some f) → Refuses statements table f
   value_refuses f names acyclic told = inr (names, inr (acyclic, inl told))
 

@@ -1,8 +1,8 @@
 -- Counts that are filled in, class after class.
-use Rattle.std.proofs.Common.{◌≡◌, ℕ, zero, suc, ◌<◌, ◌≤◌, ◌+◌, List, [], ◌∷◌, map, set, length, get_or, slice_get, slice_index_or, option_map, Option, None, Some, refl, sym, ap, subst, ◌∙◌, arith, inl, inr}
+use Rattle.std.proofs.Common.{◌≡◌, ℕ, zero, suc, ◌<◌, ◌≤◌, ◌+◌, List, [], ◌∷◌, map, set, length, get_or, slice_get, slice_index_or, option_map, Option, None, Some, refl, sym, ap, subst, ◌∙◌, arith, inl, inr, ap₂}
 use Rattle.std.proofs.lemmas.Bool.{cases_eq, cases_lt}
 use Rattle.std.proofs.lemmas.List.{length-map}
-use Rattle.std.proofs.lemmas.Option.{slice_get-get_or, slice_get-map}
+use Rattle.std.proofs.lemmas.Option.{slice_get-get_or, slice_get-map, slice_get_within}
 use Rattle.xdg_names.specs.Texts.{place_of}
 use Rattle.xdg_classes.specs.Bodies.{Body, body, Called, calls}
 use Rattle.xdg_check.specs.declared.checked.Class.{Class}
@@ -12,22 +12,12 @@ use Rattle.xdg_check.specs.Filled.{AreFilled}
 use Rattle.xdg_check.proofs.SameCounts.{same_uses, same_combos, uses_stop, combos_stop}
 use Rattle.xdg_check.proofs.Naming.{name_of_place, names, names_agree, one_naming, in_order}
 use Rattle.xdg_facts.proofs.Lists.{some_at}
+use Rattle.xdg_facts.proofs.Options.{some_same}
+use Rattle.xdg_classes.proofs.Settling.{set_same, set_other}
 use Rattle.xdg_facts.specs.Membership.{In, Differ}
 use Rattle.xdg_facts.proofs.In.{in_index, in_got}
 
 -- ---- a list with one element changed
-
-set_same : {A : Type 0} (xs : List A) (k : ℕ) (x y : A) → slice_get (set xs k x) k ≡ Some y → x ≡ y
-set_same [] k x y h = absurd (cc)
-set_same (z ∷ xs) zero x y h = cc
-set_same (z ∷ xs) (suc k) x y h = set_same xs k x y h
-
-set_other : {A : Type 0} (xs : List A) (k m : ℕ) (x : A) → (m ≡ k → ⊥) → slice_get (set xs k x) m ≡ slice_get xs m
-set_other [] k m x ne = refl
-set_other (z ∷ xs) zero zero x ne = absurd (ne refl)
-set_other (z ∷ xs) zero (suc m) x ne = refl
-set_other (z ∷ xs) (suc k) zero x ne = refl
-set_other (z ∷ xs) (suc k) (suc m) x ne = set_other xs k m x (λ e. ne (ap suc e))
 
 set_bare : (cs : List Class) (k : ℕ) (c new : Class) → slice_get cs k ≡ Some c → bare new ≡ bare c → map bare (set cs k new) ≡ map bare cs
 set_bare [] k c new h e = refl
@@ -95,7 +85,7 @@ module _ (count : Counting → Body → ℕ) (same : (p q : Counting) (b : Body)
   fill_next cs order names i c new filled at bares keeps j below d stands =
       let k = slice_index_or order i 0 in
       elim (cases_eq (slice_index_or order j 0) k) [
-        | inl e ↦ (let is : new ≡ d = set_same cs k new d (ap (slice_get (set cs k new)) (sym e) ∙ stands) in
+        | inl e ↦ (let is : new ≡ d = some_same new d (sym (set_same cs k new (slice_get_within cs k c at)) ∙ ap (slice_get (set cs k new)) (sym e) ∙ stands) in
             subst (λ (x : Class). kept x ≡ capped (names x.name)) is (keeps ∙ ap (λ (x : Class). capped (names x.name)) (sym bares)))
         | inr ne ↦ elim (cases_lt j i) [
           | inl less ↦ filled j less d (sym (set_other cs k (slice_index_or order j 0) new ne) ∙ stands)
@@ -135,21 +125,16 @@ turned old now texts order i c d u x known ordered inside h counts pairs =
     let own : texts ≡ class_texts now = known ∙ sym (same_texts now old h.0) in
     let after = bare_order now old h.0 order ordered in
     let at : slice_get now k ≡ Some e = slice_get-get_or now k d (after.within i inside) in
-    let f = get_or now k c in
-    let same : f ≡ e = some_one f e (sym (slice_get-get_or now k c (after.within i inside)) ∙ at) in (
+    let same : get_or now k c ≡ e = some_same (get_or now k c) e (sym (slice_get-get_or now k c (after.within i inside)) ∙ at) in
+    let read = λ (count : Counting → Body → ℕ) (kept : Class → ℕ). ap₂ (λ ts (y : Class). capped (count (looked_up kept ts now) (body y.body.kind))) own same in (
       set_bare now k e new at refl ∙ h.0,
       (
         λ names agrees. fill_next uses same_uses uses_stop (λ y. y.uses) now order names i e new (h.1.0 names agrees) at refl
-            (counts ∙ ap (λ ts. capped (uses (looked_up (λ y. y.uses) ts now) (body f.body.kind))) own ∙ ap (λ (y : Class). capped (uses (looked_up (λ z. z.uses) (class_texts now) now) (body y.body.kind))) same
-            ∙ next_count uses same_uses uses_stop (λ y. y.uses) now order names (bare_agrees now old h.0 uses names agrees) after i inside (h.1.0 names agrees) e at),
+            (counts ∙ read uses (λ y. y.uses) ∙ next_count uses same_uses uses_stop (λ y. y.uses) now order names (bare_agrees now old h.0 uses names agrees) after i inside (h.1.0 names agrees) e at),
         λ names agrees. fill_next combos same_combos combos_stop (λ y. y.combos) now order names i e new (h.1.1 names agrees) at refl
-            (pairs ∙ ap (λ ts. capped (combos (looked_up (λ y. y.combos) ts now) (body f.body.kind))) own ∙ ap (λ (y : Class). capped (combos (looked_up (λ z. z.combos) (class_texts now) now) (body y.body.kind))) same
-            ∙ next_count combos same_combos combos_stop (λ y. y.combos) now order names (bare_agrees now old h.0 combos names agrees) after i inside (h.1.1 names agrees) e at),
+            (pairs ∙ read combos (λ y. y.combos) ∙ next_count combos same_combos combos_stop (λ y. y.combos) now order names (bare_agrees now old h.0 combos names agrees) after i inside (h.1.1 names agrees) e at),
       ),
     )
-  where
-    some_one : (a b : Class) → Some a ≡ Some b → a ≡ b
-    some_one a b h = cc
 
 -- ---- the end
 

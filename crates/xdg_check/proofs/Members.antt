@@ -2,10 +2,9 @@
 use Rattle.std.proofs.Common.{◌≡◌, ℕ, ◌<◌, ◌≤◌, ◌+◌, ◌*◌, ◌-◌, ◌^◌, List, ◌∷◌, length, get_or, drop, min, ap, sym, ◌∙◌, arith}
 use Rattle.std.proofs.lemmas.List.{drop_more, drop_all}
 use Rattle.xdg_ast.specs.declared.expressions.ExprKind.{ExprKind}
-use Rattle.xdg_ast.specs.declared.expressions.ExprKind.TheVariants as v
-use Rattle.xdg_classes.specs.Bodies.{Expr, body}
-use Rattle.xdg_classes.proofs.Bodied.{trees, body_or, body_and}
-use Rattle.xdg_check.specs.Counts.{Counting, uses, sum_of_uses, combos, sum_of_combos, product_of_combos, capped}
+use Rattle.xdg_classes.specs.Bodies.{Expr, Body, Bodies, no_body, body}
+use Rattle.xdg_classes.proofs.Bodied.{trees}
+use Rattle.xdg_check.specs.Counts.{Counting, combos, product_of_combos, capped}
 use Rattle.xdg_check.proofs.Capped.{factor_more}
 use Rattle.xdg_facts.proofs.Numbers.{alone as alone_too}
 
@@ -25,26 +24,15 @@ module _ (names : Counting) (items : List Expr) (k : ℕ) (so_far whole : ℕ) w
         (ap (λ (es : List Expr). capped (so_far * product_of_combos names (trees es))) (sym (cut items k e within is)) ∙ before)
 
   module _ (past : length items ≤ k) (small : so_far ≤ 2 ^ 64 - 1) where
-    pub uses_all : capped (so_far + sum_of_uses names (trees (drop k items))) ≡ whole → so_far ≡ whole
-    uses_all before = alone so_far (2 ^ 64 - 1) small ∙ ap (λ (es : List Expr). capped (so_far + sum_of_uses names (trees es))) (sym (drop_all k items past)) ∙ before
-
-    pub combos_all : capped (so_far + sum_of_combos names (trees (drop k items))) ≡ whole → so_far ≡ whole
-    combos_all before = alone so_far (2 ^ 64 - 1) small ∙ ap (λ (es : List Expr). capped (so_far + sum_of_combos names (trees es))) (sym (drop_all k items past)) ∙ before
+    pub sums_all : (sum : Bodies → ℕ) → sum no_body ≡ 0 → capped (so_far + sum (trees (drop k items))) ≡ whole → so_far ≡ whole
+    sums_all sum none before =
+        alone so_far (2 ^ 64 - 1) small ∙ ap (λ n. capped (so_far + n)) (sym none) ∙ ap (λ (es : List Expr). capped (so_far + sum (trees es))) (sym (drop_all k items past)) ∙ before
 
     pub pairs_all : capped (so_far * product_of_combos names (trees (drop k items))) ≡ whole → so_far ≡ whole
     pairs_all before = alone_too so_far (2 ^ 64 - 1) small ∙ ap (λ (es : List Expr). capped (so_far * product_of_combos names (trees es))) (sym (drop_all k items past)) ∙ before
 
 -- ---- the forms of expressions
 
-module _ (names : Counting) (kind : ExprKind) (members items : List Expr) (same : items ≡ members) where
-  pub uses_or : kind ≡ v.Or members → capped (sum_of_uses names (trees items)) ≡ capped (uses names (body kind))
-  uses_or is = ap (λ es. capped (sum_of_uses names (trees es))) same ∙ sym (ap (λ x. capped (uses names x)) (ap body is ∙ body_or members))
-
-  pub uses_and : kind ≡ v.And members → capped (sum_of_uses names (trees items)) ≡ capped (uses names (body kind))
-  uses_and is = ap (λ es. capped (sum_of_uses names (trees es))) same ∙ sym (ap (λ x. capped (uses names x)) (ap body is ∙ body_and members))
-
-  pub combos_or : kind ≡ v.Or members → capped (sum_of_combos names (trees items)) ≡ capped (combos names (body kind))
-  combos_or is = ap (λ es. capped (sum_of_combos names (trees es))) same ∙ sym (ap (λ x. capped (combos names x)) (ap body is ∙ body_or members))
-
-  pub combos_and : kind ≡ v.And members → capped (product_of_combos names (trees items)) ≡ capped (combos names (body kind))
-  combos_and is = ap (λ es. capped (product_of_combos names (trees es))) same ∙ sym (ap (λ x. capped (combos names x)) (ap body is ∙ body_and members))
+pub of_form : (form : Bodies → Body) (all : Bodies → ℕ) (count : Body → ℕ) → ((bs : Bodies) → all bs ≡ count (form bs)) → (kind : ExprKind) (members items : List Expr) → items ≡ members → body kind ≡ form (trees members)
+    → capped (all (trees items)) ≡ capped (count (body kind))
+of_form form all count counts kind members items same is = ap (λ es. capped (all (trees es))) same ∙ ap capped (counts (trees members)) ∙ sym (ap (λ b. capped (count b)) is)
