@@ -1,11 +1,10 @@
 -- What a stream has found so far, kept.
-use Rattle.std.proofs.Common.{◌≡◌, ℕ, ◌+◌, inl, inr, List, [], ◌∷◌, ◌++◌, length, map, refl, ap, ap₂, sym, ◌∙◌, subst, arith, length-append, Some, None}
+use Rattle.std.proofs.Common.{◌≡◌, ℕ, ◌+◌, List, [], ◌∷◌, ◌++◌, length, map, refl, ap, ap₂, sym, ◌∙◌, subst, arith, length-append, Some, None}
 use Rattle.std.specs.Prelude.{Option}
 use Rattle.std.proofs.lemmas.List.{length-map}
 use Rattle.xdg_split.specs.Written.{IsSome}
-use Rattle.xdg_split.proofs.FoundSoFar.{all_answers, first_answers, map_more, spent_answers}
+use Rattle.xdg_split.proofs.FoundSoFar.{all_answers, below_more, first_answers, map_more, spent_answers}
 use Rattle.xdg_facts.specs.Endings.{IsAt, IsBelow}
-use Rattle.xdg_facts.proofs.Ordered.{three_cases}
 use Rattle.xdg_facts.specs.declared.Ending.{Ending}
 use Rattle.xdg_facts.specs.declared.Ending.TheVariants as endings
 use Rattle.xdg_problem.specs.declared.analysis.Analysis.{Analysis}
@@ -34,15 +33,6 @@ pub below_some : (wanted : Option ℕ) → IsSome wanted → IsBelow 0 wanted
 below_some None some = tt
 below_some (Some n) some = omega (arith, some)
 
--- below a wanted number, and not at it after one more
-below_still : (wanted : Option ℕ) (k m : ℕ) → IsBelow k wanted → m ≡ k + 1 → (wanted ≡ Some m → ⊥) → IsBelow m wanted
-below_still None k m below one other = tt
-below_still (Some n) k m below one other = elim (three_cases m n) [
-  | inl less ↦ less
-  | inr (inl same) ↦ absurd (other (ap Some (sym same)))
-  | inr (inr more) ↦ absurd (omega (arith, below, one, more))
-]
-
 pub collected_none : (wanted : Option ℕ) (s : Streamed) (found : List Analysis) → IsSome wanted → s.start ≡ [] → IsCharged s [] → found ≡ [] → Collected wanted s.parts s.budget s found
 collected_none wanted s found some begun charged none = record {
   problem = refl;
@@ -54,7 +44,7 @@ collected_none wanted s found some begun charged none = record {
   found_are = none;
 }
 
-module _ (wanted : Option ℕ) (parts : Parts) (budget : ℕ) (s t : Streamed) (found : List Analysis) (k : Collected wanted parts budget s found) where
+module _ {wanted : Option ℕ} {parts : Parts} {budget : ℕ} {s t : Streamed} {found : List Analysis} (k : Collected wanted parts budget s found) where
   -- nothing more was found
   pub collected_end : Advances s steps.End t → AreFound parts budget wanted endings.Complete found
   collected_end step = record {
@@ -98,7 +88,7 @@ module _ (wanted : Option ℕ) (parts : Parts) (budget : ℕ) (s t : Streamed) (
       spends = step.given.2 ∙ k.spends;
       vectors = vectors;
       so_far = step.charged k.vectors k.so_far;
-      below = below_still wanted (length k.vectors) (length vectors) k.below one_more (λ e. other (e ∙ ap Some (sym (is ∙ many))));
+      below = below_more wanted (length k.vectors) (length vectors) k.below one_more (λ e. other (e ∙ ap Some (sym (is ∙ many))));
       found_are = new_are;
     }
 

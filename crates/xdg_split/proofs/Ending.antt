@@ -1,5 +1,5 @@
 -- What a search leaves in the sink when it ends, and when the sink fails.
-use Rattle.std.proofs.Common.{◌≡◌, ℕ, ◌≤◌, ◌+◌, List, [], ◌∷◌, ◌++◌, length, map, take, drop, refl, ap, sym, ◌∙◌, arith, append_assoc, Some, None}
+use Rattle.std.proofs.Common.{◌≡◌, ℕ, ◌≤◌, ◌+◌, List, [], ◌∷◌, ◌++◌, length, map, take, drop, refl, ap, sym, ◌∙◌, arith, append_assoc, inl, inr, subst, Some, None}
 use Rattle.std.specs.Prelude.{Option, Result, Ok, Err, OnOk, OnErr, true, false}
 use Rattle.std.specs.Result.{is_err}
 use Rattle.std.proofs.lemmas.List.{take-map, take-take, take-append-drop, length-take}
@@ -20,26 +20,39 @@ use Rattle.xdg_text.specs.declared.form.Form.{Form}
 use Rattle.xdg_facts.specs.Endings.{IsUpTo, IsAt, IsEnding}
 use Rattle.xdg_text.specs.Blocks.{shown}
 use Rattle.xdg_split.specs.Printed.{blocks, last_line, Prints}
-use Rattle.xdg_split.specs.Written.{WritesWhole}
+use Rattle.xdg_split.specs.Written.{EndsLine, Writes}
+use Rattle.xdg_split.specs.declared.printing.Printed.{Printed}
+use Rattle.xdg_stream.specs.declared.search.Step.TheVariants as steps
+use Rattle.xdg_stream.specs.Streamed.{Advances, Streamed}
+use Rattle.xdg_text.specs.Lines.{complete_line, spent_line}
 use Rattle.xdg_split.proofs.Boxing.{boxed_listing}
-use Rattle.xdg_split.proofs.FoundSoFar.{blocks_found}
+use Rattle.xdg_split.proofs.FoundSoFar.{Found, blocks_found, blocks_front, complete_answered, spent_answered}
 use Rattle.xdg_split.proofs.OnePrint.{one_print}
 use Rattle.xdg_split.proofs.Reported.{prints_of}
 
--- the blocks and the last line of a search that ended
-pub writes_whole : (ending : Ending) (form : Form) (budget : ℕ) (wanted : Option ℕ) (parts : Parts) (start : List ℕ) (found : List (List ℕ)) (old mid new : Option (List ℕ)) → IsProblem parts → Answered ending (shape parts) (Boxed parts) start budget wanted found → Appends old mid (blocks form parts 1 (map (analysis_of parts) found)) → Appends mid new (last_line ending (length found)) → WritesWhole ending form budget wanted parts start old new
-writes_whole ending form budget wanted parts start found old mid new is answered before last = record {
-  text = blocks form parts 1 (map (analysis_of parts) found) ++ last_line ending (length found);
-  prints = prints_of ending form budget wanted parts start found (blocks form parts 1 (map (analysis_of parts) found) ++ last_line ending (length found)) is answered refl;
-  appends = appends_both before last;
-}
+-- the blocks of a search that ended, and what became of its last line
+pub ended_written : (result : Printed) (ending : Ending) (form : Form) (budget : ℕ) (wanted : Option ℕ) (parts : Parts) (start : List ℕ) (found : List (List ℕ)) (count : ℕ) (old mid new : Option (List ℕ)) → IsProblem parts
+    → Answered ending (shape parts) (Boxed parts) start budget wanted found → Appends old mid (blocks form parts 1 (map (analysis_of parts) found)) → count ≡ length found
+    → EndsLine result ending mid new (last_line ending count) → Writes result form budget wanted parts start old new
+ended_written result ending form budget wanted parts start found count old mid new is answered before many ends = elim ends [
+  | inl written ↦ subst (λ z. Writes z form budget wanted parts start old new) (sym written.0) (record { text = whole; prints = own; appends = appends_both before written.1 })
+  | inr failed ↦ subst (λ z. Writes z form budget wanted parts start old new) (sym failed.0)
+      (λ other text prints. front_in_second before (one_print form budget wanted parts start is ending other whole text own prints).1 failed.1)
+] where
+  whole : List ℕ
+  whole = blocks form parts 1 (map (analysis_of parts) found) ++ last_line ending count
 
--- the sink failed at the last line
-pub last_failed : (ending : Ending) (form : Form) (budget : ℕ) (wanted : Option ℕ) (parts : Parts) (start : List ℕ) (found : List (List ℕ)) (old mid new : Option (List ℕ)) → IsProblem parts → Answered ending (shape parts) (Boxed parts) start budget wanted found → Appends old mid (blocks form parts 1 (map (analysis_of parts) found)) → AppendsFront mid new (last_line ending (length found)) → (other : Ending) (text : List ℕ) → Prints other form budget wanted parts start text → AppendsFront old new text
-last_failed ending form budget wanted parts start found old mid new is answered before last other text prints =
-    let whole : List ℕ = blocks form parts 1 (map (analysis_of parts) found) ++ last_line ending (length found) in
-    let own = prints_of ending form budget wanted parts start found whole is answered refl in
-    front_in_second before (one_print form budget wanted parts start is ending other whole text own prints).1 last
+  own : Prints ending form budget wanted parts start whole
+  own = prints_of ending form budget wanted parts start found whole is answered (ap (λ n. blocks form parts 1 (map (analysis_of parts) found) ++ last_line ending n) many)
+
+module _ {form : Form} {wanted : Option ℕ} {parts : Parts} {start : List ℕ} {budget : ℕ} {s t : Streamed} {count : ℕ} {old mid : Option (List ℕ)} (f : Found form wanted parts start budget s count old mid) (is : IsProblem parts) where
+  pub complete_written : (result : Printed) (new : Option (List ℕ)) → Advances s steps.End t → EndsLine result endings.Complete mid new (complete_line count) → Writes result form budget wanted parts start old new
+  complete_written result new step ends =
+      ended_written result endings.Complete form budget wanted parts start f.found count old mid new is (complete_answered f step) f.written f.count_is ends
+
+  pub spent_written : (result : Printed) (new : Option (List ℕ)) → Advances s steps.Spent t → EndsLine result endings.Spent mid new (spent_line count) → Writes result form budget wanted parts start old new
+  spent_written result new step ends =
+      ended_written result endings.Spent form budget wanted parts start f.found count old mid new is (spent_answered f step) f.written f.count_is ends
 
 -- a number that is wanted is at least each number up to it
 at_least : (wanted : Option ℕ) (m k : ℕ) → IsAt m wanted → IsUpTo k wanted → k ≤ m
@@ -51,14 +64,6 @@ most_printed : (ending : Ending) (budget : ℕ) (wanted : Option ℕ) (parts : P
 most_printed endings.Complete budget wanted parts counted solutions m k e u r l = let h = e.0 in omega (arith, h)
 most_printed endings.First budget wanted parts counted solutions m k e u r l = at_least wanted m k e.0 u
 most_printed endings.Spent budget wanted parts counted solutions m k e u r l = let h = e.0 in omega (arith, h)
-
--- the blocks of a front of a list are a front of its blocks
-blocks_front : (form : Form) (parts : Parts) (number : ℕ) (list more : List Analysis) → blocks form parts number (list ++ more) ≡ blocks form parts number list ++ blocks form parts (number + length list) more
-blocks_front form parts number [] more = let n : number ≡ number + 0 = omega arith in ap (λ k. blocks form parts k more) n
-blocks_front form parts number (a ∷ list) more =
-    let n : (number + 1) + length list ≡ number + length (a ∷ list) = omega arith in
-    ap (λ z. shown form parts number a ++ z) (blocks_front form parts (number + 1) list more ∙ ap (λ k. blocks form parts (number + 1) list ++ blocks form parts k more) n)
-    ∙ sym (append_assoc (shown form parts number a) (blocks form parts (number + 1) list) (blocks form parts (number + length (a ∷ list)) more))
 
 -- the sink failed in the block of one more vector that the budget covers
 pub block_failed : (form : Form) (budget : ℕ) (wanted : Option ℕ) (parts : Parts) (start : List ℕ) (found : List (List ℕ)) (grown : List ℕ) (count : ℕ) (old mid new : Option (List ℕ)) → IsProblem parts → Answered endings.First (shape parts) (Boxed parts) start budget (Some (length (found ++ grown ∷ []))) (found ++ grown ∷ []) → count ≡ length found + 1 → IsUpTo (length (found ++ grown ∷ [])) wanted → Appends old mid (blocks form parts 1 (map (analysis_of parts) found)) → AppendsFront mid new (shown form parts count (analysis_of parts grown)) → (other : Ending) (text : List ℕ) → Prints other form budget wanted parts start text → AppendsFront old new text

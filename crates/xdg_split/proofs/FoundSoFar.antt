@@ -39,15 +39,17 @@ pub record Found (form : Form) (wanted : Option ℕ) (parts : Parts) (start : Li
   pub below : IsBelow (length found) wanted
   pub written : Appends old new (blocks form parts 1 (map (analysis_of parts) found))
 
+-- the blocks of a front of a list are a front of its blocks
+pub blocks_front : (form : Form) (parts : Parts) (number : ℕ) (list more : List Analysis) → blocks form parts number (list ++ more) ≡ blocks form parts number list ++ blocks form parts (number + length list) more
+blocks_front form parts number [] more = let n : number ≡ number + 0 = omega arith in ap (λ k. blocks form parts k more) n
+blocks_front form parts number (a ∷ list) more =
+    let n : (number + 1) + length list ≡ number + length (a ∷ list) = omega arith in
+    ap (λ z. shown form parts number a ++ z) (blocks_front form parts (number + 1) list more ∙ ap (λ k. blocks form parts (number + 1) list ++ blocks form parts k more) n)
+    ∙ sym (append_assoc (shown form parts number a) (blocks form parts (number + 1) list) (blocks form parts (number + length (a ∷ list)) more))
+
 -- a block more is the blocks before and its own
-pub blocks_more : (form : Form) (parts : Parts) (number : ℕ) (list : List Analysis) (a : Analysis) → blocks form parts number (list ++ a ∷ []) ≡ blocks form parts number list ++ shown form parts (number + length list) a
-blocks_more form parts number [] a =
-    let n : number + 0 ≡ number = omega arith in
-    append-nil (shown form parts number a) ∙ ap (λ k. shown form parts k a) (sym n)
-blocks_more form parts number (b ∷ list) a =
-    let n : (number + 1) + length list ≡ number + length (b ∷ list) = omega arith in
-    ap (λ z. shown form parts number b ++ z) (blocks_more form parts (number + 1) list a ∙ ap (λ k. blocks form parts (number + 1) list ++ shown form parts k a) n)
-    ∙ sym (append_assoc (shown form parts number b) (blocks form parts (number + 1) list) (shown form parts (number + length (b ∷ list)) a))
+blocks_more : (form : Form) (parts : Parts) (number : ℕ) (list : List Analysis) (a : Analysis) → blocks form parts number (list ++ a ∷ []) ≡ blocks form parts number list ++ shown form parts (number + length list) a
+blocks_more form parts number list a = blocks_front form parts number list (a ∷ []) ∙ ap (λ z. blocks form parts number list ++ z) (append-nil (shown form parts (number + length list) a))
 
 pub map_more : (parts : Parts) (found : List (List ℕ)) (x : List ℕ) → map (analysis_of parts) (found ++ x ∷ []) ≡ map (analysis_of parts) found ++ analysis_of parts x ∷ []
 map_more parts [] x = refl
@@ -75,7 +77,7 @@ up_to None k m b e = tt
 up_to (Some n) k m b e = omega (arith, b, e)
 
 -- below a wanted number, and not at it after one more
-below_more : (wanted : Option ℕ) (k m : ℕ) → IsBelow k wanted → m ≡ k + 1 → (wanted ≡ Some m → ⊥) → IsBelow m wanted
+pub below_more : (wanted : Option ℕ) (k m : ℕ) → IsBelow k wanted → m ≡ k + 1 → (wanted ≡ Some m → ⊥) → IsBelow m wanted
 below_more None k m b e other = tt
 below_more (Some n) k m b e other = elim (three_cases m n) [
   | inl l ↦ l
@@ -118,7 +120,7 @@ pub counted_more : (found : List (List ℕ)) (x : List ℕ) (count : ℕ) → co
 counted_more found x count e = let l = length-append found (x ∷ []) in omega (arith, l, e)
 
 -- one more call
-module _ (form : Form) (wanted : Option ℕ) (parts : Parts) (start : List ℕ) (budget : ℕ) (s t : Streamed) (count : ℕ) (old mid : Option (List ℕ)) (f : Found form wanted parts start budget s count old mid) where
+module _ {form : Form} {wanted : Option ℕ} {parts : Parts} {start : List ℕ} {budget : ℕ} {s t : Streamed} {count : ℕ} {old mid : Option (List ℕ)} (f : Found form wanted parts start budget s count old mid) where
   -- nothing more was found
   pub complete_answered : Advances s steps.End t → Answered endings.Complete (shape parts) (Boxed parts) start budget wanted f.found
   complete_answered step = all_answers wanted parts start budget t f.found (step.given.0 ∙ f.problem) (step.given.1 ∙ f.begun) (step.given.2 ∙ f.spends) (step.charged f.found f.so_far) (step.stops end_found).0 f.below
@@ -131,16 +133,6 @@ module _ (form : Form) (wanted : Option ℕ) (parts : Parts) (start : List ℕ) 
     -- it stands for an analysis of the sentence
     pub found_fits : IsAnalysis parts (analysis_of parts t.last)
     found_fits = subst (λ p. IsAnalysis p (analysis_of p t.last)) f.problem (step.found refl).3.solution.fits
-
-    -- the numbers stay in range
-    pub found_counted : (count + 1 ≤ t.charged) × (t.charged ≤ budget)
-    found_counted =
-        let few = f.few in
-        let k = f.count_is in
-        let costs = step.costs refl in
-        let within = (step.charged f.found f.so_far).within in
-        let spends = step.given.2 ∙ f.spends in
-        (omega (arith, few, k, costs), omega (arith, within, spends))
 
     -- as many as were found are answers of a search that wants so many
     pub found_answered : Answered endings.First (shape parts) (Boxed parts) start budget (Some (length (f.found ++ t.last ∷ []))) (f.found ++ t.last ∷ [])

@@ -46,65 +46,7 @@ formula_sync : IsSync formula.the_row
 formula_sync = search (crosses, knot.crosses, sendable) depth 60 fits 20000
 
 principle_sync : IsSync principle.the_row
-principle_sync =
-    variants_sync principle.enum (
-      tt,
-      (
-        tt,
-        (
-          tt,
-          (
-            tt,
-            (
-              tt,
-              (
-                tt,
-                (
-                  tt,
-                  (
-                    tt,
-                    (
-                      tt,
-                      (
-                        tt,
-                        (
-                          tt,
-                          (
-                            tt,
-                            (
-                              tt,
-                              (
-                                tt,
-                                (
-                                  tt,
-                                  (
-                                    tt,
-                                    (
-                                      tt,
-                                      (
-                                        tt,
-                                        (
-                                          tt,
-                                          ((formula_sync, tt), ((costs_shared.the_sync, (search sendable depth 10, tt)), tt)),
-                                        ),
-                                      ),
-                                    ),
-                                  ),
-                                ),
-                              ),
-                            ),
-                          ),
-                        ),
-                      ),
-                    ),
-                  ),
-                ),
-              ),
-            ),
-          ),
-        ),
-      ),
-    )
+principle_sync = variants_sync principle.enum (search (formula_sync, costs_shared.the_sync, sendable) depth 40 fits 20000)
 
 group_sync : IsSync group.the_row
 group_sync =

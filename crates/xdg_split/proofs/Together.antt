@@ -2,7 +2,7 @@
 use Rattle.std.proofs.Common.{◌≡◌, ℕ, ◌<◌, ◌≤◌, inl, inr, Bool, true, false, List, [], ◌∷◌, ◌++◌, length, map, take, zero, suc, refl, ap, sym, ◌∙◌, subst, arith, append-nil, length-append, Some, None}
 use Rattle.std.specs.Prelude.{Option}
 use Rattle.std.proofs.Math.Seq.{take-length}
-use Rattle.std.proofs.lemmas.List.{length-map, length-take-le, take-map, take-take}
+use Rattle.std.proofs.lemmas.List.{length-map, length-take, length-take-le, take-map, take-take}
 use Rattle.xdg_split.proofs.Boxing.{boxed_listing}
 use Rattle.xdg_facts.specs.Endings.{IsAt, IsBelow, IsEnding}
 use Rattle.xdg_facts.specs.Whole.{reach}
@@ -58,16 +58,11 @@ module _ (job : Asked) (counted : List (List ℕ)) (solutions : List Analysis) (
     | inr (inl same) ↦ record { whole = true; reached = solutions; reach = whole_single (omega (arith, same)); end = first_at wanted solutions at no_more refl }
     | inr (inr less) ↦ record { whole = true; reached = solutions; reach = whole_single (omega (arith, less)); end = first_at wanted solutions at no_more refl }
   ] where
-    long_take : (k : ℕ) (xs : List Analysis) → length (take k xs) ≤ length xs
-    long_take zero xs = omega arith
-    long_take (suc k) [] = omega arith
-    long_take (suc k) (x ∷ xs) = let l = long_take k xs in omega (arith, l)
-
     long_front : take m solutions ≡ take m (take (reach (shape job.parts) job.budget counted) solutions) → m ≤ length (take (reach (shape job.parts) job.budget counted) solutions)
     long_front same =
         let e = ap length same in
         let l = length-take-le m solutions no_more in
-        let t = long_take m (take (reach (shape job.parts) job.budget counted) solutions) in
+        let t = length-take m (take (reach (shape job.parts) job.budget counted) solutions) in
         omega (arith, e, l, t)
 
   single : (ending : Ending) (wanted : Option ℕ) → IsEnding ending (shape job.parts) job.budget wanted counted (map (vector job.parts) solutions) m → IsSplit wanted (job ∷ []) ending (take m solutions)
@@ -101,13 +96,8 @@ split_single job is ending found f =
     let no_more : m ≤ length solutions = few (map (vector job.parts) solutions) f.vectors (length solutions) ends.0 (length-map solutions (vector job.parts)) in
     subst (IsSplit job.first (job ∷ []) ending) (sym taken) (single job counted solutions two.2 m no_more ending job.first ends.1)
   where
-    long_take : (k : ℕ) (xs : List (List ℕ)) → length (take k xs) ≤ length xs
-    long_take zero xs = omega arith
-    long_take (suc k) [] = omega arith
-    long_take (suc k) (x ∷ xs) = let l = long_take k xs in omega (arith, l)
-
     few : (every vectors : List (List ℕ)) (n : ℕ) → vectors ≡ take (length vectors) every → length every ≡ n → length vectors ≤ n
-    few every vectors n e l = let k = ap length e in let t = long_take (length vectors) every in omega (arith, k, t, l)
+    few every vectors n e l = let k = ap length e in let t = length-take (length vectors) every in omega (arith, k, t, l)
 
 -- ---- one list of jobs behind the other
 

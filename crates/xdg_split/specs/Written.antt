@@ -1,5 +1,5 @@
 -- What a search leaves in the sink.
-use Rattle.std.specs.Prelude.{◌≡◌, ℕ, ◌≤◌, List, Option, None, Some}
+use Rattle.std.specs.Prelude.{◌≡◌, ◌⊎◌, ℕ, ◌≤◌, List, Option, None, Some}
 use Rattle.xdg_io.specs.Held.{Appends, AppendsFront}
 use Rattle.xdg_facts.specs.declared.Ending.{Ending}
 use Rattle.xdg_problem.specs.declared.parts.Parts.{Parts}
@@ -21,6 +21,10 @@ Writes (printed.Ended ending) form budget wanted parts start old new = WritesWho
 Writes printed.OutOfMemory form budget wanted parts start old new = new ≡ old
 Writes printed.Failed form budget wanted parts start old new =
     (ending : Ending) (text : List ℕ) → Prints ending form budget wanted parts start text → AppendsFront old new text
+
+-- the last line was added, or where the sink failed a front of it
+abbrev pub EndsLine : Printed → Ending → Option (List ℕ) → Option (List ℕ) → List ℕ → Type 0
+EndsLine result ending old new line = ((result ≡ printed.Ended ending) × Appends old new line) ⊎ ((result ≡ printed.Failed) × AppendsFront old new line)
 
 -- where a number of analyses is wanted, it is at least one
 abbrev pub IsSome : Option ℕ → Type 0

@@ -2,16 +2,17 @@
 
 ghost use Rattle.std.specs.Prelude.{◌≡◌, ◌≢◌, ◌≤◌, ◌<◌, ◌^◌, [], None};
 ghost use Rattle.std.specs.Option.{option_copied};
-ghost use Rattle.xdg_split.specs.Printed.{IsOnePrint};
-ghost use Rattle.xdg_split.specs.Written.{IsSome, Writes};
+ghost use Rattle.xdg_split.specs.Printed.{IsOnePrint, last_line};
+ghost use Rattle.xdg_split.specs.Written.{EndsLine, IsSome, Writes};
 ghost use Rattle.xdg_io.specs.Rose.{Rose};
+ghost use Rattle.xdg_io.specs.Texts.{WritesText};
 ghost use Rattle.xdg_problem.specs.Problems.{IsProblem};
 ghost use Rattle.xdg_propcore.specs.Uses.{AllStandIn};
 ghost use Rattle.xdg_stream.specs.Streamed.{IsCharged, IsStart, start_vector};
 
 use std::alloc::Global;
 use xdg_facts::Ending;
-use xdg_io::Sink;
+use xdg_io::{Failed, Sink};
 use xdg_problem::{Analysis, Problem};
 use xdg_propcore::Propagator;
 use xdg_stream::{Step, Stream};
@@ -94,27 +95,35 @@ fn print_found<P: Propagator, K: Sink>(
                     return Printed::Failed;
                 }
                 if first == Some(count) {
-                    let written = write_first(count, sink);
-                    if written.is_err() {
-                        return Printed::Failed;
-                    }
-                    return Printed::Ended(Ending::First);
+                    return print_last(Ending::First, count, sink);
                 }
             }
-            Step::End => {
-                let written = write_complete(count, sink);
-                if written.is_err() {
-                    return Printed::Failed;
-                }
-                return Printed::Ended(Ending::Complete);
-            }
-            Step::Spent => {
-                let written = write_spent(count, sink);
-                if written.is_err() {
-                    return Printed::Failed;
-                }
-                return Printed::Ended(Ending::Spent);
-            }
+            Step::End => return print_last(Ending::Complete, count, sink),
+            Step::Spent => return print_last(Ending::Spent, count, sink),
         }
+    }
+}
+
+/// Prints the last line behind so many analyses.
+fn print_last<K: Sink>(ending: Ending, count: u64, sink: &mut K) -> Printed
+    ensures written { EndsLine result ending (K.held sink.old) (K.held sink.new) (last_line ending count) }
+    ensures cause { result ≡ Printed.Failed → Rose (K.faults sink.old) (K.faults sink.new) }
+    ensures lasting { K.faults sink.old ≤ K.faults sink.new }
+    ensures quiet { result ≢ Printed.Failed → K.faults sink.new ≡ K.faults sink.old }
+{
+    match write_last(ending, count, sink) {
+        Ok(()) => Printed::Ended(ending),
+        Err(Failed) => Printed::Failed,
+    }
+}
+
+/// Writes the last line behind so many analyses.
+fn write_last<K: Sink>(ending: Ending, count: u64, sink: &mut K) -> Result<(), Failed>
+    ensures { WritesText result (K.held sink.old) (K.held sink.new) (K.faults sink.old) (K.faults sink.new) (last_line ending count) }
+{
+    match ending {
+        Ending::Complete => write_complete(count, sink),
+        Ending::First => write_first(count, sink),
+        Ending::Spent => write_spent(count, sink),
     }
 }

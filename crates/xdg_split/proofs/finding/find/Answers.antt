@@ -9,17 +9,15 @@ draw-init g c = collected_none c.args.first c.args.stream.now c.new-found.result
 pub returns-then-eq : goal.returns-then-eq
 returns-then-eq g c =
     let same : c.len.result ≡ length c.keep_last.new.found.items = search rules in
-    collected_first c.args.first c.args.stream.now.parts c.args.stream.now.budget c.draw.stream c.advance.new.self c.draw.found.items c.draw.invariant c.in-Found.ensures.step c.keep_last.new.found.items c.in_ok-keep_last-in-Found.ensures
-    c.len.result same (is_wanted c.args.first c.len.result (sym c.eq.ensures ∙ c.if-eq.true))
+    collected_first c.draw.invariant c.in-Found.ensures.step c.keep_last.new.found.items c.in_ok-keep_last-in-Found.ensures c.len.result same (is_wanted c.args.first c.len.result (sym c.eq.ensures ∙ c.if-eq.true))
 
 pub draw-preserved : goal.draw-preserved
 draw-preserved g c =
     let same : c.len.result ≡ length c.keep_last.new.found.items = search rules in
-    collected_more c.args.first c.args.stream.now.parts c.args.stream.now.budget c.draw.stream c.advance.new.self c.draw.found.items c.draw.invariant c.in-Found.ensures.step c.keep_last.new.found.items c.in_ok-keep_last-in-Found.ensures
-    c.len.result same (not_wanted c.args.first c.len.result (sym c.eq.ensures ∙ c.if-eq.false))
+    collected_more c.draw.invariant c.in-Found.ensures.step c.keep_last.new.found.items c.in_ok-keep_last-in-Found.ensures c.len.result same (not_wanted c.args.first c.len.result (sym c.eq.ensures ∙ c.if-eq.false))
 
 pub returns-in-End : goal.returns-in-End
-returns-in-End g c = collected_end c.args.first c.args.stream.now.parts c.args.stream.now.budget c.draw.stream c.advance.new.self c.draw.found.items c.draw.invariant c.in-End.ensures.step
+returns-in-End g c = collected_end c.draw.invariant c.in-End.ensures.step
 
 pub returns-in-Spent : goal.returns-in-Spent
-returns-in-Spent g c = collected_spent c.args.first c.args.stream.now.parts c.args.stream.now.budget c.draw.stream c.advance.new.self c.draw.found.items c.draw.invariant c.in-Spent.ensures.step
+returns-in-Spent g c = collected_spent c.draw.invariant c.in-Spent.ensures.step
